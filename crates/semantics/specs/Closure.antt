@@ -1,0 +1,21 @@
+-- The closure (document 01): the least equivalence over the terms U that holds the pairs E
+-- and equates applications of one function to equivalent arguments.
+use mathlib.Core.List.{List}
+use Prim.Native.Nat.{ℕ, _<_}
+use Rattle.semantics.specs.Terms.{_∈_, Term, app, State}
+
+module _ (U : List Term) (E : List (Term × Term)) where
+  pub data Closure : Term → Term → Type 0 where
+    reflexive : {t : Term} → t ∈ U → Closure t t
+    test : {s t : Term} → (s, t) ∈ E → Closure s t
+    symmetric : {s t : Term} → Closure s t → Closure t s
+    transitive : {s t u : Term} → Closure s t → Closure t u → Closure s u
+    congruence : {f : ℕ} {a b c d : Term} → app f a b ∈ U → app f c d ∈ U → Closure a c → Closure b d → Closure (app f a b) (app f c d)
+
+-- s and t are equal in the closure of the computed terms and the equal tests.
+abbrev pub Equivalent : State → Term → Term → Type 0
+Equivalent σ s t = Closure (σ .terms) (σ .equals) s t
+
+-- A register holds a term equal to t.
+abbrev pub Held : State → Term → Type 0
+Held σ t = (r : ℕ) × (r < σ .header .registers) × Equivalent σ t (σ .value r)

@@ -1,0 +1,96 @@
+-- Letters, traces, terms (source document 000, Definitions 1 and 3; document 01, "Terms, models, coherence").
+use mathlib.Core.Path.{_≡_}
+use mathlib.Core.Bool.{Bool, true, false, cond}
+use mathlib.Core.List.{List, [], _∷_, List·Memᴰ}
+use Prim.Native.Nat.{ℕ, zero, suc, _<_}
+use lib.Dec.{eqb}
+use Rattle.letters.specs.declared.Header.{Header}
+use Rattle.letters.specs.declared.Letter.{Letter}
+use Rattle.letters.specs.declared.Letter.the-variants.{Copy, Apply, Equal, Unequal}
+use Rattle.letters.specs.Letters.{Fits}
+
+infix 4 _∈_
+abbrev pub _∈_ : {A : Type 0} → A → List A → Type 0
+a ∈ l = List·Memᴰ a l
+
+-- A register's initial constant, or a function applied to two terms.
+-- A function of one argument is applied to its argument twice: f(t) is app f t t.
+pub data Term : Type 0 where
+  con : ℕ → Term
+  app : ℕ → Term → Term → Term
+
+-- A header, and letters one after the other.
+infixl 40 _▸_
+pub data Trace : Type 0 where
+  begin : Header → Trace
+  _▸_ : Trace → Letter → Trace
+
+-- What a trace leaves: the terms that some register has had, the latest first; the equal tests and the unequal tests,
+-- as pairs of terms; and the term that each register has.
+pub record State : Type 0 where
+  pub header : Header
+  pub terms : List Term
+  pub equals : List (Term × Term)
+  pub unequals : List (Term × Term)
+  pub value : ℕ → Term
+
+-- con 0 to con (n - 1), the last first
+abbrev pub constants : ℕ → List Term
+constants zero = []
+constants (suc n) = con n ∷ constants n
+
+abbrev pub start : Header → State
+start h = record { header = h; terms = constants (h .registers); equals = []; unequals = []; value = con }
+
+-- Definition 3, letter by letter.
+abbrev pub value-after : State → Letter → ℕ → Term
+value-after σ (Copy x y) r = σ .value (cond (eqb r x) y r)
+value-after σ (Apply x f y z) r = elim (eqb r x) [ true ↦ app f (σ .value y) (σ .value z) | false ↦ σ .value r ]
+value-after σ (Equal x y) r = σ .value r
+value-after σ (Unequal x y) r = σ .value r
+
+-- Only an application computes a new term.
+abbrev pub terms-after : State → Letter → List Term
+terms-after σ (Copy x y) = σ .terms
+terms-after σ (Apply x f y z) = app f (σ .value y) (σ .value z) ∷ σ .terms
+terms-after σ (Equal x y) = σ .terms
+terms-after σ (Unequal x y) = σ .terms
+
+abbrev pub equals-after : State → Letter → List (Term × Term)
+equals-after σ (Copy x y) = σ .equals
+equals-after σ (Apply x f y z) = σ .equals
+equals-after σ (Equal x y) = (σ .value x, σ .value y) ∷ σ .equals
+equals-after σ (Unequal x y) = σ .equals
+
+abbrev pub unequals-after : State → Letter → List (Term × Term)
+unequals-after σ (Copy x y) = σ .unequals
+unequals-after σ (Apply x f y z) = σ .unequals
+unequals-after σ (Equal x y) = σ .unequals
+unequals-after σ (Unequal x y) = (σ .value x, σ .value y) ∷ σ .unequals
+
+abbrev pub after : State → Letter → State
+after σ a = record {
+  header = σ .header;
+  terms = terms-after σ a;
+  equals = equals-after σ a;
+  unequals = unequals-after σ a;
+  value = value-after σ a;
+}
+
+abbrev pub state : Trace → State
+state (begin h) = start h
+state (ρ ▸ a) = after (state ρ) a
+
+-- Every letter fits the header.
+abbrev pub WellFormed : Trace → Type 0
+WellFormed (begin h) = Unit {0}
+WellFormed (ρ ▸ a) = WellFormed ρ × Fits (state ρ .header) a
+
+-- A trace, and after it letters in the order of reading.
+abbrev pub extend : Trace → List Letter → Trace
+extend ρ [] = ρ
+extend ρ (a ∷ l) = extend (ρ ▸ a) l
+
+-- The trace of a header and its letters, the first letter first.
+abbrev pub traceOf : Header → List Letter → Trace
+traceOf h l = extend (begin h) l

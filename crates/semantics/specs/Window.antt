@@ -1,0 +1,75 @@
+-- What the window says of a trace (document 01), register by register.
+use mathlib.Core.Path.{_≡_}
+use mathlib.Core.Bool.{Bool}
+use mathlib.Core.Logic.{_⊎_, _↔_}
+use Prim.Native.Nat.{ℕ, _<_}
+use lib.Dec.{T}
+use Rattle.semantics.specs.Terms.{_∈_, Term, app, State}
+use Rattle.semantics.specs.Closure.{Closure, Equivalent, Held}
+use mathlib.Core.List.{List}
+use Rattle.semantics.specs.Models.{Feasible}
+use Rattle.semantics.specs.Coherence.{Climb}
+
+module _ (U : List Term) (E : List (Term × Term)) where
+  -- A computed application of f to arguments equal to y and z equals s.
+  pub record Match (f : ℕ) (y z s : Term) : Type 0 where
+    pub first : Term
+    pub second : Term
+    pub listed : app f first second ∈ U
+    pub at-first : Closure U E first y
+    pub at-second : Closure U E second z
+    pub gives : Closure U E (app f first second) s
+
+  -- One of the unequal tests D has joined terms equal to s and t, in either order.
+  pub record Parted (D : List (Term × Term)) (s t : Term) : Type 0 where
+    pub left : Term
+    pub right : Term
+    pub tested : ((left, right) ∈ D) ⊎ ((right, left) ∈ D)
+    pub at-left : Closure U E left s
+    pub at-right : Closure U E right t
+
+  -- Above t there is a computed application whose result and arguments are not all held.
+  pub record Exposed (H : Term → Type 0) (t : Term) : Type 0 where
+    pub function : ℕ
+    pub first : Term
+    pub second : Term
+    pub listed : app function first second ∈ U
+    pub above : Climb U E t first ⊎ Climb U E t second
+    pub unheld : ¬ (H (app function first second) × H first × H second)
+
+-- Registers r and s are in one class.
+abbrev pub Same : State → ℕ → ℕ → Type 0
+Same σ r s = Equivalent σ (σ .value r) (σ .value s)
+
+-- The classes of r and s are known unequal.
+abbrev pub Apart : State → ℕ → ℕ → Type 0
+Apart σ r s = Parted (σ .terms) (σ .equals) (σ .unequals) (σ .value r) (σ .value s)
+
+-- r holds the result of f at a and b.
+abbrev pub Result : State → ℕ → ℕ → ℕ → ℕ → Type 0
+Result σ f a b r = Match (σ .terms) (σ .equals) f (σ .value a) (σ .value b) (σ .value r)
+
+-- f was computed at a and b, whether or not a register holds the result.
+abbrev pub Ever : State → ℕ → ℕ → ℕ → Type 0
+Ever σ f a b = (s : Term) × Match (σ .terms) (σ .equals) f (σ .value a) (σ .value b) s
+
+abbrev pub Marked : State → ℕ → Type 0
+Marked σ r = Exposed (σ .terms) (σ .equals) (Held σ) (σ .value r)
+
+-- A window: what it says of registers.
+pub record View : Type 0 where
+  pub same : ℕ → ℕ → Bool
+  pub apart : ℕ → ℕ → Bool
+  pub result : ℕ → ℕ → ℕ → ℕ → Bool
+  pub ever : ℕ → ℕ → ℕ → Bool
+  pub marked : ℕ → Bool
+  pub infeasible : Bool
+
+-- It is the window of the state. Once infeasible, it has no unequal pairs.
+pub record Tracks (σ : State) (w : View) : Type 0 where
+  pub same : (r s : ℕ) → r < σ .header .registers → s < σ .header .registers → T (w .same r s) ↔ Same σ r s
+  pub apart : (r s : ℕ) → r < σ .header .registers → s < σ .header .registers → T (w .apart r s) ↔ (Feasible σ × Apart σ r s)
+  pub result : (f a b r : ℕ) → a < σ .header .registers → b < σ .header .registers → r < σ .header .registers → T (w .result f a b r) ↔ Result σ f a b r
+  pub ever : (f a b : ℕ) → a < σ .header .registers → b < σ .header .registers → T (w .ever f a b) ↔ Ever σ f a b
+  pub marked : (r : ℕ) → r < σ .header .registers → T (w .marked r) ↔ Marked σ r
+  pub infeasible : T (w .infeasible) ↔ (¬ Feasible σ)

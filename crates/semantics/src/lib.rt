@@ -1,0 +1,1 @@
+// The mathematics of traces: there is no code here. The definitions and theorems are in specs/.
