@@ -1,1 +1,12 @@
 pub mod Letters
+pub mod Packing
+pub mod Answers
+pub mod Editions
+pub mod Words
+pub mod Traces
+pub mod Writing
+pub mod WordLaws
+pub mod Putting
+pub mod TraceLaws
+pub mod WritingLaws
+pub mod Examples

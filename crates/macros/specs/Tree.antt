@@ -1,7 +1,9 @@
 -- Macros as trees (document 01, "Macro text"). Registers and functions are numbered by their places in the declarations.
 use Prim.Native.Nat.{ℕ}
+use Rattle.letters.specs.declared.Header.{Header}
 use Rattle.letters.specs.declared.Letter.{Letter}
 use Rattle.letters.specs.declared.Letter.the-variants.{Equal, Unequal}
+use Rattle.letters.specs.Letters.{Fits}
 
 -- "C is `a = b` or `a != b`."
 pub data Condition : Type 0 where
@@ -35,3 +37,20 @@ mutual
   pub data Block : Type 0 where
     empty : Block
     _then_ : Statement → Block → Block
+
+-- The letters of a macro fit its header: what is used is declared, and a function has as many arguments as declared.
+abbrev mutual
+  pub Proper : Statement → Header → Type 0
+  Proper skip h = Unit {0}
+  Proper (perform a) h = Fits h a
+  Proper (assert c) h = Fits h (test c)
+  Proper (if c b e) h = Fits h (test c) × ProperBlock b h × ProperElse e h
+  Proper (while c b) h = Fits h (test c) × ProperBlock b h
+
+  pub ProperElse : Else → Header → Type 0
+  ProperElse absent h = Unit {0}
+  ProperElse (present b) h = ProperBlock b h
+
+  pub ProperBlock : Block → Header → Type 0
+  ProperBlock empty h = Unit {0}
+  ProperBlock (s then b) h = Proper s h × ProperBlock b h

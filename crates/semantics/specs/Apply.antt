@@ -1,19 +1,18 @@
 -- An application: the facts of the state that has the new term in a register of its own, number 0, the others following it.
 -- The letter itself then renames registers: its target holds what number 0 held.
-use mathlib.Core.Path.{_≡_, refl, sym, _∙_, ap, subst}
+use mathlib.Core.Path.{_≡_, refl, sym, ap, subst}
 use mathlib.Core.Logic.{_⊎_, inl, inr, _↔_}
-use mathlib.Core.List.{List, [], _∷_, List·Memᴰ·head, List·Memᴰ·tail, List·Memᴰ·cases-cons, Memᴰ·cast}
+use mathlib.Core.List.{_∷_, List·Memᴰ·head, List·Memᴰ·tail, List·Memᴰ·cases-cons, Memᴰ·cast}
 use Prim.Native.Nat.{ℕ, zero, suc, _<_}
 use native.Mathlib.Omega.{arith}
-use Rattle.letters.specs.declared.Header.{Header}
 use Rattle.semantics.specs.Terms.{_∈_, Term, app, State}
-use Rattle.semantics.specs.Closure.{Closure, reflexive, test, symmetric, transitive, congruence, Equivalent, Held}
-use Rattle.semantics.specs.Coherence.{Climb, from, up, Reaches, Memoizing}
-use Rattle.semantics.specs.Window.{Match, Parted, Exposed, Same, Apart, Result, Ever, Marked}
-use Rattle.semantics.specs.Shown.{Clash}
+use Rattle.semantics.specs.Closure.{reflexive, symmetric, transitive, Equivalent, Held}
+use Rattle.semantics.specs.Coherence.{Memoizing}
+use Rattle.semantics.specs.Climb.{from, up, Reaches, reaches-equal, above-climbs, climbs-above}
+use Rattle.semantics.specs.Window.{Match, Same, Apart, Result, Ever, Marked}
 use Rattle.semantics.specs.Facts.{Valid, closure-in}
-use Rattle.semantics.specs.Local.{reaches-equal}
-use Rattle.semantics.specs.Extend.{weaken, extend-old, extend-new}
+use Rattle.semantics.specs.ClosureLaws.{weaken}
+use Rattle.semantics.specs.Extend.{extend-old, extend-new}
 
 -- the values with t in register 0
 abbrev pub push : Term → (ℕ → Term) → ℕ → Term
@@ -90,11 +89,13 @@ module _ (σ : State) (v : Valid σ) (f y z : ℕ) (yb : y < σ .header .registe
 
     pub same-known : (a b : ℕ) → a < suc (σ .header .registers) → b < suc (σ .header .registers) → Same σ⁺ a b ↔ Same σ (down w a) (down w b)
     same-known a b ab bb = (
-      λ c. older (v .values (down w a) (down-below a ab)) (v .values (down w b) (down-below b bb)) (transitive (symmetric (link a ab)) (transitive c (link b bb))),
+      λ c. older (v .values (down w a) (down-below a ab)) (v .values (down w b) (down-below b bb))
+          (transitive (symmetric (link a ab)) (transitive c (link b bb))),
       λ c. transitive (link a ab) (transitive (more c) (symmetric (link b bb))),
     )
 
-    match-known : {g : ℕ} {a b s p q r : Term} → p ∈ σ .terms → q ∈ σ .terms → r ∈ σ .terms → Equivalent σ⁺ a p → Equivalent σ⁺ b q → Equivalent σ⁺ s r
+    match-known : {g : ℕ} {a b s p q r : Term} → p ∈ σ .terms → q ∈ σ .terms → r ∈ σ .terms → Equivalent σ⁺ a p → Equivalent σ⁺ b q
+        → Equivalent σ⁺ s r
         → Match (σ⁺ .terms) (σ⁺ .equals) g a b s → Match (σ .terms) (σ .equals) g p q r
     match-known {g} {a} {b} {s} {p} {q} {r} pm qm rm c d e m = go (listed (m .listed))
       where
@@ -118,9 +119,16 @@ module _ (σ : State) (v : Valid σ) (f y z : ℕ) (yb : y < σ .header .registe
               gives = n .gives;
             })
 
-    match-more : {g : ℕ} {a b s p q r : Term} → Equivalent σ⁺ a p → Equivalent σ⁺ b q → Equivalent σ⁺ s r → Match (σ .terms) (σ .equals) g a b s → Match (σ⁺ .terms) (σ⁺ .equals) g p q r
-    match-more c d e m = record
-        { first = m .first; second = m .second; listed = List·Memᴰ·tail (m .listed); at-first = transitive (more (m .at-first)) c; at-second = transitive (more (m .at-second)) d; gives = transitive (more (m .gives)) e }
+    match-more : {g : ℕ} {a b s p q r : Term} → Equivalent σ⁺ a p → Equivalent σ⁺ b q → Equivalent σ⁺ s r → Match (σ .terms) (σ .equals) g a b s
+        → Match (σ⁺ .terms) (σ⁺ .equals) g p q r
+    match-more c d e m = record {
+      first = m .first;
+      second = m .second;
+      listed = List·Memᴰ·tail (m .listed);
+      at-first = transitive (more (m .at-first)) c;
+      at-second = transitive (more (m .at-second)) d;
+      gives = transitive (more (m .gives)) e;
+    }
 
     abbrev Below⁺ : ℕ → Type 0
     Below⁺ r = r < suc (σ .header .registers)
@@ -129,14 +137,21 @@ module _ (σ : State) (v : Valid σ) (f y z : ℕ) (yb : y < σ .header .registe
     down-in a b = v .values (down w a) (down-below a b)
 
     pub result-known : (g a b c : ℕ) → Below⁺ a → Below⁺ b → Below⁺ c → Result σ⁺ g a b c ↔ Result σ g (down w a) (down w b) (down w c)
-    result-known g a b c ab bb cb =
-        (match-known (down-in a ab) (down-in b bb) (down-in c cb) (link a ab) (link b bb) (link c cb), match-more (symmetric (link a ab)) (symmetric (link b bb)) (symmetric (link c cb)))
+    result-known g a b c ab bb cb = (
+      match-known (down-in a ab) (down-in b bb) (down-in c cb) (link a ab) (link b bb) (link c cb),
+      match-more (symmetric (link a ab)) (symmetric (link b bb)) (symmetric (link c cb)),
+    )
 
     pub ever-known : (g a b : ℕ) → Below⁺ a → Below⁺ b → Ever σ⁺ g a b ↔ Ever σ g (down w a) (down w b)
-    ever-known g a b ab bb = (λ (s, m). fwd s m (listed (m .listed)), λ (s, m). (s, match-more (symmetric (link a ab)) (symmetric (link b bb)) (more (reflexive ((closure-in σ v (m .gives)) .1))) m))
+    ever-known g a b ab bb = (
+      λ (s, m). fwd s m (listed (m .listed)),
+      λ (s, m). (s, match-more (symmetric (link a ab)) (symmetric (link b bb)) (more (reflexive ((closure-in σ v (m .gives)) .1))) m),
+    )
       where
-        fwd : (s : Term) (m : Match (σ⁺ .terms) (σ⁺ .equals) g (push new (σ .value) a) (push new (σ .value) b) s) → Listed g (m .first) (m .second) → Ever σ g (down w a) (down w b)
-        fwd s m (before k i j) = (app g (m .first) (m .second), match-known (down-in a ab) (down-in b bb) k (link a ab) (link b bb) (symmetric (m .gives)) m)
+        fwd : (s : Term) (m : Match (σ⁺ .terms) (σ⁺ .equals) g (push new (σ .value) a) (push new (σ .value) b) s) → Listed g (m .first) (m .second)
+            → Ever σ g (down w a) (down w b)
+        fwd s m (before k i j) =
+            (app g (m .first) (m .second), match-known (down-in a ab) (down-in b bb) k (link a ab) (link b bb) (symmetric (m .gives)) m)
         fwd s m (now h i j) = (
           σ .value w,
           match-known (down-in a ab) (down-in b bb) (v .values w wb) (link a ab) (link b bb)
@@ -144,7 +159,16 @@ module _ (σ : State) (v : Valid σ) (f y z : ℕ) (yb : y < σ .header .registe
         )
 
     pub apart-known : (a b : ℕ) → Below⁺ a → Below⁺ b → Apart σ⁺ a b ↔ Apart σ (down w a) (down w b)
-    apart-known a b ab bb = (fwd, λ m. record { left = m .left; right = m .right; tested = m .tested; at-left = transitive (more (m .at-left)) (symmetric (link a ab)); at-right = transitive (more (m .at-right)) (symmetric (link b bb)) })
+    apart-known a b ab bb = (
+      fwd,
+      λ m. record {
+        left = m .left;
+        right = m .right;
+        tested = m .tested;
+        at-left = transitive (more (m .at-left)) (symmetric (link a ab));
+        at-right = transitive (more (m .at-right)) (symmetric (link b bb));
+      },
+    )
       where
         in-terms : (s t : Term) → ((s, t) ∈ σ .unequals) ⊎ ((t, s) ∈ σ .unequals) → (s ∈ σ .terms) × (t ∈ σ .terms)
         in-terms s t (inl k) = v .unequal-sides s t k
@@ -153,7 +177,13 @@ module _ (σ : State) (v : Valid σ) (f y z : ℕ) (yb : y < σ .header .registe
         fwd : Apart σ⁺ a b → Apart σ (down w a) (down w b)
         fwd m =
             let (i, j) = in-terms (m .left) (m .right) (m .tested) in
-            record { left = m .left; right = m .right; tested = m .tested; at-left = older i (down-in a ab) (transitive (m .at-left) (link a ab)); at-right = older j (down-in b bb) (transitive (m .at-right) (link b bb)) }
+            record {
+              left = m .left;
+              right = m .right;
+              tested = m .tested;
+              at-left = older i (down-in a ab) (transitive (m .at-left) (link a ab));
+              at-right = older j (down-in b bb) (transitive (m .at-right) (link b bb));
+            }
 
     held-known : {s t : Term} → t ∈ σ .terms → Equivalent σ⁺ s t → Held σ⁺ s ↔ Held σ t
     held-known i c = (
@@ -162,7 +192,8 @@ module _ (σ : State) (v : Valid σ) (f y z : ℕ) (yb : y < σ .header .registe
     )
 
     -- what is reached in the grown state is reached by old applications
-    climb-known : {t p : Term} → p ∈ σ .terms → Equivalent σ⁺ t p → {s : Term} → Reaches σ⁺ t s → {q : Term} → q ∈ σ .terms → Equivalent σ⁺ s q → Reaches σ p q
+    climb-known : {t p : Term} → p ∈ σ .terms → Equivalent σ⁺ t p → {s : Term} → Reaches σ⁺ t s → {q : Term} → q ∈ σ .terms → Equivalent σ⁺ s q
+        → Reaches σ p q
     climb-known pm e (from c) qm d = from (older pm qm (transitive (symmetric e) (transitive c d)))
     climb-known {t} {p} pm e (up {u} {s} {a} {b} {f = g} r m x c) {q} qm d = go (λ k i l. climb-known pm e r {q = k} i l) (listed m) x
       where
@@ -192,20 +223,22 @@ module _ (σ : State) (v : Valid σ) (f y z : ℕ) (yb : y < σ .header .registe
           first = e .first;
           second = e .second;
           listed = k;
-          above = elim (e .above) [ inl r ↦ inl (reached i r) | inr r ↦ inr (reached j r) ];
-          unheld = λ (p, q, o). e .unheld (held-known k (more (reflexive k)) .1 p, held-known i (more (reflexive i)) .1 q, held-known j (more (reflexive j)) .1 o);
+          above = climbs-above (elim (above-climbs (e .above)) [ inl r ↦ inl (reached i r) | inr r ↦ inr (reached j r) ]);
+          unheld = λ (p, q, o). e .unheld
+              (held-known k (more (reflexive k)) .1 p, held-known i (more (reflexive i)) .1 q, held-known j (more (reflexive j)) .1 o);
         }
         fwd e (now h i j) = record {
           function = f;
           first = known .first;
           second = known .second;
           listed = known .listed;
-          above = elim (e .above) [
+          above = climbs-above (elim (above-climbs (e .above)) [
             | inl r ↦ inl (reaches-equal (reached ym (subst (Reaches σ⁺ (push new (σ .value) a)) i r)) (symmetric (known .at-first)))
             | inr r ↦ inr (reaches-equal (reached zm (subst (Reaches σ⁺ (push new (σ .value) a)) j r)) (symmetric (known .at-second)))
-          ];
+          ]);
           unheld = λ (p, q, o). e .unheld (
-            subst (Held σ⁺) (sym (λ k. app (h k) (i k) (j k))) (held-known (known .listed) (transitive (link zero (omega arith)) (symmetric (more (known .gives)))) .1 p),
+            subst (Held σ⁺) (sym (λ k. app (h k) (i k) (j k)))
+                (held-known (known .listed) (transitive (link zero (omega arith)) (symmetric (more (known .gives)))) .1 p),
             subst (Held σ⁺) (sym i) (held-known ((closure-in σ v (known .at-first)) .0) (more (symmetric (known .at-first))) .1 q),
             subst (Held σ⁺) (sym j) (held-known ((closure-in σ v (known .at-second)) .0) (more (symmetric (known .at-second))) .1 o),
           );
@@ -219,8 +252,15 @@ module _ (σ : State) (v : Valid σ) (f y z : ℕ) (yb : y < σ .header .registe
               first = e .first;
               second = e .second;
               listed = List·Memᴰ·tail (e .listed);
-              above = elim (e .above) [ inl r ↦ inl (climb-more (link a ab) r) | inr r ↦ inr (climb-more (link a ab) r) ];
-              unheld = λ (p, q, o). e .unheld (held-known (e .listed) (more (reflexive (e .listed))) .0 p, held-known i (more (reflexive i)) .0 q, held-known j (more (reflexive j)) .0 o);
+              above = climbs-above (elim (above-climbs (e .above)) [
+                | inl r ↦ inl (climb-more (link a ab) r)
+                | inr r ↦ inr (climb-more (link a ab) r)
+              ]);
+              unheld = λ (p, q, o). e .unheld (
+                held-known (e .listed) (more (reflexive (e .listed))) .0 p,
+                held-known i (more (reflexive i)) .0 q,
+                held-known j (more (reflexive j)) .0 o,
+              );
             }
 
   -- ── where the term is new: number 0 is alone in its class, and nothing lies above it ──
@@ -248,42 +288,101 @@ module _ (σ : State) (v : Valid σ) (f y z : ℕ) (yb : y < σ .header .registe
     pub ever-new-second : (g a : ℕ) → Ever σ⁺ g a 0 → ⊥
     ever-new-second g a (s, m) = far ((argument-in (listed (m .listed))) .1) (m .at-second)
 
-    pub ever-old : (g a b : ℕ) → a < σ .header .registers → b < σ .header .registers → Ever σ⁺ g (suc a) (suc b) ↔ (Ever σ g a b ⊎ ((g ≡ f) × Same σ y a × Same σ z b))
+    pub ever-old : (g a b : ℕ) → a < σ .header .registers → b < σ .header .registers
+        → Ever σ⁺ g (suc a) (suc b) ↔ (Ever σ g a b ⊎ ((g ≡ f) × Same σ y a × Same σ z b))
     ever-old g a b ab bb = (λ (s, m). fwd s m (listed (m .listed)), bwd)
       where
-        fwd : (s : Term) (m : Match (σ⁺ .terms) (σ⁺ .equals) g (σ .value a) (σ .value b) s) → Listed g (m .first) (m .second) → Ever σ g a b ⊎ ((g ≡ f) × Same σ y a × Same σ z b)
+        fwd : (s : Term) (m : Match (σ⁺ .terms) (σ⁺ .equals) g (σ .value a) (σ .value b) s) → Listed g (m .first) (m .second)
+            → Ever σ g a b ⊎ ((g ≡ f) × Same σ y a × Same σ z b)
         fwd s m (before k i j) = inl (
           app g (m .first) (m .second),
-          record
-              { first = m .first; second = m .second; listed = k; at-first = older i (v .values a ab) (m .at-first); at-second = older j (v .values b bb) (m .at-second); gives = reflexive k },
+          record {
+            first = m .first;
+            second = m .second;
+            listed = k;
+            at-first = older i (v .values a ab) (m .at-first);
+            at-second = older j (v .values b bb) (m .at-second);
+            gives = reflexive k;
+          },
         )
-        fwd s m (now h i j) = inr (h, older ym (v .values a ab) (subst (λ u. Equivalent σ⁺ u (σ .value a)) i (m .at-first)), older zm (v .values b bb) (subst (λ u. Equivalent σ⁺ u (σ .value b)) j (m .at-second)))
+        fwd s m (now h i j) =
+            inr (
+              h,
+              older ym (v .values a ab) (subst (λ u. Equivalent σ⁺ u (σ .value a)) i (m .at-first)),
+              older zm (v .values b bb) (subst (λ u. Equivalent σ⁺ u (σ .value b)) j (m .at-second)),
+            )
 
         bwd : Ever σ g a b ⊎ ((g ≡ f) × Same σ y a × Same σ z b) → Ever σ⁺ g (suc a) (suc b)
-        bwd (inl (s, m)) = (s, record { first = m .first; second = m .second; listed = List·Memᴰ·tail (m .listed); at-first = more (m .at-first); at-second = more (m .at-second); gives = more (m .gives) })
-        bwd (inr (h, c, d)) = (new, record { first = Y; second = Z; listed = List·Memᴰ·head (ap (λ k. app k Y Z) h); at-first = more c; at-second = more d; gives = subst (λ k. Equivalent σ⁺ (app k Y Z) new) (sym h) (reflexive (List·Memᴰ·head refl)) })
+        bwd (inl (s, m)) = (
+          s,
+          record {
+            first = m .first;
+            second = m .second;
+            listed = List·Memᴰ·tail (m .listed);
+            at-first = more (m .at-first);
+            at-second = more (m .at-second);
+            gives = more (m .gives);
+          },
+        )
+        bwd (inr (h, c, d)) = (
+          new,
+          record {
+            first = Y;
+            second = Z;
+            listed = List·Memᴰ·head (ap (λ k. app k Y Z) h);
+            at-first = more c;
+            at-second = more d;
+            gives = subst (λ k. Equivalent σ⁺ (app k Y Z) new) (sym h) (reflexive (List·Memᴰ·head refl));
+          },
+        )
 
-    pub result-old : (g a b c : ℕ) → a < σ .header .registers → b < σ .header .registers → c < σ .header .registers → Result σ⁺ g (suc a) (suc b) (suc c) ↔ Result σ g a b c
+    pub result-old : (g a b c : ℕ) → a < σ .header .registers → b < σ .header .registers → c < σ .header .registers
+        → Result σ⁺ g (suc a) (suc b) (suc c) ↔ Result σ g a b c
     result-old g a b c ab bb cb = (
       λ m. fwd m (listed (m .listed)),
-      λ m. record { first = m .first; second = m .second; listed = List·Memᴰ·tail (m .listed); at-first = more (m .at-first); at-second = more (m .at-second); gives = more (m .gives) },
+      λ m. record {
+        first = m .first;
+        second = m .second;
+        listed = List·Memᴰ·tail (m .listed);
+        at-first = more (m .at-first);
+        at-second = more (m .at-second);
+        gives = more (m .gives);
+      },
     )
       where
         fwd : (m : Result σ⁺ g (suc a) (suc b) (suc c)) → Listed g (m .first) (m .second) → Result σ g a b c
-        fwd m (before k i j) = record
-            { first = m .first; second = m .second; listed = k; at-first = older i (v .values a ab) (m .at-first); at-second = older j (v .values b bb) (m .at-second); gives = older k (v .values c cb) (m .gives) }
-        fwd m (now h i j) = absurd (far (v .values c cb) (symmetric (subst (λ u. Equivalent σ⁺ u (σ .value c)) (λ k. app (h k) (i k) (j k)) (m .gives))))
+        fwd m (before k i j) = record {
+          first = m .first;
+          second = m .second;
+          listed = k;
+          at-first = older i (v .values a ab) (m .at-first);
+          at-second = older j (v .values b bb) (m .at-second);
+          gives = older k (v .values c cb) (m .gives);
+        }
+        fwd m (now h i j) =
+            absurd (far (v .values c cb) (symmetric (subst (λ u. Equivalent σ⁺ u (σ .value c)) (λ k. app (h k) (i k) (j k)) (m .gives))))
 
-    pub result-new : (g a b : ℕ) → a < σ .header .registers → b < σ .header .registers → Result σ⁺ g (suc a) (suc b) 0 ↔ ((g ≡ f) × Same σ y a × Same σ z b)
+    pub result-new : (g a b : ℕ) → a < σ .header .registers → b < σ .header .registers
+        → Result σ⁺ g (suc a) (suc b) 0 ↔ ((g ≡ f) × Same σ y a × Same σ z b)
     result-new g a b ab bb = (
       λ m. fwd m (listed (m .listed)),
-      λ (h, c, d). record
-          { first = Y; second = Z; listed = List·Memᴰ·head (ap (λ k. app k Y Z) h); at-first = more c; at-second = more d; gives = subst (λ k. Equivalent σ⁺ (app k Y Z) new) (sym h) (reflexive (List·Memᴰ·head refl)) },
+      λ (h, c, d). record {
+        first = Y;
+        second = Z;
+        listed = List·Memᴰ·head (ap (λ k. app k Y Z) h);
+        at-first = more c;
+        at-second = more d;
+        gives = subst (λ k. Equivalent σ⁺ (app k Y Z) new) (sym h) (reflexive (List·Memᴰ·head refl));
+      },
     )
       where
         fwd : (m : Result σ⁺ g (suc a) (suc b) 0) → Listed g (m .first) (m .second) → (g ≡ f) × Same σ y a × Same σ z b
         fwd m (before k i j) = absurd (far k (m .gives))
-        fwd m (now h i j) = (h, older ym (v .values a ab) (subst (λ u. Equivalent σ⁺ u (σ .value a)) i (m .at-first)), older zm (v .values b bb) (subst (λ u. Equivalent σ⁺ u (σ .value b)) j (m .at-second)))
+        fwd m (now h i j) = (
+          h,
+          older ym (v .values a ab) (subst (λ u. Equivalent σ⁺ u (σ .value a)) i (m .at-first)),
+          older zm (v .values b bb) (subst (λ u. Equivalent σ⁺ u (σ .value b)) j (m .at-second)),
+        )
 
     tested-in : (s t : Term) → ((s, t) ∈ σ .unequals) ⊎ ((t, s) ∈ σ .unequals) → (s ∈ σ .terms) × (t ∈ σ .terms)
     tested-in s t (inl k) = v .unequal-sides s t k
@@ -298,7 +397,13 @@ module _ (σ : State) (v : Valid σ) (f y z : ℕ) (yb : y < σ .header .registe
     pub apart-old : (a b : ℕ) → a < σ .header .registers → b < σ .header .registers → Apart σ⁺ (suc a) (suc b) ↔ Apart σ a b
     apart-old a b ab bb = (
       λ m. let (i, j) = tested-in (m .left) (m .right) (m .tested) in
-          record { left = m .left; right = m .right; tested = m .tested; at-left = older i (v .values a ab) (m .at-left); at-right = older j (v .values b bb) (m .at-right) },
+          record {
+            left = m .left;
+            right = m .right;
+            tested = m .tested;
+            at-left = older i (v .values a ab) (m .at-left);
+            at-right = older j (v .values b bb) (m .at-right);
+          },
       λ m. record { left = m .left; right = m .right; tested = m .tested; at-left = more (m .at-left); at-right = more (m .at-right) },
     )
 
@@ -329,7 +434,10 @@ module _ (σ : State) (v : Valid σ) (f y z : ℕ) (yb : y < σ .header .registe
         fwd (suc r) b d = (r, omega arith, older i (v .values r (omega arith)) d)
 
     pub marked-new : Marked σ⁺ 0 → ⊥
-    marked-new e = let (i, j) = argument-in (listed (e .listed)) in elim (e .above) [ inl r ↦ climb-new r i (more (reflexive i)) | inr r ↦ climb-new r j (more (reflexive j)) ]
+    marked-new e = let (i, j) = argument-in (listed (e .listed)) in elim (above-climbs (e .above)) [
+      | inl r ↦ climb-new r i (more (reflexive i))
+      | inr r ↦ climb-new r j (more (reflexive j))
+    ]
 
     pub marked-old : (r : ℕ) → r < σ .header .registers → Marked σ⁺ (suc r) ↔ Marked σ r
     marked-old r rb = (λ e. fwd e (listed (e .listed)), bwd)
@@ -340,7 +448,10 @@ module _ (σ : State) (v : Valid σ) (f y z : ℕ) (yb : y < σ .header .registe
           first = e .first;
           second = e .second;
           listed = k;
-          above = elim (e .above) [ inl c ↦ inl (climb-old (v .values r rb) c i (more (reflexive i))) | inr c ↦ inr (climb-old (v .values r rb) c j (more (reflexive j))) ];
+          above = climbs-above (elim (above-climbs (e .above)) [
+            | inl c ↦ inl (climb-old (v .values r rb) c i (more (reflexive i)))
+            | inr c ↦ inr (climb-old (v .values r rb) c j (more (reflexive j)))
+          ]);
           unheld = λ (p, q, o). e .unheld (held-old k .1 p, held-old i .1 q, held-old j .1 o);
         }
         fwd e (now h i j) = absurd (e .unheld (
@@ -357,14 +468,21 @@ module _ (σ : State) (v : Valid σ) (f y z : ℕ) (yb : y < σ .header .registe
               first = e .first;
               second = e .second;
               listed = List·Memᴰ·tail (e .listed);
-              above = elim (e .above) [ inl c ↦ inl (climb-more′ c) | inr c ↦ inr (climb-more′ c) ];
+              above = climbs-above (elim (above-climbs (e .above)) [ inl c ↦ inl (climb-more′ c) | inr c ↦ inr (climb-more′ c) ]);
               unheld = λ (p, q, o). e .unheld (held-old (e .listed) .0 p, held-old i .0 q, held-old j .0 o);
             }
 
   -- ── memoizing, in the window's words ──
   pub memoizing : (x : ℕ) → Memoizing σ x f y z ↔ (Ever σ f y z → (r : ℕ) × (r < σ .header .registers) × Result σ f y z r)
   memoizing x = (
-    λ h (s, m). let (r, b, c) = h (app f (m .first) (m .second)) (m .listed) (extend-new σ v f ym zm (m .listed) .1 (record { first = m .first; second = m .second; listed = m .listed; at-first = m .at-first; at-second = m .at-second; gives = reflexive (m .listed) })) in
+    λ h (s, m). let (r, b, c) = h (app f (m .first) (m .second)) (m .listed) (extend-new σ v f ym zm (m .listed) .1 (record {
+      first = m .first;
+      second = m .second;
+      listed = m .listed;
+      at-first = m .at-first;
+      at-second = m .at-second;
+      gives = reflexive (m .listed);
+    })) in
         (r, b, extend-new σ v f ym zm (v .values r b) .0 c),
     λ h s m c. let (r, b, k) = h (s, extend-new σ v f ym zm m .0 c) in (r, b, extend-new σ v f ym zm (v .values r b) .1 k),
   )

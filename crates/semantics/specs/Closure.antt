@@ -1,5 +1,5 @@
--- The closure (document 01): the least equivalence over the terms U that holds the pairs E
--- and equates applications of one function to equivalent arguments.
+-- "Closure: the least equivalence over computed terms that holds the equal tests and equates computed applications of one function
+-- to equivalent arguments" (document 01). U are the computed terms, E the equal tests.
 use mathlib.Core.List.{List}
 use Prim.Native.Nat.{ℕ, _<_}
 use Rattle.semantics.specs.Terms.{_∈_, Term, app, State}
@@ -16,6 +16,6 @@ module _ (U : List Term) (E : List (Term × Term)) where
 abbrev pub Equivalent : State → Term → Term → Type 0
 Equivalent σ s t = Closure (σ .terms) (σ .equals) s t
 
--- A register holds a term equal to t.
+-- A register holds a term equal to t: t is "equal to the present value of a register".
 abbrev pub Held : State → Term → Type 0
 Held σ t = (r : ℕ) × (r < σ .header .registers) × Equivalent σ t (σ .value r)

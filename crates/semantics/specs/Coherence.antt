@@ -1,42 +1,47 @@
--- Coherence (document 01; source document 000, Definition 5 with the stricter early rule).
+-- Coherence of traces (document 01, "Terms, models, coherence"; source document 000, Definition 5, with the stricter early rule).
 use mathlib.Core.Path.{_≡_}
 use mathlib.Core.Logic.{_⊎_}
+use mathlib.Core.List.{List}
 use Prim.Native.Nat.{ℕ, zero, suc, _<_}
 use Rattle.letters.specs.declared.Letter.{Letter}
 use Rattle.letters.specs.declared.Letter.the-variants.{Copy, Apply, Equal, Unequal}
 use Rattle.semantics.specs.Terms.{_∈_, Term, app, Trace, begin, _▸_, State, after, state}
 use Rattle.semantics.specs.Closure.{Closure, Equivalent, Held}
-use mathlib.Core.List.{List}
 
--- s equals t or is a superterm of it: reached from the class of t by applications of U, in any argument.
-pub data Climb (U : List Term) (E : List (Term × Term)) (t : Term) : Term → Type 0 where
-  from : {s : Term} → Closure U E t s → Climb U E t s
-  up : {u s a b : Term} {f : ℕ} → Climb U E t u → app f a b ∈ U → Closure U E u a ⊎ Closure U E u b → Closure U E (app f a b) s → Climb U E t s
+module _ (U : List Term) (E : List (Term × Term)) where
+  -- "Superterm modulo closure: reached from a term's class by computed applications, in any argument, one or more times."
+  pub data Superterm (t : Term) : Term → Type 0 where
+    once : {s a b : Term} {f : ℕ} → app f a b ∈ U → Closure U E t a ⊎ Closure U E t b → Closure U E (app f a b) s → Superterm t s
+    again : {u s a b : Term} {f : ℕ} → Superterm t u → app f a b ∈ U → Closure U E u a ⊎ Closure U E u b → Closure U E (app f a b) s → Superterm t s
 
-abbrev pub Reaches : State → Term → Term → Type 0
-Reaches σ t s = Climb (σ .terms) (σ .equals) t s
+  -- "An application lies above a term if one of its arguments equals the term or a superterm of it": here the arguments are a and b.
+  abbrev pub Above : Term → Term → Term → Type 0
+  Above t a b = (Closure U E t a ⊎ Superterm t a) ⊎ (Closure U E t b ⊎ Superterm t b)
 
--- Every computed application above t, one of whose arguments equals t or a superterm of it, has its result and its arguments in registers.
+-- Each computed application above t has "its result and all its arguments equal to present values of registers".
 abbrev pub Kept : State → Term → Type 0
-Kept σ t = (f : ℕ) (a b : Term) → app f a b ∈ σ .terms → Reaches σ t a ⊎ Reaches σ t b → Held σ (app f a b) × Held σ a × Held σ b
+Kept σ t = (f : ℕ) (a b : Term) → app f a b ∈ σ .terms → Above (σ .terms) (σ .equals) t a b → Held σ (app f a b) × Held σ a × Held σ b
 
+-- The condition on equal tests: "At every equal test, each computed application above either side must have its result and
+-- all its arguments equal to present values of registers." It applies to sides that are equal already, too.
 abbrev pub Early : State → ℕ → ℕ → Type 0
 Early σ x y = Kept σ (σ .value x) × Kept σ (σ .value y)
 
--- If the term of the application equals a computed one, a register holds an equal term just before the letter.
--- The closure is that after the letter, when the term is computed.
+-- The condition on applications: "an application whose term is already equal to a computed one needs a register that holds
+-- an equal term just before the letter." Equal is meant in the closure in which the term is computed, that after the letter.
 abbrev pub Memoizing : State → ℕ → ℕ → ℕ → ℕ → Type 0
 Memoizing σ x f y z =
     (s : Term) → s ∈ σ .terms → Equivalent (after σ (Apply x f y z)) (app f (σ .value y) (σ .value z)) s
     → (r : ℕ) × (r < σ .header .registers) × Equivalent (after σ (Apply x f y z)) (app f (σ .value y) (σ .value z)) (σ .value r)
 
--- The letter is coherent in the state.
+-- The letter is coherent in the state. "Unequal tests never affect coherence", and copies do not.
 abbrev pub CoherentLetter : State → Letter → Type 0
 CoherentLetter σ (Copy x y) = Unit {0}
 CoherentLetter σ (Apply x f y z) = Memoizing σ x f y z
 CoherentLetter σ (Equal x y) = Early σ x y
 CoherentLetter σ (Unequal x y) = Unit {0}
 
+-- Every letter is coherent. Feasibility plays no part: "Coherence is judged on infeasible traces too."
 abbrev pub Coherent : Trace → Type 0
 Coherent (begin h) = Unit {0}
 Coherent (ρ ▸ a) = Coherent ρ × CoherentLetter (state ρ) a
@@ -46,7 +51,7 @@ abbrev pub size : Trace → ℕ
 size (begin h) = 0
 size (ρ ▸ a) = suc (size ρ)
 
--- Letter k, from 1, is the first after which P does not hold.
+-- Letter k, from 1, is the first after which P does not hold, where P goes over to beginnings (coherence and feasibility do).
 abbrev pub FailsAt : (Trace → Type 0) → Trace → ℕ → Type 0
 FailsAt P (begin h) k = ⊥
 FailsAt P (ρ ▸ a) k = FailsAt P ρ k ⊎ ((k ≡ suc (size ρ)) × P ρ × ¬ P (ρ ▸ a))

@@ -1,15 +1,17 @@
 -- The closure is decided: a list of merges computes it.
-use mathlib.Core.Path.{_≡_, refl, sym, _∙_, ap, ap₂, subst}
-use mathlib.Core.Logic.{_⊎_, inl, inr, _↔_, _≢_}
+use mathlib.Core.Path.{_≡_, refl, sym, _∙_, ap, subst}
+use mathlib.Core.Logic.{_⊎_, inl, inr, _≢_}
 use mathlib.Core.Bool.{Bool, true, false, not, _&&_}
-use mathlib.Core.List.{List, [], _∷_, _++_, List·Memᴰ·head, List·Memᴰ·tail, List·Memᴰ·not-nil, List·Memᴰ·cases-cons, Memᴰ·append-left, Memᴰ·append-right, Memᴰ·cast}
+use mathlib.Core.List.{List, [], _∷_, List·Memᴰ·head, List·Memᴰ·tail, List·Memᴰ·not-nil, List·Memᴰ·cases-cons}
 use mathlib.Core.Option.{Option, none, some}
-use Prim.Native.Nat.{ℕ, zero, suc, _+_, _≤_, _<_}
+use Prim.Native.Nat.{ℕ, zero, suc, _+_, _≤_}
 use native.Mathlib.Omega.{arith}
 use lib.Dec.{T, eqb, eqb→eq, eqb-refl, T-not, not-T}
-use lib.ListN.{length, length-append}
+use lib.ListN.{length}
 use Rattle.semantics.specs.Terms.{_∈_, Term, con, app}
-use Rattle.semantics.specs.Tests.{or-not, and-l, and-r, and-i, first, Found, at, nowhere, first-is, eqt, eqt→eq, eqt-refl, eq→eqt, eqt-or}
+use Rattle.semantics.specs.Booleans.{or-not, and-l, and-r, and-i}
+use Rattle.semantics.specs.Lists.{first, Found, at, nowhere, first-is}
+use Rattle.semantics.specs.TermEquality.{eqt, eqt→eq, eqt-refl, eq→eqt}
 use Rattle.semantics.specs.Closure.{Closure, reflexive, test, symmetric, transitive, congruence}
 
 -- ── finding the name of a term's class, under a list of merges, the latest first: (a, b) sends the class named a to b ──
@@ -130,7 +132,9 @@ merge-joins ms p = redirect-hit m ∙ sym (go (redirected m (find ms (p .1))))
     go (stays n) = refl
 
 tested-joins : {s t : Term} {E : List (Term × Term)} → (s, t) ∈ E → find (tested E) s ≡ find (tested E) t
-tested-joins (List·Memᴰ·head {x = e} {xs = es} q) = ap (λ (p : Term × Term). find (merge (tested es) e) (p .0)) q ∙ merge-joins (tested es) e ∙ sym (ap (λ (p : Term × Term). find (merge (tested es) e) (p .1)) q)
+tested-joins (List·Memᴰ·head {x = e} {xs = es} q) =
+    ap (λ (p : Term × Term). find (merge (tested es) e) (p .0)) q ∙ merge-joins (tested es) e ∙ sym
+    (ap (λ (p : Term × Term). find (merge (tested es) e) (p .1)) q)
 tested-joins (List·Memᴰ·tail {x = e} {xs = es} m) = ap (redirect (find (tested es) (e .0), find (tested es) (e .1))) (tested-joins m)
 
 congruent-e : (ms : List (Term × Term)) (R : Term → Term → Type 0) (s t : Term)
@@ -140,10 +144,14 @@ congruent-e ms R (app f a b) (con n) h y = absurd y
 congruent-e ms R (app f a b) (app g c d) h y =
     let u = and-r (eqb f g) (agree ms a c && agree ms b d) y in
     subst (λ k. R (app f a b) (app k c d)) (eqb→eq f g (and-l (eqb f g) (agree ms a c && agree ms b d) y))
-    (h f a b c d (eqt→eq (find ms a) (find ms c) (and-l (agree ms a c) (agree ms b d) u)) (eqt→eq (find ms b) (find ms d) (and-r (agree ms a c) (agree ms b d) u)))
+    (h f a b c d (eqt→eq (find ms a) (find ms c) (and-l (agree ms a c) (agree ms b d) u))
+    (eqt→eq (find ms b) (find ms d) (and-r (agree ms a c) (agree ms b d) u)))
 
-congruent-i : (ms : List (Term × Term)) (f : ℕ) (a b c d : Term) → find ms a ≡ find ms c → find ms b ≡ find ms d → T (congruent ms (app f a b) (app f c d))
-congruent-i ms f a b c d p q = and-i (eqb f f) (agree ms a c && agree ms b d) (eqb-refl f) (and-i (agree ms a c) (agree ms b d) (eq→eqt (find ms a) (find ms c) p) (eq→eqt (find ms b) (find ms d) q))
+congruent-i : (ms : List (Term × Term)) (f : ℕ) (a b c d : Term) → find ms a ≡ find ms c → find ms b ≡ find ms d
+    → T (congruent ms (app f a b) (app f c d))
+congruent-i ms f a b c d p q =
+    and-i (eqb f f) (agree ms a c && agree ms b d) (eqb-refl f)
+    (and-i (agree ms a c) (agree ms b d) (eq→eqt (find ms a) (find ms c) p) (eq→eqt (find ms b) (find ms d) q))
 
 module _ (U : List Term) (E : List (Term × Term)) where
   -- merges that the closure justifies
@@ -155,7 +163,9 @@ module _ (U : List Term) (E : List (Term × Term)) where
   merge-sound ms p h c t r = go (redirected (find ms (p .0), find ms (p .1)) (find ms t))
     where
       go : {u : Term} → Redirected (find ms (p .0), find ms (p .1)) (find ms t) u → Closure U E t u
-      go (moved e) = transitive (subst (Closure U E t) e (h t r)) (transitive (symmetric (h (p .0) (transitive c (symmetric c)))) (transitive c (h (p .1) (transitive (symmetric c) c))))
+      go (moved e) =
+          transitive (subst (Closure U E t) e (h t r))
+          (transitive (symmetric (h (p .0) (transitive c (symmetric c)))) (transitive c (h (p .1) (transitive (symmetric c) c))))
       go (stays n) = h t r
 
   sound-e : (ms : List (Term × Term)) → Sound ms → {s t : Term} → Closure U E s s → Closure U E t t → find ms s ≡ find ms t → Closure U E s t
@@ -165,7 +175,8 @@ module _ (U : List Term) (E : List (Term × Term)) where
   tested-sound : (D : List (Term × Term)) → ((s t : Term) → (s, t) ∈ D → (s, t) ∈ E) → Sound (tested D)
   unfolding Sound
   tested-sound [] h = λ t r. r
-  tested-sound (e ∷ es) h = merge-sound (tested es) e (tested-sound es (λ s t m. h s t (List·Memᴰ·tail m))) (test (h (e .0) (e .1) (List·Memᴰ·head refl)))
+  tested-sound (e ∷ es) h =
+      merge-sound (tested es) e (tested-sound es (λ s t m. h s t (List·Memᴰ·tail m))) (test (h (e .0) (e .1) (List·Memᴰ·head refl)))
 
   module _ (sub : (f : ℕ) (a b : Term) → app f a b ∈ U → (a ∈ U) × (b ∈ U)) where
     due-sound : (ms : List (Term × Term)) → Sound ms → (p : Term × Term) → p ∈ pairs U U → T (due ms p) → Closure U E (p .0) (p .1)
@@ -196,11 +207,13 @@ module _ (U : List Term) (E : List (Term × Term)) where
   saturate-stable zero ms (x ∷ l) b h = λ p m y. omega arith
   saturate-stable (suc n) ms l b h = go (λ ks. saturate-stable n ks) (first-is (due ms) (pairs U U))
     where
-      kept : (p : Term × Term) → p ∈ pairs U U → T (due ms p) → (k : List Term) → ((t : Term) → t ∈ l → t ≢ find ms (p .0) → t ∈ k) → (t : Term) → t ∈ U
+      kept : (p : Term × Term) → p ∈ pairs U U → T (due ms p) → (k : List Term) → ((t : Term) → t ∈ l → t ≢ find ms (p .0) → t ∈ k) → (t : Term)
+          → t ∈ U
           → {u : Term} → Redirected (find ms (p .0), find ms (p .1)) (find ms t) u → u ∈ k
       kept p m y k w t i (moved e) =
           w (find ms (p .1)) (h (p .1) ((pairs-e U U m) .1))
-          (λ q. T-not (agree ms (p .0) (p .1)) (and-r (congruent ms (p .0) (p .1)) (not (agree ms (p .0) (p .1))) y) (eq→eqt (find ms (p .0)) (find ms (p .1)) (sym q)))
+          (λ q. T-not (agree ms (p .0) (p .1)) (and-r (congruent ms (p .0) (p .1)) (not (agree ms (p .0) (p .1))) y)
+          (eq→eqt (find ms (p .0)) (find ms (p .1)) (sym q)))
       kept p m y k w t i (stays n) = w (find ms t) (h t i) n
 
       go : ((ks : List (Term × Term)) (k : List Term) → length k ≤ n → ((t : Term) → t ∈ U → find ks t ∈ k) → Stable (saturate U n ks))
@@ -212,7 +225,8 @@ module _ (U : List Term) (E : List (Term × Term)) where
           ih (merge ms p) k (omega arith) (λ t i. kept p m y k w t i (redirected (find ms (p .0), find ms (p .1)) (find ms t)))
 
   -- stable merges that join the tests join all that the closure equates
-  stable-e : (ms : List (Term × Term)) → Stable ms → ((s t : Term) → (s, t) ∈ E → find ms s ≡ find ms t) → {s t : Term} → Closure U E s t → find ms s ≡ find ms t
+  stable-e : (ms : List (Term × Term)) → Stable ms → ((s t : Term) → (s, t) ∈ E → find ms s ≡ find ms t) → {s t : Term} → Closure U E s t
+      → find ms s ≡ find ms t
   unfolding Stable
   stable-e ms h k (reflexive m) = refl
   stable-e ms h k (test m) = k _ _ m
@@ -251,7 +265,8 @@ unfolding named
 named-i [] l t m = m
 named-i (e ∷ es) l t m = go (named-i es l t m) (redirected (find (tested es) (e .0), find (tested es) (e .1)) (find (tested es) t))
   where
-    go : find (tested es) t ∈ named es l → {u : Term} → Redirected (find (tested es) (e .0), find (tested es) (e .1)) (find (tested es) t) u → u ∈ find (tested es) (e .1) ∷ named es l
+    go : find (tested es) t ∈ named es l → {u : Term} → Redirected (find (tested es) (e .0), find (tested es) (e .1)) (find (tested es) t) u
+        → u ∈ find (tested es) (e .1) ∷ named es l
     go ih (moved q) = List·Memᴰ·head refl
     go ih (stays n) = List·Memᴰ·tail ih
 

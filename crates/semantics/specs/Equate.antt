@@ -1,16 +1,16 @@
 -- The window's facts after an early equal test, from those before it.
-use mathlib.Core.Path.{_≡_, refl}
 use mathlib.Core.Logic.{_⊎_, inl, inr, _↔_}
-use mathlib.Core.List.{List, _∷_}
 use Prim.Native.Nat.{ℕ, _<_}
 use Rattle.letters.specs.declared.Letter.the-variants.{Equal}
 use Rattle.semantics.specs.Terms.{_∈_, Term, app, State, after}
-use Rattle.semantics.specs.Closure.{Closure, reflexive, test, symmetric, transitive, congruence, Equivalent, Held}
-use Rattle.semantics.specs.Coherence.{Reaches, from, up, Early}
-use Rattle.semantics.specs.Window.{Match, Parted, Exposed, Same, Apart, Result, Ever, Marked}
+use Rattle.semantics.specs.Closure.{reflexive, symmetric, transitive, Equivalent, Held}
+use Rattle.semantics.specs.Coherence.{Early}
+use Rattle.semantics.specs.Climb.{Reaches, from, up, reaches-equal, above-climbs, climbs-above}
+use Rattle.semantics.specs.Window.{Apart, Result, Ever, Marked}
 use Rattle.semantics.specs.Shown.{Clash}
 use Rattle.semantics.specs.Facts.{Valid}
-use Rattle.semantics.specs.Local.{Local, Up, Via, up-equal, up-app, local-sound, more-tests, reaches-equal, locally, equate, kept}
+use Rattle.semantics.specs.ClosureLaws.{more-tests}
+use Rattle.semantics.specs.Local.{Local, Up, Via, up-equal, up-app, local-sound, locally, equate, kept}
 
 module _ (σ : State) (v : Valid σ) (x y : ℕ) (xb : x < σ .header .registers) (yb : y < σ .header .registers) (early : Early σ x y) where
   abbrev σ′ : State
@@ -39,20 +39,70 @@ module _ (σ : State) (v : Valid σ) (x y : ℕ) (xb : x < σ .header .registers
     λ m.
         let (h, k) = place a ab (m .at-first) in
         let (i, l) = place b bb (m .at-second) in
-        let (j, o) = place r rb (m .gives) in
-        (h .0, i .0, j .0, h .1, i .1, j .1, record { first = m .first; second = m .second; listed = m .listed; at-first = h .2; at-second = i .2; gives = j .2 }, k, l, o),
+        let (j, o) = place r rb (m .gives) in (
+          h .0,
+          i .0,
+          j .0,
+          h .1,
+          i .1,
+          j .1,
+          record {
+            first = m .first;
+            second = m .second;
+            listed = m .listed;
+            at-first = h .2;
+            at-second = i .2;
+            gives = j .2;
+          },
+          k,
+          l,
+          o,
+        ),
     λ (p, q, s, pb, qb, sb, m, k, l, o).
-        record { first = m .first; second = m .second; listed = m .listed; at-first = carry (m .at-first) k; at-second = carry (m .at-second) l; gives = carry (m .gives) o },
+        record {
+          first = m .first;
+          second = m .second;
+          listed = m .listed;
+          at-first = carry (m .at-first) k;
+          at-second = carry (m .at-second) l;
+          gives = carry (m .gives) o;
+        },
   )
 
   pub ever-after : (f a b : ℕ) → Below a → Below b → Ever σ′ f a b ↔ ((p : ℕ) × (q : ℕ) × Below p × Below q × Ever σ f p q × L p a × L q b)
   ever-after f a b ab bb = (
     λ (t, m).
         let (h, k) = place a ab (m .at-first) in
-        let (i, l) = place b bb (m .at-second) in
-        (h .0, i .0, h .1, i .1, (app f (m .first) (m .second), record { first = m .first; second = m .second; listed = m .listed; at-first = h .2; at-second = i .2; gives = reflexive (m .listed) }), k, l),
-    λ (p, q, pb, qb, (t, m), k, l).
-        (t, record { first = m .first; second = m .second; listed = m .listed; at-first = carry (m .at-first) k; at-second = carry (m .at-second) l; gives = more-tests _ (m .gives) }),
+        let (i, l) = place b bb (m .at-second) in (
+          h .0,
+          i .0,
+          h .1,
+          i .1,
+          (
+            app f (m .first) (m .second),
+            record {
+              first = m .first;
+              second = m .second;
+              listed = m .listed;
+              at-first = h .2;
+              at-second = i .2;
+              gives = reflexive (m .listed);
+            },
+          ),
+          k,
+          l,
+        ),
+    λ (p, q, pb, qb, (t, m), k, l). (
+      t,
+      record {
+        first = m .first;
+        second = m .second;
+        listed = m .listed;
+        at-first = carry (m .at-first) k;
+        at-second = carry (m .at-second) l;
+        gives = more-tests _ (m .gives);
+      },
+    ),
   )
 
   pub apart-after : (r s : ℕ) → Below r → Below s → Apart σ′ r s ↔ ((p : ℕ) × (q : ℕ) × Below p × Below q × Apart σ p q × L p r × L q s)
@@ -61,16 +111,36 @@ module _ (σ : State) (v : Valid σ) (x y : ℕ) (xb : x < σ .header .registers
         let (h, k) = place r rb (m .at-left) in
         let (i, l) = place s sb (m .at-right) in
         (h .0, i .0, h .1, i .1, record { left = m .left; right = m .right; tested = m .tested; at-left = h .2; at-right = i .2 }, k, l),
-    λ (p, q, pb, qb, m, k, l). record { left = m .left; right = m .right; tested = m .tested; at-left = carry (m .at-left) k; at-right = carry (m .at-right) l },
+    λ (p, q, pb, qb, m, k, l). record {
+      left = m .left;
+      right = m .right;
+      tested = m .tested;
+      at-left = carry (m .at-left) k;
+      at-right = carry (m .at-right) l;
+    },
   )
 
   pub clash-after : Clash σ′ ↔ (Clash σ ⊎ ((p : ℕ) × (q : ℕ) × Below p × Below q × Apart σ p q × L p q))
   clash-after = ((λ (s, t, m, c). fwd s t m (equate σ v x y xb yb early .0 c)), bwd)
     where
-      fwd : (s t : Term) → (s, t) ∈ σ .unequals → Equivalent σ s t ⊎ Via σ v x y xb yb s t → Clash σ ⊎ ((p : ℕ) × (q : ℕ) × Below p × Below q × Apart σ p q × L p q)
+      fwd : (s t : Term) → (s, t) ∈ σ .unequals → Equivalent σ s t ⊎ Via σ v x y xb yb s t
+          → Clash σ ⊎ ((p : ℕ) × (q : ℕ) × Below p × Below q × Apart σ p q × L p q)
       fwd s t m (inl c) = inl (s, t, m, c)
       fwd s t m (inr w) =
-          inr (w .held-left .0, w .held-right .0, w .held-left .1, w .held-right .1, record { left = s; right = t; tested = inl m; at-left = w .held-left .2; at-right = w .held-right .2 }, w .by)
+          inr (
+            w .held-left .0,
+            w .held-right .0,
+            w .held-left .1,
+            w .held-right .1,
+            record {
+              left = s;
+              right = t;
+              tested = inl m;
+              at-left = w .held-left .2;
+              at-right = w .held-right .2;
+            },
+            w .by,
+          )
 
       bwd : Clash σ ⊎ ((p : ℕ) × (q : ℕ) × Below p × Below q × Apart σ p q × L p q) → Clash σ′
       bwd (inl (s, t, m, c)) = (s, t, m, more-tests _ c)
@@ -113,15 +183,24 @@ module _ (σ : State) (v : Valid σ) (x y : ℕ) (xb : x < σ .header .registers
   marked-after r = (fwd, bwd)
     where
       -- what lies above the test is held, so an application with something unheld lies above r as before
-      old : (f : ℕ) (a b : Term) → app f a b ∈ σ .terms → ¬ (Held σ (app f a b) × Held σ a × Held σ b) → Reaches σ′ (σ .value r) a ⊎ Reaches σ′ (σ .value r) b
+      old : (f : ℕ) (a b : Term) → app f a b ∈ σ .terms → ¬ (Held σ (app f a b) × Held σ a × Held σ b)
+          → Reaches σ′ (σ .value r) a ⊎ Reaches σ′ (σ .value r) b
           → Reaches σ (σ .value r) a ⊎ Reaches σ (σ .value r) b
       old f a b m n (inl k) = elim (reaches-after k) [ inl g ↦ inl g | inr u ↦ absurd (n (kept σ v x y xb yb early m (inl u))) ]
       old f a b m n (inr k) = elim (reaches-after k) [ inl g ↦ inr g | inr u ↦ absurd (n (kept σ v x y xb yb early m (inr u))) ]
 
       fwd : Marked σ′ r → Marked σ r
       fwd e =
-          let n : ¬ (Held σ (app (e .function) (e .first) (e .second)) × Held σ (e .first) × Held σ (e .second)) = λ h. e .unheld (held-after .1 (h .0), held-after .1 (h .1), held-after .1 (h .2)) in
-          record { function = e .function; first = e .first; second = e .second; listed = e .listed; above = old (e .function) (e .first) (e .second) (e .listed) n (e .above); unheld = n }
+          let n : ¬ (Held σ (app (e .function) (e .first) (e .second)) × Held σ (e .first) × Held σ (e .second)) = λ h. e .unheld
+          (held-after .1 (h .0), held-after .1 (h .1), held-after .1 (h .2)) in
+          record {
+            function = e .function;
+            first = e .first;
+            second = e .second;
+            listed = e .listed;
+            above = climbs-above (old (e .function) (e .first) (e .second) (e .listed) n (above-climbs (e .above)));
+            unheld = n;
+          }
 
       bwd : Marked σ r → Marked σ′ r
       bwd e = record {
@@ -129,6 +208,6 @@ module _ (σ : State) (v : Valid σ) (x y : ℕ) (xb : x < σ .header .registers
         first = e .first;
         second = e .second;
         listed = e .listed;
-        above = elim (e .above) [ inl k ↦ inl (reaches-more k) | inr k ↦ inr (reaches-more k) ];
+        above = climbs-above (elim (above-climbs (e .above)) [ inl k ↦ inl (reaches-more k) | inr k ↦ inr (reaches-more k) ]);
         unheld = λ h. e .unheld (held-after .0 (h .0), held-after .0 (h .1), held-after .0 (h .2));
       }

@@ -1,20 +1,13 @@
 -- One more application: what the closure over the terms and app f y z says, in the closure over the terms.
-use mathlib.Core.Path.{_≡_, refl, sym, _∙_, ap, subst}
+use mathlib.Core.Path.{_≡_, refl, sym, ap, subst}
 use mathlib.Core.Logic.{_⊎_, inl, inr, _↔_}
-use mathlib.Core.List.{List, [], _∷_, List·Memᴰ·head, List·Memᴰ·tail, List·Memᴰ·cases-cons, Memᴰ·cast}
+use mathlib.Core.List.{_∷_, List·Memᴰ·head, List·Memᴰ·tail, List·Memᴰ·cases-cons, Memᴰ·cast}
 use Prim.Native.Nat.{ℕ}
 use Rattle.semantics.specs.Terms.{_∈_, Term, app, State}
 use Rattle.semantics.specs.Closure.{Closure, reflexive, test, symmetric, transitive, congruence, Equivalent}
 use Rattle.semantics.specs.Window.{Match}
 use Rattle.semantics.specs.Facts.{Valid, closure-in}
-
--- More terms keep what is equal.
-pub weaken : {U W : List Term} {E : List (Term × Term)} → ((t : Term) → t ∈ U → t ∈ W) → {s t : Term} → Closure U E s t → Closure W E s t
-weaken h (reflexive m) = reflexive (h _ m)
-weaken h (test m) = test m
-weaken h (symmetric c) = symmetric (weaken h c)
-weaken h (transitive c d) = transitive (weaken h c) (weaken h d)
-weaken h (congruence i j p q) = congruence (h _ i) (h _ j) (weaken h p) (weaken h q)
+use Rattle.semantics.specs.ClosureLaws.{weaken}
 
 module _ (σ : State) (v : Valid σ) (f : ℕ) {y z : Term} (i : y ∈ σ .terms) (j : z ∈ σ .terms) where
   abbrev Is : Term → Type 0
@@ -24,10 +17,20 @@ module _ (σ : State) (v : Valid σ) (f : ℕ) {y z : Term} (i : y ∈ σ .terms
   match-self m c = record { first = y; second = z; listed = m; at-first = reflexive i; at-second = reflexive j; gives = c }
 
   match-equal : {s t : Term} → Match (σ .terms) (σ .equals) f y z s → Equivalent σ s t → Match (σ .terms) (σ .equals) f y z t
-  match-equal m c = record { first = m .first; second = m .second; listed = m .listed; at-first = m .at-first; at-second = m .at-second; gives = transitive (m .gives) c }
+  match-equal m c = record {
+    first = m .first;
+    second = m .second;
+    listed = m .listed;
+    at-first = m .at-first;
+    at-second = m .at-second;
+    gives = transitive (m .gives) c;
+  }
 
   match-match : {s t : Term} → Match (σ .terms) (σ .equals) f y z s → Match (σ .terms) (σ .equals) f y z t → Equivalent σ s t
-  match-match m n = transitive (symmetric (m .gives)) (transitive (congruence (m .listed) (n .listed) (transitive (m .at-first) (symmetric (n .at-first))) (transitive (m .at-second) (symmetric (n .at-second)))) (n .gives))
+  match-match m n =
+      transitive (symmetric (m .gives))
+      (transitive (congruence (m .listed) (n .listed) (transitive (m .at-first) (symmetric (n .at-first)))
+      (transitive (m .at-second) (symmetric (n .at-second)))) (n .gives))
 
   is-match : {s : Term} → s ∈ σ .terms → Is s → Match (σ .terms) (σ .equals) f y z s
   is-match {s} m (inl e) = match-self (Memᴰ·cast (sym e) m) (subst (λ u. Equivalent σ u s) e (reflexive m))
@@ -46,7 +49,8 @@ module _ (σ : State) (v : Valid σ) (f : ℕ) {y z : Term} (i : y ∈ σ .terms
   flip (inr k) = inr (k .1, k .0)
 
   -- a computed application whose arguments are those of the new one matches it
-  matched : {g : ℕ} {a b c d : Term} → app g a b ≡ app f y z → app g c d ∈ σ .terms → Equivalent σ a c ⊎ (Is a × Is c) → Equivalent σ b d ⊎ (Is b × Is d) → Match (σ .terms) (σ .equals) f y z (app g c d)
+  matched : {g : ℕ} {a b c d : Term} → app g a b ≡ app f y z → app g c d ∈ σ .terms → Equivalent σ a c ⊎ (Is a × Is c)
+      → Equivalent σ b d ⊎ (Is b × Is d) → Match (σ .terms) (σ .equals) f y z (app g c d)
   matched {g} {a} {b} {c} {d} e m p q =
       let ef : g ≡ f = cc in
       let ea : a ≡ y = cc in
@@ -71,7 +75,8 @@ module _ (σ : State) (v : Valid σ) (f : ℕ) {y z : Term} (i : y ∈ σ .terms
   ]
   extend-e (congruence {f = g} {a} {b} {c} {d} m n p q) = go (extend-e p) (extend-e q) (List·Memᴰ·cases-cons m) (List·Memᴰ·cases-cons n)
     where
-      go : Equivalent σ a c ⊎ (Is a × Is c) → Equivalent σ b d ⊎ (Is b × Is d) → (app g a b ≡ app f y z) ⊎ (app g a b ∈ σ .terms) → (app g c d ≡ app f y z) ⊎ (app g c d ∈ σ .terms)
+      go : Equivalent σ a c ⊎ (Is a × Is c) → Equivalent σ b d ⊎ (Is b × Is d) → (app g a b ≡ app f y z) ⊎ (app g a b ∈ σ .terms)
+          → (app g c d ≡ app f y z) ⊎ (app g c d ∈ σ .terms)
           → Equivalent σ (app g a b) (app g c d) ⊎ (Is (app g a b) × Is (app g c d))
       go p q (inl e) (inl k) = inr (inl e, inl k)
       go p q (inl e) (inr n) = inr (inl e, inr (matched e n p q))
@@ -84,7 +89,9 @@ module _ (σ : State) (v : Valid σ) (f : ℕ) {y z : Term} (i : y ∈ σ .terms
   is-new : {s : Term} → Is s → Closure (app f y z ∷ σ .terms) (σ .equals) (app f y z) s
   is-new {s} (inl e) = subst (Closure (app f y z ∷ σ .terms) (σ .equals) (app f y z)) (sym e) (reflexive (List·Memᴰ·head refl))
   is-new {s} (inr m) =
-      transitive (congruence (List·Memᴰ·head refl) (List·Memᴰ·tail (m .listed)) (weaken (λ t k. List·Memᴰ·tail k) (symmetric (m .at-first))) (weaken (λ t k. List·Memᴰ·tail k) (symmetric (m .at-second))))
+      transitive
+      (congruence (List·Memᴰ·head refl) (List·Memᴰ·tail (m .listed)) (weaken (λ t k. List·Memᴰ·tail k) (symmetric (m .at-first)))
+      (weaken (λ t k. List·Memᴰ·tail k) (symmetric (m .at-second))))
       (weaken (λ t k. List·Memᴰ·tail k) (m .gives))
 
   -- ── what the larger closure says ──

@@ -1,18 +1,18 @@
 -- What holds of every well-formed trace.
-use mathlib.Core.Path.{_≡_, refl, sym, _∙_, ap, subst}
+use mathlib.Core.Path.{_≡_, refl, ap}
 use mathlib.Core.Logic.{_⊎_, inl, inr, _≢_}
 use mathlib.Core.Bool.{Bool, true, false, cond}
-use mathlib.Core.List.{List, [], _∷_, List·Memᴰ·head, List·Memᴰ·tail, List·Memᴰ·not-nil, List·Memᴰ·cases-cons, Memᴰ·cast}
+use mathlib.Core.List.{List, _∷_, List·Memᴰ·head, List·Memᴰ·tail, List·Memᴰ·not-nil, List·Memᴰ·cases-cons, Memᴰ·cast}
 use Prim.Native.Nat.{ℕ, zero, suc, _<_}
 use native.Mathlib.Omega.{arith}
-use lib.Dec.{T, eqb}
+use lib.Dec.{eqb}
 use borrow.Author.Tests.{eqb-true, eqb-false}
 use Rattle.letters.specs.declared.Header.{Header}
 use Rattle.letters.specs.declared.Letter.{Letter}
 use Rattle.letters.specs.declared.Letter.the-variants.{Copy, Apply, Equal, Unequal}
 use Rattle.letters.specs.Letters.{Fits}
 use Rattle.semantics.specs.Terms.{_∈_, Term, con, app, Trace, begin, _▸_, State, start, after, state, constants, WellFormed}
-use Rattle.semantics.specs.Closure.{Closure, reflexive, test, symmetric, transitive, congruence, Equivalent}
+use Rattle.semantics.specs.Closure.{reflexive, test, symmetric, transitive, congruence, Equivalent}
 
 pub eq-or : (m n : ℕ) → (m ≡ n) ⊎ (m ≢ n)
 eq-or m n = go (eqb m n) refl
@@ -21,20 +21,31 @@ eq-or m n = go (eqb m n) refl
     go true e = inl (eqb-true m n e)
     go false e = inr (eqb-false m n e)
 
--- Register values, arguments of computed applications and sides of tests are computed.
+-- Register values, arguments of computed applications and sides of tests are computed, and of the constants only those of registers.
 pub record Valid (σ : State) : Type 0 where
   pub values : (r : ℕ) → r < σ .header .registers → σ .value r ∈ σ .terms
   pub arguments : (f : ℕ) (a b : Term) → app f a b ∈ σ .terms → (a ∈ σ .terms) × (b ∈ σ .terms)
   pub equal-sides : (s t : Term) → (s, t) ∈ σ .equals → (s ∈ σ .terms) × (t ∈ σ .terms)
   pub unequal-sides : (s t : Term) → (s, t) ∈ σ .unequals → (s ∈ σ .terms) × (t ∈ σ .terms)
+  pub constants : (r : ℕ) → con r ∈ σ .terms → r < σ .header .registers
 
-constants-i : (n r : ℕ) → r < n → con r ∈ constants n
+pub constants-i : (n r : ℕ) → r < n → con r ∈ constants n
 constants-i zero r h = absurd (omega arith)
 constants-i (suc n) r h = elim (eq-or r n) [ inl e ↦ List·Memᴰ·head (ap con e) | inr d ↦ List·Memᴰ·tail (constants-i n r (omega arith)) ]
+
+constants-below : (n r : ℕ) → con r ∈ constants n → r < n
+constants-below zero r m = absurd (List·Memᴰ·not-nil m)
+constants-below (suc n) r m = elim (List·Memᴰ·cases-cons m) [
+  | inl e ↦ let q : r ≡ n = cc in omega arith
+  | inr k ↦ omega (arith, constants-below n r k)
+]
 
 pub constants-app : (n : ℕ) {f : ℕ} {a b : Term} → app f a b ∈ constants n → ⊥
 constants-app zero m = List·Memᴰ·not-nil m
 constants-app (suc n) m = elim (List·Memᴰ·cases-cons m) [ inl e ↦ let z : _≡_ {A = ℕ} 0 1 = cc in omega arith | inr k ↦ constants-app n k ]
+
+pub con-app : {r f : ℕ} {s t : Term} → con r ≡ app f s t → ⊥
+con-app e = let z : _≡_ {A = ℕ} 0 1 = cc in omega arith
 
 start-valid : (h : Header) → Valid (start h)
 start-valid h = record {
@@ -42,6 +53,7 @@ start-valid h = record {
   arguments = λ f a b m. absurd (constants-app (h .registers) m);
   equal-sides = λ s t m. absurd (List·Memᴰ·not-nil m);
   unequal-sides = λ s t m. absurd (List·Memᴰ·not-nil m);
+  constants = constants-below (h .registers);
 }
 
 one-more : {U : List Term} (D : List (Term × Term)) {u v : Term} → u ∈ U → v ∈ U
@@ -57,9 +69,12 @@ after-valid σ (Copy x y) v w = record {
   arguments = v .arguments;
   equal-sides = v .equal-sides;
   unequal-sides = v .unequal-sides;
+  constants = v .constants;
 }
 after-valid σ (Apply x g y z) v w = record {
-  values = λ r b. elim (eqb r x) as (λ t. (elim t [ true ↦ app g (σ .value y) (σ .value z) | false ↦ σ .value r ]) ∈ app g (σ .value y) (σ .value z) ∷ σ .terms)
+  values =
+      λ r b. elim (eqb r x) as (λ t. (elim t [ true ↦ app g (σ .value y) (σ .value z) | false ↦ σ .value r ]) ∈ app g (σ .value y)
+      (σ .value z) ∷ σ .terms)
       [ true ↦ List·Memᴰ·head refl | false ↦ List·Memᴰ·tail (v .values r b) ];
   arguments = λ f a b m. elim (List·Memᴰ·cases-cons m) [
     | inl e ↦ (List·Memᴰ·tail (Memᴰ·cast (cc) (v .values y (w .2))), List·Memᴰ·tail (Memᴰ·cast (cc) (v .values z (w .3))))
@@ -67,18 +82,21 @@ after-valid σ (Apply x g y z) v w = record {
   ];
   equal-sides = λ s t m. (List·Memᴰ·tail ((v .equal-sides s t m) .0), List·Memᴰ·tail ((v .equal-sides s t m) .1));
   unequal-sides = λ s t m. (List·Memᴰ·tail ((v .unequal-sides s t m) .0), List·Memᴰ·tail ((v .unequal-sides s t m) .1));
+  constants = λ r m. elim (List·Memᴰ·cases-cons m) [ inl e ↦ absurd (con-app e) | inr k ↦ v .constants r k ];
 }
 after-valid σ (Equal x y) v w = record {
   values = v .values;
   arguments = v .arguments;
   equal-sides = one-more (σ .equals) (v .values x (w .0)) (v .values y (w .1)) (v .equal-sides);
   unequal-sides = v .unequal-sides;
+  constants = v .constants;
 }
 after-valid σ (Unequal x y) v w = record {
   values = v .values;
   arguments = v .arguments;
   equal-sides = v .equal-sides;
   unequal-sides = one-more (σ .unequals) (v .values x (w .0)) (v .values y (w .1)) (v .unequal-sides);
+  constants = v .constants;
 }
 
 pub state-valid : (ρ : Trace) → WellFormed ρ → Valid (state ρ)

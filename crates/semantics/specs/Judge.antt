@@ -1,37 +1,42 @@
 -- Coherence and feasibility of a trace are decided by computing.
-use mathlib.Core.Path.{_≡_, refl, sym, _∙_, ap, ap₂, subst}
+use mathlib.Core.Path.{_≡_, refl, sym, ap, subst}
 use mathlib.Core.Logic.{_⊎_, inl, inr, _↔_, _≢_}
 use mathlib.Core.Bool.{Bool, true, false, not, _&&_, _||_}
 use mathlib.Core.List.{List, [], _∷_, List·Memᴰ·head, List·Memᴰ·tail, List·Memᴰ·not-nil, List·Memᴰ·cases-cons, Memᴰ·cast}
 use mathlib.Core.Option.{Option, none, some}
 use Prim.Native.Nat.{ℕ, zero, suc, _≤_, _<_}
 use native.Mathlib.Omega.{arith}
-use lib.Dec.{T, ltb, ltb→lt, eqb, eqb→eq, eqb-refl, T-not, not-T}
-use lib.ListN.{length, getD}
+use lib.Dec.{T, ltb, ltb→lt, eqb, eqb→eq, T-not, not-T}
+use lib.ListN.{length}
 use Rattle.letters.specs.declared.Header.{Header}
 use Rattle.letters.specs.declared.Letter.{Letter}
 use Rattle.letters.specs.declared.Letter.the-variants.{Copy, Apply, Equal, Unequal}
 use Rattle.letters.specs.Letters.{arity, Fits}
 use Rattle.semantics.specs.Terms.{_∈_, Term, con, app, Trace, begin, _▸_, State, after, state, WellFormed}
-use Rattle.semantics.specs.Tests.{any, any-e, any-i, all, all-e, all-i, all-n, first, Found, at, nowhere, first-is, or-not, and-l, and-r, and-i, or-e, or-l, or-r, eqt, eqt→eq, eq→eqt, eqt-or}
-use Rattle.semantics.specs.Closure.{Closure, reflexive, test, symmetric, transitive, congruence, Equivalent, Held}
+use Rattle.semantics.specs.Booleans.{or-not, and-l, and-r, and-i, or-e, or-l, or-r}
+use Rattle.semantics.specs.Lists.{any, all, first, any-e, any-i, all-e, all-i, all-n, Found, at, nowhere, first-is}
+use Rattle.semantics.specs.TermEquality.{eqt, eqt→eq, eq→eqt, eqt-or}
+use Rattle.semantics.specs.Closure.{reflexive, symmetric, Equivalent, Held}
 use Rattle.semantics.specs.Decide.{find, merges, agree, alike-i, alike-e, less}
 use Rattle.semantics.specs.Facts.{eq-or, Valid, after-valid, state-valid}
 use Rattle.semantics.specs.Models.{Feasible}
 use Rattle.semantics.specs.Shown.{Clash, corollary-2}
 use Rattle.semantics.specs.Window.{Exposed}
-use Rattle.semantics.specs.Coherence.{Reaches, from, up, Kept, Early, Memoizing, CoherentLetter, Coherent, size, FailsAt, Judged}
+use Rattle.semantics.specs.Climb.{Reaches, from, up, reaches-equal, above-climbs, climbs-above}
+use Rattle.semantics.specs.Coherence.{Kept, Memoizing, CoherentLetter, Coherent, size, Judged}
 
 -- ── what is above a term ──
 -- t agrees with an element of the list
-abbrev touch : List (Term × Term) → List Term → Term → Bool
+abbrev pub touch : List (Term × Term) → List Term → Term → Bool
 touch ms R t = any (agree ms t) R
 
+-- an application that is not in the list, with an argument that is
 abbrev new : List (Term × Term) → List Term → Term → Bool
 new ms R (con r) = false
 new ms R (app f a b) = not (touch ms R (app f a b)) && (touch ms R a || touch ms R b)
 
 module _ (U : List Term) (ms : List (Term × Term)) where
+  -- the list with such applications added, at most n
   abbrev grow : ℕ → List Term → List Term
   grow zero R = R
   grow (suc n) R = elim (first (new ms R) U) [ none ↦ R | some p ↦ grow n (p ∷ R) ]
@@ -50,9 +55,13 @@ module _ (U : List Term) (ms : List (Term × Term)) where
   grow-closed zero R (x ∷ l) b h = λ p m y. omega arith
   grow-closed (suc n) R l b h = go (λ Q. grow-closed n Q) (first-is (new ms R) U)
     where
-      rest : (p : Term) (k : List Term) → ((t : Term) → t ∈ l → t ≢ p → t ∈ k) → (t : Term) → T (touch ms R t) ⊎ (t ∈ l) → T (touch ms (p ∷ R) t) ⊎ (t ∈ k)
+      rest : (p : Term) (k : List Term) → ((t : Term) → t ∈ l → t ≢ p → t ∈ k) → (t : Term) → T (touch ms R t) ⊎ (t ∈ l)
+          → T (touch ms (p ∷ R) t) ⊎ (t ∈ k)
       rest p k v t (inl y) = inl (or-r (agree ms t p) (touch ms R t) y)
-      rest p k v t (inr m) = elim (eqt-or t p) [ inl e ↦ inl (or-l (agree ms t p) (touch ms R t) (eq→eqt (find ms t) (find ms p) (ap (find ms) e))) | inr d ↦ inr (v t m d) ]
+      rest p k v t (inr m) = elim (eqt-or t p) [
+        | inl e ↦ inl (or-l (agree ms t p) (touch ms R t) (eq→eqt (find ms t) (find ms p) (ap (find ms) e)))
+        | inr d ↦ inr (v t m d)
+      ]
 
       go : ((Q k : List Term) → length k ≤ n → ((t : Term) → t ∈ U → T (touch ms Q t) ⊎ (t ∈ k)) → Closed (grow n Q))
           → {o : Option Term} → Found (new ms R) U o → Closed (elim o [ none ↦ R | some p ↦ grow n (p ∷ R) ])
@@ -104,10 +113,13 @@ module _ (σ : State) (v : Valid σ) where
   pub agree-e : {s t : Term} → s ∈ σ .terms → t ∈ σ .terms → T (agree (names σ) s t) → Equivalent σ s t
   agree-e i j y = alike-e (σ .terms) (σ .equals) (v .arguments) i j y
 
-  above-i : {t s : Term} → Reaches σ t s → T (touch (names σ) (above σ t) s)
+  pub above-i : {t s : Term} → Reaches σ t s → T (touch (names σ) (above σ t) s)
   unfolding Closed
-  above-i {t} (from {s} c) = any-i (agree (names σ) s) (grow-keeps (σ .terms) (names σ) (length (σ .terms)) (t ∷ []) t (List·Memᴰ·head refl)) (eq→eqt (find (names σ) s) (find (names σ) t) (sym (same-name c)))
-  above-i {t} (up {u} {s} {a} {b} {f} r m e c) = touch-path (names σ) (above σ t) (app f a b) s (same-name c) (go (above-i r) (or-not (touch (names σ) (above σ t) (app f a b))))
+  above-i {t} (from {s} c) =
+      any-i (agree (names σ) s) (grow-keeps (σ .terms) (names σ) (length (σ .terms)) (t ∷ []) t (List·Memᴰ·head refl))
+      (eq→eqt (find (names σ) s) (find (names σ) t) (sym (same-name c)))
+  above-i {t} (up {u} {s} {a} {b} {f} r m e c) =
+      touch-path (names σ) (above σ t) (app f a b) s (same-name c) (go (above-i r) (or-not (touch (names σ) (above σ t) (app f a b))))
     where
       arg : T (touch (names σ) (above σ t) u) → T (touch (names σ) (above σ t) a || touch (names σ) (above σ t) b)
       arg y = elim e [
@@ -115,14 +127,12 @@ module _ (σ : State) (v : Valid σ) where
         | inr p ↦ or-r (touch (names σ) (above σ t) a) (touch (names σ) (above σ t) b) (touch-path (names σ) (above σ t) u b (same-name p) y)
       ]
 
-      go : T (touch (names σ) (above σ t) u) → T (touch (names σ) (above σ t) (app f a b)) ⊎ ¬ T (touch (names σ) (above σ t) (app f a b)) → T (touch (names σ) (above σ t) (app f a b))
+      go : T (touch (names σ) (above σ t) u) → T (touch (names σ) (above σ t) (app f a b)) ⊎ ¬ T (touch (names σ) (above σ t) (app f a b))
+          → T (touch (names σ) (above σ t) (app f a b))
       go y (inl k) = k
       go y (inr n) = absurd (grow-closed (σ .terms) (names σ) (length (σ .terms)) (t ∷ []) (σ .terms) (omega arith) (λ s i. inr i) (app f a b) m
-          (and-i (not (touch (names σ) (above σ t) (app f a b))) (touch (names σ) (above σ t) a || touch (names σ) (above σ t) b) (not-T (touch (names σ) (above σ t) (app f a b)) n) (arg y)))
-
-  reaches-equal : {t r s : Term} → Reaches σ t r → Equivalent σ r s → Reaches σ t s
-  reaches-equal (from c) e = from (transitive c e)
-  reaches-equal (up r m d c) e = up r m d (transitive c e)
+          (and-i (not (touch (names σ) (above σ t) (app f a b))) (touch (names σ) (above σ t) a || touch (names σ) (above σ t) b)
+          (not-T (touch (names σ) (above σ t) (app f a b)) n) (arg y)))
 
   above-e : {t s : Term} → t ∈ σ .terms → s ∈ σ .terms → T (touch (names σ) (above σ t) s) → Reaches σ t s
   above-e {t} {s} i j y =
@@ -131,50 +141,69 @@ module _ (σ : State) (v : Valid σ) where
       (λ f a b r m p e. (
         m,
         up (p .1) m
-            (elim e [ inl y ↦ inl (symmetric (agree-e ((v .arguments f a b m) .0) (p .0) y)) | inr y ↦ inr (symmetric (agree-e ((v .arguments f a b m) .1) (p .0) y)) ])
+            (elim e [
+              | inl y ↦ inl (symmetric (agree-e ((v .arguments f a b m) .0) (p .0) y))
+              | inr y ↦ inr (symmetric (agree-e ((v .arguments f a b m) .1) (p .0) y))
+            ])
             (reflexive m),
       ))
-      (length (σ .terms)) (t ∷ []) (λ r m. elim (List·Memᴰ·cases-cons m) [ inl e ↦ (Memᴰ·cast e i, from (subst (Equivalent σ t) (sym e) (reflexive i))) | inr k ↦ absurd (List·Memᴰ·not-nil k) ]) r m in
+      (length (σ .terms)) (t ∷ []) (λ r m. elim (List·Memᴰ·cases-cons m) [
+        | inl e ↦ (Memᴰ·cast e i, from (subst (Equivalent σ t) (sym e) (reflexive i)))
+        | inr k ↦ absurd (List·Memᴰ·not-nil k)
+      ]) r m in
       reaches-equal h (symmetric (agree-e j k z))
 
 -- ── registers ──
-abbrev upto : ℕ → List ℕ
+-- the numbers below n
+abbrev pub upto : ℕ → List ℕ
 upto zero = []
 upto (suc n) = n ∷ upto n
 
-abbrev held : List (Term × Term) → State → Term → Bool
+-- a register holds a term of the class of t
+abbrev pub held : List (Term × Term) → State → Term → Bool
 held ms σ t = any (λ r. agree ms t (σ .value r)) (upto (σ .header .registers))
 
 -- ── the tests ──
+-- an application with an argument in R has its result and its arguments in registers
 abbrev pub kept : List (Term × Term) → State → List Term → Term → Bool
 kept ms σ R (con r) = true
 kept ms σ R (app f a b) = not (touch ms R a || touch ms R b) || (held ms σ (app f a b) && (held ms σ a && held ms σ b))
 
-abbrev pub coherentLetter : State → Letter → Bool
-coherentLetter σ (Copy x y) = true
-coherentLetter σ (Apply x f y z) =
+-- the condition on equal tests
+abbrev pub early : State → ℕ → ℕ → Bool
+early σ x y = all (kept (names σ) σ (above σ (σ .value x))) (σ .terms) && all (kept (names σ) σ (above σ (σ .value y))) (σ .terms)
+
+-- the condition on applications
+abbrev pub memoizing : State → ℕ → ℕ → ℕ → ℕ → Bool
+memoizing σ x f y z =
     let ms = names (after σ (Apply x f y z)) in
     let t = app f (σ .value y) (σ .value z) in
     not (any (agree ms t) (σ .terms)) || held ms σ t
-coherentLetter σ (Equal x y) = all (kept (names σ) σ (above σ (σ .value x))) (σ .terms) && all (kept (names σ) σ (above σ (σ .value y))) (σ .terms)
+
+-- the letter is coherent in the state
+abbrev pub coherentLetter : State → Letter → Bool
+coherentLetter σ (Copy x y) = true
+coherentLetter σ (Apply x f y z) = memoizing σ x f y z
+coherentLetter σ (Equal x y) = early σ x y
 coherentLetter σ (Unequal x y) = true
 
 abbrev pub coherent : Trace → Bool
 coherent (begin h) = true
 coherent (ρ ▸ a) = coherent ρ && coherentLetter (state ρ) a
 
+-- no unequal test joins terms of one class
 abbrev pub feasible : State → Bool
 feasible σ = let ms = merges (σ .terms) (σ .equals) in all (λ (p : Term × Term). not (agree ms (p .0) (p .1))) (σ .unequals)
 
 -- ── the tests say what the definitions say ──
-upto-i : {r n : ℕ} → r < n → r ∈ upto n
+pub upto-i : {r n : ℕ} → r < n → r ∈ upto n
 upto-i {r} {n} h = go n h
   where
     go : (n : ℕ) → r < n → r ∈ upto n
     go zero h = absurd (omega arith)
     go (suc n) h = elim (eq-or r n) [ inl e ↦ List·Memᴰ·head e | inr d ↦ List·Memᴰ·tail (go n (omega arith)) ]
 
-upto-e : (n : ℕ) {r : ℕ} → r ∈ upto n → r < n
+pub upto-e : (n : ℕ) {r : ℕ} → r ∈ upto n → r < n
 upto-e zero m = absurd (List·Memᴰ·not-nil m)
 upto-e (suc n) {r} m = go (λ k. upto-e n k) (List·Memᴰ·cases-cons m)
   where
@@ -183,16 +212,19 @@ upto-e (suc n) {r} m = go (λ k. upto-e n k) (List·Memᴰ·cases-cons m)
     go ih (inr k) = omega (arith, ih k)
 
 module _ (σ : State) (v : Valid σ) where
-  held-i : {t : Term} → Held σ t → T (held (names σ) σ t)
+  pub held-i : {t : Term} → Held σ t → T (held (names σ) σ t)
   held-i {t} (r, b, c) = any-i (λ r. agree (names σ) t (σ .value r)) (upto-i b) (alike-i (σ .terms) (σ .equals) c)
 
-  held-e : {t : Term} → t ∈ σ .terms → T (held (names σ) σ t) → Held σ t
+  pub held-e : {t : Term} → t ∈ σ .terms → T (held (names σ) σ t) → Held σ t
   held-e {t} m y =
       let (r, i, z) = any-e (λ r. agree (names σ) t (σ .value r)) (upto (σ .header .registers)) y in
       (r, upto-e (σ .header .registers) i, agree-e σ v m (v .values r (upto-e (σ .header .registers) i)) z)
 
   pub kept-is : (t : Term) → t ∈ σ .terms → T (all (kept (names σ) σ (above σ t)) (σ .terms)) ↔ Kept σ t
-  kept-is t i = (λ y f a b m r. out f a b m (all-e (kept (names σ) σ (above σ t)) y m) r, λ h. all-i (kept (names σ) σ (above σ t)) (σ .terms) (into h))
+  kept-is t i = (
+    λ y f a b m r. out f a b m (all-e (kept (names σ) σ (above σ t)) y m) (above-climbs r),
+    λ h. all-i (kept (names σ) σ (above σ t)) (σ .terms) (into h),
+  )
     where
       reached : Term → Bool
       reached = touch (names σ) (above σ t)
@@ -200,10 +232,14 @@ module _ (σ : State) (v : Valid σ) where
       hd : Term → Bool
       hd = held (names σ) σ
 
-      out : (f : ℕ) (a b : Term) → app f a b ∈ σ .terms → T (kept (names σ) σ (above σ t) (app f a b)) → Reaches σ t a ⊎ Reaches σ t b → Held σ (app f a b) × Held σ a × Held σ b
+      out : (f : ℕ) (a b : Term) → app f a b ∈ σ .terms → T (kept (names σ) σ (above σ t) (app f a b)) → Reaches σ t a ⊎ Reaches σ t b
+          → Held σ (app f a b) × Held σ a × Held σ b
       out f a b m y r =
           let (j, k) = v .arguments f a b m in
-          let z : T (reached a || reached b) = elim r [ inl p ↦ or-l (reached a) (reached b) (above-i σ v p) | inr p ↦ or-r (reached a) (reached b) (above-i σ v p) ] in
+          let z : T (reached a || reached b) = elim r [
+            | inl p ↦ or-l (reached a) (reached b) (above-i σ v p)
+            | inr p ↦ or-r (reached a) (reached b) (above-i σ v p)
+          ] in
           elim (or-e (not (reached a || reached b)) (hd (app f a b) && (hd a && hd b)) y) [
             | inl n ↦ absurd (T-not (reached a || reached b) n z)
             | inr h ↦
@@ -218,8 +254,12 @@ module _ (σ : State) (v : Valid σ) where
           elim (or-not (reached a || reached b)) [
             | inr n ↦ or-l (not (reached a || reached b)) (hd (app f a b) && (hd a && hd b)) (not-T (reached a || reached b) n)
             | inl y ↦
-                let (u, v, x) = h f a b m (elim (or-e (reached a) (reached b) y) [ inl p ↦ inl (above-e σ v i j p) | inr p ↦ inr (above-e σ v i k p) ]) in
-                or-r (not (reached a || reached b)) (hd (app f a b) && (hd a && hd b)) (and-i (hd (app f a b)) (hd a && hd b) (held-i u) (and-i (hd a) (hd b) (held-i v) (held-i x)))
+                let (u, v, x) = h f a b m (climbs-above (elim (or-e (reached a) (reached b) y) [
+                  | inl p ↦ inl (above-e σ v i j p)
+                  | inr p ↦ inr (above-e σ v i k p)
+                ])) in
+                or-r (not (reached a || reached b)) (hd (app f a b) && (hd a && hd b))
+                (and-i (hd (app f a b)) (hd a && hd b) (held-i u) (and-i (hd a) (hd b) (held-i v) (held-i x)))
           ]
 
 -- above a computed term all is held, or something is exposed
@@ -241,15 +281,16 @@ exposed-or-kept σ v t i = go (or-not (all (kept (names σ) σ (above σ t)) (σ
           first = a;
           second = b;
           listed = m;
-          above = elim (or-not (reached a || reached b)) [
+          above = climbs-above (elim (or-not (reached a || reached b)) [
             | inl y ↦ elim (or-e (reached a) (reached b) y) [ inl p ↦ inl (above-e σ v i j p) | inr p ↦ inr (above-e σ v i k p) ]
             | inr o ↦ absurd (n (or-l (not (reached a || reached b)) (hd (app f a b) && (hd a && hd b)) (not-T (reached a || reached b) o)))
-          ];
+          ]);
           unheld = λ h. n (or-r (not (reached a || reached b)) (hd (app f a b) && (hd a && hd b))
               (and-i (hd (app f a b)) (hd a && hd b) (held-i σ v (h .0)) (and-i (hd a) (hd b) (held-i σ v (h .1)) (held-i σ v (h .2)))));
         }
 
-    go : T (all (kept (names σ) σ (above σ t)) (σ .terms)) ⊎ ¬ T (all (kept (names σ) σ (above σ t)) (σ .terms)) → Exposed (σ .terms) (σ .equals) (Held σ) t ⊎ Kept σ t
+    go : T (all (kept (names σ) σ (above σ t)) (σ .terms)) ⊎ ¬ T (all (kept (names σ) σ (above σ t)) (σ .terms))
+        → Exposed (σ .terms) (σ .equals) (Held σ) t ⊎ Kept σ t
     go (inl y) = inr (kept-is σ v t i .0 y)
     go (inr n) = let (p, m, k) = all-n (kept (names σ) σ (above σ t)) (σ .terms) n in inl (witness p m k)
 
@@ -272,8 +313,12 @@ memo-is σ x f y z v w = (out, into)
     out k s m c = elim (or-e (not old) now k) [
       | inl n ↦ absurd (T-not old n (any-i (agree ms t) m (alike-i (app f (σ .value y) (σ .value z) ∷ σ .terms) (σ .equals) c)))
       | inr h ↦
-          let (r, i, q) = any-e (λ r. agree ms t (σ .value r)) (upto (σ .header .registers)) h in
-          (r, upto-e (σ .header .registers) i, agree-e (after σ (Apply x f y z)) (after-valid σ (Apply x f y z) v w) (List·Memᴰ·head refl) (List·Memᴰ·tail (v .values r (upto-e (σ .header .registers) i))) q)
+          let (r, i, q) = any-e (λ r. agree ms t (σ .value r)) (upto (σ .header .registers)) h in (
+            r,
+            upto-e (σ .header .registers) i,
+            agree-e (after σ (Apply x f y z)) (after-valid σ (Apply x f y z) v w) (List·Memᴰ·head refl)
+                (List·Memᴰ·tail (v .values r (upto-e (σ .header .registers) i))) q,
+          )
     ]
 
     into : Memoizing σ x f y z → T (not old || now)
@@ -300,8 +345,10 @@ pub coherent-is : (ρ : Trace) → WellFormed ρ → T (coherent ρ) ↔ Coheren
 coherent-is (begin h) w = (λ t. tt, λ t. tt)
 coherent-is (ρ ▸ a) w =
     let p = coherent-is ρ (w .0) in
-    let q = fine-is (state ρ) a (state-valid ρ (w .0)) (w .1) in
-    (λ t. (p .0 (and-l (coherent ρ) (coherentLetter (state ρ) a) t), q .0 (and-r (coherent ρ) (coherentLetter (state ρ) a) t)), λ h. and-i (coherent ρ) (coherentLetter (state ρ) a) (p .1 (h .0)) (q .1 (h .1)))
+    let q = fine-is (state ρ) a (state-valid ρ (w .0)) (w .1) in (
+      λ t. (p .0 (and-l (coherent ρ) (coherentLetter (state ρ) a) t), q .0 (and-r (coherent ρ) (coherentLetter (state ρ) a) t)),
+      λ h. and-i (coherent ρ) (coherentLetter (state ρ) a) (p .1 (h .0)) (q .1 (h .1)),
+    )
 
 pub feasible-is : (σ : State) → Valid σ → T (feasible σ) ↔ Feasible σ
 feasible-is σ v = (
@@ -324,7 +371,10 @@ clash-or-feasible σ v = go (or-not (feasible σ))
     go (inr n) =
         let (p, m, k) = all-n apart (σ .unequals) n in
         let (i, j) = v .unequal-sides (p .0) (p .1) m in
-        elim (or-not (agree (names σ) (p .0) (p .1))) [ inl y ↦ inl (p .0, p .1, m, agree-e σ v i j y) | inr o ↦ absurd (k (not-T (agree (names σ) (p .0) (p .1)) o)) ]
+        elim (or-not (agree (names σ) (p .0) (p .1))) [
+          | inl y ↦ inl (p .0, p .1, m, agree-e σ v i j y)
+          | inr o ↦ absurd (k (not-T (agree (names σ) (p .0) (p .1)) o))
+        ]
 
 -- The first letter after which the test fails; 0 if there is none.
 abbrev pub fails : (Trace → Bool) → Trace → ℕ
@@ -345,9 +395,11 @@ fails-is P p e b (ρ ▸ a) w = go (fails p ρ) (fails-is P p e b ρ (w .0))
     go (suc k) h = inl h
 
 -- ── well-formed traces ──
+-- the letter fits the header
 abbrev fits : Header → Letter → Bool
 fits h (Copy x y) = ltb x (h .registers) && ltb y (h .registers)
-fits h (Apply x f y z) = ltb x (h .registers) && (ltb f (h .functions) && (ltb y (h .registers) && (ltb z (h .registers) && (not (eqb (arity h f) 1) || eqb y z))))
+fits h (Apply x f y z) =
+    ltb x (h .registers) && (ltb f (h .functions) && (ltb y (h .registers) && (ltb z (h .registers) && (not (eqb (arity h f) 1) || eqb y z))))
 fits h (Equal x y) = ltb x (h .registers) && ltb y (h .registers)
 fits h (Unequal x y) = ltb x (h .registers) && ltb y (h .registers)
 
@@ -368,7 +420,10 @@ fits-e h (Apply x f y z) t =
       ltb→lt f m (and-l (ltb f m) (ltb y n && (ltb z n && c)) t₁),
       ltb→lt y n (and-l (ltb y n) (ltb z n && c) t₂),
       ltb→lt z n (and-l (ltb z n) c t₃),
-      λ e. elim (or-e (not one) (eqb y z) (and-r (ltb z n) c t₃)) [ inl u ↦ absurd (T-not one u (subst (λ (k : ℕ). T (eqb k 1)) (sym e) tt)) | inr u ↦ eqb→eq y z u ],
+      λ e. elim (or-e (not one) (eqb y z) (and-r (ltb z n) c t₃)) [
+        | inl u ↦ absurd (T-not one u (subst (λ (k : ℕ). T (eqb k 1)) (sym e) tt))
+        | inr u ↦ eqb→eq y z u
+      ],
     )
 fits-e h (Equal x y) t = two (h .registers) x y t
 fits-e h (Unequal x y) t = two (h .registers) x y t
@@ -379,4 +434,5 @@ formed (ρ ▸ a) = formed ρ && fits (state ρ .header) a
 
 pub formed-e : (ρ : Trace) → T (formed ρ) → WellFormed ρ
 formed-e (begin h) t = tt
-formed-e (ρ ▸ a) t = (formed-e ρ (and-l (formed ρ) (fits (state ρ .header) a) t), fits-e (state ρ .header) a (and-r (formed ρ) (fits (state ρ .header) a) t))
+formed-e (ρ ▸ a) t =
+    (formed-e ρ (and-l (formed ρ) (fits (state ρ .header) a) t), fits-e (state ρ .header) a (and-r (formed ρ) (fits (state ρ .header) a) t))

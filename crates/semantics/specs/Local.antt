@@ -1,14 +1,16 @@
 -- An equal test: what the closure with one more test says, in the closure before it and in the local closure over registers.
-use mathlib.Core.Path.{_≡_, refl, sym, _∙_, ap, subst}
+use mathlib.Core.Path.{_≡_, refl, sym, ap, subst}
 use mathlib.Core.Logic.{_⊎_, inl, inr, _↔_}
-use mathlib.Core.List.{List, [], _∷_, List·Memᴰ·head, List·Memᴰ·tail, List·Memᴰ·cases-cons, Memᴰ·cast}
+use mathlib.Core.List.{List·Memᴰ·head, List·Memᴰ·cases-cons}
 use Prim.Native.Nat.{ℕ, _<_}
 use Rattle.letters.specs.declared.Letter.the-variants.{Equal}
 use Rattle.semantics.specs.Terms.{_∈_, Term, app, State, after}
-use Rattle.semantics.specs.Closure.{Closure, reflexive, test, symmetric, transitive, congruence, Equivalent, Held}
-use Rattle.semantics.specs.Coherence.{Climb, Reaches, from, up, Kept, Early}
-use Rattle.semantics.specs.Window.{Match, Same, Result}
-use Rattle.semantics.specs.Facts.{Valid, closure-in}
+use Rattle.semantics.specs.Closure.{reflexive, test, symmetric, transitive, congruence, Equivalent, Held}
+use Rattle.semantics.specs.Coherence.{Early}
+use Rattle.semantics.specs.Climb.{Reaches, from, up, reaches-equal, climbs-above}
+use Rattle.semantics.specs.Window.{Same, Result}
+use Rattle.semantics.specs.Facts.{Valid}
+use Rattle.semantics.specs.ClosureLaws.{more-tests}
 
 -- The least equivalence over registers that holds the classes and the test, and equates held results at equivalent arguments.
 pub data Local (σ : State) (x y : ℕ) : ℕ → ℕ → Type 0 where
@@ -18,18 +20,6 @@ pub data Local (σ : State) (x y : ℕ) : ℕ → ℕ → Type 0 where
   joined : {r s q : ℕ} → Local σ x y r s → Local σ x y s q → Local σ x y r q
   lifted : {f a b c d r s : ℕ} → r < σ .header .registers → s < σ .header .registers
       → Result σ f a b r → Result σ f c d s → Local σ x y a c → Local σ x y b d → Local σ x y r s
-
--- More tests keep what is equal.
-pub more-tests : {U : List Term} {E : List (Term × Term)} (e : Term × Term) {s t : Term} → Closure U E s t → Closure U (e ∷ E) s t
-more-tests e (reflexive m) = reflexive m
-more-tests e (test m) = test (List·Memᴰ·tail m)
-more-tests e (symmetric c) = symmetric (more-tests e c)
-more-tests e (transitive c d) = transitive (more-tests e c) (more-tests e d)
-more-tests e (congruence i j p q) = congruence i j (more-tests e p) (more-tests e q)
-
-pub reaches-equal : {U : List Term} {E : List (Term × Term)} {t r s : Term} → Climb U E t r → Closure U E r s → Climb U E t s
-reaches-equal (from c) e = from (transitive c e)
-reaches-equal (up r m d c) e = up r m d (transitive c e)
 
 module _ (σ : State) (v : Valid σ) (x y : ℕ) (xb : x < σ .header .registers) (yb : y < σ .header .registers) where
   -- the local closure is part of the closure with the test
@@ -82,7 +72,13 @@ module _ (σ : State) (v : Valid σ) (x y : ℕ) (xb : x < σ .header .registers
   held-equal h c = (h .0, h .1, transitive (symmetric c) (h .2))
 
   via-left : {s t u : Term} → Equivalent σ s t → Via t u → Via s u
-  via-left c w = record { up-left = up-equal (w .up-left) (symmetric c); up-right = w .up-right; held-left = held-equal (w .held-left) (symmetric c); held-right = w .held-right; by = w .by }
+  via-left c w = record {
+    up-left = up-equal (w .up-left) (symmetric c);
+    up-right = w .up-right;
+    held-left = held-equal (w .held-left) (symmetric c);
+    held-right = w .held-right;
+    by = w .by;
+  }
 
   via-via : {s t u : Term} → Via s t → Via t u → Via s u
   via-via w z = record {
@@ -102,10 +98,10 @@ module _ (σ : State) (v : Valid σ) (x y : ℕ) (xb : x < σ .header .registers
 
   module _ (early : Early σ x y) where
     pub kept : {f : ℕ} {a b : Term} → app f a b ∈ σ .terms → Up a ⊎ Up b → Held σ (app f a b) × Held σ a × Held σ b
-    kept m (inl (inl r)) = early .0 _ _ _ m (inl r)
-    kept m (inl (inr r)) = early .1 _ _ _ m (inl r)
-    kept m (inr (inl r)) = early .0 _ _ _ m (inr r)
-    kept m (inr (inr r)) = early .1 _ _ _ m (inr r)
+    kept m (inl (inl r)) = early .0 _ _ _ m (climbs-above (inl r))
+    kept m (inl (inr r)) = early .1 _ _ _ m (climbs-above (inl r))
+    kept m (inr (inl r)) = early .0 _ _ _ m (climbs-above (inr r))
+    kept m (inr (inr r)) = early .1 _ _ _ m (climbs-above (inr r))
 
     via-lift : {f : ℕ} {a b c d : Term} → app f a b ∈ σ .terms → app f c d ∈ σ .terms → Up a ⊎ Up b → Up c ⊎ Up d
         → Equivalent σ a c ⊎ Via a c → Equivalent σ b d ⊎ Via b d → Via (app f a b) (app f c d)
@@ -125,7 +121,10 @@ module _ (σ : State) (v : Valid σ) (x y : ℕ) (xb : x < σ .header .registers
 
     equate-e : {s t : Term} → Equivalent (after σ (Equal x y)) s t → Equivalent σ s t ⊎ Via s t
     equate-e (reflexive m) = inl (reflexive m)
-    equate-e (test {s} {t} m) = elim (List·Memᴰ·cases-cons m) [ inl e ↦ inr (via-test (ap (λ (k : Term × Term). k .0) e) (ap (λ (k : Term × Term). k .1) e)) | inr k ↦ inl (test k) ]
+    equate-e (test {s} {t} m) = elim (List·Memᴰ·cases-cons m) [
+      | inl e ↦ inr (via-test (ap (λ (k : Term × Term). k .0) e) (ap (λ (k : Term × Term). k .1) e))
+      | inr k ↦ inl (test k)
+    ]
     equate-e (symmetric c) = elim (equate-e c) [ inl d ↦ inl (symmetric d) | inr w ↦ inr (via-turn w) ]
     equate-e (transitive c d) = elim (equate-e c) [
       | inl p ↦ elim (equate-e d) [ inl q ↦ inl (transitive p q) | inr w ↦ inr (via-left p w) ]

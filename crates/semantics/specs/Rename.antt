@@ -1,15 +1,13 @@
 -- Marks after registers were renamed: register r now holds what register (src r) held. Some terms may be held no more.
-use mathlib.Core.Path.{_≡_, refl}
 use mathlib.Core.Logic.{_⊎_, inl, inr, _↔_}
-use mathlib.Core.List.{List, _∷_}
 use Prim.Native.Nat.{ℕ, _<_}
-use Rattle.semantics.specs.Terms.{_∈_, Term, app, State}
-use Rattle.semantics.specs.Closure.{Closure, reflexive, symmetric, transitive, Equivalent, Held}
-use Rattle.semantics.specs.Coherence.{Climb, from, up, Reaches, Kept}
-use Rattle.semantics.specs.Window.{Match, Exposed, Same, Result, Marked}
+use Rattle.semantics.specs.Terms.{Term, app, State}
+use Rattle.semantics.specs.Closure.{reflexive, symmetric, transitive, Equivalent, Held}
+use Rattle.semantics.specs.Coherence.{Kept}
+use Rattle.semantics.specs.Climb.{Reaches, from, up, reaches-equal, above-climbs, climbs-above}
+use Rattle.semantics.specs.Window.{Exposed, Same, Result, Marked}
 use Rattle.semantics.specs.Facts.{Valid}
 use Rattle.semantics.specs.Judge.{exposed-or-kept}
-use Rattle.semantics.specs.Local.{reaches-equal}
 
 -- Register s is r, or lies above it through held results.
 pub data Over (σ : State) (r : ℕ) : ℕ → Type 0 where
@@ -47,7 +45,10 @@ module _ (σ : State) (v : Valid σ) (n : ℕ) (src : ℕ → ℕ) (sb : (r : �
   over-climb : {r s : ℕ} → Over σ r s → Reaches σ (σ .value r) (σ .value s)
   over-climb (at p c) = from c
   over-climb (above ab bb cb sb o e m c) =
-      up (over-climb o) (m .listed) (elim e [ inl d ↦ inl (transitive d (symmetric (m .at-first))) | inr d ↦ inr (transitive d (symmetric (m .at-second))) ]) (transitive (m .gives) c)
+      up (over-climb o) (m .listed) (elim e [
+        | inl d ↦ inl (transitive d (symmetric (m .at-first)))
+        | inr d ↦ inr (transitive d (symmetric (m .at-second)))
+      ]) (transitive (m .gives) c)
 
   -- where all above r is held, what is above r is seen through registers
   climb-over : {r : ℕ} → Kept σ (σ .value r) → {t : Term} → Reaches σ (σ .value r) t → (h : Held σ t) → Over σ r (h .0)
@@ -59,11 +60,13 @@ module _ (σ : State) (v : Valid σ) (n : ℕ) (src : ℕ → ℕ) (sb : (r : �
 
       go : ((g : Held σ u) → Over σ r (g .0)) → Equivalent σ u a ⊎ Equivalent σ u b → Over σ r (h .0)
       go ih (inl d) =
-          let (g, i, j) = k f a b m (inl (reaches-equal w d)) in
-          above (i .1) (j .1) (g .1) (h .1) (ih (i .0, i .1, transitive d (i .2))) (inl (reflexive (v .values (i .0) (i .1)))) (result g i j) (transitive (symmetric (g .2)) (transitive c (h .2)))
+          let (g, i, j) = k f a b m (climbs-above (inl (reaches-equal w d))) in
+          above (i .1) (j .1) (g .1) (h .1) (ih (i .0, i .1, transitive d (i .2))) (inl (reflexive (v .values (i .0) (i .1)))) (result g i j)
+          (transitive (symmetric (g .2)) (transitive c (h .2)))
       go ih (inr d) =
-          let (g, i, j) = k f a b m (inr (reaches-equal w d)) in
-          above (i .1) (j .1) (g .1) (h .1) (ih (j .0, j .1, transitive d (j .2))) (inr (reflexive (v .values (j .0) (j .1)))) (result g i j) (transitive (symmetric (g .2)) (transitive c (h .2)))
+          let (g, i, j) = k f a b m (climbs-above (inr (reaches-equal w d))) in
+          above (i .1) (j .1) (g .1) (h .1) (ih (j .0, j .1, transitive d (j .2))) (inr (reflexive (v .values (j .0) (j .1)))) (result g i j)
+          (transitive (symmetric (g .2)) (transitive c (h .2)))
 
   -- a mark: as before, or by a result that is lost
   pub exposed-after : (r : ℕ) → Below r → Exposed (σ .terms) (σ .equals) Still (σ .value r) ↔ (Marked σ r ⊎ Bared r)
@@ -82,17 +85,27 @@ module _ (σ : State) (v : Valid σ) (n : ℕ) (src : ℕ → ℕ) (sb : (r : �
             second-below = j .1;
             to-below = g .1;
             holds = record { first = e .first; second = e .second; listed = e .listed; at-first = i .2; at-second = j .2; gives = g .2 };
-            over = elim (e .above) [ inl w ↦ inl (climb-over k w i) | inr w ↦ inr (climb-over k w j) ];
+            over = elim (above-climbs (e .above)) [ inl w ↦ inl (climb-over k w i) | inr w ↦ inr (climb-over k w j) ];
             lost = λ (p, q, o). e .unheld (still-equal p (symmetric (g .2)), still-equal q (symmetric (i .2)), still-equal o (symmetric (j .2)));
           })
 
       bwd : Marked σ r ⊎ Bared r → Exposed (σ .terms) (σ .equals) Still (σ .value r)
-      bwd (inl e) = record { function = e .function; first = e .first; second = e .second; listed = e .listed; above = e .above; unheld = λ (p, q, o). e .unheld (still-held p, still-held q, still-held o) }
+      bwd (inl e) = record {
+        function = e .function;
+        first = e .first;
+        second = e .second;
+        listed = e .listed;
+        above = e .above;
+        unheld = λ (p, q, o). e .unheld (still-held p, still-held q, still-held o);
+      }
       bwd (inr e) = record {
         function = e .function;
         first = e .holds .first;
         second = e .holds .second;
         listed = e .holds .listed;
-        above = elim (e .over) [ inl o ↦ inl (reaches-equal (over-climb o) (symmetric (e .holds .at-first))) | inr o ↦ inr (reaches-equal (over-climb o) (symmetric (e .holds .at-second))) ];
+        above = climbs-above (elim (e .over) [
+          | inl o ↦ inl (reaches-equal (over-climb o) (symmetric (e .holds .at-first)))
+          | inr o ↦ inr (reaches-equal (over-climb o) (symmetric (e .holds .at-second)))
+        ]);
         unheld = λ (p, q, o). e .lost (still-equal p (e .holds .gives), still-equal q (e .holds .at-first), still-equal o (e .holds .at-second));
       }

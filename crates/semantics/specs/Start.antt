@@ -1,16 +1,14 @@
 -- The window of a header alone.
-use mathlib.Core.Path.{_≡_, refl, sym, _∙_, ap, subst}
-use mathlib.Core.Bool.{Bool, true, false}
-use mathlib.Core.Logic.{_⊎_, inl, inr, _↔_}
-use mathlib.Core.List.{List, [], _∷_, List·Memᴰ·not-nil}
-use Prim.Native.Nat.{ℕ, zero, suc, _<_}
-use native.Mathlib.Omega.{arith}
+use mathlib.Core.Path.{_≡_, refl, sym, _∙_, subst}
+use mathlib.Core.Bool.{false}
+use mathlib.Core.Logic.{inl, inr}
+use mathlib.Core.List.{[], List·Memᴰ·not-nil}
+use Prim.Native.Nat.{ℕ}
 use lib.Dec.{T, eqb, eqb→eq, eqb-refl}
 use Rattle.letters.specs.declared.Header.{Header}
-use Rattle.semantics.specs.Terms.{_∈_, Term, con, app, Trace, begin, State, start, constants}
+use Rattle.semantics.specs.Terms.{Term, con, begin, start, constants}
 use Rattle.semantics.specs.Closure.{Closure, reflexive, test, symmetric, transitive, congruence, Equivalent}
-use Rattle.semantics.specs.Models.{Feasible}
-use Rattle.semantics.specs.Window.{View, Tracks, Match, Parted, Exposed}
+use Rattle.semantics.specs.Window.{View, Tracks}
 use Rattle.semantics.specs.Facts.{Valid, state-valid, constants-app}
 use Rattle.semantics.specs.Judge.{feasible-is}
 

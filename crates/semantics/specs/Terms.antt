@@ -1,32 +1,34 @@
--- Letters, traces, terms (source document 000, Definitions 1 and 3; document 01, "Terms, models, coherence").
-use mathlib.Core.Path.{_≡_}
-use mathlib.Core.Bool.{Bool, true, false, cond}
+-- Traces and the terms that they compute (document 01, "Terms, models, coherence"; source document 000, Definitions 1 and 3).
+use mathlib.Core.Bool.{true, false, cond}
 use mathlib.Core.List.{List, [], _∷_, List·Memᴰ}
-use Prim.Native.Nat.{ℕ, zero, suc, _<_}
+use Prim.Native.Nat.{ℕ, zero, suc}
 use lib.Dec.{eqb}
 use Rattle.letters.specs.declared.Header.{Header}
 use Rattle.letters.specs.declared.Letter.{Letter}
 use Rattle.letters.specs.declared.Letter.the-variants.{Copy, Apply, Equal, Unequal}
 use Rattle.letters.specs.Letters.{Fits}
 
+-- a is an element of l.
 infix 4 _∈_
 abbrev pub _∈_ : {A : Type 0} → A → List A → Type 0
 a ∈ l = List·Memᴰ a l
 
--- A register's initial constant, or a function applied to two terms.
--- A function of one argument is applied to its argument twice: f(t) is app f t t.
+-- "Each register begins with a constant of its own": con r is that of register r. app f s t is function f applied to s and t.
+-- A function of one argument is applied to it twice: f(t) is app f t t. So one and two arguments are one case everywhere.
 pub data Term : Type 0 where
   con : ℕ → Term
   app : ℕ → Term → Term → Term
 
--- A header, and letters one after the other.
+-- A trace: a header, and letters one after the other.
 infixl 40 _▸_
 pub data Trace : Type 0 where
   begin : Header → Trace
   _▸_ : Trace → Letter → Trace
 
--- What a trace leaves: the terms that some register has had, the latest first; the equal tests and the unequal tests,
--- as pairs of terms; and the term that each register has.
+-- What a trace leaves.
+-- terms: "Computed terms are all values any register had, the initial ones included", the latest first.
+-- equals, unequals: the equal tests and the unequal tests as pairs of terms, the latest first (α and β in source document 000, 2.3.2).
+-- value: the present term of each register (Comp in Definition 3).
 pub record State : Type 0 where
   pub header : Header
   pub terms : List Term
@@ -34,15 +36,16 @@ pub record State : Type 0 where
   pub unequals : List (Term × Term)
   pub value : ℕ → Term
 
--- con 0 to con (n - 1), the last first
+-- The initial constants of n registers, the last first.
 abbrev pub constants : ℕ → List Term
 constants zero = []
 constants (suc n) = con n ∷ constants n
 
+-- Before the first letter. Different registers have different constants, and nothing is said of their values.
 abbrev pub start : Header → State
 start h = record { header = h; terms = constants (h .registers); equals = []; unequals = []; value = con }
 
--- Definition 3, letter by letter.
+-- "Values after letters are terms by Definition 3."
 abbrev pub value-after : State → Letter → ℕ → Term
 value-after σ (Copy x y) r = σ .value (cond (eqb r x) y r)
 value-after σ (Apply x f y z) r = elim (eqb r x) [ true ↦ app f (σ .value y) (σ .value z) | false ↦ σ .value r ]
@@ -56,6 +59,7 @@ terms-after σ (Apply x f y z) = app f (σ .value y) (σ .value z) ∷ σ .terms
 terms-after σ (Equal x y) = σ .terms
 terms-after σ (Unequal x y) = σ .terms
 
+-- An equal test adds its two sides to the equal tests, an unequal test to the unequal tests.
 abbrev pub equals-after : State → Letter → List (Term × Term)
 equals-after σ (Copy x y) = σ .equals
 equals-after σ (Apply x f y z) = σ .equals
@@ -68,6 +72,7 @@ unequals-after σ (Apply x f y z) = σ .unequals
 unequals-after σ (Equal x y) = σ .unequals
 unequals-after σ (Unequal x y) = (σ .value x, σ .value y) ∷ σ .unequals
 
+-- One letter.
 abbrev pub after : State → Letter → State
 after σ a = record {
   header = σ .header;
@@ -77,6 +82,7 @@ after σ a = record {
   value = value-after σ a;
 }
 
+-- A whole trace.
 abbrev pub state : Trace → State
 state (begin h) = start h
 state (ρ ▸ a) = after (state ρ) a
@@ -86,7 +92,7 @@ abbrev pub WellFormed : Trace → Type 0
 WellFormed (begin h) = Unit {0}
 WellFormed (ρ ▸ a) = WellFormed ρ × Fits (state ρ .header) a
 
--- A trace, and after it letters in the order of reading.
+-- A trace, and after it letters, the first one first.
 abbrev pub extend : Trace → List Letter → Trace
 extend ρ [] = ρ
 extend ρ (a ∷ l) = extend (ρ ▸ a) l

@@ -1,5 +1,6 @@
--- What the window says of a trace (document 01), register by register.
-use mathlib.Core.Path.{_≡_}
+-- What the window says of a trace, register by register (document 01): "The window carries everything the next letter needs: the classes,
+-- the known-unequal pairs of held classes, the held results, which applications to held classes were ever computed, which held classes have
+-- above them a computed application with an argument or result that no register holds, and whether the trace is infeasible."
 use mathlib.Core.Bool.{Bool}
 use mathlib.Core.Logic.{_⊎_, _↔_}
 use Prim.Native.Nat.{ℕ, _<_}
@@ -8,7 +9,7 @@ use Rattle.semantics.specs.Terms.{_∈_, Term, app, State}
 use Rattle.semantics.specs.Closure.{Closure, Equivalent, Held}
 use mathlib.Core.List.{List}
 use Rattle.semantics.specs.Models.{Feasible}
-use Rattle.semantics.specs.Coherence.{Climb}
+use Rattle.semantics.specs.Coherence.{Above}
 
 module _ (U : List Term) (E : List (Term × Term)) where
   -- A computed application of f to arguments equal to y and z equals s.
@@ -34,29 +35,30 @@ module _ (U : List Term) (E : List (Term × Term)) where
     pub first : Term
     pub second : Term
     pub listed : app function first second ∈ U
-    pub above : Climb U E t first ⊎ Climb U E t second
+    pub above : Above U E t first second
     pub unheld : ¬ (H (app function first second) × H first × H second)
 
--- Registers r and s are in one class.
+-- "A class is a set of registers with equal values": registers r and s are in one class.
 abbrev pub Same : State → ℕ → ℕ → Type 0
 Same σ r s = Equivalent σ (σ .value r) (σ .value s)
 
--- The classes of r and s are known unequal.
+-- "The known-unequal pairs of held classes (those an unequal test has joined, none inferred)": the classes of r and s are one.
 abbrev pub Apart : State → ℕ → ℕ → Type 0
 Apart σ r s = Parted (σ .terms) (σ .equals) (σ .unequals) (σ .value r) (σ .value s)
 
--- r holds the result of f at a and b.
+-- The held results: r holds the result of f at the classes of a and b.
 abbrev pub Result : State → ℕ → ℕ → ℕ → ℕ → Type 0
 Result σ f a b r = Match (σ .terms) (σ .equals) f (σ .value a) (σ .value b) (σ .value r)
 
--- f was computed at a and b, whether or not a register holds the result.
+-- The applications to held classes that were ever computed: f at the classes of a and b, whether or not a register holds the result.
 abbrev pub Ever : State → ℕ → ℕ → ℕ → Type 0
 Ever σ f a b = (s : Term) × Match (σ .terms) (σ .equals) f (σ .value a) (σ .value b) s
 
+-- The class of r has above it a computed application with an argument or result that no register holds.
 abbrev pub Marked : State → ℕ → Type 0
 Marked σ r = Exposed (σ .terms) (σ .equals) (Held σ) (σ .value r)
 
--- A window: what it says of registers.
+-- A window, as what it says of registers and functions.
 pub record View : Type 0 where
   pub same : ℕ → ℕ → Bool
   pub apart : ℕ → ℕ → Bool
@@ -65,11 +67,12 @@ pub record View : Type 0 where
   pub marked : ℕ → Bool
   pub infeasible : Bool
 
--- It is the window of the state. Once infeasible, it has no unequal pairs.
+-- The view is that of the state. "Once infeasible, it has no unequal pairs."
 pub record Tracks (σ : State) (w : View) : Type 0 where
   pub same : (r s : ℕ) → r < σ .header .registers → s < σ .header .registers → T (w .same r s) ↔ Same σ r s
   pub apart : (r s : ℕ) → r < σ .header .registers → s < σ .header .registers → T (w .apart r s) ↔ (Feasible σ × Apart σ r s)
-  pub result : (f a b r : ℕ) → a < σ .header .registers → b < σ .header .registers → r < σ .header .registers → T (w .result f a b r) ↔ Result σ f a b r
+  pub result : (f a b r : ℕ) → a < σ .header .registers → b < σ .header .registers → r < σ .header .registers → T (w .result f a b r)
+      ↔ Result σ f a b r
   pub ever : (f a b : ℕ) → a < σ .header .registers → b < σ .header .registers → T (w .ever f a b) ↔ Ever σ f a b
   pub marked : (r : ℕ) → r < σ .header .registers → T (w .marked r) ↔ Marked σ r
   pub infeasible : T (w .infeasible) ↔ (¬ Feasible σ)

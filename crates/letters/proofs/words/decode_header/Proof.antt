@@ -1,0 +1,21 @@
+use Rattle.letters.specs.Answers.{headerWordAnswer}
+use Rattle.letters.specs.Words.{headerTest, headerWord, encodeHeader, decodeHeader}
+use Rattle.letters.proofs.Laws.{reread-none, reread-same, reread-other}
+use Rattle.letters.specs.Editions.{firstEdition}
+use mathlib.Core.Path.{sym, ap, _∙_}
+use borrow.Author.Needs.{needs}
+use Rattle.letters.proofs.words.decode_header.Statement.{statement}
+use Rattle.letters.proofs.words.decode_header.Tie as tie
+
+pub decode-header-spec : {M : Type 1} → statement M
+unfolding encodeHeader decodeHeader
+decode-header-spec =
+    tie.close
+    (tie.spec
+    (λ c κs. search needs)
+    (λ c κs. search needs)
+    (λ c. search needs)
+    (λ c. search needs)
+    (λ c. let x = c .before .before .before .named-header .result in rw (← c .before .before .before .named-header .ensures) (reread-none (headerTest firstEdition x) x (headerWord firstEdition x) (c .before .before .before .before .args .word) 3 (sym (c .before .before .encode-header .ensures) ∙ ap headerWordAnswer (c .enum-told .given .1))))
+    (λ c. let x = c .before .before .before .before .before .named-header .result in rw (← c .before .before .before .before .before .named-header .ensures) (reread-same (headerTest firstEdition x) x (headerWord firstEdition x) (c .before .before .before .before .before .before .args .word) 3 _ (sym (c .before .before .before .before .encode-header .ensures) ∙ ap headerWordAnswer (c .before .before .encoded .given .1)) (c .if1 .taken)))
+    (λ c. let x = c .before .before .before .before .before .named-header .result in rw (← c .before .before .before .before .before .named-header .ensures) (reread-other (headerTest firstEdition x) x (headerWord firstEdition x) (c .before .before .before .before .before .before .args .word) 3 _ (sym (c .before .before .before .before .encode-header .ensures) ∙ ap headerWordAnswer (c .before .before .encoded .given .1)) (c .if1 .left))))

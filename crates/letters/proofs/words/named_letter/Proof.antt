@@ -1,0 +1,20 @@
+use Rattle.letters.specs.Words.{letterBy, letterOf}
+use Rattle.base.specs.Choice.{decide}
+use borrow.Author.Needs.{needs}
+use Rattle.letters.proofs.words.named_letter.Statement.{statement}
+use Rattle.letters.proofs.words.named_letter.Tie as tie
+
+pub named-letter-spec : {M : Type 1} → statement M
+unfolding letterOf letterBy
+named-letter-spec =
+    tie.close
+    (tie.spec
+    (λ c. search needs)
+    (λ c. search needs)
+    (λ c. search needs)
+    (λ c. search needs)
+    (λ c. search decide)
+    (λ c κs. search needs)
+    (λ c. search (decide, ← c .by-arity .ensures))
+    (λ c. search decide)
+    (λ c. search decide))

@@ -1,0 +1,28 @@
+-- The widths and limits of an edition of packed traces (document 01, "The work" and "Letters and their packing"). They stand here alone.
+use Prim.Native.Nat.{ℕ}
+use mathlib.Core.List.{List, [], _∷_}
+
+pub record Edition : Type 0 where
+  -- the most registers and functions that a header may have
+  pub registers : ℕ
+  pub functions : ℕ
+  -- the bytes of a unit: a header or a letter
+  pub bytes : ℕ
+  -- the widths of a header's fields: those of `lead`, then registers, functions, arity, spare
+  pub header : List ℕ
+  -- the values of the fields that every header begins with
+  pub lead : List ℕ
+  -- the widths of a letter's fields: kind, function, target, first, second, spare
+  pub letter : List ℕ
+
+-- "Registers: 1 to 8. Functions: 0 to 4."
+-- "Header, 16 bits: registers 4, functions 3, arity 4, spare 5. Letter, 16 bits: kind 2, function 2, target 3, first 3, second 3, spare 3."
+abbrev pub firstEdition : Edition
+firstEdition = record {
+  registers = 8;
+  functions = 4;
+  bytes = 2;
+  header = 4 ∷ 3 ∷ 4 ∷ 5 ∷ [];
+  lead = [];
+  letter = 2 ∷ 2 ∷ 3 ∷ 3 ∷ 3 ∷ 3 ∷ [];
+}

@@ -1,0 +1,128 @@
+-- Unpacked letters are read as themselves, and as nothing else.
+use mathlib.Core.Path.{_≡_, refl, sym, ap, _∙_, subst}
+use mathlib.Core.Logic.{_↔_}
+use Prim.Native.Nat.{ℕ, zero, suc, _+_, _-_, _*_, _/_, _≤_}
+use native.Mathlib.Omega.{arith}
+use mathlib.Core.Bool.{true, _&&_}
+use mathlib.Core.List.{List, [], _∷_}
+use lib.Dec.{ltb, eqb}
+use lib.ListN.{length, getD, take, drop, length-append, length-take, length-drop, take-append-drop}
+use lib.Seq.{take-at, drop-at}
+use borrow.Author.Tests.{eqb-true, eqb-false, ltb-true}
+use Rattle.base.specs.Choice.{byTest}
+use Rattle.letters.specs.declared.Header.{Header}
+use Rattle.letters.specs.declared.Letter.{Letter}
+use Rattle.letters.specs.declared.Letter.the-variants.{Copy, Apply, Equal, Unequal}
+use Rattle.letters.specs.Letters.{Fits}
+use Rattle.letters.specs.Editions.{Edition}
+use Rattle.letters.specs.Answers.{value}
+use Rattle.letters.specs.Words.{HeaderFits, headerTest, fitsTest}
+use Rattle.letters.specs.WordLaws.{and-true, chosen, header-test, fits-test}
+use Rattle.letters.specs.Traces.{trace, AllFit, parts}
+use Rattle.letters.specs.TraceLaws.{Decoded, decoded-letters, letters-decoded}
+use Rattle.letters.specs.Writing.{plainFields, unpackedBytes, plainBy, plainTest, plainLetter, unpackLetter, unpackedParts, unpacking}
+
+-- ---- one letter
+
+-- the fields of the letter of a kind, where the unused ones are 0
+plain-back : (k f x y z : ℕ) → plainTest k f x z ≡ true → plainFields (plainBy k f x y z) ≡ k ∷ f ∷ x ∷ y ∷ z ∷ []
+unfolding plainTest plainBy
+plain-back k f x y z =
+    byTest (eqb k 0)
+    (λ a. rw a λ t.
+    let b = and-true (eqb f 0) (eqb z 0) t in
+    rw (eqb-true k 0 a, eqb-true f 0 (b .0), eqb-true z 0 (b .1)))
+    λ a. rw a (byTest (eqb k 1) (λ b. rw b λ t. rw (eqb-true k 1 b))
+    λ b. rw b (byTest (ltb k 4)
+    (λ c. rw c λ t.
+    let d = and-true (eqb f 0) (eqb x 0) t in
+    rw (eqb-true f 0 (d .0), eqb-true x 0 (d .1)) (byTest (eqb k 2) (λ g. rw (g, eqb-true k 2 g))
+    λ g. let three : k ≡ 3 = omega (arith, ltb-true k 4 c, eqb-false k 0 a, eqb-false k 1 b, eqb-false k 2 g) in rw three))
+    λ c. rw c λ t. let n : _≡_ {A = ℕ} 0 1 = cc in absurd (omega arith)))
+
+five : (s : List ℕ) → length s ≡ 5 → getD s 0 0 ∷ getD s 1 0 ∷ getD s 2 0 ∷ getD s 3 0 ∷ getD s 4 0 ∷ [] ≡ s
+five [] l = absurd (omega arith)
+five (a ∷ []) l = absurd (omega arith)
+five (a ∷ b ∷ []) l = absurd (omega arith)
+five (a ∷ b ∷ c ∷ []) l = absurd (omega arith)
+five (a ∷ b ∷ c ∷ d ∷ []) l = absurd (omega arith)
+five (a ∷ b ∷ c ∷ d ∷ g ∷ []) l = refl
+five (a ∷ b ∷ c ∷ d ∷ g ∷ i ∷ s) l = absurd (omega arith)
+
+unpack-own : (h : Header) (l : Letter) → Fits h l → unpackLetter h (plainFields l) ≡ value l
+unfolding unpackLetter plainLetter plainTest plainBy
+unpack-own h (Copy x y) v = rw (fits-test h (Copy x y) .1 v)
+unpack-own h (Apply x f y z) v = rw (fits-test h (Apply x f y z) .1 v)
+unpack-own h (Equal x y) v = rw (fits-test h (Equal x y) .1 v)
+unpack-own h (Unequal x y) v = rw (fits-test h (Unequal x y) .1 v)
+
+-- Five bytes are read as l exactly if l is well formed and has those fields.
+pub unpack-letter : (h : Header) (s : List ℕ) (l : Letter) → (unpackLetter h s ≡ value l) ↔ ((plainFields l ≡ s) × Fits h l)
+unfolding unpackLetter plainLetter
+unpack-letter h s l = (
+  byTest (eqb (length s) 5)
+      (λ t. rw t λ q.
+      let k = getD s 0 0 in let f = getD s 1 0 in let x = getD s 2 0 in let y = getD s 3 0 in let z = getD s 4 0 in
+      let c = chosen (plainTest k f x z && fitsTest h (plainBy k f x y z)) (plainBy k f x y z) l 4 0 q in
+      let a = and-true (plainTest k f x z) (fitsTest h (plainBy k f x y z)) (c .0) in
+      (ap plainFields (sym (c .1)) ∙ plain-back k f x y z (a .0) ∙ five s (eqb-true (length s) 5 t), subst (Fits h) (c .1) (fits-test h (plainBy k f x y z) .0 (a .1))))
+      λ t. rw t λ q. let n : _≡_ {A = ℕ} 0 1 = cc in absurd (omega arith),
+  λ v. subst (λ s. unpackLetter h s ≡ value l) (v .0) (unpack-own h l (v .1)),
+)
+
+plain-length : (l : Letter) → length (plainFields l) ≡ 5
+plain-length (Copy x y) = refl
+plain-length (Apply x f y z) = refl
+plain-length (Equal x y) = refl
+plain-length (Unequal x y) = refl
+
+-- Whatever is read has all its five bytes.
+pub unpack-whole : (h : Header) (s : List ℕ) (at : ℕ) (l : Letter) → unpackLetter h (take 5 (drop at s)) ≡ value l → at + 5 ≤ length s
+unpack-whole h s at l q =
+    let n : length (take 5 (drop at s)) ≡ 5 = ap length (sym (unpack-letter h (take 5 (drop at s)) l .0 q .0)) ∙ plain-length l in
+    let m = simp (length-take, length-drop) at n in
+    omega arith
+
+-- ---- letters
+
+unpacked-length : (ls : List Letter) → length (unpackedBytes ls) ≡ 5 * length ls
+unpacked-length [] = refl
+unpacked-length (l ∷ ls) = rw (length-append, plain-length l, unpacked-length ls) (omega arith)
+
+unpacked-decoded : (h : Header) (ls : List Letter) → AllFit h ls → Decoded (unpackLetter h) (parts 5 (length ls) (unpackedBytes ls)) ls
+unfolding parts
+unpacked-decoded h [] f = tt
+unpacked-decoded h (l ∷ ls) f =
+    rw (take-at (plainFields l) (unpackedBytes ls) 5 (plain-length l), drop-at (plainFields l) (unpackedBytes ls) 5 (plain-length l))
+    (unpack-letter h (plainFields l) l .1 (refl, f .0), unpacked-decoded h ls (f .1))
+
+-- Unpacked letters that are well formed are taken as they are.
+pub unpacking-plain : (e : Edition) (h : Header) (ls : List Letter) → HeaderFits e h → AllFit h ls → unpacking e h (unpackedBytes ls) ≡ trace h ls
+unfolding unpacking unpackedParts
+unpacking-plain e h ls v f =
+    let k : (length (unpackedBytes ls) + 4) / 5 ≡ length ls = rw (unpacked-length ls) (omega arith) in
+    rw (header-test e h .1 v, k) (decoded-letters (unpackLetter h) h 1 (parts 5 (length ls) (unpackedBytes ls)) ls (unpacked-decoded h ls f))
+
+decoded-plain : (h : Header) (k : ℕ) (s : List ℕ) (ls : List Letter) → length s ≤ 5 * k → Decoded (unpackLetter h) (parts 5 k s) ls → AllFit h ls × (unpackedBytes ls ≡ s)
+unfolding parts
+decoded-plain h zero [] [] l d = (tt, refl)
+decoded-plain h zero (x ∷ s) [] l d = absurd (omega arith)
+decoded-plain h zero s (a ∷ ls) l d = absurd d
+decoded-plain h (suc k) s [] l d = absurd d
+decoded-plain h (suc k) s (a ∷ ls) l d =
+    let p = unpack-letter h (take 5 s) a .0 (d .0) in
+    let m : length (drop 5 s) ≤ 5 * k = rw (length-drop 5 s) (omega arith) in
+    let r = decoded-plain h k (drop 5 s) ls m (d .1) in
+    ((p .1, r .0), rw (p .0, r .1) (take-append-drop 5 s))
+
+-- What is taken is well formed, and no byte of it is passed over.
+pub plain-unpacking : (e : Edition) (h g : Header) (s : List ℕ) (ls : List Letter) → unpacking e h s ≡ trace g ls
+    → (g ≡ h) × HeaderFits e h × AllFit h ls × (unpackedBytes ls ≡ s)
+unfolding unpacking unpackedParts
+plain-unpacking e h g s ls =
+    byTest (headerTest e h)
+    (λ t. rw t λ q.
+    let d = letters-decoded (unpackLetter h) h 1 (parts 5 ((length s + 4) / 5) s) g ls q in
+    let p = decoded-plain h ((length s + 4) / 5) s ls (omega arith) (d .1) in
+    (d .0, header-test e h .0 t, p .0, p .1))
+    λ t. rw t λ q. let n : _≡_ {A = ℕ} 0 1 = cc in absurd (omega arith)

@@ -1,0 +1,100 @@
+-- The executions of a macro (source document 000, Definition 2; document 01, "Executions are Definition 2's").
+use mathlib.Core.Path.{_≡_, refl}
+use Rattle.letters.specs.declared.Letter.{Letter}
+use Rattle.semantics.specs.Terms.{Trace, _▸_}
+use Rattle.macros.specs.Tree.{Condition, test, opposite, Statement, skip, perform, assert, if, while, Else, absent, present, Block, empty, _then_}
+
+-- An execution runs through the whole, or it ends at a failure.
+pub data Outcome : Type 0 where
+  done failed : Outcome
+
+-- Definition 2: π is ρ, and after it the letters of an execution of the statement, of an else, of a block.
+-- "`assert C` is an if on C's opposite whose first branch ends the execution at a failure."
+-- After a failure nothing is executed. An absent else is an empty one.
+mutual
+  pub data Exec : Statement → Trace → Trace → Outcome → Type 0 where
+    nothing : {ρ : Trace} → Exec skip ρ ρ done
+    letter : {a : Letter} {ρ : Trace} → Exec (perform a) ρ (ρ ▸ a) done
+    fails : {c : Condition} {a : Letter} {ρ : Trace} → a ≡ opposite c → Exec (assert c) ρ (ρ ▸ a) failed
+    holds : {c : Condition} {a : Letter} {ρ : Trace} → a ≡ test c → Exec (assert c) ρ (ρ ▸ a) done
+    first : {c : Condition} {b : Block} {e : Else} {ρ π : Trace} {o : Outcome} → ExecBlock b (ρ ▸ test c) π o → Exec (if c b e) ρ π o
+    second : {c : Condition} {b : Block} {e : Else} {ρ π : Trace} {o : Outcome} → ExecElse e (ρ ▸ opposite c) π o → Exec (if c b e) ρ π o
+    leaves : {c : Condition} {b : Block} {a : Letter} {ρ : Trace} → a ≡ opposite c → Exec (while c b) ρ (ρ ▸ a) done
+    turns : {c : Condition} {b : Block} {ρ π τ : Trace} {o : Outcome} → ExecBlock b (ρ ▸ test c) π done → Exec (while c b) π τ o → Exec (while c b) ρ τ o
+    breaks : {c : Condition} {b : Block} {ρ π : Trace} → ExecBlock b (ρ ▸ test c) π failed → Exec (while c b) ρ π failed
+
+  pub data ExecElse : Else → Trace → Trace → Outcome → Type 0 where
+    none : {ρ : Trace} → ExecElse absent ρ ρ done
+    some : {b : Block} {ρ π : Trace} {o : Outcome} → ExecBlock b ρ π o → ExecElse (present b) ρ π o
+
+  pub data ExecBlock : Block → Trace → Trace → Outcome → Type 0 where
+    stop : {ρ : Trace} → ExecBlock empty ρ ρ done
+    both : {s : Statement} {b : Block} {ρ π τ : Trace} {o : Outcome} → Exec s ρ π done → ExecBlock b π τ o → ExecBlock (s then b) ρ τ o
+    ends : {s : Statement} {b : Block} {ρ π : Trace} → Exec s ρ π failed → ExecBlock (s then b) ρ π failed
+
+-- ρ is a beginning of π, or all of it.
+pub data Begins : Trace → Trace → Type 0 where
+  whole : {ρ : Trace} → Begins ρ ρ
+  before : {ρ π : Trace} {a : Letter} → Begins ρ π → Begins ρ (π ▸ a)
+
+-- The executions of a macro from a start: `begin h` for a macro with the header h. Whole ones, and those that end at a failure.
+abbrev pub Complete : Trace → Block → Trace → Type 0
+Complete start m ρ = ExecBlock m start ρ done
+
+abbrev pub Failing : Trace → Block → Trace → Type 0
+Failing start m ρ = ExecBlock m start ρ failed
+
+-- "A partial execution is any beginning of one, empty or whole included." The empty one is the start.
+pub record Partial (start : Trace) (m : Block) (ρ : Trace) : Type 0 where
+  pub execution : Trace
+  pub outcome : Outcome
+  pub runs : ExecBlock m start execution outcome
+  pub from-start : Begins start ρ
+  pub begins : Begins ρ execution
+
+-- ── laws ──
+-- Every statement can be executed to its end.
+mutual
+  pub completes : (s : Statement) (ρ : Trace) → (π : Trace) × Exec s ρ π done
+  completes skip ρ = (ρ, nothing)
+  completes (perform a) ρ = (ρ ▸ a, letter)
+  completes (assert c) ρ = (ρ ▸ test c, holds refl)
+  completes (if c b e) ρ = let (π, x) = completesElse e (ρ ▸ opposite c) in (π, second x)
+  completes (while c b) ρ = (ρ ▸ opposite c, leaves refl)
+
+  completesElse : (e : Else) (ρ : Trace) → (π : Trace) × ExecElse e ρ π done
+  completesElse absent ρ = (ρ, none)
+  completesElse (present b) ρ = let (π, x) = completesBlock b ρ in (π, some x)
+
+  pub completesBlock : (b : Block) (ρ : Trace) → (π : Trace) × ExecBlock b ρ π done
+  completesBlock empty ρ = (ρ, stop)
+  completesBlock (s then b) ρ =
+      let (π, x) = completes s ρ in
+      let (τ, y) = completesBlock b π in
+      (τ, both x y)
+
+-- An execution goes on from the trace that it is given.
+pub begins-join : {ρ π τ : Trace} → Begins ρ π → Begins π τ → Begins ρ τ
+begins-join b whole = b
+begins-join b (before d) = before (begins-join b d)
+
+mutual
+  pub exec-begins : {s : Statement} {ρ π : Trace} {o : Outcome} → Exec s ρ π o → Begins ρ π
+  exec-begins nothing = whole
+  exec-begins letter = before whole
+  exec-begins (fails x) = before whole
+  exec-begins (holds x) = before whole
+  exec-begins (first x) = begins-join (before whole) (block-begins x)
+  exec-begins (second x) = begins-join (before whole) (else-begins x)
+  exec-begins (leaves x) = before whole
+  exec-begins (turns x y) = begins-join (before whole) (begins-join (block-begins x) (exec-begins y))
+  exec-begins (breaks x) = begins-join (before whole) (block-begins x)
+
+  else-begins : {e : Else} {ρ π : Trace} {o : Outcome} → ExecElse e ρ π o → Begins ρ π
+  else-begins none = whole
+  else-begins (some x) = block-begins x
+
+  pub block-begins : {b : Block} {ρ π : Trace} {o : Outcome} → ExecBlock b ρ π o → Begins ρ π
+  block-begins stop = whole
+  block-begins (both x y) = begins-join (exec-begins x) (block-begins y)
+  block-begins (ends x) = exec-begins x
