@@ -11,8 +11,8 @@ use lib.Dec.{ltb}
 use mathlib.Core.Bool.{Bool, true, false}
 use borrow.Author.Tests.{ltb-false, eq-eqb, ne-eqb}
 use Rattle.base.specs.Choice.{pick, byTest}
-use Rattle.letters.specs.declared.Beginning.{Beginning}
-use Rattle.letters.specs.declared.Beginning.the-variants as begun-as
+use Rattle.letters.specs.declared.HeaderRead.{HeaderRead}
+use Rattle.letters.specs.declared.HeaderRead.the-variants as begun-as
 use Rattle.letters.specs.Writing.{plainLetter, unpackLetter}
 use Rattle.letters.specs.declared.Header.{Header}
 use Rattle.letters.specs.declared.Letter.{Letter}
@@ -104,7 +104,7 @@ unfolding beginning
 begins-long s h = byTest (ltb (length s) 2) (λ t. rw t λ q. let z : _≡_ {A = ℕ} 0 1 = cc in absurd (omega arith)) λ t q. ltb-false (length s) 2 t
 
 -- what is learnt of a trace's beginning
-module _ (tooMany : ℕ → Bool) (s : List ℕ) (begun : Beginning) (e : beginningAnswer begun ≡ beginning firstEdition s) where
+module _ (tooMany : ℕ → Bool) (s : List ℕ) (begun : HeaderRead) (e : beginningAnswer begun ≡ beginning firstEdition s) where
   pub begun-refused : (number : ℕ) → begun ≡ begun-as.Refused number → refusal number 0 ≡ counted (readingWhere tooMany firstEdition s)
   unfolding readingWhere
   begun-refused number g = rw (← e, g)

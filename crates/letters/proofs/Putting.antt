@@ -108,7 +108,7 @@ header-refused : (h : Header) (s : List ℕ) → encodeHeader firstEdition h ≡
 unfolding encodeHeader unpacking
 header-refused h s = byTest (headerTest firstEdition h) (λ t. rw t λ q. let z : _≡_ {A = ℕ} 0 1 = cc in absurd (omega arith)) λ t. rw t λ q. refl
 
-pub wrote-header : (h : Header) (s out : List ℕ) → encodeHeader firstEdition h ≡ refusal 3 0 → Wrote (unpacking firstEdition h s) out out (refusal 3 0)
+pub wrote-header : (h : Header) (s out : List ℕ) → encodeHeader firstEdition h ≡ refusal 3 0 → Wrote firstEdition (unpacking firstEdition h s) out out (refusal 3 0)
 unfolding writtenLength writtenOver
 wrote-header h s out q = rw (header-refused h s q) (record { answered = refl; bytes = refl })
 
@@ -130,7 +130,7 @@ module _ (h : Header) (s out : List ℕ) (w : ℕ) (q : encodeHeader firstEditio
   unfolding unpacking
   unpacked = rw (good .0)
 
-  pub wrote-refused : (a b : ℕ) → counted (lettersFrom (unpackLetter h) h 1 (unpackedParts s)) ≡ refusal a b → Wrote (unpacking firstEdition h s) out out (refusal a b)
+  pub wrote-refused : (a b : ℕ) → counted (lettersFrom (unpackLetter h) h 1 (unpackedParts s)) ≡ refusal a b → Wrote firstEdition (unpacking firstEdition h s) out out (refusal a b)
   unfolding writtenLength writtenOver
   wrote-refused a b p = rw (unpacked, counted-refused (lettersFrom (unpackLetter h) h 1 (unpackedParts s)) a b p) (record { answered = refl; bytes = refl })
 
@@ -166,14 +166,14 @@ module _ (h : Header) (s out : List ℕ) (w : ℕ) (q : encodeHeader firstEditio
         ∙ sets-eq (packing firstEdition h letters) out 0 room
         ∙ rw zero-add
 
-    pub wrote-short : length out < 2 * n + 2 → Wrote (unpacking firstEdition h s) out out (refusal 6 0)
+    pub wrote-short : length out < 2 * n + 2 → Wrote firstEdition (unpacking firstEdition h s) out out (refusal 6 0)
     unfolding writtenLength writtenOver
     wrote-short l =
         let m = lt-leb (length (packing firstEdition h letters)) (length out) (rw size l) in
         rw (is-trace) (record { answered = rw m; bytes = rw m })
 
     pub wrote-all : (exit : List ℕ) → 2 * n + 2 ≤ length out → exit ≡ putWords (wordIn firstEdition h) (putWord out 0 w) 2 (unpackedParts s)
-        → Wrote (unpacking firstEdition h s) out exit (value (2 * n + 2))
+        → Wrote firstEdition (unpacking firstEdition h s) out exit (value (2 * n + 2))
     unfolding writtenLength writtenOver
     wrote-all exit l x =
         let m = le-leb (length (packing firstEdition h letters)) (length out) (rw size l) in

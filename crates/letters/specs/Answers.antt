@@ -9,8 +9,8 @@ use Rattle.letters.specs.declared.DecodedLetter.{DecodedLetter}
 use Rattle.letters.specs.declared.DecodedLetter.the-variants as decoded-letter
 use Rattle.letters.specs.declared.Encoded.{Encoded}
 use Rattle.letters.specs.declared.Encoded.the-variants as encoded
-use Rattle.letters.specs.declared.Beginning.{Beginning}
-use Rattle.letters.specs.declared.Beginning.the-variants as begun
+use Rattle.letters.specs.declared.HeaderRead.{HeaderRead}
+use Rattle.letters.specs.declared.HeaderRead.the-variants as begun
 use Rattle.letters.specs.declared.TraceRead.{TraceRead}
 use Rattle.letters.specs.declared.TraceRead.the-variants as trace-read
 use Rattle.letters.specs.declared.Written.{Written}
@@ -45,7 +45,7 @@ letterWordAnswer (encoded.Word w) = value w
 letterWordAnswer encoded.Malformed = refusal 4 0
 
 -- the header of a trace whose letters are still to be read
-abbrev pub beginningAnswer : Beginning → Answer Header
+abbrev pub beginningAnswer : HeaderRead → Answer Header
 beginningAnswer (begun.Header h) = value h
 beginningAnswer (begun.Refused number) = refusal number 0
 

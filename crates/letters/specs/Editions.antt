@@ -26,3 +26,7 @@ firstEdition = record {
   lead = [];
   letter = 2 ∷ 2 ∷ 3 ∷ 3 ∷ 3 ∷ 3 ∷ [];
 }
+
+-- "The whole-trace engine takes at most 1,024 letters; the monitor has no limit."
+abbrev pub mostLetters : ℕ
+mostLetters = 1024

@@ -2,7 +2,7 @@
 use mathlib.Core.Path.{_≡_, refl, sym, ap, _∙_}
 use Prim.Native.Nat.{ℕ, suc, _+_, _*_, _/_, _%_, _^_, _≤_, _<_}
 use native.Mathlib.Omega.{arith}
-use native.Mathlib.Nat.{mod-lt, mod-eq-of-lt, add-assoc, mul-assoc, add-mul, zero-mul, zero-add, suc-mul, mul-le-mul-right}
+use native.Mathlib.Nat.{mod-eq-of-lt, add-assoc, mul-assoc, add-mul, zero-mul, zero-add, suc-mul, mul-le-mul-right}
 use mathlib.Core.List.{List, [], _∷_}
 use lib.ListN.{length}
 use lib.Pow as pow
@@ -35,10 +35,6 @@ split (k ∷ widths) n = n / 2 ^ total widths % 2 ^ k ∷ split widths n
 pub split-length : (widths : List ℕ) (n : ℕ) → length (split widths n) ≡ length widths
 split-length [] n = refl
 split-length (k ∷ widths) n = ap suc (split-length widths n)
-
-pub split-sized : (widths : List ℕ) (n : ℕ) → Sized widths (split widths n)
-split-sized [] n = tt
-split-sized (k ∷ widths) n = (mod-lt (n / 2 ^ total widths) (pow.pow-pos k), split-sized widths n)
 
 pub join-lt : (widths values : List ℕ) → Sized widths values → join widths values < 2 ^ total widths
 join-lt [] [] s = omega arith

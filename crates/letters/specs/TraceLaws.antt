@@ -31,6 +31,10 @@ Decoded decode [] (l ∷ ls) = ⊥
 Decoded decode (x ∷ codes) [] = ⊥
 Decoded decode (x ∷ codes) (l ∷ ls) = (decode x ≡ value l) × Decoded decode codes ls
 
+-- A refusal is no trace.
+pub not-trace : {a b : ℕ} {g : Header} {ls : List Letter} → refused a b ≡ trace g ls → ⊥
+not-trace e = let z : _≡_ {A = ℕ} 0 1 = cc in omega arith
+
 -- ---- the reading of a list of codes
 
 module _ {A : Type 0} (decode : A → Answer Letter) (h : Header) where
@@ -44,9 +48,6 @@ module _ {A : Type 0} (decode : A → Answer Letter) (h : Header) where
   decoded-letters n [] (l ∷ ls) d = absurd d
   decoded-letters n (x ∷ codes) [] d = absurd d
   decoded-letters n (x ∷ codes) (l ∷ ls) d = rw (first-letter, d .0, decoded-letters (n + 1) codes ls (d .1))
-
-  not-trace : {a b : ℕ} {g : Header} {ls : List Letter} → refused a b ≡ trace g ls → ⊥
-  not-trace e = let z : _≡_ {A = ℕ} 0 1 = cc in omega arith
 
   pub letters-decoded : (n : ℕ) (codes : List A) (g : Header) (ls : List Letter) → lettersFrom decode h n codes ≡ trace g ls → (g ≡ h) × Decoded decode codes ls
   unfolding lettersFrom
@@ -80,7 +81,7 @@ unfolding parts
 parts-length n zero s = refl
 parts-length n (suc k) s = ap suc (parts-length n k (drop n s))
 
-octets-total : (n : ℕ) → total (replicate n 8) ≡ 8 * n
+pub octets-total : (n : ℕ) → total (replicate n 8) ≡ 8 * n
 octets-total zero = refl
 octets-total (suc n) = rw (octets-total n, mul-suc 8 n) (omega arith)
 
@@ -145,17 +146,14 @@ module _ (e : Edition) (r : Roomy e) where
   read : (s : List ℕ) (h : Header) (ls : List Letter) → reading e s ≡ trace h ls → Read s h ls
   unfolding readingWhere beginning lettersOf
   read s h ls =
-      byTest (ltb (length s) (e .bytes)) (λ t. rw t λ q. absurd (refusal-not-trace q))
+      byTest (ltb (length s) (e .bytes)) (λ t. rw t λ q. absurd (not-trace q))
       λ t. rw t (byTest (eqb (length s % e .bytes) 0)
       (λ u. rw u λ q. by-header (decodeHeader e (join (octets e) (take (e .bytes) s))) refl (ltb-false (length s) (e .bytes) t) (eqb-true (length s % e .bytes) 0 u) q)
-      λ u. rw u λ q. absurd (refusal-not-trace q))
+      λ u. rw u λ q. absurd (not-trace q))
     where
-      refusal-not-trace : {a b : ℕ} {g : Header} {ls : List Letter} → refused a b ≡ trace g ls → ⊥
-      refusal-not-trace q = let z : _≡_ {A = ℕ} 0 1 = cc in omega arith
-
       by-header : (a : Answer Header) → decodeHeader e (join (octets e) (take (e .bytes) s)) ≡ a → e .bytes ≤ length s → length s % e .bytes ≡ 0
           → onAnswer a (λ g. lettersFrom (letterIn e g) g 1 (parts (e .bytes) (letterCount e s) (drop (e .bytes) s))) refused ≡ trace h ls → Read s h ls
-      by-header (refusal a b) d l w q = absurd (refusal-not-trace q)
+      by-header (refusal a b) d l w q = absurd (not-trace q)
       by-header (value g) d l w q =
           let x = letters-decoded (letterIn e g) g 1 (parts (e .bytes) (letterCount e s) (drop (e .bytes) s)) h ls q in
           subst (λ g. decodeHeader e (join (octets e) (take (e .bytes) s)) ≡ value g → Decoded (letterIn e g) (parts (e .bytes) (letterCount e s) (drop (e .bytes) s)) ls → Read s h ls) (x .0)

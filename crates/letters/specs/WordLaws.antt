@@ -1,19 +1,19 @@
 -- Decoding and encoding are inverse on words: a word is read as the one well-formed header or letter that packs to it, and refused if there is none.
 use mathlib.Core.Path.{_≡_, refl, sym, ap, _∙_, subst}
 use mathlib.Core.Logic.{_↔_}
-use Prim.Native.Nat.{ℕ, zero, suc, _+_, _*_, _/_, _%_, _^_, _≤_, _<_}
+use Prim.Native.Nat.{ℕ, zero, suc, _*_, _/_, _%_, _^_, _≤_, _<_}
 use native.Mathlib.Omega.{arith}
-use native.Mathlib.Nat.{mod-eq-of-lt, mod-lt, div-one, add-zero, add-suc, suc-add, lt-of-lt-of-le}
+use native.Mathlib.Nat.{mod-eq-of-lt, mod-lt, div-one, lt-of-lt-of-le}
 use native.Mathlib.Numerals.{add-one}
 use mathlib.Core.Bool.{Bool, true, false, _&&_, _||_}
 use mathlib.Core.List.{[], _∷_}
 use lib.Dec.{leb, ltb, eqb}
-use lib.ListN.{getD, replicate}
+use lib.ListN.{replicate}
 use lib.Seq.{drop-append-seam}
 use lib.Pow as pow
 use borrow.Author.Tests.{lt-ltb, le-leb, eq-eqb, ltb-true, leb-true, eqb-true}
 use Rattle.base.specs.Choice.{pick, byTest}
-use Rattle.base.specs.Masks.{bit, has}
+use Rattle.base.specs.Masks.{has}
 use Rattle.letters.specs.declared.Header.{Header}
 use Rattle.letters.specs.declared.Letter.{Letter}
 use Rattle.letters.specs.declared.Letter.the-variants.{Copy, Apply, Equal, Unequal}
@@ -94,12 +94,6 @@ mask-low f (suc k) m =
 bits-sized : (f k m : ℕ) → Sized (replicate k 1) (bitsFrom f k m)
 bits-sized f zero m = tt
 bits-sized f (suc k) m = (mod-lt (m / 2 ^ f) (omega arith), bits-sized (suc f) k m)
-
--- the arity field holds the bit of function f at its place
-pub bits-at : (g k m f : ℕ) → f < k → getD (bitsFrom g k m) f 0 ≡ bit m (g + f)
-bits-at g zero m f l = absurd (omega arith)
-bits-at g (suc k) m zero l = rw add-zero
-bits-at g (suc k) m (suc f) l = rw add-suc (rw suc-add at (bits-at (suc g) k m f (omega arith)))
 
 -- ---- an edition has room: what is well formed fits its widths, and both kinds of words fill a unit
 

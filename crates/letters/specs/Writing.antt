@@ -9,7 +9,7 @@ use Rattle.base.specs.Choice.{pick}
 use Rattle.letters.specs.declared.Header.{Header}
 use Rattle.letters.specs.declared.Letter.{Letter}
 use Rattle.letters.specs.declared.Letter.the-variants.{Copy, Apply, Equal, Unequal}
-use Rattle.letters.specs.Editions.{Edition, firstEdition}
+use Rattle.letters.specs.Editions.{Edition}
 use Rattle.letters.specs.Answers.{Answer, value, refusal}
 use Rattle.letters.specs.Words.{headerTest, fitsTest}
 use Rattle.letters.specs.Traces.{Reading, trace, refused, lettersFrom, parts, packing}
@@ -62,6 +62,6 @@ writtenOver e out (trace h ls) = pick (leb (length (packing e h ls)) (length out
 writtenOver e out (refused number place) = out
 
 -- What a call of the writer leaves: its answer, and every byte of the output.
-pub record Wrote (r : Reading) (entry exit : List ℕ) (answer : Answer ℕ) : Type 0 where
-  pub answered : answer ≡ writtenLength firstEdition (length entry) r
-  pub bytes : exit ≡ writtenOver firstEdition entry r
+pub record Wrote (e : Edition) (r : Reading) (entry exit : List ℕ) (answer : Answer ℕ) : Type 0 where
+  pub answered : answer ≡ writtenLength e (length entry) r
+  pub bytes : exit ≡ writtenOver e entry r

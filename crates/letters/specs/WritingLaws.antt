@@ -4,8 +4,8 @@ use mathlib.Core.Logic.{_↔_}
 use Prim.Native.Nat.{ℕ, zero, suc, _+_, _-_, _*_, _/_, _≤_}
 use native.Mathlib.Omega.{arith}
 use mathlib.Core.Bool.{true, _&&_}
-use mathlib.Core.List.{List, [], _∷_}
-use lib.Dec.{ltb, eqb}
+use mathlib.Core.List.{List, [], _∷_, _++_}
+use lib.Dec.{leb, ltb, eqb}
 use lib.ListN.{length, getD, take, drop, length-append, length-take, length-drop, take-append-drop}
 use lib.Seq.{take-at, drop-at}
 use borrow.Author.Tests.{eqb-true, eqb-false, ltb-true}
@@ -17,10 +17,10 @@ use Rattle.letters.specs.Letters.{Fits}
 use Rattle.letters.specs.Editions.{Edition}
 use Rattle.letters.specs.Answers.{value}
 use Rattle.letters.specs.Words.{HeaderFits, headerTest, fitsTest}
-use Rattle.letters.specs.WordLaws.{and-true, chosen, header-test, fits-test}
-use Rattle.letters.specs.Traces.{trace, AllFit, parts}
-use Rattle.letters.specs.TraceLaws.{Decoded, decoded-letters, letters-decoded}
-use Rattle.letters.specs.Writing.{plainFields, unpackedBytes, plainBy, plainTest, plainLetter, unpackLetter, unpackedParts, unpacking}
+use Rattle.letters.specs.WordLaws.{and-true, chosen, header-test, fits-test, Roomy}
+use Rattle.letters.specs.Traces.{Reading, trace, refused, AllFit, parts, packing, reading}
+use Rattle.letters.specs.TraceLaws.{Decoded, decoded-letters, letters-decoded, reading-packing}
+use Rattle.letters.specs.Writing.{plainFields, unpackedBytes, plainBy, plainTest, plainLetter, unpackLetter, unpackedParts, unpacking, writtenLength, writtenOver, Wrote}
 
 -- ---- one letter
 
@@ -126,3 +126,23 @@ plain-unpacking e h g s ls =
     let p = decoded-plain h ((length s + 4) / 5) s ls (omega arith) (d .1) in
     (d .0, header-test e h .0 t, p .0, p .1))
     λ t. rw t λ q. let n : _≡_ {A = ℕ} 0 1 = cc in absurd (omega arith)
+
+-- ---- what was written is read again
+
+-- After an answer of n bytes, the first n bytes of the output are read as the header and the letters that were given.
+pub written-read : (e : Edition) → Roomy e → (h : Header) (s entry exit : List ℕ) (n : ℕ) → Wrote e (unpacking e h s) entry exit (value n)
+    → (ls : List Letter) × (unpackedBytes ls ≡ s) × (reading e (take n exit) ≡ trace h ls)
+unfolding writtenLength writtenOver
+written-read e r h s entry exit n w = go (unpacking e h s) refl (w .answered) (w .bytes)
+  where
+    go : (x : Reading) → unpacking e h s ≡ x → value n ≡ writtenLength e (length entry) x → exit ≡ writtenOver e entry x
+        → (ls : List Letter) × (unpackedBytes ls ≡ s) × (reading e (take n exit) ≡ trace h ls)
+    go (refused a b) q p o = absurd (let z : _≡_ {A = ℕ} 0 1 = cc in omega arith)
+    go (trace g ls) q p o =
+        let (i, v, f, u) = plain-unpacking e h g s ls q in
+        let size = length (packing e g ls) in
+        let (t, m) = chosen (leb size (length entry)) size n 6 0 (sym p) in
+        let out : exit ≡ packing e g ls ++ drop size entry = rw t at o in
+        let taken : take n exit ≡ packing e g ls = ap (take n) out ∙ take-at (packing e g ls) (drop size entry) n m in
+        let back : reading e (packing e g ls) ≡ trace g ls = reading-packing e r g ls (subst (HeaderFits e) (sym i) v) (subst (λ k. AllFit k ls) (sym i) f) in
+        (ls, u, ap (reading e) taken ∙ back ∙ ap (λ k. trace k ls) i)

@@ -59,8 +59,8 @@ pub enum Encoded {
     Malformed,
 }
 
-/// How a trace begins: its header, or the number of the refusal, whose place is 0.
-pub enum Beginning {
+/// The header that a trace begins with, or the number of the refusal, whose place is 0.
+pub enum HeaderRead {
     Header(Header),
     Refused(u8),
 }

@@ -7,7 +7,7 @@ use Rattle.macros.specs.Tree.{Condition, test, opposite, Statement, skip
 use Rattle.macros.specs.Executions.{Outcome, done, failed, Exec, ExecElse, ExecBlock, Partial, Complete, Failing, Begins, completesBlock, block-begins}
 use Rattle.macros.specs.Executions
 use Rattle.macros.specs.Order.{Branch, first, second, Path, root, _▹_}
-use Rattle.macros.specs.Walk.{Place, at, failure, Move, no-move, move, Stand, nowhere, stand, take-move, onward, walk, walk-begins, shorter}
+use Rattle.macros.specs.Walk.{Place, at, failure, Move, no-move, move, Stand, nowhere, stand, take-move, onward, walk, walk-keeps, walk-begins, shorter}
 
 -- One block after another.
 infixr 30 _before_
@@ -149,14 +149,8 @@ module _ (start : Trace) (m : Block) where
   executed-branch (while c b then k) ρ first x = λ π o y. x π o (take-turn (cut b (while c b then k) (due-exec (b before (while c b then k)) y)))
   executed-branch (while c b then k) ρ second x = λ π o y. x π o (Executions.both (Executions.leaves refl) (due-exec k y))
 
-  executed-onward : (z : Stand Block) (d : Branch) → Executed z → Executed (onward branches z d)
-  executed-onward nowhere d x = tt
-  executed-onward (stand failure ρ) d x = tt
-  executed-onward (stand (at k) ρ) d x = executed-branch k ρ d x
-
   executed : (p : Path) → Executed (perform-along start m p)
-  executed root = λ π o x. due-exec m x
-  executed (p ▹ d) = executed-onward (perform-along start m p) d (executed p)
+  executed p = walk-keeps branches Executed tt executed-branch (due m) start (λ π o x. due-exec m x) p
 
   arrived : {o : Outcome} {ρ : Trace} → ExecBlock m start ρ o → Arrives start m o empty ρ
   arrived x = block-walk start m x empty root (ap (λ k. stand (at (due k)) start) (sym (before-empty m)))

@@ -2,6 +2,7 @@
 use mathlib.Core.Path.{_≡_, refl}
 use Rattle.letters.specs.declared.Letter.{Letter}
 use Rattle.semantics.specs.Terms.{Trace, _▸_}
+pub use Rattle.semantics.specs.Prefixes.{Begins, whole, before, begins-join}
 use Rattle.macros.specs.Tree.{Condition, test, opposite, Statement, skip, perform, assert, if, while, Else, absent, present, Block, empty, _then_}
 
 -- An execution runs through the whole, or it ends at a failure.
@@ -31,11 +32,6 @@ mutual
     stop : {ρ : Trace} → ExecBlock empty ρ ρ done
     both : {s : Statement} {b : Block} {ρ π τ : Trace} {o : Outcome} → Exec s ρ π done → ExecBlock b π τ o → ExecBlock (s then b) ρ τ o
     ends : {s : Statement} {b : Block} {ρ π : Trace} → Exec s ρ π failed → ExecBlock (s then b) ρ π failed
-
--- ρ is a beginning of π, or all of it.
-pub data Begins : Trace → Trace → Type 0 where
-  whole : {ρ : Trace} → Begins ρ ρ
-  before : {ρ π : Trace} {a : Letter} → Begins ρ π → Begins ρ (π ▸ a)
 
 -- The executions of a macro from a start: `begin h` for a macro with the header h. Whole ones, and those that end at a failure.
 abbrev pub Complete : Trace → Block → Trace → Type 0
@@ -74,10 +70,6 @@ mutual
       (τ, both x y)
 
 -- An execution goes on from the trace that it is given.
-pub begins-join : {ρ π τ : Trace} → Begins ρ π → Begins π τ → Begins ρ τ
-begins-join b whole = b
-begins-join b (before d) = before (begins-join b d)
-
 mutual
   pub exec-begins : {s : Statement} {ρ π : Trace} {o : Outcome} → Exec s ρ π o → Begins ρ π
   exec-begins nothing = whole

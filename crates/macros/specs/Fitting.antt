@@ -1,15 +1,14 @@
 -- The letters of a proper macro fit its header: at each point, and in each of its executions.
 use mathlib.Core.Path.{_≡_, sym, subst}
-use mathlib.Core.List.{List, [], _∷_, _++_}
-use Prim.Native.Nat.{ℕ, zero, suc, _+_}
+use Prim.Native.Nat.{ℕ, _+_}
 use Rattle.letters.specs.declared.Header.{Header}
 use Rattle.letters.specs.Letters.{Fits}
 use Rattle.semantics.specs.Terms.{Trace, state, WellFormed}
 use Rattle.macros.specs.Tree.{Condition, equal, unequal, test, opposite, Statement, skip, perform, assert, if, while, Else, absent, present, Block, empty, _then_, Proper, ProperElse, ProperBlock}
 use Rattle.macros.specs.Executions.{Partial}
-use Rattle.macros.specs.Order.{Branch, first, second, Path, root, _▹_}
-use Rattle.macros.specs.Walk.{Place, at, failure, Move, no-move, move, Stand, nowhere, stand, take-move, onward, walk}
-use Rattle.macros.specs.Points.{Point, step, check, fork, size, sizeBlock, entry, compile, compileElse, compileBlock, points, entrance, moves, moves-at, run}
+use Rattle.macros.specs.Order.{Branch, first, second, Path}
+use Rattle.macros.specs.Walk.{Place, Move, no-move, move, Stand, nowhere, stand, take-move, walk, walk-keeps}
+use Rattle.macros.specs.Points.{Point, step, check, fork, Every, every-append, every-moves, size, sizeBlock, entry, compile, compileElse, compileBlock, points, entrance, moves, moves-at, run}
 use Rattle.macros.specs.Runs.{partial-is}
 
 -- A trace of the header's, every letter of which fits.
@@ -27,10 +26,6 @@ FitsPoint h (step a n) = Fits h a
 FitsPoint h (check c n) = Fits h (test c)
 FitsPoint h (fork c i j) = Fits h (test c)
 
-abbrev FitPoints : Header → List Point → Type 0
-FitPoints h [] = Unit {0}
-FitPoints h (x ∷ l) = FitsPoint h x × FitPoints h l
-
 fits-opposite : (h : Header) (c : Condition) → Fits h (test c) → Fits h (opposite c)
 fits-opposite h (equal x y) f = f
 fits-opposite h (unequal x y) f = f
@@ -44,39 +39,30 @@ fits-moves h (fork c i j) first f = f
 fits-moves h (fork c i j) second f = fits-opposite h c f
 
 module _ (h : Header) where
-  fit-append : (l k : List Point) → FitPoints h l → FitPoints h k → FitPoints h (l ++ k)
-  fit-append [] k u v = v
-  fit-append (x ∷ l) k u v = (u .0, fit-append l k (u .1) v)
-
-  fit-at : (l : List Point) (n : ℕ) (d : Branch) → FitPoints h l → FitsMove h (moves-at l n d)
-  fit-at [] n d u = tt
-  fit-at (x ∷ l) zero d u = fits-moves h x d (u .0)
-  fit-at (x ∷ l) (suc n) d u = fit-at l n d (u .1)
-
   mutual
     unfolding compile
 
-    fit-compile : (s : Statement) (b n : ℕ) → Proper s h → FitPoints h (compile s b n)
+    fit-compile : (s : Statement) (b n : ℕ) → Proper s h → Every (FitsPoint h) (compile s b n)
     fit-compile skip b n p = tt
     fit-compile (perform a) b n p = (p, tt)
     fit-compile (assert c) b n p = (p, tt)
     fit-compile (if c t e) b n p =
-        (p .0, fit-append (compileBlock t (b + 1) n) (compileElse e (b + 1 + sizeBlock t) n) (fit-block t (b + 1) n (p .1)) (fit-else e (b + 1 + sizeBlock t) n (p .2)))
+        (p .0, every-append (FitsPoint h) (compileBlock t (b + 1) n) (compileElse e (b + 1 + sizeBlock t) n) (fit-block t (b + 1) n (p .1)) (fit-else e (b + 1 + sizeBlock t) n (p .2)))
     fit-compile (while c t) b n p = (p .0, fit-block t (b + 1) b (p .1))
 
-    fit-else : (e : Else) (b n : ℕ) → ProperElse e h → FitPoints h (compileElse e b n)
+    fit-else : (e : Else) (b n : ℕ) → ProperElse e h → Every (FitsPoint h) (compileElse e b n)
     fit-else absent b n p = tt
     fit-else (present t) b n p = fit-block t b n p
 
-    fit-block : (t : Block) (b n : ℕ) → ProperBlock t h → FitPoints h (compileBlock t b n)
+    fit-block : (t : Block) (b n : ℕ) → ProperBlock t h → Every (FitsPoint h) (compileBlock t b n)
     fit-block empty b n p = tt
     fit-block (s then t) b n p =
-        fit-append (compile s b (entry (sizeBlock t) (b + size s) n)) (compileBlock t (b + size s) n)
+        every-append (FitsPoint h) (compile s b (entry (sizeBlock t) (b + size s) n)) (compileBlock t (b + size s) n)
         (fit-compile s b (entry (sizeBlock t) (b + size s) n) (p .0)) (fit-block t (b + size s) n (p .1))
 
   -- The letters at the points of a proper macro fit.
   pub points-fit : (m : Block) → ProperBlock m h → (n : ℕ) (d : Branch) → FitsMove h (moves-at (points m) n d)
-  points-fit m p n d = fit-at (points m) n d (fit-block m 0 (sizeBlock m) p)
+  points-fit m p n d = every-moves (FitsPoint h) (FitsMove h) tt (fits-moves h) (points m) n d (fit-block m 0 (sizeBlock m) p)
 
   -- ── the letters of a walk ──
   module _ {A : Type 0} (moves : A → Branch → Move A) (fit : (k : A) (d : Branch) → FitsMove h (moves k d)) (origin : A) (start : Trace) (formed : Formed h start) where
@@ -84,18 +70,12 @@ module _ (h : Header) where
     FormedStand nowhere = Unit {0}
     FormedStand (stand l ρ) = Formed h ρ
 
-    formed-onward : (z : Stand A) (d : Branch) → FormedStand z → FormedStand (onward moves z d)
-    formed-onward nowhere d x = tt
-    formed-onward (stand failure ρ) d x = tt
-    formed-onward (stand (at k) ρ) d x = go (moves k d) (fit k d)
-      where
-        go : (y : Move A) → FitsMove h y → FormedStand (take-move ρ y)
-        go no-move f = tt
-        go (move a l) f = ((x .0, subst (λ g. Fits g a) (sym (x .1)) f), x .1)
+    formed-move : (ρ : Trace) → Formed h ρ → (y : Move A) → FitsMove h y → FormedStand (take-move ρ y)
+    formed-move ρ x no-move f = tt
+    formed-move ρ x (move a l) f = ((x .0, subst (λ g. Fits g a) (sym (x .1)) f), x .1)
 
     pub formed-walk : (p : Path) → FormedStand (walk moves origin start p)
-    formed-walk root = formed
-    formed-walk (p ▹ d) = formed-onward (walk moves origin start p) d (formed-walk p)
+    formed-walk p = walk-keeps moves FormedStand tt (λ k ρ d x. formed-move ρ x (moves k d) (fit k d)) origin start formed p
 
   -- The executions of a proper macro from a formed start are formed.
   pub run-formed : (start : Trace) (m : Block) → Formed h start → ProperBlock m h → (p : Path) (l : Place ℕ) (ρ : Trace) → run start m p ≡ stand l ρ → Formed h ρ

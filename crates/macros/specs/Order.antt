@@ -21,62 +21,62 @@ abbrev pub steps : Path → ℕ
 steps root = 0
 steps (p ▹ b) = suc (steps p)
 
-abbrev pub Sooner : Branch → Branch → Type 0
-Sooner first first = ⊥
-Sooner first second = Unit {0}
-Sooner second c = ⊥
+abbrev pub BranchBefore : Branch → Branch → Type 0
+BranchBefore first first = ⊥
+BranchBefore first second = Unit {0}
+BranchBefore second c = ⊥
 
 -- Of two paths with as many letters: at the first branch where they part, p takes the earlier one.
-abbrev pub Parts : Path → Path → Type 0
-Parts root q = ⊥
-Parts (p ▹ b) root = ⊥
-Parts (p ▹ b) (q ▹ c) = Parts p q ⊎ ((p ≡ q) × Sooner b c)
+abbrev pub LexicallyBefore : Path → Path → Type 0
+LexicallyBefore root q = ⊥
+LexicallyBefore (p ▹ b) root = ⊥
+LexicallyBefore (p ▹ b) (q ▹ c) = LexicallyBefore p q ⊎ ((p ≡ q) × BranchBefore b c)
 
 -- Shorter first, then by branch.
 abbrev pub Before : Path → Path → Type 0
-Before p q = (steps p < steps q) ⊎ ((steps p ≡ steps q) × Parts p q)
+Before p q = (steps p < steps q) ⊎ ((steps p ≡ steps q) × LexicallyBefore p q)
 
 -- p is q or comes before it.
-abbrev pub Till : Path → Path → Type 0
-Till p q = (p ≡ q) ⊎ Before p q
+abbrev pub AtOrBefore : Path → Path → Type 0
+AtOrBefore p q = (p ≡ q) ⊎ Before p q
 
 -- ── a strict total order ──
-sooner-not : (b : Branch) → ¬ Sooner b b
+sooner-not : (b : Branch) → ¬ BranchBefore b b
 sooner-not first s = s
 sooner-not second s = s
 
-sooner-join : (b c d : Branch) → Sooner b c → Sooner c d → Sooner b d
+sooner-join : (b c d : Branch) → BranchBefore b c → BranchBefore c d → BranchBefore b d
 sooner-join first first d s t = absurd s
 sooner-join first second d s t = absurd t
 sooner-join second c d s t = s
 
-sooner-or : (b c : Branch) → (b ≡ c) ⊎ (Sooner b c ⊎ Sooner c b)
+sooner-or : (b c : Branch) → (b ≡ c) ⊎ (BranchBefore b c ⊎ BranchBefore c b)
 sooner-or first first = inl refl
 sooner-or first second = inr (inl tt)
 sooner-or second first = inr (inr tt)
 sooner-or second second = inl refl
 
-parts-not : (p : Path) → ¬ Parts p p
+parts-not : (p : Path) → ¬ LexicallyBefore p p
 parts-not root s = s
 parts-not (p ▹ b) (inl s) = parts-not p s
 parts-not (p ▹ b) (inr s) = sooner-not b (s .1)
 
-parts-join : (p q r : Path) → Parts p q → Parts q r → Parts p r
+parts-join : (p q r : Path) → LexicallyBefore p q → LexicallyBefore q r → LexicallyBefore p r
 parts-join root q r s t = absurd s
 parts-join (p ▹ b) root r s t = absurd s
 parts-join (p ▹ b) (q ▹ c) root s t = absurd t
 parts-join (p ▹ b) (q ▹ c) (r ▹ d) (inl s) (inl t) = inl (parts-join p q r s t)
-parts-join (p ▹ b) (q ▹ c) (r ▹ d) (inl s) (inr t) = inl (subst (Parts p) (t .0) s)
-parts-join (p ▹ b) (q ▹ c) (r ▹ d) (inr s) (inl t) = inl (subst (λ x. Parts x r) (sym (s .0)) t)
+parts-join (p ▹ b) (q ▹ c) (r ▹ d) (inl s) (inr t) = inl (subst (LexicallyBefore p) (t .0) s)
+parts-join (p ▹ b) (q ▹ c) (r ▹ d) (inr s) (inl t) = inl (subst (λ x. LexicallyBefore x r) (sym (s .0)) t)
 parts-join (p ▹ b) (q ▹ c) (r ▹ d) (inr s) (inr t) = inr (s .0 ∙ t .0, sooner-join b c d (s .1) (t .1))
 
-parts-or : (p q : Path) → steps p ≡ steps q → (p ≡ q) ⊎ (Parts p q ⊎ Parts q p)
+parts-or : (p q : Path) → steps p ≡ steps q → (p ≡ q) ⊎ (LexicallyBefore p q ⊎ LexicallyBefore q p)
 parts-or root root e = inl refl
 parts-or root (q ▹ c) e = absurd (omega arith)
 parts-or (p ▹ b) root e = absurd (omega arith)
 parts-or (p ▹ b) (q ▹ c) e = go (parts-or p q (omega arith)) (sooner-or b c)
   where
-    go : (p ≡ q) ⊎ (Parts p q ⊎ Parts q p) → (b ≡ c) ⊎ (Sooner b c ⊎ Sooner c b) → (p ▹ b ≡ q ▹ c) ⊎ (Parts (p ▹ b) (q ▹ c) ⊎ Parts (q ▹ c) (p ▹ b))
+    go : (p ≡ q) ⊎ (LexicallyBefore p q ⊎ LexicallyBefore q p) → (b ≡ c) ⊎ (BranchBefore b c ⊎ BranchBefore c b) → (p ▹ b ≡ q ▹ c) ⊎ (LexicallyBefore (p ▹ b) (q ▹ c) ⊎ LexicallyBefore (q ▹ c) (p ▹ b))
     go (inl u) (inl v) = inl (λ i. u i ▹ v i)
     go (inl u) (inr (inl v)) = inr (inl (inr (u, v)))
     go (inl u) (inr (inr v)) = inr (inr (inr (sym u, v)))
@@ -109,29 +109,29 @@ pub before-grow : (p q : Path) (b c : Branch) → Before p q → Before (p ▹ b
 before-grow p q b c (inl l) = inl (omega arith)
 before-grow p q b c (inr s) = inr (ap suc (s .0), inl (s .1))
 
-pub before-last : (p : Path) (b c : Branch) → Sooner b c → Before (p ▹ b) (p ▹ c)
+pub before-last : (p : Path) (b c : Branch) → BranchBefore b c → Before (p ▹ b) (p ▹ c)
 before-last p b c s = inr (refl, inr (refl, s))
 
-pub till-grow : (p q : Path) (b : Branch) → Till p q → Till (p ▹ b) (q ▹ b)
+pub till-grow : (p q : Path) (b : Branch) → AtOrBefore p q → AtOrBefore (p ▹ b) (q ▹ b)
 till-grow p q b (inl e) = inl (ap (λ x. x ▹ b) e)
 till-grow p q b (inr s) = inr (before-grow p q b b s)
 
-pub till-before : (p q r : Path) → Till p q → Before q r → Before p r
+pub till-before : (p q r : Path) → AtOrBefore p q → Before q r → Before p r
 till-before p q r (inl e) t = subst (λ x. Before x r) (sym e) t
 till-before p q r (inr s) t = before-join p q r s t
 
-pub before-till : (p q r : Path) → Before p q → Till q r → Before p r
+pub before-till : (p q r : Path) → Before p q → AtOrBefore q r → Before p r
 before-till p q r s (inl e) = subst (Before p) e s
 before-till p q r s (inr t) = before-join p q r s t
 
-pub till-join : (p q r : Path) → Till p q → Till q r → Till p r
-till-join p q r s (inl e) = subst (Till p) e s
+pub till-join : (p q r : Path) → AtOrBefore p q → AtOrBefore q r → AtOrBefore p r
+till-join p q r s (inl e) = subst (AtOrBefore p) e s
 till-join p q r s (inr t) = inr (till-before p q r s t)
 
-pub till-not : (p q : Path) → Till p q → ¬ Before q p
+pub till-not : (p q : Path) → AtOrBefore p q → ¬ Before q p
 till-not p q s t = before-not p (till-before p q p s t)
 
-pub till-steps : (p q : Path) → Till p q → steps p ≤ steps q
+pub till-steps : (p q : Path) → AtOrBefore p q → steps p ≤ steps q
 till-steps p q (inl e) = let f = ap steps e in omega arith
 till-steps p q (inr (inl l)) = omega arith
 till-steps p q (inr (inr s)) = omega arith

@@ -14,9 +14,9 @@ use Rattle.macros.specs.Numbers.{less-or}
 use Rattle.macros.specs.Tree.{Condition, equal, unequal, test, opposite, Statement, skip, perform, assert, if, while, Else, absent, present, Block, empty, _then_}
 use Rattle.macros.specs.Executions.{Partial, Complete, Failing}
 use Rattle.macros.specs.Order.{Branch, first, second, Path, steps}
-use Rattle.macros.specs.Walk.{Place, at, failure, Move, no-move, move, stand, walk, walk-begins, walk-steps, walk-once, on-place, on-move, on-stand, on-stand-back, same-walk}
+use Rattle.macros.specs.Walk.{Place, at, failure, Move, no-move, move, Stand, nowhere, stand, take-move, walk, walk-keeps, walk-begins, walk-steps, walk-once, on-place, on-move, on-stand, on-stand-back, same-walk}
 use Rattle.macros.specs.Branches.{_before_, elseBlock, due, branches, perform-along, before-empty, complete-walk, failing-walk, partial-walk}
-use Rattle.macros.specs.Points.{Point, step, check, fork, size, sizeElse, sizeBlock, entry, entry-then, compile, compileElse, compileBlock, compile-length, compileBlock-length, points, entrance, moves, moved, moves-at, run}
+use Rattle.macros.specs.Points.{Point, step, check, fork, size, sizeElse, sizeBlock, entry, entry-then, compile, compileElse, compileBlock, compile-length, compileBlock-length, points, entrance, moves, moved, moves-at, run, every-moves, LeadsWithin, entry-within, points-lead}
 
 -- ── a part of a list, from number b on ──
 module _ {A : Type 0} where
@@ -322,3 +322,45 @@ run-once start m ρ p q k l u v =
 
 pub run-steps : (start : Trace) (m : Block) (ρ : Trace) (p : Path) (l : Place ℕ) → run start m p ≡ stand l ρ → letters ρ ≡ letters start + steps p
 run-steps start m ρ p l e = walk-steps (moves-at (points m)) (entrance m) start (walk-begins (moves-at (points m)) (entrance m) start p l ρ e) p l e
+
+-- ── a run comes to a point or to the end ──
+module _ (n : ℕ) where
+  abbrev MoveWithin : Move ℕ → Type 0
+  MoveWithin no-move = Unit {0}
+  MoveWithin (move a failure) = Unit {0}
+  MoveWithin (move a (at i)) = i ≤ n
+
+  abbrev StandsWithin : Stand ℕ → Type 0
+  StandsWithin nowhere = Unit {0}
+  StandsWithin (stand failure ρ) = Unit {0}
+  StandsWithin (stand (at i) ρ) = i ≤ n
+
+  leads-moves : (x : Point) (d : Branch) → LeadsWithin n x → MoveWithin (moves x d)
+  leads-moves (step a i) first u = u
+  leads-moves (step a i) second u = tt
+  leads-moves (check c i) first u = tt
+  leads-moves (check c i) second u = u
+  leads-moves (fork c i j) first u = u .0
+  leads-moves (fork c i j) second u = u .1
+
+  take-within : (ρ : Trace) (x : Move ℕ) → MoveWithin x → StandsWithin (take-move ρ x)
+  take-within ρ no-move u = tt
+  take-within ρ (move a failure) u = tt
+  take-within ρ (move a (at i)) u = u
+
+pub run-bound : (start : Trace) (m : Block) (p : Path) (n : ℕ) (ρ : Trace) → run start m p ≡ stand (at n) ρ → n ≤ sizeBlock m
+run-bound start m p n ρ e =
+    subst (StandsWithin (sizeBlock m)) e
+    (walk-keeps (moves-at (points m)) (StandsWithin (sizeBlock m)) tt
+    (λ k ρ b x. take-within (sizeBlock m) ρ (moves-at (points m) k b) (every-moves (LeadsWithin (sizeBlock m)) (MoveWithin (sizeBlock m)) tt (leads-moves (sizeBlock m)) (points m) k b (points-lead m)))
+    (entrance m) start (entry-within (sizeBlock m) 0 (sizeBlock m) (sizeBlock m) (omega arith) (omega arith)) p)
+
+-- Those that run through the whole macro come to the number after its last point.
+pub complete-end : (start : Trace) (m : Block) (ρ : Trace) → Complete start m ρ ↔ ((p : Path) × (run start m p ≡ stand (at (sizeBlock m)) ρ))
+complete-end start m ρ = (
+  λ x. let (p, n, l, e) = complete-is start m ρ .0 x in
+      let b = run-bound start m p n ρ e in
+      let same : n ≡ sizeBlock m = omega arith in
+      (p, e ∙ ap (λ k. stand (at k) ρ) same),
+  λ (p, e). complete-is start m ρ .1 (p, sizeBlock m, omega arith, e),
+)

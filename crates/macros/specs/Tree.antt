@@ -38,7 +38,8 @@ mutual
     empty : Block
     _then_ : Statement → Block → Block
 
--- The letters of a macro fit its header: what is used is declared, and a function has as many arguments as declared.
+-- The letters of a macro fit its header: what is used is declared, and the application of a one-argument function has its argument twice. That the
+-- text gives a function the declared number of arguments is the reader's question 11.
 abbrev mutual
   pub Proper : Statement → Header → Type 0
   Proper skip h = Unit {0}

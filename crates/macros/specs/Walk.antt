@@ -1,14 +1,14 @@
 -- Walks, letter by letter: places, the branches at each place, and where a path leads.
 use mathlib.Core.Path.{_≡_, refl, sym, ap, _∙_, subst}
-use Prim.Native.Nat.{ℕ, _+_, _≤_}
+use Prim.Native.Nat.{ℕ, _+_}
 use native.Mathlib.Omega.{arith}
 use Rattle.letters.specs.declared.Letter.{Letter}
 use Rattle.semantics.specs.Terms.{Trace, _▸_}
 use Rattle.semantics.specs.Coherence.{size as letters}
-use Rattle.macros.specs.Executions.{Begins, whole, before, begins-join}
+use Rattle.semantics.specs.Prefixes.{Begins, whole, before, begins-join, begins-size}
 use Rattle.macros.specs.Order.{Branch, Path, root, _▹_, steps}
 
--- Where a walk stands: at a place from which it may go on, or at a failure.
+-- Where a walk stands: at a point or the end, or at a failure.
 pub data Place (A : Type 0) : Type 0 where
   at : A → Place A
   failure : Place A
@@ -39,9 +39,17 @@ module _ {A : Type 0} (moves : A → Branch → Move A) where
   walk origin start (p ▹ b) = onward (walk origin start p) b
 
 -- ── laws ──
-pub begins-letters : {ρ π : Trace} → Begins ρ π → letters ρ ≤ letters π
-begins-letters whole = omega arith
-begins-letters (before b) = let l = begins-letters b in omega arith
+-- What holds at the start, and after each move from where it holds, holds of every walk.
+module _ {A : Type 0} (moves : A → Branch → Move A) (P : Stand A → Type 0) (none : P nowhere)
+    (step : (k : A) (ρ : Trace) (b : Branch) → P (stand (at k) ρ) → P (take-move ρ (moves k b))) where
+  keeps-onward : (z : Stand A) (b : Branch) → P z → P (onward moves z b)
+  keeps-onward nowhere b x = none
+  keeps-onward (stand failure ρ) b x = none
+  keeps-onward (stand (at k) ρ) b x = step k ρ b x
+
+  pub walk-keeps : (origin : A) (start : Trace) → P (stand (at origin) start) → (p : Path) → P (walk moves origin start p)
+  walk-keeps origin start x root = x
+  walk-keeps origin start x (p ▹ b) = keeps-onward (walk moves origin start p) b (walk-keeps origin start x p)
 
 module _ {A : Type 0} (moves : A → Branch → Move A) (origin : A) (start : Trace) where
   -- the letters of a walk come after those of the start
@@ -49,21 +57,12 @@ module _ {A : Type 0} (moves : A → Branch → Move A) (origin : A) (start : Tr
   After nowhere = Unit {0}
   After (stand l ρ) = Begins start ρ
 
-  after-onward : (z : Stand A) (b : Branch) → After z → After (onward moves z b)
-  after-onward nowhere b x = tt
-  after-onward (stand failure ρ) b x = tt
-  after-onward (stand (at k) ρ) b x = go (moves k b)
-    where
-      go : (y : Move A) → After (take-move ρ y)
-      go no-move = tt
-      go (move a l) = before x
-
-  after : (p : Path) → After (walk moves origin start p)
-  after root = whole
-  after (p ▹ b) = after-onward (walk moves origin start p) b (after p)
+  after-move : (ρ : Trace) → Begins start ρ → (y : Move A) → After (take-move ρ y)
+  after-move ρ x no-move = tt
+  after-move ρ x (move a l) = before x
 
   pub walk-begins : (p : Path) (l : Place A) (ρ : Trace) → walk moves origin start p ≡ stand l ρ → Begins start ρ
-  walk-begins p l ρ e = subst After e (after p)
+  walk-begins p l ρ e = subst After e (walk-keeps moves After tt (λ k ρ b x. after-move ρ x (moves k b)) origin start whole p)
 
   -- the last move of a walk that has letters of its own
   pub record Last (p : Path) (l : Place A) (ρ : Trace) (a : Letter) : Type 0 where
@@ -77,7 +76,7 @@ module _ {A : Type 0} (moves : A → Branch → Move A) (origin : A) (start : Tr
   pub last : (p : Path) (l : Place A) (ρ : Trace) (a : Letter) → walk moves origin start p ≡ stand l (ρ ▸ a) → Begins start ρ → Last p l ρ a
   last root l ρ a e x =
       let f : start ≡ ρ ▸ a = cc in
-      let g = begins-letters x in
+      let g = begins-size x in
       let h = ap letters f in
       absurd (omega arith)
   last (p ▹ b) l ρ a e x = go (walk moves origin start p) refl e
@@ -108,7 +107,7 @@ module _ {A : Type 0} (moves : A → Branch → Move A) (origin : A) (start : Tr
       taken k π no-move u w = let z : _≡_ {A = ℕ} 0 1 = cc in omega arith
       taken k π (move c j) u w =
           let f : π ▸ c ≡ start = cc in
-          let g = begins-letters (walk-begins p (at k) π u) in
+          let g = begins-size (walk-begins p (at k) π u) in
           let h = ap letters f in
           omega arith
 

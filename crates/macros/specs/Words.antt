@@ -4,6 +4,7 @@ use mathlib.Core.Logic.{_↔_}
 use mathlib.Core.List.{List, [], _∷_, _++_}
 use Rattle.letters.specs.declared.Letter.{Letter}
 use Rattle.semantics.specs.Terms.{Trace, _▸_, extend}
+use Rattle.semantics.specs.TraceLaws.{extend-append}
 use Rattle.macros.specs.Tree.{Condition, test, opposite, Statement, skip, perform, assert, if, while, Else, absent, present, Block, empty, _then_}
 use Rattle.macros.specs.Executions.{Outcome, done, failed, Exec, ExecElse, ExecBlock}
 use Rattle.macros.specs.Executions
@@ -31,10 +32,6 @@ mutual
     ends : {s : Statement} {b : Block} {w : List Letter} → Word s w failed → WordBlock (s then b) w failed
 
 -- ── laws ──
-extend-append : (ρ : Trace) (u v : List Letter) → extend ρ (u ++ v) ≡ extend (extend ρ u) v
-extend-append ρ [] v = refl
-extend-append ρ (a ∷ u) v = extend-append (ρ ▸ a) u v
-
 mutual
   word-exec : {s : Statement} {w : List Letter} {o : Outcome} → Word s w o → (ρ : Trace) → Exec s ρ (extend ρ w) o
   word-exec nothing ρ = Executions.nothing

@@ -1,4 +1,5 @@
--- Data models over any type of values (source document 000, 2.3.3). "Infinite models change nothing" (document 01).
+-- Data models over any type of values, finite or not (source document 000, 2.3.3): any type of `Type 0`, where all the data of this work lies.
+-- "Infinite models change nothing" (document 01).
 use mathlib.Core.Path.{_≡_}
 use mathlib.Core.List.{List}
 use Prim.Native.Nat.{ℕ}
@@ -20,5 +21,5 @@ pub record SatisfiesIn (M : AnyModel) (E D : List (Term × Term)) : Type 0 where
   pub unequal-hold : (s t : Term) → (s, t) ∈ D → ¬ (evalIn M s ≡ evalIn M t)
 
 -- Some model, over whatever values, satisfies all tests.
-abbrev pub FeasibleAnywhere : State → Type 1
-FeasibleAnywhere σ = (M : AnyModel) × SatisfiesIn M (σ .equals) (σ .unequals)
+abbrev pub FeasibleInSomeModel : State → Type 1
+FeasibleInSomeModel σ = (M : AnyModel) × SatisfiesIn M (σ .equals) (σ .unequals)

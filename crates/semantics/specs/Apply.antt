@@ -9,7 +9,7 @@ use Rattle.semantics.specs.Terms.{_∈_, Term, app, State}
 use Rattle.semantics.specs.Closure.{reflexive, symmetric, transitive, Equivalent, Held}
 use Rattle.semantics.specs.Coherence.{Memoizing}
 use Rattle.semantics.specs.Climb.{from, up, Reaches, reaches-equal, above-climbs, climbs-above}
-use Rattle.semantics.specs.Window.{Match, Same, Apart, Result, Ever, Marked}
+use Rattle.semantics.specs.Window.{Match, Same, Apart, Result, EverComputed, Marked}
 use Rattle.semantics.specs.Facts.{Valid, closure-in}
 use Rattle.semantics.specs.ClosureLaws.{weaken}
 use Rattle.semantics.specs.Extend.{extend-old, extend-new}
@@ -33,6 +33,11 @@ grown σ f y z = record {
   unequals = σ .unequals;
   value = push (app f (σ .value y) (σ .value z)) (σ .value);
 }
+
+-- the sides of an unequal test, in either order, are computed terms
+tested-in : (σ : State) → Valid σ → (s t : Term) → ((s, t) ∈ σ .unequals) ⊎ ((t, s) ∈ σ .unequals) → (s ∈ σ .terms) × (t ∈ σ .terms)
+tested-in σ v s t (inl k) = v .unequal-sides s t k
+tested-in σ v s t (inr k) = let (i, j) = v .unequal-sides t s k in (j, i)
 
 module _ (σ : State) (v : Valid σ) (f y z : ℕ) (yb : y < σ .header .registers) (zb : z < σ .header .registers) where
   abbrev Y : Term
@@ -142,14 +147,14 @@ module _ (σ : State) (v : Valid σ) (f y z : ℕ) (yb : y < σ .header .registe
       match-more (symmetric (link a ab)) (symmetric (link b bb)) (symmetric (link c cb)),
     )
 
-    pub ever-known : (g a b : ℕ) → Below⁺ a → Below⁺ b → Ever σ⁺ g a b ↔ Ever σ g (down w a) (down w b)
+    pub ever-known : (g a b : ℕ) → Below⁺ a → Below⁺ b → EverComputed σ⁺ g a b ↔ EverComputed σ g (down w a) (down w b)
     ever-known g a b ab bb = (
       λ (s, m). fwd s m (listed (m .listed)),
       λ (s, m). (s, match-more (symmetric (link a ab)) (symmetric (link b bb)) (more (reflexive ((closure-in σ v (m .gives)) .1))) m),
     )
       where
         fwd : (s : Term) (m : Match (σ⁺ .terms) (σ⁺ .equals) g (push new (σ .value) a) (push new (σ .value) b) s) → Listed g (m .first) (m .second)
-            → Ever σ g (down w a) (down w b)
+            → EverComputed σ g (down w a) (down w b)
         fwd s m (before k i j) =
             (app g (m .first) (m .second), match-known (down-in a ab) (down-in b bb) k (link a ab) (link b bb) (symmetric (m .gives)) m)
         fwd s m (now h i j) = (
@@ -170,13 +175,9 @@ module _ (σ : State) (v : Valid σ) (f y z : ℕ) (yb : y < σ .header .registe
       },
     )
       where
-        in-terms : (s t : Term) → ((s, t) ∈ σ .unequals) ⊎ ((t, s) ∈ σ .unequals) → (s ∈ σ .terms) × (t ∈ σ .terms)
-        in-terms s t (inl k) = v .unequal-sides s t k
-        in-terms s t (inr k) = let (i, j) = v .unequal-sides t s k in (j, i)
-
         fwd : Apart σ⁺ a b → Apart σ (down w a) (down w b)
         fwd m =
-            let (i, j) = in-terms (m .left) (m .right) (m .tested) in
+            let (i, j) = tested-in σ v (m .left) (m .right) (m .tested) in
             record {
               left = m .left;
               right = m .right;
@@ -264,7 +265,7 @@ module _ (σ : State) (v : Valid σ) (f y z : ℕ) (yb : y < σ .header .registe
             }
 
   -- ── where the term is new: number 0 is alone in its class, and nothing lies above it ──
-  module _ (fresh : ¬ Ever σ f y z) where
+  module _ (fresh : ¬ EverComputed σ f y z) where
     far : {s : Term} → s ∈ σ .terms → Equivalent σ⁺ s new → ⊥
     far m c = fresh (_, extend-new σ v f ym zm m .0 (symmetric c))
 
@@ -282,18 +283,18 @@ module _ (σ : State) (v : Valid σ) (f y z : ℕ) (yb : y < σ .header .registe
     argument-in (now h i j) = (Memᴰ·cast i ym, Memᴰ·cast j zm)
 
     -- the new term is no argument
-    pub ever-new-first : (g b : ℕ) → Ever σ⁺ g 0 b → ⊥
+    pub ever-new-first : (g b : ℕ) → EverComputed σ⁺ g 0 b → ⊥
     ever-new-first g b (s, m) = far ((argument-in (listed (m .listed))) .0) (m .at-first)
 
-    pub ever-new-second : (g a : ℕ) → Ever σ⁺ g a 0 → ⊥
+    pub ever-new-second : (g a : ℕ) → EverComputed σ⁺ g a 0 → ⊥
     ever-new-second g a (s, m) = far ((argument-in (listed (m .listed))) .1) (m .at-second)
 
     pub ever-old : (g a b : ℕ) → a < σ .header .registers → b < σ .header .registers
-        → Ever σ⁺ g (suc a) (suc b) ↔ (Ever σ g a b ⊎ ((g ≡ f) × Same σ y a × Same σ z b))
+        → EverComputed σ⁺ g (suc a) (suc b) ↔ (EverComputed σ g a b ⊎ ((g ≡ f) × Same σ y a × Same σ z b))
     ever-old g a b ab bb = (λ (s, m). fwd s m (listed (m .listed)), bwd)
       where
         fwd : (s : Term) (m : Match (σ⁺ .terms) (σ⁺ .equals) g (σ .value a) (σ .value b) s) → Listed g (m .first) (m .second)
-            → Ever σ g a b ⊎ ((g ≡ f) × Same σ y a × Same σ z b)
+            → EverComputed σ g a b ⊎ ((g ≡ f) × Same σ y a × Same σ z b)
         fwd s m (before k i j) = inl (
           app g (m .first) (m .second),
           record {
@@ -312,7 +313,7 @@ module _ (σ : State) (v : Valid σ) (f y z : ℕ) (yb : y < σ .header .registe
               older zm (v .values b bb) (subst (λ u. Equivalent σ⁺ u (σ .value b)) j (m .at-second)),
             )
 
-        bwd : Ever σ g a b ⊎ ((g ≡ f) × Same σ y a × Same σ z b) → Ever σ⁺ g (suc a) (suc b)
+        bwd : EverComputed σ g a b ⊎ ((g ≡ f) × Same σ y a × Same σ z b) → EverComputed σ⁺ g (suc a) (suc b)
         bwd (inl (s, m)) = (
           s,
           record {
@@ -384,19 +385,15 @@ module _ (σ : State) (v : Valid σ) (f y z : ℕ) (yb : y < σ .header .registe
           older zm (v .values b bb) (subst (λ u. Equivalent σ⁺ u (σ .value b)) j (m .at-second)),
         )
 
-    tested-in : (s t : Term) → ((s, t) ∈ σ .unequals) ⊎ ((t, s) ∈ σ .unequals) → (s ∈ σ .terms) × (t ∈ σ .terms)
-    tested-in s t (inl k) = v .unequal-sides s t k
-    tested-in s t (inr k) = let (i, j) = v .unequal-sides t s k in (j, i)
-
     pub apart-new-left : (b : ℕ) → Apart σ⁺ 0 b → ⊥
-    apart-new-left b m = far ((tested-in (m .left) (m .right) (m .tested)) .0) (m .at-left)
+    apart-new-left b m = far ((tested-in σ v (m .left) (m .right) (m .tested)) .0) (m .at-left)
 
     pub apart-new-right : (a : ℕ) → Apart σ⁺ a 0 → ⊥
-    apart-new-right a m = far ((tested-in (m .left) (m .right) (m .tested)) .1) (m .at-right)
+    apart-new-right a m = far ((tested-in σ v (m .left) (m .right) (m .tested)) .1) (m .at-right)
 
     pub apart-old : (a b : ℕ) → a < σ .header .registers → b < σ .header .registers → Apart σ⁺ (suc a) (suc b) ↔ Apart σ a b
     apart-old a b ab bb = (
-      λ m. let (i, j) = tested-in (m .left) (m .right) (m .tested) in
+      λ m. let (i, j) = tested-in σ v (m .left) (m .right) (m .tested) in
           record {
             left = m .left;
             right = m .right;
@@ -473,7 +470,7 @@ module _ (σ : State) (v : Valid σ) (f y z : ℕ) (yb : y < σ .header .registe
             }
 
   -- ── memoizing, in the window's words ──
-  pub memoizing : (x : ℕ) → Memoizing σ x f y z ↔ (Ever σ f y z → (r : ℕ) × (r < σ .header .registers) × Result σ f y z r)
+  pub memoizing : (x : ℕ) → Memoizing σ x f y z ↔ (EverComputed σ f y z → (r : ℕ) × (r < σ .header .registers) × Result σ f y z r)
   memoizing x = (
     λ h (s, m). let (r, b, c) = h (app f (m .first) (m .second)) (m .listed) (extend-new σ v f ym zm (m .listed) .1 (record {
       first = m .first;

@@ -12,7 +12,8 @@ use Rattle.semantics.specs.Booleans.{or-not}
 use Rattle.semantics.specs.Terms.{State, after, Trace, _▸_, state, WellFormed, extend}
 use Rattle.semantics.specs.Facts.{Valid, after-valid, state-valid}
 use Rattle.semantics.specs.Coherence.{CoherentLetter, Coherent}
-use Rattle.semantics.specs.JudgementLaws.{beginning-has, extend-beginning, coherent-closed}
+use Rattle.semantics.specs.Prefixes.{begins-extend, begins-has}
+use Rattle.semantics.specs.JudgementLaws.{coherent-closed}
 use Rattle.semantics.specs.Window.{View, Tracks}
 use Rattle.semantics.specs.SameWindow.{SameWindow, agree-is, view-unique, tracks-same}
 use Rattle.semantics.specs.Of.{windowOf, tracks-of}
@@ -66,10 +67,10 @@ pub carries : (ρ π : Trace) (l : List Letter) → SameWindow (state ρ) (state
     → Coherent (extend π l) × SameWindow (state (extend ρ l)) (state (extend π l))
 carries ρ π [] same f g c d = (d, same)
 carries ρ π (a ∷ l) same f g c d =
-    let h = beginning-has WellFormed (λ κ b w. w .0) (extend-beginning (ρ ▸ a) l) f in
-    let k = beginning-has WellFormed (λ κ b w. w .0) (extend-beginning (π ▸ a) l) g in
+    let h = begins-has WellFormed (λ κ b w. w .0) (begins-extend (ρ ▸ a) l) f in
+    let k = begins-has WellFormed (λ κ b w. w .0) (begins-extend (π ▸ a) l) g in
     let v = state-valid ρ (h .0) in
     let u = state-valid π (k .0) in
-    let e = (beginning-has Coherent coherent-closed (extend-beginning (ρ ▸ a) l) c) .1 in
+    let e = (begins-has Coherent coherent-closed (begins-extend (ρ ▸ a) l) c) .1 in
     carries (ρ ▸ a) (π ▸ a) l (window-after (state ρ) (state π) v u same a (h .1) (k .1) e) f g c
     (d, coherent-same (state ρ) (state π) v u same a (h .1) (k .1) .0 e)

@@ -1,7 +1,7 @@
 -- More terms and more tests keep what is equal in the closure.
 use mathlib.Core.List.{List, _∷_, List·Memᴰ·tail}
-use Rattle.semantics.specs.Terms.{_∈_, Term}
-use Rattle.semantics.specs.Closure.{Closure, reflexive, test, symmetric, transitive, congruence}
+use Rattle.semantics.specs.Terms.{_∈_, Term, State}
+use Rattle.semantics.specs.Closure.{Closure, reflexive, test, symmetric, transitive, congruence, Equivalent, Held}
 
 pub weaken : {U W : List Term} {E : List (Term × Term)} → ((t : Term) → t ∈ U → t ∈ W) → {s t : Term} → Closure U E s t → Closure W E s t
 weaken h (reflexive m) = reflexive (h _ m)
@@ -16,3 +16,7 @@ more-tests e (test m) = test (List·Memᴰ·tail m)
 more-tests e (symmetric c) = symmetric (more-tests e c)
 more-tests e (transitive c d) = transitive (more-tests e c) (more-tests e d)
 more-tests e (congruence i j p q) = congruence i j (more-tests e p) (more-tests e q)
+
+-- A register that holds a term holds what is equal to it.
+abbrev pub held-equal : (σ : State) {s t : Term} → Held σ s → Equivalent σ s t → Held σ t
+held-equal σ h c = (h .0, h .1, transitive (symmetric c) (h .2))

@@ -6,7 +6,7 @@ use Rattle.semantics.specs.Terms.{_∈_, Term, app, State, after}
 use Rattle.semantics.specs.Closure.{reflexive, symmetric, transitive, Equivalent, Held}
 use Rattle.semantics.specs.Coherence.{Early}
 use Rattle.semantics.specs.Climb.{Reaches, from, up, reaches-equal, above-climbs, climbs-above}
-use Rattle.semantics.specs.Window.{Apart, Result, Ever, Marked}
+use Rattle.semantics.specs.Window.{Apart, Result, EverComputed, Marked}
 use Rattle.semantics.specs.Shown.{Clash}
 use Rattle.semantics.specs.Facts.{Valid}
 use Rattle.semantics.specs.ClosureLaws.{more-tests}
@@ -69,7 +69,7 @@ module _ (σ : State) (v : Valid σ) (x y : ℕ) (xb : x < σ .header .registers
         },
   )
 
-  pub ever-after : (f a b : ℕ) → Below a → Below b → Ever σ′ f a b ↔ ((p : ℕ) × (q : ℕ) × Below p × Below q × Ever σ f p q × L p a × L q b)
+  pub ever-after : (f a b : ℕ) → Below a → Below b → EverComputed σ′ f a b ↔ ((p : ℕ) × (q : ℕ) × Below p × Below q × EverComputed σ f p q × L p a × L q b)
   ever-after f a b ab bb = (
     λ (t, m).
         let (h, k) = place a ab (m .at-first) in

@@ -5,6 +5,7 @@ use mathlib.Core.List.{List, [], _∷_}
 use Prim.Native.Nat.{ℕ}
 use lib.Dec.{T, eqb, eqb→eq}
 use Rattle.letters.specs.declared.Header.{Header}
+use Rattle.letters.specs.Words.{fitsTest, applyTest}
 use Rattle.letters.specs.declared.Letter.the-variants.{Copy, Apply, Equal, Unequal}
 use Rattle.semantics.specs.Booleans.{and-l, and-r}
 use Rattle.semantics.specs.Lists.{all-e}
@@ -19,11 +20,13 @@ use Rattle.semantics.specs.Judge.{formed, formed-e}
 use Rattle.semantics.specs.Judgement.{Judgement, coherentPart, incoherentLetter, infeasibleLetter, firstInfeasible}
 use Rattle.semantics.specs.JudgementLaws.{judgement-is, first-infeasible-is}
 
--- A trace, the letter at which it is incoherent and that at which it is infeasible; 0 for none.
+-- A trace, the letters that a run names, the incoherent one and the infeasible one before it, and the letter at which the whole trace is
+-- infeasible, which the whole-trace engine names; 0 for none.
 pub record Example : Type 0 where
   pub trace : Trace
   pub incoherent : ℕ
   pub infeasible : ℕ
+  pub whole : ℕ
 
 -- A header of n registers and one function, of one argument or of two. In the table f and n are function 0.
 abbrev pub one : ℕ → Trace
@@ -35,43 +38,44 @@ two n = begin (record { registers = n; functions = 1; binary = 1 })
 pub table : List Example
 table =
     -- header alone: coherent, feasible
-    record { trace = one 1; incoherent = 0; infeasible = 0 }
+    record { trace = one 1; incoherent = 0; infeasible = 0; whole = 0 }
     -- z:=f(x), z:=f(z), x=y: incoherent at 3. Registers x y z are 0 1 2
-    ∷ record { trace = one 3 ▸ Apply 2 0 0 0 ▸ Apply 2 0 2 2 ▸ Equal 0 1; incoherent = 3; infeasible = 0 }
+    ∷ record { trace = one 3 ▸ Apply 2 0 0 0 ▸ Apply 2 0 2 2 ▸ Equal 0 1; incoherent = 3; infeasible = 0; whole = 0 }
     -- y:=n(x), y:=n(y), x:=n(x): incoherent at 3. Registers x y are 0 1
-    ∷ record { trace = one 2 ▸ Apply 1 0 0 0 ▸ Apply 1 0 1 1 ▸ Apply 0 0 0 0; incoherent = 3; infeasible = 0 }
+    ∷ record { trace = one 2 ▸ Apply 1 0 0 0 ▸ Apply 1 0 1 1 ▸ Apply 0 0 0 0; incoherent = 3; infeasible = 0; whole = 0 }
     -- y:=x, x:=f(x), z:=f(y), x!=z: infeasible at 4. Registers x y z are 0 1 2
-    ∷ record { trace = one 3 ▸ Copy 1 0 ▸ Apply 0 0 0 0 ▸ Apply 2 0 1 1 ▸ Unequal 0 2; incoherent = 0; infeasible = 4 }
+    ∷ record { trace = one 3 ▸ Copy 1 0 ▸ Apply 0 0 0 0 ▸ Apply 2 0 1 1 ▸ Unequal 0 2; incoherent = 0; infeasible = 4; whole = 4 }
     -- z:=f(a,w), w:=a, z:=a, a=b: incoherent at 4. Registers a b w z are 0 1 2 3
-    ∷ record { trace = two 4 ▸ Apply 3 0 0 2 ▸ Copy 2 0 ▸ Copy 3 0 ▸ Equal 0 1; incoherent = 4; infeasible = 0 }
+    ∷ record { trace = two 4 ▸ Apply 3 0 0 2 ▸ Copy 2 0 ▸ Copy 3 0 ▸ Equal 0 1; incoherent = 4; infeasible = 0; whole = 0 }
     -- u:=f(x,w), v:=f(y,w), w:=x, x=y: incoherent at 4. Registers u v w x y are 0 1 2 3 4
-    ∷ record { trace = two 5 ▸ Apply 0 0 3 2 ▸ Apply 1 0 4 2 ▸ Copy 2 3 ▸ Equal 3 4; incoherent = 4; infeasible = 0 }
+    ∷ record { trace = two 5 ▸ Apply 0 0 3 2 ▸ Apply 1 0 4 2 ▸ Copy 2 3 ▸ Equal 3 4; incoherent = 4; infeasible = 0; whole = 0 }
     -- without w:=x it is coherent
-    ∷ record { trace = two 5 ▸ Apply 0 0 3 2 ▸ Apply 1 0 4 2 ▸ Equal 3 4; incoherent = 0; infeasible = 0 }
+    ∷ record { trace = two 5 ▸ Apply 0 0 3 2 ▸ Apply 1 0 4 2 ▸ Equal 3 4; incoherent = 0; infeasible = 0; whole = 0 }
     -- and a following u!=v is infeasible at 4
-    ∷ record { trace = two 5 ▸ Apply 0 0 3 2 ▸ Apply 1 0 4 2 ▸ Equal 3 4 ▸ Unequal 0 1; incoherent = 0; infeasible = 4 }
+    ∷ record { trace = two 5 ▸ Apply 0 0 3 2 ▸ Apply 1 0 4 2 ▸ Equal 3 4 ▸ Unequal 0 1; incoherent = 0; infeasible = 4; whole = 4 }
     -- y:=f(x), x=y, x:=f(x), x!=y: infeasible at 4. Registers x y are 0 1
-    ∷ record { trace = one 2 ▸ Apply 1 0 0 0 ▸ Equal 0 1 ▸ Apply 0 0 0 0 ▸ Unequal 0 1; incoherent = 0; infeasible = 4 }
+    ∷ record { trace = one 2 ▸ Apply 1 0 0 0 ▸ Equal 0 1 ▸ Apply 0 0 0 0 ▸ Unequal 0 1; incoherent = 0; infeasible = 4; whole = 4 }
     -- v1:=f(v0) up to v7:=f(v6), v0=v1, v0!=v7: infeasible at 9. Registers v0 to v7 are 0 to 7
     ∷ record {
       trace = one 8 ▸ Apply 1 0 0 0 ▸ Apply 2 0 1 1 ▸ Apply 3 0 2 2 ▸ Apply 4 0 3 3 ▸ Apply 5 0 4 4 ▸ Apply 6 0 5 5 ▸ Apply 7 0 6 6 ▸ Equal 0 1 ▸ Unequal 0 7;
       incoherent = 0;
       infeasible = 9;
+      whole = 9;
     }
     -- z:=f(x), z:=x, x=x: incoherent at 3. Registers x z are 0 1
-    ∷ record { trace = one 2 ▸ Apply 1 0 0 0 ▸ Copy 1 0 ▸ Equal 0 0; incoherent = 3; infeasible = 0 }
+    ∷ record { trace = one 2 ▸ Apply 1 0 0 0 ▸ Copy 1 0 ▸ Equal 0 0; incoherent = 3; infeasible = 0; whole = 0 }
     -- x!=x: infeasible at 1. Register x is 0
-    ∷ record { trace = one 1 ▸ Unequal 0 0; incoherent = 0; infeasible = 1 }
+    ∷ record { trace = one 1 ▸ Unequal 0 0; incoherent = 0; infeasible = 1; whole = 1 }
     ∷ []
 
--- What the table says of an example: a run over it names these letters, and so does the whole-trace engine, which knows no coherence.
+-- What the table says of an example: a run over it names these letters, and the whole-trace engine, which knows no coherence, names its own.
 pub record Holds (e : Example) : Type 0 where
   pub well-formed : WellFormed (e .trace)
   pub run : Judgement (e .trace) (e .incoherent) (e .infeasible)
-  pub whole : Judged (λ ρ. Feasible (state ρ)) (e .trace) (e .infeasible)
+  pub engine : Judged (λ ρ. Feasible (state ρ)) (e .trace) (e .whole)
 
 abbrev letters : Example → Bool
-letters e = eqb (infeasibleLetter (e .trace)) (e .infeasible) && eqb (firstInfeasible (e .trace)) (e .infeasible)
+letters e = eqb (infeasibleLetter (e .trace)) (e .infeasible) && eqb (firstInfeasible (e .trace)) (e .whole)
 
 abbrev right : Example → Bool
 right e = formed (e .trace) && (eqb (incoherentLetter (e .trace)) (e .incoherent) && letters e)
@@ -80,7 +84,7 @@ right-e : (e : Example) → T (right e) → Holds e
 right-e e t =
     let i = eqb (incoherentLetter (e .trace)) (e .incoherent) in
     let j = eqb (infeasibleLetter (e .trace)) (e .infeasible) in
-    let k = eqb (firstInfeasible (e .trace)) (e .infeasible) in
+    let k = eqb (firstInfeasible (e .trace)) (e .whole) in
     let w = formed-e (e .trace) (and-l (formed (e .trace)) (i && (j && k)) t) in
     let u = and-r (formed (e .trace)) (i && (j && k)) t in
     let v = and-r i (j && k) u in
@@ -90,14 +94,14 @@ right-e e t =
           subst (λ n. Judgement (e .trace) n (e .infeasible)) (eqb→eq (incoherentLetter (e .trace)) (e .incoherent) (and-l i (j && k) u))
           (subst (Judgement (e .trace) (incoherentLetter (e .trace))) (eqb→eq (infeasibleLetter (e .trace)) (e .infeasible) (and-l j k v))
           (judgement-is (e .trace) w));
-      whole =
-          subst (Judged (λ ρ. Feasible (state ρ)) (e .trace)) (eqb→eq (firstInfeasible (e .trace)) (e .infeasible) (and-r j k v))
+      engine =
+          subst (Judged (λ ρ. Feasible (state ρ)) (e .trace)) (eqb→eq (firstInfeasible (e .trace)) (e .whole) (and-r j k v))
           (first-infeasible-is (e .trace) w);
     }
 
 -- Every example is as the table says.
 pub examples : (e : Example) → e ∈ table → Holds e
-unfolding table incoherentLetter infeasibleLetter firstInfeasible coherentPart
+unfolding table incoherentLetter infeasibleLetter firstInfeasible coherentPart fitsTest applyTest
 examples e m = right-e e (all-e right {l = table} tt m)
 
 -- The first line holds of every header.

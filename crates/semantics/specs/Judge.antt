@@ -6,14 +6,16 @@ use mathlib.Core.List.{List, [], _∷_, List·Memᴰ·head, List·Memᴰ·tail, 
 use mathlib.Core.Option.{Option, none, some}
 use Prim.Native.Nat.{ℕ, zero, suc, _≤_, _<_}
 use native.Mathlib.Omega.{arith}
-use lib.Dec.{T, ltb, ltb→lt, eqb, eqb→eq, T-not, not-T}
+use lib.Dec.{T, T-not, not-T}
 use lib.ListN.{length}
 use Rattle.letters.specs.declared.Header.{Header}
 use Rattle.letters.specs.declared.Letter.{Letter}
 use Rattle.letters.specs.declared.Letter.the-variants.{Copy, Apply, Equal, Unequal}
-use Rattle.letters.specs.Letters.{arity, Fits}
+use Rattle.letters.specs.Letters.{Fits}
+use Rattle.letters.specs.Words.{fitsTest}
+use Rattle.letters.specs.WordLaws.{fits-test}
 use Rattle.semantics.specs.Terms.{_∈_, Term, con, app, Trace, begin, _▸_, State, after, state, WellFormed}
-use Rattle.semantics.specs.Booleans.{or-not, and-l, and-r, and-i, or-e, or-l, or-r}
+use Rattle.semantics.specs.Booleans.{is-true, or-not, and-l, and-r, and-i, or-e, or-l, or-r}
 use Rattle.semantics.specs.Lists.{any, all, first, any-e, any-i, all-e, all-i, all-n, Found, at, nowhere, first-is}
 use Rattle.semantics.specs.TermEquality.{eqt, eqt→eq, eq→eqt, eqt-or}
 use Rattle.semantics.specs.Closure.{reflexive, symmetric, Equivalent, Held}
@@ -395,44 +397,12 @@ fails-is P p e b (ρ ▸ a) w = go (fails p ρ) (fails-is P p e b ρ (w .0))
     go (suc k) h = inl h
 
 -- ── well-formed traces ──
--- the letter fits the header
-abbrev fits : Header → Letter → Bool
-fits h (Copy x y) = ltb x (h .registers) && ltb y (h .registers)
-fits h (Apply x f y z) =
-    ltb x (h .registers) && (ltb f (h .functions) && (ltb y (h .registers) && (ltb z (h .registers) && (not (eqb (arity h f) 1) || eqb y z))))
-fits h (Equal x y) = ltb x (h .registers) && ltb y (h .registers)
-fits h (Unequal x y) = ltb x (h .registers) && ltb y (h .registers)
-
-two : (n x y : ℕ) → T (ltb x n && ltb y n) → (x < n) × (y < n)
-two n x y t = (ltb→lt x n (and-l (ltb x n) (ltb y n) t), ltb→lt y n (and-r (ltb x n) (ltb y n) t))
-
-fits-e : (h : Header) (a : Letter) → T (fits h a) → Fits h a
-fits-e h (Copy x y) t = two (h .registers) x y t
-fits-e h (Apply x f y z) t =
-    let n = h .registers in
-    let m = h .functions in
-    let one = eqb (arity h f) 1 in
-    let c = not one || eqb y z in
-    let t₁ = and-r (ltb x n) (ltb f m && (ltb y n && (ltb z n && c))) t in
-    let t₂ = and-r (ltb f m) (ltb y n && (ltb z n && c)) t₁ in
-    let t₃ = and-r (ltb y n) (ltb z n && c) t₂ in (
-      ltb→lt x n (and-l (ltb x n) (ltb f m && (ltb y n && (ltb z n && c))) t),
-      ltb→lt f m (and-l (ltb f m) (ltb y n && (ltb z n && c)) t₁),
-      ltb→lt y n (and-l (ltb y n) (ltb z n && c) t₂),
-      ltb→lt z n (and-l (ltb z n) c t₃),
-      λ e. elim (or-e (not one) (eqb y z) (and-r (ltb z n) c t₃)) [
-        | inl u ↦ absurd (T-not one u (subst (λ (k : ℕ). T (eqb k 1)) (sym e) tt))
-        | inr u ↦ eqb→eq y z u
-      ],
-    )
-fits-e h (Equal x y) t = two (h .registers) x y t
-fits-e h (Unequal x y) t = two (h .registers) x y t
-
 abbrev pub formed : Trace → Bool
 formed (begin h) = true
-formed (ρ ▸ a) = formed ρ && fits (state ρ .header) a
+formed (ρ ▸ a) = formed ρ && fitsTest (state ρ .header) a
 
 pub formed-e : (ρ : Trace) → T (formed ρ) → WellFormed ρ
 formed-e (begin h) t = tt
 formed-e (ρ ▸ a) t =
-    (formed-e ρ (and-l (formed ρ) (fits (state ρ .header) a) t), fits-e (state ρ .header) a (and-r (formed ρ) (fits (state ρ .header) a) t))
+    let f = fitsTest (state ρ .header) a in
+    (formed-e ρ (and-l (formed ρ) f t), fits-test (state ρ .header) a .0 (is-true f (and-r (formed ρ) f t)))

@@ -2,22 +2,17 @@
 -- "An incoherent letter only stops the monitor: it and all later letters move neither window nor infeasible mark").
 use Prim.Native.Nat.{ℕ, _≤_}
 use Rattle.base.specs.Choice.{pick}
-use Rattle.letters.specs.declared.Letter.{Letter}
 use Rattle.semantics.specs.Terms.{Trace, begin, _▸_, state}
+use Rattle.semantics.specs.Prefixes.{Begins}
 use Rattle.semantics.specs.Models.{Feasible}
 use Rattle.semantics.specs.Coherence.{Coherent, size, Judged}
 use Rattle.semantics.specs.Judge.{coherent, feasible, fails}
 
--- The first trace is the second or a beginning of it.
-pub data Beginning : Trace → Trace → Type 0 where
-  whole : {ρ : Trace} → Beginning ρ ρ
-  shorter : {π ρ : Trace} {a : Letter} → Beginning π ρ → Beginning π (ρ ▸ a)
-
 -- The longest coherent beginning of a trace.
 pub record Longest (ρ π : Trace) : Type 0 where
-  pub beginning : Beginning π ρ
+  pub beginning : Begins π ρ
   pub coherent : Coherent π
-  pub longest : (κ : Trace) → Beginning κ ρ → Coherent κ → size κ ≤ size π
+  pub longest : (κ : Trace) → Begins κ ρ → Coherent κ → size κ ≤ size π
 
 -- The letters of a run, 0 for none: the first at which coherence fails, and the first at which the longest coherent beginning becomes
 -- infeasible. So no letter is named infeasible at or after the incoherent one.

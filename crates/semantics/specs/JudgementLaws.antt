@@ -1,20 +1,21 @@
 -- Feasibility and coherence go over to beginnings; the letters of a run are computed, and there are no others.
 use mathlib.Core.Path.{_≡_, refl, sym, _∙_, ap, subst}
 use mathlib.Core.Logic.{inl, inr}
-use mathlib.Core.List.{List, [], _∷_, List·Memᴰ·tail}
+use mathlib.Core.List.{List·Memᴰ·tail}
 use Prim.Native.Nat.{ℕ, zero, suc, _≤_}
 use native.Mathlib.Omega.{arith}
 use lib.Dec.{T}
 use Rattle.base.specs.Choice.{byTest}
 use Rattle.letters.specs.declared.Letter.{Letter}
 use Rattle.letters.specs.declared.Letter.the-variants.{Copy, Apply, Equal, Unequal}
-use Rattle.semantics.specs.Terms.{Trace, begin, _▸_, State, start, after, state, WellFormed, extend}
+use Rattle.semantics.specs.Terms.{Trace, begin, _▸_, State, start, after, state, WellFormed}
+use Rattle.semantics.specs.Prefixes.{Begins, whole, before, PrefixClosed, begins-size, begins-same, begins-has}
 use Rattle.semantics.specs.Booleans.{of-true, of-false, is-true, is-false}
 use Rattle.semantics.specs.Facts.{state-valid}
 use Rattle.semantics.specs.Models.{Feasible}
 use Rattle.semantics.specs.Coherence.{Coherent, size, FailsAt, Judged}
 use Rattle.semantics.specs.Judge.{coherent, coherent-is, feasible, feasible-is, fails-is}
-use Rattle.semantics.specs.Judgement.{Beginning, whole, shorter, Longest, Judgement, coherentPart, incoherentLetter, infeasibleLetter, firstInfeasible}
+use Rattle.semantics.specs.Judgement.{Longest, Judgement, coherentPart, incoherentLetter, infeasibleLetter, firstInfeasible}
 
 -- ── beginnings ──
 -- A model of the tests after a letter is one of the tests before it.
@@ -33,26 +34,6 @@ coherent-prefix ρ a c = c .0
 
 pub formed-prefix : (ρ : Trace) (a : Letter) → WellFormed (ρ ▸ a) → WellFormed ρ
 formed-prefix ρ a w = w .0
-
--- P goes over to beginnings.
-abbrev pub PrefixClosed : (Trace → Type 0) → Type 0
-PrefixClosed P = (ρ : Trace) (a : Letter) → P (ρ ▸ a) → P ρ
-
-pub beginning-has : (P : Trace → Type 0) → PrefixClosed P → {π ρ : Trace} → Beginning π ρ → P ρ → P π
-beginning-has P c whole p = p
-beginning-has P c (shorter {ρ} {a} b) p = beginning-has P c b (c ρ a p)
-
-pub extend-beginning : (ρ : Trace) (l : List Letter) → Beginning ρ (extend ρ l)
-extend-beginning ρ [] = whole
-extend-beginning ρ (a ∷ l) = beginning-trans (shorter whole) (extend-beginning (ρ ▸ a) l)
-  where
-    beginning-trans : {π ρ κ : Trace} → Beginning π ρ → Beginning ρ κ → Beginning π κ
-    beginning-trans b whole = b
-    beginning-trans b (shorter c) = shorter (beginning-trans b c)
-
-beginning-size : {π ρ : Trace} → Beginning π ρ → size π ≤ size ρ
-beginning-size whole = omega arith
-beginning-size (shorter b) = omega (arith, beginning-size b)
 
 -- ── one letter at most ──
 module _ (P : Trace → Type 0) (closed : PrefixClosed P) where
@@ -98,46 +79,39 @@ pub part-shorter : (ρ : Trace) (a : Letter) → ¬ T (coherent (ρ ▸ a)) → 
 unfolding coherentPart
 part-shorter ρ a n = rw (is-false (coherent (ρ ▸ a)) n)
 
-part-beginning : (ρ : Trace) → Beginning (coherentPart ρ) ρ
-part-beginning (begin h) = subst (λ π. Beginning π (begin h)) (sym (part-whole (begin h) tt)) whole
+part-beginning : (ρ : Trace) → Begins (coherentPart ρ) ρ
+part-beginning (begin h) = subst (λ π. Begins π (begin h)) (sym (part-whole (begin h) tt)) whole
 part-beginning (ρ ▸ a) = byTest (coherent (ρ ▸ a))
-    (λ e. subst (λ π. Beginning π (ρ ▸ a)) (sym (part-whole (ρ ▸ a) (of-true e))) whole)
-    (λ e. subst (λ π. Beginning π (ρ ▸ a)) (sym (part-shorter ρ a (of-false e))) (shorter (part-beginning ρ)))
+    (λ e. subst (λ π. Begins π (ρ ▸ a)) (sym (part-whole (ρ ▸ a) (of-true e))) whole)
+    (λ e. subst (λ π. Begins π (ρ ▸ a)) (sym (part-shorter ρ a (of-false e))) (before (part-beginning ρ)))
 
 pub part-formed : (ρ : Trace) → WellFormed ρ → WellFormed (coherentPart ρ)
-part-formed ρ w = beginning-has WellFormed (λ π a v. v .0) (part-beginning ρ) w
+part-formed ρ w = begins-has WellFormed (λ π a v. v .0) (part-beginning ρ) w
 
 pub longest-is : (ρ : Trace) → WellFormed ρ → Longest ρ (coherentPart ρ)
 longest-is (begin h) w = subst (Longest (begin h)) (sym (part-whole (begin h) tt)) (record {
   beginning = whole;
   coherent = tt;
-  longest = λ κ b c. beginning-size b;
+  longest = λ κ b c. begins-size b;
 })
 longest-is (ρ ▸ a) w = byTest (coherent (ρ ▸ a))
     (λ e. subst (Longest (ρ ▸ a)) (sym (part-whole (ρ ▸ a) (of-true e))) (record {
       beginning = whole;
       coherent = coherent-is (ρ ▸ a) w .0 (of-true e);
-      longest = λ κ b c. beginning-size b;
+      longest = λ κ b c. begins-size b;
     }))
     (λ e. subst (Longest (ρ ▸ a)) (sym (part-shorter ρ a (of-false e))) (less (λ c. of-false e (coherent-is (ρ ▸ a) w .1 c)) (longest-is ρ (w .0))))
   where
     less : ¬ Coherent (ρ ▸ a) → Longest ρ (coherentPart ρ) → Longest (ρ ▸ a) (coherentPart ρ)
-    less n l = record { beginning = shorter (l .beginning); coherent = l .coherent; longest = λ κ b c. under κ b c }
+    less n l = record { beginning = before (l .beginning); coherent = l .coherent; longest = λ κ b c. under κ b c }
       where
-        under : (κ : Trace) → Beginning κ (ρ ▸ a) → Coherent κ → size κ ≤ size (coherentPart ρ)
+        under : (κ : Trace) → Begins κ (ρ ▸ a) → Coherent κ → size κ ≤ size (coherentPart ρ)
         under κ whole c = absurd (n c)
-        under κ (shorter b) c = l .longest κ b c
-
--- a beginning is fixed by its length
-beginning-same : {π κ ρ : Trace} → Beginning π ρ → Beginning κ ρ → size π ≡ size κ → π ≡ κ
-beginning-same whole whole e = refl
-beginning-same whole (shorter c) e = absurd (omega (arith, beginning-size c))
-beginning-same (shorter b) whole e = absurd (omega (arith, beginning-size b))
-beginning-same (shorter b) (shorter c) e = beginning-same b c e
+        under κ (before b) c = l .longest κ b c
 
 pub longest-unique : (ρ π κ : Trace) → Longest ρ π → Longest ρ κ → π ≡ κ
 longest-unique ρ π κ l m =
-    beginning-same (l .beginning) (m .beginning) (omega (arith, l .longest κ (m .beginning) (m .coherent), m .longest π (l .beginning) (l .coherent)))
+    begins-same (l .beginning) (m .beginning) (omega (arith, l .longest κ (m .beginning) (m .coherent), m .longest π (l .beginning) (l .coherent)))
 
 -- ── the letters of a run ──
 pub incoherent-is : (ρ : Trace) → WellFormed ρ → Judged Coherent ρ (incoherentLetter ρ)

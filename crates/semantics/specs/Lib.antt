@@ -4,6 +4,7 @@ pub mod Closure
 pub mod Models
 pub mod AnyModel
 pub mod Coherence
+pub mod Prefixes
 pub mod Judgement
 pub mod Window
 pub mod SameWindow
@@ -25,6 +26,7 @@ pub mod NumberingLaws
 pub mod Shown
 pub mod PackedTablesLaws
 pub mod ShownPacked
+pub mod ShownUnique
 -- Coherence.
 pub mod Climb
 pub mod Judge

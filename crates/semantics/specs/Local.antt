@@ -10,7 +10,7 @@ use Rattle.semantics.specs.Coherence.{Early}
 use Rattle.semantics.specs.Climb.{Reaches, from, up, reaches-equal, climbs-above}
 use Rattle.semantics.specs.Window.{Same, Result}
 use Rattle.semantics.specs.Facts.{Valid}
-use Rattle.semantics.specs.ClosureLaws.{more-tests}
+use Rattle.semantics.specs.ClosureLaws.{more-tests, held-equal}
 
 -- The least equivalence over registers that holds the classes and the test, and equates held results at equivalent arguments.
 pub data Local (σ : State) (x y : ℕ) : ℕ → ℕ → Type 0 where
@@ -68,14 +68,11 @@ module _ (σ : State) (v : Valid σ) (x y : ℕ) (xb : x < σ .header .registers
   via-turn : {s t : Term} → Via s t → Via t s
   via-turn w = record { up-left = w .up-right; up-right = w .up-left; held-left = w .held-right; held-right = w .held-left; by = turned (w .by) }
 
-  abbrev held-equal : {s t : Term} → Held σ s → Equivalent σ s t → Held σ t
-  held-equal h c = (h .0, h .1, transitive (symmetric c) (h .2))
-
   via-left : {s t u : Term} → Equivalent σ s t → Via t u → Via s u
   via-left c w = record {
     up-left = up-equal (w .up-left) (symmetric c);
     up-right = w .up-right;
-    held-left = held-equal (w .held-left) (symmetric c);
+    held-left = held-equal σ (w .held-left) (symmetric c);
     held-right = w .held-right;
     by = w .by;
   }

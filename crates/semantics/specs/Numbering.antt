@@ -2,10 +2,11 @@
 use mathlib.Core.Path.{_≡_}
 use mathlib.Core.Logic.{_↔_}
 use mathlib.Core.List.{List, _∷_, _++_}
-use Prim.Native.Nat.{ℕ, suc, _≤_}
-use Rattle.semantics.specs.Terms.{_∈_, Term, app}
+use Prim.Native.Nat.{ℕ, suc, _≤_, _<_}
+use lib.ListN.{length, getD}
+use Rattle.semantics.specs.Terms.{_∈_, Term, con, app}
 use Rattle.semantics.specs.Closure.{Closure}
-use Rattle.semantics.specs.Tables.{Row, rowOf, sameCall}
+use Rattle.semantics.specs.Tables.{Row, Tables, rowOf, sameCall}
 use Rattle.semantics.specs.Firsts.{NoRepeats}
 
 -- The values of the terms l are exactly the numbers 1 to c.
@@ -33,3 +34,15 @@ pub record Listing (U : List Term) (value : Term → ℕ) (rows : List Row) : Ty
   pub ordered : (earlier later : List Row) (r : Row) → rows ≡ earlier ++ r ∷ later
       → (before : List Term) × (after : List Term) × (f : ℕ) × (s : Term) × (t : Term) × (U ≡ before ++ app f s t ∷ after) × (r ≡ rowOf value f s t)
       × ((g : ℕ) (u w : Term) → app g u w ∈ before → rowOf value g u w ∈ earlier)
+
+-- The shown tables for n registers, computed terms U, the oldest first, and equal tests E, all as one statement. There is one such table only.
+pub record IsShown (n : ℕ) (U : List Term) (E : List (Term × Term)) (t : Tables) : Type 0 where
+  pub value : Term → ℕ
+  pub classes : ℕ
+  pub numbering : Numbering U E value classes
+  -- value 0, "the result for every argument not listed", is counted too
+  pub count : t .count ≡ suc classes
+  -- each register's initial value, in order
+  pub registers : length (t .starts) ≡ n
+  pub starts : (r : ℕ) → r < n → getD (t .starts) r 0 ≡ value (con r)
+  pub listing : Listing U value (t .rows)

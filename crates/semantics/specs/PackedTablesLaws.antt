@@ -1,7 +1,7 @@
 -- Tables read back from their bytes.
 use mathlib.Core.Path.{_≡_, refl, sym, _∙_, ap, ap₂, subst}
 use mathlib.Core.List.{List, [], _∷_, _++_, map, append-nil, append-assoc, List·Memᴰ·head, List·Memᴰ·tail, List·Memᴰ·not-nil, List·Memᴰ·cases-cons}
-use Prim.Native.Nat.{ℕ, zero, suc, _+_, _*_, _^_, _<_}
+use Prim.Native.Nat.{ℕ, suc, _+_, _*_, _^_, _<_}
 use native.Mathlib.Omega.{arith}
 use lib.ListN.{length, getD, take, drop, replicate, length-append, length-replicate, length-map}
 use lib.Pow.{pow-pos}
@@ -11,14 +11,11 @@ use Rattle.base.specs.Masks.{has}
 use Rattle.letters.specs.declared.Header.{Header}
 use Rattle.letters.specs.Letters.{arity}
 use Rattle.letters.specs.Packing.{total, Sized, join, split, join-lt, split-join, join-split, split-length}
+use Rattle.letters.specs.TraceLaws.{octets-total}
 use Rattle.semantics.specs.Terms.{_∈_}
 use Rattle.semantics.specs.Tables.{Row, Tables}
 use Rattle.semantics.specs.PackedTables.{units, unitsIn, RowWidths, rowWidths, rowBytes, wordBytes, secondWritten, secondMeant, rowWord, packTables, rowFrom, readTables, Packable}
 use Rattle.semantics.specs.Lists.{take-front, drop-front}
-
-total-bytes : (k : ℕ) → total (replicate k 8) ≡ 8 * k
-total-bytes zero = omega arith
-total-bytes (suc k) = rw (total-bytes k) (omega arith)
 
 bytes-length : (k n : ℕ) → length (split (replicate k 8) n) ≡ k
 bytes-length k n = split-length (replicate k 8) n ∙ length-replicate k 8
@@ -36,7 +33,7 @@ units-back k (n ∷ ns) rest h =
     ap₂ (λ a l. a ∷ l)
     (ap (join (replicate k 8)) (ap (take k) assoc ∙ ap (λ j. take j (bytes ++ (units k ns ++ rest))) (sym (bytes-length k n)) ∙ take-front bytes
     (units k ns ++ rest))
-    ∙ join-split (replicate k 8) n (subst (λ j. n < 2 ^ j) (sym (total-bytes k)) (h n (List·Memᴰ·head refl))))
+    ∙ join-split (replicate k 8) n (subst (λ j. n < 2 ^ j) (sym (octets-total k)) (h n (List·Memᴰ·head refl))))
     (ap (unitsIn k (length ns)) (ap (drop k) assoc ∙ ap (λ j. drop j (bytes ++ (units k ns ++ rest))) (sym (bytes-length k n)) ∙ drop-front bytes
     (units k ns ++ rest))
     ∙ units-back k ns rest (λ m i. h m (List·Memᴰ·tail i)))

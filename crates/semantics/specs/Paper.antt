@@ -14,7 +14,8 @@ pub data Congruent (A : List (Term × Term)) : Term → Term → Type 0 where
   joined : {s t u : Term} → Congruent A s t → Congruent A t u → Congruent A s u
   applied : {f : ℕ} {a b c d : Term} → Congruent A a c → Congruent A b d → Congruent A (app f a b) (app f c d)
 
--- The first term stands in the second, below its root: the second is a superterm of the first.
+-- The first term stands in the second, below its root: the second is a proper superterm of the first. The source document leaves open whether
+-- a term is its own superterm. It makes no difference to Definition 5: a term equal to t_x or t_y modulo ≅ is held, by x or by y.
 pub data Within (t : Term) : Term → Type 0 where
   first : {f : ℕ} {b : Term} → Within t (app f t b)
   second : {f : ℕ} {a : Term} → Within t (app f a t)

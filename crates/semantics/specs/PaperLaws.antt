@@ -16,8 +16,9 @@ use Rattle.semantics.specs.Terms.{_∈_, Term, con, app, Trace, begin, _
 use Rattle.semantics.specs.Booleans.{and-l, and-r, of-true}
 use Rattle.semantics.specs.Closure.{Closure, reflexive, test, symmetric, transitive, congruence, Equivalent, Held}
 use Rattle.semantics.specs.Facts.{Valid, after-valid, state-valid, constants-i}
+use Rattle.semantics.specs.ClosureLaws.{held-equal}
 use Rattle.semantics.specs.Models.{Model, eval, Feasible}
-use Rattle.semantics.specs.AnyModel.{AnyModel, evalIn, SatisfiesIn, FeasibleAnywhere}
+use Rattle.semantics.specs.AnyModel.{AnyModel, evalIn, SatisfiesIn, FeasibleInSomeModel}
 use Rattle.semantics.specs.Shown.{corollary-2, shown, number, number-i, number-e, eval-shown, shown-numbering, shown-listing, to, back}
 use Rattle.semantics.specs.ShownPacked.{starts-length, applications-fit}
 use Rattle.semantics.specs.Tables.{Row, lists, resultIn, modelOf, rowOf, rowsOf, startsFrom, shownTables}
@@ -43,7 +44,7 @@ eval-numbers M (con r) = refl
 eval-numbers M (app f s t) = ap₂ (M .table f) (eval-numbers M s) (eval-numbers M t)
 
 -- Feasible in a finite model exactly if feasible in some model.
-pub feasible-anywhere : (σ : State) → Valid σ → (Feasible σ → FeasibleAnywhere σ) × (FeasibleAnywhere σ → Feasible σ)
+pub feasible-anywhere : (σ : State) → Valid σ → (Feasible σ → FeasibleInSomeModel σ) × (FeasibleInSomeModel σ → Feasible σ)
 feasible-anywhere σ v = (
   λ (M, h). (
     numbers M,
@@ -91,7 +92,8 @@ module _ (σ : State) (v : Valid σ) where
     λ (r, b, c). (r, b, turned (closure-congruent c)),
   )
 
-  -- Corollary 2 as it stands: "an execution is feasible iff ≅ and the disequalities have nothing in common."
+  -- Corollary 2: "an execution ρ is feasible iff ≅_α(ρ) ∩ β(ρ) = ∅." The source document builds the term model for it; here the shown model
+  -- serves, so that the term model is not built.
   pub corollary-2-is : Feasible σ ↔ (¬ ((s : Term) × (t : Term) × ((s, t) ∈ σ .unequals) × Congruent (σ .equals) s t))
   corollary-2-is = (
     λ f (s, t, m, c). let (i, j) = v .unequal-sides s t m in corollary-2 σ v .0 f (s, t, m, congruent-is i j .0 c),
@@ -263,18 +265,15 @@ module _ (σ : State) (v : Valid σ) (computed : (r : ℕ) → r < σ .header .r
   superterm-equal (once m d c) e = once m d (transitive c e)
   superterm-equal (again h m d c) e = again h m d (transitive c e)
 
-  held-equal : {t u : Term} → Held σ t → Equivalent σ t u → Held σ u
-  held-equal (r, b, c) e = (r, b, transitive (symmetric e) c)
-
   -- The results of the computed applications above t are held.
   abbrev pub ResultsKept : Term → Type 0
   ResultsKept t = (f : ℕ) (a b : Term) → app f a b ∈ σ .terms → Above (σ .terms) (σ .equals) t a b → Held σ (app f a b)
 
   results-superterms : {t s : Term} → ResultsKept t → Superterm (σ .terms) (σ .equals) t s → Held σ s
-  results-superterms k (once m (inl d) c) = held-equal (k _ _ _ m (inl (inl d))) c
-  results-superterms k (once m (inr d) c) = held-equal (k _ _ _ m (inr (inl d))) c
-  results-superterms k (again h m (inl d) c) = held-equal (k _ _ _ m (inl (inr (superterm-equal h d)))) c
-  results-superterms k (again h m (inr d) c) = held-equal (k _ _ _ m (inr (inr (superterm-equal h d)))) c
+  results-superterms k (once m (inl d) c) = held-equal σ (k _ _ _ m (inl (inl d))) c
+  results-superterms k (once m (inr d) c) = held-equal σ (k _ _ _ m (inr (inl d))) c
+  results-superterms k (again h m (inl d) c) = held-equal σ (k _ _ _ m (inl (inr (superterm-equal h d)))) c
+  results-superterms k (again h m (inr d) c) = held-equal σ (k _ _ _ m (inr (inr (superterm-equal h d)))) c
 
   -- Definition 5 asks for the results alone.
   pub early-results : (x y : ℕ) → x < σ .header .registers → y < σ .header .registers → ResultsKept (σ .value x) → ResultsKept (σ .value y)

@@ -7,7 +7,7 @@ use Prim.Native.Nat.{ℕ, _<_}
 use lib.Dec.{T}
 use Rattle.semantics.specs.Terms.{State}
 use Rattle.semantics.specs.Models.{Feasible}
-use Rattle.semantics.specs.Window.{View, Tracks, Same, Apart, Result, Ever, Marked}
+use Rattle.semantics.specs.Window.{View, Tracks, Same, Apart, Result, EverComputed, Marked}
 use Rattle.semantics.specs.Of.{same-test}
 
 -- "The classes, the known-unequal pairs of held classes, the held results, which applications to held classes were ever computed,
@@ -17,7 +17,7 @@ pub record SameWindow (σ τ : State) : Type 0 where
   pub same : (r s : ℕ) → r < σ .header .registers → s < σ .header .registers → Same σ r s ↔ Same τ r s
   pub apart : (r s : ℕ) → r < σ .header .registers → s < σ .header .registers → (Feasible σ × Apart σ r s) ↔ (Feasible τ × Apart τ r s)
   pub result : (f a b r : ℕ) → a < σ .header .registers → b < σ .header .registers → r < σ .header .registers → Result σ f a b r ↔ Result τ f a b r
-  pub ever : (f a b : ℕ) → a < σ .header .registers → b < σ .header .registers → Ever σ f a b ↔ Ever τ f a b
+  pub ever : (f a b : ℕ) → a < σ .header .registers → b < σ .header .registers → EverComputed σ f a b ↔ EverComputed τ f a b
   pub marked : (r : ℕ) → r < σ .header .registers → Marked σ r ↔ Marked τ r
   pub infeasible : (¬ Feasible σ) ↔ (¬ Feasible τ)
 

@@ -41,7 +41,7 @@ result-at (x ∷ rows) f a b r m y = byTest (lists f a b x)
       | inr k ↦ let (s, i, z, p) = result-at rows f a b r k y in (s, List·Memᴰ·tail i, z, rw e p)
     ])
 
-start-at : (v : Term → ℕ) (k n r : ℕ) → r < n → getD (startsFrom v k n) r 0 ≡ v (con (k + r))
+pub start-at : (v : Term → ℕ) (k n r : ℕ) → r < n → getD (startsFrom v k n) r 0 ≡ v (con (k + r))
 unfolding startsFrom
 start-at v k zero r h = absurd (omega arith)
 start-at v k (suc n) zero h = ap (λ (m : ℕ). v (con m)) (omega arith)

@@ -14,7 +14,7 @@ use Rattle.semantics.specs.Closure.{symmetric}
 use Rattle.semantics.specs.Coherence.{Early, Kept, Memoizing}
 use Rattle.semantics.specs.Models.{Feasible}
 use Rattle.semantics.specs.Shown.{Clash, corollary-2}
-use Rattle.semantics.specs.Window.{View, Tracks, Same, Apart, Result, Ever, Marked}
+use Rattle.semantics.specs.Window.{View, Tracks, Same, Apart, Result, EverComputed, Marked}
 use Rattle.semantics.specs.Facts.{Valid, after-valid, con-app}
 use Rattle.semantics.specs.Judge.{exposed-or-kept, clash-or-feasible}
 use Rattle.semantics.specs.Local.{Local, class, tested, turned, joined, lifted, equate-registers}
@@ -123,7 +123,7 @@ module _ (σ : State) (v : Valid σ) (x y : ℕ) (xb : x < regs σ) (yb : y < re
     (λ (p, q, s, pb, qb, sb, m, i, j, k). (p, q, s, pb, qb, sb, t .result f p q s pb qb sb .0 m, je i, je j, je k)),
   )
 
-  equal-ever : (f a b : ℕ) → a < regs σ → b < regs σ → Ever equal-after f a b
+  equal-ever : (f a b : ℕ) → a < regs σ → b < regs σ → EverComputed equal-after f a b
       ↔ ((p : ℕ) × (q : ℕ) × (p < regs σ) × (q < regs σ) × T (w .ever f p q) × J p a × J q b)
   equal-ever f a b ab bb = Iff·trans (Equate.ever-after σ v x y xb yb early f a b ab bb) (
     (λ (p, q, pb, qb, m, i, j). (p, q, pb, qb, t .ever f p q pb qb .1 m, ji i, ji j)),
@@ -499,7 +499,7 @@ module _ (σ : State) (v : Valid σ) (f y z : ℕ) (yb : y < regs σ) (zb : z < 
         (and-i (w .same y a) (w .same z b) (t .same y a yb ab .1 c) (t .same z b zb bb .1 d))),
   )
 
-  pub tracks-new : ¬ Ever σ f y z → Tracks (grown σ f y z) (freshened w f y z)
+  pub tracks-new : ¬ EverComputed σ f y z → Tracks (grown σ f y z) (freshened w f y z)
   tracks-new fresh = record { same = same″; apart = apart″; result = result″; ever = ever″; marked = marked″; infeasible = t .infeasible }
     where
       σ⁺ : State
@@ -530,7 +530,7 @@ module _ (σ : State) (v : Valid σ) (f y z : ℕ) (yb : y < regs σ) (zb : z < 
           Iff·trans (t .result g a b c (omega arith) (omega arith) (omega arith))
           (Iff·symm (Apply.result-old σ v f y z yb zb fresh g a b c (omega arith) (omega arith) (omega arith)))
 
-      ever″ : (g a b : ℕ) → a < suc (regs σ) → b < suc (regs σ) → T (ever-fresh w f y z g a b) ↔ Ever (grown σ f y z) g a b
+      ever″ : (g a b : ℕ) → a < suc (regs σ) → b < suc (regs σ) → T (ever-fresh w f y z g a b) ↔ EverComputed (grown σ f y z) g a b
       ever″ g zero b ab bb = (λ k. absurd k, λ m. Apply.ever-new-first σ v f y z yb zb fresh g b m)
       ever″ g (suc a) zero ab bb = (λ k. absurd k, λ m. Apply.ever-new-second σ v f y z yb zb fresh g (suc a) m)
       ever″ g (suc a) (suc b) ab bb = Iff·trans (

@@ -42,7 +42,7 @@ module _ (U : List Term) (E : List (Term × Term)) where
 abbrev pub Same : State → ℕ → ℕ → Type 0
 Same σ r s = Equivalent σ (σ .value r) (σ .value s)
 
--- "The known-unequal pairs of held classes (those an unequal test has joined, none inferred)": the classes of r and s are one.
+-- "The known-unequal pairs of held classes (those an unequal test has joined, none inferred)": the classes of r and s are such a pair.
 abbrev pub Apart : State → ℕ → ℕ → Type 0
 Apart σ r s = Parted (σ .terms) (σ .equals) (σ .unequals) (σ .value r) (σ .value s)
 
@@ -51,8 +51,8 @@ abbrev pub Result : State → ℕ → ℕ → ℕ → ℕ → Type 0
 Result σ f a b r = Match (σ .terms) (σ .equals) f (σ .value a) (σ .value b) (σ .value r)
 
 -- The applications to held classes that were ever computed: f at the classes of a and b, whether or not a register holds the result.
-abbrev pub Ever : State → ℕ → ℕ → ℕ → Type 0
-Ever σ f a b = (s : Term) × Match (σ .terms) (σ .equals) f (σ .value a) (σ .value b) s
+abbrev pub EverComputed : State → ℕ → ℕ → ℕ → Type 0
+EverComputed σ f a b = (s : Term) × Match (σ .terms) (σ .equals) f (σ .value a) (σ .value b) s
 
 -- The class of r has above it a computed application with an argument or result that no register holds.
 abbrev pub Marked : State → ℕ → Type 0
@@ -73,6 +73,6 @@ pub record Tracks (σ : State) (w : View) : Type 0 where
   pub apart : (r s : ℕ) → r < σ .header .registers → s < σ .header .registers → T (w .apart r s) ↔ (Feasible σ × Apart σ r s)
   pub result : (f a b r : ℕ) → a < σ .header .registers → b < σ .header .registers → r < σ .header .registers → T (w .result f a b r)
       ↔ Result σ f a b r
-  pub ever : (f a b : ℕ) → a < σ .header .registers → b < σ .header .registers → T (w .ever f a b) ↔ Ever σ f a b
+  pub ever : (f a b : ℕ) → a < σ .header .registers → b < σ .header .registers → T (w .ever f a b) ↔ EverComputed σ f a b
   pub marked : (r : ℕ) → r < σ .header .registers → T (w .marked r) ↔ Marked σ r
   pub infeasible : T (w .infeasible) ↔ (¬ Feasible σ)

@@ -1,0 +1,56 @@
+//! A trace as an SMT-LIB script, and z3's answer where z3 is installed.
+
+use std::fmt::Write as _;
+use std::io::Write as _;
+use std::process::{Command, Stdio};
+use std::time::Duration;
+
+use oracle::closure::Term;
+use oracle::state::State;
+use oracle::trace::Trace;
+
+use crate::time::once;
+
+/// A script in QF_UF that is satisfiable exactly if the trace is feasible. Each
+/// computed term has a name, so that shared terms are written once.
+#[allow(dead_code)]
+pub fn script(trace: &Trace) -> String {
+    let state = State::after_all(trace.header, &trace.letters);
+    let mut out = String::from("(set-logic QF_UF)\n(declare-sort V 0)\n");
+    for function in 0..trace.header.functions {
+        let arguments = ["V", "V V"][trace.header.arity(function) - 1];
+        let _ = writeln!(out, "(declare-fun f{function} ({arguments}) V)");
+    }
+    for (id, term) in state.terms.iter().enumerate() {
+        let _ = writeln!(out, "(declare-fun t{id} () V)");
+        if let Term::Application { function, first, second } = term {
+            let second = second.map_or(String::new(), |second| format!(" t{second}"));
+            let _ = writeln!(out, "(assert (= t{id} (f{function} t{first}{second})))");
+        }
+    }
+    for (a, b) in &state.equalities {
+        let _ = writeln!(out, "(assert (= t{a} t{b}))");
+    }
+    for (a, b) in &state.inequalities {
+        let _ = writeln!(out, "(assert (not (= t{a} t{b})))");
+    }
+    out + "(check-sat)\n"
+}
+
+/// z3's time for a script, its start included, and its answer; none if there is
+/// no z3.
+#[allow(dead_code)]
+pub fn solve(script: &str) -> Option<(Duration, String)> {
+    let (time, answer) = once(|| {
+        let mut child = Command::new("z3")
+            .args(["-smt2", "-in"])
+            .stdin(Stdio::piped())
+            .stdout(Stdio::piped())
+            .spawn()
+            .ok()?;
+        child.stdin.take()?.write_all(script.as_bytes()).ok()?;
+        let output = child.wait_with_output().ok()?;
+        Some(String::from_utf8_lossy(&output.stdout).trim().to_string())
+    });
+    answer.map(|answer| (time, answer))
+}

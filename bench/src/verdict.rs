@@ -1,0 +1,71 @@
+//! The verdict on example macros.
+
+use oracle::fast_search::fast_search;
+use oracle::library::{self, VERDICT_ANSWER};
+use oracle::reader::read_macro;
+use oracle::verdict::room_for_pairs;
+
+use crate::time::{mean, micros, ratio};
+
+/// Bytes of the table: N = 341, as in the verdict program.
+const TABLE: usize = 65_536;
+
+/// Macros by name. `search` and `second` are the paper's P1 and P3 (Figure 1) with
+/// assertions.
+const MACROS: [(&str, &str); 6] = [
+    (
+        "worked",
+        "vars raster corner sum duty; funs cap/1 add/2; sum := add(raster,corner); duty := cap(raster); \
+         duty := add(duty,corner); sum := cap(sum); assert duty = sum;",
+    ),
+    ("walk", "vars x y; funs n/1; while x != y { x := n(x); } assert x = y;"),
+    (
+        "search",
+        "vars t f b x y k d r; funs n/1 key/1; assume t != f; b := f; while x != y { d := key(x); \
+         if d = k { b := t; r := x; } x := n(x); } assert x = y;",
+    ),
+    (
+        "second",
+        "vars x y z g; funs n/1; assume x != z; y := n(x); g := y; assume y != z; y := n(y); \
+         while y != z { x := n(x); g := y; y := n(y); } x := n(x); x := n(x); assert x = z;",
+    ),
+    (
+        "choices",
+        "vars a b c d e; funs f/1; while a != b { if c = d { c := e; } else { d := a; } if a != e { a := f(a); } \
+         else { e := b; } } assert a = b;",
+    ),
+    (
+        "partitions",
+        "vars a b c d e; if a != b { } if a != c { } if b != c { } if a != d { } if b != d { } if c != d { } \
+         if a != e { } if a = b { assert b = a; }",
+    ),
+];
+
+/// Prints the verdicts' table.
+pub fn table() {
+    println!("Verdict, table of {TABLE} bytes (microseconds)");
+    println!("{:<14}{:>12}{:>8}{:>12}{:>12}{:>10}", "macro", "verdict", "pairs", "proved", "Rust", "ratio");
+    for (name, text) in MACROS {
+        let (mut table, mut out) = (vec![0; TABLE], vec![0; 4096]);
+        let mut answer = [0; VERDICT_ANSWER];
+        let proved = mean(|| library::verdict(text.as_bytes(), &mut table, &mut out, &mut answer));
+        let search =
+            || read_macro(text.as_bytes()).and_then(|read| fast_search(&read, room_for_pairs(TABLE)));
+        let rust = mean(search);
+        assert_eq!(search().map_or(0, |verdict| verdict.pairs as u64), answer[3]);
+        let word = match answer {
+            [14, ..] => "full",
+            [0, _, 0, ..] => "pass",
+            [0, _, 1, ..] => "fail",
+            [0, _, 2, ..] => "incoherent",
+            _ => "refused",
+        };
+        let (left, right) = (micros(proved), micros(rust));
+        println!(
+            "{name:<14}{word:>12}{:>8}{left:>12.1}{right:>12.1}{:>10.2}",
+            answer[3],
+            ratio(proved, rust)
+        );
+    }
+    println!();
+}

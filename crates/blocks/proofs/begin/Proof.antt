@@ -1,0 +1,14 @@
+use Rattle.base.specs.Choice.{decide}
+use Rattle.blocks.proofs.begin.Statement.{statement}
+use Rattle.blocks.proofs.begin.Tie as tie
+use Rattle.blocks.proofs.begin.Reads as reads
+use Rattle.blocks.proofs.begin.Lts as lts
+
+returns : tie.Need-returns
+returns c = search (decide)
+
+returns-2 : tie.Need-returns-2
+returns-2 c = search (decide)
+
+pub begin-spec : {M : Type 1} → statement M
+begin-spec = tie.close (tie.spec returns returns-2)

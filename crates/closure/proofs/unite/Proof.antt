@@ -1,0 +1,22 @@
+use borrow.Author.Needs.{needs}
+use Rattle.closure.specs.Arrays.{united}
+use Rattle.closure.proofs.unite.Statement.{statement}
+use Rattle.closure.proofs.unite.Tie as tie
+
+pub unite-spec : {M : Type 1} → statement M
+unfolding united
+unite-spec =
+    tie.close
+    (tie.spec
+    (λ c. search needs)
+    (λ c. search needs)
+    (λ c. search needs)
+    (λ c. search needs)
+    (λ c κs. search needs)
+    (λ c. search needs)
+    (λ c. search needs)
+    (λ c. search needs)
+    (λ c. search needs)
+    (λ c κs. search needs)
+    (λ c κs. search needs)
+    (λ c. search ((c .relabel .ensures), (c .before .before .higher .ensures), (c .before .before .before .before .before .lower .ensures))))

@@ -1,0 +1,115 @@
+-- Macros with their names, and their sentences: the tokens that spell a macro (document 01, "Macro text").
+use Prim.Native.Nat.{ℕ, zero, suc, _+_, _*_}
+use mathlib.Core.List.{List, [], _∷_, _++_}
+use mathlib.Core.Bool.{Bool}
+use lib.Dec.{eqb}
+use lib.ListN.{length, getD}
+use Rattle.base.specs.Choice.{pick}
+use Rattle.letters.specs.declared.Header.{Header}
+use Rattle.letters.specs.declared.Letter.{Letter}
+use Rattle.letters.specs.declared.Letter.the-variants.{Copy, Apply, Equal, Unequal}
+use Rattle.macros.specs.Tree.{Condition, equal, unequal, Statement, skip, perform, assert, if, while, Else, absent, present, Block, empty, _then_}
+use Rattle.tokens.specs.Words as word
+
+-- A macro: the names of its registers, the names of its functions and how many arguments each takes, and its statements.
+pub record Macro : Type 0 where
+  pub registers : List ℕ
+  pub functions : List ℕ
+  pub arities : List ℕ
+  pub body : Block
+
+-- The functions of two arguments as a mask, function 0 lowest.
+abbrev pub binaryOf : List ℕ → ℕ
+binaryOf [] = 0
+binaryOf (n ∷ ns) = pick (eqb n 2) (λ _. 1) (λ _. 0) + 2 * binaryOf ns
+
+abbrev pub header : List ℕ → List ℕ → List ℕ → Header
+header rs fs ns = record { registers = length rs; functions = length fs; binary = binaryOf ns }
+
+abbrev pub headerOf : Macro → Header
+headerOf m = header (m .registers) (m .functions) (m .arities)
+
+-- ---- sentences
+
+module _ (rs fs ns : List ℕ) where
+  abbrev pub register : ℕ → ℕ
+  register x = getD rs x 0
+
+  abbrev pub function : ℕ → ℕ
+  function f = getD fs f 0
+
+  abbrev pub takesTwo : ℕ → Bool
+  takesTwo f = eqb (getD ns f 0) 2
+
+  -- "C is `a = b` or `a != b`."
+  abbrev pub conditionTokens : Condition → List ℕ
+  conditionTokens (equal x y) = register x ∷ word.equal ∷ register y ∷ []
+  conditionTokens (unequal x y) = register x ∷ word.unequal ∷ register y ∷ []
+
+  -- behind the first argument of a function
+  abbrev pub argumentTokens : ℕ → ℕ → List ℕ
+  argumentTokens f z = pick (takesTwo f) (λ _. word.comma ∷ register z ∷ word.rparen ∷ []) λ _. word.rparen ∷ []
+
+  -- `a := b;` `a := f(b);` `a := f(b,c);` `assume C;`
+  abbrev pub letterTokens : Letter → List ℕ
+  letterTokens (Copy x y) = register x ∷ word.becomes ∷ register y ∷ word.semicolon ∷ []
+  letterTokens (Apply x f y z) = register x ∷ word.becomes ∷ function f ∷ word.lparen ∷ register y ∷ (argumentTokens f z ++ word.semicolon ∷ [])
+  letterTokens (Equal x y) = word.assume ∷ register x ∷ word.equal ∷ register y ∷ word.semicolon ∷ []
+  letterTokens (Unequal x y) = word.assume ∷ register x ∷ word.unequal ∷ register y ∷ word.semicolon ∷ []
+
+  -- and `skip;` `assert C;` `if C { .. }` with an optional `else { .. }`, `while C { .. }`
+  unfoldable mutual
+    pub statementTokens : Statement → List ℕ
+    statementTokens skip = word.skip ∷ word.semicolon ∷ []
+    statementTokens (perform a) = letterTokens a
+    statementTokens (assert c) = word.assert ∷ (conditionTokens c ++ word.semicolon ∷ [])
+    statementTokens (if c b e) = word.if ∷ (conditionTokens c ++ word.lbrace ∷ (blockTokens b ++ word.rbrace ∷ elseTokens e))
+    statementTokens (while c b) = word.while ∷ (conditionTokens c ++ word.lbrace ∷ (blockTokens b ++ word.rbrace ∷ []))
+
+    pub elseTokens : Else → List ℕ
+    elseTokens absent = []
+    elseTokens (present b) = word.else ∷ word.lbrace ∷ (blockTokens b ++ word.rbrace ∷ [])
+
+    pub blockTokens : Block → List ℕ
+    blockTokens empty = []
+    blockTokens (s then b) = statementTokens s ++ blockTokens b
+
+-- "entries such as `cap/1`": the digits 1 and 2 are the bytes 49 and 50
+unfoldable pub entryTokens : List ℕ → List ℕ → List ℕ
+entryTokens [] ns = []
+entryTokens (f ∷ fs) [] = []
+entryTokens (f ∷ fs) (n ∷ ns) = f ∷ word.slash ∷ (48 + n) ∷ entryTokens fs ns
+
+-- "then perhaps `funs` entries and `;` (at least one in each list)"
+unfoldable pub functionTokens : List ℕ → List ℕ → List ℕ
+functionTokens [] ns = []
+functionTokens (f ∷ fs) ns = word.funs ∷ (entryTokens (f ∷ fs) ns ++ word.semicolon ∷ [])
+
+-- "A macro is `vars` names `;`, then perhaps `funs` .., then statements, perhaps none."
+unfoldable pub sentence : Macro → List ℕ
+sentence m =
+    word.vars ∷ (m .registers ++ word.semicolon ∷ (functionTokens (m .functions) (m .arities) ++ blockTokens (m .registers) (m .functions) (m .arities) (m .body)))
+
+-- ---- depth
+
+-- one brace deeper
+abbrev pub Inside : (ℕ → Type 0) → ℕ → Type 0
+Inside P zero = ⊥
+Inside P (suc d) = P d
+
+-- "Braces nest at most 16 deep": at most d deep.
+abbrev mutual
+  pub Nests : Statement → ℕ → Type 0
+  Nests skip d = Unit {0}
+  Nests (perform a) d = Unit {0}
+  Nests (assert c) d = Unit {0}
+  Nests (if c b e) d = Inside (λ n. NestsBlock b n) d × NestsElse e d
+  Nests (while c b) d = Inside (λ n. NestsBlock b n) d
+
+  pub NestsElse : Else → ℕ → Type 0
+  NestsElse absent d = Unit {0}
+  NestsElse (present b) d = Inside (λ n. NestsBlock b n) d
+
+  pub NestsBlock : Block → ℕ → Type 0
+  NestsBlock empty d = Unit {0}
+  NestsBlock (s then b) d = Nests s d × NestsBlock b d

@@ -1,0 +1,10 @@
+pub mod Grammar
+pub mod Reading
+pub mod Spelled
+pub mod HeaderLaws
+pub mod Sound
+pub mod Complete
+pub mod Declarations
+pub mod Advance
+pub mod Whole
+pub mod Enough

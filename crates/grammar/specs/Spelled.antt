@@ -1,0 +1,48 @@
+-- When the tokens of a text are the sentence of a macro, and when the declarations of a macro are in order.
+use mathlib.Core.Path.{_≡_}
+use Prim.Native.Nat.{ℕ, _≤_, _<_}
+use mathlib.Core.Bool.{true}
+use mathlib.Core.List.{List, [], _∷_}
+use lib.ListN.{length, getD}
+use Rattle.macros.specs.Tree.{ProperBlock}
+use Rattle.tokens.specs.Tokens.{tokenAt}
+use Rattle.tokens.specs.Words.{isName}
+use Rattle.grammar.specs.Grammar.{Macro, headerOf, sentence, NestsBlock}
+
+-- The tokens of the text s from one place to another are the listed ones. (0 and 1 are no tokens.)
+pub data Spells (s : List ℕ) : ℕ → List ℕ → ℕ → Type 0 where
+  none : {at : ℕ} → Spells s at [] at
+  more : {at k e : ℕ} {ks : List ℕ} → tokenAt s at .key ≡ k → 2 ≤ k → Spells s (tokenAt s at .end) ks e → Spells s at (k ∷ ks) e
+
+-- The tokens of the whole text are the sentence of the macro.
+pub record Spelled (s : List ℕ) (m : Macro) : Type 0 where
+  pub place : ℕ
+  pub tokens : Spells s 0 (sentence m) place
+  pub ended : tokenAt s place .key ≡ 0
+
+-- Each is a name, and no two are the same.
+pub record Declared (rs : List ℕ) : Type 0 where
+  pub names : (i : ℕ) → i < length rs → isName (getD rs i 0) ≡ true
+  pub once : (i j : ℕ) → i < length rs → j < length rs → getD rs i 0 ≡ getD rs j 0 → i ≡ j
+
+-- No name of one list is in the other.
+unfoldable pub Apart : List ℕ → List ℕ → Type 0
+Apart rs fs = (i j : ℕ) → i < length rs → j < length fs → getD rs i 0 ≡ getD fs j 0 → ⊥
+
+-- As many as the functions, each 1 or 2.
+pub data Arities : List ℕ → List ℕ → Type 0 where
+  none : Arities [] []
+  one : {f : ℕ} {fs ns : List ℕ} → Arities fs ns → Arities (f ∷ fs) (1 ∷ ns)
+  two : {f : ℕ} {fs ns : List ℕ} → Arities fs ns → Arities (f ∷ fs) (2 ∷ ns)
+
+-- Declarations, uses and depth are in order (questions 10 to 12).
+pub record InOrder (m : Macro) : Type 0 where
+  pub registers : Declared (m .registers)
+  pub some : 1 ≤ length (m .registers)
+  pub few : length (m .registers) ≤ 8
+  pub functions : Declared (m .functions)
+  pub apart : Apart (m .registers) (m .functions)
+  pub arities : Arities (m .functions) (m .arities)
+  pub fewer : length (m .functions) ≤ 4
+  pub uses : ProperBlock (m .body) (headerOf m)
+  pub depth : NestsBlock (m .body) 16

@@ -1,0 +1,38 @@
+use mathlib.Core.Path.{_≡_, refl}
+use Prim.Native.Nat.{_-_, _≤_}
+use lib.ListN.{length, drop}
+use borrow.Author.Needs.{needs}
+use Rattle.monitoring.specs.Stream.{pushedAll}
+use Rattle.monitoring.proofs.Laws.{pushed-more, pushed-done}
+use Rattle.monitoring.proofs.streaming.push_all.Statement.{statement}
+use Rattle.monitoring.proofs.streaming.push_all.Tie as tie
+
+abbrev Inv-loop : tie.InvT-loop
+Inv-loop bytes next₀ i₀ next i = (i ≤ length bytes) × (pushedAll next (drop i bytes) ≡ pushedAll next₀ bytes)
+
+abbrev μ-loop : tie.MeasureT-loop
+μ-loop bytes next₀ i₀ next i = length bytes - i
+
+loop-holds : tie.Need-loop-holds Inv-loop μ-loop
+loop-holds c = (search needs, refl)
+
+shared-slice-read-push : tie.Need-shared-slice-read-push Inv-loop μ-loop
+shared-slice-read-push c = search needs
+
+push-requires : tie.Need-push-requires Inv-loop μ-loop
+push-requires c κs = search needs
+
+add-i : tie.Need-add-i Inv-loop μ-loop
+add-i c = search needs
+
+loop-less : tie.Need-loop-less Inv-loop μ-loop
+loop-less c = search needs
+
+loop-again : tie.Need-loop-again Inv-loop μ-loop
+loop-again c = (search needs, pushed-more _ _ _ _ _ (c .before .before .loop-test .taken) (c .before .before .before .loop .inv .1) (c .push .ensures))
+
+returns : tie.Need-returns Inv-loop μ-loop
+returns c = pushed-done _ _ _ _ (c .loop-test .left) (c .before .loop .inv .1)
+
+pub push-all-spec : {M : Type 1} → statement M
+push-all-spec = tie.close (tie.spec Inv-loop μ-loop loop-holds shared-slice-read-push push-requires add-i loop-less loop-again returns)

@@ -1,0 +1,11 @@
+-- Definitions: what the functions compute.
+pub mod Monitor
+pub mod Run
+pub mod Stream
+-- Laws.
+pub mod MonitorLaws
+pub mod NumberLaws
+pub mod StepRight
+pub mod Demand2
+pub mod RunRight
+pub mod StreamRight

@@ -1,0 +1,55 @@
+-- The run over a trace's words: the letters are numbered, and the first incoherent and the first infeasible one are named. What the code computes.
+use Prim.Native.Nat.{ℕ, _+_}
+use mathlib.Core.Bool.{Bool, not}
+use lib.Dec.{ltb, eqb}
+use Rattle.base.specs.Choice.{pick}
+use Rattle.letters.specs.Answers.{Answer, value, refusal, onAnswer}
+use Rattle.monitoring.specs.Monitor.{outcomeAnswer, startOf, advance}
+use Rattle.monitoring.specs.declared.Monitor.{Monitor}
+use Rattle.monitoring.specs.declared.Run.{Run}
+use Rattle.monitoring.specs.declared.Verdict.{Verdict}
+use Rattle.monitoring.specs.declared.Verdict.the-variants.{Judged, Refused}
+
+-- "The trace run numbers the letters": the first incoherent letter and the first infeasible one before it, 0 for none; or a refusal, its
+-- number and place.
+abbrev pub verdictAnswer : Verdict → Answer (ℕ × ℕ)
+verdictAnswer (Judged incoherent infeasible) = value (incoherent, infeasible)
+verdictAnswer (Refused number place) = refusal number place
+
+-- The last number of 64 bits. It stands for itself and for all greater numbers.
+unfoldable pub last : ℕ
+last = 18446744073709551615
+
+-- the number that stands for n
+unfoldable pub capped : ℕ → ℕ
+capped n = pick (ltb n last) (λ _. n) λ _. last
+
+-- the number after n
+unfoldable pub nextNumber : ℕ → ℕ
+nextNumber n = pick (ltb n last) (λ _. n + 1) λ _. n
+
+-- the letter named before, if there is one (it is not 0), or else this number if it is so now
+unfoldable pub firstOf : ℕ → Bool → ℕ → ℕ
+firstOf named now number = pick (eqb named 0) (λ _. pick now (λ _. number) λ _. 0) λ _. named
+
+abbrev pub runWith : Monitor → ℕ → Verdict → Run
+runWith m letters verdict = record { monitor = m; letters = letters; verdict = verdict }
+
+-- the run after a letter of this number that left this monitor
+unfoldable pub judgedRun : Monitor → ℕ → ℕ → ℕ → Run
+judgedRun m number incoherent infeasible =
+    runWith m number (Judged (firstOf incoherent (not (m .running)) number) (firstOf infeasible (m .window .infeasible) number))
+
+-- the run before the first letter
+unfoldable pub begunRun : ℕ → Run
+begunRun word = runWith (startOf word .monitor) 0 (onAnswer (outcomeAnswer (startOf word .outcome)) (λ _. Judged 0 0) Refused)
+
+-- the run after a letter's word; a run that has refused stays as it is
+unfoldable pub takenRun : Run → ℕ → Run
+takenRun run word =
+    let s = advance (run .monitor) word in
+    let n = nextNumber (run .letters) in
+    onAnswer (verdictAnswer (run .verdict))
+    (λ named. onAnswer (outcomeAnswer (s .outcome)) (λ _. judgedRun (s .monitor) n (named .0) (named .1))
+    λ number _. runWith (run .monitor) (run .letters) (Refused number n))
+    λ _ _. run

@@ -1,0 +1,68 @@
+use Rattle.phrases.specs.PhraseLaws.{application-open, application-first, application-read}
+use borrow.Author.Needs.{needs}
+use Rattle.phrases.proofs.application.Statement.{statement}
+use Rattle.phrases.proofs.application.Tie as tie
+use Rattle.phrases.proofs.application.Reads as reads
+use Rattle.phrases.proofs.application.Lts as lts
+use Rattle.phrases.proofs.arguments.Reads as arguments-reads
+use Rattle.phrases.proofs.expect.Reads as expect-reads
+use Rattle.phrases.proofs.refusal.Reads as refusal-reads
+use Rattle.phrases.proofs.use_of.Reads as use-of-reads
+use Rattle.tokens.proofs.next.Reads as next-reads
+
+expect-requires : tie.Need-expect-requires
+expect-requires c κs = search needs
+
+enum-known-paren : tie.Need-enum-known-paren
+enum-known-paren c = search needs
+
+enum-told : tie.Need-enum-told
+enum-told c = search needs
+
+refusal-requires : tie.Need-refusal-requires
+refusal-requires c κs = search needs
+
+returns : tie.Need-returns
+returns c = application-open _ _ _ _ _ _ _ (c .before .before .before .expect .ensures) _ _ ((c .before .enum-told .given) .1) _ (c .refusal .ensures)
+
+next-requires : tie.Need-next-requires
+next-requires c κs = search needs
+
+use-of-requires : tie.Need-use-of-requires
+use-of-requires c κs = search needs
+
+enum-known-first : tie.Need-enum-known-first
+enum-known-first c = search needs
+
+enum-told-2 : tie.Need-enum-told-2
+enum-told-2 c = search needs
+
+refusal-requires-2 : tie.Need-refusal-requires-2
+refusal-requires-2 c κs = search needs
+
+returns-2 : tie.Need-returns-2
+returns-2 c = application-first _ _ _ _ _ _ _ (c .before .before .before .before .before .before .before .before .expect .ensures) _ _ ((c .before .before .before .before .before .before .paren .given) .1) _ (c .before .before .before .before .next .ensures) _ (c .before .before .before .use-of .ensures) _ _ ((c .before .enum-told2 .given) .1) _ (c .refusal2 .ensures)
+
+arguments-requires : tie.Need-arguments-requires
+arguments-requires c κs = search needs
+
+returns-3 : tie.Need-returns-3
+returns-3 c = application-read _ _ _ _ _ _ _ (c .before .before .before .before .before .before .before .before .before .expect .ensures) _ _ ((c .before .before .before .before .before .before .before .paren .given) .1) _ (c .before .before .before .before .before .next .ensures) _ (c .before .before .before .before .use-of .ensures) _ _ ((c .before .before .first .given) .1) _ (c .arguments .ensures)
+
+pub application-spec : {M : Type 1} → statement M
+application-spec =
+    tie.close
+    (tie.spec
+    expect-requires
+    enum-known-paren
+    enum-told
+    refusal-requires
+    returns
+    next-requires
+    use-of-requires
+    enum-known-first
+    enum-told-2
+    refusal-requires-2
+    returns-2
+    arguments-requires
+    returns-3)

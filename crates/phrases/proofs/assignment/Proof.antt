@@ -1,0 +1,100 @@
+use Rattle.phrases.specs.PhraseLaws.{assignment-target, assignment-becomes, assignment-value, assignment-semicolon, assignment-read}
+use borrow.Author.Needs.{needs}
+use Rattle.phrases.proofs.assignment.Statement.{statement}
+use Rattle.phrases.proofs.assignment.Tie as tie
+use Rattle.phrases.proofs.assignment.Reads as reads
+use Rattle.phrases.proofs.assignment.Lts as lts
+use Rattle.phrases.proofs.expect.Reads as expect-reads
+use Rattle.phrases.proofs.refusal.Reads as refusal-reads
+use Rattle.phrases.proofs.use_of.Reads as use-of-reads
+use Rattle.phrases.proofs.value.Reads as value-reads
+use Rattle.tokens.proofs.next.Reads as next-reads
+
+next-requires : tie.Need-next-requires
+next-requires c κs = search needs
+
+use-of-requires : tie.Need-use-of-requires
+use-of-requires c κs = search needs
+
+enum-known-target : tie.Need-enum-known-target
+enum-known-target c = search needs
+
+enum-told : tie.Need-enum-told
+enum-told c = search needs
+
+refusal-requires : tie.Need-refusal-requires
+refusal-requires c κs = search needs
+
+returns : tie.Need-returns
+returns c = assignment-target _ _ _ _ _ _ (c .before .before .before .before .next .ensures) _ (c .before .before .before .use-of .ensures) _ _ ((c .before .enum-told .given) .1) _ (c .refusal .ensures)
+
+expect-requires : tie.Need-expect-requires
+expect-requires c κs = search needs
+
+enum-known-sign : tie.Need-enum-known-sign
+enum-known-sign c = search needs
+
+enum-told-2 : tie.Need-enum-told-2
+enum-told-2 c = search needs
+
+refusal-requires-2 : tie.Need-refusal-requires-2
+refusal-requires-2 c κs = search needs
+
+returns-2 : tie.Need-returns-2
+returns-2 c = assignment-becomes _ _ _ _ _ _ (c .before .before .before .before .before .before .before .before .next .ensures) _ (c .before .before .before .before .before .before .before .use-of .ensures) _ _ ((c .before .before .before .before .before .target .given) .1) _ (c .before .before .before .expect .ensures) _ _ ((c .before .enum-told2 .given) .1) _ (c .refusal2 .ensures)
+
+value-requires : tie.Need-value-requires
+value-requires c κs = search needs
+
+enum-known-right : tie.Need-enum-known-right
+enum-known-right c = search needs
+
+enum-told-3 : tie.Need-enum-told-3
+enum-told-3 c = search needs
+
+returns-3 : tie.Need-returns-3
+returns-3 c = assignment-value _ _ _ _ _ _ (c .before .before .before .before .before .before .before .before .before .before .before .next .ensures) _ (c .before .before .before .before .before .before .before .before .before .before .use-of .ensures) _ _ ((c .before .before .before .before .before .before .before .before .target .given) .1) _ (c .before .before .before .before .before .before .expect .ensures) _ _ ((c .before .before .before .before .sign .given) .1) _ (c .before .before .value .ensures) _ _ ((c .enum-told3 .given) .1)
+
+expect-requires-2 : tie.Need-expect-requires-2
+expect-requires-2 c κs = search needs
+
+enum-known-last : tie.Need-enum-known-last
+enum-known-last c = search needs
+
+enum-told-4 : tie.Need-enum-told-4
+enum-told-4 c = search needs
+
+refusal-requires-3 : tie.Need-refusal-requires-3
+refusal-requires-3 c κs = search needs
+
+returns-4 : tie.Need-returns-4
+returns-4 c = assignment-semicolon _ _ _ _ _ _ (c .before .before .before .before .before .before .before .before .before .before .before .before .before .before .before .before .next .ensures) _ (c .before .before .before .before .before .before .before .before .before .before .before .before .before .before .before .use-of .ensures) _ _ ((c .before .before .before .before .before .before .before .before .before .before .before .before .before .target .given) .1) _ (c .before .before .before .before .before .before .before .before .before .before .before .expect .ensures) _ _ ((c .before .before .before .before .before .before .before .before .before .sign .given) .1) _ (c .before .before .before .before .before .before .before .value .ensures) _ _ ((c .before .before .before .before .before .right .given) .1) _ (c .before .before .before .expect2 .ensures) _ _ ((c .before .enum-told4 .given) .1) _ (c .refusal3 .ensures)
+
+returns-5 : tie.Need-returns-5
+returns-5 c = assignment-read _ _ _ _ _ _ (c .before .before .before .before .before .before .before .before .before .before .before .before .before .before .before .before .next .ensures) _ (c .before .before .before .before .before .before .before .before .before .before .before .before .before .before .before .use-of .ensures) _ _ ((c .before .before .before .before .before .before .before .before .before .before .before .before .before .target .given) .1) _ (c .before .before .before .before .before .before .before .before .before .before .before .expect .ensures) _ _ ((c .before .before .before .before .before .before .before .before .before .sign .given) .1) _ (c .before .before .before .before .before .before .before .value .ensures) _ _ ((c .before .before .before .before .before .right .given) .1) _ (c .before .before .before .expect2 .ensures) _ _ ((c .before .last .given) .1)
+
+pub assignment-spec : {M : Type 1} → statement M
+assignment-spec =
+    tie.close
+    (tie.spec
+    next-requires
+    use-of-requires
+    enum-known-target
+    enum-told
+    refusal-requires
+    returns
+    expect-requires
+    enum-known-sign
+    enum-told-2
+    refusal-requires-2
+    returns-2
+    value-requires
+    enum-known-right
+    enum-told-3
+    returns-3
+    expect-requires-2
+    enum-known-last
+    enum-told-4
+    refusal-requires-3
+    returns-4
+    returns-5)

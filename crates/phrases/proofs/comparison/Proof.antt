@@ -1,0 +1,14 @@
+use Rattle.base.specs.Choice.{decide}
+use Rattle.phrases.proofs.comparison.Statement.{statement}
+use Rattle.phrases.proofs.comparison.Tie as tie
+use Rattle.phrases.proofs.comparison.Reads as reads
+use Rattle.phrases.proofs.comparison.Lts as lts
+
+returns : tie.Need-returns
+returns c = search (decide)
+
+returns-2 : tie.Need-returns-2
+returns-2 c = search (decide)
+
+pub comparison-spec : {M : Type 1} → statement M
+comparison-spec = tie.close (tie.spec returns returns-2)

@@ -1,0 +1,96 @@
+use Rattle.phrases.specs.PhraseLaws.{condition-left, condition-sign, condition-right, condition-read}
+use borrow.Author.Needs.{needs}
+use Rattle.phrases.proofs.condition.Statement.{statement}
+use Rattle.phrases.proofs.condition.Tie as tie
+use Rattle.phrases.proofs.condition.Reads as reads
+use Rattle.phrases.proofs.condition.Lts as lts
+use Rattle.phrases.proofs.comparison.Reads as comparison-reads
+use Rattle.phrases.proofs.refusal.Reads as refusal-reads
+use Rattle.phrases.proofs.sign_of.Reads as sign-of-reads
+use Rattle.phrases.proofs.use_of.Reads as use-of-reads
+use Rattle.tokens.proofs.next.Reads as next-reads
+
+next-requires : tie.Need-next-requires
+next-requires c κs = search needs
+
+use-of-requires : tie.Need-use-of-requires
+use-of-requires c κs = search needs
+
+enum-known-left : tie.Need-enum-known-left
+enum-known-left c = search needs
+
+enum-told : tie.Need-enum-told
+enum-told c = search needs
+
+refusal-requires : tie.Need-refusal-requires
+refusal-requires c κs = search needs
+
+returns : tie.Need-returns
+returns c = condition-left _ _ _ _ (c .before .before .before .before .next .ensures) _ (c .before .before .before .use-of .ensures) _ _ ((c .before .enum-told .given) .1) _ (c .refusal .ensures)
+
+next-requires-2 : tie.Need-next-requires-2
+next-requires-2 c κs = search needs
+
+sign-of-requires : tie.Need-sign-of-requires
+sign-of-requires c κs = search needs
+
+enum-known-sign : tie.Need-enum-known-sign
+enum-known-sign c = search needs
+
+enum-told-2 : tie.Need-enum-told-2
+enum-told-2 c = search needs
+
+refusal-requires-2 : tie.Need-refusal-requires-2
+refusal-requires-2 c κs = search needs
+
+returns-2 : tie.Need-returns-2
+returns-2 c = condition-sign _ _ _ _ (c .before .before .before .before .before .before .before .before .before .next .ensures) _ (c .before .before .before .before .before .before .before .before .use-of .ensures) _ _ ((c .before .before .before .before .before .before .left .given) .1) _ (c .before .before .before .before .next2 .ensures) _ (c .before .before .before .sign-of .ensures) _ _ ((c .before .enum-told2 .given) .1) _ (c .refusal2 .ensures)
+
+next-requires-3 : tie.Need-next-requires-3
+next-requires-3 c κs = search needs
+
+use-of-requires-2 : tie.Need-use-of-requires-2
+use-of-requires-2 c κs = search needs
+
+enum-known-right : tie.Need-enum-known-right
+enum-known-right c = search needs
+
+enum-told-3 : tie.Need-enum-told-3
+enum-told-3 c = search needs
+
+refusal-requires-3 : tie.Need-refusal-requires-3
+refusal-requires-3 c κs = search needs
+
+returns-3 : tie.Need-returns-3
+returns-3 c = condition-right _ _ _ _ (c .before .before .before .before .before .before .before .before .before .before .before .before .before .before .next .ensures) _ (c .before .before .before .before .before .before .before .before .before .before .before .before .before .use-of .ensures) _ _ ((c .before .before .before .before .before .before .before .before .before .before .before .left .given) .1) _ (c .before .before .before .before .before .before .before .before .before .next2 .ensures) _ (c .before .before .before .before .before .before .before .before .sign-of .ensures) _ _ ((c .before .before .before .before .before .before .sign .given) .1) _ (c .before .before .before .before .next3 .ensures) _ (c .before .before .before .use-of2 .ensures) _ _ ((c .before .enum-told3 .given) .1) _ (c .refusal3 .ensures)
+
+comparison-requires : tie.Need-comparison-requires
+comparison-requires c κs = search needs
+
+returns-4 : tie.Need-returns-4
+returns-4 c = condition-read _ _ _ _ (c .before .before .before .before .before .before .before .before .before .before .before .before .before .before .before .next .ensures) _ (c .before .before .before .before .before .before .before .before .before .before .before .before .before .before .use-of .ensures) _ _ ((c .before .before .before .before .before .before .before .before .before .before .before .before .left .given) .1) _ (c .before .before .before .before .before .before .before .before .before .before .next2 .ensures) _ (c .before .before .before .before .before .before .before .before .before .sign-of .ensures) _ _ ((c .before .before .before .before .before .before .before .sign .given) .1) _ (c .before .before .before .before .before .next3 .ensures) _ (c .before .before .before .before .use-of2 .ensures) _ _ ((c .before .before .right .given) .1) _ (c .comparison .ensures)
+
+pub condition-spec : {M : Type 1} → statement M
+condition-spec =
+    tie.close
+    (tie.spec
+    next-requires
+    use-of-requires
+    enum-known-left
+    enum-told
+    refusal-requires
+    returns
+    next-requires-2
+    sign-of-requires
+    enum-known-sign
+    enum-told-2
+    refusal-requires-2
+    returns-2
+    next-requires-3
+    use-of-requires-2
+    enum-known-right
+    enum-told-3
+    refusal-requires-3
+    returns-3
+    comparison-requires
+    returns-4)

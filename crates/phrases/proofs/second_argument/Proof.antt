@@ -1,0 +1,63 @@
+use Rattle.phrases.specs.PhraseLaws.{second-refused, second-end, second-read}
+use borrow.Author.Needs.{needs}
+use Rattle.phrases.proofs.second_argument.Statement.{statement}
+use Rattle.phrases.proofs.second_argument.Tie as tie
+use Rattle.phrases.proofs.second_argument.Reads as reads
+use Rattle.phrases.proofs.second_argument.Lts as lts
+use Rattle.phrases.proofs.expect.Reads as expect-reads
+use Rattle.phrases.proofs.refusal.Reads as refusal-reads
+use Rattle.phrases.proofs.use_of.Reads as use-of-reads
+use Rattle.tokens.proofs.next.Reads as next-reads
+
+next-requires : tie.Need-next-requires
+next-requires c κs = search needs
+
+use-of-requires : tie.Need-use-of-requires
+use-of-requires c κs = search needs
+
+enum-known-second : tie.Need-enum-known-second
+enum-known-second c = search needs
+
+enum-told : tie.Need-enum-told
+enum-told c = search needs
+
+refusal-requires : tie.Need-refusal-requires
+refusal-requires c κs = search needs
+
+returns : tie.Need-returns
+returns c = second-refused _ _ _ _ _ _ _ (c .before .before .before .before .next .ensures) _ (c .before .before .before .use-of .ensures) _ _ ((c .before .enum-told .given) .1) _ (c .refusal .ensures)
+
+expect-requires : tie.Need-expect-requires
+expect-requires c κs = search needs
+
+enum-known-last : tie.Need-enum-known-last
+enum-known-last c = search needs
+
+enum-told-2 : tie.Need-enum-told-2
+enum-told-2 c = search needs
+
+refusal-requires-2 : tie.Need-refusal-requires-2
+refusal-requires-2 c κs = search needs
+
+returns-2 : tie.Need-returns-2
+returns-2 c = second-end _ _ _ _ _ _ _ (c .before .before .before .before .before .before .before .before .next .ensures) _ (c .before .before .before .before .before .before .before .use-of .ensures) _ _ ((c .before .before .before .before .before .second .given) .1) _ (c .before .before .before .expect .ensures) _ _ ((c .before .enum-told2 .given) .1) _ (c .refusal2 .ensures)
+
+returns-3 : tie.Need-returns-3
+returns-3 c = second-read _ _ _ _ _ _ _ (c .before .before .before .before .before .before .before .before .next .ensures) _ (c .before .before .before .before .before .before .before .use-of .ensures) _ _ ((c .before .before .before .before .before .second .given) .1) _ (c .before .before .before .expect .ensures) _ _ ((c .before .last .given) .1)
+
+pub second-argument-spec : {M : Type 1} → statement M
+second-argument-spec =
+    tie.close
+    (tie.spec
+    next-requires
+    use-of-requires
+    enum-known-second
+    enum-told
+    refusal-requires
+    returns
+    expect-requires
+    enum-known-last
+    enum-told-2
+    refusal-requires-2
+    returns-2
+    returns-3)

@@ -1,0 +1,54 @@
+use Rattle.phrases.specs.PhraseLaws.{tested-refused, tested-end, tested-read}
+use borrow.Author.Needs.{needs}
+use Rattle.phrases.proofs.tested.Statement.{statement}
+use Rattle.phrases.proofs.tested.Tie as tie
+use Rattle.phrases.proofs.tested.Reads as reads
+use Rattle.phrases.proofs.tested.Lts as lts
+use Rattle.phrases.proofs.condition.Reads as condition-reads
+use Rattle.phrases.proofs.expect.Reads as expect-reads
+use Rattle.phrases.proofs.refusal.Reads as refusal-reads
+
+condition-requires : tie.Need-condition-requires
+condition-requires c κs = search needs
+
+enum-known-g : tie.Need-enum-known-g
+enum-known-g c = search needs
+
+enum-told : tie.Need-enum-told
+enum-told c = search needs
+
+returns : tie.Need-returns
+returns c = tested-refused _ _ _ _ (c .before .before .condition .ensures) _ _ ((c .enum-told .given) .1)
+
+expect-requires : tie.Need-expect-requires
+expect-requires c κs = search needs
+
+enum-known-last : tie.Need-enum-known-last
+enum-known-last c = search needs
+
+enum-told-2 : tie.Need-enum-told-2
+enum-told-2 c = search needs
+
+refusal-requires : tie.Need-refusal-requires
+refusal-requires c κs = search needs
+
+returns-2 : tie.Need-returns-2
+returns-2 c = tested-end _ _ _ _ (c .before .before .before .before .before .before .before .condition .ensures) _ _ ((c .before .before .before .before .before .g .given) .1) _ (c .before .before .before .expect .ensures) _ _ ((c .before .enum-told2 .given) .1) _ (c .refusal .ensures)
+
+returns-3 : tie.Need-returns-3
+returns-3 c = tested-read _ _ _ _ (c .before .before .before .before .before .before .before .condition .ensures) _ _ ((c .before .before .before .before .before .g .given) .1) _ (c .before .before .before .expect .ensures) _ _ ((c .before .last .given) .1)
+
+pub tested-spec : {M : Type 1} → statement M
+tested-spec =
+    tie.close
+    (tie.spec
+    condition-requires
+    enum-known-g
+    enum-told
+    returns
+    expect-requires
+    enum-known-last
+    enum-told-2
+    refusal-requires
+    returns-2
+    returns-3)

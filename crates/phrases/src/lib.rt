@@ -1,0 +1,280 @@
+// The phrases of a statement: uses, conditions and assignments (document 01, "Macro text").
+use letters::Letter;
+use tokens::Token;
+ghost use mathlib.Core.Path.{_≡_};
+ghost use Prim.Native.Nat.{_≤_, _<_};
+ghost use lib.Dec.{ltb};
+ghost use lib.ListN.{length};
+ghost use Rattle.macros.specs.Tree.{test};
+ghost use Rattle.grammar.specs.Reading.{indexOf, unfit, expect as expectAt, useT, signT, condition as conditionAt, tested as testedAt, argumentsT, value as valueAt, assignment as assignmentAt};
+ghost use Rattle.tokens.specs.Tokens.{tokenAt};
+ghost use Rattle.phrases.specs.Codes.{coded, plain, nothing, lettered, same, kind, comparing, carried, Few, secondAt, applicationAt};
+
+/// A number that was read, and the place after it; or the number of a refusal and its place.
+pub enum Got {
+    At(u8, usize),
+    Refused(u8, usize),
+}
+
+/// A letter that was read, and the place after it; or the number of a refusal and its place.
+pub enum GotLetter {
+    At(Letter, usize),
+    Refused(u8, usize),
+}
+
+// The place of a name in a list, or the list's length.
+fn find(list: &[u64], k: u64) -> u8
+    requires { ⌜ length (now list) ≤ 8 ⌝ }
+    ensures { λ r. ⌜ r ≡ indexOf k (now (list .entry)) ⌝ }
+{
+    let mut i: u8 = 0;
+    while (i as usize) < list.len() {
+        if tokens::same_name(k, list[i as usize]) {
+            return i;
+        }
+        i += 1;
+    }
+    i
+}
+
+/// Whether a name is in a list.
+pub fn is_known(list: &[u64], k: u64) -> bool
+    requires { ⌜ length (now list) ≤ 8 ⌝ }
+    ensures { λ r. ⌜ r ≡ ltb (indexOf k (now (list .entry))) (length (now (list .entry))) ⌝ }
+{
+    let i = find(list, k);
+    (i as usize) < list.len()
+}
+
+/// A token that does not fit the grammar.
+pub fn unfitting(t: Token) -> Got
+    ensures { λ r. ⌜ r ≡ plain (unfit t) ⌝ }
+{
+    if t.key == tokens::WRONG {
+        return Got::Refused(8, t.start);
+    }
+    Got::Refused(9, t.start)
+}
+
+/// One token k at or after a place.
+pub fn expect(text: &[u8], k: u64, at: usize) -> Got
+    ensures { λ r. ⌜ r ≡ nothing (expectAt (now (text .entry)) k at) ⌝ }
+{
+    let t = tokens::next(text, at);
+    if t.key == k {
+        return Got::At(0, t.end);
+    }
+    unfitting(t)
+}
+
+// A name of a list, as its place in the list.
+fn use_of(t: Token, list: &[u64]) -> Got
+    requires { ⌜ length (now list) ≤ 8 ⌝ }
+    ensures { λ r. ⌜ r ≡ plain (useT (now (list .entry)) t) ⌝ }
+{
+    let k = t.key;
+    if tokens::is_name(k) {
+        let i = find(list, k);
+        if (i as usize) < list.len() {
+            return Got::At(i, t.end);
+        }
+        return Got::Refused(11, t.start);
+    }
+    unfitting(t)
+}
+
+// `=` as 1 or `!=` as 0.
+fn sign_of(t: Token) -> Got
+    ensures { λ r. ⌜ r ≡ coded kind (signT t) ⌝ }
+{
+    if t.key == tokens::EQUAL {
+        return Got::At(1, t.end);
+    }
+    if t.key == tokens::UNEQUAL {
+        return Got::At(0, t.end);
+    }
+    unfitting(t)
+}
+
+// The test of two registers by a sign.
+fn comparison(sign: u8, x: u8, y: u8) -> Letter
+    ensures { λ r. ⌜ r ≡ comparing sign x y ⌝ }
+{
+    if sign == 1 {
+        return Letter::Equal {
+            first: x,
+            second: y,
+        };
+    }
+    Letter::Unequal {
+        first: x,
+        second: y,
+    }
+}
+
+/// The same refusal, where a letter was to be read.
+pub fn refusal(g: Got) -> GotLetter
+    ensures { λ r. ⌜ r ≡ carried g ⌝ }
+{
+    match g {
+        Got::At(_, _) => GotLetter::Refused(0, 0),
+        Got::Refused(n, p) => GotLetter::Refused(n, p),
+    }
+}
+
+/// A condition, as its test.
+pub fn condition(text: &[u8], regs: &[u64], at: usize) -> GotLetter
+    requires { ⌜ length (now regs) ≤ 8 ⌝ }
+    ensures { λ r. ⌜ r ≡ lettered test (conditionAt (now (text .entry)) (now (regs .entry)) at) ⌝ }
+{
+    let left = use_of(tokens::next(text, at), regs);
+    let Got::At(x, a) = left else {
+        return refusal(left);
+    };
+    let sign = sign_of(tokens::next(text, a));
+    let Got::At(q, b) = sign else {
+        return refusal(sign);
+    };
+    let right = use_of(tokens::next(text, b), regs);
+    let Got::At(y, e) = right else {
+        return refusal(right);
+    };
+    GotLetter::At(comparison(q, x, y), e)
+}
+
+/// A condition and `;`.
+pub fn tested(text: &[u8], regs: &[u64], at: usize) -> GotLetter
+    requires { ⌜ length (now regs) ≤ 8 ⌝ }
+    ensures { λ r. ⌜ r ≡ lettered test (testedAt (now (text .entry)) (now (regs .entry)) at) ⌝ }
+{
+    let g = condition(text, regs, at);
+    let GotLetter::At(l, a) = g else {
+        return g;
+    };
+    let last = expect(text, tokens::SEMICOLON, a);
+    let Got::At(_, e) = last else {
+        return refusal(last);
+    };
+    GotLetter::At(l, e)
+}
+
+// Behind the first argument y of the function f, which takes n.
+fn arguments(text: &[u8], regs: &[u64], n: u8, x: u8, f: u8, y: u8, at: usize) -> GotLetter
+    requires { ⌜ length (now regs) ≤ 8 ⌝ }
+    ensures { λ r. ⌜ r ≡ lettered same (argumentsT (now (text .entry)) (now (regs .entry)) n x f y (tokenAt (now (text .entry)) at)) ⌝ }
+{
+    let t = tokens::next(text, at);
+    if t.key == tokens::COMMA {
+        if n == 2 {
+            return second_argument(text, regs, x, f, y, t.end);
+        }
+        return GotLetter::Refused(11, t.start);
+    }
+    if t.key == tokens::RPAREN {
+        if n == 2 {
+            return GotLetter::Refused(11, t.start);
+        }
+        return GotLetter::At(
+            Letter::Apply {
+                target: x,
+                function: f,
+                first: y,
+                second: y,
+            },
+            t.end,
+        );
+    }
+    refusal(unfitting(t))
+}
+
+// Behind `,`: the second argument of the function f, and `)`.
+fn second_argument(text: &[u8], regs: &[u64], x: u8, f: u8, y: u8, at: usize) -> GotLetter
+    requires { ⌜ length (now regs) ≤ 8 ⌝ }
+    ensures { λ r. ⌜ r ≡ lettered same (secondAt (now (text .entry)) (now (regs .entry)) x f y at) ⌝ }
+{
+    let second = use_of(tokens::next(text, at), regs);
+    let Got::At(z, a) = second else {
+        return refusal(second);
+    };
+    let last = expect(text, tokens::RPAREN, a);
+    let Got::At(_, e) = last else {
+        return refusal(last);
+    };
+    GotLetter::At(
+        Letter::Apply {
+            target: x,
+            function: f,
+            first: y,
+            second: z,
+        },
+        e,
+    )
+}
+
+// Behind `x := f` and before `(`: the arguments of the function f, which takes n.
+fn application(text: &[u8], regs: &[u64], n: u8, x: u8, f: u8, at: usize) -> GotLetter
+    requires { ⌜ length (now regs) ≤ 8 ⌝ }
+    ensures { λ r. ⌜ r ≡ lettered same (applicationAt (now (text .entry)) (now (regs .entry)) n x f at) ⌝ }
+{
+    let paren = expect(text, tokens::LPAREN, at);
+    let Got::At(_, b) = paren else {
+        return refusal(paren);
+    };
+    let first = use_of(tokens::next(text, b), regs);
+    let Got::At(y, e) = first else {
+        return refusal(first);
+    };
+    arguments(text, regs, n, x, f, y, e)
+}
+
+// Behind `x :=`: a register, or a function of one or two.
+fn value(text: &[u8], regs: &[u64], funs: &[u64], arities: &[u8], x: u8, at: usize) -> GotLetter
+    requires { ⌜ Few (now regs) (now funs) (now arities) ⌝ }
+    ensures { λ r. ⌜ r ≡ lettered same (valueAt (now (text .entry)) (now (regs .entry)) (now (funs .entry)) (now (arities .entry)) x at) ⌝ }
+{
+    let t = tokens::next(text, at);
+    let u = tokens::next(text, t.end);
+    if u.key == tokens::LPAREN {
+        let called = use_of(t, funs);
+        let Got::At(f, a) = called else {
+            return refusal(called);
+        };
+        let n = arities[f as usize];
+        return application(text, regs, n, x, f, a);
+    }
+    let copied = use_of(t, regs);
+    let Got::At(y, e) = copied else {
+        return refusal(copied);
+    };
+    GotLetter::At(
+        Letter::Copy {
+            target: x,
+            source: y,
+        },
+        e,
+    )
+}
+
+/// An assignment, as its letter.
+pub fn assignment(text: &[u8], regs: &[u64], funs: &[u64], arities: &[u8], at: usize) -> GotLetter
+    requires { ⌜ Few (now regs) (now funs) (now arities) ⌝ }
+    ensures { λ r. ⌜ r ≡ lettered same (assignmentAt (now (text .entry)) (now (regs .entry)) (now (funs .entry)) (now (arities .entry)) at) ⌝ }
+{
+    let target = use_of(tokens::next(text, at), regs);
+    let Got::At(x, a) = target else {
+        return refusal(target);
+    };
+    let sign = expect(text, tokens::BECOMES, a);
+    let Got::At(_, b) = sign else {
+        return refusal(sign);
+    };
+    let right = value(text, regs, funs, arities, x, b);
+    let GotLetter::At(l, c) = right else {
+        return right;
+    };
+    let last = expect(text, tokens::SEMICOLON, c);
+    let Got::At(_, e) = last else {
+        return refusal(last);
+    };
+    GotLetter::At(l, e)
+}

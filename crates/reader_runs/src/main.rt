@@ -1,0 +1,121 @@
+// Reads each text that an argument names, and prints what reading it gives: the refusal and its place, or the counts and the points.
+use blocks::Point;
+use letters::Letter;
+use libc::STDOUT_FILENO;
+use syntax::Macro;
+
+// One byte more than a macro may have.
+fn space() -> [u8; 4097] {
+    [0; 4097]
+}
+
+fn number(n: u64) {
+    io::write_all(STDOUT_FILENO, b" ");
+    io::print_decimal(STDOUT_FILENO, n);
+}
+
+fn print_letter(letter: Letter) {
+    match letter {
+        Letter::Copy { target, source } => {
+            io::write_all(STDOUT_FILENO, b" copy");
+            number(target as u64);
+            number(source as u64);
+        }
+        Letter::Apply {
+            target,
+            function,
+            first,
+            second,
+        } => {
+            io::write_all(STDOUT_FILENO, b" apply");
+            number(target as u64);
+            number(function as u64);
+            number(first as u64);
+            number(second as u64);
+        }
+        Letter::Equal { first, second } => {
+            io::write_all(STDOUT_FILENO, b" equal");
+            number(first as u64);
+            number(second as u64);
+        }
+        Letter::Unequal { first, second } => {
+            io::write_all(STDOUT_FILENO, b" unequal");
+            number(first as u64);
+            number(second as u64);
+        }
+    }
+}
+
+fn print_point(point: Point) {
+    io::write_all(STDOUT_FILENO, b" |");
+    number(point.kind as u64);
+    let letter = point.letter;
+    print_letter(letter);
+    number(point.first as u64);
+    number(point.second as u64);
+}
+
+// The points, if they are few.
+fn print_points(points: [Point; 256], count: u16) {
+    if 12 < count {
+        return;
+    }
+    let mut i: usize = 0;
+    while i < 12 {
+        if count as usize <= i {
+            return;
+        }
+        let point = points[i];
+        print_point(point);
+        i += 1;
+    }
+}
+
+fn print_macro(program: Macro) {
+    let header = program.header;
+    io::write_all(STDOUT_FILENO, b": read");
+    number(header.registers as u64);
+    number(header.functions as u64);
+    number(header.binary as u64);
+    number(program.count as u64);
+    let points = program.points;
+    print_points(points, program.count);
+}
+
+fn judge(text: &[u8]) {
+    let answer = syntax::read(text);
+    if answer.refusal == 0 {
+        let program = answer.program;
+        print_macro(program);
+    } else {
+        io::write_all(STDOUT_FILENO, b": refused ");
+        io::print_decimal(STDOUT_FILENO, answer.refusal as u64);
+        io::write_all(STDOUT_FILENO, b" at ");
+        io::print_decimal(STDOUT_FILENO, answer.place as u64);
+    }
+    io::write_all(STDOUT_FILENO, b"\n");
+}
+
+fn run_one(i: usize) {
+    let mut path = io::buffer();
+    let n = os::arg(i, &mut path);
+    io::write_all(STDOUT_FILENO, &path[..n]);
+    let fd = os::open_read(&path[..n]);
+    if fd < 0 {
+        os::fail(&path[..n]);
+        return;
+    }
+    let mut text = space();
+    let size = io::read_full(fd, &mut text);
+    judge(&text[..size]);
+    libc::close(fd);
+}
+
+fn main() {
+    let count = os::arg_count();
+    let mut i: usize = 0;
+    while i < count {
+        i = i + 1;
+        run_one(i);
+    }
+}

@@ -1,0 +1,9 @@
+use Rattle.records.specs.Records.{branchIn}
+use borrow.Author.Needs.{needs}
+use Rattle.records.proofs.branch_in.Statement.{statement}
+use Rattle.records.proofs.branch_in.Tie as tie
+use Rattle.records.proofs.wide.Reads as wide-reads
+
+pub branch-in-spec : {M : Type 1} → statement M
+unfolding branchIn
+branch-in-spec = tie.close (tie.spec (λ c. search needs) (λ c κs. search needs) (λ c. c .wide .ensures .0))

@@ -1,0 +1,19 @@
+use Rattle.records.specs.Records.{pointIn}
+use borrow.Author.Needs.{needs}
+use Rattle.records.proofs.point_in.Statement.{statement}
+use Rattle.records.proofs.point_in.Tie as tie
+use Rattle.records.proofs.wide.Reads as wide-reads
+
+pub point-in-spec : {M : Type 1} → statement M
+unfolding pointIn
+point-in-spec =
+    tie.close
+    (tie.spec
+    (λ c. search needs)
+    (λ c κs. search needs)
+    (λ c. search needs)
+    (λ c. search needs)
+    (λ c κs. search needs)
+    (λ c. search needs)
+    (λ c. search needs)
+    (λ c. search (c .before .before .wide .ensures .0, c .wide2 .ensures .0)))

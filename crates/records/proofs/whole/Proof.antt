@@ -1,0 +1,21 @@
+use Rattle.records.proofs.Turns.{record-made}
+use borrow.Author.Needs.{needs}
+use Rattle.records.proofs.whole.Statement.{statement}
+use Rattle.records.proofs.whole.Tie as tie
+use Rattle.records.proofs.lay.Reads as lay-reads
+
+pub whole-spec : {M : Type 1} → statement M
+whole-spec =
+    tie.close
+    (tie.spec
+    (λ c. search needs)
+    (λ c. search needs)
+    (λ c κs. search needs)
+    (λ c. search needs)
+    (λ c. search needs)
+    (λ c. search needs)
+    (λ c. search needs)
+    (λ c. search needs)
+    (λ c. search needs)
+    (λ c. search needs)
+    (λ c. let a = c .before .before .before .before .args in record-made (a .t1) _ (a .parent) (a .branch) (search needs) (c .before .lay .ensures .0)))

@@ -1,0 +1,6 @@
+pub mod Layout
+pub mod Codes
+pub mod Records
+pub mod Tables
+pub mod Storable
+pub mod Agree

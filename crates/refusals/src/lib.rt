@@ -1,0 +1,1 @@
+// Where a text is refused. There is no code here.

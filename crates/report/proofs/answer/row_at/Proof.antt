@@ -1,0 +1,21 @@
+use borrow.Author.Needs.{needs}
+use Rattle.report.specs.ShownLaws.{row-words}
+use Rattle.report.proofs.answer.row_at.Statement.{statement}
+use Rattle.report.proofs.answer.row_at.Tie as tie
+
+pub row-at-spec : {M : Type 1} → statement M
+row-at-spec =
+    tie.close
+    (tie.spec
+    (λ c κs. search needs)
+    (λ c. search needs)
+    (λ c κs. search needs)
+    (λ c. search needs)
+    (λ c. search needs)
+    (λ c. search needs)
+    (λ c. search needs)
+    (λ c κs. search needs)
+    (λ c. search needs)
+    (λ c.
+    let a = c .before .before .before .before .args in
+    row-words (a .bytes .now) (a .at) (c .before .before .word-at .ensures .0) (c .before .word-at2 .ensures .0) (c .byte-at .ensures .0)))

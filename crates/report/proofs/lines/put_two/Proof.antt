@@ -1,0 +1,20 @@
+use borrow.Author.Needs.{needs}
+use mathlib.Core.Path.{sym}
+use mathlib.Core.List.{[], _∷_}
+use Rattle.text.specs.Templates.{filledIn}
+use Rattle.text.specs.Appending.{room-same, appended-same, appended-length}
+use Rattle.report.proofs.lines.put_two.Statement.{statement}
+use Rattle.report.proofs.lines.put_two.Tie as tie
+
+pub put-two-spec : {M : Type 1} → statement M
+put-two-spec =
+    tie.close
+    (tie.spec
+    (λ c κs. search needs)
+    (λ c κs. search needs)
+    (λ c κs.
+    let a = c .before .before .before .before .before in
+    room-same (λ i. filledIn (a .args .template .now) (sym (c .before .before .register-name .ensures) i ∷ sym (c .before .register-name2 .ensures) i ∷ 0 ∷ 0 ∷ [])) (a .pre))
+    (λ c. appended-length (c .before .before .put-line .ensures))
+    (λ c.
+    appended-same (λ i. filledIn (c .before .before .before .before .before .before .before .before .args .template .now) ((c .before .before .before .before .before .register-name .ensures) i ∷ (c .before .before .before .before .register-name2 .ensures) i ∷ 0 ∷ 0 ∷ [])) (c .before .before .put-line .ensures)))

@@ -1,0 +1,36 @@
+use borrow.Author.Needs.{needs}
+use mathlib.Core.Path.{subst}
+use Prim.Native.Nat.{ℕ}
+use native.Mathlib.Omega.{arith}
+use lib.ListN.{getD}
+use mir.Syntax.{w8, w64}
+use mir.Val.{Fits}
+use Rattle.text.specs.Appending.{appended-length}
+use Rattle.report.specs.declared.Verdict.{Verdict}
+use Rattle.report.specs.declared.Written.the-variants.{Bytes, NoRoom}
+use Rattle.report.specs.Shown.{reportOf, Wrote}
+use Rattle.report.specs.WroteLaws.{wrote-none, wrote-all}
+use Rattle.report.specs.Bound.{report-room}
+use Rattle.report.proofs.write_report.Statement.{statement}
+use Rattle.report.proofs.write_report.Tie as tie
+
+pub write-report-spec : {M : Type 1} → statement M
+write-report-spec =
+    tie.close
+    (tie.spec
+    (λ c κs. search needs)
+    (λ c. search needs)
+    (λ c κs.
+    let a = c .before .before .before .before .args in
+    let reg : (r : ℕ) → Fits w64 (getD (a .registers) r 0) = λ r. search needs in
+    let fun : (f : ℕ) → Fits w64 (getD (a .functions) f 0) = λ f. search needs in
+    let few : Fits w8 (a .h .registers) = search needs in
+    report-room (a .registers) (a .functions) (λ r. reg r .fits) (λ f. fun f .fits) (a .h) (a .answer .now) (λ i. omega (arith, c .before .before .before .shared-slice-known .given i)) (c .before .limited .result) (c .before .limited .ensures .1) (few .fits))
+    (λ c.
+    let a = c .before .before .before .before .before .before .before .args in
+    subst (λ (v : Verdict). Wrote (reportOf (a .registers) (a .functions) (a .h) v (a .answer .now)) (a .out .now) (a .out .now) NoRoom) (c .before .before .before .before .limited .ensures .0) (wrote-none (c .before .before .put-report .ensures .place) (c .if1 .taken)))
+    (λ c κs. search needs)
+    (λ c. appended-length (c .before .before .put-report2 .ensures))
+    (λ c.
+    let a = c .before .before .before .before .before .before .before .before .before .before .before .args in
+    subst (λ (v : Verdict). Wrote (reportOf (a .registers) (a .functions) (a .h) v (a .answer .now)) (a .out .now) (c .before .before .put-report2 .last .0) (Bytes (c .before .before .put-report2 .result))) (c .before .before .before .before .before .before .before .before .limited .ensures .0) (wrote-all (c .before .before .before .before .before .before .put-report .ensures .place) (c .before .before .before .before .if1 .left) (c .before .before .put-report2 .ensures))))

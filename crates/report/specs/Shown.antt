@@ -1,0 +1,53 @@
+-- What a verdict shows, read from the bytes of its answer: the execution as a packed trace, on fail its model directly behind it.
+use mathlib.Core.Path.{_≡_}
+use Prim.Native.Nat.{ℕ, zero, suc, _+_, _*_}
+use mathlib.Core.List.{List, [], _∷_, _++_}
+use lib.Dec.{leb}
+use lib.ListN.{length, getD, drop}
+use Rattle.base.specs.Choice.{pick}
+use Rattle.letters.specs.declared.Header.{Header}
+use Rattle.letters.specs.declared.Letter.{Letter}
+use Rattle.letters.specs.declared.Letter.the-variants.{Copy}
+use Rattle.letters.specs.Editions.{firstEdition}
+use Rattle.letters.specs.Answers.{onAnswer}
+use Rattle.letters.specs.Traces.{letterAt}
+use Rattle.semantics.specs.PackedTables.{firstRowWidths, readTables}
+use Rattle.text.specs.Names.{nameText}
+use Rattle.report.specs.declared.Verdict.{Verdict}
+use Rattle.report.specs.declared.Verdict.the-variants.{Pass, Incoherent, Fail, Refused}
+use Rattle.report.specs.declared.Written.{Written}
+use Rattle.report.specs.declared.Written.the-variants.{Bytes, NoRoom}
+use Rattle.report.specs.Lines.{Names, Printed, pass, incoherent, fail, refused, report}
+
+-- The names that two arrays hold.
+abbrev pub namesOf : List ℕ → List ℕ → Names
+namesOf registers functions = record { register = λ r. nameText (getD registers r 0); function = λ f. nameText (getD functions f 0) }
+
+-- Letter k, from 0, of the trace in s. What is no letter under h counts as the copy of register 0 to itself; packed traces have none such.
+unfoldable pub letterOf : Header → List ℕ → ℕ → Letter
+letterOf h s k = onAnswer (letterAt firstEdition h s k) (λ l. l) λ _ _. Copy 0 0
+
+-- n letters from letter k on.
+unfoldable pub lettersIn : Header → List ℕ → ℕ → ℕ → List Letter
+lettersIn h s k zero = []
+lettersIn h s k (suc n) = letterOf h s k ∷ lettersIn h s (k + 1) n
+
+-- Where the model begins, behind a header and n letters of two bytes each.
+abbrev pub modelStart : ℕ → ℕ
+modelStart n = 2 * n + 2
+
+-- What is printed for a verdict whose answer is in s.
+unfoldable pub shown : Header → Verdict → List ℕ → Printed
+shown h (Pass pairs) s = pass pairs
+shown h (Incoherent pairs n) s = incoherent pairs (lettersIn h s 0 n)
+shown h (Fail pairs n) s = fail pairs (lettersIn h s 0 n) (readTables firstRowWidths h (drop (modelStart n) s))
+shown h (Refused number place) s = refused number place
+
+-- The report of a verdict whose answer is in s.
+unfoldable pub reportOf : List ℕ → List ℕ → Header → Verdict → List ℕ → List ℕ
+reportOf registers functions h verdict s = report (namesOf registers functions) h (shown h verdict s)
+
+-- A text that was to be written into a buffer: it stands in front and the bytes behind it stay, or there is no room and all bytes stay.
+pub record Wrote (text entry exit : List ℕ) (answer : Written) : Type 0 where
+  pub answered : answer ≡ pick (leb (length text) (length entry)) (λ _. Bytes (length text)) λ _. NoRoom
+  pub bytes : exit ≡ pick (leb (length text) (length entry)) (λ _. text ++ drop (length text) entry) λ _. entry

@@ -1,0 +1,59 @@
+// The lines of the verdict program (document 01, "The verdict program"), written into a lent buffer.
+
+mod answer;
+mod lines;
+
+use self::lines::put_report;
+use letters::Header;
+ghost use mathlib.Core.Path.{_≡_};
+ghost use Rattle.report.specs.Shown.{reportOf, Wrote};
+ghost use Rattle.report.specs.Bound.{Limited};
+
+/// What is to be printed: a verdict with its number of pairs and, unless it is pass, the number of letters in its answer; or a refusal, its number and place.
+pub enum Verdict {
+    Pass(u64),
+    Incoherent(u64, u16),
+    Fail(u64, u16),
+    Refused(u8, u64),
+}
+
+/// How the writing went: the number of bytes, or that they do not fit the buffer.
+pub enum Written {
+    Bytes(usize),
+    NoRoom,
+}
+
+// The verdict as it is, with what the types of its numbers say of them.
+fn limited(verdict: Verdict) -> Verdict
+    ensures { λ r. ⌜ (r ≡ verdict) × Limited r ⌝ }
+{
+    match verdict {
+        Verdict::Pass(pairs) => Verdict::Pass(pairs),
+        Verdict::Incoherent(pairs, letters) => Verdict::Incoherent(pairs, letters),
+        Verdict::Fail(pairs, letters) => Verdict::Fail(pairs, letters),
+        Verdict::Refused(number, place) => Verdict::Refused(number, place),
+    }
+}
+
+/// Writes the report of a verdict. A name is held as a number, its bytes the digits to base 256 and the first byte the lowest.
+/// `answer` holds the execution as a packed trace, on fail its model directly behind it; what lies behind these is not read.
+pub fn write_report(
+    registers: [u64; 8],
+    functions: [u64; 4],
+    h: Header,
+    verdict: Verdict,
+    answer: &[u8],
+    out: &mut [u8],
+) -> Written
+    ensures { λ r. ⌜ Wrote (reportOf registers functions h verdict (now (answer .entry))) (now (out .entry)) (now (out .exit)) r ⌝ }
+{
+    let known = limited(verdict);
+    // The same writer counts the bytes first, on a buffer that has none.
+    let mut none = [0u8; 0];
+    let size = put_report(&mut none, 0, registers, functions, h, known, answer);
+    if out.len() < size {
+        return Written::NoRoom;
+    }
+    let end = put_report(out, 0, registers, functions, h, known, answer);
+    Written::Bytes(end)
+}

@@ -1,0 +1,293 @@
+// The lines of a report, each appended to a lent buffer.
+use super::Verdict;
+use super::answer::letter_of;
+use super::answer::row_at;
+use super::answer::word_at;
+use letters::Header;
+use letters::Letter;
+use letters::words::takes_two;
+use text::put_line;
+ghost use mathlib.Core.Path.{_≡_};
+ghost use mathlib.Core.List.{[], _∷_, _++_, map};
+ghost use Prim.Native.Nat.{_+_, _<_};
+ghost use lib.ListN.{getD, drop};
+ghost use Rattle.base.specs.Choice.{pick};
+ghost use Rattle.base.specs.Masks.{has};
+ghost use Rattle.letters.specs.declared.Letter.the-variants.{Apply};
+ghost use Rattle.semantics.specs.PackedTables.{unitsIn, firstRowWidths, rowFrom, readTables};
+ghost use Rattle.text.specs.Appending.{Appended, Room};
+ghost use Rattle.text.specs.Numerals.{numeral};
+ghost use Rattle.text.specs.Names.{nameText};
+ghost use Rattle.text.specs.Templates.{filledIn};
+ghost use Rattle.report.specs.Lines.{line, linesOf, pairsWord, letterLine, letterLines, startLines, rowLine, modelLines};
+ghost use Rattle.report.specs.Shown.{namesOf, lettersIn, reportOf};
+
+// The name of a register, none beyond the array.
+fn register_name(registers: [u64; 8], register: u8) -> u64
+    ensures { λ r. ⌜ r ≡ getD registers register 0 ⌝ }
+{
+    let k = register as usize;
+    if k < 8 {
+        return registers[k];
+    }
+    0
+}
+
+// The name of a function, none beyond the array.
+fn function_name(functions: [u64; 4], function: u8) -> u64
+    ensures { λ r. ⌜ r ≡ getD functions function 0 ⌝ }
+{
+    let k = function as usize;
+    if k < 4 {
+        return functions[k];
+    }
+    0
+}
+
+// Appends a template with the names of two registers.
+fn put_two(out: &mut [u8], at: usize, template: &[u8], registers: [u64; 8], a: u8, b: u8) -> usize
+    requires { ⌜ Room at (filledIn (now template) (getD registers a 0 ∷ getD registers b 0 ∷ 0 ∷ 0 ∷ [])) ⌝ }
+    ensures { λ r. ⌜ Appended (now (out .entry)) at (filledIn (now (template .entry)) (getD registers a 0 ∷ getD registers b 0 ∷ 0 ∷ 0 ∷ [])) (now (out .exit)) r ⌝ }
+{
+    let first = register_name(registers, a);
+    let second = register_name(registers, b);
+    put_line(out, at, template, [first, second, 0, 0])
+}
+
+// Appends the line of an application.
+fn put_application(
+    out: &mut [u8],
+    at: usize,
+    h: Header,
+    registers: [u64; 8],
+    functions: [u64; 4],
+    target: u8,
+    function: u8,
+    first: u8,
+    second: u8,
+) -> usize
+    requires { ⌜ Room at (letterLine (namesOf registers functions) h (Apply target function first second)) ⌝ }
+    ensures { λ r. ⌜ Appended (now (out .entry)) at (letterLine (namesOf registers functions) h (Apply target function first second)) (now (out .exit)) r ⌝ }
+{
+    let result = register_name(registers, target);
+    let name = function_name(functions, function);
+    let left = register_name(registers, first);
+    let right = register_name(registers, second);
+    if takes_two(h, function) {
+        return put_line(out, at, b"0 := 1(2,3)\n", [result, name, left, right]);
+    }
+    put_line(out, at, b"0 := 1(2)\n", [result, name, left, right])
+}
+
+// Appends the line of a letter.
+fn put_letter(
+    out: &mut [u8],
+    at: usize,
+    h: Header,
+    registers: [u64; 8],
+    functions: [u64; 4],
+    letter: Letter,
+) -> usize
+    requires { ⌜ Room at (letterLine (namesOf registers functions) h letter) ⌝ }
+    ensures { λ r. ⌜ Appended (now (out .entry)) at (letterLine (namesOf registers functions) h letter) (now (out .exit)) r ⌝ }
+{
+    match letter {
+        Letter::Copy { target, source } => {
+            put_two(out, at, b"0 := 1\n", registers, target, source)
+        }
+        Letter::Apply {
+            target,
+            function,
+            first,
+            second,
+        } => put_application(
+            out,
+            at,
+            h,
+            registers,
+            functions,
+            target,
+            function,
+            first,
+            second,
+        ),
+        Letter::Equal { first, second } => {
+            put_two(out, at, b"assume 0 = 1\n", registers, first, second)
+        }
+        Letter::Unequal { first, second } => {
+            put_two(out, at, b"assume 0 != 1\n", registers, first, second)
+        }
+    }
+}
+
+// Appends the lines of `count` letters.
+fn put_letters(
+    out: &mut [u8],
+    at: usize,
+    h: Header,
+    registers: [u64; 8],
+    functions: [u64; 4],
+    answer: &[u8],
+    count: u16,
+) -> usize
+    requires { ⌜ Room at (linesOf (letterLine (namesOf registers functions) h) (lettersIn h (now answer) 0 count)) ⌝ }
+    ensures { λ r. ⌜ Appended (now (out .entry)) at (linesOf (letterLine (namesOf registers functions) h) (lettersIn h (now (answer .entry)) 0 count)) (now (out .exit)) r ⌝ }
+{
+    let mut next = at;
+    let mut k: usize = 0;
+    while k < count as usize {
+        let letter = letter_of(h, answer, k);
+        next = put_letter(out, next, h, registers, functions, letter);
+        k = k + 1;
+    }
+    next
+}
+
+// Appends the count of letters and their lines.
+fn put_execution(
+    out: &mut [u8],
+    at: usize,
+    h: Header,
+    registers: [u64; 8],
+    functions: [u64; 4],
+    answer: &[u8],
+    count: u16,
+) -> usize
+    requires { ⌜ Room at (letterLines (namesOf registers functions) h (lettersIn h (now answer) 0 count)) ⌝ }
+    ensures { λ r. ⌜ Appended (now (out .entry)) at (letterLines (namesOf registers functions) h (lettersIn h (now (answer .entry)) 0 count)) (now (out .exit)) r ⌝ }
+{
+    let number = count as u64;
+    let next = put_line(out, at, b"letters 4\n", [number, 0, 0, 0]);
+    put_letters(out, next, h, registers, functions, answer, count)
+}
+
+// Appends the lines of the initial values, which begin at `start`, for `count` registers.
+fn put_starts(
+    out: &mut [u8],
+    at: usize,
+    registers: [u64; 8],
+    answer: &[u8],
+    start: u32,
+    count: u8,
+) -> usize
+    requires { ⌜ Room at (startLines (λ r. nameText (getD registers r 0)) 0 (unitsIn 2 count (drop start (now answer)))) ⌝ }
+    ensures { λ r. ⌜ Appended (now (out .entry)) at (startLines (λ r. nameText (getD registers r 0)) 0 (unitsIn 2 count (drop start (now (answer .entry))))) (now (out .exit)) r ⌝ }
+{
+    let mut next = at;
+    let mut register: u8 = 0;
+    while register < count {
+        let name = register_name(registers, register);
+        let value = word_at(answer, (start as usize) + 2 * (register as usize));
+        next = put_line(out, next, b"start 0 5\n", [name, value, 0, 0]);
+        register = register + 1;
+    }
+    next
+}
+
+// A row's second argument as it is printed: 0 for a function of one argument.
+fn second_printed(h: Header, function: u8, second: u64) -> u64
+    ensures { λ r. ⌜ r ≡ pick (has (h .binary) function) (λ _. second) (λ _. 0) ⌝ }
+{
+    if takes_two(h, function) {
+        return second;
+    }
+    0
+}
+
+// Appends the line of a row, packed in 40 bits: function 2, argument 11, argument 11, result 11, spare 5.
+fn put_row(out: &mut [u8], at: usize, h: Header, functions: [u64; 4], row: u64) -> usize
+    requires { ⌜ Room at (rowLine (λ f. nameText (getD functions f 0)) h (rowFrom firstRowWidths h row)) ⌝ }
+    ensures { λ r. ⌜ Appended (now (out .entry)) at (rowLine (λ f. nameText (getD functions f 0)) h (rowFrom firstRowWidths h row)) (now (out .exit)) r ⌝ }
+{
+    let function = (row / 274877906944 % 4) as u8;
+    let first = row / 134217728 % 2048;
+    let second = second_printed(h, function, row / 65536 % 2048);
+    let result = row / 32 % 2048;
+    let name = function_name(functions, function);
+    put_line(out, at, b"row 0 5 6 7\n", [name, first, second, result])
+}
+
+// Appends the lines of `count` rows, which begin at `start`.
+fn put_rows(
+    out: &mut [u8],
+    at: usize,
+    h: Header,
+    functions: [u64; 4],
+    answer: &[u8],
+    start: u32,
+    count: u64,
+) -> usize
+    requires { ⌜ Room at (linesOf (rowLine (λ f. nameText (getD functions f 0)) h) (map (rowFrom firstRowWidths h) (unitsIn 5 count (drop start (now answer))))) × (count < 65536) ⌝ }
+    ensures { λ r. ⌜ Appended (now (out .entry)) at (linesOf (rowLine (λ f. nameText (getD functions f 0)) h) (map (rowFrom firstRowWidths h) (unitsIn 5 count (drop start (now (answer .entry)))))) (now (out .exit)) r ⌝ }
+{
+    let mut next = at;
+    let mut k: u64 = 0;
+    while k < count {
+        let row = row_at(answer, (start as usize) + 5 * (k as usize));
+        next = put_row(out, next, h, functions, row);
+        k = k + 1;
+    }
+    next
+}
+
+// Appends the lines of the model that begins at `start`.
+fn put_model(
+    out: &mut [u8],
+    at: usize,
+    h: Header,
+    registers: [u64; 8],
+    functions: [u64; 4],
+    answer: &[u8],
+    start: u32,
+) -> usize
+    requires { ⌜ Room at (modelLines (namesOf registers functions) h (readTables firstRowWidths h (drop start (now answer)))) × (start < 131074) ⌝ }
+    ensures { λ r. ⌜ Appended (now (out .entry)) at (modelLines (namesOf registers functions) h (readTables firstRowWidths h (drop start (now (answer .entry))))) (now (out .exit)) r ⌝ }
+{
+    let values = word_at(answer, start as usize);
+    let rows = word_at(answer, (start as usize) + 2);
+    let mut next = put_line(out, at, b"values 4\n", [values, 0, 0, 0]);
+    next = put_starts(out, next, registers, answer, start + 4, h.registers);
+    let behind = start + 4 + 2 * (h.registers as u32);
+    put_rows(out, next, h, functions, answer, behind, rows)
+}
+
+// Appends the two lines that every verdict has.
+fn put_verdict(out: &mut [u8], at: usize, verdict: &[u8], pairs: u64) -> usize
+    requires { ⌜ Room at (filledIn (now verdict) (0 ∷ 0 ∷ 0 ∷ 0 ∷ []) ++ line (pairsWord ∷ numeral pairs ∷ [])) ⌝ }
+    ensures { λ r. ⌜ Appended (now (out .entry)) at (filledIn (now (verdict .entry)) (0 ∷ 0 ∷ 0 ∷ 0 ∷ []) ++ line (pairsWord ∷ numeral pairs ∷ [])) (now (out .exit)) r ⌝ }
+{
+    let next = put_line(out, at, verdict, [0, 0, 0, 0]);
+    put_line(out, next, b"pairs 4\n", [pairs, 0, 0, 0])
+}
+
+/// Appends the whole report of a verdict.
+pub fn put_report(
+    out: &mut [u8],
+    at: usize,
+    registers: [u64; 8],
+    functions: [u64; 4],
+    h: Header,
+    verdict: Verdict,
+    answer: &[u8],
+) -> usize
+    requires { ⌜ Room at (reportOf registers functions h verdict (now answer)) ⌝ }
+    ensures { λ r. ⌜ Appended (now (out .entry)) at (reportOf registers functions h verdict (now (answer .entry))) (now (out .exit)) r ⌝ }
+{
+    match verdict {
+        Verdict::Pass(pairs) => put_verdict(out, at, b"verdict pass\n", pairs),
+        Verdict::Incoherent(pairs, letters) => {
+            let next = put_verdict(out, at, b"verdict incoherent\n", pairs);
+            put_execution(out, next, h, registers, functions, answer, letters)
+        }
+        Verdict::Fail(pairs, letters) => {
+            let mut next = put_verdict(out, at, b"verdict fail\n", pairs);
+            next = put_execution(out, next, h, registers, functions, answer, letters);
+            let start = 2 * (letters as u32) + 2;
+            put_model(out, next, h, registers, functions, answer, start)
+        }
+        Verdict::Refused(number, place) => {
+            let first = number as u64;
+            put_line(out, at, b"refused 4 at 5\n", [first, place, 0, 0])
+        }
+    }
+}

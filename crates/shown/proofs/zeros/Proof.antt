@@ -1,0 +1,10 @@
+use borrow.Author.Needs.{needs}
+use Rattle.closure.specs.Scan.{zeros}
+use Rattle.shown.proofs.zeros.Statement.{statement}
+use Rattle.shown.proofs.zeros.Tie as tie
+
+pub zeros-spec : {M : Type 1} → statement M
+zeros-spec =
+    tie.close
+    (tie.spec
+    (λ c. record { long = search needs; zero = zeros 1032 }))

@@ -1,0 +1,214 @@
+-- The arrays' tables are those of the shown model, and the answer is the one that is due.
+use mathlib.Core.Path.{_≡_, refl, sym, _∙_, ap, subst}
+use mathlib.Core.Logic.{_≢_}
+use mathlib.Core.List.{List, [], _∷_, _++_, map, reverse}
+use Prim.Native.Nat.{ℕ, zero, suc, _+_, _*_, _≤_, _<_}
+use native.Mathlib.Omega.{arith}
+use native.Mathlib.Nat.{zero-add}
+use lib.Dec.{eqb, leb}
+use lib.ListN.{length, getD, take, drop}
+use lib.Seq.{length-take-le}
+use borrow.Author.Tests.{eq-eqb, ne-eqb, le-leb, lt-leb, leb-true}
+use Rattle.base.specs.Choice.{byTest}
+use Rattle.letters.specs.declared.Header.{Header}
+use Rattle.letters.specs.declared.TraceRead.{TraceRead}
+use Rattle.letters.specs.declared.TraceRead.the-variants as trace-read
+use Rattle.letters.specs.Editions.{firstEdition}
+use Rattle.letters.specs.Answers as letters
+use Rattle.letters.specs.Traces.{Reading, trace, refused, readingWithin, counted}
+use Rattle.semantics.specs.Terms.{State, Term, con, begin, state, traceOf}
+use Rattle.semantics.specs.TraceLaws.{extend-header}
+use Rattle.semantics.specs.Tables.{Row, startsFrom, shownTables, rowsOf}
+use Rattle.semantics.specs.Shown.{tablesOf, number}
+use Rattle.semantics.specs.PackedTables.{packTables, firstRowWidths}
+use Rattle.semantics.specs.PackedTablesLaws.{packed-length}
+use Rattle.semantics.specs.Judgement.{firstInfeasible}
+use Rattle.closure.specs.Numbering.{nth}
+use Rattle.closure.specs.Arrays.{at, Below}
+use Rattle.engine.specs.declared.Outcome.{Outcome}
+use Rattle.engine.specs.declared.Outcome.the-variants as outcome
+use Rattle.engine.specs.Engine.{Computed}
+use Rattle.engine.specs.Run as run
+use Rattle.shown.specs.declared.Shown.{Shown}
+use Rattle.shown.specs.declared.Shown.the-variants as shown
+use Rattle.shown.specs.Values.{classes-le, valueAt, Valued}
+use Rattle.shown.specs.Meaning.{classes-count, value-is, rowAt}
+use Rattle.shown.specs.Listing.{ListedAll}
+use Rattle.shown.specs.Inserted.{inserted}
+use Rattle.shown.specs.Bytes.{rowFor, RowIn, Writable, tablesIn, map-length}
+use Rattle.shown.specs.Answer.{model, infeasible, refusal, shownAnswer, modelBytes, answerTo, outputAfter, Showed, Known, Modelled}
+
+starts-are : (v : Term → ℕ) (k m : ℕ) (l : List ℕ) → m ≤ length l → ((i : ℕ) → i < m → getD l i 0 ≡ v (con (k + i))) → take m l ≡ startsFrom v k m
+unfolding startsFrom
+starts-are v k zero l h e = refl
+starts-are v k (suc m) [] h e = absurd (omega arith)
+starts-are v k (suc m) (x ∷ l) h e = λ j. (e 0 (omega arith) ∙ ap (λ (n : ℕ). v (con n)) (let z : k + 0 ≡ k = omega arith in z)) j
+    ∷ starts-are v (suc k) m l (omega arith) (λ i b. e (suc i) (omega arith) ∙ ap (λ (n : ℕ). v (con n)) (let z : k + suc i ≡ suc k + i = omega arith in z)) j
+
+rows-same : (f g : ℕ → Row) (l : List ℕ) (r : ℕ) → r ≤ length l → ((k : ℕ) → k < r → f (getD l k 0) ≡ g (getD l k 0)) → map f (take r l) ≡ map g (take r l)
+rows-same f g l zero h e = refl
+rows-same f g [] (suc r) h e = absurd (omega arith)
+rows-same f g (x ∷ l) (suc r) h e = λ j. e 0 (omega arith) j ∷ rows-same f g l r (omega arith) (λ k b. e (suc k) (omega arith)) j
+
+module _ (h : Header) (function first second representative : List ℕ) (n : ℕ) (k : Known h function first second representative n) where
+  w : Computed (k .state) function first second representative (h .registers) n
+  w = k .computed
+
+  module _ (values rows : List ℕ) (c r : ℕ) (v : Valued representative n values c) (l : ListedAll representative function first second (h .registers) n rows r) where
+    value-small : (i : ℕ) → i < n → getD values i 0 < 2048
+    unfolding valueAt
+    value-small i b =
+        let e = v .at-each i b in
+        let a = w .formed .lowest i b in
+        let d = classes-le representative (getD representative i 0) in
+        let f = w .formed .within in
+        omega arith
+
+    row-in : (i : ℕ) → h .registers ≤ i → i < n → RowIn values function first second i
+    unfolding Below
+    row-in i p b =
+        let f = w .formed .within in
+        let o = w .numbered .first-before i p b in
+        let t = w .numbered .second-before i p b in
+        record {
+          place = omega arith;
+          function-below = w .formed .functions i b;
+          first-place = omega arith;
+          second-place = omega arith;
+          first-below = value-small (getD first i 0) (omega arith);
+          second-below = value-small (getD second i 0) (omega arith);
+          result-below = value-small i b;
+        }
+
+    pub rows-few : (r ≤ 1032) × (h .registers ≤ 8)
+    rows-few = let a = l .few in let f = w .formed .within in (omega arith, w .eight)
+
+    pub writable : (room : ℕ) → 4 + 2 * h .registers + 5 * r ≤ room → Writable h values function first second rows c r room
+    writable room b = record {
+      few = w .eight;
+      rows-few = rows-few .0;
+      count-small = let e = v .count in let d = classes-le representative n in let f = w .formed .within in omega arith;
+      values-long = v .long;
+      rows-long = l .room;
+      starts-small = λ i q. let m = w .formed .more in value-small i (omega arith);
+      each = λ i q. let (p, b) = l .entries i q in row-in (getD rows i 0) p b;
+      fits = b;
+    }
+
+    -- the tables are those of any state that the arrays hold
+    module _ (σ : State) (e : σ .header ≡ h) (x : Computed σ function first second representative (h .registers) n) where
+      given : (i : ℕ) → i < n → getD values i 0 ≡ number σ (nth (σ .terms) i)
+      given i b = v .at-each i b ∙ sym (value-is σ function first second representative (h .registers) n x i b)
+
+      starts : take (h .registers) values ≡ startsFrom (number σ) 0 (h .registers)
+      starts = let m = w .formed .more in starts-are (number σ) 0 (h .registers) values (let a = v .long in let f = w .formed .within in omega arith)
+          (λ i b. given i (omega arith) ∙ ap (number σ) (x .numbered .constant i b) ∙ ap (λ (j : ℕ). number σ (con j)) (sym (zero-add i)))
+
+      rows-are : map (rowFor values function first second) (take r rows) ≡ rowsOf (reverse (σ .terms)) (σ .equals)
+      unfolding rowFor rowAt
+      rows-are = rows-same (rowFor values function first second) (rowAt σ function first second representative (h .registers) n x) rows r (let a = l .room in let b = rows-few .0 in omega arith)
+          (λ i q. let (p, b) = l .entries i q in
+          let o = x .numbered .first-before (getD rows i 0) p b in
+          let t = x .numbered .second-before (getD rows i 0) p b in
+          λ j. record { function = at function (getD rows i 0); first = given (getD first (getD rows i 0) 0) (omega arith) j; second = given (getD second (getD rows i 0) 0) (omega arith) j; result = given (getD rows i 0) b j })
+          ∙ l .are σ x
+
+      tables-are : tablesIn h values function first second rows c r ≡ tablesOf σ
+      unfolding tablesIn tablesOf shownTables
+      tables-are = λ j. record {
+        count = (v .count ∙ ap suc (sym (classes-count σ function first second representative (h .registers) n x))) j;
+        starts = (starts ∙ ap (startsFrom (number σ) 0) (sym (ap (λ (g : Header). g .registers) e))) j;
+        rows = rows-are j;
+      }
+
+      bytes-are : packTables firstRowWidths h (tablesIn h values function first second rows c r) ≡ modelBytes σ
+      unfolding modelBytes
+      bytes-are = λ j. packTables firstRowWidths (sym e j) (tables-are j)
+
+      bytes-long : length (modelBytes σ) ≡ 4 + 2 * h .registers + 5 * r
+      unfolding tablesIn
+      bytes-long = ap length (sym bytes-are) ∙ packed-length firstRowWidths h (tablesIn h values function first second rows c r)
+          ∙ (let a = length-take-le (h .registers) values (let a = v .long in let b = w .eight in omega arith) in
+          let b = map-length (rowFor values function first second) (take r rows) ∙ length-take-le r rows (let a = l .room in let b = rows-few .0 in omega arith) in omega arith)
+
+    pub too-long : (out : List ℕ) → length out < 4 + 2 * h .registers + 5 * r → Modelled h function first second representative n out (shown.Refused 6 0) out
+    unfolding Modelled
+    too-long out b σ e x = let q = bytes-long σ e x in let t = lt-leb (length (modelBytes σ)) (length out) (omega arith) in (rw t, rw t)
+
+    pub fits-in : (out out′ : List ℕ) → 4 + 2 * h .registers + 5 * r ≤ length out → out′ ≡ inserted 0 (packTables firstRowWidths h (tablesIn h values function first second rows c r)) out
+        → Modelled h function first second representative n out (shown.Model (4 + 2 * h .registers + 5 * r)) out′
+    unfolding Modelled inserted
+    fits-in out out′ b g σ e x =
+        let q = bytes-long σ e x in
+        let t = le-leb (length (modelBytes σ)) (length out) (omega arith) in
+        (rw t (ap model (sym q)), rw t (g ∙ (λ j. bytes-are σ e x j ++ drop (0 + length (bytes-are σ e x j)) out) ∙ ap (λ (m : ℕ). modelBytes σ ++ drop m out) (zero-add (length (modelBytes σ)))))
+
+-- ---- what the run of a trace gives
+module _ (s : List ℕ) (h : Header) (n : ℕ) (r : run.Reads s h n) (out : List ℕ) where
+  ran-infeasible : {function first second representative : List ℕ} {o : Outcome} (k : ℕ) → run.Ran s h function first second representative o → o ≡ outcome.Infeasible k
+      → (k ≡ firstInfeasible (traceOf h (run.lettersIn s))) × (1 ≤ k)
+  ran-infeasible k (run.infeasible j e p) q = let z : j ≡ k = cc in (sym z ∙ e, subst (λ i. 1 ≤ i) z p)
+  ran-infeasible k (run.feasible j e c) q = let z : _≡_ {A = ℕ} 0 1 = cc in absurd (omega arith)
+
+  ran-feasible : {function first second representative : List ℕ} {o : Outcome} (k : ℕ) → run.Ran s h function first second representative o → o ≡ outcome.Feasible k
+      → (0 ≡ firstInfeasible (traceOf h (run.lettersIn s))) × Computed (state (traceOf h (run.lettersIn s))) function first second representative (h .registers) k
+  ran-feasible k (run.infeasible j e p) q = let z : _≡_ {A = ℕ} 0 1 = cc in absurd (omega arith)
+  ran-feasible {function} {first} {second} {representative} k (run.feasible j e c) q = let z : j ≡ k = cc in (e, subst (Computed (state (traceOf h (run.lettersIn s))) function first second representative (h .registers)) z c)
+
+  pub showed-infeasible : {function first second representative : List ℕ} {o : Outcome} (k : ℕ) → run.Ran s h function first second representative o → o ≡ outcome.Infeasible k → Showed s out (shown.Infeasible k) out
+  unfolding answerTo outputAfter
+  showed-infeasible k d q =
+      let (e, p) = ran-infeasible k d q in
+      let m : firstInfeasible (traceOf h (run.lettersIn s)) ≢ 0 = λ z. omega arith in
+      let t = ne-eqb (firstInfeasible (traceOf h (run.lettersIn s))) 0 m in
+      record { answer = rw (r .read, t) (ap infeasible e); output = rw (r .read, t) }
+
+  module _ {function first second representative : List ℕ} {o : Outcome} (k : ℕ) (d : run.Ran s h function first second representative o) (q : o ≡ outcome.Feasible k) where
+    same-header : state (traceOf h (run.lettersIn s)) .header ≡ h
+    same-header = extend-header (begin h) (run.lettersIn s)
+
+    pub known : Known h function first second representative k
+    known = record { state = state (traceOf h (run.lettersIn s)); header = same-header; computed = (ran-feasible k d q) .1 }
+
+    pub showed-model : (a : Shown) (out′ : List ℕ) → Modelled h function first second representative k out a out′ → Showed s out a out′
+    unfolding answerTo outputAfter Modelled
+    showed-model a out′ f =
+        let (e, c) = ran-feasible k d q in
+        let t = eq-eqb (firstInfeasible (traceOf h (run.lettersIn s))) 0 (sym e) in
+        let (x, y) = f (state (traceOf h (run.lettersIn s))) same-header c in
+        record { answer = rw (r .read, t) x; output = rw (r .read, t) y }
+
+-- ---- what the reading gives
+module _ (s : List ℕ) (d : TraceRead) (e : letters.traceAnswer d ≡ counted (readingWithin 1024 firstEdition s)) (out : List ℕ) where
+  refused-as : (x : Reading) (a b : ℕ) → counted x ≡ letters.refusal a b → x ≡ refused a b
+  refused-as (trace h ls) a b q = let z : _≡_ {A = ℕ} 0 1 = cc in absurd (omega arith)
+  refused-as (refused c d) a b q = cc
+
+  pub showed-refused : {a b : ℕ} → d ≡ trace-read.Refused a b → Showed s out (shown.Refused a b) out
+  unfolding answerTo outputAfter
+  showed-refused {a} {b} q =
+      let x = refused-as (readingWithin 1024 firstEdition s) a b (sym e ∙ ap letters.traceAnswer q) in
+      record { answer = rw x; output = rw x }
+
+  read-as : (x : Reading) (h : Header) (n : ℕ) → counted x ≡ letters.value (h, n) → (x ≡ trace h (run.lettersRead x)) × (n ≡ length (run.lettersRead x))
+  read-as (trace g ls) h n q =
+      let p : _≡_ {A = Header × ℕ} (g, length ls) (h, n) = cc in
+      (ap (λ (k : Header × ℕ). trace (k .0) ls) p, sym (ap (λ (k : Header × ℕ). k .1) p))
+  read-as (refused a b) h n q = let z : _≡_ {A = ℕ} 0 1 = cc in absurd (omega arith)
+
+  pub reads : {h : Header} {n : ℕ} → d ≡ trace-read.Trace h n → run.Reads s h n
+  unfolding run.lettersIn
+  reads {h} {n} q = let (a, b) = read-as (readingWithin 1024 firstEdition s) h n (sym e ∙ ap letters.traceAnswer q) in record { read = a; count = b }
+
+-- ---- a model that was written lies in the output
+answer-within : (x : Reading) (room n : ℕ) → model n ≡ answerTo x room → n ≤ room
+unfolding answerTo
+answer-within (refused a b) room n e = let z : _≡_ {A = ℕ} 0 1 = cc in absurd (omega arith)
+answer-within (trace h ls) room n e = byTest (eqb (firstInfeasible (traceOf h ls)) 0)
+    (λ t. byTest (leb (length (modelBytes (state (traceOf h ls)))) room)
+    (λ u. let l = leb-true (length (modelBytes (state (traceOf h ls)))) room u in let q : model n ≡ model (length (modelBytes (state (traceOf h ls)))) = rw (t, u) at e in let p : n ≡ length (modelBytes (state (traceOf h ls))) = cc in omega arith)
+    (λ u. let q : model n ≡ refusal 6 0 = rw (t, u) at e in let z : _≡_ {A = ℕ} 0 1 = cc in absurd (omega arith)))
+    (λ t. let q : model n ≡ infeasible (firstInfeasible (traceOf h ls)) = rw t at e in let z : _≡_ {A = ℕ} 0 1 = cc in absurd (omega arith))
+
+pub model-within : (s out out′ : List ℕ) (r : Shown) (n : ℕ) → Showed s out r out′ → r ≡ shown.Model n → n ≤ length out
+model-within s out out′ r n w e = answer-within (readingWithin 1024 firstEdition s) (length out) n (sym (ap shownAnswer e) ∙ w .answer)

@@ -1,0 +1,9 @@
+pub mod Values
+pub mod Rows
+pub mod Inserted
+pub mod Bytes
+pub mod Meaning
+pub mod Listing
+pub mod Answer
+pub mod AnswerLaws
+pub mod Right

@@ -1,0 +1,339 @@
+// The shown model of a trace (document 01, "The shown model"): the values of the classes, the rows, and their bytes.
+ghost use mathlib.Core.Path.{_≡_};
+ghost use Prim.Native.Nat.{ℕ, _+_, _*_, _<_, _≤_};
+ghost use lib.ListN.{length, getD, take};
+ghost use Rattle.semantics.specs.PackedTables.{units, firstRowWidths, packTables};
+ghost use Rattle.closure.specs.Arrays.{Formed, Below};
+ghost use Rattle.shown.specs.Values.{chosen, newClass, Numberable, Valued};
+ghost use Rattle.shown.specs.Rows.{New};
+ghost use Rattle.shown.specs.Listing.{Listable, ListedAll};
+ghost use Rattle.engine.specs.Run.{Blank, Reads};
+ghost use Rattle.shown.specs.Inserted.{inserted};
+ghost use Rattle.shown.specs.Answer.{Known, Modelled, Showed};
+ghost use Rattle.shown.specs.Bytes.{putFive, written, RowIn, wordFor, wordsFor, StartsFit, RowsFit, Writable, tablesIn};
+use closure::Numbers;
+use engine::Outcome;
+use letters::Header;
+use letters::TraceRead;
+use letters::traces;
+use letters::words;
+
+/// What is shown for a trace: a model of so many bytes, the first infeasible letter, or a refusal, its number and place.
+pub enum Shown {
+    Model(usize),
+    Infeasible(u64),
+    Refused(u8, u64),
+}
+
+fn wide(x: u16) -> usize
+    ensures { λ r. ⌜ r ≡ x ⌝ }
+{
+    x as usize
+}
+
+fn long(x: u16) -> u64
+    ensures { λ r. ⌜ r ≡ x ⌝ }
+{
+    x as u64
+}
+
+// The value of term i: the next one for the first of its class, else that of its representative.
+fn value_of(representative: &Numbers, values: &Numbers, i: usize, next: u16) -> u16
+    requires { ⌜ (i < 1032) × (getD (now representative) i 0 < 1032) ⌝ }
+    ensures { λ r. ⌜ r ≡ chosen (now (representative .entry)) (now (values .entry)) i next ⌝ }
+{
+    let name = wide(representative[i]);
+    if name == i {
+        return next;
+    }
+    values[name]
+}
+
+// 1 for the first term of its class, 0 for another.
+fn new_class(representative: &Numbers, i: usize) -> u16
+    requires { ⌜ i < 1032 ⌝ }
+    ensures { λ r. ⌜ r ≡ newClass (now (representative .entry)) i ⌝ }
+{
+    if wide(representative[i]) == i { 1 } else { 0 }
+}
+
+// Gives each class a value, from 1 on by first term. The result is how many values there are, 0 counted.
+fn number(representative: &Numbers, count: usize, values: &mut Numbers) -> u16
+    requires { ⌜ Numberable (now representative) count (now values) ⌝ }
+    ensures { λ r. ⌜ Valued (now (representative .entry)) count (now (values .exit)) r ⌝ }
+{
+    let mut next: u16 = 1;
+    let mut i: usize = 0;
+    while i < count {
+        let v = value_of(representative, values, i, next);
+        values[i] = v;
+        next = next + new_class(representative, i);
+        i = i + 1;
+    }
+    next
+}
+
+// 1 if application i is the first with its signature, 0 if an earlier one has it.
+fn new_row(
+    representative: &Numbers,
+    function: &Numbers,
+    first: &Numbers,
+    second: &Numbers,
+    registers: usize,
+    i: usize,
+) -> usize
+    requires { ⌜ Formed (now representative) (now function) (now first) (now second) registers i × (i < 1032) × (getD (now first) i 0 < i) × (getD (now second) i 0 < i) ⌝ }
+    ensures { λ r. ⌜ New (now (representative .entry)) (now (function .entry)) (now (first .entry)) (now (second .entry)) registers i r ⌝ }
+{
+    let f = wide(function[i]);
+    let a = wide(first[i]);
+    let b = wide(second[i]);
+    let name = closure::lookup(
+        representative,
+        function,
+        first,
+        second,
+        registers,
+        i,
+        f,
+        a,
+        b,
+    );
+    if name == i { 1 } else { 0 }
+}
+
+// Lists the applications that have a row, in order of computation. The result is how many there are.
+fn list(
+    representative: &Numbers,
+    function: &Numbers,
+    first: &Numbers,
+    second: &Numbers,
+    registers: usize,
+    count: usize,
+    rows: &mut Numbers,
+) -> usize
+    requires { ⌜ Listable (now representative) (now function) (now first) (now second) registers count (now rows) ⌝ }
+    ensures { λ r. ⌜ ListedAll (now (representative .entry)) (now (function .entry)) (now (first .entry)) (now (second .entry)) registers count (now (rows .exit)) r ⌝ }
+{
+    let mut r: usize = 0;
+    let mut i = registers;
+    while i < count {
+        rows[r] = i as u16;
+        r = r + new_row(representative, function, first, second, registers, i);
+        i = i + 1;
+    }
+    r
+}
+
+// Writes a row's number.
+fn put_five(out: &mut [u8], at: usize, word: u64)
+    requires { ⌜ at + 4 < length (now out) ⌝ }
+    ensures { λ _. ⌜ now (out .exit) ≡ putFive (now (out .entry)) at word ⌝ }
+{
+    out[at] = (word / 4294967296 % 256) as u8;
+    out[at + 1] = (word / 16777216 % 256) as u8;
+    out[at + 2] = (word / 65536 % 256) as u8;
+    out[at + 3] = (word / 256 % 256) as u8;
+    out[at + 4] = (word % 256) as u8;
+}
+
+// The second argument as it is written: 0 for a function of one argument.
+fn second_written(header: Header, f: u16, b: u16) -> u16
+    requires { ⌜ f < 4 ⌝ }
+    ensures { λ r. ⌜ r ≡ written header f b ⌝ }
+{
+    if words::takes_two(header, f as u8) {
+        b
+    } else {
+        0
+    }
+}
+
+// The fields of a row put together: function 2, argument 11, argument 11, result 11, spare 5.
+fn joined(f: u64, a: u64, b: u64, c: u64) -> u64
+    requires { ⌜ (f < 4) × (a < 2048) × (b < 2048) × (c < 2048) ⌝ }
+    ensures { λ r. ⌜ r ≡ f * 274877906944 + a * 134217728 + b * 65536 + c * 32 ⌝ }
+{
+    f * 274877906944 + a * 134217728 + b * 65536 + c * 32
+}
+
+// The row of application i as one number.
+fn row_word(
+    header: Header,
+    values: &Numbers,
+    function: &Numbers,
+    first: &Numbers,
+    second: &Numbers,
+    i: usize,
+) -> u64
+    requires { ⌜ RowIn (now values) (now function) (now first) (now second) i ⌝ }
+    ensures { λ r. ⌜ r ≡ wordFor header (now (values .entry)) (now (function .entry)) (now (first .entry)) (now (second .entry)) i ⌝ }
+{
+    let a = wide(first[i]);
+    let b = wide(second[i]);
+    let f = function[i];
+    let s = second_written(header, f, values[b]);
+    joined(long(f), long(values[a]), long(s), long(values[i]))
+}
+
+// Writes the initial values from `at` on.
+fn write_starts(values: &Numbers, registers: usize, out: &mut [u8], at: usize)
+    requires { ⌜ StartsFit (now values) registers (length (now out)) at ⌝ }
+    ensures { λ _. ⌜ now (out .exit) ≡ inserted at (units 2 (take registers (now (values .entry)))) (now (out .entry)) ⌝ }
+{
+    let mut i: usize = 0;
+    while i < registers {
+        words::put_word(out, at + 2 * i, values[i]);
+        i = i + 1;
+    }
+}
+
+// Writes the first r rows from `at` on.
+fn write_rows(
+    header: Header,
+    values: &Numbers,
+    function: &Numbers,
+    first: &Numbers,
+    second: &Numbers,
+    rows: &Numbers,
+    r: usize,
+    out: &mut [u8],
+    at: usize,
+)
+    requires { ⌜ RowsFit (now values) (now function) (now first) (now second) (now rows) r (length (now out)) at ⌝ }
+    ensures { λ _. ⌜ now (out .exit) ≡ inserted at (units 5 (wordsFor header (now (values .entry)) (now (function .entry)) (now (first .entry)) (now (second .entry)) (take r (now (rows .entry))))) (now (out .entry)) ⌝ }
+{
+    let mut k: usize = 0;
+    while k < r {
+        let i = wide(rows[k]);
+        let word = row_word(header, values, function, first, second, i);
+        put_five(out, at + 5 * k, word);
+        k = k + 1;
+    }
+}
+
+// Writes the model: the count of values, that of rows, the initial values, the rows.
+fn write(
+    header: Header,
+    values: &Numbers,
+    function: &Numbers,
+    first: &Numbers,
+    second: &Numbers,
+    rows: &Numbers,
+    count: u16,
+    r: usize,
+    out: &mut [u8],
+)
+    requires { ⌜ Writable header (now values) (now function) (now first) (now second) (now rows) count r (length (now out)) ⌝ }
+    ensures { λ _. ⌜ now (out .exit) ≡ inserted 0 (packTables firstRowWidths header (tablesIn header (now (values .entry)) (now (function .entry)) (now (first .entry)) (now (second .entry)) (now (rows .entry)) count r)) (now (out .entry)) ⌝ }
+{
+    let registers = header.registers as usize;
+    words::put_word(out, 0, count);
+    words::put_word(out, 2, r as u16);
+    write_starts(values, registers, out, 4);
+    write_rows(
+        header,
+        values,
+        function,
+        first,
+        second,
+        rows,
+        r,
+        out,
+        4 + 2 * registers,
+    );
+}
+
+fn zeros() -> Numbers
+    ensures { λ r. ⌜ Blank r ⌝ }
+{
+    [0u16; 1032]
+}
+
+// Shows the model of the computed terms where it fits the output.
+fn show_model(
+    header: Header,
+    function: &Numbers,
+    first: &Numbers,
+    second: &Numbers,
+    representative: &Numbers,
+    count: usize,
+    out: &mut [u8],
+) -> Shown
+    requires { ⌜ Known header (now function) (now first) (now second) (now representative) count ⌝ }
+    ensures { λ r. ⌜ Modelled header (now (function .entry)) (now (first .entry)) (now (second .entry)) (now (representative .entry)) count (now (out .entry)) r (now (out .exit)) ⌝ }
+{
+    let registers = header.registers as usize;
+    let mut values = zeros();
+    let mut rows = zeros();
+    let values_count = number(representative, count, &mut values);
+    let r = list(
+        representative,
+        function,
+        first,
+        second,
+        registers,
+        count,
+        &mut rows,
+    );
+    let length = 4 + 2 * registers + 5 * r;
+    if out.len() < length {
+        return Shown::Refused(6, 0);
+    }
+    write(
+        header,
+        &values,
+        function,
+        first,
+        second,
+        &rows,
+        values_count,
+        r,
+        out,
+    );
+    Shown::Model(length)
+}
+
+// Shows what is due for a trace that was read.
+fn show_trace(header: Header, trace: &[u8], letters: usize, out: &mut [u8]) -> Shown
+    requires { ⌜ Reads (now trace) header letters ⌝ }
+    ensures { λ r. ⌜ Showed (now (trace .entry)) (now (out .entry)) r (now (out .exit)) ⌝ }
+{
+    let mut function = zeros();
+    let mut first = zeros();
+    let mut second = zeros();
+    let mut representative = zeros();
+    let outcome = engine::run(
+        header,
+        trace,
+        letters,
+        &mut function,
+        &mut first,
+        &mut second,
+        &mut representative,
+    );
+    match outcome {
+        Outcome::Infeasible(k) => Shown::Infeasible(k),
+        Outcome::Feasible(count) => show_model(
+            header,
+            &function,
+            &first,
+            &second,
+            &representative,
+            count,
+            out,
+        ),
+    }
+}
+
+/// Judges a packed trace of at most 1,024 letters: writes its shown model to the front of the output if it is feasible, else names
+/// the first infeasible letter.
+pub fn show(trace: &[u8], out: &mut [u8]) -> Shown
+    ensures { λ r. ⌜ Showed (now (trace .entry)) (now (out .entry)) r (now (out .exit)) ⌝ }
+{
+    let read = traces::read_trace_within(trace, 1024);
+    match read {
+        TraceRead::Refused(number, place) => Shown::Refused(number, place),
+        TraceRead::Trace(header, letters) => show_trace(header, trace, letters as usize, out),
+    }
+}

@@ -1,0 +1,50 @@
+use Rattle.syntax.specs.Lists as law
+use borrow.Author.Needs.{needs}
+use Rattle.syntax.proofs.arity.Statement.{statement}
+use Rattle.syntax.proofs.arity.Tie as tie
+use Rattle.syntax.proofs.arity.Reads as reads
+use Rattle.syntax.proofs.arity.Lts as lts
+use Rattle.phrases.proofs.expect.Reads as expect-reads
+use Rattle.phrases.proofs.unfitting.Reads as unfitting-reads
+use Rattle.tokens.proofs.next.Reads as next-reads
+
+expect-requires : tie.Need-expect-requires
+expect-requires c κs = search needs
+
+enum-known-slash : tie.Need-enum-known-slash
+enum-known-slash c = search needs
+
+enum-told : tie.Need-enum-told
+enum-told c = search needs
+
+returns : tie.Need-returns
+returns c = law.arity-slash _ _ _ (c .before .before .expect .ensures) _ _ ((c .enum-told .given) .1)
+
+next-requires : tie.Need-next-requires
+next-requires c κs = search needs
+
+returns-2 : tie.Need-returns-2
+returns-2 c = law.arity-one _ _ _ (c .before .before .before .before .before .before .expect .ensures) _ _ ((c .before .before .before .before .slash .given) .1) _ (c .before .before .next .ensures) (c .if1 .taken)
+
+returns-3 : tie.Need-returns-3
+returns-3 c = law.arity-two _ _ _ (c .before .before .before .before .before .before .before .before .expect .ensures) _ _ ((c .before .before .before .before .before .before .slash .given) .1) _ (c .before .before .before .before .next .ensures) (c .before .before .if1 .left) (c .if2 .taken)
+
+unfitting-requires : tie.Need-unfitting-requires
+unfitting-requires c κs = search needs
+
+returns-4 : tie.Need-returns-4
+returns-4 c = law.arity-unfit _ _ _ (c .before .before .before .before .before .before .before .before .before .expect .ensures) _ _ ((c .before .before .before .before .before .before .before .slash .given) .1) _ (c .before .before .before .before .before .next .ensures) (c .before .before .before .if1 .left) (c .before .if2 .left) _ (c .unfitting .ensures)
+
+pub arity-spec : {M : Type 1} → statement M
+arity-spec =
+    tie.close
+    (tie.spec
+    expect-requires
+    enum-known-slash
+    enum-told
+    returns
+    next-requires
+    returns-2
+    returns-3
+    unfitting-requires
+    returns-4)

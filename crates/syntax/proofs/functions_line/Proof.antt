@@ -1,0 +1,23 @@
+use Rattle.syntax.specs.Lists as law
+use borrow.Author.Needs.{needs}
+use Rattle.syntax.proofs.functions_line.Statement.{statement}
+use Rattle.syntax.proofs.functions_line.Tie as tie
+use Rattle.syntax.proofs.functions_line.Reads as reads
+use Rattle.syntax.proofs.functions_line.Lts as lts
+use Rattle.syntax.proofs.read_functions.Reads as read-functions-reads
+use Rattle.tokens.proofs.next.Reads as next-reads
+
+next-requires : tie.Need-next-requires
+next-requires c κs = search needs
+
+read-functions-requires : tie.Need-read-functions-requires
+read-functions-requires c κs = search needs
+
+returns : tie.Need-returns
+returns c = law.line-some _ _ _ _ (c .before .before .before .next .ensures) (c .before .if1 .taken) _ (c .read-functions .ensures)
+
+returns-2 : tie.Need-returns-2
+returns-2 c = law.line-none _ _ _ _ (c .before .before .next .ensures) (c .if1 .left)
+
+pub functions-line-spec : {M : Type 1} → statement M
+functions-line-spec = tie.close (tie.spec next-requires read-functions-requires returns returns-2)

@@ -1,0 +1,64 @@
+use Rattle.syntax.specs.Top as law
+use borrow.Author.Needs.{needs}
+use Rattle.syntax.proofs.read.Statement.{statement}
+use Rattle.syntax.proofs.read.Tie as tie
+use Rattle.syntax.proofs.read.Reads as reads
+use Rattle.syntax.proofs.read.Lts as lts
+use Rattle.phrases.proofs.expect.Reads as expect-reads
+use Rattle.syntax.proofs.read_registers.Reads as read-registers-reads
+use Rattle.syntax.proofs.read_rest.Reads as read-rest-reads
+use Rattle.syntax.proofs.refused_answer.Reads as refused-answer-reads
+use Rattle.syntax.proofs.refused_text.Reads as refused-text-reads
+
+refused-answer-requires : tie.Need-refused-answer-requires
+refused-answer-requires c κs = search needs
+
+returns : tie.Need-returns
+returns c = law.read-long _ (c .before .if1 .taken) _ (c .refused-answer .ensures)
+
+expect-requires : tie.Need-expect-requires
+expect-requires c κs = search needs
+
+enum-known-g : tie.Need-enum-known-g
+enum-known-g c = search needs
+
+enum-told : tie.Need-enum-told
+enum-told c = search needs
+
+refused-text-requires : tie.Need-refused-text-requires
+refused-text-requires c κs = search needs
+
+returns-2 : tie.Need-returns-2
+returns-2 c = law.read-vars _ (c .before .before .before .before .if1 .left) _ (c .before .before .before .expect .ensures) _ _ ((c .before .enum-told .given) .1) _ (c .refused-text .ensures)
+
+read-registers-requires : tie.Need-read-registers-requires
+read-registers-requires c κs = search needs
+
+read-rest-requires : tie.Need-read-rest-requires
+read-rest-requires c κs = law.names-kept _ (c .before .before .before .before .before .before .if1 .left) _ (c .before .before .before .before .before .expect .ensures) _ _ ((c .before .before .before .g .given) .1) _ (c .before .read-registers .ensures) (c .if2 .taken)
+
+returns-3 : tie.Need-returns-3
+returns-3 c = law.read-rest _ (c .before .before .before .before .before .before .before .if1 .left) _ (c .before .before .before .before .before .before .expect .ensures) _ _ ((c .before .before .before .before .g .given) .1) _ (c .before .before .read-registers .ensures) (c .before .if2 .taken) _ (c .read-rest .ensures)
+
+refused-answer-requires-2 : tie.Need-refused-answer-requires-2
+refused-answer-requires-2 c κs = search needs
+
+returns-4 : tie.Need-returns-4
+returns-4 c = law.read-refused _ (c .before .before .before .before .before .before .before .if1 .left) _ (c .before .before .before .before .before .before .expect .ensures) _ _ ((c .before .before .before .before .g .given) .1) _ (c .before .before .read-registers .ensures) (c .before .if2 .left) _ (c .refused-answer2 .ensures)
+
+pub read-spec : {M : Type 1} → statement M
+read-spec =
+    tie.close
+    (tie.spec
+    refused-answer-requires
+    returns
+    expect-requires
+    enum-known-g
+    enum-told
+    refused-text-requires
+    returns-2
+    read-registers-requires
+    read-rest-requires
+    returns-3
+    refused-answer-requires-2
+    returns-4)

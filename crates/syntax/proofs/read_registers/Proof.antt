@@ -1,0 +1,80 @@
+use mathlib.Core.Path.{refl}
+use Prim.Native.Nat.{_-_}
+use native.Mathlib.Omega.{arith}
+use Rattle.syntax.specs.Lists.{Kept, RegistersLeft}
+use Rattle.syntax.specs.Lists as law
+use borrow.Author.Needs.{needs}
+use Rattle.syntax.proofs.read_registers.Statement.{statement}
+use Rattle.syntax.proofs.read_registers.Tie as tie
+use Rattle.syntax.proofs.read_registers.Reads as reads
+use Rattle.syntax.proofs.read_registers.Lts as lts
+use Rattle.syntax.proofs.is_register_taken.Reads as is-register-taken-reads
+use Rattle.syntax.proofs.no_registers.Reads as no-registers-reads
+use Rattle.syntax.proofs.registers_end.Reads as registers-end-reads
+use Rattle.tokens.proofs.is_name.Reads as is-name-reads
+use Rattle.tokens.proofs.next.Reads as next-reads
+
+abbrev Inv-loop : tie.InvT-loop
+Inv-loop text from names₀ count₀ at₀ names count at = Kept 8 names count × RegistersLeft text from names count at
+
+abbrev μ-loop : tie.MeasureT-loop
+μ-loop text from names₀ count₀ at₀ names count at = 8 - count
+
+loop-holds : tie.Need-loop-holds Inv-loop μ-loop
+loop-holds c = (law.kept-eight, refl)
+
+next-requires : tie.Need-next-requires Inv-loop μ-loop
+next-requires c κs = search needs
+
+is-name-requires : tie.Need-is-name-requires Inv-loop μ-loop
+is-name-requires c κs = search needs
+
+is-register-taken-requires : tie.Need-is-register-taken-requires Inv-loop μ-loop
+is-register-taken-requires c κs = (c .before .before .before .loop .inv) .0
+
+no-registers-requires : tie.Need-no-registers-requires Inv-loop μ-loop
+no-registers-requires c κs = search needs
+
+returns : tie.Need-returns Inv-loop μ-loop
+returns c = law.registers-taken _ _ _ _ _ ((c .before .before .before .before .before .before .loop .inv) .0) ((c .before .before .before .before .before .before .loop .inv) .1) _ (c .before .before .before .before .before .next .ensures) _ (c .before .before .before .before .is-name .ensures) (c .before .before .before .if1 .taken) _ (c .before .before .is-register-taken .ensures) (c .before .if2 .taken) _ (c .no-registers .ensures)
+
+mul-names : tie.Need-mul-names Inv-loop μ-loop
+mul-names c = search needs
+
+array-write-names : tie.Need-array-write-names Inv-loop μ-loop
+array-write-names c = let h = law.not-full _ 8 _ _ _ (c .before .is-register-taken .ensures) (c .if2 .left) ((c .before .before .before .before .before .loop .inv) .0 .few) in omega arith
+
+add-count : tie.Need-add-count Inv-loop μ-loop
+add-count c = search needs
+
+loop-less : tie.Need-loop-less Inv-loop μ-loop
+loop-less c = law.registers-turn _ _ _ _ _ ((c .before .before .before .before .before .loop .inv) .0) ((c .before .before .before .before .before .loop .inv) .1) _ (c .before .before .before .before .next .ensures) _ (c .before .before .before .is-name .ensures) (c .before .before .if1 .taken) _ (c .before .is-register-taken .ensures) (c .if2 .left) .0
+
+loop-again : tie.Need-loop-again Inv-loop μ-loop
+loop-again c = let x = law.registers-turn _ _ _ _ _ ((c .before .before .before .before .before .loop .inv) .0) ((c .before .before .before .before .before .loop .inv) .1) _ (c .before .before .before .before .next .ensures) _ (c .before .before .before .is-name .ensures) (c .before .before .if1 .taken) _ (c .before .is-register-taken .ensures) (c .if2 .left) in (x .1, x .2)
+
+registers-end-requires : tie.Need-registers-end-requires Inv-loop μ-loop
+registers-end-requires c κs = (c .before .before .before .loop .inv) .0
+
+returns-2 : tie.Need-returns-2 Inv-loop μ-loop
+returns-2 c = law.registers-last _ _ _ _ _ ((c .before .before .before .before .loop .inv) .0) ((c .before .before .before .before .loop .inv) .1) _ (c .before .before .before .next .ensures) _ (c .before .before .is-name .ensures) (c .before .if1 .left) _ (c .registers-end .ensures)
+
+pub read-registers-spec : {M : Type 1} → statement M
+read-registers-spec =
+    tie.close
+    (tie.spec
+    Inv-loop
+    μ-loop
+    loop-holds
+    next-requires
+    is-name-requires
+    is-register-taken-requires
+    no-registers-requires
+    returns
+    mul-names
+    array-write-names
+    add-count
+    loop-less
+    loop-again
+    registers-end-requires
+    returns-2)

@@ -1,0 +1,43 @@
+use Rattle.syntax.specs.Lists.{kept-within}
+use Rattle.syntax.specs.Top as law
+use borrow.Author.Needs.{needs}
+use Rattle.syntax.proofs.read_rest.Statement.{statement}
+use Rattle.syntax.proofs.read_rest.Tie as tie
+use Rattle.syntax.proofs.read_rest.Reads as reads
+use Rattle.syntax.proofs.read_rest.Lts as lts
+use Rattle.syntax.proofs.functions_line.Reads as functions-line-reads
+use Rattle.syntax.proofs.read_body.Reads as read-body-reads
+use Rattle.syntax.proofs.refused_answer.Reads as refused-answer-reads
+
+array-share-prefix-regs : tie.Need-array-share-prefix-regs
+array-share-prefix-regs c = kept-within _ _ _ (c .before .before .pre)
+
+slice-aggregate-functions-line : tie.Need-slice-aggregate-functions-line
+slice-aggregate-functions-line c = search needs
+
+functions-line-requires : tie.Need-functions-line-requires
+functions-line-requires c κs = search needs
+
+read-body-requires : tie.Need-read-body-requires
+read-body-requires c κs = let x = law.line-kept (c .before .before .before .before .before .args .text .now) (c .before .before .before .before .before .args .rs) _ (c .before .functions-line .ensures) (c .if1 .taken) in ((c .before .before .before .before .before .pre), x)
+
+returns : tie.Need-returns
+returns c = law.rest-read (c .before .before .before .before .before .before .args .text .now) (c .before .before .before .before .before .before .args .rs) _ (c .before .before .functions-line .ensures) (c .before .if1 .taken) _ (c .read-body .ensures)
+
+refused-answer-requires : tie.Need-refused-answer-requires
+refused-answer-requires c κs = search needs
+
+returns-2 : tie.Need-returns-2
+returns-2 c = law.rest-refused (c .before .before .before .before .before .before .args .text .now) (c .before .before .before .before .before .before .args .rs) _ (c .before .before .functions-line .ensures) (c .before .if1 .left) _ (c .refused-answer .ensures)
+
+pub read-rest-spec : {M : Type 1} → statement M
+read-rest-spec =
+    tie.close
+    (tie.spec
+    array-share-prefix-regs
+    slice-aggregate-functions-line
+    functions-line-requires
+    read-body-requires
+    returns
+    refused-answer-requires
+    returns-2)

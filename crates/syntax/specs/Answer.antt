@@ -1,0 +1,76 @@
+-- How the code holds what reading a text gives: the macro in a struct, or the refusal.
+use Prim.Native.Nat.{ℕ, _+_, _*_, _-_}
+use mathlib.Core.Bool.{true, false}
+use mathlib.Core.List.{List, [], _++_, map}
+use lib.Dec.{eqb}
+use lib.ListN.{length, replicate}
+use Rattle.base.specs.Choice.{pick}
+use Rattle.macros.specs.Points.{points, sizeBlock}
+use Rattle.tokens.specs.Tokens.{tokenAt}
+use Rattle.tokens.specs.declared.Token.{Token}
+use Rattle.grammar.specs.Grammar.{Macro, headerOf}
+use Rattle.grammar.specs.Reading.{Got, got, refused, exhausted, onward, block, functionsT, registers, finishT, countT}
+use Rattle.blocks.specs.Held.{table, heldPoint}
+use Rattle.syntax.specs.declared.Macro as held
+use Rattle.syntax.specs.declared.Answer.{Answer}
+use Rattle.syntax.specs.declared.Registers.{Registers}
+use Rattle.syntax.specs.declared.Functions.{Functions}
+
+-- names in an array of n, with 0 behind them
+abbrev pub padded : ℕ → List ℕ → List ℕ
+padded n l = l ++ replicate (n - length l) 0
+
+-- A macro as the struct holds it: its header, its names and its points.
+unfoldable pub heldMacro : Macro → held.Macro
+heldMacro m = record {
+  header = headerOf m;
+  registers = padded 8 (m .registers);
+  functions = padded 4 (m .functions);
+  points = table (map heldPoint (points (m .body)));
+  count = sizeBlock (m .body);
+}
+
+-- what the struct holds beside a refusal
+abbrev pub noMacro : held.Macro
+noMacro = record { header = record { registers = 0; functions = 0; binary = 0 }; registers = replicate 8 0; functions = replicate 4 0; points = table []; count = 0 }
+
+-- The answer: refusal 0 is none. (`exhausted` is never what reading gives: `read-answers`.)
+unfoldable pub answerOf : Got Macro → Answer
+answerOf (got m e) = record { refusal = 0; place = 0; program = heldMacro m }
+answerOf (refused n p) = record { refusal = n; place = p; program = noMacro }
+answerOf exhausted = record { refusal = 0; place = 0; program = noMacro }
+
+-- ---- declarations on the way
+
+unfoldable pub heldRegisters : Got (List ℕ) → Registers
+heldRegisters (got rs e) = record { ok = true; number = 0; place = 0; at = e; count = length rs; names = padded 8 rs }
+heldRegisters (refused n p) = record { ok = false; number = n; place = p; at = 0; count = 0; names = replicate 8 0 }
+heldRegisters exhausted = record { ok = false; number = 0; place = 0; at = 0; count = 0; names = replicate 8 0 }
+
+unfoldable pub heldFunctions : Got (List ℕ × List ℕ) → Functions
+heldFunctions (got r e) = record { ok = true; number = 0; place = 0; at = e; count = length (r .0); names = padded 4 (r .0); arities = padded 4 (r .1) }
+heldFunctions (refused n p) = record { ok = false; number = n; place = p; at = 0; count = 0; names = replicate 4 0; arities = replicate 4 0 }
+heldFunctions exhausted = record { ok = false; number = 0; place = 0; at = 0; count = 0; names = replicate 4 0; arities = replicate 4 0 }
+
+-- the number by which a token that does not fit is refused
+abbrev pub unfitNumber : Token → ℕ
+unfitNumber t = pick (eqb (t .key) 1) (λ _. 8) λ _. 9
+
+-- ---- the rest of the reading, from each step on
+
+module _ (s : List ℕ) where
+  -- behind the last statement
+  abbrev pub endFrom : Macro → ℕ → Got Macro
+  endFrom m e = onward (finishT s m (tokenAt s e)) (countT s)
+
+  -- behind the declarations
+  unfoldable pub bodyFrom : List ℕ → List ℕ → List ℕ → ℕ → Got Macro
+  bodyFrom rs fs ns c = onward (block s rs fs ns (2 * length s + 1) 16 c) λ body e. endFrom (record { registers = rs; functions = fs; arities = ns; body = body }) e
+
+  -- behind the registers
+  unfoldable pub functionsFrom : List ℕ → ℕ → Got Macro
+  functionsFrom rs b = onward (functionsT s rs b (tokenAt s b)) λ r c. bodyFrom rs (r .0) (r .1) c
+
+  -- behind `vars`
+  unfoldable pub registersFrom : ℕ → Got Macro
+  registersFrom a = onward (registers s 8 [] a) λ rs b. functionsFrom rs b

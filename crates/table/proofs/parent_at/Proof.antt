@@ -1,0 +1,18 @@
+use Rattle.base.specs.Lent.{tail-lent}
+use Rattle.table.specs.Table.{parentAt}
+use borrow.Author.Needs.{needs}
+use Rattle.table.proofs.parent_at.Statement.{statement}
+use Rattle.table.proofs.parent_at.Tie as tie
+use Rattle.records.proofs.parent_in.Reads as parent-in-reads
+
+pub parent-at-spec : {M : Type 1} → statement M
+unfolding parentAt
+parent-at-spec =
+    tie.close
+    (tie.spec
+    (λ c. search needs)
+    (λ c. search needs)
+    (λ c. search needs)
+    (λ c. search needs)
+    (λ c κs. search needs)
+    (λ c. search (c .parent-in .ensures, tail-lent)))

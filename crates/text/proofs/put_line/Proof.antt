@@ -1,0 +1,38 @@
+use borrow.Author.Needs.{needs}
+use Prim.Native.Nat.{_+_, _-_}
+use lib.ListN.{length, getD, drop}
+use Rattle.text.specs.Appending.{Left, left-all, left-next, left-none, left-room, left-same, left-length}
+use Rattle.text.specs.Templates.{part, filledIn, filled-next, filled-none}
+use Rattle.text.proofs.put_line.Statement.{statement}
+use Rattle.text.proofs.put_line.Tie as tie
+
+abbrev Inv-loop : tie.InvT-loop
+Inv-loop out₀ at template fields next₀ i₀ out next i = Left out₀ at (filledIn template fields) (filledIn (drop i template) fields) out next
+
+abbrev μ-loop : tie.MeasureT-loop
+μ-loop out₀ at template fields next₀ i₀ out next i = length template - i
+
+pub put-line-spec : {M : Type 1} → statement M
+put-line-spec =
+    tie.close
+    (tie.spec
+    Inv-loop
+    μ-loop
+    (λ c. left-all _ _ _)
+    (λ c. search needs)
+    (λ c κs.
+    let a = c .before .before .before .before .before .before in
+    let l = c .before .before .before .loop in
+    left-room (part (getD (a .args .template .now) (l .i) 0) (a .args .fields)) (filledIn (drop (l .i + 1) (a .args .template .now)) (a .args .fields))
+    (a .pre) (left-same (filled-next (a .args .template .now) (a .args .fields) (l .i) (c .before .before .loop-test .taken)) (l .inv)))
+    (λ c. search needs)
+    (λ c. search needs)
+    (λ c.
+    let a = c .before .before .before .before .before .before .before .before .before in
+    let l = c .before .before .before .before .before .before .loop in
+    left-next (part (getD (a .args .template .now) (l .i) 0) (a .args .fields)) (filledIn (drop (l .i + 1) (a .args .template .now)) (a .args .fields))
+    (left-same (filled-next (a .args .template .now) (a .args .fields) (l .i) (c .before .before .before .before .before .loop-test .taken)) (l .inv)) (c .before .before .put-part .ensures))
+    (λ c. left-length (c .before .loop .inv))
+    (λ c.
+    let a = c .before .before .before .before in
+    left-none (left-same (filled-none (a .args .template .now) (a .args .fields) (c .before .loop .i) (c .loop-test .left)) (c .before .loop .inv))))

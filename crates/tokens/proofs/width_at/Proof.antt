@@ -1,0 +1,79 @@
+use Rattle.tokens.specs.BytesLaws.{width-name, width-long, width-pair, width-half, width-last, width-symbol, width-none}
+use borrow.Author.Needs.{needs}
+use Rattle.tokens.proofs.width_at.Statement.{statement}
+use Rattle.tokens.proofs.width_at.Tie as tie
+use Rattle.tokens.proofs.width_at.Reads as reads
+use Rattle.tokens.proofs.width_at.Lts as lts
+use Rattle.tokens.proofs.is_lower.Reads as is-lower-reads
+use Rattle.tokens.proofs.is_mark.Reads as is-mark-reads
+use Rattle.tokens.proofs.is_symbol.Reads as is-symbol-reads
+use Rattle.tokens.proofs.run_end.Reads as run-end-reads
+
+shared-slice-read-b : tie.Need-shared-slice-read-b
+shared-slice-read-b c = search needs
+
+is-lower-requires : tie.Need-is-lower-requires
+is-lower-requires c κs = search needs
+
+run-end-requires : tie.Need-run-end-requires
+run-end-requires c κs = search needs
+
+sub-n : tie.Need-sub-n
+sub-n c = search needs
+
+returns : tie.Need-returns
+returns c = width-name _ _ (c .before .before .before .before .before .before .pre) _ (c .before .before .before .is-lower .ensures) _ (c .before .before .if1 .taken) (c .before .run-end .ensures) (c .if2 .taken)
+
+returns-2 : tie.Need-returns-2
+returns-2 c = width-long _ _ (c .before .before .before .before .before .before .pre) _ (c .before .before .before .is-lower .ensures) _ (c .before .before .if1 .taken) (c .before .run-end .ensures) (c .if2 .left)
+
+is-mark-requires : tie.Need-is-mark-requires
+is-mark-requires c κs = search needs
+
+add-if4 : tie.Need-add-if4
+add-if4 c = search needs
+
+add-if5 : tie.Need-add-if5
+add-if5 c = search needs
+
+shared-slice-read-if5 : tie.Need-shared-slice-read-if5
+shared-slice-read-if5 c = search needs
+
+returns-3 : tie.Need-returns-3
+returns-3 c = width-pair _ _ (c .before .before .before .before .before .before .before .before .before .pre) _ (c .before .before .before .before .before .before .is-lower .ensures) (c .before .before .before .before .before .if1 .left) _ (c .before .before .before .before .is-mark .ensures) (c .before .before .before .if3 .taken) (c .if5 .taken)
+
+returns-4 : tie.Need-returns-4
+returns-4 c = width-half _ _ (c .before .before .before .before .before .before .before .before .before .pre) _ (c .before .before .before .before .before .before .is-lower .ensures) (c .before .before .before .before .before .if1 .left) _ (c .before .before .before .before .is-mark .ensures) (c .before .before .before .if3 .taken) (c .if5 .left)
+
+returns-5 : tie.Need-returns-5
+returns-5 c = width-last _ _ (c .before .before .before .before .before .before .before .pre) _ (c .before .before .before .before .is-lower .ensures) (c .before .before .before .if1 .left) _ (c .before .before .is-mark .ensures) (c .before .if3 .taken) (c .if4 .left)
+
+is-symbol-requires : tie.Need-is-symbol-requires
+is-symbol-requires c κs = search needs
+
+returns-6 : tie.Need-returns-6
+returns-6 c = width-symbol _ _ (c .before .before .before .before .before .before .before .before .pre) _ (c .before .before .before .before .before .is-lower .ensures) (c .before .before .before .before .if1 .left) _ (c .before .before .before .is-mark .ensures) _ (c .before .before .if3 .left) (c .before .is-symbol .ensures) (c .if6 .taken)
+
+returns-7 : tie.Need-returns-7
+returns-7 c = width-none _ _ (c .before .before .before .before .before .before .before .before .pre) _ (c .before .before .before .before .before .is-lower .ensures) (c .before .before .before .before .if1 .left) _ (c .before .before .before .is-mark .ensures) _ (c .before .before .if3 .left) (c .before .is-symbol .ensures) (c .if6 .left)
+
+pub width-at-spec : {M : Type 1} → statement M
+width-at-spec =
+    tie.close
+    (tie.spec
+    shared-slice-read-b
+    is-lower-requires
+    run-end-requires
+    sub-n
+    returns
+    returns-2
+    is-mark-requires
+    add-if4
+    add-if5
+    shared-slice-read-if5
+    returns-3
+    returns-4
+    returns-5
+    is-symbol-requires
+    returns-6
+    returns-7)

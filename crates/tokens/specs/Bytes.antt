@@ -1,0 +1,54 @@
+-- The bytes of a macro's text (document 01, "Macro text").
+use Prim.Native.Nat.{ℕ, suc, _+_, _*_}
+use mathlib.Core.Bool.{Bool, true, false, not, _&&_, _||_}
+use mathlib.Core.List.{List, [], _∷_}
+use lib.Dec.{leb, eqb}
+use lib.ListN.{getD}
+use Rattle.base.specs.Choice.{pick}
+
+-- space, tab, CR, LF
+abbrev pub blank : ℕ → Bool
+blank b = eqb b 32 || eqb b 9 || eqb b 13 || eqb b 10
+
+-- a lower-case letter
+abbrev pub lower : ℕ → Bool
+lower b = leb 97 b && leb b 122
+
+abbrev pub digit : ℕ → Bool
+digit b = leb 48 b && leb b 57
+
+-- a letter, a digit or _: what a name goes on with
+abbrev pub inner : ℕ → Bool
+inner b = lower b || digit b || eqb b 95
+
+-- 1 2 = ; , ( ) { } /
+abbrev pub symbol : ℕ → Bool
+symbol b = eqb b 49 || eqb b 50 || eqb b 61 || eqb b 59 || eqb b 44 || eqb b 40 || eqb b 41 || eqb b 123 || eqb b 125 || eqb b 47
+
+-- : and !, which only go before =
+abbrev pub mark : ℕ → Bool
+mark b = eqb b 58 || eqb b 33
+
+-- how many bytes of blanks and comments stand in front; the flag says that a comment has begun, which runs to an LF
+unfoldable pub gap : Bool → List ℕ → ℕ
+gap c [] = 0
+gap true (b ∷ s) = suc (gap (not (eqb b 10)) s)
+gap false (b ∷ s) = pick (eqb b 35) (λ _. suc (gap true s)) λ _. pick (blank b) (λ _. suc (gap false s)) λ _. 0
+
+-- how many letters, digits and _ stand in front
+unfoldable pub run : List ℕ → ℕ
+run [] = 0
+run (b ∷ s) = pick (inner b) (λ _. suc (run s)) λ _. 0
+
+-- how many bytes the token in front has; 0 where there is none, or a name of more than eight bytes
+unfoldable pub width : List ℕ → ℕ
+width [] = 0
+width (b ∷ s) =
+    pick (lower b) (λ _. pick (leb (run (b ∷ s)) 8) (λ _. run (b ∷ s)) λ _. 0)
+    λ _. pick (mark b) (λ _. pick (eqb (getD s 0 0) 61) (λ _. 2) λ _. 0)
+    λ _. pick (symbol b) (λ _. 1) λ _. 0
+
+-- A token is held as a number: its bytes as digits to base 256, the first byte lowest.
+abbrev pub key : List ℕ → ℕ
+key [] = 0
+key (b ∷ s) = b + 256 * key s

@@ -1,0 +1,338 @@
+// The tokens of a macro's text (document 01, "Macro text").
+ghost use mathlib.Core.Path.{_≡_};
+ghost use mathlib.Core.Bool.{true, false};
+ghost use Prim.Native.Nat.{_+_, _≤_, _<_};
+ghost use lib.ListN.{length, drop};
+ghost use lib.Seq.{slice};
+ghost use Rattle.tokens.specs.Bytes.{blank, lower, digit, inner, symbol, mark, gap, run, width, key};
+ghost use Rattle.tokens.specs.Tokens.{tokenAt};
+ghost use Rattle.tokens.specs.Words.{keyword, isName, sameName};
+
+// Words and signs, as the numbers of their bytes. 0 is the end of the text, 1 is what is no token.
+
+/// What stands for the end of the text.
+pub const END: u64 = 0;
+
+/// What stands where there is no token.
+pub const WRONG: u64 = 1;
+
+/// The word `vars`.
+pub const VARS: u64 = 0x73726176;
+
+/// The word `funs`.
+pub const FUNS: u64 = 0x736e7566;
+
+/// The word `skip`.
+pub const SKIP: u64 = 0x70696b73;
+
+/// The word `assume`.
+pub const ASSUME: u64 = 0x656d75737361;
+
+/// The word `assert`.
+pub const ASSERT: u64 = 0x747265737361;
+
+/// The word `if`.
+pub const IF: u64 = 0x6669;
+
+/// The word `else`.
+pub const ELSE: u64 = 0x65736c65;
+
+/// The word `while`.
+pub const WHILE: u64 = 0x656c696877;
+
+/// The sign `1`.
+pub const ONE: u64 = 0x31;
+
+/// The sign `2`.
+pub const TWO: u64 = 0x32;
+
+/// The sign `:=`.
+pub const BECOMES: u64 = 0x3d3a;
+
+/// The sign `=`.
+pub const EQUAL: u64 = 0x3d;
+
+/// The sign `!=`.
+pub const UNEQUAL: u64 = 0x3d21;
+
+/// The sign `;`.
+pub const SEMICOLON: u64 = 0x3b;
+
+/// The sign `,`.
+pub const COMMA: u64 = 0x2c;
+
+/// The sign `(`.
+pub const LPAREN: u64 = 0x28;
+
+/// The sign `)`.
+pub const RPAREN: u64 = 0x29;
+
+/// The sign `{`.
+pub const LBRACE: u64 = 0x7b;
+
+/// The sign `}`.
+pub const RBRACE: u64 = 0x7d;
+
+/// The sign `/`.
+pub const SLASH: u64 = 0x2f;
+
+/// A token: its bytes as one number, the place of its first byte and the place behind it.
+pub struct Token {
+    pub key: u64,
+    pub start: usize,
+    pub end: usize,
+}
+
+fn is_blank(b: u8) -> bool
+    ensures { λ r. ⌜ r ≡ blank b ⌝ }
+{
+    if b == b' ' {
+        return true;
+    }
+    if b == b'\t' {
+        return true;
+    }
+    if b == b'\r' {
+        return true;
+    }
+    b == b'\n'
+}
+
+fn is_lower(b: u8) -> bool
+    ensures { λ r. ⌜ r ≡ lower b ⌝ }
+{
+    if b < b'a' {
+        return false;
+    }
+    b <= b'z'
+}
+
+fn is_digit(b: u8) -> bool
+    ensures { λ r. ⌜ r ≡ digit b ⌝ }
+{
+    if b < b'0' {
+        return false;
+    }
+    b <= b'9'
+}
+
+fn is_inner(b: u8) -> bool
+    ensures { λ r. ⌜ r ≡ inner b ⌝ }
+{
+    if is_lower(b) {
+        return true;
+    }
+    if is_digit(b) {
+        return true;
+    }
+    b == b'_'
+}
+
+fn is_symbol(b: u8) -> bool
+    ensures { λ r. ⌜ r ≡ symbol b ⌝ }
+{
+    if b == b'1' {
+        return true;
+    }
+    if b == b'2' {
+        return true;
+    }
+    if b == b'=' {
+        return true;
+    }
+    if b == b';' {
+        return true;
+    }
+    if b == b',' {
+        return true;
+    }
+    if b == b'(' {
+        return true;
+    }
+    if b == b')' {
+        return true;
+    }
+    if b == b'{' {
+        return true;
+    }
+    if b == b'}' {
+        return true;
+    }
+    b == b'/'
+}
+
+fn is_mark(b: u8) -> bool
+    ensures { λ r. ⌜ r ≡ mark b ⌝ }
+{
+    if b == b':' {
+        return true;
+    }
+    b == b'!'
+}
+
+fn wide(b: u8) -> u64
+    ensures { λ r. ⌜ r ≡ b ⌝ }
+{
+    b as u64
+}
+
+// The first place at or after `from` that is no blank and in no comment.
+fn skip_gap(text: &[u8], from: usize) -> usize
+    ensures { λ r. ⌜ r ≡ from + gap false (drop from (now (text .entry))) ⌝ }
+{
+    let mut at = from;
+    let mut comment = false;
+    while at < text.len() {
+        let b = text[at];
+        if comment {
+            comment = b != b'\n';
+            at += 1;
+            continue;
+        }
+        if b == b'#' {
+            comment = true;
+            at += 1;
+            continue;
+        }
+        if is_blank(b) {
+            at += 1;
+        } else {
+            return at;
+        }
+    }
+    at
+}
+
+// The first place at or after `from` that no name goes on with.
+fn run_end(text: &[u8], from: usize) -> usize
+    ensures { λ r. ⌜ r ≡ from + run (drop from (now (text .entry))) ⌝ }
+{
+    let mut at = from;
+    while at < text.len() {
+        if is_inner(text[at]) {
+            at += 1;
+        } else {
+            return at;
+        }
+    }
+    at
+}
+
+// The bytes from `start` to `end` as one number.
+fn key_of(text: &[u8], start: usize, end: usize) -> u64
+    requires { ⌜ (start ≤ end) × (end ≤ length (now text)) × (end ≤ start + 8) ⌝ }
+    ensures { λ r. ⌜ r ≡ key (slice start end (now (text .entry))) ⌝ }
+{
+    let mut v: u64 = 0;
+    let mut at = end;
+    while start < at {
+        at -= 1;
+        v = v * 256 + wide(text[at]);
+    }
+    v
+}
+
+// How many bytes the token at `at` has; 0 where there is none.
+fn width_at(text: &[u8], at: usize) -> usize
+    requires { ⌜ at < length (now text) ⌝ }
+    ensures { λ r. ⌜ r ≡ width (drop at (now (text .entry))) ⌝ }
+{
+    let b = text[at];
+    if is_lower(b) {
+        let n = run_end(text, at) - at;
+        if n <= 8 {
+            return n;
+        }
+        return 0;
+    }
+    if is_mark(b) {
+        if at + 1 < text.len() {
+            if text[at + 1] == b'=' {
+                return 2;
+            }
+        }
+        return 0;
+    }
+    if is_symbol(b) {
+        return 1;
+    }
+    0
+}
+
+/// The token at or after `from`.
+pub fn next(text: &[u8], from: usize) -> Token
+    ensures { λ r. ⌜ r ≡ tokenAt (now (text .entry)) from ⌝ }
+{
+    let at = skip_gap(text, from);
+    if text.len() <= at {
+        return Token {
+            key: END,
+            start: text.len(),
+            end: text.len(),
+        };
+    }
+    let w = width_at(text, at);
+    if w == 0 {
+        return Token {
+            key: WRONG,
+            start: at,
+            end: at,
+        };
+    }
+    let end = at + w;
+    let k = key_of(text, at, end);
+    Token {
+        key: k,
+        start: at,
+        end: end,
+    }
+}
+
+/// Whether a token is a word that is no name.
+pub fn is_keyword(k: u64) -> bool
+    ensures { λ r. ⌜ r ≡ keyword k ⌝ }
+{
+    if k == VARS {
+        return true;
+    }
+    if k == FUNS {
+        return true;
+    }
+    if k == SKIP {
+        return true;
+    }
+    if k == ASSUME {
+        return true;
+    }
+    if k == ASSERT {
+        return true;
+    }
+    if k == IF {
+        return true;
+    }
+    if k == ELSE {
+        return true;
+    }
+    k == WHILE
+}
+
+/// Whether a token is a name.
+pub fn is_name(k: u64) -> bool
+    ensures { λ r. ⌜ r ≡ isName k ⌝ }
+{
+    let b = k % 256;
+    if b < 97 {
+        return false;
+    }
+    if 122 < b {
+        return false;
+    }
+    !is_keyword(k)
+}
+
+/// Whether two names are the same.
+pub fn same_name(k: u64, l: u64) -> bool
+    ensures { λ r. ⌜ r ≡ sameName k l ⌝ }
+{
+    k == l
+}

@@ -1,0 +1,32 @@
+-- Demand 3 (document 01, "The search for a verdict", "The questions"): one claim about a macro's text and all executions of the macro,
+-- the lent table, the lent output, and the answer.
+use mathlib.Core.Path.{_≡_}
+use mathlib.Core.List.{List}
+use Prim.Native.Nat.{ℕ, _/_, min}
+use lib.ListN.{length, replicate}
+use Rattle.letters.specs.Editions.{firstEdition}
+use Rattle.semantics.specs.Terms.{begin}
+use Rattle.semantics.specs.PackedTables.{firstRowWidths}
+use Rattle.grammar.specs.Grammar.{Macro, headerOf}
+use Rattle.grammar.specs.Reading.{got, readMacro}
+use Rattle.grammar.specs.Reading
+use Rattle.verdicts.specs.Verdict.{Answer, refused, Verdict}
+
+-- "The table holds N pairs: the lesser of 1,024 and the lent bytes divided by 192, rounded down."
+abbrev pub mostPairs : ℕ
+mostPairs = 1024
+
+abbrev pub pairBytes : ℕ
+pairBytes = 192
+
+abbrev pub pairsIn : List ℕ → ℕ
+pairsIn table = min mostPairs (length table / pairBytes)
+
+-- `table` and `output` are lent; `table′` and `output′` are what they hold afterwards.
+pub record Demand3 (text table output : List ℕ) (answer : Answer) (table′ output′ : List ℕ) : Type 1 where
+  -- A text that is refused, by 7 to 13: "a refusal before it leaves the table untouched", "Refused calls write no output".
+  pub unread : (number place : ℕ) → readMacro text ≡ Reading.refused number place → (answer ≡ refused number place) × (table′ ≡ table) × (output′ ≡ output)
+  -- A text that is read as the macro m: the verdict on all its executions, or 14, or 6.
+  pub verdict : (m : Macro) (end : ℕ) → readMacro text ≡ got m end → Verdict (begin (headerOf m)) (m .body) firstEdition firstRowWidths (pairsIn table) output answer output′
+  -- "After a search, 14 included, each lent table byte is zero."
+  pub zeroed : (m : Macro) (end : ℕ) → readMacro text ≡ got m end → table′ ≡ replicate (length table) 0

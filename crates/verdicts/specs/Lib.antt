@@ -1,0 +1,14 @@
+pub mod Count
+pub mod Counting
+pub mod System
+pub mod Listing
+pub mod Verdict
+pub mod Pairs
+pub mod Since
+pub mod Answers
+pub mod Unique
+pub mod Total
+pub mod Trail
+pub mod Demand3
+pub mod Settled
+pub mod Examples

@@ -1,0 +1,145 @@
+-- The verdict on a macro (document 01, "The search for a verdict").
+use mathlib.Core.Path.{_≡_}
+use mathlib.Core.Logic.{_⊎_, _↔_, _≢_}
+use mathlib.Core.List.{List, _++_}
+use Prim.Native.Nat.{ℕ, _≤_, _<_}
+use lib.ListN.{length, drop}
+use Rattle.letters.specs.declared.Letter.{Letter}
+use Rattle.semantics.specs.Terms.{Trace, begin, _▸_, extend, state}
+use Rattle.letters.specs.Editions.{Edition}
+use Rattle.letters.specs.Traces.{packing}
+use Rattle.semantics.specs.Models.{Satisfies}
+use Rattle.semantics.specs.SameWindow.{SameWindow}
+use Rattle.semantics.specs.Shown.{shown, tablesOf}
+use Rattle.semantics.specs.PackedTables.{RowWidths, packTables}
+use Rattle.semantics.specs.AnyModel.{FeasibleInSomeModel}
+use Rattle.semantics.specs.Coherence.{Coherent}
+use Rattle.macros.specs.Tree.{Block}
+use Rattle.macros.specs.Executions.{Partial, Failing}
+use Rattle.macros.specs.Order.{Path, Before}
+use Rattle.macros.specs.Walk.{Place, at, stand}
+use Rattle.macros.specs.Points.{sizeBlock, run}
+use Rattle.verdicts.specs.Count.{Count, More}
+
+-- An answer: a verdict, with the count of pairs and, unless it is pass, the count of letters; or a refusal, its number and its place.
+pub data Answer : Type 0 where
+  pass : ℕ → Answer
+  fail : ℕ → ℕ → Answer
+  incoherent : ℕ → ℕ → Answer
+  refused : ℕ → ℕ → Answer
+
+abbrev pub IsPass : Answer → Type 0
+IsPass (pass k) = Unit {0}
+IsPass (fail k l) = ⊥
+IsPass (incoherent k l) = ⊥
+IsPass (refused n p) = ⊥
+
+-- "Table suffices? 14." "Answer fits the output? 6."
+abbrev pub full : Answer
+full = refused 14 0
+
+abbrev pub unfit : Answer
+unfit = refused 6 0
+
+-- The two kinds of events.
+pub data Kind : Type 0 where
+  breaking failing : Kind
+
+-- The answer that shows an event of k pairs and l letters.
+abbrev pub showing : Kind → ℕ → ℕ → Answer
+showing breaking k l = incoherent k l
+showing failing k l = fail k l
+
+-- "the execution as a packed trace, on fail its model after it": the letters ls after a start, packed in an edition.
+unfoldable pub packed : Edition → RowWidths → Trace → Kind → List Letter → List ℕ
+packed e w start breaking ls = packing e (state start .header) ls
+packed e w start failing ls = packing e (state start .header) ls ++ packTables w (state start .header) (tablesOf (state (extend start ls)))
+
+-- The answer a with the bytes bs: they stand in front of what the output held there, or it is refused by 6, exactly where they do not fit.
+-- "Refused calls write no output; bytes past a written answer stay."
+abbrev pub Delivered : List ℕ → Answer → List ℕ → Answer → List ℕ → Type 0
+Delivered bs a output answer output′ =
+    ((length bs ≤ length output) × (answer ≡ a) × (output′ ≡ bs ++ drop (length bs) output)) ⊎ ((length output < length bs) × (answer ≡ unfit) × (output′ ≡ output))
+
+-- The last letter is the first incoherent one.
+abbrev pub Breaks : Trace → Type 0
+Breaks (begin h) = ⊥
+Breaks (ρ ▸ a) = Coherent ρ × ¬ Coherent (ρ ▸ a)
+
+-- The executions of the macro m after the trace start.
+module _ (start : Trace) (m : Block) where
+  -- ρ is the partial execution that takes the path p.
+  abbrev pub Takes : Path → Trace → Type 0
+  Takes p ρ = (l : Place ℕ) × (run start m p ≡ stand l ρ)
+
+  -- ρ comes before π: "shorter first, then by branch".
+  pub record Precedes (ρ π : Trace) : Type 0 where
+    pub path : Path
+    pub other : Path
+    pub takes : Takes path ρ
+    pub other-takes : Takes other π
+    pub before : Before path other
+
+  -- "An event is a partial execution whose last letter is the first incoherent one, or a feasible execution that ends at a failure:
+  -- some data model reaches the false assertion, all the tests holding in it."
+  pub data Event (ρ : Trace) : Type 1 where
+    breaks : Partial start m ρ → Breaks ρ → Event ρ
+    fails : Failing start m ρ → FeasibleInSomeModel (state ρ) → Event ρ
+
+  -- "The verdict is the first event, or pass." It comes before every other.
+  pub record FirstEvent (ρ : Trace) : Type 1 where
+    pub event : Event ρ
+    pub least : (π : Trace) → Event π → (π ≡ ρ) ⊎ Precedes ρ π
+
+  -- The event that takes the path p.
+  abbrev pub EventAt : Path → Type 1
+  EventAt p = (ρ : Trace) × Takes p ρ × Event ρ
+
+  -- "A pair is a point still to be performed and a window, as a partial execution leaves them."
+  -- What stands behind an incoherent letter comes after an event, and is not counted: so only coherent ones are looked at.
+  pub record Leaves (p : Path) : Type 0 where
+    pub point : ℕ
+    pub trace : Trace
+    pub stands : run start m p ≡ stand (at point) trace
+    pub due : point < sizeBlock m
+    pub coherent : Coherent trace
+
+  -- Two executions leave the same pair: the same point, and the same window.
+  pub record SamePair (p q : Path) : Type 0 where
+    pub point : ℕ
+    pub trace : Trace
+    pub other : Trace
+    pub stands : run start m p ≡ stand (at point) trace
+    pub other-stands : run start m q ≡ stand (at point) other
+    pub windows : SameWindow (state trace) (state other)
+
+  -- k is the count of pairs; the count passes n.
+  abbrev pub PairCount : ℕ → Type 1
+  PairCount k = Count Before Leaves SamePair EventAt k
+
+  abbrev pub PairsPass : ℕ → Type 1
+  PairsPass n = More Before Leaves SamePair EventAt n
+
+  -- What kind of event it is. "A failing letter that is itself incoherent counts as incoherent."
+  -- All tests of a failing execution hold in the model that is shown.
+  abbrev pub OfKind : Kind → Trace → Type 0
+  OfKind breaking ρ = Partial start m ρ × Breaks ρ
+  OfKind failing ρ = Failing start m ρ × Coherent ρ × Satisfies (shown (state ρ)) (state ρ .equals) (state ρ .unequals)
+
+  -- The first event has the letters ls after the start, and k is the count of pairs.
+  pub record Shows (kind : Kind) (k : ℕ) (ls : List Letter) : Type 1 where
+    pub first-event : FirstEvent (extend start ls)
+    pub of-kind : OfKind kind (extend start ls)
+    pub count : PairCount k
+
+  -- The verdict in an edition. The table holds n pairs. `output` is lent, and `output′` is what it holds afterwards.
+  pub record Verdict (e : Edition) (w : RowWidths) (n : ℕ) (output : List ℕ) (answer : Answer) (output′ : List ℕ) : Type 1 where
+    -- "full is given exactly when it passes N"
+    pub full-exactly : (answer ≡ full) ↔ PairsPass n
+    pub full-output : answer ≡ full → output′ ≡ output
+    -- else pass is answered exactly if every execution, wherever it is broken off, is coherent so far, and no data model reaches a false assertion
+    pub pass-exactly : answer ≢ full → IsPass answer ↔ (((ρ : Trace) → Partial start m ρ → Coherent ρ) × ((ρ : Trace) → Failing start m ρ → ¬ FeasibleInSomeModel (state ρ)))
+    pub pass-count : (k : ℕ) → answer ≡ pass k → PairCount k × (output′ ≡ output)
+    -- else the first event is answered, or 6
+    pub otherwise : answer ≢ full → ¬ IsPass answer
+        → (kind : Kind) × (k : ℕ) × (ls : List Letter) × Shows kind k ls × Delivered (packed e w start kind ls) (showing kind k (length ls)) output answer output′

@@ -1,0 +1,29 @@
+use mathlib.Core.Path.{ap₂}
+use Prim.Native.Nat.{_*_, _-_}
+use lib.Bits.{bitOr}
+use borrow.Author.Needs.{needs}
+use Rattle.window.specs.Table.{Written, written-none, written-more, written-all}
+use Rattle.window.specs.Marks.{aboveOf, unionOf}
+use Rattle.window.proofs.above.Statement.{statement}
+use Rattle.window.proofs.above.Tie as tie
+
+abbrev Inv-loop : tie.InvT-loop
+Inv-loop t next₀ h₀ next h = Written (λ k. bitOr (unionOf t (8 * k) 1 8) (unionOf t k 8 8)) 0 8 h next
+
+abbrev μ-loop : tie.MeasureT-loop
+μ-loop t next₀ h₀ next h = 8 - h
+
+pub above-spec : {M : Type 1} → statement M
+unfolding aboveOf
+above-spec = tie.close (tie.spec
+    Inv-loop
+    μ-loop
+    (λ c. written-none _ _ _ _ (search needs))
+    (λ c. search needs)
+    (λ c κs. search needs)
+    (λ c κs. search needs)
+    (λ c. search needs)
+    (λ c. search needs)
+    (λ c. search needs)
+    (λ c. written-more _ _ _ _ _ _ (c .before .before .before .loop .inv) (c .before .before .loop-test .taken) (ap₂ bitOr (c .before .union .ensures) (c .union2 .ensures)))
+    (λ c. written-all _ _ _ _ _ (c .before .loop .inv) (c .loop-test .left)))

@@ -1,0 +1,8 @@
+use borrow.Author.Needs.{needs}
+use Rattle.window.specs.Perform.{earlyOf}
+use Rattle.window.proofs.early.Statement.{statement}
+use Rattle.window.proofs.early.Tie as tie
+
+pub early-spec : {M : Type 1} → statement M
+unfolding earlyOf
+early-spec = tie.close (tie.spec (λ c. search needs) (λ c. search needs) (λ c. rw (c .if1 .taken)) (λ c. rw (c .if1 .left)))

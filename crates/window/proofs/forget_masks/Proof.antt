@@ -1,0 +1,12 @@
+use borrow.Author.Needs.{needs}
+use Rattle.window.specs.Adding.{forgotten-is}
+use Rattle.window.proofs.forget_masks.Statement.{statement}
+use Rattle.window.proofs.forget_masks.Tie as tie
+
+pub forget-masks-spec : {M : Type 1} → statement M
+forget-masks-spec = tie.close (tie.spec
+    (λ c κs. search needs)
+    (λ c κs. search needs)
+    (λ c κs. search needs)
+    (λ c. search needs)
+    (λ c. let k = c .before .before .before .before .before .before in forgotten-is _ _ _ _ _ (k .before .single .ensures) (k .move-bits .ensures) (c .before .before .clear-column .ensures)))

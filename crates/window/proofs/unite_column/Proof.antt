@@ -1,0 +1,37 @@
+use mathlib.Core.Path.{_≡_, refl}
+use Prim.Native.Nat.{_-_, _/_, _≤_}
+use lib.Dec.{eqb}
+use lib.ListN.{length}
+use native.Mathlib.Omega.{arith}
+use borrow.Author.Needs.{needs}
+use Rattle.window.specs.Lines.{columns, Gone, gone-none, unitedAt, unite-more, united-all}
+use Rattle.window.specs.Through.{columns-span}
+use Rattle.window.proofs.unite_column.Statement.{statement}
+use Rattle.window.proofs.unite_column.Tie as tie
+
+abbrev Inv-loop : tie.InvT-loop
+Inv-loop t₀ r a b n j₀ t j = (n ≡ length t₀ / 8) × (j ≤ n) × Gone columns (unitedAt columns (λ s. eqb s r) a b t₀) r t₀ j t
+
+abbrev μ-loop : tie.MeasureT-loop
+μ-loop t₀ r a b n j₀ t j = n - j
+
+pub unite-column-spec : {M : Type 1} → statement M
+unite-column-spec = tie.close (tie.spec
+    Inv-loop
+    μ-loop
+    (λ c. (refl, search needs, gone-none _ _ _ _))
+    (λ c. search needs)
+    (λ c. search needs)
+    (λ c. let k = c .before .before in omega (arith, k .loop .inv .0, k .loop .inv .2 .long, c .before .loop-test .taken, k .before .pre))
+    (λ c. search needs)
+    (λ c. search needs)
+    (λ c. let k = c .before .before .before in omega (arith, k .loop .inv .0, k .loop .inv .2 .long, c .before .before .loop-test .taken, k .before .pre))
+    (λ c. search needs)
+    (λ c. search needs)
+    (λ c. let k = c .before .before .before in omega (arith, k .loop .inv .0, k .loop .inv .2 .long, c .before .before .loop-test .taken, k .before .pre))
+    (λ c. search needs)
+    (λ c. search needs)
+    (λ c. let k = c .before .before .before in let l = c .before .before .loop-test .taken in
+    (k .loop .inv .0, omega arith, unite-more columns _ _ _ _ _ _ _ (columns-span _ _ (k .before .pre .3) (k .loop .inv .0)) (k .before .pre .0) (k .before .pre .1) (k .before .pre .2) l (k .loop .inv .2)))
+    (λ c. c .before .loop .inv .2 .long)
+    (λ c. let k = c .before in united-all columns _ _ _ _ _ _ _ (columns-span _ _ (k .before .pre .3) (k .loop .inv .0)) (c .loop-test .left) (k .loop .inv .2)))

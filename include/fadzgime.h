@@ -1,0 +1,62 @@
+/*
+ * The proved trace monitor, whole-trace engine, macro reader and macro verdict.
+ *
+ * Every function takes lent slices, each as a pointer and a length, which must not
+ * overlap, and puts its answer as numbers into the slice `answer`. An answer slice
+ * that is too short is left untouched.
+ *
+ * A refusal is a number (0: none) and a place (0 unless said): document 01, "The
+ * questions". A refused call writes no output.
+ */
+#ifndef FADZGIME_H
+#define FADZGIME_H
+
+#include <stddef.h>
+#include <stdint.h>
+
+#ifdef __cplusplus
+extern "C" {
+#endif
+
+/*
+ * Judges a packed trace of any length.
+ * answer[0] refusal (1, 2, 3, 4), [1] place, [2] first incoherent letter from 1
+ * (0: coherent), [3] first infeasible letter before that one (0: none).
+ */
+void fadzgime_monitor(const uint8_t *trace, size_t trace_length,
+                      uint64_t *answer, size_t answer_length);
+
+/*
+ * Shows a data model of a packed trace of at most 1,024 letters, coherent or not.
+ * answer[0] refusal (1, 2, 3, 5, 4, 6), [1] place, [2] first infeasible letter
+ * (0: feasible), [3] bytes of the packed model written to `out`.
+ */
+void fadzgime_model(const uint8_t *trace, size_t trace_length,
+                    uint8_t *out, size_t out_length,
+                    uint64_t *answer, size_t answer_length);
+
+/*
+ * Reads a macro.
+ * answer[0] refusal (7 to 13), [1] place, [2] registers, [3] functions,
+ * [4] points.
+ */
+void fadzgime_read(const uint8_t *text, size_t text_length,
+                   uint64_t *answer, size_t answer_length);
+
+/*
+ * Judges all executions of a macro. The table holds the pairs of the search, 192
+ * bytes each; after a search each of its bytes is 0.
+ * answer[0] refusal (7 to 13, 14, 6), [1] place, [2] 0 pass, 1 fail,
+ * 2 incoherent, [3] pairs, [4] bytes written to `out`: unless pass the execution
+ * as a packed trace, on fail its packed model after it.
+ */
+void fadzgime_verdict(const uint8_t *text, size_t text_length,
+                      uint8_t *table, size_t table_length,
+                      uint8_t *out, size_t out_length,
+                      uint64_t *answer, size_t answer_length);
+
+#ifdef __cplusplus
+}
+#endif
+
+#endif

@@ -1,0 +1,50 @@
+/* Calls each function of the library once or twice and prints what it answers. */
+#include <inttypes.h>
+#include <stdio.h>
+#include <string.h>
+
+#include "fadzgime.h"
+
+static void show(const char *name, const uint64_t *answer, size_t count) {
+    printf("%s", name);
+    for (size_t i = 0; i < count; i++) {
+        printf(" %" PRIu64, answer[i]);
+    }
+    printf("\n");
+}
+
+static void show_bytes(const uint8_t *bytes, size_t count) {
+    for (size_t i = 0; i < count; i++) {
+        printf("%02x", bytes[i]);
+    }
+    printf("\n");
+}
+
+int main(void) {
+    /* Three registers and one one-argument function: r2 := f(r0), r0 = r1. */
+    static const uint8_t trace[] = {0x32, 0x00, 0x44, 0x00, 0x80, 0x08};
+    static const char macro[] = "vars x y; assert x = y;";
+    static const uint8_t *const text = (const uint8_t *)macro;
+    static uint8_t table[65536];
+    uint8_t out[64];
+    uint64_t answer[5];
+
+    fadzgime_monitor(trace, sizeof trace, answer, 4);
+    show("monitor", answer, 4);
+    fadzgime_monitor(trace, 5, answer, 4);
+    show("monitor", answer, 4);
+
+    fadzgime_model(trace, sizeof trace, out, sizeof out, answer, 4);
+    show("model", answer, 4);
+    show_bytes(out, (size_t)answer[3]);
+
+    fadzgime_read(text, strlen(macro), answer, 5);
+    show("read", answer, 5);
+    fadzgime_read(text, 6, answer, 5);
+    show("read", answer, 5);
+
+    fadzgime_verdict(text, strlen(macro), table, sizeof table, out, sizeof out, answer, 5);
+    show("verdict", answer, 5);
+    show_bytes(out, (size_t)answer[4]);
+    return 0;
+}

@@ -1,0 +1,190 @@
+//! Macro texts with one thing wrong, for every refusal of the reader.
+
+use crate::random::Random;
+use crate::random_macro::{lay_out, macro_text, random_macro, random_name, tokens};
+
+/// Tokens to put where they do not belong, and some that are none.
+const STRAY: [&str; 34] = [
+    "vars",
+    "funs",
+    "skip",
+    "assume",
+    "assert",
+    "if",
+    "else",
+    "while",
+    "1",
+    "2",
+    ":=",
+    "=",
+    "!=",
+    ";",
+    ",",
+    "(",
+    ")",
+    "{",
+    "}",
+    "/",
+    "zz",
+    "a",
+    "x",
+    "3",
+    "0",
+    ":",
+    "!",
+    "==",
+    "A",
+    "_",
+    "abcdefghi",
+    "assertion",
+    "<",
+    "\u{e9}",
+];
+
+/// Bytes to put where they do not belong.
+const BYTES: &[u8] = b"abz019_AZ:=!;,(){}/# \t\r\n\x00\x0b\x0c\x7f\x80\xff+-*<>\"'&|.";
+
+/// A text that is refused for the most part, of a macro with few points.
+pub fn damaged_text(random: &mut Random) -> Vec<u8> {
+    match random.below(12) {
+        0..=4 => damaged_tokens(random),
+        5..=7 => damaged_bytes(random),
+        8 => many_names(random),
+        9 => deep(random),
+        10 => many_points(random),
+        _ => long_text(random),
+    }
+}
+
+/// One or two tokens taken away, put in, doubled, replaced or swapped.
+fn damaged_tokens(random: &mut Random) -> Vec<u8> {
+    let read = random_macro(random, 8);
+    let mut tokens = tokens(random, &read);
+    for _ in 0..1 + random.below(2) {
+        let place = random.below(tokens.len());
+        match random.below(6) {
+            0 => drop(tokens.remove(place)),
+            1 => tokens.insert(place, random.pick(&STRAY).to_string()),
+            2 => tokens.insert(place, tokens[place].clone()),
+            3 => tokens[place] = random.pick(&STRAY).to_string(),
+            4 => {
+                let other = random.below(tokens.len());
+                tokens.swap(place, other);
+            }
+            _ => replace_name(random, &mut tokens),
+        }
+        if tokens.is_empty() {
+            tokens.push("vars".to_string());
+        }
+    }
+    lay_out(random, &tokens)
+}
+
+/// A name replaced by another one of the text, or by a new one.
+fn replace_name(random: &mut Random, tokens: &mut [String]) {
+    let is_name = |token: &String| token.bytes().next().is_some_and(|byte| byte.is_ascii_lowercase());
+    let names: Vec<usize> = (0..tokens.len()).filter(|&place| is_name(&tokens[place])).collect();
+    if names.is_empty() {
+        return;
+    }
+    let place = *random.pick(&names);
+    let other = *random.pick(&names);
+    tokens[place] = if random.once_in(3) { random_name(random) } else { tokens[other].clone() };
+}
+
+/// A few bytes changed, put in or taken away, or the end cut off.
+fn damaged_bytes(random: &mut Random) -> Vec<u8> {
+    let read = random_macro(random, 8);
+    let mut text = macro_text(random, &read);
+    for _ in 0..1 + random.below(2) {
+        if text.is_empty() {
+            break;
+        }
+        let place = random.below(text.len());
+        match random.below(5) {
+            0 => text[place] = *random.pick(BYTES),
+            1 => text.insert(place, *random.pick(BYTES)),
+            2 => drop(text.remove(place)),
+            3 => text[place] = random.bits() as u8,
+            _ => text.truncate(place),
+        }
+    }
+    text
+}
+
+/// Nearly too many registers or functions, or a name declared twice.
+fn many_names(random: &mut Random) -> Vec<u8> {
+    let registers = 6 + random.below(4);
+    let functions = 2 + random.below(4);
+    let mut name = |kind: &str, number: usize| match random.once_in(12) {
+        true => "v1".to_string(),
+        false => format!("{kind}{number}"),
+    };
+    let registers: Vec<String> = (0..registers).map(|number| name("v", number)).collect();
+    let functions: Vec<String> = (0..functions).map(|number| name("f", number)).collect();
+    let mut text = format!("vars {};", registers.join(" "));
+    if random.once_in(2) {
+        let entries: Vec<String> = functions.iter().map(|f| format!("{f}/{}", 1 + random.below(2))).collect();
+        text += &format!("funs {};", entries.join(" "));
+    }
+    text += "v0 := f0(v1); assert v0 = v1;";
+    text.into_bytes()
+}
+
+/// Blocks in blocks, about as deep as they may be.
+fn deep(random: &mut Random) -> Vec<u8> {
+    let depth = 14 + random.below(5);
+    let mut text = b"vars x y;".to_vec();
+    let mut close = Vec::new();
+    for _ in 0..depth {
+        let (open, end): (&[u8], &[u8]) = match random.below(3) {
+            0 => (b"while x = y {", b"}"),
+            1 => (b"if x != y { x := y; ", b"} else { skip; }"),
+            _ => (b"if x = y {} else {", b"}"),
+        };
+        text.extend(open);
+        close.push(end);
+    }
+    if random.once_in(4) {
+        text.push(*random.pick(BYTES));
+    }
+    for end in close.iter().rev() {
+        text.extend(*end);
+    }
+    text
+}
+
+/// About as many points as there may be.
+fn many_points(random: &mut Random) -> Vec<u8> {
+    let points = 250 + random.below(14);
+    let mut text = b"vars x y;".to_vec();
+    for point in 0..points {
+        let statement: &[u8] = match (random.below(24), point % 2) {
+            (0, _) => b"skip;x:=y;",
+            (1, _) => b"if x=y{}",
+            (2, _) => b"while x=y{}",
+            (_, 0) => b"x:=y;",
+            _ => b"assume x=x;",
+        };
+        text.extend(statement);
+    }
+    if random.once_in(4) {
+        text.push(*random.pick(BYTES));
+    }
+    text
+}
+
+/// A text of about as many bytes as there may be, blanks and a comment in front.
+fn long_text(random: &mut Random) -> Vec<u8> {
+    let read = random_macro(random, 4);
+    let text = macro_text(random, &read);
+    let length = 4094 + random.below(5);
+    let mut long = vec![b' '; length.saturating_sub(text.len())];
+    if long.len() > 2 && random.once_in(2) {
+        long[0] = b'#';
+        let last = long.len() - 1;
+        long[last] = b'\n';
+    }
+    long.extend(text);
+    long
+}

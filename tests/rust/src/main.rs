@@ -1,0 +1,33 @@
+//! `oracle monitor|model|read|verdict`: reads a packed trace or a macro from
+//! standard input and prints what the program of that name prints.
+
+use std::io::{Read, Write};
+use std::process::ExitCode;
+
+use oracle::report::{print_model, print_monitor, print_read, print_verdict};
+
+const USAGE: &str = "usage: oracle monitor|model|read|verdict < input";
+
+fn main() -> ExitCode {
+    let command = std::env::args().nth(1).unwrap_or_default();
+    let print: fn(&[u8]) -> String = match command.as_str() {
+        "monitor" => print_monitor,
+        "model" => print_model,
+        "read" => print_read,
+        "verdict" => print_verdict,
+        _ => {
+            eprintln!("{USAGE}");
+            return ExitCode::from(2);
+        }
+    };
+    let mut input = Vec::new();
+    let read = std::io::stdin().read_to_end(&mut input);
+    let written = read.and_then(|_| std::io::stdout().write_all(print(&input).as_bytes()));
+    match written {
+        Ok(()) => ExitCode::SUCCESS,
+        Err(error) => {
+            eprintln!("oracle: {error}");
+            ExitCode::FAILURE
+        }
+    }
+}

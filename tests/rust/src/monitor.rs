@@ -1,0 +1,80 @@
+//! Coherence and feasibility letter by letter, always from the whole beginning
+//! of the trace (document 01, "Terms, models, coherence").
+
+use crate::letter::Letter;
+use crate::refusal::Refusal;
+use crate::state::State;
+use crate::trace::{ENGINE_LETTERS, Trace, read_trace};
+
+/// What a run of the monitor finds.
+#[derive(Clone, Copy, Debug, Default, PartialEq, Eq)]
+pub struct Judgement {
+    /// The number, from 1, of the first incoherent letter.
+    pub incoherent: Option<usize>,
+    /// The number of the first infeasible letter before that one.
+    pub infeasible: Option<usize>,
+}
+
+/// Is this letter, which takes one state to the other, coherent?
+pub fn is_coherent(before: &State, letter: &Letter, after: &State) -> bool {
+    match *letter {
+        Letter::Copy { .. } | Letter::Unequal { .. } => true,
+        Letter::Apply { target, .. } => is_memoizing(before, target, after),
+        Letter::Equal { first, second } => {
+            before.all_above_held(before.value(first)) && before.all_above_held(before.value(second))
+        }
+    }
+}
+
+/// "An application whose term is already equal to a computed one needs a
+/// register that holds an equal term just before the letter." The closure is
+/// that of the tests so far over the computed terms and the new one.
+fn is_memoizing(before: &State, target: u8, after: &State) -> bool {
+    let term = after.value(target);
+    let computed = (0..before.terms.len()).any(|known| after.closure.equal(known, term));
+    let held = before.values.iter().any(|&value| after.closure.equal(value, term));
+    !computed || held
+}
+
+/// Judges a trace up to its first incoherent letter.
+pub fn judge(trace: &Trace) -> Judgement {
+    let mut judgement = Judgement::default();
+    let mut state = State::start(trace.header);
+    for (index, letter) in trace.letters.iter().enumerate() {
+        let after = state.after(letter);
+        if !is_coherent(&state, letter, &after) {
+            judgement.incoherent = Some(index + 1);
+            return judgement;
+        }
+        state = after;
+        if judgement.infeasible.is_none() && !state.is_feasible() {
+            judgement.infeasible = Some(index + 1);
+        }
+    }
+    judgement
+}
+
+/// The number of the letter at which a trace, coherent or not, becomes infeasible:
+/// found by halving, since each beginning of a feasible trace is feasible.
+pub fn first_infeasible(trace: &Trace) -> Option<usize> {
+    let feasible = |length: usize| State::after_all(trace.header, &trace.letters[..length]).is_feasible();
+    if feasible(trace.letters.len()) {
+        return None;
+    }
+    let (mut low, mut high) = (0, trace.letters.len());
+    while high - low > 1 {
+        let middle = low + (high - low) / 2;
+        *(if feasible(middle) { &mut low } else { &mut high }) = middle;
+    }
+    Some(high)
+}
+
+/// The monitor's run over a packed trace.
+pub fn monitor(bytes: &[u8]) -> Result<Judgement, Refusal> {
+    read_trace(bytes, None).map(|trace| judge(&trace))
+}
+
+/// The reading of a packed trace by the whole-trace engine.
+pub fn read_for_engine(bytes: &[u8]) -> Result<Trace, Refusal> {
+    read_trace(bytes, Some(ENGINE_LETTERS))
+}

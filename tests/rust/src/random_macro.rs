@@ -1,0 +1,339 @@
+//! Random macros that are well formed, and their text in a random layout.
+
+use crate::letter::Letter;
+use crate::random::Random;
+use crate::syntax::{Condition, Macro, Statement};
+
+/// Names that are easily confused with words.
+const ODD_NAMES: [&str; 12] =
+    ["ifs", "if1", "vars_", "whil", "while_", "elseif", "asserts", "skip2", "funs1", "v", "a_______", "i"];
+
+/// How macros are chosen.
+#[derive(Clone, Copy, Debug)]
+struct Choices {
+    /// Weights of skip, copy, application, assume, assert, if and while.
+    weights: [usize; 7],
+    /// The deepest nesting.
+    depth: usize,
+    /// An assert takes a condition that was met on the way, but once in so many times.
+    fresh_assert: usize,
+}
+
+const WEIGHTS: [[usize; 7]; 7] = [
+    [1, 2, 4, 2, 2, 2, 2],
+    [0, 2, 4, 2, 3, 3, 1],
+    [1, 4, 2, 1, 2, 2, 3],
+    [0, 1, 6, 1, 2, 1, 1],
+    [1, 3, 0, 3, 3, 3, 2],
+    // Branches and loops without end, few assumptions: many pairs.
+    [0, 4, 2, 0, 1, 5, 4],
+    [0, 3, 3, 0, 0, 5, 2],
+];
+
+/// A macro being made: its declarations and the points that may still be added.
+struct Maker<'a> {
+    random: &'a mut Random,
+    choices: Choices,
+    registers: u8,
+    arities: Vec<bool>,
+    points: usize,
+}
+
+/// A name of one to eight bytes.
+pub fn random_name(random: &mut Random) -> String {
+    if random.once_in(6) {
+        return random.pick(&ODD_NAMES).to_string();
+    }
+    let length = 1 + random.mostly_below(3, 8);
+    let rest = b"abcdefghijklmnopqrstuvwxyz0123456789_";
+    (0..length)
+        .map(|place| char::from(rest[random.below(if place == 0 { 26 } else { rest.len() })]))
+        .collect()
+}
+
+/// So many different names, none of them a word.
+fn distinct_names(random: &mut Random, count: usize) -> Vec<String> {
+    let mut names: Vec<String> = Vec::new();
+    while names.len() < count {
+        let name = random_name(random);
+        if !is_word(&name) && !names.contains(&name) {
+            names.push(name);
+        }
+    }
+    names
+}
+
+fn is_word(name: &str) -> bool {
+    ["vars", "funs", "skip", "assume", "assert", "if", "else", "while"].contains(&name)
+}
+
+/// A random macro with at most about this many points. In one of three the only
+/// assert is the last statement, so that failures are long.
+pub fn random_macro(random: &mut Random, points: usize) -> Macro {
+    let registers = 1 + random.mostly_below(4, 8);
+    let functions = random.mostly_below(3, 5);
+    let names = distinct_names(random, registers + functions);
+    let arities: Vec<bool> = (0..functions).map(|_| random.once_in(2)).collect();
+    let choices = Choices {
+        weights: *random.pick(&WEIGHTS),
+        depth: 1 + random.below(3),
+        fresh_assert: *random.pick(&[2, 6, 40]),
+    };
+    let points = random.below(points + 1);
+    let late = random.once_in(3);
+    let mut maker = Maker { random, choices, registers: registers as u8, arities: arities.clone(), points };
+    if late {
+        maker.choices.weights[4] = 0;
+    }
+    let mut statements = maker.block(0, &mut Vec::new(), true);
+    if late {
+        statements.push(Statement::Assert(maker.condition()));
+    }
+    let functions = names[registers..].iter().cloned().zip(arities).collect();
+    Macro { registers: names[..registers].to_vec(), functions, statements }
+}
+
+impl Maker<'_> {
+    fn register(&mut self) -> u8 {
+        self.random.byte_below(self.registers)
+    }
+
+    fn condition(&mut self) -> Condition {
+        Condition { equal: self.random.once_in(2), first: self.register(), second: self.register() }
+    }
+
+    /// Statements; `known` are conditions that probably hold before them.
+    fn block(&mut self, depth: usize, known: &mut Vec<Condition>, whole: bool) -> Vec<Statement> {
+        let mut statements = Vec::new();
+        while self.points > 0 && (whole || !self.random.once_in(3)) {
+            let statement = self.statement(depth, known);
+            statements.push(statement);
+        }
+        statements
+    }
+
+    fn statement(&mut self, depth: usize, known: &mut Vec<Condition>) -> Statement {
+        let [skip, copy, mut application, assume, assert, mut branch, mut repeat] = self.choices.weights;
+        if self.arities.is_empty() {
+            application = 0;
+        }
+        if depth == self.choices.depth {
+            (branch, repeat) = (0, 0);
+        }
+        let kind = self.random.weighted(&[skip, copy, application, assume, assert, branch, repeat]);
+        self.points -= usize::from(kind != 0);
+        match kind {
+            0 => Statement::Skip,
+            1 => self.copy(known),
+            2 => self.application(known),
+            3 => self.assume(known),
+            4 => self.assert(known),
+            5 => self.branch(depth, known),
+            _ => self.repeat(depth, known),
+        }
+    }
+
+    fn copy(&mut self, known: &mut Vec<Condition>) -> Statement {
+        let (target, source) = (self.register(), self.register());
+        forget(known, target);
+        known.push(Condition { equal: true, first: target, second: source });
+        Statement::Assign(Letter::Copy { target, source })
+    }
+
+    fn application(&mut self, known: &mut Vec<Condition>) -> Statement {
+        let target = self.register();
+        let function = self.random.below(self.arities.len());
+        let first = self.register();
+        let second = if self.arities[function] { Some(self.register()) } else { None };
+        forget(known, target);
+        Statement::Assign(Letter::Apply { target, function: function as u8, first, second })
+    }
+
+    fn assume(&mut self, known: &mut Vec<Condition>) -> Statement {
+        let condition = self.condition();
+        known.push(condition);
+        Statement::Assume(condition)
+    }
+
+    fn assert(&mut self, known: &mut Vec<Condition>) -> Statement {
+        let fresh = known.is_empty() || self.random.once_in(self.choices.fresh_assert);
+        let condition = if fresh { self.condition() } else { *self.random.pick(known) };
+        known.push(condition);
+        Statement::Assert(condition)
+    }
+
+    fn branch(&mut self, depth: usize, known: &mut Vec<Condition>) -> Statement {
+        let condition = self.condition();
+        let yes = self.block(depth + 1, &mut with(known, condition), false);
+        let no = match self.random.once_in(2) {
+            true => self.block(depth + 1, &mut with(known, condition.opposite()), false),
+            false => vec![],
+        };
+        known.clear();
+        Statement::If(condition, yes, no)
+    }
+
+    fn repeat(&mut self, depth: usize, known: &mut Vec<Condition>) -> Statement {
+        let condition = self.condition();
+        let body = self.block(depth + 1, &mut vec![condition], false);
+        known.clear();
+        known.push(condition.opposite());
+        Statement::While(condition, body)
+    }
+}
+
+fn forget(known: &mut Vec<Condition>, register: u8) {
+    known.retain(|condition| condition.first != register && condition.second != register);
+}
+
+fn with(known: &[Condition], condition: Condition) -> Vec<Condition> {
+    let mut more = known.to_vec();
+    more.push(condition);
+    more
+}
+
+/// The tokens of a macro as they are spelt; an empty else is written now and then.
+pub fn tokens(random: &mut Random, read: &Macro) -> Vec<String> {
+    let mut out = vec!["vars".to_string()];
+    out.extend(read.registers.iter().cloned());
+    out.push(";".to_string());
+    if !read.functions.is_empty() {
+        out.push("funs".to_string());
+        for (name, binary) in &read.functions {
+            out.extend([name.clone(), "/".to_string(), if *binary { "2" } else { "1" }.to_string()]);
+        }
+        out.push(";".to_string());
+    }
+    Speller { random, read, out: &mut out }.statements(&read.statements);
+    out
+}
+
+/// Spells the statements of a macro.
+struct Speller<'a> {
+    random: &'a mut Random,
+    read: &'a Macro,
+    out: &'a mut Vec<String>,
+}
+
+impl Speller<'_> {
+    fn spell(&mut self, tokens: &[&str]) {
+        self.out.extend(tokens.iter().map(ToString::to_string));
+    }
+
+    fn register(&mut self, register: u8) {
+        self.out.push(self.read.registers[usize::from(register)].clone());
+    }
+
+    fn condition(&mut self, word: &str, condition: &Condition) {
+        self.spell(&[word]);
+        self.register(condition.first);
+        self.spell(&[if condition.equal { "=" } else { "!=" }]);
+        self.register(condition.second);
+    }
+
+    fn block(&mut self, statements: &[Statement]) {
+        self.spell(&["{"]);
+        self.statements(statements);
+        self.spell(&["}"]);
+    }
+
+    fn assignment(&mut self, letter: &Letter) {
+        match *letter {
+            Letter::Copy { target, source } => {
+                self.register(target);
+                self.spell(&[":="]);
+                self.register(source);
+            }
+            Letter::Apply { target, function, first, second } => {
+                self.register(target);
+                let function = self.read.functions[usize::from(function)].0.clone();
+                self.spell(&[":=", &function, "("]);
+                self.register(first);
+                if let Some(second) = second {
+                    self.spell(&[","]);
+                    self.register(second);
+                }
+                self.spell(&[")"]);
+            }
+            Letter::Equal { .. } | Letter::Unequal { .. } => unreachable!("no assignment"),
+        }
+        self.spell(&[";"]);
+    }
+
+    fn statements(&mut self, statements: &[Statement]) {
+        for statement in statements {
+            match statement {
+                Statement::Skip => self.spell(&["skip", ";"]),
+                Statement::Assign(letter) => self.assignment(letter),
+                Statement::Assume(condition) => {
+                    self.condition("assume", condition);
+                    self.spell(&[";"]);
+                }
+                Statement::Assert(condition) => {
+                    self.condition("assert", condition);
+                    self.spell(&[";"]);
+                }
+                Statement::If(condition, yes, no) => {
+                    self.condition("if", condition);
+                    self.block(yes);
+                    if !no.is_empty() || self.random.once_in(4) {
+                        self.spell(&["else"]);
+                        self.block(no);
+                    }
+                }
+                Statement::While(condition, body) => {
+                    self.condition("while", condition);
+                    self.block(body);
+                }
+            }
+        }
+    }
+}
+
+/// Joins tokens by blanks and comments, which are left out now and then where no
+/// two tokens would run together.
+pub fn lay_out(random: &mut Random, tokens: &[String]) -> Vec<u8> {
+    let mut text: Vec<u8> = Vec::new();
+    for token in tokens {
+        let runs_on = |byte: u8| byte.is_ascii_lowercase() || byte.is_ascii_digit() || byte == b'_';
+        let name_before = text.last().is_some_and(|&byte| runs_on(byte));
+        let together = name_before && token.bytes().next().is_some_and(runs_on);
+        if together || random.once_in(3) {
+            text.extend(random_blank(random));
+        }
+        text.extend(token.bytes());
+    }
+    if random.once_in(3) {
+        text.extend(random_blank(random));
+    }
+    text
+}
+
+/// One separator.
+fn random_blank(random: &mut Random) -> Vec<u8> {
+    match random.below(10) {
+        0 => b"\t".to_vec(),
+        1 => b"\r\n".to_vec(),
+        2 => b"\n".to_vec(),
+        3 => b"  ".to_vec(),
+        4 => random_comment(random),
+        _ => b" ".to_vec(),
+    }
+}
+
+/// A comment of any bytes, up to its LF.
+fn random_comment(random: &mut Random) -> Vec<u8> {
+    let mut comment = vec![b'#'];
+    for _ in 0..random.below(8) {
+        let byte = random.bits() as u8;
+        comment.push(if byte == b'\n' { b'\r' } else { byte });
+    }
+    comment.push(b'\n');
+    comment
+}
+
+/// The text of a macro in a random layout.
+pub fn macro_text(random: &mut Random, read: &Macro) -> Vec<u8> {
+    let tokens = tokens(random, read);
+    lay_out(random, &tokens)
+}

@@ -1,0 +1,131 @@
+//! Random traces: coherent for long, infeasible, incoherent, and damaged.
+
+use crate::letter::{Header, Letter, MAX_FUNCTIONS, MAX_REGISTERS};
+use crate::monitor::is_coherent;
+use crate::random::Random;
+use crate::state::State;
+use crate::trace::Trace;
+
+/// How letters are chosen.
+#[derive(Clone, Copy, Debug)]
+pub struct Profile {
+    /// Weights of copies, applications, equal tests and unequal tests.
+    pub weights: [usize; 4],
+    /// An incoherent letter is kept once in so many times.
+    pub incoherent: usize,
+    /// A letter that makes the trace infeasible is kept once in so many times.
+    pub infeasible: usize,
+}
+
+const WEIGHTS: [[usize; 4]; 5] = [[1, 1, 1, 1], [6, 2, 2, 1], [1, 6, 2, 1], [1, 2, 6, 1], [1, 3, 3, 3]];
+
+impl Profile {
+    /// A random profile.
+    pub fn random(random: &mut Random) -> Profile {
+        Profile {
+            weights: *random.pick(&WEIGHTS),
+            incoherent: *random.pick(&[1, 4, 30, 1000]),
+            infeasible: *random.pick(&[1, 10, 100, 1000]),
+        }
+    }
+}
+
+/// A random header, all of them possible.
+pub fn random_header(random: &mut Random) -> Header {
+    let registers = 1 + random.byte_below(MAX_REGISTERS);
+    let functions = random.byte_below(MAX_FUNCTIONS + 1);
+    let arities: Vec<u8> = (0..functions).map(|_| 1 + random.byte_below(2)).collect();
+    Header::new(registers, &arities)
+}
+
+/// A random letter under a header; an application only if there is a function.
+pub fn random_letter(random: &mut Random, header: &Header, weights: [usize; 4]) -> Letter {
+    let mut register = || random.byte_below(header.registers);
+    let (target, first, second) = (register(), register(), register());
+    let [copy, application, equal, unequal] = weights;
+    let application = if header.functions == 0 { 0 } else { application };
+    match random.weighted(&[copy, application, equal, unequal]) {
+        0 => Letter::Copy { target, source: first },
+        1 => {
+            let function = random.byte_below(header.functions);
+            let second = (header.arity(function) == 2).then_some(second);
+            Letter::Apply { target, function, first, second }
+        }
+        2 => Letter::Equal { first, second },
+        _ => Letter::Unequal { first, second },
+    }
+}
+
+/// A random trace of so many letters. Letters that would make it incoherent or
+/// infeasible are drawn again but for the times that the profile says.
+pub fn random_trace(random: &mut Random, header: Header, profile: Profile, length: usize) -> Trace {
+    let mut state = State::start(header);
+    let mut coherent = true;
+    let mut letters = Vec::with_capacity(length);
+    for _ in 0..length {
+        if !coherent {
+            letters.push(random_letter(random, &header, profile.weights));
+            continue;
+        }
+        let (letter, stays, after) = choose(random, &state, profile);
+        letters.push(letter);
+        (state, coherent) = (after, stays);
+    }
+    Trace { header, letters }
+}
+
+/// A letter for this state, whether it is coherent, and the state after it.
+fn choose(random: &mut Random, state: &State, profile: Profile) -> (Letter, bool, State) {
+    for _ in 0..6 {
+        let letter = random_letter(random, &state.header, profile.weights);
+        let after = state.after(&letter);
+        let coherent = is_coherent(state, &letter, &after);
+        let feasible = after.is_feasible() || !state.is_feasible();
+        let kept = (coherent || random.once_in(profile.incoherent))
+            && (feasible || random.once_in(profile.infeasible));
+        if kept {
+            return (letter, coherent, after);
+        }
+    }
+    let letter = Letter::Copy { target: 0, source: 0 };
+    (letter, true, state.after(&letter))
+}
+
+/// A random trace with everything random, of fewer than `most` letters.
+pub fn any_trace(random: &mut Random, most: usize) -> Trace {
+    let header = random_header(random);
+    let profile = Profile::random(random);
+    let length = random.below(most);
+    random_trace(random, header, profile, length)
+}
+
+/// Packed bytes that differ from those of a trace in a way that is mostly refused.
+pub fn damage_trace(random: &mut Random, trace: &Trace) -> Vec<u8> {
+    let mut bytes = trace.pack();
+    let words = bytes.len() / 2;
+    match random.below(8) {
+        0 => bytes.truncate(random.below(3)),
+        1 => bytes.truncate(random.below(bytes.len() + 1)),
+        2 => bytes.push(random.bits() as u8),
+        3 => flip(random, &mut bytes, 0),
+        4 => {
+            let word = (random.bits() as u16).to_be_bytes();
+            bytes[..2].copy_from_slice(&word);
+        }
+        5 => {
+            let word = random.below(words);
+            let value = (random.bits() as u16).to_be_bytes();
+            bytes[2 * word..2 * word + 2].copy_from_slice(&value);
+        }
+        _ => {
+            let word = random.below(words);
+            flip(random, &mut bytes, word);
+        }
+    }
+    bytes
+}
+
+/// Flips one bit of one word.
+fn flip(random: &mut Random, bytes: &mut [u8], word: usize) {
+    bytes[2 * word + random.below(2)] ^= 1 << random.below(8);
+}

@@ -1,0 +1,241 @@
+//! The macro reader: from text to a tree, or the first refusal
+//! (document 01, "The questions", Macro).
+
+use crate::letter::{Letter, MAX_FUNCTIONS, MAX_REGISTERS};
+use crate::refusal::Refusal;
+use crate::syntax::{Condition, Macro, Statement};
+use crate::token::{Placed, Token, Word, token_at};
+
+/// "A macro has at most 4,096 bytes and 256 points."
+pub const MAX_TEXT: usize = 4096;
+/// The largest number of points.
+pub const MAX_POINTS: usize = 256;
+/// "Braces nest at most 16 deep."
+pub const MAX_DEPTH: usize = 16;
+
+/// The text, how far it is read, and the names declared so far.
+struct Reader<'a> {
+    text: &'a [u8],
+    at: usize,
+    registers: Vec<String>,
+    functions: Vec<(String, bool)>,
+}
+
+type Read<T> = Result<T, Refusal>;
+
+/// Reads a macro, or gives the first question that is answered with no.
+pub fn read_macro(text: &[u8]) -> Read<Macro> {
+    if text.len() > MAX_TEXT {
+        return Err(Refusal::plain(7));
+    }
+    let mut reader = Reader { text, at: 0, registers: vec![], functions: vec![] };
+    reader.word(Word::Vars)?;
+    reader.register_list()?;
+    if reader.peek()?.token == Token::Word(Word::Funs) {
+        reader.take()?;
+        reader.function_list()?;
+    }
+    let statements = reader.statements(0)?;
+    reader.expect(Token::End)?;
+    let read = Macro { registers: reader.registers, functions: reader.functions, statements };
+    if read.points() > MAX_POINTS { Err(Refusal::plain(13)) } else { Ok(read) }
+}
+
+impl Reader<'_> {
+    /// The next token, which stays unread; 8 if there is none.
+    fn peek(&self) -> Read<Placed> {
+        token_at(self.text, self.at)
+    }
+
+    /// The next token, which is read.
+    fn take(&mut self) -> Read<Placed> {
+        let placed = self.peek()?;
+        self.at = placed.end;
+        Ok(placed)
+    }
+
+    /// Reads a token that has to be this one; 9 if it is not.
+    fn expect(&mut self, token: Token) -> Read<usize> {
+        let placed = self.take()?;
+        if placed.token == token { Ok(placed.start) } else { Err(Refusal::at(9, placed.start)) }
+    }
+
+    fn word(&mut self, word: Word) -> Read<usize> {
+        self.expect(Token::Word(word))
+    }
+
+    /// Reads a name, with its place; 9 if it is another token.
+    fn name(&mut self) -> Read<(String, usize)> {
+        let placed = self.take()?;
+        match placed.token {
+            Token::Name(name) => Ok((name, placed.start)),
+            _ => Err(Refusal::at(9, placed.start)),
+        }
+    }
+
+    fn is_declared(&self, name: &str) -> bool {
+        self.registers.iter().any(|known| known == name)
+            || self.functions.iter().any(|(known, _)| known == name)
+    }
+
+    /// Names of registers, at least one, up to the `;`.
+    fn register_list(&mut self) -> Read<()> {
+        loop {
+            let (name, place) = self.name()?;
+            if self.registers.len() == usize::from(MAX_REGISTERS) || self.is_declared(&name) {
+                return Err(Refusal::at(10, place));
+            }
+            self.registers.push(name);
+            if self.list_ends()? {
+                return Ok(());
+            }
+        }
+    }
+
+    /// Entries such as `cap/1`, at least one, up to the `;`.
+    fn function_list(&mut self) -> Read<()> {
+        loop {
+            let (name, place) = self.name()?;
+            if self.functions.len() == usize::from(MAX_FUNCTIONS) || self.is_declared(&name) {
+                return Err(Refusal::at(10, place));
+            }
+            self.expect(Token::Slash)?;
+            let arity = self.take()?;
+            match arity.token {
+                Token::One => self.functions.push((name, false)),
+                Token::Two => self.functions.push((name, true)),
+                _ => return Err(Refusal::at(9, arity.start)),
+            }
+            if self.list_ends()? {
+                return Ok(());
+            }
+        }
+    }
+
+    /// Reads the `;` that ends a list, if it is next.
+    fn list_ends(&mut self) -> Read<bool> {
+        let ends = self.peek()?.token == Token::Semicolon;
+        if ends {
+            self.take()?;
+        }
+        Ok(ends)
+    }
+
+    /// Statements up to the end of the text, or inside braces up to the `}`.
+    fn statements(&mut self, depth: usize) -> Read<Vec<Statement>> {
+        let mut statements = Vec::new();
+        loop {
+            match self.peek()?.token {
+                Token::End | Token::CloseBrace => return Ok(statements),
+                _ => statements.push(self.statement(depth)?),
+            }
+        }
+    }
+
+    /// A block in braces, inside this many others.
+    fn block(&mut self, depth: usize) -> Read<Vec<Statement>> {
+        let place = self.expect(Token::OpenBrace)?;
+        if depth == MAX_DEPTH {
+            return Err(Refusal::at(12, place));
+        }
+        let statements = self.statements(depth + 1)?;
+        self.expect(Token::CloseBrace)?;
+        Ok(statements)
+    }
+
+    fn statement(&mut self, depth: usize) -> Read<Statement> {
+        let Token::Word(word) = self.peek()?.token else {
+            return self.assignment();
+        };
+        let place = self.take()?.start;
+        let statement = match word {
+            Word::Skip => Statement::Skip,
+            Word::Assume => Statement::Assume(self.condition()?),
+            Word::Assert => Statement::Assert(self.condition()?),
+            Word::If => return self.conditional(depth),
+            Word::While => {
+                let condition = self.condition()?;
+                return Ok(Statement::While(condition, self.block(depth)?));
+            }
+            Word::Vars | Word::Funs | Word::Else => return Err(Refusal::at(9, place)),
+        };
+        self.expect(Token::Semicolon)?;
+        Ok(statement)
+    }
+
+    /// An if behind its word, with the else that may follow.
+    fn conditional(&mut self, depth: usize) -> Read<Statement> {
+        let condition = self.condition()?;
+        let yes = self.block(depth)?;
+        let mut no = Vec::new();
+        if self.peek()?.token == Token::Word(Word::Else) {
+            self.take()?;
+            no = self.block(depth)?;
+        }
+        Ok(Statement::If(condition, yes, no))
+    }
+
+    fn condition(&mut self) -> Read<Condition> {
+        let first = self.register()?;
+        let test = self.take()?;
+        let equal = match test.token {
+            Token::Equal => true,
+            Token::Unequal => false,
+            _ => return Err(Refusal::at(9, test.start)),
+        };
+        let second = self.register()?;
+        Ok(Condition { equal, first, second })
+    }
+
+    /// A register's name; 9 for another token, 11 for another name.
+    fn register(&mut self) -> Read<u8> {
+        let (name, place) = self.name()?;
+        self.find_register(&name).ok_or(Refusal::at(11, place))
+    }
+
+    fn find_register(&self, name: &str) -> Option<u8> {
+        self.registers.iter().position(|known| known == name).map(|index| index as u8)
+    }
+
+    fn find_function(&self, name: &str) -> Option<u8> {
+        self.functions.iter().position(|(known, _)| known == name).map(|index| index as u8)
+    }
+
+    /// A copy or an application: "after `:=` a name is a function if the next
+    /// token is `(`, else a register".
+    fn assignment(&mut self) -> Read<Statement> {
+        let target = self.register()?;
+        self.expect(Token::Becomes)?;
+        let (name, place) = self.name()?;
+        let applied = self.peek().is_ok_and(|next| next.token == Token::Open);
+        let letter = if applied {
+            let function = self.find_function(&name).ok_or(Refusal::at(11, place))?;
+            let (first, second) = self.arguments(function)?;
+            Letter::Apply { target, function, first, second }
+        } else {
+            let source = self.find_register(&name).ok_or(Refusal::at(11, place))?;
+            Letter::Copy { target, source }
+        };
+        self.expect(Token::Semicolon)?;
+        Ok(Statement::Assign(letter))
+    }
+
+    /// The arguments of a function in parentheses; "a wrong argument count stands
+    /// at the `,` or `)`".
+    fn arguments(&mut self, function: u8) -> Read<(u8, Option<u8>)> {
+        let binary = self.functions[usize::from(function)].1;
+        self.expect(Token::Open)?;
+        let first = self.register()?;
+        let behind = self.take()?;
+        match behind.token {
+            Token::Comma if binary => {
+                let second = self.register()?;
+                self.expect(Token::Close)?;
+                Ok((first, Some(second)))
+            }
+            Token::Close if !binary => Ok((first, None)),
+            Token::Comma | Token::Close => Err(Refusal::at(11, behind.start)),
+            _ => Err(Refusal::at(9, behind.start)),
+        }
+    }
+}

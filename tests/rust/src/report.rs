@@ -1,0 +1,108 @@
+//! The lines that the programs print.
+
+use std::fmt::Write;
+
+use crate::letter::Letter;
+use crate::model::{Model, Shown, show_model};
+use crate::monitor::monitor;
+use crate::reader::read_macro;
+use crate::refusal::Refusal;
+use crate::syntax::Macro;
+use crate::verdict::{Answer, Event, verdict};
+
+/// The verdict program has "a table of 65,536 bytes".
+pub const PROGRAM_TABLE: usize = 65_536;
+
+/// Lines, or the one line of a refusal.
+fn lines(result: Result<String, Refusal>) -> String {
+    result.unwrap_or_else(|refusal| format!("{refusal}\n"))
+}
+
+/// A letter as its statement without `;`, a test after `assume`.
+pub fn letter_text(read: &Macro, letter: &Letter) -> String {
+    let name = |register: u8| &read.registers[usize::from(register)];
+    match *letter {
+        Letter::Copy { target, source } => format!("{} := {}", name(target), name(source)),
+        Letter::Apply { target, function, first, second } => {
+            let function = &read.functions[usize::from(function)].0;
+            let second = second.map_or(String::new(), |second| format!(",{}", name(second)));
+            format!("{} := {function}({}{second})", name(target), name(first))
+        }
+        Letter::Equal { first, second } => format!("assume {} = {}", name(first), name(second)),
+        Letter::Unequal { first, second } => format!("assume {} != {}", name(first), name(second)),
+    }
+}
+
+/// The lines of a verdict (document 01, "The verdict program").
+pub fn verdict_lines(answer: &Answer) -> String {
+    let word = match &answer.verdict.event {
+        None => "pass",
+        Some(Event::Fail(_)) => "fail",
+        Some(Event::Incoherent(_)) => "incoherent",
+    };
+    let mut out = format!("verdict {word}\npairs {}\n", answer.verdict.pairs);
+    if let Some(event) = &answer.verdict.event {
+        out += &format!("letters {}\n", event.letters().len());
+        for letter in event.letters() {
+            out += &format!("{}\n", letter_text(&answer.read, letter));
+        }
+    }
+    if let Some(model) = &answer.model {
+        out += &model_lines(&answer.read, model);
+    }
+    out
+}
+
+/// The lines of a model: `values`, `start` and `row`.
+fn model_lines(read: &Macro, model: &Model) -> String {
+    let mut out = format!("values {}\n", model.values);
+    for (name, start) in read.registers.iter().zip(&model.starts) {
+        out += &format!("start {name} {start}\n");
+    }
+    for row in &model.rows {
+        let function = &read.functions[usize::from(row.function)].0;
+        out += &format!("row {function} {} {} {}\n", row.first, row.second.unwrap_or(0), row.result);
+    }
+    out
+}
+
+/// What the verdict program prints for a macro.
+pub fn print_verdict(text: &[u8]) -> String {
+    lines(verdict(text, PROGRAM_TABLE, usize::MAX).map(|answer| verdict_lines(&answer)))
+}
+
+/// What the reading of a macro finds: a refusal, or how much there is of each.
+pub fn print_read(text: &[u8]) -> String {
+    lines(read_macro(text).map(|read| {
+        let (registers, functions) = (read.registers.len(), read.functions.len());
+        format!("registers {registers} functions {functions} points {}\n", read.points())
+    }))
+}
+
+/// What the monitor finds in a packed trace.
+pub fn print_monitor(bytes: &[u8]) -> String {
+    let line = |good: &str, bad: &str, letter: Option<usize>| match letter {
+        None => format!("{good}\n"),
+        Some(number) => format!("{bad} {number}\n"),
+    };
+    lines(monitor(bytes).map(|judgement| {
+        line("coherent", "incoherent", judgement.incoherent)
+            + &line("feasible", "infeasible", judgement.infeasible)
+    }))
+}
+
+/// What the whole-trace engine finds in a packed trace: the model in hexadecimal.
+pub fn print_model(bytes: &[u8]) -> String {
+    lines(show_model(bytes, usize::MAX).map(|shown| match shown {
+        Shown::Infeasible(number) => format!("infeasible {number}\n"),
+        Shown::Feasible(model) => format!("model {}\n", hexadecimal(&model.pack())),
+    }))
+}
+
+/// Bytes as lower-case hexadecimal digits.
+pub fn hexadecimal(bytes: &[u8]) -> String {
+    bytes.iter().fold(String::new(), |mut out, byte| {
+        let _ = write!(out, "{byte:02x}");
+        out
+    })
+}

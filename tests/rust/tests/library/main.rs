@@ -1,0 +1,15 @@
+//! The proved library against the oracle: answers, and every lent byte afterwards.
+//! The features `monitor`, `model`, `read` and `verdict` switch the tests on.
+
+#[cfg(any(feature = "monitor", feature = "model", feature = "read", feature = "verdict"))]
+mod lent;
+#[cfg(feature = "model")]
+mod model;
+#[cfg(feature = "monitor")]
+mod monitor;
+#[cfg(feature = "read")]
+mod read;
+#[cfg(all(feature = "monitor", feature = "model", feature = "read", feature = "verdict"))]
+mod smoke;
+#[cfg(feature = "verdict")]
+mod verdict;

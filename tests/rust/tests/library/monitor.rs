@@ -1,0 +1,150 @@
+//! `fadzgime_monitor`.
+
+use oracle::fast_monitor::{FastMonitor, fast_monitor};
+use oracle::letter::{Header, Letter};
+use oracle::library::{self, MONITOR_ANSWER};
+use oracle::monitor::{Judgement, monitor};
+use oracle::random::{Random, cases};
+use oracle::random_trace::{any_trace, damage_trace, random_header, random_letter};
+use oracle::refusal::Refusal;
+use oracle::trace::Trace;
+use oracle::windows::{all_letters, first_traces};
+
+use crate::lent::Lent;
+
+/// An answer in numbers.
+fn numbers(found: Result<Judgement, Refusal>) -> [u64; MONITOR_ANSWER] {
+    match found {
+        Err(refusal) => [u64::from(refusal.number), refusal.place as u64, 0, 0],
+        Ok(found) => [0, 0, found.incoherent.unwrap_or(0) as u64, found.infeasible.unwrap_or(0) as u64],
+    }
+}
+
+fn check(bytes: &[u8]) {
+    check_against(bytes, numbers(monitor(bytes)));
+}
+
+fn check_against(bytes: &[u8], expected: [u64; MONITOR_ANSWER]) {
+    let mut trace = Lent::holding(bytes);
+    let mut answer = Lent::new(MONITOR_ANSWER + 2);
+    library::monitor(trace.lend(), answer.lend());
+    trace.assert_as_lent();
+    assert_eq!(answer.look()[..MONITOR_ANSWER], expected, "{:02x?}", &bytes[..bytes.len().min(400)]);
+    answer.assert_begins(&expected);
+}
+
+#[test]
+fn random_traces() {
+    for seed in 0..cases(100_000) {
+        check(&any_trace(&mut Random::new(seed), 40).pack());
+    }
+}
+
+#[test]
+fn longer_traces() {
+    for seed in 0..cases(100) {
+        check(&any_trace(&mut Random::new(seed), 500).pack());
+    }
+}
+
+/// Long coherent traces, by the fast monitor, which the oracle's tests hold to the
+/// definitions.
+#[test]
+fn very_long_traces() {
+    for seed in 0..cases(20) {
+        let random = &mut Random::new(seed);
+        let header = random_header(random);
+        let mut monitor = FastMonitor::start(header);
+        let mut letters = Vec::new();
+        for _ in 0..100_000 {
+            let letter = random_letter(random, &header, [4, 4, 2, 1]);
+            if monitor.judge(&letter) || random.once_in(200_000) {
+                monitor.perform(&letter);
+                letters.push(letter);
+            }
+        }
+        let bytes = Trace { header, letters }.pack();
+        check_against(&bytes, numbers(fast_monitor(&bytes)));
+    }
+}
+
+/// Every letter after every window under a header, then every further letters up to
+/// so many: the windows after the letter are told apart by what comes next.
+fn check_windows(header: Header, most: usize, further: usize) {
+    let letters = all_letters(&header);
+    let mut suffixes: Vec<Vec<Letter>> = vec![vec![]];
+    for _ in 0..=further {
+        let longer = |suffix: &Vec<Letter>| {
+            letters.iter().map(|l| [suffix.as_slice(), &[*l]].concat()).collect::<Vec<_>>()
+        };
+        suffixes = suffixes.iter().flat_map(longer).collect();
+    }
+    for first in first_traces(header, most) {
+        for suffix in &suffixes {
+            check(&Trace { header, letters: [first.as_slice(), suffix].concat() }.pack());
+        }
+    }
+}
+
+#[test]
+fn every_window_of_two_registers() {
+    check_windows(Header::new(2, &[1]), usize::MAX, 2);
+    check_windows(Header::new(2, &[2]), usize::MAX, 2);
+    check_windows(Header::new(2, &[1, 1]), usize::MAX, 1);
+}
+
+#[test]
+fn every_window_of_three_registers() {
+    check_windows(Header::new(3, &[]), usize::MAX, 1);
+    check_windows(Header::new(3, &[1]), usize::MAX, 0);
+    check_windows(Header::new(3, &[2]), 1_000, 0);
+    check_windows(Header::new(4, &[]), usize::MAX, 1);
+}
+
+#[test]
+fn damaged_traces() {
+    for seed in 0..cases(50_000) {
+        let random = &mut Random::new(seed);
+        let trace = any_trace(random, 12);
+        check(&damage_trace(random, &trace));
+    }
+}
+
+#[test]
+fn every_header() {
+    for word in 0..=u16::MAX {
+        check(&word.to_be_bytes());
+    }
+}
+
+/// Every word as the only letter, under headers that differ in every count.
+#[test]
+fn every_letter() {
+    for header in
+        [Header::new(1, &[]), Header::new(3, &[1]), Header::new(5, &[2, 1, 2]), Header::new(8, &[1, 2, 1, 2])]
+    {
+        for word in 0..=u16::MAX {
+            check(&[header.pack().to_be_bytes(), word.to_be_bytes()].concat());
+        }
+    }
+}
+
+#[test]
+fn short_lengths() {
+    for length in 0..6 {
+        check(&[0x32, 0x00, 0x44, 0x00, 0x80, 0x08][..length]);
+        check(&vec![0xff; length]);
+    }
+}
+
+/// An answer that is too short is left untouched.
+#[test]
+fn short_answers() {
+    for length in 0..MONITOR_ANSWER {
+        let mut answer = Lent::new(length);
+        library::monitor(&[0x32, 0x00], answer.lend());
+        answer.assert_as_lent();
+        library::monitor(&[0xff], answer.lend());
+        answer.assert_as_lent();
+    }
+}

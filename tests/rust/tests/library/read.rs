@@ -1,0 +1,75 @@
+//! `fadzgime_read`.
+
+use oracle::damage::damaged_text;
+use oracle::library::{self, READ_ANSWER};
+use oracle::random::{Random, cases};
+use oracle::random_macro::{macro_text, random_macro};
+use oracle::reader::read_macro;
+
+use crate::lent::Lent;
+
+/// The oracle's answer in numbers.
+fn expected(text: &[u8]) -> [u64; READ_ANSWER] {
+    match read_macro(text) {
+        Err(refusal) => [u64::from(refusal.number), refusal.place as u64, 0, 0, 0],
+        Ok(read) => {
+            let counts =
+                [read.registers.len(), read.functions.len(), read.points()].map(|count| count as u64);
+            [0, 0, counts[0], counts[1], counts[2]]
+        }
+    }
+}
+
+fn check(bytes: &[u8]) {
+    let mut text = Lent::holding(bytes);
+    let mut answer = Lent::new(READ_ANSWER + 2);
+    library::read(text.lend(), answer.lend());
+    text.assert_as_lent();
+    let expected = expected(bytes);
+    assert_eq!(answer.look()[..READ_ANSWER], expected, "{}", String::from_utf8_lossy(bytes));
+    answer.assert_begins(&expected);
+}
+
+#[test]
+fn well_formed() {
+    for seed in 0..cases(10_000) {
+        let random = &mut Random::new(seed);
+        let read = random_macro(random, 60);
+        check(&macro_text(random, &read));
+    }
+}
+
+#[test]
+fn damaged() {
+    for seed in 0..cases(100_000) {
+        check(&damaged_text(&mut Random::new(seed)));
+    }
+}
+
+/// Every beginning of a macro, and every byte of it replaced by every byte.
+#[test]
+fn beginnings_and_bytes() {
+    let text =
+        b"vars a b;funs f/1 g/2;if a=b{a:=f(b);}else{b:=g(a,b);}while a!=b{assume a=b;}assert b=a;skip;#e";
+    for length in 0..=text.len() {
+        check(&text[..length]);
+    }
+    for place in 0..text.len() {
+        for byte in 0..=u8::MAX {
+            let mut changed = text.to_vec();
+            changed[place] = byte;
+            check(&changed);
+        }
+    }
+}
+
+#[test]
+fn short_answers() {
+    for length in 0..READ_ANSWER {
+        let mut answer = Lent::new(length);
+        library::read(b"vars x;", answer.lend());
+        answer.assert_as_lent();
+        library::read(b"", answer.lend());
+        answer.assert_as_lent();
+    }
+}

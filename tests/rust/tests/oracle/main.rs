@@ -1,0 +1,20 @@
+//! Tests of the oracle itself: document 01's examples, its settled readings, and
+//! one definition against another.
+
+mod examples;
+mod fast;
+mod models;
+mod packing;
+mod reader;
+mod search;
+mod spread;
+mod windows;
+
+use oracle::reader::read_macro;
+use oracle::trace::Trace;
+
+/// The trace of a macro text of assignments and assumes.
+fn trace(text: &str) -> Trace {
+    let read = read_macro(text.as_bytes()).expect("the text reads");
+    read.straight_line().expect("there is no branch")
+}

@@ -1,0 +1,76 @@
+//! The proved programs against the oracle: what they print. The feature `programs`
+//! switches these tests on; the environment's `FADZGIME_PROGRAMS` names the folder
+//! that holds the programs, and one that is not there is a failure.
+
+use std::io::Write;
+use std::path::PathBuf;
+use std::process::{Command, Stdio};
+
+#[cfg(feature = "verdict")]
+use oracle::damage::damaged_text;
+use oracle::random::Random;
+#[cfg(feature = "verdict")]
+use oracle::random_macro::{macro_text, random_macro};
+use oracle::random_trace::{any_trace, damage_trace};
+#[cfg(feature = "verdict")]
+use oracle::report::print_verdict;
+use oracle::report::{print_model, print_monitor};
+
+/// The path of a program.
+fn program(name: &str) -> PathBuf {
+    let folder = std::env::var_os("FADZGIME_PROGRAMS").expect("FADZGIME_PROGRAMS names the folder");
+    let path = PathBuf::from(folder).join(name);
+    assert!(path.exists(), "{} is not there", path.display());
+    path
+}
+
+/// What a program prints for an input.
+fn printed(path: &PathBuf, input: &[u8]) -> String {
+    let mut child =
+        Command::new(path).stdin(Stdio::piped()).stdout(Stdio::piped()).spawn().expect("the program starts");
+    // A program that has refused may have closed its input.
+    let _ = child.stdin.take().expect("an input").write_all(input);
+    let output = child.wait_with_output().expect("the program ends");
+    String::from_utf8_lossy(&output.stdout).to_string()
+}
+
+fn check(name: &str, inputs: impl Iterator<Item = Vec<u8>>, expected: fn(&[u8]) -> String) {
+    let path = program(name);
+    for input in inputs {
+        assert_eq!(printed(&path, &input), expected(&input), "{}", String::from_utf8_lossy(&input));
+    }
+}
+
+/// A macro, well formed two times in three.
+#[cfg(feature = "verdict")]
+fn some_macro(seed: u64) -> Vec<u8> {
+    let random = &mut Random::new(seed);
+    if random.once_in(3) {
+        return damaged_text(random);
+    }
+    let read = random_macro(random, 30);
+    macro_text(random, &read)
+}
+
+/// A trace, well formed two times in three.
+fn some_trace(seed: u64) -> Vec<u8> {
+    let random = &mut Random::new(seed);
+    let trace = any_trace(random, 40);
+    if random.once_in(3) { damage_trace(random, &trace) } else { trace.pack() }
+}
+
+#[cfg(feature = "verdict")]
+#[test]
+fn verdict() {
+    check("verdict", (0..1_000).map(some_macro), print_verdict);
+}
+
+#[test]
+fn monitor() {
+    check("monitor", (0..1_000).map(some_trace), print_monitor);
+}
+
+#[test]
+fn model() {
+    check("model", (0..1_000).map(some_trace), print_model);
+}
