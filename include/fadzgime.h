@@ -1,5 +1,5 @@
 /*
- * The proved trace monitor, whole-trace engine, macro reader and macro verdict.
+ * The proved trace monitor, whole-trace engine and macro reader.
  *
  * Every function takes lent slices, each as a pointer and a length, which must not
  * overlap, and puts its answer as numbers into the slice `answer`. An answer slice
@@ -42,18 +42,6 @@ void fadzgime_model(const uint8_t *trace, size_t trace_length,
  */
 void fadzgime_read(const uint8_t *text, size_t text_length,
                    uint64_t *answer, size_t answer_length);
-
-/*
- * Judges all executions of a macro. The table holds the pairs of the search, 192
- * bytes each; after a search each of its bytes is 0.
- * answer[0] refusal (7 to 13, 14, 6), [1] place, [2] 0 pass, 1 fail,
- * 2 incoherent, [3] pairs, [4] bytes written to `out`: unless pass the execution
- * as a packed trace, on fail its packed model after it.
- */
-void fadzgime_verdict(const uint8_t *text, size_t text_length,
-                      uint8_t *table, size_t table_length,
-                      uint8_t *out, size_t out_length,
-                      uint64_t *answer, size_t answer_length);
 
 #ifdef __cplusplus
 }

@@ -25,7 +25,6 @@ int main(void) {
     static const uint8_t trace[] = {0x32, 0x00, 0x44, 0x00, 0x80, 0x08};
     static const char macro[] = "vars x y; assert x = y;";
     static const uint8_t *const text = (const uint8_t *)macro;
-    static uint8_t table[65536];
     uint8_t out[64];
     uint64_t answer[5];
 
@@ -42,9 +41,5 @@ int main(void) {
     show("read", answer, 5);
     fadzgime_read(text, 6, answer, 5);
     show("read", answer, 5);
-
-    fadzgime_verdict(text, strlen(macro), table, sizeof table, out, sizeof out, answer, 5);
-    show("verdict", answer, 5);
-    show_bytes(out, (size_t)answer[4]);
     return 0;
 }

@@ -155,6 +155,7 @@ fn begin(representative: &mut Numbers, value: &mut [u16; 8], registers: usize)
 }
 
 /// Runs over the letters of a trace that was read. Unless one is infeasible, the arrays then hold the computed terms and their classes.
+/// Left free: the arrays after an infeasible letter, and their entries past the computed terms.
 pub fn run(
     header: Header,
     trace: &[u8],

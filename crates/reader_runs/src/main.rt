@@ -111,11 +111,12 @@ fn run_one(i: usize) {
     libc::close(fd);
 }
 
+// The first argument is the program's name.
 fn main() {
     let count = os::arg_count();
-    let mut i: usize = 0;
+    let mut i: usize = 1;
     while i < count {
-        i = i + 1;
         run_one(i);
+        i = i + 1;
     }
 }

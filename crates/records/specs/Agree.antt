@@ -1,4 +1,4 @@
--- What is g of a record depends on its 192 bytes only.
+-- What is read of a record depends on its first 192 bytes only.
 use mathlib.Core.Path.{_≡_, refl, ap, _∙_}
 use Prim.Native.Nat.{ℕ, zero, suc, _+_, _*_, _/_, _≤_, _<_}
 use native.Mathlib.Omega.{arith}

@@ -28,7 +28,7 @@ join point class unequal marks infeasible codes = twoBytes point ++ class ++ une
 unfoldable pub contentOf : ℕ → Window → List ℕ
 contentOf point w = join point (w .class) (w .unequal) (map flag (w .mark)) (flag (w .infeasible)) (codesOf (w .result) (w .ever))
 
--- The sum of the sums of all beginnings, after numbers whose sum is a and whose sum of sums is b: Fletcher's checksumOf, without its remainders.
+-- The sum of the sums of all beginnings, after numbers whose sum is a and whose sum of sums is b: Fletcher's checksum, without its remainders.
 unfoldable pub checksumOf : ℕ → ℕ → List ℕ → ℕ
 checksumOf a b [] = b
 checksumOf a b (x ∷ xs) = checksumOf (a + x) (b + (a + x)) xs

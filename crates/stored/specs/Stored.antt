@@ -1,47 +1,25 @@
 -- The window of a trace can be stored: a record holds the window that tracks a state.
 use mathlib.Core.Path.{_≡_, sym, _∙_, subst}
 use mathlib.Core.Logic.{_⊎_, inl, inr}
-use mathlib.Core.Bool.{Bool, true, false, _&&_}
-use Prim.Native.Nat.{ℕ, _+_, _*_, _/_, _%_, _≤_, _<_}
+use mathlib.Core.Bool.{Bool, true, false}
+use Prim.Native.Nat.{ℕ, _+_, _*_, _/_, _%_, _<_}
 use native.Mathlib.Omega.{arith}
 use native.Mathlib.Nat.{zero-div, div-div-eq-div-mul}
 use lib.Dec.{T, eqb, eqb→eq, ltb}
-use lib.ListN.{length, getD}
+use lib.ListN.{getD}
 use borrow.Author.Tests.{eqb-true, eqb-false, lt-ltb, ltb-true, ltb-false}
 use Rattle.base.specs.Choice.{byTest}
 use Rattle.base.specs.Masks.{bit, has, leastIn}
 use Rattle.base.specs.MaskLaws.{least-in, least-below, bits-same}
 use Rattle.semantics.specs.Terms.{State}
 use Rattle.semantics.specs.Closure.{symmetric, transitive, congruence}
-use Rattle.semantics.specs.Window.{View, Tracks}
+use Rattle.semantics.specs.Window.{Tracks}
 use Rattle.semantics.specs.Facts.{Valid}
 use Rattle.window.specs.declared.Window.{Window}
+use Rattle.window.specs.Perform.{place}
+use Rattle.window.specs.View.{view, Shaped}
+use Rattle.window.specs.Step.{Holds}
 use Rattle.records.specs.Storable.{Storable}
-
--- What a window value says of registers.
-abbrev pub viewOf : Window → View
-viewOf w = record {
-  same = λ r s. has (getD (w .class) r 0) s;
-  apart = λ r s. has (getD (w .unequal) r 0) s;
-  result = λ f a b r. ltb f 4 && has (getD (w .result) (64 * f + 8 * a + b) 0) r;
-  ever = λ f a b. ltb f 4 && has (getD (w .ever) (8 * f + a) 0) b;
-  marked = λ r. getD (w .mark) r false;
-  infeasible = w .infeasible;
-}
-
--- The arrays are those of their types, and results are of registers below n and held by those.
-pub record Typed (n : ℕ) (w : Window) : Type 0 where
-  pub fits : n ≤ 8
-  pub classes : length (w .class) ≡ 8
-  pub unequals : length (w .unequal) ≡ 8
-  pub marks : length (w .mark) ≡ 8
-  pub results : length (w .result) ≡ 256
-  pub evers : length (w .ever) ≡ 32
-  pub class-bytes : (r : ℕ) → r < 8 → getD (w .class) r 0 < 256
-  pub result-bytes : (i : ℕ) → i < 256 → getD (w .result) i 0 < 256
-  pub ever-bytes : (j : ℕ) → j < 32 → getD (w .ever) j 0 < 256
-  pub same : (r s : ℕ) → r < 8 → s < 8 → T (viewOf w .same r s) → (r < n) × (s < n)
-  pub result : (f a b c : ℕ) → a < 8 → b < 8 → c < 8 → T (viewOf w .result f a b c) → (a < n) × (b < n) × (c < n)
 
 true-T : {b : Bool} → b ≡ true → T b
 true-T e = subst T (sym e) tt
@@ -65,7 +43,13 @@ same-bit x y i f g =
     λ t. byTest (has y i) (λ u. eqb→eq (bit x i) 1 (g (true-T u)) ∙ sym (eqb-true (bit y i) 1 u))
     λ u. let a = eqb-false (bit x i) 1 t in let b = eqb-false (bit y i) 1 u in omega arith
 
-module _ (σ : State) (v : Valid σ) (w : Window) (y : Typed (σ .header .registers) w) (t : Tracks σ (viewOf w)) where
+module _ (σ : State) (v : Valid σ) (w : Window) (holds : Holds σ w) where
+  abbrev t : Tracks σ (view w)
+  t = holds .tracks
+
+  abbrev y : Shaped w
+  y = holds .shaped
+
   -- entry i is function i / 64 at registers i / 8 % 8 and i % 8
   module _ (i : ℕ) (ib : i < 256) where
     abbrev f : ℕ
@@ -80,25 +64,25 @@ module _ (σ : State) (v : Valid σ) (w : Window) (y : Typed (σ .header .regist
     abbrev m : ℕ
     m = getD (w .result) i 0
 
-    place : 64 * f + 8 * a + b ≡ i
-    place = omega (arith, div-div-eq-div-mul i 8 8)
+    placed : place f a b ≡ i
+    placed = omega (arith, div-div-eq-div-mul i 8 8)
 
-    entry : (r : ℕ) → T (has m r) → T (viewOf w .result f a b r)
-    entry r h = rw (lt-ltb f 4 (omega arith), place) h
+    entry : (r : ℕ) → T (has m r) → T (view w .result f a b r)
+    entry r h = rw (lt-ltb f 4 (omega arith), placed) h
 
-    entry-back : (r : ℕ) → T (viewOf w .result f a b r) → T (has m r)
-    entry-back r = rw (lt-ltb f 4 (omega arith), place) λ h. h
+    entry-back : (r : ℕ) → T (view w .result f a b r) → T (has m r)
+    entry-back r = rw (lt-ltb f 4 (omega arith), placed) λ h. h
 
     within : (r : ℕ) → r < 8 → T (has m r) → (a < σ .header .registers) × (b < σ .header .registers) × (r < σ .header .registers)
-    within r rb h = y .result f a b r (omega arith) (omega arith) rb (entry r h)
+    within r rb h = holds .inside .result f a b r (omega arith) (omega arith) rb (entry r h)
 
     -- the class of a register that holds the result holds it, and nothing else does
     held-class : (c : ℕ) → c < 8 → T (has m c) → getD (w .class) c 0 ≡ m
     held-class c cb h =
         let (an, bn, cn) = within c cb h in
         let e = t .result f a b c an bn cn .0 (entry c h) in
-        bits-same 8 (getD (w .class) c 0) m (y .class-bytes c cb) (y .result-bytes i ib) λ r rb. same-bit (getD (w .class) c 0) m r
-        (λ s. let (_, rn) = y .same c r cb rb s in
+        bits-same 8 (getD (w .class) c 0) m (y .class-bytes c) (y .result-bytes i) λ r rb. same-bit (getD (w .class) c 0) m r
+        (λ s. let (_, rn) = holds .inside .same c r cb rb s in
         entry-back r (t .result f a b r an bn rn .1 (record { first = e .first; second = e .second; listed = e .listed; at-first = e .at-first; at-second = e .at-second; gives = transitive (e .gives) (t .same c r cn rn .0 s) })))
         (λ s. let (_, _, rn) = within r rb s in
         let g = t .result f a b r an bn rn .0 (entry r s) in
@@ -106,29 +90,29 @@ module _ (σ : State) (v : Valid σ) (w : Window) (y : Typed (σ .header .regist
 
     named : (m ≡ 0) ⊎ ((leastIn 8 m < 8) × (getD (w .class) (leastIn 8 m) 0 ≡ m))
     named = byTest (eqb m 0) (λ u. inl (eqb-true m 0 u))
-        λ u. let l = lowest m (y .result-bytes i ib) (eqb-false m 0 u) in inr (l, held-class (leastIn 8 m) l (true-T (least-in 8 m l)))
+        λ u. let l = lowest m (y .result-bytes i) (eqb-false m 0 u) in inr (l, held-class (leastIn 8 m) l (true-T (least-in 8 m l)))
 
     was-computed : (m ≡ 0) ⊎ (bit (getD (w .ever) (i / 8) 0) (i % 8) ≡ 1)
     was-computed = byTest (eqb m 0) (λ u. inl (eqb-true m 0 u))
-        λ u. let l = lowest m (y .result-bytes i ib) (eqb-false m 0 u) in
+        λ u. let l = lowest m (y .result-bytes i) (eqb-false m 0 u) in
         let h = true-T (least-in 8 m l) in
         let (an, bn, cn) = within (leastIn 8 m) l h in
         let e = t .result f a b (leastIn 8 m) an bn cn .0 (entry (leastIn 8 m) h) in
         let k : 8 * f + a ≡ i / 8 = omega (arith, div-div-eq-div-mul i 8 8) in
         inr (eqb→eq _ 1 (back k (t .ever f a b an bn .1 (_, e))))
       where
-        back : 8 * f + a ≡ i / 8 → T (viewOf w .ever f a b) → T (has (getD (w .ever) (i / 8) 0) (i % 8))
+        back : 8 * f + a ≡ i / 8 → T (view w .ever f a b) → T (has (getD (w .ever) (i / 8) 0) (i % 8))
         back k = rw (lt-ltb f 4 (omega arith), k) λ h. h
 
   -- the window of a state can be stored
   pub storable : Storable w
   storable = record {
-    classes = y .classes;
-    unequals = y .unequals;
-    marks = y .marks;
-    results = y .results;
-    evers = y .evers;
-    lines = y .ever-bytes;
+    classes = y .class;
+    unequals = y .unequal;
+    marks = y .mark;
+    results = y .result;
+    evers = y .ever;
+    lines = λ j _. y .ever-bytes j;
     named = named;
     computed = was-computed;
   }

@@ -1,4 +1,4 @@
--- The tokens that have a meaning of their own, and names (document 01, "Macro text"). Every comparison of names goes through `sameName`.
+-- The tokens that have a meaning of their own, and names (document 01, "Macro text"). Every comparison of names that is computed goes through `sameName`.
 use Prim.Native.Nat.{ℕ, _%_}
 use mathlib.Core.Bool.{Bool, not, _&&_, _||_}
 use mathlib.Core.List.{[], _∷_}

@@ -367,6 +367,7 @@ pub struct Window {
     pub ever: [u8; 32],
     /// At r, whether above r there is a computed application with an argument or the result in no register.
     pub mark: [bool; 8],
+    /// Whether no data model satisfies all tests.
     pub infeasible: bool,
 }
 
@@ -679,7 +680,7 @@ fn early(w: Window, x: usize, y: usize) -> bool
     true
 }
 
-/// Whether the letter is coherent after a trace with this window.
+/// Whether the letter is coherent after a trace with this window. Its registers lie below 8 and its function below 4.
 pub fn judge(w: Window, letter: Letter) -> bool
     requires { ⌜ Within letter ⌝ }
     ensures { λ r. ⌜ r ≡ judgeOf w letter ⌝ }
@@ -716,7 +717,7 @@ fn apply(w: Window, x: usize, f: usize, y: usize, z: usize) -> Window
     applied(w, x, f, y, z)
 }
 
-/// The window after a letter that is coherent.
+/// The window after a letter that is coherent. Its registers lie below 8 and its function below 4.
 pub fn perform(w: Window, letter: Letter) -> Window
     requires { ⌜ Within letter ⌝ }
     ensures { λ r. ⌜ r ≡ performOf w letter ⌝ }

@@ -2,37 +2,12 @@ use Prim.Native.Nat.{_-_, _≤_}
 use borrow.Author.Needs.{needs}
 use Rattle.reader_runs.proofs.main.Statement.{statement}
 use Rattle.reader_runs.proofs.main.Tie as tie
-use Rattle.reader_runs.proofs.main.Reads as reads
-use Rattle.reader_runs.proofs.main.Lts as lts
-use Rattle.reader_runs.proofs.run_one.Reads as run-one-reads
-use Rattle.os.proofs.arg_count.Reads as arg-count-reads
 
 abbrev Inv-loop : tie.InvT-loop
-Inv-loop count i₀ i = i ≤ count
+Inv-loop count i₀ i = 1 ≤ i
 
 abbrev μ-loop : tie.MeasureT-loop
 μ-loop count i₀ i = count - i
-
-arg-count-requires : tie.Need-arg-count-requires Inv-loop μ-loop
-arg-count-requires c κs = search needs
-
-loop-holds : tie.Need-loop-holds Inv-loop μ-loop
-loop-holds c = search needs
-
-add-i : tie.Need-add-i Inv-loop μ-loop
-add-i c = search needs
-
-run-one-requires : tie.Need-run-one-requires Inv-loop μ-loop
-run-one-requires c κs = search needs
-
-loop-less : tie.Need-loop-less Inv-loop μ-loop
-loop-less c = search needs
-
-loop-again : tie.Need-loop-again Inv-loop μ-loop
-loop-again c = search needs
-
-returns : tie.Need-returns Inv-loop μ-loop
-returns c = search needs
 
 pub main-spec : {M : Type 1} → statement M
 main-spec =
@@ -40,10 +15,10 @@ main-spec =
     (tie.spec
     Inv-loop
     μ-loop
-    arg-count-requires
-    loop-holds
-    add-i
-    run-one-requires
-    loop-less
-    loop-again
-    returns)
+    (λ c κs. search needs)
+    (λ c. search needs)
+    (λ c κs. search needs)
+    (λ c. search needs)
+    (λ c. search needs)
+    (λ c. search needs)
+    (λ c. search needs))

@@ -1,0 +1,95 @@
+-- What the proofs of several functions use: an answer that is too short or has its numbers stored, and the numbers of each answer.
+use mathlib.Core.Path.{_≡_, refl, ap, _∙_}
+use native.Mathlib.Omega.{arith}
+use Prim.Native.Nat.{ℕ, _≤_, _<_}
+use mathlib.Core.List.{List, [], _∷_, _++_}
+use lib.ListN.{length, drop}
+use borrow.Author.Tests.{lt-ltb, le-ltb}
+use Rattle.monitoring.specs.Run.{verdictAnswer}
+use Rattle.monitoring.specs.Stream.{answerOf}
+use Rattle.monitoring.specs.declared.Verdict.{Verdict}
+use Rattle.monitoring.specs.declared.Verdict.the-variants.{Judged, Refused}
+use Rattle.letters.specs.Editions.{firstEdition}
+use Rattle.letters.specs.Traces.{readingWithin}
+use Rattle.shown.specs.Answer.{shownAnswer, answerTo, outputAfter}
+use Rattle.shown.specs.declared.Shown.{Shown}
+use Rattle.shown.specs.declared.Shown.the-variants as shown
+use Rattle.grammar.specs.Reading.{readMacro}
+use Rattle.syntax.specs.Answer as syntax
+use Rattle.syntax.specs.declared.Answer.{Answer}
+use Rattle.exports.specs.Numbers.{laidOver, runNumbers, monitored, modelNumbers, modelled, modelOutput, macroRead}
+use Rattle.exports.specs.Held.{heldNumbers, held-macro}
+
+-- ---- An answer
+
+pub too-short : {n m : ℕ} → n < m → m ≤ n → ⊥
+too-short short room = omega arith
+
+pub laid-short : (n : ℕ) (numbers answer : List ℕ) → length answer < n → answer ≡ laidOver n numbers answer
+unfolding laidOver
+laid-short n numbers answer short = rw (lt-ltb (length answer) n short) refl
+
+pub laid-stored : (n : ℕ) (numbers stored answer answer′ : List ℕ) → stored ≡ numbers → length stored ≡ n → n ≤ length answer → answer′ ≡ stored ++ drop (length stored) answer → answer′ ≡ laidOver n numbers answer
+unfolding laidOver
+laid-stored n numbers stored answer answer′ same full room e = rw (le-ltb (length answer) n room) (e ∙ rw full (ap (λ l. l ++ drop n answer) same))
+
+-- ---- The monitor
+
+pub numbers-judged : (v : Verdict) (incoherent infeasible : ℕ) → v ≡ Judged incoherent infeasible → 0 ∷ 0 ∷ incoherent ∷ infeasible ∷ [] ≡ runNumbers (verdictAnswer v)
+unfolding runNumbers
+numbers-judged v incoherent infeasible e = rw e refl
+
+pub numbers-refused : (v : Verdict) (number place : ℕ) → v ≡ Refused number place → number ∷ place ∷ 0 ∷ 0 ∷ [] ≡ runNumbers (verdictAnswer v)
+unfolding runNumbers
+numbers-refused v number place e = rw e refl
+
+pub monitored-short : (trace answer : List ℕ) → length answer < 4 → answer ≡ monitored trace answer
+unfolding monitored
+monitored-short trace answer short = laid-short 4 _ answer short
+
+pub monitored-stored : (trace stored answer answer′ : List ℕ) (v : Verdict) → v ≡ answerOf trace → stored ≡ runNumbers (verdictAnswer v) → length stored ≡ 4 → 4 ≤ length answer → answer′ ≡ stored ++ drop (length stored) answer
+    → answer′ ≡ monitored trace answer
+unfolding monitored
+monitored-stored trace stored answer answer′ v e same = laid-stored 4 _ stored answer answer′ (same ∙ ap (λ w. runNumbers (verdictAnswer w)) e)
+
+-- ---- The shown model
+
+pub numbers-model : (s : Shown) (bytes : ℕ) → s ≡ shown.Model bytes → 0 ∷ 0 ∷ 0 ∷ bytes ∷ [] ≡ modelNumbers (shownAnswer s)
+unfolding modelNumbers
+numbers-model s bytes e = rw e refl
+
+pub numbers-infeasible : (s : Shown) (letter : ℕ) → s ≡ shown.Infeasible letter → 0 ∷ 0 ∷ letter ∷ 0 ∷ [] ≡ modelNumbers (shownAnswer s)
+unfolding modelNumbers
+numbers-infeasible s letter e = rw e refl
+
+pub numbers-unshown : (s : Shown) (number place : ℕ) → s ≡ shown.Refused number place → number ∷ place ∷ 0 ∷ 0 ∷ [] ≡ modelNumbers (shownAnswer s)
+unfolding modelNumbers
+numbers-unshown s number place e = rw e refl
+
+pub modelled-short : (trace : List ℕ) (room : ℕ) (answer : List ℕ) → length answer < 4 → answer ≡ modelled trace room answer
+unfolding modelled
+modelled-short trace room answer short = laid-short 4 _ answer short
+
+pub modelled-stored : (trace : List ℕ) (room : ℕ) (stored answer answer′ : List ℕ) (s : Shown) → shownAnswer s ≡ answerTo (readingWithin 1024 firstEdition trace) room → stored ≡ modelNumbers (shownAnswer s) → length stored ≡ 4
+    → 4 ≤ length answer → answer′ ≡ stored ++ drop (length stored) answer → answer′ ≡ modelled trace room answer
+unfolding modelled
+modelled-stored trace room stored answer answer′ s e same = laid-stored 4 _ stored answer answer′ (same ∙ ap modelNumbers e)
+
+pub output-short : (trace out answer : List ℕ) → length answer < 4 → out ≡ modelOutput trace out answer
+unfolding modelOutput
+output-short trace out answer short = rw (lt-ltb (length answer) 4 short) refl
+
+pub output-shown : (trace out out′ answer : List ℕ) → 4 ≤ length answer → out′ ≡ outputAfter (readingWithin 1024 firstEdition trace) out → out′ ≡ modelOutput trace out answer
+unfolding modelOutput
+output-shown trace out out′ answer room e = rw (le-ltb (length answer) 4 room) e
+
+-- ---- The reader
+
+pub read-short : (text answer : List ℕ) → length answer < 5 → answer ≡ macroRead text answer
+unfolding macroRead
+read-short text answer short = laid-short 5 _ answer short
+
+pub read-stored : (text stored answer answer′ : List ℕ) (a : Answer) → a ≡ syntax.answerOf (readMacro text) → stored ≡ heldNumbers a → length stored ≡ 5 → 5 ≤ length answer → answer′ ≡ stored ++ drop (length stored) answer
+    → answer′ ≡ macroRead text answer
+unfolding macroRead
+read-stored text stored answer answer′ a e same = laid-stored 5 _ stored answer answer′ (same ∙ ap heldNumbers e ∙ held-macro (readMacro text))

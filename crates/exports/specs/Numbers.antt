@@ -1,0 +1,56 @@
+-- The answers as numbers in a lent slice. On a refusal the numbers behind its place are 0; without one the first two are 0.
+use Prim.Native.Nat.{ℕ}
+use mathlib.Core.List.{List, [], _∷_, _++_}
+use lib.Dec.{ltb}
+use lib.ListN.{length, drop}
+use Rattle.base.specs.Choice.{pick}
+use Rattle.letters.specs.Answers.{Answer, value, refusal}
+use Rattle.letters.specs.Editions.{firstEdition}
+use Rattle.letters.specs.Traces.{readingWithin}
+use Rattle.macros.specs.Points.{sizeBlock}
+use Rattle.monitoring.specs.Run.{verdictAnswer}
+use Rattle.monitoring.specs.Stream.{answerOf}
+use Rattle.shown.specs.Answer.{answerTo, outputAfter}
+use Rattle.shown.specs.Answer as shown
+use Rattle.grammar.specs.Grammar.{Macro}
+use Rattle.grammar.specs.Reading.{Got, got, refused, exhausted, readMacro}
+
+-- n numbers over the front of an answer that has room for them; a shorter answer stays as lent.
+unfoldable pub laidOver : ℕ → List ℕ → List ℕ → List ℕ
+laidOver n numbers answer = pick (ltb (length answer) n) (λ _. answer) λ _. numbers ++ drop n answer
+
+-- ---- The monitor: refusal, place, first incoherent letter, first infeasible letter before it.
+
+unfoldable pub runNumbers : Answer (ℕ × ℕ) → List ℕ
+runNumbers (value letters) = 0 ∷ 0 ∷ letters .0 ∷ letters .1 ∷ []
+runNumbers (refusal number place) = number ∷ place ∷ 0 ∷ 0 ∷ []
+
+-- the answer after the bytes of a trace were judged
+unfoldable pub monitored : (trace answer : List ℕ) → List ℕ
+monitored trace answer = laidOver 4 (runNumbers (verdictAnswer (answerOf trace))) answer
+
+-- ---- The shown model: refusal, place, first infeasible letter, bytes of the model.
+
+unfoldable pub modelNumbers : shown.Answer → List ℕ
+modelNumbers (shown.model bytes) = 0 ∷ 0 ∷ 0 ∷ bytes ∷ []
+modelNumbers (shown.infeasible letter) = 0 ∷ 0 ∷ letter ∷ 0 ∷ []
+modelNumbers (shown.refusal number place) = number ∷ place ∷ 0 ∷ 0 ∷ []
+
+-- the answer after the model of a trace was shown in an output of so many bytes
+unfoldable pub modelled : (trace : List ℕ) (room : ℕ) (answer : List ℕ) → List ℕ
+modelled trace room answer = laidOver 4 (modelNumbers (answerTo (readingWithin 1024 firstEdition trace) room)) answer
+
+-- the output after it; it stays as lent where the answer has no room
+unfoldable pub modelOutput : (trace out answer : List ℕ) → List ℕ
+modelOutput trace out answer = pick (ltb (length answer) 4) (λ _. out) λ _. outputAfter (readingWithin 1024 firstEdition trace) out
+
+-- ---- The reader: refusal, place, registers, functions, points. (`exhausted` is never what reading gives.)
+
+unfoldable pub macroNumbers : Got Macro → List ℕ
+macroNumbers (got m e) = 0 ∷ 0 ∷ length (m .registers) ∷ length (m .functions) ∷ sizeBlock (m .body) ∷ []
+macroNumbers (refused number place) = number ∷ place ∷ 0 ∷ 0 ∷ 0 ∷ []
+macroNumbers exhausted = 0 ∷ 0 ∷ 0 ∷ 0 ∷ 0 ∷ []
+
+-- the answer after a text was read
+unfoldable pub macroRead : (text answer : List ℕ) → List ℕ
+macroRead text answer = laidOver 5 (macroNumbers (readMacro text)) answer

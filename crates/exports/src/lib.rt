@@ -1,0 +1,106 @@
+// The proved functions for Rust and C: numbers and slices. A slice passes as a pointer and its length.
+// Each function stores its answer as numbers over the front of a lent slice. If the slice is too short for them, nothing is done.
+use monitoring::Verdict;
+use shown::Shown;
+use syntax::Answer;
+ghost use mathlib.Core.Path.{_≡_};
+ghost use mathlib.Core.List.{_++_};
+ghost use Prim.Native.Nat.{_≤_};
+ghost use lib.ListN.{length, drop};
+ghost use Rattle.monitoring.specs.Demand2.{Demand2};
+ghost use Rattle.monitoring.specs.Run.{verdictAnswer};
+ghost use Rattle.monitoring.specs.Stream.{answerOf};
+ghost use Rattle.shown.specs.Answer.{shownAnswer};
+ghost use Rattle.exports.specs.Numbers.{runNumbers, monitored, modelNumbers, modelled, modelOutput, macroRead};
+ghost use Rattle.exports.specs.Held.{heldNumbers};
+
+// Stores the numbers over the front of the answer.
+fn store(numbers: &[u64], answer: &mut [u64])
+    requires { ⌜ length (now numbers) ≤ length (now answer) ⌝ }
+    ensures { λ _. ⌜ now (answer .exit) ≡ now (numbers .entry) ++ drop (length (now (numbers .entry))) (now (answer .entry)) ⌝ }
+{
+    let mut i: usize = 0;
+    while i < numbers.len() {
+        answer[i] = numbers[i];
+        i = i + 1;
+    }
+}
+
+// The numbers of what the run over a trace answers.
+fn run_numbers(verdict: Verdict) -> [u64; 4]
+    ensures { λ r. ⌜ r ≡ runNumbers (verdictAnswer verdict) ⌝ }
+{
+    match verdict {
+        Verdict::Judged(incoherent, infeasible) => [0, 0, incoherent, infeasible],
+        Verdict::Refused(number, place) => [number as u64, place, 0, 0],
+    }
+}
+
+/// Judges a packed trace of any length: the refusal and its place; the first incoherent letter; the first infeasible letter before
+/// it. Each is 0 for none.
+#[no_mangle]
+pub extern "C" fn fadzgime_monitor(trace: &[u8], answer: &mut [u64])
+    ensures { λ _. ⌜ now (answer .exit) ≡ monitored (now (trace .entry)) (now (answer .entry)) ⌝ }
+    ensures { λ _. ⌜ (4 ≤ length (now (answer .entry)) → Demand2 (now (trace .entry)) (verdictAnswer (answerOf (now (trace .entry))))) ⌝ }
+{
+    if answer.len() < 4 {
+        return;
+    }
+    let verdict = monitoring::streaming::judge_trace(trace);
+    let numbers = run_numbers(verdict);
+    store(&numbers, answer);
+}
+
+// The numbers of what is shown for a trace.
+fn model_numbers(shown: Shown) -> [u64; 4]
+    ensures { λ r. ⌜ r ≡ modelNumbers (shownAnswer shown) ⌝ }
+{
+    match shown {
+        Shown::Model(bytes) => [0, 0, 0, bytes as u64],
+        Shown::Infeasible(letter) => [0, 0, letter, 0],
+        Shown::Refused(number, place) => [number as u64, place, 0, 0],
+    }
+}
+
+/// Shows a data model of a packed trace of at most 1,024 letters: the refusal and its place; the first infeasible letter; the bytes of
+/// the packed model, which stands at the front of the output. Each is 0 for none.
+#[no_mangle]
+pub extern "C" fn fadzgime_model(trace: &[u8], out: &mut [u8], answer: &mut [u64])
+    ensures { λ _. ⌜ now (answer .exit) ≡ modelled (now (trace .entry)) (length (now (out .entry))) (now (answer .entry)) ⌝ }
+    ensures { λ _. ⌜ now (out .exit) ≡ modelOutput (now (trace .entry)) (now (out .entry)) (now (answer .entry)) ⌝ }
+{
+    if answer.len() < 4 {
+        return;
+    }
+    let shown = shown::show(trace, out);
+    let numbers = model_numbers(shown);
+    store(&numbers, answer);
+}
+
+// The numbers of what reading a text gives.
+fn macro_numbers(read: Answer) -> [u64; 5]
+    ensures { λ r. ⌜ r ≡ heldNumbers read ⌝ }
+{
+    let program = read.program;
+    let header = program.header;
+    [
+        read.refusal as u64,
+        read.place as u64,
+        header.registers as u64,
+        header.functions as u64,
+        program.count as u64,
+    ]
+}
+
+/// Reads a macro: the refusal and its place, 0 for none; the counts of its registers, functions and points, 0 on a refusal.
+#[no_mangle]
+pub extern "C" fn fadzgime_read(text: &[u8], answer: &mut [u64])
+    ensures { λ _. ⌜ now (answer .exit) ≡ macroRead (now (text .entry)) (now (answer .entry)) ⌝ }
+{
+    if answer.len() < 5 {
+        return;
+    }
+    let read = syntax::read(text);
+    let numbers = macro_numbers(read);
+    store(&numbers, answer);
+}
