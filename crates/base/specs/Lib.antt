@@ -6,4 +6,3 @@ pub mod Lent
 pub mod Recursion
 pub mod Masks
 pub mod MaskLaws
-pub mod Exhaust
