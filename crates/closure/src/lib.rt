@@ -266,7 +266,7 @@ fn has_signature(
     (representative[a] == p) & (representative[b] == q)
 }
 
-/// The class of f of the terms a and b: that of the first computed application with this signature, or `count`.
+/// The class of f of the terms a and b: that of a computed application with this signature, or `count` where there is none.
 pub fn lookup(
     representative: &Numbers,
     function: &Numbers,
