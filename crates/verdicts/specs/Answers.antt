@@ -47,25 +47,25 @@ given-other bs kind k l output answer output′ (inr g) = subst (λ y. (y ≢ fu
 
 module _ (x : Setting) (edition : Edition) (widths : RowWidths) where
   counted-lists : (f : ℕ → Path) (k : ℕ) → Lists Before (Leads (starting x) (stepping x)) (Alike (starting x) (stepping x)) (Meets (starting x) (stepping x)) f k
-      → Lists Before (Leaves (x .start) (x .body)) (SamePair (x .start) (x .body)) (EventAt (x .start) (x .body)) f k
+      → Lists Before (Leaves (x .start) (x .body)) (SamePair (x .start) (x .body)) (EventAt FeasibleInSomeModel (x .start) (x .body)) f k
   counted-lists = same-lists Before before-join (Leads (starting x) (stepping x)) (Leaves (x .start) (x .body))
-      (Alike (starting x) (stepping x)) (SamePair (x .start) (x .body)) (Meets (starting x) (stepping x)) (EventAt (x .start) (x .body))
+      (Alike (starting x) (stepping x)) (SamePair (x .start) (x .body)) (Meets (starting x) (stepping x)) (EventAt FeasibleInSomeModel (x .start) (x .body))
       (lead-leaves x) (leaves-lead x) (alike-same x) (same-alike x) (met-event x) (event-met x)
 
-  counted-more : (k : ℕ) → More Before (Leads (starting x) (stepping x)) (Alike (starting x) (stepping x)) (Meets (starting x) (stepping x)) k → PairsPass (x .start) (x .body) k
+  counted-more : (k : ℕ) → More Before (Leads (starting x) (stepping x)) (Alike (starting x) (stepping x)) (Meets (starting x) (stepping x)) k → PairsPass FeasibleInSomeModel (x .start) (x .body) k
   counted-more = same-more Before before-join (Leads (starting x) (stepping x)) (Leaves (x .start) (x .body))
-      (Alike (starting x) (stepping x)) (SamePair (x .start) (x .body)) (Meets (starting x) (stepping x)) (EventAt (x .start) (x .body))
+      (Alike (starting x) (stepping x)) (SamePair (x .start) (x .body)) (Meets (starting x) (stepping x)) (EventAt FeasibleInSomeModel (x .start) (x .body))
       (lead-leaves x) (leaves-lead x) (alike-same x) (same-alike x) (met-event x) (event-met x)
 
   -- a count of at most n does not pass n
-  not-more : (k n : ℕ) → PairCount (x .start) (x .body) k → k ≤ n → ¬ PairsPass (x .start) (x .body) n
+  not-more : (k n : ℕ) → PairCount FeasibleInSomeModel (x .start) (x .body) k → k ≤ n → ¬ PairsPass FeasibleInSomeModel (x .start) (x .body) n
   not-more k n c l y =
-      let z = more-is Before (Leaves (x .start) (x .body)) (SamePair (x .start) (x .body)) (EventAt (x .start) (x .body)) before-not k n c .0 y in
+      let z = more-is Before (Leaves (x .start) (x .body)) (SamePair (x .start) (x .body)) (EventAt FeasibleInSomeModel (x .start) (x .body)) before-not k n c .0 y in
       omega arith
 
   module _ (n : ℕ) (output : List ℕ) where
     abbrev Answered : Answer → List ℕ → Type 1
-    Answered answer output′ = Verdict (x .start) (x .body) edition widths n output answer output′
+    Answered answer output′ = Verdict FeasibleInSomeModel (x .start) (x .body) edition widths n output answer output′
 
     -- ── the search is full ──
     pub answers-full : More Before (Leads (starting x) (stepping x)) (Alike (starting x) (stepping x)) (Meets (starting x) (stepping x)) n → Answered full output
@@ -83,23 +83,23 @@ module _ (x : Setting) (edition : Edition) (widths : RowWidths) where
       full-exactly = (λ e. absurd (let z : _≡_ {A = ℕ} 0 1 = cc in omega arith), λ y. absurd (not-more (t .count) n count l y));
       full-output = λ e. refl;
       pass-exactly = λ u. (λ p. (quiet-coherent x quiet, quiet-safe x quiet), λ p. tt);
-      pass-count = λ j e. (subst (PairCount (x .start) (x .body)) (cc) count, refl);
+      pass-count = λ j e. (subst (PairCount FeasibleInSomeModel (x .start) (x .body)) (cc) count, refl);
       otherwise = λ u w. absurd (w tt);
     }
       where
         quiet : (p : Path) (e : Kind) → leads x p ≢ event e
         quiet = finished-quiet (starting x) (stepping x) t (t .count + t .count) v refl
 
-        count : PairCount (x .start) (x .body) (t .count)
+        count : PairCount FeasibleInSomeModel (x .start) (x .body) (t .count)
         count = (path t, counted-lists (path t) (t .count) (finished-lists (starting x) (stepping x) t (t .count + t .count) v refl))
 
     -- ── the search meets an event ──
-    event-path : (π : Trace) → Event (x .start) (x .body) π → (q : Path) × (l : Place ℕ) × (run (x .start) (x .body) q ≡ stand l π)
+    event-path : (π : Trace) → Event FeasibleInSomeModel (x .start) (x .body) π → (q : Path) × (l : Place ℕ) × (run (x .start) (x .body) q ≡ stand l π)
     event-path π (Verdict.breaks y b) = partial-is (x .start) (x .body) π .0 y
     event-path π (Verdict.fails y f) = let (q, e) = failing-is (x .start) (x .body) π .0 y in (q, failure, e)
 
     least : (p : Path) (e : Kind) (l : Place ℕ) (ρ : Trace) → FirstMet (starting x) (stepping x) p e → run (x .start) (x .body) p ≡ stand l ρ
-        → (π : Trace) → Event (x .start) (x .body) π → (π ≡ ρ) ⊎ Precedes (x .start) (x .body) ρ π
+        → (π : Trace) → Event FeasibleInSomeModel (x .start) (x .body) π → (π ≡ ρ) ⊎ Precedes (x .start) (x .body) ρ π
     least p e l ρ y u π z = go (event-path π z)
       where
         go : (q : Path) × (k : Place ℕ) × (run (x .start) (x .body) q ≡ stand k π) → (π ≡ ρ) ⊎ Precedes (x .start) (x .body) ρ π
@@ -118,7 +118,7 @@ module _ (x : Setting) (edition : Edition) (widths : RowWidths) where
 
     -- what is shown of an event that the search meets: it is an event, of the right kind, and so the macro does not pass
     record Shown (kind : Kind) (ρ : Trace) : Type 1 where
-      is-event : Event (x .start) (x .body) ρ
+      is-event : Event FeasibleInSomeModel (x .start) (x .body) ρ
       of-kind : OfKind (x .start) (x .body) kind ρ
       fails-to-pass : ((π : Trace) → Partial (x .start) (x .body) π → Coherent π) → ((π : Trace) → Failing (x .start) (x .body) π → ¬ FeasibleInSomeModel (state π)) → ⊥
 
@@ -158,13 +158,13 @@ module _ (x : Setting) (edition : Edition) (widths : RowWidths) where
         s : Shown kind (extend (x .start) ls)
         s = met-shown kind (path t i ▹ b) l (extend (x .start) ls) (met .happens) u
 
-        count : PairCount (x .start) (x .body) (t .count)
+        count : PairCount FeasibleInSomeModel (x .start) (x .body) (t .count)
         count = (path t, counted-lists (path t) (t .count) (event-lists (starting x) (stepping x) t i b v q kind e))
 
         other : (answer ≢ full) × (¬ IsPass answer)
         other = given-other (packed edition widths (x .start) kind ls) kind (t .count) (length ls) output answer output′ g
 
-        shows : Shows (x .start) (x .body) kind (t .count) ls
+        shows : Shows FeasibleInSomeModel (x .start) (x .body) kind (t .count) ls
         shows = record {
           first-event = record { event = s .is-event; least = least (path t i ▹ b) kind l (extend (x .start) ls) met u };
           of-kind = s .of-kind;

@@ -5,7 +5,7 @@ use mathlib.Core.List.{List}
 use Prim.Native.Nat.{ℕ, _/_, min}
 use lib.ListN.{length, replicate}
 use Rattle.letters.specs.Editions.{firstEdition}
-use Rattle.semantics.specs.Terms.{begin}
+use Rattle.semantics.specs.Terms.{State, begin}
 use Rattle.semantics.specs.PackedTables.{firstRowWidths}
 use Rattle.grammar.specs.Grammar.{Macro, headerOf}
 use Rattle.grammar.specs.Reading.{got, readMacro}
@@ -23,10 +23,11 @@ abbrev pub pairsIn : List ℕ → ℕ
 pairsIn table = min mostPairs (length table / pairBytes)
 
 -- `table` and `output` are lent; `table′` and `output′` are what they hold afterwards.
-pub record Demand3 (text table output : List ℕ) (answer : Answer) (table′ output′ : List ℕ) : Type 1 where
+-- Possible σ: some data model satisfies the tests of the state σ. The models are finite ones, or of any values (Verdict).
+pub record Demand3 {ℓ} (Possible : State → Type ℓ) (text table output : List ℕ) (answer : Answer) (table′ output′ : List ℕ) : Type ℓ where
   -- A text that is refused, by 7 to 13: "a refusal before it leaves the table untouched", "Refused calls write no output".
   pub unread : (number place : ℕ) → readMacro text ≡ Reading.refused number place → (answer ≡ refused number place) × (table′ ≡ table) × (output′ ≡ output)
   -- A text that is read as the macro m: the verdict on all its executions, or 14, or 6.
-  pub verdict : (m : Macro) (end : ℕ) → readMacro text ≡ got m end → Verdict (begin (headerOf m)) (m .body) firstEdition firstRowWidths (pairsIn table) output answer output′
+  pub verdict : (m : Macro) (end : ℕ) → readMacro text ≡ got m end → Verdict Possible (begin (headerOf m)) (m .body) firstEdition firstRowWidths (pairsIn table) output answer output′
   -- "After a search, 14 included, each lent table byte is zero."
   pub zeroed : (m : Macro) (end : ℕ) → readMacro text ≡ got m end → table′ ≡ replicate (length table) 0

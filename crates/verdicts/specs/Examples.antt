@@ -1,22 +1,32 @@
--- Examples: a macro that passes, and a macro on which pass is no right answer.
+-- Examples: a macro that passes, a macro on which pass is no right answer, and texts of them.
 use mathlib.Core.Path.{_≡_, refl, sym, ap, _∙_, subst}
 use mathlib.Core.Logic.{_≢_}
-use mathlib.Core.List.{List, List·Memᴰ·not-nil, List·Memᴰ·eq-of-singleton}
-use Prim.Native.Nat.{ℕ}
+use mathlib.Core.List.{List, [], _∷_, List·Memᴰ·not-nil, List·Memᴰ·eq-of-singleton}
+use Prim.Native.Nat.{ℕ, zero, suc, _<_}
 use native.Mathlib.Omega.{arith}
+use lib.ListN.{length, replicate}
 use Rattle.letters.specs.declared.Header.{Header}
 use Rattle.letters.specs.declared.Letter.the-variants.{Unequal}
-use Rattle.letters.specs.Editions.{Edition}
-use Rattle.semantics.specs.Terms.{Term, con, Trace, begin, _▸_, state}
+use Rattle.letters.specs.Editions.{Edition, firstEdition}
+use Rattle.semantics.specs.Terms.{_∈_, Term, con, Trace, begin, _▸_, State, state}
+use Rattle.semantics.specs.Models.{Model, eval, Feasible}
 use Rattle.semantics.specs.AnyModel.{AnyModel, evalIn, FeasibleInSomeModel}
 use Rattle.semantics.specs.Coherence.{Coherent}
-use Rattle.semantics.specs.PackedTables.{RowWidths}
+use Rattle.semantics.specs.PackedTables.{RowWidths, firstRowWidths}
 use Rattle.macros.specs.Tree.{equal, skip, assert, Block, empty, _then_}
 use Rattle.macros.specs.Executions.{Outcome, done, failed, ExecBlock, Partial, Failing, Begins, both, ends, stop, nothing, fails, whole}
 use Rattle.macros.specs.Executions
 use Rattle.macros.specs.Order.{Path, root}
-use Rattle.macros.specs.Points.{size}
-use Rattle.verdicts.specs.Verdict.{pass, full, Verdict, PairCount, Leaves}
+use Rattle.macros.specs.Points.{size, sizeBlock}
+use Rattle.tokens.specs.Bytes.{gap, width}
+use Rattle.tokens.specs.Bytes
+use Rattle.tokens.specs.Tokens.{tokenAt}
+use Rattle.grammar.specs.Reading.{got, indexOf, condition, tested, block, statement, registers, readText, readMacro}
+use Rattle.grammar.specs.Reading
+use Rattle.verdicts.specs.Verdict.{pass, refused, full, Verdict, PairCount, Leaves}
+use Rattle.verdicts.specs.Demand3.{pairsIn, Demand3}
+use Rattle.verdicts.specs.Settled.{refused-way, read-way}
+use Rattle.verdicts.specs.Readings.{anywhere}
 
 module _ (h : Header) (edition : Edition) (widths : RowWidths) (n : ℕ) (output : List ℕ) where
   -- ── skip; ──
@@ -41,42 +51,117 @@ module _ (h : Header) (edition : Edition) (widths : RowWidths) (n : ℕ) (output
   never-fails : (ρ : Trace) → Failing (begin h) still ρ → ⊥
   never-fails ρ x = let e : failed ≡ done = only-start x .1 in let z : _≡_ {A = ℕ} 0 1 = cc in omega arith
 
-  -- "`vars x; skip;`: pass, 0 pairs, even with N = 0."
-  still-passes : Verdict (begin h) still edition widths n output (pass 0) output
-  still-passes = record {
+  -- "`vars x; skip;`: pass, 0 pairs, even with N = 0." It has no failing execution, so that it does not matter what is taken to be possible.
+  still-passes {ℓ} : (Possible : State → Type ℓ) → Verdict Possible (begin h) still edition widths n output (pass 0) output
+  still-passes Possible = record {
     full-exactly = (λ e. absurd (let z : _≡_ {A = ℕ} 0 1 = cc in omega arith), λ x. absurd (no-pairs (x .counted 0 (omega arith) .is-first .leaves)));
     full-output = λ e. refl;
     pass-exactly = λ u. (λ t. (partial-start, λ ρ x f. never-fails ρ x), λ x. tt);
-    pass-count = λ k e. (subst (PairCount (begin h) still) (cc) none-counted, refl);
+    pass-count = λ k e. (subst (PairCount Possible (begin h) still) (cc) none-counted, refl);
     otherwise = λ u w. absurd (w tt);
   }
     where
-      none-counted : PairCount (begin h) still 0
+      none-counted : PairCount Possible (begin h) still 0
       none-counted = (λ i. root, record { counted = λ i l. absurd (omega arith); every = λ p c. absurd (no-pairs (c .is-first .leaves)); sorted = λ i j l m. absurd (omega arith) })
 
   -- ── assert x = y; ──
   abbrev claim : Block
   claim = assert (equal 0 1) then empty
 
-  -- each register has a value of its own
-  apart : AnyModel
-  apart = record { Value = ℕ; start = λ r. r; table = λ f a b. 0 }
+  abbrev failure : Trace
+  failure = begin h ▸ Unequal 0 1
 
-  reaches : FeasibleInSomeModel (state (begin h ▸ Unequal 0 1))
+  only-test : (s t : Term) → (s, t) ∈ state failure .unequals → (s ≡ con 0) × (t ≡ con 1)
+  only-test s t m = let e : _≡_ {A = Term × Term} (s, t) (con 0, con 1) = List·Memᴰ·eq-of-singleton m in (ap (λ x. x .0) e, ap (λ x. x .1) e)
+
+  -- two values: register 0 has one, all others the other
+  abbrev side : ℕ → ℕ
+  side zero = 0
+  side (suc r) = 1
+
+  side-below : (r : ℕ) → side r < 2
+  side-below zero = omega arith
+  side-below (suc r) = omega arith
+
+  apart : Model
+  apart = record { count = 2; start = side; table = λ f a b. 0; start-below = side-below; table-below = λ f a b l k. omega arith }
+
+  reaches : Feasible (state failure)
   unfolding apart
   reaches = (
     apart,
     record {
       equal-hold = λ s t m. absurd (List·Memᴰ·not-nil m);
-      unequal-hold = λ s t m e. let f : _≡_ {A = Term × Term} (s, t) (con 0, con 1) = List·Memᴰ·eq-of-singleton m in differ s t (ap (λ x. x .0) f) (ap (λ x. x .1) f) e;
+      unequal-hold = λ s t m e. let (f, g) = only-test s t m in differ s t f g e;
     },
   )
     where
-      differ : (s t : Term) → s ≡ con 0 → t ≡ con 1 → evalIn apart s ≡ evalIn apart t → ⊥
-      differ s t f g e = let z : _≡_ {A = ℕ} 0 1 = sym (ap (evalIn apart) f) ∙ e ∙ ap (evalIn apart) g in omega arith
+      differ : (s t : Term) → s ≡ con 0 → t ≡ con 1 → eval apart s ≡ eval apart t → ⊥
+      differ s t f g e = let z : _≡_ {A = ℕ} 0 1 = sym (ap (eval apart) f) ∙ e ∙ ap (eval apart) g in omega arith
+
+  -- each register has a value of its own
+  numbered : AnyModel
+  numbered = record { Value = ℕ; start = λ r. r; table = λ f a b. 0 }
+
+  reaches-anywhere : FeasibleInSomeModel (state failure)
+  unfolding numbered
+  reaches-anywhere = (
+    numbered,
+    record {
+      equal-hold = λ s t m. absurd (List·Memᴰ·not-nil m);
+      unequal-hold = λ s t m e. let (f, g) = only-test s t m in differ s t f g e;
+    },
+  )
+    where
+      differ : (s t : Term) → s ≡ con 0 → t ≡ con 1 → evalIn numbered s ≡ evalIn numbered t → ⊥
+      differ s t f g e = let z : _≡_ {A = ℕ} 0 1 = sym (ap (evalIn numbered) f) ∙ e ∙ ap (evalIn numbered) g in omega arith
+
+  -- pass is wrong where the failure is possible
+  passes-not {ℓ} : (Possible : State → Type ℓ) → Possible (state failure) → (k : ℕ) (output′ : List ℕ) → ¬ Verdict Possible (begin h) claim edition widths n output (pass k) output′
+  passes-not Possible f k output′ x =
+      let u : pass k ≢ full = λ e. let z : _≡_ {A = ℕ} 0 1 = cc in omega arith in
+      x .pass-exactly u .0 tt .1 failure (ends (fails refl)) f
 
   -- a checker that passes everything is wrong here
-  claim-fails : (k : ℕ) (output′ : List ℕ) → ¬ Verdict (begin h) claim edition widths n output (pass k) output′
-  claim-fails k output′ x =
-      let u : pass k ≢ full = λ e. let z : _≡_ {A = ℕ} 0 1 = cc in omega arith in
-      x .pass-exactly u .0 tt .1 (begin h ▸ Unequal 0 1) (ends (fails refl)) reaches
+  claim-fails : (k : ℕ) (output′ : List ℕ) → ¬ Verdict Feasible (begin h) claim edition widths n output (pass k) output′
+  claim-fails = passes-not Feasible reaches
+
+  claim-fails-anywhere : (k : ℕ) (output′ : List ℕ) → ¬ Verdict FeasibleInSomeModel (begin h) claim edition widths n output (pass k) output′
+  claim-fails-anywhere = passes-not FeasibleInSomeModel reaches-anywhere
+
+-- ── texts ──
+-- vars x;skip;
+abbrev still-text : List ℕ
+still-text = 118 ∷ 97 ∷ 114 ∷ 115 ∷ 32 ∷ 120 ∷ 59 ∷ 115 ∷ 107 ∷ 105 ∷ 112 ∷ 59 ∷ []
+
+still-read : readMacro still-text ≡ got (record { registers = 120 ∷ []; functions = []; arities = []; body = skip then empty }) 12
+unfolding readMacro readText tokenAt gap width Bytes.run registers block statement indexOf sizeBlock size
+still-read = refl
+
+-- vars x y;assert x=y;
+abbrev claim-text : List ℕ
+claim-text = 118 ∷ 97 ∷ 114 ∷ 115 ∷ 32 ∷ 120 ∷ 32 ∷ 121 ∷ 59 ∷ 97 ∷ 115 ∷ 115 ∷ 101 ∷ 114 ∷ 116 ∷ 32 ∷ 120 ∷ 61 ∷ 121 ∷ 59 ∷ []
+
+claim-read : readMacro claim-text ≡ got (record { registers = 120 ∷ 121 ∷ []; functions = []; arities = []; body = assert (equal 0 1) then empty }) 20
+unfolding readMacro readText tokenAt gap width Bytes.run registers block statement tested condition indexOf sizeBlock size
+claim-read = refl
+
+nothing-read : readMacro [] ≡ Reading.refused 9 0
+unfolding readMacro readText tokenAt gap
+nothing-read = refl
+
+module _ (table output : List ℕ) where
+  -- pass, the table zeroed, the output as it was
+  still-met {ℓ} : (Possible : State → Type ℓ) → Demand3 Possible still-text table output (pass 0) (replicate (length table) 0) output
+  still-met Possible = read-way Possible still-text table output _ 12 still-read (pass 0) output (still-passes _ firstEdition firstRowWidths (pairsIn table) output Possible)
+
+  -- no text at all: nothing is written
+  nothing-met {ℓ} : (Possible : State → Type ℓ) → Demand3 Possible [] table output (refused 9 0) table output
+  nothing-met Possible = refused-way Possible [] table output 9 0 nothing-read
+
+  -- pass is wrong, whatever the table and the output hold afterwards
+  claim-not-met : (k : ℕ) (table′ output′ : List ℕ) → ¬ Demand3 Feasible claim-text table output (pass k) table′ output′
+  claim-not-met k table′ output′ x = claim-fails _ firstEdition firstRowWidths (pairsIn table) output k output′ (x .verdict _ 20 claim-read)
+
+  claim-not-met-anywhere : (k : ℕ) (table′ output′ : List ℕ) → ¬ Demand3 FeasibleInSomeModel claim-text table output (pass k) table′ output′
+  claim-not-met-anywhere k table′ output′ x = claim-not-met k table′ output′ (anywhere claim-text table output (pass k) table′ output′ .1 x)

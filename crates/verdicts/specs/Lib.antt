@@ -11,4 +11,5 @@ pub mod Total
 pub mod Trail
 pub mod Demand3
 pub mod Settled
+pub mod Readings
 pub mod Examples

@@ -315,16 +315,16 @@ module _ (x : Setting) where
       go u f (breaks c n) = (p, (breaking, f), inl refl)
       go u f (behind q n b g) = (q, (breaking, g), inr b)
 
-  event-met-at : (p : Path) (l : Place ℕ) (ρ : Trace) → walks p ≡ stand l ρ → Event (x .start) (x .body) ρ → SoonerMet p
+  event-met-at : (p : Path) (l : Place ℕ) (ρ : Trace) → walks p ≡ stand l ρ → Event FeasibleInSomeModel (x .start) (x .body) ρ → SoonerMet p
   event-met-at p l ρ e (Verdict.breaks y b) = breaking-met p l ρ e b
   event-met-at p l ρ e (Verdict.fails y f) =
       let (q, g) = failing-is (x .start) (x .body) ρ .0 y in
       subst SoonerMet (run-once (x .start) (x .body) ρ q p failure l g e) (failing-met q ρ g f)
 
-  pub event-met : (p : Path) → EventAt (x .start) (x .body) p → (q : Path) × Meets starting stepping q × AtOrBefore q p
+  pub event-met : (p : Path) → EventAt FeasibleInSomeModel (x .start) (x .body) p → (q : Path) × Meets starting stepping q × AtOrBefore q p
   event-met p (ρ, (l, e), y) = event-met-at p l ρ e y
 
-  pub met-event : (p : Path) → Meets starting stepping p → EventAt (x .start) (x .body) p
+  pub met-event : (p : Path) → Meets starting stepping p → EventAt FeasibleInSomeModel (x .start) (x .body) p
   met-event p (breaking, f) = let (ρ, l, e, b) = meets-breaking p f in (ρ, (l, e), Verdict.breaks (partial-is (x .start) (x .body) ρ .1 (p, l, e)) b)
   met-event p (failing, f) = let (ρ, e, c, y) = meets-failing p f in (ρ, (failure, e), Verdict.fails (failing-is (x .start) (x .body) ρ .1 (p, e)) y)
 

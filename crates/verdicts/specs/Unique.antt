@@ -7,7 +7,7 @@ use native.Mathlib.Omega.{arith}
 use Rattle.macros.specs.Numbers.{three}
 use lib.ListN.{length, drop}
 use Rattle.letters.specs.declared.Letter.{Letter}
-use Rattle.semantics.specs.Terms.{Trace, begin, _▸_, extend}
+use Rattle.semantics.specs.Terms.{Trace, begin, _▸_, State, extend}
 use Rattle.letters.specs.Editions.{Edition}
 use Rattle.semantics.specs.PackedTables.{RowWidths}
 use Rattle.semantics.specs.Coherence.{Coherent}
@@ -25,18 +25,20 @@ module _ (start : Trace) (m : Block) where
       let f = run-once start m π (x .other) (y .path) (x .other-takes .0) (y .takes .0) (x .other-takes .1) (y .takes .1) in
       before-not (x .path) (before-join (x .path) (x .other) (x .path) (x .before) (subst (λ p. Before p (x .path)) (sym f) (subst (Before (y .path)) (sym e) (y .before))))
 
+breaks-not : (ρ : Trace) → Breaks ρ → ¬ Coherent ρ
+breaks-not (begin h) x c = x
+breaks-not (ρ ▸ a) x c = x .1 c
+
+-- Whatever is taken to be possible.
+module _ {ℓ} (Possible : State → Type ℓ) (start : Trace) (m : Block) where
   -- there is one first event
-  pub one-event : (ρ π : Trace) → FirstEvent start m ρ → FirstEvent start m π → ρ ≡ π
+  pub one-event : (ρ π : Trace) → FirstEvent Possible start m ρ → FirstEvent Possible start m π → ρ ≡ π
   one-event ρ π x y = go (x .least π (y .event)) (y .least ρ (x .event))
     where
       go : (π ≡ ρ) ⊎ Precedes start m ρ π → (ρ ≡ π) ⊎ Precedes start m π ρ → ρ ≡ π
       go (inl e) f = sym e
       go (inr e) (inl f) = f
-      go (inr e) (inr f) = absurd (precedes-not ρ π e f)
-
-  breaks-not : (ρ : Trace) → Breaks ρ → ¬ Coherent ρ
-  breaks-not (begin h) x c = x
-  breaks-not (ρ ▸ a) x c = x .1 c
+      go (inr e) (inr f) = absurd (precedes-not start m ρ π e f)
 
   module _ (edition : Edition) (widths : RowWidths) where
     -- it has one kind
@@ -47,11 +49,11 @@ module _ (start : Trace) (m : Block) where
     one-kind failing breaking ρ x y = absurd (breaks-not ρ (y .1) (x .1))
 
     -- two answers that show it are one
-    record Told : Type 1 where
+    record Told : Type ℓ where
       kind : Kind
       pairs : ℕ
       word : List Letter
-      shows : Shows start m kind pairs word
+      shows : Shows Possible start m kind pairs word
 
     one-word : (x y : Told) → x .word ≡ y .word
     one-word x y = since-once start (x .word) (y .word) (one-event (extend start (x .word)) (extend start (y .word)) (x .shows .first-event) (y .shows .first-event))
@@ -60,8 +62,8 @@ module _ (start : Trace) (m : Block) where
     told-kind x y = one-kind (x .kind) (y .kind) (extend start (y .word))
         (subst (λ w. OfKind start m (x .kind) (extend start w)) (one-word x y) (x .shows .of-kind)) (y .shows .of-kind)
 
-    count-once : (k l : ℕ) → PairCount start m k → PairCount start m l → k ≡ l
-    count-once k l x y = one-count Before (Leaves start m) (SamePair start m) (EventAt start m) before-not k l x y
+    count-once : (k l : ℕ) → PairCount Possible start m k → PairCount Possible start m l → k ≡ l
+    count-once k l x y = one-count Before (Leaves start m) (SamePair start m) (EventAt Possible start m) before-not k l x y
 
     told-pairs : (x y : Told) → x .pairs ≡ y .pairs
     told-pairs x y = count-once (x .pairs) (y .pairs) (x .shows .count) (y .shows .count)
@@ -85,8 +87,8 @@ module _ (start : Trace) (m : Block) where
       one-given bs cs a b c d o p e f (inr (l, u, v)) (inl (k, y, z)) = let g = ap length e in absurd (omega arith)
       one-given bs cs a b c d o p e f (inr (l, u, v)) (inr (k, y, z)) = (u ∙ sym y, v ∙ sym z)
 
-      abbrev Right : Answer → List ℕ → Type 1
-      Right a o = Verdict start m edition widths n output a o
+      abbrev Right : Answer → List ℕ → Type ℓ
+      Right a o = Verdict Possible start m edition widths n output a o
 
       module _ (a b : Answer) (o p : List ℕ) (x : Right a o) (y : Right b p) where
         not-full : a ≢ full → b ≢ full

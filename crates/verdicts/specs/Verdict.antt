@@ -1,18 +1,22 @@
 -- The verdict on a macro (document 01, "The search for a verdict").
+-- Document 01: "A data model here is finite: a count of values, an initial value for each register, a total table for each function. A trace is
+-- feasible if some model satisfies all its tests. [..] infinite models change nothing." An event and pass speak of feasible executions, and so
+-- the definition below is read in two ways, by its first argument `Possible`, which says of a state that some data model satisfies its tests:
+-- `Feasible` allows finite models only, as document 01 has it, and is a type of `Type 0`, as the contract of a function asks;
+-- `FeasibleInSomeModel` allows every type of values, and lies in `Type 1`. That the second changes nothing is proved: `Readings.anywhere`.
 use mathlib.Core.Path.{_≡_}
 use mathlib.Core.Logic.{_⊎_, _↔_, _≢_}
 use mathlib.Core.List.{List, _++_}
 use Prim.Native.Nat.{ℕ, _≤_, _<_}
 use lib.ListN.{length, drop}
 use Rattle.letters.specs.declared.Letter.{Letter}
-use Rattle.semantics.specs.Terms.{Trace, begin, _▸_, extend, state}
+use Rattle.semantics.specs.Terms.{Trace, begin, _▸_, State, extend, state}
 use Rattle.letters.specs.Editions.{Edition}
 use Rattle.letters.specs.Traces.{packing}
 use Rattle.semantics.specs.Models.{Satisfies}
 use Rattle.semantics.specs.SameWindow.{SameWindow}
 use Rattle.semantics.specs.Shown.{shown, tablesOf}
 use Rattle.semantics.specs.PackedTables.{RowWidths, packTables}
-use Rattle.semantics.specs.AnyModel.{FeasibleInSomeModel}
 use Rattle.semantics.specs.Coherence.{Coherent}
 use Rattle.macros.specs.Tree.{Block}
 use Rattle.macros.specs.Executions.{Partial, Failing}
@@ -80,21 +84,6 @@ module _ (start : Trace) (m : Block) where
     pub other-takes : Takes other π
     pub before : Before path other
 
-  -- "An event is a partial execution whose last letter is the first incoherent one, or a feasible execution that ends at a failure:
-  -- some data model reaches the false assertion, all the tests holding in it."
-  pub data Event (ρ : Trace) : Type 1 where
-    breaks : Partial start m ρ → Breaks ρ → Event ρ
-    fails : Failing start m ρ → FeasibleInSomeModel (state ρ) → Event ρ
-
-  -- "The verdict is the first event, or pass." It comes before every other.
-  pub record FirstEvent (ρ : Trace) : Type 1 where
-    pub event : Event ρ
-    pub least : (π : Trace) → Event π → (π ≡ ρ) ⊎ Precedes ρ π
-
-  -- The event that takes the path p.
-  abbrev pub EventAt : Path → Type 1
-  EventAt p = (ρ : Trace) × Takes p ρ × Event ρ
-
   -- "A pair is a point still to be performed and a window, as a partial execution leaves them."
   -- What stands behind an incoherent letter comes after an event, and is not counted: so only coherent ones are looked at.
   pub record Leaves (p : Path) : Type 0 where
@@ -113,32 +102,49 @@ module _ (start : Trace) (m : Block) where
     pub other-stands : run start m q ≡ stand (at point) other
     pub windows : SameWindow (state trace) (state other)
 
-  -- k is the count of pairs; the count passes n.
-  abbrev pub PairCount : ℕ → Type 1
-  PairCount k = Count Before Leaves SamePair EventAt k
-
-  abbrev pub PairsPass : ℕ → Type 1
-  PairsPass n = More Before Leaves SamePair EventAt n
-
   -- What kind of event it is. "A failing letter that is itself incoherent counts as incoherent."
   -- All tests of a failing execution hold in the model that is shown.
   abbrev pub OfKind : Kind → Trace → Type 0
   OfKind breaking ρ = Partial start m ρ × Breaks ρ
   OfKind failing ρ = Failing start m ρ × Coherent ρ × Satisfies (shown (state ρ)) (state ρ .equals) (state ρ .unequals)
 
+-- The same executions. Possible σ: some data model satisfies the tests of the state σ.
+module _ {ℓ} (Possible : State → Type ℓ) (start : Trace) (m : Block) where
+  -- "An event is a partial execution whose last letter is the first incoherent one, or a feasible execution that ends at a failure:
+  -- some data model reaches the false assertion, all the tests holding in it."
+  pub data Event (ρ : Trace) : Type ℓ where
+    breaks : Partial start m ρ → Breaks ρ → Event ρ
+    fails : Failing start m ρ → Possible (state ρ) → Event ρ
+
+  -- "The verdict is the first event, or pass." It comes before every other.
+  pub record FirstEvent (ρ : Trace) : Type ℓ where
+    pub event : Event ρ
+    pub least : (π : Trace) → Event π → (π ≡ ρ) ⊎ Precedes start m ρ π
+
+  -- The event that takes the path p.
+  abbrev pub EventAt : Path → Type ℓ
+  EventAt p = (ρ : Trace) × Takes start m p ρ × Event ρ
+
+  -- k is the count of pairs; the count passes n.
+  abbrev pub PairCount : ℕ → Type ℓ
+  PairCount k = Count Before (Leaves start m) (SamePair start m) EventAt k
+
+  abbrev pub PairsPass : ℕ → Type ℓ
+  PairsPass n = More Before (Leaves start m) (SamePair start m) EventAt n
+
   -- The first event has the letters ls after the start, and k is the count of pairs.
-  pub record Shows (kind : Kind) (k : ℕ) (ls : List Letter) : Type 1 where
+  pub record Shows (kind : Kind) (k : ℕ) (ls : List Letter) : Type ℓ where
     pub first-event : FirstEvent (extend start ls)
-    pub of-kind : OfKind kind (extend start ls)
+    pub of-kind : OfKind start m kind (extend start ls)
     pub count : PairCount k
 
   -- The verdict in an edition. The table holds n pairs. `output` is lent, and `output′` is what it holds afterwards.
-  pub record Verdict (e : Edition) (w : RowWidths) (n : ℕ) (output : List ℕ) (answer : Answer) (output′ : List ℕ) : Type 1 where
+  pub record Verdict (e : Edition) (w : RowWidths) (n : ℕ) (output : List ℕ) (answer : Answer) (output′ : List ℕ) : Type ℓ where
     -- "full is given exactly when it passes N"
     pub full-exactly : (answer ≡ full) ↔ PairsPass n
     pub full-output : answer ≡ full → output′ ≡ output
     -- else pass is answered exactly if every execution, wherever it is broken off, is coherent so far, and no data model reaches a false assertion
-    pub pass-exactly : answer ≢ full → IsPass answer ↔ (((ρ : Trace) → Partial start m ρ → Coherent ρ) × ((ρ : Trace) → Failing start m ρ → ¬ FeasibleInSomeModel (state ρ)))
+    pub pass-exactly : answer ≢ full → IsPass answer ↔ (((ρ : Trace) → Partial start m ρ → Coherent ρ) × ((ρ : Trace) → Failing start m ρ → ¬ Possible (state ρ)))
     pub pass-count : (k : ℕ) → answer ≡ pass k → PairCount k × (output′ ≡ output)
     -- else the first event is answered, or 6
     pub otherwise : answer ≢ full → ¬ IsPass answer

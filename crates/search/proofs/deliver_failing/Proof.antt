@@ -1,0 +1,63 @@
+use mathlib.Core.Path.{subst}
+use lib.ListN.{drop}
+use Rattle.search.specs.Modelling.{Modelled}
+use Rattle.search.specs.Answering.{failing-refused, failing-shown, failing-unfit}
+use borrow.Author.Needs.{needs}
+use Rattle.search.proofs.deliver_failing.Statement.{statement}
+use Rattle.search.proofs.deliver_failing.Tie as tie
+use Rattle.search.proofs.deliver_failing.Reads as reads
+use Rattle.search.proofs.deliver_failing.Lts as lts
+use Rattle.search.proofs.show_model.Reads as show-model-reads
+use Rattle.search.proofs.write_trace.Reads as write-trace-reads
+
+sub-n : tie.Need-sub-n
+sub-n c = search needs
+
+returns : tie.Need-returns
+returns c = let a = c .before .before .before .args in failing-refused (a .packed) (a .count) (a .output .now) (c .before .before .before .pre) (c .if1 .taken)
+
+show-model-requires : tie.Need-show-model-requires
+show-model-requires c κs = search needs
+
+write-trace-requires : tie.Need-write-trace-requires
+write-trace-requires c κs = search needs
+
+sub-t14 : tie.Need-sub-t14
+sub-t14 c = search needs
+
+same-length : tie.Need-same-length
+same-length c = search needs
+
+returns-2 : tie.Need-returns-2
+returns-2 c =
+    let x = c .before .before .before .before .before .before .before .before .before .before .before .before .before in
+    let a = x .args in
+    let m = c .before .before .before .before .before .before .before .show-model in
+    failing-shown (a .packed) (a .count) (a .output .now) (x .pre) (c .before .before .before .before .before .before .before .before .before .before .if1 .left) (m .last .1 .1 .0)
+    (subst (λ f. Modelled (drop (a .packed .start) (a .packed .bytes)) (a .output .now) f (m .last .1 .1 .0)) (c .before .before .before .before .if2 .taken) (m .ensures))
+    (c .before .before .write-trace .last .1 .0) (c .before .before .write-trace .ensures)
+
+same-length-2 : tie.Need-same-length-2
+same-length-2 c = search needs
+
+returns-3 : tie.Need-returns-3
+returns-3 c =
+    let x = c .before .before .before .before .before .before .before .before .before in
+    let a = x .args in
+    let m = c .before .before .before .show-model in
+    failing-unfit (a .packed) (a .count) (a .output .now) (x .pre) (c .before .before .before .before .before .before .if1 .left) (m .last .1 .1 .0)
+    (subst (λ f. Modelled (drop (a .packed .start) (a .packed .bytes)) (a .output .now) f (m .last .1 .1 .0)) (c .if2 .left) (m .ensures))
+
+pub deliver-failing-spec : {M : Type 1} → statement M
+deliver-failing-spec =
+    tie.close
+    (tie.spec
+    sub-n
+    returns
+    show-model-requires
+    write-trace-requires
+    sub-t14
+    same-length
+    returns-2
+    same-length-2
+    returns-3)

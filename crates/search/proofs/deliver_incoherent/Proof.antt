@@ -1,0 +1,29 @@
+use Rattle.search.specs.Answering.{breaking-refused, breaking-shown}
+use borrow.Author.Needs.{needs}
+use Rattle.search.proofs.deliver_incoherent.Statement.{statement}
+use Rattle.search.proofs.deliver_incoherent.Tie as tie
+use Rattle.search.proofs.deliver_incoherent.Reads as reads
+use Rattle.search.proofs.deliver_incoherent.Lts as lts
+use Rattle.search.proofs.write_trace.Reads as write-trace-reads
+
+sub-n : tie.Need-sub-n
+sub-n c = search needs
+
+returns : tie.Need-returns
+returns c = let a = c .before .before .before .args in breaking-refused (a .packed) (a .count) (a .output .now) (c .before .before .before .pre) (c .if1 .taken)
+
+write-trace-requires : tie.Need-write-trace-requires
+write-trace-requires c κs = search needs
+
+sub-t5 : tie.Need-sub-t5
+sub-t5 c = search needs
+
+same-length : tie.Need-same-length
+same-length c = search needs
+
+returns-2 : tie.Need-returns-2
+returns-2 c = let x = c .before .before .before .before .before .before .before in let a = x .args in breaking-shown (a .packed) (a .count) (a .output .now) (x .pre) (c .before .before .before .before .if1 .left) (c .before .before .write-trace .last .1 .0) (c .before .before .write-trace .ensures)
+
+pub deliver-incoherent-spec : {M : Type 1} → statement M
+deliver-incoherent-spec =
+    tie.close (tie.spec sub-n returns write-trace-requires sub-t5 same-length returns-2)

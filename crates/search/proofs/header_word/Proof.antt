@@ -1,0 +1,28 @@
+use mathlib.Core.Path.{sym, ap, _∙_}
+use Rattle.letters.specs.Answers.{headerWordAnswer}
+use Rattle.search.specs.Tracing.{wordOf}
+use borrow.Author.Needs.{needs}
+use Rattle.search.proofs.header_word.Statement.{statement}
+use Rattle.search.proofs.header_word.Tie as tie
+use Rattle.search.proofs.header_word.Reads as reads
+use Rattle.search.proofs.header_word.Lts as lts
+use Rattle.letters.proofs.words.encode_header.Reads as encode-header-reads
+
+encode-header-requires : tie.Need-encode-header-requires
+encode-header-requires c κs = search needs
+
+enum-known-coded : tie.Need-enum-known-coded
+enum-known-coded c = search needs
+
+returns : tie.Need-returns
+returns c = sym (ap (λ z. wordOf (headerWordAnswer z)) (c .before .coded .given .1)) ∙ ap wordOf (c .before .before .before .encode-header .ensures)
+
+enum-told : tie.Need-enum-told
+enum-told c = search needs
+
+returns-2 : tie.Need-returns-2
+returns-2 c = sym (ap (λ z. wordOf (headerWordAnswer z)) (c .enum-told .given .1)) ∙ ap wordOf (c .before .before .encode-header .ensures)
+
+pub header-word-spec : {M : Type 1} → statement M
+header-word-spec =
+    tie.close (tie.spec encode-header-requires enum-known-coded returns enum-told returns-2)

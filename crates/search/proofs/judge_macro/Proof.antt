@@ -1,0 +1,50 @@
+use mathlib.Core.Path.{_≡_, ap, _∙_}
+use lib.ListN.{length, replicate}
+use Rattle.search.specs.Judged.{readable, judged-refused, judged-macro}
+use borrow.Author.Needs.{needs}
+use Rattle.search.proofs.judge_macro.Statement.{statement}
+use Rattle.search.proofs.judge_macro.Tie as tie
+use Rattle.search.proofs.judge_macro.Reads as reads
+use Rattle.search.proofs.judge_macro.Lts as lts
+use Rattle.search.proofs.search_macro.Reads as search-macro-reads
+use Rattle.syntax.proofs.read.Reads as read-reads
+use Rattle.table.proofs.clear.Reads as clear-reads
+
+read-requires : tie.Need-read-requires
+read-requires c κs = search needs
+
+returns : tie.Need-returns
+returns c = let a = c .before .before .before .before .before .before .args in judged-refused (a .text .now) (c .before .before .read .result) (c .before .before .read .ensures) (a .table .now) (a .output .now) (c .if1 .taken)
+
+search-macro-requires : tie.Need-search-macro-requires
+search-macro-requires c κs = readable (c .before .before .before .before .before .before .before .before .args .text .now) (c .before .before .before .before .read .result) (c .before .before .before .before .read .ensures) (c .before .before .if1 .left)
+
+clear-requires : tie.Need-clear-requires
+clear-requires c κs = search needs
+
+same-length : tie.Need-same-length
+same-length c = search needs
+
+same-length-2 : tie.Need-same-length-2
+same-length-2 c = search needs
+
+returns-2 : tie.Need-returns-2
+returns-2 c =
+    let a = c .before .before .before .before .before .before .before .before .before .before .before .before .before .before .before .before .before .args in
+    let r = c .before .before .before .before .before .before .before .before .before .before .before .before .before .read in
+    let s = c .before .before .before .before .before .before .before .before .search-macro in
+    let z = c .before .before .clear in
+    let l : length (s .last .1 .0) ≡ length (a .table .now) = search needs in
+    judged-macro (a .text .now) (r .result) (r .ensures) (a .table .now) (a .output .now) (c .before .before .before .before .before .before .before .before .before .before .before .if1 .left) (s .result) (z .last .0) (s .last .1 .1 .0) (s .ensures) (z .ensures ∙ ap (λ n. replicate n 0) l)
+
+pub judge-macro-spec : {M : Type 1} → statement M
+judge-macro-spec =
+    tie.close
+    (tie.spec
+    read-requires
+    returns
+    search-macro-requires
+    clear-requires
+    same-length
+    same-length-2
+    returns-2)

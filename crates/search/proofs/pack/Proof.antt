@@ -1,0 +1,148 @@
+use mathlib.Core.Path.{_≡_, ap, _∙_}
+use Prim.Native.Nat.{ℕ, _+_, _-_, _*_, _/_, _≤_, _<_}
+use native.Mathlib.Omega.{arith}
+use borrow.Author.Needs.{needs}
+use mathlib.Core.List.{List, [], _∷_}
+use lib.ListN.{length, drop, replicate, length-replicate}
+use Rattle.letters.specs.declared.Letter.{Letter}
+use Rattle.search.specs.Trails.{trailTo, trailOf}
+use Rattle.search.specs.Tracing.{Older, wordBytes, letterWords, traced}
+use Rattle.search.specs.TracingLaws.{first-stored, letter-stored, header-stored, trail-first, trail-turn, trail-whole}
+use Rattle.search.proofs.pack.Statement.{statement}
+use Rattle.search.proofs.pack.Tie as tie
+use Rattle.search.proofs.pack.Reads as reads
+use Rattle.search.proofs.pack.Lts as lts
+use Rattle.search.proofs.header_word.Reads as header-word-reads
+use Rattle.search.proofs.letter_at.Reads as letter-at-reads
+use Rattle.search.proofs.letter_word.Reads as letter-word-reads
+use Rattle.table.proofs.branch_at.Reads as branch-at-reads
+use Rattle.table.proofs.parent_at.Reads as parent-at-reads
+
+abbrev Inv-loop : tie.InvT-loop
+Inv-loop header points table d bytes₀ word at₀ j₀ bytes at j = (j ≤ d / 2) × (2 * j + 2 ≤ at) × (at ≤ 2048) × (d < 2048) × (192 * (d / 2) + 192 ≤ length table) × (length bytes ≡ 2050) × Older table (d / 2 + 1) × ((rest : List Letter) × (drop at bytes ≡ wordBytes (letterWords header rest)) × (trailTo points table j j rest ≡ trailOf points table d))
+
+abbrev μ-loop : tie.MeasureT-loop
+μ-loop header points table d bytes₀ word at₀ j₀ bytes at j = j
+
+letter-at-requires : tie.Need-letter-at-requires Inv-loop μ-loop
+letter-at-requires c κs = search needs
+
+letter-word-requires : tie.Need-letter-word-requires Inv-loop μ-loop
+letter-word-requires c κs = search needs
+
+cast-bytes : tie.Need-cast-bytes Inv-loop μ-loop
+cast-bytes c = search needs
+
+array-write-bytes : tie.Need-array-write-bytes Inv-loop μ-loop
+array-write-bytes c = search needs
+
+cast-bytes-2 : tie.Need-cast-bytes-2 Inv-loop μ-loop
+cast-bytes-2 c = search needs
+
+array-write-bytes-2 : tie.Need-array-write-bytes-2 Inv-loop μ-loop
+array-write-bytes-2 c = search needs
+
+loop-holds : tie.Need-loop-holds Inv-loop μ-loop
+loop-holds c = let a = c .before .before .before .args in (search needs, search needs, search needs, search needs, search needs, search needs, c .before .before .before .pre .2, (c .before .letter-at .result ∷ [], first-stored (a .header) (replicate 2050 0) (c .letter-word .result) (length-replicate {A = ℕ} 2050 0) (c .before .letter-at .result) (c .letter-word .ensures), trail-first (a .points) (a .table .now) (a .d) (c .before .letter-at .result) (c .before .letter-at .ensures)))
+
+parent-at-requires : tie.Need-parent-at-requires Inv-loop μ-loop
+parent-at-requires c κs = search needs
+
+branch-at-requires : tie.Need-branch-at-requires Inv-loop μ-loop
+branch-at-requires c κs = search needs
+
+letter-at-requires-2 : tie.Need-letter-at-requires-2 Inv-loop μ-loop
+letter-at-requires-2 c κs = let x = c .before .before .before in let a = x .before .before .before .before .args in let l = x .loop in let o = l .inv .6 (l .j) (omega arith) (omega arith) in omega (arith, o, c .before .parent-at .ensures)
+
+letter-word-requires-2 : tie.Need-letter-word-requires-2 Inv-loop μ-loop
+letter-word-requires-2 c κs = search needs
+
+cast-bytes-3 : tie.Need-cast-bytes-3 Inv-loop μ-loop
+cast-bytes-3 c = search needs
+
+sub-bytes : tie.Need-sub-bytes Inv-loop μ-loop
+sub-bytes c = search needs
+
+array-write-bytes-3 : tie.Need-array-write-bytes-3 Inv-loop μ-loop
+array-write-bytes-3 c = search needs
+
+cast-bytes-4 : tie.Need-cast-bytes-4 Inv-loop μ-loop
+cast-bytes-4 c = search needs
+
+sub-bytes-2 : tie.Need-sub-bytes-2 Inv-loop μ-loop
+sub-bytes-2 c = search needs
+
+array-write-bytes-4 : tie.Need-array-write-bytes-4 Inv-loop μ-loop
+array-write-bytes-4 c = search needs
+
+sub-at : tie.Need-sub-at Inv-loop μ-loop
+sub-at c = search needs
+
+loop-less : tie.Need-loop-less Inv-loop μ-loop
+loop-less c = let x = c .before .before .before .before .before in let a = x .before .before .before .before .args in let l = x .loop in let o = l .inv .6 (l .j) (omega arith) (omega arith) in omega (arith, o, c .before .before .before .parent-at .ensures)
+
+loop-again : tie.Need-loop-again Inv-loop μ-loop
+loop-again c = let x = c .before .before .before .before .before in let a = x .before .before .before .before .args in let l = x .loop in let o = l .inv .6 (l .j) (omega arith) (omega arith) in let pe = c .before .before .before .parent-at .ensures in (omega (arith, o, pe), omega (arith, o, pe), omega arith, search needs, search needs, search needs, l .inv .6, (c .before .letter-at2 .result ∷ l .inv .7 .0, letter-stored (a .header) (l .bytes) (c .letter-word2 .result) (l .at) (l .inv .7 .0) (l .inv .7 .1) (omega arith) (omega arith) (c .before .letter-at2 .result) (c .letter-word2 .ensures), trail-turn (a .points) (a .table .now) (a .d / 2 + 1) (l .inv .6) (l .j) (c .before .before .before .parent-at .result) (c .before .before .branch-at .result) (c .before .letter-at2 .result) (l .inv .7 .0) (trailOf (a .points) (a .table .now) (a .d)) (omega arith) (omega arith) pe (c .before .before .branch-at .ensures) (c .before .letter-at2 .ensures) (l .inv .7 .2)))
+
+header-word-requires : tie.Need-header-word-requires Inv-loop μ-loop
+header-word-requires c κs = search needs
+
+cast-bytes-5 : tie.Need-cast-bytes-5 Inv-loop μ-loop
+cast-bytes-5 c = search needs
+
+sub-bytes-3 : tie.Need-sub-bytes-3 Inv-loop μ-loop
+sub-bytes-3 c = search needs
+
+array-write-bytes-5 : tie.Need-array-write-bytes-5 Inv-loop μ-loop
+array-write-bytes-5 c = search needs
+
+cast-bytes-6 : tie.Need-cast-bytes-6 Inv-loop μ-loop
+cast-bytes-6 c = search needs
+
+sub-bytes-4 : tie.Need-sub-bytes-4 Inv-loop μ-loop
+sub-bytes-4 c = search needs
+
+array-write-bytes-6 : tie.Need-array-write-bytes-6 Inv-loop μ-loop
+array-write-bytes-6 c = search needs
+
+sub-t15 : tie.Need-sub-t15 Inv-loop μ-loop
+sub-t15 c = search needs
+
+returns : tie.Need-returns Inv-loop μ-loop
+returns c = (let x = c .before .before in let a = x .before .before .before .before .args in let l = x .loop in header-stored (a .header) (l .bytes) (c .header-word .result) (l .at) (l .inv .7 .0) (l .inv .7 .1) (omega arith) (omega arith) (c .header-word .ensures) ∙ ap (traced (a .header)) (trail-whole (a .points) (a .table .now) (l .j) (l .inv .7 .0) (trailOf (a .points) (a .table .now) (a .d)) (omega arith) (l .inv .7 .2)), search needs, omega arith)
+
+pub pack-spec : {M : Type 1} → statement M
+pack-spec =
+    tie.close
+    (tie.spec
+    Inv-loop
+    μ-loop
+    letter-at-requires
+    letter-word-requires
+    cast-bytes
+    array-write-bytes
+    cast-bytes-2
+    array-write-bytes-2
+    loop-holds
+    parent-at-requires
+    branch-at-requires
+    letter-at-requires-2
+    letter-word-requires-2
+    cast-bytes-3
+    sub-bytes
+    array-write-bytes-3
+    cast-bytes-4
+    sub-bytes-2
+    array-write-bytes-4
+    sub-at
+    loop-less
+    loop-again
+    header-word-requires
+    cast-bytes-5
+    sub-bytes-3
+    array-write-bytes-5
+    cast-bytes-6
+    sub-bytes-4
+    array-write-bytes-6
+    sub-t15
+    returns)

@@ -1,0 +1,82 @@
+use mathlib.Core.Path.{refl}
+use native.Mathlib.Omega.{arith}
+use Rattle.search.specs.Modelling.{modelled-yes, modelled-infeasible, modelled-refused}
+use borrow.Author.Needs.{needs}
+use Rattle.search.proofs.show_model.Statement.{statement}
+use Rattle.search.proofs.show_model.Tie as tie
+use Rattle.search.proofs.show_model.Reads as reads
+use Rattle.search.proofs.show_model.Lts as lts
+use Rattle.shown.proofs.show.Reads as show-reads
+
+sub-n : tie.Need-sub-n
+sub-n c = search needs
+
+sub-show : tie.Need-sub-show
+sub-show c = search needs
+
+part-show-start : tie.Need-part-show-start
+part-show-start c = search needs
+
+part-show-end : tie.Need-part-show-end
+part-show-end c = search needs
+
+sub-show-2 : tie.Need-sub-show-2
+sub-show-2 c = search needs
+
+part-show-start-2 : tie.Need-part-show-start-2
+part-show-start-2 c = search needs
+
+part-show-end-2 : tie.Need-part-show-end-2
+part-show-end-2 c = search needs
+
+show-requires : tie.Need-show-requires
+show-requires c κs = search needs
+
+enum-known-shown : tie.Need-enum-known-shown
+enum-known-shown c = search needs
+
+same-length : tie.Need-same-length
+same-length c = search needs
+
+returns : tie.Need-returns
+returns c = let a = c .before .before .before .before .before .before .before .before .before .before .args in modelled-yes (a .t1) (a .start) (a .output .now) (c .before .before .before .before .before .show .result) (c .before .before .before .before .before .show .last .1 .0) (search needs) (omega arith) (c .before .before .before .before .before .show .ensures) _ refl (c .before .shown .given .0 .0) (c .before .shown .given .1)
+
+enum-known-shown-2 : tie.Need-enum-known-shown-2
+enum-known-shown-2 c = search needs
+
+same-length-2 : tie.Need-same-length-2
+same-length-2 c = search needs
+
+returns-2 : tie.Need-returns-2
+returns-2 c = let a = c .before .before .before .before .before .before .before .before .before .before .args in modelled-infeasible (a .t1) (a .start) (a .output .now) (c .before .before .before .before .before .show .result) (c .before .before .before .before .before .show .last .1 .0) (search needs) (omega arith) (c .before .before .before .before .before .show .ensures) _ refl (c .before .shown2 .given .0 .0) (c .before .shown2 .given .1)
+
+enum-known-shown-3 : tie.Need-enum-known-shown-3
+enum-known-shown-3 c = search needs
+
+same-length-3 : tie.Need-same-length-3
+same-length-3 c = search needs
+
+returns-3 : tie.Need-returns-3
+returns-3 c = let a = c .before .before .before .before .before .before .before .before .before .before .args in modelled-refused (a .t1) (a .start) (a .output .now) (c .before .before .before .before .before .show .result) (c .before .before .before .before .before .show .last .1 .0) (search needs) (omega arith) (c .before .before .before .before .before .show .ensures) _ refl (c .before .shown3 .given .0 .0) (c .before .shown3 .given .0 .1 .0) (c .before .shown3 .given .1)
+
+pub show-model-spec : {M : Type 1} → statement M
+show-model-spec =
+    tie.close
+    (tie.spec
+    sub-n
+    sub-show
+    part-show-start
+    part-show-end
+    sub-show-2
+    part-show-start-2
+    part-show-end-2
+    show-requires
+    enum-known-shown
+    same-length
+    returns
+    enum-known-shown-2
+    same-length-2
+    returns-2
+    enum-known-shown-3
+    same-length-3
+    returns-3)

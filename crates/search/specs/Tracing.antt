@@ -1,0 +1,30 @@
+-- The packed trace of an execution, written from its last letter back, since the table leads from a pair to its parent.
+use Prim.Native.Nat.{ℕ, _/_, _%_, _<_}
+use mathlib.Core.List.{List, [], _∷_, map}
+use Rattle.letters.specs.declared.Header.{Header}
+use Rattle.letters.specs.declared.Letter.{Letter}
+use Rattle.letters.specs.Answers.{Answer, value, refusal}
+use Rattle.letters.specs.Editions.{firstEdition}
+use Rattle.letters.specs.Words.{encodeHeader, encodeLetter}
+use Rattle.table.specs.Table.{parentAt}
+
+-- Each pair below n but the first has a parent before it.
+abbrev pub Older : List ℕ → ℕ → Type 0
+Older t n = (j : ℕ) → 0 < j → j < n → parentAt t j < j
+
+-- The word of a header or letter; 0 for one that is not well formed, which is never asked for.
+abbrev pub wordOf : Answer ℕ → ℕ
+wordOf (value w) = w
+wordOf (refusal number place) = 0
+
+-- The bytes of words, two a word.
+unfoldable pub wordBytes : List ℕ → List ℕ
+wordBytes [] = []
+wordBytes (w ∷ ws) = w / 256 ∷ w % 256 ∷ wordBytes ws
+
+abbrev pub letterWords : Header → List Letter → List ℕ
+letterWords h ls = map (λ a. wordOf (encodeLetter firstEdition h a)) ls
+
+-- The bytes of a trace.
+unfoldable pub traced : Header → List Letter → List ℕ
+traced h ls = wordBytes (wordOf (encodeHeader firstEdition h) ∷ letterWords h ls)

@@ -1,0 +1,121 @@
+-- Laws of writing a trace from its end.
+use mathlib.Core.Path.{_≡_, refl, sym, ap, _∙_}
+use Prim.Native.Nat.{ℕ, zero, suc, _+_, _-_, _/_, _%_, _≤_, _<_}
+use native.Mathlib.Omega.{arith}
+use mathlib.Core.List.{List, [], _∷_}
+use lib.ListN.{length, getD, drop, set, length-set, drop-of-length-le}
+use lib.Seq.{drop-cons, drop-set-lt, getD-set-same, getD-set-other}
+use Rattle.letters.specs.declared.Header.{Header}
+use Rattle.letters.specs.declared.Letter.{Letter}
+use Rattle.letters.specs.Editions.{firstEdition}
+use Rattle.letters.specs.Words.{encodeHeader, encodeLetter}
+use Rattle.letters.specs.Putting.{putWord}
+use Rattle.blocks.specs.declared.Point.{Point}
+use Rattle.table.specs.Table.{pointAt, parentAt, branchAt}
+use Rattle.search.specs.declared.Branch as enum
+use Rattle.search.specs.Moves.{branchOf, letterOf, noPoint}
+use Rattle.search.specs.Trails.{letterAt, trailTo, trailOf}
+use Rattle.search.specs.Tracing.{Older, wordOf, wordBytes, letterWords, traced}
+
+-- a word in front of what stands behind it
+pub put-drop : (b : List ℕ) (at w : ℕ) → at + 1 < length b → drop at (putWord b at w) ≡ w / 256 ∷ w % 256 ∷ drop (at + 2) b
+put-drop b at w l =
+    drop-cons (putWord b at w) at 0 (simp length-set (omega arith))
+    ∙ (λ i. first i ∷ rest i)
+  where
+    first : getD (set (set b at (w / 256)) (at + 1) (w % 256)) at 0 ≡ w / 256
+    first = getD-set-other (set b at (w / 256)) (at + 1) at (w % 256) 0 (λ e. omega arith) ∙ getD-set-same b at (w / 256) 0 (omega arith)
+
+    second : getD (set (set b at (w / 256)) (at + 1) (w % 256)) (suc at) 0 ≡ w % 256
+    second = ap (λ n. getD (set (set b at (w / 256)) (at + 1) (w % 256)) n 0) (let e : suc at ≡ at + 1 = omega arith in e)
+        ∙ getD-set-same (set b at (w / 256)) (at + 1) (w % 256) 0 (simp length-set (omega arith))
+
+    behind : drop (suc (suc at)) (set (set b at (w / 256)) (at + 1) (w % 256)) ≡ drop (at + 2) b
+    behind =
+        drop-set-lt (suc (suc at)) (set b at (w / 256)) (at + 1) (w % 256) (omega arith)
+        ∙ drop-set-lt (suc (suc at)) b at (w / 256) (omega arith)
+        ∙ ap (λ n. drop n b) (let e : suc (suc at) ≡ at + 2 = omega arith in e)
+
+    rest : drop (suc at) (set (set b at (w / 256)) (at + 1) (w % 256)) ≡ w % 256 ∷ drop (at + 2) b
+    rest = drop-cons (set (set b at (w / 256)) (at + 1) (w % 256)) (suc at) 0 (simp length-set (omega arith)) ∙ (λ i. second i ∷ behind i)
+
+-- a letter more in front
+module _ (h : Header) (b : List ℕ) (at : ℕ) (rest : List Letter) (e : drop (at + 2) b ≡ wordBytes (letterWords h rest)) (l : at + 1 < length b) where
+  pub letter-before : (a : Letter) (w : ℕ) → w ≡ wordOf (encodeLetter firstEdition h a) → drop at (putWord b at w) ≡ wordBytes (letterWords h (a ∷ rest))
+  unfolding wordBytes
+  letter-before a w f = put-drop b at w l ∙ (λ i. f i / 256 ∷ f i % 256 ∷ e i)
+
+  pub header-before : (w : ℕ) → w ≡ wordOf (encodeHeader firstEdition h) → drop at (putWord b at w) ≡ traced h rest
+  unfolding wordBytes traced
+  header-before w f = put-drop b at w l ∙ (λ i. f i / 256 ∷ f i % 256 ∷ e i)
+
+-- the letters up to a pair, with any number of calls that suffices
+trail-same : (sp : List Point) (t : List ℕ) (n : ℕ) → Older t n → (f g j : ℕ) (rest : List Letter) → j < n → j ≤ f → j ≤ g → trailTo sp t f j rest ≡ trailTo sp t g j rest
+unfolding trailTo
+trail-same sp t n o zero zero j rest l p q = refl
+trail-same sp t n o zero (suc g) zero rest l p q = refl
+trail-same sp t n o zero (suc g) (suc j) rest l p q = absurd (omega arith)
+trail-same sp t n o (suc f) zero zero rest l p q = refl
+trail-same sp t n o (suc f) zero (suc j) rest l p q = absurd (omega arith)
+trail-same sp t n o (suc f) (suc g) zero rest l p q = refl
+trail-same sp t n o (suc f) (suc g) (suc j) rest l p q =
+    let i = o (suc j) (omega arith) l in
+    trail-same sp t n o f g (parentAt t (suc j)) (letterAt sp t (parentAt t (suc j)) (branchAt t (suc j)) ∷ rest) (omega arith) (omega arith) (omega arith)
+
+-- a step from a pair to its parent
+trail-step : (sp : List Point) (t : List ℕ) (n : ℕ) → Older t n → (j : ℕ) (rest : List Letter) → 0 < j → j < n
+    → trailTo sp t (parentAt t j) (parentAt t j) (letterAt sp t (parentAt t j) (branchAt t j) ∷ rest) ≡ trailTo sp t j j rest
+unfolding trailTo
+trail-step sp t n o zero rest l q = absurd (omega arith)
+trail-step sp t n o (suc j) rest l q =
+    let i = o (suc j) (omega arith) q in
+    trail-same sp t n o (parentAt t (suc j)) j (parentAt t (suc j)) (letterAt sp t (parentAt t (suc j)) (branchAt t (suc j)) ∷ rest) (omega arith) (omega arith) (omega arith)
+
+trail-end : (sp : List Point) (t : List ℕ) (rest : List Letter) (j : ℕ) → j ≡ 0 → trailTo sp t j j rest ≡ rest
+unfolding trailTo
+trail-end sp t rest zero e = refl
+trail-end sp t rest (suc j) e = absurd (omega arith)
+
+-- the letter of the branch that was chosen
+pub letter-is : (sp : List Point) (t : List ℕ) (i b : ℕ) (o : enum.Branch) (k : ℕ) → k ≡ pointAt t i → o ≡ branchOf (getD sp (k % 256) noPoint) b → letterOf o ≡ letterAt sp t i b
+unfolding letterAt
+letter-is sp t i b o k e f = ap letterOf f ∙ ap (λ n. letterOf (branchOf (getD sp (n % 256) noPoint) b)) e
+
+-- ── as the loop stores them ──
+module _ (h : Header) (b : List ℕ) (w : ℕ) where
+  -- the last letter
+  pub first-stored : length b ≡ 2050 → (a : Letter) → w ≡ wordOf (encodeLetter firstEdition h a) → drop 2048 (set (set b 2048 (w / 256)) 2049 (w % 256)) ≡ wordBytes (letterWords h (a ∷ []))
+  unfolding wordBytes
+  first-stored l a f = letter-before h b 2048 [] (drop-of-length-le b {i = 2050} (omega arith)) (omega arith) a w f
+
+  -- a letter, or the header, before what stands from `at` on
+  module _ (at : ℕ) (rest : List Letter) (e : drop at b ≡ wordBytes (letterWords h rest)) (p : 2 ≤ at) (q : at ≤ length b) where
+    abbrev place : ℕ
+    place = at - 2
+
+    behind : drop (place + 2) b ≡ wordBytes (letterWords h rest)
+    behind = ap (λ n. drop n b) (let z : at - 2 + 2 ≡ at = omega arith in z) ∙ e
+
+    same-store : set (set b (at - 2) (w / 256)) (at - 1) (w % 256) ≡ putWord b place w
+    same-store = ap (λ n. set (set b (at - 2) (w / 256)) n (w % 256)) (let z : at - 1 ≡ at - 2 + 1 = omega arith in z)
+
+    pub letter-stored : (a : Letter) → w ≡ wordOf (encodeLetter firstEdition h a) → drop (at - 2) (set (set b (at - 2) (w / 256)) (at - 1) (w % 256)) ≡ wordBytes (letterWords h (a ∷ rest))
+    letter-stored a f = ap (drop (at - 2)) same-store ∙ letter-before h b place rest behind (omega arith) a w f
+
+    pub header-stored : w ≡ wordOf (encodeHeader firstEdition h) → drop (at - 2) (set (set b (at - 2) (w / 256)) (at - 1) (w % 256)) ≡ traced h rest
+    header-stored f = ap (drop (at - 2)) same-store ∙ header-before h b place rest behind (omega arith) w f
+
+-- a turn of the loop: from pair j to its parent
+pub trail-turn : (sp : List Point) (t : List ℕ) (n : ℕ) → Older t n → (j parent branch : ℕ) (letter : Letter) (rest whole : List Letter) → 0 < j → j < n
+    → parent ≡ parentAt t j → branch ≡ branchAt t j → letter ≡ letterAt sp t parent branch → trailTo sp t j j rest ≡ whole → trailTo sp t parent parent (letter ∷ rest) ≡ whole
+trail-turn sp t n o j parent branch letter rest whole l q pe be le e =
+    let le′ : letter ≡ letterAt sp t (parentAt t j) (branchAt t j) = le ∙ (λ i. letterAt sp t (pe i) (be i)) in
+    (λ i. trailTo sp t (pe i) (pe i) (le′ i ∷ rest)) ∙ trail-step sp t n o j rest l q ∙ e
+
+pub trail-first : (sp : List Point) (t : List ℕ) (d : ℕ) (letter : Letter) → letter ≡ letterAt sp t (d / 2) (d % 2) → trailTo sp t (d / 2) (d / 2) (letter ∷ []) ≡ trailOf sp t d
+unfolding trailOf
+trail-first sp t d letter e = ap (λ a. trailTo sp t (d / 2) (d / 2) (a ∷ [])) e
+
+-- nothing is left before the first pair
+pub trail-whole : (sp : List Point) (t : List ℕ) (j : ℕ) (rest whole : List Letter) → j ≡ 0 → trailTo sp t j j rest ≡ whole → rest ≡ whole
+trail-whole sp t j rest whole e f = sym (trail-end sp t rest j e) ∙ f

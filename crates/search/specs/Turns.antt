@@ -1,0 +1,59 @@
+-- One move of the search, as its code performs it: what it comes to, and the table afterwards.
+use Prim.Native.Nat.{ℕ, _+_, _*_, _/_, _%_, _≤_, _<_}
+use mathlib.Core.List.{List}
+use lib.Dec.{eqb, leb}
+use Rattle.base.specs.Choice.{pick}
+use Rattle.blocks.specs.declared.Point.{Point}
+use Rattle.window.specs.declared.Window.{Window}
+use Rattle.window.specs.Perform.{judgeOf, performOf}
+use Rattle.records.specs.Records.{encoded, recordOf}
+use Rattle.table.specs.Table.{putAt, windowAt, findOf}
+use Rattle.table.specs.declared.Found.{Found}
+use Rattle.table.specs.declared.Found.the-variants.{At, Nowhere}
+use Rattle.search.specs.declared.Branch.{Branch}
+use Rattle.search.specs.declared.Branch.the-variants.{Nothing, Goes, Fails}
+use Rattle.search.specs.declared.Turn.{Turn}
+use Rattle.search.specs.declared.Turn.the-variants.{On, Full, Breaking, Failing}
+use Rattle.search.specs.Moves.{branchOf}
+
+-- The numbers that a move needs: the table has room for n pairs, of which count are listed, and move number d is at one of these.
+pub record Room (n count d size : ℕ) : Type 0 where
+  pub most : n ≤ 1024
+  pub fits : 192 * n ≤ size
+  pub listed : count ≤ n
+  pub due : d < 2 * count
+
+-- By whether the pair is found.
+abbrev pub onFound : {A : Type 0} → Found → A → A → A
+onFound (At j) a b = a
+onFound Nowhere a b = b
+
+-- Point k is reached with the window w.
+unfoldable pub reachTurn : ℕ → Window → ℕ → ℕ → ℕ → List ℕ → Turn
+reachTurn k w end n count t = pick (leb end k) (λ _. On count) λ _. onFound (findOf t count (encoded k w)) (On count) (pick (eqb count n) (λ _. Full) λ _. On (count + 1))
+
+unfoldable pub reachTable : ℕ → Window → ℕ → ℕ → ℕ → ℕ → List ℕ → List ℕ
+reachTable k w end n count d t =
+    pick (leb end k) (λ _. t) λ _. onFound (findOf t count (encoded k w)) t (pick (eqb count n) (λ _. t) λ _. putAt t count (recordOf (encoded k w) (d / 2) (d % 2)))
+
+-- An assertion fails with the window w.
+unfoldable pub failTurn : Window → ℕ → Turn
+failTurn w count = pick (w .infeasible) (λ _. On count) λ _. Failing
+
+-- A branch is taken with the window w.
+unfoldable pub takenTurn : Branch → Window → ℕ → ℕ → ℕ → List ℕ → Turn
+takenTurn Nothing w end n count t = On count
+takenTurn (Goes a k) w end n count t = pick (judgeOf w a) (λ _. reachTurn k (performOf w a) end n count t) λ _. Breaking
+takenTurn (Fails a) w end n count t = pick (judgeOf w a) (λ _. failTurn (performOf w a) count) λ _. Breaking
+
+unfoldable pub takenTable : Branch → Window → ℕ → ℕ → ℕ → ℕ → List ℕ → List ℕ
+takenTable Nothing w end n count d t = t
+takenTable (Goes a k) w end n count d t = pick (judgeOf w a) (λ _. reachTable k (performOf w a) end n count d t) λ _. t
+takenTable (Fails a) w end n count d t = t
+
+-- Move number d: branch d % 2 of pair d / 2, whose point is x.
+unfoldable pub turnOf : Point → ℕ → ℕ → ℕ → ℕ → List ℕ → Turn
+turnOf x end n count d t = takenTurn (branchOf x (d % 2)) (windowAt t (d / 2)) end n count t
+
+unfoldable pub tableOf : Point → ℕ → ℕ → ℕ → ℕ → List ℕ → List ℕ
+tableOf x end n count d t = takenTable (branchOf x (d % 2)) (windowAt t (d / 2)) end n count d t

@@ -1,0 +1,123 @@
+-- The two readings of the verdict and of demand 3 are one: over finite data models, and over data models of any values.
+-- Document 01: "infinite models change nothing".
+use mathlib.Core.Path.{_≡_, refl}
+use mathlib.Core.Logic.{inl, _↔_, Iff·symm}
+use mathlib.Core.List.{List}
+use Prim.Native.Nat.{ℕ}
+use Rattle.letters.specs.declared.Header.{Header}
+use Rattle.letters.specs.declared.Letter.{Letter}
+use Rattle.letters.specs.Editions.{Edition, firstEdition}
+use Rattle.semantics.specs.Terms.{Trace, begin, State, extend, state}
+use Rattle.semantics.specs.Models.{Feasible}
+use Rattle.semantics.specs.AnyModel.{FeasibleInSomeModel}
+use Rattle.semantics.specs.PackedTables.{RowWidths, firstRowWidths}
+use Rattle.semantics.specs.Facts.{state-valid}
+use Rattle.semantics.specs.PaperLaws.{feasible-anywhere}
+use Rattle.macros.specs.Tree.{Block, ProperBlock}
+use Rattle.macros.specs.Executions.{Failing}
+use Rattle.macros.specs.Order.{Path, Before, AtOrBefore, before-join}
+use Rattle.macros.specs.Walk.{failure}
+use Rattle.macros.specs.Runs.{failing-is}
+use Rattle.macros.specs.Fitting.{Formed, run-formed}
+use Rattle.grammar.specs.Grammar.{Macro, headerOf}
+use Rattle.grammar.specs.Reading.{got, readMacro}
+use Rattle.grammar.specs.Whole.{read-sound}
+use Rattle.verdicts.specs.Counting.{same-lists, same-more}
+use Rattle.verdicts.specs.Verdict.{Answer, Kind, Event, breaks, fails, FirstEvent, EventAt, Leaves, SamePair, PairCount, PairsPass, Shows, Verdict}
+use Rattle.verdicts.specs.Demand3.{pairsIn, Demand3}
+
+-- ── two readings that have the same events ──
+module _ {ℓ κ} (Possible : State → Type ℓ) (Possible′ : State → Type κ) (start : Trace) (m : Block)
+    (there : (ρ : Trace) → Event Possible start m ρ → Event Possible′ start m ρ) (back : (ρ : Trace) → Event Possible′ start m ρ → Event Possible start m ρ) where
+  same-first-event : (ρ : Trace) → FirstEvent Possible start m ρ → FirstEvent Possible′ start m ρ
+  same-first-event ρ x = record { event = there ρ (x .event); least = λ π y. x .least π (back π y) }
+
+  there-at : (p : Path) → EventAt Possible start m p → EventAt Possible′ start m p
+  there-at p (ρ, t, e) = (ρ, t, there ρ e)
+
+  back-at : (p : Path) → EventAt Possible′ start m p → (q : Path) × EventAt Possible start m q × AtOrBefore q p
+  back-at p (ρ, t, e) = (p, (ρ, t, back ρ e), inl refl)
+
+  same-count : (k : ℕ) → PairCount Possible start m k → PairCount Possible′ start m k
+  same-count k (f, x) = (
+    f,
+    same-lists Before before-join (Leaves start m) (Leaves start m) (SamePair start m) (SamePair start m) (EventAt Possible start m) (EventAt Possible′ start m)
+        (λ p l. l) (λ p l. l) (λ p q i j s. s) (λ p q i j s. s) there-at back-at f k x,
+  )
+
+  same-pass : (n : ℕ) → PairsPass Possible start m n → PairsPass Possible′ start m n
+  same-pass = same-more Before before-join (Leaves start m) (Leaves start m) (SamePair start m) (SamePair start m) (EventAt Possible start m) (EventAt Possible′ start m)
+      (λ p l. l) (λ p l. l) (λ p q i j s. s) (λ p q i j s. s) there-at back-at
+
+-- ── two readings that agree on the failing executions of a macro ──
+module _ {ℓ κ} (Possible : State → Type ℓ) (Possible′ : State → Type κ) (start : Trace) (m : Block) where
+  abbrev Agree : Type (ℓ ⊔ κ)
+  Agree = (ρ : Trace) → Failing start m ρ → Possible (state ρ) ↔ Possible′ (state ρ)
+
+  same-event : Agree → (ρ : Trace) → Event Possible start m ρ → Event Possible′ start m ρ
+  same-event a ρ (breaks x b) = breaks x b
+  same-event a ρ (fails x f) = fails x (a ρ x .0 f)
+
+module _ {ℓ κ} (Possible : State → Type ℓ) (Possible′ : State → Type κ) (start : Trace) (m : Block) (agree : Agree Possible Possible′ start m) where
+  there : (ρ : Trace) → Event Possible start m ρ → Event Possible′ start m ρ
+  there = same-event Possible Possible′ start m agree
+
+  back : (ρ : Trace) → Event Possible′ start m ρ → Event Possible start m ρ
+  back = same-event Possible′ Possible start m (λ ρ x. Iff·symm (agree ρ x))
+
+  count : (k : ℕ) → PairCount Possible start m k → PairCount Possible′ start m k
+  count = same-count Possible Possible′ start m there back
+
+  shows : (kind : Kind) (k : ℕ) (ls : List Letter) → Shows Possible start m kind k ls → Shows Possible′ start m kind k ls
+  shows kind k ls x = record {
+    first-event = same-first-event Possible Possible′ start m there back (extend start ls) (x .first-event);
+    of-kind = x .of-kind;
+    count = count k (x .count);
+  }
+
+  -- they give the same verdicts
+  same-verdict : (e : Edition) (w : RowWidths) (n : ℕ) (output : List ℕ) (answer : Answer) (output′ : List ℕ)
+      → Verdict Possible start m e w n output answer output′ → Verdict Possible′ start m e w n output answer output′
+  same-verdict e w n output answer output′ x = record {
+    full-exactly = (
+      λ f. same-pass Possible Possible′ start m there back n (x .full-exactly .0 f),
+      λ y. x .full-exactly .1 (same-pass Possible′ Possible start m back there n y),
+    );
+    full-output = x .full-output;
+    pass-exactly = λ u. (
+      λ p. let (c, s) = x .pass-exactly u .0 p in (c, λ ρ y f. s ρ y (agree ρ y .1 f)),
+      λ (c, s). x .pass-exactly u .1 (c, λ ρ y f. s ρ y (agree ρ y .0 f)),
+    );
+    pass-count = λ k f. let (c, o) = x .pass-count k f in (count k c, o);
+    otherwise = λ u p. let (kind, k, ls, s, d) = x .otherwise u p in (kind, k, ls, shows kind k ls s, d);
+  }
+
+-- ── finite models, and all models ──
+module _ (h : Header) (start : Trace) (m : Block) (formed : Formed h start) (proper : ProperBlock m h) where
+  agree : Agree Feasible FeasibleInSomeModel start m
+  agree ρ x =
+      let (p, e) = failing-is start m ρ .0 x in
+      feasible-anywhere (state ρ) (state-valid ρ (run-formed h start m formed proper p failure ρ e .0))
+
+  -- The verdict on a proper macro.
+  pub verdict-anywhere : (e : Edition) (w : RowWidths) (n : ℕ) (output : List ℕ) (answer : Answer) (output′ : List ℕ)
+      → Verdict Feasible start m e w n output answer output′ ↔ Verdict FeasibleInSomeModel start m e w n output answer output′
+  verdict-anywhere e w n output answer output′ = (
+    same-verdict Feasible FeasibleInSomeModel start m agree e w n output answer output′,
+    same-verdict FeasibleInSomeModel Feasible start m (λ ρ x. Iff·symm (agree ρ x)) e w n output answer output′,
+  )
+
+-- Demand 3: a macro that is read is proper.
+module _ (text table output : List ℕ) (answer : Answer) (table′ output′ : List ℕ) where
+  read-anywhere : (m : Macro) (end : ℕ) → readMacro text ≡ got m end
+      → Verdict Feasible (begin (headerOf m)) (m .body) firstEdition firstRowWidths (pairsIn table) output answer output′
+      ↔ Verdict FeasibleInSomeModel (begin (headerOf m)) (m .body) firstEdition firstRowWidths (pairsIn table) output answer output′
+  read-anywhere m end e =
+      let (l, s, o, k) = read-sound text m end e in
+      verdict-anywhere (headerOf m) (begin (headerOf m)) (m .body) (tt, refl) (o .uses) firstEdition firstRowWidths (pairsIn table) output answer output′
+
+  pub anywhere : Demand3 Feasible text table output answer table′ output′ ↔ Demand3 FeasibleInSomeModel text table output answer table′ output′
+  anywhere = (
+    λ x. record { unread = x .unread; verdict = λ m end e. read-anywhere m end e .0 (x .verdict m end e); zeroed = x .zeroed },
+    λ x. record { unread = x .unread; verdict = λ m end e. read-anywhere m end e .1 (x .verdict m end e); zeroed = x .zeroed },
+  )
