@@ -22,13 +22,19 @@ pub struct Point {
     pub second: u16,
 }
 
-/// How far reading has come: the place of the next byte and the points so far (the count 257 is for more than 256), or the refusal.
+/// How far reading has come.
 pub struct State {
+    /// Whether nothing was refused.
     pub ok: bool,
+    /// The number of the refusal.
     pub number: u8,
+    /// The place of the refusal.
     pub place: usize,
+    /// The place of the next byte.
     pub at: usize,
+    /// How many points were read; 257 for more than 256.
     pub count: u16,
+    /// The points that were read.
     pub points: [Point; 256],
 }
 

@@ -10,15 +10,19 @@ ghost use Rattle.grammar.specs.Reading.{indexOf, unfit, expect as expectAt, use
 ghost use Rattle.tokens.specs.Tokens.{tokenAt};
 ghost use Rattle.phrases.specs.Codes.{coded, plain, nothing, lettered, same, kind, comparing, carried, Few, secondAt, applicationAt};
 
-/// A number that was read, and the place after it; or the number of a refusal and its place.
+/// What reading a number gives.
 pub enum Got {
+    /// The number, and the place after it.
     At(u8, usize),
+    /// The number of a refusal, and its place.
     Refused(u8, usize),
 }
 
-/// A letter that was read, and the place after it; or the number of a refusal and its place.
+/// What reading a letter gives.
 pub enum GotLetter {
+    /// The letter, and the place after it.
     At(Letter, usize),
+    /// The number of a refusal, and its place.
     Refused(u8, usize),
 }
 

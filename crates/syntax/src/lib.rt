@@ -20,41 +20,61 @@ ghost use Rattle.syntax.specs.Answer.{noMacro, answerOf, heldRegisters, 
 ghost use Rattle.syntax.specs.Lists.{taken, Kept, refusedBy};
 ghost use Rattle.syntax.specs.Top.{KeptRegisters, KeptFunctions, Finishes, startOf, flagOf};
 
-/// A macro: what its header says, the names of its registers and functions as declared (the bytes of a name as one number, its first byte
-/// lowest; 0 behind the last), and its points. The count of its points is also the number of the end.
+/// A macro. A name is held as one number, its bytes as digits to base 256, the first byte lowest; 0 stands behind the last name.
 pub struct Macro {
+    /// How many registers and functions it has, and the functions' arities.
     pub header: Header,
+    /// The names of its registers, as declared.
     pub registers: [u64; 8],
+    /// The names of its functions, as declared.
     pub functions: [u64; 4],
+    /// Its points.
     pub points: [Point; 256],
+    /// How many points it has; also the number of the end.
     pub count: u16,
 }
 
-/// What reading a text gives: refusal 0 and the macro; or the number of the refusal, its place, and no macro.
+/// What reading a text gives.
 pub struct Answer {
+    /// The number of the refusal; 0 if there is none.
     pub refusal: u8,
+    /// The place of the refusal; 0 if there is none.
     pub place: usize,
+    /// The macro; one without registers and points beside a refusal.
     pub program: Macro,
 }
 
 /// The registers that were read, or a refusal.
 pub struct Registers {
+    /// Whether nothing was refused.
     pub ok: bool,
+    /// The number of the refusal.
     pub number: u8,
+    /// The place of the refusal.
     pub place: usize,
+    /// The place of the next byte.
     pub at: usize,
+    /// How many there are.
     pub count: usize,
+    /// Their names; 0 behind the last.
     pub names: [u64; 8],
 }
 
 /// The functions that were read, with their arities, or a refusal.
 pub struct Functions {
+    /// Whether nothing was refused.
     pub ok: bool,
+    /// The number of the refusal.
     pub number: u8,
+    /// The place of the refusal.
     pub place: usize,
+    /// The place of the next byte.
     pub at: usize,
+    /// How many there are.
     pub count: usize,
+    /// Their names; 0 behind the last.
     pub names: [u64; 4],
+    /// Their arities, 1 or 2; 0 behind the last.
     pub arities: [u8; 4],
 }
 

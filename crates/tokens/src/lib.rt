@@ -76,10 +76,13 @@ pub const RBRACE: u64 = 0x7d;
 /// The sign `/`.
 pub const SLASH: u64 = 0x2f;
 
-/// A token: its bytes as one number, the place of its first byte and the place behind it.
+/// A token.
 pub struct Token {
+    /// Its bytes as one number, digits to base 256, the first byte lowest; 0 at the end of the text, 1 for what is no token.
     pub key: u64,
+    /// The place of its first byte.
     pub start: usize,
+    /// The place behind it.
     pub end: usize,
 }
 
