@@ -12,4 +12,5 @@ pub mod Trail
 pub mod Demand3
 pub mod Settled
 pub mod Readings
+pub mod CountedPairs
 pub mod Examples

@@ -85,7 +85,7 @@ module _ (start : Trace) (m : Block) where
     pub before : Before path other
 
   -- "A pair is a point still to be performed and a window, as a partial execution leaves them."
-  -- What stands behind an incoherent letter comes after an event, and is not counted: so only coherent ones are looked at.
+  -- Only coherent ones are looked at: what stands behind an incoherent letter comes after an event, and is not counted (`CountedPairs.counted-any`).
   pub record Leaves (p : Path) : Type 0 where
     pub point : ℕ
     pub trace : Trace
