@@ -1,21 +1,25 @@
--- Examples: a macro that passes, a macro on which pass is no right answer, and texts of them.
+-- Examples: a macro that passes, two on which pass is no right answer, and texts. Each wrong version that document 01 names meets a text or macro on which it breaks the record.
 use mathlib.Core.Path.{_≡_, refl, sym, ap, _∙_, subst}
+use mathlib.Core.Bool.{true}
 use mathlib.Core.Logic.{_≢_}
 use mathlib.Core.List.{List, [], _∷_, List·Memᴰ·not-nil, List·Memᴰ·eq-of-singleton}
 use Prim.Native.Nat.{ℕ, zero, suc, _<_}
 use native.Mathlib.Omega.{arith}
+use lib.Dec.{T}
 use lib.ListN.{length, replicate}
 use Rattle.letters.specs.declared.Header.{Header}
-use Rattle.letters.specs.declared.Letter.the-variants.{Unequal}
+use Rattle.letters.specs.declared.Letter.the-variants.{Copy, Apply, Equal, Unequal}
+use Rattle.letters.specs.Letters.{Fits}
 use Rattle.letters.specs.Editions.{Edition, firstEdition}
-use Rattle.semantics.specs.Terms.{_∈_, Term, con, Trace, begin, _▸_, State, state}
+use Rattle.semantics.specs.Terms.{_∈_, Term, con, Trace, begin, _▸_, State, state, WellFormed}
+use Rattle.semantics.specs.Facts.{state-valid}
+use Rattle.semantics.specs.Judge.{feasible, feasible-is}
 use Rattle.semantics.specs.Models.{Model, eval, Feasible}
 use Rattle.semantics.specs.AnyModel.{AnyModel, evalIn, FeasibleInSomeModel}
 use Rattle.semantics.specs.Coherence.{Coherent}
 use Rattle.semantics.specs.PackedTables.{RowWidths, firstRowWidths}
-use Rattle.macros.specs.Tree.{equal, skip, assert, Block, empty, _then_}
-use Rattle.macros.specs.Executions.{Outcome, done, failed, ExecBlock, Partial, Failing, Begins, both, ends, stop, nothing, fails, whole}
-use Rattle.macros.specs.Executions
+use Rattle.macros.specs.Tree.{equal, unequal, skip, perform, assert, while, Block, empty, _then_}
+use Rattle.macros.specs.Executions.{Outcome, done, failed, ExecBlock, Partial, Failing, Begins, both, ends, stop, nothing, letter, fails, leaves, turns, whole}
 use Rattle.macros.specs.Order.{Path, root}
 use Rattle.macros.specs.Points.{size, sizeBlock}
 use Rattle.tokens.specs.Bytes.{gap, width}
@@ -23,9 +27,9 @@ use Rattle.tokens.specs.Bytes
 use Rattle.tokens.specs.Tokens.{tokenAt}
 use Rattle.grammar.specs.Reading.{got, indexOf, condition, tested, block, statement, registers, readText, readMacro}
 use Rattle.grammar.specs.Reading
-use Rattle.verdicts.specs.Verdict.{pass, refused, full, Verdict, PairCount, Leaves}
+use Rattle.verdicts.specs.Verdict.{Answer, pass, refused, full, Verdict, PairCount, Leaves}
 use Rattle.verdicts.specs.Demand3.{pairsIn, Demand3}
-use Rattle.verdicts.specs.Settled.{refused-way, read-way}
+use Rattle.verdicts.specs.Settled.{one-way, refused-way, read-way}
 use Rattle.verdicts.specs.Readings.{anywhere}
 
 module _ (h : Header) (edition : Edition) (widths : RowWidths) (n : ℕ) (output : List ℕ) where
@@ -129,6 +133,41 @@ module _ (h : Header) (edition : Edition) (widths : RowWidths) (n : ℕ) (output
   claim-fails-anywhere : (k : ℕ) (output′ : List ℕ) → ¬ Verdict FeasibleInSomeModel (begin h) claim edition widths n output (pass k) output′
   claim-fails-anywhere = passes-not FeasibleInSomeModel reaches-anywhere
 
+-- ── a failure at the second turn of a loop ──
+-- vars p q r s u v; funs n/1; q := p; r := p; while u != v { r := q; q := s; u := n(u); } assert r = p;
+module _ (edition : Edition) (widths : RowWidths) (n : ℕ) (output : List ℕ) where
+  abbrev six : Header
+  six = record { registers = 6; functions = 1; binary = 0 }
+
+  abbrev turn : Block
+  turn = perform (Copy 2 1) then perform (Copy 1 3) then perform (Apply 4 0 4 4) then empty
+
+  abbrev later : Block
+  later = perform (Copy 1 0) then perform (Copy 2 0) then while (unequal 4 5) turn then assert (equal 2 0) then empty
+
+  abbrev twice : Trace
+  twice = begin six ▸ Copy 1 0 ▸ Copy 2 0 ▸ Unequal 4 5 ▸ Copy 2 1 ▸ Copy 1 3 ▸ Apply 4 0 4 4 ▸ Unequal 4 5 ▸ Copy 2 1 ▸ Copy 1 3 ▸ Apply 4 0 4 4 ▸ Equal 4 5 ▸ Unequal 2 0
+
+  turned : (ρ : Trace) → ExecBlock turn ρ (ρ ▸ Copy 2 1 ▸ Copy 1 3 ▸ Apply 4 0 4 4) done
+  turned ρ = both letter (both letter (both letter stop))
+
+  twice-fails : Failing (begin six) later twice
+  twice-fails = both letter (both letter (both (turns (turned _) (turns (turned _) (leaves refl))) (ends (fails refl))))
+
+  twice-formed : WellFormed twice
+  twice-formed =
+      let f : Fits six (Apply 4 0 4 4) = (omega arith, omega arith, omega arith, omega arith, λ e. refl) in
+      ((((((((((((tt, (omega arith, omega arith)), (omega arith, omega arith)), (omega arith, omega arith)), (omega arith, omega arith)), (omega arith, omega arith)), f), (omega arith, omega arith)), (omega arith, omega arith)), (omega arith, omega arith)), f), (omega arith, omega arith)), (omega arith, omega arith))
+
+  twice-possible : Feasible (state twice)
+  twice-possible = feasible-is (state twice) (state-valid twice twice-formed) .0 (let e : feasible (state twice) ≡ true = refl in subst T (sym e) tt)
+
+  -- a search that tries each loop body a single time passes it, and is wrong
+  second-turn : (k : ℕ) (output′ : List ℕ) → ¬ Verdict Feasible (begin six) later edition widths n output (pass k) output′
+  second-turn k output′ x =
+      let u : pass k ≢ full = λ e. let z : _≡_ {A = ℕ} 0 1 = cc in omega arith in
+      x .pass-exactly u .0 tt .1 twice twice-fails twice-possible
+
 -- ── texts ──
 -- vars x;skip;
 abbrev still-text : List ℕ
@@ -165,3 +204,8 @@ module _ (table output : List ℕ) where
 
   claim-not-met-anywhere : (k : ℕ) (table′ output′ : List ℕ) → ¬ Demand3 FeasibleInSomeModel claim-text table output (pass k) table′ output′
   claim-not-met-anywhere k table′ output′ x = claim-not-met k table′ output′ (anywhere claim-text table output (pass k) table′ output′ .1 x)
+
+  -- So on the first text 14, incoherent, another count of pairs, a table that is not cleared and a changed output are all wrong.
+  still-only {ℓ} : (Possible : State → Type ℓ) (a : Answer) (table′ output′ : List ℕ) → Demand3 Possible still-text table output a table′ output′
+      → (a ≡ pass 0) × (table′ ≡ replicate (length table) 0) × (output′ ≡ output)
+  still-only Possible a table′ output′ x = one-way Possible still-text table output a (pass 0) table′ (replicate (length table) 0) output′ output x (still-met Possible)
