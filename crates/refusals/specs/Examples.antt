@@ -13,11 +13,11 @@ use Rattle.grammar.specs.Spelled.{Spelled, InOrder}
 use Rattle.grammar.specs.Whole.{read-sound}
 
 -- `vars x y; funs n/1; while x != y { x := n(x); } assert x = y;`
-pub loop : List ℕ
+unfoldable pub loop : List ℕ
 loop = 118 ∷ 97 ∷ 114 ∷ 115 ∷ 32 ∷ 120 ∷ 32 ∷ 121 ∷ 59 ∷ 32 ∷ 102 ∷ 117 ∷ 110 ∷ 115 ∷ 32 ∷ 110 ∷ 47 ∷ 49 ∷ 59 ∷ 32 ∷ 119 ∷ 104 ∷ 105 ∷ 108 ∷ 101 ∷ 32 ∷ 120 ∷ 32 ∷ 33 ∷ 61 ∷ 32 ∷ 121 ∷ 32 ∷ 123 ∷ 32 ∷ 120 ∷ 32 ∷ 58 ∷ 61 ∷ 32 ∷ 110 ∷ 40 ∷ 120 ∷ 41 ∷ 59 ∷ 32 ∷ 125 ∷ 32 ∷ 97 ∷ 115 ∷ 115 ∷ 101 ∷ 114 ∷ 116 ∷ 32 ∷ 120 ∷ 32 ∷ 61 ∷ 32 ∷ 121 ∷ 59 ∷ []
 
 -- its macro: registers x and y, the function n of one argument
-pub searched : Macro
+unfoldable pub searched : Macro
 searched = record { registers = 120 ∷ 121 ∷ []; functions = 110 ∷ []; arities = 1 ∷ []; body = while (unequal 0 1) (perform (Apply 0 0 0 0) then empty) then assert (equal 0 1) then empty }
 
 pub loop-read : readMacro loop ≡ got searched 61

@@ -1,4 +1,5 @@
--- The moves of the search in their order, as its code performs them: how it ends, and the table afterwards.
+-- The moves of the search, as its code performs them: how it ends, and the table afterwards. The order is that of document 01, "shorter first, then
+-- by branch": the pairs as they were listed, and at each the first branch before the second. So move number d is branch d % 2 of pair d / 2.
 use Prim.Native.Nat.{ℕ, zero, suc, _+_, _*_, _/_, _%_}
 use mathlib.Core.List.{List}
 use lib.Dec.{ltb, eqb}

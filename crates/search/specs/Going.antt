@@ -1,79 +1,49 @@
 -- What holds before each move of the search, and what a move makes of it.
 use mathlib.Core.Path.{_≡_, refl, sym, ap, _∙_, subst}
 use mathlib.Core.Bool.{Bool, true, false}
-use mathlib.Core.List.{List, [], _∷_}
-use mathlib.Core.Option.{Option, none, some}
+use mathlib.Core.List.{List}
+use mathlib.Core.Option.{Option}
 use Prim.Native.Nat.{ℕ, zero, suc, _+_, _*_, _/_, _%_, _≤_, _<_}
 use native.Mathlib.Omega.{arith}
 use lib.Dec.{eqb, leb, ltb}
-use lib.ListN.{length, getD, getElem?}
-use borrow.Author.Tests.{lt-ltb, le-ltb, ltb-true, ltb-false, leb-true, leb-false, eqb-true, eqb-false, ne-eqb}
+use lib.ListN.{length}
+use borrow.Author.Tests.{lt-ltb, le-ltb, ltb-true, ltb-false, leb-true, leb-false, eqb-true, eqb-false}
 use Rattle.base.specs.Choice.{pick, byTest}
-use Rattle.letters.specs.declared.Header.{Header}
 use Rattle.letters.specs.declared.Letter.{Letter}
 use Rattle.letters.specs.Letters.{Fits}
-use Rattle.semantics.specs.Terms.{Trace, begin, _▸_, State, state}
+use Rattle.semantics.specs.Terms.{Trace, _▸_, state}
+use Rattle.semantics.specs.Facts.{state-valid}
 use Rattle.semantics.specs.Coherence.{Coherent}
-use Rattle.macros.specs.Tree.{Condition, equal, unequal, test, opposite}
 use Rattle.macros.specs.Order.{Branch, Before}
-use Rattle.macros.specs.Walk.{at, failure, Move, no-move, move}
-use Rattle.macros.specs.Points as points
-use Rattle.macros.specs.Points.{moves, moved, moves-at}
+use Rattle.macros.specs.Walk.{at, failure}
+use Rattle.macros.specs.Points.{points, moves-at}
 use Rattle.macros.specs.Fitting.{Formed, FitsMove}
 use Rattle.verdicts.specs.Count.{More}
 use Rattle.verdicts.specs.System.{stop, event, next, Leads, Alike, Meets}
 use Rattle.verdicts.specs.Listing.{turn, Searching, Extends, passes, meets, grows, new-more}
 use Rattle.verdicts.specs.Verdict.{breaking, failing}
-use Rattle.verdicts.specs.Pairs.{Monitor, Step, first-pair, reach, reached, performed, moving, pair-moves}
-use Rattle.blocks.specs.declared.Point.{Point}
-use Rattle.blocks.specs.Held.{heldPoint}
+use Rattle.verdicts.specs.Pairs.{Step, starting, stepping, reach, reached, performed, moving}
 use Rattle.window.specs.declared.Window.{Window}
-use Rattle.window.specs.Perform.{judgeOf, performOf, freshOf}
+use Rattle.window.specs.Perform.{judgeOf, performOf}
+use Rattle.window.specs.Step.{Holds}
 use Rattle.records.specs.Records.{encoded, recordOf}
+use Rattle.records.specs.Storable.{Storable}
 use Rattle.table.specs.Table.{putAt, pointAt, windowAt, parentAt, branchAt, findOf}
+use Rattle.table.specs.TableLaws.{Kept, found as found-pair, nowhere}
 use Rattle.table.specs.declared.Found.{Found}
 use Rattle.table.specs.declared.Found.the-variants.{At, Nowhere}
+use Rattle.stored.specs.Stored.{storable}
 use Rattle.search.specs.declared.Branch as enum
 use Rattle.search.specs.declared.Branch.the-variants.{Nothing, Goes, Fails}
 use Rattle.search.specs.declared.Turn.{Turn}
 use Rattle.search.specs.declared.Turn.the-variants.{On, Full, Breaking, Failing}
-use Rattle.search.specs.Moves.{oppositeOf, branchOf, noPoint}
+use Rattle.search.specs.Moves.{branchOf}
 use Rattle.search.specs.Turns.{onFound, reachTurn, reachTable, failTurn, takenTurn, takenTable, turnOf, tableOf}
 use Rattle.search.specs.Exploring.{pointOf}
-use Rattle.search.specs.Store.{Store, branchNumbered, listed}
-
--- ── the branches of a point as it is stored ──
-abbrev pub meant : enum.Branch → Move ℕ
-meant Nothing = no-move
-meant (Goes a k) = move a (at k)
-meant (Fails a) = move a failure
-
-opposite-is : (c : Condition) → oppositeOf (test c) ≡ opposite c
-unfolding oppositeOf
-opposite-is (equal x y) = refl
-opposite-is (unequal x y) = refl
-
-pub branch-meant : (x : points.Point) (b : ℕ) → meant (branchOf (heldPoint x) b) ≡ moves x (branchNumbered b)
-unfolding branchOf
-branch-meant (points.step a n) zero = refl
-branch-meant (points.step a n) (suc b) = rw (ne-eqb (suc b) 0 λ e. omega arith) refl
-branch-meant (points.check c n) zero = ap (λ a. move a failure) (opposite-is c)
-branch-meant (points.check c n) (suc b) = rw (ne-eqb (suc b) 0 λ e. omega arith) refl
-branch-meant (points.fork c i j) zero = refl
-branch-meant (points.fork c i j) (suc b) = rw (ne-eqb (suc b) 0 λ e. omega arith) (ap (λ a. move a (at j)) (opposite-is c))
-
--- ── what is performed ──
-abbrev pub performing : Window → Letter → Option Window
-performing w a = pick (judgeOf w a) (λ _. some (performOf w a)) λ _. none
-
-performing-yes : (w : Window) (a : Letter) → judgeOf w a ≡ true → performing w a ≡ some (performOf w a)
-performing-yes w a e = rw e refl
-
-performing-no : (w : Window) (a : Letter) → judgeOf w a ≡ false → performing w a ≡ none
-performing-no w a e = rw e refl
-
-abbrev pub infeasibleIn : Window → Bool
-infeasibleIn w = w .infeasible
+use Rattle.search.specs.Store.{branchNumbered, listed, written, others, put-long}
+use Rattle.search.specs.HeldPoints.{meant}
+use Rattle.search.specs.Watching.{performing, performing-yes, performing-no, infeasibleIn}
+use Rattle.search.specs.Given.{Given, header, body, end, held, setting, branch-held, moves-fit}
 
 -- move number d is branch d % 2 of pair d / 2
 pub turn-of : (d : ℕ) → turn (d / 2) (branchNumbered (d % 2)) ≡ d
@@ -84,28 +54,17 @@ turn-of d = go (d % 2) refl
     go (suc zero) e = omega arith
     go (suc (suc r)) e = absurd (omega arith)
 
--- a place within a list
-pub within-list : {A : Type 0} (l : List A) (n : ℕ) → n < length l → (x : A) × (getElem? l n ≡ some x)
-within-list [] n h = absurd (omega arith)
-within-list (x ∷ l) zero h = (x, refl)
-within-list (x ∷ l) (suc n) h = within-list l n (omega arith)
-
--- The search through the points ps of a macro with the header h, stored as sp. `end` is their number.
--- Tracks σ w: w is the window of a trace that leaves the state σ.
-module _ (h : Header) (end : ℕ) (ps : List points.Point) (sp : List Point) (fit : (k : ℕ) (b : Branch) → FitsMove h (moves-at ps k b))
-    (stored : (k : ℕ) (x : points.Point) → getElem? ps k ≡ some x → getD sp k noPoint ≡ heldPoint x) (long : length ps ≡ end) (few : end ≤ 256)
-    (Tracks : State → Window → Type 0) (monitor : Monitor h (begin h) Window Tracks (freshOf (h .registers)) performing infeasibleIn)
-    (Storable : Window → Type 0) (Kept : List ℕ → ℕ → Type 0) (store : Store Storable Kept)
-    (storable : (ρ : Trace) (w : Window) → Formed h ρ → Coherent ρ → Tracks (state ρ) w → Storable w) where
+-- The search for the verdict on a macro.
+module _ (given : Given) where
   abbrev pub starts : Option (ℕ × Window)
-  starts = first-pair (freshOf (h .registers)) end 0
+  starts = starting (setting given)
 
   abbrev pub step : ℕ × Window → Branch → Step Window
-  step = pair-moves performing infeasibleIn end ps
+  step = stepping (setting given)
 
   -- w is the window of a coherent trace.
   abbrev pub Live : Window → Type 0
-  Live w = (ρ : Trace) × Formed h ρ × Coherent ρ × Tracks (state ρ) w
+  Live w = (ρ : Trace) × Formed (header given) ρ × Coherent ρ × Holds (state ρ) w
 
   abbrev pub Passing : ℕ → Type 0
   Passing n = More Before (Leads starts step) (Alike starts step) (Meets starts step) n
@@ -115,7 +74,7 @@ module _ (h : Header) (end : ℕ) (ps : List points.Point) (sp : List Point) (fi
     pub searching : Searching starts step (listed t count) d
     pub kept : (j : ℕ) → j < count → Kept t j
     pub live : (j : ℕ) → j < count → Live (windowAt t j)
-    pub due : (j : ℕ) → j < count → pointAt t j < end
+    pub due : (j : ℕ) → j < count → pointAt t j < end given
     pub within : count ≤ n
     pub behind : d ≤ 2 * count
     pub most : n ≤ 1024
@@ -155,17 +114,17 @@ module _ (h : Header) (end : ℕ) (ps : List points.Point) (sp : List Point) (fi
     stopped e = stays (passes starts step (listed t count) i b here e)
 
     -- a pair that follows
-    module _ (p : ℕ) (v : Window) (e : step (k, w) b ≡ next (p, v)) (lv : Live v) (q : p < end) where
+    module _ (p : ℕ) (v : Window) (e : step (k, w) b ≡ next (p, v)) (lv : Live v) (q : p < end given) where
       fits-record : Storable v
-      fits-record = storable (lv .0) v (lv .1) (lv .2) (lv .3)
+      fits-record = storable (state (lv .0)) (state-valid (lv .0) (lv .1 .0)) v (lv .3)
 
       listed-already : (j : ℕ) → findOf t count (encoded p v) ≡ At j → Going n count (d + 1) t
       listed-already j f =
-          let (r, x, y) = store .seen t count p j v fits-record (omega arith) f in
+          let (r, x, y) = found-pair t count p v j (omega (arith, given .few)) fits-record f in
           stays (meets starts step (listed t count) i b (p, v) j here e r (λ z. (x z, y z)))
 
       new : findOf t count (encoded p v) ≡ Nowhere → (j : ℕ) → j < count → _≡_ {A = ℕ × Window} (pointAt t j, windowAt t j) (p, v) → ⊥
-      new f j r x = store .unseen t count p v f j r (g .kept j r) (ap (λ z. z .0) x) (ap (λ z. z .1) x)
+      new f j r x = nowhere t count p v f j r (g .kept j r) (ap (λ z. z .0) x, ap (λ z. z .1) x)
 
       too-many : findOf t count (encoded p v) ≡ Nowhere → count ≡ n → Passing n
       too-many f x = subst Passing x (new-more starts step (listed t count) i b (p, v) here (omega arith) e (new f))
@@ -181,10 +140,10 @@ module _ (h : Header) (end : ℕ) (ps : List points.Point) (sp : List Point) (fi
         bound = let r = g .most in omega arith
 
         at-new : (pointAt u count ≡ p) × (windowAt u count ≡ v) × (parentAt u count ≡ d / 2) × (branchAt u count ≡ d % 2) × Kept u count
-        at-new = store .written t count p (d / 2) (d % 2) v fits (omega arith) (omega (arith, bound)) (omega arith) fits-record
+        at-new = written t count p (d / 2) (d % 2) v fits fits-record (omega (arith, given .few)) (omega (arith, bound)) (omega arith)
 
         at-old : (j : ℕ) → j < count → (pointAt u j ≡ pointAt t j) × (windowAt u j ≡ windowAt t j) × (parentAt u j ≡ parentAt t j) × (branchAt u j ≡ branchAt t j) × (Kept t j → Kept u j)
-        at-old j r = store .others t count p (d / 2) (d % 2) v j fits fits-record r
+        at-old j r = others t count p (d / 2) (d % 2) v fits fits-record j r
 
         one-more : Extends (listed t count) (p, v) i b (listed u (count + 1))
         one-more = record {
@@ -205,11 +164,11 @@ module _ (h : Header) (end : ℕ) (ps : List points.Point) (sp : List Point) (fi
           searching = onward (count + 1) u (grows starts step (listed t count) i b (p, v) (listed u (count + 1)) here (omega arith) e (new f) one-more);
           kept = by-place (Kept u) (λ j r. at-old j r .4 (g .kept j r)) (at-new .4);
           live = by-place (λ j. Live (windowAt u j)) (λ j r. subst Live (sym (at-old j r .1)) (g .live j r)) (subst Live (sym (at-new .1)) lv);
-          due = by-place (λ j. pointAt u j < end) (λ j r. subst (λ z. z < end) (sym (at-old j r .0)) (g .due j r)) (subst (λ z. z < end) (sym (at-new .0)) q);
+          due = by-place (λ j. pointAt u j < end given) (λ j r. subst (λ z. z < end given) (sym (at-old j r .0)) (g .due j r)) (subst (λ z. z < end given) (sym (at-new .0)) q);
           within = omega arith;
           behind = omega arith;
           most = g .most;
-          room = let y = store .long t count p (d / 2) (d % 2) v fits fits-record in let r = g .room in omega arith;
+          room = let y = put-long t count p (d / 2) (d % 2) v fits fits-record in let r = g .room in omega arith;
         }
 
       found : (o : Found) → findOf t count (encoded p v) ≡ o
@@ -221,20 +180,20 @@ module _ (h : Header) (end : ℕ) (ps : List points.Point) (sp : List Point) (fi
           (λ y. rw y (listed-anew f (let z = eqb-false count n y in let r = g .within in omega arith)))
 
     -- a letter that is coherent: the window after it
-    module _ (a : Letter) (c : Fits h a) (ok : judgeOf w a ≡ true) where
+    module _ (a : Letter) (c : Fits (header given) a) (ok : judgeOf w a ≡ true) where
       live-after : Live (performOf w a)
       live-after =
           let (ρ, f, co, tr) = g .live i (omega arith) in
-          let f′ : Formed h (ρ ▸ a) = ((f .0, subst (λ z. Fits z a) (sym (f .1)) c), f .1) in
-          let (cl, tr′) = monitor .goes ρ a w (performOf w a) f′ co tr (performing-yes w a ok) in
+          let f′ : Formed (header given) (ρ ▸ a) = ((f .0, subst (λ z. Fits z a) (sym (f .1)) c), f .1) in
+          let (cl, tr′) = setting given .monitor .goes ρ a w (performOf w a) f′ co tr (performing-yes w a ok) in
           (ρ ▸ a, f′, (co, cl), tr′)
 
-      reaching : (p : ℕ) → step (k, w) b ≡ reach performing infeasibleIn end p (performOf w a)
-          → Turned n count d t (reachTurn p (performOf w a) end n count t) (reachTable p (performOf w a) end n count d t)
+      reaching : (p : ℕ) → step (k, w) b ≡ reach performing infeasibleIn (end given) p (performOf w a)
+          → Turned n count d t (reachTurn p (performOf w a) (end given) n count t) (reachTable p (performOf w a) (end given) n count d t)
       unfolding reachTurn reachTable
-      reaching p e = byTest (leb end p)
-          (λ y. rw y (stopped (e ∙ at-end (ltb p end) (le-ltb p end (leb-true end p y)))))
-          (λ y. rw y (let q = leb-false end p y in found p (performOf w a) (e ∙ at-pair (ltb p end) (lt-ltb p end q)) live-after q (findOf t count (encoded p (performOf w a))) refl))
+      reaching p e = byTest (leb (end given) p)
+          (λ y. rw y (stopped (e ∙ at-end (ltb p (end given)) (le-ltb p (end given) (leb-true (end given) p y)))))
+          (λ y. rw y (let q = leb-false (end given) p y in found p (performOf w a) (e ∙ at-pair (ltb p (end given)) (lt-ltb p (end given) q)) live-after q (findOf t count (encoded p (performOf w a))) refl))
         where
           at-end : (z : Bool) → z ≡ false → _≡_ {A = Step Window} (elim z [ true ↦ next (p, performOf w a) | false ↦ stop ]) stop
           at-end true z = absurd (let y : _≡_ {A = ℕ} 0 1 = cc in omega arith)
@@ -244,31 +203,23 @@ module _ (h : Header) (end : ℕ) (ps : List points.Point) (sp : List Point) (fi
           at-pair true z = refl
           at-pair false z = absurd (let y : _≡_ {A = ℕ} 0 1 = cc in omega arith)
 
-      failed : step (k, w) b ≡ reached performing infeasibleIn end failure (performOf w a) → Turned n count d t (failTurn (performOf w a) count) t
+      failed : step (k, w) b ≡ reached performing infeasibleIn (end given) failure (performOf w a) → Turned n count d t (failTurn (performOf w a) count) t
       unfolding failTurn
       failed e = byTest (performOf w a .infeasible)
           (λ y. rw y (stopped (e ∙ ap (λ z. elim z [ true ↦ stop | false ↦ event failing ]) y)))
           (λ y. rw y (e ∙ ap (λ z. elim z [ true ↦ stop | false ↦ event failing ]) y, refl))
 
     -- the branch that the move takes
-    taken : (o : enum.Branch) → moves-at ps k b ≡ meant o → Turned n count d t (takenTurn o w end n count t) (takenTable o w end n count d t)
+    taken : (o : enum.Branch) → moves-at (points (body given)) k b ≡ meant o → Turned n count d t (takenTurn o w (end given) n count t) (takenTable o w (end given) n count d t)
     unfolding takenTurn takenTable
-    taken Nothing e = stopped (ap (moving performing infeasibleIn end w) e)
+    taken Nothing e = stopped (ap (moving performing infeasibleIn (end given) w) e)
     taken (Goes a p) e = byTest (judgeOf w a)
-        (λ y. rw y (reaching a (subst (FitsMove h) e (fit k b)) y p (ap (moving performing infeasibleIn end w) e ∙ ap (performed performing infeasibleIn end (at p)) (performing-yes w a y))))
-        (λ y. rw y (ap (moving performing infeasibleIn end w) e ∙ ap (performed performing infeasibleIn end (at p)) (performing-no w a y), refl))
+        (λ y. rw y (reaching a (subst (FitsMove (header given)) e (moves-fit given k b)) y p (ap (moving performing infeasibleIn (end given) w) e ∙ ap (performed performing infeasibleIn (end given) (at p)) (performing-yes w a y))))
+        (λ y. rw y (ap (moving performing infeasibleIn (end given) w) e ∙ ap (performed performing infeasibleIn (end given) (at p)) (performing-no w a y), refl))
     taken (Fails a) e = byTest (judgeOf w a)
-        (λ y. rw y (failed a (subst (FitsMove h) e (fit k b)) y (ap (moving performing infeasibleIn end w) e ∙ ap (performed performing infeasibleIn end failure) (performing-yes w a y))))
-        (λ y. rw y (ap (moving performing infeasibleIn end w) e ∙ ap (performed performing infeasibleIn end failure) (performing-no w a y), refl))
+        (λ y. rw y (failed a (subst (FitsMove (header given)) e (moves-fit given k b)) y (ap (moving performing infeasibleIn (end given) w) e ∙ ap (performed performing infeasibleIn (end given) failure) (performing-yes w a y))))
+        (λ y. rw y (ap (moving performing infeasibleIn (end given) w) e ∙ ap (performed performing infeasibleIn (end given) failure) (performing-no w a y), refl))
 
-    -- the stored point is that of the pair
-    point-stored : meant (branchOf (pointOf sp t (d / 2)) (d % 2)) ≡ moves-at ps k b
-    point-stored =
-        let r = g .due i (omega arith) in
-        let (x, e) = within-list ps k (omega (arith, long)) in
-        let f : k % 256 ≡ k = omega (arith, few) in
-        ap (λ y. meant (branchOf y (d % 2))) (ap (λ z. getD sp z noPoint) f ∙ stored k x e) ∙ branch-meant x (d % 2) ∙ ap (λ o. moved o b) (sym e)
-
-    pub turned : Turned n count d t (turnOf (pointOf sp t (d / 2)) end n count d t) (tableOf (pointOf sp t (d / 2)) end n count d t)
+    pub turned : Turned n count d t (turnOf (pointOf (held given) t (d / 2)) (end given) n count d t) (tableOf (pointOf (held given) t (d / 2)) (end given) n count d t)
     unfolding turnOf tableOf
-    turned = taken (branchOf (pointOf sp t (d / 2)) (d % 2)) (sym point-stored)
+    turned = taken (branchOf (pointOf (held given) t (d / 2)) (d % 2)) (sym (branch-held given k (d % 2) (g .due i (omega arith))))

@@ -10,10 +10,8 @@ use Rattle.grammar.specs.Reading.{Got, got, exhausted, readMacro}
 use Rattle.grammar.specs.Reading
 use Rattle.grammar.specs.Enough.{read-answers}
 use Rattle.grammar.specs.Whole.{read-sound}
-use Rattle.refusals.specs.Refusals.{Reason, wrong, unfitting, declared, used, more-arguments, fewer-arguments, deep}
-use Rattle.refusals.specs.Begins.{text-refused, macro-refused}
+use Rattle.refusals.specs.Order.{refused-refusal, refusal-number}
 use Rattle.syntax.specs.declared.Answer as reading
-use Rattle.syntax.specs.Answer.{heldMacro}
 use Rattle.syntax.specs.Answer as syntax
 use Rattle.verdicts.specs.Verdict.{refused}
 use Rattle.semantics.specs.Models.{Feasible}
@@ -24,27 +22,14 @@ use Rattle.search.specs.declared.Verdict.the-variants.{Refused}
 use Rattle.search.specs.Answering.{answerOf}
 use Rattle.search.specs.MacroSearch.{Readable, Tells, tells-verdict}
 
--- ── no refusal has the number 0 ──
-reason-number : {n k : ℕ} → Reason n k → n ≢ 0
-reason-number wrong e = omega arith
-reason-number (unfitting f) e = omega arith
-reason-number (declared f) e = omega arith
-reason-number (used f) e = omega arith
-reason-number more-arguments e = omega arith
-reason-number fewer-arguments e = omega arith
-reason-number deep e = omega arith
-
-refusal-number : (s : List ℕ) (n p : ℕ) → readMacro s ≡ Reading.refused n p → n ≢ 0
-refusal-number s n p h = elim (macro-refused s n p h) [
-  | inl g ↦ elim (text-refused s n p g) [ inl (a, b, c) ↦ λ e. omega arith | inr (a, r) ↦ reason-number (r .reason) ]
-  | inr (m, a, b, c, d, e) ↦ λ f. omega arith
-]
-
 -- The text was read, with this answer.
 module _ (text : List ℕ) (read : reading.Answer) (told : read ≡ syntax.answerOf (readMacro text)) where
   not-refused : {n p : ℕ} → read .refusal ≡ 0 → readMacro text ≡ Reading.refused n p → ⊥
   unfolding syntax.answerOf
-  not-refused {n} {p} e f = refusal-number text n p f (sym (ap (λ r. r .refusal) (told ∙ ap syntax.answerOf f)) ∙ e)
+  not-refused {n} {p} e f =
+      let (a, b) = refusal-number n p (refused-refusal text n p f) in
+      let i = ap (λ r. r .refusal) (told ∙ ap syntax.answerOf f) in
+      omega arith
 
   not-got : {m : Macro} {f : ℕ} → read .refusal ≢ 0 → readMacro text ≡ got m f → ⊥
   unfolding syntax.answerOf
@@ -55,7 +40,7 @@ module _ (text : List ℕ) (read : reading.Answer) (told : read ≡ syntax.answe
   readable e = go (readMacro text) refl
     where
       go : (g : Got Macro) → readMacro text ≡ g → Readable (read .program)
-      go (got m f) i = let (l, s, o, few) = read-sound text m f i in (m, record { held = sym (ap (λ r. r .program) (told ∙ ap syntax.answerOf i)); in-order = o; few = few })
+      go (got m f) i = let (l, s, o, few) = read-sound text m f i in (record { macro = m; in-order = o; few = few }, sym (ap (λ r. r .program) (told ∙ ap syntax.answerOf i)))
       go (Reading.refused n p) i = absurd (not-refused e i)
       go exhausted i = absurd (read-answers text i)
 
@@ -77,6 +62,6 @@ module _ (text : List ℕ) (read : reading.Answer) (told : read ≡ syntax.answe
       unread = λ n p i. absurd (not-refused e i);
       verdict = λ m f i.
           let (l, s, o, few) = read-sound text m f i in
-          tells-verdict (read .program) m (record { held = sym (ap (λ r. r .program) (told ∙ ap syntax.answerOf i)); in-order = o; few = few }) table output r output′ y;
+          tells-verdict (read .program) (record { macro = m; in-order = o; few = few }) (sym (ap (λ r. r .program) (told ∙ ap syntax.answerOf i))) table output r output′ y;
       zeroed = λ m f i. z;
     })

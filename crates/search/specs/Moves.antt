@@ -1,4 +1,4 @@
--- The branches of a point as the reader stores it.
+-- The branches of a point as the reader stores it. Document 01: "At a branch the condition as written comes first; at an assert, the failing letter."
 use mathlib.Core.Path.{_≡_, sym, _∙_, subst}
 use Prim.Native.Nat.{ℕ}
 use mathlib.Core.List.{List}

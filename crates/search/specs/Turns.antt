@@ -1,4 +1,4 @@
--- One move of the search, as its code performs it: what it comes to, and the table afterwards.
+-- One move of the search (document 01, "The search for a verdict"), as its code performs it: what it comes to, and the table afterwards.
 use Prim.Native.Nat.{ℕ, _+_, _*_, _/_, _%_, _≤_, _<_}
 use mathlib.Core.List.{List}
 use lib.Dec.{eqb, leb}
@@ -28,7 +28,7 @@ abbrev pub onFound : {A : Type 0} → Found → A → A → A
 onFound (At j) a b = a
 onFound Nowhere a b = b
 
--- Point k is reached with the window w.
+-- Point k is reached with the window w: a pair, unless k is the end. Of the count of pairs: "full is given exactly when it passes N".
 unfoldable pub reachTurn : ℕ → Window → ℕ → ℕ → ℕ → List ℕ → Turn
 reachTurn k w end n count t = pick (leb end k) (λ _. On count) λ _. onFound (findOf t count (encoded k w)) (On count) (pick (eqb count n) (λ _. Full) λ _. On (count + 1))
 
@@ -36,11 +36,11 @@ unfoldable pub reachTable : ℕ → Window → ℕ → ℕ → ℕ → ℕ → L
 reachTable k w end n count d t =
     pick (leb end k) (λ _. t) λ _. onFound (findOf t count (encoded k w)) t (pick (eqb count n) (λ _. t) λ _. putAt t count (recordOf (encoded k w) (d / 2) (d % 2)))
 
--- An assertion fails with the window w.
+-- An assertion fails with the window w. "Infeasible executions are followed too", and are no event.
 unfoldable pub failTurn : Window → ℕ → Turn
 failTurn w count = pick (w .infeasible) (λ _. On count) λ _. Failing
 
--- A branch is taken with the window w.
+-- A branch is taken with the window w. "A failing letter that is itself incoherent counts as incoherent."
 unfoldable pub takenTurn : Branch → Window → ℕ → ℕ → ℕ → List ℕ → Turn
 takenTurn Nothing w end n count t = On count
 takenTurn (Goes a k) w end n count t = pick (judgeOf w a) (λ _. reachTurn k (performOf w a) end n count t) λ _. Breaking

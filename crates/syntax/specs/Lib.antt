@@ -1,3 +1,4 @@
 pub mod Answer
 pub mod Lists
 pub mod Top
+pub mod Reads

@@ -12,12 +12,13 @@ ghost use Prim.Native.Nat.{_≤_};
 ghost use lib.Dec.{eqb};
 ghost use lib.ListN.{take, length};
 ghost use Rattle.grammar.specs.Grammar.{binaryOf};
-ghost use Rattle.grammar.specs.Reading.{refused, known, listedT, registers as registersAt, functions as functionsAt, functionsT, arityOf, readMacro};
+ghost use Rattle.grammar.specs.Reading.{refused, known, listedT, registers as registersAt, functions as functionsAt, functionsT, arityOf};
 ghost use Rattle.tokens.specs.Tokens.{tokenAt};
 ghost use Rattle.phrases.specs.Codes.{plain};
 ghost use Rattle.blocks.specs.Held.{unused};
 ghost use Rattle.syntax.specs.Answer.{noMacro, answerOf, heldRegisters, heldFunctions, unfitNumber, bodyFrom, functionsFrom};
 ghost use Rattle.syntax.specs.Lists.{taken, Kept, refusedBy};
+ghost use Rattle.syntax.specs.Reads.{Reads};
 ghost use Rattle.syntax.specs.Top.{KeptRegisters, KeptFunctions, Finishes, startOf, flagOf};
 
 /// A macro. A name is held as one number, its bytes as digits to base 256, the first byte lowest; 0 stands behind the last name.
@@ -436,7 +437,7 @@ fn read_rest(text: &[u8], rs: Registers) -> Answer
 
 /// Reads a macro: question 7, then the text token by token (8 to 12), then the count of points (13).
 pub fn read(text: &[u8]) -> Answer
-    ensures { λ r. ⌜ r ≡ answerOf (readMacro (now (text .entry))) ⌝ }
+    ensures { λ r. ⌜ Reads (now (text .entry)) r ⌝ }
 {
     if 4096 < text.len() {
         return refused_answer(7, 0);

@@ -1,3 +1,4 @@
+use Rattle.syntax.specs.Reads.{reads}
 use Rattle.syntax.specs.Top as law
 use borrow.Author.Needs.{needs}
 use Rattle.syntax.proofs.read.Statement.{statement}
@@ -14,7 +15,7 @@ refused-answer-requires : tie.Need-refused-answer-requires
 refused-answer-requires c κs = search needs
 
 returns : tie.Need-returns
-returns c = law.read-long _ (c .before .if1 .taken) _ (c .refused-answer .ensures)
+returns c = reads _ _ (law.read-long _ (c .before .if1 .taken) _ (c .refused-answer .ensures))
 
 expect-requires : tie.Need-expect-requires
 expect-requires c κs = search needs
@@ -29,7 +30,7 @@ refused-text-requires : tie.Need-refused-text-requires
 refused-text-requires c κs = search needs
 
 returns-2 : tie.Need-returns-2
-returns-2 c = law.read-vars _ (c .before .before .before .before .if1 .left) _ (c .before .before .before .expect .ensures) _ _ ((c .before .enum-told .given) .1) _ (c .refused-text .ensures)
+returns-2 c = reads _ _ (law.read-vars _ (c .before .before .before .before .if1 .left) _ (c .before .before .before .expect .ensures) _ _ ((c .before .enum-told .given) .1) _ (c .refused-text .ensures))
 
 read-registers-requires : tie.Need-read-registers-requires
 read-registers-requires c κs = search needs
@@ -38,13 +39,13 @@ read-rest-requires : tie.Need-read-rest-requires
 read-rest-requires c κs = law.names-kept _ (c .before .before .before .before .before .before .if1 .left) _ (c .before .before .before .before .before .expect .ensures) _ _ ((c .before .before .before .g .given) .1) _ (c .before .read-registers .ensures) (c .if2 .taken)
 
 returns-3 : tie.Need-returns-3
-returns-3 c = law.read-rest _ (c .before .before .before .before .before .before .before .if1 .left) _ (c .before .before .before .before .before .before .expect .ensures) _ _ ((c .before .before .before .before .g .given) .1) _ (c .before .before .read-registers .ensures) (c .before .if2 .taken) _ (c .read-rest .ensures)
+returns-3 c = reads _ _ (law.read-rest _ (c .before .before .before .before .before .before .before .if1 .left) _ (c .before .before .before .before .before .before .expect .ensures) _ _ ((c .before .before .before .before .g .given) .1) _ (c .before .before .read-registers .ensures) (c .before .if2 .taken) _ (c .read-rest .ensures))
 
 refused-answer-requires-2 : tie.Need-refused-answer-requires-2
 refused-answer-requires-2 c κs = search needs
 
 returns-4 : tie.Need-returns-4
-returns-4 c = law.read-refused _ (c .before .before .before .before .before .before .before .if1 .left) _ (c .before .before .before .before .before .before .expect .ensures) _ _ ((c .before .before .before .before .g .given) .1) _ (c .before .before .read-registers .ensures) (c .before .if2 .left) _ (c .refused-answer2 .ensures)
+returns-4 c = reads _ _ (law.read-refused _ (c .before .before .before .before .before .before .before .if1 .left) _ (c .before .before .before .before .before .before .expect .ensures) _ _ ((c .before .before .before .before .g .given) .1) _ (c .before .before .read-registers .ensures) (c .before .if2 .left) _ (c .refused-answer2 .ensures))
 
 pub read-spec : {M : Type 1} → statement M
 read-spec =

@@ -1,15 +1,16 @@
--- The search for the verdict on a macro that the reader has read, with its points as the reader holds them.
+-- The points of a macro as the reader holds them: their branches, their places, and that their letters lie within the packing.
 use mathlib.Core.Path.{_≡_, refl, sym, ap, _∙_, subst}
 use mathlib.Core.List.{List, [], _∷_, _++_, map}
 use mathlib.Core.Option.{Option, none, some}
-use Prim.Native.Nat.{ℕ, zero, suc, _+_, _-_, _≤_}
+use Prim.Native.Nat.{ℕ, zero, suc, _≤_}
 use native.Mathlib.Omega.{arith}
 use lib.ListN.{getD, getElem?, replicate}
 use borrow.Author.Tests.{ne-eqb}
 use Rattle.letters.specs.declared.Header.{Header}
-use Rattle.macros.specs.Tree.{Block, ProperBlock}
+use Rattle.macros.specs.Tree.{Condition, equal, unequal, test, opposite, Block, ProperBlock}
+use Rattle.macros.specs.Walk.{at, failure, Move, no-move, move}
 use Rattle.macros.specs.Points as points
-use Rattle.macros.specs.Points.{moved, moves-at}
+use Rattle.macros.specs.Points.{moves, moved, moves-at}
 use Rattle.macros.specs.Fitting.{FitsMove, points-fit}
 use Rattle.blocks.specs.declared.Point.{Point}
 use Rattle.blocks.specs.Held.{heldPoint, unused}
@@ -17,9 +18,28 @@ use Rattle.window.specs.Perform.{Within}
 use Rattle.window.specs.Step.{fits-within}
 use Rattle.search.specs.declared.Branch as enum
 use Rattle.search.specs.declared.Branch.the-variants.{Nothing, Goes, Fails}
-use Rattle.search.specs.Moves.{branchOf, letterOf, noPoint, AllWithin}
+use Rattle.search.specs.Moves.{oppositeOf, branchOf, letterOf, noPoint, AllWithin}
 use Rattle.search.specs.Store.{branchNumbered}
-use Rattle.search.specs.Going.{meant, branch-meant}
+
+-- ── the branches of a point as it is stored ──
+abbrev pub meant : enum.Branch → Move ℕ
+meant Nothing = no-move
+meant (Goes a k) = move a (at k)
+meant (Fails a) = move a failure
+
+opposite-is : (c : Condition) → oppositeOf (test c) ≡ opposite c
+unfolding oppositeOf
+opposite-is (equal x y) = refl
+opposite-is (unequal x y) = refl
+
+pub branch-meant : (x : points.Point) (b : ℕ) → meant (branchOf (heldPoint x) b) ≡ moves x (branchNumbered b)
+unfolding branchOf
+branch-meant (points.step a n) zero = refl
+branch-meant (points.step a n) (suc b) = rw (ne-eqb (suc b) 0 λ e. omega arith) refl
+branch-meant (points.check c n) zero = ap (λ a. move a failure) (opposite-is c)
+branch-meant (points.check c n) (suc b) = rw (ne-eqb (suc b) 0 λ e. omega arith) refl
+branch-meant (points.fork c i j) zero = refl
+branch-meant (points.fork c i j) (suc b) = rw (ne-eqb (suc b) 0 λ e. omega arith) (ap (λ a. move a (at j)) (opposite-is c))
 
 -- ── the points in the table ──
 unused-at : (n k : ℕ) → getD (replicate n unused) k noPoint ≡ noPoint

@@ -1,0 +1,104 @@
+-- Questions 8 to 12, each as a predicate on the tokens before a token and the token itself: when its answer is no. Question 11 looks at the next token too.
+-- A token is its number; 0 stands for the end of the text, and 1 for what is no token.
+use mathlib.Core.Path.{_≡_}
+use mathlib.Core.Logic.{_⊎_}
+use Prim.Native.Nat.{ℕ, _+_, _≤_, _<_}
+use mathlib.Core.Bool.{true}
+use mathlib.Core.List.{List, [], _∷_, _++_}
+use lib.Dec.{eqb}
+use lib.ListN.{length, getD}
+use Rattle.base.specs.Choice.{pick}
+use Rattle.tokens.specs.Words.{isName}
+use Rattle.tokens.specs.Words as word
+use Rattle.grammar.specs.Grammar.{entryTokens, functionTokens}
+use Rattle.grammar.specs.Spelled.{Arities}
+use Rattle.refusals.specs.Sentences.{Sentence, Viable}
+
+-- "Fits the grammar? 9 (at the text's length if it ends early)."
+pub data Unfit (before : List ℕ) (k : ℕ) : Type 0 where
+  early : k ≡ 0 → (Sentence before → ⊥) → Unfit before k
+  misplaced : (k ≡ 0 → ⊥) → (Viable (before ++ k ∷ []) → ⊥) → Unfit before k
+
+-- ---- where the tokens so far end
+
+-- Each is a name.
+abbrev pub Names : List ℕ → Type 0
+Names ks = (i : ℕ) → i < length ks → isName (getD ks i 0) ≡ true
+
+-- behind `vars` and the names rs
+pub record InRegisters (before rs : List ℕ) : Type 0 where
+  pub registers : Names rs
+  pub split : before ≡ word.vars ∷ rs
+
+-- behind the line of the registers rs, `funs` and the entries of the functions fs, which take ns arguments
+pub record InFunctions (before rs fs ns : List ℕ) : Type 0 where
+  pub registers : Names rs
+  pub functions : Names fs
+  pub arities : Arities fs ns
+  pub split : before ≡ word.vars ∷ (rs ++ word.semicolon ∷ word.funs ∷ entryTokens fs ns)
+
+-- behind both lines, of which the second may be absent, and the tokens `body`; a line of functions that has begun is no statement
+pub record InStatements (before rs fs ns : List ℕ) : Type 0 where
+  pub registers : Names rs
+  pub functions : Names fs
+  pub arities : Arities fs ns
+  pub body : List ℕ
+  pub split : before ≡ word.vars ∷ (rs ++ word.semicolon ∷ (functionTokens fs ns ++ body))
+  pub begun : getD body 0 0 ≡ word.funs → ⊥
+
+-- ---- 10
+
+abbrev pub Among : ℕ → List ℕ → Type 0
+Among k ks = (i : ℕ) × (i < length ks) × (getD ks i 0 ≡ k)
+
+-- "Within eight registers and four functions, each name declared once? 10."
+pub data Redeclared (before : List ℕ) (k : ℕ) : Type 0 where
+  register : {rs : List ℕ} → InRegisters before rs → isName k ≡ true → Among k rs ⊎ (8 ≤ length rs) → Redeclared before k
+  function : {rs fs ns : List ℕ} → InFunctions before rs fs ns → isName k ≡ true → (Among k rs ⊎ Among k fs) ⊎ (4 ≤ length fs) → Redeclared before k
+
+-- ---- 11
+
+-- the last token
+abbrev pub Behind : List ℕ → ℕ → Type 0
+Behind before k = (ws : List ℕ) × (before ≡ ws ++ k ∷ [])
+
+-- "after `:=` a name is a function if the next token is `(`, else a register"
+abbrev pub FunctionDue : List ℕ → ℕ → Type 0
+FunctionDue before next = Behind before word.becomes × (next ≡ word.lparen)
+
+-- behind `f(b`
+abbrev pub Called : List ℕ → ℕ → Type 0
+Called before f = (ws : List ℕ) × (b : ℕ) × (before ≡ ws ++ f ∷ word.lparen ∷ b ∷ [])
+
+-- f is declared with n arguments
+abbrev pub Takes : List ℕ → List ℕ → ℕ → ℕ → Type 0
+Takes fs ns f n = (i : ℕ) × (i < length fs) × (getD fs i 0 ≡ f) × (getD ns i 0 ≡ n)
+
+-- "A use declared, of the right sort? 11 (..; a wrong argument count stands at the `,` or `)`)."
+pub data Misused (before : List ℕ) (k next : ℕ) : Type 0 where
+  register : {rs fs ns : List ℕ} → InStatements before rs fs ns → isName k ≡ true → (FunctionDue before next → ⊥) → (Among k rs → ⊥) → Misused before k next
+  function : {rs fs ns : List ℕ} → InStatements before rs fs ns → isName k ≡ true → FunctionDue before next → (Among k fs → ⊥) → Misused before k next
+  more-arguments : {rs fs ns : List ℕ} {f : ℕ} → InStatements before rs fs ns → Called before f → Takes fs ns f 1 → k ≡ word.comma → Misused before k next
+  fewer-arguments : {rs fs ns : List ℕ} {f : ℕ} → InStatements before rs fs ns → Called before f → Takes fs ns f 2 → k ≡ word.rparen → Misused before k next
+
+-- ---- 12
+
+-- how many tokens of the list are k
+abbrev pub count : ℕ → List ℕ → ℕ
+count k [] = 0
+count k (j ∷ js) = pick (eqb j k) (λ _. 1) (λ _. 0) + count k js
+
+-- "Braces at most 16 deep? 12."
+pub record TooDeep (before : List ℕ) (k : ℕ) : Type 0 where
+  pub brace : k ≡ word.lbrace
+  pub deep : 16 + count word.rbrace before ≤ count word.lbrace before
+
+-- ---- the questions by their numbers
+
+pub data No : ℕ → List ℕ → ℕ → ℕ → Type 0 where
+  -- "a token, and no name over eight bytes? 8"
+  no-token : {before : List ℕ} {k next : ℕ} → k ≡ 1 → No 8 before k next
+  unfit : {before : List ℕ} {k next : ℕ} → Unfit before k → No 9 before k next
+  redeclared : {before : List ℕ} {k next : ℕ} → Redeclared before k → No 10 before k next
+  misused : {before : List ℕ} {k next : ℕ} → Misused before k next → No 11 before k next
+  too-deep : {before : List ℕ} {k next : ℕ} → TooDeep before k → No 12 before k next
