@@ -24,9 +24,9 @@ use Rattle.verdicts.specs.Pairs.{first-pair, moving, meets-failing}
 use Rattle.verdicts.specs.Answers.{answers-full, answers-pass, answers-event}
 use Rattle.window.specs.declared.Window.{Window}
 use Rattle.table.specs.Table.{pointAt, windowAt, parentAt, branchAt}
-use Rattle.search.specs.declared.Branch as enum
-use Rattle.search.specs.declared.Branch.the-variants.{Nothing, Goes, Fails}
-use Rattle.search.specs.Moves.{branchOf, letterOf}
+use Rattle.search.specs.declared.PointMove as enum
+use Rattle.search.specs.declared.PointMove.the-variants.{Nothing, Goes, Fails}
+use Rattle.search.specs.Moves.{moveOf, letterOf}
 use Rattle.search.specs.Exploring.{pointOf}
 use Rattle.search.specs.Store.{branchNumbered, listed}
 use Rattle.search.specs.HeldPoints.{meant}
@@ -36,7 +36,7 @@ use Rattle.search.specs.Going.{turn-of, starts, step, Passing, Going}
 use Rattle.search.specs.Explored.{Met}
 use Rattle.search.specs.Trails.{letterAt, trailTo, trailOf}
 
-letter-meant : (o : enum.Branch) → letter-of (meant o) ≡ letterOf o
+letter-meant : (o : enum.PointMove) → letter-of (meant o) ≡ letterOf o
 letter-meant Nothing = refl
 letter-meant (Goes a k) = refl
 letter-meant (Fails a) = refl
@@ -52,7 +52,7 @@ module _ (given : Given) (n : ℕ) (kind : Kind) (k d : ℕ) (t : List ℕ) (met
   -- the letter at a listed pair
   letter-stored : (i b : ℕ) → i < k → letter-of (moves-at (points (body given)) (pointAt t i) (branchNumbered b)) ≡ letterAt (held given) t i b
   unfolding letterAt
-  letter-stored i b q = ap letter-of (sym (branch-held given (pointAt t i) b (met .going .due i q))) ∙ letter-meant (branchOf (pointOf (held given) t i) b)
+  letter-stored i b q = ap letter-of (sym (branch-held given (pointAt t i) b (met .going .due i q))) ∙ letter-meant (moveOf (pointOf (held given) t i) b)
 
   -- the letters along the parents are those of the table
   trail-is : (f j : ℕ) (rest : List Letter) → j < k → extend (letters-to start (points (body given)) (listed t k) f j) rest ≡ extend start (trailTo (held given) t f j rest)

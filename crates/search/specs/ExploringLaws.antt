@@ -15,13 +15,13 @@ use Rattle.table.specs.Table.{windowAt, findOf, putAt}
 use Rattle.table.specs.declared.Found.{Found}
 use Rattle.table.specs.declared.Found.the-variants.{At, Nowhere}
 use Rattle.blocks.specs.declared.Point.{Point}
-use Rattle.search.specs.declared.Branch.{Branch}
-use Rattle.search.specs.declared.Branch.the-variants.{Nothing, Goes, Fails}
+use Rattle.search.specs.declared.PointMove.{PointMove}
+use Rattle.search.specs.declared.PointMove.the-variants.{Nothing, Goes, Fails}
 use Rattle.search.specs.declared.Turn.{Turn}
 use Rattle.search.specs.declared.Turn.the-variants.{On, Full, Breaking, Failing}
 use Rattle.search.specs.declared.Search.{Search}
 use Rattle.search.specs.declared.Search.the-variants as found
-use Rattle.search.specs.Moves.{branchOf}
+use Rattle.search.specs.Moves.{moveOf}
 use Rattle.search.specs.Turns.{onFound, reachTurn, failTurn, takenTurn, turnOf, tableOf}
 use Rattle.search.specs.Exploring.{pointOf, onTurn, exploreFrom, exploreOf, searchOf}
 
@@ -46,7 +46,7 @@ module _ (n count : ℕ) (l : count ≤ n) where
   unfolding failTurn
   fail-within w = byTest (w .infeasible) (λ e. rw e (omega arith, omega arith)) (λ e. rw e tt)
 
-  taken-within : (b : Branch) (w : Window) (end : ℕ) (t : List ℕ) → Within count n (takenTurn b w end n count t)
+  taken-within : (b : PointMove) (w : Window) (end : ℕ) (t : List ℕ) → Within count n (takenTurn b w end n count t)
   unfolding takenTurn
   taken-within Nothing w end t = (omega arith, omega arith)
   taken-within (Goes a k) w end t = byTest (judgeOf w a) (λ e. rw e (reach-within k (performOf w a) end t)) (λ e. rw e tt)
@@ -54,7 +54,7 @@ module _ (n count : ℕ) (l : count ≤ n) where
 
   pub turn-within : (x : Point) (end d : ℕ) (t : List ℕ) → Within count n (turnOf x end n count d t)
   unfolding turnOf
-  turn-within x end d t = taken-within (branchOf x (d % 2)) (windowAt t (d / 2)) end t
+  turn-within x end d t = taken-within (moveOf x (d % 2)) (windowAt t (d / 2)) end t
 
 -- ── the loop ──
 module _ (ps : List Point) (end n count d : ℕ) (t : List ℕ) where

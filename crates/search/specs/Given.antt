@@ -20,7 +20,7 @@ use Rattle.verdicts.specs.Pairs.{Setting}
 use Rattle.window.specs.declared.Window.{Window}
 use Rattle.window.specs.Perform.{freshOf}
 use Rattle.window.specs.Step.{Holds}
-use Rattle.search.specs.Moves.{branchOf, noPoint}
+use Rattle.search.specs.Moves.{moveOf, noPoint}
 use Rattle.search.specs.Store.{branchNumbered}
 use Rattle.search.specs.HeldPoints.{meant, branch-meant, held-at}
 use Rattle.search.specs.Watching.{performing, infeasibleIn, watches}
@@ -73,11 +73,11 @@ module _ (given : Given) where
   }
 
   -- the branches that are held are the macro's
-  pub branch-held : (k b : ℕ) → k < end → meant (branchOf (getD held (k % 256) noPoint) b) ≡ moves-at (points.points body) k (branchNumbered b)
+  pub branch-held : (k b : ℕ) → k < end → meant (moveOf (getD held (k % 256) noPoint) b) ≡ moves-at (points.points body) k (branchNumbered b)
   branch-held k b l =
       let (x, e) = within-list (points.points body) k (omega (arith, compileBlock-length body 0 end)) in
       let f : k % 256 ≡ k = omega (arith, given .few) in
-      ap (λ y. meant (branchOf y b)) (ap (λ z. getD held z noPoint) f ∙ held-at (points.points body) (256 - length (map heldPoint (points.points body))) k x e)
+      ap (λ y. meant (moveOf y b)) (ap (λ z. getD held z noPoint) f ∙ held-at (points.points body) (256 - length (map heldPoint (points.points body))) k x e)
       ∙ branch-meant x b ∙ ap (λ o. moved o (branchNumbered b)) (sym e)
 
   -- their letters fit

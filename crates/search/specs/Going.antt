@@ -33,11 +33,11 @@ use Rattle.table.specs.TableLaws.{Kept, found as found-pair, nowhere}
 use Rattle.table.specs.declared.Found.{Found}
 use Rattle.table.specs.declared.Found.the-variants.{At, Nowhere}
 use Rattle.stored.specs.Stored.{storable}
-use Rattle.search.specs.declared.Branch as enum
-use Rattle.search.specs.declared.Branch.the-variants.{Nothing, Goes, Fails}
+use Rattle.search.specs.declared.PointMove as enum
+use Rattle.search.specs.declared.PointMove.the-variants.{Nothing, Goes, Fails}
 use Rattle.search.specs.declared.Turn.{Turn}
 use Rattle.search.specs.declared.Turn.the-variants.{On, Full, Breaking, Failing}
-use Rattle.search.specs.Moves.{branchOf}
+use Rattle.search.specs.Moves.{moveOf}
 use Rattle.search.specs.Turns.{onFound, reachTurn, reachTable, failTurn, takenTurn, takenTable, turnOf, tableOf}
 use Rattle.search.specs.Exploring.{pointOf}
 use Rattle.search.specs.Store.{branchNumbered, listed, written, others, put-long}
@@ -210,7 +210,7 @@ module _ (given : Given) where
           (λ y. rw y (e ∙ ap (λ z. elim z [ true ↦ stop | false ↦ event failing ]) y, refl))
 
     -- the branch that the move takes
-    taken : (o : enum.Branch) → moves-at (points (body given)) k b ≡ meant o → Turned n count d t (takenTurn o w (end given) n count t) (takenTable o w (end given) n count d t)
+    taken : (o : enum.PointMove) → moves-at (points (body given)) k b ≡ meant o → Turned n count d t (takenTurn o w (end given) n count t) (takenTable o w (end given) n count d t)
     unfolding takenTurn takenTable
     taken Nothing e = stopped (ap (moving performing infeasibleIn (end given) w) e)
     taken (Goes a p) e = byTest (judgeOf w a)
@@ -222,4 +222,4 @@ module _ (given : Given) where
 
     pub turned : Turned n count d t (turnOf (pointOf (held given) t (d / 2)) (end given) n count d t) (tableOf (pointOf (held given) t (d / 2)) (end given) n count d t)
     unfolding turnOf tableOf
-    turned = taken (branchOf (pointOf (held given) t (d / 2)) (d % 2)) (sym (branch-held given k (d % 2) (g .due i (omega arith))))
+    turned = taken (moveOf (pointOf (held given) t (d / 2)) (d % 2)) (sym (branch-held given k (d % 2) (g .due i (omega arith))))

@@ -16,13 +16,13 @@ use Rattle.blocks.specs.declared.Point.{Point}
 use Rattle.blocks.specs.Held.{heldPoint, unused}
 use Rattle.window.specs.Perform.{Within}
 use Rattle.window.specs.Step.{fits-within}
-use Rattle.search.specs.declared.Branch as enum
-use Rattle.search.specs.declared.Branch.the-variants.{Nothing, Goes, Fails}
-use Rattle.search.specs.Moves.{oppositeOf, branchOf, letterOf, noPoint, AllWithin}
+use Rattle.search.specs.declared.PointMove as enum
+use Rattle.search.specs.declared.PointMove.the-variants.{Nothing, Goes, Fails}
+use Rattle.search.specs.Moves.{oppositeOf, moveOf, letterOf, noPoint, AllWithin}
 use Rattle.search.specs.Store.{branchNumbered}
 
 -- ── the branches of a point as it is stored ──
-abbrev pub meant : enum.Branch → Move ℕ
+abbrev pub meant : enum.PointMove → Move ℕ
 meant Nothing = no-move
 meant (Goes a k) = move a (at k)
 meant (Fails a) = move a failure
@@ -32,8 +32,8 @@ unfolding oppositeOf
 opposite-is (equal x y) = refl
 opposite-is (unequal x y) = refl
 
-pub branch-meant : (x : points.Point) (b : ℕ) → meant (branchOf (heldPoint x) b) ≡ moves x (branchNumbered b)
-unfolding branchOf
+pub branch-meant : (x : points.Point) (b : ℕ) → meant (moveOf (heldPoint x) b) ≡ moves x (branchNumbered b)
+unfolding moveOf
 branch-meant (points.step a n) zero = refl
 branch-meant (points.step a n) (suc b) = rw (ne-eqb (suc b) 0 λ e. omega arith) refl
 branch-meant (points.check c n) zero = ap (λ a. move a failure) (opposite-is c)
@@ -58,13 +58,13 @@ held-past (y ∷ ps) n zero e = absurd (let z : _≡_ {A = ℕ} 0 1 = cc in omeg
 held-past (y ∷ ps) n (suc k) e = held-past ps n k e
 
 -- ── their letters lie within the packing ──
-copy-within : (b : ℕ) → Within (letterOf (branchOf noPoint b))
-unfolding branchOf
+copy-within : (b : ℕ) → Within (letterOf (moveOf noPoint b))
+unfolding moveOf
 copy-within zero = (omega arith, omega arith)
 copy-within (suc b) = rw (ne-eqb (suc b) 0 λ e. omega arith) (omega arith, omega arith)
 
 module _ (h : Header) (registers : h .registers ≤ 8) (functions : h .functions ≤ 4) where
-  meant-within : (o : enum.Branch) → FitsMove h (meant o) → Within (letterOf o)
+  meant-within : (o : enum.PointMove) → FitsMove h (meant o) → Within (letterOf o)
   meant-within Nothing f = (omega arith, omega arith)
   meant-within (Goes a k) f = fits-within h a registers functions f
   meant-within (Fails a) f = fits-within h a registers functions f
@@ -72,9 +72,9 @@ module _ (h : Header) (registers : h .registers ≤ 8) (functions : h .functions
   pub all-within : (m : Block) → ProperBlock m h → (n : ℕ) → AllWithin (map heldPoint (points.points m) ++ replicate n unused)
   all-within m p n k b = go (getElem? (points.points m) k) refl
     where
-      go : (o : Option points.Point) → getElem? (points.points m) k ≡ o → Within (letterOf (branchOf (getD (map heldPoint (points.points m) ++ replicate n unused) k noPoint) b))
-      go none e = subst (λ x. Within (letterOf (branchOf x b))) (sym (held-past (points.points m) n k e)) (copy-within b)
+      go : (o : Option points.Point) → getElem? (points.points m) k ≡ o → Within (letterOf (moveOf (getD (map heldPoint (points.points m) ++ replicate n unused) k noPoint) b))
+      go none e = subst (λ x. Within (letterOf (moveOf x b))) (sym (held-past (points.points m) n k e)) (copy-within b)
       go (some x) e =
           let f : FitsMove h (moves-at (points.points m) k (branchNumbered b)) = points-fit h m p k (branchNumbered b) in
-          let g : FitsMove h (meant (branchOf (heldPoint x) b)) = subst (FitsMove h) (ap (λ o. moved o (branchNumbered b)) e ∙ sym (branch-meant x b)) f in
-          subst (λ x. Within (letterOf (branchOf x b))) (sym (held-at (points.points m) n k x e)) (meant-within (branchOf (heldPoint x) b) g)
+          let g : FitsMove h (meant (moveOf (heldPoint x) b)) = subst (FitsMove h) (ap (λ o. moved o (branchNumbered b)) e ∙ sym (branch-meant x b)) f in
+          subst (λ x. Within (letterOf (moveOf x b))) (sym (held-at (points.points m) n k x e)) (meant-within (moveOf (heldPoint x) b) g)

@@ -9,8 +9,8 @@ use Rattle.base.specs.Choice.{pick}
 use Rattle.letters.specs.declared.Letter.{Letter}
 use Rattle.letters.specs.declared.Letter.the-variants.{Copy, Apply, Equal, Unequal}
 use Rattle.blocks.specs.declared.Point.{Point}
-use Rattle.search.specs.declared.Branch.{Branch}
-use Rattle.search.specs.declared.Branch.the-variants.{Nothing, Goes, Fails}
+use Rattle.search.specs.declared.PointMove.{PointMove}
+use Rattle.search.specs.declared.PointMove.the-variants.{Nothing, Goes, Fails}
 
 -- The letter that tests the opposite.
 unfoldable pub oppositeOf : Letter → Letter
@@ -19,15 +19,15 @@ oppositeOf (Apply x f y z) = Apply x f y z
 oppositeOf (Equal x y) = Unequal x y
 oppositeOf (Unequal x y) = Equal x y
 
--- Branch b of a point, 0 the first.
-unfoldable pub branchOf : Point → ℕ → Branch
-branchOf x b =
+-- What branch b of a point performs, 0 the first.
+unfoldable pub moveOf : Point → ℕ → PointMove
+moveOf x b =
     pick (eqb (x .kind) 0) (λ _. pick (eqb b 0) (λ _. Goes (x .letter) (x .first)) λ _. Nothing) λ _.
     pick (eqb (x .kind) 1) (λ _. pick (eqb b 0) (λ _. Fails (oppositeOf (x .letter))) λ _. Goes (x .letter) (x .first)) λ _.
     pick (eqb b 0) (λ _. Goes (x .letter) (x .first)) λ _. Goes (oppositeOf (x .letter)) (x .second)
 
 -- The letter of a branch; where there is none, a copy that is never asked for.
-abbrev pub letterOf : Branch → Letter
+abbrev pub letterOf : PointMove → Letter
 letterOf Nothing = Copy 0 0
 letterOf (Goes a k) = a
 letterOf (Fails a) = a
@@ -38,10 +38,10 @@ noPoint = record { kind = 0; letter = Copy 0 0; first = 0; second = 0 }
 
 -- The fields of every letter that is performed lie within the packing.
 abbrev pub AllWithin : List Point → Type 0
-AllWithin ps = (k b : ℕ) → Within (letterOf (branchOf (getD ps k noPoint) b))
+AllWithin ps = (k b : ℕ) → Within (letterOf (moveOf (getD ps k noPoint) b))
 
-pub within-goes : (o : Branch) (x : Point) (b : ℕ) (a : Letter) (k : ℕ) → o ≡ branchOf x b → o ≡ Goes a k → Within (letterOf (branchOf x b)) → Within a
+pub within-goes : (o : PointMove) (x : Point) (b : ℕ) (a : Letter) (k : ℕ) → o ≡ moveOf x b → o ≡ Goes a k → Within (letterOf (moveOf x b)) → Within a
 within-goes o x b a k e f w = subst (λ z. Within (letterOf z)) (sym e ∙ f) w
 
-pub within-fails : (o : Branch) (x : Point) (b : ℕ) (a : Letter) → o ≡ branchOf x b → o ≡ Fails a → Within (letterOf (branchOf x b)) → Within a
+pub within-fails : (o : PointMove) (x : Point) (b : ℕ) (a : Letter) → o ≡ moveOf x b → o ≡ Fails a → Within (letterOf (moveOf x b)) → Within a
 within-fails o x b a e f w = subst (λ z. Within (letterOf z)) (sym e ∙ f) w

@@ -4,12 +4,12 @@ use mathlib.Core.List.{List, [], _∷_}
 use Rattle.letters.specs.declared.Letter.{Letter}
 use Rattle.blocks.specs.declared.Point.{Point}
 use Rattle.table.specs.Table.{parentAt, branchAt}
-use Rattle.search.specs.Moves.{branchOf, letterOf}
+use Rattle.search.specs.Moves.{moveOf, letterOf}
 use Rattle.search.specs.Exploring.{pointOf}
 
 -- The letter that branch b performs at pair i.
 unfoldable pub letterAt : List Point → List ℕ → ℕ → ℕ → Letter
-letterAt sp t i b = letterOf (branchOf (pointOf sp t i) b)
+letterAt sp t i b = letterOf (moveOf (pointOf sp t i) b)
 
 -- The letters up to pair j, and then those of `rest`. f is at least j.
 unfoldable pub trailTo : List Point → List ℕ → ℕ → ℕ → List Letter → List Letter

@@ -13,11 +13,11 @@ use Rattle.records.specs.Records.{encoded, recordOf}
 use Rattle.table.specs.Table.{putAt, windowAt, findOf}
 use Rattle.table.specs.declared.Found.{Found}
 use Rattle.table.specs.declared.Found.the-variants.{At, Nowhere}
-use Rattle.search.specs.declared.Branch.{Branch}
-use Rattle.search.specs.declared.Branch.the-variants.{Nothing, Goes, Fails}
+use Rattle.search.specs.declared.PointMove.{PointMove}
+use Rattle.search.specs.declared.PointMove.the-variants.{Nothing, Goes, Fails}
 use Rattle.search.specs.declared.Turn.{Turn}
 use Rattle.search.specs.declared.Turn.the-variants.{On, Full, Breaking}
-use Rattle.search.specs.Moves.{branchOf}
+use Rattle.search.specs.Moves.{moveOf}
 use Rattle.search.specs.Turns.{reachTurn, reachTable, failTurn, takenTurn, takenTable, turnOf, tableOf}
 
 -- ── a point is reached ──
@@ -49,7 +49,7 @@ module _ (k : ℕ) (w : Window) (end n count d : ℕ) (t : List ℕ) where
     )
 
 -- ── a move ──
-module _ (x : Point) (end n count d : ℕ) (t : List ℕ) (b : Branch) (e : b ≡ branchOf x (d % 2)) where
+module _ (x : Point) (end n count d : ℕ) (t : List ℕ) (b : PointMove) (e : b ≡ moveOf x (d % 2)) where
   abbrev Turned : Turn → List ℕ → Type 0
   Turned r t′ = (r ≡ turnOf x end n count d t) × (t′ ≡ tableOf x end n count d t)
 

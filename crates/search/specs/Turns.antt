@@ -10,11 +10,11 @@ use Rattle.records.specs.Records.{encoded, recordOf}
 use Rattle.table.specs.Table.{putAt, windowAt, findOf}
 use Rattle.table.specs.declared.Found.{Found}
 use Rattle.table.specs.declared.Found.the-variants.{At, Nowhere}
-use Rattle.search.specs.declared.Branch.{Branch}
-use Rattle.search.specs.declared.Branch.the-variants.{Nothing, Goes, Fails}
+use Rattle.search.specs.declared.PointMove.{PointMove}
+use Rattle.search.specs.declared.PointMove.the-variants.{Nothing, Goes, Fails}
 use Rattle.search.specs.declared.Turn.{Turn}
 use Rattle.search.specs.declared.Turn.the-variants.{On, Full, Breaking, Failing}
-use Rattle.search.specs.Moves.{branchOf}
+use Rattle.search.specs.Moves.{moveOf}
 
 -- The numbers that a move needs: the table has room for n pairs, of which count are listed, and move number d is at one of these.
 pub record Room (n count d size : ℕ) : Type 0 where
@@ -41,19 +41,19 @@ unfoldable pub failTurn : Window → ℕ → Turn
 failTurn w count = pick (w .infeasible) (λ _. On count) λ _. Failing
 
 -- A branch is taken with the window w. "A failing letter that is itself incoherent counts as incoherent."
-unfoldable pub takenTurn : Branch → Window → ℕ → ℕ → ℕ → List ℕ → Turn
+unfoldable pub takenTurn : PointMove → Window → ℕ → ℕ → ℕ → List ℕ → Turn
 takenTurn Nothing w end n count t = On count
 takenTurn (Goes a k) w end n count t = pick (judgeOf w a) (λ _. reachTurn k (performOf w a) end n count t) λ _. Breaking
 takenTurn (Fails a) w end n count t = pick (judgeOf w a) (λ _. failTurn (performOf w a) count) λ _. Breaking
 
-unfoldable pub takenTable : Branch → Window → ℕ → ℕ → ℕ → ℕ → List ℕ → List ℕ
+unfoldable pub takenTable : PointMove → Window → ℕ → ℕ → ℕ → ℕ → List ℕ → List ℕ
 takenTable Nothing w end n count d t = t
 takenTable (Goes a k) w end n count d t = pick (judgeOf w a) (λ _. reachTable k (performOf w a) end n count d t) λ _. t
 takenTable (Fails a) w end n count d t = t
 
 -- Move number d: branch d % 2 of pair d / 2, whose point is x.
 unfoldable pub turnOf : Point → ℕ → ℕ → ℕ → ℕ → List ℕ → Turn
-turnOf x end n count d t = takenTurn (branchOf x (d % 2)) (windowAt t (d / 2)) end n count t
+turnOf x end n count d t = takenTurn (moveOf x (d % 2)) (windowAt t (d / 2)) end n count t
 
 unfoldable pub tableOf : Point → ℕ → ℕ → ℕ → ℕ → List ℕ → List ℕ
-tableOf x end n count d t = takenTable (branchOf x (d % 2)) (windowAt t (d / 2)) end n count d t
+tableOf x end n count d t = takenTable (moveOf x (d % 2)) (windowAt t (d / 2)) end n count d t

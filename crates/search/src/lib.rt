@@ -14,7 +14,7 @@ ghost use mathlib.Core.Path.{_≡_};
 ghost use Prim.Native.Nat.{_+_, _*_, _/_, _%_, _≤_, _<_};
 ghost use lib.ListN.{length, drop};
 ghost use mathlib.Core.List.{_++_};
-ghost use Rattle.search.specs.Moves.{oppositeOf, branchOf, letterOf, AllWithin};
+ghost use Rattle.search.specs.Moves.{oppositeOf, moveOf, letterOf, AllWithin};
 ghost use Rattle.window.specs.Perform.{Within};
 ghost use Rattle.search.specs.Turns.{Room, reachTurn, reachTable, failTurn, turnOf, tableOf};
 ghost use Rattle.search.specs.Exploring.{exploreOf, searchOf};
@@ -30,7 +30,7 @@ ghost use Rattle.verdicts.specs.Verdict.{breaking, failing};
 ghost use Rattle.search.specs.MacroSearch.{Readable, Tells};
 
 /// What a branch of a point performs.
-pub enum Branch {
+pub enum PointMove {
     /// No letter: the point has no such branch.
     Nothing,
     /// A letter, and then the point of this number is due.
@@ -94,27 +94,27 @@ fn opposite(letter: Letter) -> Letter
     }
 }
 
-// Branch b of a point, 0 the first. At an assert the failing letter comes first.
-fn choose(point: Point, b: usize) -> Branch
-    ensures { λ r. ⌜ r ≡ branchOf point b ⌝ }
+// What branch b of a point performs, 0 the first. At an assert the failing letter comes first.
+fn choose(point: Point, b: usize) -> PointMove
+    ensures { λ r. ⌜ r ≡ moveOf point b ⌝ }
 {
     let letter = point.letter;
     if point.kind == 0 {
         if b == 0 {
-            return Branch::Goes(letter, point.first as usize);
+            return PointMove::Goes(letter, point.first as usize);
         }
-        return Branch::Nothing;
+        return PointMove::Nothing;
     }
     if point.kind == 1 {
         if b == 0 {
-            return Branch::Fails(opposite(letter));
+            return PointMove::Fails(opposite(letter));
         }
-        return Branch::Goes(letter, point.first as usize);
+        return PointMove::Goes(letter, point.first as usize);
     }
     if b == 0 {
-        return Branch::Goes(letter, point.first as usize);
+        return PointMove::Goes(letter, point.first as usize);
     }
-    Branch::Goes(opposite(letter), point.second as usize)
+    PointMove::Goes(opposite(letter), point.second as usize)
 }
 
 // The window w is left at point k: a pair, unless k is the end. It is listed if it is new and there is room.
@@ -161,15 +161,15 @@ fn fail(w: Window, count: usize) -> Turn
 
 // Performs move number d: branch d % 2 of pair d / 2, whose point this is.
 fn one_move(point: Point, end: usize, table: &mut [u8], n: usize, count: usize, d: usize) -> Turn
-    requires { ⌜ Room n count d (length (now table)) × Within (letterOf (branchOf point (d % 2))) ⌝ }
+    requires { ⌜ Room n count d (length (now table)) × Within (letterOf (moveOf point (d % 2))) ⌝ }
     ensures { λ r. ⌜ (r ≡ turnOf point end n count d (now (table .entry))) × (now (table .exit) ≡ tableOf point end n count d (now (table .entry))) ⌝ }
 {
     let chosen = choose(point, d % 2);
     match chosen {
-        Branch::Nothing => {
+        PointMove::Nothing => {
             return Turn::On(count);
         }
-        Branch::Goes(letter, k) => {
+        PointMove::Goes(letter, k) => {
             let w = table::window_at(table, d / 2);
             if window::judge(w, letter) {
                 let after = window::perform(w, letter);
@@ -177,7 +177,7 @@ fn one_move(point: Point, end: usize, table: &mut [u8], n: usize, count: usize, 
             }
             return Turn::Breaking;
         }
-        Branch::Fails(letter) => {
+        PointMove::Fails(letter) => {
             let w = table::window_at(table, d / 2);
             if window::judge(w, letter) {
                 let after = window::perform(w, letter);
@@ -260,16 +260,16 @@ fn letter_at(points: [Point; 256], table: &[u8], i: usize, b: usize) -> Letter
     let point = points[k % 256];
     let chosen = choose(point, b);
     match chosen {
-        Branch::Nothing => {
+        PointMove::Nothing => {
             return Letter::Copy {
                 target: 0,
                 source: 0,
             };
         }
-        Branch::Goes(letter, next) => {
+        PointMove::Goes(letter, next) => {
             return letter;
         }
-        Branch::Fails(letter) => {
+        PointMove::Fails(letter) => {
             return letter;
         }
     }

@@ -1,5 +1,5 @@
 use Rattle.base.specs.Choice.{decide}
-use Rattle.search.specs.Moves.{branchOf}
+use Rattle.search.specs.Moves.{moveOf}
 use borrow.Author.Needs.{needs}
 use Rattle.search.proofs.choose.Statement.{statement}
 use Rattle.search.proofs.choose.Tie as tie
@@ -11,32 +11,32 @@ cast-t6 : tie.Need-cast-t6
 cast-t6 c = search needs
 
 returns : tie.Need-returns
-unfolding branchOf
+unfolding moveOf
 returns c = search decide
 
 returns-2 : tie.Need-returns-2
-unfolding branchOf
+unfolding moveOf
 returns-2 c = search decide
 
 opposite-requires : tie.Need-opposite-requires
 opposite-requires c κs = search needs
 
 returns-3 : tie.Need-returns-3
-unfolding branchOf
+unfolding moveOf
 returns-3 c = search (decide, ← c .opposite .ensures)
 
 cast-t9 : tie.Need-cast-t9
 cast-t9 c = search needs
 
 returns-4 : tie.Need-returns-4
-unfolding branchOf
+unfolding moveOf
 returns-4 c = search decide
 
 cast-t10 : tie.Need-cast-t10
 cast-t10 c = search needs
 
 returns-5 : tie.Need-returns-5
-unfolding branchOf
+unfolding moveOf
 returns-5 c = search decide
 
 opposite-requires-2 : tie.Need-opposite-requires-2
@@ -46,7 +46,7 @@ cast-t12 : tie.Need-cast-t12
 cast-t12 c = search needs
 
 returns-6 : tie.Need-returns-6
-unfolding branchOf
+unfolding moveOf
 returns-6 c = search (decide, ← c .before .opposite2 .ensures)
 
 pub choose-spec : {M : Type 1} → statement M
