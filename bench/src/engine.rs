@@ -1,4 +1,4 @@
-//! The whole-trace engine beside a closure in Rust and z3.
+//! The whole-trace engine beside a closure in Rust and SMT solvers.
 
 use std::time::Duration;
 
@@ -8,9 +8,9 @@ use oracle::library::{self, MODEL_ANSWER};
 use oracle::model::Shown;
 use oracle::trace::Trace;
 
-use crate::solver::{script, solve};
+use crate::solver::{SOLVERS, script};
 use crate::time::{mean, micros, ratio};
-use crate::traces::{coherent, euclid, leaves, two_chains, typical};
+use crate::traces::{coherent, euclid, leaves, levels, merges, parted, two_chains, typical};
 
 /// Bytes that hold every model.
 const ROOM: usize = 8192;
@@ -18,34 +18,42 @@ const ROOM: usize = 8192;
 /// How a trace of so many letters is made.
 type Maker = fn(usize) -> Trace;
 
-const KINDS: [(&str, Maker); 5] = [
+const KINDS: [(&str, Maker); 8] = [
     ("coherent", |length| coherent(Header::new(8, &[1, 2, 1, 2]), [4, 4, 2, 2], length)),
     ("typical", typical),
     ("two chains", two_chains),
     ("euclid", euclid),
     ("leaves", leaves),
+    ("parted", parted),
+    ("merges", merges),
+    ("levels", levels),
 ];
+
+/// A script that asks nothing: what a solver takes for it is its start.
+const NOTHING: &str = "(set-logic QF_UF)\n(check-sat)\n";
 
 /// Prints the engine's table.
 pub fn table() {
-    let start = solve("(check-sat)\n").map(|(time, _)| time);
-    println!("Whole-trace engine (microseconds)");
-    let heads = ["letters", "proved", "Rust", "ratio", "z3", "without start"];
-    let [letters, proved, rust, ratio, whole, alone] = heads;
-    println!("{:<14}{letters:>8}{proved:>12}{rust:>12}{ratio:>10}{whole:>12}{alone:>15}", "trace");
+    let starts = SOLVERS.map(|solver| solver.solve(NOTHING).map(|(time, _)| time));
+    println!("Whole-trace engine (microseconds; of a solver the shortest of five runs)");
+    print!("{:<12}{:>8}{:>10}{:>10}{:>8}", "trace", "letters", "proved", "Rust", "ratio");
+    SOLVERS.iter().for_each(|solver| print!("{:>10}{:>10}", solver.name, "no start"));
+    println!();
     for (name, make) in KINDS {
         for length in [64, 128, 256, 512, 1024] {
-            line(name, &make(length), start);
+            line(name, &make(length), &starts);
         }
     }
-    match start {
-        None => println!("z3 is not installed"),
-        Some(time) => println!("z3's start alone takes {:.0}", micros(time)),
+    for (solver, start) in SOLVERS.iter().zip(starts) {
+        match start {
+            None => println!("{} is not installed", solver.name),
+            Some(time) => println!("the start of {} alone takes {:.0}", solver.name, micros(time)),
+        }
     }
     println!();
 }
 
-fn line(name: &str, trace: &Trace, start: Option<Duration>) {
+fn line(name: &str, trace: &Trace, starts: &[Option<Duration>]) {
     let bytes = trace.pack();
     let mut out = vec![0; ROOM];
     let mut answer = [0; MODEL_ANSWER];
@@ -62,12 +70,17 @@ fn line(name: &str, trace: &Trace, start: Option<Duration>) {
             "sat"
         }
     };
-    let solved = solve(&script(trace)).map_or(format!("{:>12}{:>15}", "-", "-"), |(time, found)| {
-        assert_eq!(found, feasible);
-        let alone = time.saturating_sub(start.unwrap_or_default());
-        format!("{:>12.0}{:>15.0}", micros(time), micros(alone))
-    });
     let letters = trace.letters.len();
     let (left, right) = (micros(proved), micros(rust));
-    println!("{name:<14}{letters:>8}{left:>12.1}{right:>12.1}{:>10.2}{solved}", ratio(proved, rust));
+    print!("{name:<12}{letters:>8}{left:>10.1}{right:>10.1}{:>8.2}", ratio(proved, rust));
+    for (solver, start) in SOLVERS.iter().zip(starts) {
+        let Some((time, found)) = solver.solve(&script(trace)) else {
+            print!("{:>10}{:>10}", "-", "-");
+            continue;
+        };
+        assert_eq!(found, feasible, "{} on {name}", solver.name);
+        let alone = time.saturating_sub(start.unwrap_or_default());
+        print!("{:>10.0}{:>10.0}", micros(time), micros(alone));
+    }
+    println!();
 }

@@ -1,4 +1,4 @@
-//! A trace as an SMT-LIB script, and z3's answer where z3 is installed.
+//! A trace as an SMT-LIB script, and the answers of the solvers that are installed.
 
 use std::fmt::Write as _;
 use std::io::Write as _;
@@ -37,20 +37,46 @@ pub fn script(trace: &Trace) -> String {
     out + "(check-sat)\n"
 }
 
-/// z3's time for a script, its start included, and its answer; none if there is
-/// no z3.
+/// A solver that reads a script from its standard input.
 #[allow(dead_code)]
-pub fn solve(script: &str) -> Option<(Duration, String)> {
-    let (time, answer) = once(|| {
-        let mut child = Command::new("z3")
-            .args(["-smt2", "-in"])
-            .stdin(Stdio::piped())
-            .stdout(Stdio::piped())
-            .spawn()
-            .ok()?;
-        child.stdin.take()?.write_all(script.as_bytes()).ok()?;
-        let output = child.wait_with_output().ok()?;
-        Some(String::from_utf8_lossy(&output.stdout).trim().to_string())
-    });
-    answer.map(|answer| (time, answer))
+pub struct Solver {
+    /// The name of the program.
+    pub name: &'static str,
+    /// Its arguments.
+    arguments: &'static [&'static str],
+}
+
+/// The solvers that are asked, where they are installed.
+#[allow(dead_code)]
+pub const SOLVERS: [Solver; 2] = [
+    Solver { name: "z3", arguments: &["-smt2", "-in"] },
+    Solver { name: "cvc5", arguments: &["--lang=smt2", "-"] },
+];
+
+/// Runs of a solver, of which the shortest counts.
+const RUNS: usize = 5;
+
+impl Solver {
+    /// The shortest time of some runs over a script, the program's start included,
+    /// and the answer; none if the program is not installed.
+    #[allow(dead_code)]
+    pub fn solve(&self, script: &str) -> Option<(Duration, String)> {
+        let runs: Option<Vec<_>> = (0..RUNS).map(|_| self.run(script)).collect();
+        runs?.into_iter().min_by_key(|(time, _)| *time)
+    }
+
+    fn run(&self, script: &str) -> Option<(Duration, String)> {
+        let (time, answer) = once(|| {
+            let mut child = Command::new(self.name)
+                .args(self.arguments)
+                .stdin(Stdio::piped())
+                .stdout(Stdio::piped())
+                .spawn()
+                .ok()?;
+            child.stdin.take()?.write_all(script.as_bytes()).ok()?;
+            let output = child.wait_with_output().ok()?;
+            Some(String::from_utf8_lossy(&output.stdout).trim().to_string())
+        });
+        answer.map(|answer| (time, answer))
+    }
 }

@@ -1,4 +1,4 @@
-//! The verdict on example macros.
+//! The verdict on example macros, and on macros that fill the table.
 
 use oracle::fast_search::fast_search;
 use oracle::library::{self, VERDICT_ANSWER};
@@ -9,6 +9,9 @@ use crate::time::{mean, micros, ratio};
 
 /// Bytes of the table: N = 341, as in the verdict program.
 const TABLE: usize = 65_536;
+
+/// Bytes of the largest table that is of use: N = 1,024.
+const LARGEST: usize = 1_024 * 192;
 
 /// Macros by name. `search` and `second` are the paper's P1 and P3 (Figure 1) with
 /// assertions.
@@ -41,31 +44,57 @@ const MACROS: [(&str, &str); 6] = [
     ),
 ];
 
+/// Tests between so many registers, each of which doubles the windows for a while.
+fn doubling(registers: usize, tests: usize) -> String {
+    let names = &["a", "b", "c", "d", "e", "f", "g", "h"][..registers];
+    let sides = (0..registers).flat_map(|left| (left + 1..registers).map(move |right| (left, right)));
+    let tests =
+        sides.take(tests).map(|(left, right)| format!("if {} != {} {{ }} ", names[left], names[right]));
+    format!("vars {}; {}", names.join(" "), tests.collect::<String>())
+}
+
+/// A loop that counts in six binary digits; it can be left only when the last one is set.
+const COUNTER: &str = "vars t f a b c d e g; assume t != f; a := f; b := f; c := f; d := f; e := f; g := f; \
+     while g = f { if a = f { a := t; } else { a := f; if b = f { b := t; } else { b := f; if c = f { c := t; } \
+     else { c := f; if d = f { d := t; } else { d := f; if e = f { e := t; } else { e := f; g := t; } } } } } } \
+     assert a != f;";
+
+/// Times the verdict on one macro and prints its line.
+fn line(name: &str, text: &str, bytes: usize) {
+    let (mut table, mut out) = (vec![0; bytes], vec![0; 4096]);
+    let mut answer = [0; VERDICT_ANSWER];
+    let proved = mean(|| library::verdict(text.as_bytes(), &mut table, &mut out, &mut answer));
+    let search = || read_macro(text.as_bytes()).and_then(|read| fast_search(&read, room_for_pairs(bytes)));
+    let rust = mean(search);
+    assert_eq!(search().map_or(0, |verdict| verdict.pairs as u64), answer[3]);
+    let word = match answer {
+        [14, ..] => "full",
+        [0, _, 0, ..] => "pass",
+        [0, _, 1, ..] => "fail",
+        [0, _, 2, ..] => "incoherent",
+        _ => "refused",
+    };
+    let (most, left, right) = (room_for_pairs(bytes), micros(proved), micros(rust));
+    println!(
+        "{name:<14}{most:>8}{word:>12}{:>8}{left:>12.1}{right:>12.1}{:>10.2}",
+        answer[3],
+        ratio(proved, rust)
+    );
+}
+
 /// Prints the verdicts' table.
 pub fn table() {
-    println!("Verdict, table of {TABLE} bytes (microseconds)");
-    println!("{:<14}{:>12}{:>8}{:>12}{:>12}{:>10}", "macro", "verdict", "pairs", "proved", "Rust", "ratio");
+    println!("Verdict, the table holding N pairs (microseconds)");
+    println!(
+        "{:<14}{:>8}{:>12}{:>8}{:>12}{:>12}{:>10}",
+        "macro", "N", "verdict", "pairs", "proved", "Rust", "ratio"
+    );
     for (name, text) in MACROS {
-        let (mut table, mut out) = (vec![0; TABLE], vec![0; 4096]);
-        let mut answer = [0; VERDICT_ANSWER];
-        let proved = mean(|| library::verdict(text.as_bytes(), &mut table, &mut out, &mut answer));
-        let search =
-            || read_macro(text.as_bytes()).and_then(|read| fast_search(&read, room_for_pairs(TABLE)));
-        let rust = mean(search);
-        assert_eq!(search().map_or(0, |verdict| verdict.pairs as u64), answer[3]);
-        let word = match answer {
-            [14, ..] => "full",
-            [0, _, 0, ..] => "pass",
-            [0, _, 1, ..] => "fail",
-            [0, _, 2, ..] => "incoherent",
-            _ => "refused",
-        };
-        let (left, right) = (micros(proved), micros(rust));
-        println!(
-            "{name:<14}{word:>12}{:>8}{left:>12.1}{right:>12.1}{:>10.2}",
-            answer[3],
-            ratio(proved, rust)
-        );
+        line(name, text, TABLE);
     }
+    line("eight", &doubling(8, 12), TABLE);
+    line("eight", &doubling(8, 12), LARGEST);
+    line("six", &doubling(6, 13), LARGEST);
+    line("counter", COUNTER, LARGEST);
     println!();
 }

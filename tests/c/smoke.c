@@ -25,6 +25,9 @@ int main(void) {
     static const uint8_t trace[] = {0x32, 0x00, 0x44, 0x00, 0x80, 0x08};
     static const char macro[] = "vars x y; assert x = y;";
     static const uint8_t *const text = (const uint8_t *)macro;
+    static const char loop[] = "vars x y; funs n/1; while x != y { x := n(x); } assert x = y;";
+    static const uint8_t *const passing = (const uint8_t *)loop;
+    uint8_t table[576];
     uint8_t out[64];
     uint64_t answer[5];
 
@@ -41,5 +44,15 @@ int main(void) {
     show("read", answer, 5);
     fadzgime_read(text, 6, answer, 5);
     show("read", answer, 5);
+
+    fadzgime_verdict(text, strlen(macro), table, sizeof table, out, sizeof out, answer, 5);
+    show("verdict", answer, 5);
+    show_bytes(out, 12);
+    fadzgime_verdict(text, strlen(macro), table, sizeof table, out, 11, answer, 5);
+    show("verdict", answer, 5);
+    fadzgime_verdict(passing, strlen(loop), table, sizeof table, out, 0, answer, 5);
+    show("verdict", answer, 5);
+    fadzgime_verdict(passing, strlen(loop), table, sizeof table - 1, out, 0, answer, 5);
+    show("verdict", answer, 5);
     return 0;
 }

@@ -1,54 +1,29 @@
 -- Letter by letter: what the arrays say of the state of a trace.
 use mathlib.Core.Path.{_≡_, refl}
 use mathlib.Core.Logic.{_⊎_, inl, inr, _≢_}
-use mathlib.Core.Bool.{Bool, true, false, _&&_}
+use mathlib.Core.Bool.{Bool, true, false}
 use mathlib.Core.List.{List}
 use Prim.Native.Nat.{ℕ, suc, _<_}
 use native.Mathlib.Omega.{arith}
-use lib.Dec.{T, eqb}
 use lib.ListN.{length, getD, set}
 use lib.Seq.{getD-set-same, getD-set-other}
-use borrow.Author.Tests.{eqb-true, eq-eqb}
-use Rattle.base.specs.Choice.{pick}
 use Rattle.letters.specs.declared.Letter.the-variants.{Apply, Equal}
 use Rattle.letters.specs.Letters.{Fits}
 use Rattle.semantics.specs.Terms.{State, after}
 use Rattle.semantics.specs.Models.{Feasible}
 use Rattle.closure.specs.Represents.{Represents, represents-equal, represents-apply, Looked, known, fresh, Sides, infeasible-i, feasible-i}
-use Rattle.closure.specs.Arrays.{at, Below, Merged, hasSignature, LookedAt, knownAt, freshAt, Clashes, clashes, parts}
-
-true-of : (b : Bool) → T b → b ≡ true
-true-of true t = refl
-true-of false t = absurd t
-
-both : (a b : Bool) → T (a && b) → (a ≡ true) × (b ≡ true)
-both true true t = (refl, refl)
-both true false t = absurd t
-both false b t = absurd t
-
-pub has-signature-e : (representative function first second : List ℕ) (i f p q : ℕ) → T (hasSignature representative function first second i f p q) → (getD function i 0 ≡ f) × (getD representative (getD first i 0) 0 ≡ p) × (getD representative (getD second i 0) 0 ≡ q)
-unfolding hasSignature
-has-signature-e representative function first second i f p q t = go (eqb (getD function i 0) f) refl t
-  where
-    go : (b : Bool) → eqb (getD function i 0) f ≡ b → T (pick b (λ _. eqb (getD representative (getD first i 0) 0) p && eqb (getD representative (getD second i 0) 0) q) λ _. false)
-        → (getD function i 0 ≡ f) × (getD representative (getD first i 0) 0 ≡ p) × (getD representative (getD second i 0) 0 ≡ q)
-    go true e t = let (u, v) = both (eqb (getD representative (getD first i 0) 0) p) (eqb (getD representative (getD second i 0) 0) q) t in (eqb-true _ f e, eqb-true _ p u, eqb-true _ q v)
-    go false e t = absurd t
-
-pub has-signature-i : (representative function first second : List ℕ) (i f p q : ℕ) → getD function i 0 ≡ f → getD representative (getD first i 0) 0 ≡ p → getD representative (getD second i 0) 0 ≡ q → T (hasSignature representative function first second i f p q)
-unfolding hasSignature
-has-signature-i representative function first second i f p q a b c = rw (eq-eqb _ f a, eq-eqb _ p b, eq-eqb _ q c) tt
+use Rattle.closure.specs.Arrays.{at, Below, Merged, LookedAt, knownAt, freshAt, Clashes, clashes, parts}
 
 module _ (σ : State) (function first second representative value : List ℕ) (registers n : ℕ) (w : Represents σ (at function) (at first) (at second) (at representative) registers n (at value)) where
   -- an equal test
-  pub letter-equal : (x y : ℕ) (r : List ℕ) → x < registers → y < registers → Merged representative function first second registers n (getD value x 0) (getD value y 0) r
+  pub letter-equal : (x y : ℕ) (r head link : List ℕ) → x < registers → y < registers → Merged representative function first second registers n (getD value x 0) (getD value y 0) r head link
       → Represents (after σ (Equal x y)) (at function) (at first) (at second) (at r) registers n (at value)
   unfolding Below
-  letter-equal x y r lx ly j = represents-equal σ (at function) (at first) (at second) (at representative) registers n (at value) w x y lx ly (at r) (j .sound) (j .keeps) (j .joins) (j .closed) (λ i h. j .formed .classes i h)
+  letter-equal x y r head link lx ly j = represents-equal σ (at function) (at first) (at second) (at representative) registers n (at value) w x y lx ly (at r) (j .sound) (j .keeps) (j .joins) (j .closed) (λ i h. j .formed .classes i h)
 
   looked : (f a b k : ℕ) → LookedAt representative function first second registers n f a b k → Looked σ (at function) (at first) (at second) (at representative) registers n (at value) w f a b k
-  looked f a b k (knownAt m p h t e) = let (u, v, z) = has-signature-e representative function first second m f (getD representative a 0) (getD representative b 0) t in known m p h u v z e
-  looked f a b k (freshAt e none) = fresh e (λ m p h u v z. none m p h (has-signature-i representative function first second m f (getD representative a 0) (getD representative b 0) u v z))
+  looked f a b k (knownAt m p h u v z e) = known m p h u v z e
+  looked f a b k (freshAt e none) = fresh e none
 
   -- an application: the next number gets the class that was looked up
   pub letter-apply : (x f y z k : ℕ) → Fits (σ .header) (Apply x f y z) → LookedAt representative function first second registers n f (getD value y 0) (getD value z 0) k

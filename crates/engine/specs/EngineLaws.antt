@@ -16,11 +16,14 @@ use Rattle.letters.specs.declared.Letter.the-variants.{Copy, Apply, Equal, Uneq
 use Rattle.letters.specs.Letters.{Fits}
 use Rattle.semantics.specs.Terms.{State, after}
 use Rattle.closure.specs.Represents.{represents-copy, represents-unequal, sides-unequal, sides-apply}
-use Rattle.closure.specs.Arrays.{at, Below, Formed, Merged, LookedAt, knownAt, freshAt}
-use Rattle.closure.specs.Steps.{letter-equal, letter-apply}
 use Rattle.closure.specs.Numbering.{Closed}
+use Rattle.closure.specs.Index.{signatureOf, Entered}
+use Rattle.closure.specs.Arrays.{at, Below, Formed, Indexed, signatureAt, Merged, LookedAt, knownAt, freshAt, Parts}
+use Rattle.closure.specs.Entering.{looked-known, looked-fresh}
+use Rattle.closure.specs.Propagation.{merged-same}
+use Rattle.closure.specs.Steps.{letter-equal, letter-apply}
 use Rattle.engine.specs.declared.Counts.{Counts}
-use Rattle.engine.specs.Engine.{Engine, Ready, Performed, Applied}
+use Rattle.engine.specs.Engine.{Engine, Ready, Performed, Applied, Appliable, Computable, Computing, Equatable, Equated, Notable, Noted, nameOf}
 
 -- the entries of an array with one stored
 module _ (l : List ℕ) (i v : ℕ) where
@@ -52,12 +55,12 @@ below-widen b c n l h g i k = let x = g i k in omega arith
 module _ (representative function first second : List ℕ) (registers n f a b name : ℕ) (fm : Formed representative function first second registers n) where
   pub looked-below : LookedAt representative function first second registers n f a b name → name < suc n
   unfolding Below
-  looked-below (knownAt m p h t e) = let c = fm .classes m h in omega arith
+  looked-below (knownAt m p h u v t e) = let c = fm .classes m h in omega arith
   looked-below (freshAt e none) = omega arith
 
   looked-own : LookedAt representative function first second registers n f a b name → (name ≡ n) ⊎ ((name < n) × (getD representative name 0 ≡ name))
   unfolding Below
-  looked-own (knownAt m p h t e) = inr (subst (λ v. v < n) (sym e) (fm .classes m h), ap (λ v. getD representative v 0) e ∙ fm .own m h ∙ sym e)
+  looked-own (knownAt m p h u v t e) = inr (subst (λ v. v < n) (sym e) (fm .classes m h), ap (λ v. getD representative v 0) e ∙ fm .own m h ∙ sym e)
   looked-own (freshAt e none) = inl e
 
   module _ (lf : n < length function) (lo : n < length first) (lt : n < length second) (lr : n < 1032) (bf : f < 4) (ba : a < n) (bb : b < n) (look : LookedAt representative function first second registers n f a b name) where
@@ -91,26 +94,64 @@ module _ (representative function first second : List ℕ) (registers n f a b na
         name-own (inr (h, o)) = kept-below representative n name name h ∙ o
 
 -- what `apply` leaves
-pub applied : {function first second representative : List ℕ} {registers n f a b g c d name : ℕ} → LookedAt representative function first second registers n g c d name → g ≡ f → c ≡ a → d ≡ b
-    → Applied function first second representative registers n f a b (set function n f) (set first n a) (set second n b) (set representative n name)
-applied {function} {first} {second} {representative} {registers} {n} {f} {a} {b} {g} {c} {d} {name} l p q r = record {
-  name = name;
-  looked = rw (← p, ← q, ← r) l;
-  in-function = refl;
-  in-first = refl;
-  in-second = refl;
-  in-representative = refl;
-}
+module _ (function first second representative head link : List ℕ) (registers n f a b : ℕ) (u : Appliable function first second representative head link registers n f a b) (c r : ℕ) (head′ link′ : List ℕ)
+    (e : c ≡ signatureOf f (getD representative a 0) (getD representative b 0)) (w : Entered (signatureAt representative function first second) registers n c head link r head′ link′) where
+  entered-looked : LookedAt representative function first second registers n f a b (nameOf representative r n)
+  unfolding nameOf
+  entered-looked = byTest (eqb r n)
+      (λ t. rw t (looked-fresh representative function first second registers n (u .formed) f a b c (u .known) (u .first-term) (u .second-term) e head link r head′ link′ w (u .indexed .complete) (eqb-true r n t)))
+      (λ t. let d : r ≢ n = eqb-false r n t in let m = w .most in rw t (looked-known representative function first second registers n (u .formed) f a b c (u .known) (u .first-term) (u .second-term) e head link r head′ link′ w (getD representative r 0) (omega arith) refl))
 
-module _ (σ : State) (function first second representative value left right : List ℕ) (registers n m k : ℕ) (w : Engine σ function first second representative value left right registers n m k) where
+  module _ (name : ℕ) where
+    same : (k : ℕ) → k < n → signatureAt (set representative n name) (set function n f) (set first n a) (set second n b) k ≡ signatureAt representative function first second k
+    unfolding signatureAt Below
+    same k h = rw (kept-below function n f k h, kept-below first n a k h, kept-below second n b k h, kept-below representative n name (getD first k 0) (u .formed .firsts k h), kept-below representative n name (getD second k 0) (u .formed .seconds k h))
+
+    last : signatureAt (set representative n name) (set function n f) (set first n a) (set second n b) n ≡ c
+    unfolding signatureAt
+    last = rw (
+      put function n f (let l = u .function-long in let h = u .room in omega arith),
+      put first n a (let l = u .first-long in let h = u .room in omega arith),
+      put second n b (let l = u .second-long in let h = u .room in omega arith),
+      kept-below representative n name a (u .first-term),
+      kept-below representative n name b (u .second-term),
+    ) (sym e)
+
+    applied-indexed : Indexed (set representative n name) (set function n f) (set first n a) (set second n b) registers (suc n) head′ link′
+    applied-indexed = record { chains = w .chains; complete = w .completes (signatureAt (set representative n name) (set function n f) (set first n a) (set second n b)) same last (u .indexed .complete) }
+
+  pub applied : (name : ℕ) → name ≡ nameOf representative r n
+      → Applied function first second representative head link registers n f a b (set function n f) (set first n a) (set second n b) (set representative n name) head′ link′
+  applied name q = record {
+    name = name;
+    looked = rw q entered-looked;
+    in-function = refl;
+    in-first = refl;
+    in-second = refl;
+    in-representative = refl;
+    indexed = applied-indexed name;
+  }
+
+-- the unequal tests with sides in different classes, after a new term and after a new test
+parts-set : (representative left right : List ℕ) (n v p : ℕ) → ((q : ℕ) → q < p → getD left q 0 < n) → ((q : ℕ) → q < p → getD right q 0 < n) → Parts representative left right p → Parts (set representative n v) left right p
+unfolding Parts
+parts-set representative left right n v p l r w q h e = w q h (sym (kept-below representative n v (getD left q 0) (l q h)) ∙ e ∙ kept-below representative n v (getD right q 0) (r q h))
+
+parts-list : (representative left right : List ℕ) (m a b p : ℕ) → p ≤ m → Parts representative left right p → Parts representative (set left m a) (set right m b) p
+unfolding Parts
+parts-list representative left right m a b p l w q h e =
+    w q h (ap (λ v. getD representative v 0) (sym (kept-below left m a q (omega arith))) ∙ e ∙ ap (λ v. getD representative v 0) (kept-below right m b q (omega arith)))
+
+module _ (σ : State) (function first second representative head link value left right : List ℕ) (registers n m p k : ℕ) (w : Engine σ function first second representative head link value left right registers n m p k) where
   -- a register of the header has a place, and its term a number
   register-below : (x : ℕ) → x < σ .header .registers → (x < registers) × (x < 8)
   register-below x h = let e = w .represents .header-registers in let l = w .eight in (omega arith, omega arith)
 
-  pub engine-copy : (x y : ℕ) → Fits (σ .header) (Copy x y) → Engine (after σ (Copy x y)) function first second representative (set value x (getD value y 0)) left right registers n m (suc k)
+  pub engine-copy : (x y : ℕ) → Fits (σ .header) (Copy x y) → Engine (after σ (Copy x y)) function first second representative head link (set value x (getD value y 0)) left right registers n m p (suc k)
   engine-copy x y (hx, hy) = record {
     formed = w .formed;
     represents = represents-copy σ (at function) (at first) (at second) (at representative) registers n (at value) (w .represents) x y (at (set value x (getD value y 0))) (lx .0) ((register-below y hy) .0) same;
+    indexed = w .indexed;
     sides = record { left-below = w .sides .left-below; right-below = w .sides .right-below; listed = w .sides .listed; all = w .sides .all };
     eight = w .eight;
     four = w .four;
@@ -122,6 +163,8 @@ module _ (σ : State) (function first second representative value left right : L
     right-long = w .right-long;
     terms-few = let l = w .terms-few in omega arith;
     tests-few = let l = w .tests-few in omega arith;
+    parts = w .parts;
+    parts-few = w .parts-few;
   }
     where
       lx : (x < registers) × (x < 8)
@@ -134,13 +177,15 @@ module _ (σ : State) (function first second representative value left right : L
           go true e = ap (λ r. getD (set value x (getD value y 0)) r 0) (eqb-true r x e) ∙ put value x (getD value y 0) (let l = w .value-long in let h = lx .1 in omega arith)
           go false e = kept value x (getD value y 0) r (eqb-false r x e)
 
-  pub engine-apply : (x f y z : ℕ) (name : ℕ) → k < 1024 → Fits (σ .header) (Apply x f y z) → LookedAt representative function first second registers n f (getD value y 0) (getD value z 0) name
-      → Engine (after σ (Apply x f y z)) (set function n f) (set first n (getD value y 0)) (set second n (getD value z 0)) (set representative n name) (set value x n) left right registers (suc n) m (suc k)
-  engine-apply x f y z name few fits look = record {
+  pub engine-apply : (x f y z : ℕ) (name : ℕ) (head′ link′ : List ℕ) → k < 1024 → Fits (σ .header) (Apply x f y z) → LookedAt representative function first second registers n f (getD value y 0) (getD value z 0) name
+      → Indexed (set representative n name) (set function n f) (set first n (getD value y 0)) (set second n (getD value z 0)) registers (suc n) head′ link′
+      → Engine (after σ (Apply x f y z)) (set function n f) (set first n (getD value y 0)) (set second n (getD value z 0)) (set representative n name) head′ link′ (set value x n) left right registers (suc n) m p (suc k)
+  engine-apply x f y z name head′ link′ few fits look index = record {
     formed = applied-formed representative function first second registers n f (getD value y 0) (getD value z 0) name (w .formed) in-function in-first in-second in-all
         (let h = w .four in let g = fits .1 in omega arith) (w .represents .value-below y ly) (w .represents .value-below z lz) look;
     represents = letter-apply σ function first second representative value registers n (w .represents) x f y z name fits look in-function in-first in-second
         (let l = w .formed .long in let h = in-all in omega arith) (let l = w .value-long in let h = (register-below x (fits .0)) .1 in omega arith);
+    indexed = index;
     sides = sides-apply σ (at function) (at first) (at second) (at representative) registers n (at value) (w .represents) (at left) (at right) (at left) (at right) m (w .sides) x f y z;
     eight = w .eight;
     four = w .four;
@@ -152,6 +197,8 @@ module _ (σ : State) (function first second representative value left right : L
     right-long = w .right-long;
     terms-few = let l = w .terms-few in omega arith;
     tests-few = let l = w .tests-few in omega arith;
+    parts = parts-set representative left right n name p (λ q h. w .sides .left-below q (let l = w .parts-few in omega arith)) (λ q h. w .sides .right-below q (let l = w .parts-few in omega arith)) (w .parts);
+    parts-few = w .parts-few;
   }
     where
       ly : y < registers
@@ -172,11 +219,13 @@ module _ (σ : State) (function first second representative value left right : L
       in-second : n < length second
       in-second = let l = w .second-long in let h = in-all in omega arith
 
-  pub engine-equal : (x y : ℕ) (r : List ℕ) → Fits (σ .header) (Equal x y) → Merged representative function first second registers n (getD value x 0) (getD value y 0) r
-      → Engine (after σ (Equal x y)) function first second r value left right registers n m (suc k)
-  engine-equal x y r (hx, hy) g = record {
+  pub engine-equal : (x y : ℕ) (r head′ link′ : List ℕ) (p′ : ℕ) → Fits (σ .header) (Equal x y) → Merged representative function first second registers n (getD value x 0) (getD value y 0) r head′ link′
+      → Parts r left right p′ → p′ ≤ p
+      → Engine (after σ (Equal x y)) function first second r head′ link′ value left right registers n m p′ (suc k)
+  engine-equal x y r head′ link′ p′ (hx, hy) g a b = record {
     formed = g .formed;
-    represents = letter-equal σ function first second representative value registers n (w .represents) x y r ((register-below x hx) .0) ((register-below y hy) .0) g;
+    represents = letter-equal σ function first second representative value registers n (w .represents) x y r head′ link′ ((register-below x hx) .0) ((register-below y hy) .0) g;
+    indexed = g .indexed;
     sides = record { left-below = w .sides .left-below; right-below = w .sides .right-below; listed = w .sides .listed; all = w .sides .all };
     eight = w .eight;
     four = w .four;
@@ -188,13 +237,16 @@ module _ (σ : State) (function first second representative value left right : L
     right-long = w .right-long;
     terms-few = let l = w .terms-few in omega arith;
     tests-few = let l = w .tests-few in omega arith;
+    parts = a;
+    parts-few = let l = w .parts-few in omega arith;
   }
 
   pub engine-unequal : (x y : ℕ) → k < 1024 → Fits (σ .header) (Unequal x y)
-      → Engine (after σ (Unequal x y)) function first second representative value (set left m (getD value x 0)) (set right m (getD value y 0)) registers n (suc m) (suc k)
+      → Engine (after σ (Unequal x y)) function first second representative head link value (set left m (getD value x 0)) (set right m (getD value y 0)) registers n (suc m) p (suc k)
   engine-unequal x y few (hx, hy) = record {
     formed = w .formed;
     represents = represents-unequal σ (at function) (at first) (at second) (at representative) registers n (at value) (w .represents) x y lx ly;
+    indexed = w .indexed;
     sides = sides-unequal σ (at function) (at first) (at second) (at representative) registers n (at value) (w .represents) (at left) (at right) (at (set left m (getD value x 0))) (at (set right m (getD value y 0))) m (w .sides)
         x y lx ly (kept-below left m (getD value x 0)) (kept-below right m (getD value y 0))
         (put left m (getD value x 0) (let l = w .left-long in let h = w .tests-few in omega arith)) (put right m (getD value y 0) (let l = w .right-long in let h = w .tests-few in omega arith));
@@ -208,6 +260,8 @@ module _ (σ : State) (function first second representative value left right : L
     right-long = simp length-set (w .right-long);
     terms-few = let l = w .terms-few in omega arith;
     tests-few = let l = w .tests-few in omega arith;
+    parts = parts-list representative left right m (getD value x 0) (getD value y 0) p (w .parts-few) (w .parts);
+    parts-few = let l = w .parts-few in omega arith;
   }
     where
       lx : x < registers
@@ -217,67 +271,139 @@ module _ (σ : State) (function first second representative value left right : L
       ly = (register-below y hy) .0
 
 -- ---- as `step` uses them, letter by letter
-module _ (letter : Letter) (function first second representative value left right : List ℕ) (registers : ℕ) (counts : Counts) (r : Ready letter function first second representative value left right registers counts) where
+module _ (letter : Letter) (function first second representative head link value left right : List ℕ) (registers : ℕ) (counts : Counts) (r : Ready letter function first second representative head link value left right registers counts) where
   fits-as : {l : Letter} → letter ≡ l → Fits (r .state .header) l
   fits-as e = subst (Fits (r .state .header)) e (r .fits)
 
   in-eight : (x : ℕ) → x < r .state .header .registers → x < 8
-  in-eight x h = (register-below (r .state) function first second representative value left right registers (counts .terms) (counts .tests) (r .letters) (r .engine) x h) .1
+  in-eight x h = (register-below (r .state) function first second representative head link value left right registers (counts .terms) (counts .tests) (counts .parted) (r .letters) (r .engine) x h) .1
 
   value-in : (x : ℕ) → x < r .state .header .registers → getD value x 0 < counts .terms
-  value-in x h = r .engine .represents .value-below x ((register-below (r .state) function first second representative value left right registers (counts .terms) (counts .tests) (r .letters) (r .engine) x h) .0)
+  value-in x h = r .engine .represents .value-below x ((register-below (r .state) function first second representative head link value left right registers (counts .terms) (counts .tests) (counts .parted) (r .letters) (r .engine) x h) .0)
 
+  pub computable : {x f y z : ℕ} → letter ≡ Apply x f y z → Computable function first second representative head link value registers counts x f y z
+  computable {x} {f} {y} {z} e = let g = fits-as e in record {
+    appliable = record {
+      formed = r .engine .formed;
+      indexed = r .engine .indexed;
+      function-long = r .engine .function-long;
+      first-long = r .engine .first-long;
+      second-long = r .engine .second-long;
+      room = let a = r .engine .terms-few in let h = r .few in omega arith;
+      known = let h = r .engine .four in let k = g .1 in omega arith;
+      first-term = value-in y (g .2);
+      second-term = value-in z (g .3);
+    };
+    target-in = in-eight x (g .0);
+    first-in = in-eight y (g .2);
+    second-in = in-eight z (g .3);
+  }
+
+  pub equatable : {x y : ℕ} → letter ≡ Equal x y → Equatable function first second representative head link value registers counts x y
+  equatable {x} {y} e = let g = fits-as e in record {
+    formed = r .engine .formed;
+    closed = r .engine .represents .closed;
+    indexed = r .engine .indexed;
+    first-in = in-eight x (g .0);
+    second-in = in-eight y (g .1);
+    first-term = value-in x (g .0);
+    second-term = value-in y (g .1);
+  }
+
+  pub notable : Notable letter counts
+  unfolding Notable
+  notable = go letter refl
+    where
+      go : (l : Letter) → letter ≡ l → Notable l counts
+      go (Copy x y) e = let g = fits-as e in (in-eight x (g .0), in-eight y (g .1))
+      go (Unequal x y) e = let g = fits-as e in let b = r .engine .tests-few in let h = r .few in (in-eight x (g .0), in-eight y (g .1), omega arith)
+      go (Apply x f y z) e = tt
+      go (Equal x y) e = tt
+
+module _ (letter : Letter) (function first second representative head link value left right : List ℕ) (registers : ℕ) (counts : Counts) where
+  pub performed-apply : {x f y z : ℕ} (function′ first′ second′ representative′ head′ link′ value′ : List ℕ) (counts′ : Counts) → letter ≡ Apply x f y z
+      → Computing function first second representative head link value registers counts x f y z function′ first′ second′ representative′ head′ link′ value′ counts′
+      → Performed letter function first second representative head link value left right registers counts function′ first′ second′ representative′ head′ link′ value′ left right counts′
+  unfolding Performed
+  performed-apply {x} {f} {y} {z} function′ first′ second′ representative′ head′ link′ value′ counts′ e c σ k few fits w = let d = c .applied in
+      rw (e, c .in-value, c .counted, d .in-function, d .in-first, d .in-second, d .in-representative, add-one (counts .terms))
+      (engine-apply σ function first second representative head link value left right registers (counts .terms) (counts .tests) (counts .parted) k w x f y z (d .name) head′ link′ few (subst (Fits (σ .header)) e fits) (d .looked)
+      (rw (← d .in-function, ← d .in-first, ← d .in-second, ← d .in-representative) (d .indexed)))
+
+  pub performed-equal : {x y : ℕ} (representative′ head′ link′ : List ℕ) (counts′ : Counts) → letter ≡ Equal x y
+      → Equated function first second representative value registers counts x y representative′ head′ link′ counts′
+      → Performed letter function first second representative head link value left right registers counts function first second representative′ head′ link′ value left right counts′
+  unfolding Performed
+  performed-equal {x} {y} representative′ head′ link′ counts′ e c σ k few fits w =
+      rw (e, c .terms, c .tests) (engine-equal σ function first second representative head link value left right registers (counts .terms) (counts .tests) (counts .parted) k w x y representative′ head′ link′ (counts′ .parted)
+      (subst (Fits (σ .header)) e fits) (c .merged) (c .parts left right (w .parts)) (c .parted))
+
+  pub performed-copy : {x y : ℕ} (value′ left′ right′ : List ℕ) (counts′ : Counts) → letter ≡ Copy x y → Noted letter value left right counts value′ left′ right′ counts′
+      → Performed letter function first second representative head link value left right registers counts function first second representative head link value′ left′ right′ counts′
+  unfolding Performed Noted
+  performed-copy {x} {y} value′ left′ right′ counts′ e d σ k few fits w =
+      let (p, q, r, t) = subst (λ l. Noted l value left right counts value′ left′ right′ counts′) e d in
+      rw (e, p, q, r, t) (engine-copy σ function first second representative head link value left right registers (counts .terms) (counts .tests) (counts .parted) k w x y (subst (Fits (σ .header)) e fits))
+
+  pub performed-unequal : {x y : ℕ} (value′ left′ right′ : List ℕ) (counts′ : Counts) → letter ≡ Unequal x y → Noted letter value left right counts value′ left′ right′ counts′
+      → Performed letter function first second representative head link value left right registers counts function first second representative head link value′ left′ right′ counts′
+  unfolding Performed Noted
+  performed-unequal {x} {y} value′ left′ right′ counts′ e d σ k few fits w =
+      let (p, q, r, t) = subst (λ l. Noted l value left right counts value′ left′ right′ counts′) e d in
+      rw (e, p, q, r, t, add-one (counts .tests)) (engine-unequal σ function first second representative head link value left right registers (counts .terms) (counts .tests) (counts .parted) k w x y few (subst (Fits (σ .header)) e fits))
+
+-- ---- as `note` uses them
+module _ (letter : Letter) (counts : Counts) (r : Notable letter counts) where
   pub copy-below : {x y : ℕ} → letter ≡ Copy x y → (x < 8) × (y < 8)
-  copy-below {x} {y} e = let f = fits-as e in (in-eight x (f .0), in-eight y (f .1))
+  unfolding Notable
+  copy-below {x} {y} e = subst (λ l. Notable l counts) e r
 
-  pub apply-below : {x f y z : ℕ} → letter ≡ Apply x f y z → (x < 8) × (y < 8) × (z < 8)
-  apply-below {x} {f} {y} {z} e = let g = fits-as e in (in-eight x (g .0), in-eight y (g .2), in-eight z (g .3))
+  pub unequal-below : {x y : ℕ} → letter ≡ Unequal x y → (x < 8) × (y < 8) × (counts .tests < 1024)
+  unfolding Notable
+  unequal-below {x} {y} e = subst (λ l. Notable l counts) e r
 
-  pub equal-below : {x y : ℕ} → letter ≡ Equal x y → (x < 8) × (y < 8)
-  equal-below {x} {y} e = let f = fits-as e in (in-eight x (f .0), in-eight y (f .1))
+module _ (letter : Letter) (value left right : List ℕ) (counts : Counts) where
+  pub noted-copy : {x y : ℕ} → letter ≡ Copy x y → Noted letter value left right counts (set value x (getD value y 0)) left right counts
+  unfolding Noted
+  noted-copy {x} {y} e = rw e (refl, refl, refl, refl)
 
-  pub unequal-below : {x y : ℕ} → letter ≡ Unequal x y → (x < 8) × (y < 8)
-  unequal-below {x} {y} e = let f = fits-as e in (in-eight x (f .0), in-eight y (f .1))
+  pub noted-unequal : {x y : ℕ} → letter ≡ Unequal x y
+      → Noted letter value left right counts value (set left (counts .tests) (getD value x 0)) (set right (counts .tests) (getD value y 0)) (record { terms = counts .terms; tests = counts .tests + 1; parted = counts .parted })
+  unfolding Noted
+  noted-unequal {x} {y} e = rw e (refl, refl, refl, refl)
 
-  pub room : (counts .terms < 1032) × (counts .tests < 1024)
-  room = let a = r .engine .terms-few in let b = r .engine .tests-few in let h = r .few in (omega arith, omega arith)
+  pub noted-apply : {x f y z : ℕ} → letter ≡ Apply x f y z → Noted letter value left right counts value left right counts
+  unfolding Noted
+  noted-apply {x} {f} {y} {z} e = rw e (refl, refl, refl, refl)
 
-  pub apply-ready : {x f y z a b : ℕ} → letter ≡ Apply x f y z → a ≡ getD value y 0 → b ≡ getD value z 0
-      → Formed representative function first second registers (counts .terms) × (counts .terms < 1032) × (a < counts .terms) × (b < counts .terms)
-  apply-ready {x} {f} {y} {z} e p q = let g = fits-as e in
-      (r .engine .formed, room .0, subst (λ v. v < counts .terms) (sym p) (value-in y (g .2)), subst (λ v. v < counts .terms) (sym q) (value-in z (g .3)))
+  pub noted-equal : {x y : ℕ} → letter ≡ Equal x y → Noted letter value left right counts value left right counts
+  unfolding Noted
+  noted-equal {x} {y} e = rw e (refl, refl, refl, refl)
 
-  pub merge-ready : {x y a b : ℕ} → letter ≡ Equal x y → a ≡ getD value x 0 → b ≡ getD value y 0
-      → Formed representative function first second registers (counts .terms) × (a < counts .terms) × (b < counts .terms) × Closed (at function) (at first) (at second) registers (counts .terms) (at representative)
-  merge-ready {x} {y} e p q = let g = fits-as e in
-      (r .engine .formed, subst (λ v. v < counts .terms) (sym p) (value-in x (g .0)), subst (λ v. v < counts .terms) (sym q) (value-in y (g .1)), r .engine .represents .closed)
+-- ---- as `equate` uses them
+module _ (function first second representative head link value : List ℕ) (registers : ℕ) (counts : Counts) (x y : ℕ) (r : Equatable function first second representative head link value registers counts x y) (a b : ℕ) (ea : a ≡ getD value x 0) (eb : b ≡ getD value y 0) where
+  pub equate-ready : Formed representative function first second registers (counts .terms) × (a < counts .terms) × (b < counts .terms) × Closed (at function) (at first) (at second) registers (counts .terms) (at representative)
+      × Indexed representative function first second registers (counts .terms) head link
+  equate-ready = (r .formed, subst (λ v. v < counts .terms) (sym ea) (r .first-term), subst (λ v. v < counts .terms) (sym eb) (r .second-term), r .closed, r .indexed)
 
-module _ (letter : Letter) (function first second representative value left right : List ℕ) (registers : ℕ) (counts : Counts) where
-  pub performed-copy : {x y v : ℕ} → letter ≡ Copy x y → v ≡ getD value y 0
-      → Performed letter function first second representative value left right registers counts function first second representative (set value x v) left right counts
-  unfolding Performed
-  performed-copy {x} {y} e p σ k few fits w = rw (e, p) (engine-copy σ function first second representative value left right registers (counts .terms) (counts .tests) k w x y (subst (Fits (σ .header)) e fits))
+  pub equated-same : getD representative a 0 ≡ getD representative b 0 → Equated function first second representative value registers counts x y representative head link counts
+  equated-same e = record {
+    merged = merged-same function first second registers (counts .terms) representative head link (getD value x 0) (getD value y 0) (r .formed) (r .closed) (r .indexed)
+        (ap (λ v. getD representative v 0) (sym ea) ∙ e ∙ ap (λ v. getD representative v 0) eb);
+    terms = refl;
+    tests = refl;
+    parted = omega arith;
+    parts = λ left right p. p;
+  }
 
-  pub performed-apply : {x f y z a b : ℕ} (function′ first′ second′ representative′ : List ℕ) → letter ≡ Apply x f y z → a ≡ getD value y 0 → b ≡ getD value z 0
-      → Applied function first second representative registers (counts .terms) f a b function′ first′ second′ representative′
-      → Performed letter function first second representative value left right registers counts function′ first′ second′ representative′ (set value x (counts .terms)) left right (record { terms = counts .terms + 1; tests = counts .tests })
-  unfolding Performed
-  performed-apply {x} {f} {y} {z} {a} {b} function′ first′ second′ representative′ e p q d σ k few fits w =
-      rw (e, d .in-function, d .in-first, d .in-second, d .in-representative, p, q, add-one (counts .terms))
-      (engine-apply σ function first second representative value left right registers (counts .terms) (counts .tests) k w x f y z (d .name) few (subst (Fits (σ .header)) e fits)
-      (subst (λ a. LookedAt representative function first second registers (counts .terms) f a (getD value z 0) (d .name)) p (subst (λ b. LookedAt representative function first second registers (counts .terms) f a b (d .name)) q (d .looked))))
-
-  pub performed-equal : {x y a b : ℕ} (representative′ : List ℕ) → letter ≡ Equal x y → a ≡ getD value x 0 → b ≡ getD value y 0
-      → Merged representative function first second registers (counts .terms) a b representative′
-      → Performed letter function first second representative value left right registers counts function first second representative′ value left right counts
-  unfolding Performed
-  performed-equal {x} {y} {a} {b} representative′ e p q g σ k few fits w =
-      rw e (engine-equal σ function first second representative value left right registers (counts .terms) (counts .tests) k w x y representative′ (subst (Fits (σ .header)) e fits)
-      (subst (λ a. Merged representative function first second registers (counts .terms) a (getD value y 0) representative′) p (subst (λ b. Merged representative function first second registers (counts .terms) a b representative′) q g)))
-
-  pub performed-unequal : {x y a b : ℕ} → letter ≡ Unequal x y → a ≡ getD value x 0 → b ≡ getD value y 0
-      → Performed letter function first second representative value left right registers counts function first second representative value (set left (counts .tests) a) (set right (counts .tests) b)
-      (record { terms = counts .terms; tests = counts .tests + 1 })
-  unfolding Performed
-  performed-unequal {x} {y} e p q σ k few fits w =
-      rw (e, p, q, add-one (counts .tests)) (engine-unequal σ function first second representative value left right registers (counts .terms) (counts .tests) k w x y few (subst (Fits (σ .header)) e fits))
+  pub equated-merged : (representative′ head′ link′ : List ℕ) → Merged representative function first second registers (counts .terms) a b representative′ head′ link′
+      → Equated function first second representative value registers counts x y representative′ head′ link′ (record { terms = counts .terms; tests = counts .tests; parted = 0 })
+  unfolding Parts
+  equated-merged representative′ head′ link′ m = record {
+    merged = subst (λ a. Merged representative function first second registers (counts .terms) a (getD value y 0) representative′ head′ link′) ea
+        (subst (λ b. Merged representative function first second registers (counts .terms) a b representative′ head′ link′) eb m);
+    terms = refl;
+    tests = refl;
+    parted = omega arith;
+    parts = λ left right p q h. absurd (omega arith);
+  }

@@ -44,9 +44,9 @@ pub record Began (representative value : List ℕ) (registers : ℕ) (representa
   pub values : value′ ≡ done (λ i _. i) registers value
 
 -- After k letters, none of which made the trace infeasible.
-pub record Running (s : List ℕ) (h : Header) (function first second representative value left right : List ℕ) (registers n m k : ℕ) : Type 0 where
+pub record Running (s : List ℕ) (h : Header) (function first second representative head link value left right : List ℕ) (registers n m p k : ℕ) : Type 0 where
   pub few : k ≤ length (lettersIn s)
-  pub engine : Engine (state (beginning s h k)) function first second representative value left right registers n m k
+  pub engine : Engine (state (beginning s h k)) function first second representative head link value left right registers n m p k
   pub feasible : Feasible (state (beginning s h k))
 
 -- What a run answers: the first infeasible letter; or the number of computed terms, whose classes the arrays then hold.

@@ -1,6 +1,6 @@
 -- The laws of the run: how it starts, goes on and ends.
 use mathlib.Core.Path.{_≡_, sym, _∙_, ap, subst}
-use mathlib.Core.Logic.{_⊎_, inl, inr}
+use mathlib.Core.Logic.{_⊎_, inl, inr, _≢_}
 use mathlib.Core.Bool.{Bool, true, false}
 use mathlib.Core.List.{List, [], _∷_, List·Memᴰ·not-nil}
 use Prim.Native.Nat.{ℕ, zero, suc, _+_, _≤_, _<_, _-_}
@@ -33,7 +33,9 @@ use Rattle.semantics.specs.Shown.{corollary-2}
 use Rattle.base.specs.Each.{each-length}
 use Rattle.closure.specs.Written.{done-below}
 use Rattle.closure.specs.Represents.{represents-start}
-use Rattle.closure.specs.Arrays.{at, Below, Clashes}
+use Rattle.closure.specs.Arrays.{at, Below, signatureAt, Parts, Clashes, clashes}
+use Rattle.closure.specs.Arrays as arrays
+use Rattle.closure.specs.Entering.{chains-none, complete-none}
 use Rattle.closure.specs.Steps.{letter-clash}
 use Rattle.engine.specs.Engine.{Engine, Computed, Ready, Performed}
 use Rattle.engine.specs.declared.Counts.{Counts}
@@ -104,8 +106,8 @@ module _ (s : List ℕ) (h : Header) (n : ℕ) (r : spec.Reads s h n) where
     pub not-malformed : d ≡ decoded.Malformed → ⊥
     not-malformed q = let z : _≡_ {A = Answer Letter} (refusal 4 0) (value (getD (spec.lettersIn s) k (Copy 0 0))) = sym (ap letterAnswer q) ∙ e ∙ there in let y : _≡_ {A = ℕ} 0 1 = cc in omega arith
 
-  module _ (function first second representative value left right : List ℕ) (registers : ℕ) (counts : Counts) (k : ℕ) (b : k < n)
-      (w : spec.Running s h function first second representative value left right registers (counts .terms) (counts .tests) k) (l : Letter) (e : l ≡ getD (spec.lettersIn s) k (Copy 0 0)) where
+  module _ (function first second representative head link value left right : List ℕ) (registers : ℕ) (counts : Counts) (k : ℕ) (b : k < n)
+      (w : spec.Running s h function first second representative head link value left right registers (counts .terms) (counts .tests) (counts .parted) k) (l : Letter) (e : l ≡ getD (spec.lettersIn s) k (Copy 0 0)) where
     in-letters : k < length (spec.lettersIn s)
     in-letters = let c = r .count in omega arith
 
@@ -118,35 +120,61 @@ module _ (s : List ℕ) (h : Header) (n : ℕ) (r : spec.Reads s h n) where
     under : k < 1024
     under = let c = whole .1 in let d = in-letters in omega arith
 
-    pub ready : Ready l function first second representative value left right registers counts
+    pub ready : Ready l function first second representative head link value left right registers counts
     ready = record { state = state (spec.beginning s h k); letters = k; few = under; engine = w .engine; fits = fits-next }
 
     next : spec.beginning s h (k + 1) ≡ spec.beginning s h k ▸ l
     next = ap (λ j. traceOf h (take j (spec.lettersIn s))) (add-one k) ∙ ap (traceOf h) (take-suc (spec.lettersIn s) k (Copy 0 0) in-letters)
         ∙ extend-append (begin h) (take k (spec.lettersIn s)) (getD (spec.lettersIn s) k (Copy 0 0) ∷ []) ∙ ap (λ a. spec.beginning s h k ▸ a) (sym e)
 
-    module _ (function′ first′ second′ representative′ value′ left′ right′ : List ℕ) (counts′ : Counts)
-        (p : Performed l function first second representative value left right registers counts function′ first′ second′ representative′ value′ left′ right′ counts′) where
-      engine-next : Engine (after (state (spec.beginning s h k)) l) function′ first′ second′ representative′ value′ left′ right′ registers (counts′ .terms) (counts′ .tests) (suc k)
+    module _ (function′ first′ second′ representative′ head′ link′ value′ left′ right′ : List ℕ) (counts′ : Counts)
+        (p : Performed l function first second representative head link value left right registers counts function′ first′ second′ representative′ head′ link′ value′ left′ right′ counts′) where
+      engine-next : Engine (after (state (spec.beginning s h k)) l) function′ first′ second′ representative′ head′ link′ value′ left′ right′ registers (counts′ .terms) (counts′ .tests) (counts′ .parted) (suc k)
       unfolding Performed
       engine-next = p (state (spec.beginning s h k)) k under fits-next (w .engine)
 
-      pub clash-ready : (counts′ .tests ≤ 1024) × Below 1032 (counts′ .tests) left′ × Below 1032 (counts′ .tests) right′
+      pub clash-ready : (counts′ .parted ≤ counts′ .tests) × (counts′ .tests ≤ 1024) × Below 1032 (counts′ .tests) left′ × Below 1032 (counts′ .tests) right′ × Parts representative′ left′ right′ (counts′ .parted)
       unfolding Below
       clash-ready =
           let q = engine-next in
           let f = q .formed .within in
-          (let a = q .tests-few in let c = under in omega arith, λ i d. let a = q .sides .left-below i d in omega arith, λ i d. let a = q .sides .right-below i d in omega arith)
+          (q .parts-few, let a = q .tests-few in let c = under in omega arith, (λ i d. let a = q .sides .left-below i d in omega arith), (λ i d. let a = q .sides .right-below i d in omega arith), q .parts)
 
       module _ (c : Bool) (d : Clashes representative′ left′ right′ (counts′ .tests) c) where
         clashing : ((c ≡ true) × (¬ Feasible (after (state (spec.beginning s h k)) l))) ⊎ ((c ≡ false) × Feasible (after (state (spec.beginning s h k)) l))
         clashing = let q = engine-next in letter-clash (after (state (spec.beginning s h k)) l) function′ first′ second′ representative′ value′ registers (counts′ .terms) (q .represents) left′ right′ (counts′ .tests) (q .sides) c d
 
-        pub goes-on : c ≡ false → spec.Running s h function′ first′ second′ representative′ value′ left′ right′ registers (counts′ .terms) (counts′ .tests) (k + 1)
+        -- all tests so far have their sides in different classes
+        judged : c ≡ false → Engine (after (state (spec.beginning s h k)) l) function′ first′ second′ representative′ head′ link′ value′ left′ right′ registers (counts′ .terms) (counts′ .tests) (counts′ .tests) (suc k)
+        unfolding Parts
+        judged z = let q = engine-next in record {
+          formed = q .formed;
+          represents = q .represents;
+          indexed = q .indexed;
+          sides = q .sides;
+          eight = q .eight;
+          four = q .four;
+          function-long = q .function-long;
+          first-long = q .first-long;
+          second-long = q .second-long;
+          value-long = q .value-long;
+          left-long = q .left-long;
+          right-long = q .right-long;
+          terms-few = q .terms-few;
+          tests-few = q .tests-few;
+          parts = parted z d;
+          parts-few = omega arith;
+        }
+          where
+            parted : {b : Bool} → b ≡ false → Clashes representative′ left′ right′ (counts′ .tests) b → (q : ℕ) → q < counts′ .tests → getD representative′ (getD left′ q 0) 0 ≢ getD representative′ (getD right′ q 0) 0
+            parted z (clashes q h e) = absurd (true-false z)
+            parted z (arrays.parts none) = none
+
+        pub goes-on : c ≡ false → spec.Running s h function′ first′ second′ representative′ head′ link′ value′ left′ right′ registers (counts′ .terms) (counts′ .tests) (counts′ .tests) (k + 1)
         goes-on z = record {
           few = let d = in-letters in omega arith;
-          engine = subst (λ ρ. Engine (state ρ) function′ first′ second′ representative′ value′ left′ right′ registers (counts′ .terms) (counts′ .tests) (k + 1)) (sym next)
-              (subst (λ j. Engine (after (state (spec.beginning s h k)) l) function′ first′ second′ representative′ value′ left′ right′ registers (counts′ .terms) (counts′ .tests) j) (sym (add-one k)) engine-next);
+          engine = subst (λ ρ. Engine (state ρ) function′ first′ second′ representative′ head′ link′ value′ left′ right′ registers (counts′ .terms) (counts′ .tests) (counts′ .tests) (k + 1)) (sym next)
+              (subst (λ j. Engine (after (state (spec.beginning s h k)) l) function′ first′ second′ representative′ head′ link′ value′ left′ right′ registers (counts′ .terms) (counts′ .tests) (counts′ .tests) j) (sym (add-one k)) (judged z));
           feasible = subst (λ ρ. Feasible (state ρ)) (sym next) (elim clashing [ inl (y, x) ↦ absurd (true-false (sym y ∙ z)) | inr (y, x) ↦ x ]);
         }
 
@@ -163,8 +191,8 @@ module _ (s : List ℕ) (h : Header) (n : ℕ) (r : spec.Reads s h n) where
             fails = extend-fails (λ π. Feasible (state π)) (spec.beginning s h k ▸ l) (drop (k + 1) (spec.lettersIn s)) (suc k)
                 (inr (ap suc so-long, w .feasible, elim clashing [ inl (y, x) ↦ x | inr (y, x) ↦ absurd (true-false (sym z ∙ y)) ]))
 
-  module _ (function first second representative value left right : List ℕ) (registers : ℕ) (counts : Counts) (k : ℕ) (b : n ≤ k) (e : registers ≡ h .registers)
-      (w : spec.Running s h function first second representative value left right registers (counts .terms) (counts .tests) k) where
+  module _ (function first second representative head link value left right : List ℕ) (registers : ℕ) (counts : Counts) (k : ℕ) (b : n ≤ k) (e : registers ≡ h .registers)
+      (w : spec.Running s h function first second representative head link value left right registers (counts .terms) (counts .tests) (counts .parted) k) where
     all : take k (spec.lettersIn s) ≡ spec.lettersIn s
     all = take-all k (spec.lettersIn s) (let c = r .count in omega arith)
 
@@ -181,10 +209,10 @@ module _ (s : List ℕ) (h : Header) (n : ℕ) (r : spec.Reads s h n) where
         })))
 
   -- how a run begins
-  module _ (function first second representative value left right representative′ value′ : List ℕ) (bf : spec.Blank function) (bo : spec.Blank first) (bs : spec.Blank second) (br : spec.Blank representative)
-      (lv : length value ≡ 8) (ll : length left ≡ 1024) (lr : length right ≡ 1024) where
-    begun : spec.Began representative value (h .registers) representative′ value′ → spec.Running s h function first second representative′ value′ left right (h .registers) (h .registers) 0 0
-    unfolding Below
+  module _ (function first second representative head link value left right representative′ value′ : List ℕ) (bf : spec.Blank function) (bo : spec.Blank first) (bs : spec.Blank second) (br : spec.Blank representative)
+      (lh : length head ≡ 1021) (zh : (b : ℕ) → getD head b 0 ≡ 0) (bl : spec.Blank link) (lv : length value ≡ 8) (ll : length left ≡ 1024) (lr : length right ≡ 1024) where
+    begun : spec.Began representative value (h .registers) representative′ value′ → spec.Running s h function first second representative′ head link value′ left right (h .registers) (h .registers) 0 0 0
+    unfolding Below Parts
     begun b = record {
       few = omega arith;
       engine = record {
@@ -203,6 +231,7 @@ module _ (s : List ℕ) (h : Header) (n : ℕ) (r : spec.Reads s h n) where
           second-before = λ k l. let z = bs .zero k in omega arith;
         };
         represents = represents-start h (at function) (at first) (at second) (at representative′) (at value′) class-at value-at;
+        indexed = record { chains = chains-none head link (h .registers) lh (bl .long) zh (bl .zero) (fit .0 .some); complete = complete-none (signatureAt representative′ function first second) (h .registers) head link };
         sides = record { left-below = λ q l. absurd (omega arith); right-below = λ q l. absurd (omega arith); listed = λ q l. absurd (omega arith); all = λ u v m. absurd (List·Memᴰ·not-nil m) };
         eight = eight;
         four = fit .0 .functions;
@@ -214,6 +243,8 @@ module _ (s : List ℕ) (h : Header) (n : ℕ) (r : spec.Reads s h n) where
         right-long = lr;
         terms-few = let l = eight in omega arith;
         tests-few = omega arith;
+        parts = λ q l. absurd (omega arith);
+        parts-few = omega arith;
       };
       feasible = corollary-2 (start h) (state-valid (begin h) tt) .1 (λ c. List·Memᴰ·not-nil (c .2));
     }
@@ -227,5 +258,6 @@ module _ (s : List ℕ) (h : Header) (n : ℕ) (r : spec.Reads s h n) where
         value-at : (k : ℕ) → k < h .registers → getD value′ k 0 ≡ k
         value-at k l = ap (λ (r : List ℕ). getD r k 0) (b .values) ∙ done-below (λ i _. i) (h .registers) value 0 k l (let o = eight in omega arith)
 
-    pub begins : (registers : ℕ) → registers ≡ h .registers → spec.Began representative value registers representative′ value′ → spec.Running s h function first second representative′ value′ left right registers registers 0 0
-    begins registers e b = subst (λ g. spec.Running s h function first second representative′ value′ left right g g 0 0) (sym e) (begun (subst (λ g. spec.Began representative value g representative′ value′) e b))
+    pub begins : (registers : ℕ) → registers ≡ h .registers → spec.Began representative value registers representative′ value′
+        → spec.Running s h function first second representative′ head link value′ left right (h .registers) (h .registers) 0 0 0
+    begins registers e b = begun (subst (λ g. spec.Began representative value g representative′ value′) e b)

@@ -1,25 +1,33 @@
 // The whole-trace engine: the closure over all computed terms of a trace, letter by letter.
+//
+// The arrays are those of crate `closure`: the terms, their classes and the index. `value` has the term of each register,
+// `left` and `right` the two sides of each unequal test.
 ghost use mathlib.Core.Path.{_≡_};
-ghost use Prim.Native.Nat.{ℕ, _+_, _*_, _<_, _≤_};
-ghost use lib.ListN.{length, getD};
-ghost use Rattle.engine.specs.Engine.{Ready, Performed, Applied};
-ghost use Rattle.engine.specs.Run.{Reads, Blank, Began, Ran};
-ghost use Rattle.closure.specs.Arrays.{Formed};
+ghost use Prim.Native.Nat.{_<_, _≤_};
+ghost use Rattle.engine.specs.Engine.{Ready, Performed, Appliable, Applied, Computable, Computing, Equatable, Equated, Notable, Noted, nameOf};
+ghost use Rattle.engine.specs.Run.{Reads, Blank, Began, Running, Ran};
+use closure::Heads;
 use closure::Numbers;
 use letters::DecodedLetter;
 use letters::Header;
 use letters::Letter;
 use letters::traces;
 
-/// How many terms were computed, and how many unequal tests were made.
+/// What was counted so far.
 pub struct Counts {
+    /// The computed terms.
     pub terms: usize,
+    /// The unequal tests.
     pub tests: usize,
+    /// The first unequal tests, so many, are known to have their sides in different classes.
+    pub parted: usize,
 }
 
 /// How a run over a trace ends: with the number of computed terms, or at the first infeasible letter.
 pub enum Outcome {
+    /// All letters are feasible; so many terms were computed.
     Feasible(usize),
+    /// The number of the first infeasible letter, from 1.
     Infeasible(u64),
 }
 
@@ -29,36 +37,166 @@ fn wide(x: u16) -> usize
     x as usize
 }
 
+// The class of the application that the index has, or of the new one.
+fn name(representative: &Numbers, found: usize, count: usize) -> u16
+    requires { ⌜ (found ≤ count) × (count < 1032) ⌝ }
+    ensures { λ r. ⌜ r ≡ nameOf (now (representative .entry)) found count ⌝ }
+{
+    if found == count {
+        return count as u16;
+    }
+    representative[found]
+}
+
 // A new term, f of the terms a and b.
 fn apply(
     function: &mut Numbers,
     first: &mut Numbers,
     second: &mut Numbers,
     representative: &mut Numbers,
+    head: &mut Heads,
+    link: &mut Numbers,
     registers: usize,
     count: usize,
     f: u16,
     a: u16,
     b: u16,
 )
-    requires { ⌜ Formed (now representative) (now function) (now first) (now second) registers count × (count < 1032) × (a < count) × (b < count) ⌝ }
-    ensures { λ _. ⌜ Applied (now (function .entry)) (now (first .entry)) (now (second .entry)) (now (representative .entry)) registers count f a b (now (function .exit)) (now (first .exit)) (now (second .exit)) (now (representative .exit)) ⌝ }
+    requires { ⌜ Appliable (now function) (now first) (now second) (now representative) (now head) (now link) registers count f a b ⌝ }
+    ensures { λ _. ⌜ Applied (now (function .entry)) (now (first .entry)) (now (second .entry)) (now (representative .entry)) (now (head .entry)) (now (link .entry)) registers count f a b (now (function .exit)) (now (first .exit)) (now (second .exit)) (now (representative .exit)) (now (head .exit)) (now (link .exit)) ⌝ }
 {
-    let name = closure::lookup(
+    let c = closure::signature(representative, f, a, b);
+    let found = closure::enter(
         representative,
         function,
         first,
         second,
+        head,
+        link,
         registers,
         count,
-        wide(f),
-        wide(a),
-        wide(b),
+        c,
     );
+    let class = name(representative, found, count);
     function[count] = f;
     first[count] = a;
     second[count] = b;
-    representative[count] = name as u16;
+    representative[count] = class;
+}
+
+// target := f(a, b), with registers.
+fn compute(
+    function: &mut Numbers,
+    first: &mut Numbers,
+    second: &mut Numbers,
+    representative: &mut Numbers,
+    head: &mut Heads,
+    link: &mut Numbers,
+    value: &mut [u16; 8],
+    registers: usize,
+    counts: Counts,
+    target: u8,
+    f: u8,
+    a: u8,
+    b: u8,
+) -> Counts
+    requires { ⌜ Computable (now function) (now first) (now second) (now representative) (now head) (now link) (now value) registers counts target f a b ⌝ }
+    ensures { λ r. ⌜ Computing (now (function .entry)) (now (first .entry)) (now (second .entry)) (now (representative .entry)) (now (head .entry)) (now (link .entry)) (now (value .entry)) registers counts target f a b (now (function .exit)) (now (first .exit)) (now (second .exit)) (now (representative .exit)) (now (head .exit)) (now (link .exit)) (now (value .exit)) r ⌝ }
+{
+    let terms = counts.terms;
+    let x = value[a as usize];
+    let y = value[b as usize];
+    apply(
+        function,
+        first,
+        second,
+        representative,
+        head,
+        link,
+        registers,
+        terms,
+        f as u16,
+        x,
+        y,
+    );
+    value[target as usize] = terms as u16;
+    let mut next = counts;
+    next.terms = terms + 1;
+    next
+}
+
+// The equal test of the registers a and b.
+fn equate(
+    function: &Numbers,
+    first: &Numbers,
+    second: &Numbers,
+    representative: &mut Numbers,
+    head: &mut Heads,
+    link: &mut Numbers,
+    value: &[u16; 8],
+    registers: usize,
+    counts: Counts,
+    a: u8,
+    b: u8,
+) -> Counts
+    requires { ⌜ Equatable (now function) (now first) (now second) (now representative) (now head) (now link) (now value) registers counts a b ⌝ }
+    ensures { λ r. ⌜ Equated (now (function .entry)) (now (first .entry)) (now (second .entry)) (now (representative .entry)) (now (value .entry)) registers counts a b (now (representative .exit)) (now (head .exit)) (now (link .exit)) r ⌝ }
+{
+    let terms = counts.terms;
+    let x = wide(value[a as usize]);
+    let y = wide(value[b as usize]);
+    if representative[x] == representative[y] {
+        return counts;
+    }
+    closure::merge(
+        representative,
+        function,
+        first,
+        second,
+        head,
+        link,
+        registers,
+        terms,
+        x,
+        y,
+    );
+    let mut next = counts;
+    next.parted = 0;
+    next
+}
+
+// A copy or an unequal test.
+fn note(
+    letter: Letter,
+    value: &mut [u16; 8],
+    left: &mut [u16; 1024],
+    right: &mut [u16; 1024],
+    counts: Counts,
+) -> Counts
+    requires { ⌜ Notable letter counts ⌝ }
+    ensures { λ r. ⌜ Noted letter (now (value .entry)) (now (left .entry)) (now (right .entry)) counts (now (value .exit)) (now (left .exit)) (now (right .exit)) r ⌝ }
+{
+    match letter {
+        Letter::Copy { target, source } => {
+            value[target as usize] = value[source as usize];
+            return counts;
+        }
+        Letter::Unequal {
+            first: a,
+            second: b,
+        } => {
+            let tests = counts.tests;
+            left[tests] = value[a as usize];
+            right[tests] = value[b as usize];
+            return Counts {
+                terms: counts.terms,
+                tests: tests + 1,
+                parted: counts.parted,
+            };
+        }
+        Letter::Apply { .. } => counts,
+        Letter::Equal { .. } => counts,
+    }
 }
 
 // One letter.
@@ -68,76 +206,56 @@ fn step(
     first: &mut Numbers,
     second: &mut Numbers,
     representative: &mut Numbers,
+    head: &mut Heads,
+    link: &mut Numbers,
     value: &mut [u16; 8],
     left: &mut [u16; 1024],
     right: &mut [u16; 1024],
     registers: usize,
     counts: Counts,
 ) -> Counts
-    requires { ⌜ Ready letter (now function) (now first) (now second) (now representative) (now value) (now left) (now right) registers counts ⌝ }
-    ensures { λ r. ⌜ Performed letter (now (function .entry)) (now (first .entry)) (now (second .entry)) (now (representative .entry)) (now (value .entry)) (now (left .entry)) (now (right .entry)) registers counts (now (function .exit)) (now (first .exit)) (now (second .exit)) (now (representative .exit)) (now (value .exit)) (now (left .exit)) (now (right .exit)) r ⌝ }
+    requires { ⌜ Ready letter (now function) (now first) (now second) (now representative) (now head) (now link) (now value) (now left) (now right) registers counts ⌝ }
+    ensures { λ r. ⌜ Performed letter (now (function .entry)) (now (first .entry)) (now (second .entry)) (now (representative .entry)) (now (head .entry)) (now (link .entry)) (now (value .entry)) (now (left .entry)) (now (right .entry)) registers counts (now (function .exit)) (now (first .exit)) (now (second .exit)) (now (representative .exit)) (now (head .exit)) (now (link .exit)) (now (value .exit)) (now (left .exit)) (now (right .exit)) r ⌝ }
 {
-    let terms = counts.terms;
-    let tests = counts.tests;
     match letter {
-        Letter::Copy { target, source } => {
-            value[target as usize] = value[source as usize];
-            return counts;
-        }
+        Letter::Copy { .. } => note(letter, value, left, right, counts),
+        Letter::Unequal { .. } => note(letter, value, left, right, counts),
         Letter::Apply {
             target,
             function: f,
             first: a,
             second: b,
-        } => {
-            let x = value[a as usize];
-            let y = value[b as usize];
-            apply(
-                function,
-                first,
-                second,
-                representative,
-                registers,
-                terms,
-                f as u16,
-                x,
-                y,
-            );
-            value[target as usize] = terms as u16;
-            return Counts {
-                terms: terms + 1,
-                tests: tests,
-            };
-        }
+        } => compute(
+            function,
+            first,
+            second,
+            representative,
+            head,
+            link,
+            value,
+            registers,
+            counts,
+            target,
+            f,
+            a,
+            b,
+        ),
         Letter::Equal {
             first: a,
             second: b,
-        } => {
-            let x = wide(value[a as usize]);
-            let y = wide(value[b as usize]);
-            closure::merge(
-                representative,
-                function,
-                first,
-                second,
-                registers,
-                terms,
-                x,
-                y,
-            );
-            return counts;
-        }
-        Letter::Unequal {
-            first: a,
-            second: b,
-        } => {
-            left[tests] = value[a as usize];
-            right[tests] = value[b as usize];
-            return Counts {
-                terms: terms,
-                tests: tests + 1,
-            };
-        }
+        } => equate(
+            function,
+            first,
+            second,
+            representative,
+            head,
+            link,
+            value,
+            registers,
+            counts,
+            a,
+            b,
+        ),
     }
 }
 
@@ -152,6 +270,62 @@ fn begin(representative: &mut Numbers, value: &mut [u16; 8], registers: usize)
         value[i] = i as u16;
         i = i + 1;
     }
+}
+
+// Runs over the letters from arrays that hold the state before them.
+fn perform(
+    header: Header,
+    trace: &[u8],
+    letters: usize,
+    function: &mut Numbers,
+    first: &mut Numbers,
+    second: &mut Numbers,
+    representative: &mut Numbers,
+    head: &mut Heads,
+    link: &mut Numbers,
+    value: &mut [u16; 8],
+    left: &mut [u16; 1024],
+    right: &mut [u16; 1024],
+) -> Outcome
+    requires { ⌜ Reads (now trace) header letters × Running (now trace) header (now function) (now first) (now second) (now representative) (now head) (now link) (now value) (now left) (now right) (header .registers) (header .registers) 0 0 0 ⌝ }
+    ensures { λ r. ⌜ Ran (now (trace .entry)) header (now (function .exit)) (now (first .exit)) (now (second .exit)) (now (representative .exit)) r ⌝ }
+{
+    let registers = header.registers as usize;
+    let mut counts = Counts {
+        terms: registers,
+        tests: 0,
+        parted: 0,
+    };
+    let mut k: usize = 0;
+    while k < letters {
+        let decoded = traces::letter_at(header, trace, k);
+        // Every letter was read before, so this one is well formed.
+        let DecodedLetter::Letter(letter) = decoded else {
+            return Outcome::Infeasible(0);
+        };
+        counts = step(
+            letter,
+            function,
+            first,
+            second,
+            representative,
+            head,
+            link,
+            value,
+            left,
+            right,
+            registers,
+            counts,
+        );
+        let parted = counts.parted;
+        let tests = counts.tests;
+        if closure::clash(representative, left, right, parted, tests) {
+            return Outcome::Infeasible(k as u64 + 1);
+        }
+        counts.parted = tests;
+        k = k + 1;
+    }
+    Outcome::Feasible(counts.terms)
 }
 
 /// Runs over the letters of a trace that was read. Unless one is infeasible, the arrays then hold the computed terms and their classes.
@@ -169,38 +343,24 @@ pub fn run(
     ensures { λ r. ⌜ Ran (now (trace .entry)) header (now (function .exit)) (now (first .exit)) (now (second .exit)) (now (representative .exit)) r ⌝ }
 {
     let registers = header.registers as usize;
+    let mut head = [0u16; 1021];
+    let mut link = [0u16; 1032];
     let mut value = [0u16; 8];
     let mut left = [0u16; 1024];
     let mut right = [0u16; 1024];
-    let mut counts = Counts {
-        terms: registers,
-        tests: 0,
-    };
-    let mut k: usize = 0;
     begin(representative, &mut value, registers);
-    while k < letters {
-        let decoded = traces::letter_at(header, trace, k);
-        // Every letter was read before, so this one is well formed.
-        let DecodedLetter::Letter(letter) = decoded else {
-            return Outcome::Infeasible(0);
-        };
-        counts = step(
-            letter,
-            function,
-            first,
-            second,
-            representative,
-            &mut value,
-            &mut left,
-            &mut right,
-            registers,
-            counts,
-        );
-        let tests = counts.tests;
-        if closure::clash(representative, &left, &right, tests) {
-            return Outcome::Infeasible(k as u64 + 1);
-        }
-        k = k + 1;
-    }
-    Outcome::Feasible(counts.terms)
+    perform(
+        header,
+        trace,
+        letters,
+        function,
+        first,
+        second,
+        representative,
+        &mut head,
+        &mut link,
+        &mut value,
+        &mut left,
+        &mut right,
+    )
 }

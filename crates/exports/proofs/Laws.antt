@@ -19,6 +19,12 @@ use Rattle.syntax.specs.Answer as syntax
 use Rattle.syntax.specs.declared.Answer.{Answer}
 use Rattle.exports.specs.Numbers.{laidOver, runNumbers, monitored, modelNumbers, modelled, modelOutput, macroRead}
 use Rattle.exports.specs.Held.{heldNumbers, held-macro}
+use Rattle.semantics.specs.Models.{Feasible}
+use Rattle.verdicts.specs.Demand3.{Demand3}
+use Rattle.search.specs.Answering as search
+use Rattle.search.specs.declared.Verdict as searched
+use Rattle.search.specs.declared.Verdict.the-variants as found
+use Rattle.exports.specs.Judging.{verdictNumbers, Judging}
 
 -- ---- An answer
 
@@ -93,3 +99,32 @@ pub read-stored : (text stored answer answer′ : List ℕ) (a : Answer) → a �
     → answer′ ≡ macroRead text answer
 unfolding macroRead
 read-stored text stored answer answer′ a e same = laid-stored 5 _ stored answer answer′ (same ∙ ap heldNumbers e ∙ held-macro (readMacro text))
+
+-- ---- The verdict on a macro
+
+pub numbers-pass : (v : searched.Verdict) (pairs : ℕ) → v ≡ found.Pass pairs → 0 ∷ 0 ∷ 0 ∷ pairs ∷ 0 ∷ [] ≡ verdictNumbers (search.answerOf v)
+unfolding verdictNumbers
+numbers-pass v pairs e = rw e refl
+
+pub numbers-fail : (v : searched.Verdict) (pairs letters : ℕ) → v ≡ found.Fail pairs letters → 0 ∷ 0 ∷ 1 ∷ pairs ∷ letters ∷ [] ≡ verdictNumbers (search.answerOf v)
+unfolding verdictNumbers
+numbers-fail v pairs letters e = rw e refl
+
+pub numbers-incoherent : (v : searched.Verdict) (pairs letters : ℕ) → v ≡ found.Incoherent pairs letters → 0 ∷ 0 ∷ 2 ∷ pairs ∷ letters ∷ [] ≡ verdictNumbers (search.answerOf v)
+unfolding verdictNumbers
+numbers-incoherent v pairs letters e = rw e refl
+
+pub numbers-unjudged : (v : searched.Verdict) (number place : ℕ) → v ≡ found.Refused number place → number ∷ place ∷ 0 ∷ 0 ∷ 0 ∷ [] ≡ verdictNumbers (search.answerOf v)
+unfolding verdictNumbers
+numbers-unjudged v number place e = rw e refl
+
+pub judging-short : (text table output answer : List ℕ) → length answer < 5 → Judging text table output answer table output answer
+judging-short text table output answer short = record { short = λ _. (refl, refl, refl); judged = λ room. absurd (too-short short room) }
+
+pub judging-stored : (text table output answer table′ output′ stored answer′ : List ℕ) (v : searched.Verdict) → Demand3 Feasible text table output (search.answerOf v) table′ output′
+    → stored ≡ verdictNumbers (search.answerOf v) → length stored ≡ 5 → 5 ≤ length answer → answer′ ≡ stored ++ drop (length stored) answer
+    → Judging text table output answer table′ output′ answer′
+judging-stored text table output answer table′ output′ stored answer′ v demand same full room e = record {
+  short = λ short. absurd (too-short short room);
+  judged = λ _. (search.answerOf v, demand, e ∙ rw full (ap (λ l. l ++ drop 5 answer) same));
+}

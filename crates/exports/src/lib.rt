@@ -1,6 +1,7 @@
 // The proved functions for Rust and C: numbers and slices. A slice passes as a pointer and its length.
 // Each function stores its answer as numbers over the front of a lent slice. If the slice is too short for them, nothing is done.
 use monitoring::Verdict;
+use search::Verdict as MacroVerdict;
 use shown::Shown;
 use syntax::Answer;
 ghost use mathlib.Core.Path.{_≡_};
@@ -13,6 +14,8 @@ ghost use Rattle.monitoring.specs.Stream.{answerOf};
 ghost use Rattle.shown.specs.Answer.{shownAnswer};
 ghost use Rattle.exports.specs.Numbers.{runNumbers, monitored, modelNumbers, modelled, modelOutput, macroRead};
 ghost use Rattle.exports.specs.Held.{heldNumbers};
+ghost use Rattle.search.specs.Answering as search;
+ghost use Rattle.exports.specs.Judging.{verdictNumbers, Judging};
 
 // Stores the numbers over the front of the answer.
 fn store(numbers: &[u64], answer: &mut [u64])
@@ -102,5 +105,37 @@ pub extern "C" fn fadzgime_read(text: &[u8], answer: &mut [u64])
     }
     let read = syntax::read(text);
     let numbers = macro_numbers(read);
+    store(&numbers, answer);
+}
+
+// The numbers of the verdict on a macro.
+fn verdict_numbers(verdict: MacroVerdict) -> [u64; 5]
+    ensures { λ r. ⌜ r ≡ verdictNumbers (search.answerOf verdict) ⌝ }
+{
+    match verdict {
+        MacroVerdict::Pass(pairs) => [0, 0, 0, pairs as u64, 0],
+        MacroVerdict::Fail(pairs, letters) => [0, 0, 1, pairs as u64, letters as u64],
+        MacroVerdict::Incoherent(pairs, letters) => [0, 0, 2, pairs as u64, letters as u64],
+        MacroVerdict::Refused(number, place) => [number as u64, place as u64, 0, 0, 0],
+    }
+}
+
+/// The verdict on a macro over all its executions: the refusal and its place, 0 for none; 0 for pass, 1 for fail, 2 for incoherent; the pairs;
+/// the letters of the execution of the first event, 0 for none. That execution stands packed at the front of the output, on fail its model
+/// behind it. The table is room for pairs, 192 bytes each; after a search it is all zero.
+#[no_mangle]
+pub extern "C" fn fadzgime_verdict(
+    text: &[u8],
+    table: &mut [u8],
+    out: &mut [u8],
+    answer: &mut [u64],
+)
+    ensures { λ _. ⌜ Judging (now (text .entry)) (now (table .entry)) (now (out .entry)) (now (answer .entry)) (now (table .exit)) (now (out .exit)) (now (answer .exit)) ⌝ }
+{
+    if answer.len() < 5 {
+        return;
+    }
+    let verdict = search::judge_macro(text, table, out);
+    let numbers = verdict_numbers(verdict);
     store(&numbers, answer);
 }

@@ -3,7 +3,11 @@ use Prim.Native.Nat.{ℕ, _+_}
 use mathlib.Core.Bool.{Bool, not}
 use lib.Dec.{ltb, eqb}
 use Rattle.base.specs.Choice.{pick}
+use Rattle.letters.specs.declared.Header.{Header}
+use Rattle.letters.specs.declared.Letter.{Letter}
 use Rattle.letters.specs.Answers.{Answer, value, refusal, onAnswer}
+use Rattle.window.specs.Perform.{performOf}
+use Rattle.window.specs.declared.Window.{Window}
 use Rattle.monitoring.specs.Monitor.{outcomeAnswer, startOf, advance}
 use Rattle.monitoring.specs.declared.Monitor.{Monitor}
 use Rattle.monitoring.specs.declared.Run.{Run}
@@ -34,6 +38,14 @@ firstOf named now number = pick (eqb named 0) (λ _. pick now (λ _. number) λ 
 
 abbrev pub runWith : Monitor → ℕ → Verdict → Run
 runWith m letters verdict = record { monitor = m; letters = letters; verdict = verdict }
+
+-- the run with these parts
+abbrev pub runOf : Header → Window → Bool → ℕ → Verdict → Run
+runOf h w running letters verdict = runWith (record { header = h; window = w; running = running }) letters verdict
+
+-- the window after a letter, which is performed only if it is fine
+unfoldable pub performedOf : Window → Bool → Letter → Window
+performedOf w fine a = pick fine (λ _. performOf w a) λ _. w
 
 -- the run after a letter of this number that left this monitor
 unfoldable pub judgedRun : Monitor → ℕ → ℕ → ℕ → Run

@@ -1,5 +1,6 @@
 -- The run over a trace's bytes, one by one. What the code computes.
 use Prim.Native.Nat.{ℕ, _+_, _*_}
+use mathlib.Core.Bool.{Bool, true, false}
 use mathlib.Core.List.{List, [], _∷_}
 use Rattle.monitoring.specs.Monitor.{idleOf}
 use Rattle.monitoring.specs.Run.{runWith, begunRun, takenRun}
@@ -36,6 +37,19 @@ finishedIn Odd s = Refused 2 0
 
 unfoldable pub finishedOf : Stream → Verdict
 finishedOf s = finishedIn (s .phase) s
+
+-- whether the next byte begins a letter
+abbrev pub atLetter : Phase → Bool
+atLetter Empty = false
+atLetter One = false
+atLetter Even = true
+atLetter Odd = false
+
+-- letter after letter, two bytes a word; a last byte without its other half is left alone
+unfoldable pub takenAll : Run → List ℕ → Run
+takenAll run [] = run
+takenAll run (high ∷ []) = run
+takenAll run (high ∷ low ∷ bytes) = takenAll (takenRun run (high * 256 + low)) bytes
 
 -- byte after byte
 unfoldable pub pushedAll : Stream → List ℕ → Stream

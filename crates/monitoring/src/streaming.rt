@@ -1,16 +1,30 @@
 // The run over a trace's bytes, all at once or one by one. Questions 1 and 2 are about the whole length, so they are answered at the end.
+use super::Monitor;
 use super::Phase;
 use super::Run;
 use super::Stream;
 use super::Verdict;
 use super::numbering::begin;
+use super::numbering::first;
+use super::numbering::next_number;
 use super::numbering::take;
 use super::starting::idle;
+use letters::DecodedLetter;
+use letters::Header;
+use letters::Letter;
+use letters::words::decode_letter;
 use letters::words::word;
+use window::Window;
+use window::judge;
+use window::perform;
 ghost use mathlib.Core.Path.{_≡_};
+ghost use mathlib.Core.Bool.{true};
+ghost use Prim.Native.Nat.{_≤_, _<_};
+ghost use lib.ListN.{length, drop};
+ghost use Rattle.window.specs.Perform.{Within};
 ghost use Rattle.monitoring.specs.Demand2.{Demand2};
-ghost use Rattle.monitoring.specs.Run.{verdictAnswer};
-ghost use Rattle.monitoring.specs.Stream.{emptyStream, pushedOf, finishedOf, pushedAll, answerOf};
+ghost use Rattle.monitoring.specs.Run.{verdictAnswer, performedOf, runOf};
+ghost use Rattle.monitoring.specs.Stream.{emptyStream, pushedOf, finishedOf, takenAll, atLetter, pushedAll, answerOf};
 
 /// A stream before its first byte.
 pub fn start() -> Stream
@@ -80,6 +94,100 @@ pub fn finish(s: Stream) -> Verdict
     }
 }
 
+// The window after a letter, which is performed only if it is fine.
+fn performed(window: Window, fine: bool, letter: Letter) -> Window
+    requires { ⌜ Within letter ⌝ }
+    ensures { λ r. ⌜ r ≡ performedOf window fine letter ⌝ }
+{
+    if fine {
+        return perform(window, letter);
+    }
+    window
+}
+
+// A run from its parts.
+fn run_of(header: Header, window: Window, running: bool, letters: u64, verdict: Verdict) -> Run
+    ensures { λ r. ⌜ r ≡ runOf header window running letters verdict ⌝ }
+{
+    let monitor = Monitor {
+        header,
+        window,
+        running,
+    };
+    Run {
+        monitor,
+        letters,
+        verdict,
+    }
+}
+
+// Takes the letters whose words are the bytes from `start` on; a last byte without its other half is left alone. The parts of the run
+// are kept apart, so that a letter copies no more than the window.
+fn take_all(run: Run, bytes: &[u8], start: usize) -> Run
+    requires { ⌜ start ≤ length (now bytes) ⌝ }
+    ensures { λ r. ⌜ r ≡ takenAll run (drop start (now (bytes .entry))) ⌝ }
+{
+    let verdict = run.verdict;
+    let Verdict::Judged(one, two) = verdict else {
+        return run;
+    };
+    let monitor = run.monitor;
+    let header = monitor.header;
+    let mut window = monitor.window;
+    let mut running = monitor.running;
+    let mut letters = run.letters;
+    let mut incoherent = one;
+    let mut infeasible = two;
+    let mut i = start;
+    while bytes.len() - i > 1 {
+        let decoded = decode_letter(header, word(bytes[i], bytes[i + 1]));
+        let number = next_number(letters);
+        let DecodedLetter::Letter(letter) = decoded else {
+            let refused = Verdict::Refused(4, number);
+            return run_of(header, window, running, letters, refused);
+        };
+        running = running & judge(window, letter);
+        window = performed(window, running, letter);
+        letters = number;
+        incoherent = first(incoherent, !running, number);
+        infeasible = first(infeasible, window.infeasible, number);
+        i = i + 2;
+    }
+    let judged = Verdict::Judged(incoherent, infeasible);
+    run_of(header, window, running, letters, judged)
+}
+
+// Whether the next byte begins a letter.
+fn at_letter(phase: Phase) -> bool
+    ensures { λ r. ⌜ r ≡ atLetter phase ⌝ }
+{
+    match phase {
+        Phase::Empty => false,
+        Phase::One => false,
+        Phase::Even => true,
+        Phase::Odd => false,
+    }
+}
+
+// Takes the bytes from `start` on, one at least, the first of which begins a letter.
+fn push_letters(s: Stream, bytes: &[u8], start: usize) -> Stream
+    requires { ⌜ (atLetter (s .phase) ≡ true) × (start < length (now bytes)) ⌝ }
+    ensures { λ r. ⌜ r ≡ pushedAll s (drop start (now (bytes .entry))) ⌝ }
+{
+    let held = s.run;
+    let run = take_all(held, bytes, start);
+    let next = Stream {
+        phase: Phase::Even,
+        high: 0,
+        run,
+    };
+    let n = bytes.len();
+    if (n - start) % 2 == 1 {
+        return push(next, bytes[n - 1]);
+    }
+    next
+}
+
 /// Takes the next bytes, one after the other.
 pub fn push_all(s: Stream, bytes: &[u8]) -> Stream
     ensures { λ r. ⌜ r ≡ pushedAll s (now (bytes .entry)) ⌝ }
@@ -87,6 +195,10 @@ pub fn push_all(s: Stream, bytes: &[u8]) -> Stream
     let mut next = s;
     let mut i: usize = 0;
     while i < bytes.len() {
+        let phase = next.phase;
+        if at_letter(phase) {
+            return push_letters(next, bytes, i);
+        }
         let pushed = push(next, bytes[i]);
         next = pushed;
         i = i + 1;

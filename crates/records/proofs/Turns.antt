@@ -1,8 +1,8 @@
 -- One turn of each loop, in plain variables: what the calls and the loop's test say stands in the premises.
 use mathlib.Core.Path.{_≡_, refl, sym, ap, _∙_, subst}
-use Prim.Native.Nat.{ℕ, _+_, _-_, _*_, _/_, _%_, _≤_, _<_}
+use Prim.Native.Nat.{ℕ, _+_, _-_, _*_, _/_, _%_, _^_, _≤_, _<_}
 use native.Mathlib.Omega.{arith}
-use native.Mathlib.Nat.{add-assoc}
+use native.Mathlib.Nat.{add-assoc, zero-div}
 use native.Mathlib.Numerals.{add-one}
 use mathlib.Core.List.{List, [], _∷_, _++_, append-nil}
 use lib.ListN.{length, getD, set, take, drop, replicate, length-append, drop-of-length-le}
@@ -20,16 +20,25 @@ lay-turn d s e at i h g p = rw (p, add-one) (paste-suc d at s i 0 h g)
 pub lay-end : (d s e : List ℕ) (at i : ℕ) → i ≡ length s → e ≡ paste d at s i → e ≡ take at d ++ s ++ drop (at + length s) d
 lay-end d s e at i h p = rw (p, h, take-all (length s) s (omega arith))
 
+-- two entries that hold nothing and were never computed
+pub byte-empty : (low high ever b : ℕ) → low + high + ever ≡ 0 → 0 ≡ codeOf 8 low (bit ever b) + 16 * codeOf 8 high (bit ever (b + 1))
+unfolding codeOf
+byte-empty low high ever b e =
+    let l : low ≡ 0 = omega arith in
+    let h : high ≡ 0 = omega arith in
+    let z : ever ≡ 0 = omega arith in
+    rw (l, h, z, zero-div (2 ^ b), zero-div (2 ^ (b + 1))) refl
+
 -- the codes of two entries next to each other, as their bits stand in one line of `ever`
-pub code-turn : (result ever : List ℕ) (i line low high : ℕ) → line ≡ getD ever (i / 4) 0 → low ≡ codeOf 8 (getD result (2 * i) 0) (bit line (2 * (i % 4))) → high ≡ codeOf 8 (getD result (2 * i + 1) 0) (bit line (2 * (i % 4) + 1))
-    → low + 16 * high ≡ codeByte result ever i
+pub code-turn : (result ever : List ℕ) (i line both : ℕ) → line ≡ getD ever (i / 4) 0 → both ≡ codeOf 8 (getD result (2 * i) 0) (bit line (2 * (i % 4))) + 16 * codeOf 8 (getD result (2 * i + 1) 0) (bit line (2 * (i % 4) + 1))
+    → both ≡ codeByte result ever i
 unfolding codeByte
-code-turn result ever i line low high e l h =
+code-turn result ever i line both e l =
     let a : 2 * i / 8 ≡ i / 4 = omega arith in
     let b : (2 * i + 1) / 8 ≡ i / 4 = omega arith in
     let c : 2 * i % 8 ≡ 2 * (i % 4) = omega arith in
     let d : (2 * i + 1) % 8 ≡ 2 * (i % 4) + 1 = omega arith in
-    rw (l, h, e, a, b, c, d)
+    rw (l, e, a, b, c, d)
 
 pub check-turn : (bytes : List ℕ) (sum sums i x : ℕ) → i < length bytes → x ≡ getD bytes i 0 → checksumOf (sum + x) (sums + (sum + x)) (drop (i + 1) bytes) ≡ checksumOf sum sums (drop i bytes)
 unfolding checksumOf

@@ -3,8 +3,7 @@ use window::Window;
 ghost use mathlib.Core.Path.{_≡_};
 ghost use Prim.Native.Nat.{_+_, _*_, _/_, _%_, _≤_, _<_};
 ghost use mathlib.Core.List.{_++_, map};
-ghost use lib.Dec.{eqb};
-ghost use lib.ListN.{length, take, drop, getD};
+ghost use lib.ListN.{length, take, drop};
 ghost use Rattle.base.specs.Masks.{bit};
 ghost use Rattle.records.specs.Codes.{codeOf, codesOf, meaningsOf, computedOf};
 ghost use Rattle.records.specs.Records.{flag, join, contentOf, checksumOf, encoded, recordOf, isSet, pointIn, parentIn, branchIn, eightIn, resultIn, everIn, windowIn};
@@ -53,6 +52,17 @@ fn code(mask: u8, ever: u8, b: usize) -> u8
     2 + u8::trailing_zeros(mask) as u8
 }
 
+// The codes of two entries in one byte, at bits b and b + 1 of their line of `ever`. Most entries have none, which one test tells.
+fn code_byte(low: u8, high: u8, ever: u8, b: usize) -> u8
+    requires { ⌜ b < 7 ⌝ }
+    ensures { λ r. ⌜ r ≡ codeOf 8 low (bit ever b) + 16 * codeOf 8 high (bit ever (b + 1)) ⌝ }
+{
+    if wide(low) + wide(high) + wide(ever) == 0 {
+        return 0;
+    }
+    code(low, ever, b) + 16 * code(high, ever, b + 1)
+}
+
 // The codes of all entries, two to a byte.
 fn codes(result: [u8; 256], ever: [u8; 32]) -> [u8; 128]
     ensures { λ r. ⌜ r ≡ codesOf result ever ⌝ }
@@ -61,10 +71,7 @@ fn codes(result: [u8; 256], ever: [u8; 32]) -> [u8; 128]
     let mut i: usize = 0;
     while i < 128 {
         let line = ever[i / 4];
-        let b = 2 * (i % 4);
-        let low = code(result[2 * i], line, b);
-        let high = code(result[2 * i + 1], line, b + 1);
-        codes[i] = low + 16 * high;
+        codes[i] = code_byte(result[2 * i], result[2 * i + 1], line, 2 * (i % 4));
         i = i + 1;
     }
     codes

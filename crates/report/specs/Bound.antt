@@ -167,6 +167,6 @@ module _ (registers functions : List ℕ) (reg : (r : ℕ) → getD registers r 
       rows-few (Fail pairs n) = word-small s b (modelStart n + 2)
       rows-few (Refused number place) = omega arith
 
-  -- With at most 341 letters and rows and 8 registers, as the verdict program has them, 32,768 bytes suffice.
-  pub report-fits : (v : Verdict) → Limited v → letterNumber v ≤ 341 → rowNumber v s ≤ 341 → h .registers ≤ 8 → length (reportOf registers functions h v s) ≤ 32768
+  -- With at most 341 letters, 349 rows and 8 registers, as the verdict program has them, 32,768 bytes suffice.
+  pub report-fits : (v : Verdict) → Limited v → letterNumber v ≤ 341 → rowNumber v s ≤ 349 → h .registers ≤ 8 → length (reportOf registers functions h v s) ≤ 32768
   report-fits v l n m r = omega (arith, report-length v l)

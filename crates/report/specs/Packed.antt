@@ -5,7 +5,7 @@ use native.Mathlib.Omega.{arith}
 use native.Mathlib.Nat.{add-zero, mul-suc}
 use mathlib.Core.List.{List, [], _∷_, _++_, map}
 use lib.ListN.{length, getD, take, drop, replicate, length-append, length-map, length-drop}
-use lib.Seq.{drop-at}
+use lib.Seq.{drop-at, drop-drop}
 use borrow.Author.Tests.{le-leb}
 use Rattle.letters.specs.declared.Header.{Header}
 use Rattle.letters.specs.declared.Letter.{Letter}
@@ -22,7 +22,7 @@ use Rattle.semantics.specs.PackedTables.{unitsIn, firstRowWidths, packTables, r
 use Rattle.semantics.specs.PackedTablesLaws.{packed-length, read-packed}
 use Rattle.report.specs.declared.Verdict.the-variants.{Incoherent, Fail}
 use Rattle.report.specs.Lines.{incoherent, fail, report}
-use Rattle.report.specs.ShownLaws.{units-count}
+use Rattle.report.specs.ShownLaws.{units-count, wordIn}
 use Rattle.report.specs.Shown.{namesOf, letterOf, lettersIn, modelStart, shown, reportOf}
 
 -- ── the front of a longer list ──
@@ -139,10 +139,32 @@ module _ (h : Header) (t : Tables) (p : Packable firstRowWidths h t) (rest : Lis
       rows = units-front 5 (getD (unitsIn 2 (2 + h .registers) (packTables firstRowWidths h t)) 1 0) (drop (2 * (2 + h .registers)) (packTables firstRowWidths h t)) rest
           (omega (arith, size, rows-count, length-drop (2 * (2 + h .registers)) (packTables firstRowWidths h t)))
 
--- The report of a failing execution with its model.
-pub fail-report : (registers functions : List ℕ) (h : Header) (pairs : ℕ) (ls : List Letter) (t : Tables) (rest : List ℕ) → HeaderFits firstEdition h → AllFit h ls → Packable firstRowWidths h t
-    → reportOf registers functions h (Fail pairs (length ls)) (packing firstEdition h ls ++ (packTables firstRowWidths h t ++ rest)) ≡ report (namesOf registers functions) h (fail pairs ls t)
-unfolding reportOf shown
-fail-report registers functions h pairs ls t rest v f p =
-    ap₂ (λ (l : List Letter) (x : Tables). report (namesOf registers functions) h (fail pairs l x)) (packed-letters h ls v f (packTables firstRowWidths h t ++ rest))
-    (ap (readTables firstRowWidths h) (drop-at (packing firstEdition h ls) (packTables firstRowWidths h t ++ rest) (modelStart (length ls)) (packed-size h ls v f rest)) ∙ packed-tables h t p rest)
+rows-read : (h : Header) (s : List ℕ) → length (readTables firstRowWidths h s .rows) ≡ join (8 ∷ 8 ∷ []) (take 2 (drop 2 s))
+unfolding readTables unitsIn
+rows-read h s =
+    let m : ℕ = getD (unitsIn 2 (2 + h .registers) s) 1 0 in
+    let behind : List ℕ = drop (2 * (2 + h .registers)) s in
+    length-map (unitsIn 5 m behind) (rowFrom firstRowWidths h) ∙ units-count 5 m behind ∙ ap (λ (n : ℕ). getD (unitsIn 2 n s) 1 0) (two-more (h .registers))
+  where
+    two-more : (n : ℕ) → 2 + n ≡ suc (suc n)
+    two-more n = omega arith
+
+-- ── a trace and tables behind it ──
+module _ (h : Header) (ls : List Letter) (t : Tables) (rest : List ℕ) (v : HeaderFits firstEdition h) (f : AllFit h ls) (p : Packable firstRowWidths h t) where
+  tables-behind : readTables firstRowWidths h (drop (modelStart (length ls)) (packing firstEdition h ls ++ (packTables firstRowWidths h t ++ rest))) ≡ t
+  tables-behind =
+      ap (readTables firstRowWidths h) (drop-at (packing firstEdition h ls) (packTables firstRowWidths h t ++ rest) (modelStart (length ls)) (packed-size h ls v f rest)) ∙ packed-tables h t p rest
+
+  -- The count of rows comes back.
+  pub packed-rows : wordIn (packing firstEdition h ls ++ (packTables firstRowWidths h t ++ rest)) (modelStart (length ls) + 2) ≡ length (t .rows)
+  packed-rows =
+      let s : List ℕ = packing firstEdition h ls ++ (packTables firstRowWidths h t ++ rest) in
+      ap (λ (l : List ℕ). join (8 ∷ 8 ∷ []) (take 2 l)) (sym (drop-drop 2 (modelStart (length ls)) s)) ∙ sym (rows-read h (drop (modelStart (length ls)) s))
+      ∙ ap (λ (x : Tables). length (x .rows)) tables-behind
+
+  -- The report of a failing execution with its model.
+  pub fail-report : (registers functions : List ℕ) (pairs : ℕ)
+      → reportOf registers functions h (Fail pairs (length ls)) (packing firstEdition h ls ++ (packTables firstRowWidths h t ++ rest)) ≡ report (namesOf registers functions) h (fail pairs ls t)
+  unfolding reportOf shown
+  fail-report registers functions pairs =
+      ap₂ (λ (l : List Letter) (x : Tables). report (namesOf registers functions) h (fail pairs l x)) (packed-letters h ls v f (packTables firstRowWidths h t ++ rest)) tables-behind

@@ -25,7 +25,7 @@ fn wide(byte: u8) -> u64
     byte as u64
 }
 
-// The two bytes at `at` as a number.
+/// The two bytes at `at` as a number.
 pub fn word_at(bytes: &[u8], at: usize) -> u64
     requires { ⌜ at + 1 < 2 ^ 64 ⌝ }
     ensures { λ r. ⌜ (r ≡ join (8 ∷ 8 ∷ []) (take 2 (drop at (now (bytes .entry))))) × (r < 65536) ⌝ }
@@ -33,7 +33,7 @@ pub fn word_at(bytes: &[u8], at: usize) -> u64
     byte_at(bytes, at) * 256 + byte_at(bytes, at + 1)
 }
 
-// The five bytes at `at` as a number.
+/// The five bytes at `at` as a number.
 pub fn row_at(bytes: &[u8], at: usize) -> u64
     requires { ⌜ at + 4 < 2 ^ 64 ⌝ }
     ensures { λ r. ⌜ r ≡ join (8 ∷ 8 ∷ 8 ∷ 8 ∷ 8 ∷ []) (take 5 (drop at (now (bytes .entry)))) ⌝ }
@@ -43,7 +43,7 @@ pub fn row_at(bytes: &[u8], at: usize) -> u64
     (first * 65536 + second) * 256 + byte_at(bytes, at + 4)
 }
 
-// Letter k.
+/// Letter k.
 pub fn letter_of(h: Header, bytes: &[u8], k: usize) -> Letter
     ensures { λ r. ⌜ r ≡ letterOf h (now (bytes .entry)) k ⌝ }
 {

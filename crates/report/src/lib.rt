@@ -9,17 +9,23 @@ ghost use mathlib.Core.Path.{_≡_};
 ghost use Rattle.report.specs.Shown.{reportOf, Wrote};
 ghost use Rattle.report.specs.Bound.{Limited};
 
-/// What is to be printed: a verdict with its number of pairs and, unless it is pass, the number of letters in its answer; or a refusal, its number and place.
+/// What is to be printed.
 pub enum Verdict {
+    /// Pass, with the number of pairs.
     Pass(u64),
+    /// Incoherent, with the numbers of pairs and of letters in the answer.
     Incoherent(u64, u16),
+    /// Fail, with the numbers of pairs and of letters in the answer.
     Fail(u64, u16),
+    /// A refusal, its number and its place.
     Refused(u8, u64),
 }
 
-/// How the writing went: the number of bytes, or that they do not fit the buffer.
+/// How the writing went.
 pub enum Written {
+    /// So many bytes were written.
     Bytes(usize),
+    /// The report does not fit the buffer.
     NoRoom,
 }
 

@@ -77,7 +77,7 @@ binary-below none = omega arith
 binary-below (one {f = f} {fs = fs} a) = let l = binary-below a in omega (arith, two-pow-succ (length fs))
 binary-below (two {f = f} {fs = fs} a) = let l = binary-below a in omega (arith, two-pow-succ (length fs))
 
-header-fits : (m : Macro) → InOrder m → HeaderFits firstEdition (headerOf m)
+pub header-fits : (m : Macro) → InOrder m → HeaderFits firstEdition (headerOf m)
 header-fits m o = record { some = o .some; registers = o .few; functions = o .fewer; binary = binary-below (o .arities) }
 
 -- ── an event of the search ──

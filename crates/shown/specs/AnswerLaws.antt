@@ -36,6 +36,7 @@ use Rattle.shown.specs.Meaning.{classes-count, value-is, rowAt}
 use Rattle.shown.specs.Listing.{ListedAll}
 use Rattle.shown.specs.Inserted.{inserted}
 use Rattle.shown.specs.Bytes.{rowFor, RowIn, Writable, tablesIn, map-length}
+use Rattle.shown.specs.Fitting.{Puttable, Put, too-large, fitting}
 use Rattle.shown.specs.Answer.{model, infeasible, refusal, shownAnswer, modelBytes, answerTo, outputAfter, Showed, Known, Modelled}
 
 starts-are : (v : Term → ℕ) (k m : ℕ) (l : List ℕ) → m ≤ length l → ((i : ℕ) → i < m → getD l i 0 ≡ v (con (k + i))) → take m l ≡ startsFrom v k m
@@ -80,10 +81,10 @@ module _ (h : Header) (function first second representative : List ℕ) (n : ℕ
           result-below = value-small i b;
         }
 
-    pub rows-few : (r ≤ 1032) × (h .registers ≤ 8)
+    rows-few : (r ≤ 1032) × (h .registers ≤ 8)
     rows-few = let a = l .few in let f = w .formed .within in (omega arith, w .eight)
 
-    pub writable : (room : ℕ) → 4 + 2 * h .registers + 5 * r ≤ room → Writable h values function first second rows c r room
+    writable : (room : ℕ) → 4 + 2 * h .registers + 5 * r ≤ room → Writable h values function first second rows c r room
     writable room b = record {
       few = w .eight;
       rows-few = rows-few .0;
@@ -94,6 +95,9 @@ module _ (h : Header) (function first second representative : List ℕ) (n : ℕ
       each = λ i q. let (p, b) = l .entries i q in row-in (getD rows i 0) p b;
       fits = b;
     }
+
+    pub puttable : (room : ℕ) → Puttable h values function first second rows c r room
+    puttable room = record { registers-few = rows-few .1; rows-few = rows-few .0; writable = writable room }
 
     -- the tables are those of any state that the arrays hold
     module _ (σ : State) (e : σ .header ≡ h) (x : Computed σ function first second representative (h .registers) n) where
@@ -131,17 +135,21 @@ module _ (h : Header) (function first second representative : List ℕ) (n : ℕ
           ∙ (let a = length-take-le (h .registers) values (let a = v .long in let b = w .eight in omega arith) in
           let b = map-length (rowFor values function first second) (take r rows) ∙ length-take-le r rows (let a = l .room in let b = rows-few .0 in omega arith) in omega arith)
 
-    pub too-long : (out : List ℕ) → length out < 4 + 2 * h .registers + 5 * r → Modelled h function first second representative n out (shown.Refused 6 0) out
+    too-long : (out : List ℕ) → length out < 4 + 2 * h .registers + 5 * r → Modelled h function first second representative n out (shown.Refused 6 0) out
     unfolding Modelled
     too-long out b σ e x = let q = bytes-long σ e x in let t = lt-leb (length (modelBytes σ)) (length out) (omega arith) in (rw t, rw t)
 
-    pub fits-in : (out out′ : List ℕ) → 4 + 2 * h .registers + 5 * r ≤ length out → out′ ≡ inserted 0 (packTables firstRowWidths h (tablesIn h values function first second rows c r)) out
+    fits-in : (out out′ : List ℕ) → 4 + 2 * h .registers + 5 * r ≤ length out → out′ ≡ inserted 0 (packTables firstRowWidths h (tablesIn h values function first second rows c r)) out
         → Modelled h function first second representative n out (shown.Model (4 + 2 * h .registers + 5 * r)) out′
     unfolding Modelled inserted
     fits-in out out′ b g σ e x =
         let q = bytes-long σ e x in
         let t = le-leb (length (modelBytes σ)) (length out) (omega arith) in
         (rw t (ap model (sym q)), rw t (g ∙ (λ j. bytes-are σ e x j ++ drop (0 + length (bytes-are σ e x j)) out) ∙ ap (λ (m : ℕ). modelBytes σ ++ drop m out) (zero-add (length (modelBytes σ)))))
+
+    pub put-modelled : (out out′ : List ℕ) (q : Shown) → Put h values function first second rows c r out q out′ → Modelled h function first second representative n out q out′
+    put-modelled out out′ q (too-large b) = too-long out b
+    put-modelled out out′ q (fitting b g) = fits-in out out′ b g
 
 -- ---- what the run of a trace gives
 module _ (s : List ℕ) (h : Header) (n : ℕ) (r : run.Reads s h n) (out : List ℕ) where

@@ -4,6 +4,7 @@ pub mod Inserted
 pub mod Bytes
 pub mod Meaning
 pub mod Listing
+pub mod Fitting
 pub mod Answer
 pub mod AnswerLaws
 pub mod Right

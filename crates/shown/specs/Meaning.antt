@@ -9,7 +9,7 @@ use native.Mathlib.Numerals.{add-one}
 use lib.Dec.{T, eqb, ltb, eqb→eq}
 use lib.ListN.{length, getD, set, take, length-append}
 use lib.Seq.{take-suc-set, take-set-le}
-use borrow.Author.Tests.{eqb-true, eqb-false, eq-eqb, ne-eqb, ltb-true, ltb-false}
+use borrow.Author.Tests.{eqb-true, eqb-false, eq-eqb, ltb-true, ltb-false}
 use Rattle.base.specs.Choice.{byTest}
 use Rattle.semantics.specs.Terms.{_∈_, Term, con, app, State}
 use Rattle.semantics.specs.Booleans.{and-l, and-r}
@@ -23,11 +23,10 @@ use Rattle.semantics.specs.Tables.{Row, sameCall, rowOf, applications, classesO
 use Rattle.semantics.specs.NumberingLaws as laws
 use Rattle.semantics.specs.Shown.{number, number-i, number-e, reversed, back}
 use Rattle.closure.specs.Numbering.{nth, nth-in, nth-of, nth-last, nth-old}
-use Rattle.closure.specs.Arrays.{at, LookedAt, knownAt, freshAt}
-use Rattle.closure.specs.Steps.{has-signature-e, has-signature-i}
+use Rattle.closure.specs.Arrays.{at}
 use Rattle.engine.specs.Engine.{Computed}
 use Rattle.shown.specs.Values.{classesBelow, valueAt}
-use Rattle.shown.specs.Rows.{New}
+use Rattle.shown.specs.Rows.{New, new, old}
 
 -- The first i computed terms of U, which has the latest first, in order of computation.
 unfoldable pub oldest : List Term → ℕ → List Term
@@ -257,23 +256,18 @@ module _ (σ : State) (function first second representative : List ℕ) (registe
 
     -- the rows, with that of application i where it is new
     pub listed-more : (rows : List ℕ) (r b : ℕ) → r < length rows → Listed rows r i → New representative function first second registers i b → Listed (set rows r i) (r + b) (i + 1)
-    unfolding Listed New firstsAfter
-    listed-more rows r b s l (k, look, e) = rw (add-one i) (go look ∙ sym (ap (firstsAfter sameCall []) (rows-more i p h) ∙ firsts-append sameCall [] (applications (number σ) (oldest (σ .terms) i)) (rowAt i ∷ [])))
+    unfolding Listed firstsAfter
+    listed-more rows r b s l is = rw (add-one i) (go is ∙ sym (ap (firstsAfter sameCall []) (rows-more i p h) ∙ firsts-append sameCall [] (applications (number σ) (oldest (σ .terms) i)) (rowAt i ∷ [])))
       where
         K : List Row
         K = firstsAfter sameCall [] (applications (number σ) (oldest (σ .terms) i))
 
-        go : LookedAt representative function first second registers i (at function i) (at first i) (at second i) k
+        go : {b : ℕ} → New representative function first second registers i b
             → map rowAt (take (r + b) (set rows r i)) ≡ firstsAfter sameCall (firstsAfter sameCall [] (applications (number σ) (oldest (σ .terms) i))) (rowAt i ∷ [])
-        go (knownAt m a c t q) =
-            let (f, u, v) = has-signature-e representative function first second m (at function i) (at representative (at first i)) (at representative (at second i)) t in
-            let o = w .formed .lowest m (omega arith) in
-            let d : k ≢ i = λ z. omega arith in
-            let z : b ≡ 0 = e ∙ rw (ne-eqb k i d) in
-            let y : r + b ≡ r = omega arith in
-            ap (λ j. map rowAt (take j (set rows r i))) y ∙ ap (map rowAt) (take-set-le r rows r i (omega arith)) ∙ l ∙ sym (firsts-seen sameCall K [] (rowAt i) (seen-row m a c f u v))
-        go (freshAt q none) =
-            let z : b ≡ 1 = e ∙ rw (eq-eqb k i q) in
-            let y : r + b ≡ suc r = omega arith in
+        go (old m a c t) =
+            let y : r + 0 ≡ r = omega arith in
+            ap (λ j. map rowAt (take j (set rows r i))) y ∙ ap (map rowAt) (take-set-le r rows r i (omega arith)) ∙ l ∙ sym (firsts-seen sameCall K [] (rowAt i) (seen-row m a c (t .functions) (t .firsts) (t .seconds)))
+        go (new none) =
+            let y : r + 1 ≡ suc r = omega arith in
             ap (λ j. map rowAt (take j (set rows r i))) y ∙ ap (map rowAt) (take-suc-set rows r i s) ∙ map-append rowAt (take r rows) (i ∷ []) ∙ ap (λ j. j ++ rowAt i ∷ []) l
-            ∙ sym (firsts-new sameCall K [] (rowAt i) (new-row λ m a c f u v. none m a c (has-signature-i representative function first second m (at function i) (at representative (at first i)) (at representative (at second i)) f u v)))
+            ∙ sym (firsts-new sameCall K [] (rowAt i) (new-row λ m a c f u v. none m a c (record { functions = f; firsts = u; seconds = v })))

@@ -1,33 +1,51 @@
 -- Which applications have a row of their own.
-use mathlib.Core.Path.{_≡_, _∙_}
+use mathlib.Core.Path.{_≡_, refl, sym, _∙_}
 use mathlib.Core.Logic.{_≢_}
 use mathlib.Core.List.{List}
-use Prim.Native.Nat.{ℕ, _≤_}
+use Prim.Native.Nat.{ℕ, suc, _≤_, _<_}
 use native.Mathlib.Omega.{arith}
-use lib.Dec.{eqb}
-use borrow.Author.Tests.{eq-eqb, ne-eqb}
-use Rattle.base.specs.Choice.{pick, byTest}
-use Rattle.closure.specs.Arrays.{at, LookedAt}
+use Rattle.closure.specs.Index.{Entered}
+use Rattle.closure.specs.Arrays.{at, Formed, Indexed, Argument, signatureAt}
+use Rattle.closure.specs.Entering.{readable, readable-at}
+use Rattle.closure.specs.Propagation.{same-signature}
 
--- b is 1 if no application before i has the signature of application i, and 0 if one has.
-unfoldable pub New : (representative function first second : List ℕ) (registers i b : ℕ) → Type 0
-New representative function first second registers i b =
-    (name : ℕ) × LookedAt representative function first second registers i (at function i) (at first i) (at second i) name × (b ≡ pick (eqb name i) (λ _. 1) λ _. 0)
+-- Applications m and i are of one function, with arguments of the same classes.
+pub record Alike (representative function first second : List ℕ) (m i : ℕ) : Type 0 where
+  pub functions : at function m ≡ at function i
+  pub firsts : at representative (at first m) ≡ at representative (at first i)
+  pub seconds : at representative (at second m) ≡ at representative (at second i)
 
-module _ (representative function first second : List ℕ) (registers i : ℕ) where
-  pub new-le : (b : ℕ) → New representative function first second registers i b → b ≤ 1
-  unfolding New
-  new-le b (k, look, e) = byTest (eqb k i) (λ t. let z : b ≡ 1 = e ∙ rw t in omega arith) (λ t. let z : b ≡ 0 = e ∙ rw t in omega arith)
+-- b is 1 if no application before i is like application i, and 0 if one is.
+pub data New (representative function first second : List ℕ) (registers i : ℕ) : ℕ → Type 0 where
+  new : ((m : ℕ) → registers ≤ m → m < i → ¬ Alike representative function first second m i) → New representative function first second registers i 1
+  old : (m : ℕ) → registers ≤ m → m < i → Alike representative function first second m i → New representative function first second registers i 0
 
-  -- as `new_row` finds it
-  module _ (f a b name : ℕ) (look : LookedAt representative function first second registers i f a b name) (ef : f ≡ at function i) (ea : a ≡ at first i) (eb : b ≡ at second i) where
-    at-its-own : LookedAt representative function first second registers i (at function i) (at first i) (at second i) name
-    at-its-own = rw (← ef, ← ea, ← eb) look
+-- The same, and the index has application i too.
+pub record NewRow (representative function first second : List ℕ) (registers i : ℕ) (head link : List ℕ) (b : ℕ) : Type 0 where
+  pub is : New representative function first second registers i b
+  pub indexed : Indexed representative function first second registers (suc i) head link
 
-    pub new-hit : name ≡ i → New representative function first second registers i 1
-    unfolding New
-    new-hit h = (name, at-its-own, rw (eq-eqb name i h))
+pub new-le : (representative function first second : List ℕ) (registers i b : ℕ) → New representative function first second registers i b → b ≤ 1
+new-le representative function first second registers i b (new none) = omega arith
+new-le representative function first second registers i b (old m p h a) = omega arith
 
-    pub new-miss : name ≢ i → New representative function first second registers i 0
-    unfolding New
-    new-miss h = (name, at-its-own, rw (ne-eqb name i h))
+-- as `new_row` finds it
+module _ (representative function first second : List ℕ) (registers i : ℕ) (fm : Formed representative function first second registers (suc i)) (least : registers ≤ i) (head link : List ℕ) (index : Indexed representative function first second registers i head link) where
+  pub row-readable : (i < 1032) × (at function i < 4) × Argument representative (at first i) × Argument representative (at second i)
+  row-readable = readable-at i (readable (suc i) fm (fm .more) (omega arith)) (omega arith)
+
+  module _ (c r : ℕ) (e : c ≡ signatureAt representative function first second i) (head′ link′ : List ℕ) (w : Entered (signatureAt representative function first second) registers i c head link r head′ link′) where
+    indexed-next : Indexed representative function first second registers (suc i) head′ link′
+    indexed-next = record { chains = w .chains; complete = w .completes (signatureAt representative function first second) (λ k l. refl) (sym e) (index .complete) }
+
+    as-signature : (m : ℕ) → Alike representative function first second m i → signatureAt representative function first second m ≡ c
+    unfolding signatureAt
+    as-signature m a = rw (a .functions, a .firsts, a .seconds) (sym e)
+
+    pub new-hit : r ≡ i → NewRow representative function first second registers i head′ link′ 1
+    new-hit q = record { is = new (λ m p h a. w .fresh q (index .complete) m p h (as-signature m a)); indexed = indexed-next }
+
+    pub new-miss : r ≢ i → NewRow representative function first second registers i head′ link′ 0
+    new-miss d = let m = w .most in let h : r < i = omega arith in
+        let (u, v, z) = same-signature function first second registers (suc i) representative r i fm (omega arith) (omega arith) (w .hit h ∙ e) in
+        record { is = old r (w .least) h (record { functions = u; firsts = v; seconds = z }); indexed = indexed-next }

@@ -1,16 +1,18 @@
 // The shown model of a trace (document 01, "The shown model"): the values of the classes, the rows, and their bytes.
 ghost use mathlib.Core.Path.{_≡_};
-ghost use Prim.Native.Nat.{ℕ, _+_, _*_, _<_, _≤_};
+ghost use Prim.Native.Nat.{ℕ, suc, _+_, _*_, _<_, _≤_};
 ghost use lib.ListN.{length, getD, take};
 ghost use Rattle.semantics.specs.PackedTables.{units, firstRowWidths, packTables};
-ghost use Rattle.closure.specs.Arrays.{Formed, Below};
+ghost use Rattle.closure.specs.Arrays.{Formed, Indexed};
 ghost use Rattle.shown.specs.Values.{chosen, newClass, Numberable, Valued};
-ghost use Rattle.shown.specs.Rows.{New};
+ghost use Rattle.shown.specs.Rows.{NewRow};
 ghost use Rattle.shown.specs.Listing.{Listable, ListedAll};
 ghost use Rattle.engine.specs.Run.{Blank, Reads};
 ghost use Rattle.shown.specs.Inserted.{inserted};
+ghost use Rattle.shown.specs.Fitting.{Puttable, Put};
 ghost use Rattle.shown.specs.Answer.{Known, Modelled, Showed};
 ghost use Rattle.shown.specs.Bytes.{putFive, written, RowIn, wordFor, wordsFor, StartsFit, RowsFit, Writable, tablesIn};
+use closure::Heads;
 use closure::Numbers;
 use engine::Outcome;
 use letters::Header;
@@ -20,8 +22,11 @@ use letters::words;
 
 /// What is shown for a trace: a model of so many bytes, the first infeasible letter, or a refusal, its number and place.
 pub enum Shown {
+    /// A model of so many bytes was written to the front of the output.
     Model(usize),
+    /// The number of the first infeasible letter, from 1.
     Infeasible(u64),
+    /// The number and the place of a refusal.
     Refused(u8, u64),
 }
 
@@ -35,6 +40,19 @@ fn long(x: u16) -> u64
     ensures { λ r. ⌜ r ≡ x ⌝ }
 {
     x as u64
+}
+
+fn zeros() -> Numbers
+    ensures { λ r. ⌜ Blank r ⌝ }
+{
+    [0u16; 1032]
+}
+
+// An index without entries.
+fn no_heads() -> Heads
+    ensures { λ r. ⌜ (length r ≡ 1021) × ((b : ℕ) → getD r b 0 ≡ 0) ⌝ }
+{
+    [0u16; 1021]
 }
 
 // The value of term i: the next one for the first of its class, else that of its representative.
@@ -73,33 +91,33 @@ fn number(representative: &Numbers, count: usize, values: &mut Numbers) -> u16
     next
 }
 
-// 1 if application i is the first with its signature, 0 if an earlier one has it.
+// 1 if application i is the first with its signature, 0 if an earlier one has it. The index has the earlier ones, and then i too.
 fn new_row(
     representative: &Numbers,
     function: &Numbers,
     first: &Numbers,
     second: &Numbers,
+    head: &mut Heads,
+    link: &mut Numbers,
     registers: usize,
     i: usize,
 ) -> usize
-    requires { ⌜ Formed (now representative) (now function) (now first) (now second) registers i × (i < 1032) × (getD (now first) i 0 < i) × (getD (now second) i 0 < i) ⌝ }
-    ensures { λ r. ⌜ New (now (representative .entry)) (now (function .entry)) (now (first .entry)) (now (second .entry)) registers i r ⌝ }
+    requires { ⌜ Formed (now representative) (now function) (now first) (now second) registers (suc i) × (registers ≤ i) × Indexed (now representative) (now function) (now first) (now second) registers i (now head) (now link) ⌝ }
+    ensures { λ r. ⌜ NewRow (now (representative .entry)) (now (function .entry)) (now (first .entry)) (now (second .entry)) registers i (now (head .exit)) (now (link .exit)) r ⌝ }
 {
-    let f = wide(function[i]);
-    let a = wide(first[i]);
-    let b = wide(second[i]);
-    let name = closure::lookup(
+    let c = closure::signature_at(representative, function, first, second, i);
+    let found = closure::enter(
         representative,
         function,
         first,
         second,
+        head,
+        link,
         registers,
         i,
-        f,
-        a,
-        b,
+        c,
     );
-    if name == i { 1 } else { 0 }
+    if found == i { 1 } else { 0 }
 }
 
 // Lists the applications that have a row, in order of computation. The result is how many there are.
@@ -115,11 +133,23 @@ fn list(
     requires { ⌜ Listable (now representative) (now function) (now first) (now second) registers count (now rows) ⌝ }
     ensures { λ r. ⌜ ListedAll (now (representative .entry)) (now (function .entry)) (now (first .entry)) (now (second .entry)) registers count (now (rows .exit)) r ⌝ }
 {
+    let mut head = no_heads();
+    let mut link = zeros();
     let mut r: usize = 0;
     let mut i = registers;
     while i < count {
         rows[r] = i as u16;
-        r = r + new_row(representative, function, first, second, registers, i);
+        r = r
+            + new_row(
+                representative,
+                function,
+                first,
+                second,
+                &mut head,
+                &mut link,
+                registers,
+                i,
+            );
         i = i + 1;
     }
     r
@@ -244,10 +274,27 @@ fn write(
     );
 }
 
-fn zeros() -> Numbers
-    ensures { λ r. ⌜ Blank r ⌝ }
+// Writes the model where it fits the output.
+fn put_model(
+    header: Header,
+    values: &Numbers,
+    function: &Numbers,
+    first: &Numbers,
+    second: &Numbers,
+    rows: &Numbers,
+    count: u16,
+    r: usize,
+    out: &mut [u8],
+) -> Shown
+    requires { ⌜ Puttable header (now values) (now function) (now first) (now second) (now rows) count r (length (now out)) ⌝ }
+    ensures { λ q. ⌜ Put header (now (values .entry)) (now (function .entry)) (now (first .entry)) (now (second .entry)) (now (rows .entry)) count r (now (out .entry)) q (now (out .exit)) ⌝ }
 {
-    [0u16; 1032]
+    let length = 4 + 2 * (header.registers as usize) + 5 * r;
+    if out.len() < length {
+        return Shown::Refused(6, 0);
+    }
+    write(header, values, function, first, second, rows, count, r, out);
+    Shown::Model(length)
 }
 
 // Shows the model of the computed terms where it fits the output.
@@ -276,11 +323,7 @@ fn show_model(
         count,
         &mut rows,
     );
-    let length = 4 + 2 * registers + 5 * r;
-    if out.len() < length {
-        return Shown::Refused(6, 0);
-    }
-    write(
+    put_model(
         header,
         &values,
         function,
@@ -290,8 +333,7 @@ fn show_model(
         values_count,
         r,
         out,
-    );
-    Shown::Model(length)
+    )
 }
 
 // Shows what is due for a trace that was read.

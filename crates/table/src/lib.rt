@@ -2,13 +2,15 @@
 use window::Window;
 ghost use mathlib.Core.Path.{_≡_};
 ghost use Prim.Native.Nat.{_+_, _*_, _≤_, _<_};
-ghost use lib.ListN.{length, drop, replicate};
+ghost use lib.ListN.{length, replicate};
 ghost use Rattle.records.specs.Records.{recordOf};
 ghost use Rattle.table.specs.Table.{capacityOf, putAt, pointAt, parentAt, branchAt, windowAt, sameFront, findOf};
 
 /// Where a pair was found.
 pub enum Found {
+    /// It is the pair of this number.
     At(usize),
+    /// It is not in the table.
     Nowhere,
 }
 
@@ -69,9 +71,9 @@ pub fn window_at(table: &[u8], k: usize) -> Window
 }
 
 // Whether a part of the table begins with a pair. Bytes that differ mostly do so at once, in the fingerprint.
-fn begins(part: &[u8], pair: [u8; 157]) -> bool
-    requires { ⌜ 192 ≤ length (now part) ⌝ }
-    ensures { λ r. ⌜ r ≡ sameFront pair (now (part .entry)) ⌝ }
+fn begins(part: &[u8], pair: &[u8]) -> bool
+    requires { ⌜ (192 ≤ length (now part)) × (length (now pair) ≡ 157) ⌝ }
+    ensures { λ r. ⌜ r ≡ sameFront (now (pair .entry)) (now (part .entry)) ⌝ }
 {
     let mut i: usize = 0;
     while i < 157 {
@@ -91,7 +93,7 @@ pub fn find(table: &[u8], count: usize, pair: [u8; 157]) -> Found
     let mut k: usize = 0;
     while k < count {
         let at = 192 * k;
-        if begins(&table[at..], pair) {
+        if begins(&table[at..], &pair) {
             return Found::At(k);
         }
         k = k + 1;

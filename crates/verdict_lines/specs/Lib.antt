@@ -1,1 +1,9 @@
-pub mod Prefix
+pub mod Short
+pub mod Prints
+pub mod PrintsLaws
+pub mod Answers
+pub mod Reported
+pub mod Saying
+pub mod ReportedLaws
+pub mod Examples
+pub mod Declared

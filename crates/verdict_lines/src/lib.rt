@@ -1,68 +1,89 @@
-// Judges a macro, read from a file, and prints its lines (document 01, "The verdict program").
-ghost use Rattle.io.specs.Counts.{Counts};
+// The lines that the verdict program prints for the text of a macro (document 01, "The verdict program").
 use libc::STDOUT_FILENO;
+use report::Written;
+ghost use mathlib.Core.Path.{_≡_};
+ghost use Rattle.report.specs.Bound.{Limited};
+ghost use Rattle.verdict_lines.specs.Prints.{Prints};
+ghost use Rattle.verdict_lines.specs.Reported.{reported as reportedOf, sizeOf, Reports};
 
 // One byte more than the longest text that is taken.
 fn text_space() -> [u8; 4097] {
     [0; 4097]
 }
 
-// The table of the verdict program: 341 pairs.
+// Room for 341 pairs.
 fn table_space() -> [u8; 65536] {
     [0; 65536]
 }
 
-// The longest answer at 341 pairs has 2,404 bytes.
+// The answer of a search over 341 pairs is shorter.
 fn answer_space() -> [u8; 4096] {
     [0; 4096]
 }
 
-// The longest report at 341 pairs has less than 32,768 bytes.
-fn report_space() -> [u8; 32768] {
+// The lines are never longer.
+fn line_space() -> [u8; 32768] {
     [0; 32768]
 }
 
-// n, as a number of the buffer's bytes.
-fn count(n: usize, buffer: &[u8]) -> usize
-    ensures { λ r. ⌜ Counts r (now (buffer .entry)) ⌝ }
-{
-    if n < buffer.len() { n } else { buffer.len() }
-}
-
 // The verdict as the report takes it.
-fn reported(verdict: search::Verdict) -> report::Verdict {
+fn reported(verdict: search::Verdict) -> report::Verdict
+    ensures { λ r. ⌜ (r ≡ reportedOf verdict) × Limited r ⌝ }
+{
     match verdict {
         search::Verdict::Pass(pairs) => report::Verdict::Pass(pairs as u64),
-        search::Verdict::Fail(pairs, letters) => report::Verdict::Fail(pairs as u64, (letters % 65536) as u16),
-        search::Verdict::Incoherent(pairs, letters) => report::Verdict::Incoherent(pairs as u64, (letters % 65536) as u16),
+        search::Verdict::Fail(pairs, letters) => report::Verdict::Fail(
+            pairs as u64,
+            (letters % 65536) as u16,
+        ),
+        search::Verdict::Incoherent(pairs, letters) => report::Verdict::Incoherent(
+            pairs as u64,
+            (letters % 65536) as u16,
+        ),
         search::Verdict::Refused(number, place) => report::Verdict::Refused(number, place as u64),
     }
 }
 
-// Prints the lines of the verdict on a text.
-fn judge(text: &[u8]) {
-    let mut table = table_space();
-    let mut answer = answer_space();
-    let mut lines = report_space();
-    let verdict = search::judge_macro(text, &mut table, &mut answer);
+// How many bytes were written, 0 if there was no room.
+fn size(written: Written) -> usize
+    ensures { λ r. ⌜ r ≡ sizeOf written ⌝ }
+{
+    match written {
+        Written::Bytes(n) => n,
+        Written::NoRoom => 0,
+    }
+}
+
+// Writes the report of a verdict on a text, with the names that the text declares. The answer holds what the verdict shows.
+fn write_verdict(text: &[u8], verdict: search::Verdict, answer: &[u8], lines: &mut [u8]) -> usize
+    ensures { λ r. ⌜ Reports (now (text .entry)) verdict (now (answer .entry)) (now (lines .entry)) r (now (lines .exit)) ⌝ }
+{
     let read = syntax::read(text);
     let program = read.program;
     let registers = program.registers;
     let functions = program.functions;
     let header = program.header;
-    let written = report::write_report(registers, functions, header, reported(verdict), &answer, &mut lines);
-    match written {
-        report::Written::Bytes(n) => {
-            let k = count(n, &lines);
-            io::write_all(STDOUT_FILENO, &lines[..k]);
-        }
-        report::Written::NoRoom => {}
-    }
+    let shown = reported(verdict);
+    let written = report::write_report(registers, functions, header, shown, answer, lines);
+    size(written)
 }
 
-/// Judges the macro that the file holds.
+/// Writes the lines for the text of a macro into the front of a lent buffer, and gives the number of their bytes, which is at most 32,768.
+/// A buffer that is too small for them stays as it is, and 0 is given.
+pub fn write_lines(text: &[u8], lines: &mut [u8]) -> usize
+    ensures { λ r. ⌜ Prints (now (text .entry)) (now (lines .entry)) r (now (lines .exit)) ⌝ }
+{
+    let mut table = table_space();
+    let mut answer = answer_space();
+    let verdict = search::judge_macro(text, &mut table, &mut answer);
+    write_verdict(text, verdict, &answer, lines)
+}
+
+/// Reads a text from a file and prints its lines. Of a text of more than 4,096 bytes, 4,097 are read: it is refused for its length.
 pub fn answer(fd: i32) {
     let mut text = text_space();
     let n = io::read_full(fd, &mut text);
-    judge(&text[..n]);
+    let mut lines = line_space();
+    let k = write_lines(&text[..n], &mut lines);
+    io::write_all(STDOUT_FILENO, &lines[..k]);
 }

@@ -2,13 +2,13 @@
 use mathlib.Core.Path.{_≡_, refl, sym, subst}
 use mathlib.Core.Logic.{_⊎_, inl, inr, _↔_, _≢_, ⊎-elim, Iff·trans}
 use mathlib.Core.Bool.{Bool, true, false, not, cond, _&&_, _||_}
-use Prim.Native.Nat.{ℕ, zero, suc, _/_, _^_, _≤_, _<_}
+use Prim.Native.Nat.{ℕ, zero, suc, _+_, _/_, _^_, _≤_, _<_}
 use native.Mathlib.Omega.{arith}
-use native.Mathlib.Nat.{zero-div, mod-lt}
+use native.Mathlib.Nat.{zero-div, mod-lt, one-le-pow}
 use lib.Dec.{eqb, ltb, T, eqb→eq, eqb-refl}
 use lib.Bits.{bitAnd, bitOr, bitXor, xor-shr, xor-mod, and-le-r, or-add-and, or-lt, xor-lt}
 use lib.Pow.{pow-lt}
-use borrow.Author.Tests.{ne-eqb, eqb-true, eqb-false, ltb-true, ltb-false, lt-ltb}
+use borrow.Author.Tests.{ne-eqb, eqb-true, eqb-false, ltb-true, ltb-false, lt-ltb, le-ltb}
 use Rattle.base.specs.Choice.{byTest}
 use Rattle.base.specs.Masks.{bit, has, leastIn}
 use Rattle.base.specs.MaskLaws.{bit-or, bit-and, bit-single-same, bit-single-other, least-below, least-in, bits-same}
@@ -106,22 +106,25 @@ none-zero j = ne-eqb (bit 0 j) 1 (λ e. let z : bit 0 j ≡ 0 = rw (zero-div (2 
 pub none-in : (j : ℕ) → ¬ T (has 0 j)
 none-in j t = no-truth (has 0 j) (none-zero j) t
 
--- some register below 8 is in the mask
-unfoldable pub nonempty : ℕ → Bool
-nonempty m = ltb (leastIn 8 m) 8
+-- some register is in the mask
+unfoldable pub nonempty : ℕ → ℕ → Bool
+nonempty ρ m = ltb (leastIn ρ m) ρ
 
-pub nonempty-is : (m : ℕ) → T (nonempty m) ↔ ((c : ℕ) × (c < 8) × T (has m c))
+pub nonempty-is : (ρ m : ℕ) → T (nonempty ρ m) ↔ ((c : ℕ) × (c < ρ) × T (has m c))
 unfolding nonempty
-nonempty-is m = (
-  (λ t. let l = ltb-true (leastIn 8 m) 8 (true-of (ltb (leastIn 8 m) 8) t) in (leastIn 8 m, l, truth (has m (leastIn 8 m)) (least-in 8 m l))),
-  (λ (c, b, t). ⊎-elim (λ l. truth (ltb (leastIn 8 m) 8) (lt-ltb (leastIn 8 m) 8 l)) (λ l. absurd (no-truth (has m c) (least-below 8 m c (omega arith)) t)) (less-or (leastIn 8 m) 8)),
+nonempty-is ρ m = (
+  (λ t. let l = ltb-true (leastIn ρ m) ρ (true-of (ltb (leastIn ρ m) ρ) t) in (leastIn ρ m, l, truth (has m (leastIn ρ m)) (least-in ρ m l))),
+  (λ (c, b, t). ⊎-elim (λ l. truth (ltb (leastIn ρ m) ρ) (lt-ltb (leastIn ρ m) ρ l)) (λ l. absurd (no-truth (has m c) (least-below ρ m c (omega arith)) t)) (less-or (leastIn ρ m) ρ)),
 )
 
--- two masks that meet, the second of them of registers below 8
-pub meets : (e s : ℕ) → s < 256 → bitAnd e s ≢ 0 → (c : ℕ) × (c < 8) × T (has e c) × T (has s c)
-meets e s b n =
-    let found : (c : ℕ) × (c < 8) × T (has m c) = ⊎-elim (λ l. (leastIn 8 m, l, truth (has m (leastIn 8 m)) (least-in 8 m l)))
-    (λ l. absurd (n (bits-same 8 m 0 (omega (arith, and-le-r e s)) (omega arith) (λ i h. bit-of i (least-below 8 m i (omega arith)))))) (less-or (leastIn 8 m) 8) in
+pub none-small : (ρ : ℕ) → 0 < 2 ^ ρ
+none-small ρ = one-le-pow ρ 2 (omega arith)
+
+-- two masks that meet, the second of them of registers below ρ
+pub meets : (ρ e s : ℕ) → s < 2 ^ ρ → bitAnd e s ≢ 0 → (c : ℕ) × (c < ρ) × T (has e c) × T (has s c)
+meets ρ e s b n =
+    let found : (c : ℕ) × (c < ρ) × T (has m c) = ⊎-elim (λ l. (leastIn ρ m, l, truth (has m (leastIn ρ m)) (least-in ρ m l)))
+    (λ l. absurd (n (bits-same ρ m 0 (omega (arith, and-le-r e s)) (none-small ρ) (λ i h. bit-of i (least-below ρ m i (omega arith)))))) (less-or (leastIn ρ m) ρ) in
     let (c, h, t) = found in
     let u = subst T (has-and e s c) t in
     (c, h, and-l (has e c) (has s c) u, and-r (has e c) (has s c) u)
@@ -139,11 +142,11 @@ meets-not e s c p q z = none-in c (subst (λ m. T (has m c)) z (subst T (sym (ha
 pub or-ge : (a b : ℕ) → a ≤ bitOr a b
 or-ge a b = omega (arith, or-add-and a b, and-le-r a b)
 
-pub pow-small : (i : ℕ) → i < 8 → 2 ^ i < 256
-pow-small i h = pow-lt {i = i} {j = 8} h
+pub pow-small : (ρ i : ℕ) → i < ρ → 2 ^ i < 2 ^ ρ
+pow-small ρ i h = pow-lt {i = i} {j = ρ} h
 
-pub or-small : (a b : ℕ) → a < 256 → b < 256 → bitOr a b < 256
-or-small a b p q = or-lt 8 a b p q
+pub or-small : (ρ a b : ℕ) → a < 2 ^ ρ → b < 2 ^ ρ → bitOr a b < 2 ^ ρ
+or-small ρ a b p q = or-lt ρ a b p q
 
 -- ---- a mask in which the registers `to` become one with those of `from`
 
@@ -151,11 +154,11 @@ unfoldable pub movedOf : ℕ → ℕ → ℕ → ℕ
 movedOf m from to = cond (eqb (bitAnd m from) 0) (minus m to) (bitOr m to)
 
 -- a register of `to` is in it if some register of `from` was, and any other if it was itself
-pub moved-in : (m from to c : ℕ) → from < 256 → T (has to c) → T (has (movedOf m from to) c) ↔ ((d : ℕ) × T (has from d) × T (has m d))
+pub moved-in : (ρ m from to c : ℕ) → from < 2 ^ ρ → T (has to c) → T (has (movedOf m from to) c) ↔ ((d : ℕ) × T (has from d) × T (has m d))
 unfolding movedOf
-moved-in m from to c b t = byTest (eqb (bitAnd m from) 0)
+moved-in ρ m from to c b t = byTest (eqb (bitAnd m from) 0)
     (λ e. rw e ((λ k. absurd (minus-is m to c .0 k .1 t)), (λ (d, p, q). absurd (meets-not m from d q p (eqb-true (bitAnd m from) 0 e)))))
-    (λ e. rw e ((λ k. let (d, _, q, p) = meets m from b (eqb-false (bitAnd m from) 0 e) in (d, p, q)), (λ k. or-is m to c .1 (inr t))))
+    (λ e. rw e ((λ k. let (d, _, q, p) = meets ρ m from b (eqb-false (bitAnd m from) 0 e) in (d, p, q)), (λ k. or-is m to c .1 (inr t))))
 
 pub moved-out : (m from to c : ℕ) → ¬ T (has to c) → T (has (movedOf m from to) c) ↔ T (has m c)
 unfolding movedOf
@@ -163,6 +166,29 @@ moved-out m from to c n = byTest (eqb (bitAnd m from) 0)
     (λ e. rw e ((λ k. minus-is m to c .0 k .0), (λ k. minus-is m to c .1 (k, n))))
     (λ e. rw e ((λ k. ⊎-elim (λ j. j) (λ j. absurd (n j)) (or-is m to c .0 k)), (λ k. or-is m to c .1 (inl k))))
 
-pub moved-small : (m from to : ℕ) → m < 256 → to < 256 → movedOf m from to < 256
+pub moved-small : (ρ m from to : ℕ) → m < 2 ^ ρ → to < 2 ^ ρ → movedOf m from to < 2 ^ ρ
 unfolding movedOf minus
-moved-small m from to p q = byTest (eqb (bitAnd m from) 0) (λ t. rw t (xor-lt 8 (bitOr m to) to (or-small m to p q) q)) (λ t. rw t (or-small m to p q))
+moved-small ρ m from to p q = byTest (eqb (bitAnd m from) 0) (λ t. rw t (xor-lt ρ (bitOr m to) to (or-small ρ m to p q) q)) (λ t. rw t (or-small ρ m to p q))
+
+-- ---- a loop over the registers of a mask
+
+-- the registers of the mask below r
+abbrev pub until : ℕ → ℕ → ℕ → Bool
+until to r s = ltb s r && has to s
+
+pub until-none : (to s : ℕ) → until to 0 s ≡ false
+until-none to s = rw (le-ltb s 0 (omega arith))
+
+pub until-more : (to r s : ℕ) → has to r ≡ true → until to (r + 1) s ≡ (eqb s r || until to r s)
+until-more to r s t = byTest (eqb s r)
+    (λ e. let k = eqb-true s r e in rw (lt-ltb s (r + 1) (omega arith), e, k, t))
+    (λ e. let d = eqb-false s r e in byTest (ltb s r)
+    (λ u. let k = ltb-true s r u in rw (lt-ltb s (r + 1) (omega arith), e, u))
+    (λ u. let k = ltb-false s r u in rw (le-ltb s (r + 1) (omega arith), e, u)))
+
+pub until-skip : (to r s : ℕ) → has to r ≡ false → until to (r + 1) s ≡ until to r s
+until-skip to r s t = byTest (eqb s r)
+    (λ e. let k = eqb-true s r e in rw (lt-ltb s (r + 1) (omega arith), k, le-ltb r r (omega arith), t))
+    (λ e. let d = eqb-false s r e in byTest (ltb s r)
+    (λ u. let k = ltb-true s r u in rw (lt-ltb s (r + 1) (omega arith), u))
+    (λ u. let k = ltb-false s r u in rw (le-ltb s (r + 1) (omega arith), u)))

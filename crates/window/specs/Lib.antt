@@ -1,10 +1,14 @@
+pub mod Layout
+pub mod Places
 pub mod Table
 pub mod Lines
 pub mod Bits
 pub mod Through
 pub mod Adding
 pub mod Marks
+pub mod Performing
 pub mod Perform
+pub mod Viewing
 pub mod View
 pub mod Laws
 pub mod Merge
@@ -18,6 +22,8 @@ pub mod Closing
 pub mod Judging
 pub mod Applying
 pub mod Starting
+pub mod Stepping
 pub mod Step
+pub mod Uniqueness
 pub mod Unique
 pub mod Names

@@ -1,61 +1,79 @@
--- A table of registers by registers, one list: its lines of eight entries, by the second register (columns) or by the first (rows),
+-- A table of registers by registers, one list: its lines, with an entry for each of ρ registers, by the second register (columns) or by the first (rows),
 -- and what is done along each line.
 use mathlib.Core.Path.{_≡_, refl, sym, ap, ap₂, _∙_, subst}
 use mathlib.Core.Logic.{_≢_}
-use mathlib.Core.Bool.{Bool, true, false, cond, _&&_, _||_}
+use mathlib.Core.Bool.{Bool, true, false, cond, _||_}
 use Prim.Native.Nat.{ℕ, _+_, _*_, _/_, _%_, _≤_, _<_}
 use native.Mathlib.Omega.{arith}
+use native.Mathlib.Nat.{mod-lt}
 use mathlib.Core.List.{List}
-use lib.Dec.{eqb, ltb, T}
+use lib.Dec.{eqb, T}
 use lib.Bits.{bitOr, or-self}
 use lib.ListN.{length, getD, set, length-set}
 use lib.Seq.{getD-set-same, getD-set-other}
 use borrow.Author.Tests.{eq-eqb, ne-eqb, eqb-true, eqb-false}
 use Rattle.base.specs.Choice.{byTest}
 use Rattle.base.specs.Masks.{has}
+use Rattle.window.specs.Places as places
+use Rattle.window.specs.Places.{place, place-sum, place-is, function-place, first-place, second-place}
 use Rattle.window.specs.Table.{table, table-length, table-at, table-is}
 
-pub record Lines : Type 0 where
-  -- the line that entry i is on, and its place there, a register
-  pub line : ℕ → ℕ
-  pub along : ℕ → ℕ
-  -- the entry of a line at a register
-  pub entry : ℕ → ℕ → ℕ
-  pub entry-is : (i : ℕ) → entry (line i) (along i) ≡ i
-  pub line-entry : (j d : ℕ) → d < 8 → line (entry j d) ≡ j
-  pub along-entry : (j d : ℕ) → d < 8 → along (entry j d) ≡ d
-  pub along-below : (i : ℕ) → along i < 8
+module _ (ρ : ℕ) where
+  pub record Lines : Type 0 where
+    -- the line that entry i is on, and its place there, a register
+    pub line : ℕ → ℕ
+    pub along : ℕ → ℕ
+    -- the entry of a line at a register
+    pub entry : ℕ → ℕ → ℕ
+    pub entry-is : 0 < ρ → (i : ℕ) → entry (line i) (along i) ≡ i
+    pub line-entry : (j d : ℕ) → d < ρ → line (entry j d) ≡ j
+    pub along-entry : (j d : ℕ) → d < ρ → along (entry j d) ≡ d
+    pub along-below : 0 < ρ → (i : ℕ) → along i < ρ
 
--- the entries 8 j to 8 j + 7 are a line
-abbrev pub columns : Lines
-columns = record {
-  line = λ i. i / 8;
-  along = λ i. i % 8;
-  entry = λ j d. 8 * j + d;
-  entry-is = λ i. omega arith;
-  line-entry = λ j d h. omega arith;
-  along-entry = λ j d h. omega arith;
-  along-below = λ i. omega arith;
-}
+  -- the entries from ρ j on are a line
+  abbrev pub columns : Lines
+  columns = record {
+    line = λ i. i / ρ;
+    along = λ i. i % ρ;
+    entry = λ j d. ρ * j + d;
+    entry-is = λ p i. places.entry-is ρ i;
+    line-entry = places.line-entry ρ;
+    along-entry = places.along-entry ρ;
+    along-below = λ p i. mod-lt i p;
+  }
 
--- the entries of one function and one second register are a line
-abbrev pub rows : Lines
-rows = record {
-  line = λ i. 8 * (i / 64) + i % 8;
-  along = λ i. i / 8 % 8;
-  entry = λ j d. 64 * (j / 8) + 8 * d + j % 8;
-  entry-is = λ i. omega arith;
-  line-entry = λ j d h. omega arith;
-  along-entry = λ j d h. omega arith;
-  along-below = λ i. omega arith;
-}
+  -- an entry of a row is that of a result
+  row-entry : (j d : ℕ) → ρ * ρ * (j / ρ) + ρ * d + j % ρ ≡ place ρ (j / ρ) d (j % ρ)
+  row-entry j d = place-sum ρ (j / ρ) d (j % ρ)
 
-module _ (L : Lines) where
+  pub row-is : 0 < ρ → (i : ℕ) → ρ * ρ * ((ρ * (i / (ρ * ρ)) + i % ρ) / ρ) + ρ * (i / ρ % ρ) + (ρ * (i / (ρ * ρ)) + i % ρ) % ρ ≡ i
+  row-is p i = ap₂ (λ f s. ρ * ρ * f + ρ * (i / ρ % ρ) + s) (places.line-entry ρ (i / (ρ * ρ)) (i % ρ) (mod-lt i p)) (places.along-entry ρ (i / (ρ * ρ)) (i % ρ) (mod-lt i p))
+      ∙ place-sum ρ (i / (ρ * ρ)) (i / ρ % ρ) (i % ρ) ∙ place-is ρ i
+
+  pub row-line : (j d : ℕ) → d < ρ → ρ * ((ρ * ρ * (j / ρ) + ρ * d + j % ρ) / (ρ * ρ)) + (ρ * ρ * (j / ρ) + ρ * d + j % ρ) % ρ ≡ j
+  row-line j d h = let s = mod-lt j {m = ρ} (omega arith) in ap (λ k. ρ * (k / (ρ * ρ)) + k % ρ) (row-entry j d) ∙ ap₂ (λ f b. ρ * f + b) (function-place ρ (j / ρ) d (j % ρ) h s) (second-place ρ (j / ρ) d (j % ρ) h s) ∙ places.entry-is ρ j
+
+  pub row-along : (j d : ℕ) → d < ρ → (ρ * ρ * (j / ρ) + ρ * d + j % ρ) / ρ % ρ ≡ d
+  row-along j d h = ap (λ k. k / ρ % ρ) (row-entry j d) ∙ first-place ρ (j / ρ) d (j % ρ) h (mod-lt j {m = ρ} (omega arith))
+
+  -- the entries of one function and one second register are a line
+  abbrev pub rows : Lines
+  rows = record {
+    line = λ i. ρ * (i / (ρ * ρ)) + i % ρ;
+    along = λ i. i / ρ % ρ;
+    entry = λ j d. ρ * ρ * (j / ρ) + ρ * d + j % ρ;
+    entry-is = row-is;
+    line-entry = row-line;
+    along-entry = row-along;
+    along-below = λ p i. mod-lt (i / ρ) p;
+  }
+
+module _ {ρ : ℕ} (L : Lines ρ) where
   -- the entry at register d of the line of entry i
   abbrev pub at : ℕ → ℕ → ℕ
   at i d = L .entry (L .line i) d
 
-  at-entry : (j r d : ℕ) → r < 8 → at (L .entry j r) d ≡ L .entry j d
+  at-entry : (j r d : ℕ) → r < ρ → at (L .entry j r) d ≡ L .entry j d
   at-entry j r d rb = ap (λ k. L .entry k d) (L .line-entry j r rb)
 
   -- along each line, the entries of the registers that pass the test are the union of those of a and b
@@ -90,7 +108,7 @@ module _ (L : Lines) where
 
   -- the list has n lines
   pub record Spans (n : ℕ) (l : List ℕ) : Type 0 where
-    pub inside : (j d : ℕ) → j < n → d < 8 → L .entry j d < length l
+    pub inside : (j d : ℕ) → j < n → d < ρ → L .entry j d < length l
     pub reached : (i : ℕ) → i < length l → L .line i < n
 
   -- ---- a loop over the lines that changes the entry of register r on each
@@ -105,11 +123,11 @@ module _ (L : Lines) where
   pub gone-none : (F : ℕ → ℕ) (r : ℕ) (old : List ℕ) → Gone F r old 0 old
   gone-none F r old = record { long = refl; new = λ i h e l. absurd (omega arith); other = λ i n. refl; ahead = λ i h. refl }
 
-  pub gone-more : (F : ℕ → ℕ) (r : ℕ) (old : List ℕ) (j : ℕ) (l : List ℕ) (n : ℕ) → Spans n old → r < 8 → j < n → Gone F r old j l → (v : ℕ) → v ≡ F (L .entry j r) → Gone F r old (j + 1) (set l (L .entry j r) v)
+  pub gone-more : (F : ℕ → ℕ) (r : ℕ) (old : List ℕ) (j : ℕ) (l : List ℕ) (n : ℕ) → Spans n old → r < ρ → j < n → Gone F r old j l → (v : ℕ) → v ≡ F (L .entry j r) → Gone F r old (j + 1) (set l (L .entry j r) v)
   gone-more F r old j l n s rb jb g v e = record {
     long = simp length-set (g .long);
     new = λ i h p q. byTest (eqb (L .line i) j)
-        (λ t. let k : L .entry j r ≡ i = ap₂ (L .entry) (sym (eqb-true (L .line i) j t)) (sym p) ∙ L .entry-is i in
+        (λ t. let k : L .entry j r ≡ i = ap₂ (L .entry) (sym (eqb-true (L .line i) j t)) (sym p) ∙ L .entry-is (omega arith) i in
         subst (λ z. getD (set l (L .entry j r) v) z 0 ≡ F z) k (getD-set-same l (L .entry j r) v 0 (rw (g .long) (s .inside j r jb rb)) ∙ e))
         (λ t. let d = eqb-false (L .line i) j t in getD-set-other l (L .entry j r) i v 0 (λ k. d (ap (L .line) k ∙ L .line-entry j r rb)) ∙ g .new i h p (omega arith));
     other = λ i d. getD-set-other l (L .entry j r) i v 0 (λ k. d (ap (L .along) k ∙ L .along-entry j r rb)) ∙ g .other i d;
@@ -117,20 +135,20 @@ module _ (L : Lines) where
   }
 
   -- an entry of the line at hand is as it was
-  pub gone-read : (F : ℕ → ℕ) (r : ℕ) (old : List ℕ) (j : ℕ) (l : List ℕ) → Gone F r old j l → (d : ℕ) → d < 8 → getD l (L .entry j d) 0 ≡ getD old (L .entry j d) 0
+  pub gone-read : (F : ℕ → ℕ) (r : ℕ) (old : List ℕ) (j : ℕ) (l : List ℕ) → Gone F r old j l → (d : ℕ) → d < ρ → getD l (L .entry j d) 0 ≡ getD old (L .entry j d) 0
   gone-read F r old j l g d db = g .ahead (L .entry j d) (let z = L .line-entry j d db in omega arith)
 
   -- what is stored, at an entry of line j
-  pub united-here : (r a b : ℕ) (l : List ℕ) (j : ℕ) → r < 8 → unitedAt (λ s. eqb s r) a b l (L .entry j r) ≡ bitOr (getD l (L .entry j a) 0) (getD l (L .entry j b) 0)
+  pub united-here : (r a b : ℕ) (l : List ℕ) (j : ℕ) → r < ρ → unitedAt (λ s. eqb s r) a b l (L .entry j r) ≡ bitOr (getD l (L .entry j a) 0) (getD l (L .entry j b) 0)
   unfolding unitedAt
   united-here r a b l j rb = rw (L .along-entry j r rb, eq-eqb r r refl, at-entry j r a rb, at-entry j r b rb)
 
-  pub cleared-here : (r : ℕ) (l : List ℕ) (j : ℕ) → r < 8 → clearedAt r l (L .entry j r) ≡ 0
+  pub cleared-here : (r : ℕ) (l : List ℕ) (j : ℕ) → r < ρ → clearedAt r l (L .entry j r) ≡ 0
   unfolding clearedAt
   cleared-here r l j rb = rw (L .along-entry j r rb, eq-eqb r r refl)
 
   -- one turn of the loop
-  pub unite-more : (r a b : ℕ) (old : List ℕ) (j : ℕ) (l : List ℕ) (n : ℕ) → Spans n old → r < 8 → a < 8 → b < 8 → j < n → Gone (unitedAt (λ s. eqb s r) a b old) r old j l
+  pub unite-more : (r a b : ℕ) (old : List ℕ) (j : ℕ) (l : List ℕ) (n : ℕ) → Spans n old → r < ρ → a < ρ → b < ρ → j < n → Gone (unitedAt (λ s. eqb s r) a b old) r old j l
       → Gone (unitedAt (λ s. eqb s r) a b old) r old (j + 1) (set l (L .entry j r) (bitOr (getD l (L .entry j a) 0) (getD l (L .entry j b) 0)))
   unite-more r a b old j l n s rb ab bb jb g = gone-more F r old j l n s rb jb g (bitOr (getD l (L .entry j a) 0) (getD l (L .entry j b) 0))
       (ap₂ bitOr (gone-read F r old j l g a ab) (gone-read F r old j l g b bb) ∙ sym (united-here r a b old j rb))
@@ -138,7 +156,7 @@ module _ (L : Lines) where
       F : ℕ → ℕ
       F = unitedAt (λ s. eqb s r) a b old
 
-  pub clear-more : (r : ℕ) (old : List ℕ) (j : ℕ) (l : List ℕ) (n : ℕ) → Spans n old → r < 8 → j < n → Gone (clearedAt r old) r old j l → Gone (clearedAt r old) r old (j + 1) (set l (L .entry j r) 0)
+  pub clear-more : (r : ℕ) (old : List ℕ) (j : ℕ) (l : List ℕ) (n : ℕ) → Spans n old → r < ρ → j < n → Gone (clearedAt r old) r old j l → Gone (clearedAt r old) r old (j + 1) (set l (L .entry j r) 0)
   clear-more r old j l n s rb jb g = gone-more (clearedAt r old) r old j l n s rb jb g 0 (sym (cleared-here r old j rb))
 
   pub united-all : (r a b : ℕ) (old : List ℕ) (j n : ℕ) (l : List ℕ) → Spans n old → n ≤ j → Gone (unitedAt (λ s. eqb s r) a b old) r old j l → l ≡ united (λ s. eqb s r) a b old
@@ -155,12 +173,8 @@ module _ (L : Lines) where
 
   -- ---- a loop over the registers that unites along the lines at each register of a mask
 
-  -- the registers of the mask below r
-  abbrev pub until : ℕ → ℕ → ℕ → Bool
-  until to r s = ltb s r && has to s
-
-  module _ (n : ℕ) (old : List ℕ) (sp : Spans n old) (a : ℕ) (ab : a < 8) where
-    at-below : (i d : ℕ) → i < length old → d < 8 → at i d < length old
+  module _ (n : ℕ) (old : List ℕ) (sp : Spans n old) (a : ℕ) (ab : a < ρ) where
+    at-below : (i d : ℕ) → i < length old → d < ρ → at i d < length old
     at-below i d h db = sp .inside (L .line i) d (sp .reached i h) db
 
     -- the entry of a stays what it is
@@ -204,6 +218,6 @@ module _ (L : Lines) where
   unfolding united unitedAt
   united-none a b old P e = table-is (unitedAt P a b old) (length old) old 0 refl (λ i h. rw (e (L .along i)))
 
-  pub united-same : (P Q : ℕ → Bool) (a b : ℕ) (l : List ℕ) → ((s : ℕ) → s < 8 → P s ≡ Q s) → united P a b l ≡ united Q a b l
+  pub united-same : (P Q : ℕ → Bool) (a b : ℕ) (l : List ℕ) → 0 < ρ → ((s : ℕ) → s < ρ → P s ≡ Q s) → united P a b l ≡ united Q a b l
   unfolding united unitedAt
-  united-same P Q a b l e = table-is (unitedAt Q a b l) (length l) (united P a b l) 0 (united-length P a b l) (λ i h. united-at P a b l i h ∙ rw (e (L .along i) (L .along-below i)))
+  united-same P Q a b l p e = table-is (unitedAt Q a b l) (length l) (united P a b l) 0 (united-length P a b l) (λ i h. united-at P a b l i h ∙ rw (e (L .along i) (L .along-below p i)))

@@ -1,191 +1,52 @@
 -- Marks: what lies above a register by held results, and the registers below a class that is lost.
-use mathlib.Core.Path.{_≡_, refl, sym, ap, _∙_, subst}
+use mathlib.Core.Path.{_≡_, refl, sym, ap, ap₂, _∙_, subst}
 use mathlib.Core.Logic.{_⊎_, inl, inr, _↔_, _≢_, ⊎-elim, Iff·trans}
 use mathlib.Core.Bool.{Bool, false, cond, _||_}
-use Prim.Native.Nat.{ℕ, zero, suc, _+_, _*_, _/_, _%_, _^_, _-_, _≤_, _<_}
+use Prim.Native.Nat.{ℕ, zero, suc, _+_, _*_, _/_, _^_, _-_, _≤_, _<_}
 use native.Mathlib.Omega.{arith}
-use native.Mathlib.Nat.{add-suc, suc-add, mul-le-mul-right}
+use native.Mathlib.Nat.{add-suc, suc-add, mul-comm, mul-le-mul-right, mod-lt}
 use native.Mathlib.Numerals.{add-one}
 use mathlib.Core.List.{List}
 use lib.Dec.{eqb, T}
-use lib.Bits.{bitAnd, bitOr}
+use lib.Bits.{bitAnd, bitOr, or-zero-l}
 use lib.ListN.{getD}
 use borrow.Author.Tests.{eqb-true, eqb-false}
 use Rattle.base.specs.Choice.{byTest}
 use Rattle.base.specs.Masks.{has}
 use Rattle.semantics.specs.Booleans.{and-l, and-r, and-i}
+use Rattle.window.specs.Places.{place, Function, First, Second, place-sum, place-is, first-place, second-place, place-below, function-below, first-below, second-below, entry-below}
 use Rattle.window.specs.Table.{table, table-at}
-use Rattle.window.specs.Bits.{nonempty, nonempty-is, or-is, has-and, single-is, none-in, same-iff, or-ge, or-small, pow-small, truth, no-truth}
-
--- the two arguments of entry k of the results
-abbrev pub First : ℕ → ℕ
-First k = k / 8 % 8
-
-abbrev pub Second : ℕ → ℕ
-Second k = k % 8
+use Rattle.window.specs.Bits.{nonempty, nonempty-is, or-is, has-and, single-is, none-in, same-iff, or-ge, or-small, pow-small, none-small, truth, no-truth}
 
 -- ---- definitions, as the loops compute them
-
--- for each pair of registers, the classes that hold a result of any function at the two
-unfoldable pub foldedOf : List ℕ → List ℕ
-foldedOf l = table (λ i. bitOr (bitOr (getD l i 0) (getD l (64 + i) 0)) (bitOr (getD l (128 + i) 0) (getD l (192 + i) 0))) 64
 
 -- the union of k entries, `step` apart
 unfoldable pub unionOf : List ℕ → ℕ → ℕ → ℕ → ℕ
 unionOf t start step zero = 0
 unionOf t start step (suc k) = bitOr (unionOf t start step k) (getD t (start + k * step) 0)
 
--- for each register, the registers that hold a result with it as an argument
-unfoldable pub aboveOf : List ℕ → List ℕ
-aboveOf t = table (λ h. bitOr (unionOf t (8 * h) 1 8) (unionOf t h 8 8)) 8
-
--- the mask of h, empty if `hits` is
-unfoldable pub flagOf : ℕ → ℕ → ℕ
-flagOf hits h = cond (nonempty hits) (2 ^ h) 0
-
--- the registers below k that have one of s directly above them
-unfoldable pub belowOf : List ℕ → ℕ → ℕ → ℕ
-belowOf up s zero = 0
-belowOf up s (suc k) = bitOr (belowOf up s k) (flagOf (bitAnd (getD up k 0) s) k)
-
--- the registers below k with which x is an argument of a held result
-unfoldable pub besideOf : List ℕ → ℕ → ℕ → ℕ
-besideOf t x zero = 0
-besideOf t x (suc k) = bitOr (besideOf t x k) (flagOf (bitOr (getD t (8 * x + k) 0) (getD t (8 * k + x) 0)) k)
-
--- the set s with the registers directly below it, n times over
-unfoldable pub passes : List ℕ → ℕ → ℕ → ℕ
-passes up zero s = s
-passes up (suc n) s = passes up n (bitOr s (belowOf up s 8))
-
--- the registers of the seed and those that have one of them above; each pass but the last adds one of 8 registers
-unfoldable pub raisedOf : List ℕ → ℕ → ℕ
-raisedOf up seed = passes up 256 seed
-
--- the registers below a result that has x as an argument or that x holds, and those below `more`
-unfoldable pub lostOf : List ℕ → ℕ → ℕ → ℕ
-lostOf l x more =
-    raisedOf (aboveOf (foldedOf l))
-    (bitOr (bitOr (bitOr (belowOf (aboveOf (foldedOf l)) (2 ^ x) 8) (besideOf (foldedOf l) x 8)) (flagOf (getD (aboveOf (foldedOf l)) x 0) x)) more)
-
-unfoldable pub markedWith : List Bool → ℕ → List Bool
-markedWith l s = table (λ i. getD l i false || has s i) 8
-
-pub mark-is : (l : List Bool) (s i : ℕ) (v : Bool) → v ≡ has s i → (getD l i false || v) ≡ (getD l i false || has s i)
-mark-is l s i v e = rw e
-
--- ---- one turn of each loop
-
 pub union-more : (t : List ℕ) (start step j m : ℕ) → m ≡ unionOf t start step j → bitOr m (getD t (start + j * step) 0) ≡ unionOf t start step (j + 1)
 unfolding unionOf
 union-more t start step j m e = rw (add-one, e)
-
-pub below-more : (up : List ℕ) (s h m v : ℕ) → m ≡ belowOf up s h → v ≡ flagOf (bitAnd (getD up h 0) s) h → bitOr m v ≡ belowOf up s (h + 1)
-unfolding belowOf
-below-more up s h m v e d = rw (add-one, e, d)
-
-pub beside-more : (t : List ℕ) (x h m v : ℕ) → m ≡ besideOf t x h → v ≡ flagOf (bitOr (getD t (8 * x + h) 0) (getD t (8 * h + x) 0)) h → bitOr m v ≡ besideOf t x (h + 1)
-unfolding besideOf
-beside-more t x h m v e d = rw (add-one, e, d)
 
 pub union-none : (t : List ℕ) (start step : ℕ) → 0 ≡ unionOf t start step 0
 unfolding unionOf
 union-none t start step = refl
 
-pub below-none : (up : List ℕ) (s : ℕ) → 0 ≡ belowOf up s 0
-unfolding belowOf
-below-none up s = refl
+pub union-all : (t : List ℕ) (start step m j k : ℕ) → j ≤ k → k ≤ j → m ≡ unionOf t start step j → m ≡ unionOf t start step k
+union-all t start step m j k h g e = e ∙ ap (unionOf t start step) (omega arith)
 
-pub beside-none : (t : List ℕ) (x : ℕ) → 0 ≡ besideOf t x 0
-unfolding besideOf
-beside-none t x = refl
+-- the union of four entries, as the code writes it out
+pub union-four : (t : List ℕ) (start step : ℕ) → bitOr (bitOr (bitOr (getD t start 0) (getD t (step + start) 0)) (getD t (2 * step + start) 0)) (getD t (3 * step + start) 0) ≡ unionOf t start step 4
+unfolding unionOf
+union-four t start step = sym (ap₂ bitOr (ap₂ bitOr (ap₂ bitOr (or-zero-l (getD t (start + 0 * step) 0) ∙ at (omega arith)) (at (omega arith))) (at (omega arith))) (at (omega arith)))
+  where
+    at : {k m : ℕ} → k ≡ m → getD t k 0 ≡ getD t m 0
+    at e = ap (λ z. getD t z 0) e
 
-pub union-all : (t : List ℕ) (start step m j : ℕ) → j ≤ 8 → 8 ≤ j → m ≡ unionOf t start step j → m ≡ unionOf t start step 8
-union-all t start step m j h g e = e ∙ ap (unionOf t start step) (omega arith)
-
-pub below-all : (up : List ℕ) (s m h : ℕ) → h ≤ 8 → 8 ≤ h → m ≡ belowOf up s h → m ≡ belowOf up s 8
-below-all up s m h k g e = e ∙ ap (belowOf up s) (omega arith)
-
-pub beside-all : (t : List ℕ) (x m h : ℕ) → h ≤ 8 → 8 ≤ h → m ≡ besideOf t x h → m ≡ besideOf t x 8
-beside-all t x m h k g e = e ∙ ap (besideOf t x) (omega arith)
-
--- the eight entries lie inside
-pub stepped : (start step j : ℕ) → j < 8 → start + 7 * step < 64 → start + j * step < 64
-stepped start step j h g = let l : j * step ≤ 7 * step = mul-le-mul-right {m = j} {n = 7} step (omega arith) in omega arith
-
--- what `lost` calls, one after the other
-pub lost-is : (l t up : List ℕ) (x more one b e f r : ℕ) → t ≡ foldedOf l → up ≡ aboveOf t → one ≡ 2 ^ x → b ≡ belowOf up one 8 → e ≡ besideOf t x 8 → f ≡ flagOf (getD up x 0) x → r ≡ raisedOf up (bitOr (bitOr (bitOr b e) f) more) → r ≡ lostOf l x more
-unfolding lostOf
-lost-is l t up x more one b e f r p q o i j k h = rw (h, i, j, k, o, q, p)
-
--- ---- bounds
-
-flag-small : (hits h : ℕ) → h < 8 → flagOf hits h < 256
-unfolding flagOf
-flag-small hits h b = byTest (nonempty hits) (λ t. rw t (pow-small h b)) (λ t. rw t (omega arith))
-
-below-small : (up : List ℕ) (s k : ℕ) → k ≤ 8 → belowOf up s k < 256
-unfolding belowOf
-below-small up s zero h = omega arith
-below-small up s (suc k) h = or-small (belowOf up s k) (flagOf (bitAnd (getD up k 0) s) k) (below-small up s k (omega arith)) (flag-small (bitAnd (getD up k 0) s) k (omega arith))
-
-beside-small : (t : List ℕ) (x k : ℕ) → k ≤ 8 → besideOf t x k < 256
-unfolding besideOf
-beside-small t x zero h = omega arith
-beside-small t x (suc k) h =
-    or-small (besideOf t x k) (flagOf (bitOr (getD t (8 * x + k) 0) (getD t (8 * k + x) 0)) k) (beside-small t x k (omega arith)) (flag-small (bitOr (getD t (8 * x + k) 0) (getD t (8 * k + x) 0)) k (omega arith))
-
--- ---- the passes come to an end
-
-abbrev next : List ℕ → ℕ → ℕ
-next up s = bitOr s (belowOf up s 8)
-
-next-small : (up : List ℕ) (s : ℕ) → s < 256 → bitOr s (belowOf up s 8) < 256
-next-small up s b = or-small s (belowOf up s 8) b (below-small up s 8 (omega arith))
-
-passes-still : (up : List ℕ) (s : ℕ) → next up s ≡ s → (n : ℕ) → passes up n s ≡ s
-unfolding passes
-passes-still up s e zero = refl
-passes-still up s e (suc n) = ap (passes up n) e ∙ passes-still up s e n
-
-passes-ended : (up : List ℕ) (n s : ℕ) → s < 256 → 256 ≤ n + s → next up (passes up n s) ≡ passes up n s
-unfolding passes
-passes-ended up zero s b h = absurd (omega arith)
-passes-ended up (suc n) s b h = byTest (eqb (next up s) s)
-    (λ t. let e = eqb-true (next up s) s t in let k = ap (passes up n) e ∙ passes-still up s e n in rw k e)
-    (λ t. let d = eqb-false (next up s) s t in passes-ended up n (next up s) (next-small up s b) (omega (arith, or-ge s (belowOf up s 8))))
-
--- what the loop keeps: s is the seed after some passes, as many at most as s is large, and one more gives t
-pub record Rising (up : List ℕ) (seed s t : ℕ) : Type 0 where
-  pub turns : ℕ
-  pub few : turns ≤ s
-  pub small : s < 256
-  pub left : (n : ℕ) → passes up (turns + n) seed ≡ passes up n s
-  pub more : t ≡ bitOr s (belowOf up s 8)
-
-pub rising-none : (up : List ℕ) (seed v : ℕ) → seed < 256 → v ≡ belowOf up seed 8 → Rising up seed seed (bitOr seed v)
-rising-none up seed v b e = record { turns = 0; few = omega arith; small = b; left = λ n. ap (λ k. passes up k seed) (omega arith); more = ap (bitOr seed) e }
-
-pub rising-more : (up : List ℕ) (seed s t v : ℕ) → Rising up seed s t → t ≢ s → v ≡ belowOf up t 8 → Rising up seed t (bitOr t v)
-unfolding passes
-rising-more up seed s t v r d e = record {
-  turns = suc (r .turns);
-  few = let l = or-ge s (belowOf up s 8) in let m = r .more in omega (arith, r .few);
-  small = subst (λ k. k < 256) (sym (r .more)) (next-small up s (r .small));
-  left = λ n. ap (λ k. passes up k seed) (suc-add (r .turns) n ∙ sym (add-suc (r .turns) n)) ∙ r .left (suc n) ∙ ap (passes up n) (sym (r .more));
-  more = ap (bitOr t) e;
-}
-
-pub rising-grows : (up : List ℕ) (seed s t : ℕ) → Rising up seed s t → s ≤ t
-rising-grows up seed s t r = let l = or-ge s (belowOf up s 8) in let m = r .more in omega arith
-
-pub rising-all : (up : List ℕ) (seed s t : ℕ) → Rising up seed s t → t ≡ s → s ≡ raisedOf up seed
-unfolding raisedOf
-rising-all up seed s t r e =
-    let k : r .turns + (256 - r .turns) ≡ 256 = omega (arith, r .few, r .small) in
-    sym (ap (λ n. passes up n seed) (sym k) ∙ r .left (256 - r .turns) ∙ passes-still up s (sym (r .more) ∙ e) (256 - r .turns))
-
--- ---- what the definitions say
+-- the entries of a union lie inside
+pub stepped : (ρ n start step j : ℕ) → j < ρ → start + (ρ - 1) * step < n → start + j * step < n
+stepped ρ n start step j h g = let l : j * step ≤ (ρ - 1) * step = mul-le-mul-right {m = j} {n = ρ - 1} step (omega arith) in omega arith
 
 pub union-is : (t : List ℕ) (start step k c : ℕ) → T (has (unionOf t start step k) c) ↔ ((j : ℕ) × (j < k) × T (has (getD t (start + j * step) 0) c))
 unfolding unionOf
@@ -197,154 +58,306 @@ union-is t start step (suc k) c = Iff·trans (or-is (unionOf t start step k) (ge
       (λ e. let d = eqb-false j k e in inl (union-is t start step k c .1 (j, omega arith, v)))),
 )
 
-pub folded-is : (l : List ℕ) (i c : ℕ) → i < 64 → T (has (getD (foldedOf l) i 0) c) ↔ ((f : ℕ) × (f < 4) × T (has (getD l (64 * f + i) 0) c))
-unfolding foldedOf
-folded-is l i c h =
-    let e = table-at (λ k. bitOr (bitOr (getD l k 0) (getD l (64 + k) 0)) (bitOr (getD l (128 + k) 0) (getD l (192 + k) 0))) 64 i 0 h in
-    Iff·trans (same-iff (ap (λ m. has m c) e)) (Iff·trans (or-is (bitOr (getD l i 0) (getD l (64 + i) 0)) (bitOr (getD l (128 + i) 0) (getD l (192 + i) 0)) c) (
-      (λ k. ⊎-elim (λ u. ⊎-elim (at 0 (omega arith) i (omega arith)) (at 1 (omega arith) (64 + i) (omega arith)) (or-is (getD l i 0) (getD l (64 + i) 0) c .0 u))
-          (λ u. ⊎-elim (at 2 (omega arith) (128 + i) (omega arith)) (at 3 (omega arith) (192 + i) (omega arith)) (or-is (getD l (128 + i) 0) (getD l (192 + i) 0) c .0 u)) k),
-      (λ (f, b, t). four f b t),
-    ))
-  where
-    at : (f : ℕ) → f < 4 → (k : ℕ) → k ≡ 64 * f + i → T (has (getD l k 0) c) → (f : ℕ) × (f < 4) × T (has (getD l (64 * f + i) 0) c)
-    at f b k e t = (f, b, subst (λ z. T (has (getD l z 0) c)) e t)
+pub mark-is : (l : List Bool) (s i : ℕ) (v : Bool) → v ≡ has s i → (getD l i false || v) ≡ (getD l i false || has s i)
+mark-is l s i v e = rw e
 
-    to : (k m : ℕ) → k ≡ m → T (has (getD l k 0) c) → T (has (getD l m 0) c)
-    to k m e t = subst (λ z. T (has (getD l z 0) c)) e t
+module _ (ρ : ℕ) where
+  -- for each register, the registers that hold a result with it as an argument
+  unfoldable pub aboveOf : List ℕ → List ℕ
+  aboveOf t = table (λ h. bitOr (unionOf t (ρ * h) 1 ρ) (unionOf t h ρ ρ)) ρ
 
-    four : (f : ℕ) → f < 4 → T (has (getD l (64 * f + i) 0) c) → T (has (bitOr (getD l i 0) (getD l (64 + i) 0)) c) ⊎ T (has (bitOr (getD l (128 + i) 0) (getD l (192 + i) 0)) c)
-    four zero b t = inl (or-is (getD l i 0) (getD l (64 + i) 0) c .1 (inl (to (64 * 0 + i) i (omega arith) t)))
-    four (suc zero) b t = inl (or-is (getD l i 0) (getD l (64 + i) 0) c .1 (inr (to (64 * 1 + i) (64 + i) (omega arith) t)))
-    four (suc (suc zero)) b t = inr (or-is (getD l (128 + i) 0) (getD l (192 + i) 0) c .1 (inl (to (64 * 2 + i) (128 + i) (omega arith) t)))
-    four (suc (suc (suc zero))) b t = inr (or-is (getD l (128 + i) 0) (getD l (192 + i) 0) c .1 (inr (to (64 * 3 + i) (192 + i) (omega arith) t)))
-    four (suc (suc (suc (suc f)))) b t = absurd (omega arith)
+  -- the mask of h, empty if `hits` is
+  unfoldable pub flagOf : ℕ → ℕ → ℕ
+  flagOf hits h = cond (nonempty ρ hits) (2 ^ h) 0
 
--- c holds a result with h as an argument
-abbrev pub Up : List ℕ → ℕ → ℕ → Type 0
-Up l h c = (k : ℕ) × (k < 256) × T (has (getD l k 0) c) × ((h ≡ First k) ⊎ (h ≡ Second k))
+  -- the registers below k that have one of s directly above them
+  unfoldable pub belowOf : List ℕ → ℕ → ℕ → ℕ
+  belowOf up s zero = 0
+  belowOf up s (suc k) = bitOr (belowOf up s k) (flagOf (bitAnd (getD up k 0) s) k)
 
-pub above-is : (l : List ℕ) (h c : ℕ) → h < 8 → T (has (getD (aboveOf (foldedOf l)) h 0) c) ↔ Up l h c
-unfolding aboveOf
-above-is l h c hb =
-    let t = foldedOf l in
-    let e = table-at (λ g. bitOr (unionOf (foldedOf l) (8 * g) 1 8) (unionOf (foldedOf l) g 8 8)) 8 h 0 hb in
-    Iff·trans (same-iff (ap (λ m. has m c) e)) (Iff·trans (or-is (unionOf t (8 * h) 1 8) (unionOf t h 8 8) c) (
-      (λ k. ⊎-elim
-          (λ u. let (j, b, v) = union-is t (8 * h) 1 8 c .0 u in let (f, fb, w) = folded-is l (8 * h + j * 1) c (omega arith) .0 v in (64 * f + (8 * h + j * 1), omega arith, w, inl (omega arith)))
-          (λ u. let (j, b, v) = union-is t h 8 8 c .0 u in let (f, fb, w) = folded-is l (h + j * 8) c (omega arith) .0 v in (64 * f + (h + j * 8), omega arith, w, inr (omega arith))) k),
-      (λ (k, kb, w, d). ⊎-elim
-          (λ p. inl (union-is t (8 * h) 1 8 c .1 (k % 8, omega arith, folded-is l (8 * h + k % 8 * 1) c (omega arith) .1 (k / 64, omega arith, subst (λ z. T (has (getD l z 0) c)) (omega arith) w))))
-          (λ p. inr (union-is t h 8 8 c .1 (k / 8 % 8, omega arith, folded-is l (h + k / 8 % 8 * 8) c (omega arith) .1 (k / 64, omega arith, subst (λ z. T (has (getD l z 0) c)) (omega arith) w)))) d),
-    ))
+  -- the registers below k with which x is an argument of a held result
+  unfoldable pub besideOf : List ℕ → ℕ → ℕ → ℕ
+  besideOf t x zero = 0
+  besideOf t x (suc k) = bitOr (besideOf t x k) (flagOf (bitOr (getD t (ρ * x + k) 0) (getD t (ρ * k + x) 0)) k)
 
-pub flag-is : (hits h g : ℕ) → T (has (flagOf hits h) g) ↔ ((g ≡ h) × ((c : ℕ) × (c < 8) × T (has hits c)))
-unfolding flagOf
-flag-is hits h g = byTest (nonempty hits)
-    (λ t. rw t ((λ k. (single-is h g .0 k, nonempty-is hits .0 (truth (nonempty hits) t))), (λ (e, _). single-is h g .1 e)))
-    (λ t. rw t ((λ k. absurd (none-in g k)), (λ (_, k). absurd (no-truth (nonempty hits) t (nonempty-is hits .1 k)))))
+  -- the set s with the registers directly below it, n times over
+  unfoldable pub passes : List ℕ → ℕ → ℕ → ℕ
+  passes up zero s = s
+  passes up (suc n) s = passes up n (bitOr s (belowOf up s ρ))
 
-pub below-is : (up : List ℕ) (s k h : ℕ) → T (has (belowOf up s k) h) ↔ ((h < k) × ((c : ℕ) × (c < 8) × T (has (getD up h 0) c) × T (has s c)))
-unfolding belowOf
-below-is up s zero h = ((λ t. absurd (none-in h t)), (λ (l, _). absurd (omega arith)))
-below-is up s (suc k) h = Iff·trans (or-is (belowOf up s k) (flagOf (bitAnd (getD up k 0) s) k) h) (
-  (λ t. ⊎-elim (λ u. let (l, v) = below-is up s k h .0 u in (omega arith, v))
-      (λ u. let (e, (c, cb, v)) = flag-is (bitAnd (getD up k 0) s) k h .0 u in
-      let v′ = subst T (has-and (getD up k 0) s c) v in
-      (omega arith, (c, cb, subst (λ i. T (has (getD up i 0) c)) (sym e) (and-l (has (getD up k 0) c) (has s c) v′), and-r (has (getD up k 0) c) (has s c) v′))) t),
-  (λ (l, (c, cb, p, q)). byTest (eqb h k)
-      (λ e. let z = eqb-true h k e in
-      inr (flag-is (bitAnd (getD up k 0) s) k h .1 (z, (c, cb, subst T (sym (has-and (getD up k 0) s c)) (and-i (has (getD up k 0) c) (has s c) (subst (λ i. T (has (getD up i 0) c)) z p) q)))))
-      (λ e. let d = eqb-false h k e in inl (below-is up s k h .1 (omega arith, (c, cb, p, q))))),
-)
+  -- the registers of the seed and those that have one of them above; each pass but the last adds a register
+  unfoldable pub raisedOf : List ℕ → ℕ → ℕ
+  raisedOf up seed = passes up (2 ^ ρ) seed
 
-pub beside-is : (t : List ℕ) (x k h : ℕ) → T (has (besideOf t x k) h) ↔ ((h < k) × ((c : ℕ) × (c < 8) × (T (has (getD t (8 * x + h) 0) c) ⊎ T (has (getD t (8 * h + x) 0) c))))
-unfolding besideOf
-beside-is t x zero h = ((λ k. absurd (none-in h k)), (λ (l, _). absurd (omega arith)))
-beside-is t x (suc k) h = Iff·trans (or-is (besideOf t x k) (flagOf (bitOr (getD t (8 * x + k) 0) (getD t (8 * k + x) 0)) k) h) (
-  (λ u. ⊎-elim (λ v. let (l, p) = beside-is t x k h .0 v in (omega arith, p))
-      (λ v. let (e, (c, cb, p)) = flag-is (bitOr (getD t (8 * x + k) 0) (getD t (8 * k + x) 0)) k h .0 v in
-      (omega arith, (c, cb, subst (λ i. T (has (getD t (8 * x + i) 0) c) ⊎ T (has (getD t (8 * i + x) 0) c)) (sym e) (or-is (getD t (8 * x + k) 0) (getD t (8 * k + x) 0) c .0 p)))) u),
-  (λ (l, (c, cb, p)). byTest (eqb h k)
-      (λ e. let z = eqb-true h k e in
-      inr (flag-is (bitOr (getD t (8 * x + k) 0) (getD t (8 * k + x) 0)) k h .1 (z, (c, cb, or-is (getD t (8 * x + k) 0) (getD t (8 * k + x) 0) c .1 (subst (λ i. T (has (getD t (8 * x + i) 0) c) ⊎ T (has (getD t (8 * i + x) 0) c)) z p)))))
-      (λ e. let d = eqb-false h k e in inl (beside-is t x k h .1 (omega arith, (c, cb, p))))),
-)
+  unfoldable pub markedWith : List Bool → ℕ → List Bool
+  markedWith l s = table (λ i. getD l i false || has s i) ρ
+
+  -- ---- one turn of each loop
+
+  pub below-more : (up : List ℕ) (s h m v : ℕ) → m ≡ belowOf up s h → v ≡ flagOf (bitAnd (getD up h 0) s) h → bitOr m v ≡ belowOf up s (h + 1)
+  unfolding belowOf
+  below-more up s h m v e d = rw (add-one, e, d)
+
+  pub beside-more : (t : List ℕ) (x h m v : ℕ) → m ≡ besideOf t x h → v ≡ flagOf (bitOr (getD t (ρ * x + h) 0) (getD t (ρ * h + x) 0)) h → bitOr m v ≡ besideOf t x (h + 1)
+  unfolding besideOf
+  beside-more t x h m v e d = rw (add-one, e, d)
+
+  pub below-none : (up : List ℕ) (s : ℕ) → 0 ≡ belowOf up s 0
+  unfolding belowOf
+  below-none up s = refl
+
+  pub beside-none : (t : List ℕ) (x : ℕ) → 0 ≡ besideOf t x 0
+  unfolding besideOf
+  beside-none t x = refl
+
+  pub below-all : (up : List ℕ) (s m h : ℕ) → h ≤ ρ → ρ ≤ h → m ≡ belowOf up s h → m ≡ belowOf up s ρ
+  below-all up s m h k g e = e ∙ ap (belowOf up s) (omega arith)
+
+  pub beside-all : (t : List ℕ) (x m h : ℕ) → h ≤ ρ → ρ ≤ h → m ≡ besideOf t x h → m ≡ besideOf t x ρ
+  beside-all t x m h k g e = e ∙ ap (besideOf t x) (omega arith)
+
+  -- ---- bounds
+
+  flag-small : (hits h : ℕ) → h < ρ → flagOf hits h < 2 ^ ρ
+  unfolding flagOf
+  flag-small hits h b = byTest (nonempty ρ hits) (λ t. rw t (pow-small ρ h b)) (λ t. rw t (none-small ρ))
+
+  below-small : (up : List ℕ) (s k : ℕ) → k ≤ ρ → belowOf up s k < 2 ^ ρ
+  unfolding belowOf
+  below-small up s zero h = none-small ρ
+  below-small up s (suc k) h = or-small ρ (belowOf up s k) (flagOf (bitAnd (getD up k 0) s) k) (below-small up s k (omega arith)) (flag-small (bitAnd (getD up k 0) s) k (omega arith))
+
+  beside-small : (t : List ℕ) (x k : ℕ) → k ≤ ρ → besideOf t x k < 2 ^ ρ
+  unfolding besideOf
+  beside-small t x zero h = none-small ρ
+  beside-small t x (suc k) h =
+      or-small ρ (besideOf t x k) (flagOf (bitOr (getD t (ρ * x + k) 0) (getD t (ρ * k + x) 0)) k) (beside-small t x k (omega arith)) (flag-small (bitOr (getD t (ρ * x + k) 0) (getD t (ρ * k + x) 0)) k (omega arith))
+
+  -- ---- the passes come to an end
+
+  abbrev next : List ℕ → ℕ → ℕ
+  next up s = bitOr s (belowOf up s ρ)
+
+  next-small : (up : List ℕ) (s : ℕ) → s < 2 ^ ρ → bitOr s (belowOf up s ρ) < 2 ^ ρ
+  next-small up s b = or-small ρ s (belowOf up s ρ) b (below-small up s ρ (omega arith))
+
+  passes-still : (up : List ℕ) (s : ℕ) → next up s ≡ s → (n : ℕ) → passes up n s ≡ s
+  unfolding passes
+  passes-still up s e zero = refl
+  passes-still up s e (suc n) = ap (passes up n) e ∙ passes-still up s e n
+
+  passes-ended : (up : List ℕ) (n s : ℕ) → s < 2 ^ ρ → 2 ^ ρ ≤ n + s → next up (passes up n s) ≡ passes up n s
+  unfolding passes
+  passes-ended up zero s b h = absurd (omega arith)
+  passes-ended up (suc n) s b h = byTest (eqb (next up s) s)
+      (λ t. let e = eqb-true (next up s) s t in let k = ap (passes up n) e ∙ passes-still up s e n in rw k e)
+      (λ t. let d = eqb-false (next up s) s t in passes-ended up n (next up s) (next-small up s b) (omega (arith, or-ge s (belowOf up s ρ))))
+
+  -- what the loop keeps: s is the seed after some passes, as many at most as s is large, and one more gives t
+  pub record Rising (up : List ℕ) (seed s t : ℕ) : Type 0 where
+    pub turns : ℕ
+    pub few : turns ≤ s
+    pub small : s < 2 ^ ρ
+    pub left : (n : ℕ) → passes up (turns + n) seed ≡ passes up n s
+    pub more : t ≡ bitOr s (belowOf up s ρ)
+
+  pub rising-none : (up : List ℕ) (seed v : ℕ) → seed < 2 ^ ρ → v ≡ belowOf up seed ρ → Rising up seed seed (bitOr seed v)
+  rising-none up seed v b e = record { turns = 0; few = omega arith; small = b; left = λ n. ap (λ k. passes up k seed) (omega arith); more = ap (bitOr seed) e }
+
+  pub rising-more : (up : List ℕ) (seed s t v : ℕ) → Rising up seed s t → t ≢ s → v ≡ belowOf up t ρ → Rising up seed t (bitOr t v)
+  unfolding passes
+  rising-more up seed s t v r d e = record {
+    turns = suc (r .turns);
+    few = let l = or-ge s (belowOf up s ρ) in let m = r .more in omega (arith, r .few);
+    small = subst (λ k. k < 2 ^ ρ) (sym (r .more)) (next-small up s (r .small));
+    left = λ n. ap (λ k. passes up k seed) (suc-add (r .turns) n ∙ sym (add-suc (r .turns) n)) ∙ r .left (suc n) ∙ ap (passes up n) (sym (r .more));
+    more = ap (bitOr t) e;
+  }
+
+  pub rising-grows : (up : List ℕ) (seed s t : ℕ) → Rising up seed s t → s ≤ t
+  rising-grows up seed s t r = let l = or-ge s (belowOf up s ρ) in let m = r .more in omega arith
+
+  pub rising-all : (up : List ℕ) (seed s t : ℕ) → Rising up seed s t → t ≡ s → s ≡ raisedOf up seed
+  unfolding raisedOf
+  rising-all up seed s t r e =
+      let k : r .turns + (2 ^ ρ - r .turns) ≡ 2 ^ ρ = omega (arith, r .few, r .small) in
+      sym (ap (λ n. passes up n seed) (sym k) ∙ r .left (2 ^ ρ - r .turns) ∙ passes-still up s (sym (r .more) ∙ e) (2 ^ ρ - r .turns))
+
+  -- ---- what the definitions say
+
+  pub flag-is : (hits h g : ℕ) → T (has (flagOf hits h) g) ↔ ((g ≡ h) × ((c : ℕ) × (c < ρ) × T (has hits c)))
+  unfolding flagOf
+  flag-is hits h g = byTest (nonempty ρ hits)
+      (λ t. rw t ((λ k. (single-is h g .0 k, nonempty-is ρ hits .0 (truth (nonempty ρ hits) t))), (λ (e, _). single-is h g .1 e)))
+      (λ t. rw t ((λ k. absurd (none-in g k)), (λ (_, k). absurd (no-truth (nonempty ρ hits) t (nonempty-is ρ hits .1 k)))))
+
+  pub below-is : (up : List ℕ) (s k h : ℕ) → T (has (belowOf up s k) h) ↔ ((h < k) × ((c : ℕ) × (c < ρ) × T (has (getD up h 0) c) × T (has s c)))
+  unfolding belowOf
+  below-is up s zero h = ((λ t. absurd (none-in h t)), (λ (l, _). absurd (omega arith)))
+  below-is up s (suc k) h = Iff·trans (or-is (belowOf up s k) (flagOf (bitAnd (getD up k 0) s) k) h) (
+    (λ t. ⊎-elim (λ u. let (l, v) = below-is up s k h .0 u in (omega arith, v))
+        (λ u. let (e, (c, cb, v)) = flag-is (bitAnd (getD up k 0) s) k h .0 u in
+        let v′ = subst T (has-and (getD up k 0) s c) v in
+        (omega arith, (c, cb, subst (λ i. T (has (getD up i 0) c)) (sym e) (and-l (has (getD up k 0) c) (has s c) v′), and-r (has (getD up k 0) c) (has s c) v′))) t),
+    (λ (l, (c, cb, p, q)). byTest (eqb h k)
+        (λ e. let z = eqb-true h k e in
+        inr (flag-is (bitAnd (getD up k 0) s) k h .1 (z, (c, cb, subst T (sym (has-and (getD up k 0) s c)) (and-i (has (getD up k 0) c) (has s c) (subst (λ i. T (has (getD up i 0) c)) z p) q)))))
+        (λ e. let d = eqb-false h k e in inl (below-is up s k h .1 (omega arith, (c, cb, p, q))))),
+  )
+
+  pub beside-is : (t : List ℕ) (x k h : ℕ) → T (has (besideOf t x k) h) ↔ ((h < k) × ((c : ℕ) × (c < ρ) × (T (has (getD t (ρ * x + h) 0) c) ⊎ T (has (getD t (ρ * h + x) 0) c))))
+  unfolding besideOf
+  beside-is t x zero h = ((λ k. absurd (none-in h k)), (λ (l, _). absurd (omega arith)))
+  beside-is t x (suc k) h = Iff·trans (or-is (besideOf t x k) (flagOf (bitOr (getD t (ρ * x + k) 0) (getD t (ρ * k + x) 0)) k) h) (
+    (λ u. ⊎-elim (λ v. let (l, p) = beside-is t x k h .0 v in (omega arith, p))
+        (λ v. let (e, (c, cb, p)) = flag-is (bitOr (getD t (ρ * x + k) 0) (getD t (ρ * k + x) 0)) k h .0 v in
+        (omega arith, (c, cb, subst (λ i. T (has (getD t (ρ * x + i) 0) c) ⊎ T (has (getD t (ρ * i + x) 0) c)) (sym e) (or-is (getD t (ρ * x + k) 0) (getD t (ρ * k + x) 0) c .0 p)))) u),
+    (λ (l, (c, cb, p)). byTest (eqb h k)
+        (λ e. let z = eqb-true h k e in
+        inr (flag-is (bitOr (getD t (ρ * x + k) 0) (getD t (ρ * k + x) 0)) k h .1 (z, (c, cb, or-is (getD t (ρ * x + k) 0) (getD t (ρ * k + x) 0) c .1 (subst (λ i. T (has (getD t (ρ * x + i) 0) c) ⊎ T (has (getD t (ρ * i + x) 0) c)) z p)))))
+        (λ e. let d = eqb-false h k e in inl (beside-is t x k h .1 (omega arith, (c, cb, p))))),
+  )
+
+module _ (ρ φ : ℕ) where
+  -- for each pair of registers, the classes that hold a result of any function at the two
+  unfoldable pub foldedOf : List ℕ → List ℕ
+  foldedOf l = table (λ i. unionOf l i (ρ * ρ) φ) (ρ * ρ)
+
+  -- the registers below a result that has x as an argument or that x holds, and those below `more`
+  unfoldable pub lostOf : List ℕ → ℕ → ℕ → ℕ
+  lostOf l x more =
+      raisedOf ρ (aboveOf ρ (foldedOf l))
+      (bitOr (bitOr (bitOr (belowOf ρ (aboveOf ρ (foldedOf l)) (2 ^ x) ρ) (besideOf ρ (foldedOf l) x ρ)) (flagOf ρ (getD (aboveOf ρ (foldedOf l)) x 0) x)) more)
+
+  -- what `lost` calls, one after the other
+  pub lost-is : (l t up : List ℕ) (x more one b e f r : ℕ) → t ≡ foldedOf l → up ≡ aboveOf ρ t → one ≡ 2 ^ x → b ≡ belowOf ρ up one ρ → e ≡ besideOf ρ t x ρ → f ≡ flagOf ρ (getD up x 0) x → r ≡ raisedOf ρ up (bitOr (bitOr (bitOr b e) f) more) → r ≡ lostOf l x more
+  unfolding lostOf
+  lost-is l t up x more one b e f r p q o i j k h = rw (h, i, j, k, o, q, p)
+
+  pub folded-is : (l : List ℕ) (a b c : ℕ) → a < ρ → b < ρ → T (has (getD (foldedOf l) (ρ * a + b) 0) c) ↔ ((f : ℕ) × (f < φ) × T (has (getD l (place ρ f a b) 0) c))
+  unfolding foldedOf
+  folded-is l a b c ab bb =
+      let e = table-at (λ i. unionOf l i (ρ * ρ) φ) (ρ * ρ) (ρ * a + b) 0 (entry-below ρ ρ a b ab bb) in
+      Iff·trans (same-iff (ap (λ m. has m c) e)) (Iff·trans (union-is l (ρ * a + b) (ρ * ρ) φ c) (
+        (λ (f, fb, t). (f, fb, subst (λ z. T (has (getD l z 0) c)) (place-at f) t)),
+        (λ (f, fb, t). (f, fb, subst (λ z. T (has (getD l z 0) c)) (sym (place-at f)) t)),
+      ))
+    where
+      place-at : (f : ℕ) → ρ * a + b + f * (ρ * ρ) ≡ place ρ f a b
+      place-at f = omega (arith, mul-comm f (ρ * ρ), place-sum ρ f a b)
+
+  -- c holds a result with h as an argument
+  abbrev pub Up : List ℕ → ℕ → ℕ → Type 0
+  Up l h c = (k : ℕ) × (k < φ * ρ * ρ) × T (has (getD l k 0) c) × ((h ≡ First ρ k) ⊎ (h ≡ Second ρ k))
+
+  pub above-is : (l : List ℕ) (h c : ℕ) → h < ρ → T (has (getD (aboveOf ρ (foldedOf l)) h 0) c) ↔ Up l h c
+  unfolding aboveOf
+  above-is l h c hb =
+      let t = foldedOf l in
+      let e = table-at (λ g. bitOr (unionOf (foldedOf l) (ρ * g) 1 ρ) (unionOf (foldedOf l) g ρ ρ)) ρ h 0 hb in
+      Iff·trans (same-iff (ap (λ m. has m c) e)) (Iff·trans (or-is (unionOf t (ρ * h) 1 ρ) (unionOf t h ρ ρ) c) (
+        (λ k. ⊎-elim
+            (λ u. let (j, b, v) = union-is t (ρ * h) 1 ρ c .0 u in
+            let (f, fb, w) = folded-is l h j c hb b .0 (subst (λ z. T (has (getD (foldedOf l) z 0) c)) (across j) v) in
+            (place ρ f h j, place-below ρ f h j hb b φ fb, w, inl (sym (first-place ρ f h j hb b))))
+            (λ u. let (j, b, v) = union-is t h ρ ρ c .0 u in
+            let (f, fb, w) = folded-is l j h c b hb .0 (subst (λ z. T (has (getD (foldedOf l) z 0) c)) (down j) v) in
+            (place ρ f j h, place-below ρ f j h b hb φ fb, w, inr (sym (second-place ρ f j h b hb)))) k),
+        (λ (k, kb, w, d). ⊎-elim
+            (λ p. inl (union-is t (ρ * h) 1 ρ c .1 (
+              Second ρ k,
+              second-below ρ φ k kb,
+              subst (λ z. T (has (getD (foldedOf l) z 0) c)) (sym (across (Second ρ k)))
+                  (folded-is l h (Second ρ k) c hb (second-below ρ φ k kb) .1 (Function ρ k, function-below ρ φ k kb, subst (λ z. T (has (getD l z 0) c)) (sym (ap (λ a. place ρ (Function ρ k) a (Second ρ k)) p ∙ place-is ρ k)) w)),
+            )))
+            (λ p. inr (union-is t h ρ ρ c .1 (
+              First ρ k,
+              first-below ρ φ k kb,
+              subst (λ z. T (has (getD (foldedOf l) z 0) c)) (sym (down (First ρ k)))
+                  (folded-is l (First ρ k) h c (first-below ρ φ k kb) hb .1 (Function ρ k, function-below ρ φ k kb, subst (λ z. T (has (getD l z 0) c)) (sym (ap (λ b. place ρ (Function ρ k) (First ρ k) b) p ∙ place-is ρ k)) w)),
+            ))) d),
+      ))
+    where
+      across : (j : ℕ) → ρ * h + j * 1 ≡ ρ * h + j
+      across j = omega arith
+
+      down : (j : ℕ) → h + j * ρ ≡ ρ * j + h
+      down j = omega (arith, mul-comm j ρ)
 
 -- ---- the registers from which a set is reached by held results
 
-pub data Below (l : List ℕ) (seed : ℕ) : ℕ → Type 0 where
-  seeded : {h : ℕ} → T (has seed h) → Below l seed h
-  lower : {c h : ℕ} → h < 8 → c < 8 → Up l h c → Below l seed c → Below l seed h
+pub data Below (ρ φ : ℕ) (l : List ℕ) (seed : ℕ) : ℕ → Type 0 where
+  seeded : {h : ℕ} → T (has seed h) → Below ρ φ l seed h
+  lower : {c h : ℕ} → h < ρ → c < ρ → Up ρ φ l h c → Below ρ φ l seed c → Below ρ φ l seed h
 
-module _ (l : List ℕ) where
-  passes-sound : (n seed s h : ℕ) → ((g : ℕ) → T (has s g) → Below l seed g) → T (has (passes (aboveOf (foldedOf l)) n s) h) → Below l seed h
+module _ (ρ φ : ℕ) (l : List ℕ) where
+  passes-sound : (n seed s h : ℕ) → ((g : ℕ) → T (has s g) → Below ρ φ l seed g) → T (has (passes ρ (aboveOf ρ (foldedOf ρ φ l)) n s) h) → Below ρ φ l seed h
   unfolding passes
   passes-sound zero seed s h f t = f h t
-  passes-sound (suc n) seed s h f t = passes-sound n seed (bitOr s (belowOf (aboveOf (foldedOf l)) s 8)) h
-      (λ g u. ⊎-elim (f g) (λ v. let (gb, (c, cb, p, q)) = below-is (aboveOf (foldedOf l)) s 8 g .0 v in lower gb cb (above-is l g c gb .0 p) (f c q)) (or-is s (belowOf (aboveOf (foldedOf l)) s 8) g .0 u)) t
+  passes-sound (suc n) seed s h f t = passes-sound n seed (bitOr s (belowOf ρ (aboveOf ρ (foldedOf ρ φ l)) s ρ)) h
+      (λ g u. ⊎-elim (f g) (λ v. let (gb, (c, cb, p, q)) = below-is ρ (aboveOf ρ (foldedOf ρ φ l)) s ρ g .0 v in lower gb cb (above-is ρ φ l g c gb .0 p) (f c q)) (or-is s (belowOf ρ (aboveOf ρ (foldedOf ρ φ l)) s ρ) g .0 u)) t
 
-  passes-keep : (n s h : ℕ) → T (has s h) → T (has (passes (aboveOf (foldedOf l)) n s) h)
+  passes-keep : (n s h : ℕ) → T (has s h) → T (has (passes ρ (aboveOf ρ (foldedOf ρ φ l)) n s) h)
   unfolding passes
   passes-keep zero s h t = t
-  passes-keep (suc n) s h t = passes-keep n (bitOr s (belowOf (aboveOf (foldedOf l)) s 8)) h (or-is s (belowOf (aboveOf (foldedOf l)) s 8) h .1 (inl t))
+  passes-keep (suc n) s h t = passes-keep n (bitOr s (belowOf ρ (aboveOf ρ (foldedOf ρ φ l)) s ρ)) h (or-is s (belowOf ρ (aboveOf ρ (foldedOf ρ φ l)) s ρ) h .1 (inl t))
 
-  pub raised-is : (seed h : ℕ) → seed < 256 → T (has (raisedOf (aboveOf (foldedOf l)) seed) h) ↔ Below l seed h
+  pub raised-is : (seed h : ℕ) → seed < 2 ^ ρ → T (has (raisedOf ρ (aboveOf ρ (foldedOf ρ φ l)) seed) h) ↔ Below ρ φ l seed h
   unfolding raisedOf
-  raised-is seed h b = (passes-sound 256 seed seed h (λ g t. seeded t), back)
+  raised-is seed h b = (passes-sound (2 ^ ρ) seed seed h (λ g t. seeded t), back)
     where
       p : ℕ
-      p = passes (aboveOf (foldedOf l)) 256 seed
+      p = passes ρ (aboveOf ρ (foldedOf ρ φ l)) (2 ^ ρ) seed
 
-      back : {h : ℕ} → Below l seed h → T (has (passes (aboveOf (foldedOf l)) 256 seed) h)
-      back {h} (seeded t) = passes-keep 256 seed h t
-      back {h} (lower {c} hb cb u o) = subst (λ m. T (has m h)) (passes-ended (aboveOf (foldedOf l)) 256 seed b (omega arith))
-          (or-is p (belowOf (aboveOf (foldedOf l)) p 8) h .1 (inr (below-is (aboveOf (foldedOf l)) p 8 h .1 (hb, (c, cb, above-is l h c hb .1 u, back o)))))
+      back : {h : ℕ} → Below ρ φ l seed h → T (has (passes ρ (aboveOf ρ (foldedOf ρ φ l)) (2 ^ ρ) seed) h)
+      back {h} (seeded t) = passes-keep (2 ^ ρ) seed h t
+      back {h} (lower {c} hb cb u o) = subst (λ m. T (has m h)) (passes-ended ρ (aboveOf ρ (foldedOf ρ φ l)) (2 ^ ρ) seed b (omega arith))
+          (or-is p (belowOf ρ (aboveOf ρ (foldedOf ρ φ l)) p ρ) h .1 (inr (below-is ρ (aboveOf ρ (foldedOf ρ φ l)) p ρ h .1 (hb, (c, cb, above-is ρ φ l h c hb .1 u, back o)))))
 
 -- h reaches, by zero or more results, an argument of a result that has x, or a register of `more`
-pub data Beneath (l : List ℕ) (x more : ℕ) : ℕ → Type 0 where
-  extra : {h : ℕ} → T (has more h) → Beneath l x more h
-  direct : (k : ℕ) {c h : ℕ} → k < 256 → c < 8 → T (has (getD l k 0) c) → (First k ≡ x) ⊎ ((Second k ≡ x) ⊎ (c ≡ x)) → (h ≡ First k) ⊎ (h ≡ Second k) → Beneath l x more h
-  beneath : (k : ℕ) {c h : ℕ} → k < 256 → c < 8 → T (has (getD l k 0) c) → Beneath l x more c → (h ≡ First k) ⊎ (h ≡ Second k) → Beneath l x more h
+pub data Beneath (ρ φ : ℕ) (l : List ℕ) (x more : ℕ) : ℕ → Type 0 where
+  extra : {h : ℕ} → T (has more h) → Beneath ρ φ l x more h
+  direct : (k : ℕ) {c h : ℕ} → k < φ * ρ * ρ → c < ρ → T (has (getD l k 0) c) → (First ρ k ≡ x) ⊎ ((Second ρ k ≡ x) ⊎ (c ≡ x)) → (h ≡ First ρ k) ⊎ (h ≡ Second ρ k) → Beneath ρ φ l x more h
+  beneath : (k : ℕ) {c h : ℕ} → k < φ * ρ * ρ → c < ρ → T (has (getD l k 0) c) → Beneath ρ φ l x more c → (h ≡ First ρ k) ⊎ (h ≡ Second ρ k) → Beneath ρ φ l x more h
 
-module _ (l : List ℕ) (x more : ℕ) (xb : x < 8) (mb : more < 256) where
-  argument-below : (k h : ℕ) → (h ≡ First k) ⊎ (h ≡ Second k) → h < 8
-  argument-below k h d = ⊎-elim (λ e. omega arith) (λ e. omega arith) d
+module _ (ρ φ : ℕ) (l : List ℕ) (x more : ℕ) (xb : x < ρ) (mb : more < 2 ^ ρ) where
+  argument-below : (k h : ℕ) → (h ≡ First ρ k) ⊎ (h ≡ Second ρ k) → h < ρ
+  argument-below k h d = let p : 0 < ρ = omega arith in ⊎-elim (λ e. subst (λ z. z < ρ) (sym e) (mod-lt (k / ρ) p)) (λ e. subst (λ z. z < ρ) (sym e) (mod-lt k p)) d
 
-  seed-is : (h : ℕ) → T (has (bitOr (bitOr (bitOr (belowOf (aboveOf (foldedOf l)) (2 ^ x) 8) (besideOf (foldedOf l) x 8)) (flagOf (getD (aboveOf (foldedOf l)) x 0) x)) more) h)
-      ↔ (T (has more h) ⊎ ((k : ℕ) × (c : ℕ) × (k < 256) × (c < 8) × T (has (getD l k 0) c) × ((First k ≡ x) ⊎ ((Second k ≡ x) ⊎ (c ≡ x))) × ((h ≡ First k) ⊎ (h ≡ Second k))))
+  seed-is : (h : ℕ) → T (has (bitOr (bitOr (bitOr (belowOf ρ (aboveOf ρ (foldedOf ρ φ l)) (2 ^ x) ρ) (besideOf ρ (foldedOf ρ φ l) x ρ)) (flagOf ρ (getD (aboveOf ρ (foldedOf ρ φ l)) x 0) x)) more) h)
+      ↔ (T (has more h) ⊎ ((k : ℕ) × (c : ℕ) × (k < φ * ρ * ρ) × (c < ρ) × T (has (getD l k 0) c) × ((First ρ k ≡ x) ⊎ ((Second ρ k ≡ x) ⊎ (c ≡ x))) × ((h ≡ First ρ k) ⊎ (h ≡ Second ρ k))))
   seed-is h = (into, out)
     where
       B : ℕ
-      B = belowOf (aboveOf (foldedOf l)) (2 ^ x) 8
+      B = belowOf ρ (aboveOf ρ (foldedOf ρ φ l)) (2 ^ x) ρ
 
       S : ℕ
-      S = besideOf (foldedOf l) x 8
+      S = besideOf ρ (foldedOf ρ φ l) x ρ
 
       G : ℕ
-      G = flagOf (getD (aboveOf (foldedOf l)) x 0) x
+      G = flagOf ρ (getD (aboveOf ρ (foldedOf ρ φ l)) x 0) x
 
       Found : Type 0
-      Found = (k : ℕ) × (c : ℕ) × (k < 256) × (c < 8) × T (has (getD l k 0) c) × ((First k ≡ x) ⊎ ((Second k ≡ x) ⊎ (c ≡ x))) × ((h ≡ First k) ⊎ (h ≡ Second k))
+      Found = (k : ℕ) × (c : ℕ) × (k < φ * ρ * ρ) × (c < ρ) × T (has (getD l k 0) c) × ((First ρ k ≡ x) ⊎ ((Second ρ k ≡ x) ⊎ (c ≡ x))) × ((h ≡ First ρ k) ⊎ (h ≡ Second ρ k))
 
-      from-below : T (has (belowOf (aboveOf (foldedOf l)) (2 ^ x) 8) h) → (k : ℕ) × (c : ℕ) × (k < 256) × (c < 8) × T (has (getD l k 0) c) × ((First k ≡ x) ⊎ ((Second k ≡ x) ⊎ (c ≡ x))) × ((h ≡ First k) ⊎ (h ≡ Second k))
+      from-below : T (has (belowOf ρ (aboveOf ρ (foldedOf ρ φ l)) (2 ^ x) ρ) h) → (k : ℕ) × (c : ℕ) × (k < φ * ρ * ρ) × (c < ρ) × T (has (getD l k 0) c) × ((First ρ k ≡ x) ⊎ ((Second ρ k ≡ x) ⊎ (c ≡ x))) × ((h ≡ First ρ k) ⊎ (h ≡ Second ρ k))
       from-below t =
-          let (hb, (c, cb, p, q)) = below-is (aboveOf (foldedOf l)) (2 ^ x) 8 h .0 t in
-          let (k, kb, u, d) = above-is l h c hb .0 p in
+          let (hb, (c, cb, p, q)) = below-is ρ (aboveOf ρ (foldedOf ρ φ l)) (2 ^ x) ρ h .0 t in
+          let (k, kb, u, d) = above-is ρ φ l h c hb .0 p in
           (k, c, kb, cb, u, inr (inr (single-is x c .0 q)), d)
 
-      from-beside : T (has (besideOf (foldedOf l) x 8) h) → (k : ℕ) × (c : ℕ) × (k < 256) × (c < 8) × T (has (getD l k 0) c) × ((First k ≡ x) ⊎ ((Second k ≡ x) ⊎ (c ≡ x))) × ((h ≡ First k) ⊎ (h ≡ Second k))
+      from-beside : T (has (besideOf ρ (foldedOf ρ φ l) x ρ) h) → (k : ℕ) × (c : ℕ) × (k < φ * ρ * ρ) × (c < ρ) × T (has (getD l k 0) c) × ((First ρ k ≡ x) ⊎ ((Second ρ k ≡ x) ⊎ (c ≡ x))) × ((h ≡ First ρ k) ⊎ (h ≡ Second ρ k))
       from-beside t =
-          let (hb, (c, cb, p)) = beside-is (foldedOf l) x 8 h .0 t in
+          let (hb, (c, cb, p)) = beside-is ρ (foldedOf ρ φ l) x ρ h .0 t in
           ⊎-elim
-          (λ u. let (f, fb, v) = folded-is l (8 * x + h) c (omega arith) .0 u in (64 * f + (8 * x + h), c, omega arith, cb, v, inl (omega arith), inr (omega arith)))
-          (λ u. let (f, fb, v) = folded-is l (8 * h + x) c (omega arith) .0 u in (64 * f + (8 * h + x), c, omega arith, cb, v, inr (inl (omega arith)), inl (omega arith)))
+          (λ u. let (f, fb, v) = folded-is ρ φ l x h c xb hb .0 u in (place ρ f x h, c, place-below ρ f x h xb hb φ fb, cb, v, inl (first-place ρ f x h xb hb), inr (sym (second-place ρ f x h xb hb))))
+          (λ u. let (f, fb, v) = folded-is ρ φ l h x c hb xb .0 u in (place ρ f h x, c, place-below ρ f h x hb xb φ fb, cb, v, inr (inl (second-place ρ f h x hb xb)), inl (sym (first-place ρ f h x hb xb))))
           p
 
-      from-own : T (has (flagOf (getD (aboveOf (foldedOf l)) x 0) x) h) → (k : ℕ) × (c : ℕ) × (k < 256) × (c < 8) × T (has (getD l k 0) c) × ((First k ≡ x) ⊎ ((Second k ≡ x) ⊎ (c ≡ x))) × ((h ≡ First k) ⊎ (h ≡ Second k))
+      from-own : T (has (flagOf ρ (getD (aboveOf ρ (foldedOf ρ φ l)) x 0) x) h) → (k : ℕ) × (c : ℕ) × (k < φ * ρ * ρ) × (c < ρ) × T (has (getD l k 0) c) × ((First ρ k ≡ x) ⊎ ((Second ρ k ≡ x) ⊎ (c ≡ x))) × ((h ≡ First ρ k) ⊎ (h ≡ Second ρ k))
       from-own t =
-          let (e, (c, cb, p)) = flag-is (getD (aboveOf (foldedOf l)) x 0) x h .0 t in
-          let (k, kb, u, d) = above-is l x c xb .0 p in
+          let (e, (c, cb, p)) = flag-is ρ (getD (aboveOf ρ (foldedOf ρ φ l)) x 0) x h .0 t in
+          let (k, kb, u, d) = above-is ρ φ l x c xb .0 p in
           (k, c, kb, cb, u, ⊎-elim (λ z. inl (sym z)) (λ z. inr (inl (sym z))) d, ⊎-elim (λ z. inl (e ∙ z)) (λ z. inr (e ∙ z)) d)
 
       into : T (has (bitOr (bitOr (bitOr B S) G) more) h) → T (has more h) ⊎ Found
@@ -357,42 +370,42 @@ module _ (l : List ℕ) (x more : ℕ) (xb : x < 8) (mb : more < 256) where
       out (inl t) = or-is (bitOr (bitOr B S) G) more h .1 (inr t)
       out (inr (k, c, kb, cb, t, d, e)) = or-is (bitOr (bitOr B S) G) more h .1 (inl (or-is (bitOr B S) G h .1 (find d e)))
         where
-          hb : h < 8
+          hb : h < ρ
           hb = argument-below k h e
 
-          beside : T (has (getD (foldedOf l) (8 * x + h) 0) c) ⊎ T (has (getD (foldedOf l) (8 * h + x) 0) c) → T (has (bitOr B S) h) ⊎ T (has G h)
-          beside p = inl (or-is B S h .1 (inr (beside-is (foldedOf l) x 8 h .1 (hb, (c, cb, p)))))
+          beside : T (has (getD (foldedOf ρ φ l) (ρ * x + h) 0) c) ⊎ T (has (getD (foldedOf ρ φ l) (ρ * h + x) 0) c) → T (has (bitOr B S) h) ⊎ T (has G h)
+          beside p = inl (or-is B S h .1 (inr (beside-is ρ (foldedOf ρ φ l) x ρ h .1 (hb, (c, cb, p)))))
 
-          own : (x ≡ First k) ⊎ (x ≡ Second k) → h ≡ x → T (has (bitOr B S) h) ⊎ T (has G h)
-          own p q = inr (flag-is (getD (aboveOf (foldedOf l)) x 0) x h .1 (q, (c, cb, above-is l x c xb .1 (k, kb, t, p))))
+          own : (x ≡ First ρ k) ⊎ (x ≡ Second ρ k) → h ≡ x → T (has (bitOr B S) h) ⊎ T (has G h)
+          own p q = inr (flag-is ρ (getD (aboveOf ρ (foldedOf ρ φ l)) x 0) x h .1 (q, (c, cb, above-is ρ φ l x c xb .1 (k, kb, t, p))))
 
-          find : (First k ≡ x) ⊎ ((Second k ≡ x) ⊎ (c ≡ x)) → (h ≡ First k) ⊎ (h ≡ Second k) → T (has (bitOr B S) h) ⊎ T (has G h)
+          find : (First ρ k ≡ x) ⊎ ((Second ρ k ≡ x) ⊎ (c ≡ x)) → (h ≡ First ρ k) ⊎ (h ≡ Second ρ k) → T (has (bitOr B S) h) ⊎ T (has G h)
           find (inl p) (inl q) = own (inl (sym p)) (q ∙ p)
-          find (inl p) (inr q) = beside (inl (folded-is l (8 * x + h) c (omega arith) .1 (k / 64, omega arith, subst (λ z. T (has (getD l z 0) c)) (omega arith) t)))
-          find (inr (inl p)) (inl q) = beside (inr (folded-is l (8 * h + x) c (omega arith) .1 (k / 64, omega arith, subst (λ z. T (has (getD l z 0) c)) (omega arith) t)))
+          find (inl p) (inr q) = beside (inl (folded-is ρ φ l x h c xb hb .1 (Function ρ k, function-below ρ φ k kb, subst (λ z. T (has (getD l z 0) c)) (sym (place-is ρ k) ∙ ap₂ (place ρ (Function ρ k)) p (sym q)) t)))
+          find (inr (inl p)) (inl q) = beside (inr (folded-is ρ φ l h x c hb xb .1 (Function ρ k, function-below ρ φ k kb, subst (λ z. T (has (getD l z 0) c)) (sym (place-is ρ k) ∙ ap₂ (place ρ (Function ρ k)) (sym q) p) t)))
           find (inr (inl p)) (inr q) = own (inr (sym p)) (q ∙ p)
-          find (inr (inr p)) q = inl (or-is B S h .1 (inl (below-is (aboveOf (foldedOf l)) (2 ^ x) 8 h .1 (hb, (c, cb, above-is l h c hb .1 (k, kb, t, q), single-is x c .1 p)))))
+          find (inr (inr p)) q = inl (or-is B S h .1 (inl (below-is ρ (aboveOf ρ (foldedOf ρ φ l)) (2 ^ x) ρ h .1 (hb, (c, cb, above-is ρ φ l h c hb .1 (k, kb, t, q), single-is x c .1 p)))))
 
-  seed-small : bitOr (bitOr (bitOr (belowOf (aboveOf (foldedOf l)) (2 ^ x) 8) (besideOf (foldedOf l) x 8)) (flagOf (getD (aboveOf (foldedOf l)) x 0) x)) more < 256
+  seed-small : bitOr (bitOr (bitOr (belowOf ρ (aboveOf ρ (foldedOf ρ φ l)) (2 ^ x) ρ) (besideOf ρ (foldedOf ρ φ l) x ρ)) (flagOf ρ (getD (aboveOf ρ (foldedOf ρ φ l)) x 0) x)) more < 2 ^ ρ
   seed-small =
-      let B = belowOf (aboveOf (foldedOf l)) (2 ^ x) 8 in
-      let S = besideOf (foldedOf l) x 8 in
-      let G = flagOf (getD (aboveOf (foldedOf l)) x 0) x in
-      or-small (bitOr (bitOr B S) G) more (or-small (bitOr B S) G (or-small B S (below-small (aboveOf (foldedOf l)) (2 ^ x) 8 (omega arith)) (beside-small (foldedOf l) x 8 (omega arith))) (flag-small (getD (aboveOf (foldedOf l)) x 0) x xb)) mb
+      let B = belowOf ρ (aboveOf ρ (foldedOf ρ φ l)) (2 ^ x) ρ in
+      let S = besideOf ρ (foldedOf ρ φ l) x ρ in
+      let G = flagOf ρ (getD (aboveOf ρ (foldedOf ρ φ l)) x 0) x in
+      or-small ρ (bitOr (bitOr B S) G) more (or-small ρ (bitOr B S) G (or-small ρ B S (below-small ρ (aboveOf ρ (foldedOf ρ φ l)) (2 ^ x) ρ (omega arith)) (beside-small ρ (foldedOf ρ φ l) x ρ (omega arith))) (flag-small ρ (getD (aboveOf ρ (foldedOf ρ φ l)) x 0) x xb)) mb
 
   -- the registers that get a mark are those beneath the lost class
-  pub lost-beneath : (h : ℕ) → T (has (lostOf l x more) h) ↔ Beneath l x more h
+  pub lost-beneath : (h : ℕ) → T (has (lostOf ρ φ l x more) h) ↔ Beneath ρ φ l x more h
   unfolding lostOf
-  lost-beneath h = Iff·trans (raised-is l seed h seed-small) (into, back)
+  lost-beneath h = Iff·trans (raised-is ρ φ l seed h seed-small) (into, back)
     where
       seed : ℕ
-      seed = bitOr (bitOr (bitOr (belowOf (aboveOf (foldedOf l)) (2 ^ x) 8) (besideOf (foldedOf l) x 8)) (flagOf (getD (aboveOf (foldedOf l)) x 0) x)) more
+      seed = bitOr (bitOr (bitOr (belowOf ρ (aboveOf ρ (foldedOf ρ φ l)) (2 ^ x) ρ) (besideOf ρ (foldedOf ρ φ l) x ρ)) (flagOf ρ (getD (aboveOf ρ (foldedOf ρ φ l)) x 0) x)) more
 
-      into : {h : ℕ} → Below l seed h → Beneath l x more h
+      into : {h : ℕ} → Below ρ φ l seed h → Beneath ρ φ l x more h
       into {h} (seeded t) = ⊎-elim extra (λ (k, c, kb, cb, u, d, e). direct k kb cb u d e) (seed-is h .0 t)
       into (lower hb cb (k, kb, u, d) o) = beneath k kb cb u (into o) d
 
-      back : {h : ℕ} → Beneath l x more h → Below l seed h
+      back : {h : ℕ} → Beneath ρ φ l x more h → Below ρ φ l seed h
       back {h} (extra t) = seeded (seed-is h .1 (inl t))
       back {h} (direct k {c} kb cb u d e) = seeded (seed-is h .1 (inr (k, c, kb, cb, u, d, e)))
       back {h} (beneath k {c} kb cb u o e) = lower (argument-below k h e) cb (k, kb, u, e) (back o)

@@ -1,10 +1,9 @@
 -- The tables in which some registers are read as others, register by register.
-use mathlib.Core.Path.{_≡_, refl, sym, ap, _∙_, subst}
+use mathlib.Core.Path.{_≡_, refl, sym, ap, ap₂, _∙_, subst}
 use mathlib.Core.Logic.{_⊎_, inl, inr, _↔_, ⊎-elim, Iff·trans}
 use mathlib.Core.Bool.{Bool, true, false, cond}
 use mathlib.Core.List.{List}
 use Prim.Native.Nat.{ℕ, _+_, _*_, _^_, _<_}
-use native.Mathlib.Omega.{arith}
 use lib.Dec.{T}
 use lib.Bits.{bitOr}
 use lib.ListN.{length, getD}
@@ -12,21 +11,21 @@ use Rattle.base.specs.Masks.{has}
 use Rattle.semantics.specs.Booleans.{or-not}
 use Rattle.semantics.specs.Steps.{copied}
 use borrow.Author.Tests.{eq-eqb, ne-eqb}
+use Rattle.window.specs.Places.{place, place-sum, place-below, line-entry, along-entry}
 use Rattle.window.specs.Bits.{movedOf, moved-in, moved-out, or-is, single-is, same-iff, or-small, pow-small, eq-or}
 use Rattle.window.specs.Lines.{Lines, columns, rows, unitedAt, united, united-at, united-length}
 use Rattle.window.specs.Through.{moved-at, masksThrough, resultsThrough}
-use Rattle.window.specs.Perform.{place}
 
-module _ (a b to : ℕ) (ab : a < 8) (bb : b < 8) where
+module _ (ρ φ a b to : ℕ) (ab : a < ρ) (bb : b < ρ) where
   -- z is what register r is read as: a or b if it is in `to`, else itself
   abbrev pub Pick : ℕ → ℕ → Type 0
   Pick r z = (T (has to r) × ((z ≡ a) ⊎ (z ≡ b))) ⊎ ((¬ T (has to r)) × (z ≡ r))
 
-  pub pick-below : (r z : ℕ) → r < 8 → Pick r z → z < 8
-  pick-below r z rb p = ⊎-elim (λ (_, h). ⊎-elim (λ e. subst (λ k. k < 8) (sym e) ab) (λ e. subst (λ k. k < 8) (sym e) bb) h) (λ (_, e). subst (λ k. k < 8) (sym e) rb) p
+  pub pick-below : (r z : ℕ) → r < ρ → Pick r z → z < ρ
+  pick-below r z rb p = ⊎-elim (λ (_, h). ⊎-elim (λ e. subst (λ k. k < ρ) (sym e) ab) (λ e. subst (λ k. k < ρ) (sym e) bb) h) (λ (_, e). subst (λ k. k < ρ) (sym e) rb) p
 
-  from-small : bitOr (2 ^ a) (2 ^ b) < 256
-  from-small = or-small (2 ^ a) (2 ^ b) (pow-small a ab) (pow-small b bb)
+  from-small : bitOr (2 ^ a) (2 ^ b) < 2 ^ ρ
+  from-small = or-small ρ (2 ^ a) (2 ^ b) (pow-small ρ a ab) (pow-small ρ b bb)
 
   from-is : (d : ℕ) → T (has (bitOr (2 ^ a) (2 ^ b)) d) ↔ ((d ≡ a) ⊎ (d ≡ b))
   from-is d = Iff·trans (or-is (2 ^ a) (2 ^ b) d) (
@@ -37,7 +36,7 @@ module _ (a b to : ℕ) (ab : a < 8) (bb : b < 8) where
   -- in a mask
   pub mask-is : (m c : ℕ) → T (has (movedOf m (bitOr (2 ^ a) (2 ^ b)) to) c) ↔ ((d : ℕ) × Pick c d × T (has m d))
   mask-is m c = ⊎-elim
-      (λ t. Iff·trans (moved-in m (bitOr (2 ^ a) (2 ^ b)) to c from-small t) (
+      (λ t. Iff·trans (moved-in ρ m (bitOr (2 ^ a) (2 ^ b)) to c from-small t) (
         (λ (d, p, q). (d, inl (t, from-is d .0 p), q)),
         (λ (d, p, q). ⊎-elim (λ (_, h). (d, from-is d .1 h, q)) (λ (n, _). absurd (n t)) p),
       ))
@@ -48,7 +47,7 @@ module _ (a b to : ℕ) (ab : a < 8) (bb : b < 8) where
       (or-not (has to c))
 
   -- along the lines of a table
-  pub line-is : (L : Lines) (l : List ℕ) (j r s : ℕ) → r < 8 → T (has (unitedAt L (has to) a b l (L .entry j r)) s) ↔ ((z : ℕ) × Pick r z × T (has (getD l (L .entry j z) 0) s))
+  pub line-is : (L : Lines ρ) (l : List ℕ) (j r s : ℕ) → r < ρ → T (has (unitedAt L (has to) a b l (L .entry j r)) s) ↔ ((z : ℕ) × Pick r z × T (has (getD l (L .entry j z) 0) s))
   unfolding unitedAt
   line-is L l j r s rb = ⊎-elim
       (λ t. let t′ : has to (L .along (L .entry j r)) ≡ true = ap (has to) (L .along-entry j r rb) ∙ true-of (has to r) t in
@@ -75,43 +74,43 @@ module _ (a b to : ℕ) (ab : a < 8) (bb : b < 8) where
       false-of false n = refl
 
   -- a table of masks
-  pub masks-is : (l : List ℕ) (j r s : ℕ) → r < 8 → 8 * j + r < length l
-      → T (has (getD (masksThrough a b to l) (8 * j + r) 0) s) ↔ ((z : ℕ) × (y : ℕ) × Pick r z × Pick s y × T (has (getD l (8 * j + z) 0) y))
+  pub masks-is : (l : List ℕ) (j r s : ℕ) → r < ρ → ρ * j + r < length l
+      → T (has (getD (masksThrough ρ a b to l) (ρ * j + r) 0) s) ↔ ((z : ℕ) × (y : ℕ) × Pick r z × Pick s y × T (has (getD l (ρ * j + z) 0) y))
   unfolding masksThrough
   masks-is l j r s rb h =
-      let u = united columns (has to) a b l in
-      let e = moved-at (bitOr (2 ^ a) (2 ^ b)) to u (8 * j + r) (rw (united-length columns (has to) a b l) h) ∙ ap (λ m. movedOf m (bitOr (2 ^ a) (2 ^ b)) to) (united-at columns (has to) a b l (8 * j + r) h) in
-      Iff·trans (same-iff (ap (λ m. has m s) e)) (Iff·trans (mask-is (unitedAt columns (has to) a b l (8 * j + r)) s) (
-        (λ (y, p, t). let (z, q, k) = line-is columns l j r y rb .0 t in (z, y, q, p, k)),
-        (λ (z, y, q, p, k). (y, p, line-is columns l j r y rb .1 (z, q, k))),
+      let u = united (columns ρ) (has to) a b l in
+      let e = moved-at (bitOr (2 ^ a) (2 ^ b)) to u (ρ * j + r) (rw (united-length (columns ρ) (has to) a b l) h) ∙ ap (λ m. movedOf m (bitOr (2 ^ a) (2 ^ b)) to) (united-at (columns ρ) (has to) a b l (ρ * j + r) h) in
+      Iff·trans (same-iff (ap (λ m. has m s) e)) (Iff·trans (mask-is (unitedAt (columns ρ) (has to) a b l (ρ * j + r)) s) (
+        (λ (y, p, t). let (z, q, k) = line-is (columns ρ) l j r y rb .0 t in (z, y, q, p, k)),
+        (λ (z, y, q, p, k). (y, p, line-is (columns ρ) l j r y rb .1 (z, q, k))),
       ))
 
-  at-row : (f r s : ℕ) → s < 8 → place f r s ≡ rows .entry (8 * f + s) r
-  at-row f r s sb = omega arith
+  at-row : (f r s : ℕ) → s < ρ → place ρ f r s ≡ (rows ρ) .entry (ρ * f + s) r
+  at-row f r s sb = sym (ap₂ (λ p q. ρ * ρ * p + ρ * r + q) (line-entry ρ f s sb) (along-entry ρ f s sb) ∙ place-sum ρ f r s)
 
   -- the table of results
-  pub results-is : (l : List ℕ) → length l ≡ 256 → (f r s c : ℕ) → f < 4 → r < 8 → s < 8
-      → T (has (getD (resultsThrough a b to l) (place f r s) 0) c) ↔ ((z : ℕ) × (y : ℕ) × (d : ℕ) × Pick r z × Pick s y × Pick c d × T (has (getD l (place f z y) 0) d))
+  pub results-is : (l : List ℕ) → length l ≡ φ * ρ * ρ → (f r s c : ℕ) → f < φ → r < ρ → s < ρ
+      → T (has (getD (resultsThrough ρ a b to l) (place ρ f r s) 0) c) ↔ ((z : ℕ) × (y : ℕ) × (d : ℕ) × Pick r z × Pick s y × Pick c d × T (has (getD l (place ρ f z y) 0) d))
   unfolding resultsThrough
   results-is l len f r s c fb rb sb =
-      let C = united columns (has to) a b l in
-      let R = united rows (has to) a b C in
-      let h : place f r s < length l = omega arith in
-      let hC : place f r s < length C = rw (united-length columns (has to) a b l) h in
-      let e = moved-at (bitOr (2 ^ a) (2 ^ b)) to R (place f r s) (rw (united-length rows (has to) a b C) hC)
-      ∙ ap (λ m. movedOf m (bitOr (2 ^ a) (2 ^ b)) to) (united-at rows (has to) a b C (place f r s) hC ∙ ap (unitedAt rows (has to) a b C) (at-row f r s sb)) in
-      Iff·trans (same-iff (ap (λ m. has m c) e)) (Iff·trans (mask-is (unitedAt rows (has to) a b C (rows .entry (8 * f + s) r)) c) (
-        (λ (d, o, t). let (z, p, k) = line-is rows C (8 * f + s) r d rb .0 t in let (y, q, m) = column z d (pick-below r z rb p) .0 (subst (λ i. T (has (getD C i 0) d)) (sym (at-row f z s sb)) k) in (z, y, d, p, q, o, m)),
-        (λ (z, y, d, p, q, o, m). (d, o, line-is rows C (8 * f + s) r d rb .1 (z, p, subst (λ i. T (has (getD C i 0) d)) (at-row f z s sb) (column z d (pick-below r z rb p) .1 (y, q, m))))),
+      let C = united (columns ρ) (has to) a b l in
+      let R = united (rows ρ) (has to) a b C in
+      let h = subst (λ z. place ρ f r s < z) (sym len) (place-below ρ f r s rb sb φ fb) in
+      let hC : place ρ f r s < length C = rw (united-length (columns ρ) (has to) a b l) h in
+      let e = moved-at (bitOr (2 ^ a) (2 ^ b)) to R (place ρ f r s) (rw (united-length (rows ρ) (has to) a b C) hC)
+      ∙ ap (λ m. movedOf m (bitOr (2 ^ a) (2 ^ b)) to) (united-at (rows ρ) (has to) a b C (place ρ f r s) hC ∙ ap (unitedAt (rows ρ) (has to) a b C) (at-row f r s sb)) in
+      Iff·trans (same-iff (ap (λ m. has m c) e)) (Iff·trans (mask-is (unitedAt (rows ρ) (has to) a b C ((rows ρ) .entry (ρ * f + s) r)) c) (
+        (λ (d, o, t). let (z, p, k) = line-is (rows ρ) C (ρ * f + s) r d rb .0 t in let (y, q, m) = column z d (pick-below r z rb p) .0 (subst (λ i. T (has (getD C i 0) d)) (sym (at-row f z s sb)) k) in (z, y, d, p, q, o, m)),
+        (λ (z, y, d, p, q, o, m). (d, o, line-is (rows ρ) C (ρ * f + s) r d rb .1 (z, p, subst (λ i. T (has (getD C i 0) d)) (at-row f z s sb) (column z d (pick-below r z rb p) .1 (y, q, m))))),
       ))
     where
-      column : (z d : ℕ) → z < 8 → T (has (getD (united columns (has to) a b l) (place f z s) 0) d) ↔ ((y : ℕ) × Pick s y × T (has (getD l (place f z y) 0) d))
-      column z d zb = Iff·trans (same-iff (ap (λ m. has m d) (united-at columns (has to) a b l (place f z s) (omega arith)))) (line-is columns l (8 * f + z) s d sb)
+      column : (z d : ℕ) → z < ρ → T (has (getD (united (columns ρ) (has to) a b l) (place ρ f z s) 0) d) ↔ ((y : ℕ) × Pick s y × T (has (getD l (place ρ f z y) 0) d))
+      column z d zb = Iff·trans (same-iff (ap (λ m. has m d) (united-at (columns ρ) (has to) a b l (place ρ f z s) (subst (λ k. place ρ f z s < k) (sym len) (place-below ρ f z s zb sb φ fb))))) (line-is (columns ρ) l (ρ * f + z) s d sb)
 
 -- ---- a copy: one register is read as another
 
-pub pick-copied : (x y : ℕ) (xb : x < 8) (yb : y < 8) (r z : ℕ) → Pick y y (2 ^ x) yb yb r z ↔ (z ≡ copied x y r)
-pick-copied x y xb yb r z = ⊎-elim
+pub pick-copied : (ρ φ x y : ℕ) (xb : x < ρ) (yb : y < ρ) (r z : ℕ) → Pick ρ φ y y (2 ^ x) yb yb r z ↔ (z ≡ copied x y r)
+pick-copied ρ φ x y xb yb r z = ⊎-elim
     (λ e. let t = single-is x r .1 e in let c : copied x y r ≡ y = rw (eq-eqb r x e) in (
       (λ p. ⊎-elim (λ (_, h). ⊎-elim (λ k. k ∙ sym c) (λ k. k ∙ sym c) h) (λ (n, _). absurd (n t)) p),
       (λ k. inl (t, inl (k ∙ c))),

@@ -50,30 +50,30 @@ two-from m i (suc k) x y a b c t u = ⊎-elim
 less-or : (a b : ℕ) → (a < b) ⊎ (b ≤ a)
 less-or a b = byTest (ltb a b) (λ t. inl (ltb-true a b t)) (λ t. inr (ltb-false a b t))
 
-module _ (m x : ℕ) (xb : x < 8) (t : T (has m x)) where
+module _ (ρ m x : ℕ) (xb : x < ρ) (t : T (has m x)) where
   -- a class of size one has no other register
-  pub alone : sizeOf 8 m ≡ 1 → (j : ℕ) → j < 8 → T (has m j) → j ≡ x
+  pub alone : sizeOf ρ m ≡ 1 → (j : ℕ) → j < ρ → T (has m j) → j ≡ x
   unfolding sizeOf
   alone e j jb u = byTest (eqb j x) (λ h. eqb-true j x h) (λ h. let d = eqb-false j x h in absurd (⊎-elim
-      (λ l. let r = two-from m 0 8 j x (omega arith) l (omega arith) u t in omega arith)
-      (λ l. let r = two-from m 0 8 x j (omega arith) (omega arith) (omega arith) t u in omega arith)
+      (λ l. let r = two-from m 0 ρ j x (omega arith) l (omega arith) u t in omega arith)
+      (λ l. let r = two-from m 0 ρ x j (omega arith) (omega arith) (omega arith) t u in omega arith)
       (less-or j x)))
 
-  below : (k : ℕ) → k ≤ 8 → ((j : ℕ) × (j < 8) × (j ≢ x) × T (has m j)) ⊎ ((j : ℕ) → j < k → T (has m j) → j ≡ x)
+  below : (k : ℕ) → k ≤ ρ → ((j : ℕ) × (j < ρ) × (j ≢ x) × T (has m j)) ⊎ ((j : ℕ) → j < k → T (has m j) → j ≡ x)
   below zero b = inr (λ j l. absurd (omega arith))
   below (suc k) b = go (below k (omega arith))
     where
       last : (j : ℕ) → j < suc k → (j < k) ⊎ (j ≡ k)
       last j l = byTest (eqb j k) (λ e. inr (eqb-true j k e)) (λ e. let d = eqb-false j k e in inl (omega arith))
 
-      go : ((j : ℕ) × (j < 8) × (j ≢ x) × T (has m j)) ⊎ ((j : ℕ) → j < k → T (has m j) → j ≡ x)
-          → ((j : ℕ) × (j < 8) × (j ≢ x) × T (has m j)) ⊎ ((j : ℕ) → j < suc k → T (has m j) → j ≡ x)
+      go : ((j : ℕ) × (j < ρ) × (j ≢ x) × T (has m j)) ⊎ ((j : ℕ) → j < k → T (has m j) → j ≡ x)
+          → ((j : ℕ) × (j < ρ) × (j ≢ x) × T (has m j)) ⊎ ((j : ℕ) → j < suc k → T (has m j) → j ≡ x)
       go (inl f) = inl f
       go (inr f) = byTest (eqb k x)
           (λ e. inr (λ j l u. ⊎-elim (λ p. f j p u) (λ p. p ∙ eqb-true k x e) (last j l)))
           (λ e. ⊎-elim (λ u. inl (k, omega arith, eqb-false k x e, u)) (λ n. inr (λ j l u. ⊎-elim (λ p. f j p u) (λ p. absurd (n (subst (λ i. T (has m i)) p u))) (last j l))) (or-not (has m k)))
 
   -- a class of another size has one
-  pub other : sizeOf 8 m ≢ 1 → (j : ℕ) × (j < 8) × (j ≢ x) × T (has m j)
+  pub other : sizeOf ρ m ≢ 1 → (j : ℕ) × (j < ρ) × (j ≢ x) × T (has m j)
   unfolding sizeOf
-  other n = ⊎-elim (λ f. f) (λ f. absurd (n (one-from m 0 8 x (omega arith) (omega arith) t (λ j a b u. f j (omega arith) u)))) (below 8 (omega arith))
+  other n = ⊎-elim (λ f. f) (λ f. absurd (n (one-from m 0 ρ x (omega arith) (omega arith) t (λ j a b u. f j (omega arith) u)))) (below ρ (omega arith))

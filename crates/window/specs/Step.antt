@@ -1,175 +1,34 @@
--- The window of a trace, letter by letter: what `judge` and `perform` do on the window of a state.
-use mathlib.Core.Path.{_≡_, subst}
-use mathlib.Core.Logic.{_↔_, _≢_, Iff·trans, Iff·symm}
-use mathlib.Core.Bool.{Bool, true, false, cond, not, _||_}
-use Prim.Native.Nat.{ℕ, _+_, _*_, _≤_, _<_}
-use native.Mathlib.Omega.{arith}
-use lib.Dec.{T, ltb, lt→ltb}
-use lib.ListN.{getD}
-use borrow.Author.Tests.{ltb-true, ltb-false}
-use Rattle.base.specs.Choice.{byTest}
-use Rattle.base.specs.Masks.{has, leastIn}
-use Rattle.base.specs.MaskLaws.{least-in, least-below}
+-- The window of a trace, letter by letter, in the first edition's layout.
+use mathlib.Core.Logic.{_↔_}
+use Prim.Native.Nat.{_≤_}
+use lib.Dec.{T}
 use Rattle.letters.specs.declared.Header.{Header}
 use Rattle.letters.specs.declared.Letter.{Letter}
-use Rattle.letters.specs.declared.Letter.the-variants.{Copy, Apply, Equal, Unequal}
 use Rattle.letters.specs.Letters.{Fits}
-use Rattle.semantics.specs.Booleans.{and-r, and-i}
 use Rattle.semantics.specs.Terms.{State, start, after}
 use Rattle.semantics.specs.Coherence.{CoherentLetter}
-use Rattle.semantics.specs.Window.{Tracks}
 use Rattle.semantics.specs.Facts.{Valid}
-use Rattle.semantics.specs.Steps.{copied, Renamed, tracks-copy, tracks-unequal, tracks-equal, tracks-apply-known, tracks-apply-new, fine-apply, fine-equal}
-use Rattle.window.specs.Bits.{truth, no-truth, nonempty, nonempty-is}
-use Rattle.window.specs.Perform.{place, copiedOf, equalOf, unequalOf, appliedOf, applyOf, Within, memoizingOf, earlyOf, judgeOf, performOf, freshOf}
-use Rattle.window.specs.View.{view, Inside, Shaped}
-use Rattle.window.specs.Laws.{Laws, laws-of, Sound, sound-of}
-use Rattle.window.specs.Shape.{shaped-copied, shaped-performed, shaped-fresh}
-use Rattle.window.specs.Copying.{renamed-copied, inside-copied, renamed-within}
-use Rattle.window.specs.Judging.{equated, inside-equated, equated-within, separated, inside-separated}
-use Rattle.window.specs.Applying.{renamed-applied, inside-applied}
-use Rattle.window.specs.Starting.{tracks-fresh, inside-fresh}
+use Rattle.window.specs.Layout.{registers, functions}
+use Rattle.window.specs.Perform.{Within, judgeOf, performOf, freshOf}
+use Rattle.window.specs.Stepping as stepping
 use Rattle.window.specs.declared.Window.{Window}
 
--- w is the window of the state: all six parts are, and it says nothing of registers beyond the header's count
-pub record Holds (σ : State) (w : Window) : Type 0 where
-  pub tracks : Tracks σ (view w)
-  pub inside : Inside (σ .header .registers) (view w)
-  pub shaped : Shaped w
+-- w is the window of the state
+abbrev pub Holds : State → Window → Type 0
+Holds = stepping.Holds registers functions
 
 -- the window of a header alone
-pub holds-fresh : (h : Header) → h .registers ≤ 8 → Holds (start h) (freshOf (h .registers))
-holds-fresh h b = record { tracks = tracks-fresh h b; inside = inside-fresh (h .registers) b; shaped = shaped-fresh (h .registers) }
+pub holds-fresh : (h : Header) → h .registers ≤ registers → Holds (start h) (freshOf (h .registers))
+holds-fresh = stepping.holds-fresh registers functions
 
-module _ (σ : State) (v : Valid σ) (w : Window) (h : Holds σ w) where
-  abbrev n : ℕ
-  n = σ .header .registers
+-- the letter is coherent exactly if the window says so
+pub judged : (σ : State) → Valid σ → (w : Window) → Holds σ w → (l : Letter) → Within l → Fits (σ .header) l → T (judgeOf w l) ↔ CoherentLetter σ l
+judged = stepping.judged registers functions
 
-  laws : Laws (σ .header .registers) (view w)
-  laws = laws-of σ v (view w) (h .tracks)
+-- after a coherent letter `perform` gives the window of the longer trace
+pub performed : (σ : State) → Valid σ → (w : Window) → Holds σ w → (l : Letter) → Within l → Fits (σ .header) l → CoherentLetter σ l → Holds (after σ l) (performOf w l)
+performed = stepping.performed registers functions
 
-  sound : Sound (σ .header .registers) (view w)
-  sound = sound-of σ v (view w) (h .tracks)
-
-  low : (r : ℕ) → r < σ .header .registers → r < 8
-  low r b = omega (arith, h .inside .fits)
-
-  -- x has come to hold what y holds
-  renamed : (x y : ℕ) → x < σ .header .registers → y < σ .header .registers → Renamed (σ .header .registers) (view w) (copied x y) (σ .header .registers) (view (copiedOf w x y)) × Inside (σ .header .registers) (view (copiedOf w x y))
-  unfolding copiedOf
-  renamed x y xb yb = byTest (has (getD (w .class) x 0) y)
-      (λ t. rw t (renamed-within (view w) (σ .header .registers) laws sound x y xb yb (truth (view w .same x y) t), h .inside))
-      (λ t. let d : x ≢ y = (λ e. no-truth (view w .same x y) t (subst (λ k. T (view w .same x k)) e (laws .self x xb))) in
-      rw t (renamed-copied w (h .shaped) (σ .header .registers) laws (h .inside) x y xb yb d, inside-copied w (h .shaped) (σ .header .registers) laws (h .inside) x y xb yb d))
-
-  copy-holds : (x y : ℕ) → x < σ .header .registers → y < σ .header .registers → Holds (after σ (Copy x y)) (copiedOf w x y)
-  copy-holds x y xb yb = record {
-    tracks = tracks-copy σ v x y yb (view w) (view (copiedOf w x y)) (h .tracks) (renamed x y xb yb .0);
-    inside = renamed x y xb yb .1;
-    shaped = shaped-copied w x y (low x xb) (h .shaped);
-  }
-
-  unequal-holds : (x y : ℕ) → x < σ .header .registers → y < σ .header .registers → Holds (after σ (Unequal x y)) (unequalOf w x y)
-  unfolding unequalOf
-  unequal-holds x y xb yb = record {
-    tracks = tracks-unequal σ v x y xb yb (view w) (view (unequalOf w x y)) (h .tracks) (separated w (σ .header .registers) (h .inside) x y xb yb);
-    inside = inside-separated w (σ .header .registers) (h .inside) x y xb yb;
-    shaped = shaped-performed w (Unequal x y) (low x xb, low y yb) (h .shaped);
-  }
-
-  equal-holds : (x y : ℕ) → x < σ .header .registers → y < σ .header .registers → CoherentLetter σ (Equal x y) → Holds (after σ (Equal x y)) (equalOf w x y)
-  unfolding equalOf
-  equal-holds x y xb yb c = record {
-    tracks = byTest (has (getD (w .class) x 0) y)
-        (λ t. rw t (tracks-equal σ v x y xb yb c (view w) (view w) (h .tracks)
-        (equated-within (σ .header .registers) (view w) laws sound (λ r q rb qb m i. h .tracks .infeasible .0 i (h .tracks .apart r q rb qb .0 m .0)) x y xb yb (truth (view w .same x y) t))))
-        (λ t. rw t (tracks-equal σ v x y xb yb c (view w) _ (h .tracks) (equated w (h .shaped) (σ .header .registers) laws (h .inside) x y xb yb)));
-    inside = byTest (has (getD (w .class) x 0) y) (λ t. rw t (h .inside)) (λ t. rw t (inside-equated w (h .shaped) (σ .header .registers) laws (h .inside) x y xb yb));
-    shaped = shaped-performed w (Equal x y) (low x xb, low y yb) (h .shaped);
-  }
-
-  -- the entry of an application, and the register that names its class
-  module _ (f y z : ℕ) (fb : f < 4) where
-    entry-result : (r : ℕ) → T (has (getD (w .result) (place f y z) 0) r) → T (view w .result f y z r)
-    entry-result r t = and-i (ltb f 4) (has (getD (w .result) (place f y z) 0) r) (lt→ltb f 4 fb) t
-
-    entry-ever : T (has (getD (w .ever) (8 * f + y) 0) z) → T (view w .ever f y z)
-    entry-ever t = and-i (ltb f 4) (has (getD (w .ever) (8 * f + y) 0) z) (lt→ltb f 4 fb) t
-
-  memoizing-is : (x f y z : ℕ) → f < 4 → y < σ .header .registers → z < σ .header .registers → T (memoizingOf w f y z) ↔ CoherentLetter σ (Apply x f y z)
-  unfolding memoizingOf
-  memoizing-is x f y z fb yb zb = Iff·trans (implied (has E z) (nonempty R)) (Iff·trans (
-    (λ k u. let (c, cb, t) = nonempty-is R .0 (k (and-r (ltb f 4) (has E z) u)) in let m = entry-result f y z fb c t in let (_, _, cn) = h .inside .result f y z c (low y yb) (low z zb) cb m in (c, cn, m)),
-    (λ k t. let (c, cn, m) = k (entry-ever f y z fb t) in nonempty-is R .1 (c, low c cn, and-r (ltb f 4) (has R c) m)),
-  ) (Iff·symm (fine-apply σ v x f y z yb zb (view w) (h .tracks))))
-    where
-      E : ℕ
-      E = getD (w .ever) (8 * f + y) 0
-
-      R : ℕ
-      R = getD (w .result) (place f y z) 0
-
-      implied : (a b : Bool) → T (cond a b true) ↔ (T a → T b)
-      implied true b = ((λ t _. t), (λ k. k tt))
-      implied false b = ((λ _ k. absurd k), (λ _. tt))
-
-  early-is : (x y : ℕ) → x < σ .header .registers → y < σ .header .registers → T (earlyOf w x y) ↔ CoherentLetter σ (Equal x y)
-  unfolding earlyOf
-  early-is x y xb yb = Iff·trans (neither (view w .marked x) (view w .marked y)) (Iff·symm (fine-equal σ v x y xb yb (view w) (h .tracks)))
-    where
-      neither : (a b : Bool) → T (not (a || b)) ↔ ((¬ T a) × (¬ T b))
-      neither true b = ((λ t. absurd t), (λ (p, _). absurd (p tt)))
-      neither false true = ((λ t. absurd t), (λ (_, q). absurd (q tt)))
-      neither false false = ((λ _. ((λ t. t), (λ t. t))), (λ _. tt))
-
-  -- the letter is coherent exactly if the window says so
-  pub judged : (l : Letter) → Within l → Fits (σ .header) l → T (judgeOf w l) ↔ CoherentLetter σ l
-  judged (Copy x y) b f = ((λ t. tt), (λ t. tt))
-  judged (Apply x f y z) (_, fb, _, _) (_, _, yb, zb, _) = memoizing-is x f y z fb yb zb
-  judged (Equal x y) b (xb, yb) = early-is x y xb yb
-  judged (Unequal x y) b f = ((λ t. tt), (λ t. tt))
-
-  apply-holds : (x f y z : ℕ) → x < σ .header .registers → f < 4 → y < σ .header .registers → z < σ .header .registers → CoherentLetter σ (Apply x f y z) → Holds (after σ (Apply x f y z)) (applyOf w x f y z)
-  unfolding applyOf
-  apply-holds x f y z xb fb yb zb c = record {
-    tracks = byTest (ltb r 8)
-        (λ t. let rb = ltb-true r 8 t in
-        let m = entry-result f y z fb r (truth (has R r) (least-in 8 R rb)) in
-        let (_, _, rn) = h .inside .result f y z r (low y yb) (low z zb) rb m in
-        rw t (tracks-apply-known σ v x f y z yb zb (view w) (view (copiedOf w x r)) (h .tracks) r rn m (renamed x r xb rn .0)))
-        (λ t. rw t (tracks-apply-new σ v x f y z yb zb (view w) (view (appliedOf w x f y z)) (h .tracks) (never t) (renamed-applied w (h .shaped) (σ .header .registers) laws (h .inside) x f y z xb fb yb zb)));
-    inside = byTest (ltb r 8)
-        (λ t. let rb = ltb-true r 8 t in
-        let m = entry-result f y z fb r (truth (has R r) (least-in 8 R rb)) in
-        let (_, _, rn) = h .inside .result f y z r (low y yb) (low z zb) rb m in
-        rw t (renamed x r xb rn .1))
-        (λ t. rw t (inside-applied w (h .shaped) (σ .header .registers) laws (h .inside) x f y z xb fb yb zb));
-    shaped = shaped-performed w (Apply x f y z) (low x xb, fb, low y yb, low z zb) (h .shaped);
-  }
-    where
-      R : ℕ
-      R = getD (w .result) (place f y z) 0
-
-      r : ℕ
-      r = leastIn 8 (getD (w .result) (place f y z) 0)
-
-      -- a coherent application whose value no register holds was never computed
-      never : ltb r 8 ≡ false → ¬ T (view w .ever f y z)
-      never t u =
-          let (q, qb, m) = fine-apply σ v x f y z yb zb (view w) (h .tracks) .0 c u in
-          let l = ltb-false r 8 t in
-          no-truth (has R q) (least-below 8 R q (let k = low q qb in omega arith)) (and-r (ltb f 4) (has R q) m)
-
-  -- after a coherent letter `perform` gives the window of the longer trace
-  pub performed : (l : Letter) → Within l → Fits (σ .header) l → CoherentLetter σ l → Holds (after σ l) (performOf w l)
-  performed (Copy x y) b (xb, yb) c = copy-holds x y xb yb
-  performed (Apply x f y z) (_, fb, _, _) (xb, _, yb, zb, _) c = apply-holds x f y z xb fb yb zb c
-  performed (Equal x y) b (xb, yb) c = equal-holds x y xb yb c
-  performed (Unequal x y) b (xb, yb) c = unequal-holds x y xb yb
-
--- a header with 8 registers and 4 functions at most has letters within the packing
-pub fits-within : (h : Header) (l : Letter) → h .registers ≤ 8 → h .functions ≤ 4 → Fits h l → Within l
-fits-within h (Copy x y) a b (p, q) = (omega arith, omega arith)
-fits-within h (Apply x f y z) a b (p, q, r, s, _) = (omega arith, omega arith, omega arith, omega arith)
-fits-within h (Equal x y) a b (p, q) = (omega arith, omega arith)
-fits-within h (Unequal x y) a b (p, q) = (omega arith, omega arith)
+-- a header of the layout has letters within it
+pub fits-within : (h : Header) (l : Letter) → h .registers ≤ registers → h .functions ≤ functions → Fits h l → Within l
+fits-within = stepping.fits-within registers functions

@@ -4,7 +4,7 @@ use mathlib.Core.Logic.{_⊎_, ⊎-elim}
 use mathlib.Core.List.{List}
 use Prim.Native.Nat.{ℕ, zero, suc, _+_, _*_, _≤_, _<_}
 use native.Mathlib.Omega.{arith}
-use native.Mathlib.Nat.{eq-or-lt-of-le}
+use native.Mathlib.Nat.{eq-or-lt-of-le, suc-mul}
 use lib.Dec.{eqb, T, eqb→eq}
 use lib.ListN.{getD}
 use borrow.Author.Tests.{eqb-true, eqb-false}
@@ -58,21 +58,22 @@ sum-more (suc k) f g x h l m = byTest (eqb x k)
     (λ t. let e = subst (λ y. suc (f y) ≤ g y) (eqb-true x k t) m in let b = sum-mono k f g (λ r l. h r (omega arith)) in omega arith)
     (λ t. let d = eqb-false x k t in let a = h k (omega arith) in let b = sum-more k f g x (λ r l. h r (omega arith)) (omega arith) m in omega arith)
 
-sum-most : (k : ℕ) (f : ℕ → ℕ) → ((r : ℕ) → r < k → f r ≤ 8) → sumTo k f ≤ 8 * k
+sum-most : (ρ k : ℕ) (f : ℕ → ℕ) → ((r : ℕ) → r < k → f r ≤ ρ) → sumTo k f ≤ k * ρ
 unfolding sumTo
-sum-most zero f h = omega arith
-sum-most (suc k) f h = let a = h k (omega arith) in let b = sum-most k f (λ r l. h r (omega arith)) in omega arith
+sum-most ρ zero f h = omega arith
+sum-most ρ (suc k) f h = let a = h k (omega arith) in let b = sum-most ρ k f (λ r l. h r (omega arith)) in omega (arith, a, b, suc-mul k ρ)
 
-pub total : List ℕ → ℕ
-unfolding sumTo
-total l = sumTo 8 (λ r. sizeOf 8 (getD l r 0))
+module _ (ρ : ℕ) where
+  pub total : List ℕ → ℕ
+  unfolding sumTo
+  total l = sumTo ρ (λ r. sizeOf ρ (getD l r 0))
 
-pub total-most : (l : List ℕ) → total l ≤ 64
-unfolding total sizeOf
-total-most l = sum-most 8 (λ r. sizeOf 8 (getD l r 0)) (λ r h. size-most 0 8 (getD l r 0))
+  pub total-most : (l : List ℕ) → total l ≤ ρ * ρ
+  unfolding total sizeOf
+  total-most l = sum-most ρ ρ (λ r. sizeOf ρ (getD l r 0)) (λ r h. size-most 0 ρ (getD l r 0))
 
-pub total-more : (l m : List ℕ) (x y : ℕ) → ((r s : ℕ) → r < 8 → s < 8 → T (has (getD l r 0) s) → T (has (getD m r 0) s)) → x < 8 → y < 8 → ¬ T (has (getD l x 0) y) → T (has (getD m x 0) y) → suc (total l) ≤ total m
-unfolding total sizeOf
-total-more l m x y f xb yb p q = sum-more 8 (λ r. sizeOf 8 (getD l r 0)) (λ r. sizeOf 8 (getD m r 0)) x
-    (λ r h. size-mono 0 8 (getD l r 0) (getD m r 0) (λ j a b. f r j h (omega arith))) xb
-    (size-more 0 8 (getD l x 0) (getD m x 0) y (λ j a b. f x j xb (omega arith)) (omega arith) (omega arith) p q)
+  pub total-more : (l m : List ℕ) (x y : ℕ) → ((r s : ℕ) → r < ρ → s < ρ → T (has (getD l r 0) s) → T (has (getD m r 0) s)) → x < ρ → y < ρ → ¬ T (has (getD l x 0) y) → T (has (getD m x 0) y) → suc (total l) ≤ total m
+  unfolding total sizeOf
+  total-more l m x y f xb yb p q = sum-more ρ (λ r. sizeOf ρ (getD l r 0)) (λ r. sizeOf ρ (getD m r 0)) x
+      (λ r h. size-mono 0 ρ (getD l r 0) (getD m r 0) (λ j a b. f r j h (omega arith))) xb
+      (size-more 0 ρ (getD l x 0) (getD m x 0) y (λ j a b. f x j xb (omega arith)) (omega arith) (omega arith) p q)

@@ -1,66 +1,88 @@
 // The window of a trace (document 01, "Terms, models, coherence"): whether a letter is coherent, and the window after it.
 use letters::Letter;
 ghost use mathlib.Core.Path.{_≡_};
-ghost use Prim.Native.Nat.{ℕ, _+_, _*_, _/_, _%_, _^_, _<_, _≤_};
-ghost use mathlib.Core.Bool.{Bool, true, false, _||_, _&&_};
-ghost use lib.Bits.{bitOr};
+ghost use Prim.Native.Nat.{_+_, _*_, _/_, _%_, _^_, _-_, _<_, _≤_};
+ghost use mathlib.Core.Bool.{true};
 ghost use lib.Dec.{eqb};
-ghost use lib.ListN.{getD, length};
+ghost use lib.ListN.{length};
 ghost use Rattle.base.specs.Masks.{has, leastIn, sizeOf};
 ghost use Rattle.window.specs.Bits.{nonempty, movedOf};
 ghost use Rattle.window.specs.Lines.{columns, rows, united, cleared};
 ghost use Rattle.window.specs.Through.{bitsMoved, masksThrough, resultsThrough};
 ghost use Rattle.window.specs.Adding.{partOf, lineAdded, resultsAdded, masksForgotten, resultsForgotten};
-ghost use Rattle.window.specs.Perform.{fallenOf, withTables, copiedOf, mergedOf, restOf, findOf, closedOf, clashOf, settledOf, equalOf, partedOf, unequalOf, argumentsOf, appliedOf, freshOf, ownOf, Within, memoizingOf, earlyOf, applyOf, judgeOf, performOf, apartOf};
+ghost use Rattle.window.specs.Layout.{registers, functions, pairs, lines, results};
+ghost use Rattle.window.specs.Performing.{fallenOf, withTables, copiedOf, mergedOf, restOf, findOf, closedOf, clashOf, settledOf, equalOf, partedOf, unequalOf, argumentsOf, appliedOf, ownOf, memoizingOf, earlyOf, applyOf, apartOf};
+ghost use Rattle.window.specs.Perform.{freshOf, Within, judgeOf, performOf};
 ghost use Rattle.window.specs.Marks.{foldedOf, unionOf, aboveOf, flagOf, belowOf, besideOf, raisedOf, lostOf, markedWith};
+
+// ---- the layout: what a window has entries for
+
+// A set of registers, a bit for each.
+type Mask = u8;
+
+// How many registers there are at most.
+const REGISTERS: usize = 8;
+
+// How many functions.
+const FUNCTIONS: usize = 4;
+
+// How many pairs of registers.
+const PAIRS: usize = REGISTERS * REGISTERS;
+
+// How many pairs of a function and a register.
+const LINES: usize = FUNCTIONS * REGISTERS;
+
+// How many results: a function and a pair of registers each.
+const RESULTS: usize = FUNCTIONS * PAIRS;
 
 // ---- masks of registers
 
-// A class is named by its lowest register; 8 for the empty mask.
-fn name(mask: u8) -> usize
-    ensures { λ r. ⌜ r ≡ leastIn 8 mask ⌝ }
+// A class is named by its lowest register; the empty mask by their number.
+fn name(mask: Mask) -> usize
+    ensures { λ r. ⌜ r ≡ leastIn registers mask ⌝ }
 {
     u8::trailing_zeros(mask) as usize
 }
 
 // How many registers a class has.
-fn size(mask: u8) -> u32
-    ensures { λ r. ⌜ r ≡ sizeOf 8 mask ⌝ }
+fn size(mask: Mask) -> u32
+    ensures { λ r. ⌜ r ≡ sizeOf registers mask ⌝ }
 {
     u8::count_ones(mask)
 }
 
-fn holds(mask: u8, i: usize) -> bool
-    requires { ⌜ i < 8 ⌝ }
+fn holds(mask: Mask, i: usize) -> bool
+    requires { ⌜ i < registers ⌝ }
     ensures { λ r. ⌜ r ≡ has mask i ⌝ }
 {
     (mask >> i) % 2 == 1
 }
 
 // The mask of one register.
-fn single(i: usize) -> u8
-    requires { ⌜ i < 8 ⌝ }
+fn single(i: usize) -> Mask
+    requires { ⌜ i < registers ⌝ }
     ensures { λ r. ⌜ r ≡ 2 ^ i ⌝ }
 {
-    1u8 << i
+    let one: Mask = 1;
+    one << i
 }
 
-fn inhabited(mask: u8) -> bool
-    ensures { λ r. ⌜ r ≡ nonempty mask ⌝ }
+fn inhabited(mask: Mask) -> bool
+    ensures { λ r. ⌜ r ≡ nonempty registers mask ⌝ }
 {
-    name(mask) < 8
+    name(mask) < REGISTERS
 }
 
 // The mask, with the registers `to` in it exactly if one of `from` is.
-fn moved(m: u8, from: u8, to: u8) -> u8
+fn moved(m: Mask, from: Mask, to: Mask) -> Mask
     ensures { λ r. ⌜ r ≡ movedOf m from to ⌝ }
 {
     if m & from == 0 { (m | to) ^ to } else { m | to }
 }
 
-// ---- tables: lists of masks in lines of eight, one entry for each register
+// ---- tables: lists of masks in lines, one entry for each register
 
-fn move_bits(t: &mut [u8], from: u8, to: u8)
+fn move_bits(t: &mut [Mask], from: Mask, to: Mask)
     ensures { λ _. ⌜ now (t .exit) ≡ bitsMoved from to (now (t .entry)) ⌝ }
 {
     let mut i: usize = 0;
@@ -71,61 +93,62 @@ fn move_bits(t: &mut [u8], from: u8, to: u8)
 }
 
 // Along each line of consecutive entries, r gets the union of the entries of a and b.
-fn unite_column(t: &mut [u8], r: usize, a: usize, b: usize)
-    requires { ⌜ (r < 8) × (a < 8) × (b < 8) × (length (now t) % 8 ≡ 0) ⌝ }
-    ensures { λ _. ⌜ now (t .exit) ≡ united columns (λ s. eqb s r) a b (now (t .entry)) ⌝ }
+fn unite_column(t: &mut [Mask], r: usize, a: usize, b: usize)
+    requires { ⌜ (r < registers) × (a < registers) × (b < registers) × (length (now t) % registers ≡ 0) ⌝ }
+    ensures { λ _. ⌜ now (t .exit) ≡ united (columns registers) (λ s. eqb s r) a b (now (t .entry)) ⌝ }
 {
-    let n = t.len() / 8;
+    let n = t.len() / REGISTERS;
     let mut j: usize = 0;
     while j < n {
-        t[8 * j + r] = t[8 * j + a] | t[8 * j + b];
+        t[REGISTERS * j + r] = t[REGISTERS * j + a] | t[REGISTERS * j + b];
         j = j + 1;
     }
 }
 
 // The same along the lines by the first argument of the table of results.
-fn unite_row(t: &mut [u8], r: usize, a: usize, b: usize)
-    requires { ⌜ (r < 8) × (a < 8) × (b < 8) × (length (now t) ≡ 256) ⌝ }
-    ensures { λ _. ⌜ now (t .exit) ≡ united rows (λ s. eqb s r) a b (now (t .entry)) ⌝ }
+fn unite_row(t: &mut [Mask], r: usize, a: usize, b: usize)
+    requires { ⌜ (r < registers) × (a < registers) × (b < registers) × (length (now t) ≡ results) ⌝ }
+    ensures { λ _. ⌜ now (t .exit) ≡ united (rows registers) (λ s. eqb s r) a b (now (t .entry)) ⌝ }
 {
     let mut j: usize = 0;
-    while j < 32 {
-        let start = 64 * (j / 8);
-        t[start + 8 * r + j % 8] = t[start + 8 * a + j % 8] | t[start + 8 * b + j % 8];
+    while j < LINES {
+        let start = PAIRS * (j / REGISTERS);
+        t[start + REGISTERS * r + j % REGISTERS] = t[start + REGISTERS * a + j % REGISTERS]
+            | t[start + REGISTERS * b + j % REGISTERS];
         j = j + 1;
     }
 }
 
-fn clear_column(t: &mut [u8], x: usize)
-    requires { ⌜ (x < 8) × (length (now t) % 8 ≡ 0) ⌝ }
-    ensures { λ _. ⌜ now (t .exit) ≡ cleared columns x (now (t .entry)) ⌝ }
+fn clear_column(t: &mut [Mask], x: usize)
+    requires { ⌜ (x < registers) × (length (now t) % registers ≡ 0) ⌝ }
+    ensures { λ _. ⌜ now (t .exit) ≡ cleared (columns registers) x (now (t .entry)) ⌝ }
 {
-    let n = t.len() / 8;
+    let n = t.len() / REGISTERS;
     let mut j: usize = 0;
     while j < n {
-        t[8 * j + x] = 0;
+        t[REGISTERS * j + x] = 0;
         j = j + 1;
     }
 }
 
-fn clear_row(t: &mut [u8], x: usize)
-    requires { ⌜ (x < 8) × (length (now t) ≡ 256) ⌝ }
-    ensures { λ _. ⌜ now (t .exit) ≡ cleared rows x (now (t .entry)) ⌝ }
+fn clear_row(t: &mut [Mask], x: usize)
+    requires { ⌜ (x < registers) × (length (now t) ≡ results) ⌝ }
+    ensures { λ _. ⌜ now (t .exit) ≡ cleared (rows registers) x (now (t .entry)) ⌝ }
 {
     let mut j: usize = 0;
-    while j < 32 {
-        t[64 * (j / 8) + 8 * x + j % 8] = 0;
+    while j < LINES {
+        t[PAIRS * (j / REGISTERS) + REGISTERS * x + j % REGISTERS] = 0;
         j = j + 1;
     }
 }
 
 // Along each line, each register of `to` gets the entry of a.
-fn spread_column(t: &mut [u8], to: u8, a: usize)
-    requires { ⌜ (a < 8) × (length (now t) % 8 ≡ 0) ⌝ }
-    ensures { λ _. ⌜ now (t .exit) ≡ united columns (has to) a a (now (t .entry)) ⌝ }
+fn spread_column(t: &mut [Mask], to: Mask, a: usize)
+    requires { ⌜ (a < registers) × (length (now t) % registers ≡ 0) ⌝ }
+    ensures { λ _. ⌜ now (t .exit) ≡ united (columns registers) (has to) a a (now (t .entry)) ⌝ }
 {
     let mut r: usize = 0;
-    while r < 8 {
+    while r < REGISTERS {
         if holds(to, r) {
             unite_column(t, r, a, a);
         }
@@ -133,12 +156,12 @@ fn spread_column(t: &mut [u8], to: u8, a: usize)
     }
 }
 
-fn spread_row(t: &mut [u8], to: u8, a: usize)
-    requires { ⌜ (a < 8) × (length (now t) ≡ 256) ⌝ }
-    ensures { λ _. ⌜ now (t .exit) ≡ united rows (has to) a a (now (t .entry)) ⌝ }
+fn spread_row(t: &mut [Mask], to: Mask, a: usize)
+    requires { ⌜ (a < registers) × (length (now t) ≡ results) ⌝ }
+    ensures { λ _. ⌜ now (t .exit) ≡ united (rows registers) (has to) a a (now (t .entry)) ⌝ }
 {
     let mut r: usize = 0;
-    while r < 8 {
+    while r < REGISTERS {
         if holds(to, r) {
             unite_row(t, r, a, a);
         }
@@ -147,18 +170,18 @@ fn spread_row(t: &mut [u8], to: u8, a: usize)
 }
 
 // Register x is read as y in a table of masks.
-fn copy_masks(t: &mut [u8], x: usize, y: usize)
-    requires { ⌜ (x < 8) × (y < 8) × (length (now t) % 8 ≡ 0) ⌝ }
-    ensures { λ _. ⌜ now (t .exit) ≡ masksThrough y y (2 ^ x) (now (t .entry)) ⌝ }
+fn copy_masks(t: &mut [Mask], x: usize, y: usize)
+    requires { ⌜ (x < registers) × (y < registers) × (length (now t) % registers ≡ 0) ⌝ }
+    ensures { λ _. ⌜ now (t .exit) ≡ masksThrough registers y y (2 ^ x) (now (t .entry)) ⌝ }
 {
     unite_column(t, x, y, y);
     move_bits(t, single(y), single(x));
 }
 
 // The same in the table of results.
-fn copy_results(t: &mut [u8], x: usize, y: usize)
-    requires { ⌜ (x < 8) × (y < 8) × (length (now t) ≡ 256) ⌝ }
-    ensures { λ _. ⌜ now (t .exit) ≡ resultsThrough y y (2 ^ x) (now (t .entry)) ⌝ }
+fn copy_results(t: &mut [Mask], x: usize, y: usize)
+    requires { ⌜ (x < registers) × (y < registers) × (length (now t) ≡ results) ⌝ }
+    ensures { λ _. ⌜ now (t .exit) ≡ resultsThrough registers y y (2 ^ x) (now (t .entry)) ⌝ }
 {
     unite_column(t, x, y, y);
     unite_row(t, x, y, y);
@@ -166,9 +189,9 @@ fn copy_results(t: &mut [u8], x: usize, y: usize)
 }
 
 // Each register of `to`, a among them, is read as a and as b in a table of masks.
-fn merge_masks(t: &mut [u8], a: usize, b: usize, to: u8)
-    requires { ⌜ (a < 8) × (b < 8) × (has to a ≡ true) × (length (now t) % 8 ≡ 0) ⌝ }
-    ensures { λ _. ⌜ now (t .exit) ≡ masksThrough a b to (now (t .entry)) ⌝ }
+fn merge_masks(t: &mut [Mask], a: usize, b: usize, to: Mask)
+    requires { ⌜ (a < registers) × (b < registers) × (has to a ≡ true) × (length (now t) % registers ≡ 0) ⌝ }
+    ensures { λ _. ⌜ now (t .exit) ≡ masksThrough registers a b to (now (t .entry)) ⌝ }
 {
     unite_column(t, a, a, b);
     spread_column(t, to, a);
@@ -176,9 +199,9 @@ fn merge_masks(t: &mut [u8], a: usize, b: usize, to: u8)
 }
 
 // The same in the table of results.
-fn merge_results(t: &mut [u8], a: usize, b: usize, to: u8)
-    requires { ⌜ (a < 8) × (b < 8) × (has to a ≡ true) × (length (now t) ≡ 256) ⌝ }
-    ensures { λ _. ⌜ now (t .exit) ≡ resultsThrough a b to (now (t .entry)) ⌝ }
+fn merge_results(t: &mut [Mask], a: usize, b: usize, to: Mask)
+    requires { ⌜ (a < registers) × (b < registers) × (has to a ≡ true) × (length (now t) ≡ results) ⌝ }
+    ensures { λ _. ⌜ now (t .exit) ≡ resultsThrough registers a b to (now (t .entry)) ⌝ }
 {
     unite_column(t, a, a, b);
     spread_column(t, to, a);
@@ -188,50 +211,52 @@ fn merge_results(t: &mut [u8], a: usize, b: usize, to: u8)
 }
 
 // `what` if the register is in the mask, else nothing.
-fn part(mask: u8, what: u8, r: usize) -> u8
-    requires { ⌜ r < 8 ⌝ }
+fn part(mask: Mask, what: Mask, r: usize) -> Mask
+    requires { ⌜ r < registers ⌝ }
     ensures { λ v. ⌜ v ≡ partOf mask what r ⌝ }
 {
     if holds(mask, r) { what } else { 0 }
 }
 
 // On line j, adds `what` to the entry of each register of the mask.
-fn add_line(t: &mut [u8], j: usize, mask: u8, what: u8)
-    requires { ⌜ 8 * j + 8 ≤ length (now t) ⌝ }
-    ensures { λ _. ⌜ now (t .exit) ≡ lineAdded j mask what (now (t .entry)) ⌝ }
+fn add_line(t: &mut [Mask], j: usize, mask: Mask, what: Mask)
+    requires { ⌜ registers * j + registers ≤ length (now t) ⌝ }
+    ensures { λ _. ⌜ now (t .exit) ≡ lineAdded registers j mask what (now (t .entry)) ⌝ }
 {
     let mut r: usize = 0;
-    while r < 8 {
-        t[8 * j + r] = t[8 * j + r] | part(mask, what, r);
+    while r < REGISTERS {
+        t[REGISTERS * j + r] = t[REGISTERS * j + r] | part(mask, what, r);
         r = r + 1;
     }
 }
 
 // Adds `what` to the results of f at each register of the mask `first` and each of `second`.
-fn add_results(t: &mut [u8], f: usize, first: u8, second: u8, what: u8)
-    requires { ⌜ (f < 4) × (length (now t) ≡ 256) ⌝ }
-    ensures { λ _. ⌜ now (t .exit) ≡ resultsAdded (has first) f second what (now (t .entry)) ⌝ }
+fn add_results(t: &mut [Mask], f: usize, first: Mask, second: Mask, what: Mask)
+    requires { ⌜ (f < functions) × (length (now t) ≡ results) ⌝ }
+    ensures { λ _. ⌜ now (t .exit) ≡ resultsAdded registers (has first) f second what (now (t .entry)) ⌝ }
 {
     let mut a: usize = 0;
-    while a < 8 {
-        add_line(t, 8 * f + a, part(first, second, a), what);
+    while a < REGISTERS {
+        if holds(first, a) {
+            add_line(t, REGISTERS * f + a, second, what);
+        }
         a = a + 1;
     }
 }
 
 // Register x is in no mask and has the empty one, in a table of masks.
-fn forget_masks(t: &mut [u8], x: usize)
-    requires { ⌜ (x < 8) × (length (now t) % 8 ≡ 0) ⌝ }
-    ensures { λ _. ⌜ now (t .exit) ≡ masksForgotten x (now (t .entry)) ⌝ }
+fn forget_masks(t: &mut [Mask], x: usize)
+    requires { ⌜ (x < registers) × (length (now t) % registers ≡ 0) ⌝ }
+    ensures { λ _. ⌜ now (t .exit) ≡ masksForgotten registers x (now (t .entry)) ⌝ }
 {
     move_bits(t, 0, single(x));
     clear_column(t, x);
 }
 
 // Register x is no argument of a result, and holds only that of f at `first` and `second`.
-fn renew_results(t: &mut [u8], x: usize, f: usize, first: u8, second: u8)
-    requires { ⌜ (x < 8) × (f < 4) × (length (now t) ≡ 256) ⌝ }
-    ensures { λ _. ⌜ now (t .exit) ≡ resultsForgotten x f first second (now (t .entry)) ⌝ }
+fn renew_results(t: &mut [Mask], x: usize, f: usize, first: Mask, second: Mask)
+    requires { ⌜ (x < registers) × (f < functions) × (length (now t) ≡ results) ⌝ }
+    ensures { λ _. ⌜ now (t .exit) ≡ resultsForgotten registers x f first second (now (t .entry)) ⌝ }
 {
     let own = single(x);
     move_bits(t, 0, own);
@@ -243,26 +268,26 @@ fn renew_results(t: &mut [u8], x: usize, f: usize, first: u8, second: u8)
 // ---- marks: what lies above a register by held results
 
 // For each pair of registers, the classes that hold a result of any function at the two.
-fn folded(result: &[u8; 256]) -> [u8; 64]
-    ensures { λ r. ⌜ r ≡ foldedOf (now (result .entry)) ⌝ }
+fn folded(result: &[Mask; RESULTS]) -> [Mask; PAIRS]
+    ensures { λ r. ⌜ r ≡ foldedOf registers functions (now (result .entry)) ⌝ }
 {
-    let mut next = [0u8; 64];
+    let mut next: [Mask; PAIRS] = [0; PAIRS];
     let mut i: usize = 0;
-    while i < 64 {
-        next[i] = (result[i] | result[64 + i]) | (result[128 + i] | result[192 + i]);
+    while i < PAIRS {
+        next[i] = ((result[i] | result[PAIRS + i]) | result[2 * PAIRS + i]) | result[3 * PAIRS + i];
         i = i + 1;
     }
     next
 }
 
-// The union of eight entries, `step` apart.
-fn union(t: &[u8; 64], start: usize, step: usize) -> u8
-    requires { ⌜ (step ≤ 8) × (start + 7 * step < 64) ⌝ }
-    ensures { λ r. ⌜ r ≡ unionOf (now (t .entry)) start step 8 ⌝ }
+// The union of an entry for each register, `step` apart.
+fn union(t: &[Mask; PAIRS], start: usize, step: usize) -> Mask
+    requires { ⌜ (step ≤ registers) × (start + (registers - 1) * step < pairs) ⌝ }
+    ensures { λ r. ⌜ r ≡ unionOf (now (t .entry)) start step registers ⌝ }
 {
-    let mut m = 0u8;
+    let mut m: Mask = 0;
     let mut j: usize = 0;
-    while j < 8 {
+    while j < REGISTERS {
         m = m | t[start + j * step];
         j = j + 1;
     }
@@ -270,25 +295,25 @@ fn union(t: &[u8; 64], start: usize, step: usize) -> u8
 }
 
 // For each register, the registers that hold a result with it as an argument.
-fn above(t: &[u8; 64]) -> [u8; 8]
-    ensures { λ r. ⌜ r ≡ aboveOf (now (t .entry)) ⌝ }
+fn above(t: &[Mask; PAIRS]) -> [Mask; REGISTERS]
+    ensures { λ r. ⌜ r ≡ aboveOf registers (now (t .entry)) ⌝ }
 {
-    let mut next = [0u8; 8];
+    let mut next: [Mask; REGISTERS] = [0; REGISTERS];
     let mut h: usize = 0;
-    while h < 8 {
-        next[h] = union(t, 8 * h, 1) | union(t, h, 8);
+    while h < REGISTERS {
+        next[h] = union(t, REGISTERS * h, 1) | union(t, h, REGISTERS);
         h = h + 1;
     }
     next
 }
 
 // The registers that have one of s directly above them.
-fn below(up: &[u8; 8], s: u8) -> u8
-    ensures { λ r. ⌜ r ≡ belowOf (now (up .entry)) s 8 ⌝ }
+fn below(up: &[Mask; REGISTERS], s: Mask) -> Mask
+    ensures { λ r. ⌜ r ≡ belowOf registers (now (up .entry)) s registers ⌝ }
 {
-    let mut m = 0u8;
+    let mut m: Mask = 0;
     let mut h: usize = 0;
-    while h < 8 {
+    while h < REGISTERS {
         m = m | flag(up[h] & s, h);
         h = h + 1;
     }
@@ -296,30 +321,30 @@ fn below(up: &[u8; 8], s: u8) -> u8
 }
 
 // The mask of register h, empty if `hits` is.
-fn flag(hits: u8, h: usize) -> u8
-    requires { ⌜ h < 8 ⌝ }
-    ensures { λ r. ⌜ r ≡ flagOf hits h ⌝ }
+fn flag(hits: Mask, h: usize) -> Mask
+    requires { ⌜ h < registers ⌝ }
+    ensures { λ r. ⌜ r ≡ flagOf registers hits h ⌝ }
 {
     if inhabited(hits) { single(h) } else { 0 }
 }
 
 // The registers with which x is an argument of a held result.
-fn beside(t: &[u8; 64], x: usize) -> u8
-    requires { ⌜ x < 8 ⌝ }
-    ensures { λ r. ⌜ r ≡ besideOf (now (t .entry)) x 8 ⌝ }
+fn beside(t: &[Mask; PAIRS], x: usize) -> Mask
+    requires { ⌜ x < registers ⌝ }
+    ensures { λ r. ⌜ r ≡ besideOf registers (now (t .entry)) x registers ⌝ }
 {
-    let mut m = 0u8;
+    let mut m: Mask = 0;
     let mut h: usize = 0;
-    while h < 8 {
-        m = m | flag(t[8 * x + h] | t[8 * h + x], h);
+    while h < REGISTERS {
+        m = m | flag(t[REGISTERS * x + h] | t[REGISTERS * h + x], h);
         h = h + 1;
     }
     m
 }
 
 // The registers of the seed and those that have one of them above.
-fn raised(up: &[u8; 8], seed: u8) -> u8
-    ensures { λ r. ⌜ r ≡ raisedOf (now (up .entry)) seed ⌝ }
+fn raised(up: &[Mask; REGISTERS], seed: Mask) -> Mask
+    ensures { λ r. ⌜ r ≡ raisedOf registers (now (up .entry)) seed ⌝ }
 {
     let mut s = seed;
     let mut t = s | below(up, s);
@@ -331,9 +356,9 @@ fn raised(up: &[u8; 8], seed: u8) -> u8
 }
 
 // The registers that get a mark as x, the last of its class, loses its value: those below a result that has x as an argument or holds it, and those below `more`.
-fn lost(result: &[u8; 256], x: usize, more: u8) -> u8
-    requires { ⌜ x < 8 ⌝ }
-    ensures { λ r. ⌜ r ≡ lostOf (now (result .entry)) x more ⌝ }
+fn lost(result: &[Mask; RESULTS], x: usize, more: Mask) -> Mask
+    requires { ⌜ x < registers ⌝ }
+    ensures { λ r. ⌜ r ≡ lostOf registers functions (now (result .entry)) x more ⌝ }
 {
     let t = folded(result);
     let up = above(&t);
@@ -341,12 +366,12 @@ fn lost(result: &[u8; 256], x: usize, more: u8) -> u8
     raised(&up, seed | more)
 }
 
-fn marks(mark: [bool; 8], s: u8) -> [bool; 8]
-    ensures { λ r. ⌜ r ≡ markedWith mark s ⌝ }
+fn marks(mark: [bool; REGISTERS], s: Mask) -> [bool; REGISTERS]
+    ensures { λ r. ⌜ r ≡ markedWith registers mark s ⌝ }
 {
     let mut next = mark;
     let mut i: usize = 0;
-    while i < 8 {
+    while i < REGISTERS {
         next[i] = mark[i] | holds(s, i);
         i = i + 1;
     }
@@ -358,15 +383,15 @@ fn marks(mark: [bool; 8], s: u8) -> [bool; 8]
 /// What the next letter needs of a trace. A register from the header's count on is in no mask and has no mark.
 pub struct Window {
     /// At r, the class of register r: the mask of the registers with an equal value.
-    pub class: [u8; 8],
+    pub class: [Mask; REGISTERS],
     /// At r, the registers whose class is known to be unequal to the class of r.
-    pub unequal: [u8; 8],
+    pub unequal: [Mask; REGISTERS],
     /// At 64 f + 8 a + b, the class that holds the result of f at a and b; empty where no register holds it.
-    pub result: [u8; 256],
+    pub result: [Mask; RESULTS],
     /// At 8 f + a, the registers b for which f was ever computed at a and b.
-    pub ever: [u8; 32],
+    pub ever: [Mask; LINES],
     /// At r, whether above r there is a computed application with an argument or the result in no register.
-    pub mark: [bool; 8],
+    pub mark: [bool; REGISTERS],
     /// Whether no data model satisfies all tests.
     pub infeasible: bool,
 }
@@ -374,11 +399,11 @@ pub struct Window {
 // The window with other tables and marks.
 fn with_tables(
     w: Window,
-    class: [u8; 8],
-    unequal: [u8; 8],
-    result: [u8; 256],
-    ever: [u8; 32],
-    mark: [bool; 8],
+    class: [Mask; REGISTERS],
+    unequal: [Mask; REGISTERS],
+    result: [Mask; RESULTS],
+    ever: [Mask; LINES],
+    mark: [bool; REGISTERS],
 ) -> Window
     ensures { λ r. ⌜ r ≡ withTables w class unequal result ever mark ⌝ }
 {
@@ -393,9 +418,9 @@ fn with_tables(
 }
 
 // The registers that get a mark as x, of the given class, loses its value: none if another register holds it too.
-fn fallen(class: u8, result: &[u8; 256], x: usize, more: u8) -> u8
-    requires { ⌜ x < 8 ⌝ }
-    ensures { λ r. ⌜ r ≡ fallenOf class (now (result .entry)) x more ⌝ }
+fn fallen(class: Mask, result: &[Mask; RESULTS], x: usize, more: Mask) -> Mask
+    requires { ⌜ x < registers ⌝ }
+    ensures { λ r. ⌜ r ≡ fallenOf registers functions class (now (result .entry)) x more ⌝ }
 {
     if size(class) == 1 {
         return lost(result, x, more);
@@ -405,8 +430,8 @@ fn fallen(class: u8, result: &[u8; 256], x: usize, more: u8) -> u8
 
 // The window after x has come to hold what y holds.
 fn copied(w: Window, x: usize, y: usize) -> Window
-    requires { ⌜ (x < 8) × (y < 8) ⌝ }
-    ensures { λ r. ⌜ r ≡ copiedOf w x y ⌝ }
+    requires { ⌜ (x < registers) × (y < registers) ⌝ }
+    ensures { λ r. ⌜ r ≡ copiedOf registers functions w x y ⌝ }
 {
     if holds(w.class[x], y) {
         return w;
@@ -428,8 +453,8 @@ fn copied(w: Window, x: usize, y: usize) -> Window
 
 // The classes of a and b made one.
 fn merged(w: Window, a: usize, b: usize) -> Window
-    requires { ⌜ (a < 8) × (b < 8) ⌝ }
-    ensures { λ r. ⌜ r ≡ mergedOf w a b ⌝ }
+    requires { ⌜ (a < registers) × (b < registers) ⌝ }
+    ensures { λ r. ⌜ r ≡ mergedOf registers functions w a b ⌝ }
 {
     let mut class = w.class;
     let mut unequal = w.unequal;
@@ -445,22 +470,22 @@ fn merged(w: Window, a: usize, b: usize) -> Window
 }
 
 // The registers of the entry that are not in the class of its lowest register.
-fn rest(class: &[u8; 8], entry: u8) -> u8
-    ensures { λ r. ⌜ r ≡ restOf (now (class .entry)) entry ⌝ }
+fn rest(class: &[Mask; REGISTERS], entry: Mask) -> Mask
+    ensures { λ r. ⌜ r ≡ restOf registers functions (now (class .entry)) entry ⌝ }
 {
     let one = name(entry);
-    if one < 8 {
+    if one < REGISTERS {
         return (entry | class[one]) ^ class[one];
     }
     0
 }
 
 // The first result that is in two classes, or the empty mask.
-fn find(class: &[u8; 8], result: &[u8; 256]) -> u8
-    ensures { λ r. ⌜ r ≡ findOf (now (class .entry)) (now (result .entry)) 0 256 ⌝ }
+fn find(class: &[Mask; REGISTERS], result: &[Mask; RESULTS]) -> Mask
+    ensures { λ r. ⌜ r ≡ findOf registers functions (now (class .entry)) (now (result .entry)) 0 results ⌝ }
 {
     let mut i: usize = 0;
-    while i < 256 {
+    while i < RESULTS {
         if inhabited(rest(class, result[i])) {
             return result[i];
         }
@@ -470,20 +495,20 @@ fn find(class: &[u8; 8], result: &[u8; 256]) -> u8
 }
 
 // The window with classes made one until no result is in two classes.
-// Each turn adds a pair of registers to the 64 at most that are in one class.
+// Each turn adds a pair of registers to those that are in one class.
 fn closed(w: Window) -> Window
-    ensures { λ r. ⌜ r ≡ closedOf 65 w ⌝ }
+    ensures { λ r. ⌜ r ≡ closedOf registers functions (pairs + 1) w ⌝ }
 {
     let mut next = w;
-    let mut fuel: usize = 65;
+    let mut fuel: usize = PAIRS + 1;
     while fuel > 0 {
         let class = next.class;
         let result = next.result;
         let entry = find(&class, &result);
         let one = name(entry);
         let two = name(rest(&class, entry));
-        if one < 8 {
-            if two < 8 {
+        if one < REGISTERS {
+            if two < REGISTERS {
                 next = merged(next, one, two);
                 fuel = fuel - 1;
             } else {
@@ -497,20 +522,20 @@ fn closed(w: Window) -> Window
 }
 
 // Whether register a is known unequal to one of the others: the one place that reads the unequal pairs.
-fn apart(unequal: &[u8; 8], a: usize, others: u8) -> bool
-    requires { ⌜ a < 8 ⌝ }
-    ensures { λ r. ⌜ r ≡ apartOf (now (unequal .entry)) a others ⌝ }
+fn apart(unequal: &[Mask; REGISTERS], a: usize, others: Mask) -> bool
+    requires { ⌜ a < registers ⌝ }
+    ensures { λ r. ⌜ r ≡ apartOf registers functions (now (unequal .entry)) a others ⌝ }
 {
     inhabited(unequal[a] & others)
 }
 
 // Whether two registers of one class are known unequal.
-fn clash(class: &[u8; 8], unequal: &[u8; 8]) -> bool
-    ensures { λ r. ⌜ r ≡ clashOf (now (class .entry)) (now (unequal .entry)) 8 ⌝ }
+fn clash(class: &[Mask; REGISTERS], unequal: &[Mask; REGISTERS]) -> bool
+    ensures { λ r. ⌜ r ≡ clashOf registers functions (now (class .entry)) (now (unequal .entry)) registers ⌝ }
 {
     let mut bad = false;
     let mut i: usize = 0;
-    while i < 8 {
+    while i < REGISTERS {
         bad = bad | apart(unequal, i, class[i]);
         i = i + 1;
     }
@@ -519,10 +544,10 @@ fn clash(class: &[u8; 8], unequal: &[u8; 8]) -> bool
 
 // The window, made infeasible where it is `bad`. An infeasible window has no unequal pairs.
 fn settled(w: Window, bad: bool) -> Window
-    ensures { λ r. ⌜ r ≡ settledOf w bad ⌝ }
+    ensures { λ r. ⌜ r ≡ settledOf registers functions w bad ⌝ }
 {
     if w.infeasible | bad {
-        let none = [0u8; 8];
+        let none: [Mask; REGISTERS] = [0; REGISTERS];
         let mut next = w;
         next.unequal = none;
         next.infeasible = true;
@@ -533,8 +558,8 @@ fn settled(w: Window, bad: bool) -> Window
 
 // The window after the test x = y.
 fn equal(w: Window, x: usize, y: usize) -> Window
-    requires { ⌜ (x < 8) × (y < 8) ⌝ }
-    ensures { λ r. ⌜ r ≡ equalOf w x y ⌝ }
+    requires { ⌜ (x < registers) × (y < registers) ⌝ }
+    ensures { λ r. ⌜ r ≡ equalOf registers functions w x y ⌝ }
 {
     if holds(w.class[x], y) {
         return w;
@@ -546,12 +571,12 @@ fn equal(w: Window, x: usize, y: usize) -> Window
 }
 
 // The unequal pairs, with the classes one and two put apart.
-fn parted(unequal: [u8; 8], one: u8, two: u8) -> [u8; 8]
-    ensures { λ r. ⌜ r ≡ partedOf unequal one two ⌝ }
+fn parted(unequal: [Mask; REGISTERS], one: Mask, two: Mask) -> [Mask; REGISTERS]
+    ensures { λ r. ⌜ r ≡ partedOf registers functions unequal one two ⌝ }
 {
-    let mut next = [0u8; 8];
+    let mut next: [Mask; REGISTERS] = [0; REGISTERS];
     let mut i: usize = 0;
-    while i < 8 {
+    while i < REGISTERS {
         next[i] = (unequal[i] | part(one, two, i)) | part(two, one, i);
         i = i + 1;
     }
@@ -560,8 +585,8 @@ fn parted(unequal: [u8; 8], one: u8, two: u8) -> [u8; 8]
 
 // The window after the test x != y.
 fn unequal(w: Window, x: usize, y: usize) -> Window
-    requires { ⌜ (x < 8) × (y < 8) ⌝ }
-    ensures { λ r. ⌜ r ≡ unequalOf w x y ⌝ }
+    requires { ⌜ (x < registers) × (y < registers) ⌝ }
+    ensures { λ r. ⌜ r ≡ unequalOf registers functions w x y ⌝ }
 {
     let one = w.class[x];
     let two = w.class[y];
@@ -573,7 +598,7 @@ fn unequal(w: Window, x: usize, y: usize) -> Window
 }
 
 // The argument classes, where one of the arguments is x.
-fn arguments(x: usize, y: usize, z: usize, one: u8, two: u8) -> u8
+fn arguments(x: usize, y: usize, z: usize, one: Mask, two: Mask) -> Mask
     ensures { λ r. ⌜ r ≡ argumentsOf x y z one two ⌝ }
 {
     if (y == x) | (z == x) {
@@ -583,9 +608,9 @@ fn arguments(x: usize, y: usize, z: usize, one: u8, two: u8) -> u8
 }
 
 // The computed applications, with f at the classes one and two, and none with x as an argument.
-fn renew_ever(ever: [u8; 32], x: usize, f: usize, one: u8, two: u8) -> [u8; 32]
-    requires { ⌜ (x < 8) × (f < 4) ⌝ }
-    ensures { λ r. ⌜ r ≡ masksForgotten x (lineAdded f one two ever) ⌝ }
+fn renew_ever(ever: [Mask; LINES], x: usize, f: usize, one: Mask, two: Mask) -> [Mask; LINES]
+    requires { ⌜ (x < registers) × (f < functions) ⌝ }
+    ensures { λ r. ⌜ r ≡ masksForgotten registers x (lineAdded registers f one two ever) ⌝ }
 {
     let mut next = ever;
     add_line(&mut next, f, one, two);
@@ -595,8 +620,8 @@ fn renew_ever(ever: [u8; 32], x: usize, f: usize, one: u8, two: u8) -> [u8; 32]
 
 // The window after x := f(y, z), a value that was never computed.
 fn applied(w: Window, x: usize, f: usize, y: usize, z: usize) -> Window
-    requires { ⌜ (x < 8) × (f < 4) × (y < 8) × (z < 8) ⌝ }
-    ensures { λ r. ⌜ r ≡ appliedOf w x f y z ⌝ }
+    requires { ⌜ (x < registers) × (f < functions) × (y < registers) × (z < registers) ⌝ }
+    ensures { λ r. ⌜ r ≡ appliedOf registers functions w x f y z ⌝ }
 {
     let mut class = w.class;
     let mut unequal = w.unequal;
@@ -619,21 +644,21 @@ fn applied(w: Window, x: usize, f: usize, y: usize, z: usize) -> Window
 }
 
 // The class of register i at the start.
-fn own(i: usize, registers: usize) -> u8
-    requires { ⌜ i < 8 ⌝ }
-    ensures { λ r. ⌜ r ≡ ownOf registers i ⌝ }
+fn own(i: usize, count: usize) -> Mask
+    requires { ⌜ i < registers ⌝ }
+    ensures { λ r. ⌜ r ≡ ownOf count i ⌝ }
 {
-    if i < registers { single(i) } else { 0 }
+    if i < count { single(i) } else { 0 }
 }
 
 // Each register below the count in a class of its own.
-fn own_classes(registers: usize) -> [u8; 8]
-    ensures { λ r. ⌜ r ≡ freshOf registers .class ⌝ }
+fn own_classes(count: usize) -> [Mask; REGISTERS]
+    ensures { λ r. ⌜ r ≡ freshOf count .class ⌝ }
 {
-    let mut next = [0u8; 8];
+    let mut next: [Mask; REGISTERS] = [0; REGISTERS];
     let mut i: usize = 0;
-    while i < 8 {
-        next[i] = own(i, registers);
+    while i < REGISTERS {
+        next[i] = own(i, count);
         i = i + 1;
     }
     next
@@ -646,31 +671,31 @@ pub fn fresh(registers: u8) -> Window
     let class = own_classes(registers as usize);
     Window {
         class,
-        unequal: [0; 8],
-        result: [0; 256],
-        ever: [0; 32],
-        mark: [false; 8],
+        unequal: [0; REGISTERS],
+        result: [0; RESULTS],
+        ever: [0; LINES],
+        mark: [false; REGISTERS],
         infeasible: false,
     }
 }
 
 // Whether x := f(y, z) is coherent: a register holds its value, or it was never computed ("memoizing").
 fn memoizing(w: Window, f: usize, y: usize, z: usize) -> bool
-    requires { ⌜ (f < 4) × (y < 8) × (z < 8) ⌝ }
-    ensures { λ r. ⌜ r ≡ memoizingOf w f y z ⌝ }
+    requires { ⌜ (f < functions) × (y < registers) × (z < registers) ⌝ }
+    ensures { λ r. ⌜ r ≡ memoizingOf registers functions w f y z ⌝ }
 {
     let result = w.result;
     let ever = w.ever;
-    let at = 8 * f + y;
+    let at = REGISTERS * f + y;
     if holds(ever[at], z) {
-        return inhabited(result[8 * at + z]);
+        return inhabited(result[REGISTERS * at + z]);
     }
     true
 }
 
 // Whether the test x = y is coherent: nothing above either side is lost ("early").
 fn early(w: Window, x: usize, y: usize) -> bool
-    requires { ⌜ (x < 8) × (y < 8) ⌝ }
+    requires { ⌜ (x < registers) × (y < registers) ⌝ }
     ensures { λ r. ⌜ r ≡ earlyOf w x y ⌝ }
 {
     let mark = w.mark;
@@ -680,7 +705,7 @@ fn early(w: Window, x: usize, y: usize) -> bool
     true
 }
 
-/// Whether the letter is coherent after a trace with this window. Its registers lie below 8 and its function below 4.
+/// Whether the letter is coherent after a trace with this window. Its registers lie below 8 and its function below 4, as packed ones do.
 pub fn judge(w: Window, letter: Letter) -> bool
     requires { ⌜ Within letter ⌝ }
     ensures { λ r. ⌜ r ≡ judgeOf w letter ⌝ }
@@ -706,12 +731,12 @@ pub fn judge(w: Window, letter: Letter) -> bool
 
 // The window after x := f(y, z).
 fn apply(w: Window, x: usize, f: usize, y: usize, z: usize) -> Window
-    requires { ⌜ (x < 8) × (f < 4) × (y < 8) × (z < 8) ⌝ }
-    ensures { λ r. ⌜ r ≡ applyOf w x f y z ⌝ }
+    requires { ⌜ (x < registers) × (f < functions) × (y < registers) × (z < registers) ⌝ }
+    ensures { λ r. ⌜ r ≡ applyOf registers functions w x f y z ⌝ }
 {
     let result = w.result;
-    let r = name(result[8 * (8 * f + y) + z]);
-    if r < 8 {
+    let r = name(result[REGISTERS * (REGISTERS * f + y) + z]);
+    if r < REGISTERS {
         return copied(w, x, r);
     }
     applied(w, x, f, y, z)

@@ -4,6 +4,7 @@
 pub mod closure;
 pub mod damage;
 pub mod enumeration;
+pub mod examples;
 pub mod execution;
 pub mod fast_closure;
 pub mod fast_monitor;

@@ -1,6 +1,6 @@
 //! The proved library through its C interface, `include/fadzgime.h`. A slice passes
-//! as a pointer and a length. An answer is numbers in a lent slice, which is left
-//! untouched if it is too short for all of them.
+//! as a pointer and a length. An answer is numbers in a lent slice; if that is too short
+//! for all of them, nothing is done.
 
 #![allow(unsafe_code)]
 
@@ -12,8 +12,8 @@ pub const MONITOR_ANSWER: usize = 4;
 pub const MODEL_ANSWER: usize = 4;
 /// Numbers in the answer of [`read`]: refusal, place, registers, functions, points.
 pub const READ_ANSWER: usize = 5;
-/// Numbers in the answer of [`verdict`]: refusal, place, verdict, pairs, bytes
-/// written.
+/// Numbers in the answer of [`verdict`]: refusal, place, verdict (0 pass, 1 fail, 2
+/// incoherent), pairs, letters of the execution that shows it.
 pub const VERDICT_ANSWER: usize = 5;
 
 mod foreign {

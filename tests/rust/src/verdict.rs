@@ -120,6 +120,17 @@ pub fn search(read: &Macro, most: usize) -> Result<Verdict, Refusal> {
 }
 
 impl Answer {
+    /// The answer that goes with a verdict: on fail its model too.
+    pub fn of(read: Macro, verdict: Verdict) -> Answer {
+        let model = match &verdict.event {
+            Some(Event::Fail(letters)) => {
+                Some(Model::of(&Trace { header: read.header(), letters: letters.clone() }))
+            }
+            _ => None,
+        };
+        Answer { read, verdict, model }
+    }
+
     /// The answer's bytes: nothing on pass, else "the execution as a packed
     /// trace, on fail its model after it".
     pub fn pack(&self) -> Vec<u8> {
@@ -135,12 +146,6 @@ impl Answer {
 pub fn verdict(text: &[u8], table: usize, room: usize) -> Result<Answer, Refusal> {
     let read = read_macro(text)?;
     let verdict = search(&read, room_for_pairs(table))?;
-    let model = match &verdict.event {
-        Some(Event::Fail(letters)) => {
-            Some(Model::of(&Trace { header: read.header(), letters: letters.clone() }))
-        }
-        _ => None,
-    };
-    let answer = Answer { read, verdict, model };
+    let answer = Answer::of(read, verdict);
     if answer.pack().len() > room { Err(Refusal::plain(6)) } else { Ok(answer) }
 }

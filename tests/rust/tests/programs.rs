@@ -8,6 +8,8 @@ use std::process::{Command, Stdio};
 
 #[cfg(feature = "verdict")]
 use oracle::damage::damaged_text;
+#[cfg(feature = "verdict")]
+use oracle::examples::example_macros;
 use oracle::random::Random;
 #[cfg(feature = "verdict")]
 use oracle::random_macro::{macro_text, random_macro};
@@ -62,7 +64,25 @@ fn some_trace(seed: u64) -> Vec<u8> {
 #[cfg(feature = "verdict")]
 #[test]
 fn verdict() {
-    check("verdict", (0..1_000).map(some_macro), print_verdict);
+    check("verdict", (0..3_000).map(some_macro), print_verdict);
+}
+
+#[cfg(feature = "verdict")]
+#[test]
+fn verdict_on_examples() {
+    let examples = example_macros();
+    assert!(examples.len() > 10);
+    check("verdict", examples.into_iter(), print_verdict);
+}
+
+/// Inputs about as long as a macro may be, and longer; none; bytes that are no text.
+#[cfg(feature = "verdict")]
+#[test]
+fn verdict_on_long_inputs() {
+    let padded = |length: usize| [b"vars x y;assert x=y;".as_slice(), &vec![b' '; length - 20]].concat();
+    let lengths = [4_095, 4_096, 4_097, 5_000, 100_000];
+    let others = [vec![], vec![0xff; 3], b"vars x;".to_vec()];
+    check("verdict", lengths.into_iter().map(padded).chain(others), print_verdict);
 }
 
 #[test]

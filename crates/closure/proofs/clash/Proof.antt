@@ -1,15 +1,16 @@
 use Prim.Native.Nat.{_-_, _≤_}
 use native.Mathlib.Omega.{arith}
 use borrow.Author.Needs.{needs}
-use Rattle.closure.specs.Scan.{Parts, parts-none, parts-more, clash-hit, clash-end, below-use}
+use Rattle.closure.specs.Clashing.{parts-more, clash-hit, clash-end, below-use}
+use Rattle.closure.specs.Arrays.{Parts}
 use Rattle.closure.proofs.clash.Statement.{statement}
 use Rattle.closure.proofs.clash.Tie as tie
 
 abbrev Inv-loop : tie.InvT-loop
-Inv-loop representative left right m i₀ i = (i ≤ m) × Parts representative left right i
+Inv-loop representative left right from m i₀ i = (i ≤ m) × Parts representative left right i
 
 abbrev μ-loop : tie.MeasureT-loop
-μ-loop representative left right m i₀ i = m - i
+μ-loop representative left right from m i₀ i = m - i
 
 pub clash-spec : {M : Type 1} → statement M
 clash-spec =
@@ -17,17 +18,17 @@ clash-spec =
     (tie.spec
     Inv-loop
     μ-loop
-    (λ c. (search needs, parts-none _ _ _ 0))
-    (λ c. let h = (c .before .before .pre .0) in let k = (c .loop-test .taken) in omega arith)
-    (λ c. let h = (c .before .before .pre .0) in let k = (c .loop-test .taken) in omega arith)
+    (λ c. ((c .pre .0), (c .pre .4)))
+    (λ c. let h = (c .before .before .pre .1) in let k = (c .loop-test .taken) in omega arith)
+    (λ c. let h = (c .before .before .pre .1) in let k = (c .loop-test .taken) in omega arith)
     (λ c κs. search needs)
-    (λ c. let h = (c .before .before .before .before .pre .0) in let k = (c .before .before .loop-test .taken) in omega arith)
-    (λ c. let h = (c .before .before .before .before .pre .0) in let k = (c .before .before .loop-test .taken) in omega arith)
+    (λ c. let h = (c .before .before .before .before .pre .1) in let k = (c .before .before .loop-test .taken) in omega arith)
+    (λ c. let h = (c .before .before .before .before .pre .1) in let k = (c .before .before .loop-test .taken) in omega arith)
     (λ c κs. search needs)
-    (λ c. let h = below-use 1032 _ _ _ _ (c .before .before .before .before .before .before .pre .1) (c .before .before .before .before .loop-test .taken) (c .before .before .wide .ensures) in omega arith)
-    (λ c. let h = below-use 1032 _ _ _ _ (c .before .before .before .before .before .before .pre .1) (c .before .before .before .before .loop-test .taken) (c .before .before .wide .ensures) in omega arith)
-    (λ c. let h = below-use 1032 _ _ _ _ (c .before .before .before .before .before .before .before .pre .2) (c .before .before .before .before .before .loop-test .taken) (c .before .wide2 .ensures) in omega arith)
-    (λ c. let h = below-use 1032 _ _ _ _ (c .before .before .before .before .before .before .before .pre .2) (c .before .before .before .before .before .loop-test .taken) (c .before .wide2 .ensures) in omega arith)
+    (λ c. let h = below-use 1032 _ _ _ _ (c .before .before .before .before .before .before .pre .2) (c .before .before .before .before .loop-test .taken) (c .before .before .wide .ensures) in omega arith)
+    (λ c. let h = below-use 1032 _ _ _ _ (c .before .before .before .before .before .before .pre .2) (c .before .before .before .before .loop-test .taken) (c .before .before .wide .ensures) in omega arith)
+    (λ c. let h = below-use 1032 _ _ _ _ (c .before .before .before .before .before .before .before .pre .3) (c .before .before .before .before .before .loop-test .taken) (c .before .wide2 .ensures) in omega arith)
+    (λ c. let h = below-use 1032 _ _ _ _ (c .before .before .before .before .before .before .before .pre .3) (c .before .before .before .before .before .loop-test .taken) (c .before .wide2 .ensures) in omega arith)
     (λ c. clash-hit _ _ _ _ _ _ _ (c .before .before .before .before .before .before .before .loop-test .taken) (c .before .before .before .before .before .wide .ensures) (c .before .before .before .wide2 .ensures) (c .if1 .taken))
     (λ c. search needs)
     (λ c. search needs)

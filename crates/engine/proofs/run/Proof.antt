@@ -1,36 +1,16 @@
-use Prim.Native.Nat.{_-_, _≤_}
-use native.Mathlib.Omega.{arith}
-use mathlib.Core.Path.{_≡_, refl}
+use Prim.Native.Nat.{_-_}
+use mathlib.Core.Path.{refl}
 use borrow.Author.Needs.{needs}
-use Rattle.engine.specs.Run.{Running}
-use Rattle.engine.specs.RunLaws.{begins, registers-few, letters-few, letter-is, not-malformed, ready, clash-ready, goes-on, stops, ends}
+use Rattle.closure.specs.Clashing.{zeros}
+use Rattle.engine.specs.RunLaws.{begins, registers-few}
 use Rattle.engine.proofs.run.Statement.{statement}
 use Rattle.engine.proofs.run.Tie as tie
-
-abbrev Inv-loop : tie.InvT-loop
-Inv-loop header trace letters function₀ first₀ second₀ representative₀ registers value₀ left₀ right₀ counts₀ k₀ function first second representative value left right counts k = Running trace header function first second representative value left right registers (counts .terms) (counts .tests) k × (registers ≡ header .registers) × (k ≤ letters)
-
-abbrev μ-loop : tie.MeasureT-loop
-μ-loop header trace letters function₀ first₀ second₀ representative₀ registers value₀ left₀ right₀ counts₀ k₀ function first second representative value left right counts k = letters - k
 
 pub run-spec : {M : Type 1} → statement M
 run-spec =
     tie.close
     (tie.spec
-    Inv-loop
-    μ-loop
     (λ c. search needs)
     (λ c κs. registers-few _ _ _ (c .before .before .before .before .pre .0))
-    (λ c. (begins _ _ _ (c .before .before .before .before .before .pre .0) _ _ _ _ _ _ _ _ _ (c .before .before .before .before .before .pre .1) (c .before .before .before .before .before .pre .2) (c .before .before .before .before .before .pre .3) (c .before .before .before .before .before .pre .4) (search needs) (search needs) (search needs) _ refl (c .begin .ensures), refl, search needs))
-    (λ c κs. search needs)
-    (λ c. search needs)
-    (λ c. search needs)
-    (λ c. absurd (not-malformed _ _ _ (c .before .before .before .before .before .before .before .before .before .before .pre .0) _ (c .before .before .before .loop-test .taken) _ (c .before .before .letter-at .ensures) (c .enum-told .given .1)))
-    (λ c κs. ready _ _ _ (c .before .before .before .before .before .before .before .before .before .before .before .before .before .before .before .before .before .before .pre .0) _ _ _ _ _ _ _ _ _ _ (c .before .before .before .before .before .before .before .before .before .before .before .loop-test .taken) (c .before .before .before .before .before .before .before .before .before .before .before .before .loop .inv .0) _ (letter-is _ _ _ (c .before .before .before .before .before .before .before .before .before .before .before .before .before .before .before .before .before .before .pre .0) _ (c .before .before .before .before .before .before .before .before .before .before .before .loop-test .taken) _ (c .before .before .before .before .before .before .before .before .before .before .letter-at .ensures) (c .before .before .before .before .before .before .before .before .decoded .given .1)))
-    (λ c κs. clash-ready _ _ _ (c .before .before .before .before .before .before .before .before .before .before .before .before .before .before .before .before .before .before .before .before .before .before .pre .0) _ _ _ _ _ _ _ _ _ _ (c .before .before .before .before .before .before .before .before .before .before .before .before .before .before .before .loop-test .taken) (c .before .before .before .before .before .before .before .before .before .before .before .before .before .before .before .before .loop .inv .0) _ (letter-is _ _ _ (c .before .before .before .before .before .before .before .before .before .before .before .before .before .before .before .before .before .before .before .before .before .before .pre .0) _ (c .before .before .before .before .before .before .before .before .before .before .before .before .before .before .before .loop-test .taken) _ (c .before .before .before .before .before .before .before .before .before .before .before .before .before .before .letter-at .ensures) (c .before .before .before .before .before .before .before .before .before .before .before .before .decoded .given .1)) _ _ _ _ _ _ _ _ (c .before .before .before .step .ensures))
-    (λ c. let h = (c .before .before .before .before .before .before .before .before .before .before .before .before .before .before .before .before .before .loop-test .taken) in let l = letters-few _ _ _ (c .before .before .before .before .before .before .before .before .before .before .before .before .before .before .before .before .before .before .before .before .before .before .before .before .pre .0) in omega arith)
-    (λ c. stops _ _ _ (c .before .before .before .before .before .before .before .before .before .before .before .before .before .before .before .before .before .before .before .before .before .before .before .before .pre .0) _ _ _ _ _ _ _ _ _ _ (c .before .before .before .before .before .before .before .before .before .before .before .before .before .before .before .before .before .loop-test .taken) (c .before .before .before .before .before .before .before .before .before .before .before .before .before .before .before .before .before .before .loop .inv .0) _ (letter-is _ _ _ (c .before .before .before .before .before .before .before .before .before .before .before .before .before .before .before .before .before .before .before .before .before .before .before .before .pre .0) _ (c .before .before .before .before .before .before .before .before .before .before .before .before .before .before .before .before .before .loop-test .taken) _ (c .before .before .before .before .before .before .before .before .before .before .before .before .before .before .before .before .letter-at .ensures) (c .before .before .before .before .before .before .before .before .before .before .before .before .before .before .decoded .given .1)) _ _ _ _ _ _ _ _ (c .before .before .before .before .before .step .ensures) _ (c .before .clash .ensures) (c .if1 .taken))
-    (λ c. let h = (c .before .before .before .before .before .before .before .before .before .before .before .before .before .before .before .before .before .loop-test .taken) in let l = letters-few _ _ _ (c .before .before .before .before .before .before .before .before .before .before .before .before .before .before .before .before .before .before .before .before .before .before .before .before .pre .0) in omega arith)
-    (λ c. let h = (c .before .before .before .before .before .before .before .before .before .before .before .before .before .before .before .before .before .loop-test .taken) in omega arith)
-    (λ c. (goes-on _ _ _ (c .before .before .before .before .before .before .before .before .before .before .before .before .before .before .before .before .before .before .before .before .before .before .before .before .pre .0) _ _ _ _ _ _ _ _ _ _ (c .before .before .before .before .before .before .before .before .before .before .before .before .before .before .before .before .before .loop-test .taken) (c .before .before .before .before .before .before .before .before .before .before .before .before .before .before .before .before .before .before .loop .inv .0) _ (letter-is _ _ _ (c .before .before .before .before .before .before .before .before .before .before .before .before .before .before .before .before .before .before .before .before .before .before .before .before .pre .0) _ (c .before .before .before .before .before .before .before .before .before .before .before .before .before .before .before .before .before .loop-test .taken) _ (c .before .before .before .before .before .before .before .before .before .before .before .before .before .before .before .before .letter-at .ensures) (c .before .before .before .before .before .before .before .before .before .before .before .before .before .before .decoded .given .1)) _ _ _ _ _ _ _ _ (c .before .before .before .before .before .step .ensures) _ (c .before .clash .ensures) (c .if1 .left), (c .before .before .before .before .before .before .before .before .before .before .before .before .before .before .before .before .before .before .loop .inv .1), (let h = (c .before .before .before .before .before .before .before .before .before .before .before .before .before .before .before .before .before .loop-test .taken) in omega arith)))
-    (λ c. ends _ _ _ (c .before .before .before .before .before .before .before .pre .0) _ _ _ _ _ _ _ _ _ _ (c .loop-test .left) (c .before .loop .inv .1) (c .before .loop .inv .0)))
+    (λ c κs. ((c .before .before .before .before .before .before .before .before .before .before .before .before .before .before .pre .0), begins _ _ _ (c .before .before .before .before .before .before .before .before .before .before .before .before .before .before .pre .0) _ _ _ _ _ _ _ _ _ _ _ (c .before .before .before .before .before .before .before .before .before .before .before .before .before .before .pre .1) (c .before .before .before .before .before .before .before .before .before .before .before .before .before .before .pre .2) (c .before .before .before .before .before .before .before .before .before .before .before .before .before .before .pre .3) (c .before .before .before .before .before .before .before .before .before .before .before .before .before .before .pre .4) (search needs) (zeros 1021) (record { long = search needs; zero = zeros 1032 }) (search needs) (search needs) (search needs) _ refl (c .before .before .before .before .before .before .before .before .before .begin .ensures)))
+    (λ c. search needs))

@@ -2,7 +2,6 @@ use Rattle.records.specs.Records.{branchIn}
 use borrow.Author.Needs.{needs}
 use Rattle.records.proofs.branch_in.Statement.{statement}
 use Rattle.records.proofs.branch_in.Tie as tie
-use Rattle.records.proofs.wide.Reads as wide-reads
 
 pub branch-in-spec : {M : Type 1} → statement M
 unfolding branchIn

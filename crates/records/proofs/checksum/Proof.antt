@@ -7,7 +7,6 @@ use Rattle.records.proofs.Turns.{check-turn, check-end}
 use borrow.Author.Needs.{needs}
 use Rattle.records.proofs.checksum.Statement.{statement}
 use Rattle.records.proofs.checksum.Tie as tie
-use Rattle.records.proofs.wide.Reads as wide-reads
 
 abbrev Inv-loop : tie.InvT-loop
 Inv-loop bytes sum₀ sums₀ i₀ sum sums i = (i ≤ 155) × (length bytes ≡ 155) × (sum ≤ 255 * i) × (sums ≤ 39525 * i) × (checksumOf sum sums (drop i bytes) ≡ checksumOf 0 0 bytes)

@@ -8,7 +8,6 @@ use Rattle.records.proofs.Turns.{code-turn}
 use borrow.Author.Needs.{needs}
 use Rattle.records.proofs.codes.Statement.{statement}
 use Rattle.records.proofs.codes.Tie as tie
-use Rattle.records.proofs.code.Reads as code-reads
 
 abbrev Inv-loop : tie.InvT-loop
 Inv-loop result ever codes₀ i₀ codes i = (length result ≡ 256) × (length ever ≡ 32) × Written (codeByte result ever) 0 128 i codes
@@ -28,16 +27,12 @@ codes-spec =
     (λ c. search needs)
     (λ c. search needs)
     (λ c. search needs)
+    (λ c. search needs)
+    (λ c. search needs)
+    (λ c. search needs)
     (λ c κs. search needs)
     (λ c. search needs)
     (λ c. search needs)
     (λ c. search needs)
-    (λ c. search needs)
-    (λ c κs. search needs)
-    (λ c. search needs)
-    (λ c. search needs)
-    (λ c. search needs)
-    (λ c. search needs)
-    (λ c. search needs)
-    (λ c. let x = c .before .before .before in let a = x .before .args in (search needs, search needs, written-more (codeByte (a .t1) (a .t2)) 0 128 (x .loop .i) (x .loop .codes) _ (x .loop .inv .2) (omega arith) (code-turn (a .t1) (a .t2) (x .loop .i) _ _ _ refl (c .before .code .ensures .0) (c .code2 .ensures .0))))
+    (λ c. let x = c .before .before in let a = x .before .args in (search needs, search needs, written-more (codeByte (a .t1) (a .t2)) 0 128 (x .loop .i) (x .loop .codes) _ (x .loop .inv .2) (omega arith) (code-turn (a .t1) (a .t2) (x .loop .i) _ _ refl (c .code-byte .ensures))))
     (λ c. written-all _ 0 128 (c .before .loop .i) (c .before .loop .codes) (c .before .loop .inv .2) (omega arith)))

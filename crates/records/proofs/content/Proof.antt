@@ -2,10 +2,6 @@ use Rattle.records.specs.Records.{contentOf}
 use borrow.Author.Needs.{needs}
 use Rattle.records.proofs.content.Statement.{statement}
 use Rattle.records.proofs.content.Tie as tie
-use Rattle.records.proofs.codes.Reads as codes-reads
-use Rattle.records.proofs.flagged.Reads as flagged-reads
-use Rattle.records.proofs.flags.Reads as flags-reads
-use Rattle.records.proofs.joined.Reads as joined-reads
 
 pub content-spec : {M : Type 1} → statement M
 unfolding contentOf

@@ -2,9 +2,6 @@ use Rattle.records.proofs.Turns.{encoded-made}
 use borrow.Author.Needs.{needs}
 use Rattle.records.proofs.encode.Statement.{statement}
 use Rattle.records.proofs.encode.Tie as tie
-use Rattle.records.proofs.checksum.Reads as checksum-reads
-use Rattle.records.proofs.lay.Reads as lay-reads
-use Rattle.records.proofs.content.Reads as content-reads
 
 pub encode-spec : {M : Type 1} → statement M
 encode-spec =

@@ -7,7 +7,6 @@ use Rattle.records.proofs.Turns.{ever-turn}
 use borrow.Author.Needs.{needs}
 use Rattle.records.proofs.ever_lines.Statement.{statement}
 use Rattle.records.proofs.ever_lines.Tie as tie
-use Rattle.records.proofs.computed.Reads as computed-reads
 
 abbrev Inv-loop : tie.InvT-loop
 Inv-loop part ever₀ j₀ ever j = (192 ≤ length part) × Written (everMask part) 0 32 j ever

@@ -9,7 +9,6 @@ use Rattle.records.specs.Tables.{map-table}
 use borrow.Author.Needs.{needs}
 use Rattle.records.proofs.flags.Statement.{statement}
 use Rattle.records.proofs.flags.Tie as tie
-use Rattle.records.proofs.flagged.Reads as flagged-reads
 
 abbrev Inv-loop : tie.InvT-loop
 Inv-loop marks flags₀ i₀ flags i = (length marks ≡ 8) × Written (λ k. flag (getD marks k false)) 0 8 i flags

@@ -5,7 +5,6 @@ use Rattle.records.proofs.Turns.{join-made}
 use borrow.Author.Needs.{needs}
 use Rattle.records.proofs.joined.Statement.{statement}
 use Rattle.records.proofs.joined.Tie as tie
-use Rattle.records.proofs.lay.Reads as lay-reads
 
 pub joined-spec : {M : Type 1} → statement M
 joined-spec =

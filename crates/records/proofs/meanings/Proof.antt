@@ -2,7 +2,6 @@ use Rattle.records.proofs.Turns.{meanings-made}
 use borrow.Author.Needs.{needs}
 use Rattle.records.proofs.meanings.Statement.{statement}
 use Rattle.records.proofs.meanings.Tie as tie
-use Rattle.records.proofs.lay.Reads as lay-reads
 
 pub meanings-spec : {M : Type 1} → statement M
 meanings-spec = tie.close (tie.spec (λ c. search needs) (λ c. search needs) (λ c κs. search needs) (λ c. let x = c .before .before .before .before in meanings-made (x .args .t1) _ (search needs) (c .before .lay .ensures .0)))

@@ -9,8 +9,6 @@ use Rattle.records.proofs.Turns.{result-turn}
 use borrow.Author.Needs.{needs}
 use Rattle.records.proofs.results.Statement.{statement}
 use Rattle.records.proofs.results.Tie as tie
-use Rattle.records.proofs.meanings.Reads as meanings-reads
-use Rattle.records.proofs.wide.Reads as wide-reads
 
 abbrev Inv-loop : tie.InvT-loop
 Inv-loop part meanings result₀ i₀ result i = (192 ≤ length part) × (length meanings ≡ 16) × (i ≤ 128) × Written (λ k. getD meanings (codeIn part k) 0) 0 256 (2 * i) result

@@ -2,7 +2,6 @@ use Rattle.records.proofs.Turns.{record-made}
 use borrow.Author.Needs.{needs}
 use Rattle.records.proofs.whole.Statement.{statement}
 use Rattle.records.proofs.whole.Tie as tie
-use Rattle.records.proofs.lay.Reads as lay-reads
 
 pub whole-spec : {M : Type 1} → statement M
 whole-spec =

@@ -2,10 +2,6 @@ use Rattle.records.specs.Records.{isSet, windowIn}
 use borrow.Author.Needs.{needs}
 use Rattle.records.proofs.window_in.Statement.{statement}
 use Rattle.records.proofs.window_in.Tie as tie
-use Rattle.records.proofs.eight.Reads as eight-reads
-use Rattle.records.proofs.ever_lines.Reads as ever-lines-reads
-use Rattle.records.proofs.marks.Reads as marks-reads
-use Rattle.records.proofs.results.Reads as results-reads
 
 pub window-in-spec : {M : Type 1} → statement M
 unfolding windowIn isSet

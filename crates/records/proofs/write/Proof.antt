@@ -2,8 +2,6 @@ use Rattle.records.proofs.Turns.{write-made}
 use borrow.Author.Needs.{needs}
 use Rattle.records.proofs.write.Statement.{statement}
 use Rattle.records.proofs.write.Tie as tie
-use Rattle.records.proofs.lay.Reads as lay-reads
-use Rattle.records.proofs.whole.Reads as whole-reads
 
 pub write-spec : {M : Type 1} → statement M
 write-spec =

@@ -1,6 +1,7 @@
 use Prim.Native.Nat.{_-_}
-use borrow.Author.Needs.{needs}
-use Rattle.shown.specs.Rows.{new-hit, new-miss}
+use native.Mathlib.Omega.{arith}
+use Rattle.closure.specs.Entering.{readable}
+use Rattle.shown.specs.Rows.{row-readable, new-hit, new-miss}
 use Rattle.shown.proofs.new_row.Statement.{statement}
 use Rattle.shown.proofs.new_row.Tie as tie
 
@@ -8,15 +9,7 @@ pub new-row-spec : {M : Type 1} → statement M
 new-row-spec =
     tie.close
     (tie.spec
-    (λ c. search needs)
-    (λ c. search needs)
-    (λ c κs. search needs)
-    (λ c. search needs)
-    (λ c. search needs)
-    (λ c κs. search needs)
-    (λ c. search needs)
-    (λ c. search needs)
-    (λ c κs. search needs)
-    (λ c κs. search needs)
-    (λ c. new-hit _ _ _ _ _ _ _ _ _ _ (c .before .lookup .ensures) (c .before .before .before .before .before .before .wide .ensures) (c .before .before .before .before .wide2 .ensures) (c .before .before .wide3 .ensures) (c .if1 .taken))
-    (λ c. new-miss _ _ _ _ _ _ _ _ _ _ (c .before .lookup .ensures) (c .before .before .before .before .before .before .wide .ensures) (c .before .before .before .before .wide2 .ensures) (c .before .before .wide3 .ensures) (c .if1 .left)))
+    (λ c κs. row-readable _ _ _ _ _ _ (c .pre .0) (c .pre .1) _ _ (c .pre .2))
+    (λ c κs. (readable _ (c .before .before .before .pre .0) (c .before .before .before .pre .1) (omega arith), (row-readable _ _ _ _ _ _ (c .before .before .before .pre .0) (c .before .before .before .pre .1) _ _ (c .before .before .before .pre .2)) .0, (c .before .before .before .pre .2 .chains)))
+    (λ c. new-hit _ _ _ _ _ _ (c .before .before .before .before .before .pre .0) (c .before .before .before .before .before .pre .1) _ _ (c .before .before .before .before .before .pre .2) _ _ (c .before .before .before .before .signature-at .ensures) _ _ (c .before .enter .ensures) (c .if1 .taken))
+    (λ c. new-miss _ _ _ _ _ _ (c .before .before .before .before .before .pre .0) (c .before .before .before .before .before .pre .1) _ _ (c .before .before .before .before .before .pre .2) _ _ (c .before .before .before .before .signature-at .ensures) _ _ (c .before .enter .ensures) (c .if1 .left)))

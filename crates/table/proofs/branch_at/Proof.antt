@@ -3,7 +3,6 @@ use Rattle.table.specs.Table.{branchAt}
 use borrow.Author.Needs.{needs}
 use Rattle.table.proofs.branch_at.Statement.{statement}
 use Rattle.table.proofs.branch_at.Tie as tie
-use Rattle.records.proofs.branch_in.Reads as branch-in-reads
 
 pub branch-at-spec : {M : Type 1} → statement M
 unfolding branchAt

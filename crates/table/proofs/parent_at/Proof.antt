@@ -3,7 +3,6 @@ use Rattle.table.specs.Table.{parentAt}
 use borrow.Author.Needs.{needs}
 use Rattle.table.proofs.parent_at.Statement.{statement}
 use Rattle.table.proofs.parent_at.Tie as tie
-use Rattle.records.proofs.parent_in.Reads as parent-in-reads
 
 pub parent-at-spec : {M : Type 1} → statement M
 unfolding parentAt

@@ -3,7 +3,6 @@ use Rattle.table.specs.Table.{pointAt}
 use borrow.Author.Needs.{needs}
 use Rattle.table.proofs.point_at.Statement.{statement}
 use Rattle.table.proofs.point_at.Tie as tie
-use Rattle.records.proofs.point_in.Reads as point-in-reads
 
 pub point-at-spec : {M : Type 1} → statement M
 unfolding pointAt

@@ -8,7 +8,6 @@ use Rattle.table.specs.Table.{putAt}
 use borrow.Author.Needs.{needs}
 use Rattle.table.proofs.put.Statement.{statement}
 use Rattle.table.proofs.put.Tie as tie
-use Rattle.records.proofs.write.Reads as write-reads
 
 pub put-spec : {M : Type 1} → statement M
 unfolding putAt

@@ -3,7 +3,6 @@ use Rattle.table.specs.Table.{windowAt}
 use borrow.Author.Needs.{needs}
 use Rattle.table.proofs.window_at.Statement.{statement}
 use Rattle.table.proofs.window_at.Tie as tie
-use Rattle.records.proofs.window_in.Reads as window-in-reads
 
 pub window-at-spec : {M : Type 1} → statement M
 unfolding windowAt

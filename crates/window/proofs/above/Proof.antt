@@ -2,16 +2,17 @@ use mathlib.Core.Path.{ap₂}
 use Prim.Native.Nat.{_*_, _-_}
 use lib.Bits.{bitOr}
 use borrow.Author.Needs.{needs}
+use Rattle.window.specs.Layout.{registers}
 use Rattle.window.specs.Table.{Written, written-none, written-more, written-all}
 use Rattle.window.specs.Marks.{aboveOf, unionOf}
 use Rattle.window.proofs.above.Statement.{statement}
 use Rattle.window.proofs.above.Tie as tie
 
 abbrev Inv-loop : tie.InvT-loop
-Inv-loop t next₀ h₀ next h = Written (λ k. bitOr (unionOf t (8 * k) 1 8) (unionOf t k 8 8)) 0 8 h next
+Inv-loop t next₀ h₀ next h = Written (λ k. bitOr (unionOf t (registers * k) 1 registers) (unionOf t k registers registers)) 0 registers h next
 
 abbrev μ-loop : tie.MeasureT-loop
-μ-loop t next₀ h₀ next h = 8 - h
+μ-loop t next₀ h₀ next h = registers - h
 
 pub above-spec : {M : Type 1} → statement M
 unfolding aboveOf

@@ -1,5 +1,5 @@
 use borrow.Author.Needs.{needs}
-use Rattle.window.specs.Perform.{apartOf}
+use Rattle.window.specs.Performing.{apartOf}
 use Rattle.window.proofs.apart.Statement.{statement}
 use Rattle.window.proofs.apart.Tie as tie
 

@@ -1,5 +1,6 @@
 use borrow.Author.Needs.{needs}
-use Rattle.window.specs.Perform.{apply-known, apply-new}
+use Rattle.window.specs.Layout.{registers, functions}
+use Rattle.window.specs.Performing.{apply-known, apply-new}
 use Rattle.window.proofs.apply.Statement.{statement}
 use Rattle.window.proofs.apply.Tie as tie
 
@@ -12,6 +13,6 @@ apply-spec = tie.close (tie.spec
     (λ c. search needs)
     (λ c κs. search needs)
     (λ c κs. search needs)
-    (λ c. apply-known _ _ _ _ _ _ _ (c .before .before .name .ensures) (c .before .if1 .taken) (c .copied .ensures))
+    (λ c. apply-known registers functions _ _ _ _ _ _ _ (c .before .before .name .ensures) (c .before .if1 .taken) (c .copied .ensures))
     (λ c κs. search needs)
-    (λ c. apply-new _ _ _ _ _ _ _ (c .before .before .name .ensures) (c .before .if1 .left) (c .applied .ensures)))
+    (λ c. apply-new registers functions _ _ _ _ _ _ _ (c .before .before .name .ensures) (c .before .if1 .left) (c .applied .ensures)))

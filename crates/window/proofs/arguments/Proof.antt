@@ -1,4 +1,4 @@
-use Rattle.window.specs.Perform.{argumentsOf}
+use Rattle.window.specs.Performing.{argumentsOf}
 use Rattle.window.proofs.arguments.Statement.{statement}
 use Rattle.window.proofs.arguments.Tie as tie
 

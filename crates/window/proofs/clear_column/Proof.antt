@@ -3,13 +3,14 @@ use Prim.Native.Nat.{_-_, _/_, _≤_}
 use lib.ListN.{length}
 use native.Mathlib.Omega.{arith}
 use borrow.Author.Needs.{needs}
+use Rattle.window.specs.Layout.{registers}
 use Rattle.window.specs.Lines.{columns, Gone, gone-none, clearedAt, clear-more, cleared-all}
 use Rattle.window.specs.Through.{columns-span}
 use Rattle.window.proofs.clear_column.Statement.{statement}
 use Rattle.window.proofs.clear_column.Tie as tie
 
 abbrev Inv-loop : tie.InvT-loop
-Inv-loop t₀ x n j₀ t j = (n ≡ length t₀ / 8) × (j ≤ n) × Gone columns (clearedAt columns x t₀) x t₀ j t
+Inv-loop t₀ x n j₀ t j = (n ≡ length t₀ / registers) × (j ≤ n) × Gone (columns registers) (clearedAt (columns registers) x t₀) x t₀ j t
 
 abbrev μ-loop : tie.MeasureT-loop
 μ-loop t₀ x n j₀ t j = n - j
@@ -25,6 +26,6 @@ clear-column-spec = tie.close (tie.spec
     (λ c. search needs)
     (λ c. search needs)
     (λ c. let k = c .before in let l = c .loop-test .taken in
-    (k .loop .inv .0, omega arith, clear-more columns _ _ _ _ _ (columns-span _ _ (k .before .pre .1) (k .loop .inv .0)) (k .before .pre .0) l (k .loop .inv .2)))
+    (k .loop .inv .0, omega arith, clear-more (columns registers) _ _ _ _ _ (columns-span registers _ _ (k .before .pre .1) (k .loop .inv .0)) (k .before .pre .0) l (k .loop .inv .2)))
     (λ c. c .before .loop .inv .2 .long)
-    (λ c. let k = c .before in cleared-all columns _ _ _ _ _ (columns-span _ _ (k .before .pre .1) (k .loop .inv .0)) (c .loop-test .left) (k .loop .inv .2)))
+    (λ c. let k = c .before in cleared-all (columns registers) _ _ _ _ _ (columns-span registers _ _ (k .before .pre .1) (k .loop .inv .0)) (c .loop-test .left) (k .loop .inv .2)))

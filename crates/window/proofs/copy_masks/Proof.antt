@@ -1,4 +1,5 @@
 use borrow.Author.Needs.{needs}
+use Rattle.window.specs.Layout.{registers}
 use Rattle.window.specs.Through.{masks-copied}
 use Rattle.window.proofs.copy_masks.Statement.{statement}
 use Rattle.window.proofs.copy_masks.Tie as tie
@@ -11,4 +12,4 @@ copy-masks-spec = tie.close (tie.spec
     (λ c κs. search needs)
     (λ c. search needs)
     (λ c. let k = c .before .before .before in
-    masks-copied _ _ _ _ _ _ _ (k .before .before .before .before .before .unite-column .ensures) (k .before .single .ensures) (k .single2 .ensures) (c .before .before .move-bits .ensures)))
+    masks-copied registers _ _ _ _ _ _ _ (k .before .before .before .before .before .unite-column .ensures) (k .before .single .ensures) (k .single2 .ensures) (c .before .before .move-bits .ensures)))

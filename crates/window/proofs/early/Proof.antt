@@ -1,5 +1,5 @@
 use borrow.Author.Needs.{needs}
-use Rattle.window.specs.Perform.{earlyOf}
+use Rattle.window.specs.Performing.{earlyOf}
 use Rattle.window.proofs.early.Statement.{statement}
 use Rattle.window.proofs.early.Tie as tie
 

@@ -1,7 +1,7 @@
 use borrow.Author.Needs.{needs}
 use mathlib.Core.Path.{sym, _∙_}
 use borrow.Author.Tests.{eq-eqb, ne-eqb}
-use Rattle.window.specs.Perform.{fallenOf}
+use Rattle.window.specs.Performing.{fallenOf}
 use Rattle.window.proofs.fallen.Statement.{statement}
 use Rattle.window.proofs.fallen.Tie as tie
 

@@ -2,16 +2,17 @@ use mathlib.Core.Path.{_≡_, refl, sym, ap, _∙_}
 use Prim.Native.Nat.{_-_, _≤_}
 use native.Mathlib.Omega.{arith}
 use borrow.Author.Needs.{needs}
+use Rattle.window.specs.Layout.{registers, functions, results}
 use Rattle.window.specs.Bits.{nonempty}
-use Rattle.window.specs.Perform.{findOf, find-here, find-more, find-none}
+use Rattle.window.specs.Performing.{findOf, find-here, find-more, find-none}
 use Rattle.window.proofs.find.Statement.{statement}
 use Rattle.window.proofs.find.Tie as tie
 
 abbrev Inv-loop : tie.InvT-loop
-Inv-loop class result i₀ i = (i ≤ 256) × (findOf class result i (256 - i) ≡ findOf class result 0 256)
+Inv-loop class result i₀ i = (i ≤ results) × (findOf registers functions class result i (results - i) ≡ findOf registers functions class result 0 results)
 
 abbrev μ-loop : tie.MeasureT-loop
-μ-loop class result i₀ i = 256 - i
+μ-loop class result i₀ i = results - i
 
 pub find-spec : {M : Type 1} → statement M
 find-spec = tie.close (tie.spec
@@ -22,8 +23,8 @@ find-spec = tie.close (tie.spec
     (λ c κs. search needs)
     (λ c κs. search needs)
     (λ c. search needs)
-    (λ c. let k = c .before .before .before .before .before .before in sym (find-here _ _ _ (c .before .before .before .before .before .loop-test .taken) (sym (c .before .before .inhabited .ensures ∙ ap nonempty (c .before .before .before .rest .ensures)) ∙ c .before .if1 .taken)) ∙ k .loop .inv .1)
+    (λ c. let k = c .before .before .before .before .before .before in sym (find-here registers functions _ _ _ (c .before .before .before .before .before .loop-test .taken) (sym (c .before .before .inhabited .ensures ∙ ap (nonempty registers) (c .before .before .before .rest .ensures)) ∙ c .before .if1 .taken)) ∙ k .loop .inv .1)
     (λ c. search needs)
     (λ c. search needs)
-    (λ c. let k = c .before .before .before .before .before in (omega (arith, c .before .before .before .before .loop-test .taken), sym (find-more _ _ _ (c .before .before .before .before .loop-test .taken) (sym (c .before .inhabited .ensures ∙ ap nonempty (c .before .before .rest .ensures)) ∙ c .if1 .left)) ∙ k .loop .inv .1))
-    (λ c. sym (find-none _ _ _ (c .loop-test .left)) ∙ c .before .loop .inv .1))
+    (λ c. let k = c .before .before .before .before .before in (omega (arith, c .before .before .before .before .loop-test .taken), sym (find-more registers functions _ _ _ (c .before .before .before .before .loop-test .taken) (sym (c .before .inhabited .ensures ∙ ap (nonempty registers) (c .before .before .rest .ensures)) ∙ c .if1 .left)) ∙ k .loop .inv .1))
+    (λ c. sym (find-none registers functions _ _ _ (c .loop-test .left)) ∙ c .before .loop .inv .1))

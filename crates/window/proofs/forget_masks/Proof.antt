@@ -1,4 +1,5 @@
 use borrow.Author.Needs.{needs}
+use Rattle.window.specs.Layout.{registers}
 use Rattle.window.specs.Adding.{forgotten-is}
 use Rattle.window.proofs.forget_masks.Statement.{statement}
 use Rattle.window.proofs.forget_masks.Tie as tie
@@ -9,4 +10,4 @@ forget-masks-spec = tie.close (tie.spec
     (λ c κs. search needs)
     (λ c κs. search needs)
     (λ c. search needs)
-    (λ c. let k = c .before .before .before .before .before .before in forgotten-is _ _ _ _ _ (k .before .single .ensures) (k .move-bits .ensures) (c .before .before .clear-column .ensures)))
+    (λ c. let k = c .before .before .before .before .before .before in forgotten-is registers _ _ _ _ _ (k .before .single .ensures) (k .move-bits .ensures) (c .before .before .clear-column .ensures)))

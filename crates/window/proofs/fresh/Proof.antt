@@ -2,10 +2,11 @@ use mathlib.Core.Path.{ap}
 use mathlib.Core.Bool.{false}
 use lib.ListN.{replicate}
 use borrow.Author.Needs.{needs}
+use Rattle.window.specs.Layout.{registers, lines, results}
 use Rattle.window.proofs.fresh.Statement.{statement}
 use Rattle.window.proofs.fresh.Tie as tie
 
 pub fresh-spec : {M : Type 1} → statement M
 fresh-spec = tie.close (tie.spec
     (λ c κs. search needs)
-    (λ c. ap (λ k. record { class = k; unequal = replicate 8 0; result = replicate 256 0; ever = replicate 32 0; mark = replicate 8 false; infeasible = false }) (c .own-classes .ensures)))
+    (λ c. ap (λ k. record { class = k; unequal = replicate registers 0; result = replicate results 0; ever = replicate lines 0; mark = replicate registers false; infeasible = false }) (c .own-classes .ensures)))

@@ -3,16 +3,17 @@ use Prim.Native.Nat.{_-_}
 use lib.ListN.{getD}
 use borrow.Author.Needs.{needs}
 use Rattle.base.specs.Masks.{has}
+use Rattle.window.specs.Layout.{registers}
 use Rattle.window.specs.Table.{Written, written-none, written-more, written-all}
 use Rattle.window.specs.Marks.{markedWith, mark-is}
 use Rattle.window.proofs.marks.Statement.{statement}
 use Rattle.window.proofs.marks.Tie as tie
 
 abbrev Inv-loop : tie.InvT-loop
-Inv-loop s mark next₀ i₀ next i = Written (λ k. getD mark k false || has s k) false 8 i next
+Inv-loop s mark next₀ i₀ next i = Written (λ k. getD mark k false || has s k) false registers i next
 
 abbrev μ-loop : tie.MeasureT-loop
-μ-loop s mark next₀ i₀ next i = 8 - i
+μ-loop s mark next₀ i₀ next i = registers - i
 
 pub marks-spec : {M : Type 1} → statement M
 unfolding markedWith

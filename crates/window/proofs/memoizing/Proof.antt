@@ -1,6 +1,6 @@
 use mathlib.Core.Path.{sym, _∙_}
 use borrow.Author.Needs.{needs}
-use Rattle.window.specs.Perform.{memoizingOf}
+use Rattle.window.specs.Performing.{memoizingOf}
 use Rattle.window.proofs.memoizing.Statement.{statement}
 use Rattle.window.proofs.memoizing.Tie as tie
 

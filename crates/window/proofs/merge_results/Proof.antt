@@ -2,6 +2,7 @@ use borrow.Author.Needs.{needs}
 use mathlib.Core.Path.{refl, ap, ap₂, _∙_}
 use lib.Bits.{bitOr}
 use lib.ListN.{length}
+use Rattle.window.specs.Layout.{registers, functions, lines}
 use Rattle.window.specs.Lines.{columns, rows, united-length}
 use Rattle.window.specs.Through.{columns-span, rows-span, merged-twice, results-merged, whole}
 use Rattle.window.proofs.merge_results.Statement.{statement}
@@ -19,9 +20,9 @@ merge-results-spec = tie.close (tie.spec
     (λ c. search needs)
     (λ c. let k = c .before .before .before .before .before .before .before .before .before .before .before .before .before .before .before .before .before .before .before .before in
     let p = k .before .before .before .pre in
-    let m = merged-twice columns _ _ _ (p .0) _ _ _ _ (columns-span _ _ (whole (k .before .before .before .args .t .now) (p .3)) refl) (p .2) (k .unite-column .ensures) (c .before .before .before .before .before .before .before .before .before .before .before .before .before .before .before .before .spread-column .ensures) in
-    results-merged _ _ _ _ _ _ _ _
+    let m = merged-twice (columns registers) _ _ _ (p .0) _ _ _ _ (columns-span registers _ _ (whole registers lines (k .before .before .before .args .t .now) (p .3)) refl) (p .2) (k .unite-column .ensures) (c .before .before .before .before .before .before .before .before .before .before .before .before .before .before .before .before .spread-column .ensures) in
+    results-merged registers _ _ _ _ _ _ _ _
     m
-    (merged-twice rows _ _ _ (p .0) _ _ _ _ (rows-span _ (ap length m ∙ united-length columns _ _ _ _ ∙ p .3)) (p .2) (c .before .before .before .before .before .before .before .before .before .before .before .before .unite-row .ensures) (c .before .before .before .before .before .before .before .before .spread-row .ensures))
+    (merged-twice (rows registers) _ _ _ (p .0) _ _ _ _ (rows-span registers functions _ (ap length m ∙ united-length (columns registers) _ _ _ _ ∙ p .3)) (p .2) (c .before .before .before .before .before .before .before .before .before .before .before .before .unite-row .ensures) (c .before .before .before .before .before .before .before .before .spread-row .ensures))
     (ap₂ bitOr (c .before .before .before .before .single .ensures) (c .before .before .before .single2 .ensures))
     (c .before .before .move-bits .ensures)))

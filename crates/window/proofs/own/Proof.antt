@@ -1,6 +1,6 @@
 use borrow.Author.Needs.{needs}
 use borrow.Author.Tests.{lt-ltb, le-ltb}
-use Rattle.window.specs.Perform.{ownOf}
+use Rattle.window.specs.Performing.{ownOf}
 use Rattle.window.proofs.own.Statement.{statement}
 use Rattle.window.proofs.own.Tie as tie
 

@@ -1,15 +1,16 @@
 use Prim.Native.Nat.{_-_}
 use borrow.Author.Needs.{needs}
+use Rattle.window.specs.Layout.{registers}
 use Rattle.window.specs.Table.{Written, written-none, written-more, written-all}
-use Rattle.window.specs.Perform.{ownOf}
+use Rattle.window.specs.Performing.{ownOf}
 use Rattle.window.proofs.own_classes.Statement.{statement}
 use Rattle.window.proofs.own_classes.Tie as tie
 
 abbrev Inv-loop : tie.InvT-loop
-Inv-loop registers next₀ i₀ next i = Written (ownOf registers) 0 8 i next
+Inv-loop count next₀ i₀ next i = Written (ownOf count) 0 registers i next
 
 abbrev μ-loop : tie.MeasureT-loop
-μ-loop registers next₀ i₀ next i = 8 - i
+μ-loop count next₀ i₀ next i = registers - i
 
 pub own-classes-spec : {M : Type 1} → statement M
 own-classes-spec = tie.close (tie.spec

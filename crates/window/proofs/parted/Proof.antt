@@ -2,17 +2,18 @@ use Prim.Native.Nat.{_-_}
 use lib.Bits.{bitOr}
 use lib.ListN.{getD}
 use borrow.Author.Needs.{needs}
+use Rattle.window.specs.Layout.{registers}
 use Rattle.window.specs.Table.{Written, written-none, written-more, written-all}
 use Rattle.window.specs.Adding.{partOf}
-use Rattle.window.specs.Perform.{partedOf, parted-is}
+use Rattle.window.specs.Performing.{partedOf, parted-is}
 use Rattle.window.proofs.parted.Statement.{statement}
 use Rattle.window.proofs.parted.Tie as tie
 
 abbrev Inv-loop : tie.InvT-loop
-Inv-loop one two unequal next₀ i₀ next i = Written (λ r. bitOr (bitOr (getD unequal r 0) (partOf one two r)) (partOf two one r)) 0 8 i next
+Inv-loop one two unequal next₀ i₀ next i = Written (λ r. bitOr (bitOr (getD unequal r 0) (partOf one two r)) (partOf two one r)) 0 registers i next
 
 abbrev μ-loop : tie.MeasureT-loop
-μ-loop one two unequal next₀ i₀ next i = 8 - i
+μ-loop one two unequal next₀ i₀ next i = registers - i
 
 pub parted-spec : {M : Type 1} → statement M
 unfolding partedOf

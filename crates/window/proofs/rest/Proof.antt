@@ -1,6 +1,7 @@
 use borrow.Author.Needs.{needs}
+use Rattle.window.specs.Layout.{registers, functions}
 use Rattle.window.specs.Bits.{minus}
-use Rattle.window.specs.Perform.{rest-some, rest-none}
+use Rattle.window.specs.Performing.{rest-some, rest-none}
 use Rattle.window.proofs.rest.Statement.{statement}
 use Rattle.window.proofs.rest.Tie as tie
 
@@ -10,5 +11,5 @@ rest-spec = tie.close (tie.spec
     (λ c κs. search needs)
     (λ c. search needs)
     (λ c. search needs)
-    (λ c. rest-some _ _ _ (c .before .before .before .name .ensures) (c .before .before .if1 .taken))
-    (λ c. rest-none _ _ _ (c .before .name .ensures) (c .if1 .left)))
+    (λ c. rest-some registers functions _ _ _ (c .before .before .before .name .ensures) (c .before .before .if1 .taken))
+    (λ c. rest-none registers functions _ _ _ (c .before .name .ensures) (c .if1 .left)))

@@ -1,4 +1,4 @@
-use Rattle.window.specs.Perform.{settledOf}
+use Rattle.window.specs.Performing.{settledOf}
 use Rattle.window.proofs.settled.Statement.{statement}
 use Rattle.window.proofs.settled.Tie as tie
 

@@ -4,16 +4,18 @@ use Prim.Native.Nat.{_-_, _≤_}
 use lib.ListN.{length}
 use native.Mathlib.Omega.{arith}
 use borrow.Author.Needs.{needs}
-use Rattle.window.specs.Lines.{columns, until, united, united-length}
+use Rattle.window.specs.Layout.{registers}
+use Rattle.window.specs.Bits.{until}
+use Rattle.window.specs.Lines.{columns, united, united-length}
 use Rattle.window.specs.Through.{columns-span, spread-none, spread-more, spread-skip, spread-all}
 use Rattle.window.proofs.spread_column.Statement.{statement}
 use Rattle.window.proofs.spread_column.Tie as tie
 
 abbrev Inv-loop : tie.InvT-loop
-Inv-loop t₀ to a r₀ t r = (r ≤ 8) × (t ≡ united columns (until columns to r) a a t₀)
+Inv-loop t₀ to a r₀ t r = (r ≤ registers) × (t ≡ united (columns registers) (until to r) a a t₀)
 
 abbrev μ-loop : tie.MeasureT-loop
-μ-loop t₀ to a r₀ t r = 8 - r
+μ-loop t₀ to a r₀ t r = registers - r
 
 loop-again : tie.Need-loop-again Inv-loop μ-loop
 loop-again c = (
@@ -21,8 +23,8 @@ loop-again c = (
   let p = c .before .before .before .before .before .pre in
       let l = c .before .before .before .loop .inv .1 in
       ⊎-elim
-      (λ (i, _, u, _, _, e). e ∙ spread-more columns _ _ _ (p .0) _ _ _ _ (columns-span _ _ (p .1) refl) l (sym (c .before .holds .ensures) ∙ i .taken) (u .ensures))
-      (λ (i, e). e ∙ spread-skip columns 0 _ _ (p .0) _ _ _ l (sym (c .before .holds .ensures) ∙ i .left))
+      (λ (i, _, u, _, _, e). e ∙ spread-more (columns registers) _ _ _ (p .0) _ _ _ _ (columns-span registers _ _ (p .1) refl) l (sym (c .before .holds .ensures) ∙ i .taken) (u .ensures))
+      (λ (i, e). e ∙ spread-skip (columns registers) 0 _ _ (p .0) _ _ _ l (sym (c .before .holds .ensures) ∙ i .left))
       (c .if1 .came),
 )
 
@@ -30,11 +32,11 @@ pub spread-column-spec : {M : Type 1} → statement M
 spread-column-spec = tie.close (tie.spec
     Inv-loop
     μ-loop
-    (λ c. (search needs, spread-none columns 0 _ _ (c .before .pre .0) _))
+    (λ c. (search needs, spread-none (columns registers) 0 _ _ (c .before .pre .0) _))
     (λ c κs. search needs)
-    (λ c κs. let k = c .before .before .before .before in let e = ap length (k .loop .inv .1) ∙ united-length columns _ _ _ _ in (search needs, search needs, search needs, omega (arith, e, k .before .before .pre .1)))
+    (λ c κs. let k = c .before .before .before .before in let e = ap length (k .loop .inv .1) ∙ united-length (columns registers) _ _ _ _ in (search needs, search needs, search needs, omega (arith, e, k .before .before .pre .1)))
     (λ c. search needs)
     (λ c. search needs)
     loop-again
-    (λ c. ap length (c .before .loop .inv .1) ∙ united-length columns _ _ _ _)
-    (λ c. spread-all columns 0 _ _ (c .before .before .before .pre .0) _ _ _ (c .before .loop .inv .1) (c .loop-test .left)))
+    (λ c. ap length (c .before .loop .inv .1) ∙ united-length (columns registers) _ _ _ _)
+    (λ c. spread-all (columns registers) 0 _ _ (c .before .before .before .pre .0) _ _ _ (c .before .loop .inv .1) (c .loop-test .left)))

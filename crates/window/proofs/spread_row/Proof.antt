@@ -4,16 +4,18 @@ use Prim.Native.Nat.{_-_, _≤_}
 use lib.ListN.{length}
 use native.Mathlib.Omega.{arith}
 use borrow.Author.Needs.{needs}
-use Rattle.window.specs.Lines.{rows, until, united, united-length}
+use Rattle.window.specs.Layout.{registers, functions}
+use Rattle.window.specs.Bits.{until}
+use Rattle.window.specs.Lines.{rows, united, united-length}
 use Rattle.window.specs.Through.{rows-span, spread-none, spread-more, spread-skip, spread-all}
 use Rattle.window.proofs.spread_row.Statement.{statement}
 use Rattle.window.proofs.spread_row.Tie as tie
 
 abbrev Inv-loop : tie.InvT-loop
-Inv-loop t₀ to a r₀ t r = (r ≤ 8) × (t ≡ united rows (until rows to r) a a t₀)
+Inv-loop t₀ to a r₀ t r = (r ≤ registers) × (t ≡ united (rows registers) (until to r) a a t₀)
 
 abbrev μ-loop : tie.MeasureT-loop
-μ-loop t₀ to a r₀ t r = 8 - r
+μ-loop t₀ to a r₀ t r = registers - r
 
 loop-again : tie.Need-loop-again Inv-loop μ-loop
 loop-again c = (
@@ -21,8 +23,8 @@ loop-again c = (
   let p = c .before .before .before .before .before .pre in
       let l = c .before .before .before .loop .inv .1 in
       ⊎-elim
-      (λ (i, _, u, _, _, e). e ∙ spread-more rows _ _ _ (p .0) _ _ _ _ (rows-span _ (p .1)) l (sym (c .before .holds .ensures) ∙ i .taken) (u .ensures))
-      (λ (i, e). e ∙ spread-skip rows 0 _ _ (p .0) _ _ _ l (sym (c .before .holds .ensures) ∙ i .left))
+      (λ (i, _, u, _, _, e). e ∙ spread-more (rows registers) _ _ _ (p .0) _ _ _ _ (rows-span registers functions _ (p .1)) l (sym (c .before .holds .ensures) ∙ i .taken) (u .ensures))
+      (λ (i, e). e ∙ spread-skip (rows registers) 0 _ _ (p .0) _ _ _ l (sym (c .before .holds .ensures) ∙ i .left))
       (c .if1 .came),
 )
 
@@ -30,11 +32,11 @@ pub spread-row-spec : {M : Type 1} → statement M
 spread-row-spec = tie.close (tie.spec
     Inv-loop
     μ-loop
-    (λ c. (search needs, spread-none rows 0 _ _ (c .before .pre .0) _))
+    (λ c. (search needs, spread-none (rows registers) 0 _ _ (c .before .pre .0) _))
     (λ c κs. search needs)
-    (λ c κs. let k = c .before .before .before .before in let e = ap length (k .loop .inv .1) ∙ united-length rows _ _ _ _ in (search needs, search needs, search needs, omega (arith, e, k .before .before .pre .1)))
+    (λ c κs. let k = c .before .before .before .before in let e = ap length (k .loop .inv .1) ∙ united-length (rows registers) _ _ _ _ in (search needs, search needs, search needs, omega (arith, e, k .before .before .pre .1)))
     (λ c. search needs)
     (λ c. search needs)
     loop-again
-    (λ c. ap length (c .before .loop .inv .1) ∙ united-length rows _ _ _ _)
-    (λ c. spread-all rows 0 _ _ (c .before .before .before .pre .0) _ _ _ (c .before .loop .inv .1) (c .loop-test .left)))
+    (λ c. ap length (c .before .loop .inv .1) ∙ united-length (rows registers) _ _ _ _)
+    (λ c. spread-all (rows registers) 0 _ _ (c .before .before .before .pre .0) _ _ _ (c .before .loop .inv .1) (c .loop-test .left)))

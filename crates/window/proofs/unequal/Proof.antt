@@ -1,5 +1,6 @@
 use borrow.Author.Needs.{needs}
-use Rattle.window.specs.Perform.{unequal-is}
+use Rattle.window.specs.Layout.{registers, functions}
+use Rattle.window.specs.Performing.{unequal-is}
 use Rattle.window.proofs.unequal.Statement.{statement}
 use Rattle.window.proofs.unequal.Tie as tie
 
@@ -10,4 +11,4 @@ unequal-spec = tie.close (tie.spec
     (λ c κs. search needs)
     (λ c κs. search needs)
     (λ c κs. search needs)
-    (λ c. unequal-is _ _ _ _ _ _ (c .before .before .parted .ensures) (c .before .holds .ensures) (c .settled .ensures)))
+    (λ c. unequal-is registers functions _ _ _ _ _ _ (c .before .before .parted .ensures) (c .before .holds .ensures) (c .settled .ensures)))

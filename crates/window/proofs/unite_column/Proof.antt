@@ -4,13 +4,14 @@ use lib.Dec.{eqb}
 use lib.ListN.{length}
 use native.Mathlib.Omega.{arith}
 use borrow.Author.Needs.{needs}
+use Rattle.window.specs.Layout.{registers}
 use Rattle.window.specs.Lines.{columns, Gone, gone-none, unitedAt, unite-more, united-all}
 use Rattle.window.specs.Through.{columns-span}
 use Rattle.window.proofs.unite_column.Statement.{statement}
 use Rattle.window.proofs.unite_column.Tie as tie
 
 abbrev Inv-loop : tie.InvT-loop
-Inv-loop t₀ r a b n j₀ t j = (n ≡ length t₀ / 8) × (j ≤ n) × Gone columns (unitedAt columns (λ s. eqb s r) a b t₀) r t₀ j t
+Inv-loop t₀ r a b n j₀ t j = (n ≡ length t₀ / registers) × (j ≤ n) × Gone (columns registers) (unitedAt (columns registers) (λ s. eqb s r) a b t₀) r t₀ j t
 
 abbrev μ-loop : tie.MeasureT-loop
 μ-loop t₀ r a b n j₀ t j = n - j
@@ -32,6 +33,6 @@ unite-column-spec = tie.close (tie.spec
     (λ c. search needs)
     (λ c. search needs)
     (λ c. let k = c .before .before .before in let l = c .before .before .loop-test .taken in
-    (k .loop .inv .0, omega arith, unite-more columns _ _ _ _ _ _ _ (columns-span _ _ (k .before .pre .3) (k .loop .inv .0)) (k .before .pre .0) (k .before .pre .1) (k .before .pre .2) l (k .loop .inv .2)))
+    (k .loop .inv .0, omega arith, unite-more (columns registers) _ _ _ _ _ _ _ (columns-span registers _ _ (k .before .pre .3) (k .loop .inv .0)) (k .before .pre .0) (k .before .pre .1) (k .before .pre .2) l (k .loop .inv .2)))
     (λ c. c .before .loop .inv .2 .long)
-    (λ c. let k = c .before in united-all columns _ _ _ _ _ _ _ (columns-span _ _ (k .before .pre .3) (k .loop .inv .0)) (c .loop-test .left) (k .loop .inv .2)))
+    (λ c. let k = c .before in united-all (columns registers) _ _ _ _ _ _ _ (columns-span registers _ _ (k .before .pre .3) (k .loop .inv .0)) (c .loop-test .left) (k .loop .inv .2)))

@@ -9,7 +9,7 @@ mod model;
 mod monitor;
 #[cfg(feature = "read")]
 mod read;
-#[cfg(all(feature = "monitor", feature = "model", feature = "read"))]
+#[cfg(all(feature = "monitor", feature = "model", feature = "read", feature = "verdict"))]
 mod smoke;
 #[cfg(feature = "verdict")]
 mod verdict;

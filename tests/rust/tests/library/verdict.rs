@@ -1,12 +1,21 @@
 //! `fadzgime_verdict`.
 
+use std::collections::BTreeMap;
+
 use oracle::damage::damaged_text;
+use oracle::enumeration::{Enumerated, enumerate};
+use oracle::examples::example_macros;
 use oracle::library::{self, VERDICT_ANSWER};
 use oracle::random::{Random, cases};
 use oracle::random_macro::{macro_text, random_macro};
-use oracle::verdict::{Event, verdict};
+use oracle::reader::read_macro;
+use oracle::refusal::Refusal;
+use oracle::verdict::{Answer, Event, MAX_PAIRS, PAIR_BYTES, verdict};
 
 use crate::lent::Lent;
+
+/// The largest table that is of use.
+const MOST: usize = MAX_PAIRS * PAIR_BYTES;
 
 /// What is expected: the numbers, the bytes written, whether the table is cleared.
 struct Expected {
@@ -15,34 +24,37 @@ struct Expected {
     searched: bool,
 }
 
-fn expected(text: &[u8], table: usize, room: usize) -> Expected {
-    match verdict(text, table, room) {
-        Err(refusal) => Expected {
-            answer: [u64::from(refusal.number), refusal.place as u64, 0, 0, 0],
-            written: vec![],
-            searched: refusal.number == 14 || refusal.number == 6,
-        },
-        Ok(answer) => {
-            let word = match answer.verdict.event {
-                None => 0,
-                Some(Event::Fail(_)) => 1,
-                Some(Event::Incoherent(_)) => 2,
-            };
-            let written = answer.pack();
-            let numbers = [0, 0, word, answer.verdict.pairs as u64, written.len() as u64];
-            Expected { answer: numbers, written, searched: true }
+impl Expected {
+    /// What document 01 asks for an answer.
+    fn of(answer: Result<Answer, Refusal>) -> Expected {
+        match answer {
+            Err(refusal) => Expected {
+                answer: [u64::from(refusal.number), refusal.place as u64, 0, 0, 0],
+                written: vec![],
+                searched: refusal.number == 14 || refusal.number == 6,
+            },
+            Ok(answer) => {
+                let (word, letters) = match &answer.verdict.event {
+                    None => (0, 0),
+                    Some(Event::Fail(letters)) => (1, letters.len()),
+                    Some(Event::Incoherent(letters)) => (2, letters.len()),
+                };
+                let numbers = [0, 0, word, answer.verdict.pairs as u64, letters as u64];
+                Expected { answer: numbers, written: answer.pack(), searched: true }
+            }
         }
     }
 }
 
-fn check(bytes: &[u8], table_length: usize, room: usize) {
-    let (mut text, mut table) = (Lent::holding(bytes), Lent::new(table_length));
+/// Asks the library and compares its numbers and every lent byte.
+fn check_against(bytes: &[u8], table: &mut Lent<u8>, room: usize, expected: &Expected) {
+    let mut text = Lent::holding(bytes);
     let (mut out, mut answer) = (Lent::new(room), Lent::new(VERDICT_ANSWER + 2));
+    let length = table.lend().len();
     library::verdict(text.lend(), table.lend(), out.lend(), answer.lend());
     text.assert_as_lent();
-    let expected = expected(bytes, table_length, room);
     let shown = String::from_utf8_lossy(bytes);
-    assert_eq!(answer.look()[..VERDICT_ANSWER], expected.answer, "table {table_length} room {room}: {shown}");
+    assert_eq!(answer.look()[..VERDICT_ANSWER], expected.answer, "table {length} room {room}: {shown}");
     answer.assert_begins(&expected.answer);
     out.assert_begins(&expected.written);
     if expected.searched {
@@ -52,45 +64,157 @@ fn check(bytes: &[u8], table_length: usize, room: usize) {
     }
 }
 
-/// Tables and outputs that just suffice, and that do not.
-fn check_with_sizes(random: &mut Random, text: &[u8]) {
-    let (pairs, length) = match verdict(text, usize::MAX, usize::MAX) {
-        Ok(answer) => (answer.verdict.pairs, answer.pack().len()),
-        Err(_) => (1024, 0),
-    };
-    let table = match random.below(6) {
-        0 => 192 * pairs,
-        1 => (192 * pairs).saturating_sub(1 + random.below(192)),
-        2 => random.below(192 * pairs + 192),
-        3 => 192 * pairs + random.below(192),
+/// Compares with the oracle; gives what was answered.
+fn check(bytes: &[u8], table: usize, room: usize) -> [u64; VERDICT_ANSWER] {
+    let expected = Expected::of(verdict(bytes, table, room));
+    check_against(bytes, &mut Lent::new(table), room, &expected);
+    expected.answer
+}
+
+/// An answer in a word.
+fn outcome(answer: [u64; VERDICT_ANSWER]) -> String {
+    match answer {
+        [0, _, 0, ..] => "pass".to_string(),
+        [0, _, 1, ..] => "fail".to_string(),
+        [0, _, 2, ..] => "incoherent".to_string(),
+        [number, ..] => format!("refused {number}"),
+    }
+}
+
+/// A table for a macro of so many pairs: one that just suffices, that just does not,
+/// any smaller one, one that is no multiple of a pair's bytes, or a large one.
+fn some_table(random: &mut Random, pairs: usize) -> usize {
+    let exact = PAIR_BYTES * pairs;
+    match random.below(8) {
+        0 => exact,
+        1 => exact.saturating_sub(1),
+        2 => exact.saturating_sub(1 + random.below(PAIR_BYTES)),
+        3 => random.below(exact + PAIR_BYTES),
+        4 => exact + random.below(PAIR_BYTES),
         _ => 65_536,
-    };
-    let room = match random.below(6) {
+    }
+}
+
+/// An output for an answer of so many bytes.
+fn some_room(random: &mut Random, length: usize) -> usize {
+    match random.below(6) {
         0 => length,
         1 => length.saturating_sub(1),
         2 => random.below(length + 1),
         _ => length + random.below(40),
+    }
+}
+
+fn check_with_sizes(random: &mut Random, text: &[u8]) -> [u64; VERDICT_ANSWER] {
+    let (pairs, length) = match verdict(text, usize::MAX, usize::MAX) {
+        Ok(answer) => (answer.verdict.pairs, answer.pack().len()),
+        Err(_) => (MAX_PAIRS, 0),
     };
-    check(text, table, room);
+    let (table, room) = (some_table(random, pairs), some_room(random, length));
+    check(text, table, room)
+}
+
+fn random_text(random: &mut Random, points: usize) -> Vec<u8> {
+    let read = random_macro(random, points);
+    macro_text(random, &read)
 }
 
 #[test]
 fn random_macros() {
-    for seed in 0..cases(10_000) {
+    let mut spread: BTreeMap<String, usize> = BTreeMap::new();
+    for seed in 0..cases(20_000) {
         let random = &mut Random::new(seed);
         let points = *random.pick(&[8, 24, 60]);
-        let read = random_macro(random, points);
-        let text = macro_text(random, &read);
-        check_with_sizes(random, &text);
+        let text = random_text(random, points);
+        *spread.entry(outcome(check_with_sizes(random, &text))).or_default() += 1;
     }
+    println!("random macros: {spread:?}");
+    let wanted = ["pass", "fail", "incoherent", "refused 6", "refused 14"];
+    let often = |word: &&str| spread.get(*word).is_some_and(|&count| count >= 200);
+    assert!(wanted.iter().all(often) || cases(10) < 10, "{spread:?}");
 }
 
 #[test]
 fn damaged_macros() {
+    let mut spread: BTreeMap<String, usize> = BTreeMap::new();
     for seed in 0..cases(10_000) {
         let random = &mut Random::new(seed);
         let text = damaged_text(random);
-        check(&text, 2_000, 100);
+        let table = *random.pick(&[0, 191, 192, 2_000]);
+        *spread.entry(outcome(check(&text, table, 100))).or_default() += 1;
+    }
+    println!("damaged macros: {spread:?}");
+    let often = |number: u8| spread.get(&format!("refused {number}")).is_some_and(|&count| count >= 50);
+    assert!((7..=14).all(often) || cases(10) < 10, "{spread:?}");
+}
+
+/// Plain enumeration of executions, no two of them merged, up to a bound.
+#[test]
+fn enumerated_executions() {
+    let (mut whole, mut bounded) = (0, 0);
+    for seed in 0..cases(4_000) {
+        let random = &mut Random::new(seed + 1_000_000);
+        let text = random_text(random, 14);
+        let read = read_macro(&text).expect("reads");
+        match enumerate(&read, 300) {
+            Enumerated::Whole(verdict) => {
+                whole += 1;
+                let answer = Answer::of(read, verdict);
+                let (pairs, length) = (answer.verdict.pairs, answer.pack().len());
+                let table = &mut Lent::new(pairs * PAIR_BYTES);
+                check_against(&text, table, length, &Expected::of(Ok(answer)));
+            }
+            Enumerated::Bounded { length, pairs } => {
+                bounded += 1;
+                let (mut table, mut out, mut answer) = (vec![0; MOST], vec![0; 6_000], [0; VERDICT_ANSWER]);
+                library::verdict(&text, &mut table, &mut out, &mut answer);
+                let [refusal, _, word, found, letters] = answer;
+                assert!(refusal == 14 || refusal == 0 && found >= pairs as u64, "{read:?}");
+                assert!(word == 0 || letters > length as u64, "{read:?}");
+            }
+        }
+    }
+    println!("enumerated: {whole} to the end, {bounded} up to the bound");
+    assert!(whole > 2_000 && bounded > 200 || cases(10) < 10);
+}
+
+/// Macros of each outcome, all tables of up to three pairs' bytes and all outputs up to
+/// one byte more than is needed.
+#[test]
+fn every_size() {
+    let texts: [&[u8]; 4] = [
+        b"vars x y; funs n/1; while x != y { x := n(x); } assert x = y;",
+        b"vars x y z; funs f/2; z := f(x,y); assert x = z;",
+        b"vars x y z; funs f/1; z := f(x); z := f(z); assume x = y;",
+        b"vars x; skip;",
+    ];
+    for text in texts {
+        let length = verdict(text, MOST, usize::MAX).expect("fits").pack().len();
+        for table in (0..=3 * PAIR_BYTES + 1).filter(|bytes| [0, 1, 191].contains(&(bytes % PAIR_BYTES))) {
+            for room in 0..=length + 1 {
+                check(text, table, room);
+            }
+        }
+        for table in 0..=3 * PAIR_BYTES + 1 {
+            check(text, table, length);
+        }
+    }
+}
+
+/// What the table holds before does not matter.
+#[test]
+fn used_tables() {
+    for seed in 0..cases(500) {
+        let random = &mut Random::new(seed + 2_000_000);
+        let text = random_text(random, 24);
+        let expected = Expected::of(verdict(&text, 20_000, 2_000));
+        for fill in [0x00, 0x01, 0xff] {
+            check_against(&text, &mut Lent::holding(&[fill; 20_000]), 2_000, &expected);
+        }
+        // An earlier search in the same table.
+        let table = &mut Lent::new(20_000);
+        library::verdict(&random_text(random, 24), table.lend(), &mut [0; 9], &mut [0; VERDICT_ANSWER]);
+        check_against(&text, table, 2_000, &expected);
     }
 }
 
@@ -109,8 +233,7 @@ fn doubling(registers: usize, tests: usize, front: usize) -> Vec<u8> {
 /// N is at most 1,024, and full is given exactly when the count passes it.
 #[test]
 fn largest_tables() {
-    let most = 1024 * 192;
-    for table in [most - 1, most, most + 1, most + 192, 2 * most] {
+    for table in [MOST - 1, MOST, MOST + 1, MOST + PAIR_BYTES, 2 * MOST] {
         check(&doubling(8, 12, 0), table, 100);
     }
     let count =
@@ -118,10 +241,60 @@ fn largest_tables() {
     let pairs = count(0).expect("fits");
     for total in [1023, 1024, 1025] {
         let front = total - pairs;
-        assert_eq!(count(front).ok(), (total <= 1024).then_some(total));
-        for table in [most - 193, most - 192, most - 1, most, most + 500] {
+        assert_eq!(count(front).ok(), (total <= MAX_PAIRS).then_some(total));
+        for table in [MOST - 193, MOST - 192, MOST - 1, MOST, MOST + 500] {
             check(&doubling(6, 13, front), table, 100);
         }
+    }
+}
+
+/// Up to 256 points in a row, the event at the last.
+#[test]
+fn many_points() {
+    for front in [100, 200, 254, 255] {
+        for last in ["assert a=b;", "assert a=a;"] {
+            let text = format!("vars a b;{}{last}", "a:=a;".repeat(front));
+            for room in [2 * front + 11, 2 * front + 12, 2 * front + 13] {
+                check(text.as_bytes(), MOST, room);
+            }
+        }
+    }
+}
+
+/// A loop that counts in so many binary digits, each a register that holds one of two
+/// values; it can be left only when the last digit is set.
+fn counter(digits: usize) -> Vec<u8> {
+    let names = &["a", "b", "c", "d", "e", "g"][..digits];
+    let last = names[digits - 1];
+    let step = names.iter().rev().fold(String::new(), |carry, digit| {
+        if carry.is_empty() {
+            return format!("{digit}:=t;");
+        }
+        format!("if {digit}=f{{{digit}:=t;}}else{{{digit}:=f;{carry}}}")
+    });
+    let start: String = names.iter().map(|digit| format!("{digit}:=f;")).collect();
+    format!("vars t f {};assume t!=f;{start}while {last}=f{{{step}}}assert a!=f;", names.join(" "))
+        .into_bytes()
+}
+
+/// The first event comes after many turns of a loop.
+#[test]
+fn many_turns() {
+    for digits in 2..=6 {
+        let text = counter(digits);
+        let [refusal, _, word, _, letters] = check(&text, MOST, 4_096);
+        println!("{digits} digits: refusal {refusal}, verdict {word}, {letters} letters");
+        assert!(refusal == 14 || word == 1 && letters > 3 << (digits - 1));
+    }
+}
+
+/// The macros of `examples/`.
+#[test]
+fn examples() {
+    let examples = example_macros();
+    assert!(examples.len() > 10);
+    for text in examples {
+        check(&text, 65_536, 4_096);
     }
 }
 
@@ -129,18 +302,22 @@ fn largest_tables() {
 fn no_table() {
     check(b"vars x; skip;", 0, 0);
     check(b"vars x; x := x;", 0, 0);
+    check(b"vars x; x := x;", 191, 0);
     check(b"vars x; x := x;", 192, 0);
     check(b"vars x; skip;", 500, 20);
     check(b"vars", 500, 20);
 }
 
+/// Where the answer is too short, nothing is done.
 #[test]
 fn short_answers() {
     for length in 0..VERDICT_ANSWER {
-        let (mut table, mut out, mut answer) = (Lent::new(400), Lent::new(40), Lent::new(length));
-        library::verdict(b"vars x y; assert x = y;", table.lend(), out.lend(), answer.lend());
-        answer.assert_as_lent();
-        table.look();
-        out.look();
+        for text in ["vars x y; assert x = y;", "vars"] {
+            let (mut table, mut out, mut answer) = (Lent::new(400), Lent::new(40), Lent::new(length));
+            library::verdict(text.as_bytes(), table.lend(), out.lend(), answer.lend());
+            answer.assert_as_lent();
+            table.assert_as_lent();
+            out.assert_as_lent();
+        }
     }
 }

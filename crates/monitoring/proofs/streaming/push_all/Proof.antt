@@ -1,4 +1,4 @@
-use mathlib.Core.Path.{_≡_, refl}
+use mathlib.Core.Path.{_≡_, refl, sym, _∙_}
 use Prim.Native.Nat.{_-_, _≤_}
 use lib.ListN.{length, drop}
 use borrow.Author.Needs.{needs}
@@ -16,6 +16,15 @@ abbrev μ-loop : tie.MeasureT-loop
 loop-holds : tie.Need-loop-holds Inv-loop μ-loop
 loop-holds c = (search needs, refl)
 
+at-letter-requires : tie.Need-at-letter-requires Inv-loop μ-loop
+at-letter-requires c κs = search needs
+
+push-letters-requires : tie.Need-push-letters-requires Inv-loop μ-loop
+push-letters-requires c κs = (sym (c .before .at-letter .ensures) ∙ c .if1 .taken, c .before .before .loop-test .taken)
+
+returns : tie.Need-returns Inv-loop μ-loop
+returns c = c .push-letters .ensures ∙ c .before .before .before .before .loop .inv .1
+
 shared-slice-read-push : tie.Need-shared-slice-read-push Inv-loop μ-loop
 shared-slice-read-push c = search needs
 
@@ -29,10 +38,24 @@ loop-less : tie.Need-loop-less Inv-loop μ-loop
 loop-less c = search needs
 
 loop-again : tie.Need-loop-again Inv-loop μ-loop
-loop-again c = (search needs, pushed-more _ _ _ _ _ (c .before .before .loop-test .taken) (c .before .before .before .loop .inv .1) (c .push .ensures))
+loop-again c = (search needs, pushed-more _ _ _ _ _ (c .before .before .before .before .loop-test .taken) (c .before .before .before .before .before .loop .inv .1) (c .push .ensures))
 
-returns : tie.Need-returns Inv-loop μ-loop
-returns c = pushed-done _ _ _ _ (c .loop-test .left) (c .before .loop .inv .1)
+returns-2 : tie.Need-returns-2 Inv-loop μ-loop
+returns-2 c = pushed-done _ _ _ _ (c .loop-test .left) (c .before .loop .inv .1)
 
 pub push-all-spec : {M : Type 1} → statement M
-push-all-spec = tie.close (tie.spec Inv-loop μ-loop loop-holds shared-slice-read-push push-requires add-i loop-less loop-again returns)
+push-all-spec =
+    tie.close
+    (tie.spec
+    Inv-loop
+    μ-loop
+    loop-holds
+    at-letter-requires
+    push-letters-requires
+    returns
+    shared-slice-read-push
+    push-requires
+    add-i
+    loop-less
+    loop-again
+    returns-2)

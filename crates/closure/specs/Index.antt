@@ -1,0 +1,167 @@
+-- An index of the applications by signature. A signature is one number; its bucket is that number modulo 1,021. `head` has the application
+-- that was last entered in each bucket, and `link` leads from each to the one before it. A number below `registers` is no application, and ends a chain.
+use mathlib.Core.Path.{_≡_, refl, sym, _∙_, ap, subst}
+use mathlib.Core.Logic.{_≢_}
+use mathlib.Core.List.{List}
+use Prim.Native.Nat.{ℕ, suc, _+_, _*_, _≤_, _<_, _%_}
+use native.Mathlib.Omega.{arith}
+use lib.Dec.{eqb}
+use lib.ListN.{length, getD, set, length-set}
+use lib.Seq.{getD-set-same, getD-set-other}
+use borrow.Author.Tests.{eqb-true, eqb-false}
+use Rattle.base.specs.Choice.{byTest}
+
+-- The signature of f of two arguments of the classes p and q. The factor 1,056 · 4 is above 1,032 · 4, so that different signatures have different numbers.
+unfoldable pub signatureOf : (f p q : ℕ) → ℕ
+signatureOf f p q = p * 4224 + q * 4 + f
+
+pub signature-same : {f p q g r s : ℕ} → f < 4 → g < 4 → q < 1032 → s < 1032 → signatureOf f p q ≡ signatureOf g r s → (f ≡ g) × (p ≡ r) × (q ≡ s)
+unfolding signatureOf
+signature-same hf hg hq hs e = (omega arith, omega arith, omega arith)
+
+-- The chain from i on has the application o.
+pub data Holds (registers : ℕ) (link : List ℕ) : (i o : ℕ) → Type 0 where
+  here : {i : ℕ} → registers ≤ i → Holds registers link i i
+  there : {i o : ℕ} → registers ≤ i → Holds registers link (getD link i 0) o → Holds registers link i o
+
+-- Chains go down.
+pub record Down (link : List ℕ) : Type 0 where
+  pub lower : (i : ℕ) → 1 ≤ i → getD link i 0 < i
+
+pub link-less : (registers : ℕ) (link : List ℕ) (i j : ℕ) → Down link → 1 ≤ registers → registers ≤ i → j ≡ getD link i 0 → j < i
+link-less registers link i j w s l e = let h = w .lower i (omega arith) in omega arith
+
+-- Chains go down, and have numbers below n.
+pub record Chains (n : ℕ) (head link : List ℕ) : Type 0 where
+  pub head-long : length head ≡ 1021
+  pub link-long : length link ≡ 1032
+  pub heads : (b : ℕ) → getD head b 0 < n
+  pub links : Down link
+
+pub chain-below : (n : ℕ) (head link : List ℕ) (b v : ℕ) → Chains n head link → v ≡ getD head b 0 → v < n
+chain-below n head link b v w e = let h = w .heads b in omega arith
+
+-- For each of the applications below n, its bucket has one with its signature.
+unfoldable pub Complete : (signature : ℕ → ℕ) (registers n : ℕ) (head link : List ℕ) → Type 0
+Complete signature registers n head link =
+    (k : ℕ) → registers ≤ k → k < n → (o : ℕ) × (o < n) × Holds registers link (getD head (signature k % 1021) 0) o × (signature o ≡ signature k)
+
+-- r is an application with the signature c in the chain from i on, or below `registers` where there is none.
+pub record Found (signature : ℕ → ℕ) (registers n : ℕ) (link : List ℕ) (i c r : ℕ) : Type 0 where
+  pub below : r < n
+  pub hit : registers ≤ r → (signature r ≡ c) × Holds registers link i r
+  pub miss : r < registers → (o : ℕ) → Holds registers link i o → signature o ≢ c
+
+-- r is an application before n with the signature c; or it is n, and n was entered for that signature.
+pub record Entered (signature : ℕ → ℕ) (registers n c : ℕ) (head link : List ℕ) (r : ℕ) (head′ link′ : List ℕ) : Type 0 where
+  pub least : registers ≤ r
+  pub most : r ≤ n
+  pub hit : r < n → signature r ≡ c
+  pub fresh : r ≡ n → Complete signature registers n head link → (k : ℕ) → registers ≤ k → k < n → signature k ≢ c
+  pub chains : Chains (suc n) head′ link′
+  pub completes : (signature′ : ℕ → ℕ) → ((k : ℕ) → k < n → signature′ k ≡ signature k) → signature′ n ≡ c → Complete signature registers n head link → Complete signature′ registers (suc n) head′ link′
+
+-- ---- the loop of `find`
+module _ (signature : ℕ → ℕ) (registers : ℕ) (link : List ℕ) (start c : ℕ) where
+  -- At i, all that is left of the chain is the chain from i on, and nothing with the signature c was passed.
+  pub record Finding (i : ℕ) : Type 0 where
+    pub back : (o : ℕ) → Holds registers link i o → Holds registers link start o
+    pub on : (o : ℕ) → Holds registers link start o → signature o ≡ c → Holds registers link i o
+
+  pub finding-start : Finding start
+  finding-start = record { back = λ o h. h; on = λ o h e. h }
+
+  past : (i o : ℕ) → signature i ≢ c → signature o ≡ c → Holds registers link i o → Holds registers link (getD link i 0) o
+  past i o d e (here l) = absurd (d e)
+  past i o d e (there l h) = h
+
+  pub finding-turn : (i s j : ℕ) → Finding i → registers ≤ i → s ≡ signature i → s ≢ c → j ≡ getD link i 0 → Finding j
+  finding-turn i s j f l p d e = rw e (record {
+    back = λ o h. f .back o (there l h);
+    on = λ o h q. past i o (λ z. d (p ∙ z)) q (f .on o h q);
+  })
+
+  pub finding-hit : (n i s : ℕ) → Finding i → i < n → registers ≤ i → s ≡ signature i → s ≡ c → Found signature registers n link start c i
+  finding-hit n i s f h l p e = record { below = h; hit = λ _. (sym p ∙ e, f .back i (here l)); miss = λ z. absurd (omega arith) }
+
+  ended : (i o : ℕ) → i < registers → Holds registers link i o → ⊥
+  ended i o h (here l) = omega arith
+  ended i o h (there l k) = omega arith
+
+  pub finding-end : (n i : ℕ) → Finding i → i < n → i < registers → Found signature registers n link start c i
+  finding-end n i f h l = record { below = h; hit = λ z. absurd (omega arith); miss = λ z o k e. ended i o l (f .on o k e) }
+
+-- ---- an entry
+module _ (signature : ℕ → ℕ) (registers n c : ℕ) (head link : List ℕ) (w : Chains n head link) (some : 1 ≤ registers) (more : registers ≤ n) (within : n < 1032) where
+  more-chains : Chains (suc n) head link
+  more-chains = record { head-long = w .head-long; link-long = w .link-long; heads = λ b. let h = w .heads b in omega arith; links = w .links }
+
+  -- what a number below n says of all up to n
+  upTo : (P : ℕ → Type 0) → ((k : ℕ) → k < n → P k) → P n → (k : ℕ) → k < suc n → P k
+  upTo P f p k h = byTest (eqb k n) (λ t. subst P (sym (eqb-true k n t)) p) (λ t. let d : k ≢ n = eqb-false k n t in f k (omega arith))
+
+  known : (r : ℕ) → Found signature registers n link (getD head (c % 1021) 0) c r → registers ≤ r → Entered signature registers n c head link r head link
+  unfolding Complete
+  known r f l = record {
+    least = l;
+    most = let h = f .below in omega arith;
+    hit = λ _. (f .hit l) .0;
+    fresh = λ z. absurd (let h = f .below in omega arith);
+    chains = more-chains;
+    completes = λ signature′ same e all k p h. upTo (λ k. registers ≤ k → (o : ℕ) × (o < suc n) × Holds registers link (getD head (signature′ k % 1021) 0) o × (signature′ o ≡ signature′ k))
+        (λ k h p. let (o, b, u, v) = all k p h in (o, omega arith, subst (λ s. Holds registers link (getD head (s % 1021) 0) o) (sym (same k h)) u, same o b ∙ v ∙ sym (same k h)))
+        (λ p. let b = f .below in (r, omega arith, subst (λ s. Holds registers link (getD head (s % 1021) 0) r) (sym e) ((f .hit l) .1), same r b ∙ (f .hit l) .0 ∙ sym e))
+        k h p;
+  }
+
+  pub entered-known : (start r : ℕ) → start ≡ getD head (c % 1021) 0 → Found signature registers n link start c r → registers ≤ r → Entered signature registers n c head link r head link
+  entered-known start r e f l = known r (subst (λ s. Found signature registers n link s c r) e f) l
+
+  module _ (b : ℕ) (eb : b ≡ c % 1021) (small : b < 1021) where
+    linked : getD (set link n (getD head b 0)) n 0 ≡ getD head b 0
+    linked = getD-set-same link n (getD head b 0) 0 (let l = w .link-long in omega arith)
+
+    headed : getD (set head b n) b 0 ≡ n
+    headed = getD-set-same head b n 0 (let l = w .head-long in omega arith)
+
+    held : (i o : ℕ) → i < n → Holds registers link i o → Holds registers (set link n (getD head b 0)) i o
+    held i o h (here l) = here l
+    held i o h (there l k) =
+        let d : i ≢ n = λ e. omega arith in
+        let g = w .links .lower i (omega arith) in
+        there l (subst (λ j. Holds registers (set link n (getD head b 0)) j o) (sym (getD-set-other link n i (getD head b 0) 0 d)) (held (getD link i 0) o (omega arith) k))
+
+    -- what a bucket had it still has
+    bucket : (q o : ℕ) → Holds registers link (getD head q 0) o → Holds registers (set link n (getD head b 0)) (getD (set head b n) q 0) o
+    bucket q o k = byTest (eqb q b)
+        (λ t. let e = eqb-true q b t in subst (λ j. Holds registers (set link n (getD head b 0)) j o) (sym (ap (λ q. getD (set head b n) q 0) e ∙ headed))
+        (there more (subst (λ j. Holds registers (set link n (getD head b 0)) j o) (ap (λ q. getD head q 0) e ∙ sym linked) (held (getD head q 0) o (w .heads q) k))))
+        (λ t. subst (λ j. Holds registers (set link n (getD head b 0)) j o) (sym (getD-set-other head b q n 0 (eqb-false q b t))) (held (getD head q 0) o (w .heads q) k))
+
+    new : (r : ℕ) → Found signature registers n link (getD head (c % 1021) 0) c r → r < registers → Entered signature registers n c head link n (set head b n) (set link n (getD head b 0))
+    unfolding Complete
+    new r f l = record {
+      least = more;
+      most = omega arith;
+      hit = λ z. absurd (omega arith);
+      fresh = λ _ all k p h e. let (o, s, u, v) = all k p h in f .miss l o (subst (λ s. Holds registers link (getD head (s % 1021) 0) o) e u) (v ∙ e);
+      chains = record {
+        head-long = simp length-set (w .head-long);
+        link-long = simp length-set (w .link-long);
+        heads = λ q. byTest (eqb q b)
+            (λ t. let e : getD (set head b n) q 0 ≡ n = ap (λ q. getD (set head b n) q 0) (eqb-true q b t) ∙ headed in omega arith)
+            (λ t. let e = getD-set-other head b q n 0 (eqb-false q b t) in let h = w .heads q in omega arith);
+        links = record {
+          lower = λ i p. byTest (eqb i n)
+              (λ t. let s = eqb-true i n t in let e : getD (set link n (getD head b 0)) i 0 ≡ getD head b 0 = ap (λ i. getD (set link n (getD head b 0)) i 0) s ∙ linked in let h = w .heads b in omega arith)
+              (λ t. let e = getD-set-other link n i (getD head b 0) 0 (eqb-false i n t) in let h = w .links .lower i p in omega arith);
+        };
+      };
+      completes = λ signature′ same e all k p h. upTo (λ k. registers ≤ k → (o : ℕ) × (o < suc n) × Holds registers (set link n (getD head b 0)) (getD (set head b n) (signature′ k % 1021) 0) o × (signature′ o ≡ signature′ k))
+          (λ k h p. let (o, s, u, v) = all k p h in (o, omega arith, bucket (signature′ k % 1021) o (subst (λ s. Holds registers link (getD head (s % 1021) 0) o) (sym (same k h)) u), same o s ∙ v ∙ sym (same k h)))
+          (λ p. (n, omega arith, subst (λ j. Holds registers (set link n (getD head b 0)) j n) (sym (ap (λ s. getD (set head b n) (s % 1021) 0) e ∙ ap (λ q. getD (set head b n) q 0) (sym eb) ∙ headed)) (here more), refl))
+          k h p;
+    }
+
+    pub entered-new : (start r : ℕ) → start ≡ getD head (c % 1021) 0 → Found signature registers n link start c r → r < registers → Entered signature registers n c head link n (set head b n) (set link n (getD head b 0))
+    entered-new start r e f l = new r (subst (λ s. Found signature registers n link s c r) e f) l

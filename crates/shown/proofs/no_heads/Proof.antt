@@ -1,0 +1,10 @@
+use borrow.Author.Needs.{needs}
+use Rattle.closure.specs.Clashing.{zeros}
+use Rattle.shown.proofs.no_heads.Statement.{statement}
+use Rattle.shown.proofs.no_heads.Tie as tie
+
+pub no-heads-spec : {M : Type 1} → statement M
+no-heads-spec =
+    tie.close
+    (tie.spec
+    (λ c. (search needs, zeros 1021)))

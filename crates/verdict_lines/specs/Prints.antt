@@ -1,0 +1,57 @@
+-- What the verdict program prints for a text (document 01, "The verdict program"): "It reads a macro from standard input, with a table of
+-- 65,536 bytes (N = 341), and prints lines." The lines are those of `report` (Rattle.report.specs.Lines).
+use mathlib.Core.Path.{_≡_}
+use mathlib.Core.List.{List, [], _∷_, _++_}
+use Prim.Native.Nat.{ℕ, _≤_}
+use lib.Dec.{leb}
+use lib.ListN.{length, drop}
+use Rattle.base.specs.Choice.{pick}
+use Rattle.semantics.specs.Terms.{Trace, begin, extend, state}
+use Rattle.semantics.specs.Models.{Feasible}
+use Rattle.semantics.specs.Coherence.{Coherent}
+use Rattle.semantics.specs.Shown.{tablesOf}
+use Rattle.macros.specs.Executions.{Partial, Failing}
+use Rattle.grammar.specs.Grammar.{Macro, headerOf}
+use Rattle.grammar.specs.Reading.{got, readMacro}
+use Rattle.grammar.specs.Reading
+use Rattle.verdicts.specs.Verdict.{breaking, failing, PairCount, PairsPass, Shows}
+use Rattle.text.specs.Numerals.{numeral}
+use Rattle.report.specs.Lines.{Names, Printed, pass, incoherent, fail, refused, line, refusedWord, atWord, report}
+use Rattle.report.specs.Shown.{namesOf}
+
+-- "N = 341"
+abbrev pub tablePairs : ℕ
+tablePairs = 341
+
+-- The names as they are declared.
+abbrev pub declaredNames : Macro → Names
+declaredNames m = namesOf (m .registers) (m .functions)
+
+-- What is printed of a macro: the verdict over all its executions, or 14 where there are more than N pairs. 6 is not among the answers.
+-- "`pairs` and how many have first executions before the event, or exist. Unless pass: `letters` [..] On fail also `values`".
+unfoldable pub Told : Macro → Printed → Type 0
+Told m (pass k) =
+    PairCount Feasible (begin (headerOf m)) (m .body) k × (k ≤ tablePairs)
+    × ((ρ : Trace) → Partial (begin (headerOf m)) (m .body) ρ → Coherent ρ) × ((ρ : Trace) → Failing (begin (headerOf m)) (m .body) ρ → ¬ Feasible (state ρ))
+Told m (incoherent k ls) = Shows Feasible (begin (headerOf m)) (m .body) breaking k ls × (k ≤ tablePairs)
+Told m (fail k ls tables) = Shows Feasible (begin (headerOf m)) (m .body) failing k ls × (k ≤ tablePairs) × (tables ≡ tablesOf (state (extend (begin (headerOf m)) ls)))
+Told m (refused number place) = (number ≡ 14) × (place ≡ 0) × PairsPass Feasible (begin (headerOf m)) (m .body) tablePairs
+
+-- The lines for a text.
+pub record Says (text lines : List ℕ) : Type 0 where
+  -- "A refusal is one line, `refused 9 at 17`."
+  pub unread : (number place : ℕ) → readMacro text ≡ Reading.refused number place → lines ≡ line (refusedWord ∷ numeral number ∷ atWord ∷ numeral place ∷ [])
+  pub verdict : (m : Macro) (end : ℕ) → readMacro text ≡ got m end → (told : Printed) × Told m told × (lines ≡ report (declaredNames m) (headerOf m) told)
+
+-- The lines are never longer.
+abbrev pub mostBytes : ℕ
+mostBytes = 32768
+
+-- A lent buffer holds `entry` and then `exit`, and `size` is given: the lines stand in front and the bytes behind them stay; or, in a buffer
+-- that is too small, which one of 32,768 bytes never is, all bytes stay, and 0 is given.
+pub record Prints (text entry : List ℕ) (size : ℕ) (exit : List ℕ) : Type 0 where
+  pub lines : List ℕ
+  pub says : Says text lines
+  pub few : length lines ≤ mostBytes
+  pub given : size ≡ pick (leb (length lines) (length entry)) (λ _. length lines) λ _. 0
+  pub bytes : exit ≡ pick (leb (length lines) (length entry)) (λ _. lines ++ drop (length lines) entry) λ _. entry

@@ -1,0 +1,43 @@
+-- The report of an answer was written.
+use mathlib.Core.Path.{_≡_, refl, sym, ap, _∙_, subst}
+use mathlib.Core.Bool.{Bool, true, false}
+use mathlib.Core.List.{List, _++_}
+use Prim.Native.Nat.{ℕ, _^_, _<_, _≤_}
+use lib.Dec.{leb}
+use lib.ListN.{length, getD, drop}
+use Rattle.base.specs.Choice.{pick}
+use Rattle.grammar.specs.Reading.{readMacro}
+use Rattle.syntax.specs.declared.Answer as syntax
+use Rattle.syntax.specs.Answer.{answerOf}
+use Rattle.search.specs.declared.Verdict as search
+use Rattle.report.specs.declared.Verdict.{Verdict}
+use Rattle.report.specs.declared.Written.{Written}
+use Rattle.report.specs.declared.Written.the-variants.{Bytes, NoRoom}
+use Rattle.report.specs.Shown.{reportOf, Wrote}
+use Rattle.report.specs.Bound.{Limited, letterNumber, rowNumber, report-fits}
+use Rattle.verdict_lines.specs.Prints.{tablePairs, mostBytes}
+use Rattle.verdict_lines.specs.Reported.{reported, reportFor, sizeOf, Reports}
+
+size-of : (b : Bool) (n : ℕ) → sizeOf (pick b (λ _. Bytes n) (λ _. NoRoom)) ≡ pick b (λ _. n) (λ _. 0)
+size-of true n = refl
+size-of false n = refl
+
+module _ (text : List ℕ) (v : search.Verdict) (s entry exit : List ℕ) (read : syntax.Answer) (shown : Verdict) (written : Written) (size : ℕ)
+    (registers : (r : ℕ) → getD (read .program .registers) r 0 < 2 ^ 64) (functions : (f : ℕ) → getD (read .program .functions) f 0 < 2 ^ 64) (bytes : (i : ℕ) → getD s i 0 < 256) where
+  -- The text was read, the verdict taken as the report takes it, and the report written.
+  pub reports : read ≡ answerOf (readMacro text) → shown ≡ reported v → Limited shown
+      → Wrote (reportOf (read .program .registers) (read .program .functions) (read .program .header) shown s) entry exit written → size ≡ sizeOf written → Reports text v s entry size exit
+  unfolding reportFor
+  reports e f l w g = record {
+    few = λ n m r. subst (λ (x : List ℕ). length x ≤ mostBytes) same
+        (report-fits (read .program .registers) (read .program .functions) registers functions (read .program .header) s bytes shown l
+        (subst (λ (x : Verdict). letterNumber x ≤ tablePairs) (sym f) n) (subst (λ (x : Verdict). rowNumber x s ≤ 349) (sym f) m) (subst (λ (x : syntax.Answer). x .program .header .registers ≤ 8) (sym e) r));
+    given = g ∙ ap sizeOf (w .answered) ∙ size-of (leb (length made) (length entry)) (length made) ∙ ap (λ (x : List ℕ). pick (leb (length x) (length entry)) (λ _. length x) λ _. 0) same;
+    bytes = w .bytes ∙ ap (λ (x : List ℕ). pick (leb (length x) (length entry)) (λ _. x ++ drop (length x) entry) λ _. entry) same;
+  }
+    where
+      made : List ℕ
+      made = reportOf (read .program .registers) (read .program .functions) (read .program .header) shown s
+
+      same : made ≡ reportFor text v s
+      same = λ i. reportOf (e i .program .registers) (e i .program .functions) (e i .program .header) (f i) s
