@@ -7,7 +7,7 @@ ghost use mathlib.Core.Bool.{true, false};
 ghost use mathlib.Core.List.{[], _∷_};
 ghost use Prim.Native.Nat.{_≤_};
 ghost use Rattle.base.specs.Each.{each};
-ghost use Rattle.blocks.specs.Held.{point, turned, redirected};
+ghost use Rattle.blocks.specs.Held.{turned, redirected};
 ghost use Rattle.blocks.specs.Outcome.{within, begins, joined, branched, looped, Fine, Refusal, Settled, Passed, Ready, BlockRead, StatementRead, BracesRead, ElseRead, ConditionalRead, RepeatRead};
 
 /// A point of a macro.

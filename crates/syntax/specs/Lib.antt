@@ -2,3 +2,4 @@ pub mod Answer
 pub mod Lists
 pub mod Top
 pub mod Reads
+pub mod Examples

@@ -1,10 +1,13 @@
--- The reader's contract, without the reader (document 01, "Macro text" and the macro part of "The questions").
+-- The reader's contract (document 01, "Macro text" and the macro part of "The questions").
 use mathlib.Core.Path.{_≡_, refl, sym, ap, _∙_, subst}
 use mathlib.Core.Logic.{_≢_}
 use Prim.Native.Nat.{ℕ, _≤_}
 use native.Mathlib.Omega.{arith}
 use mathlib.Core.List.{List}
+use lib.Dec.{eqb}
 use lib.ListN.{length}
+use borrow.Author.Tests.{eqb-true, eqb-false}
+use Rattle.base.specs.Choice.{byTest}
 use Rattle.macros.specs.Points.{sizeBlock}
 use Rattle.grammar.specs.Grammar.{Macro}
 use Rattle.grammar.specs.Reading.{Got, got, refused, exhausted, readMacro}
@@ -23,12 +26,12 @@ pub record Accepted (text : List ℕ) (m : Macro) : Type 0 where
   pub few : sizeBlock (m .body) ≤ 256
 
 -- What is answered for a text: the macro that it is the text of, or the refusal that the questions say. Refusal 0 is none.
+-- The first four fields settle the answer (`reads-once`); the last, the definition that reads token by token, is kept for callers.
 pub record Reads (text : List ℕ) (r : Answer) : Type 0 where
   pub accepts : (m : Macro) → Accepted text m → (r .refusal ≡ 0) × (r .place ≡ 0) × (r .program ≡ heldMacro m)
   pub accepted : r .refusal ≡ 0 → (m : Macro) × Accepted text m × (r .program ≡ heldMacro m)
   pub refuses : (n p : ℕ) → Refusal text n p → (r .refusal ≡ n) × (r .place ≡ p) × (r .program ≡ noMacro)
   pub refused : r .refusal ≢ 0 → Refusal text (r .refusal) (r .place)
-  -- by the definition that reads token by token
   pub equation : r ≡ answerOf (readMacro text)
 
 module _ (text : List ℕ) (r : Answer) (e : r ≡ answerOf (readMacro text)) where
@@ -61,3 +64,20 @@ module _ (text : List ℕ) (r : Answer) (e : r ≡ answerOf (readMacro text)) wh
           let (a, b, c) = as-refused n p h in
           subst (λ k. Refusal text k (r .place)) (sym a) (subst (Refusal text n) (sym b) (refused-refusal text n p h))
       refused-as exhausted h z = absurd (read-answers text h)
+
+-- There is one answer at most.
+pub reads-once : (text : List ℕ) (r q : Answer) → Reads text r → Reads text q → r ≡ q
+reads-once text r q x y = byTest (eqb (r .refusal) 0)
+    (λ t.
+    let (m, a, k) = x .accepted (eqb-true (r .refusal) 0 t) in
+    let (b, c, d) = x .accepts m a in
+    let (b′, c′, d′) = y .accepts m a in
+    same (b ∙ sym b′) (c ∙ sym c′) (d ∙ sym d′))
+    (λ t.
+    let z = x .refused (eqb-false (r .refusal) 0 t) in
+    let (b, c, d) = x .refuses (r .refusal) (r .place) z in
+    let (b′, c′, d′) = y .refuses (r .refusal) (r .place) z in
+    same (sym b′) (sym c′) (d ∙ sym d′))
+  where
+    same : r .refusal ≡ q .refusal → r .place ≡ q .place → r .program ≡ q .program → r ≡ q
+    same e f g = λ i. record { refusal = e i; place = f i; program = g i }

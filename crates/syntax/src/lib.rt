@@ -12,7 +12,7 @@ ghost use Prim.Native.Nat.{_≤_};
 ghost use lib.Dec.{eqb};
 ghost use lib.ListN.{take, length};
 ghost use Rattle.grammar.specs.Grammar.{binaryOf};
-ghost use Rattle.grammar.specs.Reading.{refused, known, listedT, registers as registersAt, functions as functionsAt, functionsT, arityOf};
+ghost use Rattle.grammar.specs.Reading.{refused, listedT, registers as registersAt, functions as functionsAt, functionsT, arityOf};
 ghost use Rattle.tokens.specs.Tokens.{tokenAt};
 ghost use Rattle.phrases.specs.Codes.{plain};
 ghost use Rattle.blocks.specs.Held.{unused};

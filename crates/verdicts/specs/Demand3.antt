@@ -26,6 +26,7 @@ pairsIn table = min mostPairs (length table / pairBytes)
 -- Possible σ: some data model satisfies the tests of the state σ. The models are finite ones, or of any values (Verdict).
 pub record Demand3 {ℓ} (Possible : State → Type ℓ) (text table output : List ℕ) (answer : Answer) (table′ output′ : List ℕ) : Type ℓ where
   -- A text that is refused, by 7 to 13: "a refusal before it leaves the table untouched", "Refused calls write no output".
+  -- (When a text is refused by which number at which place, and when it is read as m, crate `syntax` says without `readMacro`: `Reads`.)
   pub unread : (number place : ℕ) → readMacro text ≡ Reading.refused number place → (answer ≡ refused number place) × (table′ ≡ table) × (output′ ≡ output)
   -- A text that is read as the macro m: the verdict on all its executions, or 14, or 6.
   pub verdict : (m : Macro) (end : ℕ) → readMacro text ≡ got m end → Verdict Possible (begin (headerOf m)) (m .body) firstEdition firstRowWidths (pairsIn table) output answer output′

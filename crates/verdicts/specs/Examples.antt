@@ -1,4 +1,4 @@
--- Examples: a macro that passes, two on which pass is no right answer, and texts. Each wrong version that document 01 names meets a text or macro on which it breaks the record.
+-- Examples: a macro that passes, two on which pass is no right answer, and texts. Passing everything is wrong on the second, trying each loop body once on the third; 14 before a pair is listed, calling everything incoherent and an invented count on the first.
 use mathlib.Core.Path.{_≡_, refl, sym, ap, _∙_, subst}
 use mathlib.Core.Bool.{true}
 use mathlib.Core.Logic.{_≢_}

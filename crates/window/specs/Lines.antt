@@ -13,7 +13,6 @@ use lib.ListN.{length, getD, set, length-set}
 use lib.Seq.{getD-set-same, getD-set-other}
 use borrow.Author.Tests.{eq-eqb, ne-eqb, eqb-true, eqb-false}
 use Rattle.base.specs.Choice.{byTest}
-use Rattle.base.specs.Masks.{has}
 use Rattle.window.specs.Places as places
 use Rattle.window.specs.Places.{place, place-sum, place-is, function-place, first-place, second-place}
 use Rattle.window.specs.Table.{table, table-length, table-at, table-is}

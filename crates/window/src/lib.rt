@@ -10,7 +10,7 @@ ghost use Rattle.window.specs.Bits.{nonempty, movedOf};
 ghost use Rattle.window.specs.Lines.{columns, rows, united, cleared};
 ghost use Rattle.window.specs.Through.{bitsMoved, masksThrough, resultsThrough};
 ghost use Rattle.window.specs.Adding.{partOf, lineAdded, resultsAdded, masksForgotten, resultsForgotten};
-ghost use Rattle.window.specs.Layout.{registers, functions, pairs, lines, results};
+ghost use Rattle.window.specs.Layout.{registers, functions, pairs, results};
 ghost use Rattle.window.specs.Performing.{fallenOf, withTables, copiedOf, mergedOf, restOf, findOf, closedOf, clashOf, settledOf, equalOf, partedOf, unequalOf, argumentsOf, appliedOf, ownOf, memoizingOf, earlyOf, applyOf, apartOf};
 ghost use Rattle.window.specs.Perform.{freshOf, Within, judgeOf, performOf};
 ghost use Rattle.window.specs.Marks.{foldedOf, unionOf, aboveOf, flagOf, belowOf, besideOf, raisedOf, lostOf, markedWith};

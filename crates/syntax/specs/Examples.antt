@@ -1,0 +1,18 @@
+-- A text that is read, and an answer that does not meet the reader's contract for it: a reader that refuses everything is wrong.
+use mathlib.Core.Path.{refl}
+use native.Mathlib.Omega.{arith}
+use Rattle.grammar.specs.Reading.{refused, readMacro}
+use Rattle.grammar.specs.Whole.{read-sound}
+use Rattle.refusals.specs.Examples.{loop, searched, loop-read}
+use Rattle.syntax.specs.Answer.{answerOf}
+use Rattle.syntax.specs.Reads.{Reads, reads}
+
+loop-reads : Reads loop (answerOf (readMacro loop))
+loop-reads = reads loop (answerOf (readMacro loop)) refl
+
+refusing-is-wrong : Reads loop (answerOf (refused 9 0)) → ⊥
+unfolding answerOf
+refusing-is-wrong x =
+    let (l, s, o, f) = read-sound loop searched 61 loop-read in
+    let (a, b, c) = x .accepts searched (record { short = l; spelled = s; in-order = o; few = f }) in
+    omega arith
