@@ -1,7 +1,5 @@
 //! The whole-trace engine beside a closure in Rust and SMT solvers.
 
-use std::time::Duration;
-
 use oracle::fast_closure::fast_show_model;
 use oracle::letter::Header;
 use oracle::library::{self, MODEL_ANSWER};
@@ -29,31 +27,21 @@ const KINDS: [(&str, Maker); 8] = [
     ("levels", levels),
 ];
 
-/// A script that asks nothing: what a solver takes for it is its start.
-const NOTHING: &str = "(set-logic QF_UF)\n(check-sat)\n";
-
 /// Prints the engine's table.
 pub fn table() {
-    let starts = SOLVERS.map(|solver| solver.solve(NOTHING).map(|(time, _)| time));
     println!("Whole-trace engine (microseconds; of a solver the shortest of five runs)");
     print!("{:<12}{:>8}{:>10}{:>10}{:>8}", "trace", "letters", "proved", "Rust", "ratio");
     SOLVERS.iter().for_each(|solver| print!("{:>10}{:>10}", solver.name, "no start"));
     println!();
     for (name, make) in KINDS {
         for length in [64, 128, 256, 512, 1024] {
-            line(name, &make(length), &starts);
-        }
-    }
-    for (solver, start) in SOLVERS.iter().zip(starts) {
-        match start {
-            None => println!("{} is not installed", solver.name),
-            Some(time) => println!("the start of {} alone takes {:.0}", solver.name, micros(time)),
+            line(name, &make(length));
         }
     }
     println!();
 }
 
-fn line(name: &str, trace: &Trace, starts: &[Option<Duration>]) {
+fn line(name: &str, trace: &Trace) {
     let bytes = trace.pack();
     let mut out = vec![0; ROOM];
     let mut answer = [0; MODEL_ANSWER];
@@ -73,14 +61,14 @@ fn line(name: &str, trace: &Trace, starts: &[Option<Duration>]) {
     let letters = trace.letters.len();
     let (left, right) = (micros(proved), micros(rust));
     print!("{name:<12}{letters:>8}{left:>10.1}{right:>10.1}{:>8.2}", ratio(proved, rust));
-    for (solver, start) in SOLVERS.iter().zip(starts) {
-        let Some((time, found)) = solver.solve(&script(trace)) else {
+    for solver in SOLVERS {
+        let Some(solved) = solver.solve(&script(trace)) else {
             print!("{:>10}{:>10}", "-", "-");
             continue;
         };
-        assert_eq!(found, feasible, "{} on {name}", solver.name);
-        let alone = time.saturating_sub(start.unwrap_or_default());
-        print!("{:>10.0}{:>10.0}", micros(time), micros(alone));
+        assert_eq!(solved.answer, feasible, "{} on {name}", solver.name);
+        let alone = solved.whole.saturating_sub(solved.start);
+        print!("{:>10.0}{:>10.0}", micros(solved.whole), micros(alone));
     }
     println!();
 }

@@ -53,16 +53,37 @@ pub const SOLVERS: [Solver; 2] = [
     Solver { name: "cvc5", arguments: &["--lang=smt2", "-"] },
 ];
 
-/// Runs of a solver, of which the shortest counts.
+/// Runs of a solver over a script, of which the shortest counts.
 const RUNS: usize = 5;
 
+/// A script that asks nothing: what a solver takes for it is its start.
+const NOTHING: &str = "(set-logic QF_UF)\n(check-sat)\n";
+
+/// What a solver says of a script.
+#[allow(dead_code)]
+pub struct Solved {
+    /// The shortest time, the program's start included.
+    pub whole: Duration,
+    /// The shortest time of the start alone, measured in turns with the script.
+    pub start: Duration,
+    /// The answer.
+    pub answer: String,
+}
+
 impl Solver {
-    /// The shortest time of some runs over a script, the program's start included,
-    /// and the answer; none if the program is not installed.
+    /// Times and answer of a script; none if the program is not installed.
     #[allow(dead_code)]
-    pub fn solve(&self, script: &str) -> Option<(Duration, String)> {
-        let runs: Option<Vec<_>> = (0..RUNS).map(|_| self.run(script)).collect();
-        runs?.into_iter().min_by_key(|(time, _)| *time)
+    pub fn solve(&self, script: &str) -> Option<Solved> {
+        let mut best: Option<Solved> = None;
+        for _ in 0..RUNS {
+            let (start, _) = self.run(NOTHING)?;
+            let (whole, answer) = self.run(script)?;
+            best = Some(match best {
+                None => Solved { whole, start, answer },
+                Some(old) => Solved { whole: whole.min(old.whole), start: start.min(old.start), answer },
+            });
+        }
+        best
     }
 
     fn run(&self, script: &str) -> Option<(Duration, String)> {

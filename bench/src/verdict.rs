@@ -1,5 +1,8 @@
 //! The verdict on example macros, and on macros that fill the table.
 
+use std::fs;
+use std::path::Path;
+
 use oracle::fast_search::fast_search;
 use oracle::library::{self, VERDICT_ANSWER};
 use oracle::reader::read_macro;
@@ -13,36 +16,30 @@ const TABLE: usize = 65_536;
 /// Bytes of the largest table that is of use: N = 1,024.
 const LARGEST: usize = 1_024 * 192;
 
-/// Macros by name. `search` and `second` are the paper's P1 and P3 (Figure 1) with
-/// assertions.
-const MACROS: [(&str, &str); 6] = [
-    (
-        "worked",
-        "vars raster corner sum duty; funs cap/1 add/2; sum := add(raster,corner); duty := cap(raster); \
-         duty := add(duty,corner); sum := cap(sum); assert duty = sum;",
-    ),
-    ("walk", "vars x y; funs n/1; while x != y { x := n(x); } assert x = y;"),
-    (
-        "search",
-        "vars t f b x y k d r; funs n/1 key/1; assume t != f; b := f; while x != y { d := key(x); \
-         if d = k { b := t; r := x; } x := n(x); } assert x = y;",
-    ),
-    (
-        "second",
-        "vars x y z g; funs n/1; assume x != z; y := n(x); g := y; assume y != z; y := n(y); \
-         while y != z { x := n(x); g := y; y := n(y); } x := n(x); x := n(x); assert x = z;",
-    ),
-    (
-        "choices",
-        "vars a b c d e; funs f/1; while a != b { if c = d { c := e; } else { d := a; } if a != e { a := f(a); } \
-         else { e := b; } } assert a = b;",
-    ),
-    (
-        "partitions",
-        "vars a b c d e; if a != b { } if a != c { } if b != c { } if a != d { } if b != d { } if c != d { } \
-         if a != e { } if a = b { assert b = a; }",
-    ),
-];
+/// The macros of the folder `examples`, by name.
+fn examples() -> Vec<(String, String)> {
+    let folder = Path::new(env!("CARGO_MANIFEST_DIR")).join("../examples");
+    let mut macros: Vec<(String, String)> = fs::read_dir(folder)
+        .expect("the folder is there")
+        .map(|file| file.expect("an entry").path())
+        .map(|path| (name_of(&path), fs::read_to_string(&path).expect("a text")))
+        .collect();
+    macros.sort();
+    macros
+}
+
+/// The name of a file without its extension.
+fn name_of(path: &Path) -> String {
+    path.file_stem().expect("a name").to_string_lossy().into_owned()
+}
+
+/// A loop with choices.
+const CHOICES: &str = "vars a b c d e; funs f/1; while a != b { if c = d { c := e; } else { d := a; } if a != e { a := f(a); } \
+     else { e := b; } } assert a = b;";
+
+/// Tests that part five registers into classes in many ways.
+const PARTITIONS: &str = "vars a b c d e; if a != b { } if a != c { } if b != c { } if a != d { } if b != d { } \
+     if c != d { } if a != e { } if a = b { assert b = a; }";
 
 /// Tests between so many registers, each of which doubles the windows for a while.
 fn doubling(registers: usize, tests: usize) -> String {
@@ -76,7 +73,7 @@ fn line(name: &str, text: &str, bytes: usize) {
     };
     let (most, left, right) = (room_for_pairs(bytes), micros(proved), micros(rust));
     println!(
-        "{name:<14}{most:>8}{word:>12}{:>8}{left:>12.1}{right:>12.1}{:>10.2}",
+        "{name:<26}{most:>8}{word:>12}{:>8}{left:>12.1}{right:>12.1}{:>10.2}",
         answer[3],
         ratio(proved, rust)
     );
@@ -86,12 +83,14 @@ fn line(name: &str, text: &str, bytes: usize) {
 pub fn table() {
     println!("Verdict, the table holding N pairs (microseconds)");
     println!(
-        "{:<14}{:>8}{:>12}{:>8}{:>12}{:>12}{:>10}",
+        "{:<26}{:>8}{:>12}{:>8}{:>12}{:>12}{:>10}",
         "macro", "N", "verdict", "pairs", "proved", "Rust", "ratio"
     );
-    for (name, text) in MACROS {
-        line(name, text, TABLE);
+    for (name, text) in examples() {
+        line(&name, &text, TABLE);
     }
+    line("choices", CHOICES, TABLE);
+    line("partitions", PARTITIONS, TABLE);
     line("eight", &doubling(8, 12), TABLE);
     line("eight", &doubling(8, 12), LARGEST);
     line("six", &doubling(6, 13), LARGEST);

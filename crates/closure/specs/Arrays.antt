@@ -11,7 +11,7 @@ use Rattle.base.specs.Choice.{pick}
 use Rattle.base.specs.Each.{done}
 use Rattle.closure.specs.Numbering.{Closed}
 use Rattle.closure.specs.Merging.{Propagating, Entailed, relabelOf}
-use Rattle.closure.specs.Index.{signatureOf, Chains, Complete}
+use Rattle.closure.specs.Index.{signatureOf, Holds, Chains, Complete}
 
 abbrev pub at : List ℕ → ℕ → ℕ
 at l i = getD l i 0
@@ -77,10 +77,6 @@ relabelled from to n l = done (λ _ v. relabelOf from to v) n l
 unfoldable pub united : (n i j : ℕ) → List ℕ → List ℕ
 united n i j l = relabelled (highOf (getD l i 0) (getD l j 0)) (lowOf (getD l i 0) (getD l j 0)) n l
 
--- No application in any bucket.
-unfoldable pub cleared : List ℕ → List ℕ
-cleared l = done (λ _ _. 0) 1021 l
-
 -- Arguments are not after their terms, and a class has its lowest term as its name.
 pub record Lowest (representative first second : List ℕ) (n : ℕ) : Type 0 where
   pub within : n ≤ 1032
@@ -100,18 +96,28 @@ pub record Joined (representative function first second : List ℕ) (registers n
   pub propagates : (old : ℕ → ℕ) (x y : ℕ) → Propagating (at function) (at first) (at second) registers n old x y (at representative) → Propagating (at function) (at first) (at second) registers n old x y (at r)
   pub shrinks : total n r ≤ total n representative
 
--- One pass over the applications: it has joined classes; or none, and then the classes are closed and the index has all signatures.
-pub record Passed (representative function first second : List ℕ) (registers n : ℕ) (r head link : List ℕ) (again : Bool) : Type 0 where
+-- While congruences are propagated: of the applications below i, the classes are closed and the index has the signatures.
+pub record Underway (representative function first second : List ℕ) (registers n : ℕ) (r head link : List ℕ) (i : ℕ) : Type 0 where
+  pub least : registers ≤ i
+  pub most : i ≤ n
   pub joined : Joined representative function first second registers n r
-  pub chains : Chains n head link
-  pub less : again ≡ true → total n r < total n representative
-  pub closed : again ≡ false → Closed (at function) (at first) (at second) registers n (at r) × Complete (signatureAt r function first second) registers n head link
+  pub chains : Chains i head link
+  pub closed : Closed (at function) (at first) (at second) registers i (at r)
+  pub complete : Complete (signatureAt r function first second) registers i head link
 
--- Passes until the classes are closed.
+-- The classes are closed.
 pub record Propagated (representative function first second : List ℕ) (registers n : ℕ) (r head link : List ℕ) : Type 0 where
   pub joined : Joined representative function first second registers n r
   pub closed : Closed (at function) (at first) (at second) registers n (at r)
   pub indexed : Indexed r function first second registers n head link
+
+-- After a union in which the name d went: r is the first application, below i, whose signature may have changed, and the index is cut to those before it.
+pub record Resumed (registers i d : ℕ) (head link : List ℕ) (r : ℕ) (head′ : List ℕ) : Type 0 where
+  pub least : registers ≤ r
+  pub most : r ≤ i
+  pub before : (k : ℕ) → registers ≤ k → k < r → k < d
+  pub chains : Chains r head′ link
+  pub keeps : (b o : ℕ) → Holds registers link (getD head b 0) o → o < r → Holds registers link (getD head′ b 0) o
 
 -- The classes of x and y are one, with all that follows by congruence and nothing else; entries past the n terms stay.
 pub record Merged (representative function first second : List ℕ) (registers n x y : ℕ) (r head link : List ℕ) : Type 0 where

@@ -1,21 +1,11 @@
 -- Look-ups and entries in the index, by function and arguments.
 use mathlib.Core.Path.{_≡_, refl, sym, _∙_, ap}
-use mathlib.Core.List.{List, [], _∷_}
-use Prim.Native.Nat.{ℕ, zero, suc, _≤_, _<_}
+use mathlib.Core.List.{List}
+use Prim.Native.Nat.{ℕ, _≤_, _<_}
 use native.Mathlib.Omega.{arith}
-use lib.Dec.{ltb}
 use lib.ListN.{length, getD}
-use borrow.Author.Tests.{ltb-true, ltb-false}
-use Rattle.base.specs.Choice.{byTest}
-use Rattle.base.specs.Each.{each-length}
-use Rattle.closure.specs.Written.{done-below, done-beyond}
 use Rattle.closure.specs.Index.{signatureOf, signature-same, Chains, Complete, Entered}
-use Rattle.closure.specs.Arrays.{Below, Formed, Argument, Readable, signatureAt, LookedAt, knownAt, freshAt, cleared}
-
-past-end : (l : List ℕ) (b : ℕ) → length l ≤ b → getD l b 0 ≡ 0
-past-end [] b h = refl
-past-end (x ∷ l) zero h = absurd (omega arith)
-past-end (x ∷ l) (suc b) h = past-end l b (omega arith)
+use Rattle.closure.specs.Arrays.{Below, Formed, Argument, Readable, signatureAt, LookedAt, knownAt, freshAt}
 
 -- an index without entries
 pub chains-none : (head link : List ℕ) (registers : ℕ) → length head ≡ 1021 → length link ≡ 1032 → ((b : ℕ) → getD head b 0 ≡ 0) → ((i : ℕ) → getD link i 0 ≡ 0) → 1 ≤ registers → Chains registers head link
@@ -29,21 +19,6 @@ chains-none head link registers h l zh zl s = record {
 pub complete-none : (signature : ℕ → ℕ) (registers : ℕ) (head link : List ℕ) → Complete signature registers registers head link
 unfolding Complete
 complete-none signature registers head link k p h = absurd (omega arith)
-
--- one whose chains were cleared
-pub chains-cleared : (n registers : ℕ) (head link r : List ℕ) → Chains n head link → 1 ≤ registers → r ≡ cleared head → Chains registers r link
-unfolding cleared
-chains-cleared n registers head link r w s e = record {
-  head-long = ap length e ∙ each-length _ 1021 head ∙ w .head-long;
-  link-long = w .link-long;
-  heads = λ b. let z = empty b in omega arith;
-  links = w .links;
-}
-  where
-    empty : (b : ℕ) → getD r b 0 ≡ 0
-    empty b = byTest (ltb b 1021)
-        (λ t. ap (λ (l : List ℕ). getD l b 0) e ∙ done-below (λ _ _. 0) 1021 head 0 b (ltb-true b 1021 t) (let l = w .head-long in let h = ltb-true b 1021 t in omega arith))
-        (λ t. let h = ltb-false b 1021 t in let l = w .head-long in ap (λ (l : List ℕ). getD l b 0) e ∙ done-beyond (λ _ _. 0) 1021 head 0 b h ∙ past-end head b (omega arith))
 
 pub argument : {representative function first second : List ℕ} {registers n : ℕ} (i : ℕ) → Formed representative function first second registers n → i < n → Argument representative i
 unfolding Below

@@ -2,13 +2,13 @@
 -- that was last entered in each bucket, and `link` leads from each to the one before it. A number below `registers` is no application, and ends a chain.
 use mathlib.Core.Path.{_≡_, refl, sym, _∙_, ap, subst}
 use mathlib.Core.Logic.{_≢_}
-use mathlib.Core.List.{List}
-use Prim.Native.Nat.{ℕ, suc, _+_, _*_, _≤_, _<_, _%_}
+use mathlib.Core.List.{List, [], _∷_}
+use Prim.Native.Nat.{ℕ, zero, suc, _+_, _*_, _≤_, _<_, _%_}
 use native.Mathlib.Omega.{arith}
-use lib.Dec.{eqb}
+use lib.Dec.{eqb, ltb}
 use lib.ListN.{length, getD, set, length-set}
 use lib.Seq.{getD-set-same, getD-set-other}
-use borrow.Author.Tests.{eqb-true, eqb-false}
+use borrow.Author.Tests.{eqb-true, eqb-false, ltb-true, ltb-false}
 use Rattle.base.specs.Choice.{byTest}
 
 -- The signature of f of two arguments of the classes p and q. The factor 1,056 · 4 is above 1,032 · 4, so that different signatures have different numbers.
@@ -23,6 +23,10 @@ signature-same hf hg hq hs e = (omega arith, omega arith, omega arith)
 pub data Holds (registers : ℕ) (link : List ℕ) : (i o : ℕ) → Type 0 where
   here : {i : ℕ} → registers ≤ i → Holds registers link i i
   there : {i o : ℕ} → registers ≤ i → Holds registers link (getD link i 0) o → Holds registers link i o
+
+pub holds-least : (registers : ℕ) (link : List ℕ) (i o : ℕ) → Holds registers link i o → registers ≤ o
+holds-least registers link i o (here l) = l
+holds-least registers link i o (there l h) = holds-least registers link (getD link i 0) o h
 
 -- Chains go down.
 pub record Down (link : List ℕ) : Type 0 where
@@ -41,10 +45,10 @@ pub record Chains (n : ℕ) (head link : List ℕ) : Type 0 where
 pub chain-below : (n : ℕ) (head link : List ℕ) (b v : ℕ) → Chains n head link → v ≡ getD head b 0 → v < n
 chain-below n head link b v w e = let h = w .heads b in omega arith
 
--- For each of the applications below n, its bucket has one with its signature.
+-- For each of the applications below n, its bucket has one with its signature that is not after it.
 unfoldable pub Complete : (signature : ℕ → ℕ) (registers n : ℕ) (head link : List ℕ) → Type 0
 Complete signature registers n head link =
-    (k : ℕ) → registers ≤ k → k < n → (o : ℕ) × (o < n) × Holds registers link (getD head (signature k % 1021) 0) o × (signature o ≡ signature k)
+    (k : ℕ) → registers ≤ k → k < n → (o : ℕ) × (o ≤ k) × Holds registers link (getD head (signature k % 1021) 0) o × (signature o ≡ signature k)
 
 -- r is an application with the signature c in the chain from i on, or below `registers` where there is none.
 pub record Found (signature : ℕ → ℕ) (registers n : ℕ) (link : List ℕ) (i c r : ℕ) : Type 0 where
@@ -58,8 +62,82 @@ pub record Entered (signature : ℕ → ℕ) (registers n c : ℕ) (head link : 
   pub most : r ≤ n
   pub hit : r < n → signature r ≡ c
   pub fresh : r ≡ n → Complete signature registers n head link → (k : ℕ) → registers ≤ k → k < n → signature k ≢ c
+  pub kept : r < n → (head′ ≡ head) × (link′ ≡ link)
   pub chains : Chains (suc n) head′ link′
   pub completes : (signature′ : ℕ → ℕ) → ((k : ℕ) → k < n → signature′ k ≡ signature k) → signature′ n ≡ c → Complete signature registers n head link → Complete signature′ registers (suc n) head′ link′
+
+-- r is the first number of the chain from start on that is below the bound.
+pub record Cut (link : List ℕ) (start bound r : ℕ) : Type 0 where
+  pub below : r < bound
+  pub keeps : (registers o : ℕ) → Holds registers link start o → o < bound → Holds registers link r o
+
+-- The applications from the bound on are taken out of all chains.
+pub record CutTo (head link : List ℕ) (bound : ℕ) (head′ : List ℕ) : Type 0 where
+  pub chains : Chains bound head′ link
+  pub keeps : (registers b o : ℕ) → Holds registers link (getD head b 0) o → o < bound → Holds registers link (getD head′ b 0) o
+
+-- ---- the loop of `below`
+module _ (link : List ℕ) (start bound : ℕ) where
+  pub record Cutting (i : ℕ) : Type 0 where
+    pub keeps : (registers o : ℕ) → Holds registers link start o → o < bound → Holds registers link i o
+
+  pub cutting-start : Cutting start
+  cutting-start = record { keeps = λ registers o h l. h }
+
+  pub cutting-turn : (i j : ℕ) → Cutting i → bound ≤ i → j ≡ getD link i 0 → Cutting j
+  cutting-turn i j c l e = rw e (record { keeps = λ registers o h b. beyond registers o b (c .keeps registers o h b) })
+    where
+      beyond : (registers o : ℕ) → o < bound → Holds registers link i o → Holds registers link (getD link i 0) o
+      beyond registers o b (here k) = absurd (omega arith)
+      beyond registers o b (there k h) = h
+
+  pub cutting-end : (i : ℕ) → Cutting i → i < bound → Cut link start bound i
+  cutting-end i c h = record { below = h; keeps = c .keeps }
+
+-- ---- the loop of `cut`
+pub record CuttingAll (head₀ link : List ℕ) (bound : ℕ) (head : List ℕ) (i : ℕ) : Type 0 where
+  pub most : i ≤ 1021
+  pub long : length head ≡ 1021
+  pub past : (b : ℕ) → b < i → Cut link (getD head₀ b 0) bound (getD head b 0)
+  pub rest : (b : ℕ) → i ≤ b → getD head b 0 ≡ getD head₀ b 0
+
+module _ (head₀ link : List ℕ) (bound : ℕ) (w : Chains 1032 head₀ link) (some : 1 ≤ bound) where
+  pub cutting-all-start : CuttingAll head₀ link bound head₀ 0
+  cutting-all-start = record { most = omega arith; long = w .head-long; past = λ b h. absurd (omega arith); rest = λ b h. refl }
+
+  pub cutting-below : (head : List ℕ) (i start : ℕ) → CuttingAll head₀ link bound head i → start ≡ getD head i 0 → start < 1032
+  cutting-below head i start c e = let r = c .rest i (omega arith) in let h = w .heads i in omega arith
+
+  pub cutting-all-turn : (head : List ℕ) (i start v : ℕ) → CuttingAll head₀ link bound head i → i < 1021 → start ≡ getD head i 0 → Cut link start bound v → CuttingAll head₀ link bound (set head i v) (i + 1)
+  cutting-all-turn head i start v c h e k = record {
+    most = omega arith;
+    long = simp length-set (c .long);
+    past = λ b l. byTest (eqb b i)
+        (λ t. let q = eqb-true b i t in subst (Cut link (getD head₀ b 0) bound) (sym (ap (λ b. getD (set head i v) b 0) q ∙ getD-set-same head i v 0 (let m = c .long in omega arith)))
+        (subst (λ s. Cut link s bound v) (e ∙ c .rest i (omega arith) ∙ ap (λ b. getD head₀ b 0) (sym q)) k))
+        (λ t. let d : b ≢ i = eqb-false b i t in subst (Cut link (getD head₀ b 0) bound) (sym (getD-set-other head i b v 0 d)) (c .past b (omega arith)));
+    rest = λ b l. let d : b ≢ i = λ z. omega arith in getD-set-other head i b v 0 d ∙ c .rest b (omega arith);
+  }
+
+  past-end : (l : List ℕ) (b : ℕ) → length l ≤ b → getD l b 0 ≡ 0
+  past-end [] b h = refl
+  past-end (x ∷ l) zero h = absurd (omega arith)
+  past-end (x ∷ l) (suc b) h = past-end l b (omega arith)
+
+  pub cutting-all-end : (head : List ℕ) (i : ℕ) → CuttingAll head₀ link bound head i → 1021 ≤ i → CutTo head₀ link bound head
+  cutting-all-end head i c h = record {
+    chains = record {
+      head-long = c .long;
+      link-long = w .link-long;
+      heads = λ b. byTest (ltb b 1021)
+          (λ t. (c .past b (let l = ltb-true b 1021 t in omega arith)) .below)
+          (λ t. let z = past-end head b (let l = ltb-false b 1021 t in let m = c .long in omega arith) in omega arith);
+      links = w .links;
+    };
+    keeps = λ registers b o k l. byTest (ltb b 1021)
+        (λ t. (c .past b (let l = ltb-true b 1021 t in omega arith)) .keeps registers o k l)
+        (λ t. let l = ltb-false b 1021 t in let m = c .most in subst (λ j. Holds registers link j o) (sym (c .rest b (omega arith))) k);
+  }
 
 -- ---- the loop of `find`
 module _ (signature : ℕ → ℕ) (registers : ℕ) (link : List ℕ) (start c : ℕ) where
@@ -91,6 +169,10 @@ module _ (signature : ℕ → ℕ) (registers : ℕ) (link : List ℕ) (start c 
   pub finding-end : (n i : ℕ) → Finding i → i < n → i < registers → Found signature registers n link start c i
   finding-end n i f h l = record { below = h; hit = λ z. absurd (omega arith); miss = λ z o k e. ended i o l (f .on o k e) }
 
+-- ---- where `resume` goes on
+pub chains-widen : (n : ℕ) (head link : List ℕ) → Chains n head link → n ≤ 1032 → Chains 1032 head link
+chains-widen n head link w h = record { head-long = w .head-long; link-long = w .link-long; heads = λ b. let l = w .heads b in omega arith; links = w .links }
+
 -- ---- an entry
 module _ (signature : ℕ → ℕ) (registers n c : ℕ) (head link : List ℕ) (w : Chains n head link) (some : 1 ≤ registers) (more : registers ≤ n) (within : n < 1032) where
   more-chains : Chains (suc n) head link
@@ -107,9 +189,10 @@ module _ (signature : ℕ → ℕ) (registers n c : ℕ) (head link : List ℕ) 
     most = let h = f .below in omega arith;
     hit = λ _. (f .hit l) .0;
     fresh = λ z. absurd (let h = f .below in omega arith);
+    kept = λ _. (refl, refl);
     chains = more-chains;
-    completes = λ signature′ same e all k p h. upTo (λ k. registers ≤ k → (o : ℕ) × (o < suc n) × Holds registers link (getD head (signature′ k % 1021) 0) o × (signature′ o ≡ signature′ k))
-        (λ k h p. let (o, b, u, v) = all k p h in (o, omega arith, subst (λ s. Holds registers link (getD head (s % 1021) 0) o) (sym (same k h)) u, same o b ∙ v ∙ sym (same k h)))
+    completes = λ signature′ same e all k p h. upTo (λ k. registers ≤ k → (o : ℕ) × (o ≤ k) × Holds registers link (getD head (signature′ k % 1021) 0) o × (signature′ o ≡ signature′ k))
+        (λ k h p. let (o, b, u, v) = all k p h in (o, b, subst (λ s. Holds registers link (getD head (s % 1021) 0) o) (sym (same k h)) u, same o (omega arith) ∙ v ∙ sym (same k h)))
         (λ p. let b = f .below in (r, omega arith, subst (λ s. Holds registers link (getD head (s % 1021) 0) r) (sym e) ((f .hit l) .1), same r b ∙ (f .hit l) .0 ∙ sym e))
         k h p;
   }
@@ -145,6 +228,7 @@ module _ (signature : ℕ → ℕ) (registers n c : ℕ) (head link : List ℕ) 
       most = omega arith;
       hit = λ z. absurd (omega arith);
       fresh = λ _ all k p h e. let (o, s, u, v) = all k p h in f .miss l o (subst (λ s. Holds registers link (getD head (s % 1021) 0) o) e u) (v ∙ e);
+      kept = λ z. absurd (omega arith);
       chains = record {
         head-long = simp length-set (w .head-long);
         link-long = simp length-set (w .link-long);
@@ -157,8 +241,8 @@ module _ (signature : ℕ → ℕ) (registers n c : ℕ) (head link : List ℕ) 
               (λ t. let e = getD-set-other link n i (getD head b 0) 0 (eqb-false i n t) in let h = w .links .lower i p in omega arith);
         };
       };
-      completes = λ signature′ same e all k p h. upTo (λ k. registers ≤ k → (o : ℕ) × (o < suc n) × Holds registers (set link n (getD head b 0)) (getD (set head b n) (signature′ k % 1021) 0) o × (signature′ o ≡ signature′ k))
-          (λ k h p. let (o, s, u, v) = all k p h in (o, omega arith, bucket (signature′ k % 1021) o (subst (λ s. Holds registers link (getD head (s % 1021) 0) o) (sym (same k h)) u), same o s ∙ v ∙ sym (same k h)))
+      completes = λ signature′ same e all k p h. upTo (λ k. registers ≤ k → (o : ℕ) × (o ≤ k) × Holds registers (set link n (getD head b 0)) (getD (set head b n) (signature′ k % 1021) 0) o × (signature′ o ≡ signature′ k))
+          (λ k h p. let (o, s, u, v) = all k p h in (o, s, bucket (signature′ k % 1021) o (subst (λ s. Holds registers link (getD head (s % 1021) 0) o) (sym (same k h)) u), same o (omega arith) ∙ v ∙ sym (same k h)))
           (λ p. (n, omega arith, subst (λ j. Holds registers (set link n (getD head b 0)) j n) (sym (ap (λ s. getD (set head b n) (s % 1021) 0) e ∙ ap (λ q. getD (set head b n) q 0) (sym eb) ∙ headed)) (here more), refl))
           k h p;
     }

@@ -1,9 +1,9 @@
--- Congruences propagated: passes over the applications until one joins no classes.
+-- Congruences propagated: application by application, and back to the first whose signature changed.
 use mathlib.Core.Path.{_≡_, refl, sym, _∙_, ap, subst}
 use mathlib.Core.Logic.{_⊎_, inl, inr, _≢_}
-use mathlib.Core.Bool.{Bool, true, false, not}
+use mathlib.Core.Bool.{Bool, true, false}
 use mathlib.Core.List.{List}
-use Prim.Native.Nat.{ℕ, zero, suc, _+_, _≤_, _<_}
+use Prim.Native.Nat.{ℕ, zero, suc, _+_, _-_, _*_, _%_, _≤_, _<_}
 use native.Mathlib.Omega.{arith}
 use native.Mathlib.Numerals.{add-one}
 use lib.Dec.{eqb, ltb}
@@ -14,20 +14,8 @@ use Rattle.base.specs.Each.{each-length}
 use Rattle.closure.specs.Written.{done-below, done-beyond}
 use Rattle.closure.specs.Numbering.{Closed}
 use Rattle.closure.specs.Merging.{tested, congruent, already, propagating-start, propagating-union, relabelOf, Relabeled, moved, stays, relabeled}
-use Rattle.closure.specs.Index.{Chains, Complete, signature-same, Entered}
-use Rattle.closure.specs.Arrays.{at, Below, Formed, lowOf, highOf, total, united, relabelled, signatureAt, Indexed, Joined, Passed, Propagated, Merged}
-use Rattle.closure.specs.Entering.{complete-none}
-
-pub true-false : true ≡ false → ⊥
-true-false e = let z : _≡_ {A = ℕ} 0 1 = cc in omega arith
-
-is-false : (b : Bool) → not b ≡ true → b ≡ false
-is-false true e = absurd (true-false (sym e))
-is-false false e = refl
-
-is-true : (b : Bool) → not b ≡ false → b ≡ true
-is-true true e = refl
-is-true false e = absurd (true-false e)
+use Rattle.closure.specs.Index.{Holds, holds-least, CutTo, chains-widen, Chains, Complete, signature-same, Entered}
+use Rattle.closure.specs.Arrays.{at, Below, Formed, lowOf, highOf, total, united, relabelled, signatureAt, Indexed, Joined, Underway, Propagated, Resumed, Merged}
 
 -- ---- the lower and the higher of two
 pub sides : (a b : ℕ) → ((highOf a b ≡ a) × (lowOf a b ≡ b)) ⊎ ((highOf a b ≡ b) × (lowOf a b ≡ a))
@@ -57,7 +45,35 @@ low-le a b = go (ltb a b) refl
 pub low-below : (a b m : ℕ) → a < m → b < m → lowOf a b < m
 low-below a b m p q = elim (sides a b) [ inl (e, g) ↦ subst (λ v. v < m) (sym g) q | inr (e, g) ↦ subst (λ v. v < m) (sym g) p ]
 
--- ---- the measure: the sum of the representatives twice, and of the pending marks
+high-most : (a b : ℕ) → (a ≤ highOf a b) × (b ≤ highOf a b)
+unfolding highOf
+high-most a b = go (ltb a b) refl
+  where
+    go : (t : Bool) → ltb a b ≡ t → (a ≤ pick t (λ _. b) (λ _. a)) × (b ≤ pick t (λ _. b) (λ _. a))
+    go true e = let h = ltb-true a b e in (omega arith, omega arith)
+    go false e = let h = ltb-false a b e in (omega arith, omega arith)
+
+-- ---- where `resume` goes on
+module _ (registers i d v next : ℕ) (head link : List ℕ) (w : Chains i head link) (some : 1 ≤ registers) (more : registers ≤ i) (within : i ≤ 1032) (most : d ≤ i) (ev : v ≡ d) (e : next ≡ highOf v registers) where
+  next-most : next ≤ i
+  next-most = elim (sides v registers) [ inl (a, b) ↦ let c : next ≡ v = e ∙ a in omega arith | inr (a, b) ↦ let c : next ≡ registers = e ∙ a in omega arith ]
+
+  next-least : registers ≤ next
+  next-least = let (a, b) = high-most v registers in omega arith
+
+  next-before : (k : ℕ) → registers ≤ k → k < next → k < d
+  next-before k p h = elim (sides v registers) [ inl (a, b) ↦ let c : next ≡ v = e ∙ a in omega arith | inr (a, b) ↦ let c : next ≡ registers = e ∙ a in absurd (omega arith) ]
+
+  pub cut-ready : Chains 1032 head link × (1 ≤ next) × (next ≤ 1032)
+  cut-ready = let a = next-least in let b = next-most in (chains-widen i head link w within, omega arith, omega arith)
+
+  pub resumed-all : next ≡ i → Resumed registers i d head link next head
+  resumed-all q = record { least = next-least; most = next-most; before = next-before; chains = subst (λ k. Chains k head link) (sym q) w; keeps = λ b o h l. h }
+
+  pub resumed-cut : (head′ : List ℕ) → CutTo head link next head′ → Resumed registers i d head link next head′
+  resumed-cut head′ c = record { least = next-least; most = next-most; before = next-before; chains = c .chains; keeps = c .keeps registers }
+
+-- ---- the measure: the sum of the representatives
 total-le : (k : ℕ) (l m : List ℕ) → ((i : ℕ) → i < k → getD l i 0 ≤ getD m i 0) → total k l ≤ total k m
 unfolding total
 total-le zero l m h = omega arith
@@ -178,7 +194,7 @@ module _ (function first second : List ℕ) (registers n : ℕ) where
   united-keeps : (next r : List ℕ) (i j : ℕ) → n ≤ 1032 → United n i j next r → (a b : ℕ) → a < n → b < n → getD next a 0 ≡ getD next b 0 → getD r a 0 ≡ getD r b 0
   united-keeps next r i j l m a b p q e = m .at-each a (omega arith) ∙ ap (relabelOf _ _) e ∙ sym (m .at-each b (omega arith))
 
-  -- ---- the loop of `pass`
+  -- ---- signatures
   abbrev signature : List ℕ → ℕ → ℕ
   signature next = signatureAt next function first second
 
@@ -187,15 +203,6 @@ module _ (function first second : List ℕ) (registers n : ℕ) where
   unfolding signatureAt Below
   same-signature next i j f p q e = signature-same (f .functions i p) (f .functions j q)
       (let w = f .within in let u = f .classes (getD second i 0) (f .seconds i p) in omega arith) (let w = f .within in let u = f .classes (getD second j 0) (f .seconds j q) in omega arith) e
-
-  -- Of the applications below i: unless classes were joined, these are closed and the index has their signatures.
-  pub record Passing (start next head link : List ℕ) (i : ℕ) (again : Bool) : Type 0 where
-    pub least : registers ≤ i
-    pub most : i ≤ n
-    pub joined : Joined start function first second registers n next
-    pub chains : Chains i head link
-    pub less : again ≡ true → total n next < total n start
-    pub closed : again ≡ false → Closed (at function) (at first) (at second) registers i (at next) × Complete (signature next) registers i head link
 
   joined-none : (start : List ℕ) → Formed start function first second registers n → Joined start function first second registers n start
   joined-none start f = record { formed = f; keeps = λ i j p q e. e; beyond = λ k h. refl; propagates = λ old x y w. w; shrinks = omega arith }
@@ -225,103 +232,133 @@ module _ (function first second : List ℕ) (registers n : ℕ) where
     shrinks = let l = union-less n next r i j bi bj x m in omega arith;
   }
 
-  pub passing-start : (start head link : List ℕ) → Formed start function first second registers n → Chains registers head link → Passing start start head link registers false
-  unfolding Closed
-  passing-start start head link f w = record {
-    least = omega arith;
-    most = f .more;
-    joined = joined-none start f;
-    chains = w;
-    less = λ e. absurd (true-false (sym e));
-    closed = λ _. ((λ i j p h. absurd (omega arith)), complete-none (signature start) registers head link);
-  }
+  -- the name that goes is not after the terms
+  name-most : (next : List ℕ) (a b i d : ℕ) → Formed next function first second registers n → a < n → b < n → a ≤ i → b ≤ i → d ≡ highOf (getD next a 0) (getD next b 0) → d ≤ i
+  name-most next a b i d f la lb p q e = let u = f .lowest a la in let v = f .lowest b lb in
+      elim (sides (getD next a 0) (getD next b 0)) [ inl (x, y) ↦ let c : d ≡ getD next a 0 = e ∙ x in omega arith | inr (x, y) ↦ let c : d ≡ getD next b 0 = e ∙ x in omega arith ]
 
-  module _ (start next head link : List ℕ) (i : ℕ) (again : Bool) (g : Passing start next head link i again) (h : i < n) (c o : ℕ) (ec : c ≡ signature next i) (head′ link′ : List ℕ) (w : Entered (signature next) registers i c head link o head′ link′) where
+  pub start-ready : (representative head link : List ℕ) (x y d : ℕ) → Formed representative function first second registers n → x < n → y < n → Indexed representative function first second registers n head link
+      → d ≡ highOf (getD representative x 0) (getD representative y 0) → Chains n head link × (1 ≤ registers) × (registers ≤ n) × (n ≤ 1032) × (d ≤ n)
+  start-ready representative head link x y d f p q w e = (w .chains, f .some, f .more, f .within, name-most representative x y n d f p q (omega arith) (omega arith) e)
+
+  -- ---- a union, and what is still known of the applications before the name that went
+  module _ (next r : List ℕ) (a b i d : ℕ) (f : Formed next function first second registers n) (h : i ≤ n) (m : United n a b next r) (ed : d ≡ highOf (getD next a 0) (getD next b 0))
+      (st : Closed (at function) (at first) (at second) registers i (at next)) (head link : List ℕ) (all : Complete (signature next) registers i head link) (q : ℕ) (head′ : List ℕ) (w : Resumed registers i d head link q head′) where
+    unmoved : (v k : ℕ) → registers ≤ k → k < q → v ≤ k → v < n → getD r v 0 ≡ getD next v 0
+    unmoved v k p l le ln = m .at-each v ln ∙ relabel-other (highOf (getD next a 0) (getD next b 0)) (lowOf (getD next a 0) (getD next b 0)) (getD next v 0)
+        (λ z. let x = w .before k p l in let y = f .lowest v ln in omega arith)
+
+    first-same : (k : ℕ) → registers ≤ k → k < q → getD r (getD first k 0) 0 ≡ getD next (getD first k 0) 0
+    unfolding Below
+    first-same k p l = let y = w .most in unmoved (getD first k 0) k p l (f .first-before k (omega arith)) (f .firsts k (omega arith))
+
+    second-same : (k : ℕ) → registers ≤ k → k < q → getD r (getD second k 0) 0 ≡ getD next (getD second k 0) 0
+    unfolding Below
+    second-same k p l = let y = w .most in unmoved (getD second k 0) k p l (f .second-before k (omega arith)) (f .seconds k (omega arith))
+
+    same : (k : ℕ) → registers ≤ k → k < q → signature r k ≡ signature next k
+    unfolding signatureAt
+    same k p l = rw (first-same k p l, second-same k p l)
+
+    pub resumed-closed : Closed (at function) (at first) (at second) registers q (at r)
+    unfolding Closed
+    resumed-closed u v pu lu pv lv e x y = let z = w .most in
+        m .at-each u (omega arith) ∙ ap (relabelOf (highOf (getD next a 0) (getD next b 0)) (lowOf (getD next a 0) (getD next b 0)))
+        (st u v pu (omega arith) pv (omega arith) e (sym (first-same u pu lu) ∙ x ∙ first-same v pv lv) (sym (second-same u pu lu) ∙ y ∙ second-same v pv lv)) ∙ sym (m .at-each v (omega arith))
+
+    pub resumed-complete : Complete (signature r) registers q head′ link
+    unfolding Complete
+    resumed-complete k p l = let z = w .most in let (o, u, x, y) = all k p (omega arith) in (
+      o,
+      u,
+      w .keeps (signature r k % 1021) o (subst (λ s. Holds registers link (getD head (s % 1021) 0) o) (sym (same k p l)) x) (omega arith),
+      same o (holds-least registers link _ o x) (omega arith) ∙ y ∙ sym (same k p l),
+    )
+
+  -- ---- the loop of `propagate`
+  module _ (start next head link : List ℕ) (i : ℕ) (g : Underway start function first second registers n next head link i) (h : i < n) (c o : ℕ) (ec : c ≡ signature next i) (head′ link′ : List ℕ) (w : Entered (signature next) registers i c head link o head′ link′) where
     pub found-below : o < n
     found-below = let m = w .most in omega arith
 
-    same : signature next o ≡ signature next i
-    same = byTest (eqb o i) (λ t. ap (signature next) (eqb-true o i t)) (λ t. let d : o ≢ i = eqb-false o i t in let m = w .most in w .hit (omega arith) ∙ ec)
+    same-as-found : signature next o ≡ signature next i
+    same-as-found = byTest (eqb o i) (λ t. ap (signature next) (eqb-true o i t)) (λ t. let d : o ≢ i = eqb-false o i t in let m = w .most in w .hit (omega arith) ∙ ec)
 
     chains-next : Chains (i + 1) head′ link′
     chains-next = subst (λ k. Chains k head′ link′) (sym (add-one i)) (w .chains)
 
-    pub passing-union : (r : List ℕ) → getD next o 0 ≢ getD next i 0 → r ≡ united n o i next → Passing start r head′ link′ (i + 1) true
-    passing-union r x e =
-        let u = united-is n o i next r (let l = g .joined .formed .long in let v = g .joined .formed .within in omega arith) e in
-        let l = union-less n next r o i found-below h x u in
-        let s = g .joined .shrinks in
-        record {
-          least = let a = g .least in omega arith;
-          most = omega arith;
-          joined = joined-more (g .joined) (joined-union next r o i (g .joined .formed) (w .least) found-below (g .least) h same x u);
-          chains = chains-next;
-          less = λ _. omega arith;
-          closed = λ z. absurd (true-false z);
-        }
-
     -- an application below i that is congruent to i is in its class
-    with-others : getD next o 0 ≡ getD next i 0 → Closed (at function) (at first) (at second) registers i (at next) × Complete (signature next) registers i head link
+    with-others : getD next o 0 ≡ getD next i 0
         → (k : ℕ) → registers ≤ k → k < i → getD function k 0 ≡ getD function i 0 → getD next (getD first k 0) 0 ≡ getD next (getD first i 0) 0 → getD next (getD second k 0) 0 ≡ getD next (getD second i 0) 0 → getD next k 0 ≡ getD next i 0
     unfolding Closed signatureAt
-    with-others e (st, all) k p l a b d = byTest (eqb o i)
-        (λ t. absurd (w .fresh (eqb-true o i t) all k p l (rw (a, b, d) (sym ec))))
+    with-others e k p l a b d = byTest (eqb o i)
+        (λ t. absurd (w .fresh (eqb-true o i t) (g .complete) k p l (rw (a, b, d) (sym ec))))
         (λ t. let x : o ≢ i = eqb-false o i t in let m = w .most in
-        let (a′, b′, d′) = same-signature next o i (g .joined .formed) found-below h same in
-        st k o p l (w .least) (omega arith) (a ∙ sym a′) (b ∙ sym b′) (d ∙ sym d′) ∙ e)
+        let (a′, b′, d′) = same-signature next o i (g .joined .formed) found-below h same-as-found in
+        g .closed k o p l (w .least) (omega arith) (a ∙ sym a′) (b ∙ sym b′) (d ∙ sym d′) ∙ e)
 
-    pub passing-same : getD next o 0 ≡ getD next i 0 → Passing start next head′ link′ (i + 1) again
+    pub underway-same : getD next o 0 ≡ getD next i 0 → Underway start function first second registers n next head′ link′ (i + 1)
     unfolding Closed
-    passing-same e = record {
+    underway-same e = record {
       least = let a = g .least in omega arith;
       most = omega arith;
       joined = g .joined;
       chains = chains-next;
-      less = g .less;
-      closed = λ z. let (st, all) = g .closed z in (
-        (λ a b p q r s u v t. byTest (eqb a i)
-            (λ y. let ea = eqb-true a i y in byTest (eqb b i)
-            (λ y. ap (λ k. getD next k 0) (ea ∙ sym (eqb-true b i y)))
-            (λ y. let d : b ≢ i = eqb-false b i y in sym (with-others e (st, all) b r (omega arith) (sym u ∙ ap (λ k. getD function k 0) ea) (sym v ∙ ap (λ k. getD next (getD first k 0) 0) ea) (sym t ∙ ap (λ k. getD next (getD second k 0) 0) ea) ∙ ap (λ k. getD next k 0) (sym ea))))
-            (λ y. let d : a ≢ i = eqb-false a i y in byTest (eqb b i)
-            (λ y. let eb = eqb-true b i y in with-others e (st, all) a p (omega arith) (u ∙ ap (λ k. getD function k 0) eb) (v ∙ ap (λ k. getD next (getD first k 0) 0) eb) (t ∙ ap (λ k. getD next (getD second k 0) 0) eb) ∙ ap (λ k. getD next k 0) (sym eb))
-            (λ y. let c : b ≢ i = eqb-false b i y in st a b p (omega arith) r (omega arith) u v t))),
-        subst (λ k. Complete (signature next) registers k head′ link′) (sym (add-one i)) (w .completes (signature next) (λ k l. refl) (sym ec) all),
-      );
+      closed = λ a b p q r s u v t. byTest (eqb a i)
+          (λ y. let ea = eqb-true a i y in byTest (eqb b i)
+          (λ y. ap (λ k. getD next k 0) (ea ∙ sym (eqb-true b i y)))
+          (λ y. let d : b ≢ i = eqb-false b i y in sym (with-others e b r (omega arith) (sym u ∙ ap (λ k. getD function k 0) ea) (sym v ∙ ap (λ k. getD next (getD first k 0) 0) ea) (sym t ∙ ap (λ k. getD next (getD second k 0) 0) ea) ∙ ap (λ k. getD next k 0) (sym ea))))
+          (λ y. let d : a ≢ i = eqb-false a i y in byTest (eqb b i)
+          (λ y. let eb = eqb-true b i y in with-others e a p (omega arith) (u ∙ ap (λ k. getD function k 0) eb) (v ∙ ap (λ k. getD next (getD first k 0) 0) eb) (t ∙ ap (λ k. getD next (getD second k 0) 0) eb) ∙ ap (λ k. getD next k 0) (sym eb))
+          (λ y. let c : b ≢ i = eqb-false b i y in g .closed a b p (omega arith) r (omega arith) u v t));
+      complete = subst (λ k. Complete (signature next) registers k head′ link′) (sym (add-one i)) (w .completes (signature next) (λ k l. refl) (sym ec) (g .complete));
     }
 
-    -- the two ways of a turn
-    pub passing-turn : (r : List ℕ) (again′ : Bool) → ((getD next o 0 ≢ getD next i 0) × (r ≡ united n o i next) × (again′ ≡ true)) ⊎ ((getD next o 0 ≡ getD next i 0) × (r ≡ next) × (again′ ≡ again)) → Passing start r head′ link′ (i + 1) again′
-    passing-turn r again′ (inl (x, e, q)) = rw q (passing-union r x e)
-    passing-turn r again′ (inr (x, e, q)) = rw (e, q) (passing-same x)
+    module _ (x : getD next o 0 ≢ getD next i 0) where
+      -- the application that was found is before i, and the index is as it was
+      found-before : o < i
+      found-before = let d : o ≢ i = λ e. x (ap (λ k. getD next k 0) e) in let m = w .most in omega arith
 
-  pub passing-end : (start next head link : List ℕ) (i : ℕ) (again : Bool) → Passing start next head link i again → n ≤ i → Passed start function first second registers n next head link again
-  passing-end start next head link i again g h = let m = g .most in let e : i ≡ n = omega arith in record {
+      pub resume-ready : (d : ℕ) → d ≡ highOf (getD next o 0) (getD next i 0) → Chains i head′ link′ × (1 ≤ registers) × (registers ≤ i) × (i ≤ 1032) × (d ≤ i)
+      resume-ready d e = let (p, q) = w .kept found-before in let v = g .joined .formed .within in
+          (rw (p, q) (g .chains), g .joined .formed .some, g .least, omega arith, let a = found-before in name-most next o i i d (g .joined .formed) found-below h (omega arith) (omega arith) e)
+
+      into : (r : List ℕ) → r ≡ united n o i next → United n o i next r
+      into r e = united-is n o i next r (let l = g .joined .formed .long in let v = g .joined .formed .within in omega arith) e
+
+      union-shrinks : (r : List ℕ) → r ≡ united n o i next → total n r < total n next
+      union-shrinks r e = union-less n next r o i found-below h x (into r e)
+
+      pub underway-union : (r head″ : List ℕ) (d q : ℕ) → r ≡ united n o i next → d ≡ highOf (getD next o 0) (getD next i 0) → Resumed registers i d head′ link′ q head″ → Underway start function first second registers n r head″ link′ q
+      underway-union r head″ d q e ed z = let (eh, el) = w .kept found-before in record {
+        least = z .least;
+        most = let m = z .most in omega arith;
+        joined = joined-more (g .joined) (joined-union next r o i (g .joined .formed) (w .least) found-below (g .least) h same-as-found x (into r e));
+        chains = z .chains;
+        closed = resumed-closed next r o i i d (g .joined .formed) (omega arith) (into r e) ed (g .closed) head′ link′ (rw (eh, el) (g .complete)) q head″ z;
+        complete = resumed-complete next r o i i d (g .joined .formed) (omega arith) (into r e) ed (g .closed) head′ link′ (rw (eh, el) (g .complete)) q head″ z;
+      }
+
+    pub less-union : (x : getD next o 0 ≢ getD next i 0) (r : List ℕ) (q : ℕ) → r ≡ united n o i next → 2000 * total n r + (n - q) < 2000 * total n next + (n - i)
+    less-union x r q e = let l = union-shrinks x r e in let v = g .joined .formed .within in omega arith
+
+  pub underway-end : (start next head link : List ℕ) (i : ℕ) → Underway start function first second registers n next head link i → n ≤ i → Propagated start function first second registers n next head link
+  underway-end start next head link i g h = let m = g .most in let e : i ≡ n = omega arith in record {
     joined = g .joined;
-    chains = subst (λ k. Chains k head link) e (g .chains);
-    less = g .less;
-    closed = λ z. subst (λ k. Closed (at function) (at first) (at second) registers k (at next) × Complete (signature next) registers k head link) e (g .closed z);
+    closed = subst (λ k. Closed (at function) (at first) (at second) registers k (at next)) e (g .closed);
+    indexed = record { chains = subst (λ k. Chains k head link) e (g .chains); complete = subst (λ k. Complete (signature next) registers k head link) e (g .complete) };
   }
 
-  -- ---- the loop of `propagate`
-  pub record Underway (start next head link : List ℕ) : Type 0 where
-    pub joined : Joined start function first second registers n next
-    pub chains : Chains n head link
-
-  pub underway-start : (start head link : List ℕ) → Formed start function first second registers n → Chains n head link → Underway start start head link
-  underway-start start head link f w = record { joined = joined-none start f; chains = w }
-
-  pub underway-turn : (start next r head link head′ link′ : List ℕ) (again : Bool) → Underway start next head link → Passed next function first second registers n r head′ link′ again → Underway start r head′ link′
-  underway-turn start next r head link head′ link′ again g p = record { joined = joined-more (g .joined) (p .joined); chains = p .chains }
-
-  pub underway-less : (next r head link : List ℕ) (again : Bool) → Passed next function first second registers n r head link again → not again ≡ false → total n r < total n next
-  underway-less next r head link again p e = p .less (is-true again e)
-
-  pub underway-end : (start next r head link head′ link′ : List ℕ) (again : Bool) → Underway start next head link → Passed next function first second registers n r head′ link′ again → not again ≡ true → Propagated start function first second registers n r head′ link′
-  underway-end start next r head link head′ link′ again g p e = let (st, all) = p .closed (is-false again e) in record {
-    joined = joined-more (g .joined) (p .joined);
-    closed = st;
-    indexed = record { chains = p .chains; complete = all };
+  -- how it starts: after the union of x and y
+  pub underway-start : (representative next head link head′ : List ℕ) (x y d q : ℕ) → Formed representative function first second registers n → x < n → y < n → Closed (at function) (at first) (at second) registers n (at representative)
+      → Indexed representative function first second registers n head link → next ≡ united n x y representative → d ≡ highOf (getD representative x 0) (getD representative y 0) → Resumed registers n d head link q head′
+      → Underway next function first second registers n next head′ link q
+  underway-start representative next head link head′ x y d q f p l st w e ed z = let m = united-is n x y representative next (let a = f .long in let b = f .within in omega arith) e in record {
+    least = z .least;
+    most = z .most;
+    joined = joined-none next (united-formed representative next x y f p l m);
+    chains = z .chains;
+    closed = resumed-closed representative next x y n d f (omega arith) m ed st head link (w .complete) q head′ z;
+    complete = resumed-complete representative next x y n d f (omega arith) m ed st head link (w .complete) q head′ z;
   }
 
   pub merged-is : (representative next r head link : List ℕ) (x y : ℕ) → Formed representative function first second registers n → x < n → y < n

@@ -13,7 +13,7 @@ use Rattle.closure.specs.Numbering.{Closed}
 use Rattle.closure.specs.Merging.{relabelOf}
 use Rattle.closure.specs.Index.{Complete}
 use Rattle.closure.specs.Arrays.{at, Below, Formed, highOf, lowOf, signatureAt, Indexed, Lowest, Used, used, unused, Merged}
-use Rattle.closure.specs.Propagation.{United, united-merged, relabel-other, true-false}
+use Rattle.closure.specs.Propagation.{United, united-merged, relabel-other}
 
 pub lowest : {representative function first second : List ℕ} {registers n : ℕ} → Formed representative function first second registers n → Lowest representative first second n
 unfolding Below
@@ -53,6 +53,9 @@ module _ (representative first second : List ℕ) (n d : ℕ) (w : Lowest repres
   pub no-use-end : (i : ℕ) → NoUse representative first second n d i → n ≤ i → Used representative first second n d false
   no-use-end i u h = unused (λ k l. u .none k (omega arith) l)
 
+true-false : true ≡ false → ⊥
+true-false e = let z : _≡_ {A = ℕ} 0 1 = cc in omega arith
+
 -- ---- a union that changes no signature
 module _ (function first second representative head link : List ℕ) (registers n x y : ℕ) (f : Formed representative function first second registers n) (p : x < n) (q : y < n)
     (st : Closed (at function) (at first) (at second) registers n (at representative)) (index : Indexed representative function first second registers n head link) (next : List ℕ) (m : United n x y representative next) where
@@ -72,7 +75,7 @@ module _ (function first second representative head link : List ℕ) (registers 
     still-complete : Complete (signatureAt next function first second) registers n head link
     unfolding Complete
     still-complete k l h = let (o, b, u, v) = index .complete k l h in
-        (o, b, rw (same k h) u, same o b ∙ v ∙ sym (same k h))
+        (o, b, rw (same k h) u, same o (omega arith) ∙ v ∙ sym (same k h))
 
     still-closed : Closed (at function) (at first) (at second) registers n (at next)
     unfolding Closed

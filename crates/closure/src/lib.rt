@@ -11,8 +11,8 @@ ghost use mathlib.Core.Path.{_≡_};
 ghost use Prim.Native.Nat.{_<_, _≤_};
 ghost use lib.ListN.{getD};
 ghost use Rattle.closure.specs.Numbering.{Closed};
-ghost use Rattle.closure.specs.Index.{signatureOf, Down, Chains, Found, Entered};
-ghost use Rattle.closure.specs.Arrays.{at, Below, Formed, Argument, Readable, Indexed, Lowest, Used, lowOf, highOf, signatureAt, relabelled, united, cleared, Passed, Propagated, Merged, Parts, Clashes};
+ghost use Rattle.closure.specs.Index.{signatureOf, Down, Chains, Found, Entered, Cut, CutTo};
+ghost use Rattle.closure.specs.Arrays.{at, Below, Formed, Argument, Readable, Indexed, Lowest, Used, lowOf, highOf, signatureAt, relabelled, united, Underway, Propagated, Resumed, Merged, Parts, Clashes};
 
 /// A number for each computed term: at most eight constants and 1,024 applications.
 pub type Numbers = [u16; 1032];
@@ -148,20 +148,55 @@ pub fn enter(
     count
 }
 
-// Takes all applications out of the index.
-fn clear(head: &mut Heads)
-    ensures { λ _. ⌜ now (head .exit) ≡ cleared (now (head .entry)) ⌝ }
+// The first number below the bound in the chain from `start` on.
+fn below(link: &Numbers, start: usize, bound: usize) -> usize
+    requires { ⌜ Down (now link) × (start < 1032) × (1 ≤ bound) ⌝ }
+    ensures { λ r. ⌜ Cut (now (link .entry)) start bound r ⌝ }
+{
+    let mut i = start;
+    while bound <= i {
+        i = wide(link[i]);
+    }
+    i
+}
+
+// Takes the applications from the bound on out of the index.
+fn cut(head: &mut Heads, link: &Numbers, bound: usize)
+    requires { ⌜ Chains 1032 (now head) (now link) × (1 ≤ bound) × (bound ≤ 1032) ⌝ }
+    ensures { λ _. ⌜ CutTo (now (head .entry)) (now (link .entry)) bound (now (head .exit)) ⌝ }
 {
     let mut i: usize = 0;
     while i < 1021 {
-        head[i] = 0;
+        let start = wide(head[i]);
+        let rest = below(link, start, bound);
+        head[i] = rest as u16;
         i = i + 1;
     }
 }
 
-// Enters the applications into an empty index, and unites each with the one that the index has for its signature.
-// Whether there was anything to unite: signatures that were entered before may then have changed.
-fn pass(
+// The later of two numbers.
+fn later(a: usize, b: usize) -> usize
+    ensures { λ r. ⌜ r ≡ highOf a b ⌝ }
+{
+    if a < b { b } else { a }
+}
+
+// The application to go on with when the applications below i were looked at and then the name d went: arguments come before
+// their terms, and a class has its lowest term as its name, so the signatures of the terms before d are as they were.
+fn resume(head: &mut Heads, link: &Numbers, registers: usize, i: usize, d: u16) -> usize
+    requires { ⌜ Chains i (now head) (now link) × (1 ≤ registers) × (registers ≤ i) × (i ≤ 1032) × (d ≤ i) ⌝ }
+    ensures { λ r. ⌜ Resumed registers i d (now (head .entry)) (now (link .entry)) r (now (head .exit)) ⌝ }
+{
+    let next = later(wide(d), registers);
+    if next == i {
+        return next;
+    }
+    cut(head, link, next);
+    next
+}
+
+// Unites what is congruent, from the application `start` on, and leaves an index of all applications.
+fn propagate(
     representative: &mut Numbers,
     function: &Numbers,
     first: &Numbers,
@@ -170,12 +205,12 @@ fn pass(
     link: &mut Numbers,
     registers: usize,
     count: usize,
-) -> bool
-    requires { ⌜ Formed (now representative) (now function) (now first) (now second) registers count × Chains registers (now head) (now link) ⌝ }
-    ensures { λ r. ⌜ Passed (now (representative .entry)) (now (function .entry)) (now (first .entry)) (now (second .entry)) registers count (now (representative .exit)) (now (head .exit)) (now (link .exit)) r ⌝ }
+    start: usize,
+)
+    requires { ⌜ Underway (now representative) (now function) (now first) (now second) registers count (now representative) (now head) (now link) start ⌝ }
+    ensures { λ _. ⌜ Propagated (now (representative .entry)) (now (function .entry)) (now (first .entry)) (now (second .entry)) registers count (now (representative .exit)) (now (head .exit)) (now (link .exit)) ⌝ }
 {
-    let mut again = false;
-    let mut i = registers;
+    let mut i = start;
     while i < count {
         let c = signature_at(representative, function, first, second, i);
         let o = enter(
@@ -189,42 +224,12 @@ fn pass(
             i,
             c,
         );
-        if representative[o] != representative[i] {
+        if representative[o] == representative[i] {
+            i = i + 1;
+        } else {
+            let d = higher(representative[o], representative[i]);
             unite(representative, count, o, i);
-            again = true;
-        }
-        i = i + 1;
-    }
-    again
-}
-
-// Unites what is congruent, and leaves an index of all applications.
-fn propagate(
-    representative: &mut Numbers,
-    function: &Numbers,
-    first: &Numbers,
-    second: &Numbers,
-    head: &mut Heads,
-    link: &mut Numbers,
-    registers: usize,
-    count: usize,
-)
-    requires { ⌜ Formed (now representative) (now function) (now first) (now second) registers count × Chains count (now head) (now link) ⌝ }
-    ensures { λ _. ⌜ Propagated (now (representative .entry)) (now (function .entry)) (now (first .entry)) (now (second .entry)) registers count (now (representative .exit)) (now (head .exit)) (now (link .exit)) ⌝ }
-{
-    loop {
-        clear(head);
-        if !pass(
-            representative,
-            function,
-            first,
-            second,
-            head,
-            link,
-            registers,
-            count,
-        ) {
-            return;
+            i = resume(head, link, registers, i, d);
         }
     }
 }
@@ -266,12 +271,13 @@ pub fn merge(
     requires { ⌜ Formed (now representative) (now function) (now first) (now second) registers count × (x < count) × (y < count) × Closed (at (now function)) (at (now first)) (at (now second)) registers count (at (now representative)) × Indexed (now representative) (now function) (now first) (now second) registers count (now head) (now link) ⌝ }
     ensures { λ _. ⌜ Merged (now (representative .entry)) (now (function .entry)) (now (first .entry)) (now (second .entry)) registers count x y (now (representative .exit)) (now (head .exit)) (now (link .exit)) ⌝ }
 {
-    let from = higher(representative[x], representative[y]);
-    let changes = used(representative, first, second, count, from);
+    let d = higher(representative[x], representative[y]);
+    let changes = used(representative, first, second, count, d);
     unite(representative, count, x, y);
     if !changes {
         return;
     }
+    let start = resume(head, link, registers, count, d);
     propagate(
         representative,
         function,
@@ -281,6 +287,7 @@ pub fn merge(
         link,
         registers,
         count,
+        start,
     );
 }
 

@@ -1,0 +1,26 @@
+use Prim.Native.Nat.{_<_}
+use native.Mathlib.Omega.{arith}
+use borrow.Author.Needs.{needs}
+use Rattle.closure.specs.Index.{Cutting, cutting-start, cutting-turn, cutting-end, link-less}
+use Rattle.closure.proofs.below.Statement.{statement}
+use Rattle.closure.proofs.below.Tie as tie
+
+abbrev Inv-loop : tie.InvT-loop
+Inv-loop link start bound i₀ i = (i < 1032) × Cutting link start bound i
+
+abbrev μ-loop : tie.MeasureT-loop
+μ-loop link start bound i₀ i = i
+
+pub below-spec : {M : Type 1} → statement M
+below-spec =
+    tie.close
+    (tie.spec
+    Inv-loop
+    μ-loop
+    (λ c. ((c .pre .1), cutting-start _ _ _))
+    (λ c. search needs)
+    (λ c. search needs)
+    (λ c κs. search needs)
+    (λ c. link-less _ _ _ _ (c .before .before .before .before .pre .0) (c .before .before .before .before .pre .2) (c .before .before .loop-test .taken) (c .wide .ensures))
+    (λ c. (let l = link-less _ _ _ _ (c .before .before .before .before .pre .0) (c .before .before .before .before .pre .2) (c .before .before .loop-test .taken) (c .wide .ensures) in let h = (c .before .before .before .loop .inv .0) in omega arith, cutting-turn _ _ _ _ _ (c .before .before .before .loop .inv .1) (c .before .before .loop-test .taken) (c .wide .ensures)))
+    (λ c. cutting-end _ _ _ _ (c .before .loop .inv .1) (c .loop-test .left)))
