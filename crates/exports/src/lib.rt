@@ -40,7 +40,7 @@ fn run_numbers(verdict: Verdict) -> [u64; 4]
 }
 
 /// Judges a packed trace of any length: the refusal and its place; the first incoherent letter; the first infeasible letter before
-/// it. Each is 0 for none.
+/// it. Each is 0 for none. Where `answer` has room for the four, the trace is judged, as demand 2 says.
 #[no_mangle]
 pub extern "C" fn fadzgime_monitor(trace: &[u8], answer: &mut [u64])
     ensures { λ _. ⌜ now (answer .exit) ≡ monitored (now (trace .entry)) (now (answer .entry)) ⌝ }

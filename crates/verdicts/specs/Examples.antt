@@ -178,10 +178,10 @@ unfolding readMacro readText tokenAt gap width Bytes.run registers block stateme
 still-read = refl
 
 -- vars x y;assert x=y;
-abbrev claim-text : List ℕ
+abbrev pub claim-text : List ℕ
 claim-text = 118 ∷ 97 ∷ 114 ∷ 115 ∷ 32 ∷ 120 ∷ 32 ∷ 121 ∷ 59 ∷ 97 ∷ 115 ∷ 115 ∷ 101 ∷ 114 ∷ 116 ∷ 32 ∷ 120 ∷ 61 ∷ 121 ∷ 59 ∷ []
 
-claim-read : readMacro claim-text ≡ got (record { registers = 120 ∷ 121 ∷ []; functions = []; arities = []; body = assert (equal 0 1) then empty }) 20
+pub claim-read : readMacro claim-text ≡ got (record { registers = 120 ∷ 121 ∷ []; functions = []; arities = []; body = assert (equal 0 1) then empty }) 20
 unfolding readMacro readText tokenAt gap width Bytes.run registers block statement tested condition indexOf sizeBlock size
 claim-read = refl
 

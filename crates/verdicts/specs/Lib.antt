@@ -13,4 +13,5 @@ pub mod Demand3
 pub mod Settled
 pub mod Readings
 pub mod CountedPairs
+pub mod FailingExample
 pub mod Examples
