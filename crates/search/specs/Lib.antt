@@ -20,4 +20,6 @@ pub mod Modelling
 pub mod Answering
 pub mod MacroSearch
 pub mod Judged
+pub mod MacroExecutions
+pub mod MacroExecutionsExample
 pub mod Answerable
