@@ -60,7 +60,7 @@ not-trace : {a b : ℕ} {h : Header} {ls : List Letter} → refused a b ≡ trac
 not-trace e = let z : _≡_ {A = ℕ} 0 1 = cc in omega arith
 
 module _ (limit : ℕ) (e : Edition) (s : List ℕ) (h : Header) (ls : List Letter) where
-  within : readingWithin limit e s ≡ trace h ls → (reading e s ≡ trace h ls) × (length ls ≤ limit)
+  pub within : readingWithin limit e s ≡ trace h ls → (reading e s ≡ trace h ls) × (length ls ≤ limit)
   unfolding readingWhere lettersOf
   within q = go (beginning e s) q
     where

@@ -1,5 +1,5 @@
 -- What the proofs of several functions use: an answer that is too short or has its numbers stored, and the numbers of each answer.
-use mathlib.Core.Path.{_≡_, refl, ap, _∙_}
+use mathlib.Core.Path.{_≡_, refl, ap, _∙_, subst}
 use native.Mathlib.Omega.{arith}
 use Prim.Native.Nat.{ℕ, _≤_, _<_}
 use mathlib.Core.List.{List, [], _∷_, _++_}
@@ -11,13 +11,13 @@ use Rattle.monitoring.specs.declared.Verdict.{Verdict}
 use Rattle.monitoring.specs.declared.Verdict.the-variants.{Judged, Refused}
 use Rattle.letters.specs.Editions.{firstEdition}
 use Rattle.letters.specs.Traces.{readingWithin}
-use Rattle.shown.specs.Answer.{shownAnswer, answerTo, outputAfter}
+use Rattle.shown.specs.Answer.{shownAnswer, answerTo, outputAfter, Means, Showed}
 use Rattle.shown.specs.declared.Shown.{Shown}
 use Rattle.shown.specs.declared.Shown.the-variants as shown
 use Rattle.grammar.specs.Reading.{readMacro}
 use Rattle.syntax.specs.Answer as syntax
 use Rattle.syntax.specs.declared.Answer.{Answer}
-use Rattle.exports.specs.Numbers.{laidOver, runNumbers, monitored, modelNumbers, modelled, modelOutput, macroRead}
+use Rattle.exports.specs.Numbers.{laidOver, runNumbers, monitored, modelNumbers, modelled, modelOutput, ModelMeans, macroRead}
 use Rattle.exports.specs.Held.{heldNumbers, held-macro}
 use Rattle.semantics.specs.Models.{Feasible}
 use Rattle.verdicts.specs.Demand3.{Demand3}
@@ -88,6 +88,9 @@ output-short trace out answer short = rw (lt-ltb (length answer) 4 short) refl
 pub output-shown : (trace out out′ answer : List ℕ) → 4 ≤ length answer → out′ ≡ outputAfter (readingWithin 1024 firstEdition trace) out → out′ ≡ modelOutput trace out answer
 unfolding modelOutput
 output-shown trace out out′ answer room e = rw (le-ltb (length answer) 4 room) e
+
+pub model-means : {trace out out′ : List ℕ} {s : Shown} → Showed trace out s out′ → ModelMeans trace out out′
+model-means {trace} {out} {out′} w = subst (λ a. Means trace out a out′) (w .answer) (w .means)
 
 -- ---- The reader
 

@@ -10,7 +10,7 @@ use Rattle.letters.specs.Traces.{readingWithin}
 use Rattle.macros.specs.Points.{sizeBlock}
 use Rattle.monitoring.specs.Run.{verdictAnswer}
 use Rattle.monitoring.specs.Stream.{answerOf}
-use Rattle.shown.specs.Answer.{answerTo, outputAfter}
+use Rattle.shown.specs.Answer.{answerTo, outputAfter, Means}
 use Rattle.shown.specs.Answer as shown
 use Rattle.grammar.specs.Grammar.{Macro}
 use Rattle.grammar.specs.Reading.{Got, got, refused, exhausted, readMacro}
@@ -43,6 +43,10 @@ modelled trace room answer = laidOver 4 (modelNumbers (answerTo (readingWithin 1
 -- the output after it; it stays as lent where the answer has no room
 unfoldable pub modelOutput : (trace out answer : List ℕ) → List ℕ
 modelOutput trace out answer = pick (ltb (length answer) 4) (λ _. out) λ _. outputAfter (readingWithin 1024 firstEdition trace) out
+
+-- what the answer means, with the output out before and out′ after
+abbrev pub ModelMeans : (trace out out′ : List ℕ) → Type 0
+ModelMeans trace out out′ = Means trace out (answerTo (readingWithin 1024 firstEdition trace) (length out)) out′
 
 -- ---- The reader: refusal, place, registers, functions, points. (`exhausted` is never what reading gives.)
 

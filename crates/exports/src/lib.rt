@@ -12,7 +12,7 @@ ghost use Rattle.monitoring.specs.Demand2.{Demand2};
 ghost use Rattle.monitoring.specs.Run.{verdictAnswer};
 ghost use Rattle.monitoring.specs.Stream.{answerOf};
 ghost use Rattle.shown.specs.Answer.{shownAnswer};
-ghost use Rattle.exports.specs.Numbers.{runNumbers, monitored, modelNumbers, modelled, modelOutput, macroRead};
+ghost use Rattle.exports.specs.Numbers.{runNumbers, monitored, modelNumbers, modelled, modelOutput, ModelMeans, macroRead};
 ghost use Rattle.exports.specs.Held.{heldNumbers};
 ghost use Rattle.search.specs.Answering as search;
 ghost use Rattle.exports.specs.Judging.{verdictNumbers, Judging};
@@ -66,11 +66,13 @@ fn model_numbers(shown: Shown) -> [u64; 4]
 }
 
 /// Shows a data model of a packed trace of at most 1,024 letters: the refusal and its place; the first infeasible letter; the bytes of
-/// the packed model, which stands at the front of the output. Each is 0 for none.
+/// the packed model, which stands at the front of the output. Each is 0 for none. Where `answer` has room for the four, they mean what
+/// `shown::show` says: the bytes describe a model of all tests, or there is none.
 #[no_mangle]
 pub extern "C" fn fadzgime_model(trace: &[u8], out: &mut [u8], answer: &mut [u64])
     ensures { λ _. ⌜ now (answer .exit) ≡ modelled (now (trace .entry)) (length (now (out .entry))) (now (answer .entry)) ⌝ }
     ensures { λ _. ⌜ now (out .exit) ≡ modelOutput (now (trace .entry)) (now (out .entry)) (now (answer .entry)) ⌝ }
+    ensures { λ _. ⌜ (4 ≤ length (now (answer .entry)) → ModelMeans (now (trace .entry)) (now (out .entry)) (now (out .exit))) ⌝ }
 {
     if answer.len() < 4 {
         return;

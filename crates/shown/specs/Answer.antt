@@ -1,16 +1,22 @@
 -- What the whole-trace engine answers (document 01, "The shown model" and "The questions": 1, 2, 3, 5, 4, then 6 where a due model does not fit).
 use mathlib.Core.Path.{_≡_}
-use mathlib.Core.List.{List, _++_}
-use Prim.Native.Nat.{ℕ}
+use mathlib.Core.List.{List, _++_, reverse}
+use Prim.Native.Nat.{ℕ, _≤_, _<_}
 use lib.Dec.{eqb, leb}
-use lib.ListN.{length, drop}
+use lib.ListN.{length, take, drop}
 use Rattle.base.specs.Choice.{pick}
 use Rattle.letters.specs.declared.Header.{Header}
-use Rattle.letters.specs.Editions.{firstEdition}
-use Rattle.letters.specs.Traces.{Reading, trace, refused, readingWithin}
-use Rattle.semantics.specs.Terms.{State, state, traceOf}
+use Rattle.letters.specs.declared.Letter.{Letter}
+use Rattle.letters.specs.Editions.{firstEdition, mostLetters}
+use Rattle.letters.specs.Words.{HeaderFits}
+use Rattle.letters.specs.Traces.{Reading, trace, refused, reading, readingWithin}
+use Rattle.semantics.specs.Terms.{State, state, traceOf, WellFormed}
+use Rattle.semantics.specs.Coherence.{FailsAt}
+use Rattle.semantics.specs.Models.{Satisfies, Feasible}
+use Rattle.semantics.specs.Tables.{Tables, InRange, modelOf}
+use Rattle.semantics.specs.Numbering.{IsShown}
 use Rattle.semantics.specs.Shown.{tablesOf}
-use Rattle.semantics.specs.PackedTables.{packTables, firstRowWidths}
+use Rattle.semantics.specs.PackedTables.{packTables, readTables, firstRowWidths}
 use Rattle.semantics.specs.Judgement.{firstInfeasible}
 use Rattle.engine.specs.Engine.{Computed}
 use Rattle.shown.specs.declared.Shown.{Shown}
@@ -48,10 +54,60 @@ unfoldable pub outputAfter : Reading → List ℕ → List ℕ
 outputAfter (refused number place) out = out
 outputAfter (trace h ls) out = pick (eqb (firstInfeasible (traceOf h ls)) 0) (λ _. laidIn (modelBytes (state (traceOf h ls))) out) λ _. out
 
--- The bytes s are answered, with the output out before and out′ after.
+-- ---- what the answer is worth, without a way to compute it
+
+-- The bytes are a well-formed trace of at most 1,024 letters.
+pub record IsTrace (s : List ℕ) (h : Header) (letters : List Letter) : Type 0 where
+  pub read : reading firstEdition s ≡ trace h letters
+  pub few : length letters ≤ mostLetters
+  pub header : HeaderFits firstEdition h
+  pub formed : WellFormed (traceOf h letters)
+
+-- The tables are those that document 01 asks for; there are no others (`tables-unique`).
+abbrev pub ShownFor : Header → List Letter → Tables → Type 0
+ShownFor h letters t = IsShown (h .registers) (reverse (state (traceOf h letters) .terms)) (state (traceOf h letters) .equals) t
+
+-- The bytes read back to these tables, and all tests of the letters hold in the model that they describe.
+pub record ModelIn (bytes : List ℕ) (h : Header) (letters : List Letter) : Type 0 where
+  pub is-shown : ShownFor h letters (readTables firstRowWidths h bytes)
+  pub in-range : InRange (readTables firstRowWidths h bytes)
+  pub satisfies : Satisfies (modelOf (readTables firstRowWidths h bytes) in-range) (state (traceOf h letters) .equals) (state (traceOf h letters) .unequals)
+
+-- A model is answered: it stands in the first n bytes of the output, and the bytes behind it stay.
+pub record Shows (s out : List ℕ) (n : ℕ) (out′ : List ℕ) : Type 0 where
+  pub header : Header
+  pub letters : List Letter
+  pub is-trace : IsTrace s header letters
+  pub fits : n ≤ length out
+  pub holds : ModelIn (take n out′) header letters
+  pub behind : drop n out′ ≡ drop n out
+
+-- A letter is answered: it is the first at which the trace is infeasible, and no model satisfies all tests of the trace.
+pub record Names (s out : List ℕ) (k : ℕ) (out′ : List ℕ) : Type 0 where
+  pub header : Header
+  pub letters : List Letter
+  pub is-trace : IsTrace s header letters
+  pub first : FailsAt (λ π. Feasible (state π)) (traceOf header letters) k
+  pub none : ¬ Feasible (state (traceOf header letters))
+  pub kept : out′ ≡ out
+
+-- A refusal: the bytes are no such trace, by questions 1 to 5; or the model that is due does not fit the output.
+pub data Refuses (s out : List ℕ) : ℕ → ℕ → Type 0 where
+  unread : {number place : ℕ} → readingWithin mostLetters firstEdition s ≡ refused number place → Refuses s out number place
+  unfit : {h : Header} {letters : List Letter} {t : Tables} → IsTrace s h letters → Feasible (state (traceOf h letters)) → ShownFor h letters t
+      → length out < length (packTables firstRowWidths h t) → Refuses s out 6 0
+
+-- What an answer means, with the output out before and out′ after.
+abbrev pub Means : (s out : List ℕ) → Answer → (out′ : List ℕ) → Type 0
+Means s out (model n) out′ = Shows s out n out′
+Means s out (infeasible k) out′ = Names s out k out′
+Means s out (refusal number place) out′ = Refuses s out number place × (out′ ≡ out)
+
+-- The bytes s are answered, with the output out before and out′ after. The two equations settle the answer and the output; what they mean follows.
 pub record Showed (s out : List ℕ) (r : Shown) (out′ : List ℕ) : Type 0 where
-  pub answer : shownAnswer r ≡ answerTo (readingWithin 1024 firstEdition s) (length out)
-  pub output : out′ ≡ outputAfter (readingWithin 1024 firstEdition s) out
+  pub answer : shownAnswer r ≡ answerTo (readingWithin mostLetters firstEdition s) (length out)
+  pub output : out′ ≡ outputAfter (readingWithin mostLetters firstEdition s) out
+  pub means : Means s out (shownAnswer r) out′
 
 -- The arrays hold the computed terms and classes of some state with this header.
 pub record Known (h : Header) (function first second representative : List ℕ) (n : ℕ) : Type 0 where

@@ -5,11 +5,9 @@ use mathlib.Core.List.{List, [], _∷_, _++_, map, reverse}
 use Prim.Native.Nat.{ℕ, zero, suc, _+_, _*_, _≤_, _<_}
 use native.Mathlib.Omega.{arith}
 use native.Mathlib.Nat.{zero-add}
-use lib.Dec.{eqb, leb}
 use lib.ListN.{length, getD, take, drop}
 use lib.Seq.{length-take-le}
-use borrow.Author.Tests.{eq-eqb, ne-eqb, le-leb, lt-leb, leb-true}
-use Rattle.base.specs.Choice.{byTest}
+use borrow.Author.Tests.{eq-eqb, ne-eqb, le-leb, lt-leb}
 use Rattle.letters.specs.declared.Header.{Header}
 use Rattle.letters.specs.declared.TraceRead.{TraceRead}
 use Rattle.letters.specs.declared.TraceRead.the-variants as trace-read
@@ -37,7 +35,8 @@ use Rattle.shown.specs.Listing.{ListedAll}
 use Rattle.shown.specs.Inserted.{inserted}
 use Rattle.shown.specs.Bytes.{rowFor, RowIn, Writable, tablesIn, map-length}
 use Rattle.shown.specs.Fitting.{Puttable, Put, too-large, fitting}
-use Rattle.shown.specs.Answer.{model, infeasible, refusal, shownAnswer, modelBytes, answerTo, outputAfter, Showed, Known, Modelled}
+use Rattle.shown.specs.Answer.{model, infeasible, refusal, shownAnswer, modelBytes, answerTo, outputAfter, Means, Showed, Known, Modelled}
+use Rattle.shown.specs.Means.{showed}
 
 starts-are : (v : Term → ℕ) (k m : ℕ) (l : List ℕ) → m ≤ length l → ((i : ℕ) → i < m → getD l i 0 ≡ v (con (k + i))) → take m l ≡ startsFrom v k m
 unfolding startsFrom
@@ -169,7 +168,7 @@ module _ (s : List ℕ) (h : Header) (n : ℕ) (r : run.Reads s h n) (out : List
       let (e, p) = ran-infeasible k d q in
       let m : firstInfeasible (traceOf h (run.lettersIn s)) ≢ 0 = λ z. omega arith in
       let t = ne-eqb (firstInfeasible (traceOf h (run.lettersIn s))) 0 m in
-      record { answer = rw (r .read, t) (ap infeasible e); output = rw (r .read, t) }
+      showed s out (shown.Infeasible k) out (rw (r .read, t) (ap infeasible e)) (rw (r .read, t))
 
   module _ {function first second representative : List ℕ} {o : Outcome} (k : ℕ) (d : run.Ran s h function first second representative o) (q : o ≡ outcome.Feasible k) where
     same-header : state (traceOf h (run.lettersIn s)) .header ≡ h
@@ -184,7 +183,7 @@ module _ (s : List ℕ) (h : Header) (n : ℕ) (r : run.Reads s h n) (out : List
         let (e, c) = ran-feasible k d q in
         let t = eq-eqb (firstInfeasible (traceOf h (run.lettersIn s))) 0 (sym e) in
         let (x, y) = f (state (traceOf h (run.lettersIn s))) same-header c in
-        record { answer = rw (r .read, t) x; output = rw (r .read, t) y }
+        showed s out a out′ (rw (r .read, t) x) (rw (r .read, t) y)
 
 -- ---- what the reading gives
 module _ (s : List ℕ) (d : TraceRead) (e : letters.traceAnswer d ≡ counted (readingWithin 1024 firstEdition s)) (out : List ℕ) where
@@ -196,7 +195,7 @@ module _ (s : List ℕ) (d : TraceRead) (e : letters.traceAnswer d ≡ counted (
   unfolding answerTo outputAfter
   showed-refused {a} {b} q =
       let x = refused-as (readingWithin 1024 firstEdition s) a b (sym e ∙ ap letters.traceAnswer q) in
-      record { answer = rw x; output = rw x }
+      showed s out (shown.Refused a b) out (rw x) (rw x)
 
   read-as : (x : Reading) (h : Header) (n : ℕ) → counted x ≡ letters.value (h, n) → (x ≡ trace h (run.lettersRead x)) × (n ≡ length (run.lettersRead x))
   read-as (trace g ls) h n q =
@@ -208,15 +207,6 @@ module _ (s : List ℕ) (d : TraceRead) (e : letters.traceAnswer d ≡ counted (
   unfolding run.lettersIn
   reads {h} {n} q = let (a, b) = read-as (readingWithin 1024 firstEdition s) h n (sym e ∙ ap letters.traceAnswer q) in record { read = a; count = b }
 
--- ---- a model that was written lies in the output
-answer-within : (x : Reading) (room n : ℕ) → model n ≡ answerTo x room → n ≤ room
-unfolding answerTo
-answer-within (refused a b) room n e = let z : _≡_ {A = ℕ} 0 1 = cc in absurd (omega arith)
-answer-within (trace h ls) room n e = byTest (eqb (firstInfeasible (traceOf h ls)) 0)
-    (λ t. byTest (leb (length (modelBytes (state (traceOf h ls)))) room)
-    (λ u. let l = leb-true (length (modelBytes (state (traceOf h ls)))) room u in let q : model n ≡ model (length (modelBytes (state (traceOf h ls)))) = rw (t, u) at e in let p : n ≡ length (modelBytes (state (traceOf h ls))) = cc in omega arith)
-    (λ u. let q : model n ≡ refusal 6 0 = rw (t, u) at e in let z : _≡_ {A = ℕ} 0 1 = cc in absurd (omega arith)))
-    (λ t. let q : model n ≡ infeasible (firstInfeasible (traceOf h ls)) = rw t at e in let z : _≡_ {A = ℕ} 0 1 = cc in absurd (omega arith))
-
+-- A model that was written lies in the output.
 pub model-within : (s out out′ : List ℕ) (r : Shown) (n : ℕ) → Showed s out r out′ → r ≡ shown.Model n → n ≤ length out
-model-within s out out′ r n w e = answer-within (readingWithin 1024 firstEdition s) (length out) n (sym (ap shownAnswer e) ∙ w .answer)
+model-within s out out′ r n w e = (subst (λ r. Means s out (shownAnswer r) out′) e (w .means)) .fits

@@ -6,5 +6,5 @@ pub mod Meaning
 pub mod Listing
 pub mod Fitting
 pub mod Answer
+pub mod Means
 pub mod AnswerLaws
-pub mod Right

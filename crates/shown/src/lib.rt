@@ -369,7 +369,8 @@ fn show_trace(header: Header, trace: &[u8], letters: usize, out: &mut [u8]) -> S
 }
 
 /// Judges a packed trace of at most 1,024 letters: writes its shown model to the front of the output if it is feasible, else names
-/// the first infeasible letter.
+/// the first infeasible letter. The written bytes read back to the tables that document 01 asks for, in which all tests hold; where a letter
+/// is named, no model satisfies all tests (`specs/Answer.antt`, `Means`).
 pub fn show(trace: &[u8], out: &mut [u8]) -> Shown
     ensures { λ r. ⌜ Showed (now (trace .entry)) (now (out .entry)) r (now (out .exit)) ⌝ }
 {

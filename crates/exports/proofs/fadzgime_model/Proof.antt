@@ -1,11 +1,11 @@
 -- `fadzgime_model` meets its contract: where the answer is too short, both slices stay; else the numbers of what is shown are stored.
 use borrow.Author.Needs.{needs}
-use Rattle.exports.proofs.Laws.{modelled-short, modelled-stored, output-short, output-shown}
+use Rattle.exports.proofs.Laws.{too-short, modelled-short, modelled-stored, output-short, output-shown, model-means}
 use Rattle.exports.proofs.fadzgime_model.Statement.{statement}
 use Rattle.exports.proofs.fadzgime_model.Tie as tie
 
 returns : tie.Need-returns
-returns c = (modelled-short _ _ _ (c .if1 .taken), output-short _ _ _ (c .if1 .taken))
+returns c = (modelled-short _ _ _ (c .if1 .taken), (output-short _ _ _ (c .if1 .taken), λ room. absurd (too-short (c .if1 .taken) room)))
 
 show-requires : tie.Need-show-requires
 show-requires c κs = search needs
@@ -32,7 +32,7 @@ returns-2 c =
     let showed = numbered .before .before .before in
     let room = showed .before .before .if1 .left in (
       modelled-stored _ _ _ _ _ (showed .show .result) (showed .show .ensures .answer) (numbered .model-numbers .ensures) (search needs) room (stored .store .ensures),
-      output-shown _ _ _ _ room (showed .show .ensures .output),
+      (output-shown _ _ _ _ room (showed .show .ensures .output), λ _. model-means (showed .show .ensures)),
     )
 
 pub fadzgime-model-spec : {M : Type 1} → statement M
