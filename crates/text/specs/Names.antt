@@ -1,4 +1,4 @@
--- Names held as numbers: a name's bytes are the digits to base 256, the first byte the lowest.
+-- Names held as numbers, their keys, and printed as bytes again.
 use mathlib.Core.Path.{_≡_, ap, _∙_}
 use Prim.Native.Nat.{ℕ, zero, suc, _+_, _*_, _/_, _%_, _^_, _≤_, _<_}
 use native.Mathlib.Omega.{arith}
@@ -9,6 +9,8 @@ use lib.ListN.{length}
 use borrow.Author.Tests.{eqb-false, ne-eqb}
 use Rattle.base.specs.Choice.{pick, byTest}
 use Rattle.base.specs.Recursion.{fixed, fixed-law}
+use Rattle.tokens.specs.Bytes.{key}
+use Rattle.tokens.specs.Keys.{TokenBytes}
 
 abbrev step : (ℕ → List ℕ) → ℕ → List ℕ
 step f w = pick (eqb w 0) (λ _. []) λ _. w % 256 ∷ f (w / 256)
@@ -30,21 +32,11 @@ name-next w h = name-law w ∙ rw (ne-eqb w 0 h)
 pub name-none : (w : ℕ) → w ≡ 0 → nameText w ≡ []
 name-none w e = rw e (name-law 0)
 
--- The number of a name.
-abbrev pub nameNumber : List ℕ → ℕ
-nameNumber [] = 0
-nameNumber (b ∷ s) = b + 256 * nameNumber s
-
--- Every byte is a byte other than 0.
-abbrev pub Spelled : List ℕ → Type 0
-Spelled [] = Unit {0}
-Spelled (b ∷ s) = (0 < b) × (b < 256) × Spelled s
-
--- A name that is held as its number is printed as it is.
-pub name-back : (s : List ℕ) → Spelled s → nameText (nameNumber s) ≡ s
+-- A name that is held as its key is printed as it is.
+pub name-back : (s : List ℕ) → TokenBytes s → nameText (key s) ≡ s
 name-back [] h = name-law 0
 name-back (b ∷ s) h =
-    let n = nameNumber s in
+    let n = key s in
     let some : (b + 256 * n ≡ 0) → ⊥ = λ e. positive b n (h .0) e in
     rw (name-law (b + 256 * n), ne-eqb (b + 256 * n) 0 some, low b n (h .1), high b n (h .1)) (ap (λ l. b ∷ l) (name-back s (h .2)))
   where

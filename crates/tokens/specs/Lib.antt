@@ -4,3 +4,4 @@ pub mod Tokens
 pub mod TokensLaws
 pub mod Words
 pub mod WordsLaws
+pub mod Keys

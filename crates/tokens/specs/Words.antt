@@ -1,4 +1,5 @@
--- The tokens that have a meaning of their own, and names (document 01, "Macro text"). Every comparison of names that is computed goes through `sameName`.
+-- The tokens that have a meaning of their own, and names (document 01, "Macro text"). Every comparison of names that is computed goes through
+-- `sameName`, which holds exactly if their bytes are the same (`same-token`, Keys).
 use Prim.Native.Nat.{ℕ, _%_}
 use mathlib.Core.Bool.{Bool, not, _&&_, _||_}
 use mathlib.Core.List.{[], _∷_}

@@ -1,12 +1,10 @@
 -- The laws of words and names.
-use mathlib.Core.Path.{_≡_, refl, sym, ap, _∙_}
+use mathlib.Core.Path.{_≡_, sym, ap, _∙_}
 use Prim.Native.Nat.{ℕ, zero, suc, _≤_, _<_, _%_}
 use native.Mathlib.Omega.{arith}
 use mathlib.Core.Bool.{Bool, true, false, not}
-use mathlib.Core.List.{List, [], _∷_}
 use lib.Dec.{eqb}
 use borrow.Author.Tests.{ne-eqb, le-leb, lt-leb}
-use Rattle.tokens.specs.Bytes.{key}
 use Rattle.tokens.specs.Words.{isName, keyword}
 
 module _ (k : ℕ) where
@@ -28,19 +26,3 @@ name-real (suc (suc k)) h = omega arith
 -- a name is none of the words and signs
 pub not-word : (k w : ℕ) → isName w ≡ false → isName k ≡ true → eqb k w ≡ false
 not-word k w f t = ne-eqb k w λ e. let z : true ≡ false = sym t ∙ ap isName e ∙ f in let y : _≡_ {A = ℕ} 0 1 = cc in omega arith
-
--- Bytes that a token can have.
-pub Bytes : List ℕ → Type 0
-Bytes [] = Unit
-Bytes (b ∷ s) = (0 < b) × (b < 256) × Bytes s
-
--- Two lists of such bytes with one number are the same: a number stands for one list of bytes.
-pub key-injective : (s r : List ℕ) → Bytes s → Bytes r → key s ≡ key r → s ≡ r
-unfolding Bytes
-key-injective [] [] p q e = refl
-key-injective [] (b ∷ r) p (l, m, q) e = absurd (omega arith)
-key-injective (b ∷ s) [] (l, m, p) q e = absurd (omega arith)
-key-injective (b ∷ s) (c ∷ r) (l, m, p) (l′, m′, q) e =
-    let h : b ≡ c = omega arith in
-    let g : key s ≡ key r = omega arith in
-    λ i. h i ∷ key-injective s r p q g i
