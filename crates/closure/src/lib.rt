@@ -20,7 +20,8 @@ pub type Numbers = [u16; 1032];
 /// The last application that was entered in each chain of an index.
 pub type Heads = [u16; 1021];
 
-fn wide(x: u16) -> usize
+/// An element of an array of `u16` as an index.
+pub fn wide(x: u16) -> usize
     ensures { λ r. ⌜ r ≡ x ⌝ }
 {
     x as usize

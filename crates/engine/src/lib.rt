@@ -8,6 +8,7 @@ ghost use Rattle.engine.specs.Engine.{Ready, Performed, Appliable, Appli
 ghost use Rattle.engine.specs.Run.{Reads, Blank, Began, Running, Ran};
 use closure::Heads;
 use closure::Numbers;
+use closure::wide;
 use letters::DecodedLetter;
 use letters::Header;
 use letters::Letter;
@@ -29,12 +30,6 @@ pub enum Outcome {
     Feasible(usize),
     /// The number of the first infeasible letter, from 1.
     Infeasible(u64),
-}
-
-fn wide(x: u16) -> usize
-    ensures { λ r. ⌜ r ≡ x ⌝ }
-{
-    x as usize
 }
 
 // The class of the application that the index has, or of the new one.

@@ -14,6 +14,7 @@ ghost use Rattle.shown.specs.Answer.{Known, Modelled, Showed};
 ghost use Rattle.shown.specs.Bytes.{putFive, written, RowIn, wordFor, wordsFor, StartsFit, RowsFit, Writable, tablesIn};
 use closure::Heads;
 use closure::Numbers;
+use closure::wide;
 use engine::Outcome;
 use letters::Header;
 use letters::TraceRead;
@@ -28,12 +29,6 @@ pub enum Shown {
     Infeasible(u64),
     /// The number and the place of a refusal.
     Refused(u8, u64),
-}
-
-fn wide(x: u16) -> usize
-    ensures { λ r. ⌜ r ≡ x ⌝ }
-{
-    x as usize
 }
 
 fn long(x: u16) -> u64
