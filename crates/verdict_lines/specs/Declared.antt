@@ -17,8 +17,7 @@ use Rattle.tokens.specs.Words as word
 use Rattle.grammar.specs.Grammar.{Macro, entryTokens, functionTokens, blockTokens, sentence}
 use Rattle.grammar.specs.Spelled.{Spells, Arities, none, one, two}
 use Rattle.grammar.specs.Spelled
-use Rattle.grammar.specs.Reading.{got, readMacro}
-use Rattle.grammar.specs.Whole.{read-sound}
+use Rattle.refusals.specs.Accepted.{Accepted}
 use Rattle.text.specs.Names.{nameText, nameNumber, Spelled, name-back}
 
 -- ── the bytes of a token ──
@@ -132,15 +131,14 @@ spells-at Spelled.none i l = absurd (omega arith)
 spells-at (Spelled.more {at = at} a b t) zero l = (at, a, b)
 spells-at (Spelled.more a b t) (suc i) l = spells-at t i (omega arith)
 
-module _ (text : List ℕ) (m : Macro) (end : ℕ) (read : readMacro text ≡ got m end) where
+module _ (text : List ℕ) (m : Macro) (read : Accepted text m) where
   -- x is printed as a token of the text
   abbrev pub Stands : ℕ → Type 0
   Stands x = (at : ℕ) × (tokenAt text at .key ≡ x) × (nameText x ≡ slice (tokenAt text at .start) (tokenAt text at .end) text)
 
   stands : (x : ℕ) → Has x (sentence m) → Stands x
   stands x h =
-      let (l, s, o, few) = read-sound text m end read in
-      let (at, e, b) = spells-at (s .tokens) (h .place) (h .within) in
+      let (at, e, b) = spells-at (read .spelled .tokens) (h .place) (h .within) in
       let f : tokenAt text at .key ≡ x = e ∙ h .is in
       (at, f, ap nameText (sym f) ∙ token-text text at (omega (arith, e)))
 
@@ -153,7 +151,6 @@ module _ (text : List ℕ) (m : Macro) (end : ℕ) (read : readMacro text ≡ go
   pub function-stands : (f : ℕ) → f < length (m .functions) → Stands (getD (m .functions) f 0)
   unfolding sentence
   function-stands f l =
-      let (k, s, o, few) = read-sound text m end read in
-      let h = function-has (m .functions) (m .arities) (o .arities) f l in
+      let h = function-has (m .functions) (m .arities) (read .in-order .arities) f l in
       stands (getD (m .functions) f 0)
       (has-later (has-right (m .registers) (has-later (has-left (functionTokens (m .functions) (m .arities)) (blockTokens (m .registers) (m .functions) (m .arities) (m .body)) (h .place) (h .within) (h .is)))))
