@@ -14,11 +14,10 @@ use Rattle.letters.specs.Traces.{readingWithin}
 use Rattle.shown.specs.Answer.{shownAnswer, answerTo, outputAfter, Means, Showed}
 use Rattle.shown.specs.declared.Shown.{Shown}
 use Rattle.shown.specs.declared.Shown.the-variants as shown
-use Rattle.grammar.specs.Reading.{readMacro}
-use Rattle.syntax.specs.Answer as syntax
+use Rattle.syntax.specs.Reads.{Reads}
 use Rattle.syntax.specs.declared.Answer.{Answer}
-use Rattle.exports.specs.Numbers.{laidOver, runNumbers, monitored, modelNumbers, modelled, modelOutput, ModelMeans, macroRead}
-use Rattle.exports.specs.Held.{heldNumbers, held-macro}
+use Rattle.exports.specs.Numbers.{laidOver, runNumbers, monitored, modelNumbers, modelled, modelOutput, ModelMeans, MacroRead}
+use Rattle.exports.specs.Held.{heldNumbers, held-accepted, held-refused}
 use Rattle.semantics.specs.Models.{Feasible}
 use Rattle.verdicts.specs.Demand3.{Demand3}
 use Rattle.search.specs.Answering as search
@@ -94,14 +93,15 @@ model-means {trace} {out} {out′} w = subst (λ a. Means trace out a out′) (w
 
 -- ---- The reader
 
-pub read-short : (text answer : List ℕ) → length answer < 5 → answer ≡ macroRead text answer
-unfolding macroRead
-read-short text answer short = laid-short 5 _ answer short
+pub read-short : (text answer : List ℕ) → length answer < 5 → MacroRead text answer answer
+read-short text answer short = record { accepted = λ m a. laid-short 5 _ answer short; refused = λ number place r. laid-short 5 _ answer short }
 
-pub read-stored : (text stored answer answer′ : List ℕ) (a : Answer) → a ≡ syntax.answerOf (readMacro text) → stored ≡ heldNumbers a → length stored ≡ 5 → 5 ≤ length answer → answer′ ≡ stored ++ drop (length stored) answer
-    → answer′ ≡ macroRead text answer
-unfolding macroRead
-read-stored text stored answer answer′ a e same = laid-stored 5 _ stored answer answer′ (same ∙ ap heldNumbers e ∙ held-macro (readMacro text))
+pub read-stored : (text stored answer answer′ : List ℕ) (a : Answer) → Reads text a → stored ≡ heldNumbers a → length stored ≡ 5 → 5 ≤ length answer
+    → answer′ ≡ stored ++ drop (length stored) answer → MacroRead text answer answer′
+read-stored text stored answer answer′ a reads same full room e = record {
+  accepted = λ m k. laid-stored 5 _ stored answer answer′ (same ∙ held-accepted text a reads m k) full room e;
+  refused = λ number place r. laid-stored 5 _ stored answer answer′ (same ∙ held-refused text a reads number place r) full room e;
+}
 
 -- ---- The verdict on a macro
 

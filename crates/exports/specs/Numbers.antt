@@ -1,4 +1,5 @@
 -- The answers as numbers in a lent slice. On a refusal the numbers behind its place are 0; without one the first two are 0.
+use mathlib.Core.Path.{_≡_}
 use Prim.Native.Nat.{ℕ}
 use mathlib.Core.List.{List, [], _∷_, _++_}
 use lib.Dec.{ltb}
@@ -13,7 +14,8 @@ use Rattle.monitoring.specs.Stream.{answerOf}
 use Rattle.shown.specs.Answer.{answerTo, outputAfter, Means}
 use Rattle.shown.specs.Answer as shown
 use Rattle.grammar.specs.Grammar.{Macro}
-use Rattle.grammar.specs.Reading.{Got, got, refused, exhausted, readMacro}
+use Rattle.refusals.specs.Order.{Refusal}
+use Rattle.refusals.specs.Accepted.{Accepted}
 
 -- n numbers over the front of an answer that has room for them; a shorter answer stays as lent.
 unfoldable pub laidOver : ℕ → List ℕ → List ℕ → List ℕ
@@ -48,13 +50,16 @@ modelOutput trace out answer = pick (ltb (length answer) 4) (λ _. out) λ _. ou
 abbrev pub ModelMeans : (trace out out′ : List ℕ) → Type 0
 ModelMeans trace out out′ = Means trace out (answerTo (readingWithin 1024 firstEdition trace) (length out)) out′
 
--- ---- The reader: refusal, place, registers, functions, points. (`exhausted` is never what reading gives.)
+-- ---- The reader: refusal, place, registers, functions, points.
 
-unfoldable pub macroNumbers : Got Macro → List ℕ
-macroNumbers (got m e) = 0 ∷ 0 ∷ length (m .registers) ∷ length (m .functions) ∷ sizeBlock (m .body) ∷ []
-macroNumbers (refused number place) = number ∷ place ∷ 0 ∷ 0 ∷ 0 ∷ []
-macroNumbers exhausted = 0 ∷ 0 ∷ 0 ∷ 0 ∷ 0 ∷ []
+unfoldable pub acceptedNumbers : Macro → List ℕ
+acceptedNumbers m = 0 ∷ 0 ∷ length (m .registers) ∷ length (m .functions) ∷ sizeBlock (m .body) ∷ []
 
--- the answer after a text was read
-unfoldable pub macroRead : (text answer : List ℕ) → List ℕ
-macroRead text answer = laidOver 5 (macroNumbers (readMacro text)) answer
+unfoldable pub refusedNumbers : (number place : ℕ) → List ℕ
+refusedNumbers number place = number ∷ place ∷ 0 ∷ 0 ∷ 0 ∷ []
+
+-- The answer after a text was read; `answer` is lent, and `answer′` is what it holds afterwards. Each text is accepted as one macro or refused by
+-- one number at one place (`Accepted.exactly-one` of crate `refusals`), so that the answer is settled (`Held.one-read`).
+pub record MacroRead (text answer answer′ : List ℕ) : Type 0 where
+  pub accepted : (m : Macro) → Accepted text m → answer′ ≡ laidOver 5 (acceptedNumbers m) answer
+  pub refused : (number place : ℕ) → Refusal text number place → answer′ ≡ laidOver 5 (refusedNumbers number place) answer

@@ -12,7 +12,7 @@ ghost use Rattle.monitoring.specs.Demand2.{Demand2};
 ghost use Rattle.monitoring.specs.Run.{verdictAnswer};
 ghost use Rattle.monitoring.specs.Stream.{answerOf};
 ghost use Rattle.shown.specs.Answer.{shownAnswer};
-ghost use Rattle.exports.specs.Numbers.{runNumbers, monitored, modelNumbers, modelled, modelOutput, ModelMeans, macroRead};
+ghost use Rattle.exports.specs.Numbers.{runNumbers, monitored, modelNumbers, modelled, modelOutput, ModelMeans, MacroRead};
 ghost use Rattle.exports.specs.Held.{heldNumbers};
 ghost use Rattle.search.specs.Answering as search;
 ghost use Rattle.exports.specs.Judging.{verdictNumbers, Judging};
@@ -100,7 +100,7 @@ fn macro_numbers(read: Answer) -> [u64; 5]
 /// Reads a macro: the refusal and its place, 0 for none; the counts of its registers, functions and points, 0 on a refusal.
 #[no_mangle]
 pub extern "C" fn fadzgime_read(text: &[u8], answer: &mut [u64])
-    ensures { λ _. ⌜ now (answer .exit) ≡ macroRead (now (text .entry)) (now (answer .entry)) ⌝ }
+    ensures { λ _. ⌜ MacroRead (now (text .entry)) (now (answer .entry)) (now (answer .exit)) ⌝ }
 {
     if answer.len() < 5 {
         return;

@@ -2,6 +2,7 @@ pub mod Sentences
 pub mod Questions
 pub mod FirstNo
 pub mod Order
+pub mod Accepted
 pub mod Numbers
 pub mod Wider
 pub mod Basics

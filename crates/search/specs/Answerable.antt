@@ -7,14 +7,11 @@ use Prim.Native.Nat.{ℕ}
 use native.Mathlib.Decide.{ℕ-discrete}
 use Rattle.letters.specs.Editions.{firstEdition}
 use Rattle.semantics.specs.Models.{Feasible}
-use Rattle.semantics.specs.AnyModel.{FeasibleInSomeModel}
 use Rattle.semantics.specs.PackedTables.{firstRowWidths}
-use Rattle.grammar.specs.Whole.{read-sound}
 use Rattle.verdicts.specs.Verdict.{Answer}
 use Rattle.verdicts.specs.Demand3.{pairsIn, Demand3}
 use Rattle.verdicts.specs.Total.{search-answer}
 use Rattle.verdicts.specs.Settled.{a-way}
-use Rattle.verdicts.specs.Readings.{anywhere}
 use Rattle.window.specs.declared.Window.{Window}
 use Rattle.search.specs.Given.{setting}
 
@@ -40,7 +37,7 @@ window-discrete w v = elim (parts-discrete (parts w) (parts v)) [ yes e ↦ yes 
 -- There is an answer, with what the table and the output then hold.
 pub answerable : (text table output : List ℕ) → (a : Answer) × (table′ : List ℕ) × (output′ : List ℕ) × Demand3 Feasible text table output a table′ output′
 answerable text table output =
-    let (a, table′, output′, x) = a-way FeasibleInSomeModel text table output (λ m f e.
-    let (_, _, o, few) = read-sound text m f e in
-    search-answer (setting (record { macro = m; in-order = o; few = few })) firstEdition firstRowWidths (pairsIn table) output (×-discrete ℕ-discrete window-discrete)) in
-    (a, table′, output′, anywhere text table output a table′ output′ .1 x)
+    a-way Feasible text table output
+    λ m a.
+    search-answer (setting (record { macro = m; in-order = a .in-order; few = a .few })) firstEdition firstRowWidths (pairsIn table) output
+    (×-discrete ℕ-discrete window-discrete)

@@ -8,7 +8,7 @@ use lib.ListN.{length}
 use Rattle.letters.specs.declared.Letter.{Letter}
 use Rattle.letters.specs.Editions.{Edition}
 use Rattle.semantics.specs.Terms.{Trace, begin, _▸_, extend, state, WellFormed}
-use Rattle.semantics.specs.AnyModel.{FeasibleInSomeModel}
+use Rattle.semantics.specs.Models.{Feasible}
 use Rattle.semantics.specs.PackedTables.{RowWidths}
 use Rattle.macros.specs.Order.{Branch, Path, _▹_}
 use Rattle.macros.specs.Walk.{Place, Move, no-move, move, stand}
@@ -102,26 +102,26 @@ module _ (given : Given) (n : ℕ) (kind : Kind) (k d : ℕ) (t : List ℕ) (met
   pub event-older : (j : ℕ) → 0 < j → j < d / 2 + 1 → parentAt t j < j
   event-older j p q = let l = met .due in met .going .searching .older j p (omega arith)
 
-  pub event-feasible : kind ≡ failing → FeasibleInSomeModel (state (extend (begin (header given)) (trailOf (held given) t d)))
+  pub event-feasible : kind ≡ failing → Feasible (state (extend (begin (header given)) (trailOf (held given) t d)))
   event-feasible f =
       let l = met .due in
       let z = event-first (starts given) (step given) (listed t k) (d / 2) branch here (omega arith) failing (met .happens ∙ ap event f) in
       let (ρ, u, c, y) = meets-failing (setting given) way (z .happens) in
       let v = came .1 in
       let i : ρ ≡ execution = cc in
-      subst (λ π. FeasibleInSomeModel (state π)) i y
+      subst (λ π. Feasible (state π)) i y
 
   pub concluded-event : (edition : Edition) (widths : RowWidths) (output : List ℕ) (answer : Answer) (output′ : List ℕ)
       → Delivered (packed edition widths (begin (header given)) kind (trailOf (held given) t d)) (showing kind k (length (trailOf (held given) t d))) output answer output′
-      → Verdict FeasibleInSomeModel (begin (header given)) (body given) edition widths n output answer output′
+      → Verdict Feasible (begin (header given)) (body given) edition widths n output answer output′
   concluded-event edition widths output answer output′ y =
       let l = met .due in
       answers-event (setting given) edition widths n output (listed t k) (d / 2) branch here (omega arith) (met .going .within) kind (met .happens) (came .0) (trailOf (held given) t d) (came .1) answer output′ y
 
 -- ── the other ends ──
 module _ (given : Given) (edition : Edition) (widths : RowWidths) (n : ℕ) (output : List ℕ) where
-  abbrev Right : Answer → Type 1
-  Right a = Verdict FeasibleInSomeModel (begin (header given)) (body given) edition widths n output a output
+  abbrev Right : Answer → Type 0
+  Right a = Verdict Feasible (begin (header given)) (body given) edition widths n output a output
 
   pub concluded-full : Passing given n → Right full
   concluded-full y = answers-full (setting given) edition widths n output y

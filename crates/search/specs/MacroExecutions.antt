@@ -23,7 +23,8 @@ use Rattle.grammar.specs.Grammar.{Macro}
 use Rattle.syntax.specs.declared.Answer.{Answer}
 use Rattle.syntax.specs.declared.Macro as struct
 use Rattle.syntax.specs.Answer.{heldMacro}
-use Rattle.syntax.specs.Reads.{Accepted, Reads}
+use Rattle.refusals.specs.Accepted.{Accepted}
+use Rattle.syntax.specs.Reads.{Reads}
 use Rattle.verdicts.specs.Since.{since, since-once}
 use Rattle.search.specs.Moves.{moveOf, noPoint}
 use Rattle.search.specs.Store.{branchNumbered}

@@ -13,7 +13,8 @@ use Rattle.macros.specs.Walk.{Place, at, failure}
 use Rattle.grammar.specs.Whole.{read-sound}
 use Rattle.refusals.specs.Examples.{loop, searched, loop-read}
 use Rattle.syntax.specs.declared.Answer.{Answer}
-use Rattle.syntax.specs.Reads.{Accepted, Reads}
+use Rattle.refusals.specs.Accepted.{Accepted}
+use Rattle.syntax.specs.Reads.{Reads}
 use Rattle.search.specs.MacroExecutions.{Performed, HasExecutions, macros-have-executions}
 
 loop-accepted : Accepted loop searched

@@ -10,10 +10,7 @@ use Rattle.letters.specs.declared.Letter.{Letter}
 use Rattle.letters.specs.Editions.{firstEdition}
 use Rattle.letters.specs.Words.{HeaderFits}
 use Rattle.semantics.specs.Terms.{begin, traceOf, state, WellFormed}
-use Rattle.semantics.specs.Facts.{state-valid}
 use Rattle.semantics.specs.Models.{Feasible}
-use Rattle.semantics.specs.PaperLaws.{feasible-anywhere}
-use Rattle.semantics.specs.AnyModel.{FeasibleInSomeModel}
 use Rattle.semantics.specs.PackedTables.{firstRowWidths}
 use Rattle.macros.specs.Points.{points}
 use Rattle.grammar.specs.Grammar.{Macro, headerOf, binaryOf}
@@ -122,7 +119,7 @@ module _ (given : Given) (n : ℕ) (t : List ℕ) (most : n ≤ 1024) (room : 19
         }
 
     pub event-possible : kind ≡ failing → Feasible (state (traceOf (header given) trail))
-    event-possible f = feasible-anywhere (state (traceOf (header given) trail)) (state-valid (traceOf (header given) trail) formed) .1 (event-feasible given n kind k d after met f)
+    event-possible f = event-feasible given n kind k d after met f
 
 -- ── of the struct that holds the macro ──
 module _ (program : struct.Macro) (given : Given) (holds : heldMacro (given .macro) ≡ program) where
@@ -161,7 +158,7 @@ module _ (program : struct.Macro) (given : Given) (holds : heldMacro (given .mac
 
     -- what is told is the verdict
     pub tells-verdict : (output : List ℕ) (r : answer.Verdict) (output′ : List ℕ) → Tells program t output r output′
-        → Verdict FeasibleInSomeModel (begin (header given)) (body given) firstEdition firstRowWidths (pairsIn t) output (answerOf r) output′
+        → Verdict Feasible (begin (header given)) (body given) firstEdition firstRowWidths (pairsIn t) output (answerOf r) output′
     unfolding heldMacro capacityOf
     tells-verdict output r output′ y =
         search-verdict given (capacityOf (length t)) t most room firstEdition firstRowWidths output (answerOf r) output′ (subst (λ p. Tells p t output r output′) (sym holds) y)

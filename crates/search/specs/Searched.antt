@@ -12,7 +12,7 @@ use Rattle.base.specs.Choice.{byTest}
 use Rattle.letters.specs.declared.Header.{Header}
 use Rattle.letters.specs.Editions.{Edition}
 use Rattle.semantics.specs.Terms.{begin}
-use Rattle.semantics.specs.AnyModel.{FeasibleInSomeModel}
+use Rattle.semantics.specs.Models.{Feasible}
 use Rattle.semantics.specs.PackedTables.{RowWidths}
 use Rattle.verdicts.specs.Verdict.{Answer, pass, full, breaking, failing, showing, packed, Delivered, Verdict}
 use Rattle.blocks.specs.declared.Point.{Point}
@@ -37,8 +37,8 @@ Told h sp edition widths output (found.Failing k d) u answer output′ =
 
 module _ (given : Given) (n : ℕ) where
   module _ (edition : Edition) (widths : RowWidths) (output : List ℕ) where
-    abbrev Right : Answer → List ℕ → Type 1
-    Right a o = Verdict FeasibleInSomeModel (begin (header given)) (body given) edition widths n output a o
+    abbrev Right : Answer → List ℕ → Type 0
+    Right a o = Verdict Feasible (begin (header given)) (body given) edition widths n output a o
 
     -- an answer and an output that are known
     same-right : {a b : Answer} {o p : List ℕ} → (a ≡ b) × (o ≡ p) → Right b p → Right a o
@@ -72,7 +72,7 @@ module _ (given : Given) (n : ℕ) where
     -- The whole search.
     pub search-verdict : (edition : Edition) (widths : RowWidths) (output : List ℕ) (answer : Answer) (output′ : List ℕ)
         → Told (header given) (held given) edition widths output (searchOf (header given) (held given) (end given) n t .0) (searchOf (header given) (held given) (end given) n t .1) answer output′
-        → Verdict FeasibleInSomeModel (begin (header given)) (body given) edition widths n output answer output′
+        → Verdict Feasible (begin (header given)) (body given) edition widths n output answer output′
     search-verdict edition widths output answer output′ = byTest (eqb (end given) 0)
         (λ e. rw (search-empty e) λ y. same-right edition widths output y (concluded-empty given edition widths n output (eqb-true (end given) 0 e)))
         (λ e y. ended-told edition widths output (ending .0) (ending .1) (search-ended e) answer output′ y)

@@ -13,7 +13,6 @@ use Rattle.letters.specs.Letters.{Fits}
 use Rattle.semantics.specs.Terms.{Trace, begin, _▸_, State, state}
 use Rattle.semantics.specs.Facts.{Valid, state-valid}
 use Rattle.semantics.specs.Models.{Feasible}
-use Rattle.semantics.specs.PaperLaws.{feasible-anywhere}
 use Rattle.semantics.specs.Shown.{corollary-2}
 use Rattle.semantics.specs.Judge.{clash-or-feasible}
 use Rattle.semantics.specs.Coherence.{CoherentLetter}
@@ -77,8 +76,7 @@ module _ (h : Header) (registers : h .registers ≤ 8) (functions : h .functions
     alike = λ ρ π w f g c d x y. same-window (state ρ) (state π) (state-valid ρ (f .0)) (state-valid π (g .0)) w w x y .0 refl;
     equal = λ ρ π w v f g c d x y z. same-window (state ρ) (state π) (state-valid ρ (f .0)) (state-valid π (g .0)) w v x y .1 z;
     tells-infeasible = λ ρ w f c x e y.
-        x .tracks .infeasible .0 (subst T (sym e) tt) (feasible-anywhere (state ρ) (state-valid ρ (f .0)) .1 y);
+        x .tracks .infeasible .0 (subst T (sym e) tt) y;
     tells-feasible = λ ρ w f c x e.
-        let v = state-valid ρ (f .0) in
-        feasible-anywhere (state ρ) v .0 (feasible-told (state ρ) v (λ n. subst T e (x .tracks .infeasible .1 n)));
+        feasible-told (state ρ) (state-valid ρ (f .0)) (λ n. subst T e (x .tracks .infeasible .1 n));
   }

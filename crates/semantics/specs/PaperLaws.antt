@@ -1,7 +1,7 @@
 -- Document 01's closure, superterms, conditions and Corollary 2 are those of source document 000, restricted to computed terms;
 -- and infeasible means that there is no model whatever.
-use mathlib.Core.Path.{_≡_, refl, sym, _∙_, ap₂, subst}
-use mathlib.Core.Logic.{_⊎_, inl, inr, _↔_, _≢_}
+use mathlib.Core.Path.{_≡_, refl, sym, _∙_, ap, ap₂, subst}
+use mathlib.Core.Logic.{_⊎_, inl, inr, _↔_, _≢_, Lift}
 use mathlib.Core.Bool.{_&&_}
 use mathlib.Core.List.{List, [], _∷_, reverse, List·Memᴰ·head, List·Memᴰ·tail}
 use Prim.Native.Nat.{ℕ, _≤_, _<_}
@@ -27,7 +27,7 @@ use Rattle.semantics.specs.Paper.{Congruent, same, member, turned, joine
 
 -- ── models over any values ──
 -- A model of the equal tests respects the closure.
-pub respects-anywhere : (M : AnyModel) (σ : State) → SatisfiesIn M (σ .equals) (σ .unequals) → {s t : Term} → Equivalent σ s t
+pub respects-anywhere {ℓ} : (M : AnyModel {ℓ}) (σ : State) → SatisfiesIn M (σ .equals) (σ .unequals) → {s t : Term} → Equivalent σ s t
     → evalIn M s ≡ evalIn M t
 respects-anywhere M σ h (reflexive m) = refl
 respects-anywhere M σ h (test m) = h .equal-hold _ _ m
@@ -35,29 +35,29 @@ respects-anywhere M σ h (symmetric c) = sym (respects-anywhere M σ h c)
 respects-anywhere M σ h (transitive c d) = respects-anywhere M σ h c ∙ respects-anywhere M σ h d
 respects-anywhere M σ h (congruence {f} i j p q) = ap₂ (M .table f) (respects-anywhere M σ h p) (respects-anywhere M σ h q)
 
--- A finite model among all models.
-abbrev pub numbers : Model → AnyModel
-numbers M = record { Value = ℕ; start = M .start; table = M .table }
+-- A finite model among all models, its values lifted to any universe.
+abbrev pub numbers {ℓ} : Model → AnyModel {ℓ}
+numbers M = record { Value = Lift {0, ℓ} ℕ; start = λ r. record { lower = M .start r }; table = λ f a b. record { lower = M .table f (a .lower) (b .lower) } }
 
-eval-numbers : (M : Model) (t : Term) → evalIn (numbers M) t ≡ eval M t
+eval-numbers {ℓ} : (M : Model) (t : Term) → evalIn (numbers {ℓ} M) t .lower ≡ eval M t
 eval-numbers M (con r) = refl
-eval-numbers M (app f s t) = ap₂ (M .table f) (eval-numbers M s) (eval-numbers M t)
+eval-numbers M (app f s t) = ap₂ (M .table f) (eval-numbers {ℓ} M s) (eval-numbers {ℓ} M t)
 
--- Feasible in a finite model exactly if feasible in some model.
-pub feasible-anywhere : (σ : State) → Valid σ → (Feasible σ → FeasibleInSomeModel σ) × (FeasibleInSomeModel σ → Feasible σ)
+-- Feasible in a finite model exactly if feasible in some model, of whatever universe.
+pub feasible-anywhere {ℓ} : (σ : State) → Valid σ → (Feasible σ → FeasibleInSomeModel {ℓ} σ) × (FeasibleInSomeModel {ℓ} σ → Feasible σ)
 feasible-anywhere σ v = (
   λ (M, h). (
-    numbers M,
+    numbers {ℓ} M,
     record {
-      equal-hold = λ s t m. eval-numbers M s ∙ h .equal-hold s t m ∙ sym (eval-numbers M t);
-      unequal-hold = λ s t m e. h .unequal-hold s t m (sym (eval-numbers M s) ∙ e ∙ eval-numbers M t);
+      equal-hold = λ s t m. λ i. record { lower = (eval-numbers {ℓ} M s ∙ h .equal-hold s t m ∙ sym (eval-numbers {ℓ} M t)) i };
+      unequal-hold = λ s t m e. h .unequal-hold s t m (sym (eval-numbers {ℓ} M s) ∙ ap (λ x. x .lower) e ∙ eval-numbers {ℓ} M t);
     },
   ),
   λ (M, h). corollary-2 σ v .1 (λ (s, t, m, c). h .unequal-hold s t m (respects-anywhere M σ h c)),
 )
 
 -- An infeasible trace has no model whatever.
-pub no-model : (σ : State) → Valid σ → ¬ Feasible σ → (M : AnyModel) → ¬ SatisfiesIn M (σ .equals) (σ .unequals)
+pub no-model {ℓ} : (σ : State) → Valid σ → ¬ Feasible σ → (M : AnyModel {ℓ}) → ¬ SatisfiesIn M (σ .equals) (σ .unequals)
 no-model σ v n M h = n (feasible-anywhere σ v .1 (M, h))
 
 -- ── the congruence over all terms ──

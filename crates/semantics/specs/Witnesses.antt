@@ -156,7 +156,7 @@ pub feasible-no : ¬ Feasible (state absurdity)
 unfolding fitsTest applyTest
 feasible-no f = feasible-is (state absurdity) (state-valid absurdity (formed-e absurdity tt)) .1 f
 
-pub no-model-at-all : (M : AnyModel) → ¬ SatisfiesIn M (state absurdity .equals) (state absurdity .unequals)
+pub no-model-at-all {ℓ} : (M : AnyModel {ℓ}) → ¬ SatisfiesIn M (state absurdity .equals) (state absurdity .unequals)
 unfolding fitsTest applyTest
 no-model-at-all M = no-model (state absurdity) (state-valid absurdity (formed-e absurdity tt)) feasible-no M
 

@@ -2,7 +2,7 @@
 use mathlib.Core.Path.{refl}
 use native.Mathlib.Omega.{arith}
 use Rattle.grammar.specs.Reading.{refused, readMacro}
-use Rattle.grammar.specs.Whole.{read-sound}
+use Rattle.refusals.specs.Accepted.{read-accepted}
 use Rattle.refusals.specs.Examples.{loop, searched, loop-read}
 use Rattle.syntax.specs.Answer.{answerOf}
 use Rattle.syntax.specs.Reads.{Reads, reads}
@@ -13,6 +13,5 @@ loop-reads = reads loop (answerOf (readMacro loop)) refl
 refusing-is-wrong : Reads loop (answerOf (refused 9 0)) → ⊥
 unfolding answerOf
 refusing-is-wrong x =
-    let (l, s, o, f) = read-sound loop searched 61 loop-read in
-    let (a, b, c) = x .accepts searched (record { short = l; spelled = s; in-order = o; few = f }) in
+    let (a, b, c) = x .accepts searched (read-accepted loop searched 61 loop-read) in
     omega arith

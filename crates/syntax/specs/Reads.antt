@@ -1,38 +1,27 @@
 -- The reader's contract (document 01, "Macro text" and the macro part of "The questions").
 use mathlib.Core.Path.{_≡_, refl, sym, ap, _∙_, subst}
 use mathlib.Core.Logic.{_≢_}
-use Prim.Native.Nat.{ℕ, _≤_}
+use Prim.Native.Nat.{ℕ}
 use native.Mathlib.Omega.{arith}
 use mathlib.Core.List.{List}
 use lib.Dec.{eqb}
-use lib.ListN.{length}
 use borrow.Author.Tests.{eqb-true, eqb-false}
 use Rattle.base.specs.Choice.{byTest}
-use Rattle.macros.specs.Points.{sizeBlock}
 use Rattle.grammar.specs.Grammar.{Macro}
 use Rattle.grammar.specs.Reading.{Got, got, refused, exhausted, readMacro}
-use Rattle.grammar.specs.Spelled.{Spelled, InOrder}
-use Rattle.grammar.specs.Whole.{read-sound, read-complete}
 use Rattle.grammar.specs.Enough.{read-answers}
 use Rattle.refusals.specs.Order.{Refusal, refused-refusal, refusal-refused, refusal-number}
+use Rattle.refusals.specs.Accepted.{Accepted, read-accepted, accepted-read}
 use Rattle.syntax.specs.declared.Answer.{Answer}
 use Rattle.syntax.specs.Answer.{heldMacro, noMacro, answerOf}
 
--- The text is that of the macro m: its tokens are the sentence of m, and length, declarations, uses, depth and points are in order.
-pub record Accepted (text : List ℕ) (m : Macro) : Type 0 where
-  pub short : length text ≤ 4096
-  pub spelled : Spelled text m
-  pub in-order : InOrder m
-  pub few : sizeBlock (m .body) ≤ 256
-
 -- What is answered for a text: the macro that it is the text of, or the refusal that the questions say. Refusal 0 is none.
--- The first four fields settle the answer (`reads-once`); the last, the definition that reads token by token, is kept for callers.
+-- This settles the answer (`reads-once`).
 pub record Reads (text : List ℕ) (r : Answer) : Type 0 where
   pub accepts : (m : Macro) → Accepted text m → (r .refusal ≡ 0) × (r .place ≡ 0) × (r .program ≡ heldMacro m)
   pub accepted : r .refusal ≡ 0 → (m : Macro) × Accepted text m × (r .program ≡ heldMacro m)
   pub refuses : (n p : ℕ) → Refusal text n p → (r .refusal ≡ n) × (r .place ≡ p) × (r .program ≡ noMacro)
   pub refused : r .refusal ≢ 0 → Refusal text (r .refusal) (r .place)
-  pub equation : r ≡ answerOf (readMacro text)
 
 module _ (text : List ℕ) (r : Answer) (e : r ≡ answerOf (readMacro text)) where
   as-got : (m : Macro) (f : ℕ) → readMacro text ≡ got m f → (r .refusal ≡ 0) × (r .place ≡ 0) × (r .program ≡ heldMacro m)
@@ -46,15 +35,14 @@ module _ (text : List ℕ) (r : Answer) (e : r ≡ answerOf (readMacro text)) wh
   -- The definition gives what the contract says.
   pub reads : Reads text r
   reads = record {
-    accepts = λ m a. let (f, h) = read-complete text m (a .short) (a .spelled) (a .in-order) (a .few) in as-got m f h;
+    accepts = λ m a. let (f, h) = accepted-read text m a in as-got m f h;
     accepted = accepted-as (readMacro text) refl;
     refuses = λ n p q. as-refused n p (refusal-refused text n p q);
     refused = refused-as (readMacro text) refl;
-    equation = e;
   }
     where
       accepted-as : (g : Got Macro) → readMacro text ≡ g → r .refusal ≡ 0 → (m : Macro) × Accepted text m × (r .program ≡ heldMacro m)
-      accepted-as (got m f) h z = let (l, s, o, k) = read-sound text m f h in (m, record { short = l; spelled = s; in-order = o; few = k }, as-got m f h .2)
+      accepted-as (got m f) h z = (m, read-accepted text m f h, as-got m f h .2)
       accepted-as (refused n p) h z = let (a, b) = refusal-number n p (refused-refusal text n p h) in absurd (let i = as-refused n p h .0 in omega arith)
       accepted-as exhausted h z = absurd (read-answers text h)
 

@@ -14,7 +14,6 @@ use Rattle.letters.specs.TraceLaws.{bytes-length}
 use Rattle.semantics.specs.Terms.{Trace, begin, extend, State, state, WellFormed}
 use Rattle.semantics.specs.Facts.{state-valid}
 use Rattle.semantics.specs.Models.{Feasible}
-use Rattle.semantics.specs.AnyModel.{FeasibleInSomeModel}
 use Rattle.semantics.specs.TraceLaws.{extend-size, extend-header, terms-length}
 use Rattle.semantics.specs.Tables.{shownTables}
 use Rattle.semantics.specs.Shown.{tablesOf, number}
@@ -33,20 +32,28 @@ use Rattle.search.specs.Given.{setting}
 use Rattle.search.specs.TracedLaws.{formed-fit}
 use Rattle.verdicts.specs.Verdict.{Answer, refused, full, unfit, IsPass, Kind, breaking, failing, showing, packed, Delivered, OfKind, Leaves, SamePair, EventAt, PairCount, PairsPass, Shows, Verdict}
 use Rattle.verdicts.specs.Counting.{more-is}
-use Rattle.verdicts.specs.Readings.{verdict-anywhere}
+use Rattle.verdicts.specs.Demand3.{mostPairs}
+use Rattle.report.specs.Shown.{modelStart}
 use Rattle.verdict_lines.specs.Short.{few-letters}
 use Rattle.verdict_lines.specs.Prints.{tablePairs}
 
 -- ── answers that show an event ──
-showing-same : (i j : Kind) (k l k′ l′ : ℕ) → showing i k l ≡ showing j k′ l′ → (k ≡ k′) × (l ≡ l′)
-showing-same breaking breaking k l k′ l′ e = (cc, cc)
+pub showing-same : (i j : Kind) (k l k′ l′ : ℕ) → showing i k l ≡ showing j k′ l′ → (i ≡ j) × (k ≡ k′) × (l ≡ l′)
+showing-same breaking breaking k l k′ l′ e = (refl, cc, cc)
 showing-same breaking failing k l k′ l′ e = absurd (let z : _≡_ {A = ℕ} 0 1 = cc in omega arith)
 showing-same failing breaking k l k′ l′ e = absurd (let z : _≡_ {A = ℕ} 0 1 = cc in omega arith)
-showing-same failing failing k l k′ l′ e = (cc, cc)
+showing-same failing failing k l k′ l′ e = (refl, cc, cc)
 
 pub showing-refused : (i : Kind) (k l n p : ℕ) → showing i k l ≢ refused n p
 showing-refused breaking k l n p e = let z : _≡_ {A = ℕ} 0 1 = cc in omega arith
 showing-refused failing k l n p e = let z : _≡_ {A = ℕ} 0 1 = cc in omega arith
+
+pub showing-not-full : (i : Kind) (k l : ℕ) → showing i k l ≢ full
+showing-not-full i k l = showing-refused i k l 14 0
+
+pub showing-not-pass : (i : Kind) (k l : ℕ) → ¬ IsPass (showing i k l)
+showing-not-pass breaking k l p = p
+showing-not-pass failing k l p = p
 
 module _ (m : Macro) (o : InOrder m) where
   abbrev start : Trace
@@ -67,31 +74,35 @@ module _ (m : Macro) (o : InOrder m) where
     pub letters-fit : AllFit (headerOf m) ls
     letters-fit = formed-fit start ls formed
 
-    module _ (few : length ls ≤ tablePairs) where
-      terms-few : length (σ .terms) ≤ 349
-      terms-few = omega (arith, terms-length (extend start ls), ap (λ h. h .registers) (extend-header start ls), extend-size start ls, o .few, few)
+    -- at most one computed term for each register and each letter
+    terms-few : length (σ .terms) ≤ 8 + length ls
+    terms-few = omega (arith, terms-length (extend start ls), ap (λ h. h .registers) (extend-header start ls), extend-size start ls, o .few)
 
-      pub rows-few : length (tablesOf (state (extend (begin (headerOf m)) ls)) .rows) ≤ 349
-      unfolding tablesOf shownTables
-      rows-few = omega (arith, rows-length (reverse (σ .terms)) (σ .equals), length-reverse (σ .terms), terms-few)
+    pub rows-few : length (tablesOf (state (extend (begin (headerOf m)) ls)) .rows) ≤ 8 + length ls
+    unfolding tablesOf shownTables
+    rows-few = omega (arith, rows-length (reverse (σ .terms)) (σ .equals), length-reverse (σ .terms), terms-few)
 
-      starts-few : length (tablesOf σ .starts) ≤ 8
-      unfolding tablesOf shownTables
-      starts-few = omega (arith, starts-length (number σ) 0 (σ .header .registers), ap (λ h. h .registers) (extend-header start ls), o .few)
+    starts-few : length (tablesOf σ .starts) ≤ 8
+    unfolding tablesOf shownTables
+    starts-few = omega (arith, starts-length (number σ) 0 (σ .header .registers), ap (λ h. h .registers) (extend-header start ls), o .few)
 
-      pub packable : Packable firstRowWidths (headerOf m) (tablesOf (state (extend (begin (headerOf m)) ls)))
-      packable = subst (λ h. Packable firstRowWidths h (tablesOf σ)) (extend-header start ls)
-          (shown-packable firstRowWidths σ (state-valid (extend start ls) formed) (applications-fit (extend start ls) formed) refl
-          (omega (arith, ap (λ h. h .functions) (extend-header start ls), o .fewer)) (omega (arith, terms-few)) (omega arith))
+    -- the model of an execution of no more letters than a table has pairs fits the packed form
+    pub packable : length ls ≤ mostPairs → Packable firstRowWidths (headerOf m) (tablesOf (state (extend (begin (headerOf m)) ls)))
+    packable few = subst (λ h. Packable firstRowWidths h (tablesOf σ)) (extend-header start ls)
+        (shown-packable firstRowWidths σ (state-valid (extend start ls) formed) (applications-fit (extend start ls) formed) refl
+        (omega (arith, ap (λ h. h .functions) (extend-header start ls), o .fewer)) (omega (arith, terms-few, few)) (omega arith))
 
-      trace-size : length (packing firstEdition (headerOf m) ls) ≤ 684
-      unfolding packing
-      trace-size = omega (arith, few, bytes-length firstEdition first-roomy (headerWord firstEdition (headerOf m) ∷ map (letterWord firstEdition (headerOf m)) ls), length-map ls (letterWord firstEdition (headerOf m)))
+    pub trace-size : length (packing firstEdition (headerOf m) ls) ≡ modelStart (length ls)
+    unfolding packing
+    trace-size =
+        let h = headerOf m in
+        let word = letterWord firstEdition h in
+        omega (arith, bytes-length firstEdition first-roomy (headerWord firstEdition h ∷ map word ls), length-map ls word)
 
-      packed-few : (k : Kind) → length (packed firstEdition firstRowWidths (begin (headerOf m)) k ls) ≤ 4096
-      unfolding packed
-      packed-few breaking = omega (arith, trace-size)
-      packed-few failing = simp length-append (omega (arith, trace-size, packed-length firstRowWidths (headerOf m) (tablesOf σ), rows-few, starts-few))
+    packed-few : length ls ≤ tablePairs → (k : Kind) → length (packed firstEdition firstRowWidths (begin (headerOf m)) k ls) ≤ 4096
+    unfolding packed
+    packed-few few breaking = omega (arith, trace-size, few)
+    packed-few few failing = simp length-append (omega (arith, trace-size, few, packed-length firstRowWidths (headerOf m) (tablesOf σ), rows-few, starts-few))
 
   -- ── the answer ──
   -- a count that does not pass n is at most n
@@ -103,22 +114,20 @@ module _ (m : Macro) (o : InOrder m) where
 
   -- An answer for a table of n pairs that is neither full nor pass.
   module _ (points : sizeBlock (m .body) ≤ 256) (n : ℕ) (output : List ℕ) (answer : Answer) (output′ : List ℕ) (v : Verdict Feasible (begin (headerOf m)) (m .body) firstEdition firstRowWidths n output answer output′) (u : answer ≢ full) (w : ¬ IsPass answer) where
-    anywhere : Verdict FeasibleInSomeModel start (m .body) firstEdition firstRowWidths n output answer output′
-    anywhere = verdict-anywhere (headerOf m) start (m .body) (tt, refl) (o .uses) firstEdition firstRowWidths n output answer output′ .0 v
-
     -- the event that the search finds: no more letters than pairs, and no more pairs than the table holds
     found : (kind : Kind) × (k : ℕ) × (ls : List Letter) × OfKind (begin (headerOf m)) (m .body) kind (extend (begin (headerOf m)) ls) × (length ls ≤ k) × (k ≤ n)
         × Delivered (packed firstEdition firstRowWidths (begin (headerOf m)) kind ls) (showing kind k (length ls)) output answer output′
     found =
-        let (kind, k, ls, s, d) = anywhere .otherwise u w in
-        (kind, k, ls, s .of-kind, few-letters (setting (record { macro = m; in-order = o; few = points })) kind k ls s, count-few n k (s .count) (λ p. u (anywhere .full-exactly .1 p)), d)
+        let (kind, k, ls, s, d) = v .otherwise u w in
+        let short = few-letters (setting (record { macro = m; in-order = o; few = points })) kind k ls s in
+        (kind, k, ls, s .of-kind, short, count-few n k (s .count) (λ p. u (v .full-exactly .1 p)), d)
 
     -- So has every answer that shows an event.
     pub answer-short : (kind : Kind) (k l : ℕ) → answer ≡ showing kind k l → (l ≤ k) × (k ≤ n)
     answer-short kind k l e =
         let (j, i, ls, x, a, b, d) = found in
         elim d [
-          | inl (f, g, h) ↦ let (p, q) = showing-same kind j k l i (length ls) (sym e ∙ g) in (omega arith, omega arith)
+          | inl (f, g, h) ↦ let (h, p, q) = showing-same kind j k l i (length ls) (sym e ∙ g) in (omega arith, omega arith)
           | inr (f, g, h) ↦ absurd (showing-refused kind k l 6 0 (sym e ∙ g))
         ]
 

@@ -11,8 +11,7 @@ use Rattle.tokens.specs.Words as word
 use Rattle.grammar.specs.Grammar.{Macro, entryTokens, functionTokens, blockTokens, sentence}
 use Rattle.grammar.specs.Spelled.{Spells, Declared, Arities, none, one, two}
 use Rattle.grammar.specs.Spelled
-use Rattle.grammar.specs.Reading.{got, readMacro}
-use Rattle.grammar.specs.Whole.{read-sound}
+use Rattle.refusals.specs.Accepted.{Accepted}
 use Rattle.text.specs.Names.{nameText, name-back}
 
 -- A token is printed as the bytes that it has in the text.
@@ -59,15 +58,14 @@ spells-at (Spelled.more a b t) (suc i) l = spells-at t i (omega arith)
 abbrev pub Differ : List ℕ → Type 0
 Differ names = (i j : ℕ) → i < length names → j < length names → nameText (getD names i 0) ≡ nameText (getD names j 0) → i ≡ j
 
-module _ (text : List ℕ) (m : Macro) (end : ℕ) (read : readMacro text ≡ got m end) where
+module _ (text : List ℕ) (m : Macro) (read : Accepted text m) where
   -- x is printed as a token of the text
   abbrev pub Stands : ℕ → Type 0
   Stands x = (at : ℕ) × (tokenAt text at .key ≡ x) × (2 ≤ x) × (nameText x ≡ bytesAt text at)
 
   stands : (x : ℕ) → Has x (sentence m) → Stands x
   stands x h =
-      let (l, s, o, few) = read-sound text m end read in
-      let (at, e, b) = spells-at (s .tokens) (h .place) (h .within) in
+      let (at, e, b) = spells-at (read .spelled .tokens) (h .place) (h .within) in
       let f : tokenAt text at .key ≡ x = e ∙ h .is in
       (at, f, omega (arith, e), ap nameText (sym f) ∙ token-text text at (omega (arith, e)))
 
@@ -86,8 +84,7 @@ module _ (text : List ℕ) (m : Macro) (end : ℕ) (read : readMacro text ≡ go
   pub function-stands : (f : ℕ) → f < length (m .functions) → Stands (getD (m .functions) f 0)
   unfolding sentence
   function-stands f l =
-      let (k, s, o, few) = read-sound text m end read in
-      let h = function-has (m .functions) (m .arities) (o .arities) f l in
+      let h = function-has (m .functions) (m .arities) (read .in-order .arities) f l in
       stands (getD (m .functions) f 0)
       (has-later (has-right (m .registers) (has-later (has-left (functionTokens (m .functions) (m .arities)) (blockTokens (m .registers) (m .functions) (m .arities) (m .body)) (h .place) (h .within) (h .is)))))
 
@@ -96,7 +93,7 @@ module _ (text : List ℕ) (m : Macro) (end : ℕ) (read : readMacro text ≡ go
   once names d stand i j h k e = d .once i j h k (printed-once (getD names i 0) (getD names j 0) (stand i h) (stand j k) e)
 
   pub registers-differ : Differ (m .registers)
-  registers-differ = let (l, s, o, few) = read-sound text m end read in once (m .registers) (o .registers) register-stands
+  registers-differ = once (m .registers) (read .in-order .registers) register-stands
 
   pub functions-differ : Differ (m .functions)
-  functions-differ = let (l, s, o, few) = read-sound text m end read in once (m .functions) (o .functions) function-stands
+  functions-differ = once (m .functions) (read .in-order .functions) function-stands

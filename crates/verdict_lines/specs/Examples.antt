@@ -17,6 +17,8 @@ use Rattle.tokens.specs.Tokens.{tokenAt}
 use Rattle.grammar.specs.Grammar.{Macro, headerOf}
 use Rattle.grammar.specs.Reading.{got, indexOf, block, statement, registers, readText, readMacro}
 use Rattle.grammar.specs.Reading
+use Rattle.refusals.specs.Order.{Refusal, refused-refusal}
+use Rattle.refusals.specs.Accepted.{Accepted, read-accepted, accepted-once, refused-once, never-both}
 use Rattle.verdicts.specs.Verdict.{Leaves, PairCount}
 use Rattle.text.specs.Numerals.{numeral}
 use Rattle.report.specs.Lines.{pass, line, verdictLines, report}
@@ -33,6 +35,9 @@ still = record { registers = 120 ∷ []; functions = []; arities = []; body = sk
 still-read : readMacro still-text ≡ got still 12
 unfolding readMacro readText tokenAt gap width Bytes.run registers block statement indexOf sizeBlock size
 still-read = refl
+
+still-accepted : Accepted still-text still
+still-accepted = read-accepted still-text still 12 still-read
 
 -- verdict pass
 -- pairs 0
@@ -65,10 +70,8 @@ still-told = (none-counted, omega arith, coherent, never-fails)
 pub still-said : Says still-text still-lines
 unfolding report verdictLines line numeral fixed run
 still-said = record {
-  unread = λ n p e. absurd (let z : got still 12 ≡ Reading.refused n p = sym still-read ∙ e in let y : _≡_ {A = ℕ} 0 1 = cc in omega arith);
-  verdict = λ m end e.
-      let i : still ≡ m = (let z : got still 12 ≡ got m end = sym still-read ∙ e in cc) in
-      (pass 0, subst (λ k. Told k (pass 0)) i still-told, refl);
+  unread = λ n p r. absurd (never-both still-text still-accepted r);
+  verdict = λ m a. (pass 0, subst (λ k. Told k (pass 0)) (accepted-once still-text still-accepted a) still-told, refl);
 }
 
 -- no lines at all are wrong
@@ -80,13 +83,14 @@ nothing-read : readMacro [] ≡ Reading.refused 9 0
 unfolding readMacro readText tokenAt gap
 nothing-read = refl
 
+nothing-refused : Refusal [] 9 0
+nothing-refused = refused-refusal [] 9 0 nothing-read
+
 pub nothing-said : Says [] (114 ∷ 101 ∷ 102 ∷ 117 ∷ 115 ∷ 101 ∷ 100 ∷ 32 ∷ 57 ∷ 32 ∷ 97 ∷ 116 ∷ 32 ∷ 48 ∷ 10 ∷ [])
 unfolding line numeral fixed run
 nothing-said = record {
-  unread = λ n p e.
-      let z : Reading.refused 9 0 ≡ Reading.refused n p = sym nothing-read ∙ e in
-      let i : 9 ≡ n = cc in
-      let j : 0 ≡ p = cc in
+  unread = λ n p r.
+      let (i, j) = refused-once [] nothing-refused r in
       λ k. line ((114 ∷ 101 ∷ 102 ∷ 117 ∷ 115 ∷ 101 ∷ 100 ∷ 32 ∷ []) ∷ numeral (i k) ∷ (32 ∷ 97 ∷ 116 ∷ 32 ∷ []) ∷ numeral (j k) ∷ []);
-  verdict = λ m end e. absurd (let z : Reading.refused 9 0 ≡ got m end = sym nothing-read ∙ e in let y : _≡_ {A = ℕ} 0 1 = cc in omega arith);
+  verdict = λ m a. absurd (never-both [] a nothing-refused);
 }

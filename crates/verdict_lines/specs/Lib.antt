@@ -4,6 +4,7 @@ pub mod PrintsLaws
 pub mod Answers
 pub mod Reported
 pub mod Saying
+pub mod ReadBack
 pub mod ReportedLaws
 pub mod Examples
 pub mod Declared

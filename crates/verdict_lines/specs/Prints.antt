@@ -12,8 +12,8 @@ use Rattle.semantics.specs.Coherence.{Coherent}
 use Rattle.semantics.specs.Shown.{tablesOf}
 use Rattle.macros.specs.Executions.{Partial, Failing}
 use Rattle.grammar.specs.Grammar.{Macro, headerOf}
-use Rattle.grammar.specs.Reading.{got, readMacro}
-use Rattle.grammar.specs.Reading
+use Rattle.refusals.specs.Order.{Refusal}
+use Rattle.refusals.specs.Accepted.{Accepted}
 use Rattle.verdicts.specs.Verdict.{breaking, failing, PairCount, PairsPass, Shows}
 use Rattle.text.specs.Numerals.{numeral}
 use Rattle.report.specs.Lines.{Names, Printed, pass, incoherent, fail, refused, line, refusedWord, atWord, report}
@@ -40,8 +40,8 @@ Told m (refused number place) = (number ≡ 14) × (place ≡ 0) × PairsPass Fe
 -- The lines for a text.
 pub record Says (text lines : List ℕ) : Type 0 where
   -- "A refusal is one line, `refused 9 at 17`."
-  pub unread : (number place : ℕ) → readMacro text ≡ Reading.refused number place → lines ≡ line (refusedWord ∷ numeral number ∷ atWord ∷ numeral place ∷ [])
-  pub verdict : (m : Macro) (end : ℕ) → readMacro text ≡ got m end → (told : Printed) × Told m told × (lines ≡ report (declaredNames m) (headerOf m) told)
+  pub unread : (number place : ℕ) → Refusal text number place → lines ≡ line (refusedWord ∷ numeral number ∷ atWord ∷ numeral place ∷ [])
+  pub verdict : (m : Macro) → Accepted text m → (told : Printed) × Told m told × (lines ≡ report (declaredNames m) (headerOf m) told)
 
 -- The lines are never longer.
 abbrev pub mostBytes : ℕ

@@ -17,9 +17,8 @@ use Rattle.semantics.specs.Shown.{tablesOf}
 use Rattle.macros.specs.Executions.{Partial, Failing}
 use Rattle.macros.specs.Order.{Before, before-not}
 use Rattle.grammar.specs.Grammar.{Macro, headerOf}
-use Rattle.grammar.specs.Reading.{Got, got, exhausted, readMacro}
-use Rattle.grammar.specs.Reading
-use Rattle.grammar.specs.Enough.{read-answers}
+use Rattle.refusals.specs.Accepted.{Outcome, accepted, Becomes, an-outcome}
+use Rattle.refusals.specs.Accepted as outcome
 use Rattle.verdicts.specs.Counting.{one-count, more-is}
 use Rattle.verdicts.specs.Since.{since-once}
 use Rattle.verdicts.specs.Verdict.{Kind, breaking, failing, Breaks, Event, breaks, fails, EventAt, Leaves, SamePair, PairCount, PairsPass, Shows}
@@ -76,15 +75,14 @@ module _ (m : Macro) where
   one-told (refused n p) (refused n′ p′) (d, e, y) (d′, e′, y′) = λ i. refused ((d ∙ sym d′) i) ((e ∙ sym e′) i)
 
 pub one-said : (text a b : List ℕ) → Says text a → Says text b → a ≡ b
-one-said text a b x y = go (readMacro text) refl
+one-said text a b x y = let (o, k) = an-outcome text in go o k
   where
-    go : (g : Got Macro) → readMacro text ≡ g → a ≡ b
-    go (Reading.refused n p) e = x .unread n p e ∙ sym (y .unread n p e)
-    go (got m f) e =
-        let (s, t, u) = x .verdict m f e in
-        let (s′, t′, u′) = y .verdict m f e in
+    go : (o : Outcome) → Becomes text o → a ≡ b
+    go (outcome.refused n p) r = x .unread n p r ∙ sym (y .unread n p r)
+    go (accepted m) r =
+        let (s, t, u) = x .verdict m r in
+        let (s′, t′, u′) = y .verdict m r in
         u ∙ ap (report (declaredNames m) (headerOf m)) (one-told m s s′ t t′) ∙ sym u′
-    go exhausted e = absurd (read-answers text e)
 
 module _ {text entry exit : List ℕ} {size : ℕ} (x : Prints text entry size exit) where
   -- So many bytes are there.

@@ -5,9 +5,9 @@ use Prim.Native.Nat.{ℕ, _%_, _≤_}
 use lib.Dec.{leb}
 use lib.ListN.{length, drop}
 use Rattle.base.specs.Choice.{pick}
-use Rattle.grammar.specs.Reading.{readMacro}
 use Rattle.syntax.specs.declared.Macro as held
-use Rattle.syntax.specs.Answer.{answerOf}
+use Rattle.syntax.specs.declared.Answer.{Answer}
+use Rattle.syntax.specs.Reads.{Reads}
 use Rattle.search.specs.declared.Verdict as search
 use Rattle.search.specs.declared.Verdict.the-variants.{Pass, Fail, Incoherent, Refused}
 use Rattle.report.specs.declared.Verdict as report
@@ -25,21 +25,21 @@ reported (Fail pairs letters) = printed.Fail pairs (letters % 65536)
 reported (Incoherent pairs letters) = printed.Incoherent pairs (letters % 65536)
 reported (Refused number place) = printed.Refused number place
 
--- The macro that the text is read as.
-abbrev pub programOf : List ℕ → held.Macro
-programOf text = answerOf (readMacro text) .program
-
--- The report on a text; the bytes of the answer are in s.
-unfoldable pub reportFor : List ℕ → search.Verdict → List ℕ → List ℕ
-reportFor text verdict s = reportOf (programOf text .registers) (programOf text .functions) (programOf text .header) (reported verdict) s
+-- The report on a macro as the reader's struct holds it; the bytes of the answer are in s.
+unfoldable pub reportFor : held.Macro → search.Verdict → List ℕ → List ℕ
+reportFor program verdict s = reportOf (program .registers) (program .functions) (program .header) (reported verdict) s
 
 -- How many bytes were written, 0 if there was no room.
 abbrev pub sizeOf : Written → ℕ
 sizeOf (Bytes n) = n
 sizeOf NoRoom = 0
 
--- It was written into a lent buffer, if it fits; and it is not long if it has few letters and rows.
+-- The text was read, and the report was written into a lent buffer, if it fits; and it is not long if it has few letters and rows.
 pub record Reports (text : List ℕ) (verdict : search.Verdict) (s entry : List ℕ) (size : ℕ) (exit : List ℕ) : Type 0 where
-  pub few : letterNumber (reported verdict) ≤ tablePairs → rowNumber (reported verdict) s ≤ 349 → programOf text .header .registers ≤ 8 → length (reportFor text verdict s) ≤ mostBytes
-  pub given : size ≡ pick (leb (length (reportFor text verdict s)) (length entry)) (λ _. length (reportFor text verdict s)) λ _. 0
-  pub bytes : exit ≡ pick (leb (length (reportFor text verdict s)) (length entry)) (λ _. reportFor text verdict s ++ drop (length (reportFor text verdict s)) entry) λ _. entry
+  pub read : Answer
+  pub reads : Reads text read
+  pub few : letterNumber (reported verdict) ≤ tablePairs → rowNumber (reported verdict) s ≤ 349 → read .program .header .registers ≤ 8
+      → length (reportFor (read .program) verdict s) ≤ mostBytes
+  pub given : size ≡ pick (leb (length (reportFor (read .program) verdict s)) (length entry)) (λ _. length (reportFor (read .program) verdict s)) λ _. 0
+  pub bytes : exit ≡ pick (leb (length (reportFor (read .program) verdict s)) (length entry))
+      (λ _. reportFor (read .program) verdict s ++ drop (length (reportFor (read .program) verdict s)) entry) λ _. entry

@@ -11,18 +11,18 @@ use Rattle.letters.specs.Traces.{packing}
 use Rattle.semantics.specs.Terms.{begin, extend, state}
 use Rattle.semantics.specs.Models.{Feasible}
 use Rattle.semantics.specs.Tables.{Tables}
-use Rattle.semantics.specs.PackedTables.{firstRowWidths, packTables}
+use Rattle.semantics.specs.PackedTables.{firstRowWidths, packTables, Packable}
 use Rattle.semantics.specs.Shown.{tablesOf}
 use Rattle.macros.specs.Numbers.{three}
 use Rattle.macros.specs.Points.{sizeBlock}
 use Rattle.grammar.specs.Grammar.{Macro, headerOf}
 use Rattle.grammar.specs.Spelled.{InOrder}
-use Rattle.grammar.specs.Reading.{Got, got, exhausted, readMacro}
-use Rattle.grammar.specs.Reading
-use Rattle.grammar.specs.Enough.{read-answers}
-use Rattle.grammar.specs.Whole.{read-sound}
+use Rattle.refusals.specs.Order.{Refusal}
+use Rattle.refusals.specs.Accepted.{Accepted, Outcome, accepted, Becomes, an-outcome}
+use Rattle.refusals.specs.Accepted as outcome
 use Rattle.syntax.specs.Answer.{heldMacro, padded}
-use Rattle.syntax.specs.Answer as syntax
+use Rattle.syntax.specs.declared.Answer as syntax
+use Rattle.syntax.specs.Reads.{Reads}
 use Rattle.syntax.specs.declared.Macro as held
 use Rattle.verdicts.specs.Verdict.{full, IsPass, Kind, breaking, failing, showing, packed, Shows, Verdict}
 use Rattle.verdicts.specs.Verdict as verdict
@@ -41,7 +41,7 @@ use Rattle.report.specs.Packed.{incoherent-report, packed-rows, fail-report}
 use Rattle.verdict_lines.specs.Prints.{tablePairs, declaredNames, Told, Says, Prints}
 use Rattle.search.specs.MacroSearch.{header-fits}
 use Rattle.verdict_lines.specs.Answers.{showing-refused, letters-fit, rows-few, packable, count-few, event-shown}
-use Rattle.verdict_lines.specs.Reported.{reported, programOf, reportFor, Reports}
+use Rattle.verdict_lines.specs.Reported.{reported, reportFor, Reports}
 
 -- ── names with 0 behind them ──
 none-at : (n r : ℕ) → _≡_ {A = ℕ} (getD (replicate n 0) r 0) 0
@@ -111,13 +111,16 @@ module _ (m : Macro) (o : InOrder m) (points : sizeBlock (m .body) ≤ 256) (out
       told = printed.fail pairs ls tables;
       is-told = (s, c, refl);
       lines = (λ i. reportOf (m .registers) (m .functions) (headerOf m) (report.Fail (e i) (same i)) (stands i))
-          ∙ fail-report (headerOf m) ls tables rest (header-fits m o) (letters-fit m o failing ls (s .of-kind)) (packable m o failing ls (s .of-kind) few) (m .registers) (m .functions) pairs;
+          ∙ fail-report (headerOf m) ls tables rest (header-fits m o) (letters-fit m o failing ls (s .of-kind)) fits (m .registers) (m .functions) pairs;
       letters = omega arith;
-      rows = let z = counted in let y = rows-few m o failing ls (s .of-kind) few in omega arith;
+      rows = let z = counted in let y = rows-few m o failing ls (s .of-kind) in omega arith;
     }
       where
         tables : Tables
         tables = tablesOf (state (extend (begin (headerOf m)) ls))
+
+        fits : Packable firstRowWidths (headerOf m) tables
+        fits = packable m o failing ls (s .of-kind) (omega arith)
 
         trace : List ℕ
         trace = packing firstEdition (headerOf m) ls
@@ -129,7 +132,8 @@ module _ (m : Macro) (o : InOrder m) (points : sizeBlock (m .body) ≤ 256) (out
         stands = b ∙ append-assoc trace (packTables firstRowWidths (headerOf m) tables) rest
 
         counted : rowNumber (report.Fail k (l % 65536)) output′ ≡ length (tables .rows)
-        counted = (λ i. rowNumber (report.Fail (e i) (same i)) (stands i)) ∙ packed-rows (headerOf m) ls tables rest (header-fits m o) (letters-fit m o failing ls (s .of-kind)) (packable m o failing ls (s .of-kind) few)
+        counted = (λ i. rowNumber (report.Fail (e i) (same i)) (stands i))
+            ∙ packed-rows (headerOf m) ls tables rest (header-fits m o) (letters-fit m o failing ls (s .of-kind)) fits
 
   shown-right : (v : search.Verdict) (kind : Kind) (pairs : ℕ) (ls : List Letter) → Shows Feasible (begin (headerOf m)) (m .body) kind pairs ls → pairs ≤ tablePairs → length ls ≤ tablePairs
       → answerOf v ≡ showing kind pairs (length ls) → Front kind ls → Right m v output′
@@ -172,28 +176,27 @@ module _ (m : Macro) (o : InOrder m) (points : sizeBlock (m .body) ≤ 256) (out
       }
       go (inr u) = event-right (Refused n p) j u (λ w. w)
 
--- ── a text ──
-module _ (text : List ℕ) where
-  program-is : (m : Macro) (end : ℕ) → readMacro text ≡ got m end → programOf text ≡ heldMacro m
-  unfolding syntax.answerOf
-  program-is m end e = ap (λ g. syntax.answerOf g .program) e
-
-  report-is : (m : Macro) (end : ℕ) (v : search.Verdict) (s : List ℕ) → readMacro text ≡ got m end → reportFor text v s ≡ reportOf (m .registers) (m .functions) (headerOf m) (reported v) s
+-- ── a text, and what the reader answers ──
+module _ (text : List ℕ) (read : syntax.Answer) (reads : Reads text read) where
+  report-is : (m : Macro) (v : search.Verdict) (s : List ℕ) → Accepted text m
+      → reportFor (read .program) v s ≡ reportOf (m .registers) (m .functions) (headerOf m) (reported v) s
   unfolding reportFor reportOf heldMacro
-  report-is m end v s e =
-      ap (λ (p : held.Macro). reportOf (p .registers) (p .functions) (p .header) (reported v) s) (program-is m end e) ∙ ap (λ (n : Names). report n (headerOf m) (shown (headerOf m) (reported v) s)) (names-held m)
+  report-is m v s a =
+      ap (λ (p : held.Macro). reportOf (p .registers) (p .functions) (p .header) (reported v) s) (reads .accepts m a .2)
+      ∙ ap (λ (n : Names). report n (headerOf m) (shown (headerOf m) (reported v) s)) (names-held m)
 
-  held-registers : (m : Macro) (end : ℕ) → readMacro text ≡ got m end → length (m .registers) ≤ 8 → programOf text .header .registers ≤ 8
+  held-registers : (m : Macro) → Accepted text m → read .program .header .registers ≤ 8
   unfolding heldMacro
-  held-registers m end e l = let z = ap (λ (p : held.Macro). p .header .registers) (program-is m end e) in omega arith
+  held-registers m a = let z = ap (λ (p : held.Macro). p .header .registers) (reads .accepts m a .2) in let l = a .in-order .few in omega arith
 
   -- What a report needs to be short.
   abbrev Brief : search.Verdict → List ℕ → Type 0
-  Brief v s = (letterNumber (reported v) ≤ tablePairs) × (rowNumber (reported v) s ≤ 349) × (programOf text .header .registers ≤ 8)
+  Brief v s = (letterNumber (reported v) ≤ tablePairs) × (rowNumber (reported v) s ≤ 349) × (read .program .header .registers ≤ 8)
 
   -- a refusal of the text
-  module _ (number place : ℕ) (s : List ℕ) (e : readMacro text ≡ Reading.refused number place) where
-    refused-report : (v : search.Verdict) → answerOf v ≡ verdict.refused number place → reportFor text v s ≡ line (refusedWord ∷ numeral number ∷ atWord ∷ numeral place ∷ [])
+  module _ (number place : ℕ) (s : List ℕ) (r : Refusal text number place) where
+    refused-report : (v : search.Verdict) → answerOf v ≡ verdict.refused number place
+        → reportFor (read .program) v s ≡ line (refusedWord ∷ numeral number ∷ atWord ∷ numeral place ∷ [])
     unfolding reportFor reported reportOf shown report
     refused-report (Refused n p) f =
         let i : n ≡ number = cc in
@@ -204,39 +207,46 @@ module _ (text : List ℕ) where
     refused-report (Incoherent k l) f = absurd (let z : _≡_ {A = ℕ} 0 1 = cc in omega arith)
 
     refused-brief : (v : search.Verdict) → answerOf v ≡ verdict.refused number place → Brief v s
-    unfolding reported syntax.answerOf
-    refused-brief (Refused n p) f = (omega arith, omega arith, let z = ap (λ g. syntax.answerOf g .program .header .registers) e in omega arith)
+    unfolding reported
+    refused-brief (Refused n p) f =
+        let z = ap (λ (p : held.Macro). p .header .registers) (reads .refuses number place r .2) in
+        (omega arith, omega arith, omega arith)
     refused-brief (Pass k) f = absurd (let z : _≡_ {A = ℕ} 0 1 = cc in omega arith)
     refused-brief (Fail k l) f = absurd (let z : _≡_ {A = ℕ} 0 1 = cc in omega arith)
     refused-brief (Incoherent k l) f = absurd (let z : _≡_ {A = ℕ} 0 1 = cc in omega arith)
 
-  module _ (table output : List ℕ) (size : length table ≡ 65536) (room : length output ≡ 4096) (v : search.Verdict) (table′ output′ : List ℕ)
-      (demand : Demand3 Feasible text table output (answerOf v) table′ output′) where
-    pairs : pairsIn table ≡ tablePairs
-    pairs = ap (λ n. min 1024 (n / 192)) size
+module _ (text table output : List ℕ) (size : length table ≡ 65536) (room : length output ≡ 4096) (v : search.Verdict) (table′ output′ : List ℕ)
+    (demand : Demand3 Feasible text table output (answerOf v) table′ output′) where
+  pairs : pairsIn table ≡ tablePairs
+  pairs = ap (λ n. min 1024 (n / 192)) size
 
-    judged : (m : Macro) (end : ℕ) → readMacro text ≡ got m end → Right m v output′
-    judged m end e =
-        let (l, s, o, few) = read-sound text m end e in
-        right m o few output room output′ v (subst (λ n. Verdict Feasible (begin (headerOf m)) (m .body) firstEdition firstRowWidths n output (answerOf v) output′) pairs (demand .verdict m end e))
+  judged : (m : Macro) → Accepted text m → Right m v output′
+  judged m a =
+      right m (a .in-order) (a .few) output room output′ v
+      (subst (λ n. Verdict Feasible (begin (headerOf m)) (m .body) firstEdition firstRowWidths n output (answerOf v) output′) pairs (demand .verdict m a))
 
-    says : Says text (reportFor text v output′)
+  module _ (read : syntax.Answer) (reads : Reads text read) where
+    says : Says text (reportFor (read .program) v output′)
     says = record {
-      unread = λ number place e. refused-report number place output′ e v (demand .unread number place e .0);
-      verdict = λ m end e. let r = judged m end e in (r .told, r .is-told, report-is m end v output′ e ∙ r .lines);
+      unread = λ number place r. refused-report text read reads number place output′ r v (demand .unread number place r .0);
+      verdict = λ m a. let r = judged m a in (r .told, r .is-told, report-is text read reads m v output′ a ∙ r .lines);
     }
 
-    brief : Brief v output′
-    brief = go (readMacro text) refl
+    brief : Brief text read reads v output′
+    brief = let (o, k) = an-outcome text in go o k
       where
-        go : (g : Got Macro) → readMacro text ≡ g → Brief v output′
-        go (Reading.refused number place) e = refused-brief number place output′ e v (demand .unread number place e .0)
-        go (got m end) e =
-            let (l, s, o, few) = read-sound text m end e in
-            let r = judged m end e in
-            (r .letters, r .rows, held-registers m end e (o .few))
-        go exhausted e = absurd (read-answers text e)
+        go : (o : Outcome) → Becomes text o → Brief text read reads v output′
+        go (outcome.refused number place) r = refused-brief text read reads number place output′ r v (demand .unread number place r .0)
+        go (accepted m) a = let r = judged m a in (r .letters, r .rows, held-registers text read reads m a)
 
-    -- The lines are those of the program, and few.
-    pub prints : (entry : List ℕ) (n : ℕ) (exit : List ℕ) → Reports text v output′ entry n exit → Prints text entry n exit
-    prints entry n exit x = record { lines = reportFor text v output′; says = says; few = x .few (brief .0) (brief .1) (brief .2); given = x .given; bytes = x .bytes }
+  -- The lines are those of the program, and few.
+  pub prints : (entry : List ℕ) (n : ℕ) (exit : List ℕ) → Reports text v output′ entry n exit → Prints text entry n exit
+  prints entry n exit x =
+      let b = brief (x .read) (x .reads) in
+      record {
+        lines = reportFor (x .read .program) v output′;
+        says = says (x .read) (x .reads);
+        few = x .few (b .0) (b .1) (b .2);
+        given = x .given;
+        bytes = x .bytes;
+      }

@@ -10,7 +10,7 @@ use native.Mathlib.Omega.{arith}
 use lib.ListN.{length}
 use Rattle.letters.specs.declared.Letter.{Letter}
 use Rattle.semantics.specs.Terms.{Trace, extend}
-use Rattle.semantics.specs.AnyModel.{FeasibleInSomeModel}
+use Rattle.semantics.specs.Models.{Feasible}
 use Rattle.macros.specs.Numbers.{less-or, three, strong}
 use Rattle.macros.specs.Order.{Branch, first, second, Path, root, _▹_, steps, LexicallyBefore, Before, AtOrBefore, before-or, before-till, till-not, till-steps}
 use Rattle.macros.specs.Walk.{Place, failure, stand}
@@ -154,8 +154,8 @@ module _ {S E : Type 0} (start : Option S) (move : S → Branch → Result S E) 
 
 -- ── in a macro ──
 module _ (x : Setting) where
-  abbrev Counts : Path → Type 1
-  Counts = Counted Before (Leaves (x .start) (x .body)) (SamePair (x .start) (x .body)) (EventAt FeasibleInSomeModel (x .start) (x .body))
+  abbrev Counts : Path → Type 0
+  Counts = Counted Before (Leaves (x .start) (x .body)) (SamePair (x .start) (x .body)) (EventAt Feasible (x .start) (x .body))
 
   counts : (q : Path) → Numbered (starting x) (stepping x) q → Counts q
   counts q c = record {
@@ -166,11 +166,11 @@ module _ (x : Setting) where
     early = λ r e. let (d, m, t) = event-met x r e in before-till q d r (c .early d m) t;
   }
 
-  event-path : (ρ : Trace) → Event FeasibleInSomeModel (x .start) (x .body) ρ → (p : Path) × (l : Place ℕ) × (run (x .start) (x .body) p ≡ stand l ρ)
+  event-path : (ρ : Trace) → Event Feasible (x .start) (x .body) ρ → (p : Path) × (l : Place ℕ) × (run (x .start) (x .body) p ≡ stand l ρ)
   event-path ρ (breaks y b) = partial-is (x .start) (x .body) ρ .0 y
   event-path ρ (fails y f) = let (p, e) = failing-is (x .start) (x .body) ρ .0 y in (p, failure, e)
 
-  module _ (ρ : Trace) (y : FirstEvent FeasibleInSomeModel (x .start) (x .body) ρ) (p : Path) (l : Place ℕ) (u : run (x .start) (x .body) p ≡ stand l ρ) where
+  module _ (ρ : Trace) (y : FirstEvent Feasible (x .start) (x .body) ρ) (p : Path) (l : Place ℕ) (u : run (x .start) (x .body) p ≡ stand l ρ) where
     -- an event of the search lies at p or behind it
     not-before : (q : Path) → Meets (starting x) (stepping x) q → AtOrBefore p q
     not-before q m =
@@ -193,7 +193,7 @@ module _ (x : Setting) where
         same q (inl i) t = i
         same q (inr b) t = absurd (till-not p q t b)
 
-  pub few-letters : (kind : Kind) (k : ℕ) (ls : List Letter) → Shows FeasibleInSomeModel (x .start) (x .body) kind k ls → length ls ≤ k
+  pub few-letters : (kind : Kind) (k : ℕ) (ls : List Letter) → Shows Feasible (x .start) (x .body) kind k ls → length ls ≤ k
   few-letters kind k ls s =
       let ρ : Trace = extend (x .start) ls in
       let (p, l, u) = event-path ρ (s .first-event .event) in

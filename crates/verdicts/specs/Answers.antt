@@ -8,12 +8,10 @@ use lib.ListN.{length}
 use Rattle.letters.specs.declared.Letter.{Letter}
 use Rattle.semantics.specs.Terms.{Trace, begin, _▸_, extend, state, WellFormed}
 use Rattle.letters.specs.Editions.{Edition}
-use Rattle.semantics.specs.Models.{Satisfies}
+use Rattle.semantics.specs.Models.{Satisfies, Feasible}
 use Rattle.semantics.specs.PackedTables.{RowWidths}
 use Rattle.semantics.specs.Facts.{state-valid}
 use Rattle.semantics.specs.Shown.{shown, shown-model}
-use Rattle.semantics.specs.PaperLaws.{feasible-anywhere}
-use Rattle.semantics.specs.AnyModel.{FeasibleInSomeModel}
 use Rattle.semantics.specs.Coherence.{Coherent}
 use Rattle.macros.specs.Executions.{Partial, Failing}
 use Rattle.macros.specs.Order.{Branch, Path, _▹_, Before, AtOrBefore, before-not, before-join, till-join}
@@ -30,8 +28,8 @@ use Rattle.verdicts.specs.Verdict
 use Rattle.verdicts.specs.Pairs.{Setting, Pair, starting, stepping, leads, lead-leaves, leaves-lead, alike-same, same-alike, meets-breaking, meets-failing, event-met, met-event, quiet-coherent, quiet-safe}
 
 -- the shown model satisfies the tests of a feasible trace
-satisfies : (ρ : Trace) → WellFormed ρ → FeasibleInSomeModel (state ρ) → Satisfies (shown (state ρ)) (state ρ .equals) (state ρ .unequals)
-satisfies ρ f g = let v = state-valid ρ f in shown-model (state ρ) v (feasible-anywhere (state ρ) v .1 g)
+satisfies : (ρ : Trace) → WellFormed ρ → Feasible (state ρ) → Satisfies (shown (state ρ)) (state ρ .equals) (state ρ .unequals)
+satisfies ρ f g = shown-model (state ρ) (state-valid ρ f) g
 
 showing-other : (kind : Kind) (k l : ℕ) → (showing kind k l ≢ full) × (¬ IsPass (showing kind k l))
 showing-other breaking k l = (λ e. let z : _≡_ {A = ℕ} 0 1 = cc in omega arith, λ p. p)
@@ -47,25 +45,26 @@ given-other bs kind k l output answer output′ (inr g) = subst (λ y. (y ≢ fu
 
 module _ (x : Setting) (edition : Edition) (widths : RowWidths) where
   counted-lists : (f : ℕ → Path) (k : ℕ) → Lists Before (Leads (starting x) (stepping x)) (Alike (starting x) (stepping x)) (Meets (starting x) (stepping x)) f k
-      → Lists Before (Leaves (x .start) (x .body)) (SamePair (x .start) (x .body)) (EventAt FeasibleInSomeModel (x .start) (x .body)) f k
+      → Lists Before (Leaves (x .start) (x .body)) (SamePair (x .start) (x .body)) (EventAt Feasible (x .start) (x .body)) f k
   counted-lists = same-lists Before before-join (Leads (starting x) (stepping x)) (Leaves (x .start) (x .body))
-      (Alike (starting x) (stepping x)) (SamePair (x .start) (x .body)) (Meets (starting x) (stepping x)) (EventAt FeasibleInSomeModel (x .start) (x .body))
+      (Alike (starting x) (stepping x)) (SamePair (x .start) (x .body)) (Meets (starting x) (stepping x)) (EventAt Feasible (x .start) (x .body))
       (lead-leaves x) (leaves-lead x) (alike-same x) (same-alike x) (met-event x) (event-met x)
 
-  counted-more : (k : ℕ) → More Before (Leads (starting x) (stepping x)) (Alike (starting x) (stepping x)) (Meets (starting x) (stepping x)) k → PairsPass FeasibleInSomeModel (x .start) (x .body) k
+  counted-more : (k : ℕ) → More Before (Leads (starting x) (stepping x)) (Alike (starting x) (stepping x)) (Meets (starting x) (stepping x)) k
+      → PairsPass Feasible (x .start) (x .body) k
   counted-more = same-more Before before-join (Leads (starting x) (stepping x)) (Leaves (x .start) (x .body))
-      (Alike (starting x) (stepping x)) (SamePair (x .start) (x .body)) (Meets (starting x) (stepping x)) (EventAt FeasibleInSomeModel (x .start) (x .body))
+      (Alike (starting x) (stepping x)) (SamePair (x .start) (x .body)) (Meets (starting x) (stepping x)) (EventAt Feasible (x .start) (x .body))
       (lead-leaves x) (leaves-lead x) (alike-same x) (same-alike x) (met-event x) (event-met x)
 
   -- a count of at most n does not pass n
-  not-more : (k n : ℕ) → PairCount FeasibleInSomeModel (x .start) (x .body) k → k ≤ n → ¬ PairsPass FeasibleInSomeModel (x .start) (x .body) n
+  not-more : (k n : ℕ) → PairCount Feasible (x .start) (x .body) k → k ≤ n → ¬ PairsPass Feasible (x .start) (x .body) n
   not-more k n c l y =
-      let z = more-is Before (Leaves (x .start) (x .body)) (SamePair (x .start) (x .body)) (EventAt FeasibleInSomeModel (x .start) (x .body)) before-not k n c .0 y in
+      let z = more-is Before (Leaves (x .start) (x .body)) (SamePair (x .start) (x .body)) (EventAt Feasible (x .start) (x .body)) before-not k n c .0 y in
       omega arith
 
   module _ (n : ℕ) (output : List ℕ) where
-    abbrev Answered : Answer → List ℕ → Type 1
-    Answered answer output′ = Verdict FeasibleInSomeModel (x .start) (x .body) edition widths n output answer output′
+    abbrev Answered : Answer → List ℕ → Type 0
+    Answered answer output′ = Verdict Feasible (x .start) (x .body) edition widths n output answer output′
 
     -- ── the search is full ──
     pub answers-full : More Before (Leads (starting x) (stepping x)) (Alike (starting x) (stepping x)) (Meets (starting x) (stepping x)) n → Answered full output
@@ -83,23 +82,23 @@ module _ (x : Setting) (edition : Edition) (widths : RowWidths) where
       full-exactly = (λ e. absurd (let z : _≡_ {A = ℕ} 0 1 = cc in omega arith), λ y. absurd (not-more (t .count) n count l y));
       full-output = λ e. refl;
       pass-exactly = λ u. (λ p. (quiet-coherent x quiet, quiet-safe x quiet), λ p. tt);
-      pass-count = λ j e. (subst (PairCount FeasibleInSomeModel (x .start) (x .body)) (cc) count, refl);
+      pass-count = λ j e. (subst (PairCount Feasible (x .start) (x .body)) (cc) count, refl);
       otherwise = λ u w. absurd (w tt);
     }
       where
         quiet : (p : Path) (e : Kind) → leads x p ≢ event e
         quiet = finished-quiet (starting x) (stepping x) t (t .count + t .count) v refl
 
-        count : PairCount FeasibleInSomeModel (x .start) (x .body) (t .count)
+        count : PairCount Feasible (x .start) (x .body) (t .count)
         count = (path t, counted-lists (path t) (t .count) (finished-lists (starting x) (stepping x) t (t .count + t .count) v refl))
 
     -- ── the search meets an event ──
-    event-path : (π : Trace) → Event FeasibleInSomeModel (x .start) (x .body) π → (q : Path) × (l : Place ℕ) × (run (x .start) (x .body) q ≡ stand l π)
+    event-path : (π : Trace) → Event Feasible (x .start) (x .body) π → (q : Path) × (l : Place ℕ) × (run (x .start) (x .body) q ≡ stand l π)
     event-path π (Verdict.breaks y b) = partial-is (x .start) (x .body) π .0 y
     event-path π (Verdict.fails y f) = let (q, e) = failing-is (x .start) (x .body) π .0 y in (q, failure, e)
 
     least : (p : Path) (e : Kind) (l : Place ℕ) (ρ : Trace) → FirstMet (starting x) (stepping x) p e → run (x .start) (x .body) p ≡ stand l ρ
-        → (π : Trace) → Event FeasibleInSomeModel (x .start) (x .body) π → (π ≡ ρ) ⊎ Precedes (x .start) (x .body) ρ π
+        → (π : Trace) → Event Feasible (x .start) (x .body) π → (π ≡ ρ) ⊎ Precedes (x .start) (x .body) ρ π
     least p e l ρ y u π z = go (event-path π z)
       where
         go : (q : Path) × (k : Place ℕ) × (run (x .start) (x .body) q ≡ stand k π) → (π ≡ ρ) ⊎ Precedes (x .start) (x .body) ρ π
@@ -117,10 +116,10 @@ module _ (x : Setting) (edition : Edition) (widths : RowWidths) where
     breaks-not (ρ ▸ a) y c = y .1 c
 
     -- what is shown of an event that the search meets: it is an event, of the right kind, and so the macro does not pass
-    record Shown (kind : Kind) (ρ : Trace) : Type 1 where
-      is-event : Event FeasibleInSomeModel (x .start) (x .body) ρ
+    record Shown (kind : Kind) (ρ : Trace) : Type 0 where
+      is-event : Event Feasible (x .start) (x .body) ρ
       of-kind : OfKind (x .start) (x .body) kind ρ
-      fails-to-pass : ((π : Trace) → Partial (x .start) (x .body) π → Coherent π) → ((π : Trace) → Failing (x .start) (x .body) π → ¬ FeasibleInSomeModel (state π)) → ⊥
+      fails-to-pass : ((π : Trace) → Partial (x .start) (x .body) π → Coherent π) → ((π : Trace) → Failing (x .start) (x .body) π → ¬ Feasible (state π)) → ⊥
 
     met-shown : (kind : Kind) (p : Path) (l : Place ℕ) (ρ : Trace) → leads x p ≡ event kind → run (x .start) (x .body) p ≡ stand l ρ → Shown kind ρ
     met-shown breaking p l ρ e u =
@@ -134,7 +133,7 @@ module _ (x : Setting) (edition : Edition) (widths : RowWidths) where
         let j : π ≡ ρ = cc in
         let i : run (x .start) (x .body) p ≡ stand failure ρ = cc in
         let y = failing-is (x .start) (x .body) ρ .1 (p, i) in
-        let g : FeasibleInSomeModel (state ρ) = subst (λ τ. FeasibleInSomeModel (state τ)) j f in
+        let g : Feasible (state ρ) = subst (λ τ. Feasible (state τ)) j f in
         record {
           is-event = Verdict.fails y g;
           of-kind = (y, subst Coherent j c, satisfies ρ (run-formed (x .header) (x .start) (x .body) (x .formed) (x .proper) p l ρ u .0) g);
@@ -158,13 +157,13 @@ module _ (x : Setting) (edition : Edition) (widths : RowWidths) where
         s : Shown kind (extend (x .start) ls)
         s = met-shown kind (path t i ▹ b) l (extend (x .start) ls) (met .happens) u
 
-        count : PairCount FeasibleInSomeModel (x .start) (x .body) (t .count)
+        count : PairCount Feasible (x .start) (x .body) (t .count)
         count = (path t, counted-lists (path t) (t .count) (event-lists (starting x) (stepping x) t i b v q kind e))
 
         other : (answer ≢ full) × (¬ IsPass answer)
         other = given-other (packed edition widths (x .start) kind ls) kind (t .count) (length ls) output answer output′ g
 
-        shows : Shows FeasibleInSomeModel (x .start) (x .body) kind (t .count) ls
+        shows : Shows Feasible (x .start) (x .body) kind (t .count) ls
         shows = record {
           first-event = record { event = s .is-event; least = least (path t i ▹ b) kind l (extend (x .start) ls) met u };
           of-kind = s .of-kind;

@@ -8,8 +8,8 @@ use Rattle.letters.specs.Editions.{firstEdition}
 use Rattle.semantics.specs.Terms.{State, begin}
 use Rattle.semantics.specs.PackedTables.{firstRowWidths}
 use Rattle.grammar.specs.Grammar.{Macro, headerOf}
-use Rattle.grammar.specs.Reading.{got, readMacro}
-use Rattle.grammar.specs.Reading
+use Rattle.refusals.specs.Order.{Refusal}
+use Rattle.refusals.specs.Accepted.{Accepted}
 use Rattle.verdicts.specs.Verdict.{Answer, refused, Verdict}
 
 -- "The table holds N pairs: the lesser of 1,024 and the lent bytes divided by 192, rounded down."
@@ -26,9 +26,10 @@ pairsIn table = min mostPairs (length table / pairBytes)
 -- Possible σ: some data model satisfies the tests of the state σ. The models are finite ones, or of any values (Verdict).
 pub record Demand3 {ℓ} (Possible : State → Type ℓ) (text table output : List ℕ) (answer : Answer) (table′ output′ : List ℕ) : Type ℓ where
   -- A text that is refused, by 7 to 13: "a refusal before it leaves the table untouched", "Refused calls write no output".
-  -- (When a text is refused by which number at which place, and when it is read as m, crate `syntax` says without `readMacro`: `Reads`.)
-  pub unread : (number place : ℕ) → readMacro text ≡ Reading.refused number place → (answer ≡ refused number place) × (table′ ≡ table) × (output′ ≡ output)
-  -- A text that is read as the macro m: the verdict on all its executions, or 14, or 6.
-  pub verdict : (m : Macro) (end : ℕ) → readMacro text ≡ got m end → Verdict Possible (begin (headerOf m)) (m .body) firstEdition firstRowWidths (pairsIn table) output answer output′
+  -- (Each text is accepted as one macro or refused by one number at one place: `Accepted.exactly-one` of crate `refusals`.)
+  pub unread : (number place : ℕ) → Refusal text number place → (answer ≡ refused number place) × (table′ ≡ table) × (output′ ≡ output)
+  -- A text that is that of the macro m: the verdict on all its executions, or 14, or 6.
+  pub verdict : (m : Macro) → Accepted text m
+      → Verdict Possible (begin (headerOf m)) (m .body) firstEdition firstRowWidths (pairsIn table) output answer output′
   -- "After a search, 14 included, each lent table byte is zero."
-  pub zeroed : (m : Macro) (end : ℕ) → readMacro text ≡ got m end → table′ ≡ replicate (length table) 0
+  pub zeroed : (m : Macro) → Accepted text m → table′ ≡ replicate (length table) 0

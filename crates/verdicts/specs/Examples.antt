@@ -27,6 +27,9 @@ use Rattle.tokens.specs.Bytes
 use Rattle.tokens.specs.Tokens.{tokenAt}
 use Rattle.grammar.specs.Reading.{got, indexOf, condition, tested, block, statement, registers, readText, readMacro}
 use Rattle.grammar.specs.Reading
+use Rattle.grammar.specs.Grammar.{Macro}
+use Rattle.refusals.specs.Order.{Refusal, refused-refusal}
+use Rattle.refusals.specs.Accepted.{Accepted, read-accepted}
 use Rattle.verdicts.specs.Verdict.{Answer, pass, refused, full, Verdict, PairCount, Leaves}
 use Rattle.verdicts.specs.Demand3.{pairsIn, Demand3}
 use Rattle.verdicts.specs.Settled.{one-way, refused-way, read-way}
@@ -104,10 +107,10 @@ module _ (h : Header) (edition : Edition) (widths : RowWidths) (n : ℕ) (output
       differ s t f g e = let z : _≡_ {A = ℕ} 0 1 = sym (ap (eval apart) f) ∙ e ∙ ap (eval apart) g in omega arith
 
   -- each register has a value of its own
-  numbered : AnyModel
+  numbered : AnyModel {0}
   numbered = record { Value = ℕ; start = λ r. r; table = λ f a b. 0 }
 
-  reaches-anywhere : FeasibleInSomeModel (state failure)
+  reaches-anywhere : FeasibleInSomeModel {0} (state failure)
   unfolding numbered
   reaches-anywhere = (
     numbered,
@@ -130,8 +133,8 @@ module _ (h : Header) (edition : Edition) (widths : RowWidths) (n : ℕ) (output
   claim-fails : (k : ℕ) (output′ : List ℕ) → ¬ Verdict Feasible (begin h) claim edition widths n output (pass k) output′
   claim-fails = passes-not Feasible reaches
 
-  claim-fails-anywhere : (k : ℕ) (output′ : List ℕ) → ¬ Verdict FeasibleInSomeModel (begin h) claim edition widths n output (pass k) output′
-  claim-fails-anywhere = passes-not FeasibleInSomeModel reaches-anywhere
+  claim-fails-anywhere : (k : ℕ) (output′ : List ℕ) → ¬ Verdict (FeasibleInSomeModel {0}) (begin h) claim edition widths n output (pass k) output′
+  claim-fails-anywhere = passes-not (FeasibleInSomeModel {0}) reaches-anywhere
 
 -- ── a failure at the second turn of a loop ──
 -- vars p q r s u v; funs n/1; q := p; r := p; while u != v { r := q; q := s; u := n(u); } assert r = p;
@@ -173,37 +176,54 @@ module _ (edition : Edition) (widths : RowWidths) (n : ℕ) (output : List ℕ) 
 abbrev still-text : List ℕ
 still-text = 118 ∷ 97 ∷ 114 ∷ 115 ∷ 32 ∷ 120 ∷ 59 ∷ 115 ∷ 107 ∷ 105 ∷ 112 ∷ 59 ∷ []
 
-still-read : readMacro still-text ≡ got (record { registers = 120 ∷ []; functions = []; arities = []; body = skip then empty }) 12
+abbrev still-macro : Macro
+still-macro = record { registers = 120 ∷ []; functions = []; arities = []; body = skip then empty }
+
+still-read : readMacro still-text ≡ got still-macro 12
 unfolding readMacro readText tokenAt gap width Bytes.run registers block statement indexOf sizeBlock size
 still-read = refl
+
+still-accepted : Accepted still-text still-macro
+still-accepted = read-accepted still-text still-macro 12 still-read
 
 -- vars x y;assert x=y;
 abbrev pub claim-text : List ℕ
 claim-text = 118 ∷ 97 ∷ 114 ∷ 115 ∷ 32 ∷ 120 ∷ 32 ∷ 121 ∷ 59 ∷ 97 ∷ 115 ∷ 115 ∷ 101 ∷ 114 ∷ 116 ∷ 32 ∷ 120 ∷ 61 ∷ 121 ∷ 59 ∷ []
 
-pub claim-read : readMacro claim-text ≡ got (record { registers = 120 ∷ 121 ∷ []; functions = []; arities = []; body = assert (equal 0 1) then empty }) 20
+abbrev pub claim-macro : Macro
+claim-macro = record { registers = 120 ∷ 121 ∷ []; functions = []; arities = []; body = assert (equal 0 1) then empty }
+
+claim-read : readMacro claim-text ≡ got claim-macro 20
 unfolding readMacro readText tokenAt gap width Bytes.run registers block statement tested condition indexOf sizeBlock size
 claim-read = refl
+
+pub claim-accepted : Accepted claim-text claim-macro
+claim-accepted = read-accepted claim-text claim-macro 20 claim-read
 
 nothing-read : readMacro [] ≡ Reading.refused 9 0
 unfolding readMacro readText tokenAt gap
 nothing-read = refl
 
+nothing-refused : Refusal [] 9 0
+nothing-refused = refused-refusal [] 9 0 nothing-read
+
 module _ (table output : List ℕ) where
   -- pass, the table zeroed, the output as it was
   still-met {ℓ} : (Possible : State → Type ℓ) → Demand3 Possible still-text table output (pass 0) (replicate (length table) 0) output
-  still-met Possible = read-way Possible still-text table output _ 12 still-read (pass 0) output (still-passes _ firstEdition firstRowWidths (pairsIn table) output Possible)
+  still-met Possible =
+      read-way Possible still-text table output still-macro still-accepted (pass 0) output
+      (still-passes _ firstEdition firstRowWidths (pairsIn table) output Possible)
 
   -- no text at all: nothing is written
   nothing-met {ℓ} : (Possible : State → Type ℓ) → Demand3 Possible [] table output (refused 9 0) table output
-  nothing-met Possible = refused-way Possible [] table output 9 0 nothing-read
+  nothing-met Possible = refused-way Possible [] table output 9 0 nothing-refused
 
   -- pass is wrong, whatever the table and the output hold afterwards
   claim-not-met : (k : ℕ) (table′ output′ : List ℕ) → ¬ Demand3 Feasible claim-text table output (pass k) table′ output′
-  claim-not-met k table′ output′ x = claim-fails _ firstEdition firstRowWidths (pairsIn table) output k output′ (x .verdict _ 20 claim-read)
+  claim-not-met k table′ output′ x = claim-fails _ firstEdition firstRowWidths (pairsIn table) output k output′ (x .verdict claim-macro claim-accepted)
 
-  claim-not-met-anywhere : (k : ℕ) (table′ output′ : List ℕ) → ¬ Demand3 FeasibleInSomeModel claim-text table output (pass k) table′ output′
-  claim-not-met-anywhere k table′ output′ x = claim-not-met k table′ output′ (anywhere claim-text table output (pass k) table′ output′ .1 x)
+  claim-not-met-anywhere {ℓ} : (k : ℕ) (table′ output′ : List ℕ) → ¬ Demand3 (FeasibleInSomeModel {ℓ}) claim-text table output (pass k) table′ output′
+  claim-not-met-anywhere k table′ output′ x = claim-not-met k table′ output′ (anywhere {ℓ} claim-text table output (pass k) table′ output′ .1 x)
 
   -- So on the first text 14, incoherent, another count of pairs, a table that is not cleared and a changed output are all wrong.
   still-only {ℓ} : (Possible : State → Type ℓ) (a : Answer) (table′ output′ : List ℕ) → Demand3 Possible still-text table output a table′ output′

@@ -33,7 +33,7 @@ use Rattle.verdicts.specs.Count.{Counted}
 use Rattle.verdicts.specs.Verdict.{Answer, fail, full, IsPass, Kind, breaking, failing, showing, packed, Delivered, Shows, Verdict, Breaks, Event, EventAt, Leaves, SamePair, PairCount, PairsPass}
 use Rattle.verdicts.specs.Verdict
 use Rattle.verdicts.specs.Demand3.{pairsIn, Demand3}
-use Rattle.verdicts.specs.Examples.{claim-text, claim-read}
+use Rattle.verdicts.specs.Examples.{claim-text, claim-macro, claim-accepted}
 
 abbrev two : Header
 two = record { registers = 2; functions = 0; binary = 0 }
@@ -176,9 +176,9 @@ possible = feasible-is (state fails-so) (state-valid fails-so (tt, (omega arith,
 pub claim-text-only : (table output : List ℕ) → 192 ≤ length table → 12 ≤ length output → (answer : Answer) (table′ output′ : List ℕ) → Demand3 Feasible claim-text table output answer table′ output′
     → (answer ≡ fail 1 1) × (table′ ≡ replicate (length table) 0) × (output′ ≡ 32 ∷ 0 ∷ 192 ∷ 8 ∷ 0 ∷ 3 ∷ 0 ∷ 0 ∷ 0 ∷ 1 ∷ 0 ∷ 2 ∷ drop 12 output)
 claim-text-only table output wide long answer table′ output′ x =
-    told (claim-only Feasible possible firstEdition firstRowWidths (pairsIn table) (omega arith) output answer output′ (x .verdict _ 20 claim-read))
+    told (claim-only Feasible possible firstEdition firstRowWidths (pairsIn table) (omega arith) output answer output′ (x .verdict claim-macro claim-accepted))
   where
     told : Delivered (packed firstEdition firstRowWidths start failing (Unequal 0 1 ∷ [])) (fail 1 1) output answer output′
         → (answer ≡ fail 1 1) × (table′ ≡ replicate (length table) 0) × (output′ ≡ 32 ∷ 0 ∷ 192 ∷ 8 ∷ 0 ∷ 3 ∷ 0 ∷ 0 ∷ 0 ∷ 1 ∷ 0 ∷ 2 ∷ drop 12 output)
-    told (inl (l, e, f)) = (e, x .zeroed _ 20 claim-read, f ∙ ap (λ bs. bs ++ drop (length bs) output) claim-bytes)
+    told (inl (l, e, f)) = (e, x .zeroed claim-macro claim-accepted, f ∙ ap (λ bs. bs ++ drop (length bs) output) claim-bytes)
     told (inr (l, e, f)) = absurd (let z = ap length claim-bytes in omega arith)

@@ -11,6 +11,7 @@ pub mod Total
 pub mod Trail
 pub mod Demand3
 pub mod Settled
+pub mod Shortest
 pub mod Readings
 pub mod CountedPairs
 pub mod FailingExample

@@ -10,7 +10,7 @@ use lib.Dec.{T, ltb, ltb→lt, not-T, nltb→le}
 use Rattle.letters.specs.declared.Header.{Header}
 use Rattle.letters.specs.declared.Letter.{Letter}
 use Rattle.semantics.specs.Terms.{Trace, begin, _▸_, State, state}
-use Rattle.semantics.specs.AnyModel.{FeasibleInSomeModel}
+use Rattle.semantics.specs.Models.{Feasible}
 use Rattle.semantics.specs.SameWindow.{SameWindow}
 use Rattle.semantics.specs.Coherence.{Coherent, CoherentLetter}
 use Rattle.macros.specs.Tree.{Block, ProperBlock}
@@ -27,15 +27,15 @@ use Rattle.verdicts.specs.Verdict
 -- What is asked of a monitor, for traces of the header h after a start: windows, the fresh one, a letter performed (none where it is incoherent),
 -- and whether the trace is infeasible. Tracks σ w: w is the window of a trace that leaves the state σ.
 pub record Monitor (h : Header) (start : Trace) (W : Type 0) (Tracks : State → W → Type 0)
-    (fresh : W) (perform : W → Letter → Option W) (infeasible : W → Bool) : Type 1 where
+    (fresh : W) (perform : W → Letter → Option W) (infeasible : W → Bool) : Type 0 where
   pub begins : Tracks (state start) fresh
   pub goes : (ρ : Trace) (a : Letter) (w v : W) → Formed h (ρ ▸ a) → Coherent ρ → Tracks (state ρ) w → perform w a ≡ some v → CoherentLetter (state ρ) a × Tracks (state (ρ ▸ a)) v
   pub stops : (ρ : Trace) (a : Letter) (w : W) → Formed h (ρ ▸ a) → Coherent ρ → Tracks (state ρ) w → perform w a ≡ none → ¬ CoherentLetter (state ρ) a
   -- equal windows are the same
   pub alike : (ρ π : Trace) (w : W) → Formed h ρ → Formed h π → Coherent ρ → Coherent π → Tracks (state ρ) w → Tracks (state π) w → SameWindow (state ρ) (state π)
   pub equal : (ρ π : Trace) (w v : W) → Formed h ρ → Formed h π → Coherent ρ → Coherent π → Tracks (state ρ) w → Tracks (state π) v → SameWindow (state ρ) (state π) → w ≡ v
-  pub tells-infeasible : (ρ : Trace) (w : W) → Formed h ρ → Coherent ρ → Tracks (state ρ) w → infeasible w ≡ true → ¬ FeasibleInSomeModel (state ρ)
-  pub tells-feasible : (ρ : Trace) (w : W) → Formed h ρ → Coherent ρ → Tracks (state ρ) w → infeasible w ≡ false → FeasibleInSomeModel (state ρ)
+  pub tells-infeasible : (ρ : Trace) (w : W) → Formed h ρ → Coherent ρ → Tracks (state ρ) w → infeasible w ≡ true → ¬ Feasible (state ρ)
+  pub tells-feasible : (ρ : Trace) (w : W) → Formed h ρ → Coherent ρ → Tracks (state ρ) w → infeasible w ≡ false → Feasible (state ρ)
 
 abbrev pub Step : Type 0 → Type 0
 Step W = Result (ℕ × W) Kind
@@ -98,12 +98,12 @@ module _ (x : Setting) where
   walks p = run (x .start) (x .body) p
 
   -- Where a path comes to, in the macro and in the search.
-  data View (p : Path) : Stand ℕ → Step (x .Window) → Type 1 where
+  data View (p : Path) : Stand ℕ → Step (x .Window) → Type 0 where
     off : View p nowhere stop
     pair : {k : ℕ} {ρ : Trace} {w : x .Window} → Coherent ρ → x .Tracks (state ρ) w → k < sizeBlock (x .body) → View p (stand (at k) ρ) (next (k, w))
     ended : {k : ℕ} {ρ : Trace} → Coherent ρ → sizeBlock (x .body) ≤ k → View p (stand (at k) ρ) stop
-    safe : {ρ : Trace} → Coherent ρ → ¬ FeasibleInSomeModel (state ρ) → View p (stand failure ρ) stop
-    fails : {ρ : Trace} → Coherent ρ → FeasibleInSomeModel (state ρ) → View p (stand failure ρ) (event failing)
+    safe : {ρ : Trace} → Coherent ρ → ¬ Feasible (state ρ) → View p (stand failure ρ) stop
+    fails : {ρ : Trace} → Coherent ρ → Feasible (state ρ) → View p (stand failure ρ) (event failing)
     breaks : {l : Place ℕ} {ρ : Trace} {a : Letter} → Coherent ρ → ¬ CoherentLetter (state ρ) a → View p (stand l (ρ ▸ a)) (event breaking)
     behind : {l : Place ℕ} {ρ : Trace} (q : Path) → ¬ Coherent ρ → Before q p → leads q ≡ event breaking → View p (stand l ρ) stop
 
@@ -268,10 +268,11 @@ module _ (x : Setting) where
       go u f (breaks {l} {ρ} {a} c n) = (ρ ▸ a, l, u, (c, λ d. n (d .1)))
       go u f (behind q n b g) = absurd (let z : _≡_ {A = ℕ} 0 1 = cc in omega arith)
 
-  pub meets-failing : (p : Path) → leads p ≡ event failing → (ρ : Trace) × (run (x .start) (x .body) p ≡ stand failure ρ) × Coherent ρ × FeasibleInSomeModel (state ρ)
+  pub meets-failing : (p : Path) → leads p ≡ event failing → (ρ : Trace) × (run (x .start) (x .body) p ≡ stand failure ρ) × Coherent ρ × Feasible (state ρ)
   meets-failing p e = go refl e (view p)
     where
-      go : {z : Stand ℕ} {r : Step (x .Window)} → walks p ≡ z → r ≡ event failing → View p z r → (ρ : Trace) × (walks p ≡ stand failure ρ) × Coherent ρ × FeasibleInSomeModel (state ρ)
+      go : {z : Stand ℕ} {r : Step (x .Window)} → walks p ≡ z → r ≡ event failing → View p z r
+          → (ρ : Trace) × (walks p ≡ stand failure ρ) × Coherent ρ × Feasible (state ρ)
       go u f off = absurd (let z : _≡_ {A = ℕ} 0 1 = cc in omega arith)
       go u f (pair c t l) = absurd (let z : _≡_ {A = ℕ} 0 1 = cc in omega arith)
       go u f (ended c l) = absurd (let z : _≡_ {A = ℕ} 0 1 = cc in omega arith)
@@ -303,28 +304,28 @@ module _ (x : Setting) where
       go u f (breaks c n) = (p, (breaking, f), inl refl)
       go u f (behind q n b g) = (q, (breaking, g), inr b)
 
-  failing-met : (p : Path) (ρ : Trace) → walks p ≡ stand failure ρ → FeasibleInSomeModel (state ρ) → SoonerMet p
+  failing-met : (p : Path) (ρ : Trace) → walks p ≡ stand failure ρ → Feasible (state ρ) → SoonerMet p
   failing-met p ρ e y = go e refl (view p)
     where
       go : {z : Stand ℕ} {r : Step (x .Window)} → z ≡ stand failure ρ → leads p ≡ r → View p z r → SoonerMet p
       go u f off = absurd (let z : _≡_ {A = ℕ} 0 1 = cc in omega arith)
       go u f (pair c t i) = absurd (let z : _≡_ {A = ℕ} 0 1 = cc in omega arith)
       go u f (ended c i) = absurd (let z : _≡_ {A = ℕ} 0 1 = cc in omega arith)
-      go u f (safe {ρ = π} c n) = absurd (let j : ρ ≡ π = cc in n (subst (λ y. FeasibleInSomeModel (state y)) j y))
+      go u f (safe {ρ = π} c n) = absurd (let j : ρ ≡ π = cc in n (subst (λ y. Feasible (state y)) j y))
       go u f (fails c n) = (p, (failing, f), inl refl)
       go u f (breaks c n) = (p, (breaking, f), inl refl)
       go u f (behind q n b g) = (q, (breaking, g), inr b)
 
-  event-met-at : (p : Path) (l : Place ℕ) (ρ : Trace) → walks p ≡ stand l ρ → Event FeasibleInSomeModel (x .start) (x .body) ρ → SoonerMet p
+  event-met-at : (p : Path) (l : Place ℕ) (ρ : Trace) → walks p ≡ stand l ρ → Event Feasible (x .start) (x .body) ρ → SoonerMet p
   event-met-at p l ρ e (Verdict.breaks y b) = breaking-met p l ρ e b
   event-met-at p l ρ e (Verdict.fails y f) =
       let (q, g) = failing-is (x .start) (x .body) ρ .0 y in
       subst SoonerMet (run-once (x .start) (x .body) ρ q p failure l g e) (failing-met q ρ g f)
 
-  pub event-met : (p : Path) → EventAt FeasibleInSomeModel (x .start) (x .body) p → (q : Path) × Meets starting stepping q × AtOrBefore q p
+  pub event-met : (p : Path) → EventAt Feasible (x .start) (x .body) p → (q : Path) × Meets starting stepping q × AtOrBefore q p
   event-met p (ρ, (l, e), y) = event-met-at p l ρ e y
 
-  pub met-event : (p : Path) → Meets starting stepping p → EventAt FeasibleInSomeModel (x .start) (x .body) p
+  pub met-event : (p : Path) → Meets starting stepping p → EventAt Feasible (x .start) (x .body) p
   met-event p (breaking, f) = let (ρ, l, e, b) = meets-breaking p f in (ρ, (l, e), Verdict.breaks (partial-is (x .start) (x .body) ρ .1 (p, l, e)) b)
   met-event p (failing, f) = let (ρ, e, c, y) = meets-failing p f in (ρ, (failure, e), Verdict.fails (failing-is (x .start) (x .body) ρ .1 (p, e)) y)
 
@@ -342,7 +343,7 @@ module _ (x : Setting) where
         go p l u f (breaks c n) = absurd (quiet p breaking f)
         go p l u f (behind q n b g) = absurd (quiet q breaking g)
 
-    pub quiet-safe : (ρ : Trace) → Failing (x .start) (x .body) ρ → ¬ FeasibleInSomeModel (state ρ)
+    pub quiet-safe : (ρ : Trace) → Failing (x .start) (x .body) ρ → ¬ Feasible (state ρ)
     quiet-safe ρ y f =
         let (p, e) = failing-is (x .start) (x .body) ρ .0 y in
         let (q, (k, g), t) = failing-met p ρ e f in

@@ -20,8 +20,7 @@ use Rattle.macros.specs.Walk.{failure}
 use Rattle.macros.specs.Runs.{failing-is}
 use Rattle.macros.specs.Fitting.{Formed, run-formed}
 use Rattle.grammar.specs.Grammar.{Macro, headerOf}
-use Rattle.grammar.specs.Reading.{got, readMacro}
-use Rattle.grammar.specs.Whole.{read-sound}
+use Rattle.refusals.specs.Accepted.{Accepted}
 use Rattle.verdicts.specs.Counting.{same-lists, same-more}
 use Rattle.verdicts.specs.Verdict.{Answer, Kind, Event, breaks, fails, FirstEvent, EventAt, Leaves, SamePair, PairCount, PairsPass, Shows, Verdict}
 use Rattle.verdicts.specs.Demand3.{pairsIn, Demand3}
@@ -92,32 +91,32 @@ module _ {ℓ κ} (Possible : State → Type ℓ) (Possible′ : State → Type 
     otherwise = λ u p. let (kind, k, ls, s, d) = x .otherwise u p in (kind, k, ls, shows kind k ls s, d);
   }
 
--- ── finite models, and all models ──
-module _ (h : Header) (start : Trace) (m : Block) (formed : Formed h start) (proper : ProperBlock m h) where
-  agree : Agree Feasible FeasibleInSomeModel start m
+-- ── finite models, and all models, whatever universe their values lie in ──
+module _ {ℓ} (h : Header) (start : Trace) (m : Block) (formed : Formed h start) (proper : ProperBlock m h) where
+  agree : Agree Feasible (FeasibleInSomeModel {ℓ}) start m
   agree ρ x =
       let (p, e) = failing-is start m ρ .0 x in
       feasible-anywhere (state ρ) (state-valid ρ (run-formed h start m formed proper p failure ρ e .0))
 
   -- The verdict on a proper macro.
   pub verdict-anywhere : (e : Edition) (w : RowWidths) (n : ℕ) (output : List ℕ) (answer : Answer) (output′ : List ℕ)
-      → Verdict Feasible start m e w n output answer output′ ↔ Verdict FeasibleInSomeModel start m e w n output answer output′
+      → Verdict Feasible start m e w n output answer output′ ↔ Verdict (FeasibleInSomeModel {ℓ}) start m e w n output answer output′
   verdict-anywhere e w n output answer output′ = (
-    same-verdict Feasible FeasibleInSomeModel start m agree e w n output answer output′,
-    same-verdict FeasibleInSomeModel Feasible start m (λ ρ x. Iff·symm (agree ρ x)) e w n output answer output′,
+    same-verdict Feasible (FeasibleInSomeModel {ℓ}) start m agree e w n output answer output′,
+    same-verdict (FeasibleInSomeModel {ℓ}) Feasible start m (λ ρ x. Iff·symm (agree ρ x)) e w n output answer output′,
   )
 
--- Demand 3: a macro that is read is proper.
-module _ (text table output : List ℕ) (answer : Answer) (table′ output′ : List ℕ) where
-  read-anywhere : (m : Macro) (end : ℕ) → readMacro text ≡ got m end
+-- Demand 3: a macro that is accepted is proper.
+module _ {ℓ} (text table output : List ℕ) (answer : Answer) (table′ output′ : List ℕ) where
+  accepted-anywhere : (m : Macro) → Accepted text m
       → Verdict Feasible (begin (headerOf m)) (m .body) firstEdition firstRowWidths (pairsIn table) output answer output′
-      ↔ Verdict FeasibleInSomeModel (begin (headerOf m)) (m .body) firstEdition firstRowWidths (pairsIn table) output answer output′
-  read-anywhere m end e =
-      let (l, s, o, k) = read-sound text m end e in
-      verdict-anywhere (headerOf m) (begin (headerOf m)) (m .body) (tt, refl) (o .uses) firstEdition firstRowWidths (pairsIn table) output answer output′
+      ↔ Verdict (FeasibleInSomeModel {ℓ}) (begin (headerOf m)) (m .body) firstEdition firstRowWidths (pairsIn table) output answer output′
+  accepted-anywhere m a =
+      verdict-anywhere {ℓ} (headerOf m) (begin (headerOf m)) (m .body) (tt, refl) (a .in-order .uses)
+      firstEdition firstRowWidths (pairsIn table) output answer output′
 
-  pub anywhere : Demand3 Feasible text table output answer table′ output′ ↔ Demand3 FeasibleInSomeModel text table output answer table′ output′
+  pub anywhere : Demand3 Feasible text table output answer table′ output′ ↔ Demand3 (FeasibleInSomeModel {ℓ}) text table output answer table′ output′
   anywhere = (
-    λ x. record { unread = x .unread; verdict = λ m end e. read-anywhere m end e .0 (x .verdict m end e); zeroed = x .zeroed },
-    λ x. record { unread = x .unread; verdict = λ m end e. read-anywhere m end e .1 (x .verdict m end e); zeroed = x .zeroed },
+    λ x. record { unread = x .unread; verdict = λ m a. accepted-anywhere m a .0 (x .verdict m a); zeroed = x .zeroed },
+    λ x. record { unread = x .unread; verdict = λ m a. accepted-anywhere m a .1 (x .verdict m a); zeroed = x .zeroed },
   )

@@ -9,7 +9,7 @@ use lib.ListN.{length, drop}
 use Rattle.semantics.specs.Terms.{Trace}
 use Rattle.letters.specs.Editions.{Edition}
 use Rattle.semantics.specs.PackedTables.{RowWidths}
-use Rattle.semantics.specs.AnyModel.{FeasibleInSomeModel}
+use Rattle.semantics.specs.Models.{Feasible}
 use Rattle.macros.specs.Numbers.{less-or}
 use Rattle.macros.specs.Order.{Branch, first, Path, _▹_, Before}
 use Rattle.macros.specs.Walk.{Place, failure, stand, walk-begins}
@@ -37,8 +37,8 @@ fitted : (bs : List ℕ) (a : Answer) (output : List ℕ) → (answer : Answer) 
 fitted bs a output = elim (less-or (length output) (length bs)) [ inl l ↦ (unfit, output, inr (l, refl, refl)) | inr l ↦ (a, bs ++ drop (length bs) output, inl (l, refl, refl)) ]
 
 module _ (x : Setting) (edition : Edition) (widths : RowWidths) (n : ℕ) (output : List ℕ) (same : (s t : Pair x) → Dec (s ≡ t)) where
-  abbrev Answered : Type 1
-  Answered = (a : Answer) × (output′ : List ℕ) × Verdict FeasibleInSomeModel (x .start) (x .body) edition widths n output a output′
+  abbrev Answered : Type 0
+  Answered = (a : Answer) × (output′ : List ℕ) × Verdict Feasible (x .start) (x .body) edition widths n output a output′
 
   met-at : (kind : Kind) (p : Path) → leads x p ≡ event kind → (ρ : Trace) × (l : Place ℕ) × (run (x .start) (x .body) p ≡ stand l ρ)
   met-at breaking p e = let (ρ, l, u, b) = meets-breaking x p e in (ρ, l, u)

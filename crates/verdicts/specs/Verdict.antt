@@ -3,7 +3,8 @@
 -- feasible if some model satisfies all its tests. [..] infinite models change nothing." An event and pass speak of feasible executions, and so
 -- the definition below is read in two ways, by its first argument `Possible`, which says of a state that some data model satisfies its tests:
 -- `Feasible` allows finite models only, as document 01 has it, and is a type of `Type 0`, as the contract of a function asks;
--- `FeasibleInSomeModel` allows every type of values, and lies in `Type 1`. That the second changes nothing is proved: `Readings.anywhere`.
+-- `FeasibleInSomeModel` allows every type of values, of any universe `Type ℓ`, and lies in `Type (ℓ + 1)`. That the second changes nothing is
+-- proved for every ℓ: `Readings.anywhere`.
 use mathlib.Core.Path.{_≡_}
 use mathlib.Core.Logic.{_⊎_, _↔_, _≢_}
 use mathlib.Core.List.{List, _++_}
@@ -116,7 +117,7 @@ module _ {ℓ} (Possible : State → Type ℓ) (start : Trace) (m : Block) where
     breaks : Partial start m ρ → Breaks ρ → Event ρ
     fails : Failing start m ρ → Possible (state ρ) → Event ρ
 
-  -- "The verdict is the first event, or pass." It comes before every other.
+  -- "The verdict is the first event, or pass." It comes before every other, which so has at least as many letters (`Shortest.first-shortest`).
   pub record FirstEvent (ρ : Trace) : Type ℓ where
     pub event : Event ρ
     pub least : (π : Trace) → Event π → (π ≡ ρ) ⊎ Precedes start m ρ π

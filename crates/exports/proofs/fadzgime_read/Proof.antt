@@ -27,7 +27,7 @@ returns-2 c =
     let stored = c .before .before in
     let numbered = stored .before .before .before in
     let read = numbered .before in
-    read-stored _ _ _ _ _ (read .read .ensures .equation) (numbered .macro-numbers .ensures) (search needs) (read .before .if1 .left) (stored .store .ensures)
+    read-stored _ _ _ _ _ (read .read .ensures) (numbered .macro-numbers .ensures) (search needs) (read .before .if1 .left) (stored .store .ensures)
 
 pub fadzgime-read-spec : {M : Type 1} → statement M
 fadzgime-read-spec =

@@ -14,10 +14,15 @@ read-requires : tie.Need-read-requires
 read-requires c κs = search needs
 
 returns : tie.Need-returns
-returns c = let a = c .before .before .before .before .before .before .args in judged-refused (a .text .now) (c .before .before .read .result) (c .before .before .read .ensures .equation) (a .table .now) (a .output .now) (c .if1 .taken)
+returns c =
+    let a = c .before .before .before .before .before .before .args in
+    let r = c .before .before .read in
+    judged-refused (a .text .now) (r .result) (r .ensures) (a .table .now) (a .output .now) (c .if1 .taken)
 
 search-macro-requires : tie.Need-search-macro-requires
-search-macro-requires c κs = readable (c .before .before .before .before .before .before .before .before .args .text .now) (c .before .before .before .before .read .result) (c .before .before .before .before .read .ensures .equation) (c .before .before .if1 .left)
+search-macro-requires c κs =
+    let r = c .before .before .before .before .read in
+    readable (c .before .before .before .before .before .before .before .before .args .text .now) (r .result) (r .ensures) (c .before .before .if1 .left)
 
 clear-requires : tie.Need-clear-requires
 clear-requires c κs = search needs
@@ -35,7 +40,9 @@ returns-2 c =
     let s = c .before .before .before .before .before .before .before .before .search-macro in
     let z = c .before .before .clear in
     let l : length (s .last .1 .0) ≡ length (a .table .now) = search needs in
-    judged-macro (a .text .now) (r .result) (r .ensures .equation) (a .table .now) (a .output .now) (c .before .before .before .before .before .before .before .before .before .before .before .if1 .left) (s .result) (z .last .0) (s .last .1 .1 .0) (s .ensures) (z .ensures ∙ ap (λ n. replicate n 0) l)
+    judged-macro (a .text .now) (r .result) (r .ensures) (a .table .now) (a .output .now)
+    (c .before .before .before .before .before .before .before .before .before .before .before .if1 .left)
+    (s .result) (z .last .0) (s .last .1 .1 .0) (s .ensures) (z .ensures ∙ ap (λ n. replicate n 0) l)
 
 pub judge-macro-spec : {M : Type 1} → statement M
 judge-macro-spec =
