@@ -1,3 +1,4 @@
 pub mod Laws
 pub mod Counting
 pub mod Putting
+pub mod Unpacking

@@ -22,7 +22,7 @@ use Rattle.letters.specs.Traces.{Reading, trace, refused, bytesOf, parts
 use Rattle.letters.specs.TraceLaws.{Decoded, letters-decoded, decoded-length, parts-length, bytes-length}
 use Rattle.letters.specs.Writing.{unpackLetter, unpackedParts, unpacking, writtenLength, writtenOver, Wrote}
 use Rattle.letters.specs.WritingLaws.{unpack-letter, unpack-whole}
-use Rattle.letters.specs.Putting.{wordIn, putWord, putWords}
+use Rattle.letters.specs.Putting.{wordIn, putWord, putEach, putWords}
 
 -- ---- one letter
 
@@ -39,27 +39,27 @@ word-in : (h : Header) (x : List ℕ) (l : Letter) → HeaderFits firstEdition h
 unfolding wordIn encodeLetter
 word-in h x l v q = rw (q, header-test firstEdition h .1 v, fits-test h l .1 (unpack-letter h x l .0 q .1))
 
--- ---- the loop over the parts of s, k in all, of which n are written and the next starts at `at`
+-- ---- the loop over the parts of s, k in all, b bytes each, of which m are done and the next starts at `at`
 
-module _ (word : List ℕ → Answer ℕ) (k : ℕ) (s : List ℕ) where
-  pub put-begins : (to : ℕ) (out : List ℕ) → putWords word out to (parts 5 (k - 0) (drop 0 s)) ≡ putWords word out to (parts 5 k s)
-  put-begins to out = rw sub-zero
+module _ {B : Type 0} (put : List ℕ → ℕ → B → List ℕ) (n b : ℕ) (decode : List ℕ → Answer B) (k : ℕ) (s : List ℕ) where
+  pub put-begins : (at to : ℕ) (out : List ℕ) → putEach put n decode out to (parts b (k - 0) (drop at s)) ≡ putEach put n decode out to (parts b k (drop at s))
+  put-begins at to out = rw sub-zero
 
-  turn : (n m at to : ℕ) (out : List ℕ) → n < k → m ≡ n + 1
-      → putWords word out to (parts 5 (k - n) (drop at s)) ≡ onAnswer (word (take 5 (drop at s))) (λ w. putWords word (putWord out to w) (to + 2) (parts 5 (k - m) (drop (at + 5) s))) λ _ _. out
-  unfolding putWords parts
-  turn n m at to out l e = let g : k - n ≡ suc (k - m) = omega arith in rw (g, ← drop-drop 5 at s)
+  turn : (m next at to : ℕ) (out : List ℕ) → m < k → next ≡ m + 1
+      → putEach put n decode out to (parts b (k - m) (drop at s)) ≡ onAnswer (decode (take b (drop at s))) (λ x. putEach put n decode (put out to x) (to + n) (parts b (k - next) (drop (at + b) s))) λ _ _. out
+  unfolding putEach parts
+  turn m next at to out l e = let g : k - m ≡ suc (k - next) = omega arith in rw (g, ← drop-drop b at s)
 
-  pub put-good : (n m at to w : ℕ) (out next : List ℕ) → n < k → m ≡ n + 1 → word (take 5 (drop at s)) ≡ value w → next ≡ putWord out to w
-      → putWords word out to (parts 5 (k - n) (drop at s)) ≡ putWords word next (to + 2) (parts 5 (k - m) (drop (at + 5) s))
-  put-good n m at to w out next l e q p = turn n m at to out l e ∙ rw (q, p)
+  pub put-good : (m next at to : ℕ) (x : B) (out after : List ℕ) → m < k → next ≡ m + 1 → decode (take b (drop at s)) ≡ value x → after ≡ put out to x
+      → putEach put n decode out to (parts b (k - m) (drop at s)) ≡ putEach put n decode after (to + n) (parts b (k - next) (drop (at + b) s))
+  put-good m next at to x out after l e q p = turn m next at to out l e ∙ rw (q, p)
 
-  pub put-bad : (n at to a b : ℕ) (out : List ℕ) → n < k → word (take 5 (drop at s)) ≡ refusal a b → putWords word out to (parts 5 (k - n) (drop at s)) ≡ out
-  put-bad n at to a b out l q = turn n (n + 1) at to out l refl ∙ rw q
+  pub put-bad : (m at to a p : ℕ) (out : List ℕ) → m < k → decode (take b (drop at s)) ≡ refusal a p → putEach put n decode out to (parts b (k - m) (drop at s)) ≡ out
+  put-bad m at to a p out l q = turn m (m + 1) at to out l refl ∙ rw q
 
-  pub put-ends : (n at to : ℕ) (out : List ℕ) → k ≤ n → putWords word out to (parts 5 (k - n) (drop at s)) ≡ out
-  unfolding putWords parts
-  put-ends n at to out l = let m : k - n ≡ 0 = omega arith in rw m
+  pub put-ends : (m at to : ℕ) (out : List ℕ) → k ≤ m → putEach put n decode out to (parts b (k - m) (drop at s)) ≡ out
+  unfolding putEach parts
+  put-ends m at to out l = let e : k - m ≡ 0 = omega arith in rw e
 
 -- ---- what all the turns leave
 
@@ -80,7 +80,7 @@ letter-lt h l v f = join-lt (firstEdition .letter) (letterFields h l) (first-roo
 
 put-decoded : (h : Header) (out : List ℕ) (to : ℕ) (codes : List (List ℕ)) (ls : List Letter) → HeaderFits firstEdition h → Decoded (unpackLetter h) codes ls
     → putWords (wordIn firstEdition h) out to codes ≡ sets out to (bytesOf firstEdition (map (letterWord firstEdition h) ls))
-unfolding putWords
+unfolding putEach
 put-decoded h out to [] [] v d = refl
 put-decoded h out to [] (l ∷ ls) v d = absurd d
 put-decoded h out to (x ∷ codes) [] v d = absurd d
@@ -89,13 +89,13 @@ put-decoded h out to (x ∷ codes) (l ∷ ls) v d =
     rw (word-in h x l v (d .0)) (put-decoded h (putWord out to w) (to + 2) codes ls v (d .1)
     ∙ stores out to w (bytesOf firstEdition (map (letterWord firstEdition h) ls)) (letter-lt h l v (unpack-letter h x l .0 (d .0) .1)))
 
-counted-trace : (r : Reading) (g : Header) (n : ℕ) → counted r ≡ value (g, n) → (ls : List Letter) × (r ≡ trace g ls) × (length ls ≡ n)
+pub counted-trace : (r : Reading) (g : Header) (n : ℕ) → counted r ≡ value (g, n) → (ls : List Letter) × (r ≡ trace g ls) × (length ls ≡ n)
 counted-trace (trace h ls) g n q =
     let p : _≡_ {A = Header × ℕ} (h, length ls) (g, n) = cc in
     (ls, ap (λ x. trace x ls) (ap (λ (x : Header × ℕ). x .0) p), ap (λ (x : Header × ℕ). x .1) p)
 counted-trace (refused a b) g n q = let z : _≡_ {A = ℕ} 0 1 = cc in absurd (omega arith)
 
-counted-refused : (r : Reading) (a b : ℕ) → counted r ≡ refusal a b → r ≡ refused a b
+pub counted-refused : (r : Reading) (a b : ℕ) → counted r ≡ refusal a b → r ≡ refused a b
 counted-refused (trace h ls) a b q = let z : _≡_ {A = ℕ} 0 1 = cc in absurd (omega arith)
 counted-refused (refused c d) a b q = let e : c ≡ a = cc in let f : d ≡ b = cc in rw (e, f)
 

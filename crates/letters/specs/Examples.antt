@@ -10,7 +10,7 @@ use Rattle.letters.specs.Editions.{firstEdition}
 use Rattle.letters.specs.Answers.{value}
 use Rattle.letters.specs.Words.{HeaderFits, headerOf, headerTest, headerWord, letterBy, letterOf, applyTest, fitsTest, letterWord, decodeHeader, decodeLetter}
 use Rattle.letters.specs.Traces.{trace, refused, parts, lettersFrom, beginning, lettersOf, readingWhere, reading, readingWithin}
-use Rattle.letters.specs.Writing.{plainBy, plainTest, plainLetter, unpackLetter, unpackedParts, unpacking}
+use Rattle.letters.specs.Writing.{plainTest, plainLetter, unpackLetter, unpackedParts, unpacking}
 
 -- "Three registers and one one-argument function"
 abbrev unary : Header
@@ -94,11 +94,16 @@ too-many : readingWithin 1 firstEdition (0x32 ∷ 0x00 ∷ 0x44 ∷ 0x40 ∷ 0x4
 unfolding readingWhere beginning decodeHeader headerOf headerWord headerTest
 too-many = refl
 
--- an unpacked application has its one argument twice; a rest of fewer than five bytes is no letter
-a-letter : unpacking firstEdition unary (1 ∷ 0 ∷ 2 ∷ 1 ∷ 1 ∷ []) ≡ trace unary (Apply 2 0 1 1 ∷ [])
-unfolding unpacking unpackedParts parts lettersFrom unpackLetter plainLetter plainTest plainBy headerTest fitsTest applyTest
+-- An unpacked application of a one-argument function has a 0 there too, and inside its argument twice; that argument twice from outside is refused.
+a-letter : unpacking firstEdition unary (1 ∷ 0 ∷ 2 ∷ 1 ∷ 0 ∷ []) ≡ trace unary (Apply 2 0 1 1 ∷ [])
+unfolding unpacking unpackedParts parts lettersFrom unpackLetter plainLetter plainTest letterBy headerTest fitsTest applyTest
 a-letter = refl
 
-a-rest : unpacking firstEdition unary (1 ∷ 0 ∷ 2 ∷ 1 ∷ 1 ∷ 2 ∷ []) ≡ refused 4 2
-unfolding unpacking unpackedParts parts lettersFrom unpackLetter plainLetter plainTest plainBy headerTest fitsTest applyTest
+argument-twice : unpacking firstEdition unary (1 ∷ 0 ∷ 2 ∷ 1 ∷ 1 ∷ []) ≡ refused 4 1
+unfolding unpacking unpackedParts parts lettersFrom unpackLetter plainLetter plainTest letterBy headerTest fitsTest applyTest
+argument-twice = refl
+
+-- a rest of fewer than five bytes is no letter
+a-rest : unpacking firstEdition unary (1 ∷ 0 ∷ 2 ∷ 1 ∷ 0 ∷ 2 ∷ []) ≡ refused 4 2
+unfolding unpacking unpackedParts parts lettersFrom unpackLetter plainLetter plainTest letterBy headerTest fitsTest applyTest
 a-rest = refl

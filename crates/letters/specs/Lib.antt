@@ -5,6 +5,7 @@ pub mod Editions
 pub mod Words
 pub mod Traces
 pub mod Writing
+pub mod Unpacking
 pub mod WordLaws
 pub mod Putting
 pub mod TraceLaws

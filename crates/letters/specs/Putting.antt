@@ -1,5 +1,5 @@
--- How a trace's words get into the output, for the contracts of the writer's private functions: each letter's word is put at its place, up to the
--- first letter that has none.
+-- How letters get into the output, for the contracts of private functions: each letter's word or bytes are put at their place, up to the first letter
+-- that has none.
 use Prim.Native.Nat.{ℕ, _+_, _/_, _%_}
 use mathlib.Core.List.{List, [], _∷_}
 use lib.ListN.{set}
@@ -17,7 +17,11 @@ wordIn e h s = onAnswer (unpackLetter h s) (encodeLetter e h) λ _ _. refusal 4 
 abbrev pub putWord : List ℕ → ℕ → ℕ → List ℕ
 putWord out at w = set (set out at (w / 256)) (at + 1) (w % 256)
 
--- the words of these codes, from a place on
-unfoldable pub putWords : {A : Type 0} → (A → Answer ℕ) → List ℕ → ℕ → List A → List ℕ
-putWords word out to [] = out
-putWords word out to (x ∷ codes) = onAnswer (word x) (λ w. putWords word (putWord out to w) (to + 2) codes) λ _ _. out
+-- what each of these codes gives, put from a place on, n entries for each
+unfoldable pub putEach : {A B : Type 0} → (List ℕ → ℕ → B → List ℕ) → ℕ → (A → Answer B) → List ℕ → ℕ → List A → List ℕ
+putEach put n decode out to [] = out
+putEach put n decode out to (x ∷ codes) = onAnswer (decode x) (λ b. putEach put n decode (put out to b) (to + n) codes) λ _ _. out
+
+-- the words of these codes
+abbrev pub putWords : {A : Type 0} → (A → Answer ℕ) → List ℕ → ℕ → List A → List ℕ
+putWords word out to codes = putEach putWord 2 word out to codes

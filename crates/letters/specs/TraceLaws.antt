@@ -137,13 +137,13 @@ module _ (e : Edition) (r : Roomy e) where
 
   -- ---- what a reading that is a trace tells
 
-  record Read (s : List ℕ) (h : Header) (ls : List Letter) : Type 0 where
-    enough : e .bytes ≤ length s
-    whole : length s % e .bytes ≡ 0
-    header : decodeHeader e (join (octets e) (take (e .bytes) s)) ≡ value h
-    letters : Decoded (letterIn e h) (parts (e .bytes) (letterCount e s) (drop (e .bytes) s)) ls
+  pub record Read (s : List ℕ) (h : Header) (ls : List Letter) : Type 0 where
+    pub enough : e .bytes ≤ length s
+    pub whole : length s % e .bytes ≡ 0
+    pub header : decodeHeader e (join (octets e) (take (e .bytes) s)) ≡ value h
+    pub letters : Decoded (letterIn e h) (parts (e .bytes) (letterCount e s) (drop (e .bytes) s)) ls
 
-  read : (s : List ℕ) (h : Header) (ls : List Letter) → reading e s ≡ trace h ls → Read s h ls
+  pub read : (s : List ℕ) (h : Header) (ls : List Letter) → reading e s ≡ trace h ls → Read s h ls
   unfolding readingWhere beginning lettersOf
   read s h ls =
       byTest (ltb (length s) (e .bytes)) (λ t. rw t λ q. absurd (not-trace q))
@@ -158,6 +158,12 @@ module _ (e : Edition) (r : Roomy e) where
           let x = letters-decoded (letterIn e g) g 1 (parts (e .bytes) (letterCount e s) (drop (e .bytes) s)) h ls q in
           subst (λ g. decodeHeader e (join (octets e) (take (e .bytes) s)) ≡ value g → Decoded (letterIn e g) (parts (e .bytes) (letterCount e s) (drop (e .bytes) s)) ls → Read s h ls) (x .0)
           (λ d y. record { enough = l; whole = w; header = d; letters = y }) d (x .1)
+
+  -- the number of letters that were read
+  pub read-count : (s : List ℕ) (h : Header) (ls : List Letter) → reading e s ≡ trace h ls → letterCount e s ≡ length ls
+  read-count s h ls q =
+      let codes = parts (e .bytes) (letterCount e s) (drop (e .bytes) s) in
+      sym (parts-length (e .bytes) (letterCount e s) (drop (e .bytes) s)) ∙ decoded-length (letterIn e h) h codes ls (read s h ls q .letters)
 
   all-fit : (h : Header) (codes : List (List ℕ)) (ls : List Letter) → Decoded (letterIn e h) codes ls → AllFit h ls
   all-fit h [] [] d = tt
@@ -227,7 +233,7 @@ module _ (e : Edition) (r : Roomy e) where
   unfolding letterAt
   letter-at s h ls k none q l =
       let x = read s h ls q in
-      let n : letterCount e s ≡ length ls = sym (parts-length (e .bytes) (letterCount e s) (drop (e .bytes) s)) ∙ decoded-length (letterIn e h) h (parts (e .bytes) (letterCount e s) (drop (e .bytes) s)) ls (x .letters) in
+      let n = read-count s h ls q in
       let m : (k + 2) * e .bytes ≤ length s = le-div-iff-mul-le (r .some) .0 (omega arith) in
       let i = decoded-at h (letterCount e s) (drop (e .bytes) s) ls k none l (x .letters) in
       let j : e .bytes + e .bytes * k ≡ e .bytes * (k + 1) = rw (add-one k, mul-suc (e .bytes) k) (omega arith) in
@@ -237,7 +243,7 @@ module _ (e : Edition) (r : Roomy e) where
   unfolding letterAt
   letter-behind s h ls k q l =
       let x = read s h ls q in
-      let n : letterCount e s ≡ length ls = sym (parts-length (e .bytes) (letterCount e s) (drop (e .bytes) s)) ∙ decoded-length (letterIn e h) h (parts (e .bytes) (letterCount e s) (drop (e .bytes) s)) ls (x .letters) in
+      let n = read-count s h ls q in
       byTest (leb (e .bytes * (k + 2)) (length s))
       (λ t. let m : k + 2 ≤ length s / e .bytes = le-div-iff-mul-le (r .some) .1 (rw (mul-comm (k + 2) (e .bytes)) (leb-true _ _ t)) in absurd (omega arith))
       λ t. rw t

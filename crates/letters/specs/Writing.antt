@@ -1,43 +1,38 @@
 -- Traces written from unpacked letters (document 01: "The writer puts 3 to its header, 4 to each letter, then 6 to its output").
 use mathlib.Core.Path.{_≡_}
 use Prim.Native.Nat.{ℕ, _+_, _/_}
-use mathlib.Core.Bool.{Bool, true, false, _&&_}
+use mathlib.Core.Bool.{Bool, false, _&&_, _||_}
 use mathlib.Core.List.{List, [], _∷_, _++_}
 use lib.Dec.{leb, ltb, eqb}
-use lib.ListN.{length, getD, drop}
+use lib.ListN.{length, getD, take, drop}
 use Rattle.base.specs.Choice.{pick}
+use Rattle.base.specs.Masks.{has}
 use Rattle.letters.specs.declared.Header.{Header}
 use Rattle.letters.specs.declared.Letter.{Letter}
-use Rattle.letters.specs.declared.Letter.the-variants.{Copy, Apply, Equal, Unequal}
 use Rattle.letters.specs.Editions.{Edition}
 use Rattle.letters.specs.Answers.{Answer, value, refusal}
-use Rattle.letters.specs.Words.{headerTest, fitsTest}
+use Rattle.letters.specs.Words.{letterFields, headerTest, fitsTest, letterBy}
 use Rattle.letters.specs.Traces.{Reading, trace, refused, lettersFrom, parts, packing}
 
--- An unpacked letter has five bytes: kind, function, target, first, second, unused ones 0. A one-argument application has its argument twice.
-abbrev pub plainFields : Letter → List ℕ
-plainFields (Copy x y) = 0 ∷ 0 ∷ x ∷ y ∷ 0 ∷ []
-plainFields (Apply x f y z) = 1 ∷ f ∷ x ∷ y ∷ z ∷ []
-plainFields (Equal x y) = 2 ∷ 0 ∷ 0 ∷ x ∷ y ∷ []
-plainFields (Unequal x y) = 3 ∷ 0 ∷ 0 ∷ x ∷ y ∷ []
+-- An unpacked letter has five bytes, the fields of its word without the spare one: kind, function, target, first, second. "Unused fields are 0, the
+-- second argument of a one-argument function included."
+abbrev pub plainFields : Header → Letter → List ℕ
+plainFields h l = take 5 (letterFields h l)
 
-abbrev pub unpackedBytes : List Letter → List ℕ
-unpackedBytes [] = []
-unpackedBytes (l ∷ ls) = plainFields l ++ unpackedBytes ls
-
--- the letter of this kind
-unfoldable pub plainBy : ℕ → ℕ → ℕ → ℕ → ℕ → Letter
-plainBy kind f x y z =
-    pick (eqb kind 0) (λ _. Copy x y) λ _. pick (eqb kind 1) (λ _. Apply x f y z) λ _. pick (eqb kind 2) (λ _. Equal y z) λ _. Unequal y z
+abbrev pub unpackedBytes : Header → List Letter → List ℕ
+unpackedBytes h [] = []
+unpackedBytes h (l ∷ ls) = plainFields h l ++ unpackedBytes h ls
 
 -- the fields that a letter of this kind does not use are 0, and there are four kinds
-unfoldable pub plainTest : ℕ → ℕ → ℕ → ℕ → Bool
-plainTest kind f x z =
-    pick (eqb kind 0) (λ _. eqb f 0 && eqb z 0) λ _. pick (eqb kind 1) (λ _. true) λ _. pick (ltb kind 4) (λ _. eqb f 0 && eqb x 0) λ _. false
+unfoldable pub plainTest : Header → ℕ → ℕ → ℕ → ℕ → Bool
+plainTest h kind f x z =
+    pick (eqb kind 0) (λ _. eqb f 0 && eqb z 0) λ _. pick (eqb kind 1) (λ _. has (h .binary) f || eqb z 0) λ _.
+    pick (ltb kind 4) (λ _. eqb f 0 && eqb x 0) λ _. false
 
--- the well-formed letter with these fields, if there is one
+-- the well-formed letter with these fields, if there is one; inside, that of a one-argument function has its argument twice
 unfoldable pub plainLetter : Header → ℕ → ℕ → ℕ → ℕ → ℕ → Answer Letter
-plainLetter h kind f x y z = pick (plainTest kind f x z && fitsTest h (plainBy kind f x y z)) (λ _. value (plainBy kind f x y z)) λ _. refusal 4 0
+plainLetter h kind f x y z =
+    pick (plainTest h kind f x z && fitsTest h (letterBy h kind f x y z)) (λ _. value (letterBy h kind f x y z)) λ _. refusal 4 0
 
 -- the well-formed letter with these bytes, if there is one; fewer than five bytes are none
 unfoldable pub unpackLetter : Header → List ℕ → Answer Letter

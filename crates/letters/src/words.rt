@@ -16,7 +16,7 @@ ghost use Rattle.base.specs.Masks.{has};
 ghost use Rattle.letters.specs.Packing.{Sized, join, split};
 ghost use Rattle.letters.specs.Editions.{firstEdition};
 ghost use Rattle.letters.specs.Answers.{headerAnswer, letterAnswer, headerWordAnswer, letterWordAnswer};
-ghost use Rattle.letters.specs.Words.{bitsFrom, headerFields, headerWord, letterFields, letterWord, headerTest, fitsTest, applyTest, headerOf, letterOf, encodeHeader, encodeLetter, decodeHeader, decodeLetter};
+ghost use Rattle.letters.specs.Words.{bitsFrom, headerFields, headerWord, letterFields, letterWord, headerTest, fitsTest, applyTest, headerOf, letterBy, letterOf, encodeHeader, encodeLetter, decodeHeader, decodeLetter};
 
 /// Two bytes as a word, the first the more significant.
 pub fn word(high: u8, low: u8) -> u16
@@ -190,8 +190,8 @@ fn packed_fields(kind: u16, function: u8, target: u8, first: u8, second: u8) -> 
         + (second as u16) * 8
 }
 
-// Of two numbers, the one for a function of two arguments or the one for a function of one.
-fn by_arity(h: Header, function: u8, two: u8, one: u8) -> u8
+/// Of two numbers, the one for a function of two arguments or the one for a function of one.
+pub fn by_arity(h: Header, function: u8, two: u8, one: u8) -> u8
     ensures { λ r. ⌜ r ≡ pick (has (h .binary) function) (λ _. two) (λ _. one) ⌝ }
 {
     if takes_two(h, function) {
@@ -233,15 +233,10 @@ pub fn encode_letter(h: Header, l: Letter) -> Encoded
     Encoded::Malformed
 }
 
-// The letter that a word's fields name, well formed or not.
-fn named_letter(h: Header, word: u16) -> Letter
-    ensures { λ r. ⌜ r ≡ letterOf h (split (firstEdition .letter) word) ⌝ }
+/// The letter of this kind, well formed or not. The application of a one-argument function has its argument twice.
+pub fn letter_by(h: Header, kind: u8, function: u8, target: u8, first: u8, second: u8) -> Letter
+    ensures { λ r. ⌜ r ≡ letterBy h kind function target first second ⌝ }
 {
-    let kind = word / 16384 % 4;
-    let function = (word / 4096 % 4) as u8;
-    let target = (word / 512 % 8) as u8;
-    let first = (word / 64 % 8) as u8;
-    let second = (word / 8 % 8) as u8;
     if kind == 0 {
         return Letter::Copy {
             target,
@@ -261,6 +256,18 @@ fn named_letter(h: Header, word: u16) -> Letter
         return Letter::Equal { first, second };
     }
     Letter::Unequal { first, second }
+}
+
+// The letter that a word's fields name, well formed or not.
+fn named_letter(h: Header, word: u16) -> Letter
+    ensures { λ r. ⌜ r ≡ letterOf h (split (firstEdition .letter) word) ⌝ }
+{
+    let kind = (word / 16384 % 4) as u8;
+    let function = (word / 4096 % 4) as u8;
+    let target = (word / 512 % 8) as u8;
+    let first = (word / 64 % 8) as u8;
+    let second = (word / 8 % 8) as u8;
+    letter_by(h, kind, function, target, first, second)
 }
 
 /// The well-formed letter that packs to this word under a header, if there is one.

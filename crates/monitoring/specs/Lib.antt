@@ -9,3 +9,4 @@ pub mod StepRight
 pub mod Demand2
 pub mod RunRight
 pub mod StreamRight
+pub mod Meanings

@@ -126,7 +126,7 @@ header-place w number place e = let h = headerOf firstEdition (split (firstEditi
     by true h q = let z : _≡_ {A = ℕ} 0 1 = cc in absurd (omega arith)
     by false h q = cc
 
-begun-refused : (w number place : ℕ) → decodeHeader firstEdition w ≡ refusal number place → begunRun w ≡ runWith idleOf 0 (Refused number 0)
+pub begun-refused : (w number place : ℕ) → decodeHeader firstEdition w ≡ refusal number place → begunRun w ≡ runWith idleOf 0 (Refused number 0)
 unfolding begunRun
 begun-refused w number place e = rw (start-refused w number place e)
 

@@ -19,16 +19,18 @@ use window::judge;
 use window::perform;
 ghost use mathlib.Core.Path.{_≡_};
 ghost use mathlib.Core.Bool.{true};
+ghost use mathlib.Core.List.{[], _∷_};
 ghost use Prim.Native.Nat.{_≤_, _<_};
 ghost use lib.ListN.{length, drop};
 ghost use Rattle.window.specs.Perform.{Within};
 ghost use Rattle.monitoring.specs.Demand2.{Demand2};
 ghost use Rattle.monitoring.specs.Run.{verdictAnswer, performedOf, runOf};
-ghost use Rattle.monitoring.specs.Stream.{emptyStream, pushedOf, finishedOf, takenAll, atLetter, pushedAll, answerOf};
+ghost use Rattle.monitoring.specs.Stream.{takenAll, atLetter, pushedAll, answerOf};
+ghost use Rattle.monitoring.specs.Meanings.{StreamStarts, Pushes, Finishes};
 
 /// A stream before its first byte.
 pub fn start() -> Stream
-    ensures { λ r. ⌜ r ≡ emptyStream ⌝ }
+    ensures { λ r. ⌜ StreamStarts r ⌝ }
 {
     let monitor = idle();
     let run = Run {
@@ -45,7 +47,7 @@ pub fn start() -> Stream
 
 /// Takes the next byte.
 pub fn push(s: Stream, byte: u8) -> Stream
-    ensures { λ r. ⌜ r ≡ pushedOf s byte ⌝ }
+    ensures { λ r. ⌜ Pushes s (byte ∷ []) r ⌝ }
 {
     let run = s.run;
     let phase = s.phase;
@@ -81,7 +83,7 @@ pub fn push(s: Stream, byte: u8) -> Stream
 
 /// The answer for the bytes that have come, as the bytes of a whole trace.
 pub fn finish(s: Stream) -> Verdict
-    ensures { λ r. ⌜ r ≡ finishedOf s ⌝ }
+    ensures { λ r. ⌜ Finishes s r ⌝ }
 {
     let run = s.run;
     let verdict = run.verdict;
@@ -190,7 +192,7 @@ fn push_letters(s: Stream, bytes: &[u8], start: usize) -> Stream
 
 /// Takes the next bytes, one after the other.
 pub fn push_all(s: Stream, bytes: &[u8]) -> Stream
-    ensures { λ r. ⌜ r ≡ pushedAll s (now (bytes .entry)) ⌝ }
+    ensures { λ r. ⌜ Pushes s (now (bytes .entry)) r ⌝ }
 {
     let mut next = s;
     let mut i: usize = 0;

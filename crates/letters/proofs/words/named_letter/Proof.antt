@@ -1,11 +1,10 @@
-use Rattle.letters.specs.Words.{letterBy, letterOf}
-use Rattle.base.specs.Choice.{decide}
+use Rattle.letters.specs.Words.{letterOf}
 use borrow.Author.Needs.{needs}
 use Rattle.letters.proofs.words.named_letter.Statement.{statement}
 use Rattle.letters.proofs.words.named_letter.Tie as tie
 
 pub named-letter-spec : {M : Type 1} → statement M
-unfolding letterOf letterBy
+unfolding letterOf
 named-letter-spec =
     tie.close
     (tie.spec
@@ -13,8 +12,6 @@ named-letter-spec =
     (λ c. search needs)
     (λ c. search needs)
     (λ c. search needs)
-    (λ c. search decide)
+    (λ c. search needs)
     (λ c κs. search needs)
-    (λ c. search (decide, ← c .by-arity .ensures))
-    (λ c. search decide)
-    (λ c. search decide))
+    (λ c. c .letter-by .ensures))

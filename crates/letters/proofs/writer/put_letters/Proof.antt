@@ -1,7 +1,7 @@
 use Rattle.letters.proofs.Putting.{put-length, word-whole, put-begins, put-good, put-bad, put-ends}
 use Rattle.letters.specs.Editions.{firstEdition}
 use Rattle.letters.specs.Answers.{letterWordAnswer}
-use Rattle.letters.specs.Putting.{wordIn, putWords}
+use Rattle.letters.specs.Putting.{wordIn, putWord, putWords}
 use Rattle.letters.specs.Writing.{unpackedParts}
 use native.Mathlib.Omega.{arith}
 use mathlib.Core.Path.{_≡_, sym, ap, _∙_}
@@ -25,16 +25,16 @@ put-letters-spec =
     (tie.spec
     Inv-loop
     μ-loop
-    (λ c. let a = c .before .before .args in (search needs, search needs, search needs, search needs, put-begins (wordIn firstEdition (a .h)) ((length (a .fields .now) + 4) / 5) (a .fields .now) 2 (a .out .now)))
+    (λ c. let a = c .before .before .args in (search needs, search needs, search needs, search needs, put-begins putWord 2 5 (wordIn firstEdition (a .h)) ((length (a .fields .now) + 4) / 5) (a .fields .now) 0 2 (a .out .now)))
     (λ c κs. search needs)
     (λ c. search needs)
     (λ c. search needs)
     (λ c. search needs)
-    (λ c. let a = c .before .before .before .before .before .before .before .args in let l = c .before .before .before .before .loop in sym (put-bad (wordIn firstEdition (a .h)) ((length (a .fields .now) + 4) / 5) (a .fields .now) (l .at / 5) (l .at) (l .to) 4 0 (l .out) (omega arith) (sym (c .before .before .word-at .ensures) ∙ ap letterWordAnswer (c .enum-told .given .1))) ∙ l .inv .4)
+    (λ c. let a = c .before .before .before .before .before .before .before .args in let l = c .before .before .before .before .loop in sym (put-bad putWord 2 5 (wordIn firstEdition (a .h)) ((length (a .fields .now) + 4) / 5) (a .fields .now) (l .at / 5) (l .at) (l .to) 4 0 (l .out) (omega arith) (sym (c .before .before .word-at .ensures) ∙ ap letterWordAnswer (c .enum-told .given .1))) ∙ l .inv .4)
     (λ c κs. search needs)
     (λ c. let a = c .before .before .before .before .before .before .before .before .before .before .before .before .args in let l = c .before .before .before .before .before .before .before .before .before .loop in omega (arith, word-whole (a .h) (a .fields .now) (l .at) _ (sym (c .before .before .before .before .before .before .before .word-at .ensures) ∙ ap letterWordAnswer (c .before .before .before .before .before .encoded .given .1))))
     (λ c. search needs)
     (λ c. search needs)
-    (λ c. let a = c .before .before .before .before .before .before .before .before .before .before .before .before .args in let l = c .before .before .before .before .before .before .before .before .before .loop in (omega (arith, word-whole (a .h) (a .fields .now) (l .at) _ (sym (c .before .before .before .before .before .before .before .word-at .ensures) ∙ ap letterWordAnswer (c .before .before .before .before .before .encoded .given .1))), search needs, search needs, ap length (c .before .before .put-word .ensures) ∙ put-length (l .out) (l .to) (c .before .before .before .before .before .encoded .given .0 .0) ∙ l .inv .3, sym (put-good (wordIn firstEdition (a .h)) ((length (a .fields .now) + 4) / 5) (a .fields .now) (l .at / 5) ((l .at + 5) / 5) (l .at) (l .to) _ (l .out) _ (omega arith) (omega arith) (sym (c .before .before .before .before .before .before .before .word-at .ensures) ∙ ap letterWordAnswer (c .before .before .before .before .before .encoded .given .1)) (c .before .before .put-word .ensures)) ∙ l .inv .4))
+    (λ c. let a = c .before .before .before .before .before .before .before .before .before .before .before .before .args in let l = c .before .before .before .before .before .before .before .before .before .loop in (omega (arith, word-whole (a .h) (a .fields .now) (l .at) _ (sym (c .before .before .before .before .before .before .before .word-at .ensures) ∙ ap letterWordAnswer (c .before .before .before .before .before .encoded .given .1))), search needs, search needs, ap length (c .before .before .put-word .ensures) ∙ put-length (l .out) (l .to) (c .before .before .before .before .before .encoded .given .0 .0) ∙ l .inv .3, sym (put-good putWord 2 5 (wordIn firstEdition (a .h)) ((length (a .fields .now) + 4) / 5) (a .fields .now) (l .at / 5) ((l .at + 5) / 5) (l .at) (l .to) _ (l .out) _ (omega arith) (omega arith) (sym (c .before .before .before .before .before .before .before .word-at .ensures) ∙ ap letterWordAnswer (c .before .before .before .before .before .encoded .given .1)) (c .before .before .put-word .ensures)) ∙ l .inv .4))
     (λ c. search needs)
-    (λ c. let a = c .before .before .before .before .args in let l = c .before .loop in sym (put-ends (wordIn firstEdition (a .h)) ((length (a .fields .now) + 4) / 5) (a .fields .now) (l .at / 5) (l .at) (l .to) (l .out) (omega arith)) ∙ l .inv .4))
+    (λ c. let a = c .before .before .before .before .args in let l = c .before .loop in sym (put-ends putWord 2 5 (wordIn firstEdition (a .h)) ((length (a .fields .now) + 4) / 5) (a .fields .now) (l .at / 5) (l .at) (l .to) (l .out) (omega arith)) ∙ l .inv .4))

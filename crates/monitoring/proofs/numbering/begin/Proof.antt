@@ -1,3 +1,4 @@
+use Rattle.monitoring.specs.Meanings.{run-begins}
 use Rattle.monitoring.proofs.Laws.{begun-taken, begun-refused}
 use borrow.Author.Needs.{needs}
 use Rattle.monitoring.proofs.numbering.begin.Statement.{statement}
@@ -13,10 +14,10 @@ enum-known-outcome : tie.Need-enum-known-outcome
 enum-known-outcome c = search needs
 
 returns : tie.Need-returns
-returns c = begun-taken _ _ (c .before .before .before .start .ensures) (c .enum-told .given .1)
+returns c = run-begins _ _ (begun-taken _ _ (c .before .before .before .start .ensures .computed) (c .enum-told .given .1))
 
 returns-2 : tie.Need-returns-2
-returns-2 c = begun-refused _ _ (c .before .before .before .before .start .ensures) _ (c .before .outcome .given .1)
+returns-2 c = run-begins _ _ (begun-refused _ _ (c .before .before .before .before .start .ensures .computed) _ (c .before .outcome .given .1))
 
 pub begin-spec : {M : Type 1} → statement M
 begin-spec = tie.close (tie.spec start-requires enum-told enum-known-outcome returns returns-2)

@@ -1,3 +1,4 @@
+use Rattle.monitoring.specs.Meanings.{run-takes}
 use Rattle.monitoring.proofs.Laws.{take-ended, take-taken, take-refused}
 use borrow.Author.Needs.{needs}
 use Rattle.monitoring.proofs.numbering.take.Statement.{statement}
@@ -10,7 +11,7 @@ enum-told : tie.Need-enum-told
 enum-told c = search needs
 
 returns : tie.Need-returns
-returns c = take-ended _ _ _ _ (c .enum-told .given .1)
+returns c = run-takes _ _ _ (take-ended _ _ _ _ (c .enum-told .given .1))
 
 next-number-requires : tie.Need-next-number-requires
 next-number-requires c κs = search needs
@@ -28,10 +29,10 @@ enum-known-outcome : tie.Need-enum-known-outcome
 enum-known-outcome c = search needs
 
 returns-2 : tie.Need-returns-2
-returns-2 c = take-taken (c .before .before .before .before .before .before .before .before .before .before .args .run) _ _ _ (c .before .before .before .before .before .before .before .before .verdict .given .1) _ (c .before .before .before .before .before .before .next-number .ensures) _ (c .before .before .before .before .step .ensures) _ (c .before .enum-told2 .given .1) (c .judged .ensures)
+returns-2 c = run-takes _ _ _ (take-taken (c .before .before .before .before .before .before .before .before .before .before .args .run) _ _ _ (c .before .before .before .before .before .before .before .before .verdict .given .1) _ (c .before .before .before .before .before .before .next-number .ensures) _ (c .before .before .before .before .step .ensures .computed) _ (c .before .enum-told2 .given .1) (c .judged .ensures))
 
 returns-3 : tie.Need-returns-3
-returns-3 c = take-refused (c .before .before .before .before .before .before .before .before .before .before .args .run) _ _ _ (c .before .before .before .before .before .before .before .before .verdict .given .1) _ (c .before .before .before .before .before .before .next-number .ensures) _ (c .before .before .before .before .step .ensures) _ (c .before .outcome .given .1)
+returns-3 c = run-takes _ _ _ (take-refused (c .before .before .before .before .before .before .before .before .before .before .args .run) _ _ _ (c .before .before .before .before .before .before .before .before .verdict .given .1) _ (c .before .before .before .before .before .before .next-number .ensures) _ (c .before .before .before .before .step .ensures .computed) _ (c .before .outcome .given .1))
 
 pub take-spec : {M : Type 1} → statement M
 take-spec =

@@ -1,3 +1,4 @@
+use Rattle.monitoring.specs.Meanings.{starts}
 use Rattle.monitoring.proofs.Laws.{start-refused, start-taken}
 use borrow.Author.Needs.{needs}
 use Rattle.monitoring.proofs.starting.start.Statement.{statement}
@@ -16,13 +17,13 @@ idle-requires : tie.Need-idle-requires
 idle-requires c κs = search needs
 
 returns : tie.Need-returns
-returns c = start-refused _ _ (c .before .before .before .decode-header .ensures) _ (c .before .enum-told .given .1) (c .idle .ensures)
+returns c = starts _ _ (start-refused _ _ (c .before .before .before .decode-header .ensures) _ (c .before .enum-told .given .1) (c .idle .ensures))
 
 fresh-requires : tie.Need-fresh-requires
 fresh-requires c κs = search needs
 
 returns-2 : tie.Need-returns-2
-returns-2 c = start-taken _ _ (c .before .before .before .before .decode-header .ensures) _ _ (c .before .before .decoded .given .1) (c .fresh .ensures)
+returns-2 c = starts _ _ (start-taken _ _ (c .before .before .before .before .decode-header .ensures) _ _ (c .before .before .decoded .given .1) (c .fresh .ensures))
 
 pub start-spec : {M : Type 1} → statement M
 start-spec =

@@ -1,3 +1,4 @@
+use Rattle.monitoring.specs.Meanings.{advances}
 use Rattle.monitoring.proofs.Laws.{step-refused, step-taken, step-within}
 use borrow.Author.Needs.{needs}
 use Rattle.monitoring.proofs.stepping.step.Statement.{statement}
@@ -13,13 +14,13 @@ enum-told : tie.Need-enum-told
 enum-told c = search needs
 
 returns : tie.Need-returns
-returns c = step-refused (c .before .before .before .before .args .m) _ _ (c .before .before .decode-letter .ensures) (c .enum-told .given .1)
+returns c = advances _ _ _ (step-refused (c .before .before .before .before .args .m) _ _ (c .before .before .decode-letter .ensures) (c .enum-told .given .1))
 
 moved-requires : tie.Need-moved-requires
 moved-requires c κs = step-within (c .before .before .before .before .before .args .m) _ _ (c .before .before .before .decode-letter .ensures) _ (c .before .decoded .given .1)
 
 returns-2 : tie.Need-returns-2
-returns-2 c = step-taken (c .before .before .before .before .before .before .args .m) _ _ (c .before .before .before .before .decode-letter .ensures) _ _ (c .before .before .decoded .given .1) (c .moved .ensures)
+returns-2 c = advances _ _ _ (step-taken (c .before .before .before .before .before .before .args .m) _ _ (c .before .before .before .before .decode-letter .ensures) _ _ (c .before .before .decoded .given .1) (c .moved .ensures))
 
 pub step-spec : {M : Type 1} → statement M
 step-spec =

@@ -1,4 +1,5 @@
 use Rattle.monitoring.specs.declared.Phase.the-variants.{Empty, One, Even, Odd}
+use Rattle.monitoring.specs.Meanings.{finishes}
 use Rattle.monitoring.proofs.Laws.{finish-at}
 use borrow.Author.Needs.{needs}
 use Rattle.monitoring.proofs.streaming.finish.Statement.{statement}
@@ -17,16 +18,16 @@ enum-told-4 : tie.Need-enum-told-4
 enum-told-4 c = search needs
 
 returns : tie.Need-returns
-returns c = finish-at (c .before .before .before .args .s) Empty (c .enum-told .given .1)
+returns c = finishes _ _ (finish-at (c .before .before .before .args .s) Empty (c .enum-told .given .1))
 
 returns-2 : tie.Need-returns-2
-returns-2 c = finish-at (c .before .before .before .args .s) One (c .enum-told2 .given .1)
+returns-2 c = finishes _ _ (finish-at (c .before .before .before .args .s) One (c .enum-told2 .given .1))
 
 returns-3 : tie.Need-returns-3
-returns-3 c = finish-at (c .before .before .before .args .s) Even (c .enum-told3 .given .1)
+returns-3 c = finishes _ _ (finish-at (c .before .before .before .args .s) Even (c .enum-told3 .given .1))
 
 returns-4 : tie.Need-returns-4
-returns-4 c = finish-at (c .before .before .before .args .s) Odd (c .enum-told4 .given .1)
+returns-4 c = finishes _ _ (finish-at (c .before .before .before .args .s) Odd (c .enum-told4 .given .1))
 
 pub finish-spec : {M : Type 1} → statement M
 finish-spec =

@@ -1,4 +1,5 @@
 use Rattle.monitoring.specs.declared.Phase.the-variants.{Empty, Even}
+use Rattle.monitoring.specs.Meanings.{pushes-byte}
 use Rattle.monitoring.proofs.Laws.{push-at, push-one, push-odd}
 use borrow.Author.Needs.{needs}
 use Rattle.monitoring.proofs.streaming.push.Statement.{statement}
@@ -29,16 +30,16 @@ take-requires : tie.Need-take-requires
 take-requires c κs = search needs
 
 returns : tie.Need-returns
-returns c = push-at (c .before .before .before .args .s) _ Empty (c .enum-told .given .1)
+returns c = pushes-byte _ _ _ (push-at (c .before .before .before .args .s) _ Empty (c .enum-told .given .1))
 
 returns-2 : tie.Need-returns-2
-returns-2 c = push-one (c .before .before .before .before .before .args .s) _ _ _ (c .before .before .enum-told2 .given .1) (c .before .word .ensures) (c .begin .ensures)
+returns-2 c = pushes-byte _ _ _ (push-one (c .before .before .before .before .before .args .s) _ _ _ (c .before .before .enum-told2 .given .1) (c .before .word .ensures) (c .begin .ensures .computed))
 
 returns-3 : tie.Need-returns-3
-returns-3 c = push-at (c .before .before .before .args .s) _ Even (c .enum-told3 .given .1)
+returns-3 c = pushes-byte _ _ _ (push-at (c .before .before .before .args .s) _ Even (c .enum-told3 .given .1))
 
 returns-4 : tie.Need-returns-4
-returns-4 c = push-odd (c .before .before .before .before .before .args .s) _ _ _ (c .before .before .enum-told4 .given .1) (c .before .word2 .ensures) (c .take .ensures)
+returns-4 c = pushes-byte _ _ _ (push-odd (c .before .before .before .before .before .args .s) _ _ _ (c .before .before .enum-told4 .given .1) (c .before .word2 .ensures) (c .take .ensures .computed))
 
 pub push-spec : {M : Type 1} → statement M
 push-spec =

@@ -1,3 +1,4 @@
+use Rattle.monitoring.specs.Meanings.{pushes, pushes-one}
 use mathlib.Core.Path.{_≡_, refl, sym, _∙_}
 use Prim.Native.Nat.{_-_, _≤_}
 use lib.ListN.{length, drop}
@@ -23,7 +24,7 @@ push-letters-requires : tie.Need-push-letters-requires Inv-loop μ-loop
 push-letters-requires c κs = (sym (c .before .at-letter .ensures) ∙ c .if1 .taken, c .before .before .loop-test .taken)
 
 returns : tie.Need-returns Inv-loop μ-loop
-returns c = c .push-letters .ensures ∙ c .before .before .before .before .loop .inv .1
+returns c = pushes _ _ _ (c .push-letters .ensures ∙ c .before .before .before .before .loop .inv .1)
 
 shared-slice-read-push : tie.Need-shared-slice-read-push Inv-loop μ-loop
 shared-slice-read-push c = search needs
@@ -38,10 +39,10 @@ loop-less : tie.Need-loop-less Inv-loop μ-loop
 loop-less c = search needs
 
 loop-again : tie.Need-loop-again Inv-loop μ-loop
-loop-again c = (search needs, pushed-more _ _ _ _ _ (c .before .before .before .before .loop-test .taken) (c .before .before .before .before .before .loop .inv .1) (c .push .ensures))
+loop-again c = (search needs, pushed-more _ _ _ _ _ (c .before .before .before .before .loop-test .taken) (c .before .before .before .before .before .loop .inv .1) (pushes-one _ _ _ (c .push .ensures)))
 
 returns-2 : tie.Need-returns-2 Inv-loop μ-loop
-returns-2 c = pushed-done _ _ _ _ (c .loop-test .left) (c .before .loop .inv .1)
+returns-2 c = pushes _ _ _ (pushed-done _ _ _ _ (c .loop-test .left) (c .before .loop .inv .1))
 
 pub push-all-spec : {M : Type 1} → statement M
 push-all-spec =

@@ -1,3 +1,4 @@
+use Rattle.monitoring.specs.Meanings.{pushes-one}
 use borrow.Author.Needs.{needs}
 use Rattle.monitoring.proofs.Pairs.{letters-even, letters-odd}
 use Rattle.monitoring.proofs.streaming.push_letters.Statement.{statement}
@@ -19,7 +20,7 @@ push-requires : tie.Need-push-requires
 push-requires c κs = search needs
 
 returns : tie.Need-returns
-returns c = let s = c .before .before .before .before .before .before in letters-odd (s .args .s) (s .args .bytes .now) (s .args .start) _ (s .pre .0) (s .pre .1) (c .before .before .before .take-all .ensures) _ (c .before .before .if1 .taken) (c .push .ensures)
+returns c = let s = c .before .before .before .before .before .before in letters-odd (s .args .s) (s .args .bytes .now) (s .args .start) _ (s .pre .0) (s .pre .1) (c .before .before .before .take-all .ensures) _ (c .before .before .if1 .taken) (pushes-one _ _ _ (c .push .ensures))
 
 returns-2 : tie.Need-returns-2
 returns-2 c = let s = c .before .before .before .before in letters-even (s .args .s) (s .args .bytes .now) (s .args .start) _ (s .pre .0) (s .pre .1) (c .before .take-all .ensures) (c .if1 .left)

@@ -1,3 +1,4 @@
+use Rattle.monitoring.specs.Meanings.{stream-starts}
 use borrow.Author.Needs.{needs}
 use Rattle.monitoring.proofs.streaming.start.Statement.{statement}
 use Rattle.monitoring.proofs.streaming.start.Tie as tie
@@ -6,7 +7,7 @@ idle-requires : tie.Need-idle-requires
 idle-requires c κs = search needs
 
 returns : tie.Need-returns
-returns c = rw (c .idle .ensures)
+returns c = stream-starts _ (rw (c .idle .ensures))
 
 pub start-spec : {M : Type 1} → statement M
 start-spec = tie.close (tie.spec idle-requires returns)
