@@ -15,8 +15,8 @@ use Rattle.semantics.specs.PackedTables.{firstRowWidths, readTables}
 use Rattle.text.specs.Names.{nameText}
 use Rattle.report.specs.declared.Verdict.{Verdict}
 use Rattle.report.specs.declared.Verdict.the-variants.{Pass, Incoherent, Fail, Refused}
-use Rattle.report.specs.declared.Written.{Written}
-use Rattle.report.specs.declared.Written.the-variants.{Bytes, NoRoom}
+use Rattle.report.specs.declared.ReportWritten.{ReportWritten}
+use Rattle.report.specs.declared.ReportWritten.the-variants.{Bytes, NoRoom}
 use Rattle.report.specs.Lines.{Names, Printed, pass, incoherent, fail, refused, report}
 
 -- The names that two arrays hold.
@@ -48,6 +48,6 @@ unfoldable pub reportOf : List ℕ → List ℕ → Header → Verdict → List 
 reportOf registers functions h verdict s = report (namesOf registers functions) h (shown h verdict s)
 
 -- A text that was to be written into a buffer: it stands in front and the bytes behind it stay, or there is no room and all bytes stay.
-pub record Wrote (text entry exit : List ℕ) (answer : Written) : Type 0 where
+pub record Wrote (text entry exit : List ℕ) (answer : ReportWritten) : Type 0 where
   pub answered : answer ≡ pick (leb (length text) (length entry)) (λ _. Bytes (length text)) λ _. NoRoom
   pub bytes : exit ≡ pick (leb (length text) (length entry)) (λ _. text ++ drop (length text) entry) λ _. entry

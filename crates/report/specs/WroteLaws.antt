@@ -7,7 +7,7 @@ use mathlib.Core.List.{List, [], _∷_, _++_}
 use lib.ListN.{length, take, drop}
 use borrow.Author.Tests.{le-leb, lt-leb}
 use Rattle.text.specs.Appending.{Appended, stored-between}
-use Rattle.report.specs.declared.Written.the-variants.{Bytes, NoRoom}
+use Rattle.report.specs.declared.ReportWritten.the-variants.{Bytes, NoRoom}
 use Rattle.report.specs.Shown.{Wrote}
 
 take-none : (l : List ℕ) → take 0 l ≡ []

@@ -22,7 +22,7 @@ pub enum Verdict {
 }
 
 /// How the writing went.
-pub enum Written {
+pub enum ReportWritten {
     /// So many bytes were written.
     Bytes(usize),
     /// The report does not fit the buffer.
@@ -50,7 +50,7 @@ pub fn write_report(
     verdict: Verdict,
     answer: &[u8],
     out: &mut [u8],
-) -> Written
+) -> ReportWritten
     ensures { λ r. ⌜ Wrote (reportOf registers functions h verdict (now (answer .entry))) (now (out .entry)) (now (out .exit)) r ⌝ }
 {
     let known = limited(verdict);
@@ -58,8 +58,8 @@ pub fn write_report(
     let mut none = [0u8; 0];
     let size = put_report(&mut none, 0, registers, functions, h, known, answer);
     if out.len() < size {
-        return Written::NoRoom;
+        return ReportWritten::NoRoom;
     }
     let end = put_report(out, 0, registers, functions, h, known, answer);
-    Written::Bytes(end)
+    ReportWritten::Bytes(end)
 }

@@ -12,8 +12,8 @@ use Rattle.search.specs.declared.Verdict as search
 use Rattle.search.specs.declared.Verdict.the-variants.{Pass, Fail, Incoherent, Refused}
 use Rattle.report.specs.declared.Verdict as report
 use Rattle.report.specs.declared.Verdict.the-variants as printed
-use Rattle.report.specs.declared.Written.{Written}
-use Rattle.report.specs.declared.Written.the-variants.{Bytes, NoRoom}
+use Rattle.report.specs.declared.ReportWritten.{ReportWritten}
+use Rattle.report.specs.declared.ReportWritten.the-variants.{Bytes, NoRoom}
 use Rattle.report.specs.Shown.{reportOf}
 use Rattle.report.specs.Bound.{letterNumber, rowNumber}
 use Rattle.verdict_lines.specs.Prints.{tablePairs, mostBytes}
@@ -30,7 +30,7 @@ unfoldable pub reportFor : held.Macro → search.Verdict → List ℕ → List �
 reportFor program verdict s = reportOf (program .registers) (program .functions) (program .header) (reported verdict) s
 
 -- How many bytes were written, 0 if there was no room.
-abbrev pub sizeOf : Written → ℕ
+abbrev pub sizeOf : ReportWritten → ℕ
 sizeOf (Bytes n) = n
 sizeOf NoRoom = 0
 

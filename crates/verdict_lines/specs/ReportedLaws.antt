@@ -10,8 +10,8 @@ use Rattle.syntax.specs.declared.Answer as syntax
 use Rattle.syntax.specs.Reads.{Reads}
 use Rattle.search.specs.declared.Verdict as search
 use Rattle.report.specs.declared.Verdict.{Verdict}
-use Rattle.report.specs.declared.Written.{Written}
-use Rattle.report.specs.declared.Written.the-variants.{Bytes, NoRoom}
+use Rattle.report.specs.declared.ReportWritten.{ReportWritten}
+use Rattle.report.specs.declared.ReportWritten.the-variants.{Bytes, NoRoom}
 use Rattle.report.specs.Shown.{reportOf, Wrote}
 use Rattle.report.specs.Bound.{Limited, letterNumber, rowNumber, report-fits}
 use Rattle.verdict_lines.specs.Prints.{tablePairs, mostBytes}
@@ -21,7 +21,7 @@ size-of : (b : Bool) (n : ℕ) → sizeOf (pick b (λ _. Bytes n) (λ _. NoRoom)
 size-of true n = refl
 size-of false n = refl
 
-module _ (text : List ℕ) (v : search.Verdict) (s entry exit : List ℕ) (read : syntax.Answer) (shown : Verdict) (written : Written) (size : ℕ)
+module _ (text : List ℕ) (v : search.Verdict) (s entry exit : List ℕ) (read : syntax.Answer) (shown : Verdict) (written : ReportWritten) (size : ℕ)
     (registers : (r : ℕ) → getD (read .program .registers) r 0 < 2 ^ 64) (functions : (f : ℕ) → getD (read .program .functions) f 0 < 2 ^ 64) (bytes : (i : ℕ) → getD s i 0 < 256) where
   -- The text was read, the verdict taken as the report takes it, and the report written.
   pub reports : Reads text read → shown ≡ reported v → Limited shown

@@ -1,6 +1,6 @@
 // The lines that the verdict program prints for the text of a macro (document 01, "The verdict program").
 use libc::STDOUT_FILENO;
-use report::Written;
+use report::ReportWritten;
 ghost use mathlib.Core.Path.{_≡_};
 ghost use Rattle.report.specs.Bound.{Limited};
 ghost use Rattle.verdict_lines.specs.Prints.{Prints};
@@ -45,12 +45,12 @@ fn reported(verdict: search::Verdict) -> report::Verdict
 }
 
 // How many bytes were written, 0 if there was no room.
-fn size(written: Written) -> usize
+fn size(written: ReportWritten) -> usize
     ensures { λ r. ⌜ r ≡ sizeOf written ⌝ }
 {
     match written {
-        Written::Bytes(n) => n,
-        Written::NoRoom => 0,
+        ReportWritten::Bytes(n) => n,
+        ReportWritten::NoRoom => 0,
     }
 }
 

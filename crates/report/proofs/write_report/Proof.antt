@@ -7,7 +7,7 @@ use mir.Syntax.{w8, w64}
 use mir.Val.{Fits}
 use Rattle.text.specs.Appending.{appended-length}
 use Rattle.report.specs.declared.Verdict.{Verdict}
-use Rattle.report.specs.declared.Written.the-variants.{Bytes, NoRoom}
+use Rattle.report.specs.declared.ReportWritten.the-variants.{Bytes, NoRoom}
 use Rattle.report.specs.Shown.{reportOf, Wrote}
 use Rattle.report.specs.WroteLaws.{wrote-none, wrote-all}
 use Rattle.report.specs.Bound.{report-room}
