@@ -3,12 +3,14 @@ use letters::Letter;
 use phrases::Got;
 use phrases::GotLetter;
 ghost use mathlib.Core.Path.{_≡_};
-ghost use mathlib.Core.Bool.{true, false};
-ghost use mathlib.Core.List.{[], _∷_};
-ghost use Prim.Native.Nat.{_≤_};
+ghost use mathlib.Core.List.{List, [], _∷_};
+ghost use Prim.Native.Nat.{_+_, _≤_};
+ghost use lib.ListN.{length, take, set};
 ghost use Rattle.base.specs.Each.{each};
-ghost use Rattle.blocks.specs.Held.{turned, redirected};
-ghost use Rattle.blocks.specs.Outcome.{within, begins, joined, branched, looped, Fine, Refusal, Settled, Passed, Ready, BlockRead, StatementRead, BracesRead, ElseRead, ConditionalRead, RepeatRead};
+ghost use Rattle.letters.specs.Packing.{split};
+ghost use Rattle.blocks.specs.Held.{fields, pointAt, pointsOf, Coded, progressOf, heldBy, table, turned, unused};
+ghost use Rattle.blocks.specs.Outcome.{turnedIn, begins, changedTo, waiting, Fine, Refusal, Settled, Passed, Ready};
+ghost use Rattle.blocks.specs.Outcome.{BlockRead, StatementRead, BracesRead, ElseRead, ConditionalRead, RepeatRead};
 
 /// A point of a macro.
 pub struct Point {
@@ -34,55 +36,187 @@ pub struct State {
     pub at: usize,
     /// How many points were read; 257 for more than 256.
     pub count: u16,
-    /// The points that were read.
-    pub points: [Point; 256],
 }
 
-fn stopped(st: State, number: u8, place: usize) -> State
-    ensures { λ r. ⌜ Refusal r number place ⌝ }
+/// The most points that a macro has. While a text is read, also what follows and is not yet known.
+pub const MOST: u16 = 256;
+
+// The count of points once there are more.
+const TOO_MANY: u16 = 257;
+
+/// The kind and the letter of each point as one number, a byte for each field.
+pub type Codes = [u64; 256];
+
+/// A point that follows each point.
+pub type Follows = [u16; 256];
+
+const BYTE: u64 = 256;
+
+// What a field of a code counts.
+const KIND: u64 = 1099511627776;
+
+const VARIANT: u64 = 4294967296;
+
+const FUNCTION: u64 = 16777216;
+
+const TARGET: u64 = 65536;
+
+const FIRST: u64 = 256;
+
+const SECOND: u64 = 1;
+
+// Six fields as one number: the kind of a point; of its letter the variant, the function, the target, the first and the second register.
+fn packed(kind: u8, variant: u8, function: u8, target: u8, first: u8, second: u8) -> u64
+    ensures { λ r. ⌜ split fields r ≡ kind ∷ variant ∷ function ∷ target ∷ first ∷ second ∷ [] ⌝ }
 {
-    let points = st.points;
+    (kind as u64) * KIND
+        + (variant as u64) * VARIANT
+        + (function as u64) * FUNCTION
+        + (target as u64) * TARGET
+        + (first as u64) * FIRST
+        + (second as u64) * SECOND
+}
+
+// The code of a point.
+fn code_of(kind: u8, letter: Letter) -> u64
+    ensures { λ r. ⌜ Coded kind letter r ⌝ }
+{
+    match letter {
+        Letter::Copy { target, source } => packed(kind, 0, 0, target, source, 0),
+        Letter::Apply {
+            target,
+            function,
+            first,
+            second,
+        } => packed(kind, 1, function, target, first, second),
+        Letter::Equal { first, second } => packed(kind, 2, 0, 0, first, second),
+        Letter::Unequal { first, second } => packed(kind, 3, 0, 0, first, second),
+    }
+}
+
+// The letter of a code.
+fn letter_at(code: u64) -> Letter
+    ensures { λ r. ⌜ r ≡ pointAt code 0 0 .letter ⌝ }
+{
+    let variant = code / VARIANT % BYTE;
+    let function = (code / FUNCTION % BYTE) as u8;
+    let target = (code / TARGET % BYTE) as u8;
+    let first = (code / FIRST % BYTE) as u8;
+    let second = (code / SECOND % BYTE) as u8;
+    if variant == 0 {
+        return Letter::Copy {
+            target,
+            source: first,
+        };
+    }
+    if variant == 1 {
+        return Letter::Apply {
+            target,
+            function,
+            first,
+            second,
+        };
+    }
+    if variant == 2 {
+        return Letter::Equal { first, second };
+    }
+    Letter::Unequal { first, second }
+}
+
+// The point of a code and of what follows.
+fn point_at(code: u64, first: u16, second: u16) -> Point
+    ensures { λ r. ⌜ r ≡ pointAt code first second ⌝ }
+{
+    let kind = (code / KIND % BYTE) as u8;
+    let letter = letter_at(code);
+    Point {
+        kind: kind,
+        letter: letter,
+        first: first,
+        second: second,
+    }
+}
+
+/// The first `count` points that the arrays hold, as a table.
+pub fn points_of(code: &Codes, first: &Follows, second: &Follows, count: u16) -> [Point; 256]
+    requires { ⌜ count ≤ 256 ⌝ }
+    ensures { λ r. ⌜ (count ≤ length (pointsOf (now (code .entry)) (now (first .entry)) (now (second .entry)))
+        → r ≡ table (take count (pointsOf (now (code .entry)) (now (first .entry)) (now (second .entry))))) ⌝ }
+{
+    let mut points = [no_point(); 256];
+    let mut i: usize = 0;
+    while i < count as usize {
+        points[i] = point_at(code[i], first[i], second[i]);
+        i += 1;
+    }
+    points
+}
+
+/// What stands in a table where there is no point.
+pub fn no_point() -> Point
+    ensures { λ r. ⌜ r ≡ unused ⌝ }
+{
+    Point {
+        kind: 0,
+        letter: Letter::Copy {
+            target: 0,
+            source: 0,
+        },
+        first: 0,
+        second: 0,
+    }
+}
+
+fn stopped(number: u8, place: usize) -> State
+    ensures { λ r. ⌜ ((ps : List Point) → Refusal (progressOf r ps) number place) ⌝ }
+{
     State {
         ok: false,
         number: number,
         place: place,
-        at: st.at,
-        count: st.count,
-        points: points,
+        at: 0,
+        count: 0,
     }
 }
 
 // On to a place, with no point more.
 fn moved(st: State, at: usize) -> State
     requires { ⌜ st .count ≤ 257 ⌝ }
-    ensures { λ r. ⌜ Fine st r [] at ⌝ }
+    ensures { λ r. ⌜ ((ps : List Point) → Fine (progressOf st ps) (progressOf r ps) [] at) ⌝ }
 {
-    let points = st.points;
     State {
         ok: true,
         number: 0,
         place: 0,
         at: at,
         count: st.count,
-        points: points,
     }
 }
 
 // On to a place, with one point more.
-fn pushed(st: State, p: Point, at: usize) -> State
-    ensures { λ r. ⌜ Fine st r (p ∷ []) at ⌝ }
+fn pushed(
+    st: State,
+    kind: u8,
+    letter: Letter,
+    at: usize,
+    code: &mut Codes,
+    first: &mut Follows,
+    second: &mut Follows,
+) -> State
+    ensures { λ r. ⌜ Fine (heldBy st (now (code .entry)) (now (first .entry)) (now (second .entry)))
+        (heldBy r (now (code .exit)) (now (first .exit)) (now (second .exit))) (waiting kind letter ∷ []) at ⌝ }
 {
     let n = st.count;
-    let mut points = st.points;
-    if n < 256 {
-        points[n as usize] = p;
+    if n < MOST {
+        code[n as usize] = code_of(kind, letter);
+        first[n as usize] = MOST;
+        second[n as usize] = 0;
         return State {
             ok: true,
             number: 0,
             place: 0,
             at: at,
             count: n + 1,
-            points: points,
         };
     }
     State {
@@ -90,88 +224,60 @@ fn pushed(st: State, p: Point, at: usize) -> State
         number: 0,
         place: 0,
         at: at,
-        count: 257,
-        points: points,
+        count: TOO_MANY,
     }
 }
 
 // On behind a letter that was read, with a point more that performs it, or the refusal.
-fn settled(st: State, kind: u8, g: GotLetter) -> State
-    ensures { λ r. ⌜ Settled kind st r g ⌝ }
+fn settled(
+    st: State,
+    kind: u8,
+    g: GotLetter,
+    code: &mut Codes,
+    first: &mut Follows,
+    second: &mut Follows,
+) -> State
+    ensures { λ r. ⌜ Settled kind (heldBy st (now (code .entry)) (now (first .entry)) (now (second .entry)))
+        (heldBy r (now (code .exit)) (now (first .exit)) (now (second .exit))) g ⌝ }
 {
     match g {
-        GotLetter::At(l, e) => pushed(
-            st,
-            Point {
-                kind: kind,
-                letter: l,
-                first: 256,
-                second: 0,
-            },
-            e,
-        ),
-        GotLetter::Refused(n, p) => stopped(st, n, p),
+        GotLetter::At(l, e) => pushed(st, kind, l, e, code, first, second),
+        GotLetter::Refused(n, p) => stopped(n, p),
     }
 }
 
 // On behind what was read, with no point more, or the refusal.
 fn passed(st: State, g: Got) -> State
     requires { ⌜ st .count ≤ 257 ⌝ }
-    ensures { λ r. ⌜ Passed st r g ⌝ }
+    ensures { λ r. ⌜ ((ps : List Point) → Passed (progressOf st ps) (progressOf r ps) g) ⌝ }
 {
     match g {
         Got::At(_, e) => moved(st, e),
-        Got::Refused(n, p) => stopped(st, n, p),
-    }
-}
-
-// The point with f for what follows it.
-fn redirect(p: Point, f: u16) -> Point
-    ensures { λ r. ⌜ r ≡ redirected f p ⌝ }
-{
-    let letter = p.letter;
-    Point {
-        kind: p.kind,
-        letter: letter,
-        first: follow(p.first, f),
-        second: follow(p.second, f),
+        Got::Refused(n, p) => stopped(n, p),
     }
 }
 
 fn follow(n: u16, f: u16) -> u16
     ensures { λ r. ⌜ r ≡ turned f n ⌝ }
 {
-    if n == 256 {
+    if n == MOST {
         return f;
     }
     n
 }
 
-/// The table with f for what follows the points in a range.
-pub fn redirect_range(points: [Point; 256], from: u16, to: u16, f: u16) -> [Point; 256]
-    ensures { λ r. ⌜ r ≡ each (within from to f) points ⌝ }
+/// Puts f for what follows the points in a range.
+pub fn redirect_range(first: &mut Follows, second: &mut Follows, from: u16, to: u16, f: u16)
+    requires { ⌜ to ≤ 256 ⌝ }
+    ensures { λ _. ⌜ now (first .exit) ≡ each (turnedIn from to f) (now (first .entry)) ⌝ }
+    ensures other { λ _. ⌜ now (second .exit) ≡ each (turnedIn from to f) (now (second .entry)) ⌝ }
 {
-    let mut next = points;
-    let mut i: usize = 0;
-    while i < 256 {
-        let p = next[i];
-        next[i] = chosen(p, i, from, to, f);
+    let mut i: usize = from as usize;
+    while i < to as usize {
+        first[i] = follow(first[i], f);
+        second[i] = follow(second[i], f);
         i += 1;
     }
-    next
-}
-
-// An entry of the table after that.
-fn chosen(p: Point, i: usize, from: u16, to: u16, f: u16) -> Point
-    ensures { λ r. ⌜ r ≡ within from to f i p ⌝ }
-{
-    if i < from as usize {
-        return p;
-    }
-    if i < to as usize {
-        return redirect(p, f);
-    }
-    p
 }
 
 // Where the points in a range begin; at what follows if there are none.
@@ -184,84 +290,54 @@ fn begin(from: u16, to: u16, follow: u16) -> u16
     follow
 }
 
-// After a statement whose points are numbered from `to` on: if it has one, it follows the points from `from` on.
-fn join(q: State, from: u16, to: u16) -> State
-    ensures { λ r. ⌜ r ≡ joined q from to ⌝ }
+// After a statement whose points are numbered from `to` to `count`: if it has one, it follows the points from `from` on.
+fn join(count: u16, from: u16, to: u16, first: &mut Follows, second: &mut Follows)
+    ensures { λ _. ⌜ now (first .exit) ≡ changedTo count to (each (turnedIn from to to) (now (first .entry))) (now (first .entry)) ⌝ }
+    ensures other { λ _. ⌜ now (second .exit) ≡ changedTo count to (each (turnedIn from to to) (now (second .entry))) (now (second .entry)) ⌝ }
 {
-    if 256 < q.count {
-        return q;
+    if MOST < count {
+        return;
     }
-    if q.count <= to {
-        return q;
+    if count <= to {
+        return;
     }
-    let points = q.points;
-    let next = redirect_range(points, from, to, to);
-    State {
-        ok: q.ok,
-        number: q.number,
-        place: q.place,
-        at: q.at,
-        count: q.count,
-        points: next,
-    }
+    redirect_range(first, second, from, to, to);
 }
 
-// After the two blocks of an if, of which `base` is the number: the second block's points are numbered from `mid` on.
-fn branch(q: State, l: Letter, base: u16, mid: u16) -> State
-    ensures { λ r. ⌜ r ≡ branched q l base mid ⌝ }
+// After the two blocks of an if, of which `base` is the number: the second block's points are numbered from `mid` to `count`.
+fn branch(count: u16, base: u16, mid: u16, first: &mut Follows, second: &mut Follows)
+    ensures { λ _. ⌜ now (first .exit) ≡ changedTo count base (set (now (first .entry)) base (begins (base + 1) mid 256)) (now (first .entry)) ⌝ }
+    ensures other { λ _. ⌜ now (second .exit) ≡ changedTo count base (set (now (second .entry)) base (begins mid count 256)) (now (second .entry)) ⌝ }
 {
-    if 256 < q.count {
-        return q;
+    if MOST < count {
+        return;
     }
-    if q.count <= base {
-        return q;
+    if count <= base {
+        return;
     }
-    let mut next = q.points;
-    let holds = begin(base + 1, mid, 256);
-    let fails = begin(mid, q.count, 256);
-    next[base as usize] = Point {
-        kind: 2,
-        letter: l,
-        first: holds,
-        second: fails,
-    };
-    State {
-        ok: q.ok,
-        number: q.number,
-        place: q.place,
-        at: q.at,
-        count: q.count,
-        points: next,
-    }
+    let holds = begin(base + 1, mid, MOST);
+    let fails = begin(mid, count, MOST);
+    first[base as usize] = holds;
+    second[base as usize] = fails;
 }
 
-// After the block of a while, of which `base` is the number: the while follows its block.
-fn repeat_from(q: State, l: Letter, base: u16) -> State
-    ensures { λ r. ⌜ r ≡ looped q l base ⌝ }
+// After the block of a while, of which `base` is the number, up to the point `count`: the while follows its block.
+fn repeat_from(count: u16, base: u16, first: &mut Follows, second: &mut Follows)
+    ensures { λ _. ⌜ now (first .exit)
+        ≡ changedTo count base (set (each (turnedIn (base + 1) count base) (now (first .entry))) base (begins (base + 1) count base)) (now (first .entry)) ⌝ }
+    ensures other { λ _. ⌜ now (second .exit)
+        ≡ changedTo count base (set (each (turnedIn (base + 1) count base) (now (second .entry))) base 256) (now (second .entry)) ⌝ }
 {
-    if 256 < q.count {
-        return q;
+    if MOST < count {
+        return;
     }
-    if q.count <= base {
-        return q;
+    if count <= base {
+        return;
     }
-    let points = q.points;
-    let mut next = redirect_range(points, base + 1, q.count, base);
-    let first = begin(base + 1, q.count, base);
-    next[base as usize] = Point {
-        kind: 2,
-        letter: l,
-        first: first,
-        second: 256,
-    };
-    State {
-        ok: q.ok,
-        number: q.number,
-        place: q.place,
-        at: q.at,
-        count: q.count,
-        points: next,
-    }
+    redirect_range(first, second, base + 1, count, base);
+    let body = begin(base + 1, count, base);
+    first[base as usize] = body;
+    second[base as usize] = MOST;
 }
 
 /// Statements up to the block's end: `}` or the end of the text. Blocks in it lie at most `depth` deep.
@@ -272,9 +348,14 @@ pub fn block(
     arities: &[u8],
     st: State,
     depth: usize,
+    code: &mut Codes,
+    first: &mut Follows,
+    second: &mut Follows,
 ) -> State
-    requires { ⌜ Ready (now regs) (now funs) (now arities) st ⌝ }
-    ensures { λ r. ⌜ BlockRead (now (text .entry)) (now (regs .entry)) (now (funs .entry)) (now (arities .entry)) depth st r ⌝ }
+    requires { ⌜ Ready (now regs) (now funs) (now arities) (st .count) ⌝ }
+    ensures { λ r. ⌜ BlockRead (now (text .entry)) (now (regs .entry)) (now (funs .entry)) (now (arities .entry)) depth
+        (heldBy st (now (code .entry)) (now (first .entry)) (now (second .entry)))
+        (heldBy r (now (code .exit)) (now (first .exit)) (now (second .exit))) ⌝ }
 {
     let from = st.count;
     let start = st.at;
@@ -288,9 +369,10 @@ pub fn block(
             return cur;
         }
         let to = cur.count;
-        let one = statement(text, regs, funs, arities, cur, depth);
+        let one = statement(text, regs, funs, arities, cur, depth, code, first, second);
         if one.ok {
-            cur = join(one, from, to);
+            join(one.count, from, to, first, second);
+            cur = one;
         } else {
             return one;
         }
@@ -305,9 +387,14 @@ fn statement(
     arities: &[u8],
     st: State,
     depth: usize,
+    code: &mut Codes,
+    first: &mut Follows,
+    second: &mut Follows,
 ) -> State
-    requires { ⌜ Ready (now regs) (now funs) (now arities) st ⌝ }
-    ensures { λ r. ⌜ StatementRead (now (text .entry)) (now (regs .entry)) (now (funs .entry)) (now (arities .entry)) depth st r ⌝ }
+    requires { ⌜ Ready (now regs) (now funs) (now arities) (st .count) ⌝ }
+    ensures { λ r. ⌜ StatementRead (now (text .entry)) (now (regs .entry)) (now (funs .entry)) (now (arities .entry)) depth
+        (heldBy st (now (code .entry)) (now (first .entry)) (now (second .entry)))
+        (heldBy r (now (code .exit)) (now (first .exit)) (now (second .exit))) ⌝ }
 {
     let at = st.at;
     let t = tokens::next(text, at);
@@ -316,19 +403,56 @@ fn statement(
         return passed(st, phrases::expect(text, tokens::SEMICOLON, t.end));
     }
     if k == tokens::ASSUME {
-        return settled(st, 0, phrases::tested(text, regs, t.end));
+        return settled(
+            st,
+            0,
+            phrases::tested(text, regs, t.end),
+            code,
+            first,
+            second,
+        );
     }
     if k == tokens::ASSERT {
-        return settled(st, 1, phrases::tested(text, regs, t.end));
+        return settled(
+            st,
+            1,
+            phrases::tested(text, regs, t.end),
+            code,
+            first,
+            second,
+        );
     }
     if k == tokens::IF {
-        return conditional(text, regs, funs, arities, st, t.end, depth);
+        return conditional(
+            text,
+            regs,
+            funs,
+            arities,
+            st,
+            t.end,
+            depth,
+            code,
+            first,
+            second,
+        );
     }
     if k == tokens::WHILE {
-        return repeat(text, regs, funs, arities, st, t.end, depth);
+        return repeat(
+            text,
+            regs,
+            funs,
+            arities,
+            st,
+            t.end,
+            depth,
+            code,
+            first,
+            second,
+        );
     }
     if tokens::is_name(k) {
-        return settled(st, 0, phrases::assignment(text, regs, funs, arities, at));
+        let g = phrases::assignment(text, regs, funs, arities, at);
+        return settled(st, 0, g, code, first, second);
     }
     passed(st, phrases::unfitting(t))
 }
@@ -342,24 +466,36 @@ fn conditional(
     st: State,
     at: usize,
     depth: usize,
+    code: &mut Codes,
+    first: &mut Follows,
+    second: &mut Follows,
 ) -> State
-    requires { ⌜ Ready (now regs) (now funs) (now arities) st ⌝ }
-    ensures { λ r. ⌜ ConditionalRead (now (text .entry)) (now (regs .entry)) (now (funs .entry)) (now (arities .entry)) depth at st r ⌝ }
+    requires { ⌜ Ready (now regs) (now funs) (now arities) (st .count) ⌝ }
+    ensures { λ r. ⌜ ConditionalRead (now (text .entry)) (now (regs .entry)) (now (funs .entry)) (now (arities .entry)) depth at
+        (heldBy st (now (code .entry)) (now (first .entry)) (now (second .entry)))
+        (heldBy r (now (code .exit)) (now (first .exit)) (now (second .exit))) ⌝ }
 {
-    let g = phrases::condition(text, regs, at);
-    let GotLetter::At(l, _) = g else {
-        return settled(st, 2, g);
-    };
-    let p = settled(st, 2, g);
-    let first = braces(text, regs, funs, arities, p, depth);
-    if first.ok {
-        let second = otherwise(text, regs, funs, arities, first, depth);
-        if second.ok {
-            return branch(second, l, st.count, first.count);
+    let p = settled(
+        st,
+        2,
+        phrases::condition(text, regs, at),
+        code,
+        first,
+        second,
+    );
+    if p.ok {
+        let one = braces(text, regs, funs, arities, p, depth, code, first, second);
+        if one.ok {
+            let two = otherwise(text, regs, funs, arities, one, depth, code, first, second);
+            if two.ok {
+                branch(two.count, st.count, one.count, first, second);
+                return two;
+            }
+            return two;
         }
-        return second;
+        return one;
     }
-    first
+    p
 }
 
 // Perhaps an `else` and its block.
@@ -370,15 +506,20 @@ fn otherwise(
     arities: &[u8],
     st: State,
     depth: usize,
+    code: &mut Codes,
+    first: &mut Follows,
+    second: &mut Follows,
 ) -> State
-    requires { ⌜ Ready (now regs) (now funs) (now arities) st ⌝ }
-    ensures { λ r. ⌜ ElseRead (now (text .entry)) (now (regs .entry)) (now (funs .entry)) (now (arities .entry)) depth st r ⌝ }
+    requires { ⌜ Ready (now regs) (now funs) (now arities) (st .count) ⌝ }
+    ensures { λ r. ⌜ ElseRead (now (text .entry)) (now (regs .entry)) (now (funs .entry)) (now (arities .entry)) depth
+        (heldBy st (now (code .entry)) (now (first .entry)) (now (second .entry)))
+        (heldBy r (now (code .exit)) (now (first .exit)) (now (second .exit))) ⌝ }
 {
     let at = st.at;
     let t = tokens::next(text, at);
     if t.key == tokens::ELSE {
         let p = moved(st, t.end);
-        return braces(text, regs, funs, arities, p, depth);
+        return braces(text, regs, funs, arities, p, depth, code, first, second);
     }
     moved(st, at)
 }
@@ -392,35 +533,59 @@ fn repeat(
     st: State,
     at: usize,
     depth: usize,
+    code: &mut Codes,
+    first: &mut Follows,
+    second: &mut Follows,
 ) -> State
-    requires { ⌜ Ready (now regs) (now funs) (now arities) st ⌝ }
-    ensures { λ r. ⌜ RepeatRead (now (text .entry)) (now (regs .entry)) (now (funs .entry)) (now (arities .entry)) depth at st r ⌝ }
+    requires { ⌜ Ready (now regs) (now funs) (now arities) (st .count) ⌝ }
+    ensures { λ r. ⌜ RepeatRead (now (text .entry)) (now (regs .entry)) (now (funs .entry)) (now (arities .entry)) depth at
+        (heldBy st (now (code .entry)) (now (first .entry)) (now (second .entry)))
+        (heldBy r (now (code .exit)) (now (first .exit)) (now (second .exit))) ⌝ }
 {
-    let g = phrases::condition(text, regs, at);
-    let GotLetter::At(l, _) = g else {
-        return settled(st, 2, g);
-    };
-    let p = settled(st, 2, g);
-    let body = braces(text, regs, funs, arities, p, depth);
-    if body.ok {
-        return repeat_from(body, l, st.count);
+    let p = settled(
+        st,
+        2,
+        phrases::condition(text, regs, at),
+        code,
+        first,
+        second,
+    );
+    if p.ok {
+        let body = braces(text, regs, funs, arities, p, depth, code, first, second);
+        if body.ok {
+            repeat_from(body.count, st.count, first, second);
+            return body;
+        }
+        return body;
     }
-    body
+    p
 }
 
 // A block in braces, one deeper.
-fn braces(text: &[u8], regs: &[u64], funs: &[u64], arities: &[u8], st: State, depth: usize) -> State
-    requires { ⌜ Ready (now regs) (now funs) (now arities) st ⌝ }
-    ensures { λ r. ⌜ BracesRead (now (text .entry)) (now (regs .entry)) (now (funs .entry)) (now (arities .entry)) depth st r ⌝ }
+fn braces(
+    text: &[u8],
+    regs: &[u64],
+    funs: &[u64],
+    arities: &[u8],
+    st: State,
+    depth: usize,
+    code: &mut Codes,
+    first: &mut Follows,
+    second: &mut Follows,
+) -> State
+    requires { ⌜ Ready (now regs) (now funs) (now arities) (st .count) ⌝ }
+    ensures { λ r. ⌜ BracesRead (now (text .entry)) (now (regs .entry)) (now (funs .entry)) (now (arities .entry)) depth
+        (heldBy st (now (code .entry)) (now (first .entry)) (now (second .entry)))
+        (heldBy r (now (code .exit)) (now (first .exit)) (now (second .exit))) ⌝ }
 {
     let at = st.at;
     let t = tokens::next(text, at);
     if t.key == tokens::LBRACE {
         if depth == 0 {
-            return stopped(st, 12, t.start);
+            return stopped(12, t.start);
         }
         let p = moved(st, t.end);
-        let b = block(text, regs, funs, arities, p, depth - 1);
+        let b = block(text, regs, funs, arities, p, depth - 1, code, first, second);
         if b.ok {
             let end = b.at;
             return passed(b, phrases::expect(text, tokens::RBRACE, end));

@@ -6,6 +6,7 @@ use mathlib.Core.Bool.{Bool, true, false, not, _&&_, _||_}
 use mathlib.Core.List.{List, [], _∷_, _++_, append-assoc}
 use lib.Dec.{eqb, ltb}
 use lib.ListN.{length, take, set, replicate, length-append}
+use lib.Seq.{set-append-seam}
 use borrow.Author.Tests.{eq-eqb, ne-eqb, eqb-true, eqb-false, ltb-true, ltb-false}
 use Rattle.base.specs.Choice.{byTest}
 use Rattle.tokens.specs.Tokens.{tokenAt}
@@ -16,7 +17,6 @@ use Rattle.grammar.specs.Reading.{Got, got, refused, exhausted, onward, indexOf
 use Rattle.phrases.specs.Codes.{plain, nothing}
 use Rattle.phrases.specs.Answers.{coded-at}
 use Rattle.phrases.specs.declared.Got as number
-use Rattle.blocks.specs.TableLaws.{set-seam}
 use Rattle.syntax.specs.Answer.{padded, heldRegisters, heldFunctions, unfitNumber}
 use Rattle.syntax.specs.declared.Registers.{Registers}
 use Rattle.syntax.specs.declared.Functions.{Functions}
@@ -62,7 +62,7 @@ module _ (n : ℕ) (names : List ℕ) (count k : ℕ) (K : Kept n names count) (
   stored =
       (λ i. set (K .pad i) (sym (K .size) i) k)
       ∙ ap (λ m. set (so ++ replicate m 0) (length so) k) room
-      ∙ set-seam so 0 k (replicate (n - length (so ++ k ∷ [])) 0)
+      ∙ set-append-seam so 0 (replicate (n - length (so ++ k ∷ [])) 0) k
       ∙ sym (append-assoc so (k ∷ []) (replicate (n - length (so ++ k ∷ [])) 0))
 
   more : length (so ++ k ∷ []) ≡ count + 1

@@ -6,7 +6,8 @@ use native.Mathlib.Nat.{zero-add}
 use mathlib.Core.Bool.{true, false}
 use mathlib.Core.List.{List, [], _∷_, _++_, map, append-nil}
 use lib.Dec.{eqb, leb}
-use lib.ListN.{length, getD, take, replicate}
+use lib.ListN.{length, getD, take, drop, replicate, length-append}
+use lib.Seq.{take-append-seam}
 use borrow.Author.Tests.{eq-eqb, ne-eqb, le-ltb, lt-ltb, leb-true, leb-false}
 use Rattle.base.specs.Choice.{pick, byTest}
 use Rattle.base.specs.Each.{each}
@@ -23,10 +24,10 @@ use Rattle.grammar.specs.Whole.{none-declared, functions-line}
 use Rattle.phrases.specs.Codes.{nothing, Few}
 use Rattle.phrases.specs.Answers.{coded-at}
 use Rattle.phrases.specs.declared.Got as number
-use Rattle.blocks.specs.Held.{table, unused, heldPoint, Holds, redirected}
-use Rattle.blocks.specs.Outcome.{Outcome, within, blockCode, BlockRead, Ready}
+use Rattle.blocks.specs.Held.{table, over, unused, heldPoint, Progress, progressOf, heldBy, pointsOf, Holds, redirected}
+use Rattle.blocks.specs.Outcome.{Outcome, turnedIn, within, blockCode, BlockRead, Ready}
 use Rattle.blocks.specs.OutcomeLaws.{outcome-fine}
-use Rattle.blocks.specs.TableLaws.{table-range}
+use Rattle.blocks.specs.TableLaws.{over-range, points-range, points-none, length-map}
 use Rattle.blocks.specs.Redirect.{block-length, redirect-block}
 use Rattle.blocks.specs.declared.Point.{Point}
 use Rattle.blocks.specs.declared.State.{State}
@@ -50,24 +51,29 @@ listOf rs = take (rs .count) (rs .names)
 abbrev pub macroOf : Registers → Functions → Block → Macro
 macroOf rs fs b = record { registers = take (rs .count) (rs .names); functions = take (fs .count) (fs .names); arities = take (fs .count) (fs .arities); body = b }
 
--- the state has read the block b, from its start
-pub record Ended (body : State) (b : Block) : Type 0 where
-  pub low : sizeBlock b ≤ 256 → Holds body (blockCode b 0)
+-- a table without points
+abbrev pub blank : List Point
+blank = replicate 256 unused
+
+-- the block b is read, from its start
+pub record Ended (body : Progress) (b : Block) : Type 0 where
+  pub low : sizeBlock b ≤ 256 → Holds blank body (blockCode b 0)
   pub high : 256 < sizeBlock b → body .count ≡ 257
 
-unfoldable pub Finishes : List ℕ → Registers → Functions → State → Answer → Type 0
+unfoldable pub Finishes : List ℕ → Registers → Functions → Progress → Answer → Type 0
 Finishes s rs fs body r = (b : Block) → Ended body b → r ≡ answerOf (endFrom s (macroOf rs fs b) (body .at))
 
 abbrev pub startOf : ℕ → State
-startOf at = record { ok = true; number = 0; place = 0; at = at; count = 0; points = replicate 256 unused }
+startOf at = record { ok = true; number = 0; place = 0; at = at; count = 0 }
+
+-- where reading the statements begins, with arrays of zeros
+abbrev pub startWith : ℕ → Progress
+startWith at = progressOf (startOf at) blank
 
 -- ---- fixed values
 
 pub no-macro-held : (p : Point) → p ≡ unused → record { header = record { registers = 0; functions = 0; binary = 0 }; registers = replicate 8 0; functions = replicate 4 0; points = replicate 256 p; count = 0 } ≡ noMacro
 no-macro-held p e = λ i. record { header = record { registers = 0; functions = 0; binary = 0 }; registers = replicate 8 0; functions = replicate 4 0; points = replicate 256 (e i); count = 0 }
-
-pub start-held : (at : ℕ) (p : Point) → p ≡ unused → record { ok = true; number = 0; place = 0; at = at; count = 0; points = replicate 256 p } ≡ startOf at
-start-held at p e = λ i. record { ok = true; number = 0; place = 0; at = at; count = 0; points = replicate 256 (e i) }
 
 pub refused-held : (n p : ℕ) (m : held.Macro) → m ≡ noMacro → record { refusal = n; place = p; program = m } ≡ answerOf (refused n p)
 unfolding answerOf
@@ -102,12 +108,26 @@ binary-padded (n ∷ ns) k = ap (λ m. flagOf n + 2 * m) (binary-padded ns k)
 
 -- ---- the end
 
+-- the answer of a text that was read
+abbrev pub read : Registers → Functions → ℕ → List Point → ℕ → Answer
+read rs fs bin ps n = record {
+  refusal = 0;
+  place = 0;
+  program = record {
+    header = record { registers = rs .count; functions = fs .count; binary = bin };
+    registers = rs .names;
+    functions = fs .names;
+    points = ps;
+    count = n;
+  };
+}
+
 -- the points of the whole macro, with the end for what follows
 turned-whole : (b : Block) → sizeBlock b ≤ 256 → map (redirected (sizeBlock b)) (blockCode b 0) ≡ map heldPoint (compileBlock b 0 (sizeBlock b))
 unfolding blockCode
 turned-whole b l = redirect-block (sizeBlock b) 256 b 0 (omega arith)
 
-module _ (s : List ℕ) (rs : Registers) (fs : Functions) (body : State) (t : Token) (e : t ≡ tokenAt s (body .at)) where
+module _ (s : List ℕ) (rs : Registers) (fs : Functions) (body : Progress) (t : Token) (e : t ≡ tokenAt s (body .at)) where
   pub finish-unfit : (t .key ≡ 0 → ⊥) → (n : ℕ) → n ≡ unfitNumber t → (r : Answer) → r ≡ answerOf (refused n (t .start)) → Finishes s rs fs body r
   unfolding Finishes
   finish-unfit h n i r g b E = rw (← e, ne-eqb (t .key) 0 h) (g ∙ ap (λ n. answerOf (refused n (t .start))) i)
@@ -119,63 +139,105 @@ module _ (s : List ℕ) (rs : Registers) (fs : Functions) (body : State) (t : To
         let l : 256 < sizeBlock b = byTest (leb (sizeBlock b) 256) (λ u. let H = E .low (leb-true (sizeBlock b) 256 u) in let c = H .count in let m = block-length b 0 in let v = leb-true (sizeBlock b) 256 u in absurd (omega arith)) (λ u. leb-false (sizeBlock b) 256 u) in
         rw (← e, eq-eqb (t .key) 0 z, lt-ltb 256 (sizeBlock b) l) g
 
-    pub finish-read : Kept 8 (rs .names) (rs .count) → Kept 4 (fs .names) (fs .count) × Kept 4 (fs .arities) (fs .count) → body .count ≤ 256 → (bin : ℕ) → bin ≡ binaryOf (fs .arities) → (ps : List Point) → ps ≡ each (within 0 (body .count) (body .count)) (body .points)
-        → Finishes s rs fs body (record { refusal = 0; place = 0; program = record { header = record { registers = rs .count; functions = fs .count; binary = bin }; registers = rs .names; functions = fs .names; points = ps; count = body .count } })
+    pub finish-read : Kept 8 (rs .names) (rs .count) → Kept 4 (fs .names) (fs .count) × Kept 4 (fs .arities) (fs .count) → body .count ≤ 256
+        → (bin : ℕ) → bin ≡ binaryOf (fs .arities)
+        → (ps : List Point) → ((b : Block) → sizeBlock b ≤ 256 → Holds blank body (blockCode b 0) → ps ≡ table (map heldPoint (points b)))
+        → Finishes s rs fs body (read rs fs bin ps (body .count))
     unfolding Finishes answerOf heldMacro
     finish-read R (F, A) h bin i ps p b E =
         let l : sizeBlock b ≤ 256 = byTest (leb (sizeBlock b) 256) (λ u. leb-true (sizeBlock b) 256 u) (λ u. let c = E .high (leb-false (sizeBlock b) 256 u) in absurd (omega arith)) in
         let H = E .low l in
         let n : body .count ≡ sizeBlock b = H .count ∙ block-length b 0 in
+        let arities = take (fs .count) (fs .arities) in
         rw (← e, eq-eqb (t .key) 0 z, le-ltb 256 (sizeBlock b) l)
         λ j. record {
           refusal = 0;
           place = 0;
           program = record {
-            header = record { registers = sym (R .size) j; functions = sym (F .size) j; binary = (i ∙ ap binaryOf (A .pad) ∙ binary-padded (take (fs .count) (fs .arities)) (4 - length (take (fs .count) (fs .arities)))) j };
+            header = record {
+              registers = sym (R .size) j;
+              functions = sym (F .size) j;
+              binary = (i ∙ ap binaryOf (A .pad) ∙ binary-padded arities (4 - length arities)) j;
+            };
             registers = R .pad j;
             functions = F .pad j;
-            points = (p ∙ ap (each (within 0 (body .count) (body .count))) (H .points ∙ ap table (sym (append-nil (blockCode b 0)))) ∙ table-range [] (blockCode b 0) [] 0 (body .count) (body .count) refl (zero-add (length (blockCode b 0)) ∙ sym (H .count)) ∙ ap table (append-nil (map (redirected (body .count)) (blockCode b 0))) ∙ ap (λ n. table (map (redirected n) (blockCode b 0))) n ∙ ap table (turned-whole b l)) j;
+            points = p b l H j;
             count = n j;
           };
         }
 
+-- the points of a macro that was read, once the end is put for what follows
+module _ (body : State) (cs xs ys xs′ ys′ : List ℕ) (ps : List Point) (e : xs′ ≡ each (turnedIn 0 (body .count) (body .count)) xs)
+    (f : ys′ ≡ each (turnedIn 0 (body .count) (body .count)) ys)
+    (g : body .count ≤ length (pointsOf cs xs′ ys′) → ps ≡ table (take (body .count) (pointsOf cs xs′ ys′))) where
+  pub points-whole : (b : Block) → sizeBlock b ≤ 256 → Holds blank (heldBy body cs xs ys) (blockCode b 0) → ps ≡ table (map heldPoint (points b))
+  points-whole b l H =
+      let n = body .count in
+      let held = blockCode b 0 in
+      let ts = map (redirected n) held in
+      let size : length ts ≡ n = length-map (redirected n) held ∙ sym (H .count) in
+      let all : pointsOf cs xs′ ys′ ≡ over blank ts =
+      (λ i. pointsOf cs (e i) (f i))
+      ∙ points-range cs xs ys 0 n n
+      ∙ ap (each (within 0 n n)) (H .points ∙ ap (over blank) (sym (append-nil held)))
+      ∙ over-range blank [] held [] 0 n n refl (zero-add (length held) ∙ sym (H .count))
+      ∙ ap (over blank) (append-nil ts) in
+      let more = length-append ts (drop (length ts) blank) in
+      g (omega (arith, ap length all))
+      ∙ ap (λ l. table (take n l)) all
+      ∙ ap (λ k. table (take k (over blank ts))) (sym size)
+      ∙ ap table (take-append-seam ts (drop (length ts) blank))
+      ∙ ap (λ k. table (map (redirected k) held)) (H .count ∙ block-length b 0)
+      ∙ ap table (turned-whole b l)
+
 -- ---- behind the declarations
 
-module _ (s : List ℕ) (rs : Registers) (fs : Functions) (body st : State) (S : st ≡ startOf (fs .at)) (B : BlockRead s (take (rs .count) (rs .names)) (take (fs .count) (fs .names)) (take (fs .count) (fs .arities)) 16 st body) where
+module _ (s : List ℕ) (rs : Registers) (fs : Functions) (body st : Progress) (S : st ≡ startWith (fs .at))
+    (B : BlockRead s (take (rs .count) (rs .names)) (take (fs .count) (fs .names)) (take (fs .count) (fs .arities)) 16 st body) where
   abbrev Body : Got Block
   Body = block s (take (rs .count) (rs .names)) (take (fs .count) (fs .names)) (take (fs .count) (fs .arities)) (2 * length s + 1) 16 (fs .at)
 
-  outcome : Outcome blockCode (startOf (fs .at)) body Body
-  unfolding BlockRead
-  outcome = subst (λ k. Outcome blockCode (startOf (fs .at)) body (block s (take (rs .count) (rs .names)) (take (fs .count) (fs .names)) (take (fs .count) (fs .arities)) k 16 (fs .at))) (one-more (2 * length s)) (begun (2 * length s) (omega arith))
+  outcome : Outcome blockCode (startWith (fs .at)) body Body
+  outcome = subst (λ k. Outcome blockCode (startWith (fs .at)) body (called k)) (one-more (2 * length s)) (begun .outcome (2 * length s) (omega arith))
     where
+      called : ℕ → Got Block
+      called k = block s (take (rs .count) (rs .names)) (take (fs .count) (fs .names)) (take (fs .count) (fs .arities)) k 16 (fs .at)
+
       one-more : (n : ℕ) → suc n ≡ n + 1
       one-more n = omega arith
 
-      begun : BlockRead s (take (rs .count) (rs .names)) (take (fs .count) (fs .names)) (take (fs .count) (fs .arities)) 16 (startOf (fs .at)) body
-      begun = subst (λ st. BlockRead s (take (rs .count) (rs .names)) (take (fs .count) (fs .names)) (take (fs .count) (fs .arities)) 16 st body) S B
+      begun : BlockRead s (take (rs .count) (rs .names)) (take (fs .count) (fs .names)) (take (fs .count) (fs .arities)) 16 (startWith (fs .at)) body
+      begun =
+          subst (λ st. BlockRead s (take (rs .count) (rs .names)) (take (fs .count) (fs .names)) (take (fs .count) (fs .arities)) 16 st body) S B
 
   pub body-refused : body .ok ≡ false → (r : Answer) → r ≡ answerOf (refused (body .number) (body .place)) → r ≡ answerOf (bodyFrom s (take (rs .count) (rs .names)) (take (fs .count) (fs .names)) (take (fs .count) (fs .arities)) (fs .at))
   unfolding bodyFrom
   body-refused h r g = g ∙ go Body outcome
     where
-      go : (x : Got Block) → Outcome blockCode (startOf (fs .at)) body x → answerOf (refused (body .number) (body .place)) ≡ answerOf (onward x λ b e. endFrom s (macroOf rs fs b) e)
+      go : (x : Got Block) → Outcome blockCode (startWith (fs .at)) body x
+          → answerOf (refused (body .number) (body .place)) ≡ answerOf (onward x λ b e. endFrom s (macroOf rs fs b) e)
       go (got b e) o = let k = o .ok in let z : _≡_ {A = ℕ} 0 1 = cc in absurd (omega arith)
-      go (refused n p) (k, i, j) = λ m. answerOf (refused (i m) (j m))
+      go (refused n p) o = λ m. answerOf (refused (o .number m) (o .place m))
       go exhausted o = absurd o
 
   pub body-read : body .ok ≡ true → (r : Answer) → Finishes s rs fs body r → r ≡ answerOf (bodyFrom s (take (rs .count) (rs .names)) (take (fs .count) (fs .names)) (take (fs .count) (fs .arities)) (fs .at))
   unfolding bodyFrom Finishes
   body-read h r g =
-      let (b, e, w, F) = outcome-fine blockCode (startOf (fs .at)) body Body outcome h in
+      let (b, e, w, F) = outcome-fine blockCode (startWith (fs .at)) body Body outcome h in
       let n = block-length b 0 in
-      let E : Ended body b = record { low = λ l. F .laid [] (record { count = refl; points = refl }) (omega arith); high = λ l. F .high (omega arith) } in
+      let begun : Holds blank (startWith (fs .at)) [] = record { size = refl; count = refl; points = refl } in
+      let E : Ended body b = record { low = λ l. F .laid blank [] begun (omega arith); high = λ l. F .high (omega arith) } in
       g b E ∙ ap (λ e. answerOf (endFrom s (macroOf rs fs b) e)) (F .at) ∙ ap (λ x. answerOf (onward x λ b e. endFrom s (macroOf rs fs b) e)) (sym w)
+
+-- arrays of zeros, where reading begins
+pub start-with : (st : State) (at : ℕ) → st ≡ startOf at → heldBy st (replicate 256 0) (replicate 256 0) (replicate 256 0) ≡ startWith at
+start-with st at e = λ i. progressOf (e i) (points-none 256 i)
 
 pub few : (rs : Registers) (fs : Functions) → KeptRegisters rs → KeptFunctions fs → Few (take (rs .count) (rs .names)) (take (fs .count) (fs .names)) (take (fs .count) (fs .arities))
 few rs fs R (F, A) = record { registers = let a = R .size in let b = R .few in omega arith; functions = let a = F .size in let b = F .few in omega arith; arities = A .size ∙ sym (F .size) }
 
-pub start-ready : (rs : Registers) (fs : Functions) (st : State) → st ≡ startOf (fs .at) → KeptRegisters rs → KeptFunctions fs → Ready (take (rs .count) (rs .names)) (take (fs .count) (fs .names)) (take (fs .count) (fs .arities)) st
+pub start-ready : (rs : Registers) (fs : Functions) (st : State) → st ≡ startOf (fs .at) → KeptRegisters rs → KeptFunctions fs
+    → Ready (take (rs .count) (rs .names)) (take (fs .count) (fs .names)) (take (fs .count) (fs .arities)) (st .count)
 start-ready rs fs st h R F = record { few = few rs fs R F; counted = let c = ap (λ st. st .count) h in omega arith }
 
 -- ---- behind the registers

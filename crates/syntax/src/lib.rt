@@ -1,8 +1,9 @@
 // The macro reader: from bytes to a macro (document 01, "Macro text" and "The questions").
+use blocks::Codes;
+use blocks::Follows;
 use blocks::Point;
 use blocks::State;
 use letters::Header;
-use letters::Letter;
 use phrases::Got;
 use tokens::Token;
 ghost use mathlib.Core.Path.{_≡_};
@@ -15,11 +16,14 @@ ghost use Rattle.grammar.specs.Grammar.{binaryOf};
 ghost use Rattle.grammar.specs.Reading.{refused, listedT, registers as registersAt, functions as functionsAt, functionsT, arityOf};
 ghost use Rattle.tokens.specs.Tokens.{tokenAt};
 ghost use Rattle.phrases.specs.Codes.{plain};
-ghost use Rattle.blocks.specs.Held.{unused};
+ghost use Rattle.blocks.specs.Held.{heldBy};
 ghost use Rattle.syntax.specs.Answer.{noMacro, answerOf, heldRegisters, heldFunctions, unfitNumber, bodyFrom, functionsFrom};
 ghost use Rattle.syntax.specs.Lists.{taken, Kept, refusedBy};
 ghost use Rattle.syntax.specs.Reads.{Reads};
 ghost use Rattle.syntax.specs.Top.{KeptRegisters, KeptFunctions, Finishes, startOf, flagOf};
+
+// How deep braces may nest.
+const DEEPEST: usize = 16;
 
 /// A macro. A name is held as one number, its bytes as digits to base 256, the first byte lowest; 0 stands behind the last name.
 pub struct Macro {
@@ -294,22 +298,8 @@ fn no_macro() -> Macro
         },
         registers: [0; 8],
         functions: [0; 4],
-        points: [no_point(); 256],
+        points: [blocks::no_point(); 256],
         count: 0,
-    }
-}
-
-fn no_point() -> Point
-    ensures { λ r. ⌜ r ≡ unused ⌝ }
-{
-    Point {
-        kind: 0,
-        letter: Letter::Copy {
-            target: 0,
-            source: 0,
-        },
-        first: 0,
-        second: 0,
     }
 }
 
@@ -361,24 +351,31 @@ fn start(at: usize) -> State
         place: 0,
         at: at,
         count: 0,
-        points: [no_point(); 256],
     }
 }
 
 // The end of the text, the count of points, and the macro.
-fn finish(text: &[u8], rs: Registers, fs: Functions, body: State) -> Answer
+fn finish(
+    text: &[u8],
+    rs: Registers,
+    fs: Functions,
+    body: State,
+    code: &Codes,
+    first: &mut Follows,
+    second: &mut Follows,
+) -> Answer
     requires { ⌜ KeptRegisters rs × KeptFunctions fs ⌝ }
-    ensures { λ r. ⌜ Finishes (now (text .entry)) rs fs body r ⌝ }
+    ensures { λ r. ⌜ Finishes (now (text .entry)) rs fs (heldBy body (now (code .entry)) (now (first .entry)) (now (second .entry))) r ⌝ }
 {
     let at = body.at;
     let t = tokens::next(text, at);
     if t.key == tokens::END {
         let n = body.count;
-        if 256 < n {
+        if blocks::MOST < n {
             return refused_answer(13, 0);
         }
-        let points = body.points;
-        let table = blocks::redirect_range(points, 0, n, n);
+        blocks::redirect_range(first, second, 0, n, n);
+        let points = blocks::points_of(code, first, second, n);
         let arities = fs.arities;
         let binary = binary_of(arities);
         let registers = rs.names;
@@ -394,7 +391,7 @@ fn finish(text: &[u8], rs: Registers, fs: Functions, body: State) -> Answer
                 },
                 registers: registers,
                 functions: functions,
-                points: table,
+                points: points,
                 count: n,
             },
         };
@@ -413,9 +410,22 @@ fn read_body(text: &[u8], rs: Registers, fs: Functions) -> Answer
     let arities = fs.arities;
     let m = fs.count;
     let st = start(fs.at);
-    let body = blocks::block(text, &regs[..n], &funs[..m], &arities[..m], st, 16);
+    let mut code = [0u64; 256];
+    let mut first = [0u16; 256];
+    let mut second = [0u16; 256];
+    let body = blocks::block(
+        text,
+        &regs[..n],
+        &funs[..m],
+        &arities[..m],
+        st,
+        DEEPEST,
+        &mut code,
+        &mut first,
+        &mut second,
+    );
     if body.ok {
-        return finish(text, rs, fs, body);
+        return finish(text, rs, fs, body, &code, &mut first, &mut second);
     }
     refused_answer(body.number, body.place)
 }

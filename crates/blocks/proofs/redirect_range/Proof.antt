@@ -1,52 +1,19 @@
 use Prim.Native.Nat.{_-_, _≤_}
-use mathlib.Core.Path.{_≡_, _∙_}
 use native.Mathlib.Omega.{arith}
-use lib.ListN.{length}
-use Rattle.base.specs.Each.{done, each-none, each-turn, each-all}
-use Rattle.blocks.specs.Held.{unused}
-use Rattle.blocks.specs.Outcome.{within}
+use mathlib.Core.Path.{_≡_}
 use borrow.Author.Needs.{needs}
+use Rattle.base.specs.Each.{done, each-turn}
+use Rattle.blocks.specs.Outcome.{turnedIn}
+use Rattle.blocks.specs.CodeLaws.{range-begun, range-turn, range-ended}
 use Rattle.blocks.proofs.redirect_range.Statement.{statement}
 use Rattle.blocks.proofs.redirect_range.Tie as tie
-use Rattle.blocks.proofs.redirect_range.Reads as reads
-use Rattle.blocks.proofs.redirect_range.Lts as lts
-use Rattle.blocks.proofs.chosen.Reads as chosen-reads
 
 abbrev Inv-loop : tie.InvT-loop
-Inv-loop from to f next₀ i₀ next i = (i ≤ 256) × (length next₀ ≡ 256) × (next ≡ done (within from to f) i next₀)
+Inv-loop first₀ second₀ from to f i₀ first second i =
+    (from ≤ i) × (first ≡ done (turnedIn from to f) i first₀) × (second ≡ done (turnedIn from to f) i second₀)
 
 abbrev μ-loop : tie.MeasureT-loop
-μ-loop from to f next₀ i₀ next i = 256 - i
-
-loop-holds : tie.Need-loop-holds Inv-loop μ-loop
-loop-holds c = (search needs, search needs, each-none _ _)
-
-mul-p : tie.Need-mul-p Inv-loop μ-loop
-mul-p c = search needs
-
-array-copy-out-p : tie.Need-array-copy-out-p Inv-loop μ-loop
-array-copy-out-p c = search needs
-
-chosen-requires : tie.Need-chosen-requires Inv-loop μ-loop
-chosen-requires c κs = search needs
-
-mul-next : tie.Need-mul-next Inv-loop μ-loop
-mul-next c = search needs
-
-array-set-from-next : tie.Need-array-set-from-next Inv-loop μ-loop
-array-set-from-next c = search needs
-
-add-i : tie.Need-add-i Inv-loop μ-loop
-add-i c = search needs
-
-loop-less : tie.Need-loop-less Inv-loop μ-loop
-loop-less c = search needs
-
-loop-again : tie.Need-loop-again Inv-loop μ-loop
-loop-again c = (search needs, search needs, each-turn _ _ _ _ unused _ ((c .before .before .before .loop .inv) .2) (c .chosen .ensures))
-
-returns : tie.Need-returns Inv-loop μ-loop
-returns c = (c .before .loop .inv) .2 ∙ each-all _ _ _ (omega (arith, (c .before .loop .inv) .1))
+μ-loop first₀ second₀ from to f i₀ first second i = to - i
 
 pub redirect-range-spec : {M : Type 1} → statement M
 redirect-range-spec =
@@ -54,13 +21,26 @@ redirect-range-spec =
     (tie.spec
     Inv-loop
     μ-loop
-    loop-holds
-    mul-p
-    array-copy-out-p
-    chosen-requires
-    mul-next
-    array-set-from-next
-    add-i
-    loop-less
-    loop-again
-    returns)
+    (λ c. (omega arith, range-begun _ _ _ _, range-begun _ _ _ _))
+    (λ c. search needs)
+    (λ c. search needs)
+    (λ c κs. search needs)
+    (λ c. search needs)
+    (λ c. search needs)
+    (λ c. search needs)
+    (λ c. search needs)
+    (λ c κs. search needs)
+    (λ c. search needs)
+    (λ c. search needs)
+    (λ c. search needs)
+    (λ c. search needs)
+    (λ c.
+    let here = c .before .before .before .before in
+    let (low, one, two) = here .before .loop .inv in (
+      omega arith,
+      each-turn _ _ _ _ 0 _ one (range-turn _ _ _ _ _ _ low (here .loop-test .taken) (c .before .before .follow .ensures)),
+      each-turn _ _ _ _ 0 _ two (range-turn _ _ _ _ _ _ low (here .loop-test .taken) (c .follow2 .ensures)),
+    ))
+    (λ c.
+    let (low, one, two) = c .before .loop .inv in
+    (range-ended _ _ _ _ _ _ low (c .loop-test .left) one, range-ended _ _ _ _ _ _ low (c .loop-test .left) two)))
