@@ -28,15 +28,11 @@ fn infeasible(letter: u64) {
     io::write_all(STDOUT_FILENO, b"\n");
 }
 
-fn long(x: u8) -> u64 {
-    x as u64
-}
-
 fn model(bytes: &[u8]) {
     io::write_all(STDOUT_FILENO, b"model ");
     let mut i: usize = 0;
     while i < bytes.len() {
-        io::print_hex(STDOUT_FILENO, long(bytes[i]), 2);
+        io::print_hex(STDOUT_FILENO, bytes[i] as u64, 2);
         i = i + 1;
     }
     io::write_all(STDOUT_FILENO, b"\n");

@@ -3,6 +3,7 @@ use letters::DecodedLetter;
 use letters::Header;
 use letters::Letter;
 use letters::traces::letter_at;
+use tokens::wide;
 ghost use mathlib.Core.Path.{_≡_};
 ghost use mathlib.Core.List.{[], _∷_};
 ghost use Prim.Native.Nat.{_+_, _^_, _<_};
@@ -17,12 +18,6 @@ fn byte_at(bytes: &[u8], at: usize) -> u64
         return wide(bytes[at]);
     }
     0
-}
-
-fn wide(byte: u8) -> u64
-    ensures { λ r. ⌜ (r ≡ byte) × (r < 256) ⌝ }
-{
-    byte as u64
 }
 
 /// The two bytes at `at` as a number.

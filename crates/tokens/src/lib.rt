@@ -173,10 +173,11 @@ fn is_mark(b: u8) -> bool
     b == b'!'
 }
 
-fn wide(b: u8) -> u64
-    ensures { λ r. ⌜ r ≡ b ⌝ }
+/// A byte as a number of eight bytes.
+pub fn wide(byte: u8) -> u64
+    ensures { λ r. ⌜ (r ≡ byte) × (r < 256) ⌝ }
 {
-    b as u64
+    byte as u64
 }
 
 // The first place at or after `from` that is no blank and in no comment.

@@ -1,4 +1,5 @@
 use Prim.Native.Nat.{_-_, _≤_}
+use native.Mathlib.Omega.{arith}
 use lib.ListN.{length}
 use borrow.Author.Needs.{needs}
 use Rattle.model_lines.proofs.model.Statement.{statement}
@@ -20,7 +21,7 @@ model-spec =
     (λ c κs. search needs)
     (λ c. search needs)
     (λ c. search needs)
-    (λ c κs. search needs)
+    (λ c. record { fits = omega (arith, c .shared-slice-known2 .given (c .before .before .loop .i)) })
     (λ c κs. search needs)
     (λ c. search needs)
     (λ c. search needs)
