@@ -18,7 +18,7 @@ use Rattle.grammar.specs.Spelled.{InOrder, Arities, none, one, two}
 use Rattle.blocks.specs.Held.{heldPoint}
 use Rattle.syntax.specs.declared.Macro as struct
 use Rattle.syntax.specs.Answer.{heldMacro}
-use Rattle.table.specs.Table.{capacityOf}
+use Rattle.verdicts.specs.Capacity.{capacityOf}
 use Rattle.verdicts.specs.Verdict.{Kind, breaking, failing, showing, packed, Delivered, Verdict}
 use Rattle.verdicts.specs.Demand3.{pairsIn}
 use Rattle.search.specs.declared.Packed.{Packed}

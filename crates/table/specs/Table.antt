@@ -1,5 +1,5 @@
 -- The table of pairs: "Pair number k lies in bytes 192 times k onward, k from 0" (document 01, "The search for a verdict").
-use Prim.Native.Nat.{ℕ, zero, suc, _+_, _*_, _/_, min}
+use Prim.Native.Nat.{ℕ, zero, suc, _+_, _*_}
 use mathlib.Core.Bool.{Bool, true, false}
 use mathlib.Core.List.{List, [], _∷_, _++_}
 use lib.Dec.{eqb}
@@ -9,10 +9,6 @@ use Rattle.window.specs.declared.Window.{Window}
 use Rattle.records.specs.Records.{pointIn, parentIn, branchIn, windowIn}
 use Rattle.table.specs.declared.Found.{Found}
 use Rattle.table.specs.declared.Found.the-variants.{At, Nowhere}
-
--- "The table holds N pairs: the lesser of 1,024 and the lent bytes divided by 192, rounded down."
-unfoldable pub capacityOf : ℕ → ℕ
-capacityOf length = min 1024 (length / 192)
 
 -- The bytes from record k on.
 abbrev pub onward : List ℕ → ℕ → List ℕ

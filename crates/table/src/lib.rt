@@ -4,7 +4,8 @@ ghost use mathlib.Core.Path.{_≡_};
 ghost use Prim.Native.Nat.{_+_, _*_, _≤_, _<_};
 ghost use lib.ListN.{length, replicate};
 ghost use Rattle.records.specs.Records.{recordOf};
-ghost use Rattle.table.specs.Table.{capacityOf, putAt, pointAt, parentAt, branchAt, windowAt, sameFront, findOf};
+ghost use Rattle.verdicts.specs.Capacity.{capacityOf};
+ghost use Rattle.table.specs.Table.{putAt, pointAt, parentAt, branchAt, windowAt, sameFront, findOf};
 
 /// Where a pair was found.
 pub enum Found {

@@ -32,7 +32,7 @@ use Rattle.search.specs.Given.{setting}
 use Rattle.search.specs.TracedLaws.{formed-fit}
 use Rattle.verdicts.specs.Verdict.{Answer, refused, full, unfit, IsPass, Kind, breaking, failing, showing, packed, Delivered, OfKind, Leaves, SamePair, EventAt, PairCount, PairsPass, Shows, Verdict}
 use Rattle.verdicts.specs.Counting.{more-is}
-use Rattle.verdicts.specs.Demand3.{mostPairs}
+use Rattle.verdicts.specs.Capacity.{mostPairs}
 use Rattle.report.specs.Shown.{modelStart}
 use Rattle.verdict_lines.specs.Short.{few-letters}
 use Rattle.verdict_lines.specs.Prints.{tablePairs}

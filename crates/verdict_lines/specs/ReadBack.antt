@@ -20,7 +20,8 @@ use Rattle.semantics.specs.Shown.{tablesOf}
 use Rattle.grammar.specs.Grammar.{Macro, headerOf}
 use Rattle.refusals.specs.Accepted.{Accepted, Outcome, accepted, refused, Becomes, an-outcome}
 use Rattle.verdicts.specs.Verdict.{Kind, breaking, failing, showing, fail, incoherent, packed, Delivered, Event, Shows, Verdict}
-use Rattle.verdicts.specs.Demand3.{mostPairs, pairsIn, Demand3}
+use Rattle.verdicts.specs.Capacity.{mostPairs, capacityOf}
+use Rattle.verdicts.specs.Demand3.{pairsIn, Demand3}
 use Rattle.verdicts.specs.Shortest.{shown-shortest}
 use Rattle.search.specs.MacroSearch.{header-fits}
 use Rattle.report.specs.Shown.{modelStart}
@@ -101,6 +102,7 @@ module _ (text table output : List ℕ) where
       ls = t .execution
 
       few : length ls ≤ mostPairs
+      unfolding capacityOf
       few =
           let (p, q) = answer-short m (a .in-order) (a .few) (pairsIn table) output (showing kind pairs letters) output′ v
           (showing-not-full kind pairs letters) (showing-not-pass kind pairs letters) kind pairs letters refl in

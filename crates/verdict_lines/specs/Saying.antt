@@ -2,7 +2,7 @@
 use mathlib.Core.Path.{_≡_, refl, sym, ap, _∙_, subst}
 use mathlib.Core.Logic.{_⊎_, _≢_, inl, inr}
 use mathlib.Core.List.{List, [], _∷_, _++_, append-assoc}
-use Prim.Native.Nat.{ℕ, zero, suc, _-_, _/_, _%_, _≤_, min}
+use Prim.Native.Nat.{ℕ, zero, suc, _-_, _%_, _≤_}
 use native.Mathlib.Omega.{arith}
 use lib.ListN.{length, getD, drop, replicate}
 use Rattle.letters.specs.declared.Letter.{Letter}
@@ -26,6 +26,7 @@ use Rattle.syntax.specs.Reads.{Reads}
 use Rattle.syntax.specs.declared.Macro as held
 use Rattle.verdicts.specs.Verdict.{full, IsPass, Kind, breaking, failing, showing, packed, Shows, Verdict}
 use Rattle.verdicts.specs.Verdict as verdict
+use Rattle.verdicts.specs.Capacity.{capacityOf}
 use Rattle.verdicts.specs.Demand3.{pairsIn, Demand3}
 use Rattle.search.specs.declared.Verdict as search
 use Rattle.search.specs.declared.Verdict.the-variants.{Pass, Fail, Incoherent, Refused}
@@ -218,7 +219,8 @@ module _ (text : List ℕ) (read : syntax.Answer) (reads : Reads text read) wher
 module _ (text table output : List ℕ) (size : length table ≡ 65536) (room : length output ≡ 4096) (v : search.Verdict) (table′ output′ : List ℕ)
     (demand : Demand3 Feasible text table output (answerOf v) table′ output′) where
   pairs : pairsIn table ≡ tablePairs
-  pairs = ap (λ n. min 1024 (n / 192)) size
+  unfolding capacityOf
+  pairs = ap capacityOf size
 
   judged : (m : Macro) → Accepted text m → Right m v output′
   judged m a =

@@ -2,7 +2,7 @@
 -- the lent table, the lent output, and the answer.
 use mathlib.Core.Path.{_≡_}
 use mathlib.Core.List.{List}
-use Prim.Native.Nat.{ℕ, _/_, min}
+use Prim.Native.Nat.{ℕ}
 use lib.ListN.{length, replicate}
 use Rattle.letters.specs.Editions.{firstEdition}
 use Rattle.semantics.specs.Terms.{State, begin}
@@ -10,17 +10,12 @@ use Rattle.semantics.specs.PackedTables.{firstRowWidths}
 use Rattle.grammar.specs.Grammar.{Macro, headerOf}
 use Rattle.refusals.specs.Order.{Refusal}
 use Rattle.refusals.specs.Accepted.{Accepted}
+use Rattle.verdicts.specs.Capacity.{capacityOf}
 use Rattle.verdicts.specs.Verdict.{Answer, refused, Verdict}
 
--- "The table holds N pairs: the lesser of 1,024 and the lent bytes divided by 192, rounded down."
-abbrev pub mostPairs : ℕ
-mostPairs = 1024
-
-abbrev pub pairBytes : ℕ
-pairBytes = 192
-
+-- N of a lent table.
 abbrev pub pairsIn : List ℕ → ℕ
-pairsIn table = min mostPairs (length table / pairBytes)
+pairsIn table = capacityOf (length table)
 
 -- `table` and `output` are lent; `table′` and `output′` are what they hold afterwards.
 -- Possible σ: some data model satisfies the tests of the state σ. The models are finite ones, or of any values (Verdict).

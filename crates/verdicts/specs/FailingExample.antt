@@ -32,6 +32,7 @@ use Rattle.macros.specs.Runs.{partial-is, run-once, run-steps}
 use Rattle.verdicts.specs.Count.{Counted}
 use Rattle.verdicts.specs.Verdict.{Answer, fail, full, IsPass, Kind, breaking, failing, showing, packed, Delivered, Shows, Verdict, Breaks, Event, EventAt, Leaves, SamePair, PairCount, PairsPass}
 use Rattle.verdicts.specs.Verdict
+use Rattle.verdicts.specs.Capacity.{capacityOf}
 use Rattle.verdicts.specs.Demand3.{pairsIn, Demand3}
 use Rattle.verdicts.specs.Examples.{claim-text, claim-macro, claim-accepted}
 
@@ -175,6 +176,7 @@ possible = feasible-is (state fails-so) (state-valid fails-so (tt, (omega arith,
 -- With room for one pair and twelve bytes of output, this is the answer, and these are the bytes.
 pub claim-text-only : (table output : List ℕ) → 192 ≤ length table → 12 ≤ length output → (answer : Answer) (table′ output′ : List ℕ) → Demand3 Feasible claim-text table output answer table′ output′
     → (answer ≡ fail 1 1) × (table′ ≡ replicate (length table) 0) × (output′ ≡ 32 ∷ 0 ∷ 192 ∷ 8 ∷ 0 ∷ 3 ∷ 0 ∷ 0 ∷ 0 ∷ 1 ∷ 0 ∷ 2 ∷ drop 12 output)
+unfolding capacityOf
 claim-text-only table output wide long answer table′ output′ x =
     told (claim-only Feasible possible firstEdition firstRowWidths (pairsIn table) (omega arith) output answer output′ (x .verdict claim-macro claim-accepted))
   where

@@ -9,6 +9,7 @@ pub mod Answers
 pub mod Unique
 pub mod Total
 pub mod Trail
+pub mod Capacity
 pub mod Demand3
 pub mod Settled
 pub mod Shortest
