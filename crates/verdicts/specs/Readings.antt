@@ -1,15 +1,16 @@
 -- The two readings of the verdict and of demand 3 are one: over finite data models, and over data models of any values.
 -- Document 01: "infinite models change nothing".
 use mathlib.Core.Path.{_≡_, refl}
-use mathlib.Core.Logic.{inl, _↔_, Iff·symm}
+use mathlib.Core.Logic.{inl, _↔_, _≢_, Iff·symm}
 use mathlib.Core.List.{List}
 use Prim.Native.Nat.{ℕ}
+use native.Mathlib.Omega.{arith}
 use Rattle.letters.specs.declared.Header.{Header}
 use Rattle.letters.specs.declared.Letter.{Letter}
 use Rattle.letters.specs.Editions.{Edition, firstEdition}
 use Rattle.semantics.specs.Terms.{Trace, begin, State, extend, state}
 use Rattle.semantics.specs.Models.{Feasible}
-use Rattle.semantics.specs.AnyModel.{FeasibleInSomeModel}
+use Rattle.semantics.specs.AnyModel.{AnyModel, SatisfiesIn, FeasibleInSomeModel}
 use Rattle.semantics.specs.PackedTables.{RowWidths, firstRowWidths}
 use Rattle.semantics.specs.Facts.{state-valid}
 use Rattle.semantics.specs.PaperLaws.{feasible-anywhere}
@@ -22,7 +23,7 @@ use Rattle.macros.specs.Fitting.{Formed, run-formed}
 use Rattle.grammar.specs.Grammar.{Macro, headerOf}
 use Rattle.refusals.specs.Accepted.{Accepted}
 use Rattle.verdicts.specs.Counting.{same-lists, same-more}
-use Rattle.verdicts.specs.Verdict.{Answer, Kind, Event, breaks, fails, FirstEvent, EventAt, Leaves, SamePair, PairCount, PairsPass, Shows, Verdict}
+use Rattle.verdicts.specs.Verdict.{Answer, pass, full, Kind, Event, breaks, fails, FirstEvent, EventAt, Leaves, SamePair, PairCount, PairsPass, Shows, Verdict}
 use Rattle.verdicts.specs.Demand3.{pairsIn, Demand3}
 
 -- ── two readings that have the same events ──
@@ -120,3 +121,11 @@ module _ {ℓ} (text table output : List ℕ) (answer : Answer) (table′ output
     λ x. record { unread = x .unread; verdict = λ m a. accepted-anywhere m a .0 (x .verdict m a); zeroed = x .zeroed },
     λ x. record { unread = x .unread; verdict = λ m a. accepted-anywhere m a .1 (x .verdict m a); zeroed = x .zeroed },
   )
+
+-- Where pass is answered, no data model whatever reaches a false assertion.
+pub passes-anywhere {ℓ} : (text table output : List ℕ) (k : ℕ) (table′ output′ : List ℕ) → Demand3 Feasible text table output (pass k) table′ output′
+    → (m : Macro) → Accepted text m → (ρ : Trace) → Failing (begin (headerOf m)) (m .body) ρ
+    → (M : AnyModel {ℓ}) → ¬ SatisfiesIn M (state ρ .equals) (state ρ .unequals)
+passes-anywhere text table output k table′ output′ x m a ρ y M h =
+    let u : pass k ≢ full = λ e. let z : _≡_ {A = ℕ} 0 1 = cc in omega arith in
+    anywhere {ℓ} text table output (pass k) table′ output′ .0 x .verdict m a .pass-exactly u .0 tt .1 ρ y (M, h)
