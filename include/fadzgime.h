@@ -1,5 +1,6 @@
 /*
- * The proved trace monitor, whole-trace engine, macro reader and verdict on a macro.
+ * The proved trace reader and writer, trace monitor, whole-trace engine, macro reader
+ * and verdict on a macro.
  *
  * Every function takes lent slices, each as a pointer and a length, which must not
  * overlap, and puts its answer as numbers into the slice `answer`. Where that slice
@@ -25,6 +26,95 @@ extern "C" {
  */
 void fadzgime_monitor(const uint8_t *trace, size_t trace_length,
                       uint64_t *answer, size_t answer_length);
+
+/*
+ * Writes the packed trace of a header and unpacked letters.
+ *
+ * `two_arguments` is a mask: bit f is set if function f takes two arguments. An
+ * unpacked letter has five bytes: kind (0 copy, 1 application, 2 equal test,
+ * 3 unequal test), function, target, first, second. A copy uses target and first, a
+ * test first and second; an application uses all, but second only if its function
+ * takes two arguments. What a letter does not use is 0.
+ * answer[0] refusal (3, 4, 6), [1] place, [2] bytes of the trace written to `out`,
+ * 2 + 2 * letters of them; the bytes behind stay.
+ */
+void fadzgime_write(uint8_t registers, uint8_t functions, uint8_t two_arguments,
+                    const uint8_t *letters, size_t letters_length,
+                    uint8_t *out, size_t out_length,
+                    uint64_t *answer, size_t answer_length);
+
+/*
+ * Reads a packed trace of any length into its unpacked letters, as fadzgime_write
+ * takes them: one writes what the other reads.
+ * answer[0] refusal (1, 2, 3, 4, 6), [1] place, [2] registers, [3] functions,
+ * [4] mask of the functions of two arguments, [5] letters: 5 * answer[5] bytes of
+ * `out`; the bytes behind stay. A trace of n bytes has at most n / 2 - 1 letters.
+ */
+void fadzgime_read_trace(const uint8_t *trace, size_t trace_length,
+                         uint8_t *out, size_t out_length,
+                         uint64_t *answer, size_t answer_length);
+
+/*
+ * The monitor, a letter a call, and the same run over a trace whose bytes come in
+ * parts. What is kept between calls stands in a state, lent as bytes. Its first byte
+ * says what it is; the rest is the library's. A start needs no contents before it.
+ * Copy a state to go on from it twice.
+ */
+#define FADZGIME_MONITOR_STATE 318
+#define FADZGIME_STREAM_STATE 346
+/* answer[0] if the state is too short or holds something else: nothing is done. */
+#define FADZGIME_NO_STATE 255
+
+/*
+ * Starts a monitor with a header's word, the first byte of a trace the more
+ * significant.
+ * answer[0] refusal (3), [1] place (0), [2] 1 if the monitor runs, [3] 1 if it is
+ * infeasible. A refusal leaves the state as it was.
+ */
+void fadzgime_monitor_start(uint16_t header,
+                            uint8_t *state, size_t state_length,
+                            uint64_t *answer, size_t answer_length);
+
+/*
+ * Takes a letter's word.
+ * answer[0] refusal (4), [1] place (0), [2] 1 if the monitor runs: all letters taken
+ * are coherent; [3] 1 if their longest coherent beginning is infeasible. A refusal
+ * leaves the state as it was; a monitor that has stopped takes letters and does no
+ * more.
+ *
+ *     uint8_t state[FADZGIME_MONITOR_STATE];
+ *     uint64_t answer[4];
+ *     fadzgime_monitor_start(header, state, sizeof state, answer, 4);
+ *     while (answer[0] == 0 && answer[2] == 1 && next_letter(&word)) {
+ *         fadzgime_monitor_step(word, state, sizeof state, answer, 4);
+ *     }
+ */
+void fadzgime_monitor_step(uint16_t letter,
+                           uint8_t *state, size_t state_length,
+                           uint64_t *answer, size_t answer_length);
+
+/*
+ * The run of fadzgime_monitor over bytes that come in parts of any lengths:
+ *
+ *     uint8_t state[FADZGIME_STREAM_STATE];
+ *     uint64_t answer[4];
+ *     fadzgime_stream_start(state, sizeof state, answer, 1);
+ *     while ((n = fread(part, 1, sizeof part, file)) > 0) {
+ *         fadzgime_stream_push(part, n, state, sizeof state, answer, 1);
+ *     }
+ *     fadzgime_stream_finish(state, sizeof state, answer, 4);
+ *
+ * start and push: answer[0] is 0 or FADZGIME_NO_STATE. finish: answer as that of
+ * fadzgime_monitor for all the bytes together, or FADZGIME_NO_STATE; it changes
+ * nothing, so more bytes may follow.
+ */
+void fadzgime_stream_start(uint8_t *state, size_t state_length,
+                           uint64_t *answer, size_t answer_length);
+void fadzgime_stream_push(const uint8_t *bytes, size_t bytes_length,
+                          uint8_t *state, size_t state_length,
+                          uint64_t *answer, size_t answer_length);
+void fadzgime_stream_finish(const uint8_t *state, size_t state_length,
+                            uint64_t *answer, size_t answer_length);
 
 /*
  * Shows a data model of a packed trace of at most 1,024 letters, coherent or not.

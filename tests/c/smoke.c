@@ -29,7 +29,39 @@ int main(void) {
     static const uint8_t *const passing = (const uint8_t *)loop;
     uint8_t table[576];
     uint8_t out[64];
-    uint64_t answer[5];
+    uint64_t answer[6];
+    /* The same letters unpacked, and again with the argument twice. */
+    static const uint8_t letters[] = {1, 0, 2, 0, 0, 2, 0, 0, 0, 1};
+    static const uint8_t twice[] = {1, 0, 2, 1, 1};
+    uint8_t state[FADZGIME_STREAM_STATE];
+
+    fadzgime_write(3, 1, 0, letters, sizeof letters, out, sizeof out, answer, 3);
+    show("write", answer, 3);
+    show_bytes(out, (size_t)answer[2]);
+    fadzgime_write(3, 1, 0, twice, sizeof twice, out, sizeof out, answer, 3);
+    show("write", answer, 3);
+    fadzgime_read_trace(trace, sizeof trace, out, sizeof out, answer, 6);
+    show("read_trace", answer, 6);
+    show_bytes(out, 5 * (size_t)answer[5]);
+
+    fadzgime_monitor_step(0x4400, state, 0, answer, 4);
+    show("monitor_step", answer, 4);
+    fadzgime_monitor_start(0x3200, state, sizeof state, answer, 4);
+    show("monitor_start", answer, 4);
+    fadzgime_monitor_step(0x4400, state, sizeof state, answer, 4);
+    show("monitor_step", answer, 4);
+    fadzgime_monitor_step(0xffff, state, sizeof state, answer, 4);
+    show("monitor_step", answer, 4);
+    fadzgime_monitor_step(0xc000, state, sizeof state, answer, 4);
+    show("monitor_step", answer, 4);
+
+    fadzgime_stream_start(state, sizeof state, answer, 1);
+    fadzgime_stream_push(trace, 3, state, sizeof state, answer, 1);
+    fadzgime_stream_finish(state, sizeof state, answer, 4);
+    show("stream", answer, 4);
+    fadzgime_stream_push(trace + 3, sizeof trace - 3, state, sizeof state, answer, 1);
+    fadzgime_stream_finish(state, sizeof state, answer, 4);
+    show("stream", answer, 4);
 
     fadzgime_monitor(trace, sizeof trace, answer, 4);
     show("monitor", answer, 4);

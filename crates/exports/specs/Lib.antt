@@ -1,3 +1,5 @@
 pub mod Numbers
 pub mod Held
 pub mod Judging
+pub mod TraceCalls
+pub mod MonitorCalls

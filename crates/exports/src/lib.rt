@@ -17,6 +17,11 @@ ghost use Rattle.exports.specs.Held.{heldNumbers};
 ghost use Rattle.search.specs.Answering as search;
 ghost use Rattle.exports.specs.Judging.{verdictNumbers, Judging};
 
+/// Traces written and read.
+pub mod traces;
+/// The monitor, a letter a call, and the run over a trace in parts.
+pub mod calls;
+
 // Stores the numbers over the front of the answer.
 fn store(numbers: &[u64], answer: &mut [u64])
     requires { ⌜ length (now numbers) ≤ length (now answer) ⌝ }

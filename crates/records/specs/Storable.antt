@@ -93,12 +93,12 @@ eight-back : (bytes part : List ℕ) (place : ℕ) → length part ≡ 8 → ((i
 unfolding eightIn
 eight-back bytes part place h f = sym (table-is (λ i. getD bytes (place + i) 0) 8 part 0 h (λ i l. sym (f i l)))
 
-flag-back : (b : Bool) → isSet (flag b) ≡ b
+pub flag-back : (b : Bool) → isSet (flag b) ≡ b
 unfolding isSet flag
 flag-back true = refl
 flag-back false = refl
 
-flags-back : (l : List Bool) → map isSet (map flag l) ≡ l
+pub flags-back : (l : List Bool) → map isSet (map flag l) ≡ l
 flags-back [] = refl
 flags-back (b ∷ l) = rw (flag-back b, flags-back l)
 

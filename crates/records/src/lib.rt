@@ -27,8 +27,8 @@ const BRANCH: usize = 159;
 
 // ---- writing
 
-// Lays `part` over the bytes from `at` on.
-fn lay(bytes: &mut [u8], at: usize, part: &[u8])
+/// Lays `part` over the bytes from `at` on. For writers that have checked their room.
+pub fn lay(bytes: &mut [u8], at: usize, part: &[u8])
     requires { ⌜ at + length (now part) ≤ length (now bytes) ⌝ }
     ensures { λ _. ⌜ now (bytes .exit) ≡ take at (now (bytes .entry)) ++ now (part .entry) ++ drop (at + length (now (part .entry))) (now (bytes .entry)) ⌝ }
     ensures long { λ _. ⌜ length (now (bytes .exit)) ≡ length (now (bytes .entry)) ⌝ }
@@ -77,13 +77,15 @@ fn codes(result: [u8; 256], ever: [u8; 32]) -> [u8; 128]
     codes
 }
 
-fn flagged(b: bool) -> u8
+/// A bool as a byte.
+pub fn flagged(b: bool) -> u8
     ensures { λ r. ⌜ r ≡ flag b ⌝ }
 {
     if b { 1 } else { 0 }
 }
 
-fn flags(marks: [bool; 8]) -> [u8; 8]
+/// Marks as bytes.
+pub fn flags(marks: [bool; 8]) -> [u8; 8]
     ensures { λ r. ⌜ r ≡ map flag marks ⌝ }
 {
     let mut flags = [0u8; 8];
@@ -205,7 +207,8 @@ fn eight(part: &[u8], at: usize) -> [u8; 8]
     bytes
 }
 
-fn marks(flags: [u8; 8]) -> [bool; 8]
+/// The marks that these bytes stand for.
+pub fn marks(flags: [u8; 8]) -> [bool; 8]
     ensures { λ r. ⌜ r ≡ map isSet flags ⌝ }
 {
     let mut marks = [false; 8];

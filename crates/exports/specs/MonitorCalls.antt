@@ -1,0 +1,116 @@
+-- What the calls of the monitor, a letter a call, and of the run over a trace in parts leave: every number of the answer and every byte of the state,
+-- and what they mean for the trace or the bytes taken so far.
+use mathlib.Core.Path.{_≡_}
+use Prim.Native.Nat.{ℕ, _≤_, _<_}
+use mathlib.Core.Bool.{Bool, true, false}
+use mathlib.Core.List.{List, [], _∷_, _++_}
+use lib.Dec.{ltb, eqb}
+use lib.ListN.{length, getD, drop}
+use Rattle.base.specs.Choice.{pick}
+use Rattle.letters.specs.declared.Header.{Header}
+use Rattle.letters.specs.declared.Letter.{Letter}
+use Rattle.letters.specs.Letters.{Fits}
+use Rattle.letters.specs.Answers.{value, onAnswer}
+use Rattle.letters.specs.Editions.{firstEdition}
+use Rattle.letters.specs.Words.{HeaderFits, headerWord, letterWord}
+use Rattle.letters.specs.Traces.{letterCount}
+use Rattle.semantics.specs.Terms.{Trace, begin, _▸_, state}
+use Rattle.records.specs.Records.{flag}
+use Rattle.monitoring.specs.Monitor.{outcomeAnswer, startOf, advance}
+use Rattle.monitoring.specs.Run.{last, verdictAnswer}
+use Rattle.monitoring.specs.Stream.{emptyStream, pushedAll, finishedOf}
+use Rattle.monitoring.specs.Demand2.{Demand2}
+use Rattle.monitoring.specs.Meanings.{Monitors, Streams}
+use Rattle.monitoring.specs.declared.Outcome.{Outcome}
+use Rattle.monitoring.specs.declared.Stepped.{Stepped}
+use Rattle.states.specs.States.{monitorSize, streamSize, monitorThen, monitorIn, streamThen, streamIn}
+use Rattle.exports.specs.Numbers.{runNumbers}
+
+-- the first byte of a state
+abbrev pub monitorKind : ℕ
+monitorKind = 1
+
+abbrev pub streamKind : ℕ
+streamKind = 2
+
+-- Document 01 has no number for a state that is too short or of another kind.
+abbrev pub noState : ℕ
+noState = 255
+
+abbrev pub noStateNumbers : List ℕ
+noStateNumbers = noState ∷ 0 ∷ 0 ∷ 0 ∷ []
+
+-- whether a state is long enough and of this kind
+unfoldable pub holdsState : ℕ → ℕ → List ℕ → Bool
+holdsState kind size s = pick (ltb (length s) size) (λ _. false) λ _. eqb (getD s 0 0) kind
+
+-- ---- a letter a call
+
+abbrev pub outcomeNumber : Outcome → ℕ
+outcomeNumber o = onAnswer (outcomeAnswer o) (λ _. 0) λ number _. number
+
+-- refusal, place, whether the monitor runs, its infeasible mark
+unfoldable pub steppedNumbers : Stepped → List ℕ
+steppedNumbers r = outcomeNumber (r .outcome) ∷ 0 ∷ flag (r .monitor .running) ∷ flag (r .monitor .window .infeasible) ∷ []
+
+-- the state after a call that gave r; "its window unchanged" where it is refused
+unfoldable pub keptOver : Stepped → List ℕ → List ℕ
+keptOver r s = onAnswer (outcomeAnswer (r .outcome)) (λ _. monitorThen monitorKind (r .monitor) (drop monitorSize s)) λ _ _. s
+
+-- what storing it leaves
+pub record KeepsStep (r : Stepped) (entry exit : List ℕ) : Type 0 where
+  pub bytes : exit ≡ keptOver r entry
+  pub back : outcomeAnswer (r .outcome) ≡ value tt → (getD exit 0 0 ≡ monitorKind) × (monitorIn exit ≡ r .monitor)
+
+-- The state of the monitor after the letters of a trace.
+pub record HoldsMonitor (ρ : Trace) (s : List ℕ) : Type 0 where
+  pub kind : getD s 0 0 ≡ monitorKind
+  pub monitors : Monitors ρ (monitorIn s)
+
+pub record StartsMonitor (word : ℕ) (entry answer exit answer′ : List ℕ) : Type 0 where
+  -- no room for the four numbers: nothing is done
+  pub short : length answer < 4 → (exit ≡ entry) × (answer′ ≡ answer)
+  -- no room for a monitor
+  pub none : 4 ≤ length answer → length entry < monitorSize → (exit ≡ entry) × (answer′ ≡ noStateNumbers ++ drop 4 answer)
+  pub started : 4 ≤ length answer → monitorSize ≤ length entry
+      → (exit ≡ keptOver (startOf word) entry) × (answer′ ≡ steppedNumbers (startOf word) ++ drop 4 answer)
+  pub holds : 4 ≤ length answer → monitorSize ≤ length entry → (h : Header) → HeaderFits firstEdition h
+      → headerWord firstEdition h ≡ word → HoldsMonitor (begin h) exit
+
+pub record StepsMonitor (word : ℕ) (entry answer exit answer′ : List ℕ) : Type 0 where
+  pub short : length answer < 4 → (exit ≡ entry) × (answer′ ≡ answer)
+  -- no monitor's state
+  pub none : 4 ≤ length answer → holdsState monitorKind monitorSize entry ≡ false → (exit ≡ entry) × (answer′ ≡ noStateNumbers ++ drop 4 answer)
+  pub stepped : 4 ≤ length answer → holdsState monitorKind monitorSize entry ≡ true
+      → (exit ≡ keptOver (advance (monitorIn entry) word) entry) × (answer′ ≡ steppedNumbers (advance (monitorIn entry) word) ++ drop 4 answer)
+  pub holds : 4 ≤ length answer → monitorSize ≤ length entry → (ρ : Trace) → HoldsMonitor ρ entry → (a : Letter) → Fits (state ρ .header) a
+      → letterWord firstEdition (state ρ .header) a ≡ word → HoldsMonitor (ρ ▸ a) exit
+
+-- ---- bytes in parts of any lengths
+
+-- The state of the run over these bytes.
+pub record HoldsStream (bytes s : List ℕ) : Type 0 where
+  pub kind : getD s 0 0 ≡ streamKind
+  pub streams : Streams bytes (streamIn s)
+
+pub record StartsStream (entry answer exit answer′ : List ℕ) : Type 0 where
+  pub short : length answer < 1 → (exit ≡ entry) × (answer′ ≡ answer)
+  pub none : 1 ≤ length answer → length entry < streamSize → (exit ≡ entry) × (answer′ ≡ noState ∷ drop 1 answer)
+  pub started : 1 ≤ length answer → streamSize ≤ length entry
+      → (exit ≡ streamThen streamKind emptyStream (drop streamSize entry)) × (answer′ ≡ 0 ∷ drop 1 answer)
+  pub holds : 1 ≤ length answer → streamSize ≤ length entry → HoldsStream [] exit
+
+pub record PushesStream (bytes entry answer exit answer′ : List ℕ) : Type 0 where
+  pub short : length answer < 1 → (exit ≡ entry) × (answer′ ≡ answer)
+  pub none : 1 ≤ length answer → holdsState streamKind streamSize entry ≡ false → (exit ≡ entry) × (answer′ ≡ noState ∷ drop 1 answer)
+  pub pushed : 1 ≤ length answer → holdsState streamKind streamSize entry ≡ true
+      → (exit ≡ streamThen streamKind (pushedAll (streamIn entry) bytes) (drop streamSize entry)) × (answer′ ≡ 0 ∷ drop 1 answer)
+  pub holds : 1 ≤ length answer → streamSize ≤ length entry → (earlier : List ℕ) → HoldsStream earlier entry → HoldsStream (earlier ++ bytes) exit
+
+pub record FinishesStream (entry answer answer′ : List ℕ) : Type 0 where
+  pub short : length answer < 4 → answer′ ≡ answer
+  pub none : 4 ≤ length answer → holdsState streamKind streamSize entry ≡ false → answer′ ≡ noStateNumbers ++ drop 4 answer
+  pub finished : 4 ≤ length answer → holdsState streamKind streamSize entry ≡ true
+      → answer′ ≡ runNumbers (verdictAnswer (finishedOf (streamIn entry))) ++ drop 4 answer
+  -- demand 2 for all the bytes together
+  pub meets : (bytes : List ℕ) → HoldsStream bytes entry → letterCount firstEdition bytes ≤ last → Demand2 bytes (verdictAnswer (finishedOf (streamIn entry)))

@@ -1,0 +1,176 @@
+// The monitor for Rust and C, a letter a call, and the run over a trace whose bytes come in parts of any lengths. What is kept between the calls
+// stands in a lent state of a fixed size; a state that is too short or of another kind is answered by NO_STATE, and nothing else is done.
+use super::run_numbers;
+use super::store;
+use monitoring::Outcome;
+use monitoring::Stepped;
+use monitoring::starting;
+use monitoring::stepping;
+use monitoring::streaming;
+use records::flagged;
+use states::monitor_in;
+use states::put_monitor;
+use states::put_stream;
+use states::stream_in;
+ghost use mathlib.Core.Path.{_≡_};
+ghost use Prim.Native.Nat.{_≤_};
+ghost use lib.ListN.{length};
+ghost use Rattle.states.specs.States.{monitorSize};
+ghost use Rattle.exports.specs.MonitorCalls.{holdsState, outcomeNumber, steppedNumbers, KeepsStep, StartsMonitor, StepsMonitor};
+ghost use Rattle.exports.specs.MonitorCalls.{StartsStream, PushesStream, FinishesStream};
+
+// The first byte of a state: what it is.
+const MONITOR: u8 = 1;
+
+const STREAM: u8 = 2;
+
+// How many bytes a state has: specs/States.antt of the crate `states`.
+const MONITOR_SIZE: usize = 318;
+
+const STREAM_SIZE: usize = 346;
+
+// What is answered for a state that is too short or of another kind; document 01 has no such number.
+const NO_STATE: u64 = 255;
+
+// How many numbers a call answers.
+const STEP_NUMBERS: usize = 4;
+
+const RUN_NUMBERS: usize = 4;
+
+// Whether a state is long enough and of this kind.
+fn holds(kind: u8, size: usize, state: &[u8]) -> bool
+    requires { ⌜ 1 ≤ size ⌝ }
+    ensures { λ r. ⌜ r ≡ holdsState kind size (now (state .entry)) ⌝ }
+{
+    if state.len() < size {
+        return false;
+    }
+    state[0] == kind
+}
+
+fn outcome_number(outcome: Outcome) -> u64
+    ensures { λ r. ⌜ r ≡ outcomeNumber outcome ⌝ }
+{
+    match outcome {
+        Outcome::Taken => 0,
+        Outcome::Refused(number) => number as u64,
+    }
+}
+
+// The numbers of what a call of the monitor answers.
+fn stepped_numbers(stepped: Stepped) -> [u64; 4]
+    ensures { λ r. ⌜ r ≡ steppedNumbers stepped ⌝ }
+{
+    let outcome = stepped.outcome;
+    let monitor = stepped.monitor;
+    let window = monitor.window;
+    [
+        outcome_number(outcome),
+        0,
+        flagged(monitor.running) as u64,
+        flagged(window.infeasible) as u64,
+    ]
+}
+
+// Stores the monitor after a call that was not refused.
+fn keep(stepped: Stepped, state: &mut [u8])
+    requires { ⌜ monitorSize ≤ length (now state) ⌝ }
+    ensures { λ _. ⌜ KeepsStep stepped (now (state .entry)) (now (state .exit)) ⌝ }
+{
+    let outcome = stepped.outcome;
+    let monitor = stepped.monitor;
+    match outcome {
+        Outcome::Taken => put_monitor(MONITOR, monitor, state),
+        Outcome::Refused(number) => {}
+    }
+}
+
+/// Starts a monitor with the word of a header: the refusal and its place, 0 for none; 1 if the monitor runs; 1 if its trace is infeasible.
+#[no_mangle]
+pub extern "C" fn fadzgime_monitor_start(header: u16, state: &mut [u8], answer: &mut [u64])
+    ensures { λ _. ⌜ StartsMonitor header (now (state .entry)) (now (answer .entry)) (now (state .exit)) (now (answer .exit)) ⌝ }
+{
+    if answer.len() < STEP_NUMBERS {
+        return;
+    }
+    if state.len() < MONITOR_SIZE {
+        let none = [NO_STATE, 0, 0, 0];
+        store(&none, answer);
+        return;
+    }
+    let started = starting::start(header);
+    keep(started, state);
+    let numbers = stepped_numbers(started);
+    store(&numbers, answer);
+}
+
+/// Takes the word of a letter: the refusal and its place, 0 for none; 1 if the monitor runs, all letters taken being coherent; 1 if the longest
+/// coherent beginning of the letters taken is infeasible.
+#[no_mangle]
+pub extern "C" fn fadzgime_monitor_step(letter: u16, state: &mut [u8], answer: &mut [u64])
+    ensures { λ _. ⌜ StepsMonitor letter (now (state .entry)) (now (answer .entry)) (now (state .exit)) (now (answer .exit)) ⌝ }
+{
+    if answer.len() < STEP_NUMBERS {
+        return;
+    }
+    if holds(MONITOR, MONITOR_SIZE, state) {
+        let stepped = stepping::step(monitor_in(state), letter);
+        keep(stepped, state);
+        let numbers = stepped_numbers(stepped);
+        store(&numbers, answer);
+        return;
+    }
+    let none = [NO_STATE, 0, 0, 0];
+    store(&none, answer);
+}
+
+/// Begins the run over a trace whose bytes come in parts: 0, or NO_STATE.
+#[no_mangle]
+pub extern "C" fn fadzgime_stream_start(state: &mut [u8], answer: &mut [u64])
+    ensures { λ _. ⌜ StartsStream (now (state .entry)) (now (answer .entry)) (now (state .exit)) (now (answer .exit)) ⌝ }
+{
+    if answer.len() < 1 {
+        return;
+    }
+    if state.len() < STREAM_SIZE {
+        answer[0] = NO_STATE;
+        return;
+    }
+    put_stream(STREAM, streaming::start(), state);
+    answer[0] = 0;
+}
+
+/// Takes the next bytes of the trace, any number of them: 0, or NO_STATE.
+#[no_mangle]
+pub extern "C" fn fadzgime_stream_push(bytes: &[u8], state: &mut [u8], answer: &mut [u64])
+    ensures { λ _. ⌜ PushesStream (now (bytes .entry)) (now (state .entry)) (now (answer .entry)) (now (state .exit)) (now (answer .exit)) ⌝ }
+{
+    if answer.len() < 1 {
+        return;
+    }
+    if holds(STREAM, STREAM_SIZE, state) {
+        let next = streaming::push_all(stream_in(state), bytes);
+        put_stream(STREAM, next, state);
+        answer[0] = 0;
+        return;
+    }
+    answer[0] = NO_STATE;
+}
+
+/// The answer for the bytes that have come, as the bytes of a whole trace: that of `fadzgime_monitor`, or NO_STATE.
+#[no_mangle]
+pub extern "C" fn fadzgime_stream_finish(state: &[u8], answer: &mut [u64])
+    ensures { λ _. ⌜ FinishesStream (now (state .entry)) (now (answer .entry)) (now (answer .exit)) ⌝ }
+{
+    if answer.len() < RUN_NUMBERS {
+        return;
+    }
+    if holds(STREAM, STREAM_SIZE, state) {
+        let verdict = streaming::finish(stream_in(state));
+        let numbers = run_numbers(verdict);
+        store(&numbers, answer);
+        return;
+    }
+    let none = [NO_STATE, 0, 0, 0];
+    store(&none, answer);
+}

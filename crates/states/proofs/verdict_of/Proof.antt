@@ -1,0 +1,15 @@
+use Rattle.base.specs.Choice.{decide}
+use Rattle.states.specs.States.{verdictIn}
+use Rattle.states.proofs.verdict_of.Statement.{statement}
+use Rattle.states.proofs.verdict_of.Tie as tie
+
+returns : tie.Need-returns
+unfolding verdictIn
+returns c = search decide
+
+returns-2 : tie.Need-returns-2
+unfolding verdictIn
+returns-2 c = search decide
+
+pub verdict-of-spec : {M : Type 1} → statement M
+verdict-of-spec = tie.close (tie.spec returns returns-2)

@@ -1,0 +1,138 @@
+-- Monitors and streams as bytes: what a caller in C or Rust keeps between calls. One byte an entry, a number of 64 bits in eight bytes, the most significant
+-- first. Any bytes that are enough are read as some monitor and as some stream.
+use mathlib.Core.Path.{_≡_}
+use Prim.Native.Nat.{ℕ}
+use mathlib.Core.List.{List, [], _∷_, _++_, map}
+use lib.Dec.{eqb}
+use lib.ListN.{length, getD, take, drop}
+use Rattle.base.specs.Choice.{pick}
+use Rattle.letters.specs.Packing.{join, split}
+use Rattle.records.specs.Records.{flag, isSet}
+use Rattle.window.specs.declared.Window.{Window}
+use Rattle.monitoring.specs.Run.{runWith}
+use Rattle.monitoring.specs.Stream.{streamWith}
+use Rattle.monitoring.specs.declared.Monitor.{Monitor}
+use Rattle.monitoring.specs.declared.Phase.{Phase}
+use Rattle.monitoring.specs.declared.Phase.the-variants.{Empty, One, Even, Odd}
+use Rattle.monitoring.specs.declared.Stream.{Stream}
+use Rattle.monitoring.specs.declared.Verdict.{Verdict}
+use Rattle.monitoring.specs.declared.Verdict.the-variants.{Judged, Refused}
+
+abbrev pub eightOctets : List ℕ
+eightOctets = 8 ∷ 8 ∷ 8 ∷ 8 ∷ 8 ∷ 8 ∷ 8 ∷ 8 ∷ []
+
+-- how many bytes a monitor has, and a stream
+abbrev pub monitorSize : ℕ
+monitorSize = 318
+
+abbrev pub streamSize : ℕ
+streamSize = 346
+
+-- ---- monitors
+
+-- the first bytes: what the state is, the header, whether the monitor runs, its infeasible mark
+abbrev pub headOf : ℕ → Monitor → List ℕ
+headOf kind m = kind ∷ m .header .registers ∷ m .header .functions ∷ m .header .binary ∷ flag (m .running) ∷ flag (m .window .infeasible) ∷ []
+
+-- six parts one after the other, and then rest
+abbrev pub partsThen : List ℕ → List ℕ → List ℕ → List ℕ → List ℕ → List ℕ → List ℕ → List ℕ
+partsThen head class unequal marks ever result rest = head ++ (class ++ (unequal ++ (marks ++ (ever ++ (result ++ rest)))))
+
+-- the bytes of a monitor, and then rest
+abbrev pub monitorThen : ℕ → Monitor → List ℕ → List ℕ
+monitorThen kind m rest =
+    partsThen (headOf kind m) (m .window .class) (m .window .unequal) (map flag (m .window .mark)) (m .window .ever) (m .window .result) rest
+
+-- how many entries the window's arrays have
+pub record Sizes (class unequal marks ever result : List ℕ) : Type 0 where
+  pub classes : length class ≡ 8
+  pub unequals : length unequal ≡ 8
+  pub marked : length marks ≡ 8
+  pub evers : length ever ≡ 32
+  pub results : length result ≡ 256
+
+abbrev pub WindowSizes : Window → Type 0
+WindowSizes w = Sizes (w .class) (w .unequal) (map flag (w .mark)) (w .ever) (w .result)
+
+unfoldable pub windowIn : List ℕ → Window
+windowIn bytes = record {
+  class = take 8 (drop 6 bytes);
+  unequal = take 8 (drop 14 bytes);
+  result = take 256 (drop 62 bytes);
+  ever = take 32 (drop 30 bytes);
+  mark = map isSet (take 8 (drop 22 bytes));
+  infeasible = isSet (getD bytes 5 0);
+}
+
+unfoldable pub monitorIn : List ℕ → Monitor
+monitorIn bytes = record {
+  header = record { registers = getD bytes 1 0; functions = getD bytes 2 0; binary = getD bytes 3 0 };
+  window = windowIn bytes;
+  running = isSet (getD bytes 4 0);
+}
+
+-- What storing a monitor leaves: every byte, and a monitor that is read again.
+pub record KeepsMonitor (kind : ℕ) (m : Monitor) (entry exit : List ℕ) : Type 0 where
+  pub bytes : exit ≡ monitorThen kind m (drop monitorSize entry)
+  pub kept : getD exit 0 0 ≡ kind
+  pub back : monitorIn exit ≡ m
+  pub sizes : WindowSizes (m .window)
+
+-- ---- streams
+
+abbrev pub phaseCode : Phase → ℕ
+phaseCode Empty = 0
+phaseCode One = 1
+phaseCode Even = 2
+phaseCode Odd = 3
+
+unfoldable pub phaseIn : ℕ → Phase
+phaseIn code = pick (eqb code 0) (λ _. Empty) λ _. pick (eqb code 1) (λ _. One) λ _. pick (eqb code 2) (λ _. Even) λ _. Odd
+
+abbrev pub verdictCode : Verdict → ℕ
+verdictCode (Judged incoherent infeasible) = 0
+verdictCode (Refused number place) = 1
+
+abbrev pub refusalNumber : Verdict → ℕ
+refusalNumber (Judged incoherent infeasible) = 0
+refusalNumber (Refused number place) = number
+
+abbrev pub firstNumber : Verdict → ℕ
+firstNumber (Judged incoherent infeasible) = incoherent
+firstNumber (Refused number place) = 0
+
+abbrev pub secondNumber : Verdict → ℕ
+secondNumber (Judged incoherent infeasible) = infeasible
+secondNumber (Refused number place) = place
+
+unfoldable pub verdictIn : ℕ → ℕ → ℕ → ℕ → Verdict
+verdictIn code number first second = pick (eqb code 0) (λ _. Judged first second) λ _. Refused number second
+
+-- the bytes behind the monitor's that are no numbers of letters
+abbrev pub tailOf : Stream → List ℕ
+tailOf s = phaseCode (s .phase) ∷ s .high ∷ verdictCode (s .run .verdict) ∷ refusalNumber (s .run .verdict) ∷ []
+
+-- four parts one after the other, and then rest
+abbrev pub tailThen : List ℕ → List ℕ → List ℕ → List ℕ → List ℕ → List ℕ
+tailThen tail letters first second rest = tail ++ (letters ++ (first ++ (second ++ rest)))
+
+-- the bytes of a stream, and then rest
+abbrev pub streamThen : ℕ → Stream → List ℕ → List ℕ
+streamThen kind s rest =
+    monitorThen kind (s .run .monitor)
+    (tailThen (tailOf s) (split eightOctets (s .run .letters)) (split eightOctets (firstNumber (s .run .verdict)))
+    (split eightOctets (secondNumber (s .run .verdict))) rest)
+
+abbrev pub numberIn : ℕ → List ℕ → ℕ
+numberIn place bytes = join eightOctets (take 8 (drop place bytes))
+
+unfoldable pub streamIn : List ℕ → Stream
+streamIn bytes =
+    streamWith (phaseIn (getD bytes 318 0)) (getD bytes 319 0)
+    (runWith (monitorIn bytes) (numberIn 322 bytes) (verdictIn (getD bytes 320 0) (getD bytes 321 0) (numberIn 330 bytes) (numberIn 338 bytes)))
+
+-- What storing a stream leaves: every byte, and a stream that is read again.
+pub record KeepsStream (kind : ℕ) (s : Stream) (entry exit : List ℕ) : Type 0 where
+  pub bytes : exit ≡ streamThen kind s (drop streamSize entry)
+  pub kept : getD exit 0 0 ≡ kind
+  pub back : streamIn exit ≡ s
