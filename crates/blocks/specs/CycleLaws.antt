@@ -24,9 +24,9 @@ use Rattle.phrases.specs.Codes.{plain, nothing, lettered, same}
 use Rattle.phrases.specs.declared.Got as number
 use Rattle.phrases.specs.declared.GotLetter as letter
 use Rattle.blocks.specs.Held.{point, heldPoint, Progress, over, Holds, redirected}
-use Rattle.blocks.specs.Outcome.{Fine, Refusal, Outcome, Settled, Passed, Ready, Enough, inner, bracesAt, elseAt}
+use Rattle.blocks.specs.Outcome.{Fine, Refusal, Outcome, Settled, Passed, Ready, Enough, inner, bracesAt, elseAt, ifAt, whileAt}
 use Rattle.blocks.specs.Outcome.{waiting, within, begins, forked, joined, branched, looped, statementCode, elseCode, blockCode}
-use Rattle.blocks.specs.Outcome.{BlockRead, StatementRead, BracesRead, ElseRead, ConditionalRead, RepeatRead}
+use Rattle.blocks.specs.Outcome.{PlainRead, BlockRead, StatementRead, BracesRead, ElseRead, ConditionalRead, RepeatRead}
 use Rattle.blocks.specs.OutcomeLaws.{fine-count, fine-then, fine-changed, outcome-fine, outcome-refused, changed-none, changed-some}
 use Rattle.blocks.specs.TableLaws.{over-forked, over-range, map-append}
 use Rattle.blocks.specs.Redirect.{blockHeld, statement-length, else-length, block-length, behind, behind-size, code-none, code-some, size-while, size-if, turned-code}
@@ -252,70 +252,86 @@ module _ (s rs fs ns : List ℕ) (d : ℕ) where
 pub token-on : (s : List ℕ) (at : ℕ) (t : Token) → t ≡ tokenAt s at → 2 ≤ t .key → (at < t .end) × (t .end ≤ length s)
 token-on s at t e h = subst (λ t. (2 ≤ t .key) → (at < t .end) × (t .end ≤ length s)) (sym e) (token-advance s at) h
 
-module _ (s rs fs ns : List ℕ) (d : ℕ) (st : Progress) (t : Token) (e : t ≡ tokenAt s (st .at)) where
-  -- ---- statements
+-- ---- statements
 
-  pub statement-skip : (h : number.Got) (r : Progress) → t .key ≡ word.skip → h ≡ nothing (expect s word.semicolon (t .end)) → Passed st r h
-      → StatementRead s rs fs ns d st r
+module _ (s rs fs ns : List ℕ) (t : Token) (st : Progress) where
+  pub plain-skip : (h : number.Got) (r : Progress) → t .key ≡ word.skip → h ≡ nothing (expect s word.semicolon (t .end)) → Passed st r h
+      → PlainRead s rs fs ns t st r
   unfolding statement statementCode compile
-  statement-skip h r i p q = record {
-    outcome = λ k l. rw (← e, eq-eqb _ word.skip i)
-        (outcome-map (λ _ _. []) statementCode st r (expect s word.semicolon (t .end)) (λ _. skip) (λ _. refl)
-        (passed-outcome (expect s word.semicolon (t .end)) h st r (expect-answers s word.semicolon (t .end)) p q));
+  plain-skip h r i p q = record {
+    read = λ d e m n. record {
+      outcome = λ k l. rw (← e, eq-eqb _ word.skip i)
+          (outcome-map (λ _ _. []) statementCode st r (expect s word.semicolon (t .end)) (λ _. skip) (λ _. refl)
+          (passed-outcome (expect s word.semicolon (t .end)) h st r (expect-answers s word.semicolon (t .end)) p q));
+    };
   }
 
-  pub statement-assume : (h : letter.GotLetter) (r : Progress) → t .key ≡ word.assume → h ≡ lettered test (tested s rs (t .end)) → Settled 0 st r h
-      → StatementRead s rs fs ns d st r
+  pub plain-assume : (h : letter.GotLetter) (r : Progress) → t .key ≡ word.assume → h ≡ lettered test (tested s rs (t .end)) → Settled 0 st r h
+      → PlainRead s rs fs ns t st r
   unfolding statement statementCode compile
-  statement-assume h r i p q = record {
-    outcome = λ k l. rw (← e, ap (λ k. eqb k word.skip) i, eq-eqb _ word.assume i)
-        (outcome-map (λ c _. waiting 0 (test c) ∷ []) statementCode st r (tested s rs (t .end)) (λ c. perform (test c)) (λ _. refl)
-        (settled-outcome test 0 (tested s rs (t .end)) h st r (tested-answers s rs fs ns (t .end)) p q));
+  plain-assume h r i p q = record {
+    read = λ d e m n. record {
+      outcome = λ k l. rw (← e, ap (λ k. eqb k word.skip) i, eq-eqb _ word.assume i)
+          (outcome-map (λ c _. waiting 0 (test c) ∷ []) statementCode st r (tested s rs (t .end)) (λ c. perform (test c)) (λ _. refl)
+          (settled-outcome test 0 (tested s rs (t .end)) h st r (tested-answers s rs fs ns (t .end)) p q));
+    };
   }
 
-  pub statement-assert : (h : letter.GotLetter) (r : Progress) → t .key ≡ word.assert → h ≡ lettered test (tested s rs (t .end)) → Settled 1 st r h
-      → StatementRead s rs fs ns d st r
+  pub plain-assert : (h : letter.GotLetter) (r : Progress) → t .key ≡ word.assert → h ≡ lettered test (tested s rs (t .end)) → Settled 1 st r h
+      → PlainRead s rs fs ns t st r
   unfolding statement statementCode compile
-  statement-assert h r i p q = record {
-    outcome = λ k l. rw (← e, ap (λ k. eqb k word.skip) i, ap (λ k. eqb k word.assume) i, eq-eqb _ word.assert i)
-        (outcome-map (λ c _. waiting 1 (test c) ∷ []) statementCode st r (tested s rs (t .end)) assert (λ _. refl)
-        (settled-outcome test 1 (tested s rs (t .end)) h st r (tested-answers s rs fs ns (t .end)) p q));
+  plain-assert h r i p q = record {
+    read = λ d e m n. record {
+      outcome = λ k l. rw (← e, ap (λ k. eqb k word.skip) i, ap (λ k. eqb k word.assume) i, eq-eqb _ word.assert i)
+          (outcome-map (λ c _. waiting 1 (test c) ∷ []) statementCode st r (tested s rs (t .end)) assert (λ _. refl)
+          (settled-outcome test 1 (tested s rs (t .end)) h st r (tested-answers s rs fs ns (t .end)) p q));
+    };
   }
 
-  pub statement-if : (r : Progress) → t .key ≡ word.if → ConditionalRead s rs fs ns d (t .end) st r → StatementRead s rs fs ns d st r
-  unfolding statement
-  statement-if r i C = record {
-    outcome = λ k l.
-        let (x, y) = token-on s (st .at) t e (omega arith) in
-        rw (← e, ap (λ k. eqb k word.skip) i, ap (λ k. eqb k word.assume) i, ap (λ k. eqb k word.assert) i, eq-eqb _ word.if i) (C .outcome k (omega arith));
-  }
-
-  pub statement-while : (r : Progress) → t .key ≡ word.while → RepeatRead s rs fs ns d (t .end) st r → StatementRead s rs fs ns d st r
-  unfolding statement
-  statement-while r i C = record {
-    outcome = λ k l.
-        let (x, y) = token-on s (st .at) t e (omega arith) in
-        rw (← e, ap (λ k. eqb k word.skip) i, ap (λ k. eqb k word.assume) i, ap (λ k. eqb k word.assert) i, ap (λ k. eqb k word.if) i, eq-eqb _ word.while i)
-        (C .outcome k (omega arith));
-  }
-
-  module _ (n₁ : t .key ≡ word.skip → ⊥) (n₂ : t .key ≡ word.assume → ⊥) (n₃ : t .key ≡ word.assert → ⊥) (n₄ : t .key ≡ word.if → ⊥)
-      (n₅ : t .key ≡ word.while → ⊥) (b : Bool) (i : b ≡ isName (t .key)) where
-    pub statement-assign : (h : letter.GotLetter) (r : Progress) → Settled 0 st r h → b ≡ true → h ≡ lettered same (assignment s rs fs ns (st .at))
-        → StatementRead s rs fs ns d st r
+  module _ (n₁ : t .key ≡ word.skip → ⊥) (n₂ : t .key ≡ word.assume → ⊥) (n₃ : t .key ≡ word.assert → ⊥) (b : Bool) (i : b ≡ isName (t .key)) where
+    pub plain-assign : (h : letter.GotLetter) (r : Progress) → b ≡ true → h ≡ lettered same (assignment s rs fs ns (st .at)) → Settled 0 st r h
+        → PlainRead s rs fs ns t st r
     unfolding statement statementCode compile
-    statement-assign h r q j p = record {
-      outcome = λ k l.
-          rw (← e, ← i, ne-eqb _ word.skip n₁, ne-eqb _ word.assume n₂, ne-eqb _ word.assert n₃, ne-eqb _ word.if n₄, ne-eqb _ word.while n₅, j)
-          (outcome-map (λ c _. waiting 0 c ∷ []) statementCode st r (assignment s rs fs ns (st .at)) perform (λ _. refl)
-          (settled-outcome same 0 (assignment s rs fs ns (st .at)) h st r (assignment-answers s rs fs ns (st .at)) p q));
+    plain-assign h r j p q = record {
+      read = λ d e n₄ n₅. record {
+        outcome = λ k l.
+            rw (← e, ← i, ne-eqb _ word.skip n₁, ne-eqb _ word.assume n₂, ne-eqb _ word.assert n₃, ne-eqb _ word.if n₄, ne-eqb _ word.while n₅, j)
+            (outcome-map (λ c _. waiting 0 c ∷ []) statementCode st r (assignment s rs fs ns (st .at)) perform (λ _. refl)
+            (settled-outcome same 0 (assignment s rs fs ns (st .at)) h st r (assignment-answers s rs fs ns (st .at)) p q));
+      };
     }
 
-    pub statement-unfit : (h : number.Got) (r : Progress) → Passed st r h → b ≡ false → h ≡ plain (unfit t) → StatementRead s rs fs ns d st r
+    pub plain-unfit : (h : number.Got) (r : Progress) → b ≡ false → h ≡ plain (unfit t) → Passed st r h → PlainRead s rs fs ns t st r
     unfolding statement
-    statement-unfit h r q j p = record {
+    plain-unfit h r j p q = record {
+      read = λ d e n₄ n₅. record {
+        outcome = λ k l.
+            rw (← e, ← i, ne-eqb _ word.skip n₁, ne-eqb _ word.assume n₂, ne-eqb _ word.assert n₃, ne-eqb _ word.if n₄, ne-eqb _ word.while n₅, j)
+            (rw p at q);
+      };
+    }
+
+module _ (s rs fs ns : List ℕ) (d : ℕ) (st : Progress) (t : Token) (e : t ≡ tokenAt s (st .at)) where
+  -- the word, and what stands behind it
+  module _ (v : st .count ≤ 257) (p r : Progress) (f : Fine st p [] (t .end)) where
+    pub statement-if : t .key ≡ word.if → ConditionalRead s rs fs ns d p r → StatementRead s rs fs ns d st r
+    unfolding statement
+    statement-if i C = record {
       outcome = λ k l.
-          rw (← e, ← i, ne-eqb _ word.skip n₁, ne-eqb _ word.assume n₂, ne-eqb _ word.assert n₃, ne-eqb _ word.if n₄, ne-eqb _ word.while n₅, j) (rw p at q);
+          let (x, y) = token-on s (st .at) t e (omega arith) in
+          rw (← e, ap (λ k. eqb k word.skip) i, ap (λ k. eqb k word.assume) i, ap (λ k. eqb k word.assert) i, eq-eqb _ word.if i)
+          (outcome-behind statementCode st p r (ifAt s rs fs ns d k (t .end)) (t .end) (moved-count v f) f
+          (subst (λ n. Outcome statementCode p r (ifAt s rs fs ns d k n)) (f .at) (C .outcome k (let z = f .at in omega arith))));
+    }
+
+    pub statement-while : t .key ≡ word.while → RepeatRead s rs fs ns d p r → StatementRead s rs fs ns d st r
+    unfolding statement
+    statement-while i C = record {
+      outcome = λ k l.
+          let (x, y) = token-on s (st .at) t e (omega arith) in
+          rw (← e, ap (λ k. eqb k word.skip) i, ap (λ k. eqb k word.assume) i, ap (λ k. eqb k word.assert) i, ap (λ k. eqb k word.if) i, eq-eqb _ word.while i)
+          (outcome-behind statementCode st p r (whileAt s rs fs ns d k (t .end)) (t .end) (moved-count v f) f
+          (subst (λ n. Outcome statementCode p r (whileAt s rs fs ns d k n)) (f .at) (C .outcome k (let z = f .at in omega arith))));
     }
 
   -- ---- braces
@@ -478,41 +494,41 @@ branched-fine c b o st p y z a e n F G E =
           (sym (map-append heldPoint (compileBlock b (base + 1) 256) (compileElse o (base + 1 + sizeBlock b) 256)));
     })
 
-module _ (s rs : List ℕ) (at : ℕ) (st p : Progress) (g : letter.GotLetter) (i : g ≡ lettered test (condition s rs at)) (u : Settled 2 st p g) where
-  tested-outcome : Outcome (λ c _. waiting 2 (test c) ∷ []) st p (condition s rs at)
-  tested-outcome = settled-outcome test 2 (condition s rs at) g st p (condition-answers s rs at) i u
+module _ (s rs : List ℕ) (st p : Progress) (g : letter.GotLetter) (i : g ≡ lettered test (condition s rs (st .at))) (u : Settled 2 st p g) where
+  tested-outcome : Outcome (λ c _. waiting 2 (test c) ∷ []) st p (condition s rs (st .at))
+  tested-outcome = settled-outcome test 2 (condition s rs (st .at)) g st p (condition-answers s rs (st .at)) i u
 
   -- the condition that was read
-  told : p .ok ≡ true → (c : Condition) × (a : ℕ) × (condition s rs at ≡ got c a) × Fine st p (waiting 2 (test c) ∷ []) a
-  told ok = outcome-fine (λ c _. waiting 2 (test c) ∷ []) st p (condition s rs at) tested-outcome ok
+  told : p .ok ≡ true → (c : Condition) × (a : ℕ) × (condition s rs (st .at) ≡ got c a) × Fine st p (waiting 2 (test c) ∷ []) a
+  told ok = outcome-fine (λ c _. waiting 2 (test c) ∷ []) st p (condition s rs (st .at)) tested-outcome ok
 
-  pub condition-at : p .ok ≡ true → (at < p .at) × (at < length s) × (p .count ≤ 257)
-  condition-at ok = let (c, a, w, f) = told ok in let (x, y) = condition-on s rs at c a w in (omega (arith, f .at), y, fine-count f)
+  pub condition-at : p .ok ≡ true → (st .at < p .at) × (st .at < length s) × (p .count ≤ 257)
+  condition-at ok = let (c, a, w, f) = told ok in let (x, y) = condition-on s rs (st .at) c a w in (omega (arith, f .at), y, fine-count f)
 
   module _ (fs ns : List ℕ) (d : ℕ) where
-    pub conditional-refused : p .ok ≡ false → ConditionalRead s rs fs ns d at st p
+    pub conditional-refused : p .ok ≡ false → ConditionalRead s rs fs ns d st p
     conditional-refused h = record {
-      outcome = λ k l. outcome-refused (λ c _. waiting 2 (test c) ∷ []) statementCode st st p (condition s rs at) _ tested-outcome h;
+      outcome = λ k l. outcome-refused (λ c _. waiting 2 (test c) ∷ []) statementCode st st p (condition s rs (st .at)) _ tested-outcome h;
     }
 
-    pub repeat-refused : p .ok ≡ false → RepeatRead s rs fs ns d at st p
+    pub repeat-refused : p .ok ≡ false → RepeatRead s rs fs ns d st p
     repeat-refused h = record {
-      outcome = λ k l. outcome-refused (λ c _. waiting 2 (test c) ∷ []) statementCode st st p (condition s rs at) _ tested-outcome h;
+      outcome = λ k l. outcome-refused (λ c _. waiting 2 (test c) ∷ []) statementCode st st p (condition s rs (st .at)) _ tested-outcome h;
     }
 
     module _ (ok : p .ok ≡ true) (y : Progress) (B : BracesRead s rs fs ns d p y) where
       -- the braces, at the place behind the condition
-      braced : (k a : ℕ) → Enough s rs fs ns d at k → p .at ≡ a → Outcome blockCode p y (bracesAt s rs fs ns d k a)
+      braced : (k a : ℕ) → Enough s rs fs ns d (st .at) k → p .at ≡ a → Outcome blockCode p y (bracesAt s rs fs ns d k a)
       braced k a h q = let (x, z, w) = condition-at ok in subst (λ n. Outcome blockCode p y (bracesAt s rs fs ns d k n)) q (B .outcome k (omega arith))
 
-      pub repeat-braces : y .ok ≡ false → RepeatRead s rs fs ns d at st y
+      pub repeat-braces : y .ok ≡ false → RepeatRead s rs fs ns d st y
       repeat-braces n = record {
         outcome = λ k h.
             let (c, a, w, F) = told ok in
             rw w (outcome-refused blockCode statementCode p st y (bracesAt s rs fs ns d k a) _ (braced k a h (F .at)) n);
       }
 
-      pub repeat-read : y .ok ≡ true → (r : Progress) → r ≡ looped y (st .count) → RepeatRead s rs fs ns d at st r
+      pub repeat-read : y .ok ≡ true → (r : Progress) → r ≡ looped y (st .count) → RepeatRead s rs fs ns d st r
       repeat-read n r q = record {
         outcome = λ k h.
             let (c, a, w, F) = told ok in
@@ -520,7 +536,7 @@ module _ (s rs : List ℕ) (at : ℕ) (st p : Progress) (g : letter.GotLetter) (
             rw (w, v, q) (looped-fine c b st p y a m F G);
       }
 
-      pub conditional-braces : y .ok ≡ false → ConditionalRead s rs fs ns d at st y
+      pub conditional-braces : y .ok ≡ false → ConditionalRead s rs fs ns d st y
       conditional-braces n = record {
         outcome = λ k h.
             let (c, a, w, F) = told ok in
@@ -528,12 +544,12 @@ module _ (s rs : List ℕ) (at : ℕ) (st p : Progress) (g : letter.GotLetter) (
       }
 
       module _ (n : y .ok ≡ true) (z : Progress) (E : ElseRead s rs fs ns d y z) where
-        otherwised : (k m : ℕ) → Enough s rs fs ns d at k → y .at ≡ m → Outcome elseCode y z (elseAt s rs fs ns d k m)
+        otherwised : (k m : ℕ) → Enough s rs fs ns d (st .at) k → y .at ≡ m → Outcome elseCode y z (elseAt s rs fs ns d k m)
         otherwised k m h q =
             let (x, v) = braces-at s rs fs ns d p y B n in let (x′, v′, w′) = condition-at ok in
             subst (λ n. Outcome elseCode y z (elseAt s rs fs ns d k n)) q (E .outcome k (omega arith))
 
-        pub conditional-else : z .ok ≡ false → ConditionalRead s rs fs ns d at st z
+        pub conditional-else : z .ok ≡ false → ConditionalRead s rs fs ns d st z
         conditional-else x = record {
           outcome = λ k h.
               let (c, a, w, F) = told ok in
@@ -541,7 +557,7 @@ module _ (s rs : List ℕ) (at : ℕ) (st p : Progress) (g : letter.GotLetter) (
               rw (w, v) (outcome-refused elseCode statementCode y st z (elseAt s rs fs ns d k m) _ (otherwised k m h (G .at)) x);
         }
 
-        pub conditional-read : z .ok ≡ true → (r : Progress) → r ≡ branched z (st .count) (y .count) → ConditionalRead s rs fs ns d at st r
+        pub conditional-read : z .ok ≡ true → (r : Progress) → r ≡ branched z (st .count) (y .count) → ConditionalRead s rs fs ns d st r
         conditional-read x r q = record {
           outcome = λ k h.
               let (c, a, w, F) = told ok in

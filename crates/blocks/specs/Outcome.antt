@@ -10,7 +10,9 @@ use Rattle.base.specs.Each.{each}
 use Rattle.letters.specs.declared.Letter.{Letter}
 use Rattle.macros.specs.Tree.{Statement, Else, Block, if, while}
 use Rattle.macros.specs.Points.{compile, compileElse, compileBlock}
+use Rattle.tokens.specs.declared.Token.{Token}
 use Rattle.tokens.specs.Tokens.{tokenAt}
+use Rattle.tokens.specs.Words as word
 use Rattle.grammar.specs.Reading.{Got, got, refused, exhausted, onward, condition, bracesT, elseT, block, statement}
 use Rattle.phrases.specs.Codes.{Few}
 use Rattle.phrases.specs.declared.Got as number
@@ -147,8 +149,12 @@ module _ (s rs fs ns : List ℕ) (d : ℕ) where
   pub record ElseRead (st r : Progress) : Type 0 where
     pub outcome : (k : ℕ) → Enough (st .at) k → Outcome elseCode st r (elseAt k (st .at))
 
-  pub record ConditionalRead (at : ℕ) (st r : Progress) : Type 0 where
-    pub outcome : (k : ℕ) → Enough at k → Outcome statementCode st r (ifAt k at)
+  pub record ConditionalRead (st r : Progress) : Type 0 where
+    pub outcome : (k : ℕ) → Enough (st .at) k → Outcome statementCode st r (ifAt k (st .at))
 
-  pub record RepeatRead (at : ℕ) (st r : Progress) : Type 0 where
-    pub outcome : (k : ℕ) → Enough at k → Outcome statementCode st r (whileAt k at)
+  pub record RepeatRead (st r : Progress) : Type 0 where
+    pub outcome : (k : ℕ) → Enough (st .at) k → Outcome statementCode st r (whileAt k (st .at))
+
+-- the statement at a place whose token t begins no statement with a block in it
+pub record PlainRead (s rs fs ns : List ℕ) (t : Token) (st r : Progress) : Type 0 where
+  pub read : (d : ℕ) → t ≡ tokenAt s (st .at) → (t .key ≡ word.if → ⊥) → (t .key ≡ word.while → ⊥) → StatementRead s rs fs ns d st r

@@ -2,6 +2,7 @@
 use letters::Letter;
 use phrases::Got;
 use phrases::GotLetter;
+use tokens::Token;
 ghost use mathlib.Core.Path.{_≡_};
 ghost use mathlib.Core.List.{List, [], _∷_};
 ghost use Prim.Native.Nat.{_+_, _≤_};
@@ -10,7 +11,7 @@ ghost use Rattle.base.specs.Each.{each};
 ghost use Rattle.letters.specs.Packing.{split};
 ghost use Rattle.blocks.specs.Held.{fields, pointAt, pointsOf, Coded, progressOf, heldBy, table, turned, unused};
 ghost use Rattle.blocks.specs.Outcome.{turnedIn, begins, changedTo, waiting, Fine, Refusal, Settled, Passed, Ready};
-ghost use Rattle.blocks.specs.Outcome.{BlockRead, StatementRead, BracesRead, ElseRead, ConditionalRead, RepeatRead};
+ghost use Rattle.blocks.specs.Outcome.{PlainRead, BlockRead, StatementRead, BracesRead, ElseRead, ConditionalRead, RepeatRead};
 
 /// A point of a macro.
 pub struct Point {
@@ -396,62 +397,49 @@ fn statement(
         (heldBy st (now (code .entry)) (now (first .entry)) (now (second .entry)))
         (heldBy r (now (code .exit)) (now (first .exit)) (now (second .exit))) ⌝ }
 {
-    let at = st.at;
-    let t = tokens::next(text, at);
+    let t = tokens::next(text, st.at);
+    if t.key == tokens::IF {
+        let p = moved(st, t.end);
+        return conditional(text, regs, funs, arities, p, depth, code, first, second);
+    }
+    if t.key == tokens::WHILE {
+        let p = moved(st, t.end);
+        return repeat(text, regs, funs, arities, p, depth, code, first, second);
+    }
+    plain(text, regs, funs, arities, st, t, code, first, second)
+}
+
+// A statement with no block in it, of which t is the first token.
+fn plain(
+    text: &[u8],
+    regs: &[u64],
+    funs: &[u64],
+    arities: &[u8],
+    st: State,
+    t: Token,
+    code: &mut Codes,
+    first: &mut Follows,
+    second: &mut Follows,
+) -> State
+    requires { ⌜ Ready (now regs) (now funs) (now arities) (st .count) ⌝ }
+    ensures { λ r. ⌜ PlainRead (now (text .entry)) (now (regs .entry)) (now (funs .entry)) (now (arities .entry)) t
+        (heldBy st (now (code .entry)) (now (first .entry)) (now (second .entry)))
+        (heldBy r (now (code .exit)) (now (first .exit)) (now (second .exit))) ⌝ }
+{
     let k = t.key;
     if k == tokens::SKIP {
         return passed(st, phrases::expect(text, tokens::SEMICOLON, t.end));
     }
     if k == tokens::ASSUME {
-        return settled(
-            st,
-            0,
-            phrases::tested(text, regs, t.end),
-            code,
-            first,
-            second,
-        );
+        let g = phrases::tested(text, regs, t.end);
+        return settled(st, 0, g, code, first, second);
     }
     if k == tokens::ASSERT {
-        return settled(
-            st,
-            1,
-            phrases::tested(text, regs, t.end),
-            code,
-            first,
-            second,
-        );
-    }
-    if k == tokens::IF {
-        return conditional(
-            text,
-            regs,
-            funs,
-            arities,
-            st,
-            t.end,
-            depth,
-            code,
-            first,
-            second,
-        );
-    }
-    if k == tokens::WHILE {
-        return repeat(
-            text,
-            regs,
-            funs,
-            arities,
-            st,
-            t.end,
-            depth,
-            code,
-            first,
-            second,
-        );
+        let g = phrases::tested(text, regs, t.end);
+        return settled(st, 1, g, code, first, second);
     }
     if tokens::is_name(k) {
-        let g = phrases::assignment(text, regs, funs, arities, at);
+        let g = phrases::assignment(text, regs, funs, arities, st.at);
         return settled(st, 0, g, code, first, second);
     }
     passed(st, phrases::unfitting(t))
@@ -464,25 +452,18 @@ fn conditional(
     funs: &[u64],
     arities: &[u8],
     st: State,
-    at: usize,
     depth: usize,
     code: &mut Codes,
     first: &mut Follows,
     second: &mut Follows,
 ) -> State
     requires { ⌜ Ready (now regs) (now funs) (now arities) (st .count) ⌝ }
-    ensures { λ r. ⌜ ConditionalRead (now (text .entry)) (now (regs .entry)) (now (funs .entry)) (now (arities .entry)) depth at
+    ensures { λ r. ⌜ ConditionalRead (now (text .entry)) (now (regs .entry)) (now (funs .entry)) (now (arities .entry)) depth
         (heldBy st (now (code .entry)) (now (first .entry)) (now (second .entry)))
         (heldBy r (now (code .exit)) (now (first .exit)) (now (second .exit))) ⌝ }
 {
-    let p = settled(
-        st,
-        2,
-        phrases::condition(text, regs, at),
-        code,
-        first,
-        second,
-    );
+    let g = phrases::condition(text, regs, st.at);
+    let p = settled(st, 2, g, code, first, second);
     if p.ok {
         let one = braces(text, regs, funs, arities, p, depth, code, first, second);
         if one.ok {
@@ -531,25 +512,18 @@ fn repeat(
     funs: &[u64],
     arities: &[u8],
     st: State,
-    at: usize,
     depth: usize,
     code: &mut Codes,
     first: &mut Follows,
     second: &mut Follows,
 ) -> State
     requires { ⌜ Ready (now regs) (now funs) (now arities) (st .count) ⌝ }
-    ensures { λ r. ⌜ RepeatRead (now (text .entry)) (now (regs .entry)) (now (funs .entry)) (now (arities .entry)) depth at
+    ensures { λ r. ⌜ RepeatRead (now (text .entry)) (now (regs .entry)) (now (funs .entry)) (now (arities .entry)) depth
         (heldBy st (now (code .entry)) (now (first .entry)) (now (second .entry)))
         (heldBy r (now (code .exit)) (now (first .exit)) (now (second .exit))) ⌝ }
 {
-    let p = settled(
-        st,
-        2,
-        phrases::condition(text, regs, at),
-        code,
-        first,
-        second,
-    );
+    let g = phrases::condition(text, regs, st.at);
+    let p = settled(st, 2, g, code, first, second);
     if p.ok {
         let body = braces(text, regs, funs, arities, p, depth, code, first, second);
         if body.ok {

@@ -11,6 +11,7 @@ use lib.Seq.{take-append-seam}
 use borrow.Author.Tests.{eq-eqb, ne-eqb, le-ltb, lt-ltb, leb-true, leb-false}
 use Rattle.base.specs.Choice.{pick, byTest}
 use Rattle.base.specs.Each.{each}
+use Rattle.letters.specs.declared.Header.{Header}
 use Rattle.macros.specs.Tree.{Block}
 use Rattle.macros.specs.Points.{points, sizeBlock, compileBlock}
 use Rattle.tokens.specs.declared.Token.{Token}
@@ -108,13 +109,20 @@ binary-padded (n ∷ ns) k = ap (λ m. flagOf n + 2 * m) (binary-padded ns k)
 
 -- ---- the end
 
+abbrev pub headed : Registers → Functions → Header
+headed rs fs = record { registers = rs .count; functions = fs .count; binary = binaryOf (fs .arities) }
+
+pub head-held : (rs : Registers) (fs : Functions) (n : ℕ) → n ≡ binaryOf (fs .arities)
+    → record { registers = rs .count; functions = fs .count; binary = n } ≡ headed rs fs
+head-held rs fs n e = λ i. record { registers = rs .count; functions = fs .count; binary = e i }
+
 -- the answer of a text that was read
-abbrev pub read : Registers → Functions → ℕ → List Point → ℕ → Answer
-read rs fs bin ps n = record {
+abbrev read : Registers → Functions → Header → List Point → ℕ → Answer
+read rs fs h ps n = record {
   refusal = 0;
   place = 0;
   program = record {
-    header = record { registers = rs .count; functions = fs .count; binary = bin };
+    header = h;
     registers = rs .names;
     functions = fs .names;
     points = ps;
@@ -140,25 +148,22 @@ module _ (s : List ℕ) (rs : Registers) (fs : Functions) (body : Progress) (t :
         rw (← e, eq-eqb (t .key) 0 z, lt-ltb 256 (sizeBlock b) l) g
 
     pub finish-read : Kept 8 (rs .names) (rs .count) → Kept 4 (fs .names) (fs .count) × Kept 4 (fs .arities) (fs .count) → body .count ≤ 256
-        → (bin : ℕ) → bin ≡ binaryOf (fs .arities)
+        → (head : Header) → head ≡ headed rs fs
         → (ps : List Point) → ((b : Block) → sizeBlock b ≤ 256 → Holds blank body (blockCode b 0) → ps ≡ table (map heldPoint (points b)))
-        → Finishes s rs fs body (read rs fs bin ps (body .count))
+        → Finishes s rs fs body (read rs fs head ps (body .count))
     unfolding Finishes answerOf heldMacro
-    finish-read R (F, A) h bin i ps p b E =
+    finish-read R (F, A) h head i ps p b E =
         let l : sizeBlock b ≤ 256 = byTest (leb (sizeBlock b) 256) (λ u. leb-true (sizeBlock b) 256 u) (λ u. let c = E .high (leb-false (sizeBlock b) 256 u) in absurd (omega arith)) in
         let H = E .low l in
         let n : body .count ≡ sizeBlock b = H .count ∙ block-length b 0 in
         let arities = take (fs .count) (fs .arities) in
+        let binary : binaryOf (fs .arities) ≡ binaryOf arities = ap binaryOf (A .pad) ∙ binary-padded arities (4 - length arities) in
         rw (← e, eq-eqb (t .key) 0 z, le-ltb 256 (sizeBlock b) l)
         λ j. record {
           refusal = 0;
           place = 0;
           program = record {
-            header = record {
-              registers = sym (R .size) j;
-              functions = sym (F .size) j;
-              binary = (i ∙ ap binaryOf (A .pad) ∙ binary-padded arities (4 - length arities)) j;
-            };
+            header = (i ∙ λ j. record { registers = sym (R .size) j; functions = sym (F .size) j; binary = binary j }) j;
             registers = R .pad j;
             functions = F .pad j;
             points = p b l H j;

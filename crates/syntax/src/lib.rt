@@ -20,7 +20,7 @@ ghost use Rattle.blocks.specs.Held.{heldBy};
 ghost use Rattle.syntax.specs.Answer.{noMacro, answerOf, heldRegisters, heldFunctions, unfitNumber, bodyFrom, functionsFrom};
 ghost use Rattle.syntax.specs.Lists.{taken, Kept, refusedBy};
 ghost use Rattle.syntax.specs.Reads.{Reads};
-ghost use Rattle.syntax.specs.Top.{KeptRegisters, KeptFunctions, Finishes, startOf, flagOf};
+ghost use Rattle.syntax.specs.Top.{KeptRegisters, KeptFunctions, Finishes, headed, startOf, flagOf};
 
 // How deep braces may nest.
 const DEEPEST: usize = 16;
@@ -341,6 +341,18 @@ fn binary_of(arities: [u8; 4]) -> u8
     flag(arities[0]) + 2 * flag(arities[1]) + 4 * flag(arities[2]) + 8 * flag(arities[3])
 }
 
+fn header_of(rs: Registers, fs: Functions) -> Header
+    requires { ⌜ KeptRegisters rs × KeptFunctions fs ⌝ }
+    ensures { λ r. ⌜ r ≡ headed rs fs ⌝ }
+{
+    let arities = fs.arities;
+    Header {
+        registers: rs.count as u8,
+        functions: fs.count as u8,
+        binary: binary_of(arities),
+    }
+}
+
 // Where reading the statements begins.
 fn start(at: usize) -> State
     ensures { λ r. ⌜ r ≡ startOf at ⌝ }
@@ -367,8 +379,7 @@ fn finish(
     requires { ⌜ KeptRegisters rs × KeptFunctions fs ⌝ }
     ensures { λ r. ⌜ Finishes (now (text .entry)) rs fs (heldBy body (now (code .entry)) (now (first .entry)) (now (second .entry))) r ⌝ }
 {
-    let at = body.at;
-    let t = tokens::next(text, at);
+    let t = tokens::next(text, body.at);
     if t.key == tokens::END {
         let n = body.count;
         if blocks::MOST < n {
@@ -376,19 +387,14 @@ fn finish(
         }
         blocks::redirect_range(first, second, 0, n, n);
         let points = blocks::points_of(code, first, second, n);
-        let arities = fs.arities;
-        let binary = binary_of(arities);
+        let header = header_of(rs, fs);
         let registers = rs.names;
         let functions = fs.names;
         return Answer {
             refusal: 0,
             place: 0,
             program: Macro {
-                header: Header {
-                    registers: rs.count as u8,
-                    functions: fs.count as u8,
-                    binary: binary,
-                },
+                header: header,
                 registers: registers,
                 functions: functions,
                 points: points,

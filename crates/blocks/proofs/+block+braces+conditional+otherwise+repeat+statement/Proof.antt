@@ -30,15 +30,13 @@ use Rattle.blocks.proofs.branch.Reads as branch-reads
 use Rattle.blocks.proofs.join.Reads as join-reads
 use Rattle.blocks.proofs.moved.Reads as moved-reads
 use Rattle.blocks.proofs.passed.Reads as passed-reads
+use Rattle.blocks.proofs.plain.Reads as plain-reads
 use Rattle.blocks.proofs.repeat_from.Reads as repeat-from-reads
 use Rattle.blocks.proofs.settled.Reads as settled-reads
 use Rattle.blocks.proofs.stopped.Reads as stopped-reads
-use Rattle.phrases.proofs.assignment.Reads as assignment-reads
 use Rattle.phrases.proofs.condition.Reads as condition-reads
 use Rattle.phrases.proofs.expect.Reads as expect-reads
-use Rattle.phrases.proofs.tested.Reads as tested-reads
 use Rattle.phrases.proofs.unfitting.Reads as unfitting-reads
-use Rattle.tokens.proofs.is_name.Reads as is-name-reads
 use Rattle.tokens.proofs.next.Reads as next-reads
 use Rattle.blocks.proofs.+block+braces+conditional+otherwise+repeat+statement.{statement}
 use Rattle.blocks.proofs.+block+braces+conditional+otherwise+repeat+statement.Tie.{close}
@@ -50,13 +48,13 @@ abbrev μ-braces : Measures 7 braces-kinds.ps ℕ
 μ-braces κs a = 2 * (length (a .0 .now) - a .1 .1 .1 .1 .0 .at)
 
 abbrev μ-conditional : Measures 7 conditional-kinds.ps ℕ
-μ-conditional κs a = 2 * (length (a .0 .now) - a .1 .1 .1 .1 .1 .0)
+μ-conditional κs a = 2 * (length (a .0 .now) - a .1 .1 .1 .1 .0 .at)
 
 abbrev μ-otherwise : Measures 7 otherwise-kinds.ps ℕ
 μ-otherwise κs a = 2 * (length (a .0 .now) - a .1 .1 .1 .1 .0 .at)
 
 abbrev μ-repeat : Measures 7 repeat-kinds.ps ℕ
-μ-repeat κs a = 2 * (length (a .0 .now) - a .1 .1 .1 .1 .1 .0)
+μ-repeat κs a = 2 * (length (a .0 .now) - a .1 .1 .1 .1 .0 .at)
 
 abbrev μ-statement : Measures 7 statement-kinds.ps ℕ
 μ-statement κs a = 2 * (length (a .0 .now) - a .1 .1 .1 .1 .0 .at)
@@ -235,13 +233,13 @@ pub +block+braces+conditional+otherwise+repeat+statement-spec : {M : Type 1} →
     (λ c κs. search needs)
     (λ c κs.
     let past = c .before .before .before .before .before .before .before in
-    let (x, y, z) = law.condition-at _ _ _ _ _ _ (past .before .condition .ensures) (c .before .before .before .before .settled .ensures)
+    let (x, y, z) = law.condition-at _ _ _ _ _ (past .before .condition .ensures) (c .before .before .before .before .settled .ensures)
     (c .before .before .before .if1 .taken) in
     (omega (arith, past .before .before .before .before .before .before .pre .0), law.ready (past .before .before .before .before .before .before .pre .1) z))
     (λ c κs.
     let past = c .before .before .before .before .before .before .before in
     let far = past .before .before .before .before .before .before .before in
-    let (x, y, z) = law.condition-at _ _ _ _ _ _ (past .before .before .before .before .before .before .condition .ensures)
+    let (x, y, z) = law.condition-at _ _ _ _ _ (past .before .before .before .before .before .before .condition .ensures)
     (past .before .before .settled .ensures) (past .before .if1 .taken) in
     let (v, w) = law.braces-at _ _ _ _ _ _ _ (c .before .before .before .before .braces .ensures) (c .before .before .before .if2 .taken) in
     (omega (arith, far .before .before .before .before .pre .0), law.ready (far .before .before .before .before .pre .1) w))
@@ -249,23 +247,23 @@ pub +block+braces+conditional+otherwise+repeat+statement-spec : {M : Type 1} →
     (λ c.
     let past = c .before .before .before .before .before .before .before in
     let far = past .before .before .before .before .before .before .before in
-    law.conditional-read _ _ _ _ _ _ (far .before .before .before .before .condition .ensures) (far .settled .ensures) _ _ _
+    law.conditional-read _ _ _ _ _ (far .before .before .before .before .condition .ensures) (far .settled .ensures) _ _ _
     (past .before .before .before .before .before .before .if1 .taken) _ (past .before .before .braces .ensures) (past .before .if2 .taken) _
     (c .before .before .before .before .otherwise .ensures) (c .before .before .before .if3 .taken) _
     (points-branched (c .before .before .before .before .otherwise .result) _ _ _ _ _ _ _ (c .branch .ensures .0) (c .branch .ensures .1)))
     (λ c.
     let past = c .before .before .before .before .before .before .before in
     let far = past .before .before .before .before .before .before .before in
-    law.conditional-else _ _ _ _ _ _ (far .before .condition .ensures) (past .before .before .before .before .settled .ensures) _ _ _
+    law.conditional-else _ _ _ _ _ (far .before .condition .ensures) (past .before .before .before .before .settled .ensures) _ _ _
     (past .before .before .before .if1 .taken) _ (c .before .before .before .before .before .before .braces .ensures)
     (c .before .before .before .before .before .if2 .taken) _ (c .before .otherwise .ensures) (c .if3 .left))
     (λ c.
     let past = c .before .before .before .before .before .before .before in
-    law.conditional-braces _ _ _ _ _ _ (past .before .before .before .condition .ensures)
+    law.conditional-braces _ _ _ _ _ (past .before .before .before .condition .ensures)
     (c .before .before .before .before .before .before .settled .ensures) _ _ _ (c .before .before .before .before .before .if1 .taken) _
     (c .before .braces .ensures) (c .if2 .left))
     (λ c.
-    law.conditional-refused _ _ _ _ _ _ (c .before .before .before .before .before .condition .ensures) (c .before .settled .ensures) _ _ _
+    law.conditional-refused _ _ _ _ _ (c .before .before .before .before .before .condition .ensures) (c .before .settled .ensures) _ _ _
     (c .if1 .left)))
     (λ t. otherwise-lts.spec (
       next-reads.Asked,
@@ -312,104 +310,70 @@ pub +block+braces+conditional+otherwise+repeat+statement-spec : {M : Type 1} →
     (λ c κs. search needs)
     (λ c κs.
     let past = c .before .before .before .before .before .before .before in
-    let (x, y, z) = law.condition-at _ _ _ _ _ _ (past .before .condition .ensures) (c .before .before .before .before .settled .ensures)
+    let (x, y, z) = law.condition-at _ _ _ _ _ (past .before .condition .ensures) (c .before .before .before .before .settled .ensures)
     (c .before .before .before .if1 .taken) in
     (omega (arith, past .before .before .before .before .before .before .pre .0), law.ready (past .before .before .before .before .before .before .pre .1) z))
     (λ c κs. search needs)
     (λ c.
     let past = c .before .before .before .before .before .before .before in
-    law.repeat-read _ _ _ _ _ _ (past .before .before .before .before .before .before .condition .ensures) (past .before .before .settled .ensures) _
-    _ _ (past .before .if1 .taken) _ (c .before .before .before .before .braces .ensures) (c .before .before .before .if2 .taken) _
+    law.repeat-read _ _ _ _ _ (past .before .before .before .before .before .before .condition .ensures) (past .before .before .settled .ensures) _ _
+    _ (past .before .if1 .taken) _ (c .before .before .before .before .braces .ensures) (c .before .before .before .if2 .taken) _
     (points-looped (c .before .before .before .before .braces .result) _ _ _ _ _ _ (c .repeat-from .ensures .0) (c .repeat-from .ensures .1)))
     (λ c.
     let past = c .before .before .before .before .before .before .before in
-    law.repeat-braces _ _ _ _ _ _ (past .before .before .before .condition .ensures)
+    law.repeat-braces _ _ _ _ _ (past .before .before .before .condition .ensures)
     (c .before .before .before .before .before .before .settled .ensures) _ _ _ (c .before .before .before .before .before .if1 .taken) _
     (c .before .braces .ensures) (c .if2 .left))
     (λ c.
-    law.repeat-refused _ _ _ _ _ _ (c .before .before .before .before .before .condition .ensures) (c .before .settled .ensures) _ _ _ (c .if1 .left)))
+    law.repeat-refused _ _ _ _ _ (c .before .before .before .before .before .condition .ensures) (c .before .settled .ensures) _ _ _ (c .if1 .left)))
     λ t. statement-lts.spec (
       next-reads.Asked,
       next-reads.Learnt,
-      expect-reads.Asked,
-      expect-reads.Learnt,
-      passed-reads.Asked,
-      passed-reads.Learnt,
-      tested-reads.Asked,
-      tested-reads.Learnt,
-      settled-reads.Asked,
-      settled-reads.Learnt,
+      moved-reads.Asked,
+      moved-reads.Learnt,
       conditional-below t,
       conditional.Post,
       repeat-below t,
       repeat.Post,
-      is-name-reads.Asked,
-      is-name-reads.Learnt,
-      assignment-reads.Asked,
-      assignment-reads.Learnt,
-      unfitting-reads.Asked,
-      unfitting-reads.Learnt,
+      plain-reads.Asked,
+      plain-reads.Learnt,
     )
     (statement-at t)
     statement′.Post
     (λ c κs. search needs)
-    (λ c κs. search needs)
     (λ c κs.
     let past = c .before .before .before .before .before .before .before in
     past .pre .1 .counted)
-    (λ c.
-    law.statement-skip _ _ _ _ _ _ _ (c .before .before .before .next .ensures) _ _ (c .before .before .if1 .taken) (c .before .expect .ensures)
-    (c .passed .ensures _))
     (λ c κs.
     let past = c .before .before .before .before .before .before .before in
-    past .pre .1 .few .registers)
-    (λ c κs. search needs)
+    let (x, y) = law.token-on (past .before .before .before .before .args .text .now) _ _
+    (c .before .before .before .before .before .before .next .ensures) (omega (arith, c .before .before .before .before .if1 .taken)) in
+    let z = c .before .before .before .moved .ensures [] .at in
+    let pre = past .before .before .before .before .pre in
+    (omega (arith, pre .0), law.ready (pre .1) (fine-count (c .before .before .before .moved .ensures []))))
     (λ c.
     let past = c .before .before .before .before .before .before .before in
-    law.statement-assume _ _ _ _ _ _ _ (past .next .ensures) _ _ (c .before .before .before .before .before .if2 .taken)
-    (c .before .before .before .before .tested .ensures) (c .settled .ensures))
+    law.statement-if _ _ _ _ _ _ _ (past .next .ensures) (past .before .before .before .before .before .pre .1 .counted) _ _
+    (c .before .before .before .before .moved .ensures _) (c .before .before .before .before .before .if1 .taken) (c .conditional .ensures))
     (λ c κs.
     let past = c .before .before .before .before .before .before .before in
-    past .before .pre .1 .few .registers)
-    (λ c κs. search needs)
-    (λ c.
-    let past = c .before .before .before .before .before .before .before in
-    law.statement-assert _ _ _ _ _ _ _ (past .before .next .ensures) _ _ (c .before .before .before .before .before .if3 .taken)
-    (c .before .before .before .before .tested2 .ensures) (c .settled2 .ensures))
-    (λ c κs.
-    let past = c .before .before .before .before .before .before .before in
-    let (x, y) = law.token-on (past .before .before .before .before .before .args .text .now) _ _ (past .next .ensures)
-    (omega (arith, c .before .before .before .if4 .taken)) in
-    (omega (arith, past .before .before .before .before .before .pre .0), past .before .before .before .before .before .pre .1))
-    (λ c.
-    let past = c .before .before .before .before .before .before .before in
-    law.statement-if _ _ _ _ _ _ _ (past .before .next .ensures) _ (c .before .before .before .before .if4 .taken) (c .conditional .ensures))
+    past .before .before .pre .1 .counted)
     (λ c κs.
     let past = c .before .before .before .before .before .before .before in
     let (x, y) = law.token-on (past .before .before .before .before .before .before .args .text .now) _ _ (past .before .next .ensures)
-    (omega (arith, c .before .before .before .if5 .taken)) in
-    (omega (arith, past .before .before .before .before .before .before .pre .0), past .before .before .before .before .before .before .pre .1))
+    (omega (arith, c .before .before .before .before .if2 .taken)) in
+    let z = c .before .before .before .moved2 .ensures [] .at in
+    let pre = past .before .before .before .before .before .before .pre in
+    (omega (arith, pre .0), law.ready (pre .1) (fine-count (c .before .before .before .moved2 .ensures []))))
     (λ c.
     let past = c .before .before .before .before .before .before .before in
-    law.statement-while _ _ _ _ _ _ _ (past .before .before .next .ensures) _ (c .before .before .before .before .if5 .taken) (c .repeat .ensures))
-    (λ c κs. search needs)
+    let far = past .before .before .before .before .before .before .before in
+    law.statement-while _ _ _ _ _ _ _ (past .before .before .next .ensures) (far .pre .1 .counted) _ _
+    (c .before .before .before .before .moved2 .ensures _) (c .before .before .before .before .before .if2 .taken) (c .repeat .ensures))
     (λ c κs.
     let past = c .before .before .before .before .before .before .before in
-    past .before .before .before .before .before .pre .1 .few)
-    (λ c κs. search needs)
+    past .before .before .before .before .before .pre .1)
     (λ c.
     let past = c .before .before .before .before .before .before .before in
-    law.statement-assign _ _ _ _ _ _ _ (past .before .before .before .before .before .next .ensures) (past .before .before .before .before .if1 .left)
-    (past .before .before .before .if2 .left) (past .before .before .if3 .left) (past .before .if4 .left) (past .if5 .left) _
-    (c .before .before .before .before .before .before .is-name .ensures) _ _ (c .settled3 .ensures)
-    (c .before .before .before .before .before .if6 .taken) (c .before .before .before .before .assignment .ensures))
-    (λ c κs. search needs)
-    (λ c κs.
-    let past = c .before .before .before .before .before .before .before in
-    past .before .before .before .before .before .before .pre .1 .counted)
-    (λ c.
-    let past = c .before .before .before .before .before .before .before in
-    law.statement-unfit _ _ _ _ _ _ _ (past .before .before .next .ensures) (past .before .if1 .left) (past .if2 .left)
-    (c .before .before .before .before .before .before .if3 .left) (c .before .before .before .before .before .if4 .left)
-    (c .before .before .before .before .if5 .left) _ (c .before .before .before .is-name .ensures) _ _ (c .passed2 .ensures _)
-    (c .before .before .if6 .left) (c .before .unfitting .ensures))
+    c .plain .ensures .read _ (past .before .next .ensures) (c .before .before .before .before .before .before .if1 .left)
+    (c .before .before .before .before .if2 .left))

@@ -15,17 +15,15 @@ finish-spec =
     (λ c κs. search needs)
     (λ c κs. search needs)
     (λ c κs. search needs)
-    (λ c. search needs)
-    (λ c. search needs)
     (λ c.
     let past = c .before .before .before .before .before .before .before in
     let far = past .before .before .before .before .before .before .before in
-    let args = far .before .before .before .args in
-    let whole = law.points-whole (args .body) _ _ _ _ _ _ (past .before .before .redirect-range .ensures .0)
-    (past .before .before .redirect-range .ensures .1) (c .before .before .before .before .before .before .points-of .ensures) in
-    law.finish-read (args .text .now) (args .rs) (args .fs) _ _ (far .before .next .ensures)
-    (past .before .before .before .before .before .before .if1 .taken) (far .before .before .before .pre .0) (far .before .before .before .pre .1)
-    (past .before .before .before .before .before .if2 .left) _ (c .before .before .before .before .binary-of .ensures) _ whole)
+    let args = far .args in
+    let whole = law.points-whole (args .body) _ _ _ _ _ _ (c .before .before .before .before .before .before .redirect-range .ensures .0)
+    (c .before .before .before .before .before .before .redirect-range .ensures .1) (c .before .before .before .points-of .ensures) in
+    law.finish-read (args .text .now) (args .rs) (args .fs) _ _ (past .before .before .before .before .before .next .ensures)
+    (past .before .before .before .if1 .taken) (far .pre .0) (far .pre .1) (past .before .before .if2 .left) _ (c .before .before .header-of .ensures)
+    _ whole)
     (λ c κs. search needs)
     (λ c κs. search needs)
     (λ c.

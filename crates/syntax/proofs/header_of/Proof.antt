@@ -1,0 +1,13 @@
+use borrow.Author.Needs.{needs}
+use Rattle.syntax.specs.Top as law
+use Rattle.syntax.proofs.header_of.Statement.{statement}
+use Rattle.syntax.proofs.header_of.Tie as tie
+
+pub header-of-spec : {M : Type 1} → statement M
+header-of-spec =
+    tie.close
+    (tie.spec
+    (λ c. search needs)
+    (λ c. search needs)
+    (λ c κs. search needs)
+    (λ c. law.head-held (c .before .before .before .before .args .rs) (c .before .before .before .before .args .fs) _ (c .binary-of .ensures)))
