@@ -18,7 +18,7 @@ use Rattle.letters.specs.Editions.{firstEdition}
 use Rattle.letters.specs.Answers.{Answer, value, refusal, onAnswer}
 use Rattle.letters.specs.Words.{HeaderFits, headerFields, letterFields, headerWord, letterWord, headerTest, encodeHeader, encodeLetter}
 use Rattle.letters.specs.WordLaws.{chosen, header-test, fits-test, first-roomy}
-use Rattle.letters.specs.Traces.{Reading, trace, refused, bytesOf, parts, packing, lettersFrom, counted}
+use Rattle.letters.specs.Traces.{Reading, trace, refused, units, bytesOf, parts, packing, lettersFrom, counted}
 use Rattle.letters.specs.TraceLaws.{Decoded, letters-decoded, decoded-length, parts-length, bytes-length}
 use Rattle.letters.specs.Writing.{unpackLetter, unpackedParts, unpacking, writtenLength, writtenOver, Wrote}
 use Rattle.letters.specs.WritingLaws.{unpack-letter, unpack-whole}
@@ -80,7 +80,7 @@ letter-lt h l v f = join-lt (firstEdition .letter) (letterFields h l) (first-roo
 
 put-decoded : (h : Header) (out : List ℕ) (to : ℕ) (codes : List (List ℕ)) (ls : List Letter) → HeaderFits firstEdition h → Decoded (unpackLetter h) codes ls
     → putWords (wordIn firstEdition h) out to codes ≡ sets out to (bytesOf firstEdition (map (letterWord firstEdition h) ls))
-unfolding putEach
+unfolding putEach units
 put-decoded h out to [] [] v d = refl
 put-decoded h out to [] (l ∷ ls) v d = absurd d
 put-decoded h out to (x ∷ codes) [] v d = absurd d
@@ -154,7 +154,7 @@ module _ (h : Header) (s out : List ℕ) (w : ℕ) (q : encodeHeader firstEditio
 
     laid : 2 * n + 2 ≤ length out
         → putWords (wordIn firstEdition h) (putWord out 0 w) 2 (unpackedParts s) ≡ packing firstEdition h letters ++ drop (length (packing firstEdition h letters)) out
-    unfolding packing
+    unfolding packing units
     laid l =
         let v = header-test firstEdition h .0 (good .0) in
         let rest = bytesOf firstEdition (map (letterWord firstEdition h) letters) in

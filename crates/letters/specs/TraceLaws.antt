@@ -18,7 +18,7 @@ use Rattle.letters.specs.Editions.{Edition}
 use Rattle.letters.specs.Answers.{Answer, value, refusal, onAnswer}
 use Rattle.letters.specs.Words.{HeaderFits, headerFields, headerWord, letterFields, letterWord, decodeHeader}
 use Rattle.letters.specs.WordLaws.{Roomy, decode-header, decode-letter}
-use Rattle.letters.specs.Traces.{Reading, trace, refused, AllFit, octets, bytesOf, parts, packing, before, lettersFrom, beginning, letterCount, letterIn, lettersOf, readingWhere, reading, letterAt}
+use Rattle.letters.specs.Traces.{Reading, trace, refused, AllFit, octets, units, bytesOf, parts, packing, before, lettersFrom, beginning, letterCount, letterIn, lettersOf, readingWhere, reading, letterAt}
 
 -- Every entry is a byte.
 abbrev pub Bytes : List ℕ → Type 0
@@ -94,13 +94,20 @@ sized-octets (suc k) (x ∷ s) b l = (b 0, sized-octets k s (λ i. b (suc i)) (o
 bytes-drop : (k : ℕ) (s : List ℕ) → Bytes s → Bytes (drop k s)
 bytes-drop k s b i = rw (getD-drop k s i 0) (b (k + i))
 
+pub octets-length : (k n : ℕ) → length (split (replicate k 8) n) ≡ k
+octets-length k n = split-length (replicate k 8) n ∙ length-replicate k 8
+
+pub units-length : (k : ℕ) (ns : List ℕ) → length (units k ns) ≡ k * length ns
+unfolding units
+units-length k [] = sym (mul-zero k)
+units-length k (n ∷ ns) = rw (length-append, octets-length k n, units-length k ns, mul-suc k (length ns)) (omega arith)
+
 module _ (e : Edition) (r : Roomy e) where
   unit-length : (w : ℕ) → length (split (octets e) w) ≡ e .bytes
-  unit-length w = split-length (octets e) w ∙ length-replicate (e .bytes) 8
+  unit-length w = octets-length (e .bytes) w
 
   pub bytes-length : (words : List ℕ) → length (bytesOf e words) ≡ e .bytes * length words
-  bytes-length [] = sym (mul-zero (e .bytes))
-  bytes-length (w ∷ words) = rw (length-append, unit-length w, bytes-length words, mul-suc (e .bytes) (length words)) (omega arith)
+  bytes-length words = units-length (e .bytes) words
 
   unit-back : (w : ℕ) → w < 2 ^ (8 * e .bytes) → join (octets e) (split (octets e) w) ≡ w
   unit-back w l = join-split (octets e) w (rw (octets-total (e .bytes)) l)
@@ -115,7 +122,7 @@ module _ (e : Edition) (r : Roomy e) where
 
   -- the letters' bytes are read as the letters
   packed-decoded : (h : Header) (ls : List Letter) → HeaderFits e h → AllFit h ls → Decoded (letterIn e h) (parts (e .bytes) (length ls) (bytesOf e (map (letterWord e h) ls))) ls
-  unfolding parts
+  unfolding parts units
   packed-decoded h [] v f = tt
   packed-decoded h (l ∷ ls) v f =
       rw (take-at (split (octets e) (letterWord e h l)) (bytesOf e (map (letterWord e h) ls)) (e .bytes) (unit-length _), drop-at (split (octets e) (letterWord e h l)) (bytesOf e (map (letterWord e h) ls)) (e .bytes) (unit-length _), letter-back h l v (f .0))
@@ -123,7 +130,7 @@ module _ (e : Edition) (r : Roomy e) where
 
   -- A trace that was packed is read as itself.
   pub reading-packing : (h : Header) (ls : List Letter) → HeaderFits e h → AllFit h ls → reading e (packing e h ls) ≡ trace h ls
-  unfolding readingWhere beginning lettersOf packing
+  unfolding readingWhere beginning lettersOf packing units
   reading-packing h ls v f =
       let rest = bytesOf e (map (letterWord e h) ls) in
       let first = split (octets e) (headerWord e h) in
@@ -178,7 +185,7 @@ module _ (e : Edition) (r : Roomy e) where
   -- the bytes of letters that were read from k units
   letters-bytes : (h : Header) (k : ℕ) (s : List ℕ) (ls : List Letter) → length s ≡ e .bytes * k → Bytes s → Decoded (letterIn e h) (parts (e .bytes) k s) ls
       → bytesOf e (map (letterWord e h) ls) ≡ s
-  unfolding parts
+  unfolding parts units
   letters-bytes h zero [] [] l b d = refl
   letters-bytes h zero (x ∷ s) [] l b d = absurd (omega (arith, mul-zero (e .bytes)))
   letters-bytes h zero s (x ∷ ls) l b d = absurd d
@@ -192,7 +199,7 @@ module _ (e : Edition) (r : Roomy e) where
 
   -- Bytes that are read as a trace are the packing of that trace.
   pub packing-reading : (s : List ℕ) (h : Header) (ls : List Letter) → Bytes s → reading e s ≡ trace h ls → packing e h ls ≡ s
-  unfolding packing
+  unfolding packing units
   packing-reading s h ls b q =
       let x = read s h ls q in
       let k = letterCount e s in

@@ -29,10 +29,14 @@ AllFit h (l ∷ ls) = Fits h l × AllFit h ls
 abbrev pub octets : Edition → List ℕ
 octets e = replicate (e .bytes) 8
 
+-- numbers of k bytes each, the most significant byte first
+unfoldable pub units : ℕ → List ℕ → List ℕ
+units k [] = []
+units k (n ∷ ns) = split (replicate k 8) n ++ units k ns
+
 -- the bytes of these words
 abbrev pub bytesOf : Edition → List ℕ → List ℕ
-bytesOf e [] = []
-bytesOf e (w ∷ words) = split (octets e) w ++ bytesOf e words
+bytesOf e words = units (e .bytes) words
 
 -- k parts of n entries each
 unfoldable pub parts : ℕ → ℕ → List ℕ → List (List ℕ)

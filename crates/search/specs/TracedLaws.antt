@@ -11,7 +11,7 @@ use Rattle.letters.specs.Packing.{split, join-lt}
 use Rattle.letters.specs.Editions.{firstEdition}
 use Rattle.letters.specs.Words.{HeaderFits, headerFields, letterFields, headerWord, letterWord, encodeHeader, encodeLetter}
 use Rattle.letters.specs.WordLaws.{header-test, fits-test, first-roomy}
-use Rattle.letters.specs.Traces.{AllFit, bytesOf, packing}
+use Rattle.letters.specs.Traces.{AllFit, units, bytesOf, packing}
 use Rattle.semantics.specs.Terms.{Trace, _▸_, extend, state, WellFormed}
 use Rattle.search.specs.Tracing.{wordOf, wordBytes, letterWords, traced}
 
@@ -43,7 +43,7 @@ module _ (h : Header) (v : HeaderFits firstEdition h) where
   letter-coded a f = rw (header-test firstEdition h .1 v, fits-test h a .1 f) refl
 
   letters-traced : (ls : List Letter) → AllFit h ls → wordBytes (letterWords h ls) ≡ bytesOf firstEdition (map (letterWord firstEdition h) ls)
-  unfolding wordBytes
+  unfolding wordBytes units
   letters-traced [] f = refl
   letters-traced (a ∷ ls) f =
       (λ i. letter-coded a (f .0) i / 256 ∷ letter-coded a (f .0) i % 256 ∷ letters-traced ls (f .1) i)
@@ -51,7 +51,7 @@ module _ (h : Header) (v : HeaderFits firstEdition h) where
 
   -- of letters that fit, under a header that fits
   pub traced-is : (ls : List Letter) → AllFit h ls → traced h ls ≡ packing firstEdition h ls
-  unfolding traced wordBytes packing
+  unfolding traced wordBytes packing units
   traced-is ls f =
       (λ i. header-coded i / 256 ∷ header-coded i % 256 ∷ letters-traced ls f i)
       ∙ ap (λ l. l ++ bytesOf firstEdition (map (letterWord firstEdition h) ls)) (sym (unit-bytes (headerWord firstEdition h) header-lt))

@@ -9,13 +9,9 @@ use Rattle.base.specs.Masks.{has}
 use Rattle.letters.specs.declared.Header.{Header}
 use Rattle.letters.specs.Letters.{arity}
 use Rattle.letters.specs.Packing.{total, join, split}
+unfoldable pub use Rattle.letters.specs.Traces.{units}
 use Rattle.semantics.specs.Terms.{_∈_}
 use Rattle.semantics.specs.Tables.{Row, Tables}
-
--- Numbers of k bytes each, the most significant byte first.
-unfoldable pub units : ℕ → List ℕ → List ℕ
-units k [] = []
-units k (n ∷ ns) = split (replicate k 8) n ++ units k ns
 
 -- The first m numbers of k bytes each.
 unfoldable pub unitsIn : ℕ → ℕ → List ℕ → List ℕ

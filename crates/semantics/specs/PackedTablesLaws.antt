@@ -3,27 +3,20 @@ use mathlib.Core.Path.{_≡_, refl, sym, _∙_, ap, ap₂, subst}
 use mathlib.Core.List.{List, [], _∷_, _++_, map, append-nil, append-assoc, List·Memᴰ·head, List·Memᴰ·tail, List·Memᴰ·not-nil, List·Memᴰ·cases-cons}
 use Prim.Native.Nat.{ℕ, suc, _+_, _*_, _^_, _<_}
 use native.Mathlib.Omega.{arith}
-use lib.ListN.{length, getD, take, drop, replicate, length-append, length-replicate, length-map}
+use lib.ListN.{length, getD, take, drop, replicate, length-append, length-map}
 use lib.Pow.{pow-pos}
 use mathlib.Core.Logic.{inl, inr}
 use Rattle.base.specs.Choice.{byTest}
 use Rattle.base.specs.Masks.{has}
 use Rattle.letters.specs.declared.Header.{Header}
 use Rattle.letters.specs.Letters.{arity}
-use Rattle.letters.specs.Packing.{total, Sized, join, split, join-lt, split-join, join-split, split-length}
-use Rattle.letters.specs.TraceLaws.{octets-total}
+use Rattle.letters.specs.Packing.{total, Sized, join, split, join-lt, split-join, join-split}
+use Rattle.letters.specs.TraceLaws.{octets-total, octets-length}
+pub use Rattle.letters.specs.TraceLaws.{units-length}
 use Rattle.semantics.specs.Terms.{_∈_}
 use Rattle.semantics.specs.Tables.{Row, Tables}
 use Rattle.semantics.specs.PackedTables.{units, unitsIn, RowWidths, rowWidths, rowBytes, wordBytes, secondWritten, secondMeant, rowWord, packTables, rowFrom, readTables, Packable}
 use Rattle.semantics.specs.Lists.{take-front, drop-front}
-
-bytes-length : (k n : ℕ) → length (split (replicate k 8) n) ≡ k
-bytes-length k n = split-length (replicate k 8) n ∙ length-replicate k 8
-
-pub units-length : (k : ℕ) (ns : List ℕ) → length (units k ns) ≡ k * length ns
-unfolding units
-units-length k [] = omega arith
-units-length k (n ∷ ns) = length-append (split (replicate k 8) n) (units k ns) ∙ ap₂ _+_ (bytes-length k n) (units-length k ns) ∙ omega arith
 
 -- numbers of k bytes come back
 units-back : (k : ℕ) (ns rest : List ℕ) → ((n : ℕ) → n ∈ ns → n < 2 ^ (8 * k)) → unitsIn k (length ns) (units k ns ++ rest) ≡ ns
@@ -31,10 +24,10 @@ unfolding units unitsIn
 units-back k [] rest h = refl
 units-back k (n ∷ ns) rest h =
     ap₂ (λ a l. a ∷ l)
-    (ap (join (replicate k 8)) (ap (take k) assoc ∙ ap (λ j. take j (bytes ++ (units k ns ++ rest))) (sym (bytes-length k n)) ∙ take-front bytes
+    (ap (join (replicate k 8)) (ap (take k) assoc ∙ ap (λ j. take j (bytes ++ (units k ns ++ rest))) (sym (octets-length k n)) ∙ take-front bytes
     (units k ns ++ rest))
     ∙ join-split (replicate k 8) n (subst (λ j. n < 2 ^ j) (sym (octets-total k)) (h n (List·Memᴰ·head refl))))
-    (ap (unitsIn k (length ns)) (ap (drop k) assoc ∙ ap (λ j. drop j (bytes ++ (units k ns ++ rest))) (sym (bytes-length k n)) ∙ drop-front bytes
+    (ap (unitsIn k (length ns)) (ap (drop k) assoc ∙ ap (λ j. drop j (bytes ++ (units k ns ++ rest))) (sym (octets-length k n)) ∙ drop-front bytes
     (units k ns ++ rest))
     ∙ units-back k ns rest (λ m i. h m (List·Memᴰ·tail i)))
   where
