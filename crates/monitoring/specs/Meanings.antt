@@ -48,13 +48,18 @@ pub record Monitors (ρ : Trace) (m : Monitor) : Type 0 where
   -- "An incoherent letter only stops the monitor": its mark is that of the longest coherent beginning
   pub infeasible : (π : Trace) → Longest ρ π → T (m .window .infeasible) ↔ (¬ Feasible (state π))
 
+-- a monitor that refuses every letter
+abbrev pub RefusesAll : Monitor → Type 0
+RefusesAll m = (letter : ℕ) → advance m letter ≡ stepped (outcome.Refused 4) m
+
 -- What a start leaves: "it refuses a header by 3".
 pub record Starts (word : ℕ) (r : Stepped) : Type 0 where
   pub computed : r ≡ startOf word
-  pub taken : (h : Header) → HeaderFits firstEdition h → headerWord firstEdition h ≡ word → (outcomeAnswer (r .outcome) ≡ value tt) × Monitors (begin h) (r .monitor)
+  pub taken : (h : Header) → HeaderFits firstEdition h → headerWord firstEdition h ≡ word
+      → (outcomeAnswer (r .outcome) ≡ value tt) × Monitors (begin h) (r .monitor)
   -- the monitor that comes with a refusal refuses every letter
   pub refused : ((h : Header) → HeaderFits firstEdition h → headerWord firstEdition h ≡ word → ⊥)
-      → (outcomeAnswer (r .outcome) ≡ refusal 3 0) × ((letter : ℕ) → advance (r .monitor) letter ≡ stepped (outcome.Refused 4) (r .monitor))
+      → (outcomeAnswer (r .outcome) ≡ refusal 3 0) × RefusesAll (r .monitor)
 
 -- What a step leaves: "it refuses a letter by 4, place 0, its window unchanged".
 pub record Advances (m : Monitor) (word : ℕ) (r : Stepped) : Type 0 where
@@ -83,8 +88,7 @@ starts word r e = record {
       (refl, monitors (begin h) (freshMonitor h) v (follows-start h (v .registers)));
   refused = λ none.
       let q : r ≡ stepped (outcome.Refused 3) idleOf = e ∙ start-refused word 3 0 (decode-header-refused first-roomy word .1 none) in
-      subst (λ (s : Stepped). (outcomeAnswer (s .outcome) ≡ refusal 3 0) × ((letter : ℕ) → advance (s .monitor) letter ≡ stepped (outcome.Refused 4) (s .monitor))) (sym q)
-      (refl, idle-refuses);
+      subst (λ (s : Stepped). (outcomeAnswer (s .outcome) ≡ refusal 3 0) × RefusesAll (s .monitor)) (sym q) (refl, idle-refuses);
 }
 
 module _ (ρ : Trace) (h : Header) (g : h ≡ state ρ .header) (v : HeaderFits firstEdition (state ρ .header)) (word : ℕ) where
@@ -92,7 +96,8 @@ module _ (ρ : Trace) (h : Header) (g : h ≡ state ρ .header) (v : HeaderFits 
   letter-known : (a : Letter) → Fits (state ρ .header) a → letterWord firstEdition (state ρ .header) a ≡ word → decodeLetter firstEdition h word ≡ value a
   letter-known a f w = ap (λ k. decodeLetter firstEdition k word) g ∙ decode-letter first-roomy (state ρ .header) word a .1 (v, f, w)
 
-  letter-none : ((a : Letter) → Fits (state ρ .header) a → letterWord firstEdition (state ρ .header) a ≡ word → ⊥) → decodeLetter firstEdition h word ≡ refusal 4 0
+  letter-none : ((a : Letter) → Fits (state ρ .header) a → letterWord firstEdition (state ρ .header) a ≡ word → ⊥)
+      → decodeLetter firstEdition h word ≡ refusal 4 0
   letter-none none = ap (λ k. decodeLetter firstEdition k word) g ∙ decode-letter-refused first-roomy (state ρ .header) word .1 (λ a _. none a)
 
 pub advances : (m : Monitor) (word : ℕ) (r : Stepped) → r ≡ advance m word → Advances m word r
@@ -190,7 +195,8 @@ finishes s r e = record {
   computed = e;
   meets = λ bytes t l. subst (λ v. Demand2 bytes (verdictAnswer v)) (sym (answered bytes t)) (demand-met bytes l);
   beyond = λ bytes t exact d.
-      ap verdictAnswer (answered bytes t) ∙ answer-capped bytes ∙ ap cappedAnswer (demand-unique bytes (exactOf (reading firstEdition bytes)) exact (demand-exact bytes) d);
+      ap verdictAnswer (answered bytes t) ∙ answer-capped bytes
+      ∙ ap cappedAnswer (demand-unique bytes (exactOf (reading firstEdition bytes)) exact (demand-exact bytes) d);
 }
   where
     answered : (bytes : List ℕ) → Streams bytes s → r ≡ answerOf bytes

@@ -10,7 +10,8 @@ use Rattle.letters.specs.Packing.{join, split, join-split}
 use Rattle.records.specs.Records.{flag}
 use Rattle.monitoring.specs.declared.Monitor.{Monitor}
 use Rattle.monitoring.specs.declared.Stream.{Stream}
-use Rattle.states.specs.States.{eightOctets, monitorSize, streamSize, headOf, partsThen, monitorThen, Sizes, WindowSizes, monitorIn, KeepsMonitor, firstNumber, secondNumber, tailOf, tailThen, streamThen, streamIn, KeepsStream}
+use Rattle.states.specs.States.{eightOctets, monitorSize, streamSize, headOf, partsThen, monitorThen, Sizes, WindowSizes, monitorIn, KeepsMonitor}
+use Rattle.states.specs.States.{firstNumber, secondNumber, tailOf, tailThen, streamThen, streamIn, KeepsStream}
 use Rattle.states.specs.StateLaws.{behind, front, monitor-back, stream-back}
 
 -- a part laid behind what is done
@@ -47,7 +48,8 @@ module _ (head class unequal marks ever result : List ℕ) (heads : length head 
       let d : drop (length result) r₅ ≡ drop 318 b₀ = behind in
       e₆ ∙ ap (λ r. head ++ class ++ unequal ++ marks ++ ever ++ result ++ r) d ∙ simp append-assoc
     where
-      behind : drop (length result) (drop (length ever) (drop (length marks) (drop (length unequal) (drop (length class) (drop (length head) b₀))))) ≡ drop 318 b₀
+      behind : drop (length result) (drop (length ever) (drop (length marks) (drop (length unequal) (drop (length class) (drop (length head) b₀)))))
+          ≡ drop 318 b₀
       behind =
           rw (z .results, z .evers, z .marked, z .unequals, z .classes, heads)
           (rw (drop-drop 8 6 b₀, drop-drop 8 14 b₀, drop-drop 8 22 b₀, drop-drop 32 30 b₀, drop-drop 256 62 b₀))
@@ -140,7 +142,8 @@ keeps-stream kind s entry between exit tail letters first second k t x y o q =
     ∙ ap (drop 28) (ap (drop 318) (k .bytes) ∙ behind (headOf kind m) (w .class) (w .unequal) (map flag (w .mark)) (w .ever) (w .result) refl (k .sizes) r)
     ∙ drop-drop 28 318 entry in
     let near : (other : List ℕ) → take monitorSize between ++ other ≡ monitorThen kind m other =
-    (λ other. ap (λ l. take monitorSize l ++ other) (k .bytes) ∙ front (headOf kind m) (w .class) (w .unequal) (map flag (w .mark)) (w .ever) (w .result) refl (k .sizes) r other) in
+    (λ other. ap (λ l. take monitorSize l ++ other) (k .bytes)
+    ∙ front (headOf kind m) (w .class) (w .unequal) (map flag (w .mark)) (w .ever) (w .result) refl (k .sizes) r other) in
     let all : exit ≡ streamThen kind s (drop streamSize entry) = q ∙ rw (far, t, x .0, y .0, o .0) (near _) in
     record {
       bytes = all;

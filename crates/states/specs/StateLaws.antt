@@ -14,7 +14,9 @@ use Rattle.monitoring.specs.declared.Phase.the-variants.{Empty, One, Even, Odd}
 use Rattle.monitoring.specs.declared.Stream.{Stream}
 use Rattle.monitoring.specs.declared.Verdict.{Verdict}
 use Rattle.monitoring.specs.declared.Verdict.the-variants.{Judged, Refused}
-use Rattle.states.specs.States.{eightOctets, monitorSize, streamSize, headOf, partsThen, monitorThen, Sizes, WindowSizes, windowIn, monitorIn, phaseCode, phaseIn, verdictCode, refusalNumber, firstNumber, secondNumber, verdictIn, tailOf, tailThen, streamThen, numberIn, streamIn}
+use Rattle.states.specs.States.{eightOctets, headOf, partsThen, monitorThen, Sizes, WindowSizes, windowIn, monitorIn}
+use Rattle.states.specs.States.{phaseCode, phaseIn, verdictCode, refusalNumber, firstNumber, secondNumber, verdictIn}
+use Rattle.states.specs.States.{tailOf, tailThen, streamThen, numberIn, streamIn}
 
 -- one part further
 next : (s x y : List ℕ) (a n b : ℕ) → drop a s ≡ x ++ y → length x ≡ n → b ≡ a + n → drop b s ≡ y
@@ -39,7 +41,8 @@ module _ (head class unequal marks ever result : List ℕ) (heads : length head 
   behind rest = rw (parts-joined rest) (drop-at joined rest 318 joined-size)
 
   -- other bytes behind them
-  pub front : (rest other : List ℕ) → take 318 (partsThen head class unequal marks ever result rest) ++ other ≡ partsThen head class unequal marks ever result other
+  pub front : (rest other : List ℕ)
+      → take 318 (partsThen head class unequal marks ever result rest) ++ other ≡ partsThen head class unequal marks ever result other
   front rest other = rw (parts-joined rest, take-at joined rest 318 joined-size) (sym (parts-joined other))
 
 pub monitor-back : (kind : ℕ) (m : Monitor) (rest : List ℕ) → WindowSizes (m .window) → monitorIn (monitorThen kind m rest) ≡ m

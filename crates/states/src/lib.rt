@@ -16,7 +16,8 @@ ghost use mathlib.Core.List.{_++_};
 ghost use lib.ListN.{length, take, drop};
 ghost use Rattle.letters.specs.Packing.{join, split};
 ghost use Rattle.states.specs.States.{eightOctets, monitorSize, streamSize, headOf, partsThen, Sizes, windowIn, monitorIn, KeepsMonitor};
-ghost use Rattle.states.specs.States.{phaseCode, phaseIn, verdictCode, refusalNumber, firstNumber, secondNumber, verdictIn, tailThen, streamIn, KeepsStream};
+ghost use Rattle.states.specs.States.{phaseCode, phaseIn, verdictCode, refusalNumber, firstNumber, secondNumber, verdictIn};
+ghost use Rattle.states.specs.States.{tailThen, streamIn, KeepsStream};
 
 // Where the parts stand: specs/States.antt.
 const CLASS: usize = 6;
