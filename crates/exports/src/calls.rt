@@ -8,6 +8,8 @@ use monitoring::starting;
 use monitoring::stepping;
 use monitoring::streaming;
 use records::flagged;
+use states::MONITOR_SIZE;
+use states::STREAM_SIZE;
 use states::monitor_in;
 use states::put_monitor;
 use states::put_stream;
@@ -23,11 +25,6 @@ ghost use Rattle.exports.specs.MonitorCalls.{StartsStream, PushesStream,
 const MONITOR: u8 = 1;
 
 const STREAM: u8 = 2;
-
-// How many bytes a state has: specs/States.antt of the crate `states`.
-const MONITOR_SIZE: usize = 318;
-
-const STREAM_SIZE: usize = 346;
 
 // What is answered for a state that is too short or of another kind; document 01 has no such number.
 const NO_STATE: u64 = 255;
