@@ -7,3 +7,4 @@ pub mod Saying
 pub mod ReportedLaws
 pub mod Examples
 pub mod Declared
+pub mod Answered
