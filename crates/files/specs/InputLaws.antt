@@ -44,7 +44,8 @@ pub record SoFar (entry : List ℕ) (done : ℕ) (buffer : List ℕ) : Type 0 wh
   pub behind : drop done buffer ≡ drop done entry
 
 -- And one read more.
-so-far-next : (entry buffer piece exit : List ℕ) (done : ℕ) (r : OneRead) → SoFar entry done buffer → Stored buffer done piece r exit → SoFar entry (done + given r) exit
+so-far-next : (entry buffer piece exit : List ℕ) (done : ℕ) (r : OneRead) → SoFar entry done buffer → Stored buffer done piece r exit → SoFar entry
+    (done + given r) exit
 so-far-next entry buffer piece exit done r s m =
     let n = given r in
     let room : done + n ≤ length buffer = omega (arith, s .length-kept, s .within, gave-most (length buffer - done) r (m .gave)) in
@@ -58,7 +59,11 @@ so-far-next entry buffer piece exit done r s m =
 module _ (entry buffer piece exit : List ℕ) (done : ℕ) (r : OneRead) (s : SoFar entry done buffer) (m : Stored buffer done piece r exit) where
   -- The read gave n bytes.
   pub so-far-more : (n : ℕ) → r ≡ Bytes n → SoFar entry (done + n) exit × (0 < n)
-  so-far-more n e = (subst (λ k. SoFar entry (done + k) exit) (ap given e) (so-far-next entry buffer piece exit done r s m), subst (Gave (length buffer - done)) e (m .gave) .0)
+  so-far-more n e = (
+    subst (λ k. SoFar entry (done + k) exit) (ap given e) (so-far-next entry buffer piece exit done r s m),
+    subst (Gave (length buffer - done)) e
+        (m .gave) .0,
+  )
 
   -- It gave none.
   pub so-far-last : given r ≡ 0 → SoFar entry done exit

@@ -11,7 +11,8 @@ use Rattle.files.specs.Lines.{Answered}
 use Rattle.text.specs.Appending.{appended-length}
 use Rattle.model_lines.specs.Prints.{mostBytes, PrintsRead}
 
-module _ (entry exit : List ℕ) (r : files.Lines) (x : Answered (PrintsRead entry) entry r exit) (room : mostBytes ≡ length entry) {size : ℕ} (e : r ≡ Written size) where
+module _ (entry exit : List ℕ) (r : files.Lines) (x : Answered (PrintsRead entry) entry r exit) (room : mostBytes ≡ length entry) {size : ℕ}
+    (e : r ≡ Written size) where
   written : PrintsRead entry size exit
   written = subst (λ (a : files.Lines). Answered (PrintsRead entry) entry a exit) e x
 

@@ -41,14 +41,16 @@ glyph-byte : (d : ℕ) → d < 16 → (0 < glyph d) × (glyph d < 256)
 glyph-byte d h = byTest (ltb d 10) (λ t. rw t (omega arith, omega arith)) λ t. rw t (omega arith, omega arith)
 
 -- "0", with a name of two bytes
-pub octet-form : (byte value : ℕ) → value ≡ byte → value < 256 → octetText byte ≡ filledIn (48 ∷ []) ((glyph (value / 16) + 256 * glyph (value % 16)) ∷ 0 ∷ 0 ∷ 0 ∷ [])
+pub octet-form : (byte value : ℕ) → value ≡ byte → value < 256 → octetText byte ≡ filledIn (48 ∷ [])
+    ((glyph (value / 16) + 256 * glyph (value % 16)) ∷ 0 ∷ 0 ∷ 0 ∷ [])
 unfolding octetText filledIn part
 octet-form byte value e h =
     let (a, b) = glyph-byte (value / 16) (omega arith) in
     let (c, d) = glyph-byte (value % 16) (omega arith) in
     let text : List ℕ = glyph (value / 16) ∷ glyph (value % 16) ∷ [] in
     sym (append-nil (nameText (glyph (value / 16) + 256 * glyph (value % 16)))
-    ∙ ap nameText (number-is (glyph (value / 16)) (glyph (value % 16))) ∙ name-back text (a, b, (c, d, tt)) ∙ ap (λ (n : ℕ). glyph (n / 16) ∷ glyph (n % 16) ∷ []) e)
+    ∙ ap nameText (number-is (glyph (value / 16)) (glyph (value % 16))) ∙ name-back text (a, b, (c, d, tt)) ∙ ap
+    (λ (n : ℕ). glyph (n / 16) ∷ glyph (n % 16) ∷ []) e)
   where
     number-is : (a b : ℕ) → a + 256 * b ≡ a + 256 * (b + 256 * 0)
     number-is a b = omega arith
@@ -59,7 +61,8 @@ unfolding infeasibleLine line filledIn part
 infeasible-form n = refl
 
 -- "refused 4 at 5"
-pub refused-form : (m n : ℕ) → refusedLine m n ≡ filledIn (114 ∷ 101 ∷ 102 ∷ 117 ∷ 115 ∷ 101 ∷ 100 ∷ 32 ∷ 52 ∷ 32 ∷ 97 ∷ 116 ∷ 32 ∷ 53 ∷ 10 ∷ []) (m ∷ n ∷ 0 ∷ 0 ∷ [])
+pub refused-form : (m n : ℕ) → refusedLine m n ≡ filledIn (114 ∷ 101 ∷ 102 ∷ 117 ∷ 115 ∷ 101 ∷ 100 ∷ 32 ∷ 52 ∷ 32 ∷ 97 ∷ 116 ∷ 32 ∷ 53 ∷ 10 ∷ [])
+    (m ∷ n ∷ 0 ∷ 0 ∷ [])
 unfolding refusedLine line filledIn part
 refused-form m n = refl
 
@@ -128,7 +131,8 @@ pub record Wrote (entry : List ℕ) (r : Shown) (out : List ℕ) (size : ℕ) (e
 module _ (entry out exit : List ℕ) (r : Shown) (size : ℕ) where
   pub wrote-model : (n : ℕ) → r ≡ Model n → Held r (length out) → Appended entry 0 (modelLine (take n out)) exit size → Wrote entry r out size exit
   unfolding lineOf
-  wrote-model n e h a = subst (λ (q : Shown). Wrote entry q out size exit) (sym e) record { few = model-few (take n out) (omega (arith, held .0, held .1, length-take-le n out (held .0))); appended = a }
+  wrote-model n e h a = subst (λ (q : Shown). Wrote entry q out size exit)
+      (sym e) record { few = model-few (take n out) (omega (arith, held .0, held .1, length-take-le n out (held .0))); appended = a }
     where
       held : (n ≤ length out) × (length out ≤ mostModel)
       held = subst (λ (q : Shown). Held q (length out)) e h
@@ -180,7 +184,13 @@ module _ (s : List ℕ) (h : Header) (ls : List Letter) (e : readingWithin 1024 
 
   starts-few : length (tablesOf (state (traceOf h ls)) .starts) ≤ 8
   unfolding tablesOf shownTables
-  starts-few = omega (arith, starts-length (number σ) 0 (σ .header .registers), ap (λ (g : Header). g .registers) (extend-header (begin h) ls), registers-few s h (length ls) reads)
+  starts-few = omega (
+    arith,
+    starts-length (number σ) 0 (σ .header .registers),
+    ap (λ (g : Header). g .registers) (extend-header (begin h) ls),
+    registers-few s h
+        (length ls) reads,
+  )
 
   model-fits : length (modelBytes (state (traceOf h ls))) ≤ mostModel
   unfolding modelBytes
@@ -210,7 +220,8 @@ module _ (s entry exit : List ℕ) (r : Shown) (x : Showed s entry r exit) (room
   unfolding answerTo outputAfter readLine
   answer-line = go (readingWithin 1024 firstEdition s) refl (x .answer) (x .output)
     where
-      go : (y : Reading) → readingWithin 1024 firstEdition s ≡ y → shownAnswer r ≡ answerTo y (length entry) → exit ≡ outputAfter y entry → lineOf r exit ≡ readLine y
+      go : (y : Reading) → readingWithin 1024 firstEdition s ≡ y → shownAnswer r ≡ answerTo y (length entry) → exit ≡ outputAfter y entry
+          → lineOf r exit ≡ readLine y
       go (refused a b) q e f = refused-line r a b exit e
       go (trace h ls) q e f =
           let bytes = modelBytes (state (traceOf h ls)) in

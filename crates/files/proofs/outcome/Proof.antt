@@ -49,13 +49,15 @@ outcome-spec =
     (tie.spec
     (λ c.
     let start = c .before in
-    negative (toZ w64 (ofZ w64 (start .args .got))) (start .args .most) (c .if1 .taken) ∙ ap (λ (z : ℤ). meaning z (start .args .most)) (toZ-ofZ (start .fits .got)))
+    negative (toZ w64 (ofZ w64 (start .args .got))) (start .args .most) (c .if1 .taken) ∙ ap (λ (z : ℤ). meaning z (start .args .most))
+    (toZ-ofZ (start .fits .got)))
     cast-least
     (λ c κs. search needs)
     (λ c.
     let start = c .before .before .before in
     let most = start .args .most in
-    ap Bytes (c .least .ensures) ∙ above (toZ w64 (ofZ w64 (start .args .got))) most (c .before .if2 .taken) ∙ ap (λ (z : ℤ). meaning z most) (toZ-ofZ (start .fits .got)))
+    ap Bytes (c .least .ensures) ∙ above (toZ w64 (ofZ w64 (start .args .got))) most (c .before .if2 .taken) ∙ ap (λ (z : ℤ). meaning z most)
+    (toZ-ofZ (start .fits .got)))
     (λ c.
     let start = c .before .before in
     neither (toZ w64 (ofZ w64 (start .args .got))) (start .args .most) (c .before .if1 .left) (c .if2 .left)

@@ -31,5 +31,6 @@ read-once-spec =
     record {
       gave = gave-wider (most .result) (length (start .args .buffer .now) - start .args .at) (read .result) (omega (arith, most .ensures)) (read .ensures);
       front = omega (arith, some);
-      bytes = c .before .before .copy .ensures ∙ ap (paste (start .args .buffer .now) (start .args .at) (read .last .1 .0)) (c .before .before .before .size .ensures);
+      bytes = c .before .before .copy .ensures ∙ ap (paste (start .args .buffer .now) (start .args .at) (read .last .1 .0))
+          (c .before .before .before .size .ensures);
     }))

@@ -13,10 +13,12 @@ main-spec =
     (λ c. search needs)
     (λ c.
     let answer = c .before .before .before .before .answer in
-    written-within (c .before .before .before .before .before .before .line-space .result) (answer .last .1 .0) (answer .result) (answer .ensures) (c .before .before .before .before .before .before .line-space .ensures) (c .before .answer2 .given .1))
+    written-within (c .before .before .before .before .before .before .line-space .result) (answer .last .1 .0) (answer .result) (answer .ensures)
+    (c .before .before .before .before .before .before .line-space .ensures) (c .before .answer2 .given .1))
     (λ c.
     let answer = c .before .before .before .before .before .answer in
-    written-length (c .before .before .before .before .before .before .before .line-space .result) (answer .last .1 .0) (answer .result) (answer .ensures) (c .before .before .before .before .before .before .before .line-space .ensures) (c .before .before .answer2 .given .1))
+    written-length (c .before .before .before .before .before .before .before .line-space .result) (answer .last .1 .0) (answer .result)
+    (answer .ensures) (c .before .before .before .before .before .before .before .line-space .ensures) (c .before .before .answer2 .given .1))
     (λ c κs. search needs)
     (λ c. search needs)
     (λ c. search needs)

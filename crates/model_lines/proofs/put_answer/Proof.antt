@@ -6,7 +6,8 @@ use lib.Seq.{length-take-le}
 use mir.Syntax.{w8, w64}
 use mir.Val.{Fits}
 use Rattle.text.specs.Appending.{room-same, appended-same, appended-length}
-use Rattle.model_lines.specs.PrintsLaws.{infeasible-form, refused-form, infeasible-few, refused-few, few-room, model-held, model-room, wrote-model, wrote-infeasible, wrote-refused}
+use Rattle.model_lines.specs.PrintsLaws.{infeasible-form, refused-form, infeasible-few, refused-few, few-room}
+use Rattle.model_lines.specs.PrintsLaws.{model-held, model-room, wrote-model, wrote-infeasible, wrote-refused}
 use Rattle.model_lines.proofs.put_answer.Statement.{statement}
 use Rattle.model_lines.proofs.put_answer.Tie as tie
 
@@ -18,7 +19,9 @@ put-answer-spec =
     (λ c.
     let start = c .before .before .before .before .before .before .before in
     let n = c .before .before .before .answer .given in
-    sym (length-take-le (n .0 .0) (start .args .model .now) (model-held (start .args .answer) (n .0 .0) (length (start .args .model .now)) (n .1) (start .pre) .0)))
+    sym
+    (length-take-le (n .0 .0) (start .args .model .now)
+    (model-held (start .args .answer) (n .0 .0) (length (start .args .model .now)) (n .1) (start .pre) .0)))
     (λ c κs.
     let start = c .before .before .before .before .before .before .before in
     let n = c .before .before .before .answer .given in
@@ -43,7 +46,8 @@ put-answer-spec =
     let start = c .before .before .before .before .before .before .before .before .before .before in
     let n = c .before .before .before .before .before .before .answer .given in
     let put = c .before .before .put-model in
-    wrote-model (start .args .out .now) (start .args .model .now) (put .last .0) (start .args .answer) (put .result) (n .0 .0) (n .1) (start .pre) (put .ensures))
+    wrote-model (start .args .out .now) (start .args .model .now) (put .last .0) (start .args .answer) (put .result) (n .0 .0) (n .1) (start .pre)
+    (put .ensures))
     (λ c. appended-length (c .before .before .put-line .ensures))
     (λ c.
     let start = c .before .before .before .before .before .before .before .before .before .before in
@@ -59,5 +63,6 @@ put-answer-spec =
     let put = c .before .before .put-line2 in
     let f : Fits w8 (v .0 .0) = search needs in
     let g : Fits w64 (v .0 .1 .0) = search needs in
-    wrote-refused (start .args .out .now) (start .args .model .now) (put .last .0) (start .args .answer) (put .result) (v .0 .0) (v .0 .1 .0) (v .1) (omega (arith, f .fits)) (g .fits)
+    wrote-refused (start .args .out .now) (start .args .model .now) (put .last .0) (start .args .answer) (put .result) (v .0 .0) (v .0 .1 .0) (v .1)
+    (omega (arith, f .fits)) (g .fits)
     (appended-same (sym (refused-form (v .0 .0) (v .0 .1 .0))) (put .ensures))))

@@ -32,7 +32,8 @@ put-hex-spec =
     let a = c .before .before .before .before .before .before .before .before .before in
     let l = c .before .before .before .before .before .before .loop in
     left-next (octetText (getD (a .args .bytes .now) (l .i) 0)) (hexText (drop (l .i + 1) (a .args .bytes .now)))
-    (left-same (hex-next (a .args .bytes .now) (l .i) (c .before .before .before .before .before .loop-test .taken)) (l .inv)) (c .before .before .put-octet .ensures))
+    (left-same (hex-next (a .args .bytes .now) (l .i) (c .before .before .before .before .before .loop-test .taken)) (l .inv))
+    (c .before .before .put-octet .ensures))
     (λ c. left-length (c .before .loop .inv))
     (λ c.
     let a = c .before .before .before .before in

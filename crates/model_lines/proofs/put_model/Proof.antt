@@ -29,7 +29,8 @@ put-model-spec =
     tie.close
     (tie.spec
     (λ c. search needs)
-    (λ c κs. let s = c .before .before .before .before in room-same model-form (room-first modelWord (rest (s .args .bytes .now) (s .pre)) (whole (s .args .bytes .now) (s .pre))))
+    (λ c κs. let s = c .before .before .before .before in room-same model-form
+    (room-first modelWord (rest (s .args .bytes .now) (s .pre)) (whole (s .args .bytes .now) (s .pre))))
     (λ c κs.
     let s = c .before .before .before .before .before .before .before .before in
     room-first (hexText (s .args .bytes .now)) (10 ∷ []) (behind (s .args .bytes .now) (s .pre) (c .before .before .before .put-line .ensures)))
@@ -37,7 +38,8 @@ put-model-spec =
     (λ c κs.
     let s = c .before .before .before .before .before .before .before .before .before .before .before .before .before in
     room-same feed-form (room-then (hexText (s .args .bytes .now)) (10 ∷ [])
-    (behind (s .args .bytes .now) (s .pre) (c .before .before .before .before .before .before .before .before .put-line .ensures)) (c .before .before .before .before .put-hex .ensures)))
+    (behind (s .args .bytes .now) (s .pre) (c .before .before .before .before .before .before .before .before .put-line .ensures))
+    (c .before .before .before .before .put-hex .ensures)))
     (λ c.
     appended-length (c .before .before .put-line2 .ensures) ∙ appended-length (c .before .before .before .before .before .before .before .put-hex .ensures)
     ∙ appended-length (c .before .before .before .before .before .before .before .before .before .before .before .put-line .ensures))
@@ -46,4 +48,5 @@ put-model-spec =
     let bytes = s .args .bytes .now in
     appended-same (sym (model-parts bytes)) (appended-then modelWord (hexText bytes ++ (10 ∷ []))
     (word bytes (s .pre) (c .before .before .before .before .before .before .before .before .before .before .before .put-line .ensures))
-    (appended-then (hexText bytes) (10 ∷ []) (c .before .before .before .before .before .before .before .put-hex .ensures) (appended-same (sym feed-form) (c .before .before .put-line2 .ensures))))))
+    (appended-then (hexText bytes) (10 ∷ []) (c .before .before .before .before .before .before .before .put-hex .ensures)
+    (appended-same (sym feed-form) (c .before .before .put-line2 .ensures))))))

@@ -14,7 +14,8 @@ use Rattle.model_lines.proofs.put_octet.Tie as tie
 form : (c : tie.After-digit2)
     → octetText (c .before .before .before .before .args .byte) ≡ filledIn (48 ∷ []) ((c .before .digit .result + 256 * c .digit2 .result) ∷ 0 ∷ 0 ∷ 0 ∷ [])
 form c =
-    octet-form (c .before .before .before .before .args .byte) (c .before .before .wide .result) (c .before .before .wide .ensures .0) (c .before .before .wide .ensures .1)
+    octet-form (c .before .before .before .before .args .byte) (c .before .before .wide .result) (c .before .before .wide .ensures .0)
+    (c .before .before .wide .ensures .1)
     ∙ sym (λ i. filledIn (48 ∷ []) ((c .before .digit .ensures .0 i + 256 * c .digit2 .ensures .0 i) ∷ 0 ∷ 0 ∷ 0 ∷ []))
 
 pub put-octet-spec : {M : Type 1} → statement M

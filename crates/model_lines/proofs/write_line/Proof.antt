@@ -13,7 +13,8 @@ write-line-spec =
     (λ c. search needs)
     (λ c κs.
     let show = c .before .before .before .show in
-    showed-held (c .before .before .before .before .before .before .before .before .args .trace .now) (c .before .before .before .before .before .model-space .result) (show .last .1 .0) (show .result)
+    showed-held (c .before .before .before .before .before .before .before .before .args .trace .now)
+    (c .before .before .before .before .before .model-space .result) (show .last .1 .0) (show .result)
     (show .ensures) (search needs) (search needs))
     (λ c. search needs)
     (λ c.
@@ -21,4 +22,5 @@ write-line-spec =
     let space = c .before .before .before .before .before .before .before .before .model-space in
     let show = c .before .before .before .before .before .before .show in
     let put = c .before .before .put-answer in
-    prints (a .trace .now) (space .result) (show .last .1 .0) (show .result) (show .ensures) (search needs) (a .out .now) (put .result) (put .last .0) (put .ensures)))
+    prints (a .trace .now) (space .result) (show .last .1 .0) (show .result) (show .ensures) (search needs) (a .out .now) (put .result) (put .last .0)
+    (put .ensures)))

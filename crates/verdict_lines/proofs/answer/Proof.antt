@@ -23,7 +23,12 @@ answer-spec =
     (λ c.
     let read = c .before .before .before .before .before .before .before .before .before .read in
     let n = c .before .before .before .before .before .before .input .given in
-    record { text = _; short = omega (arith, ended-length (read .ensures) (n .1), ended-within (read .ensures) (n .1)); prints = c .before .before .write-lines .ensures })
+    record {
+      text = _;
+      short = omega
+          (arith, ended-length (read .ensures) (n .1), ended-within (read .ensures) (n .1));
+      prints = c .before .before .write-lines .ensures;
+    })
     (λ c. search needs)
     (λ c. record { text = _; short = search needs; prints = c .before .before .write-lines2 .ensures })
     (λ c. search needs))
