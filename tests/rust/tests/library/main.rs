@@ -11,5 +11,7 @@ mod monitor;
 mod read;
 #[cfg(all(feature = "monitor", feature = "model", feature = "read", feature = "verdict"))]
 mod smoke;
+#[cfg(all(feature = "monitor", feature = "model", feature = "read", feature = "verdict"))]
+mod stack;
 #[cfg(feature = "verdict")]
 mod verdict;
