@@ -1,1 +1,3 @@
-pub mod Prefix
+pub mod Prints
+pub mod PrintsLaws
+pub mod Answered

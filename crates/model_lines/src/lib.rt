@@ -1,91 +1,155 @@
-// Answers a packed trace, read from a file, by one line: `refused N at P`, `infeasible K`, or `model` and the packed model in
-// hexadecimal.
-ghost use Rattle.io.specs.Counts.{Counts};
-use libc::STDOUT_FILENO;
+// Answers a packed trace by one line: `refused N at P`, `infeasible K`, or `model` and the packed model in hexadecimal.
+use files::Input;
+use files::Lines;
 use shown::Shown;
+use text::put_line;
+ghost use mathlib.Core.Path.{_≡_};
+ghost use Prim.Native.Nat.{_<_};
+ghost use lib.ListN.{length};
+ghost use Rattle.io.specs.Digits.{glyph};
+ghost use Rattle.files.specs.Lines.{Answered};
+ghost use Rattle.text.specs.Appending.{Appended, Room};
+ghost use Rattle.model_lines.specs.Prints.{octetText, hexText, modelLine, Prints, PrintsRead};
+ghost use Rattle.model_lines.specs.PrintsLaws.{Held, Wrote};
 
 // Two bytes more than the longest trace that is taken, of 1,024 letters.
 fn trace_space() -> [u8; 2052] {
     [0; 2052]
 }
 
-// The longest model: 8 registers and a row for each of 1,024 letters.
-fn model_space() -> [u8; 5140] {
-    [0; 5140]
+// No model is longer.
+fn model_space() -> [u8; 5180] {
+    [0; 5180]
 }
 
-fn refused(number: u8, place: u64) {
-    io::write_all(STDOUT_FILENO, b"refused ");
-    io::print_decimal(STDOUT_FILENO, number as u64);
-    io::write_all(STDOUT_FILENO, b" at ");
-    io::print_decimal(STDOUT_FILENO, place);
-    io::write_all(STDOUT_FILENO, b"\n");
+/// No line is longer.
+pub fn line_space() -> [u8; 10367]
+    ensures { λ r. ⌜ 10367 ≡ length r ⌝ }
+{
+    [0; 10367]
 }
 
-fn infeasible(letter: u64) {
-    io::write_all(STDOUT_FILENO, b"infeasible ");
-    io::print_decimal(STDOUT_FILENO, letter);
-    io::write_all(STDOUT_FILENO, b"\n");
+// The byte of a hexadecimal digit.
+fn digit(d: u64) -> u64
+    requires { ⌜ d < 16 ⌝ }
+    ensures { λ r. ⌜ (r ≡ glyph d) × (r < 128) ⌝ }
+{
+    if d < 10 { 48 + d } else { 87 + d }
 }
 
-fn model(bytes: &[u8]) {
-    io::write_all(STDOUT_FILENO, b"model ");
+// Appends the two digits of a byte, as a name that has these two bytes.
+fn put_octet(out: &mut [u8], at: usize, byte: u8) -> usize
+    requires { ⌜ Room at (octetText byte) ⌝ }
+    ensures { λ r. ⌜ Appended (now (out .entry)) at (octetText byte) (now (out .exit)) r ⌝ }
+{
+    let value = tokens::wide(byte);
+    let high = digit(value / 16);
+    let low = digit(value % 16);
+    put_line(out, at, b"0", [high + 256 * low, 0, 0, 0])
+}
+
+// Appends the digits of each byte.
+fn put_hex(out: &mut [u8], at: usize, bytes: &[u8]) -> usize
+    requires { ⌜ Room at (hexText (now bytes)) ⌝ }
+    ensures { λ r. ⌜ Appended (now (out .entry)) at (hexText (now (bytes .entry))) (now (out .exit)) r ⌝ }
+{
+    let mut next = at;
     let mut i: usize = 0;
     while i < bytes.len() {
-        io::print_hex(STDOUT_FILENO, bytes[i] as u64, 2);
+        next = put_octet(out, next, bytes[i]);
         i = i + 1;
     }
-    io::write_all(STDOUT_FILENO, b"\n");
+    next
 }
 
-// n, as a number of the buffer's bytes.
-fn count(n: usize, buffer: &[u8]) -> usize
-    ensures { λ r. ⌜ Counts r (now (buffer .entry)) ⌝ }
+// Writes the line of a model.
+fn put_model(out: &mut [u8], bytes: &[u8]) -> usize
+    requires { ⌜ Room 0 (modelLine (now bytes)) ⌝ }
+    ensures { λ r. ⌜ Appended (now (out .entry)) 0 (modelLine (now (bytes .entry))) (now (out .exit)) r ⌝ }
 {
-    if n < buffer.len() { n } else { buffer.len() }
+    let next = put_line(out, 0, b"model ", [0, 0, 0, 0]);
+    let end = put_hex(out, next, bytes);
+    put_line(out, end, b"\n", [0, 0, 0, 0])
 }
 
-fn judge(trace: &[u8]) {
-    let mut out = model_space();
-    let answer = shown::show(trace, &mut out);
+// Writes the line of an answer, whose model, if there is one, is in the front of `model`.
+fn put_answer(out: &mut [u8], answer: Shown, model: &[u8]) -> usize
+    requires { ⌜ Held answer (length (now model)) ⌝ }
+    ensures { λ r. ⌜ Wrote (now (out .entry)) answer (now (model .entry)) r (now (out .exit)) ⌝ }
+{
     match answer {
-        Shown::Model(n) => {
-            let k = count(n, &out);
-            model(&out[..k]);
+        Shown::Model(n) => put_model(out, &model[..n]),
+        Shown::Infeasible(letter) => put_line(out, 0, b"infeasible 4\n", [letter, 0, 0, 0]),
+        Shown::Refused(number, place) => {
+            put_line(out, 0, b"refused 4 at 5\n", [number as u64, place, 0, 0])
         }
-        Shown::Infeasible(k) => infeasible(k),
-        Shown::Refused(number, place) => refused(number, place),
     }
 }
 
-// Reads on to the end of the input, and gives the parity of the number of bytes left. All pieces but the last have an even number
-// of bytes. It reads 65,536 pieces at most, 4 GiB; bytes past those are not seen.
-fn rest_parity(fd: i32) -> usize {
+/// Writes the line of a packed trace into the front of a lent buffer, as far as that goes, and gives the number of the line's bytes,
+/// which is at most 10,367.
+pub fn write_line(trace: &[u8], out: &mut [u8]) -> usize
+    ensures { λ r. ⌜ Prints (now (trace .entry)) (now (out .entry)) r (now (out .exit)) ⌝ }
+{
+    let mut model = model_space();
+    let answer = shown::show(trace, &mut model);
+    put_answer(out, answer, &model)
+}
+
+// What is left of an input.
+enum Rest {
+    Even,
+    Odd,
+    Failed,
+}
+
+// The parity of n.
+fn parity(n: usize) -> Rest {
+    if n % 2 == 0 {
+        return Rest::Even;
+    }
+    Rest::Odd
+}
+
+// Reads on to the end of the input. All pieces but the last have an even number of bytes. A proved loop has to end, and nothing says
+// that the input does: it counts its turns down, from a number that no run uses up.
+fn read_rest(fd: i32) -> Rest {
     let mut piece = io::large_buffer();
-    let mut left: usize = 65536;
-    while 0 < left {
-        let n = io::read_full(fd, &mut piece);
-        if n < 65536 {
-            return n % 2;
+    let mut turns = u64::MAX;
+    while 0 < turns {
+        let input = files::read(fd, &mut piece);
+        match input {
+            Input::Ended(n) => return parity(n),
+            Input::Full => turns = turns - 1,
+            Input::Failed(_) => return Rest::Failed,
         }
-        left = left - 1;
     }
-    0
+    Rest::Failed
 }
 
-/// Answers the trace that the file holds. Of a longer one only the parity of its length and its header matter: question 2 comes
-/// before question 5, and 5 before the letters.
-pub fn answer(fd: i32) {
-    let mut buffer = trace_space();
-    let n = io::read_full(fd, &mut buffer);
-    if n < 2052 {
-        judge(&buffer[..n]);
-        return;
+// Answers a trace that is too long, from its first bytes: question 2 comes before question 5, and 5 before the letters.
+fn answer_long(fd: i32, trace: &[u8], line: &mut [u8]) -> Lines
+    requires { ⌜ 2051 < length (now trace) ⌝ }
+    ensures { λ r. ⌜ Answered (PrintsRead (now (line .entry))) (now (line .entry)) r (now (line .exit)) ⌝ }
+{
+    let rest = read_rest(fd);
+    match rest {
+        Rest::Even => Lines::Written(write_line(trace, line)),
+        Rest::Odd => Lines::Written(write_line(&trace[..2051], line)),
+        Rest::Failed => Lines::Unread,
     }
-    if rest_parity(fd) == 0 {
-        judge(&buffer);
-        return;
+}
+
+/// Reads a trace from a file, and writes its line into the front of a lent buffer. Of a trace of more than 2,050 bytes only its header and
+/// the parity of its length matter.
+pub fn answer(fd: i32, line: &mut [u8]) -> Lines
+    ensures { λ r. ⌜ Answered (PrintsRead (now (line .entry))) (now (line .entry)) r (now (line .exit)) ⌝ }
+{
+    let mut trace = trace_space();
+    let input = files::read(fd, &mut trace);
+    match input {
+        Input::Ended(n) => Lines::Written(write_line(&trace[..n], line)),
+        Input::Full => answer_long(fd, &trace, line),
+        Input::Failed(_) => Lines::Unread,
     }
-    let odd = count(2051, &buffer);
-    judge(&buffer[..odd]);
 }

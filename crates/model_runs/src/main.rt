@@ -1,17 +1,31 @@
 // Answers each packed trace that an argument names, a line for each: the name and the answer.
-use libc::STDOUT_FILENO;
+use files::Lines;
+
+// Prints the name of a file and its line.
+fn report(name: &[u8], line: &[u8]) {
+    files::print(name);
+    files::print(b": ");
+    files::print(line);
+}
+
+fn judge(fd: i32, name: &[u8]) {
+    let mut line = model_lines::line_space();
+    let answer = model_lines::answer(fd, &mut line);
+    match answer {
+        Lines::Written(n) => report(name, &line[..n]),
+        Lines::Unread => os::fail(name),
+    }
+}
 
 fn run_one(i: usize) {
-    let mut path = io::buffer();
-    let n = os::arg(i, &mut path);
-    io::write_all(STDOUT_FILENO, &path[..n]);
-    io::write_all(STDOUT_FILENO, b": ");
-    let fd = os::open_read(&path[..n]);
+    let mut name = io::buffer();
+    let opened = files::open_argument(i, &mut name);
+    let fd = opened.fd;
     if fd < 0 {
-        os::fail(&path[..n]);
         return;
     }
-    model_lines::answer(fd);
+    let size = opened.size;
+    judge(fd, &name[..size]);
     libc::close(fd);
 }
 

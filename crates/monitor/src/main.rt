@@ -1,4 +1,5 @@
 // Judges a packed trace of any length from standard input: whether it is coherent and feasible, and if not, the first letter at which it is not so.
+use files::Input;
 use libc::STDIN_FILENO;
 use libc::STDOUT_FILENO;
 use monitoring::Stream;
@@ -14,30 +15,26 @@ struct Fed {
     stream: Stream,
 }
 
-// Reads once, and pushes what came.
+// Reads as much as the buffer holds, and pushes what came.
 fn feed(stream: Stream) -> Fed {
     let mut buffer = io::large_buffer();
-    let got = libc::read(STDIN_FILENO, &mut buffer);
-    if got < 0 {
-        return Fed {
+    let input = files::read(STDIN_FILENO, &mut buffer);
+    match input {
+        Input::Ended(n) => Fed {
+            more: false,
+            failed: false,
+            stream: push_all(stream, &buffer[..n]),
+        },
+        Input::Full => Fed {
+            more: true,
+            failed: false,
+            stream: push_all(stream, &buffer),
+        },
+        Input::Failed(_) => Fed {
             more: false,
             failed: true,
             stream,
-        };
-    }
-    if got == 0 {
-        return Fed {
-            more: false,
-            failed: false,
-            stream,
-        };
-    }
-    let n = io::count(got, &buffer);
-    let after = push_all(stream, &buffer[..n]);
-    Fed {
-        more: true,
-        failed: false,
-        stream: after,
+        },
     }
 }
 
@@ -58,29 +55,39 @@ fn feed_all() -> Fed {
     fed
 }
 
-// A word for a letter that is not there, or a word and the letter's number.
-fn line(none: &[u8], some: &[u8], letter: u64) {
+// A line for a letter that is not there, or a word and the letter's number. Whether all was written.
+fn line(none: &[u8], some: &[u8], letter: u64) -> bool {
     if letter == 0 {
-        io::write_all(STDOUT_FILENO, none);
-    } else {
-        io::write_all(STDOUT_FILENO, some);
-        io::print_decimal(STDOUT_FILENO, letter);
+        return io::write_all(STDOUT_FILENO, none);
     }
-    io::write_all(STDOUT_FILENO, b"\n");
+    numbered(some, letter, b"\n")
 }
 
-fn report(verdict: Verdict) {
+// A number between words. Whether all was written.
+fn numbered(before: &[u8], number: u64, behind: &[u8]) -> bool {
+    if !io::write_all(STDOUT_FILENO, before) {
+        return false;
+    }
+    if !io::print_decimal(STDOUT_FILENO, number) {
+        return false;
+    }
+    io::write_all(STDOUT_FILENO, behind)
+}
+
+// Whether all was written.
+fn report(verdict: Verdict) -> bool {
     match verdict {
         Verdict::Judged(incoherent, infeasible) => {
-            line(b"coherent", b"incoherent ", incoherent);
-            line(b"feasible", b"infeasible ", infeasible);
+            if !line(b"coherent\n", b"incoherent ", incoherent) {
+                return false;
+            }
+            line(b"feasible\n", b"infeasible ", infeasible)
         }
         Verdict::Refused(number, place) => {
-            io::write_all(STDOUT_FILENO, b"refused ");
-            io::print_decimal(STDOUT_FILENO, number as u64);
-            io::write_all(STDOUT_FILENO, b" at ");
-            io::print_decimal(STDOUT_FILENO, place);
-            io::write_all(STDOUT_FILENO, b"\n");
+            if !numbered(b"refused ", number as u64, b" at ") {
+                return false;
+            }
+            numbered(b"", place, b"\n")
         }
     }
 }
@@ -93,5 +100,7 @@ fn main() {
     }
     let stream = fed.stream;
     let verdict = finish(stream);
-    report(verdict);
+    if !report(verdict) {
+        os::fail(b"write");
+    }
 }

@@ -1,40 +1,56 @@
 // Judges the packed trace in each file that an argument names, and prints a line for each: the file's name, and `judged` with the first
 // incoherent and the first infeasible letter, 0 for none, or `refused` with number and place.
+use files::Input;
+use libc::STDERR_FILENO;
 use libc::STDOUT_FILENO;
 use monitoring::Verdict;
 use monitoring::streaming::judge_trace;
 
-fn numbers(word: &[u8], first: u64, second: u64) {
-    io::write_all(STDOUT_FILENO, word);
+fn numbers(name: &[u8], word: &[u8], first: u64, second: u64) {
+    files::print(name);
+    files::print(word);
     io::print_decimal(STDOUT_FILENO, first);
-    io::write_all(STDOUT_FILENO, b" ");
+    files::print(b" ");
     io::print_decimal(STDOUT_FILENO, second);
-    io::write_all(STDOUT_FILENO, b"\n");
+    files::print(b"\n");
 }
 
-fn report(verdict: Verdict) {
+fn report(name: &[u8], trace: &[u8]) {
+    let verdict = judge_trace(trace);
     match verdict {
-        Verdict::Judged(incoherent, infeasible) => numbers(b" judged ", incoherent, infeasible),
-        Verdict::Refused(number, place) => numbers(b" refused ", number as u64, place),
+        Verdict::Judged(incoherent, infeasible) => numbers(
+            name,
+            b" judged ",
+            incoherent,
+            infeasible,
+        ),
+        Verdict::Refused(number, place) => numbers(name, b" refused ", number as u64, place),
     }
 }
 
-fn judge(fd: i32) {
+// A trace that fills the buffer may have more letters: it is not judged.
+fn judge(fd: i32, name: &[u8]) {
     let mut buffer = io::large_buffer();
-    let n = io::read_full(fd, &mut buffer);
-    report(judge_trace(&buffer[..n]));
+    let input = files::read(fd, &mut buffer);
+    match input {
+        Input::Ended(n) => report(name, &buffer[..n]),
+        Input::Full => {
+            io::write_all(STDERR_FILENO, name);
+            io::write_all(STDERR_FILENO, b": too long\n");
+        }
+        Input::Failed(_) => os::fail(name),
+    }
 }
 
 fn run_one(i: usize) {
-    let mut path = io::buffer();
-    let n = os::arg(i, &mut path);
-    io::write_all(STDOUT_FILENO, &path[..n]);
-    let fd = os::open_read(&path[..n]);
+    let mut name = io::buffer();
+    let opened = files::open_argument(i, &mut name);
+    let fd = opened.fd;
     if fd < 0 {
-        os::fail(&path[..n]);
         return;
     }
-    judge(fd);
+    let size = opened.size;
+    judge(fd, &name[..size]);
     libc::close(fd);
 }
 

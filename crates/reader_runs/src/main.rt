@@ -1,5 +1,6 @@
 // Reads each text that an argument names, and prints what reading it gives: the refusal and its place, or the counts and the points.
 use blocks::Point;
+use files::Input;
 use letters::Letter;
 use libc::STDOUT_FILENO;
 use syntax::Macro;
@@ -82,7 +83,8 @@ fn print_macro(program: Macro) {
     print_points(points, program.count);
 }
 
-fn judge(text: &[u8]) {
+fn report(name: &[u8], text: &[u8]) {
+    files::print(name);
     let answer = syntax::read(text);
     if answer.refusal == 0 {
         let program = answer.program;
@@ -93,21 +95,28 @@ fn judge(text: &[u8]) {
         io::write_all(STDOUT_FILENO, b" at ");
         io::print_decimal(STDOUT_FILENO, answer.place as u64);
     }
-    io::write_all(STDOUT_FILENO, b"\n");
+    files::print(b"\n");
+}
+
+fn judge(fd: i32, name: &[u8]) {
+    let mut text = space();
+    let input = files::read(fd, &mut text);
+    match input {
+        Input::Ended(n) => report(name, &text[..n]),
+        Input::Full => report(name, &text),
+        Input::Failed(_) => os::fail(name),
+    }
 }
 
 fn run_one(i: usize) {
-    let mut path = io::buffer();
-    let n = os::arg(i, &mut path);
-    io::write_all(STDOUT_FILENO, &path[..n]);
-    let fd = os::open_read(&path[..n]);
+    let mut name = io::buffer();
+    let opened = files::open_argument(i, &mut name);
+    let fd = opened.fd;
     if fd < 0 {
-        os::fail(&path[..n]);
         return;
     }
-    let mut text = space();
-    let size = io::read_full(fd, &mut text);
-    judge(&text[..size]);
+    let size = opened.size;
+    judge(fd, &name[..size]);
     libc::close(fd);
 }
 

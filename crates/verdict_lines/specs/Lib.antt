@@ -8,3 +8,4 @@ pub mod ReadBack
 pub mod ReportedLaws
 pub mod Examples
 pub mod Declared
+pub mod Answered

@@ -1,9 +1,13 @@
 // The lines that the verdict program prints for the text of a macro (document 01, "The verdict program").
-use libc::STDOUT_FILENO;
+use files::Input;
+use files::Lines;
 use report::ReportWritten;
 ghost use mathlib.Core.Path.{_≡_};
+ghost use lib.ListN.{length};
 ghost use Rattle.report.specs.Bound.{Limited};
 ghost use Rattle.verdict_lines.specs.Prints.{Prints};
+ghost use Rattle.files.specs.Lines.{Answered};
+ghost use Rattle.verdict_lines.specs.Answered.{PrintsRead};
 ghost use Rattle.verdict_lines.specs.Reported.{reported as reportedOf, sizeOf, Reports};
 
 // One byte more than the longest text that is taken.
@@ -21,8 +25,10 @@ fn answer_space() -> [u8; 4096] {
     [0; 4096]
 }
 
-// The lines are never longer.
-fn line_space() -> [u8; 32768] {
+/// The lines are never longer.
+pub fn line_space() -> [u8; 32768]
+    ensures { λ r. ⌜ 32768 ≡ length r ⌝ }
+{
     [0; 32768]
 }
 
@@ -79,11 +85,16 @@ pub fn write_lines(text: &[u8], lines: &mut [u8]) -> usize
     write_verdict(text, verdict, &answer, lines)
 }
 
-/// Reads a text from a file and prints its lines. Of a text of more than 4,096 bytes, 4,097 are read: it is refused for its length.
-pub fn answer(fd: i32) {
+/// Reads a text from a file, and writes its lines into the front of a lent buffer. Of a text of more than 4,096 bytes, 4,097 are read: it
+/// is refused for its length.
+pub fn answer(fd: i32, lines: &mut [u8]) -> Lines
+    ensures { λ r. ⌜ Answered (PrintsRead (now (lines .entry))) (now (lines .entry)) r (now (lines .exit)) ⌝ }
+{
     let mut text = text_space();
-    let n = io::read_full(fd, &mut text);
-    let mut lines = line_space();
-    let k = write_lines(&text[..n], &mut lines);
-    io::write_all(STDOUT_FILENO, &lines[..k]);
+    let input = files::read(fd, &mut text);
+    match input {
+        Input::Ended(n) => Lines::Written(write_lines(&text[..n], lines)),
+        Input::Full => Lines::Written(write_lines(&text, lines)),
+        Input::Failed(_) => Lines::Unread,
+    }
 }

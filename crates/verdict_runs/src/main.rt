@@ -1,17 +1,31 @@
 // Judges the macro in each file that an argument names: the file's name, and the lines of the verdict program.
-use libc::STDOUT_FILENO;
+use files::Lines;
+
+// Prints the name of a file and its lines.
+fn report(name: &[u8], lines: &[u8]) {
+    files::print(name);
+    files::print(b":\n");
+    files::print(lines);
+}
+
+fn judge(fd: i32, name: &[u8]) {
+    let mut lines = verdict_lines::line_space();
+    let answer = verdict_lines::answer(fd, &mut lines);
+    match answer {
+        Lines::Written(n) => report(name, &lines[..n]),
+        Lines::Unread => os::fail(name),
+    }
+}
 
 fn run_one(i: usize) {
-    let mut path = io::buffer();
-    let n = os::arg(i, &mut path);
-    io::write_all(STDOUT_FILENO, &path[..n]);
-    io::write_all(STDOUT_FILENO, b":\n");
-    let fd = os::open_read(&path[..n]);
+    let mut name = io::buffer();
+    let opened = files::open_argument(i, &mut name);
+    let fd = opened.fd;
     if fd < 0 {
-        os::fail(&path[..n]);
         return;
     }
-    verdict_lines::answer(fd);
+    let size = opened.size;
+    judge(fd, &name[..size]);
     libc::close(fd);
 }
 

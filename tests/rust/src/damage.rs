@@ -1,7 +1,7 @@
 //! Macro texts with one thing wrong, for every refusal of the reader.
 
 use crate::random::Random;
-use crate::random_macro::{lay_out, macro_text, random_macro, random_name, tokens};
+use crate::random_macro::{DEEPEST, lay_out, macro_text, nested_macro, random_macro, random_name, tokens};
 
 /// Tokens to put where they do not belong, and some that are none.
 const STRAY: [&str; 34] = [
@@ -133,7 +133,11 @@ fn many_names(random: &mut Random) -> Vec<u8> {
 
 /// Blocks in blocks, about as deep as they may be.
 fn deep(random: &mut Random) -> Vec<u8> {
-    let depth = 14 + random.below(5);
+    let depth = DEEPEST - 2 + random.below(5);
+    if random.once_in(3) {
+        let read = nested_macro(random, 60, depth, true);
+        return macro_text(random, &read);
+    }
     let mut text = b"vars x y;".to_vec();
     let mut close = Vec::new();
     for _ in 0..depth {

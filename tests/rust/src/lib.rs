@@ -13,6 +13,7 @@ pub mod letter;
 pub mod library;
 pub mod model;
 pub mod monitor;
+pub mod programs;
 pub mod random;
 pub mod random_macro;
 pub mod random_trace;

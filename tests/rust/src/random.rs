@@ -60,8 +60,11 @@ impl Random {
 }
 
 /// How many random cases a test takes: the usual number times the environment's
-/// `FADZGIME_CASES`, if that is set.
+/// `FADZGIME_CASES`, if that is set, and one at least.
 pub fn cases(usual: u64) -> u64 {
-    let times = std::env::var("FADZGIME_CASES").ok().and_then(|value| value.parse().ok()).unwrap_or(1.0);
-    (usual as f64 * f64::max(times, 0.0)) as u64
+    let Some(times) = std::env::var_os("FADZGIME_CASES") else {
+        return usual;
+    };
+    let times: f64 = times.to_str().and_then(|times| times.parse().ok()).expect("FADZGIME_CASES is a number");
+    ((usual as f64 * times) as u64).max(1)
 }

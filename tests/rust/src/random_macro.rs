@@ -15,6 +15,8 @@ struct Choices {
     weights: [usize; 7],
     /// The deepest nesting.
     depth: usize,
+    /// Whether each block begins with a branch or a loop, down to the deepest nesting.
+    steep: bool,
     /// An assert takes a condition that was met on the way, but once in so many times.
     fresh_assert: usize,
 }
@@ -67,18 +69,24 @@ fn is_word(name: &str) -> bool {
     ["vars", "funs", "skip", "assume", "assert", "if", "else", "while"].contains(&name)
 }
 
-/// A random macro with at most about this many points. In one of three the only
-/// assert is the last statement, so that failures are long.
+/// The deepest nesting that is taken.
+pub const DEEPEST: usize = 16;
+
+/// A random macro with at most about this many points. One in eight may be nested as deep as is taken.
 pub fn random_macro(random: &mut Random, points: usize) -> Macro {
+    let depth = if random.once_in(8) { 1 + random.below(DEEPEST) } else { 1 + random.below(3) };
+    nested_macro(random, points, depth, depth > 3)
+}
+
+/// A random macro with at most about this many points, nested at most so deep; where it is `steep`, just so deep if
+/// it has the points. In one of three the only assert is the last statement, so that failures are long.
+pub fn nested_macro(random: &mut Random, points: usize, depth: usize, steep: bool) -> Macro {
     let registers = 1 + random.mostly_below(4, 8);
     let functions = random.mostly_below(3, 5);
     let names = distinct_names(random, registers + functions);
     let arities: Vec<bool> = (0..functions).map(|_| random.once_in(2)).collect();
-    let choices = Choices {
-        weights: *random.pick(&WEIGHTS),
-        depth: 1 + random.below(3),
-        fresh_assert: *random.pick(&[2, 6, 40]),
-    };
+    let choices =
+        Choices { weights: *random.pick(&WEIGHTS), depth, steep, fresh_assert: *random.pick(&[2, 6, 40]) };
     let points = random.below(points + 1);
     let late = random.once_in(3);
     let mut maker = Maker { random, choices, registers: registers as u8, arities: arities.clone(), points };
@@ -105,6 +113,11 @@ impl Maker<'_> {
     /// Statements; `known` are conditions that probably hold before them.
     fn block(&mut self, depth: usize, known: &mut Vec<Condition>, whole: bool) -> Vec<Statement> {
         let mut statements = Vec::new();
+        if self.choices.steep && depth < self.choices.depth && self.points > 0 {
+            self.points -= 1;
+            let branches = self.random.once_in(2);
+            statements.push(if branches { self.branch(depth, known) } else { self.repeat(depth, known) });
+        }
         while self.points > 0 && (whole || !self.random.once_in(3)) {
             let statement = self.statement(depth, known);
             statements.push(statement);

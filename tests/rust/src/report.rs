@@ -4,7 +4,7 @@ use std::fmt::Write;
 
 use crate::letter::Letter;
 use crate::model::{Model, Shown, show_model};
-use crate::monitor::monitor;
+use crate::monitor::{Judgement, monitor};
 use crate::reader::read_macro;
 use crate::refusal::Refusal;
 use crate::syntax::Macro;
@@ -81,11 +81,16 @@ pub fn print_read(text: &[u8]) -> String {
 
 /// What the monitor finds in a packed trace.
 pub fn print_monitor(bytes: &[u8]) -> String {
+    judgement_lines(monitor(bytes))
+}
+
+/// The lines of what a monitor found.
+pub fn judgement_lines(found: Result<Judgement, Refusal>) -> String {
     let line = |good: &str, bad: &str, letter: Option<usize>| match letter {
         None => format!("{good}\n"),
         Some(number) => format!("{bad} {number}\n"),
     };
-    lines(monitor(bytes).map(|judgement| {
+    lines(found.map(|judgement| {
         line("coherent", "incoherent", judgement.incoherent)
             + &line("feasible", "infeasible", judgement.infeasible)
     }))

@@ -3,36 +3,38 @@
 //! that holds the programs, and one that is not there is a failure.
 
 use std::io::Write;
-use std::path::PathBuf;
+use std::path::Path;
 use std::process::{Command, Stdio};
 
 #[cfg(feature = "verdict")]
 use oracle::damage::damaged_text;
 #[cfg(feature = "verdict")]
 use oracle::examples::example_macros;
+use oracle::fast_monitor::fast_monitor;
+use oracle::programs::program;
 use oracle::random::Random;
 #[cfg(feature = "verdict")]
 use oracle::random_macro::{macro_text, random_macro};
-use oracle::random_trace::{any_trace, damage_trace};
+use oracle::random_trace::{any_trace, damage_trace, random_header, random_letter};
 #[cfg(feature = "verdict")]
 use oracle::report::print_verdict;
-use oracle::report::{print_model, print_monitor};
+use oracle::report::{judgement_lines, print_model, print_monitor};
+use oracle::trace::Trace;
 
-/// The path of a program.
-fn program(name: &str) -> PathBuf {
-    let folder = std::env::var_os("FADZGIME_PROGRAMS").expect("FADZGIME_PROGRAMS names the folder");
-    let path = PathBuf::from(folder).join(name);
-    assert!(path.exists(), "{} is not there", path.display());
-    path
-}
-
-/// What a program prints for an input.
-fn printed(path: &PathBuf, input: &[u8]) -> String {
-    let mut child =
-        Command::new(path).stdin(Stdio::piped()).stdout(Stdio::piped()).spawn().expect("the program starts");
+/// What a program prints for an input; nothing goes to standard error.
+fn printed(path: &Path, input: &[u8]) -> String {
+    let piped = Stdio::piped;
+    let mut child = Command::new(path)
+        .stdin(piped())
+        .stdout(piped())
+        .stderr(piped())
+        .spawn()
+        .expect("the program starts");
     // A program that has refused may have closed its input.
     let _ = child.stdin.take().expect("an input").write_all(input);
     let output = child.wait_with_output().expect("the program ends");
+    assert!(output.status.success(), "{}", output.status);
+    assert_eq!(String::from_utf8_lossy(&output.stderr), "");
     String::from_utf8_lossy(&output.stdout).to_string()
 }
 
@@ -83,6 +85,32 @@ fn verdict_on_long_inputs() {
     let lengths = [4_095, 4_096, 4_097, 5_000, 100_000];
     let others = [vec![], vec![0xff; 3], b"vars x;".to_vec()];
     check("verdict", lengths.into_iter().map(padded).chain(others), print_verdict);
+}
+
+/// A trace of so many letters, and all of it but the last byte.
+fn long_trace(seed: u64, length: usize) -> [Vec<u8>; 2] {
+    let random = &mut Random::new(seed);
+    let header = random_header(random);
+    let letters = (0..length).map(|_| random_letter(random, &header, [4, 2, 1, 0])).collect();
+    let bytes = Trace { header, letters }.pack();
+    let odd = bytes[..bytes.len() - 1].to_vec();
+    [bytes, odd]
+}
+
+/// Traces about as long as the model takes, and longer ones; none; one byte.
+#[test]
+fn model_on_long_inputs() {
+    let lengths = [1_023, 1_024, 1_025, 1_026, 2_000, 40_000, 100_000];
+    let traces = (0..4).flat_map(|seed| lengths.into_iter().flat_map(move |length| long_trace(seed, length)));
+    check("model", traces.chain([vec![], vec![0x32]]), print_model);
+}
+
+/// Traces longer than what the monitor reads at a time; none; one byte.
+#[test]
+fn monitor_on_long_inputs() {
+    let lengths = [32_766, 32_767, 32_768, 100_000];
+    let traces = (0..4).flat_map(|seed| lengths.into_iter().flat_map(move |length| long_trace(seed, length)));
+    check("monitor", traces.chain([vec![], vec![0x32]]), |bytes| judgement_lines(fast_monitor(bytes)));
 }
 
 #[test]

@@ -13,6 +13,8 @@ mod monitor;
 mod read;
 #[cfg(all(feature = "monitor", feature = "model", feature = "read", feature = "verdict"))]
 mod smoke;
+#[cfg(all(feature = "monitor", feature = "model", feature = "read", feature = "verdict"))]
+mod stack;
 #[cfg(feature = "monitor")]
 mod traces;
 #[cfg(feature = "verdict")]

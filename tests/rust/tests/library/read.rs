@@ -63,13 +63,15 @@ fn beginnings_and_bytes() {
     }
 }
 
+/// Where the answer is too short, nothing is done: every lent byte stays.
 #[test]
 fn short_answers() {
     for length in 0..READ_ANSWER {
-        let mut answer = Lent::new(length);
-        library::read(b"vars x;", answer.lend());
-        answer.assert_as_lent();
-        library::read(b"", answer.lend());
-        answer.assert_as_lent();
+        for bytes in [b"vars x;".as_slice(), b""] {
+            let (mut text, mut answer) = (Lent::holding(bytes), Lent::new(length));
+            library::read(text.lend(), answer.lend());
+            text.assert_as_lent();
+            answer.assert_as_lent();
+        }
     }
 }

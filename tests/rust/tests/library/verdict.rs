@@ -308,16 +308,18 @@ fn no_table() {
     check(b"vars", 500, 20);
 }
 
-/// Where the answer is too short, nothing is done.
+/// Where the answer is too short, nothing is done: every lent byte stays.
 #[test]
 fn short_answers() {
     for length in 0..VERDICT_ANSWER {
-        for text in ["vars x y; assert x = y;", "vars"] {
+        for text in ["vars x y; assert x = y;", "vars x y; skip;", "vars"] {
+            let mut text = Lent::holding(text.as_bytes());
             let (mut table, mut out, mut answer) = (Lent::new(400), Lent::new(40), Lent::new(length));
-            library::verdict(text.as_bytes(), table.lend(), out.lend(), answer.lend());
-            answer.assert_as_lent();
+            library::verdict(text.lend(), table.lend(), out.lend(), answer.lend());
+            text.assert_as_lent();
             table.assert_as_lent();
             out.assert_as_lent();
+            answer.assert_as_lent();
         }
     }
 }

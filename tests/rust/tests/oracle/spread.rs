@@ -6,9 +6,10 @@ use oracle::damage::damaged_text;
 use oracle::model::show_model;
 use oracle::monitor::judge;
 use oracle::random::Random;
-use oracle::random_macro::{macro_text, random_macro};
+use oracle::random_macro::{DEEPEST, macro_text, random_macro};
 use oracle::random_trace::{any_trace, damage_trace};
 use oracle::reader::read_macro;
+use oracle::syntax::Statement;
 use oracle::verdict::{Event, verdict};
 
 #[test]
@@ -31,13 +32,25 @@ fn traces() {
     assert!([1, 2, 3, 4, 6].iter().all(|number| refused.contains_key(number)));
 }
 
+/// How deep blocks are nested.
+fn nesting(statements: &[Statement]) -> usize {
+    let inner = |statement: &Statement| match statement {
+        Statement::If(_, yes, no) => 1 + nesting(yes).max(nesting(no)),
+        Statement::While(_, body) => 1 + nesting(body),
+        _ => 0,
+    };
+    statements.iter().map(inner).max().unwrap_or(0)
+}
+
 #[test]
 fn macros() {
     let mut counts: BTreeMap<&str, usize> = BTreeMap::new();
-    let mut pairs = 0;
+    let (mut pairs, mut deep, mut deepest) = (0, 0, 0);
     for seed in 0..1_000 {
         let random = &mut Random::new(seed);
-        let read = random_macro(random, 24);
+        let read = random_macro(random, 60);
+        deep += usize::from(nesting(&read.statements) > 8);
+        deepest = deepest.max(nesting(&read.statements));
         let text = macro_text(random, &read);
         let table = *random.pick(&[1_000, 4_000, 65_536]);
         let word = match verdict(&text, table, usize::MAX) {
@@ -53,8 +66,9 @@ fn macros() {
         };
         *counts.entry(word).or_default() += 1;
     }
-    println!("{counts:?} {pairs} pairs");
+    println!("{counts:?} {pairs} pairs; {deep} nested more than 8 deep, at most {deepest}");
     assert!(counts.len() == 4 && counts.values().all(|&count| count > 10));
+    assert!(deep > 20 && deepest == DEEPEST);
 }
 
 #[test]

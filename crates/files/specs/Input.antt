@@ -1,0 +1,55 @@
+-- What the answer of a read means, and what reading into a lent buffer leaves there.
+use mathlib.Core.Path.{_≡_}
+use mathlib.Core.List.{List}
+use Prim.Native.Nat.{ℕ, _-_, _<_, _≤_, min}
+use lib.Dec.{eqb}
+use lib.IntN.{ℤ, pos, negsuc}
+use lib.ListN.{length, drop}
+use lib.Seq.{paste}
+use Rattle.base.specs.Choice.{pick}
+use Rattle.files.specs.declared.OneRead.{OneRead}
+use Rattle.files.specs.declared.OneRead.the-variants as once
+use Rattle.files.specs.declared.Input.{Input}
+use Rattle.files.specs.declared.Input.the-variants.{Ended, Full, Failed}
+
+-- A read of at most `most` bytes answers a negative number where it failed, 0 at the end of the input, and else how many bytes it gave
+-- (POSIX.1-2024, read, "Return value").
+unfoldable pub meaning : ℤ → ℕ → OneRead
+meaning (negsuc k) most = once.Failed
+meaning (pos n) most = pick (eqb n 0) (λ _. once.End) λ _. once.Bytes (min n most)
+
+-- How many bytes one read gave.
+abbrev pub given : OneRead → ℕ
+given (once.Bytes n) = n
+given once.End = 0
+given once.Failed = 0
+
+-- A read that was asked for at most `most` bytes, and for one at least, gave so many: none only where the input ended or it failed.
+abbrev pub Gave : ℕ → OneRead → Type 0
+Gave most (once.Bytes n) = (0 < n) × (n ≤ most)
+Gave most once.End = Unit {0}
+Gave most once.Failed = Unit {0}
+
+-- What a read gave, the front of `piece`, stands in the buffer from `at` on; all other bytes stay.
+pub record Stored (entry : List ℕ) (at : ℕ) (piece : List ℕ) (r : OneRead) (exit : List ℕ) : Type 0 where
+  pub gave : Gave (length entry - at) r
+  pub front : given r ≤ length piece
+  pub bytes : exit ≡ paste entry at piece (given r)
+
+-- How many of the buffer's bytes were read.
+abbrev pub count : Input → ℕ → ℕ
+count (Ended n) room = n
+count Full room = room
+count (Failed n) room = n
+
+-- The buffer had room for more where the input ended or a read failed.
+abbrev pub Short : Input → ℕ → Type 0
+Short (Ended n) room = n < room
+Short Full room = Unit {0}
+Short (Failed n) room = n < room
+
+-- The bytes that were read are the front of the buffer; those behind them stay as they were lent.
+pub record Received (entry : List ℕ) (r : Input) (exit : List ℕ) : Type 0 where
+  pub short : Short r (length entry)
+  pub length-kept : length exit ≡ length entry
+  pub behind : drop (count r (length entry)) exit ≡ drop (count r (length entry)) entry

@@ -1,0 +1,52 @@
+use borrow.Author.Needs.{needs}
+use mathlib.Core.Path.{sym, _∙_}
+use mathlib.Core.List.{List, [], _∷_, _++_}
+use Prim.Native.Nat.{ℕ}
+use Rattle.text.specs.Appending.{Appended, Room, room-same, room-first, room-then, appended-same, appended-then, appended-length}
+use Rattle.text.specs.Templates.{filledIn}
+use Rattle.model_lines.specs.Prints.{hexText, modelWord, modelLine}
+use Rattle.model_lines.specs.PrintsLaws.{model-form, feed-form, model-parts}
+use Rattle.model_lines.proofs.put_model.Statement.{statement}
+use Rattle.model_lines.proofs.put_model.Tie as tie
+
+-- the word, the digits and the line feed
+module _ (bytes : List ℕ) (room : Room 0 (modelLine bytes)) where
+  abbrev rest : List ℕ
+  rest = hexText bytes ++ (10 ∷ [])
+
+  whole : Room 0 (modelWord ++ (hexText bytes ++ (10 ∷ [])))
+  whole = room-same (model-parts bytes) room
+
+  module _ {entry exit : List ℕ} {n : ℕ} (a : Appended entry 0 (filledIn modelWord (0 ∷ 0 ∷ 0 ∷ 0 ∷ [])) exit n) where
+    word : Appended entry 0 modelWord exit n
+    word = appended-same (sym model-form) a
+
+    behind : Room n (hexText bytes ++ (10 ∷ []))
+    behind = room-then modelWord rest whole word
+
+pub put-model-spec : {M : Type 1} → statement M
+put-model-spec =
+    tie.close
+    (tie.spec
+    (λ c. search needs)
+    (λ c κs. let s = c .before .before .before .before in room-same model-form
+    (room-first modelWord (rest (s .args .bytes .now) (s .pre)) (whole (s .args .bytes .now) (s .pre))))
+    (λ c κs.
+    let s = c .before .before .before .before .before .before .before .before in
+    room-first (hexText (s .args .bytes .now)) (10 ∷ []) (behind (s .args .bytes .now) (s .pre) (c .before .before .before .put-line .ensures)))
+    (λ c. search needs)
+    (λ c κs.
+    let s = c .before .before .before .before .before .before .before .before .before .before .before .before .before in
+    room-same feed-form (room-then (hexText (s .args .bytes .now)) (10 ∷ [])
+    (behind (s .args .bytes .now) (s .pre) (c .before .before .before .before .before .before .before .before .put-line .ensures))
+    (c .before .before .before .before .put-hex .ensures)))
+    (λ c.
+    appended-length (c .before .before .put-line2 .ensures) ∙ appended-length (c .before .before .before .before .before .before .before .put-hex .ensures)
+    ∙ appended-length (c .before .before .before .before .before .before .before .before .before .before .before .put-line .ensures))
+    (λ c.
+    let s = c .before .before .before .before .before .before .before .before .before .before .before .before .before .before .before .before in
+    let bytes = s .args .bytes .now in
+    appended-same (sym (model-parts bytes)) (appended-then modelWord (hexText bytes ++ (10 ∷ []))
+    (word bytes (s .pre) (c .before .before .before .before .before .before .before .before .before .before .before .put-line .ensures))
+    (appended-then (hexText bytes) (10 ∷ []) (c .before .before .before .before .before .before .before .put-hex .ensures)
+    (appended-same (sym feed-form) (c .before .before .put-line2 .ensures))))))

@@ -1,0 +1,23 @@
+use borrow.Author.Needs.{needs}
+use Rattle.files.specs.InputLaws.{ended-within, ended-length}
+use Rattle.monitor.proofs.feed.Statement.{statement}
+use Rattle.monitor.proofs.feed.Tie as tie
+
+pub feed-spec : {M : Type 1} → statement M
+feed-spec =
+    tie.close
+    (tie.spec
+    (λ c κs. search needs)
+    (λ c. search needs)
+    (λ c κs. search needs)
+    (λ c. search needs)
+    (λ c. ended-within (c .before .before .before .before .read .ensures) (c .before .input .given .1))
+    (λ c. ended-length (c .before .before .before .before .before .read .ensures) (c .before .before .input .given .1))
+    (λ c κs. search needs)
+    (λ c. search needs)
+    (λ c. search needs)
+    (λ c κs. search needs)
+    (λ c. search needs)
+    (λ c. search needs)
+    (λ c. search needs)
+    (λ c. search needs))

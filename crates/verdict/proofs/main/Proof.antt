@@ -1,0 +1,27 @@
+use borrow.Author.Needs.{needs}
+use Rattle.verdict_lines.specs.Answered.{written-within, written-length}
+use Rattle.verdict.proofs.main.Statement.{statement}
+use Rattle.verdict.proofs.main.Tie as tie
+
+pub main-spec : {M : Type 1} → statement M
+main-spec =
+    tie.close
+    (tie.spec
+    (λ c κs. search needs)
+    (λ c. search needs)
+    (λ c κs. search needs)
+    (λ c. search needs)
+    (λ c.
+    let answer = c .before .before .before .before .answer in
+    written-within (c .before .before .before .before .before .before .line-space .result) (answer .last .1 .0) (answer .result) (answer .ensures)
+    (c .before .answer2 .given .1))
+    (λ c.
+    let answer = c .before .before .before .before .before .answer in
+    written-length (c .before .before .before .before .before .before .before .line-space .result) (answer .last .1 .0) (answer .result)
+    (answer .ensures) (c .before .before .answer2 .given .1))
+    (λ c κs. search needs)
+    (λ c. search needs)
+    (λ c. search needs)
+    (λ c κs. search needs)
+    (λ c. search needs)
+    (λ c. search needs))

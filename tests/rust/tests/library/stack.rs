@@ -1,0 +1,126 @@
+//! The stack that the library's functions need, at the longest and deepest inputs. Each function is called on a
+//! thread with a small stack, in a process of its own, because one that needs more ends its process.
+
+use std::process::Command;
+
+use oracle::letter::Header;
+use oracle::library::{self, MODEL_ANSWER, MONITOR_ANSWER, READ_ANSWER, VERDICT_ANSWER};
+use oracle::random::Random;
+use oracle::random_trace::random_letter;
+use oracle::reader::read_macro;
+use oracle::trace::Trace;
+use oracle::verdict::{MAX_PAIRS, PAIR_BYTES};
+
+/// The stack of the thread, of which the thread itself takes some.
+const STACK: usize = 128 * 1024;
+
+/// The longest text.
+const TEXT: usize = 4_096;
+
+/// Runs one of the calls below in a process of its own.
+fn in_a_process(call: &str) {
+    let tests = std::env::current_exe().expect("this program");
+    let output = Command::new(tests).args([&format!("stack::{call}"), "--exact", "--ignored"]).output();
+    let output = output.expect("it runs");
+    let printed = String::from_utf8_lossy(&output.stdout);
+    assert!(output.status.success() && printed.contains("1 passed"), "{}\n{printed}", output.status);
+}
+
+/// Runs on a small stack. What is lent lies elsewhere.
+fn on_a_small_stack<T: Send + 'static>(work: impl FnOnce() -> T + Send + 'static) -> T {
+    let thread = std::thread::Builder::new().stack_size(STACK).spawn(work).expect("a thread");
+    thread.join().expect("it ends")
+}
+
+/// The names of eight registers and four functions.
+const NAMES: &str = "vars a b c d e f g h;funs i/1 j/2 k/1 l/2;";
+
+/// A text of 4,096 bytes with 256 points, the last of them given.
+fn long_macro(blocks: &str, last: &str) -> Vec<u8> {
+    let front = format!("{NAMES}{blocks}");
+    let steps = ["a:=i(a);", "b:=j(b,c);", "c:=k(c);", "d:=l(d,e);"];
+    let points = 255 - read_macro(front.as_bytes()).expect("it reads").points();
+    let text = front + &steps.iter().copied().cycle().take(points).collect::<String>() + last;
+    let padding = " ".repeat(TEXT - text.len());
+    let text = (text + &padding).into_bytes();
+    assert_eq!(read_macro(&text).expect("it reads").points(), 256);
+    text
+}
+
+/// Texts with the deepest blocks, with the longest execution to an event, and refused ones: not ended, too deep, too long.
+fn texts() -> Vec<Vec<u8>> {
+    let blocks = "if a=b{while c!=d{".repeat(8) + "a:=i(a);" + &"}}".repeat(8);
+    let open = |depth: usize| ("vars a b;".to_string() + &"if a=b{".repeat(depth)).into_bytes();
+    let deep = long_macro(&blocks, "assert a=b;");
+    let too_long = [deep.as_slice(), b" "].concat();
+    vec![long_macro("", "assert a=b;"), deep, long_macro(&blocks, "a:=a;"), open(16), open(17), too_long]
+}
+
+/// A trace of 1,024 letters under the largest header.
+fn long_trace() -> Vec<u8> {
+    let header = Header::new(8, &[1, 2, 1, 2]);
+    let random = &mut Random::new(1);
+    let letters = (0..1_024).map(|_| random_letter(random, &header, [1, 6, 1, 0])).collect();
+    Trace { header, letters }.pack()
+}
+
+#[test]
+#[ignore = "called in a process of its own"]
+fn call_read() {
+    for text in texts() {
+        on_a_small_stack(move || library::read(&text, &mut [0; READ_ANSWER]));
+    }
+}
+
+#[test]
+#[ignore = "called in a process of its own"]
+fn call_verdict() {
+    let answers = texts().into_iter().map(|text| {
+        let (mut table, mut out) = (vec![0; MAX_PAIRS * PAIR_BYTES], vec![0; 65_536]);
+        on_a_small_stack(move || {
+            let mut answer = [0; VERDICT_ANSWER];
+            library::verdict(&text, &mut table, &mut out, &mut answer);
+            answer
+        })
+    });
+    let answers: Vec<[u64; VERDICT_ANSWER]> = answers.collect();
+    println!("{answers:?}");
+    // A fail after 256 letters, with its model.
+    assert_eq!(answers[0], [0, 0, 1, 256, 256]);
+}
+
+#[test]
+#[ignore = "called in a process of its own"]
+fn call_model() {
+    let trace = long_trace();
+    let (mut out, mut answer) = (vec![0; 65_536], vec![0; MODEL_ANSWER]);
+    on_a_small_stack(move || library::model(&trace, &mut out, &mut answer));
+}
+
+#[test]
+#[ignore = "called in a process of its own"]
+fn call_monitor() {
+    let trace = long_trace();
+    let mut answer = vec![0; MONITOR_ANSWER];
+    on_a_small_stack(move || library::monitor(&trace, &mut answer));
+}
+
+#[test]
+fn read() {
+    in_a_process("call_read");
+}
+
+#[test]
+fn verdict() {
+    in_a_process("call_verdict");
+}
+
+#[test]
+fn model() {
+    in_a_process("call_model");
+}
+
+#[test]
+fn monitor() {
+    in_a_process("call_monitor");
+}
