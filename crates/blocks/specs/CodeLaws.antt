@@ -6,10 +6,10 @@ use native.Mathlib.Numerals.{add-one}
 use mathlib.Core.List.{List, [], _∷_}
 use lib.ListN.{length, getD, set, take, replicate}
 use borrow.Author.Tests.{lt-ltb, le-ltb, le-leb, lt-leb}
-use Rattle.base.specs.Each.{each, done, each-none, each-skip, each-all}
+use Rattle.base.specs.Each.{each, done, each-none, each-more, each-skip, each-all}
 use Rattle.letters.specs.Packing.{split, split-join}
 use Rattle.letters.specs.declared.Letter.{Letter}
-use Rattle.blocks.specs.Held.{point, fields, letterOf, pointOf, pointAt, pointsOf, Coded, table, unused, turned}
+use Rattle.blocks.specs.Held.{point, fields, letterOf, pointOf, pointAt, pointsOf, tableOf, Coded, table, unused, turned}
 use Rattle.blocks.specs.Outcome.{turnedIn, changedTo}
 use Rattle.blocks.specs.TableLaws.{table-push, points-at}
 use Rattle.blocks.specs.declared.Point.{Point}
@@ -71,15 +71,12 @@ module _ {A : Type 0} (count n : ℕ) (new old : A) where
 
 -- ---- the table of a macro
 
-module _ (cs xs ys : List ℕ) (count : ℕ) where
-  -- i points are in the table
-  abbrev pub Filled : ℕ → List Point → Type 0
-  Filled i ps = count ≤ length (pointsOf cs xs ys) → ps ≡ table (take i (pointsOf cs xs ys))
-
-  pub filled-none : (p : Point) → p ≡ unused → Filled 0 (replicate 256 p)
-  filled-none p e l = ap (replicate 256) e
-
-  pub filled-more : (i : ℕ) (p : Point) (ps : List Point) → i < count → count ≤ 256 → p ≡ pointAt (getD cs i 0) (getD xs i 0) (getD ys i 0)
-      → Filled i ps → Filled (i + 1) (set ps i p)
-  filled-more i p ps h g e F l =
-      ap (λ ps. set ps i p) (F l) ∙ table-push (pointsOf cs xs ys) i p (omega arith) (omega arith) (e ∙ points-at cs xs ys i (omega arith))
+pub table-filled : (cs xs ys : List ℕ) (n : ℕ) → n ≤ 256 → n ≤ length (pointsOf cs xs ys) → tableOf cs xs ys n ≡ table (take n (pointsOf cs xs ys))
+table-filled cs xs ys zero h l = sym (each-none _ (replicate 256 unused))
+table-filled cs xs ys (suc n) h l =
+    let here : ℕ → Point → Point = λ i _. pointAt (getD cs i 0) (getD xs i 0) (getD ys i 0) in
+    ap (λ k. tableOf cs xs ys k) (sym (add-one n))
+    ∙ sym (each-more here n (replicate 256 unused) unused)
+    ∙ ap (λ ps. set ps n (pointAt (getD cs n 0) (getD xs n 0) (getD ys n 0))) (table-filled cs xs ys n (omega arith) (omega arith))
+    ∙ table-push (pointsOf cs xs ys) n _ (omega arith) (omega arith) (points-at cs xs ys n (omega arith))
+    ∙ ap (λ k. table (take k (pointsOf cs xs ys))) (add-one n)

@@ -6,6 +6,7 @@ use mathlib.Core.List.{List, [], _∷_, _++_}
 use lib.Dec.{eqb}
 use lib.ListN.{length, getD, drop, replicate}
 use Rattle.base.specs.Choice.{pick}
+use Rattle.base.specs.Each.{done}
 use Rattle.letters.specs.Packing.{split}
 use Rattle.letters.specs.declared.Letter.{Letter}
 use Rattle.letters.specs.declared.Letter.the-variants.{Copy, Apply, Equal, Unequal}
@@ -59,6 +60,10 @@ pointsOf [] xs ys = []
 pointsOf (c ∷ cs) [] ys = []
 pointsOf (c ∷ cs) (x ∷ xs) [] = []
 pointsOf (c ∷ cs) (x ∷ xs) (y ∷ ys) = pointAt c x y ∷ pointsOf cs xs ys
+
+-- the table of their first n points
+abbrev pub tableOf : List ℕ → List ℕ → List ℕ → ℕ → List Point
+tableOf cs xs ys n = done (λ i _. pointAt (getD cs i 0) (getD xs i 0) (getD ys i 0)) n (replicate 256 unused)
 
 -- How far reading has come, with the points that the arrays hold.
 pub record Progress : Type 0 where

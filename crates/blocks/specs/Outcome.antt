@@ -20,7 +20,8 @@ use Rattle.phrases.specs.declared.GotLetter as letter
 use Rattle.blocks.specs.Held.{point, heldPoint, unused, Progress, Holds, turned, redirected}
 use Rattle.blocks.specs.declared.Point.{Point}
 
--- Read, on to the place e, with the points ps more. Free is one thing: what the arrays hold past 256 points, of which no macro is made.
+-- Read, on to the place e, with the points ps more; in front of them and behind them stand the points that were lent.
+-- Free are two things: what the arrays hold past 256 points, of which no macro is made, and which of a point's codes stands for it.
 pub record Fine (st r : Progress) (ps : List Point) (e : ℕ) : Type 0 where
   pub ok : r .ok ≡ true
   pub number : r .number ≡ 0
@@ -30,7 +31,7 @@ pub record Fine (st r : Progress) (ps : List Point) (e : ℕ) : Type 0 where
   pub high : 256 < st .count + length ps → r .count ≡ 257
   pub laid : (old ds : List Point) → Holds old st ds → length ds + length ps ≤ 256 → Holds old r (ds ++ ps)
 
--- Refused by a number, at a place. Free is one thing: what the arrays hold, which nobody reads beside a refusal.
+-- Refused by a number, at a place. Free is one thing: what the arrays hold, which no one reads beside a refusal.
 pub record Refusal (r : Progress) (n p : ℕ) : Type 0 where
   pub ok : r .ok ≡ false
   pub number : r .number ≡ n

@@ -6,10 +6,10 @@ use tokens::Token;
 ghost use mathlib.Core.Path.{_≡_};
 ghost use mathlib.Core.List.{List, [], _∷_};
 ghost use Prim.Native.Nat.{_+_, _≤_};
-ghost use lib.ListN.{length, take, set};
+ghost use lib.ListN.{set};
 ghost use Rattle.base.specs.Each.{each};
 ghost use Rattle.letters.specs.Packing.{split};
-ghost use Rattle.blocks.specs.Held.{fields, pointAt, pointsOf, Coded, progressOf, heldBy, table, turned, unused};
+ghost use Rattle.blocks.specs.Held.{fields, pointAt, tableOf, Coded, progressOf, heldBy, turned, unused};
 ghost use Rattle.blocks.specs.Outcome.{turnedIn, begins, changedTo, waiting, Fine, Refusal, Settled, Passed, Ready};
 ghost use Rattle.blocks.specs.Outcome.{PlainRead, BlockRead, StatementRead, BracesRead, ElseRead, ConditionalRead, RepeatRead};
 
@@ -29,13 +29,13 @@ pub struct Point {
 pub struct State {
     /// Whether nothing was refused.
     pub ok: bool,
-    /// The number of the refusal.
+    /// The number of the refusal; 0 if there is none.
     pub number: u8,
-    /// The place of the refusal.
+    /// The place of the refusal; 0 if there is none.
     pub place: usize,
-    /// The place of the next byte.
+    /// The place of the next byte; 0 beside a refusal.
     pub at: usize,
-    /// How many points were read; 257 for more than 256.
+    /// How many points were read; 257 for more than 256, 0 beside a refusal.
     pub count: u16,
 }
 
@@ -51,6 +51,7 @@ pub type Codes = [u64; 256];
 /// A point that follows each point.
 pub type Follows = [u16; 256];
 
+// A byte for each field of a code.
 const BYTE: u64 = 256;
 
 // What a field of a code counts.
@@ -141,8 +142,7 @@ fn point_at(code: u64, first: u16, second: u16) -> Point
 /// The first `count` points that the arrays hold, as a table.
 pub fn points_of(code: &Codes, first: &Follows, second: &Follows, count: u16) -> [Point; 256]
     requires { ⌜ count ≤ 256 ⌝ }
-    ensures { λ r. ⌜ (count ≤ length (pointsOf (now (code .entry)) (now (first .entry)) (now (second .entry)))
-        → r ≡ table (take count (pointsOf (now (code .entry)) (now (first .entry)) (now (second .entry))))) ⌝ }
+    ensures { λ r. ⌜ r ≡ tableOf (now (code .entry)) (now (first .entry)) (now (second .entry)) count ⌝ }
 {
     let mut points = [no_point(); 256];
     let mut i: usize = 0;
@@ -342,6 +342,7 @@ fn repeat_from(count: u16, base: u16, first: &mut Follows, second: &mut Follows)
 }
 
 /// Statements up to the block's end: `}` or the end of the text. Blocks in it lie at most `depth` deep.
+/// Their points go into the arrays behind those that `st` counts.
 pub fn block(
     text: &[u8],
     regs: &[u64],

@@ -25,7 +25,8 @@ use Rattle.grammar.specs.Whole.{none-declared, functions-line}
 use Rattle.phrases.specs.Codes.{nothing, Few}
 use Rattle.phrases.specs.Answers.{coded-at}
 use Rattle.phrases.specs.declared.Got as number
-use Rattle.blocks.specs.Held.{table, over, unused, heldPoint, Progress, progressOf, heldBy, pointsOf, Holds, redirected}
+use Rattle.blocks.specs.Held.{table, over, unused, heldPoint, Progress, progressOf, heldBy, pointsOf, tableOf, Holds, redirected}
+use Rattle.blocks.specs.CodeLaws.{table-filled}
 use Rattle.blocks.specs.Outcome.{Outcome, turnedIn, within, blockCode, BlockRead, Ready}
 use Rattle.blocks.specs.OutcomeLaws.{outcome-fine}
 use Rattle.blocks.specs.TableLaws.{over-range, points-range, points-none, length-map}
@@ -174,7 +175,7 @@ module _ (s : List ℕ) (rs : Registers) (fs : Functions) (body : Progress) (t :
 -- the points of a macro that was read, once the end is put for what follows
 module _ (body : State) (cs xs ys xs′ ys′ : List ℕ) (ps : List Point) (e : xs′ ≡ each (turnedIn 0 (body .count) (body .count)) xs)
     (f : ys′ ≡ each (turnedIn 0 (body .count) (body .count)) ys)
-    (g : body .count ≤ length (pointsOf cs xs′ ys′) → ps ≡ table (take (body .count) (pointsOf cs xs′ ys′))) where
+    (g : ps ≡ tableOf cs xs′ ys′ (body .count)) where
   pub points-whole : (b : Block) → sizeBlock b ≤ 256 → Holds blank (heldBy body cs xs ys) (blockCode b 0) → ps ≡ table (map heldPoint (points b))
   points-whole b l H =
       let n = body .count in
@@ -188,7 +189,8 @@ module _ (body : State) (cs xs ys xs′ ys′ : List ℕ) (ps : List Point) (e :
       ∙ over-range blank [] held [] 0 n n refl (zero-add (length held) ∙ sym (H .count))
       ∙ ap (over blank) (append-nil ts) in
       let more = length-append ts (drop (length ts) blank) in
-      g (omega (arith, ap length all))
+      g
+      ∙ table-filled cs xs′ ys′ n (let c = H .count in let m = block-length b 0 in omega arith) (omega (arith, ap length all))
       ∙ ap (λ l. table (take n l)) all
       ∙ ap (λ k. table (take k (over blank ts))) (sym size)
       ∙ ap table (take-append-seam ts (drop (length ts) blank))
