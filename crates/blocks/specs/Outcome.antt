@@ -21,7 +21,7 @@ use Rattle.blocks.specs.Held.{point, heldPoint, unused, Progress, Holds,
 use Rattle.blocks.specs.declared.Point.{Point}
 
 -- Read, on to the place e, with the points ps more; in front of them and behind them stand the points that were lent.
--- Free are two things: what the arrays hold past 256 points, of which no macro is made, and which of a point's codes stands for it.
+-- Free are two things: what the arrays hold once there are more than 256 points, of which no macro is made, and which of a point's codes stands for it.
 pub record Fine (st r : Progress) (ps : List Point) (e : ℕ) : Type 0 where
   pub ok : r .ok ≡ true
   pub number : r .number ≡ 0

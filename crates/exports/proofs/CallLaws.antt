@@ -23,7 +23,7 @@ use Rattle.monitoring.specs.Monitor.{outcomeAnswer, startOf, advance}
 use Rattle.monitoring.specs.Run.{last, verdictAnswer}
 use Rattle.monitoring.specs.Stream.{emptyStream, pushedAll, finishedOf}
 use Rattle.monitoring.specs.Demand2.{Demand2}
-use Rattle.monitoring.specs.Meanings.{Monitors, Starts, Advances, Streams, StreamStarts, Pushes, Finishes, finishes}
+use Rattle.monitoring.specs.Meanings.{Monitors, Starts, Advances, Streams, StreamStarts, StreamPushes, StreamFinishes, finishes}
 use Rattle.monitoring.specs.declared.Monitor.{Monitor}
 use Rattle.monitoring.specs.declared.Outcome.the-variants as outcome
 use Rattle.monitoring.specs.declared.Stepped.{Stepped}
@@ -241,7 +241,7 @@ module _ (bytes entry answer : List ℕ) where
   }
 
   pub push-done : (exit : List ℕ) (s next : Stream) → 1 ≤ length answer → holdsState streamKind streamSize entry ≡ true → s ≡ streamIn entry
-      → Pushes s bytes next → KeepsStream streamKind next entry exit → PushesStream bytes entry answer exit (set answer 0 0)
+      → StreamPushes s bytes next → KeepsStream streamKind next entry exit → PushesStream bytes entry answer exit (set answer 0 0)
   push-done exit s next room yes-held same d k = record {
     short = λ s. absurd (too-short s room);
     none = λ _ lacks. absurd (true-false yes-held lacks);
@@ -276,7 +276,7 @@ module _ (entry answer : List ℕ) where
   }
 
   pub finish-done : (stored answer′ : List ℕ) (s : Stream) (v : Verdict) → 4 ≤ length answer → holdsState streamKind streamSize entry ≡ true
-      → s ≡ streamIn entry → Finishes s v → stored ≡ runNumbers (verdictAnswer v) → length stored ≡ 4
+      → s ≡ streamIn entry → StreamFinishes s v → stored ≡ runNumbers (verdictAnswer v) → length stored ≡ 4
       → answer′ ≡ stored ++ drop (length stored) answer → FinishesStream entry answer answer′
   finish-done stored answer′ s v room yes-held same-stream d same full e = record {
     short = λ s. absurd (too-short s room);

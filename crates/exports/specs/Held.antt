@@ -4,7 +4,7 @@ use Prim.Native.Nat.{ℕ}
 use mathlib.Core.List.{List, [], _∷_}
 use Rattle.grammar.specs.Grammar.{Macro}
 use Rattle.refusals.specs.Order.{Refusal}
-use Rattle.refusals.specs.Accepted.{Accepted, Outcome, accepted, refused, Becomes, an-outcome}
+use Rattle.refusals.specs.Accepted.{Accepted, Acceptance, accepted, refused, Becomes, an-acceptance}
 use Rattle.syntax.specs.Answer.{heldMacro}
 use Rattle.syntax.specs.Reads.{Reads}
 use Rattle.syntax.specs.declared.Answer.{Answer}
@@ -29,8 +29,8 @@ module _ (text : List ℕ) (a : Answer) (reads : Reads text a) where
 
 -- The answer after a text was read is one.
 pub one-read : (text answer a b : List ℕ) → MacroRead text answer a → MacroRead text answer b → a ≡ b
-one-read text answer a b x y = let (o, k) = an-outcome text in go o k
+one-read text answer a b x y = let (o, k) = an-acceptance text in go o k
   where
-    go : (o : Outcome) → Becomes text o → a ≡ b
+    go : (o : Acceptance) → Becomes text o → a ≡ b
     go (accepted m) k = x .accepted m k ∙ sym (y .accepted m k)
     go (refused number place) r = x .refused number place r ∙ sym (y .refused number place r)

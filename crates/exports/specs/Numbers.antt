@@ -6,7 +6,7 @@ use lib.Dec.{ltb}
 use lib.ListN.{length, drop}
 use Rattle.base.specs.Choice.{pick}
 use Rattle.letters.specs.Answers.{Answer, value, refusal}
-use Rattle.letters.specs.Editions.{firstEdition}
+use Rattle.letters.specs.Editions.{firstEdition, mostLetters}
 use Rattle.letters.specs.Traces.{readingWithin}
 use Rattle.macros.specs.Points.{sizeBlock}
 use Rattle.monitoring.specs.Run.{verdictAnswer}
@@ -40,15 +40,15 @@ modelNumbers (shown.refusal number place) = number ∷ place ∷ 0 ∷ 0 ∷ []
 
 -- the answer after the model of a trace was shown in an output of so many bytes
 unfoldable pub modelled : (trace : List ℕ) (room : ℕ) (answer : List ℕ) → List ℕ
-modelled trace room answer = laidOver 4 (modelNumbers (answerTo (readingWithin 1024 firstEdition trace) room)) answer
+modelled trace room answer = laidOver 4 (modelNumbers (answerTo (readingWithin mostLetters firstEdition trace) room)) answer
 
 -- the output after it; it stays as lent where the answer has no room
 unfoldable pub modelOutput : (trace out answer : List ℕ) → List ℕ
-modelOutput trace out answer = pick (ltb (length answer) 4) (λ _. out) λ _. outputAfter (readingWithin 1024 firstEdition trace) out
+modelOutput trace out answer = pick (ltb (length answer) 4) (λ _. out) λ _. outputAfter (readingWithin mostLetters firstEdition trace) out
 
 -- what the answer means, with the output out before and out′ after
 abbrev pub ModelMeans : (trace out out′ : List ℕ) → Type 0
-ModelMeans trace out out′ = Means trace out (answerTo (readingWithin 1024 firstEdition trace) (length out)) out′
+ModelMeans trace out out′ = Means trace out (answerTo (readingWithin mostLetters firstEdition trace) (length out)) out′
 
 -- ---- The reader: refusal, place, registers, functions, points.
 

@@ -161,12 +161,12 @@ pub record StreamStarts (r : Stream) : Type 0 where
   pub streams : Streams [] r
 
 -- What further bytes leave.
-pub record Pushes (s : Stream) (bytes : List ℕ) (r : Stream) : Type 0 where
+pub record StreamPushes (s : Stream) (bytes : List ℕ) (r : Stream) : Type 0 where
   pub computed : r ≡ pushedAll s bytes
   pub streams : (earlier : List ℕ) → Streams earlier s → Streams (earlier ++ bytes) r
 
 -- What the answer is: demand 2 for all the bytes together.
-pub record Finishes (s : Stream) (r : Verdict) : Type 0 where
+pub record StreamFinishes (s : Stream) (r : Verdict) : Type 0 where
   pub computed : r ≡ finishedOf s
   pub meets : (bytes : List ℕ) → Streams bytes s → letterCount firstEdition bytes ≤ last → Demand2 bytes (verdictAnswer r)
   -- of more letters than 64 bits can number, those have the last number
@@ -176,21 +176,21 @@ pub stream-starts : (r : Stream) → r ≡ emptyStream → StreamStarts r
 unfolding pushedAll
 stream-starts r e = record { computed = e; streams = record { pushed = e } }
 
-pub pushes : (s : Stream) (bytes : List ℕ) (r : Stream) → r ≡ pushedAll s bytes → Pushes s bytes r
+pub pushes : (s : Stream) (bytes : List ℕ) (r : Stream) → r ≡ pushedAll s bytes → StreamPushes s bytes r
 pushes s bytes r e = record {
   computed = e;
   streams = λ earlier t. record { pushed = e ∙ ap (λ (q : Stream). pushedAll q bytes) (t .pushed) ∙ sym (pushed-append emptyStream earlier bytes) };
 }
 
-pub pushes-byte : (s : Stream) (byte : ℕ) (r : Stream) → r ≡ pushedOf s byte → Pushes s (byte ∷ []) r
+pub pushes-byte : (s : Stream) (byte : ℕ) (r : Stream) → r ≡ pushedOf s byte → StreamPushes s (byte ∷ []) r
 unfolding pushedAll
 pushes-byte s byte r e = pushes s (byte ∷ []) r e
 
-pub pushes-one : (s : Stream) (byte : ℕ) (r : Stream) → Pushes s (byte ∷ []) r → r ≡ pushedOf s byte
+pub pushes-one : (s : Stream) (byte : ℕ) (r : Stream) → StreamPushes s (byte ∷ []) r → r ≡ pushedOf s byte
 unfolding pushedAll
 pushes-one s byte r p = p .computed
 
-pub finishes : (s : Stream) (r : Verdict) → r ≡ finishedOf s → Finishes s r
+pub finishes : (s : Stream) (r : Verdict) → r ≡ finishedOf s → StreamFinishes s r
 finishes s r e = record {
   computed = e;
   meets = λ bytes t l. subst (λ v. Demand2 bytes (verdictAnswer v)) (sym (answered bytes t)) (demand-met bytes l);

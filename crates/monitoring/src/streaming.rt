@@ -26,7 +26,7 @@ ghost use Rattle.window.specs.Perform.{Within};
 ghost use Rattle.monitoring.specs.Demand2.{Demand2};
 ghost use Rattle.monitoring.specs.Run.{verdictAnswer, performedOf, runOf};
 ghost use Rattle.monitoring.specs.Stream.{takenAll, atLetter, pushedAll, answerOf};
-ghost use Rattle.monitoring.specs.Meanings.{StreamStarts, Pushes, Finishes};
+ghost use Rattle.monitoring.specs.Meanings.{StreamStarts, StreamPushes, StreamFinishes};
 
 /// A stream before its first byte.
 pub fn start() -> Stream
@@ -47,7 +47,7 @@ pub fn start() -> Stream
 
 /// Takes the next byte.
 pub fn push(s: Stream, byte: u8) -> Stream
-    ensures { λ r. ⌜ Pushes s (byte ∷ []) r ⌝ }
+    ensures { λ r. ⌜ StreamPushes s (byte ∷ []) r ⌝ }
 {
     let run = s.run;
     let phase = s.phase;
@@ -83,7 +83,7 @@ pub fn push(s: Stream, byte: u8) -> Stream
 
 /// The answer for the bytes that have come, as the bytes of a whole trace.
 pub fn finish(s: Stream) -> Verdict
-    ensures { λ r. ⌜ Finishes s r ⌝ }
+    ensures { λ r. ⌜ StreamFinishes s r ⌝ }
 {
     let run = s.run;
     let verdict = run.verdict;
@@ -192,7 +192,7 @@ fn push_letters(s: Stream, bytes: &[u8], start: usize) -> Stream
 
 /// Takes the next bytes, one after the other.
 pub fn push_all(s: Stream, bytes: &[u8]) -> Stream
-    ensures { λ r. ⌜ Pushes s (now (bytes .entry)) r ⌝ }
+    ensures { λ r. ⌜ StreamPushes s (now (bytes .entry)) r ⌝ }
 {
     let mut next = s;
     let mut i: usize = 0;

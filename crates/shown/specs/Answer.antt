@@ -74,7 +74,7 @@ pub record ModelIn (bytes : List ℕ) (h : Header) (letters : List Letter) : Typ
   pub satisfies : Satisfies (modelOf (readTables firstRowWidths h bytes) in-range) (state (traceOf h letters) .equals) (state (traceOf h letters) .unequals)
 
 -- A model is answered: it stands in the first n bytes of the output, and the bytes behind it stay.
-pub record Shows (s out : List ℕ) (n : ℕ) (out′ : List ℕ) : Type 0 where
+pub record ModelShown (s out : List ℕ) (n : ℕ) (out′ : List ℕ) : Type 0 where
   pub header : Header
   pub letters : List Letter
   pub is-trace : IsTrace s header letters
@@ -83,7 +83,7 @@ pub record Shows (s out : List ℕ) (n : ℕ) (out′ : List ℕ) : Type 0 where
   pub behind : drop n out′ ≡ drop n out
 
 -- A letter is answered: it is the first at which the trace is infeasible, and no model satisfies all tests of the trace.
-pub record Names (s out : List ℕ) (k : ℕ) (out′ : List ℕ) : Type 0 where
+pub record LetterNamed (s out : List ℕ) (k : ℕ) (out′ : List ℕ) : Type 0 where
   pub header : Header
   pub letters : List Letter
   pub is-trace : IsTrace s header letters
@@ -92,16 +92,16 @@ pub record Names (s out : List ℕ) (k : ℕ) (out′ : List ℕ) : Type 0 where
   pub kept : out′ ≡ out
 
 -- A refusal: the bytes are no such trace, by questions 1 to 5; or the model that is due does not fit the output.
-pub data Refuses (s out : List ℕ) : ℕ → ℕ → Type 0 where
-  unread : {number place : ℕ} → readingWithin mostLetters firstEdition s ≡ refused number place → Refuses s out number place
+pub data RefusedFor (s out : List ℕ) : ℕ → ℕ → Type 0 where
+  unread : {number place : ℕ} → readingWithin mostLetters firstEdition s ≡ refused number place → RefusedFor s out number place
   unfit : {h : Header} {letters : List Letter} {t : Tables} → IsTrace s h letters → Feasible (state (traceOf h letters)) → ShownFor h letters t
-      → length out < length (packTables firstRowWidths h t) → Refuses s out 6 0
+      → length out < length (packTables firstRowWidths h t) → RefusedFor s out 6 0
 
 -- What an answer means, with the output out before and out′ after.
 abbrev pub Means : (s out : List ℕ) → Answer → (out′ : List ℕ) → Type 0
-Means s out (model n) out′ = Shows s out n out′
-Means s out (infeasible k) out′ = Names s out k out′
-Means s out (refusal number place) out′ = Refuses s out number place × (out′ ≡ out)
+Means s out (model n) out′ = ModelShown s out n out′
+Means s out (infeasible k) out′ = LetterNamed s out k out′
+Means s out (refusal number place) out′ = RefusedFor s out number place × (out′ ≡ out)
 
 -- The bytes s are answered, with the output out before and out′ after. The two equations settle the answer and the output; what they mean follows.
 pub record Showed (s out : List ℕ) (r : Shown) (out′ : List ℕ) : Type 0 where

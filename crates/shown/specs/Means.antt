@@ -31,7 +31,7 @@ use Rattle.semantics.specs.JudgementLaws.{first-infeasible-is, failed, feasible
 use Rattle.engine.specs.RunLaws.{within}
 use Rattle.shown.specs.declared.Shown.{Shown}
 use Rattle.shown.specs.Answer.{infeasible, shownAnswer, modelBytes, fitted, laidIn, answerTo, outputAfter}
-use Rattle.shown.specs.Answer.{IsTrace, ShownFor, ModelIn, Names, unread, unfit, Means, Showed}
+use Rattle.shown.specs.Answer.{IsTrace, ShownFor, ModelIn, LetterNamed, unread, unfit, Means, Showed}
 
 abbrev FeasibleTrace : Trace → Type 0
 FeasibleTrace π = Feasible (state π)
@@ -95,7 +95,7 @@ module _ (s : List ℕ) (h : Header) (ls : List Letter) (q : readingWithin mostL
         }))
         (λ t. rw t (unfit is-trace f is-shown (rw bytes-are at (leb-false (length (modelBytes σ)) (length out) t)), refl))
 
-    infeasible-means : (k : ℕ) → firstInfeasible (traceOf h ls) ≡ suc k → Names s out (suc k) out
+    infeasible-means : (k : ℕ) → firstInfeasible (traceOf h ls) ≡ suc k → LetterNamed s out (suc k) out
     infeasible-means k e =
         let first : FailsAt FeasibleTrace (traceOf h ls) (suc k) = rw e at (first-infeasible-is (traceOf h ls) (is-trace .formed)) in
         let none : ¬ Feasible σ = failed FeasibleTrace feasible-closed (traceOf h ls) (suc k) first in

@@ -17,8 +17,8 @@ use Rattle.semantics.specs.Shown.{tablesOf}
 use Rattle.macros.specs.Executions.{Partial, Failing}
 use Rattle.macros.specs.Order.{Before, before-not}
 use Rattle.grammar.specs.Grammar.{Macro, headerOf}
-use Rattle.refusals.specs.Accepted.{Outcome, accepted, Becomes, an-outcome}
-use Rattle.refusals.specs.Accepted as outcome
+use Rattle.refusals.specs.Accepted.{Acceptance, accepted, Becomes, an-acceptance}
+use Rattle.refusals.specs.Accepted as acceptance
 use Rattle.verdicts.specs.Counting.{one-count, more-is}
 use Rattle.verdicts.specs.Since.{since-once}
 use Rattle.verdicts.specs.Verdict.{Kind, breaking, failing, Breaks, Event, breaks, fails, EventAt, Leaves, SamePair, PairCount, PairsPass, Shows}
@@ -75,10 +75,10 @@ module _ (m : Macro) where
   one-told (refused n p) (refused n′ p′) (d, e, y) (d′, e′, y′) = λ i. refused ((d ∙ sym d′) i) ((e ∙ sym e′) i)
 
 pub one-said : (text a b : List ℕ) → Says text a → Says text b → a ≡ b
-one-said text a b x y = let (o, k) = an-outcome text in go o k
+one-said text a b x y = let (o, k) = an-acceptance text in go o k
   where
-    go : (o : Outcome) → Becomes text o → a ≡ b
-    go (outcome.refused n p) r = x .unread n p r ∙ sym (y .unread n p r)
+    go : (o : Acceptance) → Becomes text o → a ≡ b
+    go (acceptance.refused n p) r = x .unread n p r ∙ sym (y .unread n p r)
     go (accepted m) r =
         let (s, t, u) = x .verdict m r in
         let (s′, t′, u′) = y .verdict m r in

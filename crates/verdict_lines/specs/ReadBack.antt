@@ -18,7 +18,7 @@ use Rattle.semantics.specs.Tables.{Tables}
 use Rattle.semantics.specs.PackedTables.{firstRowWidths, packTables, readTables}
 use Rattle.semantics.specs.Shown.{tablesOf}
 use Rattle.grammar.specs.Grammar.{Macro, headerOf}
-use Rattle.refusals.specs.Accepted.{Accepted, Outcome, accepted, refused, Becomes, an-outcome}
+use Rattle.refusals.specs.Accepted.{Accepted, Acceptance, accepted, refused, Becomes, an-acceptance}
 use Rattle.verdicts.specs.Verdict.{Kind, breaking, failing, showing, fail, incoherent, packed, Delivered, Event, Shows, Verdict}
 use Rattle.verdicts.specs.Capacity.{mostPairs, capacityOf}
 use Rattle.verdicts.specs.Demand3.{pairsIn, Demand3}
@@ -66,38 +66,38 @@ module _ (text table output : List ℕ) where
     abbrev bytesOf : Kind → List Letter → List ℕ
     bytesOf j ls = packed firstEdition firstRowWidths (begin (headerOf m)) j ls
 
-    abbrev Shown : Kind → ℕ → List Letter → Type 0
-    Shown j k ls = Shows Feasible (begin (headerOf m)) (m .body) j k ls
+    abbrev ShownWith : Kind → ℕ → List Letter → Type 0
+    ShownWith j k ls = Shows Feasible (begin (headerOf m)) (m .body) j k ls
 
     abbrev Judged : Type 0
     Judged = Verdict Feasible (begin (headerOf m)) (m .body) firstEdition firstRowWidths (pairsIn table) output (showing kind pairs letters) output′
 
     -- the first event, and where it stands in the output
-    record Told : Type 0 where
+    record ShownEvent : Type 0 where
       execution : List Letter
-      shows : Shown kind pairs execution
+      shows : ShownWith kind pairs execution
       count : length execution ≡ letters
       rest : List ℕ
       bytes : output′ ≡ bytesOf kind execution ++ rest
 
-    told : Judged → Told
+    told : Judged → ShownEvent
     told v = let (j, k, ls, s, d) = v .otherwise (showing-not-full kind pairs letters) (showing-not-pass kind pairs letters) in go j k ls s d
       where
-        go : (j : Kind) (k : ℕ) (ls : List Letter) → Shown j k ls
-            → Delivered (bytesOf j ls) (showing j k (length ls)) output (showing kind pairs letters) output′ → Told
+        go : (j : Kind) (k : ℕ) (ls : List Letter) → ShownWith j k ls
+            → Delivered (bytesOf j ls) (showing j k (length ls)) output (showing kind pairs letters) output′ → ShownEvent
         go j k ls s (inr (l, e, b)) = absurd (showing-refused kind pairs letters 6 0 e)
         go j k ls s (inl (l, e, b)) =
             let (i, p, q) = showing-same j kind k (length ls) pairs letters (sym e) in
             let rest : List ℕ = drop (length (bytesOf j ls)) output in
             record {
               execution = ls;
-              shows = subst (λ n. Shown kind n ls) p (subst (λ n. Shown n k ls) i s);
+              shows = subst (λ n. ShownWith kind n ls) p (subst (λ n. ShownWith n k ls) i s);
               count = q;
               rest = rest;
               bytes = b ∙ ap (λ n. bytesOf n ls ++ rest) i;
             }
 
-    module _ (v : Judged) (t : Told) where
+    module _ (v : Judged) (t : ShownEvent) where
       abbrev ls : List Letter
       ls = t .execution
 
@@ -139,9 +139,9 @@ module _ (text table output : List ℕ) where
   module _ (table′ output′ : List ℕ) where
     pub read-back : (kind : Kind) (pairs letters : ℕ) → Demand3 Feasible text table output (showing kind pairs letters) table′ output′
         → (m : Macro) × Accepted text m × ReadsBack m kind pairs letters output′
-    read-back kind pairs letters x = let (o, k) = an-outcome text in go o k
+    read-back kind pairs letters x = let (o, k) = an-acceptance text in go o k
       where
-        go : (o : Outcome) → Becomes text o → (m : Macro) × Accepted text m × ReadsBack m kind pairs letters output′
+        go : (o : Acceptance) → Becomes text o → (m : Macro) × Accepted text m × ReadsBack m kind pairs letters output′
         go (refused number place) r = absurd (showing-refused kind pairs letters number place (x .unread number place r .0))
         go (accepted m) a = (m, a, back m a kind pairs letters output′ (x .verdict m a) (told m a kind pairs letters output′ (x .verdict m a)))
 

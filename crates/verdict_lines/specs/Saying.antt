@@ -18,8 +18,8 @@ use Rattle.macros.specs.Points.{sizeBlock}
 use Rattle.grammar.specs.Grammar.{Macro, headerOf}
 use Rattle.grammar.specs.Spelled.{InOrder}
 use Rattle.refusals.specs.Order.{Refusal}
-use Rattle.refusals.specs.Accepted.{Accepted, Outcome, accepted, Becomes, an-outcome}
-use Rattle.refusals.specs.Accepted as outcome
+use Rattle.refusals.specs.Accepted.{Accepted, Acceptance, accepted, Becomes, an-acceptance}
+use Rattle.refusals.specs.Accepted as acceptance
 use Rattle.syntax.specs.Answer.{heldMacro, padded}
 use Rattle.syntax.specs.declared.Answer as syntax
 use Rattle.syntax.specs.Reads.{Reads}
@@ -235,10 +235,10 @@ module _ (text table output : List ℕ) (size : length table ≡ 65536) (room : 
     }
 
     brief : Brief text read reads v output′
-    brief = let (o, k) = an-outcome text in go o k
+    brief = let (o, k) = an-acceptance text in go o k
       where
-        go : (o : Outcome) → Becomes text o → Brief text read reads v output′
-        go (outcome.refused number place) r = refused-brief text read reads number place output′ r v (demand .unread number place r .0)
+        go : (o : Acceptance) → Becomes text o → Brief text read reads v output′
+        go (acceptance.refused number place) r = refused-brief text read reads number place output′ r v (demand .unread number place r .0)
         go (accepted m) a = let r = judged m a in (r .letters, r .rows, held-registers text read reads m a)
 
   -- The lines are those of the program, and few.

@@ -8,8 +8,8 @@ use Rattle.semantics.specs.Terms.{State, begin}
 use Rattle.semantics.specs.PackedTables.{firstRowWidths}
 use Rattle.grammar.specs.Grammar.{Macro, headerOf}
 use Rattle.refusals.specs.Order.{Refusal}
-use Rattle.refusals.specs.Accepted.{Accepted, Outcome, accepted, Becomes, an-outcome, accepted-once, refused-once, never-both}
-use Rattle.refusals.specs.Accepted as outcome
+use Rattle.refusals.specs.Accepted.{Accepted, Acceptance, accepted, Becomes, an-acceptance, accepted-once, refused-once, never-both}
+use Rattle.refusals.specs.Accepted as acceptance
 use Rattle.verdicts.specs.Verdict.{Answer, refused, Verdict}
 use Rattle.verdicts.specs.Demand3.{pairsIn, Demand3}
 use Rattle.verdicts.specs.Unique.{one-answer}
@@ -19,10 +19,10 @@ module _ {ℓ} (Possible : State → Type ℓ) (text table output : List ℕ) wh
   -- There is one answer at most, with one table and one output.
   pub one-way : (a b : Answer) (table′ table″ output′ output″ : List ℕ) → Demand3 Possible text table output a table′ output′ → Demand3 Possible text table output b table″ output″
       → (a ≡ b) × (table′ ≡ table″) × (output′ ≡ output″)
-  one-way a b t u o p x y = let (r, k) = an-outcome text in go r k
+  one-way a b t u o p x y = let (r, k) = an-acceptance text in go r k
     where
-      go : (r : Outcome) → Becomes text r → (a ≡ b) × (t ≡ u) × (o ≡ p)
-      go (outcome.refused n q) r =
+      go : (r : Acceptance) → Becomes text r → (a ≡ b) × (t ≡ u) × (o ≡ p)
+      go (acceptance.refused n q) r =
           let (i, j, k) = x .unread n q r in
           let (i′, j′, k′) = y .unread n q r in
           (i ∙ sym i′, j ∙ sym j′, k ∙ sym k′)
@@ -53,8 +53,8 @@ module _ {ℓ} (Possible : State → Type ℓ) (text table output : List ℕ) wh
   pub a-way : ((m : Macro) → Accepted text m
       → (a : Answer) × (o : List ℕ) × Verdict Possible (begin (headerOf m)) (m .body) firstEdition firstRowWidths (pairsIn table) output a o)
       → (a : Answer) × (table′ : List ℕ) × (output′ : List ℕ) × Demand3 Possible text table output a table′ output′
-  a-way v = let (r, k) = an-outcome text in go r k
+  a-way v = let (r, k) = an-acceptance text in go r k
     where
-      go : (r : Outcome) → Becomes text r → (a : Answer) × (table′ : List ℕ) × (output′ : List ℕ) × Demand3 Possible text table output a table′ output′
-      go (outcome.refused n q) r = (refused n q, table, output, refused-way n q r)
+      go : (r : Acceptance) → Becomes text r → (a : Answer) × (table′ : List ℕ) × (output′ : List ℕ) × Demand3 Possible text table output a table′ output′
+      go (acceptance.refused n q) r = (refused n q, table, output, refused-way n q r)
       go (accepted m) r = let (a, o, w) = v m r in (a, replicate (length table) 0, o, read-way m r a o w)
