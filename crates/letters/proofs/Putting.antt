@@ -46,7 +46,8 @@ module _ {B : Type 0} (put : List ℕ → ℕ → B → List ℕ) (n b : ℕ) (d
   put-begins at to out = rw sub-zero
 
   turn : (m next at to : ℕ) (out : List ℕ) → m < k → next ≡ m + 1
-      → putEach put n decode out to (parts b (k - m) (drop at s)) ≡ onAnswer (decode (take b (drop at s))) (λ x. putEach put n decode (put out to x) (to + n) (parts b (k - next) (drop (at + b) s))) λ _ _. out
+      → putEach put n decode out to (parts b (k - m) (drop at s))
+      ≡ onAnswer (decode (take b (drop at s))) (λ x. putEach put n decode (put out to x) (to + n) (parts b (k - next) (drop (at + b) s))) λ _ _. out
   unfolding putEach parts
   turn m next at to out l e = let g : k - m ≡ suc (k - next) = omega arith in rw (g, ← drop-drop b at s)
 
@@ -54,7 +55,8 @@ module _ {B : Type 0} (put : List ℕ → ℕ → B → List ℕ) (n b : ℕ) (d
       → putEach put n decode out to (parts b (k - m) (drop at s)) ≡ putEach put n decode after (to + n) (parts b (k - next) (drop (at + b) s))
   put-good m next at to x out after l e q p = turn m next at to out l e ∙ rw (q, p)
 
-  pub put-bad : (m at to a p : ℕ) (out : List ℕ) → m < k → decode (take b (drop at s)) ≡ refusal a p → putEach put n decode out to (parts b (k - m) (drop at s)) ≡ out
+  pub put-bad : (m at to a p : ℕ) (out : List ℕ) → m < k → decode (take b (drop at s)) ≡ refusal a p
+      → putEach put n decode out to (parts b (k - m) (drop at s)) ≡ out
   put-bad m at to a p out l q = turn m (m + 1) at to out l refl ∙ rw q
 
   pub put-ends : (m at to : ℕ) (out : List ℕ) → k ≤ m → putEach put n decode out to (parts b (k - m) (drop at s)) ≡ out

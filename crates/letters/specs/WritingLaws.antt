@@ -21,7 +21,8 @@ use Rattle.letters.specs.Words.{HeaderFits, headerTest, fitsTest, letter
 use Rattle.letters.specs.WordLaws.{and-true, chosen, header-test, fits-test, Roomy}
 use Rattle.letters.specs.Traces.{Reading, trace, refused, AllFit, parts, packing, reading}
 use Rattle.letters.specs.TraceLaws.{Bytes, Decoded, decoded-letters, letters-decoded, reading-packing, reading-fits, packing-reading}
-use Rattle.letters.specs.Writing.{plainFields, unpackedBytes, plainTest, plainLetter, unpackLetter, unpackedParts, unpacking, writtenLength, writtenOver, Wrote}
+use Rattle.letters.specs.Writing.{plainFields, unpackedBytes, plainTest, plainLetter, unpackLetter, unpackedParts}
+use Rattle.letters.specs.Writing.{unpacking, writtenLength, writtenOver, Wrote}
 
 -- ---- one letter
 
@@ -72,8 +73,10 @@ unpack-letter h s l = (
       (λ t. rw t λ q.
       let k = getD s 0 0 in let f = getD s 1 0 in let x = getD s 2 0 in let y = getD s 3 0 in let z = getD s 4 0 in
       let c = chosen (plainTest h k f x z && fitsTest h (letterBy h k f x y z)) (letterBy h k f x y z) l 4 0 q in
-      let a = and-true (plainTest h k f x z) (fitsTest h (letterBy h k f x y z)) (c .0) in
-      (ap (plainFields h) (sym (c .1)) ∙ plain-back h k f x y z (a .0) ∙ five s (eqb-true (length s) 5 t), subst (Fits h) (c .1) (fits-test h (letterBy h k f x y z) .0 (a .1))))
+      let a = and-true (plainTest h k f x z) (fitsTest h (letterBy h k f x y z)) (c .0) in (
+        ap (plainFields h) (sym (c .1)) ∙ plain-back h k f x y z (a .0) ∙ five s (eqb-true (length s) 5 t),
+        subst (Fits h) (c .1) (fits-test h (letterBy h k f x y z) .0 (a .1)),
+      ))
       λ t. rw t λ q. let n : _≡_ {A = ℕ} 0 1 = cc in absurd (omega arith),
   λ v. subst (λ s. unpackLetter h s ≡ value l) (v .0) (unpack-own h l (v .1)),
 )
@@ -111,7 +114,8 @@ unpacking-plain e h ls v f =
     let k : (length (unpackedBytes h ls) + 4) / 5 ≡ length ls = rw (unpacked-length h ls) (omega arith) in
     rw (header-test e h .1 v, k) (decoded-letters (unpackLetter h) h 1 (parts 5 (length ls) (unpackedBytes h ls)) ls (unpacked-decoded h ls f))
 
-decoded-plain : (h : Header) (k : ℕ) (s : List ℕ) (ls : List Letter) → length s ≤ 5 * k → Decoded (unpackLetter h) (parts 5 k s) ls → AllFit h ls × (unpackedBytes h ls ≡ s)
+decoded-plain : (h : Header) (k : ℕ) (s : List ℕ) (ls : List Letter) → length s ≤ 5 * k
+    → Decoded (unpackLetter h) (parts 5 k s) ls → AllFit h ls × (unpackedBytes h ls ≡ s)
 unfolding parts
 decoded-plain h zero [] [] l d = (tt, refl)
 decoded-plain h zero (x ∷ s) [] l d = absurd (omega arith)

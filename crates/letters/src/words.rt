@@ -16,7 +16,8 @@ ghost use Rattle.base.specs.Masks.{has};
 ghost use Rattle.letters.specs.Packing.{Sized, join, split};
 ghost use Rattle.letters.specs.Editions.{firstEdition};
 ghost use Rattle.letters.specs.Answers.{headerAnswer, letterAnswer, headerWordAnswer, letterWordAnswer};
-ghost use Rattle.letters.specs.Words.{bitsFrom, headerFields, headerWord, letterFields, letterWord, headerTest, fitsTest, applyTest, headerOf, letterBy, letterOf, encodeHeader, encodeLetter, decodeHeader, decodeLetter};
+ghost use Rattle.letters.specs.Words.{bitsFrom, headerFields, headerWord, letterFields, letterWord, headerTest, fitsTest, applyTest};
+ghost use Rattle.letters.specs.Words.{headerOf, letterBy, letterOf, encodeHeader, encodeLetter, decodeHeader, decodeLetter};
 
 /// Two bytes as a word, the first the more significant.
 pub fn word(high: u8, low: u8) -> u16
