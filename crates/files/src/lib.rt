@@ -6,7 +6,7 @@ ghost use Prim.Native.Nat.{_+_, _<_, _≤_, min};
 ghost use lib.ListN.{length};
 ghost use lib.Seq.{paste};
 ghost use Rattle.io.specs.Counts.{Counts};
-ghost use Rattle.files.specs.Input.{meaning, given, Gave, Stored, Received};
+ghost use Rattle.files.specs.Input.{meaning, given, Gave, following, Stored, Received};
 
 /// How reading into a buffer ended. What was read stands in the buffer's front, and the bytes behind it stay as they were lent.
 pub enum Input {
@@ -33,6 +33,12 @@ enum OneRead {
     Failed,
 }
 
+// What follows one read: it gave so many bytes, and reading goes on; or reading is over.
+enum Progress {
+    More(usize),
+    Over(Input),
+}
+
 // What the answer of a read of at most `most` bytes means.
 fn outcome(got: isize, most: usize) -> OneRead
     ensures { λ r. ⌜ r ≡ meaning got most ⌝ }
@@ -46,7 +52,8 @@ fn outcome(got: isize, most: usize) -> OneRead
     OneRead::End
 }
 
-fn least(a: usize, b: usize) -> usize
+/// The smaller of two numbers.
+pub fn least(a: usize, b: usize) -> usize
     ensures { λ r. ⌜ r ≡ min a b ⌝ }
 {
     if a < b { a } else { b }
@@ -96,7 +103,19 @@ fn read_once(fd: i32, buffer: &mut [u8], at: usize, piece: &mut [u8]) -> OneRead
     once
 }
 
+// What follows a read before which `done` bytes were read: the end of the input and a failure are told apart here.
+fn after(once: OneRead, done: usize) -> Progress
+    ensures { λ r. ⌜ r ≡ following once done ⌝ }
+{
+    match once {
+        OneRead::Bytes(n) => Progress::More(n),
+        OneRead::End => Progress::Over(Input::Ended(done)),
+        OneRead::Failed => Progress::Over(Input::Failed(done)),
+    }
+}
+
 /// Reads until the input ends, the buffer is full or a read fails. A read that a signal interrupts before it gives a byte has failed.
+/// What the system's reads answer is free; what they answered decides how reading ended.
 pub fn read(fd: i32, buffer: &mut [u8]) -> Input
     ensures { λ r. ⌜ Received (now (buffer .entry)) r (now (buffer .exit)) ⌝ }
 {
@@ -105,10 +124,10 @@ pub fn read(fd: i32, buffer: &mut [u8]) -> Input
     let mut done: usize = 0;
     while done < buffer.len() {
         let once = read_once(fd, buffer, done, piece);
-        match once {
-            OneRead::Bytes(n) => done = done + n,
-            OneRead::End => return Input::Ended(done),
-            OneRead::Failed => return Input::Failed(done),
+        let next = after(once, done);
+        match next {
+            Progress::More(n) => done = done + n,
+            Progress::Over(input) => return input,
         }
     }
     Input::Full

@@ -1,23 +1,72 @@
--- A line that was written lies in the buffer.
-use mathlib.Core.Path.{_≡_, sym, subst}
+-- What the model program makes of a file.
+use mathlib.Core.Path.{_≡_, sym}
 use mathlib.Core.List.{List}
-use Prim.Native.Nat.{ℕ, _≤_}
+use Prim.Native.Nat.{ℕ, _%_, _≤_}
 use native.Mathlib.Omega.{arith}
+use lib.Dec.{eqb}
 use lib.ListN.{length, take}
 use lib.Seq.{length-take-le}
+use Rattle.base.specs.Choice.{pick}
+use Rattle.files.specs.declared.Input.{Input}
+use Rattle.files.specs.declared.Input.the-variants.{Ended, Full, Failed}
 use Rattle.files.specs.declared.Lines as files
 use Rattle.files.specs.declared.Lines.the-variants.{Written}
-use Rattle.files.specs.Lines.{Answered}
+use Rattle.files.specs.Input.{Received}
+use Rattle.files.specs.Lines.{Known, bytes, unread, Answers}
+use Rattle.files.specs.LinesLaws.{answers-written}
 use Rattle.text.specs.Appending.{appended-length}
-use Rattle.model_lines.specs.Prints.{mostBytes, PrintsRead}
+use Rattle.model_lines.specs.declared.Rest.{Rest}
+use Rattle.model_lines.specs.declared.Rest.the-variants as rest
+use Rattle.model_lines.specs.declared.Left.{Left}
+use Rattle.model_lines.specs.declared.Left.the-variants.{More, Over}
+use Rattle.model_lines.specs.Prints.{mostBytes, Prints}
 
-module _ (entry exit : List ℕ) (r : files.Lines) (x : Answered (PrintsRead entry) entry r exit) (room : mostBytes ≡ length entry) {size : ℕ}
-    (e : r ≡ Written size) where
-  written : PrintsRead entry size exit
-  written = subst (λ (a : files.Lines). Answered (PrintsRead entry) entry a exit) e x
+-- A file is read to its end, or one unit more of it than 1,024 letters have.
+abbrev pub mostRead : ℕ
+mostRead = 2052
+
+-- Of an odd length, and as good.
+abbrev pub oddRead : ℕ
+oddRead = 2051
+
+unfoldable pub parityOf : ℕ → Rest
+parityOf n = pick (eqb (n % 2) 0) (λ _. rest.Even) λ _. rest.Odd
+
+-- What a piece of an input says of what is left of it, where the pieces before have an even number of bytes.
+unfoldable pub leftOf : Input → Left
+leftOf (Ended n) = Over (parityOf n)
+leftOf Full = More
+leftOf (Failed n) = Over rest.Failed
+
+-- What there is to judge of a trace that fills the buffer, by what is behind. Its line is that of the whole trace (`Long.antt`).
+abbrev pub knownLong : Rest → List ℕ → Known
+knownLong rest.Even buffer = bytes buffer
+knownLong rest.Odd buffer = bytes (take oddRead buffer)
+knownLong rest.Failed buffer = unread
+
+-- What there is to judge of any trace that was read into a buffer.
+abbrev pub knownTrace : Input → Rest → List ℕ → Known
+knownTrace (Ended n) behind buffer = bytes (take n buffer)
+knownTrace Full behind buffer = knownLong behind buffer
+knownTrace (Failed n) behind buffer = unread
+
+-- The line is that of what was read; where reading failed nothing is answered. What the system's reads give is free.
+pub record AnswersRead (entry : List ℕ) (r : files.Lines) (exit : List ℕ) : Type 0 where
+  pub space : List ℕ
+  pub room : mostRead ≡ length space
+  pub input : Input
+  pub behind : Rest
+  pub buffer : List ℕ
+  pub received : Received space input buffer
+  pub answers : Answers Prints (knownTrace input behind buffer) entry r exit
+
+-- A line that was written lies in the buffer.
+module _ (entry exit : List ℕ) (r : files.Lines) (x : AnswersRead entry r exit) (room : mostBytes ≡ length entry) {size : ℕ} (e : r ≡ Written size) where
+  written : (s : List ℕ) × Prints s entry size exit
+  written = answers-written Prints (knownTrace (x .input) (x .behind) (x .buffer)) entry exit r size e (x .answers)
 
   pub written-within : size ≤ length exit
-  written-within = let p = written .prints in omega (arith, p .few, p .appended .place, appended-length (p .appended), room)
+  written-within = let p = written .1 in omega (arith, p .few, p .appended .place, appended-length (p .appended), room)
 
   pub written-length : size ≡ length (take size exit)
   written-length = sym (length-take-le size exit written-within)

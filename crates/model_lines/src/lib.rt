@@ -7,10 +7,14 @@ ghost use mathlib.Core.Path.{_≡_};
 ghost use Prim.Native.Nat.{_<_};
 ghost use lib.ListN.{length};
 ghost use Rattle.io.specs.Digits.{glyph};
-ghost use Rattle.files.specs.Lines.{Answered};
+ghost use Rattle.files.specs.Lines.{Answers};
 ghost use Rattle.text.specs.Appending.{Appended, Room};
-ghost use Rattle.model_lines.specs.Prints.{octetText, hexText, modelLine, Prints, PrintsRead};
+ghost use Rattle.model_lines.specs.Prints.{octetText, hexText, modelLine, Prints};
 ghost use Rattle.model_lines.specs.PrintsLaws.{Held, Wrote};
+ghost use Rattle.model_lines.specs.Answered.{parityOf, leftOf, knownLong, knownTrace, AnswersRead};
+
+// The bytes of a long trace that stand for one of odd length.
+const ODD_READ: usize = 2051;
 
 // Two bytes more than the longest trace that is taken, of 1,024 letters.
 fn trace_space() -> [u8; 2052] {
@@ -96,60 +100,106 @@ pub fn write_line(trace: &[u8], out: &mut [u8]) -> usize
     put_answer(out, answer, &model)
 }
 
-// What is left of an input.
-enum Rest {
+/// What a trace has behind the bytes that fill the buffer.
+pub enum Rest {
+    /// An even number of bytes.
     Even,
+    /// An odd number of bytes.
     Odd,
+    /// A read failed: nothing is known of the trace's end.
     Failed,
 }
 
+// What a piece of the input says of what is left: there is more, or it is over.
+enum Left {
+    More,
+    Over(Rest),
+}
+
 // The parity of n.
-fn parity(n: usize) -> Rest {
+fn parity(n: usize) -> Rest
+    ensures { λ r. ⌜ r ≡ parityOf n ⌝ }
+{
     if n % 2 == 0 {
         return Rest::Even;
     }
     Rest::Odd
 }
 
+// What follows a piece, if all before it have an even number of bytes.
+fn left_after(input: Input) -> Left
+    ensures { λ r. ⌜ r ≡ leftOf input ⌝ }
+{
+    match input {
+        Input::Ended(n) => Left::Over(parity(n)),
+        Input::Full => Left::More,
+        Input::Failed(_) => Left::Over(Rest::Failed),
+    }
+}
+
 // Reads on to the end of the input. All pieces but the last have an even number of bytes. A proved loop has to end, and nothing says
-// that the input does: it counts its turns down, from a number that no run uses up.
+// that the input does: it counts its turns down, from a number that no run uses up. What is left is for the system to say, so there
+// is nothing to ensure.
 fn read_rest(fd: i32) -> Rest {
     let mut piece = io::large_buffer();
     let mut turns = u64::MAX;
     while 0 < turns {
         let input = files::read(fd, &mut piece);
-        match input {
-            Input::Ended(n) => return parity(n),
-            Input::Full => turns = turns - 1,
-            Input::Failed(_) => return Rest::Failed,
+        let next = left_after(input);
+        match next {
+            Left::More => turns = turns - 1,
+            Left::Over(rest) => return rest,
         }
     }
     Rest::Failed
 }
 
-// Answers a trace that is too long, from its first bytes: question 2 comes before question 5, and 5 before the letters.
-fn answer_long(fd: i32, trace: &[u8], line: &mut [u8]) -> Lines
-    requires { ⌜ 2051 < length (now trace) ⌝ }
-    ensures { λ r. ⌜ Answered (PrintsRead (now (line .entry))) (now (line .entry)) r (now (line .exit)) ⌝ }
+// What is behind the bytes that were read. Only where they fill the buffer there may be something.
+fn rest_of(fd: i32, input: Input) -> Rest {
+    match input {
+        Input::Ended(_) => Rest::Even,
+        Input::Full => read_rest(fd),
+        Input::Failed(_) => Rest::Failed,
+    }
+}
+
+// Answers a trace that fills the buffer, from the bytes there: question 2 comes before question 5, and 5 before the letters.
+fn answer_long(trace: &[u8], rest: Rest, line: &mut [u8]) -> Lines
+    ensures { λ r. ⌜ Answers Prints (knownLong rest (now (trace .entry))) (now (line .entry)) r (now (line .exit)) ⌝ }
 {
-    let rest = read_rest(fd);
     match rest {
         Rest::Even => Lines::Written(write_line(trace, line)),
-        Rest::Odd => Lines::Written(write_line(&trace[..2051], line)),
+        Rest::Odd => {
+            let end = files::least(ODD_READ, trace.len());
+            Lines::Written(write_line(&trace[..end], line))
+        }
         Rest::Failed => Lines::Unread,
+    }
+}
+
+/// Writes the line of an input that was read into `trace` into the front of a lent buffer: that of the bytes that it had, or, where it
+/// filled `trace`, that of its first 2,052 bytes, or of 2,051 if `rest` is odd. Where a read failed nothing is judged, and the buffer
+/// stays as it is.
+pub fn answer_to(trace: &[u8], input: Input, rest: Rest, line: &mut [u8]) -> Lines
+    ensures { λ r. ⌜ Answers Prints (knownTrace input rest (now (trace .entry))) (now (line .entry)) r (now (line .exit)) ⌝ }
+{
+    match input {
+        Input::Ended(n) => {
+            let end = files::least(n, trace.len());
+            Lines::Written(write_line(&trace[..end], line))
+        }
+        Input::Full => answer_long(trace, rest, line),
+        Input::Failed(_) => Lines::Unread,
     }
 }
 
 /// Reads a trace from a file, and writes its line into the front of a lent buffer. Of a trace of more than 2,050 bytes only its header and
 /// the parity of its length matter.
 pub fn answer(fd: i32, line: &mut [u8]) -> Lines
-    ensures { λ r. ⌜ Answered (PrintsRead (now (line .entry))) (now (line .entry)) r (now (line .exit)) ⌝ }
+    ensures { λ r. ⌜ AnswersRead (now (line .entry)) r (now (line .exit)) ⌝ }
 {
     let mut trace = trace_space();
     let input = files::read(fd, &mut trace);
-    match input {
-        Input::Ended(n) => Lines::Written(write_line(&trace[..n], line)),
-        Input::Full => answer_long(fd, &trace, line),
-        Input::Failed(_) => Lines::Unread,
-    }
+    let rest = rest_of(fd, input);
+    answer_to(&trace, input, rest, line)
 }

@@ -1,11 +1,14 @@
 -- What the verdict program makes of a file.
-use mathlib.Core.Path.{_≡_, subst}
+use mathlib.Core.Path.{_≡_}
 use mathlib.Core.List.{List}
 use Prim.Native.Nat.{ℕ, _≤_}
 use lib.ListN.{length, take}
+use Rattle.files.specs.declared.Input.{Input}
 use Rattle.files.specs.declared.Lines as files
 use Rattle.files.specs.declared.Lines.the-variants.{Written}
-use Rattle.files.specs.Lines.{Answered}
+use Rattle.files.specs.Input.{Received}
+use Rattle.files.specs.Lines.{known, Answers}
+use Rattle.files.specs.LinesLaws.{answers-written}
 use Rattle.verdict_lines.specs.Prints.{Prints}
 use Rattle.verdict_lines.specs.PrintsLaws.{prints-within, prints-length}
 
@@ -13,18 +16,21 @@ use Rattle.verdict_lines.specs.PrintsLaws.{prints-within, prints-length}
 abbrev pub mostRead : ℕ
 mostRead = 4097
 
--- The lines are those of what was read.
-pub record PrintsRead (entry : List ℕ) (size : ℕ) (exit : List ℕ) : Type 0 where
+-- The lines are those of what was read; where reading failed nothing is answered. What the system's reads give is free.
+pub record AnswersRead (entry : List ℕ) (r : files.Lines) (exit : List ℕ) : Type 0 where
+  pub space : List ℕ
+  pub room : mostRead ≡ length space
+  pub input : Input
   pub text : List ℕ
-  pub short : length text ≤ mostRead
-  pub prints : Prints text entry size exit
+  pub received : Received space input text
+  pub answers : Answers Prints (known input text) entry r exit
 
-module _ (entry exit : List ℕ) (r : files.Lines) (x : Answered (PrintsRead entry) entry r exit) {size : ℕ} (e : r ≡ Written size) where
-  written : PrintsRead entry size exit
-  written = subst (λ (a : files.Lines). Answered (PrintsRead entry) entry a exit) e x
+module _ (entry exit : List ℕ) (r : files.Lines) (x : AnswersRead entry r exit) {size : ℕ} (e : r ≡ Written size) where
+  written : (s : List ℕ) × Prints s entry size exit
+  written = answers-written Prints (known (x .input) (x .text)) entry exit r size e (x .answers)
 
   pub written-within : size ≤ length exit
-  written-within = prints-within (written .prints)
+  written-within = prints-within (written .1)
 
   pub written-length : size ≡ length (take size exit)
-  written-length = prints-length (written .prints)
+  written-length = prints-length (written .1)

@@ -6,8 +6,8 @@ ghost use mathlib.Core.Path.{_≡_};
 ghost use lib.ListN.{length};
 ghost use Rattle.report.specs.Bound.{Limited};
 ghost use Rattle.verdict_lines.specs.Prints.{Prints};
-ghost use Rattle.files.specs.Lines.{Answered};
-ghost use Rattle.verdict_lines.specs.Answered.{PrintsRead};
+ghost use Rattle.files.specs.Lines.{known, Answers};
+ghost use Rattle.verdict_lines.specs.Answered.{AnswersRead};
 ghost use Rattle.verdict_lines.specs.Reported.{reported as reportedOf, sizeOf, Reports};
 
 // One byte more than the longest text that is taken.
@@ -85,16 +85,27 @@ pub fn write_lines(text: &[u8], lines: &mut [u8]) -> usize
     write_verdict(text, verdict, &answer, lines)
 }
 
+/// Writes the lines of an input that was read into `text` into the front of a lent buffer: those of the bytes that it had, or of all bytes
+/// where it filled `text`. Where a read failed nothing is judged, and the buffer stays as it is.
+pub fn answer_to(text: &[u8], input: Input, lines: &mut [u8]) -> Lines
+    ensures { λ r. ⌜ Answers Prints (known input (now (text .entry))) (now (lines .entry)) r (now (lines .exit)) ⌝ }
+{
+    match input {
+        Input::Ended(n) => {
+            let end = files::least(n, text.len());
+            Lines::Written(write_lines(&text[..end], lines))
+        }
+        Input::Full => Lines::Written(write_lines(text, lines)),
+        Input::Failed(_) => Lines::Unread,
+    }
+}
+
 /// Reads a text from a file, and writes its lines into the front of a lent buffer. Of a text of more than 4,096 bytes, 4,097 are read: it
 /// is refused for its length.
 pub fn answer(fd: i32, lines: &mut [u8]) -> Lines
-    ensures { λ r. ⌜ Answered (PrintsRead (now (lines .entry))) (now (lines .entry)) r (now (lines .exit)) ⌝ }
+    ensures { λ r. ⌜ AnswersRead (now (lines .entry)) r (now (lines .exit)) ⌝ }
 {
     let mut text = text_space();
     let input = files::read(fd, &mut text);
-    match input {
-        Input::Ended(n) => Lines::Written(write_lines(&text[..n], lines)),
-        Input::Full => Lines::Written(write_lines(&text, lines)),
-        Input::Failed(_) => Lines::Unread,
-    }
+    answer_to(&text, input, lines)
 }

@@ -1,5 +1,4 @@
 use borrow.Author.Needs.{needs}
-use Rattle.files.specs.InputLaws.{ended-within, ended-length}
 use Rattle.model_lines.proofs.answer.Statement.{statement}
 use Rattle.model_lines.proofs.answer.Tie as tie
 
@@ -10,16 +9,18 @@ answer-spec =
     (λ c κs. search needs)
     (λ c. search needs)
     (λ c κs. search needs)
-    (λ c. search needs)
-    (λ c. ended-within (c .before .before .before .before .read .ensures) (c .before .input .given .1))
-    (λ c. ended-length (c .before .before .before .before .before .read .ensures) (c .before .before .input .given .1))
     (λ c κs. search needs)
-    (λ c. search needs)
     (λ c. search needs)
     (λ c κs. search needs)
     (λ c. search needs)
-    (λ c. search needs)
-    (λ c. search needs)
-    (λ c. search needs)
-    (λ c. search needs)
-    (λ c. search needs))
+    (λ c.
+    let read = c .before .before .before .before .before .before .before .read in
+    record {
+      space = c .before .before .before .before .before .before .before .before .before .trace-space .result;
+      room = search needs;
+      input = read .result;
+      behind = c .before .before .before .before .before .rest-of .result;
+      buffer = read .last .1 .0;
+      received = read .ensures;
+      answers = c .before .before .answer-to .ensures;
+    }))

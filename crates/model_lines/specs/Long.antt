@@ -1,0 +1,39 @@
+-- A trace that is too long has the line of its first 2,052 bytes, or 2,051 where its length is odd: "Even length? 2. Header as above? 3.", and
+-- "at most 1,024 letters? 5" before the letters.
+use mathlib.Core.Path.{_≡_, refl, sym, ap, _∙_}
+use mathlib.Core.List.{List}
+use Prim.Native.Nat.{ℕ, _-_, _/_, _%_, _≤_}
+use native.Mathlib.Omega.{arith}
+use lib.ListN.{length, take}
+use lib.Seq.{length-take-le, take-take}
+use borrow.Author.Tests.{lt-ltb, le-ltb, eq-eqb, ne-eqb}
+use Rattle.letters.specs.Editions.{firstEdition}
+use Rattle.letters.specs.Packing.{join}
+use Rattle.letters.specs.Answers.{onAnswer}
+use Rattle.letters.specs.Words.{decodeHeader}
+use Rattle.letters.specs.Traces.{Reading, refused, octets, beginning, readingWhere, readingWithin}
+use Rattle.model_lines.specs.Prints.{readLine, lineFor}
+use Rattle.model_lines.specs.Answered.{mostRead, oddRead}
+
+-- Only the header's unit matters.
+abbrev headed : List ℕ → Reading
+headed unit = onAnswer (decodeHeader firstEdition (join (octets firstEdition) unit)) (λ h. refused 5 0) refused
+
+even-reading : (s : List ℕ) → mostRead ≤ length s → length s % 2 ≡ 0 → readingWithin 1024 firstEdition s ≡ headed (take 2 s)
+unfolding readingWhere beginning
+even-reading s l e = rw (le-ltb (length s) 2 (omega arith), eq-eqb (length s % 2) 0 e, lt-ltb 1024 (length s / 2 - 1) (omega arith)) refl
+
+odd-reading : (s : List ℕ) → oddRead ≤ length s → length s % 2 ≡ 1 → readingWithin 1024 firstEdition s ≡ refused 2 0
+unfolding readingWhere beginning
+odd-reading s l e = rw (le-ltb (length s) 2 (omega arith), ne-eqb (length s % 2) 0 (λ z. omega arith)) refl
+
+pub even-line : (s : List ℕ) → mostRead ≤ length s → length s % 2 ≡ 0 → lineFor (take mostRead s) ≡ lineFor s
+even-line s l e =
+    let k = length-take-le mostRead s l in
+    ap readLine (even-reading (take mostRead s) (omega (arith, k)) (omega (arith, k)) ∙ ap headed (take-take 2 mostRead s (omega arith))
+    ∙ sym (even-reading s l e))
+
+pub odd-line : (s : List ℕ) → oddRead ≤ length s → length s % 2 ≡ 1 → lineFor (take oddRead s) ≡ lineFor s
+odd-line s l e =
+    let k = length-take-le oddRead s l in
+    ap readLine (odd-reading (take oddRead s) (omega (arith, k)) (omega (arith, k)) ∙ sym (odd-reading s l e))

@@ -1,0 +1,40 @@
+use borrow.Author.Needs.{needs}
+use mathlib.Core.Path.{refl, ap}
+use Rattle.files.specs.declared.Input.{Input}
+use Rattle.files.specs.Lines.{known}
+use Rattle.files.specs.LinesLaws.{least-length, answers-bytes, answers-first, answers-unread}
+use Rattle.verdict_lines.specs.Prints.{Prints}
+use Rattle.verdict_lines.proofs.answer_to.Statement.{statement}
+use Rattle.verdict_lines.proofs.answer_to.Tie as tie
+
+pub answer-to-spec : {M : Type 1} → statement M
+answer-to-spec =
+    tie.close
+    (tie.spec
+    (λ c. search needs)
+    (λ c κs. search needs)
+    (λ c.
+    let a = c .before .before .before .before .before .before .before .args in
+    least-length (c .before .before .before .input .given .0 .0) (c .before .least .result) (a .text .now) (c .before .least .ensures))
+    (λ c κs. search needs)
+    (λ c. search needs)
+    (λ c κs. search needs)
+    (λ c. search needs)
+    (λ c. search needs)
+    (λ c.
+    let a = c .before .before .before .before .before .before .before .before .before .before .before .args in
+    let n = c .before .before .before .before .before .before .before .input .given in
+    let wrote = c .before .before .write-lines in
+    let end = c .before .before .before .before .before .least in
+    answers-first Prints (known (a .input) (a .text .now)) (a .text .now) (a .lines .now) (wrote .last .1 .0) (n .0 .0) (end .result) (wrote .result)
+    (ap (λ (i : Input). known i (a .text .now)) (n .1)) (end .ensures) (wrote .ensures))
+    (λ c. search needs)
+    (λ c.
+    let a = c .before .before .before .before .before .before .before .before .args in
+    let wrote = c .before .before .write-lines2 in
+    answers-bytes Prints (known (a .input) (a .text .now)) (a .text .now) (a .lines .now) (wrote .last .1 .0) (wrote .result)
+    (ap (λ (i : Input). known i (a .text .now)) (c .before .before .before .before .enum-told .given .1)) (wrote .ensures))
+    (λ c.
+    let a = c .before .before .before .before .args in
+    answers-unread Prints (known (a .input) (a .text .now)) (a .lines .now) (a .lines .now)
+    (ap (λ (i : Input). known i (a .text .now)) (c .enum-told2 .given .1)) refl))
