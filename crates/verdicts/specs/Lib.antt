@@ -10,6 +10,7 @@ pub mod Unique
 pub mod Total
 pub mod Trail
 pub mod Capacity
+pub mod CapacityLaws
 pub mod Demand3
 pub mod Settled
 pub mod Shortest
