@@ -7,7 +7,11 @@
  * is too short for them, nothing is done: every slice stays as it was.
  *
  * A refusal is a number (0: none) and a place (0 unless said): document 01, "The
- * questions". A refused call writes no output.
+ * questions". A refused call writes no output, and the numbers behind the place are 0
+ * unless said.
+ *
+ * Stack: at most 32 KB a call (fadzgime_verdict; read 22 KB, model 17 KB, the others
+ * less), whatever the input; tested on a thread of 128 KB.
  */
 #ifndef FADZGIME_H
 #define FADZGIME_H
@@ -34,7 +38,8 @@ void fadzgime_monitor(const uint8_t *trace, size_t trace_length,
  * unpacked letter has five bytes: kind (0 copy, 1 application, 2 equal test,
  * 3 unequal test), function, target, first, second. A copy uses target and first, a
  * test first and second; an application uses all, but second only if its function
- * takes two arguments. What a letter does not use is 0.
+ * takes two arguments. What a letter does not use is 0. Bytes that are not a multiple
+ * of five end in an incomplete letter, which is refused by 4 at its number.
  * answer[0] refusal (3, 4, 6), [1] place, [2] bytes of the trace written to `out`,
  * 2 + 2 * letters of them; the bytes behind stay.
  */
@@ -62,14 +67,17 @@ void fadzgime_read_trace(const uint8_t *trace, size_t trace_length,
  */
 #define FADZGIME_MONITOR_STATE 318
 #define FADZGIME_STREAM_STATE 346
-/* answer[0] if the state is too short or holds something else: nothing is done. */
+/*
+ * answer[0] if the state is too short or holds something else: the state stays, and the
+ * other numbers are 0.
+ */
 #define FADZGIME_NO_STATE 255
 
 /*
  * Starts a monitor with a header's word, the first byte of a trace the more
  * significant.
  * answer[0] refusal (3), [1] place (0), [2] 1 if the monitor runs, [3] 1 if it is
- * infeasible. A refusal leaves the state as it was.
+ * infeasible. A refusal leaves the state as it was, and [2] and [3] are 0.
  */
 void fadzgime_monitor_start(uint16_t header,
                             uint8_t *state, size_t state_length,
@@ -79,8 +87,8 @@ void fadzgime_monitor_start(uint16_t header,
  * Takes a letter's word.
  * answer[0] refusal (4), [1] place (0), [2] 1 if the monitor runs: all letters taken
  * are coherent; [3] 1 if their longest coherent beginning is infeasible. A refusal
- * leaves the state as it was; a monitor that has stopped takes letters and does no
- * more.
+ * leaves the state as it was, and [2] and [3] are as before it; a monitor that has
+ * stopped takes letters and does no more.
  *
  *     uint8_t state[FADZGIME_MONITOR_STATE];
  *     uint64_t answer[4];
@@ -101,6 +109,9 @@ void fadzgime_monitor_step(uint16_t letter,
  *     fadzgime_stream_start(state, sizeof state, answer, 1);
  *     while ((n = fread(part, 1, sizeof part, file)) > 0) {
  *         fadzgime_stream_push(part, n, state, sizeof state, answer, 1);
+ *     }
+ *     if (ferror(file)) {
+ *         return failed; // bytes are missing: nothing is judged
  *     }
  *     fadzgime_stream_finish(state, sizeof state, answer, 4);
  *

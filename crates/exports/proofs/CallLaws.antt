@@ -15,32 +15,35 @@ use Rattle.letters.specs.declared.Written.{Written}
 use Rattle.letters.specs.declared.Written.the-variants as written
 use Rattle.letters.specs.Answers.{Answer, value, refusal, traceAnswer, writtenAnswer}
 use Rattle.letters.specs.Editions.{firstEdition}
-use Rattle.letters.specs.Traces.{letterCount, reading}
+use Rattle.letters.specs.WordLaws.{first-roomy, decode-header-refused}
+use Rattle.letters.specs.Traces.{reading}
 use Rattle.letters.specs.Writing.{unpacking, Wrote}
 use Rattle.letters.specs.Unpacking.{Unpacked}
 use Rattle.semantics.specs.Terms.{Trace}
-use Rattle.monitoring.specs.Monitor.{outcomeAnswer, startOf, advance}
-use Rattle.monitoring.specs.Run.{last, verdictAnswer}
+use Rattle.monitoring.specs.Monitor.{outcomeAnswer, idleOf, startOf, advance}
+use Rattle.monitoring.specs.MonitorLaws.{start-refused}
+use Rattle.monitoring.specs.Run.{verdictAnswer}
 use Rattle.monitoring.specs.Stream.{emptyStream, pushedAll, finishedOf}
-use Rattle.monitoring.specs.Demand2.{Demand2}
 use Rattle.monitoring.specs.Meanings.{Monitors, Starts, Advances, Streams, StreamStarts, StreamPushes, StreamFinishes, finishes}
 use Rattle.monitoring.specs.declared.Monitor.{Monitor}
 use Rattle.monitoring.specs.declared.Outcome.the-variants as outcome
 use Rattle.monitoring.specs.declared.Stepped.{Stepped}
 use Rattle.monitoring.specs.declared.Stream.{Stream}
 use Rattle.monitoring.specs.declared.Verdict.{Verdict}
+use Rattle.records.specs.Records.{flag}
 use Rattle.states.specs.States.{monitorSize, streamSize, streamThen, monitorIn, streamIn, KeepsMonitor, KeepsStream}
 use Rattle.exports.specs.Numbers.{runNumbers}
 use Rattle.exports.specs.TraceCalls.{writtenNumbers, readNumbers, Writes, ReadsTrace}
-use Rattle.exports.specs.MonitorCalls.{monitorKind, streamKind, noState, noStateNumbers, holdsState, outcomeNumber, steppedNumbers, keptOver}
+use Rattle.exports.specs.MonitorCalls.{monitorKind, streamKind, noState, noStateNumbers, holdsState, outcomeNumber, monitorNumbers}
+use Rattle.exports.specs.MonitorCalls.{steppedNumbers, keptOver, headerRefusal, letterRefusal}
 use Rattle.exports.specs.MonitorCalls.{KeepsStep, HoldsMonitor, StartsMonitor, StepsMonitor, HoldsStream, StartsStream, PushesStream, FinishesStream}
 use Rattle.exports.proofs.Laws.{too-short}
 
 -- ---- numbers
 
 -- numbers that were stored over the front of an answer
-stored-over : (n : ℕ) (numbers stored answer answer′ : List ℕ) → stored ≡ numbers → length stored ≡ n → answer′ ≡ stored ++ drop (length stored) answer
-    → answer′ ≡ numbers ++ drop n answer
+stored-over : (n : ℕ) (numbers stored answer answer′ : List ℕ) → stored ≡ numbers → length stored ≡ n
+    → answer′ ≡ stored ++ drop (length stored) answer → answer′ ≡ numbers ++ drop n answer
 stored-over n numbers stored answer answer′ same full e = e ∙ rw full (ap (λ l. l ++ drop n answer) same)
 
 -- one number stored
@@ -116,7 +119,8 @@ held-long kind size s = go (ltb (length s) size) refl
 pub outcome-taken : (r : Stepped) → r .outcome ≡ outcome.Taken → 0 ≡ outcomeNumber (r .outcome)
 outcome-taken r e = rw e
 
-pub keeps-taken : (r : Stepped) (entry exit : List ℕ) → r .outcome ≡ outcome.Taken → KeepsMonitor monitorKind (r .monitor) entry exit → KeepsStep r entry exit
+pub keeps-taken : (r : Stepped) (entry exit : List ℕ) → r .outcome ≡ outcome.Taken → KeepsMonitor monitorKind (r .monitor) entry exit
+    → KeepsStep r entry exit
 unfolding keptOver
 keeps-taken r entry exit o k = record { bytes = rw o (k .bytes); back = λ _. (k .kept, k .back) }
 
@@ -127,10 +131,23 @@ keeps-refused r entry number o = record {
   back = λ t. absurd (let z : _≡_ {A = ℕ} 0 1 = cc in omega arith);
 }
 
--- the state after a call that was taken
-holds-after : (ρ : Trace) (r : Stepped) (entry exit : List ℕ) → KeepsStep r entry exit
-    → (outcomeAnswer (r .outcome) ≡ value tt) × Monitors ρ (r .monitor) → HoldsMonitor ρ exit
-holds-after ρ r entry exit k (t, m) = let (kind, back) = k .back t in record { kind = kind; monitors = subst (Monitors ρ) (sym back) m }
+-- What a call leaves, from what was stored.
+module _ (r : Stepped) (entry exit answer answer′ : List ℕ) (k : KeepsStep r entry exit) (e : answer′ ≡ steppedNumbers r ++ drop 4 answer) where
+  -- taken: the state, and the numbers of the monitor in it
+  holds-after : (ρ : Trace) → (outcomeAnswer (r .outcome) ≡ value tt) × Monitors ρ (r .monitor)
+      → HoldsMonitor ρ exit × (answer′ ≡ monitorNumbers 0 (monitorIn exit) ++ drop 4 answer)
+  unfolding steppedNumbers
+  holds-after ρ (t, m) =
+      let (kind, back) = k .back t in (
+        record { kind = kind; monitors = subst (Monitors ρ) (sym back) m },
+        e ∙ rw (t, back),
+      )
+
+  -- refused: the state stays
+  refused-after : (number place : ℕ) (m : Monitor) → outcomeAnswer (r .outcome) ≡ refusal number place → r .monitor ≡ m
+      → (exit ≡ entry) × (answer′ ≡ monitorNumbers number m ++ drop 4 answer)
+  unfolding steppedNumbers keptOver
+  refused-after number place m o same = (k .bytes ∙ rw o, e ∙ rw (o, same))
 
 module _ (word : ℕ) (entry answer : List ℕ) where
   pub start-short : length answer < 4 → StartsMonitor word entry answer entry answer
@@ -139,6 +156,7 @@ module _ (word : ℕ) (entry answer : List ℕ) where
     none = λ room. absurd (too-short s room);
     started = λ room. absurd (too-short s room);
     holds = λ room. absurd (too-short s room);
+    refused = λ room. absurd (too-short s room);
   }
 
   pub start-none : (answer′ stored : List ℕ) → 4 ≤ length answer → length entry < monitorSize → stored ≡ noStateNumbers → length stored ≡ 4
@@ -148,19 +166,24 @@ module _ (word : ℕ) (entry answer : List ℕ) where
     none = λ _ _. (refl, stored-over 4 _ stored answer answer′ same full e);
     started = λ _ l. absurd (too-short less l);
     holds = λ _ l. absurd (too-short less l);
+    refused = λ _ l. absurd (too-short less l);
   }
 
   pub start-done : (exit stored answer′ : List ℕ) (r : Stepped) → 4 ≤ length answer → monitorSize ≤ length entry → Starts word r → KeepsStep r entry exit
-      → stored ≡ steppedNumbers r → length stored ≡ 4 → answer′ ≡ stored ++ drop (length stored) answer → StartsMonitor word entry answer exit answer′
-  start-done exit stored answer′ r room long d k same full e = record {
-    short = λ s. absurd (too-short s room);
-    none = λ _ less. absurd (too-short less long);
-    started = λ _ _. (
-      k .bytes ∙ ap (λ s. keptOver s entry) (d .computed),
-      stored-over 4 _ stored answer answer′ (same ∙ ap steppedNumbers (d .computed)) full e,
-    );
-    holds = λ _ _ h v w. holds-after _ r entry exit k (d .taken h v w);
-  }
+      → stored ≡ steppedNumbers r → length stored ≡ 4 → answer′ ≡ stored ++ drop (length stored) answer
+      → StartsMonitor word entry answer exit answer′
+  unfolding flag
+  start-done exit stored answer′ r room long d k same full e =
+      let numbers : answer′ ≡ steppedNumbers r ++ drop 4 answer = stored-over 4 _ stored answer answer′ same full e in
+      record {
+        short = λ s. absurd (too-short s room);
+        none = λ _ less. absurd (too-short less long);
+        started = λ _ _. (k .bytes ∙ ap (λ s. keptOver s entry) (d .computed), numbers ∙ ap (λ s. steppedNumbers s ++ drop 4 answer) (d .computed));
+        holds = λ _ _ h v w. holds-after r entry exit answer answer′ k numbers _ (d .taken h v w);
+        refused = λ _ _ none.
+            refused-after r entry exit answer answer′ k numbers headerRefusal 0 idleOf (d .refused none .0)
+            (ap (λ (s : Stepped). s .monitor) (d .computed ∙ start-refused word headerRefusal 0 (decode-header-refused first-roomy word .1 none)));
+      }
 
   pub step-short : length answer < 4 → StepsMonitor word entry answer entry answer
   step-short s = record {
@@ -168,6 +191,7 @@ module _ (word : ℕ) (entry answer : List ℕ) where
     none = λ room. absurd (too-short s room);
     stepped = λ room. absurd (too-short s room);
     holds = λ room. absurd (too-short s room);
+    refused = λ room. absurd (too-short s room);
   }
 
   pub step-none : (answer′ stored : List ℕ) → 4 ≤ length answer → holdsState monitorKind monitorSize entry ≡ false → stored ≡ noStateNumbers → length stored ≡ 4
@@ -177,6 +201,7 @@ module _ (word : ℕ) (entry answer : List ℕ) where
     none = λ _ _. (refl, stored-over 4 _ stored answer answer′ same full e);
     stepped = λ _ y. absurd (true-false y lacks);
     holds = λ _ long ρ t. absurd (true-false (held monitorKind monitorSize entry long (t .kind)) lacks);
+    refused = λ _ long ρ t. absurd (true-false (held monitorKind monitorSize entry long (t .kind)) lacks);
   }
 
   pub step-done : (exit stored answer′ : List ℕ) (m : Monitor) (r : Stepped) → 4 ≤ length answer → holdsState monitorKind monitorSize entry ≡ true
@@ -184,11 +209,16 @@ module _ (word : ℕ) (entry answer : List ℕ) where
       → stored ≡ steppedNumbers r → length stored ≡ 4 → answer′ ≡ stored ++ drop (length stored) answer → StepsMonitor word entry answer exit answer′
   step-done exit stored answer′ m r room yes-held same-monitor d k same full e =
       let q : r ≡ advance (monitorIn entry) word = d .computed ∙ ap (λ n. advance n word) same-monitor in
+      let numbers : answer′ ≡ steppedNumbers r ++ drop 4 answer = stored-over 4 _ stored answer answer′ same full e in
+      let before : (ρ : Trace) → HoldsMonitor ρ entry → Monitors ρ m = (λ ρ t. subst (Monitors ρ) (sym same-monitor) (t .monitors)) in
       record {
         short = λ s. absurd (too-short s room);
         none = λ _ lacks. absurd (true-false yes-held lacks);
-        stepped = λ _ _. (k .bytes ∙ ap (λ s. keptOver s entry) q, stored-over 4 _ stored answer answer′ (same ∙ ap steppedNumbers q) full e);
-        holds = λ _ _ ρ t a f w. holds-after _ r entry exit k (d .taken ρ (subst (Monitors ρ) (sym same-monitor) (t .monitors)) a f w);
+        stepped = λ _ _. (k .bytes ∙ ap (λ s. keptOver s entry) q, numbers ∙ ap (λ s. steppedNumbers s ++ drop 4 answer) q);
+        holds = λ _ _ ρ t a f w. holds-after r entry exit answer answer′ k numbers _ (d .taken ρ (before ρ t) a f w);
+        refused = λ _ _ ρ t none.
+            let (o, stays) = d .refused ρ (before ρ t) none in
+            refused-after r entry exit answer answer′ k numbers letterRefusal 0 _ o (stays ∙ same-monitor);
       }
 
 -- ---- the stream
@@ -253,9 +283,8 @@ module _ (bytes entry answer : List ℕ) where
   }
 
 -- demand 2, whatever the answer has room for
-answered : (entry bytes : List ℕ) → HoldsStream bytes entry → letterCount firstEdition bytes ≤ last
-    → Demand2 bytes (verdictAnswer (finishedOf (streamIn entry)))
-answered entry bytes t = finishes (streamIn entry) (finishedOf (streamIn entry)) refl .meets bytes (t .streams)
+answered : (entry : List ℕ) → StreamFinishes (streamIn entry) (finishedOf (streamIn entry))
+answered entry = finishes (streamIn entry) (finishedOf (streamIn entry)) refl
 
 module _ (entry answer : List ℕ) where
   pub finish-short : length answer < 4 → FinishesStream entry answer answer
@@ -263,7 +292,8 @@ module _ (entry answer : List ℕ) where
     short = λ _. refl;
     none = λ room. absurd (too-short s room);
     finished = λ room. absurd (too-short s room);
-    meets = answered entry;
+    meets = λ bytes t. answered entry .meets bytes (t .streams);
+    beyond = λ bytes t. answered entry .beyond bytes (t .streams);
   }
 
   pub finish-none : (stored answer′ : List ℕ) → 4 ≤ length answer → holdsState streamKind streamSize entry ≡ false → stored ≡ noStateNumbers → length stored ≡ 4
@@ -272,7 +302,8 @@ module _ (entry answer : List ℕ) where
     short = λ s. absurd (too-short s room);
     none = λ _ _. stored-over 4 _ stored answer answer′ same full e;
     finished = λ _ y. absurd (true-false y lacks);
-    meets = answered entry;
+    meets = λ bytes t. answered entry .meets bytes (t .streams);
+    beyond = λ bytes t. answered entry .beyond bytes (t .streams);
   }
 
   pub finish-done : (stored answer′ : List ℕ) (s : Stream) (v : Verdict) → 4 ≤ length answer → holdsState streamKind streamSize entry ≡ true
@@ -282,5 +313,6 @@ module _ (entry answer : List ℕ) where
     short = λ s. absurd (too-short s room);
     none = λ _ lacks. absurd (true-false yes-held lacks);
     finished = λ _ _. stored-over 4 _ stored answer answer′ (same ∙ ap (λ w. runNumbers (verdictAnswer w)) (d .computed ∙ ap finishedOf same-stream)) full e;
-    meets = answered entry;
+    meets = λ bytes t. answered entry .meets bytes (t .streams);
+    beyond = λ bytes t. answered entry .beyond bytes (t .streams);
   }

@@ -23,7 +23,8 @@ verdictNumbers (refused number place) = number ∷ place ∷ 0 ∷ 0 ∷ 0 ∷ [
 pub record Judging (text table output answer table′ output′ answer′ : List ℕ) : Type 0 where
   -- An answer that has no room for five numbers: nothing is done.
   pub short : length answer < 5 → (table′ ≡ table) × (output′ ≡ output) × (answer′ ≡ answer)
-  -- Else demand 3 holds of an answer whose numbers stand over the front of the slice.
+  -- Else demand 3 holds of an answer whose numbers stand over the front of the slice. What the output's bytes are then read back as, for any table:
+  -- `ReadBack.read-back` of crate `verdict_lines`.
   pub judged : 5 ≤ length answer → (a : Answer) × Demand3 Feasible text table output a table′ output′ × (answer′ ≡ verdictNumbers a ++ drop 5 answer)
 
 -- It settles every lent byte: there is one way at most.

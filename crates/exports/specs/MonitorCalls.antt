@@ -10,7 +10,7 @@ use Rattle.base.specs.Choice.{pick}
 use Rattle.letters.specs.declared.Header.{Header}
 use Rattle.letters.specs.declared.Letter.{Letter}
 use Rattle.letters.specs.Letters.{Fits}
-use Rattle.letters.specs.Answers.{value, onAnswer}
+use Rattle.letters.specs.Answers.{Answer, value, onAnswer}
 use Rattle.letters.specs.Editions.{firstEdition}
 use Rattle.letters.specs.Words.{HeaderFits, headerWord, letterWord}
 use Rattle.letters.specs.Traces.{letterCount}
@@ -20,7 +20,9 @@ use Rattle.monitoring.specs.Monitor.{outcomeAnswer, startOf, advance}
 use Rattle.monitoring.specs.Run.{last, verdictAnswer}
 use Rattle.monitoring.specs.Stream.{emptyStream, pushedAll, finishedOf}
 use Rattle.monitoring.specs.Demand2.{Demand2}
+use Rattle.monitoring.specs.StreamRight.{cappedAnswer}
 use Rattle.monitoring.specs.Meanings.{Monitors, Streams}
+use Rattle.monitoring.specs.declared.Monitor.{Monitor}
 use Rattle.monitoring.specs.declared.Outcome.{Outcome}
 use Rattle.monitoring.specs.declared.Stepped.{Stepped}
 use Rattle.states.specs.States.{monitorSize, streamSize, monitorThen, monitorIn, streamThen, streamIn}
@@ -49,9 +51,13 @@ holdsState kind size s = pick (ltb (length s) size) (λ _. false) λ _. eqb (get
 abbrev pub outcomeNumber : Outcome → ℕ
 outcomeNumber o = onAnswer (outcomeAnswer o) (λ _. 0) λ number _. number
 
--- refusal, place, whether the monitor runs, its infeasible mark
+-- refusal (0: none), place, whether the monitor runs, its infeasible mark
+abbrev pub monitorNumbers : ℕ → Monitor → List ℕ
+monitorNumbers number m = number ∷ 0 ∷ flag (m .running) ∷ flag (m .window .infeasible) ∷ []
+
+-- A refused call answers the two marks too: after a refused step those of the monitor that stays, after a refused start 0.
 unfoldable pub steppedNumbers : Stepped → List ℕ
-steppedNumbers r = outcomeNumber (r .outcome) ∷ 0 ∷ flag (r .monitor .running) ∷ flag (r .monitor .window .infeasible) ∷ []
+steppedNumbers r = monitorNumbers (outcomeNumber (r .outcome)) (r .monitor)
 
 -- the state after a call that gave r; "its window unchanged" where it is refused
 unfoldable pub keptOver : Stepped → List ℕ → List ℕ
@@ -61,6 +67,17 @@ keptOver r s = onAnswer (outcomeAnswer (r .outcome)) (λ _. monitorThen monitorK
 pub record KeepsStep (r : Stepped) (entry exit : List ℕ) : Type 0 where
   pub bytes : exit ≡ keptOver r entry
   pub back : outcomeAnswer (r .outcome) ≡ value tt → (getD exit 0 0 ≡ monitorKind) × (monitorIn exit ≡ r .monitor)
+
+-- the refusals of document 01 that a call can give
+abbrev pub headerRefusal : ℕ
+headerRefusal = 3
+
+abbrev pub letterRefusal : ℕ
+letterRefusal = 4
+
+-- There is no monitor after a refused start: both marks are 0.
+abbrev pub refusedStart : List ℕ
+refusedStart = headerRefusal ∷ 0 ∷ 0 ∷ 0 ∷ []
 
 -- The state of the monitor after the letters of a trace.
 pub record HoldsMonitor (ρ : Trace) (s : List ℕ) : Type 0 where
@@ -74,8 +91,13 @@ pub record StartsMonitor (word : ℕ) (entry answer exit answer′ : List ℕ) :
   pub none : 4 ≤ length answer → length entry < monitorSize → (exit ≡ entry) × (answer′ ≡ noStateNumbers ++ drop 4 answer)
   pub started : 4 ≤ length answer → monitorSize ≤ length entry
       → (exit ≡ keptOver (startOf word) entry) × (answer′ ≡ steppedNumbers (startOf word) ++ drop 4 answer)
+  -- a header's word: the numbers are those of the monitor in the state
   pub holds : 4 ≤ length answer → monitorSize ≤ length entry → (h : Header) → HeaderFits firstEdition h
-      → headerWord firstEdition h ≡ word → HoldsMonitor (begin h) exit
+      → headerWord firstEdition h ≡ word
+      → HoldsMonitor (begin h) exit × (answer′ ≡ monitorNumbers 0 (monitorIn exit) ++ drop 4 answer)
+  -- "it refuses a header by 3": no header has that word
+  pub refused : 4 ≤ length answer → monitorSize ≤ length entry → ((h : Header) → HeaderFits firstEdition h → headerWord firstEdition h ≡ word → ⊥)
+      → (exit ≡ entry) × (answer′ ≡ refusedStart ++ drop 4 answer)
 
 pub record StepsMonitor (word : ℕ) (entry answer exit answer′ : List ℕ) : Type 0 where
   pub short : length answer < 4 → (exit ≡ entry) × (answer′ ≡ answer)
@@ -83,8 +105,14 @@ pub record StepsMonitor (word : ℕ) (entry answer exit answer′ : List ℕ) : 
   pub none : 4 ≤ length answer → holdsState monitorKind monitorSize entry ≡ false → (exit ≡ entry) × (answer′ ≡ noStateNumbers ++ drop 4 answer)
   pub stepped : 4 ≤ length answer → holdsState monitorKind monitorSize entry ≡ true
       → (exit ≡ keptOver (advance (monitorIn entry) word) entry) × (answer′ ≡ steppedNumbers (advance (monitorIn entry) word) ++ drop 4 answer)
+  -- a letter's word: the numbers are those of the monitor in the state afterwards
   pub holds : 4 ≤ length answer → monitorSize ≤ length entry → (ρ : Trace) → HoldsMonitor ρ entry → (a : Letter) → Fits (state ρ .header) a
-      → letterWord firstEdition (state ρ .header) a ≡ word → HoldsMonitor (ρ ▸ a) exit
+      → letterWord firstEdition (state ρ .header) a ≡ word
+      → HoldsMonitor (ρ ▸ a) exit × (answer′ ≡ monitorNumbers 0 (monitorIn exit) ++ drop 4 answer)
+  -- "it refuses a letter by 4, place 0, its window unchanged": no letter has that word
+  pub refused : 4 ≤ length answer → monitorSize ≤ length entry → (ρ : Trace) → HoldsMonitor ρ entry
+      → ((a : Letter) → Fits (state ρ .header) a → letterWord firstEdition (state ρ .header) a ≡ word → ⊥)
+      → (exit ≡ entry) × (answer′ ≡ monitorNumbers letterRefusal (monitorIn entry) ++ drop 4 answer)
 
 -- ---- bytes in parts of any lengths
 
@@ -113,4 +141,8 @@ pub record FinishesStream (entry answer answer′ : List ℕ) : Type 0 where
   pub finished : 4 ≤ length answer → holdsState streamKind streamSize entry ≡ true
       → answer′ ≡ runNumbers (verdictAnswer (finishedOf (streamIn entry))) ++ drop 4 answer
   -- demand 2 for all the bytes together
-  pub meets : (bytes : List ℕ) → HoldsStream bytes entry → letterCount firstEdition bytes ≤ last → Demand2 bytes (verdictAnswer (finishedOf (streamIn entry)))
+  pub meets : (bytes : List ℕ) → HoldsStream bytes entry → letterCount firstEdition bytes ≤ last
+      → Demand2 bytes (verdictAnswer (finishedOf (streamIn entry)))
+  -- of more letters than 64 bits can number, those have the last number
+  pub beyond : (bytes : List ℕ) → HoldsStream bytes entry → (exact : Answer (ℕ × ℕ)) → Demand2 bytes exact
+      → verdictAnswer (finishedOf (streamIn entry)) ≡ cappedAnswer exact

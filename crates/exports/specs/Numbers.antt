@@ -1,4 +1,5 @@
--- The answers as numbers in a lent slice. On a refusal the numbers behind its place are 0; without one the first two are 0.
+-- The answers of the monitor's run, of the shown model and of the reader as numbers in a lent slice. In these, on a refusal the numbers behind its
+-- place are 0; without one the first two are 0.
 use mathlib.Core.Path.{_≡_}
 use Prim.Native.Nat.{ℕ}
 use mathlib.Core.List.{List, [], _∷_, _++_}

@@ -1,5 +1,6 @@
 // The monitor for Rust and C, a letter a call, and the run over a trace whose bytes come in parts of any lengths. What is kept between the calls
-// stands in a lent state of a fixed size; a state that is too short or of another kind is answered by NO_STATE, and nothing else is done.
+// stands in a lent state of a fixed size; a state that is too short or of another kind stays and is answered by NO_STATE, the other numbers 0.
+use super::RUN_NUMBERS;
 use super::run_numbers;
 use super::store;
 use monitoring::Outcome;
@@ -29,10 +30,8 @@ const STREAM: u8 = 2;
 // What is answered for a state that is too short or of another kind; document 01 has no such number.
 const NO_STATE: u64 = 255;
 
-// How many numbers a call answers.
+// How many numbers a call of the monitor answers.
 const STEP_NUMBERS: usize = 4;
-
-const RUN_NUMBERS: usize = 4;
 
 // Whether a state is long enough and of this kind.
 fn holds(kind: u8, size: usize, state: &[u8]) -> bool
@@ -102,7 +101,7 @@ pub extern "C" fn fadzgime_monitor_start(header: u16, state: &mut [u8], answer: 
 }
 
 /// Takes the word of a letter: the refusal and its place, 0 for none; 1 if the monitor runs, all letters taken being coherent; 1 if the longest
-/// coherent beginning of the letters taken is infeasible.
+/// coherent beginning of the letters taken is infeasible. A refused letter is none of them.
 #[no_mangle]
 pub extern "C" fn fadzgime_monitor_step(letter: u16, state: &mut [u8], answer: &mut [u64])
     ensures { λ _. ⌜ StepsMonitor letter (now (state .entry)) (now (answer .entry)) (now (state .exit)) (now (answer .exit)) ⌝ }

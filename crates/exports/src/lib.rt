@@ -22,6 +22,15 @@ pub mod traces;
 /// The monitor, a letter a call, and the run over a trace in parts.
 pub mod calls;
 
+// How many numbers a call answers.
+const RUN_NUMBERS: usize = 4;
+
+const MODEL_NUMBERS: usize = 4;
+
+const MACRO_NUMBERS: usize = 5;
+
+const VERDICT_NUMBERS: usize = 5;
+
 // Stores the numbers over the front of the answer.
 fn store(numbers: &[u64], answer: &mut [u64])
     requires { ⌜ length (now numbers) ≤ length (now answer) ⌝ }
@@ -51,7 +60,7 @@ pub extern "C" fn fadzgime_monitor(trace: &[u8], answer: &mut [u64])
     ensures { λ _. ⌜ now (answer .exit) ≡ monitored (now (trace .entry)) (now (answer .entry)) ⌝ }
     ensures { λ _. ⌜ (4 ≤ length (now (answer .entry)) → Demand2 (now (trace .entry)) (verdictAnswer (answerOf (now (trace .entry))))) ⌝ }
 {
-    if answer.len() < 4 {
+    if answer.len() < RUN_NUMBERS {
         return;
     }
     let verdict = monitoring::streaming::judge_trace(trace);
@@ -79,7 +88,7 @@ pub extern "C" fn fadzgime_model(trace: &[u8], out: &mut [u8], answer: &mut [u64
     ensures { λ _. ⌜ now (out .exit) ≡ modelOutput (now (trace .entry)) (now (out .entry)) (now (answer .entry)) ⌝ }
     ensures { λ _. ⌜ (4 ≤ length (now (answer .entry)) → ModelMeans (now (trace .entry)) (now (out .entry)) (now (out .exit))) ⌝ }
 {
-    if answer.len() < 4 {
+    if answer.len() < MODEL_NUMBERS {
         return;
     }
     let shown = shown::show(trace, out);
@@ -107,7 +116,7 @@ fn macro_numbers(read: Answer) -> [u64; 5]
 pub extern "C" fn fadzgime_read(text: &[u8], answer: &mut [u64])
     ensures { λ _. ⌜ MacroRead (now (text .entry)) (now (answer .entry)) (now (answer .exit)) ⌝ }
 {
-    if answer.len() < 5 {
+    if answer.len() < MACRO_NUMBERS {
         return;
     }
     let read = syntax::read(text);
@@ -139,7 +148,7 @@ pub extern "C" fn fadzgime_verdict(
 )
     ensures { λ _. ⌜ Judging (now (text .entry)) (now (table .entry)) (now (out .entry)) (now (answer .entry)) (now (table .exit)) (now (out .exit)) (now (answer .exit)) ⌝ }
 {
-    if answer.len() < 5 {
+    if answer.len() < VERDICT_NUMBERS {
         return;
     }
     let verdict = search::judge_macro(text, table, out);

@@ -33,7 +33,8 @@ pub extern "C" fn fadzgime_write(
     out: &mut [u8],
     answer: &mut [u64],
 )
-    ensures { λ _. ⌜ WritesWith registers functions binary (now (fields .entry)) (now (out .entry)) (now (answer .entry)) (now (out .exit)) (now (answer .exit)) ⌝ }
+    ensures { λ _. ⌜ WritesWith registers functions binary (now (fields .entry)) (now (out .entry)) (now (answer .entry))
+        (now (out .exit)) (now (answer .exit)) ⌝ }
 {
     if answer.len() < WRITTEN_NUMBERS {
         return;

@@ -9,6 +9,7 @@ use records::flagged;
 use records::flags;
 use records::lay;
 use records::marks;
+use tokens::wide;
 use window::Window;
 ghost use mathlib.Core.Path.{_≡_};
 ghost use Prim.Native.Nat.{_+_, _≤_};
@@ -61,13 +62,6 @@ fn octets(n: u64) -> [u8; 8]
         (n / 256 % 256) as u8,
         (n % 256) as u8,
     ]
-}
-
-fn wide(x: u8) -> u64
-    ensures { λ r. ⌜ r ≡ x ⌝ }
-    ensures small { λ r. ⌜ r ≤ 255 ⌝ }
-{
-    x as u64
 }
 
 // The number in eight bytes.
@@ -272,7 +266,8 @@ fn verdict_of(code: u8, number: u8, first: u64, second: u64) -> Verdict
 // Lays what a stream has behind its monitor over the state.
 fn put_tail(tail: [u8; 4], letters: [u8; 8], first: [u8; 8], second: [u8; 8], state: &mut [u8])
     requires { ⌜ streamSize ≤ length (now state) ⌝ }
-    ensures { λ _. ⌜ now (state .exit) ≡ take monitorSize (now (state .entry)) ++ tailThen tail letters first second (drop streamSize (now (state .entry))) ⌝ }
+    ensures { λ _. ⌜ now (state .exit) ≡ take monitorSize (now (state .entry))
+        ++ tailThen tail letters first second (drop streamSize (now (state .entry))) ⌝ }
 {
     lay(state, TAIL, &tail);
     lay(state, LETTERS, &letters);

@@ -4,7 +4,10 @@
 use std::process::Command;
 
 use oracle::letter::Header;
-use oracle::library::{self, MODEL_ANSWER, MONITOR_ANSWER, READ_ANSWER, VERDICT_ANSWER};
+use oracle::library::{
+    self, MODEL_ANSWER, MONITOR_ANSWER, MONITOR_STATE, PUSH_ANSWER, READ_ANSWER, READ_TRACE_ANSWER,
+    STEP_ANSWER, STREAM_STATE, UNPACKED_BYTES, VERDICT_ANSWER, WRITE_ANSWER,
+};
 use oracle::random::Random;
 use oracle::random_trace::random_letter;
 use oracle::reader::read_macro;
@@ -105,6 +108,62 @@ fn call_monitor() {
     on_a_small_stack(move || library::monitor(&trace, &mut answer));
 }
 
+/// The letters of the long trace, read and written again.
+#[test]
+#[ignore = "called in a process of its own"]
+fn call_traces() {
+    let trace = long_trace();
+    let bytes = trace.clone();
+    let (mut out, mut answer) = (vec![0; 1_024 * UNPACKED_BYTES], vec![0; READ_TRACE_ANSWER]);
+    let (letters, read) = on_a_small_stack(move || {
+        library::read_trace(&bytes, &mut out, &mut answer);
+        (out, answer)
+    });
+    assert_eq!(read, [0, 0, 8, 4, 0b1010, 1_024]);
+    let (mut out, mut answer) = (vec![0; trace.len()], vec![0; WRITE_ANSWER]);
+    let written = on_a_small_stack(move || {
+        library::write([8, 4, 0b1010], &letters, &mut out, &mut answer);
+        out
+    });
+    assert_eq!(written, trace);
+}
+
+#[test]
+#[ignore = "called in a process of its own"]
+fn call_steps() {
+    let words: Vec<u16> = long_trace().chunks(2).map(|pair| u16::from_be_bytes([pair[0], pair[1]])).collect();
+    let (mut state, mut answer) = (vec![0; MONITOR_STATE], vec![0; STEP_ANSWER]);
+    let refused = on_a_small_stack(move || {
+        library::monitor_start(words[0], &mut state, &mut answer);
+        let mut refused = answer[0] != 0;
+        for &word in &words[1..] {
+            library::monitor_step(word, &mut state, &mut answer);
+            refused |= answer[0] != 0;
+        }
+        refused
+    });
+    assert!(!refused);
+}
+
+/// The long trace in two parts, the first of which ends inside a letter.
+#[test]
+#[ignore = "called in a process of its own"]
+fn call_stream() {
+    let trace = long_trace();
+    let mut whole = [0; MONITOR_ANSWER];
+    library::monitor(&trace, &mut whole);
+    let (mut state, mut answer) = (vec![0; STREAM_STATE], vec![0; MONITOR_ANSWER]);
+    let answer = on_a_small_stack(move || {
+        library::stream_start(&mut state, &mut answer[..PUSH_ANSWER]);
+        for part in [&trace[..1_001], &trace[1_001..]] {
+            library::stream_push(part, &mut state, &mut answer[..PUSH_ANSWER]);
+        }
+        library::stream_finish(&state, &mut answer);
+        answer
+    });
+    assert_eq!(answer, whole);
+}
+
 #[test]
 fn read() {
     in_a_process("call_read");
@@ -123,4 +182,19 @@ fn model() {
 #[test]
 fn monitor() {
     in_a_process("call_monitor");
+}
+
+#[test]
+fn traces() {
+    in_a_process("call_traces");
+}
+
+#[test]
+fn steps() {
+    in_a_process("call_steps");
+}
+
+#[test]
+fn stream() {
+    in_a_process("call_stream");
 }

@@ -17,7 +17,10 @@ same-length : tie.Need-same-length
 same-length c = search needs
 
 returns-2 : tie.Need-returns-2
-returns-2 c = start-none _ _ _ _ _ (c .before .before .before .before .before .before .if1 .left) (c .before .before .before .before .before .if2 .taken) refl refl (c .before .before .store .ensures)
+returns-2 c =
+    let stored = c .before .before in
+    let tested = stored .before .before .before in
+    start-none _ _ _ _ _ (tested .before .if1 .left) (tested .if2 .taken) refl refl (stored .store .ensures)
 
 start-requires : tie.Need-start-requires
 start-requires c κs = search needs
@@ -41,7 +44,13 @@ same-length-3 : tie.Need-same-length-3
 same-length-3 c = search needs
 
 returns-3 : tie.Need-returns-3
-returns-3 c = start-done _ _ _ _ _ _ _ (c .before .before .before .before .before .before .before .before .before .before .before .before .if1 .left) (c .before .before .before .before .before .before .before .before .before .before .before .if2 .left) (c .before .before .before .before .before .before .before .before .before .before .start .ensures) (c .before .before .before .before .before .before .before .before .keep .ensures) (c .before .before .before .before .before .stepped-numbers .ensures) (search needs) (c .before .before .store2 .ensures)
+returns-3 c =
+    let stored = c .before .before in
+    let numbered = stored .before .before .before in
+    let kept = numbered .before .before .before in
+    let started = kept .before .before in
+    start-done _ _ _ _ _ _ _ (started .before .before .if1 .left) (started .before .if2 .left) (started .start .ensures) (kept .keep .ensures)
+    (numbered .stepped-numbers .ensures) (search needs) (stored .store2 .ensures)
 
 pub fadzgime-monitor-start-spec : {M : Type 1} → statement M
 fadzgime-monitor-start-spec =

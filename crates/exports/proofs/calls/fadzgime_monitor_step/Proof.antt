@@ -35,7 +35,15 @@ same-length-2 : tie.Need-same-length-2
 same-length-2 c = search needs
 
 returns-2 : tie.Need-returns-2
-returns-2 c = step-done _ _ _ _ _ _ _ _ (c .before .before .before .before .before .before .before .before .before .before .before .before .before .before .before .before .if1 .left) (sym (c .before .before .before .before .before .before .before .before .before .before .before .before .before .before .holds .ensures) ∙ c .before .before .before .before .before .before .before .before .before .before .before .before .before .if2 .taken) (c .before .before .before .before .before .before .before .before .before .before .before .monitor-in .ensures) (c .before .before .before .before .before .before .before .before .before .before .step .ensures) (c .before .before .before .before .before .before .before .before .keep .ensures) (c .before .before .before .before .before .stepped-numbers .ensures) (search needs) (c .before .before .store .ensures)
+returns-2 c =
+    let stored = c .before .before in
+    let numbered = stored .before .before .before in
+    let kept = numbered .before .before .before in
+    let moved = kept .before .before in
+    let tested = moved .before .before .before in
+    step-done _ _ _ _ _ _ _ _ (tested .before .before .before .if1 .left) (sym (tested .before .holds .ensures) ∙ tested .if2 .taken)
+    (moved .before .monitor-in .ensures) (moved .step .ensures) (kept .keep .ensures) (numbered .stepped-numbers .ensures) (search needs)
+    (stored .store .ensures)
 
 slice-aggregate-store-2 : tie.Need-slice-aggregate-store-2
 slice-aggregate-store-2 c = search needs
@@ -50,7 +58,11 @@ same-length-4 : tie.Need-same-length-4
 same-length-4 c = search needs
 
 returns-3 : tie.Need-returns-3
-returns-3 c = step-none _ _ _ _ _ (c .before .before .before .before .before .before .before .before .if1 .left) (sym (c .before .before .before .before .before .before .holds .ensures) ∙ c .before .before .before .before .before .if2 .left) refl refl (c .before .before .store2 .ensures)
+returns-3 c =
+    let stored = c .before .before in
+    let tested = stored .before .before .before in
+    step-none _ _ _ _ _ (tested .before .before .before .if1 .left) (sym (tested .before .holds .ensures) ∙ tested .if2 .left) refl refl
+    (stored .store2 .ensures)
 
 pub fadzgime-monitor-step-spec : {M : Type 1} → statement M
 fadzgime-monitor-step-spec =

@@ -29,7 +29,13 @@ same-length : tie.Need-same-length
 same-length c = search needs
 
 returns-2 : tie.Need-returns-2
-returns-2 c = finish-done _ _ _ _ _ _ (c .before .before .before .before .before .before .before .before .before .before .if1 .left) (sym (c .before .before .before .before .before .before .before .before .before .holds .ensures) ∙ c .before .before .before .before .before .before .before .before .if2 .taken) (c .before .before .before .before .before .before .before .stream-in .ensures) (c .before .before .before .before .before .before .finish .ensures) (c .before .before .before .before .before .run-numbers .ensures) (search needs) (c .before .before .store .ensures)
+returns-2 c =
+    let stored = c .before .before in
+    let numbered = stored .before .before .before in
+    let finished = numbered .before in
+    let tested = finished .before .before in
+    finish-done _ _ _ _ _ _ (tested .before .before .if1 .left) (sym (tested .before .holds .ensures) ∙ tested .if2 .taken)
+    (finished .before .stream-in .ensures) (finished .finish .ensures) (numbered .run-numbers .ensures) (search needs) (stored .store .ensures)
 
 slice-aggregate-store-2 : tie.Need-slice-aggregate-store-2
 slice-aggregate-store-2 c = search needs
@@ -41,7 +47,11 @@ same-length-2 : tie.Need-same-length-2
 same-length-2 c = search needs
 
 returns-3 : tie.Need-returns-3
-returns-3 c = finish-none _ _ _ _ (c .before .before .before .before .before .before .before .if1 .left) (sym (c .before .before .before .before .before .before .holds .ensures) ∙ c .before .before .before .before .before .if2 .left) refl refl (c .before .before .store2 .ensures)
+returns-3 c =
+    let stored = c .before .before in
+    let tested = stored .before .before .before in
+    finish-none _ _ _ _ (tested .before .before .if1 .left) (sym (tested .before .holds .ensures) ∙ tested .if2 .left) refl refl
+    (stored .store2 .ensures)
 
 pub fadzgime-stream-finish-spec : {M : Type 1} → statement M
 fadzgime-stream-finish-spec =

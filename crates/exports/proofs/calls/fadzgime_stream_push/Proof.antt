@@ -29,7 +29,12 @@ same-length-2 : tie.Need-same-length-2
 same-length-2 c = search needs
 
 returns-2 : tie.Need-returns-2
-returns-2 c = push-done _ _ _ _ _ _ (c .before .before .before .before .before .before .before .before .before .before .if1 .left) (sym (c .before .before .before .before .before .before .before .before .holds .ensures) ∙ c .before .before .before .before .before .before .before .if2 .taken) (c .before .before .before .before .before .stream-in .ensures) (c .before .before .before .before .push-all .ensures) (c .before .before .put-stream .ensures)
+returns-2 c =
+    let stored = c .before .before in
+    let pushed = stored .before .before in
+    let tested = pushed .before .before .before in
+    push-done _ _ _ _ _ _ (tested .before .before .before .if1 .left) (sym (tested .before .holds .ensures) ∙ tested .if2 .taken)
+    (pushed .before .stream-in .ensures) (pushed .push-all .ensures) (stored .put-stream .ensures)
 
 slice-write-answer-2 : tie.Need-slice-write-answer-2
 slice-write-answer-2 c = search needs

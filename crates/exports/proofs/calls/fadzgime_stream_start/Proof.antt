@@ -31,7 +31,10 @@ same-length-3 : tie.Need-same-length-3
 same-length-3 c = search needs
 
 returns-3 : tie.Need-returns-3
-returns-3 c = stream-started _ _ _ _ (c .before .before .before .before .before .before .if1 .left) (c .before .before .before .before .before .if2 .left) (c .before .before .before .before .start .ensures) (c .before .before .put-stream .ensures)
+returns-3 c =
+    let stored = c .before .before in
+    let started = stored .before .before in
+    stream-started _ _ _ _ (started .before .before .if1 .left) (started .before .if2 .left) (started .start .ensures) (stored .put-stream .ensures)
 
 pub fadzgime-stream-start-spec : {M : Type 1} → statement M
 fadzgime-stream-start-spec =

@@ -16,7 +16,9 @@ same-length : tie.Need-same-length
 same-length c = search needs
 
 returns : tie.Need-returns
-returns c = let a = c .before .before .before .before .before .before .before .before .args in keeps-taken (a .stepped) (a .state .now) _ (c .before .before .before .before .enum-told .given .1) (c .before .before .put-monitor .ensures)
+returns c =
+    let a = c .before .before .before .before .before .before .before .before .args in
+    keeps-taken (a .stepped) (a .state .now) _ (c .before .before .before .before .enum-told .given .1) (c .before .before .put-monitor .ensures)
 
 returns-2 : tie.Need-returns-2
 returns-2 c = let a = c .before .before .before .before .before .args in keeps-refused (a .stepped) (a .state .now) _ (c .before .outcome .given .1)

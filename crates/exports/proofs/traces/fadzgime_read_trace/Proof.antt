@@ -25,7 +25,12 @@ same-length-2 : tie.Need-same-length-2
 same-length-2 c = search needs
 
 returns-2 : tie.Need-returns-2
-returns-2 c = reads-stored _ _ _ _ _ _ (c .before .before .before .before .before .before .before .before .unpack-trace .result) (c .before .before .before .before .before .before .before .before .unpack-trace .ensures) (c .before .before .before .before .before .read-numbers .ensures) (search needs) (c .before .before .before .before .before .before .before .before .before .before .if1 .left) (c .before .before .store .ensures)
+returns-2 c =
+    let stored = c .before .before in
+    let numbered = stored .before .before .before in
+    let done = numbered .before .before .before in
+    reads-stored _ _ _ _ _ _ (done .unpack-trace .result) (done .unpack-trace .ensures) (numbered .read-numbers .ensures) (search needs) (done .before .before .if1 .left)
+    (stored .store .ensures)
 
 pub fadzgime-read-trace-spec : {M : Type 1} → statement M
 fadzgime-read-trace-spec =
