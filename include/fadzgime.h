@@ -4,14 +4,17 @@
  *
  * Every function takes lent slices, each as a pointer and a length, which must not
  * overlap, and puts its answer as numbers into the slice `answer`. Where that slice
- * is too short for them, nothing is done: every slice stays as it was.
+ * is too short for them, nothing is done: every slice stays as it was, and nothing
+ * tells you so. An answer that held zeros then reads as accepted, coherent, pass: use
+ * the lengths FADZGIME_.._ANSWER below.
  *
  * A refusal is a number (0: none) and a place (0 unless said): document 01, "The
  * questions". A refused call writes no output, and the numbers behind the place are 0
  * unless said.
  *
  * Stack: at most 32 KB a call (fadzgime_verdict; read 22 KB, model 17 KB, the others
- * less), whatever the input; tested on a thread of 128 KB.
+ * less), whatever the input; tested on a thread of 128 KB. Nothing is allocated or
+ * kept between calls, so calls on several threads do not disturb each other.
  */
 #ifndef FADZGIME_H
 #define FADZGIME_H
@@ -22,6 +25,15 @@
 #ifdef __cplusplus
 extern "C" {
 #endif
+
+/* How many numbers an answer has. */
+#define FADZGIME_MONITOR_ANSWER 4
+#define FADZGIME_WRITE_ANSWER 3
+#define FADZGIME_READ_TRACE_ANSWER 6
+#define FADZGIME_STREAM_ANSWER 1
+#define FADZGIME_MODEL_ANSWER 4
+#define FADZGIME_READ_ANSWER 5
+#define FADZGIME_VERDICT_ANSWER 5
 
 /*
  * Judges a packed trace of any length.
@@ -53,7 +65,7 @@ void fadzgime_write(uint8_t registers, uint8_t functions, uint8_t two_arguments,
  * takes them: one writes what the other reads.
  * answer[0] refusal (1, 2, 3, 4, 6), [1] place, [2] registers, [3] functions,
  * [4] mask of the functions of two arguments, [5] letters: 5 * answer[5] bytes of
- * `out`; the bytes behind stay. A trace of n bytes has at most n / 2 - 1 letters.
+ * `out`; the bytes behind stay. For a trace of n bytes 5 * (n / 2) bytes are enough.
  */
 void fadzgime_read_trace(const uint8_t *trace, size_t trace_length,
                          uint8_t *out, size_t out_length,
@@ -68,8 +80,9 @@ void fadzgime_read_trace(const uint8_t *trace, size_t trace_length,
 #define FADZGIME_MONITOR_STATE 318
 #define FADZGIME_STREAM_STATE 346
 /*
- * answer[0] if the state is too short or holds something else: the state stays, and the
- * other numbers are 0.
+ * answer[0] if the state is too short, or its first byte is not that of its kind: the
+ * state stays, and the other numbers are 0. Other damage is not noticed: the bytes are
+ * taken as some state, nothing else is touched, and the answer means nothing.
  */
 #define FADZGIME_NO_STATE 255
 
@@ -91,11 +104,14 @@ void fadzgime_monitor_start(uint16_t header,
  * stopped takes letters and does no more.
  *
  *     uint8_t state[FADZGIME_MONITOR_STATE];
- *     uint64_t answer[4];
- *     fadzgime_monitor_start(header, state, sizeof state, answer, 4);
+ *     uint64_t answer[FADZGIME_MONITOR_ANSWER];
+ *     fadzgime_monitor_start(header, state, sizeof state, answer, FADZGIME_MONITOR_ANSWER);
  *     while (answer[0] == 0 && answer[2] == 1 && next_letter(&word)) {
- *         fadzgime_monitor_step(word, state, sizeof state, answer, 4);
+ *         fadzgime_monitor_step(word, state, sizeof state, answer, FADZGIME_MONITOR_ANSWER);
  *     }
+ *
+ * This loop ends at the first incoherent letter and does not look at later ones; without
+ * `answer[2] == 1` every letter is checked, as fadzgime_monitor does.
  */
 void fadzgime_monitor_step(uint16_t letter,
                            uint8_t *state, size_t state_length,
@@ -105,15 +121,15 @@ void fadzgime_monitor_step(uint16_t letter,
  * The run of fadzgime_monitor over bytes that come in parts of any lengths:
  *
  *     uint8_t state[FADZGIME_STREAM_STATE];
- *     uint64_t answer[4];
- *     fadzgime_stream_start(state, sizeof state, answer, 1);
+ *     uint64_t answer[FADZGIME_MONITOR_ANSWER];
+ *     fadzgime_stream_start(state, sizeof state, answer, FADZGIME_STREAM_ANSWER);
  *     while ((n = fread(part, 1, sizeof part, file)) > 0) {
- *         fadzgime_stream_push(part, n, state, sizeof state, answer, 1);
+ *         fadzgime_stream_push(part, n, state, sizeof state, answer, FADZGIME_STREAM_ANSWER);
  *     }
  *     if (ferror(file)) {
  *         return failed; // bytes are missing: nothing is judged
  *     }
- *     fadzgime_stream_finish(state, sizeof state, answer, 4);
+ *     fadzgime_stream_finish(state, sizeof state, answer, FADZGIME_MONITOR_ANSWER);
  *
  * start and push: answer[0] is 0 or FADZGIME_NO_STATE. finish: answer as that of
  * fadzgime_monitor for all the bytes together, or FADZGIME_NO_STATE; it changes
@@ -130,7 +146,8 @@ void fadzgime_stream_finish(const uint8_t *state, size_t state_length,
 /*
  * Shows a data model of a packed trace of at most 1,024 letters, coherent or not.
  * answer[0] refusal (1, 2, 3, 5, 4, 6), [1] place, [2] first infeasible letter
- * (0: feasible), [3] bytes of the packed model written to `out`.
+ * (0: feasible), [3] bytes of the packed model written to `out`. An `out` of 5,180
+ * bytes is always enough.
  */
 void fadzgime_model(const uint8_t *trace, size_t trace_length,
                     uint8_t *out, size_t out_length,
@@ -151,13 +168,14 @@ void fadzgime_read(const uint8_t *text, size_t text_length,
  * 2 incoherent), [3] pairs, [4] letters of the execution that shows it (0 on pass).
  *
  * `table` is room for the search, 192 bytes a pair, at most 1,024 pairs; more bytes
- * are not used, fewer may give 14. What it holds before does not matter. After a
+ * are not needed, fewer may give 14. What it holds before does not matter. After a
  * search, whatever it finds, every byte of it is zero; a refusal 7 to 13 leaves it
  * untouched.
  *
  * `out` gets the execution as a packed trace of 2 + 2 * answer[4] bytes, and on fail
  * its packed model after it, of 4 + 2 * registers + 5 * rows bytes; the bytes behind
- * stay. 6: `out` is too short for that. Pass and a refusal leave it untouched.
+ * stay. 6: `out` is too short for that; 7,230 bytes are always enough. Pass and a
+ * refusal leave it untouched.
  */
 void fadzgime_verdict(const uint8_t *text, size_t text_length,
                       uint8_t *table, size_t table_length,
