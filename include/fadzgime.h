@@ -13,8 +13,8 @@
  * unless said.
  *
  * Stack: at most 32 KB a call (fadzgime_verdict; read 22 KB, model 17 KB, the others
- * less), whatever the input; tested on a thread of 128 KB. Nothing is allocated or
- * kept between calls, so calls on several threads do not disturb each other.
+ * at most 7 KB), whatever the input; tested on a thread of 128 KB. Nothing is allocated
+ * or kept between calls, so calls on several threads do not disturb each other.
  */
 #ifndef FADZGIME_H
 #define FADZGIME_H

@@ -30,7 +30,7 @@ int main(void) {
     uint8_t table[576];
     uint8_t out[64];
     uint64_t answer[6];
-    /* The same letters unpacked, and again with the argument twice. */
+    /* The same letters unpacked, also without their last bytes, and one with the argument twice. */
     static const uint8_t letters[] = {1, 0, 2, 0, 0, 2, 0, 0, 0, 1};
     static const uint8_t twice[] = {1, 0, 2, 1, 1};
     uint8_t state[FADZGIME_STREAM_STATE];
@@ -39,6 +39,8 @@ int main(void) {
     show("write", answer, 3);
     show_bytes(out, (size_t)answer[2]);
     fadzgime_write(3, 1, 0, twice, sizeof twice, out, sizeof out, answer, 3);
+    show("write", answer, 3);
+    fadzgime_write(3, 1, 0, letters, 7, out, sizeof out, answer, 3);
     show("write", answer, 3);
     fadzgime_read_trace(trace, sizeof trace, out, sizeof out, answer, 6);
     show("read_trace", answer, 6);
