@@ -34,7 +34,7 @@ use Rattle.records.specs.Records.{flag}
 use Rattle.states.specs.States.{monitorSize, streamSize, streamThen, monitorIn, streamIn, KeepsMonitor, KeepsStream}
 use Rattle.exports.specs.Numbers.{runNumbers}
 use Rattle.exports.specs.TraceCalls.{writtenNumbers, readNumbers, Writes, ReadsTrace}
-use Rattle.exports.specs.MonitorCalls.{monitorKind, streamKind, noState, noStateNumbers, holdsState, outcomeNumber, monitorNumbers}
+use Rattle.exports.specs.MonitorCalls.{monitorKind, streamKind, noState, noStateNumbers, holdsState, monitorNumbers}
 use Rattle.exports.specs.MonitorCalls.{steppedNumbers, keptOver, headerRefusal, letterRefusal}
 use Rattle.exports.specs.MonitorCalls.{KeepsStep, HoldsMonitor, StartsMonitor, StepsMonitor, HoldsStream, StartsStream, PushesStream, FinishesStream}
 use Rattle.exports.proofs.Laws.{too-short}
@@ -115,9 +115,6 @@ held-long kind size s = go (ltb (length s) size) refl
     go false e q = ltb-false (length s) size e
 
 -- ---- the monitor
-
-pub outcome-taken : (r : Stepped) → r .outcome ≡ outcome.Taken → 0 ≡ outcomeNumber (r .outcome)
-outcome-taken r e = rw e
 
 pub keeps-taken : (r : Stepped) (entry exit : List ℕ) → r .outcome ≡ outcome.Taken → KeepsMonitor monitorKind (r .monitor) entry exit
     → KeepsStep r entry exit

@@ -28,7 +28,8 @@ pub record Judging (text table output answer table′ output′ answer′ : List
   pub judged : 5 ≤ length answer → (a : Answer) × Demand3 Feasible text table output a table′ output′ × (answer′ ≡ verdictNumbers a ++ drop 5 answer)
 
 -- It settles every lent byte: there is one way at most.
-pub one-judging : (text table output answer t u o p a b : List ℕ) → Judging text table output answer t o a → Judging text table output answer u p b → (t ≡ u) × (o ≡ p) × (a ≡ b)
+pub one-judging : (text table output answer t u o p a b : List ℕ) → Judging text table output answer t o a → Judging text table output answer u p b
+    → (t ≡ u) × (o ≡ p) × (a ≡ b)
 one-judging text table output answer t u o p a b x y = go (three (length answer) 5)
   where
     told : 5 ≤ length answer → (t ≡ u) × (o ≡ p) × (a ≡ b)

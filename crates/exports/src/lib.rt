@@ -146,7 +146,8 @@ pub extern "C" fn fadzgime_verdict(
     out: &mut [u8],
     answer: &mut [u64],
 )
-    ensures { λ _. ⌜ Judging (now (text .entry)) (now (table .entry)) (now (out .entry)) (now (answer .entry)) (now (table .exit)) (now (out .exit)) (now (answer .exit)) ⌝ }
+    ensures { λ _. ⌜ Judging (now (text .entry)) (now (table .entry)) (now (out .entry)) (now (answer .entry))
+        (now (table .exit)) (now (out .exit)) (now (answer .exit)) ⌝ }
 {
     if answer.len() < VERDICT_NUMBERS {
         return;
