@@ -29,7 +29,8 @@ returns-2 c =
     let stored = c .before .before in
     let numbered = stored .before .before .before in
     let done = numbered .before .before .before in
-    reads-stored _ _ _ _ _ _ (done .unpack-trace .result) (done .unpack-trace .ensures) (numbered .read-numbers .ensures) (search needs) (done .before .before .if1 .left)
+    reads-stored _ _ _ _ _ _ (done .unpack-trace .result) (done .unpack-trace .ensures) (numbered .read-numbers .ensures) (search needs)
+    (done .before .before .if1 .left)
     (stored .store .ensures)
 
 pub fadzgime-read-trace-spec : {M : Type 1} → statement M

@@ -29,7 +29,8 @@ returns-2 c =
     let stored = c .before .before in
     let numbered = stored .before .before .before in
     let done = numbered .before .before .before in
-    writes-stored _ _ _ _ _ _ _ (done .write-trace .result) (done .write-trace .ensures) (numbered .written-numbers .ensures) (search needs) (done .before .before .if1 .left)
+    writes-stored _ _ _ _ _ _ _ (done .write-trace .result) (done .write-trace .ensures) (numbered .written-numbers .ensures) (search needs)
+    (done .before .before .if1 .left)
     (stored .store .ensures)
 
 pub fadzgime-write-spec : {M : Type 1} → statement M
