@@ -1,9 +1,7 @@
 // Judges a packed trace of any length from standard input: whether it is coherent and feasible, and if not, the first letter at which it is not so.
 use files::Input;
 use libc::STDIN_FILENO;
-use libc::STDOUT_FILENO;
 use monitoring::Stream;
-use monitoring::Verdict;
 use monitoring::streaming::finish;
 use monitoring::streaming::push_all;
 use monitoring::streaming::start;
@@ -55,43 +53,6 @@ fn feed_all() -> Fed {
     fed
 }
 
-// A line for a letter that is not there, or a word and the letter's number. Whether all was written.
-fn line(none: &[u8], some: &[u8], letter: u64) -> bool {
-    if letter == 0 {
-        return io::write_all(STDOUT_FILENO, none);
-    }
-    numbered(some, letter, b"\n")
-}
-
-// A number between words. Whether all was written.
-fn numbered(before: &[u8], number: u64, behind: &[u8]) -> bool {
-    if !io::write_all(STDOUT_FILENO, before) {
-        return false;
-    }
-    if !io::print_decimal(STDOUT_FILENO, number) {
-        return false;
-    }
-    io::write_all(STDOUT_FILENO, behind)
-}
-
-// Whether all was written.
-fn report(verdict: Verdict) -> bool {
-    match verdict {
-        Verdict::Judged(incoherent, infeasible) => {
-            if !line(b"coherent\n", b"incoherent ", incoherent) {
-                return false;
-            }
-            line(b"feasible\n", b"infeasible ", infeasible)
-        }
-        Verdict::Refused(number, place) => {
-            if !numbered(b"refused ", number as u64, b" at ") {
-                return false;
-            }
-            numbered(b"", place, b"\n")
-        }
-    }
-}
-
 fn main() {
     let fed = feed_all();
     if fed.failed {
@@ -100,7 +61,7 @@ fn main() {
     }
     let stream = fed.stream;
     let verdict = finish(stream);
-    if !report(verdict) {
-        os::fail(b"write");
-    }
+    let mut lines = monitor_lines::line_space();
+    let size = monitor_lines::write_lines(verdict, &mut lines);
+    files::print(&lines[..size]);
 }

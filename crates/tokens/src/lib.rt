@@ -173,7 +173,7 @@ fn is_mark(b: u8) -> bool
     b == b'!'
 }
 
-/// A byte as a number of eight bytes.
+/// A byte as a number of 64 bits.
 pub fn wide(byte: u8) -> u64
     ensures { λ r. ⌜ (r ≡ byte) × (r < 256) ⌝ }
 {

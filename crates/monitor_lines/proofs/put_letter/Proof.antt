@@ -1,0 +1,17 @@
+use borrow.Author.Needs.{needs}
+use mathlib.Core.Path.{sym}
+use Rattle.text.specs.Appending.{room-same, appended-same, appended-length}
+use Rattle.monitor_lines.specs.PrintsLaws.{none-text, some-text}
+use Rattle.monitor_lines.proofs.put_letter.Statement.{statement}
+use Rattle.monitor_lines.proofs.put_letter.Tie as tie
+
+pub put-letter-spec : {M : Type 1} → statement M
+put-letter-spec =
+    tie.close
+    (tie.spec
+    (λ c κs. room-same (none-text _ _ _ (c .before .if1 .taken)) (c .before .before .before .before .before .pre))
+    (λ c. appended-length (c .before .before .put-line .ensures))
+    (λ c. appended-same (sym (none-text _ _ _ (c .before .before .before .before .if1 .taken))) (c .before .before .put-line .ensures))
+    (λ c κs. room-same (some-text _ _ _ (c .before .if1 .left)) (c .before .before .before .before .before .pre))
+    (λ c. appended-length (c .before .before .put-line2 .ensures))
+    (λ c. appended-same (sym (some-text _ _ _ (c .before .before .before .before .if1 .left))) (c .before .before .put-line2 .ensures)))

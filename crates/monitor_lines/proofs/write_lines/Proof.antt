@@ -1,0 +1,59 @@
+use borrow.Author.Needs.{needs}
+use native.Mathlib.Omega.{arith}
+use mathlib.Core.Path.{sym, _∙_}
+use mir.Syntax.{w8, w64}
+use mir.Val.{Fits}
+use Rattle.text.specs.Appending.{room-same, appended-same, appended-length}
+use Rattle.model_lines.specs.PrintsLaws.{refused-form}
+use Rattle.monitor_lines.specs.PrintsLaws.{coherence-form, feasibility-form, coherence-room, feasibility-room}
+use Rattle.monitor_lines.specs.PrintsLaws.{judged-prints, refused-room, refused-prints}
+use Rattle.monitor_lines.proofs.write_lines.Statement.{statement}
+use Rattle.monitor_lines.proofs.write_lines.Tie as tie
+
+pub write-lines-spec : {M : Type 1} → statement M
+write-lines-spec =
+    tie.close
+    (tie.spec
+    (λ c. search needs)
+    (λ c. search needs)
+    (λ c. search needs)
+    (λ c κs.
+    let v = c .before .before .before .before .verdict .given .0 in
+    let f : Fits w64 (v .0) = search needs in
+    let g : Fits w64 (v .1 .0) = search needs in
+    room-same (coherence-form (v .0)) (coherence-room (v .0) (v .1 .0) (f .fits) (g .fits)))
+    (λ c. search needs)
+    (λ c. search needs)
+    (λ c κs.
+    let v = c .before .before .before .before .before .before .before .before .before .before .verdict .given .0 in
+    let put = c .before .before .before .before .before .put-letter in
+    let f : Fits w64 (v .0) = search needs in
+    let g : Fits w64 (v .1 .0) = search needs in
+    room-same (feasibility-form (v .1 .0))
+    (feasibility-room (v .0) (v .1 .0) (f .fits) (g .fits) (appended-same (sym (coherence-form (v .0))) (put .ensures))))
+    (λ c. search needs)
+    (λ c. search needs)
+    (λ c. search needs)
+    (λ c κs.
+    let v = c .before .before .before .verdict2 .given .0 in
+    let f : Fits w8 (v .0) = search needs in
+    let g : Fits w64 (v .1 .0) = search needs in
+    room-same (refused-form (v .0) (v .1 .0)) (refused-room (v .0) (v .1 .0) (omega (arith, f .fits)) (g .fits)))
+    (λ c.
+    appended-length (c .before .before .put-letter2 .ensures)
+    ∙ appended-length (c .before .before .before .before .before .before .before .before .put-letter .ensures))
+    (λ c.
+    let v = c .before .before .before .before .before .before .before .before .before .before .before .before .before .verdict .given in
+    let first = c .before .before .before .before .before .before .before .before .put-letter in
+    let second = c .before .before .put-letter2 in
+    let f : Fits w64 (v .0 .0) = search needs in
+    let g : Fits w64 (v .0 .1 .0) = search needs in
+    judged-prints (v .0 .0) (v .0 .1 .0) (f .fits) (g .fits) (appended-same (sym (coherence-form (v .0 .0))) (first .ensures)) _ (v .1)
+    (appended-same (sym (feasibility-form (v .0 .1 .0))) (second .ensures)))
+    (λ c. appended-length (c .before .before .put-line .ensures))
+    (λ c.
+    let v = c .before .before .before .before .before .before .verdict2 .given in
+    let f : Fits w8 (v .0 .0) = search needs in
+    let g : Fits w64 (v .0 .1 .0) = search needs in
+    refused-prints (v .0 .0) (v .0 .1 .0) (omega (arith, f .fits)) (g .fits) _ (v .1)
+    (appended-same (sym (refused-form (v .0 .0) (v .0 .1 .0))) (c .before .before .put-line .ensures))))

@@ -1,0 +1,48 @@
+-- The lines of the monitor program for an answer of the run over a trace: a refusal, or the first incoherent letter and the first
+-- infeasible one.
+use mathlib.Core.List.{List, [], _∷_, _++_}
+use Prim.Native.Nat.{ℕ, _≤_}
+use lib.Dec.{eqb}
+use lib.ListN.{length}
+use Rattle.base.specs.Choice.{pick}
+use Rattle.letters.specs.Answers.{Answer, value, refusal}
+use Rattle.text.specs.Numerals.{numeral}
+use Rattle.text.specs.Appending.{Appended}
+use Rattle.report.specs.Lines.{line, incoherentWord, blank}
+use Rattle.model_lines.specs.Prints.{infeasibleLine, refusedLine}
+
+-- "coherent"
+abbrev pub coherentWord : List ℕ
+coherentWord = 99 ∷ 111 ∷ 104 ∷ 101 ∷ 114 ∷ 101 ∷ 110 ∷ 116 ∷ []
+
+-- "feasible"
+abbrev pub feasibleWord : List ℕ
+feasibleWord = 102 ∷ 101 ∷ 97 ∷ 115 ∷ 105 ∷ 98 ∷ 108 ∷ 101 ∷ []
+
+unfoldable pub incoherentLine : ℕ → List ℕ
+incoherentLine letter = line (incoherentWord ∷ blank ∷ numeral letter ∷ [])
+
+-- Letters are numbered from 1: 0 stands for none, and has a line of its own.
+unfoldable pub orNone : List ℕ → (ℕ → List ℕ) → ℕ → List ℕ
+orNone none some letter = pick (eqb letter 0) (λ _. none) λ _. some letter
+
+abbrev pub coherenceLine : ℕ → List ℕ
+coherenceLine = orNone (line (coherentWord ∷ [])) incoherentLine
+
+abbrev pub feasibilityLine : ℕ → List ℕ
+feasibilityLine = orNone (line (feasibleWord ∷ [])) infeasibleLine
+
+-- "the trace run numbers the letters": a line for the first incoherent letter and one for the first infeasible letter before it, or the
+-- line of a refusal.
+unfoldable pub answerLines : Answer (ℕ × ℕ) → List ℕ
+answerLines (value (incoherent, infeasible)) = coherenceLine incoherent ++ feasibilityLine infeasible
+answerLines (refusal number place) = refusedLine number place
+
+-- No lines are longer: two words of ten bytes, two blanks, two numerals of twenty digits, two line feeds.
+abbrev pub mostBytes : ℕ
+mostBytes = 64
+
+-- The lines were written into a lent buffer, as far as that goes, and their length given.
+pub record Prints (answer : Answer (ℕ × ℕ)) (entry : List ℕ) (size : ℕ) (exit : List ℕ) : Type 0 where
+  pub few : length (answerLines answer) ≤ mostBytes
+  pub appended : Appended entry 0 (answerLines answer) exit size

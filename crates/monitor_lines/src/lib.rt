@@ -1,0 +1,44 @@
+// The lines that the monitor program prints for what the run over a trace answers: `refused N at P`; or `coherent` or `incoherent K`, and
+// then `feasible` or `infeasible K`.
+use monitoring::Verdict;
+use text::put_line;
+ghost use mathlib.Core.Path.{_≡_};
+ghost use lib.ListN.{length};
+ghost use Rattle.text.specs.Appending.{Appended, Room};
+ghost use Rattle.monitoring.specs.Run.{verdictAnswer};
+ghost use Rattle.monitor_lines.specs.Prints.{Prints};
+ghost use Rattle.monitor_lines.specs.PrintsLaws.{letterText};
+
+/// No lines are longer.
+pub fn line_space() -> [u8; 64]
+    ensures { λ r. ⌜ 64 ≡ length r ⌝ }
+{
+    [0; 64]
+}
+
+// Appends one template for no letter, which is 0, and another with the number of a letter.
+fn put_letter(out: &mut [u8], at: usize, none: &[u8], some: &[u8], letter: u64) -> usize
+    requires { ⌜ Room at (letterText (now none) (now some) letter) ⌝ }
+    ensures { λ r. ⌜ Appended (now (out .entry)) at (letterText (now (none .entry)) (now (some .entry)) letter) (now (out .exit)) r ⌝ }
+{
+    if letter == 0 {
+        return put_line(out, at, none, [0, 0, 0, 0]);
+    }
+    put_line(out, at, some, [letter, 0, 0, 0])
+}
+
+/// Writes the lines of an answer into the front of a lent buffer, as far as that goes, and gives the number of their bytes, which is at
+/// most 64.
+pub fn write_lines(verdict: Verdict, out: &mut [u8]) -> usize
+    ensures { λ r. ⌜ Prints (verdictAnswer verdict) (now (out .entry)) r (now (out .exit)) ⌝ }
+{
+    match verdict {
+        Verdict::Judged(incoherent, infeasible) => {
+            let next = put_letter(out, 0, b"coherent\n", b"incoherent 4\n", incoherent);
+            put_letter(out, next, b"feasible\n", b"infeasible 4\n", infeasible)
+        }
+        Verdict::Refused(number, place) => {
+            put_line(out, 0, b"refused 4 at 5\n", [number as u64, place, 0, 0])
+        }
+    }
+}
