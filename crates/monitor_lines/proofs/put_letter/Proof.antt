@@ -1,4 +1,3 @@
-use borrow.Author.Needs.{needs}
 use mathlib.Core.Path.{sym}
 use Rattle.text.specs.Appending.{room-same, appended-same, appended-length}
 use Rattle.monitor_lines.specs.PrintsLaws.{none-text, some-text}
