@@ -6,3 +6,4 @@ pub mod Lent
 pub mod Recursion
 pub mod Masks
 pub mod MaskLaws
+pub mod Written

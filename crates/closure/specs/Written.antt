@@ -1,34 +1,15 @@
--- The loop that writes an array from the front, a value a turn, and what the loop that changes one in place leaves at each entry.
+-- What the loop that changes an array in place leaves at each entry.
 use mathlib.Core.Path.{_≡_, sym, _∙_, ap}
 use Prim.Native.Nat.{ℕ, zero, suc, _+_, _≤_, _<_}
 use native.Mathlib.Omega.{arith}
 use mathlib.Core.List.{List}
 use lib.Dec.{eqb}
 use native.Mathlib.Numerals.{add-one}
-use lib.ListN.{length, getD, set, length-set}
+use lib.ListN.{length, getD, set}
 use lib.Seq.{getD-set-same, getD-set-other}
 use borrow.Author.Tests.{eqb-true, eqb-false}
 use Rattle.base.specs.Choice.{byTest}
 use Rattle.base.specs.Each.{done, each-none, each-length, each-more}
-
-module _ {ℓ} {A : Type ℓ} (F : ℕ → A) (d : A) (n : ℕ) where
-  -- the first i of n values are those of F
-  pub record Written (i : ℕ) (l : List A) : Type ℓ where
-    pub long : length l ≡ n
-    pub within : i ≤ n
-    pub at : (k : ℕ) → k < i → getD l k d ≡ F k
-
-  pub written-none : (l : List A) → length l ≡ n → Written 0 l
-  written-none l h = record { long = h; within = omega arith; at = λ k b. absurd (omega arith) }
-
-  pub written-more : (i : ℕ) (l : List A) (v : A) → Written i l → i < n → v ≡ F i → Written (i + 1) (set l i v)
-  written-more i l v w h e = record {
-    long = simp length-set (w .long);
-    within = omega arith;
-    at = λ k b. byTest (eqb k i)
-        (λ t. rw (eqb-true k i t) (getD-set-same l i v d (omega (arith, w .long)) ∙ e))
-        (λ t. let n : k ≡ i → ⊥ = eqb-false k i t in getD-set-other l i k v d n ∙ w .at k (omega arith));
-  }
 
 module _ {A : Type 0} (f : ℕ → A → A) where
   done-suc : (n : ℕ) (xs : List A) (d : A) → done f (suc n) xs ≡ set (done f n xs) n (f n (getD xs n d))

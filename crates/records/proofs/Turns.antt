@@ -9,7 +9,7 @@ use lib.ListN.{length, getD, set, take, drop, replicate, length-append, drop-of-
 use lib.Seq.{paste, paste-suc, take-all, take-at, drop-at, set-at, sets-eq, append-snoc, drop-cons, drop-append-add}
 use borrow.Author.Tests.{eq-eqb, ne-eqb}
 use Rattle.base.specs.Masks.{bit}
-use Rattle.window.specs.Table.{Written, written-more}
+use Rattle.base.specs.Written.{Written, written-more}
 use Rattle.window.specs.declared.Window.{Window}
 use Rattle.records.specs.Codes.{codeOf, codeByte, meaningsOf, computedOf, assembled}
 use Rattle.records.specs.Records.{twoBytes, join, contentOf, checksumOf, encoded, recordOf, codeIn, everMask}

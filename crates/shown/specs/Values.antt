@@ -9,7 +9,7 @@ use lib.Dec.{eqb}
 use lib.ListN.{length, getD}
 use borrow.Author.Tests.{eqb-true, eqb-false, eq-eqb, ne-eqb}
 use Rattle.base.specs.Choice.{pick, byTest}
-use Rattle.closure.specs.Written.{Written}
+use Rattle.base.specs.Written.{Written}
 
 -- How many of the first i terms are the first of their class, that is, their own representative.
 unfoldable pub classesBelow : List ℕ → ℕ → ℕ

@@ -9,6 +9,7 @@ use lib.ListN.{length, getD, set, length-set}
 use lib.Seq.{getD-set-same, getD-set-other, ext-getD}
 use borrow.Author.Tests.{eqb-true, eqb-false}
 use Rattle.base.specs.Choice.{byTest}
+use Rattle.base.specs.Written.{Written}
 
 module _ {ℓ} {A : Type ℓ} (F : ℕ → A) where
   -- F at the n places from i on
@@ -54,25 +55,7 @@ module _ {ℓ} {A : Type ℓ} (F : ℕ → A) where
   table-is n l d e h = ext-getD d l (table n) (e ∙ sym (table-length n)) (λ k b. h k (omega arith) ∙ sym (table-at n k d (omega arith)))
 
 module _ {ℓ} {A : Type ℓ} (F : ℕ → A) (d : A) (n : ℕ) where
-  -- the first i of n entries are those of F
-  pub record Written (i : ℕ) (l : List A) : Type ℓ where
-    pub long : length l ≡ n
-    pub within : i ≤ n
-    pub at : (k : ℕ) → k < i → getD l k d ≡ F k
-
-  pub written-none : (l : List A) → length l ≡ n → Written 0 l
-  written-none l h = record { long = h; within = omega arith; at = λ k b. absurd (omega arith) }
-
-  pub written-more : (i : ℕ) (l : List A) (v : A) → Written i l → i < n → v ≡ F i → Written (i + 1) (set l i v)
-  written-more i l v w h e = record {
-    long = simp length-set (w .long);
-    within = omega arith;
-    at = λ k b. byTest (eqb k i)
-        (λ t. rw (eqb-true k i t) (getD-set-same l i v d (omega (arith, w .long)) ∙ e))
-        (λ t. let n : k ≡ i → ⊥ = eqb-false k i t in getD-set-other l i k v d n ∙ w .at k (omega arith));
-  }
-
-  pub written-all : (i : ℕ) (l : List A) → Written i l → n ≤ i → l ≡ table F n
+  pub written-all : (i : ℕ) (l : List A) → Written F d n i l → n ≤ i → l ≡ table F n
   written-all i l w h = table-is F n l d (w .long) (λ k b. w .at k (omega arith))
 
 module _ {ℓ} {A : Type ℓ} (F : ℕ → A) (d : A) (old : List A) where

@@ -2,7 +2,8 @@ use mathlib.Core.Path.{refl, _≡_}
 use Prim.Native.Nat.{_-_}
 use native.Mathlib.Omega.{arith}
 use lib.ListN.{length}
-use Rattle.window.specs.Table.{Written, written-none, written-more, written-all}
+use Rattle.base.specs.Written.{Written, written-none, written-more}
+use Rattle.window.specs.Table.{written-all}
 use Rattle.records.specs.Codes.{codesOf, codeByte}
 use Rattle.records.proofs.Turns.{code-turn}
 use borrow.Author.Needs.{needs}

@@ -2,7 +2,8 @@ use mathlib.Core.Path.{refl}
 use Prim.Native.Nat.{_+_, _-_, _≤_}
 use native.Mathlib.Omega.{arith}
 use lib.ListN.{length, getD}
-use Rattle.window.specs.Table.{Written, written-none, written-more, written-all}
+use Rattle.base.specs.Written.{Written, written-none, written-more}
+use Rattle.window.specs.Table.{written-all}
 use Rattle.records.specs.Records.{eightIn}
 use borrow.Author.Needs.{needs}
 use Rattle.records.proofs.eight.Statement.{statement}

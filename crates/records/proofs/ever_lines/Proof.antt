@@ -1,7 +1,8 @@
 use Prim.Native.Nat.{_-_, _≤_}
 use native.Mathlib.Omega.{arith}
 use lib.ListN.{length}
-use Rattle.window.specs.Table.{Written, written-none, written-more, written-all}
+use Rattle.base.specs.Written.{Written, written-none, written-more}
+use Rattle.window.specs.Table.{written-all}
 use Rattle.records.specs.Records.{everMask, everIn}
 use Rattle.records.proofs.Turns.{ever-turn}
 use borrow.Author.Needs.{needs}

@@ -3,7 +3,8 @@ use mathlib.Core.Bool.{false}
 use Prim.Native.Nat.{_-_}
 use native.Mathlib.Omega.{arith}
 use lib.ListN.{length, getD}
-use Rattle.window.specs.Table.{Written, written-none, written-more, written-all}
+use Rattle.base.specs.Written.{Written, written-none, written-more}
+use Rattle.window.specs.Table.{written-all}
 use Rattle.records.specs.Records.{isSet}
 use Rattle.records.specs.Tables.{map-table}
 use borrow.Author.Needs.{needs}

@@ -2,7 +2,8 @@ use mathlib.Core.Path.{_≡_, ap, _∙_}
 use Prim.Native.Nat.{_*_, _-_, _≤_}
 use native.Mathlib.Omega.{arith}
 use lib.ListN.{length, getD}
-use Rattle.window.specs.Table.{table, Written, written-none, written-all}
+use Rattle.base.specs.Written.{Written, written-none}
+use Rattle.window.specs.Table.{table, written-all}
 use Rattle.records.specs.Codes.{heldOf}
 use Rattle.records.specs.Records.{codeIn, resultIn}
 use Rattle.records.proofs.Turns.{result-turn}

@@ -1,7 +1,8 @@
 use Prim.Native.Nat.{_-_}
 use borrow.Author.Needs.{needs}
 use Rattle.window.specs.Layout.{functions, pairs}
-use Rattle.window.specs.Table.{Written, written-none, written-more, written-all}
+use Rattle.base.specs.Written.{Written, written-none, written-more}
+use Rattle.window.specs.Table.{written-all}
 use Rattle.window.specs.Marks.{foldedOf, unionOf, union-four}
 use Rattle.window.proofs.folded.Statement.{statement}
 use Rattle.window.proofs.folded.Tie as tie

@@ -4,7 +4,8 @@ use lib.ListN.{getD}
 use borrow.Author.Needs.{needs}
 use Rattle.base.specs.Masks.{has}
 use Rattle.window.specs.Layout.{registers}
-use Rattle.window.specs.Table.{Written, written-none, written-more, written-all}
+use Rattle.base.specs.Written.{Written, written-none, written-more}
+use Rattle.window.specs.Table.{written-all}
 use Rattle.window.specs.Marks.{markedWith, mark-is}
 use Rattle.window.proofs.marks.Statement.{statement}
 use Rattle.window.proofs.marks.Tie as tie

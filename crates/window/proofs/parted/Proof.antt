@@ -3,7 +3,8 @@ use lib.Bits.{bitOr}
 use lib.ListN.{getD}
 use borrow.Author.Needs.{needs}
 use Rattle.window.specs.Layout.{registers}
-use Rattle.window.specs.Table.{Written, written-none, written-more, written-all}
+use Rattle.base.specs.Written.{Written, written-none, written-more}
+use Rattle.window.specs.Table.{written-all}
 use Rattle.window.specs.Adding.{partOf}
 use Rattle.window.specs.Performing.{partedOf, parted-is}
 use Rattle.window.proofs.parted.Statement.{statement}
