@@ -5,7 +5,7 @@ use mathlib.Core.Logic.{_⊎_, _≢_}
 use mathlib.Core.List.{List}
 use Prim.Native.Nat.{ℕ, zero, suc, _+_, _≤_, _<_}
 use mathlib.Core.Bool.{Bool, true, false}
-use lib.Dec.{ltb}
+use lib.Dec.{eqb, ltb}
 use lib.ListN.{length, getD}
 use Rattle.base.specs.Choice.{pick}
 use Rattle.base.specs.Each.{done}
@@ -25,6 +25,14 @@ lowOf a b = pick (ltb a b) (λ _. a) λ _. b
 
 unfoldable pub highOf : ℕ → ℕ → ℕ
 highOf a b = pick (ltb a b) (λ _. b) λ _. a
+
+-- How much is taken off the name v, where the name `from` falls by so much.
+unfoldable pub fallOf : (v from by : ℕ) → ℕ
+fallOf v from by = pick (eqb v from) (λ _. by) λ _. 0
+
+-- A class has its lowest term as its name.
+pub record Named (representative : List ℕ) (n : ℕ) : Type 0 where
+  pub lowest : (i : ℕ) → i < n → getD representative i 0 ≤ i
 
 -- The arrays' numbers are in range, and a representative is the lowest number of its class.
 pub record Formed (representative function first second : List ℕ) (registers n : ℕ) : Type 0 where
@@ -111,13 +119,14 @@ pub record Propagated (representative function first second : List ℕ) (registe
   pub closed : Closed (at function) (at first) (at second) registers n (at r)
   pub indexed : Indexed r function first second registers n head link
 
--- After a union in which the name d went: r is the first application, below i, whose signature may have changed, and the index is cut to those before it.
+-- Before a union in which the name d goes: r is the first application, not above i, whose signature may change, and the index is cut to those before it.
 pub record Resumed (registers i d : ℕ) (head link : List ℕ) (r : ℕ) (head′ : List ℕ) : Type 0 where
   pub least : registers ≤ r
   pub most : r ≤ i
   pub before : (k : ℕ) → registers ≤ k → k < r → k < d
   pub chains : Chains r head′ link
   pub keeps : (b o : ℕ) → Holds registers link (getD head b 0) o → o < r → Holds registers link (getD head′ b 0) o
+  pub back : (b o : ℕ) → Holds registers link (getD head′ b 0) o → Holds registers link (getD head b 0) o
 
 -- The classes of x and y are one, with all that follows by congruence and nothing else; entries past the n terms stay.
 pub record Merged (representative function first second : List ℕ) (registers n x y : ℕ) (r head link : List ℕ) : Type 0 where

@@ -4,7 +4,7 @@ use mathlib.Core.List.{List}
 use Prim.Native.Nat.{ℕ, _≤_, _<_}
 use native.Mathlib.Omega.{arith}
 use lib.ListN.{length, getD}
-use Rattle.closure.specs.Index.{signatureOf, signature-same, Chains, Complete, Entered}
+use Rattle.closure.specs.Index.{signatureOf, signature-same, Holds, here, there, Chains, Complete, Entered}
 use Rattle.closure.specs.Arrays.{Below, Formed, Argument, Readable, signatureAt, LookedAt, knownAt, freshAt}
 
 -- an index without entries
@@ -16,9 +16,15 @@ chains-none head link registers h l zh zl s = record {
   links = record { lower = λ i p. let e = zl i in omega arith };
 }
 
-pub complete-none : (signature : ℕ → ℕ) (registers : ℕ) (head link : List ℕ) → Complete signature registers registers head link
-unfolding Complete
-complete-none signature registers head link k p h = absurd (omega arith)
+pub complete-none : (signature : ℕ → ℕ) (registers : ℕ) (head link : List ℕ) → ((b : ℕ) → getD head b 0 ≡ 0) → 1 ≤ registers → Complete signature registers registers head link
+complete-none signature registers head link z s = record {
+  has = λ k p h. absurd (omega arith);
+  only = λ b o k. absurd (empty (getD head b 0) o (z b) k);
+}
+  where
+    empty : (i o : ℕ) → i ≡ 0 → Holds registers link i o → ⊥
+    empty i o e (here l) = omega arith
+    empty i o e (there l k) = omega arith
 
 pub argument : {representative function first second : List ℕ} {registers n : ℕ} (i : ℕ) → Formed representative function first second registers n → i < n → Argument representative i
 unfolding Below

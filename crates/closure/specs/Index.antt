@@ -1,15 +1,16 @@
 -- An index of the applications by signature. A signature is one number; its bucket is that number modulo 1,021. `head` has the application
 -- that was last entered in each bucket, and `link` leads from each to the one before it. A number below `registers` is no application, and ends a chain.
 use mathlib.Core.Path.{_≡_, refl, sym, _∙_, ap, subst}
-use mathlib.Core.Logic.{_≢_}
+use mathlib.Core.Logic.{_⊎_, inl, inr, _≢_}
+use mathlib.Core.Bool.{Bool, true, false}
 use mathlib.Core.List.{List, [], _∷_}
-use Prim.Native.Nat.{ℕ, zero, suc, _+_, _*_, _≤_, _<_, _%_}
+use Prim.Native.Nat.{ℕ, zero, suc, _+_, _-_, _*_, _≤_, _<_, _%_}
 use native.Mathlib.Omega.{arith}
 use lib.Dec.{eqb, ltb}
 use lib.ListN.{length, getD, set, length-set}
 use lib.Seq.{getD-set-same, getD-set-other}
 use borrow.Author.Tests.{eqb-true, eqb-false, ltb-true, ltb-false}
-use Rattle.base.specs.Choice.{byTest}
+use Rattle.base.specs.Choice.{byTest, pick}
 
 -- The signature of f of two arguments of the classes p and q. The factor 1,056 · 4 is above 1,032 · 4, so that different signatures have different numbers.
 unfoldable pub signatureOf : (f p q : ℕ) → ℕ
@@ -35,6 +36,10 @@ pub record Down (link : List ℕ) : Type 0 where
 pub link-less : (registers : ℕ) (link : List ℕ) (i j : ℕ) → Down link → 1 ≤ registers → registers ≤ i → j ≡ getD link i 0 → j < i
 link-less registers link i j w s l e = let h = w .lower i (omega arith) in omega arith
 
+pub holds-most : (registers : ℕ) (link : List ℕ) (i o : ℕ) → Down link → 1 ≤ registers → Holds registers link i o → o ≤ i
+holds-most registers link i o w s (here l) = omega arith
+holds-most registers link i o w s (there l h) = let a = w .lower i (omega arith) in let b = holds-most registers link (getD link i 0) o w s h in omega arith
+
 -- Chains go down, and have numbers below n.
 pub record Chains (n : ℕ) (head link : List ℕ) : Type 0 where
   pub head-long : length head ≡ 1021
@@ -45,10 +50,10 @@ pub record Chains (n : ℕ) (head link : List ℕ) : Type 0 where
 pub chain-below : (n : ℕ) (head link : List ℕ) (b v : ℕ) → Chains n head link → v ≡ getD head b 0 → v < n
 chain-below n head link b v w e = let h = w .heads b in omega arith
 
--- For each of the applications below n, its bucket has one with its signature that is not after it.
-unfoldable pub Complete : (signature : ℕ → ℕ) (registers n : ℕ) (head link : List ℕ) → Type 0
-Complete signature registers n head link =
-    (k : ℕ) → registers ≤ k → k < n → (o : ℕ) × (o ≤ k) × Holds registers link (getD head (signature k % 1021) 0) o × (signature o ≡ signature k)
+-- For each of the applications below n, its bucket has one with its signature that is not after it; and a bucket has only applications whose signatures lead to it.
+pub record Complete (signature : ℕ → ℕ) (registers n : ℕ) (head link : List ℕ) : Type 0 where
+  pub has : (k : ℕ) → registers ≤ k → k < n → (o : ℕ) × (o ≤ k) × Holds registers link (getD head (signature k % 1021) 0) o × (signature o ≡ signature k)
+  pub only : (b o : ℕ) → Holds registers link (getD head b 0) o → signature o % 1021 ≡ b
 
 -- r is an application with the signature c in the chain from i on, or below `registers` where there is none.
 pub record Found (signature : ℕ → ℕ) (registers n : ℕ) (link : List ℕ) (i c r : ℕ) : Type 0 where
@@ -70,29 +75,35 @@ pub record Entered (signature : ℕ → ℕ) (registers n c : ℕ) (head link : 
 pub record Cut (link : List ℕ) (start bound r : ℕ) : Type 0 where
   pub below : r < bound
   pub keeps : (registers o : ℕ) → Holds registers link start o → o < bound → Holds registers link r o
+  pub back : (registers o : ℕ) → registers ≤ bound → Holds registers link r o → Holds registers link start o
 
 -- The applications from the bound on are taken out of all chains.
 pub record CutTo (head link : List ℕ) (bound : ℕ) (head′ : List ℕ) : Type 0 where
   pub chains : Chains bound head′ link
   pub keeps : (registers b o : ℕ) → Holds registers link (getD head b 0) o → o < bound → Holds registers link (getD head′ b 0) o
+  pub back : (registers b o : ℕ) → registers ≤ bound → Holds registers link (getD head′ b 0) o → Holds registers link (getD head b 0) o
 
 -- ---- the loop of `below`
 module _ (link : List ℕ) (start bound : ℕ) where
   pub record Cutting (i : ℕ) : Type 0 where
     pub keeps : (registers o : ℕ) → Holds registers link start o → o < bound → Holds registers link i o
+    pub back : (registers o : ℕ) → registers ≤ bound → Holds registers link i o → Holds registers link start o
 
   pub cutting-start : Cutting start
-  cutting-start = record { keeps = λ registers o h l. h }
+  cutting-start = record { keeps = λ registers o h l. h; back = λ registers o s h. h }
 
   pub cutting-turn : (i j : ℕ) → Cutting i → bound ≤ i → j ≡ getD link i 0 → Cutting j
-  cutting-turn i j c l e = rw e (record { keeps = λ registers o h b. beyond registers o b (c .keeps registers o h b) })
+  cutting-turn i j c l e = rw e (record {
+    keeps = λ registers o h b. beyond registers o b (c .keeps registers o h b);
+    back = λ registers o s h. c .back registers o s (there (omega arith) h);
+  })
     where
       beyond : (registers o : ℕ) → o < bound → Holds registers link i o → Holds registers link (getD link i 0) o
       beyond registers o b (here k) = absurd (omega arith)
       beyond registers o b (there k h) = h
 
   pub cutting-end : (i : ℕ) → Cutting i → i < bound → Cut link start bound i
-  cutting-end i c h = record { below = h; keeps = c .keeps }
+  cutting-end i c h = record { below = h; keeps = c .keeps; back = c .back }
 
 -- ---- the loop of `cut`
 pub record CuttingAll (head₀ link : List ℕ) (bound : ℕ) (head : List ℕ) (i : ℕ) : Type 0 where
@@ -137,7 +148,95 @@ module _ (head₀ link : List ℕ) (bound : ℕ) (w : Chains 1032 head₀ link) 
     keeps = λ registers b o k l. byTest (ltb b 1021)
         (λ t. (c .past b (let l = ltb-true b 1021 t in omega arith)) .keeps registers o k l)
         (λ t. let l = ltb-false b 1021 t in let m = c .most in subst (λ j. Holds registers link j o) (sym (c .rest b (omega arith))) k);
+    back = λ registers b o s k. byTest (ltb b 1021)
+        (λ t. (c .past b (let l = ltb-true b 1021 t in omega arith)) .back registers o s k)
+        (λ t. let l = ltb-false b 1021 t in let m = c .most in subst (λ j. Holds registers link j o) (c .rest b (omega arith)) k);
   }
+
+-- ---- the loop of `undo`
+-- the head of a chain without application k
+unfoldable pub withoutLast : (last before k : ℕ) → ℕ
+withoutLast last before k = pick (eqb last k) (λ _. before) λ _. last
+
+without-last : (last before k : ℕ) → ((last ≡ k) × (withoutLast last before k ≡ before)) ⊎ ((last ≢ k) × (withoutLast last before k ≡ last))
+unfolding withoutLast
+without-last last before k = go (eqb last k) refl
+  where
+    go : (b : Bool) → eqb last k ≡ b → ((last ≡ k) × (pick b (λ _. before) (λ _. last) ≡ before)) ⊎ ((last ≢ k) × (pick b (λ _. before) (λ _. last) ≡ last))
+    go true e = inl (eqb-true last k e, refl)
+    go false e = inr (eqb-false last k e, refl)
+
+-- the applications from k on were taken out
+pub record Undoing (head₀ link : List ℕ) (bound : ℕ) (head : List ℕ) (k : ℕ) : Type 0 where
+  pub least : bound ≤ k
+  pub chains : Chains k head link
+  pub keeps : (registers b o : ℕ) → Holds registers link (getD head₀ b 0) o → o < bound → Holds registers link (getD head b 0) o
+  pub back : (registers b o : ℕ) → registers ≤ bound → Holds registers link (getD head b 0) o → Holds registers link (getD head₀ b 0) o
+
+module _ (head₀ link : List ℕ) (bound : ℕ) where
+  pub undoing-start : (i : ℕ) → Chains i head₀ link → bound ≤ i → Undoing head₀ link bound head₀ i
+  undoing-start i w h = record { least = h; chains = w; keeps = λ registers b o k l. k; back = λ registers b o s k. k }
+
+  pub undoing-end : (head : List ℕ) (k : ℕ) → Undoing head₀ link bound head k → k ≤ bound → CutTo head₀ link bound head
+  undoing-end head k u h = let l = u .least in let e : k ≡ bound = omega arith in record { chains = subst (λ k. Chains k head link) e (u .chains); keeps = u .keeps; back = u .back }
+
+  -- application j, the last that is left, is taken out of the chain of its signature
+  module _ (signature : ℕ → ℕ) (registers n : ℕ) (all : Complete signature registers n head₀ link) (some : 1 ≤ registers) (first : registers ≤ bound)
+      (head : List ℕ) (k j chain v : ℕ) (u : Undoing head₀ link bound head k) (h : bound < k) (ej : j ≡ k - 1) (ec : chain ≡ signature j % 1021) (small : chain < 1021) (ev : v ≡ withoutLast (getD head chain 0) (getD link j 0) j) where
+    stored : getD (set head chain v) chain 0 ≡ v
+    stored = getD-set-same head chain v 0 (let l = u .chains .head-long in omega arith)
+
+    other : (b : ℕ) → b ≢ chain → getD (set head chain v) b 0 ≡ getD head b 0
+    other b d = getD-set-other head chain b v 0 d
+
+    beyond : (r i o : ℕ) → i ≡ j → o < bound → Holds r link i o → Holds r link (getD link j 0) o
+    beyond r i o e b (here l) = absurd (omega arith)
+    beyond r i o e b (there l z) = subst (λ i. Holds r link (getD link i 0) o) e z
+
+    -- what the stored entry has
+    kept : (r o : ℕ) → o < bound → Holds r link (getD head chain 0) o → Holds r link v o
+    kept r o b z = elim (without-last (getD head chain 0) (getD link j 0) j) [
+      | inl (e, q) ↦ subst (λ i. Holds r link i o) (sym (ev ∙ q)) (beyond r (getD head chain 0) o e b z)
+      | inr (d, q) ↦ subst (λ i. Holds r link i o) (sym (ev ∙ q)) z
+    ]
+
+    came : (r o : ℕ) → r ≤ bound → Holds r link v o → Holds r link (getD head chain 0) o
+    came r o b z = elim (without-last (getD head chain 0) (getD link j 0) j) [
+      | inl (e, q) ↦ subst (λ i. Holds r link i o) (sym e) (there (omega arith) (subst (λ i. Holds r link i o) (ev ∙ q) z))
+      | inr (d, q) ↦ subst (λ i. Holds r link i o) (ev ∙ q) z
+    ]
+
+    stored-less : v < j
+    stored-less = elim (without-last (getD head chain 0) (getD link j 0) j) [
+      | inl (e, q) ↦ let l = u .chains .links .lower j (omega arith) in let x : v ≡ getD link j 0 = ev ∙ q in omega arith
+      | inr (d, q) ↦ let l = u .chains .heads chain in let x : v ≡ getD head chain 0 = ev ∙ q in let y : getD head chain 0 ≢ j = d in omega arith
+    ]
+
+    -- no other chain has j, since its signature leads to this one
+    other-less : (b : ℕ) → b ≢ chain → getD head b 0 < j
+    other-less b d = byTest (eqb (getD head b 0) j)
+        (λ t. let e = eqb-true (getD head b 0) j t in
+        absurd (d (sym (all .only b j (u .back registers b j first (subst (λ i. Holds registers link i j) (sym e) (here (omega arith))))) ∙ sym ec)))
+        (λ t. let y : getD head b 0 ≢ j = eqb-false (getD head b 0) j t in let l = u .chains .heads b in omega arith)
+
+    pub undoing-turn : Undoing head₀ link bound (set head chain v) j
+    undoing-turn = record {
+      least = omega arith;
+      chains = record {
+        head-long = simp length-set (u .chains .head-long);
+        link-long = u .chains .link-long;
+        heads = λ b. byTest (eqb b chain)
+            (λ t. let e : getD (set head chain v) b 0 ≡ v = ap (λ b. getD (set head chain v) b 0) (eqb-true b chain t) ∙ stored in let l = stored-less in omega arith)
+            (λ t. let e = other b (eqb-false b chain t) in let l = other-less b (eqb-false b chain t) in omega arith);
+        links = u .chains .links;
+      };
+      keeps = λ r b o z l. byTest (eqb b chain)
+          (λ t. let e = eqb-true b chain t in subst (λ i. Holds r link i o) (sym (ap (λ b. getD (set head chain v) b 0) e ∙ stored)) (kept r o l (subst (λ b. Holds r link (getD head b 0) o) e (u .keeps r b o z l))))
+          (λ t. subst (λ i. Holds r link i o) (sym (other b (eqb-false b chain t))) (u .keeps r b o z l));
+      back = λ r b o s z. u .back r b o s (byTest (eqb b chain)
+          (λ t. let e = eqb-true b chain t in subst (λ b. Holds r link (getD head b 0) o) (sym e) (came r o s (subst (λ i. Holds r link i o) (ap (λ b. getD (set head chain v) b 0) e ∙ stored) z)))
+          (λ t. subst (λ i. Holds r link i o) (other b (eqb-false b chain t)) z));
+    }
 
 -- ---- the loop of `find`
 module _ (signature : ℕ → ℕ) (registers : ℕ) (link : List ℕ) (start c : ℕ) where
@@ -182,8 +281,14 @@ module _ (signature : ℕ → ℕ) (registers n c : ℕ) (head link : List ℕ) 
   upTo : (P : ℕ → Type 0) → ((k : ℕ) → k < n → P k) → P n → (k : ℕ) → k < suc n → P k
   upTo P f p k h = byTest (eqb k n) (λ t. subst P (sym (eqb-true k n t)) p) (λ t. let d : k ≢ n = eqb-false k n t in f k (omega arith))
 
+  -- the applications of a bucket are below n, and so have the signatures that they had
+  still-only : (signature′ : ℕ → ℕ) → ((k : ℕ) → k < n → signature′ k ≡ signature k) → Complete signature registers n head link → (q o : ℕ) → Holds registers link (getD head q 0) o → signature′ o % 1021 ≡ q
+  still-only signature′ same all q o k =
+      let a = holds-most registers link (getD head q 0) o (w .links) some k in
+      let b = w .heads q in
+      ap (λ s. s % 1021) (same o (omega arith)) ∙ all .only q o k
+
   known : (r : ℕ) → Found signature registers n link (getD head (c % 1021) 0) c r → registers ≤ r → Entered signature registers n c head link r head link
-  unfolding Complete
   known r f l = record {
     least = l;
     most = let h = f .below in omega arith;
@@ -191,10 +296,13 @@ module _ (signature : ℕ → ℕ) (registers n c : ℕ) (head link : List ℕ) 
     fresh = λ z. absurd (let h = f .below in omega arith);
     kept = λ _. (refl, refl);
     chains = more-chains;
-    completes = λ signature′ same e all k p h. upTo (λ k. registers ≤ k → (o : ℕ) × (o ≤ k) × Holds registers link (getD head (signature′ k % 1021) 0) o × (signature′ o ≡ signature′ k))
-        (λ k h p. let (o, b, u, v) = all k p h in (o, b, subst (λ s. Holds registers link (getD head (s % 1021) 0) o) (sym (same k h)) u, same o (omega arith) ∙ v ∙ sym (same k h)))
-        (λ p. let b = f .below in (r, omega arith, subst (λ s. Holds registers link (getD head (s % 1021) 0) r) (sym e) ((f .hit l) .1), same r b ∙ (f .hit l) .0 ∙ sym e))
-        k h p;
+    completes = λ signature′ same e all. record {
+      only = still-only signature′ same all;
+      has = λ k p h. upTo (λ k. registers ≤ k → (o : ℕ) × (o ≤ k) × Holds registers link (getD head (signature′ k % 1021) 0) o × (signature′ o ≡ signature′ k))
+          (λ k h p. let (o, b, u, v) = all .has k p h in (o, b, subst (λ s. Holds registers link (getD head (s % 1021) 0) o) (sym (same k h)) u, same o (omega arith) ∙ v ∙ sym (same k h)))
+          (λ p. let b = f .below in (r, omega arith, subst (λ s. Holds registers link (getD head (s % 1021) 0) r) (sym e) ((f .hit l) .1), same r b ∙ (f .hit l) .0 ∙ sym e))
+          k h p;
+    };
   }
 
   pub entered-known : (start r : ℕ) → start ≡ getD head (c % 1021) 0 → Found signature registers n link start c r → registers ≤ r → Entered signature registers n c head link r head link
@@ -221,13 +329,34 @@ module _ (signature : ℕ → ℕ) (registers n c : ℕ) (head link : List ℕ) 
         (there more (subst (λ j. Holds registers (set link n (getD head b 0)) j o) (ap (λ q. getD head q 0) e ∙ sym linked) (held (getD head q 0) o (w .heads q) k))))
         (λ t. subst (λ j. Holds registers (set link n (getD head b 0)) j o) (sym (getD-set-other head b q n 0 (eqb-false q b t))) (held (getD head q 0) o (w .heads q) k))
 
+    -- below n chains are as they were
+    unheld : (i o : ℕ) → i < n → Holds registers (set link n (getD head b 0)) i o → Holds registers link i o
+    unheld i o h (here l) = here l
+    unheld i o h (there l k) =
+        let d : i ≢ n = λ e. omega arith in
+        let g = w .links .lower i (omega arith) in
+        let e = getD-set-other link n i (getD head b 0) 0 d in
+        there l (subst (λ j. Holds registers link j o) e (unheld (getD (set link n (getD head b 0)) i 0) o (omega arith) k))
+
+    from-new : (i o : ℕ) → i ≡ n → Holds registers (set link n (getD head b 0)) i o → (o ≡ n) ⊎ Holds registers link (getD head b 0) o
+    from-new i o e (here l) = inl e
+    from-new i o e (there l k) = inr (unheld (getD head b 0) o (w .heads b) (subst (λ j. Holds registers (set link n (getD head b 0)) j o) (ap (λ i. getD (set link n (getD head b 0)) i 0) e ∙ linked) k))
+
+    new-only : (signature′ : ℕ → ℕ) → ((k : ℕ) → k < n → signature′ k ≡ signature k) → signature′ n ≡ c → Complete signature registers n head link
+        → (q o : ℕ) → Holds registers (set link n (getD head b 0)) (getD (set head b n) q 0) o → signature′ o % 1021 ≡ q
+    new-only signature′ same e all q o k = byTest (eqb q b)
+        (λ t. let z = eqb-true q b t in elim (from-new (getD (set head b n) q 0) o (ap (λ q. getD (set head b n) q 0) z ∙ headed) k) [
+          | inl y ↦ ap (λ o. signature′ o % 1021) y ∙ ap (λ s. s % 1021) e ∙ sym eb ∙ sym z
+          | inr y ↦ still-only signature′ same all b o y ∙ sym z
+        ])
+        (λ t. still-only signature′ same all q o (unheld (getD head q 0) o (w .heads q) (subst (λ j. Holds registers (set link n (getD head b 0)) j o) (getD-set-other head b q n 0 (eqb-false q b t)) k)))
+
     new : (r : ℕ) → Found signature registers n link (getD head (c % 1021) 0) c r → r < registers → Entered signature registers n c head link n (set head b n) (set link n (getD head b 0))
-    unfolding Complete
     new r f l = record {
       least = more;
       most = omega arith;
       hit = λ z. absurd (omega arith);
-      fresh = λ _ all k p h e. let (o, s, u, v) = all k p h in f .miss l o (subst (λ s. Holds registers link (getD head (s % 1021) 0) o) e u) (v ∙ e);
+      fresh = λ _ all k p h e. let (o, s, u, v) = all .has k p h in f .miss l o (subst (λ s. Holds registers link (getD head (s % 1021) 0) o) e u) (v ∙ e);
       kept = λ z. absurd (omega arith);
       chains = record {
         head-long = simp length-set (w .head-long);
@@ -241,10 +370,13 @@ module _ (signature : ℕ → ℕ) (registers n c : ℕ) (head link : List ℕ) 
               (λ t. let e = getD-set-other link n i (getD head b 0) 0 (eqb-false i n t) in let h = w .links .lower i p in omega arith);
         };
       };
-      completes = λ signature′ same e all k p h. upTo (λ k. registers ≤ k → (o : ℕ) × (o ≤ k) × Holds registers (set link n (getD head b 0)) (getD (set head b n) (signature′ k % 1021) 0) o × (signature′ o ≡ signature′ k))
-          (λ k h p. let (o, s, u, v) = all k p h in (o, s, bucket (signature′ k % 1021) o (subst (λ s. Holds registers link (getD head (s % 1021) 0) o) (sym (same k h)) u), same o (omega arith) ∙ v ∙ sym (same k h)))
-          (λ p. (n, omega arith, subst (λ j. Holds registers (set link n (getD head b 0)) j n) (sym (ap (λ s. getD (set head b n) (s % 1021) 0) e ∙ ap (λ q. getD (set head b n) q 0) (sym eb) ∙ headed)) (here more), refl))
-          k h p;
+      completes = λ signature′ same e all. record {
+        only = new-only signature′ same e all;
+        has = λ k p h. upTo (λ k. registers ≤ k → (o : ℕ) × (o ≤ k) × Holds registers (set link n (getD head b 0)) (getD (set head b n) (signature′ k % 1021) 0) o × (signature′ o ≡ signature′ k))
+            (λ k h p. let (o, s, u, v) = all .has k p h in (o, s, bucket (signature′ k % 1021) o (subst (λ s. Holds registers link (getD head (s % 1021) 0) o) (sym (same k h)) u), same o (omega arith) ∙ v ∙ sym (same k h)))
+            (λ p. (n, omega arith, subst (λ j. Holds registers (set link n (getD head b 0)) j n) (sym (ap (λ s. getD (set head b n) (s % 1021) 0) e ∙ ap (λ q. getD (set head b n) q 0) (sym eb) ∙ headed)) (here more), refl))
+            k h p;
+      };
     }
 
     pub entered-new : (start r : ℕ) → start ≡ getD head (c % 1021) 0 → Found signature registers n link start c r → r < registers → Entered signature registers n c head link n (set head b n) (set link n (getD head b 0))

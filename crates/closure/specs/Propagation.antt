@@ -10,12 +10,13 @@ use lib.Dec.{eqb, ltb}
 use lib.ListN.{length, getD}
 use borrow.Author.Tests.{eqb-true, eqb-false, ltb-true, ltb-false}
 use Rattle.base.specs.Choice.{byTest, pick}
-use Rattle.base.specs.Each.{each-length}
-use Rattle.closure.specs.Written.{done-below, done-beyond}
+use Rattle.base.specs.Each.{done, each-length}
+use Rattle.closure.specs.Written.{done-below, done-beyond, done-same}
 use Rattle.closure.specs.Numbering.{Closed}
 use Rattle.closure.specs.Merging.{tested, congruent, already, propagating-start, propagating-union, relabelOf, Relabeled, moved, stays, relabeled}
-use Rattle.closure.specs.Index.{Holds, holds-least, CutTo, chains-widen, Chains, Complete, signature-same, Entered}
-use Rattle.closure.specs.Arrays.{at, Below, Formed, lowOf, highOf, total, united, relabelled, signatureAt, Indexed, Joined, Underway, Propagated, Resumed, Merged}
+use Rattle.closure.specs.Index.{Holds, holds-least, holds-most, CutTo, chains-widen, Chains, Complete, signature-same, Entered}
+use Rattle.closure.specs.Arrays.{at, Below, Formed, Readable, Named, lowOf, highOf, fallOf, total, united, relabelled, signatureAt, Indexed, Joined, Underway, Propagated, Resumed, Merged}
+use Rattle.closure.specs.Entering.{readable}
 
 -- ---- the lower and the higher of two
 pub sides : (a b : ℕ) → ((highOf a b ≡ a) × (lowOf a b ≡ b)) ⊎ ((highOf a b ≡ b) × (lowOf a b ≡ a))
@@ -54,9 +55,10 @@ high-most a b = go (ltb a b) refl
     go false e = let h = ltb-false a b e in (omega arith, omega arith)
 
 -- ---- where `resume` goes on
-module _ (registers i d v next : ℕ) (head link : List ℕ) (w : Chains i head link) (some : 1 ≤ registers) (more : registers ≤ i) (within : i ≤ 1032) (most : d ≤ i) (ev : v ≡ d) (e : next ≡ highOf v registers) where
+module _ (representative function first second : List ℕ) (registers i d v next : ℕ) (head link : List ℕ) (readable : Readable representative function first second registers i)
+    (w : Chains i head link) (most : d ≤ i) (ev : v ≡ d) (e : next ≡ highOf v registers) where
   next-most : next ≤ i
-  next-most = elim (sides v registers) [ inl (a, b) ↦ let c : next ≡ v = e ∙ a in omega arith | inr (a, b) ↦ let c : next ≡ registers = e ∙ a in omega arith ]
+  next-most = let more = readable .more in elim (sides v registers) [ inl (a, b) ↦ let c : next ≡ v = e ∙ a in omega arith | inr (a, b) ↦ let c : next ≡ registers = e ∙ a in omega arith ]
 
   next-least : registers ≤ next
   next-least = let (a, b) = high-most v registers in omega arith
@@ -65,13 +67,16 @@ module _ (registers i d v next : ℕ) (head link : List ℕ) (w : Chains i head 
   next-before k p h = elim (sides v registers) [ inl (a, b) ↦ let c : next ≡ v = e ∙ a in omega arith | inr (a, b) ↦ let c : next ≡ registers = e ∙ a in absurd (omega arith) ]
 
   pub cut-ready : Chains 1032 head link × (1 ≤ next) × (next ≤ 1032)
-  cut-ready = let a = next-least in let b = next-most in (chains-widen i head link w within, omega arith, omega arith)
+  cut-ready = let a = next-least in let b = next-most in let c = readable .within in let d = readable .some in (chains-widen i head link w c, omega arith, omega arith)
+
+  pub undo-ready : (registers ≤ next) × (next ≤ i)
+  undo-ready = (next-least, next-most)
 
   pub resumed-all : next ≡ i → Resumed registers i d head link next head
-  resumed-all q = record { least = next-least; most = next-most; before = next-before; chains = subst (λ k. Chains k head link) (sym q) w; keeps = λ b o h l. h }
+  resumed-all q = record { least = next-least; most = next-most; before = next-before; chains = subst (λ k. Chains k head link) (sym q) w; keeps = λ b o h l. h; back = λ b o h. h }
 
   pub resumed-cut : (head′ : List ℕ) → CutTo head link next head′ → Resumed registers i d head link next head′
-  resumed-cut head′ c = record { least = next-least; most = next-most; before = next-before; chains = c .chains; keeps = c .keeps registers }
+  resumed-cut head′ c = record { least = next-least; most = next-most; before = next-before; chains = c .chains; keeps = c .keeps registers; back = λ b o h. c .back registers b o next-least h }
 
 -- ---- the measure: the sum of the representatives
 total-le : (k : ℕ) (l m : List ℕ) → ((i : ℕ) → i < k → getD l i 0 ≤ getD m i 0) → total k l ≤ total k m
@@ -120,6 +125,38 @@ one-name a b = elim (sides a b) [
   | inl (e, g) ↦ ap (relabelOf (highOf a b) (lowOf a b)) (sym e) ∙ relabel-hit (highOf a b) (lowOf a b) ∙ sym (relabel-to (highOf a b) (lowOf a b)) ∙ ap (relabelOf (highOf a b) (lowOf a b)) g
   | inr (e, g) ↦ sym (ap (relabelOf (highOf a b) (lowOf a b)) (sym e) ∙ relabel-hit (highOf a b) (lowOf a b) ∙ sym (relabel-to (highOf a b) (lowOf a b)) ∙ ap (relabelOf (highOf a b) (lowOf a b)) g)
 ]
+
+-- ---- the loop of `relabel`
+pub named : {representative function first second : List ℕ} {registers n : ℕ} → Formed representative function first second registers n → Named representative n
+named f = record { lowest = f .lowest }
+
+fall-cases : (v from by : ℕ) → ((v ≡ from) × (fallOf v from by ≡ by)) ⊎ ((v ≢ from) × (fallOf v from by ≡ 0))
+unfolding fallOf
+fall-cases v from by = go (eqb v from) refl
+  where
+    go : (t : Bool) → eqb v from ≡ t → ((v ≡ from) × (_≡_ {A = ℕ} (pick t (λ _. by) (λ _. 0)) by)) ⊎ ((v ≢ from) × (_≡_ {A = ℕ} (pick t (λ _. by) (λ _. 0)) 0))
+    go true e = inl (eqb-true v from e, refl)
+    go false e = inr (eqb-false v from e, refl)
+
+module _ (from to by v less : ℕ) (h : to ≤ from) (eb : by ≡ from - to) (el : less ≡ fallOf v from by) where
+  pub fall-most : less ≤ v
+  fall-most = elim (fall-cases v from by) [ inl (e, g) ↦ let x : less ≡ by = el ∙ g in omega arith | inr (d, g) ↦ let x : less ≡ 0 = el ∙ g in omega arith ]
+
+  pub fall-is : v - less ≡ relabelOf from to v
+  fall-is = elim (fall-cases v from by) [
+    | inl (e, g) ↦ let x : less ≡ by = el ∙ g in let y : v - less ≡ to = omega arith in y ∙ sym (ap (relabelOf from to) e ∙ relabel-hit from to)
+    | inr (d, g) ↦ let x : less ≡ 0 = el ∙ g in let y : v - less ≡ v = omega arith in y ∙ sym (relabel-other from to v d)
+  ]
+
+-- the terms before `from` keep their names
+pub relabel-starts : (from to n i : ℕ) (l : List ℕ) → Named l n → from ≤ n → i ≡ from → l ≡ done (λ _ v. relabelOf from to v) i l
+relabel-starts from to n i l w h e = done-same (λ _ v. relabelOf from to v) i l 0 (λ k b. relabel-other from to (getD l k 0) (λ z. let x = w .lowest k (omega arith) in omega arith))
+
+-- the names of two terms, and that of the lower
+module _ (n i j low high : ℕ) (l : List ℕ) (w : Named l n) (p : i < n) (q : j < n) (el : low ≡ lowOf (getD l i 0) (getD l j 0)) (eh : high ≡ highOf (getD l i 0) (getD l j 0)) where
+  pub names-ready : (high ≤ n) × (low ≤ high)
+  names-ready = let a = w .lowest i p in let b = w .lowest j q in let c = low-le (getD l i 0) (getD l j 0) in
+      (elim (sides (getD l i 0) (getD l j 0)) [ inl (x, y) ↦ let z : high ≡ getD l i 0 = eh ∙ x in omega arith | inr (x, y) ↦ let z : high ≡ getD l j 0 = eh ∙ x in omega arith ], omega arith)
 
 -- ---- what a union does at each entry
 pub record United (n i j : ℕ) (l r : List ℕ) : Type 0 where
@@ -238,8 +275,8 @@ module _ (function first second : List ℕ) (registers n : ℕ) where
       elim (sides (getD next a 0) (getD next b 0)) [ inl (x, y) ↦ let c : d ≡ getD next a 0 = e ∙ x in omega arith | inr (x, y) ↦ let c : d ≡ getD next b 0 = e ∙ x in omega arith ]
 
   pub start-ready : (representative head link : List ℕ) (x y d : ℕ) → Formed representative function first second registers n → x < n → y < n → Indexed representative function first second registers n head link
-      → d ≡ highOf (getD representative x 0) (getD representative y 0) → Chains n head link × (1 ≤ registers) × (registers ≤ n) × (n ≤ 1032) × (d ≤ n)
-  start-ready representative head link x y d f p q w e = (w .chains, f .some, f .more, f .within, name-most representative x y n d f p q (omega arith) (omega arith) e)
+      → d ≡ highOf (getD representative x 0) (getD representative y 0) → Readable representative function first second registers n × Chains n head link × Complete (signature representative) registers n head link × (d ≤ n)
+  start-ready representative head link x y d f p q w e = (readable n f (f .more) (omega arith), w .chains, w .complete, name-most representative x y n d f p q (omega arith) (omega arith) e)
 
   -- ---- a union, and what is still known of the applications before the name that went
   module _ (next r : List ℕ) (a b i d : ℕ) (f : Formed next function first second registers n) (h : i ≤ n) (m : United n a b next r) (ed : d ≡ highOf (getD next a 0) (getD next b 0))
@@ -267,13 +304,16 @@ module _ (function first second : List ℕ) (registers n : ℕ) where
         (st u v pu (omega arith) pv (omega arith) e (sym (first-same u pu lu) ∙ x ∙ first-same v pv lv) (sym (second-same u pu lu) ∙ y ∙ second-same v pv lv)) ∙ sym (m .at-each v (omega arith))
 
     pub resumed-complete : Complete (signature r) registers q head′ link
-    unfolding Complete
-    resumed-complete k p l = let z = w .most in let (o, u, x, y) = all k p (omega arith) in (
-      o,
-      u,
-      w .keeps (signature r k % 1021) o (subst (λ s. Holds registers link (getD head (s % 1021) 0) o) (sym (same k p l)) x) (omega arith),
-      same o (holds-least registers link _ o x) (omega arith) ∙ y ∙ sym (same k p l),
-    )
+    resumed-complete = record {
+      has = λ k p l. let z = w .most in let (o, u, x, y) = all .has k p (omega arith) in (
+        o,
+        u,
+        w .keeps (signature r k % 1021) o (subst (λ s. Holds registers link (getD head (s % 1021) 0) o) (sym (same k p l)) x) (omega arith),
+        same o (holds-least registers link _ o x) (omega arith) ∙ y ∙ sym (same k p l),
+      );
+      only = λ b o x. let y = holds-most registers link (getD head′ b 0) o (w .chains .links) (f .some) x in let z = w .chains .heads b in
+          ap (λ s. s % 1021) (same o (holds-least registers link _ o x) (omega arith)) ∙ all .only b o (w .back b o x);
+    }
 
   -- ---- the loop of `propagate`
   module _ (start next head link : List ℕ) (i : ℕ) (g : Underway start function first second registers n next head link i) (h : i < n) (c o : ℕ) (ec : c ≡ signature next i) (head′ link′ : List ℕ) (w : Entered (signature next) registers i c head link o head′ link′) where
@@ -318,9 +358,9 @@ module _ (function first second : List ℕ) (registers n : ℕ) where
       found-before : o < i
       found-before = let d : o ≢ i = λ e. x (ap (λ k. getD next k 0) e) in let m = w .most in omega arith
 
-      pub resume-ready : (d : ℕ) → d ≡ highOf (getD next o 0) (getD next i 0) → Chains i head′ link′ × (1 ≤ registers) × (registers ≤ i) × (i ≤ 1032) × (d ≤ i)
-      resume-ready d e = let (p, q) = w .kept found-before in let v = g .joined .formed .within in
-          (rw (p, q) (g .chains), g .joined .formed .some, g .least, omega arith, let a = found-before in name-most next o i i d (g .joined .formed) found-below h (omega arith) (omega arith) e)
+      pub resume-ready : (d : ℕ) → d ≡ highOf (getD next o 0) (getD next i 0) → Readable next function first second registers i × Chains i head′ link′ × Complete (signature next) registers i head′ link′ × (d ≤ i)
+      resume-ready d e = let (p, q) = w .kept found-before in
+          (readable i (g .joined .formed) (g .least) (g .most), rw (p, q) (g .chains), rw (p, q) (g .complete), let a = found-before in name-most next o i i d (g .joined .formed) found-below h (omega arith) (omega arith) e)
 
       into : (r : List ℕ) → r ≡ united n o i next → United n o i next r
       into r e = united-is n o i next r (let l = g .joined .formed .long in let v = g .joined .formed .within in omega arith) e

@@ -3,7 +3,7 @@ use mathlib.Core.Path.{_≡_, sym, _∙_, ap, subst}
 use mathlib.Core.Logic.{inl, inr, _≢_}
 use mathlib.Core.Bool.{Bool, true, false, not}
 use mathlib.Core.List.{List}
-use Prim.Native.Nat.{ℕ, _+_, _≤_, _<_}
+use Prim.Native.Nat.{ℕ, _+_, _%_, _≤_, _<_}
 use native.Mathlib.Omega.{arith}
 use lib.Dec.{eqb}
 use lib.ListN.{getD}
@@ -11,7 +11,7 @@ use borrow.Author.Tests.{eqb-true, eqb-false}
 use Rattle.base.specs.Choice.{byTest}
 use Rattle.closure.specs.Numbering.{Closed}
 use Rattle.closure.specs.Merging.{relabelOf}
-use Rattle.closure.specs.Index.{Complete}
+use Rattle.closure.specs.Index.{holds-most, Complete}
 use Rattle.closure.specs.Arrays.{at, Below, Formed, highOf, lowOf, signatureAt, Indexed, Lowest, Used, used, unused, Merged}
 use Rattle.closure.specs.Propagation.{United, united-merged, relabel-other}
 
@@ -73,9 +73,11 @@ module _ (function first second representative head link : List ℕ) (registers 
     same k h = rw (first-same k h, second-same k h)
 
     still-complete : Complete (signatureAt next function first second) registers n head link
-    unfolding Complete
-    still-complete k l h = let (o, b, u, v) = index .complete k l h in
-        (o, b, rw (same k h) u, same o (omega arith) ∙ v ∙ sym (same k h))
+    still-complete = record {
+      has = λ k l h. let (o, b, u, v) = index .complete .has k l h in (o, b, rw (same k h) u, same o (omega arith) ∙ v ∙ sym (same k h));
+      only = λ b o k. let l = holds-most registers link (getD head b 0) o (index .chains .links) (f .some) k in let g = index .chains .heads b in
+          ap (λ s. s % 1021) (same o (omega arith)) ∙ index .complete .only b o k;
+    }
 
     still-closed : Closed (at function) (at first) (at second) registers n (at next)
     unfolding Closed

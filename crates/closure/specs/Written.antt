@@ -6,7 +6,7 @@ use mathlib.Core.List.{List}
 use lib.Dec.{eqb}
 use native.Mathlib.Numerals.{add-one}
 use lib.ListN.{length, getD, set}
-use lib.Seq.{getD-set-same, getD-set-other}
+use lib.Seq.{getD-set-same, getD-set-other, set-getD}
 use borrow.Author.Tests.{eqb-true, eqb-false}
 use Rattle.base.specs.Choice.{byTest}
 use Rattle.base.specs.Each.{done, each-none, each-length, each-more}
@@ -29,3 +29,8 @@ module _ {A : Type 0} (f : ℕ → A → A) where
       ap (λ l. getD l k d) (done-suc n xs d) ∙ rw e (getD-set-same (done f n xs) n _ d (let m = each-length f n xs in omega arith)))
       (λ t. let y : k ≡ n → ⊥ = eqb-false k n t in
       ap (λ l. getD l k d) (done-suc n xs d) ∙ getD-set-other (done f n xs) n k _ d y ∙ done-below n xs d k (omega arith) l)
+
+  -- entries that are what they are to be
+  pub done-same : (n : ℕ) (xs : List A) (d : A) → ((k : ℕ) → k < n → f k (getD xs k d) ≡ getD xs k d) → xs ≡ done f n xs
+  done-same zero xs d h = each-none f xs
+  done-same (suc n) xs d h = sym (done-suc n xs d ∙ ap (λ v. set (done f n xs) n v) (h n (omega arith)) ∙ ap (λ l. set l n (getD xs n d)) (sym (done-same n xs d (λ k b. h k (omega arith)))) ∙ set-getD xs n d)

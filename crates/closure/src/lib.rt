@@ -11,14 +11,18 @@ ghost use mathlib.Core.Path.{_≡_};
 ghost use Prim.Native.Nat.{_<_, _≤_};
 ghost use lib.ListN.{getD};
 ghost use Rattle.closure.specs.Numbering.{Closed};
-ghost use Rattle.closure.specs.Index.{signatureOf, Down, Chains, Found, Entered, Cut, CutTo};
-ghost use Rattle.closure.specs.Arrays.{at, Below, Formed, Argument, Readable, Indexed, Lowest, Used, lowOf, highOf, signatureAt, relabelled, united, Underway, Propagated, Resumed, Merged, Parts, Clashes};
+ghost use Rattle.closure.specs.Index.{signatureOf, Down, Chains, Complete, Found, Entered, Cut, CutTo, withoutLast};
+ghost use Rattle.closure.specs.Arrays.{at, Below, Formed, Argument, Readable, Indexed, Named, Lowest, Used, lowOf, highOf, fallOf, signatureAt, relabelled, united};
+ghost use Rattle.closure.specs.Arrays.{Underway, Propagated, Resumed, Merged, Parts, Clashes};
 
 /// A number for each computed term: at most eight constants and 1,024 applications.
 pub type Numbers = [u16; 1032];
 
 /// The last application that was entered in each chain of an index.
 pub type Heads = [u16; 1021];
+
+// So many applications, or more, are taken out of the index by a pass over all chains.
+const MANY: usize = 256;
 
 /// An element of an array of `u16` as an index.
 pub fn wide(x: u16) -> usize
@@ -27,16 +31,25 @@ pub fn wide(x: u16) -> usize
     x as usize
 }
 
-// The representative `to` in place of `from`.
+// How much is taken off a name, where the name `from` falls by so much.
+fn fall(name: u16, from: u16, by: u16) -> u16
+    ensures { λ r. ⌜ r ≡ fallOf name from by ⌝ }
+{
+    if name == from { by } else { 0 }
+}
+
+// The representative `to` in place of `from`. A class has its lowest term as its name, so the terms before `from` have another.
+// Each entry is stored, changed or not: a loop without a branch takes eight entries at a time, and its last turns guess nothing.
 fn relabel(representative: &mut Numbers, count: usize, from: u16, to: u16)
-    requires { ⌜ count ≤ 1032 ⌝ }
+    requires { ⌜ (count ≤ 1032) × (from ≤ count) × (to ≤ from) × Named (now representative) count ⌝ }
     ensures { λ _. ⌜ now (representative .exit) ≡ relabelled from to count (now (representative .entry)) ⌝ }
 {
-    let mut i: usize = 0;
+    let by = from - to;
+    let mut i = wide(from);
     while i < count {
-        if representative[i] == from {
-            representative[i] = to;
-        }
+        let name = representative[i];
+        let less = fall(name, from, by);
+        representative[i] = name - less;
         i = i + 1;
     }
 }
@@ -55,7 +68,7 @@ fn higher(a: u16, b: u16) -> u16
 
 // The union of the classes of i and j.
 fn unite(representative: &mut Numbers, count: usize, i: usize, j: usize)
-    requires { ⌜ (count ≤ 1032) × (i < 1032) × (j < 1032) ⌝ }
+    requires { ⌜ (count ≤ 1032) × (i < count) × (j < count) × Named (now representative) count ⌝ }
     ensures { λ _. ⌜ now (representative .exit) ≡ united count i j (now (representative .entry)) ⌝ }
 {
     let low = lower(representative[i], representative[j]);
@@ -182,14 +195,71 @@ fn later(a: usize, b: usize) -> usize
     if a < b { b } else { a }
 }
 
-// The application to go on with when the applications below i were looked at and then the name d went: arguments come before
-// their terms, and a class has its lowest term as its name, so the signatures of the terms before d are as they were.
-fn resume(head: &mut Heads, link: &Numbers, registers: usize, i: usize, d: u16) -> usize
-    requires { ⌜ Chains i (now head) (now link) × (1 ≤ registers) × (registers ≤ i) × (i ≤ 1032) × (d ≤ i) ⌝ }
+// The head of a chain without application k: the one entered before it where k is the head.
+fn without_last(last: u16, before: u16, k: usize) -> u16
+    ensures { λ r. ⌜ r ≡ withoutLast last before k ⌝ }
+{
+    if wide(last) == k { before } else { last }
+}
+
+// Takes the applications from the bound on, which are below i, out of the index, the last first: each is the head of the chain
+// that its signature leads to, or in no chain.
+fn undo(
+    representative: &Numbers,
+    function: &Numbers,
+    first: &Numbers,
+    second: &Numbers,
+    head: &mut Heads,
+    link: &Numbers,
+    registers: usize,
+    i: usize,
+    bound: usize,
+)
+    requires { ⌜ Readable (now representative) (now function) (now first) (now second) registers i × Chains i (now head) (now link) × Complete (signatureAt (now representative) (now function) (now first) (now second)) registers i (now head) (now link) × (registers ≤ bound) × (bound ≤ i) ⌝ }
+    ensures { λ _. ⌜ CutTo (now (head .entry)) (now (link .entry)) bound (now (head .exit)) ⌝ }
+{
+    let mut k = i;
+    while bound < k {
+        k = k - 1;
+        let c = signature_at(representative, function, first, second, k);
+        let chain = c % 1021;
+        let rest = without_last(head[chain], link[k], k);
+        head[chain] = rest;
+    }
+}
+
+// The application to go on with when the applications below i were looked at and then the name d goes: arguments come before
+// their terms, and a class has its lowest term as its name, so the signatures of the terms before d stay as they are.
+fn resume(
+    representative: &Numbers,
+    function: &Numbers,
+    first: &Numbers,
+    second: &Numbers,
+    head: &mut Heads,
+    link: &Numbers,
+    registers: usize,
+    i: usize,
+    d: u16,
+) -> usize
+    requires { ⌜ Readable (now representative) (now function) (now first) (now second) registers i × Chains i (now head) (now link) × Complete (signatureAt (now representative) (now function) (now first) (now second)) registers i (now head) (now link) × (d ≤ i) ⌝ }
     ensures { λ r. ⌜ Resumed registers i d (now (head .entry)) (now (link .entry)) r (now (head .exit)) ⌝ }
 {
     let next = later(wide(d), registers);
     if next == i {
+        return next;
+    }
+    if i - next < MANY {
+        undo(
+            representative,
+            function,
+            first,
+            second,
+            head,
+            link,
+            registers,
+            i,
+            next,
+        );
         return next;
     }
     cut(head, link, next);
@@ -229,8 +299,19 @@ fn propagate(
             i = i + 1;
         } else {
             let d = higher(representative[o], representative[i]);
+            let next = resume(
+                representative,
+                function,
+                first,
+                second,
+                head,
+                link,
+                registers,
+                i,
+                d,
+            );
             unite(representative, count, o, i);
-            i = resume(head, link, registers, i, d);
+            i = next;
         }
     }
 }
@@ -274,11 +355,22 @@ pub fn merge(
 {
     let d = higher(representative[x], representative[y]);
     let changes = used(representative, first, second, count, d);
-    unite(representative, count, x, y);
     if !changes {
+        unite(representative, count, x, y);
         return;
     }
-    let start = resume(head, link, registers, count, d);
+    let start = resume(
+        representative,
+        function,
+        first,
+        second,
+        head,
+        link,
+        registers,
+        count,
+        d,
+    );
+    unite(representative, count, x, y);
     propagate(
         representative,
         function,

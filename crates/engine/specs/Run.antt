@@ -1,37 +1,36 @@
 -- The engine's run over the letters of a trace.
 use mathlib.Core.Path.{_≡_}
-use mathlib.Core.List.{List, []}
-use Prim.Native.Nat.{ℕ, _≤_}
-use lib.ListN.{length, getD, take}
+use mathlib.Core.List.{List, _++_}
+use Prim.Native.Nat.{ℕ, _+_, _-_, _*_, _≤_}
+use lib.ListN.{length, getD, drop}
 use Rattle.base.specs.Each.{done}
 use Rattle.letters.specs.declared.Header.{Header}
 use Rattle.letters.specs.declared.Letter.{Letter}
 use Rattle.letters.specs.Editions.{firstEdition}
-use Rattle.letters.specs.Traces.{Reading, trace, refused, readingWithin}
-use Rattle.semantics.specs.Terms.{Trace, state, traceOf}
+use Rattle.letters.specs.Answers.{value}
+use Rattle.letters.specs.Traces.{Reading, trace, refused, beginning, letterCount, letterIn, parts, lettersFrom, lettersOf}
+use Rattle.semantics.specs.Terms.{state, traceOf, WellFormed}
 use Rattle.semantics.specs.Models.{Feasible}
+use Rattle.semantics.specs.Coherence.{FailsAt}
 use Rattle.semantics.specs.Judgement.{firstInfeasible}
 use Rattle.engine.specs.declared.Outcome.{Outcome}
 use Rattle.engine.specs.declared.Outcome.the-variants as outcome
 use Rattle.engine.specs.Engine.{Engine, Computed}
 
--- The letters that were read.
-abbrev pub lettersRead : Reading → List Letter
-lettersRead (trace h ls) = ls
-lettersRead (refused number place) = []
+-- Questions 1, 2, 3 and 5 are answered: the bytes have this header and this number of letters, at most 1,024.
+pub record Begun (s : List ℕ) (h : Header) (count : ℕ) : Type 0 where
+  pub header : beginning firstEdition s ≡ value h
+  pub letters : count ≡ letterCount firstEdition s
+  pub few : count ≤ 1024
 
--- The letters of the bytes of a trace of at most 1,024 letters.
-unfoldable pub lettersIn : List ℕ → List Letter
-lettersIn s = lettersRead (readingWithin 1024 firstEdition s)
+-- What the letters from number k on, counted from 0, are read as.
+abbrev pub restOf : (s : List ℕ) (h : Header) (count k : ℕ) → Reading
+restOf s h count k = lettersFrom (letterIn firstEdition h) h (k + 1) (parts 2 (count - k) (drop (2 * (k + 1)) s))
 
--- The bytes were read as a trace with this header and this number of letters.
-pub record Reads (s : List ℕ) (h : Header) (n : ℕ) : Type 0 where
-  pub read : readingWithin 1024 firstEdition s ≡ trace h (lettersIn s)
-  pub count : n ≡ length (lettersIn s)
-
--- The trace of the first k letters.
-abbrev pub beginning : List ℕ → Header → ℕ → Trace
-beginning s h k = traceOf h (take k (lettersIn s))
+-- Some letters, and then what is read.
+abbrev pub behind : List Letter → Reading → Reading
+behind ls (trace h ms) = trace h (ls ++ ms)
+behind ls (refused number place) = refused number place
 
 -- An array of zeros for the engine.
 pub record Blank (l : List ℕ) : Type 0 where
@@ -44,13 +43,29 @@ pub record Began (representative value : List ℕ) (registers : ℕ) (representa
   pub values : value′ ≡ done (λ i _. i) registers value
 
 -- After k letters, none of which made the trace infeasible.
-pub record Running (s : List ℕ) (h : Header) (function first second representative head link value left right : List ℕ) (registers n m p k : ℕ) : Type 0 where
-  pub few : k ≤ length (lettersIn s)
-  pub engine : Engine (state (beginning s h k)) function first second representative head link value left right registers n m p k
-  pub feasible : Feasible (state (beginning s h k))
+pub record Running (s : List ℕ) (h : Header) (count : ℕ) (function first second representative head link value left right : List ℕ) (registers n m p k : ℕ) : Type 0 where
+  pub letters : List Letter
+  pub long : length letters ≡ k
+  pub rest : lettersOf firstEdition h s ≡ behind letters (restOf s h count k)
+  pub formed : WellFormed (traceOf h letters)
+  pub engine : Engine (state (traceOf h letters)) function first second representative head link value left right registers n m p k
+  pub feasible : Feasible (state (traceOf h letters))
 
--- What a run answers: the first infeasible letter; or the number of computed terms, whose classes the arrays then hold.
-pub data Ran (s : List ℕ) (h : Header) (function first second representative : List ℕ) : Outcome → Type 0 where
-  infeasible : (k : ℕ) → k ≡ firstInfeasible (traceOf h (lettersIn s)) → 1 ≤ k → Ran s h function first second representative (outcome.Infeasible k)
-  feasible : (n : ℕ) → 0 ≡ firstInfeasible (traceOf h (lettersIn s)) → Computed (state (traceOf h (lettersIn s))) function first second representative (h .registers) n
-      → Ran s h function first second representative (outcome.Feasible n)
+-- What a run answers: the first letter that is not well formed, where none before it is infeasible; the first infeasible letter, where the letters
+-- after it are still to be read; or the number of computed terms, whose classes the arrays then hold.
+pub data Ran (s : List ℕ) (h : Header) (count : ℕ) (function first second representative : List ℕ) : Outcome → Type 0 where
+  malformed : (k : ℕ) → lettersOf firstEdition h s ≡ refused 4 k → Ran s h count function first second representative (outcome.Malformed k)
+  infeasible : (k : ℕ) (ls : List Letter) → lettersOf firstEdition h s ≡ behind ls (restOf s h count k) → FailsAt (λ π. Feasible (state π)) (traceOf h ls) k → 1 ≤ k
+      → Ran s h count function first second representative (outcome.Infeasible k)
+  feasible : (n : ℕ) (ls : List Letter) → lettersOf firstEdition h s ≡ trace h ls → 0 ≡ firstInfeasible (traceOf h ls) → Computed (state (traceOf h ls)) function first second representative (h .registers) n
+      → Ran s h count function first second representative (outcome.Feasible n)
+
+-- What is said of the letters from some number on: all are well formed, or the number of the first that is not, from 1.
+pub data RestRead (h : Header) (x : Reading) : ℕ → Type 0 where
+  all-read : (ls : List Letter) → x ≡ trace h ls → RestRead h x 0
+  broken : (p : ℕ) → 1 ≤ p → x ≡ refused 4 p → RestRead h x p
+
+-- The letters between the numbers k and i are well formed.
+pub record Following (s : List ℕ) (h : Header) (count k i : ℕ) : Type 0 where
+  pub letters : List Letter
+  pub rest : restOf s h count k ≡ behind letters (restOf s h count i)

@@ -5,7 +5,7 @@
 ghost use mathlib.Core.Path.{_≡_};
 ghost use Prim.Native.Nat.{_<_, _≤_};
 ghost use Rattle.engine.specs.Engine.{Ready, Performed, Appliable, Applied, Computable, Computing, Equatable, Equated, Notable, Noted, nameOf};
-ghost use Rattle.engine.specs.Run.{Reads, Blank, Began, Running, Ran};
+ghost use Rattle.engine.specs.Run.{Begun, Blank, Began, Running, Ran, restOf, RestRead};
 use closure::Heads;
 use closure::Numbers;
 use closure::wide;
@@ -13,6 +13,7 @@ use letters::DecodedLetter;
 use letters::Header;
 use letters::Letter;
 use letters::traces;
+use letters::words;
 
 /// What was counted so far.
 pub struct Counts {
@@ -24,12 +25,14 @@ pub struct Counts {
     pub parted: usize,
 }
 
-/// How a run over a trace ends: with the number of computed terms, or at the first infeasible letter.
+/// How a run over a trace ends: with the number of computed terms, or at the first letter that is infeasible or not well formed.
 pub enum Outcome {
     /// All letters are feasible; so many terms were computed.
     Feasible(usize),
-    /// The number of the first infeasible letter, from 1.
+    /// The number of the first infeasible letter, from 1. The letters after it were not read.
     Infeasible(u64),
+    /// The number of the first letter that is not well formed, from 1. None before it is infeasible.
+    Malformed(u64),
 }
 
 // The class of the application that the index has, or of the new one.
@@ -282,8 +285,8 @@ fn perform(
     left: &mut [u16; 1024],
     right: &mut [u16; 1024],
 ) -> Outcome
-    requires { ⌜ Reads (now trace) header letters × Running (now trace) header (now function) (now first) (now second) (now representative) (now head) (now link) (now value) (now left) (now right) (header .registers) (header .registers) 0 0 0 ⌝ }
-    ensures { λ r. ⌜ Ran (now (trace .entry)) header (now (function .exit)) (now (first .exit)) (now (second .exit)) (now (representative .exit)) r ⌝ }
+    requires { ⌜ Begun (now trace) header letters × Running (now trace) header letters (now function) (now first) (now second) (now representative) (now head) (now link) (now value) (now left) (now right) (header .registers) (header .registers) 0 0 0 ⌝ }
+    ensures { λ r. ⌜ Ran (now (trace .entry)) header letters (now (function .exit)) (now (first .exit)) (now (second .exit)) (now (representative .exit)) r ⌝ }
 {
     let registers = header.registers as usize;
     let mut counts = Counts {
@@ -294,9 +297,8 @@ fn perform(
     let mut k: usize = 0;
     while k < letters {
         let decoded = traces::letter_at(header, trace, k);
-        // Every letter was read before, so this one is well formed.
         let DecodedLetter::Letter(letter) = decoded else {
-            return Outcome::Infeasible(0);
+            return Outcome::Malformed(k as u64 + 1);
         };
         counts = step(
             letter,
@@ -323,8 +325,25 @@ fn perform(
     Outcome::Feasible(counts.terms)
 }
 
-/// Runs over the letters of a trace that was read. Unless one is infeasible, the arrays then hold the computed terms and their classes.
-/// Left free: the arrays after an infeasible letter, and their entries past the computed terms.
+/// The number of the first letter after the first k that is not well formed, from 1; 0 if all are.
+pub fn first_malformed(header: Header, trace: &[u8], letters: usize, k: usize) -> u64
+    requires { ⌜ Begun (now trace) header letters ⌝ }
+    ensures { λ r. ⌜ RestRead header (restOf (now (trace .entry)) header letters k) r ⌝ }
+{
+    let mut i = k;
+    while i < letters {
+        let at = 2 * i + 2;
+        let decoded = words::decode_letter(header, words::word(trace[at], trace[at + 1]));
+        let DecodedLetter::Letter(letter) = decoded else {
+            return i as u64 + 1;
+        };
+        i = i + 1;
+    }
+    0
+}
+
+/// Runs over the letters of a trace whose header was read. Unless one is infeasible or not well formed, the arrays then hold the computed
+/// terms and their classes. Left free: the arrays else, and their entries past the computed terms.
 pub fn run(
     header: Header,
     trace: &[u8],
@@ -334,8 +353,8 @@ pub fn run(
     second: &mut Numbers,
     representative: &mut Numbers,
 ) -> Outcome
-    requires { ⌜ Reads (now trace) header letters × Blank (now function) × Blank (now first) × Blank (now second) × Blank (now representative) ⌝ }
-    ensures { λ r. ⌜ Ran (now (trace .entry)) header (now (function .exit)) (now (first .exit)) (now (second .exit)) (now (representative .exit)) r ⌝ }
+    requires { ⌜ Begun (now trace) header letters × Blank (now function) × Blank (now first) × Blank (now second) × Blank (now representative) ⌝ }
+    ensures { λ r. ⌜ Ran (now (trace .entry)) header letters (now (function .exit)) (now (first .exit)) (now (second .exit)) (now (representative .exit)) r ⌝ }
 {
     let registers = header.registers as usize;
     let mut head = [0u16; 1021];

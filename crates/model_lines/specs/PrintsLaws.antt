@@ -22,8 +22,6 @@ use Rattle.semantics.specs.ShownPacked.{rows-length, starts-length}
 use Rattle.semantics.specs.PackedTables.{firstRowWidths}
 use Rattle.semantics.specs.PackedTablesLaws.{packed-length}
 use Rattle.semantics.specs.Judgement.{firstInfeasible}
-use Rattle.engine.specs.Run.{lettersRead, lettersIn, Reads}
-use Rattle.engine.specs.RunLaws.{registers-few, letters-few}
 use Rattle.text.specs.Numerals.{numeral, numeral-length}
 use Rattle.text.specs.Names.{nameText, name-back}
 use Rattle.text.specs.Templates.{part, filledIn}
@@ -34,6 +32,7 @@ use Rattle.shown.specs.declared.Shown.the-variants.{Model, Infeasible, Refused}
 use Rattle.shown.specs.Answer as answer
 use Rattle.shown.specs.Answer.{shownAnswer, modelBytes, answerTo, outputAfter, Showed}
 use Rattle.shown.specs.AnswerLaws.{model-within}
+use Rattle.shown.specs.Means.{is-trace}
 use Rattle.model_lines.specs.Prints.{octetText, hexText, modelWord, modelLine, infeasibleLine, refusedLine, readLine, lineFor, lineOf, mostBytes, Prints}
 
 -- ── lines as templates with their fields ──
@@ -161,21 +160,14 @@ module _ (s : List ℕ) (h : Header) (ls : List Letter) (e : readingWithin 1024 
   abbrev σ : State
   σ = state (traceOf h ls)
 
-  same : lettersIn s ≡ ls
-  unfolding lettersIn
-  same = ap lettersRead e
-
-  reads : Reads s h (length ls)
-  reads = record { read = e ∙ ap (trace h) (sym same); count = ap length (sym same) }
-
   terms-few : length (σ .terms) ≤ 1032
   terms-few = omega (
     arith,
     terms-length (traceOf h ls),
     ap (λ (g : Header). g .registers) (extend-header (begin h) ls),
     extend-size (begin h) ls,
-    registers-few s h (length ls) reads,
-    letters-few s h (length ls) reads,
+    is-trace s h ls e .header .registers,
+    is-trace s h ls e .few,
   )
 
   rows-few : length (tablesOf (state (traceOf h ls)) .rows) ≤ 1032
@@ -188,8 +180,7 @@ module _ (s : List ℕ) (h : Header) (ls : List Letter) (e : readingWithin 1024 
     arith,
     starts-length (number σ) 0 (σ .header .registers),
     ap (λ (g : Header). g .registers) (extend-header (begin h) ls),
-    registers-few s h
-        (length ls) reads,
+    is-trace s h ls e .header .registers,
   )
 
   model-fits : length (modelBytes (state (traceOf h ls))) ≤ mostModel

@@ -119,3 +119,8 @@ pub record Known (h : Header) (function first second representative : List ℕ) 
 unfoldable pub Modelled : (h : Header) (function first second representative : List ℕ) (n : ℕ) (out : List ℕ) (r : Shown) (out′ : List ℕ) → Type 0
 Modelled h function first second representative n out r out′ =
     (σ : State) → σ .header ≡ h → Computed σ function first second representative (h .registers) n → (shownAnswer r ≡ fitted (modelBytes σ) (length out)) × (out′ ≡ laidIn (modelBytes σ) out)
+
+-- What is answered where letter k is the first infeasible one and the letters after it are read as x.
+pub data Stopped (h : Header) (x : Reading) (k : ℕ) : Shown → Type 0 where
+  well : (ls : List Letter) → x ≡ trace h ls → Stopped h x k (shown.Infeasible k)
+  ill : (p : ℕ) → x ≡ refused 4 p → Stopped h x k (shown.Refused 4 p)

@@ -7,15 +7,21 @@ use native.Mathlib.Omega.{arith}
 use native.Mathlib.Nat.{zero-add}
 use lib.ListN.{length, getD, take, drop}
 use lib.Seq.{length-take-le}
-use borrow.Author.Tests.{eq-eqb, ne-eqb, le-leb, lt-leb}
+use borrow.Author.Tests.{eq-eqb, ne-eqb, le-leb, lt-leb, lt-ltb}
 use Rattle.letters.specs.declared.Header.{Header}
-use Rattle.letters.specs.declared.TraceRead.{TraceRead}
-use Rattle.letters.specs.declared.TraceRead.the-variants as trace-read
+use Rattle.letters.specs.declared.Letter.{Letter}
+use Rattle.letters.specs.declared.HeaderRead.{HeaderRead}
+use Rattle.letters.specs.declared.HeaderRead.the-variants as header-read
 use Rattle.letters.specs.Editions.{firstEdition}
 use Rattle.letters.specs.Answers as letters
-use Rattle.letters.specs.Traces.{Reading, trace, refused, readingWithin, counted}
+use Rattle.letters.specs.WordLaws.{first-roomy}
+use Rattle.letters.specs.Traces.{Reading, trace, refused, beginning, letterCount, lettersOf, readingWhere, readingWithin}
+use Rattle.letters.specs.TraceLaws.{reading-fits}
 use Rattle.semantics.specs.Terms.{State, Term, con, begin, state, traceOf}
-use Rattle.semantics.specs.TraceLaws.{extend-header}
+use Rattle.semantics.specs.Models.{Feasible}
+use Rattle.semantics.specs.Coherence.{FailsAt}
+use Rattle.semantics.specs.JudgementLaws.{first-infeasible-unique}
+use Rattle.semantics.specs.TraceLaws.{extend-append, extend-header, extend-fails, all-formed}
 use Rattle.semantics.specs.Tables.{Row, startsFrom, shownTables, rowsOf}
 use Rattle.semantics.specs.Shown.{tablesOf, number}
 use Rattle.semantics.specs.PackedTables.{packTables, firstRowWidths}
@@ -27,6 +33,7 @@ use Rattle.engine.specs.declared.Outcome.{Outcome}
 use Rattle.engine.specs.declared.Outcome.the-variants as outcome
 use Rattle.engine.specs.Engine.{Computed}
 use Rattle.engine.specs.Run as run
+use Rattle.engine.specs.Letters.{headed, read-within, read-any}
 use Rattle.shown.specs.declared.Shown.{Shown}
 use Rattle.shown.specs.declared.Shown.the-variants as shown
 use Rattle.shown.specs.Values.{classes-le, valueAt, Valued}
@@ -35,7 +42,7 @@ use Rattle.shown.specs.Listing.{ListedAll}
 use Rattle.shown.specs.Inserted.{inserted}
 use Rattle.shown.specs.Bytes.{rowFor, RowIn, Writable, tablesIn, map-length}
 use Rattle.shown.specs.Fitting.{Puttable, Put, too-large, fitting}
-use Rattle.shown.specs.Answer.{model, infeasible, refusal, shownAnswer, modelBytes, answerTo, outputAfter, Means, Showed, Known, Modelled}
+use Rattle.shown.specs.Answer.{model, infeasible, refusal, shownAnswer, modelBytes, answerTo, outputAfter, Means, Showed, Known, Modelled, Stopped, well, ill}
 use Rattle.shown.specs.Means.{showed}
 
 starts-are : (v : Term → ℕ) (k m : ℕ) (l : List ℕ) → m ≤ length l → ((i : ℕ) → i < m → getD l i 0 ≡ v (con (k + i))) → take m l ≡ startsFrom v k m
@@ -151,61 +158,89 @@ module _ (h : Header) (function first second representative : List ℕ) (n : ℕ
     put-modelled out out′ q (fitting b g) = fits-in out out′ b g
 
 -- ---- what the run of a trace gives
-module _ (s : List ℕ) (h : Header) (n : ℕ) (r : run.Reads s h n) (out : List ℕ) where
-  ran-infeasible : {function first second representative : List ℕ} {o : Outcome} (k : ℕ) → run.Ran s h function first second representative o → o ≡ outcome.Infeasible k
-      → (k ≡ firstInfeasible (traceOf h (run.lettersIn s))) × (1 ≤ k)
-  ran-infeasible k (run.infeasible j e p) q = let z : j ≡ k = cc in (sym z ∙ e, subst (λ i. 1 ≤ i) z p)
-  ran-infeasible k (run.feasible j e c) q = let z : _≡_ {A = ℕ} 0 1 = cc in absurd (omega arith)
+module _ (s : List ℕ) (h : Header) (n : ℕ) (r : run.Begun s h n) (out : List ℕ) where
+  ran-malformed : {function first second representative : List ℕ} {o : Outcome} (k : ℕ) → run.Ran s h n function first second representative o → o ≡ outcome.Malformed k → lettersOf firstEdition h s ≡ refused 4 k
+  ran-malformed k (run.malformed j e) q = let z : j ≡ k = cc in e ∙ ap (refused 4) z
+  ran-malformed k (run.infeasible j ls e f p) q = let z : _≡_ {A = ℕ} 0 1 = cc in absurd (omega arith)
+  ran-malformed k (run.feasible j ls e i c) q = let z : _≡_ {A = ℕ} 0 1 = cc in absurd (omega arith)
 
-  ran-feasible : {function first second representative : List ℕ} {o : Outcome} (k : ℕ) → run.Ran s h function first second representative o → o ≡ outcome.Feasible k
-      → (0 ≡ firstInfeasible (traceOf h (run.lettersIn s))) × Computed (state (traceOf h (run.lettersIn s))) function first second representative (h .registers) k
-  ran-feasible k (run.infeasible j e p) q = let z : _≡_ {A = ℕ} 0 1 = cc in absurd (omega arith)
-  ran-feasible {function} {first} {second} {representative} k (run.feasible j e c) q = let z : j ≡ k = cc in (e, subst (Computed (state (traceOf h (run.lettersIn s))) function first second representative (h .registers)) z c)
+  ran-infeasible : {function first second representative : List ℕ} {o : Outcome} (k : ℕ) → run.Ran s h n function first second representative o → o ≡ outcome.Infeasible k
+      → (ls : List Letter) × (lettersOf firstEdition h s ≡ run.behind ls (run.restOf s h n k)) × FailsAt (λ π. Feasible (state π)) (traceOf h ls) k × (1 ≤ k)
+  ran-infeasible k (run.malformed j e) q = let z : _≡_ {A = ℕ} 0 1 = cc in absurd (omega arith)
+  ran-infeasible k (run.infeasible j ls e f p) q = let z : j ≡ k = cc in
+      (ls, subst (λ i. lettersOf firstEdition h s ≡ run.behind ls (run.restOf s h n i)) z e, subst (FailsAt (λ π. Feasible (state π)) (traceOf h ls)) z f, subst (λ i. 1 ≤ i) z p)
+  ran-infeasible k (run.feasible j ls e i c) q = let z : _≡_ {A = ℕ} 0 1 = cc in absurd (omega arith)
 
-  pub showed-infeasible : {function first second representative : List ℕ} {o : Outcome} (k : ℕ) → run.Ran s h function first second representative o → o ≡ outcome.Infeasible k → Showed s out (shown.Infeasible k) out
+  ran-feasible : {function first second representative : List ℕ} {o : Outcome} (k : ℕ) → run.Ran s h n function first second representative o → o ≡ outcome.Feasible k
+      → (ls : List Letter) × (lettersOf firstEdition h s ≡ trace h ls) × (0 ≡ firstInfeasible (traceOf h ls)) × Computed (state (traceOf h ls)) function first second representative (h .registers) k
+  ran-feasible k (run.malformed j e) q = let z : _≡_ {A = ℕ} 0 1 = cc in absurd (omega arith)
+  ran-feasible k (run.infeasible j ls e f p) q = let z : _≡_ {A = ℕ} 0 1 = cc in absurd (omega arith)
+  ran-feasible {function} {first} {second} {representative} k (run.feasible j ls e i c) q = let z : j ≡ k = cc in (ls, e, i, subst (Computed (state (traceOf h ls)) function first second representative (h .registers)) z c)
+
+  -- the answer to a reading
+  showed-unread : (a b : ℕ) → readingWithin 1024 firstEdition s ≡ refused a b → Showed s out (shown.Refused a b) out
   unfolding answerTo outputAfter
-  showed-infeasible k d q =
-      let (e, p) = ran-infeasible k d q in
-      let m : firstInfeasible (traceOf h (run.lettersIn s)) ≢ 0 = λ z. omega arith in
-      let t = ne-eqb (firstInfeasible (traceOf h (run.lettersIn s))) 0 m in
-      showed s out (shown.Infeasible k) out (rw (r .read, t) (ap infeasible e)) (rw (r .read, t))
+  showed-unread a b x = showed s out (shown.Refused a b) out (rw x) (rw x)
 
-  module _ {function first second representative : List ℕ} {o : Outcome} (k : ℕ) (d : run.Ran s h function first second representative o) (q : o ≡ outcome.Feasible k) where
-    same-header : state (traceOf h (run.lettersIn s)) .header ≡ h
-    same-header = extend-header (begin h) (run.lettersIn s)
+  pub showed-malformed : {function first second representative : List ℕ} {o : Outcome} (k : ℕ) → run.Ran s h n function first second representative o → o ≡ outcome.Malformed k → Showed s out (shown.Refused 4 k) out
+  showed-malformed k d q = showed-unread 4 k (read-within s h n r ∙ ran-malformed k d q)
 
+  -- a letter that makes the beginning infeasible is the first of the whole trace
+  first-of-all : (ls more : List Letter) (k : ℕ) → 1 ≤ k → lettersOf firstEdition h s ≡ trace h (ls ++ more) → FailsAt (λ π. Feasible (state π)) (traceOf h ls) k → k ≡ firstInfeasible (traceOf h (ls ++ more))
+  first-of-all ls more zero p e f = absurd (omega arith)
+  first-of-all ls more (suc k) p e f = first-infeasible-unique (traceOf h (ls ++ more))
+      (all-formed (begin h) (ls ++ more) tt (reading-fits firstEdition first-roomy s h (ls ++ more) (read-any s h n r ∙ e) .1)) (suc k)
+      (subst (λ ρ. FailsAt (λ π. Feasible (state π)) ρ (suc k)) (sym (extend-append (begin h) ls more)) (extend-fails (λ π. Feasible (state π)) (traceOf h ls) more (suc k) f))
+
+  showed-first : (ls : List Letter) (k : ℕ) → lettersOf firstEdition h s ≡ trace h ls → k ≡ firstInfeasible (traceOf h ls) → 1 ≤ k → Showed s out (shown.Infeasible k) out
+  unfolding answerTo outputAfter
+  showed-first ls k e g p =
+      let x = read-within s h n r ∙ e in
+      let m : firstInfeasible (traceOf h ls) ≢ 0 = λ z. omega arith in
+      let t = ne-eqb (firstInfeasible (traceOf h ls)) 0 m in
+      showed s out (shown.Infeasible k) out (rw (x, t) (ap infeasible g)) (rw (x, t))
+
+  pub showed-stopped : {function first second representative : List ℕ} {o : Outcome} (k : ℕ) → run.Ran s h n function first second representative o → o ≡ outcome.Infeasible k
+      → (a : Shown) → Stopped h (run.restOf s h n k) k a → Showed s out a out
+  showed-stopped k d q a (well more y) = let (ls, e, f, p) = ran-infeasible k d q in let g = e ∙ ap (run.behind ls) y in showed-first (ls ++ more) k g (first-of-all ls more k p g f) p
+  showed-stopped k d q a (ill b y) = let (ls, e, f, p) = ran-infeasible k d q in showed-unread 4 b (read-within s h n r ∙ e ∙ ap (run.behind ls) y)
+
+  module _ {function first second representative : List ℕ} {o : Outcome} (k : ℕ) (d : run.Ran s h n function first second representative o) (q : o ≡ outcome.Feasible k) where
     pub known : Known h function first second representative k
-    known = record { state = state (traceOf h (run.lettersIn s)); header = same-header; computed = (ran-feasible k d q) .1 }
+    known = let (ls, e, i, c) = ran-feasible k d q in record { state = state (traceOf h ls); header = extend-header (begin h) ls; computed = c }
 
     pub showed-model : (a : Shown) (out′ : List ℕ) → Modelled h function first second representative k out a out′ → Showed s out a out′
     unfolding answerTo outputAfter Modelled
     showed-model a out′ f =
-        let (e, c) = ran-feasible k d q in
-        let t = eq-eqb (firstInfeasible (traceOf h (run.lettersIn s))) 0 (sym e) in
-        let (x, y) = f (state (traceOf h (run.lettersIn s))) same-header c in
-        showed s out a out′ (rw (r .read, t) x) (rw (r .read, t) y)
+        let (ls, e, i, c) = ran-feasible k d q in
+        let x = read-within s h n r ∙ e in
+        let t = eq-eqb (firstInfeasible (traceOf h ls)) 0 (sym i) in
+        let (y, z) = f (state (traceOf h ls)) (extend-header (begin h) ls) c in
+        showed s out a out′ (rw (x, t) y) (rw (x, t) z)
 
--- ---- what the reading gives
-module _ (s : List ℕ) (d : TraceRead) (e : letters.traceAnswer d ≡ counted (readingWithin 1024 firstEdition s)) (out : List ℕ) where
-  refused-as : (x : Reading) (a b : ℕ) → counted x ≡ letters.refusal a b → x ≡ refused a b
-  refused-as (trace h ls) a b q = let z : _≡_ {A = ℕ} 0 1 = cc in absurd (omega arith)
-  refused-as (refused c d) a b q = cc
+pub stopped : (h : Header) (x : Reading) (k b : ℕ) → run.RestRead h x b → (b ≡ 0 → Stopped h x k (shown.Infeasible k)) × (b ≢ 0 → Stopped h x k (shown.Refused 4 b))
+stopped h x k b (run.all-read ls e) = ((λ _. well ls e), (λ z. absurd (z refl)))
+stopped h x k b (run.broken p l e) = ((λ z. absurd (omega arith)), (λ _. ill p e))
 
-  pub showed-refused : {a b : ℕ} → d ≡ trace-read.Refused a b → Showed s out (shown.Refused a b) out
-  unfolding answerTo outputAfter
-  showed-refused {a} {b} q =
-      let x = refused-as (readingWithin 1024 firstEdition s) a b (sym e ∙ ap letters.traceAnswer q) in
-      showed s out (shown.Refused a b) out (rw x) (rw x)
+-- ---- what the beginning gives
+module _ (s : List ℕ) (d : HeaderRead) (e : letters.beginningAnswer d ≡ beginning firstEdition s) (out : List ℕ) where
+  pub showed-refused : {a : ℕ} → d ≡ header-read.Refused a → Showed s out (shown.Refused a 0) out
+  unfolding answerTo outputAfter readingWhere
+  showed-refused {a} q = let x = sym e ∙ ap letters.beginningAnswer q in showed s out (shown.Refused a 0) out (rw x) (rw x)
 
-  read-as : (x : Reading) (h : Header) (n : ℕ) → counted x ≡ letters.value (h, n) → (x ≡ trace h (run.lettersRead x)) × (n ≡ length (run.lettersRead x))
-  read-as (trace g ls) h n q =
-      let p : _≡_ {A = Header × ℕ} (g, length ls) (h, n) = cc in
-      (ap (λ (k : Header × ℕ). trace (k .0) ls) p, sym (ap (λ (k : Header × ℕ). k .1) p))
-  read-as (refused a b) h n q = let z : _≡_ {A = ℕ} 0 1 = cc in absurd (omega arith)
+  module _ {h : Header} (q : d ≡ header-read.Header h) where
+    header-is : beginning firstEdition s ≡ letters.value h
+    header-is = sym e ∙ ap letters.beginningAnswer q
 
-  pub reads : {h : Header} {n : ℕ} → d ≡ trace-read.Trace h n → run.Reads s h n
-  unfolding run.lettersIn
-  reads {h} {n} q = let (a, b) = read-as (readingWithin 1024 firstEdition s) h n (sym e ∙ ap letters.traceAnswer q) in record { read = a; count = b }
+    pub bytes-enough : 2 ≤ length s
+    bytes-enough = headed s h header-is .enough
+
+    pub showed-long : 1024 < letterCount firstEdition s → Showed s out (shown.Refused 5 0) out
+    unfolding answerTo outputAfter readingWhere
+    showed-long b = let t = lt-ltb 1024 (letterCount firstEdition s) b in showed s out (shown.Refused 5 0) out (rw (header-is, t)) (rw (header-is, t))
+
+    pub begun : letterCount firstEdition s ≤ 1024 → run.Begun s h (letterCount firstEdition s)
+    begun b = record { header = header-is; letters = refl; few = b }
 
 -- A model that was written lies in the output.
 pub model-within : (s out out′ : List ℕ) (r : Shown) (n : ℕ) → Showed s out r out′ → r ≡ shown.Model n → n ≤ length out

@@ -66,7 +66,7 @@ module _ {representative function first second : List ℕ} {registers n : ℕ} w
     least = omega arith;
     most = l .formed .more;
     few = omega arith;
-    indexed = record { chains = chains-none head link registers h (b .long) z (b .zero) (l .formed .some); complete = complete-none (signatureAt representative function first second) registers head link };
+    indexed = record { chains = chains-none head link registers h (b .long) z (b .zero) (l .formed .some); complete = complete-none (signatureAt representative function first second) registers head link z (l .formed .some) };
     room = l .room;
     entries = λ k h. absurd (omega arith);
     listed = λ σ w. listed-none σ function first second representative registers n w rows;

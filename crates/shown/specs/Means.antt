@@ -3,17 +3,18 @@ use mathlib.Core.Path.{_≡_, refl, sym, _∙_, ap, subst}
 use mathlib.Core.List.{List, reverse}
 use Prim.Native.Nat.{ℕ, zero, suc, _≤_}
 use native.Mathlib.Omega.{arith}
-use lib.Dec.{eqb, leb}
+use lib.Dec.{eqb, leb, ltb}
 use lib.ListN.{length, drop}
 use lib.Seq.{take-at, drop-at}
-use borrow.Author.Tests.{ne-eqb, leb-true, leb-false}
+use borrow.Author.Tests.{ne-eqb, leb-true, leb-false, ltb-false}
 use Rattle.base.specs.Choice.{pick, byTest}
 use Rattle.letters.specs.declared.Header.{Header}
 use Rattle.letters.specs.declared.Letter.{Letter}
-use Rattle.letters.specs.Editions.{firstEdition, mostLetters}
+use Rattle.letters.specs.Editions.{Edition, firstEdition, mostLetters}
+use Rattle.letters.specs.Answers as letters
 use Rattle.letters.specs.WordLaws.{first-roomy}
-use Rattle.letters.specs.Traces.{Reading, trace, refused, readingWithin}
-use Rattle.letters.specs.TraceLaws.{reading-fits}
+use Rattle.letters.specs.Traces.{Reading, trace, refused, reading, readingWithin, readingWhere, beginning, lettersOf, letterIn, letterCount, parts}
+use Rattle.letters.specs.TraceLaws.{not-trace, reading-fits, letters-decoded, decoded-length, parts-length}
 use Rattle.semantics.specs.Terms.{Trace, State, begin, state, traceOf}
 use Rattle.semantics.specs.TraceLaws.{extend-header, extend-size, terms-length, all-formed}
 use Rattle.semantics.specs.Facts.{state-valid}
@@ -28,7 +29,6 @@ use Rattle.semantics.specs.PackedTables.{readTables, packTables, firstRowWidths
 use Rattle.semantics.specs.PackedTablesLaws.{read-packed}
 use Rattle.semantics.specs.Judgement.{firstInfeasible}
 use Rattle.semantics.specs.JudgementLaws.{first-infeasible-is, failed, feasible-closed}
-use Rattle.engine.specs.RunLaws.{within}
 use Rattle.shown.specs.declared.Shown.{Shown}
 use Rattle.shown.specs.Answer.{infeasible, shownAnswer, modelBytes, fitted, laidIn, answerTo, outputAfter}
 use Rattle.shown.specs.Answer.{IsTrace, ShownFor, ModelIn, LetterNamed, unread, unfit, Means, Showed}
@@ -36,12 +36,30 @@ use Rattle.shown.specs.Answer.{IsTrace, ShownFor, ModelIn, LetterNamed, 
 abbrev FeasibleTrace : Trace → Type 0
 FeasibleTrace π = Feasible (state π)
 
+-- ── a trace that was read within a limit ──
+module _ (limit : ℕ) (e : Edition) (s : List ℕ) (h : Header) (ls : List Letter) where
+  within : readingWithin limit e s ≡ trace h ls → (reading e s ≡ trace h ls) × (length ls ≤ limit)
+  unfolding readingWhere lettersOf
+  within q = go (beginning e s) q
+    where
+      go : (a : letters.Answer Header) → letters.onAnswer a (λ g. pick (ltb limit (letterCount e s)) (λ _. refused 5 0) λ _. lettersOf e g s) refused ≡ trace h ls
+          → (letters.onAnswer a (λ g. lettersOf e g s) refused ≡ trace h ls) × (length ls ≤ limit)
+      go (letters.refusal a b) q = absurd (not-trace q)
+      go (letters.value g) q = byTest (ltb limit (letterCount e s))
+          (λ t. absurd (not-trace (rw t at q)))
+          (λ t. let r : lettersOf e g s ≡ trace h ls = rw t at q in
+          let d = letters-decoded (letterIn e g) g 1 (parts (e .bytes) (letterCount e s) (drop (e .bytes) s)) h ls r in
+          let l = decoded-length (letterIn e g) g (parts (e .bytes) (letterCount e s) (drop (e .bytes) s)) ls (d .1) in
+          let p = parts-length (e .bytes) (letterCount e s) (drop (e .bytes) s) in
+          let b = ltb-false limit (letterCount e s) t in
+          (r, omega arith))
+
 -- ── of the bytes of a trace ──
 module _ (s : List ℕ) (h : Header) (ls : List Letter) (q : readingWithin mostLetters firstEdition s ≡ trace h ls) where
   abbrev σ : State
   σ = state (traceOf h ls)
 
-  is-trace : IsTrace s h ls
+  pub is-trace : IsTrace s h ls
   is-trace =
       let (r, few) = within mostLetters firstEdition s h ls q in
       let (v, f) = reading-fits firstEdition first-roomy s h ls r in

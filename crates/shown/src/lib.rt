@@ -7,19 +7,22 @@ ghost use Rattle.closure.specs.Arrays.{Formed, Indexed};
 ghost use Rattle.shown.specs.Values.{chosen, newClass, Numberable, Valued};
 ghost use Rattle.shown.specs.Rows.{NewRow};
 ghost use Rattle.shown.specs.Listing.{Listable, ListedAll};
-ghost use Rattle.engine.specs.Run.{Blank, Reads};
+ghost use Rattle.engine.specs.Run.{Blank, Begun, restOf};
 ghost use Rattle.shown.specs.Inserted.{inserted};
 ghost use Rattle.shown.specs.Fitting.{Puttable, Put};
-ghost use Rattle.shown.specs.Answer.{Known, Modelled, Showed};
+ghost use Rattle.shown.specs.Answer.{Known, Modelled, Stopped, Showed};
 ghost use Rattle.shown.specs.Bytes.{putFive, written, RowIn, wordFor, wordsFor, StartsFit, RowsFit, Writable, tablesIn};
 use closure::Heads;
 use closure::Numbers;
 use closure::wide;
 use engine::Outcome;
 use letters::Header;
-use letters::TraceRead;
+use letters::HeaderRead;
 use letters::traces;
 use letters::words;
+
+// The letters that a trace may have.
+const MOST_LETTERS: usize = 1024;
 
 /// What is shown for a trace: a model of so many bytes, the first infeasible letter, or a refusal, its number and place.
 pub enum Shown {
@@ -331,9 +334,21 @@ fn show_model(
     )
 }
 
-// Shows what is due for a trace that was read.
+// Names the first infeasible letter k, unless a letter after it is not well formed: question 4 is asked of all letters.
+fn name_infeasible(header: Header, trace: &[u8], letters: usize, k: u64) -> Shown
+    requires { ⌜ Begun (now trace) header letters ⌝ }
+    ensures { λ r. ⌜ Stopped header (restOf (now (trace .entry)) header letters k) k r ⌝ }
+{
+    let broken = engine::first_malformed(header, trace, letters, k as usize);
+    if broken == 0 {
+        return Shown::Infeasible(k);
+    }
+    Shown::Refused(4, broken)
+}
+
+// Shows what is due for a trace whose header was read.
 fn show_trace(header: Header, trace: &[u8], letters: usize, out: &mut [u8]) -> Shown
-    requires { ⌜ Reads (now trace) header letters ⌝ }
+    requires { ⌜ Begun (now trace) header letters ⌝ }
     ensures { λ r. ⌜ Showed (now (trace .entry)) (now (out .entry)) r (now (out .exit)) ⌝ }
 {
     let mut function = zeros();
@@ -350,7 +365,8 @@ fn show_trace(header: Header, trace: &[u8], letters: usize, out: &mut [u8]) -> S
         &mut representative,
     );
     match outcome {
-        Outcome::Infeasible(k) => Shown::Infeasible(k),
+        Outcome::Malformed(k) => Shown::Refused(4, k),
+        Outcome::Infeasible(k) => name_infeasible(header, trace, letters, k),
         Outcome::Feasible(count) => show_model(
             header,
             &function,
@@ -369,9 +385,15 @@ fn show_trace(header: Header, trace: &[u8], letters: usize, out: &mut [u8]) -> S
 pub fn show(trace: &[u8], out: &mut [u8]) -> Shown
     ensures { λ r. ⌜ Showed (now (trace .entry)) (now (out .entry)) r (now (out .exit)) ⌝ }
 {
-    let read = traces::read_trace_within(trace, 1024);
-    match read {
-        TraceRead::Refused(number, place) => Shown::Refused(number, place),
-        TraceRead::Trace(header, letters) => show_trace(header, trace, letters as usize, out),
+    let begun = traces::read_beginning(trace);
+    match begun {
+        HeaderRead::Refused(number) => Shown::Refused(number, 0),
+        HeaderRead::Header(header) => {
+            let letters = trace.len() / 2 - 1;
+            if MOST_LETTERS < letters {
+                return Shown::Refused(5, 0);
+            }
+            show_trace(header, trace, letters, out)
+        }
     }
 }

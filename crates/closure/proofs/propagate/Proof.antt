@@ -3,7 +3,7 @@ use native.Mathlib.Omega.{arith}
 use borrow.Author.Needs.{needs}
 use Rattle.closure.specs.Arrays.{Underway, total}
 use Rattle.closure.specs.Entering.{readable, readable-at}
-use Rattle.closure.specs.Propagation.{found-below, underway-same, resume-ready, underway-union, less-union, underway-end}
+use Rattle.closure.specs.Propagation.{named, found-below, underway-same, resume-ready, underway-union, less-union, underway-end}
 use Rattle.closure.proofs.propagate.Statement.{statement}
 use Rattle.closure.proofs.propagate.Tie as tie
 
@@ -34,8 +34,8 @@ propagate-spec =
     (λ c. let h = (c .before .before .before .before .before .before .before .before .before .before .loop-test .taken) in let w = (c .before .before .before .before .before .before .before .before .before .before .before .loop .inv .joined .formed .within) in omega arith)
     (λ c. let h = (c .before .before .before .before .before .before .before .before .before .before .loop-test .taken) in let w = (c .before .before .before .before .before .before .before .before .before .before .before .loop .inv .joined .formed .within) in omega arith)
     (λ c κs. search needs)
-    (λ c κs. let g = found-below _ _ _ _ _ _ _ _ _ _ (c .before .before .before .before .before .before .before .before .before .before .before .before .before .before .loop .inv) (c .before .before .before .before .before .before .before .before .before .before .before .before .before .loop-test .taken) _ _ (c .before .before .before .before .before .before .before .before .before .before .before .signature-at .ensures) _ _ (c .before .before .before .before .before .before .before .enter .ensures) in let h = (c .before .before .before .before .before .before .before .before .before .before .before .before .before .loop-test .taken) in let w = (c .before .before .before .before .before .before .before .before .before .before .before .before .before .before .loop .inv .joined .formed .within) in (w, omega arith, omega arith))
-    (λ c κs. resume-ready _ _ _ _ _ _ _ _ _ _ (c .before .before .before .before .before .before .before .before .before .before .before .before .before .before .before .before .before .loop .inv) (c .before .before .before .before .before .before .before .before .before .before .before .before .before .before .before .before .loop-test .taken) _ _ (c .before .before .before .before .before .before .before .before .before .before .before .before .before .before .signature-at .ensures) _ _ (c .before .before .before .before .before .before .before .before .before .before .enter .ensures) (c .before .before .before .before .before .before .before .if1 .left) _ (c .before .before .before .before .higher .ensures))
-    (λ c. less-union _ _ _ _ _ _ _ _ _ _ (c .before .before .before .before .before .before .before .before .before .before .before .before .before .before .before .before .before .before .loop .inv) (c .before .before .before .before .before .before .before .before .before .before .before .before .before .before .before .before .before .loop-test .taken) _ _ (c .before .before .before .before .before .before .before .before .before .before .before .before .before .before .before .signature-at .ensures) _ _ (c .before .before .before .before .before .before .before .before .before .before .before .enter .ensures) (c .before .before .before .before .before .before .before .before .if1 .left) _ _ (c .before .before .before .unite .ensures))
-    (λ c. underway-union _ _ _ _ _ _ _ _ _ _ (c .before .before .before .before .before .before .before .before .before .before .before .before .before .before .before .before .before .before .loop .inv) (c .before .before .before .before .before .before .before .before .before .before .before .before .before .before .before .before .before .loop-test .taken) _ _ (c .before .before .before .before .before .before .before .before .before .before .before .before .before .before .before .signature-at .ensures) _ _ (c .before .before .before .before .before .before .before .before .before .before .before .enter .ensures) (c .before .before .before .before .before .before .before .before .if1 .left) _ _ _ _ (c .before .before .before .unite .ensures) (c .before .before .before .before .before .higher .ensures) (c .resume .ensures))
+    (λ c κs. resume-ready _ _ _ _ _ _ _ _ _ _ (c .before .before .before .before .before .before .before .before .before .before .before .before .before .before .before .before .loop .inv) (c .before .before .before .before .before .before .before .before .before .before .before .before .before .before .before .loop-test .taken) _ _ (c .before .before .before .before .before .before .before .before .before .before .before .before .before .signature-at .ensures) _ _ (c .before .before .before .before .before .before .before .before .before .enter .ensures) (c .before .before .before .before .before .before .if1 .left) _ (c .before .before .before .higher .ensures))
+    (λ c κs. ((c .before .before .before .before .before .before .before .before .before .before .before .before .before .before .before .before .before .before .loop .inv .joined .formed .within), found-below _ _ _ _ _ _ _ _ _ _ (c .before .before .before .before .before .before .before .before .before .before .before .before .before .before .before .before .before .before .loop .inv) (c .before .before .before .before .before .before .before .before .before .before .before .before .before .before .before .before .before .loop-test .taken) _ _ (c .before .before .before .before .before .before .before .before .before .before .before .before .before .before .before .signature-at .ensures) _ _ (c .before .before .before .before .before .before .before .before .before .before .before .enter .ensures), (c .before .before .before .before .before .before .before .before .before .before .before .before .before .before .before .before .before .loop-test .taken), named (c .before .before .before .before .before .before .before .before .before .before .before .before .before .before .before .before .before .before .loop .inv .joined .formed)))
+    (λ c. less-union _ _ _ _ _ _ _ _ _ _ (c .before .before .before .before .before .before .before .before .before .before .before .before .before .before .before .before .before .before .before .loop .inv) (c .before .before .before .before .before .before .before .before .before .before .before .before .before .before .before .before .before .before .loop-test .taken) _ _ (c .before .before .before .before .before .before .before .before .before .before .before .before .before .before .before .before .signature-at .ensures) _ _ (c .before .before .before .before .before .before .before .before .before .before .before .before .enter .ensures) (c .before .before .before .before .before .before .before .before .before .if1 .left) _ _ (c .unite .ensures))
+    (λ c. underway-union _ _ _ _ _ _ _ _ _ _ (c .before .before .before .before .before .before .before .before .before .before .before .before .before .before .before .before .before .before .before .loop .inv) (c .before .before .before .before .before .before .before .before .before .before .before .before .before .before .before .before .before .before .loop-test .taken) _ _ (c .before .before .before .before .before .before .before .before .before .before .before .before .before .before .before .before .signature-at .ensures) _ _ (c .before .before .before .before .before .before .before .before .before .before .before .before .enter .ensures) (c .before .before .before .before .before .before .before .before .before .if1 .left) _ _ _ _ (c .unite .ensures) (c .before .before .before .before .before .before .higher .ensures) (c .before .before .resume .ensures))
     (λ c. underway-end _ _ _ _ _ _ _ _ _ _ (c .before .loop .inv) (c .loop-test .left)))

@@ -1,7 +1,7 @@
-use Prim.Native.Nat.{_-_}
+use native.Mathlib.Omega.{arith}
 use mathlib.Core.List.{[]}
 use borrow.Author.Needs.{needs}
-use Rattle.shown.specs.AnswerLaws.{showed-refused, reads}
+use Rattle.shown.specs.AnswerLaws.{showed-refused, bytes-enough, showed-long, begun}
 use Rattle.shown.proofs.show.Statement.{statement}
 use Rattle.shown.proofs.show.Tie as tie
 
@@ -12,7 +12,9 @@ show-spec =
     (λ c κs. search needs)
     (λ c. search needs)
     (λ c. search needs)
-    (λ c κs. reads _ _ (c .before .before .before .before .read-trace-within .ensures) [] (c .before .before .read2 .given .1))
-    (λ c. showed-refused _ _ (c .before .before .before .read-trace-within .ensures) _ (c .before .read .given .1))
+    (λ c. let h = bytes-enough _ _ (c .before .before .before .read-beginning .ensures) [] (c .before .begun2 .given .1) in omega arith)
+    (λ c. showed-long _ _ (c .before .before .before .before .read-beginning .ensures) _ (c .before .before .begun2 .given .1) (c .if1 .taken))
+    (λ c κs. begun _ _ (c .before .before .before .before .before .read-beginning .ensures) [] (c .before .before .before .begun2 .given .1) (c .before .if1 .left))
+    (λ c. showed-refused _ _ (c .before .before .before .read-beginning .ensures) _ (c .before .begun .given .1))
     (λ c. search needs)
     (λ c. search needs))

@@ -1,7 +1,7 @@
 use Prim.Native.Nat.{_-_}
 use mathlib.Core.List.{[]}
 use borrow.Author.Needs.{needs}
-use Rattle.shown.specs.AnswerLaws.{showed-infeasible, showed-model, known}
+use Rattle.shown.specs.AnswerLaws.{showed-malformed, showed-stopped, showed-model, known}
 use Rattle.shown.proofs.show_trace.Statement.{statement}
 use Rattle.shown.proofs.show_trace.Tie as tie
 
@@ -16,7 +16,10 @@ show-trace-spec =
     (λ c κs. search needs)
     (λ c. search needs)
     (λ c. search needs)
-    (λ c κs. known _ _ _ (c .before .before .before .before .before .before .before .before .before .before .before .before .before .before .before .before .before .before .before .pre) [] _ (c .before .before .before .before .before .before .before .before .run .ensures) (c .before .before .before .before .before .before .outcome2 .given .1))
-    (λ c. showed-infeasible _ _ _ (c .before .before .before .before .before .before .before .before .before .before .before .before .before .before .pre) _ _ (c .before .before .before .run .ensures) (c .before .outcome .given .1))
+    (λ c κs. search needs)
     (λ c. search needs)
-    (λ c. showed-model _ _ _ (c .before .before .before .before .before .before .before .before .before .before .before .before .before .before .before .before .before .before .before .before .before .before .pre) _ _ (c .before .before .before .before .before .before .before .before .before .before .before .run .ensures) (c .before .before .before .before .before .before .before .before .before .outcome2 .given .1) _ _ (c .before .before .show-model .ensures)))
+    (λ c κs. known _ _ _ (c .before .before .before .before .before .before .before .before .before .before .before .before .before .before .before .before .before .before .before .pre) [] _ (c .before .before .before .before .before .before .before .before .run .ensures) (c .before .before .before .before .before .before .outcome3 .given .1))
+    (λ c. showed-malformed _ _ _ (c .before .before .before .before .before .before .before .before .before .before .before .before .before .before .pre) _ _ (c .before .before .before .run .ensures) (c .before .outcome .given .1))
+    (λ c. showed-stopped _ _ _ (c .before .before .before .before .before .before .before .before .before .before .before .before .before .before .before .pre) _ _ (c .before .before .before .before .run .ensures) (c .before .before .outcome2 .given .1) _ (c .name-infeasible .ensures))
+    (λ c. search needs)
+    (λ c. showed-model _ _ _ (c .before .before .before .before .before .before .before .before .before .before .before .before .before .before .before .before .before .before .before .before .before .before .pre) _ _ (c .before .before .before .before .before .before .before .before .before .before .before .run .ensures) (c .before .before .before .before .before .before .before .before .before .outcome3 .given .1) _ _ (c .before .before .show-model .ensures)))

@@ -1,0 +1,35 @@
+use Prim.Native.Nat.{_%_, _≤_}
+use native.Mathlib.Omega.{arith}
+use mathlib.Core.Path.{refl, ap}
+use native.Mathlib.Nat.{mod-lt}
+use borrow.Author.Needs.{needs}
+use Rattle.closure.specs.Index.{Undoing, undoing-start, undoing-turn, undoing-end}
+use Rattle.closure.specs.Entering.{readable-at}
+use Rattle.closure.proofs.undo.Statement.{statement}
+use Rattle.closure.proofs.undo.Tie as tie
+
+abbrev Inv-loop : tie.InvT-loop
+Inv-loop representative function first second head₀ link registers i bound k₀ head k = (k ≤ i) × Undoing head₀ link bound head k
+
+abbrev μ-loop : tie.MeasureT-loop
+μ-loop representative function first second head₀ link registers i bound k₀ head k = k
+
+pub undo-spec : {M : Type 1} → statement M
+undo-spec =
+    tie.close
+    (tie.spec
+    Inv-loop
+    μ-loop
+    (λ c. (omega arith, undoing-start _ _ _ _ (c .pre .1) (c .pre .4)))
+    (λ c. search needs)
+    (λ c κs. readable-at _ (c .before .before .pre .0) (let h = (c .before .loop .inv .0) in let t = (c .loop-test .taken) in omega arith))
+    (λ c. search needs)
+    (λ c. search needs)
+    (λ c. let h = (c .before .before .before .loop .inv .0) in let t = (c .before .before .loop-test .taken) in let w = (c .before .before .before .before .pre .0 .within) in omega arith)
+    (λ c. let h = (c .before .before .before .loop .inv .0) in let t = (c .before .before .loop-test .taken) in let w = (c .before .before .before .before .pre .0 .within) in omega arith)
+    (λ c κs. search needs)
+    (λ c. search needs)
+    (λ c. search needs)
+    (λ c. let t = (c .before .before .before .before .loop-test .taken) in omega arith)
+    (λ c. (let h = (c .before .before .before .before .before .loop .inv .0) in let t = (c .before .before .before .before .loop-test .taken) in omega arith, undoing-turn _ _ _ _ _ _ (c .before .before .before .before .before .before .pre .2) (c .before .before .before .before .before .before .pre .0 .some) (c .before .before .before .before .before .before .pre .3) _ _ _ _ _ (c .before .before .before .before .before .loop .inv .1) (c .before .before .before .before .loop-test .taken) refl (ap (λ s. s % 1021) (c .before .before .before .signature-at .ensures)) (mod-lt _ (omega arith)) (c .without-last .ensures)))
+    (λ c. undoing-end _ _ _ _ _ (c .before .loop .inv .1) (c .loop-test .left)))
