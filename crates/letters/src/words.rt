@@ -17,7 +17,8 @@ ghost use Rattle.letters.specs.Packing.{Sized, join, split};
 ghost use Rattle.letters.specs.Editions.{firstEdition};
 ghost use Rattle.letters.specs.Answers.{headerAnswer, letterAnswer, headerWordAnswer, letterWordAnswer};
 ghost use Rattle.letters.specs.Words.{bitsFrom, headerFields, headerWord, letterFields, letterWord, headerTest, fitsTest, applyTest};
-ghost use Rattle.letters.specs.Words.{headerOf, letterBy, letterOf, encodeHeader, encodeLetter, decodeHeader, decodeLetter};
+ghost use Rattle.letters.specs.Fields.{Counted};
+ghost use Rattle.letters.specs.Words.{headerOf, letterBy, encodeHeader, encodeLetter, decodeHeader, decodeLetter};
 
 /// Two bytes as a word, the first the more significant.
 pub fn word(high: u8, low: u8) -> u16
@@ -259,29 +260,89 @@ pub fn letter_by(h: Header, kind: u8, function: u8, target: u8, first: u8, secon
     Letter::Unequal { first, second }
 }
 
-// The letter that a word's fields name, well formed or not.
-fn named_letter(h: Header, word: u16) -> Letter
-    ensures { λ r. ⌜ r ≡ letterOf h (split (firstEdition .letter) word) ⌝ }
+// The application in a word whose fields every kind of letter may have.
+fn decode_application(h: Header, word: u16) -> DecodedLetter
+    requires { ⌜ Counted h word × (word / 16384 % 4 ≡ 1) ⌝ }
+    ensures { λ r. ⌜ letterAnswer r ≡ decodeLetter firstEdition h word ⌝ }
 {
-    let kind = (word / 16384 % 4) as u8;
     let function = (word / 4096 % 4) as u8;
     let target = (word / 512 % 8) as u8;
     let first = (word / 64 % 8) as u8;
     let second = (word / 8 % 8) as u8;
-    letter_by(h, kind, function, target, first, second)
+    if h.functions <= function {
+        return DecodedLetter::Malformed;
+    }
+    if takes_two(h, function) {
+        return DecodedLetter::Letter(Letter::Apply {
+            target,
+            function,
+            first,
+            second,
+        });
+    }
+    if second != 0 {
+        return DecodedLetter::Malformed;
+    }
+    DecodedLetter::Letter(Letter::Apply {
+        target,
+        function,
+        first,
+        second: first,
+    })
 }
 
-/// The well-formed letter that packs to this word under a header, if there is one.
+// The copy or test in a word whose fields every kind of letter may have.
+fn decode_plain(h: Header, word: u16) -> DecodedLetter
+    requires { ⌜ Counted h word × (word / 16384 % 4 ≡ 1 → ⊥) ⌝ }
+    ensures { λ r. ⌜ letterAnswer r ≡ decodeLetter firstEdition h word ⌝ }
+{
+    let kind = word / 16384 % 4;
+    let target = (word / 512 % 8) as u8;
+    let first = (word / 64 % 8) as u8;
+    let second = (word / 8 % 8) as u8;
+    if word / 4096 % 4 != 0 {
+        return DecodedLetter::Malformed;
+    }
+    if kind == 0 {
+        if second != 0 {
+            return DecodedLetter::Malformed;
+        }
+        return DecodedLetter::Letter(Letter::Copy {
+            target,
+            source: first,
+        });
+    }
+    if target != 0 {
+        return DecodedLetter::Malformed;
+    }
+    if kind == 2 {
+        return DecodedLetter::Letter(Letter::Equal { first, second });
+    }
+    DecodedLetter::Letter(Letter::Unequal { first, second })
+}
+
+/// The well-formed letter that packs to this word under a header, if there is one. A field that a letter does not use is 0, which is a
+/// register of every header, so all three are held against the count before the kind is looked at.
 pub fn decode_letter(h: Header, word: u16) -> DecodedLetter
     ensures { λ r. ⌜ letterAnswer r ≡ decodeLetter firstEdition h word ⌝ }
 {
-    let letter = named_letter(h, word);
-    let encoded = encode_letter(h, letter);
-    let Encoded::Word(again) = encoded else {
+    if !header_fits(h) {
         return DecodedLetter::Malformed;
-    };
-    if again == word {
-        return DecodedLetter::Letter(letter);
     }
-    DecodedLetter::Malformed
+    if word % 8 != 0 {
+        return DecodedLetter::Malformed;
+    }
+    if h.registers <= (word / 512 % 8) as u8 {
+        return DecodedLetter::Malformed;
+    }
+    if h.registers <= (word / 64 % 8) as u8 {
+        return DecodedLetter::Malformed;
+    }
+    if h.registers <= (word / 8 % 8) as u8 {
+        return DecodedLetter::Malformed;
+    }
+    if word / 16384 % 4 == 1 {
+        return decode_application(h, word);
+    }
+    decode_plain(h, word)
 }

@@ -2,6 +2,7 @@
 pub mod Monitor
 pub mod Run
 pub mod Stream
+pub mod SlotRun
 -- Laws.
 pub mod MonitorLaws
 pub mod NumberLaws

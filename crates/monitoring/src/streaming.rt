@@ -1,30 +1,21 @@
 // The run over a trace's bytes, all at once or one by one. Questions 1 and 2 are about the whole length, so they are answered at the end.
-use super::Monitor;
 use super::Phase;
 use super::Run;
 use super::Stream;
 use super::Verdict;
+use super::by_slots::take_slots;
+use super::by_tables::take_tables;
 use super::numbering::begin;
-use super::numbering::first;
-use super::numbering::next_number;
 use super::numbering::take;
 use super::starting::idle;
-use letters::DecodedLetter;
-use letters::Header;
-use letters::Letter;
-use letters::words::decode_letter;
 use letters::words::word;
-use window::Window;
-use window::judge;
-use window::perform;
 ghost use mathlib.Core.Path.{_≡_};
 ghost use mathlib.Core.Bool.{true};
 ghost use mathlib.Core.List.{[], _∷_};
 ghost use Prim.Native.Nat.{_≤_, _<_};
 ghost use lib.ListN.{length, drop};
-ghost use Rattle.window.specs.Perform.{Within};
 ghost use Rattle.monitoring.specs.Demand2.{Demand2};
-ghost use Rattle.monitoring.specs.Run.{verdictAnswer, performedOf, runOf};
+ghost use Rattle.monitoring.specs.Run.{verdictAnswer};
 ghost use Rattle.monitoring.specs.Stream.{takenAll, atLetter, pushedAll, answerOf};
 ghost use Rattle.monitoring.specs.Meanings.{StreamStarts, StreamPushes, StreamFinishes};
 
@@ -96,35 +87,10 @@ pub fn finish(s: Stream) -> Verdict
     }
 }
 
-// The window after a letter, which is performed only if it is fine.
-fn performed(window: Window, fine: bool, letter: Letter) -> Window
-    requires { ⌜ Within letter ⌝ }
-    ensures { λ r. ⌜ r ≡ performedOf window fine letter ⌝ }
-{
-    if fine {
-        return perform(window, letter);
-    }
-    window
-}
+// From so many bytes on it pays to put the classes into slots and back, which takes as long as some hundred letters.
+const SLOTS_FROM: usize = 1024;
 
-// A run from its parts.
-fn run_of(header: Header, window: Window, running: bool, letters: u64, verdict: Verdict) -> Run
-    ensures { λ r. ⌜ r ≡ runOf header window running letters verdict ⌝ }
-{
-    let monitor = Monitor {
-        header,
-        window,
-        running,
-    };
-    Run {
-        monitor,
-        letters,
-        verdict,
-    }
-}
-
-// Takes the letters whose words are the bytes from `start` on; a last byte without its other half is left alone. The parts of the run
-// are kept apart, so that a letter copies no more than the window.
+// Takes the letters whose words are the bytes from `start` on; a last byte without its other half is left alone.
 fn take_all(run: Run, bytes: &[u8], start: usize) -> Run
     requires { ⌜ start ≤ length (now bytes) ⌝ }
     ensures { λ r. ⌜ r ≡ takenAll run (drop start (now (bytes .entry))) ⌝ }
@@ -135,28 +101,13 @@ fn take_all(run: Run, bytes: &[u8], start: usize) -> Run
     };
     let monitor = run.monitor;
     let header = monitor.header;
-    let mut window = monitor.window;
-    let mut running = monitor.running;
-    let mut letters = run.letters;
-    let mut incoherent = one;
-    let mut infeasible = two;
-    let mut i = start;
-    while bytes.len() - i > 1 {
-        let decoded = decode_letter(header, word(bytes[i], bytes[i + 1]));
-        let number = next_number(letters);
-        let DecodedLetter::Letter(letter) = decoded else {
-            let refused = Verdict::Refused(4, number);
-            return run_of(header, window, running, letters, refused);
-        };
-        running = running & judge(window, letter);
-        window = performed(window, running, letter);
-        letters = number;
-        incoherent = first(incoherent, !running, number);
-        infeasible = first(infeasible, window.infeasible, number);
-        i = i + 2;
+    let window = monitor.window;
+    let running = monitor.running;
+    let letters = run.letters;
+    if bytes.len() - start < SLOTS_FROM {
+        return take_tables(header, window, running, letters, one, two, bytes, start);
     }
-    let judged = Verdict::Judged(incoherent, infeasible);
-    run_of(header, window, running, letters, judged)
+    take_slots(header, window, running, letters, one, two, bytes, start)
 }
 
 // Whether the next byte begins a letter.

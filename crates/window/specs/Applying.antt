@@ -42,7 +42,7 @@ at x r = go (eqb r x) refl
 
 -- ---- a mask that x has left, and the tables that x has left
 
-gone-is : (m x j : ℕ) → T (has (movedOf m 0 (2 ^ x)) j) ↔ (T (has m j) × (j ≢ x))
+pub gone-is : (m x j : ℕ) → T (has (movedOf m 0 (2 ^ x)) j) ↔ (T (has m j) × (j ≢ x))
 gone-is m x j = ⊎-elim
     (λ e. Iff·trans (moved-in 0 m 0 (2 ^ x) j (none-small 0) (single-is x j .1 e)) ((λ (d, t, _). absurd (none-in d t)), (λ (_, n). absurd (n e))))
     (λ n. Iff·trans (moved-out m 0 (2 ^ x) j (λ t. n (single-is x j .0 t))) ((λ t. (t, n)), (λ (t, _). t)))
@@ -54,7 +54,7 @@ module _ (ρ φ : ℕ) where
   forgotten-length x l = cleared-length (columns ρ) x (bitsMoved 0 (2 ^ x) l) ∙ moved-length 0 (2 ^ x) l
 
   -- a table of masks: x has the empty mask and is in no other
-  forgotten-is : (x : ℕ) (l : List ℕ) (j r s : ℕ) → r < ρ → ρ * j + r < length l → T (has (getD (masksForgotten ρ x l) (ρ * j + r) 0) s) ↔ ((r ≢ x) × T (has (getD l (ρ * j + r) 0) s) × (s ≢ x))
+  pub forgotten-is : (x : ℕ) (l : List ℕ) (j r s : ℕ) → r < ρ → ρ * j + r < length l → T (has (getD (masksForgotten ρ x l) (ρ * j + r) 0) s) ↔ ((r ≢ x) × T (has (getD l (ρ * j + r) 0) s) × (s ≢ x))
   unfolding masksForgotten clearedAt
   forgotten-is x l j r s rb h =
       let B = bitsMoved 0 (2 ^ x) l in
@@ -67,7 +67,7 @@ module _ (ρ φ : ℕ) where
       Iff·trans (same-iff (ap (λ m. has m s) z)) (Iff·trans (gone-is (getD l (ρ * j + r) 0) x s) ((λ (t, n). (p, t, n)), (λ (_, t, n). (t, n)))))
       (eq-or r x)
 
-  row-forgotten : (x : ℕ) (l : List ℕ) (r s : ℕ) → length l ≡ ρ → r < ρ → T (has (getD (masksForgotten ρ x l) r 0) s) ↔ ((r ≢ x) × T (has (getD l r 0) s) × (s ≢ x))
+  pub row-forgotten : (x : ℕ) (l : List ℕ) (r s : ℕ) → length l ≡ ρ → r < ρ → T (has (getD (masksForgotten ρ x l) r 0) s) ↔ ((r ≢ x) × T (has (getD l r 0) s) × (s ≢ x))
   row-forgotten x l r s e rb = subst (λ k. T (has (getD (masksForgotten ρ x l) k 0) s) ↔ ((r ≢ x) × T (has (getD l k 0) s) × (s ≢ x))) (omega arith) (forgotten-is x l 0 r s rb (omega arith))
 
   -- the table of results: x is no argument, and holds the new result only

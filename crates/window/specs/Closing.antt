@@ -41,19 +41,19 @@ module _ (ρ φ : ℕ) where
   -- ---- an entry in two classes
 
   -- the lowest register of a mask is in it
-  name-in : (m : ℕ) → leastIn ρ m < ρ → T (has m (leastIn ρ m))
+  pub name-in : (m : ℕ) → leastIn ρ m < ρ → T (has m (leastIn ρ m))
   name-in m h = truth (has m (leastIn ρ m)) (least-in ρ m h)
 
-  name-some : (m c : ℕ) → c < ρ → T (has m c) → leastIn ρ m < ρ
+  pub name-some : (m c : ℕ) → c < ρ → T (has m c) → leastIn ρ m < ρ
   name-some m c b t = ⊎-elim (λ l. l) (λ l. absurd (no-truth (has m c) (least-below ρ m c (omega arith)) t)) (less-or (leastIn ρ m) ρ)
 
-  rest-is : (class : List ℕ) (entry c : ℕ) → T (has (restOf ρ φ class entry) c) → (leastIn ρ entry < ρ) × T (has entry c) × (¬ T (has (getD class (leastIn ρ entry) 0) c))
+  pub rest-is : (class : List ℕ) (entry c : ℕ) → T (has (restOf ρ φ class entry) c) → (leastIn ρ entry < ρ) × T (has entry c) × (¬ T (has (getD class (leastIn ρ entry) 0) c))
   unfolding restOf
   rest-is class entry c = byTest (ltb (leastIn ρ entry) ρ)
       (λ t. rw t (λ k. let (p, q) = minus-is entry (getD class (leastIn ρ entry) 0) c .0 k in (ltb-true (leastIn ρ entry) ρ t, p, q)))
       (λ t. rw t (λ k. absurd (none-in c k)))
 
-  rest-none : (class : List ℕ) (entry : ℕ) → ¬ T (nonempty ρ (restOf ρ φ class entry)) → (c : ℕ) → c < ρ → T (has entry c) → (leastIn ρ entry < ρ) × T (has (getD class (leastIn ρ entry) 0) c)
+  pub rest-none : (class : List ℕ) (entry : ℕ) → ¬ T (nonempty ρ (restOf ρ φ class entry)) → (c : ℕ) → c < ρ → T (has entry c) → (leastIn ρ entry < ρ) × T (has (getD class (leastIn ρ entry) 0) c)
   unfolding restOf
   rest-none class entry = byTest (ltb (leastIn ρ entry) ρ)
       (λ t. rw t (λ n c b k. (ltb-true (leastIn ρ entry) ρ t, ⊎-elim (λ u. u) (λ u. absurd (n (nonempty-is ρ (minus entry (getD class (leastIn ρ entry) 0)) .1 (c, b, minus-is entry (getD class (leastIn ρ entry) 0) c .1 (k, u))))) (or-not (has (getD class (leastIn ρ entry) 0) c)))))

@@ -75,7 +75,7 @@ module _ (ρ φ : ℕ) where
     pub infeasible : r .infeasible ≡ (w .infeasible || bad)
     pub unequal : (k : ℕ) → k < ρ → getD (r .unequal) k 0 ≡ cond (w .infeasible || bad) 0 (getD (w .unequal) k 0)
 
-  settled-is : (w : Window) (bad : Bool) → Settled w bad (settledOf ρ φ w bad)
+  pub settled-is : (w : Window) (bad : Bool) → Settled w bad (settledOf ρ φ w bad)
   unfolding settledOf
   settled-is w bad = byTest (w .infeasible || bad)
       (λ t. rw t (record { class = refl; result = refl; ever = refl; mark = refl; infeasible = sym t; unequal = λ k b. getD-replicate ρ k 0 0 b ∙ ap (λ z. cond z 0 (getD (w .unequal) k 0)) (sym t) }))
@@ -106,7 +106,7 @@ module _ (ρ φ : ℕ) where
         (λ t. ((λ k. absurd (no-truth (has 0 b) (none-zero b) (subst (λ m. T (has m b)) (e .unequal a ab ∙ rw t) k))), (λ (n, k). absurd (n (truth (view ρ φ r .infeasible) (e .infeasible ∙ t))))))
         (λ t. let i = same-iff (ap (λ m. has m b) (e .unequal a ab ∙ rw t)) in ((λ k. ((λ u. no-truth (view ρ φ r .infeasible) (e .infeasible ∙ t) u), i .0 k)), (λ (n, k). i .1 k)))
 
-    inside-settled : (n : ℕ) → Inside ρ n (view ρ φ w) → Inside ρ n (view ρ φ r)
+    pub inside-settled : (n : ℕ) → Inside ρ n (view ρ φ w) → Inside ρ n (view ρ φ r)
     inside-settled n i = record {
       fits = i .fits;
       same = λ a b ab bb t. i .same a b ab bb (same-settled a b .0 t);
@@ -125,7 +125,7 @@ module _ (ρ φ : ℕ) where
     (λ (c, b, p, q). (c, b, subst T (sym (has-and (getD unequal a 0) others c)) (and-i (has (getD unequal a 0) c) (has others c) p q))),
   )
 
-  clash-is : (class unequal : List ℕ) (k : ℕ) → T (clashOf ρ φ class unequal k) ↔ ((r : ℕ) × (s : ℕ) × (r < k) × (s < ρ) × T (has (getD class r 0) s) × T (has (getD unequal r 0) s))
+  pub clash-is : (class unequal : List ℕ) (k : ℕ) → T (clashOf ρ φ class unequal k) ↔ ((r : ℕ) × (s : ℕ) × (r < k) × (s < ρ) × T (has (getD class r 0) s) × T (has (getD unequal r 0) s))
   unfolding clashOf
   clash-is class unequal zero = ((λ t. absurd t), (λ (r, s, h, _, _, _). absurd (omega arith)))
   clash-is class unequal (suc k) = (
@@ -158,7 +158,7 @@ module _ (ρ φ : ℕ) where
     way : Way ρ φ n (view ρ φ w) x y (closedOf ρ φ (ρ * ρ + 1) (mergedOf ρ φ w x y))
     way = closed-way ρ φ n (view ρ φ w) x y (ρ * ρ + 1) (mergedOf ρ φ w x y) start (omega arith) .0
 
-    steady : Stable ρ φ n (closedOf ρ φ (ρ * ρ + 1) (mergedOf ρ φ w x y))
+    pub steady : Stable ρ φ n (closedOf ρ φ (ρ * ρ + 1) (mergedOf ρ φ w x y))
     steady = closed-way ρ φ n (view ρ φ w) x y (ρ * ρ + 1) (mergedOf ρ φ w x y) start (omega arith) .1
 
     same-next : (a b : ℕ) → a < n → b < n → T (view ρ φ v .same a b) ↔ Joined n (view ρ φ w) x y a b

@@ -27,3 +27,4 @@ pub mod Step
 pub mod Uniqueness
 pub mod Unique
 pub mod Names
+pub mod Parts

@@ -25,11 +25,11 @@ use Rattle.window.specs.Viewing.{Shaped, Masks}
 use Rattle.window.specs.declared.Window.{Window}
 
 module _ (ρ φ : ℕ) where
-  forgotten-length : (x : ℕ) (l : List ℕ) → length (masksForgotten ρ x l) ≡ length l
+  pub forgotten-length : (x : ℕ) (l : List ℕ) → length (masksForgotten ρ x l) ≡ length l
   unfolding masksForgotten
   forgotten-length x l = cleared-length (columns ρ) x (bitsMoved 0 (2 ^ x) l) ∙ moved-length 0 (2 ^ x) l
 
-  renewed-length : (x f one two : ℕ) (l : List ℕ) → length (resultsForgotten ρ x f one two l) ≡ length l
+  pub renewed-length : (x f one two : ℕ) (l : List ℕ) → length (resultsForgotten ρ x f one two l) ≡ length l
   unfolding resultsForgotten
   renewed-length x f one two l =
       let B = bitsMoved 0 (2 ^ x) l in

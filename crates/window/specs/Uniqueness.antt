@@ -21,7 +21,7 @@ use Rattle.window.specs.Viewing.{view, Masks}
 use Rattle.window.specs.Stepping.{Holds}
 use Rattle.window.specs.declared.Window.{Window}
 
-bit-same : (m n i : ℕ) → has m i ≡ has n i → bit m i ≡ bit n i
+pub bit-same : (m n i : ℕ) → has m i ≡ has n i → bit m i ≡ bit n i
 bit-same m n i e = byTest (has m i)
     (λ t. eqb-true (bit m i) 1 t ∙ sym (eqb-true (bit n i) 1 (sym e ∙ t)))
     (λ t. let a = eqb-false (bit m i) 1 t in let b = eqb-false (bit n i) 1 (sym e ∙ t) in omega arith)

@@ -1,8 +1,9 @@
 // The window of a trace (document 01, "Terms, models, coherence"): whether a letter is coherent, and the window after it.
 use letters::Letter;
 ghost use mathlib.Core.Path.{_≡_};
-ghost use Prim.Native.Nat.{_+_, _*_, _/_, _%_, _^_, _-_, _<_, _≤_};
-ghost use mathlib.Core.Bool.{true};
+ghost use mathlib.Core.List.{List};
+ghost use Prim.Native.Nat.{ℕ, _+_, _*_, _/_, _%_, _^_, _-_, _<_, _≤_};
+ghost use mathlib.Core.Bool.{Bool, true};
 ghost use lib.Dec.{eqb};
 ghost use lib.ListN.{length};
 ghost use Rattle.base.specs.Masks.{has, leastIn, sizeOf};
@@ -11,55 +12,58 @@ ghost use Rattle.window.specs.Lines.{columns, rows, united, cleared};
 ghost use Rattle.window.specs.Through.{bitsMoved, masksThrough, resultsThrough};
 ghost use Rattle.window.specs.Adding.{partOf, lineAdded, resultsAdded, masksForgotten, resultsForgotten};
 ghost use Rattle.window.specs.Layout.{registers, functions, pairs, results};
-ghost use Rattle.window.specs.Performing.{fallenOf, withTables, copiedOf, mergedOf, restOf, findOf, closedOf, clashOf, settledOf, equalOf, partedOf, unequalOf, argumentsOf, appliedOf, ownOf, memoizingOf, earlyOf, applyOf, apartOf};
+ghost use Rattle.window.specs.Performing.{fallenOf, copiedOf, mergedOf, restOf, findOf, closedOf, clashOf, settledOf, equalOf};
+ghost use Rattle.window.specs.Performing.{partedOf, unequalOf, argumentsOf, appliedOf, ownOf, memoizingOf, earlyOf, applyOf, apartOf};
+ghost use Rattle.window.specs.Parts.{parts, Tabled, Shaped};
 ghost use Rattle.window.specs.Perform.{freshOf, Within, judgeOf, performOf};
 ghost use Rattle.window.specs.Marks.{foldedOf, unionOf, aboveOf, flagOf, belowOf, besideOf, raisedOf, lostOf, markedWith};
 
 // ---- the layout: what a window has entries for
 
-// A set of registers, a bit for each.
-type Mask = u8;
+/// A set of registers, a bit for each.
+pub type Mask = u8;
 
-// How many registers there are at most.
-const REGISTERS: usize = 8;
+/// How many registers there are at most.
+pub const REGISTERS: usize = 8;
 
-// How many functions.
-const FUNCTIONS: usize = 4;
+/// How many functions.
+pub const FUNCTIONS: usize = 4;
 
-// How many pairs of registers.
-const PAIRS: usize = REGISTERS * REGISTERS;
+/// How many pairs of registers.
+pub const PAIRS: usize = REGISTERS * REGISTERS;
 
-// How many pairs of a function and a register.
-const LINES: usize = FUNCTIONS * REGISTERS;
+/// How many pairs of a function and a register.
+pub const LINES: usize = FUNCTIONS * REGISTERS;
 
-// How many results: a function and a pair of registers each.
-const RESULTS: usize = FUNCTIONS * PAIRS;
+/// How many results: a function and a pair of registers each.
+pub const RESULTS: usize = FUNCTIONS * PAIRS;
 
 // ---- masks of registers
 
-// A class is named by its lowest register; the empty mask by their number.
-fn name(mask: Mask) -> usize
+/// A class is named by its lowest register; the empty mask by their number.
+pub fn name(mask: Mask) -> usize
     ensures { λ r. ⌜ r ≡ leastIn registers mask ⌝ }
 {
     u8::trailing_zeros(mask) as usize
 }
 
-// How many registers a class has.
-fn size(mask: Mask) -> u32
+/// How many registers a class has.
+pub fn size(mask: Mask) -> u32
     ensures { λ r. ⌜ r ≡ sizeOf registers mask ⌝ }
 {
     u8::count_ones(mask)
 }
 
-fn holds(mask: Mask, i: usize) -> bool
+/// Whether the register is in the mask.
+pub fn holds(mask: Mask, i: usize) -> bool
     requires { ⌜ i < registers ⌝ }
     ensures { λ r. ⌜ r ≡ has mask i ⌝ }
 {
     (mask >> i) % 2 == 1
 }
 
-// The mask of one register.
-fn single(i: usize) -> Mask
+/// The mask of one register.
+pub fn single(i: usize) -> Mask
     requires { ⌜ i < registers ⌝ }
     ensures { λ r. ⌜ r ≡ 2 ^ i ⌝ }
 {
@@ -67,7 +71,8 @@ fn single(i: usize) -> Mask
     one << i
 }
 
-fn inhabited(mask: Mask) -> bool
+/// Whether a register is in the mask.
+pub fn inhabited(mask: Mask) -> bool
     ensures { λ r. ⌜ r ≡ nonempty registers mask ⌝ }
 {
     name(mask) < REGISTERS
@@ -82,7 +87,8 @@ fn moved(m: Mask, from: Mask, to: Mask) -> Mask
 
 // ---- tables: lists of masks in lines, one entry for each register
 
-fn move_bits(t: &mut [Mask], from: Mask, to: Mask)
+/// In each mask, the registers `to` are in it exactly if one of `from` was.
+pub fn move_bits(t: &mut [Mask], from: Mask, to: Mask)
     ensures { λ _. ⌜ now (t .exit) ≡ bitsMoved from to (now (t .entry)) ⌝ }
 {
     let mut i: usize = 0;
@@ -92,8 +98,8 @@ fn move_bits(t: &mut [Mask], from: Mask, to: Mask)
     }
 }
 
-// Along each line of consecutive entries, r gets the union of the entries of a and b.
-fn unite_column(t: &mut [Mask], r: usize, a: usize, b: usize)
+/// Along each line of consecutive entries, r gets the union of the entries of a and b.
+pub fn unite_column(t: &mut [Mask], r: usize, a: usize, b: usize)
     requires { ⌜ (r < registers) × (a < registers) × (b < registers) × (length (now t) % registers ≡ 0) ⌝ }
     ensures { λ _. ⌜ now (t .exit) ≡ united (columns registers) (λ s. eqb s r) a b (now (t .entry)) ⌝ }
 {
@@ -105,8 +111,8 @@ fn unite_column(t: &mut [Mask], r: usize, a: usize, b: usize)
     }
 }
 
-// The same along the lines by the first argument of the table of results.
-fn unite_row(t: &mut [Mask], r: usize, a: usize, b: usize)
+/// The same along the lines by the first argument of the table of results.
+pub fn unite_row(t: &mut [Mask], r: usize, a: usize, b: usize)
     requires { ⌜ (r < registers) × (a < registers) × (b < registers) × (length (now t) ≡ results) ⌝ }
     ensures { λ _. ⌜ now (t .exit) ≡ united (rows registers) (λ s. eqb s r) a b (now (t .entry)) ⌝ }
 {
@@ -119,7 +125,8 @@ fn unite_row(t: &mut [Mask], r: usize, a: usize, b: usize)
     }
 }
 
-fn clear_column(t: &mut [Mask], x: usize)
+/// Along each line of consecutive entries, x gets the empty mask.
+pub fn clear_column(t: &mut [Mask], x: usize)
     requires { ⌜ (x < registers) × (length (now t) % registers ≡ 0) ⌝ }
     ensures { λ _. ⌜ now (t .exit) ≡ cleared (columns registers) x (now (t .entry)) ⌝ }
 {
@@ -131,7 +138,8 @@ fn clear_column(t: &mut [Mask], x: usize)
     }
 }
 
-fn clear_row(t: &mut [Mask], x: usize)
+/// The same along the lines by the first argument of the table of results.
+pub fn clear_row(t: &mut [Mask], x: usize)
     requires { ⌜ (x < registers) × (length (now t) ≡ results) ⌝ }
     ensures { λ _. ⌜ now (t .exit) ≡ cleared (rows registers) x (now (t .entry)) ⌝ }
 {
@@ -210,8 +218,8 @@ fn merge_results(t: &mut [Mask], a: usize, b: usize, to: Mask)
     move_bits(t, single(a) | single(b), to);
 }
 
-// `what` if the register is in the mask, else nothing.
-fn part(mask: Mask, what: Mask, r: usize) -> Mask
+/// `what` if the register is in the mask, else nothing.
+pub fn part(mask: Mask, what: Mask, r: usize) -> Mask
     requires { ⌜ r < registers ⌝ }
     ensures { λ v. ⌜ v ≡ partOf mask what r ⌝ }
 {
@@ -244,8 +252,8 @@ fn add_results(t: &mut [Mask], f: usize, first: Mask, second: Mask, what: Mask)
     }
 }
 
-// Register x is in no mask and has the empty one, in a table of masks.
-fn forget_masks(t: &mut [Mask], x: usize)
+/// Register x is in no mask and has the empty one, in a table of masks.
+pub fn forget_masks(t: &mut [Mask], x: usize)
     requires { ⌜ (x < registers) × (length (now t) % registers ≡ 0) ⌝ }
     ensures { λ _. ⌜ now (t .exit) ≡ masksForgotten registers x (now (t .entry)) ⌝ }
 {
@@ -355,8 +363,9 @@ fn raised(up: &[Mask; REGISTERS], seed: Mask) -> Mask
     s
 }
 
-// The registers that get a mark as x, the last of its class, loses its value: those below a result that has x as an argument or holds it, and those below `more`.
-fn lost(result: &[Mask; RESULTS], x: usize, more: Mask) -> Mask
+/// The registers that get a mark as x, the last of its class, loses its value: those below a result that has x as an argument or holds it,
+/// and those below `more`.
+pub fn lost(result: &[Mask; RESULTS], x: usize, more: Mask) -> Mask
     requires { ⌜ x < registers ⌝ }
     ensures { λ r. ⌜ r ≡ lostOf registers functions (now (result .entry)) x more ⌝ }
 {
@@ -364,18 +373,6 @@ fn lost(result: &[Mask; RESULTS], x: usize, more: Mask) -> Mask
     let up = above(&t);
     let seed = (below(&up, single(x)) | beside(&t, x)) | flag(up[x], x);
     raised(&up, seed | more)
-}
-
-fn marks(mark: [bool; REGISTERS], s: Mask) -> [bool; REGISTERS]
-    ensures { λ r. ⌜ r ≡ markedWith registers mark s ⌝ }
-{
-    let mut next = mark;
-    let mut i: usize = 0;
-    while i < REGISTERS {
-        next[i] = mark[i] | holds(s, i);
-        i = i + 1;
-    }
-    next
 }
 
 // ---- the window
@@ -396,27 +393,6 @@ pub struct Window {
     pub infeasible: bool,
 }
 
-// The window with other tables and marks.
-fn with_tables(
-    w: Window,
-    class: [Mask; REGISTERS],
-    unequal: [Mask; REGISTERS],
-    result: [Mask; RESULTS],
-    ever: [Mask; LINES],
-    mark: [bool; REGISTERS],
-) -> Window
-    ensures { λ r. ⌜ r ≡ withTables w class unequal result ever mark ⌝ }
-{
-    Window {
-        class,
-        unequal,
-        result,
-        ever,
-        mark,
-        infeasible: w.infeasible,
-    }
-}
-
 // The registers that get a mark as x, of the given class, loses its value: none if another register holds it too.
 fn fallen(class: Mask, result: &[Mask; RESULTS], x: usize, more: Mask) -> Mask
     requires { ⌜ x < registers ⌝ }
@@ -428,45 +404,69 @@ fn fallen(class: Mask, result: &[Mask; RESULTS], x: usize, more: Mask) -> Mask
     0
 }
 
-// The window after x has come to hold what y holds.
-fn copied(w: Window, x: usize, y: usize) -> Window
-    requires { ⌜ (x < registers) × (y < registers) ⌝ }
-    ensures { λ r. ⌜ r ≡ copiedOf registers functions w x y ⌝ }
+// Adds marks to lent ones.
+fn mark_in(mark: &mut [bool; REGISTERS], s: Mask)
+    requires { ⌜ length (now mark) ≡ registers ⌝ }
+    ensures { λ _. ⌜ now (mark .exit) ≡ markedWith registers (now (mark .entry)) s ⌝ }
+    ensures long { λ _. ⌜ length (now (mark .exit)) ≡ registers ⌝ }
 {
-    if holds(w.class[x], y) {
-        return w;
+    let mut i: usize = 0;
+    while i < REGISTERS {
+        mark[i] = mark[i] | holds(s, i);
+        i = i + 1;
     }
-    let mut class = w.class;
-    let mut unequal = w.unequal;
-    let mut result = w.result;
-    let mut ever = w.ever;
-    let before = w.mark;
-    let mut mark = marks(before, fallen(class[x], &result, x, 0));
-    let own = mark[y];
-    mark[x] = own;
-    copy_masks(&mut class, x, y);
-    copy_masks(&mut unequal, x, y);
-    copy_results(&mut result, x, y);
-    copy_masks(&mut ever, x, y);
-    with_tables(w, class, unequal, result, ever, mark)
 }
 
-// The classes of a and b made one.
-fn merged(w: Window, a: usize, b: usize) -> Window
-    requires { ⌜ (a < registers) × (b < registers) ⌝ }
-    ensures { λ r. ⌜ r ≡ mergedOf registers functions w a b ⌝ }
+// On lent tables: x has come to hold what y holds.
+fn copy_in(
+    class: &mut [Mask; REGISTERS],
+    unequal: &mut [Mask; REGISTERS],
+    result: &mut [Mask; RESULTS],
+    ever: &mut [Mask; LINES],
+    mark: &mut [bool; REGISTERS],
+    x: usize,
+    y: usize,
+)
+    requires { ⌜ (x < registers) × (y < registers) × Shaped (now class) (now unequal) (now result) (now ever) (now mark) ⌝ }
+    ensures { λ _. ⌜ ((b : Bool) →
+        parts (now (class .exit)) (now (unequal .exit)) (now (result .exit)) (now (ever .exit)) (now (mark .exit)) b
+        ≡ copiedOf registers functions
+        (parts (now (class .entry)) (now (unequal .entry)) (now (result .entry)) (now (ever .entry)) (now (mark .entry)) b) x y) ⌝ }
+    ensures long { λ _. ⌜ Shaped (now (class .exit)) (now (unequal .exit)) (now (result .exit)) (now (ever .exit)) (now (mark .exit)) ⌝ }
 {
-    let mut class = w.class;
-    let mut unequal = w.unequal;
-    let mut result = w.result;
-    let mut ever = w.ever;
-    let mark = w.mark;
+    let own = class[x];
+    if holds(own, y) {
+        return;
+    }
+    mark_in(mark, fallen(own, result, x, 0));
+    let held = mark[y];
+    mark[x] = held;
+    copy_masks(class, x, y);
+    copy_masks(unequal, x, y);
+    copy_results(result, x, y);
+    copy_masks(ever, x, y);
+}
+
+// On lent tables: the classes of a and b made one.
+fn merge_in(
+    class: &mut [Mask; REGISTERS],
+    unequal: &mut [Mask; REGISTERS],
+    result: &mut [Mask; RESULTS],
+    ever: &mut [Mask; LINES],
+    a: usize,
+    b: usize,
+)
+    requires { ⌜ (a < registers) × (b < registers) × Tabled (now class) (now unequal) (now result) (now ever) ⌝ }
+    ensures { λ _. ⌜ ((m : List Bool) (i : Bool) →
+        parts (now (class .exit)) (now (unequal .exit)) (now (result .exit)) (now (ever .exit)) m i
+        ≡ mergedOf registers functions (parts (now (class .entry)) (now (unequal .entry)) (now (result .entry)) (now (ever .entry)) m i) a b) ⌝ }
+    ensures long { λ _. ⌜ Tabled (now (class .exit)) (now (unequal .exit)) (now (result .exit)) (now (ever .exit)) ⌝ }
+{
     let to = (class[a] | class[b]) | single(a);
-    merge_masks(&mut class, a, b, to);
-    merge_masks(&mut unequal, a, b, to);
-    merge_results(&mut result, a, b, to);
-    merge_masks(&mut ever, a, b, to);
-    with_tables(w, class, unequal, result, ever, mark)
+    merge_masks(class, a, b, to);
+    merge_masks(unequal, a, b, to);
+    merge_results(result, a, b, to);
+    merge_masks(ever, a, b, to);
 }
 
 // The registers of the entry that are not in the class of its lowest register.
@@ -494,31 +494,35 @@ fn find(class: &[Mask; REGISTERS], result: &[Mask; RESULTS]) -> Mask
     0
 }
 
-// The window with classes made one until no result is in two classes.
-// Each turn adds a pair of registers to those that are in one class.
-fn closed(w: Window) -> Window
-    ensures { λ r. ⌜ r ≡ closedOf registers functions (pairs + 1) w ⌝ }
+// On lent tables: classes made one until no result is in two classes. Each turn adds a pair of registers to those that are in one class.
+fn close_in(
+    class: &mut [Mask; REGISTERS],
+    unequal: &mut [Mask; REGISTERS],
+    result: &mut [Mask; RESULTS],
+    ever: &mut [Mask; LINES],
+)
+    requires { ⌜ Tabled (now class) (now unequal) (now result) (now ever) ⌝ }
+    ensures { λ _. ⌜ ((m : List Bool) (i : Bool) →
+        parts (now (class .exit)) (now (unequal .exit)) (now (result .exit)) (now (ever .exit)) m i
+        ≡ closedOf registers functions (pairs + 1) (parts (now (class .entry)) (now (unequal .entry)) (now (result .entry)) (now (ever .entry)) m i)) ⌝ }
+    ensures long { λ _. ⌜ Tabled (now (class .exit)) (now (unequal .exit)) (now (result .exit)) (now (ever .exit)) ⌝ }
 {
-    let mut next = w;
     let mut fuel: usize = PAIRS + 1;
     while fuel > 0 {
-        let class = next.class;
-        let result = next.result;
-        let entry = find(&class, &result);
+        let entry = find(class, result);
         let one = name(entry);
-        let two = name(rest(&class, entry));
+        let two = name(rest(class, entry));
         if one < REGISTERS {
             if two < REGISTERS {
-                next = merged(next, one, two);
+                merge_in(class, unequal, result, ever, one, two);
                 fuel = fuel - 1;
             } else {
-                return next;
+                return;
             }
         } else {
-            return next;
+            return;
         }
     }
-    next
 }
 
 // Whether register a is known unequal to one of the others: the one place that reads the unequal pairs.
@@ -542,59 +546,77 @@ fn clash(class: &[Mask; REGISTERS], unequal: &[Mask; REGISTERS]) -> bool
     bad
 }
 
-// The window, made infeasible where it is `bad`. An infeasible window has no unequal pairs.
-fn settled(w: Window, bad: bool) -> Window
-    ensures { λ r. ⌜ r ≡ settledOf registers functions w bad ⌝ }
+// On lent unequal pairs: the window, made infeasible where it is `bad`; whether it is infeasible. An infeasible window has no unequal pairs.
+fn settle_in(unequal: &mut [Mask; REGISTERS], infeasible: bool, bad: bool) -> bool
+    ensures { λ v. ⌜ ((c r e : List ℕ) (m : List Bool) →
+        parts c (now (unequal .exit)) r e m v
+        ≡ settledOf registers functions (parts c (now (unequal .entry)) r e m infeasible) bad) ⌝ }
+    ensures long { λ _. ⌜ (length (now (unequal .entry)) ≡ registers → length (now (unequal .exit)) ≡ registers) ⌝ }
 {
-    if w.infeasible | bad {
-        let none: [Mask; REGISTERS] = [0; REGISTERS];
-        let mut next = w;
-        next.unequal = none;
-        next.infeasible = true;
-        return next;
+    if infeasible | bad {
+        *unequal = [0; REGISTERS];
+        return true;
     }
-    w
+    infeasible
 }
 
-// The window after the test x = y.
-fn equal(w: Window, x: usize, y: usize) -> Window
-    requires { ⌜ (x < registers) × (y < registers) ⌝ }
-    ensures { λ r. ⌜ r ≡ equalOf registers functions w x y ⌝ }
+// On lent tables: the test x = y; whether the trace is infeasible.
+fn equal_in(
+    class: &mut [Mask; REGISTERS],
+    unequal: &mut [Mask; REGISTERS],
+    result: &mut [Mask; RESULTS],
+    ever: &mut [Mask; LINES],
+    infeasible: bool,
+    x: usize,
+    y: usize,
+) -> bool
+    requires { ⌜ (x < registers) × (y < registers) × Tabled (now class) (now unequal) (now result) (now ever) ⌝ }
+    ensures { λ v. ⌜ ((m : List Bool) →
+        parts (now (class .exit)) (now (unequal .exit)) (now (result .exit)) (now (ever .exit)) m v
+        ≡ equalOf registers functions (parts (now (class .entry)) (now (unequal .entry)) (now (result .entry)) (now (ever .entry)) m infeasible) x y) ⌝ }
+    ensures long { λ _. ⌜ Tabled (now (class .exit)) (now (unequal .exit)) (now (result .exit)) (now (ever .exit)) ⌝ }
 {
-    if holds(w.class[x], y) {
-        return w;
+    let own = class[x];
+    if holds(own, y) {
+        return infeasible;
     }
-    let next = closed(merged(w, x, y));
-    let class = next.class;
-    let unequal = next.unequal;
-    settled(next, clash(&class, &unequal))
+    merge_in(class, unequal, result, ever, x, y);
+    close_in(class, unequal, result, ever);
+    let bad = clash(class, unequal);
+    settle_in(unequal, infeasible, bad)
 }
 
-// The unequal pairs, with the classes one and two put apart.
-fn parted(unequal: [Mask; REGISTERS], one: Mask, two: Mask) -> [Mask; REGISTERS]
-    ensures { λ r. ⌜ r ≡ partedOf registers functions unequal one two ⌝ }
+// On lent unequal pairs: the classes one and two put apart.
+fn part_in(unequal: &mut [Mask; REGISTERS], one: Mask, two: Mask)
+    requires { ⌜ length (now unequal) ≡ registers ⌝ }
+    ensures { λ _. ⌜ now (unequal .exit) ≡ partedOf registers functions (now (unequal .entry)) one two ⌝ }
+    ensures long { λ _. ⌜ length (now (unequal .exit)) ≡ registers ⌝ }
 {
-    let mut next: [Mask; REGISTERS] = [0; REGISTERS];
     let mut i: usize = 0;
     while i < REGISTERS {
-        next[i] = (unequal[i] | part(one, two, i)) | part(two, one, i);
+        unequal[i] = (unequal[i] | part(one, two, i)) | part(two, one, i);
         i = i + 1;
     }
-    next
 }
 
-// The window after the test x != y.
-fn unequal(w: Window, x: usize, y: usize) -> Window
-    requires { ⌜ (x < registers) × (y < registers) ⌝ }
-    ensures { λ r. ⌜ r ≡ unequalOf registers functions w x y ⌝ }
+// On lent tables: the test x != y; whether the trace is infeasible.
+fn unequal_in(
+    class: &[Mask; REGISTERS],
+    unequal: &mut [Mask; REGISTERS],
+    infeasible: bool,
+    x: usize,
+    y: usize,
+) -> bool
+    requires { ⌜ (x < registers) × (y < registers) × (length (now unequal) ≡ registers) ⌝ }
+    ensures { λ v. ⌜ ((r e : List ℕ) (m : List Bool) →
+        parts (now (class .entry)) (now (unequal .exit)) r e m v
+        ≡ unequalOf registers functions (parts (now (class .entry)) (now (unequal .entry)) r e m infeasible) x y) ⌝ }
+    ensures long { λ _. ⌜ length (now (unequal .exit)) ≡ registers ⌝ }
 {
-    let one = w.class[x];
-    let two = w.class[y];
-    let before = w.unequal;
-    let after = parted(before, one, two);
-    let mut next = w;
-    next.unequal = after;
-    settled(next, holds(one, y))
+    let one = class[x];
+    let two = class[y];
+    part_in(unequal, one, two);
+    settle_in(unequal, infeasible, holds(one, y))
 }
 
 // The argument classes, where one of the arguments is x.
@@ -607,40 +629,37 @@ fn arguments(x: usize, y: usize, z: usize, one: Mask, two: Mask) -> Mask
     0
 }
 
-// The computed applications, with f at the classes one and two, and none with x as an argument.
-fn renew_ever(ever: [Mask; LINES], x: usize, f: usize, one: Mask, two: Mask) -> [Mask; LINES]
-    requires { ⌜ (x < registers) × (f < functions) ⌝ }
-    ensures { λ r. ⌜ r ≡ masksForgotten registers x (lineAdded registers f one two ever) ⌝ }
+// On lent tables: x := f(y, z), a value that was never computed.
+fn new_in(
+    class: &mut [Mask; REGISTERS],
+    unequal: &mut [Mask; REGISTERS],
+    result: &mut [Mask; RESULTS],
+    ever: &mut [Mask; LINES],
+    mark: &mut [bool; REGISTERS],
+    x: usize,
+    f: usize,
+    y: usize,
+    z: usize,
+)
+    requires { ⌜ (x < registers) × (f < functions) × (y < registers) × (z < registers)
+        × Shaped (now class) (now unequal) (now result) (now ever) (now mark) ⌝ }
+    ensures { λ _. ⌜ ((i : Bool) →
+        parts (now (class .exit)) (now (unequal .exit)) (now (result .exit)) (now (ever .exit)) (now (mark .exit)) i
+        ≡ appliedOf registers functions
+        (parts (now (class .entry)) (now (unequal .entry)) (now (result .entry)) (now (ever .entry)) (now (mark .entry)) i) x f y z) ⌝ }
+    ensures long { λ _. ⌜ Shaped (now (class .exit)) (now (unequal .exit)) (now (result .exit)) (now (ever .exit)) (now (mark .exit)) ⌝ }
 {
-    let mut next = ever;
-    add_line(&mut next, f, one, two);
-    forget_masks(&mut next, x);
-    next
-}
-
-// The window after x := f(y, z), a value that was never computed.
-fn applied(w: Window, x: usize, f: usize, y: usize, z: usize) -> Window
-    requires { ⌜ (x < registers) × (f < functions) × (y < registers) × (z < registers) ⌝ }
-    ensures { λ r. ⌜ r ≡ appliedOf registers functions w x f y z ⌝ }
-{
-    let mut class = w.class;
-    let mut unequal = w.unequal;
-    let mut result = w.result;
-    let before = w.mark;
     let one = class[y];
     let two = class[z];
-    let mut mark = marks(
-        before,
-        fallen(class[x], &result, x, arguments(x, y, z, one, two)),
-    );
+    let own = class[x];
+    mark_in(mark, fallen(own, result, x, arguments(x, y, z, one, two)));
     mark[x] = false;
-    forget_masks(&mut class, x);
+    forget_masks(class, x);
     class[x] = single(x);
-    forget_masks(&mut unequal, x);
-    renew_results(&mut result, x, f, one, two);
-    let computed = w.ever;
-    let ever = renew_ever(computed, x, f, one, two);
-    with_tables(w, class, unequal, result, ever, mark)
+    forget_masks(unequal, x);
+    renew_results(result, x, f, one, two);
+    add_line(ever, f, one, two);
+    forget_masks(ever, x);
 }
 
 // The class of register i at the start.
@@ -680,35 +699,39 @@ pub fn fresh(registers: u8) -> Window
 }
 
 // Whether x := f(y, z) is coherent: a register holds its value, or it was never computed ("memoizing").
-fn memoizing(w: Window, f: usize, y: usize, z: usize) -> bool
+fn memoizing(result: &[Mask; RESULTS], ever: &[Mask; LINES], f: usize, y: usize, z: usize) -> bool
     requires { ⌜ (f < functions) × (y < registers) × (z < registers) ⌝ }
-    ensures { λ r. ⌜ r ≡ memoizingOf registers functions w f y z ⌝ }
+    ensures { λ v. ⌜ ((c u : List ℕ) (m : List Bool) (i : Bool) → v
+        ≡ memoizingOf registers functions (parts c u (now (result .entry)) (now (ever .entry)) m i) f y z) ⌝ }
 {
-    let result = w.result;
-    let ever = w.ever;
     let at = REGISTERS * f + y;
-    if holds(ever[at], z) {
+    let line = ever[at];
+    if holds(line, z) {
         return inhabited(result[REGISTERS * at + z]);
     }
     true
 }
 
 // Whether the test x = y is coherent: nothing above either side is lost ("early").
-fn early(w: Window, x: usize, y: usize) -> bool
+fn early(mark: &[bool; REGISTERS], x: usize, y: usize) -> bool
     requires { ⌜ (x < registers) × (y < registers) ⌝ }
-    ensures { λ r. ⌜ r ≡ earlyOf w x y ⌝ }
+    ensures { λ v. ⌜ ((c u r e : List ℕ) (i : Bool) → v ≡ earlyOf (parts c u r e (now (mark .entry)) i) x y) ⌝ }
 {
-    let mark = w.mark;
     if mark[x] | mark[y] {
         return false;
     }
     true
 }
 
-/// Whether the letter is coherent after a trace with this window. Its registers lie below 8 and its function below 4, as packed ones do.
-pub fn judge(w: Window, letter: Letter) -> bool
+/// On lent tables: whether the letter is coherent after a trace with this window. Its registers lie below 8 and its function below 4, as packed ones do.
+pub fn judge_in(
+    result: &[Mask; RESULTS],
+    ever: &[Mask; LINES],
+    mark: &[bool; REGISTERS],
+    letter: Letter,
+) -> bool
     requires { ⌜ Within letter ⌝ }
-    ensures { λ r. ⌜ r ≡ judgeOf w letter ⌝ }
+    ensures { λ v. ⌜ ((c u : List ℕ) (i : Bool) → v ≡ judgeOf (parts c u (now (result .entry)) (now (ever .entry)) (now (mark .entry)) i) letter) ⌝ }
 {
     match letter {
         Letter::Copy {
@@ -720,8 +743,14 @@ pub fn judge(w: Window, letter: Letter) -> bool
             function,
             first,
             second,
-        } => memoizing(w, function as usize, first as usize, second as usize),
-        Letter::Equal { first, second } => early(w, first as usize, second as usize),
+        } => memoizing(
+            result,
+            ever,
+            function as usize,
+            first as usize,
+            second as usize,
+        ),
+        Letter::Equal { first, second } => early(mark, first as usize, second as usize),
         Letter::Unequal {
             first: _,
             second: _,
@@ -729,17 +758,108 @@ pub fn judge(w: Window, letter: Letter) -> bool
     }
 }
 
-// The window after x := f(y, z).
-fn apply(w: Window, x: usize, f: usize, y: usize, z: usize) -> Window
-    requires { ⌜ (x < registers) × (f < functions) × (y < registers) × (z < registers) ⌝ }
-    ensures { λ r. ⌜ r ≡ applyOf registers functions w x f y z ⌝ }
+/// Whether the letter is coherent after a trace with this window. Its registers lie below 8 and its function below 4, as packed ones do.
+pub fn judge(w: Window, letter: Letter) -> bool
+    requires { ⌜ Within letter ⌝ }
+    ensures { λ r. ⌜ r ≡ judgeOf w letter ⌝ }
 {
     let result = w.result;
-    let r = name(result[REGISTERS * (REGISTERS * f + y) + z]);
+    let ever = w.ever;
+    let mark = w.mark;
+    judge_in(&result, &ever, &mark, letter)
+}
+
+// On lent tables: x := f(y, z).
+fn apply_in(
+    class: &mut [Mask; REGISTERS],
+    unequal: &mut [Mask; REGISTERS],
+    result: &mut [Mask; RESULTS],
+    ever: &mut [Mask; LINES],
+    mark: &mut [bool; REGISTERS],
+    x: usize,
+    f: usize,
+    y: usize,
+    z: usize,
+)
+    requires { ⌜ (x < registers) × (f < functions) × (y < registers) × (z < registers)
+        × Shaped (now class) (now unequal) (now result) (now ever) (now mark) ⌝ }
+    ensures { λ _. ⌜ ((i : Bool) →
+        parts (now (class .exit)) (now (unequal .exit)) (now (result .exit)) (now (ever .exit)) (now (mark .exit)) i
+        ≡ applyOf registers functions
+        (parts (now (class .entry)) (now (unequal .entry)) (now (result .entry)) (now (ever .entry)) (now (mark .entry)) i) x f y z) ⌝ }
+    ensures long { λ _. ⌜ Shaped (now (class .exit)) (now (unequal .exit)) (now (result .exit)) (now (ever .exit)) (now (mark .exit)) ⌝ }
+{
+    let held = result[REGISTERS * (REGISTERS * f + y) + z];
+    let r = name(held);
     if r < REGISTERS {
-        return copied(w, x, r);
+        copy_in(class, unequal, result, ever, mark, x, r);
+        return;
     }
-    applied(w, x, f, y, z)
+    new_in(class, unequal, result, ever, mark, x, f, y, z);
+}
+
+/// On lent tables: performs a letter that is coherent; whether the trace is infeasible. Its registers lie below 8 and its function below 4.
+pub fn perform_in(
+    class: &mut [Mask; REGISTERS],
+    unequal: &mut [Mask; REGISTERS],
+    result: &mut [Mask; RESULTS],
+    ever: &mut [Mask; LINES],
+    mark: &mut [bool; REGISTERS],
+    infeasible: bool,
+    letter: Letter,
+) -> bool
+    requires { ⌜ Within letter × Shaped (now class) (now unequal) (now result) (now ever) (now mark) ⌝ }
+    ensures { λ v. ⌜ parts (now (class .exit)) (now (unequal .exit)) (now (result .exit)) (now (ever .exit)) (now (mark .exit)) v
+        ≡ performOf (parts (now (class .entry)) (now (unequal .entry)) (now (result .entry)) (now (ever .entry)) (now (mark .entry)) infeasible) letter ⌝ }
+    ensures long { λ _. ⌜ Shaped (now (class .exit)) (now (unequal .exit)) (now (result .exit)) (now (ever .exit)) (now (mark .exit)) ⌝ }
+{
+    match letter {
+        Letter::Copy { target, source } => {
+            copy_in(
+                class,
+                unequal,
+                result,
+                ever,
+                mark,
+                target as usize,
+                source as usize,
+            );
+            infeasible
+        }
+        Letter::Apply {
+            target,
+            function,
+            first,
+            second,
+        } => {
+            apply_in(
+                class,
+                unequal,
+                result,
+                ever,
+                mark,
+                target as usize,
+                function as usize,
+                first as usize,
+                second as usize,
+            );
+            infeasible
+        }
+        Letter::Equal { first, second } => {
+            equal_in(
+                class,
+                unequal,
+                result,
+                ever,
+                infeasible,
+                first as usize,
+                second as usize,
+            )
+        }
+        Letter::Unequal { first, second } => {
+            unequal_in(class, unequal, infeasible, first as usize, second as usize)
+        }
+    }
 }
 
 /// The window after a letter that is coherent. Its registers lie below 8 and its function below 4.
@@ -747,21 +867,26 @@ pub fn perform(w: Window, letter: Letter) -> Window
     requires { ⌜ Within letter ⌝ }
     ensures { λ r. ⌜ r ≡ performOf w letter ⌝ }
 {
-    match letter {
-        Letter::Copy { target, source } => copied(w, target as usize, source as usize),
-        Letter::Apply {
-            target,
-            function,
-            first,
-            second,
-        } => apply(
-            w,
-            target as usize,
-            function as usize,
-            first as usize,
-            second as usize,
-        ),
-        Letter::Equal { first, second } => equal(w, first as usize, second as usize),
-        Letter::Unequal { first, second } => unequal(w, first as usize, second as usize),
+    let mut class = w.class;
+    let mut unequal = w.unequal;
+    let mut result = w.result;
+    let mut ever = w.ever;
+    let mut mark = w.mark;
+    let infeasible = perform_in(
+        &mut class,
+        &mut unequal,
+        &mut result,
+        &mut ever,
+        &mut mark,
+        w.infeasible,
+        letter,
+    );
+    Window {
+        class,
+        unequal,
+        result,
+        ever,
+        mark,
+        infeasible,
     }
 }

@@ -5,4 +5,8 @@ use Rattle.window.proofs.early.Tie as tie
 
 pub early-spec : {M : Type 1} → statement M
 unfolding earlyOf
-early-spec = tie.close (tie.spec (λ c. search needs) (λ c. search needs) (λ c. rw (c .if1 .taken)) (λ c. rw (c .if1 .left)))
+early-spec = tie.close (tie.spec
+    (λ c. search needs)
+    (λ c. search needs)
+    (λ c κ u r e i. rw (c .if1 .taken))
+    (λ c κ u r e i. rw (c .if1 .left)))

@@ -1,22 +1,39 @@
-use mathlib.Core.Bool.{_&&_}
-use Rattle.letters.specs.Answers.{letterWordAnswer}
-use Rattle.letters.specs.Words.{headerTest, fitsTest, letterWord, encodeLetter, decodeLetter}
-use Rattle.letters.proofs.Laws.{reread-none, reread-same, reread-other}
-use Rattle.letters.specs.Editions.{firstEdition}
-use mathlib.Core.Path.{sym, ap, _∙_}
+use native.Mathlib.Omega.{arith}
 use borrow.Author.Needs.{needs}
+use Rattle.letters.proofs.Decoding.{refuse, fitting, unfitting}
 use Rattle.letters.proofs.words.decode_letter.Statement.{statement}
 use Rattle.letters.proofs.words.decode_letter.Tie as tie
 
 pub decode-letter-spec : {M : Type 1} → statement M
-unfolding encodeLetter decodeLetter
-decode-letter-spec =
-    tie.close
-    (tie.spec
+decode-letter-spec = tie.close (tie.spec
     (λ c κs. search needs)
-    (λ c κs. search needs)
+    (λ c. let a = c .before .before .args in unfitting (a .h) (a .word) _ (c .before .header-fits .ensures) (c .if1 .taken))
+    (λ c. let a = c .before .before .before .args in refuse (a .h) (a .word) (omega arith) λ p. omega (arith, p .spare))
     (λ c. search needs)
+    (λ c. let a = c .before .before .before .before .before .args in refuse (a .h) (a .word) (omega arith) λ p. omega (arith, p .target))
     (λ c. search needs)
-    (λ c. let x = c .before .before .before .named-letter .result in rw (← c .before .before .before .named-letter .ensures) (reread-none (headerTest firstEdition (c .before .before .before .before .args .h) && fitsTest (c .before .before .before .before .args .h) x) x (letterWord firstEdition (c .before .before .before .before .args .h) x) (c .before .before .before .before .args .word) 4 (sym (c .before .before .encode-letter .ensures) ∙ ap letterWordAnswer (c .enum-told .given .1))))
-    (λ c. let x = c .before .before .before .before .before .named-letter .result in rw (← c .before .before .before .before .before .named-letter .ensures) (reread-same (headerTest firstEdition (c .before .before .before .before .before .before .args .h) && fitsTest (c .before .before .before .before .before .before .args .h) x) x (letterWord firstEdition (c .before .before .before .before .before .before .args .h) x) (c .before .before .before .before .before .before .args .word) 4 _ (sym (c .before .before .before .before .encode-letter .ensures) ∙ ap letterWordAnswer (c .before .before .encoded .given .1)) (c .if1 .taken)))
-    (λ c. let x = c .before .before .before .before .before .named-letter .result in rw (← c .before .before .before .before .before .named-letter .ensures) (reread-other (headerTest firstEdition (c .before .before .before .before .before .before .args .h) && fitsTest (c .before .before .before .before .before .before .args .h) x) x (letterWord firstEdition (c .before .before .before .before .before .before .args .h) x) (c .before .before .before .before .before .before .args .word) 4 _ (sym (c .before .before .before .before .encode-letter .ensures) ∙ ap letterWordAnswer (c .before .before .encoded .given .1)) (c .if1 .left))))
+    (λ c. let a = c .before .before .before .before .before .before .before .args in refuse (a .h) (a .word) (omega arith) λ p. omega (arith, p .first))
+    (λ c. search needs)
+    (λ c. let a = c .before .before .before .before .before .before .before .before .before .args in refuse (a .h) (a .word) (omega arith) λ p. omega (arith, p .second))
+    (λ c κs. (
+      record {
+        header = fitting _ _ (c .before .before .before .before .before .before .before .before .before .header-fits .ensures) (c .before .before .before .before .before .before .before .before .if1 .left);
+        spare = omega arith;
+        target = omega arith;
+        first = omega arith;
+        second = omega arith;
+      },
+      omega arith,
+    ))
+    (λ c. search needs)
+    (λ c κs. (
+      record {
+        header = fitting _ _ (c .before .before .before .before .before .before .before .before .before .header-fits .ensures) (c .before .before .before .before .before .before .before .before .if1 .left);
+        spare = omega arith;
+        target = omega arith;
+        first = omega arith;
+        second = omega arith;
+      },
+      λ e. omega arith,
+    ))
+    (λ c. search needs))

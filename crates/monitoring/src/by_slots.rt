@@ -1,0 +1,179 @@
+// The letters of many bytes, taken on a window whose classes lie in slots.
+use super::Run;
+use super::Verdict;
+use super::by_tables::run_of;
+use super::by_tables::take_tables;
+use super::numbering::first;
+use super::numbering::next_number;
+use letters::DecodedLetter;
+use letters::Header;
+use letters::Letter;
+use letters::words::decode_letter;
+use letters::words::word;
+use slots::judge_slots;
+use slots::perform_slots;
+use slots::represents;
+use slots::to_slots;
+use slots::to_window;
+use window::Window;
+ghost use mathlib.Core.Path.{_≡_};
+ghost use Prim.Native.Nat.{_≤_};
+ghost use lib.ListN.{length, drop};
+ghost use Rattle.window.specs.Layout.{registers, functions};
+ghost use Rattle.window.specs.Perform.{Within};
+ghost use Rattle.slots.specs.Slots.{slotsOf, Laid};
+ghost use Rattle.slots.specs.Represents.{Represents};
+ghost use Rattle.monitoring.specs.declared.Verdict.the-variants.{Judged};
+ghost use Rattle.monitoring.specs.Run.{runOf};
+ghost use Rattle.monitoring.specs.SlotRun.{slotsPerformed};
+ghost use Rattle.monitoring.specs.Stream.{takenAll};
+
+// Performs a letter only if it is fine; whether the trace is infeasible.
+fn performed(
+    slot: &mut [u8; 8],
+    regs: &mut [u8; 8],
+    unequal: &mut [u8; 8],
+    result: &mut [u8; 256],
+    ever: &mut [u8; 32],
+    mark: &mut [bool; 8],
+    infeasible: bool,
+    fine: bool,
+    letter: Letter,
+) -> bool
+    requires { ⌜ Within letter × Laid registers functions (now slot) (now regs) (now unequal) (now result) (now ever) (now mark) ⌝ }
+    ensures { λ v. ⌜
+        slotsOf (now (slot .exit)) (now (regs .exit)) (now (unequal .exit)) (now (result .exit)) (now (ever .exit)) (now (mark .exit)) v
+        ≡ slotsPerformed
+        (slotsOf (now (slot .entry)) (now (regs .entry)) (now (unequal .entry)) (now (result .entry)) (now (ever .entry)) (now (mark .entry)) infeasible)
+        fine letter ⌝ }
+    ensures laid { λ _. ⌜ Laid registers functions (now (slot .exit)) (now (regs .exit)) (now (unequal .exit)) (now (result .exit))
+        (now (ever .exit)) (now (mark .exit)) ⌝ }
+{
+    if fine {
+        return perform_slots(slot, regs, unequal, result, ever, mark, infeasible, letter);
+    }
+    infeasible
+}
+
+// The letters from `start` on, from a run with this window, whose classes lie in these slots.
+fn take_from(
+    header: Header,
+    window: Window,
+    mut slot: [u8; 8],
+    mut regs: [u8; 8],
+    mut unequal: [u8; 8],
+    mut result: [u8; 256],
+    mut ever: [u8; 32],
+    mut fine: bool,
+    mut count: u64,
+    mut one: u64,
+    mut two: u64,
+    bytes: &[u8],
+    start: usize,
+) -> Run
+    requires { ⌜ (start ≤ length (now bytes))
+        × Represents registers functions (header .registers) (slotsOf slot regs unequal result ever (window .mark) (window .infeasible)) window ⌝ }
+    ensures { λ r. ⌜ r ≡ takenAll (runOf header window fine count (Judged one two)) (drop start (now (bytes .entry))) ⌝ }
+{
+    let mut mark = window.mark;
+    let mut bad = window.infeasible;
+    let mut i = start;
+    while bytes.len() - i > 1 {
+        let decoded = decode_letter(header, word(bytes[i], bytes[i + 1]));
+        let number = next_number(count);
+        let DecodedLetter::Letter(letter) = decoded else {
+            let last = to_window(&slot, &regs, &unequal, &result, &ever, &mark, bad);
+            return run_of(header, last, fine, count, Verdict::Refused(4, number));
+        };
+        let coherent = fine & judge_slots(&slot, &result, &ever, &mark, letter);
+        bad = performed(
+            &mut slot,
+            &mut regs,
+            &mut unequal,
+            &mut result,
+            &mut ever,
+            &mut mark,
+            bad,
+            coherent,
+            letter,
+        );
+        fine = coherent;
+        count = number;
+        one = first(one, !fine, number);
+        two = first(two, bad, number);
+        i = i + 2;
+    }
+    let last = to_window(&slot, &regs, &unequal, &result, &ever, &mark, bad);
+    run_of(header, last, fine, count, Verdict::Judged(one, two))
+}
+
+/// Takes the letters whose words are the bytes from `start` on, from a run of these parts; a last byte without its other half is left alone.
+/// A window that no slots stand for, which no trace has, is taken on its tables.
+pub fn take_slots(
+    header: Header,
+    window: Window,
+    running: bool,
+    letters: u64,
+    incoherent: u64,
+    infeasible: u64,
+    bytes: &[u8],
+    start: usize,
+) -> Run
+    requires { ⌜ start ≤ length (now bytes) ⌝ }
+    ensures { λ r. ⌜ r ≡ takenAll (runOf header window running letters (Judged incoherent infeasible)) (drop start (now (bytes .entry))) ⌝ }
+{
+    let mut slot = [0u8; 8];
+    let mut regs = [0u8; 8];
+    let class = window.class;
+    let mut unequal = window.unequal;
+    let mut result = window.result;
+    let mut ever = window.ever;
+    let mark = window.mark;
+    to_slots(
+        &class,
+        &mut slot,
+        &mut regs,
+        &mut unequal,
+        &mut result,
+        &mut ever,
+    );
+    let bad = window.infeasible;
+    let registers = header.registers as usize;
+    if represents(
+        window,
+        &slot,
+        &regs,
+        &unequal,
+        &result,
+        &ever,
+        &mark,
+        bad,
+        registers,
+    ) {
+        return take_from(
+            header,
+            window,
+            slot,
+            regs,
+            unequal,
+            result,
+            ever,
+            running,
+            letters,
+            incoherent,
+            infeasible,
+            bytes,
+            start,
+        );
+    }
+    take_tables(
+        header,
+        window,
+        running,
+        letters,
+        incoherent,
+        infeasible,
+        bytes,
+        start,
+    )
+}

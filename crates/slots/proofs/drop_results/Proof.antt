@@ -1,0 +1,14 @@
+use borrow.Author.Needs.{needs}
+use Rattle.window.specs.Layout.{registers}
+use Rattle.slots.specs.Loops.{results-dropped}
+use Rattle.slots.proofs.drop_results.Statement.{statement}
+use Rattle.slots.proofs.drop_results.Tie as tie
+
+pub drop-results-spec : {M : Type 1} → statement M
+drop-results-spec = tie.close (tie.spec
+    (λ c κs. search needs)
+    (λ c κs. search needs)
+    (λ c κs. search needs)
+    (λ c κs. search needs)
+    (λ c. results-dropped registers _ _ _ _ _ _ (c .before .before .before .before .before .single .ensures)
+    (c .before .before .before .before .move-bits .ensures) (c .before .before .clear-column .ensures) (c .clear-row .ensures)))

@@ -1,0 +1,37 @@
+use mathlib.Core.Path.{ap, _∙_}
+use lib.ListN.{length}
+use borrow.Author.Needs.{needs}
+use Rattle.window.specs.Layout.{registers, functions}
+use Rattle.window.specs.Through.{whole}
+use Rattle.slots.specs.Loops.{dropped-is, tabled-same}
+use Rattle.slots.specs.Laying.{marks-length, tabled-dropped}
+use Rattle.slots.proofs.drop_slot.Statement.{statement}
+use Rattle.slots.proofs.drop_slot.Tie as tie
+
+pub drop-slot-spec : {M : Type 1} → statement M
+drop-slot-spec = tie.close (tie.spec
+    (λ c κs. search needs)
+    (λ c κs. (c .before .before .before .pre .1, c .before .before .before .pre .3))
+    (λ c κs. (
+      c .before .before .before .before .before .pre .0,
+      whole registers 1 (c .before .before .before .before .before .args .unequal .now)
+          (c .before .before .before .before .before .pre .2 .unequal-long),
+    ))
+    (λ c κs.
+    (c .before .before .before .before .before .before .before .pre .0, c .before .before .before .before .before .before .before .pre .2 .result-long))
+    (λ c κs. let k = c .before .before .before .before .before .before .before in
+    (k .before .before .pre .0, whole registers functions (k .before .before .args .ever .now) (k .before .before .pre .2 .ever-long)))
+    (λ c. let k = c .before .before .before .before .before .before .before in
+    let a = k .before .before .before .args in
+    let m = c .before .before .before .before .before .before .mark-slots .ensures in
+    let u = c .before .before .before .before .forget-masks .ensures in
+    let d = c .before .before .drop-results .ensures in
+    let v = c .forget-masks2 .ensures in (
+      (λ g i. dropped-is registers functions (a .slot .now) g _ _ _ _ _ _ _ _ i (a .s) (a .more) _
+          (c .before .before .before .before .before .before .before .lost .ensures) m u d v),
+      (
+        tabled-same registers functions _ _ _ _ _ _ u d v (tabled-dropped registers functions (a .s) _ _ _
+            (k .before .before .before .pre .2)),
+        ap length m ∙ marks-length registers _ _ _,
+      ),
+    )))

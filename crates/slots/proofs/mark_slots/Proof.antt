@@ -1,0 +1,31 @@
+use mathlib.Core.Bool.{false}
+use Prim.Native.Nat.{_-_}
+use borrow.Author.Needs.{needs}
+use Rattle.window.specs.Layout.{registers}
+use Rattle.window.specs.Table.{Swept, swept-none}
+use Rattle.slots.specs.Loops.{markedAt, marks-more, marks-all}
+use Rattle.slots.proofs.mark_slots.Statement.{statement}
+use Rattle.slots.proofs.mark_slots.Tie as tie
+
+abbrev Inv-loop : tie.InvT-loop
+Inv-loop slot mark₀ slots r₀ mark r = Swept (markedAt slot mark₀ slots) false mark₀ r mark
+
+abbrev μ-loop : tie.MeasureT-loop
+μ-loop slot mark₀ slots r₀ mark r = registers - r
+
+pub mark-slots-spec : {M : Type 1} → statement M
+mark-slots-spec = tie.close (tie.spec
+    Inv-loop
+    μ-loop
+    (λ c. swept-none _ _ _)
+    (λ c. search needs)
+    (λ c κs. (c .before .loop-test .taken, c .before .before .before .pre .0))
+    (λ c κs. search needs)
+    (λ c. search needs)
+    (λ c. search needs)
+    (λ c. search needs)
+    (λ c. let a = c .before .before .before .before .before .args in
+    marks-more registers (a .slot .now) _ (a .slots) (c .before .before .before .before .before .pre .1) _ _ _ _
+    (c .before .before .before .before .loop .inv) (c .before .before .before .loop-test .taken) (c .before .slot-of .ensures .0) (c .holds .ensures))
+    (λ c. let a = c .before .before .args in
+    marks-all registers (a .slot .now) _ (a .slots) (c .before .before .pre .1) _ _ (c .before .loop .inv) (c .loop-test .left)))

@@ -1,0 +1,39 @@
+use mathlib.Core.Path.{sym, subst}
+use lib.ListN.{length-set}
+use borrow.Author.Needs.{needs}
+use Rattle.window.specs.Layout.{registers, functions}
+use Rattle.window.specs.Through.{whole}
+use Rattle.slots.specs.Slots.{slotsOf, Low}
+use Rattle.slots.specs.Loops.{tabled-same, merged-is}
+use Rattle.slots.specs.Laying.{low-renamed, tabled-renamed}
+use Rattle.slots.proofs.merge_slots.Statement.{statement}
+use Rattle.slots.proofs.merge_slots.Tie as tie
+
+pub merge-slots-spec : {M : Type 1} → statement M
+merge-slots-spec = tie.close (tie.spec
+    (λ c. search needs)
+    (λ c. search needs)
+    (λ c. search needs)
+    (λ c. search needs)
+    (λ c κs. let p = c .before .before .before .pre in (p .0, p .1, p .2 .long))
+    (λ c κs. let p = c .before .before .before .before .before .pre in
+    (p .0, p .1, whole registers 1 (c .before .before .before .before .before .args .unequal .now) (p .4 .unequal-long)))
+    (λ c κs. let p = c .before .before .before .before .before .before .before .pre in (p .0, p .1, p .4 .result-long))
+    (λ c κs. let k = c .before .before .before .before .before .before .before in
+    let p = k .before .before .pre in
+    (p .0, p .1, whole registers functions (k .before .before .args .ever .now) (p .4 .ever-long)))
+    (λ c. let k = c .before .before .before .before .before .before .before in
+    let a = k .before .before .before .args in
+    let p = k .before .before .before .pre in
+    let s = c .before .before .before .before .before .before .rename-slot .ensures in
+    let u = c .before .before .before .before .rename-masks .ensures in
+    let r = c .before .before .rename-results .ensures in
+    let e = c .rename-masks2 .ensures in (
+      (λ m i. merged-is registers functions (slotsOf (a .slot .now) (a .regs .now) (a .unequal .now) (a .result .now) (a .ever .now) m i)
+          (a .a) (a .b) _ _ _ _ s u r e),
+      (
+        subst (Low registers) (sym s) (low-renamed registers _ _ _ (p .0) (p .2)),
+        simp length-set (p .3),
+        tabled-same registers functions _ _ _ _ _ _ u r e (tabled-renamed registers functions _ _ _ _ _ (p .4)),
+      ),
+    )))

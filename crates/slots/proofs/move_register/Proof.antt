@@ -1,0 +1,21 @@
+use mathlib.Core.Path.{refl}
+use borrow.Author.Needs.{needs}
+use Rattle.slots.specs.Loops.{moved-register}
+use Rattle.slots.proofs.move_register.Statement.{statement}
+use Rattle.slots.proofs.move_register.Tie as tie
+
+pub move-register-spec : {M : Type 1} → statement M
+move-register-spec = tie.close (tie.spec
+    (λ c κs. search needs)
+    (λ c κs. search needs)
+    (λ c. search needs)
+    (λ c. search needs)
+    (λ c. search needs)
+    (λ c. search needs)
+    (λ c. search needs)
+    (λ c. search needs)
+    (λ c. let a = c .before .before .before .before .before .args in (
+      refl,
+      moved-register (a .slot .now) (a .regs .now) (a .x) (a .t) _ _ (c .before .before .before .slot-of .ensures .0)
+          (c .before .before .single .ensures),
+    )))

@@ -1,0 +1,19 @@
+use borrow.Author.Needs.{needs}
+use Rattle.window.specs.Layout.{registers}
+use Rattle.slots.specs.Loops.{masks-renamed}
+use Rattle.slots.proofs.rename_masks.Statement.{statement}
+use Rattle.slots.proofs.rename_masks.Tie as tie
+
+pub rename-masks-spec : {M : Type 1} → statement M
+rename-masks-spec = tie.close (tie.spec
+    (λ c κs. search needs)
+    (λ c κs. search needs)
+    (λ c κs. search needs)
+    (λ c κs. search needs)
+    (λ c κs. search needs)
+    (λ c κs. search needs)
+    (λ c. search needs)
+    (λ c. let k = c .before .before .before .before .before .before .before in
+    masks-renamed registers _ _ _ _ _ _ _ _ _ (k .before .before .before .before .before .before .unite-column .ensures)
+    (k .before .before .single .ensures) (k .before .single2 .ensures) (c .before .before .before .before .before .before .before .single3 .ensures)
+    (c .before .before .before .before .before .before .move-bits .ensures) (c .before .before .forget-masks .ensures)))

@@ -1,0 +1,82 @@
+use mathlib.Core.Path.{subst}
+use borrow.Author.Needs.{needs}
+use Rattle.window.specs.Parts.{parts, told}
+use Rattle.window.specs.Perform.{Within}
+use Rattle.window.proofs.perform_in.Statement.{statement}
+use Rattle.window.proofs.perform_in.Tie as tie
+
+pub perform-in-spec : {M : Type 1} → statement M
+perform-in-spec = tie.close (tie.spec
+    (λ c. search needs)
+    (λ c. search needs)
+    (λ c. search needs)
+    (λ c κs.
+    let pre-of = c .before .before .before .before .before .before .before .before .pre in
+    let p = subst Within (c .before .before .before .before .before .before .letter .given .1) (pre-of .0) in (p .0, p .1, (pre-of .1)))
+    (λ c. search needs)
+    (λ c. search needs)
+    (λ c. search needs)
+    (λ c. search needs)
+    (λ c. search needs)
+    (λ c κs.
+    let pre-of = c .before .before .before .before .before .before .before .before .pre in
+    let p = subst Within (c .before .before .before .before .before .before .letter2 .given .1) (pre-of .0) in (p .0, p .1, p .2, p .3, (pre-of .1)))
+    (λ c. search needs)
+    (λ c. search needs)
+    (λ c. search needs)
+    (λ c κs.
+    let pre-of = c .before .before .before .before .before .before .before .pre in
+    let p = subst Within (c .before .before .before .before .before .letter3 .given .1) (pre-of .0) in let s = pre-of .1 in (
+      p .0,
+      p .1,
+      record {
+        class =
+            s .class;
+        unequal = s .unequal;
+        result = s .result;
+        ever = s .ever;
+      },
+    ))
+    (λ c. search needs)
+    (λ c. search needs)
+    (λ c. search needs)
+    (λ c κs.
+    let pre-of = c .before .before .before .before .before .pre in
+    let p = subst Within (c .before .before .before .letter4 .given .1) (pre-of .0) in (p .0, p .1, pre-of .1 .unequal))
+    (λ c. (
+      let a = c .before .before .before .before .before .before .before .before .before .args in told _ (parts (a .class .now) (a .unequal .now) (a .result
+          .now) (a .ever .now) (a .mark .now) (a .infeasible)) _ _ (c .before .before .before .before .before .before .before .letter .given .1) (c .copy-in
+          .ensures .0 (a .infeasible)),
+      c .copy-in .ensures .1,
+    ))
+    (λ c. (
+      let a = c .before .before .before .before .before .before .before .before .before .args in told _ (parts (a .class .now) (a .unequal .now) (a .result
+          .now) (a .ever .now) (a .mark .now) (a .infeasible)) _ _ (c .before .before .before .before .before .before .before .letter2 .given .1) (c .apply-in
+          .ensures .0 (a .infeasible)),
+      c .apply-in .ensures .1,
+    ))
+    (λ c. (
+      let a = c .before .before .before .before .before .before .before .before .args in told _ (parts (a .class .now) (a .unequal .now) (a .result .now)
+          (a .ever .now) (a .mark .now) (a .infeasible)) _ _ (c .before .before .before .before .before .before .letter3 .given .1) (c .equal-in .ensures .0 (a
+          .mark .now)),
+      let l = c .equal-in .ensures .1 in record {
+        class = l .class;
+        unequal = l .unequal;
+        result = l .result;
+        ever = l .ever;
+        mark = c .before
+            .before .before .before .before .before .before .before .pre .1 .mark;
+      },
+    ))
+    (λ c. (
+      let a = c .before .before .before .before .before .before .args in told _ (parts (a .class .now) (a .unequal .now) (a .result .now) (a .ever .now) (a
+          .mark .now) (a .infeasible)) _ _ (c .before .before .before .before .letter4 .given .1) (c .unequal-in .ensures .0 (a .result .now) (a .ever .now) (a
+          .mark .now)),
+      let s = c .before .before .before .before .before .before .pre .1 in record {
+        class = s .class;
+        unequal = c .unequal-in .ensures .1;
+        result = s .result;
+        ever = s .ever;
+        mark = s .mark;
+      },
+    )))
