@@ -1,54 +1,83 @@
--- What is read of a record depends on its first 192 bytes only.
-use mathlib.Core.Path.{_≡_, refl, ap, _∙_}
-use Prim.Native.Nat.{ℕ, zero, suc, _+_, _*_, _/_, _≤_, _<_}
+-- What is read of a record depends on its bytes only.
+use mathlib.Core.Path.{_≡_, refl, sym, ap, ap₂, _∙_}
+use Prim.Native.Nat.{ℕ, zero, suc, _+_, _*_, _≤_}
 use native.Mathlib.Omega.{arith}
-use mathlib.Core.List.{List}
-use lib.ListN.{getD}
-use Rattle.window.specs.Table.{table, table-at, table-length, table-is}
-use Rattle.records.specs.Codes.{heldOf, computedOf, assembled}
-use Rattle.records.specs.Records.{pointIn, parentIn, branchIn, eightIn, codeIn, resultIn, everMask, everIn, windowIn}
+use native.Mathlib.Nat.{zero-add, suc-add, mul-suc}
+use mathlib.Core.List.{List, [], _∷_}
+use lib.ListN.{getD, take, drop, replicate}
+use lib.Seq.{take-take, take-nil}
+use Rattle.letters.specs.Packing.{join}
+use Rattle.semantics.specs.PackedTables.{unitsIn}
+use Rattle.records.specs.Formats.{Format, numberBytes, flagBytes, branchPlace, pairPlace, contentPlace, masksBytes, contentBytes, pairBytes}
+use Rattle.records.specs.Formats.{Sound, numberIn, parentIn, branchIn, pointIn, codesIn, windowFrom, windowIn}
 
--- Two lists with the same first 192 bytes.
-abbrev pub Agree : List ℕ → List ℕ → Type 0
-Agree a b = (i : ℕ) → i < 192 → getD a i 0 ≡ getD b i 0
+-- Two lists with the same first n bytes.
+abbrev pub Agree : ℕ → List ℕ → List ℕ → Type 0
+Agree n a b = take n a ≡ take n b
 
-same-table : (F G : ℕ → ℕ) (n : ℕ) → ((i : ℕ) → i < n → F i ≡ G i) → table F n ≡ table G n
-same-table F G n f = table-is G n (table F n) 0 (table-length F n) (λ i h. table-at F n i 0 h ∙ f i h)
+pub drop-take : (d n : ℕ) (s : List ℕ) → drop d (take (d + n) s) ≡ take n (drop d s)
+drop-take zero n s = ap (λ m. take m s) (zero-add n)
+drop-take (suc d) n [] = rw (suc-add d n) (sym (take-nil n))
+drop-take (suc d) n (x ∷ s) = rw (suc-add d n) (drop-take d n s)
 
-module _ (a b : List ℕ) (g : Agree a b) where
-  pub point-agree : pointIn a ≡ pointIn b
-  unfolding pointIn
-  point-agree = rw (g 2 (omega arith), g 3 (omega arith))
+pub agree-less : (m n : ℕ) (a b : List ℕ) → m ≤ n → Agree n a b → Agree m a b
+agree-less m n a b h g = sym (take-take m n a h) ∙ ap (take m) g ∙ take-take m n b h
+
+-- what stands behind the first d bytes
+pub agree-drop : (d n : ℕ) (a b : List ℕ) → Agree (d + n) a b → Agree n (drop d a) (drop d b)
+agree-drop d n a b g = sym (drop-take d n a) ∙ ap (drop d) g ∙ drop-take d n b
+
+-- n numbers of k bytes each
+pub units-agree : (k n m : ℕ) (a b : List ℕ) → k * n ≤ m → Agree m a b → unitsIn k n a ≡ unitsIn k n b
+unfolding unitsIn
+units-agree k zero m a b h g = refl
+units-agree k (suc n) m a b h g =
+    let l : k + k * n ≤ m = omega (arith, mul-suc k n) in
+    let e : Agree (k + k * n) a b = agree-less (k + k * n) m a b l g in
+    ap₂ (λ x r. x ∷ r) (ap (join (replicate k 8)) (agree-less k (k + k * n) a b (omega arith) e))
+    (units-agree k n (k * n) (drop k a) (drop k b) (omega arith) (agree-drop k (k * n) a b e))
+
+module _ (f : Format) (sound : Sound f) (a b : List ℕ) (g : Agree (f .size) a b) where
+  -- the number of k bytes at a place
+  number-agree : (k place : ℕ) → place + k ≤ f .size → numberIn k (drop place a) ≡ numberIn k (drop place b)
+  number-agree k place h = ap (λ l. getD l 0 0) (units-agree k 1 k (drop place a) (drop place b) (omega arith)
+      (agree-drop place k a b (agree-less (place + k) (f .size) a b h g)))
 
   pub parent-agree : parentIn a ≡ parentIn b
   unfolding parentIn
-  parent-agree = rw (g 157 (omega arith), g 158 (omega arith))
+  parent-agree = number-agree numberBytes 0 (omega (arith, sound .fits))
 
   pub branch-agree : branchIn a ≡ branchIn b
   unfolding branchIn
-  branch-agree = g 159 (omega arith)
+  branch-agree = number-agree flagBytes branchPlace (omega (arith, sound .fits))
 
-  eight-agree : (place : ℕ) → place + 8 ≤ 192 → eightIn place a ≡ eightIn place b
-  unfolding eightIn
-  eight-agree place h = same-table (λ i. getD a (place + i) 0) (λ i. getD b (place + i) 0) 8 (λ i l. g (place + i) (omega arith))
+  pub point-agree : pointIn a ≡ pointIn b
+  unfolding pointIn
+  point-agree = number-agree numberBytes contentPlace (omega (arith, sound .fits))
 
-  code-agree : (k : ℕ) → k < 256 → codeIn a k ≡ codeIn b k
-  unfolding codeIn
-  code-agree k h = rw (g (29 + k / 2) (omega arith))
+  -- the pair's bytes
+  pub pair-agree : Agree (pairBytes f) (drop pairPlace a) (drop pairPlace b)
+  pair-agree = agree-drop pairPlace (pairBytes f) a b (agree-less (pairPlace + pairBytes f) (f .size) a b (sound .fits) g)
 
-  bits-agree : (f h : ℕ → ℕ) (i k : ℕ) → ((j : ℕ) → i ≤ j → j < i + k → f j ≡ h j) → assembled f i k ≡ assembled h i k
-  unfolding assembled
-  bits-agree f h i zero e = refl
-  bits-agree f h i (suc k) e = rw (e i (omega arith) (omega arith), bits-agree f h (suc i) k (λ j p q. e j (omega arith) (omega arith)))
-
-  pub window-agree : windowIn a ≡ windowIn b
-  unfolding windowIn resultIn everIn everMask
+  pub window-agree : windowIn f a ≡ windowIn f b
+  unfolding windowIn windowFrom codesIn
   window-agree =
-      rw (
-        eight-agree 4 (omega arith),
-        eight-agree 12 (omega arith),
-        eight-agree 20 (omega arith),
-        g 28 (omega arith),
-        same-table (λ i. heldOf (eightIn 4 b) (codeIn a i)) (λ i. heldOf (eightIn 4 b) (codeIn b i)) 256 (λ i h. ap (heldOf (eightIn 4 b)) (code-agree i h)),
-        same-table (everMask a) (everMask b) 32 (λ j h. bits-agree _ _ 0 8 (λ k p q. ap computedOf (code-agree (8 * j + k) (omega arith)))),
-      )
+      let s = drop contentPlace a in
+      let t = drop contentPlace b in
+      let rest₄ = f .groupBytes * f .groups in
+      let rest₃ = flagBytes + rest₄ in
+      let rest₂ = f .registers + rest₃ in
+      let rest₁ = masksBytes f + rest₂ in
+      let g₀ : Agree (contentBytes f) s t = agree-drop contentPlace (contentBytes f) a b
+      (agree-less (contentPlace + contentBytes f) (f .size) a b (omega (arith, sound .fits)) g) in
+      let g₁ = agree-drop numberBytes (masksBytes f + rest₁) s t g₀ in
+      let g₂ = agree-drop (masksBytes f) rest₁ _ _ g₁ in
+      let g₃ = agree-drop (masksBytes f) rest₂ _ _ g₂ in
+      let g₄ = agree-drop (f .registers) rest₃ _ _ g₃ in
+      let g₅ = agree-drop flagBytes rest₄ _ _ g₄ in
+      let class = units-agree (f .maskBytes) (f .registers) (masksBytes f + rest₁) _ _ (omega arith) g₁ in
+      let unequal = units-agree (f .maskBytes) (f .registers) (masksBytes f + rest₂) _ _ (omega arith) g₂ in
+      let marks = units-agree flagBytes (f .registers) rest₂ _ _ (omega arith) g₃ in
+      let infeasible = units-agree flagBytes 1 rest₃ _ _ (omega arith) g₄ in
+      let codes = units-agree (f .groupBytes) (f .groups) rest₄ _ _ (omega arith) g₅ in
+      rw (class, unequal, marks, infeasible, codes)

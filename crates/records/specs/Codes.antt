@@ -1,12 +1,12 @@
 -- One code for each entry of the table of results: 0 if the application was never computed, 1 if it was and no register holds its result,
 -- and else 2 + the name of the class that holds it. "A class is named by its lowest-numbered register" (document 01).
 use Prim.Native.Nat.{ℕ, zero, suc, _+_, _*_, _/_, _%_}
-use mathlib.Core.List.{List, _∷_, _++_}
+use mathlib.Core.List.{List, [], _∷_, _++_}
 use lib.Dec.{eqb}
-use lib.ListN.{getD, replicate}
+use lib.ListN.{getD, take, drop, replicate}
 use Rattle.base.specs.Choice.{pick}
 use Rattle.base.specs.Masks.{bit, leastIn}
-use Rattle.window.specs.Table.{table}
+use Rattle.letters.specs.Packing.{join, split}
 
 -- The code of an entry that the class `mask` of n registers holds, or no register if it is 0; `computed` is 1 if it was ever computed, and else 0.
 unfoldable pub codeOf : ℕ → ℕ → ℕ → ℕ
@@ -16,21 +16,9 @@ codeOf n mask computed = pick (eqb mask 0) (λ _. computed) λ _. 2 + leastIn n 
 abbrev pub codeAt : ℕ → List ℕ → List ℕ → ℕ → ℕ
 codeAt n result ever i = codeOf n (getD result i 0) (bit (getD ever (i / n) 0) (i % n))
 
--- Byte i of the codes of eight registers: those of entries 2 i and 2 i + 1.
-unfoldable pub codeByte : List ℕ → List ℕ → ℕ → ℕ
-codeByte result ever i = codeAt 8 result ever (2 * i) + 16 * codeAt 8 result ever (2 * i + 1)
-
--- The codes of all 256 entries.
-unfoldable pub codesOf : List ℕ → List ℕ → List ℕ
-codesOf result ever = table (codeByte result ever) 128
-
--- What each code says of the result: none for 0 and 1, and then the classes by name.
-abbrev pub meaningsOf : List ℕ → List ℕ
-meaningsOf class = 0 ∷ 0 ∷ class ++ replicate 6 0
-
--- The class that a code stands for.
+-- The class that a code stands for: none for 0 and 1, and then the classes by name.
 unfoldable pub heldOf : List ℕ → ℕ → ℕ
-heldOf class c = getD (meaningsOf class) c 0
+heldOf class c = getD (0 ∷ 0 ∷ class) c 0
 
 -- Whether a code says that the application was ever computed: 1 or 0.
 unfoldable pub computedOf : ℕ → ℕ
@@ -40,3 +28,15 @@ computedOf c = pick (eqb c 0) (λ _. 0) λ _. 1
 unfoldable pub assembled : (ℕ → ℕ) → ℕ → ℕ → ℕ
 assembled f i zero = 0
 assembled f i (suc k) = f i + 2 * assembled f (suc i) k
+
+-- ---- several codes in one number, the first in the most significant bits
+
+-- n numbers, each made of g codes of k bits.
+unfoldable pub gathered : ℕ → ℕ → ℕ → List ℕ → List ℕ
+gathered g k zero codes = []
+gathered g k (suc n) codes = join (replicate g k) (take g codes) ∷ gathered g k n (drop g codes)
+
+-- The codes in these numbers.
+unfoldable pub scattered : ℕ → ℕ → List ℕ → List ℕ
+scattered g k [] = []
+scattered g k (n ∷ ns) = split (replicate g k) n ++ scattered g k ns

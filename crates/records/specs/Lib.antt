@@ -1,6 +1,10 @@
-pub mod Layout
 pub mod Codes
+pub mod Digits
+pub mod Words
+pub mod Formats
 pub mod Records
 pub mod Tables
-pub mod Storable
+pub mod FormatLaws
 pub mod Agree
+pub mod Pairs
+pub mod Storable

@@ -1,87 +1,82 @@
--- Pairs as bytes: a point still to be performed and a window (document 01, "The search for a verdict"), with a fingerprint in front of them, so that bytes
--- that differ mostly do so at the start.
-use Prim.Native.Nat.{ℕ, _+_, _*_, _/_, _%_}
-use mathlib.Core.Bool.{Bool}
-use mathlib.Core.List.{List, [], _∷_, _++_, map}
+-- Pairs and records as bytes in the first edition's format. A record has 192 bytes (document 01, "The search for a verdict").
+use Prim.Native.Nat.{ℕ}
+use mathlib.Core.Bool.{Bool, false}
+use mathlib.Core.List.{List, [], _∷_, _++_}
 use lib.Dec.{eqb}
-use lib.ListN.{getD, replicate}
+use lib.ListN.{getD, drop, replicate}
 use Rattle.base.specs.Choice.{pick}
+use Rattle.semantics.specs.PackedTables.{units}
 use Rattle.window.specs.Table.{table}
+use Rattle.window.specs.Layout.{registers, functions}
 use Rattle.window.specs.declared.Window.{Window}
-use Rattle.records.specs.Layout.{pointPlace, classPlace, unequalPlace, markPlace, infeasiblePlace, codePlace, parentPlace, branchPlace}
-use Rattle.records.specs.Codes.{codesOf, heldOf, computedOf, assembled}
+use Rattle.records.specs.Formats as formats
+use Rattle.records.specs.Formats.{Format, numberBytes, contentPlace}
+use Rattle.records.specs.Words.{wordOf}
+unfoldable pub use Rattle.records.specs.Formats.{flag, isSet, parentIn, branchIn, pointIn, samePair}
+
+abbrev pub recordBytes : ℕ
+recordBytes = 192
+
+-- Codes of four bits, two to a byte.
+abbrev pub firstFormat : Format
+firstFormat = record { registers = registers; functions = functions; maskBytes = 1; codeBits = 4; group = 2; groupBytes = 1; groups = 128; size = recordBytes }
+
+abbrev pub lines : ℕ
+lines = formats.lines firstFormat
+
+abbrev pub results : ℕ
+results = formats.results firstFormat
+
+abbrev pub maskBytes : ℕ
+maskBytes = firstFormat .maskBytes
+
+abbrev pub pairBytes : ℕ
+pairBytes = formats.pairBytes firstFormat
+
+abbrev pub contentBytes : ℕ
+contentBytes = formats.contentBytes firstFormat
 
 -- ---- writing
 
--- A number below 65,536 as two bytes, the lower one first.
-abbrev pub twoBytes : ℕ → List ℕ
-twoBytes n = n % 256 ∷ n / 256 % 256 ∷ []
+-- A line of results that holds nothing, and of which nothing was ever computed.
+unfoldable pub blank : List ℕ → ℕ → Bool
+blank results line = pick (eqb line 0) (λ _. eqb (wordOf results) 0) λ _. false
 
-unfoldable pub flag : Bool → ℕ
-flag b = pick b (λ _. 1) λ _. 0
+-- The codes of all entries.
+abbrev pub codeBytes : List ℕ → List ℕ → List ℕ
+codeBytes = formats.codeBytes firstFormat
 
--- The parts of a pair in their order.
-unfoldable pub join : ℕ → List ℕ → List ℕ → List ℕ → ℕ → List ℕ → List ℕ
-join point class unequal marks infeasible codes = twoBytes point ++ class ++ unequal ++ marks ++ (infeasible ∷ []) ++ codes
+-- The parts of a pair in their order, before its fingerprint is known.
+abbrev pub partsOf : ℕ → List ℕ → List ℕ → List ℕ → ℕ → List ℕ → List ℕ
+partsOf point class unequal marks infeasible codes = 0 ∷ 0 ∷ (units numberBytes (point ∷ []) ++ (class ++ (unequal ++ (marks ++ (infeasible ∷ codes)))))
 
--- What stands for a point and a window.
-unfoldable pub contentOf : ℕ → Window → List ℕ
-contentOf point w = join point (w .class) (w .unequal) (map flag (w .mark)) (flag (w .infeasible)) (codesOf (w .result) (w .ever))
+abbrev pub fingerprintOf : List ℕ → ℕ
+fingerprintOf = formats.fingerprintOf firstFormat
 
--- The sum of the sums of all beginnings, after numbers whose sum is a and whose sum of sums is b: Fletcher's checksum, without its remainders.
-unfoldable pub checksumOf : ℕ → ℕ → List ℕ → ℕ
-checksumOf a b [] = b
-checksumOf a b (x ∷ xs) = checksumOf (a + x) (b + (a + x)) xs
+-- The bytes of a pair, a point and a window.
+abbrev pub encoded : ℕ → Window → List ℕ
+encoded = formats.encoded firstFormat
 
--- A pair: the fingerprint, and what stands for the point and the window.
-unfoldable pub encoded : ℕ → Window → List ℕ
-encoded point w = twoBytes (checksumOf 0 0 (contentOf point w)) ++ contentOf point w
-
--- A record: a pair, the number of the pair from which it was reached, and the branch taken there; 0 beyond them.
-unfoldable pub recordOf : List ℕ → ℕ → ℕ → List ℕ
-recordOf pair parent branch = pair ++ (parent % 256 ∷ parent / 256 % 256 ∷ branch % 256 ∷ []) ++ replicate 32 0
+-- A record: a pair, the number of the pair from which it was reached, and the branch taken there.
+abbrev pub recordOf : List ℕ → ℕ → ℕ → List ℕ
+recordOf = formats.recordOf firstFormat
 
 -- ---- reading: in bytes that begin with a record
 
-abbrev pub twoIn : ℕ → List ℕ → ℕ
-twoIn place bytes = getD bytes place 0 + 256 * getD bytes (place + 1) 0
+-- The codes of all entries.
+unfoldable pub codesAt : List ℕ → List ℕ
+codesAt bytes = formats.codesIn firstFormat (formats.afterInfeasible firstFormat (drop contentPlace bytes))
 
-unfoldable pub pointIn : List ℕ → ℕ
-pointIn bytes = twoIn pointPlace bytes
+-- What each of the sixteen codes says of the result.
+abbrev pub meaningsOf : List ℕ → List ℕ
+meaningsOf class = 0 ∷ 0 ∷ class ++ replicate 6 0
 
-unfoldable pub parentIn : List ℕ → ℕ
-parentIn bytes = twoIn parentPlace bytes
+-- The results that these codes mean.
+unfoldable pub meant : List ℕ → List ℕ → List ℕ
+meant meanings codes = table (λ i. getD meanings (getD codes i 0) 0) results
 
-unfoldable pub branchIn : List ℕ → ℕ
-branchIn bytes = getD bytes branchPlace 0
+abbrev pub everIn : List ℕ → List ℕ
+everIn = formats.everIn firstFormat
 
-unfoldable pub isSet : ℕ → Bool
-isSet x = eqb x 1
-
--- Eight bytes from a place on.
-unfoldable pub eightIn : ℕ → List ℕ → List ℕ
-eightIn place bytes = table (λ i. getD bytes (place + i) 0) 8
-
--- The code of entry i.
-unfoldable pub codeIn : List ℕ → ℕ → ℕ
-codeIn bytes i = pick (eqb (i % 2) 0) (λ _. getD bytes (codePlace + i / 2) 0 % 16) λ _. getD bytes (codePlace + i / 2) 0 / 16
-
-unfoldable pub resultIn : List ℕ → List ℕ → List ℕ
-resultIn class bytes = table (λ i. heldOf class (codeIn bytes i)) 256
-
--- Line j of `ever`.
-unfoldable pub everMask : List ℕ → ℕ → ℕ
-everMask bytes j = assembled (λ b. computedOf (codeIn bytes (8 * j + b))) 0 8
-
-unfoldable pub everIn : List ℕ → List ℕ
-everIn bytes = table (everMask bytes) 32
-
-unfoldable pub windowIn : List ℕ → Window
-windowIn bytes = record {
-  class = eightIn classPlace bytes;
-  unequal = eightIn unequalPlace bytes;
-  result = resultIn (eightIn classPlace bytes) bytes;
-  ever = everIn bytes;
-  mark = map isSet (eightIn markPlace bytes);
-  infeasible = isSet (getD bytes infeasiblePlace 0);
-}
+abbrev pub windowIn : List ℕ → Window
+windowIn = formats.windowIn firstFormat

@@ -2,13 +2,22 @@
 use window::Window;
 ghost use mathlib.Core.Path.{_≡_};
 ghost use Prim.Native.Nat.{_+_, _*_, _/_, _%_, _≤_, _<_};
-ghost use mathlib.Core.List.{_++_, map};
-ghost use lib.ListN.{length, take, drop};
+ghost use mathlib.Core.List.{_∷_, _++_, map};
+ghost use lib.ListN.{length, getD, take, drop, replicate};
 ghost use Rattle.base.specs.Masks.{bit};
-ghost use Rattle.records.specs.Codes.{codeOf, codesOf, meaningsOf, computedOf};
-ghost use Rattle.records.specs.Records.{flag, join, contentOf, checksumOf, encoded, recordOf, isSet, pointIn, parentIn, branchIn, eightIn, resultIn, everIn, windowIn};
+ghost use Rattle.semantics.specs.PackedTables.{units};
+ghost use Rattle.records.specs.Codes.{codeOf, computedOf};
+ghost use Rattle.records.specs.Words.{wordOf, octetsOf};
+ghost use Rattle.records.specs.Records.{recordBytes, contentBytes, maskBytes, lines, results, flag, blank, codeBytes, partsOf, fingerprintOf};
+ghost use Rattle.records.specs.Records.{encoded, recordOf, parentIn, branchIn, pointIn, samePair, isSet, meaningsOf, meant, codesAt, everIn, windowIn};
 
-// Where the parts stand: specs/Layout.antt.
+/// How many bytes a record has.
+pub const RECORD_BYTES: usize = 192;
+
+/// How many bytes of it are the pair's.
+pub const PAIR_BYTES: usize = 157;
+
+// Where the parts stand in a pair: specs/Formats.antt.
 const POINT: usize = 2;
 
 const CLASS: usize = 4;
@@ -21,9 +30,67 @@ const INFEASIBLE: usize = 28;
 
 const CODE: usize = 29;
 
-const PARENT: usize = 157;
+const CODE_BYTES: usize = 128;
 
-const BRANCH: usize = 159;
+// The last five bytes of a pair, behind its whole words.
+const PAIR_REST: usize = 152;
+
+const PAIR_LAST: usize = 156;
+
+// And in a record: the parent first.
+const BRANCH: usize = 2;
+
+const PAIR: usize = 3;
+
+const POINT_PLACE: usize = PAIR + POINT;
+
+const CLASS_PLACE: usize = PAIR + CLASS;
+
+const UNEQUAL_PLACE: usize = PAIR + UNEQUAL;
+
+const MARK_PLACE: usize = PAIR + MARK;
+
+const INFEASIBLE_PLACE: usize = PAIR + INFEASIBLE;
+
+const CODE_PLACE: usize = PAIR + CODE;
+
+// How many whole words a pair has, and what stands behind its fingerprint.
+const WORDS: usize = 19;
+
+// 2 to the 57: the seven bits above it come to the other end of a word that is turned.
+const TURN: usize = 144115188075855872;
+
+// ---- words
+
+fn wide(x: u8) -> usize
+    ensures { λ r. ⌜ r ≡ x ⌝ }
+    ensures small { λ r. ⌜ r < 256 ⌝ }
+{
+    x as usize
+}
+
+// Four bytes from a place on as one number, the least significant first: one load.
+fn half_in(bytes: &[u8], at: usize) -> usize
+    requires { ⌜ at + 4 ≤ length (now bytes) ⌝ }
+    ensures { λ r. ⌜ r ≡ wordOf (take 4 (drop at (now (bytes .entry)))) ⌝ }
+    ensures back { λ r. ⌜ octetsOf 4 r ≡ take 4 (drop at (now (bytes .entry))) ⌝ }
+    ensures small { λ r. ⌜ r < 4294967296 ⌝ }
+{
+    let a = wide(bytes[at]);
+    let b = wide(bytes[at + 1]);
+    let c = wide(bytes[at + 2]);
+    let d = wide(bytes[at + 3]);
+    a + b * 256 + c * 65536 + d * 16777216
+}
+
+// Eight bytes from a place on. One test of a word passes over many entries, or compares many bytes.
+fn word_in(bytes: &[u8], at: usize) -> usize
+    requires { ⌜ at + 8 ≤ length (now bytes) ⌝ }
+    ensures { λ r. ⌜ r ≡ wordOf (take 8 (drop at (now (bytes .entry)))) ⌝ }
+    ensures back { λ r. ⌜ octetsOf 8 r ≡ take 8 (drop at (now (bytes .entry))) ⌝ }
+{
+    half_in(bytes, at) + half_in(bytes, at + 4) * 4294967296
+}
 
 // ---- writing
 
@@ -52,27 +119,44 @@ fn code(mask: u8, ever: u8, b: usize) -> u8
     2 + u8::trailing_zeros(mask) as u8
 }
 
-// The codes of two entries in one byte, at bits b and b + 1 of their line of `ever`. Most entries have none, which one test tells.
-fn code_byte(low: u8, high: u8, ever: u8, b: usize) -> u8
+// The codes of two entries in one byte, at bits b and b + 1 of their line of `ever`.
+fn code_byte(first: u8, second: u8, ever: u8, b: usize) -> u8
     requires { ⌜ b < 7 ⌝ }
-    ensures { λ r. ⌜ r ≡ codeOf 8 low (bit ever b) + 16 * codeOf 8 high (bit ever (b + 1)) ⌝ }
+    ensures { λ r. ⌜ r ≡ 16 * codeOf 8 first (bit ever b) + codeOf 8 second (bit ever (b + 1)) ⌝ }
 {
-    if wide(low) + wide(high) + wide(ever) == 0 {
-        return 0;
-    }
-    code(low, ever, b) + 16 * code(high, ever, b + 1)
+    16 * code(first, ever, b) + code(second, ever, b + 1)
 }
 
-// The codes of all entries, two to a byte.
-fn codes(result: [u8; 256], ever: [u8; 32]) -> [u8; 128]
-    ensures { λ r. ⌜ r ≡ codesOf result ever ⌝ }
+// Whether a line of eight results holds nothing, and nothing of it was ever computed.
+fn is_blank(result: &[u8], at: usize, line: u8) -> bool
+    requires { ⌜ at + 8 ≤ length (now result) ⌝ }
+    ensures { λ r. ⌜ r ≡ blank (take 8 (drop at (now (result .entry)))) line ⌝ }
 {
-    let mut codes = [0u8; 128];
-    let mut i: usize = 0;
-    while i < 128 {
-        let line = ever[i / 4];
-        codes[i] = code_byte(result[2 * i], result[2 * i + 1], line, 2 * (i % 4));
-        i = i + 1;
+    if line != 0 {
+        return false;
+    }
+    word_in(result, at) == 0
+}
+
+// The codes of all entries. Most lines are blank.
+fn codes(result: &[u8], ever: &[u8]) -> [u8; CODE_BYTES]
+    requires { ⌜ (length (now result) ≡ results) × (length (now ever) ≡ lines) ⌝ }
+    ensures { λ r. ⌜ r ≡ codeBytes (now (result .entry)) (now (ever .entry)) ⌝ }
+{
+    let mut codes = [0u8; CODE_BYTES];
+    let mut j: usize = 0;
+    while j < 32 {
+        let line = ever[j];
+        let at = 8 * j;
+        if is_blank(result, at, line) {
+            j = j + 1;
+        } else {
+            codes[4 * j] = code_byte(result[at], result[at + 1], line, 0);
+            codes[4 * j + 1] = code_byte(result[at + 2], result[at + 3], line, 2);
+            codes[4 * j + 2] = code_byte(result[at + 4], result[at + 5], line, 4);
+            codes[4 * j + 3] = code_byte(result[at + 6], result[at + 7], line, 6);
+            j = j + 1;
+        }
     }
     codes
 }
@@ -97,113 +181,135 @@ pub fn flags(marks: [bool; 8]) -> [u8; 8]
     flags
 }
 
-// The parts of a pair one after the other.
-fn joined(
-    point: usize,
-    class: [u8; 8],
-    unequal: [u8; 8],
-    marks: [u8; 8],
-    infeasible: u8,
-    codes: [u8; 128],
-) -> [u8; 155]
-    ensures { λ r. ⌜ r ≡ join point class unequal marks infeasible codes ⌝ }
+// Masks of registers as bytes.
+fn mask_bytes(masks: &[u8]) -> [u8; 8]
+    requires { ⌜ length (now masks) ≡ 8 ⌝ }
+    ensures { λ r. ⌜ r ≡ units maskBytes (now (masks .entry)) ⌝ }
 {
-    let mut bytes = [0u8; 155];
-    bytes[POINT - 2] = (point % 256) as u8;
-    bytes[POINT - 1] = (point / 256 % 256) as u8;
-    lay(&mut bytes, CLASS - 2, &class);
-    lay(&mut bytes, UNEQUAL - 2, &unequal);
-    lay(&mut bytes, MARK - 2, &marks);
-    bytes[INFEASIBLE - 2] = infeasible;
-    lay(&mut bytes, CODE - 2, &codes);
+    let mut bytes = [0u8; 8];
+    let mut i: usize = 0;
+    while i < 8 {
+        bytes[i] = masks[i];
+        i = i + 1;
+    }
     bytes
 }
 
-// The bytes of a point and a window, without the fingerprint.
-fn content(point: usize, w: Window) -> [u8; 155]
-    ensures { λ r. ⌜ r ≡ contentOf point w ⌝ }
+// The parts of a pair one after the other, before its fingerprint is known.
+fn parts(
+    point: usize,
+    class: &[u8; 8],
+    unequal: &[u8; 8],
+    marks: &[u8; 8],
+    infeasible: u8,
+    codes: &[u8; CODE_BYTES],
+) -> [u8; PAIR_BYTES]
+    ensures { λ r. ⌜ r ≡ partsOf point (now (class .entry)) (now (unequal .entry)) (now (marks .entry)) infeasible (now (codes .entry)) ⌝ }
+{
+    let mut pair = [0u8; PAIR_BYTES];
+    pair[POINT] = (point / 256 % 256) as u8;
+    pair[POINT + 1] = (point % 256) as u8;
+    lay(&mut pair, CLASS, class);
+    lay(&mut pair, UNEQUAL, unequal);
+    lay(&mut pair, MARK, marks);
+    pair[INFEASIBLE] = infeasible;
+    lay(&mut pair, CODE, codes);
+    pair
+}
+
+fn fingerprint(content: &[u8]) -> usize
+    requires { ⌜ contentBytes ≤ length (now content) ⌝ }
+    ensures { λ r. ⌜ r ≡ fingerprintOf (now (content .entry)) ⌝ }
+{
+    let mut mixed: usize = 0;
+    let mut i: usize = 0;
+    while i < WORDS {
+        let turned = mixed % TURN * 128 + mixed / TURN % 128;
+        mixed = turned ^ word_in(content, 8 * i);
+        i = i + 1;
+    }
+    (mixed / 4294967296 % 4294967296 + mixed % 4294967296) % 4294967296 * 2654435761 / 4294967296
+        % 65536
+}
+
+/// The bytes of a pair: a fingerprint, the point and the window.
+pub fn encode(point: usize, w: Window) -> [u8; PAIR_BYTES]
+    ensures { λ r. ⌜ r ≡ encoded point w ⌝ }
 {
     let class = w.class;
     let unequal = w.unequal;
     let mark = w.mark;
     let result = w.result;
     let ever = w.ever;
-    let infeasible = w.infeasible;
+    let classes = mask_bytes(&class);
+    let unequals = mask_bytes(&unequal);
     let marks = flags(mark);
-    let codes = codes(result, ever);
-    joined(point, class, unequal, marks, flagged(infeasible), codes)
-}
-
-fn checksum(bytes: [u8; 155]) -> usize
-    ensures { λ r. ⌜ r ≡ checksumOf 0 0 bytes ⌝ }
-{
-    let mut sum: usize = 0;
-    let mut sums: usize = 0;
-    let mut i: usize = 0;
-    while i < 155 {
-        sum = sum + wide(bytes[i]);
-        sums = sums + sum;
-        i = i + 1;
-    }
-    sums
-}
-
-/// The bytes of a pair: a fingerprint, the point and the window.
-pub fn encode(point: usize, w: Window) -> [u8; 157]
-    ensures { λ r. ⌜ r ≡ encoded point w ⌝ }
-{
-    let content = content(point, w);
-    let fingerprint = checksum(content);
-    let mut bytes = [0u8; 157];
-    bytes[0] = (fingerprint % 256) as u8;
-    bytes[1] = (fingerprint / 256 % 256) as u8;
-    lay(&mut bytes, POINT, &content);
-    bytes
+    let codes = codes(&result, &ever);
+    let mut pair = parts(
+        point,
+        &classes,
+        &unequals,
+        &marks,
+        flagged(w.infeasible),
+        &codes,
+    );
+    let fingerprint = fingerprint(&pair[POINT..]);
+    pair[0] = (fingerprint / 256 % 256) as u8;
+    pair[1] = (fingerprint % 256) as u8;
+    pair
 }
 
 // ---- reading: from a part of the table that begins with a record
 
-fn wide(x: u8) -> usize
-    ensures { λ r. ⌜ r ≡ x ⌝ }
-    ensures small { λ r. ⌜ r < 256 ⌝ }
-{
-    x as usize
-}
-
-/// The point.
-pub fn point_in(part: &[u8]) -> usize
-    requires { ⌜ 192 ≤ length (now part) ⌝ }
-    ensures { λ r. ⌜ r ≡ pointIn (now (part .entry)) ⌝ }
-{
-    wide(part[POINT]) + 256 * wide(part[POINT + 1])
-}
-
 /// The number of the pair from which it was reached.
 pub fn parent_in(part: &[u8]) -> usize
-    requires { ⌜ 192 ≤ length (now part) ⌝ }
+    requires { ⌜ recordBytes ≤ length (now part) ⌝ }
     ensures { λ r. ⌜ r ≡ parentIn (now (part .entry)) ⌝ }
 {
-    wide(part[PARENT]) + 256 * wide(part[PARENT + 1])
+    256 * wide(part[0]) + wide(part[1])
 }
 
 /// The branch taken there.
 pub fn branch_in(part: &[u8]) -> usize
-    requires { ⌜ 192 ≤ length (now part) ⌝ }
+    requires { ⌜ recordBytes ≤ length (now part) ⌝ }
     ensures { λ r. ⌜ r ≡ branchIn (now (part .entry)) ⌝ }
 {
     wide(part[BRANCH])
 }
 
+/// The point.
+pub fn point_in(part: &[u8]) -> usize
+    requires { ⌜ recordBytes ≤ length (now part) ⌝ }
+    ensures { λ r. ⌜ r ≡ pointIn (now (part .entry)) ⌝ }
+{
+    256 * wide(part[POINT_PLACE]) + wide(part[POINT_PLACE + 1])
+}
+
+/// Whether the pair is this one. Pairs that differ mostly do so in the first word, which has the fingerprint.
+pub fn same_pair(part: &[u8], pair: &[u8; PAIR_BYTES]) -> bool
+    requires { ⌜ recordBytes ≤ length (now part) ⌝ }
+    ensures { λ r. ⌜ r ≡ samePair (now (pair .entry)) (now (part .entry)) ⌝ }
+{
+    let mut at: usize = 0;
+    while at < PAIR_REST {
+        if word_in(part, PAIR + at) != word_in(pair, at) {
+            return false;
+        }
+        at = at + 8;
+    }
+    if half_in(part, PAIR + PAIR_REST) != half_in(pair, PAIR_REST) {
+        return false;
+    }
+    part[PAIR + PAIR_LAST] == pair[PAIR_LAST]
+}
+
 fn eight(part: &[u8], at: usize) -> [u8; 8]
     requires { ⌜ at + 8 ≤ length (now part) ⌝ }
-    ensures { λ r. ⌜ r ≡ eightIn at (now (part .entry)) ⌝ }
+    ensures { λ r. ⌜ r ≡ take 8 (drop at (now (part .entry))) ⌝ }
 {
     let mut bytes = [0u8; 8];
-    let mut i: usize = 0;
-    while i < 8 {
-        bytes[i] = part[at + i];
-        i = i + 1;
-    }
+    let end = at + 8;
+    lay(&mut bytes, 0, &part[at..end]);
     bytes
 }
 
@@ -221,77 +327,95 @@ pub fn marks(flags: [u8; 8]) -> [bool; 8]
 }
 
 // What each code says of the result.
-fn meanings(class: [u8; 8]) -> [u8; 16]
-    ensures { λ r. ⌜ r ≡ meaningsOf class ⌝ }
+fn meanings(class: &[u8; 8]) -> [u8; 16]
+    ensures { λ r. ⌜ r ≡ meaningsOf (now (class .entry)) ⌝ }
 {
     let mut meanings = [0u8; 16];
-    lay(&mut meanings, 2, &class);
+    lay(&mut meanings, 2, class);
     meanings
 }
 
-fn results(part: &[u8], class: [u8; 8]) -> [u8; 256]
-    requires { ⌜ 192 ≤ length (now part) ⌝ }
-    ensures { λ r. ⌜ r ≡ resultIn class (now (part .entry)) ⌝ }
+// The results, by what each code says. Most lines have the code 0 only, and stay as they are.
+fn put_results(part: &[u8], meanings: &[u8; 16], result: &mut [u8; 256])
+    requires { ⌜ (recordBytes ≤ length (now part)) × (getD (now meanings) 0 0 ≡ 0) × (now result ≡ replicate results 0) ⌝ }
+    ensures { λ _. ⌜ now (result .exit) ≡ meant (now (meanings .entry)) (codesAt (now (part .entry))) ⌝ }
 {
-    let meanings = meanings(class);
-    let mut result = [0u8; 256];
-    let mut i: usize = 0;
-    while i < 128 {
-        let both = wide(part[CODE + i]);
-        result[2 * i] = meanings[both % 16];
-        result[2 * i + 1] = meanings[both / 16];
-        i = i + 1;
+    let mut j: usize = 0;
+    while j < 32 {
+        let at = CODE_PLACE + 4 * j;
+        let to = 8 * j;
+        if half_in(part, at) == 0 {
+            j = j + 1;
+        } else {
+            let a = wide(part[at]);
+            let b = wide(part[at + 1]);
+            let c = wide(part[at + 2]);
+            let d = wide(part[at + 3]);
+            result[to] = meanings[a / 16];
+            result[to + 1] = meanings[a % 16];
+            result[to + 2] = meanings[b / 16];
+            result[to + 3] = meanings[b % 16];
+            result[to + 4] = meanings[c / 16];
+            result[to + 5] = meanings[c % 16];
+            result[to + 6] = meanings[d / 16];
+            result[to + 7] = meanings[d % 16];
+            j = j + 1;
+        }
     }
-    result
 }
 
-// Of two codes in one byte, which say that the application was computed: the lower one's bit first.
+// Of two codes in one byte, which say that the application was computed: the first one's bit first.
 fn computed(both: u8) -> u8
-    ensures { λ r. ⌜ r ≡ computedOf (both % 16) + 2 * computedOf (both / 16) ⌝ }
+    ensures { λ r. ⌜ r ≡ computedOf (both / 16 % 16) + 2 * computedOf (both % 16) ⌝ }
     ensures small { λ r. ⌜ r ≤ 3 ⌝ }
 {
-    if both % 16 == 0 {
-        if both / 16 == 0 {
+    if both / 16 == 0 {
+        if both % 16 == 0 {
             return 0;
         }
         return 2;
     }
-    if both / 16 == 0 {
+    if both % 16 == 0 {
         return 1;
     }
     3
 }
 
 fn ever_lines(part: &[u8]) -> [u8; 32]
-    requires { ⌜ 192 ≤ length (now part) ⌝ }
-    ensures { λ r. ⌜ r ≡ everIn (now (part .entry)) ⌝ }
+    requires { ⌜ recordBytes ≤ length (now part) ⌝ }
+    ensures { λ r. ⌜ r ≡ everIn (codesAt (now (part .entry))) ⌝ }
 {
     let mut ever = [0u8; 32];
     let mut j: usize = 0;
     while j < 32 {
-        let at = CODE + 4 * j;
-        let a = computed(part[at]);
-        let b = computed(part[at + 1]);
-        let c = computed(part[at + 2]);
-        let d = computed(part[at + 3]);
-        ever[j] = a + 4 * b + 16 * c + 64 * d;
-        j = j + 1;
+        let at = CODE_PLACE + 4 * j;
+        if half_in(part, at) == 0 {
+            j = j + 1;
+        } else {
+            let a = computed(part[at]);
+            let b = computed(part[at + 1]);
+            let c = computed(part[at + 2]);
+            let d = computed(part[at + 3]);
+            ever[j] = a + 4 * b + 16 * c + 64 * d;
+            j = j + 1;
+        }
     }
     ever
 }
 
 /// The window.
 pub fn window_in(part: &[u8]) -> Window
-    requires { ⌜ 192 ≤ length (now part) ⌝ }
+    requires { ⌜ recordBytes ≤ length (now part) ⌝ }
     ensures { λ r. ⌜ r ≡ windowIn (now (part .entry)) ⌝ }
 {
-    let class = eight(part, CLASS);
-    let unequal = eight(part, UNEQUAL);
-    let result = results(part, class);
+    let class = eight(part, CLASS_PLACE);
+    let unequal = eight(part, UNEQUAL_PLACE);
+    let mark = marks(eight(part, MARK_PLACE));
+    let meanings = meanings(&class);
+    let mut result = [0u8; 256];
+    put_results(part, &meanings, &mut result);
     let ever = ever_lines(part);
-    let flags = eight(part, MARK);
-    let mark = marks(flags);
-    let infeasible = part[INFEASIBLE] == 1;
+    let infeasible = part[INFEASIBLE_PLACE] == 1;
     Window {
         class,
         unequal,
@@ -304,21 +428,21 @@ pub fn window_in(part: &[u8]) -> Window
 
 // ---- a whole record
 
-fn whole(pair: [u8; 157], parent: usize, branch: usize) -> [u8; 192]
-    ensures { λ r. ⌜ r ≡ recordOf pair parent branch ⌝ }
+fn whole(pair: &[u8; PAIR_BYTES], parent: usize, branch: usize) -> [u8; RECORD_BYTES]
+    ensures { λ r. ⌜ r ≡ recordOf (now (pair .entry)) parent branch ⌝ }
 {
-    let mut bytes = [0u8; 192];
-    lay(&mut bytes, 0, &pair);
-    bytes[PARENT] = (parent % 256) as u8;
-    bytes[PARENT + 1] = (parent / 256 % 256) as u8;
+    let mut bytes = [0u8; RECORD_BYTES];
+    bytes[0] = (parent / 256 % 256) as u8;
+    bytes[1] = (parent % 256) as u8;
     bytes[BRANCH] = (branch % 256) as u8;
+    lay(&mut bytes, PAIR, pair);
     bytes
 }
 
-/// Writes a record over the first 192 bytes of a part of the table, and leaves the rest.
-pub fn write(part: &mut [u8], pair: [u8; 157], parent: usize, branch: usize)
-    requires { ⌜ 192 ≤ length (now part) ⌝ }
-    ensures { λ _. ⌜ now (part .exit) ≡ recordOf pair parent branch ++ drop 192 (now (part .entry)) ⌝ }
+/// Writes a record over the front of a part of the table, and leaves the rest.
+pub fn write(part: &mut [u8], pair: &[u8; PAIR_BYTES], parent: usize, branch: usize)
+    requires { ⌜ recordBytes ≤ length (now part) ⌝ }
+    ensures { λ _. ⌜ now (part .exit) ≡ recordOf (now (pair .entry)) parent branch ++ drop recordBytes (now (part .entry)) ⌝ }
 {
     let bytes = whole(pair, parent, branch);
     lay(part, 0, &bytes);

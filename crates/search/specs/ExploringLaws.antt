@@ -7,13 +7,11 @@ use mathlib.Core.List.{List}
 use lib.Dec.{eqb, leb}
 use borrow.Author.Tests.{lt-ltb, le-ltb, eqb-false, ne-eqb}
 use Rattle.letters.specs.declared.Header.{Header}
-use Rattle.base.specs.Choice.{pick, byTest}
+use Rattle.base.specs.Choice.{byTest}
 use Rattle.window.specs.declared.Window.{Window}
 use Rattle.window.specs.Perform.{judgeOf, performOf, freshOf}
 use Rattle.records.specs.Records.{encoded, recordOf}
-use Rattle.table.specs.Table.{windowAt, findOf, putAt}
-use Rattle.table.specs.declared.Found.{Found}
-use Rattle.table.specs.declared.Found.the-variants.{At, Nowhere}
+use Rattle.table.specs.Table.{windowAt, isListed, putAt}
 use Rattle.blocks.specs.declared.Point.{Point}
 use Rattle.search.specs.declared.PointMove.{PointMove}
 use Rattle.search.specs.declared.PointMove.the-variants.{Nothing, Goes, Fails}
@@ -22,7 +20,7 @@ use Rattle.search.specs.declared.Turn.the-variants.{On, Full, Breaking, 
 use Rattle.search.specs.declared.Search.{Search}
 use Rattle.search.specs.declared.Search.the-variants as found
 use Rattle.search.specs.Moves.{moveOf}
-use Rattle.search.specs.Turns.{onFound, reachTurn, failTurn, takenTurn, turnOf, tableOf}
+use Rattle.search.specs.Turns.{reachTurn, failTurn, takenTurn, turnOf, tableOf}
 use Rattle.search.specs.Exploring.{pointOf, onTurn, exploreFrom, exploreOf, searchOf}
 
 -- ── the count stays within the table ──
@@ -34,13 +32,10 @@ Within count n Breaking = Unit {0}
 Within count n Failing = Unit {0}
 
 module _ (n count : ℕ) (l : count ≤ n) where
-  found-within : (f : Found) → Within count n (onFound f (On count) (pick (eqb count n) (λ _. Full) λ _. On (count + 1)))
-  found-within (At j) = (omega arith, omega arith)
-  found-within Nowhere = byTest (eqb count n) (λ e. rw e tt) (λ e. rw e (omega arith, let g = eqb-false count n e in omega arith))
-
   reach-within : (k : ℕ) (w : Window) (end : ℕ) (t : List ℕ) → Within count n (reachTurn k w end n count t)
   unfolding reachTurn
-  reach-within k w end t = byTest (leb end k) (λ e. rw e (omega arith, omega arith)) (λ e. rw e (found-within (findOf t count (encoded k w))))
+  reach-within k w end t = byTest (leb end k) (λ e. rw e (omega arith, omega arith)) λ e. rw e (byTest (isListed t count (encoded k w)) (λ f. rw f (omega arith, omega arith))
+      λ f. rw f (byTest (eqb count n) (λ g. rw g tt) λ g. rw g (omega arith, let h = eqb-false count n g in omega arith)))
 
   fail-within : (w : Window) → Within count n (failTurn w count)
   unfolding failTurn

@@ -28,17 +28,15 @@ use Rattle.window.specs.Perform.{judgeOf, performOf}
 use Rattle.window.specs.Step.{Holds}
 use Rattle.records.specs.Records.{encoded, recordOf}
 use Rattle.records.specs.Storable.{Storable}
-use Rattle.table.specs.Table.{putAt, pointAt, windowAt, parentAt, branchAt, findOf}
+use Rattle.table.specs.Table.{putAt, pointAt, windowAt, parentAt, branchAt, isListed}
 use Rattle.table.specs.TableLaws.{Kept, found as found-pair, nowhere}
-use Rattle.table.specs.declared.Found.{Found}
-use Rattle.table.specs.declared.Found.the-variants.{At, Nowhere}
 use Rattle.stored.specs.Stored.{storable}
 use Rattle.search.specs.declared.PointMove as enum
 use Rattle.search.specs.declared.PointMove.the-variants.{Nothing, Goes, Fails}
 use Rattle.search.specs.declared.Turn.{Turn}
 use Rattle.search.specs.declared.Turn.the-variants.{On, Full, Breaking, Failing}
 use Rattle.search.specs.Moves.{moveOf}
-use Rattle.search.specs.Turns.{onFound, reachTurn, reachTable, failTurn, takenTurn, takenTable, turnOf, tableOf}
+use Rattle.search.specs.Turns.{reachTurn, reachTable, failTurn, takenTurn, takenTable, turnOf, tableOf}
 use Rattle.search.specs.Exploring.{pointOf}
 use Rattle.search.specs.Store.{branchNumbered, listed, written, others, put-long}
 use Rattle.search.specs.HeldPoints.{meant}
@@ -118,18 +116,18 @@ module _ (given : Given) where
       fits-record : Storable v
       fits-record = storable (state (lv .0)) (state-valid (lv .0) (lv .1 .0)) v (lv .3)
 
-      listed-already : (j : ℕ) → findOf t count (encoded p v) ≡ At j → Going n count (d + 1) t
-      listed-already j f =
-          let (r, x, y) = found-pair t count p v j (omega (arith, given .few)) fits-record f in
+      listed-already : isListed t count (encoded p v) ≡ true → Going n count (d + 1) t
+      listed-already f =
+          let (j, r, x, y) = found-pair t count p v (omega (arith, given .few)) fits-record f in
           stays (meets starts step (listed t count) i b (p, v) j here e r (λ z. (x z, y z)))
 
-      new : findOf t count (encoded p v) ≡ Nowhere → (j : ℕ) → j < count → _≡_ {A = ℕ × Window} (pointAt t j, windowAt t j) (p, v) → ⊥
+      new : isListed t count (encoded p v) ≡ false → (j : ℕ) → j < count → _≡_ {A = ℕ × Window} (pointAt t j, windowAt t j) (p, v) → ⊥
       new f j r x = nowhere t count p v f j r (g .kept j r) (ap (λ z. z .0) x, ap (λ z. z .1) x)
 
-      too-many : findOf t count (encoded p v) ≡ Nowhere → count ≡ n → Passing n
+      too-many : isListed t count (encoded p v) ≡ false → count ≡ n → Passing n
       too-many f x = subst Passing x (new-more starts step (listed t count) i b (p, v) here (omega arith) e (new f))
 
-      module _ (f : findOf t count (encoded p v) ≡ Nowhere) (x : count < n) where
+      module _ (f : isListed t count (encoded p v) ≡ false) (x : count < n) where
         abbrev u : List ℕ
         u = putAt t count (recordOf (encoded p v) (d / 2) (d % 2))
 
@@ -171,13 +169,13 @@ module _ (given : Given) where
           room = let y = put-long t count p (d / 2) (d % 2) v fits fits-record in let r = g .room in omega arith;
         }
 
-      found : (o : Found) → findOf t count (encoded p v) ≡ o
-          → Turned n count d t (onFound o (On count) (pick (eqb count n) (λ _. Full) λ _. On (count + 1)))
-          (onFound o t (pick (eqb count n) (λ _. t) λ _. putAt t count (recordOf (encoded p v) (d / 2) (d % 2))))
-      found (At j) f = listed-already j f
-      found Nowhere f = byTest (eqb count n)
+      found : Turned n count d t (pick (isListed t count (encoded p v)) (λ _. On count) λ _. pick (eqb count n) (λ _. Full) λ _. On (count + 1))
+          (pick (isListed t count (encoded p v)) (λ _. t) λ _. pick (eqb count n) (λ _. t) λ _. putAt t count (recordOf (encoded p v) (d / 2) (d % 2)))
+      found = byTest (isListed t count (encoded p v))
+          (λ f. rw f (listed-already f))
+          λ f. rw f (byTest (eqb count n)
           (λ y. rw y (too-many f (eqb-true count n y)))
-          (λ y. rw y (listed-anew f (let z = eqb-false count n y in let r = g .within in omega arith)))
+          λ y. rw y (listed-anew f (let z = eqb-false count n y in let r = g .within in omega arith)))
 
     -- a letter that is coherent: the window after it
     module _ (a : Letter) (c : Fits (header given) a) (ok : judgeOf w a ≡ true) where
@@ -193,7 +191,7 @@ module _ (given : Given) where
       unfolding reachTurn reachTable
       reaching p e = byTest (leb (end given) p)
           (λ y. rw y (stopped (e ∙ at-end (ltb p (end given)) (le-ltb p (end given) (leb-true (end given) p y)))))
-          (λ y. rw y (let q = leb-false (end given) p y in found p (performOf w a) (e ∙ at-pair (ltb p (end given)) (lt-ltb p (end given) q)) live-after q (findOf t count (encoded p (performOf w a))) refl))
+          (λ y. rw y (let q = leb-false (end given) p y in found p (performOf w a) (e ∙ at-pair (ltb p (end given)) (lt-ltb p (end given) q)) live-after q))
         where
           at-end : (z : Bool) → z ≡ false → _≡_ {A = Step Window} (elim z [ true ↦ next (p, performOf w a) | false ↦ stop ]) stop
           at-end true z = absurd (let y : _≡_ {A = ℕ} 0 1 = cc in omega arith)

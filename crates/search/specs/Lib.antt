@@ -2,6 +2,7 @@ pub mod Moves
 pub mod Turns
 pub mod TurnLaws
 pub mod Exploring
+pub mod Keeping
 pub mod ExploringLaws
 pub mod Store
 pub mod HeldPoints

@@ -46,7 +46,7 @@ module _ (t : List ℕ) (k p i b : ℕ) (w : Window) (fits : 192 * k + 192 ≤ l
         window-other t k (recordOf (encoded p w) i b) fits long j e,
         parent-other t k (recordOf (encoded p w) i b) fits long j e,
         branch-other t k (recordOf (encoded p w) i b) fits long j e,
-        (λ x. kept-other t k (recordOf (encoded p w) i b) fits long j e (omega arith) x),
+        kept-other t k (recordOf (encoded p w) i b) fits long j e,
       )
 
   pub put-long : length put ≡ length t

@@ -12,7 +12,6 @@ use Rattle.letters.specs.Words.{encodeHeader, encodeLetter}
 use Rattle.letters.specs.Putting.{putWord}
 use Rattle.blocks.specs.declared.Point.{Point}
 use Rattle.table.specs.Table.{pointAt, parentAt, branchAt}
-use Rattle.search.specs.declared.PointMove as enum
 use Rattle.search.specs.Moves.{moveOf, letterOf, noPoint}
 use Rattle.search.specs.Trails.{letterAt, trailTo, trailOf}
 use Rattle.search.specs.Tracing.{Older, wordOf, wordBytes, letterWords, traced}
@@ -76,10 +75,10 @@ unfolding trailTo
 trail-end sp t rest zero e = refl
 trail-end sp t rest (suc j) e = absurd (omega arith)
 
--- the letter of the branch that was chosen
-pub letter-is : (sp : List Point) (t : List ℕ) (i b : ℕ) (o : enum.PointMove) (k : ℕ) → k ≡ pointAt t i → o ≡ moveOf (getD sp (k % 256) noPoint) b → letterOf o ≡ letterAt sp t i b
+-- the letter of a branch of the point of pair i
+pub letter-is : (sp : List Point) (t : List ℕ) (i b k : ℕ) (a : Letter) → k ≡ pointAt t i → a ≡ letterOf (moveOf (getD sp (k % 256) noPoint) b) → a ≡ letterAt sp t i b
 unfolding letterAt
-letter-is sp t i b o k e f = ap letterOf f ∙ ap (λ n. letterOf (moveOf (getD sp (n % 256) noPoint) b)) e
+letter-is sp t i b k a e f = f ∙ ap (λ n. letterOf (moveOf (getD sp (n % 256) noPoint) b)) e
 
 -- ── as the loop stores them ──
 module _ (h : Header) (b : List ℕ) (w : ℕ) where

@@ -10,9 +10,7 @@ use Rattle.blocks.specs.declared.Point.{Point}
 use Rattle.window.specs.declared.Window.{Window}
 use Rattle.window.specs.Perform.{judgeOf, performOf}
 use Rattle.records.specs.Records.{encoded, recordOf}
-use Rattle.table.specs.Table.{putAt, windowAt, findOf}
-use Rattle.table.specs.declared.Found.{Found}
-use Rattle.table.specs.declared.Found.the-variants.{At, Nowhere}
+use Rattle.table.specs.Table.{putAt, windowAt, isListed}
 use Rattle.search.specs.declared.PointMove.{PointMove}
 use Rattle.search.specs.declared.PointMove.the-variants.{Nothing, Goes, Fails}
 use Rattle.search.specs.declared.Turn.{Turn}
@@ -29,19 +27,19 @@ module _ (k : ℕ) (w : Window) (end n count d : ℕ) (t : List ℕ) where
   unfolding reachTurn reachTable
   reach-ended l = (rw (le-leb end k l) refl, rw (le-leb end k l) refl)
 
-  module _ (l : k < end) (pair : List ℕ) (found : Found) (e : pair ≡ encoded k w) (f : found ≡ findOf t count pair) where
-    looked : found ≡ findOf t count (encoded k w)
-    looked = f ∙ ap (findOf t count) e
+  module _ (l : k < end) (pair : List ℕ) (found : Bool) (e : pair ≡ encoded k w) (f : found ≡ isListed t count pair) where
+    looked : found ≡ isListed t count (encoded k w)
+    looked = f ∙ ap (isListed t count) e
 
-    pub reach-seen : (j : ℕ) → found ≡ At j → Reached (On count) t
+    pub reach-seen : found ≡ true → Reached (On count) t
     unfolding reachTurn reachTable
-    reach-seen j g = (rw (lt-leb end k l, ← looked, g) refl, rw (lt-leb end k l, ← looked, g) refl)
+    reach-seen g = (rw (lt-leb end k l, ← looked, g) refl, rw (lt-leb end k l, ← looked, g) refl)
 
-    pub reach-full : found ≡ Nowhere → count ≡ n → Reached Full t
+    pub reach-full : found ≡ false → count ≡ n → Reached Full t
     unfolding reachTurn reachTable
     reach-full g h = (rw (lt-leb end k l, ← looked, g, eq-eqb count n h) refl, rw (lt-leb end k l, ← looked, g, eq-eqb count n h) refl)
 
-    pub reach-new : found ≡ Nowhere → count ≢ n → (t′ : List ℕ) → t′ ≡ putAt t count (recordOf pair (d / 2) (d % 2)) → Reached (On (count + 1)) t′
+    pub reach-new : found ≡ false → count ≢ n → (t′ : List ℕ) → t′ ≡ putAt t count (recordOf pair (d / 2) (d % 2)) → Reached (On (count + 1)) t′
     unfolding reachTurn reachTable
     reach-new g h t′ i = (
       rw (lt-leb end k l, ← looked, g, ne-eqb count n h) refl,

@@ -7,9 +7,7 @@ use Rattle.blocks.specs.declared.Point.{Point}
 use Rattle.window.specs.declared.Window.{Window}
 use Rattle.window.specs.Perform.{judgeOf, performOf}
 use Rattle.records.specs.Records.{encoded, recordOf}
-use Rattle.table.specs.Table.{putAt, windowAt, findOf}
-use Rattle.table.specs.declared.Found.{Found}
-use Rattle.table.specs.declared.Found.the-variants.{At, Nowhere}
+use Rattle.table.specs.Table.{putAt, windowAt, isListed}
 use Rattle.search.specs.declared.PointMove.{PointMove}
 use Rattle.search.specs.declared.PointMove.the-variants.{Nothing, Goes, Fails}
 use Rattle.search.specs.declared.Turn.{Turn}
@@ -23,18 +21,13 @@ pub record Room (n count d size : ℕ) : Type 0 where
   pub listed : count ≤ n
   pub due : d < 2 * count
 
--- By whether the pair is found.
-abbrev pub onFound : {A : Type 0} → Found → A → A → A
-onFound (At j) a b = a
-onFound Nowhere a b = b
-
 -- Point k is reached with the window w: a pair, unless k is the end. Of the count of pairs: "full is given exactly when it passes N".
 unfoldable pub reachTurn : ℕ → Window → ℕ → ℕ → ℕ → List ℕ → Turn
-reachTurn k w end n count t = pick (leb end k) (λ _. On count) λ _. onFound (findOf t count (encoded k w)) (On count) (pick (eqb count n) (λ _. Full) λ _. On (count + 1))
+reachTurn k w end n count t = pick (leb end k) (λ _. On count) λ _. pick (isListed t count (encoded k w)) (λ _. On count) λ _. pick (eqb count n) (λ _. Full) λ _. On (count + 1)
 
 unfoldable pub reachTable : ℕ → Window → ℕ → ℕ → ℕ → ℕ → List ℕ → List ℕ
 reachTable k w end n count d t =
-    pick (leb end k) (λ _. t) λ _. onFound (findOf t count (encoded k w)) t (pick (eqb count n) (λ _. t) λ _. putAt t count (recordOf (encoded k w) (d / 2) (d % 2)))
+    pick (leb end k) (λ _. t) λ _. pick (isListed t count (encoded k w)) (λ _. t) λ _. pick (eqb count n) (λ _. t) λ _. putAt t count (recordOf (encoded k w) (d / 2) (d % 2))
 
 -- An assertion fails with the window w. "Infeasible executions are followed too", and are no event.
 unfoldable pub failTurn : Window → ℕ → Turn

@@ -1,5 +1,7 @@
 // The search for a verdict, breadth first from pair to pair (document 01, "The search for a verdict").
 use blocks::Point;
+use index::Heads;
+use index::Links;
 use letters::Encoded;
 use letters::Header;
 use letters::Letter;
@@ -8,7 +10,6 @@ use letters::words::encode_letter;
 use shown::Shown;
 use shown::show;
 use syntax::Macro;
-use table::Found;
 use window::Window;
 ghost use mathlib.Core.Path.{_≡_};
 ghost use Prim.Native.Nat.{_+_, _*_, _/_, _%_, _≤_, _<_};
@@ -18,9 +19,12 @@ ghost use Rattle.search.specs.Moves.{oppositeOf, moveOf, letterOf, AllWi
 ghost use Rattle.window.specs.Perform.{Within};
 ghost use Rattle.search.specs.Turns.{Room, reachTurn, reachTable, failTurn, turnOf, tableOf};
 ghost use Rattle.search.specs.Exploring.{exploreOf, searchOf};
+ghost use Rattle.search.specs.Keeping.{Keeps, Carried};
+ghost use Rattle.table.specs.Table.{windowAt};
+ghost use Rattle.index.specs.Index.{Indexed};
 ghost use Rattle.letters.specs.Editions.{firstEdition};
 ghost use Rattle.letters.specs.Words.{encodeHeader, encodeLetter};
-ghost use Rattle.search.specs.Trails.{letterAt, trailOf};
+ghost use Rattle.search.specs.Trails.{trailOf};
 ghost use Rattle.search.specs.Tracing.{Older, wordOf, traced};
 ghost use Rattle.search.specs.Modelling.{Modelled};
 ghost use Rattle.search.specs.Answering.{answerOf, Delivers};
@@ -123,30 +127,30 @@ fn reach(
     w: Window,
     end: usize,
     table: &mut [u8],
+    head: &mut Heads,
+    link: &mut Links,
     n: usize,
     count: usize,
     d: usize,
 ) -> Turn
-    requires { ⌜ Room n count d (length (now table)) ⌝ }
-    ensures { λ r. ⌜ (r ≡ reachTurn k w end n count (now (table .entry))) × (now (table .exit) ≡ reachTable k w end n count d (now (table .entry))) ⌝ }
+    requires { ⌜ Room n count d (length (now table)) × Indexed (now table) (now head) (now link) count ⌝ }
+    ensures { λ r. ⌜ (r ≡ reachTurn k w end n count (now (table .entry))) × (now (table .exit) ≡ reachTable k w end n count d (now (table .entry))) × Keeps count (now (table .entry)) r (now (table .exit)) (now (head .exit)) (now (link .exit)) ⌝ }
 {
     if end <= k {
         return Turn::On(count);
     }
     let pair = records::encode(k, w);
-    let found = table::find(table, count, pair);
-    match found {
-        Found::At(j) => {
-            return Turn::On(count);
-        }
-        Found::Nowhere => {
-            if count == n {
-                return Turn::Full;
-            }
-            table::put(table, count, pair, d / 2, d % 2);
-            return Turn::On(count + 1);
-        }
+    if index::is_listed(table, head, link, count, &pair) {
+        return Turn::On(count);
     }
+    if count == n {
+        return Turn::Full;
+    }
+    let parent = d / 2;
+    table::put(table, count, pair, parent, d % 2);
+    index::enter(head, link, count, &pair);
+    let more = count + 1;
+    Turn::On(more)
 }
 
 // An assertion has failed with the window w: an event, unless the execution is infeasible.
@@ -159,10 +163,20 @@ fn fail(w: Window, count: usize) -> Turn
     Turn::Failing
 }
 
-// Performs move number d: branch d % 2 of pair d / 2, whose point this is.
-fn one_move(point: Point, end: usize, table: &mut [u8], n: usize, count: usize, d: usize) -> Turn
-    requires { ⌜ Room n count d (length (now table)) × Within (letterOf (moveOf point (d % 2))) ⌝ }
-    ensures { λ r. ⌜ (r ≡ turnOf point end n count d (now (table .entry))) × (now (table .exit) ≡ tableOf point end n count d (now (table .entry))) ⌝ }
+// Performs move number d: branch d % 2 of pair d / 2, whose point and window these are.
+fn one_move(
+    point: Point,
+    w: Window,
+    end: usize,
+    table: &mut [u8],
+    head: &mut Heads,
+    link: &mut Links,
+    n: usize,
+    count: usize,
+    d: usize,
+) -> Turn
+    requires { ⌜ Room n count d (length (now table)) × Within (letterOf (moveOf point (d % 2))) × (w ≡ windowAt (now table) (d / 2)) × Indexed (now table) (now head) (now link) count ⌝ }
+    ensures { λ r. ⌜ (r ≡ turnOf point end n count d (now (table .entry))) × (now (table .exit) ≡ tableOf point end n count d (now (table .entry))) × Keeps count (now (table .entry)) r (now (table .exit)) (now (head .exit)) (now (link .exit)) ⌝ }
 {
     let chosen = choose(point, d % 2);
     match chosen {
@@ -170,15 +184,13 @@ fn one_move(point: Point, end: usize, table: &mut [u8], n: usize, count: usize, 
             return Turn::On(count);
         }
         PointMove::Goes(letter, k) => {
-            let w = table::window_at(table, d / 2);
             if window::judge(w, letter) {
                 let after = window::perform(w, letter);
-                return reach(k, after, end, table, n, count, d);
+                return reach(k, after, end, table, head, link, n, count, d);
             }
             return Turn::Breaking;
         }
         PointMove::Fails(letter) => {
-            let w = table::window_at(table, d / 2);
             if window::judge(w, letter) {
                 let after = window::perform(w, letter);
                 return fail(after, count);
@@ -188,17 +200,32 @@ fn one_move(point: Point, end: usize, table: &mut [u8], n: usize, count: usize, 
     }
 }
 
+// The window of the pair of move number d: read before the pair's first move, and kept for its second.
+fn current(table: &[u8], w: Window, d: usize) -> Window
+    requires { ⌜ (192 * (d / 2) + 192 ≤ length (now table)) × Carried w d (now table) ⌝ }
+    ensures { λ r. ⌜ r ≡ windowAt (now (table .entry)) (d / 2) ⌝ }
+{
+    if d % 2 == 0 {
+        return table::window_at(table, d / 2);
+    }
+    w
+}
+
 // Performs the moves in order, from the pair in the table's first record on.
 fn explore(points: [Point; 256], end: usize, table: &mut [u8], n: usize) -> Search
     requires { ⌜ (n ≤ 1024) × (1 ≤ n) × (192 * n ≤ length (now table)) × AllWithin points ⌝ }
     ensures { λ r. ⌜ (r ≡ exploreOf points end n (now (table .entry)) .0) × (now (table .exit) ≡ exploreOf points end n (now (table .entry)) .1) ⌝ }
 {
+    let mut head = [0u16; 1024];
+    let mut link = [0u16; 1024];
+    let mut w = window::fresh(1);
     let mut count: usize = 1;
     let mut d: usize = 0;
     while d < 2 * count {
+        w = current(table, w, d);
         let k = table::point_at(table, d / 2);
         let point = points[k % 256];
-        let turn = one_move(point, end, table, n, count, d);
+        let turn = one_move(point, w, end, table, &mut head, &mut link, n, count, d);
         match turn {
             Turn::On(m) => {
                 count = m;
@@ -251,13 +278,10 @@ pub struct Packed {
     pub start: usize,
 }
 
-// The letter that branch b performs at pair i.
-fn letter_at(points: [Point; 256], table: &[u8], i: usize, b: usize) -> Letter
-    requires { ⌜ 192 * i + 192 ≤ length (now table) ⌝ }
-    ensures { λ r. ⌜ r ≡ letterAt points (now (table .entry)) i b ⌝ }
+// The letter that branch b of a point performs.
+fn letter_of(point: Point, b: usize) -> Letter
+    ensures { λ r. ⌜ r ≡ letterOf (moveOf point b) ⌝ }
 {
-    let k = table::point_at(table, i);
-    let point = points[k % 256];
     let chosen = choose(point, b);
     match chosen {
         PointMove::Nothing => {
@@ -311,7 +335,9 @@ fn pack(header: Header, points: [Point; 256], table: &[u8], d: usize) -> Packed
     ensures { λ r. ⌜ (drop (r .start) (r .bytes) ≡ traced header (trailOf points (now (table .entry)) d)) × (length (r .bytes) ≡ 2050) × (r .start ≤ 2048) ⌝ }
 {
     let mut bytes = [0u8; 2050];
-    let last = letter_at(points, table, d / 2, d % 2);
+    let k = table::point_at(table, d / 2);
+    let point = points[k % 256];
+    let last = letter_of(point, d % 2);
     let word = letter_word(header, last);
     bytes[2048] = (word / 256) as u8;
     bytes[2049] = (word % 256) as u8;
@@ -320,7 +346,9 @@ fn pack(header: Header, points: [Point; 256], table: &[u8], d: usize) -> Packed
     while j != 0 {
         let parent = table::parent_at(table, j);
         let branch = table::branch_at(table, j);
-        let letter = letter_at(points, table, parent, branch);
+        let before = table::point_at(table, parent);
+        let performed = points[before % 256];
+        let letter = letter_of(performed, branch);
         let next = letter_word(header, letter);
         bytes[at - 2] = (next / 256) as u8;
         bytes[at - 1] = (next % 256) as u8;

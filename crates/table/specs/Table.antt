@@ -1,18 +1,16 @@
 -- The table of pairs: "Pair number k lies in bytes 192 times k onward, k from 0" (document 01, "The search for a verdict").
-use Prim.Native.Nat.{ℕ, zero, suc, _+_, _*_}
+use Prim.Native.Nat.{ℕ, zero, suc, _*_}
 use mathlib.Core.Bool.{Bool, true, false}
-use mathlib.Core.List.{List, [], _∷_, _++_}
-use lib.Dec.{eqb}
-use lib.ListN.{length, take, drop}
+use mathlib.Core.List.{List, _++_}
+use lib.ListN.{take, drop}
 use Rattle.base.specs.Choice.{pick}
 use Rattle.window.specs.declared.Window.{Window}
-use Rattle.records.specs.Records.{pointIn, parentIn, branchIn, windowIn}
-use Rattle.table.specs.declared.Found.{Found}
-use Rattle.table.specs.declared.Found.the-variants.{At, Nowhere}
+use Rattle.records.specs.Formats.{pairPlace}
+use Rattle.records.specs.Records.{recordBytes, pairBytes, pointIn, parentIn, branchIn, windowIn, samePair}
 
 -- The bytes from record k on.
 abbrev pub onward : List ℕ → ℕ → List ℕ
-onward t k = drop (192 * k) t
+onward t k = drop (recordBytes * k) t
 
 unfoldable pub pointAt : List ℕ → ℕ → ℕ
 pointAt t k = pointIn (onward t k)
@@ -28,19 +26,17 @@ windowAt t k = windowIn (onward t k)
 
 -- The table with r for its record k: the bytes before it and after it stay.
 unfoldable pub putAt : List ℕ → ℕ → List ℕ → List ℕ
-putAt t k r = take (192 * k) t ++ (r ++ drop 192 (onward t k))
+putAt t k r = take (recordBytes * k) t ++ (r ++ drop recordBytes (onward t k))
 
--- Whether the second list begins with the first.
-unfoldable pub sameFront : List ℕ → List ℕ → Bool
-sameFront [] ys = true
-sameFront (x ∷ xs) [] = false
-sameFront (x ∷ xs) (y ∷ ys) = pick (eqb y x) (λ _. sameFront xs ys) λ _. false
+-- The bytes of pair k.
+unfoldable pub pairAt : List ℕ → ℕ → List ℕ
+pairAt t k = take pairBytes (drop pairPlace (onward t k))
 
--- The first of the n records from k on that begins with the pair.
-unfoldable pub findFrom : ℕ → ℕ → List ℕ → List ℕ → Found
-findFrom k zero t pair = Nowhere
-findFrom k (suc n) t pair = pick (sameFront pair (onward t k)) (λ _. At k) λ _. findFrom (suc k) n t pair
+-- Whether pair k is this one.
+unfoldable pub isAt : List ℕ → ℕ → List ℕ → Bool
+isAt t k pair = samePair pair (onward t k)
 
--- The first of the records below count that begins with the pair.
-unfoldable pub findOf : List ℕ → ℕ → List ℕ → Found
-findOf t count pair = findFrom 0 count t pair
+-- Whether one of the pairs below count is this one.
+unfoldable pub isListed : List ℕ → ℕ → List ℕ → Bool
+isListed t zero pair = false
+isListed t (suc k) pair = pick (isAt t k pair) (λ _. true) λ _. isListed t k pair

@@ -9,4 +9,6 @@ use Rattle.records.proofs.code.Tie as tie
 
 pub code-spec : {M : Type 1} → statement M
 unfolding codeOf
-code-spec = tie.close (tie.spec (λ c. search needs) (λ c. search needs) (λ c. (search decide, omega arith)) (λ c. omega (arith, trailing-le 8 (c .before .args .mask))) (λ c. omega (arith, trailing-le 8 (c .before .args .mask))) (λ c. (search (decide, trailing-least), omega (arith, trailing-le 8 (c .before .args .mask)))))
+code-spec = tie.close (tie.spec (λ c. search needs) (λ c. search needs) (λ c. (search decide, omega arith))
+    (λ c. omega (arith, trailing-le 8 (c .before .args .mask))) (λ c. omega (arith, trailing-le 8 (c .before .args .mask)))
+    (λ c. (search (decide, trailing-least), omega (arith, trailing-le 8 (c .before .args .mask)))))

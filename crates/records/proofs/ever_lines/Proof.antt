@@ -1,16 +1,16 @@
 use Prim.Native.Nat.{_-_, _≤_}
 use native.Mathlib.Omega.{arith}
-use lib.ListN.{length}
-use Rattle.base.specs.Written.{Written, written-none, written-more}
-use Rattle.window.specs.Table.{written-all}
-use Rattle.records.specs.Records.{everMask, everIn}
-use Rattle.records.proofs.Turns.{ever-turn}
+use lib.ListN.{length, replicate}
+use Rattle.window.specs.Table.{Swept, swept-none, swept-more}
+use Rattle.records.specs.Formats.{everMask, everIn}
+use Rattle.records.specs.Records.{firstFormat, codesAt}
+use Rattle.records.proofs.Turns.{ever-is, ever-past, swept-zeros}
 use borrow.Author.Needs.{needs}
 use Rattle.records.proofs.ever_lines.Statement.{statement}
 use Rattle.records.proofs.ever_lines.Tie as tie
 
 abbrev Inv-loop : tie.InvT-loop
-Inv-loop part ever₀ j₀ ever j = (192 ≤ length part) × Written (everMask part) 0 32 j ever
+Inv-loop part ever₀ j₀ ever j = (192 ≤ length part) × (j ≤ 32) × Swept (everMask firstFormat (codesAt part)) 0 (replicate 32 0) j ever
 
 abbrev μ-loop : tie.MeasureT-loop
 μ-loop part ever₀ j₀ ever j = 32 - j
@@ -22,9 +22,19 @@ ever-lines-spec =
     (tie.spec
     Inv-loop
     μ-loop
-    (λ c. (search needs, written-none _ _ _ _ (search needs)))
+    (λ c. (search needs, search needs, swept-none _ _ _))
     (λ c. search needs)
     (λ c. search needs)
+    (λ c κs. search needs)
+    (λ c. search needs)
+    (λ c. search needs)
+    (λ c. (
+      search needs,
+      search needs,
+      ever-past (c .before .before .before .before .before .args .part .now) (search needs)
+          (c .before .before .before .loop .ever) (c .before .before .before .loop .j) _ (omega arith) (c .before .half-in .ensures .0)
+          (c .if1 .taken) (c .before .before .before .loop .inv .2),
+    ))
     (λ c. search needs)
     (λ c κs. search needs)
     (λ c. search needs)
@@ -45,5 +55,16 @@ ever-lines-spec =
     (λ c. search needs)
     (λ c. search needs)
     (λ c. search needs)
-    (λ c. let x = c .before .before .before .before .before .before .before .before .before in let a = x .before .before .args in (search needs, written-more (everMask (a .part .now)) 0 32 (x .loop .j) (x .loop .ever) _ (x .loop .inv .1) (omega arith) (ever-turn (a .part .now) (x .loop .j) _ _ _ _ (c .before .before .before .before .before .before .computed .ensures .0) (c .before .before .before .before .computed2 .ensures .0) (c .before .before .computed3 .ensures .0) (c .computed4 .ensures .0))))
-    (λ c. written-all _ 0 32 (c .before .loop .j) (c .before .loop .ever) (c .before .loop .inv .1) (omega arith)))
+    (λ c. (
+      search needs,
+      search needs,
+      swept-more _ 0 (replicate 32 0)
+          (c .before .before .before .before .before .before .before .before .before .before .before .loop .j)
+          (c .before .before .before .before .before .before .before .before .before .before .before .loop .ever) _
+          (c .before .before .before .before .before .before .before .before .before .before .before .loop .inv .2) (omega arith)
+          (ever-is (c .before .before .before .before .before .before .before .before .before .before .before .before .before .args .part .now)
+          (search needs) (c .before .before .before .before .before .before .before .before .before .before .before .loop .j) _ _ _ _ (omega arith)
+          (c .before .before .before .before .before .before .computed .ensures .0) (c .before .before .before .before .computed2 .ensures .0)
+          (c .before .before .computed3 .ensures .0) (c .computed4 .ensures .0)),
+    ))
+    (λ c. swept-zeros _ 32 (c .before .loop .j) (c .before .loop .ever) (c .before .loop .inv .2) (omega arith)))

@@ -29,5 +29,10 @@ flags-spec =
     (λ c. search needs)
     (λ c. search needs)
     (λ c. search needs)
-    (λ c. let x = c .before .before in let a = x .before .args in (search needs, written-more (λ k. flag (getD (a .t1) k false)) 0 8 (x .loop .i) (x .loop .flags) _ (x .loop .inv .1) (omega arith) (c .flagged .ensures)))
-    (λ c. written-all (λ k. flag (getD (c .before .before .args .t1) k false)) 0 8 (c .before .loop .i) (c .before .loop .flags) (c .before .loop .inv .1) (omega arith) ∙ sym (map-table flag (c .before .before .args .t1) 8 false (search needs))))
+    (λ c. let x = c .before .before in let a = x .before .args in (
+      search needs,
+      written-more (λ k. flag (getD (a .t1) k false)) 0 8 (x .loop .i)
+          (x .loop .flags) _ (x .loop .inv .1) (omega arith) (c .flagged .ensures),
+    ))
+    (λ c. written-all (λ k. flag (getD (c .before .before .args .t1) k false)) 0 8 (c .before .loop .i) (c .before .loop .flags) (c .before .loop .inv .1)
+    (omega arith) ∙ sym (map-table flag (c .before .before .args .t1) 8 false (search needs))))

@@ -28,4 +28,8 @@ lay-spec =
     (λ c. search needs)
     (λ c. (search needs, search needs, search needs, lay-turn _ _ _ _ _ (omega arith) (c .before .loop-test .taken) (c .before .before .loop .inv .3)))
     (λ c. search needs)
-    (λ c. let x = c .before in let a = x .before .args in (lay-end (a .bytes .now) (a .part .now) (x .loop .bytes) (a .at) (x .loop .i) (omega arith) (x .loop .inv .3), search needs)))
+    (λ c. let x = c .before in let a = x .before .args in (
+      lay-end (a .bytes .now) (a .part .now) (x .loop .bytes) (a .at) (x .loop .i) (omega arith)
+          (x .loop .inv .3),
+      search needs,
+    )))

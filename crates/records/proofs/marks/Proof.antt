@@ -29,5 +29,10 @@ marks-spec =
     (λ c. search needs)
     (λ c. search needs)
     (λ c. search needs)
-    (λ c. let x = c .before in let a = x .before .args in (search needs, written-more (λ k. isSet (getD (a .t1) k 0)) false 8 (x .loop .i) (x .loop .marks) _ (x .loop .inv .1) (omega arith) refl))
-    (λ c. written-all (λ k. isSet (getD (c .before .before .args .t1) k 0)) false 8 (c .before .loop .i) (c .before .loop .marks) (c .before .loop .inv .1) (omega arith) ∙ sym (map-table isSet (c .before .before .args .t1) 8 0 (search needs))))
+    (λ c. let x = c .before in let a = x .before .args in (
+      search needs,
+      written-more (λ k. isSet (getD (a .t1) k 0)) false 8 (x .loop .i)
+          (x .loop .marks) _ (x .loop .inv .1) (omega arith) refl,
+    ))
+    (λ c. written-all (λ k. isSet (getD (c .before .before .args .t1) k 0)) false 8 (c .before .loop .i) (c .before .loop .marks) (c .before .loop .inv .1)
+    (omega arith) ∙ sym (map-table isSet (c .before .before .args .t1) 8 0 (search needs))))

@@ -4,4 +4,5 @@ use Rattle.records.proofs.meanings.Statement.{statement}
 use Rattle.records.proofs.meanings.Tie as tie
 
 pub meanings-spec : {M : Type 1} → statement M
-meanings-spec = tie.close (tie.spec (λ c. search needs) (λ c. search needs) (λ c κs. search needs) (λ c. let x = c .before .before .before .before in meanings-made (x .args .t1) _ (search needs) (c .before .lay .ensures .0)))
+meanings-spec = tie.close (tie.spec (λ c. search needs) (λ c κs. search needs)
+    (λ c. meanings-made (c .before .before .before .before .args .class .now) _ (search needs) (c .before .lay .ensures .0)))

@@ -1,4 +1,5 @@
 use Rattle.records.specs.Records.{parentIn}
+use Rattle.records.proofs.Turns.{number-made}
 use borrow.Author.Needs.{needs}
 use Rattle.records.proofs.parent_in.Statement.{statement}
 use Rattle.records.proofs.parent_in.Tie as tie
@@ -14,5 +15,5 @@ parent-in-spec =
     (λ c. search needs)
     (λ c κs. search needs)
     (λ c. search needs)
-    (λ c. search needs)
-    (λ c. search (c .before .before .wide .ensures .0, c .wide2 .ensures .0)))
+    (λ c. number-made (c .before .before .before .before .before .args .part .now) 0 _ _ (search needs) (c .before .before .wide .ensures .0)
+    (c .wide2 .ensures .0)))

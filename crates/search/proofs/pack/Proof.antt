@@ -1,31 +1,41 @@
 use mathlib.Core.Path.{_≡_, ap, _∙_}
-use Prim.Native.Nat.{ℕ, _+_, _-_, _*_, _/_, _≤_, _<_}
+use Prim.Native.Nat.{ℕ, _+_, _*_, _/_, _%_, _≤_, _<_}
 use native.Mathlib.Omega.{arith}
-use borrow.Author.Needs.{needs}
 use mathlib.Core.List.{List, [], _∷_}
 use lib.ListN.{length, drop, replicate, length-replicate}
 use Rattle.letters.specs.declared.Letter.{Letter}
 use Rattle.search.specs.Trails.{trailTo, trailOf}
 use Rattle.search.specs.Tracing.{Older, wordBytes, letterWords, traced}
-use Rattle.search.specs.TracingLaws.{first-stored, letter-stored, header-stored, trail-first, trail-turn, trail-whole}
+use Rattle.search.specs.TracingLaws.{letter-is, first-stored, letter-stored, header-stored, trail-first, trail-turn, trail-whole}
+use borrow.Author.Needs.{needs}
 use Rattle.search.proofs.pack.Statement.{statement}
 use Rattle.search.proofs.pack.Tie as tie
 use Rattle.search.proofs.pack.Reads as reads
 use Rattle.search.proofs.pack.Lts as lts
 use Rattle.search.proofs.header_word.Reads as header-word-reads
-use Rattle.search.proofs.letter_at.Reads as letter-at-reads
+use Rattle.search.proofs.letter_of.Reads as letter-of-reads
 use Rattle.search.proofs.letter_word.Reads as letter-word-reads
 use Rattle.table.proofs.branch_at.Reads as branch-at-reads
 use Rattle.table.proofs.parent_at.Reads as parent-at-reads
+use Rattle.table.proofs.point_at.Reads as point-at-reads
 
 abbrev Inv-loop : tie.InvT-loop
-Inv-loop header points table d bytes₀ word at₀ j₀ bytes at j = (j ≤ d / 2) × (2 * j + 2 ≤ at) × (at ≤ 2048) × (d < 2048) × (192 * (d / 2) + 192 ≤ length table) × (length bytes ≡ 2050) × Older table (d / 2 + 1) × ((rest : List Letter) × (drop at bytes ≡ wordBytes (letterWords header rest)) × (trailTo points table j j rest ≡ trailOf points table d))
+Inv-loop header table d points bytes₀ k word at₀ j₀ bytes at j = (j ≤ d / 2) × (2 * j + 2 ≤ at) × (at ≤ 2048) × (d < 2048) × (192 * (d / 2) + 192 ≤ length table) × (length bytes ≡ 2050) × Older table (d / 2 + 1) × ((rest : List Letter) × (drop at bytes ≡ wordBytes (letterWords header rest)) × (trailTo points table j j rest ≡ trailOf points table d))
 
 abbrev μ-loop : tie.MeasureT-loop
-μ-loop header points table d bytes₀ word at₀ j₀ bytes at j = j
+μ-loop header table d points bytes₀ k word at₀ j₀ bytes at j = j
 
-letter-at-requires : tie.Need-letter-at-requires Inv-loop μ-loop
-letter-at-requires c κs = search needs
+point-at-requires : tie.Need-point-at-requires Inv-loop μ-loop
+point-at-requires c κs = search needs
+
+mul-point : tie.Need-mul-point Inv-loop μ-loop
+mul-point c = search needs
+
+array-copy-out-point : tie.Need-array-copy-out-point Inv-loop μ-loop
+array-copy-out-point c = search needs
+
+letter-of-requires : tie.Need-letter-of-requires Inv-loop μ-loop
+letter-of-requires c κs = search needs
 
 letter-word-requires : tie.Need-letter-word-requires Inv-loop μ-loop
 letter-word-requires c κs = search needs
@@ -43,7 +53,7 @@ array-write-bytes-2 : tie.Need-array-write-bytes-2 Inv-loop μ-loop
 array-write-bytes-2 c = search needs
 
 loop-holds : tie.Need-loop-holds Inv-loop μ-loop
-loop-holds c = let a = c .before .before .before .args in (search needs, search needs, search needs, search needs, search needs, search needs, c .before .before .before .pre .2, (c .before .letter-at .result ∷ [], first-stored (a .header) (replicate 2050 0) (c .letter-word .result) (length-replicate {A = ℕ} 2050 0) (c .before .letter-at .result) (c .letter-word .ensures), trail-first (a .points) (a .table .now) (a .d) (c .before .letter-at .result) (c .before .letter-at .ensures)))
+loop-holds c = let a = (c .before .before .before .before .before .args) in let r = (c .before .letter-of .result) in (search needs, search needs, search needs, search needs, search needs, search needs, (c .before .before .before .before .before .pre .2), (r ∷ [], first-stored (a .header) (replicate 2050 0) ((c .letter-word .result)) (length-replicate {A = ℕ} 2050 0) r ((c .letter-word .ensures)), trail-first (a .t2) (a .table .now) (a .d) r (letter-is (a .t2) (a .table .now) (a .d / 2) (a .d % 2) ((c .before .before .before .point-at .result)) r ((c .before .before .before .point-at .ensures)) ((c .before .letter-of .ensures)))))
 
 parent-at-requires : tie.Need-parent-at-requires Inv-loop μ-loop
 parent-at-requires c κs = search needs
@@ -51,8 +61,17 @@ parent-at-requires c κs = search needs
 branch-at-requires : tie.Need-branch-at-requires Inv-loop μ-loop
 branch-at-requires c κs = search needs
 
-letter-at-requires-2 : tie.Need-letter-at-requires-2 Inv-loop μ-loop
-letter-at-requires-2 c κs = let x = c .before .before .before in let a = x .before .before .before .before .args in let l = x .loop in let o = l .inv .6 (l .j) (omega arith) (omega arith) in omega (arith, o, c .before .parent-at .ensures)
+point-at-requires-2 : tie.Need-point-at-requires-2 Inv-loop μ-loop
+point-at-requires-2 c κs = let l = (c .before .before .before .loop) in let o = l .inv .6 (l .j) (omega arith) (omega arith) in omega (arith, o, (c .before .parent-at .ensures))
+
+mul-performed : tie.Need-mul-performed Inv-loop μ-loop
+mul-performed c = search needs
+
+array-copy-out-performed : tie.Need-array-copy-out-performed Inv-loop μ-loop
+array-copy-out-performed c = search needs
+
+letter-of-requires-2 : tie.Need-letter-of-requires-2 Inv-loop μ-loop
+letter-of-requires-2 c κs = search needs
 
 letter-word-requires-2 : tie.Need-letter-word-requires-2 Inv-loop μ-loop
 letter-word-requires-2 c κs = search needs
@@ -79,10 +98,10 @@ sub-at : tie.Need-sub-at Inv-loop μ-loop
 sub-at c = search needs
 
 loop-less : tie.Need-loop-less Inv-loop μ-loop
-loop-less c = let x = c .before .before .before .before .before in let a = x .before .before .before .before .args in let l = x .loop in let o = l .inv .6 (l .j) (omega arith) (omega arith) in omega (arith, o, c .before .before .before .parent-at .ensures)
+loop-less c = let l = (c .before .before .before .before .before .before .before .loop) in let o = l .inv .6 (l .j) (omega arith) (omega arith) in omega (arith, o, (c .before .before .before .before .before .parent-at .ensures))
 
 loop-again : tie.Need-loop-again Inv-loop μ-loop
-loop-again c = let x = c .before .before .before .before .before in let a = x .before .before .before .before .args in let l = x .loop in let o = l .inv .6 (l .j) (omega arith) (omega arith) in let pe = c .before .before .before .parent-at .ensures in (omega (arith, o, pe), omega (arith, o, pe), omega arith, search needs, search needs, search needs, l .inv .6, (c .before .letter-at2 .result ∷ l .inv .7 .0, letter-stored (a .header) (l .bytes) (c .letter-word2 .result) (l .at) (l .inv .7 .0) (l .inv .7 .1) (omega arith) (omega arith) (c .before .letter-at2 .result) (c .letter-word2 .ensures), trail-turn (a .points) (a .table .now) (a .d / 2 + 1) (l .inv .6) (l .j) (c .before .before .before .parent-at .result) (c .before .before .branch-at .result) (c .before .letter-at2 .result) (l .inv .7 .0) (trailOf (a .points) (a .table .now) (a .d)) (omega arith) (omega arith) pe (c .before .before .branch-at .ensures) (c .before .letter-at2 .ensures) (l .inv .7 .2)))
+loop-again c = let a = (c .before .before .before .before .before .before .before .before .before .before .before .before .before .args) in let l = (c .before .before .before .before .before .before .before .loop) in let o = l .inv .6 (l .j) (omega arith) (omega arith) in let pe = (c .before .before .before .before .before .parent-at .ensures) in let r = (c .before .letter-of2 .result) in (omega (arith, o, pe), omega (arith, o, pe), omega arith, search needs, search needs, search needs, l .inv .6, (r ∷ l .inv .7 .0, letter-stored (a .header) (l .bytes) ((c .letter-word2 .result)) (l .at) (l .inv .7 .0) (l .inv .7 .1) (omega arith) (omega arith) r ((c .letter-word2 .ensures)), let i = (c .before .before .before .before .before .parent-at .result) in let b = (c .before .before .before .before .branch-at .result) in trail-turn (a .t2) (a .table .now) (a .d / 2 + 1) (l .inv .6) (l .j) i b r (l .inv .7 .0) (trailOf (a .t2) (a .table .now) (a .d)) (omega arith) (omega arith) pe ((c .before .before .before .before .branch-at .ensures)) (letter-is (a .t2) (a .table .now) i b ((c .before .before .before .point-at2 .result)) r ((c .before .before .before .point-at2 .ensures)) ((c .before .letter-of2 .ensures))) (l .inv .7 .2)))
 
 header-word-requires : tie.Need-header-word-requires Inv-loop μ-loop
 header-word-requires c κs = search needs
@@ -105,11 +124,11 @@ sub-bytes-4 c = search needs
 array-write-bytes-6 : tie.Need-array-write-bytes-6 Inv-loop μ-loop
 array-write-bytes-6 c = search needs
 
-sub-t15 : tie.Need-sub-t15 Inv-loop μ-loop
-sub-t15 c = search needs
+sub-t21 : tie.Need-sub-t21 Inv-loop μ-loop
+sub-t21 c = search needs
 
 returns : tie.Need-returns Inv-loop μ-loop
-returns c = (let x = c .before .before in let a = x .before .before .before .before .args in let l = x .loop in header-stored (a .header) (l .bytes) (c .header-word .result) (l .at) (l .inv .7 .0) (l .inv .7 .1) (omega arith) (omega arith) (c .header-word .ensures) ∙ ap (traced (a .header)) (trail-whole (a .points) (a .table .now) (l .j) (l .inv .7 .0) (trailOf (a .points) (a .table .now) (a .d)) (omega arith) (l .inv .7 .2)), search needs, omega arith)
+returns c = let a = (c .before .before .before .before .before .before .before .before .args) in let l = (c .before .before .loop) in (header-stored (a .header) (l .bytes) ((c .header-word .result)) (l .at) (l .inv .7 .0) (l .inv .7 .1) (omega arith) (omega arith) ((c .header-word .ensures)) ∙ ap (traced (a .header)) (trail-whole (a .t2) (a .table .now) (l .j) (l .inv .7 .0) (trailOf (a .t2) (a .table .now) (a .d)) (omega arith) (l .inv .7 .2)), search needs, omega arith)
 
 pub pack-spec : {M : Type 1} → statement M
 pack-spec =
@@ -117,7 +136,10 @@ pack-spec =
     (tie.spec
     Inv-loop
     μ-loop
-    letter-at-requires
+    point-at-requires
+    mul-point
+    array-copy-out-point
+    letter-of-requires
     letter-word-requires
     cast-bytes
     array-write-bytes
@@ -126,7 +148,10 @@ pack-spec =
     loop-holds
     parent-at-requires
     branch-at-requires
-    letter-at-requires-2
+    point-at-requires-2
+    mul-performed
+    array-copy-out-performed
+    letter-of-requires-2
     letter-word-requires-2
     cast-bytes-3
     sub-bytes
@@ -144,5 +169,5 @@ pack-spec =
     cast-bytes-6
     sub-bytes-4
     array-write-bytes-6
-    sub-t15
+    sub-t21
     returns)

@@ -8,4 +8,5 @@ use Rattle.table.proofs.capacity.Tie as tie
 
 pub capacity-spec : {M : Type 1} → statement M
 unfolding capacityOf
-capacity-spec = tie.close (tie.spec (λ c. let h : c .before .args .length / 192 ≤ 1024 = omega arith in sym (min-comm 1024 (c .before .args .length / 192) ∙ min-eq-left h)) (λ c. let h : 1024 ≤ c .before .args .length / 192 = omega arith in sym (min-eq-left h)))
+capacity-spec = tie.close (tie.spec (λ c. let h : c .before .args .length / 192 ≤ 1024 = omega arith in sym (min-comm 1024 (c .before .args .length / 192)
+    ∙ min-eq-left h)) (λ c. let h : 1024 ≤ c .before .args .length / 192 = omega arith in sym (min-eq-left h)))

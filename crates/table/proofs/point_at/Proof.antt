@@ -8,4 +8,5 @@ pub point-at-spec : {M : Type 1} → statement M
 unfolding pointAt
 point-at-spec =
     tie.close
-    (tie.spec (λ c. search needs) (λ c. search needs) (λ c. search needs) (λ c. search needs) (λ c κs. search needs) (λ c. search (c .point-in .ensures, tail-lent)))
+    (tie.spec (λ c. search needs) (λ c. search needs) (λ c. search needs) (λ c. search needs) (λ c κs. search needs)
+    (λ c. search (c .point-in .ensures, tail-lent)))

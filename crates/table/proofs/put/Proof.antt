@@ -3,7 +3,7 @@ use mathlib.Core.List.{List, _++_}
 use Prim.Native.Nat.{ℕ, _*_}
 use lib.ListN.{take, drop}
 use Rattle.base.specs.Lent.{tail-lent, tail-back}
-use Rattle.records.specs.Records.{recordOf}
+use Rattle.records.specs.Records.{recordBytes, recordOf}
 use Rattle.table.specs.Table.{putAt}
 use borrow.Author.Needs.{needs}
 use Rattle.table.proofs.put.Statement.{statement}
@@ -13,4 +13,7 @@ pub put-spec : {M : Type 1} → statement M
 unfolding putAt
 put-spec =
     tie.close
-    (tie.spec (λ c. search needs) (λ c. search needs) (λ c. search needs) (λ c. search needs) (λ c κs. search needs) (λ c. search needs) (λ c. let a = c .before .before .before .before .before .args in let r = recordOf (a .pair) (a .parent) (a .branch) in tail-back (192 * a .k) (a .table .now) (c .before .before .write .last .0) ∙ ap (λ (l : List ℕ). take (192 * a .k) (a .table .now) ++ l) (c .before .before .write .ensures ∙ ap (λ (l : List ℕ). r ++ drop 192 l) (tail-lent (192 * a .k) (a .table .now)))))
+    (tie.spec (λ c. search needs) (λ c. search needs) (λ c. search needs) (λ c. search needs) (λ c κs. search needs) (λ c. search needs)
+    (λ c. let a = c .before .before .before .before .before .before .args in let r = recordOf (a .t3) (a .parent) (a .branch) in tail-back
+    (recordBytes * a .k) (a .table .now) (c .before .before .write .last .0) ∙ ap (λ (l : List ℕ). take (recordBytes * a .k) (a .table .now) ++ l)
+    (c .before .before .write .ensures ∙ ap (λ (l : List ℕ). r ++ drop recordBytes l) (tail-lent (recordBytes * a .k) (a .table .now)))))

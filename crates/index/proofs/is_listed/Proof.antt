@@ -1,0 +1,37 @@
+use native.Mathlib.Omega.{arith}
+use mathlib.Core.Path.{sym, ap, _∙_}
+use lib.ListN.{getD}
+use Rattle.index.specs.IndexLaws.{Looking, looking-start, looking-turn, looking-hit, looking-end}
+use borrow.Author.Needs.{needs}
+use Rattle.index.proofs.is_listed.Statement.{statement}
+use Rattle.index.proofs.is_listed.Tie as tie
+use Rattle.index.proofs.chain_of.Reads as chain-of-reads
+use Rattle.index.proofs.wide.Reads as wide-reads
+use Rattle.table.proofs.is_at.Reads as is-at-reads
+
+abbrev Inv-loop : tie.InvT-loop
+Inv-loop table head link count pair chain k₀ k = Looking table link count pair k
+
+abbrev μ-loop : tie.MeasureT-loop
+μ-loop table head link count pair chain k₀ k = k
+
+pub is-listed-spec : {M : Type 1} → statement M
+is-listed-spec =
+    tie.close
+    (tie.spec
+    Inv-loop
+    μ-loop
+    (λ c κs. search needs)
+    (λ c. search needs)
+    (λ c. search needs)
+    (λ c κs. search needs)
+    (λ c. looking-start _ _ _ _ _ _ ((c .before .before .before .before .pre .0)) ((c .before .before .before .before .pre .3)) ((c .wide .ensures) ∙ ap (λ b. getD ((c .before .before .before .before .args .head .now)) b 0) ((c .before .before .chain-of .ensures .0))))
+    (λ c κs. let h = (c .before .loop .inv .below) in (omega arith, (c .before .before .before .before .before .before .pre .3)))
+    (λ c. looking-hit _ _ _ _ _ ((c .before .before .before .loop .inv)) (sym ((c .before .is-at .ensures)) ∙ (c .if1 .taken)))
+    (λ c. let h = (c .before .before .before .loop .inv .below) in search needs)
+    (λ c. let h = (c .before .before .before .loop .inv .below) in omega arith)
+    (λ c κs. search needs)
+    (λ c. let h = (c .before .before .before .before .before .before .before .before .before .before .pre .0 .links) ((c .before .before .before .before .before .loop .k)) (omega arith) in let e = (c .wide2 .ensures) in omega arith)
+    (λ c. looking-turn _ _ _ _ _ _ _ ((c .before .before .before .before .before .before .before .before .before .before .pre .0)) ((c .before .before .before .before .before .loop .inv)) ((c .before .before .before .before .loop-test .taken)) (sym ((c .before .before .before .is-at .ensures)) ∙ (c .before .before .if1 .left)) ((c .wide2 .ensures)))
+    (λ c κs. let h = (c .before .loop .inv .below) in (omega arith, (c .before .before .before .before .before .before .pre .3)))
+    (λ c. (c .is-at2 .ensures) ∙ looking-end _ _ _ _ _ ((c .before .before .loop .inv)) ((c .before .loop-test .left))))

@@ -1,0 +1,73 @@
+// An index of the pairs in the search's table: a chain of records for each remainder of fingerprints by 1,024.
+//
+// `head` has the record that was last entered in each chain, `link` leads from each record to the one entered before it. Record 0 ends every chain
+// and needs no entry: an index of it alone is zeros.
+use records::PAIR_BYTES;
+ghost use mathlib.Core.Path.{_≡_};
+ghost use Prim.Native.Nat.{_*_, _≤_, _<_};
+ghost use lib.ListN.{length, getD, set};
+ghost use Rattle.records.specs.Records.{recordBytes, pairBytes};
+ghost use Rattle.table.specs.Table.{isListed};
+ghost use Rattle.index.specs.Index.{chainOf, Indexed};
+
+/// A record for each chain.
+pub type Heads = [u16; 1024];
+
+/// A record for each record.
+pub type Links = [u16; 1024];
+
+fn wide(x: u16) -> usize
+    ensures { λ r. ⌜ r ≡ x ⌝ }
+{
+    x as usize
+}
+
+fn number(x: u8) -> usize
+    ensures { λ r. ⌜ r ≡ x ⌝ }
+    ensures small { λ r. ⌜ r < 256 ⌝ }
+{
+    x as usize
+}
+
+// The chain of a pair, by its fingerprint.
+fn chain_of(pair: &[u8; PAIR_BYTES]) -> usize
+    requires { ⌜ length (now pair) ≡ pairBytes ⌝ }
+    ensures { λ r. ⌜ r ≡ chainOf (now (pair .entry)) ⌝ }
+    ensures small { λ r. ⌜ r < 1024 ⌝ }
+{
+    (number(pair[1]) + 256 * number(pair[0])) % 1024
+}
+
+/// Whether the pair is one of the first `count`: those on its chain are compared, and record 0.
+pub fn is_listed(
+    table: &[u8],
+    head: &Heads,
+    link: &Links,
+    count: usize,
+    pair: &[u8; PAIR_BYTES],
+) -> bool
+    requires { ⌜ Indexed (now table) (now head)
+        (now link) count × (count ≤ 1024) × (recordBytes * count ≤ length (now table)) × (length (now pair) ≡ pairBytes) ⌝ }
+    ensures { λ r. ⌜ r ≡ isListed (now (table .entry)) count (now (pair .entry)) ⌝ }
+{
+    let chain = chain_of(pair);
+    let mut k = wide(head[chain]);
+    while k != 0 {
+        if table::is_at(table, k, pair) {
+            return true;
+        }
+        k = wide(link[k]);
+    }
+    table::is_at(table, 0, pair)
+}
+
+/// Enters record k at the front of the chain of its pair.
+pub fn enter(head: &mut Heads, link: &mut Links, k: usize, pair: &[u8; PAIR_BYTES])
+    requires { ⌜ (length (now head) ≡ 1024) × (length (now link) ≡ 1024) × (k < 1024) × (length (now pair) ≡ pairBytes) ⌝ }
+    ensures { λ _. ⌜ (now (head .exit) ≡ set (now (head .entry))
+        (chainOf (now (pair .entry))) k) × (now (link .exit) ≡ set (now (link .entry)) k (getD (now (head .entry)) (chainOf (now (pair .entry))) 0)) ⌝ }
+{
+    let chain = chain_of(pair);
+    link[k] = head[chain];
+    head[chain] = k as u16;
+}

@@ -1,0 +1,79 @@
+use mathlib.Core.Path.{_≡_}
+use Prim.Native.Nat.{_*_, _-_, _≤_}
+use native.Mathlib.Omega.{arith}
+use lib.ListN.{length, getD, replicate}
+use Rattle.window.specs.Table.{Swept}
+use Rattle.records.specs.Records.{codesAt, meant}
+use Rattle.records.proofs.Turns.{results-turn, results-past, swept-begin, swept-zeros}
+use borrow.Author.Needs.{needs}
+use Rattle.records.proofs.put_results.Statement.{statement}
+use Rattle.records.proofs.put_results.Tie as tie
+
+abbrev Inv-loop : tie.InvT-loop
+Inv-loop part meanings result₀ j₀ result j = (192 ≤ length part) × (getD meanings 0 0 ≡ 0) × (j ≤ 32) × Swept
+    (λ k. getD meanings (getD (codesAt part) k 0) 0) 0 (replicate 256 0) (8 * j) result
+
+abbrev μ-loop : tie.MeasureT-loop
+μ-loop part meanings result₀ j₀ result j = 32 - j
+
+pub put-results-spec : {M : Type 1} → statement M
+unfolding meant
+put-results-spec =
+    tie.close
+    (tie.spec
+    Inv-loop
+    μ-loop
+    (λ c. (search needs, search needs, search needs, swept-begin _ 256 _ (c .before .pre .2)))
+    (λ c. search needs)
+    (λ c. search needs)
+    (λ c. search needs)
+    (λ c κs. search needs)
+    (λ c. search needs)
+    (λ c. search needs)
+    (λ c. (
+      search needs,
+      search needs,
+      search needs,
+      results-past (c .before .before .before .before .before .args .part .now) (search needs)
+          (c .before .before .before .before .before .args .meanings .now) (c .before .before .before .loop .result)
+          (c .before .before .before .loop .j) _ (omega arith) (search needs) (c .before .half-in .ensures .0) (c .if1 .taken)
+          (c .before .before .before .loop .inv .3),
+    ))
+    (λ c. search needs)
+    (λ c κs. search needs)
+    (λ c. search needs)
+    (λ c. search needs)
+    (λ c κs. search needs)
+    (λ c. search needs)
+    (λ c. search needs)
+    (λ c κs. search needs)
+    (λ c. search needs)
+    (λ c. search needs)
+    (λ c κs. search needs)
+    (λ c. search needs)
+    (λ c. search needs)
+    (λ c. search needs)
+    (λ c. search needs)
+    (λ c. search needs)
+    (λ c. search needs)
+    (λ c. search needs)
+    (λ c. search needs)
+    (λ c. search needs)
+    (λ c. search needs)
+    (λ c. search needs)
+    (λ c. search needs)
+    (λ c. search needs)
+    (λ c. search needs)
+    (λ c. search needs)
+    (λ c. search needs)
+    (λ c. search needs)
+    (λ c. search needs)
+    (λ c. search needs)
+    (λ c. search needs)
+    (λ c. search needs)
+    (λ c. search needs)
+    (λ c. search needs)
+    (λ c. search needs)
+    (λ c. search needs)
+    (λ c. (search needs, search needs, search needs, results-turn (c .before .before .before .before .before .before .before .before .before .before .before .before .before .before .before .before .before .before .before .before .before .args .part .now) (search needs) (c .before .before .before .before .before .before .before .before .before .before .before .before .before .before .before .before .before .before .before .before .before .args .meanings .now) (c .before .before .before .before .before .before .before .before .before .before .before .before .before .before .before .before .before .before .before .loop .result) (c .before .before .before .before .before .before .before .before .before .before .before .before .before .before .before .before .before .before .before .loop .j) _ _ _ _ (omega arith) (c .before .before .before .before .before .before .before .before .before .before .before .before .before .before .wide .ensures .0) (c .before .before .before .before .before .before .before .before .before .before .before .before .wide2 .ensures .0) (c .before .before .before .before .before .before .before .before .before .before .wide3 .ensures .0) (c .before .before .before .before .before .before .before .before .wide4 .ensures .0) (c .before .before .before .before .before .before .before .before .before .before .before .before .before .before .wide .ensures .1) (c .before .before .before .before .before .before .before .before .before .before .before .before .wide2 .ensures .1) (c .before .before .before .before .before .before .before .before .before .before .wide3 .ensures .1) (c .before .before .before .before .before .before .before .before .wide4 .ensures .1) (c .before .before .before .before .before .before .before .before .before .before .before .before .before .before .before .before .before .before .before .loop .inv .3)))
+    (λ c. swept-zeros _ 256 (8 * (c .before .loop .j)) (c .before .loop .result) (c .before .loop .inv .3) (omega arith)))
