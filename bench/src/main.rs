@@ -1,21 +1,82 @@
-//! `cargo --offline run --release` in this folder: prints tables of times. Each line
-//! is one run over the same input, the proved library beside what else can do it.
+//! `cargo --offline run --release` in this folder: prints tables of figures. Each line
+//! is one input, the proved library beside what else can do it. With `--instructions`
+//! callgrind counts the instructions too.
 
 #[cfg(feature = "model")]
 mod engine;
+#[cfg(feature = "model")]
+mod engine_traces;
+mod instructions;
+#[cfg(feature = "monitor")]
+mod lively;
+mod measure;
 #[cfg(feature = "monitor")]
 mod monitor;
+#[cfg(feature = "model")]
 mod solver;
-mod time;
+mod table;
+#[cfg(any(feature = "monitor", feature = "model"))]
 mod traces;
 #[cfg(feature = "verdict")]
 mod verdict;
 
-fn main() {
-    #[cfg(feature = "monitor")]
-    monitor::table();
-    #[cfg(feature = "model")]
-    engine::table();
-    #[cfg(feature = "verdict")]
-    verdict::table();
+use std::process::ExitCode;
+
+use instructions::{COUNT, Call, collected, input};
+use measure::{Side, Sides, warm_up_allocator};
+use table::Table;
+
+const USAGE: &str = "usage: bench [--instructions]";
+
+fn main() -> ExitCode {
+    let arguments: Vec<String> = std::env::args().skip(1).collect();
+    let words: Vec<&str> = arguments.iter().map(String::as_str).collect();
+    match words.as_slice() {
+        [] => print_tables(false),
+        ["--instructions"] => print_tables(true),
+        [COUNT, call, side, table] => make_call(call, side, table),
+        _ => {
+            eprintln!("{USAGE}");
+            return ExitCode::from(2);
+        }
+    }
+    ExitCode::SUCCESS
+}
+
+/// Prints all tables, the worst row of each, and the worst of all.
+fn print_tables(count: bool) {
+    warm_up_allocator();
+    let tables: Vec<Table> = vec![
+        #[cfg(feature = "monitor")]
+        monitor::table(count),
+        #[cfg(feature = "model")]
+        engine::table(count),
+        #[cfg(feature = "verdict")]
+        verdict::table(count),
+    ];
+    if count {
+        println!("note: callgrind counts `rep stosb`, which clears a table, as one instruction a byte");
+    }
+    tables.iter().for_each(Table::print_worst);
+    println!("worst proved / Rust: {:.2}", tables.iter().map(Table::worst).fold(0.0, f64::max));
+}
+
+/// Makes one call on the standard input, for callgrind to count.
+fn make_call(name: &str, side: &str, table: &str) {
+    let input = input();
+    let call = Call { name, input: &input, table: table.parse().expect("bytes of a table") };
+    collected(sides(&call).as_mut(), Side::named(side).expect("the name of a side"));
+}
+
+/// Both sides of a call.
+fn sides<'a>(call: &Call<'a>) -> Box<dyn Sides + 'a> {
+    match call.name {
+        #[cfg(feature = "monitor")]
+        monitor::NAME => Box::new(monitor::Run::new(call.input)),
+        #[cfg(feature = "model")]
+        engine::NAME => Box::new(engine::Run::new(call.input)),
+        #[cfg(feature = "verdict")]
+        verdict::NAME => Box::new(verdict::Run::new(call.input, call.table)),
+        other => panic!("no call is named {other}"),
+    }
 }

@@ -1,16 +1,35 @@
-//! The monitor: letters a second over long traces.
+//! The monitor over long traces.
+
+use std::hint::black_box;
+use std::time::Duration;
 
 use oracle::fast_monitor::fast_monitor;
 use oracle::letter::Header;
 use oracle::library::{self, MONITOR_ANSWER};
+use oracle::monitor::Judgement;
+use oracle::refusal::Refusal;
+use oracle::trace::Trace;
 
-use crate::time::{once, ratio};
+use crate::instructions::Call;
+use crate::lively::{liveliness, lively};
+use crate::measure::{Both, Sides, best_times};
+use crate::table::{Figures, Table, print_headings};
 use crate::traces::coherent;
 
-/// Letters of each trace.
-const LETTERS: usize = 10_000_000;
+/// The call's name.
+pub const NAME: &str = "monitor";
 
-/// Names and weights of copies, applications, equal and unequal tests.
+/// Letters of each trace: a run shall be short, so that some runs are not interrupted.
+const LETTERS: usize = 50_000;
+
+/// How a trace is made of a header, weights of copies, applications, equal and unequal
+/// tests, and a number of letters.
+type Maker = fn(Header, [usize; 4], usize) -> Trace;
+
+/// The makers, with what they put before the name of a kind.
+const MAKERS: [(&str, Maker); 2] = [("", coherent), ("lively ", lively)];
+
+/// Names and weights of the kinds.
 const KINDS: [(&str, [usize; 4]); 4] = [
     ("copy-heavy", [16, 2, 1, 1]),
     ("application-heavy", [2, 16, 1, 1]),
@@ -18,20 +37,72 @@ const KINDS: [(&str, [usize; 4]); 4] = [
     ("mixed", [4, 4, 2, 2]),
 ];
 
-/// Prints the monitor's table.
-pub fn table() {
-    println!("Monitor, {LETTERS} letters, 8 registers, 4 functions (million letters a second)");
-    println!("{:<20}{:>10}{:>10}{:>10}", "letters", "proved", "Rust", "ratio");
-    for (name, weights) in KINDS {
-        let bytes = coherent(Header::new(8, &[1, 2, 1, 2]), weights, LETTERS).pack();
-        let mut answer = [u64::MAX; MONITOR_ANSWER];
-        let (proved, ()) = once(|| library::monitor(&bytes, &mut answer));
-        let (rust, found) = once(|| fast_monitor(&bytes));
-        let found = found.expect("well formed");
-        let number = |letter: Option<usize>| letter.unwrap_or(0) as u64;
-        assert_eq!(answer, [0, 0, number(found.incoherent), number(found.infeasible)]);
-        let rate = |time: std::time::Duration| LETTERS as f64 / time.as_secs_f64() / 1e6;
-        println!("{name:<20}{:>10.2}{:>10.2}{:>10.2}", rate(proved), rate(rust), ratio(proved, rust));
+/// Both monitors over a packed trace.
+pub struct Run<'a> {
+    trace: &'a [u8],
+    answer: [u64; MONITOR_ANSWER],
+    found: Result<Judgement, Refusal>,
+}
+
+impl Run<'_> {
+    /// No run over this trace yet.
+    pub fn new(trace: &[u8]) -> Run<'_> {
+        Run { trace, answer: [u64::MAX; MONITOR_ANSWER], found: Ok(Judgement::default()) }
     }
+}
+
+impl Sides for Run<'_> {
+    fn proved(&mut self) {
+        library::monitor(self.trace, &mut self.answer);
+    }
+
+    fn rust(&mut self) {
+        self.found = fast_monitor(black_box(self.trace));
+    }
+
+    fn compare(&self) {
+        let found = self.found.expect("well formed");
+        let number = |letter: Option<usize>| letter.unwrap_or(0) as u64;
+        assert_eq!(self.answer, [0, 0, number(found.incoherent), number(found.infeasible)]);
+    }
+}
+
+/// The traces by name.
+fn traces() -> Vec<(String, Trace)> {
+    let header = Header::new(8, &[1, 2, 1, 2]);
+    let of_maker = |(way, make): (&str, Maker)| {
+        KINDS.map(|(kind, weights)| (format!("{way}{kind}"), make(header, weights, LETTERS)))
+    };
+    MAKERS.into_iter().flat_map(of_maker).collect()
+}
+
+/// Prints the monitor's table, and what the letters of its traces do.
+pub fn table(count: bool) -> Table {
+    println!("Monitor, {LETTERS} letters, 8 registers, 4 functions (nanoseconds and instructions a letter)");
+    print!("{:<26}", "letters");
+    print_headings();
+    println!();
+    let traces = traces();
+    let inputs: Vec<Vec<u8>> = traces.iter().map(|(_, trace)| trace.pack()).collect();
+    let mut runs: Vec<Run> = inputs.iter().map(|input| Run::new(input)).collect();
+    let times = best_times(&mut runs);
+    let mut table = Table::new("Monitor");
+    for (((name, _), run), times) in traces.iter().zip(&runs).zip(times) {
+        line(&mut table, name, run, times, count);
+    }
+    traces.iter().for_each(|(name, trace)| println!("note: {name}: {}", liveliness(trace)));
+    println!();
+    table
+}
+
+/// Prints the line of one trace.
+fn line(table: &mut Table, name: &str, run: &Run, times: Both<Duration>, count: bool) {
+    let counted = count.then(|| Call { name: NAME, input: run.trace, table: 0 }.instructions()).flatten();
+    let figures = Figures {
+        times: times.map(|time| time.as_secs_f64() * 1e9 / LETTERS as f64),
+        instructions: counted.map(|both| both.map(|number| number as f64 / LETTERS as f64)),
+    };
+    print!("{name:<26}");
+    table.print(name, &figures);
     println!();
 }

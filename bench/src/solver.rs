@@ -9,11 +9,10 @@ use oracle::closure::Term;
 use oracle::state::State;
 use oracle::trace::Trace;
 
-use crate::time::once;
+use crate::measure::once;
 
 /// A script in QF_UF that is satisfiable exactly if the trace is feasible. Each
 /// computed term has a name, so that shared terms are written once.
-#[allow(dead_code)]
 pub fn script(trace: &Trace) -> String {
     let state = State::after_all(trace.header, &trace.letters);
     let mut out = String::from("(set-logic QF_UF)\n(declare-sort V 0)\n");
@@ -38,7 +37,6 @@ pub fn script(trace: &Trace) -> String {
 }
 
 /// A solver that reads a script from its standard input.
-#[allow(dead_code)]
 pub struct Solver {
     /// The name of the program.
     pub name: &'static str,
@@ -47,7 +45,6 @@ pub struct Solver {
 }
 
 /// The solvers that are asked, where they are installed.
-#[allow(dead_code)]
 pub const SOLVERS: [Solver; 2] = [
     Solver { name: "z3", arguments: &["-smt2", "-in"] },
     Solver { name: "cvc5", arguments: &["--lang=smt2", "-"] },
@@ -60,7 +57,6 @@ const RUNS: usize = 5;
 const NOTHING: &str = "(set-logic QF_UF)\n(check-sat)\n";
 
 /// What a solver says of a script.
-#[allow(dead_code)]
 pub struct Solved {
     /// The shortest time, the program's start included.
     pub whole: Duration,
@@ -72,7 +68,6 @@ pub struct Solved {
 
 impl Solver {
     /// Times and answer of a script; none if the program is not installed.
-    #[allow(dead_code)]
     pub fn solve(&self, script: &str) -> Option<Solved> {
         let mut best: Option<Solved> = None;
         for _ in 0..RUNS {

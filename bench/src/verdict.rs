@@ -1,14 +1,25 @@
 //! The verdict on example macros, and on macros that fill the table.
 
 use std::fs;
+use std::hint::black_box;
 use std::path::Path;
+use std::time::Duration;
 
 use oracle::fast_search::fast_search;
 use oracle::library::{self, VERDICT_ANSWER};
 use oracle::reader::read_macro;
-use oracle::verdict::room_for_pairs;
+use oracle::refusal::Refusal;
+use oracle::verdict::{Event, Verdict, room_for_pairs};
 
-use crate::time::{mean, micros, ratio};
+use crate::instructions::Call;
+use crate::measure::{Both, Sides, best_times};
+use crate::table::{Figures, Table, print_headings};
+
+/// The call's name.
+pub const NAME: &str = "verdict";
+
+/// Bytes that hold every answer.
+const ROOM: usize = 4096;
 
 /// Bytes of the table: N = 341, as in the verdict program.
 const TABLE: usize = 65_536;
@@ -56,44 +67,118 @@ const COUNTER: &str = "vars t f a b c d e g; assume t != f; a := f; b := f; c :=
      else { c := f; if d = f { d := t; } else { d := f; if e = f { e := t; } else { e := f; g := t; } } } } } } \
      assert a != f;";
 
-/// Times the verdict on one macro and prints its line.
-fn line(name: &str, text: &str, bytes: usize) {
-    let (mut table, mut out) = (vec![0; bytes], vec![0; 4096]);
-    let mut answer = [0; VERDICT_ANSWER];
-    let proved = mean(|| library::verdict(text.as_bytes(), &mut table, &mut out, &mut answer));
-    let search = || read_macro(text.as_bytes()).and_then(|read| fast_search(&read, room_for_pairs(bytes)));
-    let rust = mean(search);
-    assert_eq!(search().map_or(0, |verdict| verdict.pairs as u64), answer[3]);
-    let word = match answer {
-        [14, ..] => "full",
-        [0, _, 0, ..] => "pass",
-        [0, _, 1, ..] => "fail",
-        [0, _, 2, ..] => "incoherent",
-        _ => "refused",
-    };
-    let (most, left, right) = (room_for_pairs(bytes), micros(proved), micros(rust));
-    println!(
-        "{name:<26}{most:>8}{word:>12}{:>8}{left:>12.1}{right:>12.1}{:>10.2}",
-        answer[3],
-        ratio(proved, rust)
-    );
+/// Both searches for a macro's verdict, with the same table.
+pub struct Run<'a> {
+    text: &'a [u8],
+    table: Vec<u8>,
+    out: Vec<u8>,
+    answer: [u64; VERDICT_ANSWER],
+    found: Result<Verdict, Refusal>,
+}
+
+impl Run<'_> {
+    /// No run over this macro yet.
+    pub fn new(text: &[u8], table: usize) -> Run<'_> {
+        Run {
+            text,
+            table: vec![0; table],
+            out: vec![0; ROOM],
+            answer: [u64::MAX; VERDICT_ANSWER],
+            found: Err(Refusal::plain(0)),
+        }
+    }
+
+    /// The proved side's answer in a word.
+    fn word(&self) -> &'static str {
+        match self.answer {
+            [14, ..] => "full",
+            [0, _, 0, ..] => "pass",
+            [0, _, 1, ..] => "fail",
+            [0, _, 2, ..] => "incoherent",
+            _ => "refused",
+        }
+    }
+}
+
+impl Sides for Run<'_> {
+    fn proved(&mut self) {
+        library::verdict(self.text, &mut self.table, &mut self.out, &mut self.answer);
+    }
+
+    /// "After a search, 14 included, each lent table byte is zero": Rust's search has its
+    /// pairs elsewhere, and clears the table too.
+    fn rust(&mut self) {
+        self.found = read_macro(black_box(self.text)).and_then(|read| {
+            let found = fast_search(&read, room_for_pairs(self.table.len()));
+            self.table.fill(0);
+            black_box(&mut self.table);
+            found
+        });
+    }
+
+    fn compare(&self) {
+        let numbers = match &self.found {
+            Err(refusal) => [u64::from(refusal.number), refusal.place as u64, 0, 0, 0],
+            Ok(verdict) => {
+                let (word, letters) = match &verdict.event {
+                    None => (0, 0),
+                    Some(Event::Fail(letters)) => (1, letters.len()),
+                    Some(Event::Incoherent(letters)) => (2, letters.len()),
+                };
+                [0, 0, word, verdict.pairs as u64, letters as u64]
+            }
+        };
+        assert_eq!(self.answer, numbers);
+    }
+}
+
+/// The macros by name, each with the bytes of its table.
+fn macros() -> Vec<(String, String, usize)> {
+    let with_table = |(name, text)| (name, text, TABLE);
+    let mut macros: Vec<_> = examples().into_iter().map(with_table).collect();
+    let made = [
+        ("choices", CHOICES.to_string(), TABLE),
+        ("partitions", PARTITIONS.to_string(), TABLE),
+        ("eight", doubling(8, 12), TABLE),
+        ("eight", doubling(8, 12), LARGEST),
+        ("six", doubling(6, 13), LARGEST),
+        ("counter", COUNTER.to_string(), LARGEST),
+    ];
+    macros.extend(made.map(|(name, text, bytes)| (name.to_string(), text, bytes)));
+    macros
 }
 
 /// Prints the verdicts' table.
-pub fn table() {
-    println!("Verdict, the table holding N pairs (microseconds)");
-    println!(
-        "{:<26}{:>8}{:>12}{:>8}{:>12}{:>12}{:>10}",
-        "macro", "N", "verdict", "pairs", "proved", "Rust", "ratio"
-    );
-    for (name, text) in examples() {
-        line(&name, &text, TABLE);
+pub fn table(count: bool) -> Table {
+    println!("Verdict, the table holding N pairs (microseconds and thousand instructions a macro)");
+    print!("{:<26}{:>8}{:>12}{:>8}", "macro", "N", "verdict", "pairs");
+    print_headings();
+    println!();
+    let macros = macros();
+    let mut runs: Vec<Run> =
+        macros.iter().map(|(_, text, bytes)| Run::new(text.as_bytes(), *bytes)).collect();
+    let times = best_times(&mut runs);
+    let mut table = Table::new("Verdict");
+    for (((name, ..), run), times) in macros.iter().zip(&runs).zip(times) {
+        line(&mut table, name, run, times, count);
     }
-    line("choices", CHOICES, TABLE);
-    line("partitions", PARTITIONS, TABLE);
-    line("eight", &doubling(8, 12), TABLE);
-    line("eight", &doubling(8, 12), LARGEST);
-    line("six", &doubling(6, 13), LARGEST);
-    line("counter", COUNTER, LARGEST);
+    println!(
+        "note: both sides clear the whole table; on fail the proved one makes a model too, Rust does not"
+    );
+    println!();
+    table
+}
+
+/// Prints the line of one macro.
+fn line(table: &mut Table, name: &str, run: &Run, times: Both<Duration>, count: bool) {
+    let bytes = run.table.len();
+    let counted = count.then(|| Call { name: NAME, input: run.text, table: bytes }.instructions()).flatten();
+    let figures = Figures {
+        times: times.map(|time| time.as_secs_f64() * 1e6),
+        instructions: counted.map(|both| both.map(|number| number as f64 / 1e3)),
+    };
+    let (most, word, pairs) = (room_for_pairs(bytes), run.word(), run.answer[3]);
+    print!("{name:<26}{most:>8}{word:>12}{pairs:>8}");
+    table.print(&format!("{name}, N = {most}"), &figures);
     println!();
 }

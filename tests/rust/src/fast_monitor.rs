@@ -80,6 +80,17 @@ impl FastMonitor {
         self.size.iter().filter(|&&size| size > 0).count()
     }
 
+    /// Is there an application to held classes that was never computed?
+    pub fn has_new_application(&self) -> bool {
+        let held =
+            self.slot[..usize::from(self.header.registers)].iter().fold(0, |held, slot| held | 1 << slot);
+        let new = |f: usize, a: usize| {
+            let arguments: u16 = if self.header.binary[f] { held } else { 1 << a };
+            arguments & !self.computed[f][a] != 0
+        };
+        bits(held).any(|a| (0..usize::from(self.header.functions)).any(|f| new(f, a)))
+    }
+
     /// The window by the names of classes, their lowest-numbered registers.
     pub fn key(&self) -> Key {
         let registers = usize::from(self.header.registers);

@@ -68,6 +68,32 @@ fn very_long_traces() {
     }
 }
 
+/// A trace with a copy of a register to itself, which changes nothing, so many times
+/// from some letter on.
+fn with_idle_letters(random: &mut Random, trace: &Trace, count: usize) -> Trace {
+    let idle = Letter::Copy { target: 0, source: 0 };
+    let at = random.below(trace.letters.len() + 1);
+    let mut letters = trace.letters[..at].to_vec();
+    letters.resize(at + count, idle);
+    letters.extend_from_slice(&trace.letters[at..]);
+    Trace { header: trace.header, letters }
+}
+
+/// From so many letters on the classes of a run lie in slots; here the letters before,
+/// between and behind them are random.
+#[test]
+fn letters_on_slots() {
+    for seed in 0..cases(20_000) {
+        let random = &mut Random::new(seed);
+        let trace = any_trace(random, 40);
+        let long = with_idle_letters(random, &trace, 512);
+        let bytes = long.pack();
+        check_against(&bytes, numbers(fast_monitor(&bytes)));
+        let damaged = damage_trace(random, &long);
+        check_against(&damaged, numbers(fast_monitor(&damaged)));
+    }
+}
+
 /// Every letter after every window under a header, then every further letters up to
 /// so many: the windows after the letter are told apart by what comes next.
 fn check_windows(header: Header, most: usize, further: usize) {

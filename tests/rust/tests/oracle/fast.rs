@@ -1,14 +1,19 @@
 //! The monitor and the closure made for speed against the definitions.
 
+use std::collections::BTreeSet;
+
 use oracle::fast_closure::fast_show_model;
-use oracle::fast_monitor::fast_monitor;
+use oracle::fast_monitor::{FastMonitor, fast_monitor};
 use oracle::fast_search::fast_search;
+use oracle::letter::Header;
 use oracle::model::show_model;
 use oracle::monitor::monitor;
 use oracle::random::{Random, cases};
 use oracle::random_macro::random_macro;
 use oracle::random_trace::{Profile, any_trace, damage_trace, random_header, random_trace};
+use oracle::state::State;
 use oracle::verdict::search;
+use oracle::window::Window;
 
 #[test]
 fn monitors_agree() {
@@ -32,6 +37,25 @@ fn monitors_agree_on_long_traces() {
         let trace = random_trace(random, header, profile, 300);
         let bytes = trace.pack();
         assert_eq!(fast_monitor(&bytes), monitor(&bytes), "{trace:?}");
+    }
+}
+
+/// Whether an application is new, by the window and by a count of all applications.
+#[test]
+fn new_applications_agree() {
+    for seed in 0..cases(1_000) {
+        let random = &mut Random::new(seed);
+        let header =
+            Header::new(1 + random.byte_below(3), &[[1, 2], [2, 1]][random.below(2)][..random.below(3)]);
+        let profile = Profile { weights: [1, 4, 2, 1], incoherent: 100_000, infeasible: 1 };
+        let letters = random_trace(random, header, profile, 30).letters;
+        let mut fast = FastMonitor::start(header);
+        assert!(letters.iter().all(|letter| fast.perform(letter)), "{letters:?}");
+        let window = Window::of(&State::after_all(header, &letters));
+        let names: BTreeSet<u8> = window.names.iter().copied().collect();
+        let of_function = |function: u8| names.len().pow(header.arity(function) as u32);
+        let all: usize = (0..header.functions).map(of_function).sum();
+        assert_eq!(fast.has_new_application(), window.computed.len() < all, "{letters:?}");
     }
 }
 
