@@ -12,7 +12,7 @@
  * questions". A refused call writes no output, and the numbers behind the place are 0
  * unless said.
  *
- * Stack: at most 32 KB a call (fadzgime_verdict; read 22 KB, model 17 KB, the others
+ * Stack: at most 33 KB a call (fadzgime_verdict; read 22 KB, model 17 KB, the others
  * at most 7 KB), whatever the input; tested on a thread of 128 KB. Nothing is allocated
  * or kept between calls, so calls on several threads do not disturb each other.
  */
