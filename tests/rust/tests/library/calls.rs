@@ -6,8 +6,9 @@ use oracle::library::{
 };
 use oracle::monitor::is_coherent;
 use oracle::random::{Random, cases};
-use oracle::random_trace::{any_trace, damage_trace};
+use oracle::random_trace::{any_trace, damage_trace, random_header, random_letter};
 use oracle::state::State;
+use oracle::trace::Trace;
 
 use crate::lent::Lent;
 
@@ -201,6 +202,37 @@ fn any_state() {
         library::stream_finish(state.look(), answer.lend());
         answer.look();
     }
+}
+
+/// Bytes pushed at once lead to the state to which the same bytes lead in small parts, from any state: also from one whose
+/// classes are none, so that no slots stand for its window.
+#[test]
+fn any_state_at_once_and_in_parts() {
+    for seed in 0..cases(2_000) {
+        let random = &mut Random::new(seed);
+        let trace = with_many_letters(random);
+        let mut state = vec![0; STREAM_STATE];
+        let mut answer = [0; PUSH_ANSWER];
+        library::stream_start(&mut state, &mut answer);
+        library::stream_push(&trace[..2 + 2 * random.below(20)], &mut state, &mut answer);
+        for _ in 0..random.below(4) {
+            let at = 4 + random.below(STREAM_STATE - 4);
+            state[at] = random.bits() as u8;
+        }
+        let mut parts = state.clone();
+        library::stream_push(&trace[2..], &mut state, &mut answer);
+        for part in trace[2..].chunks(1 + random.below(100)) {
+            library::stream_push(part, &mut parts, &mut answer);
+        }
+        assert_eq!(state, parts, "seed {seed}");
+    }
+}
+
+/// A trace of some six hundred letters, as bytes.
+fn with_many_letters(random: &mut Random) -> Vec<u8> {
+    let header = random_header(random);
+    let letters = (0..600).map(|_| random_letter(random, &header, [4, 4, 1, 1])).collect();
+    Trace { header, letters }.pack()
 }
 
 /// An answer that is too short: nothing is done.
