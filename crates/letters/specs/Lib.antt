@@ -3,7 +3,6 @@ pub mod Packing
 pub mod Answers
 pub mod Editions
 pub mod Words
-pub mod Fields
 pub mod Traces
 pub mod Writing
 pub mod Unpacking

@@ -8,16 +8,16 @@ ghost use mathlib.Core.Path.{_≡_};
 ghost use mathlib.Core.Bool.{true, _&&_};
 ghost use mathlib.Core.List.{[], _∷_};
 ghost use Prim.Native.Nat.{_+_, _*_, _/_, _%_, _<_};
-ghost use lib.Dec.{ltb};
+ghost use lib.Dec.{eqb, ltb};
 ghost use lib.ListN.{length};
 ghost use Rattle.letters.specs.Putting.{putWord};
 ghost use Rattle.base.specs.Choice.{pick};
 ghost use Rattle.base.specs.Masks.{has};
+ghost use Rattle.letters.specs.declared.Letter.the-variants.{Copy, Apply, Equal, Unequal};
 ghost use Rattle.letters.specs.Packing.{Sized, join, split};
 ghost use Rattle.letters.specs.Editions.{firstEdition};
-ghost use Rattle.letters.specs.Answers.{headerAnswer, letterAnswer, headerWordAnswer, letterWordAnswer};
+ghost use Rattle.letters.specs.Answers.{value, headerAnswer, letterAnswer, headerWordAnswer, letterWordAnswer};
 ghost use Rattle.letters.specs.Words.{bitsFrom, headerFields, headerWord, letterFields, letterWord, headerTest, fitsTest, applyTest};
-ghost use Rattle.letters.specs.Fields.{Counted};
 ghost use Rattle.letters.specs.Words.{headerOf, letterBy, encodeHeader, encodeLetter, decodeHeader, decodeLetter};
 
 /// Two bytes as a word, the first the more significant.
@@ -260,61 +260,29 @@ pub fn letter_by(h: Header, kind: u8, function: u8, target: u8, first: u8, secon
     Letter::Unequal { first, second }
 }
 
-// The application in a word whose fields every kind of letter may have.
-fn decode_application(h: Header, word: u16) -> DecodedLetter
-    requires { ⌜ Counted h word × (word / 16384 % 4 ≡ 1) ⌝ }
-    ensures { λ r. ⌜ letterAnswer r ≡ decodeLetter firstEdition h word ⌝ }
+// The answer that a word is the application of a function.
+fn application(target: u8, function: u8, first: u8, second: u8) -> DecodedLetter
+    ensures { λ r. ⌜ letterAnswer r ≡ value (Apply target function first second) ⌝ }
 {
-    let function = (word / 4096 % 4) as u8;
-    let target = (word / 512 % 8) as u8;
-    let first = (word / 64 % 8) as u8;
-    let second = (word / 8 % 8) as u8;
-    if h.functions <= function {
-        return DecodedLetter::Malformed;
-    }
-    if takes_two(h, function) {
-        return DecodedLetter::Letter(Letter::Apply {
-            target,
-            function,
-            first,
-            second,
-        });
-    }
-    if second != 0 {
-        return DecodedLetter::Malformed;
-    }
     DecodedLetter::Letter(Letter::Apply {
         target,
         function,
         first,
-        second: first,
+        second,
     })
 }
 
-// The copy or test in a word whose fields every kind of letter may have.
-fn decode_plain(h: Header, word: u16) -> DecodedLetter
-    requires { ⌜ Counted h word × (word / 16384 % 4 ≡ 1 → ⊥) ⌝ }
-    ensures { λ r. ⌜ letterAnswer r ≡ decodeLetter firstEdition h word ⌝ }
+// The answer that a word is a copy.
+fn copy(target: u8, source: u8) -> DecodedLetter
+    ensures { λ r. ⌜ letterAnswer r ≡ value (Copy target source) ⌝ }
 {
-    let kind = word / 16384 % 4;
-    let target = (word / 512 % 8) as u8;
-    let first = (word / 64 % 8) as u8;
-    let second = (word / 8 % 8) as u8;
-    if word / 4096 % 4 != 0 {
-        return DecodedLetter::Malformed;
-    }
-    if kind == 0 {
-        if second != 0 {
-            return DecodedLetter::Malformed;
-        }
-        return DecodedLetter::Letter(Letter::Copy {
-            target,
-            source: first,
-        });
-    }
-    if target != 0 {
-        return DecodedLetter::Malformed;
-    }
+    DecodedLetter::Letter(Letter::Copy { target, source })
+}
+
+// The answer that a word is a test of this kind.
+fn test(kind: u16, first: u8, second: u8) -> DecodedLetter
+    ensures { λ r. ⌜ letterAnswer r ≡ value (pick (eqb kind 2) (λ _. Equal first second) (λ _. Unequal first second)) ⌝ }
+{
     if kind == 2 {
         return DecodedLetter::Letter(Letter::Equal { first, second });
     }
@@ -326,23 +294,38 @@ fn decode_plain(h: Header, word: u16) -> DecodedLetter
 pub fn decode_letter(h: Header, word: u16) -> DecodedLetter
     ensures { λ r. ⌜ letterAnswer r ≡ decodeLetter firstEdition h word ⌝ }
 {
-    if !header_fits(h) {
+    let kind = word / 16384 % 4;
+    let function = (word / 4096 % 4) as u8;
+    let target = (word / 512 % 8) as u8;
+    let first = (word / 64 % 8) as u8;
+    let second = (word / 8 % 8) as u8;
+    if !header_fits(h) | (word % 8 != 0) {
         return DecodedLetter::Malformed;
     }
-    if word % 8 != 0 {
+    if ((h.registers <= target) | (h.registers <= first)) | (h.registers <= second) {
         return DecodedLetter::Malformed;
     }
-    if h.registers <= (word / 512 % 8) as u8 {
+    if kind == 1 {
+        if h.functions <= function {
+            return DecodedLetter::Malformed;
+        }
+        if !takes_two(h, function) & (second != 0) {
+            return DecodedLetter::Malformed;
+        }
+        let other = by_arity(h, function, second, first);
+        return application(target, function, first, other);
+    }
+    if function != 0 {
         return DecodedLetter::Malformed;
     }
-    if h.registers <= (word / 64 % 8) as u8 {
+    if kind == 0 {
+        if second != 0 {
+            return DecodedLetter::Malformed;
+        }
+        return copy(target, first);
+    }
+    if target != 0 {
         return DecodedLetter::Malformed;
     }
-    if h.registers <= (word / 8 % 8) as u8 {
-        return DecodedLetter::Malformed;
-    }
-    if word / 16384 % 4 == 1 {
-        return decode_application(h, word);
-    }
-    decode_plain(h, word)
+    test(kind, first, second)
 }
