@@ -19,7 +19,7 @@ use Rattle.letters.specs.Editions.{firstEdition}
 use Rattle.letters.specs.Answers.{Answer, value, refusal, letterAnswer, onAnswer}
 use Rattle.letters.specs.Words.{HeaderFits, decodeLetter}
 use Rattle.letters.specs.WordLaws.{first-roomy, decode-header, decode-letter}
-use Rattle.letters.specs.Traces.{Reading, trace, refused, before, octets, reading, readingWithin, readingWhere, beginning, lettersFrom, lettersOf, letterIn, letterCount, letterAt, parts}
+use Rattle.traces.specs.Traces.{Reading, trace, refused, before, octets, reading, readingWithin, readingWhere, beginning, lettersFrom, lettersOf, letterIn, letterCount, letterAt, parts}
 use Rattle.engine.specs.Run.{Begun, restOf, behind, RestRead, all-read, broken, Following}
 
 not-value : {A : Type 0} {a b : ℕ} {x : A} → refusal a b ≡ value x → ⊥

@@ -8,7 +8,7 @@ use Rattle.letters.specs.declared.Header.{Header}
 use Rattle.letters.specs.declared.Letter.{Letter}
 use Rattle.letters.specs.Editions.{firstEdition}
 use Rattle.letters.specs.Answers.{value}
-use Rattle.letters.specs.Traces.{Reading, trace, refused, beginning, letterCount, letterIn, parts, lettersFrom, lettersOf}
+use Rattle.traces.specs.Traces.{Reading, trace, refused, beginning, letterCount, letterIn, parts, lettersFrom, lettersOf}
 use Rattle.semantics.specs.Terms.{state, traceOf, WellFormed}
 use Rattle.semantics.specs.Models.{Feasible}
 use Rattle.semantics.specs.Coherence.{FailsAt}

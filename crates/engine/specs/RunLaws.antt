@@ -15,7 +15,7 @@ use Rattle.letters.specs.Letters.{Fits}
 use Rattle.letters.specs.Editions.{firstEdition}
 use Rattle.letters.specs.Answers.{letterAnswer}
 use Rattle.letters.specs.Words.{HeaderFits}
-use Rattle.letters.specs.Traces.{trace, lettersOf, letterAt}
+use Rattle.traces.specs.Traces.{trace, lettersOf, letterAt}
 use Rattle.semantics.specs.Terms.{begin, _▸_, state, start, after, traceOf, WellFormed}
 use Rattle.semantics.specs.Models.{Feasible}
 use Rattle.semantics.specs.Coherence.{FailsAt, size}

@@ -12,7 +12,6 @@ use closure::wide;
 use letters::DecodedLetter;
 use letters::Header;
 use letters::Letter;
-use letters::traces;
 use letters::words;
 
 /// What was counted so far.

@@ -9,16 +9,17 @@ use lib.ListN.{length, getD, drop, set}
 use borrow.Author.Tests.{le-ltb, eq-eqb, ltb-false}
 use Rattle.base.specs.Choice.{pick}
 use Rattle.letters.specs.declared.Header.{Header}
-use Rattle.letters.specs.declared.TraceRead.{TraceRead}
-use Rattle.letters.specs.declared.TraceRead.the-variants as trace-read
-use Rattle.letters.specs.declared.Written.{Written}
-use Rattle.letters.specs.declared.Written.the-variants as written
-use Rattle.letters.specs.Answers.{Answer, value, refusal, traceAnswer, writtenAnswer}
+use Rattle.traces.specs.declared.TraceRead.{TraceRead}
+use Rattle.traces.specs.declared.TraceRead.the-variants as trace-read
+use Rattle.traces.specs.declared.Written.{Written}
+use Rattle.traces.specs.declared.Written.the-variants as written
+use Rattle.letters.specs.Answers.{Answer, value, refusal}
+use Rattle.traces.specs.Answers.{traceAnswer, writtenAnswer}
 use Rattle.letters.specs.Editions.{firstEdition}
 use Rattle.letters.specs.WordLaws.{first-roomy, decode-header-refused}
-use Rattle.letters.specs.Traces.{reading}
-use Rattle.letters.specs.Writing.{unpacking, Wrote}
-use Rattle.letters.specs.Unpacking.{Unpacked}
+use Rattle.traces.specs.Traces.{reading}
+use Rattle.traces.specs.Writing.{unpacking, Wrote}
+use Rattle.traces.specs.Unpacking.{Unpacked}
 use Rattle.semantics.specs.Terms.{Trace}
 use Rattle.monitoring.specs.Monitor.{outcomeAnswer, idleOf, startOf, advance}
 use Rattle.monitoring.specs.MonitorLaws.{start-refused}

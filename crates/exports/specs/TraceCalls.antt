@@ -6,9 +6,9 @@ use lib.ListN.{length, drop}
 use Rattle.letters.specs.declared.Header.{Header}
 use Rattle.letters.specs.Answers.{Answer, value, refusal}
 use Rattle.letters.specs.Editions.{firstEdition}
-use Rattle.letters.specs.Traces.{reading}
-use Rattle.letters.specs.Writing.{unpacking, writtenLength, writtenOver}
-use Rattle.letters.specs.Unpacking.{unpackedCount, unpackedOver}
+use Rattle.traces.specs.Traces.{reading}
+use Rattle.traces.specs.Writing.{unpacking, writtenLength, writtenOver}
+use Rattle.traces.specs.Unpacking.{unpackedCount, unpackedOver}
 
 abbrev pub headerWith : ℕ → ℕ → ℕ → Header
 headerWith registers functions binary = record { registers = registers; functions = functions; binary = binary }

@@ -18,7 +18,7 @@ ghost use Rattle.search.specs.Answering as search;
 ghost use Rattle.exports.specs.Judging.{verdictNumbers, Judging};
 
 /// Traces written and read.
-pub mod traces;
+pub mod packing;
 /// The monitor, a letter a call, and the run over a trace in parts.
 pub mod calls;
 

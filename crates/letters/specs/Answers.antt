@@ -9,12 +9,6 @@ use Rattle.letters.specs.declared.DecodedLetter.{DecodedLetter}
 use Rattle.letters.specs.declared.DecodedLetter.the-variants as decoded-letter
 use Rattle.letters.specs.declared.Encoded.{Encoded}
 use Rattle.letters.specs.declared.Encoded.the-variants as encoded
-use Rattle.letters.specs.declared.HeaderRead.{HeaderRead}
-use Rattle.letters.specs.declared.HeaderRead.the-variants as begun
-use Rattle.letters.specs.declared.TraceRead.{TraceRead}
-use Rattle.letters.specs.declared.TraceRead.the-variants as trace-read
-use Rattle.letters.specs.declared.Written.{Written}
-use Rattle.letters.specs.declared.Written.the-variants as written
 
 pub data Answer (A : Type 0) : Type 0 where
   value : A → Answer A
@@ -43,18 +37,3 @@ headerWordAnswer encoded.Malformed = refusal 3 0
 abbrev pub letterWordAnswer : Encoded → Answer ℕ
 letterWordAnswer (encoded.Word w) = value w
 letterWordAnswer encoded.Malformed = refusal 4 0
-
--- the header of a trace whose letters are still to be read
-abbrev pub beginningAnswer : HeaderRead → Answer Header
-beginningAnswer (begun.Header h) = value h
-beginningAnswer (begun.Refused number) = refusal number 0
-
--- a trace's header and its number of letters
-abbrev pub traceAnswer : TraceRead → Answer (Header × ℕ)
-traceAnswer (trace-read.Trace h n) = value (h, n)
-traceAnswer (trace-read.Refused number place) = refusal number place
-
--- how many bytes were written
-abbrev pub writtenAnswer : Written → Answer ℕ
-writtenAnswer (written.Bytes n) = value n
-writtenAnswer (written.Refused number place) = refusal number place

@@ -3,11 +3,6 @@ pub mod Packing
 pub mod Answers
 pub mod Editions
 pub mod Words
-pub mod Traces
-pub mod Writing
-pub mod Unpacking
 pub mod WordLaws
 pub mod Putting
-pub mod TraceLaws
-pub mod WritingLaws
 pub mod Examples

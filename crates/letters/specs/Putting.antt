@@ -1,27 +1,8 @@
--- How letters get into the output, for the contracts of private functions: each letter's word or bytes are put at their place, up to the first letter
--- that has none.
+-- How a word gets into the output.
 use Prim.Native.Nat.{ℕ, _+_, _/_, _%_}
-use mathlib.Core.List.{List, [], _∷_}
+use mathlib.Core.List.{List}
 use lib.ListN.{set}
-use Rattle.letters.specs.declared.Header.{Header}
-use Rattle.letters.specs.Editions.{Edition}
-use Rattle.letters.specs.Answers.{Answer, refusal, onAnswer}
-use Rattle.letters.specs.Words.{encodeLetter}
-use Rattle.letters.specs.Writing.{unpackLetter}
-
--- the word of an unpacked letter
-unfoldable pub wordIn : Edition → Header → List ℕ → Answer ℕ
-wordIn e h s = onAnswer (unpackLetter h s) (encodeLetter e h) λ _ _. refusal 4 0
 
 -- a word of two bytes at a place
 abbrev pub putWord : List ℕ → ℕ → ℕ → List ℕ
 putWord out at w = set (set out at (w / 256)) (at + 1) (w % 256)
-
--- what each of these codes gives, put from a place on, n entries for each
-unfoldable pub putEach : {A B : Type 0} → (List ℕ → ℕ → B → List ℕ) → ℕ → (A → Answer B) → List ℕ → ℕ → List A → List ℕ
-putEach put n decode out to [] = out
-putEach put n decode out to (x ∷ codes) = onAnswer (decode x) (λ b. putEach put n decode (put out to b) (to + n) codes) λ _ _. out
-
--- the words of these codes
-abbrev pub putWords : {A : Type 0} → (A → Answer ℕ) → List ℕ → ℕ → List A → List ℕ
-putWords word out to codes = putEach putWord 2 word out to codes

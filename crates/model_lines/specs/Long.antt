@@ -11,7 +11,7 @@ use Rattle.letters.specs.Editions.{firstEdition}
 use Rattle.letters.specs.Packing.{join}
 use Rattle.letters.specs.Answers.{onAnswer}
 use Rattle.letters.specs.Words.{decodeHeader}
-use Rattle.letters.specs.Traces.{Reading, refused, octets, beginning, readingWhere, readingWithin}
+use Rattle.traces.specs.Traces.{Reading, refused, octets, beginning, readingWhere, readingWithin}
 use Rattle.model_lines.specs.Prints.{readLine, lineFor}
 use Rattle.model_lines.specs.Answered.{mostRead, oddRead}
 

@@ -7,7 +7,7 @@ use lib.ListN.{length, take}
 use Rattle.io.specs.Digits.{glyph}
 use Rattle.base.specs.Choice.{pick}
 use Rattle.letters.specs.Editions.{firstEdition}
-use Rattle.letters.specs.Traces.{Reading, trace, refused, readingWithin}
+use Rattle.traces.specs.Traces.{Reading, trace, refused, readingWithin}
 use Rattle.semantics.specs.Terms.{state, traceOf}
 use Rattle.semantics.specs.Judgement.{firstInfeasible}
 use Rattle.text.specs.Numerals.{numeral}

@@ -13,7 +13,7 @@ use Rattle.base.specs.Choice.{byTest}
 use Rattle.letters.specs.declared.Header.{Header}
 use Rattle.letters.specs.declared.Letter.{Letter}
 use Rattle.letters.specs.Editions.{firstEdition}
-use Rattle.letters.specs.Traces.{Reading, trace, refused, readingWithin}
+use Rattle.traces.specs.Traces.{Reading, trace, refused, readingWithin}
 use Rattle.semantics.specs.Terms.{State, begin, state, traceOf}
 use Rattle.semantics.specs.TraceLaws.{extend-size, extend-header, terms-length}
 use Rattle.semantics.specs.Shown.{number, tablesOf}

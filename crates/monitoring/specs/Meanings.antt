@@ -11,7 +11,7 @@ use Rattle.letters.specs.Answers.{Answer, value, refusal}
 use Rattle.letters.specs.Editions.{firstEdition}
 use Rattle.letters.specs.Words.{HeaderFits, headerWord, letterWord, decodeLetter}
 use Rattle.letters.specs.WordLaws.{first-roomy, decode-header, decode-header-refused, decode-letter, decode-letter-refused}
-use Rattle.letters.specs.Traces.{letterCount, reading}
+use Rattle.traces.specs.Traces.{letterCount, reading}
 use Rattle.semantics.specs.Terms.{Trace, begin, _▸_, state}
 use Rattle.semantics.specs.Models.{Feasible}
 use Rattle.semantics.specs.Coherence.{Coherent, size}

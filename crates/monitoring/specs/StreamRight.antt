@@ -15,8 +15,8 @@ use Rattle.letters.specs.Packing.{join, split}
 use Rattle.letters.specs.Editions.{firstEdition}
 use Rattle.letters.specs.Words.{headerWord, letterWord, headerTest, fitsTest, headerOf, letterOf, decodeHeader, decodeLetter}
 use Rattle.letters.specs.WordLaws.{first-roomy}
-use Rattle.letters.specs.Traces.{Reading, trace, refused, AllFit, octets, parts, before, lettersFrom, beginning, letterCount, letterIn, lettersOf, readingWhere, reading}
-use Rattle.letters.specs.TraceLaws.{letters-decoded, parts-length, reading-fits}
+use Rattle.traces.specs.Traces.{Reading, trace, refused, AllFit, octets, parts, before, lettersFrom, beginning, letterCount, letterIn, lettersOf, readingWhere, reading}
+use Rattle.traces.specs.TraceLaws.{letters-decoded, parts-length, reading-fits}
 use Rattle.semantics.specs.Terms.{Trace, begin, _▸_, state, WellFormed, extend, traceOf}
 use Rattle.semantics.specs.Coherence.{size}
 use Rattle.semantics.specs.Judge.{coherent, feasible}

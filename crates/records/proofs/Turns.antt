@@ -19,7 +19,7 @@ use Rattle.base.specs.MaskLaws.{trailing-least}
 use Rattle.letters.specs.Packing.{join, split}
 use Rattle.semantics.specs.PackedTables.{units, unitsIn}
 use Rattle.base.specs.Written.{Written}
-use Rattle.letters.specs.TraceLaws.{units-length}
+use Rattle.traces.specs.TraceLaws.{units-length}
 use Rattle.window.specs.Table.{written-all, table, table-at, table-length, table-is, Swept, swept-none, swept-more, swept-all}
 use Rattle.window.specs.declared.Window.{Window}
 use Rattle.records.specs.Codes.{codeOf, codeAt, heldOf, computedOf, assembled, gathered, scattered}

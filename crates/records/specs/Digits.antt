@@ -7,7 +7,7 @@ use native.Mathlib.Nat.{div-one, mod-eq-of-lt}
 use lib.ListN.{length, take, drop, replicate, length-drop, length-take, take-append-drop}
 use lib.Seq.{drop-at, take-at}
 use Rattle.letters.specs.Packing.{total, Sized, join, split, split-join, join-split, join-lt}
-use Rattle.letters.specs.TraceLaws.{octets-total, octets-length}
+use Rattle.traces.specs.TraceLaws.{octets-total, octets-length}
 use Rattle.semantics.specs.PackedTables.{units, unitsIn}
 use Rattle.records.specs.Codes.{gathered, scattered}
 

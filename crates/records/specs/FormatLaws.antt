@@ -23,7 +23,7 @@ use Rattle.records.specs.Formats.{Format, numberBytes, pairPlace, conten
 use Rattle.records.specs.Formats.{Sound, flag, isSet, codesOf, codeBytes, contentOf, encoded, recordOf, numberIn, afterPoint}
 use Rattle.records.specs.Formats.{afterClass, afterUnequal, afterMarks, afterInfeasible, parentIn, branchIn, pointIn, codesIn, resultIn}
 use Rattle.records.specs.Formats.{everMask, everIn, windowFrom, windowIn}
-use Rattle.letters.specs.TraceLaws.{units-length}
+use Rattle.traces.specs.TraceLaws.{units-length}
 use Rattle.records.specs.Digits.{All<, units-back, digits-back, gathered-small, gathered-length}
 
 pub all-of : (b : ℕ) (l : List ℕ) → ((k : ℕ) → k < length l → getD l k 0 < b) → All< b l

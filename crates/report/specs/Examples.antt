@@ -10,7 +10,7 @@ use Rattle.letters.specs.declared.Letter.the-variants.{Apply, Unequal}
 use Rattle.semantics.specs.Tables.{Row, Tables}
 use Rattle.semantics.specs.PackedTables.{secondWritten, secondMeant, unitsIn, rowFrom, readTables}
 use Rattle.letters.specs.Words as words
-use Rattle.letters.specs.Traces.{letterAt}
+use Rattle.traces.specs.Traces.{letterAt}
 use Rattle.text.specs.Numerals.{numeral}
 use Rattle.report.specs.declared.Verdict.the-variants.{Fail}
 use Rattle.report.specs.Shown.{letterOf, lettersIn, shown}

@@ -15,8 +15,8 @@ use Rattle.letters.specs.Editions.{firstEdition}
 use Rattle.letters.specs.Answers.{Answer, onAnswer}
 use Rattle.letters.specs.Words.{HeaderFits, headerWord, letterWord}
 use Rattle.letters.specs.WordLaws.{first-roomy}
-use Rattle.letters.specs.Traces.{AllFit, packing, letterAt}
-use Rattle.letters.specs.TraceLaws.{bytes-length, reading-packing, letter-at}
+use Rattle.traces.specs.Traces.{AllFit, packing, letterAt}
+use Rattle.traces.specs.TraceLaws.{bytes-length, reading-packing, letter-at}
 use Rattle.semantics.specs.Tables.{Tables}
 use Rattle.semantics.specs.PackedTables.{unitsIn, firstRowWidths, packTables, rowFrom, readTables, Packable}
 use Rattle.semantics.specs.PackedTablesLaws.{packed-length, read-packed}

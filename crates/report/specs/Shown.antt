@@ -10,7 +10,7 @@ use Rattle.letters.specs.declared.Letter.{Letter}
 use Rattle.letters.specs.declared.Letter.the-variants.{Copy}
 use Rattle.letters.specs.Editions.{firstEdition}
 use Rattle.letters.specs.Answers.{onAnswer}
-use Rattle.letters.specs.Traces.{letterAt}
+use Rattle.traces.specs.Traces.{letterAt}
 use Rattle.semantics.specs.PackedTables.{firstRowWidths, readTables}
 use Rattle.text.specs.Names.{nameText}
 use Rattle.report.specs.declared.Verdict.{Verdict}

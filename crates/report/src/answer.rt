@@ -2,8 +2,8 @@
 use letters::DecodedLetter;
 use letters::Header;
 use letters::Letter;
-use letters::traces::letter_at;
 use tokens::wide;
+use traces::letter_at;
 ghost use mathlib.Core.Path.{_≡_};
 ghost use mathlib.Core.List.{[], _∷_};
 ghost use Prim.Native.Nat.{_+_, _^_, _<_};

@@ -11,8 +11,8 @@ use Rattle.letters.specs.declared.Letter.{Letter}
 use Rattle.letters.specs.Editions.{firstEdition}
 use Rattle.letters.specs.Words.{HeaderFits, headerWord, letterWord}
 use Rattle.letters.specs.WordLaws.{first-roomy}
-use Rattle.letters.specs.Traces.{AllFit, packing}
-use Rattle.letters.specs.TraceLaws.{bytes-length}
+use Rattle.traces.specs.Traces.{AllFit, packing}
+use Rattle.traces.specs.TraceLaws.{bytes-length}
 use Rattle.semantics.specs.Terms.{begin, traceOf, state, WellFormed}
 use Rattle.semantics.specs.Models.{Feasible}
 use Rattle.semantics.specs.PackedTables.{firstRowWidths}

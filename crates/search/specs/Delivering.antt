@@ -16,8 +16,8 @@ use Rattle.letters.specs.Editions.{firstEdition}
 use Rattle.letters.specs.Words.{HeaderFits, headerWord, letterWord}
 use Rattle.letters.specs.WordLaws.{first-roomy}
 use Rattle.letters.specs.Answers.{onAnswer}
-use Rattle.letters.specs.Traces.{trace, refused, AllFit, packing, beginning, letterCount, lettersOf, readingWhere, readingWithin}
-use Rattle.letters.specs.TraceLaws.{reading-packing, bytes-length}
+use Rattle.traces.specs.Traces.{trace, refused, AllFit, packing, beginning, letterCount, lettersOf, readingWhere, readingWithin}
+use Rattle.traces.specs.TraceLaws.{reading-packing, bytes-length}
 use Rattle.semantics.specs.Terms.{Trace, begin, _▸_, extend, traceOf, State, state, WellFormed}
 use Rattle.semantics.specs.Models.{Feasible}
 use Rattle.semantics.specs.PackedTables.{packTables, firstRowWidths}

@@ -11,7 +11,7 @@ use Rattle.letters.specs.Packing.{split, join-lt}
 use Rattle.letters.specs.Editions.{firstEdition}
 use Rattle.letters.specs.Words.{HeaderFits, headerFields, letterFields, headerWord, letterWord, encodeHeader, encodeLetter}
 use Rattle.letters.specs.WordLaws.{header-test, fits-test, first-roomy}
-use Rattle.letters.specs.Traces.{AllFit, units, bytesOf, packing}
+use Rattle.traces.specs.Traces.{AllFit, units, bytesOf, packing}
 use Rattle.semantics.specs.Terms.{Trace, _▸_, extend, state, WellFormed}
 use Rattle.search.specs.Tracing.{wordOf, wordBytes, letterWords, traced}
 

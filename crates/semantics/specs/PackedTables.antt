@@ -9,7 +9,7 @@ use Rattle.base.specs.Masks.{has}
 use Rattle.letters.specs.declared.Header.{Header}
 use Rattle.letters.specs.Letters.{arity}
 use Rattle.letters.specs.Packing.{total, join, split}
-unfoldable pub use Rattle.letters.specs.Traces.{units}
+unfoldable pub use Rattle.traces.specs.Traces.{units}
 use Rattle.semantics.specs.Terms.{_∈_}
 use Rattle.semantics.specs.Tables.{Row, Tables}
 

@@ -11,8 +11,8 @@ use Rattle.base.specs.Masks.{has}
 use Rattle.letters.specs.declared.Header.{Header}
 use Rattle.letters.specs.Letters.{arity}
 use Rattle.letters.specs.Packing.{total, Sized, join, split, join-lt, split-join, join-split}
-use Rattle.letters.specs.TraceLaws.{octets-total, octets-length}
-pub use Rattle.letters.specs.TraceLaws.{units-length}
+use Rattle.traces.specs.TraceLaws.{octets-total, octets-length}
+pub use Rattle.traces.specs.TraceLaws.{units-length}
 use Rattle.semantics.specs.Terms.{_∈_}
 use Rattle.semantics.specs.Tables.{Row, Tables}
 use Rattle.semantics.specs.PackedTables.{units, unitsIn, RowWidths, rowWidths, rowBytes, wordBytes, secondWritten, secondMeant, rowWord, packTables, rowFrom, readTables, Packable}

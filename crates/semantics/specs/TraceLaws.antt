@@ -11,8 +11,8 @@ use Rattle.letters.specs.declared.Letter.the-variants.{Copy, Apply, Equal, Uneq
 use Rattle.letters.specs.Letters.{Fits}
 use Rattle.letters.specs.Editions.{Edition}
 use Rattle.letters.specs.WordLaws.{Roomy}
-use Rattle.letters.specs.Traces.{trace, AllFit, reading}
-use Rattle.letters.specs.TraceLaws.{reading-fits}
+use Rattle.traces.specs.Traces.{trace, AllFit, reading}
+use Rattle.traces.specs.TraceLaws.{reading-fits}
 use Rattle.semantics.specs.Terms.{_∈_, Trace, begin, _▸_, constants, state, WellFormed, extend, traceOf}
 use Rattle.semantics.specs.Coherence.{size, FailsAt}
 

@@ -9,7 +9,7 @@ use Rattle.letters.specs.declared.Header.{Header}
 use Rattle.letters.specs.declared.Letter.{Letter}
 use Rattle.letters.specs.Editions.{firstEdition, mostLetters}
 use Rattle.letters.specs.Words.{HeaderFits}
-use Rattle.letters.specs.Traces.{Reading, trace, refused, reading, readingWithin}
+use Rattle.traces.specs.Traces.{Reading, trace, refused, reading, readingWithin}
 use Rattle.semantics.specs.Terms.{State, state, traceOf, WellFormed}
 use Rattle.semantics.specs.Coherence.{FailsAt}
 use Rattle.semantics.specs.Models.{Satisfies, Feasible}

@@ -10,13 +10,14 @@ use lib.Seq.{length-take-le}
 use borrow.Author.Tests.{eq-eqb, ne-eqb, le-leb, lt-leb, lt-ltb}
 use Rattle.letters.specs.declared.Header.{Header}
 use Rattle.letters.specs.declared.Letter.{Letter}
-use Rattle.letters.specs.declared.HeaderRead.{HeaderRead}
-use Rattle.letters.specs.declared.HeaderRead.the-variants as header-read
+use Rattle.traces.specs.declared.HeaderRead.{HeaderRead}
+use Rattle.traces.specs.declared.HeaderRead.the-variants as header-read
 use Rattle.letters.specs.Editions.{firstEdition}
 use Rattle.letters.specs.Answers as letters
+use Rattle.traces.specs.Answers.{beginningAnswer}
 use Rattle.letters.specs.WordLaws.{first-roomy}
-use Rattle.letters.specs.Traces.{Reading, trace, refused, beginning, letterCount, lettersOf, readingWhere, readingWithin}
-use Rattle.letters.specs.TraceLaws.{reading-fits}
+use Rattle.traces.specs.Traces.{Reading, trace, refused, beginning, letterCount, lettersOf, readingWhere, readingWithin}
+use Rattle.traces.specs.TraceLaws.{reading-fits}
 use Rattle.semantics.specs.Terms.{State, Term, con, begin, state, traceOf}
 use Rattle.semantics.specs.Models.{Feasible}
 use Rattle.semantics.specs.Coherence.{FailsAt}
@@ -223,14 +224,14 @@ stopped h x k b (run.all-read ls e) = ((λ _. well ls e), (λ z. absurd (z refl)
 stopped h x k b (run.broken p l e) = ((λ z. absurd (omega arith)), (λ _. ill p e))
 
 -- ---- what the beginning gives
-module _ (s : List ℕ) (d : HeaderRead) (e : letters.beginningAnswer d ≡ beginning firstEdition s) (out : List ℕ) where
+module _ (s : List ℕ) (d : HeaderRead) (e : beginningAnswer d ≡ beginning firstEdition s) (out : List ℕ) where
   pub showed-refused : {a : ℕ} → d ≡ header-read.Refused a → Showed s out (shown.Refused a 0) out
   unfolding answerTo outputAfter readingWhere
-  showed-refused {a} q = let x = sym e ∙ ap letters.beginningAnswer q in showed s out (shown.Refused a 0) out (rw x) (rw x)
+  showed-refused {a} q = let x = sym e ∙ ap beginningAnswer q in showed s out (shown.Refused a 0) out (rw x) (rw x)
 
   module _ {h : Header} (q : d ≡ header-read.Header h) where
     header-is : beginning firstEdition s ≡ letters.value h
-    header-is = sym e ∙ ap letters.beginningAnswer q
+    header-is = sym e ∙ ap beginningAnswer q
 
     pub bytes-enough : 2 ≤ length s
     bytes-enough = headed s h header-is .enough

@@ -13,8 +13,8 @@ use Rattle.letters.specs.declared.Letter.{Letter}
 use Rattle.letters.specs.Editions.{Edition, firstEdition, mostLetters}
 use Rattle.letters.specs.Answers as letters
 use Rattle.letters.specs.WordLaws.{first-roomy}
-use Rattle.letters.specs.Traces.{Reading, trace, refused, reading, readingWithin, readingWhere, beginning, lettersOf, letterIn, letterCount, parts}
-use Rattle.letters.specs.TraceLaws.{not-trace, reading-fits, letters-decoded, decoded-length, parts-length}
+use Rattle.traces.specs.Traces.{Reading, trace, refused, reading, readingWithin, readingWhere, beginning, lettersOf, letterIn, letterCount, parts}
+use Rattle.traces.specs.TraceLaws.{not-trace, reading-fits, letters-decoded, decoded-length, parts-length}
 use Rattle.semantics.specs.Terms.{Trace, State, begin, state, traceOf}
 use Rattle.semantics.specs.TraceLaws.{extend-header, extend-size, terms-length, all-formed}
 use Rattle.semantics.specs.Facts.{state-valid}

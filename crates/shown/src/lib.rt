@@ -17,9 +17,8 @@ use closure::Numbers;
 use closure::wide;
 use engine::Outcome;
 use letters::Header;
-use letters::HeaderRead;
-use letters::traces;
 use letters::words;
+use traces::HeaderRead;
 
 // The letters that a trace may have.
 const MOST_LETTERS: usize = 1024;

@@ -9,8 +9,8 @@ use lib.Seq.{take-at, drop-at}
 use Rattle.letters.specs.declared.Letter.{Letter}
 use Rattle.letters.specs.Editions.{firstEdition}
 use Rattle.letters.specs.WordLaws.{first-roomy}
-use Rattle.letters.specs.Traces.{trace, reading, packing}
-use Rattle.letters.specs.TraceLaws.{reading-packing}
+use Rattle.traces.specs.Traces.{trace, reading, packing}
+use Rattle.traces.specs.TraceLaws.{reading-packing}
 use Rattle.semantics.specs.Terms.{Trace, begin, extend, state}
 use Rattle.semantics.specs.Models.{Feasible}
 use Rattle.semantics.specs.Coherence.{size}

@@ -12,7 +12,7 @@ use Rattle.letters.specs.declared.Letter.{Letter}
 use Rattle.letters.specs.declared.Letter.the-variants.{Equal, Unequal}
 use Rattle.letters.specs.Editions.{Edition, firstEdition}
 use Rattle.letters.specs.Words.{headerWord, letterWord}
-use Rattle.letters.specs.Traces.{packing}
+use Rattle.traces.specs.Traces.{packing}
 use Rattle.semantics.specs.Terms.{Trace, begin, _▸_, extend, State, state}
 use Rattle.semantics.specs.Models.{Feasible}
 use Rattle.semantics.specs.Coherence.{Coherent, size as letters}

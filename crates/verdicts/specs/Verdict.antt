@@ -13,7 +13,7 @@ use lib.ListN.{length, drop}
 use Rattle.letters.specs.declared.Letter.{Letter}
 use Rattle.semantics.specs.Terms.{Trace, begin, _▸_, State, extend, state}
 use Rattle.letters.specs.Editions.{Edition}
-use Rattle.letters.specs.Traces.{packing}
+use Rattle.traces.specs.Traces.{packing}
 use Rattle.semantics.specs.Models.{Satisfies}
 use Rattle.semantics.specs.SameWindow.{SameWindow}
 use Rattle.semantics.specs.Shown.{shown, tablesOf}

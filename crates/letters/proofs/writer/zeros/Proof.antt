@@ -1,6 +1,0 @@
-use Rattle.base.specs.Choice.{decide}
-use Rattle.letters.proofs.writer.zeros.Statement.{statement}
-use Rattle.letters.proofs.writer.zeros.Tie as tie
-
-pub zeros-spec : {M : Type 1} → statement M
-zeros-spec = tie.close (tie.spec (λ c. search decide) (λ c. search decide))

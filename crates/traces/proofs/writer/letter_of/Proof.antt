@@ -1,0 +1,16 @@
+use Rattle.traces.specs.Writing.{plainLetter}
+use borrow.Author.Needs.{needs}
+use Rattle.traces.proofs.writer.letter_of.Statement.{statement}
+use Rattle.traces.proofs.writer.letter_of.Tie as tie
+
+pub letter-of-spec : {M : Type 1} → statement M
+unfolding plainLetter
+letter-of-spec =
+    tie.close
+    (tie.spec
+    (λ c κs. search needs)
+    (λ c κs. search needs)
+    (λ c κs. search needs)
+    (λ c. rw (← c .before .before .before .before .unused-are-zero .ensures, c .before .before .before .if1 .taken, ← c .before .before .letter-by .ensures, ← c .before .letter-fits .ensures, c .if2 .taken))
+    (λ c. rw (← c .before .before .before .before .unused-are-zero .ensures, c .before .before .before .if1 .taken, ← c .before .before .letter-by .ensures, ← c .before .letter-fits .ensures, c .if2 .left))
+    (λ c. rw (← c .before .unused-are-zero .ensures, c .if1 .left)))
