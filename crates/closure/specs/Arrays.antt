@@ -30,7 +30,7 @@ highOf a b = pick (ltb a b) (λ _. b) λ _. a
 unfoldable pub fallOf : (v from by : ℕ) → ℕ
 fallOf v from by = pick (eqb v from) (λ _. by) λ _. 0
 
--- A class has its lowest term as its name.
+-- No term's class is named by a later term.
 pub record Named (representative : List ℕ) (n : ℕ) : Type 0 where
   pub lowest : (i : ℕ) → i < n → getD representative i 0 ≤ i
 

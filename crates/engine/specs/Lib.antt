@@ -1,5 +1,5 @@
 pub mod Engine
 pub mod EngineLaws
 pub mod Run
-pub mod Letters
+pub mod ReadingLaws
 pub mod RunLaws

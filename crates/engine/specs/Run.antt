@@ -51,8 +51,8 @@ pub record Running (s : List ℕ) (h : Header) (count : ℕ) (function first sec
   pub engine : Engine (state (traceOf h letters)) function first second representative head link value left right registers n m p k
   pub feasible : Feasible (state (traceOf h letters))
 
--- What a run answers: the first letter that is not well formed, where none before it is infeasible; the first infeasible letter, where the letters
--- after it are still to be read; or the number of computed terms, whose classes the arrays then hold.
+-- What a run answers: the first letter that is not well formed; the first infeasible letter, where the letters after it are still to be read;
+-- or the number of computed terms, whose classes the arrays then hold.
 pub data Ran (s : List ℕ) (h : Header) (count : ℕ) (function first second representative : List ℕ) : Outcome → Type 0 where
   malformed : (k : ℕ) → lettersOf firstEdition h s ≡ refused 4 k → Ran s h count function first second representative (outcome.Malformed k)
   infeasible : (k : ℕ) (ls : List Letter) → lettersOf firstEdition h s ≡ behind ls (restOf s h count k) → FailsAt (λ π. Feasible (state π)) (traceOf h ls) k → 1 ≤ k

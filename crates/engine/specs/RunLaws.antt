@@ -34,7 +34,7 @@ use Rattle.engine.specs.Engine.{Engine, Computed, Ready, Performed}
 use Rattle.engine.specs.declared.Counts.{Counts}
 use Rattle.engine.specs.declared.Outcome.the-variants as outcome
 use Rattle.engine.specs.Run as spec
-use Rattle.engine.specs.Letters.{headed, behind-none, behind-one, rest-starts, rest-ends, rest-bad, rest-good, letter-fits}
+use Rattle.engine.specs.ReadingLaws.{headed, behind-none, behind-one, rest-starts, rest-ends, rest-bad, rest-good, letter-fits}
 
 true-false : true ≡ false → ⊥
 true-false e = let z : _≡_ {A = ℕ} 0 1 = cc in omega arith

@@ -30,7 +30,7 @@ pub enum Outcome {
     Feasible(usize),
     /// The number of the first infeasible letter, from 1. The letters after it were not read.
     Infeasible(u64),
-    /// The number of the first letter that is not well formed, from 1. None before it is infeasible.
+    /// The number of the first letter that is not well formed, from 1.
     Malformed(u64),
 }
 

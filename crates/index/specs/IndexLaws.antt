@@ -11,7 +11,7 @@ use lib.ListN.{length, getD, set, replicate, length-set, length-replicate}
 use lib.Seq.{getD-set-same, getD-set-other}
 use borrow.Author.Tests.{eqb-true, eqb-false}
 use Rattle.base.specs.Choice.{byTest}
-use Rattle.records.specs.Records.{pairBytes}
+use Rattle.records.specs.Records.{encodedBytes}
 use Rattle.table.specs.Table.{pairAt, isAt, isListed}
 use Rattle.table.specs.TableLaws.{is-pair, at-listed, listed-at}
 use Rattle.index.specs.Index.{chainOf, Holds, Indexed}
@@ -92,7 +92,7 @@ module _ (t link : List ℕ) (count : ℕ) (pair : List ℕ) where
     pub below : i < count
     pub on : (k : ℕ) → 1 ≤ k → k < count → isAt t k pair ≡ true → Holds link i k
 
-  pub looking-start : (head : List ℕ) (i : ℕ) → Indexed t head link count → length pair ≡ pairBytes → i ≡ getD head (chainOf pair) 0 → Looking i
+  pub looking-start : (head : List ℕ) (i : ℕ) → Indexed t head link count → length pair ≡ encodedBytes → i ≡ getD head (chainOf pair) 0 → Looking i
   looking-start head i x l e = rw e (record {
     below = x .heads (chainOf pair);
     on = λ k p h y. subst (λ z. Holds link (getD head (chainOf z) 0) k) (is-pair t k pair l y) (x .chained k p h);
@@ -102,9 +102,9 @@ module _ (t link : List ℕ) (count : ℕ) (pair : List ℕ) where
   past i k n y (Holds.here l) = absurd (let z : _≡_ {A = ℕ} 0 1 = cc in omega arith)
   past i k n y (Holds.there l r) = r
 
-  pub looking-turn : (head : List ℕ) (i j : ℕ) → Indexed t head link count → Looking i → i ≢ 0 → isAt t i pair ≡ false → j ≡ getD link i 0 → Looking j
+  pub looking-turn : (head : List ℕ) (i j : ℕ) → Indexed t head link count → Looking i → 1 ≤ i → isAt t i pair ≡ false → j ≡ getD link i 0 → Looking j
   looking-turn head i j x f d n e = rw e (record {
-    below = let h = x .links i (omega arith) in let g = f .below in omega arith;
+    below = let h = x .links i d in let g = f .below in omega arith;
     on = λ k p h y. past i k n y (f .on k p h y);
   })
 

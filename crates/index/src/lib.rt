@@ -2,11 +2,11 @@
 //
 // `head` has the record that was last entered in each chain, `link` leads from each record to the one entered before it. Record 0 ends every chain
 // and needs no entry: an index of it alone is zeros.
-use records::PAIR_BYTES;
+use records::ENCODED_BYTES;
 ghost use mathlib.Core.Path.{_≡_};
 ghost use Prim.Native.Nat.{_*_, _≤_, _<_};
 ghost use lib.ListN.{length, getD, set};
-ghost use Rattle.records.specs.Records.{recordBytes, pairBytes};
+ghost use Rattle.records.specs.Records.{recordBytes, encodedBytes};
 ghost use Rattle.table.specs.Table.{isListed};
 ghost use Rattle.index.specs.Index.{chainOf, Indexed};
 
@@ -30,8 +30,8 @@ fn number(x: u8) -> usize
 }
 
 // The chain of a pair, by its fingerprint.
-fn chain_of(pair: &[u8; PAIR_BYTES]) -> usize
-    requires { ⌜ length (now pair) ≡ pairBytes ⌝ }
+fn chain_of(pair: &[u8; ENCODED_BYTES]) -> usize
+    requires { ⌜ length (now pair) ≡ encodedBytes ⌝ }
     ensures { λ r. ⌜ r ≡ chainOf (now (pair .entry)) ⌝ }
     ensures small { λ r. ⌜ r < 1024 ⌝ }
 {
@@ -44,10 +44,10 @@ pub fn is_listed(
     head: &Heads,
     link: &Links,
     count: usize,
-    pair: &[u8; PAIR_BYTES],
+    pair: &[u8; ENCODED_BYTES],
 ) -> bool
     requires { ⌜ Indexed (now table) (now head)
-        (now link) count × (count ≤ 1024) × (recordBytes * count ≤ length (now table)) × (length (now pair) ≡ pairBytes) ⌝ }
+        (now link) count × (count ≤ 1024) × (recordBytes * count ≤ length (now table)) × (length (now pair) ≡ encodedBytes) ⌝ }
     ensures { λ r. ⌜ r ≡ isListed (now (table .entry)) count (now (pair .entry)) ⌝ }
 {
     let chain = chain_of(pair);
@@ -62,8 +62,8 @@ pub fn is_listed(
 }
 
 /// Enters record k at the front of the chain of its pair.
-pub fn enter(head: &mut Heads, link: &mut Links, k: usize, pair: &[u8; PAIR_BYTES])
-    requires { ⌜ (length (now head) ≡ 1024) × (length (now link) ≡ 1024) × (k < 1024) × (length (now pair) ≡ pairBytes) ⌝ }
+pub fn enter(head: &mut Heads, link: &mut Links, k: usize, pair: &[u8; ENCODED_BYTES])
+    requires { ⌜ (length (now head) ≡ 1024) × (length (now link) ≡ 1024) × (k < 1024) × (length (now pair) ≡ encodedBytes) ⌝ }
     ensures { λ _. ⌜ (now (head .exit) ≡ set (now (head .entry))
         (chainOf (now (pair .entry))) k) × (now (link .exit) ≡ set (now (link .entry)) k (getD (now (head .entry)) (chainOf (now (pair .entry))) 0)) ⌝ }
 {

@@ -16,7 +16,7 @@ use borrow.Author.Tests.{eq-eqb, eqb-true, eqb-false, ltb-true, ltb-false}
 use Rattle.base.specs.Choice.{byTest}
 use Rattle.base.specs.Masks.{bit}
 use Rattle.base.specs.MaskLaws.{trailing-least}
-use Rattle.letters.specs.Packing.{join, split}
+use Rattle.letters.specs.Packing.{join}
 use Rattle.semantics.specs.PackedTables.{units, unitsIn}
 use Rattle.base.specs.Written.{Written}
 use Rattle.traces.specs.TraceLaws.{units-length}
@@ -28,7 +28,7 @@ use Rattle.records.specs.FormatLaws.{all-of, all-map}
 use Rattle.records.specs.Formats as formats
 use Rattle.records.specs.Formats.{numberIn, flag, isSet, mix, mixed, spread, sameFront, contentPlace}
 use Rattle.records.specs.Pairs.{front-is}
-use Rattle.records.specs.Records.{firstFormat, results, blank, codeBytes, partsOf, fingerprintOf, encoded, recordOf}
+use Rattle.records.specs.Records.{firstFormat, blank, codeBytes, partsOf, fingerprintOf, encoded, recordOf}
 use Rattle.records.specs.Records.{codesAt, meaningsOf, meant, everIn, windowIn}
 use Rattle.records.specs.Words.{wordOf, octetsOf, octets-back, wordsIn}
 

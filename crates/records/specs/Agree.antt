@@ -8,7 +8,7 @@ use lib.ListN.{getD, take, drop, replicate}
 use lib.Seq.{take-take, take-nil}
 use Rattle.letters.specs.Packing.{join}
 use Rattle.semantics.specs.PackedTables.{unitsIn}
-use Rattle.records.specs.Formats.{Format, numberBytes, flagBytes, branchPlace, pairPlace, contentPlace, masksBytes, contentBytes, pairBytes}
+use Rattle.records.specs.Formats.{Format, numberBytes, flagBytes, branchPlace, pairPlace, contentPlace, masksBytes, contentBytes, encodedBytes}
 use Rattle.records.specs.Formats.{Sound, numberIn, parentIn, branchIn, pointIn, codesIn, windowFrom, windowIn}
 
 -- Two lists with the same first n bytes.
@@ -56,8 +56,8 @@ module _ (f : Format) (sound : Sound f) (a b : List ℕ) (g : Agree (f .size) a 
   point-agree = number-agree numberBytes contentPlace (omega (arith, sound .fits))
 
   -- the pair's bytes
-  pub pair-agree : Agree (pairBytes f) (drop pairPlace a) (drop pairPlace b)
-  pair-agree = agree-drop pairPlace (pairBytes f) a b (agree-less (pairPlace + pairBytes f) (f .size) a b (sound .fits) g)
+  pub pair-agree : Agree (encodedBytes f) (drop pairPlace a) (drop pairPlace b)
+  pair-agree = agree-drop pairPlace (encodedBytes f) a b (agree-less (pairPlace + encodedBytes f) (f .size) a b (sound .fits) g)
 
   pub window-agree : windowIn f a ≡ windowIn f b
   unfolding windowIn windowFrom codesIn

@@ -19,7 +19,7 @@ use Rattle.window.specs.Places.{line-entry, along-entry, entry-below}
 use Rattle.window.specs.Table.{table-at, table-length, table-is}
 use Rattle.window.specs.declared.Window.{Window}
 use Rattle.records.specs.Codes.{codeOf, codeAt, heldOf, computedOf, assembled, gathered, scattered}
-use Rattle.records.specs.Formats.{Format, numberBytes, pairPlace, contentPlace, lines, results, masksBytes, pairBytes}
+use Rattle.records.specs.Formats.{Format, numberBytes, pairPlace, contentPlace, lines, results, masksBytes, encodedBytes}
 use Rattle.records.specs.Formats.{Sound, flag, isSet, codesOf, codeBytes, contentOf, encoded, recordOf, numberIn, afterPoint}
 use Rattle.records.specs.Formats.{afterClass, afterUnequal, afterMarks, afterInfeasible, parentIn, branchIn, pointIn, codesIn, resultIn}
 use Rattle.records.specs.Formats.{everMask, everIn, windowFrom, windowIn}
@@ -265,7 +265,7 @@ module _ (f : Format) where
     content-point h = ap (numberIn numberBytes) laid ∙ ap (λ l. getD l 0 0) (read 2 1 (point ∷ []) s₁ refl (h, tt))
 
   module _ (sound : Sound f) (point : ℕ) (w : Window) (s : Storable w) where
-    pub encoded-length : length (encoded f point w) ≡ pairBytes f
+    pub encoded-length : length (encoded f point w) ≡ encodedBytes f
     unfolding encoded contentOf codeBytes units
     encoded-length =
         simp (length-append, units-length)
@@ -306,7 +306,7 @@ module _ (f : Format) where
   -- ---- a record
 
   module _ (pair : List ℕ) (parent branch : ℕ) where
-    pub record-length : Sound f → length pair ≡ pairBytes f → length (recordOf f pair parent branch) ≡ f .size
+    pub record-length : Sound f → length pair ≡ encodedBytes f → length (recordOf f pair parent branch) ≡ f .size
     unfolding recordOf units
     record-length sound h = simp (length-append, length-replicate) (omega (arith, sound .fits))
 
@@ -314,9 +314,9 @@ module _ (f : Format) where
       abbrev bytes : List ℕ
       bytes = recordOf f pair parent branch ++ rest
 
-      pub record-pair : drop pairPlace bytes ≡ pair ++ (replicate (f .size - (pairPlace + pairBytes f)) 0 ++ rest)
+      pub record-pair : drop pairPlace bytes ≡ pair ++ (replicate (f .size - (pairPlace + encodedBytes f)) 0 ++ rest)
       unfolding recordOf units
-      record-pair = append-assoc pair (replicate (f .size - (pairPlace + pairBytes f)) 0) rest
+      record-pair = append-assoc pair (replicate (f .size - (pairPlace + encodedBytes f)) 0) rest
 
       pub parent-back : parent < 65536 → parentIn bytes ≡ parent
       unfolding parentIn recordOf units unitsIn

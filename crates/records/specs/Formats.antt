@@ -71,8 +71,8 @@ module _ (f : Format) where
   contentBytes = numberBytes + (masksBytes + (masksBytes + (f .registers + (flagBytes + f .groupBytes * f .groups))))
 
   -- the fingerprint in front of them
-  abbrev pub pairBytes : ℕ
-  pairBytes = numberBytes + contentBytes
+  abbrev pub encodedBytes : ℕ
+  encodedBytes = numberBytes + contentBytes
 
   -- The widths fit.
   pub record Sound : Type 0 where
@@ -80,7 +80,7 @@ module _ (f : Format) where
     pub names : 2 + f .registers ≤ 2 ^ f .codeBits
     pub grouped : f .group * f .codeBits ≡ 8 * f .groupBytes
     pub counted : f .group * f .groups ≡ results
-    pub fits : pairPlace + pairBytes ≤ f .size
+    pub fits : pairPlace + encodedBytes ≤ f .size
 
 -- ---- writing
 
@@ -123,7 +123,7 @@ module _ (f : Format) where
   -- A record: the number of the pair from which this one was reached, the branch taken there, and the pair; 0 beyond them.
   unfoldable pub recordOf : List ℕ → ℕ → ℕ → List ℕ
   recordOf pair parent branch = units numberBytes (parent ∷ []) ++ (units flagBytes (branch ∷ []) ++
-      (pair ++ replicate (f .size - (pairPlace + pairBytes f)) 0))
+      (pair ++ replicate (f .size - (pairPlace + encodedBytes f)) 0))
 
 -- ---- reading: in bytes that begin with a record
 

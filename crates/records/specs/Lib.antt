@@ -8,3 +8,4 @@ pub mod FormatLaws
 pub mod Agree
 pub mod Pairs
 pub mod Storable
+pub mod Examples

@@ -30,8 +30,8 @@ results = formats.results firstFormat
 abbrev pub maskBytes : ℕ
 maskBytes = firstFormat .maskBytes
 
-abbrev pub pairBytes : ℕ
-pairBytes = formats.pairBytes firstFormat
+abbrev pub encodedBytes : ℕ
+encodedBytes = formats.encodedBytes firstFormat
 
 abbrev pub contentBytes : ℕ
 contentBytes = formats.contentBytes firstFormat

@@ -6,7 +6,7 @@ use mathlib.Core.List.{List, _++_}
 use lib.ListN.{length, drop}
 use Rattle.window.specs.declared.Window.{Window}
 use Rattle.records.specs.Formats.{Sound, pairPlace}
-use Rattle.records.specs.Records.{firstFormat, pairBytes, encoded, pointIn, windowIn}
+use Rattle.records.specs.Records.{firstFormat, encodedBytes, encoded, pointIn, windowIn}
 use Rattle.records.specs.FormatLaws as laws
 pub use Rattle.records.specs.FormatLaws.{flag-back, flags-back}
 
@@ -17,7 +17,7 @@ abbrev pub Storable : Window → Type 0
 Storable = laws.Storable firstFormat
 
 module _ (point : ℕ) (w : Window) (s : Storable w) where
-  pub encoded-length : length (encoded point w) ≡ pairBytes
+  pub encoded-length : length (encoded point w) ≡ encodedBytes
   encoded-length = laws.encoded-length firstFormat first-sound point w s
 
   -- What is read where the pair stands.

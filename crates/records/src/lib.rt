@@ -2,7 +2,7 @@
 use window::Window;
 ghost use mathlib.Core.Path.{_≡_};
 ghost use Prim.Native.Nat.{_+_, _*_, _/_, _%_, _≤_, _<_};
-ghost use mathlib.Core.List.{_∷_, _++_, map};
+ghost use mathlib.Core.List.{_++_, map};
 ghost use lib.ListN.{length, getD, take, drop, replicate};
 ghost use Rattle.base.specs.Masks.{bit};
 ghost use Rattle.semantics.specs.PackedTables.{units};
@@ -14,8 +14,8 @@ ghost use Rattle.records.specs.Records.{encoded, recordOf, parentIn, bra
 /// How many bytes a record has.
 pub const RECORD_BYTES: usize = 192;
 
-/// How many bytes of it are the pair's.
-pub const PAIR_BYTES: usize = 157;
+/// How many bytes of it stand for the pair: a fingerprint, the point and the window.
+pub const ENCODED_BYTES: usize = 157;
 
 // Where the parts stand in a pair: specs/Formats.antt.
 const POINT: usize = 2;
@@ -203,10 +203,10 @@ fn parts(
     marks: &[u8; 8],
     infeasible: u8,
     codes: &[u8; CODE_BYTES],
-) -> [u8; PAIR_BYTES]
+) -> [u8; ENCODED_BYTES]
     ensures { λ r. ⌜ r ≡ partsOf point (now (class .entry)) (now (unequal .entry)) (now (marks .entry)) infeasible (now (codes .entry)) ⌝ }
 {
-    let mut pair = [0u8; PAIR_BYTES];
+    let mut pair = [0u8; ENCODED_BYTES];
     pair[POINT] = (point / 256 % 256) as u8;
     pair[POINT + 1] = (point % 256) as u8;
     lay(&mut pair, CLASS, class);
@@ -233,7 +233,7 @@ fn fingerprint(content: &[u8]) -> usize
 }
 
 /// The bytes of a pair: a fingerprint, the point and the window.
-pub fn encode(point: usize, w: Window) -> [u8; PAIR_BYTES]
+pub fn encode(point: usize, w: Window) -> [u8; ENCODED_BYTES]
     ensures { λ r. ⌜ r ≡ encoded point w ⌝ }
 {
     let class = w.class;
@@ -286,7 +286,7 @@ pub fn point_in(part: &[u8]) -> usize
 }
 
 /// Whether the pair is this one. Pairs that differ mostly do so in the first word, which has the fingerprint.
-pub fn same_pair(part: &[u8], pair: &[u8; PAIR_BYTES]) -> bool
+pub fn same_pair(part: &[u8], pair: &[u8; ENCODED_BYTES]) -> bool
     requires { ⌜ recordBytes ≤ length (now part) ⌝ }
     ensures { λ r. ⌜ r ≡ samePair (now (pair .entry)) (now (part .entry)) ⌝ }
 {
@@ -428,7 +428,7 @@ pub fn window_in(part: &[u8]) -> Window
 
 // ---- a whole record
 
-fn whole(pair: &[u8; PAIR_BYTES], parent: usize, branch: usize) -> [u8; RECORD_BYTES]
+fn whole(pair: &[u8; ENCODED_BYTES], parent: usize, branch: usize) -> [u8; RECORD_BYTES]
     ensures { λ r. ⌜ r ≡ recordOf (now (pair .entry)) parent branch ⌝ }
 {
     let mut bytes = [0u8; RECORD_BYTES];
@@ -440,7 +440,7 @@ fn whole(pair: &[u8; PAIR_BYTES], parent: usize, branch: usize) -> [u8; RECORD_B
 }
 
 /// Writes a record over the front of a part of the table, and leaves the rest.
-pub fn write(part: &mut [u8], pair: &[u8; PAIR_BYTES], parent: usize, branch: usize)
+pub fn write(part: &mut [u8], pair: &[u8; ENCODED_BYTES], parent: usize, branch: usize)
     requires { ⌜ recordBytes ≤ length (now part) ⌝ }
     ensures { λ _. ⌜ now (part .exit) ≡ recordOf (now (pair .entry)) parent branch ++ drop recordBytes (now (part .entry)) ⌝ }
 {

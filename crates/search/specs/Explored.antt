@@ -19,7 +19,7 @@ use Rattle.verdicts.specs.Verdict.{Kind, breaking, failing}
 use Rattle.verdicts.specs.Pairs.{first-pair}
 use Rattle.blocks.specs.declared.Point.{Point}
 use Rattle.window.specs.declared.Window.{Window}
-use Rattle.records.specs.Records.{encoded, recordOf}
+use Rattle.records.specs.Records.{recordBytes, encoded, recordOf}
 use Rattle.records.specs.Storable.{Storable}
 use Rattle.table.specs.Table.{putAt, pointAt, windowAt}
 use Rattle.table.specs.TableLaws.{Kept}
@@ -86,7 +86,7 @@ module _ (given : Given) where
       ∙ ap (λ (b : Bool). elim b [ true ↦ some (0, fresh given) | false ↦ none ]) (lt-ltb 0 (end given) l)
 
   -- the first pair
-  module _ (n : ℕ) (t : List ℕ) (some-point : 0 < end given) (some-room : 0 < n) (most : n ≤ 1024) (room : 192 * n ≤ length t) where
+  module _ (n : ℕ) (t : List ℕ) (some-point : 0 < end given) (some-room : 0 < n) (most : n ≤ 1024) (room : recordBytes * n ≤ length t) where
     abbrev u : List ℕ
     u = putAt t 0 (recordOf (encoded 0 (fresh given)) 0 0)
 

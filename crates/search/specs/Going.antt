@@ -26,7 +26,7 @@ use Rattle.verdicts.specs.Pairs.{Step, starting, stepping, reach, reached, perf
 use Rattle.window.specs.declared.Window.{Window}
 use Rattle.window.specs.Perform.{judgeOf, performOf}
 use Rattle.window.specs.Step.{Holds}
-use Rattle.records.specs.Records.{encoded, recordOf}
+use Rattle.records.specs.Records.{recordBytes, encoded, recordOf}
 use Rattle.records.specs.Storable.{Storable}
 use Rattle.table.specs.Table.{putAt, pointAt, windowAt, parentAt, branchAt, isListed}
 use Rattle.table.specs.TableLaws.{Kept, found as found-pair, nowhere}
@@ -76,7 +76,7 @@ module _ (given : Given) where
     pub within : count ≤ n
     pub behind : d ≤ 2 * count
     pub most : n ≤ 1024
-    pub room : 192 * n ≤ length t
+    pub room : recordBytes * n ≤ length t
 
   -- What a move comes to.
   abbrev pub Turned : ℕ → ℕ → ℕ → List ℕ → Turn → List ℕ → Type 0
@@ -131,7 +131,7 @@ module _ (given : Given) where
         abbrev u : List ℕ
         u = putAt t count (recordOf (encoded p v) (d / 2) (d % 2))
 
-        fits : 192 * count + 192 ≤ length t
+        fits : recordBytes * count + recordBytes ≤ length t
         fits = let r = g .room in omega arith
 
         bound : d < 2048

@@ -1,4 +1,4 @@
--- What a move of the search leaves as it was: the windows of the pairs listed before it, and an index of the pairs listed after it.
+-- What a move of the search keeps: the windows of the pairs listed before it; and that heads and links are an index of the pairs listed after it.
 use mathlib.Core.Path.{_≡_, refl, sym, ap, _∙_, subst}
 use mathlib.Core.Logic.{_≢_}
 use Prim.Native.Nat.{ℕ, _+_, _*_, _/_, _%_, _≤_, _<_}
@@ -7,7 +7,7 @@ use mathlib.Core.List.{List}
 use lib.ListN.{length, getD, set}
 use Rattle.base.specs.Choice.{byTest}
 use Rattle.window.specs.declared.Window.{Window}
-use Rattle.records.specs.Records.{recordBytes, pairBytes, recordOf}
+use Rattle.records.specs.Records.{recordBytes, encodedBytes, recordOf}
 use Rattle.table.specs.Table.{putAt, windowAt}
 use Rattle.table.specs.TableLaws.{record-long, window-other, pair-other, pair-same}
 use Rattle.index.specs.Index.{chainOf, Indexed}
@@ -44,7 +44,7 @@ module _ (count : ℕ) (t head link : List ℕ) (x : Indexed t head link count) 
   keeps-failed w r e = subst (λ r. Keeps count t r t head link) (sym e) (byTest (w .infeasible) (λ i. rw i keeps-on) λ i. rw i keeps-failing)
 
   -- a pair is listed
-  module _ (pair : List ℕ) (i b : ℕ) (whole : length pair ≡ pairBytes) (within : count < 1024) (fits : recordBytes * count + recordBytes ≤ length t) where
+  module _ (pair : List ℕ) (i b : ℕ) (whole : length pair ≡ encodedBytes) (within : count < 1024) (fits : recordBytes * count + recordBytes ≤ length t) where
     long : length (recordOf pair i b) ≡ recordBytes
     long = record-long t count i b pair fits whole
 

@@ -19,8 +19,10 @@ use Rattle.blocks.specs.Held.{heldPoint}
 use Rattle.syntax.specs.declared.Macro as struct
 use Rattle.syntax.specs.Answer.{heldMacro}
 use Rattle.verdicts.specs.Capacity.{capacityOf}
+use Rattle.verdicts.specs.CapacityLaws.{capacity-fits}
 use Rattle.verdicts.specs.Verdict.{Kind, breaking, failing, showing, packed, Delivered, Verdict}
 use Rattle.verdicts.specs.Demand3.{pairsIn}
+use Rattle.records.specs.Records.{recordBytes}
 use Rattle.search.specs.declared.Packed.{Packed}
 use Rattle.search.specs.declared.Search.{Search}
 use Rattle.search.specs.declared.Search.the-variants as found
@@ -64,10 +66,6 @@ pub capacity-most : (n : ℕ) → capacityOf n ≤ 1024
 unfolding capacityOf
 capacity-most n = omega arith
 
-pub capacity-fits : (n : ℕ) → 192 * capacityOf n ≤ n
-unfolding capacityOf
-capacity-fits n = omega arith
-
 -- ── the header of a macro in order ──
 binary-below : {fs ns : List ℕ} → Arities fs ns → binaryOf ns < 2 ^ length fs
 binary-below none = omega arith
@@ -78,7 +76,7 @@ pub header-fits : (m : Macro) → InOrder m → HeaderFits firstEdition (headerO
 header-fits m o = record { some = o .some; registers = o .few; functions = o .fewer; binary = binary-below (o .arities) }
 
 -- ── an event of the search ──
-module _ (given : Given) (n : ℕ) (t : List ℕ) (most : n ≤ 1024) (room : 192 * n ≤ length t) where
+module _ (given : Given) (n : ℕ) (t : List ℕ) (most : n ≤ 1024) (room : recordBytes * n ≤ length t) where
   abbrev after : List ℕ
   after = searchOf (header given) (held given) (end given) n t .1
 
@@ -97,7 +95,7 @@ module _ (given : Given) (n : ℕ) (t : List ℕ) (most : n ≤ 1024) (room : 19
     formed = event-formed given n kind k d after met
 
     -- what the writer of the trace needs
-    pub event-writable : (d < 2048) × (192 * (d / 2) + 192 ≤ length after) × Older after (d / 2 + 1)
+    pub event-writable : (d < 2048) × (recordBytes * (d / 2) + recordBytes ≤ length after) × Older after (d / 2 + 1)
     event-writable =
         let l = met .due in
         let w = met .going .within in
@@ -133,14 +131,16 @@ module _ (program : struct.Macro) (given : Given) (holds : heldMacro (given .mac
     abbrev most : capacityOf (length t) ≤ 1024
     most = capacity-most (length t)
 
-    abbrev room : 192 * capacityOf (length t) ≤ length t
+    abbrev room : recordBytes * capacityOf (length t) ≤ length t
     room = capacity-fits (length t)
 
     module _ (kind : Kind) (k d : ℕ) where
       -- what the writer of the trace needs where the search has ended at an event
-      pub event-written : searchOn program t .0 ≡ foundEvent kind k d → (d < 2048) × (192 * (d / 2) + 192 ≤ length (searchOn program t .1)) × Older (searchOn program t .1) (d / 2 + 1)
+      pub event-written : searchOn program t .0 ≡ foundEvent kind k d
+          → (d < 2048) × (recordBytes * (d / 2) + recordBytes ≤ length (searchOn program t .1)) × Older (searchOn program t .1) (d / 2 + 1)
       unfolding heldMacro
-      event-written = subst (λ p. searchOn p t .0 ≡ foundEvent kind k d → (d < 2048) × (192 * (d / 2) + 192 ≤ length (searchOn p t .1)) × Older (searchOn p t .1) (d / 2 + 1)) holds
+      event-written = subst (λ p. searchOn p t .0 ≡ foundEvent kind k d
+          → (d < 2048) × (recordBytes * (d / 2) + recordBytes ≤ length (searchOn p t .1)) × Older (searchOn p t .1) (d / 2 + 1)) holds
           (event-writable given (capacityOf (length t)) t most room kind k d)
 
       -- what is told of an event
@@ -185,8 +185,9 @@ module _ (program : struct.Macro) (t output : List ℕ) (n : ℕ) (r : Search) (
   told-pass k y = told (found.Pass k) y (Pass k) output (refl, refl)
 
   module _ (x : Readable program) (k d : ℕ) where
-    pub packable : (kind : Kind) → r ≡ foundEvent kind k d → (d < 2048) × (192 * (d / 2) + 192 ≤ length u) × Older u (d / 2 + 1)
-    packable kind y = subst (λ u. (d < 2048) × (192 * (d / 2) + 192 ≤ length u) × Older u (d / 2 + 1)) (sym leaves) (event-written program (x .0) (x .1) t kind k d (sym ends ∙ y))
+    pub packable : (kind : Kind) → r ≡ foundEvent kind k d → (d < 2048) × (recordBytes * (d / 2) + recordBytes ≤ length u) × Older u (d / 2 + 1)
+    packable kind y = subst (λ u. (d < 2048) × (recordBytes * (d / 2) + recordBytes ≤ length u) × Older u (d / 2 + 1)) (sym leaves)
+        (event-written program (x .0) (x .1) t kind k d (sym ends ∙ y))
 
     module _ (p : Packed) (b : drop (p .start) (p .bytes) ≡ traced (program .header) (trailOf (program .points) u d)) (l : length (p .bytes) ≡ 2050) (v : answer.Verdict) (output′ : List ℕ) where
       abbrev packed-so : drop (p .start) (p .bytes) ≡ traced (program .header) (trailOf (program .points) (searchOn program t .1) d)

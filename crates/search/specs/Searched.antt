@@ -16,7 +16,7 @@ use Rattle.semantics.specs.Models.{Feasible}
 use Rattle.semantics.specs.PackedTables.{RowWidths}
 use Rattle.verdicts.specs.Verdict.{Answer, pass, full, breaking, failing, showing, packed, Delivered, Verdict}
 use Rattle.blocks.specs.declared.Point.{Point}
-use Rattle.records.specs.Records.{encoded, recordOf}
+use Rattle.records.specs.Records.{recordBytes, encoded, recordOf}
 use Rattle.table.specs.Table.{putAt}
 use Rattle.search.specs.declared.Search.{Search}
 use Rattle.search.specs.declared.Search.the-variants as found
@@ -50,7 +50,7 @@ module _ (given : Given) (n : ℕ) where
     ended-told (found.Breaking k d) u y answer output′ z = concluded-event given n breaking k d u y edition widths output answer output′ z
     ended-told (found.Failing k d) u y answer output′ z = concluded-event given n failing k d u y edition widths output answer output′ z
 
-  module _ (t : List ℕ) (most : n ≤ 1024) (room : 192 * n ≤ length t) where
+  module _ (t : List ℕ) (most : n ≤ 1024) (room : recordBytes * n ≤ length t) where
     abbrev ending : Search × List ℕ
     ending = searchOf (header given) (held given) (end given) n t
 

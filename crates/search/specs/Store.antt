@@ -8,7 +8,7 @@ use lib.ListN.{length}
 use Rattle.macros.specs.Order.{Branch, first, second}
 use Rattle.verdicts.specs.Listing.{Listing}
 use Rattle.window.specs.declared.Window.{Window}
-use Rattle.records.specs.Records.{encoded, recordOf}
+use Rattle.records.specs.Records.{recordBytes, encoded, recordOf}
 use Rattle.records.specs.Storable.{Storable}
 use Rattle.table.specs.Table.{putAt, pointAt, windowAt, parentAt, branchAt}
 use Rattle.table.specs.TableLaws.{Kept, put-length, point-other, parent-other, branch-other, window-other, kept-other, record-length, point-same, window-same, parent-same, branch-same, kept-same}
@@ -23,7 +23,7 @@ abbrev pub listed : List ℕ → ℕ → Listing (ℕ × Window)
 listed t count = record { count = count; state = λ j. (pointAt t j, windowAt t j); parent = parentAt t; branch = λ j. branchNumbered (branchAt t j) }
 
 -- Record k is written: point p with the window w, reached from pair i by branch b.
-module _ (t : List ℕ) (k p i b : ℕ) (w : Window) (fits : 192 * k + 192 ≤ length t) (s : Storable w) where
+module _ (t : List ℕ) (k p i b : ℕ) (w : Window) (fits : recordBytes * k + recordBytes ≤ length t) (s : Storable w) where
   abbrev put : List ℕ
   put = putAt t k (recordOf (encoded p w) i b)
 

@@ -6,7 +6,7 @@ use Rattle.base.specs.Choice.{pick}
 use Rattle.blocks.specs.declared.Point.{Point}
 use Rattle.window.specs.declared.Window.{Window}
 use Rattle.window.specs.Perform.{judgeOf, performOf}
-use Rattle.records.specs.Records.{encoded, recordOf}
+use Rattle.records.specs.Records.{recordBytes, encoded, recordOf}
 use Rattle.table.specs.Table.{putAt, windowAt, isListed}
 use Rattle.search.specs.declared.PointMove.{PointMove}
 use Rattle.search.specs.declared.PointMove.the-variants.{Nothing, Goes, Fails}
@@ -17,7 +17,7 @@ use Rattle.search.specs.Moves.{moveOf}
 -- The numbers that a move needs: the table has room for n pairs, of which count are listed, and move number d is at one of these.
 pub record Room (n count d size : ℕ) : Type 0 where
   pub most : n ≤ 1024
-  pub fits : 192 * n ≤ size
+  pub fits : recordBytes * n ≤ size
   pub listed : count ≤ n
   pub due : d < 2 * count
 

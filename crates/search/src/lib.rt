@@ -20,6 +20,7 @@ ghost use Rattle.window.specs.Perform.{Within};
 ghost use Rattle.search.specs.Turns.{Room, reachTurn, reachTable, failTurn, turnOf, tableOf};
 ghost use Rattle.search.specs.Exploring.{exploreOf, searchOf};
 ghost use Rattle.search.specs.Keeping.{Keeps, Carried};
+ghost use Rattle.records.specs.Records.{recordBytes};
 ghost use Rattle.table.specs.Table.{windowAt};
 ghost use Rattle.index.specs.Index.{Indexed};
 ghost use Rattle.letters.specs.Editions.{firstEdition};
@@ -202,7 +203,7 @@ fn one_move(
 
 // The window of the pair of move number d: read before the pair's first move, and kept for its second.
 fn current(table: &[u8], w: Window, d: usize) -> Window
-    requires { ⌜ (192 * (d / 2) + 192 ≤ length (now table)) × Carried w d (now table) ⌝ }
+    requires { ⌜ (recordBytes * (d / 2) + recordBytes ≤ length (now table)) × Carried w d (now table) ⌝ }
     ensures { λ r. ⌜ r ≡ windowAt (now (table .entry)) (d / 2) ⌝ }
 {
     if d % 2 == 0 {
@@ -213,7 +214,7 @@ fn current(table: &[u8], w: Window, d: usize) -> Window
 
 // Performs the moves in order, from the pair in the table's first record on.
 fn explore(points: [Point; 256], end: usize, table: &mut [u8], n: usize) -> Search
-    requires { ⌜ (n ≤ 1024) × (1 ≤ n) × (192 * n ≤ length (now table)) × AllWithin points ⌝ }
+    requires { ⌜ (n ≤ 1024) × (1 ≤ n) × (recordBytes * n ≤ length (now table)) × AllWithin points ⌝ }
     ensures { λ r. ⌜ (r ≡ exploreOf points end n (now (table .entry)) .0) × (now (table .exit) ≡ exploreOf points end n (now (table .entry)) .1) ⌝ }
 {
     let mut head = [0u16; 1024];
@@ -253,7 +254,7 @@ fn search_pairs(
     table: &mut [u8],
     n: usize,
 ) -> Search
-    requires { ⌜ (n ≤ 1024) × (192 * n ≤ length (now table)) × AllWithin points ⌝ }
+    requires { ⌜ (n ≤ 1024) × (recordBytes * n ≤ length (now table)) × AllWithin points ⌝ }
     ensures { λ r. ⌜ (r ≡ searchOf header points end n (now (table .entry)) .0) × (now (table .exit) ≡ searchOf header points end n (now (table .entry)) .1) ⌝ }
 {
     if end == 0 {
@@ -331,7 +332,7 @@ fn header_word(header: Header) -> u16
 
 // The trace of the execution that move number d ends, written from its end.
 fn pack(header: Header, points: [Point; 256], table: &[u8], d: usize) -> Packed
-    requires { ⌜ (d < 2048) × (192 * (d / 2) + 192 ≤ length (now table)) × Older (now table) (d / 2 + 1) ⌝ }
+    requires { ⌜ (d < 2048) × (recordBytes * (d / 2) + recordBytes ≤ length (now table)) × Older (now table) (d / 2 + 1) ⌝ }
     ensures { λ r. ⌜ (drop (r .start) (r .bytes) ≡ traced header (trailOf points (now (table .entry)) d)) × (length (r .bytes) ≡ 2050) × (r .start ≤ 2048) ⌝ }
 {
     let mut bytes = [0u8; 2050];

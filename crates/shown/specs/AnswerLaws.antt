@@ -34,7 +34,7 @@ use Rattle.engine.specs.declared.Outcome.{Outcome}
 use Rattle.engine.specs.declared.Outcome.the-variants as outcome
 use Rattle.engine.specs.Engine.{Computed}
 use Rattle.engine.specs.Run as run
-use Rattle.engine.specs.Letters.{headed, read-within, read-any}
+use Rattle.engine.specs.ReadingLaws.{headed, read-within, read-any}
 use Rattle.shown.specs.declared.Shown.{Shown}
 use Rattle.shown.specs.declared.Shown.the-variants as shown
 use Rattle.shown.specs.Values.{classes-le, valueAt, Valued}
@@ -43,7 +43,7 @@ use Rattle.shown.specs.Listing.{ListedAll}
 use Rattle.shown.specs.Inserted.{inserted}
 use Rattle.shown.specs.Bytes.{rowFor, RowIn, Writable, tablesIn, map-length}
 use Rattle.shown.specs.Fitting.{Puttable, Put, too-large, fitting}
-use Rattle.shown.specs.Answer.{model, infeasible, refusal, shownAnswer, modelBytes, answerTo, outputAfter, Means, Showed, Known, Modelled, Stopped, well, ill}
+use Rattle.shown.specs.Answer.{model, infeasible, shownAnswer, modelBytes, answerTo, outputAfter, Means, Showed, Known, Modelled, Stopped, well, ill}
 use Rattle.shown.specs.Means.{showed}
 
 starts-are : (v : Term → ℕ) (k m : ℕ) (l : List ℕ) → m ≤ length l → ((i : ℕ) → i < m → getD l i 0 ≡ v (con (k + i))) → take m l ≡ startsFrom v k m

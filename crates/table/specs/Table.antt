@@ -6,7 +6,7 @@ use lib.ListN.{take, drop}
 use Rattle.base.specs.Choice.{pick}
 use Rattle.window.specs.declared.Window.{Window}
 use Rattle.records.specs.Formats.{pairPlace}
-use Rattle.records.specs.Records.{recordBytes, pairBytes, pointIn, parentIn, branchIn, windowIn, samePair}
+use Rattle.records.specs.Records.{recordBytes, encodedBytes, pointIn, parentIn, branchIn, windowIn, samePair}
 
 -- The bytes from record k on.
 abbrev pub onward : List ℕ → ℕ → List ℕ
@@ -30,7 +30,7 @@ putAt t k r = take (recordBytes * k) t ++ (r ++ drop recordBytes (onward t k))
 
 -- The bytes of pair k.
 unfoldable pub pairAt : List ℕ → ℕ → List ℕ
-pairAt t k = take pairBytes (drop pairPlace (onward t k))
+pairAt t k = take encodedBytes (drop pairPlace (onward t k))
 
 -- Whether pair k is this one.
 unfoldable pub isAt : List ℕ → ℕ → List ℕ → Bool

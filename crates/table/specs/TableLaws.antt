@@ -12,7 +12,7 @@ use borrow.Author.Tests.{eqb-true, eqb-false, ltb-true, ltb-false}
 use Rattle.base.specs.Choice.{byTest}
 use Rattle.window.specs.declared.Window.{Window}
 use Rattle.records.specs.Formats.{pairPlace}
-use Rattle.records.specs.Records.{firstFormat, recordBytes, pairBytes, encoded, recordOf, parentIn, branchIn, samePair}
+use Rattle.records.specs.Records.{firstFormat, recordBytes, encodedBytes, encoded, recordOf, parentIn, branchIn, samePair}
 use Rattle.records.specs.FormatLaws as laws
 use Rattle.records.specs.Storable.{first-sound, Storable, point-back, window-back, encoded-length}
 use Rattle.records.specs.Agree.{Agree, point-agree, parent-agree, branch-agree, window-agree, pair-agree}
@@ -98,7 +98,7 @@ module _ (t : List ℕ) (k : ℕ) (r : List ℕ) (fits : recordBytes * k + recor
     kept-other g = rw (point-other, window-other) (pair-other ∙ g)
 
 -- the record of bytes that are as many as those of a pair
-module _ (t : List ℕ) (k parent branch : ℕ) (pair : List ℕ) (fits : recordBytes * k + recordBytes ≤ length t) (whole : length pair ≡ pairBytes) where
+module _ (t : List ℕ) (k parent branch : ℕ) (pair : List ℕ) (fits : recordBytes * k + recordBytes ≤ length t) (whole : length pair ≡ encodedBytes) where
   abbrev rest : List ℕ
   rest = drop recordBytes (onward t k)
 
@@ -109,12 +109,12 @@ module _ (t : List ℕ) (k parent branch : ℕ) (pair : List ℕ) (fits : record
   begins-with = put-onward t k (recordOf pair parent branch) fits record-long
 
   -- where the pair stands
-  stands : drop pairPlace (onward (putAt t k (recordOf pair parent branch)) k) ≡ pair ++ (replicate (recordBytes - (pairPlace + pairBytes)) 0 ++ rest)
+  stands : drop pairPlace (onward (putAt t k (recordOf pair parent branch)) k) ≡ pair ++ (replicate (recordBytes - (pairPlace + encodedBytes)) 0 ++ rest)
   stands = ap (drop pairPlace) begins-with ∙ laws.record-pair firstFormat pair parent branch rest
 
   pub pair-same : pairAt (putAt t k (recordOf pair parent branch)) k ≡ pair
   unfolding pairAt
-  pair-same = ap (take pairBytes) stands ∙ take-at pair _ pairBytes whole
+  pair-same = ap (take encodedBytes) stands ∙ take-at pair _ encodedBytes whole
 
 -- the record of a pair
 module _ (t : List ℕ) (k point parent branch : ℕ) (w : Window) (fits : recordBytes * k + recordBytes ≤ length t) (s : Storable w) where
@@ -127,7 +127,7 @@ module _ (t : List ℕ) (k point parent branch : ℕ) (w : Window) (fits : recor
   begun : onward put k ≡ recordOf (encoded point w) parent branch ++ drop recordBytes (onward t k)
   begun = begins-with t k parent branch (encoded point w) fits (encoded-length point w s)
 
-  placed : drop pairPlace (onward put k) ≡ encoded point w ++ (replicate (recordBytes - (pairPlace + pairBytes)) 0 ++ drop recordBytes (onward t k))
+  placed : drop pairPlace (onward put k) ≡ encoded point w ++ (replicate (recordBytes - (pairPlace + encodedBytes)) 0 ++ drop recordBytes (onward t k))
   placed = stands t k parent branch (encoded point w) fits (encoded-length point w s)
 
   pub point-same : point < 65536 → pointAt put k ≡ point
@@ -153,9 +153,9 @@ module _ (t : List ℕ) (k point parent branch : ℕ) (w : Window) (fits : recor
 -- ---- a pair that is looked for
 
 -- pair k is this one: its bytes are
-pub is-pair : (t : List ℕ) (k : ℕ) (p : List ℕ) → length p ≡ pairBytes → isAt t k p ≡ true → pairAt t k ≡ p
+pub is-pair : (t : List ℕ) (k : ℕ) (p : List ℕ) → length p ≡ encodedBytes → isAt t k p ≡ true → pairAt t k ≡ p
 unfolding isAt pairAt
-is-pair t k p l e = rw (pairs.pair-is p (onward t k) e) (take-at p _ pairBytes l)
+is-pair t k p l e = rw (pairs.pair-is p (onward t k) e) (take-at p _ encodedBytes l)
 
 -- one of the pairs is this one
 pub listed-at : (t p : List ℕ) (count : ℕ) → isListed t count p ≡ true → (j : ℕ) × (j < count) × (isAt t j p ≡ true)
@@ -187,8 +187,8 @@ module _ (t : List ℕ) (count point : ℕ) (w : Window) where
   unfolding isAt Kept pairAt
   nowhere e j h g (p, v) =
       let b : List ℕ = drop pairPlace (onward t j) in
-      let f : take pairBytes b ≡ encoded point w = g ∙ ap (λ (x : ℕ). encoded x (windowAt t j)) p ∙ ap (encoded point) v in
-      let z : b ≡ encoded point w ++ drop pairBytes b = sym (take-append-drop pairBytes b) ∙ ap (λ (l : List ℕ). l ++ drop pairBytes b) f in
-      let y : samePair (encoded point w) (onward t j) ≡ true = pairs.is-pair (encoded point w) (onward t j) (drop pairBytes b) z in
+      let f : take encodedBytes b ≡ encoded point w = g ∙ ap (λ (x : ℕ). encoded x (windowAt t j)) p ∙ ap (encoded point) v in
+      let z : b ≡ encoded point w ++ drop encodedBytes b = sym (take-append-drop encodedBytes b) ∙ ap (λ (l : List ℕ). l ++ drop encodedBytes b) f in
+      let y : samePair (encoded point w) (onward t j) ≡ true = pairs.is-pair (encoded point w) (onward t j) (drop encodedBytes b) z in
       let x = nowhere-listed t (encoded point w) count e j h in
       absurd (let u : _≡_ {A = Bool} true false = sym y ∙ x in let z : _≡_ {A = ℕ} 0 1 = cc in omega arith)

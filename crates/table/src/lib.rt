@@ -1,12 +1,12 @@
 // The table of pairs in a lent slice (document 01, "The search for a verdict"): pair number k lies in bytes 192 times k onward, k from 0.
-use records::PAIR_BYTES;
+use records::ENCODED_BYTES;
 use records::RECORD_BYTES;
 use records::same_pair;
 use window::Window;
 ghost use mathlib.Core.Path.{_≡_};
 ghost use Prim.Native.Nat.{_+_, _*_, _≤_, _<_};
 ghost use lib.ListN.{length, replicate};
-ghost use Rattle.records.specs.Records.{recordBytes, pairBytes, recordOf};
+ghost use Rattle.records.specs.Records.{recordBytes, encodedBytes, recordOf};
 ghost use Rattle.verdicts.specs.Capacity.{capacityOf};
 ghost use Rattle.table.specs.Table.{putAt, pointAt, parentAt, branchAt, windowAt, isAt};
 
@@ -22,7 +22,7 @@ pub fn capacity(length: usize) -> usize
 }
 
 /// Writes record k, and changes no other byte.
-pub fn put(table: &mut [u8], k: usize, pair: [u8; PAIR_BYTES], parent: usize, branch: usize)
+pub fn put(table: &mut [u8], k: usize, pair: [u8; ENCODED_BYTES], parent: usize, branch: usize)
     requires { ⌜ recordBytes * k + recordBytes ≤ length (now table) ⌝ }
     ensures { λ _. ⌜ now (table .exit) ≡ putAt (now (table .entry)) k (recordOf pair parent branch) ⌝ }
 {
@@ -67,8 +67,8 @@ pub fn window_at(table: &[u8], k: usize) -> Window
 }
 
 /// Whether pair k is this one.
-pub fn is_at(table: &[u8], k: usize, pair: &[u8; PAIR_BYTES]) -> bool
-    requires { ⌜ (recordBytes * k + recordBytes ≤ length (now table)) × (length (now pair) ≡ pairBytes) ⌝ }
+pub fn is_at(table: &[u8], k: usize, pair: &[u8; ENCODED_BYTES]) -> bool
+    requires { ⌜ (recordBytes * k + recordBytes ≤ length (now table)) × (length (now pair) ≡ encodedBytes) ⌝ }
     ensures { λ r. ⌜ r ≡ isAt (now (table .entry)) k (now (pair .entry)) ⌝ }
 {
     let at = RECORD_BYTES * k;

@@ -1,4 +1,3 @@
-use native.Mathlib.Omega.{arith}
 use borrow.Author.Needs.{needs}
 use Rattle.closure.specs.Propagation.{undo-ready, cut-ready, resumed-all, resumed-cut}
 use Rattle.closure.proofs.resume.Statement.{statement}

@@ -32,6 +32,6 @@ is-listed-spec =
     (λ c. let h = (c .before .before .before .loop .inv .below) in omega arith)
     (λ c κs. search needs)
     (λ c. let h = (c .before .before .before .before .before .before .before .before .before .before .pre .0 .links) ((c .before .before .before .before .before .loop .k)) (omega arith) in let e = (c .wide2 .ensures) in omega arith)
-    (λ c. looking-turn _ _ _ _ _ _ _ ((c .before .before .before .before .before .before .before .before .before .before .pre .0)) ((c .before .before .before .before .before .loop .inv)) ((c .before .before .before .before .loop-test .taken)) (sym ((c .before .before .before .is-at .ensures)) ∙ (c .before .before .if1 .left)) ((c .wide2 .ensures)))
+    (λ c. looking-turn _ _ _ _ _ _ _ ((c .before .before .before .before .before .before .before .before .before .before .pre .0)) ((c .before .before .before .before .before .loop .inv)) (omega arith) (sym ((c .before .before .before .is-at .ensures)) ∙ (c .before .before .if1 .left)) ((c .wide2 .ensures)))
     (λ c κs. let h = (c .before .loop .inv .below) in (omega arith, (c .before .before .before .before .before .before .pre .3)))
-    (λ c. (c .is-at2 .ensures) ∙ looking-end _ _ _ _ _ ((c .before .before .loop .inv)) ((c .before .loop-test .left))))
+    (λ c. (c .is-at2 .ensures) ∙ looking-end _ _ _ _ _ ((c .before .before .loop .inv)) (omega arith)))

@@ -2,6 +2,7 @@ use mathlib.Core.Path.{_≡_, sym, ap, _∙_}
 use Prim.Native.Nat.{_-_, _*_, _%_, _≤_}
 use native.Mathlib.Omega.{arith}
 use lib.ListN.{length, getD}
+use Rattle.records.specs.Records.{recordBytes}
 use Rattle.index.specs.Index.{Indexed}
 use Rattle.index.specs.IndexLaws.{index-begins}
 use Rattle.search.specs.Moves.{noPoint}
@@ -19,7 +20,9 @@ use Rattle.table.proofs.point_at.Reads as point-at-reads
 use Rattle.window.proofs.fresh.Reads as fresh-reads
 
 abbrev Inv-loop : tie.InvT-loop
-Inv-loop end table₀ n points head₀ link₀ w₀ count₀ d₀ table head link w count d = (1 ≤ count) × (count ≤ n) × (d ≤ 2 * count) × (n ≤ 1024) × (192 * n ≤ length table₀) × (length table ≡ length table₀) × (exploreFrom (2 * n - d) points end n count d table ≡ exploreOf points end n table₀) × Carried w d table × Indexed table head link count
+Inv-loop end table₀ n points head₀ link₀ w₀ count₀ d₀ table head link w count d =
+    (1 ≤ count) × (count ≤ n) × (d ≤ 2 * count) × (n ≤ 1024) × (recordBytes * n ≤ length table₀) × (length table ≡ length table₀)
+    × (exploreFrom (2 * n - d) points end n count d table ≡ exploreOf points end n table₀) × Carried w d table × Indexed table head link count
 
 abbrev μ-loop : tie.MeasureT-loop
 μ-loop end table₀ n points head₀ link₀ w₀ count₀ d₀ table head link w count d = 2 * n - d

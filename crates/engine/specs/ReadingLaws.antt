@@ -1,14 +1,14 @@
 -- The letters of a trace, read one after another as they are performed.
 use mathlib.Core.Path.{_≡_, refl, sym, _∙_, ap}
-use mathlib.Core.List.{List, [], _∷_, _++_, append-assoc, append-nil}
-use Prim.Native.Nat.{ℕ, zero, suc, _+_, _-_, _*_, _/_, _%_, _≤_, _<_}
+use mathlib.Core.List.{List, [], _∷_, _++_, append-assoc}
+use Prim.Native.Nat.{ℕ, suc, _+_, _-_, _*_, _%_, _≤_, _<_}
 use native.Mathlib.Omega.{arith}
 use native.Mathlib.Numerals.{add-one}
-use lib.Dec.{ltb, leb, eqb}
+use lib.Dec.{ltb, eqb}
 use lib.ListN.{length, getD, take, drop}
 use lib.Seq.{drop-cons, drop-drop}
 use borrow.Author.Tests.{le-ltb, le-leb, ltb-false, eqb-true}
-use Rattle.base.specs.Choice.{pick, byTest}
+use Rattle.base.specs.Choice.{byTest}
 use Rattle.letters.specs.declared.Header.{Header}
 use Rattle.letters.specs.declared.Letter.{Letter}
 use Rattle.letters.specs.declared.DecodedLetter.{DecodedLetter}
@@ -16,7 +16,7 @@ use Rattle.letters.specs.declared.DecodedLetter.the-variants as decoded
 use Rattle.letters.specs.Letters.{Fits}
 use Rattle.letters.specs.Packing.{join}
 use Rattle.letters.specs.Editions.{firstEdition}
-use Rattle.letters.specs.Answers.{Answer, value, refusal, letterAnswer, onAnswer}
+use Rattle.letters.specs.Answers.{value, refusal, letterAnswer, onAnswer}
 use Rattle.letters.specs.Words.{HeaderFits, decodeLetter}
 use Rattle.letters.specs.WordLaws.{first-roomy, decode-header, decode-letter}
 use Rattle.traces.specs.Traces.{Reading, trace, refused, before, octets, reading, readingWithin, readingWhere, beginning, lettersFrom, lettersOf, letterIn, letterCount, letterAt, parts}
