@@ -13,7 +13,7 @@ use Rattle.verdicts.specs.Demand3.{pairsIn, Demand3}
 use Rattle.verdicts.specs.Total.{search-answer}
 use Rattle.verdicts.specs.Settled.{a-way}
 use Rattle.window.specs.declared.Window.{Window}
-use Rattle.search.specs.Given.{setting}
+use Rattle.exploration.specs.Given.{setting}
 
 -- ── whether two windows are equal is decided by their parts ──
 abbrev Parts : Type 0

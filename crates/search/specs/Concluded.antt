@@ -24,16 +24,16 @@ use Rattle.verdicts.specs.Pairs.{first-pair, moving, meets-failing}
 use Rattle.verdicts.specs.Answers.{answers-full, answers-pass, answers-event}
 use Rattle.window.specs.declared.Window.{Window}
 use Rattle.table.specs.Table.{pointAt, windowAt, parentAt, branchAt}
-use Rattle.search.specs.declared.PointMove as enum
-use Rattle.search.specs.declared.PointMove.the-variants.{Nothing, Goes, Fails}
-use Rattle.search.specs.Moves.{moveOf, letterOf}
-use Rattle.search.specs.Exploring.{pointOf}
-use Rattle.search.specs.Store.{branchNumbered, listed}
-use Rattle.search.specs.HeldPoints.{meant}
-use Rattle.search.specs.Watching.{performing, infeasibleIn}
-use Rattle.search.specs.Given.{Given, header, body, end, held, fresh, setting, branch-held}
-use Rattle.search.specs.Going.{turn-of, starts, step, Passing, Going}
-use Rattle.search.specs.Explored.{Met}
+use Rattle.exploration.specs.declared.PointMove as enum
+use Rattle.exploration.specs.declared.PointMove.the-variants.{Nothing, Goes, Fails}
+use Rattle.exploration.specs.Moves.{moveOf, letterOf}
+use Rattle.exploration.specs.Exploring.{pointOf}
+use Rattle.exploration.specs.Store.{branchNumbered, listed}
+use Rattle.exploration.specs.HeldPoints.{meant}
+use Rattle.exploration.specs.Watching.{performing, infeasibleIn}
+use Rattle.exploration.specs.Given.{Given, header, body, end, held, fresh, setting, branch-held}
+use Rattle.exploration.specs.Going.{turn-of, starts, step, Passing, Going}
+use Rattle.exploration.specs.Explored.{Met}
 use Rattle.search.specs.Trails.{letterAt, trailTo, trailOf}
 
 letter-meant : (o : enum.PointMove) → letter-of (meant o) ≡ letterOf o

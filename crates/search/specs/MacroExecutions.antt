@@ -26,10 +26,10 @@ use Rattle.syntax.specs.Answer.{heldMacro}
 use Rattle.refusals.specs.Accepted.{Accepted}
 use Rattle.syntax.specs.Reads.{Reads}
 use Rattle.verdicts.specs.Since.{since, since-once}
-use Rattle.search.specs.Moves.{moveOf, noPoint}
-use Rattle.search.specs.Store.{branchNumbered}
-use Rattle.search.specs.HeldPoints.{meant}
-use Rattle.search.specs.Given.{Given, branch-held}
+use Rattle.exploration.specs.Moves.{moveOf, noPoint}
+use Rattle.exploration.specs.Store.{branchNumbered}
+use Rattle.exploration.specs.HeldPoints.{meant}
+use Rattle.exploration.specs.Given.{Given, branch-held}
 
 -- The number of a branch in the code, 0 the first.
 abbrev branchNumber : Branch → ℕ

@@ -24,20 +24,21 @@ use Rattle.verdicts.specs.Verdict.{Kind, breaking, failing, showing, packed, De
 use Rattle.verdicts.specs.Demand3.{pairsIn}
 use Rattle.records.specs.Records.{recordBytes}
 use Rattle.search.specs.declared.Packed.{Packed}
-use Rattle.search.specs.declared.Search.{Search}
-use Rattle.search.specs.declared.Search.the-variants as found
+use Rattle.exploration.specs.declared.Search.{Search}
+use Rattle.exploration.specs.declared.Search.the-variants as found
 use Rattle.search.specs.declared.Verdict as answer
 use Rattle.search.specs.declared.Verdict.the-variants.{Pass, Refused}
-use Rattle.search.specs.Moves.{AllWithin}
-use Rattle.search.specs.Exploring.{searchOf}
-use Rattle.search.specs.HeldPoints.{all-within}
-use Rattle.search.specs.Given.{Given, header, body, end, held}
-use Rattle.search.specs.Explored.{Met, Ended}
+use Rattle.exploration.specs.Moves.{AllWithin}
+use Rattle.exploration.specs.Exploring.{searchOf}
+use Rattle.exploration.specs.HeldPoints.{all-within}
+use Rattle.exploration.specs.Given.{Given, header, body, end, held}
+use Rattle.exploration.specs.Explored.{Met, Ended}
+use Rattle.exploration.specs.Ending.{search-event}
 use Rattle.search.specs.Trails.{trailOf}
 use Rattle.search.specs.Tracing.{Older, traced}
 use Rattle.search.specs.TracedLaws.{traced-is, formed-fit}
 use Rattle.search.specs.Concluded.{event-formed, event-few, event-older, event-feasible}
-use Rattle.search.specs.Searched.{Told, search-verdict, search-event}
+use Rattle.search.specs.Searched.{Told, search-verdict}
 use Rattle.search.specs.Answering.{answerOf, Packs, Delivers}
 
 -- The struct holds a macro that was read.

@@ -12,7 +12,7 @@ use Rattle.letters.specs.Words.{encodeHeader, encodeLetter}
 use Rattle.letters.specs.Putting.{putWord}
 use Rattle.blocks.specs.declared.Point.{Point}
 use Rattle.table.specs.Table.{pointAt, parentAt, branchAt}
-use Rattle.search.specs.Moves.{moveOf, letterOf, noPoint}
+use Rattle.exploration.specs.Moves.{moveOf, letterOf, noPoint}
 use Rattle.search.specs.Trails.{letterAt, trailTo, trailOf}
 use Rattle.search.specs.Tracing.{Older, wordOf, wordBytes, letterWords, traced}
 

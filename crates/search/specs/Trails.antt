@@ -4,8 +4,8 @@ use mathlib.Core.List.{List, [], _∷_}
 use Rattle.letters.specs.declared.Letter.{Letter}
 use Rattle.blocks.specs.declared.Point.{Point}
 use Rattle.table.specs.Table.{parentAt, branchAt}
-use Rattle.search.specs.Moves.{moveOf, letterOf}
-use Rattle.search.specs.Exploring.{pointOf}
+use Rattle.exploration.specs.Moves.{moveOf, letterOf}
+use Rattle.exploration.specs.Exploring.{pointOf}
 
 -- The letter that branch b performs at pair i.
 unfoldable pub letterAt : List Point → List ℕ → ℕ → ℕ → Letter

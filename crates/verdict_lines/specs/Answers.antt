@@ -28,7 +28,7 @@ use Rattle.macros.specs.Order.{Before, before-not}
 use Rattle.macros.specs.Points.{sizeBlock}
 use Rattle.grammar.specs.Grammar.{Macro, headerOf}
 use Rattle.grammar.specs.Spelled.{InOrder}
-use Rattle.search.specs.Given.{setting}
+use Rattle.exploration.specs.Given.{setting}
 use Rattle.search.specs.TracedLaws.{formed-fit}
 use Rattle.verdicts.specs.Verdict.{Answer, refused, full, unfit, IsPass, Kind, breaking, failing, showing, packed, Delivered, OfKind, Leaves, SamePair, EventAt, PairCount, PairsPass, Shows, Verdict}
 use Rattle.verdicts.specs.Counting.{more-is}

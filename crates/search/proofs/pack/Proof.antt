@@ -14,7 +14,7 @@ use Rattle.search.proofs.pack.Tie as tie
 use Rattle.search.proofs.pack.Reads as reads
 use Rattle.search.proofs.pack.Lts as lts
 use Rattle.search.proofs.header_word.Reads as header-word-reads
-use Rattle.search.proofs.letter_of.Reads as letter-of-reads
+use Rattle.exploration.proofs.letter_of.Reads as letter-of-reads
 use Rattle.search.proofs.letter_word.Reads as letter-word-reads
 use Rattle.table.proofs.branch_at.Reads as branch-at-reads
 use Rattle.table.proofs.parent_at.Reads as parent-at-reads

@@ -11,7 +11,7 @@ use Rattle.search.proofs.search_macro.Lts as lts
 use Rattle.search.proofs.deliver_failing.Reads as deliver-failing-reads
 use Rattle.search.proofs.deliver_incoherent.Reads as deliver-incoherent-reads
 use Rattle.search.proofs.pack.Reads as pack-reads
-use Rattle.search.proofs.search_pairs.Reads as search-pairs-reads
+use Rattle.exploration.proofs.search_pairs.Reads as search-pairs-reads
 use Rattle.table.proofs.capacity.Reads as capacity-reads
 
 capacity-requires : tie.Need-capacity-requires

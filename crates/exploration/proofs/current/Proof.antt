@@ -1,0 +1,18 @@
+use borrow.Author.Needs.{needs}
+use Rattle.exploration.proofs.current.Statement.{statement}
+use Rattle.exploration.proofs.current.Tie as tie
+use Rattle.exploration.proofs.current.Reads as reads
+use Rattle.exploration.proofs.current.Lts as lts
+use Rattle.table.proofs.window_at.Reads as window-at-reads
+
+window-at-requires : tie.Need-window-at-requires
+window-at-requires c κs = search needs
+
+returns : tie.Need-returns
+returns c = search needs
+
+returns-2 : tie.Need-returns-2
+returns-2 c = (c .before .before .pre .1 .window) ((c .if1 .left))
+
+pub current-spec : {M : Type 1} → statement M
+current-spec = tie.close (tie.spec window-at-requires returns returns-2)

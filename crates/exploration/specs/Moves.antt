@@ -1,0 +1,47 @@
+-- The branches of a point as the reader stores it. Document 01: "At a branch the condition as written comes first; at an assert, the failing letter."
+use mathlib.Core.Path.{_≡_, sym, _∙_, subst}
+use Prim.Native.Nat.{ℕ}
+use mathlib.Core.List.{List}
+use lib.ListN.{getD}
+use Rattle.window.specs.Perform.{Within}
+use lib.Dec.{eqb}
+use Rattle.base.specs.Choice.{pick}
+use Rattle.letters.specs.declared.Letter.{Letter}
+use Rattle.letters.specs.declared.Letter.the-variants.{Copy, Apply, Equal, Unequal}
+use Rattle.blocks.specs.declared.Point.{Point}
+use Rattle.exploration.specs.declared.PointMove.{PointMove}
+use Rattle.exploration.specs.declared.PointMove.the-variants.{Nothing, Goes, Fails}
+
+-- The letter that tests the opposite.
+unfoldable pub oppositeOf : Letter → Letter
+oppositeOf (Copy x y) = Copy x y
+oppositeOf (Apply x f y z) = Apply x f y z
+oppositeOf (Equal x y) = Unequal x y
+oppositeOf (Unequal x y) = Equal x y
+
+-- What branch b of a point performs, 0 the first.
+unfoldable pub moveOf : Point → ℕ → PointMove
+moveOf x b =
+    pick (eqb (x .kind) 0) (λ _. pick (eqb b 0) (λ _. Goes (x .letter) (x .first)) λ _. Nothing) λ _.
+    pick (eqb (x .kind) 1) (λ _. pick (eqb b 0) (λ _. Fails (oppositeOf (x .letter))) λ _. Goes (x .letter) (x .first)) λ _.
+    pick (eqb b 0) (λ _. Goes (x .letter) (x .first)) λ _. Goes (oppositeOf (x .letter)) (x .second)
+
+-- The letter of a branch; where there is none, a copy that is never asked for.
+abbrev pub letterOf : PointMove → Letter
+letterOf Nothing = Copy 0 0
+letterOf (Goes a k) = a
+letterOf (Fails a) = a
+
+-- What stands past the points.
+abbrev pub noPoint : Point
+noPoint = record { kind = 0; letter = Copy 0 0; first = 0; second = 0 }
+
+-- The fields of every letter that is performed lie within the packing.
+abbrev pub AllWithin : List Point → Type 0
+AllWithin ps = (k b : ℕ) → Within (letterOf (moveOf (getD ps k noPoint) b))
+
+pub within-goes : (o : PointMove) (x : Point) (b : ℕ) (a : Letter) (k : ℕ) → o ≡ moveOf x b → o ≡ Goes a k → Within (letterOf (moveOf x b)) → Within a
+within-goes o x b a k e f w = subst (λ z. Within (letterOf z)) (sym e ∙ f) w
+
+pub within-fails : (o : PointMove) (x : Point) (b : ℕ) (a : Letter) → o ≡ moveOf x b → o ≡ Fails a → Within (letterOf (moveOf x b)) → Within a
+within-fails o x b a e f w = subst (λ z. Within (letterOf z)) (sym e ∙ f) w
