@@ -11,6 +11,7 @@ use letters::Letter;
 use letters::words::decode_letter;
 use letters::words::word;
 use slots::judge_slots;
+use slots::pair_up;
 use slots::perform_slots;
 use slots::represents;
 use slots::to_slots;
@@ -22,6 +23,7 @@ ghost use lib.ListN.{length, drop};
 ghost use Rattle.window.specs.Layout.{registers, functions};
 ghost use Rattle.window.specs.Perform.{Within};
 ghost use Rattle.slots.specs.Slots.{slotsOf, Laid};
+ghost use Rattle.slots.specs.Around.{Around};
 ghost use Rattle.slots.specs.Represents.{Represents};
 ghost use Rattle.monitoring.specs.declared.Verdict.the-variants.{Judged};
 ghost use Rattle.monitoring.specs.Run.{runOf};
@@ -35,12 +37,14 @@ fn performed(
     unequal: &mut [u8; 8],
     result: &mut [u8; 256],
     ever: &mut [u8; 32],
+    around: &mut [u8; 64],
     mark: &mut [bool; 8],
     infeasible: bool,
     fine: bool,
     letter: Letter,
 ) -> bool
-    requires { ⌜ Within letter × Laid registers functions (now slot) (now regs) (now unequal) (now result) (now ever) (now mark) ⌝ }
+    requires { ⌜ Within letter × Laid registers functions (now slot) (now regs) (now unequal) (now result) (now ever) (now mark)
+        × Around registers functions (now result) (now around) ⌝ }
     ensures { λ v. ⌜
         slotsOf (now (slot .exit)) (now (regs .exit)) (now (unequal .exit)) (now (result .exit)) (now (ever .exit)) (now (mark .exit)) v
         ≡ slotsPerformed
@@ -48,9 +52,20 @@ fn performed(
         fine letter ⌝ }
     ensures laid { λ _. ⌜ Laid registers functions (now (slot .exit)) (now (regs .exit)) (now (unequal .exit)) (now (result .exit))
         (now (ever .exit)) (now (mark .exit)) ⌝ }
+    ensures around { λ _. ⌜ Around registers functions (now (result .exit)) (now (around .exit)) ⌝ }
 {
     if fine {
-        return perform_slots(slot, regs, unequal, result, ever, mark, infeasible, letter);
+        return perform_slots(
+            slot,
+            regs,
+            unequal,
+            result,
+            ever,
+            around,
+            mark,
+            infeasible,
+            letter,
+        );
     }
     infeasible
 }
@@ -64,6 +79,7 @@ fn take_from(
     mut unequal: [u8; 8],
     mut result: [u8; 256],
     mut ever: [u8; 32],
+    mut around: [u8; 64],
     mut fine: bool,
     mut count: u64,
     mut one: u64,
@@ -72,7 +88,8 @@ fn take_from(
     start: usize,
 ) -> Run
     requires { ⌜ (start ≤ length (now bytes))
-        × Represents registers functions (header .registers) (slotsOf slot regs unequal result ever (window .mark) (window .infeasible)) window ⌝ }
+        × Represents registers functions (header .registers) (slotsOf slot regs unequal result ever (window .mark) (window .infeasible)) window
+        × Around registers functions result around ⌝ }
     ensures { λ r. ⌜ r ≡ takenAll (runOf header window fine count (Judged one two)) (drop start (now (bytes .entry))) ⌝ }
 {
     let mut mark = window.mark;
@@ -92,6 +109,7 @@ fn take_from(
             &mut unequal,
             &mut result,
             &mut ever,
+            &mut around,
             &mut mark,
             bad,
             coherent,
@@ -108,7 +126,7 @@ fn take_from(
 }
 
 /// Takes the letters whose words are the bytes from `start` on, from a run of these parts; a last byte without its other half is left alone.
-/// A window that no slots stand for, which no trace has, is taken on its tables.
+/// A window that these slots do not stand for is taken on its tables.
 pub fn take_slots(
     header: Header,
     window: Window,
@@ -150,6 +168,7 @@ pub fn take_slots(
         bad,
         registers,
     ) {
+        let around = pair_up(&result);
         return take_from(
             header,
             window,
@@ -158,6 +177,7 @@ pub fn take_slots(
             unequal,
             result,
             ever,
+            around,
             running,
             letters,
             incoherent,

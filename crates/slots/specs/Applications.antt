@@ -6,6 +6,7 @@ use mathlib.Core.List.{List}
 use Prim.Native.Nat.{ℕ, _^_, _≤_, _<_}
 use native.Mathlib.Omega.{arith}
 use lib.Dec.{eqb, ltb, T, lt→ltb}
+use lib.Bits.{bitOr}
 use lib.ListN.{length, getD, set}
 use lib.Seq.{getD-set-same, getD-set-other}
 use borrow.Author.Tests.{eqb-true, eqb-false, eq-eqb, ne-eqb, lt-ltb, le-ltb}
@@ -35,7 +36,7 @@ use Rattle.slots.specs.Laying.{LaidIn, marks-length, tabled-dropped, lai
 use Rattle.slots.specs.Represents.{Used, Single, slotView, Mirrors, Represents}
 use Rattle.slots.specs.Pulling.{laws-pulled, pulled-applied, Renewed, renewed-dropped, renewed-free, clean-renewed, single-renewed}
 use Rattle.slots.specs.Tables.{dropped, recorded}
-use Rattle.slots.specs.Marking.{up, low, only, alone-is, lost-is}
+use Rattle.slots.specs.Marking.{one-more, up, low, only, alone-is, lost-is}
 use Rattle.slots.specs.Moving.{at-same, grouped-moved, another, keep-all}
 use Rattle.slots.specs.Copies.{marks-at, copied-represents}
 use Rattle.slots.specs.Room.{free-slot}
@@ -116,11 +117,11 @@ module _ (ρ φ n : ℕ) (s : Slots) (w : Window) (m : Mirrors ρ φ n s w) (x f
           (λ t. rw (t′, t) ((λ k. absurd (none-in r k)), (λ k. absurd (none-in (g r) k))))
 
       abbrev lost : ℕ
-      lost = lostOf ρ φ (s .result) (at (s .slot) x) more′
+      lost = bitOr (lostOf ρ φ (s .result) (at (s .slot) x) more′) (2 ^ at (s .slot) x)
 
-      at-mark : (q : ℕ) → q < n → q ≢ x → (T (view ρ φ w .marked q) ⊎ T (has (fallenOf ρ φ (getD (w .class) x 0) (w .result) x more) q)) ↔ T (getD (marksIn ρ (s .slot) (s .mark) (lostOf ρ φ (s .result) (at (s .slot) x) more′)) q false)
+      at-mark : (q : ℕ) → q < n → q ≢ x → (T (view ρ φ w .marked q) ⊎ T (has (fallenOf ρ φ (getD (w .class) x 0) (w .result) x more) q)) ↔ T (getD (marksIn ρ (s .slot) (s .mark) (bitOr (lostOf ρ φ (s .result) (at (s .slot) x) more′) (2 ^ at (s .slot) x))) q false)
       at-mark q qb i =
-          let below = lost-is ρ φ n s w m x more more′ xb alone more-is more-small′ q qb in
+          let below = Iff·trans (lost-is ρ φ n s w m x more more′ xb alone more-is more-small′ q qb) (one-more (lostOf ρ φ (s .result) (g x) more′) (g x) (g q) (λ h. i (alone q qb h))) in
           let here = marks-at ρ (s .slot) (s .mark) lost q (up ρ φ n s w m q qb) in (
             (λ k. subst T (sym here) (⊎-elim (λ t. or-l (getD (s .mark) q false) (has lost (g q)) (m .marked q qb .0 t)) (λ t. or-r (getD (s .mark) q false) (has lost (g q)) (below .0 (fall q .0 t .1))) k)),
             (λ k. ⊎-elim (λ t. inl (m .marked q qb .1 t)) (λ t. inr (fall q .1 (alone-is ρ φ n s w m x xb .1 e, below .1 t))) (or-e (getD (s .mark) q false) (has lost (g q)) (subst T here k))),
@@ -144,7 +145,7 @@ module _ (ρ φ n : ℕ) (s : Slots) (w : Window) (m : Mirrors ρ φ n s w) (x f
           clean = clean-renewed ρ (g x) (Used n g) (Used n g) K K₁ (m .clean) (λ p _ u. u) f (g y) (g z) (y, yb, refl) (z, zb, refl) (x, xb, refl) new;
           pulled = pulled-applied ρ n g g (view ρ φ w) (view ρ φ w′) K K₁ (m .pulled) (low ρ φ n s w m) x f y z (g x) xb yb zb (λ r rb d. (refl, λ h. d (alone r rb h))) refl
               (renamed-applied ρ φ w (m .shaped) n laws (m .inside) x f y z xb fb yb zb) new;
-          marked = marks (marksIn ρ (s .slot) (s .mark) (lostOf ρ φ (s .result) (at (s .slot) x) more′)) (marks-length ρ (s .slot) (s .mark) lost) at-mark;
+          marked = marks (marksIn ρ (s .slot) (s .mark) (bitOr (lostOf ρ φ (s .result) (at (s .slot) x) more′) (2 ^ at (s .slot) x))) (marks-length ρ (s .slot) (s .mark) lost) at-mark;
           infeasible = kept-infeasible ∙ m .infeasible;
         };
         single = single-renewed ρ f (g y) (g z) (g x) K K₁ o none new;

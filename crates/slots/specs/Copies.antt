@@ -5,6 +5,7 @@ use mathlib.Core.Bool.{Bool, true, false, cond, _||_}
 use mathlib.Core.List.{List}
 use Prim.Native.Nat.{ℕ, _^_, _<_}
 use lib.Dec.{eqb, T}
+use lib.Bits.{bitOr}
 use lib.ListN.{length, getD, set, length-set}
 use lib.Seq.{getD-set-same, getD-set-other}
 use borrow.Author.Tests.{eqb-true, eqb-false}
@@ -30,7 +31,7 @@ use Rattle.slots.specs.Laying.{laid-placed, laid-left, LaidIn}
 use Rattle.slots.specs.Represents.{Used, Single, slotView, Mirrors, Represents}
 use Rattle.slots.specs.Pulling.{laws-pulled, pulled-copied, alike-same, alike-dropped, clean-dropped, clean-kept, single-dropped, Dropped}
 use Rattle.slots.specs.Tables.{dropped}
-use Rattle.slots.specs.Marking.{up, low, only, alone-is, lost-is}
+use Rattle.slots.specs.Marking.{one-more, up, low, only, alone-is, lost-is}
 use Rattle.slots.specs.Moving.{at-same, keep, grouped-moved, keep-all}
 
 pub marks-at : (ρ : ℕ) (slot : List ℕ) (mark : List Bool) (lost q : ℕ) → q < ρ → getD (marksIn ρ slot mark lost) q false ≡ (getD mark q false || has lost (at slot q))
@@ -141,12 +142,13 @@ module _ (ρ φ n : ℕ) (s : Slots) (w : Window) (m : Mirrors ρ φ n s w) (o :
         not-gone r rb h = ⊎-elim (λ i. d (sym h ∙ ap g′ i ∙ here)) (λ i. i (only ρ φ n s w m x xb e r rb (sym (there r i) ∙ h))) (eq-or r x)
 
         lost : ℕ
-        lost = lostOf ρ φ (s .result) (at (s .slot) x) 0
+        lost = bitOr (lostOf ρ φ (s .result) (at (s .slot) x) 0) (2 ^ at (s .slot) x)
 
         at-mark : (q : ℕ) → q < n → q ≢ x
-            → (T (view ρ φ w .marked q) ⊎ T (has (fallenOf ρ φ (getD (w .class) x 0) (w .result) x 0) q)) ↔ T (getD (marksIn ρ (set (s .slot) x (at (s .slot) y)) (s .mark) (lostOf ρ φ (s .result) (at (s .slot) x) 0)) q false)
+            → (T (view ρ φ w .marked q) ⊎ T (has (fallenOf ρ φ (getD (w .class) x 0) (w .result) x 0) q)) ↔ T (getD (marksIn ρ (set (s .slot) x (at (s .slot) y)) (s .mark) (bitOr (lostOf ρ φ (s .result) (at (s .slot) x) 0) (2 ^ at (s .slot) x))) q false)
         at-mark q qb i =
-            let below = lost-is ρ φ n s w m x 0 0 xb (only ρ φ n s w m x xb e) (λ r rb. ((λ t. absurd (none-in r t)), (λ t. absurd (none-in (g r) t)))) (none-small ρ) q qb in
+            let below = Iff·trans (lost-is ρ φ n s w m x 0 0 xb (only ρ φ n s w m x xb e) (λ r rb. ((λ t. absurd (none-in r t)), (λ t. absurd (none-in (g r) t)))) (none-small ρ) q qb)
+            (one-more (lostOf ρ φ (s .result) (g x) 0) (g x) (g q) (λ h. i (only ρ φ n s w m x xb e q qb h))) in
             let here′ : getD (marksIn ρ (set (s .slot) x (at (s .slot) y)) (s .mark) lost) q false ≡ (getD (s .mark) q false || has lost (g q)) = marks-at ρ (set (s .slot) x (g y)) (s .mark) lost q (up ρ φ n s w m q qb) ∙ ap (λ k. getD (s .mark) q false || has lost k) (there q i) in (
               (λ k. subst T (sym here′) (⊎-elim (λ t. or-l (getD (s .mark) q false) (has lost (g q)) (m .marked q qb .0 t)) (λ t. or-r (getD (s .mark) q false) (has lost (g q)) (below .0 (fall q .0 t .1))) k)),
               (λ k. ⊎-elim (λ t. inl (m .marked q qb .1 t)) (λ t. inr (fall q .1 (alone-is ρ φ n s w m x xb .1 e, below .1 t))) (or-e (getD (s .mark) q false) (has lost (g q)) (subst T here′ k))),

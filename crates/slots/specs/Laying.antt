@@ -105,7 +105,7 @@ module _ (ρ φ : ℕ) where
 
   pub laid-dropped : (w : Slots) (s more : ℕ) → LaidIn w → LaidIn (droppedSlots ρ φ w s more)
   unfolding droppedSlots
-  laid-dropped w s more l = record { low = l .low; regs-long = l .regs-long; tables = tabled-dropped s (w .unequal) (w .result) (w .ever) (l .tables); mark-long = marks-length ρ (w .slot) (w .mark) (lostOf ρ φ (w .result) s more) }
+  laid-dropped w s more l = record { low = l .low; regs-long = l .regs-long; tables = tabled-dropped s (w .unequal) (w .result) (w .ever) (l .tables); mark-long = marks-length ρ (w .slot) (w .mark) (bitOr (lostOf ρ φ (w .result) s more) (2 ^ s)) }
 
   pub laid-left : (w : Slots) (s : ℕ) (empty : Bool) → LaidIn w → LaidIn (leftSlots ρ φ w s empty)
   unfolding leftSlots

@@ -5,6 +5,7 @@ pub mod Laying
 pub mod Represents
 pub mod Pulling
 pub mod Tables
+pub mod Around
 pub mod Marking
 pub mod Moving
 pub mod Copies

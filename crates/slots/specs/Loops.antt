@@ -18,11 +18,12 @@ use Rattle.window.specs.Bits.{nonempty, minus, single-test}
 use Rattle.window.specs.Lines.{columns, rows, cleared, united}
 use Rattle.window.specs.Through.{bitsMoved, masksThrough, resultsThrough}
 use Rattle.window.specs.Adding.{partOf, masksForgotten}
-use Rattle.window.specs.Marks.{lostOf}
+use Rattle.window.specs.Marks.{flagOf, raisedOf, lostOf}
 use Rattle.window.specs.Performing.{argumentsOf}
 use Rattle.slots.specs.Slots.{Slots, slotsOf, at, Tabled}
 use Rattle.slots.specs.Performing.{heldOf, regsMoved, freeFrom, pulledOf, manyOf, doubledOf, clashSlots, apartSlots, withMark, withUnequal}
 use Rattle.slots.specs.Performing.{resultsDropped, masksRenamed, resultsRenamed, slotRenamed, marksIn, registerIn, resultRecorded, everRecorded}
+use Rattle.slots.specs.Performing.{aboveSlots, besideSlots, lostSlots, pairRecorded}
 use Rattle.slots.specs.Performing.{entryOf, findSlots, memoizingSlots}
 use Rattle.slots.specs.Performing.{droppedSlots, leftSlots, copiedSlots, recordedSlots, renewedSlots, freshenedSlots, newSlots, applySlots, mergedSlots}
 use Rattle.slots.specs.Performing.{closedSlots, settledSlots, equalSlots, unequalSlots, judgeSlots, performSlots}
@@ -81,8 +82,28 @@ module _ (ρ : ℕ) (slot : List ℕ) (old : List Bool) (slots : ℕ) (long : le
   unfolding marksIn
   marks-all l r w h = swept-all (markedAt slot old slots) false old r l w (omega arith) ∙ ap (table (markedAt slot old slots)) long
 
+-- ---- what is beside a slot
+
+module _ (ρ : ℕ) (t : List ℕ) (x : ℕ) where
+  pub beside-none : 0 ≡ besideSlots ρ t x 0
+  unfolding besideSlots
+  beside-none = refl
+
+  pub beside-more : (h m v : ℕ) → m ≡ besideSlots ρ t x h → v ≡ flagOf ρ (getD t (ρ * x + h) 0) h → bitOr m v ≡ besideSlots ρ t x (h + 1)
+  unfolding besideSlots
+  beside-more h m v e d = rw (add-one, e, d)
+
+  pub beside-all : (m h : ℕ) → h ≤ ρ → ρ ≤ h → m ≡ besideSlots ρ t x h → m ≡ besideSlots ρ t x ρ
+  beside-all m h k g e = e ∙ ap (besideSlots ρ t x) (omega arith)
+
+  pub lost-more : (up : List ℕ) (own near more r : ℕ) → up ≡ aboveSlots ρ t → own ≡ 2 ^ x → near ≡ besideSlots ρ t x ρ → r ≡ raisedOf ρ up (bitOr (bitOr own near) more)
+      → r ≡ lostSlots ρ t x more
+  unfolding lostSlots
+  lost-more up own near more r e o d k = rw (k, e, o, d)
+
 module _ (ρ φ : ℕ) where
-  pub dropped-is : (slot g u r e u′ r′ e′ : List ℕ) (m m′ : List Bool) (i : Bool) (s more lost : ℕ) → lost ≡ lostOf ρ φ r s more → m′ ≡ marksIn ρ slot m lost
+  pub dropped-is : (slot g u r e u′ r′ e′ : List ℕ) (m m′ : List Bool) (i : Bool) (s more lost : ℕ)
+      → lost ≡ bitOr (lostOf ρ φ r s more) (2 ^ s) → m′ ≡ marksIn ρ slot m lost
       → u′ ≡ masksForgotten ρ s u → r′ ≡ resultsDropped ρ s r → e′ ≡ masksForgotten ρ s e
       → slotsOf slot g u′ r′ e′ m′ i ≡ droppedSlots ρ φ (slotsOf slot g u r e m i) s more
   unfolding droppedSlots
@@ -141,6 +162,17 @@ module _ (ρ f a b n : ℕ) (l : List ℕ) where
   pub ever-recorded : (eqb a n || eqb b n) ≡ false → (one : ℕ) → one ≡ 2 ^ b → set l (ρ * f + a) (bitOr (getD l (ρ * f + a) 0) one) ≡ everRecorded ρ f a b n l
   unfolding everRecorded
   ever-recorded t one e = rw (t, e)
+
+module _ (ρ a b n : ℕ) (t : List ℕ) where
+  pub pair-still : (eqb a n || eqb b n) ≡ true → t ≡ pairRecorded ρ a b n t
+  unfolding pairRecorded
+  pair-still e = rw e
+
+  pub pair-recorded : (eqb a n || eqb b n) ≡ false → (one two : ℕ) → one ≡ 2 ^ n → two ≡ 2 ^ n
+      → set (set t (ρ * a + b) (bitOr (getD t (ρ * a + b) 0) one)) (ρ * b + a) (bitOr (getD (set t (ρ * a + b) (bitOr (getD t (ρ * a + b) 0) one)) (ρ * b + a) 0) two)
+      ≡ pairRecorded ρ a b n t
+  unfolding pairRecorded
+  pair-recorded e one two p q = rw (e, p, q)
 
 module _ (ρ φ : ℕ) where
   pub renewed-is : (w d : Slots) (x f a b s more : ℕ) (r e : List ℕ) → s ≡ at (w .slot) x → more ≡ argumentsOf s a b (2 ^ a) (2 ^ b)

@@ -1,9 +1,10 @@
 -- The class of a register is what its slot has, and what gets a mark as a register loses its value is what is below its slot.
 use mathlib.Core.Path.{_≡_, refl, sym, ap, _∙_, subst}
-use mathlib.Core.Logic.{_⊎_, inl, inr, _↔_, ⊎-elim, Iff·trans, Iff·symm}
+use mathlib.Core.Logic.{_⊎_, inl, inr, _↔_, _≢_, ⊎-elim, Iff·trans, Iff·symm}
 use Prim.Native.Nat.{ℕ, _*_, _^_, _<_}
 use native.Mathlib.Omega.{arith}
 use lib.Dec.{ltb, T, ltb→lt}
+use lib.Bits.{bitOr}
 use lib.ListN.{getD}
 use borrow.Author.Tests.{lt-ltb}
 use Rattle.base.specs.Masks.{has, sizeOf}
@@ -11,7 +12,7 @@ use Rattle.base.specs.MaskLaws.{bits-same}
 use Rattle.semantics.specs.Booleans.{and-l, and-r}
 use Rattle.semantics.specs.Of.{same-test}
 use Rattle.window.specs.Places.{place, Function, First, Second, place-is, first-place, second-place, place-below, function-below, first-below, second-below}
-use Rattle.window.specs.Bits.{single-is, pow-small, eq-or}
+use Rattle.window.specs.Bits.{or-is, single-is, pow-small, eq-or}
 use Rattle.window.specs.Size.{alone, other}
 use Rattle.window.specs.Marks.{lostOf, Beneath, extra, direct, beneath, lost-beneath}
 use Rattle.window.specs.Copying.{cell-result, result-cell}
@@ -20,6 +21,10 @@ use Rattle.window.specs.declared.Window.{Window}
 use Rattle.slots.specs.Slots.{Slots, at}
 use Rattle.slots.specs.Represents.{slotView, Mirrors}
 use Rattle.slots.specs.Pulling.{move3}
+
+-- a slot that is added says nothing of the others
+pub one-more : (m s t : ℕ) → t ≢ s → T (has m t) ↔ T (has (bitOr m (2 ^ s)) t)
+one-more m s t d = ((λ k. or-is m (2 ^ s) t .1 (inl k)), (λ k. ⊎-elim (λ u. u) (λ u. absurd (d (single-is s t .0 u))) (or-is m (2 ^ s) t .0 k)))
 
 module _ (ρ φ n : ℕ) (s : Slots) (w : Window) (m : Mirrors ρ φ n s w) where
   abbrev g : ℕ → ℕ

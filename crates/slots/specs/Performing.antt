@@ -16,7 +16,7 @@ use Rattle.window.specs.Bits.{nonempty, minus}
 use Rattle.window.specs.Lines.{columns, rows, cleared}
 use Rattle.window.specs.Through.{bitsMoved, masksThrough, resultsThrough}
 use Rattle.window.specs.Adding.{partOf, masksForgotten}
-use Rattle.window.specs.Marks.{lostOf}
+use Rattle.window.specs.Marks.{unionOf, flagOf, raisedOf, lostOf}
 use Rattle.window.specs.Performing.{argumentsOf}
 use Rattle.window.specs.declared.Window.{Window}
 use Rattle.slots.specs.Slots.{Slots, at}
@@ -80,6 +80,27 @@ module _ (ρ : ℕ) where
   unfoldable pub resultsDropped : ℕ → List ℕ → List ℕ
   resultsDropped x l = cleared (rows ρ) x (cleared (columns ρ) x (bitsMoved 0 (2 ^ x) l))
 
+  -- ---- in a table with an entry for each pair of slots: those that hold a result at the two, in either order
+
+  -- for each slot, the slots that hold a result with it as an argument
+  unfoldable pub aboveSlots : List ℕ → List ℕ
+  aboveSlots t = table (λ h. unionOf t h ρ ρ) ρ
+
+  -- the slots below k with which x is an argument of a held result
+  unfoldable pub besideSlots : List ℕ → ℕ → ℕ → ℕ
+  besideSlots t x zero = 0
+  besideSlots t x (suc k) = bitOr (besideSlots t x k) (flagOf ρ (getD t (ρ * x + k) 0) k)
+
+  -- x, the slots below a result that has x as an argument or that x holds, and those below `more`
+  unfoldable pub lostSlots : List ℕ → ℕ → ℕ → ℕ
+  lostSlots t x more = raisedOf ρ (aboveSlots t) (bitOr (bitOr (2 ^ x) (besideSlots t x ρ)) more)
+
+  -- slot n holds a result at slots a and b, unless it took the place of one of them
+  unfoldable pub pairRecorded : ℕ → ℕ → ℕ → List ℕ → List ℕ
+  pairRecorded a b n t = pick (eqb a n || eqb b n) (λ _. t) λ _.
+      let next = set t (ρ * a + b) (bitOr (getD t (ρ * a + b) 0) (2 ^ n)) in
+      set next (ρ * b + a) (bitOr (getD next (ρ * b + a) 0) (2 ^ n))
+
   -- slot b is called a: in a table of masks, in the table of results, and in the slots of the registers
   unfoldable pub masksRenamed : ℕ → ℕ → List ℕ → List ℕ
   masksRenamed a b l = masksForgotten ρ b (masksThrough ρ a b (2 ^ a) l)
@@ -121,7 +142,7 @@ module _ (ρ : ℕ) where
 -- ---- a letter
 
 module _ (ρ φ : ℕ) where
-  -- slot s has no register any more: what is below it, and below `more`, gets a mark, and the tables forget it
+  -- slot s has no register any more, or one that gets a new value: it and what is below it, and below `more`, get a mark, and the tables forget it
   unfoldable pub droppedSlots : Slots → ℕ → ℕ → Slots
   droppedSlots w s more = record {
     slot = w .slot;
@@ -129,7 +150,7 @@ module _ (ρ φ : ℕ) where
     unequal = masksForgotten ρ s (w .unequal);
     result = resultsDropped ρ s (w .result);
     ever = masksForgotten ρ s (w .ever);
-    mark = marksIn ρ (w .slot) (w .mark) (lostOf ρ φ (w .result) s more);
+    mark = marksIn ρ (w .slot) (w .mark) (bitOr (lostOf ρ φ (w .result) s more) (2 ^ s));
     infeasible = w .infeasible;
   }
 

@@ -38,7 +38,7 @@ module _ (ρ φ : ℕ) where
   -- ---- a slot is dropped
 
   -- the table of results: x is no argument and holds none
-  dropped-is : (x : ℕ) (l : List ℕ) → length l ≡ φ * ρ * ρ → (h a b c : ℕ) → h < φ → a < ρ → b < ρ
+  pub dropped-is : (x : ℕ) (l : List ℕ) → length l ≡ φ * ρ * ρ → (h a b c : ℕ) → h < φ → a < ρ → b < ρ
       → T (has (getD (resultsDropped ρ x l) (place ρ h a b) 0) c) ↔ ((a ≢ x) × (b ≢ x) × (c ≢ x) × T (has (getD l (place ρ h a b) 0) c))
   unfolding resultsDropped clearedAt
   dropped-is x l len h a b c hb ab bb =

@@ -7,17 +7,20 @@ use window::PAIRS;
 use window::REGISTERS;
 use window::RESULTS;
 use window::Window;
+use window::below;
 use window::clear_column;
 use window::clear_row;
+use window::flag;
 use window::forget_masks;
 use window::holds;
 use window::inhabited;
-use window::lost;
 use window::move_bits;
 use window::name;
 use window::part;
+use window::results_at;
 use window::single;
 use window::size;
+use window::union;
 use window::unite_column;
 use window::unite_row;
 ghost use mathlib.Core.Path.{_≡_};
@@ -28,11 +31,14 @@ ghost use lib.Dec.{eqb};
 ghost use lib.ListN.{length, getD, set};
 ghost use Rattle.window.specs.Layout.{registers, functions, pairs, lines, results};
 ghost use Rattle.window.specs.Bits.{minus};
+ghost use Rattle.window.specs.Marks.{raisedOf};
 ghost use Rattle.window.specs.Performing.{argumentsOf};
 ghost use Rattle.window.specs.Perform.{Within};
 ghost use Rattle.slots.specs.Slots.{slotsOf, at, Low, Tabled, Laid};
 ghost use Rattle.slots.specs.Performing.{heldOf, regsMoved, freeFrom, pulledOf, manyOf, doubledOf, clashSlots, apartSlots, earlySlots};
 ghost use Rattle.slots.specs.Performing.{resultsDropped, masksRenamed, resultsRenamed, slotRenamed, marksIn, registerIn, resultRecorded, everRecorded};
+ghost use Rattle.slots.specs.Performing.{aboveSlots, besideSlots, lostSlots, pairRecorded};
+ghost use Rattle.slots.specs.Around.{Around, aroundOf};
 ghost use Rattle.slots.specs.Performing.{entryOf, findSlots, memoizingSlots};
 ghost use Rattle.slots.specs.Performing.{droppedSlots, leftSlots, copiedSlots, renewedSlots, freshenedSlots, newSlots, applySlots};
 ghost use Rattle.slots.specs.Performing.{mergedSlots, closedSlots};
@@ -115,14 +121,65 @@ fn register_in(regs: &[Mask; REGISTERS], slots: Mask) -> usize
 
 // ---- a slot without registers
 
-// Slot s is no argument of a result and holds none.
-fn drop_results(result: &mut [Mask; RESULTS], s: usize)
-    requires { ⌜ (s < registers) × (length (now result) ≡ results) ⌝ }
-    ensures { λ _. ⌜ now (result .exit) ≡ resultsDropped registers s (now (result .entry)) ⌝ }
+// In a table of results, slot s is no argument and holds none.
+fn drop_results(t: &mut [Mask], s: usize)
+    requires { ⌜ (s < registers) × (length (now t) % pairs ≡ 0) ⌝ }
+    ensures { λ _. ⌜ now (t .exit) ≡ resultsDropped registers s (now (t .entry)) ⌝ }
 {
-    move_bits(result, 0, single(s));
-    clear_column(result, s);
-    clear_row(result, s);
+    move_bits(t, 0, single(s));
+    clear_column(t, s);
+    clear_row(t, s);
+}
+
+// For each slot, the slots that hold a result with it as an argument.
+fn above(around: &[Mask; PAIRS]) -> [Mask; REGISTERS]
+    ensures { λ r. ⌜ r ≡ aboveSlots registers (now (around .entry)) ⌝ }
+{
+    let mut next: [Mask; REGISTERS] = [0; REGISTERS];
+    let mut h: usize = 0;
+    while h < REGISTERS {
+        next[h] = union(around, h, REGISTERS);
+        h = h + 1;
+    }
+    next
+}
+
+// The slots with which s is an argument of a held result.
+fn beside(around: &[Mask; PAIRS], s: usize) -> Mask
+    requires { ⌜ s < registers ⌝ }
+    ensures { λ r. ⌜ r ≡ besideSlots registers (now (around .entry)) s registers ⌝ }
+{
+    let mut m: Mask = 0;
+    let mut h: usize = 0;
+    while h < REGISTERS {
+        m = m | flag(around[REGISTERS * s + h], h);
+        h = h + 1;
+    }
+    m
+}
+
+// The slots of the seed and those that have one of them above. Two passes a turn: a single one is seldom enough.
+fn reached(up: &[Mask; REGISTERS], seed: Mask) -> Mask
+    ensures { λ r. ⌜ r ≡ raisedOf registers (now (up .entry)) seed ⌝ }
+{
+    let mut s = seed | below(up, seed);
+    let mut t = s | below(up, s);
+    while t != s {
+        s = t | below(up, t);
+        t = s | below(up, s);
+    }
+    s
+}
+
+// The slots whose registers get a mark as slot s loses its last: those below a result that has s as an argument or that s holds, and those below
+// `more`; s itself too, which has no register then, or one that gets a new value.
+fn lost(around: &[Mask; PAIRS], s: usize, more: Mask) -> Mask
+    requires { ⌜ s < registers ⌝ }
+    ensures { λ r. ⌜ r ≡ lostSlots registers (now (around .entry)) s more ⌝ }
+{
+    let up = above(around);
+    let seed = (single(s) | beside(around, s)) | more;
+    reached(&up, seed)
 }
 
 // Gives a mark to the registers whose slot is in the mask.
@@ -143,21 +200,25 @@ fn drop_slot(
     unequal: &mut [Mask; REGISTERS],
     result: &mut [Mask; RESULTS],
     ever: &mut [Mask; LINES],
+    around: &mut [Mask; PAIRS],
     mark: &mut [bool; REGISTERS],
     s: usize,
     more: Mask,
 )
     requires { ⌜ (s < registers) × Low registers (now slot)
-        × Tabled registers functions (now unequal) (now result) (now ever) × (length (now mark) ≡ registers) ⌝ }
+        × Tabled registers functions (now unequal) (now result) (now ever) × (length (now mark) ≡ registers)
+        × Around registers functions (now result) (now around) ⌝ }
     ensures { λ _. ⌜ ((g : List ℕ) (i : Bool) →
         slotsOf (now (slot .entry)) g (now (unequal .exit)) (now (result .exit)) (now (ever .exit)) (now (mark .exit)) i ≡ droppedSlots registers functions
         (slotsOf (now (slot .entry)) g (now (unequal .entry)) (now (result .entry)) (now (ever .entry)) (now (mark .entry)) i) s more) ⌝ }
     ensures long { λ _. ⌜ Tabled registers functions (now (unequal .exit)) (now (result .exit)) (now (ever .exit)) × (length (now (mark .exit)) ≡ registers) ⌝ }
+    ensures around { λ _. ⌜ Around registers functions (now (result .exit)) (now (around .exit)) ⌝ }
 {
-    mark_slots(slot, mark, lost(result, s, more));
+    mark_slots(slot, mark, lost(around, s, more));
     forget_masks(unequal, s);
     drop_results(result, s);
     forget_masks(ever, s);
+    drop_results(around, s);
 }
 
 // The same, if the slot is empty.
@@ -166,19 +227,22 @@ fn leave_slot(
     unequal: &mut [Mask; REGISTERS],
     result: &mut [Mask; RESULTS],
     ever: &mut [Mask; LINES],
+    around: &mut [Mask; PAIRS],
     mark: &mut [bool; REGISTERS],
     s: usize,
     empty: bool,
 )
     requires { ⌜ (s < registers) × Low registers (now slot)
-        × Tabled registers functions (now unequal) (now result) (now ever) × (length (now mark) ≡ registers) ⌝ }
+        × Tabled registers functions (now unequal) (now result) (now ever) × (length (now mark) ≡ registers)
+        × Around registers functions (now result) (now around) ⌝ }
     ensures { λ _. ⌜ ((g : List ℕ) (i : Bool) →
         slotsOf (now (slot .entry)) g (now (unequal .exit)) (now (result .exit)) (now (ever .exit)) (now (mark .exit)) i ≡ leftSlots registers functions
         (slotsOf (now (slot .entry)) g (now (unequal .entry)) (now (result .entry)) (now (ever .entry)) (now (mark .entry)) i) s empty) ⌝ }
     ensures long { λ _. ⌜ Tabled registers functions (now (unequal .exit)) (now (result .exit)) (now (ever .exit)) × (length (now (mark .exit)) ≡ registers) ⌝ }
+    ensures around { λ _. ⌜ Around registers functions (now (result .exit)) (now (around .exit)) ⌝ }
 {
     if empty {
-        drop_slot(slot, unequal, result, ever, mark, s, 0);
+        drop_slot(slot, unequal, result, ever, around, mark, s, 0);
         return;
     }
 }
@@ -192,17 +256,20 @@ fn copy_slots(
     unequal: &mut [Mask; REGISTERS],
     result: &mut [Mask; RESULTS],
     ever: &mut [Mask; LINES],
+    around: &mut [Mask; PAIRS],
     mark: &mut [bool; REGISTERS],
     x: usize,
     y: usize,
 )
-    requires { ⌜ (x < registers) × (y < registers) × Laid registers functions (now slot) (now regs) (now unequal) (now result) (now ever) (now mark) ⌝ }
+    requires { ⌜ (x < registers) × (y < registers) × Laid registers functions (now slot) (now regs) (now unequal) (now result) (now ever) (now mark)
+        × Around registers functions (now result) (now around) ⌝ }
     ensures { λ _. ⌜ ((i : Bool) →
         slotsOf (now (slot .exit)) (now (regs .exit)) (now (unequal .exit)) (now (result .exit)) (now (ever .exit)) (now (mark .exit)) i
         ≡ copiedSlots registers functions
         (slotsOf (now (slot .entry)) (now (regs .entry)) (now (unequal .entry)) (now (result .entry)) (now (ever .entry)) (now (mark .entry)) i) x y) ⌝ }
     ensures laid { λ _. ⌜ Laid registers functions (now (slot .exit)) (now (regs .exit)) (now (unequal .exit)) (now (result .exit)) (now (ever .exit))
         (now (mark .exit)) ⌝ }
+    ensures around { λ _. ⌜ Around registers functions (now (result .exit)) (now (around .exit)) ⌝ }
 {
     let s = slot_of(slot, x);
     let t = slot_of(slot, y);
@@ -211,7 +278,7 @@ fn copy_slots(
     }
     let empty = regs[s] == single(x);
     move_register(slot, regs, x, t);
-    leave_slot(slot, unequal, result, ever, mark, s, empty);
+    leave_slot(slot, unequal, result, ever, around, mark, s, empty);
     let own = mark[y];
     mark[x] = own;
 }
@@ -233,22 +300,29 @@ fn arguments(s: usize, a: usize, b: usize) -> Mask
 fn hold_result(
     result: &mut [Mask; RESULTS],
     ever: &mut [Mask; LINES],
+    around: &mut [Mask; PAIRS],
     f: usize,
     a: usize,
     b: usize,
     n: usize,
 )
-    requires { ⌜ (f < functions) × (a < registers) × (b < registers) × (n < registers) × (length (now result) ≡ results) × (length (now ever) ≡ lines) ⌝ }
+    requires { ⌜ (f < functions) × (a < registers) × (b < registers) × (n < registers) × (length (now result) ≡ results) × (length (now ever) ≡ lines)
+        × (length (now around) ≡ pairs) ⌝ }
     ensures { λ _. ⌜ now (result .exit) ≡ resultRecorded registers f a b n (now (result .entry)) ⌝ }
     ensures ever { λ _. ⌜ now (ever .exit) ≡ everRecorded registers f a b n (now (ever .entry)) ⌝ }
+    ensures around { λ _. ⌜ now (around .exit) ≡ pairRecorded registers a b n (now (around .entry)) ⌝ }
 {
     if (a == n) | (b == n) {
         return;
     }
     let line = REGISTERS * f + a;
     let place = REGISTERS * line + b;
+    let pair = REGISTERS * a + b;
+    let turned = REGISTERS * b + a;
     result[place] = result[place] | single(n);
     ever[line] = ever[line] | single(b);
+    around[pair] = around[pair] | single(n);
+    around[turned] = around[turned] | single(n);
 }
 
 // Register x, alone in its slot, gets the value of f at slots a and b.
@@ -257,6 +331,7 @@ fn renew(
     unequal: &mut [Mask; REGISTERS],
     result: &mut [Mask; RESULTS],
     ever: &mut [Mask; LINES],
+    around: &mut [Mask; PAIRS],
     mark: &mut [bool; REGISTERS],
     x: usize,
     f: usize,
@@ -264,15 +339,18 @@ fn renew(
     b: usize,
 )
     requires { ⌜ (x < registers) × (f < functions) × (a < registers) × (b < registers) × Low registers (now slot)
-        × Tabled registers functions (now unequal) (now result) (now ever) × (length (now mark) ≡ registers) ⌝ }
+        × Tabled registers functions (now unequal) (now result) (now ever) × (length (now mark) ≡ registers)
+        × Around registers functions (now result) (now around) ⌝ }
     ensures { λ _. ⌜ ((g : List ℕ) (i : Bool) →
         slotsOf (now (slot .entry)) g (now (unequal .exit)) (now (result .exit)) (now (ever .exit)) (now (mark .exit)) i ≡ renewedSlots registers functions
         (slotsOf (now (slot .entry)) g (now (unequal .entry)) (now (result .entry)) (now (ever .entry)) (now (mark .entry)) i) x f a b) ⌝ }
     ensures long { λ _. ⌜ Tabled registers functions (now (unequal .exit)) (now (result .exit)) (now (ever .exit)) × (length (now (mark .exit)) ≡ registers) ⌝ }
+    ensures around { λ _. ⌜ Around registers functions (now (result .exit)) (now (around .exit)) ⌝ }
 {
     let s = slot_of(slot, x);
-    drop_slot(slot, unequal, result, ever, mark, s, arguments(s, a, b));
-    hold_result(result, ever, f, a, b, s);
+    let more = arguments(s, a, b);
+    drop_slot(slot, unequal, result, ever, around, mark, s, more);
+    hold_result(result, ever, around, f, a, b, s);
     mark[x] = false;
 }
 
@@ -282,6 +360,7 @@ fn freshen(
     regs: &mut [Mask; REGISTERS],
     result: &mut [Mask; RESULTS],
     ever: &mut [Mask; LINES],
+    around: &mut [Mask; PAIRS],
     mark: &mut [bool; REGISTERS],
     x: usize,
     f: usize,
@@ -290,17 +369,19 @@ fn freshen(
 )
     requires { ⌜ (x < registers) × (f < functions) × (a < registers) × (b < registers)
         × Low registers (now slot) × (length (now regs) ≡ registers) × (length (now result) ≡ results)
-        × (length (now ever) ≡ lines) × (length (now mark) ≡ registers) ⌝ }
+        × (length (now ever) ≡ lines) × (length (now mark) ≡ registers)
+        × Around registers functions (now result) (now around) ⌝ }
     ensures { λ _. ⌜ ((u : List ℕ) (i : Bool) → slotsOf (now (slot .exit)) (now (regs .exit)) u (now (result .exit)) (now (ever .exit)) (now (mark .exit)) i
         ≡ freshenedSlots registers functions
         (slotsOf (now (slot .entry)) (now (regs .entry)) u (now (result .entry)) (now (ever .entry)) (now (mark .entry)) i) x f a b) ⌝ }
     ensures laid { λ _. ⌜ ((u : List ℕ) → length u ≡ registers → Laid registers functions (now (slot .exit)) (now (regs .exit)) u (now (result .exit))
         (now (ever .exit)) (now (mark .exit))) ⌝ }
+    ensures around { λ _. ⌜ Around registers functions (now (result .exit)) (now (around .exit)) ⌝ }
 {
     let n = free_slot(regs);
     if n < REGISTERS {
         move_register(slot, regs, x, n);
-        hold_result(result, ever, f, a, b, n);
+        hold_result(result, ever, around, f, a, b, n);
         mark[x] = false;
         return;
     }
@@ -313,6 +394,7 @@ fn new_value(
     unequal: &mut [Mask; REGISTERS],
     result: &mut [Mask; RESULTS],
     ever: &mut [Mask; LINES],
+    around: &mut [Mask; PAIRS],
     mark: &mut [bool; REGISTERS],
     x: usize,
     f: usize,
@@ -320,19 +402,21 @@ fn new_value(
     b: usize,
 )
     requires { ⌜ (x < registers) × (f < functions) × (a < registers) × (b < registers)
-        × Laid registers functions (now slot) (now regs) (now unequal) (now result) (now ever) (now mark) ⌝ }
+        × Laid registers functions (now slot) (now regs) (now unequal) (now result) (now ever) (now mark)
+        × Around registers functions (now result) (now around) ⌝ }
     ensures { λ _. ⌜ ((i : Bool) →
         slotsOf (now (slot .exit)) (now (regs .exit)) (now (unequal .exit)) (now (result .exit)) (now (ever .exit)) (now (mark .exit)) i
         ≡ newSlots registers functions
         (slotsOf (now (slot .entry)) (now (regs .entry)) (now (unequal .entry)) (now (result .entry)) (now (ever .entry)) (now (mark .entry)) i) x f a b) ⌝ }
     ensures laid { λ _. ⌜ Laid registers functions (now (slot .exit)) (now (regs .exit)) (now (unequal .exit)) (now (result .exit)) (now (ever .exit))
         (now (mark .exit)) ⌝ }
+    ensures around { λ _. ⌜ Around registers functions (now (result .exit)) (now (around .exit)) ⌝ }
 {
     if regs[slot_of(slot, x)] == single(x) {
-        renew(slot, unequal, result, ever, mark, x, f, a, b);
+        renew(slot, unequal, result, ever, around, mark, x, f, a, b);
         return;
     }
-    freshen(slot, regs, result, ever, mark, x, f, a, b);
+    freshen(slot, regs, result, ever, around, mark, x, f, a, b);
 }
 
 // The slots after x := f(y, z).
@@ -342,6 +426,7 @@ fn apply_slots(
     unequal: &mut [Mask; REGISTERS],
     result: &mut [Mask; RESULTS],
     ever: &mut [Mask; LINES],
+    around: &mut [Mask; PAIRS],
     mark: &mut [bool; REGISTERS],
     x: usize,
     f: usize,
@@ -349,22 +434,24 @@ fn apply_slots(
     z: usize,
 )
     requires { ⌜ (x < registers) × (f < functions) × (y < registers) × (z < registers)
-        × Laid registers functions (now slot) (now regs) (now unequal) (now result) (now ever) (now mark) ⌝ }
+        × Laid registers functions (now slot) (now regs) (now unequal) (now result) (now ever) (now mark)
+        × Around registers functions (now result) (now around) ⌝ }
     ensures { λ _. ⌜ ((i : Bool) →
         slotsOf (now (slot .exit)) (now (regs .exit)) (now (unequal .exit)) (now (result .exit)) (now (ever .exit)) (now (mark .exit)) i
         ≡ applySlots registers functions
         (slotsOf (now (slot .entry)) (now (regs .entry)) (now (unequal .entry)) (now (result .entry)) (now (ever .entry)) (now (mark .entry)) i) x f y z) ⌝ }
     ensures laid { λ _. ⌜ Laid registers functions (now (slot .exit)) (now (regs .exit)) (now (unequal .exit)) (now (result .exit)) (now (ever .exit))
         (now (mark .exit)) ⌝ }
+    ensures around { λ _. ⌜ Around registers functions (now (result .exit)) (now (around .exit)) ⌝ }
 {
     let a = slot_of(slot, y);
     let b = slot_of(slot, z);
     let r = register_in(regs, result[REGISTERS * (REGISTERS * f + a) + b]);
     if r < REGISTERS {
-        copy_slots(slot, regs, unequal, result, ever, mark, x, r);
+        copy_slots(slot, regs, unequal, result, ever, around, mark, x, r);
         return;
     }
-    new_value(slot, regs, unequal, result, ever, mark, x, f, a, b);
+    new_value(slot, regs, unequal, result, ever, around, mark, x, f, a, b);
 }
 
 // ---- an equal test
@@ -376,7 +463,7 @@ fn renamed(s: u8, a: u8, b: u8) -> u8
     if s == b { a } else { s }
 }
 
-// Slot b is called a: in the slots of the registers, in a table of masks, and in the table of results.
+// Slot b is called a: in the slots of the registers, in a table of masks, and in a table of results.
 fn rename_slot(slot: &mut [u8; REGISTERS], a: usize, b: usize)
     requires { ⌜ (a < registers) × (b < registers) × (length (now slot) ≡ registers) ⌝ }
     ensures { λ _. ⌜ now (slot .exit) ≡ slotRenamed registers a b (now (slot .entry)) ⌝ }
@@ -399,14 +486,25 @@ fn rename_masks(t: &mut [Mask], a: usize, b: usize)
     forget_masks(t, b);
 }
 
-fn rename_results(result: &mut [Mask; RESULTS], a: usize, b: usize)
-    requires { ⌜ (a < registers) × (b < registers) × (length (now result) ≡ results) ⌝ }
-    ensures { λ _. ⌜ now (result .exit) ≡ resultsRenamed registers a b (now (result .entry)) ⌝ }
+fn rename_results(t: &mut [Mask; RESULTS], a: usize, b: usize)
+    requires { ⌜ (a < registers) × (b < registers) × (length (now t) ≡ results) ⌝ }
+    ensures { λ _. ⌜ now (t .exit) ≡ resultsRenamed registers a b (now (t .entry)) ⌝ }
 {
-    unite_column(result, a, a, b);
-    unite_row(result, a, a, b);
-    move_bits(result, single(a) | single(b), single(a));
-    drop_results(result, b);
+    unite_column(t, a, a, b);
+    unite_row(t, a, a, b);
+    move_bits(t, single(a) | single(b), single(a));
+    drop_results(t, b);
+}
+
+// The same where an entry stands for a pair of slots; a function of its own, so that the compiler lays it out for the shorter table.
+fn rename_pairs(t: &mut [Mask; PAIRS], a: usize, b: usize)
+    requires { ⌜ (a < registers) × (b < registers) × (length (now t) ≡ pairs) ⌝ }
+    ensures { λ _. ⌜ now (t .exit) ≡ resultsRenamed registers a b (now (t .entry)) ⌝ }
+{
+    unite_column(t, a, a, b);
+    unite_row(t, a, a, b);
+    move_bits(t, single(a) | single(b), single(a));
+    drop_results(t, b);
 }
 
 // The registers of slot b go to slot a.
@@ -416,16 +514,19 @@ fn merge_slots(
     unequal: &mut [Mask; REGISTERS],
     result: &mut [Mask; RESULTS],
     ever: &mut [Mask; LINES],
+    around: &mut [Mask; PAIRS],
     a: usize,
     b: usize,
 )
     requires { ⌜ (a < registers) × (b < registers) × Low registers (now slot) × (length (now regs) ≡ registers)
-        × Tabled registers functions (now unequal) (now result) (now ever) ⌝ }
+        × Tabled registers functions (now unequal) (now result) (now ever)
+        × Around registers functions (now result) (now around) ⌝ }
     ensures { λ _. ⌜ ((m : List Bool) (i : Bool) →
         slotsOf (now (slot .exit)) (now (regs .exit)) (now (unequal .exit)) (now (result .exit)) (now (ever .exit)) m i ≡ mergedSlots registers functions
         (slotsOf (now (slot .entry)) (now (regs .entry)) (now (unequal .entry)) (now (result .entry)) (now (ever .entry)) m i) a b) ⌝ }
     ensures long { λ _. ⌜ Low registers (now (slot .exit)) × (length (now (regs .exit)) ≡ registers)
         × Tabled registers functions (now (unequal .exit)) (now (result .exit)) (now (ever .exit)) ⌝ }
+    ensures around { λ _. ⌜ Around registers functions (now (result .exit)) (now (around .exit)) ⌝ }
 {
     regs[a] = regs[a] | regs[b];
     regs[b] = 0;
@@ -433,6 +534,7 @@ fn merge_slots(
     rename_masks(unequal, a, b);
     rename_results(result, a, b);
     rename_masks(ever, a, b);
+    rename_pairs(around, a, b);
 }
 
 // Whether the mask has two slots or more.
@@ -519,14 +621,17 @@ fn close_slots(
     unequal: &mut [Mask; REGISTERS],
     result: &mut [Mask; RESULTS],
     ever: &mut [Mask; LINES],
+    around: &mut [Mask; PAIRS],
 )
-    requires { ⌜ Low registers (now slot) × (length (now regs) ≡ registers) × Tabled registers functions (now unequal) (now result) (now ever) ⌝ }
+    requires { ⌜ Low registers (now slot) × (length (now regs) ≡ registers) × Tabled registers functions (now unequal) (now result) (now ever)
+        × Around registers functions (now result) (now around) ⌝ }
     ensures { λ _. ⌜ ((m : List Bool) (i : Bool) →
         slotsOf (now (slot .exit)) (now (regs .exit)) (now (unequal .exit)) (now (result .exit))
         (now (ever .exit)) m i ≡ closedSlots registers functions (pairs + 1) (slotsOf (now (slot .entry)) (now (regs .entry)) (now (unequal .entry))
         (now (result .entry)) (now (ever .entry)) m i)) ⌝ }
     ensures long { λ _. ⌜ Low registers (now (slot .exit)) × (length (now (regs .exit)) ≡ registers)
         × Tabled registers functions (now (unequal .exit)) (now (result .exit)) (now (ever .exit)) ⌝ }
+    ensures around { λ _. ⌜ Around registers functions (now (result .exit)) (now (around .exit)) ⌝ }
 {
     let mut fuel: usize = PAIRS + 1;
     while fuel > 0 {
@@ -544,7 +649,7 @@ fn close_slots(
         }
         let a = slot_of(slot, one);
         let b = slot_of(slot, two);
-        merge_slots(slot, regs, unequal, result, ever, a, b);
+        merge_slots(slot, regs, unequal, result, ever, around, a, b);
         fuel = fuel - 1;
     }
 }
@@ -582,25 +687,28 @@ fn equal_slots(
     unequal: &mut [Mask; REGISTERS],
     result: &mut [Mask; RESULTS],
     ever: &mut [Mask; LINES],
+    around: &mut [Mask; PAIRS],
     infeasible: bool,
     x: usize,
     y: usize,
 ) -> bool
     requires { ⌜ (x < registers) × (y < registers) × Low registers (now slot) × (length (now regs) ≡ registers)
-        × Tabled registers functions (now unequal) (now result) (now ever) ⌝ }
+        × Tabled registers functions (now unequal) (now result) (now ever)
+        × Around registers functions (now result) (now around) ⌝ }
     ensures { λ v. ⌜ ((m : List Bool) → slotsOf (now (slot .exit)) (now (regs .exit)) (now (unequal .exit)) (now (result .exit)) (now (ever .exit)) m v
         ≡ equalSlots registers functions
         (slotsOf (now (slot .entry)) (now (regs .entry)) (now (unequal .entry)) (now (result .entry)) (now (ever .entry)) m infeasible) x y) ⌝ }
     ensures long { λ _. ⌜ Low registers (now (slot .exit)) × (length (now (regs .exit)) ≡ registers)
         × Tabled registers functions (now (unequal .exit)) (now (result .exit)) (now (ever .exit)) ⌝ }
+    ensures around { λ _. ⌜ Around registers functions (now (result .exit)) (now (around .exit)) ⌝ }
 {
     let a = slot_of(slot, x);
     let b = slot_of(slot, y);
     if a == b {
         return infeasible;
     }
-    merge_slots(slot, regs, unequal, result, ever, a, b);
-    close_slots(slot, regs, unequal, result, ever);
+    merge_slots(slot, regs, unequal, result, ever, around, a, b);
+    close_slots(slot, regs, unequal, result, ever, around);
     let bad = clash(unequal);
     settle(unequal, infeasible, bad)
 }
@@ -713,17 +821,20 @@ pub fn perform_slots(
     unequal: &mut [Mask; REGISTERS],
     result: &mut [Mask; RESULTS],
     ever: &mut [Mask; LINES],
+    around: &mut [Mask; PAIRS],
     mark: &mut [bool; REGISTERS],
     infeasible: bool,
     letter: Letter,
 ) -> bool
-    requires { ⌜ Within letter × Laid registers functions (now slot) (now regs) (now unequal) (now result) (now ever) (now mark) ⌝ }
+    requires { ⌜ Within letter × Laid registers functions (now slot) (now regs) (now unequal) (now result) (now ever) (now mark)
+        × Around registers functions (now result) (now around) ⌝ }
     ensures { λ v. ⌜ slotsOf (now (slot .exit)) (now (regs .exit)) (now (unequal .exit)) (now (result .exit)) (now (ever .exit)) (now (mark .exit)) v
         ≡ performSlots registers functions
         (slotsOf (now (slot .entry)) (now (regs .entry)) (now (unequal .entry)) (now (result .entry)) (now (ever .entry))
         (now (mark .entry)) infeasible) letter ⌝ }
     ensures laid { λ _. ⌜ Laid registers functions (now (slot .exit)) (now (regs .exit)) (now (unequal .exit)) (now (result .exit)) (now (ever .exit))
         (now (mark .exit)) ⌝ }
+    ensures around { λ _. ⌜ Around registers functions (now (result .exit)) (now (around .exit)) ⌝ }
 {
     match letter {
         Letter::Copy { target, source } => {
@@ -733,6 +844,7 @@ pub fn perform_slots(
                 unequal,
                 result,
                 ever,
+                around,
                 mark,
                 target as usize,
                 source as usize,
@@ -751,6 +863,7 @@ pub fn perform_slots(
                 unequal,
                 result,
                 ever,
+                around,
                 mark,
                 target as usize,
                 function as usize,
@@ -765,6 +878,7 @@ pub fn perform_slots(
             unequal,
             result,
             ever,
+            around,
             infeasible,
             first as usize,
             second as usize,
@@ -974,6 +1088,20 @@ pub fn to_slots(
     keep(result, lowest, 1);
     keep(result, lowest, REGISTERS);
     keep(ever, lowest, 1);
+}
+
+/// For each pair of slots, the slots that hold a result of some function at the two, in either order.
+pub fn pair_up(result: &[Mask; RESULTS]) -> [Mask; PAIRS]
+    ensures { λ r. ⌜ Around registers functions (now (result .entry)) r ⌝ }
+{
+    let mut next: [Mask; PAIRS] = [0; PAIRS];
+    let mut i: usize = 0;
+    while i < PAIRS {
+        let turned = REGISTERS * (i % REGISTERS) + i / REGISTERS;
+        next[i] = results_at(result, i) | results_at(result, turned);
+        i = i + 1;
+    }
+    next
 }
 
 // ---- whether slots are those of a window

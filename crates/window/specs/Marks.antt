@@ -16,7 +16,7 @@ use Rattle.base.specs.Masks.{has}
 use Rattle.semantics.specs.Booleans.{and-l, and-r, and-i}
 use Rattle.window.specs.Places.{place, Function, First, Second, place-sum, place-is, first-place, second-place, place-below, function-below, first-below, second-below, entry-below}
 use Rattle.window.specs.Table.{table, table-at}
-use Rattle.window.specs.Bits.{nonempty, nonempty-is, or-is, has-and, single-is, none-in, same-iff, or-ge, or-small, pow-small, none-small, truth, no-truth}
+use Rattle.window.specs.Bits.{nonempty, nonempty-is, or-is, has-and, single-is, none-in, same-iff, or-ge, or-small, pow-small, none-small, truth, no-truth, less-or}
 
 -- ---- definitions, as the loops compute them
 
@@ -127,7 +127,7 @@ module _ (ρ : ℕ) where
   below-small up s zero h = none-small ρ
   below-small up s (suc k) h = or-small ρ (belowOf up s k) (flagOf (bitAnd (getD up k 0) s) k) (below-small up s k (omega arith)) (flag-small (bitAnd (getD up k 0) s) k (omega arith))
 
-  beside-small : (t : List ℕ) (x k : ℕ) → k ≤ ρ → besideOf t x k < 2 ^ ρ
+  pub beside-small : (t : List ℕ) (x k : ℕ) → k ≤ ρ → besideOf t x k < 2 ^ ρ
   unfolding besideOf
   beside-small t x zero h = none-small ρ
   beside-small t x (suc k) h =
@@ -140,6 +140,15 @@ module _ (ρ : ℕ) where
 
   next-small : (up : List ℕ) (s : ℕ) → s < 2 ^ ρ → bitOr s (belowOf up s ρ) < 2 ^ ρ
   next-small up s b = or-small ρ s (belowOf up s ρ) b (below-small up s ρ (omega arith))
+
+  passes-small : (up : List ℕ) (n s : ℕ) → s < 2 ^ ρ → passes up n s < 2 ^ ρ
+  unfolding passes
+  passes-small up zero s b = b
+  passes-small up (suc n) s b = passes-small up n (next up s) (next-small up s b)
+
+  pub raised-small : (up : List ℕ) (seed : ℕ) → seed < 2 ^ ρ → raisedOf up seed < 2 ^ ρ
+  unfolding raisedOf
+  raised-small up seed b = passes-small up (2 ^ ρ) seed b
 
   passes-still : (up : List ℕ) (s : ℕ) → next up s ≡ s → (n : ℕ) → passes up n s ≡ s
   unfolding passes
@@ -182,6 +191,49 @@ module _ (ρ : ℕ) where
   rising-all up seed s t r e =
       let k : r .turns + (2 ^ ρ - r .turns) ≡ 2 ^ ρ = omega (arith, r .few, r .small) in
       sym (ap (λ n. passes up n seed) (sym k) ∙ r .left (2 ^ ρ - r .turns) ∙ passes-still up s (sym (r .more) ∙ e) (2 ^ ρ - r .turns))
+
+  -- ---- the same with two passes a turn
+
+  passes-add : (up : List ℕ) (m n s : ℕ) → passes up (m + n) s ≡ passes up n (passes up m s)
+  unfolding passes
+  passes-add up zero n s = let e : zero + n ≡ n = omega arith in ap (λ k. passes up k s) e
+  passes-add up (suc m) n s = ap (λ k. passes up k s) (suc-add m n) ∙ passes-add up m n (next up s)
+
+  -- s is the seed after some passes, and one more gives t
+  pub record Reaching (up : List ℕ) (seed s t : ℕ) : Type 0 where
+    pub turns : ℕ
+    pub start : seed < 2 ^ ρ
+    pub here : s ≡ passes up turns seed
+    pub more : t ≡ bitOr s (belowOf up s ρ)
+
+  pub reaching-none : (up : List ℕ) (seed v w : ℕ) → seed < 2 ^ ρ → v ≡ belowOf up seed ρ → w ≡ belowOf up (bitOr seed v) ρ → Reaching up seed (bitOr seed v) (bitOr (bitOr seed v) w)
+  unfolding passes
+  reaching-none up seed v w b e d = record { turns = 1; start = b; here = ap (bitOr seed) e; more = ap (bitOr (bitOr seed v)) d }
+
+  pub reaching-more : (up : List ℕ) (seed s t v w : ℕ) → Reaching up seed s t → v ≡ belowOf up t ρ → w ≡ belowOf up (bitOr t v) ρ → Reaching up seed (bitOr t v) (bitOr (bitOr t v) w)
+  unfolding passes
+  reaching-more up seed s t v w r e d = record {
+    turns = r .turns + 2;
+    start = r .start;
+    here = ap (bitOr t) e ∙ ap (next up) (r .more ∙ ap (next up) (r .here)) ∙ sym (passes-add up (r .turns) 2 seed);
+    more = ap (bitOr (bitOr t v)) d;
+  }
+
+  pub reaching-small : (up : List ℕ) (seed s t : ℕ) → Reaching up seed s t → s < 2 ^ ρ
+  reaching-small up seed s t r = subst (λ k. k < 2 ^ ρ) (sym (r .here)) (passes-small up (r .turns) seed (r .start))
+
+  pub reaching-grows : (up : List ℕ) (seed s t v : ℕ) → Reaching up seed s t → t ≢ s → s < bitOr t v
+  reaching-grows up seed s t v r d = let l = or-ge s (belowOf up s ρ) in let m = r .more in let k = or-ge t v in omega arith
+
+  pub reaching-all : (up : List ℕ) (seed s t : ℕ) → Reaching up seed s t → t ≡ s → s ≡ raisedOf up seed
+  unfolding raisedOf
+  reaching-all up seed s t r e =
+      let closed : next up s ≡ s = sym (r .more) ∙ e in
+      let N = 2 ^ ρ in
+      ⊎-elim
+      (λ l. let k : 2 ^ ρ ≡ r .turns + (2 ^ ρ - r .turns) = omega arith in sym (ap (λ n. passes up n seed) k ∙ passes-add up (r .turns) (N - r .turns) seed ∙ ap (passes up (N - r .turns)) (sym (r .here)) ∙ passes-still up s closed (N - r .turns)))
+      (λ l. let k : r .turns ≡ 2 ^ ρ + (r .turns - 2 ^ ρ) = omega arith in r .here ∙ ap (λ n. passes up n seed) k ∙ passes-add up N (r .turns - N) seed ∙ passes-still up (passes up N seed) (passes-ended up N seed (r .start) (omega arith)) (r .turns - N))
+      (less-or (r .turns) N)
 
   -- ---- what the definitions say
 
@@ -392,6 +444,10 @@ module _ (ρ φ : ℕ) (l : List ℕ) (x more : ℕ) (xb : x < ρ) (mb : more < 
       let S = besideOf ρ (foldedOf ρ φ l) x ρ in
       let G = flagOf ρ (getD (aboveOf ρ (foldedOf ρ φ l)) x 0) x in
       or-small ρ (bitOr (bitOr B S) G) more (or-small ρ (bitOr B S) G (or-small ρ B S (below-small ρ (aboveOf ρ (foldedOf ρ φ l)) (2 ^ x) ρ (omega arith)) (beside-small ρ (foldedOf ρ φ l) x ρ (omega arith))) (flag-small ρ (getD (aboveOf ρ (foldedOf ρ φ l)) x 0) x xb)) mb
+
+  pub lost-small : lostOf ρ φ l x more < 2 ^ ρ
+  unfolding lostOf
+  lost-small = raised-small ρ (aboveOf ρ (foldedOf ρ φ l)) _ seed-small
 
   -- the registers that get a mark are those beneath the lost class
   pub lost-beneath : (h : ℕ) → T (has (lostOf ρ φ l x more) h) ↔ Beneath ρ φ l x more h

@@ -3,14 +3,14 @@ use mathlib.Core.Path.{_≡_, sym, ap, _∙_, subst, fun-ext}
 use mathlib.Core.Bool.{true, false}
 use Prim.Native.Nat.{ℕ, _+_, _*_, _/_, _%_, _^_, _≤_, _<_}
 use native.Mathlib.Omega.{arith}
-use native.Mathlib.Nat.{mod-lt, mul-comm, mul-mod-left}
+use native.Mathlib.Nat.{mod-lt, mul-comm, mul-assoc, mul-mod-left}
 use mathlib.Core.List.{List}
 use lib.Dec.{eqb}
 use lib.Bits.{bitOr, or-self}
 use lib.ListN.{length, getD, set}
 use borrow.Author.Tests.{lt-ltb}
 use Rattle.base.specs.Masks.{has}
-use Rattle.window.specs.Places.{some, entry-is, entry-below, line-below, place-sum, place-below, function-below, second-below}
+use Rattle.window.specs.Places.{some, entry-is, line-entry, entry-below, line-below, place-sum, place-below, function-below, second-below}
 use Rattle.window.specs.Table.{table, table-length, table-at, Swept, swept-more}
 use Rattle.window.specs.Lines.{Lines, columns, rows, Spans, united, united-length, united-turn, united-none, united-same, united-twice}
 use Rattle.window.specs.Bits.{movedOf, single-test, until, until-none, until-more, until-skip}
@@ -64,6 +64,20 @@ rows-span ρ φ l e = record {
   inside = λ j d h g. subst (λ z. rows ρ .entry j d < z) (sym e) (subst (λ z. z < φ * ρ * ρ) (sym (place-sum ρ (j / ρ) d (j % ρ))) (place-below ρ (j / ρ) d (j % ρ) g (mod-lt j (some ρ φ j h)) φ (line-below ρ φ j h)));
   reached = λ i h. let b = subst (λ z. i < z) e h in entry-below ρ φ (i / (ρ * ρ)) (i % ρ) (function-below ρ φ i b) (second-below ρ φ i b);
 }
+
+-- the same of any number of functions
+pub rows-whole : (ρ : ℕ) → 0 < ρ → (l : List ℕ) (n : ℕ) → length l % (ρ * ρ) ≡ 0 → n ≡ length l / ρ → Spans (rows ρ) n l
+rows-whole ρ p l n e k = subst (λ z. Spans (rows ρ) z l) (sym (k ∙ lines)) (rows-span ρ (length l / (ρ * ρ)) l (long ∙ mul-comm ρ (length l / (ρ * ρ) * ρ)))
+  where
+    long : length l ≡ ρ * (length l / (ρ * ρ) * ρ)
+    long = let q = length l / (ρ * ρ) in
+        let c = mul-assoc q ρ ρ ∙ mul-comm q (ρ * ρ) in
+        let d = mul-comm ρ (q * ρ) in
+        let f = entry-is (ρ * ρ) (length l) in
+        omega arith
+
+    lines : length l / ρ ≡ length l / (ρ * ρ) * ρ
+    lines = ap (λ z. z / ρ) (long ∙ omega arith) ∙ line-entry ρ (length l / (ρ * ρ) * ρ) 0 p
 
 pub whole : (ρ n : ℕ) (l : List ℕ) → length l ≡ n * ρ → length l % ρ ≡ 0
 whole ρ n l e = ap (λ z. z % ρ) e ∙ mul-mod-left n ρ

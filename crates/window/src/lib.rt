@@ -111,13 +111,14 @@ pub fn unite_column(t: &mut [Mask], r: usize, a: usize, b: usize)
     }
 }
 
-/// The same along the lines by the first argument of the table of results.
+/// The same along the lines by the first argument of a table of results.
 pub fn unite_row(t: &mut [Mask], r: usize, a: usize, b: usize)
-    requires { ⌜ (r < registers) × (a < registers) × (b < registers) × (length (now t) ≡ results) ⌝ }
+    requires { ⌜ (r < registers) × (a < registers) × (b < registers) × (length (now t) % pairs ≡ 0) ⌝ }
     ensures { λ _. ⌜ now (t .exit) ≡ united (rows registers) (λ s. eqb s r) a b (now (t .entry)) ⌝ }
 {
+    let n = t.len() / REGISTERS;
     let mut j: usize = 0;
-    while j < LINES {
+    while j < n {
         let start = PAIRS * (j / REGISTERS);
         t[start + REGISTERS * r + j % REGISTERS] = t[start + REGISTERS * a + j % REGISTERS]
             | t[start + REGISTERS * b + j % REGISTERS];
@@ -138,13 +139,14 @@ pub fn clear_column(t: &mut [Mask], x: usize)
     }
 }
 
-/// The same along the lines by the first argument of the table of results.
+/// The same along the lines by the first argument of a table of results.
 pub fn clear_row(t: &mut [Mask], x: usize)
-    requires { ⌜ (x < registers) × (length (now t) ≡ results) ⌝ }
+    requires { ⌜ (x < registers) × (length (now t) % pairs ≡ 0) ⌝ }
     ensures { λ _. ⌜ now (t .exit) ≡ cleared (rows registers) x (now (t .entry)) ⌝ }
 {
+    let n = t.len() / REGISTERS;
     let mut j: usize = 0;
-    while j < LINES {
+    while j < n {
         t[PAIRS * (j / REGISTERS) + REGISTERS * x + j % REGISTERS] = 0;
         j = j + 1;
     }
@@ -275,6 +277,14 @@ fn renew_results(t: &mut [Mask], x: usize, f: usize, first: Mask, second: Mask)
 
 // ---- marks: what lies above a register by held results
 
+/// The classes that hold a result of any function at the i-th pair of registers.
+pub fn results_at(result: &[Mask; RESULTS], i: usize) -> Mask
+    requires { ⌜ i < pairs ⌝ }
+    ensures { λ r. ⌜ r ≡ unionOf (now (result .entry)) i pairs functions ⌝ }
+{
+    ((result[i] | result[PAIRS + i]) | result[2 * PAIRS + i]) | result[3 * PAIRS + i]
+}
+
 // For each pair of registers, the classes that hold a result of any function at the two.
 fn folded(result: &[Mask; RESULTS]) -> [Mask; PAIRS]
     ensures { λ r. ⌜ r ≡ foldedOf registers functions (now (result .entry)) ⌝ }
@@ -282,14 +292,14 @@ fn folded(result: &[Mask; RESULTS]) -> [Mask; PAIRS]
     let mut next: [Mask; PAIRS] = [0; PAIRS];
     let mut i: usize = 0;
     while i < PAIRS {
-        next[i] = ((result[i] | result[PAIRS + i]) | result[2 * PAIRS + i]) | result[3 * PAIRS + i];
+        next[i] = results_at(result, i);
         i = i + 1;
     }
     next
 }
 
-// The union of an entry for each register, `step` apart.
-fn union(t: &[Mask; PAIRS], start: usize, step: usize) -> Mask
+/// The union of an entry for each register, `step` apart.
+pub fn union(t: &[Mask; PAIRS], start: usize, step: usize) -> Mask
     requires { ⌜ (step ≤ registers) × (start + (registers - 1) * step < pairs) ⌝ }
     ensures { λ r. ⌜ r ≡ unionOf (now (t .entry)) start step registers ⌝ }
 {
@@ -315,8 +325,8 @@ fn above(t: &[Mask; PAIRS]) -> [Mask; REGISTERS]
     next
 }
 
-// The registers that have one of s directly above them.
-fn below(up: &[Mask; REGISTERS], s: Mask) -> Mask
+/// The registers that have one of s directly above them.
+pub fn below(up: &[Mask; REGISTERS], s: Mask) -> Mask
     ensures { λ r. ⌜ r ≡ belowOf registers (now (up .entry)) s registers ⌝ }
 {
     let mut m: Mask = 0;
@@ -328,8 +338,8 @@ fn below(up: &[Mask; REGISTERS], s: Mask) -> Mask
     m
 }
 
-// The mask of register h, empty if `hits` is.
-fn flag(hits: Mask, h: usize) -> Mask
+/// The mask of register h, empty if `hits` is.
+pub fn flag(hits: Mask, h: usize) -> Mask
     requires { ⌜ h < registers ⌝ }
     ensures { λ r. ⌜ r ≡ flagOf registers hits h ⌝ }
 {
@@ -363,9 +373,9 @@ fn raised(up: &[Mask; REGISTERS], seed: Mask) -> Mask
     s
 }
 
-/// The registers that get a mark as x, the last of its class, loses its value: those below a result that has x as an argument or holds it,
-/// and those below `more`.
-pub fn lost(result: &[Mask; RESULTS], x: usize, more: Mask) -> Mask
+// The registers that get a mark as x, the last of its class, loses its value: those below a result that has x as an argument or holds it,
+// and those below `more`.
+fn lost(result: &[Mask; RESULTS], x: usize, more: Mask) -> Mask
     requires { ⌜ x < registers ⌝ }
     ensures { λ r. ⌜ r ≡ lostOf registers functions (now (result .entry)) x more ⌝ }
 {

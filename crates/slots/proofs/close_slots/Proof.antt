@@ -8,30 +8,31 @@ use borrow.Author.Needs.{needs}
 use Rattle.window.specs.Layout.{registers, functions, pairs}
 use Rattle.slots.specs.Slots.{slotsOf, Low, Tabled}
 use Rattle.slots.specs.Performing.{closedSlots}
+use Rattle.slots.specs.Around.{Around}
 use Rattle.slots.specs.Loops.{closed-still, closed-none, closed-one, closed-more, closed-end}
 use Rattle.slots.proofs.close_slots.Statement.{statement}
 use Rattle.slots.proofs.close_slots.Tie as tie
 
 abbrev Inv-loop : tie.InvT-loop
-Inv-loop slot₀ regs₀ unequal₀ result₀ ever₀ fuel₀ slot regs unequal result ever fuel =
+Inv-loop slot₀ regs₀ unequal₀ result₀ ever₀ around₀ fuel₀ slot regs unequal result ever around fuel =
     Low registers slot × (length regs ≡ registers) × Tabled registers functions unequal result ever × ((m : List Bool) (i : Bool)
     → closedSlots registers functions fuel (slotsOf slot regs unequal result ever m i) ≡ closedSlots registers functions (pairs + 1)
-    (slotsOf slot₀ regs₀ unequal₀ result₀ ever₀ m i))
+    (slotsOf slot₀ regs₀ unequal₀ result₀ ever₀ m i)) × Around registers functions result around
 
 abbrev μ-loop : tie.MeasureT-loop
-μ-loop slot₀ regs₀ unequal₀ result₀ ever₀ fuel₀ slot regs unequal result ever fuel = fuel
+μ-loop slot₀ regs₀ unequal₀ result₀ ever₀ around₀ fuel₀ slot regs unequal result ever around fuel = fuel
 
 pub close-slots-spec : {M : Type 1} → statement M
 close-slots-spec = tie.close (tie.spec
     Inv-loop
     μ-loop
     (λ c. search needs)
-    (λ c. (c .pre .0, c .pre .1, c .pre .2, λ m i. refl))
+    (λ c. (c .pre .0, c .pre .1, c .pre .2, (λ m i. refl), c .pre .3))
     (λ c κs. search needs)
     (λ c. let l = c .before .before .before .before .loop in (
       (λ m i. sym (closed-still registers functions _ _ (slotsOf (l .slot) (l .regs) (l .unequal) (l .result) (l .ever) m i)
           (c .before .before .before .loop-test .taken) (c .before .doubled .ensures) (c .if1 .taken)) ∙ l .inv .3 m i),
-      (l .inv .0, l .inv .1, l .inv .2),
+      ((l .inv .0, l .inv .1, l .inv .2), l .inv .4),
     ))
     (λ c κs. c .before .before .before .before .before .before .before .loop .inv .0)
     (λ c κs. search needs)
@@ -41,7 +42,7 @@ close-slots-spec = tie.close (tie.spec
           (k .before .before .loop-test .taken) (c .before .before .before .before .before .before .before .doubled .ensures)
           (c .before .before .before .before .before .before .if1 .left) _ _ (c .before .before .find .ensures) (c .before .name .ensures)
           (c .if2 .taken)) ∙ l .inv .3 m i),
-      (l .inv .0, l .inv .1, l .inv .2),
+      ((l .inv .0, l .inv .1, l .inv .2), l .inv .4),
     ))
     (λ c κs. let k = c .before .before .before .before .before .before .before in
     (c .before .before .if2 .left, k .before .before .before .before .before .loop .inv .0))
@@ -54,7 +55,7 @@ close-slots-spec = tie.close (tie.spec
           (k .before .before .before .before .if1 .left) _ _ (c .before .before .before .before .before .before .before .find .ensures)
           (c .before .before .before .before .before .before .name .ensures) _ _ (c .before .before .rest .ensures) (c .before .name2 .ensures)
           (c .before .before .before .before .before .if2 .left) (c .if3 .taken)) ∙ l .inv .3 m i),
-      (l .inv .0, l .inv .1, l .inv .2),
+      ((l .inv .0, l .inv .1, l .inv .2), l .inv .4),
     ))
     (λ c κs. let k = c .before .before .before .before .before .before .before in
     let h = k .before .before .before .before .before .before .before in
@@ -62,35 +63,21 @@ close-slots-spec = tie.close (tie.spec
     (λ c κs. let k = c .before .before .before .before .before .before .before in
     let h = k .before .before .before .before .before .before .before in
     (c .before .before .before .if3 .left, h .before .before .before .before .loop .inv .0))
-    (λ c κs. let k = c .before .before .before .before .before .before .before in
-    let h = k .before .before .before .before .before .before .before in
-    let l = h .before .before .before .before .before .before .before .before .before .before .loop in
-    let a = c .before .before .before .before .before .before .before .slot-of .ensures in
-    let b = c .before .before .before .before .before .slot-of2 .ensures in
-    (a .1, b .1, l .inv .0, l .inv .1, l .inv .2))
-    (λ c. let k = c .before .before .before .before .before .before .before in
-    let h = k .before .before .before .before .before .before .before in
-    omega (arith, h .before .before .before .before .before .before .before .before .before .before .loop-test .taken))
-    (λ c. let k = c .before .before .before .before .before .before .before in
-    let h = k .before .before .before .before .before .before .before in
-    omega (arith, h .before .before .before .before .before .before .before .before .before .before .loop-test .taken))
-    (λ c. let k = c .before .before .before .before .before .before .before in
-    let h = k .before .before .before .before .before .before .before in
-    let l = h .before .before .before .before .before .before .before .before .before .before .before .loop in
+    (λ c κs. let l = c .before .before .before .before .before .before .before .before .before .before .before .before .before .before .before .before .before .before .before .before .before .before .before .before .before .loop in
+    (c .before .before .before .before .before .before .before .before .slot-of .ensures .1, c .before .before .before .before .before .before .slot-of2 .ensures .1, l .inv .0, l .inv .1, l .inv .2, l .inv .4))
+    (λ c. omega (arith, c .before .before .before .before .before .before .before .before .before .before .before .before .before .before .before .before .before .before .before .before .before .before .before .before .before .loop-test .taken))
+    (λ c. omega (arith, c .before .before .before .before .before .before .before .before .before .before .before .before .before .before .before .before .before .before .before .before .before .before .before .before .before .loop-test .taken))
+    (λ c. let l = c .before .before .before .before .before .before .before .before .before .before .before .before .before .before .before .before .before .before .before .before .before .before .before .before .before .before .loop in
     let e = c .merge-slots .ensures in (
-      e .1 .0,
+      e .1 .0 .0,
+      e .1 .0 .1,
+      e .1 .0 .2,
+      (λ m i. sym (closed-more registers functions _ _ (slotsOf (l .slot) (l .regs) (l .unequal) (l .result) (l .ever) m i) (c .before .before .before .before .before .before .before .before .before .before .before .before .before .before .before .before .before .before .before .before .before .before .before .before .before .loop-test .taken) (c .before .before .before .before .before .before .before .before .before .before .before .before .before .before .before .before .before .before .before .before .before .before .before .doubled .ensures)
+          (c .before .before .before .before .before .before .before .before .before .before .before .before .before .before .before .before .before .before .before .before .before .before .if1 .left) _ _ (c .before .before .before .before .before .before .before .before .before .before .before .before .before .before .before .before .before .before .find .ensures) (c .before .before .before .before .before .before .before .before .before .before .before .before .before .before .before .before .before .name .ensures) _ _ (c .before .before .before .before .before .before .before .before .before .before .before .before .before .rest .ensures) (c .before .before .before .before .before .before .before .before .before .before .before .before .name2 .ensures)
+          (c .before .before .before .before .before .before .before .before .before .before .before .before .before .before .before .before .if2 .left) (c .before .before .before .before .before .before .before .before .before .before .before .if3 .left) _ _ (c .before .before .before .before .before .before .before .before .before .slot-of .ensures .0) (c .before .before .before .before .before .before .before .slot-of2 .ensures .0) _ (e .0 m i)) ∙ l .inv .3 m i),
       e .1 .1,
-      e .1 .2,
-      λ m i. sym (closed-more registers functions _ _ (slotsOf (l .slot) (l .regs) (l .unequal) (l .result) (l .ever) m i)
-          (h .before .before .before .before .before .before .before .before .before .before .loop-test .taken)
-          (h .before .before .before .before .before .before .before .before .doubled .ensures)
-          (h .before .before .before .before .before .before .before .if1 .left) _ _ (h .before .before .before .find .ensures)
-          (h .before .before .name .ensures) _ _ (k .before .before .before .before .before .rest .ensures)
-          (k .before .before .before .before .name2 .ensures) (h .before .if2 .left) (k .before .before .before .if3 .left) _ _
-          (k .before .slot-of .ensures .0) (c .before .before .before .before .before .before .slot-of2 .ensures .0) _ (e .0 m i)) ∙ l .inv .3 m i,
     ))
     (λ c. let l = c .before .loop in (
-      (λ m i. sym (closed-end registers functions _ (slotsOf (l .slot) (l .regs) (l .unequal) (l .result) (l .ever) m i) (c .loop-test .left))
-          ∙ l .inv .3 m i),
-      (l .inv .0, l .inv .1, l .inv .2),
+      (λ m i. sym (closed-end registers functions _ (slotsOf (l .slot) (l .regs) (l .unequal) (l .result) (l .ever) m i) (c .loop-test .left)) ∙ l .inv .3 m i),
+      ((l .inv .0, l .inv .1, l .inv .2), l .inv .4),
     )))

@@ -3,6 +3,7 @@ use lib.ListN.{length, length-set}
 use borrow.Author.Needs.{needs}
 use Rattle.window.specs.Layout.{registers, functions}
 use Rattle.slots.specs.Slots.{slotsOf, Low}
+use Rattle.slots.specs.Around.{around-same, around-recorded}
 use Rattle.slots.specs.Loops.{tabled-same, freshened-some, freshened-none}
 use Rattle.slots.specs.Laying.{moved-regs-length, low-set, tabled-recorded}
 use Rattle.slots.proofs.freshen.Statement.{statement}
@@ -12,27 +13,31 @@ pub freshen-spec : {M : Type 1} → statement M
 freshen-spec = tie.close (tie.spec
     (λ c κs. search needs)
     (λ c κs. let p = c .before .before .before .before .before .pre in (p .0, c .before .before .if1 .taken, p .4, p .5))
-    (λ c κs. let k = c .before .before .before .before .before .before .before in
-    let p = k .before .pre in
-    (p .1, p .2, p .3, c .before .before .before .before .before .if1 .taken, p .6, p .7))
+    (λ c κs. let p = c .before .before .before .before .before .before .before .before .before .pre in
+    (p .1, p .2, p .3, c .before .before .before .before .before .before .if1 .taken, p .6, p .7, p .9 .long))
     (λ c. search needs)
-    (λ c. let k = c .before .before .before .before .before .before .before in
-    let a = k .before .before .args in
-    let p = k .before .before .pre in
-    let m = c .before .before .before .move-register .ensures in
+    (λ c. let a = c .before .before .before .before .before .before .before .before .before .before .args in
+    let p = c .before .before .before .before .before .before .before .before .before .before .pre in
+    let m = c .before .before .before .before .move-register .ensures in
+    let l = c .before .before .before .before .before .before .before .if1 .taken in
     let n = c .hold-result .ensures in (
       (λ u i. freshened-some registers functions (slotsOf (a .slot .now) (a .regs .now) u (a .result .now) (a .ever .now) (a .mark .now) i)
-          (a .x) (a .f) (a .a) (a .b) _ _ _ _ _ (c .before .before .before .before .before .before .before .free-slot .ensures)
-          (c .before .before .before .before .before .before .if1 .taken) (m .0) (m .1) (n .0) (n .1)),
-      λ u l. record {
-        low = subst (Low registers) (sym (m .0)) (low-set registers _ _ _ (p .0) (c .before .before .before .before .before .before .if1 .taken) (p .4));
-        regs-long = ap length (m .1) ∙ moved-regs-length _ _ _ _ ∙ p .5;
-        tables = tabled-same registers functions _ _ _ _ _ _ refl (n .0) (n .1)
-            (tabled-recorded registers functions _ _ _ _ _ _ _ (record { unequal-long = l; result-long = p .6; ever-long = p .7 }));
-        mark-long = simp length-set (p .8);
-      },
+          (a .x) (a .f) (a .a) (a .b) _ _ _ _ _ (c .before .before .before .before .before .before .before .before .free-slot .ensures) l (m .0) (m .1) (n .0) (n .1 .0)),
+      (
+        (λ u ul. record {
+          low = subst (Low registers) (sym (m .0)) (low-set registers _ _ _ (p .0) l (p .4));
+          regs-long = ap length (m .1) ∙ moved-regs-length _ _ _ _ ∙ p .5;
+          tables = tabled-same registers functions _ _ _ _ _ _ refl (n .0) (n .1 .0)
+              (tabled-recorded registers functions _ _ _ _ _ _ _ (record { unequal-long = ul; result-long = p .6; ever-long = p .7 }));
+          mark-long = simp length-set (p .8);
+        }),
+        around-same registers functions _ _ _ _ (n .0) (n .1 .1) (around-recorded registers functions _ _ (p .6) (p .9) _ _ _ _ (p .1) (p .2) (p .3)),
+      ),
     ))
     (λ c. let p = c .before .before .before .pre in (
       (λ u i. freshened-none registers functions _ _ _ _ _ _ (c .before .free-slot .ensures) (c .if1 .left)),
-      λ u l. record { low = p .4; regs-long = p .5; tables = record { unequal-long = l; result-long = p .6; ever-long = p .7 }; mark-long = p .8 },
+      (
+        (λ u l. record { low = p .4; regs-long = p .5; tables = record { unequal-long = l; result-long = p .6; ever-long = p .7 }; mark-long = p .8 }),
+        p .9,
+      ),
     )))

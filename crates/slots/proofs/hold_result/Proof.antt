@@ -1,6 +1,6 @@
 use borrow.Author.Needs.{needs}
 use Rattle.window.specs.Layout.{registers}
-use Rattle.slots.specs.Loops.{result-still, ever-still, result-recorded, ever-recorded}
+use Rattle.slots.specs.Loops.{result-still, ever-still, pair-still, result-recorded, ever-recorded, pair-recorded}
 use Rattle.slots.proofs.hold_result.Statement.{statement}
 use Rattle.slots.proofs.hold_result.Tie as tie
 
@@ -8,7 +8,11 @@ pub hold-result-spec : {M : Type 1} → statement M
 hold-result-spec = tie.close (tie.spec
     (λ c. let a = c .before .args in
     let t = c .if1 .taken in
-    (result-still registers (a .f) (a .a) (a .b) (a .n) _ t, ever-still registers (a .f) (a .a) (a .b) (a .n) _ t))
+    (result-still registers (a .f) (a .a) (a .b) (a .n) _ t, (ever-still registers (a .f) (a .a) (a .b) (a .n) _ t, pair-still registers (a .a) (a .b) (a .n) _ t)))
+    (λ c. search needs)
+    (λ c. search needs)
+    (λ c. search needs)
+    (λ c. search needs)
     (λ c. search needs)
     (λ c. search needs)
     (λ c. search needs)
@@ -19,8 +23,18 @@ hold-result-spec = tie.close (tie.spec
     (λ c. search needs)
     (λ c κs. search needs)
     (λ c. search needs)
-    (λ c. let a = c .before .before .before .before .before .args in
-    let t = c .before .before .before .before .if1 .left in (
-      result-recorded registers (a .f) (a .a) (a .b) (a .n) _ t _ (c .before .before .single .ensures),
-      ever-recorded registers (a .f) (a .a) (a .b) (a .n) _ t _ (c .single2 .ensures),
+    (λ c. search needs)
+    (λ c κs. search needs)
+    (λ c. search needs)
+    (λ c. search needs)
+    (λ c κs. search needs)
+    (λ c. search needs)
+    (λ c. let k = c .before .before .before .before in
+    let a = k .before .before .before .before .before .args in
+    let t = k .before .before .before .before .if1 .left in (
+      result-recorded registers (a .f) (a .a) (a .b) (a .n) _ t _ (k .before .before .single .ensures),
+      (
+        ever-recorded registers (a .f) (a .a) (a .b) (a .n) _ t _ (k .single2 .ensures),
+        pair-recorded registers (a .a) (a .b) (a .n) _ t _ _ (c .before .before .single3 .ensures) (c .single4 .ensures),
+      ),
     )))

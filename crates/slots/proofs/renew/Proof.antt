@@ -3,6 +3,7 @@ use lib.ListN.{length-set}
 use borrow.Author.Needs.{needs}
 use Rattle.window.specs.Layout.{registers, functions}
 use Rattle.slots.specs.Slots.{slotsOf}
+use Rattle.slots.specs.Around.{around-same, around-recorded}
 use Rattle.slots.specs.Loops.{tabled-same, renewed-is}
 use Rattle.slots.specs.Laying.{tabled-recorded}
 use Rattle.slots.proofs.renew.Statement.{statement}
@@ -12,22 +13,24 @@ pub renew-spec : {M : Type 1} → statement M
 renew-spec = tie.close (tie.spec
     (λ c κs. search needs)
     (λ c κs. search needs)
-    (λ c κs. let p = c .before .before .before .before .before .before .pre in
-    (c .before .before .before .before .before .slot-of .ensures .1, p .4, p .5, p .6))
-    (λ c κs. let k = c .before .before .before .before .before .before .before in
-    let p = k .before .before .pre in
-    let d = c .before .before .drop-slot .ensures in
-    (p .1, p .2, p .3, k .before .slot-of .ensures .1, d .1 .0 .result-long, d .1 .0 .ever-long))
-    (λ c. search needs)
-    (λ c. let k = c .before .before .before .before .before .before .before in
-    let a = k .before .before .before .args in
+    (λ c κs. let p = c .before .before .before .before .before .before .before .pre in (c .before .before .before .before .before .before .slot-of .ensures .1, p .4, p .5, p .6, p .7))
+    (λ c κs. let p = c .before .before .before .before .before .before .before .before .before .before .before .pre in
     let d = c .before .before .before .drop-slot .ensures in
+    (p .1, p .2, p .3, c .before .before .before .before .before .before .before .before .before .before .slot-of .ensures .1, d .1 .0 .0 .result-long, d .1 .0 .0 .ever-long, d .1 .1 .long))
+    (λ c. search needs)
+    (λ c. let a = c .before .before .before .before .before .before .before .before .before .before .before .before .args in
+    let p = c .before .before .before .before .before .before .before .before .before .before .before .before .pre in
+    let d = c .before .before .before .before .drop-slot .ensures in
     let n = c .hold-result .ensures in (
       (λ g i. renewed-is registers functions (slotsOf (a .slot .now) g (a .unequal .now) (a .result .now) (a .ever .now) (a .mark .now) i)
-          (slotsOf _ g _ _ _ _ i) (a .x) (a .f) (a .a) (a .b) _ _ _ _ (k .before .before .slot-of .ensures .0)
-          (c .before .before .before .before .arguments .ensures) (d .0 g i) (n .0) (n .1)),
+          (slotsOf _ g _ _ _ _ i) (a .x) (a .f) (a .a) (a .b) _ _ _ _ (c .before .before .before .before .before .before .before .before .before .before .before .slot-of .ensures .0)
+          (c .before .before .before .before .before .before .before .before .before .before .arguments .ensures) (d .0 g i) (n .0) (n .1 .0)),
       (
-        tabled-same registers functions _ _ _ _ _ _ refl (n .0) (n .1) (tabled-recorded registers functions _ _ _ _ _ _ _ (d .1 .0)),
-        simp length-set (d .1 .1),
+        (
+          tabled-same registers functions _ _ _ _ _ _ refl (n .0) (n .1 .0) (tabled-recorded registers functions _ _ _ _ _ _ _ (d .1 .0 .0)),
+          simp length-set (d .1 .0 .1),
+        ),
+        around-same registers functions _ _ _ _ (n .0) (n .1 .1)
+            (around-recorded registers functions _ _ (d .1 .0 .0 .result-long) (d .1 .1) _ _ _ _ (p .1) (p .2) (p .3)),
       ),
     )))

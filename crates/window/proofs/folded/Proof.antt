@@ -3,7 +3,7 @@ use borrow.Author.Needs.{needs}
 use Rattle.window.specs.Layout.{functions, pairs}
 use Rattle.base.specs.Written.{Written, written-none, written-more}
 use Rattle.window.specs.Table.{written-all}
-use Rattle.window.specs.Marks.{foldedOf, unionOf, union-four}
+use Rattle.window.specs.Marks.{foldedOf, unionOf}
 use Rattle.window.proofs.folded.Statement.{statement}
 use Rattle.window.proofs.folded.Tie as tie
 
@@ -19,17 +19,9 @@ folded-spec = tie.close (tie.spec
     Inv-loop
     μ-loop
     (λ c. written-none _ _ _ _ (search needs))
+    (λ c κs. search needs)
     (λ c. search needs)
     (λ c. search needs)
     (λ c. search needs)
-    (λ c. search needs)
-    (λ c. search needs)
-    (λ c. search needs)
-    (λ c. search needs)
-    (λ c. search needs)
-    (λ c. search needs)
-    (λ c. search needs)
-    (λ c. search needs)
-    (λ c. search needs)
-    (λ c. written-more _ _ _ _ _ _ (c .before .before .before .before .before .loop .inv) (c .before .before .before .before .loop-test .taken) (union-four _ _ _))
+    (λ c. written-more _ _ _ _ _ _ (c .before .before .loop .inv) (c .before .loop-test .taken) (c .results-at .ensures))
     (λ c. written-all _ _ _ _ _ (c .before .loop .inv) (c .loop-test .left)))

@@ -3,7 +3,9 @@ use mathlib.Core.Path.{_≡_, refl, _∙_}
 use native.Mathlib.Omega.{arith}
 use lib.ListN.{length, drop}
 use borrow.Author.Needs.{needs}
+use Rattle.window.specs.Layout.{registers, functions}
 use Rattle.slots.specs.Slots.{slotsOf}
+use Rattle.slots.specs.Around.{Around}
 use Rattle.monitoring.specs.declared.Run.{Run}
 use Rattle.monitoring.specs.SlotRun.{Standing}
 use Rattle.monitoring.proofs.Laws.{step-within}
@@ -12,22 +14,23 @@ use Rattle.monitoring.proofs.by_slots.take_from.Statement.{statement}
 use Rattle.monitoring.proofs.by_slots.take_from.Tie as tie
 
 abbrev Inv-loop : tie.InvT-loop
-Inv-loop header fine₀ count₀ one₀ two₀ bytes start slot₀ regs₀ unequal₀ result₀ ever₀ mark₀ bad₀ i₀
-    fine count one two slot regs unequal result ever mark bad i =
+Inv-loop header fine₀ count₀ one₀ two₀ bytes start slot₀ regs₀ unequal₀ result₀ ever₀ around₀ mark₀ bad₀ i₀
+    fine count one two slot regs unequal result ever around mark bad i =
     (i ≤ length bytes)
     × ((whole : Run) → Standing header (slotsOf slot₀ regs₀ unequal₀ result₀ ever₀ mark₀ bad₀) fine₀ count₀ one₀ two₀ (drop i₀ bytes) whole
     → Standing header (slotsOf slot regs unequal result ever mark bad) fine count one two (drop i bytes) whole)
+    × Around registers functions result around
 
 abbrev μ-loop : tie.MeasureT-loop
-μ-loop header fine₀ count₀ one₀ two₀ bytes start slot₀ regs₀ unequal₀ result₀ ever₀ mark₀ bad₀ i₀
-    fine count one two slot regs unequal result ever mark bad i =
+μ-loop header fine₀ count₀ one₀ two₀ bytes start slot₀ regs₀ unequal₀ result₀ ever₀ around₀ mark₀ bad₀ i₀
+    fine count one two slot regs unequal result ever around mark bad i =
     length bytes - i
 
 pub take-from-spec : {M : Type 1} → statement M
 take-from-spec = tie.close (tie.spec
     Inv-loop
     μ-loop
-    (λ c. (search needs, λ whole st. st))
+    (λ c. (search needs, (λ whole st. st), c .before .before .pre .2))
     (λ c. search needs)
     (λ c. search needs)
     (λ c. search needs)
@@ -72,7 +75,7 @@ take-from-spec = tie.close (tie.spec
       l .inv .1 _ begun .represents .mirrors .laid .low,
     ))
     (λ c κs.
-    let at-decoded = c .before .before .before .before .before .before .before .before .before .before .before .before in
+    let at-decoded = c .before .before .before .before .before .before .before .before .before .before .before .before .before in
     let at-decode = at-decoded .before .before .before in
     let at-loop = at-decode .before .before .before .before .before in
     let at-start = at-loop .before .before .before in
@@ -81,18 +84,19 @@ take-from-spec = tie.close (tie.spec
     let begun = standing-start (a .header) (a .window) _ (a .fine) (a .count) (a .one) (a .two) (drop (a .start) (a .bytes .now)) (at-start .pre .1) in (
       step-within (record { header = a .header; window = a .window; running = a .fine }) _ _ (at-decode .decode-letter .ensures) _ (at-decoded .decoded .given .1),
       l .inv .1 _ begun .represents .mirrors .laid,
+      l .inv .2,
     ))
     (λ c κs. search needs)
     (λ c κs. search needs)
     (λ c.
-    let middle = c .before .before .before .before .before .before .before .before .before .before .before in
+    let middle = c .before .before .before .before .before .before .before .before .before .before .before .before in
     omega (arith, middle .before .before .before .before .before .before .before .before .before .before .before))
     (λ c.
-    let middle = c .before .before .before .before .before .before .before .before .before .before .before in
+    let middle = c .before .before .before .before .before .before .before .before .before .before .before .before in
     omega (arith, middle .before .before .before .before .before .before .before .before .before .before .before .loop-test .taken))
     (λ c.
     let at-performed = c .before .before in
-    let at-judged = at-performed .before .before .before .before .before .before .before in
+    let at-judged = at-performed .before .before .before .before .before .before .before .before in
     let at-decoded = at-judged .before .before .before .before .before .before in
     let at-number = at-decoded .before .before in
     let at-decode = at-number .before in
@@ -104,12 +108,13 @@ take-from-spec = tie.close (tie.spec
     let a = at-start .args in
     let t = at-test .loop-test .taken in (
       omega (arith, t, l .inv .0),
-      λ whole begun.
+      (λ whole begun.
           standing-more (a .header) (slotsOf (l .slot) (l .regs) (l .unequal) (l .result) (l .ever) (l .mark) (l .bad)) (l .fine) (l .count) (l .one) (l .two)
           (a .bytes .now) (l .i) whole (l .inv .1 whole begun) _ _ _ _ _ _ _ _ t
           (at-word .word .ensures) (at-decode .decode-letter .ensures) (at-number .next-number .ensures) (at-decoded .decoded .given .1)
           (at-judged .judge-slots .ensures (l .regs) (l .unequal) (l .bad)) (at-performed .performed .ensures .0)
-          (c .before .first .ensures) (c .first2 .ensures),
+          (c .before .first .ensures) (c .first2 .ensures)),
+      at-performed .performed .ensures .1 .1,
     ))
     (λ c κs.
     let at-loop = c .before .before .before .before .before .before .before in

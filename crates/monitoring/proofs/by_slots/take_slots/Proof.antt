@@ -9,11 +9,16 @@ take-slots-spec = tie.close (tie.spec
     (λ c κs. search needs)
     (λ c. search needs)
     (λ c κs. search needs)
+    (λ c κs. search needs)
     (λ c κs.
-    let slots = c .before .before .before .before .before .before .before .before .before .to-slots .ensures in (
-      search needs,
+    let at-represents = c .before .before .before in
+    let at-test = c .before .before in
+    let slots = at-represents .before .before .before .before .before .before .before .before .to-slots .ensures in
+    let at-start = at-represents .before .before .before .before .before .before .before .before .before .before .before .before .before .before .before .before .before .before .before .before .before in (
+      at-start .pre,
       represented _ _ _ (slots .0 .long) (slots .1) (slots .2) refl _
-          (c .before .represents .ensures .0) (c .if1 .taken) (c .before .represents .ensures .1 (c .if1 .taken)),
+          (at-represents .represents .ensures .0) (at-test .if1 .taken) (at-represents .represents .ensures .1 (at-test .if1 .taken)),
+      c .pair-up .ensures,
     ))
     (λ c. search needs)
     (λ c κs. search needs)

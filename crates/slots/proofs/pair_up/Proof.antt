@@ -1,0 +1,34 @@
+use mathlib.Core.Path.{sym, ap₂, subst}
+use Prim.Native.Nat.{_+_, _*_, _/_, _%_, _-_}
+use lib.Bits.{bitOr}
+use borrow.Author.Needs.{needs}
+use Rattle.base.specs.Written.{Written, written-none, written-more}
+use Rattle.window.specs.Layout.{registers, functions, pairs}
+use Rattle.window.specs.Table.{written-all}
+use Rattle.window.specs.Marks.{unionOf}
+use Rattle.slots.specs.Around.{Around, aroundOf, around-made}
+use Rattle.slots.proofs.pair_up.Statement.{statement}
+use Rattle.slots.proofs.pair_up.Tie as tie
+
+abbrev Inv-loop : tie.InvT-loop
+Inv-loop result next₀ i₀ next i =
+    Written (λ k. bitOr (unionOf result k pairs functions) (unionOf result (registers * (k % registers) + k / registers) pairs functions)) 0 pairs i next
+
+abbrev μ-loop : tie.MeasureT-loop
+μ-loop result next₀ i₀ next i = pairs - i
+
+pub pair-up-spec : {M : Type 1} → statement M
+unfolding aroundOf
+pair-up-spec = tie.close (tie.spec
+    Inv-loop
+    μ-loop
+    (λ c. written-none _ _ _ _ (search needs))
+    (λ c. search needs)
+    (λ c. search needs)
+    (λ c κs. search needs)
+    (λ c κs. search needs)
+    (λ c. search needs)
+    (λ c. search needs)
+    (λ c. search needs)
+    (λ c. written-more _ _ _ _ _ _ (c .before .before .before .loop .inv) (c .before .before .loop-test .taken) (ap₂ bitOr (c .before .results-at .ensures) (c .results-at2 .ensures)))
+    (λ c. subst (Around registers functions _) (sym (written-all _ _ _ _ _ (c .before .loop .inv) (c .loop-test .left))) (around-made registers functions _)))
