@@ -229,7 +229,7 @@ fn undo(
 }
 
 // The application to go on with when the applications below i were looked at and then the name d goes: arguments come before
-// their terms, and a class has its lowest term as its name, so the signatures of the terms before d stay as they are.
+// their terms, and no class is named by a later term, so the signatures of the terms before d stay as they are.
 fn resume(
     representative: &Numbers,
     function: &Numbers,

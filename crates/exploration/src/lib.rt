@@ -105,7 +105,7 @@ fn choose(point: Point, b: usize) -> PointMove
     PointMove::Goes(opposite(letter), point.second as usize)
 }
 
-/// The letter that branch b of a point performs; where it performs none, a copy that is never asked for.
+/// The letter that branch b of a point performs; where it performs none, the copy of register 0 to itself.
 pub fn letter_of(point: Point, b: usize) -> Letter
     ensures { λ r. ⌜ r ≡ letterOf (moveOf point b) ⌝ }
 {

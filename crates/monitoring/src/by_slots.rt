@@ -11,7 +11,7 @@ use letters::Letter;
 use letters::words::decode_letter;
 use letters::words::word;
 use slots::judge_slots;
-use slots::pair_up;
+use slots::make_around;
 use slots::perform_slots;
 use slots::represents;
 use slots::to_slots;
@@ -126,7 +126,7 @@ fn take_from(
 }
 
 /// Takes the letters whose words are the bytes from `start` on, from a run of these parts; a last byte without its other half is left alone.
-/// A window that these slots do not stand for is taken on its tables.
+/// A window that the slots made of it do not stand for is taken on its tables.
 pub fn take_slots(
     header: Header,
     window: Window,
@@ -168,7 +168,7 @@ pub fn take_slots(
         bad,
         registers,
     ) {
-        let around = pair_up(&result);
+        let around = make_around(&result);
         return take_from(
             header,
             window,

@@ -1,5 +1,5 @@
--- The slots that hold a result at a pair of slots, of any function and in either order: one table, kept beside the table of results, from which the
--- marks are found.
+-- The slots that hold a result at a pair of slots, of any function and in either order: one table, kept along with the table of results, from which
+-- the marks are found.
 use mathlib.Core.Path.{_≡_, refl, sym, ap, ap₂, _∙_, subst}
 use mathlib.Core.Logic.{_⊎_, inl, inr, _↔_, _≢_, ⊎-elim, Iff·trans, Iff·symm}
 use mathlib.Core.Bool.{Bool, true, false, _||_}
@@ -27,10 +27,10 @@ use Rattle.window.specs.Marks.{unionOf, union-is, flagOf, belowOf, besideOf, pa
 use Rattle.window.specs.Marks.{Below, seeded, lower, Beneath, extra, direct, beneath}
 use Rattle.slots.specs.Performing.{resultsDropped, resultsRenamed, resultRecorded, aboveSlots, besideSlots, lostSlots, pairRecorded}
 use Rattle.slots.specs.Laying.{dropped-length, result-recorded-length}
-use Rattle.slots.specs.Tables.{added, dropped-is}
+use Rattle.slots.specs.Tables.{added, results-dropped-is}
 
 module _ (ρ φ : ℕ) where
-  -- a slot is in the entry of a pair exactly if it holds a result at the two, in either order
+  -- a slot is in the entry of a pair exactly if it holds a result at the two, in either order; bits from ρ on are free, and a mask of the code has none
   pub record Around (l t : List ℕ) : Type 0 where
     pub long : length t ≡ ρ * ρ
     pub holds : (a b c : ℕ) → a < ρ → b < ρ → c < ρ
@@ -79,12 +79,12 @@ module _ (ρ φ : ℕ) (l t : List ℕ) (ll : length l ≡ φ * ρ * ρ) (h : Ar
   pub around-dropped : (s : ℕ) → Around ρ φ (resultsDropped ρ s l) (resultsDropped ρ s t)
   around-dropped s = record {
     long = dropped-length ρ s t ∙ h .long;
-    holds = λ a b c ab bb cb. Iff·trans (at-one ρ (resultsDropped ρ s t) a b c) (Iff·trans (dropped-is ρ 1 s t (one-long ρ (length t) (h .long)) 0 a b c (omega arith) ab bb) (
+    holds = λ a b c ab bb cb. Iff·trans (at-one ρ (resultsDropped ρ s t) a b c) (Iff·trans (results-dropped-is ρ 1 s t (one-long ρ (length t) (h .long)) 0 a b c (omega arith) ab bb) (
       (λ (i, j, k, u). let (f, fb, v) = h .holds a b c ab bb cb .0 (at-one ρ t a b c .1 u) in
-          (f, fb, ⊎-elim (λ z. inl (dropped-is ρ φ s l ll f a b c fb ab bb .1 (i, j, k, z))) (λ z. inr (dropped-is ρ φ s l ll f b a c fb bb ab .1 (j, i, k, z))) v)),
+          (f, fb, ⊎-elim (λ z. inl (results-dropped-is ρ φ s l ll f a b c fb ab bb .1 (i, j, k, z))) (λ z. inr (results-dropped-is ρ φ s l ll f b a c fb bb ab .1 (j, i, k, z))) v)),
       (λ (f, fb, v). ⊎-elim
-          (λ z. let (i, j, k, u) = dropped-is ρ φ s l ll f a b c fb ab bb .0 z in (i, j, k, at-one ρ t a b c .0 (h .holds a b c ab bb cb .1 (f, fb, inl u))))
-          (λ z. let (j, i, k, u) = dropped-is ρ φ s l ll f b a c fb bb ab .0 z in (i, j, k, at-one ρ t a b c .0 (h .holds a b c ab bb cb .1 (f, fb, inr u)))) v),
+          (λ z. let (i, j, k, u) = results-dropped-is ρ φ s l ll f a b c fb ab bb .0 z in (i, j, k, at-one ρ t a b c .0 (h .holds a b c ab bb cb .1 (f, fb, inl u))))
+          (λ z. let (j, i, k, u) = results-dropped-is ρ φ s l ll f b a c fb bb ab .0 z in (i, j, k, at-one ρ t a b c .0 (h .holds a b c ab bb cb .1 (f, fb, inr u)))) v),
     ));
   }
 
@@ -157,7 +157,7 @@ around-renamed ρ φ l t ll h a b ab bb =
 
 module _ (ρ : ℕ) where
   -- what is above each slot is the same
-  pub record Alike (up up′ : List ℕ) : Type 0 where
+  pub record SameAbove (up up′ : List ℕ) : Type 0 where
     pub same : (h c : ℕ) → h < ρ → c < ρ → T (has (getD up h 0) c) ↔ T (has (getD up′ h 0) c)
 
   flag-same : (m n h : ℕ) → ((c : ℕ) → c < ρ → T (has m c) ↔ T (has n c)) → flagOf ρ m h ≡ flagOf ρ n h
@@ -170,19 +170,19 @@ module _ (ρ : ℕ) where
   both : (m n s c : ℕ) → (T (has m c) ↔ T (has n c)) → T (has (bitAnd m s) c) → T (has (bitAnd n s) c)
   both m n s c e t = let u = subst T (has-and m s c) t in subst T (sym (has-and n s c)) (and-i (has n c) (has s c) (e .0 (and-l (has m c) (has s c) u)) (and-r (has m c) (has s c) u))
 
-  below-same : (up up′ : List ℕ) → Alike up up′ → (s k : ℕ) → k ≤ ρ → belowOf ρ up s k ≡ belowOf ρ up′ s k
+  below-same : (up up′ : List ℕ) → SameAbove up up′ → (s k : ℕ) → k ≤ ρ → belowOf ρ up s k ≡ belowOf ρ up′ s k
   unfolding belowOf
   below-same up up′ e s zero b = refl
   below-same up up′ e s (suc k) b = ap₂ bitOr (below-same up up′ e s k (omega arith)) (flag-same (bitAnd (getD up k 0) s) (bitAnd (getD up′ k 0) s) k (λ c cb.
       let i = e .same k c (omega arith) cb in (both (getD up k 0) (getD up′ k 0) s c i, both (getD up′ k 0) (getD up k 0) s c (Iff·symm i))))
 
-  passes-same : (up up′ : List ℕ) → Alike up up′ → (n s : ℕ) → passes ρ up n s ≡ passes ρ up′ n s
+  passes-same : (up up′ : List ℕ) → SameAbove up up′ → (n s : ℕ) → passes ρ up n s ≡ passes ρ up′ n s
   unfolding passes
   passes-same up up′ e zero s = refl
   passes-same up up′ e (suc n) s = ap (λ z. passes ρ up n (bitOr s z)) (below-same up up′ e s ρ (omega arith)) ∙ passes-same up up′ e n (bitOr s (belowOf ρ up′ s ρ))
 
 module _ (ρ φ : ℕ) (l t : List ℕ) (h : Around ρ φ l t) where
-  above-same : Alike ρ (aboveSlots ρ t) (aboveOf ρ (foldedOf ρ φ l))
+  above-same : SameAbove ρ (aboveSlots ρ t) (aboveOf ρ (foldedOf ρ φ l))
   unfolding aboveSlots
   above-same = record {
     same = λ g c gb cb. Iff·trans (same-iff (ap (λ m. has m c) (table-at (λ h. unionOf t h ρ ρ) ρ g 0 gb))) (Iff·trans (union-is t g ρ ρ c) (Iff·trans (

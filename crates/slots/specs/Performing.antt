@@ -91,7 +91,7 @@ module _ (ρ : ℕ) where
   besideSlots t x zero = 0
   besideSlots t x (suc k) = bitOr (besideSlots t x k) (flagOf ρ (getD t (ρ * x + k) 0) k)
 
-  -- x, the slots below a result that has x as an argument or that x holds, and those below `more`
+  -- x, the slots below a result that has x as an argument or that x holds, and `more` and those below it
   unfoldable pub lostSlots : List ℕ → ℕ → ℕ → ℕ
   lostSlots t x more = raisedOf ρ (aboveSlots t) (bitOr (bitOr (2 ^ x) (besideSlots t x ρ)) more)
 
@@ -142,7 +142,7 @@ module _ (ρ : ℕ) where
 -- ---- a letter
 
 module _ (ρ φ : ℕ) where
-  -- slot s has no register any more, or one that gets a new value: it and what is below it, and below `more`, get a mark, and the tables forget it
+  -- slot s has no register any more, or one that gets a new value: it and what is below it, and `more` and what is below that, get a mark, and the tables forget it
   unfoldable pub droppedSlots : Slots → ℕ → ℕ → Slots
   droppedSlots w s more = record {
     slot = w .slot;

@@ -38,10 +38,10 @@ module _ (ρ φ : ℕ) where
   -- ---- a slot is dropped
 
   -- the table of results: x is no argument and holds none
-  pub dropped-is : (x : ℕ) (l : List ℕ) → length l ≡ φ * ρ * ρ → (h a b c : ℕ) → h < φ → a < ρ → b < ρ
+  pub results-dropped-is : (x : ℕ) (l : List ℕ) → length l ≡ φ * ρ * ρ → (h a b c : ℕ) → h < φ → a < ρ → b < ρ
       → T (has (getD (resultsDropped ρ x l) (place ρ h a b) 0) c) ↔ ((a ≢ x) × (b ≢ x) × (c ≢ x) × T (has (getD l (place ρ h a b) 0) c))
   unfolding resultsDropped clearedAt
-  dropped-is x l len h a b c hb ab bb =
+  results-dropped-is x l len h a b c hb ab bb =
       let k = place ρ h a b in
       let B = bitsMoved 0 (2 ^ x) l in
       let C = cleared (columns ρ) x B in
@@ -66,7 +66,7 @@ module _ (ρ φ : ℕ) where
     pub dropped : (x : ℕ) → Dropped ρ x (slotView ρ φ u r e) (slotView ρ φ (masksForgotten ρ x u) (resultsDropped ρ x r) (masksForgotten ρ x e))
     dropped x = record {
       apart = λ s t sb tb. Iff·trans (row-forgotten ρ φ x u s t ul sb) ((λ (i, k, j). (i, j, k)), (λ (i, j, k). (i, k, j)));
-      result = λ f s t c sb tb cb. byTest (ltb f φ) (λ q. rw q (dropped-is x r rl f s t c (ltb-true f φ q) sb tb)) (λ q. rw q ((λ k. absurd k), (λ (_, _, _, k). k)));
+      result = λ f s t c sb tb cb. byTest (ltb f φ) (λ q. rw q (results-dropped-is x r rl f s t c (ltb-true f φ q) sb tb)) (λ q. rw q ((λ k. absurd k), (λ (_, _, _, k). k)));
       ever = λ f s t sb tb. byTest (ltb f φ)
           (λ q. rw q (Iff·trans (forgotten-is ρ φ x e f s t sb (subst (λ z. ρ * f + s < z) (sym el) (entry-below ρ φ f s (ltb-true f φ q) sb))) ((λ (i, k, j). (i, j, k)), (λ (i, j, k). (i, k, j)))))
           (λ q. rw q ((λ k. absurd k), (λ (_, _, k). k)));
@@ -116,7 +116,7 @@ module _ (ρ φ : ℕ) where
       unfolding resultsRenamed
       results-called f s t c fb sb tb cb =
           let m = resultsThrough ρ a b (2 ^ a) r in
-          Iff·trans (dropped-is b m (results-length ρ a b (2 ^ a) r ∙ rl) f s t c fb sb tb) (
+          Iff·trans (results-dropped-is b m (results-length ρ a b (2 ^ a) r ∙ rl) f s t c fb sb tb) (
             (λ (i, j, l, k). let (p, q, o, x, y, z, g) = results-is ρ φ a b (2 ^ a) ab bb r rl f s t c fb sb tb .0 k in
                 (p, q, o, below s p sb x, below t q tb y, below c o cb z, g, pick-called s p i .0 x, pick-called t q j .0 y, pick-called c o l .0 z)),
             (λ (p, q, o, _, _, _, g, x, y, z). let i = not-b s p x in let j = not-b t q y in let l = not-b c o z in

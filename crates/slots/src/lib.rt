@@ -158,8 +158,9 @@ fn beside(around: &[Mask; PAIRS], s: usize) -> Mask
     m
 }
 
-// The slots of the seed and those that have one of them above. Two passes a turn: a single one is seldom enough.
-fn reached(up: &[Mask; REGISTERS], seed: Mask) -> Mask
+// The slots of the seed and those that have one of them above. Two passes a turn, with one comparison for both; a function of its own, so that
+// it is compiled into its caller.
+fn raised(up: &[Mask; REGISTERS], seed: Mask) -> Mask
     ensures { λ r. ⌜ r ≡ raisedOf registers (now (up .entry)) seed ⌝ }
 {
     let mut s = seed | below(up, seed);
@@ -171,15 +172,15 @@ fn reached(up: &[Mask; REGISTERS], seed: Mask) -> Mask
     s
 }
 
-// The slots whose registers get a mark as slot s loses its last: those below a result that has s as an argument or that s holds, and those below
-// `more`; s itself too, which has no register then, or one that gets a new value.
-fn lost(around: &[Mask; PAIRS], s: usize, more: Mask) -> Mask
+// The slots whose registers get a mark as slot s loses its value: those below a result that has s as an argument or that s holds, and `more` and
+// those below it; s itself too, which has no register then, or one whose mark is cleared next.
+fn lost_slots(around: &[Mask; PAIRS], s: usize, more: Mask) -> Mask
     requires { ⌜ s < registers ⌝ }
     ensures { λ r. ⌜ r ≡ lostSlots registers (now (around .entry)) s more ⌝ }
 {
     let up = above(around);
     let seed = (single(s) | beside(around, s)) | more;
-    reached(&up, seed)
+    raised(&up, seed)
 }
 
 // Gives a mark to the registers whose slot is in the mask.
@@ -194,7 +195,8 @@ fn mark_slots(slot: &[u8; REGISTERS], mark: &mut [bool; REGISTERS], slots: Mask)
     }
 }
 
-// Slot s has no register any more: what is below it, and below `more`, gets a mark, and the tables forget it.
+// Slot s has no register any more, or one that gets a new value: it and what is below it, and `more` and what is below that, get a mark, and the
+// tables forget it.
 fn drop_slot(
     slot: &[u8; REGISTERS],
     unequal: &mut [Mask; REGISTERS],
@@ -214,7 +216,7 @@ fn drop_slot(
     ensures long { λ _. ⌜ Tabled registers functions (now (unequal .exit)) (now (result .exit)) (now (ever .exit)) × (length (now (mark .exit)) ≡ registers) ⌝ }
     ensures around { λ _. ⌜ Around registers functions (now (result .exit)) (now (around .exit)) ⌝ }
 {
-    mark_slots(slot, mark, lost(around, s, more));
+    mark_slots(slot, mark, lost_slots(around, s, more));
     forget_masks(unequal, s);
     drop_results(result, s);
     forget_masks(ever, s);
@@ -486,25 +488,25 @@ fn rename_masks(t: &mut [Mask], a: usize, b: usize)
     forget_masks(t, b);
 }
 
-fn rename_results(t: &mut [Mask; RESULTS], a: usize, b: usize)
-    requires { ⌜ (a < registers) × (b < registers) × (length (now t) ≡ results) ⌝ }
-    ensures { λ _. ⌜ now (t .exit) ≡ resultsRenamed registers a b (now (t .entry)) ⌝ }
+fn rename_results(result: &mut [Mask; RESULTS], a: usize, b: usize)
+    requires { ⌜ (a < registers) × (b < registers) × (length (now result) ≡ results) ⌝ }
+    ensures { λ _. ⌜ now (result .exit) ≡ resultsRenamed registers a b (now (result .entry)) ⌝ }
 {
-    unite_column(t, a, a, b);
-    unite_row(t, a, a, b);
-    move_bits(t, single(a) | single(b), single(a));
-    drop_results(t, b);
+    unite_column(result, a, a, b);
+    unite_row(result, a, a, b);
+    move_bits(result, single(a) | single(b), single(a));
+    drop_results(result, b);
 }
 
 // The same where an entry stands for a pair of slots; a function of its own, so that the compiler lays it out for the shorter table.
-fn rename_pairs(t: &mut [Mask; PAIRS], a: usize, b: usize)
-    requires { ⌜ (a < registers) × (b < registers) × (length (now t) ≡ pairs) ⌝ }
-    ensures { λ _. ⌜ now (t .exit) ≡ resultsRenamed registers a b (now (t .entry)) ⌝ }
+fn rename_pairs(around: &mut [Mask; PAIRS], a: usize, b: usize)
+    requires { ⌜ (a < registers) × (b < registers) × (length (now around) ≡ pairs) ⌝ }
+    ensures { λ _. ⌜ now (around .exit) ≡ resultsRenamed registers a b (now (around .entry)) ⌝ }
 {
-    unite_column(t, a, a, b);
-    unite_row(t, a, a, b);
-    move_bits(t, single(a) | single(b), single(a));
-    drop_results(t, b);
+    unite_column(around, a, a, b);
+    unite_row(around, a, a, b);
+    move_bits(around, single(a) | single(b), single(a));
+    drop_results(around, b);
 }
 
 // The registers of slot b go to slot a.
@@ -1091,8 +1093,9 @@ pub fn to_slots(
 }
 
 /// For each pair of slots, the slots that hold a result of some function at the two, in either order.
-pub fn pair_up(result: &[Mask; RESULTS]) -> [Mask; PAIRS]
-    ensures { λ r. ⌜ Around registers functions (now (result .entry)) r ⌝ }
+pub fn make_around(result: &[Mask; RESULTS]) -> [Mask; PAIRS]
+    ensures { λ r. ⌜ r ≡ aroundOf registers functions (now (result .entry)) ⌝ }
+    ensures around { λ r. ⌜ Around registers functions (now (result .entry)) r ⌝ }
 {
     let mut next: [Mask; PAIRS] = [0; PAIRS];
     let mut i: usize = 0;

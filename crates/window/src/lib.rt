@@ -374,7 +374,7 @@ fn raised(up: &[Mask; REGISTERS], seed: Mask) -> Mask
 }
 
 // The registers that get a mark as x, the last of its class, loses its value: those below a result that has x as an argument or holds it,
-// and those below `more`.
+// and `more` and those below it.
 fn lost(result: &[Mask; RESULTS], x: usize, more: Mask) -> Mask
     requires { ⌜ x < registers ⌝ }
     ensures { λ r. ⌜ r ≡ lostOf registers functions (now (result .entry)) x more ⌝ }

@@ -18,7 +18,7 @@ take-slots-spec = tie.close (tie.spec
       at-start .pre,
       represented _ _ _ (slots .0 .long) (slots .1) (slots .2) refl _
           (at-represents .represents .ensures .0) (at-test .if1 .taken) (at-represents .represents .ensures .1 (at-test .if1 .taken)),
-      c .pair-up .ensures,
+      c .make-around .ensures .1,
     ))
     (λ c. search needs)
     (λ c κs. search needs)

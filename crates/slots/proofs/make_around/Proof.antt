@@ -7,8 +7,8 @@ use Rattle.window.specs.Layout.{registers, functions, pairs}
 use Rattle.window.specs.Table.{written-all}
 use Rattle.window.specs.Marks.{unionOf}
 use Rattle.slots.specs.Around.{Around, aroundOf, around-made}
-use Rattle.slots.proofs.pair_up.Statement.{statement}
-use Rattle.slots.proofs.pair_up.Tie as tie
+use Rattle.slots.proofs.make_around.Statement.{statement}
+use Rattle.slots.proofs.make_around.Tie as tie
 
 abbrev Inv-loop : tie.InvT-loop
 Inv-loop result next₀ i₀ next i =
@@ -17,9 +17,9 @@ Inv-loop result next₀ i₀ next i =
 abbrev μ-loop : tie.MeasureT-loop
 μ-loop result next₀ i₀ next i = pairs - i
 
-pub pair-up-spec : {M : Type 1} → statement M
+pub make-around-spec : {M : Type 1} → statement M
 unfolding aroundOf
-pair-up-spec = tie.close (tie.spec
+make-around-spec = tie.close (tie.spec
     Inv-loop
     μ-loop
     (λ c. written-none _ _ _ _ (search needs))
@@ -31,4 +31,5 @@ pair-up-spec = tie.close (tie.spec
     (λ c. search needs)
     (λ c. search needs)
     (λ c. written-more _ _ _ _ _ _ (c .before .before .before .loop .inv) (c .before .before .loop-test .taken) (ap₂ bitOr (c .before .results-at .ensures) (c .results-at2 .ensures)))
-    (λ c. subst (Around registers functions _) (sym (written-all _ _ _ _ _ (c .before .loop .inv) (c .loop-test .left))) (around-made registers functions _)))
+    (λ c. let e = written-all _ _ _ _ _ (c .before .loop .inv) (c .loop-test .left) in
+    (e, subst (Around registers functions _) (sym e) (around-made registers functions _))))

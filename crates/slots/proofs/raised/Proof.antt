@@ -3,8 +3,8 @@ use native.Mathlib.Omega.{arith}
 use borrow.Author.Needs.{needs}
 use Rattle.window.specs.Layout.{registers, results}
 use Rattle.window.specs.Marks.{Reaching, reaching-none, reaching-more, reaching-small, reaching-grows, reaching-all}
-use Rattle.slots.proofs.reached.Statement.{statement}
-use Rattle.slots.proofs.reached.Tie as tie
+use Rattle.slots.proofs.raised.Statement.{statement}
+use Rattle.slots.proofs.raised.Tie as tie
 
 abbrev Inv-loop : tie.InvT-loop
 Inv-loop up seed s₀ t₀ s t = Reaching registers up seed s t
@@ -12,8 +12,8 @@ Inv-loop up seed s₀ t₀ s t = Reaching registers up seed s t
 abbrev μ-loop : tie.MeasureT-loop
 μ-loop up seed s₀ t₀ s t = results - s
 
-pub reached-spec : {M : Type 1} → statement M
-reached-spec = tie.close (tie.spec
+pub raised-spec : {M : Type 1} → statement M
+raised-spec = tie.close (tie.spec
     Inv-loop
     μ-loop
     (λ c κs. search needs)
