@@ -1,7 +1,6 @@
 -- A choice by a test, and the tests that code makes.
 use mathlib.Core.Path.{_≡_, refl}
 use mathlib.Core.Bool.{Bool, true, false}
-use borrow.Author.Tests.{lt-ltb, le-ltb, le-leb, lt-leb, eq-eqb, ne-eqb}
 
 -- a where the test holds, else b. The two wait until the test is known, so that a definition by recursion stops where the test says
 abbrev pub pick {ℓ} : {A : Type ℓ} → Bool → (Unit {0} → A) → (Unit {0} → A) → A
@@ -12,6 +11,3 @@ pick false a b = b tt
 pub byTest {ℓ} : {A : Type ℓ} (b : Bool) → (b ≡ true → A) → (b ≡ false → A) → A
 byTest true f g = f refl
 byTest false f g = g refl
-
--- what a test of code says of the test in a definition: for `search decide` at a `returns`
-pub ruleset decide = (lt-ltb, le-ltb, le-leb, lt-leb, eq-eqb, ne-eqb)

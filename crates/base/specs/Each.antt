@@ -1,12 +1,6 @@
 -- A list changed entry by entry, and the laws of the loop that does it in place.
-use mathlib.Core.Path.{_≡_, refl, sym, ap, _∙_}
-use Prim.Native.Nat.{ℕ, zero, suc, _+_, _≤_, _<_}
-use native.Mathlib.Omega.{arith}
-use native.Mathlib.Nat.{add-suc, suc-add, add-zero, zero-add}
-use native.Mathlib.Numerals.{add-one}
+use Prim.Native.Nat.{ℕ, zero, suc}
 use mathlib.Core.List.{List, [], _∷_}
-use lib.ListN.{length, getD, set}
-use lib.Seq.{set-getD}
 
 module _ {ℓ} {A : Type ℓ} (f : ℕ → A → A) where
   -- f at each entry and its place, counted from i
@@ -20,84 +14,13 @@ module _ {ℓ} {A : Type ℓ} (f : ℕ → A → A) where
   doneFrom i (suc k) [] = []
   doneFrom i (suc k) (x ∷ xs) = f i x ∷ doneFrom (suc i) k xs
 
-  pub length-done : (i k : ℕ) (xs : List A) → length (doneFrom i k xs) ≡ length xs
-  unfolding doneFrom
-  length-done i zero xs = refl
-  length-done i (suc k) [] = refl
-  length-done i (suc k) (x ∷ xs) = ap suc (length-done (suc i) k xs)
-
-  done-at : (i k : ℕ) (xs : List A) (d : A) → getD (doneFrom i k xs) k d ≡ getD xs k d
-  unfolding doneFrom
-  done-at i zero xs d = refl
-  done-at i (suc k) [] d = refl
-  done-at i (suc k) (x ∷ xs) d = done-at (suc i) k xs d
-
-  -- past the end of the list both sides are the list, so this asks no bound on k
-  done-set : (i k : ℕ) (xs : List A) (d : A) → set (doneFrom i k xs) k (f (i + k) (getD xs k d)) ≡ doneFrom i (suc k) xs
-  unfolding doneFrom
-  done-set i zero [] d = refl
-  done-set i (suc k) [] d = refl
-  done-set i zero (x ∷ xs) d = rw add-zero
-  done-set i (suc k) (x ∷ xs) d = rw (add-suc i k, ← suc-add i k) (ap (λ l. f i x ∷ l) (done-set (suc i) k xs d))
-
-  done-all : (i k : ℕ) (xs : List A) → length xs ≤ k → doneFrom i k xs ≡ eachFrom i xs
-  unfolding doneFrom eachFrom
-  done-all i zero [] h = refl
-  done-all i zero (x ∷ xs) h = absurd (omega arith)
-  done-all i (suc k) [] h = refl
-  done-all i (suc k) (x ∷ xs) h = ap (λ l. f i x ∷ l) (done-all (suc i) k xs (omega arith))
-
-module _ {ℓ} {A : Type ℓ} (f : ℕ → A → A) where
-  from-at : (i k : ℕ) (xs : List A) (d : A) → k < length xs → getD (eachFrom f i xs) k d ≡ f (i + k) (getD xs k d)
-  unfolding eachFrom
-  from-at i k [] d h = absurd (omega arith)
-  from-at i zero (x ∷ xs) d h = rw add-zero
-  from-at i (suc k) (x ∷ xs) d h = from-at (suc i) k xs d (omega arith) ∙ ap (λ m. f m (getD xs k d)) (suc-add i k ∙ sym (add-suc i k))
-
 -- ---- as code uses them: the places count from 0, and go up by one
 
 module _ {ℓ} {A : Type ℓ} (f : ℕ → A → A) where
   -- f at each place and the entry there
-  pub each : List A → List A
+  unfoldable pub each : List A → List A
   each xs = eachFrom f 0 xs
 
   -- the same of the first k entries only: what the list holds after k turns of the loop
-  pub done : ℕ → List A → List A
+  unfoldable pub done : ℕ → List A → List A
   done k xs = doneFrom f 0 k xs
-
-  pub each-none : (xs : List A) → xs ≡ done 0 xs
-  unfolding done doneFrom
-  each-none xs = refl
-
-  pub each-read : (k : ℕ) (xs : List A) (d : A) → getD (done k xs) k d ≡ getD xs k d
-  unfolding done
-  each-read k xs d = done-at f 0 k xs d
-
-  pub each-length : (k : ℕ) (xs : List A) → length (done k xs) ≡ length xs
-  unfolding done
-  each-length k xs = length-done f 0 k xs
-
-  pub each-more : (k : ℕ) (xs : List A) (d : A) → set (done k xs) k (f k (getD xs k d)) ≡ done (k + 1) xs
-  unfolding done
-  each-more k xs d = rw add-one (ap (λ i. set (doneFrom f 0 k xs) k (f i (getD xs k d))) (sym (zero-add k)) ∙ done-set f 0 k xs d)
-
-  pub each-all : (k : ℕ) (xs : List A) → length xs ≤ k → done k xs ≡ each xs
-  unfolding done each
-  each-all k xs h = done-all f 0 k xs h
-
-  -- what stands at a place afterwards
-  pub each-at : (k : ℕ) (xs : List A) (d : A) → k < length xs → getD (each xs) k d ≡ f k (getD xs k d)
-  unfolding each
-  each-at k xs d h = from-at f 0 k xs d h ∙ ap (λ i. f i (getD xs k d)) (zero-add k)
-
-  -- one turn of the loop: the list ys, as it is after k turns, with v stored at k
-  pub each-turn : (k : ℕ) (xs ys : List A) (d u : A) → ys ≡ done k xs → u ≡ f k (getD ys k d) → set ys k u ≡ done (k + 1) xs
-  each-turn k xs ys d u e g = rw (g, e, each-read k xs d) (each-more k xs d)
-
-  -- a turn that stores nothing, since the entry is already what it is to be
-  pub each-skip : (k : ℕ) (xs ys : List A) (d : A) → ys ≡ done k xs → getD ys k d ≡ f k (getD ys k d) → ys ≡ done (k + 1) xs
-  each-skip k xs ys d e g = sym (set-getD ys k d) ∙ each-turn k xs ys d (getD ys k d) e g
-
-  -- the loop's end, where the count of turns is a number that is known
-  pub ended : (xs ys : List A) (k n : ℕ) → ys ≡ done k xs → k ≡ n → ys ≡ done n xs
-  ended xs ys k n e g = rw (← g) e

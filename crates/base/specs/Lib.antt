@@ -1,9 +1,4 @@
 pub mod Choice
 pub mod Each
-pub mod Laid
-pub mod Fill
-pub mod Lent
 pub mod Recursion
 pub mod Masks
-pub mod MaskLaws
-pub mod Written

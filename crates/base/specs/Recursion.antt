@@ -1,7 +1,5 @@
 -- A definition that calls itself at arguments of a smaller measure: one step of it is written, and the law that unfolds it is proved here, once.
-use mathlib.Core.Path.{_≡_}
-use Prim.Native.Nat.{ℕ, zero, suc, _<_}
-use native.Mathlib.Omega.{arith}
+use Prim.Native.Nat.{ℕ, zero, suc}
 
 module _ {S R : Type 0} (size : S → ℕ) (none : S → R) (step : (S → R) → S → R) where
   -- k calls deep at most
@@ -12,25 +10,3 @@ module _ {S R : Type 0} (size : S → ℕ) (none : S → R) (step : (S → R) �
   unfoldable pub fixed : S → R
   unfolding run
   fixed x = run (suc (size x)) x
-
-  -- Good x r: what is known of a result r at x. `local`: a step asks only for results at a smaller size, so two ways to answer that agree there give one result.
-  module _ (Good : S → R → Type 0) (at-none : (x : S) → Good x (none x)) (keeps : (f : S → R) → ((y : S) → Good y (f y)) → (x : S) → Good x (step f x))
-      (local : (f g : S → R) → ((y : S) → Good y (f y)) → (x : S) → ((y : S) → size y < size x → f y ≡ g y) → step f x ≡ step g x) where
-    run-good : (k : ℕ) (x : S) → Good x (run k x)
-    unfolding run
-    run-good zero x = at-none x
-    run-good (suc k) x = keeps (run k) (run-good k) x
-
-    run-same : (k j : ℕ) (x : S) → size x < k → size x < j → run k x ≡ run j x
-    unfolding run
-    run-same zero j x a b = absurd (omega arith)
-    run-same (suc k) zero x a b = absurd (omega arith)
-    run-same (suc k) (suc j) x a b = local (run k) (run j) (run-good k) x λ y l. run-same k j y (omega arith) (omega arith)
-
-    pub fixed-good : (x : S) → Good x (fixed x)
-    unfolding fixed
-    fixed-good x = run-good (suc (size x)) x
-
-    pub fixed-law : (x : S) → fixed x ≡ step fixed x
-    unfolding fixed
-    fixed-law x = local (run (size x)) fixed (run-good (size x)) x λ y l. run-same (size x) (suc (size y)) y l (omega arith)

@@ -1,5 +1,5 @@
 -- How the code holds the points of a macro.
-use Prim.Native.Nat.{ℕ, _+_, _-_}
+use Prim.Native.Nat.{ℕ, _-_}
 use mathlib.Core.Path.{_≡_}
 use mathlib.Core.Bool.{Bool}
 use mathlib.Core.List.{List, [], _∷_, _++_}
@@ -93,6 +93,3 @@ pub record Holds (old : List Point) (st : Progress) (ds : List Point) : Type 0 w
 -- While a text is read, 256 stands for what follows and is not yet known: here f is put in its place.
 abbrev pub turned : ℕ → ℕ → ℕ
 turned f n = pick (eqb n 256) (λ _. f) λ _. n
-
-abbrev pub redirected : ℕ → Point → Point
-redirected f p = point (p .kind) (p .letter) (turned f (p .first)) (turned f (p .second))

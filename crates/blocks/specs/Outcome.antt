@@ -4,9 +4,8 @@ use Prim.Native.Nat.{ℕ, suc, _+_, _*_, _-_, _≤_, _<_}
 use mathlib.Core.Bool.{true, false}
 use mathlib.Core.List.{List, [], _∷_, _++_, map}
 use lib.Dec.{ltb, leb}
-use lib.ListN.{length, getD, set}
+use lib.ListN.{length}
 use Rattle.base.specs.Choice.{pick}
-use Rattle.base.specs.Each.{each}
 use Rattle.letters.specs.declared.Letter.{Letter}
 use Rattle.macros.specs.Tree.{Statement, Else, Block, if, while}
 use Rattle.macros.specs.Points.{compile, compileElse, compileBlock}
@@ -17,7 +16,7 @@ use Rattle.grammar.specs.Reading.{Got, got, refused, exhausted, onward, conditi
 use Rattle.phrases.specs.Codes.{Few}
 use Rattle.phrases.specs.declared.Got as number
 use Rattle.phrases.specs.declared.GotLetter as letter
-use Rattle.blocks.specs.Held.{point, heldPoint, unused, Progress, Holds, turned, redirected}
+use Rattle.blocks.specs.Held.{point, heldPoint, Progress, Holds, turned}
 use Rattle.blocks.specs.declared.Point.{Point}
 
 -- Read, on to the place e, with the points ps more; in front of them and behind them stand the points that were lent.
@@ -75,10 +74,6 @@ blockCode b base = map heldPoint (compileBlock b base 256)
 abbrev pub turnedIn : ℕ → ℕ → ℕ → ℕ → ℕ → ℕ
 turnedIn from to f i n = pick (ltb i from) (λ _. n) λ _. pick (ltb i to) (λ _. turned f n) λ _. n
 
--- the same of a point
-abbrev pub within : ℕ → ℕ → ℕ → ℕ → Point → Point
-within from to f i p = pick (ltb i from) (λ _. p) λ _. pick (ltb i to) (λ _. redirected f p) λ _. p
-
 -- where the points in a range begin; at what follows if there are none
 abbrev pub begins : ℕ → ℕ → ℕ → ℕ
 begins from to follow = pick (ltb from to) (λ _. from) λ _. follow
@@ -86,28 +81,6 @@ begins from to follow = pick (ltb from to) (λ _. from) λ _. follow
 -- a change to what follows, where the count of points goes past n and not past 256
 abbrev pub changedTo : {A : Type 0} → ℕ → ℕ → A → A → A
 changedTo count n new old = pick (ltb 256 count) (λ _. old) λ _. pick (leb count n) (λ _. old) λ _. new
-
-abbrev pub withPoints : Progress → List Point → Progress
-withPoints q ps = record { ok = q .ok; number = q .number; place = q .place; at = q .at; count = q .count; points = ps }
-
-abbrev pub changed : Progress → ℕ → List Point → Progress
-changed q n ps = withPoints q (changedTo (q .count) n ps (q .points))
-
--- a statement whose points are numbered from `to` on follows the points from `from` on
-unfoldable pub joined : Progress → ℕ → ℕ → Progress
-joined q from to = changed q to (each (within from to to) (q .points))
-
--- point n, followed by a and b
-abbrev pub forked : List Point → ℕ → ℕ → ℕ → List Point
-forked ps n a b = set ps n (point (getD ps n unused .kind) (getD ps n unused .letter) a b)
-
--- the point of an if, once its blocks are read
-unfoldable pub branched : Progress → ℕ → ℕ → Progress
-branched q base mid = changed q base (forked (q .points) base (begins (base + 1) mid 256) (begins mid (q .count) 256))
-
--- the point of a while, once its block is read; the while follows its block
-unfoldable pub looped : Progress → ℕ → Progress
-looped q base = changed q base (forked (each (within (base + 1) (q .count) base) (q .points)) base (begins (base + 1) (q .count) base) 256)
 
 -- ---- what each reader of statements asks, and what it ensures
 

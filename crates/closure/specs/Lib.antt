@@ -1,11 +1,5 @@
-pub mod Written
 pub mod Numbering
 pub mod Merging
 pub mod Represents
 pub mod Index
 pub mod Arrays
-pub mod Clashing
-pub mod Entering
-pub mod Propagation
-pub mod Uses
-pub mod Steps

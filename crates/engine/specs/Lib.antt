@@ -1,5 +1,2 @@
 pub mod Engine
-pub mod EngineLaws
 pub mod Run
-pub mod ReadingLaws
-pub mod RunLaws

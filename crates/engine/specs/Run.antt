@@ -64,8 +64,3 @@ pub data Ran (s : List ℕ) (h : Header) (count : ℕ) (function first second re
 pub data RestRead (h : Header) (x : Reading) : ℕ → Type 0 where
   all-read : (ls : List Letter) → x ≡ trace h ls → RestRead h x 0
   broken : (p : ℕ) → 1 ≤ p → x ≡ refused 4 p → RestRead h x p
-
--- The letters between the numbers k and i are well formed.
-pub record Following (s : List ℕ) (h : Header) (count k i : ℕ) : Type 0 where
-  pub letters : List Letter
-  pub rest : restOf s h count k ≡ behind letters (restOf s h count i)

@@ -1,13 +1,6 @@
 pub mod Moves
 pub mod Turns
-pub mod TurnLaws
 pub mod Exploring
 pub mod Keeping
-pub mod ExploringLaws
-pub mod Store
 pub mod HeldPoints
-pub mod Watching
 pub mod Given
-pub mod Going
-pub mod Explored
-pub mod Ending

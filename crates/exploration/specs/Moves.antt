@@ -1,5 +1,4 @@
 -- The branches of a point as the reader stores it. Document 01: "At a branch the condition as written comes first; at an assert, the failing letter."
-use mathlib.Core.Path.{_≡_, sym, _∙_, subst}
 use Prim.Native.Nat.{ℕ}
 use mathlib.Core.List.{List}
 use lib.ListN.{getD}
@@ -39,9 +38,3 @@ noPoint = record { kind = 0; letter = Copy 0 0; first = 0; second = 0 }
 -- The fields of every letter that is performed lie within the packing.
 abbrev pub AllWithin : List Point → Type 0
 AllWithin ps = (k b : ℕ) → Within (letterOf (moveOf (getD ps k noPoint) b))
-
-pub within-goes : (o : PointMove) (x : Point) (b : ℕ) (a : Letter) (k : ℕ) → o ≡ moveOf x b → o ≡ Goes a k → Within (letterOf (moveOf x b)) → Within a
-within-goes o x b a k e f w = subst (λ z. Within (letterOf z)) (sym e ∙ f) w
-
-pub within-fails : (o : PointMove) (x : Point) (b : ℕ) (a : Letter) → o ≡ moveOf x b → o ≡ Fails a → Within (letterOf (moveOf x b)) → Within a
-within-fails o x b a e f w = subst (λ z. Within (letterOf z)) (sym e ∙ f) w

@@ -16,16 +16,17 @@ use Rattle.traces.specs.declared.Written.the-variants as written
 use Rattle.letters.specs.Answers.{Answer, value, refusal}
 use Rattle.traces.specs.Answers.{traceAnswer, writtenAnswer}
 use Rattle.letters.specs.Editions.{firstEdition}
-use Rattle.letters.specs.WordLaws.{first-roomy, decode-header-refused}
+use Rattle.letters.proofs.Theory.WordLaws.{first-roomy, decode-header-refused}
 use Rattle.traces.specs.Traces.{reading}
 use Rattle.traces.specs.Writing.{unpacking, Wrote}
 use Rattle.traces.specs.Unpacking.{Unpacked}
 use Rattle.semantics.specs.Terms.{Trace}
 use Rattle.monitoring.specs.Monitor.{outcomeAnswer, idleOf, startOf, advance}
-use Rattle.monitoring.specs.MonitorLaws.{start-refused}
+use Rattle.monitoring.proofs.Theory.MonitorLaws.{start-refused}
 use Rattle.monitoring.specs.Run.{verdictAnswer}
 use Rattle.monitoring.specs.Stream.{emptyStream, pushedAll, finishedOf}
-use Rattle.monitoring.specs.Meanings.{Monitors, Starts, Advances, Streams, StreamStarts, StreamPushes, StreamFinishes, finishes}
+use Rattle.monitoring.specs.Meanings.{Monitors, Starts, Advances, Streams, StreamStarts, StreamPushes, StreamFinishes}
+use Rattle.monitoring.proofs.Theory.Meanings.{finishes}
 use Rattle.monitoring.specs.declared.Monitor.{Monitor}
 use Rattle.monitoring.specs.declared.Outcome.the-variants as outcome
 use Rattle.monitoring.specs.declared.Stepped.{Stepped}

@@ -17,7 +17,8 @@ use Rattle.shown.specs.declared.Shown.the-variants as shown
 use Rattle.syntax.specs.Reads.{Reads}
 use Rattle.syntax.specs.declared.Answer.{Answer}
 use Rattle.exports.specs.Numbers.{laidOver, runNumbers, monitored, modelNumbers, modelled, modelOutput, ModelMeans, MacroRead}
-use Rattle.exports.specs.Held.{heldNumbers, held-accepted, held-refused}
+use Rattle.exports.specs.Held.{heldNumbers}
+use Rattle.exports.proofs.Theory.Held.{held-accepted, held-refused}
 use Rattle.semantics.specs.Models.{Feasible}
 use Rattle.verdicts.specs.Demand3.{Demand3}
 use Rattle.search.specs.Answering as search

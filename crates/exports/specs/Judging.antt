@@ -1,16 +1,12 @@
 -- The verdict on a macro as numbers in a lent slice: refusal, place, verdict, pairs, letters of the first event's execution.
 -- Document 01: "Where an answer is an enum, a definition gives this paper's number and values for each of its cases."
-use mathlib.Core.Path.{_≡_, sym, ap, _∙_}
-use mathlib.Core.Logic.{_⊎_, inl, inr}
-use native.Mathlib.Omega.{arith}
+use mathlib.Core.Path.{_≡_}
 use Prim.Native.Nat.{ℕ, _≤_, _<_}
 use mathlib.Core.List.{List, [], _∷_, _++_}
 use lib.ListN.{length, drop}
 use Rattle.semantics.specs.Models.{Feasible}
 use Rattle.verdicts.specs.Verdict.{Answer, pass, fail, incoherent, refused}
 use Rattle.verdicts.specs.Demand3.{Demand3}
-use Rattle.verdicts.specs.Settled.{one-way}
-use Rattle.macros.specs.Numbers.{three}
 
 -- The third number is 0 for pass, 1 for fail, 2 for incoherent; on a refusal the numbers behind its place are 0.
 unfoldable pub verdictNumbers : Answer → List ℕ
@@ -26,23 +22,3 @@ pub record Judging (text table output answer table′ output′ answer′ : List
   -- Else demand 3 holds of an answer whose numbers stand over the front of the slice. What the output's bytes are then read back as, for any table:
   -- `ReadBack.read-back` of crate `verdict_lines`.
   pub judged : 5 ≤ length answer → (a : Answer) × Demand3 Feasible text table output a table′ output′ × (answer′ ≡ verdictNumbers a ++ drop 5 answer)
-
--- It settles every lent byte: there is one way at most.
-pub one-judging : (text table output answer t u o p a b : List ℕ) → Judging text table output answer t o a → Judging text table output answer u p b
-    → (t ≡ u) × (o ≡ p) × (a ≡ b)
-one-judging text table output answer t u o p a b x y = go (three (length answer) 5)
-  where
-    told : 5 ≤ length answer → (t ≡ u) × (o ≡ p) × (a ≡ b)
-    told room =
-        let (v, d, e) = x .judged room in
-        let (w, f, g) = y .judged room in
-        let (same, i, j) = one-way Feasible text table output v w t u o p d f in
-        (i, j, e ∙ ap (λ z. verdictNumbers z ++ drop 5 answer) same ∙ sym g)
-
-    go : (length answer < 5) ⊎ ((length answer ≡ 5) ⊎ (5 < length answer)) → (t ≡ u) × (o ≡ p) × (a ≡ b)
-    go (inl short) =
-        let (i, j, k) = x .short short in
-        let (l, m, n) = y .short short in
-        (i ∙ sym l, j ∙ sym m, k ∙ sym n)
-    go (inr (inl e)) = told (omega arith)
-    go (inr (inr l)) = told (omega arith)

@@ -56,12 +56,6 @@ pub data Reads (room : ℕ) (r : Input) : ℕ → Type 0 where
   over : {done : ℕ} (answer : OneRead) → done < room → following answer done ≡ Over r → Reads room r done
   more : {done : ℕ} (answer : OneRead) (n : ℕ) → following answer done ≡ More n → 0 < n → done + n ≤ room → Reads room r (done + n) → Reads room r done
 
--- The buffer had room for more where the input ended or a read failed.
-abbrev pub Short : Input → ℕ → Type 0
-Short (Ended n) room = n < room
-Short Full room = Unit {0}
-Short (Failed n) room = n < room
-
 -- The reads' answers lead to the result. The bytes that they gave are the front of the buffer; those behind them stay as they were lent. What
 -- the system answers is free: the contracts have no history of its calls, so `reads` is what the proof takes from them, one from each turn.
 pub record Received (entry : List ℕ) (r : Input) (exit : List ℕ) : Type 0 where

@@ -1,4 +1,2 @@
 pub mod Input
-pub mod InputLaws
 pub mod Lines
-pub mod LinesLaws

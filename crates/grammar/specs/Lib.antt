@@ -1,10 +1,3 @@
 pub mod Grammar
 pub mod Reading
 pub mod Spelled
-pub mod HeaderLaws
-pub mod Sound
-pub mod Complete
-pub mod Declarations
-pub mod Advance
-pub mod Whole
-pub mod Enough

@@ -1,6 +1,6 @@
 -- What reading a text gives: a macro, or the number of a refusal and its place (document 01, "The questions", 7 to 13).
 -- Each reader starts at a place and gives what it read with the place after it.
-use Prim.Native.Nat.{ℕ, zero, suc, _+_, _*_}
+use Prim.Native.Nat.{ℕ, zero, suc}
 use mathlib.Core.Bool.{Bool, true, false, not, _&&_, _||_}
 use mathlib.Core.List.{List, [], _∷_, _++_}
 use lib.Dec.{ltb, eqb}
@@ -162,16 +162,6 @@ module _ (s : List ℕ) where
   abbrev pub finishT : Macro → Token → Got Macro
   finishT m t = pick (eqb (t .key) 0) (λ _. got m (t .end)) λ _. unfit t
 
-  -- Questions 7 to 12: the text.
-  unfoldable pub readText : Got Macro
-  readText =
-      pick (ltb 4096 (length s)) (λ _. refused 7 0)
-      λ _. onward (expect word.vars 0) λ _ a. onward (registers 8 [] a) λ rs b. onward (functionsT rs b (tokenAt s b)) λ (fs, ns) c. onward (block rs fs ns (2 * length s + 1) 16 c) λ body e.
-      finishT (record { registers = rs; functions = fs; arities = ns; body = body }) (tokenAt s e)
-
   -- "Then: at most 256 points? 13."
   abbrev pub countT : Macro → ℕ → Got Macro
   countT m e = pick (ltb 256 (sizeBlock (m .body))) (λ _. refused 13 0) λ _. got m e
-
-  unfoldable pub readMacro : Got Macro
-  readMacro = onward readText countT

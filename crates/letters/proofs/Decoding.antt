@@ -14,10 +14,11 @@ use Rattle.letters.specs.declared.Letter.{Letter}
 use Rattle.letters.specs.declared.Letter.the-variants.{Copy, Apply, Equal, Unequal}
 use Rattle.letters.specs.Letters.{Fits}
 use Rattle.letters.specs.Answers.{value, refusal}
-use Rattle.letters.specs.Packing.{join, split, join-split, split-join}
+use Rattle.letters.specs.Packing.{join, split}
+use Rattle.letters.proofs.Theory.Packing.{join-split, split-join}
 use Rattle.letters.specs.Editions.{firstEdition}
 use Rattle.letters.specs.Words.{HeaderFits, headerTest, letterFields, letterWord, decodeLetter}
-use Rattle.letters.specs.WordLaws.{and-true, header-test, first-roomy, decode-letter, decode-letter-refused}
+use Rattle.letters.proofs.Theory.WordLaws.{and-true, header-test, first-roomy, decode-letter, decode-letter-refused}
 
 -- What every kind of letter asks: "used registers and functions lie below the header's counts", and "spare and unused fields are 0", which is a register of
 -- every header.

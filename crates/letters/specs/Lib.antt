@@ -1,3 +1,4 @@
+pub mod RefusalNumbers
 pub mod Letters
 pub mod Packing
 pub mod Answers

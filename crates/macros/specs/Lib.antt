@@ -1,11 +1,6 @@
 pub mod Tree
 pub mod Executions
 pub mod Words
-pub mod Numbers
 pub mod Order
 pub mod Walk
-pub mod Branches
 pub mod Points
-pub mod Runs
-pub mod Fitting
-pub mod Examples

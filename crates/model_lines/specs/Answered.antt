@@ -1,25 +1,20 @@
 -- What the model program makes of a file.
-use mathlib.Core.Path.{_≡_, sym}
+use mathlib.Core.Path.{_≡_}
 use mathlib.Core.List.{List}
-use Prim.Native.Nat.{ℕ, _%_, _≤_}
-use native.Mathlib.Omega.{arith}
+use Prim.Native.Nat.{ℕ, _%_}
 use lib.Dec.{eqb}
 use lib.ListN.{length, take}
-use lib.Seq.{length-take-le}
 use Rattle.base.specs.Choice.{pick}
 use Rattle.files.specs.declared.Input.{Input}
 use Rattle.files.specs.declared.Input.the-variants.{Ended, Full, Failed}
 use Rattle.files.specs.declared.Lines as files
-use Rattle.files.specs.declared.Lines.the-variants.{Written}
 use Rattle.files.specs.Input.{Received}
 use Rattle.files.specs.Lines.{Known, bytes, unread, Answers}
-use Rattle.files.specs.LinesLaws.{answers-written}
-use Rattle.text.specs.Appending.{appended-length}
 use Rattle.model_lines.specs.declared.Rest.{Rest}
 use Rattle.model_lines.specs.declared.Rest.the-variants as rest
 use Rattle.model_lines.specs.declared.Left.{Left}
 use Rattle.model_lines.specs.declared.Left.the-variants.{More, Over}
-use Rattle.model_lines.specs.Prints.{mostBytes, Prints}
+use Rattle.model_lines.specs.Prints.{Prints}
 
 -- A file is read to its end, or one unit more of it than 1,024 letters have.
 abbrev pub mostRead : ℕ
@@ -59,14 +54,3 @@ pub record AnswersRead (entry : List ℕ) (r : files.Lines) (exit : List ℕ) : 
   pub buffer : List ℕ
   pub received : Received space input buffer
   pub answers : Answers Prints (knownTrace input behind buffer) entry r exit
-
--- A line that was written lies in the buffer.
-module _ (entry exit : List ℕ) (r : files.Lines) (x : AnswersRead entry r exit) (room : mostBytes ≡ length entry) {size : ℕ} (e : r ≡ Written size) where
-  written : (s : List ℕ) × Prints s entry size exit
-  written = answers-written Prints (knownTrace (x .input) (x .behind) (x .buffer)) entry exit r size e (x .answers)
-
-  pub written-within : size ≤ length exit
-  written-within = let p = written .1 in omega (arith, p .few, p .appended .place, appended-length (p .appended), room)
-
-  pub written-length : size ≡ length (take size exit)
-  written-length = sym (length-take-le size exit written-within)

@@ -1,4 +1,3 @@
 pub mod Prints
 pub mod PrintsLaws
 pub mod Answered
-pub mod Long

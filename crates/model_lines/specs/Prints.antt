@@ -66,8 +66,3 @@ mostBytes = 10367
 pub record Prints (s entry : List ℕ) (size : ℕ) (exit : List ℕ) : Type 0 where
   pub few : length (lineFor s) ≤ mostBytes
   pub appended : Appended entry 0 (lineFor s) exit size
-
--- The line is that of what was read.
-pub record PrintsRead (entry : List ℕ) (size : ℕ) (exit : List ℕ) : Type 0 where
-  pub read : List ℕ
-  pub prints : Prints read entry size exit

@@ -15,9 +15,9 @@ use Rattle.letters.specs.declared.DecodedLetter.the-variants as decoded-letter
 use Rattle.letters.specs.Answers.{headerAnswer, letterAnswer}
 use Rattle.letters.specs.Editions.{firstEdition}
 use Rattle.letters.specs.Words.{decodeHeader, decodeLetter}
-use Rattle.letters.specs.WordLaws.{first-roomy, decode-letter}
+use Rattle.letters.proofs.Theory.WordLaws.{first-roomy, decode-letter}
 use Rattle.window.specs.Perform.{Within, freshOf}
-use Rattle.window.specs.Step.{fits-within}
+use Rattle.window.proofs.Theory.Step.{fits-within}
 use Rattle.window.specs.declared.Window.{Window}
 use Rattle.monitoring.specs.declared.Monitor.{Monitor}
 use Rattle.monitoring.specs.declared.Outcome.the-variants as outcome
@@ -31,7 +31,7 @@ use Rattle.monitoring.specs.declared.Stream.{Stream}
 use Rattle.monitoring.specs.Monitor.{stepped, idleOf, startOf, movedOf, advance}
 use Rattle.monitoring.specs.Run.{last, verdictAnswer, runWith, nextNumber, judgedRun, begunRun, takenRun}
 use Rattle.monitoring.specs.Demand2.{Demand2}
-use Rattle.monitoring.specs.StreamRight.{demand-met}
+use Rattle.monitoring.proofs.Theory.StreamRight.{demand-met}
 use Rattle.monitoring.specs.Stream.{answerOf, streamWith, pushedIn, pushedOf, finishedIn, finishedOf, pushedAll}
 
 module _ (word : ℕ) (d : DecodedHeader) (e : headerAnswer d ≡ decodeHeader firstEdition word) where

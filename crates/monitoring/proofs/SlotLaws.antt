@@ -11,18 +11,19 @@ use Rattle.letters.specs.declared.Letter.{Letter}
 use Rattle.letters.specs.Answers.{letterAnswer}
 use Rattle.letters.specs.Editions.{firstEdition}
 use Rattle.letters.specs.Words.{decodeLetter}
-use Rattle.letters.specs.WordLaws.{first-roomy, decode-letter}
+use Rattle.letters.proofs.Theory.WordLaws.{first-roomy, decode-letter}
 use Rattle.window.specs.Layout.{registers, functions}
-use Rattle.window.specs.Table.{table-length}
+use Rattle.window.proofs.Theory.Table.{table-length}
 use Rattle.window.specs.declared.Window.{Window}
 use Rattle.slots.specs.Slots.{Slots, Tabled}
 use Rattle.slots.specs.Performing.{judgeSlots, pulledMarks, windowOf, representsOf}
-use Rattle.slots.specs.Slotted.{Represents, Among, judged, performed, read-back, represents-is, fits-among}
+use Rattle.slots.proofs.Theory.Slotted.{Represents, Among, judged, performed, read-back, represents-is, fits-among}
 use Rattle.monitoring.specs.declared.Run.{Run}
 use Rattle.monitoring.specs.declared.Verdict.the-variants.{Judged, Refused}
 use Rattle.monitoring.specs.Run.{runOf, performedOf, nextNumber, firstOf}
 use Rattle.monitoring.specs.Stream.{takenAll}
-use Rattle.monitoring.specs.SlotRun.{slotsPerformed, Standing}
+use Rattle.monitoring.specs.SlotRun.{slotsPerformed}
+use Rattle.monitoring.proofs.Theory.SlotRun.{Standing}
 use Rattle.monitoring.proofs.Pairs.{taken-more, taken-malformed, taken-done}
 
 abbrev Stands : Header → Slots → Window → Type 0

@@ -3,9 +3,6 @@ pub mod Monitor
 pub mod Run
 pub mod Stream
 pub mod SlotRun
--- Laws.
-pub mod MonitorLaws
-pub mod NumberLaws
 pub mod StepRight
 pub mod Demand2
 pub mod RunRight

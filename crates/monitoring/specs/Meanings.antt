@@ -1,33 +1,27 @@
 -- What each call of the monitor means for the trace taken so far, and each call of the stream for the bytes taken so far: what the contracts promise.
-use mathlib.Core.Path.{_≡_, refl, sym, ap, _∙_, subst}
+use mathlib.Core.Path.{_≡_}
 use mathlib.Core.Logic.{_↔_}
 use Prim.Native.Nat.{ℕ, suc, _≤_}
-use mathlib.Core.List.{List, [], _∷_, _++_}
+use mathlib.Core.List.{List, [], _++_}
 use lib.Dec.{T}
 use Rattle.letters.specs.declared.Header.{Header}
 use Rattle.letters.specs.declared.Letter.{Letter}
 use Rattle.letters.specs.Letters.{Fits}
 use Rattle.letters.specs.Answers.{Answer, value, refusal}
 use Rattle.letters.specs.Editions.{firstEdition}
-use Rattle.letters.specs.Words.{HeaderFits, headerWord, letterWord, decodeLetter}
-use Rattle.letters.specs.WordLaws.{first-roomy, decode-header, decode-header-refused, decode-letter, decode-letter-refused}
-use Rattle.traces.specs.Traces.{letterCount, reading}
+use Rattle.letters.specs.Words.{HeaderFits, headerWord, letterWord}
+use Rattle.traces.specs.Traces.{letterCount}
 use Rattle.semantics.specs.Terms.{Trace, begin, _▸_, state}
 use Rattle.semantics.specs.Models.{Feasible}
 use Rattle.semantics.specs.Coherence.{Coherent, size}
-use Rattle.semantics.specs.Judge.{coherent-is}
-use Rattle.semantics.specs.Judgement.{Longest, coherentPart}
-use Rattle.semantics.specs.JudgementLaws.{longest-is, longest-unique}
-use Rattle.window.specs.Step.{fits-within}
-use Rattle.monitoring.specs.Monitor.{outcomeAnswer, stepped, idleOf, freshMonitor, startOf, movedOf, advance}
-use Rattle.monitoring.specs.MonitorLaws.{start-taken, start-refused, advance-taken, advance-refused, idle-refuses}
-use Rattle.monitoring.specs.StepRight.{Follows, follows-start, follows-moved}
-use Rattle.monitoring.specs.Run.{verdictAnswer, last, capped, nextNumber, begunRun, takenRun}
-use Rattle.monitoring.specs.NumberLaws.{next-capped}
-use Rattle.monitoring.specs.RunRight.{RunFollows, run-start, run-more, taken-refused, taken-ended}
-use Rattle.monitoring.specs.Stream.{emptyStream, pushedOf, finishedOf, pushedAll, answerOf}
-use Rattle.monitoring.specs.Demand2.{Demand2, demand-unique}
-use Rattle.monitoring.specs.StreamRight.{exactOf, cappedAnswer, begun-refused, demand-exact, answer-capped, demand-met, pushed-append, stream-answers}
+use Rattle.semantics.specs.Judgement.{Longest}
+use Rattle.monitoring.specs.Monitor.{outcomeAnswer, stepped, startOf, advance}
+use Rattle.monitoring.specs.StepRight.{Follows}
+use Rattle.monitoring.specs.Run.{verdictAnswer, last, capped, begunRun, takenRun}
+use Rattle.monitoring.specs.RunRight.{RunFollows}
+use Rattle.monitoring.specs.Stream.{emptyStream, finishedOf, pushedAll}
+use Rattle.monitoring.specs.Demand2.{Demand2}
+use Rattle.monitoring.specs.StreamRight.{cappedAnswer}
 use Rattle.monitoring.specs.declared.Monitor.{Monitor}
 use Rattle.monitoring.specs.declared.Outcome.the-variants as outcome
 use Rattle.monitoring.specs.declared.Run.{Run}
@@ -69,50 +63,6 @@ pub record Advances (m : Monitor) (word : ℕ) (r : Stepped) : Type 0 where
   pub refused : (ρ : Trace) → Monitors ρ m → ((a : Letter) → Fits (state ρ .header) a → letterWord firstEdition (state ρ .header) a ≡ word → ⊥)
       → (outcomeAnswer (r .outcome) ≡ refusal 4 0) × (r .monitor ≡ m)
 
-pub monitors : (ρ : Trace) (m : Monitor) → HeaderFits firstEdition (state ρ .header) → Follows ρ m → Monitors ρ m
-monitors ρ m v f = record {
-  fits = v;
-  follows = f;
-  running = subst (λ b. T b ↔ Coherent ρ) (sym (f .running)) (coherent-is ρ (f .formed));
-  infeasible = λ π l.
-      subst (λ (κ : Trace). T (m .window .infeasible) ↔ (¬ Feasible (state κ))) (longest-unique ρ (coherentPart ρ) π (longest-is ρ (f .formed)) l)
-      (f .holds .tracks .infeasible);
-}
-
-pub starts : (word : ℕ) (r : Stepped) → r ≡ startOf word → Starts word r
-starts word r e = record {
-  computed = e;
-  taken = λ h v w.
-      let q : r ≡ stepped outcome.Taken (freshMonitor h) = e ∙ start-taken word h (decode-header first-roomy word h .1 (v, w)) in
-      subst (λ (s : Stepped). (outcomeAnswer (s .outcome) ≡ value tt) × Monitors (begin h) (s .monitor)) (sym q)
-      (refl, monitors (begin h) (freshMonitor h) v (follows-start h (v .registers)));
-  refused = λ none.
-      let q : r ≡ stepped (outcome.Refused 3) idleOf = e ∙ start-refused word 3 0 (decode-header-refused first-roomy word .1 none) in
-      subst (λ (s : Stepped). (outcomeAnswer (s .outcome) ≡ refusal 3 0) × RefusesAll (s .monitor)) (sym q) (refl, idle-refuses);
-}
-
-module _ (ρ : Trace) (h : Header) (g : h ≡ state ρ .header) (v : HeaderFits firstEdition (state ρ .header)) (word : ℕ) where
-  -- what a word is under the header of a trace
-  letter-known : (a : Letter) → Fits (state ρ .header) a → letterWord firstEdition (state ρ .header) a ≡ word → decodeLetter firstEdition h word ≡ value a
-  letter-known a f w = ap (λ k. decodeLetter firstEdition k word) g ∙ decode-letter first-roomy (state ρ .header) word a .1 (v, f, w)
-
-  letter-none : ((a : Letter) → Fits (state ρ .header) a → letterWord firstEdition (state ρ .header) a ≡ word → ⊥)
-      → decodeLetter firstEdition h word ≡ refusal 4 0
-  letter-none none = ap (λ k. decodeLetter firstEdition k word) g ∙ decode-letter-refused first-roomy (state ρ .header) word .1 (λ a _. none a)
-
-pub advances : (m : Monitor) (word : ℕ) (r : Stepped) → r ≡ advance m word → Advances m word r
-advances m word r e = record {
-  computed = e;
-  taken = λ ρ t a f w.
-      let v = t .fits in
-      let q : r ≡ stepped outcome.Taken (movedOf m a) = e ∙ advance-taken m word a (letter-known ρ (m .header) (t .follows .header) v word a f w) in
-      subst (λ (s : Stepped). (outcomeAnswer (s .outcome) ≡ value tt) × Monitors (ρ ▸ a) (s .monitor)) (sym q)
-      (refl, monitors (ρ ▸ a) (movedOf m a) v (follows-moved ρ m (t .follows) a (fits-within (state ρ .header) a (v .registers) (v .functions) f) f));
-  refused = λ ρ t none.
-      let q : r ≡ stepped (outcome.Refused 4) m = e ∙ advance-refused m word 4 0 (letter-none ρ (m .header) (t .follows .header) (t .fits) word none) in
-      subst (λ (s : Stepped). (outcomeAnswer (s .outcome) ≡ refusal 4 0) × (s .monitor ≡ m)) (sym q) (refl, refl);
-}
-
 -- ---- the run, which numbers the letters
 
 -- What the run's beginning leaves.
@@ -130,24 +80,6 @@ pub record RunTakes (run : Run) (word : ℕ) (r : Run) : Type 0 where
       → ((a : Letter) → Fits (state ρ .header) a → letterWord firstEdition (state ρ .header) a ≡ word → ⊥)
       → verdictAnswer (r .verdict) ≡ refusal 4 (capped (suc (size ρ)))
   pub ended : (number place : ℕ) → run .verdict ≡ Refused number place → r ≡ run
-
-pub run-begins : (word : ℕ) (r : Run) → r ≡ begunRun word → RunBegins word r
-run-begins word r e = record {
-  computed = e;
-  taken = λ h v w. subst (RunFollows (begin h)) (sym e) (run-start word h (decode-header first-roomy word h .1 (v, w)));
-  refused = λ none. ap (λ (q : Run). verdictAnswer (q .verdict)) (e ∙ begun-refused word 3 0 (decode-header-refused first-roomy word .1 none));
-}
-
-pub run-takes : (run : Run) (word : ℕ) (r : Run) → r ≡ takenRun run word → RunTakes run word r
-run-takes run word r e = record {
-  computed = e;
-  taken = λ ρ v f a fits w. subst (RunFollows (ρ ▸ a)) (sym e) (run-more ρ run f word a (letter-known ρ (state ρ .header) refl v word a fits w));
-  refused = λ ρ v f none.
-      let d = letter-none ρ (run .monitor .header) (f .monitor .header) v word none in
-      ap (λ (q : Run). verdictAnswer (q .verdict)) (e ∙ taken-refused run word _ _ 4 0 (f .verdict) d)
-      ∙ ap (refusal 4) (ap nextNumber (f .letters) ∙ next-capped (size ρ));
-  ended = λ number place v. e ∙ taken-ended run word number place v;
-}
 
 -- ---- bytes in parts of any lengths
 
@@ -171,33 +103,3 @@ pub record StreamFinishes (s : Stream) (r : Verdict) : Type 0 where
   pub meets : (bytes : List ℕ) → Streams bytes s → letterCount firstEdition bytes ≤ last → Demand2 bytes (verdictAnswer r)
   -- of more letters than 64 bits can number, those have the last number
   pub beyond : (bytes : List ℕ) → Streams bytes s → (exact : Answer (ℕ × ℕ)) → Demand2 bytes exact → verdictAnswer r ≡ cappedAnswer exact
-
-pub stream-starts : (r : Stream) → r ≡ emptyStream → StreamStarts r
-unfolding pushedAll
-stream-starts r e = record { computed = e; streams = record { pushed = e } }
-
-pub pushes : (s : Stream) (bytes : List ℕ) (r : Stream) → r ≡ pushedAll s bytes → StreamPushes s bytes r
-pushes s bytes r e = record {
-  computed = e;
-  streams = λ earlier t. record { pushed = e ∙ ap (λ (q : Stream). pushedAll q bytes) (t .pushed) ∙ sym (pushed-append emptyStream earlier bytes) };
-}
-
-pub pushes-byte : (s : Stream) (byte : ℕ) (r : Stream) → r ≡ pushedOf s byte → StreamPushes s (byte ∷ []) r
-unfolding pushedAll
-pushes-byte s byte r e = pushes s (byte ∷ []) r e
-
-pub pushes-one : (s : Stream) (byte : ℕ) (r : Stream) → StreamPushes s (byte ∷ []) r → r ≡ pushedOf s byte
-unfolding pushedAll
-pushes-one s byte r p = p .computed
-
-pub finishes : (s : Stream) (r : Verdict) → r ≡ finishedOf s → StreamFinishes s r
-finishes s r e = record {
-  computed = e;
-  meets = λ bytes t l. subst (λ v. Demand2 bytes (verdictAnswer v)) (sym (answered bytes t)) (demand-met bytes l);
-  beyond = λ bytes t exact d.
-      ap verdictAnswer (answered bytes t) ∙ answer-capped bytes
-      ∙ ap cappedAnswer (demand-unique bytes (exactOf (reading firstEdition bytes)) exact (demand-exact bytes) d);
-}
-  where
-    answered : (bytes : List ℕ) → Streams bytes s → r ≡ answerOf bytes
-    answered bytes t = e ∙ ap finishedOf (t .pushed) ∙ stream-answers bytes

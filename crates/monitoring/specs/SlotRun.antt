@@ -1,27 +1,11 @@
 -- The run over many letters on a window whose classes lie in slots.
-use mathlib.Core.Path.{_≡_}
 use mathlib.Core.Bool.{Bool}
-use mathlib.Core.List.{List}
-use Prim.Native.Nat.{ℕ}
 use Rattle.base.specs.Choice.{pick}
-use Rattle.letters.specs.declared.Header.{Header}
 use Rattle.letters.specs.declared.Letter.{Letter}
 use Rattle.window.specs.Layout.{registers, functions}
-use Rattle.window.specs.declared.Window.{Window}
 use Rattle.slots.specs.Slots.{Slots}
 use Rattle.slots.specs.Performing.{performSlots}
-use Rattle.slots.specs.Represents.{Represents}
-use Rattle.monitoring.specs.declared.Run.{Run}
-use Rattle.monitoring.specs.declared.Verdict.the-variants.{Judged}
-use Rattle.monitoring.specs.Run.{runOf}
-use Rattle.monitoring.specs.Stream.{takenAll}
 
 -- the slots after a letter, which is performed only if it is fine
 unfoldable pub slotsPerformed : Slots → Bool → Letter → Slots
 slotsPerformed s fine letter = pick fine (λ _. performSlots registers functions s letter) λ _. s
-
--- Slots that stand for a window; from it on, the bytes left lead to the whole run.
-pub record Standing (h : Header) (s : Slots) (fine : Bool) (count one two : ℕ) (left : List ℕ) (whole : Run) : Type 0 where
-  pub window : Window
-  pub represents : Represents registers functions (h .registers) s window
-  pub taken : takenAll (runOf h window fine count (Judged one two)) left ≡ whole

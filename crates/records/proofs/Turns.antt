@@ -15,22 +15,24 @@ use lib.Seq.{getD-drop, getD-take, length-take-le, take-add, take-append-le}
 use borrow.Author.Tests.{eq-eqb, eqb-true, eqb-false, ltb-true, ltb-false}
 use Rattle.base.specs.Choice.{byTest}
 use Rattle.base.specs.Masks.{bit}
-use Rattle.base.specs.MaskLaws.{trailing-least}
+use Rattle.base.proofs.Theory.MaskLaws.{trailing-least}
 use Rattle.letters.specs.Packing.{join}
 use Rattle.semantics.specs.PackedTables.{units, unitsIn}
-use Rattle.base.specs.Written.{Written}
-use Rattle.traces.specs.TraceLaws.{units-length}
-use Rattle.window.specs.Table.{written-all, table, table-at, table-length, table-is, Swept, swept-none, swept-more, swept-all}
+use Rattle.base.proofs.Theory.Written.{Written}
+use Rattle.traces.proofs.Theory.TraceLaws.{units-length}
+use Rattle.window.proofs.Theory.Table.{written-all, table-at, table-length, table-is, Swept, swept-none, swept-more, swept-all}
+use Rattle.window.specs.Table.{table}
 use Rattle.window.specs.declared.Window.{Window}
 use Rattle.records.specs.Codes.{codeOf, codeAt, heldOf, computedOf, assembled, gathered, scattered}
-use Rattle.records.specs.Digits.{All<, units-one, bytes-in, gathered-length}
-use Rattle.records.specs.FormatLaws.{all-of, all-map}
+use Rattle.records.proofs.Theory.Digits.{All<, units-one, bytes-in, gathered-length}
+use Rattle.records.proofs.Theory.FormatLaws.{all-of, all-map}
 use Rattle.records.specs.Formats as formats
 use Rattle.records.specs.Formats.{numberIn, flag, isSet, mix, mixed, spread, sameFront, contentPlace}
-use Rattle.records.specs.Pairs.{front-is}
+use Rattle.records.proofs.Theory.Pairs.{front-is}
 use Rattle.records.specs.Records.{firstFormat, blank, codeBytes, partsOf, fingerprintOf, encoded, recordOf}
 use Rattle.records.specs.Records.{codesAt, meaningsOf, meant, everIn, windowIn}
-use Rattle.records.specs.Words.{wordOf, octetsOf, octets-back, wordsIn}
+use Rattle.records.specs.Words.{wordOf, octetsOf, wordsIn}
+use Rattle.records.proofs.Theory.Words.{octets-back}
 
 pub lay-turn : (d s e : List ℕ) (at i : ℕ) → at + i < length d → i < length s → e ≡ paste d at s i → set e (at + i) (getD s i 0) ≡ paste d at s (i + 1)
 lay-turn d s e at i h g p = rw (p, add-one) (paste-suc d at s i 0 h g)

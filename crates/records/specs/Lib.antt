@@ -1,11 +1,5 @@
 pub mod Codes
-pub mod Digits
 pub mod Words
 pub mod Formats
 pub mod Records
-pub mod Tables
-pub mod FormatLaws
-pub mod Agree
-pub mod Pairs
-pub mod Storable
 pub mod Examples

@@ -3,15 +3,3 @@ pub mod Questions
 pub mod FirstNo
 pub mod Order
 pub mod Accepted
-pub mod Numbers
-pub mod Wider
-pub mod Basics
-pub mod Rests
-pub mod Parts
-pub mod Judged
-pub mod Phrases
-pub mod Statements
-pub mod Lines
-pub mod Text
-pub mod Examples
-pub mod QuestionExamples

@@ -2,8 +2,4 @@ pub mod Lines
 pub mod Shown
 pub mod Examples
 pub mod ShownLaws
-pub mod Forms
-pub mod ReportParts
-pub mod Packed
 pub mod Bound
-pub mod WroteLaws

@@ -1,14 +1,7 @@
 pub mod Trails
-pub mod Concluded
 pub mod Searched
 pub mod Tracing
-pub mod TracingLaws
-pub mod TracedLaws
-pub mod Delivering
 pub mod Modelling
 pub mod Answering
 pub mod MacroSearch
-pub mod Judged
 pub mod MacroExecutions
-pub mod MacroExecutionsExample
-pub mod Answerable

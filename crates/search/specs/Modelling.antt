@@ -1,14 +1,11 @@
 -- What the output holds after the model of a trace was asked for, behind the place of the trace.
-use mathlib.Core.Path.{_≡_, sym, ap, _∙_, subst}
+use mathlib.Core.Path.{_≡_}
 use mathlib.Core.Bool.{Bool, true, false}
 use mathlib.Core.List.{List, _++_}
-use Prim.Native.Nat.{ℕ, _-_, _≤_}
-use native.Mathlib.Omega.{arith}
-use lib.ListN.{length, take, drop, length-drop}
-use Rattle.base.specs.Lent.{tail-lent, tail-back}
+use Prim.Native.Nat.{ℕ}
+use lib.ListN.{length, take, drop}
 use Rattle.shown.specs.Answer.{shownAnswer, model, Showed}
 use Rattle.shown.specs.declared.Shown.{Shown}
-use Rattle.shown.specs.declared.Shown.the-variants.{Model, Infeasible, Refused}
 
 -- The trace s was shown with the output behind its place. `fits` tells whether a model was written there.
 pub record Modelled (s output : List ℕ) (fits : Bool) (output′ : List ℕ) : Type 0 where
@@ -18,34 +15,3 @@ pub record Modelled (s output : List ℕ) (fits : Bool) (output′ : List ℕ) :
   pub stands : output′ ≡ take (length s) output ++ behind
   pub yes : fits ≡ true → (k : ℕ) × (shownAnswer shown ≡ model k)
   pub no : fits ≡ false → (k : ℕ) → shownAnswer shown ≡ model k → ⊥
-
-module _ (bytes : List ℕ) (start : ℕ) (output : List ℕ) (r : Shown) (back : List ℕ) (b : length bytes ≡ 2050) (l : start ≤ 2050)
-    (w : Showed (take (2050 - start) (drop start bytes)) (take (length output - (2050 - start)) (drop (2050 - start) output)) r back) where
-  abbrev s : List ℕ
-  s = drop start bytes
-
-  long : length s ≡ 2050 - start
-  long = simp length-drop (omega arith)
-
-  at-place : Showed s (drop (length s) output) r back
-  at-place = subst (λ n. Showed s (drop n output) r back) (sym long)
-      (subst (λ x. Showed s x r back) (tail-lent (2050 - start) output) (subst (λ x. Showed x (take (length output - (2050 - start)) (drop (2050 - start) output)) r back) (ap (λ n. take (n - start) (drop start bytes)) (sym b) ∙ tail-lent start bytes) w))
-
-  module _ (output′ : List ℕ) (e : output′ ≡ take (2050 - start) output ++ (back ++ drop (length output - (2050 - start)) (drop (2050 - start) output))) where
-    standing : output′ ≡ take (length s) output ++ back
-    standing = e ∙ tail-back (2050 - start) output back ∙ ap (λ n. take n output ++ back) (sym long)
-
-    pub modelled-yes : (k : ℕ) → r ≡ Model k → Modelled s output true output′
-    modelled-yes k f = record { shown = r; behind = back; showed = at-place; stands = standing; yes = λ _. (k, ap shownAnswer f); no = λ x. absurd (let z : _≡_ {A = ℕ} 0 1 = cc in omega arith) }
-
-    pub modelled-infeasible : (k : ℕ) → r ≡ Infeasible k → Modelled s output false output′
-    modelled-infeasible k f = record { shown = r; behind = back; showed = at-place; stands = standing; yes = λ x. absurd (let z : _≡_ {A = ℕ} 0 1 = cc in omega arith); no = λ _ j g. differ j (sym (ap shownAnswer f) ∙ g) }
-      where
-        differ : (j : ℕ) → shownAnswer (Infeasible k) ≡ model j → ⊥
-        differ j g = let z : _≡_ {A = ℕ} 0 1 = cc in omega arith
-
-    pub modelled-refused : (k j : ℕ) → r ≡ Refused k j → Modelled s output false output′
-    modelled-refused k j f = record { shown = r; behind = back; showed = at-place; stands = standing; yes = λ x. absurd (let z : _≡_ {A = ℕ} 0 1 = cc in omega arith); no = λ _ i g. differ i (sym (ap shownAnswer f) ∙ g) }
-      where
-        differ : (i : ℕ) → shownAnswer (Refused k j) ≡ model i → ⊥
-        differ i g = let z : _≡_ {A = ℕ} 0 1 = cc in omega arith

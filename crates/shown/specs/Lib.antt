@@ -6,5 +6,3 @@ pub mod Meaning
 pub mod Listing
 pub mod Fitting
 pub mod Answer
-pub mod Means
-pub mod AnswerLaws

@@ -1,13 +1,8 @@
 -- Which applications have a row of their own.
-use mathlib.Core.Path.{_≡_, refl, sym, _∙_}
-use mathlib.Core.Logic.{_≢_}
+use mathlib.Core.Path.{_≡_}
 use mathlib.Core.List.{List}
 use Prim.Native.Nat.{ℕ, suc, _≤_, _<_}
-use native.Mathlib.Omega.{arith}
-use Rattle.closure.specs.Index.{Entered}
-use Rattle.closure.specs.Arrays.{at, Formed, Indexed, Argument, signatureAt}
-use Rattle.closure.specs.Entering.{readable, readable-at}
-use Rattle.closure.specs.Propagation.{same-signature}
+use Rattle.closure.specs.Arrays.{at, Indexed}
 
 -- Applications m and i are of one function, with arguments of the same classes.
 pub record Alike (representative function first second : List ℕ) (m i : ℕ) : Type 0 where
@@ -24,28 +19,3 @@ pub data New (representative function first second : List ℕ) (registers i : �
 pub record NewRow (representative function first second : List ℕ) (registers i : ℕ) (head link : List ℕ) (b : ℕ) : Type 0 where
   pub is : New representative function first second registers i b
   pub indexed : Indexed representative function first second registers (suc i) head link
-
-pub new-le : (representative function first second : List ℕ) (registers i b : ℕ) → New representative function first second registers i b → b ≤ 1
-new-le representative function first second registers i b (new none) = omega arith
-new-le representative function first second registers i b (old m p h a) = omega arith
-
--- as `new_row` finds it
-module _ (representative function first second : List ℕ) (registers i : ℕ) (fm : Formed representative function first second registers (suc i)) (least : registers ≤ i) (head link : List ℕ) (index : Indexed representative function first second registers i head link) where
-  pub row-readable : (i < 1032) × (at function i < 4) × Argument representative (at first i) × Argument representative (at second i)
-  row-readable = readable-at i (readable (suc i) fm (fm .more) (omega arith)) (omega arith)
-
-  module _ (c r : ℕ) (e : c ≡ signatureAt representative function first second i) (head′ link′ : List ℕ) (w : Entered (signatureAt representative function first second) registers i c head link r head′ link′) where
-    indexed-next : Indexed representative function first second registers (suc i) head′ link′
-    indexed-next = record { chains = w .chains; complete = w .completes (signatureAt representative function first second) (λ k l. refl) (sym e) (index .complete) }
-
-    as-signature : (m : ℕ) → Alike representative function first second m i → signatureAt representative function first second m ≡ c
-    unfolding signatureAt
-    as-signature m a = rw (a .functions, a .firsts, a .seconds) (sym e)
-
-    pub new-hit : r ≡ i → NewRow representative function first second registers i head′ link′ 1
-    new-hit q = record { is = new (λ m p h a. w .fresh q (index .complete) m p h (as-signature m a)); indexed = indexed-next }
-
-    pub new-miss : r ≢ i → NewRow representative function first second registers i head′ link′ 0
-    new-miss d = let m = w .most in let h : r < i = omega arith in
-        let (u, v, z) = same-signature function first second registers (suc i) representative r i fm (omega arith) (omega arith) (w .hit h ∙ e) in
-        record { is = old r (w .least) h (record { functions = u; firsts = v; seconds = z }); indexed = indexed-next }

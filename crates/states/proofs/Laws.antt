@@ -6,13 +6,14 @@ use native.Mathlib.Nat.{div-one}
 use mathlib.Core.List.{List, [], _∷_, _++_, map, append-assoc, append-nil}
 use lib.ListN.{length, getD, take, drop, length-append, length-take, length-drop, take-append-drop, drop-of-length-le}
 use lib.Seq.{take-at, drop-at, drop-drop}
-use Rattle.letters.specs.Packing.{join, split, join-split}
+use Rattle.letters.specs.Packing.{join, split}
+use Rattle.letters.proofs.Theory.Packing.{join-split}
 use Rattle.records.specs.Records.{flag}
 use Rattle.monitoring.specs.declared.Monitor.{Monitor}
 use Rattle.monitoring.specs.declared.Stream.{Stream}
 use Rattle.states.specs.States.{eightOctets, monitorSize, streamSize, headOf, partsThen, monitorThen, Sizes, WindowSizes, monitorIn, KeepsMonitor}
 use Rattle.states.specs.States.{firstNumber, secondNumber, tailOf, tailThen, streamThen, streamIn, KeepsStream}
-use Rattle.states.specs.StateLaws.{behind, front, monitor-back, stream-back}
+use Rattle.states.proofs.Theory.StateLaws.{behind, front, monitor-back, stream-back}
 
 -- a part laid behind what is done
 laid-on : (b b′ done rest part : List ℕ) (at : ℕ) → b ≡ done ++ rest → length done ≡ at → b′ ≡ take at b ++ part ++ drop (at + length part) b

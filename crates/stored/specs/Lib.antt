@@ -1,3 +1,1 @@
-pub mod Stored
-pub mod SamePair
-pub mod Examples
+

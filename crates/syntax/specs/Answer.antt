@@ -9,7 +9,7 @@ use Rattle.macros.specs.Points.{points, sizeBlock}
 use Rattle.tokens.specs.Tokens.{tokenAt}
 use Rattle.tokens.specs.declared.Token.{Token}
 use Rattle.grammar.specs.Grammar.{Macro, headerOf}
-use Rattle.grammar.specs.Reading.{Got, got, refused, exhausted, onward, block, functionsT, registers, finishT, countT}
+use Rattle.grammar.specs.Reading.{Got, got, refused, exhausted, onward, block, functionsT, finishT, countT}
 use Rattle.blocks.specs.Held.{table, heldPoint}
 use Rattle.syntax.specs.declared.Macro as held
 use Rattle.syntax.specs.declared.Answer.{Answer}
@@ -70,7 +70,3 @@ module _ (s : List ℕ) where
   -- behind the registers
   unfoldable pub functionsFrom : List ℕ → ℕ → Got Macro
   functionsFrom rs b = onward (functionsT s rs b (tokenAt s b)) λ r c. bodyFrom rs (r .0) (r .1) c
-
-  -- behind `vars`
-  unfoldable pub registersFrom : ℕ → Got Macro
-  registersFrom a = onward (registers s 8 [] a) λ rs b. functionsFrom rs b

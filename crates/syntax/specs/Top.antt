@@ -1,41 +1,21 @@
 -- The returns of the reader's last functions, each by a law.
-use mathlib.Core.Path.{_≡_, refl, sym, ap, subst, _∙_}
-use Prim.Native.Nat.{ℕ, zero, suc, _+_, _*_, _-_, _≤_, _<_}
-use native.Mathlib.Omega.{arith}
-use native.Mathlib.Nat.{zero-add}
-use mathlib.Core.Bool.{true, false}
-use mathlib.Core.List.{List, [], _∷_, _++_, map, append-nil}
-use lib.Dec.{eqb, leb}
-use lib.ListN.{length, getD, take, drop, replicate, length-append}
-use lib.Seq.{take-append-seam}
-use borrow.Author.Tests.{eq-eqb, ne-eqb, le-ltb, lt-ltb, leb-true, leb-false}
-use Rattle.base.specs.Choice.{pick, byTest}
-use Rattle.base.specs.Each.{each}
+use mathlib.Core.Path.{_≡_}
+use Prim.Native.Nat.{ℕ, _≤_, _<_}
+use mathlib.Core.Bool.{true}
+use mathlib.Core.List.{List}
+use lib.Dec.{eqb}
+use lib.ListN.{take, replicate}
+use Rattle.base.specs.Choice.{pick}
 use Rattle.letters.specs.declared.Header.{Header}
 use Rattle.macros.specs.Tree.{Block}
-use Rattle.macros.specs.Points.{points, sizeBlock, compileBlock}
-use Rattle.tokens.specs.declared.Token.{Token}
-use Rattle.tokens.specs.Tokens.{tokenAt}
-use Rattle.tokens.specs.Words as word
+use Rattle.macros.specs.Points.{sizeBlock}
 use Rattle.grammar.specs.Grammar.{Macro, binaryOf}
-use Rattle.grammar.specs.Reading.{Got, got, refused, exhausted, onward, expect, registers, functions, functionsT, block, countT, readText, readMacro}
-use Rattle.grammar.specs.Spelled.{Arities, none, one, two}
-use Rattle.grammar.specs.Declarations.{registers-sound}
-use Rattle.grammar.specs.Whole.{none-declared, functions-line}
-use Rattle.phrases.specs.Codes.{nothing, Few}
-use Rattle.phrases.specs.Answers.{coded-at}
-use Rattle.phrases.specs.declared.Got as number
-use Rattle.blocks.specs.Held.{table, over, unused, heldPoint, Progress, progressOf, heldBy, pointsOf, tableOf, Holds, redirected}
-use Rattle.blocks.specs.CodeLaws.{table-filled}
-use Rattle.blocks.specs.Outcome.{Outcome, turnedIn, within, blockCode, BlockRead, Ready}
-use Rattle.blocks.specs.OutcomeLaws.{outcome-fine}
-use Rattle.blocks.specs.TableLaws.{over-range, points-range, points-none, length-map}
-use Rattle.blocks.specs.Redirect.{block-length, redirect-block}
+use Rattle.blocks.specs.Held.{unused, Progress, Holds}
+use Rattle.blocks.specs.Outcome.{blockCode}
 use Rattle.blocks.specs.declared.Point.{Point}
 use Rattle.blocks.specs.declared.State.{State}
-use Rattle.syntax.specs.Answer.{padded, heldMacro, noMacro, answerOf, heldRegisters, heldFunctions, unfitNumber, endFrom, bodyFrom, functionsFrom, registersFrom}
-use Rattle.syntax.specs.Lists.{Kept, kept-list, refusedBy}
-use Rattle.syntax.specs.declared.Macro as held
+use Rattle.syntax.specs.Answer.{answerOf, endFrom}
+use Rattle.syntax.specs.Lists.{Kept}
 use Rattle.syntax.specs.declared.Answer.{Answer}
 use Rattle.syntax.specs.declared.Registers.{Registers}
 use Rattle.syntax.specs.declared.Functions.{Functions}
@@ -45,10 +25,6 @@ KeptRegisters rs = Kept 8 (rs .names) (rs .count)
 
 abbrev pub KeptFunctions : Functions → Type 0
 KeptFunctions fs = Kept 4 (fs .names) (fs .count) × Kept 4 (fs .arities) (fs .count)
-
--- the lists that the arrays hold
-abbrev pub listOf : Registers → List ℕ
-listOf rs = take (rs .count) (rs .names)
 
 abbrev pub macroOf : Registers → Functions → Block → Macro
 macroOf rs fs b = record { registers = take (rs .count) (rs .names); functions = take (fs .count) (fs .names); arities = take (fs .count) (fs .arities); body = b }
@@ -68,302 +44,12 @@ Finishes s rs fs body r = (b : Block) → Ended body b → r ≡ answerOf (endFr
 abbrev pub startOf : ℕ → State
 startOf at = record { ok = true; number = 0; place = 0; at = at; count = 0 }
 
--- where reading the statements begins, with arrays of zeros
-abbrev pub startWith : ℕ → Progress
-startWith at = progressOf (startOf at) blank
-
--- ---- fixed values
-
-pub no-macro-held : (p : Point) → p ≡ unused → record { header = record { registers = 0; functions = 0; binary = 0 }; registers = replicate 8 0; functions = replicate 4 0; points = replicate 256 p; count = 0 } ≡ noMacro
-no-macro-held p e = λ i. record { header = record { registers = 0; functions = 0; binary = 0 }; registers = replicate 8 0; functions = replicate 4 0; points = replicate 256 (e i); count = 0 }
-
-pub refused-held : (n p : ℕ) (m : held.Macro) → m ≡ noMacro → record { refusal = n; place = p; program = m } ≡ answerOf (refused n p)
-unfolding answerOf
-refused-held n p m e = λ i. record { refusal = n; place = p; program = e i }
-
 -- ---- the mask of the functions of two arguments
 
 abbrev pub flagOf : ℕ → ℕ
 flagOf n = pick (eqb n 2) (λ _. 1) λ _. 0
 
-pub flag-one : (n : ℕ) → n ≡ 2 → (1 ≡ flagOf n) × (1 ≤ 1)
-flag-one n h = (rw (eq-eqb n 2 h), omega arith)
-
-pub flag-none : (n : ℕ) → (n ≡ 2 → ⊥) → (0 ≡ flagOf n) × (0 ≤ 1)
-flag-none n h = (rw (ne-eqb n 2 h), omega arith)
-
-pub four : (ns : List ℕ) (a b c d : ℕ) → length ns ≡ 4 → a ≡ flagOf (getD ns 0 0) → b ≡ flagOf (getD ns 1 0) → c ≡ flagOf (getD ns 2 0) → d ≡ flagOf (getD ns 3 0) → a + 2 * b + 4 * c + 8 * d ≡ binaryOf ns
-four [] a b c d h p q r s = absurd (omega arith)
-four (w ∷ []) a b c d h p q r s = absurd (omega arith)
-four (w ∷ x ∷ []) a b c d h p q r s = absurd (omega arith)
-four (w ∷ x ∷ y ∷ []) a b c d h p q r s = absurd (omega arith)
-four (w ∷ x ∷ y ∷ z ∷ []) a b c d h p q r s = sum (flagOf w) (flagOf x) (flagOf y) (flagOf z) p q r s
-  where
-    sum : (w x y z : ℕ) → a ≡ w → b ≡ x → c ≡ y → d ≡ z → a + 2 * b + 4 * c + 8 * d ≡ w + 2 * (x + 2 * (y + 2 * (z + 2 * 0)))
-    sum w x y z p q r s = omega arith
-four (w ∷ x ∷ y ∷ z ∷ v ∷ ns) a b c d h p q r s = absurd (omega arith)
-
-binary-padded : (ns : List ℕ) (k : ℕ) → binaryOf (ns ++ replicate k 0) ≡ binaryOf ns
-binary-padded [] zero = refl
-binary-padded [] (suc k) = let e = binary-padded [] k in omega arith
-binary-padded (n ∷ ns) k = ap (λ m. flagOf n + 2 * m) (binary-padded ns k)
-
 -- ---- the end
 
 abbrev pub headed : Registers → Functions → Header
 headed rs fs = record { registers = rs .count; functions = fs .count; binary = binaryOf (fs .arities) }
-
-pub head-held : (rs : Registers) (fs : Functions) (n : ℕ) → n ≡ binaryOf (fs .arities)
-    → record { registers = rs .count; functions = fs .count; binary = n } ≡ headed rs fs
-head-held rs fs n e = λ i. record { registers = rs .count; functions = fs .count; binary = e i }
-
--- the answer of a text that was read
-abbrev read : Registers → Functions → Header → List Point → ℕ → Answer
-read rs fs h ps n = record {
-  refusal = 0;
-  place = 0;
-  program = record {
-    header = h;
-    registers = rs .names;
-    functions = fs .names;
-    points = ps;
-    count = n;
-  };
-}
-
--- the points of the whole macro, with the end for what follows
-turned-whole : (b : Block) → sizeBlock b ≤ 256 → map (redirected (sizeBlock b)) (blockCode b 0) ≡ map heldPoint (compileBlock b 0 (sizeBlock b))
-unfolding blockCode
-turned-whole b l = redirect-block (sizeBlock b) 256 b 0 (omega arith)
-
-module _ (s : List ℕ) (rs : Registers) (fs : Functions) (body : Progress) (t : Token) (e : t ≡ tokenAt s (body .at)) where
-  pub finish-unfit : (t .key ≡ 0 → ⊥) → (n : ℕ) → n ≡ unfitNumber t → (r : Answer) → r ≡ answerOf (refused n (t .start)) → Finishes s rs fs body r
-  unfolding Finishes
-  finish-unfit h n i r g b E = rw (← e, ne-eqb (t .key) 0 h) (g ∙ ap (λ n. answerOf (refused n (t .start))) i)
-
-  module _ (z : t .key ≡ 0) where
-    pub finish-long : 256 < body .count → (r : Answer) → r ≡ answerOf (refused 13 0) → Finishes s rs fs body r
-    unfolding Finishes
-    finish-long h r g b E =
-        let l : 256 < sizeBlock b = byTest (leb (sizeBlock b) 256) (λ u. let H = E .low (leb-true (sizeBlock b) 256 u) in let c = H .count in let m = block-length b 0 in let v = leb-true (sizeBlock b) 256 u in absurd (omega arith)) (λ u. leb-false (sizeBlock b) 256 u) in
-        rw (← e, eq-eqb (t .key) 0 z, lt-ltb 256 (sizeBlock b) l) g
-
-    pub finish-read : Kept 8 (rs .names) (rs .count) → Kept 4 (fs .names) (fs .count) × Kept 4 (fs .arities) (fs .count) → body .count ≤ 256
-        → (head : Header) → head ≡ headed rs fs
-        → (ps : List Point) → ((b : Block) → sizeBlock b ≤ 256 → Holds blank body (blockCode b 0) → ps ≡ table (map heldPoint (points b)))
-        → Finishes s rs fs body (read rs fs head ps (body .count))
-    unfolding Finishes answerOf heldMacro
-    finish-read R (F, A) h head i ps p b E =
-        let l : sizeBlock b ≤ 256 = byTest (leb (sizeBlock b) 256) (λ u. leb-true (sizeBlock b) 256 u) (λ u. let c = E .high (leb-false (sizeBlock b) 256 u) in absurd (omega arith)) in
-        let H = E .low l in
-        let n : body .count ≡ sizeBlock b = H .count ∙ block-length b 0 in
-        let arities = take (fs .count) (fs .arities) in
-        let binary : binaryOf (fs .arities) ≡ binaryOf arities = ap binaryOf (A .pad) ∙ binary-padded arities (4 - length arities) in
-        rw (← e, eq-eqb (t .key) 0 z, le-ltb 256 (sizeBlock b) l)
-        λ j. record {
-          refusal = 0;
-          place = 0;
-          program = record {
-            header = (i ∙ λ j. record { registers = sym (R .size) j; functions = sym (F .size) j; binary = binary j }) j;
-            registers = R .pad j;
-            functions = F .pad j;
-            points = p b l H j;
-            count = n j;
-          };
-        }
-
--- the points of a macro that was read, once the end is put for what follows
-module _ (body : State) (cs xs ys xs′ ys′ : List ℕ) (ps : List Point) (e : xs′ ≡ each (turnedIn 0 (body .count) (body .count)) xs)
-    (f : ys′ ≡ each (turnedIn 0 (body .count) (body .count)) ys)
-    (g : ps ≡ tableOf cs xs′ ys′ (body .count)) where
-  pub points-whole : (b : Block) → sizeBlock b ≤ 256 → Holds blank (heldBy body cs xs ys) (blockCode b 0) → ps ≡ table (map heldPoint (points b))
-  points-whole b l H =
-      let n = body .count in
-      let held = blockCode b 0 in
-      let ts = map (redirected n) held in
-      let size : length ts ≡ n = length-map (redirected n) held ∙ sym (H .count) in
-      let all : pointsOf cs xs′ ys′ ≡ over blank ts =
-      (λ i. pointsOf cs (e i) (f i))
-      ∙ points-range cs xs ys 0 n n
-      ∙ ap (each (within 0 n n)) (H .points ∙ ap (over blank) (sym (append-nil held)))
-      ∙ over-range blank [] held [] 0 n n refl (zero-add (length held) ∙ sym (H .count))
-      ∙ ap (over blank) (append-nil ts) in
-      let more = length-append ts (drop (length ts) blank) in
-      g
-      ∙ table-filled cs xs′ ys′ n (let c = H .count in let m = block-length b 0 in omega arith) (omega (arith, ap length all))
-      ∙ ap (λ l. table (take n l)) all
-      ∙ ap (λ k. table (take k (over blank ts))) (sym size)
-      ∙ ap table (take-append-seam ts (drop (length ts) blank))
-      ∙ ap (λ k. table (map (redirected k) held)) (H .count ∙ block-length b 0)
-      ∙ ap table (turned-whole b l)
-
--- ---- behind the declarations
-
-module _ (s : List ℕ) (rs : Registers) (fs : Functions) (body st : Progress) (S : st ≡ startWith (fs .at))
-    (B : BlockRead s (take (rs .count) (rs .names)) (take (fs .count) (fs .names)) (take (fs .count) (fs .arities)) 16 st body) where
-  abbrev Body : Got Block
-  Body = block s (take (rs .count) (rs .names)) (take (fs .count) (fs .names)) (take (fs .count) (fs .arities)) (2 * length s + 1) 16 (fs .at)
-
-  outcome : Outcome blockCode (startWith (fs .at)) body Body
-  outcome = subst (λ k. Outcome blockCode (startWith (fs .at)) body (called k)) (one-more (2 * length s)) (begun .outcome (2 * length s) (omega arith))
-    where
-      called : ℕ → Got Block
-      called k = block s (take (rs .count) (rs .names)) (take (fs .count) (fs .names)) (take (fs .count) (fs .arities)) k 16 (fs .at)
-
-      one-more : (n : ℕ) → suc n ≡ n + 1
-      one-more n = omega arith
-
-      begun : BlockRead s (take (rs .count) (rs .names)) (take (fs .count) (fs .names)) (take (fs .count) (fs .arities)) 16 (startWith (fs .at)) body
-      begun =
-          subst (λ st. BlockRead s (take (rs .count) (rs .names)) (take (fs .count) (fs .names)) (take (fs .count) (fs .arities)) 16 st body) S B
-
-  pub body-refused : body .ok ≡ false → (r : Answer) → r ≡ answerOf (refused (body .number) (body .place)) → r ≡ answerOf (bodyFrom s (take (rs .count) (rs .names)) (take (fs .count) (fs .names)) (take (fs .count) (fs .arities)) (fs .at))
-  unfolding bodyFrom
-  body-refused h r g = g ∙ go Body outcome
-    where
-      go : (x : Got Block) → Outcome blockCode (startWith (fs .at)) body x
-          → answerOf (refused (body .number) (body .place)) ≡ answerOf (onward x λ b e. endFrom s (macroOf rs fs b) e)
-      go (got b e) o = let k = o .ok in let z : _≡_ {A = ℕ} 0 1 = cc in absurd (omega arith)
-      go (refused n p) o = λ m. answerOf (refused (o .number m) (o .place m))
-      go exhausted o = absurd o
-
-  pub body-read : body .ok ≡ true → (r : Answer) → Finishes s rs fs body r → r ≡ answerOf (bodyFrom s (take (rs .count) (rs .names)) (take (fs .count) (fs .names)) (take (fs .count) (fs .arities)) (fs .at))
-  unfolding bodyFrom Finishes
-  body-read h r g =
-      let (b, e, w, F) = outcome-fine blockCode (startWith (fs .at)) body Body outcome h in
-      let n = block-length b 0 in
-      let begun : Holds blank (startWith (fs .at)) [] = record { size = refl; count = refl; points = refl } in
-      let E : Ended body b = record { low = λ l. F .laid blank [] begun (omega arith); high = λ l. F .high (omega arith) } in
-      g b E ∙ ap (λ e. answerOf (endFrom s (macroOf rs fs b) e)) (F .at) ∙ ap (λ x. answerOf (onward x λ b e. endFrom s (macroOf rs fs b) e)) (sym w)
-
--- arrays of zeros, where reading begins
-pub start-with : (st : State) (at : ℕ) → st ≡ startOf at → heldBy st (replicate 256 0) (replicate 256 0) (replicate 256 0) ≡ startWith at
-start-with st at e = λ i. progressOf (e i) (points-none 256 i)
-
-pub few : (rs : Registers) (fs : Functions) → KeptRegisters rs → KeptFunctions fs → Few (take (rs .count) (rs .names)) (take (fs .count) (fs .names)) (take (fs .count) (fs .arities))
-few rs fs R (F, A) = record { registers = let a = R .size in let b = R .few in omega arith; functions = let a = F .size in let b = F .few in omega arith; arities = A .size ∙ sym (F .size) }
-
-pub start-ready : (rs : Registers) (fs : Functions) (st : State) → st ≡ startOf (fs .at) → KeptRegisters rs → KeptFunctions fs
-    → Ready (take (rs .count) (rs .names)) (take (fs .count) (fs .names)) (take (fs .count) (fs .arities)) (st .count)
-start-ready rs fs st h R F = record { few = few rs fs R F; counted = let c = ap (λ st. st .count) h in omega arith }
-
--- ---- behind the registers
-
-arities-length : {fs ns : List ℕ} → Arities fs ns → length ns ≡ length fs
-arities-length none = refl
-arities-length (one a) = ap suc (arities-length a)
-arities-length (two a) = ap suc (arities-length a)
-
-module _ (s : List ℕ) (rs : Registers) (fs : Functions) (h : fs ≡ heldFunctions (functionsT s (listOf rs) (rs .at) (tokenAt s (rs .at)))) where
-  abbrev Line : Got (List ℕ × List ℕ)
-  Line = functionsT s (listOf rs) (rs .at) (tokenAt s (rs .at))
-
-  -- what the functions' struct holds
-  pub line-ok : fs .ok ≡ true → (r : List ℕ × List ℕ) × (c : ℕ) × (Line ≡ got r c) × (fs .at ≡ c) × (take (fs .count) (fs .names) ≡ r .0) × (take (fs .count) (fs .arities) ≡ r .1) × KeptFunctions fs
-  unfolding heldFunctions
-  line-ok k = go Line refl h
-    where
-      go : (x : Got (List ℕ × List ℕ)) → Line ≡ x → fs ≡ heldFunctions x → (r : List ℕ × List ℕ) × (c : ℕ) × (Line ≡ got r c) × (fs .at ≡ c) × (take (fs .count) (fs .names) ≡ r .0) × (take (fs .count) (fs .arities) ≡ r .1) × KeptFunctions fs
-      go (got r c) w e =
-          let (D, P, A, l, p) = functions-line s (listOf rs) (rs .at) r c w in
-          let n = arities-length A in
-          let (a₁, k₁) = kept-list 4 (r .0) l in
-          let (a₂, k₂) = kept-list 4 (r .1) (omega arith) in
-          let ec : fs .count ≡ length (r .0) = ap (λ f. f .count) e in
-          let en : fs .names ≡ padded 4 (r .0) = ap (λ f. f .names) e in
-          let ea : fs .arities ≡ padded 4 (r .1) = ap (λ f. f .arities) e in
-          let ed : fs .count ≡ length (r .1) = ec ∙ sym n in (
-            r,
-            c,
-            w,
-            ap (λ f. f .at) e,
-            (λ i. take (ec i) (en i)) ∙ a₁,
-            (λ i. take (ed i) (ea i)) ∙ a₂,
-            ((subst (λ c. Kept 4 (fs .names) c) (sym ec) (subst (λ l. Kept 4 l (length (r .0))) (sym en) k₁)), (subst (λ c. Kept 4 (fs .arities) c) (sym ed) (subst (λ l. Kept 4 l (length (r .1))) (sym ea) k₂))),
-          )
-      go (refused n p) w e = let z = ap (λ f. f .ok) e in let y : _≡_ {A = ℕ} 0 1 = cc in absurd (omega arith)
-      go exhausted w e = let z = ap (λ f. f .ok) e in let y : _≡_ {A = ℕ} 0 1 = cc in absurd (omega arith)
-
-  pub line-kept : fs .ok ≡ true → KeptFunctions fs
-  line-kept k = let (r, c, w, a, x, y, K) = line-ok k in K
-
-  pub rest-read : fs .ok ≡ true → (r : Answer) → r ≡ answerOf (bodyFrom s (listOf rs) (take (fs .count) (fs .names)) (take (fs .count) (fs .arities)) (fs .at)) → r ≡ answerOf (functionsFrom s (listOf rs) (rs .at))
-  unfolding functionsFrom
-  rest-read k r g =
-      let (l, c, w, a, x, y, K) = line-ok k in
-      g ∙ (λ i. answerOf (bodyFrom s (listOf rs) (x i) (y i) (a i))) ∙ ap (λ x. answerOf (onward x λ r c. bodyFrom s (listOf rs) (r .0) (r .1) c)) (sym w)
-
-  pub rest-refused : fs .ok ≡ false → (r : Answer) → r ≡ answerOf (refused (fs .number) (fs .place)) → r ≡ answerOf (functionsFrom s (listOf rs) (rs .at))
-  unfolding functionsFrom heldFunctions answerOf
-  rest-refused k r g = g ∙ go Line h
-    where
-      go : (x : Got (List ℕ × List ℕ)) → fs ≡ heldFunctions x → answerOf (refused (fs .number) (fs .place)) ≡ answerOf (onward x λ r c. bodyFrom s (listOf rs) (r .0) (r .1) c)
-      go (got r c) e = let z = ap (λ f. f .ok) e in let y : _≡_ {A = ℕ} 0 1 = cc in absurd (omega arith)
-      go (refused n p) e = λ i. answerOf (refused (e i .number) (e i .place))
-      go exhausted e = λ i. answerOf (refused (e i .number) (e i .place))
-
--- ---- the whole text
-
-assoc : {A B C : Type 0} (x : Got A) (f : A → ℕ → Got B) (g : B → ℕ → Got C) (h : A → ℕ → Got C) → ((a : A) (e : ℕ) → onward (f a e) g ≡ h a e) → onward (onward x f) g ≡ onward x h
-assoc (got a e) f g h k = k a e
-assoc (refused n p) f g h k = refl
-assoc exhausted f g h k = refl
-
-pub read-long : (s : List ℕ) → 4096 < length s → (r : Answer) → r ≡ answerOf (refused 7 0) → r ≡ answerOf (readMacro s)
-unfolding readMacro readText
-read-long s h r g = rw (lt-ltb 4096 (length s) h) g
-
-steps : (s : List ℕ) → length s ≤ 4096 → readMacro s ≡ onward (expect s word.vars 0) λ _ a. registersFrom s a
-unfolding readMacro readText registersFrom functionsFrom bodyFrom
-steps s h =
-    rw (le-ltb 4096 (length s) h)
-    (assoc (expect s word.vars 0) _ (countT s) _ λ _ a.
-    assoc (registers s 8 [] a) _ (countT s) _ λ rs b.
-    assoc (functionsT s rs b (tokenAt s b)) _ (countT s) _ λ r c.
-    assoc (block s rs (r .0) (r .1) (2 * length s + 1) 16 c) _ (countT s) _ λ body e. refl)
-
-module _ (s : List ℕ) (l : length s ≤ 4096) (g : number.Got) (i : g ≡ nothing (expect s word.vars 0)) where
-  pub read-vars : (n p : ℕ) → g ≡ number.the-variants.Refused n p → (r : Answer) → r ≡ answerOf (refusedBy g) → r ≡ answerOf (readMacro s)
-  unfolding answerOf
-  read-vars n p h r e = e ∙ go (expect s word.vars 0) i ∙ ap answerOf (sym (steps s l))
-    where
-      go : (x : Got (Unit {0})) → g ≡ nothing x → answerOf (refusedBy g) ≡ answerOf (onward x λ _ a. registersFrom s a)
-      go (got u e) i = let z : _≡_ {A = ℕ} 0 1 = cc in absurd (omega arith)
-      go (refused n p) i = rw i
-      go exhausted i = rw i
-
-  module _ (v a : ℕ) (h : g ≡ number.the-variants.At v a) (rs : Registers) (e : rs ≡ heldRegisters (registers s 8 [] a)) where
-    begun : readMacro s ≡ registersFrom s a
-    begun = let (u, x, y) = coded-at (λ _. 0) (expect s word.vars 0) g v a i h in steps s l ∙ ap (λ x. onward x λ _ a. registersFrom s a) x
-
-    names-ok : rs .ok ≡ true → (l : List ℕ) × (b : ℕ) × (registers s 8 [] a ≡ got l b) × (rs .at ≡ b) × (listOf rs ≡ l) × KeptRegisters rs
-    unfolding heldRegisters
-    names-ok k = go (registers s 8 [] a) refl e
-      where
-        go : (x : Got (List ℕ)) → registers s 8 [] a ≡ x → rs ≡ heldRegisters x → (l : List ℕ) × (b : ℕ) × (registers s 8 [] a ≡ got l b) × (rs .at ≡ b) × (listOf rs ≡ l) × KeptRegisters rs
-        go (got l b) w e =
-            let (ks, q, D, m, z, p) = registers-sound s 8 [] a l b none-declared w in
-            let (a₁, k₁) = kept-list 8 l (subst (λ l. length l ≤ 8) (sym q) z) in
-            let ec : rs .count ≡ length l = ap (λ f. f .count) e in
-            let en : rs .names ≡ padded 8 l = ap (λ f. f .names) e in
-            (l, b, w, ap (λ f. f .at) e, (λ i. take (ec i) (en i)) ∙ a₁, subst (λ c. Kept 8 (rs .names) c) (sym ec) (subst (λ x. Kept 8 x (length l)) (sym en) k₁))
-        go (refused n p) w e = let z = ap (λ f. f .ok) e in let y : _≡_ {A = ℕ} 0 1 = cc in absurd (omega arith)
-        go exhausted w e = let z = ap (λ f. f .ok) e in let y : _≡_ {A = ℕ} 0 1 = cc in absurd (omega arith)
-
-    pub names-kept : rs .ok ≡ true → KeptRegisters rs
-    names-kept k = let (l, b, w, x, y, K) = names-ok k in K
-
-    pub read-rest : rs .ok ≡ true → (r : Answer) → r ≡ answerOf (functionsFrom s (listOf rs) (rs .at)) → r ≡ answerOf (readMacro s)
-    unfolding registersFrom
-    read-rest k r g =
-        let (l, b, w, x, y, K) = names-ok k in
-        g ∙ (λ i. answerOf (functionsFrom s (y i) (x i))) ∙ ap (λ x. answerOf (onward x λ rs b. functionsFrom s rs b)) (sym w) ∙ ap answerOf (sym begun)
-
-    pub read-refused : rs .ok ≡ false → (r : Answer) → r ≡ answerOf (refused (rs .number) (rs .place)) → r ≡ answerOf (readMacro s)
-    unfolding registersFrom heldRegisters answerOf
-    read-refused k r g = g ∙ go (registers s 8 [] a) e ∙ ap answerOf (sym begun)
-      where
-        go : (x : Got (List ℕ)) → rs ≡ heldRegisters x → answerOf (refused (rs .number) (rs .place)) ≡ answerOf (onward x λ rs b. functionsFrom s rs b)
-        go (got l b) e = let z = ap (λ f. f .ok) e in let y : _≡_ {A = ℕ} 0 1 = cc in absurd (omega arith)
-        go (refused n p) e = λ i. answerOf (refused (e i .number) (e i .place))
-        go exhausted e = λ i. answerOf (refused (e i .number) (e i .place))

@@ -1,3 +1,4 @@
+pub mod Theory
 pub mod Counting
 pub mod Putting
 pub mod Unpacking

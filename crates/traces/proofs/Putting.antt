@@ -13,15 +13,16 @@ use Rattle.base.specs.Choice.{byTest}
 use Rattle.letters.specs.declared.Header.{Header}
 use Rattle.letters.specs.declared.Letter.{Letter}
 use Rattle.letters.specs.Letters.{Fits}
-use Rattle.letters.specs.Packing.{split, join-lt}
+use Rattle.letters.specs.Packing.{split}
+use Rattle.letters.proofs.Theory.Packing.{join-lt}
 use Rattle.letters.specs.Editions.{firstEdition}
 use Rattle.letters.specs.Answers.{Answer, value, refusal, onAnswer}
 use Rattle.letters.specs.Words.{HeaderFits, headerFields, letterFields, headerWord, letterWord, headerTest, encodeHeader, encodeLetter}
-use Rattle.letters.specs.WordLaws.{chosen, header-test, fits-test, first-roomy}
+use Rattle.letters.proofs.Theory.WordLaws.{chosen, header-test, fits-test, first-roomy}
 use Rattle.traces.specs.Traces.{Reading, trace, refused, units, bytesOf, parts, packing, lettersFrom, counted}
-use Rattle.traces.specs.TraceLaws.{Decoded, letters-decoded, decoded-length, parts-length, bytes-length}
+use Rattle.traces.proofs.Theory.TraceLaws.{Decoded, letters-decoded, decoded-length, parts-length, bytes-length}
 use Rattle.traces.specs.Writing.{unpackLetter, unpackedParts, unpacking, writtenLength, writtenOver, Wrote}
-use Rattle.traces.specs.WritingLaws.{unpack-letter, unpack-whole}
+use Rattle.traces.proofs.Theory.WritingLaws.{unpack-letter, unpack-whole}
 use Rattle.letters.specs.Putting.{putWord}
 use Rattle.traces.specs.Putting.{wordIn, putEach, putWords}
 

@@ -13,11 +13,11 @@ use Rattle.letters.specs.declared.Letter.{Letter}
 use Rattle.letters.specs.declared.Letter.the-variants.{Copy, Apply, Equal, Unequal}
 use Rattle.letters.specs.Editions.{firstEdition}
 use Rattle.letters.specs.Answers.{value, refusal}
-use Rattle.letters.specs.WordLaws.{first-roomy}
+use Rattle.letters.proofs.Theory.WordLaws.{first-roomy}
 use Rattle.traces.specs.Traces.{trace, parts, letterCount, letterIn, reading, counted}
-use Rattle.traces.specs.TraceLaws.{Decoded, Read, read, read-count}
+use Rattle.traces.proofs.Theory.TraceLaws.{Decoded, Read, read, read-count}
 use Rattle.traces.specs.Writing.{plainFields, unpackedBytes}
-use Rattle.traces.specs.WritingLaws.{five, plain-length, unpacked-length}
+use Rattle.traces.proofs.Theory.WritingLaws.{five, plain-length, unpacked-length}
 use Rattle.traces.specs.Unpacking.{putPlain, putUnpacked, unpackedCount, unpackedOver, Unpacked}
 use Rattle.traces.specs.Putting.{putEach}
 use Rattle.traces.proofs.Putting.{counted-trace, counted-refused}

@@ -4,5 +4,4 @@ pub mod Writing
 pub mod Unpacking
 pub mod Putting
 pub mod TraceLaws
-pub mod WritingLaws
 pub mod Examples

@@ -1,11 +1,3 @@
-pub mod Short
 pub mod Prints
-pub mod PrintsLaws
-pub mod Answers
 pub mod Reported
-pub mod Saying
-pub mod ReadBack
-pub mod ReportedLaws
-pub mod Examples
-pub mod Declared
 pub mod Answered

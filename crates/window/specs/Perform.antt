@@ -3,13 +3,8 @@ use Prim.Native.Nat.{ℕ}
 use mathlib.Core.Bool.{Bool}
 use Rattle.letters.specs.declared.Letter.{Letter}
 use Rattle.window.specs.Layout.{registers, functions}
-use Rattle.window.specs.Places as places
 use Rattle.window.specs.Performing as performing
 use Rattle.window.specs.declared.Window.{Window}
-
--- the entry of the table of results for f at a and b
-abbrev pub place : ℕ → ℕ → ℕ → ℕ
-place = places.place registers
 
 -- the window of a header with n registers alone
 abbrev pub freshOf : ℕ → Window

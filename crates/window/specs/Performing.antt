@@ -1,18 +1,13 @@
 -- The window after a letter, and whether the letter is coherent, for every layout of ρ registers and φ functions and every window
 -- value: what the code computes.
-use mathlib.Core.Path.{_≡_, refl, ap, _∙_}
 use mathlib.Core.Bool.{Bool, true, false, not, cond, _||_}
 use mathlib.Core.List.{List}
-use Prim.Native.Nat.{ℕ, zero, suc, _+_, _*_, _^_, _-_, _≤_, _<_}
-use native.Mathlib.Omega.{arith}
-use native.Mathlib.Numerals.{add-one}
+use Prim.Native.Nat.{ℕ, zero, suc, _+_, _*_, _^_, _<_}
 use lib.Dec.{eqb, ltb}
 use lib.Bits.{bitAnd, bitOr}
-use borrow.Author.Tests.{lt-ltb, le-ltb}
 use lib.ListN.{getD, set, replicate}
 use Rattle.base.specs.Choice.{pick}
 use Rattle.base.specs.Masks.{has, leastIn, sizeOf}
-use Rattle.base.specs.MaskLaws.{with-same}
 use Rattle.letters.specs.declared.Letter.{Letter}
 use Rattle.letters.specs.declared.Letter.the-variants.{Copy, Apply, Equal, Unequal}
 use Rattle.window.specs.Places.{place}
@@ -45,12 +40,6 @@ ownOf n r = cond (ltb r n) (2 ^ r) 0
 -- "Early": neither side has a mark
 unfoldable pub earlyOf : Window → ℕ → ℕ → Bool
 earlyOf w x y = not (getD (w .mark) x false || getD (w .mark) y false)
-
-pub both-has : (m n a s : ℕ) → s ≡ 2 ^ a → has (bitOr (bitOr m n) s) a ≡ true
-both-has m n a s e = rw (e, with-same (bitOr m n) a)
-
-pub parted-is : (l : List ℕ) (one two r p q : ℕ) → p ≡ partOf one two r → q ≡ partOf two one r → bitOr (bitOr (getD l r 0) p) q ≡ bitOr (bitOr (getD l r 0) (partOf one two r)) (partOf two one r)
-parted-is l one two r p q d e = rw (d, e)
 
 module _ (ρ φ : ℕ) where
   -- ---- a register loses its value
@@ -162,103 +151,3 @@ module _ (ρ φ : ℕ) where
   performOf w (Apply x f y z) = applyOf w x f y z
   performOf w (Equal x y) = equalOf w x y
   performOf w (Unequal x y) = unequalOf w x y
-
-  -- ---- the loops
-
-  pub find-more : (class result : List ℕ) (i : ℕ) → i < φ * ρ * ρ → nonempty ρ (restOf class (getD result i 0)) ≡ false → findOf class result i (φ * ρ * ρ - i) ≡ findOf class result (i + 1) (φ * ρ * ρ - (i + 1))
-  unfolding findOf
-  find-more class result i h e = let k : φ * ρ * ρ - i ≡ suc (φ * ρ * ρ - (i + 1)) = omega arith in rw (k, e, add-one)
-
-  pub find-here : (class result : List ℕ) (i : ℕ) → i < φ * ρ * ρ → nonempty ρ (restOf class (getD result i 0)) ≡ true → findOf class result i (φ * ρ * ρ - i) ≡ getD result i 0
-  unfolding findOf
-  find-here class result i h e = let k : φ * ρ * ρ - i ≡ suc (φ * ρ * ρ - (i + 1)) = omega arith in rw (k, e)
-
-  pub find-none : (class result : List ℕ) (i : ℕ) → φ * ρ * ρ ≤ i → findOf class result i (φ * ρ * ρ - i) ≡ 0
-  unfolding findOf
-  find-none class result i h = let k : φ * ρ * ρ - i ≡ 0 = omega arith in rw k
-
-  pub clash-more : (class unequal : List ℕ) (i : ℕ) (b v : Bool) → b ≡ clashOf class unequal i → v ≡ apartOf unequal i (getD class i 0) → (b || v) ≡ clashOf class unequal (i + 1)
-  unfolding clashOf
-  clash-more class unequal i b v e d = rw (add-one, e, d)
-
-  pub clash-none : (class unequal : List ℕ) → false ≡ clashOf class unequal 0
-  unfolding clashOf
-  clash-none class unequal = refl
-
-  pub clash-all : (class unequal : List ℕ) (b : Bool) (i : ℕ) → i ≤ ρ → ρ ≤ i → b ≡ clashOf class unequal i → b ≡ clashOf class unequal ρ
-  clash-all class unequal b i h g e = e ∙ ap (clashOf class unequal) (omega arith)
-
-  pub rest-some : (class : List ℕ) (entry one : ℕ) → one ≡ leastIn ρ entry → one < ρ → minus entry (getD class one 0) ≡ restOf class entry
-  unfolding restOf
-  rest-some class entry one e h = rw (← e, lt-ltb one ρ h)
-
-  pub rest-none : (class : List ℕ) (entry one : ℕ) → one ≡ leastIn ρ entry → ρ ≤ one → 0 ≡ restOf class entry
-  unfolding restOf
-  rest-none class entry one e h = rw (← e, le-ltb one ρ h)
-
-  -- ---- what the functions on the whole window call, one after the other
-
-  pub copied-within : (w : Window) (x y : ℕ) → has (getD (w .class) x 0) y ≡ true → w ≡ copiedOf w x y
-  unfolding copiedOf
-  copied-within w x y h = rw h
-
-  pub copied-moved : (w : Window) (x y s : ℕ) (m : List Bool) (c u r e : List ℕ) (v : Window) → has (getD (w .class) x 0) y ≡ false → s ≡ fallenOf (getD (w .class) x 0) (w .result) x 0 → m ≡ markedWith ρ (w .mark) s
-      → c ≡ masksThrough ρ y y (2 ^ x) (w .class) → u ≡ masksThrough ρ y y (2 ^ x) (w .unequal) → r ≡ resultsThrough ρ y y (2 ^ x) (w .result) → e ≡ masksThrough ρ y y (2 ^ x) (w .ever)
-      → v ≡ withTables w c u r e (set m x (getD m y false)) → v ≡ copiedOf w x y
-  unfolding copiedOf copiedTables
-  copied-moved w x y s m c u r e v h p q i j k l d = rw (h, d, i, j, k, l, q, p)
-
-  pub merged-is : (w : Window) (a b s : ℕ) (c u r e : List ℕ) (v : Window) → s ≡ 2 ^ a
-      → c ≡ masksThrough ρ a b (bitOr (bitOr (getD (w .class) a 0) (getD (w .class) b 0)) s) (w .class) → u ≡ masksThrough ρ a b (bitOr (bitOr (getD (w .class) a 0) (getD (w .class) b 0)) s) (w .unequal)
-      → r ≡ resultsThrough ρ a b (bitOr (bitOr (getD (w .class) a 0) (getD (w .class) b 0)) s) (w .result) → e ≡ masksThrough ρ a b (bitOr (bitOr (getD (w .class) a 0) (getD (w .class) b 0)) s) (w .ever)
-      → v ≡ withTables w c u r e (w .mark) → v ≡ mergedOf w a b
-  unfolding mergedOf
-  merged-is w a b s c u r e v o i j k l d = rw (d, i, j, k, l, o)
-
-  pub applied-is : (w : Window) (x f y z s a o : ℕ) (m : List Bool) (c u r e : List ℕ) (v : Window) → a ≡ argumentsOf x y z (getD (w .class) y 0) (getD (w .class) z 0) → s ≡ fallenOf (getD (w .class) x 0) (w .result) x a
-      → m ≡ markedWith ρ (w .mark) s → o ≡ 2 ^ x → c ≡ masksForgotten ρ x (w .class) → u ≡ masksForgotten ρ x (w .unequal) → r ≡ resultsForgotten ρ x f (getD (w .class) y 0) (getD (w .class) z 0) (w .result)
-      → e ≡ masksForgotten ρ x (lineAdded ρ f (getD (w .class) y 0) (getD (w .class) z 0) (w .ever)) → v ≡ withTables w (set c x o) u r e (set m x false) → v ≡ appliedOf w x f y z
-  unfolding appliedOf
-  applied-is w x f y z s a o m c u r e v p q i j k l n h d = rw (d, k, j, l, n, h, i, q, p)
-
-  pub apply-known : (w : Window) (x f y z r : ℕ) (v : Window) → r ≡ leastIn ρ (getD (w .result) (place ρ f y z) 0) → r < ρ → v ≡ copiedOf w x r → v ≡ applyOf w x f y z
-  unfolding applyOf
-  apply-known w x f y z r v e h d = rw (← e, lt-ltb r ρ h, d)
-
-  pub apply-new : (w : Window) (x f y z r : ℕ) (v : Window) → r ≡ leastIn ρ (getD (w .result) (place ρ f y z) 0) → ρ ≤ r → v ≡ appliedOf w x f y z → v ≡ applyOf w x f y z
-  unfolding applyOf
-  apply-new w x f y z r v e h d = rw (← e, le-ltb r ρ h, d)
-
-  -- ---- one turn of the closing
-
-  module _ (fuel one two entry rest : ℕ) (w : Window) (e : entry ≡ findOf (w .class) (w .result) 0 (φ * ρ * ρ)) (o : one ≡ leastIn ρ entry) (r : rest ≡ restOf (w .class) entry) (t : two ≡ leastIn ρ rest) (fb : 0 < fuel) where
-    closed-suc : (n : ℕ) (v : Window) → one < ρ → two < ρ → v ≡ mergedOf w one two → closedOf (suc n) w ≡ closedOf n v
-    unfolding closedOf
-    closed-suc n v h g d = rw (← e, ← r, ← o, ← t, lt-ltb one ρ h, lt-ltb two ρ g, d)
-
-    pub closed-more : (v : Window) → one < ρ → two < ρ → v ≡ mergedOf w one two → closedOf fuel w ≡ closedOf (fuel - 1) v
-    closed-more v h g d = ap (λ m. closedOf m w) (omega arith) ∙ closed-suc (fuel - 1) v h g d
-
-    pub closed-one : one < ρ → ρ ≤ two → closedOf fuel w ≡ w
-    unfolding closedOf
-    closed-one h g = let k : fuel ≡ suc (fuel - 1) = omega arith in rw (k, ← e, ← r, ← o, ← t, lt-ltb one ρ h, le-ltb two ρ g)
-
-    pub closed-none : ρ ≤ one → closedOf fuel w ≡ w
-    unfolding closedOf
-    closed-none h = let k : fuel ≡ suc (fuel - 1) = omega arith in rw (k, ← e, ← o, le-ltb one ρ h)
-
-  pub closed-end : (fuel : ℕ) (w : Window) → fuel ≤ 0 → closedOf fuel w ≡ w
-  unfolding closedOf
-  closed-end fuel w h = let k : fuel ≡ 0 = omega arith in rw k
-
-  pub equal-within : (w : Window) (x y : ℕ) → has (getD (w .class) x 0) y ≡ true → w ≡ equalOf w x y
-  unfolding equalOf
-  equal-within w x y h = rw h
-
-  pub equal-moved : (w : Window) (x y : ℕ) (m n v : Window) (b : Bool) → has (getD (w .class) x 0) y ≡ false → m ≡ mergedOf w x y → n ≡ closedOf (ρ * ρ + 1) m → b ≡ clashOf (n .class) (n .unequal) ρ → v ≡ settledOf n b → v ≡ equalOf w x y
-  unfolding equalOf
-  equal-moved w x y m n v b h p q r d = rw (h, d, r, q, p)
-
-  pub unequal-is : (w : Window) (x y : ℕ) (l : List ℕ) (b : Bool) (v : Window) → l ≡ partedOf (w .unequal) (getD (w .class) x 0) (getD (w .class) y 0) → b ≡ has (getD (w .class) x 0) y → v ≡ settledOf (withUnequal w l (w .infeasible)) b → v ≡ unequalOf w x y
-  unfolding unequalOf
-  unequal-is w x y l b v p q d = rw (d, p, q)

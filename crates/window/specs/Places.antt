@@ -1,17 +1,10 @@
 -- Where an entry stands: in a table of lines, each with an entry for each of ρ registers, and in the table of results.
-use mathlib.Core.Path.{_≡_, sym, ap, _∙_, subst}
+use mathlib.Core.Path.{_≡_, sym, ap, _∙_}
 use Prim.Native.Nat.{ℕ, _+_, _*_, _/_, _%_, _<_}
 use native.Mathlib.Omega.{arith}
-use native.Mathlib.Nat.{add-zero, mul-zero, mul-suc, mul-comm, mul-assoc, mul-add, mul-le-mul-left, mod-lt, mod-eq-of-lt, div-eq-of-lt, div-add-mod, mul-add-div, mul-add-mod-self-left, div-lt-iff-lt-mul, div-div-eq-div-mul}
-use lib.Dec.{ltb}
-use borrow.Author.Tests.{ltb-true, ltb-false}
-use Rattle.base.specs.Choice.{byTest}
+use native.Mathlib.Nat.{add-zero, mul-assoc, mul-add, mod-eq-of-lt, div-eq-of-lt, div-add-mod, mul-add-div, mul-add-mod-self-left, div-div-eq-div-mul}
 
 module _ (ρ : ℕ) where
-  -- a table with an entry has a register
-  pub some : (n k : ℕ) → k < n * ρ → 0 < ρ
-  some n k h = byTest (ltb 0 ρ) (λ t. ltb-true 0 ρ t) (λ t. let l = ltb-false 0 ρ t in let z : ρ ≡ 0 = omega arith in let e = ap (λ r. n * r) z ∙ mul-zero n in absurd (omega arith))
-
   -- ---- entry d of line j is ρ j + d
 
   pub entry-is : (k : ℕ) → ρ * (k / ρ) + k % ρ ≡ k
@@ -22,12 +15,6 @@ module _ (ρ : ℕ) where
 
   pub along-entry : (j d : ℕ) → d < ρ → (ρ * j + d) % ρ ≡ d
   along-entry j d h = mul-add-mod-self-left ρ j d ∙ mod-eq-of-lt h
-
-  pub entry-below : (n j d : ℕ) → j < n → d < ρ → ρ * j + d < n * ρ
-  entry-below n j d h g = let l = mul-le-mul-left ρ h in omega (arith, l, mul-suc ρ j, mul-comm ρ n)
-
-  pub line-below : (n k : ℕ) → k < n * ρ → k / ρ < n
-  line-below n k h = div-lt-iff-lt-mul {k = ρ} {x = k} {y = n} (some n k h) .1 h
 
   -- ---- the result of f at a and b
 
@@ -59,16 +46,3 @@ module _ (ρ : ℕ) where
 
     pub second-place : Second (place f a b) ≡ b
     second-place = along-entry (ρ * f + a) b bb
-
-    pub place-below : (φ : ℕ) → f < φ → place f a b < φ * ρ * ρ
-    place-below φ fb = entry-below (φ * ρ) (ρ * f + a) b (entry-below φ f a fb ab) bb
-
-  module _ (φ k : ℕ) (kb : k < φ * ρ * ρ) where
-    pub function-below : Function k < φ
-    function-below = subst (λ z. z < φ) (div-div-eq-div-mul k ρ ρ) (line-below φ (k / ρ) (line-below (φ * ρ) k kb))
-
-    pub first-below : First k < ρ
-    first-below = mod-lt (k / ρ) (some (φ * ρ) k kb)
-
-    pub second-below : Second k < ρ
-    second-below = mod-lt k (some (φ * ρ) k kb)

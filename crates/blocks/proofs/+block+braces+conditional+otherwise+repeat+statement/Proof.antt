@@ -3,8 +3,8 @@ use native.Mathlib.Omega.{arith}
 use mathlib.Core.List.{[]}
 use lib.ListN.{length}
 use Rattle.blocks.specs.Held.{heldBy}
-use Rattle.blocks.specs.OutcomeLaws.{fine-count, points-joined, points-branched, points-looped}
-use Rattle.blocks.specs.CycleLaws as law
+use Rattle.blocks.proofs.Theory.OutcomeLaws.{fine-count, points-joined, points-branched, points-looped}
+use Rattle.blocks.proofs.Theory.CycleLaws as law
 use borrow.Author.Needs.{needs}
 use borrow.Fn.Kinds.{In}
 use borrow.Fn.PlainCycle.{Measures, is, falls, and}

@@ -1,7 +1,7 @@
 use mathlib.Core.Path.{ap}
 use lib.ListN.{set}
 use borrow.Author.Needs.{needs}
-use Rattle.blocks.specs.CodeLaws.{change-high, change-none, change-some}
+use Rattle.blocks.proofs.Theory.CodeLaws.{change-high, change-none, change-some}
 use Rattle.blocks.proofs.branch.Statement.{statement}
 use Rattle.blocks.proofs.branch.Tie as tie
 

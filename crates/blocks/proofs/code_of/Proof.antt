@@ -1,5 +1,5 @@
 use borrow.Author.Needs.{needs}
-use Rattle.blocks.specs.CodeLaws.{coded}
+use Rattle.blocks.proofs.Theory.CodeLaws.{coded}
 use Rattle.blocks.proofs.code_of.Statement.{statement}
 use Rattle.blocks.proofs.code_of.Tie as tie
 

@@ -1,5 +1,5 @@
 use native.Mathlib.Omega.{arith}
-use Rattle.blocks.specs.CodeLaws.{change-high, change-none, change-some}
+use Rattle.blocks.proofs.Theory.CodeLaws.{change-high, change-none, change-some}
 use Rattle.blocks.proofs.join.Statement.{statement}
 use Rattle.blocks.proofs.join.Tie as tie
 

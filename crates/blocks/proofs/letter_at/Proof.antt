@@ -1,5 +1,5 @@
 use borrow.Author.Needs.{needs}
-use Rattle.base.specs.Choice.{decide}
+use Rattle.base.proofs.Theory.Choice.{decide}
 use Rattle.blocks.proofs.letter_at.Statement.{statement}
 use Rattle.blocks.proofs.letter_at.Tie as tie
 

@@ -1,4 +1,4 @@
-use Rattle.blocks.specs.OutcomeLaws.{fine-moved}
+use Rattle.blocks.proofs.Theory.OutcomeLaws.{fine-moved}
 use Rattle.blocks.proofs.moved.Statement.{statement}
 use Rattle.blocks.proofs.moved.Tie as tie
 

@@ -1,6 +1,6 @@
 use native.Mathlib.Omega.{arith}
 use borrow.Author.Needs.{needs}
-use Rattle.blocks.specs.CodeLaws.{packed-split}
+use Rattle.blocks.proofs.Theory.CodeLaws.{packed-split}
 use Rattle.blocks.proofs.packed.Statement.{statement}
 use Rattle.blocks.proofs.packed.Tie as tie
 

@@ -1,5 +1,5 @@
 use borrow.Author.Needs.{needs}
-use Rattle.blocks.specs.OutcomeLaws.{passed-at, passed-refused}
+use Rattle.blocks.proofs.Theory.OutcomeLaws.{passed-at, passed-refused}
 use Rattle.blocks.proofs.passed.Statement.{statement}
 use Rattle.blocks.proofs.passed.Tie as tie
 

@@ -1,4 +1,4 @@
-use Rattle.blocks.specs.CycleLaws as law
+use Rattle.blocks.proofs.Theory.CycleLaws as law
 use borrow.Author.Needs.{needs}
 use Rattle.blocks.proofs.plain.Statement.{statement}
 use Rattle.blocks.proofs.plain.Tie as tie

@@ -1,5 +1,5 @@
 use borrow.Author.Needs.{needs}
-use Rattle.blocks.specs.CodeLaws.{point-held}
+use Rattle.blocks.proofs.Theory.CodeLaws.{point-held}
 use Rattle.blocks.proofs.point_at.Statement.{statement}
 use Rattle.blocks.proofs.point_at.Tie as tie
 

@@ -3,7 +3,7 @@ use native.Mathlib.Omega.{arith}
 use mathlib.Core.Path.{_≡_, ap, _∙_}
 use lib.ListN.{replicate}
 use borrow.Author.Needs.{needs}
-use Rattle.base.specs.Each.{each-none, each-turn, ended}
+use Rattle.base.proofs.Theory.Each.{each-none, each-turn, ended}
 use Rattle.blocks.specs.Held.{tableOf, unused}
 use Rattle.blocks.proofs.points_of.Statement.{statement}
 use Rattle.blocks.proofs.points_of.Tie as tie

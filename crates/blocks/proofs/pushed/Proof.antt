@@ -1,5 +1,5 @@
 use borrow.Author.Needs.{needs}
-use Rattle.blocks.specs.OutcomeLaws.{fine-pushed, fine-full}
+use Rattle.blocks.proofs.Theory.OutcomeLaws.{fine-pushed, fine-full}
 use Rattle.blocks.proofs.pushed.Statement.{statement}
 use Rattle.blocks.proofs.pushed.Tie as tie
 

@@ -2,9 +2,10 @@ use Prim.Native.Nat.{_-_, _≤_}
 use native.Mathlib.Omega.{arith}
 use mathlib.Core.Path.{_≡_}
 use borrow.Author.Needs.{needs}
-use Rattle.base.specs.Each.{done, each-turn}
+use Rattle.base.specs.Each.{done}
+use Rattle.base.proofs.Theory.Each.{each-turn}
 use Rattle.blocks.specs.Outcome.{turnedIn}
-use Rattle.blocks.specs.CodeLaws.{range-begun, range-turn, range-ended}
+use Rattle.blocks.proofs.Theory.CodeLaws.{range-begun, range-turn, range-ended}
 use Rattle.blocks.proofs.redirect_range.Statement.{statement}
 use Rattle.blocks.proofs.redirect_range.Tie as tie
 

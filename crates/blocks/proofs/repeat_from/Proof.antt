@@ -1,6 +1,6 @@
 use lib.ListN.{set}
 use borrow.Author.Needs.{needs}
-use Rattle.blocks.specs.CodeLaws.{change-high, change-none, change-some}
+use Rattle.blocks.proofs.Theory.CodeLaws.{change-high, change-none, change-some}
 use Rattle.blocks.proofs.repeat_from.Statement.{statement}
 use Rattle.blocks.proofs.repeat_from.Tie as tie
 

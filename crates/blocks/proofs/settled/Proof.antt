@@ -1,5 +1,5 @@
 use borrow.Author.Needs.{needs}
-use Rattle.blocks.specs.OutcomeLaws.{settled-at, settled-refused}
+use Rattle.blocks.proofs.Theory.OutcomeLaws.{settled-at, settled-refused}
 use Rattle.blocks.proofs.settled.Statement.{statement}
 use Rattle.blocks.proofs.settled.Tie as tie
 

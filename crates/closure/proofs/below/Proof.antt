@@ -1,7 +1,7 @@
 use Prim.Native.Nat.{_<_}
 use native.Mathlib.Omega.{arith}
 use borrow.Author.Needs.{needs}
-use Rattle.closure.specs.Index.{Cutting, cutting-start, cutting-turn, cutting-end, link-less}
+use Rattle.closure.proofs.Theory.Index.{Cutting, cutting-start, cutting-turn, cutting-end, link-less}
 use Rattle.closure.proofs.below.Statement.{statement}
 use Rattle.closure.proofs.below.Tie as tie
 

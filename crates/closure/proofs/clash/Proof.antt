@@ -1,7 +1,7 @@
 use Prim.Native.Nat.{_-_, _≤_}
 use native.Mathlib.Omega.{arith}
 use borrow.Author.Needs.{needs}
-use Rattle.closure.specs.Clashing.{parts-more, clash-hit, clash-end, below-use}
+use Rattle.closure.proofs.Theory.Clashing.{parts-more, clash-hit, clash-end, below-use}
 use Rattle.closure.specs.Arrays.{Parts}
 use Rattle.closure.proofs.clash.Statement.{statement}
 use Rattle.closure.proofs.clash.Tie as tie

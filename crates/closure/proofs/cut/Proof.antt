@@ -1,7 +1,7 @@
 use Prim.Native.Nat.{_-_}
 use native.Mathlib.Omega.{arith}
 use borrow.Author.Needs.{needs}
-use Rattle.closure.specs.Index.{CuttingAll, cutting-all-start, cutting-below, cutting-all-turn, cutting-all-end}
+use Rattle.closure.proofs.Theory.Index.{CuttingAll, cutting-all-start, cutting-below, cutting-all-turn, cutting-all-end}
 use Rattle.closure.proofs.cut.Statement.{statement}
 use Rattle.closure.proofs.cut.Tie as tie
 

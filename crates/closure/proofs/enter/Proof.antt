@@ -3,7 +3,7 @@ use native.Mathlib.Omega.{arith}
 use mathlib.Core.Path.{refl}
 use native.Mathlib.Nat.{mod-lt}
 use borrow.Author.Needs.{needs}
-use Rattle.closure.specs.Index.{chain-below, entered-known, entered-new}
+use Rattle.closure.proofs.Theory.Index.{chain-below, entered-known, entered-new}
 use Rattle.closure.proofs.enter.Statement.{statement}
 use Rattle.closure.proofs.enter.Tie as tie
 

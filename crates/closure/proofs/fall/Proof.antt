@@ -1,4 +1,4 @@
-use Rattle.base.specs.Choice.{decide}
+use Rattle.base.proofs.Theory.Choice.{decide}
 use Rattle.closure.specs.Arrays.{fallOf}
 use Rattle.closure.proofs.fall.Statement.{statement}
 use Rattle.closure.proofs.fall.Tie as tie

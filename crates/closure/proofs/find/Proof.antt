@@ -1,9 +1,9 @@
 use Prim.Native.Nat.{_<_}
 use native.Mathlib.Omega.{arith}
 use borrow.Author.Needs.{needs}
-use Rattle.closure.specs.Index.{Finding, finding-start, finding-turn, finding-hit, finding-end, link-less}
+use Rattle.closure.proofs.Theory.Index.{Finding, finding-start, finding-turn, finding-hit, finding-end, link-less}
 use Rattle.closure.specs.Arrays.{signatureAt}
-use Rattle.closure.specs.Entering.{readable-at}
+use Rattle.closure.proofs.Theory.Entering.{readable-at}
 use Rattle.closure.proofs.find.Statement.{statement}
 use Rattle.closure.proofs.find.Tie as tie
 

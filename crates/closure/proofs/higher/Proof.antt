@@ -1,4 +1,4 @@
-use Rattle.base.specs.Choice.{decide}
+use Rattle.base.proofs.Theory.Choice.{decide}
 use Rattle.closure.specs.Arrays.{highOf}
 use Rattle.closure.proofs.higher.Statement.{statement}
 use Rattle.closure.proofs.higher.Tie as tie

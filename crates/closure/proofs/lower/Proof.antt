@@ -1,4 +1,4 @@
-use Rattle.base.specs.Choice.{decide}
+use Rattle.base.proofs.Theory.Choice.{decide}
 use Rattle.closure.specs.Arrays.{lowOf}
 use Rattle.closure.proofs.lower.Statement.{statement}
 use Rattle.closure.proofs.lower.Tie as tie

@@ -1,8 +1,8 @@
 use Prim.Native.Nat.{_-_}
 use native.Mathlib.Omega.{arith}
 use borrow.Author.Needs.{needs}
-use Rattle.closure.specs.Propagation.{named, start-ready, underway-start, united-is, merged-is}
-use Rattle.closure.specs.Uses.{lowest, merged-unused}
+use Rattle.closure.proofs.Theory.Propagation.{named, start-ready, underway-start, united-is, merged-is}
+use Rattle.closure.proofs.Theory.Uses.{lowest, merged-unused}
 use Rattle.closure.proofs.merge.Statement.{statement}
 use Rattle.closure.proofs.merge.Tie as tie
 

@@ -2,8 +2,8 @@ use Prim.Native.Nat.{_+_, _-_, _*_}
 use native.Mathlib.Omega.{arith}
 use borrow.Author.Needs.{needs}
 use Rattle.closure.specs.Arrays.{Underway, total}
-use Rattle.closure.specs.Entering.{readable, readable-at}
-use Rattle.closure.specs.Propagation.{named, found-below, underway-same, resume-ready, underway-union, less-union, underway-end}
+use Rattle.closure.proofs.Theory.Entering.{readable, readable-at}
+use Rattle.closure.proofs.Theory.Propagation.{named, found-below, underway-same, resume-ready, underway-union, less-union, underway-end}
 use Rattle.closure.proofs.propagate.Statement.{statement}
 use Rattle.closure.proofs.propagate.Tie as tie
 

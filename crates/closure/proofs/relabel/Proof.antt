@@ -2,10 +2,11 @@ use Prim.Native.Nat.{_-_, _≤_}
 use native.Mathlib.Omega.{arith}
 use mathlib.Core.Path.{_≡_, refl}
 use borrow.Author.Needs.{needs}
-use Rattle.base.specs.Each.{done, each-turn, ended}
+use Rattle.base.specs.Each.{done}
+use Rattle.base.proofs.Theory.Each.{each-turn, ended}
 use Rattle.closure.specs.Merging.{relabelOf}
 use Rattle.closure.specs.Arrays.{relabelled}
-use Rattle.closure.specs.Propagation.{relabel-starts, fall-most, fall-is}
+use Rattle.closure.proofs.Theory.Propagation.{relabel-starts, fall-most, fall-is}
 use Rattle.closure.proofs.relabel.Statement.{statement}
 use Rattle.closure.proofs.relabel.Tie as tie
 

@@ -1,5 +1,5 @@
 use borrow.Author.Needs.{needs}
-use Rattle.closure.specs.Propagation.{undo-ready, cut-ready, resumed-all, resumed-cut}
+use Rattle.closure.proofs.Theory.Propagation.{undo-ready, cut-ready, resumed-all, resumed-cut}
 use Rattle.closure.proofs.resume.Statement.{statement}
 use Rattle.closure.proofs.resume.Tie as tie
 

@@ -2,7 +2,7 @@ use Prim.Native.Nat.{_-_}
 use native.Mathlib.Omega.{arith}
 use borrow.Author.Needs.{needs}
 use Rattle.closure.specs.Index.{signatureOf}
-use Rattle.closure.specs.Entering.{class-use}
+use Rattle.closure.proofs.Theory.Entering.{class-use}
 use Rattle.closure.proofs.signature.Statement.{statement}
 use Rattle.closure.proofs.signature.Tie as tie
 

@@ -3,8 +3,8 @@ use native.Mathlib.Omega.{arith}
 use mathlib.Core.Path.{refl, ap}
 use native.Mathlib.Nat.{mod-lt}
 use borrow.Author.Needs.{needs}
-use Rattle.closure.specs.Index.{Undoing, undoing-start, undoing-turn, undoing-end}
-use Rattle.closure.specs.Entering.{readable-at}
+use Rattle.closure.proofs.Theory.Index.{Undoing, undoing-start, undoing-turn, undoing-end}
+use Rattle.closure.proofs.Theory.Entering.{readable-at}
 use Rattle.closure.proofs.undo.Statement.{statement}
 use Rattle.closure.proofs.undo.Tie as tie
 

@@ -1,6 +1,6 @@
 use borrow.Author.Needs.{needs}
 use Rattle.closure.specs.Arrays.{united}
-use Rattle.closure.specs.Propagation.{names-ready}
+use Rattle.closure.proofs.Theory.Propagation.{names-ready}
 use Rattle.closure.proofs.unite.Statement.{statement}
 use Rattle.closure.proofs.unite.Tie as tie
 

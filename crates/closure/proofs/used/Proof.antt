@@ -1,7 +1,7 @@
 use Prim.Native.Nat.{_-_}
 use native.Mathlib.Omega.{arith}
 use borrow.Author.Needs.{needs}
-use Rattle.closure.specs.Uses.{NoUse, no-use-start, no-use-more, no-use-end, use-below, use-first, use-second}
+use Rattle.closure.proofs.Theory.Uses.{NoUse, no-use-start, no-use-more, no-use-end, use-below, use-first, use-second}
 use Rattle.closure.proofs.used.Statement.{statement}
 use Rattle.closure.proofs.used.Tie as tie
 

@@ -1,5 +1,5 @@
 use borrow.Author.Needs.{needs}
-use Rattle.base.specs.Choice.{decide}
+use Rattle.base.proofs.Theory.Choice.{decide}
 use Rattle.closure.specs.Index.{withoutLast}
 use Rattle.closure.proofs.without_last.Statement.{statement}
 use Rattle.closure.proofs.without_last.Tie as tie

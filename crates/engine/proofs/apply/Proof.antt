@@ -1,8 +1,8 @@
 use Prim.Native.Nat.{_-_}
 use native.Mathlib.Omega.{arith}
 use borrow.Author.Needs.{needs}
-use Rattle.closure.specs.Entering.{argument, readable}
-use Rattle.engine.specs.EngineLaws.{applied}
+use Rattle.closure.proofs.Theory.Entering.{argument, readable}
+use Rattle.engine.proofs.Theory.EngineLaws.{applied}
 use Rattle.engine.proofs.apply.Statement.{statement}
 use Rattle.engine.proofs.apply.Tie as tie
 

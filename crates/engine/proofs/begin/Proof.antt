@@ -2,7 +2,8 @@ use Prim.Native.Nat.{_-_, _≤_}
 use native.Mathlib.Omega.{arith}
 use mathlib.Core.Path.{_≡_, refl}
 use borrow.Author.Needs.{needs}
-use Rattle.base.specs.Each.{done, each-none, each-turn, ended}
+use Rattle.base.specs.Each.{done}
+use Rattle.base.proofs.Theory.Each.{each-none, each-turn, ended}
 use Rattle.engine.proofs.begin.Statement.{statement}
 use Rattle.engine.proofs.begin.Tie as tie
 

@@ -1,6 +1,6 @@
 use Prim.Native.Nat.{_-_}
 use borrow.Author.Needs.{needs}
-use Rattle.engine.specs.EngineLaws.{equate-ready, equated-same, equated-merged}
+use Rattle.engine.proofs.Theory.EngineLaws.{equate-ready, equated-same, equated-merged}
 use Rattle.engine.proofs.equate.Statement.{statement}
 use Rattle.engine.proofs.equate.Tie as tie
 

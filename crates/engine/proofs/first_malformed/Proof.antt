@@ -1,8 +1,8 @@
 use Prim.Native.Nat.{_-_}
 use native.Mathlib.Omega.{arith}
 use borrow.Author.Needs.{needs}
-use Rattle.engine.specs.Run.{Following}
-use Rattle.engine.specs.ReadingLaws.{bytes-there, decoded-at, following-start, following-turn, following-bad, following-end}
+use Rattle.engine.proofs.Theory.Run.{Following}
+use Rattle.engine.proofs.Theory.ReadingLaws.{bytes-there, decoded-at, following-start, following-turn, following-bad, following-end}
 use Rattle.engine.proofs.first_malformed.Statement.{statement}
 use Rattle.engine.proofs.first_malformed.Tie as tie
 

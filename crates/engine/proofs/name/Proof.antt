@@ -1,6 +1,6 @@
 use Prim.Native.Nat.{_-_}
 use borrow.Author.Needs.{needs}
-use Rattle.base.specs.Choice.{decide}
+use Rattle.base.proofs.Theory.Choice.{decide}
 use Rattle.engine.specs.Engine.{nameOf}
 use Rattle.engine.proofs.name.Statement.{statement}
 use Rattle.engine.proofs.name.Tie as tie

@@ -1,7 +1,7 @@
 use Prim.Native.Nat.{_-_}
 use native.Mathlib.Omega.{arith}
 use borrow.Author.Needs.{needs}
-use Rattle.engine.specs.EngineLaws.{copy-below, unequal-below, noted-copy, noted-unequal, noted-apply, noted-equal}
+use Rattle.engine.proofs.Theory.EngineLaws.{copy-below, unequal-below, noted-copy, noted-unequal, noted-apply, noted-equal}
 use Rattle.engine.proofs.note.Statement.{statement}
 use Rattle.engine.proofs.note.Tie as tie
 

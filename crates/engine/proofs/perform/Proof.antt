@@ -3,7 +3,7 @@ use native.Mathlib.Omega.{arith}
 use mathlib.Core.Path.{_≡_, refl}
 use borrow.Author.Needs.{needs}
 use Rattle.engine.specs.Run.{Running}
-use Rattle.engine.specs.RunLaws.{malformed-at, ready, clash-ready, goes-on, stops, ends}
+use Rattle.engine.proofs.Theory.RunLaws.{malformed-at, ready, clash-ready, goes-on, stops, ends}
 use Rattle.engine.proofs.perform.Statement.{statement}
 use Rattle.engine.proofs.perform.Tie as tie
 

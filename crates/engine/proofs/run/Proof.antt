@@ -1,8 +1,8 @@
 use Prim.Native.Nat.{_-_}
 use mathlib.Core.Path.{refl}
 use borrow.Author.Needs.{needs}
-use Rattle.closure.specs.Clashing.{zeros}
-use Rattle.engine.specs.RunLaws.{begins, registers-few}
+use Rattle.closure.proofs.Theory.Clashing.{zeros}
+use Rattle.engine.proofs.Theory.RunLaws.{begins, registers-few}
 use Rattle.engine.proofs.run.Statement.{statement}
 use Rattle.engine.proofs.run.Tie as tie
 

@@ -1,6 +1,6 @@
 use Prim.Native.Nat.{_-_}
 use borrow.Author.Needs.{needs}
-use Rattle.engine.specs.EngineLaws.{notable, computable, equatable, performed-copy, performed-unequal, performed-apply, performed-equal}
+use Rattle.engine.proofs.Theory.EngineLaws.{notable, computable, equatable, performed-copy, performed-unequal, performed-apply, performed-equal}
 use Rattle.engine.proofs.step.Statement.{statement}
 use Rattle.engine.proofs.step.Tie as tie
 

@@ -1,4 +1,4 @@
-use Rattle.base.specs.Choice.{decide}
+use Rattle.base.proofs.Theory.Choice.{decide}
 use Rattle.exploration.specs.Moves.{moveOf}
 use borrow.Author.Needs.{needs}
 use Rattle.exploration.proofs.choose.Statement.{statement}

@@ -4,11 +4,12 @@ use native.Mathlib.Omega.{arith}
 use lib.ListN.{length, getD}
 use Rattle.records.specs.Records.{recordBytes}
 use Rattle.index.specs.Index.{Indexed}
-use Rattle.index.specs.IndexLaws.{index-begins}
+use Rattle.index.proofs.Theory.IndexLaws.{index-begins}
 use Rattle.exploration.specs.Moves.{noPoint}
 use Rattle.exploration.specs.Exploring.{exploreFrom, exploreOf}
-use Rattle.exploration.specs.ExploringLaws.{on-within, goes-on, ends-full, ends-breaking, ends-failing, ends-pass}
-use Rattle.exploration.specs.Keeping.{Carried, carried-none, carried-on}
+use Rattle.exploration.proofs.Theory.ExploringLaws.{on-within, goes-on, ends-full, ends-breaking, ends-failing, ends-pass}
+use Rattle.exploration.specs.Keeping.{Carried}
+use Rattle.exploration.proofs.Theory.Keeping.{carried-none, carried-on}
 use borrow.Author.Needs.{needs}
 use Rattle.exploration.proofs.explore.Statement.{statement}
 use Rattle.exploration.proofs.explore.Tie as tie

@@ -1,4 +1,4 @@
-use Rattle.base.specs.Choice.{decide}
+use Rattle.base.proofs.Theory.Choice.{decide}
 use Rattle.exploration.specs.Turns.{failTurn}
 use Rattle.exploration.proofs.fail.Statement.{statement}
 use Rattle.exploration.proofs.fail.Tie as tie

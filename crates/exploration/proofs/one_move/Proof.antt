@@ -1,7 +1,7 @@
 use Prim.Native.Nat.{_%_}
-use Rattle.exploration.specs.Moves.{within-goes, within-fails}
-use Rattle.exploration.specs.TurnLaws.{turn-nothing, turn-goes, turn-breaks, turn-fails, turn-breaks-failing}
-use Rattle.exploration.specs.Keeping.{keeps-on, keeps-breaking, keeps-failed}
+use Rattle.exploration.proofs.Theory.Moves.{within-goes, within-fails}
+use Rattle.exploration.proofs.Theory.TurnLaws.{turn-nothing, turn-goes, turn-breaks, turn-fails, turn-breaks-failing}
+use Rattle.exploration.proofs.Theory.Keeping.{keeps-on, keeps-breaking, keeps-failed}
 use borrow.Author.Needs.{needs}
 use Rattle.exploration.proofs.one_move.Statement.{statement}
 use Rattle.exploration.proofs.one_move.Tie as tie

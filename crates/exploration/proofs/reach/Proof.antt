@@ -1,7 +1,7 @@
 use Prim.Native.Nat.{_/_, _%_}
 use native.Mathlib.Omega.{arith}
-use Rattle.exploration.specs.TurnLaws.{reach-ended, reach-seen, reach-full, reach-new}
-use Rattle.exploration.specs.Keeping.{keeps-on, keeps-full, keeps-new}
+use Rattle.exploration.proofs.Theory.TurnLaws.{reach-ended, reach-seen, reach-full, reach-new}
+use Rattle.exploration.proofs.Theory.Keeping.{keeps-on, keeps-full, keeps-new}
 use borrow.Author.Needs.{needs}
 use Rattle.exploration.proofs.reach.Statement.{statement}
 use Rattle.exploration.proofs.reach.Tie as tie

@@ -1,6 +1,6 @@
-use Rattle.base.specs.Choice.{decide}
+use Rattle.base.proofs.Theory.Choice.{decide}
 use Rattle.exploration.specs.Exploring.{searchOf}
-use Rattle.exploration.specs.ExploringLaws.{search-goes}
+use Rattle.exploration.proofs.Theory.ExploringLaws.{search-goes}
 use borrow.Author.Needs.{needs}
 use Rattle.exploration.proofs.search_pairs.Statement.{statement}
 use Rattle.exploration.proofs.search_pairs.Tie as tie

@@ -8,7 +8,7 @@ use lib.ListN.{length}
 use Rattle.files.specs.declared.Input.{Input}
 use Rattle.files.specs.declared.Progress.the-variants.{More, Over}
 use Rattle.files.specs.Input.{Received}
-use Rattle.files.specs.InputLaws.{SoFar, so-far-none, so-far-more, received, received-full}
+use Rattle.files.proofs.Theory.InputLaws.{SoFar, so-far-none, so-far-more, received, received-full}
 use Rattle.files.proofs.read.Statement.{statement}
 use Rattle.files.proofs.read.Tie as tie
 

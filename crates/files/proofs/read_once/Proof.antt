@@ -4,7 +4,7 @@ use mathlib.Core.Path.{ap, _∙_}
 use Prim.Native.Nat.{_-_}
 use lib.ListN.{length}
 use lib.Seq.{paste}
-use Rattle.files.specs.InputLaws.{gave-most, gave-wider}
+use Rattle.files.proofs.Theory.InputLaws.{gave-most, gave-wider}
 use Rattle.files.proofs.read_once.Statement.{statement}
 use Rattle.files.proofs.read_once.Tie as tie
 

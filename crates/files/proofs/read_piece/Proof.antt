@@ -1,7 +1,7 @@
 use borrow.Author.Needs.{needs}
 use mathlib.Core.Path.{sym}
 use lib.Seq.{length-take-le}
-use Rattle.files.specs.InputLaws.{gave}
+use Rattle.files.proofs.Theory.InputLaws.{gave}
 use Rattle.files.proofs.read_piece.Statement.{statement}
 use Rattle.files.proofs.read_piece.Tie as tie
 

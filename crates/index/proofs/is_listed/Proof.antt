@@ -1,7 +1,7 @@
 use native.Mathlib.Omega.{arith}
 use mathlib.Core.Path.{sym, ap, _∙_}
 use lib.ListN.{getD}
-use Rattle.index.specs.IndexLaws.{Looking, looking-start, looking-turn, looking-hit, looking-end}
+use Rattle.index.proofs.Theory.IndexLaws.{Looking, looking-start, looking-turn, looking-hit, looking-end}
 use borrow.Author.Needs.{needs}
 use Rattle.index.proofs.is_listed.Statement.{statement}
 use Rattle.index.proofs.is_listed.Tie as tie

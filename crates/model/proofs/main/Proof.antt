@@ -1,5 +1,5 @@
 use borrow.Author.Needs.{needs}
-use Rattle.model_lines.specs.Answered.{written-within, written-length}
+use Rattle.model_lines.proofs.Theory.Answered.{written-within, written-length}
 use Rattle.model.proofs.main.Statement.{statement}
 use Rattle.model.proofs.main.Tie as tie
 

@@ -1,6 +1,6 @@
 use borrow.Author.Needs.{needs}
 use mathlib.Core.Path.{refl, ap}
-use Rattle.files.specs.LinesLaws.{least-length, answers-bytes, answers-first, answers-unread}
+use Rattle.files.proofs.Theory.LinesLaws.{least-length, answers-bytes, answers-first, answers-unread}
 use Rattle.model_lines.specs.declared.Rest.{Rest}
 use Rattle.model_lines.specs.Prints.{Prints}
 use Rattle.model_lines.specs.Answered.{oddRead, knownLong}

@@ -2,7 +2,7 @@ use borrow.Author.Needs.{needs}
 use mathlib.Core.Path.{refl, sym, ap, subst}
 use Rattle.files.specs.declared.Input.{Input}
 use Rattle.files.specs.Lines.{Known, Answers}
-use Rattle.files.specs.LinesLaws.{least-length, answers-first, answers-unread}
+use Rattle.files.proofs.Theory.LinesLaws.{least-length, answers-first, answers-unread}
 use Rattle.model_lines.specs.Prints.{Prints}
 use Rattle.model_lines.specs.Answered.{knownTrace}
 use Rattle.model_lines.proofs.answer_to.Statement.{statement}

@@ -1,5 +1,5 @@
 use borrow.Author.Needs.{needs}
-use Rattle.base.specs.Choice.{decide}
+use Rattle.base.proofs.Theory.Choice.{decide}
 use Rattle.model_lines.specs.Answered.{parityOf}
 use Rattle.model_lines.proofs.parity.Statement.{statement}
 use Rattle.model_lines.proofs.parity.Tie as tie

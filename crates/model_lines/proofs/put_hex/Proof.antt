@@ -1,9 +1,9 @@
 use borrow.Author.Needs.{needs}
 use Prim.Native.Nat.{_+_, _-_}
 use lib.ListN.{length, getD, drop}
-use Rattle.text.specs.Appending.{Left, left-all, left-next, left-none, left-room, left-same, left-length}
+use Rattle.text.proofs.Theory.Appending.{Left, left-all, left-next, left-none, left-room, left-same, left-length}
 use Rattle.model_lines.specs.Prints.{octetText, hexText}
-use Rattle.model_lines.specs.PrintsLaws.{hex-next, hex-none}
+use Rattle.model_lines.proofs.Theory.PrintsLaws.{hex-next, hex-none}
 use Rattle.model_lines.proofs.put_hex.Statement.{statement}
 use Rattle.model_lines.proofs.put_hex.Tie as tie
 

@@ -2,10 +2,11 @@ use borrow.Author.Needs.{needs}
 use mathlib.Core.Path.{sym, _∙_}
 use mathlib.Core.List.{List, [], _∷_, _++_}
 use Prim.Native.Nat.{ℕ}
-use Rattle.text.specs.Appending.{Appended, Room, room-same, room-first, room-then, appended-same, appended-then, appended-length}
+use Rattle.text.specs.Appending.{Appended, Room}
+use Rattle.text.proofs.Theory.Appending.{room-same, room-first, room-then, appended-same, appended-then, appended-length}
 use Rattle.text.specs.Templates.{filledIn}
 use Rattle.model_lines.specs.Prints.{hexText, modelWord, modelLine}
-use Rattle.model_lines.specs.PrintsLaws.{model-form, feed-form, model-parts}
+use Rattle.model_lines.proofs.Theory.PrintsLaws.{model-form, feed-form, model-parts}
 use Rattle.model_lines.proofs.put_model.Statement.{statement}
 use Rattle.model_lines.proofs.put_model.Tie as tie
 

@@ -4,9 +4,9 @@ use mathlib.Core.Path.{_≡_, sym, _∙_}
 use mathlib.Core.List.{[], _∷_}
 use Prim.Native.Nat.{_+_, _*_}
 use Rattle.text.specs.Templates.{filledIn}
-use Rattle.text.specs.Appending.{room-same, appended-same, appended-length}
+use Rattle.text.proofs.Theory.Appending.{room-same, appended-same, appended-length}
 use Rattle.model_lines.specs.Prints.{octetText}
-use Rattle.model_lines.specs.PrintsLaws.{octet-form}
+use Rattle.model_lines.proofs.Theory.PrintsLaws.{octet-form}
 use Rattle.model_lines.proofs.put_octet.Statement.{statement}
 use Rattle.model_lines.proofs.put_octet.Tie as tie
 

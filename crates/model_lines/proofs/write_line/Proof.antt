@@ -1,5 +1,5 @@
 use borrow.Author.Needs.{needs}
-use Rattle.model_lines.specs.PrintsLaws.{showed-held, prints}
+use Rattle.model_lines.proofs.Theory.PrintsLaws.{showed-held, prints}
 use Rattle.model_lines.proofs.write_line.Statement.{statement}
 use Rattle.model_lines.proofs.write_line.Tie as tie
 

@@ -1,5 +1,5 @@
 use borrow.Author.Needs.{needs}
-use Rattle.files.specs.InputLaws.{ended-within, ended-length}
+use Rattle.files.proofs.Theory.InputLaws.{ended-within, ended-length}
 use Rattle.monitor.proofs.feed.Statement.{statement}
 use Rattle.monitor.proofs.feed.Tie as tie
 

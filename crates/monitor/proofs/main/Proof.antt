@@ -1,5 +1,5 @@
 use borrow.Author.Needs.{needs}
-use Rattle.monitor_lines.specs.PrintsLaws.{prints-within, prints-length}
+use Rattle.monitor_lines.proofs.Theory.PrintsLaws.{prints-within, prints-length}
 use Rattle.monitor.proofs.main.Statement.{statement}
 use Rattle.monitor.proofs.main.Tie as tie
 

@@ -1,6 +1,6 @@
 use mathlib.Core.Path.{sym}
-use Rattle.text.specs.Appending.{room-same, appended-same, appended-length}
-use Rattle.monitor_lines.specs.PrintsLaws.{none-text, some-text}
+use Rattle.text.proofs.Theory.Appending.{room-same, appended-same, appended-length}
+use Rattle.monitor_lines.proofs.Theory.PrintsLaws.{none-text, some-text}
 use Rattle.monitor_lines.proofs.put_letter.Statement.{statement}
 use Rattle.monitor_lines.proofs.put_letter.Tie as tie
 

@@ -3,10 +3,10 @@ use native.Mathlib.Omega.{arith}
 use mathlib.Core.Path.{sym, _∙_}
 use mir.Syntax.{w8, w64}
 use mir.Val.{Fits}
-use Rattle.text.specs.Appending.{room-same, appended-same, appended-length}
-use Rattle.model_lines.specs.PrintsLaws.{refused-form}
-use Rattle.monitor_lines.specs.PrintsLaws.{coherence-form, feasibility-form, coherence-room, feasibility-room}
-use Rattle.monitor_lines.specs.PrintsLaws.{judged-prints, refused-room, refused-prints}
+use Rattle.text.proofs.Theory.Appending.{room-same, appended-same, appended-length}
+use Rattle.model_lines.proofs.Theory.PrintsLaws.{refused-form}
+use Rattle.monitor_lines.proofs.Theory.PrintsLaws.{coherence-form, feasibility-form, coherence-room, feasibility-room}
+use Rattle.monitor_lines.proofs.Theory.PrintsLaws.{judged-prints, refused-room, refused-prints}
 use Rattle.monitor_lines.proofs.write_lines.Statement.{statement}
 use Rattle.monitor_lines.proofs.write_lines.Tie as tie
 

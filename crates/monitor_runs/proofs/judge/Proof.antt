@@ -1,5 +1,5 @@
 use borrow.Author.Needs.{needs}
-use Rattle.files.specs.InputLaws.{ended-within, ended-length}
+use Rattle.files.proofs.Theory.InputLaws.{ended-within, ended-length}
 use Rattle.monitor_runs.proofs.judge.Statement.{statement}
 use Rattle.monitor_runs.proofs.judge.Tie as tie
 

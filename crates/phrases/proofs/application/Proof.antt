@@ -1,4 +1,4 @@
-use Rattle.phrases.specs.PhraseLaws.{application-open, application-first, application-read}
+use Rattle.phrases.proofs.Theory.PhraseLaws.{application-open, application-first, application-read}
 use borrow.Author.Needs.{needs}
 use Rattle.phrases.proofs.application.Statement.{statement}
 use Rattle.phrases.proofs.application.Tie as tie

@@ -1,4 +1,4 @@
-use Rattle.phrases.specs.PhraseLaws.{arguments-more, arguments-two, arguments-less, arguments-one, arguments-unfit}
+use Rattle.phrases.proofs.Theory.PhraseLaws.{arguments-more, arguments-two, arguments-less, arguments-one, arguments-unfit}
 use borrow.Author.Needs.{needs}
 use Rattle.phrases.proofs.arguments.Statement.{statement}
 use Rattle.phrases.proofs.arguments.Tie as tie

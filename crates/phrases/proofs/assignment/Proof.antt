@@ -1,4 +1,4 @@
-use Rattle.phrases.specs.PhraseLaws.{assignment-target, assignment-becomes, assignment-value, assignment-semicolon, assignment-read}
+use Rattle.phrases.proofs.Theory.PhraseLaws.{assignment-target, assignment-becomes, assignment-value, assignment-semicolon, assignment-read}
 use borrow.Author.Needs.{needs}
 use Rattle.phrases.proofs.assignment.Statement.{statement}
 use Rattle.phrases.proofs.assignment.Tie as tie

@@ -1,4 +1,4 @@
-use Rattle.phrases.specs.PhraseLaws.{condition-left, condition-sign, condition-right, condition-read}
+use Rattle.phrases.proofs.Theory.PhraseLaws.{condition-left, condition-sign, condition-right, condition-read}
 use borrow.Author.Needs.{needs}
 use Rattle.phrases.proofs.condition.Statement.{statement}
 use Rattle.phrases.proofs.condition.Tie as tie

@@ -1,6 +1,6 @@
 use Prim.Native.Nat.{_-_, _≤_}
 use lib.ListN.{length}
-use Rattle.phrases.specs.Answers.{Sought, sought-ended, sought-hit, sought-turn}
+use Rattle.phrases.proofs.Theory.Answers.{Sought, sought-ended, sought-hit, sought-turn}
 use borrow.Author.Needs.{needs}
 use Rattle.phrases.proofs.find.Statement.{statement}
 use Rattle.phrases.proofs.find.Tie as tie

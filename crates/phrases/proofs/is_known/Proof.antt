@@ -1,4 +1,4 @@
-use Rattle.base.specs.Choice.{decide}
+use Rattle.base.proofs.Theory.Choice.{decide}
 use borrow.Author.Needs.{needs}
 use Rattle.phrases.proofs.is_known.Statement.{statement}
 use Rattle.phrases.proofs.is_known.Tie as tie

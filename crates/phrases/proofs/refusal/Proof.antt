@@ -1,4 +1,4 @@
-use Rattle.phrases.specs.Answers.{carried-refused}
+use Rattle.phrases.proofs.Theory.Answers.{carried-refused}
 use borrow.Author.Needs.{needs}
 use Rattle.phrases.proofs.refusal.Statement.{statement}
 use Rattle.phrases.proofs.refusal.Tie as tie

@@ -1,4 +1,4 @@
-use Rattle.phrases.specs.PhraseLaws.{second-refused, second-end, second-read}
+use Rattle.phrases.proofs.Theory.PhraseLaws.{second-refused, second-end, second-read}
 use borrow.Author.Needs.{needs}
 use Rattle.phrases.proofs.second_argument.Statement.{statement}
 use Rattle.phrases.proofs.second_argument.Tie as tie

@@ -1,4 +1,4 @@
-use Rattle.phrases.specs.PhraseLaws.{tested-refused, tested-end, tested-read}
+use Rattle.phrases.proofs.Theory.PhraseLaws.{tested-refused, tested-end, tested-read}
 use borrow.Author.Needs.{needs}
 use Rattle.phrases.proofs.tested.Statement.{statement}
 use Rattle.phrases.proofs.tested.Tie as tie

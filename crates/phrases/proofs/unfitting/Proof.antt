@@ -1,4 +1,4 @@
-use Rattle.base.specs.Choice.{decide}
+use Rattle.base.proofs.Theory.Choice.{decide}
 use Rattle.phrases.proofs.unfitting.Statement.{statement}
 use Rattle.phrases.proofs.unfitting.Tie as tie
 use Rattle.phrases.proofs.unfitting.Reads as reads

@@ -1,4 +1,4 @@
-use Rattle.base.specs.Choice.{decide}
+use Rattle.base.proofs.Theory.Choice.{decide}
 use borrow.Author.Needs.{needs}
 use Rattle.phrases.proofs.use_of.Statement.{statement}
 use Rattle.phrases.proofs.use_of.Tie as tie

@@ -1,7 +1,7 @@
 use native.Mathlib.Omega.{arith}
 use mathlib.Core.Path.{refl}
-use Rattle.phrases.specs.Answers.{use-below}
-use Rattle.phrases.specs.PhraseLaws.{value-refused, value-copy, value-unknown, value-applied}
+use Rattle.phrases.proofs.Theory.Answers.{use-below}
+use Rattle.phrases.proofs.Theory.PhraseLaws.{value-refused, value-copy, value-unknown, value-applied}
 use borrow.Author.Needs.{needs}
 use Rattle.phrases.proofs.value.Statement.{statement}
 use Rattle.phrases.proofs.value.Tie as tie

@@ -1,7 +1,7 @@
 use native.Mathlib.Omega.{arith}
 use lib.Count.{trailing-le}
-use Rattle.base.specs.Choice.{decide}
-use Rattle.base.specs.MaskLaws.{trailing-least}
+use Rattle.base.proofs.Theory.Choice.{decide}
+use Rattle.base.proofs.Theory.MaskLaws.{trailing-least}
 use Rattle.records.specs.Codes.{codeOf}
 use borrow.Author.Needs.{needs}
 use Rattle.records.proofs.code.Statement.{statement}

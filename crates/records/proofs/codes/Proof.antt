@@ -2,7 +2,7 @@ use mathlib.Core.Path.{_≡_, refl, sym, _∙_}
 use Prim.Native.Nat.{_*_, _-_, _≤_}
 use native.Mathlib.Omega.{arith}
 use lib.ListN.{length, replicate}
-use Rattle.window.specs.Table.{Swept, swept-none}
+use Rattle.window.proofs.Theory.Table.{Swept, swept-none}
 use Rattle.records.proofs.Turns.{codeByte, code-bytes, codes-turn, codes-past, swept-zeros}
 use borrow.Author.Needs.{needs}
 use Rattle.records.proofs.codes.Statement.{statement}

@@ -1,7 +1,7 @@
 use mathlib.Core.Path.{_≡_}
 use Prim.Native.Nat.{_/_, _%_}
 use native.Mathlib.Omega.{arith}
-use Rattle.base.specs.Choice.{decide}
+use Rattle.base.proofs.Theory.Choice.{decide}
 use Rattle.records.specs.Codes.{computedOf}
 use borrow.Author.Needs.{needs}
 use Rattle.records.proofs.computed.Statement.{statement}

@@ -1,7 +1,7 @@
 use Prim.Native.Nat.{_-_, _≤_}
 use native.Mathlib.Omega.{arith}
 use lib.ListN.{length, replicate}
-use Rattle.window.specs.Table.{Swept, swept-none, swept-more}
+use Rattle.window.proofs.Theory.Table.{Swept, swept-none, swept-more}
 use Rattle.records.specs.Formats.{everMask, everIn}
 use Rattle.records.specs.Records.{firstFormat, codesAt}
 use Rattle.records.proofs.Turns.{ever-is, ever-past, swept-zeros}

@@ -1,4 +1,4 @@
-use Rattle.base.specs.Choice.{decide}
+use Rattle.base.proofs.Theory.Choice.{decide}
 use Rattle.records.specs.Records.{flag}
 use Rattle.records.proofs.flagged.Statement.{statement}
 use Rattle.records.proofs.flagged.Tie as tie

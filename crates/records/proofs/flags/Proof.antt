@@ -3,10 +3,10 @@ use mathlib.Core.Bool.{false}
 use Prim.Native.Nat.{_-_}
 use native.Mathlib.Omega.{arith}
 use lib.ListN.{length, getD}
-use Rattle.base.specs.Written.{Written, written-none, written-more}
-use Rattle.window.specs.Table.{written-all}
+use Rattle.base.proofs.Theory.Written.{Written, written-none, written-more}
+use Rattle.window.proofs.Theory.Table.{written-all}
 use Rattle.records.specs.Records.{flag}
-use Rattle.records.specs.Tables.{map-table}
+use Rattle.records.proofs.Theory.Tables.{map-table}
 use borrow.Author.Needs.{needs}
 use Rattle.records.proofs.flags.Statement.{statement}
 use Rattle.records.proofs.flags.Tie as tie

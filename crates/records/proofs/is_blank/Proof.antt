@@ -1,4 +1,4 @@
-use Rattle.base.specs.Choice.{decide}
+use Rattle.base.proofs.Theory.Choice.{decide}
 use Rattle.records.specs.Records.{blank}
 use borrow.Author.Needs.{needs}
 use Rattle.records.proofs.is_blank.Statement.{statement}

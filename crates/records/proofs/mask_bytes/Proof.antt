@@ -2,7 +2,7 @@ use mathlib.Core.Path.{_≡_}
 use Prim.Native.Nat.{_-_}
 use native.Mathlib.Omega.{arith}
 use lib.ListN.{length, getD}
-use Rattle.base.specs.Written.{Written, written-none, written-more}
+use Rattle.base.proofs.Theory.Written.{Written, written-none, written-more}
 use Rattle.semantics.specs.PackedTables.{units}
 use Rattle.records.proofs.Turns.{mask-is, masks-all}
 use borrow.Author.Needs.{needs}

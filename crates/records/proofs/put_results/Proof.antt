@@ -2,7 +2,7 @@ use mathlib.Core.Path.{_≡_}
 use Prim.Native.Nat.{_*_, _-_, _≤_}
 use native.Mathlib.Omega.{arith}
 use lib.ListN.{length, getD, replicate}
-use Rattle.window.specs.Table.{Swept}
+use Rattle.window.proofs.Theory.Table.{Swept}
 use Rattle.records.specs.Records.{codesAt, meant}
 use Rattle.records.proofs.Turns.{results-turn, results-past, swept-begin, swept-zeros}
 use borrow.Author.Needs.{needs}

@@ -5,12 +5,12 @@ use native.Mathlib.Omega.{arith}
 use lib.ListN.{getD}
 use mir.Syntax.{w8, w64}
 use mir.Val.{Fits}
-use Rattle.text.specs.Appending.{appended-length}
+use Rattle.text.proofs.Theory.Appending.{appended-length}
 use Rattle.report.specs.declared.Verdict.{Verdict}
 use Rattle.report.specs.declared.ReportWritten.the-variants.{Bytes, NoRoom}
 use Rattle.report.specs.Shown.{reportOf, Wrote}
-use Rattle.report.specs.WroteLaws.{wrote-none, wrote-all}
-use Rattle.report.specs.Bound.{report-room}
+use Rattle.report.proofs.Theory.WroteLaws.{wrote-none, wrote-all}
+use Rattle.report.proofs.Theory.Bound.{report-room}
 use Rattle.report.proofs.write_report.Statement.{statement}
 use Rattle.report.proofs.write_report.Tie as tie
 

@@ -4,7 +4,7 @@ use borrow.Author.Needs.{needs}
 use Prim.Native.Nat.{_+_, _-_, _≤_}
 use lib.ListN.{length, drop, length-drop}
 use lib.Seq.{getD-drop}
-use Rattle.base.specs.Laid.{laid, laid-none, laid-more, laid-all}
+use Rattle.base.proofs.Theory.Laid.{laid, laid-none, laid-more, laid-all}
 use Rattle.search.proofs.copy_from.Statement.{statement}
 use Rattle.search.proofs.copy_from.Tie as tie
 use Rattle.search.proofs.copy_from.Reads as reads

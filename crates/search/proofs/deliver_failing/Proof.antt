@@ -1,7 +1,7 @@
 use mathlib.Core.Path.{subst}
 use lib.ListN.{drop}
 use Rattle.search.specs.Modelling.{Modelled}
-use Rattle.search.specs.Answering.{failing-refused, failing-shown, failing-unfit}
+use Rattle.search.proofs.Theory.Answering.{failing-refused, failing-shown, failing-unfit}
 use borrow.Author.Needs.{needs}
 use Rattle.search.proofs.deliver_failing.Statement.{statement}
 use Rattle.search.proofs.deliver_failing.Tie as tie

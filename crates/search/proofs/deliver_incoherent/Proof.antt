@@ -1,4 +1,4 @@
-use Rattle.search.specs.Answering.{breaking-refused, breaking-shown}
+use Rattle.search.proofs.Theory.Answering.{breaking-refused, breaking-shown}
 use borrow.Author.Needs.{needs}
 use Rattle.search.proofs.deliver_incoherent.Statement.{statement}
 use Rattle.search.proofs.deliver_incoherent.Tie as tie

@@ -1,6 +1,6 @@
 use mathlib.Core.Path.{_≡_, ap, _∙_}
 use lib.ListN.{length, replicate}
-use Rattle.search.specs.Judged.{readable, judged-refused, judged-macro}
+use Rattle.search.proofs.Theory.Judged.{readable, judged-refused, judged-macro}
 use borrow.Author.Needs.{needs}
 use Rattle.search.proofs.judge_macro.Statement.{statement}
 use Rattle.search.proofs.judge_macro.Tie as tie

@@ -7,7 +7,7 @@ use Rattle.letters.specs.declared.Letter.{Letter}
 use Rattle.records.specs.Records.{recordBytes}
 use Rattle.search.specs.Trails.{trailTo, trailOf}
 use Rattle.search.specs.Tracing.{Older, wordBytes, letterWords, traced}
-use Rattle.search.specs.TracingLaws.{letter-is, first-stored, letter-stored, header-stored, trail-first, trail-turn, trail-whole}
+use Rattle.search.proofs.Theory.TracingLaws.{letter-is, first-stored, letter-stored, header-stored, trail-first, trail-turn, trail-whole}
 use borrow.Author.Needs.{needs}
 use Rattle.search.proofs.pack.Statement.{statement}
 use Rattle.search.proofs.pack.Tie as tie

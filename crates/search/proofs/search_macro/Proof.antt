@@ -1,8 +1,8 @@
 use native.Mathlib.Omega.{arith}
 use lib.ListN.{length}
 use Rattle.verdicts.specs.Verdict.{breaking, failing}
-use Rattle.verdicts.specs.CapacityLaws.{capacity-fits}
-use Rattle.search.specs.MacroSearch.{capacity-most, points-within, told-full, told-pass, packable, told-incoherent, told-failing}
+use Rattle.verdicts.proofs.Theory.CapacityLaws.{capacity-fits}
+use Rattle.search.proofs.Theory.MacroSearch.{capacity-most, points-within, told-full, told-pass, packable, told-incoherent, told-failing}
 use borrow.Author.Needs.{needs}
 use Rattle.search.proofs.search_macro.Statement.{statement}
 use Rattle.search.proofs.search_macro.Tie as tie

@@ -1,6 +1,6 @@
 use mathlib.Core.Path.{refl}
 use native.Mathlib.Omega.{arith}
-use Rattle.search.specs.Modelling.{modelled-yes, modelled-infeasible, modelled-refused}
+use Rattle.search.proofs.Theory.Modelling.{modelled-yes, modelled-infeasible, modelled-refused}
 use borrow.Author.Needs.{needs}
 use Rattle.search.proofs.show_model.Statement.{statement}
 use Rattle.search.proofs.show_model.Tie as tie

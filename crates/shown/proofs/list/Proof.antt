@@ -1,8 +1,8 @@
 use Prim.Native.Nat.{_-_}
 use native.Mathlib.Omega.{arith}
 use borrow.Author.Needs.{needs}
-use Rattle.shown.specs.Rows.{new-le}
-use Rattle.shown.specs.Listing.{ListedBelow, formed-part, listed-start, listed-turn, listed-end}
+use Rattle.shown.proofs.Theory.Rows.{new-le}
+use Rattle.shown.proofs.Theory.Listing.{ListedBelow, formed-part, listed-start, listed-turn, listed-end}
 use Rattle.shown.proofs.list.Statement.{statement}
 use Rattle.shown.proofs.list.Tie as tie
 

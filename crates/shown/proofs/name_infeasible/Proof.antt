@@ -1,5 +1,5 @@
 use borrow.Author.Needs.{needs}
-use Rattle.shown.specs.AnswerLaws.{stopped}
+use Rattle.shown.proofs.Theory.AnswerLaws.{stopped}
 use Rattle.shown.proofs.name_infeasible.Statement.{statement}
 use Rattle.shown.proofs.name_infeasible.Tie as tie
 

@@ -1,6 +1,6 @@
 use Prim.Native.Nat.{_-_}
 use borrow.Author.Needs.{needs}
-use Rattle.shown.specs.Values.{class-hit, class-miss}
+use Rattle.shown.proofs.Theory.Values.{class-hit, class-miss}
 use Rattle.shown.proofs.new_class.Statement.{statement}
 use Rattle.shown.proofs.new_class.Tie as tie
 

@@ -1,7 +1,7 @@
 use Prim.Native.Nat.{_-_}
 use native.Mathlib.Omega.{arith}
-use Rattle.closure.specs.Entering.{readable}
-use Rattle.shown.specs.Rows.{row-readable, new-hit, new-miss}
+use Rattle.closure.proofs.Theory.Entering.{readable}
+use Rattle.shown.proofs.Theory.Rows.{row-readable, new-hit, new-miss}
 use Rattle.shown.proofs.new_row.Statement.{statement}
 use Rattle.shown.proofs.new_row.Tie as tie
 

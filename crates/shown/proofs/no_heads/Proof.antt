@@ -1,5 +1,5 @@
 use borrow.Author.Needs.{needs}
-use Rattle.closure.specs.Clashing.{zeros}
+use Rattle.closure.proofs.Theory.Clashing.{zeros}
 use Rattle.shown.proofs.no_heads.Statement.{statement}
 use Rattle.shown.proofs.no_heads.Tie as tie
 

@@ -2,8 +2,9 @@ use Prim.Native.Nat.{suc, _-_, _≤_}
 use native.Mathlib.Omega.{arith}
 use mathlib.Core.Path.{_≡_, _∙_}
 use borrow.Author.Needs.{needs}
-use Rattle.base.specs.Written.{Written, written-none, written-more}
-use Rattle.shown.specs.Values.{valueAt, classesBelow, classes-none, classes-le, chosen-is, new-class-le, next-is, valued-end}
+use Rattle.base.proofs.Theory.Written.{Written, written-none, written-more}
+use Rattle.shown.specs.Values.{valueAt, classesBelow}
+use Rattle.shown.proofs.Theory.Values.{classes-none, classes-le, chosen-is, new-class-le, next-is, valued-end}
 use Rattle.shown.proofs.number.Statement.{statement}
 use Rattle.shown.proofs.number.Tie as tie
 

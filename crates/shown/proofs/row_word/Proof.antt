@@ -1,7 +1,7 @@
 use Prim.Native.Nat.{_-_}
 use mathlib.Core.Path.{_∙_}
 use borrow.Author.Needs.{needs}
-use Rattle.shown.specs.Bytes.{word-of, fields-small}
+use Rattle.shown.proofs.Theory.Bytes.{word-of, fields-small}
 use Rattle.shown.proofs.row_word.Statement.{statement}
 use Rattle.shown.proofs.row_word.Tie as tie
 

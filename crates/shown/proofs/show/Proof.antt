@@ -1,7 +1,7 @@
 use native.Mathlib.Omega.{arith}
 use mathlib.Core.List.{[]}
 use borrow.Author.Needs.{needs}
-use Rattle.shown.specs.AnswerLaws.{showed-refused, bytes-enough, showed-long, begun}
+use Rattle.shown.proofs.Theory.AnswerLaws.{showed-refused, bytes-enough, showed-long, begun}
 use Rattle.shown.proofs.show.Statement.{statement}
 use Rattle.shown.proofs.show.Tie as tie
 

@@ -1,6 +1,6 @@
 use Prim.Native.Nat.{_-_}
 use borrow.Author.Needs.{needs}
-use Rattle.shown.specs.AnswerLaws.{puttable, put-modelled}
+use Rattle.shown.proofs.Theory.AnswerLaws.{puttable, put-modelled}
 use Rattle.shown.proofs.show_model.Statement.{statement}
 use Rattle.shown.proofs.show_model.Tie as tie
 

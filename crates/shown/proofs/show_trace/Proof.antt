@@ -1,7 +1,7 @@
 use Prim.Native.Nat.{_-_}
 use mathlib.Core.List.{[]}
 use borrow.Author.Needs.{needs}
-use Rattle.shown.specs.AnswerLaws.{showed-malformed, showed-stopped, showed-model, known}
+use Rattle.shown.proofs.Theory.AnswerLaws.{showed-malformed, showed-stopped, showed-model, known}
 use Rattle.shown.proofs.show_trace.Statement.{statement}
 use Rattle.shown.proofs.show_trace.Tie as tie
 

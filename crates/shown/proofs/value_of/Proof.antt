@@ -1,6 +1,6 @@
 use Prim.Native.Nat.{_-_}
 use borrow.Author.Needs.{needs}
-use Rattle.shown.specs.Values.{chosen-hit, chosen-miss}
+use Rattle.shown.proofs.Theory.Values.{chosen-hit, chosen-miss}
 use Rattle.shown.proofs.value_of.Statement.{statement}
 use Rattle.shown.proofs.value_of.Tie as tie
 

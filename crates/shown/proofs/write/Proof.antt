@@ -1,6 +1,6 @@
 use Prim.Native.Nat.{_-_}
 use borrow.Author.Needs.{needs}
-use Rattle.shown.specs.Bytes.{whole}
+use Rattle.shown.proofs.Theory.Bytes.{whole}
 use Rattle.shown.proofs.write.Statement.{statement}
 use Rattle.shown.proofs.write.Tie as tie
 

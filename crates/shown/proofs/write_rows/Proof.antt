@@ -3,7 +3,8 @@ use native.Mathlib.Omega.{arith}
 use mathlib.Core.Path.{sym, subst}
 use lib.ListN.{take}
 use borrow.Author.Needs.{needs}
-use Rattle.shown.specs.Bytes.{UnitsDone, RowIn, wordsFor, units-none, rows-room, rows-turn, rows-end}
+use Rattle.shown.proofs.Theory.Bytes.{UnitsDone, units-none, rows-room, rows-turn, rows-end}
+use Rattle.shown.specs.Bytes.{RowIn, wordsFor}
 use Rattle.shown.proofs.write_rows.Statement.{statement}
 use Rattle.shown.proofs.write_rows.Tie as tie
 

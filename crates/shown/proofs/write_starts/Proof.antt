@@ -2,7 +2,7 @@ use Prim.Native.Nat.{_-_, _≤_}
 use native.Mathlib.Omega.{arith}
 use lib.ListN.{take}
 use borrow.Author.Needs.{needs}
-use Rattle.shown.specs.Bytes.{UnitsDone, units-none, starts-room, starts-turn, starts-end}
+use Rattle.shown.proofs.Theory.Bytes.{UnitsDone, units-none, starts-room, starts-turn, starts-end}
 use Rattle.shown.proofs.write_starts.Statement.{statement}
 use Rattle.shown.proofs.write_starts.Tie as tie
 

@@ -1,7 +1,7 @@
 use borrow.Author.Needs.{needs}
 use Rattle.window.specs.Layout.{registers, functions}
 use Rattle.slots.specs.Slots.{slotsOf}
-use Rattle.slots.specs.Loops.{apply-known, apply-new}
+use Rattle.slots.proofs.Theory.Loops.{apply-known, apply-new}
 use Rattle.slots.proofs.apply_slots.Statement.{statement}
 use Rattle.slots.proofs.apply_slots.Tie as tie
 

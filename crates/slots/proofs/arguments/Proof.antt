@@ -1,5 +1,5 @@
 use borrow.Author.Needs.{needs}
-use Rattle.slots.specs.Loops.{arguments-some, arguments-none}
+use Rattle.slots.proofs.Theory.Loops.{arguments-some, arguments-none}
 use Rattle.slots.proofs.arguments.Statement.{statement}
 use Rattle.slots.proofs.arguments.Tie as tie
 

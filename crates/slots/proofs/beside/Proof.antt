@@ -4,7 +4,7 @@ use native.Mathlib.Omega.{arith}
 use borrow.Author.Needs.{needs}
 use Rattle.window.specs.Layout.{registers}
 use Rattle.slots.specs.Performing.{besideSlots}
-use Rattle.slots.specs.Loops.{beside-none, beside-more, beside-all}
+use Rattle.slots.proofs.Theory.Loops.{beside-none, beside-more, beside-all}
 use Rattle.slots.proofs.beside.Statement.{statement}
 use Rattle.slots.proofs.beside.Tie as tie
 

@@ -4,7 +4,7 @@ use native.Mathlib.Omega.{arith}
 use borrow.Author.Needs.{needs}
 use Rattle.window.specs.Layout.{registers}
 use Rattle.slots.specs.Performing.{clashSlots}
-use Rattle.slots.specs.Loops.{clash-none, clash-more, clash-all}
+use Rattle.slots.proofs.Theory.Loops.{clash-none, clash-more, clash-all}
 use Rattle.slots.proofs.clash.Statement.{statement}
 use Rattle.slots.proofs.clash.Tie as tie
 

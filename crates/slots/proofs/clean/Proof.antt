@@ -5,7 +5,7 @@ use lib.ListN.{length}
 use borrow.Author.Needs.{needs}
 use Rattle.window.specs.Layout.{registers}
 use Rattle.slots.specs.Performing.{cleanOf}
-use Rattle.slots.specs.Pulls.{at-end, clean-none, clean-more}
+use Rattle.slots.proofs.Theory.Pulls.{at-end, clean-none, clean-more}
 use Rattle.slots.proofs.clean.Statement.{statement}
 use Rattle.slots.proofs.clean.Tie as tie
 

@@ -9,7 +9,7 @@ use Rattle.window.specs.Layout.{registers, functions, pairs}
 use Rattle.slots.specs.Slots.{slotsOf, Low, Tabled}
 use Rattle.slots.specs.Performing.{closedSlots}
 use Rattle.slots.specs.Around.{Around}
-use Rattle.slots.specs.Loops.{closed-still, closed-none, closed-one, closed-more, closed-end}
+use Rattle.slots.proofs.Theory.Loops.{closed-still, closed-none, closed-one, closed-more, closed-end}
 use Rattle.slots.proofs.close_slots.Statement.{statement}
 use Rattle.slots.proofs.close_slots.Tie as tie
 

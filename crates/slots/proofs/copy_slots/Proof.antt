@@ -3,8 +3,8 @@ use lib.ListN.{length, length-set}
 use borrow.Author.Needs.{needs}
 use Rattle.window.specs.Layout.{registers, functions}
 use Rattle.slots.specs.Slots.{slotsOf, Low}
-use Rattle.slots.specs.Loops.{copied-within, copied-moved}
-use Rattle.slots.specs.Laying.{moved-regs-length, low-set}
+use Rattle.slots.proofs.Theory.Loops.{copied-within, copied-moved}
+use Rattle.slots.proofs.Theory.Laying.{moved-regs-length, low-set}
 use Rattle.slots.proofs.copy_slots.Statement.{statement}
 use Rattle.slots.proofs.copy_slots.Tie as tie
 

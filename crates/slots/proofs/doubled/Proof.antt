@@ -4,7 +4,7 @@ use native.Mathlib.Omega.{arith}
 use borrow.Author.Needs.{needs}
 use Rattle.window.specs.Layout.{registers, results}
 use Rattle.slots.specs.Performing.{doubledOf}
-use Rattle.slots.specs.Loops.{doubled-none, doubled-more, doubled-all}
+use Rattle.slots.proofs.Theory.Loops.{doubled-none, doubled-more, doubled-all}
 use Rattle.slots.proofs.doubled.Statement.{statement}
 use Rattle.slots.proofs.doubled.Tie as tie
 

@@ -3,10 +3,10 @@ use native.Mathlib.Omega.{arith}
 use lib.ListN.{length}
 use borrow.Author.Needs.{needs}
 use Rattle.window.specs.Layout.{registers, functions}
-use Rattle.window.specs.Through.{whole}
-use Rattle.slots.specs.Around.{around-same, around-dropped, lost-around}
-use Rattle.slots.specs.Loops.{dropped-is, tabled-same}
-use Rattle.slots.specs.Laying.{marks-length, tabled-dropped}
+use Rattle.window.proofs.Theory.Through.{whole}
+use Rattle.slots.proofs.Theory.Around.{around-same, around-dropped, lost-around}
+use Rattle.slots.proofs.Theory.Loops.{dropped-is, tabled-same}
+use Rattle.slots.proofs.Theory.Laying.{marks-length, tabled-dropped}
 use Rattle.slots.proofs.drop_slot.Statement.{statement}
 use Rattle.slots.proofs.drop_slot.Tie as tie
 

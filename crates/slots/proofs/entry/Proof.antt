@@ -1,6 +1,6 @@
 use borrow.Author.Needs.{needs}
 use Rattle.window.specs.Layout.{registers}
-use Rattle.slots.specs.Loops.{entry-some, entry-none}
+use Rattle.slots.proofs.Theory.Loops.{entry-some, entry-none}
 use Rattle.slots.proofs.entry.Statement.{statement}
 use Rattle.slots.proofs.entry.Tie as tie
 

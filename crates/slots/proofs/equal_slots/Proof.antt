@@ -1,7 +1,7 @@
 use borrow.Author.Needs.{needs}
 use Rattle.window.specs.Layout.{registers, functions}
 use Rattle.slots.specs.Slots.{slotsOf}
-use Rattle.slots.specs.Loops.{equal-within, equal-moved}
+use Rattle.slots.proofs.Theory.Loops.{equal-within, equal-moved}
 use Rattle.slots.proofs.equal_slots.Statement.{statement}
 use Rattle.slots.proofs.equal_slots.Tie as tie
 

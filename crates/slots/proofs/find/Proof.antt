@@ -4,7 +4,7 @@ use native.Mathlib.Omega.{arith}
 use borrow.Author.Needs.{needs}
 use Rattle.window.specs.Layout.{registers, results}
 use Rattle.slots.specs.Performing.{findSlots}
-use Rattle.slots.specs.Loops.{find-here, find-more, find-none}
+use Rattle.slots.proofs.Theory.Loops.{find-here, find-more, find-none}
 use Rattle.slots.proofs.find.Statement.{statement}
 use Rattle.slots.proofs.find.Tie as tie
 

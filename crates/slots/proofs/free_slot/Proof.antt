@@ -4,7 +4,7 @@ use native.Mathlib.Omega.{arith}
 use borrow.Author.Needs.{needs}
 use Rattle.window.specs.Layout.{registers}
 use Rattle.slots.specs.Performing.{freeFrom}
-use Rattle.slots.specs.Loops.{free-here, free-more, free-none}
+use Rattle.slots.proofs.Theory.Loops.{free-here, free-more, free-none}
 use Rattle.slots.proofs.free_slot.Statement.{statement}
 use Rattle.slots.proofs.free_slot.Tie as tie
 

@@ -3,9 +3,9 @@ use lib.ListN.{length, length-set}
 use borrow.Author.Needs.{needs}
 use Rattle.window.specs.Layout.{registers, functions}
 use Rattle.slots.specs.Slots.{slotsOf, Low}
-use Rattle.slots.specs.Around.{around-same, around-recorded}
-use Rattle.slots.specs.Loops.{tabled-same, freshened-some, freshened-none}
-use Rattle.slots.specs.Laying.{moved-regs-length, low-set, tabled-recorded}
+use Rattle.slots.proofs.Theory.Around.{around-same, around-recorded}
+use Rattle.slots.proofs.Theory.Loops.{tabled-same, freshened-some, freshened-none}
+use Rattle.slots.proofs.Theory.Laying.{moved-regs-length, low-set, tabled-recorded}
 use Rattle.slots.proofs.freshen.Statement.{statement}
 use Rattle.slots.proofs.freshen.Tie as tie
 

@@ -4,7 +4,7 @@ use native.Mathlib.Omega.{arith}
 use borrow.Author.Needs.{needs}
 use Rattle.window.specs.Layout.{registers}
 use Rattle.slots.specs.Performing.{groupedOf}
-use Rattle.slots.specs.Pulls.{at-end, grouped-none, grouped-more}
+use Rattle.slots.proofs.Theory.Pulls.{at-end, grouped-none, grouped-more}
 use Rattle.slots.proofs.grouped.Statement.{statement}
 use Rattle.slots.proofs.grouped.Tie as tie
 

@@ -1,5 +1,5 @@
 use borrow.Author.Needs.{needs}
-use Rattle.slots.specs.Loops.{held-is}
+use Rattle.slots.proofs.Theory.Loops.{held-is}
 use Rattle.slots.proofs.held.Statement.{statement}
 use Rattle.slots.proofs.held.Tie as tie
 

@@ -1,6 +1,6 @@
 use borrow.Author.Needs.{needs}
 use Rattle.window.specs.Layout.{registers}
-use Rattle.slots.specs.Loops.{result-still, ever-still, pair-still, result-recorded, ever-recorded, pair-recorded}
+use Rattle.slots.proofs.Theory.Loops.{result-still, ever-still, pair-still, result-recorded, ever-recorded, pair-recorded}
 use Rattle.slots.proofs.hold_result.Statement.{statement}
 use Rattle.slots.proofs.hold_result.Tie as tie
 

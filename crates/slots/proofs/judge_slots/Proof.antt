@@ -3,7 +3,7 @@ use borrow.Author.Needs.{needs}
 use Rattle.window.specs.Layout.{registers, functions}
 use Rattle.window.specs.Perform.{Within}
 use Rattle.slots.specs.Slots.{slotsOf}
-use Rattle.slots.specs.Loops.{judged}
+use Rattle.slots.proofs.Theory.Loops.{judged}
 use Rattle.slots.proofs.judge_slots.Statement.{statement}
 use Rattle.slots.proofs.judge_slots.Tie as tie
 

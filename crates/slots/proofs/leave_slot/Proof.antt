@@ -1,7 +1,7 @@
 use borrow.Author.Needs.{needs}
 use Rattle.window.specs.Layout.{registers, functions}
 use Rattle.slots.specs.Slots.{slotsOf}
-use Rattle.slots.specs.Loops.{left-dropped, left-still}
+use Rattle.slots.proofs.Theory.Loops.{left-dropped, left-still}
 use Rattle.slots.proofs.leave_slot.Statement.{statement}
 use Rattle.slots.proofs.leave_slot.Tie as tie
 

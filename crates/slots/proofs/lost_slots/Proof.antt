@@ -1,6 +1,6 @@
 use borrow.Author.Needs.{needs}
 use Rattle.window.specs.Layout.{registers}
-use Rattle.slots.specs.Loops.{lost-more}
+use Rattle.slots.proofs.Theory.Loops.{lost-more}
 use Rattle.slots.proofs.lost_slots.Statement.{statement}
 use Rattle.slots.proofs.lost_slots.Tie as tie
 

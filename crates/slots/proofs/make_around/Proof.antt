@@ -2,11 +2,12 @@ use mathlib.Core.Path.{sym, ap₂, subst}
 use Prim.Native.Nat.{_+_, _*_, _/_, _%_, _-_}
 use lib.Bits.{bitOr}
 use borrow.Author.Needs.{needs}
-use Rattle.base.specs.Written.{Written, written-none, written-more}
+use Rattle.base.proofs.Theory.Written.{Written, written-none, written-more}
 use Rattle.window.specs.Layout.{registers, functions, pairs}
-use Rattle.window.specs.Table.{written-all}
+use Rattle.window.proofs.Theory.Table.{written-all}
 use Rattle.window.specs.Marks.{unionOf}
-use Rattle.slots.specs.Around.{Around, aroundOf, around-made}
+use Rattle.slots.specs.Around.{Around, aroundOf}
+use Rattle.slots.proofs.Theory.Around.{around-made}
 use Rattle.slots.proofs.make_around.Statement.{statement}
 use Rattle.slots.proofs.make_around.Tie as tie
 

@@ -1,6 +1,6 @@
 use borrow.Author.Needs.{needs}
 use Rattle.window.specs.Layout.{registers}
-use Rattle.slots.specs.Loops.{many-is}
+use Rattle.slots.proofs.Theory.Loops.{many-is}
 use Rattle.slots.proofs.many.Statement.{statement}
 use Rattle.slots.proofs.many.Tie as tie
 

@@ -2,8 +2,8 @@ use mathlib.Core.Bool.{false}
 use Prim.Native.Nat.{_-_}
 use borrow.Author.Needs.{needs}
 use Rattle.window.specs.Layout.{registers}
-use Rattle.window.specs.Table.{Swept, swept-none}
-use Rattle.slots.specs.Loops.{markedAt, marks-more, marks-all}
+use Rattle.window.proofs.Theory.Table.{Swept, swept-none}
+use Rattle.slots.proofs.Theory.Loops.{markedAt, marks-more, marks-all}
 use Rattle.slots.proofs.mark_slots.Statement.{statement}
 use Rattle.slots.proofs.mark_slots.Tie as tie
 

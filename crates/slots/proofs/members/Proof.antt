@@ -4,7 +4,7 @@ use native.Mathlib.Omega.{arith}
 use borrow.Author.Needs.{needs}
 use Rattle.window.specs.Layout.{registers}
 use Rattle.slots.specs.Performing.{membersOf}
-use Rattle.slots.specs.Pulls.{at-end, members-none, members-more}
+use Rattle.slots.proofs.Theory.Pulls.{at-end, members-none, members-more}
 use Rattle.slots.proofs.members.Statement.{statement}
 use Rattle.slots.proofs.members.Tie as tie
 

@@ -1,6 +1,6 @@
 use borrow.Author.Needs.{needs}
 use Rattle.window.specs.Layout.{registers}
-use Rattle.slots.specs.Loops.{memoizing-known, memoizing-new}
+use Rattle.slots.proofs.Theory.Loops.{memoizing-known, memoizing-new}
 use Rattle.slots.proofs.memoizing.Statement.{statement}
 use Rattle.slots.proofs.memoizing.Tie as tie
 

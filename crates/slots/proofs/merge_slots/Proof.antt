@@ -2,11 +2,11 @@ use mathlib.Core.Path.{sym, subst}
 use lib.ListN.{length-set}
 use borrow.Author.Needs.{needs}
 use Rattle.window.specs.Layout.{registers, functions}
-use Rattle.window.specs.Through.{whole}
+use Rattle.window.proofs.Theory.Through.{whole}
 use Rattle.slots.specs.Slots.{slotsOf, Low}
-use Rattle.slots.specs.Around.{around-same, around-renamed}
-use Rattle.slots.specs.Loops.{tabled-same, merged-is}
-use Rattle.slots.specs.Laying.{low-renamed, tabled-renamed}
+use Rattle.slots.proofs.Theory.Around.{around-same, around-renamed}
+use Rattle.slots.proofs.Theory.Loops.{tabled-same, merged-is}
+use Rattle.slots.proofs.Theory.Laying.{low-renamed, tabled-renamed}
 use Rattle.slots.proofs.merge_slots.Statement.{statement}
 use Rattle.slots.proofs.merge_slots.Tie as tie
 

@@ -1,6 +1,6 @@
 use mathlib.Core.Path.{refl}
 use borrow.Author.Needs.{needs}
-use Rattle.slots.specs.Loops.{moved-register}
+use Rattle.slots.proofs.Theory.Loops.{moved-register}
 use Rattle.slots.proofs.move_register.Statement.{statement}
 use Rattle.slots.proofs.move_register.Tie as tie
 

@@ -2,7 +2,7 @@ use Prim.Native.Nat.{_-_}
 use native.Mathlib.Omega.{arith}
 use borrow.Author.Needs.{needs}
 use Rattle.window.specs.Layout.{registers}
-use Rattle.slots.specs.Pulls.{Lowered, lowered-none, lowered-more, lowered-all}
+use Rattle.slots.proofs.Theory.Pulls.{Lowered, lowered-none, lowered-more, lowered-all}
 use Rattle.slots.proofs.name_slots.Statement.{statement}
 use Rattle.slots.proofs.name_slots.Tie as tie
 

@@ -1,7 +1,7 @@
 use borrow.Author.Needs.{needs}
 use Rattle.window.specs.Layout.{registers, functions}
 use Rattle.slots.specs.Slots.{slotsOf}
-use Rattle.slots.specs.Loops.{new-renewed, new-freshened}
+use Rattle.slots.proofs.Theory.Loops.{new-renewed, new-freshened}
 use Rattle.slots.proofs.new_value.Statement.{statement}
 use Rattle.slots.proofs.new_value.Tie as tie
 

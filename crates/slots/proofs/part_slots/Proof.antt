@@ -1,5 +1,5 @@
 use borrow.Author.Needs.{needs}
-use Rattle.slots.specs.Loops.{parted-is}
+use Rattle.slots.proofs.Theory.Loops.{parted-is}
 use Rattle.slots.proofs.part_slots.Statement.{statement}
 use Rattle.slots.proofs.part_slots.Tie as tie
 

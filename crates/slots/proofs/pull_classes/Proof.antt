@@ -2,12 +2,12 @@ use Prim.Native.Nat.{_-_}
 use lib.ListN.{getD}
 use borrow.Author.Needs.{needs}
 use Rattle.base.specs.Choice.{pick}
-use Rattle.base.specs.Written.{Written, written-none, written-more}
+use Rattle.base.proofs.Theory.Written.{Written, written-none, written-more}
 use Rattle.window.specs.Layout.{registers}
-use Rattle.window.specs.Table.{written-all}
+use Rattle.window.proofs.Theory.Table.{written-all}
 use Rattle.slots.specs.Slots.{at}
 use Rattle.slots.specs.Performing.{heldOf, pulledClasses}
-use Rattle.slots.specs.Pulls.{class-pulled}
+use Rattle.slots.proofs.Theory.Pulls.{class-pulled}
 use Rattle.slots.proofs.pull_classes.Statement.{statement}
 use Rattle.slots.proofs.pull_classes.Tie as tie
 

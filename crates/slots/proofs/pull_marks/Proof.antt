@@ -2,11 +2,11 @@ use mathlib.Core.Bool.{false, _&&_}
 use Prim.Native.Nat.{_-_}
 use lib.ListN.{getD}
 use borrow.Author.Needs.{needs}
-use Rattle.base.specs.Written.{Written, written-none, written-more}
+use Rattle.base.proofs.Theory.Written.{Written, written-none, written-more}
 use Rattle.window.specs.Layout.{registers}
-use Rattle.window.specs.Table.{written-all}
+use Rattle.window.proofs.Theory.Table.{written-all}
 use Rattle.slots.specs.Performing.{heldOf, pulledMarks}
-use Rattle.slots.specs.Pulls.{mark-pulled}
+use Rattle.slots.proofs.Theory.Pulls.{mark-pulled}
 use Rattle.slots.proofs.pull_marks.Statement.{statement}
 use Rattle.slots.proofs.pull_marks.Tie as tie
 

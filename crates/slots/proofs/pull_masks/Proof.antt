@@ -3,9 +3,9 @@ use native.Mathlib.Omega.{arith}
 use lib.ListN.{length}
 use mathlib.Core.Path.{sym, _∙_}
 use borrow.Author.Needs.{needs}
-use Rattle.base.specs.Written.{Written, written-none, written-more}
+use Rattle.base.proofs.Theory.Written.{Written, written-none, written-more}
 use Rattle.window.specs.Layout.{registers}
-use Rattle.window.specs.Table.{written-all}
+use Rattle.window.proofs.Theory.Table.{written-all}
 use Rattle.slots.specs.Performing.{pulledAt, pulledMasks}
 use Rattle.slots.proofs.pull_masks.Statement.{statement}
 use Rattle.slots.proofs.pull_masks.Tie as tie

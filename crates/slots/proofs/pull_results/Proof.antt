@@ -1,10 +1,10 @@
 use Prim.Native.Nat.{_-_}
 use borrow.Author.Needs.{needs}
-use Rattle.base.specs.Written.{Written, written-none, written-more}
+use Rattle.base.proofs.Theory.Written.{Written, written-none, written-more}
 use Rattle.window.specs.Layout.{registers, results}
-use Rattle.window.specs.Table.{written-all}
+use Rattle.window.proofs.Theory.Table.{written-all}
 use Rattle.slots.specs.Performing.{pulledOf, entryOf, pulledResults}
-use Rattle.slots.specs.Pulls.{result-pulled}
+use Rattle.slots.proofs.Theory.Pulls.{result-pulled}
 use Rattle.slots.proofs.pull_results.Statement.{statement}
 use Rattle.slots.proofs.pull_results.Tie as tie
 

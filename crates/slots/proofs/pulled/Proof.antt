@@ -4,7 +4,7 @@ use native.Mathlib.Omega.{arith}
 use borrow.Author.Needs.{needs}
 use Rattle.window.specs.Layout.{registers}
 use Rattle.slots.specs.Performing.{pulledOf}
-use Rattle.slots.specs.Loops.{pulled-none, pulled-more, pulled-all}
+use Rattle.slots.proofs.Theory.Loops.{pulled-none, pulled-more, pulled-all}
 use Rattle.slots.proofs.pulled.Statement.{statement}
 use Rattle.slots.proofs.pulled.Tie as tie
 

@@ -1,7 +1,7 @@
 use mathlib.Core.Path.{sym, _∙_}
 use borrow.Author.Needs.{needs}
 use Rattle.window.specs.Layout.{registers}
-use Rattle.slots.specs.Pulls.{entry-pulled, entry-none}
+use Rattle.slots.proofs.Theory.Pulls.{entry-pulled, entry-none}
 use Rattle.slots.proofs.pulled_entry.Statement.{statement}
 use Rattle.slots.proofs.pulled_entry.Tie as tie
 

@@ -2,7 +2,7 @@ use Prim.Native.Nat.{_-_}
 use native.Mathlib.Omega.{arith}
 use borrow.Author.Needs.{needs}
 use Rattle.window.specs.Layout.{registers, results}
-use Rattle.window.specs.Marks.{Reaching, reaching-none, reaching-more, reaching-small, reaching-grows, reaching-all}
+use Rattle.window.proofs.Theory.Marks.{Reaching, reaching-none, reaching-more, reaching-small, reaching-grows, reaching-all}
 use Rattle.slots.proofs.raised.Statement.{statement}
 use Rattle.slots.proofs.raised.Tie as tie
 

@@ -1,6 +1,6 @@
 use borrow.Author.Needs.{needs}
 use Rattle.window.specs.Layout.{registers}
-use Rattle.slots.specs.Loops.{register-some, register-none}
+use Rattle.slots.proofs.Theory.Loops.{register-some, register-none}
 use Rattle.slots.proofs.register_in.Statement.{statement}
 use Rattle.slots.proofs.register_in.Tie as tie
 

@@ -2,7 +2,7 @@ use mathlib.Core.Path.{_≡_}
 use lib.ListN.{length}
 use borrow.Author.Needs.{needs}
 use Rattle.window.specs.Layout.{registers, functions, lines, results}
-use Rattle.slots.specs.Pulls.{regular-checked}
+use Rattle.slots.proofs.Theory.Pulls.{regular-checked}
 use Rattle.slots.proofs.regular.Statement.{statement}
 use Rattle.slots.proofs.regular.Tie as tie
 

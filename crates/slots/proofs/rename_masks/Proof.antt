@@ -1,6 +1,6 @@
 use borrow.Author.Needs.{needs}
 use Rattle.window.specs.Layout.{registers}
-use Rattle.slots.specs.Loops.{masks-renamed}
+use Rattle.slots.proofs.Theory.Loops.{masks-renamed}
 use Rattle.slots.proofs.rename_masks.Statement.{statement}
 use Rattle.slots.proofs.rename_masks.Tie as tie
 

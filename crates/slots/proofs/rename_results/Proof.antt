@@ -1,6 +1,6 @@
 use borrow.Author.Needs.{needs}
 use Rattle.window.specs.Layout.{registers}
-use Rattle.slots.specs.Loops.{results-renamed}
+use Rattle.slots.proofs.Theory.Loops.{results-renamed}
 use Rattle.slots.proofs.rename_results.Statement.{statement}
 use Rattle.slots.proofs.rename_results.Tie as tie
 

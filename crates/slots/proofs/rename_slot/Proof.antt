@@ -2,8 +2,8 @@ use mathlib.Core.Path.{_≡_, refl}
 use Prim.Native.Nat.{_-_}
 use borrow.Author.Needs.{needs}
 use Rattle.window.specs.Layout.{registers}
-use Rattle.window.specs.Table.{Swept, swept-none}
-use Rattle.slots.specs.Loops.{renamedAt, renamed-more, renamed-all}
+use Rattle.window.proofs.Theory.Table.{Swept, swept-none}
+use Rattle.slots.proofs.Theory.Loops.{renamedAt, renamed-more, renamed-all}
 use Rattle.slots.proofs.rename_slot.Statement.{statement}
 use Rattle.slots.proofs.rename_slot.Tie as tie
 

@@ -3,9 +3,9 @@ use lib.ListN.{length-set}
 use borrow.Author.Needs.{needs}
 use Rattle.window.specs.Layout.{registers, functions}
 use Rattle.slots.specs.Slots.{slotsOf}
-use Rattle.slots.specs.Around.{around-same, around-recorded}
-use Rattle.slots.specs.Loops.{tabled-same, renewed-is}
-use Rattle.slots.specs.Laying.{tabled-recorded}
+use Rattle.slots.proofs.Theory.Around.{around-same, around-recorded}
+use Rattle.slots.proofs.Theory.Loops.{tabled-same, renewed-is}
+use Rattle.slots.proofs.Theory.Laying.{tabled-recorded}
 use Rattle.slots.proofs.renew.Statement.{statement}
 use Rattle.slots.proofs.renew.Tie as tie
 

@@ -2,7 +2,7 @@ use mathlib.Core.Path.{sym, _∙_}
 use borrow.Author.Needs.{needs}
 use Rattle.window.specs.Layout.{registers, functions}
 use Rattle.slots.specs.Slots.{Slots, slotsOf}
-use Rattle.slots.specs.Pulls.{never, wide-count, irregular, compared}
+use Rattle.slots.proofs.Theory.Pulls.{never, wide-count, irregular, compared}
 use Rattle.slots.proofs.represents.Statement.{statement}
 use Rattle.slots.proofs.represents.Tie as tie
 

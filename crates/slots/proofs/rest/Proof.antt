@@ -1,5 +1,5 @@
 use borrow.Author.Needs.{needs}
-use Rattle.slots.specs.Loops.{rest-is}
+use Rattle.slots.proofs.Theory.Loops.{rest-is}
 use Rattle.slots.proofs.rest.Statement.{statement}
 use Rattle.slots.proofs.rest.Tie as tie
 

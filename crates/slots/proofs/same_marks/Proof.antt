@@ -4,7 +4,7 @@ use native.Mathlib.Omega.{arith}
 use borrow.Author.Needs.{needs}
 use Rattle.window.specs.Layout.{registers}
 use Rattle.slots.specs.Performing.{sameMarks}
-use Rattle.slots.specs.Pulls.{at-end, marks-none, marks-more}
+use Rattle.slots.proofs.Theory.Pulls.{at-end, marks-none, marks-more}
 use Rattle.slots.proofs.same_marks.Statement.{statement}
 use Rattle.slots.proofs.same_marks.Tie as tie
 

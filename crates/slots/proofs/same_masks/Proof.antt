@@ -5,7 +5,7 @@ use lib.ListN.{length}
 use borrow.Author.Needs.{needs}
 use Rattle.window.specs.Layout.{registers}
 use Rattle.slots.specs.Performing.{sameMasks}
-use Rattle.slots.specs.Pulls.{at-end, same-none, same-more}
+use Rattle.slots.proofs.Theory.Pulls.{at-end, same-none, same-more}
 use Rattle.slots.proofs.same_masks.Statement.{statement}
 use Rattle.slots.proofs.same_masks.Tie as tie
 

@@ -1,7 +1,7 @@
 use mathlib.Core.Path.{sym, _∙_}
 use borrow.Author.Needs.{needs}
 use Rattle.window.specs.Layout.{registers, functions}
-use Rattle.slots.specs.Pulls.{Long, same-window, window-compared}
+use Rattle.slots.proofs.Theory.Pulls.{Long, same-window, window-compared}
 use Rattle.slots.proofs.alike.Reads as alike-reads
 use Rattle.slots.proofs.same_marks.Reads as same-marks-reads
 use Rattle.slots.proofs.same_masks.Reads as same-masks-reads

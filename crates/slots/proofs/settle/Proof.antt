@@ -1,6 +1,6 @@
 use borrow.Author.Needs.{needs}
 use Rattle.window.specs.Layout.{registers, functions}
-use Rattle.slots.specs.Loops.{settled-bad, settled-still}
+use Rattle.slots.proofs.Theory.Loops.{settled-bad, settled-still}
 use Rattle.slots.proofs.settle.Statement.{statement}
 use Rattle.slots.proofs.settle.Tie as tie
 

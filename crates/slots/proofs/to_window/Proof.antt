@@ -2,7 +2,7 @@ use mathlib.Core.Path.{_≡_}
 use lib.ListN.{length}
 use borrow.Author.Needs.{needs}
 use Rattle.window.specs.Layout.{registers, functions, lines}
-use Rattle.slots.specs.Pulls.{window-pulled}
+use Rattle.slots.proofs.Theory.Pulls.{window-pulled}
 use Rattle.slots.proofs.to_window.Statement.{statement}
 use Rattle.slots.proofs.to_window.Tie as tie
 

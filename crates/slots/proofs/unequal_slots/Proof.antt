@@ -3,8 +3,8 @@ use lib.ListN.{length}
 use borrow.Author.Needs.{needs}
 use Rattle.window.specs.Layout.{registers, functions}
 use Rattle.slots.specs.Slots.{slotsOf}
-use Rattle.slots.specs.Loops.{unequal-is}
-use Rattle.slots.specs.Laying.{apart-length}
+use Rattle.slots.proofs.Theory.Loops.{unequal-is}
+use Rattle.slots.proofs.Theory.Laying.{apart-length}
 use Rattle.slots.proofs.unequal_slots.Statement.{statement}
 use Rattle.slots.proofs.unequal_slots.Tie as tie
 

@@ -4,7 +4,7 @@ use native.Mathlib.Omega.{arith}
 use borrow.Author.Needs.{needs}
 use Rattle.window.specs.Layout.{registers}
 use Rattle.slots.specs.Performing.{usedOf}
-use Rattle.slots.specs.Pulls.{at-end, used-none, used-more}
+use Rattle.slots.proofs.Theory.Pulls.{at-end, used-none, used-more}
 use Rattle.slots.proofs.used.Statement.{statement}
 use Rattle.slots.proofs.used.Tie as tie
 

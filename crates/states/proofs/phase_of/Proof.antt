@@ -1,4 +1,4 @@
-use Rattle.base.specs.Choice.{decide}
+use Rattle.base.proofs.Theory.Choice.{decide}
 use Rattle.states.specs.States.{phaseIn}
 use Rattle.states.proofs.phase_of.Statement.{statement}
 use Rattle.states.proofs.phase_of.Tie as tie

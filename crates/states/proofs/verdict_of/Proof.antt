@@ -1,4 +1,4 @@
-use Rattle.base.specs.Choice.{decide}
+use Rattle.base.proofs.Theory.Choice.{decide}
 use Rattle.states.specs.States.{verdictIn}
 use Rattle.states.proofs.verdict_of.Statement.{statement}
 use Rattle.states.proofs.verdict_of.Tie as tie

@@ -1,4 +1,4 @@
-use Rattle.syntax.specs.Top as law
+use Rattle.syntax.proofs.Theory.Top as law
 use borrow.Author.Needs.{needs}
 use Rattle.syntax.proofs.finish.Statement.{statement}
 use Rattle.syntax.proofs.finish.Tie as tie

@@ -1,4 +1,4 @@
-use Rattle.syntax.specs.Top as law
+use Rattle.syntax.proofs.Theory.Top as law
 use Rattle.syntax.proofs.flag.Statement.{statement}
 use Rattle.syntax.proofs.flag.Tie as tie
 use Rattle.syntax.proofs.flag.Reads as reads

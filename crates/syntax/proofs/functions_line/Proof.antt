@@ -1,4 +1,4 @@
-use Rattle.syntax.specs.Lists as law
+use Rattle.syntax.proofs.Theory.Lists as law
 use borrow.Author.Needs.{needs}
 use Rattle.syntax.proofs.functions_line.Statement.{statement}
 use Rattle.syntax.proofs.functions_line.Tie as tie

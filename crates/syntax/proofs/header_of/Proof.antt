@@ -1,5 +1,5 @@
 use borrow.Author.Needs.{needs}
-use Rattle.syntax.specs.Top as law
+use Rattle.syntax.proofs.Theory.Top as law
 use Rattle.syntax.proofs.header_of.Statement.{statement}
 use Rattle.syntax.proofs.header_of.Tie as tie
 

@@ -1,6 +1,6 @@
 use mathlib.Core.Path.{sym}
 use native.Mathlib.Omega.{arith}
-use Rattle.syntax.specs.Lists as law
+use Rattle.syntax.proofs.Theory.Lists as law
 use borrow.Author.Needs.{needs}
 use Rattle.syntax.proofs.is_function_taken.Statement.{statement}
 use Rattle.syntax.proofs.is_function_taken.Tie as tie

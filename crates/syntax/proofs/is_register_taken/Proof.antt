@@ -1,6 +1,6 @@
 use mathlib.Core.Path.{sym}
 use native.Mathlib.Omega.{arith}
-use Rattle.syntax.specs.Lists.{taken-full, taken-known}
+use Rattle.syntax.proofs.Theory.Lists.{taken-full, taken-known}
 use borrow.Author.Needs.{needs}
 use Rattle.syntax.proofs.is_register_taken.Statement.{statement}
 use Rattle.syntax.proofs.is_register_taken.Tie as tie

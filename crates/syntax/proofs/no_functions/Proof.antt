@@ -1,4 +1,4 @@
-use Rattle.syntax.specs.Lists as law
+use Rattle.syntax.proofs.Theory.Lists as law
 use Rattle.syntax.proofs.no_functions.Statement.{statement}
 use Rattle.syntax.proofs.no_functions.Tie as tie
 use Rattle.syntax.proofs.no_functions.Reads as reads

@@ -1,5 +1,5 @@
-use Rattle.syntax.specs.Reads.{reads}
-use Rattle.syntax.specs.Top as law
+use Rattle.syntax.proofs.Theory.Reads.{reads}
+use Rattle.syntax.proofs.Theory.Top as law
 use borrow.Author.Needs.{needs}
 use Rattle.syntax.proofs.read.Statement.{statement}
 use Rattle.syntax.proofs.read.Tie as tie

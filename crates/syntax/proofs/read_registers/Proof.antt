@@ -1,8 +1,9 @@
 use mathlib.Core.Path.{refl}
 use Prim.Native.Nat.{_-_}
 use native.Mathlib.Omega.{arith}
-use Rattle.syntax.specs.Lists.{Kept, RegistersLeft}
-use Rattle.syntax.specs.Lists as law
+use Rattle.syntax.specs.Lists.{Kept}
+use Rattle.syntax.proofs.Theory.Lists.{RegistersLeft}
+use Rattle.syntax.proofs.Theory.Lists as law
 use borrow.Author.Needs.{needs}
 use Rattle.syntax.proofs.read_registers.Statement.{statement}
 use Rattle.syntax.proofs.read_registers.Tie as tie

@@ -1,5 +1,5 @@
-use Rattle.syntax.specs.Lists.{kept-within}
-use Rattle.syntax.specs.Top as law
+use Rattle.syntax.proofs.Theory.Lists.{kept-within}
+use Rattle.syntax.proofs.Theory.Top as law
 use borrow.Author.Needs.{needs}
 use Rattle.syntax.proofs.read_rest.Statement.{statement}
 use Rattle.syntax.proofs.read_rest.Tie as tie

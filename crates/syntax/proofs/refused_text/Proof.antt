@@ -1,5 +1,5 @@
 use Rattle.syntax.specs.Answer.{answerOf}
-use Rattle.syntax.specs.Lists as law
+use Rattle.syntax.proofs.Theory.Lists as law
 use borrow.Author.Needs.{needs}
 use Rattle.syntax.proofs.refused_text.Statement.{statement}
 use Rattle.syntax.proofs.refused_text.Tie as tie

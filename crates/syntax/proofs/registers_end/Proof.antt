@@ -1,5 +1,5 @@
 use mathlib.Core.List.{[]}
-use Rattle.syntax.specs.Lists as law
+use Rattle.syntax.proofs.Theory.Lists as law
 use borrow.Author.Needs.{needs}
 use Rattle.syntax.proofs.registers_end.Statement.{statement}
 use Rattle.syntax.proofs.registers_end.Tie as tie

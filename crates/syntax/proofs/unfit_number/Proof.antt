@@ -1,4 +1,4 @@
-use Rattle.base.specs.Choice.{decide}
+use Rattle.base.proofs.Theory.Choice.{decide}
 use Rattle.syntax.proofs.unfit_number.Statement.{statement}
 use Rattle.syntax.proofs.unfit_number.Tie as tie
 use Rattle.syntax.proofs.unfit_number.Reads as reads

@@ -1,4 +1,4 @@
-use Rattle.base.specs.Lent.{tail-lent}
+use Rattle.base.proofs.Theory.Lent.{tail-lent}
 use Rattle.table.specs.Table.{pointAt}
 use borrow.Author.Needs.{needs}
 use Rattle.table.proofs.point_at.Statement.{statement}

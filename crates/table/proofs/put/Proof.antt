@@ -2,7 +2,7 @@ use mathlib.Core.Path.{ap, _∙_}
 use mathlib.Core.List.{List, _++_}
 use Prim.Native.Nat.{ℕ, _*_}
 use lib.ListN.{take, drop}
-use Rattle.base.specs.Lent.{tail-lent, tail-back}
+use Rattle.base.proofs.Theory.Lent.{tail-lent, tail-back}
 use Rattle.records.specs.Records.{recordBytes, recordOf}
 use Rattle.table.specs.Table.{putAt}
 use borrow.Author.Needs.{needs}

@@ -5,8 +5,9 @@ use mathlib.Core.List.{[], _∷_}
 use Prim.Native.Nat.{ℕ, _/_, _%_, _<_}
 use borrow.Fn.Kinds.{In}
 use borrow.Fn.PlainCycle.{Measures, is, falls, and}
-use Rattle.text.specs.Numerals.{digit, numeral, numeral-one, numeral-more}
-use Rattle.text.specs.Appending.{room-same, room-first, room-then, appended-same, appended-then, appended-length}
+use Rattle.text.specs.Numerals.{digit, numeral}
+use Rattle.text.proofs.Theory.Numerals.{numeral-one, numeral-more}
+use Rattle.text.proofs.Theory.Appending.{room-same, room-first, room-then, appended-same, appended-then, appended-length}
 use Rattle.text.proofs.put_number.Reads as put-number
 use Rattle.text.proofs.put_number.Kinds as put-number-kinds
 use Rattle.text.proofs.+put_number.Lts-put_number as put-number-lts

@@ -1,6 +1,6 @@
 use borrow.Author.Needs.{needs}
 use mathlib.Core.Logic.{⊎-elim}
-use Rattle.text.specs.Appending.{byte-stored, byte-dropped, appended-length}
+use Rattle.text.proofs.Theory.Appending.{byte-stored, byte-dropped, appended-length}
 use Rattle.text.proofs.put_byte.Statement.{statement}
 use Rattle.text.proofs.put_byte.Tie as tie
 

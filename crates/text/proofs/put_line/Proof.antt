@@ -1,8 +1,9 @@
 use borrow.Author.Needs.{needs}
 use Prim.Native.Nat.{_+_, _-_}
 use lib.ListN.{length, getD, drop}
-use Rattle.text.specs.Appending.{Left, left-all, left-next, left-none, left-room, left-same, left-length}
-use Rattle.text.specs.Templates.{part, filledIn, filled-next, filled-none}
+use Rattle.text.proofs.Theory.Appending.{Left, left-all, left-next, left-none, left-room, left-same, left-length}
+use Rattle.text.specs.Templates.{part, filledIn}
+use Rattle.text.proofs.Theory.Templates.{filled-next, filled-none}
 use Rattle.text.proofs.put_line.Statement.{statement}
 use Rattle.text.proofs.put_line.Tie as tie
 

@@ -1,8 +1,9 @@
 use borrow.Author.Needs.{needs}
 use mathlib.Core.List.{[], _∷_}
 use Prim.Native.Nat.{_/_, _%_}
-use Rattle.text.specs.Names.{nameText, name-next, name-none}
-use Rattle.text.specs.Appending.{Left, left-all, left-next, left-none, left-room, left-same, left-length}
+use Rattle.text.specs.Names.{nameText}
+use Rattle.text.proofs.Theory.Names.{name-next, name-none}
+use Rattle.text.proofs.Theory.Appending.{Left, left-all, left-next, left-none, left-room, left-same, left-length}
 use Rattle.text.proofs.put_name.Statement.{statement}
 use Rattle.text.proofs.put_name.Tie as tie
 

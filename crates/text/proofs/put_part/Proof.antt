@@ -1,7 +1,7 @@
 use borrow.Author.Needs.{needs}
 use mathlib.Core.Path.{sym}
-use Rattle.text.specs.Appending.{room-same, appended-same, appended-length}
-use Rattle.text.specs.Templates.{part-low, part-name, part-number, part-high}
+use Rattle.text.proofs.Theory.Appending.{room-same, appended-same, appended-length}
+use Rattle.text.proofs.Theory.Templates.{part-low, part-name, part-number, part-high}
 use Rattle.text.proofs.put_part.Statement.{statement}
 use Rattle.text.proofs.put_part.Tie as tie
 

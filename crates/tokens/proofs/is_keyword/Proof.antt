@@ -1,4 +1,4 @@
-use Rattle.base.specs.Choice.{decide}
+use Rattle.base.proofs.Theory.Choice.{decide}
 use Rattle.tokens.proofs.is_keyword.Statement.{statement}
 use Rattle.tokens.proofs.is_keyword.Tie as tie
 use Rattle.tokens.proofs.is_keyword.Reads as reads

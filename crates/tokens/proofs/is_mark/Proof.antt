@@ -1,4 +1,4 @@
-use Rattle.base.specs.Choice.{decide}
+use Rattle.base.proofs.Theory.Choice.{decide}
 use Rattle.tokens.proofs.is_mark.Statement.{statement}
 use Rattle.tokens.proofs.is_mark.Tie as tie
 use Rattle.tokens.proofs.is_mark.Reads as reads

@@ -1,4 +1,4 @@
-use Rattle.tokens.specs.WordsLaws.{name-below, name-above, name-word}
+use Rattle.tokens.proofs.Theory.WordsLaws.{name-below, name-above, name-word}
 use borrow.Author.Needs.{needs}
 use Rattle.tokens.proofs.is_name.Statement.{statement}
 use Rattle.tokens.proofs.is_name.Tie as tie

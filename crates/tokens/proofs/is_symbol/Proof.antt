@@ -1,4 +1,4 @@
-use Rattle.base.specs.Choice.{decide}
+use Rattle.base.proofs.Theory.Choice.{decide}
 use Rattle.tokens.proofs.is_symbol.Statement.{statement}
 use Rattle.tokens.proofs.is_symbol.Tie as tie
 use Rattle.tokens.proofs.is_symbol.Reads as reads

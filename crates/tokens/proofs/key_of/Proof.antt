@@ -1,7 +1,7 @@
 use Prim.Native.Nat.{_-_}
 use native.Mathlib.Omega.{arith}
 use borrow.Author.Needs.{needs}
-use Rattle.tokens.specs.BytesLaws.{Keyed, key-none, key-fits, key-turn, key-done}
+use Rattle.tokens.proofs.Theory.BytesLaws.{Keyed, key-none, key-fits, key-turn, key-done}
 use Rattle.tokens.proofs.key_of.Statement.{statement}
 use Rattle.tokens.proofs.key_of.Tie as tie
 use Rattle.tokens.proofs.key_of.Reads as reads

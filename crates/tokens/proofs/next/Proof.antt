@@ -1,5 +1,5 @@
 use native.Mathlib.Omega.{arith}
-use Rattle.tokens.specs.TokensLaws.{token-end, token-wrong, token-read, token-within}
+use Rattle.tokens.proofs.Theory.TokensLaws.{token-end, token-wrong, token-read, token-within}
 use borrow.Author.Needs.{needs}
 use Rattle.tokens.proofs.next.Statement.{statement}
 use Rattle.tokens.proofs.next.Tie as tie

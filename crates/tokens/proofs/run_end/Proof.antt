@@ -4,7 +4,7 @@ use Prim.Native.Nat.{_+_, _-_}
 use lib.ListN.{length, drop}
 use borrow.Author.Needs.{needs}
 use Rattle.tokens.specs.Bytes.{run}
-use Rattle.tokens.specs.BytesLaws.{run-ended, run-halted, run-turn}
+use Rattle.tokens.proofs.Theory.BytesLaws.{run-ended, run-halted, run-turn}
 use Rattle.tokens.proofs.run_end.Statement.{statement}
 use Rattle.tokens.proofs.run_end.Tie as tie
 use Rattle.tokens.proofs.run_end.Reads as reads

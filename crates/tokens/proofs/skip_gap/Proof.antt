@@ -1,7 +1,7 @@
 use Prim.Native.Nat.{_-_}
 use lib.ListN.{length}
 use borrow.Author.Needs.{needs}
-use Rattle.tokens.specs.BytesLaws.{Gap, gap-ended, gap-halted, gap-turn, gap-turn-hash, gap-turn-in}
+use Rattle.tokens.proofs.Theory.BytesLaws.{Gap, gap-ended, gap-halted, gap-turn, gap-turn-hash, gap-turn-in}
 use Rattle.tokens.proofs.skip_gap.Statement.{statement}
 use Rattle.tokens.proofs.skip_gap.Tie as tie
 use Rattle.tokens.proofs.skip_gap.Reads as reads

@@ -1,4 +1,4 @@
-use Rattle.tokens.specs.BytesLaws.{width-name, width-long, width-pair, width-half, width-last, width-symbol, width-none}
+use Rattle.tokens.proofs.Theory.BytesLaws.{width-name, width-long, width-pair, width-half, width-last, width-symbol, width-none}
 use borrow.Author.Needs.{needs}
 use Rattle.tokens.proofs.width_at.Statement.{statement}
 use Rattle.tokens.proofs.width_at.Tie as tie

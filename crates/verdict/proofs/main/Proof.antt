@@ -1,5 +1,5 @@
 use borrow.Author.Needs.{needs}
-use Rattle.verdict_lines.specs.Answered.{written-within, written-length}
+use Rattle.verdict_lines.proofs.Theory.Answered.{written-within, written-length}
 use Rattle.verdict.proofs.main.Statement.{statement}
 use Rattle.verdict.proofs.main.Tie as tie
 

@@ -2,7 +2,7 @@ use borrow.Author.Needs.{needs}
 use mathlib.Core.Path.{refl, ap}
 use Rattle.files.specs.declared.Input.{Input}
 use Rattle.files.specs.Lines.{known}
-use Rattle.files.specs.LinesLaws.{least-length, answers-bytes, answers-first, answers-unread}
+use Rattle.files.proofs.Theory.LinesLaws.{least-length, answers-bytes, answers-first, answers-unread}
 use Rattle.verdict_lines.specs.Prints.{Prints}
 use Rattle.verdict_lines.proofs.answer_to.Statement.{statement}
 use Rattle.verdict_lines.proofs.answer_to.Tie as tie

@@ -1,5 +1,5 @@
 use borrow.Author.Needs.{needs}
-use Rattle.verdict_lines.specs.Saying.{prints}
+use Rattle.verdict_lines.proofs.Theory.Saying.{prints}
 use Rattle.verdict_lines.proofs.write_lines.Statement.{statement}
 use Rattle.verdict_lines.proofs.write_lines.Tie as tie
 

@@ -4,7 +4,7 @@ use native.Mathlib.Omega.{arith}
 use lib.ListN.{getD}
 use mir.Syntax.{w64}
 use mir.Val.{Fits}
-use Rattle.verdict_lines.specs.ReportedLaws.{reports}
+use Rattle.verdict_lines.proofs.Theory.ReportedLaws.{reports}
 use Rattle.verdict_lines.proofs.write_verdict.Statement.{statement}
 use Rattle.verdict_lines.proofs.write_verdict.Tie as tie
 

@@ -3,8 +3,8 @@ use Prim.Native.Nat.{_*_, _-_}
 use lib.Bits.{bitOr}
 use borrow.Author.Needs.{needs}
 use Rattle.window.specs.Layout.{registers}
-use Rattle.base.specs.Written.{Written, written-none, written-more}
-use Rattle.window.specs.Table.{written-all}
+use Rattle.base.proofs.Theory.Written.{Written, written-none, written-more}
+use Rattle.window.proofs.Theory.Table.{written-all}
 use Rattle.window.specs.Marks.{aboveOf, unionOf}
 use Rattle.window.proofs.above.Statement.{statement}
 use Rattle.window.proofs.above.Tie as tie

@@ -2,7 +2,7 @@ use Prim.Native.Nat.{_-_}
 use native.Mathlib.Omega.{arith}
 use borrow.Author.Needs.{needs}
 use Rattle.window.specs.Layout.{registers}
-use Rattle.window.specs.Adding.{Adding, adding-none, adding-more, adding-all}
+use Rattle.window.proofs.Theory.Adding.{Adding, adding-none, adding-more, adding-all}
 use Rattle.window.proofs.add_line.Statement.{statement}
 use Rattle.window.proofs.add_line.Tie as tie
 

@@ -5,8 +5,9 @@ use lib.ListN.{length}
 use native.Mathlib.Omega.{arith}
 use borrow.Author.Needs.{needs}
 use Rattle.window.specs.Layout.{registers}
-use Rattle.window.specs.Bits.{until}
-use Rattle.window.specs.Adding.{resultsAdded, added-none, added-more, added-skip, added-all, added-length}
+use Rattle.window.proofs.Theory.Bits.{until}
+use Rattle.window.specs.Adding.{resultsAdded}
+use Rattle.window.proofs.Theory.Adding.{added-none, added-more, added-skip, added-all, added-length}
 use Rattle.window.proofs.add_results.Statement.{statement}
 use Rattle.window.proofs.add_results.Tie as tie
 

@@ -1,7 +1,7 @@
 use borrow.Author.Needs.{needs}
 use Rattle.window.specs.Layout.{registers, functions}
 use Rattle.window.specs.Parts.{parts}
-use Rattle.window.specs.Performing.{apply-known, apply-new}
+use Rattle.window.proofs.Theory.Performing.{apply-known, apply-new}
 use Rattle.window.proofs.apply_in.Statement.{statement}
 use Rattle.window.proofs.apply_in.Tie as tie
 

@@ -3,7 +3,8 @@ use Prim.Native.Nat.{_-_, _≤_}
 use native.Mathlib.Omega.{arith}
 use borrow.Author.Needs.{needs}
 use Rattle.window.specs.Layout.{registers}
-use Rattle.window.specs.Marks.{belowOf, below-more, below-none, below-all}
+use Rattle.window.specs.Marks.{belowOf}
+use Rattle.window.proofs.Theory.Marks.{below-more, below-none, below-all}
 use Rattle.window.proofs.below.Statement.{statement}
 use Rattle.window.proofs.below.Tie as tie
 

@@ -3,7 +3,8 @@ use Prim.Native.Nat.{_-_, _≤_}
 use native.Mathlib.Omega.{arith}
 use borrow.Author.Needs.{needs}
 use Rattle.window.specs.Layout.{registers}
-use Rattle.window.specs.Marks.{besideOf, beside-more, beside-none, beside-all}
+use Rattle.window.specs.Marks.{besideOf}
+use Rattle.window.proofs.Theory.Marks.{beside-more, beside-none, beside-all}
 use Rattle.window.proofs.beside.Statement.{statement}
 use Rattle.window.proofs.beside.Tie as tie
 

@@ -3,7 +3,8 @@ use Prim.Native.Nat.{_-_, _≤_}
 use native.Mathlib.Omega.{arith}
 use borrow.Author.Needs.{needs}
 use Rattle.window.specs.Layout.{registers, functions}
-use Rattle.window.specs.Performing.{clashOf, clash-none, clash-more, clash-all}
+use Rattle.window.specs.Performing.{clashOf}
+use Rattle.window.proofs.Theory.Performing.{clash-none, clash-more, clash-all}
 use Rattle.window.proofs.clash.Statement.{statement}
 use Rattle.window.proofs.clash.Tie as tie
 

@@ -4,8 +4,9 @@ use lib.ListN.{length}
 use native.Mathlib.Omega.{arith}
 use borrow.Author.Needs.{needs}
 use Rattle.window.specs.Layout.{registers}
-use Rattle.window.specs.Lines.{columns, Gone, gone-none, clearedAt, clear-more, cleared-all}
-use Rattle.window.specs.Through.{columns-span}
+use Rattle.window.specs.Lines.{columns, clearedAt}
+use Rattle.window.proofs.Theory.Lines.{Gone, gone-none, clear-more, cleared-all}
+use Rattle.window.proofs.Theory.Through.{columns-span}
 use Rattle.window.proofs.clear_column.Statement.{statement}
 use Rattle.window.proofs.clear_column.Tie as tie
 

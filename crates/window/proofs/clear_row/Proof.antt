@@ -4,8 +4,9 @@ use lib.ListN.{length}
 use native.Mathlib.Omega.{arith}
 use borrow.Author.Needs.{needs}
 use Rattle.window.specs.Layout.{registers}
-use Rattle.window.specs.Lines.{rows, Gone, gone-none, clearedAt, clear-more, cleared-all}
-use Rattle.window.specs.Through.{rows-whole}
+use Rattle.window.specs.Lines.{rows, clearedAt}
+use Rattle.window.proofs.Theory.Lines.{Gone, gone-none, clear-more, cleared-all}
+use Rattle.window.proofs.Theory.Through.{rows-whole}
 use Rattle.window.proofs.clear_row.Statement.{statement}
 use Rattle.window.proofs.clear_row.Tie as tie
 

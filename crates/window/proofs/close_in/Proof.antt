@@ -6,7 +6,8 @@ use native.Mathlib.Omega.{arith}
 use borrow.Author.Needs.{needs}
 use Rattle.window.specs.Layout.{registers, functions, pairs}
 use Rattle.window.specs.Parts.{parts, Tabled}
-use Rattle.window.specs.Performing.{closedOf, closed-more, closed-one, closed-none, closed-end}
+use Rattle.window.specs.Performing.{closedOf}
+use Rattle.window.proofs.Theory.Performing.{closed-more, closed-one, closed-none, closed-end}
 use Rattle.window.proofs.close_in.Statement.{statement}
 use Rattle.window.proofs.close_in.Tie as tie
 

@@ -3,9 +3,9 @@ use Prim.Native.Nat.{_^_}
 use lib.ListN.{length, length-set}
 use borrow.Author.Needs.{needs}
 use Rattle.window.specs.Layout.{registers, functions}
-use Rattle.window.specs.Through.{masks-length, results-length}
+use Rattle.window.proofs.Theory.Through.{masks-length, results-length}
 use Rattle.window.specs.Parts.{parts}
-use Rattle.window.specs.Performing.{copied-within, copied-moved}
+use Rattle.window.proofs.Theory.Performing.{copied-within, copied-moved}
 use Rattle.window.proofs.copy_in.Statement.{statement}
 use Rattle.window.proofs.copy_in.Tie as tie
 

@@ -1,6 +1,6 @@
 use borrow.Author.Needs.{needs}
 use Rattle.window.specs.Layout.{registers}
-use Rattle.window.specs.Through.{masks-copied}
+use Rattle.window.proofs.Theory.Through.{masks-copied}
 use Rattle.window.proofs.copy_masks.Statement.{statement}
 use Rattle.window.proofs.copy_masks.Tie as tie
 

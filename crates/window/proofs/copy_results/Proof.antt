@@ -1,6 +1,6 @@
 use borrow.Author.Needs.{needs}
 use Rattle.window.specs.Layout.{registers}
-use Rattle.window.specs.Through.{results-copied}
+use Rattle.window.proofs.Theory.Through.{results-copied}
 use Rattle.window.proofs.copy_results.Statement.{statement}
 use Rattle.window.proofs.copy_results.Tie as tie
 

@@ -2,7 +2,7 @@ use mathlib.Core.Path.{sym, _∙_}
 use borrow.Author.Needs.{needs}
 use Rattle.window.specs.Layout.{registers, functions}
 use Rattle.window.specs.Parts.{parts}
-use Rattle.window.specs.Performing.{equal-within, equal-moved}
+use Rattle.window.proofs.Theory.Performing.{equal-within, equal-moved}
 use Rattle.window.proofs.equal_in.Statement.{statement}
 use Rattle.window.proofs.equal_in.Tie as tie
 

@@ -4,7 +4,8 @@ use native.Mathlib.Omega.{arith}
 use borrow.Author.Needs.{needs}
 use Rattle.window.specs.Layout.{registers, functions, results}
 use Rattle.window.specs.Bits.{nonempty}
-use Rattle.window.specs.Performing.{findOf, find-here, find-more, find-none}
+use Rattle.window.specs.Performing.{findOf}
+use Rattle.window.proofs.Theory.Performing.{find-here, find-more, find-none}
 use Rattle.window.proofs.find.Statement.{statement}
 use Rattle.window.proofs.find.Tie as tie
 

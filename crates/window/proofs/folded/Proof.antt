@@ -1,8 +1,8 @@
 use Prim.Native.Nat.{_-_}
 use borrow.Author.Needs.{needs}
 use Rattle.window.specs.Layout.{functions, pairs}
-use Rattle.base.specs.Written.{Written, written-none, written-more}
-use Rattle.window.specs.Table.{written-all}
+use Rattle.base.proofs.Theory.Written.{Written, written-none, written-more}
+use Rattle.window.proofs.Theory.Table.{written-all}
 use Rattle.window.specs.Marks.{foldedOf, unionOf}
 use Rattle.window.proofs.folded.Statement.{statement}
 use Rattle.window.proofs.folded.Tie as tie

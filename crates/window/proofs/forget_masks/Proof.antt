@@ -1,6 +1,6 @@
 use borrow.Author.Needs.{needs}
 use Rattle.window.specs.Layout.{registers}
-use Rattle.window.specs.Adding.{forgotten-is}
+use Rattle.window.proofs.Theory.Adding.{forgotten-is}
 use Rattle.window.proofs.forget_masks.Statement.{statement}
 use Rattle.window.proofs.forget_masks.Tie as tie
 

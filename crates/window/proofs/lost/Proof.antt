@@ -1,6 +1,6 @@
 use borrow.Author.Needs.{needs}
 use Rattle.window.specs.Layout.{registers, functions}
-use Rattle.window.specs.Marks.{lost-is}
+use Rattle.window.proofs.Theory.Marks.{lost-is}
 use Rattle.window.proofs.lost.Statement.{statement}
 use Rattle.window.proofs.lost.Tie as tie
 

@@ -6,8 +6,9 @@ use native.Mathlib.Omega.{arith}
 use borrow.Author.Needs.{needs}
 use Rattle.base.specs.Masks.{has}
 use Rattle.window.specs.Layout.{registers}
-use Rattle.window.specs.Table.{Swept, swept-none, swept-more, swept-all}
-use Rattle.window.specs.Marks.{markedWith, mark-is}
+use Rattle.window.proofs.Theory.Table.{Swept, swept-none, swept-more, swept-all}
+use Rattle.window.specs.Marks.{markedWith}
+use Rattle.window.proofs.Theory.Marks.{mark-is}
 use Rattle.window.proofs.mark_in.Statement.{statement}
 use Rattle.window.proofs.mark_in.Tie as tie
 

@@ -3,8 +3,8 @@ use lib.ListN.{getD, length}
 use borrow.Author.Needs.{needs}
 use Rattle.window.specs.Layout.{registers, functions}
 use Rattle.window.specs.Parts.{parts}
-use Rattle.window.specs.Through.{whole, masks-length, results-length}
-use Rattle.window.specs.Performing.{both-has, merged-is}
+use Rattle.window.proofs.Theory.Through.{whole, masks-length, results-length}
+use Rattle.window.proofs.Theory.Performing.{both-has, merged-is}
 use Rattle.window.proofs.merge_in.Statement.{statement}
 use Rattle.window.proofs.merge_in.Tie as tie
 

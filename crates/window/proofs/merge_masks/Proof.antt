@@ -3,7 +3,7 @@ use mathlib.Core.Path.{refl, ap₂}
 use lib.Bits.{bitOr}
 use Rattle.window.specs.Layout.{registers}
 use Rattle.window.specs.Lines.{columns}
-use Rattle.window.specs.Through.{columns-span, merged-twice, masks-merged}
+use Rattle.window.proofs.Theory.Through.{columns-span, merged-twice, masks-merged}
 use Rattle.window.proofs.merge_masks.Statement.{statement}
 use Rattle.window.proofs.merge_masks.Tie as tie
 

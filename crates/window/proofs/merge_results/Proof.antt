@@ -3,8 +3,9 @@ use mathlib.Core.Path.{refl, ap, ap₂, _∙_}
 use lib.Bits.{bitOr}
 use lib.ListN.{length}
 use Rattle.window.specs.Layout.{registers, functions, lines}
-use Rattle.window.specs.Lines.{columns, rows, united-length}
-use Rattle.window.specs.Through.{columns-span, rows-span, merged-twice, results-merged, whole}
+use Rattle.window.specs.Lines.{columns, rows}
+use Rattle.window.proofs.Theory.Lines.{united-length}
+use Rattle.window.proofs.Theory.Through.{columns-span, rows-span, merged-twice, results-merged, whole}
 use Rattle.window.proofs.merge_results.Statement.{statement}
 use Rattle.window.proofs.merge_results.Tie as tie
 

@@ -3,8 +3,9 @@ use lib.ListN.{length, getD}
 use native.Mathlib.Omega.{arith}
 use borrow.Author.Needs.{needs}
 use Rattle.window.specs.Bits.{movedOf}
-use Rattle.window.specs.Through.{bitsMoved, moved-turn}
-use Rattle.window.specs.Table.{Swept, swept-none, swept-all}
+use Rattle.window.specs.Through.{bitsMoved}
+use Rattle.window.proofs.Theory.Through.{moved-turn}
+use Rattle.window.proofs.Theory.Table.{Swept, swept-none, swept-all}
 use Rattle.window.proofs.move_bits.Statement.{statement}
 use Rattle.window.proofs.move_bits.Tie as tie
 

@@ -1,6 +1,6 @@
 use native.Mathlib.Omega.{arith}
 use lib.Count.{trailing-le}
-use Rattle.base.specs.MaskLaws.{trailing-least}
+use Rattle.base.proofs.Theory.MaskLaws.{trailing-least}
 use Rattle.window.specs.Layout.{registers}
 use Rattle.window.proofs.name.Statement.{statement}
 use Rattle.window.proofs.name.Tie as tie

@@ -3,9 +3,10 @@ use lib.ListN.{length, length-set}
 use borrow.Author.Needs.{needs}
 use Rattle.window.specs.Layout.{registers, functions}
 use Rattle.window.specs.Parts.{parts}
-use Rattle.window.specs.Adding.{masksForgotten, line-length}
-use Rattle.window.specs.Shape.{forgotten-length, renewed-length}
-use Rattle.window.specs.Performing.{applied-is}
+use Rattle.window.specs.Adding.{masksForgotten}
+use Rattle.window.proofs.Theory.Adding.{line-length}
+use Rattle.window.proofs.Theory.Shape.{forgotten-length, renewed-length}
+use Rattle.window.proofs.Theory.Performing.{applied-is}
 use Rattle.window.proofs.new_in.Statement.{statement}
 use Rattle.window.proofs.new_in.Tie as tie
 

@@ -5,9 +5,10 @@ use lib.ListN.{getD}
 use native.Mathlib.Omega.{arith}
 use borrow.Author.Needs.{needs}
 use Rattle.window.specs.Layout.{registers}
-use Rattle.window.specs.Table.{Swept, swept-none, swept-more, swept-all}
+use Rattle.window.proofs.Theory.Table.{Swept, swept-none, swept-more, swept-all}
 use Rattle.window.specs.Adding.{partOf}
-use Rattle.window.specs.Performing.{partedOf, parted-is}
+use Rattle.window.specs.Performing.{partedOf}
+use Rattle.window.proofs.Theory.Performing.{parted-is}
 use Rattle.window.proofs.part_in.Statement.{statement}
 use Rattle.window.proofs.part_in.Tie as tie
 

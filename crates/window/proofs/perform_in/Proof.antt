@@ -1,6 +1,7 @@
 use mathlib.Core.Path.{subst}
 use borrow.Author.Needs.{needs}
-use Rattle.window.specs.Parts.{parts, told}
+use Rattle.window.specs.Parts.{parts}
+use Rattle.window.proofs.Theory.Parts.{told}
 use Rattle.window.specs.Perform.{Within}
 use Rattle.window.proofs.perform_in.Statement.{statement}
 use Rattle.window.proofs.perform_in.Tie as tie

@@ -2,7 +2,7 @@ use Prim.Native.Nat.{_-_}
 use native.Mathlib.Omega.{arith}
 use borrow.Author.Needs.{needs}
 use Rattle.window.specs.Layout.{registers, results}
-use Rattle.window.specs.Marks.{Rising, rising-none, rising-more, rising-all, rising-grows}
+use Rattle.window.proofs.Theory.Marks.{Rising, rising-none, rising-more, rising-all, rising-grows}
 use Rattle.window.proofs.raised.Statement.{statement}
 use Rattle.window.proofs.raised.Tie as tie
 

@@ -1,6 +1,6 @@
 use borrow.Author.Needs.{needs}
 use Rattle.window.specs.Layout.{registers}
-use Rattle.window.specs.Adding.{renewed-is}
+use Rattle.window.proofs.Theory.Adding.{renewed-is}
 use Rattle.window.proofs.renew_results.Statement.{statement}
 use Rattle.window.proofs.renew_results.Tie as tie
 

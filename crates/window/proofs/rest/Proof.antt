@@ -1,7 +1,7 @@
 use borrow.Author.Needs.{needs}
 use Rattle.window.specs.Layout.{registers, functions}
 use Rattle.window.specs.Bits.{minus}
-use Rattle.window.specs.Performing.{rest-some, rest-none}
+use Rattle.window.proofs.Theory.Performing.{rest-some, rest-none}
 use Rattle.window.proofs.rest.Statement.{statement}
 use Rattle.window.proofs.rest.Tie as tie
 

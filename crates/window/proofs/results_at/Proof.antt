@@ -1,5 +1,5 @@
 use borrow.Author.Needs.{needs}
-use Rattle.window.specs.Marks.{union-four}
+use Rattle.window.proofs.Theory.Marks.{union-four}
 use Rattle.window.proofs.results_at.Statement.{statement}
 use Rattle.window.proofs.results_at.Tie as tie
 

@@ -1,5 +1,5 @@
 use borrow.Author.Needs.{needs}
-use Rattle.base.specs.MaskLaws.{shl-one}
+use Rattle.base.proofs.Theory.MaskLaws.{shl-one}
 use Rattle.window.specs.Layout.{registers}
 use Rattle.window.proofs.single.Statement.{statement}
 use Rattle.window.proofs.single.Tie as tie

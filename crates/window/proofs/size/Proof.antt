@@ -1,4 +1,4 @@
-use Rattle.base.specs.MaskLaws.{ones-size}
+use Rattle.base.proofs.Theory.MaskLaws.{ones-size}
 use Rattle.window.specs.Layout.{registers}
 use Rattle.window.proofs.size.Statement.{statement}
 use Rattle.window.proofs.size.Tie as tie

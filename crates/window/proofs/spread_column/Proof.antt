@@ -5,9 +5,10 @@ use lib.ListN.{length}
 use native.Mathlib.Omega.{arith}
 use borrow.Author.Needs.{needs}
 use Rattle.window.specs.Layout.{registers}
-use Rattle.window.specs.Bits.{until}
-use Rattle.window.specs.Lines.{columns, united, united-length}
-use Rattle.window.specs.Through.{columns-span, spread-none, spread-more, spread-skip, spread-all}
+use Rattle.window.proofs.Theory.Bits.{until}
+use Rattle.window.specs.Lines.{columns, united}
+use Rattle.window.proofs.Theory.Lines.{united-length}
+use Rattle.window.proofs.Theory.Through.{columns-span, spread-none, spread-more, spread-skip, spread-all}
 use Rattle.window.proofs.spread_column.Statement.{statement}
 use Rattle.window.proofs.spread_column.Tie as tie
 

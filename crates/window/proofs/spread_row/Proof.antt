@@ -5,9 +5,10 @@ use lib.ListN.{length}
 use native.Mathlib.Omega.{arith}
 use borrow.Author.Needs.{needs}
 use Rattle.window.specs.Layout.{registers, functions}
-use Rattle.window.specs.Bits.{until}
-use Rattle.window.specs.Lines.{rows, united, united-length}
-use Rattle.window.specs.Through.{rows-span, spread-none, spread-more, spread-skip, spread-all}
+use Rattle.window.proofs.Theory.Bits.{until}
+use Rattle.window.specs.Lines.{rows, united}
+use Rattle.window.proofs.Theory.Lines.{united-length}
+use Rattle.window.proofs.Theory.Through.{rows-span, spread-none, spread-more, spread-skip, spread-all}
 use Rattle.window.proofs.spread_row.Statement.{statement}
 use Rattle.window.proofs.spread_row.Tie as tie
 

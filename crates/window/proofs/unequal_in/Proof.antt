@@ -1,7 +1,7 @@
 use borrow.Author.Needs.{needs}
 use Rattle.window.specs.Layout.{registers, functions}
 use Rattle.window.specs.Parts.{parts}
-use Rattle.window.specs.Performing.{unequal-is}
+use Rattle.window.proofs.Theory.Performing.{unequal-is}
 use Rattle.window.proofs.unequal_in.Statement.{statement}
 use Rattle.window.proofs.unequal_in.Tie as tie
 

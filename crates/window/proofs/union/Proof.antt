@@ -3,7 +3,8 @@ use Prim.Native.Nat.{_-_, _≤_}
 use native.Mathlib.Omega.{arith}
 use borrow.Author.Needs.{needs}
 use Rattle.window.specs.Layout.{registers, pairs}
-use Rattle.window.specs.Marks.{unionOf, union-more, union-none, union-all, stepped}
+use Rattle.window.specs.Marks.{unionOf}
+use Rattle.window.proofs.Theory.Marks.{union-more, union-none, union-all, stepped}
 use Rattle.window.proofs.union.Statement.{statement}
 use Rattle.window.proofs.union.Tie as tie
 

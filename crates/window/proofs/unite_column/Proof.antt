@@ -5,8 +5,9 @@ use lib.ListN.{length}
 use native.Mathlib.Omega.{arith}
 use borrow.Author.Needs.{needs}
 use Rattle.window.specs.Layout.{registers}
-use Rattle.window.specs.Lines.{columns, Gone, gone-none, unitedAt, unite-more, united-all}
-use Rattle.window.specs.Through.{columns-span}
+use Rattle.window.specs.Lines.{columns, unitedAt}
+use Rattle.window.proofs.Theory.Lines.{Gone, gone-none, unite-more, united-all}
+use Rattle.window.proofs.Theory.Through.{columns-span}
 use Rattle.window.proofs.unite_column.Statement.{statement}
 use Rattle.window.proofs.unite_column.Tie as tie
 

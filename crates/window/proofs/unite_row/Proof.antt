@@ -5,8 +5,9 @@ use lib.ListN.{length}
 use native.Mathlib.Omega.{arith}
 use borrow.Author.Needs.{needs}
 use Rattle.window.specs.Layout.{registers}
-use Rattle.window.specs.Lines.{rows, Gone, gone-none, unitedAt, unite-more, united-all}
-use Rattle.window.specs.Through.{rows-whole}
+use Rattle.window.specs.Lines.{rows, unitedAt}
+use Rattle.window.proofs.Theory.Lines.{Gone, gone-none, unite-more, united-all}
+use Rattle.window.proofs.Theory.Through.{rows-whole}
 use Rattle.window.proofs.unite_row.Statement.{statement}
 use Rattle.window.proofs.unite_row.Tie as tie
 

@@ -1,4 +1,4 @@
-use Rattle.base.specs.Choice.{decide}
+use Rattle.base.proofs.Theory.Choice.{decide}
 use Rattle.exports.specs.MonitorCalls.{holdsState}
 use borrow.Author.Needs.{needs}
 use Rattle.exports.proofs.calls.holds.Statement.{statement}

@@ -1,4 +1,4 @@
-use Rattle.base.specs.Choice.{decide}
+use Rattle.base.proofs.Theory.Choice.{decide}
 use borrow.Author.Needs.{needs}
 use Rattle.letters.proofs.words.by_arity.Statement.{statement}
 use Rattle.letters.proofs.words.by_arity.Tie as tie

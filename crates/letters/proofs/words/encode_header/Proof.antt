@@ -1,5 +1,5 @@
 use Rattle.letters.specs.Words.{encodeHeader}
-use Rattle.letters.specs.WordLaws.{header-test, first-roomy}
+use Rattle.letters.proofs.Theory.WordLaws.{header-test, first-roomy}
 use mathlib.Core.Path.{sym, _∙_}
 use borrow.Author.Needs.{needs}
 use Rattle.letters.proofs.words.encode_header.Statement.{statement}

@@ -1,7 +1,7 @@
 use Rattle.letters.specs.Words.{headerTest}
-use Rattle.base.specs.MaskLaws.{shl-one}
+use Rattle.base.proofs.Theory.MaskLaws.{shl-one}
 use native.Mathlib.Omega.{arith}
-use Rattle.base.specs.Choice.{decide}
+use Rattle.base.proofs.Theory.Choice.{decide}
 use borrow.Author.Needs.{needs}
 use Rattle.letters.proofs.words.header_fits.Statement.{statement}
 use Rattle.letters.proofs.words.header_fits.Tie as tie

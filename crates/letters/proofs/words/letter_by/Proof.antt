@@ -1,5 +1,5 @@
 use Rattle.letters.specs.Words.{letterBy}
-use Rattle.base.specs.Choice.{decide}
+use Rattle.base.proofs.Theory.Choice.{decide}
 use borrow.Author.Needs.{needs}
 use Rattle.letters.proofs.words.letter_by.Statement.{statement}
 use Rattle.letters.proofs.words.letter_by.Tie as tie

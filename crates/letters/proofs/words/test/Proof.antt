@@ -1,4 +1,4 @@
-use Rattle.base.specs.Choice.{decide}
+use Rattle.base.proofs.Theory.Choice.{decide}
 use Rattle.letters.proofs.words.test.Statement.{statement}
 use Rattle.letters.proofs.words.test.Tie as tie
 

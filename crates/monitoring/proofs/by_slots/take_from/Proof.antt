@@ -7,7 +7,7 @@ use Rattle.window.specs.Layout.{registers, functions}
 use Rattle.slots.specs.Slots.{slotsOf}
 use Rattle.slots.specs.Around.{Around}
 use Rattle.monitoring.specs.declared.Run.{Run}
-use Rattle.monitoring.specs.SlotRun.{Standing}
+use Rattle.monitoring.proofs.Theory.SlotRun.{Standing}
 use Rattle.monitoring.proofs.Laws.{step-within}
 use Rattle.monitoring.proofs.SlotLaws.{standing-start, standing-more, standing-malformed, standing-done}
 use Rattle.monitoring.proofs.by_slots.take_from.Statement.{statement}

@@ -1,4 +1,4 @@
-use Rattle.monitoring.specs.Meanings.{run-begins}
+use Rattle.monitoring.proofs.Theory.Meanings.{run-begins}
 use Rattle.monitoring.proofs.Laws.{begun-taken, begun-refused}
 use borrow.Author.Needs.{needs}
 use Rattle.monitoring.proofs.numbering.begin.Statement.{statement}

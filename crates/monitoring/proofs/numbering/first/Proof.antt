@@ -1,4 +1,4 @@
-use Rattle.base.specs.Choice.{decide}
+use Rattle.base.proofs.Theory.Choice.{decide}
 use Rattle.monitoring.specs.Run.{firstOf}
 use Rattle.monitoring.proofs.numbering.first.Statement.{statement}
 use Rattle.monitoring.proofs.numbering.first.Tie as tie

@@ -1,4 +1,4 @@
-use Rattle.base.specs.Choice.{decide}
+use Rattle.base.proofs.Theory.Choice.{decide}
 use Rattle.monitoring.specs.Run.{last, nextNumber}
 use borrow.Author.Needs.{needs}
 use Rattle.monitoring.proofs.numbering.next_number.Statement.{statement}

@@ -1,4 +1,4 @@
-use Rattle.monitoring.specs.Meanings.{run-takes}
+use Rattle.monitoring.proofs.Theory.Meanings.{run-takes}
 use Rattle.monitoring.proofs.Laws.{take-ended, take-taken, take-refused}
 use borrow.Author.Needs.{needs}
 use Rattle.monitoring.proofs.numbering.take.Statement.{statement}

@@ -1,4 +1,4 @@
-use Rattle.monitoring.specs.Meanings.{starts}
+use Rattle.monitoring.proofs.Theory.Meanings.{starts}
 use Rattle.monitoring.proofs.Laws.{start-refused, start-taken}
 use borrow.Author.Needs.{needs}
 use Rattle.monitoring.proofs.starting.start.Statement.{statement}

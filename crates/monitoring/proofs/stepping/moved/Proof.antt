@@ -1,5 +1,5 @@
 use mathlib.Core.Path.{sym, _∙_}
-use Rattle.monitoring.specs.MonitorLaws.{moved-stopped, moved-performed, moved-incoherent}
+use Rattle.monitoring.proofs.Theory.MonitorLaws.{moved-stopped, moved-performed, moved-incoherent}
 use borrow.Author.Needs.{needs}
 use Rattle.monitoring.proofs.stepping.moved.Statement.{statement}
 use Rattle.monitoring.proofs.stepping.moved.Tie as tie

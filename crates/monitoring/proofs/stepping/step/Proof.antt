@@ -1,4 +1,4 @@
-use Rattle.monitoring.specs.Meanings.{advances}
+use Rattle.monitoring.proofs.Theory.Meanings.{advances}
 use Rattle.monitoring.proofs.Laws.{step-refused, step-taken, step-within}
 use borrow.Author.Needs.{needs}
 use Rattle.monitoring.proofs.stepping.step.Statement.{statement}

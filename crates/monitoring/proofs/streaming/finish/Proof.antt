@@ -1,5 +1,5 @@
 use Rattle.monitoring.specs.declared.Phase.the-variants.{Empty, One, Even, Odd}
-use Rattle.monitoring.specs.Meanings.{finishes}
+use Rattle.monitoring.proofs.Theory.Meanings.{finishes}
 use Rattle.monitoring.proofs.Laws.{finish-at}
 use borrow.Author.Needs.{needs}
 use Rattle.monitoring.proofs.streaming.finish.Statement.{statement}

@@ -1,5 +1,5 @@
 use Rattle.monitoring.specs.declared.Phase.the-variants.{Empty, Even}
-use Rattle.monitoring.specs.Meanings.{pushes-byte}
+use Rattle.monitoring.proofs.Theory.Meanings.{pushes-byte}
 use Rattle.monitoring.proofs.Laws.{push-at, push-one, push-odd}
 use borrow.Author.Needs.{needs}
 use Rattle.monitoring.proofs.streaming.push.Statement.{statement}

@@ -1,4 +1,4 @@
-use Rattle.monitoring.specs.Meanings.{pushes, pushes-one}
+use Rattle.monitoring.proofs.Theory.Meanings.{pushes, pushes-one}
 use mathlib.Core.Path.{_≡_, refl, sym, _∙_}
 use Prim.Native.Nat.{_-_, _≤_}
 use lib.ListN.{length, drop}

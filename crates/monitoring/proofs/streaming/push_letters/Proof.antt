@@ -1,4 +1,4 @@
-use Rattle.monitoring.specs.Meanings.{pushes-one}
+use Rattle.monitoring.proofs.Theory.Meanings.{pushes-one}
 use borrow.Author.Needs.{needs}
 use Rattle.monitoring.proofs.Pairs.{letters-even, letters-odd}
 use Rattle.monitoring.proofs.streaming.push_letters.Statement.{statement}

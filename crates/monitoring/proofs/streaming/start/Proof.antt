@@ -1,4 +1,4 @@
-use Rattle.monitoring.specs.Meanings.{stream-starts}
+use Rattle.monitoring.proofs.Theory.Meanings.{stream-starts}
 use borrow.Author.Needs.{needs}
 use Rattle.monitoring.proofs.streaming.start.Statement.{statement}
 use Rattle.monitoring.proofs.streaming.start.Tie as tie

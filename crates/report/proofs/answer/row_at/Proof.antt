@@ -1,5 +1,5 @@
 use borrow.Author.Needs.{needs}
-use Rattle.report.specs.ShownLaws.{row-words}
+use Rattle.report.proofs.Theory.ShownLaws.{row-words}
 use Rattle.report.proofs.answer.row_at.Statement.{statement}
 use Rattle.report.proofs.answer.row_at.Tie as tie
 

@@ -2,7 +2,7 @@ use borrow.Author.Needs.{needs}
 use mathlib.Core.Path.{sym, ap₂, _∙_}
 use Prim.Native.Nat.{ℕ, _+_, _*_}
 use native.Mathlib.Omega.{arith}
-use Rattle.report.specs.ShownLaws.{word-bytes}
+use Rattle.report.proofs.Theory.ShownLaws.{word-bytes}
 use Rattle.report.proofs.answer.word_at.Statement.{statement}
 use Rattle.report.proofs.answer.word_at.Tie as tie
 

@@ -1,7 +1,7 @@
 use borrow.Author.Needs.{needs}
 use mathlib.Core.Path.{sym, _∙_}
-use Rattle.report.specs.Forms.{two-form, one-form}
-use Rattle.text.specs.Appending.{room-same, appended-same, appended-length}
+use Rattle.report.proofs.Theory.Forms.{two-form, one-form}
+use Rattle.text.proofs.Theory.Appending.{room-same, appended-same, appended-length}
 use Rattle.report.proofs.lines.put_application.Statement.{statement}
 use Rattle.report.proofs.lines.put_application.Tie as tie
 

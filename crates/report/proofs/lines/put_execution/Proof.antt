@@ -4,9 +4,9 @@ use mathlib.Core.List.{[], _∷_}
 use Rattle.text.specs.Numerals.{numeral}
 use Rattle.report.specs.Lines.{line, linesOf, letterLine, lettersWord}
 use Rattle.report.specs.Shown.{namesOf, lettersIn}
-use Rattle.report.specs.ShownLaws.{execution-parts}
-use Rattle.report.specs.Forms.{letters-form}
-use Rattle.text.specs.Appending.{room-same, room-first, room-then, appended-same, appended-then, appended-length}
+use Rattle.report.proofs.Theory.ShownLaws.{execution-parts}
+use Rattle.report.proofs.Theory.Forms.{letters-form}
+use Rattle.text.proofs.Theory.Appending.{room-same, room-first, room-then, appended-same, appended-then, appended-length}
 use Rattle.report.proofs.lines.put_execution.Statement.{statement}
 use Rattle.report.proofs.lines.put_execution.Tie as tie
 

@@ -2,8 +2,8 @@ use borrow.Author.Needs.{needs}
 use mathlib.Core.Path.{sym, ap, _∙_}
 use Rattle.report.specs.Lines.{letterLine}
 use Rattle.report.specs.Shown.{namesOf}
-use Rattle.report.specs.Forms.{copy-form, equal-form, unequal-form}
-use Rattle.text.specs.Appending.{room-same, appended-same, appended-length}
+use Rattle.report.proofs.Theory.Forms.{copy-form, equal-form, unequal-form}
+use Rattle.text.proofs.Theory.Appending.{room-same, appended-same, appended-length}
 use Rattle.report.proofs.lines.put_letter.Statement.{statement}
 use Rattle.report.proofs.lines.put_letter.Tie as tie
 

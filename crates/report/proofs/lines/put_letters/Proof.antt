@@ -3,8 +3,8 @@ use mathlib.Core.Path.{sym, ap}
 use Prim.Native.Nat.{_+_, _-_}
 use Rattle.report.specs.Lines.{linesOf, letterLine}
 use Rattle.report.specs.Shown.{namesOf, letterOf, lettersIn}
-use Rattle.report.specs.ShownLaws.{letter-lines-start, letter-lines-next, letter-lines-none}
-use Rattle.text.specs.Appending.{Left, left-all, left-next, left-none, left-room, left-same, left-length, room-same, appended-same}
+use Rattle.report.proofs.Theory.ShownLaws.{letter-lines-start, letter-lines-next, letter-lines-none}
+use Rattle.text.proofs.Theory.Appending.{Left, left-all, left-next, left-none, left-room, left-same, left-length, room-same, appended-same}
 use Rattle.report.proofs.lines.put_letters.Statement.{statement}
 use Rattle.report.proofs.lines.put_letters.Tie as tie
 

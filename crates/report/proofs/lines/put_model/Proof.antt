@@ -8,9 +8,10 @@ use Rattle.text.specs.Numerals.{numeral}
 use Rattle.text.specs.Names.{nameText}
 use Rattle.report.specs.Lines.{line, linesOf, startLines, rowLine, valuesWord}
 use Rattle.report.specs.Shown.{namesOf}
-use Rattle.report.specs.ShownLaws.{wordIn, model-parts}
-use Rattle.report.specs.Forms.{values-form}
-use Rattle.text.specs.Appending.{room-same, room-first, room-then, appended-same, appended-then, appended-length}
+use Rattle.report.specs.ShownLaws.{wordIn}
+use Rattle.report.proofs.Theory.ShownLaws.{model-parts}
+use Rattle.report.proofs.Theory.Forms.{values-form}
+use Rattle.text.proofs.Theory.Appending.{room-same, room-first, room-then, appended-same, appended-then, appended-length}
 use Rattle.report.proofs.lines.put_model.Statement.{statement}
 use Rattle.report.proofs.lines.put_model.Tie as tie
 

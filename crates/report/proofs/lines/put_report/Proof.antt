@@ -1,7 +1,7 @@
 use borrow.Author.Needs.{needs}
 use mathlib.Core.Path.{sym, _∙_}
-use Rattle.text.specs.Appending.{room-same, appended-same, appended-length}
-use Rattle.report.specs.ReportParts.{pass-room, pass-done, incoherent-room, incoherent-letters, incoherent-done, fail-room, fail-letters, fail-model, fail-done, refused-parts}
+use Rattle.text.proofs.Theory.Appending.{room-same, appended-same, appended-length}
+use Rattle.report.proofs.Theory.ReportParts.{pass-room, pass-done, incoherent-room, incoherent-letters, incoherent-done, fail-room, fail-letters, fail-model, fail-done, refused-parts}
 use Rattle.report.proofs.lines.put_report.Statement.{statement}
 use Rattle.report.proofs.lines.put_report.Tie as tie
 

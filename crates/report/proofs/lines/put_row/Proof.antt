@@ -1,7 +1,7 @@
 use borrow.Author.Needs.{needs}
 use mathlib.Core.Path.{sym}
-use Rattle.report.specs.Forms.{row-form}
-use Rattle.text.specs.Appending.{room-same, appended-same, appended-length}
+use Rattle.report.proofs.Theory.Forms.{row-form}
+use Rattle.text.proofs.Theory.Appending.{room-same, appended-same, appended-length}
 use Rattle.report.proofs.lines.put_row.Statement.{statement}
 use Rattle.report.proofs.lines.put_row.Tie as tie
 

@@ -7,9 +7,10 @@ use Rattle.semantics.specs.PackedTables.{unitsIn}
 use Rattle.text.specs.Names.{nameText}
 use Rattle.text.specs.Numerals.{numeral}
 use Rattle.report.specs.Lines.{line, startWord, blank, startLines}
-use Rattle.report.specs.ShownLaws.{wordIn, start-lines-start, start-lines-next, start-lines-none}
-use Rattle.report.specs.Forms.{start-form}
-use Rattle.text.specs.Appending.{Left, left-all, left-next, left-none, left-room, left-same, left-length, room-same, appended-same}
+use Rattle.report.specs.ShownLaws.{wordIn}
+use Rattle.report.proofs.Theory.ShownLaws.{start-lines-start, start-lines-next, start-lines-none}
+use Rattle.report.proofs.Theory.Forms.{start-form}
+use Rattle.text.proofs.Theory.Appending.{Left, left-all, left-next, left-none, left-room, left-same, left-length, room-same, appended-same}
 use Rattle.report.proofs.lines.put_starts.Statement.{statement}
 use Rattle.report.proofs.lines.put_starts.Tie as tie
 

@@ -2,7 +2,7 @@ use borrow.Author.Needs.{needs}
 use mathlib.Core.Path.{sym}
 use mathlib.Core.List.{[], _∷_}
 use Rattle.text.specs.Templates.{filledIn}
-use Rattle.text.specs.Appending.{room-same, appended-same, appended-length}
+use Rattle.text.proofs.Theory.Appending.{room-same, appended-same, appended-length}
 use Rattle.report.proofs.lines.put_two.Statement.{statement}
 use Rattle.report.proofs.lines.put_two.Tie as tie
 

@@ -4,8 +4,8 @@ use mathlib.Core.List.{[], _∷_}
 use Rattle.text.specs.Templates.{filledIn}
 use Rattle.text.specs.Numerals.{numeral}
 use Rattle.report.specs.Lines.{line, pairsWord}
-use Rattle.report.specs.Forms.{pairs-form}
-use Rattle.text.specs.Appending.{room-same, room-first, room-then, appended-same, appended-then, appended-length}
+use Rattle.report.proofs.Theory.Forms.{pairs-form}
+use Rattle.text.proofs.Theory.Appending.{room-same, room-first, room-then, appended-same, appended-then, appended-length}
 use Rattle.report.proofs.lines.put_verdict.Statement.{statement}
 use Rattle.report.proofs.lines.put_verdict.Tie as tie
 

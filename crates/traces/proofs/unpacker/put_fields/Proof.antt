@@ -1,7 +1,7 @@
 use native.Mathlib.Omega.{arith}
 use lib.ListN.{length-set}
 use Rattle.traces.specs.Writing.{plainFields}
-use Rattle.traces.specs.WritingLaws.{plain-length}
+use Rattle.traces.proofs.Theory.WritingLaws.{plain-length}
 use Rattle.traces.proofs.Unpacking.{five-stores}
 use borrow.Author.Needs.{needs}
 use Rattle.traces.proofs.unpacker.put_fields.Statement.{statement}

@@ -1,5 +1,5 @@
 use Rattle.letters.specs.Answers.{letterAnswer}
-use Rattle.traces.specs.WritingLaws.{unpack-whole}
+use Rattle.traces.proofs.Theory.WritingLaws.{unpack-whole}
 use Rattle.traces.specs.Writing.{unpackLetter, unpackedParts}
 use native.Mathlib.Omega.{arith}
 use mathlib.Core.Path.{_≡_, sym, ap, _∙_}

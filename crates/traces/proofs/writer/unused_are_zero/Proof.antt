@@ -1,5 +1,5 @@
 use Rattle.traces.specs.Writing.{plainTest}
-use Rattle.base.specs.Choice.{decide}
+use Rattle.base.proofs.Theory.Choice.{decide}
 use borrow.Author.Needs.{needs}
 use Rattle.traces.proofs.writer.unused_are_zero.Statement.{statement}
 use Rattle.traces.proofs.writer.unused_are_zero.Tie as tie

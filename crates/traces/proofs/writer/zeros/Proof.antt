@@ -1,4 +1,4 @@
-use Rattle.base.specs.Choice.{decide}
+use Rattle.base.proofs.Theory.Choice.{decide}
 use Rattle.traces.proofs.writer.zeros.Statement.{statement}
 use Rattle.traces.proofs.writer.zeros.Tie as tie
 

@@ -1,0 +1,202 @@
+-- The laws of what a reader of statements leaves.
+use mathlib.Core.Path.{_≡_, refl, sym, ap, subst, _∙_}
+use Prim.Native.Nat.{ℕ, _+_, _≤_, _<_}
+use native.Mathlib.Omega.{arith}
+use mathlib.Core.Bool.{true, false}
+use mathlib.Core.List.{List, [], _∷_, _++_, append-assoc, append-nil}
+use lib.Dec.{leb, ltb}
+use lib.ListN.{length, set, take, drop, length-append, take-append-drop}
+use lib.Seq.{length-take-le}
+use borrow.Author.Tests.{leb-true, leb-false, le-ltb, lt-leb, le-leb}
+use Rattle.base.specs.Choice.{byTest}
+use Rattle.base.specs.Each.{each}
+use Rattle.letters.specs.declared.Letter.{Letter}
+use Rattle.grammar.specs.Reading.{Got, got, refused, exhausted, onward}
+use Rattle.phrases.specs.declared.Got as number
+use Rattle.phrases.specs.declared.GotLetter as letter
+use Rattle.blocks.specs.Held.{Coded, pointsOf, Progress, progressOf, heldBy, Holds}
+use Rattle.blocks.specs.Outcome.{Fine, Refusal, Outcome, Settled, Passed, waiting, turnedIn, begins}
+use Rattle.blocks.specs.Outcome.{changedTo}
+use Rattle.blocks.proofs.Theory.Outcome.{withPoints, changed, forked, joined, branched, looped}
+use Rattle.blocks.proofs.Theory.TableLaws.{over-push, points-set, points-forked, points-range}
+use Rattle.blocks.specs.declared.Point.{Point}
+use Rattle.blocks.specs.declared.State.{State}
+
+-- ---- one step
+
+abbrev pub on : ℕ → ℕ → State
+on at n = record { ok = true; number = 0; place = 0; at = at; count = n }
+
+pub fine-moved : (st : State) (at : ℕ) → st .count ≤ 257 → (ps : List Point) → Fine (progressOf st ps) (progressOf (on at (st .count)) ps) [] at
+fine-moved st at h ps = record {
+  ok = refl;
+  number = refl;
+  place = refl;
+  at = refl;
+  low = λ l. omega arith;
+  high = λ l. omega arith;
+  laid = λ old ds H l. subst (Holds old (progressOf (on at (st .count)) ps)) (sym (append-nil ds))
+      (record { size = H .size; count = H .count; points = H .points });
+}
+
+pub fine-pushed : (st : State) (k : ℕ) (w : Letter) (at : ℕ) (cs xs ys : List ℕ) (c : ℕ) → Coded k w c → st .count < 256
+    → Fine (heldBy st cs xs ys) (heldBy (on at (st .count + 1)) (set cs (st .count) c) (set xs (st .count) 256) (set ys (st .count) 0)) (waiting k w ∷ []) at
+fine-pushed st k w at cs xs ys c e h = record {
+  ok = refl;
+  number = refl;
+  place = refl;
+  at = refl;
+  low = λ l. refl;
+  high = λ l. absurd (omega arith);
+  laid = λ old ds H l. record {
+    size = H .size;
+    count = let n = H .count in let m = length-append ds (waiting k w ∷ []) in omega arith;
+    points =
+        points-set cs xs ys (st .count) c 256 0
+        ∙ ap (λ p. set (pointsOf cs xs ys) (st .count) p) (e 256 0)
+        ∙ (λ i. set (H .points i) (H .count i) (waiting k w))
+        ∙ over-push old ds (waiting k w) (let n = H .count in let m = H .size in omega arith);
+  };
+}
+
+pub fine-full : (st : State) (k : ℕ) (w : Letter) (at : ℕ) (ps : List Point) → 256 ≤ st .count
+    → Fine (progressOf st ps) (progressOf (on at 257) ps) (waiting k w ∷ []) at
+fine-full st k w at ps h = record {
+  ok = refl;
+  number = refl;
+  place = refl;
+  at = refl;
+  low = λ l. absurd (omega arith);
+  high = λ l. refl;
+  laid = λ old ds H l. absurd (let n = H .count in omega arith);
+}
+
+pub fine-count : {st r : Progress} {ps : List Point} {e : ℕ} → Fine st r ps e → r .count ≤ 257
+fine-count {st} {r} {ps} f = byTest (leb (st .count + length ps) 256) (λ t. let l = leb-true (st .count + length ps) 256 t in omega (arith, f .low l)) λ t. omega (arith, f .high (leb-false (st .count + length ps) 256 t))
+
+-- one reading behind another: the points of the second are numbered on from those of the first
+pub fine-then : {st q r : Progress} {ps qs : List Point} {a e : ℕ} → Fine st q ps a → Fine q r qs e → Fine st r (ps ++ qs) e
+fine-then {st} {q} {r} {ps} {qs} f g = record {
+  ok = g .ok;
+  number = g .number;
+  place = g .place;
+  at = g .at;
+  low = λ h. omega (arith, n, f .low (omega (arith, n)), g .low (omega (arith, n, f .low (omega (arith, n)))));
+  high = λ h. go (omega (arith, n));
+  laid = λ old ds H l. subst (Holds old r) (append-assoc ds ps qs)
+      (g .laid old (ds ++ ps) (f .laid old ds H (omega (arith, n))) (let m = length-append ds ps in omega (arith, n)));
+}
+  where
+    n : length (ps ++ qs) ≡ length ps + length qs
+    n = length-append ps qs
+
+    go : 256 < st .count + (length ps + length qs) → r .count ≡ 257
+    go h = byTest (leb (st .count + length ps) 256)
+        (λ t. let l = leb-true (st .count + length ps) 256 t in let c = f .low l in g .high (omega arith))
+        λ t. let l = leb-false (st .count + length ps) 256 t in let c = f .high l in g .high (omega arith)
+
+-- ---- answers as code holds them
+
+pub settled-at : (k e : ℕ) (l : Letter) (st r : Progress) (g : letter.GotLetter) → g ≡ letter.the-variants.At l e → Fine st r (waiting k l ∷ []) e
+    → Settled k st r g
+settled-at k e l st r g h f = rw h f
+
+pub settled-refused : (k n p : ℕ) (st r : Progress) (g : letter.GotLetter) → g ≡ letter.the-variants.Refused n p → Refusal r n p → Settled k st r g
+settled-refused k n p st r g h f = rw h f
+
+pub passed-at : (v e : ℕ) (st r : Progress) (g : number.Got) → g ≡ number.the-variants.At v e → Fine st r [] e → Passed st r g
+passed-at v e st r g h f = rw h f
+
+pub passed-refused : (n p : ℕ) (st r : Progress) (g : number.Got) → g ≡ number.the-variants.Refused n p → Refusal r n p → Passed st r g
+passed-refused n p st r g h f = rw h f
+
+-- ---- a reading that came out well, or not
+
+pub outcome-fine : {A : Type 0} (code : A → ℕ → List Point) (st r : Progress) (g : Got A) → Outcome code st r g → r .ok ≡ true
+    → (a : A) × (e : ℕ) × (g ≡ got a e) × Fine st r (code a (st .count)) e
+outcome-fine code st r (got a e) o h = (a, e, refl, o)
+outcome-fine code st r (refused n p) o h = let b = o .ok in let z : _≡_ {A = ℕ} 0 1 = cc in absurd (omega arith)
+outcome-fine code st r exhausted o h = absurd o
+
+pub outcome-refused : {A B : Type 0} (code : A → ℕ → List Point) (code′ : B → ℕ → List Point) (st st′ r : Progress) (g : Got A) (f : A → ℕ → Got B)
+    → Outcome code st r g → r .ok ≡ false → Outcome code′ st′ r (onward g f)
+outcome-refused code code′ st st′ r (got a e) f o h = let k = o .ok in let z : _≡_ {A = ℕ} 0 1 = cc in absurd (omega arith)
+outcome-refused code code′ st st′ r (refused n p) f o h = o
+outcome-refused code code′ st st′ r exhausted f o h = absurd o
+
+-- ---- changes to the table
+
+module _ (q : Progress) (n : ℕ) (ps : List Point) where
+  pub changed-none : q .count ≤ 256 → q .count ≤ n → q ≡ changed q n ps
+  changed-none h g = rw (le-ltb 256 (q .count) h, le-leb (q .count) n g)
+
+  pub changed-some : q .count ≤ 256 → n < q .count → withPoints q ps ≡ changed q n ps
+  changed-some h g = rw (le-ltb 256 (q .count) h, lt-leb (q .count) n g)
+
+-- the same reading, with other points, as many
+pub fine-changed : {st q : Progress} {ps : List Point} {e : ℕ} (n : ℕ) (xs qs : List Point) → Fine st q ps e → length qs ≡ length ps
+    → ((old ds : List Point) → Holds old st ds → length ds + length ps ≤ 256 → Holds old q (ds ++ ps) → Holds old (changed q n xs) (ds ++ qs))
+    → Fine st (changed q n xs) qs e
+fine-changed {st} {q} {ps} n xs qs f h k = record {
+  ok = f .ok;
+  number = f .number;
+  place = f .place;
+  at = f .at;
+  low = λ l. f .low (omega arith) ∙ ap (λ m. st .count + m) (sym h);
+  high = λ l. f .high (omega arith);
+  laid = λ old ds H l. k old ds H (omega arith) (f .laid old ds H (omega arith));
+}
+
+-- ---- what the changes to the arrays make of the points
+
+-- a change to both arrays of what follows is a change to the points
+points-changed : (count n : ℕ) (cs xs ys xs′ ys′ : List ℕ) (ps : List Point) → pointsOf cs xs′ ys′ ≡ ps
+    → pointsOf cs (changedTo count n xs′ xs) (changedTo count n ys′ ys) ≡ changedTo count n ps (pointsOf cs xs ys)
+points-changed count n cs xs ys xs′ ys′ ps e =
+    byTest (ltb 256 count) (λ t. rw t refl) λ t. rw t (byTest (leb count n) (λ u. rw u refl) λ u. rw u e)
+
+module _ (q : State) (cs xs ys xs′ ys′ : List ℕ) where
+  pub points-joined : (from to : ℕ) → xs′ ≡ changedTo (q .count) to (each (turnedIn from to to) xs) xs
+      → ys′ ≡ changedTo (q .count) to (each (turnedIn from to to) ys) ys → heldBy q cs xs′ ys′ ≡ joined (heldBy q cs xs ys) from to
+  unfolding joined
+  points-joined from to e f =
+      (λ i. heldBy q cs (e i) (f i)) ∙ ap (progressOf q) (points-changed (q .count) to cs xs ys _ _ _ (points-range cs xs ys from to to))
+
+  pub points-branched : (base mid : ℕ) → xs′ ≡ changedTo (q .count) base (set xs base (begins (base + 1) mid 256)) xs
+      → ys′ ≡ changedTo (q .count) base (set ys base (begins mid (q .count) 256)) ys → heldBy q cs xs′ ys′ ≡ branched (heldBy q cs xs ys) base mid
+  unfolding branched
+  points-branched base mid e f =
+      (λ i. heldBy q cs (e i) (f i)) ∙ ap (progressOf q) (points-changed (q .count) base cs xs ys _ _ _ (points-forked cs xs ys base _ _))
+
+  pub points-looped : (base : ℕ)
+      → xs′ ≡ changedTo (q .count) base (set (each (turnedIn (base + 1) (q .count) base) xs) base (begins (base + 1) (q .count) base)) xs
+      → ys′ ≡ changedTo (q .count) base (set (each (turnedIn (base + 1) (q .count) base) ys) base 256) ys
+      → heldBy q cs xs′ ys′ ≡ looped (heldBy q cs xs ys) base
+  unfolding looped
+  points-looped base e f =
+      (λ i. heldBy q cs (e i) (f i))
+      ∙ ap (progressOf q) (points-changed (q .count) base cs xs ys _ _ _
+      (points-forked cs _ _ base _ _ ∙ ap (λ ps. forked ps base (begins (base + 1) (q .count) base) 256) (points-range cs xs ys (base + 1) (q .count) base)))
+
+-- ---- what the arrays hold, whatever stood in them
+
+-- any table of 256 entries holds its first points
+pub lent-holds : (st : Progress) → length (st .points) ≡ 256 → st .count ≤ 256 → Holds (st .points) st (take (st .count) (st .points))
+lent-holds st h g =
+    let n : length (take (st .count) (st .points)) ≡ st .count = length-take-le (st .count) (st .points) (omega arith) in
+    record {
+      size = h;
+      count = sym n;
+      points = sym (take-append-drop (st .count) (st .points)) ∙ ap (λ m. take (st .count) (st .points) ++ drop m (st .points)) (sym n);
+    }
+
+-- the entries in front of the points read, and those behind them, are as lent
+pub fine-points : (st r : Progress) (ps : List Point) (e : ℕ) → Fine st r ps e → length (st .points) ≡ 256 → st .count + length ps ≤ 256
+    → r .points ≡ take (st .count) (st .points) ++ (ps ++ drop (st .count + length ps) (st .points))
+fine-points st r ps e f h g =
+    let front = take (st .count) (st .points) in
+    let n : length front ≡ st .count = length-take-le (st .count) (st .points) (omega arith) in
+    let m : length (front ++ ps) ≡ st .count + length ps = length-append front ps ∙ ap (λ k. k + length ps) n in
+    f .laid (st .points) front (lent-holds st h (omega arith)) (omega arith) .points
+    ∙ append-assoc front ps (drop (length (front ++ ps)) (st .points))
+    ∙ ap (λ k. front ++ (ps ++ drop k (st .points))) m

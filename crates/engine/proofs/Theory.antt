@@ -1,0 +1,4 @@
+pub mod EngineLaws
+pub mod Run
+pub mod ReadingLaws
+pub mod RunLaws

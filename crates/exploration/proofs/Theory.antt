@@ -1,0 +1,11 @@
+pub mod Moves
+pub mod TurnLaws
+pub mod Keeping
+pub mod ExploringLaws
+pub mod Store
+pub mod HeldPoints
+pub mod Watching
+pub mod Given
+pub mod Going
+pub mod Explored
+pub mod Ending

@@ -1,0 +1,81 @@
+-- What follows from the definitions of specs/Given.antt.
+use mathlib.Core.Path.{_≡_, refl, sym, ap, _∙_}
+use mathlib.Core.List.{List, [], _∷_, map}
+use mathlib.Core.Option.{some}
+use Prim.Native.Nat.{ℕ, zero, suc, _-_, _%_, _<_}
+use native.Mathlib.Omega.{arith}
+use lib.ListN.{length, getD, getElem?}
+use Rattle.letters.specs.declared.Header.{Header}
+use Rattle.semantics.specs.Terms.{begin}
+use Rattle.macros.specs.Tree.{Block}
+use Rattle.macros.specs.Points as points
+use Rattle.macros.specs.Points.{sizeBlock, moved, moves-at}
+use Rattle.macros.proofs.Theory.Points.{compileBlock-length}
+use Rattle.macros.proofs.Theory.Fitting.{FitsMove, points-fit}
+use Rattle.macros.specs.Order.{Branch}
+use Rattle.grammar.specs.Grammar.{headerOf}
+use Rattle.blocks.specs.declared.Point.{Point}
+use Rattle.blocks.specs.Held.{heldPoint, table}
+use Rattle.verdicts.proofs.Theory.Pairs.{Setting}
+use Rattle.window.specs.declared.Window.{Window}
+use Rattle.window.specs.Perform.{freshOf}
+use Rattle.window.specs.Step.{Holds}
+use Rattle.exploration.specs.Moves.{moveOf, noPoint}
+use Rattle.exploration.proofs.Theory.Store.{branchNumbered}
+use Rattle.exploration.specs.HeldPoints.{meant}
+use Rattle.exploration.proofs.Theory.HeldPoints.{branch-meant, held-at}
+use Rattle.exploration.proofs.Theory.Watching.{performing, infeasibleIn, watches}
+use Rattle.exploration.specs.Given.{Given}
+
+-- a place within a list
+within-list : {A : Type 0} (l : List A) (n : ℕ) → n < length l → (x : A) × (getElem? l n ≡ some x)
+within-list [] n h = absurd (omega arith)
+within-list (x ∷ l) zero h = (x, refl)
+within-list (x ∷ l) (suc n) h = within-list l n (omega arith)
+
+module _ (given : Given) where
+  abbrev pub header : Header
+  header = headerOf (given .macro)
+
+  abbrev pub body : Block
+  body = given .macro .body
+
+  -- the number of the end: that of the points
+  abbrev pub end : ℕ
+  end = sizeBlock (given .macro .body)
+
+  -- the points as the reader holds them
+  abbrev pub held : List Point
+  held = table (map heldPoint (points.points (given .macro .body)))
+
+  -- the window at the start
+  abbrev pub fresh : Window
+  fresh = freshOf (length (given .macro .registers))
+
+  abbrev pub setting : Setting
+  setting = record {
+    header = headerOf (given .macro);
+    start = begin (headerOf (given .macro));
+    formed = (tt, refl);
+    coherent = tt;
+    body = given .macro .body;
+    proper = given .in-order .uses;
+    Window = Window;
+    Tracks = Holds;
+    fresh = freshOf (length (given .macro .registers));
+    perform = performing;
+    infeasible = infeasibleIn;
+    monitor = watches (headerOf (given .macro)) (given .in-order .few) (given .in-order .fewer);
+  }
+
+  -- the branches that are held are the macro's
+  pub branch-held : (k b : ℕ) → k < end → meant (moveOf (getD held (k % 256) noPoint) b) ≡ moves-at (points.points body) k (branchNumbered b)
+  branch-held k b l =
+      let (x, e) = within-list (points.points body) k (omega (arith, compileBlock-length body 0 end)) in
+      let f : k % 256 ≡ k = omega (arith, given .few) in
+      ap (λ y. meant (moveOf y b)) (ap (λ z. getD held z noPoint) f ∙ held-at (points.points body) (256 - length (map heldPoint (points.points body))) k x e)
+      ∙ branch-meant x b ∙ ap (λ o. moved o (branchNumbered b)) (sym e)
+
+  -- their letters fit
+  pub moves-fit : (k : ℕ) (b : Branch) → FitsMove (headerOf (given .macro)) (moves-at (points.points (given .macro .body)) k b)
+  moves-fit = points-fit header body (given .in-order .uses)

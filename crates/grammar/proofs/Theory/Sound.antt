@@ -1,0 +1,296 @@
+-- What is read is what the text spells: a reader that accepts has read a sentence of the grammar, in order.
+use mathlib.Core.Path.{_≡_, refl, sym, ap, subst, _∙_}
+use Prim.Native.Nat.{ℕ, zero, suc, _+_, _≤_, _<_}
+use native.Mathlib.Omega.{arith}
+use mathlib.Core.Bool.{Bool, true, false}
+use mathlib.Core.List.{List, [], _∷_, _++_, append-assoc}
+use lib.Dec.{eqb, ltb}
+use lib.ListN.{length, getD}
+use borrow.Author.Tests.{eqb-true, ltb-true}
+use Rattle.base.specs.Choice.{pick, byTest}
+use Rattle.letters.specs.Letters.{Fits}
+use Rattle.letters.specs.declared.Letter.{Letter}
+use Rattle.letters.specs.declared.Letter.the-variants.{Apply}
+use Rattle.macros.specs.Tree.{Condition, equal, unequal, test, Statement, skip, assert, if, while, Else, Block, _then_, Proper, ProperElse, ProperBlock}
+use Rattle.tokens.specs.Tokens.{tokenAt}
+use Rattle.tokens.specs.Words.{isName}
+use Rattle.tokens.specs.Words as word
+use Rattle.tokens.proofs.Theory.WordsLaws.{name-real}
+use Rattle.grammar.specs.Grammar.{header, conditionTokens, letterTokens, statementTokens, elseTokens, blockTokens, Inside, Nests, NestsElse, NestsBlock}
+use Rattle.grammar.proofs.Theory.HeaderLaws.{arity-two}
+use Rattle.grammar.specs.Reading.{Got, got, refused, exhausted, onward, indexOf, useT, signT, compared, expect, ended, condition, argumentsT, value, assignment, tested, bracesT, elseT, statementT, block, statement, closing}
+use Rattle.grammar.specs.Spelled.{Spells, none, more}
+
+-- ---- inversions
+
+pub onward-got : {A B : Type 0} (g : Got A) (f : A → ℕ → Got B) (b : B) (e : ℕ) → onward g f ≡ got b e → (a : A) × (m : ℕ) × (g ≡ got a m) × (f a m ≡ got b e)
+onward-got (got a m) f b e h = (a, m, refl, h)
+onward-got (refused n p) f b e h = let z : _≡_ {A = ℕ} 0 1 = cc in absurd (omega arith)
+onward-got exhausted f b e h = let z : _≡_ {A = ℕ} 0 1 = cc in absurd (omega arith)
+
+-- the two cases of a choice that came out as r
+pub pick-case : {A B : Type 0} (c : Bool) (x y : Unit {0} → A) (r : A) → pick c x y ≡ r → (c ≡ true → x tt ≡ r → B) → (c ≡ false → y tt ≡ r → B) → B
+pick-case true x y r h f g = f refl h
+pick-case false x y r h f g = g refl h
+
+pub not-refused : {A : Type 0} {n p e : ℕ} {a : A} → refused n p ≡ got a e → ⊥
+not-refused h = let z : _≡_ {A = ℕ} 0 1 = cc in omega arith
+
+pub not-exhausted : {A : Type 0} {e : ℕ} {a : A} → exhausted ≡ got a e → ⊥
+not-exhausted h = let z : _≡_ {A = ℕ} 0 1 = cc in omega arith
+
+pub got-value : {A : Type 0} {a b : A} {m e : ℕ} → got a m ≡ got b e → a ≡ b
+got-value h = cc
+
+pub got-place : {A : Type 0} {a b : A} {m e : ℕ} → got a m ≡ got b e → m ≡ e
+got-place h = cc
+
+pub index-at : (k : ℕ) (l : List ℕ) → indexOf k l < length l → k ≡ getD l (indexOf k l) 0
+unfolding indexOf
+index-at k [] h = absurd (omega arith)
+index-at k (x ∷ l) h = byTest (eqb k x) (λ t. rw t (eqb-true k x t)) (λ t. rw t (index-at k l (let g : suc (indexOf k l) < suc (length l) = rw t at h in omega arith)))
+
+-- ---- one token
+
+module _ (s : List ℕ) where
+  -- the tokens of two parts, one behind the other
+  pub spells-then : {at m e : ℕ} {ks ls : List ℕ} → Spells s at ks m → Spells s m ls e → Spells s at (ks ++ ls) e
+  spells-then none q = q
+  spells-then (more h l p) q = more h l (spells-then p q)
+
+  -- a token that was read, up to the place behind it
+  pub spells-one : (at k e : ℕ) → tokenAt s at .key ≡ k → 2 ≤ k → tokenAt s at .end ≡ e → Spells s at (k ∷ []) e
+  spells-one at k e h l g = more h l (subst (λ m. Spells s (tokenAt s at .end) [] m) g none)
+
+  pub expect-sound : (k at e : ℕ) (u : Unit {0}) → 2 ≤ k → expect s k at ≡ got u e → Spells s at (k ∷ []) e
+  expect-sound k at e u r h =
+      pick-case (eqb (tokenAt s at .key) k) _ _ _ h
+      (λ t g. spells-one at k e (eqb-true _ k t) r (got-place g))
+      λ t g. absurd (not-refused g)
+
+  pub ended-sound : {A : Type 0} (k at e : ℕ) (a b : A) → 2 ≤ k → ended s k a at ≡ got b e → (a ≡ b) × Spells s at (k ∷ []) e
+  ended-sound k at e a b r h = let (u, m, g, f) = onward-got (expect s k at) (λ _ e. got a e) b e h in (got-value f, expect-sound k at e u r (g ∙ ap (got u) (got-place f)))
+
+  pub use-sound : (rs : List ℕ) (at i e : ℕ) → useT rs (tokenAt s at) ≡ got i e → (i < length rs) × Spells s at (getD rs i 0 ∷ []) e
+  use-sound rs at i e h =
+      let k = tokenAt s at .key in
+      pick-case (isName (tokenAt s at .key)) _ _ _ h
+      (λ n f. pick-case (ltb (indexOf (tokenAt s at .key) rs) (length rs)) _ _ _ f
+      (λ t g.
+      let l : indexOf (tokenAt s at .key) rs < length rs = ltb-true (indexOf (tokenAt s at .key) rs) (length rs) t in
+      let j : indexOf (tokenAt s at .key) rs ≡ i = got-value g in
+      let q : tokenAt s at .key ≡ getD rs i 0 = index-at (tokenAt s at .key) rs l ∙ ap (λ n. getD rs n 0) j in
+      (subst (λ n. n < length rs) j l, spells-one at (getD rs i 0) e q (subst (λ n. 2 ≤ n) q (name-real (tokenAt s at .key) n)) (got-place g)))
+      λ t g. absurd (not-refused g))
+      λ n f. absurd (not-refused f)
+
+  -- ---- conditions and assignments
+
+  module _ (rs fs ns : List ℕ) where
+    -- the token of a sign
+    abbrev signToken : Bool → ℕ
+    signToken true = word.equal
+    signToken false = word.unequal
+
+    sign-real : (q : Bool) → 2 ≤ signToken q
+    sign-real true = omega arith
+    sign-real false = omega arith
+
+    sign-sound : (at : ℕ) (q : Bool) (e : ℕ) → signT (tokenAt s at) ≡ got q e → Spells s at (signToken q ∷ []) e
+    sign-sound at q e h =
+        pick-case (eqb (tokenAt s at .key) word.equal) _ _ _ h
+        (λ t g. spells-one at (signToken q) e (eqb-true _ word.equal t ∙ ap signToken (got-value g)) (sign-real q) (got-place g))
+        λ t g. pick-case (eqb (tokenAt s at .key) word.unequal) _ _ _ g
+        (λ u f. spells-one at (signToken q) e (eqb-true _ word.unequal u ∙ ap signToken (got-value f)) (sign-real q) (got-place f))
+        λ u f. absurd (not-refused f)
+
+    -- what a reader of conditions has to show
+    abbrev pub ReadCondition : ℕ → Condition → ℕ → Type 0
+    ReadCondition at c e = Fits (header rs fs ns) (test c) × Spells s at (conditionTokens rs fs ns c) e
+
+    pub condition-sound : (at : ℕ) (c : Condition) (e : ℕ) → condition s rs at ≡ got c e → ReadCondition at c e
+    unfolding condition
+    condition-sound at c e h =
+        let (x, a, g₁, h₁) = onward-got (useT rs (tokenAt s at)) _ c e h in
+        let (q, b, g₂, h₂) = onward-got (signT (tokenAt s a)) _ c e h₁ in
+        let (y, m, g₃, h₃) = onward-got (useT rs (tokenAt s b)) _ c e h₂ in
+        let (l₁, p₁) = use-sound rs at x a g₁ in
+        let p₂ = sign-sound a q b g₂ in
+        let (l₃, p₃) = use-sound rs b y m g₃ in
+        subst (λ c. ReadCondition at c e) (got-value h₃) (subst (λ n. ReadCondition at (compared q x y) n) (got-place h₃) (both q x y m l₁ l₃ (spells-then p₁ (spells-then p₂ p₃))))
+      where
+        both : (q : Bool) (x y n : ℕ) → x < length rs → y < length rs → Spells s at (getD rs x 0 ∷ signToken q ∷ getD rs y 0 ∷ []) n → ReadCondition at (compared q x y) n
+        both true x y n l r p = ((l, r), p)
+        both false x y n l r p = ((l, r), p)
+
+    -- what a reader behind `x :=` has to show
+    abbrev Assigns : ℕ → ℕ → Letter → ℕ → Type 0
+    Assigns x at l e = Fits (header rs fs ns) l × (ls : List ℕ) × (letterTokens rs fs ns l ≡ getD rs x 0 ∷ word.becomes ∷ (ls ++ word.semicolon ∷ [])) × Spells s at ls e
+
+    -- what one behind `x := f(y` has to show
+    abbrev Applies : ℕ → ℕ → ℕ → ℕ → Letter → ℕ → Type 0
+    Applies x f y at l e =
+        Fits (header rs fs ns) l × (ls : List ℕ) × (letterTokens rs fs ns l ≡ getD rs x 0 ∷ word.becomes ∷ getD fs f 0 ∷ word.lparen ∷ getD rs y 0 ∷ (ls ++ word.semicolon ∷ [])) × Spells s at ls e
+
+    arguments-sound : (x f y at : ℕ) (l : Letter) (e : ℕ) → x < length rs → f < length fs → y < length rs → argumentsT s rs (getD ns f 0) x f y (tokenAt s at) ≡ got l e → Applies x f y at l e
+    unfolding argumentsT
+    arguments-sound x f y at l e hx hf hy h =
+        pick-case (eqb (tokenAt s at .key) word.comma) _ _ _ h
+        (λ t g. pick-case (eqb (getD ns f 0) 2) _ _ _ g
+        (λ u k.
+        let (z, a, g₁, h₁) = onward-got (useT rs (tokenAt s (tokenAt s at .end))) _ l e k in
+        let (l₁, p₁) = use-sound rs (tokenAt s at .end) z a g₁ in
+        let (q, p₂) = ended-sound word.rparen a e (Apply x f y z) l (omega arith) h₁ in
+        subst (λ l. Applies x f y at l e) q
+        ((hx, hf, hy, l₁, λ r. absurd (let w = arity-two rs fs ns f u in omega arith)), word.comma ∷ getD rs z 0 ∷ word.rparen ∷ [], rw u, more (eqb-true _ word.comma t) (omega arith) (spells-then p₁ p₂)))
+        λ u k. absurd (not-refused k))
+        λ t g. pick-case (eqb (tokenAt s at .key) word.rparen) _ _ _ g
+        (λ t′ g′. pick-case (eqb (getD ns f 0) 2) _ _ _ g′ (λ u k. absurd (not-refused k))
+        λ u k. subst (λ l. Applies x f y at l e) (got-value k)
+        ((hx, hf, hy, hy, λ r. refl), word.rparen ∷ [], rw u, spells-one at word.rparen e (eqb-true _ word.rparen t′) (omega arith) (got-place k)))
+        λ t′ g′. absurd (not-refused g′)
+
+    pub value-sound : (x at : ℕ) (l : Letter) (e : ℕ) → x < length rs → value s rs fs ns x at ≡ got l e → Assigns x at l e
+    unfolding value
+    value-sound x at l e hx h =
+        pick-case (eqb (tokenAt s (tokenAt s at .end) .key) word.lparen) _ _ _ h
+        (λ t g.
+        let (f, a, g₁, h₁) = onward-got (useT fs (tokenAt s at)) _ l e g in
+        let (u, b, g₂, h₂) = onward-got (expect s word.lparen a) _ l e h₁ in
+        let (y, m, g₃, h₃) = onward-got (useT rs (tokenAt s b)) _ l e h₂ in
+        let (l₁, p₁) = use-sound fs at f a g₁ in
+        let p₂ = expect-sound word.lparen a b u (omega arith) g₂ in
+        let (l₃, p₃) = use-sound rs b y m g₃ in
+        let (o, ls, q, p₄) = arguments-sound x f y m l e hx l₁ l₃ h₃ in
+        (o, getD fs f 0 ∷ word.lparen ∷ getD rs y 0 ∷ ls, q, spells-then p₁ (spells-then p₂ (spells-then p₃ p₄))))
+        λ t g.
+        let (y, m, g₁, h₁) = onward-got (useT rs (tokenAt s at)) _ l e g in
+        let (l₁, p₁) = use-sound rs at y m g₁ in
+        subst (λ l. Assigns x at l e) (got-value h₁) ((hx, l₁), getD rs y 0 ∷ [], refl, subst (λ n. Spells s at (getD rs y 0 ∷ []) n) (got-place h₁) p₁)
+
+    -- what a reader of letters has to show
+    abbrev pub ReadLetter : ℕ → Letter → ℕ → Type 0
+    ReadLetter at l e = Fits (header rs fs ns) l × Spells s at (letterTokens rs fs ns l) e
+
+    pub assignment-sound : (at : ℕ) (l : Letter) (e : ℕ) → assignment s rs fs ns at ≡ got l e → ReadLetter at l e
+    unfolding assignment
+    assignment-sound at l e h =
+        let (x, a, g₁, h₁) = onward-got (useT rs (tokenAt s at)) _ l e h in
+        let (u, b, g₂, h₂) = onward-got (expect s word.becomes a) _ l e h₁ in
+        let (v, m, g₃, h₃) = onward-got (value s rs fs ns x b) _ l e h₂ in
+        let (l₁, p₁) = use-sound rs at x a g₁ in
+        let p₂ = expect-sound word.becomes a b u (omega arith) g₂ in
+        let (o, ls, w, p₃) = value-sound x b v m l₁ g₃ in
+        let (q, p₄) = ended-sound word.semicolon m e v l (omega arith) h₃ in
+        subst (λ l. ReadLetter at l e) q (o, subst (λ l. Spells s at l e) (sym w) (spells-then p₁ (spells-then p₂ (spells-then p₃ p₄))))
+
+    pub tested-sound : (at : ℕ) (c : Condition) (e : ℕ) → tested s rs at ≡ got c e → Fits (header rs fs ns) (test c) × Spells s at (conditionTokens rs fs ns c ++ word.semicolon ∷ []) e
+    unfolding tested
+    tested-sound at r e h =
+        let (c, m, g₁, h₁) = onward-got (condition s rs at) _ r e h in
+        let (l, p₁) = condition-sound at c m g₁ in
+        let (q, p₂) = ended-sound word.semicolon m e c r (omega arith) h₁ in
+        subst (λ c. Fits (header rs fs ns) (test c) × Spells s at (conditionTokens rs fs ns c ++ word.semicolon ∷ []) e) q (l, spells-then p₁ p₂)
+
+    -- ---- blocks
+
+    -- what a reader of statements has to show
+    unfoldable pub ReadStatement : ℕ → ℕ → Statement → ℕ → Type 0
+    ReadStatement d at c e = Proper c (header rs fs ns) × Nests c d × Spells s at (statementTokens rs fs ns c) e
+
+    unfoldable pub ReadBlock : ℕ → ℕ → Block → ℕ → Type 0
+    ReadBlock d at b e = ProperBlock b (header rs fs ns) × NestsBlock b d × Spells s at (blockTokens rs fs ns b) e
+
+    module _ (inner : ℕ → ℕ → Got Block) (sound : (d at : ℕ) (b : Block) (e : ℕ) → inner d at ≡ got b e → ReadBlock d at b e) where
+      abbrev pub ReadBraces : ℕ → ℕ → Block → ℕ → Type 0
+      ReadBraces d at b e = ProperBlock b (header rs fs ns) × Inside (λ n. NestsBlock b n) d × Spells s at (word.lbrace ∷ (blockTokens rs fs ns b ++ word.rbrace ∷ [])) e
+
+      pub braces-sound : (d at : ℕ) (b : Block) (e : ℕ) → bracesT s rs fs ns inner d (tokenAt s at) ≡ got b e → ReadBraces d at b e
+      unfolding ReadBlock
+      braces-sound zero at b e h = pick-case (eqb (tokenAt s at .key) word.lbrace) _ _ _ h (λ t g. absurd (not-refused g)) λ t g. absurd (not-refused g)
+      braces-sound (suc d) at b e h =
+          pick-case (eqb (tokenAt s at .key) word.lbrace) _ _ _ h
+          (λ t g.
+          let (c, m, g₁, h₁) = onward-got (inner d (tokenAt s at .end)) _ b e g in
+          let (u, o, p₁) = sound d (tokenAt s at .end) c m g₁ in
+          let (q, p₂) = ended-sound word.rbrace m e c b (omega arith) h₁ in
+          subst (λ b. ReadBraces (suc d) at b e) q (u, o, more (eqb-true _ word.lbrace t) (omega arith) (spells-then p₁ p₂)))
+          λ t g. absurd (not-refused g)
+
+      pub else-sound : (d at : ℕ) (o : Else) (e : ℕ) → elseT s rs fs ns inner d at (tokenAt s at) ≡ got o e → ProperElse o (header rs fs ns) × NestsElse o d × Spells s at (elseTokens rs fs ns o) e
+      unfolding elseTokens
+      else-sound d at o e h =
+          pick-case (eqb (tokenAt s at .key) word.else) _ _ _ h
+          (λ t g.
+          let (x, m, g₁, h₁) = onward-got (bracesT s rs fs ns inner d (tokenAt s (tokenAt s at .end))) _ o e g in
+          let (u, i, p₁) = braces-sound d (tokenAt s at .end) x m g₁ in
+          subst (λ o. ProperElse o (header rs fs ns) × NestsElse o d × Spells s at (elseTokens rs fs ns o) e) (got-value h₁)
+          (u, i, more (eqb-true _ word.else t) (omega arith) (subst (λ n. Spells s (tokenAt s at .end) (word.lbrace ∷ (blockTokens rs fs ns x ++ word.rbrace ∷ [])) n) (got-place h₁) p₁)))
+          λ t g. subst (λ o. ProperElse o (header rs fs ns) × NestsElse o d × Spells s at (elseTokens rs fs ns o) e) (got-value g) (tt, tt, subst (λ n. Spells s at [] n) (got-place g) none)
+
+      -- a test as the letter of an assume
+      assumed : (c : Condition) → letterTokens rs fs ns (test c) ≡ word.assume ∷ (conditionTokens rs fs ns c ++ word.semicolon ∷ [])
+      assumed (equal x y) = refl
+      assumed (unequal x y) = refl
+
+      statement-sound-by : (d at : ℕ) (r : Statement) (e : ℕ) → statementT s rs fs ns inner d at (tokenAt s at) ≡ got r e → ReadStatement d at r e
+      unfolding ReadStatement statementTokens
+      statement-sound-by d at r e h =
+          pick-case (eqb (tokenAt s at .key) word.skip) _ _ _ h
+          (λ t g. let (q, p) = ended-sound word.semicolon (tokenAt s at .end) e skip r (omega arith) g in subst (λ r. ReadStatement d at r e) q (tt, tt, more (eqb-true _ word.skip t) (omega arith) p))
+          λ _ h. pick-case (eqb (tokenAt s at .key) word.assume) _ _ _ h
+          (λ t g.
+          let (c, m, g₁, h₁) = onward-got (tested s rs (tokenAt s at .end)) _ r e g in
+          let (l, p) = tested-sound (tokenAt s at .end) c m g₁ in
+          subst (λ r. ReadStatement d at r e) (got-value h₁)
+          (l, tt, subst (λ l. Spells s at l e) (sym (assumed c)) (more (eqb-true _ word.assume t) (omega arith) (subst (λ n. Spells s (tokenAt s at .end) (conditionTokens rs fs ns c ++ word.semicolon ∷ []) n) (got-place h₁) p))))
+          λ _ h. pick-case (eqb (tokenAt s at .key) word.assert) _ _ _ h
+          (λ t g.
+          let (c, m, g₁, h₁) = onward-got (tested s rs (tokenAt s at .end)) _ r e g in
+          let (l, p) = tested-sound (tokenAt s at .end) c m g₁ in
+          subst (λ r. ReadStatement d at r e) (got-value h₁)
+          (l, tt, more (eqb-true _ word.assert t) (omega arith) (subst (λ n. Spells s (tokenAt s at .end) (conditionTokens rs fs ns c ++ word.semicolon ∷ []) n) (got-place h₁) p)))
+          λ _ h. pick-case (eqb (tokenAt s at .key) word.if) _ _ _ h
+          (λ t g.
+          let (c, a, g₁, h₁) = onward-got (condition s rs (tokenAt s at .end)) _ r e g in
+          let (b, m, g₂, h₂) = onward-got (bracesT s rs fs ns inner d (tokenAt s a)) _ r e h₁ in
+          let (o, n, g₃, h₃) = onward-got (elseT s rs fs ns inner d m (tokenAt s m)) _ r e h₂ in
+          let (l, p₁) = condition-sound (tokenAt s at .end) c a g₁ in
+          let (u, i, p₂) = braces-sound d a b m g₂ in
+          let (v, j, p₃) = else-sound d m o n g₃ in
+          let p = spells-then p₁ (subst (λ l. Spells s a (word.lbrace ∷ l) n) (append-assoc (blockTokens rs fs ns b) (word.rbrace ∷ []) (elseTokens rs fs ns o)) (spells-then p₂ p₃)) in
+          subst (λ r. ReadStatement d at r e) (got-value h₃)
+          ((l, u, v), (i, j), more (eqb-true _ word.if t) (omega arith) (subst (λ n. Spells s (tokenAt s at .end) (conditionTokens rs fs ns c ++ word.lbrace ∷ (blockTokens rs fs ns b ++ word.rbrace ∷ elseTokens rs fs ns o)) n) (got-place h₃) p)))
+          λ _ h. pick-case (eqb (tokenAt s at .key) word.while) _ _ _ h
+          (λ t g.
+          let (c, a, g₁, h₁) = onward-got (condition s rs (tokenAt s at .end)) _ r e g in
+          let (b, m, g₂, h₂) = onward-got (bracesT s rs fs ns inner d (tokenAt s a)) _ r e h₁ in
+          let (l, p₁) = condition-sound (tokenAt s at .end) c a g₁ in
+          let (u, i, p₂) = braces-sound d a b m g₂ in
+          subst (λ r. ReadStatement d at r e) (got-value h₂)
+          ((l, u), i, more (eqb-true _ word.while t) (omega arith) (spells-then p₁ (subst (λ n. Spells s a (word.lbrace ∷ (blockTokens rs fs ns b ++ word.rbrace ∷ [])) n) (got-place h₂) p₂))))
+          λ _ h. pick-case (isName (tokenAt s at .key)) _ _ _ h
+          (λ t g.
+          let (l, m, g₁, h₁) = onward-got (assignment s rs fs ns at) _ r e g in
+          let (o, p) = assignment-sound at l m g₁ in
+          subst (λ r. ReadStatement d at r e) (got-value h₁) (o, tt, subst (λ n. Spells s at (letterTokens rs fs ns l) n) (got-place h₁) p))
+          λ t g. absurd (not-refused g)
+
+    mutual
+      unfolding block ReadStatement ReadBlock blockTokens
+
+      pub block-sound : (k d at : ℕ) (b : Block) (e : ℕ) → block s rs fs ns k d at ≡ got b e → ReadBlock d at b e
+      block-sound zero d at b e h = absurd (not-exhausted h)
+      block-sound (suc k) d at b e h =
+          pick-case (closing s rs fs ns (tokenAt s at .key)) _ _ _ h
+          (λ t g. subst (λ b. ReadBlock d at b e) (got-value g) (tt, tt, subst (λ n. Spells s at [] n) (got-place g) none))
+          λ t g.
+          let (c, a, g₁, h₁) = onward-got (statement s rs fs ns k d at) _ b e g in
+          let (x, m, g₂, h₂) = onward-got (block s rs fs ns k d a) _ b e h₁ in
+          let (u₁, o₁, p₁) = statement-sound k d at c a g₁ in
+          let (u₂, o₂, p₂) = block-sound k d a x m g₂ in
+          subst (λ b. ReadBlock d at b e) (got-value h₂) ((u₁, u₂), (o₁, o₂), subst (λ n. Spells s at (statementTokens rs fs ns c ++ blockTokens rs fs ns x) n) (got-place h₂) (spells-then p₁ p₂))
+
+      pub statement-sound : (k d at : ℕ) (r : Statement) (e : ℕ) → statement s rs fs ns k d at ≡ got r e → ReadStatement d at r e
+      statement-sound zero d at r e h = absurd (not-exhausted h)
+      statement-sound (suc k) d at r e h = statement-sound-by (λ d at. block s rs fs ns k d at) (λ d at b e g. block-sound k d at b e g) d at r e h

@@ -1,0 +1,9 @@
+pub mod Words
+pub mod Numbers
+pub mod Order
+pub mod Walk
+pub mod Branches
+pub mod Points
+pub mod Runs
+pub mod Fitting
+pub mod Examples

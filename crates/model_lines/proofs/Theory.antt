@@ -1,0 +1,4 @@
+pub mod Prints
+pub mod PrintsLaws
+pub mod Answered
+pub mod Long

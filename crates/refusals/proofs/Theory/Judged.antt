@@ -1,0 +1,203 @@
+-- What an answer of a reader says of the tokens: what is read has no no, and a refusal is the first no.
+use mathlib.Core.Path.{_≡_, refl, sym, ap, subst, _∙_}
+use Prim.Native.Nat.{ℕ, zero, suc, _≤_, _<_}
+use native.Mathlib.Omega.{arith}
+use mathlib.Core.Bool.{Bool, true, false, not, _||_}
+use mathlib.Core.List.{List, [], _∷_, _++_}
+use lib.Dec.{eqb, ltb}
+use borrow.Author.Tests.{eqb-true, eqb-false, ltb-true, ltb-false}
+use Rattle.base.specs.Choice.{pick, byTest}
+use Rattle.tokens.specs.Tokens.{tokenAt}
+use Rattle.tokens.specs.Words.{isName}
+use Rattle.tokens.specs.Words as word
+use Rattle.tokens.proofs.Theory.WordsLaws.{name-real}
+use Rattle.grammar.specs.Reading.{Got, got, refused, exhausted, onward}
+use Rattle.grammar.specs.Reading as reading
+use Rattle.refusals.proofs.Theory.Basics.{clash, not-true, nor}
+use Rattle.refusals.proofs.Theory.Rests.{Rest, took, stuck, take, start, complete, onTook, run, run-more, run-viable, viable-run, sentence-run}
+use Rattle.refusals.specs.Questions.{Unfit, early, misplaced, Redeclared, register, function, Misused, more-arguments, fewer-arguments, TooDeep, No, no-token, unfit, redeclared, misused, too-deep}
+use Rattle.refusals.specs.FirstNo.{placeOf, keyOf, tokensBefore, NoAt, Reached, FirstNo}
+
+pub data Judged (s : List ℕ) (A : Type 0) (P : A → ℕ → Type 0) : Got A → Type 0 where
+  fine : {a : A} {e : ℕ} → P a e → Judged s A P (got a e)
+  first : {n p : ℕ} → FirstNo s n p → Judged s A P (refused n p)
+  never : Judged s A P exhausted
+
+pub judged-on : {s : List ℕ} {A B : Type 0} {P : A → ℕ → Type 0} {Q : B → ℕ → Type 0} (g : Got A) (f : A → ℕ → Got B) → Judged s A P g → ((a : A) (e : ℕ) → g ≡ got a e → P a e → Judged s B Q (f a e)) → Judged s B Q (onward g f)
+judged-on (got a e) f (fine p) k = k a e refl p
+judged-on (refused n p) f (first h) k = first h
+judged-on exhausted f never k = never
+
+pub judged-pick : {s : List ℕ} {A : Type 0} {P : A → ℕ → Type 0} (c : Bool) (x y : Unit {0} → Got A) → (c ≡ true → Judged s A P (x tt)) → (c ≡ false → Judged s A P (y tt)) → Judged s A P (pick c x y)
+judged-pick true x y f g = f refl
+judged-pick false x y f g = g refl
+
+pub judged-map : {s : List ℕ} {A : Type 0} {P Q : A → ℕ → Type 0} {g : Got A} → Judged s A P g → ((a : A) (e : ℕ) → P a e → Q a e) → Judged s A Q g
+judged-map (fine {a} {e} p) k = fine (k a e p)
+judged-map (first h) k = first h
+judged-map never k = never
+
+pub judged-first : {s : List ℕ} {A : Type 0} {P : A → ℕ → Type 0} (n p : ℕ) → Judged s A P (refused n p) → FirstNo s n p
+judged-first n p (first h) = h
+
+pub judged-fine : {s : List ℕ} {A : Type 0} {P : A → ℕ → Type 0} (a : A) (e : ℕ) → Judged s A P (got a e) → P a e
+judged-fine a e (fine p) = p
+
+-- a no is one of the five
+pub lower : {before : List ℕ} {k next : ℕ} (n m : ℕ) → m < n → (8 < n → k ≡ 1 → ⊥) → (9 < n → Unfit before k → ⊥) → (10 < n → Redeclared before k → ⊥) → (11 < n → Misused before k next → ⊥) → (12 < n → TooDeep before k → ⊥) → No m before k next → ⊥
+lower n m l a b c d e (no-token h) = a l h
+lower n m l a b c d e (unfit h) = b l h
+lower n m l a b c d e (redeclared h) = c l h
+lower n m l a b c d e (misused h) = d l h
+lower n m l a b c d e (too-deep h) = e l h
+
+-- tokens that questions 10 to 12 do not concern: no name, `,`, `)` or `{`
+abbrev pub plain : ℕ → Bool
+plain k = not (isName k || (eqb k word.comma || (eqb k word.rparen || (eqb k word.lbrace || (eqb k 0 || eqb k 1)))))
+
+-- a token is two or more
+pub real : (k : ℕ) → (k ≡ 0 → ⊥) → (k ≡ 1 → ⊥) → 2 ≤ k
+real zero h g = absurd (h refl)
+real (suc zero) h g = absurd (g refl)
+real (suc (suc k)) h g = omega arith
+
+module _ (k : ℕ) (h : plain k ≡ true) where
+  -- the tests one after the other
+  plain-tests : (isName k ≡ false) × (eqb k word.comma ≡ false) × (eqb k word.rparen ≡ false) × (eqb k word.lbrace ≡ false) × (eqb k 0 ≡ false) × (eqb k 1 ≡ false)
+  plain-tests =
+      let (a, x) = nor (isName k) _ h in
+      let (b, y) = nor (eqb k word.comma) _ x in
+      let (c, z) = nor (eqb k word.rparen) _ y in
+      let (d, w) = nor (eqb k word.lbrace) _ z in
+      let (e, v) = nor (eqb k 0) _ w in
+      (a, b, c, d, e, not-true (eqb k 1) v)
+
+  pub plain-brace : eqb k word.lbrace ≡ false
+  plain-brace = plain-tests .3
+
+  pub plain-real : 2 ≤ k
+  plain-real = real k (eqb-false k 0 (plain-tests .4)) (eqb-false k 1 (plain-tests .5))
+
+  pub plain-redeclared : {before : List ℕ} → Redeclared before k → ⊥
+  plain-redeclared (register I t x) = clash t (plain-tests .0)
+  plain-redeclared (function I t x) = clash t (plain-tests .0)
+
+  pub plain-misused : {before : List ℕ} {next : ℕ} → Misused before k next → ⊥
+  plain-misused (register I t x y) = clash t (plain-tests .0)
+  plain-misused (function I t x y) = clash t (plain-tests .0)
+  plain-misused (more-arguments I c t e) = eqb-false k word.comma (plain-tests .1) e
+  plain-misused (fewer-arguments I c t e) = eqb-false k word.rparen (plain-tests .2) e
+
+  pub plain-deep : {before : List ℕ} → TooDeep before k → ⊥
+  plain-deep D = eqb-false k word.lbrace (plain-tests .3) (D .brace)
+
+-- The token k does not fit where r is to come.
+pub record Stuck (r : Rest) (k : ℕ) : Type 0 where
+  pub end : k ≡ 0 → complete r ≡ false
+  pub token : (k ≡ 0 → ⊥) → take r k ≡ stuck
+
+pub stuck-at : (r : Rest) (k : ℕ) → complete r ≡ false → take r k ≡ stuck → Stuck r k
+stuck-at r k h g = record { end = λ _. h; token = λ _. g }
+
+module _ (s : List ℕ) where
+  abbrev pub keyAt : ℕ → ℕ
+  keyAt at = tokenAt s at .key
+
+  abbrev pub nextAt : ℕ → ℕ
+  nextAt at = tokenAt s (tokenAt s at .end) .key
+
+  abbrev pub NoHere : ℕ → ℕ → ℕ → Type 0
+  NoHere i at m = No m (tokensBefore s i) (keyAt at) (nextAt at)
+
+  -- Token i is looked for at the place `at`, r is to come there, and no token before it has a no.
+  pub record At (i at : ℕ) (r : Rest) : Type 0 where
+    pub place : placeOf s i ≡ at
+    pub leaves : run start (tokensBefore s i) ≡ took r
+    pub none-before : (m j : ℕ) → j < i → NoAt s m j → ⊥
+    pub reached : Reached s i
+
+  pub here : {i at : ℕ} {r : Rest} (m : ℕ) → At i at r → NoAt s m i → NoHere i at m
+  here {i} m A n = subst (λ p. No m (tokensBefore s i) (tokenAt s p .key) (tokenAt s (tokenAt s p .end) .key)) (A .place) n
+
+  there : {i at : ℕ} {r : Rest} (m : ℕ) → At i at r → NoHere i at m → NoAt s m i
+  there {i} m A n = subst (λ p. No m (tokensBefore s i) (tokenAt s p .key) (tokenAt s (tokenAt s p .end) .key)) (sym (A .place)) n
+
+  -- the tokens with the one at the place
+  pub before-next : {i at : ℕ} {r : Rest} → At i at r → tokensBefore s (suc i) ≡ tokensBefore s i ++ keyAt at ∷ []
+  before-next {i} A = ap (λ p. tokensBefore s i ++ tokenAt s p .key ∷ []) (A .place)
+
+  run-next : {i at : ℕ} {r : Rest} → At i at r → run start (tokensBefore s i ++ keyAt at ∷ []) ≡ take r (keyAt at)
+  run-next {i} {at} {r} A = run-more start (tokensBefore s i) (keyAt at) ∙ ap (λ t. onTook t λ q. take q (keyAt at)) (A .leaves)
+
+  -- One token is taken.
+  pub advance : {i at : ℕ} {r : Rest} → At i at r → (q : Rest) → 2 ≤ keyAt at → take r (keyAt at) ≡ took q → ((m : ℕ) → NoHere i at m → ⊥) → At (suc i) (tokenAt s at .end) q
+  advance {i} {at} {r} A q l h c =
+      record {
+        place = ap (λ p. tokenAt s p .end) (A .place);
+        leaves = ap (λ ws. run start ws) (before-next A) ∙ run-next A ∙ h;
+        none-before = λ m j g. byTest (ltb j i) (λ t. A .none-before m j (ltb-true j i t)) λ t n. c m (here m A (subst (NoAt s m) (last j g t) n));
+        reached = λ j g. byTest (ltb j i) (λ t. A .reached j (ltb-true j i t)) λ t n. nothing (ap (λ p. tokenAt s p .key) (sym (A .place)) ∙ subst (λ j. keyOf s j ≡ 0) (last j g t) n);
+      }
+    where
+      last : (j : ℕ) → j < suc i → ltb j i ≡ false → j ≡ i
+      last j g t = let x = ltb-false j i t in omega arith
+
+      nothing : keyAt at ≡ 0 → ⊥
+      nothing e = omega arith
+
+  -- ---- no no at a token
+
+  fits : {i at : ℕ} {r q : Rest} → At i at r → take r (keyAt at) ≡ took q → 2 ≤ keyAt at → Unfit (tokensBefore s i) (keyAt at) → ⊥
+  fits A h l (early e n) = omega arith
+  fits {i} {at} {r} {q} A h l (misplaced e n) = n (run-viable (tokensBefore s i ++ keyAt at ∷ []) q (run-next A ∙ h))
+
+  pub none-here : {i at : ℕ} {r q : Rest} → At i at r → take r (keyAt at) ≡ took q → 2 ≤ keyAt at → (Redeclared (tokensBefore s i) (keyAt at) → ⊥) → (Misused (tokensBefore s i) (keyAt at) (nextAt at) → ⊥) → (TooDeep (tokensBefore s i) (keyAt at) → ⊥) → (m : ℕ) → NoHere i at m → ⊥
+  none-here A h l x y z m n = lower (suc m) m (omega arith) (λ _ e. omega arith) (λ _ u. fits A h l u) (λ _. x) (λ _. y) (λ _. z) n
+
+  -- a token that questions 10 to 12 do not concern
+  pub plain-on : {i at : ℕ} {r : Rest} → At i at r → (q : Rest) → plain (keyAt at) ≡ true → take r (keyAt at) ≡ took q → At (suc i) (tokenAt s at .end) q
+  plain-on {i} {at} A q p h = advance A q (plain-real (keyAt at) p) h (none-here A h (plain-real (keyAt at) p) (plain-redeclared (keyAt at) p) (plain-misused (keyAt at) p) (plain-deep (keyAt at) p))
+
+  -- ---- refusals
+
+  pub first-here : {i at : ℕ} {r : Rest} → At i at r → (n : ℕ) → NoHere i at n → ((m : ℕ) → m < n → NoHere i at m → ⊥) → FirstNo s n (tokenAt s at .start)
+  first-here {i} A n x y = record { index = i; reached = A .reached; place = sym (ap (λ p. tokenAt s p .start) (A .place)); no = there n A x; lowest = λ m l z. y m l (here m A z); first = A .none-before }
+
+  -- by 8 or 9
+  pub unfit-judged : {A : Type 0} {P : A → ℕ → Type 0} {i at : ℕ} {r : Rest} → At i at r → Stuck r (keyAt at) → Judged s A P (reading.unfit (tokenAt s at))
+  unfit-judged {i = i} {at} {r} A S =
+      byTest (eqb (keyAt at) 1)
+      (λ t. rw t (first (first-here A 8 (no-token (eqb-true (keyAt at) 1 t)) λ m l. lower 8 m l (λ x. absurd (omega arith)) (λ x. absurd (omega arith)) (λ x. absurd (omega arith)) (λ x. absurd (omega arith)) λ x. absurd (omega arith))))
+      λ t. rw t (first (first-here A 9 (unfit wrong) λ m l. lower 9 m l (λ _. eqb-false (keyAt at) 1 t) (λ x. absurd (omega arith)) (λ x. absurd (omega arith)) (λ x. absurd (omega arith)) λ x. absurd (omega arith)))
+    where
+      not-took : (q : Rest) → stuck ≡ took q → ⊥
+      not-took q h = let z : _≡_ {A = ℕ} 0 1 = cc in omega arith
+
+      wrong : Unfit (tokensBefore s i) (keyAt at)
+      wrong = byTest (eqb (keyAt at) 0)
+          (λ t. let e = eqb-true (keyAt at) 0 t in early e λ n. clash (sentence-run (tokensBefore s i) r (A .leaves) n) (S .end e))
+          λ t. let e = eqb-false (keyAt at) 0 t in misplaced e λ n. let (q, h) = viable-run (tokensBefore s i ++ keyAt at ∷ []) n in not-took q (sym (S .token e) ∙ sym (run-next A) ∙ h)
+
+  pub redeclared-judged : {A : Type 0} {P : A → ℕ → Type 0} {i at : ℕ} {r q : Rest} → At i at r → take r (keyAt at) ≡ took q → isName (keyAt at) ≡ true → Redeclared (tokensBefore s i) (keyAt at) → Judged s A P (refused 10 (tokenAt s at .start))
+  redeclared-judged {at = at} A h t x =
+      let l = name-real (keyAt at) t in
+      first (first-here A 10 (redeclared x) λ m g. lower 10 m g (λ _ e. omega arith) (λ _. fits A h l) (λ y. absurd (omega arith)) (λ y. absurd (omega arith)) λ y. absurd (omega arith))
+
+  pub misused-judged : {A : Type 0} {P : A → ℕ → Type 0} {i at : ℕ} {r q : Rest} → At i at r → take r (keyAt at) ≡ took q → 2 ≤ keyAt at → (Redeclared (tokensBefore s i) (keyAt at) → ⊥) → Misused (tokensBefore s i) (keyAt at) (nextAt at) → Judged s A P (refused 11 (tokenAt s at .start))
+  misused-judged A h l d x =
+      first (first-here A 11 (misused x) λ m g. lower 11 m g (λ _ e. omega arith) (λ _. fits A h l) (λ _. d) (λ y. absurd (omega arith)) λ y. absurd (omega arith))
+
+  pub deep-judged : {A : Type 0} {P : A → ℕ → Type 0} {i at : ℕ} {r q : Rest} → At i at r → take r (keyAt at) ≡ took q → TooDeep (tokensBefore s i) (keyAt at) → Judged s A P (refused 12 (tokenAt s at .start))
+  deep-judged {i = i} {at} A h x =
+      let k : keyAt at ≡ word.lbrace = x .brace in
+      first (first-here A 12 (too-deep x) λ m g. lower 12 m g (λ _ e. omega arith) (λ _. fits A h (omega arith)) (λ _. subst (λ k. Redeclared (tokensBefore s i) k → ⊥) (sym k) brace-redeclared) (λ _. subst (λ k. Misused (tokensBefore s i) k (nextAt at) → ⊥) (sym k) brace-misused) λ y. absurd (omega arith))
+    where
+      brace-redeclared : Redeclared (tokensBefore s i) word.lbrace → ⊥
+      brace-redeclared (register I t y) = clash t refl
+      brace-redeclared (function I t y) = clash t refl
+
+      brace-misused : Misused (tokensBefore s i) word.lbrace (nextAt at) → ⊥
+      brace-misused (register I t y z) = clash t refl
+      brace-misused (function I t y z) = clash t refl
+      brace-misused (more-arguments I c t e) = omega arith
+      brace-misused (fewer-arguments I c t e) = omega arith

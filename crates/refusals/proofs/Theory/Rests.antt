@@ -1,0 +1,563 @@
+-- What may follow the tokens so far, by the grammar alone, token by token; and that this is right: tokens begin a sentence exactly if they can be taken
+-- one after the other.
+use mathlib.Core.Path.{_≡_, refl, sym, ap, subst, _∙_}
+use mathlib.Core.Logic.{_⊎_, inl, inr}
+use Prim.Native.Nat.{ℕ}
+use native.Mathlib.Omega.{arith}
+use mathlib.Core.Bool.{Bool, true, false, _&&_, _||_}
+use mathlib.Core.List.{List, [], _∷_, _++_, append-nil}
+use lib.Dec.{eqb}
+use borrow.Author.Tests.{eqb-true, eq-eqb}
+use Rattle.base.specs.Choice.{pick}
+use Rattle.tokens.specs.Words.{isName}
+use Rattle.tokens.specs.Words as word
+use Rattle.tokens.proofs.Theory.WordsLaws.{not-word}
+use Rattle.grammar.proofs.Theory.Sound.{pick-case}
+use Rattle.refusals.proofs.Theory.Basics.{head-same, tail-same, not-nil, clash, or-case, and-true}
+use Rattle.refusals.specs.Sentences.{Name, Condition, equal, unequal, Statement, skip, copy, apply, apply-two, assume, assert, if, while, Else, absent, present, Block, empty, _then_, Entry, one, two, Macro, conditionThen, statementThen, elseThen, blockThen, namesThen, entryThen, entriesThen, functionsThen, sentence, Sentence, Viable}
+
+-- What is still to come.
+pub data Rest : Type 0 where
+  -- one token, and the rest
+  token : ℕ → Rest → Rest
+  -- a name; `=` or `!=`; `1` or `2`; and the rest
+  name sign digit : Rest → Rest
+  -- behind `a := b`, and behind `a := f(b`
+  value arguments : Rest → Rest
+  -- the names, or the entries, of a line, and all that follows; whether there is one already
+  names entries : Bool → Rest
+  -- behind the line of registers
+  line : Rest
+  -- statements and `}`, and the rest; statements to the end of the text. Whether an `else` may stand in front.
+  inside : Bool → Rest → Rest
+  outside : Bool → Rest
+
+-- What is left when a token is taken; stuck where it does not fit.
+pub data Took : Type 0 where
+  took : Rest → Took
+  stuck : Took
+
+-- k as the first token of a statement: r is left behind it, q behind the first block of an `if`
+abbrev pub begin : Bool → ℕ → Rest → Rest → Took
+begin e k r q =
+    pick (isName k) (λ _. took (token word.becomes (name (value r))))
+    λ _. pick (eqb k word.skip) (λ _. took (token word.semicolon r))
+    λ _. pick (eqb k word.assume || eqb k word.assert) (λ _. took (name (sign (name (token word.semicolon r)))))
+    λ _. pick (eqb k word.if) (λ _. took (name (sign (name (token word.lbrace (inside false q))))))
+    λ _. pick (eqb k word.while) (λ _. took (name (sign (name (token word.lbrace (inside false r))))))
+    λ _. pick (eqb k word.else && e) (λ _. took (token word.lbrace (inside false r))) λ _. stuck
+
+abbrev pub take : Rest → ℕ → Took
+take (token j r) k = pick (eqb k j) (λ _. took r) λ _. stuck
+take (name r) k = pick (isName k) (λ _. took r) λ _. stuck
+take (sign r) k = pick (eqb k word.equal || eqb k word.unequal) (λ _. took r) λ _. stuck
+take (digit r) k = pick (eqb k word.one || eqb k word.two) (λ _. took r) λ _. stuck
+take (value r) k = pick (eqb k word.semicolon) (λ _. took r) λ _. pick (eqb k word.lparen) (λ _. took (name (arguments r))) λ _. stuck
+take (arguments r) k =
+    pick (eqb k word.rparen) (λ _. took (token word.semicolon r))
+    λ _. pick (eqb k word.comma) (λ _. took (name (token word.rparen (token word.semicolon r)))) λ _. stuck
+take (names e) k = pick (isName k) (λ _. took (names true)) λ _. pick (eqb k word.semicolon && e) (λ _. took line) λ _. stuck
+take (entries e) k = pick (isName k) (λ _. took (token word.slash (digit (entries true)))) λ _. pick (eqb k word.semicolon && e) (λ _. took (outside false)) λ _. stuck
+take line k = pick (eqb k word.funs) (λ _. took (entries false)) λ _. begin false k (outside false) (outside true)
+take (inside e r) k = pick (eqb k word.rbrace) (λ _. took r) λ _. begin e k (inside false r) (inside true r)
+take (outside e) k = begin e k (outside false) (outside true)
+
+abbrev pub start : Rest
+start = token word.vars (names false)
+
+-- whether the text may end here
+abbrev pub complete : Rest → Bool
+complete (token j r) = false
+complete (name r) = false
+complete (sign r) = false
+complete (digit r) = false
+complete (value r) = false
+complete (arguments r) = false
+complete (names e) = false
+complete (entries e) = false
+complete line = true
+complete (inside e r) = false
+complete (outside e) = true
+
+-- ---- the token lists that a rest stands for
+
+data Arguments : Type 0 where
+  last : Arguments
+  second : Name → Arguments
+
+data Value : Type 0 where
+  register : Value
+  applied : Name → Arguments → Value
+
+abbrev argumentsThen : Arguments → List ℕ → List ℕ
+argumentsThen last ws = word.rparen ∷ word.semicolon ∷ ws
+argumentsThen (second c) ws = word.comma ∷ c .key ∷ word.rparen ∷ word.semicolon ∷ ws
+
+abbrev valueThen : Value → List ℕ → List ℕ
+valueThen register ws = word.semicolon ∷ ws
+valueThen (applied b v) ws = word.lparen ∷ b .key ∷ argumentsThen v ws
+
+abbrev signToken : Bool → ℕ
+signToken true = word.equal
+signToken false = word.unequal
+
+abbrev digitToken : Bool → ℕ
+digitToken true = word.one
+digitToken false = word.two
+
+-- an `else` in front only where it may be
+abbrev Allowed : Bool → Else → Type 0
+Allowed true o = Unit {0}
+Allowed false absent = Unit {0}
+Allowed false (present b) = ⊥
+
+-- "at least one in each list"
+abbrev Some : {A : Type 0} → Bool → List A → Type 0
+Some true bs = Unit {0}
+Some false [] = ⊥
+Some false (a ∷ bs) = Unit {0}
+
+-- perhaps an else, statements, and then what T says
+abbrev Body : Bool → (List ℕ → Type 0) → List ℕ → Type 0
+Body e T ws = (o : Else) × (b : Block) × (vs : List ℕ) × Allowed e o × (ws ≡ elseThen o (blockThen b vs)) × T vs
+
+abbrev Nothing : List ℕ → Type 0
+Nothing ws = ws ≡ []
+
+abbrev Line : List ℕ → Type 0
+Line ws = (fs : List Entry) × (vs : List ℕ) × (ws ≡ functionsThen fs vs) × Body false Nothing vs
+
+abbrev Means : Rest → List ℕ → Type 0
+Means (token j r) ws = (vs : List ℕ) × (ws ≡ j ∷ vs) × Means r vs
+Means (name r) ws = (a : Name) × (vs : List ℕ) × (ws ≡ a .key ∷ vs) × Means r vs
+Means (sign r) ws = (q : Bool) × (vs : List ℕ) × (ws ≡ signToken q ∷ vs) × Means r vs
+Means (digit r) ws = (q : Bool) × (vs : List ℕ) × (ws ≡ digitToken q ∷ vs) × Means r vs
+Means (value r) ws = (v : Value) × (vs : List ℕ) × (ws ≡ valueThen v vs) × Means r vs
+Means (arguments r) ws = (v : Arguments) × (vs : List ℕ) × (ws ≡ argumentsThen v vs) × Means r vs
+Means (names e) ws = (ks : List Name) × (vs : List ℕ) × Some e ks × (ws ≡ namesThen ks (word.semicolon ∷ vs)) × Line vs
+Means (entries e) ws = (fs : List Entry) × (vs : List ℕ) × Some e fs × (ws ≡ entriesThen fs (word.semicolon ∷ vs)) × Body false Nothing vs
+Means line ws = Line ws
+Means (inside e r) ws = Body e (λ vs. (us : List ℕ) × (vs ≡ word.rbrace ∷ us) × Means r us) ws
+Means (outside e) ws = Body e Nothing ws
+
+-- ---- taking a token, backwards: what is left, with the token in front of it
+
+took-same : {r q : Rest} → took r ≡ took q → r ≡ q
+took-same h = cc
+
+-- what is left, under its other name
+left : (ws : List ℕ) {r q : Rest} → took r ≡ took q → Means q ws → Means r ws
+left ws h m = subst (λ r. Means r ws) (sym (took-same h)) m
+
+not-took : {r : Rest} → stuck ≡ took r → ⊥
+not-took h = let z : _≡_ {A = ℕ} 0 1 = cc in omega arith
+
+allowed-absent : (e : Bool) → Allowed e absent
+allowed-absent true = tt
+allowed-absent false = tt
+
+-- a body that has no else in front
+plainly : (T : List ℕ → Type 0) (ws : List ℕ) → Body false T ws → (b : Block) × (vs : List ℕ) × (ws ≡ blockThen b vs) × T vs
+plainly T ws (absent, b, vs, a, h, t) = (b, vs, h, t)
+plainly T ws (present x, b, vs, a, h, t) = absurd a
+
+-- a statement in front of a body
+prefixed : (T : List ℕ → Type 0) (e : Bool) (c : Statement) (ws vs : List ℕ) → ws ≡ statementThen c vs → Body false T vs → Body e T ws
+prefixed T e c ws vs h m = let (b, us, g, t) = plainly T vs m in (absent, c then b, us, allowed-absent e, h ∙ ap (statementThen c) g, t)
+
+abbrev compare : Bool → Name → Name → Condition
+compare true a b = equal a b
+compare false a b = unequal a b
+
+compare-tokens : (q : Bool) (a b : Name) (ws : List ℕ) → conditionThen (compare q a b) ws ≡ a .key ∷ signToken q ∷ b .key ∷ ws
+compare-tokens true a b ws = refl
+compare-tokens false a b ws = refl
+
+condition-of : (r : Rest) (ws : List ℕ) → Means (name (sign (name r))) ws → (c : Condition) × (vs : List ℕ) × (ws ≡ conditionThen c vs) × Means r vs
+condition-of r ws (a, x, h, (q, y, g, (b, z, f, m))) = (compare q a b, z, rw (h, g, f) (sym (compare-tokens q a b z)), m)
+
+abbrev assigned : Name → Name → Value → Statement
+assigned a b register = copy a b
+assigned a f (applied b last) = apply a f b
+assigned a f (applied b (second c)) = apply-two a f b c
+
+assigned-tokens : (a b : Name) (v : Value) (ws : List ℕ) → statementThen (assigned a b v) ws ≡ a .key ∷ word.becomes ∷ b .key ∷ valueThen v ws
+assigned-tokens a b register ws = refl
+assigned-tokens a f (applied b last) ws = refl
+assigned-tokens a f (applied b (second c)) ws = refl
+
+allowed-true : (e : Bool) (o : Else) → e ≡ true → Allowed e o
+allowed-true true o h = tt
+allowed-true false o h = absurd (clash h refl)
+
+-- `{`, a block, `}`, and the rest
+braced : (r : Rest) (ws : List ℕ) → Means (token word.lbrace (inside false r)) ws → (b : Block) × (vs : List ℕ) × (ws ≡ word.lbrace ∷ blockThen b (word.rbrace ∷ vs)) × Means r vs
+braced r ws (x, h, (absent, b, y, a, g, (z, f, m))) = (b, z, rw (h, g, f), m)
+braced r ws (x, h, (present c, b, y, a, g, (z, f, m))) = absurd a
+
+module _ (T : List ℕ → Type 0) (r q : Rest) (into : (ws : List ℕ) → Means r ws → Body false T ws) (into-else : (ws : List ℕ) → Means q ws → Body true T ws) (e : Bool) (k : ℕ) where
+  name-put : (ws : List ℕ) → isName k ≡ true → Means (token word.becomes (name (value r))) ws → Body e T (k ∷ ws)
+  name-put ws t (x, h, (b, y, g, (v, z, f, m))) = let a : Name = record { key = k; real = t } in prefixed T e (assigned a b v) (k ∷ ws) z (rw (h, g, f) (sym (assigned-tokens a b v z))) (into z m)
+
+  skip-put : (ws : List ℕ) → k ≡ word.skip → Means (token word.semicolon r) ws → Body e T (k ∷ ws)
+  skip-put ws t (x, h, m) = prefixed T e skip (k ∷ ws) x (rw (t, h)) (into x m)
+
+  tested-put : (ws : List ℕ) → (k ≡ word.assume) ⊎ (k ≡ word.assert) → (c : Condition) × (vs : List ℕ) × (ws ≡ conditionThen c vs) × Means (token word.semicolon r) vs → Body e T (k ∷ ws)
+  tested-put ws (inl t) (c, x, h, (y, g, m)) = prefixed T e (assume c) (k ∷ ws) y (rw (t, h, g)) (into y m)
+  tested-put ws (inr t) (c, x, h, (y, g, m)) = prefixed T e (assert c) (k ∷ ws) y (rw (t, h, g)) (into y m)
+
+  if-put : (ws : List ℕ) (c : Condition) (b : Block) (x y : List ℕ) → k ≡ word.if → ws ≡ conditionThen c x → x ≡ word.lbrace ∷ blockThen b (word.rbrace ∷ y) → Body true T y → Body e T (k ∷ ws)
+  if-put ws c b x y t h g (o, d, z, a, f, m) = prefixed T e (if c b o) (k ∷ ws) (blockThen d z) (rw (t, h, g, f)) (absent, d, z, tt, refl, m)
+
+  else-put : (ws : List ℕ) (b : Block) (y : List ℕ) → k ≡ word.else → e ≡ true → ws ≡ word.lbrace ∷ blockThen b (word.rbrace ∷ y) → (d : Block) × (vs : List ℕ) × (y ≡ blockThen d vs) × T vs → Body e T (k ∷ ws)
+  else-put ws b y t u h (d, z, g, m) = (present b, d, z, allowed-true e (present b) u, rw (t, h, g), m)
+
+  begun : (l : Rest) (ws : List ℕ) → begin e k r q ≡ took l → Means l ws → Body e T (k ∷ ws)
+  begun l ws h m =
+      pick-case (isName k) _ _ _ h (λ t g. name-put ws t (left ws g m))
+      λ _ h. pick-case (eqb k word.skip) _ _ _ h (λ t g. skip-put ws (eqb-true k word.skip t) (left ws g m))
+      λ _ h. pick-case (eqb k word.assume || eqb k word.assert) _ _ _ h
+      (λ t g. tested-put ws (assume-or-assert (or-case (eqb k word.assume) (eqb k word.assert) t))
+      (condition-of (token word.semicolon r) ws (left ws g m)))
+      λ _ h. pick-case (eqb k word.if) _ _ _ h
+      (λ t g. let (c, x, i, n) = condition-of (token word.lbrace (inside false q)) ws (left ws g m) in
+      let (b, y, j, w) = braced q x n in if-put ws c b x y (eqb-true k word.if t) i j (into-else y w))
+      λ _ h. pick-case (eqb k word.while) _ _ _ h
+      (λ t g. let (c, x, i, n) = condition-of (token word.lbrace (inside false r)) ws (left ws g m) in
+      let (b, y, j, w) = braced r x n in prefixed T e (while c b) (k ∷ ws) y (spelled-while c b ws x y (eqb-true k word.while t) i j) (into y w))
+      λ _ h. pick-case (eqb k word.else && e) _ _ _ h
+      (λ t g. let (b, y, j, w) = braced r ws (left ws g m) in
+      let (f, u) = and-true (eqb k word.else) e t in else-put ws b y (eqb-true k word.else f) u j (plainly T y (into y w)))
+      λ _ h. absurd (not-took h)
+    where
+      assume-or-assert : (eqb k word.assume ≡ true) ⊎ (eqb k word.assert ≡ true) → (k ≡ word.assume) ⊎ (k ≡ word.assert)
+      assume-or-assert (inl u) = inl (eqb-true k word.assume u)
+      assume-or-assert (inr u) = inr (eqb-true k word.assert u)
+
+      spelled-while : (c : Condition) (b : Block) (ws x y : List ℕ) → k ≡ word.while → ws ≡ conditionThen c x → x ≡ word.lbrace ∷ blockThen b (word.rbrace ∷ y) → k ∷ ws ≡ statementThen (while c b) y
+      spelled-while c b ws x y t h g = rw (t, h, g)
+
+sign-of : (k : ℕ) → eqb k word.equal || eqb k word.unequal ≡ true → (q : Bool) × (k ≡ signToken q)
+sign-of k h = go (or-case (eqb k word.equal) (eqb k word.unequal) h)
+  where
+    go : (eqb k word.equal ≡ true) ⊎ (eqb k word.unequal ≡ true) → (q : Bool) × (k ≡ signToken q)
+    go (inl t) = (true, eqb-true k word.equal t)
+    go (inr t) = (false, eqb-true k word.unequal t)
+
+digit-of : (k : ℕ) → eqb k word.one || eqb k word.two ≡ true → (q : Bool) × (k ≡ digitToken q)
+digit-of k h = go (or-case (eqb k word.one) (eqb k word.two) h)
+  where
+    go : (eqb k word.one ≡ true) ⊎ (eqb k word.two ≡ true) → (q : Bool) × (k ≡ digitToken q)
+    go (inl t) = (true, eqb-true k word.one t)
+    go (inr t) = (false, eqb-true k word.two t)
+
+some-true : {A : Type 0} (e : Bool) (bs : List A) → e ≡ true → Some e bs
+some-true true bs h = tt
+some-true false bs h = absurd (clash h refl)
+
+some-one : {A : Type 0} (e : Bool) (b : A) (bs : List A) → Some e (b ∷ bs)
+some-one true b bs = tt
+some-one false b bs = tt
+
+abbrev entryOf : Bool → Name → Entry
+entryOf true f = one f
+entryOf false f = two f
+
+entry-tokens : (q : Bool) (f : Name) (ws : List ℕ) → entryThen (entryOf q f) ws ≡ f .key ∷ word.slash ∷ digitToken q ∷ ws
+entry-tokens true f ws = refl
+entry-tokens false f ws = refl
+
+-- each with its token in front of what is left
+value-put : (k : ℕ) (r : Rest) (ws : List ℕ) → k ≡ word.lparen → Means (name (arguments r)) ws → Means (value r) (k ∷ ws)
+value-put k r ws t (b, x, h, (v, y, g, m)) = (applied b v, y, rw (t, h, g), m)
+
+second-put : (k : ℕ) (r : Rest) (ws : List ℕ) → k ≡ word.comma → Means (name (token word.rparen (token word.semicolon r))) ws → Means (arguments r) (k ∷ ws)
+second-put k r ws t (c, x, h, (y, g, (z, f, m))) = (second c, z, rw (t, h, g, f), m)
+
+last-put : (k : ℕ) (r : Rest) (ws : List ℕ) → k ≡ word.rparen → Means (token word.semicolon r) ws → Means (arguments r) (k ∷ ws)
+last-put k r ws t (x, h, m) = (last, x, rw (t, h), m)
+
+names-put : (e : Bool) (k : ℕ) (ws : List ℕ) → isName k ≡ true → Means (names true) ws → Means (names e) (k ∷ ws)
+names-put e k ws t (ks, x, o, h, m) = let a : Name = record { key = k; real = t } in (a ∷ ks, x, some-one e a ks, ap (λ l. k ∷ l) h, m)
+
+entries-put : (e : Bool) (k : ℕ) (ws : List ℕ) → isName k ≡ true → Means (token word.slash (digit (entries true))) ws → Means (entries e) (k ∷ ws)
+entries-put e k ws t (x, h, (q, y, g, (fs, z, o, f, m))) =
+    let a : Name = record { key = k; real = t } in (entryOf q a ∷ fs, z, some-one e (entryOf q a) fs, rw (h, g, f) (sym (entry-tokens q a (entriesThen fs (word.semicolon ∷ z)))), m)
+
+line-put : (k : ℕ) (ws : List ℕ) → k ≡ word.funs → Means (entries false) ws → Line (k ∷ ws)
+line-put k ws t ([], x, o, h, m) = absurd o
+line-put k ws t (f ∷ fs, x, o, h, m) = (f ∷ fs, x, rw (t, h), m)
+
+-- The token that was taken, in front of what is left, is what was to come.
+take-put : (r : Rest) (k : ℕ) (l : Rest) (ws : List ℕ) → take r k ≡ took l → Means l ws → Means r (k ∷ ws)
+take-put (token j r) k l ws h m = pick-case (eqb k j) _ _ _ h (λ t g. (ws, ap (λ k. k ∷ ws) (eqb-true k j t), left ws g m)) λ _ g. absurd (not-took g)
+take-put (name r) k l ws h m = pick-case (isName k) _ _ _ h (λ t g. (record { key = k; real = t }, ws, refl, left ws g m)) λ _ g. absurd (not-took g)
+take-put (sign r) k l ws h m =
+    pick-case (eqb k word.equal || eqb k word.unequal) _ _ _ h (λ t g. let (q, i) = sign-of k t in (q, ws, ap (λ k. k ∷ ws) i, left ws g m))
+    λ _ g. absurd (not-took g)
+take-put (digit r) k l ws h m =
+    pick-case (eqb k word.one || eqb k word.two) _ _ _ h (λ t g. let (q, i) = digit-of k t in (q, ws, ap (λ k. k ∷ ws) i, left ws g m))
+    λ _ g. absurd (not-took g)
+take-put (value r) k l ws h m =
+    pick-case (eqb k word.semicolon) _ _ _ h (λ t g. (register, ws, ap (λ k. k ∷ ws) (eqb-true k word.semicolon t), left ws g m))
+    λ _ h. pick-case (eqb k word.lparen) _ _ _ h (λ t g. value-put k r ws (eqb-true k word.lparen t) (left ws g m)) λ _ g. absurd (not-took g)
+take-put (arguments r) k l ws h m =
+    pick-case (eqb k word.rparen) _ _ _ h (λ t g. last-put k r ws (eqb-true k word.rparen t) (left ws g m))
+    λ _ h. pick-case (eqb k word.comma) _ _ _ h (λ t g. second-put k r ws (eqb-true k word.comma t) (left ws g m)) λ _ g. absurd (not-took g)
+take-put (names e) k l ws h m =
+    pick-case (isName k) _ _ _ h (λ t g. names-put e k ws t (left ws g m))
+    λ _ h. pick-case (eqb k word.semicolon && e) _ _ _ h
+    (λ t g. let (f, u) = and-true (eqb k word.semicolon) e t in ([], ws, some-true e [] u, ap (λ k. k ∷ ws) (eqb-true k word.semicolon f), left ws g m))
+    λ _ g. absurd (not-took g)
+take-put (entries e) k l ws h m =
+    pick-case (isName k) _ _ _ h (λ t g. entries-put e k ws t (left ws g m))
+    λ _ h. pick-case (eqb k word.semicolon && e) _ _ _ h
+    (λ t g. let (f, u) = and-true (eqb k word.semicolon) e t in ([], ws, some-true e [] u, ap (λ k. k ∷ ws) (eqb-true k word.semicolon f), left ws g m))
+    λ _ g. absurd (not-took g)
+take-put line k l ws h m =
+    pick-case (eqb k word.funs) _ _ _ h (λ t g. line-put k ws (eqb-true k word.funs t) (left ws g m))
+    λ _ g. ([], k ∷ ws, refl, begun Nothing (outside false) (outside true) (λ _ n. n) (λ _ n. n) false k l ws g m)
+take-put (inside e r) k l ws h m =
+    pick-case (eqb k word.rbrace) _ _ _ h (λ t g. (absent, empty, k ∷ ws, allowed-absent e, refl, (ws, ap (λ k. k ∷ ws) (eqb-true k word.rbrace t), left ws g m)))
+    λ _ g. begun (λ vs. (us : List ℕ) × (vs ≡ word.rbrace ∷ us) × Means r us) (inside false r) (inside true r) (λ _ n. n) (λ _ n. n) e k l ws g m
+take-put (outside e) k l ws h m = begun Nothing (outside false) (outside true) (λ _ n. n) (λ _ n. n) e k l ws h m
+
+-- ---- taking a token, forwards: what is to come begins with a token that can be taken
+
+abbrev Taken : Took → List ℕ → Type 0
+Taken t ws = (r : Rest) × (t ≡ took r) × Means r ws
+
+shift : (f : ℕ → Took) (k j : ℕ) (ws us : List ℕ) → k ∷ ws ≡ j ∷ us → Taken (f j) us → Taken (f k) ws
+shift f k j ws us h d = subst (λ j. Taken (f j) ws) (sym (head-same h)) (subst (λ us. Taken (f j) us) (sym (tail-same h)) d)
+
+compared : (c : Condition) (r : Rest) (ws : List ℕ) → Means r ws → Means (name (sign (name r))) (conditionThen c ws)
+compared (equal a b) r ws m = (a, _, refl, (true, _, refl, (b, ws, refl, m)))
+compared (unequal a b) r ws m = (a, _, refl, (false, _, refl, (b, ws, refl, m)))
+
+-- f takes the first token of a body: as begin does, or stops as T says
+module _ (T : List ℕ → Type 0) (r q : Rest) (out : (ws : List ℕ) → Body false T ws → Means r ws) (out-else : (ws : List ℕ) → Body true T ws → Means q ws) (f : ℕ → Took)
+    (stop : (k : ℕ) (ws : List ℕ) → T (k ∷ ws) → Taken (f k) ws) where
+  abbrev Agrees : Bool → Type 0
+  Agrees e = (j : ℕ) → eqb j word.rbrace ≡ false → eqb j word.funs ≡ false → f j ≡ begin e j r q
+
+  name-taken : (e : Bool) → Agrees e → (x : Name) → f (x .key) ≡ took (token word.becomes (name (value r)))
+  name-taken e agree x = agree (x .key) (not-word (x .key) word.rbrace refl (x .real)) (not-word (x .key) word.funs refl (x .real)) ∙ rw (x .real)
+
+  body-taken : (e : Bool) → Agrees e → (o : Else) (b : Block) (k : ℕ) (ws vs : List ℕ)
+      → Allowed e o → k ∷ ws ≡ elseThen o (blockThen b vs) → T vs → Taken (f k) ws
+  body-taken e agree absent empty k ws vs a h t = stop k ws (subst T (sym h) t)
+  body-taken e agree absent (skip then b) k ws vs a h t = shift f k word.skip ws _ h (token word.semicolon r, agree word.skip refl refl, (_, refl, out _ (absent, b, vs, tt, refl, t)))
+  body-taken e agree absent (copy x y then b) k ws vs a h t =
+      shift f k (x .key) ws _ h (token word.becomes (name (value r)), name-taken e agree x, (_, refl, (y, _, refl, (register, _, refl, out _ (absent, b, vs, tt, refl, t)))))
+  body-taken e agree absent (apply x g y then b) k ws vs a h t =
+      shift f k (x .key) ws _ h (token word.becomes (name (value r)), name-taken e agree x, (_, refl, (g, _, refl, (applied y last, _, refl, out _ (absent, b, vs, tt, refl, t)))))
+  body-taken e agree absent (apply-two x g y z then b) k ws vs a h t =
+      shift f k (x .key) ws _ h (token word.becomes (name (value r)), name-taken e agree x, (_, refl, (g, _, refl, (applied y (second z), _, refl, out _ (absent, b, vs, tt, refl, t)))))
+  body-taken e agree absent (assume c then b) k ws vs a h t = shift f k word.assume ws _ h (name (sign (name (token word.semicolon r))), agree word.assume refl refl, compared c (token word.semicolon r) _ (_, refl, out _ (absent, b, vs, tt, refl, t)))
+  body-taken e agree absent (assert c then b) k ws vs a h t = shift f k word.assert ws _ h (name (sign (name (token word.semicolon r))), agree word.assert refl refl, compared c (token word.semicolon r) _ (_, refl, out _ (absent, b, vs, tt, refl, t)))
+  body-taken e agree absent (if c x o then b) k ws vs a h t =
+      shift f k word.if ws _ h (name (sign (name (token word.lbrace (inside false q)))), agree word.if refl refl, compared c (token word.lbrace (inside false q)) _ (_, refl, (absent, x, _, tt, refl, (_, refl, out-else _ (o, b, vs, tt, refl, t)))))
+  body-taken e agree absent (while c x then b) k ws vs a h t =
+      shift f k word.while ws _ h (name (sign (name (token word.lbrace (inside false r)))), agree word.while refl refl, compared c (token word.lbrace (inside false r)) _ (_, refl, (absent, x, _, tt, refl, (_, refl, out _ (absent, b, vs, tt, refl, t)))))
+  body-taken true agree (present x) b k ws vs a h t =
+      shift f k word.else ws _ h (token word.lbrace (inside false r), agree word.else refl refl, (_, refl, (absent, x, _, tt, refl, (_, refl, out _ (absent, b, vs, tt, refl, t)))))
+  body-taken false agree (present x) b k ws vs a h t = absurd a
+
+outer-taken : (e : Bool) (k : ℕ) (ws : List ℕ) → Body e Nothing (k ∷ ws) → Taken (take (outside e) k) ws
+outer-taken e k ws (o, b, vs, a, h, t) =
+    body-taken Nothing (outside false) (outside true) (λ _ m. m) (λ _ m. m) (take (outside e)) (λ k ws n. absurd (not-nil n)) e (λ j x y. refl) o b k ws vs a h t
+
+inner-taken : (e : Bool) (r : Rest) (k : ℕ) (ws : List ℕ) → Means (inside e r) (k ∷ ws) → Taken (take (inside e r) k) ws
+inner-taken e r k ws (o, b, vs, a, h, t) =
+    body-taken (λ vs. (us : List ℕ) × (vs ≡ word.rbrace ∷ us) × Means r us) (inside false r) (inside true r) (λ _ m. m) (λ _ m. m) (take (inside e r))
+    (λ k ws (us, n, m). shift (take (inside e r)) k word.rbrace ws us n (r, refl, m)) e (λ j x y. rw x) o b k ws vs a h t
+
+entry-taken : (e : Bool) (f : Entry) (fs : List Entry) (vs : List ℕ) → Body false Nothing vs → (k : ℕ) (ws : List ℕ) → k ∷ ws ≡ entriesThen (f ∷ fs) (word.semicolon ∷ vs) → Taken (take (entries e) k) ws
+entry-taken e (one f) fs vs m k ws h = shift (take (entries e)) k (f .key) ws _ h (token word.slash (digit (entries true)), rw (f .real), (_, refl, (true, _, refl, (fs, vs, tt, refl, m))))
+entry-taken e (two f) fs vs m k ws h = shift (take (entries e)) k (f .key) ws _ h (token word.slash (digit (entries true)), rw (f .real), (_, refl, (false, _, refl, (fs, vs, tt, refl, m))))
+
+line-taken : (k : ℕ) (ws : List ℕ) → Line (k ∷ ws) → Taken (take line k) ws
+line-taken k ws ([], xs, g, (o, b, vs, a, h, t)) =
+    body-taken Nothing (outside false) (outside true) (λ _ m. m) (λ _ m. m) (take line) (λ k ws n. absurd (not-nil n)) false (λ j x y. rw y) o b k ws vs a (g ∙ h) t
+line-taken k ws (f ∷ fs, vs, h, m) = shift (take line) k word.funs ws _ h (entries false, refl, (f ∷ fs, vs, tt, refl, m))
+
+token-taken : (r : Rest) (k : ℕ) (ws : List ℕ) → Means r (k ∷ ws) → Taken (take r k) ws
+token-taken (token j r) k ws (vs, h, m) = shift (take (token j r)) k j ws vs h (r, rw (eq-eqb j j refl), m)
+token-taken (name r) k ws (a, vs, h, m) = shift (take (name r)) k (a .key) ws vs h (r, rw (a .real), m)
+token-taken (sign r) k ws (true, vs, h, m) = shift (take (sign r)) k word.equal ws vs h (r, refl, m)
+token-taken (sign r) k ws (false, vs, h, m) = shift (take (sign r)) k word.unequal ws vs h (r, refl, m)
+token-taken (digit r) k ws (true, vs, h, m) = shift (take (digit r)) k word.one ws vs h (r, refl, m)
+token-taken (digit r) k ws (false, vs, h, m) = shift (take (digit r)) k word.two ws vs h (r, refl, m)
+token-taken (value r) k ws (register, vs, h, m) = shift (take (value r)) k word.semicolon ws vs h (r, refl, m)
+token-taken (value r) k ws (applied b v, vs, h, m) = shift (take (value r)) k word.lparen ws _ h (name (arguments r), refl, (b, _, refl, (v, vs, refl, m)))
+token-taken (arguments r) k ws (last, vs, h, m) = shift (take (arguments r)) k word.rparen ws _ h (token word.semicolon r, refl, (vs, refl, m))
+token-taken (arguments r) k ws (second c, vs, h, m) = shift (take (arguments r)) k word.comma ws _ h (name (token word.rparen (token word.semicolon r)), refl, (c, _, refl, (_, refl, (vs, refl, m))))
+token-taken (names true) k ws ([], vs, o, h, m) = shift (take (names true)) k word.semicolon ws vs h (line, refl, m)
+token-taken (names false) k ws ([], vs, o, h, m) = absurd o
+token-taken (names e) k ws (a ∷ ks, vs, o, h, m) = shift (take (names e)) k (a .key) ws _ h (names true, rw (a .real), (ks, vs, tt, refl, m))
+token-taken (entries true) k ws ([], vs, o, h, m) = shift (take (entries true)) k word.semicolon ws vs h (outside false, refl, m)
+token-taken (entries false) k ws ([], vs, o, h, m) = absurd o
+token-taken (entries e) k ws (f ∷ fs, vs, o, h, m) = entry-taken e f fs vs m k ws h
+token-taken line k ws m = line-taken k ws m
+token-taken (inside e r) k ws m = inner-taken e r k ws m
+token-taken (outside e) k ws m = outer-taken e k ws m
+
+-- ---- the end of the text
+
+statement-some : (c : Statement) (ws : List ℕ) → [] ≡ statementThen c ws → ⊥
+statement-some skip ws h = not-nil (sym h)
+statement-some (copy a b) ws h = not-nil (sym h)
+statement-some (apply a f b) ws h = not-nil (sym h)
+statement-some (apply-two a f b c) ws h = not-nil (sym h)
+statement-some (assume c) ws h = not-nil (sym h)
+statement-some (assert c) ws h = not-nil (sym h)
+statement-some (if c b e) ws h = not-nil (sym h)
+statement-some (while c b) ws h = not-nil (sym h)
+
+inside-some : (o : Else) (b : Block) (vs us : List ℕ) → [] ≡ elseThen o (blockThen b vs) → vs ≡ word.rbrace ∷ us → ⊥
+inside-some absent empty vs us h g = not-nil (sym (h ∙ g))
+inside-some absent (c then b) vs us h g = statement-some c (blockThen b vs) h
+inside-some (present x) b vs us h g = not-nil (sym h)
+
+arguments-some : (v : Arguments) (ws : List ℕ) → [] ≡ argumentsThen v ws → ⊥
+arguments-some last ws h = not-nil (sym h)
+arguments-some (second c) ws h = not-nil (sym h)
+
+value-some : (v : Value) (ws : List ℕ) → [] ≡ valueThen v ws → ⊥
+value-some register ws h = not-nil (sym h)
+value-some (applied b v) ws h = not-nil (sym h)
+
+names-some : (ks : List Name) (ws : List ℕ) → [] ≡ namesThen ks (word.semicolon ∷ ws) → ⊥
+names-some [] ws h = not-nil (sym h)
+names-some (a ∷ ks) ws h = not-nil (sym h)
+
+entries-some : (fs : List Entry) (ws : List ℕ) → [] ≡ entriesThen fs (word.semicolon ∷ ws) → ⊥
+entries-some [] ws h = not-nil (sym h)
+entries-some (one f ∷ fs) ws h = not-nil (sym h)
+entries-some (two f ∷ fs) ws h = not-nil (sym h)
+
+ended-complete : (r : Rest) → Means r [] → complete r ≡ true
+ended-complete (token j r) (vs, h, m) = absurd (not-nil (sym h))
+ended-complete (name r) (a, vs, h, m) = absurd (not-nil (sym h))
+ended-complete (sign r) (q, vs, h, m) = absurd (not-nil (sym h))
+ended-complete (digit r) (q, vs, h, m) = absurd (not-nil (sym h))
+ended-complete (value r) (v, vs, h, m) = absurd (value-some v vs h)
+ended-complete (arguments r) (v, vs, h, m) = absurd (arguments-some v vs h)
+ended-complete (names e) (ks, vs, o, h, m) = absurd (names-some ks vs h)
+ended-complete (entries e) (fs, vs, o, h, m) = absurd (entries-some fs vs h)
+ended-complete line m = refl
+ended-complete (inside e r) (o, b, vs, a, h, (us, g, m)) = absurd (inside-some o b vs us h g)
+ended-complete (outside e) m = refl
+
+complete-ended : (r : Rest) → complete r ≡ true → Means r []
+complete-ended (token j r) h = absurd (clash h refl)
+complete-ended (name r) h = absurd (clash h refl)
+complete-ended (sign r) h = absurd (clash h refl)
+complete-ended (digit r) h = absurd (clash h refl)
+complete-ended (value r) h = absurd (clash h refl)
+complete-ended (arguments r) h = absurd (clash h refl)
+complete-ended (names e) h = absurd (clash h refl)
+complete-ended (entries e) h = absurd (clash h refl)
+complete-ended line h = ([], [], refl, (absent, empty, [], tt, refl, refl))
+complete-ended (inside e r) h = absurd (clash h refl)
+complete-ended (outside e) h = (absent, empty, [], allowed-absent e, refl, refl)
+
+-- Every rest can be completed; where a name is due, `a` will do.
+abbrev letter-a : Name
+letter-a = record { key = 97; real = refl }
+
+some-names : (e : Bool) → (ks : List Name) × Some e ks
+some-names true = ([], tt)
+some-names false = (letter-a ∷ [], tt)
+
+some-entries : (e : Bool) → (fs : List Entry) × Some e fs
+some-entries true = ([], tt)
+some-entries false = (one letter-a ∷ [], tt)
+
+finished : (r : Rest) → (ws : List ℕ) × Means r ws
+finished (token j r) = let (ws, m) = finished r in (j ∷ ws, (ws, refl, m))
+finished (name r) = let (ws, m) = finished r in (97 ∷ ws, (letter-a, ws, refl, m))
+finished (sign r) = let (ws, m) = finished r in (word.equal ∷ ws, (true, ws, refl, m))
+finished (digit r) = let (ws, m) = finished r in (word.one ∷ ws, (true, ws, refl, m))
+finished (value r) = let (ws, m) = finished r in (word.semicolon ∷ ws, (register, ws, refl, m))
+finished (arguments r) = let (ws, m) = finished r in (word.rparen ∷ word.semicolon ∷ ws, (last, ws, refl, m))
+finished (names e) = let (ks, o) = some-names e in (namesThen ks (word.semicolon ∷ []), (ks, [], o, refl, ([], [], refl, (absent, empty, [], tt, refl, refl))))
+finished (entries e) = let (fs, o) = some-entries e in (entriesThen fs (word.semicolon ∷ []), (fs, [], o, refl, (absent, empty, [], tt, refl, refl)))
+finished line = ([], ([], [], refl, (absent, empty, [], tt, refl, refl)))
+finished (inside e r) = let (ws, m) = finished r in (word.rbrace ∷ ws, (absent, empty, _, allowed-absent e, refl, (ws, refl, m)))
+finished (outside e) = ([], (absent, empty, [], allowed-absent e, refl, refl))
+
+-- ---- tokens one after the other
+
+abbrev pub onTook : Took → (Rest → Took) → Took
+onTook (took r) f = f r
+onTook stuck f = stuck
+
+unfoldable pub run : Rest → List ℕ → Took
+run r [] = took r
+run r (k ∷ ks) = onTook (take r k) λ q. run q ks
+
+pub run-more : (r : Rest) (ks : List ℕ) (k : ℕ) → run r (ks ++ k ∷ []) ≡ onTook (run r ks) λ q. take q k
+unfolding run
+run-more r [] k = one-more (take r k)
+  where
+    one-more : (t : Took) → onTook t (λ q. took q) ≡ t
+    one-more (took r) = refl
+    one-more stuck = refl
+run-more r (j ∷ ks) k = go (take r j) λ q. run-more q ks k
+  where
+    go : (t : Took) → ((q : Rest) → run q (ks ++ k ∷ []) ≡ onTook (run q ks) λ p. take p k) → onTook t (λ q. run q (ks ++ k ∷ [])) ≡ onTook (onTook t λ q. run q ks) λ p. take p k
+    go (took q) ih = ih q
+    go stuck ih = refl
+
+run-put : (ks : List ℕ) (r l : Rest) (ws : List ℕ) → run r ks ≡ took l → Means l ws → Means r (ks ++ ws)
+unfolding run
+run-put [] r l ws h m = left ws h m
+run-put (k ∷ ks) r l ws h m = go (take r k) refl h (λ q g. run-put ks q l ws g m)
+  where
+    go : (t : Took) → take r k ≡ t → onTook t (λ q. run q ks) ≡ took l → ((q : Rest) → run q ks ≡ took l → Means q (ks ++ ws)) → Means r (k ∷ (ks ++ ws))
+    go (took q) i g ih = take-put r k q (ks ++ ws) i (ih q g)
+    go stuck i g ih = absurd (not-took g)
+
+run-taken : (ks : List ℕ) (r : Rest) (ws : List ℕ) → Means r (ks ++ ws) → (l : Rest) × (run r ks ≡ took l) × Means l ws
+unfolding run
+run-taken [] r ws m = (r, refl, m)
+run-taken (k ∷ ks) r ws m = let (q, h, n) = token-taken r k (ks ++ ws) m in let (l, g, o) = run-taken ks q ws n in (l, rw h g, o)
+
+-- ---- sentences
+
+start-sentence : (ws : List ℕ) → Means start ws → Sentence ws
+start-sentence ws (x, h, ([], y, o, g, m)) = absurd o
+start-sentence ws (x, h, (a ∷ ks, y, o, g, (fs, z, f, (absent, b, us, p, i, j)))) = record { macro = record { first = a; others = ks; entries = fs; body = b }; spelled = rw (h, g, f, i, j) }
+start-sentence ws (x, h, (a ∷ ks, y, o, g, (fs, z, f, (present c, b, us, p, i, j)))) = absurd p
+
+sentence-start : (m : Macro) → Means start (sentence m)
+sentence-start m = (_, refl, (m .first ∷ m .others, _, tt, refl, (m .entries, _, refl, (absent, m .body, [], tt, refl, refl))))
+
+-- What can be taken begins a sentence, and what begins one can be taken.
+pub run-viable : (ks : List ℕ) (r : Rest) → run start ks ≡ took r → Viable ks
+run-viable ks r h = let (ws, m) = finished r in let S = start-sentence (ks ++ ws) (run-put ks start r ws h m) in record { macro = S .macro; further = ws; spelled = S .spelled }
+
+pub viable-run : (ks : List ℕ) → Viable ks → (r : Rest) × (run start ks ≡ took r)
+viable-run ks F = let (r, h, m) = run-taken ks start (F .further) (subst (Means start) (F .spelled) (sentence-start (F .macro))) in (r, h)
+
+-- It is a sentence exactly if the text may end there.
+pub run-sentence : (ks : List ℕ) (r : Rest) → run start ks ≡ took r → complete r ≡ true → Sentence ks
+run-sentence ks r h c = start-sentence ks (subst (Means start) (append-nil ks) (run-put ks start r [] h (complete-ended r c)))
+
+pub sentence-run : (ks : List ℕ) (r : Rest) → run start ks ≡ took r → Sentence ks → complete r ≡ true
+sentence-run ks r h S =
+    let (l, g, m) = run-taken ks start [] (subst (Means start) (S .spelled ∙ sym (append-nil ks)) (sentence-start (S .macro))) in
+    ap complete (took-same (sym h ∙ g)) ∙ ended-complete l m
+
+pub viable-nothing : Viable []
+unfolding run
+viable-nothing = run-viable [] start refl
+
+-- Whether tokens begin a sentence can be decided.
+pub viable-decided : (ks : List ℕ) → Viable ks ⊎ (Viable ks → ⊥)
+viable-decided ks = go (run start ks) refl
+  where
+    go : (t : Took) → run start ks ≡ t → Viable ks ⊎ (Viable ks → ⊥)
+    go (took r) h = inl (run-viable ks r h)
+    go stuck h = inr λ v. let (r, g) = viable-run ks v in not-took (sym h ∙ g)

@@ -1,0 +1,12 @@
+pub mod Concluded
+pub mod Searched
+pub mod TracingLaws
+pub mod TracedLaws
+pub mod Delivering
+pub mod Modelling
+pub mod Answering
+pub mod MacroSearch
+pub mod Judged
+pub mod MacroExecutions
+pub mod MacroExecutionsExample
+pub mod Answerable

@@ -1,0 +1,54 @@
+-- An accepted text with a loop, and whatever the reader answers for it: two turns of the loop are an execution, its body without the test is none.
+use mathlib.Core.Path.{_≡_, refl, sym, ap}
+use mathlib.Core.Logic.{_⊎_, inl, inr}
+use mathlib.Core.List.{List, [], _∷_, _++_}
+use Prim.Native.Nat.{ℕ}
+use native.Mathlib.Omega.{arith}
+use Rattle.letters.specs.declared.Letter.{Letter}
+use Rattle.letters.specs.declared.Letter.the-variants.{Apply, Equal, Unequal}
+use Rattle.macros.specs.Tree.{Condition, test, opposite, while, Block}
+use Rattle.macros.specs.Executions.{Outcome}
+use Rattle.macros.specs.Words.{Word, WordBlock, letter, fails, holds, leaves, turns, breaks, stop, both, ends}
+use Rattle.macros.specs.Walk.{Place, at, failure}
+use Rattle.grammar.proofs.Theory.Whole.{read-sound}
+use Rattle.refusals.proofs.Theory.Examples.{loop, searched, loop-read}
+use Rattle.syntax.specs.declared.Answer.{Answer}
+use Rattle.refusals.specs.Accepted.{Accepted}
+use Rattle.syntax.specs.Reads.{Reads}
+use Rattle.search.specs.MacroExecutions.{Performed, HasExecutions}
+use Rattle.search.proofs.Theory.MacroExecutions.{macros-have-executions}
+
+loop-accepted : Accepted loop searched
+loop-accepted = let (l, s, o, f) = read-sound loop searched 61 loop-read in record { short = l; spelled = s; in-order = o; few = f }
+
+-- `while x != y { x := n(x); }`: a word of it begins with its test
+opens : {c : Condition} {b : Block} {u : List Letter} {o : Outcome} → Word (while c b) u o → (v : List Letter) × ((u ≡ test c ∷ v) ⊎ (u ≡ opposite c ∷ v))
+opens (leaves e) = ([], inr e)
+opens (turns {u} {v} x y e) = (u ++ v, inl e)
+opens (breaks {v} x e) = (v, inl e)
+
+module _ (answer : Answer) (read : Reads loop answer) where
+  executions : HasExecutions (answer .program) (searched .body)
+  executions = macros-have-executions loop answer read .executes searched loop-accepted
+
+  two-turns : Performed (answer .program) (Unequal 0 1 ∷ Apply 0 0 0 0 ∷ Unequal 0 1 ∷ Apply 0 0 0 0 ∷ Equal 0 1 ∷ Equal 0 1 ∷ []) (at (answer .program .count))
+  unfolding searched
+  two-turns = executions .complete _ .1
+      (both (turns (both letter stop refl) (turns (both letter stop refl) (leaves refl) refl) refl) (both (holds refl) stop refl) refl)
+
+  -- the assertion fails where the loop is left at once
+  fails-at-once : Performed (answer .program) (Equal 0 1 ∷ Unequal 0 1 ∷ []) failure
+  unfolding searched
+  fails-at-once = executions .failing _ .1 (both (leaves refl) (ends (fails refl)) refl)
+
+  not-the-body : (l : Place ℕ) → ¬ Performed (answer .program) (Apply 0 0 0 0 ∷ []) l
+  unfolding searched
+  not-the-body l p = let (v, o, w) = executions .partial (Apply 0 0 0 0 ∷ []) .0 (l, p) in none w
+    where
+      begins : {v u : List Letter} → ¬ ((u ≡ Apply 0 0 0 0 ∷ v) × (w : List Letter) × ((u ≡ Unequal 0 1 ∷ w) ⊎ (u ≡ Equal 0 1 ∷ w)))
+      begins (e, w, inl f) = let z : _≡_ {A = ℕ} 0 1 = cc in omega arith
+      begins (e, w, inr f) = let z : _≡_ {A = ℕ} 0 1 = cc in omega arith
+
+      none : {v : List Letter} {o : Outcome} → ¬ WordBlock (searched .body) (Apply 0 0 0 0 ∷ v) o
+      none (both {v = v} x y e) = let (w, z) = opens x in begins (sym e, w ++ v, elim z [ inl f ↦ inl (ap (λ k. k ++ v) f) | inr f ↦ inr (ap (λ k. k ++ v) f) ])
+      none (ends x) = let (w, z) = opens x in begins (refl, w, z)

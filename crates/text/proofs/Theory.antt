@@ -1,0 +1,4 @@
+pub mod Appending
+pub mod Numerals
+pub mod Names
+pub mod Templates

@@ -1,0 +1,4 @@
+pub mod BytesLaws
+pub mod TokensLaws
+pub mod WordsLaws
+pub mod Keys

@@ -1,0 +1,9 @@
+pub mod Short
+pub mod PrintsLaws
+pub mod Answers
+pub mod Saying
+pub mod ReadBack
+pub mod ReportedLaws
+pub mod Examples
+pub mod Declared
+pub mod Answered

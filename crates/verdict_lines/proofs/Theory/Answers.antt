@@ -1,0 +1,164 @@
+-- The answer of the search at 341 pairs: it fits 4,096 bytes, and so it is never refused by 6.
+use mathlib.Core.Path.{_≡_, refl, sym, ap, _∙_, subst}
+use mathlib.Core.Logic.{_≢_, inl, inr}
+use mathlib.Core.List.{List, _∷_, _++_, map, reverse}
+use Prim.Native.Nat.{ℕ, _+_, _≤_}
+use native.Mathlib.Omega.{arith}
+use lib.ListN.{length, drop, length-append, length-map, length-reverse}
+use Rattle.letters.specs.declared.Letter.{Letter}
+use Rattle.letters.specs.Editions.{firstEdition}
+use Rattle.letters.specs.Words.{headerWord, letterWord}
+use Rattle.letters.proofs.Theory.WordLaws.{first-roomy}
+use Rattle.traces.specs.Traces.{AllFit, packing}
+use Rattle.traces.proofs.Theory.TraceLaws.{bytes-length}
+use Rattle.semantics.specs.Terms.{Trace, begin, extend, State, state, WellFormed}
+use Rattle.semantics.proofs.Theory.Facts.{state-valid}
+use Rattle.semantics.specs.Models.{Feasible}
+use Rattle.semantics.proofs.Theory.TraceLaws.{extend-size, extend-header, terms-length}
+use Rattle.semantics.specs.Tables.{shownTables}
+use Rattle.semantics.specs.Shown.{tablesOf, number}
+use Rattle.semantics.proofs.Theory.ShownPacked.{rows-length, starts-length, applications-fit, shown-packable}
+use Rattle.semantics.specs.PackedTables.{firstRowWidths, Packable}
+use Rattle.semantics.proofs.Theory.PackedTablesLaws.{packed-length}
+use Rattle.macros.proofs.Theory.Numbers.{less-or}
+use Rattle.macros.proofs.Theory.Fitting.{Formed, partial-formed, run-formed}
+use Rattle.macros.specs.Walk.{failure}
+use Rattle.macros.proofs.Theory.Runs.{failing-is}
+use Rattle.macros.specs.Order.{Before}
+use Rattle.macros.proofs.Theory.Order.{before-not}
+use Rattle.macros.specs.Points.{sizeBlock}
+use Rattle.grammar.specs.Grammar.{Macro, headerOf}
+use Rattle.grammar.specs.Spelled.{InOrder}
+use Rattle.exploration.proofs.Theory.Given.{setting}
+use Rattle.search.proofs.Theory.TracedLaws.{formed-fit}
+use Rattle.verdicts.specs.Verdict.{Answer, refused, full, unfit, IsPass, Kind, breaking, failing, showing, packed, Delivered, OfKind, Leaves, SamePair, EventAt, PairCount, PairsPass, Shows, Verdict}
+use Rattle.verdicts.proofs.Theory.Counting.{more-is}
+use Rattle.verdicts.specs.Capacity.{mostPairs}
+use Rattle.report.specs.Shown.{modelStart}
+use Rattle.verdict_lines.proofs.Theory.Short.{few-letters}
+use Rattle.verdict_lines.specs.Prints.{tablePairs}
+
+-- ── answers that show an event ──
+pub showing-same : (i j : Kind) (k l k′ l′ : ℕ) → showing i k l ≡ showing j k′ l′ → (i ≡ j) × (k ≡ k′) × (l ≡ l′)
+showing-same breaking breaking k l k′ l′ e = (refl, cc, cc)
+showing-same breaking failing k l k′ l′ e = absurd (let z : _≡_ {A = ℕ} 0 1 = cc in omega arith)
+showing-same failing breaking k l k′ l′ e = absurd (let z : _≡_ {A = ℕ} 0 1 = cc in omega arith)
+showing-same failing failing k l k′ l′ e = (refl, cc, cc)
+
+pub showing-refused : (i : Kind) (k l n p : ℕ) → showing i k l ≢ refused n p
+showing-refused breaking k l n p e = let z : _≡_ {A = ℕ} 0 1 = cc in omega arith
+showing-refused failing k l n p e = let z : _≡_ {A = ℕ} 0 1 = cc in omega arith
+
+pub showing-not-full : (i : Kind) (k l : ℕ) → showing i k l ≢ full
+showing-not-full i k l = showing-refused i k l 14 0
+
+pub showing-not-pass : (i : Kind) (k l : ℕ) → ¬ IsPass (showing i k l)
+showing-not-pass breaking k l p = p
+showing-not-pass failing k l p = p
+
+module _ (m : Macro) (o : InOrder m) where
+  abbrev start : Trace
+  start = begin (headerOf m)
+
+  -- ── an execution that is shown ──
+  shown-formed : (kind : Kind) (ρ : Trace) → OfKind (begin (headerOf m)) (m .body) kind ρ → Formed (headerOf m) ρ
+  shown-formed breaking ρ x = partial-formed (headerOf m) start (m .body) ρ (tt, refl) (o .uses) (x .0)
+  shown-formed failing ρ x = let (p, e) = failing-is start (m .body) ρ .0 (x .0) in run-formed (headerOf m) start (m .body) (tt, refl) (o .uses) p failure ρ e
+
+  module _ (kind : Kind) (ls : List Letter) (x : OfKind (begin (headerOf m)) (m .body) kind (extend (begin (headerOf m)) ls)) where
+    abbrev σ : State
+    σ = state (extend start ls)
+
+    formed : WellFormed (extend start ls)
+    formed = shown-formed kind (extend start ls) x .0
+
+    pub letters-fit : AllFit (headerOf m) ls
+    letters-fit = formed-fit start ls formed
+
+    -- at most one computed term for each register and each letter
+    terms-few : length (σ .terms) ≤ 8 + length ls
+    terms-few = omega (arith, terms-length (extend start ls), ap (λ h. h .registers) (extend-header start ls), extend-size start ls, o .few)
+
+    pub rows-few : length (tablesOf (state (extend (begin (headerOf m)) ls)) .rows) ≤ 8 + length ls
+    unfolding tablesOf shownTables
+    rows-few = omega (arith, rows-length (reverse (σ .terms)) (σ .equals), length-reverse (σ .terms), terms-few)
+
+    starts-few : length (tablesOf σ .starts) ≤ 8
+    unfolding tablesOf shownTables
+    starts-few = omega (arith, starts-length (number σ) 0 (σ .header .registers), ap (λ h. h .registers) (extend-header start ls), o .few)
+
+    -- the model of an execution of no more letters than a table has pairs fits the packed form
+    pub packable : length ls ≤ mostPairs → Packable firstRowWidths (headerOf m) (tablesOf (state (extend (begin (headerOf m)) ls)))
+    packable few = subst (λ h. Packable firstRowWidths h (tablesOf σ)) (extend-header start ls)
+        (shown-packable firstRowWidths σ (state-valid (extend start ls) formed) (applications-fit (extend start ls) formed) refl
+        (omega (arith, ap (λ h. h .functions) (extend-header start ls), o .fewer)) (omega (arith, terms-few, few)) (omega arith))
+
+    pub trace-size : length (packing firstEdition (headerOf m) ls) ≡ modelStart (length ls)
+    unfolding packing
+    trace-size =
+        let h = headerOf m in
+        let word = letterWord firstEdition h in
+        omega (arith, bytes-length firstEdition first-roomy (headerWord firstEdition h ∷ map word ls), length-map ls word)
+
+    packed-few : length ls ≤ tablePairs → (k : Kind) → length (packed firstEdition firstRowWidths (begin (headerOf m)) k ls) ≤ 4096
+    unfolding packed
+    packed-few few breaking = omega (arith, trace-size, few)
+    packed-few few failing = simp length-append (omega (arith, trace-size, few, packed-length firstRowWidths (headerOf m) (tablesOf σ), rows-few, starts-few))
+
+  -- ── the answer ──
+  -- a count that does not pass n is at most n
+  pub count-few {ℓ} : {Possible : State → Type ℓ} (n k : ℕ) → PairCount Possible (begin (headerOf m)) (m .body) k → ¬ PairsPass Possible (begin (headerOf m)) (m .body) n → k ≤ n
+  count-few {Possible} n k c p = elim (less-or n k) [
+    | inl l ↦ absurd (p (more-is Before (Leaves start (m .body)) (SamePair start (m .body)) (EventAt Possible start (m .body)) before-not k n c .1 l))
+    | inr l ↦ l
+  ]
+
+  -- An answer for a table of n pairs that is neither full nor pass.
+  module _ (points : sizeBlock (m .body) ≤ 256) (n : ℕ) (output : List ℕ) (answer : Answer) (output′ : List ℕ) (v : Verdict Feasible (begin (headerOf m)) (m .body) firstEdition firstRowWidths n output answer output′) (u : answer ≢ full) (w : ¬ IsPass answer) where
+    -- the event that the search finds: no more letters than pairs, and no more pairs than the table holds
+    found : (kind : Kind) × (k : ℕ) × (ls : List Letter) × OfKind (begin (headerOf m)) (m .body) kind (extend (begin (headerOf m)) ls) × (length ls ≤ k) × (k ≤ n)
+        × Delivered (packed firstEdition firstRowWidths (begin (headerOf m)) kind ls) (showing kind k (length ls)) output answer output′
+    found =
+        let (kind, k, ls, s, d) = v .otherwise u w in
+        let short = few-letters (setting (record { macro = m; in-order = o; few = points })) kind k ls s in
+        (kind, k, ls, s .of-kind, short, count-few n k (s .count) (λ p. u (v .full-exactly .1 p)), d)
+
+    -- So has every answer that shows an event.
+    pub answer-short : (kind : Kind) (k l : ℕ) → answer ≡ showing kind k l → (l ≤ k) × (k ≤ n)
+    answer-short kind k l e =
+        let (j, i, ls, x, a, b, d) = found in
+        elim d [
+          | inl (f, g, h) ↦ let (h, p, q) = showing-same kind j k l i (length ls) (sym e ∙ g) in (omega arith, omega arith)
+          | inr (f, g, h) ↦ absurd (showing-refused kind k l 6 0 (sym e ∙ g))
+        ]
+
+    -- With 341 pairs an output of 4,096 bytes is large enough: 6 is not answered.
+    pub never-unfit : n ≤ tablePairs → length output ≡ 4096 → answer ≢ unfit
+    never-unfit few room e =
+        let (j, i, ls, x, a, b, d) = found in
+        elim d [
+          | inl (f, g, h) ↦ showing-refused j i (length ls) 6 0 (sym g ∙ e)
+          | inr (f, g, h) ↦ let z = packed-few j ls x (omega arith) j in omega arith
+        ]
+
+  -- An event that is shown with its pairs, at most 341, and no more letters than pairs; the output holds it in front.
+  pub record Shown (output : List ℕ) (answer : Answer) (output′ : List ℕ) : Type 0 where
+    pub kind : Kind
+    pub pairs : ℕ
+    pub letters : List Letter
+    pub shows : Shows Feasible (begin (headerOf m)) (m .body) kind pairs letters
+    pub pairs-few : pairs ≤ tablePairs
+    pub letters-few : length letters ≤ tablePairs
+    pub told : answer ≡ showing kind pairs (length letters)
+    pub bytes : output′ ≡ packed firstEdition firstRowWidths (begin (headerOf m)) kind letters ++ drop (length (packed firstEdition firstRowWidths (begin (headerOf m)) kind letters)) output
+
+  pub event-shown : sizeBlock (m .body) ≤ 256 → (output : List ℕ) → length output ≡ 4096 → (answer : Answer) (output′ : List ℕ) → Verdict Feasible (begin (headerOf m)) (m .body) firstEdition firstRowWidths tablePairs output answer output′
+      → answer ≢ full → ¬ IsPass answer → Shown output answer output′
+  event-shown points output room answer output′ v u w =
+      let (kind, k, ls, s, d) = v .otherwise u w in
+      elim d [
+        | inl (f, e, b) ↦
+            let (p, q) = answer-short points tablePairs output answer output′ v u w kind k (length ls) e in
+            record { kind = kind; pairs = k; letters = ls; shows = s; pairs-few = q; letters-few = omega arith; told = e; bytes = b }
+        | inr (f, e, b) ↦ absurd (never-unfit points tablePairs output answer output′ v u w (omega arith) room e)
+      ]

@@ -1,0 +1,113 @@
+-- The lines for a text, and what a lent buffer then holds, are settled: there is one way at most to meet the definition. A buffer of 32,768
+-- bytes holds all lines.
+use mathlib.Core.Path.{_≡_, refl, sym, ap, _∙_, subst}
+use mathlib.Core.List.{List, _++_}
+use Prim.Native.Nat.{ℕ, _≤_}
+use native.Mathlib.Omega.{arith}
+use lib.Dec.{leb}
+use lib.ListN.{length, take, drop, length-append}
+use lib.Seq.{length-take-le}
+use borrow.Author.Tests.{le-leb}
+use Rattle.base.specs.Choice.{pick, byTest}
+use Rattle.letters.specs.declared.Letter.{Letter}
+use Rattle.semantics.specs.Terms.{Trace, begin, _▸_, extend, state}
+use Rattle.semantics.specs.Models.{Feasible}
+use Rattle.semantics.specs.Coherence.{Coherent}
+use Rattle.semantics.specs.Shown.{tablesOf}
+use Rattle.macros.specs.Executions.{Partial, Failing}
+use Rattle.macros.specs.Order.{Before}
+use Rattle.macros.proofs.Theory.Order.{before-not}
+use Rattle.grammar.specs.Grammar.{Macro, headerOf}
+use Rattle.refusals.proofs.Theory.Accepted.{Acceptance, accepted, Becomes, an-acceptance}
+use Rattle.refusals.proofs.Theory.Accepted as acceptance
+use Rattle.verdicts.proofs.Theory.Counting.{one-count, more-is}
+use Rattle.verdicts.proofs.Theory.Since.{since-once}
+use Rattle.verdicts.specs.Verdict.{Kind, breaking, failing, Breaks, Event, breaks, fails, EventAt, Leaves, SamePair, PairCount, PairsPass, Shows}
+use Rattle.verdicts.proofs.Theory.Unique.{one-event}
+use Rattle.report.specs.Lines.{Printed, pass, incoherent, fail, refused, report}
+use Rattle.verdict_lines.specs.Prints.{declaredNames, tablePairs, mostBytes, Told, Says, Prints}
+
+breaks-not : (ρ : Trace) → Breaks ρ → ¬ Coherent ρ
+breaks-not (begin h) x c = x
+breaks-not (ρ ▸ a) x c = x .1 c
+
+module _ (m : Macro) where
+  abbrev start : Trace
+  start = begin (headerOf m)
+
+  counted-once : (k l : ℕ) → PairCount Feasible start (m .body) k → PairCount Feasible start (m .body) l → k ≡ l
+  counted-once = one-count Before (Leaves start (m .body)) (SamePair start (m .body)) (EventAt Feasible start (m .body)) before-not
+
+  -- the count does not pass N where it is known to be at most N
+  not-full : (k : ℕ) → PairCount Feasible start (m .body) k → k ≤ tablePairs → ¬ PairsPass Feasible start (m .body) tablePairs
+  not-full k c l p = let z = more-is Before (Leaves start (m .body)) (SamePair start (m .body)) (EventAt Feasible start (m .body)) before-not k tablePairs c .0 p in omega arith
+
+  -- a macro with an event does not pass
+  not-pass : (ρ : Trace) → Event Feasible start (m .body) ρ → ((ρ : Trace) → Partial start (m .body) ρ → Coherent ρ) → ((ρ : Trace) → Failing start (m .body) ρ → ¬ Feasible (state ρ)) → ⊥
+  not-pass ρ (breaks x b) c s = breaks-not ρ b (c ρ x)
+  not-pass ρ (fails x f) c s = s ρ x f
+
+  one-execution : (i j : Kind) (k l : ℕ) (ks ls : List Letter) → Shows Feasible start (m .body) i k ks → Shows Feasible start (m .body) j l ls → ks ≡ ls
+  one-execution i j k l ks ls x y = since-once start ks ls (one-event Feasible start (m .body) (extend start ks) (extend start ls) (x .first-event) (y .first-event))
+
+  not-both : (k l : ℕ) (ks ls : List Letter) → Shows Feasible start (m .body) breaking k ks → Shows Feasible start (m .body) failing l ls → ⊥
+  not-both k l ks ls x y =
+      breaks-not (extend start ls) (subst (λ w. Breaks (extend start w)) (one-execution breaking failing k l ks ls x y) (x .of-kind .1)) (y .of-kind .1)
+
+  pub one-told : (s t : Printed) → Told m s → Told m t → s ≡ t
+  unfolding Told
+  one-told (pass k) (pass l) x y = ap pass (counted-once k l (x .0) (y .0))
+  one-told (pass k) (incoherent l ls) (c, x, q, r) (d, y) = absurd (not-pass (extend start ls) (d .first-event .event) q r)
+  one-told (pass k) (fail l ls t) (c, x, q, r) (d, y, u) = absurd (not-pass (extend start ls) (d .first-event .event) q r)
+  one-told (pass k) (refused n p) (c, x, q, r) (d, e, y) = absurd (not-full k c x y)
+  one-told (incoherent k ks) (pass l) (c, x) (d, y, q, r) = absurd (not-pass (extend start ks) (c .first-event .event) q r)
+  one-told (incoherent k ks) (incoherent l ls) (c, x) (d, y) = λ i. incoherent (counted-once k l (c .count) (d .count) i) (one-execution breaking breaking k l ks ls c d i)
+  one-told (incoherent k ks) (fail l ls t) (c, x) (d, y, u) = absurd (not-both k l ks ls c d)
+  one-told (incoherent k ks) (refused n p) (c, x) (d, e, y) = absurd (not-full k (c .count) x y)
+  one-told (fail k ks s) (pass l) (c, x, u) (d, y, q, r) = absurd (not-pass (extend start ks) (c .first-event .event) q r)
+  one-told (fail k ks s) (incoherent l ls) (c, x, u) (d, y) = absurd (not-both l k ls ks d c)
+  one-told (fail k ks s) (fail l ls t) (c, x, u) (d, y, v) =
+      let w = one-execution failing failing k l ks ls c d in
+      λ i. fail (counted-once k l (c .count) (d .count) i) (w i) ((u ∙ ap (λ w. tablesOf (state (extend start w))) w ∙ sym v) i)
+  one-told (fail k ks s) (refused n p) (c, x, u) (d, e, y) = absurd (not-full k (c .count) x y)
+  one-told (refused n p) (pass k) (d, e, y) (c, x, q, r) = absurd (not-full k c x y)
+  one-told (refused n p) (incoherent k ks) (d, e, y) (c, x) = absurd (not-full k (c .count) x y)
+  one-told (refused n p) (fail k ks s) (d, e, y) (c, x, u) = absurd (not-full k (c .count) x y)
+  one-told (refused n p) (refused n′ p′) (d, e, y) (d′, e′, y′) = λ i. refused ((d ∙ sym d′) i) ((e ∙ sym e′) i)
+
+pub one-said : (text a b : List ℕ) → Says text a → Says text b → a ≡ b
+one-said text a b x y = let (o, k) = an-acceptance text in go o k
+  where
+    go : (o : Acceptance) → Becomes text o → a ≡ b
+    go (acceptance.refused n p) r = x .unread n p r ∙ sym (y .unread n p r)
+    go (accepted m) r =
+        let (s, t, u) = x .verdict m r in
+        let (s′, t′, u′) = y .verdict m r in
+        u ∙ ap (report (declaredNames m) (headerOf m)) (one-told m s s′ t t′) ∙ sym u′
+
+module _ {text entry exit : List ℕ} {size : ℕ} (x : Prints text entry size exit) where
+  -- So many bytes are there.
+  pub prints-within : size ≤ length exit
+  prints-within = byTest (leb (length (x .lines)) (length entry))
+      (λ t.
+      let g : size ≡ length (x .lines) = x .given ∙ rw t refl in
+      let e : exit ≡ x .lines ++ drop (length (x .lines)) entry = x .bytes ∙ rw t refl in
+      omega (arith, ap length e, length-append (x .lines) (drop (length (x .lines)) entry)))
+      (λ t. let g : size ≡ 0 = x .given ∙ rw t refl in omega arith)
+
+  pub prints-length : size ≡ length (take size exit)
+  prints-length = sym (length-take-le size exit prints-within)
+
+  -- All lines are there.
+  pub prints-all : mostBytes ≤ length entry → (size ≡ length (x .lines)) × (exit ≡ x .lines ++ drop size entry)
+  prints-all l =
+      let t = le-leb (length (x .lines)) (length entry) (omega (arith, x .few)) in
+      let g : size ≡ length (x .lines) = x .given ∙ rw t refl in
+      (g, x .bytes ∙ rw t refl ∙ ap (λ n. x .lines ++ drop n entry) (sym g))
+
+pub one-way : (text entry : List ℕ) (n k : ℕ) (a b : List ℕ) → Prints text entry n a → Prints text entry k b → (n ≡ k) × (a ≡ b)
+one-way text entry n k a b x y =
+    let e = one-said text (x .lines) (y .lines) (x .says) (y .says) in (
+      x .given ∙ ap (λ (l : List ℕ). pick (leb (length l) (length entry)) (λ _. length l) λ _. 0) e ∙ sym (y .given),
+      x .bytes ∙ ap (λ (l : List ℕ). pick (leb (length l) (length entry)) (λ _. l ++ drop (length l) entry) λ _. entry) e ∙ sym (y .bytes),
+    )

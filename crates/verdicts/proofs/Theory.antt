@@ -1,0 +1,16 @@
+pub mod Counting
+pub mod System
+pub mod Listing
+pub mod Pairs
+pub mod Since
+pub mod Answers
+pub mod Unique
+pub mod Total
+pub mod Trail
+pub mod CapacityLaws
+pub mod Settled
+pub mod Shortest
+pub mod Readings
+pub mod CountedPairs
+pub mod FailingExample
+pub mod Examples
