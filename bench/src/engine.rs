@@ -3,12 +3,12 @@
 use std::hint::black_box;
 use std::time::Duration;
 
-use oracle::fast_closure::fast_show_model;
-use oracle::letter::Header;
-use oracle::library::{self, MODEL_ANSWER};
-use oracle::model::Shown;
-use oracle::refusal::Refusal;
-use oracle::trace::Trace;
+use fadzgime_tests::fast::closure::fast_show_model;
+use fadzgime_tests::oracle::letter::Header;
+use fadzgime_tests::oracle::model::Shown;
+use fadzgime_tests::oracle::refusal::Refusal;
+use fadzgime_tests::oracle::trace::Trace;
+use fadzgime_tests::proved::library::{self, MODEL_ANSWER};
 
 use crate::engine_traces::{euclid, leaves, levels, merges, parted, two_chains, typical};
 use crate::instructions::Call;

@@ -1,9 +1,9 @@
 //! Traces for the whole-trace engine.
 
-use oracle::letter::{Header, Letter};
-use oracle::random::Random;
-use oracle::random_trace::random_letter;
-use oracle::trace::Trace;
+use fadzgime_tests::generators::random::Random;
+use fadzgime_tests::generators::traces::random_letter;
+use fadzgime_tests::oracle::letter::{Header, Letter};
+use fadzgime_tests::oracle::trace::Trace;
 
 /// Random letters, coherent or not, mostly applications.
 pub fn typical(length: usize) -> Trace {

@@ -1,10 +1,10 @@
 //! Traces in which every letter changes the window.
 
-use oracle::fast_monitor::FastMonitor;
-use oracle::letter::{Header, Letter};
-use oracle::random::Random;
-use oracle::random_trace::random_letter;
-use oracle::trace::Trace;
+use fadzgime_tests::fast::monitor::FastMonitor;
+use fadzgime_tests::generators::random::Random;
+use fadzgime_tests::generators::traces::random_letter;
+use fadzgime_tests::oracle::letter::{Header, Letter};
+use fadzgime_tests::oracle::trace::Trace;
 
 /// Letters of a kind that are tried before another kind is.
 const TRIES: usize = 64;

@@ -3,12 +3,12 @@
 use std::hint::black_box;
 use std::time::Duration;
 
-use oracle::fast_monitor::fast_monitor;
-use oracle::letter::Header;
-use oracle::library::{self, MONITOR_ANSWER};
-use oracle::monitor::Judgement;
-use oracle::refusal::Refusal;
-use oracle::trace::Trace;
+use fadzgime_tests::fast::monitor::fast_monitor;
+use fadzgime_tests::oracle::letter::Header;
+use fadzgime_tests::oracle::monitor::Judgement;
+use fadzgime_tests::oracle::refusal::Refusal;
+use fadzgime_tests::oracle::trace::Trace;
+use fadzgime_tests::proved::library::{self, MONITOR_ANSWER};
 
 use crate::instructions::Call;
 use crate::lively::{liveliness, lively};

@@ -5,9 +5,9 @@ use std::io::Write as _;
 use std::process::{Command, Stdio};
 use std::time::Duration;
 
-use oracle::closure::Term;
-use oracle::state::State;
-use oracle::trace::Trace;
+use fadzgime_tests::oracle::closure::Term;
+use fadzgime_tests::oracle::state::State;
+use fadzgime_tests::oracle::trace::Trace;
 
 use crate::measure::once;
 

@@ -1,10 +1,10 @@
 //! Traces to measure on.
 
-use oracle::fast_monitor::FastMonitor;
-use oracle::letter::{Header, Letter};
-use oracle::random::Random;
-use oracle::random_trace::random_letter;
-use oracle::trace::Trace;
+use fadzgime_tests::fast::monitor::FastMonitor;
+use fadzgime_tests::generators::random::Random;
+use fadzgime_tests::generators::traces::random_letter;
+use fadzgime_tests::oracle::letter::{Header, Letter};
+use fadzgime_tests::oracle::trace::Trace;
 
 /// A coherent and feasible trace of random letters with these weights of copies,
 /// applications, equal and unequal tests. Equal tests leave at least three classes,

@@ -5,11 +5,11 @@ use std::hint::black_box;
 use std::path::Path;
 use std::time::Duration;
 
-use oracle::fast_search::fast_search;
-use oracle::library::{self, VERDICT_ANSWER};
-use oracle::reader::read_macro;
-use oracle::refusal::Refusal;
-use oracle::verdict::{Event, Verdict, room_for_pairs};
+use fadzgime_tests::fast::search::fast_search;
+use fadzgime_tests::oracle::reader::read_macro;
+use fadzgime_tests::oracle::refusal::Refusal;
+use fadzgime_tests::oracle::verdict::{Event, Verdict, room_for_pairs};
+use fadzgime_tests::proved::library::{self, VERDICT_ANSWER};
 
 use crate::instructions::Call;
 use crate::measure::{Both, Sides, best_times};

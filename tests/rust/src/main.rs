@@ -4,7 +4,7 @@
 use std::io::{Read, Write};
 use std::process::ExitCode;
 
-use oracle::report::{print_model, print_monitor, print_read, print_verdict};
+use fadzgime_tests::oracle::report::{print_model, print_monitor, print_read, print_verdict};
 
 const USAGE: &str = "usage: oracle monitor|model|read|verdict < input";
 

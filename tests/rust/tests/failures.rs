@@ -9,7 +9,7 @@ use std::path::Path;
 use std::process::{Command, Output, Stdio};
 use std::time::Duration;
 
-use oracle::programs::program;
+use fadzgime_tests::proved::programs::program;
 
 /// Each program, and the first bytes of an input, which are an input by themselves that is judged well.
 const BEGINNINGS: [(&str, &[u8]); 3] = [

@@ -7,19 +7,19 @@ use std::path::Path;
 use std::process::{Command, Stdio};
 
 #[cfg(feature = "verdict")]
-use oracle::damage::damaged_text;
+use fadzgime_tests::examples::example_macros;
+use fadzgime_tests::fast::monitor::fast_monitor;
 #[cfg(feature = "verdict")]
-use oracle::examples::example_macros;
-use oracle::fast_monitor::fast_monitor;
-use oracle::programs::program;
-use oracle::random::Random;
+use fadzgime_tests::generators::damaged_macros::damaged_text;
 #[cfg(feature = "verdict")]
-use oracle::random_macro::{macro_text, random_macro};
-use oracle::random_trace::{any_trace, damage_trace, random_header, random_letter};
+use fadzgime_tests::generators::macros::{macro_text, random_macro};
+use fadzgime_tests::generators::random::Random;
+use fadzgime_tests::generators::traces::{any_trace, damage_trace, random_header, random_letter};
 #[cfg(feature = "verdict")]
-use oracle::report::print_verdict;
-use oracle::report::{judgement_lines, print_model, print_monitor};
-use oracle::trace::Trace;
+use fadzgime_tests::oracle::report::print_verdict;
+use fadzgime_tests::oracle::report::{judgement_lines, print_model, print_monitor};
+use fadzgime_tests::oracle::trace::Trace;
+use fadzgime_tests::proved::programs::program;
 
 /// What a program prints for an input; nothing goes to standard error.
 fn printed(path: &Path, input: &[u8]) -> String {

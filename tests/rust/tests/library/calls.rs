@@ -1,14 +1,14 @@
 //! The monitor a letter a call, and the run over a trace in parts.
 
-use oracle::letter::{Header, Letter};
-use oracle::library::{
+use fadzgime_tests::generators::random::{Random, cases};
+use fadzgime_tests::generators::traces::{any_trace, damage_trace, random_header, random_letter};
+use fadzgime_tests::oracle::letter::{Header, Letter};
+use fadzgime_tests::oracle::monitor::is_coherent;
+use fadzgime_tests::oracle::state::State;
+use fadzgime_tests::oracle::trace::Trace;
+use fadzgime_tests::proved::library::{
     self, MONITOR_ANSWER, MONITOR_STATE, NO_STATE, PUSH_ANSWER, STEP_ANSWER, STREAM_STATE,
 };
-use oracle::monitor::is_coherent;
-use oracle::random::{Random, cases};
-use oracle::random_trace::{any_trace, damage_trace, random_header, random_letter};
-use oracle::state::State;
-use oracle::trace::Trace;
 
 use crate::lent::Lent;
 

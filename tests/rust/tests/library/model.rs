@@ -1,9 +1,9 @@
 //! `fadzgime_model`.
 
-use oracle::library::{self, MODEL_ANSWER};
-use oracle::model::{Shown, show_model};
-use oracle::random::{Random, cases};
-use oracle::random_trace::{Profile, any_trace, damage_trace, random_header, random_trace};
+use fadzgime_tests::generators::random::{Random, cases};
+use fadzgime_tests::generators::traces::{Profile, any_trace, damage_trace, random_header, random_trace};
+use fadzgime_tests::oracle::model::{Shown, show_model};
+use fadzgime_tests::proved::library::{self, MODEL_ANSWER};
 
 use crate::lent::Lent;
 

@@ -1,14 +1,14 @@
 //! `fadzgime_monitor`.
 
-use oracle::fast_monitor::{FastMonitor, fast_monitor};
-use oracle::letter::{Header, Letter};
-use oracle::library::{self, MONITOR_ANSWER};
-use oracle::monitor::{Judgement, monitor};
-use oracle::random::{Random, cases};
-use oracle::random_trace::{any_trace, damage_trace, random_header, random_letter};
-use oracle::refusal::Refusal;
-use oracle::trace::Trace;
-use oracle::windows::{all_letters, first_traces};
+use fadzgime_tests::fast::monitor::{FastMonitor, fast_monitor};
+use fadzgime_tests::generators::random::{Random, cases};
+use fadzgime_tests::generators::traces::{any_trace, damage_trace, random_header, random_letter};
+use fadzgime_tests::generators::windows::{all_letters, first_traces};
+use fadzgime_tests::oracle::letter::{Header, Letter};
+use fadzgime_tests::oracle::monitor::{Judgement, monitor};
+use fadzgime_tests::oracle::refusal::Refusal;
+use fadzgime_tests::oracle::trace::Trace;
+use fadzgime_tests::proved::library::{self, MONITOR_ANSWER};
 
 use crate::lent::Lent;
 

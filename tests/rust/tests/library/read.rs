@@ -1,10 +1,10 @@
 //! `fadzgime_read`.
 
-use oracle::damage::damaged_text;
-use oracle::library::{self, READ_ANSWER};
-use oracle::random::{Random, cases};
-use oracle::random_macro::{macro_text, random_macro};
-use oracle::reader::read_macro;
+use fadzgime_tests::generators::damaged_macros::damaged_text;
+use fadzgime_tests::generators::macros::{macro_text, random_macro};
+use fadzgime_tests::generators::random::{Random, cases};
+use fadzgime_tests::oracle::reader::read_macro;
+use fadzgime_tests::proved::library::{self, READ_ANSWER};
 
 use crate::lent::Lent;
 

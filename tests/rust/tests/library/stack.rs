@@ -3,16 +3,16 @@
 
 use std::process::Command;
 
-use oracle::letter::Header;
-use oracle::library::{
+use fadzgime_tests::generators::random::Random;
+use fadzgime_tests::generators::traces::random_letter;
+use fadzgime_tests::oracle::letter::Header;
+use fadzgime_tests::oracle::reader::read_macro;
+use fadzgime_tests::oracle::trace::Trace;
+use fadzgime_tests::oracle::verdict::{MAX_PAIRS, PAIR_BYTES};
+use fadzgime_tests::proved::library::{
     self, MODEL_ANSWER, MONITOR_ANSWER, MONITOR_STATE, PUSH_ANSWER, READ_ANSWER, READ_TRACE_ANSWER,
     STEP_ANSWER, STREAM_STATE, UNPACKED_BYTES, VERDICT_ANSWER, WRITE_ANSWER,
 };
-use oracle::random::Random;
-use oracle::random_trace::random_letter;
-use oracle::reader::read_macro;
-use oracle::trace::Trace;
-use oracle::verdict::{MAX_PAIRS, PAIR_BYTES};
 
 /// The stack of the thread, of which the thread itself takes some.
 const STACK: usize = 128 * 1024;

@@ -1,11 +1,11 @@
 //! `fadzgime_write` and `fadzgime_read_trace`.
 
-use oracle::letter::{Header, Letter};
-use oracle::library::{self, READ_TRACE_ANSWER, UNPACKED_BYTES, WRITE_ANSWER};
-use oracle::random::{Random, cases};
-use oracle::random_trace::{any_trace, damage_trace, random_header};
-use oracle::refusal::Refusal;
-use oracle::trace::{Trace, read_trace, write_trace};
+use fadzgime_tests::generators::random::{Random, cases};
+use fadzgime_tests::generators::traces::{any_trace, damage_trace, random_header};
+use fadzgime_tests::oracle::letter::{Header, Letter};
+use fadzgime_tests::oracle::refusal::Refusal;
+use fadzgime_tests::oracle::trace::{Trace, read_trace, write_trace};
+use fadzgime_tests::proved::library::{self, READ_TRACE_ANSWER, UNPACKED_BYTES, WRITE_ANSWER};
 
 use crate::lent::Lent;
 

@@ -2,15 +2,15 @@
 
 use std::collections::BTreeMap;
 
-use oracle::damage::damaged_text;
-use oracle::enumeration::{Enumerated, enumerate};
-use oracle::examples::example_macros;
-use oracle::library::{self, VERDICT_ANSWER};
-use oracle::random::{Random, cases};
-use oracle::random_macro::{macro_text, random_macro};
-use oracle::reader::read_macro;
-use oracle::refusal::Refusal;
-use oracle::verdict::{Answer, Event, MAX_PAIRS, PAIR_BYTES, verdict};
+use fadzgime_tests::examples::example_macros;
+use fadzgime_tests::generators::damaged_macros::damaged_text;
+use fadzgime_tests::generators::macros::{macro_text, random_macro};
+use fadzgime_tests::generators::random::{Random, cases};
+use fadzgime_tests::oracle::enumeration::{Enumerated, enumerate};
+use fadzgime_tests::oracle::reader::read_macro;
+use fadzgime_tests::oracle::refusal::Refusal;
+use fadzgime_tests::oracle::verdict::{Answer, Event, MAX_PAIRS, PAIR_BYTES, verdict};
+use fadzgime_tests::proved::library::{self, VERDICT_ANSWER};
 
 use crate::lent::Lent;
 

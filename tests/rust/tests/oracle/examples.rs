@@ -1,11 +1,11 @@
 //! Document 01's bench examples and worked examples.
 
-use oracle::model::{Shown, show_model};
-use oracle::monitor::{Judgement, first_infeasible, judge};
-use oracle::reader::read_macro;
-use oracle::refusal::Refusal;
-use oracle::report::{hexadecimal, print_model, print_monitor, print_read, print_verdict};
-use oracle::verdict::verdict;
+use fadzgime_tests::oracle::model::{Shown, show_model};
+use fadzgime_tests::oracle::monitor::{Judgement, first_infeasible, judge};
+use fadzgime_tests::oracle::reader::read_macro;
+use fadzgime_tests::oracle::refusal::Refusal;
+use fadzgime_tests::oracle::report::{hexadecimal, print_model, print_monitor, print_read, print_verdict};
+use fadzgime_tests::oracle::verdict::verdict;
 
 use crate::trace;
 

@@ -2,18 +2,18 @@
 
 use std::collections::BTreeSet;
 
-use oracle::fast_closure::fast_show_model;
-use oracle::fast_monitor::{FastMonitor, fast_monitor};
-use oracle::fast_search::fast_search;
-use oracle::letter::Header;
-use oracle::model::show_model;
-use oracle::monitor::monitor;
-use oracle::random::{Random, cases};
-use oracle::random_macro::random_macro;
-use oracle::random_trace::{Profile, any_trace, damage_trace, random_header, random_trace};
-use oracle::state::State;
-use oracle::verdict::search;
-use oracle::window::Window;
+use fadzgime_tests::fast::closure::fast_show_model;
+use fadzgime_tests::fast::monitor::{FastMonitor, fast_monitor};
+use fadzgime_tests::fast::search::fast_search;
+use fadzgime_tests::generators::macros::random_macro;
+use fadzgime_tests::generators::random::{Random, cases};
+use fadzgime_tests::generators::traces::{Profile, any_trace, damage_trace, random_header, random_trace};
+use fadzgime_tests::oracle::letter::Header;
+use fadzgime_tests::oracle::model::show_model;
+use fadzgime_tests::oracle::monitor::monitor;
+use fadzgime_tests::oracle::state::State;
+use fadzgime_tests::oracle::verdict::search;
+use fadzgime_tests::oracle::window::Window;
 
 #[test]
 fn monitors_agree() {

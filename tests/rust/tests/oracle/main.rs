@@ -10,8 +10,8 @@ mod search;
 mod spread;
 mod windows;
 
-use oracle::reader::read_macro;
-use oracle::trace::Trace;
+use fadzgime_tests::oracle::reader::read_macro;
+use fadzgime_tests::oracle::trace::Trace;
 
 /// The trace of a macro text of assignments and assumes.
 fn trace(text: &str) -> Trace {

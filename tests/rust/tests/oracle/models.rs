@@ -1,13 +1,13 @@
 //! Models: Corollary 2 against a search of all small models, and the shown model.
 
-use oracle::closure::{Closure, Term};
-use oracle::letter::{Header, Letter};
-use oracle::model::Model;
-use oracle::monitor::first_infeasible;
-use oracle::random::{Random, cases};
-use oracle::random_trace::{Profile, any_trace, random_trace};
-use oracle::state::State;
-use oracle::trace::Trace;
+use fadzgime_tests::generators::random::{Random, cases};
+use fadzgime_tests::generators::traces::{Profile, any_trace, random_trace};
+use fadzgime_tests::oracle::closure::{Closure, Term};
+use fadzgime_tests::oracle::letter::{Header, Letter};
+use fadzgime_tests::oracle::model::Model;
+use fadzgime_tests::oracle::monitor::first_infeasible;
+use fadzgime_tests::oracle::state::State;
+use fadzgime_tests::oracle::trace::Trace;
 
 use crate::trace;
 

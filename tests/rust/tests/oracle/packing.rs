@@ -1,12 +1,12 @@
 //! Packing and its refusals (1 to 6).
 
-use oracle::letter::{Header, Letter};
-use oracle::model::{Shown, show_model};
-use oracle::monitor::monitor;
-use oracle::random::{Random, cases};
-use oracle::random_trace::any_trace;
-use oracle::refusal::Refusal;
-use oracle::trace::{read_trace, write_trace};
+use fadzgime_tests::generators::random::{Random, cases};
+use fadzgime_tests::generators::traces::any_trace;
+use fadzgime_tests::oracle::letter::{Header, Letter};
+use fadzgime_tests::oracle::model::{Shown, show_model};
+use fadzgime_tests::oracle::monitor::monitor;
+use fadzgime_tests::oracle::refusal::Refusal;
+use fadzgime_tests::oracle::trace::{read_trace, write_trace};
 
 use crate::trace;
 

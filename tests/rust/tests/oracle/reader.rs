@@ -1,11 +1,11 @@
 //! The macro reader's refusals 7 to 13 and their places, by the settled readings.
 
-use oracle::damage::damaged_text;
-use oracle::random::{Random, cases};
-use oracle::random_macro::{macro_text, random_macro};
-use oracle::reader::read_macro;
-use oracle::refusal::Refusal;
-use oracle::token::{Token, token_at};
+use fadzgime_tests::generators::damaged_macros::damaged_text;
+use fadzgime_tests::generators::macros::{macro_text, random_macro};
+use fadzgime_tests::generators::random::{Random, cases};
+use fadzgime_tests::oracle::reader::read_macro;
+use fadzgime_tests::oracle::refusal::Refusal;
+use fadzgime_tests::oracle::token::{Token, token_at};
 
 /// Checks that a text is refused with a number at the place of a `^`, which stands
 /// in the text before the refused token and is taken out.

@@ -2,18 +2,18 @@
 
 use std::collections::BTreeSet;
 
-use oracle::enumeration::{Enumerated, enumerate};
-use oracle::execution::{Onward, Points, Rest};
-use oracle::letter::Letter;
-use oracle::model::Model;
-use oracle::monitor::{first_infeasible, judge};
-use oracle::random::{Random, cases};
-use oracle::random_macro::random_macro;
-use oracle::reader::read_macro;
-use oracle::refusal::Refusal;
-use oracle::syntax::{Macro, Statement};
-use oracle::trace::Trace;
-use oracle::verdict::{Event, search, verdict};
+use fadzgime_tests::generators::macros::random_macro;
+use fadzgime_tests::generators::random::{Random, cases};
+use fadzgime_tests::oracle::enumeration::{Enumerated, enumerate};
+use fadzgime_tests::oracle::execution::{Onward, Points, Rest};
+use fadzgime_tests::oracle::letter::Letter;
+use fadzgime_tests::oracle::model::Model;
+use fadzgime_tests::oracle::monitor::{first_infeasible, judge};
+use fadzgime_tests::oracle::reader::read_macro;
+use fadzgime_tests::oracle::refusal::Refusal;
+use fadzgime_tests::oracle::syntax::{Macro, Statement};
+use fadzgime_tests::oracle::trace::Trace;
+use fadzgime_tests::oracle::verdict::{Event, search, verdict};
 
 type Words = BTreeSet<Vec<u16>>;
 

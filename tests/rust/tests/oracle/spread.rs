@@ -2,15 +2,15 @@
 
 use std::collections::BTreeMap;
 
-use oracle::damage::damaged_text;
-use oracle::model::show_model;
-use oracle::monitor::judge;
-use oracle::random::Random;
-use oracle::random_macro::{DEEPEST, macro_text, random_macro};
-use oracle::random_trace::{any_trace, damage_trace};
-use oracle::reader::read_macro;
-use oracle::syntax::Statement;
-use oracle::verdict::{Event, verdict};
+use fadzgime_tests::generators::damaged_macros::damaged_text;
+use fadzgime_tests::generators::macros::{DEEPEST, macro_text, random_macro};
+use fadzgime_tests::generators::random::Random;
+use fadzgime_tests::generators::traces::{any_trace, damage_trace};
+use fadzgime_tests::oracle::model::show_model;
+use fadzgime_tests::oracle::monitor::judge;
+use fadzgime_tests::oracle::reader::read_macro;
+use fadzgime_tests::oracle::syntax::Statement;
+use fadzgime_tests::oracle::verdict::{Event, verdict};
 
 #[test]
 fn traces() {

@@ -3,13 +3,13 @@
 use std::collections::HashMap;
 use std::collections::hash_map::Entry;
 
-use oracle::letter::{Header, Letter};
-use oracle::monitor::is_coherent;
-use oracle::random::{Random, cases};
-use oracle::random_trace::{random_header, random_letter};
-use oracle::state::State;
-use oracle::window::Window;
-use oracle::windows::all_letters;
+use fadzgime_tests::generators::random::{Random, cases};
+use fadzgime_tests::generators::traces::{random_header, random_letter};
+use fadzgime_tests::generators::windows::all_letters;
+use fadzgime_tests::oracle::letter::{Header, Letter};
+use fadzgime_tests::oracle::monitor::is_coherent;
+use fadzgime_tests::oracle::state::State;
+use fadzgime_tests::oracle::window::Window;
 
 use crate::trace;
 

@@ -1,10 +1,10 @@
 //! The macro reader: from text to a tree, or the first refusal
 //! (document 01, "The questions", Macro).
 
-use crate::letter::{Letter, MAX_FUNCTIONS, MAX_REGISTERS};
-use crate::refusal::Refusal;
-use crate::syntax::{Condition, Macro, Statement};
-use crate::token::{Placed, Token, Word, token_at};
+use super::letter::{Letter, MAX_FUNCTIONS, MAX_REGISTERS};
+use super::refusal::Refusal;
+use super::syntax::{Condition, Macro, Statement};
+use super::token::{Placed, Token, Word, token_at};
 
 /// "A macro has at most 4,096 bytes and 256 points."
 pub const MAX_TEXT: usize = 4096;

@@ -3,8 +3,8 @@
 
 use std::collections::{BTreeMap, BTreeSet};
 
-use crate::closure::{Signature, Term, TermId};
-use crate::state::State;
+use super::closure::{Signature, Term, TermId};
+use super::state::State;
 
 /// An application to held classes: the function and the names of the classes.
 pub type HeldApplication = (u8, u8, Option<u8>);

@@ -3,12 +3,12 @@
 
 use std::collections::HashSet;
 
-use crate::execution::{Onward, Rest};
-use crate::letter::Letter;
-use crate::state::State;
-use crate::syntax::{Macro, Statement};
-use crate::verdict::{Event, Verdict, event_at};
-use crate::window::Window;
+use super::execution::{Onward, Rest};
+use super::letter::Letter;
+use super::state::State;
+use super::syntax::{Macro, Statement};
+use super::verdict::{Event, Verdict, event_at};
+use super::window::Window;
 
 /// A partial execution, what it has computed and what it leaves.
 struct Partial<'a> {

@@ -1,12 +1,12 @@
 //! Data models, and the one that the whole-trace engine shows
 //! (document 01, "The shown model").
 
-use crate::closure::Term;
-use crate::letter::{Header, Letter};
-use crate::monitor::{first_infeasible, read_for_engine};
-use crate::refusal::Refusal;
-use crate::state::State;
-use crate::trace::Trace;
+use super::closure::Term;
+use super::letter::{Header, Letter};
+use super::monitor::{first_infeasible, read_for_engine};
+use super::refusal::Refusal;
+use super::state::State;
+use super::trace::Trace;
 
 /// One listed entry of a function's table.
 #[derive(Clone, Copy, Debug, PartialEq, Eq)]

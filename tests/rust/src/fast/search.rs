@@ -4,12 +4,12 @@
 
 use std::collections::HashSet;
 
-use crate::execution::{Onward, Points};
-use crate::fast_monitor::{FastMonitor, Key};
-use crate::letter::Letter;
-use crate::refusal::Refusal;
-use crate::syntax::Macro;
-use crate::verdict::{Event, Verdict};
+use super::monitor::{FastMonitor, Key};
+use crate::oracle::execution::{Onward, Points};
+use crate::oracle::letter::Letter;
+use crate::oracle::refusal::Refusal;
+use crate::oracle::syntax::Macro;
+use crate::oracle::verdict::{Event, Verdict};
 
 /// A pair, and the pair and letter from which it was first reached.
 struct Pair {

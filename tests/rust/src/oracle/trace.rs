@@ -1,8 +1,8 @@
 //! Packed traces: reading and writing with their refusals
 //! (document 01, "The questions", Trace).
 
-use crate::letter::{Header, Letter};
-use crate::refusal::Refusal;
+use super::letter::{Header, Letter};
+use super::refusal::Refusal;
 
 /// "The whole-trace engine takes at most 1,024 letters."
 pub const ENGINE_LETTERS: usize = 1024;

@@ -1,6 +1,6 @@
 //! The tokens of macro text (document 01, "Macro text", and question 8).
 
-use crate::refusal::Refusal;
+use super::refusal::Refusal;
 
 /// A name has at most this many bytes.
 pub const MAX_NAME: usize = 8;

@@ -1,8 +1,8 @@
 //! Executions of a macro (the paper's Definition 2), letter by letter, twice: over
 //! what is left of the statements, and over a table of points.
 
-use crate::letter::Letter;
-use crate::syntax::{Condition, Statement};
+use super::letter::Letter;
+use super::syntax::{Condition, Statement};
 
 /// What is left of a macro after a partial execution: the statements still to be
 /// performed, outermost last. It begins with a point or is empty.

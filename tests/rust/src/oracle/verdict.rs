@@ -2,16 +2,16 @@
 
 use std::collections::{HashSet, VecDeque};
 
-use crate::execution::{Onward, Points};
-use crate::letter::Letter;
-use crate::model::Model;
-use crate::monitor::is_coherent;
-use crate::reader::read_macro;
-use crate::refusal::Refusal;
-use crate::state::State;
-use crate::syntax::Macro;
-use crate::trace::Trace;
-use crate::window::Window;
+use super::execution::{Onward, Points};
+use super::letter::Letter;
+use super::model::Model;
+use super::monitor::is_coherent;
+use super::reader::read_macro;
+use super::refusal::Refusal;
+use super::state::State;
+use super::syntax::Macro;
+use super::trace::Trace;
+use super::window::Window;
 
 /// "The lesser of 1,024 and the lent bytes divided by 192, rounded down."
 pub const MAX_PAIRS: usize = 1024;

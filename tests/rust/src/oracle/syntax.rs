@@ -1,7 +1,7 @@
 //! The tree of a macro, and its points.
 
-use crate::letter::{Header, Letter};
-use crate::trace::Trace;
+use super::letter::{Header, Letter};
+use super::trace::Trace;
 
 /// `first = second` or `first != second`.
 #[derive(Clone, Copy, Debug, PartialEq, Eq, Hash)]

@@ -2,9 +2,9 @@
 //! from letter to letter. The benchmarks set it beside the proved monitor, and the
 //! tests hold it to the definitions.
 
-use crate::letter::{Header, Letter};
-use crate::monitor::Judgement;
-use crate::refusal::Refusal;
+use crate::oracle::letter::{Header, Letter};
+use crate::oracle::monitor::Judgement;
+use crate::oracle::refusal::Refusal;
 
 /// Eight held classes, and one that an application has just made.
 const SLOTS: usize = 9;

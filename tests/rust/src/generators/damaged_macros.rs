@@ -1,7 +1,7 @@
 //! Macro texts with one thing wrong, for every refusal of the reader.
 
-use crate::random::Random;
-use crate::random_macro::{DEEPEST, lay_out, macro_text, nested_macro, random_macro, random_name, tokens};
+use super::macros::{DEEPEST, lay_out, macro_text, nested_macro, random_macro, random_name, tokens};
+use super::random::Random;
 
 /// Tokens to put where they do not belong, and some that are none.
 const STRAY: [&str; 34] = [

@@ -1,10 +1,10 @@
 //! Coherence and feasibility letter by letter, always from the whole beginning
 //! of the trace (document 01, "Terms, models, coherence").
 
-use crate::letter::Letter;
-use crate::refusal::Refusal;
-use crate::state::State;
-use crate::trace::{ENGINE_LETTERS, Trace, read_trace};
+use super::letter::Letter;
+use super::refusal::Refusal;
+use super::state::State;
+use super::trace::{ENGINE_LETTERS, Trace, read_trace};
 
 /// What a run of the monitor finds.
 #[derive(Clone, Copy, Debug, Default, PartialEq, Eq)]

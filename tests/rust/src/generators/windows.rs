@@ -2,10 +2,10 @@
 
 use std::collections::{HashSet, VecDeque};
 
-use crate::letter::{Header, Letter};
-use crate::monitor::is_coherent;
-use crate::state::State;
-use crate::window::Window;
+use crate::oracle::letter::{Header, Letter};
+use crate::oracle::monitor::is_coherent;
+use crate::oracle::state::State;
+use crate::oracle::window::Window;
 
 /// All letters under a header.
 pub fn all_letters(header: &Header) -> Vec<Letter> {

@@ -1,8 +1,8 @@
 //! Random macros that are well formed, and their text in a random layout.
 
-use crate::letter::Letter;
-use crate::random::Random;
-use crate::syntax::{Condition, Macro, Statement};
+use super::random::Random;
+use crate::oracle::letter::Letter;
+use crate::oracle::syntax::{Condition, Macro, Statement};
 
 /// Names that are easily confused with words.
 const ODD_NAMES: [&str; 12] =

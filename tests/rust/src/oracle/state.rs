@@ -1,7 +1,7 @@
 //! What a trace has computed and tested, by the paper's definitions.
 
-use crate::closure::{Closure, Term, TermId};
-use crate::letter::{Header, Letter};
+use super::closure::{Closure, Term, TermId};
+use super::letter::{Header, Letter};
 
 /// Terms, present values and tests after a beginning of a trace.
 #[derive(Clone, Debug)]

@@ -2,13 +2,13 @@
 
 use std::fmt::Write;
 
-use crate::letter::Letter;
-use crate::model::{Model, Shown, show_model};
-use crate::monitor::{Judgement, monitor};
-use crate::reader::read_macro;
-use crate::refusal::Refusal;
-use crate::syntax::Macro;
-use crate::verdict::{Answer, Event, verdict};
+use super::letter::Letter;
+use super::model::{Model, Shown, show_model};
+use super::monitor::{Judgement, monitor};
+use super::reader::read_macro;
+use super::refusal::Refusal;
+use super::syntax::Macro;
+use super::verdict::{Answer, Event, verdict};
 
 /// The verdict program has "a table of 65,536 bytes".
 pub const PROGRAM_TABLE: usize = 65_536;

@@ -1,10 +1,10 @@
 //! Random traces: coherent for long, infeasible, incoherent, and damaged.
 
-use crate::letter::{Header, Letter, MAX_FUNCTIONS, MAX_REGISTERS};
-use crate::monitor::is_coherent;
-use crate::random::Random;
-use crate::state::State;
-use crate::trace::Trace;
+use super::random::Random;
+use crate::oracle::letter::{Header, Letter, MAX_FUNCTIONS, MAX_REGISTERS};
+use crate::oracle::monitor::is_coherent;
+use crate::oracle::state::State;
+use crate::oracle::trace::Trace;
 
 /// How letters are chosen.
 #[derive(Clone, Copy, Debug)]

@@ -6,11 +6,11 @@
 use std::collections::HashMap;
 use std::hash::{BuildHasherDefault, Hasher};
 
-use crate::letter::Letter;
-use crate::model::{Model, Row, Shown};
-use crate::monitor::read_for_engine;
-use crate::refusal::Refusal;
-use crate::trace::Trace;
+use crate::oracle::letter::Letter;
+use crate::oracle::model::{Model, Row, Shown};
+use crate::oracle::monitor::read_for_engine;
+use crate::oracle::refusal::Refusal;
+use crate::oracle::trace::Trace;
 
 /// No term.
 const NONE: u32 = u32::MAX;

@@ -1,0 +1,8 @@
+//! Inputs for the tests and benchmarks: random and damaged traces and macros from a seed,
+//! and traces that reach all windows.
+
+pub mod damaged_macros;
+pub mod macros;
+pub mod random;
+pub mod traces;
+pub mod windows;

@@ -1,0 +1,19 @@
+//! The oracle: traces, windows, models, macros and verdicts, written from document 01 and
+//! the paper's definitions alone, plainly and slowly, to test the proved code against. It
+//! uses nothing outside this folder.
+
+pub mod closure;
+pub mod enumeration;
+pub mod execution;
+pub mod letter;
+pub mod model;
+pub mod monitor;
+pub mod reader;
+pub mod refusal;
+pub mod report;
+pub mod state;
+pub mod syntax;
+pub mod token;
+pub mod trace;
+pub mod verdict;
+pub mod window;
