@@ -1,10 +1,9 @@
 //! The verdict on example macros, and on macros that fill the table.
 
-use std::fs;
 use std::hint::black_box;
-use std::path::Path;
 use std::time::Duration;
 
+use fadzgime_tests::examples::example_macros;
 use fadzgime_tests::fast::search::fast_search;
 use fadzgime_tests::oracle::reader::read_macro;
 use fadzgime_tests::oracle::refusal::Refusal;
@@ -26,23 +25,6 @@ const TABLE: usize = 65_536;
 
 /// Bytes of the largest table that is of use: N = 1,024.
 const LARGEST: usize = 1_024 * 192;
-
-/// The macros of the folder `examples`, by name.
-fn examples() -> Vec<(String, String)> {
-    let folder = Path::new(env!("CARGO_MANIFEST_DIR")).join("../examples");
-    let mut macros: Vec<(String, String)> = fs::read_dir(folder)
-        .expect("the folder is there")
-        .map(|file| file.expect("an entry").path())
-        .map(|path| (name_of(&path), fs::read_to_string(&path).expect("a text")))
-        .collect();
-    macros.sort();
-    macros
-}
-
-/// The name of a file without its extension.
-fn name_of(path: &Path) -> String {
-    path.file_stem().expect("a name").to_string_lossy().into_owned()
-}
 
 /// A loop with choices.
 const CHOICES: &str = "vars a b c d e; funs f/1; while a != b { if c = d { c := e; } else { d := a; } if a != e { a := f(a); } \
@@ -134,8 +116,8 @@ impl Sides for Run<'_> {
 
 /// The macros by name, each with the bytes of its table.
 fn macros() -> Vec<(String, String, usize)> {
-    let with_table = |(name, text)| (name, text, TABLE);
-    let mut macros: Vec<_> = examples().into_iter().map(with_table).collect();
+    let examples = example_macros().into_iter();
+    let mut macros: Vec<_> = examples.map(|example| (example.name, example.text, TABLE)).collect();
     let made = [
         ("choices", CHOICES.to_string(), TABLE),
         ("partitions", PARTITIONS.to_string(), TABLE),

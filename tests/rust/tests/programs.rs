@@ -69,12 +69,17 @@ fn verdict() {
     check("verdict", (0..3_000).map(some_macro), print_verdict);
 }
 
+/// The macros of `examples/`, also against the lines stored beside them.
 #[cfg(feature = "verdict")]
 #[test]
 fn verdict_on_examples() {
+    let path = program("verdict");
     let examples = example_macros();
     assert!(examples.len() > 10);
-    check("verdict", examples.into_iter(), print_verdict);
+    for example in &examples {
+        assert_eq!(printed(&path, example.text.as_bytes()), example.printed, "{}", example.name);
+    }
+    check("verdict", examples.into_iter().map(|example| example.text.into_bytes()), print_verdict);
 }
 
 /// Inputs about as long as a macro may be, and longer; none; bytes that are no text.

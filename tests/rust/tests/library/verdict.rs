@@ -293,8 +293,8 @@ fn many_turns() {
 fn examples() {
     let examples = example_macros();
     assert!(examples.len() > 10);
-    for text in examples {
-        check(&text, 65_536, 4_096);
+    for example in examples {
+        check(example.text.as_bytes(), 65_536, 4_096);
     }
 }
 

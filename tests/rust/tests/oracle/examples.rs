@@ -1,5 +1,6 @@
-//! Document 01's bench examples and worked examples.
+//! Document 01's bench examples and worked examples, and the macros of `examples/`.
 
+use fadzgime_tests::examples::example_macros;
 use fadzgime_tests::oracle::model::{Shown, show_model};
 use fadzgime_tests::oracle::monitor::{Judgement, first_infeasible, judge};
 use fadzgime_tests::oracle::reader::read_macro;
@@ -75,6 +76,16 @@ fn worked_macros() {
     assert_eq!(print_verdict(list), "verdict pass\npairs 3\n");
     assert_eq!(print_verdict(b"vars x; skip;"), "verdict pass\npairs 0\n");
     assert_eq!(verdict(b"vars x; skip;", 0, 0).expect("no pair").verdict.pairs, 0);
+}
+
+/// The lines stored beside the macros of `examples/`.
+#[test]
+fn stored_lines() {
+    let examples = example_macros();
+    assert!(examples.len() > 10);
+    for example in examples {
+        assert_eq!(print_verdict(example.text.as_bytes()), example.printed, "{}", example.name);
+    }
 }
 
 #[test]
