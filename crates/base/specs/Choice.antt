@@ -1,13 +1,7 @@
 -- A choice by a test, and the tests that code makes.
-use mathlib.Core.Path.{_≡_, refl}
 use mathlib.Core.Bool.{Bool, true, false}
 
 -- a where the test holds, else b. The two wait until the test is known, so that a definition by recursion stops where the test says
 abbrev pub pick {ℓ} : {A : Type ℓ} → Bool → (Unit {0} → A) → (Unit {0} → A) → A
 pick true a b = a tt
 pick false a b = b tt
-
--- the two cases of a test, each with its equation
-pub byTest {ℓ} : {A : Type ℓ} (b : Bool) → (b ≡ true → A) → (b ≡ false → A) → A
-byTest true f g = f refl
-byTest false f g = g refl

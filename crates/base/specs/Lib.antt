@@ -2,3 +2,4 @@ pub mod Choice
 pub mod Each
 pub mod Recursion
 pub mod Masks
+pub mod LeastAndSize

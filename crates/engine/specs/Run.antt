@@ -8,11 +8,12 @@ use Rattle.letters.specs.declared.Header.{Header}
 use Rattle.letters.specs.declared.Letter.{Letter}
 use Rattle.letters.specs.Editions.{firstEdition}
 use Rattle.letters.specs.Answers.{value}
-use Rattle.traces.specs.Traces.{Reading, trace, refused, beginning, letterCount, letterIn, parts, lettersFrom, lettersOf}
-use Rattle.semantics.specs.Terms.{state, traceOf, WellFormed}
+use Rattle.traces.specs.Reading.{Reading, trace, refused, beginning, letterCount, letterIn, parts, lettersFrom, lettersOf}
+use Rattle.semantics.specs.Terms.{state, traceOf}
+use Rattle.semantics.specs.Facts.{WellFormed}
 use Rattle.semantics.specs.Models.{Feasible}
-use Rattle.semantics.specs.Coherence.{FailsAt}
-use Rattle.semantics.specs.Judgement.{firstInfeasible}
+use Rattle.semantics.specs.Judgement.{FailsAt}
+use Rattle.semantics.specs.FirstLetters.{firstInfeasible}
 use Rattle.engine.specs.declared.Outcome.{Outcome}
 use Rattle.engine.specs.declared.Outcome.the-variants as outcome
 use Rattle.engine.specs.Engine.{Engine, Computed}

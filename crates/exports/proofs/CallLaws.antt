@@ -17,7 +17,7 @@ use Rattle.letters.specs.Answers.{Answer, value, refusal}
 use Rattle.traces.specs.Answers.{traceAnswer, writtenAnswer}
 use Rattle.letters.specs.Editions.{firstEdition}
 use Rattle.letters.proofs.Theory.WordLaws.{first-roomy, decode-header-refused}
-use Rattle.traces.specs.Traces.{reading}
+use Rattle.traces.specs.Reading.{reading}
 use Rattle.traces.specs.Writing.{unpacking, Wrote}
 use Rattle.traces.specs.Unpacking.{Unpacked}
 use Rattle.semantics.specs.Terms.{Trace}

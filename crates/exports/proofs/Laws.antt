@@ -10,7 +10,7 @@ use Rattle.monitoring.specs.Stream.{answerOf}
 use Rattle.monitoring.specs.declared.Verdict.{Verdict}
 use Rattle.monitoring.specs.declared.Verdict.the-variants.{Judged, Refused}
 use Rattle.letters.specs.Editions.{firstEdition}
-use Rattle.traces.specs.Traces.{readingWithin}
+use Rattle.traces.specs.ReadingParts.{readingWithin}
 use Rattle.shown.specs.Answer.{shownAnswer, answerTo, outputAfter, Means, Showed}
 use Rattle.shown.specs.declared.Shown.{Shown}
 use Rattle.shown.specs.declared.Shown.the-variants as shown

@@ -12,8 +12,9 @@ use Rattle.letters.specs.declared.Letter.{Letter}
 use Rattle.letters.specs.Letters.{Fits}
 use Rattle.letters.specs.Answers.{Answer, value, onAnswer}
 use Rattle.letters.specs.Editions.{firstEdition}
-use Rattle.letters.specs.Words.{HeaderFits, headerWord, letterWord}
-use Rattle.traces.specs.Traces.{letterCount}
+use Rattle.letters.specs.Letters.{HeaderFits}
+use Rattle.letters.specs.Words.{headerWord, letterWord}
+use Rattle.traces.specs.Reading.{letterCount}
 use Rattle.semantics.specs.Terms.{Trace, begin, _▸_, state}
 use Rattle.records.specs.Records.{flag}
 use Rattle.monitoring.specs.Monitor.{outcomeAnswer, startOf, advance}

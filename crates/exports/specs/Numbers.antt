@@ -8,7 +8,7 @@ use lib.ListN.{length, drop}
 use Rattle.base.specs.Choice.{pick}
 use Rattle.letters.specs.Answers.{Answer, value, refusal}
 use Rattle.letters.specs.Editions.{firstEdition, mostLetters}
-use Rattle.traces.specs.Traces.{readingWithin}
+use Rattle.traces.specs.ReadingParts.{readingWithin}
 use Rattle.macros.specs.Points.{sizeBlock}
 use Rattle.monitoring.specs.Run.{verdictAnswer}
 use Rattle.monitoring.specs.Stream.{answerOf}

@@ -6,7 +6,7 @@ use lib.ListN.{length, drop}
 use Rattle.letters.specs.declared.Header.{Header}
 use Rattle.letters.specs.Answers.{Answer, value, refusal}
 use Rattle.letters.specs.Editions.{firstEdition}
-use Rattle.traces.specs.Traces.{reading}
+use Rattle.traces.specs.Reading.{reading}
 use Rattle.traces.specs.Writing.{unpacking, writtenLength, writtenOver}
 use Rattle.traces.specs.Unpacking.{unpackedCount, unpackedOver}
 

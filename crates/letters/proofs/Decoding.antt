@@ -7,7 +7,8 @@ use mathlib.Core.List.{List, [], _∷_}
 use lib.Dec.{leb, eqb}
 use lib.ListN.{getD}
 use borrow.Author.Tests.{lt-leb, leb-false, eqb-true, eqb-false, not-true, not-false}
-use Rattle.base.specs.Choice.{pick, byTest}
+use Rattle.base.specs.Choice.{pick}
+use Rattle.base.proofs.Theory.Choice.{byTest}
 use Rattle.base.specs.Masks.{has}
 use Rattle.letters.specs.declared.Header.{Header}
 use Rattle.letters.specs.declared.Letter.{Letter}
@@ -17,7 +18,9 @@ use Rattle.letters.specs.Answers.{value, refusal}
 use Rattle.letters.specs.Packing.{join, split}
 use Rattle.letters.proofs.Theory.Packing.{join-split, split-join}
 use Rattle.letters.specs.Editions.{firstEdition}
-use Rattle.letters.specs.Words.{HeaderFits, headerTest, letterFields, letterWord, decodeLetter}
+use Rattle.letters.specs.Letters.{HeaderFits}
+use Rattle.letters.specs.Coding.{headerTest, decodeLetter}
+use Rattle.letters.specs.Words.{letterFields, letterWord}
 use Rattle.letters.proofs.Theory.WordLaws.{and-true, header-test, first-roomy, decode-letter, decode-letter-refused}
 
 -- What every kind of letter asks: "used registers and functions lie below the header's counts", and "spare and unused fields are 0", which is a register of

@@ -12,7 +12,8 @@ use Rattle.base.specs.Choice.{pick}
 use Rattle.base.specs.Masks.{has}
 use Rattle.letters.specs.Packing.{join, split}
 use Rattle.letters.specs.Answers.{value, refusal}
-use Rattle.letters.specs.Words.{bitsFrom, maskOf}
+use Rattle.letters.specs.Words.{bitsFrom}
+use Rattle.letters.specs.Coding.{maskOf}
 
 -- a byte has no bit from 8 on
 pub no-bit : (m f : ℕ) → m < 256 → 8 ≤ f → false ≡ has m f

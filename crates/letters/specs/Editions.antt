@@ -1,4 +1,5 @@
--- The widths and limits of an edition of packed traces (document 01, "The work" and "Letters and their packing"). They stand here alone.
+-- The widths and limits of an edition of packed traces, models and pairs (document 01, "The work", "Letters and their packing", "The shown model",
+-- "The search for a verdict"). They stand here alone.
 use Prim.Native.Nat.{ℕ}
 use mathlib.Core.List.{List, [], _∷_}
 
@@ -14,9 +15,16 @@ pub record Edition : Type 0 where
   pub lead : List ℕ
   -- the widths of a letter's fields: kind, function, target, first, second, spare
   pub letter : List ℕ
+  -- the widths of the fields of a model's row: the function, each of its three values, spare
+  pub rowFunction : ℕ
+  pub rowValue : ℕ
+  pub rowSpare : ℕ
+  -- the bytes of a pair in a lent table
+  pub pairBytes : ℕ
 
 -- "Registers: 1 to 8. Functions: 0 to 4."
 -- "Header, 16 bits: registers 4, functions 3, arity 4, spare 5. Letter, 16 bits: kind 2, function 2, target 3, first 3, second 3, spare 3."
+-- "Rows of 40 bits: function 2, argument 11, argument 11 (0 for one argument), result 11, spare 5." "Pair number k lies in bytes 192 times k onward."
 abbrev pub firstEdition : Edition
 firstEdition = record {
   registers = 8;
@@ -25,6 +33,10 @@ firstEdition = record {
   header = 4 ∷ 3 ∷ 4 ∷ 5 ∷ [];
   lead = [];
   letter = 2 ∷ 2 ∷ 3 ∷ 3 ∷ 3 ∷ 3 ∷ [];
+  rowFunction = 2;
+  rowValue = 11;
+  rowSpare = 5;
+  pairBytes = 192;
 }
 
 -- "The whole-trace engine takes at most 1,024 letters; the monitor has no limit."

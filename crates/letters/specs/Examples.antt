@@ -8,7 +8,9 @@ use Rattle.letters.specs.declared.Letter.the-variants.{Apply, Equal}
 use Rattle.letters.specs.Letters.{Fits}
 use Rattle.letters.specs.Editions.{firstEdition}
 use Rattle.letters.specs.Answers.{value}
-use Rattle.letters.specs.Words.{HeaderFits, headerTest, headerWord, letterBy, letterOf, applyTest, fitsTest, letterWord, decodeLetter}
+use Rattle.letters.specs.Letters.{HeaderFits}
+use Rattle.letters.specs.Coding.{headerTest, letterBy, letterOf, applyTest, fitsTest, decodeLetter}
+use Rattle.letters.specs.Words.{headerWord, letterWord}
 
 -- "Three registers and one one-argument function"
 abbrev pub unary : Header

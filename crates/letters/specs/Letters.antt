@@ -1,11 +1,12 @@
 -- Headers and letters that are well formed (document 01, "Letters and their packing").
 use mathlib.Core.Path.{_≡_}
-use Prim.Native.Nat.{ℕ, _<_}
+use Prim.Native.Nat.{ℕ, _<_, _^_, _≤_}
 use Rattle.base.specs.Choice.{pick}
 use Rattle.base.specs.Masks.{has}
 use Rattle.letters.specs.declared.Header.{Header}
 use Rattle.letters.specs.declared.Letter.{Letter}
 use Rattle.letters.specs.declared.Letter.the-variants.{Copy, Apply, Equal, Unequal}
+use Rattle.letters.specs.Editions.{Edition}
 
 -- The number of arguments of function f, 1 or 2.
 abbrev pub arity : Header → ℕ → ℕ
@@ -17,3 +18,12 @@ Fits h (Copy x y) = (x < h .registers) × (y < h .registers)
 Fits h (Apply x f y z) = (x < h .registers) × (f < h .functions) × (y < h .registers) × (z < h .registers) × (arity h f ≡ 1 → y ≡ z)
 Fits h (Equal x y) = (x < h .registers) × (y < h .registers)
 Fits h (Unequal x y) = (x < h .registers) × (y < h .registers)
+
+-- ---- headers
+
+-- A well-formed header has at least one register, no more registers and functions than the edition allows, and no arity bit beyond its functions.
+pub record HeaderFits (e : Edition) (h : Header) : Type 0 where
+  pub some : 1 ≤ h .registers
+  pub registers : h .registers ≤ e .registers
+  pub functions : h .functions ≤ e .functions
+  pub binary : h .binary < 2 ^ h .functions

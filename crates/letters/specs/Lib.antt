@@ -4,6 +4,10 @@ pub mod Packing
 pub mod Answers
 pub mod Editions
 pub mod Words
-pub mod WordLaws
 pub mod Putting
 pub mod Examples
+pub mod Roomy
+pub mod CodeAnswers
+pub mod Coding
+pub mod Capacity
+pub mod Encoding

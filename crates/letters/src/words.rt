@@ -16,9 +16,12 @@ ghost use Rattle.base.specs.Masks.{has};
 ghost use Rattle.letters.specs.declared.Letter.the-variants.{Copy, Apply, Equal, Unequal};
 ghost use Rattle.letters.specs.Packing.{Sized, join, split};
 ghost use Rattle.letters.specs.Editions.{firstEdition};
-ghost use Rattle.letters.specs.Answers.{value, headerAnswer, letterAnswer, headerWordAnswer, letterWordAnswer};
-ghost use Rattle.letters.specs.Words.{bitsFrom, headerFields, headerWord, letterFields, letterWord, headerTest, fitsTest, applyTest};
-ghost use Rattle.letters.specs.Words.{headerOf, letterBy, encodeHeader, encodeLetter, decodeHeader, decodeLetter};
+ghost use Rattle.letters.specs.Answers.{value};
+ghost use Rattle.letters.specs.CodeAnswers.{headerAnswer, letterAnswer, headerWordAnswer, letterWordAnswer};
+ghost use Rattle.letters.specs.Words.{bitsFrom, headerFields, headerWord, letterFields, letterWord};
+ghost use Rattle.letters.specs.Coding.{headerTest, fitsTest, applyTest};
+ghost use Rattle.letters.specs.Coding.{headerOf, letterBy, decodeHeader, decodeLetter};
+ghost use Rattle.letters.specs.Encoding.{encodeHeader, encodeLetter};
 
 /// Two bytes as a word, the first the more significant.
 pub fn word(high: u8, low: u8) -> u16

@@ -7,3 +7,4 @@ pub mod Points
 pub mod Runs
 pub mod Fitting
 pub mod Examples
+pub mod Executions

@@ -7,9 +7,10 @@ use lib.ListN.{length, take}
 use Rattle.io.specs.Digits.{glyph}
 use Rattle.base.specs.Choice.{pick}
 use Rattle.letters.specs.Editions.{firstEdition}
-use Rattle.traces.specs.Traces.{Reading, trace, refused, readingWithin}
+use Rattle.traces.specs.Reading.{Reading, trace, refused}
+use Rattle.traces.specs.ReadingParts.{readingWithin}
 use Rattle.semantics.specs.Terms.{state, traceOf}
-use Rattle.semantics.specs.Judgement.{firstInfeasible}
+use Rattle.semantics.specs.FirstLetters.{firstInfeasible}
 use Rattle.text.specs.Numerals.{numeral}
 use Rattle.text.specs.Appending.{Appended}
 use Rattle.report.specs.Lines.{line, refusedWord, atWord}

@@ -2,7 +2,7 @@
 use mathlib.Core.List.{List}
 use Prim.Native.Nat.{ℕ, _≤_}
 use lib.ListN.{length}
-use Rattle.semantics.specs.Shown.{number}
+use Rattle.semantics.specs.ShownTables.{number}
 use Rattle.text.specs.Appending.{Appended}
 use Rattle.shown.specs.declared.Shown.{Shown}
 use Rattle.shown.specs.declared.Shown.the-variants.{Model, Infeasible, Refused}

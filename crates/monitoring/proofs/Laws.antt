@@ -12,9 +12,9 @@ use Rattle.letters.specs.declared.DecodedHeader.{DecodedHeader}
 use Rattle.letters.specs.declared.DecodedHeader.the-variants as decoded-header
 use Rattle.letters.specs.declared.DecodedLetter.{DecodedLetter}
 use Rattle.letters.specs.declared.DecodedLetter.the-variants as decoded-letter
-use Rattle.letters.specs.Answers.{headerAnswer, letterAnswer}
+use Rattle.letters.specs.CodeAnswers.{headerAnswer, letterAnswer}
 use Rattle.letters.specs.Editions.{firstEdition}
-use Rattle.letters.specs.Words.{decodeHeader, decodeLetter}
+use Rattle.letters.specs.Coding.{decodeHeader, decodeLetter}
 use Rattle.letters.proofs.Theory.WordLaws.{first-roomy, decode-letter}
 use Rattle.window.specs.Perform.{Within, freshOf}
 use Rattle.window.proofs.Theory.Step.{fits-within}

@@ -12,9 +12,9 @@ use Rattle.letters.specs.declared.Header.{Header}
 use Rattle.letters.specs.declared.Letter.{Letter}
 use Rattle.letters.specs.declared.DecodedLetter.{DecodedLetter}
 use Rattle.letters.specs.declared.DecodedLetter.the-variants as decoded-letter
-use Rattle.letters.specs.Answers.{letterAnswer}
+use Rattle.letters.specs.CodeAnswers.{letterAnswer}
 use Rattle.letters.specs.Editions.{firstEdition}
-use Rattle.letters.specs.Words.{decodeLetter}
+use Rattle.letters.specs.Coding.{decodeLetter}
 use Rattle.window.specs.Perform.{judgeOf}
 use Rattle.window.specs.declared.Window.{Window}
 use Rattle.monitoring.specs.declared.Monitor.{Monitor}

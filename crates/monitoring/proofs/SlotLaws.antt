@@ -8,9 +8,9 @@ use Rattle.letters.specs.declared.DecodedLetter.{DecodedLetter}
 use Rattle.letters.specs.declared.DecodedLetter.the-variants as decoded-letter
 use Rattle.letters.specs.declared.Header.{Header}
 use Rattle.letters.specs.declared.Letter.{Letter}
-use Rattle.letters.specs.Answers.{letterAnswer}
+use Rattle.letters.specs.CodeAnswers.{letterAnswer}
 use Rattle.letters.specs.Editions.{firstEdition}
-use Rattle.letters.specs.Words.{decodeLetter}
+use Rattle.letters.specs.Coding.{decodeLetter}
 use Rattle.letters.proofs.Theory.WordLaws.{first-roomy, decode-letter}
 use Rattle.window.specs.Layout.{registers, functions}
 use Rattle.window.proofs.Theory.Table.{table-length}

@@ -6,7 +6,7 @@ use Rattle.letters.specs.declared.Header.{Header}
 use Rattle.letters.specs.declared.Letter.{Letter}
 use Rattle.letters.specs.Answers.{Answer, value, refusal}
 use Rattle.letters.specs.Editions.{firstEdition}
-use Rattle.traces.specs.Traces.{trace, refused, reading}
+use Rattle.traces.specs.Reading.{trace, refused, reading}
 use Rattle.semantics.specs.Terms.{traceOf}
 use Rattle.semantics.specs.Judgement.{Judgement}
 

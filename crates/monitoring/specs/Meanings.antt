@@ -9,11 +9,13 @@ use Rattle.letters.specs.declared.Letter.{Letter}
 use Rattle.letters.specs.Letters.{Fits}
 use Rattle.letters.specs.Answers.{Answer, value, refusal}
 use Rattle.letters.specs.Editions.{firstEdition}
-use Rattle.letters.specs.Words.{HeaderFits, headerWord, letterWord}
-use Rattle.traces.specs.Traces.{letterCount}
+use Rattle.letters.specs.Letters.{HeaderFits}
+use Rattle.letters.specs.Words.{headerWord, letterWord}
+use Rattle.traces.specs.Reading.{letterCount}
 use Rattle.semantics.specs.Terms.{Trace, begin, _▸_, state}
 use Rattle.semantics.specs.Models.{Feasible}
-use Rattle.semantics.specs.Coherence.{Coherent, size}
+use Rattle.semantics.specs.Coherence.{Coherent}
+use Rattle.semantics.specs.Judgement.{size}
 use Rattle.semantics.specs.Judgement.{Longest}
 use Rattle.monitoring.specs.Monitor.{outcomeAnswer, stepped, startOf, advance}
 use Rattle.monitoring.specs.StepRight.{Follows}

@@ -6,7 +6,7 @@ use Rattle.letters.specs.declared.Header.{Header}
 use Rattle.letters.specs.declared.Letter.{Letter}
 use Rattle.letters.specs.Answers.{Answer, value, refusal, onAnswer}
 use Rattle.letters.specs.Editions.{firstEdition}
-use Rattle.letters.specs.Words.{decodeHeader, decodeLetter}
+use Rattle.letters.specs.Coding.{decodeHeader, decodeLetter}
 use Rattle.window.specs.Perform.{freshOf, judgeOf, performOf}
 use Rattle.monitoring.specs.declared.Monitor.{Monitor}
 use Rattle.monitoring.specs.declared.Outcome.{Outcome}

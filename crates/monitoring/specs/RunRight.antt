@@ -1,8 +1,8 @@
 -- The run over a trace's words answers for the trace.
 use mathlib.Core.Path.{_≡_}
 use Rattle.semantics.specs.Terms.{Trace}
-use Rattle.semantics.specs.Coherence.{size}
-use Rattle.semantics.specs.Judgement.{incoherentLetter, infeasibleLetter}
+use Rattle.semantics.specs.Judgement.{size}
+use Rattle.semantics.specs.FirstLetters.{incoherentLetter, infeasibleLetter}
 use Rattle.monitoring.specs.Run.{capped}
 use Rattle.monitoring.specs.StepRight.{Follows}
 use Rattle.monitoring.specs.declared.Run.{Run}

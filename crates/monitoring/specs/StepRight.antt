@@ -1,8 +1,9 @@
 -- What the monitor's step does on the window of a trace.
 use mathlib.Core.Path.{_≡_}
-use Rattle.semantics.specs.Terms.{Trace, state, WellFormed}
+use Rattle.semantics.specs.Terms.{Trace, state}
+use Rattle.semantics.specs.Facts.{WellFormed}
 use Rattle.semantics.specs.Judge.{coherent}
-use Rattle.semantics.specs.Judgement.{coherentPart}
+use Rattle.semantics.specs.FirstLetters.{coherentPart}
 use Rattle.window.specs.Step.{Holds}
 use Rattle.monitoring.specs.declared.Monitor.{Monitor}
 

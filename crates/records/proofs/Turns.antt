@@ -13,11 +13,12 @@ use lib.ListN.{length-replicate, List·getD-append, List·getD-eq-default}
 use lib.Seq.{paste, paste-suc, take-all, take-at, drop-at, set-at, append-snoc, drop-cons, drop-drop, drop-append-add, getD-append-add}
 use lib.Seq.{getD-drop, getD-take, length-take-le, take-add, take-append-le}
 use borrow.Author.Tests.{eq-eqb, eqb-true, eqb-false, ltb-true, ltb-false}
-use Rattle.base.specs.Choice.{byTest}
+use Rattle.base.proofs.Theory.Choice.{byTest}
 use Rattle.base.specs.Masks.{bit}
 use Rattle.base.proofs.Theory.MaskLaws.{trailing-least}
 use Rattle.letters.specs.Packing.{join}
-use Rattle.semantics.specs.PackedTables.{units, unitsIn}
+use Rattle.semantics.specs.PackedTables.{units}
+use Rattle.semantics.specs.TablesRead.{unitsIn}
 use Rattle.base.proofs.Theory.Written.{Written}
 use Rattle.traces.proofs.Theory.TraceLaws.{units-length}
 use Rattle.window.proofs.Theory.Table.{written-all, table-at, table-length, table-is, Swept, swept-none, swept-more, swept-all}

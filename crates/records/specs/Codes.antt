@@ -5,7 +5,8 @@ use mathlib.Core.List.{List, [], _∷_, _++_}
 use lib.Dec.{eqb}
 use lib.ListN.{getD, take, drop, replicate}
 use Rattle.base.specs.Choice.{pick}
-use Rattle.base.specs.Masks.{bit, leastIn}
+use Rattle.base.specs.Masks.{bit}
+use Rattle.base.specs.LeastAndSize.{leastIn}
 use Rattle.letters.specs.Packing.{join, split}
 
 -- The code of an entry that the class `mask` of n registers holds, or no register if it is 0; `computed` is 1 if it was ever computed, and else 0.

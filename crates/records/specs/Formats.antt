@@ -9,7 +9,8 @@ use lib.Bits.{bitXor}
 use lib.Dec.{eqb}
 use lib.ListN.{getD, drop, replicate}
 use Rattle.base.specs.Choice.{pick}
-use Rattle.semantics.specs.PackedTables.{units, unitsIn}
+use Rattle.semantics.specs.PackedTables.{units}
+use Rattle.semantics.specs.TablesRead.{unitsIn}
 use Rattle.window.specs.Table.{table}
 use Rattle.window.specs.declared.Window.{Window}
 use Rattle.records.specs.Words.{wordsIn}

@@ -8,9 +8,11 @@ use Rattle.letters.specs.declared.Header.{Header}
 use Rattle.letters.specs.declared.Letter.{Letter}
 use Rattle.letters.specs.declared.Letter.the-variants.{Apply, Unequal}
 use Rattle.semantics.specs.Tables.{Row, Tables}
-use Rattle.semantics.specs.PackedTables.{secondWritten, secondMeant, unitsIn, rowFrom, readTables}
+use Rattle.semantics.specs.PackedTables.{secondWritten}
+use Rattle.semantics.specs.TablesRead.{secondMeant, unitsIn, rowFrom, readTables}
 use Rattle.letters.specs.Words as words
-use Rattle.traces.specs.Traces.{letterAt}
+use Rattle.letters.specs.Coding as coding
+use Rattle.traces.specs.ReadingParts.{letterAt}
 use Rattle.text.specs.Numerals.{numeral}
 use Rattle.report.specs.declared.Verdict.the-variants.{Fail}
 use Rattle.report.specs.Shown.{letterOf, lettersIn, shown}
@@ -81,7 +83,7 @@ bytes = 68 ∷ 128 ∷ 84 ∷ 8 ∷ 70 ∷ 0 ∷ 86 ∷ 200 ∷ 68 ∷ 128 ∷ 1
 
 -- They are read as those letters and tables.
 pub shown-example : shown header (Fail 5 5) bytes ≡ fail 5 letters tables
-unfolding shown lettersIn letterOf letterAt words.decodeLetter words.letterOf words.letterBy words.fitsTest words.applyTest words.headerTest words.headerWord words.letterWord readTables unitsIn rowFrom secondMeant
+unfolding shown lettersIn letterOf letterAt coding.decodeLetter coding.letterOf coding.letterBy coding.fitsTest coding.applyTest coding.headerTest words.headerWord words.letterWord readTables unitsIn rowFrom secondMeant
 shown-example = refl
 
 -- refused 9 at 17

@@ -10,8 +10,8 @@ use Rattle.letters.specs.declared.Letter.{Letter}
 use Rattle.letters.specs.declared.Letter.the-variants.{Copy}
 use Rattle.letters.specs.Editions.{firstEdition}
 use Rattle.letters.specs.Answers.{onAnswer}
-use Rattle.traces.specs.Traces.{letterAt}
-use Rattle.semantics.specs.PackedTables.{firstRowWidths, readTables}
+use Rattle.traces.specs.ReadingParts.{letterAt}
+use Rattle.semantics.specs.TablesRead.{readTables}
 use Rattle.text.specs.Names.{nameText}
 use Rattle.report.specs.declared.Verdict.{Verdict}
 use Rattle.report.specs.declared.Verdict.the-variants.{Pass, Incoherent, Fail, Refused}
@@ -40,7 +40,7 @@ modelStart n = 2 * n + 2
 unfoldable pub shown : Header → Verdict → List ℕ → Printed
 shown h (Pass pairs) s = pass pairs
 shown h (Incoherent pairs n) s = incoherent pairs (lettersIn h s 0 n)
-shown h (Fail pairs n) s = fail pairs (lettersIn h s 0 n) (readTables firstRowWidths h (drop (modelStart n) s))
+shown h (Fail pairs n) s = fail pairs (lettersIn h s 0 n) (readTables firstEdition h (drop (modelStart n) s))
 shown h (Refused number place) s = refused number place
 
 -- The report of a verdict whose answer is in s.

@@ -11,10 +11,11 @@ ghost use mathlib.Core.Path.{_≡_};
 ghost use mathlib.Core.List.{[], _∷_, _++_, map};
 ghost use Prim.Native.Nat.{_+_, _<_};
 ghost use lib.ListN.{getD, drop};
+ghost use Rattle.letters.specs.Editions.{firstEdition};
 ghost use Rattle.base.specs.Choice.{pick};
 ghost use Rattle.base.specs.Masks.{has};
 ghost use Rattle.letters.specs.declared.Letter.the-variants.{Apply};
-ghost use Rattle.semantics.specs.PackedTables.{unitsIn, firstRowWidths, rowFrom, readTables};
+ghost use Rattle.semantics.specs.TablesRead.{unitsIn, rowFrom, readTables};
 ghost use Rattle.text.specs.Appending.{Appended, Room};
 ghost use Rattle.text.specs.Numerals.{numeral};
 ghost use Rattle.text.specs.Names.{nameText};
@@ -196,8 +197,8 @@ fn second_printed(h: Header, function: u8, second: u64) -> u64
 
 // Appends the line of a row, packed in 40 bits: function 2, argument 11, argument 11, result 11, spare 5.
 fn put_row(out: &mut [u8], at: usize, h: Header, functions: [u64; 4], row: u64) -> usize
-    requires { ⌜ Room at (rowLine (λ f. nameText (getD functions f 0)) h (rowFrom firstRowWidths h row)) ⌝ }
-    ensures { λ r. ⌜ Appended (now (out .entry)) at (rowLine (λ f. nameText (getD functions f 0)) h (rowFrom firstRowWidths h row)) (now (out .exit)) r ⌝ }
+    requires { ⌜ Room at (rowLine (λ f. nameText (getD functions f 0)) h (rowFrom firstEdition h row)) ⌝ }
+    ensures { λ r. ⌜ Appended (now (out .entry)) at (rowLine (λ f. nameText (getD functions f 0)) h (rowFrom firstEdition h row)) (now (out .exit)) r ⌝ }
 {
     let function = (row / 274877906944 % 4) as u8;
     let first = row / 134217728 % 2048;
@@ -217,8 +218,8 @@ fn put_rows(
     start: u32,
     count: u64,
 ) -> usize
-    requires { ⌜ Room at (linesOf (rowLine (λ f. nameText (getD functions f 0)) h) (map (rowFrom firstRowWidths h) (unitsIn 5 count (drop start (now answer))))) × (count < 65536) ⌝ }
-    ensures { λ r. ⌜ Appended (now (out .entry)) at (linesOf (rowLine (λ f. nameText (getD functions f 0)) h) (map (rowFrom firstRowWidths h) (unitsIn 5 count (drop start (now (answer .entry)))))) (now (out .exit)) r ⌝ }
+    requires { ⌜ Room at (linesOf (rowLine (λ f. nameText (getD functions f 0)) h) (map (rowFrom firstEdition h) (unitsIn 5 count (drop start (now answer))))) × (count < 65536) ⌝ }
+    ensures { λ r. ⌜ Appended (now (out .entry)) at (linesOf (rowLine (λ f. nameText (getD functions f 0)) h) (map (rowFrom firstEdition h) (unitsIn 5 count (drop start (now (answer .entry)))))) (now (out .exit)) r ⌝ }
 {
     let mut next = at;
     let mut k: u64 = 0;
@@ -240,8 +241,8 @@ fn put_model(
     answer: &[u8],
     start: u32,
 ) -> usize
-    requires { ⌜ Room at (modelLines (namesOf registers functions) h (readTables firstRowWidths h (drop start (now answer)))) × (start < 131074) ⌝ }
-    ensures { λ r. ⌜ Appended (now (out .entry)) at (modelLines (namesOf registers functions) h (readTables firstRowWidths h (drop start (now (answer .entry))))) (now (out .exit)) r ⌝ }
+    requires { ⌜ Room at (modelLines (namesOf registers functions) h (readTables firstEdition h (drop start (now answer)))) × (start < 131074) ⌝ }
+    ensures { λ r. ⌜ Appended (now (out .entry)) at (modelLines (namesOf registers functions) h (readTables firstEdition h (drop start (now (answer .entry))))) (now (out .exit)) r ⌝ }
 {
     let values = word_at(answer, start as usize);
     let rows = word_at(answer, (start as usize) + 2);

@@ -6,12 +6,13 @@ use lib.ListN.{length, drop}
 use Rattle.letters.specs.declared.Header.{Header}
 use Rattle.letters.specs.declared.Letter.{Letter}
 use Rattle.letters.specs.Editions.{firstEdition}
-use Rattle.letters.specs.Words.{HeaderFits}
+use Rattle.letters.specs.Letters.{HeaderFits}
 use Rattle.traces.specs.Traces.{AllFit, packing}
-use Rattle.semantics.specs.Terms.{begin, traceOf, state, WellFormed}
+use Rattle.semantics.specs.Terms.{begin, traceOf, state}
+use Rattle.semantics.specs.Facts.{WellFormed}
 use Rattle.semantics.specs.Models.{Feasible}
-use Rattle.semantics.specs.PackedTables.{firstRowWidths}
-use Rattle.verdicts.specs.Verdict.{Answer, pass, fail, incoherent, refused, Kind, failing, showing, packed, Delivered}
+use Rattle.verdicts.specs.Verdict.{Answer, pass, fail, incoherent, refused, Kind, failing, showing, Delivered}
+use Rattle.verdicts.specs.AnswerPacking.{packed}
 use Rattle.search.specs.declared.Packed.{Packed}
 use Rattle.search.specs.declared.Verdict.{Verdict}
 use Rattle.search.specs.declared.Verdict.the-variants.{Pass, Fail, Incoherent, Refused}
@@ -36,4 +37,4 @@ pub record Packs (p : Packed) (h : Header) (ls : List Letter) : Type 0 where
 abbrev pub Delivers : Kind → Packed → ℕ → List ℕ → Verdict → List ℕ → Type 0
 Delivers kind p count output r output′ =
     (h : Header) (ls : List Letter) → Packs p h ls → (kind ≡ failing → Feasible (state (traceOf h ls)))
-    → Delivered (packed firstEdition firstRowWidths (begin h) kind ls) (showing kind count (length ls)) output (answerOf r) output′
+    → Delivered (packed firstEdition (begin h) kind ls) (showing kind count (length ls)) output (answerOf r) output′

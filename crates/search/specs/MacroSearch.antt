@@ -4,11 +4,10 @@ use mathlib.Core.List.{List}
 use Prim.Native.Nat.{ℕ}
 use lib.ListN.{length}
 use Rattle.letters.specs.Editions.{firstEdition}
-use Rattle.semantics.specs.PackedTables.{firstRowWidths}
+use Rattle.letters.specs.Capacity.{capacityOf}
 use Rattle.grammar.specs.Grammar.{Macro}
 use Rattle.syntax.specs.declared.Macro as struct
 use Rattle.syntax.specs.Answer.{heldMacro}
-use Rattle.verdicts.specs.Capacity.{capacityOf}
 use Rattle.verdicts.specs.Verdict.{Verdict}
 use Rattle.exploration.specs.declared.Search.{Search}
 use Rattle.search.specs.declared.Verdict as answer
@@ -23,8 +22,8 @@ Readable program = (given : Given) × (heldMacro (given .macro) ≡ program)
 
 -- How the search over the macro ends in a lent table, and what the table then holds.
 abbrev pub searchOn : struct.Macro → List ℕ → Search × List ℕ
-searchOn program t = searchOf (program .header) (program .points) (program .count) (capacityOf (length t)) t
+searchOn program t = searchOf (program .header) (program .points) (program .count) (capacityOf firstEdition (length t)) t
 
 -- What is answered, and what the output then holds.
 abbrev pub Tells : struct.Macro → List ℕ → List ℕ → answer.Verdict → List ℕ → Type 0
-Tells program t output r output′ = Told (program .header) (program .points) firstEdition firstRowWidths output (searchOn program t .0) (searchOn program t .1) (answerOf r) output′
+Tells program t output r output′ = Told (program .header) (program .points) firstEdition output (searchOn program t .0) (searchOn program t .1) (answerOf r) output′

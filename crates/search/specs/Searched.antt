@@ -6,18 +6,18 @@ use lib.ListN.{length}
 use Rattle.letters.specs.declared.Header.{Header}
 use Rattle.letters.specs.Editions.{Edition}
 use Rattle.semantics.specs.Terms.{begin}
-use Rattle.semantics.specs.PackedTables.{RowWidths}
-use Rattle.verdicts.specs.Verdict.{Answer, pass, full, breaking, failing, showing, packed, Delivered}
+use Rattle.verdicts.specs.Verdict.{Answer, pass, full, breaking, failing, showing, Delivered}
+use Rattle.verdicts.specs.AnswerPacking.{packed}
 use Rattle.blocks.specs.declared.Point.{Point}
 use Rattle.exploration.specs.declared.Search.{Search}
 use Rattle.exploration.specs.declared.Search.the-variants as found
 use Rattle.search.specs.Trails.{trailOf}
 
 -- What is answered, and what the output then holds, where the search has ended with the table u.
-abbrev pub Told : Header → List Point → Edition → RowWidths → List ℕ → Search → List ℕ → Answer → List ℕ → Type 0
-Told h sp edition widths output found.Full u answer output′ = (answer ≡ full) × (output′ ≡ output)
-Told h sp edition widths output (found.Pass k) u answer output′ = (answer ≡ pass k) × (output′ ≡ output)
-Told h sp edition widths output (found.Breaking k d) u answer output′ =
-    Delivered (packed edition widths (begin h) breaking (trailOf sp u d)) (showing breaking k (length (trailOf sp u d))) output answer output′
-Told h sp edition widths output (found.Failing k d) u answer output′ =
-    Delivered (packed edition widths (begin h) failing (trailOf sp u d)) (showing failing k (length (trailOf sp u d))) output answer output′
+abbrev pub Told : Header → List Point → Edition → List ℕ → Search → List ℕ → Answer → List ℕ → Type 0
+Told h sp edition output found.Full u answer output′ = (answer ≡ full) × (output′ ≡ output)
+Told h sp edition output (found.Pass k) u answer output′ = (answer ≡ pass k) × (output′ ≡ output)
+Told h sp edition output (found.Breaking k d) u answer output′ =
+    Delivered (packed edition (begin h) breaking (trailOf sp u d)) (showing breaking k (length (trailOf sp u d))) output answer output′
+Told h sp edition output (found.Failing k d) u answer output′ =
+    Delivered (packed edition (begin h) failing (trailOf sp u d)) (showing failing k (length (trailOf sp u d))) output answer output′

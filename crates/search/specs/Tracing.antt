@@ -5,7 +5,7 @@ use Rattle.letters.specs.declared.Header.{Header}
 use Rattle.letters.specs.declared.Letter.{Letter}
 use Rattle.letters.specs.Answers.{Answer, value, refusal}
 use Rattle.letters.specs.Editions.{firstEdition}
-use Rattle.letters.specs.Words.{encodeHeader, encodeLetter}
+use Rattle.letters.specs.Encoding.{encodeHeader, encodeLetter}
 use Rattle.table.specs.Table.{parentAt}
 
 -- Each pair below n but the first has a parent before it.

@@ -17,7 +17,7 @@ ghost use lib.ListN.{length, drop};
 ghost use mathlib.Core.List.{_++_};
 ghost use Rattle.records.specs.Records.{recordBytes};
 ghost use Rattle.letters.specs.Editions.{firstEdition};
-ghost use Rattle.letters.specs.Words.{encodeHeader, encodeLetter};
+ghost use Rattle.letters.specs.Encoding.{encodeHeader, encodeLetter};
 ghost use Rattle.search.specs.Trails.{trailOf};
 ghost use Rattle.search.specs.Tracing.{Older, wordOf, traced};
 ghost use Rattle.search.specs.Modelling.{Modelled};

@@ -37,3 +37,4 @@ pub mod Carries
 -- Examples.
 pub mod Examples
 pub mod Witnesses
+pub mod Tables

@@ -1,8 +1,7 @@
 -- Coherence of traces (document 01, "Terms, models, coherence"; source document 000, Definition 5, with the stricter early rule).
-use mathlib.Core.Path.{_≡_}
 use mathlib.Core.Logic.{_⊎_}
 use mathlib.Core.List.{List}
-use Prim.Native.Nat.{ℕ, zero, suc, _<_}
+use Prim.Native.Nat.{ℕ, _<_}
 use Rattle.letters.specs.declared.Letter.{Letter}
 use Rattle.letters.specs.declared.Letter.the-variants.{Copy, Apply, Equal, Unequal}
 use Rattle.semantics.specs.Terms.{_∈_, Term, app, Trace, begin, _▸_, State, after, state}
@@ -45,18 +44,3 @@ CoherentLetter σ (Unequal x y) = Unit {0}
 abbrev pub Coherent : Trace → Type 0
 Coherent (begin h) = Unit {0}
 Coherent (ρ ▸ a) = Coherent ρ × CoherentLetter (state ρ) a
-
--- The number of letters.
-abbrev pub size : Trace → ℕ
-size (begin h) = 0
-size (ρ ▸ a) = suc (size ρ)
-
--- Letter k, from 1, is the first after which P does not hold, where P goes over to beginnings (coherence and feasibility do).
-abbrev pub FailsAt : (Trace → Type 0) → Trace → ℕ → Type 0
-FailsAt P (begin h) k = ⊥
-FailsAt P (ρ ▸ a) k = FailsAt P ρ k ⊎ ((k ≡ suc (size ρ)) × P ρ × ¬ P (ρ ▸ a))
-
--- P fails first at letter k, or holds of the trace where k is 0.
-abbrev pub Judged : (Trace → Type 0) → Trace → ℕ → Type 0
-Judged P ρ zero = P ρ
-Judged P ρ (suc k) = FailsAt P ρ (suc k)

@@ -1,6 +1,12 @@
 -- What holds of every well-formed trace.
 use Prim.Native.Nat.{ℕ, _<_}
-use Rattle.semantics.specs.Terms.{_∈_, Term, con, app, State, constants}
+use Rattle.semantics.specs.Terms.{_∈_, Term, con, app, State, constants, Trace, begin, _▸_, state}
+use Rattle.letters.specs.Letters.{Fits}
+
+-- Every letter fits the header.
+abbrev pub WellFormed : Trace → Type 0
+WellFormed (begin h) = Unit {0}
+WellFormed (ρ ▸ a) = WellFormed ρ × Fits (state ρ .header) a
 
 -- Register values, arguments of computed applications and sides of tests are computed, and of the constants only those of registers.
 pub record Valid (σ : State) : Type 0 where

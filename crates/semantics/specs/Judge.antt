@@ -9,7 +9,7 @@ use Rattle.letters.specs.declared.Letter.the-variants.{Copy, Apply, Equal, Uneq
 use Rattle.semantics.specs.Terms.{Term, con, app, Trace, begin, _▸_, State, after, state}
 use Rattle.semantics.specs.Lists.{any, all, first}
 use Rattle.semantics.specs.Decide.{merges, agree}
-use Rattle.semantics.specs.Coherence.{size}
+use Rattle.semantics.specs.Judgement.{size}
 
 -- ── what is above a term ──
 -- t agrees with an element of the list

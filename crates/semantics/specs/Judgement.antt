@@ -1,12 +1,27 @@
 -- The letters that a run over a trace names: the first incoherent one, and the first infeasible one before it (document 01:
 -- "An incoherent letter only stops the monitor: it and all later letters move neither window nor infeasible mark").
-use Prim.Native.Nat.{ℕ, _≤_}
-use Rattle.base.specs.Choice.{pick}
+use mathlib.Core.Path.{_≡_}
+use mathlib.Core.Logic.{_⊎_}
+use Prim.Native.Nat.{ℕ, zero, suc, _≤_}
 use Rattle.semantics.specs.Terms.{Trace, begin, _▸_, state}
 use Rattle.semantics.specs.Prefixes.{Begins}
 use Rattle.semantics.specs.Models.{Feasible}
-use Rattle.semantics.specs.Coherence.{Coherent, size, Judged}
-use Rattle.semantics.specs.Judge.{coherent, feasible, fails}
+use Rattle.semantics.specs.Coherence.{Coherent}
+
+-- The number of letters.
+abbrev pub size : Trace → ℕ
+size (begin h) = 0
+size (ρ ▸ a) = suc (size ρ)
+
+-- Letter k, from 1, is the first after which P does not hold, where P goes over to beginnings (coherence and feasibility do).
+abbrev pub FailsAt : (Trace → Type 0) → Trace → ℕ → Type 0
+FailsAt P (begin h) k = ⊥
+FailsAt P (ρ ▸ a) k = FailsAt P ρ k ⊎ ((k ≡ suc (size ρ)) × P ρ × ¬ P (ρ ▸ a))
+
+-- P fails first at letter k, or holds of the trace where k is 0.
+abbrev pub Judged : (Trace → Type 0) → Trace → ℕ → Type 0
+Judged P ρ zero = P ρ
+Judged P ρ (suc k) = FailsAt P ρ (suc k)
 
 -- The longest coherent beginning of a trace.
 pub record Longest (ρ π : Trace) : Type 0 where
@@ -21,20 +36,3 @@ pub record Judgement (ρ : Trace) (incoherent infeasible : ℕ) : Type 0 where
   pub part : Trace
   pub longest : Longest ρ part
   pub feasibility : Judged (λ π. Feasible (state π)) part infeasible
-
--- ── computed ──
-unfoldable pub coherentPart : Trace → Trace
-coherentPart (begin h) = begin h
-coherentPart (ρ ▸ a) = pick (coherent (ρ ▸ a)) (λ _. ρ ▸ a) λ _. coherentPart ρ
-
--- The first incoherent letter of a run, 0 for none.
-unfoldable pub incoherentLetter : Trace → ℕ
-incoherentLetter ρ = fails coherent ρ
-
--- The first infeasible letter of a run, 0 for none.
-unfoldable pub infeasibleLetter : Trace → ℕ
-infeasibleLetter ρ = fails (λ π. feasible (state π)) (coherentPart ρ)
-
--- The first infeasible letter of a trace, coherent or not, 0 for none: the whole-trace engine's.
-unfoldable pub firstInfeasible : Trace → ℕ
-firstInfeasible ρ = fails (λ π. feasible (state π)) ρ

@@ -18,8 +18,9 @@ pub mod TermEquality
 -- Terms, closure and models.
 pub mod Facts
 pub mod Decide
-pub mod FirstsLaws
-pub mod NumberingLaws
-pub mod Shown
 pub mod Judge
 pub mod ClassNames
+pub mod TablesRead
+pub mod View
+pub mod FirstLetters
+pub mod ShownTables

@@ -1,12 +1,13 @@
 -- What the numbering and the rows of the shown model are, without a way to compute them (document 01, "The shown model").
 use mathlib.Core.Path.{_≡_}
 use mathlib.Core.Logic.{_↔_}
-use mathlib.Core.List.{List, _∷_, _++_}
+use mathlib.Core.List.{List, _∷_, _++_, reverse}
 use Prim.Native.Nat.{ℕ, suc, _≤_, _<_}
 use lib.ListN.{length, getD}
-use Rattle.semantics.specs.Terms.{_∈_, Term, con, app}
+use Rattle.semantics.specs.Terms.{_∈_, Term, con, app, State}
 use Rattle.semantics.specs.Closure.{Closure}
-use Rattle.semantics.specs.Tables.{Row, Tables, rowOf, sameCall}
+use Rattle.semantics.specs.Models.{Model, Satisfies}
+use Rattle.semantics.specs.Tables.{Row, Tables, Describes, rowOf, sameCall}
 use Rattle.semantics.specs.Firsts.{NoRepeats}
 
 -- The values of the terms l are exactly the numbers 1 to c.
@@ -46,3 +47,10 @@ pub record IsShown (n : ℕ) (U : List Term) (E : List (Term × Term)) (t : Tabl
   pub registers : length (t .starts) ≡ n
   pub starts : (r : ℕ) → r < n → getD (t .starts) r 0 ≡ value (con r)
   pub listing : Listing U value (t .rows)
+
+-- The tables that are shown for a state, and the model that they describe, in which all its tests hold.
+pub record ShownModel (σ : State) (t : Tables) : Type 0 where
+  pub tables : IsShown (σ .header .registers) (reverse (σ .terms)) (σ .equals) t
+  pub model : Model
+  pub described : Describes t model
+  pub satisfies : Satisfies model (σ .equals) (σ .unequals)

@@ -10,8 +10,3 @@ pub data Begins : Trace → Trace → Type 0 where
 -- P goes over to beginnings.
 abbrev pub PrefixClosed : (Trace → Type 0) → Type 0
 PrefixClosed P = (ρ : Trace) (a : Letter) → P (ρ ▸ a) → P ρ
-
--- ── laws ──
-pub begins-join : {ρ π τ : Trace} → Begins ρ π → Begins π τ → Begins ρ τ
-begins-join b whole = b
-begins-join b (before d) = before (begins-join b d)

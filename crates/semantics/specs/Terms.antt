@@ -6,7 +6,6 @@ use lib.Dec.{eqb}
 use Rattle.letters.specs.declared.Header.{Header}
 use Rattle.letters.specs.declared.Letter.{Letter}
 use Rattle.letters.specs.declared.Letter.the-variants.{Copy, Apply, Equal, Unequal}
-use Rattle.letters.specs.Letters.{Fits}
 
 -- a is an element of l.
 infix 4 _∈_
@@ -86,11 +85,6 @@ after σ a = record {
 abbrev pub state : Trace → State
 state (begin h) = start h
 state (ρ ▸ a) = after (state ρ) a
-
--- Every letter fits the header.
-abbrev pub WellFormed : Trace → Type 0
-WellFormed (begin h) = Unit {0}
-WellFormed (ρ ▸ a) = WellFormed ρ × Fits (state ρ .header) a
 
 -- A trace, and after it letters, the first one first.
 abbrev pub extend : Trace → List Letter → Trace

@@ -1,14 +1,11 @@
 -- What the window says of a trace, register by register (document 01): "The window carries everything the next letter needs: the classes,
 -- the known-unequal pairs of held classes, the held results, which applications to held classes were ever computed, which held classes have
 -- above them a computed application with an argument or result that no register holds, and whether the trace is infeasible."
-use mathlib.Core.Bool.{Bool}
-use mathlib.Core.Logic.{_⊎_, _↔_}
-use Prim.Native.Nat.{ℕ, _<_}
-use lib.Dec.{T}
+use mathlib.Core.Logic.{_⊎_}
+use Prim.Native.Nat.{ℕ}
 use Rattle.semantics.specs.Terms.{_∈_, Term, app, State}
 use Rattle.semantics.specs.Closure.{Closure, Equivalent, Held}
 use mathlib.Core.List.{List}
-use Rattle.semantics.specs.Models.{Feasible}
 use Rattle.semantics.specs.Coherence.{Above}
 
 module _ (U : List Term) (E : List (Term × Term)) where
@@ -57,22 +54,3 @@ EverComputed σ f a b = (s : Term) × Match (σ .terms) (σ .equals) f (σ .valu
 -- The class of r has above it a computed application with an argument or result that no register holds.
 abbrev pub Marked : State → ℕ → Type 0
 Marked σ r = Exposed (σ .terms) (σ .equals) (Held σ) (σ .value r)
-
--- A window, as what it says of registers and functions.
-pub record View : Type 0 where
-  pub same : ℕ → ℕ → Bool
-  pub apart : ℕ → ℕ → Bool
-  pub result : ℕ → ℕ → ℕ → ℕ → Bool
-  pub ever : ℕ → ℕ → ℕ → Bool
-  pub marked : ℕ → Bool
-  pub infeasible : Bool
-
--- The view is that of the state. "Once infeasible, it has no unequal pairs."
-pub record Tracks (σ : State) (w : View) : Type 0 where
-  pub same : (r s : ℕ) → r < σ .header .registers → s < σ .header .registers → T (w .same r s) ↔ Same σ r s
-  pub apart : (r s : ℕ) → r < σ .header .registers → s < σ .header .registers → T (w .apart r s) ↔ (Feasible σ × Apart σ r s)
-  pub result : (f a b r : ℕ) → a < σ .header .registers → b < σ .header .registers → r < σ .header .registers → T (w .result f a b r)
-      ↔ Result σ f a b r
-  pub ever : (f a b : ℕ) → a < σ .header .registers → b < σ .header .registers → T (w .ever f a b) ↔ EverComputed σ f a b
-  pub marked : (r : ℕ) → r < σ .header .registers → T (w .marked r) ↔ Marked σ r
-  pub infeasible : T (w .infeasible) ↔ (¬ Feasible σ)

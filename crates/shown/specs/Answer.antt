@@ -8,16 +8,19 @@ use Rattle.base.specs.Choice.{pick}
 use Rattle.letters.specs.declared.Header.{Header}
 use Rattle.letters.specs.declared.Letter.{Letter}
 use Rattle.letters.specs.Editions.{firstEdition, mostLetters}
-use Rattle.letters.specs.Words.{HeaderFits}
-use Rattle.traces.specs.Traces.{Reading, trace, refused, reading, readingWithin}
-use Rattle.semantics.specs.Terms.{State, state, traceOf, WellFormed}
-use Rattle.semantics.specs.Coherence.{FailsAt}
-use Rattle.semantics.specs.Models.{Satisfies, Feasible}
-use Rattle.semantics.specs.Tables.{Tables, InRange, modelOf}
+use Rattle.letters.specs.Letters.{HeaderFits}
+use Rattle.traces.specs.Reading.{Reading, trace, refused, reading}
+use Rattle.traces.specs.ReadingParts.{readingWithin}
+use Rattle.semantics.specs.Terms.{State, state, traceOf}
+use Rattle.semantics.specs.Facts.{WellFormed}
+use Rattle.semantics.specs.Judgement.{FailsAt}
+use Rattle.semantics.specs.Models.{Model, Satisfies, Feasible}
+use Rattle.semantics.specs.Tables.{Tables, Describes}
 use Rattle.semantics.specs.Numbering.{IsShown}
-use Rattle.semantics.specs.Shown.{tablesOf}
-use Rattle.semantics.specs.PackedTables.{packTables, readTables, firstRowWidths}
-use Rattle.semantics.specs.Judgement.{firstInfeasible}
+use Rattle.semantics.specs.ShownTables.{tablesOf}
+use Rattle.semantics.specs.PackedTables.{packTables}
+use Rattle.semantics.specs.TablesRead.{readTables}
+use Rattle.semantics.specs.FirstLetters.{firstInfeasible}
 use Rattle.engine.specs.Engine.{Computed}
 use Rattle.shown.specs.declared.Shown.{Shown}
 use Rattle.shown.specs.declared.Shown.the-variants as shown
@@ -35,7 +38,7 @@ shownAnswer (shown.Refused number place) = refusal number place
 
 -- The bytes of the shown model of a state.
 unfoldable pub modelBytes : State → List ℕ
-modelBytes σ = packTables firstRowWidths (σ .header) (tablesOf σ)
+modelBytes σ = packTables firstEdition (σ .header) (tablesOf σ)
 
 -- "Does a due model fit the output? 6." An exact fit is one.
 abbrev pub fitted : List ℕ → ℕ → Answer
@@ -69,9 +72,10 @@ ShownFor h letters t = IsShown (h .registers) (reverse (state (traceOf h letters
 
 -- The bytes read back to these tables, and all tests of the letters hold in the model that they describe.
 pub record ModelIn (bytes : List ℕ) (h : Header) (letters : List Letter) : Type 0 where
-  pub is-shown : ShownFor h letters (readTables firstRowWidths h bytes)
-  pub in-range : InRange (readTables firstRowWidths h bytes)
-  pub satisfies : Satisfies (modelOf (readTables firstRowWidths h bytes) in-range) (state (traceOf h letters) .equals) (state (traceOf h letters) .unequals)
+  pub is-shown : ShownFor h letters (readTables firstEdition h bytes)
+  pub model : Model
+  pub described : Describes (readTables firstEdition h bytes) model
+  pub satisfies : Satisfies model (state (traceOf h letters) .equals) (state (traceOf h letters) .unequals)
 
 -- A model is answered: it stands in the first n bytes of the output, and the bytes behind it stay.
 pub record ModelShown (s out : List ℕ) (n : ℕ) (out′ : List ℕ) : Type 0 where
@@ -95,7 +99,7 @@ pub record LetterNamed (s out : List ℕ) (k : ℕ) (out′ : List ℕ) : Type 0
 pub data RefusedFor (s out : List ℕ) : ℕ → ℕ → Type 0 where
   unread : {number place : ℕ} → readingWithin mostLetters firstEdition s ≡ refused number place → RefusedFor s out number place
   unfit : {h : Header} {letters : List Letter} {t : Tables} → IsTrace s h letters → Feasible (state (traceOf h letters)) → ShownFor h letters t
-      → length out < length (packTables firstRowWidths h t) → RefusedFor s out 6 0
+      → length out < length (packTables firstEdition h t) → RefusedFor s out 6 0
 
 -- What an answer means, with the output out before and out′ after.
 abbrev pub Means : (s out : List ℕ) → Answer → (out′ : List ℕ) → Type 0

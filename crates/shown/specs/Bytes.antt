@@ -3,11 +3,12 @@ use mathlib.Core.Path.{_≡_}
 use mathlib.Core.List.{List, map}
 use Prim.Native.Nat.{ℕ, _+_, _*_, _/_, _%_, _≤_, _<_}
 use lib.ListN.{length, getD, take, set}
+use Rattle.letters.specs.Editions.{firstEdition}
 use Rattle.letters.specs.declared.Header.{Header}
 use Rattle.base.specs.Choice.{pick}
 use Rattle.base.specs.Masks.{has}
 use Rattle.semantics.specs.Tables.{Row, Tables}
-use Rattle.semantics.specs.PackedTables.{rowWord, firstRowWidths}
+use Rattle.semantics.specs.PackedTables.{rowWord}
 
 -- five bytes, one by one
 abbrev pub putFive : List ℕ → ℕ → ℕ → List ℕ
@@ -28,7 +29,7 @@ rowFor values function first second i = record {
 }
 
 unfoldable pub wordFor : Header → (values function first second : List ℕ) → ℕ → ℕ
-wordFor h values function first second i = rowWord firstRowWidths h (rowFor values function first second i)
+wordFor h values function first second i = rowWord firstEdition h (rowFor values function first second i)
 
 unfoldable pub wordsFor : Header → (values function first second : List ℕ) → List ℕ → List ℕ
 wordsFor h values function first second rows = map (wordFor h values function first second) rows

@@ -3,8 +3,9 @@ use mathlib.Core.Path.{_≡_}
 use mathlib.Core.List.{List}
 use Prim.Native.Nat.{ℕ, _+_, _*_, _≤_, _<_}
 use lib.ListN.{length}
+use Rattle.letters.specs.Editions.{firstEdition}
 use Rattle.letters.specs.declared.Header.{Header}
-use Rattle.semantics.specs.PackedTables.{packTables, firstRowWidths}
+use Rattle.semantics.specs.PackedTables.{packTables}
 use Rattle.shown.specs.Inserted.{inserted}
 use Rattle.shown.specs.Bytes.{Writable, tablesIn}
 use Rattle.shown.specs.declared.Shown.{Shown}
@@ -23,5 +24,5 @@ pub record Puttable (h : Header) (values function first second rows : List ℕ) 
 -- The tables of the arrays are written to the front of the output, or refused by 6 where they do not fit it.
 pub data Put (h : Header) (values function first second rows : List ℕ) (c r : ℕ) (out : List ℕ) : Shown → List ℕ → Type 0 where
   too-large : length out < modelLength h r → Put h values function first second rows c r out (shown.Refused 6 0) out
-  fitting : {out′ : List ℕ} → modelLength h r ≤ length out → out′ ≡ inserted 0 (packTables firstRowWidths h (tablesIn h values function first second rows c r)) out
+  fitting : {out′ : List ℕ} → modelLength h r ≤ length out → out′ ≡ inserted 0 (packTables firstEdition h (tablesIn h values function first second rows c r)) out
       → Put h values function first second rows c r out (shown.Model (modelLength h r)) out′

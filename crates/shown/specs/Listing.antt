@@ -4,7 +4,7 @@ use mathlib.Core.List.{List, map, reverse}
 use Prim.Native.Nat.{ℕ, _+_, _≤_, _<_}
 use lib.ListN.{length, getD, take}
 use Rattle.semantics.specs.Terms.{State}
-use Rattle.semantics.specs.Tables.{rowsOf}
+use Rattle.semantics.specs.ShownTables.{rowsOf}
 use Rattle.closure.specs.Arrays.{Formed}
 use Rattle.engine.specs.Engine.{Computed}
 use Rattle.shown.specs.Meaning.{rowAt}

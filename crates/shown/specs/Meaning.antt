@@ -3,7 +3,7 @@ use mathlib.Core.List.{List}
 use Prim.Native.Nat.{ℕ}
 use Rattle.semantics.specs.Terms.{State}
 use Rattle.semantics.specs.Tables.{Row}
-use Rattle.semantics.specs.Shown.{number}
+use Rattle.semantics.specs.ShownTables.{number}
 use Rattle.closure.specs.Numbering.{nth}
 use Rattle.closure.specs.Arrays.{at}
 use Rattle.engine.specs.Engine.{Computed}

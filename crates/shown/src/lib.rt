@@ -2,7 +2,8 @@
 ghost use mathlib.Core.Path.{_≡_};
 ghost use Prim.Native.Nat.{ℕ, suc, _+_, _*_, _<_, _≤_};
 ghost use lib.ListN.{length, getD, take};
-ghost use Rattle.semantics.specs.PackedTables.{units, firstRowWidths, packTables};
+ghost use Rattle.letters.specs.Editions.{firstEdition};
+ghost use Rattle.semantics.specs.PackedTables.{units, packTables};
 ghost use Rattle.closure.specs.Arrays.{Formed, Indexed};
 ghost use Rattle.shown.specs.Values.{chosen, newClass, Numberable, Valued};
 ghost use Rattle.shown.specs.Rows.{NewRow};
@@ -252,7 +253,7 @@ fn write(
     out: &mut [u8],
 )
     requires { ⌜ Writable header (now values) (now function) (now first) (now second) (now rows) count r (length (now out)) ⌝ }
-    ensures { λ _. ⌜ now (out .exit) ≡ inserted 0 (packTables firstRowWidths header (tablesIn header (now (values .entry)) (now (function .entry)) (now (first .entry)) (now (second .entry)) (now (rows .entry)) count r)) (now (out .entry)) ⌝ }
+    ensures { λ _. ⌜ now (out .exit) ≡ inserted 0 (packTables firstEdition header (tablesIn header (now (values .entry)) (now (function .entry)) (now (first .entry)) (now (second .entry)) (now (rows .entry)) count r)) (now (out .entry)) ⌝ }
 {
     let registers = header.registers as usize;
     words::put_word(out, 0, count);

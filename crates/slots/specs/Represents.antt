@@ -7,7 +7,7 @@ use Prim.Native.Nat.{ℕ, _+_, _*_, _<_}
 use lib.Dec.{eqb, ltb, T}
 use lib.ListN.{getD}
 use Rattle.base.specs.Masks.{has}
-use Rattle.semantics.specs.Window.{View}
+use Rattle.semantics.specs.View.{View}
 use Rattle.window.specs.Places.{place}
 use Rattle.window.specs.Viewing.{view, Inside, Masks, Shaped}
 use Rattle.window.specs.declared.Window.{Window}

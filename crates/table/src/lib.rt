@@ -6,13 +6,14 @@ use window::Window;
 ghost use mathlib.Core.Path.{_≡_};
 ghost use Prim.Native.Nat.{_+_, _*_, _≤_, _<_};
 ghost use lib.ListN.{length, replicate};
+ghost use Rattle.letters.specs.Editions.{firstEdition};
+ghost use Rattle.letters.specs.Capacity.{capacityOf};
 ghost use Rattle.records.specs.Records.{recordBytes, encodedBytes, recordOf};
-ghost use Rattle.verdicts.specs.Capacity.{capacityOf};
 ghost use Rattle.table.specs.Table.{putAt, pointAt, parentAt, branchAt, windowAt, isAt};
 
 /// How many pairs a table of so many bytes holds.
 pub fn capacity(length: usize) -> usize
-    ensures { λ r. ⌜ r ≡ capacityOf length ⌝ }
+    ensures { λ r. ⌜ r ≡ capacityOf firstEdition length ⌝ }
 {
     let whole = length / RECORD_BYTES;
     if whole < 1024 {

@@ -10,7 +10,8 @@ use lib.Seq.{drop-cons, drop-drop, getD-take, getD-drop}
 use lib.Dec.{ltb}
 use mathlib.Core.Bool.{Bool, true, false}
 use borrow.Author.Tests.{ltb-false, eq-eqb, ne-eqb}
-use Rattle.base.specs.Choice.{pick, byTest}
+use Rattle.base.specs.Choice.{pick}
+use Rattle.base.proofs.Theory.Choice.{byTest}
 use Rattle.traces.specs.declared.HeaderRead.{HeaderRead}
 use Rattle.traces.specs.declared.HeaderRead.the-variants as begun-as
 use Rattle.traces.specs.Writing.{plainLetter, unpackLetter}
@@ -20,10 +21,12 @@ use Rattle.letters.specs.declared.DecodedLetter.{DecodedLetter}
 use Rattle.letters.specs.declared.DecodedLetter.the-variants as decoded-letter
 use Rattle.letters.specs.Packing.{join}
 use Rattle.letters.specs.Editions.{firstEdition}
-use Rattle.letters.specs.Answers.{Answer, value, refusal, onAnswer, letterAnswer}
+use Rattle.letters.specs.Answers.{Answer, value, refusal, onAnswer}
+use Rattle.letters.specs.CodeAnswers.{letterAnswer}
 use Rattle.traces.specs.Answers.{beginningAnswer}
-use Rattle.letters.specs.Words.{decodeLetter}
-use Rattle.traces.specs.Traces.{Reading, trace, refused, before, lettersFrom, counted, parts, letterIn, beginning, letterCount, lettersOf, readingWhere}
+use Rattle.letters.specs.Coding.{decodeLetter}
+use Rattle.traces.specs.Reading.{Reading, trace, refused, before, lettersFrom, parts, letterIn, beginning, letterCount, lettersOf, readingWhere}
+use Rattle.traces.specs.ReadingParts.{counted}
 
 module _ {A : Type 0} (decode : A → Answer Letter) (h : Header) where
   -- the letters of these codes counted on from n

@@ -9,7 +9,7 @@ use mathlib.Core.List.{List, [], _∷_, _++_, map}
 use lib.ListN.{length, take, drop, set, length-map, length-set}
 use lib.Seq.{drop-drop, sets, sets-eq}
 use borrow.Author.Tests.{le-leb, lt-leb}
-use Rattle.base.specs.Choice.{byTest}
+use Rattle.base.proofs.Theory.Choice.{byTest}
 use Rattle.letters.specs.declared.Header.{Header}
 use Rattle.letters.specs.declared.Letter.{Letter}
 use Rattle.letters.specs.Letters.{Fits}
@@ -17,9 +17,14 @@ use Rattle.letters.specs.Packing.{split}
 use Rattle.letters.proofs.Theory.Packing.{join-lt}
 use Rattle.letters.specs.Editions.{firstEdition}
 use Rattle.letters.specs.Answers.{Answer, value, refusal, onAnswer}
-use Rattle.letters.specs.Words.{HeaderFits, headerFields, letterFields, headerWord, letterWord, headerTest, encodeHeader, encodeLetter}
+use Rattle.letters.specs.Letters.{HeaderFits}
+use Rattle.letters.specs.Words.{headerFields, letterFields, headerWord, letterWord}
+use Rattle.letters.specs.Coding.{headerTest}
+use Rattle.letters.specs.Encoding.{encodeHeader, encodeLetter}
 use Rattle.letters.proofs.Theory.WordLaws.{chosen, header-test, fits-test, first-roomy}
-use Rattle.traces.specs.Traces.{Reading, trace, refused, units, bytesOf, parts, packing, lettersFrom, counted}
+use Rattle.traces.specs.Reading.{Reading, trace, refused, parts, lettersFrom}
+use Rattle.traces.specs.ReadingParts.{counted}
+use Rattle.traces.specs.Traces.{units, bytesOf, packing}
 use Rattle.traces.proofs.Theory.TraceLaws.{Decoded, letters-decoded, decoded-length, parts-length, bytes-length}
 use Rattle.traces.specs.Writing.{unpackLetter, unpackedParts, unpacking, writtenLength, writtenOver, Wrote}
 use Rattle.traces.proofs.Theory.WritingLaws.{unpack-letter, unpack-whole}

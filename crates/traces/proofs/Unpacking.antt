@@ -14,7 +14,8 @@ use Rattle.letters.specs.declared.Letter.the-variants.{Copy, Apply, Equal, Uneq
 use Rattle.letters.specs.Editions.{firstEdition}
 use Rattle.letters.specs.Answers.{value, refusal}
 use Rattle.letters.proofs.Theory.WordLaws.{first-roomy}
-use Rattle.traces.specs.Traces.{trace, parts, letterCount, letterIn, reading, counted}
+use Rattle.traces.specs.Reading.{trace, parts, letterCount, letterIn, reading}
+use Rattle.traces.specs.ReadingParts.{counted}
 use Rattle.traces.proofs.Theory.TraceLaws.{Decoded, Read, read, read-count}
 use Rattle.traces.specs.Writing.{plainFields, unpackedBytes}
 use Rattle.traces.proofs.Theory.WritingLaws.{five, plain-length, unpacked-length}

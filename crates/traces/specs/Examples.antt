@@ -3,9 +3,11 @@ use mathlib.Core.Path.{_≡_, refl}
 use mathlib.Core.List.{[], _∷_}
 use Rattle.letters.specs.declared.Letter.the-variants.{Apply, Equal}
 use Rattle.letters.specs.Editions.{firstEdition}
-use Rattle.letters.specs.Words.{headerOf, headerTest, headerWord, letterBy, letterOf, applyTest, fitsTest, letterWord, decodeHeader, decodeLetter}
+use Rattle.letters.specs.Coding.{headerOf, headerTest, letterBy, letterOf, applyTest, fitsTest, decodeHeader, decodeLetter}
+use Rattle.letters.specs.Words.{headerWord, letterWord}
 use Rattle.letters.specs.Examples.{unary}
-use Rattle.traces.specs.Traces.{trace, refused, parts, lettersFrom, beginning, lettersOf, readingWhere, reading, readingWithin}
+use Rattle.traces.specs.Reading.{trace, refused, parts, lettersFrom, beginning, lettersOf, readingWhere, reading}
+use Rattle.traces.specs.ReadingParts.{readingWithin}
 use Rattle.traces.specs.Writing.{plainTest, plainLetter, unpackLetter, unpackedParts, unpacking}
 
 a-trace : reading firstEdition (0x32 ∷ 0x00 ∷ 0x44 ∷ 0x40 ∷ 0x80 ∷ 0x08 ∷ []) ≡ trace unary (Apply 2 0 1 1 ∷ Equal 0 1 ∷ [])

@@ -3,5 +3,6 @@ pub mod Traces
 pub mod Writing
 pub mod Unpacking
 pub mod Putting
-pub mod TraceLaws
 pub mod Examples
+pub mod Reading
+pub mod ReadingParts

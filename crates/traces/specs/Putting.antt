@@ -5,13 +5,14 @@ use mathlib.Core.List.{List, [], _∷_}
 use Rattle.letters.specs.declared.Header.{Header}
 use Rattle.letters.specs.Editions.{Edition}
 use Rattle.letters.specs.Answers.{Answer, refusal, onAnswer}
-use Rattle.letters.specs.Words.{encodeLetter}
+use Rattle.letters.specs.Encoding.{encodeLetter}
 use Rattle.letters.specs.Putting.{putWord}
 use Rattle.traces.specs.Writing.{unpackLetter}
+use Rattle.letters.specs.RefusalNumbers.{letterMalformed}
 
 -- the word of an unpacked letter
 unfoldable pub wordIn : Edition → Header → List ℕ → Answer ℕ
-wordIn e h s = onAnswer (unpackLetter h s) (encodeLetter e h) λ _ _. refusal 4 0
+wordIn e h s = onAnswer (unpackLetter h s) (encodeLetter e h) λ _ _. refusal letterMalformed 0
 
 -- what each of these codes gives, put from a place on, n entries for each
 unfoldable pub putEach : {A B : Type 0} → (List ℕ → ℕ → B → List ℕ) → ℕ → (A → Answer B) → List ℕ → ℕ → List A → List ℕ

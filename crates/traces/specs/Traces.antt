@@ -1,33 +1,18 @@
 -- Whole traces as bytes: packed, read again by the questions of document 01 ("The questions", "Trace"), and unpacked.
-use Prim.Native.Nat.{ℕ, zero, suc, _+_, _-_, _*_, _/_, _%_}
-use mathlib.Core.Bool.{Bool, false}
+use Prim.Native.Nat.{ℕ, _<_}
 use mathlib.Core.List.{List, [], _∷_, _++_, map}
-use lib.Dec.{leb, ltb, eqb}
-use lib.ListN.{length, take, drop, replicate}
-use Rattle.base.specs.Choice.{pick}
+use lib.ListN.{replicate, getD}
 use Rattle.letters.specs.declared.Header.{Header}
 use Rattle.letters.specs.declared.Letter.{Letter}
 use Rattle.letters.specs.Letters.{Fits}
-use Rattle.letters.specs.Packing.{join, split}
+use Rattle.letters.specs.Packing.{split}
 use Rattle.letters.specs.Editions.{Edition}
-use Rattle.letters.specs.Answers.{Answer, value, refusal, onAnswer}
-use Rattle.letters.specs.Words.{headerWord, letterWord, decodeHeader, decodeLetter}
-
--- What a reading of a trace gives: its header and letters, or a refusal, a number and a place.
-pub data Reading : Type 0 where
-  trace : Header → List Letter → Reading
-  refused : ℕ → ℕ → Reading
+use Rattle.letters.specs.Words.{headerWord, letterWord}
 
 -- Every letter fits the header.
 abbrev pub AllFit : Header → List Letter → Type 0
 AllFit h [] = Unit {0}
 AllFit h (l ∷ ls) = Fits h l × AllFit h ls
-
--- ---- units
-
--- the bytes of a unit, as fields of eight bits each
-abbrev pub octets : Edition → List ℕ
-octets e = replicate (e .bytes) 8
 
 -- numbers of k bytes each, the most significant byte first
 unfoldable pub units : ℕ → List ℕ → List ℕ
@@ -38,64 +23,12 @@ units k (n ∷ ns) = split (replicate k 8) n ++ units k ns
 abbrev pub bytesOf : Edition → List ℕ → List ℕ
 bytesOf e words = units (e .bytes) words
 
--- k parts of n entries each
-unfoldable pub parts : ℕ → ℕ → List ℕ → List (List ℕ)
-parts n zero s = []
-parts n (suc k) s = take n s ∷ parts n k (drop n s)
-
 -- ---- packing
 
 -- The bytes of a trace: the header's unit, then each letter's.
 unfoldable pub packing : Edition → Header → List Letter → List ℕ
 packing e h ls = bytesOf e (headerWord e h ∷ map (letterWord e h) ls)
 
--- ---- reading
-
-abbrev pub before : Letter → Reading → Reading
-before l (trace h ls) = trace h (l ∷ ls)
-before l (refused number place) = refused number place
-
--- The letters of these codes under h, of which the next has number n: "A letter that is not well formed ends the reading with 4 and its number, from 1."
-unfoldable pub lettersFrom : {A : Type 0} → (A → Answer Letter) → Header → ℕ → List A → Reading
-lettersFrom decode h n [] = trace h []
-lettersFrom decode h n (x ∷ codes) = onAnswer (decode x) (λ l. before l (lettersFrom decode h (n + 1) codes)) λ _ _. refused 4 n
-
--- "At least two bytes? 1. Even length? 2. Header as above? 3." In another edition it is the bytes of its unit.
-unfoldable pub beginning : Edition → List ℕ → Answer Header
-beginning e s =
-    pick (ltb (length s) (e .bytes)) (λ _. refusal 1 0) λ _.
-    pick (eqb (length s % e .bytes) 0) (λ _. decodeHeader e (join (octets e) (take (e .bytes) s))) λ _. refusal 2 0
-
--- the number of letters, where the length is that of whole units
-abbrev pub letterCount : Edition → List ℕ → ℕ
-letterCount e s = length s / e .bytes - 1
-
--- the letter that the bytes of a unit pack
-abbrev pub letterIn : Edition → Header → List ℕ → Answer Letter
-letterIn e h part = decodeLetter e h (join (octets e) part)
-
--- the letters after the header's unit
-unfoldable pub lettersOf : Edition → Header → List ℕ → Reading
-lettersOf e h s = lettersFrom (letterIn e h) h 1 (parts (e .bytes) (letterCount e s) (drop (e .bytes) s))
-
--- The questions in their order; 5 is put where some number of letters is too many.
-unfoldable pub readingWhere : (ℕ → Bool) → Edition → List ℕ → Reading
-readingWhere tooMany e s =
-    onAnswer (beginning e s) (λ h. pick (tooMany (letterCount e s)) (λ _. refused 5 0) λ _. lettersOf e h s) refused
-
--- a trace of any length
-abbrev pub reading : Edition → List ℕ → Reading
-reading e s = readingWhere (λ _. false) e s
-
--- "For the whole-trace engine, at most 1,024 letters? 5."
-abbrev pub readingWithin : ℕ → Edition → List ℕ → Reading
-readingWithin limit e s = readingWhere (ltb limit) e s
-
--- header and number of letters
-abbrev pub counted : Reading → Answer (Header × ℕ)
-counted (trace h ls) = value (h, length ls)
-counted (refused number place) = refusal number place
-
--- Letter k, from 0, of the bytes of a trace with header h; refused where there are no such bytes.
-unfoldable pub letterAt : Edition → Header → List ℕ → ℕ → Answer Letter
-letterAt e h s k = pick (leb (e .bytes * (k + 2)) (length s)) (λ _. letterIn e h (take (e .bytes) (drop (e .bytes * (k + 1)) s))) λ _. refusal 4 0
+-- Every entry is a byte.
+abbrev pub Bytes : List ℕ → Type 0
+Bytes s = (i : ℕ) → getD s i 0 < 256

@@ -10,9 +10,10 @@ use Rattle.letters.specs.declared.Header.{Header}
 use Rattle.letters.specs.declared.Letter.{Letter}
 use Rattle.letters.specs.Editions.{firstEdition}
 use Rattle.letters.specs.Answers.{Answer, value, refusal}
-use Rattle.traces.specs.Traces.{Reading, trace, refused, parts, letterIn}
+use Rattle.traces.specs.Reading.{Reading, trace, refused, parts, letterIn}
 use Rattle.traces.specs.Writing.{plainFields, unpackedBytes}
 use Rattle.traces.specs.Putting.{putEach}
+use Rattle.letters.specs.RefusalNumbers.{outputTooSmall}
 
 -- a letter's five bytes at a place
 abbrev pub putPlain : Header → List ℕ → ℕ → Letter → List ℕ
@@ -24,7 +25,7 @@ putUnpacked h out s = putEach (putPlain h) 5 (letterIn firstEdition h) out 0 (pa
 
 -- The header and the number of letters, or a refusal: the reading's, or 6 if the output is too short.
 unfoldable pub unpackedCount : ℕ → Reading → Answer (Header × ℕ)
-unpackedCount room (trace h ls) = pick (leb (length (unpackedBytes h ls)) room) (λ _. value (h, length ls)) λ _. refusal 6 0
+unpackedCount room (trace h ls) = pick (leb (length (unpackedBytes h ls)) room) (λ _. value (h, length ls)) λ _. refusal outputTooSmall 0
 unpackedCount room (refused number place) = refusal number place
 
 -- "Refused calls write no output; bytes past a written answer stay."

@@ -11,8 +11,11 @@ use Rattle.letters.specs.declared.Header.{Header}
 use Rattle.letters.specs.declared.Letter.{Letter}
 use Rattle.letters.specs.Editions.{Edition}
 use Rattle.letters.specs.Answers.{Answer, value, refusal}
-use Rattle.letters.specs.Words.{letterFields, headerTest, fitsTest, letterBy}
-use Rattle.traces.specs.Traces.{Reading, trace, refused, lettersFrom, parts, packing}
+use Rattle.letters.specs.Words.{letterFields}
+use Rattle.letters.specs.Coding.{headerTest, fitsTest, letterBy}
+use Rattle.traces.specs.Reading.{Reading, trace, refused, lettersFrom, parts}
+use Rattle.traces.specs.Traces.{packing}
+use Rattle.letters.specs.RefusalNumbers.{letterMalformed, headerMalformed, outputTooSmall}
 
 -- An unpacked letter has five bytes, the fields of its word without the spare one: kind, function, target, first, second. "Unused fields are 0, the
 -- second argument of a one-argument function included."
@@ -32,11 +35,11 @@ plainTest h kind f x z =
 -- the well-formed letter with these fields, if there is one; inside, that of a one-argument function has its argument twice
 unfoldable pub plainLetter : Header → ℕ → ℕ → ℕ → ℕ → ℕ → Answer Letter
 plainLetter h kind f x y z =
-    pick (plainTest h kind f x z && fitsTest h (letterBy h kind f x y z)) (λ _. value (letterBy h kind f x y z)) λ _. refusal 4 0
+    pick (plainTest h kind f x z && fitsTest h (letterBy h kind f x y z)) (λ _. value (letterBy h kind f x y z)) λ _. refusal letterMalformed 0
 
 -- the well-formed letter with these bytes, if there is one; fewer than five bytes are none
 unfoldable pub unpackLetter : Header → List ℕ → Answer Letter
-unpackLetter h s = pick (eqb (length s) 5) (λ _. plainLetter h (getD s 0 0) (getD s 1 0) (getD s 2 0) (getD s 3 0) (getD s 4 0)) λ _. refusal 4 0
+unpackLetter h s = pick (eqb (length s) 5) (λ _. plainLetter h (getD s 0 0) (getD s 1 0) (getD s 2 0) (getD s 3 0) (getD s 4 0)) λ _. refusal letterMalformed 0
 
 -- the bytes of each letter; the last ones may be fewer than five
 unfoldable pub unpackedParts : List ℕ → List (List ℕ)
@@ -44,11 +47,11 @@ unpackedParts s = parts 5 ((length s + 4) / 5) s
 
 -- the trace of a header and unpacked letters, or the refusal: 3, then 4 with the letter's number
 unfoldable pub unpacking : Edition → Header → List ℕ → Reading
-unpacking e h s = pick (headerTest e h) (λ _. lettersFrom (unpackLetter h) h 1 (unpackedParts s)) λ _. refused 3 0
+unpacking e h s = pick (headerTest e h) (λ _. lettersFrom (unpackLetter h) h 1 (unpackedParts s)) λ _. refused headerMalformed 0
 
 -- "then 6 to its output"
 unfoldable pub writtenLength : Edition → ℕ → Reading → Answer ℕ
-writtenLength e room (trace h ls) = pick (leb (length (packing e h ls)) room) (λ _. value (length (packing e h ls))) λ _. refusal 6 0
+writtenLength e room (trace h ls) = pick (leb (length (packing e h ls)) room) (λ _. value (length (packing e h ls))) λ _. refusal outputTooSmall 0
 writtenLength e room (refused number place) = refusal number place
 
 -- "Refused calls write no output; bytes past a written answer stay."

@@ -9,9 +9,10 @@ ghost use mathlib.Core.Path.{_≡_};
 ghost use Prim.Native.Nat.{_≤_};
 ghost use lib.ListN.{length};
 ghost use Rattle.letters.specs.Editions.{firstEdition};
-ghost use Rattle.letters.specs.Answers.{letterAnswer};
+ghost use Rattle.letters.specs.CodeAnswers.{letterAnswer};
 ghost use Rattle.traces.specs.Answers.{beginningAnswer, traceAnswer};
-ghost use Rattle.traces.specs.Traces.{beginning, lettersOf, reading, readingWithin, counted, letterAt};
+ghost use Rattle.traces.specs.Reading.{beginning, lettersOf, reading};
+ghost use Rattle.traces.specs.ReadingParts.{readingWithin, counted, letterAt};
 
 /// The writer.
 pub mod writer;

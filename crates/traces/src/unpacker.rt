@@ -12,7 +12,7 @@ ghost use Prim.Native.Nat.{_+_, _-_, _*_, _/_, _≤_};
 ghost use lib.ListN.{length};
 ghost use Rattle.letters.specs.Editions.{firstEdition};
 ghost use Rattle.traces.specs.Answers.{traceAnswer};
-ghost use Rattle.traces.specs.Traces.{reading};
+ghost use Rattle.traces.specs.Reading.{reading};
 ghost use Rattle.traces.specs.Writing.{plainFields};
 ghost use Rattle.traces.specs.Unpacking.{putPlain, putUnpacked, Unpacked};
 

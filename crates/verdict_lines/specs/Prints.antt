@@ -9,7 +9,7 @@ use Rattle.base.specs.Choice.{pick}
 use Rattle.semantics.specs.Terms.{Trace, begin, extend, state}
 use Rattle.semantics.specs.Models.{Feasible}
 use Rattle.semantics.specs.Coherence.{Coherent}
-use Rattle.semantics.specs.Shown.{tablesOf}
+use Rattle.semantics.specs.Numbering.{ShownModel}
 use Rattle.macros.specs.Executions.{Partial, Failing}
 use Rattle.grammar.specs.Grammar.{Macro, headerOf}
 use Rattle.refusals.specs.Order.{Refusal}
@@ -34,7 +34,8 @@ Told m (pass k) =
     PairCount Feasible (begin (headerOf m)) (m .body) k × (k ≤ tablePairs)
     × ((ρ : Trace) → Partial (begin (headerOf m)) (m .body) ρ → Coherent ρ) × ((ρ : Trace) → Failing (begin (headerOf m)) (m .body) ρ → ¬ Feasible (state ρ))
 Told m (incoherent k ls) = Shows Feasible (begin (headerOf m)) (m .body) breaking k ls × (k ≤ tablePairs)
-Told m (fail k ls tables) = Shows Feasible (begin (headerOf m)) (m .body) failing k ls × (k ≤ tablePairs) × (tables ≡ tablesOf (state (extend (begin (headerOf m)) ls)))
+Told m (fail k ls tables) =
+    Shows Feasible (begin (headerOf m)) (m .body) failing k ls × (k ≤ tablePairs) × ShownModel (state (extend (begin (headerOf m)) ls)) tables
 Told m (refused number place) = (number ≡ 14) × (place ≡ 0) × PairsPass Feasible (begin (headerOf m)) (m .body) tablePairs
 
 -- The lines for a text.

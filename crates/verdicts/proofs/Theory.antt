@@ -1,13 +1,13 @@
 pub mod Counting
 pub mod System
 pub mod Listing
+pub mod AnswerPacking
 pub mod Pairs
 pub mod Since
 pub mod Answers
 pub mod Unique
 pub mod Total
 pub mod Trail
-pub mod CapacityLaws
 pub mod Settled
 pub mod Shortest
 pub mod Readings

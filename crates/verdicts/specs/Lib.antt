@@ -1,4 +1,4 @@
 pub mod Count
 pub mod Verdict
-pub mod Capacity
+pub mod AnswerPacking
 pub mod Demand3

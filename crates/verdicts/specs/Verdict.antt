@@ -14,10 +14,10 @@ use Rattle.letters.specs.declared.Letter.{Letter}
 use Rattle.semantics.specs.Terms.{Trace, begin, _▸_, State, extend, state}
 use Rattle.letters.specs.Editions.{Edition}
 use Rattle.traces.specs.Traces.{packing}
-use Rattle.semantics.specs.Models.{Satisfies}
 use Rattle.semantics.specs.SameWindow.{SameWindow}
-use Rattle.semantics.specs.Shown.{shown, tablesOf}
-use Rattle.semantics.specs.PackedTables.{RowWidths, packTables}
+use Rattle.semantics.specs.Tables.{Tables}
+use Rattle.semantics.specs.Numbering.{ShownModel}
+use Rattle.semantics.specs.PackedTables.{packTables}
 use Rattle.semantics.specs.Coherence.{Coherent}
 use Rattle.macros.specs.Tree.{Block}
 use Rattle.macros.specs.Executions.{Partial, Failing}
@@ -25,6 +25,7 @@ use Rattle.macros.specs.Order.{Path, Before}
 use Rattle.macros.specs.Walk.{Place, at, stand}
 use Rattle.macros.specs.Points.{sizeBlock, run}
 use Rattle.verdicts.specs.Count.{Count, More}
+use Rattle.letters.specs.RefusalNumbers.{tableTooSmall, outputTooSmall}
 
 -- An answer: a verdict, with the count of pairs and, unless it is pass, the count of letters; or a refusal, its number and its place.
 pub data Answer : Type 0 where
@@ -41,10 +42,10 @@ IsPass (refused n p) = ⊥
 
 -- "Table suffices? 14." "Answer fits the output? 6."
 abbrev pub full : Answer
-full = refused 14 0
+full = refused tableTooSmall 0
 
 abbrev pub unfit : Answer
-unfit = refused 6 0
+unfit = refused outputTooSmall 0
 
 -- The two kinds of events.
 pub data Kind : Type 0 where
@@ -55,10 +56,12 @@ abbrev pub showing : Kind → ℕ → ℕ → Answer
 showing breaking k l = incoherent k l
 showing failing k l = fail k l
 
--- "the execution as a packed trace, on fail its model after it": the letters ls after a start, packed in an edition.
-unfoldable pub packed : Edition → RowWidths → Trace → Kind → List Letter → List ℕ
-packed e w start breaking ls = packing e (state start .header) ls
-packed e w start failing ls = packing e (state start .header) ls ++ packTables w (state start .header) (tablesOf (state (extend start ls)))
+-- "the execution as a packed trace, on fail its model after it": these are the bytes of the letters ls after a start, packed in an edition. All tests
+-- of a failing execution hold in the model that is shown. There is one such list of bytes only (`AnswerPacking.bytes-are`).
+abbrev pub AnswerBytes : Edition → Trace → Kind → List Letter → List ℕ → Type 0
+AnswerBytes e start breaking ls bytes = bytes ≡ packing e (state start .header) ls
+AnswerBytes e start failing ls bytes =
+    (t : Tables) × ShownModel (state (extend start ls)) t × (bytes ≡ packing e (state start .header) ls ++ packTables e (state start .header) t)
 
 -- The answer a with the bytes bs: they stand in front of what the output held there, or it is refused by 6, exactly where they do not fit.
 -- "Refused calls write no output; bytes past a written answer stay."
@@ -104,10 +107,9 @@ module _ (start : Trace) (m : Block) where
     pub windows : SameWindow (state trace) (state other)
 
   -- What kind of event it is. "A failing letter that is itself incoherent counts as incoherent."
-  -- All tests of a failing execution hold in the model that is shown.
   abbrev pub OfKind : Kind → Trace → Type 0
   OfKind breaking ρ = Partial start m ρ × Breaks ρ
-  OfKind failing ρ = Failing start m ρ × Coherent ρ × Satisfies (shown (state ρ)) (state ρ .equals) (state ρ .unequals)
+  OfKind failing ρ = Failing start m ρ × Coherent ρ
 
 -- The same executions. Possible σ: some data model satisfies the tests of the state σ.
 module _ {ℓ} (Possible : State → Type ℓ) (start : Trace) (m : Block) where
@@ -140,7 +142,7 @@ module _ {ℓ} (Possible : State → Type ℓ) (start : Trace) (m : Block) where
     pub count : PairCount k
 
   -- The verdict in an edition. The table holds n pairs. `output` is lent, and `output′` is what it holds afterwards.
-  pub record Verdict (e : Edition) (w : RowWidths) (n : ℕ) (output : List ℕ) (answer : Answer) (output′ : List ℕ) : Type ℓ where
+  pub record Verdict (e : Edition) (n : ℕ) (output : List ℕ) (answer : Answer) (output′ : List ℕ) : Type ℓ where
     -- "full is given exactly when it passes N"
     pub full-exactly : (answer ≡ full) ↔ PairsPass n
     pub full-output : answer ≡ full → output′ ≡ output
@@ -149,4 +151,5 @@ module _ {ℓ} (Possible : State → Type ℓ) (start : Trace) (m : Block) where
     pub pass-count : (k : ℕ) → answer ≡ pass k → PairCount k × (output′ ≡ output)
     -- else the first event is answered, or 6
     pub otherwise : answer ≢ full → ¬ IsPass answer
-        → (kind : Kind) × (k : ℕ) × (ls : List Letter) × Shows kind k ls × Delivered (packed e w start kind ls) (showing kind k (length ls)) output answer output′
+        → (kind : Kind) × (k : ℕ) × (ls : List Letter) × (bytes : List ℕ)
+        × Shows kind k ls × AnswerBytes e start kind ls bytes × Delivered bytes (showing kind k (length ls)) output answer output′

@@ -3,7 +3,7 @@ use mathlib.Core.Bool.{Bool, cond}
 use Prim.Native.Nat.{ℕ}
 use lib.Dec.{eqb, ltb}
 use lib.Bits.{bitAnd, bitOr, bitXor}
-use Rattle.base.specs.Masks.{leastIn}
+use Rattle.base.specs.LeastAndSize.{leastIn}
 
 -- the mask m without the registers of n
 unfoldable pub minus : ℕ → ℕ → ℕ

@@ -7,7 +7,8 @@ use lib.Dec.{eqb, ltb}
 use lib.Bits.{bitAnd, bitOr}
 use lib.ListN.{getD, set, replicate}
 use Rattle.base.specs.Choice.{pick}
-use Rattle.base.specs.Masks.{has, leastIn, sizeOf}
+use Rattle.base.specs.Masks.{has}
+use Rattle.base.specs.LeastAndSize.{leastIn, sizeOf}
 use Rattle.letters.specs.declared.Letter.{Letter}
 use Rattle.letters.specs.declared.Letter.the-variants.{Copy, Apply, Equal, Unequal}
 use Rattle.window.specs.Places.{place}

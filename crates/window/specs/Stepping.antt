@@ -1,7 +1,7 @@
 -- The window of a trace in a layout, letter by letter: what `judge` and `perform` do on the window of a state.
 use Prim.Native.Nat.{ℕ}
 use Rattle.semantics.specs.Terms.{State}
-use Rattle.semantics.specs.Window.{Tracks}
+use Rattle.semantics.specs.View.{Tracks}
 use Rattle.window.specs.Viewing.{view, Inside, Shaped}
 use Rattle.window.specs.declared.Window.{Window}
 

@@ -6,7 +6,7 @@ use mathlib.Core.List.{List}
 use lib.ListN.{length, getD}
 use lib.Dec.{ltb, T}
 use Rattle.base.specs.Masks.{has}
-use Rattle.semantics.specs.Window.{View}
+use Rattle.semantics.specs.View.{View}
 use Rattle.window.specs.Places.{place}
 use Rattle.window.specs.declared.Window.{Window}
 

@@ -12,8 +12,9 @@ use lib.Pow.{pow-pos, pow-lt, pow-add, shl-exact, shl-shr, shr-shr, shr-lt}
 use lib.Bits.{bitAnd, bitOr, and-shr, or-shr, and-mod, or-mod, or-zero-r}
 use lib.Count.{trailingZeros, ones, ones-step}
 use borrow.Author.Tests.{eqb-true, eqb-false, ltb-true, ltb-false}
-use Rattle.base.specs.Choice.{byTest}
-use Rattle.base.specs.Masks.{bit, has, leastFrom, leastIn, sizeFrom, sizeOf}
+use Rattle.base.proofs.Theory.Choice.{byTest}
+use Rattle.base.specs.Masks.{bit, has}
+use Rattle.base.specs.LeastAndSize.{leastFrom, leastIn, sizeFrom, sizeOf}
 
 -- a shift of one by less than the width
 pub shl-one : (w i : ℕ) → i < w → (1 * 2 ^ i) % 2 ^ w ≡ 2 ^ i

@@ -7,7 +7,7 @@ use mathlib.Core.List.{List, [], _∷_, _++_, map, append-assoc, append-nil}
 use lib.Dec.{eqb, leb}
 use lib.ListN.{length, length-append}
 use borrow.Author.Tests.{eq-eqb, ne-eqb, leb-true, leb-false, eqb-true, lt-ltb, le-ltb}
-use Rattle.base.specs.Choice.{byTest}
+use Rattle.base.proofs.Theory.Choice.{byTest}
 use Rattle.base.specs.Each.{each}
 use Rattle.letters.specs.declared.Letter.{Letter}
 use Rattle.macros.specs.Tree.{Condition, test, Statement, skip, perform, assert, if, while, Else, present, Block, empty, _then_}

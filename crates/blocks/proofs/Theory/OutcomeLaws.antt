@@ -8,7 +8,7 @@ use lib.Dec.{leb, ltb}
 use lib.ListN.{length, set, take, drop, length-append, take-append-drop}
 use lib.Seq.{length-take-le}
 use borrow.Author.Tests.{leb-true, leb-false, le-ltb, lt-leb, le-leb}
-use Rattle.base.specs.Choice.{byTest}
+use Rattle.base.proofs.Theory.Choice.{byTest}
 use Rattle.base.specs.Each.{each}
 use Rattle.letters.specs.declared.Letter.{Letter}
 use Rattle.grammar.specs.Reading.{Got, got, refused, exhausted, onward}

@@ -6,7 +6,7 @@ use mathlib.Core.List.{List, [], _∷_, _++_, map, append-assoc}
 use lib.Dec.{ltb}
 use lib.ListN.{length, getD, set, take, drop, replicate, length-append, length-replicate}
 use borrow.Author.Tests.{lt-ltb, le-ltb}
-use Rattle.base.specs.Choice.{byTest}
+use Rattle.base.proofs.Theory.Choice.{byTest}
 use Rattle.base.specs.Each.{each, eachFrom}
 use Rattle.base.proofs.Theory.Each.{each-all, each-at, each-length}
 use native.Mathlib.Nat.{add-suc, suc-add, add-zero, zero-add, sub-zero, zero-sub, suc-sub-suc}

@@ -8,7 +8,7 @@ use native.Mathlib.Omega.{arith}
 use lib.Dec.{eqb}
 use lib.ListN.{getD, replicate}
 use borrow.Author.Tests.{eqb-true, eqb-false}
-use Rattle.base.specs.Choice.{byTest}
+use Rattle.base.proofs.Theory.Choice.{byTest}
 use Rattle.closure.specs.Arrays.{Below, Parts, Clashes, clashes, parts}
 
 pub below-use : (b n a i : ℕ) (l : List ℕ) → Below b n l → i < n → a ≡ getD l i 0 → a < b

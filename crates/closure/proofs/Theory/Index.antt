@@ -9,7 +9,8 @@ use lib.Dec.{eqb, ltb}
 use lib.ListN.{length, getD, set, length-set}
 use lib.Seq.{getD-set-same, getD-set-other}
 use borrow.Author.Tests.{eqb-true, eqb-false, ltb-true, ltb-false}
-use Rattle.base.specs.Choice.{byTest, pick}
+use Rattle.base.proofs.Theory.Choice.{byTest}
+use Rattle.base.specs.Choice.{pick}
 use Rattle.closure.specs.Index.{signatureOf, Holds, here, there, Down, Chains, Complete, Found, Entered, Cut, CutTo, withoutLast}
 
 pub signature-same : {f p q g r s : ℕ} → f < 4 → g < 4 → q < 1032 → s < 1032 → signatureOf f p q ≡ signatureOf g r s → (f ≡ g) × (p ≡ r) × (q ≡ s)

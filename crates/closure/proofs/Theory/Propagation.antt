@@ -9,7 +9,8 @@ use native.Mathlib.Numerals.{add-one}
 use lib.Dec.{eqb, ltb}
 use lib.ListN.{length, getD}
 use borrow.Author.Tests.{eqb-true, eqb-false, ltb-true, ltb-false}
-use Rattle.base.specs.Choice.{byTest, pick}
+use Rattle.base.proofs.Theory.Choice.{byTest}
+use Rattle.base.specs.Choice.{pick}
 use Rattle.base.specs.Each.{done}
 use Rattle.base.proofs.Theory.Each.{each-length}
 use Rattle.closure.proofs.Theory.Written.{done-below, done-beyond, done-same}

@@ -8,7 +8,7 @@ use native.Mathlib.Omega.{arith}
 use lib.Dec.{eqb}
 use lib.ListN.{getD}
 use borrow.Author.Tests.{eqb-true, eqb-false}
-use Rattle.base.specs.Choice.{byTest}
+use Rattle.base.proofs.Theory.Choice.{byTest}
 use Rattle.closure.specs.Numbering.{Closed}
 use Rattle.closure.specs.Merging.{relabelOf}
 use Rattle.closure.proofs.Theory.Index.{holds-most}

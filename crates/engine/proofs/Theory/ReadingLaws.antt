@@ -8,7 +8,7 @@ use lib.Dec.{ltb, eqb}
 use lib.ListN.{length, getD, take, drop}
 use lib.Seq.{drop-cons, drop-drop}
 use borrow.Author.Tests.{le-ltb, le-leb, ltb-false, eqb-true}
-use Rattle.base.specs.Choice.{byTest}
+use Rattle.base.proofs.Theory.Choice.{byTest}
 use Rattle.letters.specs.declared.Header.{Header}
 use Rattle.letters.specs.declared.Letter.{Letter}
 use Rattle.letters.specs.declared.DecodedLetter.{DecodedLetter}
@@ -16,10 +16,13 @@ use Rattle.letters.specs.declared.DecodedLetter.the-variants as decoded
 use Rattle.letters.specs.Letters.{Fits}
 use Rattle.letters.specs.Packing.{join}
 use Rattle.letters.specs.Editions.{firstEdition}
-use Rattle.letters.specs.Answers.{value, refusal, letterAnswer, onAnswer}
-use Rattle.letters.specs.Words.{HeaderFits, decodeLetter}
+use Rattle.letters.specs.Answers.{value, refusal, onAnswer}
+use Rattle.letters.specs.CodeAnswers.{letterAnswer}
+use Rattle.letters.specs.Letters.{HeaderFits}
+use Rattle.letters.specs.Coding.{decodeLetter}
 use Rattle.letters.proofs.Theory.WordLaws.{first-roomy, decode-header, decode-letter}
-use Rattle.traces.specs.Traces.{Reading, trace, refused, before, octets, reading, readingWithin, readingWhere, beginning, lettersFrom, lettersOf, letterIn, letterCount, letterAt, parts}
+use Rattle.traces.specs.Reading.{Reading, trace, refused, before, octets, reading, readingWhere, beginning, lettersFrom, lettersOf, letterIn, letterCount, parts}
+use Rattle.traces.specs.ReadingParts.{readingWithin, letterAt}
 use Rattle.engine.specs.Run.{Begun, restOf, behind, RestRead, all-read, broken}
 use Rattle.engine.proofs.Theory.Run.{Following}
 

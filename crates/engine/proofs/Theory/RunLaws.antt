@@ -13,12 +13,14 @@ use Rattle.letters.specs.declared.DecodedLetter.{DecodedLetter}
 use Rattle.letters.specs.declared.DecodedLetter.the-variants as decoded
 use Rattle.letters.specs.Letters.{Fits}
 use Rattle.letters.specs.Editions.{firstEdition}
-use Rattle.letters.specs.Answers.{letterAnswer}
-use Rattle.letters.specs.Words.{HeaderFits}
-use Rattle.traces.specs.Traces.{trace, lettersOf, letterAt}
-use Rattle.semantics.specs.Terms.{begin, _▸_, state, start, after, traceOf, WellFormed}
+use Rattle.letters.specs.CodeAnswers.{letterAnswer}
+use Rattle.letters.specs.Letters.{HeaderFits}
+use Rattle.traces.specs.Reading.{trace, lettersOf}
+use Rattle.traces.specs.ReadingParts.{letterAt}
+use Rattle.semantics.specs.Terms.{begin, _▸_, state, start, after, traceOf}
+use Rattle.semantics.specs.Facts.{WellFormed}
 use Rattle.semantics.specs.Models.{Feasible}
-use Rattle.semantics.specs.Coherence.{FailsAt, size}
+use Rattle.semantics.specs.Judgement.{FailsAt, size}
 use Rattle.semantics.proofs.Theory.JudgementLaws.{first-infeasible-unique}
 use Rattle.semantics.proofs.Theory.TraceLaws.{extend-append, extend-size, extend-header}
 use Rattle.semantics.proofs.Theory.Facts.{state-valid}

@@ -8,7 +8,7 @@ use native.Mathlib.Omega.{arith}
 use lib.Dec.{eqb}
 use lib.ListN.{length}
 use borrow.Author.Tests.{eqb-true, eqb-false}
-use Rattle.base.specs.Choice.{byTest}
+use Rattle.base.proofs.Theory.Choice.{byTest}
 use Rattle.records.specs.Records.{recordBytes, encoded, recordOf}
 use Rattle.table.specs.Table.{putAt}
 use Rattle.exploration.specs.declared.Search.{Search}

@@ -7,7 +7,7 @@ use mathlib.Core.List.{List}
 use lib.Dec.{eqb, leb}
 use borrow.Author.Tests.{lt-ltb, le-ltb, eqb-false, ne-eqb}
 use Rattle.letters.specs.declared.Header.{Header}
-use Rattle.base.specs.Choice.{byTest}
+use Rattle.base.proofs.Theory.Choice.{byTest}
 use Rattle.window.specs.declared.Window.{Window}
 use Rattle.window.specs.Perform.{judgeOf, performOf, freshOf}
 use Rattle.records.specs.Records.{encoded, recordOf}

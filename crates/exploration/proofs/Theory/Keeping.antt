@@ -4,7 +4,7 @@ use Prim.Native.Nat.{ℕ, _+_, _*_, _/_, _≤_, _<_}
 use native.Mathlib.Omega.{arith}
 use mathlib.Core.List.{List}
 use lib.ListN.{length, getD, set}
-use Rattle.base.specs.Choice.{byTest}
+use Rattle.base.proofs.Theory.Choice.{byTest}
 use Rattle.window.specs.declared.Window.{Window}
 use Rattle.records.specs.Records.{recordBytes, encodedBytes, recordOf}
 use Rattle.table.specs.Table.{putAt, windowAt}

@@ -9,7 +9,7 @@ use lib.IntN.{ℤ, pos, negsuc}
 use lib.ListN.{length, take, drop}
 use lib.Seq.{length-paste, length-take-le, drop-paste, drop-drop}
 use borrow.Author.Tests.{eqb-false}
-use Rattle.base.specs.Choice.{byTest}
+use Rattle.base.proofs.Theory.Choice.{byTest}
 use Rattle.files.specs.declared.OneRead.{OneRead}
 use Rattle.files.specs.declared.OneRead.the-variants.{Bytes, End, Failed}
 use Rattle.files.specs.declared.Input.{Input}

@@ -7,7 +7,7 @@ use lib.Dec.{leb}
 use lib.ListN.{length, take}
 use lib.Seq.{take-all, length-take-le}
 use borrow.Author.Tests.{leb-true, leb-false}
-use Rattle.base.specs.Choice.{byTest}
+use Rattle.base.proofs.Theory.Choice.{byTest}
 use Rattle.files.specs.declared.Lines as files
 use Rattle.files.specs.declared.Lines.the-variants.{Written, Unread}
 use Rattle.files.specs.Lines.{Known, bytes, unread, Answers}

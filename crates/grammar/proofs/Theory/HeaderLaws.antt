@@ -8,7 +8,8 @@ use mathlib.Core.List.{List, [], _∷_}
 use lib.Dec.{eqb}
 use lib.ListN.{getD}
 use lib.Pow.{shr-shr}
-use Rattle.base.specs.Choice.{pick, byTest}
+use Rattle.base.specs.Choice.{pick}
+use Rattle.base.proofs.Theory.Choice.{byTest}
 use Rattle.base.specs.Masks.{bit}
 use Rattle.letters.specs.Letters.{arity}
 use Rattle.grammar.specs.Grammar.{binaryOf, header, takesTwo}

@@ -10,7 +10,7 @@ use lib.Dec.{eqb}
 use lib.ListN.{length, getD, set, replicate, length-set, length-replicate}
 use lib.Seq.{getD-set-same, getD-set-other}
 use borrow.Author.Tests.{eqb-true, eqb-false}
-use Rattle.base.specs.Choice.{byTest}
+use Rattle.base.proofs.Theory.Choice.{byTest}
 use Rattle.records.specs.Records.{encodedBytes}
 use Rattle.table.specs.Table.{pairAt, isAt, isListed}
 use Rattle.table.proofs.Theory.TableLaws.{is-pair, at-listed, listed-at}

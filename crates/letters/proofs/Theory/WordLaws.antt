@@ -12,7 +12,8 @@ use lib.ListN.{replicate}
 use lib.Seq.{drop-append-seam}
 use lib.Pow as pow
 use borrow.Author.Tests.{lt-ltb, le-leb, eq-eqb, ltb-true, leb-true, eqb-true}
-use Rattle.base.specs.Choice.{pick, byTest}
+use Rattle.base.specs.Choice.{pick}
+use Rattle.base.proofs.Theory.Choice.{byTest}
 use Rattle.base.specs.Masks.{has}
 use Rattle.letters.specs.declared.Header.{Header}
 use Rattle.letters.specs.declared.Letter.{Letter}
@@ -22,8 +23,11 @@ use Rattle.letters.specs.Packing.{Sized, split}
 use Rattle.letters.proofs.Theory.Packing.{join-lt, split-join}
 use Rattle.letters.specs.Editions.{Edition, firstEdition}
 use Rattle.letters.specs.Answers.{Answer, value, refusal}
-use Rattle.letters.specs.Words.{HeaderFits, bitsFrom, maskOf, arityField, headerFields, headerWord, letterFields, letterWord, headerTest, applyTest, fitsTest, encodeHeader, encodeLetter, headerOf, decodeHeader, letterBy, letterOf, decodeLetter}
-use Rattle.letters.specs.WordLaws.{Roomy}
+use Rattle.letters.specs.Letters.{HeaderFits}
+use Rattle.letters.specs.Words.{bitsFrom, arityField, headerFields, headerWord, letterFields, letterWord}
+use Rattle.letters.specs.Coding.{maskOf, headerTest, applyTest, fitsTest, headerOf, decodeHeader, letterBy, letterOf, decodeLetter}
+use Rattle.letters.specs.Encoding.{encodeHeader, encodeLetter}
+use Rattle.letters.specs.Roomy.{Roomy}
 
 -- ---- tests
 

@@ -4,7 +4,8 @@ use mathlib.Core.Path.{_≡_, refl, sym, ap, _∙_, subst}
 use mathlib.Core.Logic.{_↔_}
 use Rattle.semantics.specs.Terms.{Trace, _▸_}
 use Rattle.macros.specs.Tree.{Condition, test, opposite, Statement, skip, perform, assert, if, while, Else, absent, present, Block, empty, _then_}
-use Rattle.macros.specs.Executions.{Outcome, done, failed, Exec, ExecElse, ExecBlock, Partial, Complete, Failing, Begins, completesBlock, block-begins}
+use Rattle.macros.specs.Executions.{Outcome, done, failed, Exec, ExecElse, ExecBlock, Partial, Complete, Failing, Begins}
+use Rattle.macros.proofs.Theory.Executions.{completesBlock, block-begins}
 use Rattle.macros.specs.Executions
 use Rattle.macros.specs.Order.{Branch, first, second, Path, root, _▹_}
 use Rattle.macros.specs.Walk.{Place, at, failure, Move, no-move, move, Stand, nowhere, stand, take-move, onward, walk}

@@ -7,7 +7,8 @@ use native.Mathlib.Omega.{arith}
 use Rattle.letters.specs.declared.Letter.the-variants.{Copy, Apply, Equal, Unequal}
 use Rattle.semantics.specs.Terms.{Trace, _▸_}
 use Rattle.macros.specs.Tree.{equal, unequal, skip, perform, assert, if, while, present, Block, empty, _then_}
-use Rattle.macros.specs.Executions.{Partial, Complete, Failing, letter, holds, fails, leaves, turns, both, ends, stop, whole, block-begins}
+use Rattle.macros.specs.Executions.{Partial, Complete, Failing, letter, holds, fails, leaves, turns, both, ends, stop, whole}
+use Rattle.macros.proofs.Theory.Executions.{block-begins}
 use Rattle.macros.specs.Order.{Branch, first, second, Path, root, _▹_, Before}
 use Rattle.macros.specs.Walk.{Place, at, failure, move, stand}
 use Rattle.macros.proofs.Theory.Walk.{last, no-letters}

@@ -3,7 +3,8 @@ use mathlib.Core.Path.{_≡_, sym, subst}
 use Prim.Native.Nat.{ℕ, _+_}
 use Rattle.letters.specs.declared.Header.{Header}
 use Rattle.letters.specs.Letters.{Fits}
-use Rattle.semantics.specs.Terms.{Trace, state, WellFormed}
+use Rattle.semantics.specs.Terms.{Trace, state}
+use Rattle.semantics.specs.Facts.{WellFormed}
 use Rattle.macros.specs.Tree.{Condition, equal, unequal, test, opposite, Statement, skip, perform, assert, if, while, Else, absent, present, Block, empty, _then_, Proper, ProperElse, ProperBlock}
 use Rattle.macros.specs.Executions.{Partial}
 use Rattle.macros.specs.Order.{Branch, first, second, Path}

@@ -9,7 +9,7 @@ use native.Mathlib.Omega.{arith}
 use lib.ListN.{length, length-append, getElem?}
 use Rattle.letters.specs.declared.Letter.{Letter}
 use Rattle.semantics.specs.Terms.{Trace}
-use Rattle.semantics.specs.Coherence.{size as letters}
+use Rattle.semantics.specs.Judgement.{size as letters}
 use Rattle.macros.proofs.Theory.Numbers.{less-or}
 use Rattle.macros.specs.Tree.{Condition, equal, unequal, test, opposite, Statement, skip, perform, assert, if, while, Else, absent, present, Block, empty, _then_}
 use Rattle.macros.specs.Executions.{Partial, Complete, Failing}

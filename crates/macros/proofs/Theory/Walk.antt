@@ -4,8 +4,9 @@ use Prim.Native.Nat.{ℕ, _+_}
 use native.Mathlib.Omega.{arith}
 use Rattle.letters.specs.declared.Letter.{Letter}
 use Rattle.semantics.specs.Terms.{Trace, _▸_}
-use Rattle.semantics.specs.Coherence.{size as letters}
-use Rattle.semantics.specs.Prefixes.{Begins, whole, before, begins-join}
+use Rattle.semantics.specs.Judgement.{size as letters}
+use Rattle.semantics.specs.Prefixes.{Begins, whole, before}
+use Rattle.semantics.proofs.Theory.Prefixes.{begins-join}
 use Rattle.semantics.proofs.Theory.Prefixes.{begins-size}
 use Rattle.macros.specs.Order.{Branch, Path, root, _▹_, steps}
 use Rattle.macros.specs.Walk.{Place, at, failure, Move, no-move, move, Stand, nowhere, stand, take-move, onward, walk}

@@ -10,8 +10,9 @@ use borrow.Author.Tests.{lt-ltb, le-ltb, eq-eqb, ne-eqb}
 use Rattle.letters.specs.Editions.{firstEdition}
 use Rattle.letters.specs.Packing.{join}
 use Rattle.letters.specs.Answers.{onAnswer}
-use Rattle.letters.specs.Words.{decodeHeader}
-use Rattle.traces.specs.Traces.{Reading, refused, octets, beginning, readingWhere, readingWithin}
+use Rattle.letters.specs.Coding.{decodeHeader}
+use Rattle.traces.specs.Reading.{Reading, refused, octets, beginning, readingWhere}
+use Rattle.traces.specs.ReadingParts.{readingWithin}
 use Rattle.model_lines.specs.Prints.{readLine, lineFor}
 use Rattle.model_lines.specs.Answered.{mostRead, oddRead}
 

@@ -9,19 +9,19 @@ use lib.ListN.{length, getD, take, drop, length-append, length-reverse, drop-of-
 use lib.Seq.{drop-cons, take-at, length-take-le}
 use borrow.Author.Tests.{le-leb}
 use Rattle.io.specs.Digits.{glyph}
-use Rattle.base.specs.Choice.{byTest}
+use Rattle.base.proofs.Theory.Choice.{byTest}
 use Rattle.letters.specs.declared.Header.{Header}
 use Rattle.letters.specs.declared.Letter.{Letter}
 use Rattle.letters.specs.Editions.{firstEdition}
-use Rattle.traces.specs.Traces.{Reading, trace, refused, readingWithin}
+use Rattle.traces.specs.Reading.{Reading, trace, refused}
+use Rattle.traces.specs.ReadingParts.{readingWithin}
 use Rattle.semantics.specs.Terms.{State, begin, state, traceOf}
 use Rattle.semantics.proofs.Theory.TraceLaws.{extend-size, extend-header, terms-length}
-use Rattle.semantics.specs.Shown.{number, tablesOf}
-use Rattle.semantics.specs.Tables.{shownTables}
+use Rattle.semantics.specs.ShownTables.{number, tablesOf}
+use Rattle.semantics.specs.ShownTables.{shownTables}
 use Rattle.semantics.proofs.Theory.ShownPacked.{rows-length, starts-length}
-use Rattle.semantics.specs.PackedTables.{firstRowWidths}
 use Rattle.semantics.proofs.Theory.PackedTablesLaws.{packed-length}
-use Rattle.semantics.specs.Judgement.{firstInfeasible}
+use Rattle.semantics.specs.FirstLetters.{firstInfeasible}
 use Rattle.text.specs.Numerals.{numeral}
 use Rattle.text.proofs.Theory.Numerals.{numeral-length}
 use Rattle.text.specs.Names.{nameText}
@@ -173,7 +173,7 @@ module _ (s : List ℕ) (h : Header) (ls : List Letter) (e : readingWithin 1024 
 
   model-fits : length (modelBytes (state (traceOf h ls))) ≤ mostModel
   unfolding modelBytes
-  model-fits = omega (arith, packed-length firstRowWidths (σ .header) (tablesOf σ), rows-few, starts-few)
+  model-fits = omega (arith, packed-length firstEdition (σ .header) (tablesOf σ), rows-few, starts-few)
 
 -- ── the line of the answer is that of the trace ──
 refused-line : (r : Shown) (a b : ℕ) (out : List ℕ) → shownAnswer r ≡ answer.refusal a b → lineOf r out ≡ refusedLine a b

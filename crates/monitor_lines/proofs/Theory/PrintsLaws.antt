@@ -7,7 +7,7 @@ use lib.Dec.{eqb}
 use lib.ListN.{length, take, length-append}
 use lib.Seq.{length-take-le}
 use borrow.Author.Tests.{ne-eqb}
-use Rattle.base.specs.Choice.{byTest}
+use Rattle.base.proofs.Theory.Choice.{byTest}
 use Rattle.letters.specs.Answers.{Answer}
 use Rattle.text.specs.Numerals.{numeral}
 use Rattle.text.proofs.Theory.Numerals.{numeral-length}

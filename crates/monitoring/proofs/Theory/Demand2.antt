@@ -4,7 +4,7 @@ use Prim.Native.Nat.{ℕ}
 use mathlib.Core.List.{List}
 use Rattle.letters.specs.Answers.{Answer, value}
 use Rattle.letters.specs.Editions.{firstEdition}
-use Rattle.traces.specs.Traces.{Reading, trace, refused, reading}
+use Rattle.traces.specs.Reading.{Reading, trace, refused, reading}
 use Rattle.semantics.specs.Terms.{traceOf}
 use Rattle.semantics.proofs.Theory.JudgementLaws.{judgement-unique}
 use Rattle.monitoring.specs.Demand2.{Demand2}

@@ -9,14 +9,17 @@ use Rattle.letters.specs.declared.Letter.{Letter}
 use Rattle.letters.specs.Letters.{Fits}
 use Rattle.letters.specs.Answers.{value, refusal}
 use Rattle.letters.specs.Editions.{firstEdition}
-use Rattle.letters.specs.Words.{HeaderFits, letterWord, decodeLetter}
+use Rattle.letters.specs.Letters.{HeaderFits}
+use Rattle.letters.specs.Words.{letterWord}
+use Rattle.letters.specs.Coding.{decodeLetter}
 use Rattle.letters.proofs.Theory.WordLaws.{first-roomy, decode-header, decode-header-refused, decode-letter, decode-letter-refused}
-use Rattle.traces.specs.Traces.{reading}
+use Rattle.traces.specs.Reading.{reading}
 use Rattle.semantics.specs.Terms.{Trace, begin, _▸_, state}
 use Rattle.semantics.specs.Models.{Feasible}
-use Rattle.semantics.specs.Coherence.{Coherent, size}
+use Rattle.semantics.specs.Coherence.{Coherent}
+use Rattle.semantics.specs.Judgement.{size}
 use Rattle.semantics.proofs.Theory.Judge.{coherent-is}
-use Rattle.semantics.specs.Judgement.{coherentPart}
+use Rattle.semantics.specs.FirstLetters.{coherentPart}
 use Rattle.semantics.proofs.Theory.JudgementLaws.{longest-is, longest-unique}
 use Rattle.window.proofs.Theory.Step.{fits-within}
 use Rattle.monitoring.specs.Monitor.{outcomeAnswer, stepped, idleOf, freshMonitor, startOf, movedOf, advance}

@@ -6,7 +6,7 @@ use Rattle.letters.specs.declared.Header.{Header}
 use Rattle.letters.specs.declared.Letter.{Letter}
 use Rattle.letters.specs.Answers.{value, refusal}
 use Rattle.letters.specs.Editions.{firstEdition}
-use Rattle.letters.specs.Words.{headerTest, decodeHeader, decodeLetter}
+use Rattle.letters.specs.Coding.{headerTest, decodeHeader, decodeLetter}
 use Rattle.window.specs.Perform.{judgeOf, performOf}
 use Rattle.window.specs.declared.Window.{Window}
 use Rattle.monitoring.specs.Monitor.{stepped, idleOf, freshMonitor, startOf, movedOf, advance}

@@ -5,10 +5,10 @@ use Prim.Native.Nat.{ℕ, zero, suc, _+_, _≤_, _<_}
 use native.Mathlib.Omega.{arith}
 use lib.Dec.{ltb, eqb}
 use borrow.Author.Tests.{lt-ltb, le-ltb, ltb-true, ltb-false, ne-eqb}
-use Rattle.base.specs.Choice.{byTest}
+use Rattle.base.proofs.Theory.Choice.{byTest}
 use Rattle.letters.specs.declared.Header.{Header}
 use Rattle.semantics.specs.Terms.{Trace, begin, _▸_}
-use Rattle.semantics.specs.Coherence.{size}
+use Rattle.semantics.specs.Judgement.{size}
 use Rattle.semantics.specs.Judge.{fails}
 use Rattle.monitoring.specs.Run.{last, capped, nextNumber, firstOf}
 

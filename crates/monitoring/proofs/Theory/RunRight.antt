@@ -4,21 +4,21 @@ use mathlib.Core.Logic.{_↔_}
 use mathlib.Core.Bool.{Bool, true, false, not, _&&_}
 use Prim.Native.Nat.{ℕ, suc}
 use lib.Dec.{T}
-use Rattle.base.specs.Choice.{byTest}
+use Rattle.base.proofs.Theory.Choice.{byTest}
 use Rattle.letters.specs.declared.Header.{Header}
 use Rattle.letters.specs.declared.Letter.{Letter}
 use Rattle.letters.specs.Answers.{value, refusal}
 use Rattle.letters.specs.Editions.{firstEdition}
-use Rattle.letters.specs.Words.{decodeHeader, decodeLetter}
+use Rattle.letters.specs.Coding.{decodeHeader, decodeLetter}
 use Rattle.letters.proofs.Theory.WordLaws.{first-roomy, decode-header, decode-letter}
 use Rattle.semantics.proofs.Theory.Booleans.{of-true, of-false}
 use Rattle.semantics.specs.Terms.{Trace, begin, _▸_, state}
 use Rattle.semantics.proofs.Theory.Facts.{state-valid}
 use Rattle.semantics.specs.Models.{Feasible}
-use Rattle.semantics.specs.Coherence.{size}
+use Rattle.semantics.specs.Judgement.{size}
 use Rattle.semantics.specs.Judge.{coherent, feasible, fails}
 use Rattle.semantics.proofs.Theory.Judge.{feasible-is}
-use Rattle.semantics.specs.Judgement.{coherentPart, incoherentLetter, infeasibleLetter}
+use Rattle.semantics.specs.FirstLetters.{coherentPart, incoherentLetter, infeasibleLetter}
 use Rattle.semantics.proofs.Theory.JudgementLaws.{part-whole, part-shorter, part-formed}
 use Rattle.window.proofs.Theory.Step.{fits-within}
 use Rattle.monitoring.specs.Monitor.{movedOf}

@@ -4,17 +4,18 @@ use mathlib.Core.Logic.{_↔_}
 use mathlib.Core.Bool.{true, false}
 use Prim.Native.Nat.{_≤_}
 use lib.Dec.{T}
-use Rattle.base.specs.Choice.{byTest}
+use Rattle.base.proofs.Theory.Choice.{byTest}
 use Rattle.letters.specs.declared.Header.{Header}
 use Rattle.letters.specs.declared.Letter.{Letter}
 use Rattle.letters.specs.Letters.{Fits}
 use Rattle.semantics.proofs.Theory.Booleans.{of-true, of-false, is-true, is-false}
-use Rattle.semantics.specs.Terms.{Trace, begin, _▸_, state, WellFormed}
+use Rattle.semantics.specs.Terms.{Trace, begin, _▸_, state}
+use Rattle.semantics.specs.Facts.{WellFormed}
 use Rattle.semantics.proofs.Theory.Facts.{state-valid}
 use Rattle.semantics.specs.Coherence.{Coherent}
 use Rattle.semantics.specs.Judge.{coherent}
 use Rattle.semantics.proofs.Theory.Judge.{coherent-is}
-use Rattle.semantics.specs.Judgement.{coherentPart}
+use Rattle.semantics.specs.FirstLetters.{coherentPart}
 use Rattle.semantics.proofs.Theory.JudgementLaws.{part-whole, part-shorter}
 use Rattle.window.specs.Perform.{Within, judgeOf}
 use Rattle.window.specs.Step.{Holds}

@@ -7,20 +7,24 @@ use mathlib.Core.List.{List, [], _∷_, _++_}
 use lib.Dec.{eqb}
 use lib.ListN.{length}
 use borrow.Author.Tests.{le-ltb, eq-eqb, ne-eqb, eqb-true, eqb-false}
-use Rattle.base.specs.Choice.{pick, byTest}
+use Rattle.base.specs.Choice.{pick}
+use Rattle.base.proofs.Theory.Choice.{byTest}
 use Rattle.letters.specs.declared.Header.{Header}
 use Rattle.letters.specs.declared.Letter.{Letter}
 use Rattle.letters.specs.Answers.{Answer, value, refusal, onAnswer}
 use Rattle.letters.specs.Packing.{join, split}
 use Rattle.letters.specs.Editions.{firstEdition}
-use Rattle.letters.specs.Words.{headerWord, letterWord, headerTest, fitsTest, headerOf, letterOf, decodeHeader, decodeLetter}
+use Rattle.letters.specs.Words.{headerWord, letterWord}
+use Rattle.letters.specs.Coding.{headerTest, fitsTest, headerOf, letterOf, decodeHeader, decodeLetter}
 use Rattle.letters.proofs.Theory.WordLaws.{first-roomy}
-use Rattle.traces.specs.Traces.{Reading, trace, refused, AllFit, octets, parts, before, lettersFrom, beginning, letterCount, letterIn, lettersOf, readingWhere, reading}
+use Rattle.traces.specs.Reading.{Reading, trace, refused, octets, parts, before, lettersFrom, beginning, letterCount, letterIn, lettersOf, readingWhere, reading}
+use Rattle.traces.specs.Traces.{AllFit}
 use Rattle.traces.proofs.Theory.TraceLaws.{letters-decoded, parts-length, reading-fits}
-use Rattle.semantics.specs.Terms.{Trace, begin, _▸_, state, WellFormed, extend, traceOf}
-use Rattle.semantics.specs.Coherence.{size}
+use Rattle.semantics.specs.Terms.{Trace, begin, _▸_, state, extend, traceOf}
+use Rattle.semantics.specs.Facts.{WellFormed}
+use Rattle.semantics.specs.Judgement.{size}
 use Rattle.semantics.specs.Judge.{coherent, feasible}
-use Rattle.semantics.specs.Judgement.{coherentPart, incoherentLetter, infeasibleLetter}
+use Rattle.semantics.specs.FirstLetters.{coherentPart, incoherentLetter, infeasibleLetter}
 use Rattle.semantics.proofs.Theory.JudgementLaws.{judgement-is}
 use Rattle.monitoring.specs.Monitor.{idleOf}
 use Rattle.monitoring.proofs.Theory.MonitorLaws.{start-refused}

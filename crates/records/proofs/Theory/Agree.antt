@@ -7,7 +7,7 @@ use mathlib.Core.List.{List, [], _∷_}
 use lib.ListN.{getD, take, drop, replicate}
 use lib.Seq.{take-take, take-nil}
 use Rattle.letters.specs.Packing.{join}
-use Rattle.semantics.specs.PackedTables.{unitsIn}
+use Rattle.semantics.specs.TablesRead.{unitsIn}
 use Rattle.records.specs.Formats.{Format, numberBytes, flagBytes, branchPlace, pairPlace, contentPlace, masksBytes, contentBytes, encodedBytes}
 use Rattle.records.specs.Formats.{Sound, numberIn, parentIn, branchIn, pointIn, codesIn, windowFrom, windowIn}
 

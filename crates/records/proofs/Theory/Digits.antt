@@ -9,7 +9,8 @@ use lib.Seq.{drop-at, take-at}
 use Rattle.letters.specs.Packing.{total, Sized, join, split}
 use Rattle.letters.proofs.Theory.Packing.{split-join, join-split, join-lt}
 use Rattle.traces.proofs.Theory.TraceLaws.{octets-total, octets-length}
-use Rattle.semantics.specs.PackedTables.{units, unitsIn}
+use Rattle.semantics.specs.PackedTables.{units}
+use Rattle.semantics.specs.TablesRead.{unitsIn}
 use Rattle.records.specs.Codes.{gathered, scattered}
 
 -- every entry lies below a bound

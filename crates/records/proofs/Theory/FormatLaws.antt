@@ -12,9 +12,11 @@ use lib.ListN.{length, getD, drop, replicate, length-append, length-replicate, l
 use lib.Seq.{drop-at, drop-drop, getD-append-add}
 use lib.Pow.{shr-shr, shr-lt}
 use borrow.Author.Tests.{eq-eqb, ne-eqb, eqb-true}
-use Rattle.base.specs.Choice.{byTest}
-use Rattle.base.specs.Masks.{bit, leastIn}
-use Rattle.semantics.specs.PackedTables.{units, unitsIn}
+use Rattle.base.proofs.Theory.Choice.{byTest}
+use Rattle.base.specs.Masks.{bit}
+use Rattle.base.specs.LeastAndSize.{leastIn}
+use Rattle.semantics.specs.PackedTables.{units}
+use Rattle.semantics.specs.TablesRead.{unitsIn}
 use Rattle.window.specs.Places.{line-entry, along-entry}
 use Rattle.window.proofs.Theory.Places.{entry-below}
 use Rattle.window.proofs.Theory.Table.{table-at, table-length, table-is}

@@ -7,7 +7,7 @@ use mathlib.Core.List.{List, [], _∷_, _++_}
 use lib.Dec.{eqb}
 use lib.ListN.{length, drop}
 use borrow.Author.Tests.{eq-eqb, eqb-true}
-use Rattle.base.specs.Choice.{byTest}
+use Rattle.base.proofs.Theory.Choice.{byTest}
 use Rattle.records.specs.Formats.{pairPlace, sameFront, samePair}
 
 pub front-is : (p l : List ℕ) → sameFront p l ≡ true → l ≡ p ++ drop (length p) l

@@ -5,7 +5,7 @@ use native.Mathlib.Omega.{arith}
 use mathlib.Core.List.{List}
 use lib.Dec.{ltb}
 use borrow.Author.Tests.{ltb-true, ltb-false}
-use Rattle.base.specs.Choice.{byTest}
+use Rattle.base.proofs.Theory.Choice.{byTest}
 use Rattle.tokens.specs.Tokens.{tokenAt}
 use Rattle.grammar.specs.Spelled.{Spells, none}
 use Rattle.grammar.proofs.Theory.Sound.{spells-then, spells-one}

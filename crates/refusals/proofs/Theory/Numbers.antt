@@ -8,7 +8,7 @@ use lib.Dec.{leb, eqb}
 use lib.ListN.{length, getD, drop}
 use lib.Seq.{drop-cons, slice, slice-cons}
 use borrow.Author.Tests.{leb-false, eqb-true, eqb-false}
-use Rattle.base.specs.Choice.{byTest}
+use Rattle.base.proofs.Theory.Choice.{byTest}
 use Rattle.tokens.specs.Bytes.{gap, width, key}
 use Rattle.tokens.specs.Tokens.{tokenAt}
 use Rattle.tokens.proofs.Theory.TokensLaws.{token-within}

@@ -6,12 +6,15 @@ use native.Mathlib.Nat.{mul-suc, mul-zero}
 use mathlib.Core.List.{List, [], _∷_, _++_, map}
 use lib.ListN.{length, getD, drop, length-append}
 use lib.Seq.{getD-drop}
-use Rattle.base.specs.Choice.{pick, byTest}
+use Rattle.letters.specs.Editions.{firstEdition}
+use Rattle.base.specs.Choice.{pick}
+use Rattle.base.proofs.Theory.Choice.{byTest}
 use Rattle.base.specs.Masks.{has}
 use Rattle.letters.specs.declared.Header.{Header}
 use Rattle.letters.specs.declared.Letter.{Letter}
 use Rattle.letters.specs.declared.Letter.the-variants.{Copy, Apply, Equal, Unequal}
-use Rattle.semantics.specs.PackedTables.{unitsIn, firstRowWidths, secondWritten, rowFrom, readTables}
+use Rattle.semantics.specs.TablesRead.{unitsIn, rowFrom, readTables}
+use Rattle.semantics.specs.PackedTables.{secondWritten}
 use Rattle.text.specs.Numerals.{numeral}
 use Rattle.text.proofs.Theory.Numerals.{numeral-length}
 use Rattle.text.proofs.Theory.Names.{name-length}
@@ -67,22 +70,22 @@ module _ (names : Names) (reg : (r : ℕ) → length (names .register r) ≤ 8) 
   second-small f b l = byTest (has (h .binary) f) (λ e. rw e l) (λ e. rw e (omega arith))
 
   module _ (n : ℕ) where
-    first-small : rowFrom firstRowWidths h n .first < 2048
+    first-small : rowFrom firstEdition h n .first < 2048
     unfolding rowFrom
     first-small = omega arith
 
-    second-written : secondWritten h (rowFrom firstRowWidths h n) < 2048
+    second-written : secondWritten h (rowFrom firstEdition h n) < 2048
     unfolding rowFrom
     second-written = rw (second-read h (n / 274877906944 % 4) (n / 134217728 % 2048) (n / 65536 % 2048) (n / 32 % 2048)) (second-small (n / 274877906944 % 4) (n / 65536 % 2048) (omega arith))
 
-    result-small : rowFrom firstRowWidths h n .result < 2048
+    result-small : rowFrom firstEdition h n .result < 2048
     unfolding rowFrom
     result-small = omega arith
 
-    row-length : length (rowLine (names .function) h (rowFrom firstRowWidths h n)) ≤ 28
+    row-length : length (rowLine (names .function) h (rowFrom firstEdition h n)) ≤ 28
     unfolding rowLine line
     row-length =
-        let r = rowFrom firstRowWidths h n in
+        let r = rowFrom firstEdition h n in
         simp length-append (omega (arith, fun (r .function), value-number (r .first) first-small, value-number (secondWritten h r) second-written, value-number (r .result) result-small))
 
   values-length : (n : ℕ) → n < 65536 → length (line (valuesWord ∷ numeral n ∷ [])) ≤ 13
@@ -105,15 +108,15 @@ module _ (names : Names) (reg : (r : ℕ) → length (names .register r) ≤ 8) 
     execution-length n l =
         rw (execution-parts names h s n) (simp length-append (omega (arith, word-number n l, lines-length (letterLine names h) 40 letter-length (lettersIn h s 0 n), letters-length h s 0 n)))
 
-    model-length : (o : ℕ) → length (modelLines names h (readTables firstRowWidths h (drop o s))) ≤ 13 + 21 * h .registers + 28 * wordIn s (o + 2)
+    model-length : (o : ℕ) → length (modelLines names h (readTables firstEdition h (drop o s))) ≤ 13 + 21 * h .registers + 28 * wordIn s (o + 2)
     model-length o =
         let ns : List ℕ = unitsIn 5 (wordIn s (o + 2)) (drop (o + 4 + 2 * h .registers) s) in
-        rw (model-parts names h s o, lines-map (rowLine (names .function) h) (rowFrom firstRowWidths h) ns)
+        rw (model-parts names h s o, lines-map (rowLine (names .function) h) (rowFrom firstEdition h) ns)
         (simp length-append (omega (
           arith,
           values-length (wordIn s o) (word-small s b o),
           starts-length (drop (o + 4) s) (λ i. rw (getD-drop (o + 4) s i 0) (b (o + 4 + i))) 0 (h .registers),
-          lines-length (λ n. rowLine (names .function) h (rowFrom firstRowWidths h n)) 28 row-length ns,
+          lines-length (λ n. rowLine (names .function) h (rowFrom firstEdition h n)) 28 row-length ns,
           units-count 5 (wordIn s (o + 2)) (drop (o + 4 + 2 * h .registers) s),
         )))
 

@@ -13,12 +13,15 @@ use Rattle.letters.specs.declared.Letter.the-variants.{Copy}
 use Rattle.letters.specs.Packing.{join}
 use Rattle.letters.specs.Editions.{firstEdition}
 use Rattle.letters.specs.Answers.{Answer, onAnswer}
-use Rattle.letters.specs.Words.{HeaderFits, headerWord, letterWord}
+use Rattle.letters.specs.Letters.{HeaderFits}
+use Rattle.letters.specs.Words.{headerWord, letterWord}
 use Rattle.letters.proofs.Theory.WordLaws.{first-roomy}
-use Rattle.traces.specs.Traces.{AllFit, packing, letterAt}
+use Rattle.traces.specs.Traces.{AllFit, packing}
+use Rattle.traces.specs.ReadingParts.{letterAt}
 use Rattle.traces.proofs.Theory.TraceLaws.{bytes-length, reading-packing, letter-at}
 use Rattle.semantics.specs.Tables.{Tables}
-use Rattle.semantics.specs.PackedTables.{unitsIn, firstRowWidths, packTables, rowFrom, readTables, Packable}
+use Rattle.semantics.specs.TablesRead.{unitsIn, rowFrom, readTables, Packable}
+use Rattle.semantics.specs.PackedTables.{packTables}
 use Rattle.semantics.proofs.Theory.PackedTablesLaws.{packed-length, read-packed}
 use Rattle.report.specs.declared.Verdict.the-variants.{Incoherent, Fail}
 use Rattle.report.specs.Lines.{incoherent, fail, report}
@@ -99,73 +102,73 @@ module _ (h : Header) (ls : List Letter) (v : HeaderFits firstEdition h) (f : Al
   incoherent-report registers functions pairs = ap (λ (l : List Letter). report (namesOf registers functions) h (incoherent pairs l)) packed-letters
 
 -- ── tables ──
-module _ (h : Header) (t : Tables) (p : Packable firstRowWidths h t) (rest : List ℕ) where
-  size : length (packTables firstRowWidths h t) ≡ 2 * (2 + h .registers) + 5 * length (t .rows)
-  size = packed-length firstRowWidths h t ∙ ap (λ (n : ℕ). 2 * (2 + n) + 5 * length (t .rows)) (p .registers)
+module _ (h : Header) (t : Tables) (p : Packable firstEdition h t) (rest : List ℕ) where
+  size : length (packTables firstEdition h t) ≡ 2 * (2 + h .registers) + 5 * length (t .rows)
+  size = packed-length firstEdition h t ∙ ap (λ (n : ℕ). 2 * (2 + n) + 5 * length (t .rows)) (p .registers)
 
-  rows-count : getD (unitsIn 2 (2 + h .registers) (packTables firstRowWidths h t)) 1 0 ≡ length (t .rows)
+  rows-count : getD (unitsIn 2 (2 + h .registers) (packTables firstEdition h t)) 1 0 ≡ length (t .rows)
   unfolding readTables
   rows-count =
-      let m : ℕ = getD (unitsIn 2 (2 + h .registers) (packTables firstRowWidths h t)) 1 0 in
-      let behind : List ℕ = drop (2 * (2 + h .registers)) (packTables firstRowWidths h t) in
-      sym (units-count 5 m behind) ∙ sym (length-map (unitsIn 5 m behind) (rowFrom firstRowWidths h)) ∙ ap (λ (x : Tables). length (x .rows)) (read-packed firstRowWidths h t p)
+      let m : ℕ = getD (unitsIn 2 (2 + h .registers) (packTables firstEdition h t)) 1 0 in
+      let behind : List ℕ = drop (2 * (2 + h .registers)) (packTables firstEdition h t) in
+      sym (units-count 5 m behind) ∙ sym (length-map (unitsIn 5 m behind) (rowFrom firstEdition h)) ∙ ap (λ (x : Tables). length (x .rows)) (read-packed firstEdition h t p)
 
   -- The tables come back.
-  pub packed-tables : readTables firstRowWidths h (packTables firstRowWidths h t ++ rest) ≡ t
+  pub packed-tables : readTables firstEdition h (packTables firstEdition h t ++ rest) ≡ t
   unfolding readTables
   packed-tables =
       (λ i. record {
         count = getD (words i) 0 0;
         starts = drop 2 (words i);
-        rows = map (rowFrom firstRowWidths h) (unitsIn 5 (getD (words i) 1 0) (behind i));
+        rows = map (rowFrom firstEdition h) (unitsIn 5 (getD (words i) 1 0) (behind i));
       })
       ∙ (λ i. record {
         count = getD own 0 0;
         starts = drop 2 own;
-        rows = map (rowFrom firstRowWidths h) (rows i);
+        rows = map (rowFrom firstEdition h) (rows i);
       })
-      ∙ read-packed firstRowWidths h t p
+      ∙ read-packed firstEdition h t p
     where
       own : List ℕ
-      own = unitsIn 2 (2 + h .registers) (packTables firstRowWidths h t)
+      own = unitsIn 2 (2 + h .registers) (packTables firstEdition h t)
 
-      words : unitsIn 2 (2 + h .registers) (packTables firstRowWidths h t ++ rest) ≡ unitsIn 2 (2 + h .registers) (packTables firstRowWidths h t)
-      words = units-front 2 (2 + h .registers) (packTables firstRowWidths h t) rest (omega (arith, size))
+      words : unitsIn 2 (2 + h .registers) (packTables firstEdition h t ++ rest) ≡ unitsIn 2 (2 + h .registers) (packTables firstEdition h t)
+      words = units-front 2 (2 + h .registers) (packTables firstEdition h t) rest (omega (arith, size))
 
-      behind : drop (2 * (2 + h .registers)) (packTables firstRowWidths h t ++ rest) ≡ drop (2 * (2 + h .registers)) (packTables firstRowWidths h t) ++ rest
-      behind = drop-front (2 * (2 + h .registers)) (packTables firstRowWidths h t) rest (omega (arith, size))
+      behind : drop (2 * (2 + h .registers)) (packTables firstEdition h t ++ rest) ≡ drop (2 * (2 + h .registers)) (packTables firstEdition h t) ++ rest
+      behind = drop-front (2 * (2 + h .registers)) (packTables firstEdition h t) rest (omega (arith, size))
 
-      rows : unitsIn 5 (getD (unitsIn 2 (2 + h .registers) (packTables firstRowWidths h t)) 1 0) (drop (2 * (2 + h .registers)) (packTables firstRowWidths h t) ++ rest)
-          ≡ unitsIn 5 (getD (unitsIn 2 (2 + h .registers) (packTables firstRowWidths h t)) 1 0) (drop (2 * (2 + h .registers)) (packTables firstRowWidths h t))
-      rows = units-front 5 (getD (unitsIn 2 (2 + h .registers) (packTables firstRowWidths h t)) 1 0) (drop (2 * (2 + h .registers)) (packTables firstRowWidths h t)) rest
-          (omega (arith, size, rows-count, length-drop (2 * (2 + h .registers)) (packTables firstRowWidths h t)))
+      rows : unitsIn 5 (getD (unitsIn 2 (2 + h .registers) (packTables firstEdition h t)) 1 0) (drop (2 * (2 + h .registers)) (packTables firstEdition h t) ++ rest)
+          ≡ unitsIn 5 (getD (unitsIn 2 (2 + h .registers) (packTables firstEdition h t)) 1 0) (drop (2 * (2 + h .registers)) (packTables firstEdition h t))
+      rows = units-front 5 (getD (unitsIn 2 (2 + h .registers) (packTables firstEdition h t)) 1 0) (drop (2 * (2 + h .registers)) (packTables firstEdition h t)) rest
+          (omega (arith, size, rows-count, length-drop (2 * (2 + h .registers)) (packTables firstEdition h t)))
 
-rows-read : (h : Header) (s : List ℕ) → length (readTables firstRowWidths h s .rows) ≡ join (8 ∷ 8 ∷ []) (take 2 (drop 2 s))
+rows-read : (h : Header) (s : List ℕ) → length (readTables firstEdition h s .rows) ≡ join (8 ∷ 8 ∷ []) (take 2 (drop 2 s))
 unfolding readTables unitsIn
 rows-read h s =
     let m : ℕ = getD (unitsIn 2 (2 + h .registers) s) 1 0 in
     let behind : List ℕ = drop (2 * (2 + h .registers)) s in
-    length-map (unitsIn 5 m behind) (rowFrom firstRowWidths h) ∙ units-count 5 m behind ∙ ap (λ (n : ℕ). getD (unitsIn 2 n s) 1 0) (two-more (h .registers))
+    length-map (unitsIn 5 m behind) (rowFrom firstEdition h) ∙ units-count 5 m behind ∙ ap (λ (n : ℕ). getD (unitsIn 2 n s) 1 0) (two-more (h .registers))
   where
     two-more : (n : ℕ) → 2 + n ≡ suc (suc n)
     two-more n = omega arith
 
 -- ── a trace and tables behind it ──
-module _ (h : Header) (ls : List Letter) (t : Tables) (rest : List ℕ) (v : HeaderFits firstEdition h) (f : AllFit h ls) (p : Packable firstRowWidths h t) where
-  tables-behind : readTables firstRowWidths h (drop (modelStart (length ls)) (packing firstEdition h ls ++ (packTables firstRowWidths h t ++ rest))) ≡ t
+module _ (h : Header) (ls : List Letter) (t : Tables) (rest : List ℕ) (v : HeaderFits firstEdition h) (f : AllFit h ls) (p : Packable firstEdition h t) where
+  tables-behind : readTables firstEdition h (drop (modelStart (length ls)) (packing firstEdition h ls ++ (packTables firstEdition h t ++ rest))) ≡ t
   tables-behind =
-      ap (readTables firstRowWidths h) (drop-at (packing firstEdition h ls) (packTables firstRowWidths h t ++ rest) (modelStart (length ls)) (packed-size h ls v f rest)) ∙ packed-tables h t p rest
+      ap (readTables firstEdition h) (drop-at (packing firstEdition h ls) (packTables firstEdition h t ++ rest) (modelStart (length ls)) (packed-size h ls v f rest)) ∙ packed-tables h t p rest
 
   -- The count of rows comes back.
-  pub packed-rows : wordIn (packing firstEdition h ls ++ (packTables firstRowWidths h t ++ rest)) (modelStart (length ls) + 2) ≡ length (t .rows)
+  pub packed-rows : wordIn (packing firstEdition h ls ++ (packTables firstEdition h t ++ rest)) (modelStart (length ls) + 2) ≡ length (t .rows)
   packed-rows =
-      let s : List ℕ = packing firstEdition h ls ++ (packTables firstRowWidths h t ++ rest) in
+      let s : List ℕ = packing firstEdition h ls ++ (packTables firstEdition h t ++ rest) in
       ap (λ (l : List ℕ). join (8 ∷ 8 ∷ []) (take 2 l)) (sym (drop-drop 2 (modelStart (length ls)) s)) ∙ sym (rows-read h (drop (modelStart (length ls)) s))
       ∙ ap (λ (x : Tables). length (x .rows)) tables-behind
 
   -- The report of a failing execution with its model.
   pub fail-report : (registers functions : List ℕ) (pairs : ℕ)
-      → reportOf registers functions h (Fail pairs (length ls)) (packing firstEdition h ls ++ (packTables firstRowWidths h t ++ rest)) ≡ report (namesOf registers functions) h (fail pairs ls t)
+      → reportOf registers functions h (Fail pairs (length ls)) (packing firstEdition h ls ++ (packTables firstEdition h t ++ rest)) ≡ report (namesOf registers functions) h (fail pairs ls t)
   unfolding reportOf shown
   fail-report registers functions pairs =
-      ap₂ (λ (l : List Letter) (x : Tables). report (namesOf registers functions) h (fail pairs l x)) (packed-letters h ls v f (packTables firstRowWidths h t ++ rest)) tables-behind
+      ap₂ (λ (l : List Letter) (x : Tables). report (namesOf registers functions) h (fail pairs l x)) (packed-letters h ls v f (packTables firstEdition h t ++ rest)) tables-behind

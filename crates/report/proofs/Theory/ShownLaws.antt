@@ -7,13 +7,16 @@ use native.Mathlib.Numerals.{add-one}
 use mathlib.Core.List.{List, [], _∷_, _++_, map}
 use lib.ListN.{length, getD, take, drop, replicate}
 use lib.Seq.{drop-drop, getD-drop}
-use Rattle.base.specs.Choice.{pick, byTest}
+use Rattle.letters.specs.Editions.{firstEdition}
+use Rattle.base.specs.Choice.{pick}
+use Rattle.base.proofs.Theory.Choice.{byTest}
 use Rattle.base.specs.Masks.{has}
 use Rattle.letters.specs.declared.Header.{Header}
 use Rattle.letters.specs.declared.Letter.{Letter}
 use Rattle.letters.specs.Packing.{join}
 use Rattle.semantics.specs.Tables.{Row}
-use Rattle.semantics.specs.PackedTables.{unitsIn, firstRowWidths, secondWritten, secondMeant, rowFrom, readTables}
+use Rattle.semantics.specs.TablesRead.{unitsIn, secondMeant, rowFrom, readTables}
+use Rattle.semantics.specs.PackedTables.{secondWritten}
 use Rattle.text.specs.Numerals.{numeral}
 use Rattle.report.specs.Lines.{Names, linesOf, line, letterLine, letterLines, modelLines, startLines, rowLine, startWord, lettersWord, valuesWord, blank}
 use Rattle.report.specs.Shown.{letterOf, lettersIn}
@@ -133,17 +136,17 @@ module _ (R : ℕ → List ℕ) (s : List ℕ) (o n : ℕ) where
   start-lines-none i l = ap (startLines R i) (units-none 2 n i o s l)
 
 module _ (G : Row → List ℕ) (h : Header) (s : List ℕ) (o n : ℕ) where
-  pub row-lines-start : linesOf G (map (rowFrom firstRowWidths h) (unitsIn 5 n (drop o s))) ≡ linesOf G (map (rowFrom firstRowWidths h) (unitsIn 5 (n - 0) (drop (o + 5 * 0) s)))
-  row-lines-start = ap₂ (λ (m j : ℕ). linesOf G (map (rowFrom firstRowWidths h) (unitsIn 5 m (drop j s)))) (sym (sub-zero n)) (sym (add-zero o))
+  pub row-lines-start : linesOf G (map (rowFrom firstEdition h) (unitsIn 5 n (drop o s))) ≡ linesOf G (map (rowFrom firstEdition h) (unitsIn 5 (n - 0) (drop (o + 5 * 0) s)))
+  row-lines-start = ap₂ (λ (m j : ℕ). linesOf G (map (rowFrom firstEdition h) (unitsIn 5 m (drop j s)))) (sym (sub-zero n)) (sym (add-zero o))
 
-  pub row-lines-next : (i : ℕ) → i < n → linesOf G (map (rowFrom firstRowWidths h) (unitsIn 5 (n - i) (drop (o + 5 * i) s)))
-      ≡ G (rowFrom firstRowWidths h (rowIn s (o + 5 * i))) ++ linesOf G (map (rowFrom firstRowWidths h) (unitsIn 5 (n - (i + 1)) (drop (o + 5 * (i + 1)) s)))
+  pub row-lines-next : (i : ℕ) → i < n → linesOf G (map (rowFrom firstEdition h) (unitsIn 5 (n - i) (drop (o + 5 * i) s)))
+      ≡ G (rowFrom firstEdition h (rowIn s (o + 5 * i))) ++ linesOf G (map (rowFrom firstEdition h) (unitsIn 5 (n - (i + 1)) (drop (o + 5 * (i + 1)) s)))
   unfolding linesOf
-  row-lines-next i l = ap (λ (ns : List ℕ). linesOf G (map (rowFrom firstRowWidths h) ns)) (units-next 5 n i o s l)
+  row-lines-next i l = ap (λ (ns : List ℕ). linesOf G (map (rowFrom firstEdition h) ns)) (units-next 5 n i o s l)
 
-  pub row-lines-none : (i : ℕ) → n ≤ i → linesOf G (map (rowFrom firstRowWidths h) (unitsIn 5 (n - i) (drop (o + 5 * i) s))) ≡ []
+  pub row-lines-none : (i : ℕ) → n ≤ i → linesOf G (map (rowFrom firstEdition h) (unitsIn 5 (n - i) (drop (o + 5 * i) s))) ≡ []
   unfolding linesOf
-  row-lines-none i l = ap (λ (ns : List ℕ). linesOf G (map (rowFrom firstRowWidths h) ns)) (units-none 5 n i o s l)
+  row-lines-none i l = ap (λ (ns : List ℕ). linesOf G (map (rowFrom firstEdition h) ns)) (units-none 5 n i o s l)
 
 -- ── the parts of a report ──
 module _ (names : Names) (h : Header) (s : List ℕ) where
@@ -170,8 +173,8 @@ module _ (names : Names) (h : Header) (s : List ℕ) where
         further : (o n : ℕ) → o + 2 * (2 + n) ≡ o + 4 + 2 * n
         further o n = omega arith
 
-    pub model-parts : modelLines names h (readTables firstRowWidths h (drop o s))
+    pub model-parts : modelLines names h (readTables firstEdition h (drop o s))
         ≡ line (valuesWord ∷ numeral (wordIn s o) ∷ []) ++ (startLines (names .register) 0 (unitsIn 2 (h .registers) (drop (o + 4) s))
-        ++ linesOf (rowLine (names .function) h) (map (rowFrom firstRowWidths h) (unitsIn 5 (wordIn s (o + 2)) (drop (o + 4 + 2 * h .registers) s))))
+        ++ linesOf (rowLine (names .function) h) (map (rowFrom firstEdition h) (unitsIn 5 (wordIn s (o + 2)) (drop (o + 4 + 2 * h .registers) s))))
     unfolding modelLines readTables
-    model-parts = λ i. line (valuesWord ∷ numeral (getD (words i) 0 0) ∷ []) ++ (startLines (names .register) 0 (drop 2 (words i)) ++ linesOf (rowLine (names .function) h) (map (rowFrom firstRowWidths h) (unitsIn 5 (getD (words i) 1 0) (behind i))))
+    model-parts = λ i. line (valuesWord ∷ numeral (getD (words i) 0 0) ∷ []) ++ (startLines (names .register) 0 (drop 2 (words i)) ++ linesOf (rowLine (names .function) h) (map (rowFrom firstEdition h) (unitsIn 5 (getD (words i) 1 0) (behind i))))

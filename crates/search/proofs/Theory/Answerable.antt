@@ -7,7 +7,6 @@ use Prim.Native.Nat.{ℕ}
 use native.Mathlib.Decide.{ℕ-discrete}
 use Rattle.letters.specs.Editions.{firstEdition}
 use Rattle.semantics.specs.Models.{Feasible}
-use Rattle.semantics.specs.PackedTables.{firstRowWidths}
 use Rattle.verdicts.specs.Verdict.{Answer}
 use Rattle.verdicts.specs.Demand3.{pairsIn, Demand3}
 use Rattle.verdicts.proofs.Theory.Total.{search-answer}
@@ -39,5 +38,5 @@ pub answerable : (text table output : List ℕ) → (a : Answer) × (table′ : 
 answerable text table output =
     a-way Feasible text table output
     λ m a.
-    search-answer (setting (record { macro = m; in-order = a .in-order; few = a .few })) firstEdition firstRowWidths (pairsIn table) output
+    search-answer (setting (record { macro = m; in-order = a .in-order; few = a .few })) firstEdition (pairsIn firstEdition table) output
     (×-discrete ℕ-discrete window-discrete)

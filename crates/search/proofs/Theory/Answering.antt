@@ -14,8 +14,8 @@ use Rattle.letters.proofs.Theory.WordLaws.{first-roomy}
 use Rattle.traces.specs.Traces.{packing}
 use Rattle.traces.proofs.Theory.TraceLaws.{bytes-length}
 use Rattle.semantics.specs.Terms.{begin}
-use Rattle.semantics.specs.PackedTables.{firstRowWidths}
-use Rattle.verdicts.specs.Verdict.{fail, incoherent, unfit, breaking, failing, showing, packed, Delivered}
+use Rattle.verdicts.specs.Verdict.{fail, incoherent, unfit, breaking, failing, showing, Delivered}
+use Rattle.verdicts.specs.AnswerPacking.{packed}
 use Rattle.search.specs.declared.Packed.{Packed}
 use Rattle.search.specs.declared.Verdict.the-variants.{Fail, Incoherent, Refused}
 use Rattle.search.proofs.Theory.Delivering.{delivered-trace, refused-trace, refused-failing, delivered-model, refused-model, behind-kept}
@@ -50,9 +50,9 @@ module _ (p : Packed) (count : ℕ) (output : List ℕ) (inside : p .start ≤ 2
   pub breaking-shown : 2050 - p .start ≤ length output → (output′ : List ℕ) → output′ ≡ drop (p .start) (p .bytes) ++ drop (length (drop (p .start) (p .bytes))) output
       → Delivers breaking p count output (Incoherent count ((2050 - p .start - 2) / 2)) output′
   breaking-shown l output′ e h ls x f =
-      subst (λ o. Delivered (packed firstEdition firstRowWidths (begin h) breaking ls) (showing breaking count (length ls)) output (incoherent count ((n - 2) / 2)) o)
+      subst (λ o. Delivered (packed firstEdition (begin h) breaking ls) (showing breaking count (length ls)) output (incoherent count ((n - 2) / 2)) o)
       (sym (e ∙ ap (λ b. b ++ drop (length b) output) (x .bytes)))
-      (subst (λ k. Delivered (packed firstEdition firstRowWidths (begin h) breaking ls) (showing breaking count (length ls)) output (incoherent count k) (packing firstEdition h ls ++ drop (length (packing firstEdition h ls)) output))
+      (subst (λ k. Delivered (packed firstEdition (begin h) breaking ls) (showing breaking count (length ls)) output (incoherent count k) (packing firstEdition h ls ++ drop (length (packing firstEdition h ls)) output))
       (sym (letters-are h ls x)) (delivered-trace h ls output (showing breaking count (length ls)) (let a = same h ls x in omega arith)))
 
   -- ── fail ──
@@ -73,7 +73,7 @@ module _ (p : Packed) (count : ℕ) (output : List ℕ) (inside : p .start ≤ 2
         let y = showed false w h ls x in
         let k = behind-kept h ls output (showing failing count (length ls)) (x .header) (x .fit) (x .few) (x .formed) (f refl) (y .shown) (y .behind) (y .showed) (y .no refl) in
         let e : between ≡ output = y .stands ∙ ap (λ b. take (length (packing firstEdition h ls)) output ++ b) k ∙ take-append-drop (length (packing firstEdition h ls)) output in
-        subst (λ o. Delivered (packed firstEdition firstRowWidths (begin h) failing ls) (showing failing count (length ls)) output unfit o) (sym e)
+        subst (λ o. Delivered (packed firstEdition (begin h) failing ls) (showing failing count (length ls)) output unfit o) (sym e)
         (refused-model h ls output (showing failing count (length ls)) (x .header) (x .fit) (x .few) (x .formed) (f refl) (y .shown) (y .behind) (y .showed) (let a = same h ls x in omega arith) (y .no refl))
 
     pub failing-shown : Modelled (drop (p .start) (p .bytes)) output true between → (output′ : List ℕ)
@@ -87,6 +87,6 @@ module _ (p : Packed) (count : ℕ) (output : List ℕ) (inside : p .start ≤ 2
         e ∙ ap (λ b. b ++ drop (length b) between) (x .bytes)
         ∙ ap (λ b. packing firstEdition h ls ++ drop (length (packing firstEdition h ls)) b) (y .stands)
         ∙ ap (λ b. packing firstEdition h ls ++ b) (drop-at (take (length (packing firstEdition h ls)) output) (y .behind) (length (packing firstEdition h ls)) q) in
-        subst (λ o. Delivered (packed firstEdition firstRowWidths (begin h) failing ls) (showing failing count (length ls)) output (fail count ((n - 2) / 2)) o) (sym i)
-        (subst (λ j. Delivered (packed firstEdition firstRowWidths (begin h) failing ls) (showing failing count (length ls)) output (fail count j) (packing firstEdition h ls ++ y .behind)) (sym (letters-are h ls x))
+        subst (λ o. Delivered (packed firstEdition (begin h) failing ls) (showing failing count (length ls)) output (fail count ((n - 2) / 2)) o) (sym i)
+        (subst (λ j. Delivered (packed firstEdition (begin h) failing ls) (showing failing count (length ls)) output (fail count j) (packing firstEdition h ls ++ y .behind)) (sym (letters-are h ls x))
         (delivered-model h ls output (showing failing count (length ls)) (x .header) (x .fit) (x .few) (x .formed) (f refl) (y .shown) (y .behind) (y .showed) k (let a = same h ls x in omega arith) g))

@@ -7,9 +7,9 @@ use native.Mathlib.Omega.{arith}
 use lib.ListN.{length}
 use Rattle.letters.specs.declared.Letter.{Letter}
 use Rattle.letters.specs.Editions.{Edition}
-use Rattle.semantics.specs.Terms.{Trace, begin, _▸_, extend, state, WellFormed}
+use Rattle.semantics.specs.Terms.{Trace, begin, _▸_, extend, state}
+use Rattle.semantics.specs.Facts.{WellFormed}
 use Rattle.semantics.specs.Models.{Feasible}
-use Rattle.semantics.specs.PackedTables.{RowWidths}
 use Rattle.macros.specs.Order.{Branch, Path, _▹_}
 use Rattle.macros.specs.Walk.{Place, Move, no-move, move, stand}
 use Rattle.macros.specs.Points.{points, entry, moves-at, run}
@@ -19,7 +19,8 @@ use Rattle.verdicts.proofs.Theory.System.{event}
 use Rattle.verdicts.proofs.Theory.Listing.{Listing, turn, path, path-steps, Searching, begins-none, event-first}
 use Rattle.verdicts.proofs.Theory.Since.{since-letters}
 use Rattle.verdicts.proofs.Theory.Trail.{letter-of, letters-to, move-letters}
-use Rattle.verdicts.specs.Verdict.{Answer, pass, full, Kind, failing, showing, packed, Delivered, Verdict}
+use Rattle.verdicts.specs.Verdict.{Answer, pass, full, Kind, failing, showing, Delivered, Verdict}
+use Rattle.verdicts.specs.AnswerPacking.{packed}
 use Rattle.verdicts.proofs.Theory.Pairs.{first-pair, moving, meets-failing}
 use Rattle.verdicts.proofs.Theory.Answers.{answers-full, answers-pass, answers-event}
 use Rattle.window.specs.declared.Window.{Window}
@@ -112,29 +113,29 @@ module _ (given : Given) (n : ℕ) (kind : Kind) (k d : ℕ) (t : List ℕ) (met
       let i : ρ ≡ execution = cc in
       subst (λ π. Feasible (state π)) i y
 
-  pub concluded-event : (edition : Edition) (widths : RowWidths) (output : List ℕ) (answer : Answer) (output′ : List ℕ)
-      → Delivered (packed edition widths (begin (header given)) kind (trailOf (held given) t d)) (showing kind k (length (trailOf (held given) t d))) output answer output′
-      → Verdict Feasible (begin (header given)) (body given) edition widths n output answer output′
-  concluded-event edition widths output answer output′ y =
+  pub concluded-event : (edition : Edition) (output : List ℕ) (answer : Answer) (output′ : List ℕ)
+      → Delivered (packed edition (begin (header given)) kind (trailOf (held given) t d)) (showing kind k (length (trailOf (held given) t d))) output answer output′
+      → Verdict Feasible (begin (header given)) (body given) edition n output answer output′
+  concluded-event edition output answer output′ y =
       let l = met .due in
-      answers-event (setting given) edition widths n output (listed t k) (d / 2) branch here (omega arith) (met .going .within) kind (met .happens) (came .0) (trailOf (held given) t d) (came .1) answer output′ y
+      answers-event (setting given) edition n output (listed t k) (d / 2) branch here (omega arith) (met .going .within) kind (met .happens) (came .0) (trailOf (held given) t d) (came .1) answer output′ y
 
 -- ── the other ends ──
-module _ (given : Given) (edition : Edition) (widths : RowWidths) (n : ℕ) (output : List ℕ) where
+module _ (given : Given) (edition : Edition) (n : ℕ) (output : List ℕ) where
   abbrev Right : Answer → Type 0
-  Right a = Verdict Feasible (begin (header given)) (body given) edition widths n output a output
+  Right a = Verdict Feasible (begin (header given)) (body given) edition n output a output
 
   pub concluded-full : Passing given n → Right full
-  concluded-full y = answers-full (setting given) edition widths n output y
+  concluded-full y = answers-full (setting given) edition n output y
 
   pub concluded-pass : (k : ℕ) (t : List ℕ) → Going given n k (2 * k) t → Right (pass k)
   concluded-pass k t g =
-      answers-pass (setting given) edition widths n output (listed t k) (subst (Searching (starts given) (step given) (listed t k)) (let e : 2 * k ≡ k + k = omega arith in e) (g .searching)) (g .within)
+      answers-pass (setting given) edition n output (listed t k) (subst (Searching (starts given) (step given) (listed t k)) (let e : 2 * k ≡ k + k = omega arith in e) (g .searching)) (g .within)
 
   -- no point: nothing is searched
   pub concluded-empty : end given ≡ 0 → Right (pass 0)
   unfolding entry
-  concluded-empty e = answers-pass (setting given) edition widths n output nothing (begins-none (starts given) (step given) nothing none-begins refl) (omega arith)
+  concluded-empty e = answers-pass (setting given) edition n output nothing (begins-none (starts given) (step given) nothing none-begins refl) (omega arith)
     where
       nothing : Listing (ℕ × Window)
       nothing = record { count = 0; state = λ j. (0, fresh given); parent = λ j. 0; branch = λ j. branchNumbered 0 }

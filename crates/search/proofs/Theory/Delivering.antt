@@ -9,25 +9,31 @@ use lib.Dec.{leb, ltb}
 use lib.ListN.{length, drop, length-append, length-drop, length-map}
 use lib.Seq.{drop-drop}
 use borrow.Author.Tests.{le-ltb, eq-eqb, leb-true, leb-false}
-use Rattle.base.specs.Choice.{pick, byTest}
+use Rattle.base.specs.Choice.{pick}
+use Rattle.base.proofs.Theory.Choice.{byTest}
 use Rattle.letters.specs.declared.Header.{Header}
 use Rattle.letters.specs.declared.Letter.{Letter}
 use Rattle.letters.specs.Editions.{firstEdition}
-use Rattle.letters.specs.Words.{HeaderFits, headerWord, letterWord}
+use Rattle.letters.specs.Letters.{HeaderFits}
+use Rattle.letters.specs.Words.{headerWord, letterWord}
 use Rattle.letters.proofs.Theory.WordLaws.{first-roomy}
 use Rattle.letters.specs.Answers.{onAnswer}
-use Rattle.traces.specs.Traces.{trace, refused, AllFit, packing, beginning, letterCount, lettersOf, readingWhere, readingWithin}
+use Rattle.traces.specs.Reading.{trace, refused, beginning, letterCount, lettersOf, readingWhere}
+use Rattle.traces.specs.ReadingParts.{readingWithin}
+use Rattle.traces.specs.Traces.{AllFit, packing}
 use Rattle.traces.proofs.Theory.TraceLaws.{reading-packing, bytes-length}
-use Rattle.semantics.specs.Terms.{Trace, begin, _▸_, extend, traceOf, State, state, WellFormed}
+use Rattle.semantics.specs.Terms.{Trace, begin, _▸_, extend, traceOf, State, state}
+use Rattle.semantics.specs.Facts.{WellFormed}
 use Rattle.semantics.specs.Models.{Feasible}
-use Rattle.semantics.specs.PackedTables.{packTables, firstRowWidths}
-use Rattle.semantics.specs.Shown.{tablesOf}
-use Rattle.semantics.specs.Judgement.{firstInfeasible}
+use Rattle.semantics.specs.PackedTables.{packTables}
+use Rattle.semantics.specs.ShownTables.{tablesOf}
+use Rattle.semantics.specs.FirstLetters.{firstInfeasible}
 use Rattle.semantics.proofs.Theory.JudgementLaws.{first-infeasible-unique}
 use Rattle.shown.specs.Answer.{shownAnswer, model, modelBytes, fitted, laidIn, answerTo, outputAfter, Showed}
 use Rattle.shown.specs.Answer as answer
 use Rattle.shown.specs.declared.Shown.{Shown}
-use Rattle.verdicts.specs.Verdict.{Answer, unfit, breaking, failing, packed, Delivered}
+use Rattle.verdicts.specs.Verdict.{Answer, unfit, breaking, failing, Delivered}
+use Rattle.verdicts.specs.AnswerPacking.{packed}
 
 header-stays : (ρ : Trace) (ls : List Letter) → state (extend ρ ls) .header ≡ state ρ .header
 header-stays ρ [] = refl
@@ -39,16 +45,16 @@ module _ (h : Header) (ls : List Letter) (output : List ℕ) (a : Answer) where
 
   -- ── incoherent: the trace alone ──
   pub delivered-trace : length (packing firstEdition h ls) ≤ length output
-      → Delivered (packed firstEdition firstRowWidths (begin h) breaking ls) a output a (packing firstEdition h ls ++ drop (length (packing firstEdition h ls)) output)
+      → Delivered (packed firstEdition (begin h) breaking ls) a output a (packing firstEdition h ls ++ drop (length (packing firstEdition h ls)) output)
   unfolding packed
   delivered-trace l = inl (l, refl, refl)
 
-  pub refused-trace : length output < length (packing firstEdition h ls) → Delivered (packed firstEdition firstRowWidths (begin h) breaking ls) a output unfit output
+  pub refused-trace : length output < length (packing firstEdition h ls) → Delivered (packed firstEdition (begin h) breaking ls) a output unfit output
   unfolding packed
   refused-trace l = inr (l, refl, refl)
 
   -- on fail the trace alone may be too long already
-  pub refused-failing : length output < length (packing firstEdition h ls) → Delivered (packed firstEdition firstRowWidths (begin h) failing ls) a output unfit output
+  pub refused-failing : length output < length (packing firstEdition h ls) → Delivered (packed firstEdition (begin h) failing ls) a output unfit output
   unfolding packed
   refused-failing l = inr (simp length-append (omega arith), refl, refl)
 
@@ -83,9 +89,9 @@ module _ (h : Header) (ls : List Letter) (output : List ℕ) (a : Answer) where
       unfolding outputAfter
       left = w .output ∙ ap (λ x. outputAfter x out) read-within ∙ rw (eq-eqb (firstInfeasible (traceOf h ls)) 0 possible) refl
 
-      bytes-are : packed firstEdition firstRowWidths (begin h) failing ls ≡ s ++ modelBytes σ
+      bytes-are : packed firstEdition (begin h) failing ls ≡ s ++ modelBytes σ
       unfolding packed modelBytes
-      bytes-are = ap (λ g. s ++ packTables firstRowWidths g (tablesOf σ)) (sym (header-stays (begin h) ls))
+      bytes-are = ap (λ g. s ++ packTables firstEdition g (tablesOf σ)) (sym (header-stays (begin h) ls))
 
       room : length out ≡ length output - length s
       room = length-drop (length s) output
@@ -95,7 +101,7 @@ module _ (h : Header) (ls : List Letter) (output : List ℕ) (a : Answer) where
       behind-kept n = byTest (leb (length (modelBytes σ)) (length out)) (λ y. absurd (n (length (modelBytes σ)) (told ∙ rw y refl))) (λ y. left ∙ rw y refl)
 
       pub delivered-model : (k : ℕ) → length (packing firstEdition h ls) ≤ length output → shownAnswer r ≡ model k
-          → Delivered (packed firstEdition firstRowWidths (begin h) failing ls) a output a (packing firstEdition h ls ++ out′)
+          → Delivered (packed firstEdition (begin h) failing ls) a output a (packing firstEdition h ls ++ out′)
       delivered-model k l e = byTest (leb (length (modelBytes σ)) (length out))
           (λ y.
           let q = leb-true (length (modelBytes σ)) (length out) y in
@@ -111,7 +117,7 @@ module _ (h : Header) (ls : List Letter) (output : List ℕ) (a : Answer) where
           differ f = let z : _≡_ {A = ℕ} 0 1 = cc in omega arith
 
       pub refused-model : length (packing firstEdition h ls) ≤ length output → ((k : ℕ) → shownAnswer r ≡ model k → ⊥)
-          → Delivered (packed firstEdition firstRowWidths (begin h) failing ls) a output unfit output
+          → Delivered (packed firstEdition (begin h) failing ls) a output unfit output
       refused-model l n = byTest (leb (length (modelBytes σ)) (length out))
           (λ y. absurd (n (length (modelBytes σ)) (told ∙ rw y refl)))
           (λ y.

@@ -5,7 +5,7 @@ use mathlib.Core.List.{List, _++_}
 use Prim.Native.Nat.{ℕ, zero, suc}
 use lib.Dec.{ltb}
 use borrow.Author.Tests.{ltb-true, ltb-false}
-use Rattle.base.specs.Choice.{byTest}
+use Rattle.base.proofs.Theory.Choice.{byTest}
 use Rattle.letters.specs.declared.Letter.{Letter}
 use Rattle.semantics.specs.Terms.{Trace, begin, extend}
 use Rattle.semantics.proofs.Theory.TraceLaws.{extend-append}

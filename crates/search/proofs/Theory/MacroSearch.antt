@@ -8,19 +8,20 @@ use native.Mathlib.Nat.{two-pow-succ}
 use lib.ListN.{length, drop}
 use Rattle.letters.specs.declared.Letter.{Letter}
 use Rattle.letters.specs.Editions.{firstEdition}
-use Rattle.letters.specs.Words.{HeaderFits}
-use Rattle.semantics.specs.Terms.{begin, traceOf, state, WellFormed}
+use Rattle.letters.specs.Capacity.{capacityOf}
+use Rattle.letters.specs.Letters.{HeaderFits}
+use Rattle.semantics.specs.Terms.{begin, traceOf, state}
+use Rattle.semantics.specs.Facts.{WellFormed}
 use Rattle.semantics.specs.Models.{Feasible}
-use Rattle.semantics.specs.PackedTables.{firstRowWidths}
 use Rattle.macros.specs.Points.{points}
 use Rattle.grammar.specs.Grammar.{Macro, headerOf, binaryOf}
 use Rattle.grammar.specs.Spelled.{InOrder, Arities, none, one, two}
 use Rattle.blocks.specs.Held.{heldPoint}
 use Rattle.syntax.specs.declared.Macro as struct
 use Rattle.syntax.specs.Answer.{heldMacro}
-use Rattle.verdicts.specs.Capacity.{capacityOf}
-use Rattle.verdicts.proofs.Theory.CapacityLaws.{capacity-fits}
-use Rattle.verdicts.specs.Verdict.{Kind, breaking, failing, showing, packed, Delivered, Verdict}
+use Rattle.letters.proofs.Theory.CapacityLaws.{capacity-fits}
+use Rattle.verdicts.specs.Verdict.{Kind, breaking, failing, showing, Delivered, Verdict}
+use Rattle.verdicts.specs.AnswerPacking.{packed}
 use Rattle.verdicts.specs.Demand3.{pairsIn}
 use Rattle.records.specs.Records.{recordBytes}
 use Rattle.search.specs.declared.Packed.{Packed}
@@ -54,7 +55,7 @@ not-pass breaking k d e = let z : _≡_ {A = ℕ} 0 1 = cc in omega arith
 not-pass failing k d e = let z : _≡_ {A = ℕ} 0 1 = cc in omega arith
 
 -- ── the table's room ──
-pub capacity-most : (n : ℕ) → capacityOf n ≤ 1024
+pub capacity-most : (n : ℕ) → capacityOf firstEdition n ≤ 1024
 unfolding capacityOf
 capacity-most n = omega arith
 
@@ -120,11 +121,11 @@ module _ (program : struct.Macro) (given : Given) (holds : heldMacro (given .mac
 
   module _ (t : List ℕ) where
     -- the search in the lent table
-    abbrev most : capacityOf (length t) ≤ 1024
+    abbrev most : capacityOf firstEdition (length t) ≤ 1024
     most = capacity-most (length t)
 
-    abbrev room : recordBytes * capacityOf (length t) ≤ length t
-    room = capacity-fits (length t)
+    abbrev room : recordBytes * capacityOf firstEdition (length t) ≤ length t
+    room = capacity-fits firstEdition (omega arith) (length t)
 
     module _ (kind : Kind) (k d : ℕ) where
       -- what the writer of the trace needs where the search has ended at an event
@@ -133,30 +134,30 @@ module _ (program : struct.Macro) (given : Given) (holds : heldMacro (given .mac
       unfolding heldMacro
       event-written = subst (λ p. searchOn p t .0 ≡ foundEvent kind k d
           → (d < 2048) × (recordBytes * (d / 2) + recordBytes ≤ length (searchOn p t .1)) × Older (searchOn p t .1) (d / 2 + 1)) holds
-          (event-writable given (capacityOf (length t)) t most room kind k d)
+          (event-writable given (capacityOf firstEdition (length t)) t most room kind k d)
 
       -- what is told of an event
       pub event-delivered : (p : Packed) → length (p .bytes) ≡ 2050 → (output : List ℕ) (r : answer.Verdict) (output′ : List ℕ) → Delivers kind p k output r output′ → searchOn program t .0 ≡ foundEvent kind k d
           → drop (p .start) (p .bytes) ≡ traced (program .header) (trailOf (program .points) (searchOn program t .1) d)
-          → Delivered (packed firstEdition firstRowWidths (begin (program .header)) kind (trailOf (program .points) (searchOn program t .1) d)) (showing kind k (length (trailOf (program .points) (searchOn program t .1) d))) output (answerOf r) output′
+          → Delivered (packed firstEdition (begin (program .header)) kind (trailOf (program .points) (searchOn program t .1) d)) (showing kind k (length (trailOf (program .points) (searchOn program t .1) d))) output (answerOf r) output′
       unfolding heldMacro
       event-delivered p l output r output′ z =
           subst (λ q. searchOn q t .0 ≡ foundEvent kind k d → drop (p .start) (p .bytes) ≡ traced (q .header) (trailOf (q .points) (searchOn q t .1) d)
-          → Delivered (packed firstEdition firstRowWidths (begin (q .header)) kind (trailOf (q .points) (searchOn q t .1) d)) (showing kind k (length (trailOf (q .points) (searchOn q t .1) d))) output (answerOf r) output′)
+          → Delivered (packed firstEdition (begin (q .header)) kind (trailOf (q .points) (searchOn q t .1) d)) (showing kind k (length (trailOf (q .points) (searchOn q t .1) d))) output (answerOf r) output′)
           holds
           (λ e b. z (header given) (trailOf (held given) (searchOn (heldMacro (given .macro)) t .1) d)
-          (event-packs given (capacityOf (length t)) t most room kind k d e p b l)
-          (event-possible given (capacityOf (length t)) t most room kind k d e))
+          (event-packs given (capacityOf firstEdition (length t)) t most room kind k d e p b l)
+          (event-possible given (capacityOf firstEdition (length t)) t most room kind k d e))
 
     -- what is told is the verdict
     pub tells-verdict : (output : List ℕ) (r : answer.Verdict) (output′ : List ℕ) → Tells program t output r output′
-        → Verdict Feasible (begin (header given)) (body given) firstEdition firstRowWidths (pairsIn t) output (answerOf r) output′
+        → Verdict Feasible (begin (header given)) (body given) firstEdition (pairsIn firstEdition t) output (answerOf r) output′
     unfolding heldMacro capacityOf
     tells-verdict output r output′ y =
-        search-verdict given (capacityOf (length t)) t most room firstEdition firstRowWidths output (answerOf r) output′ (subst (λ p. Tells p t output r output′) (sym holds) y)
+        search-verdict given (capacityOf firstEdition (length t)) t most room firstEdition output (answerOf r) output′ (subst (λ p. Tells p t output r output′) (sym holds) y)
 
 -- ── what the code has found ──
-module _ (program : struct.Macro) (t output : List ℕ) (n : ℕ) (r : Search) (u : List ℕ) (c : n ≡ capacityOf (length t))
+module _ (program : struct.Macro) (t output : List ℕ) (n : ℕ) (r : Search) (u : List ℕ) (c : n ≡ capacityOf firstEdition (length t))
     (e : r ≡ searchOf (program .header) (program .points) (program .count) n t .0) (f : u ≡ searchOf (program .header) (program .points) (program .count) n t .1) where
   ends : r ≡ searchOn program t .0
   ends = e ∙ ap (λ n. searchOf (program .header) (program .points) (program .count) n t .0) c
@@ -165,7 +166,7 @@ module _ (program : struct.Macro) (t output : List ℕ) (n : ℕ) (r : Search) (
   leaves = f ∙ ap (λ n. searchOf (program .header) (program .points) (program .count) n t .1) c
 
   abbrev Tell : Search → answer.Verdict → List ℕ → Type 0
-  Tell z v output′ = Told (program .header) (program .points) firstEdition firstRowWidths output z (searchOn program t .1) (answerOf v) output′
+  Tell z v output′ = Told (program .header) (program .points) firstEdition output z (searchOn program t .1) (answerOf v) output′
 
   told : (z : Search) → r ≡ z → (v : answer.Verdict) (output′ : List ℕ) → Tell z v output′ → Tells program t output v output′
   told z y v output′ = subst (λ z. Tell z v output′) (sym y ∙ ends)

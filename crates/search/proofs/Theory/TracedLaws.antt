@@ -10,10 +10,13 @@ use Rattle.letters.specs.Letters.{Fits}
 use Rattle.letters.specs.Packing.{split}
 use Rattle.letters.proofs.Theory.Packing.{join-lt}
 use Rattle.letters.specs.Editions.{firstEdition}
-use Rattle.letters.specs.Words.{HeaderFits, headerFields, letterFields, headerWord, letterWord, encodeHeader, encodeLetter}
+use Rattle.letters.specs.Letters.{HeaderFits}
+use Rattle.letters.specs.Words.{headerFields, letterFields, headerWord, letterWord}
+use Rattle.letters.specs.Encoding.{encodeHeader, encodeLetter}
 use Rattle.letters.proofs.Theory.WordLaws.{header-test, fits-test, first-roomy}
 use Rattle.traces.specs.Traces.{AllFit, units, bytesOf, packing}
-use Rattle.semantics.specs.Terms.{Trace, _▸_, extend, state, WellFormed}
+use Rattle.semantics.specs.Terms.{Trace, _▸_, extend, state}
+use Rattle.semantics.specs.Facts.{WellFormed}
 use Rattle.search.specs.Tracing.{wordOf, wordBytes, letterWords, traced}
 
 -- the bytes of a word

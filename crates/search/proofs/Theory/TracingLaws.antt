@@ -8,7 +8,7 @@ use lib.Seq.{drop-cons, drop-set-lt, getD-set-same, getD-set-other}
 use Rattle.letters.specs.declared.Header.{Header}
 use Rattle.letters.specs.declared.Letter.{Letter}
 use Rattle.letters.specs.Editions.{firstEdition}
-use Rattle.letters.specs.Words.{encodeHeader, encodeLetter}
+use Rattle.letters.specs.Encoding.{encodeHeader, encodeLetter}
 use Rattle.letters.specs.Putting.{putWord}
 use Rattle.blocks.specs.declared.Point.{Point}
 use Rattle.table.specs.Table.{pointAt, parentAt, branchAt}

@@ -1,5 +1,5 @@
 use mathlib.Core.Path.{sym, ap, _∙_}
-use Rattle.letters.specs.Answers.{headerWordAnswer}
+use Rattle.letters.specs.CodeAnswers.{headerWordAnswer}
 use Rattle.search.specs.Tracing.{wordOf}
 use borrow.Author.Needs.{needs}
 use Rattle.search.proofs.header_word.Statement.{statement}

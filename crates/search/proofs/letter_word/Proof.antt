@@ -1,5 +1,5 @@
 use mathlib.Core.Path.{sym, ap, _∙_}
-use Rattle.letters.specs.Answers.{letterWordAnswer}
+use Rattle.letters.specs.CodeAnswers.{letterWordAnswer}
 use Rattle.search.specs.Tracing.{wordOf}
 use borrow.Author.Needs.{needs}
 use Rattle.search.proofs.letter_word.Statement.{statement}

@@ -1,7 +1,8 @@
 use native.Mathlib.Omega.{arith}
 use lib.ListN.{length}
+use Rattle.letters.specs.Editions.{firstEdition}
 use Rattle.verdicts.specs.Verdict.{breaking, failing}
-use Rattle.verdicts.proofs.Theory.CapacityLaws.{capacity-fits}
+use Rattle.letters.proofs.Theory.CapacityLaws.{capacity-fits}
 use Rattle.search.proofs.Theory.MacroSearch.{capacity-most, points-within, told-full, told-pass, packable, told-incoherent, told-failing}
 use borrow.Author.Needs.{needs}
 use Rattle.search.proofs.search_macro.Statement.{statement}
@@ -26,7 +27,7 @@ search-pairs-requires c κs =
     let p = x .pre in
     let z = c .before .before .before .before .capacity .ensures in
     let q = capacity-most (length (x .args .table .now)) in
-    let r = capacity-fits (length (x .args .table .now)) in
+    let r = capacity-fits firstEdition (omega arith) (length (x .args .table .now)) in
     (omega arith, omega arith, points-within (x .args .program) (p .0) (p .1))
 
 enum-told : tie.Need-enum-told

@@ -9,13 +9,14 @@ use Rattle.letters.specs.declared.Letter.{Letter}
 use Rattle.letters.specs.declared.Letter.the-variants.{Copy, Apply, Equal, Unequal}
 use Rattle.letters.specs.Letters.{Fits}
 use Rattle.semantics.proofs.Theory.Booleans.{or-not}
-use Rattle.semantics.specs.Terms.{State, after, Trace, _▸_, state, WellFormed, extend}
+use Rattle.semantics.specs.Terms.{State, after, Trace, _▸_, state, extend}
+use Rattle.semantics.specs.Facts.{WellFormed}
 use Rattle.semantics.specs.Facts.{Valid}
 use Rattle.semantics.proofs.Theory.Facts.{after-valid, state-valid}
 use Rattle.semantics.specs.Coherence.{CoherentLetter, Coherent}
 use Rattle.semantics.proofs.Theory.Prefixes.{begins-extend, begins-has}
 use Rattle.semantics.proofs.Theory.JudgementLaws.{coherent-closed}
-use Rattle.semantics.specs.Window.{View, Tracks}
+use Rattle.semantics.specs.View.{View, Tracks}
 use Rattle.semantics.specs.SameWindow.{SameWindow}
 use Rattle.semantics.proofs.Theory.SameWindow.{agree-is, view-unique, tracks-same}
 use Rattle.semantics.proofs.Theory.Of.{windowOf, tracks-of}

@@ -4,20 +4,23 @@ use mathlib.Core.Bool.{Bool, _&&_}
 use mathlib.Core.List.{List, [], _∷_}
 use Prim.Native.Nat.{ℕ}
 use lib.Dec.{T, eqb, eqb→eq}
+use Rattle.letters.specs.Editions.{firstEdition}
 use Rattle.letters.specs.declared.Header.{Header}
-use Rattle.letters.specs.Words.{fitsTest, applyTest}
+use Rattle.letters.specs.Coding.{fitsTest, applyTest}
 use Rattle.letters.specs.declared.Letter.the-variants.{Copy, Apply, Equal, Unequal}
 use Rattle.semantics.proofs.Theory.Booleans.{and-l, and-r}
 use Rattle.semantics.proofs.Theory.Lists.{all-e}
-use Rattle.semantics.specs.Terms.{_∈_, Trace, begin, _▸_, WellFormed, state}
+use Rattle.semantics.specs.Terms.{_∈_, Trace, begin, _▸_, state}
+use Rattle.semantics.specs.Facts.{WellFormed}
 use Rattle.semantics.specs.Models.{Feasible}
-use Rattle.semantics.specs.Coherence.{Judged}
+use Rattle.semantics.specs.Judgement.{Judged}
 use Rattle.semantics.specs.Firsts.{firstsAfter, place}
-use Rattle.semantics.specs.Tables.{shownTables, startsFrom, rowsOf, applications, classesOf, numberIn}
-use Rattle.semantics.specs.Shown.{tablesOf}
-use Rattle.semantics.specs.PackedTables.{packTables, firstRowWidths, units, rowWord, secondWritten}
+use Rattle.semantics.specs.ShownTables.{shownTables, startsFrom, rowsOf, applications, classesOf, numberIn}
+use Rattle.semantics.specs.ShownTables.{tablesOf}
+use Rattle.semantics.specs.PackedTables.{packTables, units, rowWord, secondWritten}
 use Rattle.semantics.proofs.Theory.Judge.{formed, formed-e}
-use Rattle.semantics.specs.Judgement.{Judgement, coherentPart, incoherentLetter, infeasibleLetter, firstInfeasible}
+use Rattle.semantics.specs.Judgement.{Judgement}
+use Rattle.semantics.specs.FirstLetters.{coherentPart, incoherentLetter, infeasibleLetter, firstInfeasible}
 use Rattle.semantics.proofs.Theory.JudgementLaws.{judgement-is, first-infeasible-is}
 
 -- A trace, the letters that a run names, the incoherent one and the infeasible one before it, and the letter at which the whole trace is
@@ -126,7 +129,7 @@ unfolding printed tablesOf shownTables startsFrom rowsOf applications classesOf 
 printed-tables = refl
 
 -- and their bytes
-pub printed-bytes : packTables firstRowWidths (state printed .header) (tablesOf (state printed)) ≡
+pub printed-bytes : packTables firstEdition (state printed .header) (tablesOf (state printed)) ≡
     0 ∷ 9 ∷ 0 ∷ 4 ∷ 0 ∷ 1 ∷ 0 ∷ 2 ∷ 0 ∷ 3 ∷ 0 ∷ 4
     ∷ 64 ∷ 8 ∷ 2 ∷ 0 ∷ 160 ∷ 0 ∷ 8 ∷ 0 ∷ 0 ∷ 192 ∷ 64 ∷ 48 ∷ 2 ∷ 0 ∷ 224 ∷ 0 ∷ 40 ∷ 0 ∷ 1 ∷ 0 ∷ []
 unfolding printed tablesOf shownTables startsFrom rowsOf applications classesOf numberIn firstsAfter place packTables units rowWord secondWritten

@@ -11,7 +11,8 @@ use Rattle.letters.specs.declared.Header.{Header}
 use Rattle.letters.specs.declared.Letter.{Letter}
 use Rattle.letters.specs.declared.Letter.the-variants.{Copy, Apply, Equal, Unequal}
 use Rattle.letters.specs.Letters.{Fits}
-use Rattle.semantics.specs.Terms.{_∈_, Term, con, app, Trace, begin, _▸_, State, start, after, state, constants, WellFormed}
+use Rattle.semantics.specs.Terms.{_∈_, Term, con, app, Trace, begin, _▸_, State, start, after, state, constants}
+use Rattle.semantics.specs.Facts.{WellFormed}
 use Rattle.semantics.specs.Closure.{reflexive, test, symmetric, transitive, congruence, Equivalent}
 use Rattle.semantics.specs.Facts.{Valid}
 

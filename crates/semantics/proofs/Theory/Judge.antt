@@ -12,9 +12,10 @@ use Rattle.letters.specs.declared.Header.{Header}
 use Rattle.letters.specs.declared.Letter.{Letter}
 use Rattle.letters.specs.declared.Letter.the-variants.{Copy, Apply, Equal, Unequal}
 use Rattle.letters.specs.Letters.{Fits}
-use Rattle.letters.specs.Words.{fitsTest}
+use Rattle.letters.specs.Coding.{fitsTest}
 use Rattle.letters.proofs.Theory.WordLaws.{fits-test}
-use Rattle.semantics.specs.Terms.{_∈_, Term, con, app, Trace, begin, _▸_, State, after, state, WellFormed}
+use Rattle.semantics.specs.Terms.{_∈_, Term, con, app, Trace, begin, _▸_, State, after, state}
+use Rattle.semantics.specs.Facts.{WellFormed}
 use Rattle.semantics.proofs.Theory.Booleans.{is-true, or-not, and-l, and-r, and-i, or-e, or-l, or-r}
 use Rattle.semantics.specs.Lists.{any, all, first}
 use Rattle.semantics.proofs.Theory.Lists.{any-e, any-i, all-e, all-i, all-n, Found, at, nowhere, first-is}
@@ -29,7 +30,8 @@ use Rattle.semantics.specs.Models.{Feasible}
 use Rattle.semantics.proofs.Theory.Shown.{Clash, corollary-2}
 use Rattle.semantics.specs.Window.{Exposed}
 use Rattle.semantics.proofs.Theory.Climb.{Reaches, from, up, reaches-equal, above-climbs, climbs-above}
-use Rattle.semantics.specs.Coherence.{Kept, Memoizing, CoherentLetter, Coherent, size, Judged}
+use Rattle.semantics.specs.Coherence.{Kept, Memoizing, CoherentLetter, Coherent}
+use Rattle.semantics.specs.Judgement.{size, Judged}
 use Rattle.semantics.specs.Judge.{touch, new, grow, names, above, upto, held, kept, coherentLetter, coherent, feasible, fails}
 
 module _ (U : List Term) (ms : List (Term × Term)) where

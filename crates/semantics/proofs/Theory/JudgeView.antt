@@ -12,7 +12,7 @@ use Rattle.semantics.proofs.Theory.Lists.{any-e, any-i}
 use Rattle.semantics.specs.Terms.{State}
 use Rattle.semantics.specs.Facts.{Valid}
 use Rattle.semantics.specs.Coherence.{CoherentLetter}
-use Rattle.semantics.specs.Window.{View, Tracks}
+use Rattle.semantics.specs.View.{View, Tracks}
 use Rattle.semantics.specs.Judge.{upto}
 use Rattle.semantics.proofs.Theory.Judge.{upto-i, upto-e}
 use Rattle.semantics.proofs.Theory.Steps.{fine-apply, fine-equal}

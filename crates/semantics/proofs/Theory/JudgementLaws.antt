@@ -5,19 +5,22 @@ use mathlib.Core.List.{List·Memᴰ·tail}
 use Prim.Native.Nat.{ℕ, zero, suc, _≤_}
 use native.Mathlib.Omega.{arith}
 use lib.Dec.{T}
-use Rattle.base.specs.Choice.{byTest}
+use Rattle.base.proofs.Theory.Choice.{byTest}
 use Rattle.letters.specs.declared.Letter.{Letter}
 use Rattle.letters.specs.declared.Letter.the-variants.{Copy, Apply, Equal, Unequal}
-use Rattle.semantics.specs.Terms.{Trace, begin, _▸_, State, start, after, state, WellFormed}
+use Rattle.semantics.specs.Terms.{Trace, begin, _▸_, State, start, after, state}
+use Rattle.semantics.specs.Facts.{WellFormed}
 use Rattle.semantics.specs.Prefixes.{Begins, whole, before, PrefixClosed}
 use Rattle.semantics.proofs.Theory.Prefixes.{begins-size, begins-same, begins-has}
 use Rattle.semantics.proofs.Theory.Booleans.{of-true, of-false, is-true, is-false}
 use Rattle.semantics.proofs.Theory.Facts.{state-valid}
 use Rattle.semantics.specs.Models.{Feasible}
-use Rattle.semantics.specs.Coherence.{Coherent, size, FailsAt, Judged}
+use Rattle.semantics.specs.Coherence.{Coherent}
+use Rattle.semantics.specs.Judgement.{size, FailsAt, Judged}
 use Rattle.semantics.specs.Judge.{coherent, feasible}
 use Rattle.semantics.proofs.Theory.Judge.{coherent-is, feasible-is, fails-is}
-use Rattle.semantics.specs.Judgement.{Longest, Judgement, coherentPart, incoherentLetter, infeasibleLetter, firstInfeasible}
+use Rattle.semantics.specs.Judgement.{Longest, Judgement}
+use Rattle.semantics.specs.FirstLetters.{coherentPart, incoherentLetter, infeasibleLetter, firstInfeasible}
 
 -- ── beginnings ──
 -- A model of the tests after a letter is one of the tests before it.

@@ -1,13 +1,13 @@
--- What follows from the definitions of specs/NumberingLaws.antt.
+-- The numbering of the shown model is the one that document 01 describes, and there is no other; so are its rows.
 use mathlib.Core.Path.{_≡_, refl, sym, _∙_, ap, subst}
 use mathlib.Core.Logic.{inl, inr}
 use mathlib.Core.Bool.{true, false, _&&_}
 use mathlib.Core.List.{List, [], _∷_, _++_, append-nil, append-assoc, List·Memᴰ·head, List·Memᴰ·not-nil, List·Memᴰ·cases-cons, List·Memᴰ·append-cases, Memᴰ·append-left, Memᴰ·append-right, Memᴰ·cast}
-use Prim.Native.Nat.{ℕ, zero, suc, _-_, _≤_}
+use Prim.Native.Nat.{ℕ, zero, suc, _-_, _≤_, _<_}
 use native.Mathlib.Omega.{arith}
 use lib.Dec.{T, eqb, eqb→eq, eqb-refl}
 use lib.ListN.{length}
-use Rattle.base.specs.Choice.{byTest}
+use Rattle.base.proofs.Theory.Choice.{byTest}
 use Rattle.semantics.specs.Terms.{_∈_, Term, con, app}
 use Rattle.semantics.proofs.Theory.Booleans.{and-l, and-r, and-i, of-true, of-false}
 use Rattle.semantics.specs.Lists.{any}
@@ -18,10 +18,15 @@ use Rattle.semantics.specs.Closure.{Closure, symmetric}
 use Rattle.semantics.specs.Decide.{find, merges, alike}
 use Rattle.semantics.proofs.Theory.Decide.{alike-i, alike-e}
 use Rattle.semantics.specs.Firsts.{firstsAfter, place}
-use Rattle.semantics.proofs.Theory.FirstsLaws.{place-first, place-in, place-both, firsts-append, firsts-seen, firsts-new, firsts-extends, firsts-all, firsts-distinct, none-repeats, no-repeats-more}
-use Rattle.semantics.specs.FirstsLaws.{firsts-in}
-use Rattle.semantics.specs.Tables.{Row, rowOf, applications, sameCall, classesOf, numberIn}
+use Rattle.semantics.proofs.Theory.FirstsLaws.{place-first, place-in, place-both, firsts-append, firsts-seen, firsts-new, firsts-extends, firsts-all, firsts-distinct, none-repeats, no-repeats-more, firsts-in, place-below}
+use Rattle.semantics.specs.Tables.{Row, rowOf, sameCall}
+use Rattle.semantics.specs.ShownTables.{applications, classesOf, numberIn}
 use Rattle.semantics.specs.Numbering.{Filled, Numbering, Listing}
+
+module _ (U : List Term) (E : List (Term × Term)) where
+  pub number-below : (t : Term) → numberIn U E t < suc (length (classesOf U E))
+  unfolding numberIn
+  number-below t = omega (arith, place-below (alike U E t) 1 (classesOf U E) (omega arith))
 
 module _ (U : List Term) (E : List (Term × Term)) where
   abbrev name : Term → Term

@@ -10,7 +10,8 @@ use Rattle.semantics.proofs.Theory.Booleans.{and-l, and-r, and-i, or-e,
 use Rattle.semantics.specs.Lists.{any, all}
 use Rattle.semantics.proofs.Theory.Lists.{any-e, any-i}
 use Rattle.semantics.specs.Closure.{reflexive, Equivalent}
-use Rattle.semantics.specs.Window.{View, Tracks, Match, Apart}
+use Rattle.semantics.specs.View.{View, Tracks}
+use Rattle.semantics.specs.Window.{Match, Apart}
 use Rattle.semantics.specs.Decide.{agree}
 use Rattle.semantics.proofs.Theory.Decide.{alike-i}
 use Rattle.semantics.specs.Facts.{Valid}

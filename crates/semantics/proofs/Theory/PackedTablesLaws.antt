@@ -6,7 +6,8 @@ use native.Mathlib.Omega.{arith}
 use lib.ListN.{length, getD, take, drop, replicate, length-append, length-map}
 use lib.Pow.{pow-pos}
 use mathlib.Core.Logic.{inl, inr}
-use Rattle.base.specs.Choice.{byTest}
+use Rattle.letters.specs.Editions.{Edition}
+use Rattle.base.proofs.Theory.Choice.{byTest}
 use Rattle.base.specs.Masks.{has}
 use Rattle.letters.specs.declared.Header.{Header}
 use Rattle.letters.specs.Letters.{arity}
@@ -16,7 +17,8 @@ use Rattle.traces.proofs.Theory.TraceLaws.{octets-total, octets-length}
 pub use Rattle.traces.proofs.Theory.TraceLaws.{units-length}
 use Rattle.semantics.specs.Terms.{_∈_}
 use Rattle.semantics.specs.Tables.{Row, Tables}
-use Rattle.semantics.specs.PackedTables.{units, unitsIn, RowWidths, rowWidths, rowBytes, wordBytes, secondWritten, secondMeant, rowWord, packTables, rowFrom, readTables, Packable}
+use Rattle.semantics.specs.PackedTables.{units, rowWidths, rowBytes, wordBytes, secondWritten, rowWord, packTables}
+use Rattle.semantics.specs.TablesRead.{unitsIn, secondMeant, rowFrom, readTables, Packable}
 use Rattle.semantics.proofs.Theory.Lists.{take-front, drop-front}
 
 -- numbers of k bytes come back
@@ -39,18 +41,18 @@ units-back k (n ∷ ns) rest h =
     assoc = append-assoc (split (replicate k 8) n) (units k ns) rest
 
 -- ── rows ──
-module _ (w : RowWidths) (h : Header) where
+module _ (w : Edition) (h : Header) where
   second-back : (r : Row) → (arity h (r .function) ≡ 1 → r .second ≡ r .first)
       → secondMeant h (r .function) (r .first) (secondWritten h r) ≡ r .second
   unfolding secondMeant secondWritten
   second-back r one = byTest (has (h .binary) (r .function)) (λ e. rw e) (λ e. rw e (sym (one (rw e))))
 
-  sized : (r : Row) → r .function < 2 ^ w .function → r .first < 2 ^ w .value → r .second < 2 ^ w .value → r .result < 2 ^ w .value
+  sized : (r : Row) → r .function < 2 ^ w .rowFunction → r .first < 2 ^ w .rowValue → r .second < 2 ^ w .rowValue → r .result < 2 ^ w .rowValue
       → Sized (rowWidths w) (r .function ∷ r .first ∷ secondWritten h r ∷ r .result ∷ 0 ∷ [])
   unfolding secondWritten
-  sized r f a b c = (f, (a, (byTest (has (h .binary) (r .function)) (λ e. rw e b) (λ e. rw e (pow-pos (w .value))), (c, (pow-pos (w .spare), tt)))))
+  sized r f a b c = (f, (a, (byTest (has (h .binary) (r .function)) (λ e. rw e b) (λ e. rw e (pow-pos (w .rowValue))), (c, (pow-pos (w .rowSpare), tt)))))
 
-  row-back : (r : Row) → r .function < 2 ^ w .function → r .first < 2 ^ w .value → r .second < 2 ^ w .value → r .result < 2 ^ w .value
+  row-back : (r : Row) → r .function < 2 ^ w .rowFunction → r .first < 2 ^ w .rowValue → r .second < 2 ^ w .rowValue → r .result < 2 ^ w .rowValue
       → (arity h (r .function) ≡ 1 → r .second ≡ r .first) → rowFrom w h (rowWord w h r) ≡ r
   unfolding rowFrom rowWord
   row-back r f a b c one =
@@ -74,8 +76,8 @@ module _ (w : RowWidths) (h : Header) where
     | inr i ↦ words-fit rows k (λ s j. e s (List·Memᴰ·tail j)) n i
   ]
 
-  row-fits : (r : Row) → total (rowWidths w) ≡ 8 * rowBytes → r .function < 2 ^ w .function → r .first < 2 ^ w .value → r .second < 2 ^ w .value
-      → r .result < 2 ^ w .value
+  row-fits : (r : Row) → total (rowWidths w) ≡ 8 * rowBytes → r .function < 2 ^ w .rowFunction → r .first < 2 ^ w .rowValue → r .second < 2 ^ w .rowValue
+      → r .result < 2 ^ w .rowValue
       → rowWord w h r < 2 ^ (8 * rowBytes)
   unfolding rowWord
   row-fits r e f a b c =

@@ -9,10 +9,11 @@ use native.Mathlib.Omega.{arith}
 use lib.Dec.{T, eqb, eqb→eq, ltb}
 use borrow.Author.Tests.{ltb-true, ltb-false}
 use lib.ListN.{List·getD-eq-default}
-use Rattle.base.specs.Choice.{byTest}
+use Rattle.base.proofs.Theory.Choice.{byTest}
 use Rattle.letters.specs.declared.Letter.the-variants.{Copy, Apply, Equal, Unequal}
 use Rattle.letters.specs.Letters.{arity, Fits}
-use Rattle.semantics.specs.Terms.{_∈_, Term, con, app, Trace, begin, _▸_, State, start, after, state, WellFormed}
+use Rattle.semantics.specs.Terms.{_∈_, Term, con, app, Trace, begin, _▸_, State, start, after, state}
+use Rattle.semantics.specs.Facts.{WellFormed}
 use Rattle.semantics.proofs.Theory.Booleans.{and-l, and-r, of-true}
 use Rattle.semantics.specs.Closure.{Closure, reflexive, test, symmetric, transitive, congruence, Equivalent, Held}
 use Rattle.semantics.specs.Facts.{Valid}
@@ -21,9 +22,12 @@ use Rattle.semantics.proofs.Theory.ClosureLaws.{held-equal}
 use Rattle.semantics.specs.Models.{Model, eval, Feasible}
 use Rattle.semantics.specs.AnyModel.{AnyModel, evalIn, SatisfiesIn, FeasibleInSomeModel}
 use Rattle.semantics.proofs.Theory.Shown.{corollary-2, number-i, number-e, eval-shown, shown-numbering, shown-listing, to, back}
-use Rattle.semantics.specs.Shown.{shown, number}
+use Rattle.semantics.proofs.Theory.Shown.{shown}
+use Rattle.semantics.specs.ShownTables.{number}
 use Rattle.semantics.proofs.Theory.ShownPacked.{starts-length, applications-fit}
-use Rattle.semantics.specs.Tables.{Row, lists, resultIn, modelOf, rowOf, rowsOf, startsFrom, shownTables}
+use Rattle.semantics.specs.Tables.{Row, lists, resultIn, rowOf}
+use Rattle.semantics.proofs.Theory.Tables.{modelOf}
+use Rattle.semantics.specs.ShownTables.{rowsOf, startsFrom, shownTables}
 use Rattle.semantics.specs.Coherence.{Superterm, once, again, Above, Kept, Early, Memoizing, Coherent}
 use Rattle.semantics.specs.Paper.{Congruent, same, member, turned, joined, applied, Within, first, second, in-first, in-second, SupertermModulo, HeldModulo, MemoizingModulo, EarlyModulo, CoherentModulo}
 

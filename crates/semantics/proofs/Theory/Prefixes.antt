@@ -5,8 +5,12 @@ use Prim.Native.Nat.{_≤_}
 use native.Mathlib.Omega.{arith}
 use Rattle.letters.specs.declared.Letter.{Letter}
 use Rattle.semantics.specs.Terms.{Trace, _▸_, extend}
-use Rattle.semantics.specs.Coherence.{size}
-use Rattle.semantics.specs.Prefixes.{Begins, whole, before, PrefixClosed, begins-join}
+use Rattle.semantics.specs.Judgement.{size}
+use Rattle.semantics.specs.Prefixes.{Begins, whole, before, PrefixClosed}
+
+pub begins-join : {ρ π τ : Trace} → Begins ρ π → Begins π τ → Begins ρ τ
+begins-join b whole = b
+begins-join b (before d) = before (begins-join b d)
 
 pub begins-extend : (ρ : Trace) (l : List Letter) → Begins ρ (extend ρ l)
 begins-extend ρ [] = whole

@@ -10,7 +10,8 @@ use Rattle.semantics.proofs.Theory.ClosureLaws.{more-tests}
 use Rattle.semantics.specs.Coherence.{Superterm, once, again, Above}
 use Rattle.semantics.specs.Models.{eval, Feasible}
 use Rattle.semantics.proofs.Theory.Shown.{respects}
-use Rattle.semantics.specs.Window.{View, Tracks, Match, Parted, Exposed, Same}
+use Rattle.semantics.specs.View.{View, Tracks}
+use Rattle.semantics.specs.Window.{Match, Parted, Exposed, Same}
 use Rattle.semantics.specs.SameWindow.{SameWindow}
 use Rattle.semantics.proofs.Theory.SameWindow.{tracks-same}
 

@@ -5,7 +5,7 @@ use mathlib.Core.Logic.{_↔_, Iff·rfl, Iff·trans, Iff·symm}
 use Prim.Native.Nat.{ℕ, _<_}
 use lib.Dec.{T}
 use Rattle.semantics.specs.Terms.{State}
-use Rattle.semantics.specs.Window.{View, Tracks}
+use Rattle.semantics.specs.View.{View, Tracks}
 use Rattle.semantics.proofs.Theory.Of.{same-test}
 use Rattle.semantics.specs.SameWindow.{SameWindow}
 

@@ -1,4 +1,5 @@
--- What follows from the definitions of specs/Shown.antt.
+-- The shown model of a trace, and Corollary 2 of source document 000: a trace is feasible exactly if no unequal test joins terms
+-- that are equal in the closure, and the shown model then satisfies it.
 use mathlib.Core.Path.{_≡_, refl, sym, _∙_, ap, ap₂, subst}
 use mathlib.Core.Logic.{inl, inr, _↔_}
 use mathlib.Core.Bool.{_&&_}
@@ -7,7 +8,7 @@ use Prim.Native.Nat.{ℕ, zero, suc, _+_, _<_}
 use native.Mathlib.Omega.{arith}
 use lib.Dec.{T, eqb, eqb→eq, eqb-refl}
 use lib.ListN.{length, getD}
-use Rattle.base.specs.Choice.{byTest}
+use Rattle.base.proofs.Theory.Choice.{byTest}
 use Rattle.semantics.specs.Terms.{_∈_, Term, con, app, State}
 use Rattle.semantics.proofs.Theory.Booleans.{and-l, and-r, and-i, of-true, of-false}
 use Rattle.semantics.proofs.Theory.Lists.{in-reversed, reversed-in}
@@ -15,10 +16,47 @@ use Rattle.semantics.specs.Closure.{Closure, reflexive, test, symmetric,
 use Rattle.semantics.proofs.Theory.ClosureLaws.{weaken}
 use Rattle.semantics.specs.Facts.{Valid}
 use Rattle.semantics.specs.Models.{Model, eval, Satisfies, Feasible}
-use Rattle.semantics.specs.Tables.{Row, lists, resultIn, modelOf, classesOf, numberIn, rowOf, rowsOf, startsFrom, shownTables}
+use Rattle.semantics.specs.Tables.{Row, lists, resultIn, rowOf, sameCall}
+use Rattle.semantics.proofs.Theory.Tables.{modelOf, InRange}
+use Rattle.semantics.specs.ShownTables.{classesOf, numberIn, rowsOf, startsFrom, shownTables, number, applications}
 use Rattle.semantics.specs.Numbering.{Numbering, Listing}
 use Rattle.semantics.proofs.Theory.NumberingLaws as laws
-use Rattle.semantics.specs.Shown.{number, shownModel, shown}
+use Rattle.semantics.proofs.Theory.FirstsLaws.{firsts-in}
+
+starts-below : (v : Term → ℕ) (c : ℕ) → ((t : Term) → v t < suc c) → (k n r : ℕ) → getD (startsFrom v k n) r 0 < suc c
+unfolding startsFrom
+starts-below v c h k zero r = omega arith
+starts-below v c h k (suc n) zero = h (con k)
+starts-below v c h k (suc n) (suc r) = starts-below v c h (suc k) n r
+
+applications-below : (v : Term → ℕ) (c : ℕ) → ((t : Term) → v t < suc c) → (U : List Term) {r : Row} → r ∈ applications v U → r .result < suc c
+unfolding applications
+applications-below v c h [] m = absurd (List·Memᴰ·not-nil m)
+applications-below v c h (con k ∷ U) m = applications-below v c h U m
+applications-below v c h (app f s t ∷ U) m = elim (List·Memᴰ·cases-cons m) [
+  | inl e ↦ subst (λ (k : Row). k .result < suc c) (sym e) (h (app f s t))
+  | inr k ↦ applications-below v c h U k
+]
+
+-- All values of the shown tables are below their count.
+pub in-range : (n : ℕ) (U : List Term) (E : List (Term × Term)) → InRange (shownTables n U E)
+unfolding shownTables rowsOf
+in-range n U E = record {
+  default = omega arith;
+  starts = starts-below (numberIn U E) (length (classesOf U E)) (laws.number-below U E) 0 n;
+  rows = λ r m. elim (firsts-in sameCall [] (applications (numberIn U E) U) m) [
+    | inl k ↦ absurd (List·Memᴰ·not-nil k)
+    | inr k ↦ applications-below (numberIn U E) (length (classesOf U E)) (laws.number-below U E) U k
+  ];
+}
+
+-- The shown model, for n registers, computed terms U and equal tests E.
+abbrev pub shownModel : ℕ → List Term → List (Term × Term) → Model
+shownModel n U E = modelOf (shownTables n U E) (in-range n U E)
+
+-- The shown model of a trace.
+abbrev pub shown : State → Model
+shown σ = shownModel (σ .header .registers) (reverse (σ .terms)) (σ .equals)
 
 -- ── for any terms and equal tests ──
 result-at : (rows : List Row) (f a b : ℕ) (r : Row) → r ∈ rows → T (lists f a b r)

@@ -5,23 +5,27 @@ use mathlib.Core.List.{List, [], _∷_, _++_, reverse, List·Memᴰ·not-nil, Li
 use Prim.Native.Nat.{ℕ, zero, suc, _+_, _*_, _^_, _≤_, _<_}
 use native.Mathlib.Omega.{arith}
 use lib.ListN.{length, length-append, length-reverse}
-use Rattle.base.specs.Choice.{byTest}
+use Rattle.letters.specs.Editions.{Edition}
+use Rattle.base.proofs.Theory.Choice.{byTest}
 use Rattle.letters.specs.declared.Letter.the-variants.{Copy, Apply, Equal, Unequal}
 use Rattle.letters.specs.Letters.{arity}
 use Rattle.letters.specs.Packing.{total}
-use Rattle.semantics.specs.Terms.{_∈_, Term, con, app, Trace, begin, _▸_, State, state, WellFormed}
+use Rattle.semantics.specs.Terms.{_∈_, Term, con, app, Trace, begin, _▸_, State, state}
+use Rattle.semantics.specs.Facts.{WellFormed}
 use mathlib.Core.Bool.{Bool}
 use Rattle.semantics.specs.Lists.{any}
 use Rattle.semantics.specs.Decide.{alike}
 use Rattle.semantics.specs.Facts.{Valid}
 use Rattle.semantics.proofs.Theory.Facts.{constants-app}
 use Rattle.semantics.specs.Firsts.{firstsAfter}
-use Rattle.semantics.specs.Tables.{Row, applications, sameCall, rowsOf, classesOf, numberIn, startsFrom, shownTables}
+use Rattle.semantics.specs.Tables.{Row, sameCall}
+use Rattle.semantics.specs.ShownTables.{applications, rowsOf, classesOf, numberIn, startsFrom, shownTables}
 use Rattle.semantics.specs.Numbering.{Listing}
-use Rattle.semantics.specs.NumberingLaws as laws
-use Rattle.semantics.specs.Shown.{tablesOf, number}
+use Rattle.semantics.proofs.Theory.NumberingLaws as laws
+use Rattle.semantics.specs.ShownTables.{tablesOf, number}
 use Rattle.semantics.proofs.Theory.Shown.{shown-listing, back}
-use Rattle.semantics.specs.PackedTables.{RowWidths, rowWidths, rowBytes, wordBytes, Packable}
+use Rattle.semantics.specs.PackedTables.{rowWidths, rowBytes, wordBytes}
+use Rattle.semantics.specs.TablesRead.{Packable}
 
 -- ── at most as many classes and rows as terms ──
 firsts-length : {A : Type 0} (same : A → A → Bool) (kept l : List A) → length (firstsAfter same kept l) ≤ length kept + length l
@@ -80,21 +84,21 @@ applications-fit (ρ ▸ Apply x g y z) w f s t m = elim (List·Memᴰ·cases-co
 ]
 
 -- ── the shown tables can be packed ──
-pub shown-packable : (w : RowWidths) (σ : State) → Valid σ → ApplicationsFit σ → total (rowWidths w) ≡ 8 * rowBytes
-    → σ .header .functions ≤ 2 ^ w .function
-    → length (σ .terms) < 2 ^ w .value → 2 ^ w .value < 2 ^ (8 * wordBytes) → Packable w (σ .header) (tablesOf σ)
+pub shown-packable : (w : Edition) (σ : State) → Valid σ → ApplicationsFit σ → total (rowWidths w) ≡ 8 * rowBytes
+    → σ .header .functions ≤ 2 ^ w .rowFunction
+    → length (σ .terms) < 2 ^ w .rowValue → 2 ^ w .rowValue < 2 ^ (8 * wordBytes) → Packable w (σ .header) (tablesOf σ)
 unfolding tablesOf shownTables
 shown-packable w σ v fit width functions values words = record {
   width = width;
   registers = starts-length (number σ) 0 (σ .header .registers);
   count-fits = omega (arith, classes-length U (σ .equals), long);
   rows-fit = omega (arith, rows-length U (σ .equals), long);
-  starts-fit = λ n m. omega (arith, starts-below (number σ) (2 ^ w .value) small 0 (σ .header .registers) m);
-  function-fits = λ r m. let (f, s, t, i, e) = list .computed r m in subst (λ (k : Row). k .function < 2 ^ w .function) (sym e)
+  starts-fit = λ n m. omega (arith, starts-below (number σ) (2 ^ w .rowValue) small 0 (σ .header .registers) m);
+  function-fits = λ r m. let (f, s, t, i, e) = list .computed r m in subst (λ (k : Row). k .function < 2 ^ w .rowFunction) (sym e)
       (omega (arith, (fit f s t (back σ v i)) .0));
-  first-fits = λ r m. let (f, s, t, i, e) = list .computed r m in subst (λ (k : Row). k .first < 2 ^ w .value) (sym e) (small s);
-  second-fits = λ r m. let (f, s, t, i, e) = list .computed r m in subst (λ (k : Row). k .second < 2 ^ w .value) (sym e) (small t);
-  result-fits = λ r m. let (f, s, t, i, e) = list .computed r m in subst (λ (k : Row). k .result < 2 ^ w .value) (sym e) (small (app f s t));
+  first-fits = λ r m. let (f, s, t, i, e) = list .computed r m in subst (λ (k : Row). k .first < 2 ^ w .rowValue) (sym e) (small s);
+  second-fits = λ r m. let (f, s, t, i, e) = list .computed r m in subst (λ (k : Row). k .second < 2 ^ w .rowValue) (sym e) (small t);
+  result-fits = λ r m. let (f, s, t, i, e) = list .computed r m in subst (λ (k : Row). k .result < 2 ^ w .rowValue) (sym e) (small (app f s t));
   twice = λ r m one.
       let (f, s, t, i, e) = list .computed r m in
       ap (λ (k : Row). k .second) e ∙ ap (number σ)
@@ -107,7 +111,7 @@ shown-packable w σ v fit width functions values words = record {
     long : length (reverse (σ .terms)) ≡ length (σ .terms)
     long = length-reverse (σ .terms)
 
-    small : (t : Term) → number σ t < 2 ^ w .value
+    small : (t : Term) → number σ t < 2 ^ w .rowValue
     small t = omega (arith, laws.number-below U (σ .equals) t, classes-length U (σ .equals), long)
 
     list : Listing (reverse (σ .terms)) (number σ) (rowsOf (reverse (σ .terms)) (σ .equals))

@@ -4,13 +4,15 @@ use mathlib.Core.List.{List, [], _∷_, reverse, List·Memᴰ·head, Memᴰ·cas
 use Prim.Native.Nat.{ℕ, suc, _<_}
 use native.Mathlib.Omega.{arith}
 use lib.ListN.{length, getD}
-use Rattle.semantics.specs.Terms.{_∈_, Term, con, app, Trace, state, WellFormed}
+use Rattle.semantics.specs.Terms.{_∈_, Term, con, app, Trace, state}
+use Rattle.semantics.specs.Facts.{WellFormed}
 use Rattle.semantics.specs.Facts.{Valid}
 use Rattle.semantics.proofs.Theory.Facts.{state-valid}
-use Rattle.semantics.specs.Tables.{Row, Tables, rowOf, classesOf, numberIn, shownTables}
+use Rattle.semantics.specs.Tables.{Row, Tables, rowOf}
+use Rattle.semantics.specs.ShownTables.{classesOf, numberIn, shownTables}
 use Rattle.semantics.specs.Numbering.{Listing, IsShown}
 use Rattle.semantics.proofs.Theory.NumberingLaws.{numbering, numbering-unique, listing-unique}
-use Rattle.semantics.specs.Shown.{tablesOf}
+use Rattle.semantics.specs.ShownTables.{tablesOf}
 use Rattle.semantics.proofs.Theory.Shown.{start-at, listing, to, back}
 use Rattle.semantics.proofs.Theory.ShownPacked.{starts-length}
 use Rattle.semantics.proofs.Theory.PaperLaws.{constants-computed}

@@ -8,7 +8,7 @@ use lib.Dec.{T, eqb, eqb→eq, eqb-refl}
 use Rattle.letters.specs.declared.Header.{Header}
 use Rattle.semantics.specs.Terms.{Term, con, begin, start, constants}
 use Rattle.semantics.specs.Closure.{Closure, reflexive, test, symmetric, transitive, congruence, Equivalent}
-use Rattle.semantics.specs.Window.{View, Tracks}
+use Rattle.semantics.specs.View.{View, Tracks}
 use Rattle.semantics.specs.Facts.{Valid}
 use Rattle.semantics.proofs.Theory.Facts.{state-valid, constants-app}
 use Rattle.semantics.proofs.Theory.Judge.{feasible-is}

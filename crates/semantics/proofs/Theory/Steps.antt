@@ -14,7 +14,8 @@ use Rattle.semantics.specs.Closure.{symmetric}
 use Rattle.semantics.specs.Coherence.{Early, Kept, Memoizing}
 use Rattle.semantics.specs.Models.{Feasible}
 use Rattle.semantics.proofs.Theory.Shown.{Clash, corollary-2}
-use Rattle.semantics.specs.Window.{View, Tracks, Same, Apart, Result, EverComputed, Marked}
+use Rattle.semantics.specs.View.{View, Tracks}
+use Rattle.semantics.specs.Window.{Same, Apart, Result, EverComputed, Marked}
 use Rattle.semantics.specs.Facts.{Valid}
 use Rattle.semantics.proofs.Theory.Facts.{after-valid, con-app}
 use Rattle.semantics.proofs.Theory.Judge.{exposed-or-kept, clash-or-feasible}

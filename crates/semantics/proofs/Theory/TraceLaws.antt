@@ -10,11 +10,13 @@ use Rattle.letters.specs.declared.Letter.{Letter}
 use Rattle.letters.specs.declared.Letter.the-variants.{Copy, Apply, Equal, Unequal}
 use Rattle.letters.specs.Letters.{Fits}
 use Rattle.letters.specs.Editions.{Edition}
-use Rattle.letters.specs.WordLaws.{Roomy}
-use Rattle.traces.specs.Traces.{trace, AllFit, reading}
+use Rattle.letters.specs.Roomy.{Roomy}
+use Rattle.traces.specs.Reading.{trace, reading}
+use Rattle.traces.specs.Traces.{AllFit}
 use Rattle.traces.proofs.Theory.TraceLaws.{reading-fits}
-use Rattle.semantics.specs.Terms.{_∈_, Trace, begin, _▸_, constants, state, WellFormed, extend, traceOf}
-use Rattle.semantics.specs.Coherence.{size, FailsAt}
+use Rattle.semantics.specs.Terms.{_∈_, Trace, begin, _▸_, constants, state, extend, traceOf}
+use Rattle.semantics.specs.Facts.{WellFormed}
+use Rattle.semantics.specs.Judgement.{size, FailsAt}
 
 pub extend-append : (ρ : Trace) (l m : List Letter) → extend ρ (l ++ m) ≡ extend (extend ρ l) m
 extend-append ρ [] m = refl

@@ -9,13 +9,15 @@ use Prim.Native.Nat.{ℕ, zero, suc, _<_}
 use native.Mathlib.Omega.{arith}
 use lib.Dec.{T, lit≤, lit<}
 use lib.ListN.{length}
-use Rattle.letters.specs.Words.{fitsTest, applyTest}
+use Rattle.letters.specs.Editions.{firstEdition}
+use Rattle.letters.specs.Coding.{fitsTest, applyTest}
 use Rattle.letters.specs.declared.Letter.the-variants.{Copy, Apply, Equal, Unequal}
 use Rattle.semantics.specs.Lists.{all}
 use Rattle.semantics.proofs.Theory.Lists.{all-e}
 use Rattle.semantics.specs.TermEquality.{eqt}
 use Rattle.semantics.proofs.Theory.TermEquality.{eqt→eq}
-use Rattle.semantics.specs.Terms.{_∈_, Term, con, app, Trace, _▸_, State, state, WellFormed}
+use Rattle.semantics.specs.Terms.{_∈_, Term, con, app, Trace, _▸_, State, state}
+use Rattle.semantics.specs.Facts.{WellFormed}
 use Rattle.semantics.specs.Closure.{reflexive, test, Equivalent, Held}
 use Rattle.semantics.specs.Facts.{Valid}
 use Rattle.semantics.proofs.Theory.Facts.{state-valid}
@@ -23,24 +25,29 @@ use Rattle.semantics.specs.Models.{Feasible}
 use Rattle.semantics.specs.AnyModel.{AnyModel, SatisfiesIn}
 use Rattle.semantics.specs.Coherence.{Superterm, once, Early, Memoizing, Coherent}
 use Rattle.semantics.proofs.Theory.Climb.{climbs}
-use Rattle.semantics.specs.Window.{Same, Apart, Result, EverComputed, Marked, View, Tracks}
+use Rattle.semantics.specs.Window.{Same, Apart, Result, EverComputed, Marked}
+use Rattle.semantics.specs.View.{View, Tracks}
 use Rattle.semantics.specs.Judge.{names, held}
 use Rattle.semantics.proofs.Theory.Judge.{held-i, held-e, above-i, fine-is, coherent-is, feasible-is, formed-e}
 use Rattle.semantics.proofs.Theory.Of.{windowOf, tracks-of}
 use Rattle.semantics.specs.Prefixes.{whole}
-use Rattle.semantics.specs.Judgement.{Longest, Judgement, coherentPart, incoherentLetter, infeasibleLetter, firstInfeasible}
+use Rattle.semantics.specs.Judgement.{Longest, Judgement}
+use Rattle.semantics.specs.FirstLetters.{coherentPart, incoherentLetter, infeasibleLetter, firstInfeasible}
 use Rattle.semantics.proofs.Theory.JudgementLaws.{longest-is, judgement-is, judgement-unique}
 use Rattle.semantics.proofs.Theory.Redundant.{redundant-test}
 use Rattle.semantics.proofs.Theory.ShownUnique.{tables-are}
 use Rattle.semantics.specs.SameWindow.{SameWindow}
-use Rattle.semantics.specs.Tables.{InRange, classesOf, rowsOf}
+use Rattle.semantics.proofs.Theory.Tables.{InRange}
+use Rattle.semantics.specs.ShownTables.{classesOf, rowsOf}
 use Rattle.semantics.specs.Numbering.{Numbering, Listing, IsShown}
 use Rattle.semantics.specs.Paper.{EarlyModulo}
 use Rattle.semantics.proofs.Theory.PaperLaws.{no-model, constants-computed, early-results}
-use Rattle.semantics.specs.Shown.{tablesOf, number, in-range}
+use Rattle.semantics.specs.ShownTables.{tablesOf, number}
+use Rattle.semantics.proofs.Theory.Shown.{in-range}
 use Rattle.semantics.proofs.Theory.Shown.{shown-numbering, shown-listing}
 use Rattle.semantics.proofs.Theory.Examples.{one, two, printed}
-use Rattle.semantics.specs.PackedTables.{firstRowWidths, packTables, readTables, Packable}
+use Rattle.semantics.specs.PackedTables.{packTables}
+use Rattle.semantics.specs.TablesRead.{readTables, Packable}
 use Rattle.semantics.proofs.Theory.PackedTablesLaws.{read-packed}
 use Rattle.semantics.proofs.Theory.ShownPacked.{applications-fit, shown-packable}
 
@@ -223,18 +230,18 @@ pub in-range-no : ¬ InRange (record { count = 0; starts = []; rows = [] })
 in-range-no h = let z = h .default in omega arith
 
 -- the tables that document 01 prints can be packed, and come back from their bytes
-pub packable-yes : Packable firstRowWidths (state printed .header) (tablesOf (state printed))
+pub packable-yes : Packable firstEdition (state printed .header) (tablesOf (state printed))
 unfolding printed fitsTest applyTest
 packable-yes =
     let w = formed-e printed tt in
-    shown-packable firstRowWidths (state printed) (state-valid printed w) (applications-fit printed w) refl (lit≤ tt) (lit< tt) (lit< tt)
+    shown-packable firstEdition (state printed) (state-valid printed w) (applications-fit printed w) refl (lit≤ tt) (lit< tt) (lit< tt)
 
-pub printed-back : readTables firstRowWidths (state printed .header) (packTables firstRowWidths (state printed .header) (tablesOf (state printed)))
+pub printed-back : readTables firstEdition (state printed .header) (packTables firstEdition (state printed .header) (tablesOf (state printed)))
     ≡ tablesOf (state printed)
-printed-back = read-packed firstRowWidths (state printed .header) (tablesOf (state printed)) packable-yes
+printed-back = read-packed firstEdition (state printed .header) (tablesOf (state printed)) packable-yes
 
 -- tables for one register have one initial value
-pub packable-no : ¬ Packable firstRowWidths (record { registers = 1; functions = 0; binary = 0 }) (record { count = 1; starts = []; rows = [] })
+pub packable-no : ¬ Packable firstEdition (record { registers = 1; functions = 0; binary = 0 }) (record { count = 1; starts = []; rows = [] })
 packable-no p = let e = p .registers in omega arith
 
 pub numbering-yes : Numbering (reverse (state lost .terms)) (state lost .equals) (number (state lost)) (length (classesOf (reverse (state lost .terms)) (state lost .equals)))

@@ -16,18 +16,20 @@ use Rattle.letters.specs.Editions.{firstEdition}
 use Rattle.letters.specs.Answers as letters
 use Rattle.traces.specs.Answers.{beginningAnswer}
 use Rattle.letters.proofs.Theory.WordLaws.{first-roomy}
-use Rattle.traces.specs.Traces.{Reading, trace, refused, beginning, letterCount, lettersOf, readingWhere, readingWithin}
+use Rattle.traces.specs.Reading.{Reading, trace, refused, beginning, letterCount, lettersOf, readingWhere}
+use Rattle.traces.specs.ReadingParts.{readingWithin}
 use Rattle.traces.proofs.Theory.TraceLaws.{reading-fits}
 use Rattle.semantics.specs.Terms.{State, Term, con, begin, state, traceOf}
 use Rattle.semantics.specs.Models.{Feasible}
-use Rattle.semantics.specs.Coherence.{FailsAt}
+use Rattle.semantics.specs.Judgement.{FailsAt}
 use Rattle.semantics.proofs.Theory.JudgementLaws.{first-infeasible-unique}
 use Rattle.semantics.proofs.Theory.TraceLaws.{extend-append, extend-header, extend-fails, all-formed}
-use Rattle.semantics.specs.Tables.{Row, startsFrom, shownTables, rowsOf}
-use Rattle.semantics.specs.Shown.{tablesOf, number}
-use Rattle.semantics.specs.PackedTables.{packTables, firstRowWidths}
+use Rattle.semantics.specs.Tables.{Row}
+use Rattle.semantics.specs.ShownTables.{startsFrom, shownTables, rowsOf}
+use Rattle.semantics.specs.ShownTables.{tablesOf, number}
+use Rattle.semantics.specs.PackedTables.{packTables}
 use Rattle.semantics.proofs.Theory.PackedTablesLaws.{packed-length}
-use Rattle.semantics.specs.Judgement.{firstInfeasible}
+use Rattle.semantics.specs.FirstLetters.{firstInfeasible}
 use Rattle.closure.specs.Numbering.{nth}
 use Rattle.closure.specs.Arrays.{at, Below}
 use Rattle.engine.specs.declared.Outcome.{Outcome}
@@ -135,13 +137,13 @@ module _ (h : Header) (function first second representative : List ℕ) (n : ℕ
         rows = rows-are j;
       }
 
-      bytes-are : packTables firstRowWidths h (tablesIn h values function first second rows c r) ≡ modelBytes σ
+      bytes-are : packTables firstEdition h (tablesIn h values function first second rows c r) ≡ modelBytes σ
       unfolding modelBytes
-      bytes-are = λ j. packTables firstRowWidths (sym e j) (tables-are j)
+      bytes-are = λ j. packTables firstEdition (sym e j) (tables-are j)
 
       bytes-long : length (modelBytes σ) ≡ 4 + 2 * h .registers + 5 * r
       unfolding tablesIn
-      bytes-long = ap length (sym bytes-are) ∙ packed-length firstRowWidths h (tablesIn h values function first second rows c r)
+      bytes-long = ap length (sym bytes-are) ∙ packed-length firstEdition h (tablesIn h values function first second rows c r)
           ∙ (let a = length-take-le (h .registers) values (let a = v .long in let b = w .eight in omega arith) in
           let b = map-length (rowFor values function first second) (take r rows) ∙ length-take-le r rows (let a = l .room in let b = rows-few .0 in omega arith) in omega arith)
 
@@ -149,7 +151,7 @@ module _ (h : Header) (function first second representative : List ℕ) (n : ℕ
     unfolding Modelled
     too-long out b σ e x = let q = bytes-long σ e x in let t = lt-leb (length (modelBytes σ)) (length out) (omega arith) in (rw t, rw t)
 
-    fits-in : (out out′ : List ℕ) → 4 + 2 * h .registers + 5 * r ≤ length out → out′ ≡ inserted 0 (packTables firstRowWidths h (tablesIn h values function first second rows c r)) out
+    fits-in : (out out′ : List ℕ) → 4 + 2 * h .registers + 5 * r ≤ length out → out′ ≡ inserted 0 (packTables firstEdition h (tablesIn h values function first second rows c r)) out
         → Modelled h function first second representative n out (shown.Model (4 + 2 * h .registers + 5 * r)) out′
     unfolding Modelled inserted
     fits-in out out′ b g σ e x =

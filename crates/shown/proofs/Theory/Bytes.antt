@@ -7,12 +7,13 @@ use native.Mathlib.Numerals.{add-one}
 use lib.ListN.{length, getD, take, drop, set, replicate, length-append, length-set}
 use lib.Seq.{sets-eq, take-suc, take-all, length-take-le, getD-take}
 use native.Mathlib.Nat.{mul-le-mul-left, mul-suc}
+use Rattle.letters.specs.Editions.{firstEdition}
 use Rattle.letters.specs.declared.Header.{Header}
 use Rattle.letters.specs.Packing.{split}
 use Rattle.letters.specs.Putting.{putWord}
-use Rattle.base.specs.Choice.{byTest}
+use Rattle.base.proofs.Theory.Choice.{byTest}
 use Rattle.base.specs.Masks.{has}
-use Rattle.semantics.specs.PackedTables.{units, rowWord, secondWritten, firstRowWidths, packTables}
+use Rattle.semantics.specs.PackedTables.{units, rowWord, secondWritten, packTables}
 use Rattle.semantics.proofs.Theory.PackedTablesLaws.{units-length}
 use Rattle.shown.specs.Inserted.{inserted}
 use Rattle.shown.proofs.Theory.Inserted.{inserted-none, inserted-more, inserted-length}
@@ -181,7 +182,7 @@ module _ (h : Header) (values function first second rows : List ℕ) (r at : ℕ
 pub whole : (h : Header) (values function first second rows : List ℕ) (count r : ℕ) (out o₁ o₂ o₃ o₄ : List ℕ) → Writable h values function first second rows count r (length out)
     → o₁ ≡ putWord out 0 count → o₂ ≡ putWord o₁ 2 r → o₃ ≡ inserted 4 (units 2 (take (h .registers) values)) o₂
     → o₄ ≡ inserted (4 + 2 * h .registers) (units 5 (wordsFor h values function first second (take r rows))) o₃
-    → o₄ ≡ inserted 0 (packTables firstRowWidths h (tablesIn h values function first second rows count r)) out
+    → o₄ ≡ inserted 0 (packTables firstEdition h (tablesIn h values function first second rows count r)) out
 unfolding packTables tablesIn wordsFor wordFor
 whole h values function first second rows count r out o₁ o₂ o₃ o₄ w e₁ e₂ e₃ e₄ = p₄ ∙ ap (λ l. inserted 0 l out) (λ k. head k ++ units 5 (tail k))
   where
@@ -234,5 +235,5 @@ whole h values function first second rows count r out o₁ o₂ o₃ o₄ w e₁
     head : A₂ ++ S ≡ units 2 (count ∷ length (map (rowFor values function first second) (take r rows)) ∷ take (h .registers) values)
     head = ap (λ l. l ++ S) (sym (units-append 2 (count ∷ []) (r ∷ []))) ∙ sym (units-append 2 (count ∷ r ∷ []) (take (h .registers) values)) ∙ ap (λ n. units 2 (count ∷ n ∷ take (h .registers) values)) count-is
 
-    tail : wordsFor h values function first second (take r rows) ≡ map (rowWord firstRowWidths h) (map (rowFor values function first second) (take r rows))
-    tail = sym (map-twice (rowWord firstRowWidths h) (rowFor values function first second) (take r rows))
+    tail : wordsFor h values function first second (take r rows) ≡ map (rowWord firstEdition h) (map (rowFor values function first second) (take r rows))
+    tail = sym (map-twice (rowWord firstEdition h) (rowFor values function first second) (take r rows))

@@ -9,7 +9,7 @@ use lib.Dec.{eqb}
 use lib.ListN.{length, getD, set, length-set}
 use lib.Seq.{getD-set-same, getD-set-other}
 use borrow.Author.Tests.{eqb-true, eqb-false}
-use Rattle.base.specs.Choice.{byTest}
+use Rattle.base.proofs.Theory.Choice.{byTest}
 use Rattle.semantics.specs.Terms.{State}
 use Rattle.closure.specs.Arrays.{Below, Formed, Indexed, signatureAt}
 use Rattle.closure.proofs.Theory.Entering.{chains-none, complete-none}

@@ -10,7 +10,7 @@ use lib.Dec.{T, eqb, ltb, eqb→eq}
 use lib.ListN.{length, getD, set, take, length-append}
 use lib.Seq.{take-suc-set, take-set-le}
 use borrow.Author.Tests.{eqb-true, eqb-false, eq-eqb, ltb-true, ltb-false}
-use Rattle.base.specs.Choice.{byTest}
+use Rattle.base.proofs.Theory.Choice.{byTest}
 use Rattle.semantics.specs.Terms.{_∈_, Term, con, app, State}
 use Rattle.semantics.proofs.Theory.Booleans.{and-l, and-r}
 use Rattle.semantics.specs.Lists.{any}
@@ -21,10 +21,11 @@ use Rattle.semantics.specs.Decide.{find, merges, alike}
 use Rattle.semantics.proofs.Theory.Decide.{alike-i, alike-e}
 use Rattle.semantics.specs.Firsts.{firstsAfter}
 use Rattle.semantics.proofs.Theory.FirstsLaws.{firsts-append, firsts-seen, firsts-new, firsts-any-i, firsts-any-e}
-use Rattle.semantics.specs.FirstsLaws.{firsts-in}
-use Rattle.semantics.specs.Tables.{Row, sameCall, rowOf, applications, classesOf, rowsOf}
+use Rattle.semantics.proofs.Theory.FirstsLaws.{firsts-in}
+use Rattle.semantics.specs.Tables.{Row, sameCall, rowOf}
+use Rattle.semantics.specs.ShownTables.{applications, classesOf, rowsOf}
 use Rattle.semantics.proofs.Theory.NumberingLaws as laws
-use Rattle.semantics.specs.Shown.{number}
+use Rattle.semantics.specs.ShownTables.{number}
 use Rattle.semantics.proofs.Theory.Shown.{number-i, number-e, reversed, back}
 use Rattle.closure.specs.Numbering.{nth}
 use Rattle.closure.proofs.Theory.Numbering.{nth-in, nth-of, nth-last, nth-old}

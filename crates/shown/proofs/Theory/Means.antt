@@ -7,32 +7,37 @@ use lib.Dec.{eqb, leb, ltb}
 use lib.ListN.{length, drop}
 use lib.Seq.{take-at, drop-at}
 use borrow.Author.Tests.{ne-eqb, leb-true, leb-false, ltb-false}
-use Rattle.base.specs.Choice.{pick, byTest}
+use Rattle.base.specs.Choice.{pick}
+use Rattle.base.proofs.Theory.Choice.{byTest}
 use Rattle.letters.specs.declared.Header.{Header}
 use Rattle.letters.specs.declared.Letter.{Letter}
 use Rattle.letters.specs.Editions.{Edition, firstEdition, mostLetters}
 use Rattle.letters.specs.Answers as letters
 use Rattle.letters.proofs.Theory.WordLaws.{first-roomy}
-use Rattle.traces.specs.Traces.{Reading, trace, refused, reading, readingWithin, readingWhere, beginning, lettersOf, letterIn, letterCount, parts}
+use Rattle.traces.specs.Reading.{Reading, trace, refused, reading, readingWhere, beginning, lettersOf, letterIn, letterCount, parts}
+use Rattle.traces.specs.ReadingParts.{readingWithin}
 use Rattle.traces.proofs.Theory.TraceLaws.{not-trace, reading-fits, letters-decoded, decoded-length, parts-length}
 use Rattle.semantics.specs.Terms.{Trace, State, begin, state, traceOf}
 use Rattle.semantics.proofs.Theory.TraceLaws.{extend-header, extend-size, terms-length, all-formed}
 use Rattle.semantics.proofs.Theory.Facts.{state-valid}
-use Rattle.semantics.specs.Coherence.{FailsAt}
+use Rattle.semantics.specs.Judgement.{FailsAt}
 use Rattle.semantics.specs.Models.{Satisfies, Feasible}
-use Rattle.semantics.specs.Tables.{InRange, modelOf}
+use Rattle.semantics.proofs.Theory.Tables.{InRange, modelOf}
 use Rattle.semantics.specs.Numbering.{IsShown}
-use Rattle.semantics.specs.Shown.{tablesOf, in-range}
+use Rattle.semantics.specs.ShownTables.{tablesOf}
+use Rattle.semantics.proofs.Theory.Shown.{in-range}
 use Rattle.semantics.proofs.Theory.Shown.{shown-model}
 use Rattle.semantics.proofs.Theory.ShownPacked.{shown-packable, applications-fit}
 use Rattle.semantics.proofs.Theory.ShownUnique.{tables-are}
-use Rattle.semantics.specs.PackedTables.{readTables, packTables, firstRowWidths}
+use Rattle.semantics.specs.TablesRead.{readTables}
+use Rattle.semantics.specs.PackedTables.{packTables}
 use Rattle.semantics.proofs.Theory.PackedTablesLaws.{read-packed}
-use Rattle.semantics.specs.Judgement.{firstInfeasible}
+use Rattle.semantics.specs.FirstLetters.{firstInfeasible}
 use Rattle.semantics.proofs.Theory.JudgementLaws.{first-infeasible-is, failed, feasible-closed}
 use Rattle.shown.specs.declared.Shown.{Shown}
 use Rattle.shown.specs.Answer.{infeasible, shownAnswer, modelBytes, fitted, laidIn, answerTo, outputAfter}
 use Rattle.shown.specs.Answer.{IsTrace, ShownFor, ModelIn, LetterNamed, unread, unfit, Means, Showed}
+use Rattle.semantics.proofs.Theory.Tables.{described-by}
 
 abbrev FeasibleTrace : Trace → Type 0
 FeasibleTrace π = Feasible (state π)
@@ -75,12 +80,12 @@ module _ (s : List ℕ) (h : Header) (ls : List Letter) (q : readingWithin mostL
       (tables-are (traceOf h ls) (is-trace .formed))
 
   -- the bytes are those of the shown tables under the trace's header
-  bytes-are : modelBytes σ ≡ packTables firstRowWidths h (tablesOf σ)
+  bytes-are : modelBytes σ ≡ packTables firstEdition h (tablesOf σ)
   unfolding modelBytes
-  bytes-are = ap (λ (g : Header). packTables firstRowWidths g (tablesOf σ)) same-header
+  bytes-are = ap (λ (g : Header). packTables firstEdition g (tablesOf σ)) same-header
 
   -- they read back to these
-  read-back : readTables firstRowWidths h (modelBytes σ) ≡ tablesOf σ
+  read-back : readTables firstEdition h (modelBytes σ) ≡ tablesOf σ
   unfolding modelBytes
   read-back =
       let t = is-trace in
@@ -88,8 +93,8 @@ module _ (s : List ℕ) (h : Header) (ls : List Letter) (q : readingWithin mostL
       let registers : σ .header .registers ≤ 8 = rw same-header (t .header .registers) in
       let few : length (σ .terms) ≤ 1032 = omega (arith, t .few, terms-length (traceOf h ls), extend-size (begin h) ls) in
       let valid = state-valid (traceOf h ls) (t .formed) in
-      let packable = shown-packable firstRowWidths σ valid (applications-fit (traceOf h ls) (t .formed)) refl functions (omega arith) (omega arith) in
-      ap (λ (g : Header). readTables firstRowWidths g (modelBytes σ)) (sym same-header) ∙ read-packed firstRowWidths (σ .header) (tablesOf σ) packable
+      let packable = shown-packable firstEdition σ valid (applications-fit (traceOf h ls) (t .formed)) refl functions (omega arith) (omega arith) in
+      ap (λ (g : Header). readTables firstEdition g (modelBytes σ)) (sym same-header) ∙ read-packed firstEdition (σ .header) (tablesOf σ) packable
 
   described : Feasible σ → (i : InRange (tablesOf σ)) × Satisfies (modelOf (tablesOf σ) i) (σ .equals) (σ .unequals)
   unfolding tablesOf
@@ -98,7 +103,12 @@ module _ (s : List ℕ) (h : Header) (ls : List Letter) (q : readingWithin mostL
   model-in : Feasible σ → ModelIn (modelBytes σ) h ls
   model-in f =
       let (i, y) = subst (λ t. (i : InRange t) × Satisfies (modelOf t i) (σ .equals) (σ .unequals)) (sym read-back) (described f) in
-      record { is-shown = subst (ShownFor h ls) (sym read-back) is-shown; in-range = i; satisfies = y }
+      record {
+        is-shown = subst (ShownFor h ls) (sym read-back) is-shown;
+        model = modelOf (readTables firstEdition h (modelBytes σ)) i;
+        described = described-by (readTables firstEdition h (modelBytes σ)) i;
+        satisfies = y;
+      }
 
   -- ── and the output ──
   module _ (out : List ℕ) where

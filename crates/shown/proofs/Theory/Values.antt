@@ -8,7 +8,7 @@ use native.Mathlib.Numerals.{add-one}
 use lib.Dec.{eqb}
 use lib.ListN.{getD}
 use borrow.Author.Tests.{eqb-true, eqb-false, eq-eqb, ne-eqb}
-use Rattle.base.specs.Choice.{byTest}
+use Rattle.base.proofs.Theory.Choice.{byTest}
 use Rattle.base.proofs.Theory.Written.{Written}
 use Rattle.shown.specs.Values.{classesBelow, valueAt, newClass, chosen, Valued}
 

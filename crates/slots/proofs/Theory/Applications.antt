@@ -10,12 +10,13 @@ use lib.Bits.{bitOr}
 use lib.ListN.{length, getD, set}
 use lib.Seq.{getD-set-same, getD-set-other}
 use borrow.Author.Tests.{eqb-true, eqb-false, eq-eqb, ne-eqb, lt-ltb, le-ltb}
-use Rattle.base.specs.Choice.{byTest}
-use Rattle.base.specs.Masks.{has, leastIn, sizeOf}
+use Rattle.base.proofs.Theory.Choice.{byTest}
+use Rattle.base.specs.Masks.{has}
+use Rattle.base.specs.LeastAndSize.{leastIn, sizeOf}
 use Rattle.base.proofs.Theory.MaskLaws.{least-in, least-below, bits-same}
 use Rattle.semantics.proofs.Theory.Booleans.{or-e, or-l, or-r, and-r, and-i}
 use Rattle.semantics.proofs.Theory.Of.{same-test}
-use Rattle.semantics.specs.Window.{View}
+use Rattle.semantics.specs.View.{View}
 use Rattle.letters.specs.declared.Letter.the-variants.{Apply}
 use Rattle.window.proofs.Theory.Bits.{truth, no-truth, none-small, none-in, or-is, or-small, pow-small, single-is, same-iff, eq-or, less-or}
 use Rattle.window.specs.Places.{place}

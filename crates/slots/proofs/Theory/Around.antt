@@ -9,7 +9,7 @@ use native.Mathlib.Nat.{mul-zero, mul-comm, one-mul}
 use lib.Dec.{eqb, T}
 use lib.Bits.{bitAnd, bitOr}
 use lib.ListN.{length, getD, set, length-set}
-use Rattle.base.specs.Choice.{byTest}
+use Rattle.base.proofs.Theory.Choice.{byTest}
 use Rattle.base.specs.Masks.{has}
 use Rattle.base.proofs.Theory.MaskLaws.{bits-same}
 use Rattle.semantics.proofs.Theory.Booleans.{and-l, and-r, and-i}

@@ -8,8 +8,9 @@ use native.Mathlib.Omega.{arith}
 use lib.Dec.{eqb, ltb, T, eqb→eq, lt→ltb}
 use lib.ListN.{getD}
 use borrow.Author.Tests.{eqb-true, eqb-false, ltb-true, lt-ltb, le-ltb}
-use Rattle.base.specs.Choice.{byTest}
-use Rattle.base.specs.Masks.{bit, has, leastIn, sizeFrom, sizeOf}
+use Rattle.base.proofs.Theory.Choice.{byTest}
+use Rattle.base.specs.Masks.{bit, has}
+use Rattle.base.specs.LeastAndSize.{leastIn, sizeFrom, sizeOf}
 use Rattle.semantics.proofs.Theory.Booleans.{or-not, or-l, or-r, is-true, is-false}
 use Rattle.semantics.proofs.Theory.Of.{same-test}
 use Rattle.window.proofs.Theory.Bits.{truth, no-truth, none-in, nonempty-is, minus-is, eq-or, less-or}

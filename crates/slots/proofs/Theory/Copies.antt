@@ -9,10 +9,11 @@ use lib.Bits.{bitOr}
 use lib.ListN.{length, getD, set, length-set}
 use lib.Seq.{getD-set-same, getD-set-other}
 use borrow.Author.Tests.{eqb-true, eqb-false}
-use Rattle.base.specs.Choice.{byTest}
-use Rattle.base.specs.Masks.{has, sizeOf}
+use Rattle.base.proofs.Theory.Choice.{byTest}
+use Rattle.base.specs.Masks.{has}
+use Rattle.base.specs.LeastAndSize.{sizeOf}
 use Rattle.semantics.proofs.Theory.Booleans.{or-e, or-l, or-r, is-true, is-false}
-use Rattle.semantics.specs.Window.{View}
+use Rattle.semantics.specs.View.{View}
 use Rattle.semantics.proofs.Theory.Steps.{copied}
 use Rattle.window.proofs.Theory.Bits.{none-small, none-in, same-iff, eq-or}
 use Rattle.window.proofs.Theory.Table.{table-at}

@@ -9,7 +9,8 @@ use native.Mathlib.Nat.{mod-lt}
 use lib.Dec.{ltb, T, lt→ltb}
 use lib.ListN.{length, getD}
 use borrow.Author.Tests.{lt-ltb}
-use Rattle.base.specs.Choice.{byTest, pick}
+use Rattle.base.proofs.Theory.Choice.{byTest}
+use Rattle.base.specs.Choice.{pick}
 use Rattle.base.specs.Masks.{has}
 use Rattle.base.proofs.Theory.MaskLaws.{bits-same}
 use Rattle.semantics.proofs.Theory.Booleans.{and-l, and-r, and-i}

@@ -10,7 +10,8 @@ use lib.Dec.{eqb, ltb}
 use lib.Bits.{bitOr, bitXor}
 use lib.ListN.{length, getD, set, replicate}
 use borrow.Author.Tests.{eq-eqb, ne-eqb, lt-ltb, le-ltb}
-use Rattle.base.specs.Masks.{has, leastIn, sizeOf}
+use Rattle.base.specs.Masks.{has}
+use Rattle.base.specs.LeastAndSize.{leastIn, sizeOf}
 use Rattle.letters.specs.declared.Letter.{Letter}
 use Rattle.window.specs.Places.{place, Function, First, Second}
 use Rattle.window.specs.Table.{table}

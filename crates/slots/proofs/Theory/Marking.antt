@@ -7,7 +7,8 @@ use lib.Dec.{ltb, T, ltb→lt}
 use lib.Bits.{bitOr}
 use lib.ListN.{getD}
 use borrow.Author.Tests.{lt-ltb}
-use Rattle.base.specs.Masks.{has, sizeOf}
+use Rattle.base.specs.Masks.{has}
+use Rattle.base.specs.LeastAndSize.{sizeOf}
 use Rattle.base.proofs.Theory.MaskLaws.{bits-same}
 use Rattle.semantics.proofs.Theory.Booleans.{and-l, and-r}
 use Rattle.semantics.proofs.Theory.Of.{same-test}

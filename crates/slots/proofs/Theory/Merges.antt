@@ -9,7 +9,7 @@ use lib.Bits.{bitOr}
 use lib.ListN.{getD, set, length-set}
 use lib.Seq.{getD-set-same, getD-set-other}
 use Rattle.base.specs.Masks.{has}
-use Rattle.semantics.specs.Window.{View}
+use Rattle.semantics.specs.View.{View}
 use Rattle.window.proofs.Theory.Bits.{none-in, none-small, or-is, or-small, same-iff, eq-or}
 use Rattle.window.specs.Performing as windows
 use Rattle.window.proofs.Theory.Laws.{Laws}

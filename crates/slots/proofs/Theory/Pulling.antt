@@ -5,7 +5,7 @@ use mathlib.Core.Bool.{cond, _&&_}
 use Prim.Native.Nat.{ℕ, suc, _<_}
 use lib.Dec.{eqb, T, eqb→eq, eqb-refl}
 use Rattle.semantics.proofs.Theory.Booleans.{and-l, and-r, and-i, or-e, or-l, or-r}
-use Rattle.semantics.specs.Window.{View}
+use Rattle.semantics.specs.View.{View}
 use Rattle.semantics.proofs.Theory.Steps.{Renamed, freshened, target}
 use borrow.Author.Tests.{eq-eqb, ne-eqb}
 use Rattle.window.proofs.Theory.Bits.{eq-or}

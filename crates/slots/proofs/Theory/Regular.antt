@@ -10,7 +10,8 @@ use lib.Dec.{eqb, ltb, T, eqb→eq, ltb→lt, lt→ltb}
 use lib.Bits.{bitAnd}
 use lib.ListN.{length, getD, List·getD-eq-default}
 use borrow.Author.Tests.{eqb-false, eq-eqb, ltb-false}
-use Rattle.base.specs.Choice.{byTest, pick}
+use Rattle.base.proofs.Theory.Choice.{byTest}
+use Rattle.base.specs.Choice.{pick}
 use Rattle.base.specs.Masks.{has}
 use Rattle.semantics.proofs.Theory.Booleans.{and-l, and-r, and-i}
 use Rattle.window.proofs.Theory.Bits.{truth, no-truth, none-in, none-small, or-is, or-small, pow-small, single-is, has-and, same-iff, eq-or, less-or}

@@ -8,8 +8,9 @@ use native.Mathlib.Omega.{arith}
 use lib.Dec.{eqb, ltb, T}
 use lib.ListN.{getD}
 use borrow.Author.Tests.{eq-eqb, ne-eqb, eqb-true, eqb-false, lt-ltb, le-ltb}
-use Rattle.base.specs.Choice.{byTest}
-use Rattle.base.specs.Masks.{has, leastIn}
+use Rattle.base.proofs.Theory.Choice.{byTest}
+use Rattle.base.specs.Masks.{has}
+use Rattle.base.specs.LeastAndSize.{leastIn}
 use Rattle.base.proofs.Theory.MaskLaws.{least-in, least-below, bits-same}
 use Rattle.window.proofs.Theory.Bits.{truth, none-in, none-zero, none-small, eq-or, less-or}
 use Rattle.window.proofs.Theory.Uniqueness.{bit-same}

@@ -9,7 +9,7 @@ use lib.Dec.{eqb, ltb, T, lt→ltb}
 use lib.Bits.{bitOr}
 use lib.ListN.{getD, set, length-set, replicate, length-replicate}
 use borrow.Author.Tests.{eqb-true, eqb-false, eq-eqb}
-use Rattle.base.specs.Choice.{byTest}
+use Rattle.base.proofs.Theory.Choice.{byTest}
 use Rattle.base.specs.Masks.{has}
 use Rattle.semantics.proofs.Theory.Booleans.{or-e, or-l, or-r, and-r, and-i, is-true, is-false}
 use Rattle.semantics.proofs.Theory.Of.{same-test}

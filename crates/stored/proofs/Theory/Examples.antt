@@ -8,8 +8,8 @@ use native.Mathlib.Omega.{arith}
 use lib.Dec.{ltb}
 use lib.ListN.{getD, replicate, getD-replicate, length-replicate, List·getD-eq-default}
 use borrow.Author.Tests.{ltb-true, ltb-false}
-use Rattle.base.specs.Choice.{byTest}
-use Rattle.base.specs.Masks.{leastIn, leastFrom}
+use Rattle.base.proofs.Theory.Choice.{byTest}
+use Rattle.base.specs.LeastAndSize.{leastIn, leastFrom}
 use Rattle.window.specs.declared.Window.{Window}
 use Rattle.records.proofs.Theory.Storable.{Storable}
 

@@ -8,12 +8,13 @@ use native.Mathlib.Nat.{zero-div, div-div-eq-div-mul}
 use lib.Dec.{T, eqb, eqb→eq, ltb}
 use lib.ListN.{getD}
 use borrow.Author.Tests.{eqb-true, eqb-false, lt-ltb, ltb-true, ltb-false}
-use Rattle.base.specs.Choice.{byTest}
-use Rattle.base.specs.Masks.{bit, has, leastIn}
+use Rattle.base.proofs.Theory.Choice.{byTest}
+use Rattle.base.specs.Masks.{bit, has}
+use Rattle.base.specs.LeastAndSize.{leastIn}
 use Rattle.base.proofs.Theory.MaskLaws.{least-in, least-below, bits-same}
 use Rattle.semantics.specs.Terms.{State}
 use Rattle.semantics.specs.Closure.{symmetric, transitive, congruence}
-use Rattle.semantics.specs.Window.{Tracks}
+use Rattle.semantics.specs.View.{Tracks}
 use Rattle.semantics.specs.Facts.{Valid}
 use Rattle.window.specs.declared.Window.{Window}
 use Rattle.window.proofs.Theory.Bits.{none-small}

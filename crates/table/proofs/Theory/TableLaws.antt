@@ -9,7 +9,7 @@ use lib.Dec.{eqb, ltb}
 use lib.ListN.{length, take, drop, replicate, getD, length-append, length-take, length-drop, take-append-drop, List·getD-append}
 use lib.Seq.{drop-at, take-at, length-take-le, getD-take, getD-drop, getD-append-add, ext-getD}
 use borrow.Author.Tests.{eqb-true, eqb-false, ltb-true, ltb-false}
-use Rattle.base.specs.Choice.{byTest}
+use Rattle.base.proofs.Theory.Choice.{byTest}
 use Rattle.window.specs.declared.Window.{Window}
 use Rattle.records.specs.Formats.{pairPlace}
 use Rattle.records.specs.Records.{firstFormat, recordBytes, encodedBytes, encoded, recordOf, parentIn, branchIn, samePair}

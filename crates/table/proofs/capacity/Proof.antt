@@ -2,7 +2,7 @@ use mathlib.Core.Path.{sym, _∙_}
 use Prim.Native.Nat.{_/_, _≤_}
 use native.Mathlib.Omega.{arith}
 use native.Mathlib.Nat.{min-comm, min-eq-left}
-use Rattle.verdicts.specs.Capacity.{capacityOf}
+use Rattle.letters.specs.Capacity.{capacityOf}
 use Rattle.table.proofs.capacity.Statement.{statement}
 use Rattle.table.proofs.capacity.Tie as tie
 

@@ -7,7 +7,8 @@ use mathlib.Core.List.{List, [], _∷_}
 use lib.Dec.{eqb}
 use lib.ListN.{length}
 use borrow.Author.Tests.{eqb-false, ne-eqb}
-use Rattle.base.specs.Choice.{pick, byTest}
+use Rattle.base.specs.Choice.{pick}
+use Rattle.base.proofs.Theory.Choice.{byTest}
 use Rattle.base.proofs.Theory.Recursion.{fixed-law}
 use Rattle.tokens.specs.Bytes.{key}
 use Rattle.tokens.proofs.Theory.Keys.{TokenBytes}

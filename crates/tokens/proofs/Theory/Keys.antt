@@ -10,7 +10,7 @@ use lib.Dec.{leb, eqb}
 use lib.ListN.{length, getD, take, drop}
 use lib.Seq.{slice}
 use borrow.Author.Tests.{eqb-true, eq-eqb, ne-eqb, le-leb, lt-leb}
-use Rattle.base.specs.Choice.{byTest}
+use Rattle.base.proofs.Theory.Choice.{byTest}
 use Rattle.tokens.specs.Bytes.{lower, inner, mark, symbol, gap, run, width, key}
 use Rattle.tokens.specs.Tokens.{tokenAt}
 use Rattle.tokens.specs.Words.{sameName}

@@ -8,7 +8,7 @@ use lib.Dec.{leb, eqb}
 use lib.ListN.{length, drop, length-drop}
 use lib.Seq.{slice}
 use borrow.Author.Tests.{ne-eqb, le-leb, lt-leb, leb-false, eqb-false}
-use Rattle.base.specs.Choice.{byTest}
+use Rattle.base.proofs.Theory.Choice.{byTest}
 use Rattle.tokens.specs.Bytes.{gap, width, key}
 use Rattle.tokens.proofs.Theory.BytesLaws.{width-le}
 use Rattle.tokens.specs.Tokens.{token, tokenAt}

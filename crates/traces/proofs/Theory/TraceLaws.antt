@@ -9,7 +9,7 @@ use lib.Dec.{leb, ltb, eqb}
 use lib.ListN.{length, getD, take, drop, replicate, length-append, length-replicate, length-drop, length-map, take-append-drop}
 use lib.Seq.{take-at, drop-at, drop-drop, getD-drop}
 use borrow.Author.Tests.{le-ltb, eq-eqb, le-leb, leb-true, ltb-false, eqb-true}
-use Rattle.base.specs.Choice.{byTest}
+use Rattle.base.proofs.Theory.Choice.{byTest}
 use Rattle.letters.specs.declared.Header.{Header}
 use Rattle.letters.specs.declared.Letter.{Letter}
 use Rattle.letters.specs.Letters.{Fits}
@@ -17,11 +17,15 @@ use Rattle.letters.specs.Packing.{total, Sized, join, split}
 use Rattle.letters.proofs.Theory.Packing.{split-length, join-lt, split-join, join-split}
 use Rattle.letters.specs.Editions.{Edition}
 use Rattle.letters.specs.Answers.{Answer, value, refusal, onAnswer}
-use Rattle.letters.specs.Words.{HeaderFits, headerFields, headerWord, letterFields, letterWord, decodeHeader}
-use Rattle.letters.specs.WordLaws.{Roomy}
+use Rattle.letters.specs.Letters.{HeaderFits}
+use Rattle.letters.specs.Words.{headerFields, headerWord, letterFields, letterWord}
+use Rattle.letters.specs.Coding.{decodeHeader}
+use Rattle.letters.specs.Roomy.{Roomy}
 use Rattle.letters.proofs.Theory.WordLaws.{decode-header, decode-letter}
-use Rattle.traces.specs.Traces.{Reading, trace, refused, AllFit, octets, units, bytesOf, parts, packing, before, lettersFrom, beginning, letterCount, letterIn, lettersOf, readingWhere, reading, letterAt}
-use Rattle.traces.specs.TraceLaws.{Bytes}
+use Rattle.traces.specs.Reading.{Reading, trace, refused, octets, parts, before, lettersFrom, beginning, letterCount, letterIn, lettersOf, readingWhere, reading}
+use Rattle.traces.specs.ReadingParts.{letterAt}
+use Rattle.traces.specs.Traces.{AllFit, units, bytesOf, packing}
+use Rattle.traces.specs.Traces.{Bytes}
 
 -- These codes are read as these letters, one by one.
 abbrev pub Decoded : {A : Type 0} → (A → Answer Letter) → List A → List Letter → Type 0

@@ -9,7 +9,8 @@ use lib.Dec.{leb, ltb, eqb}
 use lib.ListN.{length, getD, take, drop, length-append, length-take, length-drop, take-append-drop}
 use lib.Seq.{take-at, drop-at}
 use borrow.Author.Tests.{eqb-true, eqb-false, ltb-true}
-use Rattle.base.specs.Choice.{pick, byTest}
+use Rattle.base.specs.Choice.{pick}
+use Rattle.base.proofs.Theory.Choice.{byTest}
 use Rattle.base.specs.Masks.{has}
 use Rattle.letters.specs.declared.Header.{Header}
 use Rattle.letters.specs.declared.Letter.{Letter}
@@ -17,11 +18,13 @@ use Rattle.letters.specs.declared.Letter.the-variants.{Copy, Apply, Equal, Uneq
 use Rattle.letters.specs.Letters.{Fits}
 use Rattle.letters.specs.Editions.{Edition}
 use Rattle.letters.specs.Answers.{value}
-use Rattle.letters.specs.Words.{HeaderFits, headerTest, fitsTest, letterBy}
+use Rattle.letters.specs.Letters.{HeaderFits}
+use Rattle.letters.specs.Coding.{headerTest, fitsTest, letterBy}
 use Rattle.letters.proofs.Theory.WordLaws.{and-true, chosen, header-test, fits-test}
-use Rattle.letters.specs.WordLaws.{Roomy}
-use Rattle.traces.specs.Traces.{Reading, trace, refused, AllFit, parts, packing, reading}
-use Rattle.traces.specs.TraceLaws.{Bytes}
+use Rattle.letters.specs.Roomy.{Roomy}
+use Rattle.traces.specs.Reading.{Reading, trace, refused, parts, reading}
+use Rattle.traces.specs.Traces.{AllFit, packing}
+use Rattle.traces.specs.Traces.{Bytes}
 use Rattle.traces.proofs.Theory.TraceLaws.{Decoded, decoded-letters, letters-decoded, reading-packing, reading-fits, packing-reading}
 use Rattle.traces.specs.Writing.{plainFields, unpackedBytes, plainTest, plainLetter, unpackLetter, unpackedParts}
 use Rattle.traces.specs.Writing.{unpacking, writtenLength, writtenOver, Wrote}

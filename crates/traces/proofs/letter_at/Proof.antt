@@ -1,4 +1,4 @@
-use Rattle.traces.specs.Traces.{letterAt}
+use Rattle.traces.specs.ReadingParts.{letterAt}
 use Rattle.traces.proofs.Counting.{unit-decoded}
 use borrow.Author.Tests.{lt-leb, le-leb}
 use lib.ListN.{length}

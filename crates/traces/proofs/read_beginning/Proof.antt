@@ -1,4 +1,4 @@
-use Rattle.traces.specs.Traces.{beginning}
+use Rattle.traces.specs.Reading.{beginning}
 use Rattle.traces.proofs.Counting.{unit-at}
 use borrow.Author.Tests.{le-ltb, eq-eqb}
 use lib.ListN.{length}

@@ -2,7 +2,8 @@ use native.Mathlib.Omega.{arith}
 use mathlib.Core.Path.{_≡_, sym, _∙_}
 use lib.ListN.{length, drop}
 use Rattle.traces.proofs.Counting.{countFrom, count-begins, count-good, count-bad, count-ends, unit-good, unit-bad}
-use Rattle.traces.specs.Traces.{parts, letterIn, lettersOf, counted}
+use Rattle.traces.specs.Reading.{parts, letterIn, lettersOf}
+use Rattle.traces.specs.ReadingParts.{counted}
 use Rattle.letters.specs.Editions.{firstEdition}
 use Prim.Native.Nat.{_+_, _-_, _*_, _/_, _≤_}
 use borrow.Author.Needs.{needs}

@@ -1,5 +1,6 @@
 use Rattle.letters.specs.Editions.{firstEdition}
-use Rattle.traces.specs.Traces.{counted, letterCount}
+use Rattle.traces.specs.ReadingParts.{counted}
+use Rattle.traces.specs.Reading.{letterCount}
 use mathlib.Core.Bool.{false}
 use mathlib.Core.Path.{ap, _∙_}
 use borrow.Author.Tests.{le-ltb}

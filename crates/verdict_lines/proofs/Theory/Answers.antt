@@ -7,18 +7,22 @@ use native.Mathlib.Omega.{arith}
 use lib.ListN.{length, drop, length-append, length-map, length-reverse}
 use Rattle.letters.specs.declared.Letter.{Letter}
 use Rattle.letters.specs.Editions.{firstEdition}
+use Rattle.letters.specs.Capacity.{mostPairs}
 use Rattle.letters.specs.Words.{headerWord, letterWord}
 use Rattle.letters.proofs.Theory.WordLaws.{first-roomy}
 use Rattle.traces.specs.Traces.{AllFit, packing}
 use Rattle.traces.proofs.Theory.TraceLaws.{bytes-length}
-use Rattle.semantics.specs.Terms.{Trace, begin, extend, State, state, WellFormed}
+use Rattle.semantics.specs.Terms.{Trace, begin, extend, State, state, _▸_}
+use Rattle.semantics.specs.Facts.{WellFormed}
 use Rattle.semantics.proofs.Theory.Facts.{state-valid}
 use Rattle.semantics.specs.Models.{Feasible}
 use Rattle.semantics.proofs.Theory.TraceLaws.{extend-size, extend-header, terms-length}
-use Rattle.semantics.specs.Tables.{shownTables}
-use Rattle.semantics.specs.Shown.{tablesOf, number}
+use Rattle.semantics.specs.Coherence.{Coherent}
+use Rattle.semantics.specs.Numbering.{ShownModel}
+use Rattle.semantics.specs.ShownTables.{shownTables}
+use Rattle.semantics.specs.ShownTables.{tablesOf, number}
 use Rattle.semantics.proofs.Theory.ShownPacked.{rows-length, starts-length, applications-fit, shown-packable}
-use Rattle.semantics.specs.PackedTables.{firstRowWidths, Packable}
+use Rattle.semantics.specs.TablesRead.{Packable}
 use Rattle.semantics.proofs.Theory.PackedTablesLaws.{packed-length}
 use Rattle.macros.proofs.Theory.Numbers.{less-or}
 use Rattle.macros.proofs.Theory.Fitting.{Formed, partial-formed, run-formed}
@@ -31,9 +35,10 @@ use Rattle.grammar.specs.Grammar.{Macro, headerOf}
 use Rattle.grammar.specs.Spelled.{InOrder}
 use Rattle.exploration.proofs.Theory.Given.{setting}
 use Rattle.search.proofs.Theory.TracedLaws.{formed-fit}
-use Rattle.verdicts.specs.Verdict.{Answer, refused, full, unfit, IsPass, Kind, breaking, failing, showing, packed, Delivered, OfKind, Leaves, SamePair, EventAt, PairCount, PairsPass, Shows, Verdict}
+use Rattle.verdicts.specs.Verdict.{Answer, refused, full, unfit, IsPass, Kind, breaking, failing, showing, Delivered, OfKind, Leaves, SamePair, EventAt, PairCount, PairsPass, Shows, Verdict, Event, breaks, fails}
+use Rattle.verdicts.specs.AnswerPacking.{packed}
+use Rattle.verdicts.proofs.Theory.AnswerPacking.{bytes-are, shown-tables}
 use Rattle.verdicts.proofs.Theory.Counting.{more-is}
-use Rattle.verdicts.specs.Capacity.{mostPairs}
 use Rattle.report.specs.Shown.{modelStart}
 use Rattle.verdict_lines.proofs.Theory.Short.{few-letters}
 use Rattle.verdict_lines.specs.Prints.{tablePairs}
@@ -88,9 +93,9 @@ module _ (m : Macro) (o : InOrder m) where
     starts-few = omega (arith, starts-length (number σ) 0 (σ .header .registers), ap (λ h. h .registers) (extend-header start ls), o .few)
 
     -- the model of an execution of no more letters than a table has pairs fits the packed form
-    pub packable : length ls ≤ mostPairs → Packable firstRowWidths (headerOf m) (tablesOf (state (extend (begin (headerOf m)) ls)))
-    packable few = subst (λ h. Packable firstRowWidths h (tablesOf σ)) (extend-header start ls)
-        (shown-packable firstRowWidths σ (state-valid (extend start ls) formed) (applications-fit (extend start ls) formed) refl
+    pub packable : length ls ≤ mostPairs → Packable firstEdition (headerOf m) (tablesOf (state (extend (begin (headerOf m)) ls)))
+    packable few = subst (λ h. Packable firstEdition h (tablesOf σ)) (extend-header start ls)
+        (shown-packable firstEdition σ (state-valid (extend start ls) formed) (applications-fit (extend start ls) formed) refl
         (omega (arith, ap (λ h. h .functions) (extend-header start ls), o .fewer)) (omega (arith, terms-few, few)) (omega arith))
 
     pub trace-size : length (packing firstEdition (headerOf m) ls) ≡ modelStart (length ls)
@@ -100,10 +105,22 @@ module _ (m : Macro) (o : InOrder m) where
         let word = letterWord firstEdition h in
         omega (arith, bytes-length firstEdition first-roomy (headerWord firstEdition h ∷ map word ls), length-map ls word)
 
-    packed-few : length ls ≤ tablePairs → (k : Kind) → length (packed firstEdition firstRowWidths (begin (headerOf m)) k ls) ≤ 4096
+    packed-few : length ls ≤ tablePairs → (k : Kind) → length (packed firstEdition (begin (headerOf m)) k ls) ≤ 4096
     unfolding packed
     packed-few few breaking = omega (arith, trace-size, few)
-    packed-few few failing = simp length-append (omega (arith, trace-size, few, packed-length firstRowWidths (headerOf m) (tablesOf σ), rows-few, starts-few))
+    packed-few few failing = simp length-append (omega (arith, trace-size, few, packed-length firstEdition (headerOf m) (tablesOf σ), rows-few, starts-few))
+
+  -- the model that is shown of a failing execution
+  event-feasible : (ρ : Trace) → Event Feasible (begin (headerOf m)) (m .body) ρ → Coherent ρ → Feasible (state ρ)
+  event-feasible ρ (fails x f) c = f
+  event-feasible (begin h) (breaks x b) c = absurd b
+  event-feasible (ρ ▸ a) (breaks x b) c = absurd (b .1 c)
+
+  pub event-model : (k : ℕ) (ls : List Letter) → Shows Feasible (begin (headerOf m)) (m .body) failing k ls
+      → ShownModel (state (extend (begin (headerOf m)) ls)) (tablesOf (state (extend (begin (headerOf m)) ls)))
+  event-model k ls s =
+      shown-tables (extend start ls) (shown-formed failing (extend start ls) (s .of-kind) .0)
+      (event-feasible (extend start ls) (s .first-event .event) (s .of-kind .1))
 
   -- ── the answer ──
   -- a count that does not pass n is at most n
@@ -113,13 +130,23 @@ module _ (m : Macro) (o : InOrder m) where
     | inr l ↦ l
   ]
 
+  -- The event that an answer shows, with its computed bytes.
+  pub shown-event : (n : ℕ) (output : List ℕ) (answer : Answer) (output′ : List ℕ) → Verdict Feasible (begin (headerOf m)) (m .body) firstEdition n output answer output′
+      → answer ≢ full → ¬ IsPass answer
+      → (kind : Kind) × (k : ℕ) × (ls : List Letter) × Shows Feasible (begin (headerOf m)) (m .body) kind k ls
+      × Delivered (packed firstEdition (begin (headerOf m)) kind ls) (showing kind k (length ls)) output answer output′
+  shown-event n output answer output′ v u w =
+      let (kind, k, ls, bytes, s, q, d) = v .otherwise u w in
+      let e = bytes-are firstEdition start ls kind bytes (λ _. shown-formed kind (extend start ls) (s .of-kind) .0) q in
+      (kind, k, ls, s, subst (λ bs. Delivered bs (showing kind k (length ls)) output answer output′) e d)
+
   -- An answer for a table of n pairs that is neither full nor pass.
-  module _ (points : sizeBlock (m .body) ≤ 256) (n : ℕ) (output : List ℕ) (answer : Answer) (output′ : List ℕ) (v : Verdict Feasible (begin (headerOf m)) (m .body) firstEdition firstRowWidths n output answer output′) (u : answer ≢ full) (w : ¬ IsPass answer) where
+  module _ (points : sizeBlock (m .body) ≤ 256) (n : ℕ) (output : List ℕ) (answer : Answer) (output′ : List ℕ) (v : Verdict Feasible (begin (headerOf m)) (m .body) firstEdition n output answer output′) (u : answer ≢ full) (w : ¬ IsPass answer) where
     -- the event that the search finds: no more letters than pairs, and no more pairs than the table holds
     found : (kind : Kind) × (k : ℕ) × (ls : List Letter) × OfKind (begin (headerOf m)) (m .body) kind (extend (begin (headerOf m)) ls) × (length ls ≤ k) × (k ≤ n)
-        × Delivered (packed firstEdition firstRowWidths (begin (headerOf m)) kind ls) (showing kind k (length ls)) output answer output′
+        × Delivered (packed firstEdition (begin (headerOf m)) kind ls) (showing kind k (length ls)) output answer output′
     found =
-        let (kind, k, ls, s, d) = v .otherwise u w in
+        let (kind, k, ls, s, d) = shown-event n output answer output′ v u w in
         let short = few-letters (setting (record { macro = m; in-order = o; few = points })) kind k ls s in
         (kind, k, ls, s .of-kind, short, count-few n k (s .count) (λ p. u (v .full-exactly .1 p)), d)
 
@@ -150,12 +177,12 @@ module _ (m : Macro) (o : InOrder m) where
     pub pairs-few : pairs ≤ tablePairs
     pub letters-few : length letters ≤ tablePairs
     pub told : answer ≡ showing kind pairs (length letters)
-    pub bytes : output′ ≡ packed firstEdition firstRowWidths (begin (headerOf m)) kind letters ++ drop (length (packed firstEdition firstRowWidths (begin (headerOf m)) kind letters)) output
+    pub bytes : output′ ≡ packed firstEdition (begin (headerOf m)) kind letters ++ drop (length (packed firstEdition (begin (headerOf m)) kind letters)) output
 
-  pub event-shown : sizeBlock (m .body) ≤ 256 → (output : List ℕ) → length output ≡ 4096 → (answer : Answer) (output′ : List ℕ) → Verdict Feasible (begin (headerOf m)) (m .body) firstEdition firstRowWidths tablePairs output answer output′
+  pub event-shown : sizeBlock (m .body) ≤ 256 → (output : List ℕ) → length output ≡ 4096 → (answer : Answer) (output′ : List ℕ) → Verdict Feasible (begin (headerOf m)) (m .body) firstEdition tablePairs output answer output′
       → answer ≢ full → ¬ IsPass answer → Shown output answer output′
   event-shown points output room answer output′ v u w =
-      let (kind, k, ls, s, d) = v .otherwise u w in
+      let (kind, k, ls, s, d) = shown-event tablePairs output answer output′ v u w in
       elim d [
         | inl (f, e, b) ↦
             let (p, q) = answer-short points tablePairs output answer output′ v u w kind k (length ls) e in

@@ -8,21 +8,27 @@ use lib.Dec.{leb}
 use lib.ListN.{length, take, drop, length-append}
 use lib.Seq.{length-take-le}
 use borrow.Author.Tests.{le-leb}
-use Rattle.base.specs.Choice.{pick, byTest}
+use Rattle.base.specs.Choice.{pick}
+use Rattle.base.proofs.Theory.Choice.{byTest}
 use Rattle.letters.specs.declared.Letter.{Letter}
 use Rattle.semantics.specs.Terms.{Trace, begin, _▸_, extend, state}
 use Rattle.semantics.specs.Models.{Feasible}
 use Rattle.semantics.specs.Coherence.{Coherent}
-use Rattle.semantics.specs.Shown.{tablesOf}
+use Rattle.semantics.specs.Tables.{Tables}
+use Rattle.semantics.specs.Numbering.{ShownModel}
+use Rattle.semantics.specs.ShownTables.{tablesOf}
+use Rattle.semantics.proofs.Theory.ShownUnique.{tables-unique}
 use Rattle.macros.specs.Executions.{Partial, Failing}
 use Rattle.macros.specs.Order.{Before}
 use Rattle.macros.proofs.Theory.Order.{before-not}
 use Rattle.grammar.specs.Grammar.{Macro, headerOf}
+use Rattle.grammar.specs.Spelled.{InOrder}
 use Rattle.refusals.proofs.Theory.Accepted.{Acceptance, accepted, Becomes, an-acceptance}
 use Rattle.refusals.proofs.Theory.Accepted as acceptance
 use Rattle.verdicts.proofs.Theory.Counting.{one-count, more-is}
 use Rattle.verdicts.proofs.Theory.Since.{since-once}
 use Rattle.verdicts.specs.Verdict.{Kind, breaking, failing, Breaks, Event, breaks, fails, EventAt, Leaves, SamePair, PairCount, PairsPass, Shows}
+use Rattle.verdicts.proofs.Theory.AnswerPacking.{failing-formed}
 use Rattle.verdicts.proofs.Theory.Unique.{one-event}
 use Rattle.report.specs.Lines.{Printed, pass, incoherent, fail, refused, report}
 use Rattle.verdict_lines.specs.Prints.{declaredNames, tablePairs, mostBytes, Told, Says, Prints}
@@ -31,7 +37,7 @@ breaks-not : (ρ : Trace) → Breaks ρ → ¬ Coherent ρ
 breaks-not (begin h) x c = x
 breaks-not (ρ ▸ a) x c = x .1 c
 
-module _ (m : Macro) where
+module _ (m : Macro) (o : InOrder m) where
   abbrev start : Trace
   start = begin (headerOf m)
 
@@ -54,6 +60,9 @@ module _ (m : Macro) where
   not-both k l ks ls x y =
       breaks-not (extend start ls) (subst (λ w. Breaks (extend start w)) (one-execution breaking failing k l ks ls x y) (x .of-kind .1)) (y .of-kind .1)
 
+  one-model : (ls : List Letter) (t : Tables) → Failing start (m .body) (extend start ls) → ShownModel (state (extend start ls)) t → t ≡ tablesOf (state (extend start ls))
+  one-model ls t x y = tables-unique (extend start ls) (failing-formed (headerOf m) start (m .body) (tt, refl) (o .uses) (extend start ls) x) t (y .tables)
+
   pub one-told : (s t : Printed) → Told m s → Told m t → s ≡ t
   unfolding Told
   one-told (pass k) (pass l) x y = ap pass (counted-once k l (x .0) (y .0))
@@ -68,7 +77,8 @@ module _ (m : Macro) where
   one-told (fail k ks s) (incoherent l ls) (c, x, u) (d, y) = absurd (not-both l k ls ks d c)
   one-told (fail k ks s) (fail l ls t) (c, x, u) (d, y, v) =
       let w = one-execution failing failing k l ks ls c d in
-      λ i. fail (counted-once k l (c .count) (d .count) i) (w i) ((u ∙ ap (λ w. tablesOf (state (extend start w))) w ∙ sym v) i)
+      let tables : s ≡ t = one-model ks s (c .of-kind .0) u ∙ ap (λ w. tablesOf (state (extend start w))) w ∙ sym (one-model ls t (d .of-kind .0) v) in
+      λ i. fail (counted-once k l (c .count) (d .count) i) (w i) (tables i)
   one-told (fail k ks s) (refused n p) (c, x, u) (d, e, y) = absurd (not-full k (c .count) x y)
   one-told (refused n p) (pass k) (d, e, y) (c, x, q, r) = absurd (not-full k c x y)
   one-told (refused n p) (incoherent k ks) (d, e, y) (c, x) = absurd (not-full k (c .count) x y)
@@ -83,7 +93,7 @@ one-said text a b x y = let (o, k) = an-acceptance text in go o k
     go (accepted m) r =
         let (s, t, u) = x .verdict m r in
         let (s′, t′, u′) = y .verdict m r in
-        u ∙ ap (report (declaredNames m) (headerOf m)) (one-told m s s′ t t′) ∙ sym u′
+        u ∙ ap (report (declaredNames m) (headerOf m)) (one-told m (r .in-order) s s′ t t′) ∙ sym u′
 
 module _ {text entry exit : List ℕ} {size : ℕ} (x : Prints text entry size exit) where
   -- So many bytes are there.

@@ -8,26 +8,29 @@ use lib.ListN.{length, take, drop}
 use lib.Seq.{take-at, drop-at}
 use Rattle.letters.specs.declared.Letter.{Letter}
 use Rattle.letters.specs.Editions.{firstEdition}
+use Rattle.letters.specs.Capacity.{mostPairs, capacityOf}
 use Rattle.letters.proofs.Theory.WordLaws.{first-roomy}
-use Rattle.traces.specs.Traces.{trace, reading, packing}
+use Rattle.traces.specs.Reading.{trace, reading}
+use Rattle.traces.specs.Traces.{packing}
 use Rattle.traces.proofs.Theory.TraceLaws.{reading-packing}
 use Rattle.semantics.specs.Terms.{Trace, begin, extend, state}
 use Rattle.semantics.specs.Models.{Feasible}
-use Rattle.semantics.specs.Coherence.{size}
+use Rattle.semantics.specs.Judgement.{size}
 use Rattle.semantics.specs.Tables.{Tables}
-use Rattle.semantics.specs.PackedTables.{firstRowWidths, packTables, readTables}
-use Rattle.semantics.specs.Shown.{tablesOf}
+use Rattle.semantics.specs.PackedTables.{packTables}
+use Rattle.semantics.specs.TablesRead.{readTables}
+use Rattle.semantics.specs.ShownTables.{tablesOf}
 use Rattle.grammar.specs.Grammar.{Macro, headerOf}
 use Rattle.refusals.specs.Accepted.{Accepted}
 use Rattle.refusals.proofs.Theory.Accepted.{Acceptance, accepted, refused, Becomes, an-acceptance}
-use Rattle.verdicts.specs.Verdict.{Kind, breaking, failing, showing, fail, incoherent, packed, Delivered, Event, Shows, Verdict}
-use Rattle.verdicts.specs.Capacity.{mostPairs, capacityOf}
+use Rattle.verdicts.specs.Verdict.{Kind, breaking, failing, showing, fail, incoherent, Delivered, Event, Shows, Verdict}
+use Rattle.verdicts.specs.AnswerPacking.{packed}
 use Rattle.verdicts.specs.Demand3.{pairsIn, Demand3}
 use Rattle.verdicts.proofs.Theory.Shortest.{shown-shortest}
 use Rattle.search.proofs.Theory.MacroSearch.{header-fits}
 use Rattle.report.specs.Shown.{modelStart}
 use Rattle.report.proofs.Theory.Packed.{packed-tables}
-use Rattle.verdict_lines.proofs.Theory.Answers.{showing-same, showing-refused, showing-not-full, showing-not-pass}
+use Rattle.verdict_lines.proofs.Theory.Answers.{shown-event, showing-same, showing-refused, showing-not-full, showing-not-pass}
 use Rattle.verdict_lines.proofs.Theory.Answers.{letters-fit, packable, trace-size, answer-short}
 
 -- An answer that shows an event of the macro m, with so many pairs and letters, and the output afterwards.
@@ -42,7 +45,7 @@ pub record ReadsBack (m : Macro) (kind : Kind) (pairs letters : ℕ) (output′ 
   pub trace-back : reading firstEdition (take (modelStart letters) output′) ≡ trace (headerOf m) execution
   -- on fail the bytes behind it are read as the tables of the shown model of that execution
   pub model-back : kind ≡ failing
-      → readTables firstRowWidths (headerOf m) (drop (modelStart letters) output′) ≡ tablesOf (state (extend (begin (headerOf m)) execution))
+      → readTables firstEdition (headerOf m) (drop (modelStart letters) output′) ≡ tablesOf (state (extend (begin (headerOf m)) execution))
 
 module _ (m : Macro) (ls : List Letter) where
   abbrev front : List ℕ
@@ -54,24 +57,24 @@ module _ (m : Macro) (ls : List Letter) where
   -- what stands behind the trace
   abbrev behind : Kind → List ℕ → List ℕ
   behind breaking rest = rest
-  behind failing rest = packTables firstRowWidths (headerOf m) tables ++ rest
+  behind failing rest = packTables firstEdition (headerOf m) tables ++ rest
 
-  packed-front : (kind : Kind) (rest : List ℕ) → packed firstEdition firstRowWidths (begin (headerOf m)) kind ls ++ rest ≡ front ++ behind kind rest
+  packed-front : (kind : Kind) (rest : List ℕ) → packed firstEdition (begin (headerOf m)) kind ls ++ rest ≡ front ++ behind kind rest
   unfolding packed
   packed-front breaking rest = refl
-  packed-front failing rest = append-assoc front (packTables firstRowWidths (headerOf m) tables) rest
+  packed-front failing rest = append-assoc front (packTables firstEdition (headerOf m) tables) rest
 
 module _ (text table output : List ℕ) where
   -- of a text that is accepted
   module _ (m : Macro) (a : Accepted text m) (kind : Kind) (pairs letters : ℕ) (output′ : List ℕ) where
     abbrev bytesOf : Kind → List Letter → List ℕ
-    bytesOf j ls = packed firstEdition firstRowWidths (begin (headerOf m)) j ls
+    bytesOf j ls = packed firstEdition (begin (headerOf m)) j ls
 
     abbrev ShownWith : Kind → ℕ → List Letter → Type 0
     ShownWith j k ls = Shows Feasible (begin (headerOf m)) (m .body) j k ls
 
     abbrev Judged : Type 0
-    Judged = Verdict Feasible (begin (headerOf m)) (m .body) firstEdition firstRowWidths (pairsIn table) output (showing kind pairs letters) output′
+    Judged = Verdict Feasible (begin (headerOf m)) (m .body) firstEdition (pairsIn firstEdition table) output (showing kind pairs letters) output′
 
     -- the first event, and where it stands in the output
     record ShownEvent : Type 0 where
@@ -82,7 +85,10 @@ module _ (text table output : List ℕ) where
       bytes : output′ ≡ bytesOf kind execution ++ rest
 
     told : Judged → ShownEvent
-    told v = let (j, k, ls, s, d) = v .otherwise (showing-not-full kind pairs letters) (showing-not-pass kind pairs letters) in go j k ls s d
+    told v = 
+        let (j, k, ls, s, d) = shown-event m (a .in-order) (pairsIn firstEdition table) output (showing kind pairs letters) output′ v
+        (showing-not-full kind pairs letters) (showing-not-pass kind pairs letters) in
+        go j k ls s d
       where
         go : (j : Kind) (k : ℕ) (ls : List Letter) → ShownWith j k ls
             → Delivered (bytesOf j ls) (showing j k (length ls)) output (showing kind pairs letters) output′ → ShownEvent
@@ -105,7 +111,7 @@ module _ (text table output : List ℕ) where
       few : length ls ≤ mostPairs
       unfolding capacityOf
       few =
-          let (p, q) = answer-short m (a .in-order) (a .few) (pairsIn table) output (showing kind pairs letters) output′ v
+          let (p, q) = answer-short m (a .in-order) (a .few) (pairsIn firstEdition table) output (showing kind pairs letters) output′ v
           (showing-not-full kind pairs letters) (showing-not-pass kind pairs letters) kind pairs letters refl in
           let c = t .count in
           omega arith
@@ -117,11 +123,11 @@ module _ (text table output : List ℕ) where
       long = trace-size m (a .in-order) kind ls (t .shows .of-kind) ∙ ap modelStart (t .count)
 
       model : (k : Kind) → output′ ≡ front m ls ++ behind m ls k (t .rest) → k ≡ failing
-          → readTables firstRowWidths (headerOf m) (drop (modelStart letters) output′) ≡ tables m ls
+          → readTables firstEdition (headerOf m) (drop (modelStart letters) output′) ≡ tables m ls
       model breaking b e = absurd (let z : _≡_ {A = ℕ} 0 1 = cc in omega arith)
       model failing b e =
-          ap (λ o. readTables firstRowWidths (headerOf m) (drop (modelStart letters) o)) b
-          ∙ ap (readTables firstRowWidths (headerOf m)) (drop-at (front m ls) (behind m ls failing (t .rest)) (modelStart letters) long)
+          ap (λ o. readTables firstEdition (headerOf m) (drop (modelStart letters) o)) b
+          ∙ ap (readTables firstEdition (headerOf m)) (drop-at (front m ls) (behind m ls failing (t .rest)) (modelStart letters) long)
           ∙ packed-tables (headerOf m) (tables m ls) (packable m (a .in-order) kind ls (t .shows .of-kind) few) (t .rest)
 
       back : ReadsBack m kind pairs letters output′

@@ -7,12 +7,14 @@ use native.Mathlib.Omega.{arith}
 use lib.ListN.{length, getD, drop, replicate}
 use Rattle.letters.specs.declared.Letter.{Letter}
 use Rattle.letters.specs.Editions.{firstEdition}
+use Rattle.letters.specs.Capacity.{capacityOf}
 use Rattle.traces.specs.Traces.{packing}
 use Rattle.semantics.specs.Terms.{begin, extend, state}
 use Rattle.semantics.specs.Models.{Feasible}
 use Rattle.semantics.specs.Tables.{Tables}
-use Rattle.semantics.specs.PackedTables.{firstRowWidths, packTables, Packable}
-use Rattle.semantics.specs.Shown.{tablesOf}
+use Rattle.semantics.specs.PackedTables.{packTables}
+use Rattle.semantics.specs.TablesRead.{Packable}
+use Rattle.semantics.specs.ShownTables.{tablesOf}
 use Rattle.macros.proofs.Theory.Numbers.{three}
 use Rattle.macros.specs.Points.{sizeBlock}
 use Rattle.grammar.specs.Grammar.{Macro, headerOf}
@@ -25,9 +27,9 @@ use Rattle.syntax.specs.Answer.{heldMacro, padded}
 use Rattle.syntax.specs.declared.Answer as syntax
 use Rattle.syntax.specs.Reads.{Reads}
 use Rattle.syntax.specs.declared.Macro as held
-use Rattle.verdicts.specs.Verdict.{full, IsPass, Kind, breaking, failing, showing, packed, Shows, Verdict}
+use Rattle.verdicts.specs.Verdict.{full, IsPass, Kind, breaking, failing, showing, Shows, Verdict}
+use Rattle.verdicts.specs.AnswerPacking.{packed}
 use Rattle.verdicts.specs.Verdict as verdict
-use Rattle.verdicts.specs.Capacity.{capacityOf}
 use Rattle.verdicts.specs.Demand3.{pairsIn, Demand3}
 use Rattle.search.specs.declared.Verdict as search
 use Rattle.search.specs.declared.Verdict.the-variants.{Pass, Fail, Incoherent, Refused}
@@ -42,7 +44,7 @@ use Rattle.report.specs.Bound.{letterNumber, rowNumber}
 use Rattle.report.proofs.Theory.Packed.{incoherent-report, packed-rows, fail-report}
 use Rattle.verdict_lines.specs.Prints.{tablePairs, declaredNames, Told, Says, Prints}
 use Rattle.search.proofs.Theory.MacroSearch.{header-fits}
-use Rattle.verdict_lines.proofs.Theory.Answers.{showing-refused, letters-fit, rows-few, packable, count-few, event-shown}
+use Rattle.verdict_lines.proofs.Theory.Answers.{event-model, showing-refused, letters-fit, rows-few, packable, count-few, event-shown}
 use Rattle.verdict_lines.specs.Reported.{reported, reportFor, Reports}
 
 -- ── names with 0 behind them ──
@@ -80,11 +82,11 @@ full-or n p = go (same-or n 14) (same-or p 0)
 
 module _ (m : Macro) (o : InOrder m) (points : sizeBlock (m .body) ≤ 256) (output : List ℕ) (room : length output ≡ 4096) (output′ : List ℕ) where
   abbrev Judged : search.Verdict → Type 0
-  Judged v = Verdict Feasible (begin (headerOf m)) (m .body) firstEdition firstRowWidths tablePairs output (answerOf v) output′
+  Judged v = Verdict Feasible (begin (headerOf m)) (m .body) firstEdition tablePairs output (answerOf v) output′
 
   -- the event is packed in front of the output
   abbrev Front : Kind → List Letter → Type 0
-  Front kind ls = output′ ≡ packed firstEdition firstRowWidths (begin (headerOf m)) kind ls ++ drop (length (packed firstEdition firstRowWidths (begin (headerOf m)) kind ls)) output
+  Front kind ls = output′ ≡ packed firstEdition (begin (headerOf m)) kind ls ++ drop (length (packed firstEdition (begin (headerOf m)) kind ls)) output
 
   module _ (k l pairs : ℕ) (ls : List Letter) (few : length ls ≤ tablePairs) (e : k ≡ pairs) (f : l ≡ length ls) where
     same : l % 65536 ≡ length ls
@@ -111,7 +113,7 @@ module _ (m : Macro) (o : InOrder m) (points : sizeBlock (m .body) ≤ 256) (out
     unfolding Told reported packed
     fail-right s c b = record {
       told = printed.fail pairs ls tables;
-      is-told = (s, c, refl);
+      is-told = (s, c, event-model m o pairs ls s);
       lines = (λ i. reportOf (m .registers) (m .functions) (headerOf m) (report.Fail (e i) (same i)) (stands i))
           ∙ fail-report (headerOf m) ls tables rest (header-fits m o) (letters-fit m o failing ls (s .of-kind)) fits (m .registers) (m .functions) pairs;
       letters = omega arith;
@@ -121,17 +123,17 @@ module _ (m : Macro) (o : InOrder m) (points : sizeBlock (m .body) ≤ 256) (out
         tables : Tables
         tables = tablesOf (state (extend (begin (headerOf m)) ls))
 
-        fits : Packable firstRowWidths (headerOf m) tables
+        fits : Packable firstEdition (headerOf m) tables
         fits = packable m o failing ls (s .of-kind) (omega arith)
 
         trace : List ℕ
         trace = packing firstEdition (headerOf m) ls
 
         rest : List ℕ
-        rest = drop (length (trace ++ packTables firstRowWidths (headerOf m) tables)) output
+        rest = drop (length (trace ++ packTables firstEdition (headerOf m) tables)) output
 
-        stands : output′ ≡ trace ++ (packTables firstRowWidths (headerOf m) tables ++ rest)
-        stands = b ∙ append-assoc trace (packTables firstRowWidths (headerOf m) tables) rest
+        stands : output′ ≡ trace ++ (packTables firstEdition (headerOf m) tables ++ rest)
+        stands = b ∙ append-assoc trace (packTables firstEdition (headerOf m) tables) rest
 
         counted : rowNumber (report.Fail k (l % 65536)) output′ ≡ length (tables .rows)
         counted = (λ i. rowNumber (report.Fail (e i) (same i)) (stands i))
@@ -219,14 +221,14 @@ module _ (text : List ℕ) (read : syntax.Answer) (reads : Reads text read) wher
 
 module _ (text table output : List ℕ) (size : length table ≡ 65536) (room : length output ≡ 4096) (v : search.Verdict) (table′ output′ : List ℕ)
     (demand : Demand3 Feasible text table output (answerOf v) table′ output′) where
-  pairs : pairsIn table ≡ tablePairs
+  pairs : pairsIn firstEdition table ≡ tablePairs
   unfolding capacityOf
-  pairs = ap capacityOf size
+  pairs = ap (capacityOf firstEdition) size
 
   judged : (m : Macro) → Accepted text m → Right m v output′
   judged m a =
       right m (a .in-order) (a .few) output room output′ v
-      (subst (λ n. Verdict Feasible (begin (headerOf m)) (m .body) firstEdition firstRowWidths n output (answerOf v) output′) pairs (demand .verdict m a))
+      (subst (λ n. Verdict Feasible (begin (headerOf m)) (m .body) firstEdition n output (answerOf v) output′) pairs (demand .verdict m a))
 
   module _ (read : syntax.Answer) (reads : Reads text read) where
     says : Says text (reportFor (read .program) v output′)

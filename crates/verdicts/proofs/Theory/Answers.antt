@@ -6,13 +6,10 @@ use Prim.Native.Nat.{ℕ, _+_, _≤_, _<_}
 use native.Mathlib.Omega.{arith}
 use lib.ListN.{length}
 use Rattle.letters.specs.declared.Letter.{Letter}
-use Rattle.semantics.specs.Terms.{Trace, begin, _▸_, extend, state, WellFormed}
+use Rattle.semantics.specs.Terms.{Trace, begin, _▸_, extend, state}
+use Rattle.semantics.specs.Facts.{WellFormed}
 use Rattle.letters.specs.Editions.{Edition}
-use Rattle.semantics.specs.Models.{Satisfies, Feasible}
-use Rattle.semantics.specs.PackedTables.{RowWidths}
-use Rattle.semantics.proofs.Theory.Facts.{state-valid}
-use Rattle.semantics.specs.Shown.{shown}
-use Rattle.semantics.proofs.Theory.Shown.{shown-model}
+use Rattle.semantics.specs.Models.{Feasible}
 use Rattle.semantics.specs.Coherence.{Coherent}
 use Rattle.macros.specs.Executions.{Partial, Failing}
 use Rattle.macros.specs.Order.{Branch, Path, _▹_, Before}
@@ -25,13 +22,11 @@ use Rattle.verdicts.specs.Count.{Lists, More}
 use Rattle.verdicts.proofs.Theory.Counting.{more-is, same-lists, same-more}
 use Rattle.verdicts.proofs.Theory.System.{event, Leads, Alike, Meets, FirstMet}
 use Rattle.verdicts.proofs.Theory.Listing.{Listing, turn, path, Searching, finished-quiet, finished-lists, event-first, event-lists}
-use Rattle.verdicts.specs.Verdict.{Answer, pass, full, unfit, IsPass, Kind, breaking, failing, showing, Breaks, Precedes, Event, EventAt, Leaves, SamePair, PairCount, PairsPass, OfKind, Shows, packed, Delivered, Verdict}
+use Rattle.verdicts.specs.Verdict.{Answer, pass, full, unfit, IsPass, Kind, breaking, failing, showing, Breaks, Precedes, Event, EventAt, Leaves, SamePair, PairCount, PairsPass, OfKind, Shows, Delivered, Verdict}
+use Rattle.verdicts.specs.AnswerPacking.{packed}
+use Rattle.verdicts.proofs.Theory.AnswerPacking.{bytes-so}
 use Rattle.verdicts.specs.Verdict
 use Rattle.verdicts.proofs.Theory.Pairs.{Setting, Pair, starting, stepping, leads, lead-leaves, leaves-lead, alike-same, same-alike, meets-breaking, meets-failing, event-met, met-event, quiet-coherent, quiet-safe}
-
--- the shown model satisfies the tests of a feasible trace
-satisfies : (ρ : Trace) → WellFormed ρ → Feasible (state ρ) → Satisfies (shown (state ρ)) (state ρ .equals) (state ρ .unequals)
-satisfies ρ f g = shown-model (state ρ) (state-valid ρ f) g
 
 showing-other : (kind : Kind) (k l : ℕ) → (showing kind k l ≢ full) × (¬ IsPass (showing kind k l))
 showing-other breaking k l = (λ e. let z : _≡_ {A = ℕ} 0 1 = cc in omega arith, λ p. p)
@@ -45,7 +40,7 @@ given-other : (bs : List ℕ) (kind : Kind) (k l : ℕ) (output : List ℕ) (ans
 given-other bs kind k l output answer output′ (inl g) = subst (λ y. (y ≢ full) × (¬ IsPass y)) (sym (g .1)) (showing-other kind k l)
 given-other bs kind k l output answer output′ (inr g) = subst (λ y. (y ≢ full) × (¬ IsPass y)) (sym (g .1)) unfit-other
 
-module _ (x : Setting) (edition : Edition) (widths : RowWidths) where
+module _ (x : Setting) (edition : Edition) where
   counted-lists : (f : ℕ → Path) (k : ℕ) → Lists Before (Leads (starting x) (stepping x)) (Alike (starting x) (stepping x)) (Meets (starting x) (stepping x)) f k
       → Lists Before (Leaves (x .start) (x .body)) (SamePair (x .start) (x .body)) (EventAt Feasible (x .start) (x .body)) f k
   counted-lists = same-lists Before before-join (Leads (starting x) (stepping x)) (Leaves (x .start) (x .body))
@@ -66,7 +61,7 @@ module _ (x : Setting) (edition : Edition) (widths : RowWidths) where
 
   module _ (n : ℕ) (output : List ℕ) where
     abbrev Answered : Answer → List ℕ → Type 0
-    Answered answer output′ = Verdict Feasible (x .start) (x .body) edition widths n output answer output′
+    Answered answer output′ = Verdict Feasible (x .start) (x .body) edition n output answer output′
 
     -- ── the search is full ──
     pub answers-full : More Before (Leads (starting x) (stepping x)) (Alike (starting x) (stepping x)) (Meets (starting x) (stepping x)) n → Answered full output
@@ -121,6 +116,7 @@ module _ (x : Setting) (edition : Edition) (widths : RowWidths) where
     record Shown (kind : Kind) (ρ : Trace) : Type 0 where
       is-event : Event Feasible (x .start) (x .body) ρ
       of-kind : OfKind (x .start) (x .body) kind ρ
+      possible : kind ≡ failing → Feasible (state ρ)
       fails-to-pass : ((π : Trace) → Partial (x .start) (x .body) π → Coherent π) → ((π : Trace) → Failing (x .start) (x .body) π → ¬ Feasible (state π)) → ⊥
 
     met-shown : (kind : Kind) (p : Path) (l : Place ℕ) (ρ : Trace) → leads x p ≡ event kind → run (x .start) (x .body) p ≡ stand l ρ → Shown kind ρ
@@ -129,7 +125,12 @@ module _ (x : Setting) (edition : Edition) (widths : RowWidths) where
         let j : π ≡ ρ = cc in
         let c : Breaks ρ = subst Breaks j b in
         let y = partial-is (x .start) (x .body) ρ .1 (p, l, u) in
-        record { is-event = Verdict.breaks y c; of-kind = (y, c); fails-to-pass = λ f g. breaks-not ρ c (f ρ y) }
+        record {
+          is-event = Verdict.breaks y c;
+          of-kind = (y, c);
+          possible = λ f. absurd (let z : _≡_ {A = ℕ} 0 1 = cc in omega arith);
+          fails-to-pass = λ f g. breaks-not ρ c (f ρ y);
+        }
     met-shown failing p l ρ e u =
         let (π, w, c, f) = meets-failing x p e in
         let j : π ≡ ρ = cc in
@@ -138,19 +139,20 @@ module _ (x : Setting) (edition : Edition) (widths : RowWidths) where
         let g : Feasible (state ρ) = subst (λ τ. Feasible (state τ)) j f in
         record {
           is-event = Verdict.fails y g;
-          of-kind = (y, subst Coherent j c, satisfies ρ (run-formed (x .header) (x .start) (x .body) (x .formed) (x .proper) p l ρ u .0) g);
+          of-kind = (y, subst Coherent j c);
+          possible = λ f. g;
           fails-to-pass = λ d k. k ρ y g;
         }
 
     pub answers-event : (t : Listing (Pair x)) (i : ℕ) (b : Branch) → Searching (starting x) (stepping x) t (turn i b) → i < t .count → t .count ≤ n
         → (kind : Kind) → stepping x (t .state i) b ≡ event kind → (l : Place ℕ) (ls : List Letter) → run (x .start) (x .body) (path t i ▹ b) ≡ stand l (extend (x .start) ls)
-        → (answer : Answer) (output′ : List ℕ) → Delivered (packed edition widths (x .start) kind ls) (showing kind (t .count) (length ls)) output answer output′ → Answered answer output′
+        → (answer : Answer) (output′ : List ℕ) → Delivered (packed edition (x .start) kind ls) (showing kind (t .count) (length ls)) output answer output′ → Answered answer output′
     answers-event t i b v q r kind e l ls u answer output′ g = record {
       full-exactly = (λ f. absurd (other .0 f), λ y. absurd (not-more (t .count) n count r y));
       full-output = λ f. absurd (other .0 f);
       pass-exactly = λ f. (λ p. absurd (other .1 p), λ p. absurd (s .fails-to-pass (p .0) (p .1)));
       pass-count = λ j f. absurd (other .1 (subst IsPass (sym f) tt));
-      otherwise = λ f p. (kind, t .count, ls, shows, g);
+      otherwise = λ f p. (kind, t .count, ls, packed edition (x .start) kind ls, shows, bytes-so edition (x .start) ls kind formed (s .possible), g);
     }
       where
         met : FirstMet (starting x) (stepping x) (path t i ▹ b) kind
@@ -159,11 +161,14 @@ module _ (x : Setting) (edition : Edition) (widths : RowWidths) where
         s : Shown kind (extend (x .start) ls)
         s = met-shown kind (path t i ▹ b) l (extend (x .start) ls) (met .happens) u
 
+        formed : WellFormed (extend (x .start) ls)
+        formed = run-formed (x .header) (x .start) (x .body) (x .formed) (x .proper) (path t i ▹ b) l (extend (x .start) ls) u .0
+
         count : PairCount Feasible (x .start) (x .body) (t .count)
         count = (path t, counted-lists (path t) (t .count) (event-lists (starting x) (stepping x) t i b v q kind e))
 
         other : (answer ≢ full) × (¬ IsPass answer)
-        other = given-other (packed edition widths (x .start) kind ls) kind (t .count) (length ls) output answer output′ g
+        other = given-other (packed edition (x .start) kind ls) kind (t .count) (length ls) output answer output′ g
 
         shows : Shows Feasible (x .start) (x .body) kind (t .count) ls
         shows = record {

@@ -4,9 +4,10 @@ use mathlib.Core.Logic.{_⊎_, inl, inr, _↔_}
 use Prim.Native.Nat.{ℕ, _<_}
 use native.Mathlib.Omega.{arith}
 use lib.Dec.{T}
-use Rattle.base.specs.Choice.{byTest}
+use Rattle.base.proofs.Theory.Choice.{byTest}
 use Rattle.letters.specs.declared.Header.{Header}
-use Rattle.semantics.specs.Terms.{Trace, begin, _▸_, State, WellFormed}
+use Rattle.semantics.specs.Terms.{Trace, begin, _▸_, State}
+use Rattle.semantics.specs.Facts.{WellFormed}
 use Rattle.semantics.specs.Prefixes.{Begins, before}
 use Rattle.semantics.specs.Coherence.{Coherent}
 use Rattle.semantics.specs.Judge.{coherent}

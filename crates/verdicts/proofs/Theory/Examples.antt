@@ -11,14 +11,14 @@ use Rattle.letters.specs.declared.Header.{Header}
 use Rattle.letters.specs.declared.Letter.the-variants.{Copy, Apply, Equal, Unequal}
 use Rattle.letters.specs.Letters.{Fits}
 use Rattle.letters.specs.Editions.{Edition, firstEdition}
-use Rattle.semantics.specs.Terms.{_∈_, Term, con, Trace, begin, _▸_, State, state, WellFormed}
+use Rattle.semantics.specs.Terms.{_∈_, Term, con, Trace, begin, _▸_, State, state}
+use Rattle.semantics.specs.Facts.{WellFormed}
 use Rattle.semantics.proofs.Theory.Facts.{state-valid}
 use Rattle.semantics.specs.Judge.{feasible}
 use Rattle.semantics.proofs.Theory.Judge.{feasible-is}
 use Rattle.semantics.specs.Models.{Model, eval, Feasible}
 use Rattle.semantics.specs.AnyModel.{AnyModel, evalIn, FeasibleInSomeModel}
 use Rattle.semantics.specs.Coherence.{Coherent}
-use Rattle.semantics.specs.PackedTables.{RowWidths, firstRowWidths}
 use Rattle.macros.specs.Tree.{equal, unequal, skip, perform, assert, while, Block, empty, _then_}
 use Rattle.macros.specs.Executions.{Outcome, done, failed, ExecBlock, Partial, Failing, Begins, both, ends, stop, nothing, letter, fails, leaves, turns, whole}
 use Rattle.macros.specs.Order.{Path, root}
@@ -39,7 +39,7 @@ use Rattle.verdicts.specs.Demand3.{pairsIn, Demand3}
 use Rattle.verdicts.proofs.Theory.Settled.{one-way, refused-way, read-way}
 use Rattle.verdicts.proofs.Theory.Readings.{anywhere}
 
-module _ (h : Header) (edition : Edition) (widths : RowWidths) (n : ℕ) (output : List ℕ) where
+module _ (h : Header) (edition : Edition) (n : ℕ) (output : List ℕ) where
   -- ── skip; ──
   abbrev still : Block
   still = skip then empty
@@ -63,7 +63,7 @@ module _ (h : Header) (edition : Edition) (widths : RowWidths) (n : ℕ) (output
   never-fails ρ x = let e : failed ≡ done = only-start x .1 in let z : _≡_ {A = ℕ} 0 1 = cc in omega arith
 
   -- "`vars x; skip;`: pass, 0 pairs, even with N = 0." It has no failing execution, so that it does not matter what is taken to be possible.
-  still-passes {ℓ} : (Possible : State → Type ℓ) → Verdict Possible (begin h) still edition widths n output (pass 0) output
+  still-passes {ℓ} : (Possible : State → Type ℓ) → Verdict Possible (begin h) still edition n output (pass 0) output
   still-passes Possible = record {
     full-exactly = (λ e. absurd (let z : _≡_ {A = ℕ} 0 1 = cc in omega arith), λ x. absurd (no-pairs (x .counted 0 (omega arith) .is-first .leaves)));
     full-output = λ e. refl;
@@ -128,21 +128,21 @@ module _ (h : Header) (edition : Edition) (widths : RowWidths) (n : ℕ) (output
       differ s t f g e = let z : _≡_ {A = ℕ} 0 1 = sym (ap (evalIn numbered) f) ∙ e ∙ ap (evalIn numbered) g in omega arith
 
   -- pass is wrong where the failure is possible
-  passes-not {ℓ} : (Possible : State → Type ℓ) → Possible (state failure) → (k : ℕ) (output′ : List ℕ) → ¬ Verdict Possible (begin h) claim edition widths n output (pass k) output′
+  passes-not {ℓ} : (Possible : State → Type ℓ) → Possible (state failure) → (k : ℕ) (output′ : List ℕ) → ¬ Verdict Possible (begin h) claim edition n output (pass k) output′
   passes-not Possible f k output′ x =
       let u : pass k ≢ full = λ e. let z : _≡_ {A = ℕ} 0 1 = cc in omega arith in
       x .pass-exactly u .0 tt .1 failure (ends (fails refl)) f
 
   -- a checker that passes everything is wrong here
-  claim-fails : (k : ℕ) (output′ : List ℕ) → ¬ Verdict Feasible (begin h) claim edition widths n output (pass k) output′
+  claim-fails : (k : ℕ) (output′ : List ℕ) → ¬ Verdict Feasible (begin h) claim edition n output (pass k) output′
   claim-fails = passes-not Feasible reaches
 
-  claim-fails-anywhere : (k : ℕ) (output′ : List ℕ) → ¬ Verdict (FeasibleInSomeModel {0}) (begin h) claim edition widths n output (pass k) output′
+  claim-fails-anywhere : (k : ℕ) (output′ : List ℕ) → ¬ Verdict (FeasibleInSomeModel {0}) (begin h) claim edition n output (pass k) output′
   claim-fails-anywhere = passes-not (FeasibleInSomeModel {0}) reaches-anywhere
 
 -- ── a failure at the second turn of a loop ──
 -- vars p q r s u v; funs n/1; q := p; r := p; while u != v { r := q; q := s; u := n(u); } assert r = p;
-module _ (edition : Edition) (widths : RowWidths) (n : ℕ) (output : List ℕ) where
+module _ (edition : Edition) (n : ℕ) (output : List ℕ) where
   abbrev six : Header
   six = record { registers = 6; functions = 1; binary = 0 }
 
@@ -170,7 +170,7 @@ module _ (edition : Edition) (widths : RowWidths) (n : ℕ) (output : List ℕ) 
   twice-possible = feasible-is (state twice) (state-valid twice twice-formed) .0 (let e : feasible (state twice) ≡ true = refl in subst T (sym e) tt)
 
   -- a search that tries each loop body a single time passes it, and is wrong
-  second-turn : (k : ℕ) (output′ : List ℕ) → ¬ Verdict Feasible (begin six) later edition widths n output (pass k) output′
+  second-turn : (k : ℕ) (output′ : List ℕ) → ¬ Verdict Feasible (begin six) later edition n output (pass k) output′
   second-turn k output′ x =
       let u : pass k ≢ full = λ e. let z : _≡_ {A = ℕ} 0 1 = cc in omega arith in
       x .pass-exactly u .0 tt .1 twice twice-fails twice-possible
@@ -216,7 +216,7 @@ module _ (table output : List ℕ) where
   still-met {ℓ} : (Possible : State → Type ℓ) → Demand3 Possible still-text table output (pass 0) (replicate (length table) 0) output
   still-met Possible =
       read-way Possible still-text table output still-macro still-accepted (pass 0) output
-      (still-passes _ firstEdition firstRowWidths (pairsIn table) output Possible)
+      (still-passes _ firstEdition (pairsIn firstEdition table) output Possible)
 
   -- no text at all: nothing is written
   nothing-met {ℓ} : (Possible : State → Type ℓ) → Demand3 Possible [] table output (refused 9 0) table output
@@ -224,7 +224,7 @@ module _ (table output : List ℕ) where
 
   -- pass is wrong, whatever the table and the output hold afterwards
   claim-not-met : (k : ℕ) (table′ output′ : List ℕ) → ¬ Demand3 Feasible claim-text table output (pass k) table′ output′
-  claim-not-met k table′ output′ x = claim-fails _ firstEdition firstRowWidths (pairsIn table) output k output′ (x .verdict claim-macro claim-accepted)
+  claim-not-met k table′ output′ x = claim-fails _ firstEdition (pairsIn firstEdition table) output k output′ (x .verdict claim-macro claim-accepted)
 
   claim-not-met-anywhere {ℓ} : (k : ℕ) (table′ output′ : List ℕ) → ¬ Demand3 (FeasibleInSomeModel {ℓ}) claim-text table output (pass k) table′ output′
   claim-not-met-anywhere k table′ output′ x = claim-not-met k table′ output′ (anywhere {ℓ} claim-text table output (pass k) table′ output′ .1 x)

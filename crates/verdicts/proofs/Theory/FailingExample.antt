@@ -11,18 +11,21 @@ use Rattle.letters.specs.declared.Header.{Header}
 use Rattle.letters.specs.declared.Letter.{Letter}
 use Rattle.letters.specs.declared.Letter.the-variants.{Equal, Unequal}
 use Rattle.letters.specs.Editions.{Edition, firstEdition}
+use Rattle.letters.specs.Capacity.{capacityOf}
 use Rattle.letters.specs.Words.{headerWord, letterWord}
 use Rattle.traces.specs.Traces.{packing}
 use Rattle.semantics.specs.Terms.{Trace, begin, _▸_, extend, State, state}
+use Rattle.semantics.specs.Facts.{WellFormed}
 use Rattle.semantics.specs.Models.{Feasible}
-use Rattle.semantics.specs.Coherence.{Coherent, size as letters}
+use Rattle.semantics.specs.Coherence.{Coherent}
+use Rattle.semantics.specs.Judgement.{size as letters}
 use Rattle.semantics.proofs.Theory.Prefixes.{begins-size, begins-extend}
 use Rattle.semantics.proofs.Theory.Facts.{state-valid}
 use Rattle.semantics.specs.Judge.{coherent, feasible}
 use Rattle.semantics.proofs.Theory.Judge.{coherent-is, feasible-is}
-use Rattle.semantics.specs.PackedTables.{RowWidths, firstRowWidths, packTables, units, rowWord, secondWritten}
-use Rattle.semantics.specs.Shown.{tablesOf}
-use Rattle.semantics.specs.Tables.{shownTables, startsFrom, rowsOf, applications, classesOf, numberIn}
+use Rattle.semantics.specs.PackedTables.{packTables, units, rowWord, secondWritten}
+use Rattle.semantics.specs.ShownTables.{tablesOf}
+use Rattle.semantics.specs.ShownTables.{shownTables, startsFrom, rowsOf, applications, classesOf, numberIn}
 use Rattle.semantics.specs.Firsts.{firstsAfter, place}
 use Rattle.macros.specs.Tree.{equal, assert, Block, empty, _then_}
 use Rattle.macros.specs.Executions.{Outcome, ExecBlock, Partial, Failing, Begins, both, ends, stop, fails, holds, whole, before}
@@ -32,9 +35,10 @@ use Rattle.macros.specs.Walk.{at, failure, stand}
 use Rattle.macros.specs.Points.{size, entry, compile, run}
 use Rattle.macros.proofs.Theory.Runs.{partial-is, run-once, run-steps}
 use Rattle.verdicts.specs.Count.{Counted}
-use Rattle.verdicts.specs.Verdict.{Answer, fail, full, IsPass, Kind, breaking, failing, showing, packed, Delivered, Shows, Verdict, Breaks, Event, EventAt, Leaves, SamePair, PairCount, PairsPass}
+use Rattle.verdicts.specs.Verdict.{Answer, fail, full, IsPass, Kind, breaking, failing, showing, AnswerBytes, Delivered, Shows, Verdict, Breaks, Event, EventAt, Leaves, SamePair, PairCount, PairsPass}
+use Rattle.verdicts.specs.AnswerPacking.{packed}
+use Rattle.verdicts.proofs.Theory.AnswerPacking.{bytes-are}
 use Rattle.verdicts.specs.Verdict
-use Rattle.verdicts.specs.Capacity.{capacityOf}
 use Rattle.verdicts.specs.Demand3.{pairsIn, Demand3}
 use Rattle.verdicts.proofs.Theory.Examples.{claim-text, claim-macro, claim-accepted}
 
@@ -140,10 +144,10 @@ module _ {ℓ} (Possible : State → Type ℓ) where
       let z = y .distinct 0 1 (omega arith) (omega arith) (a ∙ sym b) in
       omega arith
 
-  module _ (reached : Possible (state fails-so)) (edition : Edition) (widths : RowWidths) (n : ℕ) (room : 1 ≤ n) (output : List ℕ) where
+  module _ (reached : Possible (state fails-so)) (edition : Edition) (n : ℕ) (room : 1 ≤ n) (output : List ℕ) where
     -- The one answer: fail, with one pair and one letter; or 6, where it does not fit. So 14, pass, incoherent and every other count are wrong.
-    pub claim-only : (answer : Answer) (output′ : List ℕ) → Verdict Possible start claim edition widths n output answer output′
-        → Delivered (packed edition widths start failing (Unequal 0 1 ∷ [])) (fail 1 1) output answer output′
+    pub claim-only : (answer : Answer) (output′ : List ℕ) → Verdict Possible start claim edition n output answer output′
+        → Delivered (packed edition start failing (Unequal 0 1 ∷ [])) (fail 1 1) output answer output′
     claim-only answer output′ x = told (x .otherwise not-full not-pass)
       where
         not-full : answer ≢ full
@@ -157,18 +161,24 @@ module _ {ℓ} (Possible : State → Type ℓ) where
         same-letters (a ∷ []) e = let f : a ≡ Unequal 0 1 = cc in ap (λ a. a ∷ []) f
         same-letters (a ∷ b ∷ ls) e = absurd (let z = ap letters e in let y = begins-size (begins-extend (start ▸ a ▸ b) ls) in omega arith)
 
-        told : (kind : Kind) × (k : ℕ) × (ls : List Letter) × Shows Possible start claim kind k ls × Delivered (packed edition widths start kind ls) (showing kind k (length ls)) output answer output′
-            → Delivered (packed edition widths start failing (Unequal 0 1 ∷ [])) (fail 1 1) output answer output′
-        told (breaking, k, ls, s, d) = absurd (never-breaks (extend start ls) (s .of-kind .0) (s .of-kind .1))
-        told (failing, k, ls, s, d) =
+        formed : WellFormed (extend start (Unequal 0 1 ∷ []))
+        formed = (tt, (omega arith, omega arith))
+
+        told : (kind : Kind) × (k : ℕ) × (ls : List Letter) × (bytes : List ℕ)
+            × Shows Possible start claim kind k ls × AnswerBytes edition start kind ls bytes × Delivered bytes (showing kind k (length ls)) output answer output′
+            → Delivered (packed edition start failing (Unequal 0 1 ∷ [])) (fail 1 1) output answer output′
+        told (breaking, k, ls, bytes, s, q, d) = absurd (never-breaks (extend start ls) (s .of-kind .0) (s .of-kind .1))
+        told (failing, k, ls, bytes, s, q, d) =
             let e = same-letters ls (event-so (extend start ls) (s .first-event .event)) in
             let c = one-pair k (s .count) in
-            subst (λ ls. Delivered (packed edition widths start failing ls) (fail 1 (length ls)) output answer output′) e
-            (subst (λ k. Delivered (packed edition widths start failing ls) (fail k (length ls)) output answer output′) c d)
+            let f = bytes-are edition start ls failing bytes (λ _. subst (λ ls. WellFormed (extend start ls)) (sym e) formed) q in
+            subst (λ ls. Delivered (packed edition start failing ls) (fail 1 (length ls)) output answer output′) e
+            (subst (λ bs. Delivered bs (fail 1 (length ls)) output answer output′) f
+            (subst (λ k. Delivered bytes (fail k (length ls)) output answer output′) c d))
 
 -- ── the same of its text ──
 -- The bytes: the header, `x != y`, and the model: three values, no rows, 1 for x and 2 for y.
-claim-bytes : packed firstEdition firstRowWidths start failing (Unequal 0 1 ∷ []) ≡ 32 ∷ 0 ∷ 192 ∷ 8 ∷ 0 ∷ 3 ∷ 0 ∷ 0 ∷ 0 ∷ 1 ∷ 0 ∷ 2 ∷ []
+claim-bytes : packed firstEdition start failing (Unequal 0 1 ∷ []) ≡ 32 ∷ 0 ∷ 192 ∷ 8 ∷ 0 ∷ 3 ∷ 0 ∷ 0 ∷ 0 ∷ 1 ∷ 0 ∷ 2 ∷ []
 unfolding packed packing headerWord letterWord packTables tablesOf shownTables startsFrom rowsOf applications classesOf numberIn firstsAfter place units rowWord secondWritten
 claim-bytes = refl
 
@@ -180,9 +190,9 @@ pub claim-text-only : (table output : List ℕ) → 192 ≤ length table → 12 
     → (answer ≡ fail 1 1) × (table′ ≡ replicate (length table) 0) × (output′ ≡ 32 ∷ 0 ∷ 192 ∷ 8 ∷ 0 ∷ 3 ∷ 0 ∷ 0 ∷ 0 ∷ 1 ∷ 0 ∷ 2 ∷ drop 12 output)
 unfolding capacityOf
 claim-text-only table output wide long answer table′ output′ x =
-    told (claim-only Feasible possible firstEdition firstRowWidths (pairsIn table) (omega arith) output answer output′ (x .verdict claim-macro claim-accepted))
+    told (claim-only Feasible possible firstEdition (pairsIn firstEdition table) (omega arith) output answer output′ (x .verdict claim-macro claim-accepted))
   where
-    told : Delivered (packed firstEdition firstRowWidths start failing (Unequal 0 1 ∷ [])) (fail 1 1) output answer output′
+    told : Delivered (packed firstEdition start failing (Unequal 0 1 ∷ [])) (fail 1 1) output answer output′
         → (answer ≡ fail 1 1) × (table′ ≡ replicate (length table) 0) × (output′ ≡ 32 ∷ 0 ∷ 192 ∷ 8 ∷ 0 ∷ 3 ∷ 0 ∷ 0 ∷ 0 ∷ 1 ∷ 0 ∷ 2 ∷ drop 12 output)
     told (inl (l, e, f)) = (e, x .zeroed claim-macro claim-accepted, f ∙ ap (λ bs. bs ++ drop (length bs) output) claim-bytes)
     told (inr (l, e, f)) = absurd (let z = ap length claim-bytes in omega arith)

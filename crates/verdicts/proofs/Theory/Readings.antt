@@ -11,7 +11,6 @@ use Rattle.letters.specs.Editions.{Edition, firstEdition}
 use Rattle.semantics.specs.Terms.{Trace, begin, State, extend, state}
 use Rattle.semantics.specs.Models.{Feasible}
 use Rattle.semantics.specs.AnyModel.{AnyModel, SatisfiesIn, FeasibleInSomeModel}
-use Rattle.semantics.specs.PackedTables.{RowWidths, firstRowWidths}
 use Rattle.semantics.proofs.Theory.Facts.{state-valid}
 use Rattle.semantics.proofs.Theory.PaperLaws.{feasible-anywhere}
 use Rattle.macros.specs.Tree.{Block, ProperBlock}
@@ -77,9 +76,9 @@ module _ {ℓ κ} (Possible : State → Type ℓ) (Possible′ : State → Type 
   }
 
   -- they give the same verdicts
-  same-verdict : (e : Edition) (w : RowWidths) (n : ℕ) (output : List ℕ) (answer : Answer) (output′ : List ℕ)
-      → Verdict Possible start m e w n output answer output′ → Verdict Possible′ start m e w n output answer output′
-  same-verdict e w n output answer output′ x = record {
+  same-verdict : (e : Edition) (n : ℕ) (output : List ℕ) (answer : Answer) (output′ : List ℕ)
+      → Verdict Possible start m e n output answer output′ → Verdict Possible′ start m e n output answer output′
+  same-verdict e n output answer output′ x = record {
     full-exactly = (
       λ f. same-pass Possible Possible′ start m there back n (x .full-exactly .0 f),
       λ y. x .full-exactly .1 (same-pass Possible′ Possible start m back there n y),
@@ -90,7 +89,7 @@ module _ {ℓ κ} (Possible : State → Type ℓ) (Possible′ : State → Type 
       λ (c, s). x .pass-exactly u .1 (c, λ ρ y f. s ρ y (agree ρ y .0 f)),
     );
     pass-count = λ k f. let (c, o) = x .pass-count k f in (count k c, o);
-    otherwise = λ u p. let (kind, k, ls, s, d) = x .otherwise u p in (kind, k, ls, shows kind k ls s, d);
+    otherwise = λ u p. let (kind, k, ls, bytes, s, q, d) = x .otherwise u p in (kind, k, ls, bytes, shows kind k ls s, q, d);
   }
 
 -- ── finite models, and all models, whatever universe their values lie in ──
@@ -101,21 +100,21 @@ module _ {ℓ} (h : Header) (start : Trace) (m : Block) (formed : Formed h start
       feasible-anywhere (state ρ) (state-valid ρ (run-formed h start m formed proper p failure ρ e .0))
 
   -- The verdict on a proper macro.
-  pub verdict-anywhere : (e : Edition) (w : RowWidths) (n : ℕ) (output : List ℕ) (answer : Answer) (output′ : List ℕ)
-      → Verdict Feasible start m e w n output answer output′ ↔ Verdict (FeasibleInSomeModel {ℓ}) start m e w n output answer output′
-  verdict-anywhere e w n output answer output′ = (
-    same-verdict Feasible (FeasibleInSomeModel {ℓ}) start m agree e w n output answer output′,
-    same-verdict (FeasibleInSomeModel {ℓ}) Feasible start m (λ ρ x. Iff·symm (agree ρ x)) e w n output answer output′,
+  pub verdict-anywhere : (e : Edition) (n : ℕ) (output : List ℕ) (answer : Answer) (output′ : List ℕ)
+      → Verdict Feasible start m e n output answer output′ ↔ Verdict (FeasibleInSomeModel {ℓ}) start m e n output answer output′
+  verdict-anywhere e n output answer output′ = (
+    same-verdict Feasible (FeasibleInSomeModel {ℓ}) start m agree e n output answer output′,
+    same-verdict (FeasibleInSomeModel {ℓ}) Feasible start m (λ ρ x. Iff·symm (agree ρ x)) e n output answer output′,
   )
 
 -- Demand 3: a macro that is accepted is proper.
 module _ {ℓ} (text table output : List ℕ) (answer : Answer) (table′ output′ : List ℕ) where
   accepted-anywhere : (m : Macro) → Accepted text m
-      → Verdict Feasible (begin (headerOf m)) (m .body) firstEdition firstRowWidths (pairsIn table) output answer output′
-      ↔ Verdict (FeasibleInSomeModel {ℓ}) (begin (headerOf m)) (m .body) firstEdition firstRowWidths (pairsIn table) output answer output′
+      → Verdict Feasible (begin (headerOf m)) (m .body) firstEdition (pairsIn firstEdition table) output answer output′
+      ↔ Verdict (FeasibleInSomeModel {ℓ}) (begin (headerOf m)) (m .body) firstEdition (pairsIn firstEdition table) output answer output′
   accepted-anywhere m a =
       verdict-anywhere {ℓ} (headerOf m) (begin (headerOf m)) (m .body) (tt, refl) (a .in-order .uses)
-      firstEdition firstRowWidths (pairsIn table) output answer output′
+      firstEdition (pairsIn firstEdition table) output answer output′
 
   pub anywhere : Demand3 Feasible text table output answer table′ output′ ↔ Demand3 (FeasibleInSomeModel {ℓ}) text table output answer table′ output′
   anywhere = (

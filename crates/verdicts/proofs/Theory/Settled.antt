@@ -5,7 +5,6 @@ use Prim.Native.Nat.{ℕ}
 use lib.ListN.{length, replicate}
 use Rattle.letters.specs.Editions.{firstEdition}
 use Rattle.semantics.specs.Terms.{State, begin}
-use Rattle.semantics.specs.PackedTables.{firstRowWidths}
 use Rattle.grammar.specs.Grammar.{Macro, headerOf}
 use Rattle.refusals.specs.Order.{Refusal}
 use Rattle.refusals.specs.Accepted.{Accepted}
@@ -13,6 +12,7 @@ use Rattle.refusals.proofs.Theory.Accepted.{Acceptance, accepted, Becomes, an-a
 use Rattle.refusals.proofs.Theory.Accepted as acceptance
 use Rattle.verdicts.specs.Verdict.{Answer, refused, Verdict}
 use Rattle.verdicts.specs.Demand3.{pairsIn, Demand3}
+use Rattle.verdicts.proofs.Theory.AnswerPacking.{failing-formed}
 use Rattle.verdicts.proofs.Theory.Unique.{one-answer}
 
 -- Whatever is taken to be possible: `Feasible` and `FeasibleInSomeModel` alike.
@@ -28,7 +28,8 @@ module _ {ℓ} (Possible : State → Type ℓ) (text table output : List ℕ) wh
           let (i′, j′, k′) = y .unread n q r in
           (i ∙ sym i′, j ∙ sym j′, k ∙ sym k′)
       go (accepted m) r =
-          let (i, k) = one-answer Possible (begin (headerOf m)) (m .body) firstEdition firstRowWidths (pairsIn table) output a b o p
+          let (i, k) = one-answer Possible (begin (headerOf m)) (m .body) firstEdition
+          (failing-formed (headerOf m) (begin (headerOf m)) (m .body) (tt, refl) (r .in-order .uses)) (pairsIn firstEdition table) output a b o p
           (x .verdict m r) (y .verdict m r) in
           (i, x .zeroed m r ∙ sym (y .zeroed m r), k)
 
@@ -42,17 +43,17 @@ module _ {ℓ} (Possible : State → Type ℓ) (text table output : List ℕ) wh
 
   -- A text that is accepted as a macro, with a verdict on it.
   pub read-way : (m : Macro) → Accepted text m → (a : Answer) (o : List ℕ)
-      → Verdict Possible (begin (headerOf m)) (m .body) firstEdition firstRowWidths (pairsIn table) output a o → Demand3 Possible text table output a (replicate (length table) 0) o
+      → Verdict Possible (begin (headerOf m)) (m .body) firstEdition (pairsIn firstEdition table) output a o → Demand3 Possible text table output a (replicate (length table) 0) o
   read-way m r a o w = record {
     unread = λ k l s. absurd (never-both text r s);
     verdict = λ k s.
-        subst (λ z. Verdict Possible (begin (headerOf z)) (z .body) firstEdition firstRowWidths (pairsIn table) output a o) (accepted-once text r s) w;
+        subst (λ z. Verdict Possible (begin (headerOf z)) (z .body) firstEdition (pairsIn firstEdition table) output a o) (accepted-once text r s) w;
     zeroed = λ k s. refl;
   }
 
   -- There is one, if there is a verdict on the macro where one is accepted.
   pub a-way : ((m : Macro) → Accepted text m
-      → (a : Answer) × (o : List ℕ) × Verdict Possible (begin (headerOf m)) (m .body) firstEdition firstRowWidths (pairsIn table) output a o)
+      → (a : Answer) × (o : List ℕ) × Verdict Possible (begin (headerOf m)) (m .body) firstEdition (pairsIn firstEdition table) output a o)
       → (a : Answer) × (table′ : List ℕ) × (output′ : List ℕ) × Demand3 Possible text table output a table′ output′
   a-way v = let (r, k) = an-acceptance text in go r k
     where

@@ -7,7 +7,7 @@ use native.Mathlib.Omega.{arith}
 use lib.ListN.{length}
 use Rattle.letters.specs.declared.Letter.{Letter}
 use Rattle.semantics.specs.Terms.{Trace, State, extend}
-use Rattle.semantics.specs.Coherence.{size as letters}
+use Rattle.semantics.specs.Judgement.{size as letters}
 use Rattle.macros.specs.Tree.{Block}
 use Rattle.macros.proofs.Theory.Order.{till-steps}
 use Rattle.macros.proofs.Theory.Runs.{run-steps}

@@ -6,7 +6,7 @@ use native.Mathlib.Omega.{arith}
 use lib.ListN.{length}
 use Rattle.letters.specs.declared.Letter.{Letter}
 use Rattle.semantics.specs.Terms.{Trace, begin, _▸_, extend}
-use Rattle.semantics.specs.Coherence.{size as letters}
+use Rattle.semantics.specs.Judgement.{size as letters}
 use Rattle.macros.specs.Executions.{Begins, whole, before}
 
 extend-last : (ρ : Trace) (l : List Letter) (a : Letter) → extend ρ (l ++ a ∷ []) ≡ extend ρ l ▸ a

@@ -8,7 +8,6 @@ use native.Mathlib.Omega.{arith}
 use lib.ListN.{length, drop}
 use Rattle.semantics.specs.Terms.{Trace}
 use Rattle.letters.specs.Editions.{Edition}
-use Rattle.semantics.specs.PackedTables.{RowWidths}
 use Rattle.semantics.specs.Models.{Feasible}
 use Rattle.macros.proofs.Theory.Numbers.{less-or}
 use Rattle.macros.specs.Order.{Branch, first, Path, _▹_, Before}
@@ -19,7 +18,8 @@ use Rattle.verdicts.specs.Count.{More}
 use Rattle.verdicts.proofs.Theory.System.{stop, event, next, Leads, Alike, Meets}
 use Rattle.verdicts.proofs.Theory.Listing.{Listing, turn, turn-above, turn-from, turn-next, path, Searching, extend as extend-listing, extends, begins-none, begins-one, passes, meets, grows, event-first, listed-more, new-more}
 use Rattle.verdicts.proofs.Theory.Since.{since}
-use Rattle.verdicts.specs.Verdict.{Answer, pass, full, unfit, Kind, breaking, failing, showing, packed, Delivered, Verdict}
+use Rattle.verdicts.specs.Verdict.{Answer, pass, full, unfit, Kind, breaking, failing, showing, Delivered, Verdict}
+use Rattle.verdicts.specs.AnswerPacking.{packed}
 use Rattle.verdicts.proofs.Theory.Pairs.{Setting, Pair, Step, starting, stepping, leads, meets-breaking, meets-failing}
 use Rattle.verdicts.proofs.Theory.Answers.{answers-full, answers-pass, answers-event}
 
@@ -37,9 +37,9 @@ find same f s (suc k) = go (find same f s k) (same (f k) s)
 fitted : (bs : List ℕ) (a : Answer) (output : List ℕ) → (answer : Answer) × (output′ : List ℕ) × Delivered bs a output answer output′
 fitted bs a output = elim (less-or (length output) (length bs)) [ inl l ↦ (unfit, output, inr (l, refl, refl)) | inr l ↦ (a, bs ++ drop (length bs) output, inl (l, refl, refl)) ]
 
-module _ (x : Setting) (edition : Edition) (widths : RowWidths) (n : ℕ) (output : List ℕ) (same : (s t : Pair x) → Dec (s ≡ t)) where
+module _ (x : Setting) (edition : Edition) (n : ℕ) (output : List ℕ) (same : (s t : Pair x) → Dec (s ≡ t)) where
   abbrev Answered : Type 0
-  Answered = (a : Answer) × (output′ : List ℕ) × Verdict Feasible (x .start) (x .body) edition widths n output a output′
+  Answered = (a : Answer) × (output′ : List ℕ) × Verdict Feasible (x .start) (x .body) edition n output a output′
 
   met-at : (kind : Kind) (p : Path) → leads x p ≡ event kind → (ρ : Trace) × (l : Place ℕ) × (run (x .start) (x .body) p ≡ stand l ρ)
   met-at breaking p e = let (ρ, l, u, b) = meets-breaking x p e in (ρ, l, u)
@@ -50,8 +50,8 @@ module _ (x : Setting) (edition : Edition) (widths : RowWidths) (n : ℕ) (outpu
   at-event t i b v l u kind e =
       let (ρ, k, w) = met-at kind (path t i ▹ b) (event-first (starting x) (stepping x) t i b v l kind e .happens) in
       let (ls, f) = since (walk-begins (moves-at (points (x .body))) (entrance (x .body)) (x .start) (path t i ▹ b) k ρ w) in
-      let (a, o, g) = fitted (packed edition widths (x .start) kind ls) (showing kind (t .count) (length ls)) output in
-      (a, o, answers-event x edition widths n output t i b v l u kind e k ls (w ∙ ap (stand k) f) a o g)
+      let (a, o, g) = fitted (packed edition (x .start) kind ls) (showing kind (t .count) (length ls)) output in
+      (a, o, answers-event x edition n output t i b v l u kind e k ls (w ∙ ap (stand k) f) a o g)
 
   -- one move: an answer, or the listing before the next move
   record Onward (d : ℕ) : Type 0 where
@@ -80,7 +80,7 @@ module _ (x : Setting) (edition : Edition) (widths : RowWidths) (n : ℕ) (outpu
           inl (
             full,
             output,
-            answers-full x edition widths n output
+            answers-full x edition n output
                 (subst (More Before (Leads (starting x) (stepping x)) (Alike (starting x) (stepping x)) (Meets (starting x) (stepping x))) g (new-more (starting x) (stepping x) t i b s v l e w)),
           )
 
@@ -105,7 +105,7 @@ module _ (x : Setting) (edition : Edition) (widths : RowWidths) (n : ℕ) (outpu
           let g : d ≡ y .listing .count + y .listing .count = (let w = y .within in omega arith) in (
             pass (y .listing .count),
             output,
-            answers-pass x edition widths n output (y .listing) (subst (Searching (starting x) (stepping x) (y .listing)) g (y .searching)) (y .fits),
+            answers-pass x edition n output (y .listing) (subst (Searching (starting x) (stepping x) (y .listing)) g (y .searching)) (y .fits),
           )
 
   -- A verdict.
@@ -124,7 +124,7 @@ module _ (x : Setting) (edition : Edition) (widths : RowWidths) (n : ℕ) (outpu
       begin-at s e (inr l) = (
         full,
         output,
-        answers-full x edition widths n output
+        answers-full x edition n output
             (listed-more (starting x) (stepping x) (one-listed s) 0 n (begins-one (starting x) (stepping x) (one-listed s) s e refl refl) (omega arith)),
       )
 

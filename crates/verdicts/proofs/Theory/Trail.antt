@@ -6,7 +6,7 @@ use native.Mathlib.Omega.{arith}
 use Rattle.letters.specs.declared.Letter.{Letter}
 use Rattle.letters.specs.declared.Letter.the-variants.{Copy}
 use Rattle.semantics.specs.Terms.{Trace, _▸_}
-use Rattle.semantics.specs.Coherence.{size as letters}
+use Rattle.semantics.specs.Judgement.{size as letters}
 use Rattle.macros.proofs.Theory.Numbers.{strong}
 use Rattle.macros.specs.Order.{Branch, Path, _▹_}
 use Rattle.macros.specs.Walk.{Place, at, Move, no-move, move, Stand, stand, take-move, onward}

@@ -8,16 +8,19 @@ use Rattle.macros.proofs.Theory.Numbers.{three}
 use lib.ListN.{length, drop}
 use Rattle.letters.specs.declared.Letter.{Letter}
 use Rattle.semantics.specs.Terms.{Trace, begin, _▸_, State, extend}
+use Rattle.semantics.specs.Facts.{WellFormed}
 use Rattle.letters.specs.Editions.{Edition}
-use Rattle.semantics.specs.PackedTables.{RowWidths}
 use Rattle.semantics.specs.Coherence.{Coherent}
 use Rattle.macros.specs.Tree.{Block}
+use Rattle.macros.specs.Executions.{Failing}
 use Rattle.macros.specs.Order.{Before}
 use Rattle.macros.proofs.Theory.Order.{before-not, before-join}
 use Rattle.macros.proofs.Theory.Runs.{run-once}
 use Rattle.verdicts.proofs.Theory.Counting.{one-count}
 use Rattle.verdicts.proofs.Theory.Since.{since-once}
-use Rattle.verdicts.specs.Verdict.{Answer, pass, fail, incoherent, refused, full, IsPass, Kind, breaking, failing, showing, Breaks, Precedes, FirstEvent, EventAt, Leaves, SamePair, PairCount, OfKind, Shows, packed, Delivered, Verdict}
+use Rattle.verdicts.specs.Verdict.{Answer, pass, fail, incoherent, refused, full, IsPass, Kind, breaking, failing, showing, Breaks, Precedes, FirstEvent, EventAt, Leaves, SamePair, PairCount, OfKind, Shows, AnswerBytes, Delivered, Verdict}
+use Rattle.verdicts.specs.AnswerPacking.{packed}
+use Rattle.verdicts.proofs.Theory.AnswerPacking.{bytes-are}
 
 module _ (start : Trace) (m : Block) where
   precedes-not : (ρ π : Trace) → Precedes start m ρ π → ¬ Precedes start m π ρ
@@ -41,7 +44,12 @@ module _ {ℓ} (Possible : State → Type ℓ) (start : Trace) (m : Block) where
       go (inr e) (inl f) = f
       go (inr e) (inr f) = absurd (precedes-not start m ρ π e f)
 
-  module _ (edition : Edition) (widths : RowWidths) where
+  -- its failing executions are well formed, so that each has one shown model
+  module _ (edition : Edition) (formed : (ρ : Trace) → Failing start m ρ → WellFormed ρ) where
+    kind-formed : (kind : Kind) (ρ : Trace) → OfKind start m kind ρ → kind ≡ failing → WellFormed ρ
+    kind-formed breaking ρ o e = absurd (let z : _≡_ {A = ℕ} 0 1 = cc in omega arith)
+    kind-formed failing ρ o e = formed ρ (o .0)
+
     -- it has one kind
     one-kind : (j k : Kind) (ρ : Trace) → OfKind start m j ρ → OfKind start m k ρ → j ≡ k
     one-kind breaking breaking ρ x y = refl
@@ -54,7 +62,9 @@ module _ {ℓ} (Possible : State → Type ℓ) (start : Trace) (m : Block) where
       kind : Kind
       pairs : ℕ
       word : List Letter
+      bytes : List ℕ
       shows : Shows Possible start m kind pairs word
+      packs : AnswerBytes edition start kind word bytes
 
     one-word : (x y : Told) → x .word ≡ y .word
     one-word x y = since-once start (x .word) (y .word) (one-event (extend start (x .word)) (extend start (y .word)) (x .shows .first-event) (y .shows .first-event))
@@ -72,14 +82,14 @@ module _ {ℓ} (Possible : State → Type ℓ) (start : Trace) (m : Block) where
     abbrev answer-of : Told → Answer
     answer-of x = showing (x .kind) (x .pairs) (length (x .word))
 
-    abbrev bytes-of : Told → List ℕ
-    bytes-of x = packed edition widths start (x .kind) (x .word)
+    told-packed : (x : Told) → x .bytes ≡ packed edition start (x .kind) (x .word)
+    told-packed x = bytes-are edition start (x .word) (x .kind) (x .bytes) (kind-formed (x .kind) (extend start (x .word)) (x .shows .of-kind)) (x .packs)
 
     told-answer : (x y : Told) → answer-of x ≡ answer-of y
     told-answer x y = λ i. showing (told-kind x y i) (told-pairs x y i) (length (one-word x y i))
 
-    told-bytes : (x y : Told) → bytes-of x ≡ bytes-of y
-    told-bytes x y = λ i. packed edition widths start (told-kind x y i) (one-word x y i)
+    told-bytes : (x y : Told) → x .bytes ≡ y .bytes
+    told-bytes x y = told-packed x ∙ (λ i. packed edition start (told-kind x y i) (one-word x y i)) ∙ sym (told-packed y)
 
     module _ (n : ℕ) (output : List ℕ) where
       one-given : (bs cs : List ℕ) (a b c d : Answer) (o p : List ℕ) → bs ≡ cs → a ≡ b → Delivered bs a output c o → Delivered cs b output d p → (c ≡ d) × (o ≡ p)
@@ -89,7 +99,7 @@ module _ {ℓ} (Possible : State → Type ℓ) (start : Trace) (m : Block) where
       one-given bs cs a b c d o p e f (inr (l, u, v)) (inr (k, y, z)) = (u ∙ sym y, v ∙ sym z)
 
       abbrev Right : Answer → List ℕ → Type ℓ
-      Right a o = Verdict Possible start m edition widths n output a o
+      Right a o = Verdict Possible start m edition n output a o
 
       module _ (a b : Answer) (o p : List ℕ) (x : Right a o) (y : Right b p) where
         not-full : a ≢ full → b ≢ full
@@ -100,11 +110,11 @@ module _ {ℓ} (Possible : State → Type ℓ) (start : Trace) (m : Block) where
 
         shown-same : a ≢ full → ¬ IsPass a → (a ≡ b) × (o ≡ p)
         shown-same u w =
-            let (j, k, l, s, g) = x .otherwise u w in
-            let (j′, k′, l′, s′, g′) = y .otherwise (not-full u) (not-pass u w) in
-            let v : Told = record { kind = j; pairs = k; word = l; shows = s } in
-            let v′ : Told = record { kind = j′; pairs = k′; word = l′; shows = s′ } in
-            one-given (packed edition widths start j l) (packed edition widths start j′ l′) (showing j k (length l)) (showing j′ k′ (length l′)) a b o p (told-bytes v v′) (told-answer v v′) g g′
+            let (j, k, l, bs, s, q, g) = x .otherwise u w in
+            let (j′, k′, l′, bs′, s′, q′, g′) = y .otherwise (not-full u) (not-pass u w) in
+            let v : Told = record { kind = j; pairs = k; word = l; bytes = bs; shows = s; packs = q } in
+            let v′ : Told = record { kind = j′; pairs = k′; word = l′; bytes = bs′; shows = s′; packs = q′ } in
+            one-given bs bs′ (showing j k (length l)) (showing j′ k′ (length l′)) a b o p (told-bytes v v′) (told-answer v v′) g g′
 
       full-same : (b : Answer) (o p : List ℕ) → Right full o → Right b p → (full ≡ b) × (o ≡ p)
       full-same b o p x y =

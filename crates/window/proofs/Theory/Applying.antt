@@ -10,10 +10,11 @@ use lib.Bits.{bitOr}
 use lib.ListN.{length, getD, set}
 use lib.Seq.{getD-set-same, getD-set-other}
 use borrow.Author.Tests.{eqb-true, eqb-false, eq-eqb, ne-eqb}
-use Rattle.base.specs.Choice.{byTest}
-use Rattle.base.specs.Masks.{has, sizeOf}
+use Rattle.base.proofs.Theory.Choice.{byTest}
+use Rattle.base.specs.Masks.{has}
+use Rattle.base.specs.LeastAndSize.{sizeOf}
 use Rattle.semantics.proofs.Theory.Booleans.{and-l, and-r, and-i, or-e, or-l, or-r}
-use Rattle.semantics.specs.Window.{View}
+use Rattle.semantics.specs.View.{View}
 use Rattle.semantics.proofs.Theory.Steps.{target, freshened, Renamed, Bared′, Over′, at′, above′, Still′}
 use Rattle.window.proofs.Theory.Bits.{single-is, truth, no-truth, none-in, or-is, same-iff, eq-or, moved-in, moved-out, or-small, none-small}
 use Rattle.window.specs.Bits.{movedOf}

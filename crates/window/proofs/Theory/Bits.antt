@@ -9,8 +9,9 @@ use lib.Dec.{eqb, ltb, T, eqb→eq, eqb-refl}
 use lib.Bits.{bitAnd, bitOr, bitXor, xor-shr, xor-mod, and-le-r, or-add-and, or-lt, xor-lt}
 use lib.Pow.{pow-lt}
 use borrow.Author.Tests.{ne-eqb, eqb-true, eqb-false, ltb-true, ltb-false, lt-ltb, le-ltb}
-use Rattle.base.specs.Choice.{byTest}
-use Rattle.base.specs.Masks.{bit, has, leastIn}
+use Rattle.base.proofs.Theory.Choice.{byTest}
+use Rattle.base.specs.Masks.{bit, has}
+use Rattle.base.specs.LeastAndSize.{leastIn}
 use Rattle.base.proofs.Theory.MaskLaws.{bit-or, bit-and, bit-single-same, bit-single-other, least-below, least-in, bits-same}
 use Rattle.semantics.proofs.Theory.Booleans.{or-e, or-l, or-r, and-l, and-r, and-i}
 use Rattle.semantics.proofs.Theory.Of.{same-test}

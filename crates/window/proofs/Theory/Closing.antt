@@ -7,11 +7,12 @@ use native.Mathlib.Omega.{arith}
 use lib.Dec.{T, ltb}
 use lib.ListN.{getD}
 use borrow.Author.Tests.{lt-ltb, le-ltb, ltb-true, ltb-false}
-use Rattle.base.specs.Choice.{byTest}
-use Rattle.base.specs.Masks.{has, leastIn}
+use Rattle.base.proofs.Theory.Choice.{byTest}
+use Rattle.base.specs.Masks.{has}
+use Rattle.base.specs.LeastAndSize.{leastIn}
 use Rattle.base.proofs.Theory.MaskLaws.{least-below, least-in}
 use Rattle.semantics.proofs.Theory.Booleans.{or-not}
-use Rattle.semantics.specs.Window.{View}
+use Rattle.semantics.specs.View.{View}
 use Rattle.semantics.proofs.Theory.Steps.{Joined, turn′, join′, lift′}
 use Rattle.window.proofs.Theory.Bits.{truth, no-truth, none-in, nonempty-is, minus-is, less-or}
 use Rattle.window.specs.Bits.{nonempty, minus}

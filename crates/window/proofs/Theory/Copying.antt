@@ -9,11 +9,12 @@ use lib.Dec.{eqb, ltb, T, ltb→lt}
 use lib.ListN.{length, getD, set}
 use lib.Seq.{getD-set-same, getD-set-other}
 use borrow.Author.Tests.{eqb-true, eqb-false, ltb-true, lt-ltb, eq-eqb, ne-eqb}
-use Rattle.base.specs.Choice.{byTest}
-use Rattle.base.specs.Masks.{has, sizeOf}
+use Rattle.base.proofs.Theory.Choice.{byTest}
+use Rattle.base.specs.Masks.{has}
+use Rattle.base.specs.LeastAndSize.{sizeOf}
 use Rattle.semantics.proofs.Theory.Booleans.{and-l, and-r, or-e, or-l, or-r}
 use Rattle.semantics.proofs.Theory.Steps.{copied, Renamed, Bared′, Over′, at′, above′, Still′}
-use Rattle.semantics.specs.Window.{View}
+use Rattle.semantics.specs.View.{View}
 use Rattle.window.proofs.Theory.Places as places
 use Rattle.window.specs.Places.{place, Function, First, Second, place-is, first-place, second-place}
 use Rattle.window.proofs.Theory.Places.{place-below, function-below, entry-below}

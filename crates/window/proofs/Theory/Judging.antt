@@ -9,10 +9,10 @@ use lib.Dec.{eqb, ltb, T}
 use lib.Bits.{bitAnd, bitOr}
 use lib.ListN.{getD, getD-replicate}
 use borrow.Author.Tests.{eqb-true, eqb-false}
-use Rattle.base.specs.Choice.{byTest}
+use Rattle.base.proofs.Theory.Choice.{byTest}
 use Rattle.base.specs.Masks.{has}
 use Rattle.semantics.proofs.Theory.Booleans.{and-l, and-r, and-i, or-e, or-l, or-r}
-use Rattle.semantics.specs.Window.{View}
+use Rattle.semantics.specs.View.{View}
 use Rattle.semantics.proofs.Theory.Steps.{Joined, alike, test, turn′, join′, lift′, Equated, Separated}
 use Rattle.window.specs.Places.{place}
 use Rattle.window.proofs.Theory.Table.{table-at}

@@ -4,7 +4,7 @@ use Prim.Native.Nat.{ℕ, _<_}
 use lib.Dec.{T}
 use Rattle.semantics.specs.Terms.{Term, State}
 use Rattle.semantics.specs.Closure.{Equivalent, reflexive, symmetric, transitive, congruence}
-use Rattle.semantics.specs.Window.{View, Tracks}
+use Rattle.semantics.specs.View.{View, Tracks}
 use Rattle.semantics.specs.Facts.{Valid}
 use Rattle.semantics.proofs.Theory.Climb.{Climb, from, up, above-climbs, climbs-above}
 use Rattle.semantics.proofs.Theory.Shown.{corollary-2}

@@ -10,7 +10,7 @@ use lib.Bits.{bitOr, or-self}
 use lib.ListN.{length, getD, set, length-set}
 use lib.Seq.{getD-set-same, getD-set-other}
 use borrow.Author.Tests.{eq-eqb, ne-eqb, eqb-true, eqb-false}
-use Rattle.base.specs.Choice.{byTest}
+use Rattle.base.proofs.Theory.Choice.{byTest}
 use Rattle.window.proofs.Theory.Table.{table-length, table-at, table-is}
 use Rattle.window.specs.Lines.{Lines, at, unitedAt, united, clearedAt, cleared}
 

@@ -11,7 +11,7 @@ use lib.Dec.{eqb, T}
 use lib.Bits.{bitAnd, bitOr, or-zero-l}
 use lib.ListN.{getD}
 use borrow.Author.Tests.{eqb-true, eqb-false}
-use Rattle.base.specs.Choice.{byTest}
+use Rattle.base.proofs.Theory.Choice.{byTest}
 use Rattle.base.specs.Masks.{has}
 use Rattle.semantics.proofs.Theory.Booleans.{and-l, and-r, and-i}
 use Rattle.window.specs.Places.{place, Function, First, Second, place-sum, place-is, first-place, second-place}

@@ -2,7 +2,7 @@
 use mathlib.Core.Logic.{_⊎_, inl, inr, _↔_, ⊎-elim, Iff·trans}
 use Prim.Native.Nat.{ℕ, _<_}
 use lib.Dec.{T}
-use Rattle.semantics.specs.Window.{View}
+use Rattle.semantics.specs.View.{View}
 use Rattle.semantics.proofs.Theory.Steps.{Joined, alike, test, turn′, join′, lift′}
 use Rattle.window.proofs.Theory.Laws.{Laws}
 

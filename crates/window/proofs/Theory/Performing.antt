@@ -8,7 +8,8 @@ use native.Mathlib.Numerals.{add-one}
 use lib.Bits.{bitOr}
 use borrow.Author.Tests.{lt-ltb, le-ltb}
 use lib.ListN.{getD, set}
-use Rattle.base.specs.Masks.{has, leastIn}
+use Rattle.base.specs.Masks.{has}
+use Rattle.base.specs.LeastAndSize.{leastIn}
 use Rattle.base.proofs.Theory.MaskLaws.{with-same}
 use Rattle.window.specs.Places.{place}
 use Rattle.window.specs.Bits.{nonempty, minus}

@@ -5,7 +5,7 @@ use native.Mathlib.Omega.{arith}
 use native.Mathlib.Nat.{mul-zero, mul-suc, mul-comm, mul-le-mul-left, mod-lt, div-lt-iff-lt-mul, div-div-eq-div-mul}
 use lib.Dec.{ltb}
 use borrow.Author.Tests.{ltb-true, ltb-false}
-use Rattle.base.specs.Choice.{byTest}
+use Rattle.base.proofs.Theory.Choice.{byTest}
 use Rattle.window.specs.Places.{place, Function, First, Second}
 
 module _ (ρ : ℕ) where

@@ -9,8 +9,9 @@ use lib.Bits.{bitOr}
 use lib.Seq.{getD-set-same, getD-set-other, set-out}
 use borrow.Author.Tests.{eqb-true, eqb-false, ltb-true}
 use lib.ListN.{length, getD, set, length-set, replicate, length-replicate}
-use Rattle.base.specs.Choice.{byTest}
-use Rattle.base.specs.Masks.{has, leastIn}
+use Rattle.base.proofs.Theory.Choice.{byTest}
+use Rattle.base.specs.Masks.{has}
+use Rattle.base.specs.LeastAndSize.{leastIn}
 use Rattle.letters.specs.declared.Letter.{Letter}
 use Rattle.letters.specs.declared.Letter.the-variants.{Copy, Apply, Equal, Unequal}
 use Rattle.window.specs.Places.{place}

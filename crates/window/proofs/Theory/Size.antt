@@ -6,9 +6,10 @@ use native.Mathlib.Omega.{arith}
 use native.Mathlib.Nat.{eq-or-lt-of-le}
 use lib.Dec.{eqb, ltb, T, eqb→eq}
 use borrow.Author.Tests.{eqb-true, eqb-false, ltb-true, ltb-false}
-use Rattle.base.specs.Choice.{byTest}
+use Rattle.base.proofs.Theory.Choice.{byTest}
 use Rattle.semantics.proofs.Theory.Booleans.{or-not}
-use Rattle.base.specs.Masks.{bit, has, sizeFrom, sizeOf}
+use Rattle.base.specs.Masks.{bit, has}
+use Rattle.base.specs.LeastAndSize.{sizeFrom, sizeOf}
 
 -- how many registers of k from i are in the mask: none, if none of them is; and at least the number of those that are known to be
 none-from : (m i k : ℕ) → ((j : ℕ) → i ≤ j → j < i + k → ¬ T (has m j)) → sizeFrom i k m ≡ 0

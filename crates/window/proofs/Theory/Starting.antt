@@ -7,12 +7,12 @@ use native.Mathlib.Omega.{arith}
 use lib.Dec.{ltb, T, eqb, eqb→eq, eqb-refl, ltb→lt}
 use lib.ListN.{getD, getD-replicate}
 use borrow.Author.Tests.{ltb-true, ltb-false}
-use Rattle.base.specs.Choice.{byTest}
+use Rattle.base.proofs.Theory.Choice.{byTest}
 use Rattle.base.specs.Masks.{has}
 use Rattle.letters.specs.declared.Header.{Header}
 use Rattle.semantics.proofs.Theory.Booleans.{and-l, and-r}
 use Rattle.semantics.specs.Terms.{start}
-use Rattle.semantics.specs.Window.{Tracks}
+use Rattle.semantics.specs.View.{Tracks}
 use Rattle.semantics.proofs.Theory.Start.{initial, tracks-start}
 use Rattle.window.specs.Places.{place}
 use Rattle.window.proofs.Theory.Places.{place-below, entry-below}

@@ -7,8 +7,9 @@ use native.Mathlib.Omega.{arith}
 use lib.Dec.{T, ltb, lt→ltb}
 use lib.ListN.{getD}
 use borrow.Author.Tests.{ltb-true, ltb-false}
-use Rattle.base.specs.Choice.{byTest}
-use Rattle.base.specs.Masks.{has, leastIn}
+use Rattle.base.proofs.Theory.Choice.{byTest}
+use Rattle.base.specs.Masks.{has}
+use Rattle.base.specs.LeastAndSize.{leastIn}
 use Rattle.base.proofs.Theory.MaskLaws.{least-in, least-below}
 use Rattle.letters.specs.declared.Header.{Header}
 use Rattle.letters.specs.declared.Letter.{Letter}

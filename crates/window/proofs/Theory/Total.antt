@@ -8,8 +8,9 @@ use native.Mathlib.Nat.{eq-or-lt-of-le, suc-mul}
 use lib.Dec.{eqb, T, eqb→eq}
 use lib.ListN.{getD}
 use borrow.Author.Tests.{eqb-true, eqb-false}
-use Rattle.base.specs.Choice.{byTest}
-use Rattle.base.specs.Masks.{bit, has, sizeFrom, sizeOf}
+use Rattle.base.proofs.Theory.Choice.{byTest}
+use Rattle.base.specs.Masks.{bit, has}
+use Rattle.base.specs.LeastAndSize.{sizeFrom, sizeOf}
 
 bit-mono : (m n i : ℕ) → (T (has m i) → T (has n i)) → bit m i ≤ bit n i
 bit-mono m n i f = byTest (has m i)

@@ -10,7 +10,7 @@ use lib.Dec.{T}
 use lib.ListN.{getD, length}
 use lib.Seq.{ext-getD}
 use borrow.Author.Tests.{lt-ltb, eqb-true, eqb-false}
-use Rattle.base.specs.Choice.{byTest}
+use Rattle.base.proofs.Theory.Choice.{byTest}
 use Rattle.base.specs.Masks.{bit, has}
 use Rattle.base.proofs.Theory.MaskLaws.{bits-same}
 use Rattle.semantics.proofs.Theory.Of.{same-test}

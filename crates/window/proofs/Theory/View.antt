@@ -1,6 +1,6 @@
 -- What a window value says of registers, in the first edition's layout.
 use Prim.Native.Nat.{ℕ}
-use Rattle.semantics.specs.Window.{View}
+use Rattle.semantics.specs.View.{View}
 use Rattle.window.specs.Layout.{registers, functions}
 use Rattle.window.specs.Viewing as viewing
 use Rattle.window.specs.declared.Window.{Window}

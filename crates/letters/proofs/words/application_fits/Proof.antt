@@ -1,4 +1,4 @@
-use Rattle.letters.specs.Words.{applyTest}
+use Rattle.letters.specs.Coding.{applyTest}
 use Rattle.base.proofs.Theory.Choice.{decide}
 use borrow.Author.Needs.{needs}
 use Rattle.letters.proofs.words.application_fits.Statement.{statement}

@@ -1,5 +1,7 @@
-use Rattle.letters.specs.Answers.{headerWordAnswer}
-use Rattle.letters.specs.Words.{headerTest, headerWord, encodeHeader, decodeHeader}
+use Rattle.letters.specs.CodeAnswers.{headerWordAnswer}
+use Rattle.letters.specs.Coding.{headerTest, decodeHeader}
+use Rattle.letters.specs.Encoding.{encodeHeader}
+use Rattle.letters.specs.Words.{headerWord}
 use Rattle.letters.proofs.Laws.{reread-none, reread-same, reread-other}
 use Rattle.letters.specs.Editions.{firstEdition}
 use mathlib.Core.Path.{sym, ap, _∙_}

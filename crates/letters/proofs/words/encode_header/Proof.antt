@@ -1,4 +1,4 @@
-use Rattle.letters.specs.Words.{encodeHeader}
+use Rattle.letters.specs.Encoding.{encodeHeader}
 use Rattle.letters.proofs.Theory.WordLaws.{header-test, first-roomy}
 use mathlib.Core.Path.{sym, _∙_}
 use borrow.Author.Needs.{needs}

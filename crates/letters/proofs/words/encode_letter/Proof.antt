@@ -1,4 +1,4 @@
-use Rattle.letters.specs.Words.{encodeLetter}
+use Rattle.letters.specs.Encoding.{encodeLetter}
 use Rattle.letters.proofs.Theory.WordLaws.{header-test, fits-test, first-roomy}
 use mathlib.Core.Path.{sym, _∙_}
 use borrow.Author.Needs.{needs}

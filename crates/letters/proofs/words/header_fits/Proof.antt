@@ -1,4 +1,4 @@
-use Rattle.letters.specs.Words.{headerTest}
+use Rattle.letters.specs.Coding.{headerTest}
 use Rattle.base.proofs.Theory.MaskLaws.{shl-one}
 use native.Mathlib.Omega.{arith}
 use Rattle.base.proofs.Theory.Choice.{decide}

@@ -1,4 +1,4 @@
-use Rattle.letters.specs.Words.{letterBy}
+use Rattle.letters.specs.Coding.{letterBy}
 use Rattle.base.proofs.Theory.Choice.{decide}
 use borrow.Author.Needs.{needs}
 use Rattle.letters.proofs.words.letter_by.Statement.{statement}

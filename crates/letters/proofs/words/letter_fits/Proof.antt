@@ -1,4 +1,4 @@
-use Rattle.letters.specs.Words.{fitsTest}
+use Rattle.letters.specs.Coding.{fitsTest}
 use mathlib.Core.Path.{sym, ap, _∙_}
 use borrow.Author.Needs.{needs}
 use Rattle.letters.proofs.words.letter_fits.Statement.{statement}

@@ -1,5 +1,5 @@
 use Prim.Native.Nat.{_/_, _%_}
-use Rattle.letters.specs.Words.{headerOf}
+use Rattle.letters.specs.Coding.{headerOf}
 use Rattle.letters.proofs.Laws.{mirror}
 use borrow.Author.Needs.{needs}
 use Rattle.letters.proofs.words.named_header.Statement.{statement}

@@ -1,6 +1,7 @@
 use borrow.Author.Needs.{needs}
 use mathlib.Core.Path.{sym, ap, _∙_}
-use Rattle.letters.specs.Answers.{Answer, letterAnswer, onAnswer}
+use Rattle.letters.specs.Answers.{Answer, onAnswer}
+use Rattle.letters.specs.CodeAnswers.{letterAnswer}
 use Rattle.letters.specs.declared.Letter.{Letter}
 use Rattle.letters.specs.declared.Letter.the-variants.{Copy}
 use Rattle.report.specs.Shown.{letterOf}

@@ -4,7 +4,8 @@ use mathlib.Core.List.{map}
 use Prim.Native.Nat.{ℕ, _+_, _*_, _-_}
 use native.Mathlib.Omega.{arith}
 use lib.ListN.{getD, drop}
-use Rattle.semantics.specs.PackedTables.{unitsIn, firstRowWidths, rowFrom}
+use Rattle.letters.specs.Editions.{firstEdition}
+use Rattle.semantics.specs.TablesRead.{unitsIn, rowFrom}
 use Rattle.text.specs.Names.{nameText}
 use Rattle.report.specs.Lines.{linesOf, rowLine}
 use Rattle.report.proofs.Theory.ShownLaws.{rowIn, row-lines-start, row-lines-next, row-lines-none}
@@ -15,8 +16,8 @@ use Rattle.report.proofs.lines.put_rows.Tie as tie
 abbrev Inv-loop : tie.InvT-loop
 Inv-loop out₀ at h functions answer start count next₀ k₀ out next k =
     let G = rowLine (λ f. nameText (getD functions f 0)) h in
-    Left out₀ at (linesOf G (map (rowFrom firstRowWidths h) (unitsIn 5 count (drop start answer))))
-    (linesOf G (map (rowFrom firstRowWidths h) (unitsIn 5 (count - k) (drop (start + 5 * k) answer)))) out next
+    Left out₀ at (linesOf G (map (rowFrom firstEdition h) (unitsIn 5 count (drop start answer))))
+    (linesOf G (map (rowFrom firstEdition h) (unitsIn 5 (count - k) (drop (start + 5 * k) answer)))) out next
 
 abbrev μ-loop : tie.MeasureT-loop
 μ-loop out₀ at h functions answer start count next₀ k₀ out next k = count - k
@@ -34,14 +35,14 @@ put-rows-spec =
     (λ c κs.
     let a = c .before .before .before .before .before .before .args in
     let l = c .before .before .before .loop in
-    room-same (ap (λ (n : ℕ). rowLine (λ f. nameText (getD (a .functions) f 0)) (a .h) (rowFrom firstRowWidths (a .h) n)) (sym (c .before .row-at .ensures)))
-    (left-room (rowLine (λ f. nameText (getD (a .functions) f 0)) (a .h) (rowFrom firstRowWidths (a .h) (rowIn (a .answer .now) (a .start + 5 * l .k)))) (linesOf (rowLine (λ f. nameText (getD (a .functions) f 0)) (a .h)) (map (rowFrom firstRowWidths (a .h)) (unitsIn 5 (a .count - (l .k + 1)) (drop (a .start + 5 * (l .k + 1)) (a .answer .now))))) (c .before .before .before .before .before .before .pre .0) (left-same (row-lines-next (rowLine (λ f. nameText (getD (a .functions) f 0)) (a .h)) (a .h) (a .answer .now) (a .start) (a .count) (l .k) (c .before .before .loop-test .taken)) (l .inv))))
+    room-same (ap (λ (n : ℕ). rowLine (λ f. nameText (getD (a .functions) f 0)) (a .h) (rowFrom firstEdition (a .h) n)) (sym (c .before .row-at .ensures)))
+    (left-room (rowLine (λ f. nameText (getD (a .functions) f 0)) (a .h) (rowFrom firstEdition (a .h) (rowIn (a .answer .now) (a .start + 5 * l .k)))) (linesOf (rowLine (λ f. nameText (getD (a .functions) f 0)) (a .h)) (map (rowFrom firstEdition (a .h)) (unitsIn 5 (a .count - (l .k + 1)) (drop (a .start + 5 * (l .k + 1)) (a .answer .now))))) (c .before .before .before .before .before .before .pre .0) (left-same (row-lines-next (rowLine (λ f. nameText (getD (a .functions) f 0)) (a .h)) (a .h) (a .answer .now) (a .start) (a .count) (l .k) (c .before .before .loop-test .taken)) (l .inv))))
     (λ c. search needs)
     (λ c. search needs)
     (λ c.
     let a = c .before .before .before .before .before .before .before .before .before .args in
     let l = c .before .before .before .before .before .before .loop in
-    left-next (rowLine (λ f. nameText (getD (a .functions) f 0)) (a .h) (rowFrom firstRowWidths (a .h) (rowIn (a .answer .now) (a .start + 5 * l .k)))) (linesOf (rowLine (λ f. nameText (getD (a .functions) f 0)) (a .h)) (map (rowFrom firstRowWidths (a .h)) (unitsIn 5 (a .count - (l .k + 1)) (drop (a .start + 5 * (l .k + 1)) (a .answer .now))))) (left-same (row-lines-next (rowLine (λ f. nameText (getD (a .functions) f 0)) (a .h)) (a .h) (a .answer .now) (a .start) (a .count) (l .k) (c .before .before .before .before .before .loop-test .taken)) (l .inv))
-    (appended-same (ap (λ (n : ℕ). rowLine (λ f. nameText (getD (a .functions) f 0)) (a .h) (rowFrom firstRowWidths (a .h) n)) (c .before .before .before .before .row-at .ensures)) (c .before .before .put-row .ensures)))
+    left-next (rowLine (λ f. nameText (getD (a .functions) f 0)) (a .h) (rowFrom firstEdition (a .h) (rowIn (a .answer .now) (a .start + 5 * l .k)))) (linesOf (rowLine (λ f. nameText (getD (a .functions) f 0)) (a .h)) (map (rowFrom firstEdition (a .h)) (unitsIn 5 (a .count - (l .k + 1)) (drop (a .start + 5 * (l .k + 1)) (a .answer .now))))) (left-same (row-lines-next (rowLine (λ f. nameText (getD (a .functions) f 0)) (a .h)) (a .h) (a .answer .now) (a .start) (a .count) (l .k) (c .before .before .before .before .before .loop-test .taken)) (l .inv))
+    (appended-same (ap (λ (n : ℕ). rowLine (λ f. nameText (getD (a .functions) f 0)) (a .h) (rowFrom firstEdition (a .h) n)) (c .before .before .before .before .row-at .ensures)) (c .before .before .put-row .ensures)))
     (λ c. left-length (c .before .loop .inv))
     (λ c. let a = c .before .before .before .before .args in left-none (left-same (row-lines-none (rowLine (λ f. nameText (getD (a .functions) f 0)) (a .h)) (a .h) (a .answer .now) (a .start) (a .count) (c .before .loop .k) (c .loop-test .left)) (c .before .loop .inv))))

@@ -3,7 +3,7 @@ use mathlib.Core.Path.{sym}
 use mathlib.Core.List.{List, [], _∷_}
 use Prim.Native.Nat.{ℕ, _+_, _*_, _-_}
 use lib.ListN.{getD, drop}
-use Rattle.semantics.specs.PackedTables.{unitsIn}
+use Rattle.semantics.specs.TablesRead.{unitsIn}
 use Rattle.text.specs.Names.{nameText}
 use Rattle.text.specs.Numerals.{numeral}
 use Rattle.report.specs.Lines.{line, startWord, blank, startLines}

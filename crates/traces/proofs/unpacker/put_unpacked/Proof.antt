@@ -5,7 +5,7 @@ use lib.Seq.{length-sets}
 use Rattle.traces.proofs.Counting.{unit-good, unit-bad}
 use Rattle.traces.proofs.Putting.{put-begins, put-good, put-bad, put-ends}
 use Rattle.letters.specs.Editions.{firstEdition}
-use Rattle.traces.specs.Traces.{parts, letterIn}
+use Rattle.traces.specs.Reading.{parts, letterIn}
 use Rattle.traces.specs.Writing.{plainFields}
 use Rattle.traces.specs.Unpacking.{putPlain, putUnpacked}
 use Rattle.traces.specs.Putting.{putEach}

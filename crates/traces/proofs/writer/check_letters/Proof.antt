@@ -1,11 +1,12 @@
-use Rattle.letters.specs.Answers.{letterAnswer}
+use Rattle.letters.specs.CodeAnswers.{letterAnswer}
 use Rattle.traces.proofs.Theory.WritingLaws.{unpack-whole}
 use Rattle.traces.specs.Writing.{unpackLetter, unpackedParts}
 use native.Mathlib.Omega.{arith}
 use mathlib.Core.Path.{_≡_, sym, ap, _∙_}
 use lib.ListN.{length, drop}
 use Rattle.traces.proofs.Counting.{countFrom, count-begins, count-good, count-bad, count-ends}
-use Rattle.traces.specs.Traces.{parts, lettersFrom, counted}
+use Rattle.traces.specs.Reading.{parts, lettersFrom}
+use Rattle.traces.specs.ReadingParts.{counted}
 use Prim.Native.Nat.{_+_, _-_, _*_, _/_, _≤_}
 use borrow.Author.Needs.{needs}
 use Rattle.traces.proofs.writer.check_letters.Statement.{statement}

@@ -1,13 +1,13 @@
 use Rattle.traces.proofs.Putting.{put-length, word-whole, put-begins, put-good, put-bad, put-ends}
 use Rattle.letters.specs.Editions.{firstEdition}
-use Rattle.letters.specs.Answers.{letterWordAnswer}
+use Rattle.letters.specs.CodeAnswers.{letterWordAnswer}
 use Rattle.letters.specs.Putting.{putWord}
 use Rattle.traces.specs.Putting.{wordIn, putWords}
 use Rattle.traces.specs.Writing.{unpackedParts}
 use native.Mathlib.Omega.{arith}
 use mathlib.Core.Path.{_≡_, sym, ap, _∙_}
 use lib.ListN.{length, drop}
-use Rattle.traces.specs.Traces.{parts}
+use Rattle.traces.specs.Reading.{parts}
 use Prim.Native.Nat.{_+_, _-_, _*_, _/_, _≤_}
 use borrow.Author.Needs.{needs}
 use Rattle.traces.proofs.writer.put_letters.Statement.{statement}

@@ -1,6 +1,6 @@
 use mathlib.Core.Path.{sym, ap, _∙_}
 use native.Mathlib.Omega.{arith}
-use Rattle.letters.specs.Answers.{headerWordAnswer}
+use Rattle.letters.specs.CodeAnswers.{headerWordAnswer}
 use Rattle.traces.specs.Answers.{traceAnswer}
 use Rattle.traces.proofs.Putting.{counted-size, wrote-header, wrote-short, wrote-all, wrote-refused}
 use borrow.Author.Needs.{needs}

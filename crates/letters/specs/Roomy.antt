@@ -1,14 +1,12 @@
--- Decoding and encoding are inverse on words: a word is read as the one well-formed header or letter that packs to it, and refused if there is none.
+-- An edition has room: what is well formed fits its widths, and both kinds of words fill a unit.
 use mathlib.Core.Path.{_≡_}
 use Prim.Native.Nat.{_*_, _≤_}
 use Rattle.letters.specs.declared.Header.{Header}
 use Rattle.letters.specs.declared.Letter.{Letter}
-use Rattle.letters.specs.Letters.{Fits}
+use Rattle.letters.specs.Letters.{Fits, HeaderFits}
 use Rattle.letters.specs.Packing.{total, Sized}
 use Rattle.letters.specs.Editions.{Edition}
-use Rattle.letters.specs.Words.{HeaderFits, headerFields, letterFields}
-
--- ---- an edition has room: what is well formed fits its widths, and both kinds of words fill a unit
+use Rattle.letters.specs.Words.{headerFields, letterFields}
 
 pub record Roomy (e : Edition) : Type 0 where
   pub some : 1 ≤ e .bytes

@@ -1,0 +1,68 @@
+-- The bytes of a trace, read by the questions of document 01 ("The questions", "Trace").
+use Prim.Native.Nat.{ℕ, zero, suc, _+_, _%_, _-_, _/_}
+use mathlib.Core.List.{List, [], _∷_}
+use Rattle.letters.specs.declared.Header.{Header}
+use Rattle.letters.specs.declared.Letter.{Letter}
+use lib.ListN.{replicate, take, drop, length}
+use Rattle.letters.specs.Editions.{Edition}
+use Rattle.letters.specs.Answers.{Answer, onAnswer, refusal}
+use lib.Dec.{ltb, eqb}
+use Rattle.base.specs.Choice.{pick}
+use Rattle.letters.specs.Packing.{join}
+use Rattle.letters.specs.Coding.{decodeHeader, decodeLetter}
+use mathlib.Core.Bool.{Bool, false}
+use Rattle.letters.specs.RefusalNumbers.{traceTooShort, traceOddLength, letterMalformed, traceTooLong}
+
+-- What a reading of a trace gives: its header and letters, or a refusal, a number and a place.
+pub data Reading : Type 0 where
+  trace : Header → List Letter → Reading
+  refused : ℕ → ℕ → Reading
+
+-- ---- units
+
+-- the bytes of a unit, as fields of eight bits each
+abbrev pub octets : Edition → List ℕ
+octets e = replicate (e .bytes) 8
+
+-- k parts of n entries each
+unfoldable pub parts : ℕ → ℕ → List ℕ → List (List ℕ)
+parts n zero s = []
+parts n (suc k) s = take n s ∷ parts n k (drop n s)
+
+-- ---- reading
+
+abbrev pub before : Letter → Reading → Reading
+before l (trace h ls) = trace h (l ∷ ls)
+before l (refused number place) = refused number place
+
+-- The letters of these codes under h, of which the next has number n: "A letter that is not well formed ends the reading with 4 and its number, from 1."
+unfoldable pub lettersFrom : {A : Type 0} → (A → Answer Letter) → Header → ℕ → List A → Reading
+lettersFrom decode h n [] = trace h []
+lettersFrom decode h n (x ∷ codes) = onAnswer (decode x) (λ l. before l (lettersFrom decode h (n + 1) codes)) λ _ _. refused letterMalformed n
+
+-- "At least two bytes? 1. Even length? 2. Header as above? 3." In another edition it is the bytes of its unit.
+unfoldable pub beginning : Edition → List ℕ → Answer Header
+beginning e s =
+    pick (ltb (length s) (e .bytes)) (λ _. refusal traceTooShort 0) λ _.
+    pick (eqb (length s % e .bytes) 0) (λ _. decodeHeader e (join (octets e) (take (e .bytes) s))) λ _. refusal traceOddLength 0
+
+-- the number of letters, where the length is that of whole units
+abbrev pub letterCount : Edition → List ℕ → ℕ
+letterCount e s = length s / e .bytes - 1
+
+-- the letter that the bytes of a unit pack
+abbrev pub letterIn : Edition → Header → List ℕ → Answer Letter
+letterIn e h part = decodeLetter e h (join (octets e) part)
+
+-- the letters after the header's unit
+unfoldable pub lettersOf : Edition → Header → List ℕ → Reading
+lettersOf e h s = lettersFrom (letterIn e h) h 1 (parts (e .bytes) (letterCount e s) (drop (e .bytes) s))
+
+-- The questions in their order; 5 is put where some number of letters is too many.
+unfoldable pub readingWhere : (ℕ → Bool) → Edition → List ℕ → Reading
+readingWhere tooMany e s =
+    onAnswer (beginning e s) (λ h. pick (tooMany (letterCount e s)) (λ _. refused traceTooLong 0) λ _. lettersOf e h s) refused
+
+-- a trace of any length
+abbrev pub reading : Edition → List ℕ → Reading
+reading e s = readingWhere (λ _. false) e s
