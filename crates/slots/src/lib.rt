@@ -778,7 +778,7 @@ fn early(mark: &[bool; REGISTERS], x: usize, y: usize) -> bool
     true
 }
 
-/// Whether the letter is coherent after a trace with the window of these slots. Its registers lie below 8 and its function below 4.
+/// Whether the letter is coherent after a trace with the window of these slots. Its registers lie below REGISTERS and its function below FUNCTIONS.
 pub fn judge_slots(
     slot: &[u8; REGISTERS],
     result: &[Mask; RESULTS],
@@ -816,7 +816,7 @@ pub fn judge_slots(
     }
 }
 
-/// Performs a letter that is coherent, and answers whether the slots are infeasible then. Its registers lie below 8 and its function below 4.
+/// Performs a letter that is coherent, and answers whether the slots are infeasible then. Its registers lie below REGISTERS and its function below FUNCTIONS.
 pub fn perform_slots(
     slot: &mut [u8; REGISTERS],
     regs: &mut [Mask; REGISTERS],
@@ -1069,7 +1069,7 @@ fn keep(t: &mut [Mask], used: Mask, step: usize)
     }
 }
 
-/// Slots for a window, whose classes are given and whose other tables are lent. What it computes is free, but for slots below 8: `represents` decides
+/// Slots for a window, whose classes are given and whose other tables are lent. What it computes is free, but for slots below REGISTERS: `represents` decides
 /// whether they are the window's.
 pub fn to_slots(
     class: &[Mask; REGISTERS],

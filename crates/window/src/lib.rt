@@ -283,7 +283,13 @@ pub fn results_at(result: &[Mask; RESULTS], i: usize) -> Mask
     requires { ⌜ i < pairs ⌝ }
     ensures { λ r. ⌜ r ≡ unionOf (now (result .entry)) i pairs functions ⌝ }
 {
-    ((result[i] | result[PAIRS + i]) | result[2 * PAIRS + i]) | result[3 * PAIRS + i]
+    let mut m: Mask = 0;
+    let mut f: usize = 0;
+    while f < FUNCTIONS {
+        m = m | result[i + f * PAIRS];
+        f = f + 1;
+    }
+    m
 }
 
 // For each pair of registers, the classes that hold a result of any function at the two.
@@ -394,9 +400,9 @@ pub struct Window {
     pub class: [Mask; REGISTERS],
     /// At r, the registers whose class is known to be unequal to the class of r.
     pub unequal: [Mask; REGISTERS],
-    /// At 64 f + 8 a + b, the class that holds the result of f at a and b; empty where no register holds it.
+    /// At PAIRS f + REGISTERS a + b, the class that holds the result of f at a and b; empty where no register holds it.
     pub result: [Mask; RESULTS],
-    /// At 8 f + a, the registers b for which f was ever computed at a and b.
+    /// At REGISTERS f + a, the registers b for which f was ever computed at a and b.
     pub ever: [Mask; LINES],
     /// At r, whether above r there is a computed application with an argument or the result in no register.
     pub mark: [bool; REGISTERS],
@@ -734,7 +740,8 @@ fn early(mark: &[bool; REGISTERS], x: usize, y: usize) -> bool
     true
 }
 
-/// On lent tables: whether the letter is coherent after a trace with this window. Its registers lie below 8 and its function below 4, as packed ones do.
+/// On lent tables: whether the letter is coherent after a trace with this window. Its registers lie below REGISTERS and its function below FUNCTIONS,
+/// as packed ones do.
 pub fn judge_in(
     result: &[Mask; RESULTS],
     ever: &[Mask; LINES],
@@ -769,7 +776,7 @@ pub fn judge_in(
     }
 }
 
-/// Whether the letter is coherent after a trace with this window. Its registers lie below 8 and its function below 4, as packed ones do.
+/// Whether the letter is coherent after a trace with this window. Its registers lie below REGISTERS and its function below FUNCTIONS, as packed ones do.
 pub fn judge(w: Window, letter: Letter) -> bool
     requires { ⌜ Within letter ⌝ }
     ensures { λ r. ⌜ r ≡ judgeOf w letter ⌝ }
@@ -809,7 +816,7 @@ fn apply_in(
     new_in(class, unequal, result, ever, mark, x, f, y, z);
 }
 
-/// On lent tables: performs a letter that is coherent; whether the trace is infeasible. Its registers lie below 8 and its function below 4.
+/// On lent tables: performs a letter that is coherent; whether the trace is infeasible. Its registers lie below REGISTERS and its function below FUNCTIONS.
 pub fn perform_in(
     class: &mut [Mask; REGISTERS],
     unequal: &mut [Mask; REGISTERS],
@@ -873,7 +880,7 @@ pub fn perform_in(
     }
 }
 
-/// The window after a letter that is coherent. Its registers lie below 8 and its function below 4.
+/// The window after a letter that is coherent. Its registers lie below REGISTERS and its function below FUNCTIONS.
 pub fn perform(w: Window, letter: Letter) -> Window
     requires { ⌜ Within letter ⌝ }
     ensures { λ r. ⌜ r ≡ performOf w letter ⌝ }

@@ -8,7 +8,7 @@ use native.Mathlib.Nat.{add-suc, suc-add, mul-comm, mul-le-mul-right, mod-lt}
 use native.Mathlib.Numerals.{add-one}
 use mathlib.Core.List.{List}
 use lib.Dec.{eqb, T}
-use lib.Bits.{bitAnd, bitOr, or-zero-l}
+use lib.Bits.{bitAnd, bitOr}
 use lib.ListN.{getD}
 use borrow.Author.Tests.{eqb-true, eqb-false}
 use Rattle.base.proofs.Theory.Choice.{byTest}
@@ -31,14 +31,6 @@ union-none t start step = refl
 
 pub union-all : (t : List ℕ) (start step m j k : ℕ) → j ≤ k → k ≤ j → m ≡ unionOf t start step j → m ≡ unionOf t start step k
 union-all t start step m j k h g e = e ∙ ap (unionOf t start step) (omega arith)
-
--- the union of four entries, as the code writes it out
-pub union-four : (t : List ℕ) (start step : ℕ) → bitOr (bitOr (bitOr (getD t start 0) (getD t (step + start) 0)) (getD t (2 * step + start) 0)) (getD t (3 * step + start) 0) ≡ unionOf t start step 4
-unfolding unionOf
-union-four t start step = sym (ap₂ bitOr (ap₂ bitOr (ap₂ bitOr (or-zero-l (getD t (start + 0 * step) 0) ∙ at (omega arith)) (at (omega arith))) (at (omega arith))) (at (omega arith)))
-  where
-    at : {k m : ℕ} → k ≡ m → getD t k 0 ≡ getD t m 0
-    at e = ap (λ z. getD t z 0) e
 
 -- the entries of a union lie inside
 pub stepped : (ρ n start step j : ℕ) → j < ρ → start + (ρ - 1) * step < n → start + j * step < n

@@ -1,7 +1,7 @@
-use Prim.Native.Nat.{_-_}
+use Prim.Native.Nat.{_-_, _^_}
 use native.Mathlib.Omega.{arith}
 use borrow.Author.Needs.{needs}
-use Rattle.window.specs.Layout.{registers, results}
+use Rattle.window.specs.Layout.{registers}
 use Rattle.window.proofs.Theory.Marks.{Rising, rising-none, rising-more, rising-all, rising-grows}
 use Rattle.window.proofs.raised.Statement.{statement}
 use Rattle.window.proofs.raised.Tie as tie
@@ -10,7 +10,7 @@ abbrev Inv-loop : tie.InvT-loop
 Inv-loop up seed s₀ t₀ s t = Rising registers up seed s t
 
 abbrev μ-loop : tie.MeasureT-loop
-μ-loop up seed s₀ t₀ s t = results - s
+μ-loop up seed s₀ t₀ s t = 2 ^ registers - s
 
 pub raised-spec : {M : Type 1} → statement M
 raised-spec = tie.close (tie.spec
