@@ -166,7 +166,12 @@ fn point_at(code: u64, first: u16, second: u16) -> Point
 }
 
 /// The first `count` points that the arrays hold, as a table.
-pub fn points_of(code: &Codes, first: &Follows, second: &Follows, count: u16) -> [Point; POINT_SPACE]
+pub fn points_of(
+    code: &Codes,
+    first: &Follows,
+    second: &Follows,
+    count: u16,
+) -> [Point; POINT_SPACE]
     requires { ⌜ count ≤ mostPoints ⌝ }
     ensures { λ r. ⌜ r ≡ tableOf (now (code .entry)) (now (first .entry)) (now (second .entry)) count ⌝ }
 {

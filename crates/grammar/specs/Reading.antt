@@ -46,7 +46,10 @@ expectT k t = pick (eqb (t .key) k) (λ _. got tt (t .end)) λ _. unfit t
 
 -- a name that is used: a register or a function, by its place in a list
 abbrev pub useT : List ℕ → Token → Got ℕ
-useT rs t = pick (isName (t .key)) (λ _. pick (ltb (indexOf (t .key) rs) (length rs)) (λ _. got (indexOf (t .key) rs) (t .end)) λ _. refused useWrong (t .start)) λ _. unfit t
+useT rs t =
+    pick (isName (t .key))
+    (λ _. pick (ltb (indexOf (t .key) rs) (length rs)) (λ _. got (indexOf (t .key) rs) (t .end)) λ _. refused useWrong (t .start))
+    λ _. unfit t
 
 -- = or !=, as what it makes of two registers
 abbrev pub signT : Token → Got Bool
@@ -75,7 +78,8 @@ module _ (s : List ℕ) where
     -- behind the first argument y of f, which takes n: `,` and a second one where it takes two, and `)`
     unfoldable pub argumentsT : ℕ → ℕ → ℕ → ℕ → Token → Got Letter
     argumentsT n x f y t =
-        pick (eqb (t .key) word.comma) (λ _. pick (eqb n 2) (λ _. onward (useT rs (tokenAt s (t .end))) λ z e. ended word.rparen (Apply x f y z) e) λ _. refused useWrong (t .start))
+        pick (eqb (t .key) word.comma)
+        (λ _. pick (eqb n 2) (λ _. onward (useT rs (tokenAt s (t .end))) λ z e. ended word.rparen (Apply x f y z) e) λ _. refused useWrong (t .start))
         λ _. pick (eqb (t .key) word.rparen) (λ _. pick (eqb n 2) (λ _. refused useWrong (t .start)) λ _. got (Apply x f y y) (t .end)) λ _. unfit t
 
   module _ (rs fs ns : List ℕ) where
@@ -137,7 +141,8 @@ module _ (s : List ℕ) where
   registers zero rs at = pick (isName (tokenAt s at .key)) (λ _. refused declarationWrong (tokenAt s at .start)) λ _. listedT (length rs) rs (tokenAt s at)
   registers (suc room) rs at =
       pick (isName (tokenAt s at .key))
-      (λ _. pick (known (tokenAt s at .key) rs) (λ _. refused declarationWrong (tokenAt s at .start)) λ _. registers room (rs ++ tokenAt s at .key ∷ []) (tokenAt s at .end))
+      (λ _. pick (known (tokenAt s at .key) rs) (λ _. refused declarationWrong (tokenAt s at .start))
+      λ _. registers room (rs ++ tokenAt s at .key ∷ []) (tokenAt s at .end))
       λ _. listedT (length rs) rs (tokenAt s at)
 
   -- `1` or `2`
@@ -150,7 +155,9 @@ module _ (s : List ℕ) where
 
   -- the entries of functions, and `;`
   unfoldable pub functions : List ℕ → ℕ → List ℕ → List ℕ → ℕ → Got (List ℕ × List ℕ)
-  functions rs zero fs ns at = pick (isName (tokenAt s at .key)) (λ _. refused declarationWrong (tokenAt s at .start)) λ _. listedT (length fs) (fs, ns) (tokenAt s at)
+  functions rs zero fs ns at =
+      pick (isName (tokenAt s at .key)) (λ _. refused declarationWrong (tokenAt s at .start))
+      λ _. listedT (length fs) (fs, ns) (tokenAt s at)
   functions rs (suc room) fs ns at =
       pick (isName (tokenAt s at .key))
       (λ _. pick (known (tokenAt s at .key) rs || known (tokenAt s at .key) fs) (λ _. refused declarationWrong (tokenAt s at .start))

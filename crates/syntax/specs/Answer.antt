@@ -87,7 +87,9 @@ module _ (s : List ℕ) where
 
   -- behind the declarations
   unfoldable pub bodyFrom : List ℕ → List ℕ → List ℕ → ℕ → Got Macro
-  bodyFrom rs fs ns c = onward (block s rs fs ns (2 * length s + 1) deepestNesting c) λ body e. endFrom (record { registers = rs; functions = fs; arities = ns; body = body }) e
+  bodyFrom rs fs ns c =
+      onward (block s rs fs ns (2 * length s + 1) deepestNesting c) λ body e.
+      endFrom (record { registers = rs; functions = fs; arities = ns; body = body }) e
 
   -- behind the registers
   unfoldable pub functionsFrom : List ℕ → ℕ → Got Macro

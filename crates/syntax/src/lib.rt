@@ -229,7 +229,12 @@ fn refused_functions(g: Got) -> Functions
 }
 
 // Behind the last function.
-fn functions_end(names: [u64; MOST_FUNCTIONS], arities: [u8; MOST_FUNCTIONS], count: usize, t: Token) -> Functions
+fn functions_end(
+    names: [u64; MOST_FUNCTIONS],
+    arities: [u8; MOST_FUNCTIONS],
+    count: usize,
+    t: Token,
+) -> Functions
     requires { ⌜ Kept mostFunctions names count × Kept mostFunctions arities count ⌝ }
     ensures { λ r. ⌜ r ≡ heldFunctions (listedT [] (length (take count names)) (take count names, take count arities) t) ⌝ }
 {

@@ -17,7 +17,8 @@ module _ (s : List ℕ) where
   unfoldable pub readText : Got Macro
   readText =
       pick (ltb longestText (length s)) (λ _. refused textTooLong 0)
-      λ _. onward (expect s word.vars 0) λ _ a. onward (registers s mostRegisters [] a) λ rs b. onward (functionsT s rs b (tokenAt s b)) λ (fs, ns) c. onward (block s rs fs ns (2 * length s + 1) deepestNesting c) λ body e.
+      λ _. onward (expect s word.vars 0) λ _ a. onward (registers s mostRegisters [] a) λ rs b.
+      onward (functionsT s rs b (tokenAt s b)) λ (fs, ns) c. onward (block s rs fs ns (2 * length s + 1) deepestNesting c) λ body e.
       finishT s (record { registers = rs; functions = fs; arities = ns; body = body }) (tokenAt s e)
 
   unfoldable pub readMacro : Got Macro

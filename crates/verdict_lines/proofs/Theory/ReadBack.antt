@@ -8,6 +8,7 @@ use lib.ListN.{length, take, drop}
 use lib.Seq.{take-at, drop-at}
 use Rattle.letters.specs.declared.Letter.{Letter}
 use Rattle.letters.specs.Editions.{firstEdition}
+use Rattle.letters.specs.RefusalNumbers.{outputTooSmall}
 use Rattle.letters.proofs.Theory.WordLaws.{first-roomy}
 use Rattle.traces.specs.Traces.{trace, reading, packing}
 use Rattle.traces.proofs.Theory.TraceLaws.{reading-packing}
@@ -86,7 +87,7 @@ module _ (text table output : List ℕ) where
       where
         go : (j : Kind) (k : ℕ) (ls : List Letter) → ShownWith j k ls
             → Delivered (bytesOf j ls) (showing j k (length ls)) output (showing kind pairs letters) output′ → ShownEvent
-        go j k ls s (inr (l, e, b)) = absurd (showing-refused kind pairs letters 6 0 e)
+        go j k ls s (inr (l, e, b)) = absurd (showing-refused kind pairs letters outputTooSmall 0 e)
         go j k ls s (inl (l, e, b)) =
             let (i, p, q) = showing-same j kind k (length ls) pairs letters (sym e) in
             let rest : List ℕ = drop (length (bytesOf j ls)) output in
