@@ -12,23 +12,24 @@ use Rattle.macros.specs.Points.{compile, compileElse, compileBlock}
 use Rattle.tokens.specs.declared.Token.{Token}
 use Rattle.tokens.specs.Tokens.{tokenAt}
 use Rattle.tokens.specs.Words as word
+use Rattle.grammar.specs.Limits.{mostPoints}
 use Rattle.grammar.specs.Reading.{Got, got, refused, exhausted, onward, condition, bracesT, elseT, block, statement}
 use Rattle.phrases.specs.Codes.{Few}
 use Rattle.phrases.specs.declared.Got as number
 use Rattle.phrases.specs.declared.GotLetter as letter
-use Rattle.blocks.specs.Held.{point, heldPoint, Progress, Holds, turned}
+use Rattle.blocks.specs.Held.{point, heldPoint, Progress, Holds, unknown, turned, tooMany}
 use Rattle.blocks.specs.declared.Point.{Point}
 
 -- Read, on to the place e, with the points ps more; in front of them and behind them stand the points that were lent.
--- Free are two things: what the arrays hold once there are more than 256 points, of which no macro is made, and which of a point's codes stands for it.
+-- Free are two things: what the arrays hold once there are more than the most points, of which no macro is made, and which of a point's codes stands for it.
 pub record Fine (st r : Progress) (ps : List Point) (e : ℕ) : Type 0 where
   pub ok : r .ok ≡ true
   pub number : r .number ≡ 0
   pub place : r .place ≡ 0
   pub at : r .at ≡ e
-  pub low : st .count + length ps ≤ 256 → r .count ≡ st .count + length ps
-  pub high : 256 < st .count + length ps → r .count ≡ 257
-  pub laid : (old ds : List Point) → Holds old st ds → length ds + length ps ≤ 256 → Holds old r (ds ++ ps)
+  pub low : st .count + length ps ≤ mostPoints → r .count ≡ st .count + length ps
+  pub high : mostPoints < st .count + length ps → r .count ≡ tooMany
+  pub laid : (old ds : List Point) → Holds old st ds → length ds + length ps ≤ mostPoints → Holds old r (ds ++ ps)
 
 -- Refused by a number, at a place. Free is one thing: what the arrays hold, which no one reads beside a refusal.
 pub record Refusal (r : Progress) (n p : ℕ) : Type 0 where
@@ -46,7 +47,7 @@ Outcome code st r exhausted = ⊥
 
 -- a point of which it is not yet known what follows
 abbrev pub waiting : ℕ → Letter → Point
-waiting k l = point k l 256 0
+waiting k l = point k l unknown 0
 
 -- the same of an answer as code holds it: with a point more, and with none
 abbrev pub Settled : ℕ → Progress → Progress → letter.GotLetter → Type 0
@@ -57,16 +58,16 @@ abbrev pub Passed : Progress → Progress → number.Got → Type 0
 Passed st r (number.the-variants.At v e) = Fine st r [] e
 Passed st r (number.the-variants.Refused n p) = Refusal r n p
 
--- ---- the points of what was read, where 256 follows
+-- ---- the points of what was read, where what follows is not yet known
 
 unfoldable pub statementCode : Statement → ℕ → List Point
-statementCode c base = map heldPoint (compile c base 256)
+statementCode c base = map heldPoint (compile c base unknown)
 
 unfoldable pub elseCode : Else → ℕ → List Point
-elseCode o base = map heldPoint (compileElse o base 256)
+elseCode o base = map heldPoint (compileElse o base unknown)
 
 unfoldable pub blockCode : Block → ℕ → List Point
-blockCode b base = map heldPoint (compileBlock b base 256)
+blockCode b base = map heldPoint (compileBlock b base unknown)
 
 -- ---- changes to the table
 
@@ -78,15 +79,15 @@ turnedIn from to f i n = pick (ltb i from) (λ _. n) λ _. pick (ltb i to) (λ _
 abbrev pub begins : ℕ → ℕ → ℕ → ℕ
 begins from to follow = pick (ltb from to) (λ _. from) λ _. follow
 
--- a change to what follows, where the count of points goes past n and not past 256
+-- a change to what follows, where the count of points goes past n and not past the most
 abbrev pub changedTo : {A : Type 0} → ℕ → ℕ → A → A → A
-changedTo count n new old = pick (ltb 256 count) (λ _. old) λ _. pick (leb count n) (λ _. old) λ _. new
+changedTo count n new old = pick (ltb mostPoints count) (λ _. old) λ _. pick (leb count n) (λ _. old) λ _. new
 
 -- ---- what each reader of statements asks, and what it ensures
 
 pub record Ready (rs fs ns : List ℕ) (count : ℕ) : Type 0 where
   pub few : Few rs fs ns
-  pub counted : count ≤ 257
+  pub counted : count ≤ tooMany
 
 module _ (s rs fs ns : List ℕ) (d : ℕ) where
   -- calls enough for the bytes left

@@ -1,5 +1,6 @@
 // Statements and blocks of a macro, and the table of its points (document 01, "Macro text").
 use letters::Letter;
+use letters::refusal_numbers::NESTING_TOO_DEEP;
 use phrases::Got;
 use phrases::GotLetter;
 use tokens::Token;
@@ -9,13 +10,14 @@ ghost use Prim.Native.Nat.{_+_, _≤_};
 ghost use lib.ListN.{set};
 ghost use Rattle.base.specs.Each.{each};
 ghost use Rattle.letters.specs.Packing.{split};
-ghost use Rattle.blocks.specs.Held.{fields, pointAt, tableOf, Coded, progressOf, heldBy, turned, unused};
+ghost use Rattle.grammar.specs.Limits.{mostPoints};
+ghost use Rattle.blocks.specs.Held.{fields, pointAt, tableOf, Coded, progressOf, heldBy, unknown, turned, tooMany, unused};
 ghost use Rattle.blocks.specs.Outcome.{turnedIn, begins, changedTo, waiting, Fine, Refusal, Settled, Passed, Ready};
 ghost use Rattle.blocks.specs.Outcome.{PlainRead, BlockRead, StatementRead, BracesRead, ElseRead, ConditionalRead, RepeatRead};
 
 /// A point of a macro.
 pub struct Point {
-    /// 0: an assignment or an assume; 1: an assert; 2: an if or a while.
+    /// `STEP`, `CHECK` or `FORK`.
     pub kind: u8,
     /// The letter that it performs; of a condition, its test as written.
     pub letter: Letter,
@@ -35,21 +37,45 @@ pub struct State {
     pub place: usize,
     /// The place of the next byte; 0 beside a refusal.
     pub at: usize,
-    /// How many points were read; 257 for more than 256, 0 beside a refusal.
+    /// How many points were read; `TOO_MANY` for more than `MOST_POINTS`, 0 beside a refusal.
     pub count: u16,
 }
 
-/// The most points that a macro has. While a text is read, also what follows and is not yet known.
-pub const MOST: u16 = 256;
+/// The kind of a point that is an assignment or an assume.
+pub const STEP: u8 = 0;
+
+/// The kind of a point that is an assert.
+pub const CHECK: u8 = 1;
+
+/// The kind of a point that is an if or a while.
+pub const FORK: u8 = 2;
+
+/// The most points that a macro has.
+pub const MOST_POINTS: u16 = 256;
+
+/// The entries of a table of points.
+pub const POINT_SPACE: usize = MOST_POINTS as usize;
 
 // The count of points once there are more.
-const TOO_MANY: u16 = 257;
+const TOO_MANY: u16 = MOST_POINTS + 1;
+
+// While a text is read, what follows and is not yet known: the number of no point.
+const UNKNOWN: u16 = MOST_POINTS;
 
 /// The kind and the letter of each point as one number, a byte for each field.
-pub type Codes = [u64; 256];
+pub type Codes = [u64; POINT_SPACE];
 
 /// A point that follows each point.
-pub type Follows = [u16; 256];
+pub type Follows = [u16; POINT_SPACE];
+
+// The variants of a letter, as numbers.
+const COPY: u8 = 0;
+
+const APPLY: u8 = 1;
+
+const EQUAL: u8 = 2;
+
+const UNEQUAL: u8 = 3;
 
 // A byte for each field of a code.
 const BYTE: u64 = 256;
@@ -84,15 +110,15 @@ fn code_of(kind: u8, letter: Letter) -> u64
     ensures { λ r. ⌜ Coded kind letter r ⌝ }
 {
     match letter {
-        Letter::Copy { target, source } => packed(kind, 0, 0, target, source, 0),
+        Letter::Copy { target, source } => packed(kind, COPY, 0, target, source, 0),
         Letter::Apply {
             target,
             function,
             first,
             second,
-        } => packed(kind, 1, function, target, first, second),
-        Letter::Equal { first, second } => packed(kind, 2, 0, 0, first, second),
-        Letter::Unequal { first, second } => packed(kind, 3, 0, 0, first, second),
+        } => packed(kind, APPLY, function, target, first, second),
+        Letter::Equal { first, second } => packed(kind, EQUAL, 0, 0, first, second),
+        Letter::Unequal { first, second } => packed(kind, UNEQUAL, 0, 0, first, second),
     }
 }
 
@@ -100,18 +126,18 @@ fn code_of(kind: u8, letter: Letter) -> u64
 fn letter_at(code: u64) -> Letter
     ensures { λ r. ⌜ r ≡ pointAt code 0 0 .letter ⌝ }
 {
-    let variant = code / VARIANT % BYTE;
+    let variant = (code / VARIANT % BYTE) as u8;
     let function = (code / FUNCTION % BYTE) as u8;
     let target = (code / TARGET % BYTE) as u8;
     let first = (code / FIRST % BYTE) as u8;
     let second = (code / SECOND % BYTE) as u8;
-    if variant == 0 {
+    if variant == COPY {
         return Letter::Copy {
             target,
             source: first,
         };
     }
-    if variant == 1 {
+    if variant == APPLY {
         return Letter::Apply {
             target,
             function,
@@ -119,7 +145,7 @@ fn letter_at(code: u64) -> Letter
             second,
         };
     }
-    if variant == 2 {
+    if variant == EQUAL {
         return Letter::Equal { first, second };
     }
     Letter::Unequal { first, second }
@@ -140,11 +166,16 @@ fn point_at(code: u64, first: u16, second: u16) -> Point
 }
 
 /// The first `count` points that the arrays hold, as a table.
-pub fn points_of(code: &Codes, first: &Follows, second: &Follows, count: u16) -> [Point; 256]
-    requires { ⌜ count ≤ 256 ⌝ }
+pub fn points_of(
+    code: &Codes,
+    first: &Follows,
+    second: &Follows,
+    count: u16,
+) -> [Point; POINT_SPACE]
+    requires { ⌜ count ≤ mostPoints ⌝ }
     ensures { λ r. ⌜ r ≡ tableOf (now (code .entry)) (now (first .entry)) (now (second .entry)) count ⌝ }
 {
-    let mut points = [no_point(); 256];
+    let mut points = [no_point(); POINT_SPACE];
     let mut i: usize = 0;
     while i < count as usize {
         points[i] = point_at(code[i], first[i], second[i]);
@@ -158,7 +189,7 @@ pub fn no_point() -> Point
     ensures { λ r. ⌜ r ≡ unused ⌝ }
 {
     Point {
-        kind: 0,
+        kind: STEP,
         letter: Letter::Copy {
             target: 0,
             source: 0,
@@ -182,7 +213,7 @@ fn stopped(number: u8, place: usize) -> State
 
 // On to a place, with no point more.
 fn moved(st: State, at: usize) -> State
-    requires { ⌜ st .count ≤ 257 ⌝ }
+    requires { ⌜ st .count ≤ tooMany ⌝ }
     ensures { λ r. ⌜ ((ps : List Point) → Fine (progressOf st ps) (progressOf r ps) [] at) ⌝ }
 {
     State {
@@ -208,9 +239,9 @@ fn pushed(
         (heldBy r (now (code .exit)) (now (first .exit)) (now (second .exit))) (waiting kind letter ∷ []) at ⌝ }
 {
     let n = st.count;
-    if n < MOST {
+    if n < MOST_POINTS {
         code[n as usize] = code_of(kind, letter);
-        first[n as usize] = MOST;
+        first[n as usize] = UNKNOWN;
         second[n as usize] = 0;
         return State {
             ok: true,
@@ -249,7 +280,7 @@ fn settled(
 
 // On behind what was read, with no point more, or the refusal.
 fn passed(st: State, g: Got) -> State
-    requires { ⌜ st .count ≤ 257 ⌝ }
+    requires { ⌜ st .count ≤ tooMany ⌝ }
     ensures { λ r. ⌜ ((ps : List Point) → Passed (progressOf st ps) (progressOf r ps) g) ⌝ }
 {
     match g {
@@ -261,7 +292,7 @@ fn passed(st: State, g: Got) -> State
 fn follow(n: u16, f: u16) -> u16
     ensures { λ r. ⌜ r ≡ turned f n ⌝ }
 {
-    if n == MOST {
+    if n == UNKNOWN {
         return f;
     }
     n
@@ -269,7 +300,7 @@ fn follow(n: u16, f: u16) -> u16
 
 /// Puts f for what follows the points in a range.
 pub fn redirect_range(first: &mut Follows, second: &mut Follows, from: u16, to: u16, f: u16)
-    requires { ⌜ to ≤ 256 ⌝ }
+    requires { ⌜ to ≤ mostPoints ⌝ }
     ensures { λ _. ⌜ now (first .exit) ≡ each (turnedIn from to f) (now (first .entry)) ⌝ }
     ensures other { λ _. ⌜ now (second .exit) ≡ each (turnedIn from to f) (now (second .entry)) ⌝ }
 {
@@ -296,7 +327,7 @@ fn join(count: u16, from: u16, to: u16, first: &mut Follows, second: &mut Follow
     ensures { λ _. ⌜ now (first .exit) ≡ changedTo count to (each (turnedIn from to to) (now (first .entry))) (now (first .entry)) ⌝ }
     ensures other { λ _. ⌜ now (second .exit) ≡ changedTo count to (each (turnedIn from to to) (now (second .entry))) (now (second .entry)) ⌝ }
 {
-    if MOST < count {
+    if MOST_POINTS < count {
         return;
     }
     if count <= to {
@@ -307,17 +338,17 @@ fn join(count: u16, from: u16, to: u16, first: &mut Follows, second: &mut Follow
 
 // After the two blocks of an if, of which `base` is the number: the second block's points are numbered from `mid` to `count`.
 fn branch(count: u16, base: u16, mid: u16, first: &mut Follows, second: &mut Follows)
-    ensures { λ _. ⌜ now (first .exit) ≡ changedTo count base (set (now (first .entry)) base (begins (base + 1) mid 256)) (now (first .entry)) ⌝ }
-    ensures other { λ _. ⌜ now (second .exit) ≡ changedTo count base (set (now (second .entry)) base (begins mid count 256)) (now (second .entry)) ⌝ }
+    ensures { λ _. ⌜ now (first .exit) ≡ changedTo count base (set (now (first .entry)) base (begins (base + 1) mid unknown)) (now (first .entry)) ⌝ }
+    ensures other { λ _. ⌜ now (second .exit) ≡ changedTo count base (set (now (second .entry)) base (begins mid count unknown)) (now (second .entry)) ⌝ }
 {
-    if MOST < count {
+    if MOST_POINTS < count {
         return;
     }
     if count <= base {
         return;
     }
-    let holds = begin(base + 1, mid, MOST);
-    let fails = begin(mid, count, MOST);
+    let holds = begin(base + 1, mid, UNKNOWN);
+    let fails = begin(mid, count, UNKNOWN);
     first[base as usize] = holds;
     second[base as usize] = fails;
 }
@@ -327,9 +358,9 @@ fn repeat_from(count: u16, base: u16, first: &mut Follows, second: &mut Follows)
     ensures { λ _. ⌜ now (first .exit)
         ≡ changedTo count base (set (each (turnedIn (base + 1) count base) (now (first .entry))) base (begins (base + 1) count base)) (now (first .entry)) ⌝ }
     ensures other { λ _. ⌜ now (second .exit)
-        ≡ changedTo count base (set (each (turnedIn (base + 1) count base) (now (second .entry))) base 256) (now (second .entry)) ⌝ }
+        ≡ changedTo count base (set (each (turnedIn (base + 1) count base) (now (second .entry))) base unknown) (now (second .entry)) ⌝ }
 {
-    if MOST < count {
+    if MOST_POINTS < count {
         return;
     }
     if count <= base {
@@ -338,7 +369,7 @@ fn repeat_from(count: u16, base: u16, first: &mut Follows, second: &mut Follows)
     redirect_range(first, second, base + 1, count, base);
     let body = begin(base + 1, count, base);
     first[base as usize] = body;
-    second[base as usize] = MOST;
+    second[base as usize] = UNKNOWN;
 }
 
 /// Statements up to the block's end: `}` or the end of the text. Blocks in it lie at most `depth` deep.
@@ -433,15 +464,15 @@ fn plain(
     }
     if k == tokens::ASSUME {
         let g = phrases::tested(text, regs, t.end);
-        return settled(st, 0, g, code, first, second);
+        return settled(st, STEP, g, code, first, second);
     }
     if k == tokens::ASSERT {
         let g = phrases::tested(text, regs, t.end);
-        return settled(st, 1, g, code, first, second);
+        return settled(st, CHECK, g, code, first, second);
     }
     if tokens::is_name(k) {
         let g = phrases::assignment(text, regs, funs, arities, st.at);
-        return settled(st, 0, g, code, first, second);
+        return settled(st, STEP, g, code, first, second);
     }
     passed(st, phrases::unfitting(t))
 }
@@ -464,7 +495,7 @@ fn conditional(
         (heldBy r (now (code .exit)) (now (first .exit)) (now (second .exit))) ⌝ }
 {
     let g = phrases::condition(text, regs, st.at);
-    let p = settled(st, 2, g, code, first, second);
+    let p = settled(st, FORK, g, code, first, second);
     if p.ok {
         let one = braces(text, regs, funs, arities, p, depth, code, first, second);
         if one.ok {
@@ -524,7 +555,7 @@ fn repeat(
         (heldBy r (now (code .exit)) (now (first .exit)) (now (second .exit))) ⌝ }
 {
     let g = phrases::condition(text, regs, st.at);
-    let p = settled(st, 2, g, code, first, second);
+    let p = settled(st, FORK, g, code, first, second);
     if p.ok {
         let body = braces(text, regs, funs, arities, p, depth, code, first, second);
         if body.ok {
@@ -557,7 +588,7 @@ fn braces(
     let t = tokens::next(text, at);
     if t.key == tokens::LBRACE {
         if depth == 0 {
-            return stopped(12, t.start);
+            return stopped(NESTING_TOO_DEEP, t.start);
         }
         let p = moved(st, t.end);
         let b = block(text, regs, funs, arities, p, depth - 1, code, first, second);

@@ -6,6 +6,8 @@ use mathlib.Core.List.{List, [], _∷_, _++_}
 use lib.Dec.{ltb, eqb}
 use lib.ListN.{length, getD}
 use Rattle.base.specs.Choice.{pick}
+use Rattle.letters.specs.Editions.{mostFunctions}
+use Rattle.letters.specs.RefusalNumbers.{tokenMalformed, grammarViolated, declarationWrong, useWrong, nestingTooDeep, pointsTooMany}
 use Rattle.letters.specs.declared.Letter.{Letter}
 use Rattle.letters.specs.declared.Letter.the-variants.{Copy, Apply}
 use Rattle.macros.specs.Tree.{Condition, equal, unequal, test, Statement, skip, perform, assert, if, while, Else, absent, present, Block, empty, _then_}
@@ -14,6 +16,7 @@ use Rattle.tokens.specs.Words.{isName, sameName}
 use Rattle.tokens.specs.Words as word
 use Rattle.tokens.specs.Tokens.{tokenAt}
 use Rattle.tokens.specs.declared.Token.{Token}
+use Rattle.grammar.specs.Limits.{mostPoints}
 use Rattle.grammar.specs.Grammar.{Macro}
 
 -- `exhausted`: the bound on the calls was too small. It never is (Enough.antt).
@@ -33,9 +36,9 @@ unfoldable pub indexOf : ℕ → List ℕ → ℕ
 indexOf k [] = 0
 indexOf k (x ∷ xs) = pick (sameName k x) (λ _. 0) λ _. suc (indexOf k xs)
 
--- a token that does not fit the grammar: 8 if it is none, else 9
+-- a token that does not fit the grammar, or is none
 abbrev pub unfit : {A : Type 0} → Token → Got A
-unfit t = refused (pick (eqb (t .key) 1) (λ _. 8) λ _. 9) (t .start)
+unfit t = refused (pick (eqb (t .key) word.wrong) (λ _. tokenMalformed) λ _. grammarViolated) (t .start)
 
 -- one token k
 abbrev pub expectT : ℕ → Token → Got (Unit {0})
@@ -43,7 +46,10 @@ expectT k t = pick (eqb (t .key) k) (λ _. got tt (t .end)) λ _. unfit t
 
 -- a name that is used: a register or a function, by its place in a list
 abbrev pub useT : List ℕ → Token → Got ℕ
-useT rs t = pick (isName (t .key)) (λ _. pick (ltb (indexOf (t .key) rs) (length rs)) (λ _. got (indexOf (t .key) rs) (t .end)) λ _. refused 11 (t .start)) λ _. unfit t
+useT rs t =
+    pick (isName (t .key))
+    (λ _. pick (ltb (indexOf (t .key) rs) (length rs)) (λ _. got (indexOf (t .key) rs) (t .end)) λ _. refused useWrong (t .start))
+    λ _. unfit t
 
 -- = or !=, as what it makes of two registers
 abbrev pub signT : Token → Got Bool
@@ -72,8 +78,9 @@ module _ (s : List ℕ) where
     -- behind the first argument y of f, which takes n: `,` and a second one where it takes two, and `)`
     unfoldable pub argumentsT : ℕ → ℕ → ℕ → ℕ → Token → Got Letter
     argumentsT n x f y t =
-        pick (eqb (t .key) word.comma) (λ _. pick (eqb n 2) (λ _. onward (useT rs (tokenAt s (t .end))) λ z e. ended word.rparen (Apply x f y z) e) λ _. refused 11 (t .start))
-        λ _. pick (eqb (t .key) word.rparen) (λ _. pick (eqb n 2) (λ _. refused 11 (t .start)) λ _. got (Apply x f y y) (t .end)) λ _. unfit t
+        pick (eqb (t .key) word.comma)
+        (λ _. pick (eqb n 2) (λ _. onward (useT rs (tokenAt s (t .end))) λ z e. ended word.rparen (Apply x f y z) e) λ _. refused useWrong (t .start))
+        λ _. pick (eqb (t .key) word.rparen) (λ _. pick (eqb n 2) (λ _. refused useWrong (t .start)) λ _. got (Apply x f y y) (t .end)) λ _. unfit t
 
   module _ (rs fs ns : List ℕ) where
     -- behind `x :=`: "a name is a function if the next token is `(`, else a register"
@@ -88,7 +95,7 @@ module _ (s : List ℕ) where
 
     -- `{`, a block at a depth less by one, and `}`
     abbrev pub bracesT : (ℕ → ℕ → Got Block) → ℕ → Token → Got Block
-    bracesT inner zero t = pick (eqb (t .key) word.lbrace) (λ _. refused 12 (t .start)) λ _. unfit t
+    bracesT inner zero t = pick (eqb (t .key) word.lbrace) (λ _. refused nestingTooDeep (t .start)) λ _. unfit t
     bracesT inner (suc d) t = pick (eqb (t .key) word.lbrace) (λ _. onward (inner d (t .end)) λ b e. ended word.rbrace b e) λ _. unfit t
 
     -- perhaps `else` and a block
@@ -108,7 +115,7 @@ module _ (s : List ℕ) where
 
     -- a block ends before `}` and at the end of the text
     abbrev pub closing : ℕ → Bool
-    closing k = eqb k word.rbrace || eqb k 0
+    closing k = eqb k word.rbrace || eqb k word.end
 
     -- Statements up to the block's end, at most d braces deep. k bounds the calls: 2 for each byte left, and 1, is enough.
     unfoldable mutual
@@ -131,10 +138,11 @@ module _ (s : List ℕ) where
 
   -- the names of registers, and `;`: rs are declared already, and there is room for more
   unfoldable pub registers : ℕ → List ℕ → ℕ → Got (List ℕ)
-  registers zero rs at = pick (isName (tokenAt s at .key)) (λ _. refused 10 (tokenAt s at .start)) λ _. listedT (length rs) rs (tokenAt s at)
+  registers zero rs at = pick (isName (tokenAt s at .key)) (λ _. refused declarationWrong (tokenAt s at .start)) λ _. listedT (length rs) rs (tokenAt s at)
   registers (suc room) rs at =
       pick (isName (tokenAt s at .key))
-      (λ _. pick (known (tokenAt s at .key) rs) (λ _. refused 10 (tokenAt s at .start)) λ _. registers room (rs ++ tokenAt s at .key ∷ []) (tokenAt s at .end))
+      (λ _. pick (known (tokenAt s at .key) rs) (λ _. refused declarationWrong (tokenAt s at .start))
+      λ _. registers room (rs ++ tokenAt s at .key ∷ []) (tokenAt s at .end))
       λ _. listedT (length rs) rs (tokenAt s at)
 
   -- `1` or `2`
@@ -147,21 +155,23 @@ module _ (s : List ℕ) where
 
   -- the entries of functions, and `;`
   unfoldable pub functions : List ℕ → ℕ → List ℕ → List ℕ → ℕ → Got (List ℕ × List ℕ)
-  functions rs zero fs ns at = pick (isName (tokenAt s at .key)) (λ _. refused 10 (tokenAt s at .start)) λ _. listedT (length fs) (fs, ns) (tokenAt s at)
+  functions rs zero fs ns at =
+      pick (isName (tokenAt s at .key)) (λ _. refused declarationWrong (tokenAt s at .start))
+      λ _. listedT (length fs) (fs, ns) (tokenAt s at)
   functions rs (suc room) fs ns at =
       pick (isName (tokenAt s at .key))
-      (λ _. pick (known (tokenAt s at .key) rs || known (tokenAt s at .key) fs) (λ _. refused 10 (tokenAt s at .start))
+      (λ _. pick (known (tokenAt s at .key) rs || known (tokenAt s at .key) fs) (λ _. refused declarationWrong (tokenAt s at .start))
       λ _. onward (arityOf (tokenAt s at .end)) λ n e. functions rs room (fs ++ tokenAt s at .key ∷ []) (ns ++ n ∷ []) e)
       λ _. listedT (length fs) (fs, ns) (tokenAt s at)
 
   -- perhaps a line of functions
   abbrev pub functionsT : List ℕ → ℕ → Token → Got (List ℕ × List ℕ)
-  functionsT rs at t = pick (eqb (t .key) word.funs) (λ _. functions rs 4 [] [] (t .end)) λ _. got ([], []) at
+  functionsT rs at t = pick (eqb (t .key) word.funs) (λ _. functions rs mostFunctions [] [] (t .end)) λ _. got ([], []) at
 
   -- the end of the text
   abbrev pub finishT : Macro → Token → Got Macro
-  finishT m t = pick (eqb (t .key) 0) (λ _. got m (t .end)) λ _. unfit t
+  finishT m t = pick (eqb (t .key) word.end) (λ _. got m (t .end)) λ _. unfit t
 
   -- "Then: at most 256 points? 13."
   abbrev pub countT : Macro → ℕ → Got Macro
-  countT m e = pick (ltb 256 (sizeBlock (m .body))) (λ _. refused 13 0) λ _. got m e
+  countT m e = pick (ltb mostPoints (sizeBlock (m .body))) (λ _. refused pointsTooMany 0) λ _. got m e

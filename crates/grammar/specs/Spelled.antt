@@ -4,21 +4,24 @@ use Prim.Native.Nat.{ℕ, _≤_, _<_}
 use mathlib.Core.Bool.{true}
 use mathlib.Core.List.{List, [], _∷_}
 use lib.ListN.{length, getD}
+use Rattle.letters.specs.Editions.{mostRegisters, mostFunctions}
 use Rattle.macros.specs.Tree.{ProperBlock}
 use Rattle.tokens.specs.Tokens.{tokenAt}
 use Rattle.tokens.specs.Words.{isName}
+use Rattle.tokens.specs.Words as word
+use Rattle.grammar.specs.Limits.{deepestNesting}
 use Rattle.grammar.specs.Grammar.{Macro, headerOf, sentence, NestsBlock}
 
--- The tokens of the text s from one place to another are the listed ones. (0 and 1 are no tokens.)
+-- The tokens of the text s from one place to another are the listed ones.
 pub data Spells (s : List ℕ) : ℕ → List ℕ → ℕ → Type 0 where
   none : {at : ℕ} → Spells s at [] at
-  more : {at k e : ℕ} {ks : List ℕ} → tokenAt s at .key ≡ k → 2 ≤ k → Spells s (tokenAt s at .end) ks e → Spells s at (k ∷ ks) e
+  more : {at k e : ℕ} {ks : List ℕ} → tokenAt s at .key ≡ k → word.wrong < k → Spells s (tokenAt s at .end) ks e → Spells s at (k ∷ ks) e
 
 -- The tokens of the whole text are the sentence of the macro.
 pub record Spelled (s : List ℕ) (m : Macro) : Type 0 where
   pub place : ℕ
   pub tokens : Spells s 0 (sentence m) place
-  pub ended : tokenAt s place .key ≡ 0
+  pub ended : tokenAt s place .key ≡ word.end
 
 -- Each is a name, and no two are the same.
 pub record Declared (rs : List ℕ) : Type 0 where
@@ -39,10 +42,10 @@ pub data Arities : List ℕ → List ℕ → Type 0 where
 pub record InOrder (m : Macro) : Type 0 where
   pub registers : Declared (m .registers)
   pub some : 1 ≤ length (m .registers)
-  pub few : length (m .registers) ≤ 8
+  pub few : length (m .registers) ≤ mostRegisters
   pub functions : Declared (m .functions)
   pub apart : Apart (m .registers) (m .functions)
   pub arities : Arities (m .functions) (m .arities)
-  pub fewer : length (m .functions) ≤ 4
+  pub fewer : length (m .functions) ≤ mostFunctions
   pub uses : ProperBlock (m .body) (headerOf m)
-  pub depth : NestsBlock (m .body) 16
+  pub depth : NestsBlock (m .body) deepestNesting

@@ -42,3 +42,10 @@ firstEdition = record {
 -- "The whole-trace engine takes at most 1,024 letters; the monitor has no limit."
 abbrev pub mostLetters : ℕ
 mostLetters = 1024
+
+-- "Registers: 1 to 8. Functions: 0 to 4." Those of the edition, by name.
+abbrev pub mostRegisters : ℕ
+mostRegisters = firstEdition .registers
+
+abbrev pub mostFunctions : ℕ
+mostFunctions = firstEdition .functions

@@ -1,10 +1,11 @@
 -- What the model program makes of a file.
 use mathlib.Core.Path.{_≡_}
 use mathlib.Core.List.{List}
-use Prim.Native.Nat.{ℕ, _%_}
+use Prim.Native.Nat.{ℕ, _+_, _-_, _*_, _%_}
 use lib.Dec.{eqb}
 use lib.ListN.{length, take}
 use Rattle.base.specs.Choice.{pick}
+use Rattle.letters.specs.Editions.{firstEdition, mostLetters}
 use Rattle.files.specs.declared.Input.{Input}
 use Rattle.files.specs.declared.Input.the-variants.{Ended, Full, Failed}
 use Rattle.files.specs.declared.Lines as files
@@ -16,13 +17,13 @@ use Rattle.model_lines.specs.declared.Left.{Left}
 use Rattle.model_lines.specs.declared.Left.the-variants.{More, Over}
 use Rattle.model_lines.specs.Prints.{Prints}
 
--- A file is read to its end, or one unit more of it than 1,024 letters have.
+-- A file is read to its end, or one unit more of it than the most letters and a header have.
 abbrev pub mostRead : ℕ
-mostRead = 2052
+mostRead = firstEdition .bytes * (mostLetters + 2)
 
 -- Of an odd length, and as good.
 abbrev pub oddRead : ℕ
-oddRead = 2051
+oddRead = mostRead - 1
 
 unfoldable pub parityOf : ℕ → Rest
 parityOf n = pick (eqb (n % 2) 0) (λ _. rest.Even) λ _. rest.Odd

@@ -6,7 +6,7 @@ use lib.Dec.{eqb}
 use lib.ListN.{length, take}
 use Rattle.io.specs.Digits.{glyph}
 use Rattle.base.specs.Choice.{pick}
-use Rattle.letters.specs.Editions.{firstEdition}
+use Rattle.letters.specs.Editions.{firstEdition, mostLetters}
 use Rattle.traces.specs.Reading.{Reading, trace, refused}
 use Rattle.traces.specs.ReadingParts.{readingWithin}
 use Rattle.semantics.specs.Terms.{state, traceOf}
@@ -51,7 +51,7 @@ readLine (trace h ls) =
 
 -- The line for the bytes of a trace. Every model fits, so that there is no refusal by 6.
 abbrev pub lineFor : List ℕ → List ℕ
-lineFor s = readLine (readingWithin 1024 firstEdition s)
+lineFor s = readLine (readingWithin mostLetters firstEdition s)
 
 -- The line of an answer, whose model is in the front of some bytes.
 unfoldable pub lineOf : Shown → List ℕ → List ℕ

@@ -3,34 +3,44 @@ use files::Input;
 use files::Lines;
 use shown::Shown;
 use text::put_line;
+use tokens::KEY_BASE;
 ghost use mathlib.Core.Path.{_≡_};
 ghost use Prim.Native.Nat.{_<_};
 ghost use lib.ListN.{length};
 ghost use Rattle.io.specs.Digits.{glyph};
 ghost use Rattle.files.specs.Lines.{Answers};
 ghost use Rattle.text.specs.Appending.{Appended, Room};
-ghost use Rattle.model_lines.specs.Prints.{octetText, hexText, modelLine, Prints};
+ghost use Rattle.model_lines.specs.Prints.{octetText, hexText, modelLine, mostBytes, Prints};
 ghost use Rattle.model_lines.specs.PrintsLaws.{Held, Wrote};
 ghost use Rattle.model_lines.specs.Answered.{parityOf, leftOf, knownLong, knownTrace, AnswersRead};
 
-// The bytes of a long trace that stand for one of odd length.
-const ODD_READ: usize = 2051;
-
 // Two bytes more than the longest trace that is taken, of 1,024 letters.
-fn trace_space() -> [u8; 2052] {
-    [0; 2052]
-}
+const MOST_READ: usize = 2052;
+
+// The bytes of a long trace that stand for one of odd length.
+const ODD_READ: usize = MOST_READ - 1;
 
 // No model is longer.
-fn model_space() -> [u8; 5180] {
-    [0; 5180]
-}
+const MOST_MODEL: usize = 5180;
 
 /// No line is longer.
-pub fn line_space() -> [u8; 10367]
-    ensures { λ r. ⌜ 10367 ≡ length r ⌝ }
+pub const MOST_BYTES: usize = 10367;
+
+// Room for what is read of a trace.
+fn trace_space() -> [u8; MOST_READ] {
+    [0; MOST_READ]
+}
+
+// Room for a model.
+fn model_space() -> [u8; MOST_MODEL] {
+    [0; MOST_MODEL]
+}
+
+/// Room for the line of any trace.
+pub fn line_space() -> [u8; MOST_BYTES]
+    ensures { λ r. ⌜ mostBytes ≡ length r ⌝ }
 {
-    [0; 10367]
+    [0; MOST_BYTES]
 }
 
 // The byte of a hexadecimal digit.
@@ -49,7 +59,7 @@ fn put_octet(out: &mut [u8], at: usize, byte: u8) -> usize
     let value = tokens::wide(byte);
     let high = digit(value / 16);
     let low = digit(value % 16);
-    put_line(out, at, b"0", [high + 256 * low, 0, 0, 0])
+    put_line(out, at, b"0", [high + KEY_BASE * low, 0, 0, 0])
 }
 
 // Appends the digits of each byte.
@@ -91,7 +101,7 @@ fn put_answer(out: &mut [u8], answer: Shown, model: &[u8]) -> usize
 }
 
 /// Writes the line of a packed trace into the front of a lent buffer, as far as that goes, and gives the number of the line's bytes,
-/// which is at most 10,367.
+/// which is at most `MOST_BYTES`.
 pub fn write_line(trace: &[u8], out: &mut [u8]) -> usize
     ensures { λ r. ⌜ Prints (now (trace .entry)) (now (out .entry)) r (now (out .exit)) ⌝ }
 {
@@ -178,7 +188,7 @@ fn answer_long(trace: &[u8], rest: Rest, line: &mut [u8]) -> Lines
 }
 
 /// Writes the line of an input that was read into `trace` into the front of a lent buffer: that of the bytes that it had, or, where it
-/// filled `trace`, that of its first 2,052 bytes, or of 2,051 if `rest` is odd. Where a read failed nothing is judged, and the buffer
+/// filled `trace`, that of all its bytes, or of all but the last if `rest` is odd. Where a read failed nothing is judged, and the buffer
 /// stays as it is.
 pub fn answer_to(trace: &[u8], input: Input, rest: Rest, line: &mut [u8]) -> Lines
     ensures { λ r. ⌜ Answers Prints (knownTrace input rest (now (trace .entry))) (now (line .entry)) r (now (line .exit)) ⌝ }

@@ -4,6 +4,7 @@ use mathlib.Core.List.{List, [], _∷_, _++_}
 use Prim.Native.Nat.{ℕ}
 use Rattle.base.specs.Recursion.{run, fixed}
 use Rattle.letters.specs.Answers.{value, refusal}
+use Rattle.letters.specs.RefusalNumbers.{letterMalformed}
 use Rattle.text.specs.Numerals.{numeral}
 use Rattle.report.specs.Lines.{line}
 use Rattle.model_lines.specs.Prints.{infeasibleLine, refusedLine}
@@ -26,7 +27,7 @@ unfolding answerLines orNone incoherentLine infeasibleLine line numeral fixed ru
 both = refl
 
 -- refused 4 at 12
-pub malformed : answerLines (refusal 4 12) ≡
+pub malformed : answerLines (refusal letterMalformed 12) ≡
     114 ∷ 101 ∷ 102 ∷ 117 ∷ 115 ∷ 101 ∷ 100 ∷ 32 ∷ 52 ∷ 32 ∷ 97 ∷ 116 ∷ 32 ∷ 49 ∷ 50 ∷ 10 ∷ []
 unfolding answerLines refusedLine line numeral fixed run
 malformed = refl

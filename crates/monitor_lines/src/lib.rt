@@ -6,14 +6,17 @@ ghost use mathlib.Core.Path.{_≡_};
 ghost use lib.ListN.{length};
 ghost use Rattle.text.specs.Appending.{Appended, Room};
 ghost use Rattle.monitoring.specs.Run.{verdictAnswer};
-ghost use Rattle.monitor_lines.specs.Prints.{Prints};
+ghost use Rattle.monitor_lines.specs.Prints.{mostBytes, Prints};
 ghost use Rattle.monitor_lines.specs.PrintsLaws.{letterText};
 
 /// No lines are longer.
-pub fn line_space() -> [u8; 64]
-    ensures { λ r. ⌜ 64 ≡ length r ⌝ }
+pub const MOST_BYTES: usize = 64;
+
+/// Room for the lines of any answer.
+pub fn line_space() -> [u8; MOST_BYTES]
+    ensures { λ r. ⌜ mostBytes ≡ length r ⌝ }
 {
-    [0; 64]
+    [0; MOST_BYTES]
 }
 
 // Appends one template for no letter, which is 0, and another with the number of a letter.
@@ -28,7 +31,7 @@ fn put_letter(out: &mut [u8], at: usize, none: &[u8], some: &[u8], letter: u64) 
 }
 
 /// Writes the lines of an answer into the front of a lent buffer, as far as that goes, and gives the number of their bytes, which is at
-/// most 64.
+/// most `MOST_BYTES`.
 pub fn write_lines(verdict: Verdict, out: &mut [u8]) -> usize
     ensures { λ r. ⌜ Prints (verdictAnswer verdict) (now (out .entry)) r (now (out .exit)) ⌝ }
 {

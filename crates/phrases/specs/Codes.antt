@@ -6,6 +6,7 @@ use mathlib.Core.List.{List}
 use lib.Dec.{eqb}
 use lib.ListN.{length}
 use Rattle.base.specs.Choice.{pick}
+use Rattle.letters.specs.Editions.{mostRegisters, mostFunctions}
 use Rattle.letters.specs.declared.Letter.{Letter}
 use Rattle.letters.specs.declared.Letter.the-variants.{Apply, Equal, Unequal}
 use Rattle.tokens.specs.Tokens.{tokenAt}
@@ -41,18 +42,24 @@ abbrev pub carried : held.Got → GotLetter
 carried (held.the-variants.At v e) = letter.Refused 0 0
 carried (held.the-variants.Refused n p) = letter.Refused n p
 
--- a sign as a number, and the test that it makes
+-- a sign, `=` or `!=`, as a number, and the test that it makes
+abbrev pub equalSign : ℕ
+equalSign = 1
+
+abbrev pub unequalSign : ℕ
+unequalSign = 0
+
 abbrev pub kind : Bool → ℕ
-kind true = 1
-kind false = 0
+kind true = equalSign
+kind false = unequalSign
 
 abbrev pub comparing : ℕ → ℕ → ℕ → Letter
-comparing q x y = pick (eqb q 1) (λ _. Equal x y) λ _. Unequal x y
+comparing q x y = pick (eqb q equalSign) (λ _. Equal x y) λ _. Unequal x y
 
 -- the declared names fit their tables
 pub record Few (rs fs ns : List ℕ) : Type 0 where
-  pub registers : length rs ≤ 8
-  pub functions : length fs ≤ 4
+  pub registers : length rs ≤ mostRegisters
+  pub functions : length fs ≤ mostFunctions
   pub arities : length ns ≡ length fs
 
 -- two parts of the reading of a value

@@ -1,14 +1,24 @@
 // The phrases of a statement: uses, conditions and assignments (document 01, "Macro text").
 use letters::Letter;
+use letters::refusal_numbers::GRAMMAR_VIOLATED;
+use letters::refusal_numbers::TOKEN_MALFORMED;
+use letters::refusal_numbers::USE_WRONG;
 use tokens::Token;
 ghost use mathlib.Core.Path.{_≡_};
 ghost use Prim.Native.Nat.{_≤_, _<_};
 ghost use lib.Dec.{ltb};
 ghost use lib.ListN.{length};
+ghost use Rattle.letters.specs.Editions.{mostRegisters};
 ghost use Rattle.macros.specs.Tree.{test};
 ghost use Rattle.grammar.specs.Reading.{indexOf, unfit, expect as expectAt, useT, signT, condition as conditionAt, tested as testedAt, argumentsT, value as valueAt, assignment as assignmentAt};
 ghost use Rattle.tokens.specs.Tokens.{tokenAt};
 ghost use Rattle.phrases.specs.Codes.{coded, plain, nothing, lettered, same, kind, comparing, carried, Few, secondAt, applicationAt};
+
+// The sign `=` as a number.
+const EQUAL_SIGN: u8 = 1;
+
+// The sign `!=` as a number.
+const UNEQUAL_SIGN: u8 = 0;
 
 /// What reading a number gives.
 pub enum Got {
@@ -28,7 +38,7 @@ pub enum GotLetter {
 
 // The place of a name in a list, or the list's length.
 fn find(list: &[u64], k: u64) -> u8
-    requires { ⌜ length (now list) ≤ 8 ⌝ }
+    requires { ⌜ length (now list) ≤ mostRegisters ⌝ }
     ensures { λ r. ⌜ r ≡ indexOf k (now (list .entry)) ⌝ }
 {
     let mut i: u8 = 0;
@@ -43,7 +53,7 @@ fn find(list: &[u64], k: u64) -> u8
 
 /// Whether a name is in a list.
 pub fn is_known(list: &[u64], k: u64) -> bool
-    requires { ⌜ length (now list) ≤ 8 ⌝ }
+    requires { ⌜ length (now list) ≤ mostRegisters ⌝ }
     ensures { λ r. ⌜ r ≡ ltb (indexOf k (now (list .entry))) (length (now (list .entry))) ⌝ }
 {
     let i = find(list, k);
@@ -55,9 +65,9 @@ pub fn unfitting(t: Token) -> Got
     ensures { λ r. ⌜ r ≡ plain (unfit t) ⌝ }
 {
     if t.key == tokens::WRONG {
-        return Got::Refused(8, t.start);
+        return Got::Refused(TOKEN_MALFORMED, t.start);
     }
-    Got::Refused(9, t.start)
+    Got::Refused(GRAMMAR_VIOLATED, t.start)
 }
 
 /// One token k at or after a place.
@@ -73,7 +83,7 @@ pub fn expect(text: &[u8], k: u64, at: usize) -> Got
 
 // A name of a list, as its place in the list.
 fn use_of(t: Token, list: &[u64]) -> Got
-    requires { ⌜ length (now list) ≤ 8 ⌝ }
+    requires { ⌜ length (now list) ≤ mostRegisters ⌝ }
     ensures { λ r. ⌜ r ≡ plain (useT (now (list .entry)) t) ⌝ }
 {
     let k = t.key;
@@ -82,20 +92,20 @@ fn use_of(t: Token, list: &[u64]) -> Got
         if (i as usize) < list.len() {
             return Got::At(i, t.end);
         }
-        return Got::Refused(11, t.start);
+        return Got::Refused(USE_WRONG, t.start);
     }
     unfitting(t)
 }
 
-// `=` as 1 or `!=` as 0.
+// `=` or `!=`, as a number.
 fn sign_of(t: Token) -> Got
     ensures { λ r. ⌜ r ≡ coded kind (signT t) ⌝ }
 {
     if t.key == tokens::EQUAL {
-        return Got::At(1, t.end);
+        return Got::At(EQUAL_SIGN, t.end);
     }
     if t.key == tokens::UNEQUAL {
-        return Got::At(0, t.end);
+        return Got::At(UNEQUAL_SIGN, t.end);
     }
     unfitting(t)
 }
@@ -104,7 +114,7 @@ fn sign_of(t: Token) -> Got
 fn comparison(sign: u8, x: u8, y: u8) -> Letter
     ensures { λ r. ⌜ r ≡ comparing sign x y ⌝ }
 {
-    if sign == 1 {
+    if sign == EQUAL_SIGN {
         return Letter::Equal {
             first: x,
             second: y,
@@ -128,7 +138,7 @@ pub fn refusal(g: Got) -> GotLetter
 
 /// A condition, as its test.
 pub fn condition(text: &[u8], regs: &[u64], at: usize) -> GotLetter
-    requires { ⌜ length (now regs) ≤ 8 ⌝ }
+    requires { ⌜ length (now regs) ≤ mostRegisters ⌝ }
     ensures { λ r. ⌜ r ≡ lettered test (conditionAt (now (text .entry)) (now (regs .entry)) at) ⌝ }
 {
     let left = use_of(tokens::next(text, at), regs);
@@ -148,7 +158,7 @@ pub fn condition(text: &[u8], regs: &[u64], at: usize) -> GotLetter
 
 /// A condition and `;`.
 pub fn tested(text: &[u8], regs: &[u64], at: usize) -> GotLetter
-    requires { ⌜ length (now regs) ≤ 8 ⌝ }
+    requires { ⌜ length (now regs) ≤ mostRegisters ⌝ }
     ensures { λ r. ⌜ r ≡ lettered test (testedAt (now (text .entry)) (now (regs .entry)) at) ⌝ }
 {
     let g = condition(text, regs, at);
@@ -164,7 +174,7 @@ pub fn tested(text: &[u8], regs: &[u64], at: usize) -> GotLetter
 
 // Behind the first argument y of the function f, which takes n.
 fn arguments(text: &[u8], regs: &[u64], n: u8, x: u8, f: u8, y: u8, at: usize) -> GotLetter
-    requires { ⌜ length (now regs) ≤ 8 ⌝ }
+    requires { ⌜ length (now regs) ≤ mostRegisters ⌝ }
     ensures { λ r. ⌜ r ≡ lettered same (argumentsT (now (text .entry)) (now (regs .entry)) n x f y (tokenAt (now (text .entry)) at)) ⌝ }
 {
     let t = tokens::next(text, at);
@@ -172,11 +182,11 @@ fn arguments(text: &[u8], regs: &[u64], n: u8, x: u8, f: u8, y: u8, at: usize) -
         if n == 2 {
             return second_argument(text, regs, x, f, y, t.end);
         }
-        return GotLetter::Refused(11, t.start);
+        return GotLetter::Refused(USE_WRONG, t.start);
     }
     if t.key == tokens::RPAREN {
         if n == 2 {
-            return GotLetter::Refused(11, t.start);
+            return GotLetter::Refused(USE_WRONG, t.start);
         }
         return GotLetter::At(
             Letter::Apply {
@@ -193,7 +203,7 @@ fn arguments(text: &[u8], regs: &[u64], n: u8, x: u8, f: u8, y: u8, at: usize) -
 
 // Behind `,`: the second argument of the function f, and `)`.
 fn second_argument(text: &[u8], regs: &[u64], x: u8, f: u8, y: u8, at: usize) -> GotLetter
-    requires { ⌜ length (now regs) ≤ 8 ⌝ }
+    requires { ⌜ length (now regs) ≤ mostRegisters ⌝ }
     ensures { λ r. ⌜ r ≡ lettered same (secondAt (now (text .entry)) (now (regs .entry)) x f y at) ⌝ }
 {
     let second = use_of(tokens::next(text, at), regs);
@@ -217,7 +227,7 @@ fn second_argument(text: &[u8], regs: &[u64], x: u8, f: u8, y: u8, at: usize) ->
 
 // Behind `x := f` and before `(`: the arguments of the function f, which takes n.
 fn application(text: &[u8], regs: &[u64], n: u8, x: u8, f: u8, at: usize) -> GotLetter
-    requires { ⌜ length (now regs) ≤ 8 ⌝ }
+    requires { ⌜ length (now regs) ≤ mostRegisters ⌝ }
     ensures { λ r. ⌜ r ≡ lettered same (applicationAt (now (text .entry)) (now (regs .entry)) n x f at) ⌝ }
 {
     let paren = expect(text, tokens::LPAREN, at);

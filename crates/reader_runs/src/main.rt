@@ -1,13 +1,20 @@
 // Reads each text that an argument names, and prints what reading it gives: the refusal and its place, or the counts and the points.
+use blocks::POINT_SPACE;
 use blocks::Point;
 use files::Input;
 use letters::Letter;
 use libc::STDOUT_FILENO;
+use syntax::LONGEST_TEXT;
 use syntax::Macro;
 
 // One byte more than a macro may have.
-fn space() -> [u8; 4097] {
-    [0; 4097]
+const MOST_READ: usize = LONGEST_TEXT + 1;
+
+// The points of a macro are printed if there are no more.
+const FEW_POINTS: u16 = 12;
+
+fn space() -> [u8; MOST_READ] {
+    [0; MOST_READ]
 }
 
 fn number(n: u64) {
@@ -57,12 +64,12 @@ fn print_point(point: Point) {
 }
 
 // The points, if they are few.
-fn print_points(points: [Point; 256], count: u16) {
-    if 12 < count {
+fn print_points(points: [Point; POINT_SPACE], count: u16) {
+    if FEW_POINTS < count {
         return;
     }
     let mut i: usize = 0;
-    while i < 12 {
+    while i < FEW_POINTS as usize {
         if count as usize <= i {
             return;
         }

@@ -4,9 +4,9 @@ use Prim.Native.Nat.{ℕ, _≤_}
 use mathlib.Core.List.{List}
 use lib.ListN.{length}
 use Rattle.macros.specs.Points.{sizeBlock}
+use Rattle.grammar.specs.Limits.{longestText, mostPoints}
 use Rattle.grammar.specs.Grammar.{Macro}
 use Rattle.grammar.specs.Spelled.{Spelled, InOrder}
-use Rattle.refusals.specs.Order.{longestText, mostPoints}
 
 -- The text is that of the macro m: its tokens are the sentence of m, and length, declarations, uses, depth and points are in order.
 pub record Accepted (text : List ℕ) (m : Macro) : Type 0 where

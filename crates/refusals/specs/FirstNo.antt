@@ -2,6 +2,7 @@
 use mathlib.Core.Path.{_≡_}
 use Prim.Native.Nat.{ℕ, zero, suc, _<_}
 use mathlib.Core.List.{List, [], _∷_, _++_}
+use Rattle.tokens.specs.Words as word
 use Rattle.tokens.specs.Tokens.{tokenAt}
 use Rattle.refusals.specs.Questions.{No}
 
@@ -24,7 +25,7 @@ module _ (s : List ℕ) where
 
   -- The text has not ended before token i.
   abbrev pub Reached : ℕ → Type 0
-  Reached i = (j : ℕ) → j < i → keyOf j ≡ 0 → ⊥
+  Reached i = (j : ℕ) → j < i → keyOf j ≡ word.end → ⊥
 
   -- n is the lowest number with a no at the first token with a no, and p is its first byte (the text's length, if it is the end).
   pub record FirstNo (n p : ℕ) : Type 0 where

@@ -2,23 +2,18 @@
 use Prim.Native.Nat.{ℕ, _≤_, _<_}
 use mathlib.Core.List.{List}
 use lib.ListN.{length}
+use Rattle.letters.specs.RefusalNumbers.{textTooLong, pointsTooMany}
 use Rattle.macros.specs.Points.{sizeBlock}
+use Rattle.grammar.specs.Limits.{longestText, mostPoints}
 use Rattle.grammar.specs.Grammar.{Macro}
 use Rattle.grammar.specs.Spelled.{Spelled, InOrder}
 use Rattle.refusals.specs.FirstNo.{FirstNo}
 
--- "A macro has at most 4,096 bytes and 256 points."
-abbrev pub longestText : ℕ
-longestText = 4096
-
-abbrev pub mostPoints : ℕ
-mostPoints = 256
-
 -- The questions about a macro's text that the reader asks, in their order, with the number and the place of a no.
 pub data Refusal (s : List ℕ) : ℕ → ℕ → Type 0 where
   -- "At most 4,096 bytes? 7."
-  long : longestText < length s → Refusal s 7 0
+  long : longestText < length s → Refusal s textTooLong 0
   -- "Then token by token, the lowest number at one token": 8 to 12
   token : {n p : ℕ} → length s ≤ longestText → FirstNo s n p → Refusal s n p
   -- "Then: at most 256 points? 13."
-  points : (m : Macro) → length s ≤ longestText → Spelled s m → InOrder m → mostPoints < sizeBlock (m .body) → Refusal s 13 0
+  points : (m : Macro) → length s ≤ longestText → Spelled s m → InOrder m → mostPoints < sizeBlock (m .body) → Refusal s pointsTooMany 0

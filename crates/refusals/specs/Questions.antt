@@ -1,5 +1,5 @@
 -- Questions 8 to 12, each as a predicate on the tokens before a token and the token itself: when its answer is no. Question 11 looks at the next token too.
--- A token is its number; 0 stands for the end of the text, and 1 for what is no token.
+-- A token is its number; `word.end` stands for the end of the text, and `word.wrong` for what is no token.
 use mathlib.Core.Path.{_≡_}
 use mathlib.Core.Logic.{_⊎_}
 use Prim.Native.Nat.{ℕ, _+_, _≤_, _<_}
@@ -8,16 +8,19 @@ use mathlib.Core.List.{List, [], _∷_, _++_}
 use lib.Dec.{eqb}
 use lib.ListN.{length, getD}
 use Rattle.base.specs.Choice.{pick}
+use Rattle.letters.specs.Editions.{mostRegisters, mostFunctions}
+use Rattle.letters.specs.RefusalNumbers.{tokenMalformed, grammarViolated, declarationWrong, useWrong, nestingTooDeep}
 use Rattle.tokens.specs.Words.{isName}
 use Rattle.tokens.specs.Words as word
+use Rattle.grammar.specs.Limits.{deepestNesting}
 use Rattle.grammar.specs.Grammar.{entryTokens, functionTokens}
 use Rattle.grammar.specs.Spelled.{Arities}
 use Rattle.refusals.specs.Sentences.{Sentence, Viable}
 
 -- "Fits the grammar? 9 (at the text's length if it ends early)."
 pub data Unfit (before : List ℕ) (k : ℕ) : Type 0 where
-  early : k ≡ 0 → (Sentence before → ⊥) → Unfit before k
-  misplaced : (k ≡ 0 → ⊥) → (Viable (before ++ k ∷ []) → ⊥) → Unfit before k
+  early : k ≡ word.end → (Sentence before → ⊥) → Unfit before k
+  misplaced : (k ≡ word.end → ⊥) → (Viable (before ++ k ∷ []) → ⊥) → Unfit before k
 
 -- ---- where the tokens so far end
 
@@ -53,8 +56,8 @@ Among k ks = (i : ℕ) × (i < length ks) × (getD ks i 0 ≡ k)
 
 -- "Within eight registers and four functions, each name declared once? 10."
 pub data Redeclared (before : List ℕ) (k : ℕ) : Type 0 where
-  register : {rs : List ℕ} → InRegisters before rs → isName k ≡ true → Among k rs ⊎ (8 ≤ length rs) → Redeclared before k
-  function : {rs fs ns : List ℕ} → InFunctions before rs fs ns → isName k ≡ true → (Among k rs ⊎ Among k fs) ⊎ (4 ≤ length fs) → Redeclared before k
+  register : {rs : List ℕ} → InRegisters before rs → isName k ≡ true → Among k rs ⊎ (mostRegisters ≤ length rs) → Redeclared before k
+  function : {rs fs ns : List ℕ} → InFunctions before rs fs ns → isName k ≡ true → (Among k rs ⊎ Among k fs) ⊎ (mostFunctions ≤ length fs) → Redeclared before k
 
 -- ---- 11
 
@@ -91,14 +94,14 @@ count k (j ∷ js) = pick (eqb j k) (λ _. 1) (λ _. 0) + count k js
 -- "Braces at most 16 deep? 12."
 pub record TooDeep (before : List ℕ) (k : ℕ) : Type 0 where
   pub brace : k ≡ word.lbrace
-  pub deep : 16 + count word.rbrace before ≤ count word.lbrace before
+  pub deep : deepestNesting + count word.rbrace before ≤ count word.lbrace before
 
 -- ---- the questions by their numbers
 
 pub data No : ℕ → List ℕ → ℕ → ℕ → Type 0 where
   -- "a token, and no name over eight bytes? 8"
-  no-token : {before : List ℕ} {k next : ℕ} → k ≡ 1 → No 8 before k next
-  unfit : {before : List ℕ} {k next : ℕ} → Unfit before k → No 9 before k next
-  redeclared : {before : List ℕ} {k next : ℕ} → Redeclared before k → No 10 before k next
-  misused : {before : List ℕ} {k next : ℕ} → Misused before k next → No 11 before k next
-  too-deep : {before : List ℕ} {k next : ℕ} → TooDeep before k → No 12 before k next
+  no-token : {before : List ℕ} {k next : ℕ} → k ≡ word.wrong → No tokenMalformed before k next
+  unfit : {before : List ℕ} {k next : ℕ} → Unfit before k → No grammarViolated before k next
+  redeclared : {before : List ℕ} {k next : ℕ} → Redeclared before k → No declarationWrong before k next
+  misused : {before : List ℕ} {k next : ℕ} → Misused before k next → No useWrong before k next
+  too-deep : {before : List ℕ} {k next : ℕ} → TooDeep before k → No nestingTooDeep before k next

@@ -1,16 +1,17 @@
 -- How long a report can be: so that a buffer of a fixed size is never too small.
 use Prim.Native.Nat.{ℕ, _+_, _^_, _<_}
 use mathlib.Core.List.{List}
+use Rattle.semantics.specs.PackedTables.{wordBytes}
 use Rattle.report.specs.declared.Verdict.{Verdict}
 use Rattle.report.specs.declared.Verdict.the-variants.{Pass, Incoherent, Fail, Refused}
 use Rattle.report.specs.Shown.{modelStart}
-use Rattle.report.specs.ShownLaws.{wordIn}
+use Rattle.report.specs.ShownLaws.{wordIn, wordValues}
 
 -- What the types of a verdict's numbers say.
 abbrev pub Limited : Verdict → Type 0
 Limited (Pass pairs) = pairs < 2 ^ 64
-Limited (Incoherent pairs n) = (pairs < 2 ^ 64) × (n < 65536)
-Limited (Fail pairs n) = (pairs < 2 ^ 64) × (n < 65536)
+Limited (Incoherent pairs n) = (pairs < 2 ^ 64) × (n < wordValues)
+Limited (Fail pairs n) = (pairs < 2 ^ 64) × (n < wordValues)
 Limited (Refused number place) = (number < 256) × (place < 2 ^ 64)
 
 -- The letters and the rows that a verdict shows.
@@ -23,5 +24,5 @@ letterNumber (Refused number place) = 0
 abbrev pub rowNumber : Verdict → List ℕ → ℕ
 rowNumber (Pass pairs) s = 0
 rowNumber (Incoherent pairs n) s = 0
-rowNumber (Fail pairs n) s = wordIn s (modelStart n + 2)
+rowNumber (Fail pairs n) s = wordIn s (modelStart n + wordBytes)
 rowNumber (Refused number place) s = 0

@@ -4,6 +4,7 @@ use Prim.Native.Nat.{ℕ}
 use mathlib.Core.List.{List, [], _∷_, _++_}
 use lib.ListN.{getD}
 use Rattle.base.specs.Recursion.{run, fixed}
+use Rattle.letters.specs.RefusalNumbers.{grammarViolated}
 use Rattle.letters.specs.declared.Header.{Header}
 use Rattle.letters.specs.declared.Letter.{Letter}
 use Rattle.letters.specs.declared.Letter.the-variants.{Apply, Unequal}
@@ -87,6 +88,7 @@ unfolding shown lettersIn letterOf letterAt coding.decodeLetter coding.letterOf 
 shown-example = refl
 
 -- refused 9 at 17
-pub refusal-example : report names header (refused 9 17) ≡ 114 ∷ 101 ∷ 102 ∷ 117 ∷ 115 ∷ 101 ∷ 100 ∷ 32 ∷ 57 ∷ 32 ∷ 97 ∷ 116 ∷ 32 ∷ 49 ∷ 55 ∷ 10 ∷ []
+pub refusal-example : report names header (refused grammarViolated 17) ≡
+    114 ∷ 101 ∷ 102 ∷ 117 ∷ 115 ∷ 101 ∷ 100 ∷ 32 ∷ 57 ∷ 32 ∷ 97 ∷ 116 ∷ 32 ∷ 49 ∷ 55 ∷ 10 ∷ []
 unfolding report line numeral fixed run
 refusal-example = refl

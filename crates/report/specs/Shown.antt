@@ -32,9 +32,9 @@ unfoldable pub lettersIn : Header → List ℕ → ℕ → ℕ → List Letter
 lettersIn h s k zero = []
 lettersIn h s k (suc n) = letterOf h s k ∷ lettersIn h s (k + 1) n
 
--- Where the model begins, behind a header and n letters of two bytes each.
+-- Where the model begins, behind a header and n letters.
 abbrev pub modelStart : ℕ → ℕ
-modelStart n = 2 * n + 2
+modelStart n = firstEdition .bytes * n + firstEdition .bytes
 
 -- What is printed for a verdict whose answer is in s.
 unfoldable pub shown : Header → Verdict → List ℕ → Printed

@@ -5,9 +5,14 @@ mod lines;
 
 use self::lines::put_report;
 use letters::Header;
+use letters::MOST_FUNCTIONS;
+use letters::MOST_REGISTERS;
 ghost use mathlib.Core.Path.{_≡_};
 ghost use Rattle.report.specs.Shown.{reportOf, Wrote};
 ghost use Rattle.report.specs.Bound.{Limited};
+
+/// How many numbers a word of two bytes holds. A verdict has fewer letters.
+pub const WORD_VALUES: usize = 65536;
 
 /// What is to be printed.
 pub enum Verdict {
@@ -41,11 +46,11 @@ fn limited(verdict: Verdict) -> Verdict
     }
 }
 
-/// Writes the report of a verdict. A name is held as a number, its bytes the digits to base 256 and the first byte the lowest.
+/// Writes the report of a verdict. A name is held as a number, its bytes the digits to base `tokens::KEY_BASE` and the first byte the lowest.
 /// `answer` holds the execution as a packed trace, on fail its model directly behind it; what lies behind these is not read.
 pub fn write_report(
-    registers: [u64; 8],
-    functions: [u64; 4],
+    registers: [u64; MOST_REGISTERS],
+    functions: [u64; MOST_FUNCTIONS],
     h: Header,
     verdict: Verdict,
     answer: &[u8],

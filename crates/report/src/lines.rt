@@ -1,10 +1,14 @@
 // The lines of a report, each appended to a lent buffer.
 use super::Verdict;
+use super::answer::ROW_BYTES;
+use super::answer::WORD_BYTES;
 use super::answer::letter_of;
 use super::answer::row_at;
 use super::answer::word_at;
 use letters::Header;
 use letters::Letter;
+use letters::MOST_FUNCTIONS;
+use letters::MOST_REGISTERS;
 use letters::words::takes_two;
 use text::put_line;
 ghost use mathlib.Core.Path.{_≡_};
@@ -16,37 +20,66 @@ ghost use Rattle.base.specs.Choice.{pick};
 ghost use Rattle.base.specs.Masks.{has};
 ghost use Rattle.letters.specs.declared.Letter.the-variants.{Apply};
 ghost use Rattle.semantics.specs.TablesRead.{unitsIn, rowFrom, readTables};
+ghost use Rattle.semantics.specs.PackedTables.{rowBytes, wordBytes};
 ghost use Rattle.text.specs.Appending.{Appended, Room};
 ghost use Rattle.text.specs.Numerals.{numeral};
 ghost use Rattle.text.specs.Names.{nameText};
 ghost use Rattle.text.specs.Templates.{filledIn};
 ghost use Rattle.report.specs.Lines.{line, linesOf, pairsWord, letterLine, letterLines, startLines, rowLine, modelLines};
-ghost use Rattle.report.specs.Shown.{namesOf, lettersIn, reportOf};
+ghost use Rattle.report.specs.Shown.{namesOf, lettersIn, modelStart, reportOf};
+ghost use Rattle.report.specs.ShownLaws.{wordValues};
+
+// The bytes of a word.
+const WORD_SIZE: u32 = WORD_BYTES as u32;
+
+// The bytes of a model before its initial values: the counts of its values and of its rows.
+const MODEL_HEAD: u32 = WORD_SIZE + WORD_SIZE;
+
+// What a field of a row counts.
+const FUNCTION: u64 = 274877906944;
+
+const FIRST: u64 = 134217728;
+
+const SECOND: u64 = 65536;
+
+const RESULT: u64 = 32;
+
+// How many numbers the field of a function holds, and that of a value.
+const FUNCTION_VALUES: u64 = 4;
+
+const VALUES: u64 = 2048;
 
 // The name of a register, none beyond the array.
-fn register_name(registers: [u64; 8], register: u8) -> u64
+fn register_name(registers: [u64; MOST_REGISTERS], register: u8) -> u64
     ensures { λ r. ⌜ r ≡ getD registers register 0 ⌝ }
 {
     let k = register as usize;
-    if k < 8 {
+    if k < MOST_REGISTERS {
         return registers[k];
     }
     0
 }
 
 // The name of a function, none beyond the array.
-fn function_name(functions: [u64; 4], function: u8) -> u64
+fn function_name(functions: [u64; MOST_FUNCTIONS], function: u8) -> u64
     ensures { λ r. ⌜ r ≡ getD functions function 0 ⌝ }
 {
     let k = function as usize;
-    if k < 4 {
+    if k < MOST_FUNCTIONS {
         return functions[k];
     }
     0
 }
 
 // Appends a template with the names of two registers.
-fn put_two(out: &mut [u8], at: usize, template: &[u8], registers: [u64; 8], a: u8, b: u8) -> usize
+fn put_two(
+    out: &mut [u8],
+    at: usize,
+    template: &[u8],
+    registers: [u64; MOST_REGISTERS],
+    a: u8,
+    b: u8,
+) -> usize
     requires { ⌜ Room at (filledIn (now template) (getD registers a 0 ∷ getD registers b 0 ∷ 0 ∷ 0 ∷ [])) ⌝ }
     ensures { λ r. ⌜ Appended (now (out .entry)) at (filledIn (now (template .entry)) (getD registers a 0 ∷ getD registers b 0 ∷ 0 ∷ 0 ∷ [])) (now (out .exit)) r ⌝ }
 {
@@ -60,8 +93,8 @@ fn put_application(
     out: &mut [u8],
     at: usize,
     h: Header,
-    registers: [u64; 8],
-    functions: [u64; 4],
+    registers: [u64; MOST_REGISTERS],
+    functions: [u64; MOST_FUNCTIONS],
     target: u8,
     function: u8,
     first: u8,
@@ -85,8 +118,8 @@ fn put_letter(
     out: &mut [u8],
     at: usize,
     h: Header,
-    registers: [u64; 8],
-    functions: [u64; 4],
+    registers: [u64; MOST_REGISTERS],
+    functions: [u64; MOST_FUNCTIONS],
     letter: Letter,
 ) -> usize
     requires { ⌜ Room at (letterLine (namesOf registers functions) h letter) ⌝ }
@@ -126,8 +159,8 @@ fn put_letters(
     out: &mut [u8],
     at: usize,
     h: Header,
-    registers: [u64; 8],
-    functions: [u64; 4],
+    registers: [u64; MOST_REGISTERS],
+    functions: [u64; MOST_FUNCTIONS],
     answer: &[u8],
     count: u16,
 ) -> usize
@@ -149,8 +182,8 @@ fn put_execution(
     out: &mut [u8],
     at: usize,
     h: Header,
-    registers: [u64; 8],
-    functions: [u64; 4],
+    registers: [u64; MOST_REGISTERS],
+    functions: [u64; MOST_FUNCTIONS],
     answer: &[u8],
     count: u16,
 ) -> usize
@@ -166,19 +199,20 @@ fn put_execution(
 fn put_starts(
     out: &mut [u8],
     at: usize,
-    registers: [u64; 8],
+    registers: [u64; MOST_REGISTERS],
     answer: &[u8],
     start: u32,
     count: u8,
 ) -> usize
-    requires { ⌜ Room at (startLines (λ r. nameText (getD registers r 0)) 0 (unitsIn 2 count (drop start (now answer)))) ⌝ }
-    ensures { λ r. ⌜ Appended (now (out .entry)) at (startLines (λ r. nameText (getD registers r 0)) 0 (unitsIn 2 count (drop start (now (answer .entry))))) (now (out .exit)) r ⌝ }
+    requires { ⌜ Room at (startLines (λ r. nameText (getD registers r 0)) 0 (unitsIn wordBytes count (drop start (now answer)))) ⌝ }
+    ensures { λ r. ⌜ Appended (now (out .entry)) at
+        (startLines (λ r. nameText (getD registers r 0)) 0 (unitsIn wordBytes count (drop start (now (answer .entry))))) (now (out .exit)) r ⌝ }
 {
     let mut next = at;
     let mut register: u8 = 0;
     while register < count {
         let name = register_name(registers, register);
-        let value = word_at(answer, (start as usize) + 2 * (register as usize));
+        let value = word_at(answer, (start as usize) + WORD_BYTES * (register as usize));
         next = put_line(out, next, b"start 0 5\n", [name, value, 0, 0]);
         register = register + 1;
     }
@@ -196,14 +230,20 @@ fn second_printed(h: Header, function: u8, second: u64) -> u64
 }
 
 // Appends the line of a row, packed in 40 bits: function 2, argument 11, argument 11, result 11, spare 5.
-fn put_row(out: &mut [u8], at: usize, h: Header, functions: [u64; 4], row: u64) -> usize
+fn put_row(
+    out: &mut [u8],
+    at: usize,
+    h: Header,
+    functions: [u64; MOST_FUNCTIONS],
+    row: u64,
+) -> usize
     requires { ⌜ Room at (rowLine (λ f. nameText (getD functions f 0)) h (rowFrom firstEdition h row)) ⌝ }
     ensures { λ r. ⌜ Appended (now (out .entry)) at (rowLine (λ f. nameText (getD functions f 0)) h (rowFrom firstEdition h row)) (now (out .exit)) r ⌝ }
 {
-    let function = (row / 274877906944 % 4) as u8;
-    let first = row / 134217728 % 2048;
-    let second = second_printed(h, function, row / 65536 % 2048);
-    let result = row / 32 % 2048;
+    let function = (row / FUNCTION % FUNCTION_VALUES) as u8;
+    let first = row / FIRST % VALUES;
+    let second = second_printed(h, function, row / SECOND % VALUES);
+    let result = row / RESULT % VALUES;
     let name = function_name(functions, function);
     put_line(out, at, b"row 0 5 6 7\n", [name, first, second, result])
 }
@@ -213,18 +253,20 @@ fn put_rows(
     out: &mut [u8],
     at: usize,
     h: Header,
-    functions: [u64; 4],
+    functions: [u64; MOST_FUNCTIONS],
     answer: &[u8],
     start: u32,
     count: u64,
 ) -> usize
-    requires { ⌜ Room at (linesOf (rowLine (λ f. nameText (getD functions f 0)) h) (map (rowFrom firstEdition h) (unitsIn 5 count (drop start (now answer))))) × (count < 65536) ⌝ }
-    ensures { λ r. ⌜ Appended (now (out .entry)) at (linesOf (rowLine (λ f. nameText (getD functions f 0)) h) (map (rowFrom firstEdition h) (unitsIn 5 count (drop start (now (answer .entry)))))) (now (out .exit)) r ⌝ }
+    requires { ⌜ Room at (linesOf (rowLine (λ f. nameText (getD functions f 0)) h)
+        (map (rowFrom firstEdition h) (unitsIn rowBytes count (drop start (now answer))))) × (count < wordValues) ⌝ }
+    ensures { λ r. ⌜ Appended (now (out .entry)) at (linesOf (rowLine (λ f. nameText (getD functions f 0)) h)
+        (map (rowFrom firstEdition h) (unitsIn rowBytes count (drop start (now (answer .entry)))))) (now (out .exit)) r ⌝ }
 {
     let mut next = at;
     let mut k: u64 = 0;
     while k < count {
-        let row = row_at(answer, (start as usize) + 5 * (k as usize));
+        let row = row_at(answer, (start as usize) + ROW_BYTES * (k as usize));
         next = put_row(out, next, h, functions, row);
         k = k + 1;
     }
@@ -236,19 +278,27 @@ fn put_model(
     out: &mut [u8],
     at: usize,
     h: Header,
-    registers: [u64; 8],
-    functions: [u64; 4],
+    registers: [u64; MOST_REGISTERS],
+    functions: [u64; MOST_FUNCTIONS],
     answer: &[u8],
     start: u32,
 ) -> usize
-    requires { ⌜ Room at (modelLines (namesOf registers functions) h (readTables firstEdition h (drop start (now answer)))) × (start < 131074) ⌝ }
+    requires { ⌜ Room at (modelLines (namesOf registers functions) h (readTables firstEdition h (drop start (now answer))))
+        × (start < modelStart wordValues) ⌝ }
     ensures { λ r. ⌜ Appended (now (out .entry)) at (modelLines (namesOf registers functions) h (readTables firstEdition h (drop start (now (answer .entry))))) (now (out .exit)) r ⌝ }
 {
     let values = word_at(answer, start as usize);
-    let rows = word_at(answer, (start as usize) + 2);
+    let rows = word_at(answer, (start as usize) + WORD_BYTES);
     let mut next = put_line(out, at, b"values 4\n", [values, 0, 0, 0]);
-    next = put_starts(out, next, registers, answer, start + 4, h.registers);
-    let behind = start + 4 + 2 * (h.registers as u32);
+    next = put_starts(
+        out,
+        next,
+        registers,
+        answer,
+        start + MODEL_HEAD,
+        h.registers,
+    );
+    let behind = start + MODEL_HEAD + WORD_SIZE * (h.registers as u32);
     put_rows(out, next, h, functions, answer, behind, rows)
 }
 
@@ -265,8 +315,8 @@ fn put_verdict(out: &mut [u8], at: usize, verdict: &[u8], pairs: u64) -> usize
 pub fn put_report(
     out: &mut [u8],
     at: usize,
-    registers: [u64; 8],
-    functions: [u64; 4],
+    registers: [u64; MOST_REGISTERS],
+    functions: [u64; MOST_FUNCTIONS],
     h: Header,
     verdict: Verdict,
     answer: &[u8],
@@ -283,7 +333,7 @@ pub fn put_report(
         Verdict::Fail(pairs, letters) => {
             let mut next = put_verdict(out, at, b"verdict fail\n", pairs);
             next = put_execution(out, next, h, registers, functions, answer, letters);
-            let start = 2 * (letters as u32) + 2;
+            let start = WORD_SIZE * (letters as u32) + WORD_SIZE;
             put_model(out, next, h, registers, functions, answer, start)
         }
         Verdict::Refused(number, place) => {

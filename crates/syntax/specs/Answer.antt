@@ -5,9 +5,13 @@ use mathlib.Core.List.{List, [], _++_, map}
 use lib.Dec.{eqb}
 use lib.ListN.{length, replicate}
 use Rattle.base.specs.Choice.{pick}
+use Rattle.letters.specs.Editions.{mostRegisters, mostFunctions}
+use Rattle.letters.specs.RefusalNumbers.{tokenMalformed, grammarViolated}
 use Rattle.macros.specs.Points.{points, sizeBlock}
+use Rattle.tokens.specs.Words as word
 use Rattle.tokens.specs.Tokens.{tokenAt}
 use Rattle.tokens.specs.declared.Token.{Token}
+use Rattle.grammar.specs.Limits.{deepestNesting}
 use Rattle.grammar.specs.Grammar.{Macro, headerOf}
 use Rattle.grammar.specs.Reading.{Got, got, refused, exhausted, onward, block, functionsT, finishT, countT}
 use Rattle.blocks.specs.Held.{table, heldPoint}
@@ -24,15 +28,21 @@ padded n l = l ++ replicate (n - length l) 0
 unfoldable pub heldMacro : Macro → held.Macro
 heldMacro m = record {
   header = headerOf m;
-  registers = padded 8 (m .registers);
-  functions = padded 4 (m .functions);
+  registers = padded mostRegisters (m .registers);
+  functions = padded mostFunctions (m .functions);
   points = table (map heldPoint (points (m .body)));
   count = sizeBlock (m .body);
 }
 
 -- what the struct holds beside a refusal
 abbrev pub noMacro : held.Macro
-noMacro = record { header = record { registers = 0; functions = 0; binary = 0 }; registers = replicate 8 0; functions = replicate 4 0; points = table []; count = 0 }
+noMacro = record {
+  header = record { registers = 0; functions = 0; binary = 0 };
+  registers = replicate mostRegisters 0;
+  functions = replicate mostFunctions 0;
+  points = table [];
+  count = 0;
+}
 
 -- The answer: refusal 0 is none. (`exhausted` is never what reading gives: `read-answers`.)
 unfoldable pub answerOf : Got Macro → Answer
@@ -43,18 +53,30 @@ answerOf exhausted = record { refusal = 0; place = 0; program = noMacro }
 -- ---- declarations on the way
 
 unfoldable pub heldRegisters : Got (List ℕ) → Registers
-heldRegisters (got rs e) = record { ok = true; number = 0; place = 0; at = e; count = length rs; names = padded 8 rs }
-heldRegisters (refused n p) = record { ok = false; number = n; place = p; at = 0; count = 0; names = replicate 8 0 }
-heldRegisters exhausted = record { ok = false; number = 0; place = 0; at = 0; count = 0; names = replicate 8 0 }
+heldRegisters (got rs e) = record { ok = true; number = 0; place = 0; at = e; count = length rs; names = padded mostRegisters rs }
+heldRegisters (refused n p) = record { ok = false; number = n; place = p; at = 0; count = 0; names = replicate mostRegisters 0 }
+heldRegisters exhausted = record { ok = false; number = 0; place = 0; at = 0; count = 0; names = replicate mostRegisters 0 }
+
+abbrev pub noFunctions : ℕ → ℕ → Functions
+noFunctions n p =
+    record { ok = false; number = n; place = p; at = 0; count = 0; names = replicate mostFunctions 0; arities = replicate mostFunctions 0 }
 
 unfoldable pub heldFunctions : Got (List ℕ × List ℕ) → Functions
-heldFunctions (got r e) = record { ok = true; number = 0; place = 0; at = e; count = length (r .0); names = padded 4 (r .0); arities = padded 4 (r .1) }
-heldFunctions (refused n p) = record { ok = false; number = n; place = p; at = 0; count = 0; names = replicate 4 0; arities = replicate 4 0 }
-heldFunctions exhausted = record { ok = false; number = 0; place = 0; at = 0; count = 0; names = replicate 4 0; arities = replicate 4 0 }
+heldFunctions (got r e) = record {
+  ok = true;
+  number = 0;
+  place = 0;
+  at = e;
+  count = length (r .0);
+  names = padded mostFunctions (r .0);
+  arities = padded mostFunctions (r .1);
+}
+heldFunctions (refused n p) = noFunctions n p
+heldFunctions exhausted = noFunctions 0 0
 
 -- the number by which a token that does not fit is refused
 abbrev pub unfitNumber : Token → ℕ
-unfitNumber t = pick (eqb (t .key) 1) (λ _. 8) λ _. 9
+unfitNumber t = pick (eqb (t .key) word.wrong) (λ _. tokenMalformed) λ _. grammarViolated
 
 -- ---- the rest of the reading, from each step on
 
@@ -65,7 +87,9 @@ module _ (s : List ℕ) where
 
   -- behind the declarations
   unfoldable pub bodyFrom : List ℕ → List ℕ → List ℕ → ℕ → Got Macro
-  bodyFrom rs fs ns c = onward (block s rs fs ns (2 * length s + 1) 16 c) λ body e. endFrom (record { registers = rs; functions = fs; arities = ns; body = body }) e
+  bodyFrom rs fs ns c =
+      onward (block s rs fs ns (2 * length s + 1) deepestNesting c) λ body e.
+      endFrom (record { registers = rs; functions = fs; arities = ns; body = body }) e
 
   -- behind the registers
   unfoldable pub functionsFrom : List ℕ → ℕ → Got Macro

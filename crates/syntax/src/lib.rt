@@ -1,9 +1,17 @@
 // The macro reader: from bytes to a macro (document 01, "Macro text" and "The questions").
 use blocks::Codes;
 use blocks::Follows;
+use blocks::POINT_SPACE;
 use blocks::Point;
 use blocks::State;
 use letters::Header;
+use letters::MOST_FUNCTIONS;
+use letters::MOST_REGISTERS;
+use letters::refusal_numbers::DECLARATION_WRONG;
+use letters::refusal_numbers::GRAMMAR_VIOLATED;
+use letters::refusal_numbers::POINTS_TOO_MANY;
+use letters::refusal_numbers::TEXT_TOO_LONG;
+use letters::refusal_numbers::TOKEN_MALFORMED;
 use phrases::Got;
 use tokens::Token;
 ghost use mathlib.Core.Path.{_≡_};
@@ -12,6 +20,7 @@ ghost use mathlib.Core.List.{[]};
 ghost use Prim.Native.Nat.{_≤_};
 ghost use lib.Dec.{eqb};
 ghost use lib.ListN.{take, length};
+ghost use Rattle.letters.specs.Editions.{mostRegisters, mostFunctions};
 ghost use Rattle.grammar.specs.Grammar.{binaryOf};
 ghost use Rattle.grammar.specs.Reading.{refused, listedT, registers as registersAt, functions as functionsAt, functionsT, arityOf};
 ghost use Rattle.tokens.specs.Tokens.{tokenAt};
@@ -22,19 +31,22 @@ ghost use Rattle.syntax.specs.Lists.{taken, Kept, refusedBy};
 ghost use Rattle.syntax.specs.Reads.{Reads};
 ghost use Rattle.syntax.specs.Top.{KeptRegisters, KeptFunctions, Finishes, headed, startOf, flagOf};
 
-// How deep braces may nest.
-const DEEPEST: usize = 16;
+/// The most bytes that a macro's text has.
+pub const LONGEST_TEXT: usize = 4096;
 
-/// A macro. A name is held as one number, its bytes as digits to base 256, the first byte lowest; 0 stands behind the last name.
+// How deep braces may nest.
+const DEEPEST_NESTING: usize = 16;
+
+/// A macro. A name is held as one number, its bytes as digits to base `tokens::KEY_BASE`, the first byte lowest; 0 stands behind the last name.
 pub struct Macro {
     /// How many registers and functions it has, and the functions' arities.
     pub header: Header,
     /// The names of its registers, as declared.
-    pub registers: [u64; 8],
+    pub registers: [u64; MOST_REGISTERS],
     /// The names of its functions, as declared.
-    pub functions: [u64; 4],
+    pub functions: [u64; MOST_FUNCTIONS],
     /// Its points.
-    pub points: [Point; 256],
+    pub points: [Point; POINT_SPACE],
     /// How many points it has; also the number of the end.
     pub count: u16,
 }
@@ -62,7 +74,7 @@ pub struct Registers {
     /// How many there are.
     pub count: usize,
     /// Their names; 0 behind the last.
-    pub names: [u64; 8],
+    pub names: [u64; MOST_REGISTERS],
 }
 
 /// The functions that were read, with their arities, or a refusal.
@@ -78,9 +90,9 @@ pub struct Functions {
     /// How many there are.
     pub count: usize,
     /// Their names; 0 behind the last.
-    pub names: [u64; 4],
+    pub names: [u64; MOST_FUNCTIONS],
     /// Their arities, 1 or 2; 0 behind the last.
-    pub arities: [u8; 4],
+    pub arities: [u8; MOST_FUNCTIONS],
 }
 
 // The number by which a token that does not fit the grammar is refused.
@@ -88,9 +100,9 @@ fn unfit_number(t: Token) -> u8
     ensures { λ r. ⌜ r ≡ unfitNumber t ⌝ }
 {
     if t.key == tokens::WRONG {
-        return 8;
+        return TOKEN_MALFORMED;
     }
-    9
+    GRAMMAR_VIOLATED
 }
 
 fn no_registers(number: u8, place: usize) -> Registers
@@ -102,7 +114,7 @@ fn no_registers(number: u8, place: usize) -> Registers
         place: place,
         at: 0,
         count: 0,
-        names: [0; 8],
+        names: [0; MOST_REGISTERS],
     }
 }
 
@@ -115,30 +127,30 @@ fn no_functions(number: u8, place: usize) -> Functions
         place: place,
         at: 0,
         count: 0,
-        names: [0; 4],
-        arities: [0; 4],
+        names: [0; MOST_FUNCTIONS],
+        arities: [0; MOST_FUNCTIONS],
     }
 }
 
 // Whether no register of this name can be declared any more.
-fn is_register_taken(names: [u64; 8], count: usize, k: u64) -> bool
-    requires { ⌜ Kept 8 names count ⌝ }
-    ensures { λ r. ⌜ r ≡ (eqb count 8 || taken k (take count names)) ⌝ }
+fn is_register_taken(names: [u64; MOST_REGISTERS], count: usize, k: u64) -> bool
+    requires { ⌜ Kept mostRegisters names count ⌝ }
+    ensures { λ r. ⌜ r ≡ (eqb count mostRegisters || taken k (take count names)) ⌝ }
 {
-    if count == 8 {
+    if count == MOST_REGISTERS {
         return true;
     }
     phrases::is_known(&names[..count], k)
 }
 
 // Behind the last register.
-fn registers_end(names: [u64; 8], count: usize, t: Token) -> Registers
-    requires { ⌜ Kept 8 names count ⌝ }
+fn registers_end(names: [u64; MOST_REGISTERS], count: usize, t: Token) -> Registers
+    requires { ⌜ Kept mostRegisters names count ⌝ }
     ensures { λ r. ⌜ r ≡ heldRegisters (listedT [] (length (take count names)) (take count names) t) ⌝ }
 {
     if t.key == tokens::SEMICOLON {
         if count == 0 {
-            return no_registers(9, t.start);
+            return no_registers(GRAMMAR_VIOLATED, t.start);
         }
         return Registers {
             ok: true,
@@ -154,16 +166,16 @@ fn registers_end(names: [u64; 8], count: usize, t: Token) -> Registers
 
 // The names of registers, and `;`.
 fn read_registers(text: &[u8], from: usize) -> Registers
-    ensures { λ r. ⌜ r ≡ heldRegisters (registersAt (now (text .entry)) 8 [] from) ⌝ }
+    ensures { λ r. ⌜ r ≡ heldRegisters (registersAt (now (text .entry)) mostRegisters [] from) ⌝ }
 {
-    let mut names = [0u64; 8];
+    let mut names = [0u64; MOST_REGISTERS];
     let mut count: usize = 0;
     let mut at = from;
     loop {
         let t = tokens::next(text, at);
         if tokens::is_name(t.key) {
             if is_register_taken(names, count, t.key) {
-                return no_registers(10, t.start);
+                return no_registers(DECLARATION_WRONG, t.start);
             }
             names[count] = t.key;
             count += 1;
@@ -175,11 +187,11 @@ fn read_registers(text: &[u8], from: usize) -> Registers
 }
 
 // Whether no function of this name can be declared any more.
-fn is_function_taken(regs: &[u64], names: [u64; 4], count: usize, k: u64) -> bool
-    requires { ⌜ (length (now regs) ≤ 8) × Kept 4 names count ⌝ }
-    ensures { λ r. ⌜ r ≡ (eqb count 4 || (taken k (now (regs .entry)) || taken k (take count names))) ⌝ }
+fn is_function_taken(regs: &[u64], names: [u64; MOST_FUNCTIONS], count: usize, k: u64) -> bool
+    requires { ⌜ (length (now regs) ≤ mostRegisters) × Kept mostFunctions names count ⌝ }
+    ensures { λ r. ⌜ r ≡ (eqb count mostFunctions || (taken k (now (regs .entry)) || taken k (take count names))) ⌝ }
 {
-    if count == 4 {
+    if count == MOST_FUNCTIONS {
         return true;
     }
     if phrases::is_known(regs, k) {
@@ -217,13 +229,18 @@ fn refused_functions(g: Got) -> Functions
 }
 
 // Behind the last function.
-fn functions_end(names: [u64; 4], arities: [u8; 4], count: usize, t: Token) -> Functions
-    requires { ⌜ Kept 4 names count × Kept 4 arities count ⌝ }
+fn functions_end(
+    names: [u64; MOST_FUNCTIONS],
+    arities: [u8; MOST_FUNCTIONS],
+    count: usize,
+    t: Token,
+) -> Functions
+    requires { ⌜ Kept mostFunctions names count × Kept mostFunctions arities count ⌝ }
     ensures { λ r. ⌜ r ≡ heldFunctions (listedT [] (length (take count names)) (take count names, take count arities) t) ⌝ }
 {
     if t.key == tokens::SEMICOLON {
         if count == 0 {
-            return no_functions(9, t.start);
+            return no_functions(GRAMMAR_VIOLATED, t.start);
         }
         return Functions {
             ok: true,
@@ -240,18 +257,18 @@ fn functions_end(names: [u64; 4], arities: [u8; 4], count: usize, t: Token) -> F
 
 // The entries of functions, and `;`.
 fn read_functions(text: &[u8], regs: &[u64], from: usize) -> Functions
-    requires { ⌜ length (now regs) ≤ 8 ⌝ }
-    ensures { λ r. ⌜ r ≡ heldFunctions (functionsAt (now (text .entry)) (now (regs .entry)) 4 [] [] from) ⌝ }
+    requires { ⌜ length (now regs) ≤ mostRegisters ⌝ }
+    ensures { λ r. ⌜ r ≡ heldFunctions (functionsAt (now (text .entry)) (now (regs .entry)) mostFunctions [] [] from) ⌝ }
 {
-    let mut names = [0u64; 4];
-    let mut arities = [0u8; 4];
+    let mut names = [0u64; MOST_FUNCTIONS];
+    let mut arities = [0u8; MOST_FUNCTIONS];
     let mut count: usize = 0;
     let mut at = from;
     loop {
         let t = tokens::next(text, at);
         if tokens::is_name(t.key) {
             if is_function_taken(regs, names, count, t.key) {
-                return no_functions(10, t.start);
+                return no_functions(DECLARATION_WRONG, t.start);
             }
             let g = arity(text, t.end);
             let Got::At(n, e) = g else {
@@ -269,7 +286,7 @@ fn read_functions(text: &[u8], regs: &[u64], from: usize) -> Functions
 
 // Perhaps a line of functions.
 fn functions_line(text: &[u8], regs: &[u64], at: usize) -> Functions
-    requires { ⌜ length (now regs) ≤ 8 ⌝ }
+    requires { ⌜ length (now regs) ≤ mostRegisters ⌝ }
     ensures { λ r. ⌜ r ≡ heldFunctions (functionsT (now (text .entry)) (now (regs .entry)) at (tokenAt (now (text .entry)) at)) ⌝ }
 {
     let t = tokens::next(text, at);
@@ -282,8 +299,8 @@ fn functions_line(text: &[u8], regs: &[u64], at: usize) -> Functions
         place: 0,
         at: at,
         count: 0,
-        names: [0; 4],
-        arities: [0; 4],
+        names: [0; MOST_FUNCTIONS],
+        arities: [0; MOST_FUNCTIONS],
     }
 }
 
@@ -296,9 +313,9 @@ fn no_macro() -> Macro
             functions: 0,
             binary: 0,
         },
-        registers: [0; 8],
-        functions: [0; 4],
-        points: [blocks::no_point(); 256],
+        registers: [0; MOST_REGISTERS],
+        functions: [0; MOST_FUNCTIONS],
+        points: [blocks::no_point(); POINT_SPACE],
         count: 0,
     }
 }
@@ -335,7 +352,7 @@ fn flag(n: u8) -> u8
 }
 
 // The functions of two arguments as a mask.
-fn binary_of(arities: [u8; 4]) -> u8
+fn binary_of(arities: [u8; MOST_FUNCTIONS]) -> u8
     ensures { λ r. ⌜ r ≡ binaryOf arities ⌝ }
 {
     flag(arities[0]) + 2 * flag(arities[1]) + 4 * flag(arities[2]) + 8 * flag(arities[3])
@@ -382,8 +399,8 @@ fn finish(
     let t = tokens::next(text, body.at);
     if t.key == tokens::END {
         let n = body.count;
-        if blocks::MOST < n {
-            return refused_answer(13, 0);
+        if blocks::MOST_POINTS < n {
+            return refused_answer(POINTS_TOO_MANY, 0);
         }
         blocks::redirect_range(first, second, 0, n, n);
         let points = blocks::points_of(code, first, second, n);
@@ -416,16 +433,16 @@ fn read_body(text: &[u8], rs: Registers, fs: Functions) -> Answer
     let arities = fs.arities;
     let m = fs.count;
     let st = start(fs.at);
-    let mut code = [0u64; 256];
-    let mut first = [0u16; 256];
-    let mut second = [0u16; 256];
+    let mut code = [0u64; POINT_SPACE];
+    let mut first = [0u16; POINT_SPACE];
+    let mut second = [0u16; POINT_SPACE];
     let body = blocks::block(
         text,
         &regs[..n],
         &funs[..m],
         &arities[..m],
         st,
-        DEEPEST,
+        DEEPEST_NESTING,
         &mut code,
         &mut first,
         &mut second,
@@ -455,8 +472,8 @@ fn read_rest(text: &[u8], rs: Registers) -> Answer
 pub fn read(text: &[u8]) -> Answer
     ensures { λ r. ⌜ Reads (now (text .entry)) r ⌝ }
 {
-    if 4096 < text.len() {
-        return refused_answer(7, 0);
+    if LONGEST_TEXT < text.len() {
+        return refused_answer(TEXT_TOO_LONG, 0);
     }
     let g = phrases::expect(text, tokens::VARS, 0);
     let Got::At(_, a) = g else {

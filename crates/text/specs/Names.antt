@@ -4,9 +4,10 @@ use mathlib.Core.List.{List, [], _∷_}
 use lib.Dec.{eqb}
 use Rattle.base.specs.Choice.{pick}
 use Rattle.base.specs.Recursion.{fixed}
+use Rattle.tokens.specs.Bytes.{keyBase}
 
 abbrev pub step : (ℕ → List ℕ) → ℕ → List ℕ
-step f w = pick (eqb w 0) (λ _. []) λ _. w % 256 ∷ f (w / 256)
+step f w = pick (eqb w 0) (λ _. []) λ _. w % keyBase ∷ f (w / keyBase)
 
 -- The bytes of a name.
 unfoldable pub nameText : ℕ → List ℕ

@@ -1,10 +1,14 @@
 // Text appended to a lent buffer: bytes, names, numerals, and lines with fields.
+use tokens::KEY_BASE;
 ghost use mathlib.Core.List.{[], _∷_};
 ghost use Prim.Native.Nat.{_+_};
 ghost use Rattle.text.specs.Appending.{Appended, Room};
 ghost use Rattle.text.specs.Numerals.{numeral};
 ghost use Rattle.text.specs.Names.{nameText};
 ghost use Rattle.text.specs.Templates.{part, filledIn};
+
+/// The fields of a template.
+pub const FIELDS: usize = 4;
 
 // Appends a byte at `at`, and answers the place behind it. Past the buffer's end nothing is stored; the place moves all the same.
 fn put_byte(out: &mut [u8], at: usize, byte: u8) -> usize
@@ -25,8 +29,8 @@ fn put_name(out: &mut [u8], at: usize, name: u64) -> usize
     let mut next = at;
     let mut rest = name;
     while rest != 0 {
-        next = put_byte(out, next, (rest % 256) as u8);
-        rest = rest / 256;
+        next = put_byte(out, next, (rest % KEY_BASE) as u8);
+        rest = rest / KEY_BASE;
     }
     next
 }
@@ -36,7 +40,7 @@ fn put_number(out: &mut [u8], at: usize, number: u64) -> usize
     requires { ⌜ Room at (numeral number) ⌝ }
     ensures { λ r. ⌜ Appended (now (out .entry)) at (numeral number) (now (out .exit)) r ⌝ }
 {
-    let last = 48 + (number % 10) as u8;
+    let last = b'0' + (number % 10) as u8;
     if number < 10 {
         return put_byte(out, at, last);
     }
@@ -45,7 +49,7 @@ fn put_number(out: &mut [u8], at: usize, number: u64) -> usize
 }
 
 // Appends what a byte of a template stands for.
-fn put_part(out: &mut [u8], at: usize, byte: u8, fields: [u64; 4]) -> usize
+fn put_part(out: &mut [u8], at: usize, byte: u8, fields: [u64; FIELDS]) -> usize
     requires { ⌜ Room at (part byte fields) ⌝ }
     ensures { λ r. ⌜ Appended (now (out .entry)) at (part byte fields) (now (out .exit)) r ⌝ }
 {
@@ -64,7 +68,7 @@ fn put_part(out: &mut [u8], at: usize, byte: u8, fields: [u64; 4]) -> usize
 }
 
 /// Appends a template with its fields: in it `0` to `3` stand for the names of the fields and `4` to `7` for their numerals.
-pub fn put_line(out: &mut [u8], at: usize, template: &[u8], fields: [u64; 4]) -> usize
+pub fn put_line(out: &mut [u8], at: usize, template: &[u8], fields: [u64; FIELDS]) -> usize
     requires { ⌜ Room at (filledIn (now template) fields) ⌝ }
     ensures { λ r. ⌜ Appended (now (out .entry)) at (filledIn (now (template .entry)) fields) (now (out .exit)) r ⌝ }
 {

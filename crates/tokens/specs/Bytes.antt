@@ -40,15 +40,22 @@ unfoldable pub run : List ℕ → ℕ
 run [] = 0
 run (b ∷ s) = pick (inner b) (λ _. suc (run s)) λ _. 0
 
+-- "A name is a lower-case letter and up to seven more lower-case letters, digits or `_`."
+abbrev pub longestName : ℕ
+longestName = 8
+
 -- how many bytes the token in front has; 0 where there is none, or a name of more than eight bytes
 unfoldable pub width : List ℕ → ℕ
 width [] = 0
 width (b ∷ s) =
-    pick (lower b) (λ _. pick (leb (run (b ∷ s)) 8) (λ _. run (b ∷ s)) λ _. 0)
+    pick (lower b) (λ _. pick (leb (run (b ∷ s)) longestName) (λ _. run (b ∷ s)) λ _. 0)
     λ _. pick (mark b) (λ _. pick (eqb (getD s 0 0) 61) (λ _. 2) λ _. 0)
     λ _. pick (symbol b) (λ _. 1) λ _. 0
 
--- A token is held as a number: its bytes as digits to base 256, the first byte lowest.
+-- A token is held as a number: its bytes as digits to this base, the first byte lowest.
+abbrev pub keyBase : ℕ
+keyBase = 256
+
 abbrev pub key : List ℕ → ℕ
 key [] = 0
-key (b ∷ s) = b + 256 * key s
+key (b ∷ s) = b + keyBase * key s

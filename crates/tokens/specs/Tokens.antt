@@ -7,6 +7,7 @@ use lib.ListN.{length, drop}
 use lib.Seq.{slice}
 use Rattle.base.specs.Choice.{pick}
 use Rattle.tokens.specs.Bytes.{gap, width, key}
+use Rattle.tokens.specs.Words as word
 use Rattle.tokens.specs.declared.Token.{Token}
 
 -- the first place at or after a place that is no blank and in no comment
@@ -17,10 +18,10 @@ abbrev pub token : ℕ → ℕ → ℕ → Token
 token k p e = record { key = k; start = p; end = e }
 
 -- The token at or after a place: its number, its first byte and the byte after it.
--- The end of the text has the number 0 and stands at the text's length; what is no token has the number 1.
+-- The end of the text stands at the text's length.
 unfoldable pub tokenAt : List ℕ → ℕ → Token
 tokenAt s at =
     let p = onward s at in
-    pick (leb (length s) p) (λ _. token 0 (length s) (length s))
-    λ _. pick (eqb (width (drop p s)) 0) (λ _. token 1 p p)
+    pick (leb (length s) p) (λ _. token word.end (length s) (length s))
+    λ _. pick (eqb (width (drop p s)) 0) (λ _. token word.wrong p p)
     λ _. token (key (slice p (p + width (drop p s)) s)) p (p + width (drop p s))

@@ -4,7 +4,14 @@ use Prim.Native.Nat.{ℕ, _%_}
 use mathlib.Core.Bool.{Bool, not, _&&_, _||_}
 use mathlib.Core.List.{[], _∷_}
 use lib.Dec.{eqb}
-use Rattle.tokens.specs.Bytes.{lower, key}
+use Rattle.tokens.specs.Bytes.{lower, keyBase, key}
+
+-- What stands in a token's place: at the end of the text, and for what is no token. Every token is greater.
+abbrev pub end : ℕ
+end = 0
+
+abbrev pub wrong : ℕ
+wrong = 1
 
 -- "Words that are not names: vars funs skip assume assert if else while."
 abbrev pub vars : ℕ
@@ -73,7 +80,7 @@ slash = key (47 ∷ [])
 
 -- A token is a name if it begins with a lower-case letter and is none of the words; a token that begins so goes on as a name does.
 abbrev pub isName : ℕ → Bool
-isName k = lower (k % 256) && not (keyword k)
+isName k = lower (k % keyBase) && not (keyword k)
 
 -- When two names are the same.
 abbrev pub sameName : ℕ → ℕ → Bool

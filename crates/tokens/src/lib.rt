@@ -4,11 +4,17 @@ ghost use mathlib.Core.Bool.{true, false};
 ghost use Prim.Native.Nat.{_+_, _≤_, _<_};
 ghost use lib.ListN.{length, drop};
 ghost use lib.Seq.{slice};
-ghost use Rattle.tokens.specs.Bytes.{blank, lower, digit, inner, symbol, mark, gap, run, width, key};
+ghost use Rattle.tokens.specs.Bytes.{blank, lower, digit, inner, symbol, mark, gap, run, longestName, width, keyBase, key};
 ghost use Rattle.tokens.specs.Tokens.{tokenAt};
 ghost use Rattle.tokens.specs.Words.{keyword, isName, sameName};
 
-// Words and signs, as the numbers of their bytes. 0 is the end of the text, 1 is what is no token.
+/// The most bytes that a name has.
+pub const LONGEST_NAME: usize = 8;
+
+/// A token is held as a number: its bytes as digits to this base, the first byte lowest.
+pub const KEY_BASE: u64 = 256;
+
+// Words and signs, as the numbers of their bytes.
 
 /// What stands for the end of the text.
 pub const END: u64 = 0;
@@ -78,7 +84,7 @@ pub const SLASH: u64 = 0x2f;
 
 /// A token.
 pub struct Token {
-    /// Its bytes as one number, digits to base 256, the first byte lowest; 0 at the end of the text, 1 for what is no token.
+    /// Its bytes as one number, digits to base `KEY_BASE`, the first byte lowest; `END` at the end of the text, `WRONG` for what is no token.
     pub key: u64,
     /// The place of its first byte.
     pub start: usize,
@@ -224,14 +230,14 @@ fn run_end(text: &[u8], from: usize) -> usize
 
 // The bytes from `start` to `end` as one number.
 fn key_of(text: &[u8], start: usize, end: usize) -> u64
-    requires { ⌜ (start ≤ end) × (end ≤ length (now text)) × (end ≤ start + 8) ⌝ }
+    requires { ⌜ (start ≤ end) × (end ≤ length (now text)) × (end ≤ start + longestName) ⌝ }
     ensures { λ r. ⌜ r ≡ key (slice start end (now (text .entry))) ⌝ }
 {
     let mut v: u64 = 0;
     let mut at = end;
     while start < at {
         at -= 1;
-        v = v * 256 + wide(text[at]);
+        v = v * KEY_BASE + wide(text[at]);
     }
     v
 }
@@ -244,7 +250,7 @@ fn width_at(text: &[u8], at: usize) -> usize
     let b = text[at];
     if is_lower(b) {
         let n = run_end(text, at) - at;
-        if n <= 8 {
+        if n <= LONGEST_NAME {
             return n;
         }
         return 0;
@@ -324,7 +330,7 @@ pub fn is_keyword(k: u64) -> bool
 pub fn is_name(k: u64) -> bool
     ensures { λ r. ⌜ r ≡ isName k ⌝ }
 {
-    let b = k % 256;
+    let b = k % KEY_BASE;
     if b < 97 {
         return false;
     }

@@ -1,8 +1,9 @@
 -- What the verdict program makes of a file.
 use mathlib.Core.Path.{_≡_}
 use mathlib.Core.List.{List}
-use Prim.Native.Nat.{ℕ}
+use Prim.Native.Nat.{ℕ, _+_}
 use lib.ListN.{length}
+use Rattle.grammar.specs.Limits.{longestText}
 use Rattle.files.specs.declared.Input.{Input}
 use Rattle.files.specs.declared.Lines as files
 use Rattle.files.specs.Input.{Received}
@@ -11,7 +12,7 @@ use Rattle.verdict_lines.specs.Prints.{Prints}
 
 -- A file is read to its end, or one byte more of it than a macro may have.
 abbrev pub mostRead : ℕ
-mostRead = 4097
+mostRead = longestText + 1
 
 -- The lines are those of what was read; where reading failed nothing is answered. What the system's reads give is free.
 pub record AnswersRead (entry : List ℕ) (r : files.Lines) (exit : List ℕ) : Type 0 where

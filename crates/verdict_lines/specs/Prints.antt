@@ -6,6 +6,7 @@ use Prim.Native.Nat.{ℕ, _≤_}
 use lib.Dec.{leb}
 use lib.ListN.{length, drop}
 use Rattle.base.specs.Choice.{pick}
+use Rattle.letters.specs.RefusalNumbers.{tableTooSmall}
 use Rattle.semantics.specs.Terms.{Trace, begin, extend, state}
 use Rattle.semantics.specs.Models.{Feasible}
 use Rattle.semantics.specs.Coherence.{Coherent}
@@ -19,15 +20,24 @@ use Rattle.text.specs.Numerals.{numeral}
 use Rattle.report.specs.Lines.{Names, Printed, pass, incoherent, fail, refused, line, refusedWord, atWord, report}
 use Rattle.report.specs.Shown.{namesOf}
 
+-- "with a table of 65,536 bytes"
+abbrev pub tableBytes : ℕ
+tableBytes = 65536
+
 -- "N = 341"
 abbrev pub tablePairs : ℕ
 tablePairs = 341
+
+-- The answer of a search over so many pairs is no longer.
+abbrev pub answerBytes : ℕ
+answerBytes = 4096
 
 -- The names as they are declared.
 abbrev pub declaredNames : Macro → Names
 declaredNames m = namesOf (m .registers) (m .functions)
 
--- What is printed of a macro: the verdict over all its executions, or 14 where there are more than N pairs. 6 is not among the answers.
+-- What is printed of a macro: the verdict over all its executions, or `tableTooSmall` where there are more than N pairs.
+-- `outputTooSmall` is not among the answers.
 -- "`pairs` and how many have first executions before the event, or exist. Unless pass: `letters` [..] On fail also `values`".
 unfoldable pub Told : Macro → Printed → Type 0
 Told m (pass k) =
@@ -36,7 +46,7 @@ Told m (pass k) =
 Told m (incoherent k ls) = Shows Feasible (begin (headerOf m)) (m .body) breaking k ls × (k ≤ tablePairs)
 Told m (fail k ls tables) =
     Shows Feasible (begin (headerOf m)) (m .body) failing k ls × (k ≤ tablePairs) × ShownModel (state (extend (begin (headerOf m)) ls)) tables
-Told m (refused number place) = (number ≡ 14) × (place ≡ 0) × PairsPass Feasible (begin (headerOf m)) (m .body) tablePairs
+Told m (refused number place) = (number ≡ tableTooSmall) × (place ≡ 0) × PairsPass Feasible (begin (headerOf m)) (m .body) tablePairs
 
 -- The lines for a text.
 pub record Says (text lines : List ℕ) : Type 0 where
@@ -49,7 +59,7 @@ abbrev pub mostBytes : ℕ
 mostBytes = 32768
 
 -- A lent buffer holds `entry` and then `exit`, and `size` is given: the lines stand in front and the bytes behind them stay; or, in a buffer
--- that is too small, which one of 32,768 bytes never is, all bytes stay, and 0 is given.
+-- that is too small, which one of `mostBytes` never is, all bytes stay, and 0 is given.
 pub record Prints (text entry : List ℕ) (size : ℕ) (exit : List ℕ) : Type 0 where
   pub lines : List ℕ
   pub says : Says text lines

@@ -2,34 +2,48 @@
 use files::Input;
 use files::Lines;
 use report::ReportWritten;
+use report::WORD_VALUES;
+use syntax::LONGEST_TEXT;
 ghost use mathlib.Core.Path.{_≡_};
 ghost use lib.ListN.{length};
 ghost use Rattle.report.specs.Bound.{Limited};
-ghost use Rattle.verdict_lines.specs.Prints.{Prints};
+ghost use Rattle.verdict_lines.specs.Prints.{mostBytes, Prints};
 ghost use Rattle.files.specs.Lines.{known, Answers};
 ghost use Rattle.verdict_lines.specs.Answered.{AnswersRead};
 ghost use Rattle.verdict_lines.specs.Reported.{reported as reportedOf, sizeOf, Reports};
 
 // One byte more than the longest text that is taken.
-fn text_space() -> [u8; 4097] {
-    [0; 4097]
-}
+const MOST_READ: usize = LONGEST_TEXT + 1;
 
-// Room for 341 pairs.
-fn table_space() -> [u8; 65536] {
-    [0; 65536]
-}
+// The bytes of the table: room for 341 pairs.
+const TABLE_BYTES: usize = 65536;
 
 // The answer of a search over 341 pairs is shorter.
-fn answer_space() -> [u8; 4096] {
-    [0; 4096]
-}
+const ANSWER_BYTES: usize = 4096;
 
 /// The lines are never longer.
-pub fn line_space() -> [u8; 32768]
-    ensures { λ r. ⌜ 32768 ≡ length r ⌝ }
+pub const MOST_BYTES: usize = 32768;
+
+// Room for what is read of a text.
+fn text_space() -> [u8; MOST_READ] {
+    [0; MOST_READ]
+}
+
+// Room for the pairs of a search.
+fn table_space() -> [u8; TABLE_BYTES] {
+    [0; TABLE_BYTES]
+}
+
+// Room for the answer of a search.
+fn answer_space() -> [u8; ANSWER_BYTES] {
+    [0; ANSWER_BYTES]
+}
+
+/// Room for the lines of any text.
+pub fn line_space() -> [u8; MOST_BYTES]
+    ensures { λ r. ⌜ mostBytes ≡ length r ⌝ }
 {
-    [0; 32768]
+    [0; MOST_BYTES]
 }
 
 // The verdict as the report takes it.
@@ -40,11 +54,11 @@ fn reported(verdict: search::Verdict) -> report::Verdict
         search::Verdict::Pass(pairs) => report::Verdict::Pass(pairs as u64),
         search::Verdict::Fail(pairs, letters) => report::Verdict::Fail(
             pairs as u64,
-            (letters % 65536) as u16,
+            (letters % WORD_VALUES) as u16,
         ),
         search::Verdict::Incoherent(pairs, letters) => report::Verdict::Incoherent(
             pairs as u64,
-            (letters % 65536) as u16,
+            (letters % WORD_VALUES) as u16,
         ),
         search::Verdict::Refused(number, place) => report::Verdict::Refused(number, place as u64),
     }
@@ -74,7 +88,7 @@ fn write_verdict(text: &[u8], verdict: search::Verdict, answer: &[u8], lines: &m
     size(written)
 }
 
-/// Writes the lines for the text of a macro into the front of a lent buffer, and gives the number of their bytes, which is at most 32,768.
+/// Writes the lines for the text of a macro into the front of a lent buffer, and gives the number of their bytes, which is at most `MOST_BYTES`.
 /// A buffer that is too small for them stays as it is, and 0 is given.
 pub fn write_lines(text: &[u8], lines: &mut [u8]) -> usize
     ensures { λ r. ⌜ Prints (now (text .entry)) (now (lines .entry)) r (now (lines .exit)) ⌝ }
@@ -100,8 +114,8 @@ pub fn answer_to(text: &[u8], input: Input, lines: &mut [u8]) -> Lines
     }
 }
 
-/// Reads a text from a file, and writes its lines into the front of a lent buffer. Of a text of more than 4,096 bytes, 4,097 are read: it
-/// is refused for its length.
+/// Reads a text from a file, and writes its lines into the front of a lent buffer. Of a text that is too long one byte more than
+/// `LONGEST_TEXT` is read: it is refused for its length.
 pub fn answer(fd: i32, lines: &mut [u8]) -> Lines
     ensures { λ r. ⌜ AnswersRead (now (lines .entry)) r (now (lines .exit)) ⌝ }
 {

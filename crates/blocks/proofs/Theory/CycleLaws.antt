@@ -9,6 +9,9 @@ use lib.ListN.{length, length-append}
 use borrow.Author.Tests.{eq-eqb, ne-eqb, leb-true, leb-false, eqb-true, lt-ltb, le-ltb}
 use Rattle.base.proofs.Theory.Choice.{byTest}
 use Rattle.base.specs.Each.{each}
+use Rattle.letters.specs.RefusalNumbers.{nestingTooDeep}
+use Rattle.grammar.specs.Limits.{mostPoints}
+use Rattle.blocks.specs.Held.{forkKind, unknown, tooMany}
 use Rattle.letters.specs.declared.Letter.{Letter}
 use Rattle.macros.specs.Tree.{Condition, test, Statement, skip, perform, assert, if, while, Else, present, Block, empty, _then_}
 use Rattle.macros.specs.Points.{size, sizeElse, sizeBlock, entry, compile, compileElse, compileBlock}
@@ -62,8 +65,9 @@ outcome-behind code st q r (got x e) a n f o = fine-then f (subst (λ c. Fine q 
 outcome-behind code st q r (refused m p) a n f o = o
 outcome-behind code st q r exhausted a n f o = o
 
-pub moved-count : {st r : Progress} {e : ℕ} → st .count ≤ 257 → Fine st r [] e → r .count ≡ st .count
-moved-count {st} {r} h f = byTest (leb (st .count + 0) 256) (λ t. let l = leb-true (st .count + 0) 256 t in omega (arith, f .low l)) λ t. let l = leb-false (st .count + 0) 256 t in omega (arith, f .high l)
+pub moved-count : {st r : Progress} {e : ℕ} → st .count ≤ tooMany → Fine st r [] e → r .count ≡ st .count
+moved-count {st} {r} h f = byTest (leb (st .count + 0) mostPoints) (λ t. let l = leb-true (st .count + 0) mostPoints t in omega (arith, f .low l))
+    λ t. let l = leb-false (st .count + 0) mostPoints t in omega (arith, f .high l)
 
 -- ---- blocks, statement by statement
 
@@ -141,12 +145,12 @@ module _ (s rs fs ns : List ℕ) (d : ℕ) where
 
   -- The block from cur₀ on, as far as cur: a beginning of it is read.
   pub record Reached (from : ℕ) (cur₀ cur : Progress) : Type 0 where
-    pub counted : cur .count ≤ 257
+    pub counted : cur .count ≤ tooMany
     pub origin : from ≡ cur₀ .count
     pub on : cur₀ .at ≤ cur .at
     pub sofar : (k : ℕ) → Enough s rs fs ns d (cur₀ .at) k → Begun cur₀ cur k
 
-  pub reached-start : (st cur : Progress) → st .count ≤ 257 → Fine st cur [] (st .at) → Reached (st .count) cur cur
+  pub reached-start : (st cur : Progress) → st .count ≤ tooMany → Fine st cur [] (st .at) → Reached (st .count) cur cur
   unfolding blockCode compile
   reached-start st cur h f = record {
     counted = fine-count f;
@@ -168,7 +172,7 @@ module _ (s rs fs ns : List ℕ) (d : ℕ) where
 
   module _ (from : ℕ) (cur₀ cur : Progress) (R : Reached from cur₀ cur) (t : Token) (e : t ≡ tokenAt s (cur .at)) where
     -- the end of the block
-    block-done : (st : Progress) → st .count ≤ 257 → Fine st cur₀ [] (st .at) → closing s rs fs ns (t .key) ≡ true → BlockRead s rs fs ns d st cur
+    block-done : (st : Progress) → st .count ≤ tooMany → Fine st cur₀ [] (st .at) → closing s rs fs ns (t .key) ≡ true → BlockRead s rs fs ns d st cur
     unfolding block
     block-done st h f c = record {
       outcome = λ k l.
@@ -183,15 +187,15 @@ module _ (s rs fs ns : List ℕ) (d : ℕ) where
           subst (Outcome blockCode st cur) (sym whole) (fine-then f (subst (λ n. Fine cur₀ cur (blockCode b n) (cur .at)) n F));
     }
 
-    pub block-brace : (st : Progress) → st .count ≤ 257 → Fine st cur₀ [] (st .at) → t .key ≡ word.rbrace → BlockRead s rs fs ns d st cur
+    pub block-brace : (st : Progress) → st .count ≤ tooMany → Fine st cur₀ [] (st .at) → t .key ≡ word.rbrace → BlockRead s rs fs ns d st cur
     block-brace st h f k = block-done st h f (ap (λ n. closing s rs fs ns n) k)
 
-    pub block-end : (st : Progress) → st .count ≤ 257 → Fine st cur₀ [] (st .at) → t .key ≡ 0 → BlockRead s rs fs ns d st cur
+    pub block-end : (st : Progress) → st .count ≤ tooMany → Fine st cur₀ [] (st .at) → t .key ≡ 0 → BlockRead s rs fs ns d st cur
     block-end st h f k = block-done st h f (ap (λ n. closing s rs fs ns n) k)
 
     module _ (one : Progress) (S : StatementRead s rs fs ns d cur one) where
       -- where a statement that was read ends
-      statement-at : one .ok ≡ true → (cur .at < one .at) × (cur .at < length s) × (one .count ≤ 257)
+      statement-at : one .ok ≡ true → (cur .at < one .at) × (cur .at < length s) × (one .count ≤ tooMany)
       statement-at h =
           let k = 2 * (length s - cur .at) in
           let (c, a, g, f) = outcome-fine statementCode cur one (statement s rs fs ns (suc k) d (cur .at)) (S .outcome k (omega arith)) h in
@@ -315,7 +319,7 @@ module _ (s rs fs ns : List ℕ) (t : Token) (st : Progress) where
 
 module _ (s rs fs ns : List ℕ) (d : ℕ) (st : Progress) (t : Token) (e : t ≡ tokenAt s (st .at)) where
   -- the word, and what stands behind it
-  module _ (v : st .count ≤ 257) (p r : Progress) (f : Fine st p [] (t .end)) where
+  module _ (v : st .count ≤ tooMany) (p r : Progress) (f : Fine st p [] (t .end)) where
     pub statement-if : t .key ≡ word.if → ConditionalRead s rs fs ns d p r → StatementRead s rs fs ns d st r
     unfolding statement
     statement-if i C = record {
@@ -338,7 +342,7 @@ module _ (s rs fs ns : List ℕ) (d : ℕ) (st : Progress) (t : Token) (e : t �
 
   -- ---- braces
 
-  pub braces-deep : (r : Progress) → t .key ≡ word.lbrace → d ≡ 0 → Refusal r 12 (t .start) → BracesRead s rs fs ns d st r
+  pub braces-deep : (r : Progress) → t .key ≡ word.lbrace → d ≡ 0 → Refusal r nestingTooDeep (t .start) → BracesRead s rs fs ns d st r
   braces-deep r h z o = record { outcome = λ k l. rw (z, ← e, eq-eqb _ word.lbrace h) o }
 
   pub braces-unfit : (h : number.Got) (r : Progress) → (t .key ≡ word.lbrace → ⊥) → h ≡ plain (unfit t) → Passed st r h → BracesRead s rs fs ns d st r
@@ -348,7 +352,7 @@ module _ (s rs fs ns : List ℕ) (d : ℕ) (st : Progress) (t : Token) (e : t �
       go k zero = rw (← e, ne-eqb _ word.lbrace n) (rw p at q)
       go k (suc d) = rw (← e, ne-eqb _ word.lbrace n) (rw p at q)
 
-  module _ (h : t .key ≡ word.lbrace) (n : d ≡ 0 → ⊥) (v : st .count ≤ 257) (p q : Progress) (f : Fine st p [] (t .end))
+  module _ (h : t .key ≡ word.lbrace) (n : d ≡ 0 → ⊥) (v : st .count ≤ tooMany) (p q : Progress) (f : Fine st p [] (t .end))
       (B : BlockRead s rs fs ns (d - 1) p q) where
     abbrev brace : (st .at < t .end) × (t .end ≤ length s)
     brace = token-on s (st .at) t e (subst (λ n. 2 ≤ n) (sym h) (omega arith))
@@ -385,7 +389,7 @@ module _ (s rs fs ns : List ℕ) (d : ℕ) (st : Progress) (t : Token) (e : t �
         go b m y (refused n v) a g = rw g at u
         go b m y exhausted a g = absurd (a refl)
 
-    pub block-count : q .ok ≡ true → q .count ≤ 257
+    pub block-count : q .ok ≡ true → q .count ≤ tooMany
     block-count i =
         let k = 2 * (length s - st .at) in
         let (b, m, w, j) = outcome-fine blockCode st q (block s rs fs ns k (d - 1) (t .end)) (block-inside k (omega arith)) i in
@@ -397,7 +401,8 @@ module _ (s rs fs ns : List ℕ) (d : ℕ) (st : Progress) (t : Token) (e : t �
   unfolding elseCode compileElse
   else-absent r h f = record { outcome = λ k l. rw (← e, ne-eqb _ word.else h) f }
 
-  pub else-present : (p r : Progress) → t .key ≡ word.else → st .count ≤ 257 → Fine st p [] (t .end) → BracesRead s rs fs ns d p r → ElseRead s rs fs ns d st r
+  pub else-present : (p r : Progress) → t .key ≡ word.else → st .count ≤ tooMany → Fine st p [] (t .end) → BracesRead s rs fs ns d p r
+      → ElseRead s rs fs ns d st r
   unfolding elseCode compileElse blockCode
   else-present p r h v f B = record {
     outcome = λ k l.
@@ -409,7 +414,7 @@ module _ (s rs fs ns : List ℕ) (d : ℕ) (st : Progress) (t : Token) (e : t �
   }
 
 -- where braces that were read end
-pub braces-at : (s rs fs ns : List ℕ) (d : ℕ) (p y : Progress) → BracesRead s rs fs ns d p y → y .ok ≡ true → (p .at < y .at) × (y .count ≤ 257)
+pub braces-at : (s rs fs ns : List ℕ) (d : ℕ) (p y : Progress) → BracesRead s rs fs ns d p y → y .ok ≡ true → (p .at < y .at) × (y .count ≤ tooMany)
 braces-at s rs fs ns d p y B h =
     let k = 2 * (length s - p .at) in
     let (b, m, g, f) = outcome-fine blockCode p y (bracesAt s rs fs ns d k (p .at)) (B .outcome k (omega arith)) h in
@@ -435,7 +440,7 @@ looped-fine c b st p y a e F G =
     let m : length (statementCode (while c b) base) ≡ suc (length pb) = statement-length (while c b) base ∙ size-while c b ∙ ap suc (sym m₂) in
     let turn = each (within (base + 1) (y .count) base) in
     let start-at = begins (base + 1) (y .count) base in
-    fine-changed {ps = w ∷ pb} base (forked (turn (y .points)) base start-at 256) (statementCode (while c b) base) (fine-then F G) m
+    fine-changed {ps = w ∷ pb} base (forked (turn (y .points)) base start-at unknown) (statementCode (while c b) base) (fine-then F G) m
     λ old ds H h Q.
     let low : p .count ≡ base + 1 = F .low (omega arith) in
     let all = length-append ds (w ∷ pb) in let one = length-append ds (w ∷ []) in
@@ -447,13 +452,14 @@ looped-fine c b st p y a e F G =
       size = H .size;
       count = let k = length-append ds (statementCode (while c b) base) in omega arith;
       points =
-          ap (λ ps. forked (turn ps) base start-at 256) (Q .points ∙ ap (over old) (regroup ds w pb))
-          ∙ ap (λ ps. forked ps base start-at 256)
+          ap (λ ps. forked (turn ps) base start-at unknown) (Q .points ∙ ap (over old) (regroup ds w pb))
+          ∙ ap (λ ps. forked ps base start-at unknown)
           (over-range old (ds ++ w ∷ []) pb [] (base + 1) (y .count) base (omega arith) (omega arith)
           ∙ ap (over old) (sym (regroup ds w (map (redirected base) pb))))
-          ∙ ap (λ n. forked (over old (ds ++ w ∷ map (redirected base) pb)) n start-at 256) start
-          ∙ over-forked old ds (map (redirected base) pb) w start-at 256
-          ∙ (λ i. over old (ds ++ point 2 (test c) ((ap (λ n. begins (base + 1) n base) end ∙ begins-entry (base + 1) (sizeBlock b) base) i) 256 ∷ body i));
+          ∙ ap (λ n. forked (over old (ds ++ w ∷ map (redirected base) pb)) n start-at unknown) start
+          ∙ over-forked old ds (map (redirected base) pb) w start-at unknown
+          ∙ (λ i. over old
+          (ds ++ point forkKind (test c) ((ap (λ n. begins (base + 1) n base) end ∙ begins-entry (base + 1) (sizeBlock b) base) i) unknown ∷ body i));
     })
   where
     regroup : (ds : List Point) (w : Point) (pb : List Point) → ds ++ w ∷ pb ≡ (ds ++ w ∷ []) ++ (pb ++ [])
@@ -472,8 +478,8 @@ branched-fine c b o st p y z a e n F G E =
     let m₁ = block-length b (p .count) in let m₂ = else-length o (y .count) in
     let m₃ = length-append pb pe in
     let m : length (statementCode (if c b o) base) ≡ suc (length (pb ++ pe)) = statement-length (if c b o) base ∙ size-if c b o ∙ omega arith in
-    let holds = begins (base + 1) (y .count) 256 in
-    let fails = begins (y .count) (z .count) 256 in
+    let holds = begins (base + 1) (y .count) unknown in
+    let fails = begins (y .count) (z .count) unknown in
     fine-changed {ps = w ∷ (pb ++ pe)} base (forked (z .points) base holds fails) (statementCode (if c b o) base) (fine-then (fine-then F G) E) m
     λ old ds H h Q.
     let low : p .count ≡ base + 1 = F .low (omega arith) in
@@ -481,9 +487,9 @@ branched-fine c b o st p y z a e n F G E =
     let all = length-append ds (w ∷ (pb ++ pe)) in
     let count = Q .count in let start = H .count in
     let end : z .count ≡ base + 1 + sizeBlock b + sizeElse o = omega arith in
-    let yes-at = ap (λ n. begins (base + 1) n 256) mid ∙ begins-entry (base + 1) (sizeBlock b) 256 in
-    let no-at : fails ≡ entry (sizeElse o) (base + 1 + sizeBlock b) 256 =
-    (λ j. begins (mid j) (end j) 256) ∙ begins-entry (base + 1 + sizeBlock b) (sizeElse o) 256 in
+    let yes-at = ap (λ n. begins (base + 1) n unknown) mid ∙ begins-entry (base + 1) (sizeBlock b) unknown in
+    let no-at : fails ≡ entry (sizeElse o) (base + 1 + sizeBlock b) unknown =
+    (λ j. begins (mid j) (end j) unknown) ∙ begins-entry (base + 1 + sizeBlock b) (sizeElse o) unknown in
     subst (λ x. Holds old x (ds ++ statementCode (if c b o) base)) (changed-some z base _ (omega arith) (omega arith))
     (record {
       size = H .size;
@@ -491,9 +497,10 @@ branched-fine c b o st p y z a e n F G E =
       points =
           (λ i. forked (Q .points i) (start i) holds fails)
           ∙ over-forked old ds (pb ++ pe) w holds fails
-          ∙ (λ i. over old (ds ++ point 2 (test c) (yes-at i) (no-at i) ∷ (blockCode b (low i) ++ elseCode o (mid i))))
-          ∙ ap (λ ps. over old (ds ++ point 2 (test c) (entry (sizeBlock b) (base + 1) 256) (entry (sizeElse o) (base + 1 + sizeBlock b) 256) ∷ ps))
-          (sym (map-append heldPoint (compileBlock b (base + 1) 256) (compileElse o (base + 1 + sizeBlock b) 256)));
+          ∙ (λ i. over old (ds ++ point forkKind (test c) (yes-at i) (no-at i) ∷ (blockCode b (low i) ++ elseCode o (mid i))))
+          ∙ ap (λ ps. over old
+          (ds ++ point forkKind (test c) (entry (sizeBlock b) (base + 1) unknown) (entry (sizeElse o) (base + 1 + sizeBlock b) unknown) ∷ ps))
+          (sym (map-append heldPoint (compileBlock b (base + 1) unknown) (compileElse o (base + 1 + sizeBlock b) unknown)));
     })
 
 module _ (s rs : List ℕ) (st p : Progress) (g : letter.GotLetter) (i : g ≡ lettered test (condition s rs (st .at))) (u : Settled 2 st p g) where
@@ -504,7 +511,7 @@ module _ (s rs : List ℕ) (st p : Progress) (g : letter.GotLetter) (i : g ≡ l
   told : p .ok ≡ true → (c : Condition) × (a : ℕ) × (condition s rs (st .at) ≡ got c a) × Fine st p (waiting 2 (test c) ∷ []) a
   told ok = outcome-fine (λ c _. waiting 2 (test c) ∷ []) st p (condition s rs (st .at)) tested-outcome ok
 
-  pub condition-at : p .ok ≡ true → (st .at < p .at) × (st .at < length s) × (p .count ≤ 257)
+  pub condition-at : p .ok ≡ true → (st .at < p .at) × (st .at < length s) × (p .count ≤ tooMany)
   condition-at ok = let (c, a, w, f) = told ok in let (x, y) = condition-on s rs (st .at) c a w in (omega (arith, f .at), y, fine-count f)
 
   module _ (fs ns : List ℕ) (d : ℕ) where
@@ -570,5 +577,5 @@ module _ (s rs : List ℕ) (st p : Progress) (g : letter.GotLetter) (i : g ≡ l
 
 -- ---- small facts for the calls
 
-pub ready : {rs fs ns : List ℕ} {n m : ℕ} → Ready rs fs ns n → m ≤ 257 → Ready rs fs ns m
+pub ready : {rs fs ns : List ℕ} {n m : ℕ} → Ready rs fs ns n → m ≤ tooMany → Ready rs fs ns m
 ready r h = record { few = r .few; counted = h }

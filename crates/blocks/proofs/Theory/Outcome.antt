@@ -5,6 +5,7 @@ use lib.Dec.{ltb}
 use lib.ListN.{getD, set}
 use Rattle.base.specs.Choice.{pick}
 use Rattle.base.specs.Each.{each}
+use Rattle.blocks.specs.Held.{unknown}
 use Rattle.blocks.specs.Held.{point, unused, Progress}
 use Rattle.blocks.proofs.Theory.Held.{redirected}
 use Rattle.blocks.specs.declared.Point.{Point}
@@ -30,8 +31,8 @@ forked ps n a b = set ps n (point (getD ps n unused .kind) (getD ps n unused .le
 
 -- the point of an if, once its blocks are read
 unfoldable pub branched : Progress → ℕ → ℕ → Progress
-branched q base mid = changed q base (forked (q .points) base (begins (base + 1) mid 256) (begins mid (q .count) 256))
+branched q base mid = changed q base (forked (q .points) base (begins (base + 1) mid unknown) (begins mid (q .count) unknown))
 
 -- the point of a while, once its block is read; the while follows its block
 unfoldable pub looped : Progress → ℕ → Progress
-looped q base = changed q base (forked (each (within (base + 1) (q .count) base) (q .points)) base (begins (base + 1) (q .count) base) 256)
+looped q base = changed q base (forked (each (within (base + 1) (q .count) base) (q .points)) base (begins (base + 1) (q .count) base) unknown)

@@ -10,6 +10,8 @@ use lib.Seq.{length-take-le}
 use borrow.Author.Tests.{leb-true, leb-false, le-ltb, lt-leb, le-leb}
 use Rattle.base.proofs.Theory.Choice.{byTest}
 use Rattle.base.specs.Each.{each}
+use Rattle.grammar.specs.Limits.{mostPoints}
+use Rattle.blocks.specs.Held.{unknown, tooMany}
 use Rattle.letters.specs.declared.Letter.{Letter}
 use Rattle.grammar.specs.Reading.{Got, got, refused, exhausted, onward}
 use Rattle.phrases.specs.declared.Got as number
@@ -27,7 +29,7 @@ use Rattle.blocks.specs.declared.State.{State}
 abbrev pub on : ℕ → ℕ → State
 on at n = record { ok = true; number = 0; place = 0; at = at; count = n }
 
-pub fine-moved : (st : State) (at : ℕ) → st .count ≤ 257 → (ps : List Point) → Fine (progressOf st ps) (progressOf (on at (st .count)) ps) [] at
+pub fine-moved : (st : State) (at : ℕ) → st .count ≤ tooMany → (ps : List Point) → Fine (progressOf st ps) (progressOf (on at (st .count)) ps) [] at
 fine-moved st at h ps = record {
   ok = refl;
   number = refl;
@@ -39,8 +41,9 @@ fine-moved st at h ps = record {
       (record { size = H .size; count = H .count; points = H .points });
 }
 
-pub fine-pushed : (st : State) (k : ℕ) (w : Letter) (at : ℕ) (cs xs ys : List ℕ) (c : ℕ) → Coded k w c → st .count < 256
-    → Fine (heldBy st cs xs ys) (heldBy (on at (st .count + 1)) (set cs (st .count) c) (set xs (st .count) 256) (set ys (st .count) 0)) (waiting k w ∷ []) at
+pub fine-pushed : (st : State) (k : ℕ) (w : Letter) (at : ℕ) (cs xs ys : List ℕ) (c : ℕ) → Coded k w c → st .count < mostPoints
+    → Fine (heldBy st cs xs ys) (heldBy (on at (st .count + 1)) (set cs (st .count) c) (set xs (st .count) unknown) (set ys (st .count) 0))
+    (waiting k w ∷ []) at
 fine-pushed st k w at cs xs ys c e h = record {
   ok = refl;
   number = refl;
@@ -52,15 +55,15 @@ fine-pushed st k w at cs xs ys c e h = record {
     size = H .size;
     count = let n = H .count in let m = length-append ds (waiting k w ∷ []) in omega arith;
     points =
-        points-set cs xs ys (st .count) c 256 0
-        ∙ ap (λ p. set (pointsOf cs xs ys) (st .count) p) (e 256 0)
+        points-set cs xs ys (st .count) c unknown 0
+        ∙ ap (λ p. set (pointsOf cs xs ys) (st .count) p) (e unknown 0)
         ∙ (λ i. set (H .points i) (H .count i) (waiting k w))
         ∙ over-push old ds (waiting k w) (let n = H .count in let m = H .size in omega arith);
   };
 }
 
-pub fine-full : (st : State) (k : ℕ) (w : Letter) (at : ℕ) (ps : List Point) → 256 ≤ st .count
-    → Fine (progressOf st ps) (progressOf (on at 257) ps) (waiting k w ∷ []) at
+pub fine-full : (st : State) (k : ℕ) (w : Letter) (at : ℕ) (ps : List Point) → mostPoints ≤ st .count
+    → Fine (progressOf st ps) (progressOf (on at tooMany) ps) (waiting k w ∷ []) at
 fine-full st k w at ps h = record {
   ok = refl;
   number = refl;
@@ -71,8 +74,10 @@ fine-full st k w at ps h = record {
   laid = λ old ds H l. absurd (let n = H .count in omega arith);
 }
 
-pub fine-count : {st r : Progress} {ps : List Point} {e : ℕ} → Fine st r ps e → r .count ≤ 257
-fine-count {st} {r} {ps} f = byTest (leb (st .count + length ps) 256) (λ t. let l = leb-true (st .count + length ps) 256 t in omega (arith, f .low l)) λ t. omega (arith, f .high (leb-false (st .count + length ps) 256 t))
+pub fine-count : {st r : Progress} {ps : List Point} {e : ℕ} → Fine st r ps e → r .count ≤ tooMany
+fine-count {st} {r} {ps} f = byTest (leb (st .count + length ps) mostPoints)
+    (λ t. let l = leb-true (st .count + length ps) mostPoints t in omega (arith, f .low l))
+    λ t. omega (arith, f .high (leb-false (st .count + length ps) mostPoints t))
 
 -- one reading behind another: the points of the second are numbered on from those of the first
 pub fine-then : {st q r : Progress} {ps qs : List Point} {a e : ℕ} → Fine st q ps a → Fine q r qs e → Fine st r (ps ++ qs) e
@@ -90,10 +95,10 @@ fine-then {st} {q} {r} {ps} {qs} f g = record {
     n : length (ps ++ qs) ≡ length ps + length qs
     n = length-append ps qs
 
-    go : 256 < st .count + (length ps + length qs) → r .count ≡ 257
-    go h = byTest (leb (st .count + length ps) 256)
-        (λ t. let l = leb-true (st .count + length ps) 256 t in let c = f .low l in g .high (omega arith))
-        λ t. let l = leb-false (st .count + length ps) 256 t in let c = f .high l in g .high (omega arith)
+    go : mostPoints < st .count + (length ps + length qs) → r .count ≡ tooMany
+    go h = byTest (leb (st .count + length ps) mostPoints)
+        (λ t. let l = leb-true (st .count + length ps) mostPoints t in let c = f .low l in g .high (omega arith))
+        λ t. let l = leb-false (st .count + length ps) mostPoints t in let c = f .high l in g .high (omega arith)
 
 -- ---- answers as code holds them
 
@@ -127,15 +132,15 @@ outcome-refused code code′ st st′ r exhausted f o h = absurd o
 -- ---- changes to the table
 
 module _ (q : Progress) (n : ℕ) (ps : List Point) where
-  pub changed-none : q .count ≤ 256 → q .count ≤ n → q ≡ changed q n ps
-  changed-none h g = rw (le-ltb 256 (q .count) h, le-leb (q .count) n g)
+  pub changed-none : q .count ≤ mostPoints → q .count ≤ n → q ≡ changed q n ps
+  changed-none h g = rw (le-ltb mostPoints (q .count) h, le-leb (q .count) n g)
 
-  pub changed-some : q .count ≤ 256 → n < q .count → withPoints q ps ≡ changed q n ps
-  changed-some h g = rw (le-ltb 256 (q .count) h, lt-leb (q .count) n g)
+  pub changed-some : q .count ≤ mostPoints → n < q .count → withPoints q ps ≡ changed q n ps
+  changed-some h g = rw (le-ltb mostPoints (q .count) h, lt-leb (q .count) n g)
 
 -- the same reading, with other points, as many
 pub fine-changed : {st q : Progress} {ps : List Point} {e : ℕ} (n : ℕ) (xs qs : List Point) → Fine st q ps e → length qs ≡ length ps
-    → ((old ds : List Point) → Holds old st ds → length ds + length ps ≤ 256 → Holds old q (ds ++ ps) → Holds old (changed q n xs) (ds ++ qs))
+    → ((old ds : List Point) → Holds old st ds → length ds + length ps ≤ mostPoints → Holds old q (ds ++ ps) → Holds old (changed q n xs) (ds ++ qs))
     → Fine st (changed q n xs) qs e
 fine-changed {st} {q} {ps} n xs qs f h k = record {
   ok = f .ok;
@@ -153,7 +158,7 @@ fine-changed {st} {q} {ps} n xs qs f h k = record {
 points-changed : (count n : ℕ) (cs xs ys xs′ ys′ : List ℕ) (ps : List Point) → pointsOf cs xs′ ys′ ≡ ps
     → pointsOf cs (changedTo count n xs′ xs) (changedTo count n ys′ ys) ≡ changedTo count n ps (pointsOf cs xs ys)
 points-changed count n cs xs ys xs′ ys′ ps e =
-    byTest (ltb 256 count) (λ t. rw t refl) λ t. rw t (byTest (leb count n) (λ u. rw u refl) λ u. rw u e)
+    byTest (ltb mostPoints count) (λ t. rw t refl) λ t. rw t (byTest (leb count n) (λ u. rw u refl) λ u. rw u e)
 
 module _ (q : State) (cs xs ys xs′ ys′ : List ℕ) where
   pub points-joined : (from to : ℕ) → xs′ ≡ changedTo (q .count) to (each (turnedIn from to to) xs) xs
@@ -162,26 +167,27 @@ module _ (q : State) (cs xs ys xs′ ys′ : List ℕ) where
   points-joined from to e f =
       (λ i. heldBy q cs (e i) (f i)) ∙ ap (progressOf q) (points-changed (q .count) to cs xs ys _ _ _ (points-range cs xs ys from to to))
 
-  pub points-branched : (base mid : ℕ) → xs′ ≡ changedTo (q .count) base (set xs base (begins (base + 1) mid 256)) xs
-      → ys′ ≡ changedTo (q .count) base (set ys base (begins mid (q .count) 256)) ys → heldBy q cs xs′ ys′ ≡ branched (heldBy q cs xs ys) base mid
+  pub points-branched : (base mid : ℕ) → xs′ ≡ changedTo (q .count) base (set xs base (begins (base + 1) mid unknown)) xs
+      → ys′ ≡ changedTo (q .count) base (set ys base (begins mid (q .count) unknown)) ys → heldBy q cs xs′ ys′ ≡ branched (heldBy q cs xs ys) base mid
   unfolding branched
   points-branched base mid e f =
       (λ i. heldBy q cs (e i) (f i)) ∙ ap (progressOf q) (points-changed (q .count) base cs xs ys _ _ _ (points-forked cs xs ys base _ _))
 
   pub points-looped : (base : ℕ)
       → xs′ ≡ changedTo (q .count) base (set (each (turnedIn (base + 1) (q .count) base) xs) base (begins (base + 1) (q .count) base)) xs
-      → ys′ ≡ changedTo (q .count) base (set (each (turnedIn (base + 1) (q .count) base) ys) base 256) ys
+      → ys′ ≡ changedTo (q .count) base (set (each (turnedIn (base + 1) (q .count) base) ys) base unknown) ys
       → heldBy q cs xs′ ys′ ≡ looped (heldBy q cs xs ys) base
   unfolding looped
   points-looped base e f =
       (λ i. heldBy q cs (e i) (f i))
       ∙ ap (progressOf q) (points-changed (q .count) base cs xs ys _ _ _
-      (points-forked cs _ _ base _ _ ∙ ap (λ ps. forked ps base (begins (base + 1) (q .count) base) 256) (points-range cs xs ys (base + 1) (q .count) base)))
+      (points-forked cs _ _ base _ _ ∙ ap (λ ps. forked ps base (begins (base + 1) (q .count) base) unknown)
+      (points-range cs xs ys (base + 1) (q .count) base)))
 
 -- ---- what the arrays hold, whatever stood in them
 
 -- any table of 256 entries holds its first points
-pub lent-holds : (st : Progress) → length (st .points) ≡ 256 → st .count ≤ 256 → Holds (st .points) st (take (st .count) (st .points))
+pub lent-holds : (st : Progress) → length (st .points) ≡ mostPoints → st .count ≤ mostPoints → Holds (st .points) st (take (st .count) (st .points))
 lent-holds st h g =
     let n : length (take (st .count) (st .points)) ≡ st .count = length-take-le (st .count) (st .points) (omega arith) in
     record {
@@ -191,7 +197,7 @@ lent-holds st h g =
     }
 
 -- the entries in front of the points read, and those behind them, are as lent
-pub fine-points : (st r : Progress) (ps : List Point) (e : ℕ) → Fine st r ps e → length (st .points) ≡ 256 → st .count + length ps ≤ 256
+pub fine-points : (st r : Progress) (ps : List Point) (e : ℕ) → Fine st r ps e → length (st .points) ≡ mostPoints → st .count + length ps ≤ mostPoints
     → r .points ≡ take (st .count) (st .points) ++ (ps ++ drop (st .count + length ps) (st .points))
 fine-points st r ps e f h g =
     let front = take (st .count) (st .points) in

@@ -4,6 +4,8 @@ use Prim.Native.Nat.{ℕ, zero, suc, _+_, _≤_, _<_}
 use native.Mathlib.Omega.{arith}
 use mathlib.Core.List.{List, [], _∷_, _++_, map, append-assoc}
 use lib.ListN.{length}
+use Rattle.grammar.specs.Limits.{mostPoints}
+use Rattle.blocks.specs.Held.{unknown}
 use borrow.Author.Tests.{ne-eqb}
 use Rattle.macros.specs.Tree.{Condition, test, Statement, skip, perform, assert, if, while, Else, absent, present, Block, empty, _then_}
 use Rattle.macros.specs.Points.{size, sizeElse, sizeBlock, entry, compile, compileElse, compileBlock}
@@ -26,11 +28,11 @@ elseHeld o base g = map heldPoint (compileElse o base g)
 abbrev pub blockHeld : Block → ℕ → ℕ → List Point
 blockHeld b base g = map heldPoint (compileBlock b base g)
 
-pub turned-low : (f n : ℕ) → n < 256 → turned f n ≡ n
-turned-low f n h = rw (ne-eqb n 256 λ e. omega arith)
+pub turned-low : (f n : ℕ) → n < mostPoints → turned f n ≡ n
+turned-low f n h = rw (ne-eqb n unknown λ e. omega arith)
 
 -- a place where n points begin, if they lie below 256
-turned-entry : (f g n base : ℕ) → base + n ≤ 256 → turned f (entry n base g) ≡ entry n base (turned f g)
+turned-entry : (f g n base : ℕ) → base + n ≤ mostPoints → turned f (entry n base g) ≡ entry n base (turned f g)
 unfolding entry
 turned-entry f g zero base h = refl
 turned-entry f g (suc n) base h = turned-low f base (omega arith)
@@ -38,7 +40,8 @@ turned-entry f g (suc n) base h = turned-low f base (omega arith)
 mutual
   unfolding compile size
 
-  pub redirect-statement : (f g : ℕ) (c : Statement) (base : ℕ) → base + size c ≤ 256 → map (redirected f) (statementHeld c base g) ≡ statementHeld c base (turned f g)
+  pub redirect-statement : (f g : ℕ) (c : Statement) (base : ℕ) → base + size c ≤ mostPoints
+      → map (redirected f) (statementHeld c base g) ≡ statementHeld c base (turned f g)
   redirect-statement f g skip base h = refl
   redirect-statement f g (perform a) base h = refl
   redirect-statement f g (assert c) base h = refl
@@ -55,11 +58,12 @@ mutual
       λ i. point 2 (test c) ((turned-entry f base n (base + 1) (omega arith) ∙ ap (entry n (base + 1)) low) i) (turned f g) ∷
       (redirect-block f base b (base + 1) (omega arith) ∙ ap (blockHeld b (base + 1)) low) i
 
-  pub redirect-else : (f g : ℕ) (e : Else) (base : ℕ) → base + sizeElse e ≤ 256 → map (redirected f) (elseHeld e base g) ≡ elseHeld e base (turned f g)
+  pub redirect-else : (f g : ℕ) (e : Else) (base : ℕ) → base + sizeElse e ≤ mostPoints → map (redirected f) (elseHeld e base g) ≡ elseHeld e base (turned f g)
   redirect-else f g absent base h = refl
   redirect-else f g (present b) base h = redirect-block f g b base h
 
-  pub redirect-block : (f g : ℕ) (b : Block) (base : ℕ) → base + sizeBlock b ≤ 256 → map (redirected f) (blockHeld b base g) ≡ blockHeld b base (turned f g)
+  pub redirect-block : (f g : ℕ) (b : Block) (base : ℕ) → base + sizeBlock b ≤ mostPoints
+      → map (redirected f) (blockHeld b base g) ≡ blockHeld b base (turned f g)
   redirect-block f g empty base h = refl
   redirect-block f g (c then b) base h =
       let n = sizeBlock b in let m = base + size c in
@@ -73,15 +77,15 @@ mutual
 
 pub statement-length : (c : Statement) (base : ℕ) → length (statementCode c base) ≡ size c
 unfolding statementCode
-statement-length c base = length-map heldPoint (compile c base 256) ∙ compile-length c base 256
+statement-length c base = length-map heldPoint (compile c base unknown) ∙ compile-length c base unknown
 
 pub else-length : (o : Else) (base : ℕ) → length (elseCode o base) ≡ sizeElse o
 unfolding elseCode
-else-length o base = length-map heldPoint (compileElse o base 256) ∙ compileElse-length o base 256
+else-length o base = length-map heldPoint (compileElse o base unknown) ∙ compileElse-length o base unknown
 
 pub block-length : (b : Block) (base : ℕ) → length (blockCode b base) ≡ sizeBlock b
 unfolding blockCode
-block-length b base = length-map heldPoint (compileBlock b base 256) ∙ compileBlock-length b base 256
+block-length b base = length-map heldPoint (compileBlock b base unknown) ∙ compileBlock-length b base unknown
 
 -- ---- statements one behind the other
 
@@ -120,18 +124,22 @@ compile-behind (x then b) c base g =
 pub code-none : (b : Block) (c : Statement) (base : ℕ) → size c ≡ 0 → blockCode (behind b c) base ≡ blockCode b base ++ statementCode c (base + sizeBlock b)
 unfolding blockCode statementCode
 code-none b c base z =
-    ap (map heldPoint) (compile-behind b c base 256) ∙ map-append heldPoint (compileBlock b base (entry (size c) (base + sizeBlock b) 256)) (compile c (base + sizeBlock b) 256)
-    ∙ ap (λ n. blockHeld b base n ++ statementHeld c (base + sizeBlock b) 256) (ap (λ n. entry n (base + sizeBlock b) 256) z ∙ entry-none (base + sizeBlock b) 256)
+    ap (map heldPoint) (compile-behind b c base unknown)
+    ∙ map-append heldPoint (compileBlock b base (entry (size c) (base + sizeBlock b) unknown)) (compile c (base + sizeBlock b) unknown)
+    ∙ ap (λ n. blockHeld b base n ++ statementHeld c (base + sizeBlock b) unknown)
+    (ap (λ n. entry n (base + sizeBlock b) unknown) z ∙ entry-none (base + sizeBlock b) unknown)
 
 -- a statement with a point follows what stands before it
-pub code-some : (b : Block) (c : Statement) (base : ℕ) → 0 < size c → base + sizeBlock b ≤ 256 → blockCode (behind b c) base ≡ map (redirected (base + sizeBlock b)) (blockCode b base) ++ statementCode c (base + sizeBlock b)
+pub code-some : (b : Block) (c : Statement) (base : ℕ) → 0 < size c → base + sizeBlock b ≤ mostPoints
+    → blockCode (behind b c) base ≡ map (redirected (base + sizeBlock b)) (blockCode b base) ++ statementCode c (base + sizeBlock b)
 unfolding blockCode statementCode entry
 code-some b c base h l =
-    ap (map heldPoint) (compile-behind b c base 256) ∙ map-append heldPoint (compileBlock b base (entry (size c) (base + sizeBlock b) 256)) (compile c (base + sizeBlock b) 256)
-    ∙ ap (λ n. blockHeld b base n ++ statementHeld c (base + sizeBlock b) 256) (some (size c) h)
-    ∙ ap (λ k. k ++ statementHeld c (base + sizeBlock b) 256) (sym (redirect-block (base + sizeBlock b) 256 b base l))
+    ap (map heldPoint) (compile-behind b c base unknown)
+    ∙ map-append heldPoint (compileBlock b base (entry (size c) (base + sizeBlock b) unknown)) (compile c (base + sizeBlock b) unknown)
+    ∙ ap (λ n. blockHeld b base n ++ statementHeld c (base + sizeBlock b) unknown) (some (size c) h)
+    ∙ ap (λ k. k ++ statementHeld c (base + sizeBlock b) unknown) (sym (redirect-block (base + sizeBlock b) unknown b base l))
   where
-    some : (n : ℕ) → 0 < n → entry n (base + sizeBlock b) 256 ≡ base + sizeBlock b
+    some : (n : ℕ) → 0 < n → entry n (base + sizeBlock b) unknown ≡ base + sizeBlock b
     some zero h = absurd (omega arith)
     some (suc n) h = refl
 
@@ -146,6 +154,6 @@ unfolding size
 size-if c b o = refl
 
 -- the points of the block of a while
-pub turned-code : (b : Block) (base : ℕ) → base + 1 + sizeBlock b ≤ 256 → map (redirected base) (blockCode b (base + 1)) ≡ blockHeld b (base + 1) base
+pub turned-code : (b : Block) (base : ℕ) → base + 1 + sizeBlock b ≤ mostPoints → map (redirected base) (blockCode b (base + 1)) ≡ blockHeld b (base + 1) base
 unfolding blockCode
-turned-code b base h = redirect-block base 256 b (base + 1) h
+turned-code b base h = redirect-block base unknown b (base + 1) h

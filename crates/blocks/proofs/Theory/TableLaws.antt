@@ -11,6 +11,7 @@ use Rattle.base.specs.Each.{each, eachFrom}
 use Rattle.base.proofs.Theory.Each.{each-all, each-at, each-length}
 use native.Mathlib.Nat.{add-suc, suc-add, add-zero, zero-add, sub-zero, zero-sub, suc-sub-suc}
 use lib.Seq.{ext-getD, drop-cons, take-suc, length-take-le, set-append-seam, getD-append-seam}
+use Rattle.grammar.specs.Limits.{mostPoints}
 use Rattle.blocks.specs.Held.{point, pointAt, pointsOf, table, over, unused}
 use Rattle.blocks.proofs.Theory.Held.{redirected}
 use Rattle.blocks.specs.Outcome.{turnedIn}
@@ -160,8 +161,8 @@ points-none (suc n) = ap (λ l. unused ∷ l) (points-none n)
 -- ---- a table of points
 
 -- points over a table without points
-pub over-table : (ds : List Point) → over (replicate 256 unused) ds ≡ table ds
-over-table ds = ap (λ l. ds ++ l) (drop-replicate 256 (length ds))
+pub over-table : (ds : List Point) → over (replicate mostPoints unused) ds ≡ table ds
+over-table ds = ap (λ l. ds ++ l) (drop-replicate mostPoints (length ds))
   where
     drop-replicate : (n k : ℕ) → drop k (replicate n unused) ≡ replicate (n - k) unused
     drop-replicate n zero = ap (λ m. replicate m unused) (sym (sub-zero n))
@@ -169,13 +170,13 @@ over-table ds = ap (λ l. ds ++ l) (drop-replicate 256 (length ds))
     drop-replicate (suc n) (suc k) = drop-replicate n k ∙ ap (λ m. replicate m unused) (sym (suc-sub-suc n k))
 
 -- one point more in the table
-pub table-push : (ds : List Point) (n : ℕ) (p : Point) → n < 256 → n < length ds → p ≡ getD ds n unused
+pub table-push : (ds : List Point) (n : ℕ) (p : Point) → n < mostPoints → n < length ds → p ≡ getD ds n unused
     → set (table (take n ds)) n p ≡ table (take (n + 1) ds)
 table-push ds n p h l e =
     let size : length (take n ds) ≡ n = length-take-le n ds (omega arith) in
     let one : n + 1 ≡ suc n = omega arith in
     (λ i. set (sym (over-table (take n ds)) i) (sym size i) p)
-    ∙ over-push (replicate 256 unused) (take n ds) p (omega (arith, length-replicate 256 unused))
+    ∙ over-push (replicate mostPoints unused) (take n ds) p (omega (arith, length-replicate mostPoints unused))
     ∙ over-table (take n ds ++ p ∷ [])
     ∙ ap (λ p. table (take n ds ++ p ∷ [])) e
     ∙ ap table (sym (take-suc ds n unused l) ∙ ap (λ k. take k ds) (sym one))

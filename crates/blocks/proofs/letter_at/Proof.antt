@@ -11,6 +11,7 @@ letter-at-spec =
     (λ c. search needs)
     (λ c. search needs)
     (λ c. search needs)
+    (λ c. search needs)
     (λ c. search decide)
     (λ c. search decide)
     (λ c. search decide)

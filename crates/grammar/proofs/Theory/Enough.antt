@@ -6,6 +6,8 @@ use mathlib.Core.Bool.{true, false, not, _&&_, _||_}
 use mathlib.Core.List.{List, [], _∷_, _++_}
 use lib.Dec.{eqb, ltb}
 use lib.ListN.{length, getD}
+use Rattle.letters.specs.Editions.{mostRegisters, mostFunctions}
+use Rattle.grammar.specs.Limits.{mostPoints, deepestNesting}
 use borrow.Author.Tests.{eqb-true}
 use Rattle.macros.specs.Tree.{skip, Block}
 use Rattle.macros.specs.Points.{sizeBlock}
@@ -173,16 +175,19 @@ module _ (s : List ℕ) where
       λ _. listed-answers (length fs) (fs, ns) at
 
   line-answers : (rs : List ℕ) (at : ℕ) → Answers (functionsT s rs at (tokenAt s at))
-  line-answers rs at h = pick-case (eqb (tokenAt s at .key) word.funs) _ _ _ h (λ _. functions-answers rs 4 [] [] (tokenAt s at .end)) λ _ g. got-answers g
+  line-answers rs at h = pick-case (eqb (tokenAt s at .key) word.funs) _ _ _ h (λ _. functions-answers rs mostFunctions [] [] (tokenAt s at .end))
+      λ _ g. got-answers g
 
   text-answers : Answers (readText s)
   unfolding readText
   text-answers h =
       pick-case (ltb 4096 (length s)) _ _ _ h (λ _ g. refused-answers g)
       λ _. onward-answers (expect s word.vars 0) _ (expect-answers word.vars 0) λ _ a _.
-      onward-answers (registers s 8 [] a) _ (registers-answers 8 [] a) λ rs b _.
+      onward-answers (registers s mostRegisters [] a) _ (registers-answers mostRegisters [] a) λ rs b _.
       onward-answers (functionsT s rs b (tokenAt s b)) _ (line-answers rs b) λ r c _.
-      onward-answers (block s rs (r .0) (r .1) (2 * length s + 1) 16 c) _ (subst (λ n. Answers (block s rs (r .0) (r .1) n 16 c)) (more-one (2 * length s)) (block-answers rs (r .0) (r .1) (2 * length s) 16 c (omega arith))) λ body e _ g.
+      onward-answers (block s rs (r .0) (r .1) (2 * length s + 1) deepestNesting c) _
+      (subst (λ n. Answers (block s rs (r .0) (r .1) n deepestNesting c)) (more-one (2 * length s))
+      (block-answers rs (r .0) (r .1) (2 * length s) deepestNesting c (omega arith))) λ body e _ g.
       pick-case (eqb (tokenAt s e .key) 0) _ _ _ g (λ _ f. got-answers f) λ _ f. refused-answers f
     where
       more-one : (n : ℕ) → suc n ≡ n + 1
@@ -191,4 +196,5 @@ module _ (s : List ℕ) where
   -- Every text has an answer.
   pub read-answers : readMacro s ≡ exhausted → ⊥
   unfolding readMacro
-  read-answers = onward-answers (readText s) _ text-answers λ m e _ h. pick-case (ltb 256 (sizeBlock (m .body))) _ _ _ h (λ _ g. refused-answers g) λ _ g. got-answers g
+  read-answers = onward-answers (readText s) _ text-answers λ m e _ h. pick-case (ltb mostPoints (sizeBlock (m .body))) _ _ _ h (λ _ g. refused-answers g)
+      λ _ g. got-answers g

@@ -1,4 +1,4 @@
--- A trace that is too long has the line of its first 2,052 bytes, or 2,051 where its length is odd: "Even length? 2. Header as above? 3.", and
+-- A trace that is too long has the line of its first `mostRead` bytes, or `oddRead` where its length is odd: "Even length? 2. Header as above? 3.", and
 -- "at most 1,024 letters? 5" before the letters.
 use mathlib.Core.Path.{_≡_, refl, sym, ap, _∙_}
 use mathlib.Core.List.{List}
@@ -7,7 +7,8 @@ use native.Mathlib.Omega.{arith}
 use lib.ListN.{length, take}
 use lib.Seq.{length-take-le, take-take}
 use borrow.Author.Tests.{lt-ltb, le-ltb, eq-eqb, ne-eqb}
-use Rattle.letters.specs.Editions.{firstEdition}
+use Rattle.letters.specs.Editions.{firstEdition, mostLetters}
+use Rattle.letters.specs.RefusalNumbers.{traceOddLength, traceTooLong}
 use Rattle.letters.specs.Packing.{join}
 use Rattle.letters.specs.Answers.{onAnswer}
 use Rattle.letters.specs.Coding.{decodeHeader}
@@ -18,13 +19,13 @@ use Rattle.model_lines.specs.Answered.{mostRead, oddRead}
 
 -- Only the header's unit matters.
 abbrev headed : List ℕ → Reading
-headed unit = onAnswer (decodeHeader firstEdition (join (octets firstEdition) unit)) (λ h. refused 5 0) refused
+headed unit = onAnswer (decodeHeader firstEdition (join (octets firstEdition) unit)) (λ h. refused traceTooLong 0) refused
 
-even-reading : (s : List ℕ) → mostRead ≤ length s → length s % 2 ≡ 0 → readingWithin 1024 firstEdition s ≡ headed (take 2 s)
+even-reading : (s : List ℕ) → mostRead ≤ length s → length s % 2 ≡ 0 → readingWithin mostLetters firstEdition s ≡ headed (take 2 s)
 unfolding readingWhere beginning
-even-reading s l e = rw (le-ltb (length s) 2 (omega arith), eq-eqb (length s % 2) 0 e, lt-ltb 1024 (length s / 2 - 1) (omega arith)) refl
+even-reading s l e = rw (le-ltb (length s) 2 (omega arith), eq-eqb (length s % 2) 0 e, lt-ltb mostLetters (length s / 2 - 1) (omega arith)) refl
 
-odd-reading : (s : List ℕ) → oddRead ≤ length s → length s % 2 ≡ 1 → readingWithin 1024 firstEdition s ≡ refused 2 0
+odd-reading : (s : List ℕ) → oddRead ≤ length s → length s % 2 ≡ 1 → readingWithin mostLetters firstEdition s ≡ refused traceOddLength 0
 unfolding readingWhere beginning
 odd-reading s l e = rw (le-ltb (length s) 2 (omega arith), ne-eqb (length s % 2) 0 (λ z. omega arith)) refl
 

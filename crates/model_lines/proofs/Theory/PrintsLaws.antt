@@ -12,7 +12,7 @@ use Rattle.io.specs.Digits.{glyph}
 use Rattle.base.proofs.Theory.Choice.{byTest}
 use Rattle.letters.specs.declared.Header.{Header}
 use Rattle.letters.specs.declared.Letter.{Letter}
-use Rattle.letters.specs.Editions.{firstEdition}
+use Rattle.letters.specs.Editions.{firstEdition, mostLetters}
 use Rattle.traces.specs.Reading.{Reading, trace, refused}
 use Rattle.traces.specs.ReadingParts.{readingWithin}
 use Rattle.semantics.specs.Terms.{State, begin, state, traceOf}
@@ -144,7 +144,7 @@ showed-held s entry exit (Infeasible k) x e l = tt
 showed-held s entry exit (Refused number place) x e l = tt
 
 -- ── every model fits ──
-module _ (s : List ℕ) (h : Header) (ls : List Letter) (e : readingWithin 1024 firstEdition s ≡ trace h ls) where
+module _ (s : List ℕ) (h : Header) (ls : List Letter) (e : readingWithin mostLetters firstEdition s ≡ trace h ls) where
   abbrev σ : State
   σ = state (traceOf h ls)
 
@@ -197,9 +197,9 @@ model-line (Refused number place) bytes rest out e f = absurd (let z : _≡_ {A 
 module _ (s entry exit : List ℕ) (r : Shown) (x : Showed s entry r exit) (room : mostModel ≡ length entry) where
   pub answer-line : lineOf r exit ≡ lineFor s
   unfolding answerTo outputAfter readLine
-  answer-line = go (readingWithin 1024 firstEdition s) refl (x .answer) (x .output)
+  answer-line = go (readingWithin mostLetters firstEdition s) refl (x .answer) (x .output)
     where
-      go : (y : Reading) → readingWithin 1024 firstEdition s ≡ y → shownAnswer r ≡ answerTo y (length entry) → exit ≡ outputAfter y entry
+      go : (y : Reading) → readingWithin mostLetters firstEdition s ≡ y → shownAnswer r ≡ answerTo y (length entry) → exit ≡ outputAfter y entry
           → lineOf r exit ≡ readLine y
       go (refused a b) q e f = refused-line r a b exit e
       go (trace h ls) q e f =

@@ -1,5 +1,6 @@
 use Prim.Native.Nat.{_-_, _≤_}
 use lib.ListN.{length}
+use Rattle.letters.specs.Editions.{mostRegisters}
 use Rattle.phrases.proofs.Theory.Answers.{Sought, sought-ended, sought-hit, sought-turn}
 use borrow.Author.Needs.{needs}
 use Rattle.phrases.proofs.find.Statement.{statement}
@@ -9,7 +10,7 @@ use Rattle.phrases.proofs.find.Lts as lts
 use Rattle.tokens.proofs.same_name.Reads as same-name-reads
 
 abbrev Inv-loop : tie.InvT-loop
-Inv-loop list k i₀ i = (length list ≤ 8) × (i ≤ length list) × Sought list k i
+Inv-loop list k i₀ i = (length list ≤ mostRegisters) × (i ≤ length list) × Sought list k i
 
 abbrev μ-loop : tie.MeasureT-loop
 μ-loop list k i₀ i = length list - i

@@ -8,6 +8,7 @@ use lib.Dec.{eqb, ltb}
 use borrow.Author.Tests.{eqb-true, eqb-false, ltb-true, ltb-false}
 use Rattle.base.specs.Choice.{pick}
 use Rattle.base.proofs.Theory.Choice.{byTest}
+use Rattle.letters.specs.RefusalNumbers.{declarationWrong, grammarViolated, nestingTooDeep, tokenMalformed, useWrong}
 use Rattle.tokens.specs.Tokens.{tokenAt}
 use Rattle.tokens.specs.Words.{isName}
 use Rattle.tokens.specs.Words as word
@@ -45,7 +46,9 @@ pub judged-fine : {s : List ℕ} {A : Type 0} {P : A → ℕ → Type 0} (a : A)
 judged-fine a e (fine p) = p
 
 -- a no is one of the five
-pub lower : {before : List ℕ} {k next : ℕ} (n m : ℕ) → m < n → (8 < n → k ≡ 1 → ⊥) → (9 < n → Unfit before k → ⊥) → (10 < n → Redeclared before k → ⊥) → (11 < n → Misused before k next → ⊥) → (12 < n → TooDeep before k → ⊥) → No m before k next → ⊥
+pub lower : {before : List ℕ} {k next : ℕ} (n m : ℕ) → m < n → (tokenMalformed < n → k ≡ 1 → ⊥) → (grammarViolated < n → Unfit before k → ⊥)
+    → (declarationWrong < n → Redeclared before k → ⊥) → (useWrong < n → Misused before k next → ⊥) → (nestingTooDeep < n → TooDeep before k → ⊥)
+    → No m before k next → ⊥
 lower n m l a b c d e (no-token h) = a l h
 lower n m l a b c d e (unfit h) = b l h
 lower n m l a b c d e (redeclared h) = c l h
@@ -168,8 +171,10 @@ module _ (s : List ℕ) where
   pub unfit-judged : {A : Type 0} {P : A → ℕ → Type 0} {i at : ℕ} {r : Rest} → At i at r → Stuck r (keyAt at) → Judged s A P (reading.unfit (tokenAt s at))
   unfit-judged {i = i} {at} {r} A S =
       byTest (eqb (keyAt at) 1)
-      (λ t. rw t (first (first-here A 8 (no-token (eqb-true (keyAt at) 1 t)) λ m l. lower 8 m l (λ x. absurd (omega arith)) (λ x. absurd (omega arith)) (λ x. absurd (omega arith)) (λ x. absurd (omega arith)) λ x. absurd (omega arith))))
-      λ t. rw t (first (first-here A 9 (unfit wrong) λ m l. lower 9 m l (λ _. eqb-false (keyAt at) 1 t) (λ x. absurd (omega arith)) (λ x. absurd (omega arith)) (λ x. absurd (omega arith)) λ x. absurd (omega arith)))
+      (λ t. rw t (first (first-here A tokenMalformed (no-token (eqb-true (keyAt at) 1 t)) λ m l. lower tokenMalformed m l (λ x. absurd (omega arith))
+      (λ x. absurd (omega arith)) (λ x. absurd (omega arith)) (λ x. absurd (omega arith)) λ x. absurd (omega arith))))
+      λ t. rw t (first (first-here A grammarViolated (unfit wrong) λ m l. lower grammarViolated m l (λ _. eqb-false (keyAt at) 1 t) (λ x. absurd (omega arith))
+      (λ x. absurd (omega arith)) (λ x. absurd (omega arith)) λ x. absurd (omega arith)))
     where
       not-took : (q : Rest) → stuck ≡ took q → ⊥
       not-took q h = let z : _≡_ {A = ℕ} 0 1 = cc in omega arith
@@ -179,19 +184,27 @@ module _ (s : List ℕ) where
           (λ t. let e = eqb-true (keyAt at) 0 t in early e λ n. clash (sentence-run (tokensBefore s i) r (A .leaves) n) (S .end e))
           λ t. let e = eqb-false (keyAt at) 0 t in misplaced e λ n. let (q, h) = viable-run (tokensBefore s i ++ keyAt at ∷ []) n in not-took q (sym (S .token e) ∙ sym (run-next A) ∙ h)
 
-  pub redeclared-judged : {A : Type 0} {P : A → ℕ → Type 0} {i at : ℕ} {r q : Rest} → At i at r → take r (keyAt at) ≡ took q → isName (keyAt at) ≡ true → Redeclared (tokensBefore s i) (keyAt at) → Judged s A P (refused 10 (tokenAt s at .start))
+  pub redeclared-judged : {A : Type 0} {P : A → ℕ → Type 0} {i at : ℕ} {r q : Rest} → At i at r → take r (keyAt at) ≡ took q → isName (keyAt at) ≡ true
+      → Redeclared (tokensBefore s i) (keyAt at) → Judged s A P (refused declarationWrong (tokenAt s at .start))
   redeclared-judged {at = at} A h t x =
       let l = name-real (keyAt at) t in
-      first (first-here A 10 (redeclared x) λ m g. lower 10 m g (λ _ e. omega arith) (λ _. fits A h l) (λ y. absurd (omega arith)) (λ y. absurd (omega arith)) λ y. absurd (omega arith))
+      first (first-here A declarationWrong (redeclared x) λ m g. lower declarationWrong m g (λ _ e. omega arith) (λ _. fits A h l) (λ y. absurd (omega arith))
+      (λ y. absurd (omega arith)) λ y. absurd (omega arith))
 
-  pub misused-judged : {A : Type 0} {P : A → ℕ → Type 0} {i at : ℕ} {r q : Rest} → At i at r → take r (keyAt at) ≡ took q → 2 ≤ keyAt at → (Redeclared (tokensBefore s i) (keyAt at) → ⊥) → Misused (tokensBefore s i) (keyAt at) (nextAt at) → Judged s A P (refused 11 (tokenAt s at .start))
+  pub misused-judged : {A : Type 0} {P : A → ℕ → Type 0} {i at : ℕ} {r q : Rest} → At i at r → take r (keyAt at) ≡ took q → 2 ≤ keyAt at
+      → (Redeclared (tokensBefore s i) (keyAt at) → ⊥) → Misused (tokensBefore s i) (keyAt at) (nextAt at)
+      → Judged s A P (refused useWrong (tokenAt s at .start))
   misused-judged A h l d x =
-      first (first-here A 11 (misused x) λ m g. lower 11 m g (λ _ e. omega arith) (λ _. fits A h l) (λ _. d) (λ y. absurd (omega arith)) λ y. absurd (omega arith))
+      first (first-here A useWrong (misused x) λ m g. lower useWrong m g (λ _ e. omega arith) (λ _. fits A h l) (λ _. d) (λ y. absurd (omega arith))
+      λ y. absurd (omega arith))
 
-  pub deep-judged : {A : Type 0} {P : A → ℕ → Type 0} {i at : ℕ} {r q : Rest} → At i at r → take r (keyAt at) ≡ took q → TooDeep (tokensBefore s i) (keyAt at) → Judged s A P (refused 12 (tokenAt s at .start))
+  pub deep-judged : {A : Type 0} {P : A → ℕ → Type 0} {i at : ℕ} {r q : Rest} → At i at r → take r (keyAt at) ≡ took q → TooDeep (tokensBefore s i) (keyAt at)
+      → Judged s A P (refused nestingTooDeep (tokenAt s at .start))
   deep-judged {i = i} {at} A h x =
       let k : keyAt at ≡ word.lbrace = x .brace in
-      first (first-here A 12 (too-deep x) λ m g. lower 12 m g (λ _ e. omega arith) (λ _. fits A h (omega arith)) (λ _. subst (λ k. Redeclared (tokensBefore s i) k → ⊥) (sym k) brace-redeclared) (λ _. subst (λ k. Misused (tokensBefore s i) k (nextAt at) → ⊥) (sym k) brace-misused) λ y. absurd (omega arith))
+      first (first-here A nestingTooDeep (too-deep x) λ m g. lower nestingTooDeep m g (λ _ e. omega arith) (λ _. fits A h (omega arith))
+      (λ _. subst (λ k. Redeclared (tokensBefore s i) k → ⊥) (sym k) brace-redeclared)
+      (λ _. subst (λ k. Misused (tokensBefore s i) k (nextAt at) → ⊥) (sym k) brace-misused) λ y. absurd (omega arith))
     where
       brace-redeclared : Redeclared (tokensBefore s i) word.lbrace → ⊥
       brace-redeclared (register I t y) = clash t refl

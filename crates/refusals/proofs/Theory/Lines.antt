@@ -7,6 +7,7 @@ use mathlib.Core.Bool.{true, false, not, _&&_, _||_}
 use mathlib.Core.List.{List, [], _∷_, _++_, append-assoc}
 use lib.Dec.{eqb}
 use lib.ListN.{length, length-append}
+use Rattle.letters.specs.Editions.{mostRegisters, mostFunctions}
 use borrow.Author.Tests.{eqb-true, ltb-true, ltb-false, ne-eqb}
 use Rattle.tokens.specs.Tokens.{tokenAt}
 use Rattle.tokens.specs.Words.{isName}
@@ -91,12 +92,13 @@ module _ (s : List ℕ) where
       judged-map (listed-judged rs (length rs) (names (not (eqb (length rs) 0))) line A refl (λ f. rw f) λ g. rw (t, g))
       λ us e (h, n, (B, b)). subst (λ us. Registered us e) h (suc i, B, I .registers, b ∙ ap (λ l. l ++ word.semicolon ∷ []) (I .split))
 
-  pub fresh-register : {before rs : List ℕ} {k : ℕ} → InRegisters before rs → (Among k rs → ⊥) → length rs < 8 → Redeclared before k → ⊥
+  pub fresh-register : {before rs : List ℕ} {k : ℕ} → InRegisters before rs → (Among k rs → ⊥) → length rs < mostRegisters → Redeclared before k → ⊥
   fresh-register {rs = rs} {k} I a l (register {rs = us} J t (inl x)) = a (subst (Among k) (sym (registers-same I J)) x)
   fresh-register {rs = rs} I a l (register {rs = us} J t (inr x)) = let e : length rs ≡ length us = ap length (registers-same I J) in omega arith
   fresh-register I a l (function J t x) = registers-functions I J
 
-  pub registers-judged : (room : ℕ) (rs : List ℕ) (i at : ℕ) → room + length rs ≡ 8 → At s i at (names (not (eqb (length rs) 0))) → InRegisters (tokensBefore s i) rs → Judged s (List ℕ) Registered (registers s room rs at)
+  pub registers-judged : (room : ℕ) (rs : List ℕ) (i at : ℕ) → room + length rs ≡ mostRegisters → At s i at (names (not (eqb (length rs) 0)))
+      → InRegisters (tokensBefore s i) rs → Judged s (List ℕ) Registered (registers s room rs at)
   unfolding registers
   registers-judged zero rs i at n A I =
       judged-pick (isName (keyAt s at)) _ _ (λ t. redeclared-judged s {q = names true} A (rw t) t (register I t (inr (omega arith)))) λ t. names-ended rs i at A I t
@@ -146,13 +148,15 @@ module _ (s : List ℕ) where
           b ∙ ap (λ l. l ++ word.semicolon ∷ []) (I .split) ∙ ap (λ l. word.vars ∷ l) (append-assoc rs (word.semicolon ∷ word.funs ∷ entryTokens fs ns) (word.semicolon ∷ [])) ∙ ap (λ l. word.vars ∷ (rs ++ word.semicolon ∷ l)) (sym (line-whole fs ns n)),
         )
 
-    pub fresh-function : {before fs ns : List ℕ} {k : ℕ} → InFunctions before rs fs ns → (Among k rs → ⊥) → (Among k fs → ⊥) → length fs < 4 → Redeclared before k → ⊥
+    pub fresh-function : {before fs ns : List ℕ} {k : ℕ} → InFunctions before rs fs ns → (Among k rs → ⊥) → (Among k fs → ⊥) → length fs < mostFunctions
+        → Redeclared before k → ⊥
     fresh-function I a b l (register J t x) = registers-functions J I
     fresh-function {k = k} I a b l (function J t (inl (inl x))) = a (subst (Among k) (sym (functions-same I J .0)) x)
     fresh-function {k = k} I a b l (function J t (inl (inr x))) = b (subst (Among k) (sym (functions-same I J .1)) x)
     fresh-function {fs = fs} I a b l (function {fs = gs} J t (inr x)) = let e : length fs ≡ length gs = ap length (functions-same I J .1) in omega arith
 
-    pub functions-judged : (room : ℕ) (fs ns : List ℕ) (i at : ℕ) → room + length fs ≡ 4 → At s i at (entries (not (eqb (length fs) 0))) → InFunctions (tokensBefore s i) rs fs ns → Judged s (List ℕ × List ℕ) Lines (functions s rs room fs ns at)
+    pub functions-judged : (room : ℕ) (fs ns : List ℕ) (i at : ℕ) → room + length fs ≡ mostFunctions → At s i at (entries (not (eqb (length fs) 0)))
+        → InFunctions (tokensBefore s i) rs fs ns → Judged s (List ℕ × List ℕ) Lines (functions s rs room fs ns at)
     unfolding functions
     functions-judged zero fs ns i at n A I =
         judged-pick (isName (keyAt s at)) _ _ (λ t. redeclared-judged s {q = token word.slash (digit (entries true))} A (rw t) t (function I t (inr (omega arith)))) λ t. entries-ended fs ns i at A I t
@@ -185,7 +189,14 @@ module _ (s : List ℕ) where
     line-judged i at A R b =
         judged-pick (eqb (keyAt s at) word.funs) _ _
         (λ t. let (B, c) = next-on A word.funs (entries false) (eqb-true (keyAt s at) word.funs t) refl refl in
-        functions-judged 4 [] [] (suc i) (tokenAt s at .end) refl B (record { registers = R; functions = λ j l. absurd (omega arith); arities = none; split = c ∙ ap (λ l. l ++ word.funs ∷ []) b ∙ ap (λ l. word.vars ∷ l) (append-assoc rs (word.semicolon ∷ []) (word.funs ∷ [])) }))
+        functions-judged mostFunctions [] [] (suc i) (tokenAt s at .end) refl B
+        (record {
+          registers = R;
+          functions = λ j l. absurd (omega arith);
+          arities = none;
+          split = c ∙ ap (λ l. l ++ word.funs ∷ []) b
+              ∙ ap (λ l. word.vars ∷ l) (append-assoc rs (word.semicolon ∷ []) (word.funs ∷ []));
+        }))
         λ t. fine (i, line, A, record { opens = λ _. rw t; shuts = refl; ends = refl }, (λ j l. absurd (omega arith)), none, (word.vars ∷ rs, b), b)
 
 -- ---- no braces in the lines

@@ -8,6 +8,8 @@ use lib.Dec.{ltb}
 use lib.ListN.{length}
 use borrow.Author.Tests.{ltb-true, ltb-false, lt-ltb}
 use Rattle.base.proofs.Theory.Choice.{byTest}
+use Rattle.grammar.specs.Limits.{longestText, mostPoints}
+use Rattle.letters.specs.RefusalNumbers.{pointsTooMany, textTooLong}
 use Rattle.macros.specs.Points.{sizeBlock}
 use Rattle.grammar.specs.Grammar.{Macro}
 use Rattle.grammar.specs.Reading.{Got, got, refused, exhausted, onward, countT}
@@ -30,7 +32,7 @@ module _ (s : List ℕ) where
   unfolding readMacro
   answered h = read-answers s (ap (λ g. onward g (countT s)) h)
 
-  module _ (l : length s ≤ 4096) where
+  module _ (l : length s ≤ longestText) where
     -- A text is read only if no token has a no,
     pub read-all-yes : (m : Macro) (e : ℕ) → readText s ≡ got m e → AllYes s
     read-all-yes m e h = judged-fine m e (subst (Judged s Macro (λ m e. AllYes s)) h (text-judged s l))
@@ -59,8 +61,9 @@ module _ (s : List ℕ) where
   text-refusal : (n p : ℕ) → readText s ≡ refused n p → Refusal s n p
   unfolding readText
   text-refusal n p h =
-      byTest (ltb 4096 (length s))
-      (λ t. let g : _≡_ {A = Got Macro} (refused 7 0) (refused n p) = rw t at h in subst (λ n. Refusal s n p) (refused-number g) (subst (Refusal s 7) (refused-place g) (long (ltb-true 4096 (length s) t))))
+      byTest (ltb longestText (length s))
+      (λ t. let g : _≡_ {A = Got Macro} (refused textTooLong 0) (refused n p) = rw t at h in subst (λ n. Refusal s n p) (refused-number g)
+      (subst (Refusal s textTooLong) (refused-place g) (long (ltb-true longestText (length s) t))))
       λ t. let l = ltb-false 4096 (length s) t in token l (refused-first l n p h)
 
   -- The reader refuses only as the questions say,
@@ -68,14 +71,15 @@ module _ (s : List ℕ) where
   unfolding readMacro
   refused-refusal n p h =
       onward-case (readText s) (countT s) n p h (text-refusal n p)
-      λ m e g k. pick-case (ltb 256 (sizeBlock (m .body))) _ _ _ k
-      (λ t f. let (l, S, O) = text-sound s m e g in subst (λ n. Refusal s n p) (refused-number f) (subst (Refusal s 13) (refused-place f) (points m l S O (ltb-true 256 (sizeBlock (m .body)) t))))
+      λ m e g k. pick-case (ltb mostPoints (sizeBlock (m .body))) _ _ _ k
+      (λ t f. let (l, S, O) = text-sound s m e g in subst (λ n. Refusal s n p) (refused-number f)
+      (subst (Refusal s pointsTooMany) (refused-place f) (points m l S O (ltb-true mostPoints (sizeBlock (m .body)) t))))
       λ _ f. absurd (not-got f)
 
   -- and whenever they do.
   pub refusal-refused : (n p : ℕ) → Refusal s n p → readMacro s ≡ refused n p
   unfolding readMacro readText
-  refusal-refused n p (long l) = rw (lt-ltb 4096 (length s) l)
+  refusal-refused n p (long l) = rw (lt-ltb longestText (length s) l)
   refusal-refused n p (token l F) = ap (λ g. onward g (countT s)) (first-refused l n p F)
   refusal-refused n p (points m l S O c) = read-long s m l S O c
 

@@ -9,6 +9,7 @@ use lib.Dec.{eqb, ltb}
 use lib.ListN.{length, getD}
 use borrow.Author.Tests.{eqb-true, eqb-false, ltb-true, ltb-false}
 use Rattle.base.specs.Choice.{pick}
+use Rattle.grammar.specs.Limits.{deepestNesting}
 use Rattle.letters.specs.declared.Letter.{Letter}
 use Rattle.macros.specs.Tree.{Condition}
 use Rattle.tokens.specs.Tokens.{tokenAt}
@@ -56,19 +57,20 @@ module _ (s rs fs ns : List ℕ) where
     pub standing : At s i at r
     pub part : InStatements (tokensBefore s i) rs fs ns
     pub behind : Behind (tokensBefore s i) x
-    pub depth : count word.lbrace (tokensBefore s i) + d ≡ 16 + count word.rbrace (tokensBefore s i)
+    pub depth : count word.lbrace (tokensBefore s i) + d ≡ deepestNesting + count word.rbrace (tokensBefore s i)
 
   -- one token
   pub go-on : {i d at x : ℕ} {r : Rest} → In i d at x r → (q : Rest) (d′ : ℕ) → 2 ≤ keyAt s at → take r (keyAt s at) ≡ took q → (keyAt s at ≡ word.funs → ⊥)
       → (Misused (tokensBefore s i) (keyAt s at) (nextAt s at) → ⊥) → (TooDeep (tokensBefore s i) (keyAt s at) → ⊥)
-      → count word.lbrace (tokensBefore s i ++ keyAt s at ∷ []) + d′ ≡ 16 + count word.rbrace (tokensBefore s i ++ keyAt s at ∷ []) → In (suc i) d′ (tokenAt s at .end) (keyAt s at) q
+      → count word.lbrace (tokensBefore s i ++ keyAt s at ∷ []) + d′ ≡ deepestNesting + count word.rbrace (tokensBefore s i ++ keyAt s at ∷ [])
+      → In (suc i) d′ (tokenAt s at .end) (keyAt s at) q
   go-on {i} {at = at} I q d′ l h f u z n =
       let b = before-next s (I .standing) in
       record {
         standing = advance s (I .standing) q l h (none-here s (I .standing) h l (not-redeclared (I .part)) u z);
         part = subst (λ ws. InStatements ws rs fs ns) (sym b) (statements-more (keyAt s at) f (I .part));
         behind = (tokensBefore s i, b);
-        depth = subst (λ ws. count word.lbrace ws + d′ ≡ 16 + count word.rbrace ws) (sym b) n;
+        depth = subst (λ ws. count word.lbrace ws + d′ ≡ deepestNesting + count word.rbrace ws) (sym b) n;
       }
 
   -- one that changes no depth

@@ -8,6 +8,8 @@ use lib.Dec.{eqb, ltb}
 use lib.ListN.{length}
 use borrow.Author.Tests.{eqb-true, eqb-false, ltb-true, ltb-false, le-ltb}
 use Rattle.base.proofs.Theory.Choice.{byTest}
+use Rattle.grammar.specs.Limits.{deepestNesting}
+use Rattle.letters.specs.Editions.{mostRegisters}
 use Rattle.tokens.specs.Tokens.{tokenAt}
 use Rattle.tokens.specs.Words.{isName}
 use Rattle.tokens.specs.Words as word
@@ -56,7 +58,7 @@ module _ (s : List ℕ) where
         same j i t u = let x = ltb-false j i t in let y = ltb-false i j u in omega arith
 
   -- behind the lines, the statements
-  lines-in : (rs fs ns : List ℕ) (e : ℕ) → Names rs → (L : Lines s rs (fs, ns) e) → In s rs fs ns (L .0) 16 e word.semicolon (L .1)
+  lines-in : (rs fs ns : List ℕ) (e : ℕ) → Names rs → (L : Lines s rs (fs, ns) e) → In s rs fs ns (L .0) deepestNesting e word.semicolon (L .1)
   lines-in rs fs ns e R (j, b, A, S, N, Y, B, h) =
       record {
         standing = A;
@@ -70,10 +72,13 @@ module _ (s : List ℕ) where
   text-judged l =
       rw (le-ltb 4096 (length s) l)
       (judged-on (expect s word.vars 0) _ (expect-judged s word.vars (names false) begin-at refl refl) λ _ a _ (A, h).
-      judged-on (registers s 8 [] a) _ (registers-judged s 8 [] 1 a refl A (record { registers = λ j l. absurd (omega arith); split = h })) λ rs b _ (i, B, R, g).
+      judged-on (registers s mostRegisters [] a) _
+      (registers-judged s mostRegisters [] 1 a refl A (record { registers = λ j l. absurd (omega arith); split = h })) λ rs b _ (i, B, R, g).
       judged-on (functionsT s rs b (tokenAt s b)) _ (line-judged s rs i b B R g) λ r c eq L.
       let (D, P, Y, n, p) = functions-line s rs b r c eq in
-      judged-on (block s rs (r .0) (r .1) (2 * length s + 1) 16 c) _ (block-judged s rs (r .0) (r .1) D Y (2 * length s + 1) outermost 16 c (L .0) word.semicolon (L .1) (lines-in rs (r .0) (r .1) c R L) (λ z. absurd (omega arith)) (L .3)) λ body e _ (j, y, q, m, o, w, t, I).
+      judged-on (block s rs (r .0) (r .1) (2 * length s + 1) deepestNesting c) _
+      (block-judged s rs (r .0) (r .1) D Y (2 * length s + 1) outermost deepestNesting c (L .0) word.semicolon (L .1) (lines-in rs (r .0) (r .1) c R L)
+      (λ z. absurd (omega arith)) (L .3)) λ body e _ (j, y, q, m, o, w, t, I).
       judged-pick (eqb (keyAt s e) 0) _ _ (λ u. fine (none-at-end (I .standing) (eqb-true (keyAt s e) 0 u) w))
       λ u. unfit-judged s (I .standing) (record { end = λ z. absurd (eqb-false (keyAt s e) 0 u z); token = λ _. ap (λ k. take q k) (eqb-true (keyAt s e) word.rbrace (only (eqb (keyAt s e) word.rbrace) (eqb (keyAt s e) 0) u t)) ∙ o }))
     where

@@ -20,7 +20,7 @@ use Rattle.semantics.specs.PackedTables.{secondWritten}
 use Rattle.text.specs.Numerals.{numeral}
 use Rattle.report.specs.Lines.{Names, linesOf, line, letterLine, letterLines, modelLines, startLines, rowLine, startWord, lettersWord, valuesWord, blank}
 use Rattle.report.specs.Shown.{letterOf, lettersIn}
-use Rattle.report.specs.ShownLaws.{wordIn}
+use Rattle.report.specs.ShownLaws.{wordIn, rowIn}
 
 -- ── one entry after the other ──
 take-away : (i n : ℕ) → i < n → n - i ≡ suc (n - (i + 1))
@@ -118,9 +118,6 @@ module _ (F : Letter → List ℕ) (h : Header) (s : List ℕ) (n : ℕ) where
   pub letter-lines-none : (k : ℕ) → n ≤ k → linesOf F (lettersIn h s k (n - k)) ≡ []
   unfolding linesOf
   letter-lines-none k l = ap (linesOf F) (letters-none h s n k l)
-
-abbrev pub rowIn : List ℕ → ℕ → ℕ
-rowIn s at = join (8 ∷ 8 ∷ 8 ∷ 8 ∷ 8 ∷ []) (take 5 (drop at s))
 
 module _ (R : ℕ → List ℕ) (s : List ℕ) (o n : ℕ) where
   pub start-lines-start : startLines R 0 (unitsIn 2 n (drop o s)) ≡ startLines R 0 (unitsIn 2 (n - 0) (drop (o + 2 * 0) s))

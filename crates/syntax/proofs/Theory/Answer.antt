@@ -1,4 +1,5 @@
 -- What follows from the definitions of specs/Answer.antt.
+use Rattle.letters.specs.Editions.{mostRegisters}
 use Prim.Native.Nat.{ℕ}
 use mathlib.Core.List.{List, []}
 use Rattle.grammar.specs.Grammar.{Macro}
@@ -10,4 +11,4 @@ use Rattle.syntax.specs.Answer.{functionsFrom}
 module _ (s : List ℕ) where
   -- behind `vars`
   unfoldable pub registersFrom : ℕ → Got Macro
-  registersFrom a = onward (registers s 8 [] a) λ rs b. functionsFrom s rs b
+  registersFrom a = onward (registers s mostRegisters [] a) λ rs b. functionsFrom s rs b

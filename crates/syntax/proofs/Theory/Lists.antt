@@ -9,6 +9,8 @@ use lib.ListN.{length, take, set, replicate, length-append}
 use lib.Seq.{set-append-seam}
 use borrow.Author.Tests.{eq-eqb, ne-eqb, eqb-true, eqb-false, ltb-true, ltb-false}
 use Rattle.base.proofs.Theory.Choice.{byTest}
+use Rattle.letters.specs.Editions.{mostFunctions, mostRegisters}
+use Rattle.letters.specs.RefusalNumbers.{declarationWrong}
 use Rattle.tokens.specs.Tokens.{tokenAt}
 use Rattle.tokens.specs.declared.Token.{Token}
 use Rattle.tokens.specs.Words.{isName}
@@ -17,7 +19,7 @@ use Rattle.grammar.specs.Reading.{Got, got, refused, exhausted, onward, unfit, 
 use Rattle.phrases.specs.Codes.{plain, nothing}
 use Rattle.phrases.proofs.Theory.Answers.{coded-at}
 use Rattle.phrases.specs.declared.Got as number
-use Rattle.syntax.specs.Answer.{padded, heldRegisters, heldFunctions, unfitNumber}
+use Rattle.syntax.specs.Answer.{padded, heldRegisters, noFunctions, heldFunctions, unfitNumber}
 use Rattle.syntax.specs.declared.Registers.{Registers}
 use Rattle.syntax.specs.declared.Functions.{Functions}
 use Rattle.syntax.specs.Lists.{taken, Kept, refusedBy}
@@ -66,10 +68,10 @@ module _ (n : ℕ) (names : List ℕ) (count k : ℕ) (K : Kept n names count) (
   pub kept-more : Kept n (set names count k) (count + 1)
   kept-more = record { few = omega arith; pad = stored ∙ ap (padded n) (sym kept-take); size = ap length kept-take ∙ more }
 
-pub kept-eight : Kept 8 (replicate 8 0) 0
+pub kept-eight : Kept mostRegisters (replicate mostRegisters 0) 0
 kept-eight = record { few = omega arith; pad = refl; size = refl }
 
-pub kept-four : Kept 4 (replicate 4 0) 0
+pub kept-four : Kept mostFunctions (replicate mostFunctions 0) 0
 kept-four = record { few = omega arith; pad = refl; size = refl }
 
 -- ---- registers
@@ -104,15 +106,16 @@ pub semicolon-unfit : (t : Token) → t .key ≡ word.semicolon → 9 ≡ unfitN
 semicolon-unfit t h = rw (ap (λ k. eqb k 1) h)
 
 -- refusals as the structs hold them
-pub no-registers-held : (n p : ℕ) → record { ok = false; number = n; place = p; at = 0; count = 0; names = replicate 8 0 } ≡ heldRegisters (refused n p)
+pub no-registers-held : (n p : ℕ)
+    → record { ok = false; number = n; place = p; at = 0; count = 0; names = replicate mostRegisters 0 } ≡ heldRegisters (refused n p)
 unfolding heldRegisters
 no-registers-held n p = refl
 
-pub no-functions-held : (n p : ℕ) → record { ok = false; number = n; place = p; at = 0; count = 0; names = replicate 4 0; arities = replicate 4 0 } ≡ heldFunctions (refused n p)
+pub no-functions-held : (n p : ℕ) → noFunctions n p ≡ heldFunctions (refused n p)
 unfolding heldFunctions
 no-functions-held n p = refl
 
-module _ (s : List ℕ) (names : List ℕ) (count : ℕ) (K : Kept 8 names count) (t : Token) where
+module _ (s : List ℕ) (names : List ℕ) (count : ℕ) (K : Kept mostRegisters names count) (t : Token) where
   pub registers-listed : t .key ≡ word.semicolon → (count ≡ 0 → ⊥) → record { ok = true; number = 0; place = 0; at = t .end; count = count; names = names } ≡ heldRegisters (listedT s (length (take count names)) (take count names) t)
   unfolding heldRegisters
   registers-listed h g = rw (listed-end s (length (take count names)) (take count names) t h λ z. g (sym (K .size) ∙ z)) λ i. record { ok = true; number = 0; place = 0; at = t .end; count = sym (K .size) i; names = K .pad i }
@@ -122,52 +125,61 @@ module _ (s : List ℕ) (names : List ℕ) (count : ℕ) (K : Kept 8 names count
 
 -- what is left of the list of registers
 abbrev pub RegistersLeft : List ℕ → ℕ → List ℕ → ℕ → ℕ → Type 0
-RegistersLeft s from names count at = registers s 8 [] from ≡ registers s (8 - count) (take count names) at
+RegistersLeft s from names count at = registers s mostRegisters [] from ≡ registers s (mostRegisters - count) (take count names) at
 
-module _ (s : List ℕ) (from : ℕ) (names : List ℕ) (count at : ℕ) (K : Kept 8 names count) (L : RegistersLeft s from names count at) (t : Token) (e : t ≡ tokenAt s at) where
-  pub registers-last : (b : Bool) → b ≡ isName (t .key) → b ≡ false → (r : Registers) → r ≡ heldRegisters (listedT s (length (take count names)) (take count names) t) → r ≡ heldRegisters (registers s 8 [] from)
+module _ (s : List ℕ) (from : ℕ) (names : List ℕ) (count at : ℕ) (K : Kept mostRegisters names count) (L : RegistersLeft s from names count at) (t : Token)
+    (e : t ≡ tokenAt s at) where
+  pub registers-last : (b : Bool) → b ≡ isName (t .key) → b ≡ false → (r : Registers)
+      → r ≡ heldRegisters (listedT s (length (take count names)) (take count names) t) → r ≡ heldRegisters (registers s mostRegisters [] from)
   unfolding registers
-  registers-last b i h r g = g ∙ ap heldRegisters (sym (L ∙ go (8 - count)))
+  registers-last b i h r g = g ∙ ap heldRegisters (sym (L ∙ go (mostRegisters - count)))
     where
       go : (room : ℕ) → registers s room (take count names) at ≡ listedT s (length (take count names)) (take count names) t
       go zero = rw (← e, ← i, h)
       go (suc room) = rw (← e, ← i, h)
 
-  module _ (b : Bool) (i : b ≡ isName (t .key)) (j : b ≡ true) (x : Bool) (y : x ≡ (eqb count 8 || taken (t .key) (take count names))) where
-    pub registers-taken : x ≡ true → (r : Registers) → r ≡ heldRegisters (refused 10 (t .start)) → r ≡ heldRegisters (registers s 8 [] from)
+  module _ (b : Bool) (i : b ≡ isName (t .key)) (j : b ≡ true) (x : Bool) (y : x ≡ (eqb count mostRegisters || taken (t .key) (take count names))) where
+    pub registers-taken : x ≡ true → (r : Registers) → r ≡ heldRegisters (refused declarationWrong (t .start))
+        → r ≡ heldRegisters (registers s mostRegisters [] from)
     unfolding registers
-    registers-taken h r g = g ∙ ap heldRegisters (sym (L ∙ byTest (eqb count 8)
-        (λ u. let z : 8 - count ≡ 0 = (let v = eqb-true count 8 u in omega arith) in ap (λ m. registers s m (take count names) at) z ∙ rw (← e, ← i, j))
+    registers-taken h r g = g ∙ ap heldRegisters (sym (L ∙ byTest (eqb count mostRegisters)
+        (λ u. let z : mostRegisters - count ≡ 0 = (let v = eqb-true count mostRegisters u in omega arith) in
+        ap (λ m. registers s m (take count names) at) z ∙ rw (← e, ← i, j))
         λ u.
-        let v = eqb-false count 8 u in
+        let v = eqb-false count mostRegisters u in
         let w : taken (t .key) (take count names) ≡ true = sym (ap (λ b. b || taken (t .key) (take count names)) u) ∙ sym y ∙ h in
-        let z : 8 - count ≡ suc (7 - count) = (let f = K .few in let k = below count v f in omega arith) in
+        let z : mostRegisters - count ≡ suc (mostRegisters - 1 - count) = (let f = K .few in let k = below count v f in omega arith) in
         ap (λ m. registers s m (take count names) at) z ∙ rw (← e, ← i, j, w)))
       where
-        below : (c : ℕ) → (c ≡ 8 → ⊥) → c ≤ 8 → c < 8
-        below c v f = byTest (ltb c 8) (λ t. ltb-true c 8 t) λ t. absurd (v (let g = ltb-false c 8 t in omega arith))
+        below : (c : ℕ) → (c ≡ mostRegisters → ⊥) → c ≤ mostRegisters → c < mostRegisters
+        below c v f = byTest (ltb c mostRegisters) (λ t. ltb-true c mostRegisters t) λ t. absurd (v (let g = ltb-false c mostRegisters t in omega arith))
 
-    pub registers-turn : x ≡ false → (8 - (count + 1) < 8 - count) × Kept 8 (set names count (t .key)) (count + 1) × RegistersLeft s from (set names count (t .key)) (count + 1) (t .end)
+    pub registers-turn : x ≡ false → (mostRegisters - (count + 1) < mostRegisters - count)
+        × Kept mostRegisters (set names count (t .key)) (count + 1) × RegistersLeft s from (set names count (t .key)) (count + 1) (t .end)
     unfolding registers
     registers-turn h =
-        let l = not-full count 8 (t .key) (take count names) x y h (K .few) in
-        let z : 8 - count ≡ suc (8 - (count + 1)) = omega arith in
-        let w : taken (t .key) (take count names) ≡ false = sym (ap (λ b. b || taken (t .key) (take count names)) (ne-eqb count 8 λ q. omega arith)) ∙ sym y ∙ h in (
+        let l = not-full count mostRegisters (t .key) (take count names) x y h (K .few) in
+        let z : mostRegisters - count ≡ suc (mostRegisters - (count + 1)) = omega arith in
+        let w : taken (t .key) (take count names) ≡ false =
+        sym (ap (λ b. b || taken (t .key) (take count names)) (ne-eqb count mostRegisters λ q. omega arith)) ∙ sym y ∙ h in (
           omega arith,
-          kept-more 8 names count (t .key) K l,
-          L ∙ ap (λ m. registers s m (take count names) at) z ∙ rw (← e, ← i, j, w) (ap (λ l. registers s (8 - (count + 1)) l (t .end)) (sym (kept-take 8 names count (t .key) K l))),
+          kept-more mostRegisters names count (t .key) K l,
+          L ∙ ap (λ m. registers s m (take count names) at) z
+              ∙ rw (← e, ← i, j, w) (ap (λ l. registers s (mostRegisters - (count + 1)) l (t .end)) (sym (kept-take mostRegisters names count (t .key) K l))),
         )
 
 -- ---- functions
 
-pub taken-both : (count k : ℕ) (rs l : List ℕ) → (count ≡ 4 → ⊥) → (b : Bool) → b ≡ taken k rs → b ≡ true → true ≡ (eqb count 4 || (taken k rs || taken k l))
-taken-both count k rs l h b e f = rw (ne-eqb count 4 h, ← e, f)
+pub taken-both : (count k : ℕ) (rs l : List ℕ) → (count ≡ mostFunctions → ⊥) → (b : Bool) → b ≡ taken k rs → b ≡ true
+    → true ≡ (eqb count mostFunctions || (taken k rs || taken k l))
+taken-both count k rs l h b e f = rw (ne-eqb count mostFunctions h, ← e, f)
 
-pub taken-last : (count k : ℕ) (rs l : List ℕ) → (count ≡ 4 → ⊥) → (b : Bool) → b ≡ taken k rs → b ≡ false → (c : Bool) → c ≡ taken k l → c ≡ (eqb count 4 || (taken k rs || taken k l))
-taken-last count k rs l h b e f c g = rw (ne-eqb count 4 h, ← e, f) g
+pub taken-last : (count k : ℕ) (rs l : List ℕ) → (count ≡ mostFunctions → ⊥) → (b : Bool) → b ≡ taken k rs → b ≡ false → (c : Bool) → c ≡ taken k l
+    → c ≡ (eqb count mostFunctions || (taken k rs || taken k l))
+taken-last count k rs l h b e f c g = rw (ne-eqb count mostFunctions h, ← e, f) g
 
-pub taken-all : (count k : ℕ) (rs l : List ℕ) → count ≡ 4 → true ≡ (eqb count 4 || (taken k rs || taken k l))
-taken-all count k rs l h = rw (eq-eqb count 4 h)
+pub taken-all : (count k : ℕ) (rs l : List ℕ) → count ≡ mostFunctions → true ≡ (eqb count mostFunctions || (taken k rs || taken k l))
+taken-all count k rs l h = rw (eq-eqb count mostFunctions h)
 
 pub refused-by : {A : Type 0} {B : Type 0} (held : Got A → B) (g : number.Got) (n p : ℕ) (r : B) → g ≡ number.the-variants.Refused n p → r ≡ held (refused n p) → r ≡ held (refusedBy g)
 refused-by held g n p r h e = e ∙ rw h
@@ -199,7 +211,7 @@ module _ (s : List ℕ) (at : ℕ) (g : number.Got) (i : g ≡ nothing (expect s
     pub arity-unfit : (t .key ≡ word.one → ⊥) → (t .key ≡ word.two → ⊥) → (r : number.Got) → r ≡ plain (unfit t) → r ≡ plain (arityOf s at)
     arity-unfit n m r k = rw (behind, ne-eqb (t .key) word.one n, ne-eqb (t .key) word.two m) k
 
-module _ (s : List ℕ) (names arities : List ℕ) (count : ℕ) (K : Kept 4 names count) (A : Kept 4 arities count) (t : Token) where
+module _ (s : List ℕ) (names arities : List ℕ) (count : ℕ) (K : Kept mostFunctions names count) (A : Kept mostFunctions arities count) (t : Token) where
   abbrev Both : List ℕ × List ℕ
   Both = (take count names, take count arities)
 
@@ -211,72 +223,94 @@ module _ (s : List ℕ) (names arities : List ℕ) (count : ℕ) (K : Kept 4 nam
   functions-unlisted n e h r g = g ∙ ap (λ n. heldFunctions (refused n (t .start))) e ∙ ap heldFunctions (sym (listed-unfit s (length (take count names)) Both t (ap (λ m. eqb (t .key) word.semicolon && not (eqb m 0)) (K .size) ∙ h)))
 
 abbrev pub FunctionsLeft : List ℕ → List ℕ → ℕ → List ℕ → List ℕ → ℕ → ℕ → Type 0
-FunctionsLeft s rs from names arities count at = functions s rs 4 [] [] from ≡ functions s rs (4 - count) (take count names) (take count arities) at
+FunctionsLeft s rs from names arities count at =
+    functions s rs mostFunctions [] [] from ≡ functions s rs (mostFunctions - count) (take count names) (take count arities) at
 
-module _ (s rs : List ℕ) (from : ℕ) (names arities : List ℕ) (count at : ℕ) (K : Kept 4 names count) (A : Kept 4 arities count) (L : FunctionsLeft s rs from names arities count at) (t : Token) (e : t ≡ tokenAt s at) where
-  pub functions-last : (b : Bool) → b ≡ isName (t .key) → b ≡ false → (r : Functions) → r ≡ heldFunctions (listedT s (length (take count names)) (take count names, take count arities) t) → r ≡ heldFunctions (functions s rs 4 [] [] from)
+module _ (s rs : List ℕ) (from : ℕ) (names arities : List ℕ) (count at : ℕ) (K : Kept mostFunctions names count) (A : Kept mostFunctions arities count)
+    (L : FunctionsLeft s rs from names arities count at) (t : Token) (e : t ≡ tokenAt s at) where
+  pub functions-last : (b : Bool) → b ≡ isName (t .key) → b ≡ false → (r : Functions)
+      → r ≡ heldFunctions (listedT s (length (take count names)) (take count names, take count arities) t)
+      → r ≡ heldFunctions (functions s rs mostFunctions [] [] from)
   unfolding functions
-  functions-last b i h r g = g ∙ ap heldFunctions (sym (L ∙ go (4 - count)))
+  functions-last b i h r g = g ∙ ap heldFunctions (sym (L ∙ go (mostFunctions - count)))
     where
       go : (room : ℕ) → functions s rs room (take count names) (take count arities) at ≡ listedT s (length (take count names)) (take count names, take count arities) t
       go zero = rw (← e, ← i, h)
       go (suc room) = rw (← e, ← i, h)
 
-  module _ (b : Bool) (i : b ≡ isName (t .key)) (j : b ≡ true) (x : Bool) (y : x ≡ (eqb count 4 || (taken (t .key) rs || taken (t .key) (take count names)))) where
-    pub functions-taken : x ≡ true → (r : Functions) → r ≡ heldFunctions (refused 10 (t .start)) → r ≡ heldFunctions (functions s rs 4 [] [] from)
+  module _ (b : Bool) (i : b ≡ isName (t .key)) (j : b ≡ true) (x : Bool)
+      (y : x ≡ (eqb count mostFunctions || (taken (t .key) rs || taken (t .key) (take count names)))) where
+    pub functions-taken : x ≡ true → (r : Functions) → r ≡ heldFunctions (refused declarationWrong (t .start))
+        → r ≡ heldFunctions (functions s rs mostFunctions [] [] from)
     unfolding functions
-    functions-taken h r g = g ∙ ap heldFunctions (sym (L ∙ byTest (eqb count 4)
-        (λ u. let z : 4 - count ≡ 0 = (let v = eqb-true count 4 u in omega arith) in ap (λ m. functions s rs m (take count names) (take count arities) at) z ∙ rw (← e, ← i, j))
+    functions-taken h r g = g ∙ ap heldFunctions (sym (L ∙ byTest (eqb count mostFunctions)
+        (λ u. let z : mostFunctions - count ≡ 0 = (let v = eqb-true count mostFunctions u in omega arith) in
+        ap (λ m. functions s rs m (take count names) (take count arities) at) z ∙ rw (← e, ← i, j))
         λ u.
-        let v = eqb-false count 4 u in
+        let v = eqb-false count mostFunctions u in
         let w : (taken (t .key) rs || taken (t .key) (take count names)) ≡ true = sym (ap (λ b. b || (taken (t .key) rs || taken (t .key) (take count names))) u) ∙ sym y ∙ h in
-        let z : 4 - count ≡ suc (3 - count) = (let f = K .few in let k = below count v f in omega arith) in
+        let z : mostFunctions - count ≡ suc (mostFunctions - 1 - count) = (let f = K .few in let k = below count v f in omega arith) in
         ap (λ m. functions s rs m (take count names) (take count arities) at) z ∙ rw (← e, ← i, j, w)))
       where
-        below : (c : ℕ) → (c ≡ 4 → ⊥) → c ≤ 4 → c < 4
-        below c v f = byTest (ltb c 4) (λ t. ltb-true c 4 t) λ t. absurd (v (let g = ltb-false c 4 t in omega arith))
+        below : (c : ℕ) → (c ≡ mostFunctions → ⊥) → c ≤ mostFunctions → c < mostFunctions
+        below c v f = byTest (ltb c mostFunctions) (λ t. ltb-true c mostFunctions t) λ t. absurd (v (let g = ltb-false c mostFunctions t in omega arith))
 
     module _ (h : x ≡ false) (g : number.Got) (a : g ≡ plain (arityOf s (t .end))) where
-      pub functions-room : count < 4
-      functions-room = byTest (eqb count 4)
-          (λ u. let z : true ≡ false = sym (or-left (eqb count 4) (taken (t .key) rs || taken (t .key) (take count names)) u) ∙ sym y ∙ h in let q : _≡_ {A = ℕ} 0 1 = cc in absurd (omega arith))
-          λ u. let v = eqb-false count 4 u in byTest (ltb count 4) (λ w. ltb-true count 4 w) λ w. absurd (v (let f = K .few in let k = ltb-false count 4 w in omega arith))
+      pub functions-room : count < mostFunctions
+      functions-room = byTest (eqb count mostFunctions)
+          (λ u. let z : true ≡ false = sym (or-left (eqb count mostFunctions) (taken (t .key) rs || taken (t .key) (take count names)) u) ∙ sym y ∙ h in
+          let q : _≡_ {A = ℕ} 0 1 = cc in absurd (omega arith))
+          λ u. let v = eqb-false count mostFunctions u in
+          byTest (ltb count mostFunctions) (λ w. ltb-true count mostFunctions w)
+          λ w. absurd (v (let f = K .few in let k = ltb-false count mostFunctions w in omega arith))
 
       unknown : (taken (t .key) rs || taken (t .key) (take count names)) ≡ false
-      unknown = sym (ap (λ b. b || (taken (t .key) rs || taken (t .key) (take count names))) (ne-eqb count 4 λ q. let f = functions-room in omega arith)) ∙ sym y ∙ h
+      unknown =
+          sym (ap (λ b. b || (taken (t .key) rs || taken (t .key) (take count names)))
+          (ne-eqb count mostFunctions λ q. let f = functions-room in omega arith)) ∙ sym y ∙ h
 
-      entered : functions s rs 4 [] [] from ≡ onward (arityOf s (t .end)) λ n e. functions s rs (4 - (count + 1)) (take count names ++ t .key ∷ []) (take count arities ++ n ∷ []) e
+      entered : functions s rs mostFunctions [] [] from ≡ onward (arityOf s (t .end)) λ n e. functions s rs (mostFunctions - (count + 1))
+          (take count names ++ t .key ∷ []) (take count arities ++ n ∷ []) e
       unfolding functions
       entered =
           let f = functions-room in
-          let z : 4 - count ≡ suc (4 - (count + 1)) = omega arith in
+          let z : mostFunctions - count ≡ suc (mostFunctions - (count + 1)) = omega arith in
           L ∙ ap (λ m. functions s rs m (take count names) (take count arities) at) z ∙ rw (← e, ← i, j, unknown)
 
-      pub functions-refused : (n p : ℕ) → g ≡ number.the-variants.Refused n p → (r : Functions) → r ≡ heldFunctions (refusedBy g) → r ≡ heldFunctions (functions s rs 4 [] [] from)
+      pub functions-refused : (n p : ℕ) → g ≡ number.the-variants.Refused n p → (r : Functions) → r ≡ heldFunctions (refusedBy g)
+          → r ≡ heldFunctions (functions s rs mostFunctions [] [] from)
       unfolding heldFunctions
       functions-refused n p k r q = q ∙ go (arityOf s (t .end)) a ∙ ap heldFunctions (sym entered)
         where
-          go : (x : Got ℕ) → g ≡ plain x → heldFunctions (refusedBy g) ≡ heldFunctions (onward x λ n e. functions s rs (4 - (count + 1)) (take count names ++ t .key ∷ []) (take count arities ++ n ∷ []) e)
+          go : (x : Got ℕ) → g ≡ plain x → heldFunctions (refusedBy g) ≡ heldFunctions
+              (onward x λ n e. functions s rs (mostFunctions - (count + 1)) (take count names ++ t .key ∷ []) (take count arities ++ n ∷ []) e)
           go (got u e) i = let z : _≡_ {A = ℕ} 0 1 = cc in absurd (omega arith)
           go (refused n p) i = rw i
           go exhausted i = rw i
 
-      pub functions-turn : (n b′ : ℕ) → g ≡ number.the-variants.At n b′ → (4 - (count + 1) < 4 - count) × Kept 4 (set names count (t .key)) (count + 1) × Kept 4 (set arities count n) (count + 1) × FunctionsLeft s rs from (set names count (t .key)) (set arities count n) (count + 1) b′
+      pub functions-turn : (n b′ : ℕ) → g ≡ number.the-variants.At n b′
+          → (mostFunctions - (count + 1) < mostFunctions - count) × Kept mostFunctions (set names count (t .key)) (count + 1)
+          × Kept mostFunctions (set arities count n) (count + 1) × FunctionsLeft s rs from (set names count (t .key)) (set arities count n) (count + 1) b′
       functions-turn n b′ k =
           let l = functions-room in
           let (m, q, u) = coded-at (λ n. n) (arityOf s (t .end)) g n b′ a k in (
             omega arith,
-            kept-more 4 names count (t .key) K l,
-            kept-more 4 arities count n A l,
-            entered ∙ ap (λ x. onward x λ n e. functions s rs (4 - (count + 1)) (take count names ++ t .key ∷ []) (take count arities ++ n ∷ []) e) q
-                ∙ (λ i. functions s rs (4 - (count + 1)) (sym (kept-take 4 names count (t .key) K l) i) ((ap (λ n. take count arities ++ n ∷ []) (sym u) ∙ sym (kept-take 4 arities count n A l)) i) b′),
+            kept-more mostFunctions names count (t .key) K l,
+            kept-more mostFunctions arities count n A l,
+            entered
+                ∙ ap (λ x. onward x λ n e. functions s rs (mostFunctions - (count + 1)) (take count names ++ t .key ∷ []) (take count arities ++ n ∷ []) e) q
+                ∙ (λ i. functions s rs (mostFunctions - (count + 1)) (sym (kept-take mostFunctions names count (t .key) K l) i)
+                ((ap (λ n. take count arities ++ n ∷ []) (sym u) ∙ sym (kept-take mostFunctions arities count n A l)) i) b′),
           )
 
 -- perhaps a line of functions
 module _ (s rs : List ℕ) (at : ℕ) (t : Token) (e : t ≡ tokenAt s at) where
-  pub line-some : t .key ≡ word.funs → (r : Functions) → r ≡ heldFunctions (functions s rs 4 [] [] (t .end)) → r ≡ heldFunctions (functionsT s rs at (tokenAt s at))
+  pub line-some : t .key ≡ word.funs → (r : Functions) → r ≡ heldFunctions (functions s rs mostFunctions [] [] (t .end))
+      → r ≡ heldFunctions (functionsT s rs at (tokenAt s at))
   line-some h r g = rw (← e, eq-eqb (t .key) word.funs h) g
 
-  pub line-none : (t .key ≡ word.funs → ⊥) → record { ok = true; number = 0; place = 0; at = at; count = 0; names = replicate 4 0; arities = replicate 4 0 } ≡ heldFunctions (functionsT s rs at (tokenAt s at))
+  pub line-none : (t .key ≡ word.funs → ⊥)
+      → record { ok = true; number = 0; place = 0; at = at; count = 0; names = replicate mostFunctions 0; arities = replicate mostFunctions 0 }
+      ≡ heldFunctions (functionsT s rs at (tokenAt s at))
   unfolding heldFunctions
   line-none h = rw (← e, ne-eqb (t .key) word.funs h)

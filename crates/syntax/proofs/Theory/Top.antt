@@ -11,6 +11,10 @@ use lib.Seq.{take-append-seam}
 use borrow.Author.Tests.{eq-eqb, ne-eqb, le-ltb, lt-ltb, leb-true, leb-false}
 use Rattle.base.proofs.Theory.Choice.{byTest}
 use Rattle.base.specs.Each.{each}
+use Rattle.letters.specs.Editions.{mostRegisters, mostFunctions}
+use Rattle.letters.specs.RefusalNumbers.{textTooLong, pointsTooMany}
+use Rattle.grammar.specs.Limits.{longestText, mostPoints, deepestNesting}
+use Rattle.blocks.specs.Held.{unknown}
 use Rattle.letters.specs.declared.Header.{Header}
 use Rattle.macros.specs.Tree.{Block}
 use Rattle.macros.specs.Points.{points, sizeBlock, compileBlock}
@@ -56,8 +60,21 @@ startWith at = progressOf (startOf at) blank
 
 -- ---- fixed values
 
-pub no-macro-held : (p : Point) → p ≡ unused → record { header = record { registers = 0; functions = 0; binary = 0 }; registers = replicate 8 0; functions = replicate 4 0; points = replicate 256 p; count = 0 } ≡ noMacro
-no-macro-held p e = λ i. record { header = record { registers = 0; functions = 0; binary = 0 }; registers = replicate 8 0; functions = replicate 4 0; points = replicate 256 (e i); count = 0 }
+pub no-macro-held : (p : Point) → p ≡ unused
+    → record {
+      header = record { registers = 0; functions = 0; binary = 0 };
+      registers = replicate mostRegisters 0;
+      functions = replicate mostFunctions 0;
+      points = replicate mostPoints p;
+      count = 0;
+    } ≡ noMacro
+no-macro-held p e = λ i. record {
+  header = record { registers = 0; functions = 0; binary = 0 };
+  registers = replicate mostRegisters 0;
+  functions = replicate mostFunctions 0;
+  points = replicate mostPoints (e i);
+  count = 0;
+}
 
 pub refused-held : (n p : ℕ) (m : held.Macro) → m ≡ noMacro → record { refusal = n; place = p; program = m } ≡ answerOf (refused n p)
 unfolding answerOf
@@ -69,7 +86,8 @@ flag-one n h = (rw (eq-eqb n 2 h), omega arith)
 pub flag-none : (n : ℕ) → (n ≡ 2 → ⊥) → (0 ≡ flagOf n) × (0 ≤ 1)
 flag-none n h = (rw (ne-eqb n 2 h), omega arith)
 
-pub four : (ns : List ℕ) (a b c d : ℕ) → length ns ≡ 4 → a ≡ flagOf (getD ns 0 0) → b ≡ flagOf (getD ns 1 0) → c ≡ flagOf (getD ns 2 0) → d ≡ flagOf (getD ns 3 0) → a + 2 * b + 4 * c + 8 * d ≡ binaryOf ns
+pub four : (ns : List ℕ) (a b c d : ℕ) → length ns ≡ mostFunctions → a ≡ flagOf (getD ns 0 0) → b ≡ flagOf (getD ns 1 0) → c ≡ flagOf (getD ns 2 0)
+    → d ≡ flagOf (getD ns 3 0) → a + 2 * b + 4 * c + 8 * d ≡ binaryOf ns
 four [] a b c d h p q r s = absurd (omega arith)
 four (w ∷ []) a b c d h p q r s = absurd (omega arith)
 four (w ∷ x ∷ []) a b c d h p q r s = absurd (omega arith)
@@ -104,9 +122,9 @@ read rs fs h ps n = record {
 }
 
 -- the points of the whole macro, with the end for what follows
-turned-whole : (b : Block) → sizeBlock b ≤ 256 → map (redirected (sizeBlock b)) (blockCode b 0) ≡ map heldPoint (compileBlock b 0 (sizeBlock b))
+turned-whole : (b : Block) → sizeBlock b ≤ mostPoints → map (redirected (sizeBlock b)) (blockCode b 0) ≡ map heldPoint (compileBlock b 0 (sizeBlock b))
 unfolding blockCode
-turned-whole b l = redirect-block (sizeBlock b) 256 b 0 (omega arith)
+turned-whole b l = redirect-block (sizeBlock b) unknown b 0 (omega arith)
 
 module _ (s : List ℕ) (rs : Registers) (fs : Functions) (body : Progress) (t : Token) (e : t ≡ tokenAt s (body .at)) where
   pub finish-unfit : (t .key ≡ 0 → ⊥) → (n : ℕ) → n ≡ unfitNumber t → (r : Answer) → r ≡ answerOf (refused n (t .start)) → Finishes s rs fs body r
@@ -114,24 +132,32 @@ module _ (s : List ℕ) (rs : Registers) (fs : Functions) (body : Progress) (t :
   finish-unfit h n i r g b E = rw (← e, ne-eqb (t .key) 0 h) (g ∙ ap (λ n. answerOf (refused n (t .start))) i)
 
   module _ (z : t .key ≡ 0) where
-    pub finish-long : 256 < body .count → (r : Answer) → r ≡ answerOf (refused 13 0) → Finishes s rs fs body r
+    pub finish-long : mostPoints < body .count → (r : Answer) → r ≡ answerOf (refused pointsTooMany 0) → Finishes s rs fs body r
     unfolding Finishes
     finish-long h r g b E =
-        let l : 256 < sizeBlock b = byTest (leb (sizeBlock b) 256) (λ u. let H = E .low (leb-true (sizeBlock b) 256 u) in let c = H .count in let m = block-length b 0 in let v = leb-true (sizeBlock b) 256 u in absurd (omega arith)) (λ u. leb-false (sizeBlock b) 256 u) in
-        rw (← e, eq-eqb (t .key) 0 z, lt-ltb 256 (sizeBlock b) l) g
+        let l : mostPoints < sizeBlock b = byTest (leb (sizeBlock b) mostPoints)
+        (λ u.
+        let v = leb-true (sizeBlock b) mostPoints u in
+        let H = E .low v in
+        let c = H .count in
+        let m = block-length b 0 in absurd (omega arith))
+        (λ u. leb-false (sizeBlock b) mostPoints u) in
+        rw (← e, eq-eqb (t .key) 0 z, lt-ltb mostPoints (sizeBlock b) l) g
 
-    pub finish-read : Kept 8 (rs .names) (rs .count) → Kept 4 (fs .names) (fs .count) × Kept 4 (fs .arities) (fs .count) → body .count ≤ 256
+    pub finish-read : Kept mostRegisters (rs .names) (rs .count) → Kept mostFunctions (fs .names) (fs .count) × Kept mostFunctions (fs .arities) (fs .count)
+        → body .count ≤ mostPoints
         → (head : Header) → head ≡ headed rs fs
-        → (ps : List Point) → ((b : Block) → sizeBlock b ≤ 256 → Holds blank body (blockCode b 0) → ps ≡ table (map heldPoint (points b)))
+        → (ps : List Point) → ((b : Block) → sizeBlock b ≤ mostPoints → Holds blank body (blockCode b 0) → ps ≡ table (map heldPoint (points b)))
         → Finishes s rs fs body (read rs fs head ps (body .count))
     unfolding Finishes answerOf heldMacro
     finish-read R (F, A) h head i ps p b E =
-        let l : sizeBlock b ≤ 256 = byTest (leb (sizeBlock b) 256) (λ u. leb-true (sizeBlock b) 256 u) (λ u. let c = E .high (leb-false (sizeBlock b) 256 u) in absurd (omega arith)) in
+        let l : sizeBlock b ≤ mostPoints = byTest (leb (sizeBlock b) mostPoints) (λ u. leb-true (sizeBlock b) mostPoints u)
+        (λ u. let c = E .high (leb-false (sizeBlock b) mostPoints u) in absurd (omega arith)) in
         let H = E .low l in
         let n : body .count ≡ sizeBlock b = H .count ∙ block-length b 0 in
         let arities = take (fs .count) (fs .arities) in
-        let binary : binaryOf (fs .arities) ≡ binaryOf arities = ap binaryOf (A .pad) ∙ binary-padded arities (4 - length arities) in
-        rw (← e, eq-eqb (t .key) 0 z, le-ltb 256 (sizeBlock b) l)
+        let binary : binaryOf (fs .arities) ≡ binaryOf arities = ap binaryOf (A .pad) ∙ binary-padded arities (mostFunctions - length arities) in
+        rw (← e, eq-eqb (t .key) 0 z, le-ltb mostPoints (sizeBlock b) l)
         λ j. record {
           refusal = 0;
           place = 0;
@@ -148,7 +174,7 @@ module _ (s : List ℕ) (rs : Registers) (fs : Functions) (body : Progress) (t :
 module _ (body : State) (cs xs ys xs′ ys′ : List ℕ) (ps : List Point) (e : xs′ ≡ each (turnedIn 0 (body .count) (body .count)) xs)
     (f : ys′ ≡ each (turnedIn 0 (body .count) (body .count)) ys)
     (g : ps ≡ tableOf cs xs′ ys′ (body .count)) where
-  pub points-whole : (b : Block) → sizeBlock b ≤ 256 → Holds blank (heldBy body cs xs ys) (blockCode b 0) → ps ≡ table (map heldPoint (points b))
+  pub points-whole : (b : Block) → sizeBlock b ≤ mostPoints → Holds blank (heldBy body cs xs ys) (blockCode b 0) → ps ≡ table (map heldPoint (points b))
   points-whole b l H =
       let n = body .count in
       let held = blockCode b 0 in
@@ -172,22 +198,23 @@ module _ (body : State) (cs xs ys xs′ ys′ : List ℕ) (ps : List Point) (e :
 -- ---- behind the declarations
 
 module _ (s : List ℕ) (rs : Registers) (fs : Functions) (body st : Progress) (S : st ≡ startWith (fs .at))
-    (B : BlockRead s (take (rs .count) (rs .names)) (take (fs .count) (fs .names)) (take (fs .count) (fs .arities)) 16 st body) where
+    (B : BlockRead s (take (rs .count) (rs .names)) (take (fs .count) (fs .names)) (take (fs .count) (fs .arities)) deepestNesting st body) where
   abbrev Body : Got Block
-  Body = block s (take (rs .count) (rs .names)) (take (fs .count) (fs .names)) (take (fs .count) (fs .arities)) (2 * length s + 1) 16 (fs .at)
+  Body = block s (take (rs .count) (rs .names)) (take (fs .count) (fs .names)) (take (fs .count) (fs .arities)) (2 * length s + 1) deepestNesting (fs .at)
 
   outcome : Outcome blockCode (startWith (fs .at)) body Body
   outcome = subst (λ k. Outcome blockCode (startWith (fs .at)) body (called k)) (one-more (2 * length s)) (begun .outcome (2 * length s) (omega arith))
     where
       called : ℕ → Got Block
-      called k = block s (take (rs .count) (rs .names)) (take (fs .count) (fs .names)) (take (fs .count) (fs .arities)) k 16 (fs .at)
+      called k = block s (take (rs .count) (rs .names)) (take (fs .count) (fs .names)) (take (fs .count) (fs .arities)) k deepestNesting (fs .at)
 
       one-more : (n : ℕ) → suc n ≡ n + 1
       one-more n = omega arith
 
-      begun : BlockRead s (take (rs .count) (rs .names)) (take (fs .count) (fs .names)) (take (fs .count) (fs .arities)) 16 (startWith (fs .at)) body
+      begun : BlockRead s (take (rs .count) (rs .names)) (take (fs .count) (fs .names)) (take (fs .count) (fs .arities)) deepestNesting
+          (startWith (fs .at)) body
       begun =
-          subst (λ st. BlockRead s (take (rs .count) (rs .names)) (take (fs .count) (fs .names)) (take (fs .count) (fs .arities)) 16 st body) S B
+          subst (λ st. BlockRead s (take (rs .count) (rs .names)) (take (fs .count) (fs .names)) (take (fs .count) (fs .arities)) deepestNesting st body) S B
 
   pub body-refused : body .ok ≡ false → (r : Answer) → r ≡ answerOf (refused (body .number) (body .place)) → r ≡ answerOf (bodyFrom s (take (rs .count) (rs .names)) (take (fs .count) (fs .names)) (take (fs .count) (fs .arities)) (fs .at))
   unfolding bodyFrom
@@ -209,8 +236,8 @@ module _ (s : List ℕ) (rs : Registers) (fs : Functions) (body st : Progress) (
       g b E ∙ ap (λ e. answerOf (endFrom s (macroOf rs fs b) e)) (F .at) ∙ ap (λ x. answerOf (onward x λ b e. endFrom s (macroOf rs fs b) e)) (sym w)
 
 -- arrays of zeros, where reading begins
-pub start-with : (st : State) (at : ℕ) → st ≡ startOf at → heldBy st (replicate 256 0) (replicate 256 0) (replicate 256 0) ≡ startWith at
-start-with st at e = λ i. progressOf (e i) (points-none 256 i)
+pub start-with : (st : State) (at : ℕ) → st ≡ startOf at → heldBy st (replicate mostPoints 0) (replicate mostPoints 0) (replicate mostPoints 0) ≡ startWith at
+start-with st at e = λ i. progressOf (e i) (points-none mostPoints i)
 
 pub few : (rs : Registers) (fs : Functions) → KeptRegisters rs → KeptFunctions fs → Few (take (rs .count) (rs .names)) (take (fs .count) (fs .names)) (take (fs .count) (fs .arities))
 few rs fs R (F, A) = record { registers = let a = R .size in let b = R .few in omega arith; functions = let a = F .size in let b = F .few in omega arith; arities = A .size ∙ sym (F .size) }
@@ -239,11 +266,11 @@ module _ (s : List ℕ) (rs : Registers) (fs : Functions) (h : fs ≡ heldFuncti
       go (got r c) w e =
           let (D, P, A, l, p) = functions-line s (listOf rs) (rs .at) r c w in
           let n = arities-length A in
-          let (a₁, k₁) = kept-list 4 (r .0) l in
-          let (a₂, k₂) = kept-list 4 (r .1) (omega arith) in
+          let (a₁, k₁) = kept-list mostFunctions (r .0) l in
+          let (a₂, k₂) = kept-list mostFunctions (r .1) (omega arith) in
           let ec : fs .count ≡ length (r .0) = ap (λ f. f .count) e in
-          let en : fs .names ≡ padded 4 (r .0) = ap (λ f. f .names) e in
-          let ea : fs .arities ≡ padded 4 (r .1) = ap (λ f. f .arities) e in
+          let en : fs .names ≡ padded mostFunctions (r .0) = ap (λ f. f .names) e in
+          let ea : fs .arities ≡ padded mostFunctions (r .1) = ap (λ f. f .arities) e in
           let ed : fs .count ≡ length (r .1) = ec ∙ sym n in (
             r,
             c,
@@ -251,7 +278,10 @@ module _ (s : List ℕ) (rs : Registers) (fs : Functions) (h : fs ≡ heldFuncti
             ap (λ f. f .at) e,
             (λ i. take (ec i) (en i)) ∙ a₁,
             (λ i. take (ed i) (ea i)) ∙ a₂,
-            ((subst (λ c. Kept 4 (fs .names) c) (sym ec) (subst (λ l. Kept 4 l (length (r .0))) (sym en) k₁)), (subst (λ c. Kept 4 (fs .arities) c) (sym ed) (subst (λ l. Kept 4 l (length (r .1))) (sym ea) k₂))),
+            (
+              (subst (λ c. Kept mostFunctions (fs .names) c) (sym ec) (subst (λ l. Kept mostFunctions l (length (r .0))) (sym en) k₁)),
+              (subst (λ c. Kept mostFunctions (fs .arities) c) (sym ed) (subst (λ l. Kept mostFunctions l (length (r .1))) (sym ea) k₂)),
+            ),
           )
       go (refused n p) w e = let z = ap (λ f. f .ok) e in let y : _≡_ {A = ℕ} 0 1 = cc in absurd (omega arith)
       go exhausted w e = let z = ap (λ f. f .ok) e in let y : _≡_ {A = ℕ} 0 1 = cc in absurd (omega arith)
@@ -281,20 +311,20 @@ assoc (got a e) f g h k = k a e
 assoc (refused n p) f g h k = refl
 assoc exhausted f g h k = refl
 
-pub read-long : (s : List ℕ) → 4096 < length s → (r : Answer) → r ≡ answerOf (refused 7 0) → r ≡ answerOf (readMacro s)
+pub read-long : (s : List ℕ) → longestText < length s → (r : Answer) → r ≡ answerOf (refused textTooLong 0) → r ≡ answerOf (readMacro s)
 unfolding readMacro readText
-read-long s h r g = rw (lt-ltb 4096 (length s) h) g
+read-long s h r g = rw (lt-ltb longestText (length s) h) g
 
-steps : (s : List ℕ) → length s ≤ 4096 → readMacro s ≡ onward (expect s word.vars 0) λ _ a. registersFrom s a
+steps : (s : List ℕ) → length s ≤ longestText → readMacro s ≡ onward (expect s word.vars 0) λ _ a. registersFrom s a
 unfolding readMacro readText registersFrom functionsFrom bodyFrom
 steps s h =
-    rw (le-ltb 4096 (length s) h)
+    rw (le-ltb longestText (length s) h)
     (assoc (expect s word.vars 0) _ (countT s) _ λ _ a.
-    assoc (registers s 8 [] a) _ (countT s) _ λ rs b.
+    assoc (registers s mostRegisters [] a) _ (countT s) _ λ rs b.
     assoc (functionsT s rs b (tokenAt s b)) _ (countT s) _ λ r c.
-    assoc (block s rs (r .0) (r .1) (2 * length s + 1) 16 c) _ (countT s) _ λ body e. refl)
+    assoc (block s rs (r .0) (r .1) (2 * length s + 1) deepestNesting c) _ (countT s) _ λ body e. refl)
 
-module _ (s : List ℕ) (l : length s ≤ 4096) (g : number.Got) (i : g ≡ nothing (expect s word.vars 0)) where
+module _ (s : List ℕ) (l : length s ≤ longestText) (g : number.Got) (i : g ≡ nothing (expect s word.vars 0)) where
   pub read-vars : (n p : ℕ) → g ≡ number.the-variants.Refused n p → (r : Answer) → r ≡ answerOf (refusedBy g) → r ≡ answerOf (readMacro s)
   unfolding answerOf
   read-vars n p h r e = e ∙ go (expect s word.vars 0) i ∙ ap answerOf (sym (steps s l))
@@ -304,21 +334,28 @@ module _ (s : List ℕ) (l : length s ≤ 4096) (g : number.Got) (i : g ≡ noth
       go (refused n p) i = rw i
       go exhausted i = rw i
 
-  module _ (v a : ℕ) (h : g ≡ number.the-variants.At v a) (rs : Registers) (e : rs ≡ heldRegisters (registers s 8 [] a)) where
+  module _ (v a : ℕ) (h : g ≡ number.the-variants.At v a) (rs : Registers) (e : rs ≡ heldRegisters (registers s mostRegisters [] a)) where
     begun : readMacro s ≡ registersFrom s a
     begun = let (u, x, y) = coded-at (λ _. 0) (expect s word.vars 0) g v a i h in steps s l ∙ ap (λ x. onward x λ _ a. registersFrom s a) x
 
-    names-ok : rs .ok ≡ true → (l : List ℕ) × (b : ℕ) × (registers s 8 [] a ≡ got l b) × (rs .at ≡ b) × (listOf rs ≡ l) × KeptRegisters rs
+    names-ok : rs .ok ≡ true → (l : List ℕ) × (b : ℕ) × (registers s mostRegisters [] a ≡ got l b) × (rs .at ≡ b) × (listOf rs ≡ l) × KeptRegisters rs
     unfolding heldRegisters
-    names-ok k = go (registers s 8 [] a) refl e
+    names-ok k = go (registers s mostRegisters [] a) refl e
       where
-        go : (x : Got (List ℕ)) → registers s 8 [] a ≡ x → rs ≡ heldRegisters x → (l : List ℕ) × (b : ℕ) × (registers s 8 [] a ≡ got l b) × (rs .at ≡ b) × (listOf rs ≡ l) × KeptRegisters rs
+        go : (x : Got (List ℕ)) → registers s mostRegisters [] a ≡ x → rs ≡ heldRegisters x
+            → (l : List ℕ) × (b : ℕ) × (registers s mostRegisters [] a ≡ got l b) × (rs .at ≡ b) × (listOf rs ≡ l) × KeptRegisters rs
         go (got l b) w e =
-            let (ks, q, D, m, z, p) = registers-sound s 8 [] a l b none-declared w in
-            let (a₁, k₁) = kept-list 8 l (subst (λ l. length l ≤ 8) (sym q) z) in
+            let (ks, q, D, m, z, p) = registers-sound s mostRegisters [] a l b none-declared w in
+            let (a₁, k₁) = kept-list mostRegisters l (subst (λ l. length l ≤ mostRegisters) (sym q) z) in
             let ec : rs .count ≡ length l = ap (λ f. f .count) e in
-            let en : rs .names ≡ padded 8 l = ap (λ f. f .names) e in
-            (l, b, w, ap (λ f. f .at) e, (λ i. take (ec i) (en i)) ∙ a₁, subst (λ c. Kept 8 (rs .names) c) (sym ec) (subst (λ x. Kept 8 x (length l)) (sym en) k₁))
+            let en : rs .names ≡ padded mostRegisters l = ap (λ f. f .names) e in (
+              l,
+              b,
+              w,
+              ap (λ f. f .at) e,
+              (λ i. take (ec i) (en i)) ∙ a₁,
+              subst (λ c. Kept mostRegisters (rs .names) c) (sym ec) (subst (λ x. Kept mostRegisters x (length l)) (sym en) k₁),
+            )
         go (refused n p) w e = let z = ap (λ f. f .ok) e in let y : _≡_ {A = ℕ} 0 1 = cc in absurd (omega arith)
         go exhausted w e = let z = ap (λ f. f .ok) e in let y : _≡_ {A = ℕ} 0 1 = cc in absurd (omega arith)
 
@@ -333,7 +370,7 @@ module _ (s : List ℕ) (l : length s ≤ 4096) (g : number.Got) (i : g ≡ noth
 
     pub read-refused : rs .ok ≡ false → (r : Answer) → r ≡ answerOf (refused (rs .number) (rs .place)) → r ≡ answerOf (readMacro s)
     unfolding registersFrom heldRegisters answerOf
-    read-refused k r g = g ∙ go (registers s 8 [] a) e ∙ ap answerOf (sym begun)
+    read-refused k r g = g ∙ go (registers s mostRegisters [] a) e ∙ ap answerOf (sym begun)
       where
         go : (x : Got (List ℕ)) → rs ≡ heldRegisters x → answerOf (refused (rs .number) (rs .place)) ≡ answerOf (onward x λ rs b. functionsFrom s rs b)
         go (got l b) e = let z = ap (λ f. f .ok) e in let y : _≡_ {A = ℕ} 0 1 = cc in absurd (omega arith)

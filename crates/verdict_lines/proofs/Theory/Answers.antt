@@ -1,4 +1,4 @@
--- The answer of the search at 341 pairs: it fits 4,096 bytes, and so it is never refused by 6.
+-- The answer of the search at `tablePairs`: it fits `answerBytes`, and so it is never refused by `outputTooSmall`.
 use mathlib.Core.Path.{_≡_, refl, sym, ap, _∙_, subst}
 use mathlib.Core.Logic.{_≢_, inl, inr}
 use mathlib.Core.List.{List, _∷_, _++_, map, reverse}
@@ -6,8 +6,9 @@ use Prim.Native.Nat.{ℕ, _+_, _≤_}
 use native.Mathlib.Omega.{arith}
 use lib.ListN.{length, drop, length-append, length-map, length-reverse}
 use Rattle.letters.specs.declared.Letter.{Letter}
-use Rattle.letters.specs.Editions.{firstEdition}
+use Rattle.letters.specs.Editions.{firstEdition, mostRegisters}
 use Rattle.letters.specs.Capacity.{mostPairs}
+use Rattle.letters.specs.RefusalNumbers.{outputTooSmall, tableTooSmall}
 use Rattle.letters.specs.Words.{headerWord, letterWord}
 use Rattle.letters.proofs.Theory.WordLaws.{first-roomy}
 use Rattle.traces.specs.Traces.{AllFit, packing}
@@ -31,6 +32,7 @@ use Rattle.macros.proofs.Theory.Runs.{failing-is}
 use Rattle.macros.specs.Order.{Before}
 use Rattle.macros.proofs.Theory.Order.{before-not}
 use Rattle.macros.specs.Points.{sizeBlock}
+use Rattle.grammar.specs.Limits.{mostPoints}
 use Rattle.grammar.specs.Grammar.{Macro, headerOf}
 use Rattle.grammar.specs.Spelled.{InOrder}
 use Rattle.exploration.proofs.Theory.Given.{setting}
@@ -41,7 +43,7 @@ use Rattle.verdicts.proofs.Theory.AnswerPacking.{bytes-are, shown-tables}
 use Rattle.verdicts.proofs.Theory.Counting.{more-is}
 use Rattle.report.specs.Shown.{modelStart}
 use Rattle.verdict_lines.proofs.Theory.Short.{few-letters}
-use Rattle.verdict_lines.specs.Prints.{tablePairs}
+use Rattle.verdict_lines.specs.Prints.{tablePairs, answerBytes}
 
 -- ── answers that show an event ──
 pub showing-same : (i j : Kind) (k l k′ l′ : ℕ) → showing i k l ≡ showing j k′ l′ → (i ≡ j) × (k ≡ k′) × (l ≡ l′)
@@ -55,7 +57,7 @@ showing-refused breaking k l n p e = let z : _≡_ {A = ℕ} 0 1 = cc in omega a
 showing-refused failing k l n p e = let z : _≡_ {A = ℕ} 0 1 = cc in omega arith
 
 pub showing-not-full : (i : Kind) (k l : ℕ) → showing i k l ≢ full
-showing-not-full i k l = showing-refused i k l 14 0
+showing-not-full i k l = showing-refused i k l tableTooSmall 0
 
 pub showing-not-pass : (i : Kind) (k l : ℕ) → ¬ IsPass (showing i k l)
 showing-not-pass breaking k l p = p
@@ -81,14 +83,14 @@ module _ (m : Macro) (o : InOrder m) where
     letters-fit = formed-fit start ls formed
 
     -- at most one computed term for each register and each letter
-    terms-few : length (σ .terms) ≤ 8 + length ls
+    terms-few : length (σ .terms) ≤ mostRegisters + length ls
     terms-few = omega (arith, terms-length (extend start ls), ap (λ h. h .registers) (extend-header start ls), extend-size start ls, o .few)
 
-    pub rows-few : length (tablesOf (state (extend (begin (headerOf m)) ls)) .rows) ≤ 8 + length ls
+    pub rows-few : length (tablesOf (state (extend (begin (headerOf m)) ls)) .rows) ≤ mostRegisters + length ls
     unfolding tablesOf shownTables
     rows-few = omega (arith, rows-length (reverse (σ .terms)) (σ .equals), length-reverse (σ .terms), terms-few)
 
-    starts-few : length (tablesOf σ .starts) ≤ 8
+    starts-few : length (tablesOf σ .starts) ≤ mostRegisters
     unfolding tablesOf shownTables
     starts-few = omega (arith, starts-length (number σ) 0 (σ .header .registers), ap (λ h. h .registers) (extend-header start ls), o .few)
 
@@ -105,7 +107,7 @@ module _ (m : Macro) (o : InOrder m) where
         let word = letterWord firstEdition h in
         omega (arith, bytes-length firstEdition first-roomy (headerWord firstEdition h ∷ map word ls), length-map ls word)
 
-    packed-few : length ls ≤ tablePairs → (k : Kind) → length (packed firstEdition (begin (headerOf m)) k ls) ≤ 4096
+    packed-few : length ls ≤ tablePairs → (k : Kind) → length (packed firstEdition (begin (headerOf m)) k ls) ≤ answerBytes
     unfolding packed
     packed-few few breaking = omega (arith, trace-size, few)
     packed-few few failing = simp length-append (omega (arith, trace-size, few, packed-length firstEdition (headerOf m) (tablesOf σ), rows-few, starts-few))
@@ -141,7 +143,8 @@ module _ (m : Macro) (o : InOrder m) where
       (kind, k, ls, s, subst (λ bs. Delivered bs (showing kind k (length ls)) output answer output′) e d)
 
   -- An answer for a table of n pairs that is neither full nor pass.
-  module _ (points : sizeBlock (m .body) ≤ 256) (n : ℕ) (output : List ℕ) (answer : Answer) (output′ : List ℕ) (v : Verdict Feasible (begin (headerOf m)) (m .body) firstEdition n output answer output′) (u : answer ≢ full) (w : ¬ IsPass answer) where
+  module _ (points : sizeBlock (m .body) ≤ mostPoints) (n : ℕ) (output : List ℕ) (answer : Answer) (output′ : List ℕ)
+      (v : Verdict Feasible (begin (headerOf m)) (m .body) firstEdition n output answer output′) (u : answer ≢ full) (w : ¬ IsPass answer) where
     -- the event that the search finds: no more letters than pairs, and no more pairs than the table holds
     found : (kind : Kind) × (k : ℕ) × (ls : List Letter) × OfKind (begin (headerOf m)) (m .body) kind (extend (begin (headerOf m)) ls) × (length ls ≤ k) × (k ≤ n)
         × Delivered (packed firstEdition (begin (headerOf m)) kind ls) (showing kind k (length ls)) output answer output′
@@ -156,19 +159,19 @@ module _ (m : Macro) (o : InOrder m) where
         let (j, i, ls, x, a, b, d) = found in
         elim d [
           | inl (f, g, h) ↦ let (h, p, q) = showing-same kind j k l i (length ls) (sym e ∙ g) in (omega arith, omega arith)
-          | inr (f, g, h) ↦ absurd (showing-refused kind k l 6 0 (sym e ∙ g))
+          | inr (f, g, h) ↦ absurd (showing-refused kind k l outputTooSmall 0 (sym e ∙ g))
         ]
 
-    -- With 341 pairs an output of 4,096 bytes is large enough: 6 is not answered.
-    pub never-unfit : n ≤ tablePairs → length output ≡ 4096 → answer ≢ unfit
+    -- With `tablePairs` an output of `answerBytes` is large enough.
+    pub never-unfit : n ≤ tablePairs → length output ≡ answerBytes → answer ≢ unfit
     never-unfit few room e =
         let (j, i, ls, x, a, b, d) = found in
         elim d [
-          | inl (f, g, h) ↦ showing-refused j i (length ls) 6 0 (sym g ∙ e)
+          | inl (f, g, h) ↦ showing-refused j i (length ls) outputTooSmall 0 (sym g ∙ e)
           | inr (f, g, h) ↦ let z = packed-few j ls x (omega arith) j in omega arith
         ]
 
-  -- An event that is shown with its pairs, at most 341, and no more letters than pairs; the output holds it in front.
+  -- An event that is shown with its pairs, at most `tablePairs`, and no more letters than pairs; the output holds it in front.
   pub record Shown (output : List ℕ) (answer : Answer) (output′ : List ℕ) : Type 0 where
     pub kind : Kind
     pub pairs : ℕ
@@ -179,7 +182,8 @@ module _ (m : Macro) (o : InOrder m) where
     pub told : answer ≡ showing kind pairs (length letters)
     pub bytes : output′ ≡ packed firstEdition (begin (headerOf m)) kind letters ++ drop (length (packed firstEdition (begin (headerOf m)) kind letters)) output
 
-  pub event-shown : sizeBlock (m .body) ≤ 256 → (output : List ℕ) → length output ≡ 4096 → (answer : Answer) (output′ : List ℕ) → Verdict Feasible (begin (headerOf m)) (m .body) firstEdition tablePairs output answer output′
+  pub event-shown : sizeBlock (m .body) ≤ mostPoints → (output : List ℕ) → length output ≡ answerBytes → (answer : Answer) (output′ : List ℕ)
+      → Verdict Feasible (begin (headerOf m)) (m .body) firstEdition tablePairs output answer output′
       → answer ≢ full → ¬ IsPass answer → Shown output answer output′
   event-shown points output room answer output′ v u w =
       let (kind, k, ls, s, d) = shown-event tablePairs output answer output′ v u w in

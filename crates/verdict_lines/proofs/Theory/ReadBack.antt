@@ -9,6 +9,7 @@ use lib.Seq.{take-at, drop-at}
 use Rattle.letters.specs.declared.Letter.{Letter}
 use Rattle.letters.specs.Editions.{firstEdition}
 use Rattle.letters.specs.Capacity.{mostPairs, capacityOf}
+use Rattle.letters.specs.RefusalNumbers.{outputTooSmall}
 use Rattle.letters.proofs.Theory.WordLaws.{first-roomy}
 use Rattle.traces.specs.Reading.{trace, reading}
 use Rattle.traces.specs.Traces.{packing}
@@ -92,7 +93,7 @@ module _ (text table output : List ℕ) where
       where
         go : (j : Kind) (k : ℕ) (ls : List Letter) → ShownWith j k ls
             → Delivered (bytesOf j ls) (showing j k (length ls)) output (showing kind pairs letters) output′ → ShownEvent
-        go j k ls s (inr (l, e, b)) = absurd (showing-refused kind pairs letters 6 0 e)
+        go j k ls s (inr (l, e, b)) = absurd (showing-refused kind pairs letters outputTooSmall 0 e)
         go j k ls s (inl (l, e, b)) =
             let (i, p, q) = showing-same j kind k (length ls) pairs letters (sym e) in
             let rest : List ℕ = drop (length (bytesOf j ls)) output in

@@ -16,7 +16,7 @@ use Rattle.report.specs.Shown.{reportOf, Wrote}
 use Rattle.report.specs.Bound.{Limited, letterNumber, rowNumber}
 use Rattle.report.proofs.Theory.Bound.{report-fits}
 use Rattle.verdict_lines.specs.Prints.{tablePairs, mostBytes}
-use Rattle.verdict_lines.specs.Reported.{reported, reportFor, sizeOf, Reports}
+use Rattle.verdict_lines.specs.Reported.{reported, reportFor, sizeOf, mostRows, Reports}
 
 size-of : (b : Bool) (n : ℕ) → sizeOf (pick b (λ _. Bytes n) (λ _. NoRoom)) ≡ pick b (λ _. n) (λ _. 0)
 size-of true n = refl
@@ -33,7 +33,7 @@ module _ (text : List ℕ) (v : search.Verdict) (s entry exit : List ℕ) (read 
     reads = e;
     few = λ n m r. subst (λ (x : List ℕ). length x ≤ mostBytes) same
         (report-fits (read .program .registers) (read .program .functions) registers functions (read .program .header) s bytes shown l
-        (subst (λ (x : Verdict). letterNumber x ≤ tablePairs) (sym f) n) (subst (λ (x : Verdict). rowNumber x s ≤ 349) (sym f) m) r);
+        (subst (λ (x : Verdict). letterNumber x ≤ tablePairs) (sym f) n) (subst (λ (x : Verdict). rowNumber x s ≤ mostRows) (sym f) m) r);
     given = g ∙ ap sizeOf (w .answered) ∙ size-of (leb (length made) (length entry)) (length made) ∙ ap (λ (x : List ℕ). pick (leb (length x) (length entry)) (λ _. length x) λ _. 0) same;
     bytes = w .bytes ∙ ap (λ (x : List ℕ). pick (leb (length x) (length entry)) (λ _. x ++ drop (length x) entry) λ _. entry) same;
   }

@@ -6,8 +6,9 @@ use Prim.Native.Nat.{ℕ, zero, suc, _-_, _%_, _≤_}
 use native.Mathlib.Omega.{arith}
 use lib.ListN.{length, getD, drop, replicate}
 use Rattle.letters.specs.declared.Letter.{Letter}
-use Rattle.letters.specs.Editions.{firstEdition}
+use Rattle.letters.specs.Editions.{firstEdition, mostFunctions, mostRegisters}
 use Rattle.letters.specs.Capacity.{capacityOf}
+use Rattle.letters.specs.RefusalNumbers.{tableTooSmall}
 use Rattle.traces.specs.Traces.{packing}
 use Rattle.semantics.specs.Terms.{begin, extend, state}
 use Rattle.semantics.specs.Models.{Feasible}
@@ -17,6 +18,7 @@ use Rattle.semantics.specs.TablesRead.{Packable}
 use Rattle.semantics.specs.ShownTables.{tablesOf}
 use Rattle.macros.proofs.Theory.Numbers.{three}
 use Rattle.macros.specs.Points.{sizeBlock}
+use Rattle.grammar.specs.Limits.{mostPoints}
 use Rattle.grammar.specs.Grammar.{Macro, headerOf}
 use Rattle.grammar.specs.Spelled.{InOrder}
 use Rattle.refusals.specs.Order.{Refusal}
@@ -41,11 +43,12 @@ use Rattle.report.specs.Lines as printed
 use Rattle.report.specs.declared.Verdict.the-variants as report
 use Rattle.report.specs.Shown.{namesOf, shown, reportOf}
 use Rattle.report.specs.Bound.{letterNumber, rowNumber}
+use Rattle.report.specs.ShownLaws.{wordValues}
 use Rattle.report.proofs.Theory.Packed.{incoherent-report, packed-rows, fail-report}
-use Rattle.verdict_lines.specs.Prints.{tablePairs, declaredNames, Told, Says, Prints}
+use Rattle.verdict_lines.specs.Prints.{tableBytes, tablePairs, answerBytes, declaredNames, Told, Says, Prints}
 use Rattle.search.proofs.Theory.MacroSearch.{header-fits}
 use Rattle.verdict_lines.proofs.Theory.Answers.{event-model, showing-refused, letters-fit, rows-few, packable, count-few, event-shown}
-use Rattle.verdict_lines.specs.Reported.{reported, reportFor, Reports}
+use Rattle.verdict_lines.specs.Reported.{reported, reportFor, Reports, mostRows}
 
 -- ── names with 0 behind them ──
 none-at : (n r : ℕ) → _≡_ {A = ℕ} (getD (replicate n 0) r 0) 0
@@ -58,8 +61,11 @@ name-at [] n r = none-at n r
 name-at (x ∷ l) n zero = refl
 name-at (x ∷ l) n (suc r) = name-at l n r
 
-names-held : (m : Macro) → namesOf (padded 8 (m .registers)) (padded 4 (m .functions)) ≡ declaredNames m
-names-held m = λ i. record { register = λ r. nameText (name-at (m .registers) (8 - length (m .registers)) r i); function = λ f. nameText (name-at (m .functions) (4 - length (m .functions)) f i) }
+names-held : (m : Macro) → namesOf (padded mostRegisters (m .registers)) (padded mostFunctions (m .functions)) ≡ declaredNames m
+names-held m = λ i. record {
+  register = λ r. nameText (name-at (m .registers) (mostRegisters - length (m .registers)) r i);
+  function = λ f. nameText (name-at (m .functions) (mostFunctions - length (m .functions)) f i);
+}
 
 -- ── what is told, and that it is short ──
 record Right (m : Macro) (v : search.Verdict) (s : List ℕ) : Type 0 where
@@ -67,20 +73,20 @@ record Right (m : Macro) (v : search.Verdict) (s : List ℕ) : Type 0 where
   is-told : Told m told
   lines : reportOf (m .registers) (m .functions) (headerOf m) (reported v) s ≡ report (declaredNames m) (headerOf m) told
   letters : letterNumber (reported v) ≤ tablePairs
-  rows : rowNumber (reported v) s ≤ 349
+  rows : rowNumber (reported v) s ≤ mostRows
 
-full-or : (n p : ℕ) → ((n ≡ 14) × (p ≡ 0)) ⊎ (verdict.refused n p ≢ full)
-full-or n p = go (same-or n 14) (same-or p 0)
+full-or : (n p : ℕ) → ((n ≡ tableTooSmall) × (p ≡ 0)) ⊎ (verdict.refused n p ≢ full)
+full-or n p = go (same-or n tableTooSmall) (same-or p 0)
   where
     same-or : (i j : ℕ) → (i ≡ j) ⊎ (i ≢ j)
     same-or i j = elim (three i j) [ inl u ↦ inr (λ e. omega arith) | inr v ↦ elim v [ inl e ↦ inl e | inr u ↦ inr (λ e. omega arith) ] ]
 
-    go : (n ≡ 14) ⊎ (n ≢ 14) → (p ≡ 0) ⊎ (p ≢ 0) → ((n ≡ 14) × (p ≡ 0)) ⊎ (verdict.refused n p ≢ full)
+    go : (n ≡ tableTooSmall) ⊎ (n ≢ tableTooSmall) → (p ≡ 0) ⊎ (p ≢ 0) → ((n ≡ tableTooSmall) × (p ≡ 0)) ⊎ (verdict.refused n p ≢ full)
     go (inl e) (inl f) = inl (e, f)
     go (inl e) (inr f) = inr (λ g. f (cc))
     go (inr e) f = inr (λ g. e (cc))
 
-module _ (m : Macro) (o : InOrder m) (points : sizeBlock (m .body) ≤ 256) (output : List ℕ) (room : length output ≡ 4096) (output′ : List ℕ) where
+module _ (m : Macro) (o : InOrder m) (points : sizeBlock (m .body) ≤ mostPoints) (output : List ℕ) (room : length output ≡ answerBytes) (output′ : List ℕ) where
   abbrev Judged : search.Verdict → Type 0
   Judged v = Verdict Feasible (begin (headerOf m)) (m .body) firstEdition tablePairs output (answerOf v) output′
 
@@ -89,7 +95,7 @@ module _ (m : Macro) (o : InOrder m) (points : sizeBlock (m .body) ≤ 256) (out
   Front kind ls = output′ ≡ packed firstEdition (begin (headerOf m)) kind ls ++ drop (length (packed firstEdition (begin (headerOf m)) kind ls)) output
 
   module _ (k l pairs : ℕ) (ls : List Letter) (few : length ls ≤ tablePairs) (e : k ≡ pairs) (f : l ≡ length ls) where
-    same : l % 65536 ≡ length ls
+    same : l % wordValues ≡ length ls
     same = omega arith
 
     -- what is told of an event that is shown
@@ -135,7 +141,7 @@ module _ (m : Macro) (o : InOrder m) (points : sizeBlock (m .body) ≤ 256) (out
         stands : output′ ≡ trace ++ (packTables firstEdition (headerOf m) tables ++ rest)
         stands = b ∙ append-assoc trace (packTables firstEdition (headerOf m) tables) rest
 
-        counted : rowNumber (report.Fail k (l % 65536)) output′ ≡ length (tables .rows)
+        counted : rowNumber (report.Fail k (l % wordValues)) output′ ≡ length (tables .rows)
         counted = (λ i. rowNumber (report.Fail (e i) (same i)) (stands i))
             ∙ packed-rows (headerOf m) ls tables rest (header-fits m o) (letters-fit m o failing ls (s .of-kind)) fits
 
@@ -170,7 +176,7 @@ module _ (m : Macro) (o : InOrder m) (points : sizeBlock (m .body) ≤ 256) (out
       other e = let z : _≡_ {A = ℕ} 0 1 = cc in omega arith
   right (Refused n p) j = go (full-or n p)
     where
-      go : ((n ≡ 14) × (p ≡ 0)) ⊎ (verdict.refused n p ≢ full) → Right m (Refused n p) output′
+      go : ((n ≡ tableTooSmall) × (p ≡ 0)) ⊎ (verdict.refused n p ≢ full) → Right m (Refused n p) output′
       go (inl (e, f)) = record {
         told = printed.refused n p;
         is-told = (e, f, j .full-exactly .0 (λ i. verdict.refused (e i) (f i)));
@@ -189,13 +195,13 @@ module _ (text : List ℕ) (read : syntax.Answer) (reads : Reads text read) wher
       ap (λ (p : held.Macro). reportOf (p .registers) (p .functions) (p .header) (reported v) s) (reads .accepts m a .2)
       ∙ ap (λ (n : Names). report n (headerOf m) (shown (headerOf m) (reported v) s)) (names-held m)
 
-  held-registers : (m : Macro) → Accepted text m → read .program .header .registers ≤ 8
+  held-registers : (m : Macro) → Accepted text m → read .program .header .registers ≤ mostRegisters
   unfolding heldMacro
   held-registers m a = let z = ap (λ (p : held.Macro). p .header .registers) (reads .accepts m a .2) in let l = a .in-order .few in omega arith
 
   -- What a report needs to be short.
   abbrev Brief : search.Verdict → List ℕ → Type 0
-  Brief v s = (letterNumber (reported v) ≤ tablePairs) × (rowNumber (reported v) s ≤ 349) × (read .program .header .registers ≤ 8)
+  Brief v s = (letterNumber (reported v) ≤ tablePairs) × (rowNumber (reported v) s ≤ mostRows) × (read .program .header .registers ≤ mostRegisters)
 
   -- a refusal of the text
   module _ (number place : ℕ) (s : List ℕ) (r : Refusal text number place) where
@@ -219,7 +225,7 @@ module _ (text : List ℕ) (read : syntax.Answer) (reads : Reads text read) wher
     refused-brief (Fail k l) f = absurd (let z : _≡_ {A = ℕ} 0 1 = cc in omega arith)
     refused-brief (Incoherent k l) f = absurd (let z : _≡_ {A = ℕ} 0 1 = cc in omega arith)
 
-module _ (text table output : List ℕ) (size : length table ≡ 65536) (room : length output ≡ 4096) (v : search.Verdict) (table′ output′ : List ℕ)
+module _ (text table output : List ℕ) (size : length table ≡ tableBytes) (room : length output ≡ answerBytes) (v : search.Verdict) (table′ output′ : List ℕ)
     (demand : Demand3 Feasible text table output (answerOf v) table′ output′) where
   pairs : pairsIn firstEdition table ≡ tablePairs
   unfolding capacityOf

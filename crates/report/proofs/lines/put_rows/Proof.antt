@@ -8,7 +8,8 @@ use Rattle.letters.specs.Editions.{firstEdition}
 use Rattle.semantics.specs.TablesRead.{unitsIn, rowFrom}
 use Rattle.text.specs.Names.{nameText}
 use Rattle.report.specs.Lines.{linesOf, rowLine}
-use Rattle.report.proofs.Theory.ShownLaws.{rowIn, row-lines-start, row-lines-next, row-lines-none}
+use Rattle.report.specs.ShownLaws.{rowIn}
+use Rattle.report.proofs.Theory.ShownLaws.{row-lines-start, row-lines-next, row-lines-none}
 use Rattle.text.proofs.Theory.Appending.{Left, left-all, left-next, left-none, left-room, left-same, left-length, room-same, appended-same}
 use Rattle.report.proofs.lines.put_rows.Statement.{statement}
 use Rattle.report.proofs.lines.put_rows.Tie as tie
