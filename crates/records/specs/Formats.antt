@@ -12,7 +12,7 @@ use Rattle.base.specs.Choice.{pick}
 use Rattle.semantics.specs.PackedTables.{units, unitsIn}
 use Rattle.window.specs.Table.{table}
 use Rattle.window.specs.declared.Window.{Window}
-use Rattle.records.specs.Words.{wordsIn}
+use Rattle.records.specs.Words.{wordBytes, wordsIn}
 use Rattle.records.specs.Codes.{codeAt, heldOf, computedOf, assembled, gathered, scattered}
 
 pub record Format : Type 0 where
@@ -37,10 +37,6 @@ numberBytes = 2
 -- a branch, a flag
 abbrev pub flagBytes : ℕ
 flagBytes = 1
-
--- a word, of which the fingerprint is made
-abbrev pub wordBytes : ℕ
-wordBytes = 8
 
 -- where the branch stands in a record, behind the parent
 abbrev pub branchPlace : ℕ

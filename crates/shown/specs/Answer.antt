@@ -8,6 +8,7 @@ use Rattle.base.specs.Choice.{pick}
 use Rattle.letters.specs.declared.Header.{Header}
 use Rattle.letters.specs.declared.Letter.{Letter}
 use Rattle.letters.specs.Editions.{firstEdition, mostLetters}
+use Rattle.letters.specs.RefusalNumbers.{letterMalformed, outputTooSmall}
 use Rattle.letters.specs.Words.{HeaderFits}
 use Rattle.traces.specs.Traces.{Reading, trace, refused, reading, readingWithin}
 use Rattle.semantics.specs.Terms.{State, state, traceOf, WellFormed}
@@ -39,7 +40,7 @@ modelBytes σ = packTables firstRowWidths (σ .header) (tablesOf σ)
 
 -- "Does a due model fit the output? 6." An exact fit is one.
 abbrev pub fitted : List ℕ → ℕ → Answer
-fitted bytes room = pick (leb (length bytes) room) (λ _. model (length bytes)) λ _. refusal 6 0
+fitted bytes room = pick (leb (length bytes) room) (λ _. model (length bytes)) λ _. refusal outputTooSmall 0
 
 -- "Refused calls write no output; bytes past a written answer stay."
 abbrev pub laidIn : List ℕ → List ℕ → List ℕ
@@ -95,7 +96,7 @@ pub record LetterNamed (s out : List ℕ) (k : ℕ) (out′ : List ℕ) : Type 0
 pub data RefusedFor (s out : List ℕ) : ℕ → ℕ → Type 0 where
   unread : {number place : ℕ} → readingWithin mostLetters firstEdition s ≡ refused number place → RefusedFor s out number place
   unfit : {h : Header} {letters : List Letter} {t : Tables} → IsTrace s h letters → Feasible (state (traceOf h letters)) → ShownFor h letters t
-      → length out < length (packTables firstRowWidths h t) → RefusedFor s out 6 0
+      → length out < length (packTables firstRowWidths h t) → RefusedFor s out outputTooSmall 0
 
 -- What an answer means, with the output out before and out′ after.
 abbrev pub Means : (s out : List ℕ) → Answer → (out′ : List ℕ) → Type 0
@@ -123,4 +124,4 @@ Modelled h function first second representative n out r out′ =
 -- What is answered where letter k is the first infeasible one and the letters after it are read as x.
 pub data Stopped (h : Header) (x : Reading) (k : ℕ) : Shown → Type 0 where
   well : (ls : List Letter) → x ≡ trace h ls → Stopped h x k (shown.Infeasible k)
-  ill : (p : ℕ) → x ≡ refused 4 p → Stopped h x k (shown.Refused 4 p)
+  ill : (p : ℕ) → x ≡ refused letterMalformed p → Stopped h x k (shown.Refused letterMalformed p)

@@ -11,6 +11,7 @@ use borrow.Author.Tests.{lt-ltb, le-ltb, ltb-true, ltb-false, leb-true, leb-fals
 use Rattle.base.specs.Choice.{pick, byTest}
 use Rattle.letters.specs.declared.Letter.{Letter}
 use Rattle.letters.specs.Letters.{Fits}
+use Rattle.verdicts.specs.Capacity.{mostPairs}
 use Rattle.semantics.specs.Terms.{Trace, _▸_, state}
 use Rattle.semantics.proofs.Theory.Facts.{state-valid}
 use Rattle.semantics.specs.Coherence.{Coherent}
@@ -76,7 +77,7 @@ module _ (given : Given) where
     pub due : (j : ℕ) → j < count → pointAt t j < end given
     pub within : count ≤ n
     pub behind : d ≤ 2 * count
-    pub most : n ≤ 1024
+    pub most : n ≤ mostPairs
     pub room : recordBytes * n ≤ length t
 
   -- What a move comes to.
@@ -135,7 +136,7 @@ module _ (given : Given) where
         fits : recordBytes * count + recordBytes ≤ length t
         fits = let r = g .room in omega arith
 
-        bound : d < 2048
+        bound : d < 2 * mostPairs
         bound = let r = g .most in omega arith
 
         at-new : (pointAt u count ≡ p) × (windowAt u count ≡ v) × (parentAt u count ≡ d / 2) × (branchAt u count ≡ d % 2) × Kept u count

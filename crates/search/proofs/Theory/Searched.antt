@@ -7,6 +7,7 @@ use lib.ListN.{length}
 use borrow.Author.Tests.{eqb-true}
 use Rattle.base.specs.Choice.{byTest}
 use Rattle.letters.specs.Editions.{Edition}
+use Rattle.verdicts.specs.Capacity.{mostPairs}
 use Rattle.semantics.specs.Terms.{begin}
 use Rattle.semantics.specs.Models.{Feasible}
 use Rattle.semantics.specs.PackedTables.{RowWidths}
@@ -37,7 +38,7 @@ module _ (given : Given) (n : ℕ) where
     ended-told (found.Breaking k d) u y answer output′ z = concluded-event given n breaking k d u y edition widths output answer output′ z
     ended-told (found.Failing k d) u y answer output′ z = concluded-event given n failing k d u y edition widths output answer output′ z
 
-  module _ (t : List ℕ) (most : n ≤ 1024) (room : recordBytes * n ≤ length t) where
+  module _ (t : List ℕ) (most : n ≤ mostPairs) (room : recordBytes * n ≤ length t) where
     abbrev ending : Search × List ℕ
     ending = searchOf (header given) (held given) (end given) n t
 
