@@ -7,8 +7,10 @@ use Prim.Native.Nat.{ℕ, zero, suc, _+_, _≤_, _<_}
 use mathlib.Core.Bool.{Bool, true, false}
 use lib.Dec.{eqb, ltb}
 use lib.ListN.{length, getD}
+use Rattle.letters.specs.Editions.{mostFunctions}
 use Rattle.base.specs.Choice.{pick}
 use Rattle.base.specs.Each.{done}
+use Rattle.closure.specs.Limits.{mostTerms}
 use Rattle.closure.specs.Numbering.{Closed}
 use Rattle.closure.specs.Merging.{Propagating, Entailed, relabelOf}
 use Rattle.closure.specs.Index.{signatureOf, Holds, Chains, Complete}
@@ -38,12 +40,12 @@ pub record Named (representative : List ℕ) (n : ℕ) : Type 0 where
 pub record Formed (representative function first second : List ℕ) (registers n : ℕ) : Type 0 where
   pub some : 1 ≤ registers
   pub more : registers ≤ n
-  pub within : n ≤ 1032
-  pub long : length representative ≡ 1032
+  pub within : n ≤ mostTerms
+  pub long : length representative ≡ mostTerms
   pub classes : Below n n representative
   pub lowest : (i : ℕ) → i < n → getD representative i 0 ≤ i
   pub own : (i : ℕ) → i < n → getD representative (getD representative i 0) 0 ≡ getD representative i 0
-  pub functions : Below 4 n function
+  pub functions : Below mostFunctions n function
   pub firsts : Below n n first
   pub seconds : Below n n second
   pub first-before : (i : ℕ) → i < n → getD first i 0 ≤ i
@@ -60,15 +62,15 @@ pub record Indexed (representative function first second : List ℕ) (registers 
 
 -- A term that has a class.
 pub record Argument (representative : List ℕ) (i : ℕ) : Type 0 where
-  pub below : i < 1032
-  pub class : getD representative i 0 < 1032
+  pub below : i < mostTerms
+  pub class : getD representative i 0 < mostTerms
 
 -- What a look-up asks of the first n terms.
 pub record Readable (representative function first second : List ℕ) (registers n : ℕ) : Type 0 where
   pub some : 1 ≤ registers
   pub more : registers ≤ n
-  pub within : n ≤ 1032
-  pub functions : Below 4 n function
+  pub within : n ≤ mostTerms
+  pub functions : Below mostFunctions n function
   pub firsts : (i : ℕ) → i < n → Argument representative (getD first i 0)
   pub seconds : (i : ℕ) → i < n → Argument representative (getD second i 0)
 
@@ -87,7 +89,7 @@ united n i j l = relabelled (highOf (getD l i 0) (getD l j 0)) (lowOf (getD l i 
 
 -- Arguments are not after their terms, and a class has its lowest term as its name.
 pub record Lowest (representative first second : List ℕ) (n : ℕ) : Type 0 where
-  pub within : n ≤ 1032
+  pub within : n ≤ mostTerms
   pub firsts : (i : ℕ) → i < n → (getD first i 0 ≤ i) × (getD representative (getD first i 0) 0 ≤ getD first i 0)
   pub seconds : (i : ℕ) → i < n → (getD second i 0 ≤ i) × (getD representative (getD second i 0) 0 ≤ getD second i 0)
 

@@ -1,4 +1,4 @@
--- An index of the applications by signature. A signature is one number; its bucket is that number modulo 1,021. `head` has the application
+-- An index of the applications by signature. A signature is one number; its bucket is that number modulo the count of chains. `head` has the application
 -- that was last entered in each bucket, and `link` leads from each to the one before it. A number below `registers` is no application, and ends a chain.
 use mathlib.Core.Path.{_≡_}
 use mathlib.Core.Logic.{_≢_}
@@ -7,10 +7,11 @@ use Prim.Native.Nat.{ℕ, suc, _+_, _*_, _≤_, _<_, _%_}
 use lib.Dec.{eqb}
 use lib.ListN.{length, getD}
 use Rattle.base.specs.Choice.{pick}
+use Rattle.closure.specs.Limits.{mostTerms, chainCount, firstFactor, secondFactor}
 
--- The signature of f of two arguments of the classes p and q. The factor 1,056 · 4 is above 1,032 · 4, so that different signatures have different numbers.
+-- The signature of f of two arguments of the classes p and q.
 unfoldable pub signatureOf : (f p q : ℕ) → ℕ
-signatureOf f p q = p * 4224 + q * 4 + f
+signatureOf f p q = p * firstFactor + q * secondFactor + f
 
 -- The chain from i on has the application o.
 pub data Holds (registers : ℕ) (link : List ℕ) : (i o : ℕ) → Type 0 where
@@ -23,15 +24,15 @@ pub record Down (link : List ℕ) : Type 0 where
 
 -- Chains go down, and have numbers below n.
 pub record Chains (n : ℕ) (head link : List ℕ) : Type 0 where
-  pub head-long : length head ≡ 1021
-  pub link-long : length link ≡ 1032
+  pub head-long : length head ≡ chainCount
+  pub link-long : length link ≡ mostTerms
   pub heads : (b : ℕ) → getD head b 0 < n
   pub links : Down link
 
 -- For each of the applications below n, its bucket has one with its signature that is not after it; and a bucket has only applications whose signatures lead to it.
 pub record Complete (signature : ℕ → ℕ) (registers n : ℕ) (head link : List ℕ) : Type 0 where
-  pub has : (k : ℕ) → registers ≤ k → k < n → (o : ℕ) × (o ≤ k) × Holds registers link (getD head (signature k % 1021) 0) o × (signature o ≡ signature k)
-  pub only : (b o : ℕ) → Holds registers link (getD head b 0) o → signature o % 1021 ≡ b
+  pub has : (k : ℕ) → registers ≤ k → k < n → (o : ℕ) × (o ≤ k) × Holds registers link (getD head (signature k % chainCount) 0) o × (signature o ≡ signature k)
+  pub only : (b o : ℕ) → Holds registers link (getD head b 0) o → signature o % chainCount ≡ b
 
 -- r is an application with the signature c in the chain from i on, or below `registers` where there is none.
 pub record Found (signature : ℕ → ℕ) (registers n : ℕ) (link : List ℕ) (i c r : ℕ) : Type 0 where

@@ -5,21 +5,46 @@
 // twice for one argument). There are `count` terms. `representative` names the class of each by the lowest term in it.
 //
 // Applications are found by signature: function and classes of the arguments as one number. The index has a chain of
-// applications for each remainder of signatures by 1,021: `head` has the last that was entered, `link` leads from each to
+// applications for each remainder of signatures by their count: `head` has the last that was entered, `link` leads from each to
 // the one entered before it. A number below `registers` ends a chain.
+use letters::limits::MOST_FUNCTIONS;
+use letters::limits::MOST_LETTERS;
+use letters::limits::MOST_REGISTERS;
 ghost use mathlib.Core.Path.{_≡_};
 ghost use Prim.Native.Nat.{_<_, _≤_};
 ghost use lib.ListN.{getD};
+ghost use Rattle.letters.specs.Editions.{mostLetters, mostFunctions};
+ghost use Rattle.closure.specs.Limits.{mostTerms};
 ghost use Rattle.closure.specs.Numbering.{Closed};
 ghost use Rattle.closure.specs.Index.{signatureOf, Down, Chains, Complete, Found, Entered, Cut, CutTo, withoutLast};
 ghost use Rattle.closure.specs.Arrays.{at, Below, Formed, Argument, Readable, Indexed, Named, Lowest, Used, lowOf, highOf, fallOf, signatureAt, relabelled, united};
 ghost use Rattle.closure.specs.Arrays.{Underway, Propagated, Resumed, Merged, Parts, Clashes};
 
-/// A number for each computed term: at most eight constants and 1,024 applications.
-pub type Numbers = [u16; 1032];
+/// How many registers there are at most, each with an initial constant.
+pub const REGISTERS: usize = MOST_REGISTERS;
+
+/// How many functions.
+pub const FUNCTIONS: usize = MOST_FUNCTIONS;
+
+/// How many computed terms: one for each letter at most, and the registers' constants.
+pub const TERMS: usize = MOST_LETTERS + REGISTERS;
+
+/// How many chains an index has.
+pub const CHAINS: usize = 1021;
+
+// What the classes of the arguments count in a signature, whose function counts 1: specs/Limits.antt.
+const SECOND_FACTOR: usize = FUNCTIONS;
+
+const FIRST_FACTOR: usize = 1056 * SECOND_FACTOR;
+
+/// A number for each computed term.
+pub type Numbers = [u16; TERMS];
 
 /// The last application that was entered in each chain of an index.
-pub type Heads = [u16; 1021];
+pub type Heads = [u16; CHAINS];
+
+/// A term for each unequal test, of which there is one for each letter at most.
+pub type Sides = [u16; MOST_LETTERS];
 
 // So many applications, or more, are taken out of the index by a pass over all chains.
 const MANY: usize = 256;
@@ -41,7 +66,7 @@ fn fall(name: u16, from: u16, by: u16) -> u16
 // The representative `to` in place of `from`. A class has its lowest term as its name, so the terms before `from` have another.
 // Each entry is stored, changed or not: a loop without a branch takes eight entries at a time, and its last turns guess nothing.
 fn relabel(representative: &mut Numbers, count: usize, from: u16, to: u16)
-    requires { ⌜ (count ≤ 1032) × (from ≤ count) × (to ≤ from) × Named (now representative) count ⌝ }
+    requires { ⌜ (count ≤ mostTerms) × (from ≤ count) × (to ≤ from) × Named (now representative) count ⌝ }
     ensures { λ _. ⌜ now (representative .exit) ≡ relabelled from to count (now (representative .entry)) ⌝ }
 {
     let by = from - to;
@@ -68,7 +93,7 @@ fn higher(a: u16, b: u16) -> u16
 
 // The union of the classes of i and j.
 fn unite(representative: &mut Numbers, count: usize, i: usize, j: usize)
-    requires { ⌜ (count ≤ 1032) × (i < count) × (j < count) × Named (now representative) count ⌝ }
+    requires { ⌜ (count ≤ mostTerms) × (i < count) × (j < count) × Named (now representative) count ⌝ }
     ensures { λ _. ⌜ now (representative .exit) ≡ united count i j (now (representative .entry)) ⌝ }
 {
     let low = lower(representative[i], representative[j]);
@@ -78,12 +103,12 @@ fn unite(representative: &mut Numbers, count: usize, i: usize, j: usize)
 
 /// The signature of f of the terms a and b.
 pub fn signature(representative: &Numbers, f: u16, a: u16, b: u16) -> usize
-    requires { ⌜ (f < 4) × Argument (now representative) a × Argument (now representative) b ⌝ }
+    requires { ⌜ (f < mostFunctions) × Argument (now representative) a × Argument (now representative) b ⌝ }
     ensures { λ r. ⌜ r ≡ signatureOf f (getD (now (representative .entry)) a 0) (getD (now (representative .entry)) b 0) ⌝ }
 {
     let i = wide(a);
     let j = wide(b);
-    wide(representative[i]) * 4224 + wide(representative[j]) * 4 + wide(f)
+    wide(representative[i]) * FIRST_FACTOR + wide(representative[j]) * SECOND_FACTOR + wide(f)
 }
 
 /// The signature of application i.
@@ -94,7 +119,7 @@ pub fn signature_at(
     second: &Numbers,
     i: usize,
 ) -> usize
-    requires { ⌜ (i < 1032) × (getD (now function) i 0 < 4) × Argument (now representative) (getD (now first) i 0) × Argument (now representative) (getD (now second) i 0) ⌝ }
+    requires { ⌜ (i < mostTerms) × (getD (now function) i 0 < mostFunctions) × Argument (now representative) (getD (now first) i 0) × Argument (now representative) (getD (now second) i 0) ⌝ }
     ensures { λ r. ⌜ r ≡ signatureAt (now (representative .entry)) (now (function .entry)) (now (first .entry)) (now (second .entry)) i ⌝ }
 {
     signature(representative, function[i], first[i], second[i])
@@ -138,10 +163,10 @@ pub fn enter(
     count: usize,
     c: usize,
 ) -> usize
-    requires { ⌜ Readable (now representative) (now function) (now first) (now second) registers count × (count < 1032) × Chains count (now head) (now link) ⌝ }
+    requires { ⌜ Readable (now representative) (now function) (now first) (now second) registers count × (count < mostTerms) × Chains count (now head) (now link) ⌝ }
     ensures { λ r. ⌜ Entered (signatureAt (now (representative .entry)) (now (function .entry)) (now (first .entry)) (now (second .entry))) registers count c (now (head .entry)) (now (link .entry)) r (now (head .exit)) (now (link .exit)) ⌝ }
 {
-    let chain = c % 1021;
+    let chain = c % CHAINS;
     let start = wide(head[chain]);
     let found = find(
         representative,
@@ -164,7 +189,7 @@ pub fn enter(
 
 // The first number below the bound in the chain from `start` on.
 fn below(link: &Numbers, start: usize, bound: usize) -> usize
-    requires { ⌜ Down (now link) × (start < 1032) × (1 ≤ bound) ⌝ }
+    requires { ⌜ Down (now link) × (start < mostTerms) × (1 ≤ bound) ⌝ }
     ensures { λ r. ⌜ Cut (now (link .entry)) start bound r ⌝ }
 {
     let mut i = start;
@@ -176,11 +201,11 @@ fn below(link: &Numbers, start: usize, bound: usize) -> usize
 
 // Takes the applications from the bound on out of the index.
 fn cut(head: &mut Heads, link: &Numbers, bound: usize)
-    requires { ⌜ Chains 1032 (now head) (now link) × (1 ≤ bound) × (bound ≤ 1032) ⌝ }
+    requires { ⌜ Chains mostTerms (now head) (now link) × (1 ≤ bound) × (bound ≤ mostTerms) ⌝ }
     ensures { λ _. ⌜ CutTo (now (head .entry)) (now (link .entry)) bound (now (head .exit)) ⌝ }
 {
     let mut i: usize = 0;
-    while i < 1021 {
+    while i < CHAINS {
         let start = wide(head[i]);
         let rest = below(link, start, bound);
         head[i] = rest as u16;
@@ -222,7 +247,7 @@ fn undo(
     while bound < k {
         k = k - 1;
         let c = signature_at(representative, function, first, second, k);
-        let chain = c % 1021;
+        let chain = c % CHAINS;
         let rest = without_last(head[chain], link[k], k);
         head[chain] = rest;
     }
@@ -387,12 +412,12 @@ pub fn merge(
 /// Whether the two sides of one of the first m unequal tests are in one class. Those of the first `from` are known to be in two.
 pub fn clash(
     representative: &Numbers,
-    left: &[u16; 1024],
-    right: &[u16; 1024],
+    left: &Sides,
+    right: &Sides,
     from: usize,
     m: usize,
 ) -> bool
-    requires { ⌜ (from ≤ m) × (m ≤ 1024) × Below 1032 m (now left) × Below 1032 m (now right) × Parts (now representative) (now left) (now right) from ⌝ }
+    requires { ⌜ (from ≤ m) × (m ≤ mostLetters) × Below mostTerms m (now left) × Below mostTerms m (now right) × Parts (now representative) (now left) (now right) from ⌝ }
     ensures { λ r. ⌜ Clashes (now (representative .entry)) (now (left .entry)) (now (right .entry)) m r ⌝ }
 {
     let mut i = from;

@@ -8,6 +8,8 @@ use Rattle.base.specs.Choice.{pick}
 use Rattle.letters.specs.declared.Letter.{Letter}
 use Rattle.letters.specs.declared.Letter.the-variants.{Copy, Apply, Equal, Unequal}
 use Rattle.letters.specs.Letters.{Fits}
+use Rattle.letters.specs.Editions.{mostLetters, mostRegisters, mostFunctions}
+use Rattle.closure.specs.Limits.{mostTerms}
 use Rattle.semantics.specs.Terms.{State, after}
 use Rattle.semantics.specs.Facts.{Valid}
 use Rattle.closure.specs.Numbering.{Numbered, Exact, Closed}
@@ -22,24 +24,24 @@ pub record Engine (σ : State) (function first second representative head link v
   pub represents : Represents σ (at function) (at first) (at second) (at representative) registers n (at value)
   pub indexed : Indexed representative function first second registers n head link
   pub sides : Sides σ n (at left) (at right) m
-  pub eight : registers ≤ 8
-  pub four : σ .header .functions ≤ 4
-  pub function-long : length function ≡ 1032
-  pub first-long : length first ≡ 1032
-  pub second-long : length second ≡ 1032
-  pub value-long : length value ≡ 8
-  pub left-long : length left ≡ 1024
-  pub right-long : length right ≡ 1024
-  pub terms-few : n ≤ 8 + k
+  pub registers-few : registers ≤ mostRegisters
+  pub functions-few : σ .header .functions ≤ mostFunctions
+  pub function-long : length function ≡ mostTerms
+  pub first-long : length first ≡ mostTerms
+  pub second-long : length second ≡ mostTerms
+  pub value-long : length value ≡ mostRegisters
+  pub left-long : length left ≡ mostLetters
+  pub right-long : length right ≡ mostLetters
+  pub terms-few : n ≤ mostRegisters + k
   pub tests-few : m ≤ k
   pub parts : Parts representative left right p
   pub parts-few : p ≤ m
 
--- Fewer than 1,024 letters were performed, and the next one fits.
+-- Not all the letters that a trace may have were performed, and the next one fits.
 pub record Ready (letter : Letter) (function first second representative head link value left right : List ℕ) (registers : ℕ) (counts : Counts) : Type 0 where
   pub state : State
   pub letters : ℕ
-  pub few : letters < 1024
+  pub few : letters < mostLetters
   pub engine : Engine state function first second representative head link value left right registers (counts .terms) (counts .tests) (counts .parted) letters
   pub fits : Fits (state .header) letter
 
@@ -47,7 +49,7 @@ pub record Ready (letter : Letter) (function first second representative head li
 unfoldable pub Performed : (letter : Letter) (function first second representative head link value left right : List ℕ) (registers : ℕ) (counts : Counts)
     (function′ first′ second′ representative′ head′ link′ value′ left′ right′ : List ℕ) (counts′ : Counts) → Type 0
 Performed letter function first second representative head link value left right registers counts function′ first′ second′ representative′ head′ link′ value′ left′ right′ counts′ =
-    (σ : State) (k : ℕ) → k < 1024 → Fits (σ .header) letter → Engine σ function first second representative head link value left right registers (counts .terms) (counts .tests) (counts .parted) k
+    (σ : State) (k : ℕ) → k < mostLetters → Fits (σ .header) letter → Engine σ function first second representative head link value left right registers (counts .terms) (counts .tests) (counts .parted) k
     → Engine (after σ letter) function′ first′ second′ representative′ head′ link′ value′ left′ right′ registers (counts′ .terms) (counts′ .tests) (counts′ .parted) (suc k)
 
 -- The class of the application that the index has, or of the new one, n.
@@ -58,11 +60,11 @@ nameOf representative found n = pick (eqb found n) (λ _. n) λ _. at representa
 pub record Appliable (function first second representative head link : List ℕ) (registers n f a b : ℕ) : Type 0 where
   pub formed : Formed representative function first second registers n
   pub indexed : Indexed representative function first second registers n head link
-  pub function-long : length function ≡ 1032
-  pub first-long : length first ≡ 1032
-  pub second-long : length second ≡ 1032
-  pub room : n < 1032
-  pub known : f < 4
+  pub function-long : length function ≡ mostTerms
+  pub first-long : length first ≡ mostTerms
+  pub second-long : length second ≡ mostTerms
+  pub room : n < mostTerms
+  pub known : f < mostFunctions
   pub first-term : a < n
   pub second-term : b < n
 
@@ -79,9 +81,9 @@ pub record Applied (function first second representative head link : List ℕ) (
 -- What `compute` asks: registers that hold terms.
 pub record Computable (function first second representative head link value : List ℕ) (registers : ℕ) (counts : Counts) (x f y z : ℕ) : Type 0 where
   pub appliable : Appliable function first second representative head link registers (counts .terms) f (at value y) (at value z)
-  pub target-in : x < 8
-  pub first-in : y < 8
-  pub second-in : z < 8
+  pub target-in : x < mostRegisters
+  pub first-in : y < mostRegisters
+  pub second-in : z < mostRegisters
 
 -- An application of f to the terms of y and z is computed, and x holds the new term.
 pub record Computing (function first second representative head link value : List ℕ) (registers : ℕ) (counts : Counts) (x f y z : ℕ) (function′ first′ second′ representative′ head′ link′ value′ : List ℕ) (counts′ : Counts) : Type 0 where
@@ -94,8 +96,8 @@ pub record Equatable (function first second representative head link value : Lis
   pub formed : Formed representative function first second registers (counts .terms)
   pub closed : Closed (at function) (at first) (at second) registers (counts .terms) (at representative)
   pub indexed : Indexed representative function first second registers (counts .terms) head link
-  pub first-in : x < 8
-  pub second-in : y < 8
+  pub first-in : x < mostRegisters
+  pub second-in : y < mostRegisters
   pub first-term : at value x < counts .terms
   pub second-term : at value y < counts .terms
 
@@ -109,8 +111,8 @@ pub record Equated (function first second representative value : List ℕ) (regi
 
 -- What a copy or an unequal test asks: registers, and room for a test.
 unfoldable pub Notable : Letter → Counts → Type 0
-Notable (Copy x y) counts = (x < 8) × (y < 8)
-Notable (Unequal x y) counts = (x < 8) × (y < 8) × (counts .tests < 1024)
+Notable (Copy x y) counts = (x < mostRegisters) × (y < mostRegisters)
+Notable (Unequal x y) counts = (x < mostRegisters) × (y < mostRegisters) × (counts .tests < mostLetters)
 Notable (Apply x f y z) counts = Unit
 Notable (Equal x y) counts = Unit
 
@@ -127,7 +129,7 @@ Noted (Equal x y) value left right counts value′ left′ right′ counts′ = 
 pub record Computed (σ : State) (function first second representative : List ℕ) (registers n : ℕ) : Type 0 where
   pub valid : Valid σ
   pub header-registers : σ .header .registers ≡ registers
-  pub eight : registers ≤ 8
+  pub registers-few : registers ≤ mostRegisters
   pub formed : Formed representative function first second registers n
   pub numbered : Numbered (σ .terms) (at function) (at first) (at second) registers n
   pub exactly : Exact (σ .terms) (σ .equals) n (at representative)

@@ -6,11 +6,13 @@ use lib.ListN.{length, getD, drop}
 use Rattle.base.specs.Each.{done}
 use Rattle.letters.specs.declared.Header.{Header}
 use Rattle.letters.specs.declared.Letter.{Letter}
-use Rattle.letters.specs.Editions.{firstEdition}
+use Rattle.letters.specs.Editions.{firstEdition, mostLetters}
 use Rattle.letters.specs.Answers.{value}
 use Rattle.traces.specs.Reading.{Reading, trace, refused, beginning, letterCount, letterIn, parts, lettersFrom, lettersOf}
 use Rattle.semantics.specs.Terms.{state, traceOf}
 use Rattle.semantics.specs.Facts.{WellFormed}
+use Rattle.closure.specs.Limits.{mostTerms}
+use Rattle.letters.specs.RefusalNumbers.{letterMalformed}
 use Rattle.semantics.specs.Models.{Feasible}
 use Rattle.semantics.specs.Judgement.{FailsAt}
 use Rattle.semantics.specs.FirstLetters.{firstInfeasible}
@@ -22,11 +24,11 @@ use Rattle.engine.specs.Engine.{Engine, Computed}
 pub record Begun (s : List ℕ) (h : Header) (count : ℕ) : Type 0 where
   pub header : beginning firstEdition s ≡ value h
   pub letters : count ≡ letterCount firstEdition s
-  pub few : count ≤ 1024
+  pub few : count ≤ mostLetters
 
 -- What the letters from number k on, counted from 0, are read as.
 abbrev pub restOf : (s : List ℕ) (h : Header) (count k : ℕ) → Reading
-restOf s h count k = lettersFrom (letterIn firstEdition h) h (k + 1) (parts 2 (count - k) (drop (2 * (k + 1)) s))
+restOf s h count k = lettersFrom (letterIn firstEdition h) h (k + 1) (parts (firstEdition .bytes) (count - k) (drop (firstEdition .bytes * (k + 1)) s))
 
 -- Some letters, and then what is read.
 abbrev pub behind : List Letter → Reading → Reading
@@ -35,7 +37,7 @@ behind ls (refused number place) = refused number place
 
 -- An array of zeros for the engine.
 pub record Blank (l : List ℕ) : Type 0 where
-  pub long : length l ≡ 1032
+  pub long : length l ≡ mostTerms
   pub zero : (k : ℕ) → getD l k 0 ≡ 0
 
 -- The first entries of both are their own numbers, and the others stay.
@@ -55,7 +57,7 @@ pub record Running (s : List ℕ) (h : Header) (count : ℕ) (function first sec
 -- What a run answers: the first letter that is not well formed; the first infeasible letter, where the letters after it are still to be read;
 -- or the number of computed terms, whose classes the arrays then hold.
 pub data Ran (s : List ℕ) (h : Header) (count : ℕ) (function first second representative : List ℕ) : Outcome → Type 0 where
-  malformed : (k : ℕ) → lettersOf firstEdition h s ≡ refused 4 k → Ran s h count function first second representative (outcome.Malformed k)
+  malformed : (k : ℕ) → lettersOf firstEdition h s ≡ refused letterMalformed k → Ran s h count function first second representative (outcome.Malformed k)
   infeasible : (k : ℕ) (ls : List Letter) → lettersOf firstEdition h s ≡ behind ls (restOf s h count k) → FailsAt (λ π. Feasible (state π)) (traceOf h ls) k → 1 ≤ k
       → Ran s h count function first second representative (outcome.Infeasible k)
   feasible : (n : ℕ) (ls : List Letter) → lettersOf firstEdition h s ≡ trace h ls → 0 ≡ firstInfeasible (traceOf h ls) → Computed (state (traceOf h ls)) function first second representative (h .registers) n
@@ -64,4 +66,4 @@ pub data Ran (s : List ℕ) (h : Header) (count : ℕ) (function first second re
 -- What is said of the letters from some number on: all are well formed, or the number of the first that is not, from 1.
 pub data RestRead (h : Header) (x : Reading) : ℕ → Type 0 where
   all-read : (ls : List Letter) → x ≡ trace h ls → RestRead h x 0
-  broken : (p : ℕ) → 1 ≤ p → x ≡ refused 4 p → RestRead h x p
+  broken : (p : ℕ) → 1 ≤ p → x ≡ refused letterMalformed p → RestRead h x p

@@ -4,14 +4,22 @@
 // `left` and `right` the two sides of each unequal test.
 ghost use mathlib.Core.Path.{_≡_};
 ghost use Prim.Native.Nat.{_<_, _≤_};
+ghost use Rattle.letters.specs.Editions.{mostRegisters};
+ghost use Rattle.closure.specs.Limits.{mostTerms};
 ghost use Rattle.engine.specs.Engine.{Ready, Performed, Appliable, Applied, Computable, Computing, Equatable, Equated, Notable, Noted, nameOf};
 ghost use Rattle.engine.specs.Run.{Begun, Blank, Began, Running, Ran, restOf, RestRead};
+use closure::CHAINS;
 use closure::Heads;
 use closure::Numbers;
+use closure::REGISTERS;
+use closure::Sides;
+use closure::TERMS;
 use closure::wide;
 use letters::DecodedLetter;
 use letters::Header;
 use letters::Letter;
+use letters::limits::MOST_LETTERS;
+use letters::limits::UNIT_BYTES;
 use letters::words;
 
 /// What was counted so far.
@@ -36,7 +44,7 @@ pub enum Outcome {
 
 // The class of the application that the index has, or of the new one.
 fn name(representative: &Numbers, found: usize, count: usize) -> u16
-    requires { ⌜ (found ≤ count) × (count < 1032) ⌝ }
+    requires { ⌜ (found ≤ count) × (count < mostTerms) ⌝ }
     ensures { λ r. ⌜ r ≡ nameOf (now (representative .entry)) found count ⌝ }
 {
     if found == count {
@@ -89,7 +97,7 @@ fn compute(
     representative: &mut Numbers,
     head: &mut Heads,
     link: &mut Numbers,
-    value: &mut [u16; 8],
+    value: &mut [u16; REGISTERS],
     registers: usize,
     counts: Counts,
     target: u8,
@@ -130,7 +138,7 @@ fn equate(
     representative: &mut Numbers,
     head: &mut Heads,
     link: &mut Numbers,
-    value: &[u16; 8],
+    value: &[u16; REGISTERS],
     registers: usize,
     counts: Counts,
     a: u8,
@@ -165,9 +173,9 @@ fn equate(
 // A copy or an unequal test.
 fn note(
     letter: Letter,
-    value: &mut [u16; 8],
-    left: &mut [u16; 1024],
-    right: &mut [u16; 1024],
+    value: &mut [u16; REGISTERS],
+    left: &mut Sides,
+    right: &mut Sides,
     counts: Counts,
 ) -> Counts
     requires { ⌜ Notable letter counts ⌝ }
@@ -205,9 +213,9 @@ fn step(
     representative: &mut Numbers,
     head: &mut Heads,
     link: &mut Numbers,
-    value: &mut [u16; 8],
-    left: &mut [u16; 1024],
-    right: &mut [u16; 1024],
+    value: &mut [u16; REGISTERS],
+    left: &mut Sides,
+    right: &mut Sides,
     registers: usize,
     counts: Counts,
 ) -> Counts
@@ -257,8 +265,8 @@ fn step(
 }
 
 // Before any letter each register has its own constant, and each constant a class of its own.
-fn begin(representative: &mut Numbers, value: &mut [u16; 8], registers: usize)
-    requires { ⌜ registers ≤ 8 ⌝ }
+fn begin(representative: &mut Numbers, value: &mut [u16; REGISTERS], registers: usize)
+    requires { ⌜ registers ≤ mostRegisters ⌝ }
     ensures { λ _. ⌜ Began (now (representative .entry)) (now (value .entry)) registers (now (representative .exit)) (now (value .exit)) ⌝ }
 {
     let mut i: usize = 0;
@@ -280,9 +288,9 @@ fn perform(
     representative: &mut Numbers,
     head: &mut Heads,
     link: &mut Numbers,
-    value: &mut [u16; 8],
-    left: &mut [u16; 1024],
-    right: &mut [u16; 1024],
+    value: &mut [u16; REGISTERS],
+    left: &mut Sides,
+    right: &mut Sides,
 ) -> Outcome
     requires { ⌜ Begun (now trace) header letters × Running (now trace) header letters (now function) (now first) (now second) (now representative) (now head) (now link) (now value) (now left) (now right) (header .registers) (header .registers) 0 0 0 ⌝ }
     ensures { λ r. ⌜ Ran (now (trace .entry)) header letters (now (function .exit)) (now (first .exit)) (now (second .exit)) (now (representative .exit)) r ⌝ }
@@ -331,7 +339,7 @@ pub fn first_malformed(header: Header, trace: &[u8], letters: usize, k: usize) -
 {
     let mut i = k;
     while i < letters {
-        let at = 2 * i + 2;
+        let at = UNIT_BYTES * i + UNIT_BYTES;
         let decoded = words::decode_letter(header, words::word(trace[at], trace[at + 1]));
         let DecodedLetter::Letter(letter) = decoded else {
             return i as u64 + 1;
@@ -356,11 +364,11 @@ pub fn run(
     ensures { λ r. ⌜ Ran (now (trace .entry)) header letters (now (function .exit)) (now (first .exit)) (now (second .exit)) (now (representative .exit)) r ⌝ }
 {
     let registers = header.registers as usize;
-    let mut head = [0u16; 1021];
-    let mut link = [0u16; 1032];
-    let mut value = [0u16; 8];
-    let mut left = [0u16; 1024];
-    let mut right = [0u16; 1024];
+    let mut head = [0u16; CHAINS];
+    let mut link = [0u16; TERMS];
+    let mut value = [0u16; REGISTERS];
+    let mut left = [0u16; MOST_LETTERS];
+    let mut right = [0u16; MOST_LETTERS];
     begin(representative, &mut value, registers);
     perform(
         header,

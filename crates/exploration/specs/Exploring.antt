@@ -7,6 +7,7 @@ use lib.ListN.{getD}
 use Rattle.base.specs.Choice.{pick}
 use Rattle.blocks.specs.declared.Point.{Point}
 use Rattle.letters.specs.declared.Header.{Header}
+use Rattle.refusals.specs.Order.{mostPoints}
 use Rattle.window.specs.Perform.{freshOf}
 use Rattle.records.specs.Records.{encoded, recordOf}
 use Rattle.table.specs.Table.{pointAt, putAt}
@@ -19,7 +20,7 @@ use Rattle.exploration.specs.Turns.{turnOf, tableOf}
 
 -- The point of pair i.
 abbrev pub pointOf : List Point → List ℕ → ℕ → Point
-pointOf ps t i = getD ps (pointAt t i % 256) noPoint
+pointOf ps t i = getD ps (pointAt t i % mostPoints) noPoint
 
 -- What follows a move that leaves the table t: the search goes on, or it ends.
 abbrev pub onTurn : Turn → List ℕ → ℕ → ℕ → (ℕ → Search × List ℕ) → Search × List ℕ

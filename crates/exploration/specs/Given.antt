@@ -1,11 +1,12 @@
 -- What the search is given: a macro that was read. It is searched with the window as the monitor.
 use Prim.Native.Nat.{_≤_}
+use Rattle.refusals.specs.Order.{mostPoints}
 use Rattle.macros.specs.Points.{sizeBlock}
 use Rattle.grammar.specs.Grammar.{Macro}
 use Rattle.grammar.specs.Spelled.{InOrder}
 
--- A macro in order, of at most 256 points.
+-- A macro in order, of no more points than document 01 allows.
 pub record Given : Type 0 where
   pub macro : Macro
   pub in-order : InOrder macro
-  pub few : sizeBlock (macro .body) ≤ 256
+  pub few : sizeBlock (macro .body) ≤ mostPoints

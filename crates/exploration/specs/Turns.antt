@@ -2,6 +2,7 @@
 use Prim.Native.Nat.{ℕ, _+_, _*_, _/_, _%_, _≤_, _<_}
 use mathlib.Core.List.{List}
 use lib.Dec.{eqb, leb}
+use Rattle.letters.specs.Capacity.{mostPairs}
 use Rattle.base.specs.Choice.{pick}
 use Rattle.blocks.specs.declared.Point.{Point}
 use Rattle.window.specs.declared.Window.{Window}
@@ -16,7 +17,7 @@ use Rattle.exploration.specs.Moves.{moveOf}
 
 -- The numbers that a move needs: the table has room for n pairs, of which count are listed, and move number d is at one of these.
 pub record Room (n count d size : ℕ) : Type 0 where
-  pub most : n ≤ 1024
+  pub most : n ≤ mostPairs
   pub fits : recordBytes * n ≤ size
   pub listed : count ≤ n
   pub due : d < 2 * count

@@ -1,13 +1,17 @@
 // The exploration of the pairs of a macro, breadth first from pair to pair (document 01, "The search for a verdict").
+use blocks::MOST;
 use blocks::Point;
+use index::CHAINS;
 use index::Heads;
 use index::Links;
 use letters::Header;
 use letters::Letter;
+use table::MOST_PAIRS;
 use window::Window;
 ghost use mathlib.Core.Path.{_≡_};
 ghost use Prim.Native.Nat.{_+_, _*_, _/_, _%_, _≤_};
 ghost use lib.ListN.{length};
+ghost use Rattle.letters.specs.Capacity.{mostPairs};
 ghost use Rattle.exploration.specs.Moves.{oppositeOf, moveOf, letterOf, AllWithin};
 ghost use Rattle.window.specs.Perform.{Within};
 ghost use Rattle.exploration.specs.Turns.{Room, reachTurn, reachTable, failTurn, turnOf, tableOf};
@@ -16,6 +20,9 @@ ghost use Rattle.exploration.specs.Keeping.{Keeps, Carried};
 ghost use Rattle.records.specs.Records.{recordBytes};
 ghost use Rattle.table.specs.Table.{windowAt};
 ghost use Rattle.index.specs.Index.{Indexed};
+
+/// How many points a macro has at most.
+pub const POINTS: usize = MOST as usize;
 
 /// What a branch of a point performs.
 pub enum PointMove {
@@ -220,19 +227,19 @@ fn current(table: &[u8], w: Window, d: usize) -> Window
 }
 
 // Performs the moves in order, from the pair in the table's first record on.
-fn explore(points: [Point; 256], end: usize, table: &mut [u8], n: usize) -> Search
-    requires { ⌜ (n ≤ 1024) × (1 ≤ n) × (recordBytes * n ≤ length (now table)) × AllWithin points ⌝ }
+fn explore(points: [Point; POINTS], end: usize, table: &mut [u8], n: usize) -> Search
+    requires { ⌜ (n ≤ mostPairs) × (1 ≤ n) × (recordBytes * n ≤ length (now table)) × AllWithin points ⌝ }
     ensures { λ r. ⌜ (r ≡ exploreOf points end n (now (table .entry)) .0) × (now (table .exit) ≡ exploreOf points end n (now (table .entry)) .1) ⌝ }
 {
-    let mut head = [0u16; 1024];
-    let mut link = [0u16; 1024];
+    let mut head = [0u16; CHAINS];
+    let mut link = [0u16; MOST_PAIRS];
     let mut w = window::fresh(1);
     let mut count: usize = 1;
     let mut d: usize = 0;
     while d < 2 * count {
         w = current(table, w, d);
         let k = table::point_at(table, d / 2);
-        let point = points[k % 256];
+        let point = points[k % POINTS];
         let turn = one_move(point, w, end, table, &mut head, &mut link, n, count, d);
         match turn {
             Turn::On(m) => {
@@ -257,12 +264,12 @@ fn explore(points: [Point; 256], end: usize, table: &mut [u8], n: usize) -> Sear
 /// For a caller that has counted the table's room, and whose points were read.
 pub fn search_pairs(
     header: Header,
-    points: [Point; 256],
+    points: [Point; POINTS],
     end: usize,
     table: &mut [u8],
     n: usize,
 ) -> Search
-    requires { ⌜ (n ≤ 1024) × (recordBytes * n ≤ length (now table)) × AllWithin points ⌝ }
+    requires { ⌜ (n ≤ mostPairs) × (recordBytes * n ≤ length (now table)) × AllWithin points ⌝ }
     ensures { λ r. ⌜ (r ≡ searchOf header points end n (now (table .entry)) .0) × (now (table .exit) ≡ searchOf header points end n (now (table .entry)) .1) ⌝ }
 {
     if end == 0 {

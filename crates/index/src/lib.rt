@@ -1,20 +1,25 @@
-// An index of the pairs in the search's table: a chain of records for each remainder of fingerprints by 1,024.
+// An index of the pairs in the search's table: a chain of records for each remainder of fingerprints by the count of chains.
 //
 // `head` has the record that was last entered in each chain, `link` leads from each record to the one entered before it. Record 0 ends every chain
 // and needs no entry: an index of it alone is zeros.
 use records::ENCODED_BYTES;
+use table::MOST_PAIRS;
 ghost use mathlib.Core.Path.{_≡_};
 ghost use Prim.Native.Nat.{_*_, _≤_, _<_};
 ghost use lib.ListN.{length, getD, set};
+ghost use Rattle.letters.specs.Capacity.{mostPairs};
 ghost use Rattle.records.specs.Records.{recordBytes, encodedBytes};
 ghost use Rattle.table.specs.Table.{isListed};
-ghost use Rattle.index.specs.Index.{chainOf, Indexed};
+ghost use Rattle.index.specs.Index.{chainCount, chainOf, Indexed};
+
+/// How many chains there are.
+pub const CHAINS: usize = 1024;
 
 /// A record for each chain.
-pub type Heads = [u16; 1024];
+pub type Heads = [u16; CHAINS];
 
 /// A record for each record.
-pub type Links = [u16; 1024];
+pub type Links = [u16; MOST_PAIRS];
 
 fn wide(x: u16) -> usize
     ensures { λ r. ⌜ r ≡ x ⌝ }
@@ -33,9 +38,9 @@ fn number(x: u8) -> usize
 fn chain_of(pair: &[u8; ENCODED_BYTES]) -> usize
     requires { ⌜ length (now pair) ≡ encodedBytes ⌝ }
     ensures { λ r. ⌜ r ≡ chainOf (now (pair .entry)) ⌝ }
-    ensures small { λ r. ⌜ r < 1024 ⌝ }
+    ensures small { λ r. ⌜ r < chainCount ⌝ }
 {
-    (number(pair[1]) + 256 * number(pair[0])) % 1024
+    (number(pair[1]) + 256 * number(pair[0])) % CHAINS
 }
 
 /// Whether the pair is one of the first `count`: those on its chain are compared, and record 0.
@@ -47,7 +52,7 @@ pub fn is_listed(
     pair: &[u8; ENCODED_BYTES],
 ) -> bool
     requires { ⌜ Indexed (now table) (now head)
-        (now link) count × (count ≤ 1024) × (recordBytes * count ≤ length (now table)) × (length (now pair) ≡ encodedBytes) ⌝ }
+        (now link) count × (count ≤ mostPairs) × (recordBytes * count ≤ length (now table)) × (length (now pair) ≡ encodedBytes) ⌝ }
     ensures { λ r. ⌜ r ≡ isListed (now (table .entry)) count (now (pair .entry)) ⌝ }
 {
     let chain = chain_of(pair);
@@ -63,7 +68,7 @@ pub fn is_listed(
 
 /// Enters record k at the front of the chain of its pair.
 pub fn enter(head: &mut Heads, link: &mut Links, k: usize, pair: &[u8; ENCODED_BYTES])
-    requires { ⌜ (length (now head) ≡ 1024) × (length (now link) ≡ 1024) × (k < 1024) × (length (now pair) ≡ encodedBytes) ⌝ }
+    requires { ⌜ (length (now head) ≡ chainCount) × (length (now link) ≡ mostPairs) × (k < mostPairs) × (length (now pair) ≡ encodedBytes) ⌝ }
     ensures { λ _. ⌜ (now (head .exit) ≡ set (now (head .entry))
         (chainOf (now (pair .entry))) k) × (now (link .exit) ≡ set (now (link .entry)) k (getD (now (head .entry)) (chainOf (now (pair .entry))) 0)) ⌝ }
 {

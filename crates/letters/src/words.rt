@@ -4,6 +4,8 @@ use super::DecodedLetter;
 use super::Encoded;
 use super::Header;
 use super::Letter;
+use super::limits::MOST_FUNCTIONS;
+use super::limits::MOST_REGISTERS;
 ghost use mathlib.Core.Path.{_≡_};
 ghost use mathlib.Core.Bool.{true, _&&_};
 ghost use mathlib.Core.List.{[], _∷_};
@@ -22,6 +24,31 @@ ghost use Rattle.letters.specs.Words.{bitsFrom, headerFields, headerWord
 ghost use Rattle.letters.specs.Coding.{headerTest, fitsTest, applyTest};
 ghost use Rattle.letters.specs.Coding.{headerOf, letterBy, decodeHeader, decodeLetter};
 ghost use Rattle.letters.specs.Encoding.{encodeHeader, encodeLetter};
+
+// The limits as a header holds its counts.
+const REGISTER_LIMIT: u8 = MOST_REGISTERS as u8;
+const FUNCTION_LIMIT: u8 = MOST_FUNCTIONS as u8;
+
+// How many functions the mask of a header has bits for.
+const MASK_BITS: u8 = 8;
+
+// What a header's fields count in its word: registers 4 bits, functions 3, arity 4, spare 5.
+const HEADER_REGISTERS: u16 = 4096;
+
+const HEADER_FUNCTIONS: u16 = 512;
+
+const HEADER_ARITY: u16 = 32;
+
+// What a letter's fields count in its word: kind 2 bits, function 2, target 3, first 3, second 3, spare 3.
+const LETTER_KIND: u16 = 16384;
+
+const LETTER_FUNCTION: u16 = 4096;
+
+const LETTER_TARGET: u16 = 512;
+
+const LETTER_FIRST: u16 = 64;
+
+const LETTER_SECOND: u16 = 8;
 
 /// Two bytes as a word, the first the more significant.
 pub fn word(high: u8, low: u8) -> u16
@@ -57,7 +84,7 @@ pub fn put_word(out: &mut [u8], at: usize, word: u16)
 pub fn takes_two(h: Header, f: u8) -> bool
     ensures { λ r. ⌜ r ≡ has (h .binary) f ⌝ }
 {
-    if 8 <= f {
+    if MASK_BITS <= f {
         return false;
     }
     (h.binary >> f) % 2 == 1
@@ -70,10 +97,10 @@ pub fn header_fits(h: Header) -> bool
     if h.registers < 1 {
         return false;
     }
-    if 8 < h.registers {
+    if REGISTER_LIMIT < h.registers {
         return false;
     }
-    if 4 < h.functions {
+    if FUNCTION_LIMIT < h.functions {
         return false;
     }
     h.binary < (1u8 << h.functions)
@@ -140,7 +167,9 @@ fn header_word(h: Header) -> u16
     ensures { λ r. ⌜ r ≡ headerWord firstEdition h ⌝ }
 {
     let arity = mirrored(h.binary);
-    (h.registers as u16) * 4096 + (h.functions as u16) * 512 + (arity as u16) * 32
+    (h.registers as u16) * HEADER_REGISTERS
+        + (h.functions as u16) * HEADER_FUNCTIONS
+        + (arity as u16) * HEADER_ARITY
 }
 
 /// The word of a header.
@@ -157,9 +186,9 @@ pub fn encode_header(h: Header) -> Encoded
 fn named_header(word: u16) -> Header
     ensures { λ r. ⌜ r ≡ headerOf firstEdition (split (firstEdition .header) word) ⌝ }
 {
-    let registers = (word / 4096 % 16) as u8;
-    let functions = (word / 512 % 8) as u8;
-    let arity = (word / 32 % 16) as u8;
+    let registers = (word / HEADER_REGISTERS % 16) as u8;
+    let functions = (word / HEADER_FUNCTIONS % 8) as u8;
+    let arity = (word / HEADER_ARITY % 16) as u8;
     let binary = mirrored(arity);
     Header {
         registers,
@@ -188,11 +217,11 @@ fn packed_fields(kind: u16, function: u8, target: u8, first: u8, second: u8) -> 
     requires { ⌜ Sized (firstEdition .letter) (kind ∷ function ∷ target ∷ first ∷ second ∷ 0 ∷ []) ⌝ }
     ensures { λ r. ⌜ r ≡ join (firstEdition .letter) (kind ∷ function ∷ target ∷ first ∷ second ∷ 0 ∷ []) ⌝ }
 {
-    kind * 16384
-        + (function as u16) * 4096
-        + (target as u16) * 512
-        + (first as u16) * 64
-        + (second as u16) * 8
+    kind * LETTER_KIND
+        + (function as u16) * LETTER_FUNCTION
+        + (target as u16) * LETTER_TARGET
+        + (first as u16) * LETTER_FIRST
+        + (second as u16) * LETTER_SECOND
 }
 
 /// Of two numbers, the one for a function of two arguments or the one for a function of one.
@@ -297,11 +326,11 @@ fn test(kind: u16, first: u8, second: u8) -> DecodedLetter
 pub fn decode_letter(h: Header, word: u16) -> DecodedLetter
     ensures { λ r. ⌜ letterAnswer r ≡ decodeLetter firstEdition h word ⌝ }
 {
-    let kind = word / 16384 % 4;
-    let function = (word / 4096 % 4) as u8;
-    let target = (word / 512 % 8) as u8;
-    let first = (word / 64 % 8) as u8;
-    let second = (word / 8 % 8) as u8;
+    let kind = word / LETTER_KIND % 4;
+    let function = (word / LETTER_FUNCTION % 4) as u8;
+    let target = (word / LETTER_TARGET % 8) as u8;
+    let first = (word / LETTER_FIRST % 8) as u8;
+    let second = (word / LETTER_SECOND % 8) as u8;
     if !header_fits(h) | (word % 8 != 0) {
         return DecodedLetter::Malformed;
     }

@@ -16,6 +16,7 @@ use Rattle.letters.specs.CodeAnswers.{headerAnswer, letterAnswer}
 use Rattle.letters.specs.Editions.{firstEdition}
 use Rattle.letters.specs.Coding.{decodeHeader, decodeLetter}
 use Rattle.letters.proofs.Theory.WordLaws.{first-roomy, decode-letter}
+use Rattle.letters.specs.RefusalNumbers.{headerMalformed, letterMalformed}
 use Rattle.window.specs.Perform.{Within, freshOf}
 use Rattle.window.proofs.Theory.Step.{fits-within}
 use Rattle.window.specs.declared.Window.{Window}
@@ -35,7 +36,7 @@ use Rattle.monitoring.proofs.Theory.StreamRight.{demand-met}
 use Rattle.monitoring.specs.Stream.{answerOf, streamWith, pushedIn, pushedOf, finishedIn, finishedOf, pushedAll}
 
 module _ (word : ℕ) (d : DecodedHeader) (e : headerAnswer d ≡ decodeHeader firstEdition word) where
-  pub start-refused : (m : Monitor) → d ≡ decoded-header.Malformed → m ≡ idleOf → stepped (outcome.Refused 3) m ≡ startOf word
+  pub start-refused : (m : Monitor) → d ≡ decoded-header.Malformed → m ≡ idleOf → stepped (outcome.Refused headerMalformed) m ≡ startOf word
   unfolding startOf
   start-refused m g i = rw (← e, g, i)
 
@@ -45,7 +46,7 @@ module _ (word : ℕ) (d : DecodedHeader) (e : headerAnswer d ≡ decodeHeader f
   start-taken h w g f = rw (← e, g, f)
 
 module _ (m : Monitor) (word : ℕ) (d : DecodedLetter) (e : letterAnswer d ≡ decodeLetter firstEdition (m .header) word) where
-  pub step-refused : d ≡ decoded-letter.Malformed → stepped (outcome.Refused 4) m ≡ advance m word
+  pub step-refused : d ≡ decoded-letter.Malformed → stepped (outcome.Refused letterMalformed) m ≡ advance m word
   unfolding advance
   step-refused g = rw (← e, g)
 

@@ -15,6 +15,7 @@ use Rattle.letters.specs.declared.DecodedLetter.the-variants as decoded-letter
 use Rattle.letters.specs.CodeAnswers.{letterAnswer}
 use Rattle.letters.specs.Editions.{firstEdition}
 use Rattle.letters.specs.Coding.{decodeLetter}
+use Rattle.letters.specs.RefusalNumbers.{letterMalformed}
 use Rattle.window.specs.Perform.{judgeOf}
 use Rattle.window.specs.declared.Window.{Window}
 use Rattle.monitoring.specs.declared.Monitor.{Monitor}
@@ -50,10 +51,10 @@ module _ (h : Header) (w : Window) (b : Bool) (n one two number word : ℕ) (d :
       take-taken (runOf h w b n (Judged one two)) word one two refl number c (stepped outcome.Taken next) (step-taken m word d e a next g (moved-parts h w b j fine a w′ p q r)) (runOf h w′ fine number (Judged one′ two′)) refl (rw (s, t))
 
   -- the run that ends at a word that is no letter
-  run-malformed : d ≡ decoded-letter.Malformed → runOf h w b n (Refused 4 number) ≡ takenRun (runOf h w b n (Judged one two)) word
+  run-malformed : d ≡ decoded-letter.Malformed → runOf h w b n (Refused letterMalformed number) ≡ takenRun (runOf h w b n (Judged one two)) word
   run-malformed g =
       let m : Monitor = record { header = h; window = w; running = b } in
-      take-refused (runOf h w b n (Judged one two)) word one two refl number c (stepped (outcome.Refused 4) m) (step-refused m word d e g) 4 refl
+      take-refused (runOf h w b n (Judged one two)) word one two refl number c (stepped (outcome.Refused letterMalformed) m) (step-refused m word d e g) letterMalformed refl
 
 -- ---- letter after letter
 
@@ -87,10 +88,10 @@ module _ (h : Header) (w : Window) (b : Bool) (n one two : ℕ) (bytes : List �
 
   -- the end at a word that is no letter
   pub taken-malformed : (number word : ℕ) (d : DecodedLetter) → 1 < length bytes - i → word ≡ getD bytes i 0 * 256 + getD bytes (i + 1) 0 → letterAnswer d ≡ decodeLetter firstEdition h word → number ≡ nextNumber n
-      → d ≡ decoded-letter.Malformed → runOf h w b n (Refused 4 number) ≡ whole
+      → d ≡ decoded-letter.Malformed → runOf h w b n (Refused letterMalformed number) ≡ whole
   taken-malformed number word d l k e c g =
-      let run = runOf h w b n (Refused 4 number) in
-      sym (taken-ended run 4 number refl (drop (i + 2) bytes)) ∙ ap (λ t. takenAll t (drop (i + 2) bytes)) (run-malformed h w b n one two number word d e c g ∙ ap (takenRun (runOf h w b n (Judged one two))) k)
+      let run = runOf h w b n (Refused letterMalformed number) in
+      sym (taken-ended run letterMalformed number refl (drop (i + 2) bytes)) ∙ ap (λ t. takenAll t (drop (i + 2) bytes)) (run-malformed h w b n one two number word d e c g ∙ ap (takenRun (runOf h w b n (Judged one two))) k)
       ∙ sym (taken-word (runOf h w b n (Judged one two)) bytes i (omega arith)) ∙ inv
 
   -- the end of the loop

@@ -12,6 +12,7 @@ use Rattle.letters.specs.CodeAnswers.{letterAnswer}
 use Rattle.letters.specs.Editions.{firstEdition}
 use Rattle.letters.specs.Coding.{decodeLetter}
 use Rattle.letters.proofs.Theory.WordLaws.{first-roomy, decode-letter}
+use Rattle.letters.specs.RefusalNumbers.{letterMalformed}
 use Rattle.window.specs.Layout.{registers, functions}
 use Rattle.window.proofs.Theory.Table.{table-length}
 use Rattle.window.specs.declared.Window.{Window}
@@ -74,9 +75,9 @@ module _ (h : Header) (s : Slots) (fine : Bool) (n one two : ℕ) (bytes : List 
   -- the end at a word that is no letter
   pub standing-malformed : (last : Window) (number word : ℕ) (d : DecodedLetter) → last ≡ windowOf registers functions s → 1 < length bytes - i
       → word ≡ getD bytes i 0 * 256 + getD bytes (i + 1) 0 → letterAnswer d ≡ decodeLetter firstEdition h word → number ≡ nextNumber n
-      → d ≡ decoded-letter.Malformed → runOf h last fine n (Refused 4 number) ≡ whole
+      → d ≡ decoded-letter.Malformed → runOf h last fine n (Refused letterMalformed number) ≡ whole
   standing-malformed last number word d b l k e c g =
-      ap (λ v. runOf h v fine n (Refused 4 number)) (b ∙ read-back (h .registers) s w (st .represents))
+      ap (λ v. runOf h v fine n (Refused letterMalformed number)) (b ∙ read-back (h .registers) s w (st .represents))
       ∙ taken-malformed h w fine n one two bytes i whole (st .taken) number word d l k e c g
 
   -- the end of the loop

@@ -12,6 +12,7 @@ use Rattle.letters.specs.Editions.{firstEdition}
 use Rattle.letters.specs.Letters.{HeaderFits}
 use Rattle.letters.specs.Words.{headerWord, letterWord}
 use Rattle.traces.specs.Reading.{letterCount}
+use Rattle.letters.specs.RefusalNumbers.{headerMalformed, letterMalformed}
 use Rattle.semantics.specs.Terms.{Trace, begin, _▸_, state}
 use Rattle.semantics.specs.Models.{Feasible}
 use Rattle.semantics.specs.Coherence.{Coherent}
@@ -46,7 +47,7 @@ pub record Monitors (ρ : Trace) (m : Monitor) : Type 0 where
 
 -- a monitor that refuses every letter
 abbrev pub RefusesAll : Monitor → Type 0
-RefusesAll m = (letter : ℕ) → advance m letter ≡ stepped (outcome.Refused 4) m
+RefusesAll m = (letter : ℕ) → advance m letter ≡ stepped (outcome.Refused letterMalformed) m
 
 -- What a start leaves: "it refuses a header by 3".
 pub record Starts (word : ℕ) (r : Stepped) : Type 0 where
@@ -55,7 +56,7 @@ pub record Starts (word : ℕ) (r : Stepped) : Type 0 where
       → (outcomeAnswer (r .outcome) ≡ value tt) × Monitors (begin h) (r .monitor)
   -- the monitor that comes with a refusal refuses every letter
   pub refused : ((h : Header) → HeaderFits firstEdition h → headerWord firstEdition h ≡ word → ⊥)
-      → (outcomeAnswer (r .outcome) ≡ refusal 3 0) × RefusesAll (r .monitor)
+      → (outcomeAnswer (r .outcome) ≡ refusal headerMalformed 0) × RefusesAll (r .monitor)
 
 -- What a step leaves: "it refuses a letter by 4, place 0, its window unchanged".
 pub record Advances (m : Monitor) (word : ℕ) (r : Stepped) : Type 0 where
@@ -63,7 +64,7 @@ pub record Advances (m : Monitor) (word : ℕ) (r : Stepped) : Type 0 where
   pub taken : (ρ : Trace) → Monitors ρ m → (a : Letter) → Fits (state ρ .header) a → letterWord firstEdition (state ρ .header) a ≡ word
       → (outcomeAnswer (r .outcome) ≡ value tt) × Monitors (ρ ▸ a) (r .monitor)
   pub refused : (ρ : Trace) → Monitors ρ m → ((a : Letter) → Fits (state ρ .header) a → letterWord firstEdition (state ρ .header) a ≡ word → ⊥)
-      → (outcomeAnswer (r .outcome) ≡ refusal 4 0) × (r .monitor ≡ m)
+      → (outcomeAnswer (r .outcome) ≡ refusal letterMalformed 0) × (r .monitor ≡ m)
 
 -- ---- the run, which numbers the letters
 
@@ -71,7 +72,7 @@ pub record Advances (m : Monitor) (word : ℕ) (r : Stepped) : Type 0 where
 pub record RunBegins (word : ℕ) (r : Run) : Type 0 where
   pub computed : r ≡ begunRun word
   pub taken : (h : Header) → HeaderFits firstEdition h → headerWord firstEdition h ≡ word → RunFollows (begin h) r
-  pub refused : ((h : Header) → HeaderFits firstEdition h → headerWord firstEdition h ≡ word → ⊥) → verdictAnswer (r .verdict) ≡ refusal 3 0
+  pub refused : ((h : Header) → HeaderFits firstEdition h → headerWord firstEdition h ≡ word → ⊥) → verdictAnswer (r .verdict) ≡ refusal headerMalformed 0
 
 -- What the next letter's word leaves: "A letter that is not well formed ends the reading with 4 and its number, from 1."
 pub record RunTakes (run : Run) (word : ℕ) (r : Run) : Type 0 where
@@ -80,7 +81,7 @@ pub record RunTakes (run : Run) (word : ℕ) (r : Run) : Type 0 where
       → letterWord firstEdition (state ρ .header) a ≡ word → RunFollows (ρ ▸ a) r
   pub refused : (ρ : Trace) → HeaderFits firstEdition (state ρ .header) → RunFollows ρ run
       → ((a : Letter) → Fits (state ρ .header) a → letterWord firstEdition (state ρ .header) a ≡ word → ⊥)
-      → verdictAnswer (r .verdict) ≡ refusal 4 (capped (suc (size ρ)))
+      → verdictAnswer (r .verdict) ≡ refusal letterMalformed (capped (suc (size ρ)))
   pub ended : (number place : ℕ) → run .verdict ≡ Refused number place → r ≡ run
 
 -- ---- bytes in parts of any lengths

@@ -2,6 +2,7 @@
 use Prim.Native.Nat.{ℕ, _+_, _*_}
 use mathlib.Core.Bool.{Bool, true, false}
 use mathlib.Core.List.{List, [], _∷_}
+use Rattle.letters.specs.RefusalNumbers.{traceTooShort, traceOddLength}
 use Rattle.monitoring.specs.Monitor.{idleOf}
 use Rattle.monitoring.specs.Run.{runWith, begunRun, takenRun}
 use Rattle.monitoring.specs.declared.Phase.{Phase}
@@ -30,10 +31,10 @@ pushedOf s byte = pushedIn (s .phase) s byte
 
 -- "At least two bytes? 1. Even length? 2." Both come before what the words say.
 abbrev pub finishedIn : Phase → Stream → Verdict
-finishedIn Empty s = Refused 1 0
-finishedIn One s = Refused 1 0
+finishedIn Empty s = Refused traceTooShort 0
+finishedIn One s = Refused traceTooShort 0
 finishedIn Even s = s .run .verdict
-finishedIn Odd s = Refused 2 0
+finishedIn Odd s = Refused traceOddLength 0
 
 unfoldable pub finishedOf : Stream → Verdict
 finishedOf s = finishedIn (s .phase) s

@@ -8,6 +8,8 @@ use super::numbering::next_number;
 use letters::DecodedLetter;
 use letters::Header;
 use letters::Letter;
+use letters::limits::UNIT_BYTES;
+use letters::refusal_numbers::LETTER_MALFORMED;
 use letters::words::decode_letter;
 use letters::words::word;
 use slots::judge_slots;
@@ -16,6 +18,11 @@ use slots::perform_slots;
 use slots::represents;
 use slots::to_slots;
 use slots::to_window;
+use window::LINES;
+use window::Mask;
+use window::PAIRS;
+use window::REGISTERS;
+use window::RESULTS;
 use window::Window;
 ghost use mathlib.Core.Path.{_≡_};
 ghost use Prim.Native.Nat.{_≤_};
@@ -32,13 +39,13 @@ ghost use Rattle.monitoring.specs.Stream.{takenAll};
 
 // Performs a letter only if it is fine; whether the trace is infeasible.
 fn performed(
-    slot: &mut [u8; 8],
-    regs: &mut [u8; 8],
-    unequal: &mut [u8; 8],
-    result: &mut [u8; 256],
-    ever: &mut [u8; 32],
-    around: &mut [u8; 64],
-    mark: &mut [bool; 8],
+    slot: &mut [u8; REGISTERS],
+    regs: &mut [Mask; REGISTERS],
+    unequal: &mut [Mask; REGISTERS],
+    result: &mut [Mask; RESULTS],
+    ever: &mut [Mask; LINES],
+    around: &mut [Mask; PAIRS],
+    mark: &mut [bool; REGISTERS],
     infeasible: bool,
     fine: bool,
     letter: Letter,
@@ -74,12 +81,12 @@ fn performed(
 fn take_from(
     header: Header,
     window: Window,
-    mut slot: [u8; 8],
-    mut regs: [u8; 8],
-    mut unequal: [u8; 8],
-    mut result: [u8; 256],
-    mut ever: [u8; 32],
-    mut around: [u8; 64],
+    mut slot: [u8; REGISTERS],
+    mut regs: [Mask; REGISTERS],
+    mut unequal: [Mask; REGISTERS],
+    mut result: [Mask; RESULTS],
+    mut ever: [Mask; LINES],
+    mut around: [Mask; PAIRS],
     mut fine: bool,
     mut count: u64,
     mut one: u64,
@@ -100,7 +107,7 @@ fn take_from(
         let number = next_number(count);
         let DecodedLetter::Letter(letter) = decoded else {
             let last = to_window(&slot, &regs, &unequal, &result, &ever, &mark, bad);
-            return run_of(header, last, fine, count, Verdict::Refused(4, number));
+            return run_of(header, last, fine, count, Verdict::Refused(LETTER_MALFORMED, number));
         };
         let coherent = fine & judge_slots(&slot, &result, &ever, &mark, letter);
         bad = performed(
@@ -119,7 +126,7 @@ fn take_from(
         count = number;
         one = first(one, !fine, number);
         two = first(two, bad, number);
-        i = i + 2;
+        i = i + UNIT_BYTES;
     }
     let last = to_window(&slot, &regs, &unequal, &result, &ever, &mark, bad);
     run_of(header, last, fine, count, Verdict::Judged(one, two))
@@ -140,8 +147,8 @@ pub fn take_slots(
     requires { ⌜ start ≤ length (now bytes) ⌝ }
     ensures { λ r. ⌜ r ≡ takenAll (runOf header window running letters (Judged incoherent infeasible)) (drop start (now (bytes .entry))) ⌝ }
 {
-    let mut slot = [0u8; 8];
-    let mut regs = [0u8; 8];
+    let mut slot = [0u8; REGISTERS];
+    let mut regs = [0u8; REGISTERS];
     let class = window.class;
     let mut unequal = window.unequal;
     let mut result = window.result;

@@ -7,8 +7,14 @@ use super::numbering::next_number;
 use letters::DecodedLetter;
 use letters::Header;
 use letters::Letter;
+use letters::limits::UNIT_BYTES;
+use letters::refusal_numbers::LETTER_MALFORMED;
 use letters::words::decode_letter;
 use letters::words::word;
+use window::LINES;
+use window::Mask;
+use window::REGISTERS;
+use window::RESULTS;
 use window::Window;
 use window::judge_in;
 use window::perform_in;
@@ -39,11 +45,11 @@ pub fn run_of(header: Header, window: Window, running: bool, letters: u64, verdi
 
 // On the lent tables of a window: performs a letter only if it is fine; whether the trace is infeasible.
 fn performed(
-    class: &mut [u8; 8],
-    unequal: &mut [u8; 8],
-    result: &mut [u8; 256],
-    ever: &mut [u8; 32],
-    mark: &mut [bool; 8],
+    class: &mut [Mask; REGISTERS],
+    unequal: &mut [Mask; REGISTERS],
+    result: &mut [Mask; RESULTS],
+    ever: &mut [Mask; LINES],
+    mark: &mut [bool; REGISTERS],
     infeasible: bool,
     fine: bool,
     letter: Letter,
@@ -62,11 +68,11 @@ fn performed(
 
 // The window of these tables.
 fn window_of(
-    class: [u8; 8],
-    unequal: [u8; 8],
-    result: [u8; 256],
-    ever: [u8; 32],
-    mark: [bool; 8],
+    class: [Mask; REGISTERS],
+    unequal: [Mask; REGISTERS],
+    result: [Mask; RESULTS],
+    ever: [Mask; LINES],
+    mark: [bool; REGISTERS],
     infeasible: bool,
 ) -> Window
     ensures { λ r. ⌜ r ≡ parts class unequal result ever mark infeasible ⌝ }
@@ -112,7 +118,7 @@ pub fn take_tables(
         let number = next_number(count);
         let DecodedLetter::Letter(letter) = decoded else {
             let last = window_of(class, unequal, result, ever, mark, bad);
-            return run_of(header, last, fine, count, Verdict::Refused(4, number));
+            return run_of(header, last, fine, count, Verdict::Refused(LETTER_MALFORMED, number));
         };
         let coherent = fine & judge_in(&result, &ever, &mark, letter);
         bad = performed(
@@ -129,7 +135,7 @@ pub fn take_tables(
         count = number;
         one = first(one, !fine, number);
         two = first(two, bad, number);
-        i = i + 2;
+        i = i + UNIT_BYTES;
     }
     let last = window_of(class, unequal, result, ever, mark, bad);
     run_of(header, last, fine, count, Verdict::Judged(one, two))

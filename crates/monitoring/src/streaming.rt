@@ -8,6 +8,9 @@ use super::by_tables::take_tables;
 use super::numbering::begin;
 use super::numbering::take;
 use super::starting::idle;
+use letters::limits::UNIT_BYTES;
+use letters::refusal_numbers::TRACE_ODD_LENGTH;
+use letters::refusal_numbers::TRACE_TOO_SHORT;
 use letters::words::word;
 ghost use mathlib.Core.Path.{_≡_};
 ghost use mathlib.Core.Bool.{true};
@@ -80,10 +83,10 @@ pub fn finish(s: Stream) -> Verdict
     let verdict = run.verdict;
     let phase = s.phase;
     match phase {
-        Phase::Empty => Verdict::Refused(1, 0),
-        Phase::One => Verdict::Refused(1, 0),
+        Phase::Empty => Verdict::Refused(TRACE_TOO_SHORT, 0),
+        Phase::One => Verdict::Refused(TRACE_TOO_SHORT, 0),
         Phase::Even => verdict,
-        Phase::Odd => Verdict::Refused(2, 0),
+        Phase::Odd => Verdict::Refused(TRACE_ODD_LENGTH, 0),
     }
 }
 
@@ -135,7 +138,7 @@ fn push_letters(s: Stream, bytes: &[u8], start: usize) -> Stream
         run,
     };
     let n = bytes.len();
-    if (n - start) % 2 == 1 {
+    if (n - start) % UNIT_BYTES == 1 {
         return push(next, bytes[n - 1]);
     }
     next

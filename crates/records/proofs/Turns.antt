@@ -30,7 +30,7 @@ use Rattle.records.proofs.Theory.FormatLaws.{all-of, all-map}
 use Rattle.records.specs.Formats as formats
 use Rattle.records.specs.Formats.{numberIn, flag, isSet, mix, mixed, spread, sameFront, contentPlace}
 use Rattle.records.proofs.Theory.Pairs.{front-is}
-use Rattle.records.specs.Records.{firstFormat, blank, codeBytes, partsOf, fingerprintOf, encoded, recordOf}
+use Rattle.records.specs.Records.{firstFormat, blank, codeBytes, partsOf, fingerprintOf, encoded, recordOf, recordBytes, encodedBytes}
 use Rattle.records.specs.Records.{codesAt, meaningsOf, meant, everIn, windowIn}
 use Rattle.records.specs.Words.{wordOf, octetsOf, wordsIn}
 use Rattle.records.proofs.Theory.Words.{octets-back}
@@ -271,7 +271,7 @@ module _ (s : List ℕ) where
   bytes-at : (n at : ℕ) → at + n ≤ length s → unitsIn 1 n (drop at s) ≡ take n (drop at s)
   bytes-at n at h = bytes-in n (drop at s) (rw (length-drop at s) (omega arith))
 
-  module _ (long : 192 ≤ length s) where
+  module _ (long : recordBytes ≤ length s) where
     codes-are : codesAt s ≡ scattered 2 4 (take 128 (drop 32 s))
     unfolding codesAt formats.codesIn
     codes-are = ap (λ l. scattered 2 4 (unitsIn 1 128 l)) at-codes ∙ ap (scattered 2 4) (bytes-at 128 32 (omega arith))
@@ -545,7 +545,7 @@ meaning-held class (suc (suc c)) h =
 same-table : (F G : ℕ → ℕ) (n : ℕ) → ((i : ℕ) → F i ≡ G i) → table F n ≡ table G n
 same-table F G n f = table-is G n (table F n) 0 (table-length F n) (λ i h. table-at F n i 0 h ∙ f i)
 
-pub window-made : (s class unequal flags meanings result ever : List ℕ) (mark : List Bool) (infeasible : Bool) → 192 ≤ length s → length class ≡ 8
+pub window-made : (s class unequal flags meanings result ever : List ℕ) (mark : List Bool) (infeasible : Bool) → recordBytes ≤ length s → length class ≡ 8
     → class ≡ take 8 (drop 7 s) → unequal ≡ take 8 (drop 15 s) → flags ≡ take 8 (drop 23 s) → mark ≡ map isSet flags → meanings ≡ meaningsOf class
     → result ≡ meant meanings (codesAt s) → ever ≡ everIn (codesAt s) → infeasible ≡ isSet (getD s 31 0)
     → _≡_ {A = Window} (record { class = class; unequal = unequal; result = result; ever = ever; mark = mark; infeasible = infeasible }) (windowIn s)
@@ -565,15 +565,15 @@ window-made s class unequal flags meanings result ever mark infeasible long coun
 
 -- ---- a whole record
 
-pub record-made : (pair l : List ℕ) (parent branch : ℕ) → length pair ≡ 157 → l ≡ laidAt 3 pair
+pub record-made : (pair l : List ℕ) (parent branch : ℕ) → length pair ≡ encodedBytes → l ≡ laidAt 3 pair
     (parent / 256 % 256 ∷ parent % 256 ∷ branch % 256 ∷ replicate 189 0) → l ≡ recordOf pair parent branch
 unfolding formats.recordOf units
 record-made pair l parent branch h p =
-    laid-over (parent / 256 % 256 ∷ parent % 256 ∷ branch % 256 ∷ []) pair (replicate 157 0) (replicate 32 0)
+    laid-over (parent / 256 % 256 ∷ parent % 256 ∷ branch % 256 ∷ []) pair (replicate encodedBytes 0) (replicate 32 0)
     (parent / 256 % 256 ∷ parent % 256 ∷ branch % 256 ∷ replicate 189 0) l 3 refl (sym h) refl p
     ∙ rw (div-one parent, div-one branch)
 
-pub write-made : (bytes whole part l : List ℕ) → length bytes ≡ 192 → bytes ≡ whole → l ≡ laidAt 0 bytes part → l ≡ whole ++ drop 192 part
+pub write-made : (bytes whole part l : List ℕ) → length bytes ≡ recordBytes → bytes ≡ whole → l ≡ laidAt 0 bytes part → l ≡ whole ++ drop 192 part
 write-made bytes whole part l h e p =
-    let n : 0 + length bytes ≡ 192 = omega arith in
+    let n : 0 + length bytes ≡ recordBytes = omega arith in
     p ∙ rw (n, e)

@@ -13,7 +13,7 @@ use Rattle.semantics.specs.PackedTables.{units}
 use Rattle.semantics.specs.TablesRead.{unitsIn}
 use Rattle.window.specs.Table.{table}
 use Rattle.window.specs.declared.Window.{Window}
-use Rattle.records.specs.Words.{wordsIn}
+use Rattle.records.specs.Words.{wordBytes, wordsIn}
 use Rattle.records.specs.Codes.{codeAt, heldOf, computedOf, assembled, gathered, scattered}
 
 pub record Format : Type 0 where
@@ -38,10 +38,6 @@ numberBytes = 2
 -- a branch, a flag
 abbrev pub flagBytes : ℕ
 flagBytes = 1
-
--- a word, of which the fingerprint is made
-abbrev pub wordBytes : ℕ
-wordBytes = 8
 
 -- where the branch stands in a record, behind the parent
 abbrev pub branchPlace : ℕ

@@ -1,5 +1,5 @@
 -- Pairs and records as bytes in the first edition's format. A record has 192 bytes (document 01, "The search for a verdict").
-use Prim.Native.Nat.{ℕ}
+use Prim.Native.Nat.{ℕ, _+_, _-_, _^_}
 use mathlib.Core.Bool.{Bool, false}
 use mathlib.Core.List.{List, [], _∷_, _++_}
 use lib.Dec.{eqb}
@@ -20,6 +20,10 @@ recordBytes = 192
 -- Codes of four bits, two to a byte.
 abbrev pub firstFormat : Format
 firstFormat = record { registers = registers; functions = functions; maskBytes = 1; codeBits = 4; group = 2; groupBytes = 1; groups = 128; size = recordBytes }
+
+-- How many codes there can be.
+abbrev pub codeRange : ℕ
+codeRange = 2 ^ firstFormat .codeBits
 
 abbrev pub lines : ℕ
 lines = formats.lines firstFormat
@@ -67,9 +71,9 @@ recordOf = formats.recordOf firstFormat
 unfoldable pub codesAt : List ℕ → List ℕ
 codesAt bytes = formats.codesIn firstFormat (formats.afterInfeasible firstFormat (drop contentPlace bytes))
 
--- What each of the sixteen codes says of the result.
+-- What each of the codes says of the result; those behind the classes stand for nothing.
 abbrev pub meaningsOf : List ℕ → List ℕ
-meaningsOf class = 0 ∷ 0 ∷ class ++ replicate 6 0
+meaningsOf class = 0 ∷ 0 ∷ class ++ replicate (codeRange - (2 + registers)) 0
 
 -- The results that these codes mean.
 unfoldable pub meant : List ℕ → List ℕ → List ℕ

@@ -3,6 +3,13 @@ use Prim.Native.Nat.{ℕ, zero, suc, _+_, _*_, _/_, _%_}
 use mathlib.Core.List.{List, [], _∷_}
 use lib.ListN.{take, drop}
 
+-- the bytes of a word, and of a half of it
+abbrev pub wordBytes : ℕ
+wordBytes = 8
+
+abbrev pub halfBytes : ℕ
+halfBytes = 4
+
 abbrev pub wordOf : List ℕ → ℕ
 wordOf [] = 0
 wordOf (x ∷ xs) = x + 256 * wordOf xs
@@ -12,7 +19,7 @@ abbrev pub octetsOf : ℕ → ℕ → List ℕ
 octetsOf zero word = []
 octetsOf (suc n) word = word % 256 ∷ octetsOf n (word / 256)
 
--- The first n words of eight bytes each.
+-- The first n words.
 unfoldable pub wordsIn : ℕ → List ℕ → List ℕ
 wordsIn zero s = []
-wordsIn (suc n) s = wordOf (take 8 s) ∷ wordsIn n (drop 8 s)
+wordsIn (suc n) s = wordOf (take wordBytes s) ∷ wordsIn n (drop wordBytes s)

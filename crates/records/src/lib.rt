@@ -1,4 +1,8 @@
 // Pairs of the verdict's search as bytes (document 01, "The search for a verdict"): a point still to be performed and a window, and back.
+use window::LINES;
+use window::Mask;
+use window::REGISTERS;
+use window::RESULTS;
 use window::Window;
 ghost use mathlib.Core.Path.{_≡_};
 ghost use Prim.Native.Nat.{_+_, _*_, _/_, _%_, _≤_, _<_};
@@ -6,41 +10,61 @@ ghost use mathlib.Core.List.{_++_, map};
 ghost use lib.ListN.{length, getD, take, drop, replicate};
 ghost use Rattle.base.specs.Masks.{bit};
 ghost use Rattle.semantics.specs.PackedTables.{units};
+ghost use Rattle.window.specs.Layout.{registers};
 ghost use Rattle.records.specs.Codes.{codeOf, computedOf};
-ghost use Rattle.records.specs.Words.{wordOf, octetsOf};
-ghost use Rattle.records.specs.Records.{recordBytes, contentBytes, maskBytes, lines, results, flag, blank, codeBytes, partsOf, fingerprintOf};
+ghost use Rattle.records.specs.Words.{wordBytes, halfBytes, wordOf, octetsOf};
+ghost use Rattle.records.specs.Records.{recordBytes, contentBytes, codeRange, maskBytes, lines, results, flag, blank, codeBytes, partsOf, fingerprintOf};
 ghost use Rattle.records.specs.Records.{encoded, recordOf, parentIn, branchIn, pointIn, samePair, isSet, meaningsOf, meant, codesAt, everIn, windowIn};
 
 /// How many bytes a record has.
 pub const RECORD_BYTES: usize = 192;
 
-/// How many bytes of it stand for the pair: a fingerprint, the point and the window.
-pub const ENCODED_BYTES: usize = 157;
+// The bytes of a pair's number, of a fingerprint and of a point; and of a branch and a flag: specs/Formats.antt.
+const NUMBER_BYTES: usize = 2;
 
-// Where the parts stand in a pair: specs/Formats.antt.
-const POINT: usize = 2;
+const FLAG_BYTES: usize = 1;
 
-const CLASS: usize = 4;
+// Of how many bytes the words are that are read at once, and their halves.
+const WORD_BYTES: usize = 8;
 
-const UNEQUAL: usize = 12;
+const HALF_BYTES: usize = 4;
 
-const MARK: usize = 20;
+// How many codes there can be, in four bits, and how many bytes those of a line of results and those of all results have: two codes to a byte.
+const CODE_RANGE: u8 = 16;
 
-const INFEASIBLE: usize = 28;
+const CODES: usize = CODE_RANGE as usize;
 
-const CODE: usize = 29;
+const LINE_BYTES: usize = REGISTERS / 2;
 
-const CODE_BYTES: usize = 128;
+const CODE_BYTES: usize = LINE_BYTES * LINES;
 
-// The last five bytes of a pair, behind its whole words.
-const PAIR_REST: usize = 152;
+// Where the parts stand in a pair, behind its fingerprint.
+const POINT: usize = NUMBER_BYTES;
 
-const PAIR_LAST: usize = 156;
+const CLASS: usize = POINT + NUMBER_BYTES;
+
+const UNEQUAL: usize = CLASS + REGISTERS;
+
+const MARK: usize = UNEQUAL + REGISTERS;
+
+const INFEASIBLE: usize = MARK + REGISTERS;
+
+const CODE: usize = INFEASIBLE + FLAG_BYTES;
+
+/// How many bytes of a record stand for the pair: a fingerprint, the point and the window.
+pub const ENCODED_BYTES: usize = CODE + CODE_BYTES;
+
+// How many whole words a pair has, and what stands behind its fingerprint; the last five bytes of a pair, behind its whole words.
+const WORDS: usize = ENCODED_BYTES / WORD_BYTES;
+
+const PAIR_REST: usize = WORD_BYTES * WORDS;
+
+const PAIR_LAST: usize = PAIR_REST + HALF_BYTES;
 
 // And in a record: the parent first.
-const BRANCH: usize = 2;
+const BRANCH: usize = NUMBER_BYTES;
 
-const PAIR: usize = 3;
+const PAIR: usize = BRANCH + FLAG_BYTES;
 
 const POINT_PLACE: usize = PAIR + POINT;
 
@@ -53,9 +77,6 @@ const MARK_PLACE: usize = PAIR + MARK;
 const INFEASIBLE_PLACE: usize = PAIR + INFEASIBLE;
 
 const CODE_PLACE: usize = PAIR + CODE;
-
-// How many whole words a pair has, and what stands behind its fingerprint.
-const WORDS: usize = 19;
 
 // 2 to the 57: the seven bits above it come to the other end of a word that is turned.
 const TURN: usize = 144115188075855872;
@@ -71,9 +92,9 @@ fn wide(x: u8) -> usize
 
 // Four bytes from a place on as one number, the least significant first: one load.
 fn half_in(bytes: &[u8], at: usize) -> usize
-    requires { ⌜ at + 4 ≤ length (now bytes) ⌝ }
-    ensures { λ r. ⌜ r ≡ wordOf (take 4 (drop at (now (bytes .entry)))) ⌝ }
-    ensures back { λ r. ⌜ octetsOf 4 r ≡ take 4 (drop at (now (bytes .entry))) ⌝ }
+    requires { ⌜ at + halfBytes ≤ length (now bytes) ⌝ }
+    ensures { λ r. ⌜ r ≡ wordOf (take halfBytes (drop at (now (bytes .entry)))) ⌝ }
+    ensures back { λ r. ⌜ octetsOf halfBytes r ≡ take halfBytes (drop at (now (bytes .entry))) ⌝ }
     ensures small { λ r. ⌜ r < 4294967296 ⌝ }
 {
     let a = wide(bytes[at]);
@@ -85,11 +106,11 @@ fn half_in(bytes: &[u8], at: usize) -> usize
 
 // Eight bytes from a place on. One test of a word passes over many entries, or compares many bytes.
 fn word_in(bytes: &[u8], at: usize) -> usize
-    requires { ⌜ at + 8 ≤ length (now bytes) ⌝ }
-    ensures { λ r. ⌜ r ≡ wordOf (take 8 (drop at (now (bytes .entry)))) ⌝ }
-    ensures back { λ r. ⌜ octetsOf 8 r ≡ take 8 (drop at (now (bytes .entry))) ⌝ }
+    requires { ⌜ at + wordBytes ≤ length (now bytes) ⌝ }
+    ensures { λ r. ⌜ r ≡ wordOf (take wordBytes (drop at (now (bytes .entry)))) ⌝ }
+    ensures back { λ r. ⌜ octetsOf wordBytes r ≡ take wordBytes (drop at (now (bytes .entry))) ⌝ }
 {
-    half_in(bytes, at) + half_in(bytes, at + 4) * 4294967296
+    half_in(bytes, at) + half_in(bytes, at + HALF_BYTES) * 4294967296
 }
 
 // ---- writing
@@ -108,9 +129,9 @@ pub fn lay(bytes: &mut [u8], at: usize, part: &[u8])
 }
 
 // The code of an entry of the table of results, at bit b of its line of `ever`.
-fn code(mask: u8, ever: u8, b: usize) -> u8
-    requires { ⌜ b < 8 ⌝ }
-    ensures { λ r. ⌜ r ≡ codeOf 8 mask (bit ever b) ⌝ }
+fn code(mask: Mask, ever: Mask, b: usize) -> u8
+    requires { ⌜ b < registers ⌝ }
+    ensures { λ r. ⌜ r ≡ codeOf registers mask (bit ever b) ⌝ }
     ensures small { λ r. ⌜ r ≤ 10 ⌝ }
 {
     if mask == 0 {
@@ -120,17 +141,17 @@ fn code(mask: u8, ever: u8, b: usize) -> u8
 }
 
 // The codes of two entries in one byte, at bits b and b + 1 of their line of `ever`.
-fn code_byte(first: u8, second: u8, ever: u8, b: usize) -> u8
-    requires { ⌜ b < 7 ⌝ }
-    ensures { λ r. ⌜ r ≡ 16 * codeOf 8 first (bit ever b) + codeOf 8 second (bit ever (b + 1)) ⌝ }
+fn code_byte(first: Mask, second: Mask, ever: Mask, b: usize) -> u8
+    requires { ⌜ b + 1 < registers ⌝ }
+    ensures { λ r. ⌜ r ≡ codeRange * codeOf registers first (bit ever b) + codeOf registers second (bit ever (b + 1)) ⌝ }
 {
-    16 * code(first, ever, b) + code(second, ever, b + 1)
+    CODE_RANGE * code(first, ever, b) + code(second, ever, b + 1)
 }
 
 // Whether a line of eight results holds nothing, and nothing of it was ever computed.
 fn is_blank(result: &[u8], at: usize, line: u8) -> bool
-    requires { ⌜ at + 8 ≤ length (now result) ⌝ }
-    ensures { λ r. ⌜ r ≡ blank (take 8 (drop at (now (result .entry)))) line ⌝ }
+    requires { ⌜ at + registers ≤ length (now result) ⌝ }
+    ensures { λ r. ⌜ r ≡ blank (take registers (drop at (now (result .entry)))) line ⌝ }
 {
     if line != 0 {
         return false;
@@ -145,16 +166,16 @@ fn codes(result: &[u8], ever: &[u8]) -> [u8; CODE_BYTES]
 {
     let mut codes = [0u8; CODE_BYTES];
     let mut j: usize = 0;
-    while j < 32 {
+    while j < LINES {
         let line = ever[j];
-        let at = 8 * j;
+        let at = REGISTERS * j;
         if is_blank(result, at, line) {
             j = j + 1;
         } else {
-            codes[4 * j] = code_byte(result[at], result[at + 1], line, 0);
-            codes[4 * j + 1] = code_byte(result[at + 2], result[at + 3], line, 2);
-            codes[4 * j + 2] = code_byte(result[at + 4], result[at + 5], line, 4);
-            codes[4 * j + 3] = code_byte(result[at + 6], result[at + 7], line, 6);
+            codes[LINE_BYTES * j] = code_byte(result[at], result[at + 1], line, 0);
+            codes[LINE_BYTES * j + 1] = code_byte(result[at + 2], result[at + 3], line, 2);
+            codes[LINE_BYTES * j + 2] = code_byte(result[at + 4], result[at + 5], line, 4);
+            codes[LINE_BYTES * j + 3] = code_byte(result[at + 6], result[at + 7], line, 6);
             j = j + 1;
         }
     }
@@ -169,12 +190,12 @@ pub fn flagged(b: bool) -> u8
 }
 
 /// Marks as bytes.
-pub fn flags(marks: [bool; 8]) -> [u8; 8]
+pub fn flags(marks: [bool; REGISTERS]) -> [u8; REGISTERS]
     ensures { λ r. ⌜ r ≡ map flag marks ⌝ }
 {
-    let mut flags = [0u8; 8];
+    let mut flags = [0u8; REGISTERS];
     let mut i: usize = 0;
-    while i < 8 {
+    while i < REGISTERS {
         flags[i] = flagged(marks[i]);
         i = i + 1;
     }
@@ -182,13 +203,13 @@ pub fn flags(marks: [bool; 8]) -> [u8; 8]
 }
 
 // Masks of registers as bytes.
-fn mask_bytes(masks: &[u8]) -> [u8; 8]
-    requires { ⌜ length (now masks) ≡ 8 ⌝ }
+fn mask_bytes(masks: &[u8]) -> [u8; REGISTERS]
+    requires { ⌜ length (now masks) ≡ registers ⌝ }
     ensures { λ r. ⌜ r ≡ units maskBytes (now (masks .entry)) ⌝ }
 {
-    let mut bytes = [0u8; 8];
+    let mut bytes = [0u8; REGISTERS];
     let mut i: usize = 0;
-    while i < 8 {
+    while i < REGISTERS {
         bytes[i] = masks[i];
         i = i + 1;
     }
@@ -198,9 +219,9 @@ fn mask_bytes(masks: &[u8]) -> [u8; 8]
 // The parts of a pair one after the other, before its fingerprint is known.
 fn parts(
     point: usize,
-    class: &[u8; 8],
-    unequal: &[u8; 8],
-    marks: &[u8; 8],
+    class: &[u8; REGISTERS],
+    unequal: &[u8; REGISTERS],
+    marks: &[u8; REGISTERS],
     infeasible: u8,
     codes: &[u8; CODE_BYTES],
 ) -> [u8; ENCODED_BYTES]
@@ -225,7 +246,7 @@ fn fingerprint(content: &[u8]) -> usize
     let mut i: usize = 0;
     while i < WORDS {
         let turned = mixed % TURN * 128 + mixed / TURN % 128;
-        mixed = turned ^ word_in(content, 8 * i);
+        mixed = turned ^ word_in(content, WORD_BYTES * i);
         i = i + 1;
     }
     (mixed / 4294967296 % 4294967296 + mixed % 4294967296) % 4294967296 * 2654435761 / 4294967296
@@ -295,7 +316,7 @@ pub fn same_pair(part: &[u8], pair: &[u8; ENCODED_BYTES]) -> bool
         if word_in(part, PAIR + at) != word_in(pair, at) {
             return false;
         }
-        at = at + 8;
+        at = at + WORD_BYTES;
     }
     if half_in(part, PAIR + PAIR_REST) != half_in(pair, PAIR_REST) {
         return false;
@@ -303,23 +324,23 @@ pub fn same_pair(part: &[u8], pair: &[u8; ENCODED_BYTES]) -> bool
     part[PAIR + PAIR_LAST] == pair[PAIR_LAST]
 }
 
-fn eight(part: &[u8], at: usize) -> [u8; 8]
-    requires { ⌜ at + 8 ≤ length (now part) ⌝ }
-    ensures { λ r. ⌜ r ≡ take 8 (drop at (now (part .entry))) ⌝ }
+fn eight(part: &[u8], at: usize) -> [u8; REGISTERS]
+    requires { ⌜ at + registers ≤ length (now part) ⌝ }
+    ensures { λ r. ⌜ r ≡ take registers (drop at (now (part .entry))) ⌝ }
 {
-    let mut bytes = [0u8; 8];
-    let end = at + 8;
+    let mut bytes = [0u8; REGISTERS];
+    let end = at + REGISTERS;
     lay(&mut bytes, 0, &part[at..end]);
     bytes
 }
 
 /// The marks that these bytes stand for.
-pub fn marks(flags: [u8; 8]) -> [bool; 8]
+pub fn marks(flags: [u8; REGISTERS]) -> [bool; REGISTERS]
     ensures { λ r. ⌜ r ≡ map isSet flags ⌝ }
 {
-    let mut marks = [false; 8];
+    let mut marks = [false; REGISTERS];
     let mut i: usize = 0;
-    while i < 8 {
+    while i < REGISTERS {
         marks[i] = flags[i] == 1;
         i = i + 1;
     }
@@ -327,23 +348,23 @@ pub fn marks(flags: [u8; 8]) -> [bool; 8]
 }
 
 // What each code says of the result.
-fn meanings(class: &[u8; 8]) -> [u8; 16]
+fn meanings(class: &[u8; REGISTERS]) -> [u8; CODES]
     ensures { λ r. ⌜ r ≡ meaningsOf (now (class .entry)) ⌝ }
 {
-    let mut meanings = [0u8; 16];
+    let mut meanings = [0u8; CODES];
     lay(&mut meanings, 2, class);
     meanings
 }
 
 // The results, by what each code says. Most lines have the code 0 only, and stay as they are.
-fn put_results(part: &[u8], meanings: &[u8; 16], result: &mut [u8; 256])
+fn put_results(part: &[u8], meanings: &[u8; CODES], result: &mut [Mask; RESULTS])
     requires { ⌜ (recordBytes ≤ length (now part)) × (getD (now meanings) 0 0 ≡ 0) × (now result ≡ replicate results 0) ⌝ }
     ensures { λ _. ⌜ now (result .exit) ≡ meant (now (meanings .entry)) (codesAt (now (part .entry))) ⌝ }
 {
     let mut j: usize = 0;
-    while j < 32 {
-        let at = CODE_PLACE + 4 * j;
-        let to = 8 * j;
+    while j < LINES {
+        let at = CODE_PLACE + LINE_BYTES * j;
+        let to = REGISTERS * j;
         if half_in(part, at) == 0 {
             j = j + 1;
         } else {
@@ -351,14 +372,14 @@ fn put_results(part: &[u8], meanings: &[u8; 16], result: &mut [u8; 256])
             let b = wide(part[at + 1]);
             let c = wide(part[at + 2]);
             let d = wide(part[at + 3]);
-            result[to] = meanings[a / 16];
-            result[to + 1] = meanings[a % 16];
-            result[to + 2] = meanings[b / 16];
-            result[to + 3] = meanings[b % 16];
-            result[to + 4] = meanings[c / 16];
-            result[to + 5] = meanings[c % 16];
-            result[to + 6] = meanings[d / 16];
-            result[to + 7] = meanings[d % 16];
+            result[to] = meanings[a / CODES];
+            result[to + 1] = meanings[a % CODES];
+            result[to + 2] = meanings[b / CODES];
+            result[to + 3] = meanings[b % CODES];
+            result[to + 4] = meanings[c / CODES];
+            result[to + 5] = meanings[c % CODES];
+            result[to + 6] = meanings[d / CODES];
+            result[to + 7] = meanings[d % CODES];
             j = j + 1;
         }
     }
@@ -366,29 +387,29 @@ fn put_results(part: &[u8], meanings: &[u8; 16], result: &mut [u8; 256])
 
 // Of two codes in one byte, which say that the application was computed: the first one's bit first.
 fn computed(both: u8) -> u8
-    ensures { λ r. ⌜ r ≡ computedOf (both / 16 % 16) + 2 * computedOf (both % 16) ⌝ }
+    ensures { λ r. ⌜ r ≡ computedOf (both / codeRange % codeRange) + 2 * computedOf (both % codeRange) ⌝ }
     ensures small { λ r. ⌜ r ≤ 3 ⌝ }
 {
-    if both / 16 == 0 {
-        if both % 16 == 0 {
+    if both / CODE_RANGE == 0 {
+        if both % CODE_RANGE == 0 {
             return 0;
         }
         return 2;
     }
-    if both % 16 == 0 {
+    if both % CODE_RANGE == 0 {
         return 1;
     }
     3
 }
 
-fn ever_lines(part: &[u8]) -> [u8; 32]
+fn ever_lines(part: &[u8]) -> [Mask; LINES]
     requires { ⌜ recordBytes ≤ length (now part) ⌝ }
     ensures { λ r. ⌜ r ≡ everIn (codesAt (now (part .entry))) ⌝ }
 {
-    let mut ever = [0u8; 32];
+    let mut ever = [0u8; LINES];
     let mut j: usize = 0;
-    while j < 32 {
-        let at = CODE_PLACE + 4 * j;
+    while j < LINES {
+        let at = CODE_PLACE + LINE_BYTES * j;
         if half_in(part, at) == 0 {
             j = j + 1;
         } else {
@@ -412,7 +433,7 @@ pub fn window_in(part: &[u8]) -> Window
     let unequal = eight(part, UNEQUAL_PLACE);
     let mark = marks(eight(part, MARK_PLACE));
     let meanings = meanings(&class);
-    let mut result = [0u8; 256];
+    let mut result = [0u8; RESULTS];
     put_results(part, &meanings, &mut result);
     let ever = ever_lines(part);
     let infeasible = part[INFEASIBLE_PLACE] == 1;

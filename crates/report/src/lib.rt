@@ -5,8 +5,8 @@ mod lines;
 
 use self::lines::put_report;
 use letters::Header;
-use letters::MOST_FUNCTIONS;
-use letters::MOST_REGISTERS;
+use letters::limits::MOST_FUNCTIONS;
+use letters::limits::MOST_REGISTERS;
 ghost use mathlib.Core.Path.{_≡_};
 ghost use Rattle.report.specs.Shown.{reportOf, Wrote};
 ghost use Rattle.report.specs.Bound.{Limited};

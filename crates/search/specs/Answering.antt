@@ -5,7 +5,7 @@ use Prim.Native.Nat.{ℕ, _≤_}
 use lib.ListN.{length, drop}
 use Rattle.letters.specs.declared.Header.{Header}
 use Rattle.letters.specs.declared.Letter.{Letter}
-use Rattle.letters.specs.Editions.{firstEdition}
+use Rattle.letters.specs.Editions.{firstEdition, mostLetters}
 use Rattle.letters.specs.Letters.{HeaderFits}
 use Rattle.traces.specs.Traces.{AllFit, packing}
 use Rattle.semantics.specs.Terms.{begin, traceOf, state}
@@ -13,6 +13,7 @@ use Rattle.semantics.specs.Facts.{WellFormed}
 use Rattle.semantics.specs.Models.{Feasible}
 use Rattle.verdicts.specs.Verdict.{Answer, pass, fail, incoherent, refused, Kind, failing, showing, Delivered}
 use Rattle.verdicts.specs.AnswerPacking.{packed}
+use Rattle.search.specs.Tracing.{traceBytes}
 use Rattle.search.specs.declared.Packed.{Packed}
 use Rattle.search.specs.declared.Verdict.{Verdict}
 use Rattle.search.specs.declared.Verdict.the-variants.{Pass, Fail, Incoherent, Refused}
@@ -27,10 +28,10 @@ answerOf (Refused number place) = refused number place
 -- The bytes from `start` on are the packed trace of the letters ls under the header h.
 pub record Packs (p : Packed) (h : Header) (ls : List Letter) : Type 0 where
   pub bytes : drop (p .start) (p .bytes) ≡ packing firstEdition h ls
-  pub long : length (p .bytes) ≡ 2050
+  pub long : length (p .bytes) ≡ traceBytes
   pub header : HeaderFits firstEdition h
   pub fit : AllFit h ls
-  pub few : length ls ≤ 1024
+  pub few : length ls ≤ mostLetters
   pub formed : WellFormed (traceOf h ls)
 
 -- Whatever execution is packed, one that is feasible if it fails: the answer shows it as an event of this kind with so many pairs, or refuses it by 6.

@@ -18,6 +18,7 @@ use Rattle.grammar.specs.Grammar.{Macro}
 use Rattle.syntax.specs.declared.Answer.{Answer}
 use Rattle.syntax.specs.declared.Macro as struct
 use Rattle.syntax.specs.Answer.{heldMacro}
+use Rattle.refusals.specs.Order.{mostPoints}
 use Rattle.refusals.specs.Accepted.{Accepted}
 use Rattle.exploration.specs.Moves.{moveOf, noPoint}
 use Rattle.exploration.specs.HeldPoints.{meant}
@@ -31,7 +32,7 @@ branchNumber second = 1
 module _ (program : struct.Macro) where
   -- The branches of point k of the table, as `choose` takes them. At the end, number `count`, there are none.
   abbrev pub branchesAt : ℕ → Branch → Move ℕ
-  branchesAt k b = pick (ltb k (program .count)) (λ _. meant (moveOf (getD (program .points) (k % 256) noPoint) (branchNumber b))) λ _. no-move
+  branchesAt k b = pick (ltb k (program .count)) (λ _. meant (moveOf (getD (program .points) (k % mostPoints) noPoint) (branchNumber b))) λ _. no-move
 
   -- The letters w are performed from point 0 on, and lead to the place l.
   abbrev pub Performed : List Letter → Place ℕ → Type 0

@@ -1,11 +1,16 @@
 // The verdict on a macro: what the search over its pairs has found, with the packed trace of an execution and its model.
 use blocks::Point;
+use exploration::POINTS;
 use exploration::Search;
 use exploration::letter_of;
 use exploration::search_pairs;
 use letters::Encoded;
 use letters::Header;
 use letters::Letter;
+use letters::limits::MOST_LETTERS;
+use letters::limits::UNIT_BYTES;
+use letters::refusal_numbers::OUTPUT_TOO_SMALL;
+use letters::refusal_numbers::TABLE_TOO_SMALL;
 use letters::words::encode_header;
 use letters::words::encode_letter;
 use shown::Shown;
@@ -19,7 +24,7 @@ ghost use Rattle.records.specs.Records.{recordBytes};
 ghost use Rattle.letters.specs.Editions.{firstEdition};
 ghost use Rattle.letters.specs.Encoding.{encodeHeader, encodeLetter};
 ghost use Rattle.search.specs.Trails.{trailOf};
-ghost use Rattle.search.specs.Tracing.{Older, wordOf, traced};
+ghost use Rattle.search.specs.Tracing.{traceBytes, lastLetter, mostMoves, Older, wordOf, traced};
 ghost use Rattle.search.specs.Modelling.{Modelled};
 ghost use Rattle.search.specs.Answering.{answerOf, Delivers};
 ghost use Rattle.semantics.specs.Models.{Feasible};
@@ -29,10 +34,18 @@ ghost use Rattle.search.specs.MacroSearch.{Readable, Tells};
 
 // ---- the packed trace of an execution
 
+/// How many bytes the longest trace has: a header, and as many letters as the whole-trace engine takes.
+pub const TRACE_BYTES: usize = UNIT_BYTES + UNIT_BYTES * MOST_LETTERS;
+
+// The last two of them, where the last letter stands.
+const LAST_LETTER: usize = TRACE_BYTES - UNIT_BYTES;
+
+const LAST_BYTE: usize = TRACE_BYTES - 1;
+
 /// A packed trace, at the end of the bytes, from `start` on.
 pub struct Packed {
-    /// Room for a header and 1,024 letters.
-    pub bytes: [u8; 2050],
+    /// Room for the longest trace.
+    pub bytes: [u8; TRACE_BYTES],
     /// Where the trace begins.
     pub start: usize,
 }
@@ -68,43 +81,43 @@ fn header_word(header: Header) -> u16
 }
 
 // The trace of the execution that move number d ends, written from its end.
-fn pack(header: Header, points: [Point; 256], table: &[u8], d: usize) -> Packed
-    requires { ⌜ (d < 2048) × (recordBytes * (d / 2) + recordBytes ≤ length (now table)) × Older (now table) (d / 2 + 1) ⌝ }
-    ensures { λ r. ⌜ (drop (r .start) (r .bytes) ≡ traced header (trailOf points (now (table .entry)) d)) × (length (r .bytes) ≡ 2050) × (r .start ≤ 2048) ⌝ }
+fn pack(header: Header, points: [Point; POINTS], table: &[u8], d: usize) -> Packed
+    requires { ⌜ (d < mostMoves) × (recordBytes * (d / 2) + recordBytes ≤ length (now table)) × Older (now table) (d / 2 + 1) ⌝ }
+    ensures { λ r. ⌜ (drop (r .start) (r .bytes) ≡ traced header (trailOf points (now (table .entry)) d)) × (length (r .bytes) ≡ traceBytes) × (r .start ≤ lastLetter) ⌝ }
 {
-    let mut bytes = [0u8; 2050];
+    let mut bytes = [0u8; TRACE_BYTES];
     let k = table::point_at(table, d / 2);
-    let point = points[k % 256];
+    let point = points[k % POINTS];
     let last = letter_of(point, d % 2);
     let word = letter_word(header, last);
-    bytes[2048] = (word / 256) as u8;
-    bytes[2049] = (word % 256) as u8;
-    let mut at: usize = 2048;
+    bytes[LAST_LETTER] = (word / 256) as u8;
+    bytes[LAST_BYTE] = (word % 256) as u8;
+    let mut at: usize = LAST_LETTER;
     let mut j = d / 2;
     while j != 0 {
         let parent = table::parent_at(table, j);
         let branch = table::branch_at(table, j);
         let before = table::point_at(table, parent);
-        let performed = points[before % 256];
+        let performed = points[before % POINTS];
         let letter = letter_of(performed, branch);
         let next = letter_word(header, letter);
-        bytes[at - 2] = (next / 256) as u8;
+        bytes[at - UNIT_BYTES] = (next / 256) as u8;
         bytes[at - 1] = (next % 256) as u8;
-        at = at - 2;
+        at = at - UNIT_BYTES;
         j = parent;
     }
     let first = header_word(header);
-    bytes[at - 2] = (first / 256) as u8;
+    bytes[at - UNIT_BYTES] = (first / 256) as u8;
     bytes[at - 1] = (first % 256) as u8;
     Packed {
         bytes: bytes,
-        start: at - 2,
+        start: at - UNIT_BYTES,
     }
 }
 
 // Writes a packed trace over the front of the output, and leaves the bytes behind it.
 fn write_trace(packed: Packed, output: &mut [u8])
-    requires { ⌜ (packed .start ≤ 2050) × (2050 ≤ packed .start + length (now output)) ⌝ }
+    requires { ⌜ (packed .start ≤ traceBytes) × (traceBytes ≤ packed .start + length (now output)) ⌝ }
     ensures { λ _. ⌜ now (output .exit) ≡ drop (packed .start) (packed .bytes) ++ drop (length (drop (packed .start) (packed .bytes))) (now (output .entry)) ⌝ }
 {
     let bytes = packed.bytes;
@@ -112,11 +125,11 @@ fn write_trace(packed: Packed, output: &mut [u8])
 }
 
 // The bytes from `start` on over the front of the output.
-fn copy_from(bytes: [u8; 2050], start: usize, output: &mut [u8])
-    requires { ⌜ (start ≤ 2050) × (2050 ≤ start + length (now output)) ⌝ }
+fn copy_from(bytes: [u8; TRACE_BYTES], start: usize, output: &mut [u8])
+    requires { ⌜ (start ≤ traceBytes) × (traceBytes ≤ start + length (now output)) ⌝ }
     ensures { λ _. ⌜ now (output .exit) ≡ drop start bytes ++ drop (length (drop start bytes)) (now (output .entry)) ⌝ }
 {
-    let n = 2050 - start;
+    let n = TRACE_BYTES - start;
     let mut i: usize = 0;
     while i < n {
         output[i] = bytes[start + i];
@@ -139,11 +152,11 @@ pub enum Verdict {
 }
 
 // Writes the shown model of the trace in the bytes from `start` on behind the place of the trace in the output; whether it fits.
-fn show_model(bytes: [u8; 2050], start: usize, output: &mut [u8]) -> bool
-    requires { ⌜ (start ≤ 2050) × (2050 ≤ start + length (now output)) ⌝ }
+fn show_model(bytes: [u8; TRACE_BYTES], start: usize, output: &mut [u8]) -> bool
+    requires { ⌜ (start ≤ traceBytes) × (traceBytes ≤ start + length (now output)) ⌝ }
     ensures { λ r. ⌜ Modelled (drop start bytes) (now (output .entry)) r (now (output .exit)) ⌝ }
 {
-    let n = 2050 - start;
+    let n = TRACE_BYTES - start;
     let shown = show(&bytes[start..], &mut output[n..]);
     match shown {
         Shown::Model(k) => {
@@ -160,32 +173,32 @@ fn show_model(bytes: [u8; 2050], start: usize, output: &mut [u8]) -> bool
 
 // The answer for an incoherent execution of so many pairs: its trace, if it fits the output.
 fn deliver_incoherent(packed: Packed, count: usize, output: &mut [u8]) -> Verdict
-    requires { ⌜ packed .start ≤ 2048 ⌝ }
+    requires { ⌜ packed .start ≤ lastLetter ⌝ }
     ensures { λ r. ⌜ Delivers breaking packed count (now (output .entry)) r (now (output .exit)) ⌝ }
 {
-    let n = 2050 - packed.start;
+    let n = TRACE_BYTES - packed.start;
     if output.len() < n {
-        return Verdict::Refused(6, 0);
+        return Verdict::Refused(OUTPUT_TOO_SMALL, 0);
     }
     write_trace(packed, output);
-    Verdict::Incoherent(count, (n - 2) / 2)
+    Verdict::Incoherent(count, (n - UNIT_BYTES) / UNIT_BYTES)
 }
 
 // The answer for a failing execution: its trace and then its model, if they fit the output. The model is written first: it alone can fail to fit.
 fn deliver_failing(packed: Packed, count: usize, output: &mut [u8]) -> Verdict
-    requires { ⌜ packed .start ≤ 2048 ⌝ }
+    requires { ⌜ packed .start ≤ lastLetter ⌝ }
     ensures { λ r. ⌜ Delivers failing packed count (now (output .entry)) r (now (output .exit)) ⌝ }
 {
-    let n = 2050 - packed.start;
+    let n = TRACE_BYTES - packed.start;
     if output.len() < n {
-        return Verdict::Refused(6, 0);
+        return Verdict::Refused(OUTPUT_TOO_SMALL, 0);
     }
     let bytes = packed.bytes;
     if show_model(bytes, packed.start, output) {
         write_trace(packed, output);
-        return Verdict::Fail(count, (n - 2) / 2);
+        return Verdict::Fail(count, (n - UNIT_BYTES) / UNIT_BYTES);
     }
-    Verdict::Refused(6, 0)
+    Verdict::Refused(OUTPUT_TOO_SMALL, 0)
 }
 
 // ---- the search over a macro
@@ -202,7 +215,7 @@ fn search_macro(program: Macro, table: &mut [u8], output: &mut [u8]) -> Verdict
     let found = search_pairs(header, points, end, table, n);
     match found {
         Search::Full => {
-            return Verdict::Refused(14, 0);
+            return Verdict::Refused(TABLE_TOO_SMALL, 0);
         }
         Search::Pass(count) => {
             return Verdict::Pass(count);

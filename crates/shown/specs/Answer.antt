@@ -16,6 +16,7 @@ use Rattle.semantics.specs.Facts.{WellFormed}
 use Rattle.semantics.specs.Judgement.{FailsAt}
 use Rattle.semantics.specs.Models.{Model, Satisfies, Feasible}
 use Rattle.semantics.specs.Tables.{Tables, Describes}
+use Rattle.letters.specs.RefusalNumbers.{letterMalformed, outputTooSmall}
 use Rattle.semantics.specs.Numbering.{IsShown}
 use Rattle.semantics.specs.ShownTables.{tablesOf}
 use Rattle.semantics.specs.PackedTables.{packTables}
@@ -42,7 +43,7 @@ modelBytes σ = packTables firstEdition (σ .header) (tablesOf σ)
 
 -- "Does a due model fit the output? 6." An exact fit is one.
 abbrev pub fitted : List ℕ → ℕ → Answer
-fitted bytes room = pick (leb (length bytes) room) (λ _. model (length bytes)) λ _. refusal 6 0
+fitted bytes room = pick (leb (length bytes) room) (λ _. model (length bytes)) λ _. refusal outputTooSmall 0
 
 -- "Refused calls write no output; bytes past a written answer stay."
 abbrev pub laidIn : List ℕ → List ℕ → List ℕ
@@ -99,7 +100,7 @@ pub record LetterNamed (s out : List ℕ) (k : ℕ) (out′ : List ℕ) : Type 0
 pub data RefusedFor (s out : List ℕ) : ℕ → ℕ → Type 0 where
   unread : {number place : ℕ} → readingWithin mostLetters firstEdition s ≡ refused number place → RefusedFor s out number place
   unfit : {h : Header} {letters : List Letter} {t : Tables} → IsTrace s h letters → Feasible (state (traceOf h letters)) → ShownFor h letters t
-      → length out < length (packTables firstEdition h t) → RefusedFor s out 6 0
+      → length out < length (packTables firstEdition h t) → RefusedFor s out outputTooSmall 0
 
 -- What an answer means, with the output out before and out′ after.
 abbrev pub Means : (s out : List ℕ) → Answer → (out′ : List ℕ) → Type 0
@@ -127,4 +128,4 @@ Modelled h function first second representative n out r out′ =
 -- What is answered where letter k is the first infeasible one and the letters after it are read as x.
 pub data Stopped (h : Header) (x : Reading) (k : ℕ) : Shown → Type 0 where
   well : (ls : List Letter) → x ≡ trace h ls → Stopped h x k (shown.Infeasible k)
-  ill : (p : ℕ) → x ≡ refused 4 p → Stopped h x k (shown.Refused 4 p)
+  ill : (p : ℕ) → x ≡ refused letterMalformed p → Stopped h x k (shown.Refused letterMalformed p)

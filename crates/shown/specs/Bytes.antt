@@ -1,14 +1,49 @@
 -- The shown model as bytes, part by part.
 use mathlib.Core.Path.{_≡_}
 use mathlib.Core.List.{List, map}
-use Prim.Native.Nat.{ℕ, _+_, _*_, _/_, _%_, _≤_, _<_}
+use Prim.Native.Nat.{ℕ, _+_, _*_, _/_, _%_, _^_, _≤_, _<_}
 use lib.ListN.{length, getD, take, set}
-use Rattle.letters.specs.Editions.{firstEdition}
+use Rattle.letters.specs.Editions.{firstEdition, mostRegisters, mostFunctions}
 use Rattle.letters.specs.declared.Header.{Header}
 use Rattle.base.specs.Choice.{pick}
 use Rattle.base.specs.Masks.{has}
 use Rattle.semantics.specs.Tables.{Row, Tables}
-use Rattle.semantics.specs.PackedTables.{rowWord}
+use Rattle.semantics.specs.PackedTables.{rowBytes, wordBytes, rowWord}
+use Rattle.closure.specs.Limits.{mostTerms}
+
+-- ---- sizes, in bytes: those of a row and of the other numbers are `rowBytes` and `wordBytes` of crate `semantics`
+-- "count of values 16 bits, count of rows 16"
+abbrev pub countsBytes : ℕ
+countsBytes = 2 * wordBytes
+
+-- A model with r rows.
+abbrev pub modelLength : Header → ℕ → ℕ
+modelLength h r = countsBytes + wordBytes * h .registers + rowBytes * r
+
+-- Where the initial values and the rows begin at the latest; the counts and eight initial values have fewer bytes.
+abbrev pub latestPlace : ℕ
+latestPlace = 64
+
+-- ---- what the fields of a row count in its number
+-- how many values a field can hold
+abbrev pub valueRange : ℕ
+valueRange = 2 ^ firstEdition .rowValue
+
+abbrev pub resultFactor : ℕ
+resultFactor = 2 ^ firstEdition .rowSpare
+
+abbrev pub secondFactor : ℕ
+secondFactor = valueRange * resultFactor
+
+abbrev pub firstFactor : ℕ
+firstFactor = valueRange * secondFactor
+
+abbrev pub functionFactor : ℕ
+functionFactor = valueRange * firstFactor
+
+-- the fields put together
+abbrev pub joinedOf : (f a b c : ℕ) → ℕ
+joinedOf f a b c = f * functionFactor + a * firstFactor + b * secondFactor + c * resultFactor
 
 -- five bytes, one by one
 abbrev pub putFive : List ℕ → ℕ → ℕ → List ℕ
@@ -36,29 +71,29 @@ wordsFor h values function first second rows = map (wordFor h values function fi
 
 -- Application i has its function and its values in range.
 pub record RowIn (values function first second : List ℕ) (i : ℕ) : Type 0 where
-  pub place : i < 1032
-  pub function-below : getD function i 0 < 4
-  pub first-place : getD first i 0 < 1032
-  pub second-place : getD second i 0 < 1032
-  pub first-below : getD values (getD first i 0) 0 < 2048
-  pub second-below : getD values (getD second i 0) 0 < 2048
-  pub result-below : getD values i 0 < 2048
+  pub place : i < mostTerms
+  pub function-below : getD function i 0 < mostFunctions
+  pub first-place : getD first i 0 < mostTerms
+  pub second-place : getD second i 0 < mostTerms
+  pub first-below : getD values (getD first i 0) 0 < valueRange
+  pub second-below : getD values (getD second i 0) 0 < valueRange
+  pub result-below : getD values i 0 < valueRange
 
 -- The initial values fit from `at` on.
 pub record StartsFit (values : List ℕ) (registers room at : ℕ) : Type 0 where
-  pub few : registers ≤ 8
-  pub long : length values ≡ 1032
-  pub small : (k : ℕ) → k < registers → getD values k 0 < 2048
-  pub place : at ≤ 64
-  pub fits : at + 2 * registers ≤ room
+  pub few : registers ≤ mostRegisters
+  pub long : length values ≡ mostTerms
+  pub small : (k : ℕ) → k < registers → getD values k 0 < valueRange
+  pub place : at ≤ latestPlace
+  pub fits : at + wordBytes * registers ≤ room
 
 -- The first r rows fit from `at` on.
 pub record RowsFit (values function first second rows : List ℕ) (r room at : ℕ) : Type 0 where
-  pub few : r ≤ 1032
-  pub long : length rows ≡ 1032
+  pub few : r ≤ mostTerms
+  pub long : length rows ≡ mostTerms
   pub each : (k : ℕ) → k < r → RowIn values function first second (getD rows k 0)
-  pub place : at ≤ 64
-  pub fits : at + 5 * r ≤ room
+  pub place : at ≤ latestPlace
+  pub fits : at + rowBytes * r ≤ room
 
 -- What the arrays say, as tables.
 unfoldable pub tablesIn : Header → (values function first second rows : List ℕ) (count r : ℕ) → Tables
@@ -70,11 +105,11 @@ tablesIn h values function first second rows count r = record {
 
 -- The tables fit the output.
 pub record Writable (h : Header) (values function first second rows : List ℕ) (count r room : ℕ) : Type 0 where
-  pub few : h .registers ≤ 8
-  pub rows-few : r ≤ 1032
-  pub count-small : count < 2048
-  pub values-long : length values ≡ 1032
-  pub rows-long : length rows ≡ 1032
-  pub starts-small : (k : ℕ) → k < h .registers → getD values k 0 < 2048
+  pub few : h .registers ≤ mostRegisters
+  pub rows-few : r ≤ mostTerms
+  pub count-small : count < valueRange
+  pub values-long : length values ≡ mostTerms
+  pub rows-long : length rows ≡ mostTerms
+  pub starts-small : (k : ℕ) → k < h .registers → getD values k 0 < valueRange
   pub each : (k : ℕ) → k < r → RowIn values function first second (getD rows k 0)
-  pub fits : 4 + 2 * h .registers + 5 * r ≤ room
+  pub fits : modelLength h r ≤ room

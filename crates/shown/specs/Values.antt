@@ -4,6 +4,7 @@ use mathlib.Core.List.{List}
 use Prim.Native.Nat.{ℕ, zero, suc, _≤_, _<_}
 use lib.Dec.{eqb}
 use lib.ListN.{length, getD}
+use Rattle.closure.specs.Limits.{mostTerms}
 use Rattle.base.specs.Choice.{pick}
 
 -- How many of the first i terms are the first of their class, that is, their own representative.
@@ -27,11 +28,11 @@ chosen representative values i next = pick (eqb (getD representative i 0) i) (λ
 pub record Valued (representative : List ℕ) (n : ℕ) (values : List ℕ) (c : ℕ) : Type 0 where
   pub at-each : (i : ℕ) → i < n → getD values i 0 ≡ valueAt representative i
   pub count : c ≡ suc (classesBelow representative n)
-  pub long : length values ≡ 1032
+  pub long : length values ≡ mostTerms
 
 -- What `number` asks: representatives of count terms, and room for as many values.
 pub record Numberable (representative : List ℕ) (n : ℕ) (values : List ℕ) : Type 0 where
-  pub within : n ≤ 1032
-  pub room : length values ≡ 1032
+  pub within : n ≤ mostTerms
+  pub room : length values ≡ mostTerms
   pub lowest : (i : ℕ) → i < n → getD representative i 0 ≤ i
   pub own : (i : ℕ) → i < n → getD representative (getD representative i 0) 0 ≡ getD representative i 0

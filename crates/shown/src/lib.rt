@@ -2,8 +2,9 @@
 ghost use mathlib.Core.Path.{_≡_};
 ghost use Prim.Native.Nat.{ℕ, suc, _+_, _*_, _<_, _≤_};
 ghost use lib.ListN.{length, getD, take};
-ghost use Rattle.letters.specs.Editions.{firstEdition};
-ghost use Rattle.semantics.specs.PackedTables.{units, packTables};
+ghost use Rattle.letters.specs.Editions.{firstEdition, mostFunctions};
+ghost use Rattle.semantics.specs.PackedTables.{units, packTables, rowBytes, wordBytes};
+ghost use Rattle.closure.specs.Limits.{chainCount, mostTerms};
 ghost use Rattle.closure.specs.Arrays.{Formed, Indexed};
 ghost use Rattle.shown.specs.Values.{chosen, newClass, Numberable, Valued};
 ghost use Rattle.shown.specs.Rows.{NewRow};
@@ -12,17 +13,40 @@ ghost use Rattle.engine.specs.Run.{Blank, Begun, restOf};
 ghost use Rattle.shown.specs.Inserted.{inserted};
 ghost use Rattle.shown.specs.Fitting.{Puttable, Put};
 ghost use Rattle.shown.specs.Answer.{Known, Modelled, Stopped, Showed};
-ghost use Rattle.shown.specs.Bytes.{putFive, written, RowIn, wordFor, wordsFor, StartsFit, RowsFit, Writable, tablesIn};
+ghost use Rattle.shown.specs.Bytes.{valueRange, joinedOf, putFive, written, RowIn, wordFor, wordsFor, StartsFit, RowsFit, Writable, tablesIn};
+use closure::CHAINS;
 use closure::Heads;
 use closure::Numbers;
+use closure::TERMS;
 use closure::wide;
 use engine::Outcome;
 use letters::Header;
+use letters::limits::MOST_LETTERS;
+use letters::limits::UNIT_BYTES;
+use letters::refusal_numbers::LETTER_MALFORMED;
+use letters::refusal_numbers::OUTPUT_TOO_SMALL;
+use letters::refusal_numbers::TRACE_TOO_LONG;
 use letters::words;
 use traces::HeaderRead;
 
-// The letters that a trace may have.
-const MOST_LETTERS: usize = 1024;
+// The bytes of a row, and of the other numbers of a model.
+const ROW_BYTES: usize = 5;
+
+const WORD_BYTES: usize = 2;
+
+// "count of values 16 bits, count of rows 16".
+const COUNTS_BYTES: usize = 2 * WORD_BYTES;
+
+// What the fields of a row count in its number: function 2 bits, argument 11, argument 11, result 11, spare 5.
+const VALUE_RANGE: u64 = 2048;
+
+const ROW_RESULT: u64 = 32;
+
+const ROW_SECOND: u64 = VALUE_RANGE * ROW_RESULT;
+
+const ROW_FIRST: u64 = VALUE_RANGE * ROW_SECOND;
+
+const ROW_FUNCTION: u64 = VALUE_RANGE * ROW_FIRST;
 
 /// What is shown for a trace: a model of so many bytes, the first infeasible letter, or a refusal, its number and place.
 pub enum Shown {
@@ -43,19 +67,19 @@ fn long(x: u16) -> u64
 fn zeros() -> Numbers
     ensures { λ r. ⌜ Blank r ⌝ }
 {
-    [0u16; 1032]
+    [0u16; TERMS]
 }
 
 // An index without entries.
 fn no_heads() -> Heads
-    ensures { λ r. ⌜ (length r ≡ 1021) × ((b : ℕ) → getD r b 0 ≡ 0) ⌝ }
+    ensures { λ r. ⌜ (length r ≡ chainCount) × ((b : ℕ) → getD r b 0 ≡ 0) ⌝ }
 {
-    [0u16; 1021]
+    [0u16; CHAINS]
 }
 
 // The value of term i: the next one for the first of its class, else that of its representative.
 fn value_of(representative: &Numbers, values: &Numbers, i: usize, next: u16) -> u16
-    requires { ⌜ (i < 1032) × (getD (now representative) i 0 < 1032) ⌝ }
+    requires { ⌜ (i < mostTerms) × (getD (now representative) i 0 < mostTerms) ⌝ }
     ensures { λ r. ⌜ r ≡ chosen (now (representative .entry)) (now (values .entry)) i next ⌝ }
 {
     let name = wide(representative[i]);
@@ -67,7 +91,7 @@ fn value_of(representative: &Numbers, values: &Numbers, i: usize, next: u16) -> 
 
 // 1 for the first term of its class, 0 for another.
 fn new_class(representative: &Numbers, i: usize) -> u16
-    requires { ⌜ i < 1032 ⌝ }
+    requires { ⌜ i < mostTerms ⌝ }
     ensures { λ r. ⌜ r ≡ newClass (now (representative .entry)) i ⌝ }
 {
     if wide(representative[i]) == i { 1 } else { 0 }
@@ -167,7 +191,7 @@ fn put_five(out: &mut [u8], at: usize, word: u64)
 
 // The second argument as it is written: 0 for a function of one argument.
 fn second_written(header: Header, f: u16, b: u16) -> u16
-    requires { ⌜ f < 4 ⌝ }
+    requires { ⌜ f < mostFunctions ⌝ }
     ensures { λ r. ⌜ r ≡ written header f b ⌝ }
 {
     if words::takes_two(header, f as u8) {
@@ -179,10 +203,10 @@ fn second_written(header: Header, f: u16, b: u16) -> u16
 
 // The fields of a row put together: function 2, argument 11, argument 11, result 11, spare 5.
 fn joined(f: u64, a: u64, b: u64, c: u64) -> u64
-    requires { ⌜ (f < 4) × (a < 2048) × (b < 2048) × (c < 2048) ⌝ }
-    ensures { λ r. ⌜ r ≡ f * 274877906944 + a * 134217728 + b * 65536 + c * 32 ⌝ }
+    requires { ⌜ (f < mostFunctions) × (a < valueRange) × (b < valueRange) × (c < valueRange) ⌝ }
+    ensures { λ r. ⌜ r ≡ joinedOf f a b c ⌝ }
 {
-    f * 274877906944 + a * 134217728 + b * 65536 + c * 32
+    f * ROW_FUNCTION + a * ROW_FIRST + b * ROW_SECOND + c * ROW_RESULT
 }
 
 // The row of application i as one number.
@@ -207,11 +231,11 @@ fn row_word(
 // Writes the initial values from `at` on.
 fn write_starts(values: &Numbers, registers: usize, out: &mut [u8], at: usize)
     requires { ⌜ StartsFit (now values) registers (length (now out)) at ⌝ }
-    ensures { λ _. ⌜ now (out .exit) ≡ inserted at (units 2 (take registers (now (values .entry)))) (now (out .entry)) ⌝ }
+    ensures { λ _. ⌜ now (out .exit) ≡ inserted at (units wordBytes (take registers (now (values .entry)))) (now (out .entry)) ⌝ }
 {
     let mut i: usize = 0;
     while i < registers {
-        words::put_word(out, at + 2 * i, values[i]);
+        words::put_word(out, at + WORD_BYTES * i, values[i]);
         i = i + 1;
     }
 }
@@ -229,13 +253,13 @@ fn write_rows(
     at: usize,
 )
     requires { ⌜ RowsFit (now values) (now function) (now first) (now second) (now rows) r (length (now out)) at ⌝ }
-    ensures { λ _. ⌜ now (out .exit) ≡ inserted at (units 5 (wordsFor header (now (values .entry)) (now (function .entry)) (now (first .entry)) (now (second .entry)) (take r (now (rows .entry))))) (now (out .entry)) ⌝ }
+    ensures { λ _. ⌜ now (out .exit) ≡ inserted at (units rowBytes (wordsFor header (now (values .entry)) (now (function .entry)) (now (first .entry)) (now (second .entry)) (take r (now (rows .entry))))) (now (out .entry)) ⌝ }
 {
     let mut k: usize = 0;
     while k < r {
         let i = wide(rows[k]);
         let word = row_word(header, values, function, first, second, i);
-        put_five(out, at + 5 * k, word);
+        put_five(out, at + ROW_BYTES * k, word);
         k = k + 1;
     }
 }
@@ -257,8 +281,8 @@ fn write(
 {
     let registers = header.registers as usize;
     words::put_word(out, 0, count);
-    words::put_word(out, 2, r as u16);
-    write_starts(values, registers, out, 4);
+    words::put_word(out, WORD_BYTES, r as u16);
+    write_starts(values, registers, out, COUNTS_BYTES);
     write_rows(
         header,
         values,
@@ -268,7 +292,7 @@ fn write(
         rows,
         r,
         out,
-        4 + 2 * registers,
+        COUNTS_BYTES + WORD_BYTES * registers,
     );
 }
 
@@ -287,9 +311,9 @@ fn put_model(
     requires { ⌜ Puttable header (now values) (now function) (now first) (now second) (now rows) count r (length (now out)) ⌝ }
     ensures { λ q. ⌜ Put header (now (values .entry)) (now (function .entry)) (now (first .entry)) (now (second .entry)) (now (rows .entry)) count r (now (out .entry)) q (now (out .exit)) ⌝ }
 {
-    let length = 4 + 2 * (header.registers as usize) + 5 * r;
+    let length = COUNTS_BYTES + WORD_BYTES * (header.registers as usize) + ROW_BYTES * r;
     if out.len() < length {
-        return Shown::Refused(6, 0);
+        return Shown::Refused(OUTPUT_TOO_SMALL, 0);
     }
     write(header, values, function, first, second, rows, count, r, out);
     Shown::Model(length)
@@ -343,7 +367,7 @@ fn name_infeasible(header: Header, trace: &[u8], letters: usize, k: u64) -> Show
     if broken == 0 {
         return Shown::Infeasible(k);
     }
-    Shown::Refused(4, broken)
+    Shown::Refused(LETTER_MALFORMED, broken)
 }
 
 // Shows what is due for a trace whose header was read.
@@ -365,7 +389,7 @@ fn show_trace(header: Header, trace: &[u8], letters: usize, out: &mut [u8]) -> S
         &mut representative,
     );
     match outcome {
-        Outcome::Malformed(k) => Shown::Refused(4, k),
+        Outcome::Malformed(k) => Shown::Refused(LETTER_MALFORMED, k),
         Outcome::Infeasible(k) => name_infeasible(header, trace, letters, k),
         Outcome::Feasible(count) => show_model(
             header,
@@ -389,9 +413,9 @@ pub fn show(trace: &[u8], out: &mut [u8]) -> Shown
     match begun {
         HeaderRead::Refused(number) => Shown::Refused(number, 0),
         HeaderRead::Header(header) => {
-            let letters = trace.len() / 2 - 1;
+            let letters = trace.len() / UNIT_BYTES - 1;
             if MOST_LETTERS < letters {
-                return Shown::Refused(5, 0);
+                return Shown::Refused(TRACE_TOO_LONG, 0);
             }
             show_trace(header, trace, letters, out)
         }

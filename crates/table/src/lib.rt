@@ -11,15 +11,18 @@ ghost use Rattle.letters.specs.Capacity.{capacityOf};
 ghost use Rattle.records.specs.Records.{recordBytes, encodedBytes, recordOf};
 ghost use Rattle.table.specs.Table.{putAt, pointAt, parentAt, branchAt, windowAt, isAt};
 
+/// How many pairs a table holds at most.
+pub const MOST_PAIRS: usize = 1024;
+
 /// How many pairs a table of so many bytes holds.
 pub fn capacity(length: usize) -> usize
     ensures { λ r. ⌜ r ≡ capacityOf firstEdition length ⌝ }
 {
     let whole = length / RECORD_BYTES;
-    if whole < 1024 {
+    if whole < MOST_PAIRS {
         return whole;
     }
-    1024
+    MOST_PAIRS
 }
 
 /// Writes record k, and changes no other byte.

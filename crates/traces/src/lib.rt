@@ -2,6 +2,12 @@
 use letters::DecodedHeader;
 use letters::DecodedLetter;
 use letters::Header;
+use letters::limits::UNIT_BYTES;
+use letters::refusal_numbers::HEADER_MALFORMED;
+use letters::refusal_numbers::LETTER_MALFORMED;
+use letters::refusal_numbers::TRACE_ODD_LENGTH;
+use letters::refusal_numbers::TRACE_TOO_LONG;
+use letters::refusal_numbers::TRACE_TOO_SHORT;
 use letters::words::decode_header;
 use letters::words::decode_letter;
 use letters::words::word;
@@ -18,6 +24,12 @@ ghost use Rattle.traces.specs.ReadingParts.{readingWithin, counted, lett
 pub mod writer;
 /// The reader that gives the letters too.
 pub mod unpacker;
+
+/// How many bytes an unpacked letter has: kind, function, target, first, second.
+pub const UNPACKED_BYTES: usize = 5;
+
+// More letters than a trace can have.
+const NO_LIMIT: u64 = 18446744073709551615;
 
 /// How the reading of a trace's beginning went.
 pub enum HeaderRead {
@@ -47,33 +59,33 @@ pub enum Written {
 pub fn read_beginning(bytes: &[u8]) -> HeaderRead
     ensures { λ r. ⌜ beginningAnswer r ≡ beginning firstEdition (now (bytes .entry)) ⌝ }
 {
-    if bytes.len() < 2 {
-        return HeaderRead::Refused(1);
+    if bytes.len() < UNIT_BYTES {
+        return HeaderRead::Refused(TRACE_TOO_SHORT);
     }
-    if bytes.len() % 2 != 0 {
-        return HeaderRead::Refused(2);
+    if bytes.len() % UNIT_BYTES != 0 {
+        return HeaderRead::Refused(TRACE_ODD_LENGTH);
     }
     let decoded = decode_header(word(bytes[0], bytes[1]));
     let DecodedHeader::Header(header) = decoded else {
-        return HeaderRead::Refused(3);
+        return HeaderRead::Refused(HEADER_MALFORMED);
     };
     HeaderRead::Header(header)
 }
 
 // Reads the letters behind the header.
 fn read_letters(h: Header, bytes: &[u8]) -> TraceRead
-    requires { ⌜ 2 ≤ length (now bytes) ⌝ }
+    requires { ⌜ firstEdition .bytes ≤ length (now bytes) ⌝ }
     ensures { λ r. ⌜ traceAnswer r ≡ counted (lettersOf firstEdition h (now (bytes .entry))) ⌝ }
 {
-    let mut at: usize = 2;
+    let mut at: usize = UNIT_BYTES;
     let mut n: u64 = 0;
     while 1 < bytes.len() - at {
         let decoded = decode_letter(h, word(bytes[at], bytes[at + 1]));
         let DecodedLetter::Letter(letter) = decoded else {
-            return TraceRead::Refused(4, n + 1);
+            return TraceRead::Refused(LETTER_MALFORMED, n + 1);
         };
         n = n + 1;
-        at = at + 2;
+        at = at + UNIT_BYTES;
     }
     TraceRead::Trace(h, n)
 }
@@ -85,9 +97,9 @@ pub fn read_trace_within(bytes: &[u8], limit: u64) -> TraceRead
     let begun = read_beginning(bytes);
     match begun {
         HeaderRead::Header(header) => {
-            let letters = (bytes.len() / 2 - 1) as u64;
+            let letters = (bytes.len() / UNIT_BYTES - 1) as u64;
             if limit < letters {
-                return TraceRead::Refused(5, 0);
+                return TraceRead::Refused(TRACE_TOO_LONG, 0);
             }
             read_letters(header, bytes)
         }
@@ -99,18 +111,18 @@ pub fn read_trace_within(bytes: &[u8], limit: u64) -> TraceRead
 pub fn read_trace(bytes: &[u8]) -> TraceRead
     ensures { λ r. ⌜ traceAnswer r ≡ counted (reading firstEdition (now (bytes .entry))) ⌝ }
 {
-    read_trace_within(bytes, 18446744073709551615)
+    read_trace_within(bytes, NO_LIMIT)
 }
 
 /// Letter k, from 0, of the bytes of a trace with header `h`.
 pub fn letter_at(h: Header, bytes: &[u8], k: usize) -> DecodedLetter
     ensures { λ r. ⌜ letterAnswer r ≡ letterAt firstEdition h (now (bytes .entry)) k ⌝ }
 {
-    if bytes.len() / 2 <= k {
+    if bytes.len() / UNIT_BYTES <= k {
         return DecodedLetter::Malformed;
     }
-    let at = 2 * k + 2;
-    if bytes.len() - at < 2 {
+    let at = UNIT_BYTES * k + UNIT_BYTES;
+    if bytes.len() - at < UNIT_BYTES {
         return DecodedLetter::Malformed;
     }
     decode_letter(h, word(bytes[at], bytes[at + 1]))

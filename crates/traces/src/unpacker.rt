@@ -1,9 +1,12 @@
 // Traces: the reader that gives the letters too, unpacked as the writer takes them, five bytes each.
 use super::TraceRead;
+use super::UNPACKED_BYTES;
 use super::read_trace;
 use letters::DecodedLetter;
 use letters::Header;
 use letters::Letter;
+use letters::limits::UNIT_BYTES;
+use letters::refusal_numbers::OUTPUT_TOO_SMALL;
 use letters::words::by_arity;
 use letters::words::decode_letter;
 use letters::words::word;
@@ -17,7 +20,7 @@ ghost use Rattle.traces.specs.Writing.{plainFields};
 ghost use Rattle.traces.specs.Unpacking.{putPlain, putUnpacked, Unpacked};
 
 /// The kind, function, target, first and second of a letter, unused ones 0.
-pub fn fields_of(h: Header, l: Letter) -> [u8; 5]
+pub fn fields_of(h: Header, l: Letter) -> [u8; UNPACKED_BYTES]
     ensures { λ r. ⌜ r ≡ plainFields h l ⌝ }
 {
     match l {
@@ -51,10 +54,10 @@ fn put_fields(h: Header, l: Letter, out: &mut [u8], to: usize)
 
 // Unpacks the letters behind the header, up to the first that is not well formed.
 fn put_unpacked(h: Header, bytes: &[u8], out: &mut [u8])
-    requires { ⌜ (2 ≤ length (now bytes)) × (5 * (length (now bytes) / 2 - 1) ≤ length (now out)) ⌝ }
+    requires { ⌜ (firstEdition .bytes ≤ length (now bytes)) × (5 * (length (now bytes) / 2 - 1) ≤ length (now out)) ⌝ }
     ensures { λ _. ⌜ now (out .exit) ≡ putUnpacked h (now (out .entry)) (now (bytes .entry)) ⌝ }
 {
-    let mut at: usize = 2;
+    let mut at: usize = UNIT_BYTES;
     let mut to: usize = 0;
     while 1 < bytes.len() - at {
         let decoded = decode_letter(h, word(bytes[at], bytes[at + 1]));
@@ -62,8 +65,8 @@ fn put_unpacked(h: Header, bytes: &[u8], out: &mut [u8])
             return;
         };
         put_fields(h, letter, out, to);
-        at = at + 2;
-        to = to + 5;
+        at = at + UNIT_BYTES;
+        to = to + UNPACKED_BYTES;
     }
 }
 
@@ -74,8 +77,8 @@ pub fn unpack_trace(bytes: &[u8], out: &mut [u8]) -> TraceRead
     let read = read_trace(bytes);
     match read {
         TraceRead::Trace(h, n) => {
-            if ((out.len() / 5) as u64) < n {
-                return TraceRead::Refused(6, 0);
+            if ((out.len() / UNPACKED_BYTES) as u64) < n {
+                return TraceRead::Refused(OUTPUT_TOO_SMALL, 0);
             }
             put_unpacked(h, bytes, out);
             TraceRead::Trace(h, n)

@@ -1,11 +1,16 @@
 // Traces: the writer, from a header and unpacked letters. An unpacked letter has five bytes: kind, function, target, first, second, and those that
 // it does not use are 0, the second argument of a one-argument function included.
 use super::TraceRead;
+use super::UNPACKED_BYTES;
 use super::Written;
 use letters::DecodedLetter;
 use letters::Encoded;
 use letters::Header;
 use letters::Letter;
+use letters::limits::UNIT_BYTES;
+use letters::refusal_numbers::HEADER_MALFORMED;
+use letters::refusal_numbers::LETTER_MALFORMED;
+use letters::refusal_numbers::OUTPUT_TOO_SMALL;
 use letters::words::encode_header;
 use letters::words::encode_letter;
 use letters::words::letter_by;
@@ -69,7 +74,7 @@ fn unpacked_at(h: Header, fields: &[u8], at: usize) -> DecodedLetter
     requires { ⌜ at ≤ length (now fields) ⌝ }
     ensures { λ r. ⌜ letterAnswer r ≡ unpackLetter h (take 5 (drop at (now (fields .entry)))) ⌝ }
 {
-    if fields.len() - at < 5 {
+    if fields.len() - at < UNPACKED_BYTES {
         return DecodedLetter::Malformed;
     }
     letter_of(
@@ -91,10 +96,10 @@ fn check_letters(h: Header, fields: &[u8]) -> TraceRead
     while at < fields.len() {
         let decoded = unpacked_at(h, fields, at);
         let DecodedLetter::Letter(letter) = decoded else {
-            return TraceRead::Refused(4, n + 1);
+            return TraceRead::Refused(LETTER_MALFORMED, n + 1);
         };
         n = n + 1;
-        at = at + 5;
+        at = at + UNPACKED_BYTES;
     }
     TraceRead::Trace(h, n)
 }
@@ -117,15 +122,15 @@ fn put_letters(h: Header, fields: &[u8], out: &mut [u8])
     ensures { λ _. ⌜ now (out .exit) ≡ putWords (wordIn firstEdition h) (now (out .entry)) 2 (unpackedParts (now (fields .entry))) ⌝ }
 {
     let mut at: usize = 0;
-    let mut to: usize = 2;
+    let mut to: usize = UNIT_BYTES;
     while at < fields.len() {
         let encoded = word_at(h, fields, at);
         let Encoded::Word(word) = encoded else {
             return;
         };
         put_word(out, to, word);
-        at = at + 5;
-        to = to + 2;
+        at = at + UNPACKED_BYTES;
+        to = to + UNIT_BYTES;
     }
 }
 
@@ -144,14 +149,14 @@ pub fn write_trace(h: Header, fields: &[u8], out: &mut [u8]) -> Written
 {
     let encoded = encode_header(h);
     let Encoded::Word(first) = encoded else {
-        return Written::Refused(3, 0);
+        return Written::Refused(HEADER_MALFORMED, 0);
     };
     let checked = check_letters(h, fields);
     match checked {
         TraceRead::Trace(header, n) => {
-            let size = 2 * (n as usize) + 2;
+            let size = UNIT_BYTES * (n as usize) + UNIT_BYTES;
             if out.len() < size {
-                return Written::Refused(6, 0);
+                return Written::Refused(OUTPUT_TOO_SMALL, 0);
             }
             put_trace(h, first, fields, out);
             Written::Bytes(size)

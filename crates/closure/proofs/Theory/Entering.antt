@@ -4,12 +4,14 @@ use mathlib.Core.List.{List}
 use Prim.Native.Nat.{ℕ, _≤_, _<_}
 use native.Mathlib.Omega.{arith}
 use lib.ListN.{length, getD}
+use Rattle.letters.specs.Editions.{mostFunctions}
+use Rattle.closure.specs.Limits.{mostTerms, chainCount}
 use Rattle.closure.specs.Index.{signatureOf, Holds, here, there, Chains, Complete, Entered}
 use Rattle.closure.proofs.Theory.Index.{signature-same}
 use Rattle.closure.specs.Arrays.{Below, Formed, Argument, Readable, signatureAt, LookedAt, knownAt, freshAt}
 
 -- an index without entries
-pub chains-none : (head link : List ℕ) (registers : ℕ) → length head ≡ 1021 → length link ≡ 1032 → ((b : ℕ) → getD head b 0 ≡ 0) → ((i : ℕ) → getD link i 0 ≡ 0) → 1 ≤ registers → Chains registers head link
+pub chains-none : (head link : List ℕ) (registers : ℕ) → length head ≡ chainCount → length link ≡ mostTerms → ((b : ℕ) → getD head b 0 ≡ 0) → ((i : ℕ) → getD link i 0 ≡ 0) → 1 ≤ registers → Chains registers head link
 chains-none head link registers h l zh zl s = record {
   head-long = h;
   link-long = l;
@@ -32,7 +34,7 @@ unfolding Below
 argument i f h = let w = f .within in let c = f .classes i h in record { below = omega arith; class = omega arith }
 
 -- a class that was read
-pub class-use : (representative : List ℕ) (a i v : ℕ) → Argument representative a → i ≡ a → v ≡ getD representative i 0 → v < 1032
+pub class-use : (representative : List ℕ) (a i v : ℕ) → Argument representative a → i ≡ a → v ≡ getD representative i 0 → v < mostTerms
 class-use representative a i v h e g = let k : v ≡ getD representative a 0 = g ∙ ap (λ i. getD representative i 0) e in let l = h .class in omega arith
 
 pub readable : {representative function first second : List ℕ} {registers n : ℕ} (i : ℕ) → Formed representative function first second registers n → registers ≤ i → i ≤ n → Readable representative function first second registers i
@@ -48,12 +50,12 @@ readable i f p h = record {
 
 -- application i can be looked at
 pub readable-at : {representative function first second : List ℕ} {registers n : ℕ} (i : ℕ) → Readable representative function first second registers n → i < n
-    → (i < 1032) × (getD function i 0 < 4) × Argument representative (getD first i 0) × Argument representative (getD second i 0)
+    → (i < mostTerms) × (getD function i 0 < mostFunctions) × Argument representative (getD first i 0) × Argument representative (getD second i 0)
 unfolding Below
 readable-at i r h = let w = r .within in (omega arith, r .functions i h, r .firsts i h, r .seconds i h)
 
 -- what was entered for f of a and b was looked up
-module _ (representative function first second : List ℕ) (registers n : ℕ) (fm : Formed representative function first second registers n) (f a b c : ℕ) (hf : f < 4) (ha : a < n) (hb : b < n)
+module _ (representative function first second : List ℕ) (registers n : ℕ) (fm : Formed representative function first second registers n) (f a b c : ℕ) (hf : f < mostFunctions) (ha : a < n) (hb : b < n)
     (e : c ≡ signatureOf f (getD representative a 0) (getD representative b 0)) where
   same-as : (m : ℕ) → m < n → signatureAt representative function first second m ≡ c → (getD function m 0 ≡ f) × (getD representative (getD first m 0) 0 ≡ getD representative a 0) × (getD representative (getD second m 0) 0 ≡ getD representative b 0)
   unfolding signatureAt Below

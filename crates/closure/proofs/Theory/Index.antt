@@ -9,11 +9,13 @@ use lib.Dec.{eqb, ltb}
 use lib.ListN.{length, getD, set, length-set}
 use lib.Seq.{getD-set-same, getD-set-other}
 use borrow.Author.Tests.{eqb-true, eqb-false, ltb-true, ltb-false}
+use Rattle.letters.specs.Editions.{mostFunctions}
 use Rattle.base.proofs.Theory.Choice.{byTest}
 use Rattle.base.specs.Choice.{pick}
+use Rattle.closure.specs.Limits.{chainCount, mostTerms}
 use Rattle.closure.specs.Index.{signatureOf, Holds, here, there, Down, Chains, Complete, Found, Entered, Cut, CutTo, withoutLast}
 
-pub signature-same : {f p q g r s : ℕ} → f < 4 → g < 4 → q < 1032 → s < 1032 → signatureOf f p q ≡ signatureOf g r s → (f ≡ g) × (p ≡ r) × (q ≡ s)
+pub signature-same : {f p q g r s : ℕ} → f < mostFunctions → g < mostFunctions → q < mostTerms → s < mostTerms → signatureOf f p q ≡ signatureOf g r s → (f ≡ g) × (p ≡ r) × (q ≡ s)
 unfolding signatureOf
 signature-same hf hg hq hs e = (omega arith, omega arith, omega arith)
 
@@ -55,19 +57,19 @@ module _ (link : List ℕ) (start bound : ℕ) where
 
 -- ---- the loop of `cut`
 pub record CuttingAll (head₀ link : List ℕ) (bound : ℕ) (head : List ℕ) (i : ℕ) : Type 0 where
-  pub most : i ≤ 1021
-  pub long : length head ≡ 1021
+  pub most : i ≤ chainCount
+  pub long : length head ≡ chainCount
   pub past : (b : ℕ) → b < i → Cut link (getD head₀ b 0) bound (getD head b 0)
   pub rest : (b : ℕ) → i ≤ b → getD head b 0 ≡ getD head₀ b 0
 
-module _ (head₀ link : List ℕ) (bound : ℕ) (w : Chains 1032 head₀ link) (some : 1 ≤ bound) where
+module _ (head₀ link : List ℕ) (bound : ℕ) (w : Chains mostTerms head₀ link) (some : 1 ≤ bound) where
   pub cutting-all-start : CuttingAll head₀ link bound head₀ 0
   cutting-all-start = record { most = omega arith; long = w .head-long; past = λ b h. absurd (omega arith); rest = λ b h. refl }
 
-  pub cutting-below : (head : List ℕ) (i start : ℕ) → CuttingAll head₀ link bound head i → start ≡ getD head i 0 → start < 1032
+  pub cutting-below : (head : List ℕ) (i start : ℕ) → CuttingAll head₀ link bound head i → start ≡ getD head i 0 → start < mostTerms
   cutting-below head i start c e = let r = c .rest i (omega arith) in let h = w .heads i in omega arith
 
-  pub cutting-all-turn : (head : List ℕ) (i start v : ℕ) → CuttingAll head₀ link bound head i → i < 1021 → start ≡ getD head i 0 → Cut link start bound v → CuttingAll head₀ link bound (set head i v) (i + 1)
+  pub cutting-all-turn : (head : List ℕ) (i start v : ℕ) → CuttingAll head₀ link bound head i → i < chainCount → start ≡ getD head i 0 → Cut link start bound v → CuttingAll head₀ link bound (set head i v) (i + 1)
   cutting-all-turn head i start v c h e k = record {
     most = omega arith;
     long = simp length-set (c .long);
@@ -83,22 +85,22 @@ module _ (head₀ link : List ℕ) (bound : ℕ) (w : Chains 1032 head₀ link) 
   past-end (x ∷ l) zero h = absurd (omega arith)
   past-end (x ∷ l) (suc b) h = past-end l b (omega arith)
 
-  pub cutting-all-end : (head : List ℕ) (i : ℕ) → CuttingAll head₀ link bound head i → 1021 ≤ i → CutTo head₀ link bound head
+  pub cutting-all-end : (head : List ℕ) (i : ℕ) → CuttingAll head₀ link bound head i → chainCount ≤ i → CutTo head₀ link bound head
   cutting-all-end head i c h = record {
     chains = record {
       head-long = c .long;
       link-long = w .link-long;
-      heads = λ b. byTest (ltb b 1021)
-          (λ t. (c .past b (let l = ltb-true b 1021 t in omega arith)) .below)
-          (λ t. let z = past-end head b (let l = ltb-false b 1021 t in let m = c .long in omega arith) in omega arith);
+      heads = λ b. byTest (ltb b chainCount)
+          (λ t. (c .past b (let l = ltb-true b chainCount t in omega arith)) .below)
+          (λ t. let z = past-end head b (let l = ltb-false b chainCount t in let m = c .long in omega arith) in omega arith);
       links = w .links;
     };
-    keeps = λ registers b o k l. byTest (ltb b 1021)
-        (λ t. (c .past b (let l = ltb-true b 1021 t in omega arith)) .keeps registers o k l)
-        (λ t. let l = ltb-false b 1021 t in let m = c .most in subst (λ j. Holds registers link j o) (sym (c .rest b (omega arith))) k);
-    back = λ registers b o s k. byTest (ltb b 1021)
-        (λ t. (c .past b (let l = ltb-true b 1021 t in omega arith)) .back registers o s k)
-        (λ t. let l = ltb-false b 1021 t in let m = c .most in subst (λ j. Holds registers link j o) (c .rest b (omega arith)) k);
+    keeps = λ registers b o k l. byTest (ltb b chainCount)
+        (λ t. (c .past b (let l = ltb-true b chainCount t in omega arith)) .keeps registers o k l)
+        (λ t. let l = ltb-false b chainCount t in let m = c .most in subst (λ j. Holds registers link j o) (sym (c .rest b (omega arith))) k);
+    back = λ registers b o s k. byTest (ltb b chainCount)
+        (λ t. (c .past b (let l = ltb-true b chainCount t in omega arith)) .back registers o s k)
+        (λ t. let l = ltb-false b chainCount t in let m = c .most in subst (λ j. Holds registers link j o) (c .rest b (omega arith)) k);
   }
 
 without-last : (last before k : ℕ) → ((last ≡ k) × (withoutLast last before k ≡ before)) ⊎ ((last ≢ k) × (withoutLast last before k ≡ last))
@@ -125,7 +127,7 @@ module _ (head₀ link : List ℕ) (bound : ℕ) where
 
   -- application j, the last that is left, is taken out of the chain of its signature
   module _ (signature : ℕ → ℕ) (registers n : ℕ) (all : Complete signature registers n head₀ link) (some : 1 ≤ registers) (first : registers ≤ bound)
-      (head : List ℕ) (k j chain v : ℕ) (u : Undoing head₀ link bound head k) (h : bound < k) (ej : j ≡ k - 1) (ec : chain ≡ signature j % 1021) (small : chain < 1021) (ev : v ≡ withoutLast (getD head chain 0) (getD link j 0) j) where
+      (head : List ℕ) (k j chain v : ℕ) (u : Undoing head₀ link bound head k) (h : bound < k) (ej : j ≡ k - 1) (ec : chain ≡ signature j % chainCount) (small : chain < chainCount) (ev : v ≡ withoutLast (getD head chain 0) (getD link j 0) j) where
     stored : getD (set head chain v) chain 0 ≡ v
     stored = getD-set-same head chain v 0 (let l = u .chains .head-long in omega arith)
 
@@ -212,11 +214,11 @@ module _ (signature : ℕ → ℕ) (registers : ℕ) (link : List ℕ) (start c 
   finding-end n i f h l = record { below = h; hit = λ z. absurd (omega arith); miss = λ z o k e. ended i o l (f .on o k e) }
 
 -- ---- where `resume` goes on
-pub chains-widen : (n : ℕ) (head link : List ℕ) → Chains n head link → n ≤ 1032 → Chains 1032 head link
+pub chains-widen : (n : ℕ) (head link : List ℕ) → Chains n head link → n ≤ mostTerms → Chains mostTerms head link
 chains-widen n head link w h = record { head-long = w .head-long; link-long = w .link-long; heads = λ b. let l = w .heads b in omega arith; links = w .links }
 
 -- ---- an entry
-module _ (signature : ℕ → ℕ) (registers n c : ℕ) (head link : List ℕ) (w : Chains n head link) (some : 1 ≤ registers) (more : registers ≤ n) (within : n < 1032) where
+module _ (signature : ℕ → ℕ) (registers n c : ℕ) (head link : List ℕ) (w : Chains n head link) (some : 1 ≤ registers) (more : registers ≤ n) (within : n < mostTerms) where
   more-chains : Chains (suc n) head link
   more-chains = record { head-long = w .head-long; link-long = w .link-long; heads = λ b. let h = w .heads b in omega arith; links = w .links }
 
@@ -225,13 +227,13 @@ module _ (signature : ℕ → ℕ) (registers n c : ℕ) (head link : List ℕ) 
   upTo P f p k h = byTest (eqb k n) (λ t. subst P (sym (eqb-true k n t)) p) (λ t. let d : k ≢ n = eqb-false k n t in f k (omega arith))
 
   -- the applications of a bucket are below n, and so have the signatures that they had
-  still-only : (signature′ : ℕ → ℕ) → ((k : ℕ) → k < n → signature′ k ≡ signature k) → Complete signature registers n head link → (q o : ℕ) → Holds registers link (getD head q 0) o → signature′ o % 1021 ≡ q
+  still-only : (signature′ : ℕ → ℕ) → ((k : ℕ) → k < n → signature′ k ≡ signature k) → Complete signature registers n head link → (q o : ℕ) → Holds registers link (getD head q 0) o → signature′ o % chainCount ≡ q
   still-only signature′ same all q o k =
       let a = holds-most registers link (getD head q 0) o (w .links) some k in
       let b = w .heads q in
-      ap (λ s. s % 1021) (same o (omega arith)) ∙ all .only q o k
+      ap (λ s. s % chainCount) (same o (omega arith)) ∙ all .only q o k
 
-  known : (r : ℕ) → Found signature registers n link (getD head (c % 1021) 0) c r → registers ≤ r → Entered signature registers n c head link r head link
+  known : (r : ℕ) → Found signature registers n link (getD head (c % chainCount) 0) c r → registers ≤ r → Entered signature registers n c head link r head link
   known r f l = record {
     least = l;
     most = let h = f .below in omega arith;
@@ -241,17 +243,17 @@ module _ (signature : ℕ → ℕ) (registers n c : ℕ) (head link : List ℕ) 
     chains = more-chains;
     completes = λ signature′ same e all. record {
       only = still-only signature′ same all;
-      has = λ k p h. upTo (λ k. registers ≤ k → (o : ℕ) × (o ≤ k) × Holds registers link (getD head (signature′ k % 1021) 0) o × (signature′ o ≡ signature′ k))
-          (λ k h p. let (o, b, u, v) = all .has k p h in (o, b, subst (λ s. Holds registers link (getD head (s % 1021) 0) o) (sym (same k h)) u, same o (omega arith) ∙ v ∙ sym (same k h)))
-          (λ p. let b = f .below in (r, omega arith, subst (λ s. Holds registers link (getD head (s % 1021) 0) r) (sym e) ((f .hit l) .1), same r b ∙ (f .hit l) .0 ∙ sym e))
+      has = λ k p h. upTo (λ k. registers ≤ k → (o : ℕ) × (o ≤ k) × Holds registers link (getD head (signature′ k % chainCount) 0) o × (signature′ o ≡ signature′ k))
+          (λ k h p. let (o, b, u, v) = all .has k p h in (o, b, subst (λ s. Holds registers link (getD head (s % chainCount) 0) o) (sym (same k h)) u, same o (omega arith) ∙ v ∙ sym (same k h)))
+          (λ p. let b = f .below in (r, omega arith, subst (λ s. Holds registers link (getD head (s % chainCount) 0) r) (sym e) ((f .hit l) .1), same r b ∙ (f .hit l) .0 ∙ sym e))
           k h p;
     };
   }
 
-  pub entered-known : (start r : ℕ) → start ≡ getD head (c % 1021) 0 → Found signature registers n link start c r → registers ≤ r → Entered signature registers n c head link r head link
+  pub entered-known : (start r : ℕ) → start ≡ getD head (c % chainCount) 0 → Found signature registers n link start c r → registers ≤ r → Entered signature registers n c head link r head link
   entered-known start r e f l = known r (subst (λ s. Found signature registers n link s c r) e f) l
 
-  module _ (b : ℕ) (eb : b ≡ c % 1021) (small : b < 1021) where
+  module _ (b : ℕ) (eb : b ≡ c % chainCount) (small : b < chainCount) where
     linked : getD (set link n (getD head b 0)) n 0 ≡ getD head b 0
     linked = getD-set-same link n (getD head b 0) 0 (let l = w .link-long in omega arith)
 
@@ -286,20 +288,20 @@ module _ (signature : ℕ → ℕ) (registers n c : ℕ) (head link : List ℕ) 
     from-new i o e (there l k) = inr (unheld (getD head b 0) o (w .heads b) (subst (λ j. Holds registers (set link n (getD head b 0)) j o) (ap (λ i. getD (set link n (getD head b 0)) i 0) e ∙ linked) k))
 
     new-only : (signature′ : ℕ → ℕ) → ((k : ℕ) → k < n → signature′ k ≡ signature k) → signature′ n ≡ c → Complete signature registers n head link
-        → (q o : ℕ) → Holds registers (set link n (getD head b 0)) (getD (set head b n) q 0) o → signature′ o % 1021 ≡ q
+        → (q o : ℕ) → Holds registers (set link n (getD head b 0)) (getD (set head b n) q 0) o → signature′ o % chainCount ≡ q
     new-only signature′ same e all q o k = byTest (eqb q b)
         (λ t. let z = eqb-true q b t in elim (from-new (getD (set head b n) q 0) o (ap (λ q. getD (set head b n) q 0) z ∙ headed) k) [
-          | inl y ↦ ap (λ o. signature′ o % 1021) y ∙ ap (λ s. s % 1021) e ∙ sym eb ∙ sym z
+          | inl y ↦ ap (λ o. signature′ o % chainCount) y ∙ ap (λ s. s % chainCount) e ∙ sym eb ∙ sym z
           | inr y ↦ still-only signature′ same all b o y ∙ sym z
         ])
         (λ t. still-only signature′ same all q o (unheld (getD head q 0) o (w .heads q) (subst (λ j. Holds registers (set link n (getD head b 0)) j o) (getD-set-other head b q n 0 (eqb-false q b t)) k)))
 
-    new : (r : ℕ) → Found signature registers n link (getD head (c % 1021) 0) c r → r < registers → Entered signature registers n c head link n (set head b n) (set link n (getD head b 0))
+    new : (r : ℕ) → Found signature registers n link (getD head (c % chainCount) 0) c r → r < registers → Entered signature registers n c head link n (set head b n) (set link n (getD head b 0))
     new r f l = record {
       least = more;
       most = omega arith;
       hit = λ z. absurd (omega arith);
-      fresh = λ _ all k p h e. let (o, s, u, v) = all .has k p h in f .miss l o (subst (λ s. Holds registers link (getD head (s % 1021) 0) o) e u) (v ∙ e);
+      fresh = λ _ all k p h e. let (o, s, u, v) = all .has k p h in f .miss l o (subst (λ s. Holds registers link (getD head (s % chainCount) 0) o) e u) (v ∙ e);
       kept = λ z. absurd (omega arith);
       chains = record {
         head-long = simp length-set (w .head-long);
@@ -315,12 +317,12 @@ module _ (signature : ℕ → ℕ) (registers n c : ℕ) (head link : List ℕ) 
       };
       completes = λ signature′ same e all. record {
         only = new-only signature′ same e all;
-        has = λ k p h. upTo (λ k. registers ≤ k → (o : ℕ) × (o ≤ k) × Holds registers (set link n (getD head b 0)) (getD (set head b n) (signature′ k % 1021) 0) o × (signature′ o ≡ signature′ k))
-            (λ k h p. let (o, s, u, v) = all .has k p h in (o, s, bucket (signature′ k % 1021) o (subst (λ s. Holds registers link (getD head (s % 1021) 0) o) (sym (same k h)) u), same o (omega arith) ∙ v ∙ sym (same k h)))
-            (λ p. (n, omega arith, subst (λ j. Holds registers (set link n (getD head b 0)) j n) (sym (ap (λ s. getD (set head b n) (s % 1021) 0) e ∙ ap (λ q. getD (set head b n) q 0) (sym eb) ∙ headed)) (here more), refl))
+        has = λ k p h. upTo (λ k. registers ≤ k → (o : ℕ) × (o ≤ k) × Holds registers (set link n (getD head b 0)) (getD (set head b n) (signature′ k % chainCount) 0) o × (signature′ o ≡ signature′ k))
+            (λ k h p. let (o, s, u, v) = all .has k p h in (o, s, bucket (signature′ k % chainCount) o (subst (λ s. Holds registers link (getD head (s % chainCount) 0) o) (sym (same k h)) u), same o (omega arith) ∙ v ∙ sym (same k h)))
+            (λ p. (n, omega arith, subst (λ j. Holds registers (set link n (getD head b 0)) j n) (sym (ap (λ s. getD (set head b n) (s % chainCount) 0) e ∙ ap (λ q. getD (set head b n) q 0) (sym eb) ∙ headed)) (here more), refl))
             k h p;
       };
     }
 
-    pub entered-new : (start r : ℕ) → start ≡ getD head (c % 1021) 0 → Found signature registers n link start c r → r < registers → Entered signature registers n c head link n (set head b n) (set link n (getD head b 0))
+    pub entered-new : (start r : ℕ) → start ≡ getD head (c % chainCount) 0 → Found signature registers n link start c r → r < registers → Entered signature registers n c head link n (set head b n) (set link n (getD head b 0))
     entered-new start r e f l = new r (subst (λ s. Found signature registers n link s c r) e f) l

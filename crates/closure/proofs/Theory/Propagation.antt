@@ -13,6 +13,7 @@ use Rattle.base.proofs.Theory.Choice.{byTest}
 use Rattle.base.specs.Choice.{pick}
 use Rattle.base.specs.Each.{done}
 use Rattle.base.proofs.Theory.Each.{each-length}
+use Rattle.closure.specs.Limits.{mostTerms, chainCount}
 use Rattle.closure.proofs.Theory.Written.{done-below, done-beyond, done-same}
 use Rattle.closure.specs.Numbering.{Closed}
 use Rattle.closure.specs.Merging.{tested, congruent, already, relabelOf}
@@ -70,7 +71,7 @@ module _ (representative function first second : List ℕ) (registers i d v next
   next-before : (k : ℕ) → registers ≤ k → k < next → k < d
   next-before k p h = elim (sides v registers) [ inl (a, b) ↦ let c : next ≡ v = e ∙ a in omega arith | inr (a, b) ↦ let c : next ≡ registers = e ∙ a in absurd (omega arith) ]
 
-  pub cut-ready : Chains 1032 head link × (1 ≤ next) × (next ≤ 1032)
+  pub cut-ready : Chains mostTerms head link × (1 ≤ next) × (next ≤ mostTerms)
   cut-ready = let a = next-least in let b = next-most in let c = readable .within in let d = readable .some in (chains-widen i head link w c, omega arith, omega arith)
 
   pub undo-ready : (registers ≤ next) × (next ≤ i)
@@ -232,7 +233,7 @@ module _ (function first second : List ℕ) (registers n : ℕ) where
       fixed k h (moved e) = m .at-each low (low-below _ _ n (f .classes i p) (f .classes j q)) ∙ ap (relabelOf high low) low-own ∙ relabel-to high low
       fixed k h (stays e) = m .at-each (getD next k 0) (f .classes k h) ∙ ap (relabelOf high low) (f .own k h) ∙ relabel-other high low (getD next k 0) e
 
-  united-keeps : (next r : List ℕ) (i j : ℕ) → n ≤ 1032 → United n i j next r → (a b : ℕ) → a < n → b < n → getD next a 0 ≡ getD next b 0 → getD r a 0 ≡ getD r b 0
+  united-keeps : (next r : List ℕ) (i j : ℕ) → n ≤ mostTerms → United n i j next r → (a b : ℕ) → a < n → b < n → getD next a 0 ≡ getD next b 0 → getD r a 0 ≡ getD r b 0
   united-keeps next r i j l m a b p q e = m .at-each a (omega arith) ∙ ap (relabelOf _ _) e ∙ sym (m .at-each b (omega arith))
 
   -- ---- signatures
@@ -312,11 +313,11 @@ module _ (function first second : List ℕ) (registers n : ℕ) where
       has = λ k p l. let z = w .most in let (o, u, x, y) = all .has k p (omega arith) in (
         o,
         u,
-        w .keeps (signature r k % 1021) o (subst (λ s. Holds registers link (getD head (s % 1021) 0) o) (sym (same k p l)) x) (omega arith),
+        w .keeps (signature r k % chainCount) o (subst (λ s. Holds registers link (getD head (s % chainCount) 0) o) (sym (same k p l)) x) (omega arith),
         same o (holds-least registers link _ o x) (omega arith) ∙ y ∙ sym (same k p l),
       );
       only = λ b o x. let y = holds-most registers link (getD head′ b 0) o (w .chains .links) (f .some) x in let z = w .chains .heads b in
-          ap (λ s. s % 1021) (same o (holds-least registers link _ o x) (omega arith)) ∙ all .only b o (w .back b o x);
+          ap (λ s. s % chainCount) (same o (holds-least registers link _ o x) (omega arith)) ∙ all .only b o (w .back b o x);
     }
 
   -- ---- the loop of `propagate`

@@ -9,6 +9,7 @@ use lib.Dec.{eqb}
 use lib.ListN.{getD}
 use borrow.Author.Tests.{eqb-true, eqb-false}
 use Rattle.base.proofs.Theory.Choice.{byTest}
+use Rattle.closure.specs.Limits.{chainCount, mostTerms}
 use Rattle.closure.specs.Numbering.{Closed}
 use Rattle.closure.specs.Merging.{relabelOf}
 use Rattle.closure.proofs.Theory.Index.{holds-most}
@@ -34,7 +35,7 @@ module _ (representative first second : List ℕ) (n d : ℕ) (w : Lowest repres
   no-use-start i e = record { none = λ k h l. let (p, q) = w .firsts k l in let (r, s) = w .seconds k l in ((λ z. omega arith), (λ z. omega arith)) }
 
   module _ (i a b : ℕ) (h : i < n) (ea : a ≡ getD first i 0) (eb : b ≡ getD second i 0) where
-    pub use-below : (a < 1032) × (b < 1032)
+    pub use-below : (a < mostTerms) × (b < mostTerms)
     use-below = let (p, q) = w .firsts i h in let (r, s) = w .seconds i h in let l = w .within in (omega arith, omega arith)
 
     pub use-first : getD representative a 0 ≡ d → Used representative first second n d true
@@ -77,7 +78,7 @@ module _ (function first second representative head link : List ℕ) (registers 
     still-complete = record {
       has = λ k l h. let (o, b, u, v) = index .complete .has k l h in (o, b, rw (same k h) u, same o (omega arith) ∙ v ∙ sym (same k h));
       only = λ b o k. let l = holds-most registers link (getD head b 0) o (index .chains .links) (f .some) k in let g = index .chains .heads b in
-          ap (λ s. s % 1021) (same o (omega arith)) ∙ index .complete .only b o k;
+          ap (λ s. s % chainCount) (same o (omega arith)) ∙ index .complete .only b o k;
     }
 
     still-closed : Closed (at function) (at first) (at second) registers n (at next)

@@ -1,12 +1,13 @@
 use Prim.Native.Nat.{_<_}
 use native.Mathlib.Omega.{arith}
 use borrow.Author.Needs.{needs}
+use Rattle.closure.specs.Limits.{mostTerms}
 use Rattle.closure.proofs.Theory.Index.{Cutting, cutting-start, cutting-turn, cutting-end, link-less}
 use Rattle.closure.proofs.below.Statement.{statement}
 use Rattle.closure.proofs.below.Tie as tie
 
 abbrev Inv-loop : tie.InvT-loop
-Inv-loop link start bound i₀ i = (i < 1032) × Cutting link start bound i
+Inv-loop link start bound i₀ i = (i < mostTerms) × Cutting link start bound i
 
 abbrev μ-loop : tie.MeasureT-loop
 μ-loop link start bound i₀ i = i

@@ -1,6 +1,7 @@
 use Prim.Native.Nat.{_-_, _≤_}
 use native.Mathlib.Omega.{arith}
 use borrow.Author.Needs.{needs}
+use Rattle.closure.specs.Limits.{mostTerms}
 use Rattle.closure.proofs.Theory.Clashing.{parts-more, clash-hit, clash-end, below-use}
 use Rattle.closure.specs.Arrays.{Parts}
 use Rattle.closure.proofs.clash.Statement.{statement}
@@ -25,10 +26,10 @@ clash-spec =
     (λ c. let h = (c .before .before .before .before .pre .1) in let k = (c .before .before .loop-test .taken) in omega arith)
     (λ c. let h = (c .before .before .before .before .pre .1) in let k = (c .before .before .loop-test .taken) in omega arith)
     (λ c κs. search needs)
-    (λ c. let h = below-use 1032 _ _ _ _ (c .before .before .before .before .before .before .pre .2) (c .before .before .before .before .loop-test .taken) (c .before .before .wide .ensures) in omega arith)
-    (λ c. let h = below-use 1032 _ _ _ _ (c .before .before .before .before .before .before .pre .2) (c .before .before .before .before .loop-test .taken) (c .before .before .wide .ensures) in omega arith)
-    (λ c. let h = below-use 1032 _ _ _ _ (c .before .before .before .before .before .before .before .pre .3) (c .before .before .before .before .before .loop-test .taken) (c .before .wide2 .ensures) in omega arith)
-    (λ c. let h = below-use 1032 _ _ _ _ (c .before .before .before .before .before .before .before .pre .3) (c .before .before .before .before .before .loop-test .taken) (c .before .wide2 .ensures) in omega arith)
+    (λ c. let h = below-use mostTerms _ _ _ _ (c .before .before .before .before .before .before .pre .2) (c .before .before .before .before .loop-test .taken) (c .before .before .wide .ensures) in omega arith)
+    (λ c. let h = below-use mostTerms _ _ _ _ (c .before .before .before .before .before .before .pre .2) (c .before .before .before .before .loop-test .taken) (c .before .before .wide .ensures) in omega arith)
+    (λ c. let h = below-use mostTerms _ _ _ _ (c .before .before .before .before .before .before .before .pre .3) (c .before .before .before .before .before .loop-test .taken) (c .before .wide2 .ensures) in omega arith)
+    (λ c. let h = below-use mostTerms _ _ _ _ (c .before .before .before .before .before .before .before .pre .3) (c .before .before .before .before .before .loop-test .taken) (c .before .wide2 .ensures) in omega arith)
     (λ c. clash-hit _ _ _ _ _ _ _ (c .before .before .before .before .before .before .before .loop-test .taken) (c .before .before .before .before .before .wide .ensures) (c .before .before .before .wide2 .ensures) (c .if1 .taken))
     (λ c. search needs)
     (λ c. search needs)

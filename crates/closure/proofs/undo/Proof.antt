@@ -3,6 +3,7 @@ use native.Mathlib.Omega.{arith}
 use mathlib.Core.Path.{refl, ap}
 use native.Mathlib.Nat.{mod-lt}
 use borrow.Author.Needs.{needs}
+use Rattle.closure.specs.Limits.{chainCount}
 use Rattle.closure.proofs.Theory.Index.{Undoing, undoing-start, undoing-turn, undoing-end}
 use Rattle.closure.proofs.Theory.Entering.{readable-at}
 use Rattle.closure.proofs.undo.Statement.{statement}
@@ -31,5 +32,5 @@ undo-spec =
     (λ c. search needs)
     (λ c. search needs)
     (λ c. let t = (c .before .before .before .before .loop-test .taken) in omega arith)
-    (λ c. (let h = (c .before .before .before .before .before .loop .inv .0) in let t = (c .before .before .before .before .loop-test .taken) in omega arith, undoing-turn _ _ _ _ _ _ (c .before .before .before .before .before .before .pre .2) (c .before .before .before .before .before .before .pre .0 .some) (c .before .before .before .before .before .before .pre .3) _ _ _ _ _ (c .before .before .before .before .before .loop .inv .1) (c .before .before .before .before .loop-test .taken) refl (ap (λ s. s % 1021) (c .before .before .before .signature-at .ensures)) (mod-lt _ (omega arith)) (c .without-last .ensures)))
+    (λ c. (let h = (c .before .before .before .before .before .loop .inv .0) in let t = (c .before .before .before .before .loop-test .taken) in omega arith, undoing-turn _ _ _ _ _ _ (c .before .before .before .before .before .before .pre .2) (c .before .before .before .before .before .before .pre .0 .some) (c .before .before .before .before .before .before .pre .3) _ _ _ _ _ (c .before .before .before .before .before .loop .inv .1) (c .before .before .before .before .loop-test .taken) refl (ap (λ s. s % chainCount) (c .before .before .before .signature-at .ensures)) (mod-lt _ (omega arith)) (c .without-last .ensures)))
     (λ c. undoing-end _ _ _ _ _ (c .before .loop .inv .1) (c .loop-test .left)))

@@ -14,6 +14,8 @@ use Rattle.base.proofs.Theory.Choice.{byTest}
 use Rattle.letters.specs.declared.Letter.{Letter}
 use Rattle.letters.specs.declared.Letter.the-variants.{Copy, Apply, Equal, Unequal}
 use Rattle.letters.specs.Letters.{Fits}
+use Rattle.letters.specs.Editions.{mostLetters, mostRegisters, mostFunctions}
+use Rattle.closure.specs.Limits.{mostTerms}
 use Rattle.semantics.specs.Terms.{State, after}
 use Rattle.closure.proofs.Theory.Represents.{represents-copy, represents-unequal, sides-unequal, sides-apply}
 use Rattle.closure.specs.Numbering.{Closed}
@@ -63,7 +65,7 @@ module _ (representative function first second : List ℕ) (registers n f a b na
   looked-own (knownAt m p h u v t e) = inr (subst (λ v. v < n) (sym e) (fm .classes m h), ap (λ v. getD representative v 0) e ∙ fm .own m h ∙ sym e)
   looked-own (freshAt e none) = inl e
 
-  module _ (lf : n < length function) (lo : n < length first) (lt : n < length second) (lr : n < 1032) (bf : f < 4) (ba : a < n) (bb : b < n) (look : LookedAt representative function first second registers n f a b name) where
+  module _ (lf : n < length function) (lo : n < length first) (lt : n < length second) (lr : n < mostTerms) (bf : f < mostFunctions) (ba : a < n) (bb : b < n) (look : LookedAt representative function first second registers n f a b name) where
     applied-formed : Formed (set representative n name) (set function n f) (set first n a) (set second n b) registers (suc n)
     unfolding Below
     applied-formed = record {
@@ -79,7 +81,7 @@ module _ (representative function first second : List ℕ) (registers n f a b na
           (λ t. let e = ap (λ k. getD (set representative n name) k 0) (eqb-true k n t) ∙ put representative n name rep-long in ap (λ v. getD (set representative n name) v 0) e ∙ name-own (looked-own look) ∙ sym e)
           (λ t. let d : k ≢ n = eqb-false k n t in let e = kept representative n name k d in
           ap (λ v. getD (set representative n name) v 0) e ∙ kept-below representative n name (getD representative k 0) (fm .classes k (omega arith)) ∙ fm .own k (omega arith) ∙ sym e);
-      functions = below-set function n f 4 n lf bf refl (fm .functions);
+      functions = below-set function n f mostFunctions n lf bf refl (fm .functions);
       firsts = below-set first n a (suc n) n lo (omega arith) refl (below-widen n (suc n) n first (omega arith) (fm .firsts));
       seconds = below-set second n b (suc n) n lt (omega arith) refl (below-widen n (suc n) n second (omega arith) (fm .seconds));
       first-before = before-set first n a lo (omega arith) (fm .first-before);
@@ -144,8 +146,8 @@ parts-list representative left right m a b p l w q h e =
 
 module _ (σ : State) (function first second representative head link value left right : List ℕ) (registers n m p k : ℕ) (w : Engine σ function first second representative head link value left right registers n m p k) where
   -- a register of the header has a place, and its term a number
-  register-below : (x : ℕ) → x < σ .header .registers → (x < registers) × (x < 8)
-  register-below x h = let e = w .represents .header-registers in let l = w .eight in (omega arith, omega arith)
+  register-below : (x : ℕ) → x < σ .header .registers → (x < registers) × (x < mostRegisters)
+  register-below x h = let e = w .represents .header-registers in let l = w .registers-few in (omega arith, omega arith)
 
   pub engine-copy : (x y : ℕ) → Fits (σ .header) (Copy x y) → Engine (after σ (Copy x y)) function first second representative head link (set value x (getD value y 0)) left right registers n m p (suc k)
   engine-copy x y (hx, hy) = record {
@@ -153,8 +155,8 @@ module _ (σ : State) (function first second representative head link value left
     represents = represents-copy σ (at function) (at first) (at second) (at representative) registers n (at value) (w .represents) x y (at (set value x (getD value y 0))) (lx .0) ((register-below y hy) .0) same;
     indexed = w .indexed;
     sides = record { left-below = w .sides .left-below; right-below = w .sides .right-below; listed = w .sides .listed; all = w .sides .all };
-    eight = w .eight;
-    four = w .four;
+    registers-few = w .registers-few;
+    functions-few = w .functions-few;
     function-long = w .function-long;
     first-long = w .first-long;
     second-long = w .second-long;
@@ -167,7 +169,7 @@ module _ (σ : State) (function first second representative head link value left
     parts-few = w .parts-few;
   }
     where
-      lx : (x < registers) × (x < 8)
+      lx : (x < registers) × (x < mostRegisters)
       lx = register-below x hx
 
       same : (r : ℕ) → getD (set value x (getD value y 0)) r 0 ≡ getD value (cond (eqb r x) y r) 0
@@ -177,18 +179,18 @@ module _ (σ : State) (function first second representative head link value left
           go true e = ap (λ r. getD (set value x (getD value y 0)) r 0) (eqb-true r x e) ∙ put value x (getD value y 0) (let l = w .value-long in let h = lx .1 in omega arith)
           go false e = kept value x (getD value y 0) r (eqb-false r x e)
 
-  pub engine-apply : (x f y z : ℕ) (name : ℕ) (head′ link′ : List ℕ) → k < 1024 → Fits (σ .header) (Apply x f y z) → LookedAt representative function first second registers n f (getD value y 0) (getD value z 0) name
+  pub engine-apply : (x f y z : ℕ) (name : ℕ) (head′ link′ : List ℕ) → k < mostLetters → Fits (σ .header) (Apply x f y z) → LookedAt representative function first second registers n f (getD value y 0) (getD value z 0) name
       → Indexed (set representative n name) (set function n f) (set first n (getD value y 0)) (set second n (getD value z 0)) registers (suc n) head′ link′
       → Engine (after σ (Apply x f y z)) (set function n f) (set first n (getD value y 0)) (set second n (getD value z 0)) (set representative n name) head′ link′ (set value x n) left right registers (suc n) m p (suc k)
   engine-apply x f y z name head′ link′ few fits look index = record {
     formed = applied-formed representative function first second registers n f (getD value y 0) (getD value z 0) name (w .formed) in-function in-first in-second in-all
-        (let h = w .four in let g = fits .1 in omega arith) (w .represents .value-below y ly) (w .represents .value-below z lz) look;
+        (let h = w .functions-few in let g = fits .1 in omega arith) (w .represents .value-below y ly) (w .represents .value-below z lz) look;
     represents = letter-apply σ function first second representative value registers n (w .represents) x f y z name fits look in-function in-first in-second
         (let l = w .formed .long in let h = in-all in omega arith) (let l = w .value-long in let h = (register-below x (fits .0)) .1 in omega arith);
     indexed = index;
     sides = sides-apply σ (at function) (at first) (at second) (at representative) registers n (at value) (w .represents) (at left) (at right) (at left) (at right) m (w .sides) x f y z;
-    eight = w .eight;
-    four = w .four;
+    registers-few = w .registers-few;
+    functions-few = w .functions-few;
     function-long = simp length-set (w .function-long);
     first-long = simp length-set (w .first-long);
     second-long = simp length-set (w .second-long);
@@ -207,7 +209,7 @@ module _ (σ : State) (function first second representative head link value left
       lz : z < registers
       lz = (register-below z (fits .3)) .0
 
-      in-all : n < 1032
+      in-all : n < mostTerms
       in-all = let l = w .terms-few in omega arith
 
       in-function : n < length function
@@ -227,8 +229,8 @@ module _ (σ : State) (function first second representative head link value left
     represents = letter-equal σ function first second representative value registers n (w .represents) x y r head′ link′ ((register-below x hx) .0) ((register-below y hy) .0) g;
     indexed = g .indexed;
     sides = record { left-below = w .sides .left-below; right-below = w .sides .right-below; listed = w .sides .listed; all = w .sides .all };
-    eight = w .eight;
-    four = w .four;
+    registers-few = w .registers-few;
+    functions-few = w .functions-few;
     function-long = w .function-long;
     first-long = w .first-long;
     second-long = w .second-long;
@@ -241,7 +243,7 @@ module _ (σ : State) (function first second representative head link value left
     parts-few = let l = w .parts-few in omega arith;
   }
 
-  pub engine-unequal : (x y : ℕ) → k < 1024 → Fits (σ .header) (Unequal x y)
+  pub engine-unequal : (x y : ℕ) → k < mostLetters → Fits (σ .header) (Unequal x y)
       → Engine (after σ (Unequal x y)) function first second representative head link value (set left m (getD value x 0)) (set right m (getD value y 0)) registers n (suc m) p (suc k)
   engine-unequal x y few (hx, hy) = record {
     formed = w .formed;
@@ -250,8 +252,8 @@ module _ (σ : State) (function first second representative head link value left
     sides = sides-unequal σ (at function) (at first) (at second) (at representative) registers n (at value) (w .represents) (at left) (at right) (at (set left m (getD value x 0))) (at (set right m (getD value y 0))) m (w .sides)
         x y lx ly (kept-below left m (getD value x 0)) (kept-below right m (getD value y 0))
         (put left m (getD value x 0) (let l = w .left-long in let h = w .tests-few in omega arith)) (put right m (getD value y 0) (let l = w .right-long in let h = w .tests-few in omega arith));
-    eight = w .eight;
-    four = w .four;
+    registers-few = w .registers-few;
+    functions-few = w .functions-few;
     function-long = w .function-long;
     first-long = w .first-long;
     second-long = w .second-long;
@@ -275,8 +277,8 @@ module _ (letter : Letter) (function first second representative head link value
   fits-as : {l : Letter} → letter ≡ l → Fits (r .state .header) l
   fits-as e = subst (Fits (r .state .header)) e (r .fits)
 
-  in-eight : (x : ℕ) → x < r .state .header .registers → x < 8
-  in-eight x h = (register-below (r .state) function first second representative head link value left right registers (counts .terms) (counts .tests) (counts .parted) (r .letters) (r .engine) x h) .1
+  in-registers : (x : ℕ) → x < r .state .header .registers → x < mostRegisters
+  in-registers x h = (register-below (r .state) function first second representative head link value left right registers (counts .terms) (counts .tests) (counts .parted) (r .letters) (r .engine) x h) .1
 
   value-in : (x : ℕ) → x < r .state .header .registers → getD value x 0 < counts .terms
   value-in x h = r .engine .represents .value-below x ((register-below (r .state) function first second representative head link value left right registers (counts .terms) (counts .tests) (counts .parted) (r .letters) (r .engine) x h) .0)
@@ -290,13 +292,13 @@ module _ (letter : Letter) (function first second representative head link value
       first-long = r .engine .first-long;
       second-long = r .engine .second-long;
       room = let a = r .engine .terms-few in let h = r .few in omega arith;
-      known = let h = r .engine .four in let k = g .1 in omega arith;
+      known = let h = r .engine .functions-few in let k = g .1 in omega arith;
       first-term = value-in y (g .2);
       second-term = value-in z (g .3);
     };
-    target-in = in-eight x (g .0);
-    first-in = in-eight y (g .2);
-    second-in = in-eight z (g .3);
+    target-in = in-registers x (g .0);
+    first-in = in-registers y (g .2);
+    second-in = in-registers z (g .3);
   }
 
   pub equatable : {x y : ℕ} → letter ≡ Equal x y → Equatable function first second representative head link value registers counts x y
@@ -304,8 +306,8 @@ module _ (letter : Letter) (function first second representative head link value
     formed = r .engine .formed;
     closed = r .engine .represents .closed;
     indexed = r .engine .indexed;
-    first-in = in-eight x (g .0);
-    second-in = in-eight y (g .1);
+    first-in = in-registers x (g .0);
+    second-in = in-registers y (g .1);
     first-term = value-in x (g .0);
     second-term = value-in y (g .1);
   }
@@ -315,8 +317,8 @@ module _ (letter : Letter) (function first second representative head link value
   notable = go letter refl
     where
       go : (l : Letter) → letter ≡ l → Notable l counts
-      go (Copy x y) e = let g = fits-as e in (in-eight x (g .0), in-eight y (g .1))
-      go (Unequal x y) e = let g = fits-as e in let b = r .engine .tests-few in let h = r .few in (in-eight x (g .0), in-eight y (g .1), omega arith)
+      go (Copy x y) e = let g = fits-as e in (in-registers x (g .0), in-registers y (g .1))
+      go (Unequal x y) e = let g = fits-as e in let b = r .engine .tests-few in let h = r .few in (in-registers x (g .0), in-registers y (g .1), omega arith)
       go (Apply x f y z) e = tt
       go (Equal x y) e = tt
 
@@ -354,11 +356,11 @@ module _ (letter : Letter) (function first second representative head link value
 
 -- ---- as `note` uses them
 module _ (letter : Letter) (counts : Counts) (r : Notable letter counts) where
-  pub copy-below : {x y : ℕ} → letter ≡ Copy x y → (x < 8) × (y < 8)
+  pub copy-below : {x y : ℕ} → letter ≡ Copy x y → (x < mostRegisters) × (y < mostRegisters)
   unfolding Notable
   copy-below {x} {y} e = subst (λ l. Notable l counts) e r
 
-  pub unequal-below : {x y : ℕ} → letter ≡ Unequal x y → (x < 8) × (y < 8) × (counts .tests < 1024)
+  pub unequal-below : {x y : ℕ} → letter ≡ Unequal x y → (x < mostRegisters) × (y < mostRegisters) × (counts .tests < mostLetters)
   unfolding Notable
   unequal-below {x} {y} e = subst (λ l. Notable l counts) e r
 

@@ -15,7 +15,7 @@ use Rattle.letters.specs.declared.DecodedLetter.{DecodedLetter}
 use Rattle.letters.specs.declared.DecodedLetter.the-variants as decoded
 use Rattle.letters.specs.Letters.{Fits}
 use Rattle.letters.specs.Packing.{join}
-use Rattle.letters.specs.Editions.{firstEdition}
+use Rattle.letters.specs.Editions.{firstEdition, mostLetters}
 use Rattle.letters.specs.Answers.{value, refusal, onAnswer}
 use Rattle.letters.specs.CodeAnswers.{letterAnswer}
 use Rattle.letters.specs.Letters.{HeaderFits}
@@ -23,6 +23,7 @@ use Rattle.letters.specs.Coding.{decodeLetter}
 use Rattle.letters.proofs.Theory.WordLaws.{first-roomy, decode-header, decode-letter}
 use Rattle.traces.specs.Reading.{Reading, trace, refused, before, octets, reading, readingWhere, beginning, lettersFrom, lettersOf, letterIn, letterCount, parts}
 use Rattle.traces.specs.ReadingParts.{readingWithin, letterAt}
+use Rattle.letters.specs.RefusalNumbers.{letterMalformed}
 use Rattle.engine.specs.Run.{Begun, restOf, behind, RestRead, all-read, broken}
 use Rattle.engine.proofs.Theory.Run.{Following}
 
@@ -65,9 +66,9 @@ behind-one ls l (refused a b) = refl
 
 module _ (s : List ℕ) (h : Header) (n : ℕ) (r : Begun s h n) where
   -- the letters are read as questions 5 and 4 ask
-  pub read-within : readingWithin 1024 firstEdition s ≡ lettersOf firstEdition h s
+  pub read-within : readingWithin mostLetters firstEdition s ≡ lettersOf firstEdition h s
   unfolding readingWhere
-  read-within = let c = r .letters in let f = r .few in rw (r .header, le-ltb 1024 (letterCount firstEdition s) (omega arith))
+  read-within = let c = r .letters in let f = r .few in rw (r .header, le-ltb mostLetters (letterCount firstEdition s) (omega arith))
 
   pub read-any : reading firstEdition s ≡ lettersOf firstEdition h s
   unfolding readingWhere
@@ -88,21 +89,21 @@ module _ (s : List ℕ) (h : Header) (n : ℕ) (r : Begun s h n) where
     unit = let c = r .letters in rw (le-leb (2 * (k + 2)) (length s) (omega arith))
 
     -- the letters from k on are letter k and the others
-    rest-is : restOf s h n k ≡ onAnswer (letterAnswer d) (λ l. before l (restOf s h n (k + 1))) λ _ _. refused 4 (k + 1)
+    rest-is : restOf s h n k ≡ onAnswer (letterAnswer d) (λ l. before l (restOf s h n (k + 1))) λ _ _. refused letterMalformed (k + 1)
     unfolding parts lettersFrom
     rest-is =
         let m : n - k ≡ suc (n - (k + 1)) = omega arith in
         let p : drop 2 (drop (2 * (k + 1)) s) ≡ drop (2 * (k + 1 + 1)) s = drop-drop 2 (2 * (k + 1)) s ∙ ap (λ i. drop i s) (let z : 2 * (k + 1) + 2 ≡ 2 * (k + 1 + 1) = omega arith in z) in
         ap (λ m. lettersFrom (letterIn firstEdition h) h (k + 1) (parts 2 m (drop (2 * (k + 1)) s))) m
-        ∙ ap (λ t. onAnswer (letterIn firstEdition h (take 2 (drop (2 * (k + 1)) s))) (λ l. before l (lettersFrom (letterIn firstEdition h) h (k + 1 + 1) (parts 2 (n - (k + 1)) t))) λ _ _. refused 4 (k + 1)) p
-        ∙ ap (λ a. onAnswer a (λ l. before l (restOf s h n (k + 1))) λ _ _. refused 4 (k + 1)) (sym (e ∙ unit))
+        ∙ ap (λ t. onAnswer (letterIn firstEdition h (take 2 (drop (2 * (k + 1)) s))) (λ l. before l (lettersFrom (letterIn firstEdition h) h (k + 1 + 1) (parts 2 (n - (k + 1)) t))) λ _ _. refused letterMalformed (k + 1)) p
+        ∙ ap (λ a. onAnswer a (λ l. before l (restOf s h n (k + 1))) λ _ _. refused letterMalformed (k + 1)) (sym (e ∙ unit))
 
-    pub rest-bad : d ≡ decoded.Malformed → restOf s h n k ≡ refused 4 (k + 1)
-    rest-bad q = rest-is ∙ ap (λ d. onAnswer (letterAnswer d) (λ l. before l (restOf s h n (k + 1))) λ _ _. refused 4 (k + 1)) q
+    pub rest-bad : d ≡ decoded.Malformed → restOf s h n k ≡ refused letterMalformed (k + 1)
+    rest-bad q = rest-is ∙ ap (λ d. onAnswer (letterAnswer d) (λ l. before l (restOf s h n (k + 1))) λ _ _. refused letterMalformed (k + 1)) q
 
     module _ {l : Letter} (q : d ≡ decoded.Letter l) where
       pub rest-good : restOf s h n k ≡ before l (restOf s h n (k + 1))
-      rest-good = rest-is ∙ ap (λ d. onAnswer (letterAnswer d) (λ l. before l (restOf s h n (k + 1))) λ _ _. refused 4 (k + 1)) q
+      rest-good = rest-is ∙ ap (λ d. onAnswer (letterAnswer d) (λ l. before l (restOf s h n (k + 1))) λ _ _. refused letterMalformed (k + 1)) q
 
       pub letter-fits : Fits h l
       letter-fits = decode-letter first-roomy h (join (octets firstEdition) (take 2 (drop (2 * (k + 1)) s))) l .0 (sym unit ∙ sym e ∙ ap letterAnswer q) .1

@@ -12,13 +12,14 @@ use Rattle.letters.specs.declared.Letter.{Letter}
 use Rattle.letters.specs.declared.DecodedLetter.{DecodedLetter}
 use Rattle.letters.specs.declared.DecodedLetter.the-variants as decoded
 use Rattle.letters.specs.Letters.{Fits}
-use Rattle.letters.specs.Editions.{firstEdition}
+use Rattle.letters.specs.Editions.{firstEdition, mostLetters, mostRegisters}
 use Rattle.letters.specs.CodeAnswers.{letterAnswer}
 use Rattle.letters.specs.Letters.{HeaderFits}
 use Rattle.traces.specs.Reading.{trace, lettersOf}
 use Rattle.traces.specs.ReadingParts.{letterAt}
 use Rattle.semantics.specs.Terms.{begin, _▸_, state, start, after, traceOf}
 use Rattle.semantics.specs.Facts.{WellFormed}
+use Rattle.closure.specs.Limits.{chainCount, mostTerms}
 use Rattle.semantics.specs.Models.{Feasible}
 use Rattle.semantics.specs.Judgement.{FailsAt, size}
 use Rattle.semantics.proofs.Theory.JudgementLaws.{first-infeasible-unique}
@@ -45,7 +46,7 @@ module _ (s : List ℕ) (h : Header) (n : ℕ) (r : spec.Begun s h n) where
   fit : HeaderFits firstEdition h
   fit = headed s h (r .header) .fits
 
-  pub registers-few : h .registers ≤ 8
+  pub registers-few : h .registers ≤ mostRegisters
   registers-few = fit .registers
 
   module _ (function first second representative head link value left right : List ℕ) (registers : ℕ) (counts : Counts) (k : ℕ) (b : k < n)
@@ -63,7 +64,7 @@ module _ (s : List ℕ) (h : Header) (n : ℕ) (r : spec.Begun s h n) where
     fits-next : Fits (state (traceOf h (w .letters)) .header) l
     fits-next = subst (λ (g : Header). Fits g l) (sym same-header) (letter-fits s h n r k b read e q)
 
-    under : k < 1024
+    under : k < mostLetters
     under = let c = r .few in omega arith
 
     pub ready : Ready l function first second representative head link value left right registers counts
@@ -85,7 +86,7 @@ module _ (s : List ℕ) (h : Header) (n : ℕ) (r : spec.Begun s h n) where
       unfolding Performed
       engine-next = p (state (traceOf h (w .letters))) k under fits-next (w .engine)
 
-      pub clash-ready : (counts′ .parted ≤ counts′ .tests) × (counts′ .tests ≤ 1024) × Below 1032 (counts′ .tests) left′ × Below 1032 (counts′ .tests) right′ × Parts representative′ left′ right′ (counts′ .parted)
+      pub clash-ready : (counts′ .parted ≤ counts′ .tests) × (counts′ .tests ≤ mostLetters) × Below mostTerms (counts′ .tests) left′ × Below mostTerms (counts′ .tests) right′ × Parts representative′ left′ right′ (counts′ .parted)
       unfolding Below
       clash-ready =
           let q = engine-next in
@@ -104,8 +105,8 @@ module _ (s : List ℕ) (h : Header) (n : ℕ) (r : spec.Begun s h n) where
           represents = q .represents;
           indexed = q .indexed;
           sides = q .sides;
-          eight = q .eight;
-          four = q .four;
+          registers-few = q .registers-few;
+          functions-few = q .functions-few;
           function-long = q .function-long;
           first-long = q .first-long;
           second-long = q .second-long;
@@ -149,7 +150,7 @@ module _ (s : List ℕ) (h : Header) (n : ℕ) (r : spec.Begun s h n) where
         (subst (λ g. Computed (state (traceOf h (w .letters))) function first second representative g (counts .terms)) e (record {
           valid = w .engine .represents .valid;
           header-registers = w .engine .represents .header-registers;
-          eight = w .engine .eight;
+          registers-few = w .engine .registers-few;
           formed = w .engine .formed;
           numbered = w .engine .represents .numbered;
           exactly = w .engine .represents .exactly;
@@ -157,7 +158,7 @@ module _ (s : List ℕ) (h : Header) (n : ℕ) (r : spec.Begun s h n) where
 
   -- how a run begins
   module _ (function first second representative head link value left right representative′ value′ : List ℕ) (bf : spec.Blank function) (bo : spec.Blank first) (bs : spec.Blank second) (br : spec.Blank representative)
-      (lh : length head ≡ 1021) (zh : (b : ℕ) → getD head b 0 ≡ 0) (bl : spec.Blank link) (lv : length value ≡ 8) (ll : length left ≡ 1024) (lr : length right ≡ 1024) where
+      (lh : length head ≡ chainCount) (zh : (b : ℕ) → getD head b 0 ≡ 0) (bl : spec.Blank link) (lv : length value ≡ mostRegisters) (ll : length left ≡ mostLetters) (lr : length right ≡ mostLetters) where
     begun : spec.Began representative value (h .registers) representative′ value′ → spec.Running s h n function first second representative′ head link value′ left right (h .registers) (h .registers) 0 0 0
     unfolding Below Parts
     begun b = record {
@@ -169,7 +170,7 @@ module _ (s : List ℕ) (h : Header) (n : ℕ) (r : spec.Begun s h n) where
         formed = record {
           some = fit .some;
           more = omega arith;
-          within = let l = eight in omega arith;
+          within = let l = within-registers in omega arith;
           long = ap length (b .classes) ∙ each-length _ (h .registers) representative ∙ br .long;
           classes = λ k l. subst (λ v. v < h .registers) (sym (class-at k l)) l;
           lowest = λ k l. subst (λ v. v ≤ k) (sym (class-at k l)) (omega arith);
@@ -183,15 +184,15 @@ module _ (s : List ℕ) (h : Header) (n : ℕ) (r : spec.Begun s h n) where
         represents = represents-start h (at function) (at first) (at second) (at representative′) (at value′) class-at value-at;
         indexed = record { chains = chains-none head link (h .registers) lh (bl .long) zh (bl .zero) (fit .some); complete = complete-none (signatureAt representative′ function first second) (h .registers) head link zh (fit .some) };
         sides = record { left-below = λ q l. absurd (omega arith); right-below = λ q l. absurd (omega arith); listed = λ q l. absurd (omega arith); all = λ u v m. absurd (List·Memᴰ·not-nil m) };
-        eight = eight;
-        four = fit .functions;
+        registers-few = within-registers;
+        functions-few = fit .functions;
         function-long = bf .long;
         first-long = bo .long;
         second-long = bs .long;
         value-long = ap length (b .values) ∙ each-length _ (h .registers) value ∙ lv;
         left-long = ll;
         right-long = lr;
-        terms-few = let l = eight in omega arith;
+        terms-few = let l = within-registers in omega arith;
         tests-few = omega arith;
         parts = λ q l. absurd (omega arith);
         parts-few = omega arith;
@@ -199,14 +200,14 @@ module _ (s : List ℕ) (h : Header) (n : ℕ) (r : spec.Begun s h n) where
       feasible = corollary-2 (start h) (state-valid (begin h) tt) .1 (λ c. List·Memᴰ·not-nil (c .2));
     }
       where
-        eight : h .registers ≤ 8
-        eight = fit .registers
+        within-registers : h .registers ≤ mostRegisters
+        within-registers = fit .registers
 
         class-at : (k : ℕ) → k < h .registers → getD representative′ k 0 ≡ k
-        class-at k l = ap (λ (r : List ℕ). getD r k 0) (b .classes) ∙ done-below (λ i _. i) (h .registers) representative 0 k l (let m = br .long in let o = eight in omega arith)
+        class-at k l = ap (λ (r : List ℕ). getD r k 0) (b .classes) ∙ done-below (λ i _. i) (h .registers) representative 0 k l (let m = br .long in let o = within-registers in omega arith)
 
         value-at : (k : ℕ) → k < h .registers → getD value′ k 0 ≡ k
-        value-at k l = ap (λ (r : List ℕ). getD r k 0) (b .values) ∙ done-below (λ i _. i) (h .registers) value 0 k l (let o = eight in omega arith)
+        value-at k l = ap (λ (r : List ℕ). getD r k 0) (b .values) ∙ done-below (λ i _. i) (h .registers) value 0 k l (let o = within-registers in omega arith)
 
     pub begins : (registers : ℕ) → registers ≡ h .registers → spec.Began representative value registers representative′ value′
         → spec.Running s h n function first second representative′ head link value′ left right (h .registers) (h .registers) 0 0 0

@@ -1,6 +1,7 @@
 use Prim.Native.Nat.{_-_}
 use mathlib.Core.Path.{refl}
 use borrow.Author.Needs.{needs}
+use Rattle.closure.specs.Limits.{mostTerms, chainCount}
 use Rattle.closure.proofs.Theory.Clashing.{zeros}
 use Rattle.engine.proofs.Theory.RunLaws.{begins, registers-few}
 use Rattle.engine.proofs.run.Statement.{statement}
@@ -12,5 +13,5 @@ run-spec =
     (tie.spec
     (λ c. search needs)
     (λ c κs. registers-few _ _ _ (c .before .before .before .before .pre .0))
-    (λ c κs. ((c .before .before .before .before .before .before .before .before .before .before .before .before .before .before .pre .0), begins _ _ _ (c .before .before .before .before .before .before .before .before .before .before .before .before .before .before .pre .0) _ _ _ _ _ _ _ _ _ _ _ (c .before .before .before .before .before .before .before .before .before .before .before .before .before .before .pre .1) (c .before .before .before .before .before .before .before .before .before .before .before .before .before .before .pre .2) (c .before .before .before .before .before .before .before .before .before .before .before .before .before .before .pre .3) (c .before .before .before .before .before .before .before .before .before .before .before .before .before .before .pre .4) (search needs) (zeros 1021) (record { long = search needs; zero = zeros 1032 }) (search needs) (search needs) (search needs) _ refl (c .before .before .before .before .before .before .before .before .before .begin .ensures)))
+    (λ c κs. ((c .before .before .before .before .before .before .before .before .before .before .before .before .before .before .pre .0), begins _ _ _ (c .before .before .before .before .before .before .before .before .before .before .before .before .before .before .pre .0) _ _ _ _ _ _ _ _ _ _ _ (c .before .before .before .before .before .before .before .before .before .before .before .before .before .before .pre .1) (c .before .before .before .before .before .before .before .before .before .before .before .before .before .before .pre .2) (c .before .before .before .before .before .before .before .before .before .before .before .before .before .before .pre .3) (c .before .before .before .before .before .before .before .before .before .before .before .before .before .before .pre .4) (search needs) (zeros chainCount) (record { long = search needs; zero = zeros mostTerms }) (search needs) (search needs) (search needs) _ refl (c .before .before .before .before .before .before .before .before .before .begin .ensures)))
     (λ c. search needs))

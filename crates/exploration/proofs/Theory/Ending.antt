@@ -8,6 +8,7 @@ use native.Mathlib.Omega.{arith}
 use lib.Dec.{eqb}
 use lib.ListN.{length}
 use borrow.Author.Tests.{eqb-true, eqb-false}
+use Rattle.letters.specs.Capacity.{mostPairs}
 use Rattle.base.proofs.Theory.Choice.{byTest}
 use Rattle.records.specs.Records.{recordBytes, encoded, recordOf}
 use Rattle.table.specs.Table.{putAt}
@@ -18,7 +19,7 @@ use Rattle.exploration.specs.Given.{Given}
 use Rattle.exploration.proofs.Theory.Given.{header, end, held, fresh}
 use Rattle.exploration.proofs.Theory.Explored.{Ended, explored, first-listed, none-fits}
 
-module _ (given : Given) (n : ℕ) (t : List ℕ) (most : n ≤ 1024) (room : recordBytes * n ≤ length t) where
+module _ (given : Given) (n : ℕ) (t : List ℕ) (most : n ≤ mostPairs) (room : recordBytes * n ≤ length t) where
   abbrev ending : Search × List ℕ
   ending = searchOf (header given) (held given) (end given) n t
 

@@ -8,6 +8,7 @@ use native.Mathlib.Omega.{arith}
 use lib.Dec.{ltb}
 use lib.ListN.{length}
 use borrow.Author.Tests.{lt-ltb, ltb-true, ltb-false}
+use Rattle.letters.specs.Capacity.{mostPairs}
 use Rattle.base.proofs.Theory.Choice.{byTest}
 use Rattle.semantics.specs.Terms.{begin, state}
 use Rattle.semantics.proofs.Theory.Facts.{state-valid}
@@ -87,7 +88,7 @@ module _ (given : Given) where
       ∙ ap (λ (b : Bool). elim b [ true ↦ some (0, fresh given) | false ↦ none ]) (lt-ltb 0 (end given) l)
 
   -- the first pair
-  module _ (n : ℕ) (t : List ℕ) (some-point : 0 < end given) (some-room : 0 < n) (most : n ≤ 1024) (room : recordBytes * n ≤ length t) where
+  module _ (n : ℕ) (t : List ℕ) (some-point : 0 < end given) (some-room : 0 < n) (most : n ≤ mostPairs) (room : recordBytes * n ≤ length t) where
     abbrev u : List ℕ
     u = putAt t 0 (recordOf (encoded 0 (fresh given)) 0 0)
 

@@ -6,6 +6,7 @@ use Prim.Native.Nat.{ℕ, zero, suc, _-_, _%_, _<_}
 use native.Mathlib.Omega.{arith}
 use lib.ListN.{length, getD, getElem?}
 use Rattle.letters.specs.declared.Header.{Header}
+use Rattle.refusals.specs.Order.{mostPoints}
 use Rattle.semantics.specs.Terms.{begin}
 use Rattle.macros.specs.Tree.{Block}
 use Rattle.macros.specs.Points as points
@@ -69,11 +70,11 @@ module _ (given : Given) where
   }
 
   -- the branches that are held are the macro's
-  pub branch-held : (k b : ℕ) → k < end → meant (moveOf (getD held (k % 256) noPoint) b) ≡ moves-at (points.points body) k (branchNumbered b)
+  pub branch-held : (k b : ℕ) → k < end → meant (moveOf (getD held (k % mostPoints) noPoint) b) ≡ moves-at (points.points body) k (branchNumbered b)
   branch-held k b l =
       let (x, e) = within-list (points.points body) k (omega (arith, compileBlock-length body 0 end)) in
-      let f : k % 256 ≡ k = omega (arith, given .few) in
-      ap (λ y. meant (moveOf y b)) (ap (λ z. getD held z noPoint) f ∙ held-at (points.points body) (256 - length (map heldPoint (points.points body))) k x e)
+      let f : k % mostPoints ≡ k = omega (arith, given .few) in
+      ap (λ y. meant (moveOf y b)) (ap (λ z. getD held z noPoint) f ∙ held-at (points.points body) (mostPoints - length (map heldPoint (points.points body))) k x e)
       ∙ branch-meant x b ∙ ap (λ o. moved o (branchNumbered b)) (sym e)
 
   -- their letters fit

@@ -8,6 +8,7 @@ use native.Mathlib.Omega.{arith}
 use lib.Dec.{eqb, leb, ltb}
 use lib.ListN.{length}
 use borrow.Author.Tests.{lt-ltb, le-ltb, ltb-true, ltb-false, leb-true, leb-false, eqb-true, eqb-false}
+use Rattle.letters.specs.Capacity.{mostPairs}
 use Rattle.base.specs.Choice.{pick}
 use Rattle.base.proofs.Theory.Choice.{byTest}
 use Rattle.letters.specs.declared.Letter.{Letter}
@@ -77,7 +78,7 @@ module _ (given : Given) where
     pub due : (j : ℕ) → j < count → pointAt t j < end given
     pub within : count ≤ n
     pub behind : d ≤ 2 * count
-    pub most : n ≤ 1024
+    pub most : n ≤ mostPairs
     pub room : recordBytes * n ≤ length t
 
   -- What a move comes to.
@@ -136,7 +137,7 @@ module _ (given : Given) where
         fits : recordBytes * count + recordBytes ≤ length t
         fits = let r = g .room in omega arith
 
-        bound : d < 2048
+        bound : d < 2 * mostPairs
         bound = let r = g .most in omega arith
 
         at-new : (pointAt u count ≡ p) × (windowAt u count ≡ v) × (parentAt u count ≡ d / 2) × (branchAt u count ≡ d % 2) × Kept u count

@@ -4,6 +4,7 @@ use Prim.Native.Nat.{ℕ, _+_, _*_, _/_, _≤_, _<_}
 use native.Mathlib.Omega.{arith}
 use mathlib.Core.List.{List}
 use lib.ListN.{length, getD, set}
+use Rattle.letters.specs.Capacity.{mostPairs}
 use Rattle.base.proofs.Theory.Choice.{byTest}
 use Rattle.window.specs.declared.Window.{Window}
 use Rattle.records.specs.Records.{recordBytes, encodedBytes, recordOf}
@@ -35,7 +36,7 @@ module _ (count : ℕ) (t head link : List ℕ) (x : Indexed t head link count) 
   keeps-failed w r e = subst (λ r. Keeps count t r t head link) (sym e) (byTest (w .infeasible) (λ i. rw i keeps-on) λ i. rw i keeps-failing)
 
   -- a pair is listed
-  module _ (pair : List ℕ) (i b : ℕ) (whole : length pair ≡ encodedBytes) (within : count < 1024) (fits : recordBytes * count + recordBytes ≤ length t) where
+  module _ (pair : List ℕ) (i b : ℕ) (whole : length pair ≡ encodedBytes) (within : count < mostPairs) (fits : recordBytes * count + recordBytes ≤ length t) where
     long : length (recordOf pair i b) ≡ recordBytes
     long = record-long t count i b pair fits whole
 

@@ -2,6 +2,8 @@ use mathlib.Core.Path.{_≡_, sym, ap, _∙_}
 use Prim.Native.Nat.{_-_, _*_, _%_, _≤_}
 use native.Mathlib.Omega.{arith}
 use lib.ListN.{length, getD}
+use Rattle.letters.specs.Capacity.{mostPairs}
+use Rattle.refusals.specs.Order.{mostPoints}
 use Rattle.records.specs.Records.{recordBytes}
 use Rattle.index.specs.Index.{Indexed}
 use Rattle.index.proofs.Theory.IndexLaws.{index-begins}
@@ -22,7 +24,7 @@ use Rattle.window.proofs.fresh.Reads as fresh-reads
 
 abbrev Inv-loop : tie.InvT-loop
 Inv-loop end table₀ n points head₀ link₀ w₀ count₀ d₀ table head link w count d =
-    (1 ≤ count) × (count ≤ n) × (d ≤ 2 * count) × (n ≤ 1024) × (recordBytes * n ≤ length table₀) × (length table ≡ length table₀)
+    (1 ≤ count) × (count ≤ n) × (d ≤ 2 * count) × (n ≤ mostPairs) × (recordBytes * n ≤ length table₀) × (length table ≡ length table₀)
     × (exploreFrom (2 * n - d) points end n count d table ≡ exploreOf points end n table₀) × Carried w d table × Indexed table head link count
 
 abbrev μ-loop : tie.MeasureT-loop
@@ -51,7 +53,7 @@ array-copy-out-point : tie.Need-array-copy-out-point Inv-loop μ-loop
 array-copy-out-point c = search needs
 
 one-move-requires : tie.Need-one-move-requires Inv-loop μ-loop
-one-move-requires c κs = (record { most = omega arith; fits = omega arith; listed = omega arith; due = omega arith }, (c .before .before .before .before .before .before .before .before .before .before .before .before .pre .3) ((c .before .before .before .before .point-at .result) % 256) ((c .before .before .before .before .before .before .before .before .before .loop .d) % 2), (c .before .before .before .before .before .before .current .ensures), (c .before .before .before .before .before .before .before .before .before .loop .inv .8))
+one-move-requires c κs = (record { most = omega arith; fits = omega arith; listed = omega arith; due = omega arith }, (c .before .before .before .before .before .before .before .before .before .before .before .before .pre .3) ((c .before .before .before .before .point-at .result) % mostPoints) ((c .before .before .before .before .before .before .before .before .before .loop .d) % 2), (c .before .before .before .before .before .before .current .ensures), (c .before .before .before .before .before .before .before .before .before .loop .inv .8))
 
 enum-known-turn : tie.Need-enum-known-turn Inv-loop μ-loop
 enum-known-turn c = search needs
@@ -63,7 +65,7 @@ loop-less : tie.Need-loop-less Inv-loop μ-loop
 loop-less c = search needs
 
 loop-again : tie.Need-loop-again Inv-loop μ-loop
-loop-again c = let a = (c .before .before .before .before .before .before .before .before .before .before .before .before .before .before .before .before .before .before .args) in let l = (c .before .before .before .before .before .before .before .before .before .before .before .before .before .before .before .loop) in let m = (c .before .before .before .before .before .one-move) in let e = (c .before .turn .given .1) in let w = on-within (a .t1) (a .end) (a .n) (l .count) (l .d) (l .table) (omega arith) ((c .before .before .before .before .before .before .before .before .before .before .before .before .before .before .loop-test .taken)) (getD (a .t1) ((c .before .before .before .before .before .before .before .before .before .before .point-at .result) % 256) noPoint) (m .result) (m .last .1 .1 .1 .0) (ap (λ k. getD (a .t1) (k % 256) noPoint) ((c .before .before .before .before .before .before .before .before .before .before .point-at .ensures))) (m .ensures .0) (m .ensures .1) ((c .before .turn .given .0 .0)) e in (omega (arith, w .0), omega (arith, w .1), omega (arith, w .0, l .inv .2), search needs, search needs, search needs, sym (goes-on (a .t1) (a .end) (a .n) (l .count) (l .d) (l .table) (omega arith) ((c .before .before .before .before .before .before .before .before .before .before .before .before .before .before .loop-test .taken)) (getD (a .t1) ((c .before .before .before .before .before .before .before .before .before .before .point-at .result) % 256) noPoint) (m .result) (m .last .1 .1 .1 .0) (ap (λ k. getD (a .t1) (k % 256) noPoint) ((c .before .before .before .before .before .before .before .before .before .before .point-at .ensures))) (m .ensures .0) (m .ensures .1) ((c .before .turn .given .0 .0)) e) ∙ l .inv .6, carried-on ((c .before .before .before .before .before .before .before .before .before .before .before .before .current .result)) (l .d) (l .count) (l .table) (m .result) (m .last .1 .1 .1 .0) _ _ ((c .before .before .before .before .before .before .before .before .before .before .before .before .current .ensures)) ((c .before .before .before .before .before .before .before .before .before .before .before .before .before .before .loop-test .taken)) (m .ensures .2), m .ensures .2 .indexed ((c .before .turn .given .0 .0)) e)
+loop-again c = let a = (c .before .before .before .before .before .before .before .before .before .before .before .before .before .before .before .before .before .before .args) in let l = (c .before .before .before .before .before .before .before .before .before .before .before .before .before .before .before .loop) in let m = (c .before .before .before .before .before .one-move) in let e = (c .before .turn .given .1) in let w = on-within (a .t1) (a .end) (a .n) (l .count) (l .d) (l .table) (omega arith) ((c .before .before .before .before .before .before .before .before .before .before .before .before .before .before .loop-test .taken)) (getD (a .t1) ((c .before .before .before .before .before .before .before .before .before .before .point-at .result) % mostPoints) noPoint) (m .result) (m .last .1 .1 .1 .0) (ap (λ k. getD (a .t1) (k % mostPoints) noPoint) ((c .before .before .before .before .before .before .before .before .before .before .point-at .ensures))) (m .ensures .0) (m .ensures .1) ((c .before .turn .given .0 .0)) e in (omega (arith, w .0), omega (arith, w .1), omega (arith, w .0, l .inv .2), search needs, search needs, search needs, sym (goes-on (a .t1) (a .end) (a .n) (l .count) (l .d) (l .table) (omega arith) ((c .before .before .before .before .before .before .before .before .before .before .before .before .before .before .loop-test .taken)) (getD (a .t1) ((c .before .before .before .before .before .before .before .before .before .before .point-at .result) % mostPoints) noPoint) (m .result) (m .last .1 .1 .1 .0) (ap (λ k. getD (a .t1) (k % mostPoints) noPoint) ((c .before .before .before .before .before .before .before .before .before .before .point-at .ensures))) (m .ensures .0) (m .ensures .1) ((c .before .turn .given .0 .0)) e) ∙ l .inv .6, carried-on ((c .before .before .before .before .before .before .before .before .before .before .before .before .current .result)) (l .d) (l .count) (l .table) (m .result) (m .last .1 .1 .1 .0) _ _ ((c .before .before .before .before .before .before .before .before .before .before .before .before .current .ensures)) ((c .before .before .before .before .before .before .before .before .before .before .before .before .before .before .loop-test .taken)) (m .ensures .2), m .ensures .2 .indexed ((c .before .turn .given .0 .0)) e)
 
 enum-told : tie.Need-enum-told Inv-loop μ-loop
 enum-told c = search needs
@@ -72,7 +74,7 @@ same-length : tie.Need-same-length Inv-loop μ-loop
 same-length c = search needs
 
 returns : tie.Need-returns Inv-loop μ-loop
-returns c = let a = (c .before .before .before .before .before .before .before .before .before .before .before .before .before .before .before .before .before .args) in let l = (c .before .before .before .before .before .before .before .before .before .before .before .before .before .before .loop) in let m = (c .before .before .before .before .one-move) in let q = sym (l .inv .6) ∙ ends-full (a .t1) (a .end) (a .n) (l .count) (l .d) (l .table) (omega arith) ((c .before .before .before .before .before .before .before .before .before .before .before .before .before .loop-test .taken)) (getD (a .t1) ((c .before .before .before .before .before .before .before .before .before .point-at .result) % 256) noPoint) (m .result) (m .last .1 .1 .1 .0) (ap (λ k. getD (a .t1) (k % 256) noPoint) ((c .before .before .before .before .before .before .before .before .before .point-at .ensures))) (m .ensures .0) (m .ensures .1) ((c .enum-told .given .1)) in (sym (ap (λ z. z .0) q), sym (ap (λ z. z .1) q))
+returns c = let a = (c .before .before .before .before .before .before .before .before .before .before .before .before .before .before .before .before .before .args) in let l = (c .before .before .before .before .before .before .before .before .before .before .before .before .before .before .loop) in let m = (c .before .before .before .before .one-move) in let q = sym (l .inv .6) ∙ ends-full (a .t1) (a .end) (a .n) (l .count) (l .d) (l .table) (omega arith) ((c .before .before .before .before .before .before .before .before .before .before .before .before .before .loop-test .taken)) (getD (a .t1) ((c .before .before .before .before .before .before .before .before .before .point-at .result) % mostPoints) noPoint) (m .result) (m .last .1 .1 .1 .0) (ap (λ k. getD (a .t1) (k % mostPoints) noPoint) ((c .before .before .before .before .before .before .before .before .before .point-at .ensures))) (m .ensures .0) (m .ensures .1) ((c .enum-told .given .1)) in (sym (ap (λ z. z .0) q), sym (ap (λ z. z .1) q))
 
 enum-told-2 : tie.Need-enum-told-2 Inv-loop μ-loop
 enum-told-2 c = search needs
@@ -81,7 +83,7 @@ same-length-2 : tie.Need-same-length-2 Inv-loop μ-loop
 same-length-2 c = search needs
 
 returns-2 : tie.Need-returns-2 Inv-loop μ-loop
-returns-2 c = let a = (c .before .before .before .before .before .before .before .before .before .before .before .before .before .before .before .before .before .args) in let l = (c .before .before .before .before .before .before .before .before .before .before .before .before .before .before .loop) in let m = (c .before .before .before .before .one-move) in let q = sym (l .inv .6) ∙ ends-breaking (a .t1) (a .end) (a .n) (l .count) (l .d) (l .table) (omega arith) ((c .before .before .before .before .before .before .before .before .before .before .before .before .before .loop-test .taken)) (getD (a .t1) ((c .before .before .before .before .before .before .before .before .before .point-at .result) % 256) noPoint) (m .result) (m .last .1 .1 .1 .0) (ap (λ k. getD (a .t1) (k % 256) noPoint) ((c .before .before .before .before .before .before .before .before .before .point-at .ensures))) (m .ensures .0) (m .ensures .1) ((c .enum-told2 .given .1)) in (sym (ap (λ z. z .0) q), sym (ap (λ z. z .1) q))
+returns-2 c = let a = (c .before .before .before .before .before .before .before .before .before .before .before .before .before .before .before .before .before .args) in let l = (c .before .before .before .before .before .before .before .before .before .before .before .before .before .before .loop) in let m = (c .before .before .before .before .one-move) in let q = sym (l .inv .6) ∙ ends-breaking (a .t1) (a .end) (a .n) (l .count) (l .d) (l .table) (omega arith) ((c .before .before .before .before .before .before .before .before .before .before .before .before .before .loop-test .taken)) (getD (a .t1) ((c .before .before .before .before .before .before .before .before .before .point-at .result) % mostPoints) noPoint) (m .result) (m .last .1 .1 .1 .0) (ap (λ k. getD (a .t1) (k % mostPoints) noPoint) ((c .before .before .before .before .before .before .before .before .before .point-at .ensures))) (m .ensures .0) (m .ensures .1) ((c .enum-told2 .given .1)) in (sym (ap (λ z. z .0) q), sym (ap (λ z. z .1) q))
 
 enum-told-3 : tie.Need-enum-told-3 Inv-loop μ-loop
 enum-told-3 c = search needs
@@ -90,7 +92,7 @@ same-length-3 : tie.Need-same-length-3 Inv-loop μ-loop
 same-length-3 c = search needs
 
 returns-3 : tie.Need-returns-3 Inv-loop μ-loop
-returns-3 c = let a = (c .before .before .before .before .before .before .before .before .before .before .before .before .before .before .before .before .before .args) in let l = (c .before .before .before .before .before .before .before .before .before .before .before .before .before .before .loop) in let m = (c .before .before .before .before .one-move) in let q = sym (l .inv .6) ∙ ends-failing (a .t1) (a .end) (a .n) (l .count) (l .d) (l .table) (omega arith) ((c .before .before .before .before .before .before .before .before .before .before .before .before .before .loop-test .taken)) (getD (a .t1) ((c .before .before .before .before .before .before .before .before .before .point-at .result) % 256) noPoint) (m .result) (m .last .1 .1 .1 .0) (ap (λ k. getD (a .t1) (k % 256) noPoint) ((c .before .before .before .before .before .before .before .before .before .point-at .ensures))) (m .ensures .0) (m .ensures .1) ((c .enum-told3 .given .1)) in (sym (ap (λ z. z .0) q), sym (ap (λ z. z .1) q))
+returns-3 c = let a = (c .before .before .before .before .before .before .before .before .before .before .before .before .before .before .before .before .before .args) in let l = (c .before .before .before .before .before .before .before .before .before .before .before .before .before .before .loop) in let m = (c .before .before .before .before .one-move) in let q = sym (l .inv .6) ∙ ends-failing (a .t1) (a .end) (a .n) (l .count) (l .d) (l .table) (omega arith) ((c .before .before .before .before .before .before .before .before .before .before .before .before .before .loop-test .taken)) (getD (a .t1) ((c .before .before .before .before .before .before .before .before .before .point-at .result) % mostPoints) noPoint) (m .result) (m .last .1 .1 .1 .0) (ap (λ k. getD (a .t1) (k % mostPoints) noPoint) ((c .before .before .before .before .before .before .before .before .before .point-at .ensures))) (m .ensures .0) (m .ensures .1) ((c .enum-told3 .given .1)) in (sym (ap (λ z. z .0) q), sym (ap (λ z. z .1) q))
 
 same-length-4 : tie.Need-same-length-4 Inv-loop μ-loop
 same-length-4 c = search needs

@@ -10,11 +10,12 @@ use lib.Dec.{eqb}
 use lib.ListN.{length, getD, set, replicate, length-set, length-replicate}
 use lib.Seq.{getD-set-same, getD-set-other}
 use borrow.Author.Tests.{eqb-true, eqb-false}
+use Rattle.letters.specs.Capacity.{mostPairs}
 use Rattle.base.proofs.Theory.Choice.{byTest}
 use Rattle.records.specs.Records.{encodedBytes}
 use Rattle.table.specs.Table.{pairAt, isAt, isListed}
 use Rattle.table.proofs.Theory.TableLaws.{is-pair, at-listed, listed-at}
-use Rattle.index.specs.Index.{chainOf, Holds, Indexed}
+use Rattle.index.specs.Index.{chainOf, Holds, Indexed, chainCount}
 
 -- ---- record 0 alone
 zero-at : (n i : ℕ) → getD (replicate {A = ℕ} n 0) i 0 ≡ 0
@@ -22,21 +23,21 @@ zero-at zero i = refl
 zero-at (suc n) zero = refl
 zero-at (suc n) (suc i) = zero-at n i
 
-pub index-begins : (t : List ℕ) → Indexed t (replicate 1024 0) (replicate 1024 0) 1
+pub index-begins : (t : List ℕ) → Indexed t (replicate chainCount 0) (replicate mostPairs 0) 1
 index-begins t = record {
-  head-long = length-replicate {A = ℕ} 1024 0;
-  link-long = length-replicate {A = ℕ} 1024 0;
-  heads = λ b. let e = zero-at 1024 b in omega arith;
-  links = λ i p. let e = zero-at 1024 i in omega arith;
+  head-long = length-replicate {A = ℕ} chainCount 0;
+  link-long = length-replicate {A = ℕ} mostPairs 0;
+  heads = λ b. let e = zero-at chainCount b in omega arith;
+  links = λ i p. let e = zero-at mostPairs i in omega arith;
   chained = λ k p q. absurd (omega arith);
 }
 
-pub chain-small : (pair : List ℕ) → chainOf pair < 1024
+pub chain-small : (pair : List ℕ) → chainOf pair < chainCount
 unfolding chainOf
 chain-small pair = mod-lt _ (omega arith)
 
 -- ---- a record more
-module _ (t head link : List ℕ) (count : ℕ) (x : Indexed t head link count) (within : count < 1024) (pair : List ℕ) where
+module _ (t head link : List ℕ) (count : ℕ) (x : Indexed t head link count) (within : count < mostPairs) (pair : List ℕ) where
   abbrev b : ℕ
   b = chainOf pair
 

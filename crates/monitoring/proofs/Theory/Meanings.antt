@@ -14,6 +14,7 @@ use Rattle.letters.specs.Words.{letterWord}
 use Rattle.letters.specs.Coding.{decodeLetter}
 use Rattle.letters.proofs.Theory.WordLaws.{first-roomy, decode-header, decode-header-refused, decode-letter, decode-letter-refused}
 use Rattle.traces.specs.Reading.{reading}
+use Rattle.letters.specs.RefusalNumbers.{headerMalformed, letterMalformed}
 use Rattle.semantics.specs.Terms.{Trace, begin, _▸_, state}
 use Rattle.semantics.specs.Models.{Feasible}
 use Rattle.semantics.specs.Coherence.{Coherent}
@@ -62,8 +63,8 @@ starts word r e = record {
       subst (λ (s : Stepped). (outcomeAnswer (s .outcome) ≡ value tt) × Monitors (begin h) (s .monitor)) (sym q)
       (refl, monitors (begin h) (freshMonitor h) v (follows-start h (v .registers)));
   refused = λ none.
-      let q : r ≡ stepped (outcome.Refused 3) idleOf = e ∙ start-refused word 3 0 (decode-header-refused first-roomy word .1 none) in
-      subst (λ (s : Stepped). (outcomeAnswer (s .outcome) ≡ refusal 3 0) × RefusesAll (s .monitor)) (sym q) (refl, idle-refuses);
+      let q : r ≡ stepped (outcome.Refused headerMalformed) idleOf = e ∙ start-refused word headerMalformed 0 (decode-header-refused first-roomy word .1 none) in
+      subst (λ (s : Stepped). (outcomeAnswer (s .outcome) ≡ refusal headerMalformed 0) × RefusesAll (s .monitor)) (sym q) (refl, idle-refuses);
 }
 
 module _ (ρ : Trace) (h : Header) (g : h ≡ state ρ .header) (v : HeaderFits firstEdition (state ρ .header)) (word : ℕ) where
@@ -72,7 +73,7 @@ module _ (ρ : Trace) (h : Header) (g : h ≡ state ρ .header) (v : HeaderFits 
   letter-known a f w = ap (λ k. decodeLetter firstEdition k word) g ∙ decode-letter first-roomy (state ρ .header) word a .1 (v, f, w)
 
   letter-none : ((a : Letter) → Fits (state ρ .header) a → letterWord firstEdition (state ρ .header) a ≡ word → ⊥)
-      → decodeLetter firstEdition h word ≡ refusal 4 0
+      → decodeLetter firstEdition h word ≡ refusal letterMalformed 0
   letter-none none = ap (λ k. decodeLetter firstEdition k word) g ∙ decode-letter-refused first-roomy (state ρ .header) word .1 (λ a _. none a)
 
 pub advances : (m : Monitor) (word : ℕ) (r : Stepped) → r ≡ advance m word → Advances m word r
@@ -84,15 +85,15 @@ advances m word r e = record {
       subst (λ (s : Stepped). (outcomeAnswer (s .outcome) ≡ value tt) × Monitors (ρ ▸ a) (s .monitor)) (sym q)
       (refl, monitors (ρ ▸ a) (movedOf m a) v (follows-moved ρ m (t .follows) a (fits-within (state ρ .header) a (v .registers) (v .functions) f) f));
   refused = λ ρ t none.
-      let q : r ≡ stepped (outcome.Refused 4) m = e ∙ advance-refused m word 4 0 (letter-none ρ (m .header) (t .follows .header) (t .fits) word none) in
-      subst (λ (s : Stepped). (outcomeAnswer (s .outcome) ≡ refusal 4 0) × (s .monitor ≡ m)) (sym q) (refl, refl);
+      let q : r ≡ stepped (outcome.Refused letterMalformed) m = e ∙ advance-refused m word letterMalformed 0 (letter-none ρ (m .header) (t .follows .header) (t .fits) word none) in
+      subst (λ (s : Stepped). (outcomeAnswer (s .outcome) ≡ refusal letterMalformed 0) × (s .monitor ≡ m)) (sym q) (refl, refl);
 }
 
 pub run-begins : (word : ℕ) (r : Run) → r ≡ begunRun word → RunBegins word r
 run-begins word r e = record {
   computed = e;
   taken = λ h v w. subst (RunFollows (begin h)) (sym e) (run-start word h (decode-header first-roomy word h .1 (v, w)));
-  refused = λ none. ap (λ (q : Run). verdictAnswer (q .verdict)) (e ∙ begun-refused word 3 0 (decode-header-refused first-roomy word .1 none));
+  refused = λ none. ap (λ (q : Run). verdictAnswer (q .verdict)) (e ∙ begun-refused word headerMalformed 0 (decode-header-refused first-roomy word .1 none));
 }
 
 pub run-takes : (run : Run) (word : ℕ) (r : Run) → r ≡ takenRun run word → RunTakes run word r
@@ -101,8 +102,8 @@ run-takes run word r e = record {
   taken = λ ρ v f a fits w. subst (RunFollows (ρ ▸ a)) (sym e) (run-more ρ run f word a (letter-known ρ (state ρ .header) refl v word a fits w));
   refused = λ ρ v f none.
       let d = letter-none ρ (run .monitor .header) (f .monitor .header) v word none in
-      ap (λ (q : Run). verdictAnswer (q .verdict)) (e ∙ taken-refused run word _ _ 4 0 (f .verdict) d)
-      ∙ ap (refusal 4) (ap nextNumber (f .letters) ∙ next-capped (size ρ));
+      ap (λ (q : Run). verdictAnswer (q .verdict)) (e ∙ taken-refused run word _ _ letterMalformed 0 (f .verdict) d)
+      ∙ ap (refusal letterMalformed) (ap nextNumber (f .letters) ∙ next-capped (size ρ));
   ended = λ number place v. e ∙ taken-ended run word number place v;
 }
 

@@ -7,6 +7,7 @@ use Rattle.letters.specs.declared.Letter.{Letter}
 use Rattle.letters.specs.Answers.{value, refusal}
 use Rattle.letters.specs.Editions.{firstEdition}
 use Rattle.letters.specs.Coding.{headerTest, decodeHeader, decodeLetter}
+use Rattle.letters.specs.RefusalNumbers.{letterMalformed}
 use Rattle.window.specs.Perform.{judgeOf, performOf}
 use Rattle.window.specs.declared.Window.{Window}
 use Rattle.monitoring.specs.Monitor.{stepped, idleOf, freshMonitor, startOf, movedOf, advance}
@@ -48,6 +49,6 @@ module _ (m : Monitor) (a : Letter) where
   moved-incoherent r j = rw (r, j)
 
 -- The monitor of a refused start refuses every letter.
-pub idle-refuses : (word : ℕ) → advance idleOf word ≡ stepped (outcome.Refused 4) idleOf
+pub idle-refuses : (word : ℕ) → advance idleOf word ≡ stepped (outcome.Refused letterMalformed) idleOf
 unfolding advance decodeLetter headerTest
 idle-refuses word = refl

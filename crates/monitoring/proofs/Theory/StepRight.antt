@@ -8,6 +8,7 @@ use Rattle.base.proofs.Theory.Choice.{byTest}
 use Rattle.letters.specs.declared.Header.{Header}
 use Rattle.letters.specs.declared.Letter.{Letter}
 use Rattle.letters.specs.Letters.{Fits}
+use Rattle.letters.specs.Editions.{firstEdition}
 use Rattle.semantics.proofs.Theory.Booleans.{of-true, of-false, is-true, is-false}
 use Rattle.semantics.specs.Terms.{Trace, begin, _▸_, state}
 use Rattle.semantics.specs.Facts.{WellFormed}
@@ -58,7 +59,7 @@ steps ρ m r a wi f = byTest (judgeOf (m .window) a)
       still = λ _. refl;
     }))
 
-pub follows-start : (h : Header) → h .registers ≤ 8 → Follows (begin h) (freshMonitor h)
+pub follows-start : (h : Header) → h .registers ≤ firstEdition .registers → Follows (begin h) (freshMonitor h)
 follows-start h b = record {
   formed = tt;
   header = refl;

@@ -19,6 +19,7 @@ use Rattle.letters.specs.Coding.{headerTest, fitsTest, headerOf, letterOf, deco
 use Rattle.letters.proofs.Theory.WordLaws.{first-roomy}
 use Rattle.traces.specs.Reading.{Reading, trace, refused, octets, parts, before, lettersFrom, beginning, letterCount, letterIn, lettersOf, readingWhere, reading}
 use Rattle.traces.specs.Traces.{AllFit}
+use Rattle.letters.specs.RefusalNumbers.{headerMalformed, letterMalformed, traceOddLength, traceTooShort}
 use Rattle.traces.proofs.Theory.TraceLaws.{letters-decoded, parts-length, reading-fits}
 use Rattle.semantics.specs.Terms.{Trace, begin, _▸_, state, extend, traceOf}
 use Rattle.semantics.specs.Facts.{WellFormed}
@@ -105,17 +106,17 @@ module _ {A : Type 0} (decode : A → Answer Letter) (h : Header) where
       more a (refused number place) p = omega arith
 
       by : (d : Answer Letter) → ((a : Letter) → Numbers (size (ρ ▸ a) + length codes) (exactAfter (ρ ▸ a) (lettersFrom decode h (n + 1) codes)))
-          → Numbers (size ρ + suc (length codes)) (exactAfter ρ (onAnswer d (λ l. before l (lettersFrom decode h (n + 1) codes)) λ _ _. refused 4 n))
+          → Numbers (size ρ + suc (length codes)) (exactAfter ρ (onAnswer d (λ l. before l (lettersFrom decode h (n + 1) codes)) λ _ _. refused letterMalformed n))
       by (value a) i = more a (lettersFrom decode h (n + 1) codes) (i a)
       by (refusal number place) i = omega arith
 
 -- ---- the refusals of words
 
-letter-four : (h : Header) (w number place : ℕ) → decodeLetter firstEdition h w ≡ refusal number place → number ≡ 4
+letter-malformed : (h : Header) (w number place : ℕ) → decodeLetter firstEdition h w ≡ refusal number place → number ≡ letterMalformed
 unfolding decodeLetter
-letter-four h w number place e = let l = letterOf h (split (firstEdition .letter) w) in by ((headerTest firstEdition h && fitsTest h l) && eqb (letterWord firstEdition h l) w) l e
+letter-malformed h w number place e = let l = letterOf h (split (firstEdition .letter) w) in by ((headerTest firstEdition h && fitsTest h l) && eqb (letterWord firstEdition h l) w) l e
   where
-    by : (t : Bool) (l : Letter) → pick t (λ _. value l) (λ _. refusal 4 0) ≡ refusal number place → number ≡ 4
+    by : (t : Bool) (l : Letter) → pick t (λ _. value l) (λ _. refusal letterMalformed 0) ≡ refusal number place → number ≡ letterMalformed
     by true l q = let z : _≡_ {A = ℕ} 0 1 = cc in absurd (omega arith)
     by false l q = cc
 
@@ -123,7 +124,7 @@ header-place : (w number place : ℕ) → decodeHeader firstEdition w ≡ refusa
 unfolding decodeHeader
 header-place w number place e = let h = headerOf firstEdition (split (firstEdition .header) w) in by (headerTest firstEdition h && eqb (headerWord firstEdition h) w) h e
   where
-    by : (t : Bool) (h : Header) → pick t (λ _. value h) (λ _. refusal 3 0) ≡ refusal number place → place ≡ 0
+    by : (t : Bool) (h : Header) → pick t (λ _. value h) (λ _. refusal headerMalformed 0) ≡ refusal number place → place ≡ 0
     by true h q = let z : _≡_ {A = ℕ} 0 1 = cc in absurd (omega arith)
     by false h q = cc
 
@@ -136,7 +137,7 @@ begun-refused w number place e = rw (start-refused w number place e)
 unit-two : (x y : ℕ) → join (8 ∷ 8 ∷ []) (x ∷ y ∷ []) ≡ x * 256 + y
 unit-two x y = omega arith
 
-reading-odd : (x y : ℕ) (s : List ℕ) → length s % 2 ≡ 1 → reading firstEdition (x ∷ y ∷ s) ≡ refused 2 0
+reading-odd : (x y : ℕ) (s : List ℕ) → length s % 2 ≡ 1 → reading firstEdition (x ∷ y ∷ s) ≡ refused traceOddLength 0
 unfolding readingWhere beginning
 reading-odd x y s e = rw (le-ltb (length (x ∷ y ∷ s)) 2 (omega arith), ne-eqb (length (x ∷ y ∷ s) % 2) 0 (λ d. omega arith))
 
@@ -167,7 +168,7 @@ pushed-even (suc k) (x ∷ []) r l = absurd (omega arith)
 pushed-even (suc k) (x ∷ y ∷ s) r l =
     ap (λ w. pushedAll (streamWith Even 0 (takenRun r w)) s) (sym (unit-two x y)) ∙ pushed-even k s (takenRun r (join (octets firstEdition) (x ∷ y ∷ []))) (omega arith)
 
-finished-odd : (s : List ℕ) (r : Run) → length s % 2 ≡ 1 → finishedOf (pushedAll (streamWith Even 0 r) s) ≡ Refused 2 0
+finished-odd : (s : List ℕ) (r : Run) → length s % 2 ≡ 1 → finishedOf (pushedAll (streamWith Even 0 r) s) ≡ Refused traceOddLength 0
 unfolding pushedAll pushedOf finishedOf
 finished-odd [] r e = absurd (omega arith)
 finished-odd (x ∷ []) r e = refl
@@ -209,7 +210,7 @@ letters-right h (x ∷ codes) ρ r n f g e = by (letterIn firstEdition h x) refl
         → ((a : Letter) → RunFollows (ρ ▸ a) (takenRun r (join (octets firstEdition) x)) → verdictAnswer (takenAll (takenRun r (join (octets firstEdition) x)) codes .verdict)
         ≡ cappedAnswer (exactAfter (ρ ▸ a) (lettersFrom (letterIn firstEdition h) h (n + 1) codes)))
         → verdictAnswer (takenAll (takenRun r (join (octets firstEdition) x)) codes .verdict)
-        ≡ cappedAnswer (exactAfter ρ (onAnswer d (λ l. before l (lettersFrom (letterIn firstEdition h) h (n + 1) codes)) λ _ _. refused 4 n))
+        ≡ cappedAnswer (exactAfter ρ (onAnswer d (λ l. before l (lettersFrom (letterIn firstEdition h) h (n + 1) codes)) λ _ _. refused letterMalformed n))
     by (value a) d i =
         i a (run-more ρ r f w a (ap (λ (k : Header). decodeLetter firstEdition k w) g ∙ d))
         ∙ ap cappedAnswer (exact-before ρ a rest)
@@ -217,7 +218,7 @@ letters-right h (x ∷ codes) ρ r n f g e = by (letterIn firstEdition h x) refl
         let t = taken-refused r w _ _ number place (f .verdict) (ap (λ (k : Header). decodeLetter firstEdition k w) (f .monitor .header ∙ g) ∙ d) in
         ap (λ (q : Run). verdictAnswer (takenAll q codes .verdict)) t
         ∙ ap (λ (q : Run). verdictAnswer (q .verdict)) (ended-all _ number (nextNumber (r .letters)) refl codes)
-        ∙ ap₂ (λ (i k : ℕ). refusal i k) (letter-four h w number place d) next
+        ∙ ap₂ (λ (i k : ℕ). refusal i k) (letter-malformed h w number place d) next
 
 words-right : (w : ℕ) (codes : List (List ℕ)) (d : Answer Header) → decodeHeader firstEdition w ≡ d
     → verdictAnswer (takenAll (begunRun w) codes .verdict) ≡ cappedAnswer (exactOf (onAnswer d (λ h. lettersFrom (letterIn firstEdition h) h 1 codes) refused))
@@ -239,20 +240,20 @@ answer-capped (x ∷ y ∷ s) = byTest (eqb (length s % 2) 0)
     ∙ ap (λ (q : Reading). cappedAnswer (exactOf q)) (sym (reading-even x y s (length s / 2) l)))
     (λ t. let h = eqb-false (length s % 2) 0 t in
     let l : length s % 2 ≡ 1 = omega arith in
-    ap verdictAnswer (answer-long x y s ∙ finished-odd s (begunRun (x * 256 + y)) l) ∙ ap (refusal 2) (sym capped-none)
+    ap verdictAnswer (answer-long x y s ∙ finished-odd s (begunRun (x * 256 + y)) l) ∙ ap (refusal traceOddLength) (sym capped-none)
     ∙ ap (λ (q : Reading). cappedAnswer (exactOf q)) (sym (reading-odd x y s l)))
 
 reading-numbers : (bytes : List ℕ) → letterCount firstEdition bytes ≤ last → cappedAnswer (exactOf (reading firstEdition bytes)) ≡ exactOf (reading firstEdition bytes)
 unfolding readingWhere beginning
-reading-numbers [] b = ap (refusal 1) capped-none
-reading-numbers (x ∷ []) b = ap (refusal 1) capped-none
+reading-numbers [] b = ap (refusal traceTooShort) capped-none
+reading-numbers (x ∷ []) b = ap (refusal traceTooShort) capped-none
 reading-numbers (x ∷ y ∷ s) b = byTest (eqb (length s % 2) 0)
     (λ t. let h = eqb-true (length s % 2) 0 t in
     let l : length s ≡ 2 * (length s / 2) = omega arith in
     let m : length s / 2 ≤ last = omega arith in
     subst (λ (q : Reading). cappedAnswer (exactOf q) ≡ exactOf q) (sym (reading-even x y s (length s / 2) l)) (by (length s / 2) m (decodeHeader firstEdition (x * 256 + y)) refl))
     (λ t. let h = eqb-false (length s % 2) 0 t in
-    subst (λ (q : Reading). cappedAnswer (exactOf q) ≡ exactOf q) (sym (reading-odd x y s (omega arith))) (ap (refusal 2) capped-none))
+    subst (λ (q : Reading). cappedAnswer (exactOf q) ≡ exactOf q) (sym (reading-odd x y s (omega arith))) (ap (refusal traceOddLength) capped-none))
   where
     by : (k : ℕ) → k ≤ last → (d : Answer Header) → decodeHeader firstEdition (x * 256 + y) ≡ d
         → cappedAnswer (exactOf (onAnswer d (λ h. lettersFrom (letterIn firstEdition h) h 1 (parts 2 k s)) refused)) ≡ exactOf (onAnswer d (λ h. lettersFrom (letterIn firstEdition h) h 1 (parts 2 k s)) refused)

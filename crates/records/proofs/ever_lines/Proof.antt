@@ -3,14 +3,14 @@ use native.Mathlib.Omega.{arith}
 use lib.ListN.{length, replicate}
 use Rattle.window.proofs.Theory.Table.{Swept, swept-none, swept-more}
 use Rattle.records.specs.Formats.{everMask, everIn}
-use Rattle.records.specs.Records.{firstFormat, codesAt}
+use Rattle.records.specs.Records.{firstFormat, codesAt, recordBytes}
 use Rattle.records.proofs.Turns.{ever-is, ever-past, swept-zeros}
 use borrow.Author.Needs.{needs}
 use Rattle.records.proofs.ever_lines.Statement.{statement}
 use Rattle.records.proofs.ever_lines.Tie as tie
 
 abbrev Inv-loop : tie.InvT-loop
-Inv-loop part ever₀ j₀ ever j = (192 ≤ length part) × (j ≤ 32) × Swept (everMask firstFormat (codesAt part)) 0 (replicate 32 0) j ever
+Inv-loop part ever₀ j₀ ever j = (recordBytes ≤ length part) × (j ≤ 32) × Swept (everMask firstFormat (codesAt part)) 0 (replicate 32 0) j ever
 
 abbrev μ-loop : tie.MeasureT-loop
 μ-loop part ever₀ j₀ ever j = 32 - j

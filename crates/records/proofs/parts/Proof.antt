@@ -1,6 +1,7 @@
 use mathlib.Core.Path.{_≡_}
 use native.Mathlib.Omega.{arith}
 use lib.ListN.{length, length-set}
+use Rattle.records.specs.Records.{encodedBytes}
 use Rattle.records.proofs.Turns.{parts-made}
 use borrow.Author.Needs.{needs}
 use Rattle.records.proofs.parts.Statement.{statement}
@@ -23,7 +24,7 @@ parts-spec =
     (λ c κs. search needs)
     (λ c. search needs)
     (λ c. search needs)
-    (λ c κs. let n : length (c .before .before .before .lay3 .last .0) ≡ 157 = search needs in omega (
+    (λ c κs. let n : length (c .before .before .before .lay3 .last .0) ≡ encodedBytes = search needs in omega (
       arith,
       length-set (c .before .before .before .lay3 .last .0) 28
           (c .before .before .before .before .before .before .before .before .before .before .before .before .before .before .args .infeasible),

@@ -3,14 +3,14 @@ use Prim.Native.Nat.{_*_, _-_, _≤_}
 use native.Mathlib.Omega.{arith}
 use lib.ListN.{length, getD, replicate}
 use Rattle.window.proofs.Theory.Table.{Swept}
-use Rattle.records.specs.Records.{codesAt, meant}
+use Rattle.records.specs.Records.{codesAt, meant, recordBytes}
 use Rattle.records.proofs.Turns.{results-turn, results-past, swept-begin, swept-zeros}
 use borrow.Author.Needs.{needs}
 use Rattle.records.proofs.put_results.Statement.{statement}
 use Rattle.records.proofs.put_results.Tie as tie
 
 abbrev Inv-loop : tie.InvT-loop
-Inv-loop part meanings result₀ j₀ result j = (192 ≤ length part) × (getD meanings 0 0 ≡ 0) × (j ≤ 32) × Swept
+Inv-loop part meanings result₀ j₀ result j = (recordBytes ≤ length part) × (getD meanings 0 0 ≡ 0) × (j ≤ 32) × Swept
     (λ k. getD meanings (getD (codesAt part) k 0) 0) 0 (replicate 256 0) (8 * j) result
 
 abbrev μ-loop : tie.MeasureT-loop

@@ -2,6 +2,7 @@ use mathlib.Core.Path.{_≡_, refl, sym, _∙_, subst}
 use Prim.Native.Nat.{ℕ, _+_, _-_, _%_, _≤_}
 use native.Mathlib.Omega.{arith}
 use lib.ListN.{length, drop}
+use Rattle.records.specs.Records.{recordBytes}
 use Rattle.records.specs.Formats.{sameFront, samePair}
 use Rattle.records.proofs.Turns.{same-next, same-differ, same-last}
 use borrow.Author.Needs.{needs}
@@ -9,7 +10,7 @@ use Rattle.records.proofs.same_pair.Statement.{statement}
 use Rattle.records.proofs.same_pair.Tie as tie
 
 abbrev Inv-loop : tie.InvT-loop
-Inv-loop part pair at₀ at = (at ≤ 152) × (at % 8 ≡ 0) × (192 ≤ length part) × (sameFront (drop at pair) (drop (3 + at) part) ≡ samePair pair part)
+Inv-loop part pair at₀ at = (at ≤ 152) × (at % 8 ≡ 0) × (recordBytes ≤ length part) × (sameFront (drop at pair) (drop (3 + at) part) ≡ samePair pair part)
 
 abbrev μ-loop : tie.MeasureT-loop
 μ-loop part pair at₀ at = 152 - at

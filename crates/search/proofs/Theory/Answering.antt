@@ -11,6 +11,8 @@ use Rattle.letters.specs.declared.Letter.{Letter}
 use Rattle.letters.specs.Editions.{firstEdition}
 use Rattle.letters.specs.Words.{headerWord, letterWord}
 use Rattle.letters.proofs.Theory.WordLaws.{first-roomy}
+use Rattle.letters.specs.RefusalNumbers.{outputTooSmall}
+use Rattle.search.specs.Tracing.{traceBytes, lastLetter}
 use Rattle.traces.specs.Traces.{packing}
 use Rattle.traces.proofs.Theory.TraceLaws.{bytes-length}
 use Rattle.semantics.specs.Terms.{begin}
@@ -22,12 +24,12 @@ use Rattle.search.proofs.Theory.Delivering.{delivered-trace, refused-tr
 use Rattle.search.specs.Modelling.{Modelled}
 use Rattle.search.specs.Answering.{Packs, Delivers}
 
-module _ (p : Packed) (count : ℕ) (output : List ℕ) (inside : p .start ≤ 2048) where
+module _ (p : Packed) (count : ℕ) (output : List ℕ) (inside : p .start ≤ lastLetter) where
   abbrev s : List ℕ
   s = drop (p .start) (p .bytes)
 
   abbrev n : ℕ
-  n = 2050 - p .start
+  n = traceBytes - p .start
 
   module _ (h : Header) (ls : List Letter) (x : Packs p h ls) where
     long : length (packing firstEdition h ls) ≡ 2 * suc (length ls)
@@ -44,11 +46,11 @@ module _ (p : Packed) (count : ℕ) (output : List ℕ) (inside : p .start ≤ 2
     letters-are = let a = same in let b = long in omega arith
 
   -- ── incoherent ──
-  pub breaking-refused : length output < 2050 - p .start → Delivers breaking p count output (Refused 6 0) output
+  pub breaking-refused : length output < traceBytes - p .start → Delivers breaking p count output (Refused outputTooSmall 0) output
   breaking-refused l h ls x f = refused-trace h ls output (showing breaking count (length ls)) (let a = same h ls x in omega arith)
 
-  pub breaking-shown : 2050 - p .start ≤ length output → (output′ : List ℕ) → output′ ≡ drop (p .start) (p .bytes) ++ drop (length (drop (p .start) (p .bytes))) output
-      → Delivers breaking p count output (Incoherent count ((2050 - p .start - 2) / 2)) output′
+  pub breaking-shown : traceBytes - p .start ≤ length output → (output′ : List ℕ) → output′ ≡ drop (p .start) (p .bytes) ++ drop (length (drop (p .start) (p .bytes))) output
+      → Delivers breaking p count output (Incoherent count ((traceBytes - p .start - 2) / 2)) output′
   breaking-shown l output′ e h ls x f =
       subst (λ o. Delivered (packed firstEdition (begin h) breaking ls) (showing breaking count (length ls)) output (incoherent count ((n - 2) / 2)) o)
       (sym (e ∙ ap (λ b. b ++ drop (length b) output) (x .bytes)))
@@ -56,10 +58,10 @@ module _ (p : Packed) (count : ℕ) (output : List ℕ) (inside : p .start ≤ 2
       (sym (letters-are h ls x)) (delivered-trace h ls output (showing breaking count (length ls)) (let a = same h ls x in omega arith)))
 
   -- ── fail ──
-  pub failing-refused : length output < 2050 - p .start → Delivers failing p count output (Refused 6 0) output
+  pub failing-refused : length output < traceBytes - p .start → Delivers failing p count output (Refused outputTooSmall 0) output
   failing-refused l h ls x f = refused-failing h ls output (showing failing count (length ls)) (let a = same h ls x in omega arith)
 
-  module _ (l : 2050 - p .start ≤ length output) (between : List ℕ) where
+  module _ (l : traceBytes - p .start ≤ length output) (between : List ℕ) where
     module _ (fits : Bool) (w : Modelled (drop (p .start) (p .bytes)) output fits between) (h : Header) (ls : List Letter) (x : Packs p h ls) where
       abbrev trace : List ℕ
       trace = packing firstEdition h ls
@@ -68,7 +70,7 @@ module _ (p : Packed) (count : ℕ) (output : List ℕ) (inside : p .start ≤ 2
       showed = subst (λ b. Modelled b output fits between) (x .bytes) w
 
     -- the model does not fit behind the trace
-    pub failing-unfit : Modelled (drop (p .start) (p .bytes)) output false between → Delivers failing p count output (Refused 6 0) between
+    pub failing-unfit : Modelled (drop (p .start) (p .bytes)) output false between → Delivers failing p count output (Refused outputTooSmall 0) between
     failing-unfit w h ls x f =
         let y = showed false w h ls x in
         let k = behind-kept h ls output (showing failing count (length ls)) (x .header) (x .fit) (x .few) (x .formed) (f refl) (y .shown) (y .behind) (y .showed) (y .no refl) in
@@ -78,7 +80,7 @@ module _ (p : Packed) (count : ℕ) (output : List ℕ) (inside : p .start ≤ 2
 
     pub failing-shown : Modelled (drop (p .start) (p .bytes)) output true between → (output′ : List ℕ)
         → output′ ≡ drop (p .start) (p .bytes) ++ drop (length (drop (p .start) (p .bytes))) between
-        → Delivers failing p count output (Fail count ((2050 - p .start - 2) / 2)) output′
+        → Delivers failing p count output (Fail count ((traceBytes - p .start - 2) / 2)) output′
     failing-shown w output′ e h ls x f =
         let y = showed true w h ls x in
         let (k, g) = y .yes refl in

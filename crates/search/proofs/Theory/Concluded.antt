@@ -6,7 +6,7 @@ use Prim.Native.Nat.{ℕ, zero, suc, _+_, _*_, _/_, _%_, _≤_, _<_}
 use native.Mathlib.Omega.{arith}
 use lib.ListN.{length}
 use Rattle.letters.specs.declared.Letter.{Letter}
-use Rattle.letters.specs.Editions.{Edition}
+use Rattle.letters.specs.Editions.{Edition, mostLetters}
 use Rattle.semantics.specs.Terms.{Trace, begin, _▸_, extend, state}
 use Rattle.semantics.specs.Facts.{WellFormed}
 use Rattle.semantics.specs.Models.{Feasible}
@@ -91,7 +91,7 @@ module _ (given : Given) (n : ℕ) (kind : Kind) (k d : ℕ) (t : List ℕ) (met
   pub event-formed : WellFormed (extend (begin (header given)) (trailOf (held given) t d))
   event-formed = run-formed (header given) start (body given) (tt, refl) (given .in-order .uses) way (came .0) execution (came .1) .0
 
-  pub event-few : length (trailOf (held given) t d) ≤ 1024
+  pub event-few : length (trailOf (held given) t d) ≤ mostLetters
   event-few =
       let l = met .due in
       let a = run-steps start (body given) execution way (came .0) (came .1) in

@@ -13,7 +13,7 @@ use Rattle.base.specs.Choice.{pick}
 use Rattle.base.proofs.Theory.Choice.{byTest}
 use Rattle.letters.specs.declared.Header.{Header}
 use Rattle.letters.specs.declared.Letter.{Letter}
-use Rattle.letters.specs.Editions.{firstEdition}
+use Rattle.letters.specs.Editions.{firstEdition, mostLetters}
 use Rattle.letters.specs.Letters.{HeaderFits}
 use Rattle.letters.specs.Words.{headerWord, letterWord}
 use Rattle.letters.proofs.Theory.WordLaws.{first-roomy}
@@ -21,6 +21,7 @@ use Rattle.letters.specs.Answers.{onAnswer}
 use Rattle.traces.specs.Reading.{trace, refused, beginning, letterCount, lettersOf, readingWhere}
 use Rattle.traces.specs.ReadingParts.{readingWithin}
 use Rattle.traces.specs.Traces.{AllFit, packing}
+use Rattle.letters.specs.RefusalNumbers.{outputTooSmall, traceTooLong}
 use Rattle.traces.proofs.Theory.TraceLaws.{reading-packing, bytes-length}
 use Rattle.semantics.specs.Terms.{Trace, begin, _▸_, extend, traceOf, State, state}
 use Rattle.semantics.specs.Facts.{WellFormed}
@@ -59,7 +60,7 @@ module _ (h : Header) (ls : List Letter) (output : List ℕ) (a : Answer) where
   refused-failing l = inr (simp length-append (omega arith), refl, refl)
 
   -- ── fail: the model behind it ──
-  module _ (v : HeaderFits firstEdition h) (fit : AllFit h ls) (few : length ls ≤ 1024) (formed : WellFormed (traceOf h ls)) (feasible : Feasible (state (traceOf h ls))) where
+  module _ (v : HeaderFits firstEdition h) (fit : AllFit h ls) (few : length ls ≤ mostLetters) (formed : WellFormed (traceOf h ls)) (feasible : Feasible (state (traceOf h ls))) where
     abbrev σ : State
     σ = state (traceOf h ls)
 
@@ -67,12 +68,12 @@ module _ (h : Header) (ls : List Letter) (output : List ℕ) (a : Answer) where
     unfolding packing
     long = bytes-length firstEdition first-roomy (headerWord firstEdition h ∷ map (letterWord firstEdition h) ls) ∙ ap (λ n. 2 * suc n) (length-map ls (letterWord firstEdition h))
 
-    read-within : readingWithin 1024 firstEdition s ≡ trace h ls
+    read-within : readingWithin mostLetters firstEdition s ≡ trace h ls
     unfolding readingWhere
-    read-within = same (le-ltb 1024 (letterCount firstEdition s) (omega (arith, long))) ∙ reading-packing firstEdition first-roomy h ls v fit
+    read-within = same (le-ltb mostLetters (letterCount firstEdition s) (omega (arith, long))) ∙ reading-packing firstEdition first-roomy h ls v fit
       where
-        same : ltb 1024 (letterCount firstEdition s) ≡ false → readingWhere (ltb 1024) firstEdition s ≡ readingWhere (λ _. false) firstEdition s
-        same e = λ i. onAnswer (beginning firstEdition s) (λ g. pick (e i) (λ _. refused 5 0) λ _. lettersOf firstEdition g s) refused
+        same : ltb mostLetters (letterCount firstEdition s) ≡ false → readingWhere (ltb mostLetters) firstEdition s ≡ readingWhere (λ _. false) firstEdition s
+        same e = λ i. onAnswer (beginning firstEdition s) (λ g. pick (e i) (λ _. refused traceTooLong 0) λ _. lettersOf firstEdition g s) refused
 
     possible : firstInfeasible (traceOf h ls) ≡ 0
     possible = sym (first-infeasible-unique (traceOf h ls) formed 0 feasible)
@@ -113,7 +114,7 @@ module _ (h : Header) (ls : List Letter) (output : List ℕ) (a : Answer) where
           )))
           (λ y. absurd (differ (sym e ∙ told ∙ rw y refl)))
         where
-          differ : model k ≡ answer.refusal 6 0 → ⊥
+          differ : model k ≡ answer.refusal outputTooSmall 0 → ⊥
           differ f = let z : _≡_ {A = ℕ} 0 1 = cc in omega arith
 
       pub refused-model : length (packing firstEdition h ls) ≤ length output → ((k : ℕ) → shownAnswer r ≡ model k → ⊥)

@@ -8,10 +8,12 @@ use native.Mathlib.Nat.{two-pow-succ}
 use lib.ListN.{length, drop}
 use Rattle.letters.specs.declared.Letter.{Letter}
 use Rattle.letters.specs.Editions.{firstEdition}
-use Rattle.letters.specs.Capacity.{capacityOf}
+use Rattle.letters.specs.Capacity.{capacityOf, mostPairs}
 use Rattle.letters.specs.Letters.{HeaderFits}
 use Rattle.semantics.specs.Terms.{begin, traceOf, state}
 use Rattle.semantics.specs.Facts.{WellFormed}
+use Rattle.letters.specs.RefusalNumbers.{tableTooSmall}
+use Rattle.refusals.specs.Order.{mostPoints}
 use Rattle.semantics.specs.Models.{Feasible}
 use Rattle.macros.specs.Points.{points}
 use Rattle.grammar.specs.Grammar.{Macro, headerOf, binaryOf}
@@ -37,7 +39,7 @@ use Rattle.exploration.proofs.Theory.Given.{header, body, end, held}
 use Rattle.exploration.proofs.Theory.Explored.{Met, Ended}
 use Rattle.exploration.proofs.Theory.Ending.{search-event}
 use Rattle.search.specs.Trails.{trailOf}
-use Rattle.search.specs.Tracing.{Older, traced}
+use Rattle.search.specs.Tracing.{Older, traced, traceBytes, mostMoves}
 use Rattle.search.proofs.Theory.TracedLaws.{traced-is, formed-fit}
 use Rattle.search.proofs.Theory.Concluded.{event-formed, event-few, event-older, event-feasible}
 use Rattle.search.specs.Searched.{Told}
@@ -55,7 +57,7 @@ not-pass breaking k d e = let z : _≡_ {A = ℕ} 0 1 = cc in omega arith
 not-pass failing k d e = let z : _≡_ {A = ℕ} 0 1 = cc in omega arith
 
 -- ── the table's room ──
-pub capacity-most : (n : ℕ) → capacityOf firstEdition n ≤ 1024
+pub capacity-most : (n : ℕ) → capacityOf firstEdition n ≤ mostPairs
 unfolding capacityOf
 capacity-most n = omega arith
 
@@ -69,7 +71,7 @@ pub header-fits : (m : Macro) → InOrder m → HeaderFits firstEdition (headerO
 header-fits m o = record { some = o .some; registers = o .few; functions = o .fewer; binary = binary-below (o .arities) }
 
 -- ── an event of the search ──
-module _ (given : Given) (n : ℕ) (t : List ℕ) (most : n ≤ 1024) (room : recordBytes * n ≤ length t) where
+module _ (given : Given) (n : ℕ) (t : List ℕ) (most : n ≤ mostPairs) (room : recordBytes * n ≤ length t) where
   abbrev after : List ℕ
   after = searchOf (header given) (held given) (end given) n t .1
 
@@ -88,7 +90,7 @@ module _ (given : Given) (n : ℕ) (t : List ℕ) (most : n ≤ 1024) (room : re
     formed = event-formed given n kind k d after met
 
     -- what the writer of the trace needs
-    pub event-writable : (d < 2048) × (recordBytes * (d / 2) + recordBytes ≤ length after) × Older after (d / 2 + 1)
+    pub event-writable : (d < mostMoves) × (recordBytes * (d / 2) + recordBytes ≤ length after) × Older after (d / 2 + 1)
     event-writable =
         let l = met .due in
         let w = met .going .within in
@@ -96,7 +98,7 @@ module _ (given : Given) (n : ℕ) (t : List ℕ) (most : n ≤ 1024) (room : re
         let y = met .going .room in
         (omega arith, omega arith, event-older given n kind k d after met)
 
-    pub event-packs : (p : Packed) → drop (p .start) (p .bytes) ≡ traced (header given) trail → length (p .bytes) ≡ 2050 → Packs p (header given) trail
+    pub event-packs : (p : Packed) → drop (p .start) (p .bytes) ≡ traced (header given) trail → length (p .bytes) ≡ traceBytes → Packs p (header given) trail
     event-packs p b l =
         let f = formed-fit (begin (header given)) trail formed in
         let v = header-fits (given .macro) (given .in-order) in
@@ -117,11 +119,11 @@ module _ (program : struct.Macro) (given : Given) (holds : heldMacro (given .mac
   pub points-within : AllWithin (program .points)
   unfolding heldMacro
   points-within = subst (λ p. AllWithin (p .points)) holds
-      (all-within (header given) (given .in-order .few) (given .in-order .fewer) (body given) (given .in-order .uses) (256 - length (map heldPoint (points (body given)))))
+      (all-within (header given) (given .in-order .few) (given .in-order .fewer) (body given) (given .in-order .uses) (mostPoints - length (map heldPoint (points (body given)))))
 
   module _ (t : List ℕ) where
     -- the search in the lent table
-    abbrev most : capacityOf firstEdition (length t) ≤ 1024
+    abbrev most : capacityOf firstEdition (length t) ≤ mostPairs
     most = capacity-most (length t)
 
     abbrev room : recordBytes * capacityOf firstEdition (length t) ≤ length t
@@ -130,14 +132,14 @@ module _ (program : struct.Macro) (given : Given) (holds : heldMacro (given .mac
     module _ (kind : Kind) (k d : ℕ) where
       -- what the writer of the trace needs where the search has ended at an event
       pub event-written : searchOn program t .0 ≡ foundEvent kind k d
-          → (d < 2048) × (recordBytes * (d / 2) + recordBytes ≤ length (searchOn program t .1)) × Older (searchOn program t .1) (d / 2 + 1)
+          → (d < mostMoves) × (recordBytes * (d / 2) + recordBytes ≤ length (searchOn program t .1)) × Older (searchOn program t .1) (d / 2 + 1)
       unfolding heldMacro
       event-written = subst (λ p. searchOn p t .0 ≡ foundEvent kind k d
-          → (d < 2048) × (recordBytes * (d / 2) + recordBytes ≤ length (searchOn p t .1)) × Older (searchOn p t .1) (d / 2 + 1)) holds
+          → (d < mostMoves) × (recordBytes * (d / 2) + recordBytes ≤ length (searchOn p t .1)) × Older (searchOn p t .1) (d / 2 + 1)) holds
           (event-writable given (capacityOf firstEdition (length t)) t most room kind k d)
 
       -- what is told of an event
-      pub event-delivered : (p : Packed) → length (p .bytes) ≡ 2050 → (output : List ℕ) (r : answer.Verdict) (output′ : List ℕ) → Delivers kind p k output r output′ → searchOn program t .0 ≡ foundEvent kind k d
+      pub event-delivered : (p : Packed) → length (p .bytes) ≡ traceBytes → (output : List ℕ) (r : answer.Verdict) (output′ : List ℕ) → Delivers kind p k output r output′ → searchOn program t .0 ≡ foundEvent kind k d
           → drop (p .start) (p .bytes) ≡ traced (program .header) (trailOf (program .points) (searchOn program t .1) d)
           → Delivered (packed firstEdition (begin (program .header)) kind (trailOf (program .points) (searchOn program t .1) d)) (showing kind k (length (trailOf (program .points) (searchOn program t .1) d))) output (answerOf r) output′
       unfolding heldMacro
@@ -171,18 +173,18 @@ module _ (program : struct.Macro) (t output : List ℕ) (n : ℕ) (r : Search) (
   told : (z : Search) → r ≡ z → (v : answer.Verdict) (output′ : List ℕ) → Tell z v output′ → Tells program t output v output′
   told z y v output′ = subst (λ z. Tell z v output′) (sym y ∙ ends)
 
-  pub told-full : r ≡ found.Full → Tells program t output (Refused 14 0) output
-  told-full y = told found.Full y (Refused 14 0) output (refl, refl)
+  pub told-full : r ≡ found.Full → Tells program t output (Refused tableTooSmall 0) output
+  told-full y = told found.Full y (Refused tableTooSmall 0) output (refl, refl)
 
   pub told-pass : (k : ℕ) → r ≡ found.Pass k → Tells program t output (Pass k) output
   told-pass k y = told (found.Pass k) y (Pass k) output (refl, refl)
 
   module _ (x : Readable program) (k d : ℕ) where
-    pub packable : (kind : Kind) → r ≡ foundEvent kind k d → (d < 2048) × (recordBytes * (d / 2) + recordBytes ≤ length u) × Older u (d / 2 + 1)
-    packable kind y = subst (λ u. (d < 2048) × (recordBytes * (d / 2) + recordBytes ≤ length u) × Older u (d / 2 + 1)) (sym leaves)
+    pub packable : (kind : Kind) → r ≡ foundEvent kind k d → (d < mostMoves) × (recordBytes * (d / 2) + recordBytes ≤ length u) × Older u (d / 2 + 1)
+    packable kind y = subst (λ u. (d < mostMoves) × (recordBytes * (d / 2) + recordBytes ≤ length u) × Older u (d / 2 + 1)) (sym leaves)
         (event-written program (x .0) (x .1) t kind k d (sym ends ∙ y))
 
-    module _ (p : Packed) (b : drop (p .start) (p .bytes) ≡ traced (program .header) (trailOf (program .points) u d)) (l : length (p .bytes) ≡ 2050) (v : answer.Verdict) (output′ : List ℕ) where
+    module _ (p : Packed) (b : drop (p .start) (p .bytes) ≡ traced (program .header) (trailOf (program .points) u d)) (l : length (p .bytes) ≡ traceBytes) (v : answer.Verdict) (output′ : List ℕ) where
       abbrev packed-so : drop (p .start) (p .bytes) ≡ traced (program .header) (trailOf (program .points) (searchOn program t .1) d)
       packed-so = b ∙ ap (λ u. traced (program .header) (trailOf (program .points) u d)) leaves
 

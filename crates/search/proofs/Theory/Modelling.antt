@@ -5,27 +5,28 @@ use mathlib.Core.List.{List, _++_}
 use Prim.Native.Nat.{ℕ, _-_, _≤_}
 use native.Mathlib.Omega.{arith}
 use lib.ListN.{length, take, drop, length-drop}
+use Rattle.search.specs.Tracing.{traceBytes}
 use Rattle.base.proofs.Theory.Lent.{tail-lent, tail-back}
 use Rattle.shown.specs.Answer.{shownAnswer, model, Showed}
 use Rattle.shown.specs.declared.Shown.{Shown}
 use Rattle.shown.specs.declared.Shown.the-variants.{Model, Infeasible, Refused}
 use Rattle.search.specs.Modelling.{Modelled}
 
-module _ (bytes : List ℕ) (start : ℕ) (output : List ℕ) (r : Shown) (back : List ℕ) (b : length bytes ≡ 2050) (l : start ≤ 2050)
-    (w : Showed (take (2050 - start) (drop start bytes)) (take (length output - (2050 - start)) (drop (2050 - start) output)) r back) where
+module _ (bytes : List ℕ) (start : ℕ) (output : List ℕ) (r : Shown) (back : List ℕ) (b : length bytes ≡ traceBytes) (l : start ≤ traceBytes)
+    (w : Showed (take (traceBytes - start) (drop start bytes)) (take (length output - (traceBytes - start)) (drop (traceBytes - start) output)) r back) where
   abbrev s : List ℕ
   s = drop start bytes
 
-  long : length s ≡ 2050 - start
+  long : length s ≡ traceBytes - start
   long = simp length-drop (omega arith)
 
   at-place : Showed s (drop (length s) output) r back
   at-place = subst (λ n. Showed s (drop n output) r back) (sym long)
-      (subst (λ x. Showed s x r back) (tail-lent (2050 - start) output) (subst (λ x. Showed x (take (length output - (2050 - start)) (drop (2050 - start) output)) r back) (ap (λ n. take (n - start) (drop start bytes)) (sym b) ∙ tail-lent start bytes) w))
+      (subst (λ x. Showed s x r back) (tail-lent (traceBytes - start) output) (subst (λ x. Showed x (take (length output - (traceBytes - start)) (drop (traceBytes - start) output)) r back) (ap (λ n. take (n - start) (drop start bytes)) (sym b) ∙ tail-lent start bytes) w))
 
-  module _ (output′ : List ℕ) (e : output′ ≡ take (2050 - start) output ++ (back ++ drop (length output - (2050 - start)) (drop (2050 - start) output))) where
+  module _ (output′ : List ℕ) (e : output′ ≡ take (traceBytes - start) output ++ (back ++ drop (length output - (traceBytes - start)) (drop (traceBytes - start) output))) where
     standing : output′ ≡ take (length s) output ++ back
-    standing = e ∙ tail-back (2050 - start) output back ∙ ap (λ n. take n output ++ back) (sym long)
+    standing = e ∙ tail-back (traceBytes - start) output back ∙ ap (λ n. take n output ++ back) (sym long)
 
     pub modelled-yes : (k : ℕ) → r ≡ Model k → Modelled s output true output′
     modelled-yes k f = record { shown = r; behind = back; showed = at-place; stands = standing; yes = λ _. (k, ap shownAnswer f); no = λ x. absurd (let z : _≡_ {A = ℕ} 0 1 = cc in omega arith) }

@@ -5,6 +5,7 @@ use Prim.Native.Nat.{ℕ, _*_, _≤_}
 use lib.Dec.{eqb}
 use lib.ListN.{length}
 use borrow.Author.Tests.{eqb-true}
+use Rattle.letters.specs.Capacity.{mostPairs}
 use Rattle.base.proofs.Theory.Choice.{byTest}
 use Rattle.letters.specs.Editions.{Edition}
 use Rattle.semantics.specs.Terms.{begin}
@@ -36,7 +37,7 @@ module _ (given : Given) (n : ℕ) where
     ended-told (found.Breaking k d) u y answer output′ z = concluded-event given n breaking k d u y edition output answer output′ z
     ended-told (found.Failing k d) u y answer output′ z = concluded-event given n failing k d u y edition output answer output′ z
 
-  module _ (t : List ℕ) (most : n ≤ 1024) (room : recordBytes * n ≤ length t) where
+  module _ (t : List ℕ) (most : n ≤ mostPairs) (room : recordBytes * n ≤ length t) where
     abbrev ending : Search × List ℕ
     ending = searchOf (header given) (held given) (end given) n t
 

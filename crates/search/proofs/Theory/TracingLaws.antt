@@ -10,11 +10,12 @@ use Rattle.letters.specs.declared.Letter.{Letter}
 use Rattle.letters.specs.Editions.{firstEdition}
 use Rattle.letters.specs.Encoding.{encodeHeader, encodeLetter}
 use Rattle.letters.specs.Putting.{putWord}
+use Rattle.refusals.specs.Order.{mostPoints}
 use Rattle.blocks.specs.declared.Point.{Point}
 use Rattle.table.specs.Table.{pointAt, parentAt, branchAt}
 use Rattle.exploration.specs.Moves.{moveOf, letterOf, noPoint}
 use Rattle.search.specs.Trails.{letterAt, trailTo, trailOf}
-use Rattle.search.specs.Tracing.{Older, wordOf, wordBytes, letterWords, traced}
+use Rattle.search.specs.Tracing.{Older, wordOf, wordBytes, letterWords, traced, traceBytes, lastLetter}
 
 -- a word in front of what stands behind it
 pub put-drop : (b : List ℕ) (at w : ℕ) → at + 1 < length b → drop at (putWord b at w) ≡ w / 256 ∷ w % 256 ∷ drop (at + 2) b
@@ -76,16 +77,16 @@ trail-end sp t rest zero e = refl
 trail-end sp t rest (suc j) e = absurd (omega arith)
 
 -- the letter of a branch of the point of pair i
-pub letter-is : (sp : List Point) (t : List ℕ) (i b k : ℕ) (a : Letter) → k ≡ pointAt t i → a ≡ letterOf (moveOf (getD sp (k % 256) noPoint) b) → a ≡ letterAt sp t i b
+pub letter-is : (sp : List Point) (t : List ℕ) (i b k : ℕ) (a : Letter) → k ≡ pointAt t i → a ≡ letterOf (moveOf (getD sp (k % mostPoints) noPoint) b) → a ≡ letterAt sp t i b
 unfolding letterAt
-letter-is sp t i b k a e f = f ∙ ap (λ n. letterOf (moveOf (getD sp (n % 256) noPoint) b)) e
+letter-is sp t i b k a e f = f ∙ ap (λ n. letterOf (moveOf (getD sp (n % mostPoints) noPoint) b)) e
 
 -- ── as the loop stores them ──
 module _ (h : Header) (b : List ℕ) (w : ℕ) where
   -- the last letter
-  pub first-stored : length b ≡ 2050 → (a : Letter) → w ≡ wordOf (encodeLetter firstEdition h a) → drop 2048 (set (set b 2048 (w / 256)) 2049 (w % 256)) ≡ wordBytes (letterWords h (a ∷ []))
+  pub first-stored : length b ≡ traceBytes → (a : Letter) → w ≡ wordOf (encodeLetter firstEdition h a) → drop lastLetter (set (set b lastLetter (w / 256)) (lastLetter + 1) (w % 256)) ≡ wordBytes (letterWords h (a ∷ []))
   unfolding wordBytes
-  first-stored l a f = letter-before h b 2048 [] (drop-of-length-le b {i = 2050} (omega arith)) (omega arith) a w f
+  first-stored l a f = letter-before h b lastLetter [] (drop-of-length-le b {i = traceBytes} (omega arith)) (omega arith) a w f
 
   -- a letter, or the header, before what stands from `at` on
   module _ (at : ℕ) (rest : List Letter) (e : drop at b ≡ wordBytes (letterWords h rest)) (p : 2 ≤ at) (q : at ≤ length b) where

@@ -4,6 +4,7 @@ use borrow.Author.Needs.{needs}
 use Prim.Native.Nat.{_+_, _-_, _≤_}
 use lib.ListN.{length, drop, length-drop}
 use lib.Seq.{getD-drop}
+use Rattle.search.specs.Tracing.{traceBytes}
 use Rattle.base.proofs.Theory.Laid.{laid, laid-none, laid-more, laid-all}
 use Rattle.search.proofs.copy_from.Statement.{statement}
 use Rattle.search.proofs.copy_from.Tie as tie
@@ -11,7 +12,7 @@ use Rattle.search.proofs.copy_from.Reads as reads
 use Rattle.search.proofs.copy_from.Lts as lts
 
 abbrev Inv-loop : tie.InvT-loop
-Inv-loop start output₀ bytes n i₀ output i = (i ≤ n) × (n + start ≡ 2050) × (length bytes ≡ 2050) × (n ≤ length output₀) × (length output ≡ length output₀) × (output ≡ laid i (drop start bytes) output₀)
+Inv-loop start output₀ bytes n i₀ output i = (i ≤ n) × (n + start ≡ traceBytes) × (length bytes ≡ traceBytes) × (n ≤ length output₀) × (length output ≡ length output₀) × (output ≡ laid i (drop start bytes) output₀)
 
 abbrev μ-loop : tie.MeasureT-loop
 μ-loop start output₀ bytes n i₀ output i = n - i

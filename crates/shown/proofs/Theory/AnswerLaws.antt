@@ -12,12 +12,14 @@ use Rattle.letters.specs.declared.Header.{Header}
 use Rattle.letters.specs.declared.Letter.{Letter}
 use Rattle.traces.specs.declared.HeaderRead.{HeaderRead}
 use Rattle.traces.specs.declared.HeaderRead.the-variants as header-read
-use Rattle.letters.specs.Editions.{firstEdition}
+use Rattle.letters.specs.Editions.{firstEdition, mostLetters, mostRegisters}
 use Rattle.letters.specs.Answers as letters
 use Rattle.traces.specs.Answers.{beginningAnswer}
 use Rattle.letters.proofs.Theory.WordLaws.{first-roomy}
 use Rattle.traces.specs.Reading.{Reading, trace, refused, beginning, letterCount, lettersOf, readingWhere}
 use Rattle.traces.specs.ReadingParts.{readingWithin}
+use Rattle.closure.specs.Limits.{mostTerms}
+use Rattle.letters.specs.RefusalNumbers.{letterMalformed, outputTooSmall, traceTooLong}
 use Rattle.traces.proofs.Theory.TraceLaws.{reading-fits}
 use Rattle.semantics.specs.Terms.{State, Term, con, begin, state, traceOf}
 use Rattle.semantics.specs.Models.{Feasible}
@@ -45,7 +47,7 @@ use Rattle.shown.proofs.Theory.Meaning.{classes-count, value-is}
 use Rattle.shown.specs.Meaning.{rowAt}
 use Rattle.shown.specs.Listing.{ListedAll}
 use Rattle.shown.specs.Inserted.{inserted}
-use Rattle.shown.specs.Bytes.{rowFor, RowIn, Writable, tablesIn}
+use Rattle.shown.specs.Bytes.{rowFor, RowIn, Writable, tablesIn, valueRange, modelLength}
 use Rattle.shown.proofs.Theory.Bytes.{map-length}
 use Rattle.shown.specs.Fitting.{Puttable, Put, too-large, fitting}
 use Rattle.shown.specs.Answer.{model, infeasible, shownAnswer, modelBytes, answerTo, outputAfter, Means, Showed, Known, Modelled, Stopped, well, ill}
@@ -68,7 +70,7 @@ module _ (h : Header) (function first second representative : List ℕ) (n : ℕ
   w = k .computed
 
   module _ (values rows : List ℕ) (c r : ℕ) (v : Valued representative n values c) (l : ListedAll representative function first second (h .registers) n rows r) where
-    value-small : (i : ℕ) → i < n → getD values i 0 < 2048
+    value-small : (i : ℕ) → i < n → getD values i 0 < valueRange
     unfolding valueAt
     value-small i b =
         let e = v .at-each i b in
@@ -93,12 +95,12 @@ module _ (h : Header) (function first second representative : List ℕ) (n : ℕ
           result-below = value-small i b;
         }
 
-    rows-few : (r ≤ 1032) × (h .registers ≤ 8)
-    rows-few = let a = l .few in let f = w .formed .within in (omega arith, w .eight)
+    rows-few : (r ≤ mostTerms) × (h .registers ≤ mostRegisters)
+    rows-few = let a = l .few in let f = w .formed .within in (omega arith, w .registers-few)
 
-    writable : (room : ℕ) → 4 + 2 * h .registers + 5 * r ≤ room → Writable h values function first second rows c r room
+    writable : (room : ℕ) → modelLength h r ≤ room → Writable h values function first second rows c r room
     writable room b = record {
-      few = w .eight;
+      few = w .registers-few;
       rows-few = rows-few .0;
       count-small = let e = v .count in let d = classes-le representative n in let f = w .formed .within in omega arith;
       values-long = v .long;
@@ -141,18 +143,18 @@ module _ (h : Header) (function first second representative : List ℕ) (n : ℕ
       unfolding modelBytes
       bytes-are = λ j. packTables firstEdition (sym e j) (tables-are j)
 
-      bytes-long : length (modelBytes σ) ≡ 4 + 2 * h .registers + 5 * r
+      bytes-long : length (modelBytes σ) ≡ modelLength h r
       unfolding tablesIn
       bytes-long = ap length (sym bytes-are) ∙ packed-length firstEdition h (tablesIn h values function first second rows c r)
-          ∙ (let a = length-take-le (h .registers) values (let a = v .long in let b = w .eight in omega arith) in
+          ∙ (let a = length-take-le (h .registers) values (let a = v .long in let b = w .registers-few in omega arith) in
           let b = map-length (rowFor values function first second) (take r rows) ∙ length-take-le r rows (let a = l .room in let b = rows-few .0 in omega arith) in omega arith)
 
-    too-long : (out : List ℕ) → length out < 4 + 2 * h .registers + 5 * r → Modelled h function first second representative n out (shown.Refused 6 0) out
+    too-long : (out : List ℕ) → length out < modelLength h r → Modelled h function first second representative n out (shown.Refused outputTooSmall 0) out
     unfolding Modelled
     too-long out b σ e x = let q = bytes-long σ e x in let t = lt-leb (length (modelBytes σ)) (length out) (omega arith) in (rw t, rw t)
 
-    fits-in : (out out′ : List ℕ) → 4 + 2 * h .registers + 5 * r ≤ length out → out′ ≡ inserted 0 (packTables firstEdition h (tablesIn h values function first second rows c r)) out
-        → Modelled h function first second representative n out (shown.Model (4 + 2 * h .registers + 5 * r)) out′
+    fits-in : (out out′ : List ℕ) → modelLength h r ≤ length out → out′ ≡ inserted 0 (packTables firstEdition h (tablesIn h values function first second rows c r)) out
+        → Modelled h function first second representative n out (shown.Model (modelLength h r)) out′
     unfolding Modelled inserted
     fits-in out out′ b g σ e x =
         let q = bytes-long σ e x in
@@ -165,8 +167,8 @@ module _ (h : Header) (function first second representative : List ℕ) (n : ℕ
 
 -- ---- what the run of a trace gives
 module _ (s : List ℕ) (h : Header) (n : ℕ) (r : run.Begun s h n) (out : List ℕ) where
-  ran-malformed : {function first second representative : List ℕ} {o : Outcome} (k : ℕ) → run.Ran s h n function first second representative o → o ≡ outcome.Malformed k → lettersOf firstEdition h s ≡ refused 4 k
-  ran-malformed k (run.malformed j e) q = let z : j ≡ k = cc in e ∙ ap (refused 4) z
+  ran-malformed : {function first second representative : List ℕ} {o : Outcome} (k : ℕ) → run.Ran s h n function first second representative o → o ≡ outcome.Malformed k → lettersOf firstEdition h s ≡ refused letterMalformed k
+  ran-malformed k (run.malformed j e) q = let z : j ≡ k = cc in e ∙ ap (refused letterMalformed) z
   ran-malformed k (run.infeasible j ls e f p) q = let z : _≡_ {A = ℕ} 0 1 = cc in absurd (omega arith)
   ran-malformed k (run.feasible j ls e i c) q = let z : _≡_ {A = ℕ} 0 1 = cc in absurd (omega arith)
 
@@ -184,12 +186,12 @@ module _ (s : List ℕ) (h : Header) (n : ℕ) (r : run.Begun s h n) (out : List
   ran-feasible {function} {first} {second} {representative} k (run.feasible j ls e i c) q = let z : j ≡ k = cc in (ls, e, i, subst (Computed (state (traceOf h ls)) function first second representative (h .registers)) z c)
 
   -- the answer to a reading
-  showed-unread : (a b : ℕ) → readingWithin 1024 firstEdition s ≡ refused a b → Showed s out (shown.Refused a b) out
+  showed-unread : (a b : ℕ) → readingWithin mostLetters firstEdition s ≡ refused a b → Showed s out (shown.Refused a b) out
   unfolding answerTo outputAfter
   showed-unread a b x = showed s out (shown.Refused a b) out (rw x) (rw x)
 
-  pub showed-malformed : {function first second representative : List ℕ} {o : Outcome} (k : ℕ) → run.Ran s h n function first second representative o → o ≡ outcome.Malformed k → Showed s out (shown.Refused 4 k) out
-  showed-malformed k d q = showed-unread 4 k (read-within s h n r ∙ ran-malformed k d q)
+  pub showed-malformed : {function first second representative : List ℕ} {o : Outcome} (k : ℕ) → run.Ran s h n function first second representative o → o ≡ outcome.Malformed k → Showed s out (shown.Refused letterMalformed k) out
+  showed-malformed k d q = showed-unread letterMalformed k (read-within s h n r ∙ ran-malformed k d q)
 
   -- a letter that makes the beginning infeasible is the first of the whole trace
   first-of-all : (ls more : List Letter) (k : ℕ) → 1 ≤ k → lettersOf firstEdition h s ≡ trace h (ls ++ more) → FailsAt (λ π. Feasible (state π)) (traceOf h ls) k → k ≡ firstInfeasible (traceOf h (ls ++ more))
@@ -209,7 +211,7 @@ module _ (s : List ℕ) (h : Header) (n : ℕ) (r : run.Begun s h n) (out : List
   pub showed-stopped : {function first second representative : List ℕ} {o : Outcome} (k : ℕ) → run.Ran s h n function first second representative o → o ≡ outcome.Infeasible k
       → (a : Shown) → Stopped h (run.restOf s h n k) k a → Showed s out a out
   showed-stopped k d q a (well more y) = let (ls, e, f, p) = ran-infeasible k d q in let g = e ∙ ap (run.behind ls) y in showed-first (ls ++ more) k g (first-of-all ls more k p g f) p
-  showed-stopped k d q a (ill b y) = let (ls, e, f, p) = ran-infeasible k d q in showed-unread 4 b (read-within s h n r ∙ e ∙ ap (run.behind ls) y)
+  showed-stopped k d q a (ill b y) = let (ls, e, f, p) = ran-infeasible k d q in showed-unread letterMalformed b (read-within s h n r ∙ e ∙ ap (run.behind ls) y)
 
   module _ {function first second representative : List ℕ} {o : Outcome} (k : ℕ) (d : run.Ran s h n function first second representative o) (q : o ≡ outcome.Feasible k) where
     pub known : Known h function first second representative k
@@ -224,7 +226,7 @@ module _ (s : List ℕ) (h : Header) (n : ℕ) (r : run.Begun s h n) (out : List
         let (y, z) = f (state (traceOf h ls)) (extend-header (begin h) ls) c in
         showed s out a out′ (rw (x, t) y) (rw (x, t) z)
 
-pub stopped : (h : Header) (x : Reading) (k b : ℕ) → run.RestRead h x b → (b ≡ 0 → Stopped h x k (shown.Infeasible k)) × (b ≢ 0 → Stopped h x k (shown.Refused 4 b))
+pub stopped : (h : Header) (x : Reading) (k b : ℕ) → run.RestRead h x b → (b ≡ 0 → Stopped h x k (shown.Infeasible k)) × (b ≢ 0 → Stopped h x k (shown.Refused letterMalformed b))
 stopped h x k b (run.all-read ls e) = ((λ _. well ls e), (λ z. absurd (z refl)))
 stopped h x k b (run.broken p l e) = ((λ z. absurd (omega arith)), (λ _. ill p e))
 
@@ -238,14 +240,14 @@ module _ (s : List ℕ) (d : HeaderRead) (e : beginningAnswer d ≡ beginning fi
     header-is : beginning firstEdition s ≡ letters.value h
     header-is = sym e ∙ ap beginningAnswer q
 
-    pub bytes-enough : 2 ≤ length s
+    pub bytes-enough : firstEdition .bytes ≤ length s
     bytes-enough = headed s h header-is .enough
 
-    pub showed-long : 1024 < letterCount firstEdition s → Showed s out (shown.Refused 5 0) out
+    pub showed-long : mostLetters < letterCount firstEdition s → Showed s out (shown.Refused traceTooLong 0) out
     unfolding answerTo outputAfter readingWhere
-    showed-long b = let t = lt-ltb 1024 (letterCount firstEdition s) b in showed s out (shown.Refused 5 0) out (rw (header-is, t)) (rw (header-is, t))
+    showed-long b = let t = lt-ltb mostLetters (letterCount firstEdition s) b in showed s out (shown.Refused traceTooLong 0) out (rw (header-is, t)) (rw (header-is, t))
 
-    pub begun : letterCount firstEdition s ≤ 1024 → run.Begun s h (letterCount firstEdition s)
+    pub begun : letterCount firstEdition s ≤ mostLetters → run.Begun s h (letterCount firstEdition s)
     begun b = record { header = header-is; letters = refl; few = b }
 
 -- A model that was written lies in the output.

@@ -10,6 +10,7 @@ use lib.ListN.{length, getD, set, length-set}
 use lib.Seq.{getD-set-same, getD-set-other}
 use borrow.Author.Tests.{eqb-true, eqb-false}
 use Rattle.base.proofs.Theory.Choice.{byTest}
+use Rattle.closure.specs.Limits.{chainCount, mostTerms}
 use Rattle.semantics.specs.Terms.{State}
 use Rattle.closure.specs.Arrays.{Below, Formed, Indexed, signatureAt}
 use Rattle.closure.proofs.Theory.Entering.{chains-none, complete-none}
@@ -44,12 +45,12 @@ pub record ListedBelow (representative function first second : List ℕ) (regist
   pub most : i ≤ n
   pub few : r + registers ≤ i
   pub indexed : Indexed representative function first second registers i head link
-  pub room : length rows ≡ 1032
+  pub room : length rows ≡ mostTerms
   pub entries : (k : ℕ) → k < r → (registers ≤ getD rows k 0) × (getD rows k 0 < i)
   pub listed : (σ : State) (w : Computed σ function first second representative registers n) → Listed σ function first second representative registers n w rows r i
 
 module _ {representative function first second : List ℕ} {registers n : ℕ} where
-  pub listed-start : (head link rows : List ℕ) → Listable representative function first second registers n rows → length head ≡ 1021 → ((b : ℕ) → getD head b 0 ≡ 0) → Blank link
+  pub listed-start : (head link rows : List ℕ) → Listable representative function first second registers n rows → length head ≡ chainCount → ((b : ℕ) → getD head b 0 ≡ 0) → Blank link
       → ListedBelow representative function first second registers n registers head link rows 0
   listed-start head link rows l h z b = record {
     least = omega arith;
@@ -61,7 +62,7 @@ module _ {representative function first second : List ℕ} {registers n : ℕ} w
     listed = λ σ w. listed-none σ function first second representative registers n w rows;
   }
 
-  pub listed-turn : (i r b : ℕ) (head link rows head′ link′ : List ℕ) → ListedBelow representative function first second registers n i head link rows r → i < n → n ≤ 1032 → NewRow representative function first second registers i head′ link′ b
+  pub listed-turn : (i r b : ℕ) (head link rows head′ link′ : List ℕ) → ListedBelow representative function first second registers n i head link rows r → i < n → n ≤ mostTerms → NewRow representative function first second registers i head′ link′ b
       → ListedBelow representative function first second registers n (i + 1) head′ link′ (set rows r i) (r + b)
   listed-turn i r b head link rows head′ link′ l h u new = record {
     least = let a = l .least in omega arith;

@@ -11,11 +11,13 @@ use Rattle.base.specs.Choice.{pick}
 use Rattle.base.proofs.Theory.Choice.{byTest}
 use Rattle.letters.specs.declared.Header.{Header}
 use Rattle.letters.specs.declared.Letter.{Letter}
-use Rattle.letters.specs.Editions.{Edition, firstEdition, mostLetters}
+use Rattle.letters.specs.Editions.{Edition, firstEdition, mostLetters, mostFunctions, mostRegisters}
 use Rattle.letters.specs.Answers as letters
 use Rattle.letters.proofs.Theory.WordLaws.{first-roomy}
 use Rattle.traces.specs.Reading.{Reading, trace, refused, reading, readingWhere, beginning, lettersOf, letterIn, letterCount, parts}
 use Rattle.traces.specs.ReadingParts.{readingWithin}
+use Rattle.closure.specs.Limits.{mostTerms}
+use Rattle.letters.specs.RefusalNumbers.{traceTooLong}
 use Rattle.traces.proofs.Theory.TraceLaws.{not-trace, reading-fits, letters-decoded, decoded-length, parts-length}
 use Rattle.semantics.specs.Terms.{Trace, State, begin, state, traceOf}
 use Rattle.semantics.proofs.Theory.TraceLaws.{extend-header, extend-size, terms-length, all-formed}
@@ -48,7 +50,7 @@ module _ (limit : ℕ) (e : Edition) (s : List ℕ) (h : Header) (ls : List Lett
   unfolding readingWhere lettersOf
   within q = go (beginning e s) q
     where
-      go : (a : letters.Answer Header) → letters.onAnswer a (λ g. pick (ltb limit (letterCount e s)) (λ _. refused 5 0) λ _. lettersOf e g s) refused ≡ trace h ls
+      go : (a : letters.Answer Header) → letters.onAnswer a (λ g. pick (ltb limit (letterCount e s)) (λ _. refused traceTooLong 0) λ _. lettersOf e g s) refused ≡ trace h ls
           → (letters.onAnswer a (λ g. lettersOf e g s) refused ≡ trace h ls) × (length ls ≤ limit)
       go (letters.refusal a b) q = absurd (not-trace q)
       go (letters.value g) q = byTest (ltb limit (letterCount e s))
@@ -89,9 +91,9 @@ module _ (s : List ℕ) (h : Header) (ls : List Letter) (q : readingWithin mostL
   unfolding modelBytes
   read-back =
       let t = is-trace in
-      let functions : σ .header .functions ≤ 4 = rw same-header (t .header .functions) in
-      let registers : σ .header .registers ≤ 8 = rw same-header (t .header .registers) in
-      let few : length (σ .terms) ≤ 1032 = omega (arith, t .few, terms-length (traceOf h ls), extend-size (begin h) ls) in
+      let functions : σ .header .functions ≤ mostFunctions = rw same-header (t .header .functions) in
+      let registers : σ .header .registers ≤ mostRegisters = rw same-header (t .header .registers) in
+      let few : length (σ .terms) ≤ mostTerms = omega (arith, t .few, terms-length (traceOf h ls), extend-size (begin h) ls) in
       let valid = state-valid (traceOf h ls) (t .formed) in
       let packable = shown-packable firstEdition σ valid (applications-fit (traceOf h ls) (t .formed)) refl functions (omega arith) (omega arith) in
       ap (λ (g : Header). readTables firstEdition g (modelBytes σ)) (sym same-header) ∙ read-packed firstEdition (σ .header) (tablesOf σ) packable

@@ -4,6 +4,8 @@ use mathlib.Core.Logic.{_≢_}
 use mathlib.Core.List.{List}
 use Prim.Native.Nat.{ℕ, suc, _≤_, _<_}
 use native.Mathlib.Omega.{arith}
+use Rattle.letters.specs.Editions.{mostFunctions}
+use Rattle.closure.specs.Limits.{mostTerms}
 use Rattle.closure.specs.Index.{Entered}
 use Rattle.closure.specs.Arrays.{at, Formed, Indexed, Argument, signatureAt}
 use Rattle.closure.proofs.Theory.Entering.{readable, readable-at}
@@ -16,7 +18,7 @@ new-le representative function first second registers i b (old m p h a) = omega 
 
 -- as `new_row` finds it
 module _ (representative function first second : List ℕ) (registers i : ℕ) (fm : Formed representative function first second registers (suc i)) (least : registers ≤ i) (head link : List ℕ) (index : Indexed representative function first second registers i head link) where
-  pub row-readable : (i < 1032) × (at function i < 4) × Argument representative (at first i) × Argument representative (at second i)
+  pub row-readable : (i < mostTerms) × (at function i < mostFunctions) × Argument representative (at first i) × Argument representative (at second i)
   row-readable = readable-at i (readable (suc i) fm (fm .more) (omega arith)) (omega arith)
 
   module _ (c r : ℕ) (e : c ≡ signatureAt representative function first second i) (head′ link′ : List ℕ) (w : Entered (signatureAt representative function first second) registers i c head link r head′ link′) where

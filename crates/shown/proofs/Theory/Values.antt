@@ -9,6 +9,7 @@ use lib.Dec.{eqb}
 use lib.ListN.{getD}
 use borrow.Author.Tests.{eqb-true, eqb-false, eq-eqb, ne-eqb}
 use Rattle.base.proofs.Theory.Choice.{byTest}
+use Rattle.closure.specs.Limits.{mostTerms}
 use Rattle.base.proofs.Theory.Written.{Written}
 use Rattle.shown.specs.Values.{classesBelow, valueAt, newClass, chosen, Valued}
 
@@ -50,7 +51,7 @@ classes-none l = refl
 
 module _ (representative : List ℕ) (n : ℕ) (lowest : (i : ℕ) → i < n → getD representative i 0 ≤ i) (own : (i : ℕ) → i < n → getD representative (getD representative i 0) 0 ≡ getD representative i 0) where
   -- one turn of the loop
-  pub chosen-is : (values : List ℕ) (i next : ℕ) → i < n → Written (valueAt representative) 0 1032 i values → next ≡ suc (classesBelow representative i) → chosen representative values i next ≡ valueAt representative i
+  pub chosen-is : (values : List ℕ) (i next : ℕ) → i < n → Written (valueAt representative) 0 mostTerms i values → next ≡ suc (classesBelow representative i) → chosen representative values i next ≡ valueAt representative i
   unfolding chosen valueAt
   chosen-is values i next h w e = byTest (eqb (getD representative i 0) i)
       (λ t. rw (t, e) (ap (λ j. suc (classesBelow representative j)) (sym (eqb-true (getD representative i 0) i t))))
@@ -61,7 +62,7 @@ module _ (representative : List ℕ) (n : ℕ) (lowest : (i : ℕ) → i < n →
 pub next-is : (representative : List ℕ) (i next v : ℕ) → next ≡ suc (classesBelow representative i) → v ≡ newClass representative i → next + v ≡ suc (classesBelow representative (i + 1))
 next-is representative i next v e g = let h = classes-more representative i in omega arith
 
-pub valued-end : (representative : List ℕ) (n i : ℕ) (values : List ℕ) (next : ℕ) → i ≤ n → n ≤ i → Written (valueAt representative) 0 1032 i values → next ≡ suc (classesBelow representative i) → Valued representative n values next
+pub valued-end : (representative : List ℕ) (n i : ℕ) (values : List ℕ) (next : ℕ) → i ≤ n → n ≤ i → Written (valueAt representative) 0 mostTerms i values → next ≡ suc (classesBelow representative i) → Valued representative n values next
 valued-end representative n i values next h g w e = record {
   at-each = λ k b. w .at k (omega arith);
   long = w .long;

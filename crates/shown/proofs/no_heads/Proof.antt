@@ -1,4 +1,5 @@
 use borrow.Author.Needs.{needs}
+use Rattle.closure.specs.Limits.{chainCount}
 use Rattle.closure.proofs.Theory.Clashing.{zeros}
 use Rattle.shown.proofs.no_heads.Statement.{statement}
 use Rattle.shown.proofs.no_heads.Tie as tie
@@ -7,4 +8,4 @@ pub no-heads-spec : {M : Type 1} → statement M
 no-heads-spec =
     tie.close
     (tie.spec
-    (λ c. (search needs, zeros 1021)))
+    (λ c. (search needs, zeros chainCount)))

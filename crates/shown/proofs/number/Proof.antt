@@ -2,6 +2,7 @@ use Prim.Native.Nat.{suc, _-_, _≤_}
 use native.Mathlib.Omega.{arith}
 use mathlib.Core.Path.{_≡_, _∙_}
 use borrow.Author.Needs.{needs}
+use Rattle.closure.specs.Limits.{mostTerms}
 use Rattle.base.proofs.Theory.Written.{Written, written-none, written-more}
 use Rattle.shown.specs.Values.{valueAt, classesBelow}
 use Rattle.shown.proofs.Theory.Values.{classes-none, classes-le, chosen-is, new-class-le, next-is, valued-end}
@@ -9,7 +10,7 @@ use Rattle.shown.proofs.number.Statement.{statement}
 use Rattle.shown.proofs.number.Tie as tie
 
 abbrev Inv-loop : tie.InvT-loop
-Inv-loop representative count values₀ next₀ i₀ values next i = (i ≤ count) × Written (valueAt representative) 0 1032 i values × (next ≡ suc (classesBelow representative i))
+Inv-loop representative count values₀ next₀ i₀ values next i = (i ≤ count) × Written (valueAt representative) 0 mostTerms i values × (next ≡ suc (classesBelow representative i))
 
 abbrev μ-loop : tie.MeasureT-loop
 μ-loop representative count values₀ next₀ i₀ values next i = count - i

@@ -3,13 +3,14 @@ use native.Mathlib.Omega.{arith}
 use mathlib.Core.Path.{sym, subst}
 use lib.ListN.{take}
 use borrow.Author.Needs.{needs}
+use Rattle.semantics.specs.PackedTables.{rowBytes}
 use Rattle.shown.proofs.Theory.Bytes.{UnitsDone, units-none, rows-room, rows-turn, rows-end}
 use Rattle.shown.specs.Bytes.{RowIn, wordsFor}
 use Rattle.shown.proofs.write_rows.Statement.{statement}
 use Rattle.shown.proofs.write_rows.Tie as tie
 
 abbrev Inv-loop : tie.InvT-loop
-Inv-loop header values function first second rows r out₀ at k₀ out k = (k ≤ r) × UnitsDone 5 at (wordsFor header values function first second (take r rows)) out₀ out k
+Inv-loop header values function first second rows r out₀ at k₀ out k = (k ≤ r) × UnitsDone rowBytes at (wordsFor header values function first second (take r rows)) out₀ out k
 
 abbrev μ-loop : tie.MeasureT-loop
 μ-loop header values function first second rows r out₀ at k₀ out k = r - k

@@ -2,12 +2,13 @@ use Prim.Native.Nat.{_-_, _≤_}
 use native.Mathlib.Omega.{arith}
 use lib.ListN.{take}
 use borrow.Author.Needs.{needs}
+use Rattle.semantics.specs.PackedTables.{wordBytes}
 use Rattle.shown.proofs.Theory.Bytes.{UnitsDone, units-none, starts-room, starts-turn, starts-end}
 use Rattle.shown.proofs.write_starts.Statement.{statement}
 use Rattle.shown.proofs.write_starts.Tie as tie
 
 abbrev Inv-loop : tie.InvT-loop
-Inv-loop values registers out₀ at i₀ out i = (i ≤ registers) × UnitsDone 2 at (take registers values) out₀ out i
+Inv-loop values registers out₀ at i₀ out i = (i ≤ registers) × UnitsDone wordBytes at (take registers values) out₀ out i
 
 abbrev μ-loop : tie.MeasureT-loop
 μ-loop values registers out₀ at i₀ out i = registers - i

@@ -1,4 +1,5 @@
 use borrow.Author.Needs.{needs}
+use Rattle.closure.specs.Limits.{mostTerms}
 use Rattle.closure.proofs.Theory.Clashing.{zeros}
 use Rattle.shown.proofs.zeros.Statement.{statement}
 use Rattle.shown.proofs.zeros.Tie as tie
@@ -7,4 +8,4 @@ pub zeros-spec : {M : Type 1} → statement M
 zeros-spec =
     tie.close
     (tie.spec
-    (λ c. record { long = search needs; zero = zeros 1032 }))
+    (λ c. record { long = search needs; zero = zeros mostTerms }))

@@ -3,6 +3,7 @@ use mathlib.Core.Path.{_≡_, refl, ap, _∙_}
 use native.Mathlib.Omega.{arith}
 use lib.ListN.{length, drop}
 use borrow.Author.Needs.{needs}
+use Rattle.letters.specs.RefusalNumbers.{letterMalformed}
 use Rattle.window.specs.Parts.{parts, Shaped}
 use Rattle.monitoring.specs.declared.Verdict.the-variants.{Judged, Refused}
 use Rattle.monitoring.specs.Run.{runOf}
@@ -51,7 +52,7 @@ take-tables-spec = tie.close (tie.spec
     let l = at-loop .loop in
     let a = at-start .args in
     c .run-of .ensures
-    ∙ ap (λ w. runOf (a .header) w (l .fine) (l .count) (Refused 4 (at-number .next-number .result))) (c .before .window-of .ensures)
+    ∙ ap (λ w. runOf (a .header) w (l .fine) (l .count) (Refused letterMalformed (at-number .next-number .result))) (c .before .window-of .ensures)
     ∙ taken-malformed (a .header) (parts (l .class) (l .unequal) (l .result) (l .ever) (l .mark) (l .bad)) (l .fine) (l .count) (l .one) (l .two)
     (a .bytes .now) (l .i) _ (l .inv .2) _ _ _ (at-test .loop-test .taken)
     (at-word .word .ensures) (at-decode .decode-letter .ensures) (at-number .next-number .ensures) (at-told .enum-told .given .1))
