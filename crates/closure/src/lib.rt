@@ -163,7 +163,8 @@ pub fn enter(
     count: usize,
     c: usize,
 ) -> usize
-    requires { ⌜ Readable (now representative) (now function) (now first) (now second) registers count × (count < mostTerms) × Chains count (now head) (now link) ⌝ }
+    requires { ⌜ Readable (now representative) (now function) (now first) (now second) registers count × (count < mostTerms)
+        × Chains count (now head) (now link) ⌝ }
     ensures { λ r. ⌜ Entered (signatureAt (now (representative .entry)) (now (function .entry)) (now (first .entry)) (now (second .entry))) registers count c (now (head .entry)) (now (link .entry)) r (now (head .exit)) (now (link .exit)) ⌝ }
 {
     let chain = c % CHAINS;
@@ -410,14 +411,9 @@ pub fn merge(
 }
 
 /// Whether the two sides of one of the first m unequal tests are in one class. Those of the first `from` are known to be in two.
-pub fn clash(
-    representative: &Numbers,
-    left: &Sides,
-    right: &Sides,
-    from: usize,
-    m: usize,
-) -> bool
-    requires { ⌜ (from ≤ m) × (m ≤ mostLetters) × Below mostTerms m (now left) × Below mostTerms m (now right) × Parts (now representative) (now left) (now right) from ⌝ }
+pub fn clash(representative: &Numbers, left: &Sides, right: &Sides, from: usize, m: usize) -> bool
+    requires { ⌜ (from ≤ m) × (m ≤ mostLetters) × Below mostTerms m (now left) × Below mostTerms m (now right)
+        × Parts (now representative) (now left) (now right) from ⌝ }
     ensures { λ r. ⌜ Clashes (now (representative .entry)) (now (left .entry)) (now (right .entry)) m r ⌝ }
 {
     let mut i = from;

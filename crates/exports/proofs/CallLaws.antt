@@ -18,6 +18,7 @@ use Rattle.traces.specs.Answers.{traceAnswer, writtenAnswer}
 use Rattle.letters.specs.Editions.{firstEdition}
 use Rattle.letters.proofs.Theory.WordLaws.{first-roomy, decode-header-refused}
 use Rattle.traces.specs.Reading.{reading}
+use Rattle.letters.specs.RefusalNumbers.{headerMalformed, letterMalformed}
 use Rattle.traces.specs.Writing.{unpacking, Wrote}
 use Rattle.traces.specs.Unpacking.{Unpacked}
 use Rattle.semantics.specs.Terms.{Trace}
@@ -37,7 +38,7 @@ use Rattle.states.specs.States.{monitorSize, streamSize, streamThen, monitorIn,
 use Rattle.exports.specs.Numbers.{runNumbers}
 use Rattle.exports.specs.TraceCalls.{writtenNumbers, readNumbers, Writes, ReadsTrace}
 use Rattle.exports.specs.MonitorCalls.{monitorKind, streamKind, noState, noStateNumbers, holdsState, monitorNumbers}
-use Rattle.exports.specs.MonitorCalls.{steppedNumbers, keptOver, headerRefusal, letterRefusal}
+use Rattle.exports.specs.MonitorCalls.{steppedNumbers, keptOver}
 use Rattle.exports.specs.MonitorCalls.{KeepsStep, HoldsMonitor, StartsMonitor, StepsMonitor, HoldsStream, StartsStream, PushesStream, FinishesStream}
 use Rattle.exports.proofs.Laws.{too-short}
 
@@ -180,8 +181,8 @@ module _ (word : ℕ) (entry answer : List ℕ) where
         started = λ _ _. (k .bytes ∙ ap (λ s. keptOver s entry) (d .computed), numbers ∙ ap (λ s. steppedNumbers s ++ drop 4 answer) (d .computed));
         holds = λ _ _ h v w. holds-after r entry exit answer answer′ k numbers _ (d .taken h v w);
         refused = λ _ _ none.
-            refused-after r entry exit answer answer′ k numbers headerRefusal 0 idleOf (d .refused none .0)
-            (ap (λ (s : Stepped). s .monitor) (d .computed ∙ start-refused word headerRefusal 0 (decode-header-refused first-roomy word .1 none)));
+            refused-after r entry exit answer answer′ k numbers headerMalformed 0 idleOf (d .refused none .0)
+            (ap (λ (s : Stepped). s .monitor) (d .computed ∙ start-refused word headerMalformed 0 (decode-header-refused first-roomy word .1 none)));
       }
 
   pub step-short : length answer < 4 → StepsMonitor word entry answer entry answer
@@ -217,7 +218,7 @@ module _ (word : ℕ) (entry answer : List ℕ) where
         holds = λ _ _ ρ t a f w. holds-after r entry exit answer answer′ k numbers _ (d .taken ρ (before ρ t) a f w);
         refused = λ _ _ ρ t none.
             let (o, stays) = d .refused ρ (before ρ t) none in
-            refused-after r entry exit answer answer′ k numbers letterRefusal 0 _ o (stays ∙ same-monitor);
+            refused-after r entry exit answer answer′ k numbers letterMalformed 0 _ o (stays ∙ same-monitor);
       }
 
 -- ---- the stream

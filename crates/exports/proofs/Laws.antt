@@ -9,7 +9,7 @@ use Rattle.monitoring.specs.Run.{verdictAnswer}
 use Rattle.monitoring.specs.Stream.{answerOf}
 use Rattle.monitoring.specs.declared.Verdict.{Verdict}
 use Rattle.monitoring.specs.declared.Verdict.the-variants.{Judged, Refused}
-use Rattle.letters.specs.Editions.{firstEdition}
+use Rattle.letters.specs.Editions.{firstEdition, mostLetters}
 use Rattle.traces.specs.ReadingParts.{readingWithin}
 use Rattle.shown.specs.Answer.{shownAnswer, answerTo, outputAfter, Means, Showed}
 use Rattle.shown.specs.declared.Shown.{Shown}
@@ -76,7 +76,7 @@ pub modelled-short : (trace : List ℕ) (room : ℕ) (answer : List ℕ) → len
 unfolding modelled
 modelled-short trace room answer short = laid-short 4 _ answer short
 
-pub modelled-stored : (trace : List ℕ) (room : ℕ) (stored answer answer′ : List ℕ) (s : Shown) → shownAnswer s ≡ answerTo (readingWithin 1024 firstEdition trace) room → stored ≡ modelNumbers (shownAnswer s) → length stored ≡ 4
+pub modelled-stored : (trace : List ℕ) (room : ℕ) (stored answer answer′ : List ℕ) (s : Shown) → shownAnswer s ≡ answerTo (readingWithin mostLetters firstEdition trace) room → stored ≡ modelNumbers (shownAnswer s) → length stored ≡ 4
     → 4 ≤ length answer → answer′ ≡ stored ++ drop (length stored) answer → answer′ ≡ modelled trace room answer
 unfolding modelled
 modelled-stored trace room stored answer answer′ s e same = laid-stored 4 _ stored answer answer′ (same ∙ ap modelNumbers e)
@@ -85,7 +85,7 @@ pub output-short : (trace out answer : List ℕ) → length answer < 4 → out �
 unfolding modelOutput
 output-short trace out answer short = rw (lt-ltb (length answer) 4 short) refl
 
-pub output-shown : (trace out out′ answer : List ℕ) → 4 ≤ length answer → out′ ≡ outputAfter (readingWithin 1024 firstEdition trace) out → out′ ≡ modelOutput trace out answer
+pub output-shown : (trace out out′ answer : List ℕ) → 4 ≤ length answer → out′ ≡ outputAfter (readingWithin mostLetters firstEdition trace) out → out′ ≡ modelOutput trace out answer
 unfolding modelOutput
 output-shown trace out out′ answer room e = rw (le-ltb (length answer) 4 room) e
 

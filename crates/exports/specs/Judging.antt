@@ -8,6 +8,10 @@ use Rattle.semantics.specs.Models.{Feasible}
 use Rattle.verdicts.specs.Verdict.{Answer, pass, fail, incoherent, refused}
 use Rattle.verdicts.specs.Demand3.{Demand3}
 
+-- How many numbers the verdict is.
+abbrev pub verdictCount : ℕ
+verdictCount = 5
+
 -- The third number is 0 for pass, 1 for fail, 2 for incoherent; on a refusal the numbers behind its place are 0.
 unfoldable pub verdictNumbers : Answer → List ℕ
 verdictNumbers (pass pairs) = 0 ∷ 0 ∷ 0 ∷ pairs ∷ 0 ∷ []
@@ -17,8 +21,9 @@ verdictNumbers (refused number place) = number ∷ place ∷ 0 ∷ 0 ∷ 0 ∷ [
 
 -- `table`, `output` and `answer` are lent; `table′`, `output′` and `answer′` are what they hold afterwards.
 pub record Judging (text table output answer table′ output′ answer′ : List ℕ) : Type 0 where
-  -- An answer that has no room for five numbers: nothing is done.
-  pub short : length answer < 5 → (table′ ≡ table) × (output′ ≡ output) × (answer′ ≡ answer)
+  -- An answer that has no room for the numbers: nothing is done.
+  pub short : length answer < verdictCount → (table′ ≡ table) × (output′ ≡ output) × (answer′ ≡ answer)
   -- Else demand 3 holds of an answer whose numbers stand over the front of the slice. What the output's bytes are then read back as, for any table:
   -- `ReadBack.read-back` of crate `verdict_lines`.
-  pub judged : 5 ≤ length answer → (a : Answer) × Demand3 Feasible text table output a table′ output′ × (answer′ ≡ verdictNumbers a ++ drop 5 answer)
+  pub judged : verdictCount ≤ length answer
+      → (a : Answer) × Demand3 Feasible text table output a table′ output′ × (answer′ ≡ verdictNumbers a ++ drop verdictCount answer)

@@ -15,6 +15,7 @@ use Rattle.letters.specs.Editions.{firstEdition}
 use Rattle.letters.specs.Letters.{HeaderFits}
 use Rattle.letters.specs.Words.{headerWord, letterWord}
 use Rattle.traces.specs.Reading.{letterCount}
+use Rattle.letters.specs.RefusalNumbers.{headerMalformed, letterMalformed}
 use Rattle.semantics.specs.Terms.{Trace, begin, _▸_, state}
 use Rattle.records.specs.Records.{flag}
 use Rattle.monitoring.specs.Monitor.{outcomeAnswer, startOf, advance}
@@ -27,7 +28,7 @@ use Rattle.monitoring.specs.declared.Monitor.{Monitor}
 use Rattle.monitoring.specs.declared.Outcome.{Outcome}
 use Rattle.monitoring.specs.declared.Stepped.{Stepped}
 use Rattle.states.specs.States.{monitorSize, streamSize, monitorThen, monitorIn, streamThen, streamIn}
-use Rattle.exports.specs.Numbers.{runNumbers}
+use Rattle.exports.specs.Numbers.{runCount, runNumbers}
 
 -- the first byte of a state
 abbrev pub monitorKind : ℕ
@@ -49,6 +50,10 @@ holdsState kind size s = pick (ltb (length s) size) (λ _. false) λ _. eqb (get
 
 -- ---- a letter a call
 
+-- how many numbers a call answers
+abbrev pub stepCount : ℕ
+stepCount = 4
+
 abbrev pub outcomeNumber : Outcome → ℕ
 outcomeNumber o = onAnswer (outcomeAnswer o) (λ _. 0) λ number _. number
 
@@ -69,16 +74,9 @@ pub record KeepsStep (r : Stepped) (entry exit : List ℕ) : Type 0 where
   pub bytes : exit ≡ keptOver r entry
   pub back : outcomeAnswer (r .outcome) ≡ value tt → (getD exit 0 0 ≡ monitorKind) × (monitorIn exit ≡ r .monitor)
 
--- the refusals of document 01 that a call can give
-abbrev pub headerRefusal : ℕ
-headerRefusal = 3
-
-abbrev pub letterRefusal : ℕ
-letterRefusal = 4
-
 -- There is no monitor after a refused start: both marks are 0.
 abbrev pub refusedStart : List ℕ
-refusedStart = headerRefusal ∷ 0 ∷ 0 ∷ 0 ∷ []
+refusedStart = headerMalformed ∷ 0 ∷ 0 ∷ 0 ∷ []
 
 -- The state of the monitor after the letters of a trace.
 pub record HoldsMonitor (ρ : Trace) (s : List ℕ) : Type 0 where
@@ -86,34 +84,34 @@ pub record HoldsMonitor (ρ : Trace) (s : List ℕ) : Type 0 where
   pub monitors : Monitors ρ (monitorIn s)
 
 pub record StartsMonitor (word : ℕ) (entry answer exit answer′ : List ℕ) : Type 0 where
-  -- no room for the four numbers: nothing is done
-  pub short : length answer < 4 → (exit ≡ entry) × (answer′ ≡ answer)
+  -- no room for the numbers: nothing is done
+  pub short : length answer < stepCount → (exit ≡ entry) × (answer′ ≡ answer)
   -- no room for a monitor
-  pub none : 4 ≤ length answer → length entry < monitorSize → (exit ≡ entry) × (answer′ ≡ noStateNumbers ++ drop 4 answer)
-  pub started : 4 ≤ length answer → monitorSize ≤ length entry
-      → (exit ≡ keptOver (startOf word) entry) × (answer′ ≡ steppedNumbers (startOf word) ++ drop 4 answer)
+  pub none : stepCount ≤ length answer → length entry < monitorSize → (exit ≡ entry) × (answer′ ≡ noStateNumbers ++ drop stepCount answer)
+  pub started : stepCount ≤ length answer → monitorSize ≤ length entry
+      → (exit ≡ keptOver (startOf word) entry) × (answer′ ≡ steppedNumbers (startOf word) ++ drop stepCount answer)
   -- a header's word: the numbers are those of the monitor in the state
-  pub holds : 4 ≤ length answer → monitorSize ≤ length entry → (h : Header) → HeaderFits firstEdition h
+  pub holds : stepCount ≤ length answer → monitorSize ≤ length entry → (h : Header) → HeaderFits firstEdition h
       → headerWord firstEdition h ≡ word
-      → HoldsMonitor (begin h) exit × (answer′ ≡ monitorNumbers 0 (monitorIn exit) ++ drop 4 answer)
+      → HoldsMonitor (begin h) exit × (answer′ ≡ monitorNumbers 0 (monitorIn exit) ++ drop stepCount answer)
   -- "it refuses a header by 3": no header has that word
-  pub refused : 4 ≤ length answer → monitorSize ≤ length entry → ((h : Header) → HeaderFits firstEdition h → headerWord firstEdition h ≡ word → ⊥)
-      → (exit ≡ entry) × (answer′ ≡ refusedStart ++ drop 4 answer)
+  pub refused : stepCount ≤ length answer → monitorSize ≤ length entry → ((h : Header) → HeaderFits firstEdition h → headerWord firstEdition h ≡ word → ⊥)
+      → (exit ≡ entry) × (answer′ ≡ refusedStart ++ drop stepCount answer)
 
 pub record StepsMonitor (word : ℕ) (entry answer exit answer′ : List ℕ) : Type 0 where
-  pub short : length answer < 4 → (exit ≡ entry) × (answer′ ≡ answer)
+  pub short : length answer < stepCount → (exit ≡ entry) × (answer′ ≡ answer)
   -- no monitor's state
-  pub none : 4 ≤ length answer → holdsState monitorKind monitorSize entry ≡ false → (exit ≡ entry) × (answer′ ≡ noStateNumbers ++ drop 4 answer)
-  pub stepped : 4 ≤ length answer → holdsState monitorKind monitorSize entry ≡ true
-      → (exit ≡ keptOver (advance (monitorIn entry) word) entry) × (answer′ ≡ steppedNumbers (advance (monitorIn entry) word) ++ drop 4 answer)
+  pub none : stepCount ≤ length answer → holdsState monitorKind monitorSize entry ≡ false → (exit ≡ entry) × (answer′ ≡ noStateNumbers ++ drop stepCount answer)
+  pub stepped : stepCount ≤ length answer → holdsState monitorKind monitorSize entry ≡ true
+      → (exit ≡ keptOver (advance (monitorIn entry) word) entry) × (answer′ ≡ steppedNumbers (advance (monitorIn entry) word) ++ drop stepCount answer)
   -- a letter's word: the numbers are those of the monitor in the state afterwards
-  pub holds : 4 ≤ length answer → monitorSize ≤ length entry → (ρ : Trace) → HoldsMonitor ρ entry → (a : Letter) → Fits (state ρ .header) a
+  pub holds : stepCount ≤ length answer → monitorSize ≤ length entry → (ρ : Trace) → HoldsMonitor ρ entry → (a : Letter) → Fits (state ρ .header) a
       → letterWord firstEdition (state ρ .header) a ≡ word
-      → HoldsMonitor (ρ ▸ a) exit × (answer′ ≡ monitorNumbers 0 (monitorIn exit) ++ drop 4 answer)
+      → HoldsMonitor (ρ ▸ a) exit × (answer′ ≡ monitorNumbers 0 (monitorIn exit) ++ drop stepCount answer)
   -- "it refuses a letter by 4, place 0, its window unchanged": no letter has that word
-  pub refused : 4 ≤ length answer → monitorSize ≤ length entry → (ρ : Trace) → HoldsMonitor ρ entry
+  pub refused : stepCount ≤ length answer → monitorSize ≤ length entry → (ρ : Trace) → HoldsMonitor ρ entry
       → ((a : Letter) → Fits (state ρ .header) a → letterWord firstEdition (state ρ .header) a ≡ word → ⊥)
-      → (exit ≡ entry) × (answer′ ≡ monitorNumbers letterRefusal (monitorIn entry) ++ drop 4 answer)
+      → (exit ≡ entry) × (answer′ ≡ monitorNumbers letterMalformed (monitorIn entry) ++ drop stepCount answer)
 
 -- ---- bytes in parts of any lengths
 
@@ -137,10 +135,10 @@ pub record PushesStream (bytes entry answer exit answer′ : List ℕ) : Type 0 
   pub holds : 1 ≤ length answer → streamSize ≤ length entry → (earlier : List ℕ) → HoldsStream earlier entry → HoldsStream (earlier ++ bytes) exit
 
 pub record FinishesStream (entry answer answer′ : List ℕ) : Type 0 where
-  pub short : length answer < 4 → answer′ ≡ answer
-  pub none : 4 ≤ length answer → holdsState streamKind streamSize entry ≡ false → answer′ ≡ noStateNumbers ++ drop 4 answer
-  pub finished : 4 ≤ length answer → holdsState streamKind streamSize entry ≡ true
-      → answer′ ≡ runNumbers (verdictAnswer (finishedOf (streamIn entry))) ++ drop 4 answer
+  pub short : length answer < runCount → answer′ ≡ answer
+  pub none : runCount ≤ length answer → holdsState streamKind streamSize entry ≡ false → answer′ ≡ noStateNumbers ++ drop runCount answer
+  pub finished : runCount ≤ length answer → holdsState streamKind streamSize entry ≡ true
+      → answer′ ≡ runNumbers (verdictAnswer (finishedOf (streamIn entry))) ++ drop runCount answer
   -- demand 2 for all the bytes together
   pub meets : (bytes : List ℕ) → HoldsStream bytes entry → letterCount firstEdition bytes ≤ last
       → Demand2 bytes (verdictAnswer (finishedOf (streamIn entry)))

@@ -22,6 +22,20 @@ use Rattle.refusals.specs.Accepted.{Accepted}
 unfoldable pub laidOver : ℕ → List ℕ → List ℕ → List ℕ
 laidOver n numbers answer = pick (ltb (length answer) n) (λ _. answer) λ _. numbers ++ drop n answer
 
+-- ---- how many numbers a call answers
+
+-- the monitor's run over a trace
+abbrev pub runCount : ℕ
+runCount = 4
+
+-- the shown model
+abbrev pub modelCount : ℕ
+modelCount = 4
+
+-- the reader of macros
+abbrev pub macroCount : ℕ
+macroCount = 5
+
 -- ---- The monitor: refusal, place, first incoherent letter, first infeasible letter before it.
 
 unfoldable pub runNumbers : Answer (ℕ × ℕ) → List ℕ
@@ -30,7 +44,7 @@ runNumbers (refusal number place) = number ∷ place ∷ 0 ∷ 0 ∷ []
 
 -- the answer after the bytes of a trace were judged
 unfoldable pub monitored : (trace answer : List ℕ) → List ℕ
-monitored trace answer = laidOver 4 (runNumbers (verdictAnswer (answerOf trace))) answer
+monitored trace answer = laidOver runCount (runNumbers (verdictAnswer (answerOf trace))) answer
 
 -- ---- The shown model: refusal, place, first infeasible letter, bytes of the model.
 
@@ -41,11 +55,11 @@ modelNumbers (shown.refusal number place) = number ∷ place ∷ 0 ∷ 0 ∷ []
 
 -- the answer after the model of a trace was shown in an output of so many bytes
 unfoldable pub modelled : (trace : List ℕ) (room : ℕ) (answer : List ℕ) → List ℕ
-modelled trace room answer = laidOver 4 (modelNumbers (answerTo (readingWithin mostLetters firstEdition trace) room)) answer
+modelled trace room answer = laidOver modelCount (modelNumbers (answerTo (readingWithin mostLetters firstEdition trace) room)) answer
 
 -- the output after it; it stays as lent where the answer has no room
 unfoldable pub modelOutput : (trace out answer : List ℕ) → List ℕ
-modelOutput trace out answer = pick (ltb (length answer) 4) (λ _. out) λ _. outputAfter (readingWithin mostLetters firstEdition trace) out
+modelOutput trace out answer = pick (ltb (length answer) modelCount) (λ _. out) λ _. outputAfter (readingWithin mostLetters firstEdition trace) out
 
 -- what the answer means, with the output out before and out′ after
 abbrev pub ModelMeans : (trace out out′ : List ℕ) → Type 0
@@ -62,5 +76,5 @@ refusedNumbers number place = number ∷ place ∷ 0 ∷ 0 ∷ 0 ∷ []
 -- The answer after a text was read; `answer` is lent, and `answer′` is what it holds afterwards. Each text is accepted as one macro or refused by
 -- one number at one place (`Accepted.exactly-one` of crate `refusals`), so that the answer is settled (`Held.one-read`).
 pub record MacroRead (text answer answer′ : List ℕ) : Type 0 where
-  pub accepted : (m : Macro) → Accepted text m → answer′ ≡ laidOver 5 (acceptedNumbers m) answer
-  pub refused : (number place : ℕ) → Refusal text number place → answer′ ≡ laidOver 5 (refusedNumbers number place) answer
+  pub accepted : (m : Macro) → Accepted text m → answer′ ≡ laidOver macroCount (acceptedNumbers m) answer
+  pub refused : (number place : ℕ) → Refusal text number place → answer′ ≡ laidOver macroCount (refusedNumbers number place) answer

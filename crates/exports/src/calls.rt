@@ -54,7 +54,7 @@ fn outcome_number(outcome: Outcome) -> u64
 }
 
 // The numbers of what a call of the monitor answers.
-fn stepped_numbers(stepped: Stepped) -> [u64; 4]
+fn stepped_numbers(stepped: Stepped) -> [u64; STEP_NUMBERS]
     ensures { λ r. ⌜ r ≡ steppedNumbers stepped ⌝ }
 {
     let outcome = stepped.outcome;

@@ -12,7 +12,7 @@ ghost use Rattle.monitoring.specs.Demand2.{Demand2};
 ghost use Rattle.monitoring.specs.Run.{verdictAnswer};
 ghost use Rattle.monitoring.specs.Stream.{answerOf};
 ghost use Rattle.shown.specs.Answer.{shownAnswer};
-ghost use Rattle.exports.specs.Numbers.{runNumbers, monitored, modelNumbers, modelled, modelOutput, ModelMeans, MacroRead};
+ghost use Rattle.exports.specs.Numbers.{runCount, modelCount, runNumbers, monitored, modelNumbers, modelled, modelOutput, ModelMeans, MacroRead};
 ghost use Rattle.exports.specs.Held.{heldNumbers};
 ghost use Rattle.search.specs.Answering as search;
 ghost use Rattle.exports.specs.Judging.{verdictNumbers, Judging};
@@ -44,7 +44,7 @@ fn store(numbers: &[u64], answer: &mut [u64])
 }
 
 // The numbers of what the run over a trace answers.
-fn run_numbers(verdict: Verdict) -> [u64; 4]
+fn run_numbers(verdict: Verdict) -> [u64; RUN_NUMBERS]
     ensures { λ r. ⌜ r ≡ runNumbers (verdictAnswer verdict) ⌝ }
 {
     match verdict {
@@ -58,7 +58,7 @@ fn run_numbers(verdict: Verdict) -> [u64; 4]
 #[no_mangle]
 pub extern "C" fn fadzgime_monitor(trace: &[u8], answer: &mut [u64])
     ensures { λ _. ⌜ now (answer .exit) ≡ monitored (now (trace .entry)) (now (answer .entry)) ⌝ }
-    ensures { λ _. ⌜ (4 ≤ length (now (answer .entry)) → Demand2 (now (trace .entry)) (verdictAnswer (answerOf (now (trace .entry))))) ⌝ }
+    ensures { λ _. ⌜ (runCount ≤ length (now (answer .entry)) → Demand2 (now (trace .entry)) (verdictAnswer (answerOf (now (trace .entry))))) ⌝ }
 {
     if answer.len() < RUN_NUMBERS {
         return;
@@ -69,7 +69,7 @@ pub extern "C" fn fadzgime_monitor(trace: &[u8], answer: &mut [u64])
 }
 
 // The numbers of what is shown for a trace.
-fn model_numbers(shown: Shown) -> [u64; 4]
+fn model_numbers(shown: Shown) -> [u64; MODEL_NUMBERS]
     ensures { λ r. ⌜ r ≡ modelNumbers (shownAnswer shown) ⌝ }
 {
     match shown {
@@ -86,7 +86,7 @@ fn model_numbers(shown: Shown) -> [u64; 4]
 pub extern "C" fn fadzgime_model(trace: &[u8], out: &mut [u8], answer: &mut [u64])
     ensures { λ _. ⌜ now (answer .exit) ≡ modelled (now (trace .entry)) (length (now (out .entry))) (now (answer .entry)) ⌝ }
     ensures { λ _. ⌜ now (out .exit) ≡ modelOutput (now (trace .entry)) (now (out .entry)) (now (answer .entry)) ⌝ }
-    ensures { λ _. ⌜ (4 ≤ length (now (answer .entry)) → ModelMeans (now (trace .entry)) (now (out .entry)) (now (out .exit))) ⌝ }
+    ensures { λ _. ⌜ (modelCount ≤ length (now (answer .entry)) → ModelMeans (now (trace .entry)) (now (out .entry)) (now (out .exit))) ⌝ }
 {
     if answer.len() < MODEL_NUMBERS {
         return;
@@ -97,7 +97,7 @@ pub extern "C" fn fadzgime_model(trace: &[u8], out: &mut [u8], answer: &mut [u64
 }
 
 // The numbers of what reading a text gives.
-fn macro_numbers(read: Answer) -> [u64; 5]
+fn macro_numbers(read: Answer) -> [u64; MACRO_NUMBERS]
     ensures { λ r. ⌜ r ≡ heldNumbers read ⌝ }
 {
     let program = read.program;
@@ -125,7 +125,7 @@ pub extern "C" fn fadzgime_read(text: &[u8], answer: &mut [u64])
 }
 
 // The numbers of the verdict on a macro.
-fn verdict_numbers(verdict: MacroVerdict) -> [u64; 5]
+fn verdict_numbers(verdict: MacroVerdict) -> [u64; VERDICT_NUMBERS]
     ensures { λ r. ⌜ r ≡ verdictNumbers (search.answerOf verdict) ⌝ }
 {
     match verdict {

@@ -13,7 +13,7 @@ const WRITTEN_NUMBERS: usize = 3;
 const READ_NUMBERS: usize = 6;
 
 // The numbers of what writing a trace gives.
-fn written_numbers(written: Written) -> [u64; 3]
+fn written_numbers(written: Written) -> [u64; WRITTEN_NUMBERS]
     ensures { λ r. ⌜ r ≡ writtenNumbers (writtenAnswer written) ⌝ }
 {
     match written {
@@ -50,7 +50,7 @@ pub extern "C" fn fadzgime_write(
 }
 
 // The numbers of what reading a trace gives.
-fn read_numbers(read: TraceRead) -> [u64; 6]
+fn read_numbers(read: TraceRead) -> [u64; READ_NUMBERS]
     ensures { λ r. ⌜ r ≡ readNumbers (traceAnswer read) ⌝ }
 {
     match read {

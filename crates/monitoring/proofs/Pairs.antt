@@ -54,7 +54,8 @@ module _ (h : Header) (w : Window) (b : Bool) (n one two number word : ℕ) (d :
   run-malformed : d ≡ decoded-letter.Malformed → runOf h w b n (Refused letterMalformed number) ≡ takenRun (runOf h w b n (Judged one two)) word
   run-malformed g =
       let m : Monitor = record { header = h; window = w; running = b } in
-      take-refused (runOf h w b n (Judged one two)) word one two refl number c (stepped (outcome.Refused letterMalformed) m) (step-refused m word d e g) letterMalformed refl
+      take-refused (runOf h w b n (Judged one two)) word one two refl number c (stepped (outcome.Refused letterMalformed) m)
+      (step-refused m word d e g) letterMalformed refl
 
 -- ---- letter after letter
 

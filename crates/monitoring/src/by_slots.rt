@@ -107,7 +107,13 @@ fn take_from(
         let number = next_number(count);
         let DecodedLetter::Letter(letter) = decoded else {
             let last = to_window(&slot, &regs, &unequal, &result, &ever, &mark, bad);
-            return run_of(header, last, fine, count, Verdict::Refused(LETTER_MALFORMED, number));
+            return run_of(
+                header,
+                last,
+                fine,
+                count,
+                Verdict::Refused(LETTER_MALFORMED, number),
+            );
         };
         let coherent = fine & judge_slots(&slot, &result, &ever, &mark, letter);
         bad = performed(

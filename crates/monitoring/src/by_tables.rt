@@ -118,7 +118,13 @@ pub fn take_tables(
         let number = next_number(count);
         let DecodedLetter::Letter(letter) = decoded else {
             let last = window_of(class, unequal, result, ever, mark, bad);
-            return run_of(header, last, fine, count, Verdict::Refused(LETTER_MALFORMED, number));
+            return run_of(
+                header,
+                last,
+                fine,
+                count,
+                Verdict::Refused(LETTER_MALFORMED, number),
+            );
         };
         let coherent = fine & judge_in(&result, &ever, &mark, letter);
         bad = performed(

@@ -83,7 +83,8 @@ fn header_word(header: Header) -> u16
 // The trace of the execution that move number d ends, written from its end.
 fn pack(header: Header, points: [Point; POINTS], table: &[u8], d: usize) -> Packed
     requires { ⌜ (d < mostMoves) × (recordBytes * (d / 2) + recordBytes ≤ length (now table)) × Older (now table) (d / 2 + 1) ⌝ }
-    ensures { λ r. ⌜ (drop (r .start) (r .bytes) ≡ traced header (trailOf points (now (table .entry)) d)) × (length (r .bytes) ≡ traceBytes) × (r .start ≤ lastLetter) ⌝ }
+    ensures { λ r. ⌜ (drop (r .start) (r .bytes) ≡ traced header (trailOf points (now (table .entry)) d))
+        × (length (r .bytes) ≡ traceBytes) × (r .start ≤ lastLetter) ⌝ }
 {
     let mut bytes = [0u8; TRACE_BYTES];
     let k = table::point_at(table, d / 2);

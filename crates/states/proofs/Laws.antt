@@ -11,7 +11,8 @@ use Rattle.letters.proofs.Theory.Packing.{join-split}
 use Rattle.records.specs.Records.{flag}
 use Rattle.monitoring.specs.declared.Monitor.{Monitor}
 use Rattle.monitoring.specs.declared.Stream.{Stream}
-use Rattle.states.specs.States.{eightOctets, monitorSize, streamSize, headOf, partsThen, monitorThen, Sizes, WindowSizes, monitorIn, KeepsMonitor}
+use Rattle.states.specs.States.{monitorSize, lettersPlace, firstPlace, secondPlace, streamSize}
+use Rattle.states.specs.States.{eightOctets, headOf, partsThen, monitorThen, Sizes, WindowSizes, monitorIn, KeepsMonitor}
 use Rattle.states.specs.States.{firstNumber, secondNumber, tailOf, tailThen, streamThen, streamIn, KeepsStream}
 use Rattle.states.proofs.Theory.StateLaws.{behind, front, monitor-back, stream-back}
 
@@ -29,7 +30,7 @@ module _ (head class unequal marks ever result : List ℕ) (heads : length head 
       → b₄ ≡ take 22 b₃ ++ marks ++ drop (22 + length marks) b₃
       → b₅ ≡ take 30 b₄ ++ ever ++ drop (30 + length ever) b₄
       → b₆ ≡ take 62 b₅ ++ result ++ drop (62 + length result) b₅
-      → b₆ ≡ partsThen head class unequal marks ever result (drop 318 b₀)
+      → b₆ ≡ partsThen head class unequal marks ever result (drop monitorSize b₀)
   six-laid b₀ b₁ b₂ b₃ b₄ b₅ b₆ q₁ q₂ q₃ q₄ q₅ q₆ =
       let r₁ = drop (length head) b₀ in
       let r₂ = drop (length class) r₁ in
@@ -46,39 +47,39 @@ module _ (head class unequal marks ever result : List ℕ) (heads : length head 
       let e₅ : b₅ ≡ head ++ class ++ unequal ++ marks ++ ever ++ r₅ = laid-on b₄ b₅ (head ++ class ++ unequal ++ marks) r₄ ever 30 e₄ l₄ q₅ in
       let l₅ : length (head ++ class ++ unequal ++ marks ++ ever) ≡ 62 = simp length-append (omega (arith, z .classes, z .unequals, z .marked, z .evers)) in
       let e₆ = laid-on b₅ b₆ (head ++ class ++ unequal ++ marks ++ ever) r₅ result 62 e₅ l₅ q₆ in
-      let d : drop (length result) r₅ ≡ drop 318 b₀ = behind in
+      let d : drop (length result) r₅ ≡ drop monitorSize b₀ = behind in
       e₆ ∙ ap (λ r. head ++ class ++ unequal ++ marks ++ ever ++ result ++ r) d ∙ simp append-assoc
     where
       behind : drop (length result) (drop (length ever) (drop (length marks) (drop (length unequal) (drop (length class) (drop (length head) b₀)))))
-          ≡ drop 318 b₀
+          ≡ drop monitorSize b₀
       behind =
           rw (z .results, z .evers, z .marked, z .unequals, z .classes, heads)
           (rw (drop-drop 8 6 b₀, drop-drop 8 14 b₀, drop-drop 8 22 b₀, drop-drop 32 30 b₀, drop-drop 256 62 b₀))
 
-pub four-laid : (tail letters first second b₀ b₁ b₂ b₃ b₄ : List ℕ) → 346 ≤ length b₀
+pub four-laid : (tail letters first second b₀ b₁ b₂ b₃ b₄ : List ℕ) → streamSize ≤ length b₀
     → length tail ≡ 4 → length letters ≡ 8 → length first ≡ 8 → length second ≡ 8
-    → b₁ ≡ take 318 b₀ ++ tail ++ drop (318 + length tail) b₀
-    → b₂ ≡ take 322 b₁ ++ letters ++ drop (322 + length letters) b₁
-    → b₃ ≡ take 330 b₂ ++ first ++ drop (330 + length first) b₂
-    → b₄ ≡ take 338 b₃ ++ second ++ drop (338 + length second) b₃
-    → b₄ ≡ take 318 b₀ ++ tailThen tail letters first second (drop 346 b₀)
+    → b₁ ≡ take monitorSize b₀ ++ tail ++ drop (monitorSize + length tail) b₀
+    → b₂ ≡ take lettersPlace b₁ ++ letters ++ drop (lettersPlace + length letters) b₁
+    → b₃ ≡ take firstPlace b₂ ++ first ++ drop (firstPlace + length first) b₂
+    → b₄ ≡ take secondPlace b₃ ++ second ++ drop (secondPlace + length second) b₃
+    → b₄ ≡ take monitorSize b₀ ++ tailThen tail letters first second (drop streamSize b₀)
 four-laid tail letters first second b₀ b₁ b₂ b₃ b₄ room z₁ z₂ z₃ z₄ q₁ q₂ q₃ q₄ =
-    let f = take 318 b₀ in
-    let r₁ = drop (length tail) (drop 318 b₀) in
+    let f = take monitorSize b₀ in
+    let r₁ = drop (length tail) (drop monitorSize b₀) in
     let r₂ = drop (length letters) r₁ in
     let r₃ = drop (length first) r₂ in
-    let l₀ : length f ≡ 318 = simp length-take (omega arith) in
-    let e₁ : b₁ ≡ f ++ tail ++ r₁ = laid-on b₀ b₁ f (drop 318 b₀) tail 318 (sym (take-append-drop 318 b₀)) l₀ q₁ in
-    let l₁ : length (f ++ tail) ≡ 322 = simp length-append (omega arith) in
-    let e₂ : b₂ ≡ f ++ tail ++ letters ++ r₂ = laid-on b₁ b₂ (f ++ tail) r₁ letters 322 e₁ l₁ q₂ in
-    let l₂ : length (f ++ tail ++ letters) ≡ 330 = simp length-append (omega arith) in
-    let e₃ : b₃ ≡ f ++ tail ++ letters ++ first ++ r₃ = laid-on b₂ b₃ (f ++ tail ++ letters) r₂ first 330 e₂ l₂ q₃ in
-    let l₃ : length (f ++ tail ++ letters ++ first) ≡ 338 = simp length-append (omega arith) in
-    let e₄ = laid-on b₃ b₄ (f ++ tail ++ letters ++ first) r₃ second 338 e₃ l₃ q₄ in
+    let l₀ : length f ≡ monitorSize = simp length-take (omega arith) in
+    let e₁ : b₁ ≡ f ++ tail ++ r₁ = laid-on b₀ b₁ f (drop monitorSize b₀) tail monitorSize (sym (take-append-drop monitorSize b₀)) l₀ q₁ in
+    let l₁ : length (f ++ tail) ≡ lettersPlace = simp length-append (omega arith) in
+    let e₂ : b₂ ≡ f ++ tail ++ letters ++ r₂ = laid-on b₁ b₂ (f ++ tail) r₁ letters lettersPlace e₁ l₁ q₂ in
+    let l₂ : length (f ++ tail ++ letters) ≡ firstPlace = simp length-append (omega arith) in
+    let e₃ : b₃ ≡ f ++ tail ++ letters ++ first ++ r₃ = laid-on b₂ b₃ (f ++ tail ++ letters) r₂ first firstPlace e₂ l₂ q₃ in
+    let l₃ : length (f ++ tail ++ letters ++ first) ≡ secondPlace = simp length-append (omega arith) in
+    let e₄ = laid-on b₃ b₄ (f ++ tail ++ letters ++ first) r₃ second secondPlace e₃ l₃ q₄ in
     e₄ ∙ ap (λ r. f ++ tail ++ letters ++ first ++ second ++ r) behind ∙ simp append-assoc
   where
-    behind : drop (length second) (drop (length first) (drop (length letters) (drop (length tail) (drop 318 b₀)))) ≡ drop 346 b₀
-    behind = rw (z₄, z₃, z₂, z₁) (rw (drop-drop 4 318 b₀, drop-drop 8 322 b₀, drop-drop 8 330 b₀, drop-drop 8 338 b₀))
+    behind : drop (length second) (drop (length first) (drop (length letters) (drop (length tail) (drop monitorSize b₀)))) ≡ drop streamSize b₀
+    behind = rw (z₄, z₃, z₂, z₁) (rw (drop-drop 4 monitorSize b₀, drop-drop 8 lettersPlace b₀, drop-drop 8 firstPlace b₀, drop-drop 8 secondPlace b₀))
 
 -- a part of a list, copied over an array of its length
 pub copied : (b s zero : List ℕ) (at n k : ℕ) → k ≡ n → length zero ≡ n → at + n ≤ length s
@@ -139,9 +140,10 @@ keeps-stream kind s entry between exit tail letters first second k t x y o q =
     let w = m .window in
     let r = drop monitorSize entry in
     let far : drop streamSize between ≡ drop streamSize entry =
-    sym (drop-drop 28 318 between)
-    ∙ ap (drop 28) (ap (drop 318) (k .bytes) ∙ behind (headOf kind m) (w .class) (w .unequal) (map flag (w .mark)) (w .ever) (w .result) refl (k .sizes) r)
-    ∙ drop-drop 28 318 entry in
+    sym (drop-drop 28 monitorSize between)
+    ∙ ap (drop 28) (ap (drop monitorSize) (k .bytes)
+    ∙ behind (headOf kind m) (w .class) (w .unequal) (map flag (w .mark)) (w .ever) (w .result) refl (k .sizes) r)
+    ∙ drop-drop 28 monitorSize entry in
     let near : (other : List ℕ) → take monitorSize between ++ other ≡ monitorThen kind m other =
     (λ other. ap (λ l. take monitorSize l ++ other) (k .bytes)
     ∙ front (headOf kind m) (w .class) (w .unequal) (map flag (w .mark)) (w .ever) (w .result) refl (k .sizes) r other) in

@@ -1,13 +1,14 @@
 -- Monitors and streams as bytes: what a caller in C or Rust keeps between calls. One byte an entry, a number of 64 bits in eight bytes, the most significant
 -- first. Any bytes that are enough are read as some monitor and as some stream.
 use mathlib.Core.Path.{_≡_}
-use Prim.Native.Nat.{ℕ}
+use Prim.Native.Nat.{ℕ, _+_}
 use mathlib.Core.List.{List, [], _∷_, _++_, map}
 use lib.Dec.{eqb}
 use lib.ListN.{length, getD, take, drop}
 use Rattle.base.specs.Choice.{pick}
 use Rattle.letters.specs.Packing.{join, split}
 use Rattle.records.specs.Records.{flag, isSet}
+use Rattle.window.specs.Layout as layout
 use Rattle.window.specs.declared.Window.{Window}
 use Rattle.monitoring.specs.Run.{runWith}
 use Rattle.monitoring.specs.Stream.{streamWith}
@@ -21,12 +22,49 @@ use Rattle.monitoring.specs.declared.Verdict.the-variants.{Judged, Refused}
 abbrev pub eightOctets : List ℕ
 eightOctets = 8 ∷ 8 ∷ 8 ∷ 8 ∷ 8 ∷ 8 ∷ 8 ∷ 8 ∷ []
 
--- how many bytes a monitor has, and a stream
-abbrev pub monitorSize : ℕ
-monitorSize = 318
+-- ---- sizes and places, in bytes; each part stands behind the one before it
 
+-- the head of a state; the tail of a stream, behind its monitor and before its numbers; a number
+abbrev pub headSize : ℕ
+headSize = 6
+
+abbrev pub tailSize : ℕ
+tailSize = 4
+
+abbrev pub numberSize : ℕ
+numberSize = 8
+
+abbrev pub classPlace : ℕ
+classPlace = headSize
+
+abbrev pub unequalPlace : ℕ
+unequalPlace = classPlace + layout.registers
+
+abbrev pub markPlace : ℕ
+markPlace = unequalPlace + layout.registers
+
+abbrev pub everPlace : ℕ
+everPlace = markPlace + layout.registers
+
+abbrev pub resultPlace : ℕ
+resultPlace = everPlace + layout.lines
+
+-- how many bytes a monitor has
+abbrev pub monitorSize : ℕ
+monitorSize = resultPlace + layout.results
+
+abbrev pub lettersPlace : ℕ
+lettersPlace = monitorSize + tailSize
+
+abbrev pub firstPlace : ℕ
+firstPlace = lettersPlace + numberSize
+
+abbrev pub secondPlace : ℕ
+secondPlace = firstPlace + numberSize
+
+-- how many bytes a stream has
 abbrev pub streamSize : ℕ
-streamSize = 346
+streamSize = secondPlace + numberSize
 
 -- ---- monitors
 
@@ -45,22 +83,22 @@ monitorThen kind m rest =
 
 -- how many entries the window's arrays have
 pub record Sizes (class unequal marks ever result : List ℕ) : Type 0 where
-  pub classes : length class ≡ 8
-  pub unequals : length unequal ≡ 8
-  pub marked : length marks ≡ 8
-  pub evers : length ever ≡ 32
-  pub results : length result ≡ 256
+  pub classes : length class ≡ layout.registers
+  pub unequals : length unequal ≡ layout.registers
+  pub marked : length marks ≡ layout.registers
+  pub evers : length ever ≡ layout.lines
+  pub results : length result ≡ layout.results
 
 abbrev pub WindowSizes : Window → Type 0
 WindowSizes w = Sizes (w .class) (w .unequal) (map flag (w .mark)) (w .ever) (w .result)
 
 unfoldable pub windowIn : List ℕ → Window
 windowIn bytes = record {
-  class = take 8 (drop 6 bytes);
-  unequal = take 8 (drop 14 bytes);
-  result = take 256 (drop 62 bytes);
-  ever = take 32 (drop 30 bytes);
-  mark = map isSet (take 8 (drop 22 bytes));
+  class = take layout.registers (drop classPlace bytes);
+  unequal = take layout.registers (drop unequalPlace bytes);
+  result = take layout.results (drop resultPlace bytes);
+  ever = take layout.lines (drop everPlace bytes);
+  mark = map isSet (take layout.registers (drop markPlace bytes));
   infeasible = isSet (getD bytes 5 0);
 }
 
@@ -124,12 +162,13 @@ streamThen kind s rest =
     (split eightOctets (secondNumber (s .run .verdict))) rest)
 
 abbrev pub numberIn : ℕ → List ℕ → ℕ
-numberIn place bytes = join eightOctets (take 8 (drop place bytes))
+numberIn place bytes = join eightOctets (take numberSize (drop place bytes))
 
 unfoldable pub streamIn : List ℕ → Stream
 streamIn bytes =
-    streamWith (phaseIn (getD bytes 318 0)) (getD bytes 319 0)
-    (runWith (monitorIn bytes) (numberIn 322 bytes) (verdictIn (getD bytes 320 0) (getD bytes 321 0) (numberIn 330 bytes) (numberIn 338 bytes)))
+    streamWith (phaseIn (getD bytes monitorSize 0)) (getD bytes (monitorSize + 1) 0)
+    (runWith (monitorIn bytes) (numberIn lettersPlace bytes)
+    (verdictIn (getD bytes (monitorSize + 2) 0) (getD bytes (monitorSize + 3) 0) (numberIn firstPlace bytes) (numberIn secondPlace bytes)))
 
 -- What storing a stream leaves: every byte, and a stream that is read again.
 pub record KeepsStream (kind : ℕ) (s : Stream) (entry exit : List ℕ) : Type 0 where

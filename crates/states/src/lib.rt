@@ -10,45 +10,56 @@ use records::flags;
 use records::lay;
 use records::marks;
 use tokens::wide;
+use window::LINES;
+use window::Mask;
+use window::REGISTERS;
+use window::RESULTS;
 use window::Window;
 ghost use mathlib.Core.Path.{_≡_};
 ghost use Prim.Native.Nat.{_+_, _≤_};
 ghost use mathlib.Core.List.{_++_};
 ghost use lib.ListN.{length, take, drop};
 ghost use Rattle.letters.specs.Packing.{join, split};
-ghost use Rattle.states.specs.States.{eightOctets, monitorSize, streamSize, headOf, partsThen, Sizes, windowIn, monitorIn, KeepsMonitor};
+ghost use Rattle.states.specs.States.{numberSize, eightOctets, monitorSize, streamSize, headOf, partsThen, Sizes, windowIn, monitorIn, KeepsMonitor};
 ghost use Rattle.states.specs.States.{phaseCode, phaseIn, verdictCode, refusalNumber, firstNumber, secondNumber, verdictIn};
 ghost use Rattle.states.specs.States.{tailThen, streamIn, KeepsStream};
 
-// Where the parts stand: specs/States.antt.
-const CLASS: usize = 6;
+// The bytes of a state's head, of a stream's tail, which is behind its monitor and before its numbers, and of a number.
+const HEAD_SIZE: usize = 6;
 
-const UNEQUAL: usize = 14;
+const TAIL_SIZE: usize = 4;
 
-const MARK: usize = 22;
+const NUMBER_SIZE: usize = 8;
 
-const EVER: usize = 30;
+// Where the parts stand, each behind the one before it: specs/States.antt.
+const CLASS: usize = HEAD_SIZE;
 
-const RESULT: usize = 62;
+const UNEQUAL: usize = CLASS + REGISTERS;
 
-const TAIL: usize = 318;
+const MARK: usize = UNEQUAL + REGISTERS;
 
-const LETTERS: usize = 322;
+const EVER: usize = MARK + REGISTERS;
 
-const FIRST: usize = 330;
-
-const SECOND: usize = 338;
+const RESULT: usize = EVER + LINES;
 
 /// How many bytes a monitor has.
-pub const MONITOR_SIZE: usize = 318;
+pub const MONITOR_SIZE: usize = RESULT + RESULTS;
+
+const TAIL: usize = MONITOR_SIZE;
+
+const LETTERS: usize = TAIL + TAIL_SIZE;
+
+const FIRST: usize = LETTERS + NUMBER_SIZE;
+
+const SECOND: usize = FIRST + NUMBER_SIZE;
 
 /// How many bytes a stream has.
-pub const STREAM_SIZE: usize = 346;
+pub const STREAM_SIZE: usize = SECOND + NUMBER_SIZE;
 
 // ---- numbers
 
 // A number in eight bytes, the most significant first.
-fn octets(n: u64) -> [u8; 8]
+fn octets(n: u64) -> [u8; NUMBER_SIZE]
     ensures { λ r. ⌜ r ≡ split eightOctets n ⌝ }
     ensures back { λ r. ⌜ join eightOctets r ≡ n ⌝ }
 {
@@ -65,7 +76,7 @@ fn octets(n: u64) -> [u8; 8]
 }
 
 // The number in eight bytes.
-fn number(b: [u8; 8]) -> u64
+fn number(b: [u8; NUMBER_SIZE]) -> u64
     ensures { λ r. ⌜ r ≡ join eightOctets b ⌝ }
 {
     let high = wide(b[0]) * 16777216 + wide(b[1]) * 65536 + wide(b[2]) * 256 + wide(b[3]);
@@ -75,20 +86,20 @@ fn number(b: [u8; 8]) -> u64
 
 // ---- parts of a state
 
-// Eight bytes from a place on.
-fn eight_at(state: &[u8], at: usize) -> [u8; 8]
-    requires { ⌜ at + 8 ≤ length (now state) ⌝ }
-    ensures { λ r. ⌜ r ≡ take 8 (drop at (now (state .entry))) ⌝ }
+// Eight bytes from a place on: those of a number, or one for each register.
+fn eight_at(state: &[u8], at: usize) -> [u8; NUMBER_SIZE]
+    requires { ⌜ at + numberSize ≤ length (now state) ⌝ }
+    ensures { λ r. ⌜ r ≡ take numberSize (drop at (now (state .entry))) ⌝ }
 {
-    let mut bytes = [0u8; 8];
-    let end = at + 8;
+    let mut bytes = [0u8; NUMBER_SIZE];
+    let end = at + NUMBER_SIZE;
     lay(&mut bytes, 0, &state[at..end]);
     bytes
 }
 
 fn number_at(state: &[u8], at: usize) -> u64
-    requires { ⌜ at + 8 ≤ length (now state) ⌝ }
-    ensures { λ r. ⌜ r ≡ join eightOctets (take 8 (drop at (now (state .entry)))) ⌝ }
+    requires { ⌜ at + numberSize ≤ length (now state) ⌝ }
+    ensures { λ r. ⌜ r ≡ join eightOctets (take numberSize (drop at (now (state .entry)))) ⌝ }
 {
     number(eight_at(state, at))
 }
@@ -96,7 +107,7 @@ fn number_at(state: &[u8], at: usize) -> u64
 // ---- monitors
 
 // The first bytes of a monitor's state.
-fn head(kind: u8, m: Monitor) -> [u8; 6]
+fn head(kind: u8, m: Monitor) -> [u8; HEAD_SIZE]
     ensures { λ r. ⌜ r ≡ headOf kind m ⌝ }
 {
     let header = m.header;
@@ -113,12 +124,12 @@ fn head(kind: u8, m: Monitor) -> [u8; 6]
 
 // Lays the parts of a monitor over the state.
 fn put_parts(
-    head: [u8; 6],
-    class: [u8; 8],
-    unequal: [u8; 8],
-    marks: [u8; 8],
-    ever: [u8; 32],
-    result: [u8; 256],
+    head: [u8; HEAD_SIZE],
+    class: [Mask; REGISTERS],
+    unequal: [Mask; REGISTERS],
+    marks: [u8; REGISTERS],
+    ever: [Mask; LINES],
+    result: [Mask; RESULTS],
     state: &mut [u8],
 )
     requires { ⌜ monitorSize ≤ length (now state) ⌝ }
@@ -156,9 +167,9 @@ fn window_in(state: &[u8]) -> Window
     let class = eight_at(state, CLASS);
     let unequal = eight_at(state, UNEQUAL);
     let mark = marks(eight_at(state, MARK));
-    let mut ever = [0u8; 32];
+    let mut ever = [0u8; LINES];
     lay(&mut ever, 0, &state[EVER..RESULT]);
-    let mut result = [0u8; 256];
+    let mut result = [0u8; RESULTS];
     lay(&mut result, 0, &state[RESULT..TAIL]);
     let infeasible = state[5] == 1;
     Window {
@@ -264,7 +275,13 @@ fn verdict_of(code: u8, number: u8, first: u64, second: u64) -> Verdict
 }
 
 // Lays what a stream has behind its monitor over the state.
-fn put_tail(tail: [u8; 4], letters: [u8; 8], first: [u8; 8], second: [u8; 8], state: &mut [u8])
+fn put_tail(
+    tail: [u8; TAIL_SIZE],
+    letters: [u8; NUMBER_SIZE],
+    first: [u8; NUMBER_SIZE],
+    second: [u8; NUMBER_SIZE],
+    state: &mut [u8],
+)
     requires { ⌜ streamSize ≤ length (now state) ⌝ }
     ensures { λ _. ⌜ now (state .exit) ≡ take monitorSize (now (state .entry))
         ++ tailThen tail letters first second (drop streamSize (now (state .entry))) ⌝ }

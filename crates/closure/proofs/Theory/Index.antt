@@ -15,7 +15,8 @@ use Rattle.base.specs.Choice.{pick}
 use Rattle.closure.specs.Limits.{chainCount, mostTerms}
 use Rattle.closure.specs.Index.{signatureOf, Holds, here, there, Down, Chains, Complete, Found, Entered, Cut, CutTo, withoutLast}
 
-pub signature-same : {f p q g r s : ℕ} → f < mostFunctions → g < mostFunctions → q < mostTerms → s < mostTerms → signatureOf f p q ≡ signatureOf g r s → (f ≡ g) × (p ≡ r) × (q ≡ s)
+pub signature-same : {f p q g r s : ℕ} → f < mostFunctions → g < mostFunctions → q < mostTerms → s < mostTerms
+    → signatureOf f p q ≡ signatureOf g r s → (f ≡ g) × (p ≡ r) × (q ≡ s)
 unfolding signatureOf
 signature-same hf hg hq hs e = (omega arith, omega arith, omega arith)
 
@@ -69,7 +70,8 @@ module _ (head₀ link : List ℕ) (bound : ℕ) (w : Chains mostTerms head₀ l
   pub cutting-below : (head : List ℕ) (i start : ℕ) → CuttingAll head₀ link bound head i → start ≡ getD head i 0 → start < mostTerms
   cutting-below head i start c e = let r = c .rest i (omega arith) in let h = w .heads i in omega arith
 
-  pub cutting-all-turn : (head : List ℕ) (i start v : ℕ) → CuttingAll head₀ link bound head i → i < chainCount → start ≡ getD head i 0 → Cut link start bound v → CuttingAll head₀ link bound (set head i v) (i + 1)
+  pub cutting-all-turn : (head : List ℕ) (i start v : ℕ) → CuttingAll head₀ link bound head i → i < chainCount → start ≡ getD head i 0
+      → Cut link start bound v → CuttingAll head₀ link bound (set head i v) (i + 1)
   cutting-all-turn head i start v c h e k = record {
     most = omega arith;
     long = simp length-set (c .long);
@@ -243,7 +245,8 @@ module _ (signature : ℕ → ℕ) (registers n c : ℕ) (head link : List ℕ) 
     chains = more-chains;
     completes = λ signature′ same e all. record {
       only = still-only signature′ same all;
-      has = λ k p h. upTo (λ k. registers ≤ k → (o : ℕ) × (o ≤ k) × Holds registers link (getD head (signature′ k % chainCount) 0) o × (signature′ o ≡ signature′ k))
+      has = λ k p h. upTo
+          (λ k. registers ≤ k → (o : ℕ) × (o ≤ k) × Holds registers link (getD head (signature′ k % chainCount) 0) o × (signature′ o ≡ signature′ k))
           (λ k h p. let (o, b, u, v) = all .has k p h in (o, b, subst (λ s. Holds registers link (getD head (s % chainCount) 0) o) (sym (same k h)) u, same o (omega arith) ∙ v ∙ sym (same k h)))
           (λ p. let b = f .below in (r, omega arith, subst (λ s. Holds registers link (getD head (s % chainCount) 0) r) (sym e) ((f .hit l) .1), same r b ∙ (f .hit l) .0 ∙ sym e))
           k h p;
@@ -301,7 +304,8 @@ module _ (signature : ℕ → ℕ) (registers n c : ℕ) (head link : List ℕ) 
       least = more;
       most = omega arith;
       hit = λ z. absurd (omega arith);
-      fresh = λ _ all k p h e. let (o, s, u, v) = all .has k p h in f .miss l o (subst (λ s. Holds registers link (getD head (s % chainCount) 0) o) e u) (v ∙ e);
+      fresh = λ _ all k p h e. let (o, s, u, v) = all .has k p h in
+          f .miss l o (subst (λ s. Holds registers link (getD head (s % chainCount) 0) o) e u) (v ∙ e);
       kept = λ z. absurd (omega arith);
       chains = record {
         head-long = simp length-set (w .head-long);

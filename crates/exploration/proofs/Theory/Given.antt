@@ -74,7 +74,8 @@ module _ (given : Given) where
   branch-held k b l =
       let (x, e) = within-list (points.points body) k (omega (arith, compileBlock-length body 0 end)) in
       let f : k % mostPoints ≡ k = omega (arith, given .few) in
-      ap (λ y. meant (moveOf y b)) (ap (λ z. getD held z noPoint) f ∙ held-at (points.points body) (mostPoints - length (map heldPoint (points.points body))) k x e)
+      ap (λ y. meant (moveOf y b)) (ap (λ z. getD held z noPoint) f
+      ∙ held-at (points.points body) (mostPoints - length (map heldPoint (points.points body))) k x e)
       ∙ branch-meant x b ∙ ap (λ o. moved o (branchNumbered b)) (sym e)
 
   -- their letters fit

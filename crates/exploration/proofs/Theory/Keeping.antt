@@ -36,7 +36,8 @@ module _ (count : ℕ) (t head link : List ℕ) (x : Indexed t head link count) 
   keeps-failed w r e = subst (λ r. Keeps count t r t head link) (sym e) (byTest (w .infeasible) (λ i. rw i keeps-on) λ i. rw i keeps-failing)
 
   -- a pair is listed
-  module _ (pair : List ℕ) (i b : ℕ) (whole : length pair ≡ encodedBytes) (within : count < mostPairs) (fits : recordBytes * count + recordBytes ≤ length t) where
+  module _ (pair : List ℕ) (i b : ℕ) (whole : length pair ≡ encodedBytes) (within : count < mostPairs)
+      (fits : recordBytes * count + recordBytes ≤ length t) where
     long : length (recordOf pair i b) ≡ recordBytes
     long = record-long t count i b pair fits whole
 

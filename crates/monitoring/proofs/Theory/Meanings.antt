@@ -63,7 +63,8 @@ starts word r e = record {
       subst (λ (s : Stepped). (outcomeAnswer (s .outcome) ≡ value tt) × Monitors (begin h) (s .monitor)) (sym q)
       (refl, monitors (begin h) (freshMonitor h) v (follows-start h (v .registers)));
   refused = λ none.
-      let q : r ≡ stepped (outcome.Refused headerMalformed) idleOf = e ∙ start-refused word headerMalformed 0 (decode-header-refused first-roomy word .1 none) in
+      let q : r ≡ stepped (outcome.Refused headerMalformed) idleOf =
+      e ∙ start-refused word headerMalformed 0 (decode-header-refused first-roomy word .1 none) in
       subst (λ (s : Stepped). (outcomeAnswer (s .outcome) ≡ refusal headerMalformed 0) × RefusesAll (s .monitor)) (sym q) (refl, idle-refuses);
 }
 
@@ -85,7 +86,8 @@ advances m word r e = record {
       subst (λ (s : Stepped). (outcomeAnswer (s .outcome) ≡ value tt) × Monitors (ρ ▸ a) (s .monitor)) (sym q)
       (refl, monitors (ρ ▸ a) (movedOf m a) v (follows-moved ρ m (t .follows) a (fits-within (state ρ .header) a (v .registers) (v .functions) f) f));
   refused = λ ρ t none.
-      let q : r ≡ stepped (outcome.Refused letterMalformed) m = e ∙ advance-refused m word letterMalformed 0 (letter-none ρ (m .header) (t .follows .header) (t .fits) word none) in
+      let q : r ≡ stepped (outcome.Refused letterMalformed) m =
+      e ∙ advance-refused m word letterMalformed 0 (letter-none ρ (m .header) (t .follows .header) (t .fits) word none) in
       subst (λ (s : Stepped). (outcomeAnswer (s .outcome) ≡ refusal letterMalformed 0) × (s .monitor ≡ m)) (sym q) (refl, refl);
 }
 

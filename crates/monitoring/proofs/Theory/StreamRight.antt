@@ -106,7 +106,8 @@ module _ {A : Type 0} (decode : A → Answer Letter) (h : Header) where
       more a (refused number place) p = omega arith
 
       by : (d : Answer Letter) → ((a : Letter) → Numbers (size (ρ ▸ a) + length codes) (exactAfter (ρ ▸ a) (lettersFrom decode h (n + 1) codes)))
-          → Numbers (size ρ + suc (length codes)) (exactAfter ρ (onAnswer d (λ l. before l (lettersFrom decode h (n + 1) codes)) λ _ _. refused letterMalformed n))
+          → Numbers (size ρ + suc (length codes))
+          (exactAfter ρ (onAnswer d (λ l. before l (lettersFrom decode h (n + 1) codes)) λ _ _. refused letterMalformed n))
       by (value a) i = more a (lettersFrom decode h (n + 1) codes) (i a)
       by (refusal number place) i = omega arith
 

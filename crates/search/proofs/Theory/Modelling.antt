@@ -24,7 +24,8 @@ module _ (bytes : List ℕ) (start : ℕ) (output : List ℕ) (r : Shown) (back 
   at-place = subst (λ n. Showed s (drop n output) r back) (sym long)
       (subst (λ x. Showed s x r back) (tail-lent (traceBytes - start) output) (subst (λ x. Showed x (take (length output - (traceBytes - start)) (drop (traceBytes - start) output)) r back) (ap (λ n. take (n - start) (drop start bytes)) (sym b) ∙ tail-lent start bytes) w))
 
-  module _ (output′ : List ℕ) (e : output′ ≡ take (traceBytes - start) output ++ (back ++ drop (length output - (traceBytes - start)) (drop (traceBytes - start) output))) where
+  module _ (output′ : List ℕ)
+      (e : output′ ≡ take (traceBytes - start) output ++ (back ++ drop (length output - (traceBytes - start)) (drop (traceBytes - start) output))) where
     standing : output′ ≡ take (length s) output ++ back
     standing = e ∙ tail-back (traceBytes - start) output back ∙ ap (λ n. take n output ++ back) (sym long)
 

@@ -6,7 +6,7 @@ use lib.ListN.{length, drop, replicate, length-replicate}
 use Rattle.letters.specs.declared.Letter.{Letter}
 use Rattle.records.specs.Records.{recordBytes}
 use Rattle.search.specs.Trails.{trailTo, trailOf}
-use Rattle.search.specs.Tracing.{Older, wordBytes, letterWords, traced, lastLetter, mostMoves}
+use Rattle.search.specs.Tracing.{Older, wordBytes, letterWords, traced, lastLetter, mostMoves, traceBytes}
 use Rattle.search.proofs.Theory.TracingLaws.{letter-is, first-stored, letter-stored, header-stored, trail-first, trail-turn, trail-whole}
 use borrow.Author.Needs.{needs}
 use Rattle.search.proofs.pack.Statement.{statement}
@@ -22,7 +22,7 @@ use Rattle.table.proofs.point_at.Reads as point-at-reads
 
 abbrev Inv-loop : tie.InvT-loop
 Inv-loop header table d points bytes₀ k word at₀ j₀ bytes at j =
-    (j ≤ d / 2) × (2 * j + 2 ≤ at) × (at ≤ lastLetter) × (d < mostMoves) × (recordBytes * (d / 2) + recordBytes ≤ length table) × (length bytes ≡ 2050)
+    (j ≤ d / 2) × (2 * j + 2 ≤ at) × (at ≤ lastLetter) × (d < mostMoves) × (recordBytes * (d / 2) + recordBytes ≤ length table) × (length bytes ≡ traceBytes)
     × Older table (d / 2 + 1)
     × ((rest : List Letter) × (drop at bytes ≡ wordBytes (letterWords header rest)) × (trailTo points table j j rest ≡ trailOf points table d))
 
@@ -57,7 +57,7 @@ array-write-bytes-2 : tie.Need-array-write-bytes-2 Inv-loop μ-loop
 array-write-bytes-2 c = search needs
 
 loop-holds : tie.Need-loop-holds Inv-loop μ-loop
-loop-holds c = let a = (c .before .before .before .before .before .args) in let r = (c .before .letter-of .result) in (search needs, search needs, search needs, search needs, search needs, search needs, (c .before .before .before .before .before .pre .2), (r ∷ [], first-stored (a .header) (replicate 2050 0) ((c .letter-word .result)) (length-replicate {A = ℕ} 2050 0) r ((c .letter-word .ensures)), trail-first (a .t2) (a .table .now) (a .d) r (letter-is (a .t2) (a .table .now) (a .d / 2) (a .d % 2) ((c .before .before .before .point-at .result)) r ((c .before .before .before .point-at .ensures)) ((c .before .letter-of .ensures)))))
+loop-holds c = let a = (c .before .before .before .before .before .args) in let r = (c .before .letter-of .result) in (search needs, search needs, search needs, search needs, search needs, search needs, (c .before .before .before .before .before .pre .2), (r ∷ [], first-stored (a .header) (replicate traceBytes 0) ((c .letter-word .result)) (length-replicate {A = ℕ} traceBytes 0) r ((c .letter-word .ensures)), trail-first (a .t2) (a .table .now) (a .d) r (letter-is (a .t2) (a .table .now) (a .d / 2) (a .d % 2) ((c .before .before .before .point-at .result)) r ((c .before .before .before .point-at .ensures)) ((c .before .letter-of .ensures)))))
 
 parent-at-requires : tie.Need-parent-at-requires Inv-loop μ-loop
 parent-at-requires c κs = search needs

@@ -211,7 +211,8 @@ module _ (s : List ℕ) (h : Header) (n : ℕ) (r : run.Begun s h n) (out : List
   pub showed-stopped : {function first second representative : List ℕ} {o : Outcome} (k : ℕ) → run.Ran s h n function first second representative o → o ≡ outcome.Infeasible k
       → (a : Shown) → Stopped h (run.restOf s h n k) k a → Showed s out a out
   showed-stopped k d q a (well more y) = let (ls, e, f, p) = ran-infeasible k d q in let g = e ∙ ap (run.behind ls) y in showed-first (ls ++ more) k g (first-of-all ls more k p g f) p
-  showed-stopped k d q a (ill b y) = let (ls, e, f, p) = ran-infeasible k d q in showed-unread letterMalformed b (read-within s h n r ∙ e ∙ ap (run.behind ls) y)
+  showed-stopped k d q a (ill b y) = let (ls, e, f, p) = ran-infeasible k d q in
+      showed-unread letterMalformed b (read-within s h n r ∙ e ∙ ap (run.behind ls) y)
 
   module _ {function first second representative : List ℕ} {o : Outcome} (k : ℕ) (d : run.Ran s h n function first second representative o) (q : o ≡ outcome.Feasible k) where
     pub known : Known h function first second representative k
@@ -245,7 +246,8 @@ module _ (s : List ℕ) (d : HeaderRead) (e : beginningAnswer d ≡ beginning fi
 
     pub showed-long : mostLetters < letterCount firstEdition s → Showed s out (shown.Refused traceTooLong 0) out
     unfolding answerTo outputAfter readingWhere
-    showed-long b = let t = lt-ltb mostLetters (letterCount firstEdition s) b in showed s out (shown.Refused traceTooLong 0) out (rw (header-is, t)) (rw (header-is, t))
+    showed-long b = let t = lt-ltb mostLetters (letterCount firstEdition s) b in showed s out (shown.Refused traceTooLong 0) out
+        (rw (header-is, t)) (rw (header-is, t))
 
     pub begun : letterCount firstEdition s ≤ mostLetters → run.Begun s h (letterCount firstEdition s)
     begun b = record { header = header-is; letters = refl; few = b }

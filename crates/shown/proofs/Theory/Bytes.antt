@@ -17,7 +17,8 @@ use Rattle.semantics.specs.PackedTables.{units, rowWord, secondWritten, packTab
 use Rattle.semantics.proofs.Theory.PackedTablesLaws.{units-length}
 use Rattle.shown.specs.Inserted.{inserted}
 use Rattle.shown.proofs.Theory.Inserted.{inserted-none, inserted-more, inserted-length}
-use Rattle.shown.specs.Bytes.{putFive, written, rowFor, wordFor, wordsFor, RowIn, StartsFit, RowsFit, tablesIn, Writable, valueRange, modelLength, joinedOf, countsBytes}
+use Rattle.shown.specs.Bytes.{countsBytes, modelLength, valueRange, joinedOf}
+use Rattle.shown.specs.Bytes.{putFive, written, rowFor, wordFor, wordsFor, RowIn, StartsFit, RowsFit, tablesIn, Writable}
 
 pub units-append : (k : ℕ) (ns ms : List ℕ) → units k (ns ++ ms) ≡ units k ns ++ units k ms
 unfolding units

@@ -14,6 +14,7 @@ use Rattle.monitoring.specs.declared.Phase.the-variants.{Empty, One, Even, Odd}
 use Rattle.monitoring.specs.declared.Stream.{Stream}
 use Rattle.monitoring.specs.declared.Verdict.{Verdict}
 use Rattle.monitoring.specs.declared.Verdict.the-variants.{Judged, Refused}
+use Rattle.states.specs.States.{monitorSize, lettersPlace, firstPlace, secondPlace}
 use Rattle.states.specs.States.{eightOctets, headOf, partsThen, monitorThen, Sizes, WindowSizes, windowIn, monitorIn}
 use Rattle.states.specs.States.{phaseCode, phaseIn, verdictCode, refusalNumber, firstNumber, secondNumber, verdictIn}
 use Rattle.states.specs.States.{tailOf, tailThen, streamThen, numberIn, streamIn}
@@ -28,7 +29,7 @@ module _ (head class unequal marks ever result : List ℕ) (heads : length head 
   joined : List ℕ
   joined = head ++ class ++ unequal ++ marks ++ ever ++ result
 
-  joined-size : length joined ≡ 318
+  joined-size : length joined ≡ monitorSize
   unfolding joined
   joined-size = simp length-append (omega (arith, z .classes, z .unequals, z .marked, z .evers, z .results))
 
@@ -37,13 +38,13 @@ module _ (head class unequal marks ever result : List ℕ) (heads : length head 
   parts-joined rest = simp append-assoc
 
   -- what stands behind the parts
-  pub behind : (rest : List ℕ) → drop 318 (partsThen head class unequal marks ever result rest) ≡ rest
-  behind rest = rw (parts-joined rest) (drop-at joined rest 318 joined-size)
+  pub behind : (rest : List ℕ) → drop monitorSize (partsThen head class unequal marks ever result rest) ≡ rest
+  behind rest = rw (parts-joined rest) (drop-at joined rest monitorSize joined-size)
 
   -- other bytes behind them
   pub front : (rest other : List ℕ)
-      → take 318 (partsThen head class unequal marks ever result rest) ++ other ≡ partsThen head class unequal marks ever result other
-  front rest other = rw (parts-joined rest, take-at joined rest 318 joined-size) (sym (parts-joined other))
+      → take monitorSize (partsThen head class unequal marks ever result rest) ++ other ≡ partsThen head class unequal marks ever result other
+  front rest other = rw (parts-joined rest, take-at joined rest monitorSize joined-size) (sym (parts-joined other))
 
 pub monitor-back : (kind : ℕ) (m : Monitor) (rest : List ℕ) → WindowSizes (m .window) → monitorIn (monitorThen kind m rest) ≡ m
 unfolding monitorIn windowIn
@@ -100,12 +101,12 @@ stream-back kind s rest z a b c =
     let o = split eightOctets (secondNumber v) in
     let t = tailThen (tailOf s) x y o rest in
     let all = monitorThen kind m t in
-    let d : drop 318 all ≡ t = behind (headOf kind m) (w .class) (w .unequal) (map flag (w .mark)) (w .ever) (w .result) refl z t in
-    let at : (i : ℕ) → getD all (318 + i) 0 ≡ getD t i 0 = (λ i. sym (getD-drop 318 all i 0) ∙ ap (λ l. getD l i 0) d) in
-    let f : drop 322 all ≡ x ++ (y ++ (o ++ rest)) = next all (tailOf s) (x ++ (y ++ (o ++ rest))) 318 4 322 d refl refl in
-    let g : drop 330 all ≡ y ++ (o ++ rest) = next all x (y ++ (o ++ rest)) 322 8 330 f refl refl in
-    let i : drop 338 all ≡ o ++ rest = next all y (o ++ rest) 330 8 338 g refl refl in
-    let n₁ : numberIn 322 all ≡ s .run .letters = ap (λ l. join eightOctets (take 8 l)) f ∙ a in
-    let n₂ : numberIn 330 all ≡ firstNumber v = ap (λ l. join eightOctets (take 8 l)) g ∙ b in
-    let n₃ : numberIn 338 all ≡ secondNumber v = ap (λ l. join eightOctets (take 8 l)) i ∙ c in
+    let d : drop monitorSize all ≡ t = behind (headOf kind m) (w .class) (w .unequal) (map flag (w .mark)) (w .ever) (w .result) refl z t in
+    let at : (i : ℕ) → getD all (monitorSize + i) 0 ≡ getD t i 0 = (λ i. sym (getD-drop monitorSize all i 0) ∙ ap (λ l. getD l i 0) d) in
+    let f : drop lettersPlace all ≡ x ++ (y ++ (o ++ rest)) = next all (tailOf s) (x ++ (y ++ (o ++ rest))) monitorSize 4 lettersPlace d refl refl in
+    let g : drop firstPlace all ≡ y ++ (o ++ rest) = next all x (y ++ (o ++ rest)) lettersPlace 8 firstPlace f refl refl in
+    let i : drop secondPlace all ≡ o ++ rest = next all y (o ++ rest) firstPlace 8 secondPlace g refl refl in
+    let n₁ : numberIn lettersPlace all ≡ s .run .letters = ap (λ l. join eightOctets (take 8 l)) f ∙ a in
+    let n₂ : numberIn firstPlace all ≡ firstNumber v = ap (λ l. join eightOctets (take 8 l)) g ∙ b in
+    let n₃ : numberIn secondPlace all ≡ secondNumber v = ap (λ l. join eightOctets (take 8 l)) i ∙ c in
     rw (at 0, at 1, at 2, at 3, monitor-back kind m t z, n₁, n₂, n₃, phase-back (s .phase), verdict-back v)

@@ -9,5 +9,6 @@ use Rattle.table.proofs.capacity.Tie as tie
 
 pub capacity-spec : {M : Type 1} → statement M
 unfolding capacityOf
-capacity-spec = tie.close (tie.spec (λ c. let h : c .before .args .length / firstEdition .pairBytes ≤ mostPairs = omega arith in sym (min-comm mostPairs (c .before .args .length / firstEdition .pairBytes)
+capacity-spec = tie.close (tie.spec (λ c. let h : c .before .args .length / firstEdition .pairBytes ≤ mostPairs = omega arith in
+    sym (min-comm mostPairs (c .before .args .length / firstEdition .pairBytes)
     ∙ min-eq-left h)) (λ c. let h : mostPairs ≤ c .before .args .length / firstEdition .pairBytes = omega arith in sym (min-eq-left h)))
