@@ -13,6 +13,9 @@ const MOST_READ: usize = LONGEST_TEXT + 1;
 // The points of a macro are printed if there are no more.
 const FEW_POINTS: u16 = 12;
 
+// The turns that print them.
+const TURNS: usize = FEW_POINTS as usize;
+
 fn space() -> [u8; MOST_READ] {
     [0; MOST_READ]
 }
@@ -69,7 +72,7 @@ fn print_points(points: [Point; POINT_SPACE], count: u16) {
         return;
     }
     let mut i: usize = 0;
-    while i < FEW_POINTS as usize {
+    while i < TURNS {
         if count as usize <= i {
             return;
         }
