@@ -1,4 +1,4 @@
--- A choice by a test, and the tests that code makes.
+-- A choice by a test.
 use mathlib.Core.Bool.{Bool, true, false}
 
 -- a where the test holds, else b. The two wait until the test is known, so that a definition by recursion stops where the test says

@@ -1,4 +1,4 @@
--- A list changed entry by entry, and the laws of the loop that does it in place.
+-- A list changed entry by entry, as a loop does it in place.
 use Prim.Native.Nat.{ℕ, zero, suc}
 use mathlib.Core.List.{List, [], _∷_}
 
@@ -9,10 +9,10 @@ module _ {ℓ} {A : Type ℓ} (f : ℕ → A → A) where
   eachFrom i (x ∷ xs) = f i x ∷ eachFrom (suc i) xs
 
   -- the first k entries changed, the others as they were
-  unfoldable pub doneFrom : ℕ → ℕ → List A → List A
-  doneFrom i zero xs = xs
-  doneFrom i (suc k) [] = []
-  doneFrom i (suc k) (x ∷ xs) = f i x ∷ doneFrom (suc i) k xs
+  unfoldable pub eachUpToFrom : ℕ → ℕ → List A → List A
+  eachUpToFrom i zero xs = xs
+  eachUpToFrom i (suc k) [] = []
+  eachUpToFrom i (suc k) (x ∷ xs) = f i x ∷ eachUpToFrom (suc i) k xs
 
 -- ---- as code uses them: the places count from 0, and go up by one
 
@@ -22,5 +22,5 @@ module _ {ℓ} {A : Type ℓ} (f : ℕ → A → A) where
   each xs = eachFrom f 0 xs
 
   -- the same of the first k entries only: what the list holds after k turns of the loop
-  unfoldable pub done : ℕ → List A → List A
-  done k xs = doneFrom f 0 k xs
+  unfoldable pub eachUpTo : ℕ → List A → List A
+  eachUpTo k xs = eachUpToFrom f 0 k xs

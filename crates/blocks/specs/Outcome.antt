@@ -13,26 +13,26 @@ use Rattle.tokens.specs.declared.Token.{Token}
 use Rattle.tokens.specs.Tokens.{tokenAt}
 use Rattle.tokens.specs.Words as word
 use Rattle.grammar.specs.Limits.{mostPoints}
-use Rattle.grammar.specs.Reading.{Got, got, refused, exhausted, onward, condition, bracesT, elseT, block, statement}
+use Rattle.grammar.specs.Reading.{Got, got, exhausted, andThen, condition, bracesT, elseT, block, statement}
 use Rattle.phrases.specs.Codes.{Few}
-use Rattle.phrases.specs.declared.Got as number
+use Rattle.phrases.specs.declared.GotNumber as number
 use Rattle.phrases.specs.declared.GotLetter as letter
-use Rattle.blocks.specs.Held.{point, heldPoint, Progress, Holds, unknown, turned, tooMany}
-use Rattle.blocks.specs.declared.Point.{Point}
+use Rattle.blocks.specs.Held.{point, heldPoint, Progress, HoldsPoints, unknown, backpatched, tooMany}
+use Rattle.blocks.specs.declared.PointEntry.{PointEntry}
 
 -- Read, on to the place e, with the points ps more; in front of them and behind them stand the points that were lent.
 -- Free are two things: what the arrays hold once there are more than the most points, of which no macro is made, and which of a point's codes stands for it.
-pub record Fine (st r : Progress) (ps : List Point) (e : ℕ) : Type 0 where
+pub record Fine (st r : Progress) (ps : List PointEntry) (e : ℕ) : Type 0 where
   pub ok : r .ok ≡ true
   pub number : r .number ≡ 0
   pub place : r .place ≡ 0
   pub at : r .at ≡ e
   pub low : st .count + length ps ≤ mostPoints → r .count ≡ st .count + length ps
   pub high : mostPoints < st .count + length ps → r .count ≡ tooMany
-  pub laid : (old ds : List Point) → Holds old st ds → length ds + length ps ≤ mostPoints → Holds old r (ds ++ ps)
+  pub laid : (old ds : List PointEntry) → HoldsPoints old st ds → length ds + length ps ≤ mostPoints → HoldsPoints old r (ds ++ ps)
 
 -- Refused by a number, at a place. Free is one thing: what the arrays hold, which no one reads beside a refusal.
-pub record Refusal (r : Progress) (n p : ℕ) : Type 0 where
+pub record RefusedAt (r : Progress) (n p : ℕ) : Type 0 where
   pub ok : r .ok ≡ false
   pub number : r .number ≡ n
   pub place : r .place ≡ p
@@ -40,40 +40,40 @@ pub record Refusal (r : Progress) (n p : ℕ) : Type 0 where
   pub count : r .count ≡ 0
 
 -- The state r, reached from st, is what was read; `code` gives its points, numbered from a number on.
-abbrev pub Outcome : {A : Type 0} → (A → ℕ → List Point) → Progress → Progress → Got A → Type 0
-Outcome code st r (got a e) = Fine st r (code a (st .count)) e
-Outcome code st r (refused n p) = Refusal r n p
-Outcome code st r exhausted = ⊥
+abbrev pub ReadAs : {A : Type 0} → (A → ℕ → List PointEntry) → Progress → Progress → Got A → Type 0
+ReadAs code st r (got a e) = Fine st r (code a (st .count)) e
+ReadAs code st r (Got.refused n p) = RefusedAt r n p
+ReadAs code st r exhausted = ⊥
 
 -- a point of which it is not yet known what follows
-abbrev pub waiting : ℕ → Letter → Point
+abbrev pub waiting : ℕ → Letter → PointEntry
 waiting k l = point k l unknown 0
 
 -- the same of an answer as code holds it: with a point more, and with none
 abbrev pub Settled : ℕ → Progress → Progress → letter.GotLetter → Type 0
 Settled k st r (letter.the-variants.At l e) = Fine st r (waiting k l ∷ []) e
-Settled k st r (letter.the-variants.Refused n p) = Refusal r n p
+Settled k st r (letter.the-variants.Refused n p) = RefusedAt r n p
 
-abbrev pub Passed : Progress → Progress → number.Got → Type 0
+abbrev pub Passed : Progress → Progress → number.GotNumber → Type 0
 Passed st r (number.the-variants.At v e) = Fine st r [] e
-Passed st r (number.the-variants.Refused n p) = Refusal r n p
+Passed st r (number.the-variants.Refused n p) = RefusedAt r n p
 
 -- ---- the points of what was read, where what follows is not yet known
 
-unfoldable pub statementCode : Statement → ℕ → List Point
+unfoldable pub statementCode : Statement → ℕ → List PointEntry
 statementCode c base = map heldPoint (compile c base unknown)
 
-unfoldable pub elseCode : Else → ℕ → List Point
+unfoldable pub elseCode : Else → ℕ → List PointEntry
 elseCode o base = map heldPoint (compileElse o base unknown)
 
-unfoldable pub blockCode : Block → ℕ → List Point
+unfoldable pub blockCode : Block → ℕ → List PointEntry
 blockCode b base = map heldPoint (compileBlock b base unknown)
 
 -- ---- changes to the table
 
 -- entry i of a list of what follows, with f for what is not yet known if it is in the range
-abbrev pub turnedIn : ℕ → ℕ → ℕ → ℕ → ℕ → ℕ
-turnedIn from to f i n = pick (ltb i from) (λ _. n) λ _. pick (ltb i to) (λ _. turned f n) λ _. n
+abbrev pub backpatchedIn : ℕ → ℕ → ℕ → ℕ → ℕ → ℕ
+backpatchedIn from to f i n = pick (ltb i from) (λ _. n) λ _. pick (ltb i to) (λ _. backpatched f n) λ _. n
 
 -- where the points in a range begin; at what follows if there are none
 abbrev pub begins : ℕ → ℕ → ℕ → ℕ
@@ -85,7 +85,7 @@ changedTo count n new old = pick (ltb mostPoints count) (λ _. old) λ _. pick (
 
 -- ---- what each reader of statements asks, and what it ensures
 
-pub record Ready (rs fs ns : List ℕ) (count : ℕ) : Type 0 where
+pub record ReaderReady (rs fs ns : List ℕ) (count : ℕ) : Type 0 where
   pub few : Few rs fs ns
   pub counted : count ≤ tooMany
 
@@ -95,41 +95,41 @@ module _ (s rs fs ns : List ℕ) (d : ℕ) where
   Enough at k = 2 * (length s - at) ≤ k
 
   -- the block reader that a statement calls, with k calls left
-  abbrev pub inner : ℕ → ℕ → ℕ → Got Block
-  inner k e a = block s rs fs ns k e a
+  abbrev pub innerBlock : ℕ → ℕ → ℕ → Got Block
+  innerBlock k e a = block s rs fs ns k e a
 
   -- the braces and the else that begin at a place
   abbrev pub bracesAt : ℕ → ℕ → Got Block
-  bracesAt k at = bracesT s rs fs ns (inner k) d (tokenAt s at)
+  bracesAt k at = bracesT s rs fs ns (innerBlock k) d (tokenAt s at)
 
   abbrev pub elseAt : ℕ → ℕ → Got Else
-  elseAt k at = elseT s rs fs ns (inner k) d at (tokenAt s at)
+  elseAt k at = elseT s rs fs ns (innerBlock k) d at (tokenAt s at)
 
   -- an if and a while, behind the word
   abbrev pub ifAt : ℕ → ℕ → Got Statement
-  ifAt k at = onward (condition s rs at) λ c a. onward (bracesAt k a) λ b e. onward (elseAt k e) λ o f. got (if c b o) f
+  ifAt k at = andThen (condition s rs at) λ c a. andThen (bracesAt k a) λ b e. andThen (elseAt k e) λ o f. got (if c b o) f
 
   abbrev pub whileAt : ℕ → ℕ → Got Statement
-  whileAt k at = onward (condition s rs at) λ c a. onward (bracesAt k a) λ b e. got (while c b) e
+  whileAt k at = andThen (condition s rs at) λ c a. andThen (bracesAt k a) λ b e. got (while c b) e
 
   pub record BlockRead (st r : Progress) : Type 0 where
-    pub outcome : (k : ℕ) → Enough (st .at) k → Outcome blockCode st r (block s rs fs ns (suc k) d (st .at))
+    pub outcome : (k : ℕ) → Enough (st .at) k → ReadAs blockCode st r (block s rs fs ns (suc k) d (st .at))
 
   pub record StatementRead (st r : Progress) : Type 0 where
-    pub outcome : (k : ℕ) → Enough (st .at) (suc k) → Outcome statementCode st r (statement s rs fs ns (suc k) d (st .at))
+    pub outcome : (k : ℕ) → Enough (st .at) (suc k) → ReadAs statementCode st r (statement s rs fs ns (suc k) d (st .at))
 
   pub record BracesRead (st r : Progress) : Type 0 where
-    pub outcome : (k : ℕ) → Enough (st .at) k → Outcome blockCode st r (bracesAt k (st .at))
+    pub outcome : (k : ℕ) → Enough (st .at) k → ReadAs blockCode st r (bracesAt k (st .at))
 
   pub record ElseRead (st r : Progress) : Type 0 where
-    pub outcome : (k : ℕ) → Enough (st .at) k → Outcome elseCode st r (elseAt k (st .at))
+    pub outcome : (k : ℕ) → Enough (st .at) k → ReadAs elseCode st r (elseAt k (st .at))
 
   pub record ConditionalRead (st r : Progress) : Type 0 where
-    pub outcome : (k : ℕ) → Enough (st .at) k → Outcome statementCode st r (ifAt k (st .at))
+    pub outcome : (k : ℕ) → Enough (st .at) k → ReadAs statementCode st r (ifAt k (st .at))
 
   pub record RepeatRead (st r : Progress) : Type 0 where
-    pub outcome : (k : ℕ) → Enough (st .at) k → Outcome statementCode st r (whileAt k (st .at))
+    pub outcome : (k : ℕ) → Enough (st .at) k → ReadAs statementCode st r (whileAt k (st .at))
 
 -- the statement at a place whose token t begins no statement with a block in it
 pub record PlainRead (s rs fs ns : List ℕ) (t : Token) (st r : Progress) : Type 0 where
-  pub read : (d : ℕ) → t ≡ tokenAt s (st .at) → (t .key ≡ word.if → ⊥) → (t .key ≡ word.while → ⊥) → StatementRead s rs fs ns d st r
+  pub read : (d : ℕ) → t ≡ tokenAt s (st .at) → (t .key ≡ word.ifKey → ⊥) → (t .key ≡ word.whileKey → ⊥) → StatementRead s rs fs ns d st r

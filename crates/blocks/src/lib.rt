@@ -1,8 +1,8 @@
 // Statements and blocks of a macro, and the table of its points (document 01, "Macro text").
 use letters::Letter;
 use letters::refusal_numbers::NESTING_TOO_DEEP;
-use phrases::Got;
 use phrases::GotLetter;
+use phrases::GotNumber;
 use tokens::Token;
 ghost use mathlib.Core.Path.{_≡_};
 ghost use mathlib.Core.List.{List, [], _∷_};
@@ -11,12 +11,12 @@ ghost use lib.ListN.{set};
 ghost use Rattle.base.specs.Each.{each};
 ghost use Rattle.letters.specs.Packing.{split};
 ghost use Rattle.grammar.specs.Limits.{mostPoints};
-ghost use Rattle.blocks.specs.Held.{fields, pointAt, tableOf, Coded, progressOf, heldBy, unknown, turned, tooMany, unused};
-ghost use Rattle.blocks.specs.Outcome.{turnedIn, begins, changedTo, waiting, Fine, Refusal, Settled, Passed, Ready};
+ghost use Rattle.blocks.specs.Held.{fields, pointOfCode, tableOfCodes, Coded, progressOf, heldBy, unknown, backpatched, tooMany, unusedPoint};
+ghost use Rattle.blocks.specs.Outcome.{backpatchedIn, begins, changedTo, waiting, Fine, RefusedAt, Settled, Passed, ReaderReady};
 ghost use Rattle.blocks.specs.Outcome.{PlainRead, BlockRead, StatementRead, BracesRead, ElseRead, ConditionalRead, RepeatRead};
 
 /// A point of a macro.
-pub struct Point {
+pub struct PointEntry {
     /// `STEP`, `CHECK` or `FORK`.
     pub kind: u8,
     /// The letter that it performs; of a condition, its test as written.
@@ -28,7 +28,7 @@ pub struct Point {
 }
 
 /// How far reading has come.
-pub struct State {
+pub struct ReaderState {
     /// Whether nothing was refused.
     pub ok: bool,
     /// The number of the refusal; 0 if there is none.
@@ -66,7 +66,7 @@ const UNKNOWN: u16 = MOST_POINTS;
 pub type Codes = [u64; POINT_SPACE];
 
 /// A point that follows each point.
-pub type Follows = [u16; POINT_SPACE];
+pub type Successors = [u16; POINT_SPACE];
 
 // The variants of a letter, as numbers.
 const COPY: u8 = 0;
@@ -124,7 +124,7 @@ fn code_of(kind: u8, letter: Letter) -> u64
 
 // The letter of a code.
 fn letter_at(code: u64) -> Letter
-    ensures { λ r. ⌜ r ≡ pointAt code 0 0 .letter ⌝ }
+    ensures { λ r. ⌜ r ≡ pointOfCode code 0 0 .letter ⌝ }
 {
     let variant = (code / VARIANT % BYTE) as u8;
     let function = (code / FUNCTION % BYTE) as u8;
@@ -152,12 +152,12 @@ fn letter_at(code: u64) -> Letter
 }
 
 // The point of a code and of what follows.
-fn point_at(code: u64, first: u16, second: u16) -> Point
-    ensures { λ r. ⌜ r ≡ pointAt code first second ⌝ }
+fn point_at(code: u64, first: u16, second: u16) -> PointEntry
+    ensures { λ r. ⌜ r ≡ pointOfCode code first second ⌝ }
 {
     let kind = (code / KIND % BYTE) as u8;
     let letter = letter_at(code);
-    Point {
+    PointEntry {
         kind: kind,
         letter: letter,
         first: first,
@@ -168,12 +168,12 @@ fn point_at(code: u64, first: u16, second: u16) -> Point
 /// The first `count` points that the arrays hold, as a table.
 pub fn points_of(
     code: &Codes,
-    first: &Follows,
-    second: &Follows,
+    first: &Successors,
+    second: &Successors,
     count: u16,
-) -> [Point; POINT_SPACE]
+) -> [PointEntry; POINT_SPACE]
     requires { ⌜ count ≤ mostPoints ⌝ }
-    ensures { λ r. ⌜ r ≡ tableOf (now (code .entry)) (now (first .entry)) (now (second .entry)) count ⌝ }
+    ensures { λ r. ⌜ r ≡ tableOfCodes (now (code .entry)) (now (first .entry)) (now (second .entry)) count ⌝ }
 {
     let mut points = [no_point(); POINT_SPACE];
     let mut i: usize = 0;
@@ -185,10 +185,10 @@ pub fn points_of(
 }
 
 /// What stands in a table where there is no point.
-pub fn no_point() -> Point
-    ensures { λ r. ⌜ r ≡ unused ⌝ }
+pub fn no_point() -> PointEntry
+    ensures { λ r. ⌜ r ≡ unusedPoint ⌝ }
 {
-    Point {
+    PointEntry {
         kind: STEP,
         letter: Letter::Copy {
             target: 0,
@@ -199,10 +199,10 @@ pub fn no_point() -> Point
     }
 }
 
-fn stopped(number: u8, place: usize) -> State
-    ensures { λ r. ⌜ ((ps : List Point) → Refusal (progressOf r ps) number place) ⌝ }
+fn stopped(number: u8, place: usize) -> ReaderState
+    ensures { λ r. ⌜ ((ps : List PointEntry) → RefusedAt (progressOf r ps) number place) ⌝ }
 {
-    State {
+    ReaderState {
         ok: false,
         number: number,
         place: place,
@@ -212,11 +212,11 @@ fn stopped(number: u8, place: usize) -> State
 }
 
 // On to a place, with no point more.
-fn moved(st: State, at: usize) -> State
+fn moved(st: ReaderState, at: usize) -> ReaderState
     requires { ⌜ st .count ≤ tooMany ⌝ }
-    ensures { λ r. ⌜ ((ps : List Point) → Fine (progressOf st ps) (progressOf r ps) [] at) ⌝ }
+    ensures { λ r. ⌜ ((ps : List PointEntry) → Fine (progressOf st ps) (progressOf r ps) [] at) ⌝ }
 {
-    State {
+    ReaderState {
         ok: true,
         number: 0,
         place: 0,
@@ -227,14 +227,14 @@ fn moved(st: State, at: usize) -> State
 
 // On to a place, with one point more.
 fn pushed(
-    st: State,
+    st: ReaderState,
     kind: u8,
     letter: Letter,
     at: usize,
     code: &mut Codes,
-    first: &mut Follows,
-    second: &mut Follows,
-) -> State
+    first: &mut Successors,
+    second: &mut Successors,
+) -> ReaderState
     ensures { λ r. ⌜ Fine (heldBy st (now (code .entry)) (now (first .entry)) (now (second .entry)))
         (heldBy r (now (code .exit)) (now (first .exit)) (now (second .exit))) (waiting kind letter ∷ []) at ⌝ }
 {
@@ -243,7 +243,7 @@ fn pushed(
         code[n as usize] = code_of(kind, letter);
         first[n as usize] = UNKNOWN;
         second[n as usize] = 0;
-        return State {
+        return ReaderState {
             ok: true,
             number: 0,
             place: 0,
@@ -251,7 +251,7 @@ fn pushed(
             count: n + 1,
         };
     }
-    State {
+    ReaderState {
         ok: true,
         number: 0,
         place: 0,
@@ -262,13 +262,13 @@ fn pushed(
 
 // On behind a letter that was read, with a point more that performs it, or the refusal.
 fn settled(
-    st: State,
+    st: ReaderState,
     kind: u8,
     g: GotLetter,
     code: &mut Codes,
-    first: &mut Follows,
-    second: &mut Follows,
-) -> State
+    first: &mut Successors,
+    second: &mut Successors,
+) -> ReaderState
     ensures { λ r. ⌜ Settled kind (heldBy st (now (code .entry)) (now (first .entry)) (now (second .entry)))
         (heldBy r (now (code .exit)) (now (first .exit)) (now (second .exit))) g ⌝ }
 {
@@ -279,18 +279,18 @@ fn settled(
 }
 
 // On behind what was read, with no point more, or the refusal.
-fn passed(st: State, g: Got) -> State
+fn passed(st: ReaderState, g: GotNumber) -> ReaderState
     requires { ⌜ st .count ≤ tooMany ⌝ }
-    ensures { λ r. ⌜ ((ps : List Point) → Passed (progressOf st ps) (progressOf r ps) g) ⌝ }
+    ensures { λ r. ⌜ ((ps : List PointEntry) → Passed (progressOf st ps) (progressOf r ps) g) ⌝ }
 {
     match g {
-        Got::At(_, e) => moved(st, e),
-        Got::Refused(n, p) => stopped(n, p),
+        GotNumber::At(_, e) => moved(st, e),
+        GotNumber::Refused(n, p) => stopped(n, p),
     }
 }
 
 fn follow(n: u16, f: u16) -> u16
-    ensures { λ r. ⌜ r ≡ turned f n ⌝ }
+    ensures { λ r. ⌜ r ≡ backpatched f n ⌝ }
 {
     if n == UNKNOWN {
         return f;
@@ -299,10 +299,10 @@ fn follow(n: u16, f: u16) -> u16
 }
 
 /// Puts f for what follows the points in a range.
-pub fn redirect_range(first: &mut Follows, second: &mut Follows, from: u16, to: u16, f: u16)
+pub fn redirect_range(first: &mut Successors, second: &mut Successors, from: u16, to: u16, f: u16)
     requires { ⌜ to ≤ mostPoints ⌝ }
-    ensures { λ _. ⌜ now (first .exit) ≡ each (turnedIn from to f) (now (first .entry)) ⌝ }
-    ensures other { λ _. ⌜ now (second .exit) ≡ each (turnedIn from to f) (now (second .entry)) ⌝ }
+    ensures { λ _. ⌜ now (first .exit) ≡ each (backpatchedIn from to f) (now (first .entry)) ⌝ }
+    ensures other { λ _. ⌜ now (second .exit) ≡ each (backpatchedIn from to f) (now (second .entry)) ⌝ }
 {
     let mut i: usize = from as usize;
     while i < to as usize {
@@ -323,9 +323,9 @@ fn begin(from: u16, to: u16, follow: u16) -> u16
 }
 
 // After a statement whose points are numbered from `to` to `count`: if it has one, it follows the points from `from` on.
-fn join(count: u16, from: u16, to: u16, first: &mut Follows, second: &mut Follows)
-    ensures { λ _. ⌜ now (first .exit) ≡ changedTo count to (each (turnedIn from to to) (now (first .entry))) (now (first .entry)) ⌝ }
-    ensures other { λ _. ⌜ now (second .exit) ≡ changedTo count to (each (turnedIn from to to) (now (second .entry))) (now (second .entry)) ⌝ }
+fn join(count: u16, from: u16, to: u16, first: &mut Successors, second: &mut Successors)
+    ensures { λ _. ⌜ now (first .exit) ≡ changedTo count to (each (backpatchedIn from to to) (now (first .entry))) (now (first .entry)) ⌝ }
+    ensures other { λ _. ⌜ now (second .exit) ≡ changedTo count to (each (backpatchedIn from to to) (now (second .entry))) (now (second .entry)) ⌝ }
 {
     if MOST_POINTS < count {
         return;
@@ -337,7 +337,7 @@ fn join(count: u16, from: u16, to: u16, first: &mut Follows, second: &mut Follow
 }
 
 // After the two blocks of an if, of which `base` is the number: the second block's points are numbered from `mid` to `count`.
-fn branch(count: u16, base: u16, mid: u16, first: &mut Follows, second: &mut Follows)
+fn branch(count: u16, base: u16, mid: u16, first: &mut Successors, second: &mut Successors)
     ensures { λ _. ⌜ now (first .exit) ≡ changedTo count base (set (now (first .entry)) base (begins (base + 1) mid unknown)) (now (first .entry)) ⌝ }
     ensures other { λ _. ⌜ now (second .exit) ≡ changedTo count base (set (now (second .entry)) base (begins mid count unknown)) (now (second .entry)) ⌝ }
 {
@@ -354,11 +354,11 @@ fn branch(count: u16, base: u16, mid: u16, first: &mut Follows, second: &mut Fol
 }
 
 // After the block of a while, of which `base` is the number, up to the point `count`: the while follows its block.
-fn repeat_from(count: u16, base: u16, first: &mut Follows, second: &mut Follows)
+fn repeat_from(count: u16, base: u16, first: &mut Successors, second: &mut Successors)
     ensures { λ _. ⌜ now (first .exit)
-        ≡ changedTo count base (set (each (turnedIn (base + 1) count base) (now (first .entry))) base (begins (base + 1) count base)) (now (first .entry)) ⌝ }
+        ≡ changedTo count base (set (each (backpatchedIn (base + 1) count base) (now (first .entry))) base (begins (base + 1) count base)) (now (first .entry)) ⌝ }
     ensures other { λ _. ⌜ now (second .exit)
-        ≡ changedTo count base (set (each (turnedIn (base + 1) count base) (now (second .entry))) base unknown) (now (second .entry)) ⌝ }
+        ≡ changedTo count base (set (each (backpatchedIn (base + 1) count base) (now (second .entry))) base unknown) (now (second .entry)) ⌝ }
 {
     if MOST_POINTS < count {
         return;
@@ -379,13 +379,13 @@ pub fn block(
     regs: &[u64],
     funs: &[u64],
     arities: &[u8],
-    st: State,
+    st: ReaderState,
     depth: usize,
     code: &mut Codes,
-    first: &mut Follows,
-    second: &mut Follows,
-) -> State
-    requires { ⌜ Ready (now regs) (now funs) (now arities) (st .count) ⌝ }
+    first: &mut Successors,
+    second: &mut Successors,
+) -> ReaderState
+    requires { ⌜ ReaderReady (now regs) (now funs) (now arities) (st .count) ⌝ }
     ensures { λ r. ⌜ BlockRead (now (text .entry)) (now (regs .entry)) (now (funs .entry)) (now (arities .entry)) depth
         (heldBy st (now (code .entry)) (now (first .entry)) (now (second .entry)))
         (heldBy r (now (code .exit)) (now (first .exit)) (now (second .exit))) ⌝ }
@@ -418,13 +418,13 @@ fn statement(
     regs: &[u64],
     funs: &[u64],
     arities: &[u8],
-    st: State,
+    st: ReaderState,
     depth: usize,
     code: &mut Codes,
-    first: &mut Follows,
-    second: &mut Follows,
-) -> State
-    requires { ⌜ Ready (now regs) (now funs) (now arities) (st .count) ⌝ }
+    first: &mut Successors,
+    second: &mut Successors,
+) -> ReaderState
+    requires { ⌜ ReaderReady (now regs) (now funs) (now arities) (st .count) ⌝ }
     ensures { λ r. ⌜ StatementRead (now (text .entry)) (now (regs .entry)) (now (funs .entry)) (now (arities .entry)) depth
         (heldBy st (now (code .entry)) (now (first .entry)) (now (second .entry)))
         (heldBy r (now (code .exit)) (now (first .exit)) (now (second .exit))) ⌝ }
@@ -447,13 +447,13 @@ fn plain(
     regs: &[u64],
     funs: &[u64],
     arities: &[u8],
-    st: State,
+    st: ReaderState,
     t: Token,
     code: &mut Codes,
-    first: &mut Follows,
-    second: &mut Follows,
-) -> State
-    requires { ⌜ Ready (now regs) (now funs) (now arities) (st .count) ⌝ }
+    first: &mut Successors,
+    second: &mut Successors,
+) -> ReaderState
+    requires { ⌜ ReaderReady (now regs) (now funs) (now arities) (st .count) ⌝ }
     ensures { λ r. ⌜ PlainRead (now (text .entry)) (now (regs .entry)) (now (funs .entry)) (now (arities .entry)) t
         (heldBy st (now (code .entry)) (now (first .entry)) (now (second .entry)))
         (heldBy r (now (code .exit)) (now (first .exit)) (now (second .exit))) ⌝ }
@@ -483,13 +483,13 @@ fn conditional(
     regs: &[u64],
     funs: &[u64],
     arities: &[u8],
-    st: State,
+    st: ReaderState,
     depth: usize,
     code: &mut Codes,
-    first: &mut Follows,
-    second: &mut Follows,
-) -> State
-    requires { ⌜ Ready (now regs) (now funs) (now arities) (st .count) ⌝ }
+    first: &mut Successors,
+    second: &mut Successors,
+) -> ReaderState
+    requires { ⌜ ReaderReady (now regs) (now funs) (now arities) (st .count) ⌝ }
     ensures { λ r. ⌜ ConditionalRead (now (text .entry)) (now (regs .entry)) (now (funs .entry)) (now (arities .entry)) depth
         (heldBy st (now (code .entry)) (now (first .entry)) (now (second .entry)))
         (heldBy r (now (code .exit)) (now (first .exit)) (now (second .exit))) ⌝ }
@@ -517,13 +517,13 @@ fn otherwise(
     regs: &[u64],
     funs: &[u64],
     arities: &[u8],
-    st: State,
+    st: ReaderState,
     depth: usize,
     code: &mut Codes,
-    first: &mut Follows,
-    second: &mut Follows,
-) -> State
-    requires { ⌜ Ready (now regs) (now funs) (now arities) (st .count) ⌝ }
+    first: &mut Successors,
+    second: &mut Successors,
+) -> ReaderState
+    requires { ⌜ ReaderReady (now regs) (now funs) (now arities) (st .count) ⌝ }
     ensures { λ r. ⌜ ElseRead (now (text .entry)) (now (regs .entry)) (now (funs .entry)) (now (arities .entry)) depth
         (heldBy st (now (code .entry)) (now (first .entry)) (now (second .entry)))
         (heldBy r (now (code .exit)) (now (first .exit)) (now (second .exit))) ⌝ }
@@ -543,13 +543,13 @@ fn repeat(
     regs: &[u64],
     funs: &[u64],
     arities: &[u8],
-    st: State,
+    st: ReaderState,
     depth: usize,
     code: &mut Codes,
-    first: &mut Follows,
-    second: &mut Follows,
-) -> State
-    requires { ⌜ Ready (now regs) (now funs) (now arities) (st .count) ⌝ }
+    first: &mut Successors,
+    second: &mut Successors,
+) -> ReaderState
+    requires { ⌜ ReaderReady (now regs) (now funs) (now arities) (st .count) ⌝ }
     ensures { λ r. ⌜ RepeatRead (now (text .entry)) (now (regs .entry)) (now (funs .entry)) (now (arities .entry)) depth
         (heldBy st (now (code .entry)) (now (first .entry)) (now (second .entry)))
         (heldBy r (now (code .exit)) (now (first .exit)) (now (second .exit))) ⌝ }
@@ -573,13 +573,13 @@ fn braces(
     regs: &[u64],
     funs: &[u64],
     arities: &[u8],
-    st: State,
+    st: ReaderState,
     depth: usize,
     code: &mut Codes,
-    first: &mut Follows,
-    second: &mut Follows,
-) -> State
-    requires { ⌜ Ready (now regs) (now funs) (now arities) (st .count) ⌝ }
+    first: &mut Successors,
+    second: &mut Successors,
+) -> ReaderState
+    requires { ⌜ ReaderReady (now regs) (now funs) (now arities) (st .count) ⌝ }
     ensures { λ r. ⌜ BracesRead (now (text .entry)) (now (regs .entry)) (now (funs .entry)) (now (arities .entry)) depth
         (heldBy st (now (code .entry)) (now (first .entry)) (now (second .entry)))
         (heldBy r (now (code .exit)) (now (first .exit)) (now (second .exit))) ⌝ }

@@ -9,14 +9,14 @@ use lib.Dec.{eqb, ltb}
 use lib.ListN.{length, getD}
 use Rattle.letters.specs.Editions.{mostFunctions}
 use Rattle.base.specs.Choice.{pick}
-use Rattle.base.specs.Each.{done}
+use Rattle.base.specs.Each.{eachUpTo}
 use Rattle.closure.specs.Limits.{mostTerms}
 use Rattle.closure.specs.Numbering.{Closed}
 use Rattle.closure.specs.Merging.{Propagating, Entailed, relabelOf}
-use Rattle.closure.specs.Index.{signatureOf, Holds, Chains, Complete}
+use Rattle.closure.specs.Index.{signatureOf, ChainHas, Chains, CompleteIndex}
 
-abbrev pub at : List ℕ → ℕ → ℕ
-at l i = getD l i 0
+abbrev pub entryAt : List ℕ → ℕ → ℕ
+entryAt l i = getD l i 0
 
 -- the first n entries lie below b
 unfoldable pub Below : ℕ → ℕ → List ℕ → Type 0
@@ -56,9 +56,9 @@ unfoldable pub signatureAt : (representative function first second : List ℕ) �
 signatureAt representative function first second i = signatureOf (getD function i 0) (getD representative (getD first i 0) 0) (getD representative (getD second i 0) 0)
 
 -- The index has the signatures of the n terms.
-pub record Indexed (representative function first second : List ℕ) (registers n : ℕ) (head link : List ℕ) : Type 0 where
+pub record IndexedTerms (representative function first second : List ℕ) (registers n : ℕ) (head link : List ℕ) : Type 0 where
   pub chains : Chains n head link
-  pub complete : Complete (signatureAt representative function first second) registers n head link
+  pub complete : CompleteIndex (signatureAt representative function first second) registers n head link
 
 -- A term that has a class.
 pub record Argument (representative : List ℕ) (i : ℕ) : Type 0 where
@@ -75,17 +75,17 @@ pub record Readable (representative function first second : List ℕ) (registers
   pub seconds : (i : ℕ) → i < n → Argument representative (getD second i 0)
 
 -- The entries below k, added up.
-unfoldable pub total : ℕ → List ℕ → ℕ
-total zero l = 0
-total (suc k) l = getD l k 0 + total k l
+unfoldable pub sumBelow : ℕ → List ℕ → ℕ
+sumBelow zero l = 0
+sumBelow (suc k) l = getD l k 0 + sumBelow k l
 
 -- The representative `to` in place of `from`, in the first n entries.
 unfoldable pub relabelled : (from to n : ℕ) → List ℕ → List ℕ
-relabelled from to n l = done (λ _ v. relabelOf from to v) n l
+relabelled from to n l = eachUpTo (λ _ v. relabelOf from to v) n l
 
 -- The classes of i and j made one: the lower representative in place of the higher.
-unfoldable pub united : (n i j : ℕ) → List ℕ → List ℕ
-united n i j l = relabelled (highOf (getD l i 0) (getD l j 0)) (lowOf (getD l i 0) (getD l j 0)) n l
+unfoldable pub classesUnited : (n i j : ℕ) → List ℕ → List ℕ
+classesUnited n i j l = relabelled (highOf (getD l i 0) (getD l j 0)) (lowOf (getD l i 0) (getD l j 0)) n l
 
 -- Arguments are not after their terms, and a class has its lowest term as its name.
 pub record Lowest (representative first second : List ℕ) (n : ℕ) : Type 0 where
@@ -94,32 +94,32 @@ pub record Lowest (representative first second : List ℕ) (n : ℕ) : Type 0 wh
   pub seconds : (i : ℕ) → i < n → (getD second i 0 ≤ i) × (getD representative (getD second i 0) 0 ≤ getD second i 0)
 
 -- Whether one of the first n terms has an argument of the class d.
-pub data Used (representative first second : List ℕ) (n d : ℕ) : Bool → Type 0 where
-  used : (k : ℕ) → k < n → (getD representative (getD first k 0) 0 ≡ d) ⊎ (getD representative (getD second k 0) 0 ≡ d) → Used representative first second n d true
-  unused : ((k : ℕ) → k < n → (getD representative (getD first k 0) 0 ≢ d) × (getD representative (getD second k 0) 0 ≢ d)) → Used representative first second n d false
+pub data UsedAsArgument (representative first second : List ℕ) (n d : ℕ) : Bool → Type 0 where
+  used : (k : ℕ) → k < n → (getD representative (getD first k 0) 0 ≡ d) ⊎ (getD representative (getD second k 0) 0 ≡ d) → UsedAsArgument representative first second n d true
+  unused : ((k : ℕ) → k < n → (getD representative (getD first k 0) 0 ≢ d) × (getD representative (getD second k 0) 0 ≢ d)) → UsedAsArgument representative first second n d false
 
 -- Some unions of congruent applications, from `representative` to r.
-pub record Joined (representative function first second : List ℕ) (registers n : ℕ) (r : List ℕ) : Type 0 where
+pub record CongruentUnions (representative function first second : List ℕ) (registers n : ℕ) (r : List ℕ) : Type 0 where
   pub formed : Formed r function first second registers n
   pub keeps : (i j : ℕ) → i < n → j < n → getD representative i 0 ≡ getD representative j 0 → getD r i 0 ≡ getD r j 0
   pub beyond : (k : ℕ) → n ≤ k → getD r k 0 ≡ getD representative k 0
-  pub propagates : (old : ℕ → ℕ) (x y : ℕ) → Propagating (at function) (at first) (at second) registers n old x y (at representative) → Propagating (at function) (at first) (at second) registers n old x y (at r)
-  pub shrinks : total n r ≤ total n representative
+  pub propagates : (old : ℕ → ℕ) (x y : ℕ) → Propagating (entryAt function) (entryAt first) (entryAt second) registers n old x y (entryAt representative) → Propagating (entryAt function) (entryAt first) (entryAt second) registers n old x y (entryAt r)
+  pub shrinks : sumBelow n r ≤ sumBelow n representative
 
 -- While congruences are propagated: of the applications below i, the classes are closed and the index has the signatures.
 pub record Underway (representative function first second : List ℕ) (registers n : ℕ) (r head link : List ℕ) (i : ℕ) : Type 0 where
   pub least : registers ≤ i
   pub most : i ≤ n
-  pub joined : Joined representative function first second registers n r
+  pub joined : CongruentUnions representative function first second registers n r
   pub chains : Chains i head link
-  pub closed : Closed (at function) (at first) (at second) registers i (at r)
-  pub complete : Complete (signatureAt r function first second) registers i head link
+  pub closed : Closed (entryAt function) (entryAt first) (entryAt second) registers i (entryAt r)
+  pub complete : CompleteIndex (signatureAt r function first second) registers i head link
 
 -- The classes are closed.
 pub record Propagated (representative function first second : List ℕ) (registers n : ℕ) (r head link : List ℕ) : Type 0 where
-  pub joined : Joined representative function first second registers n r
-  pub closed : Closed (at function) (at first) (at second) registers n (at r)
-  pub indexed : Indexed r function first second registers n head link
+  pub joined : CongruentUnions representative function first second registers n r
+  pub closed : Closed (entryAt function) (entryAt first) (entryAt second) registers n (entryAt r)
+  pub indexed : IndexedTerms r function first second registers n head link
 
 -- Before a union in which the name d goes: r is the first application, not above i, whose signature may change, and the index is cut to those before it.
 pub record Resumed (registers i d : ℕ) (head link : List ℕ) (r : ℕ) (head′ : List ℕ) : Type 0 where
@@ -127,18 +127,18 @@ pub record Resumed (registers i d : ℕ) (head link : List ℕ) (r : ℕ) (head�
   pub most : r ≤ i
   pub before : (k : ℕ) → registers ≤ k → k < r → k < d
   pub chains : Chains r head′ link
-  pub keeps : (b o : ℕ) → Holds registers link (getD head b 0) o → o < r → Holds registers link (getD head′ b 0) o
-  pub back : (b o : ℕ) → Holds registers link (getD head′ b 0) o → Holds registers link (getD head b 0) o
+  pub keeps : (b o : ℕ) → ChainHas registers link (getD head b 0) o → o < r → ChainHas registers link (getD head′ b 0) o
+  pub back : (b o : ℕ) → ChainHas registers link (getD head′ b 0) o → ChainHas registers link (getD head b 0) o
 
 -- The classes of x and y are one, with all that follows by congruence and nothing else; entries past the n terms stay.
 pub record Merged (representative function first second : List ℕ) (registers n x y : ℕ) (r head link : List ℕ) : Type 0 where
   pub formed : Formed r function first second registers n
-  pub sound : (i j : ℕ) → i < n → j < n → getD r i 0 ≡ getD r j 0 → Entailed (at function) (at first) (at second) registers n (at representative) x y i j
+  pub sound : (i j : ℕ) → i < n → j < n → getD r i 0 ≡ getD r j 0 → Entailed (entryAt function) (entryAt first) (entryAt second) registers n (entryAt representative) x y i j
   pub keeps : (i j : ℕ) → i < n → j < n → getD representative i 0 ≡ getD representative j 0 → getD r i 0 ≡ getD r j 0
   pub joins : getD r x 0 ≡ getD r y 0
-  pub closed : Closed (at function) (at first) (at second) registers n (at r)
+  pub closed : Closed (entryAt function) (entryAt first) (entryAt second) registers n (entryAt r)
   pub beyond : (k : ℕ) → n ≤ k → getD r k 0 ≡ getD representative k 0
-  pub indexed : Indexed r function first second registers n head link
+  pub indexed : IndexedTerms r function first second registers n head link
 
 -- r is the class of f of the terms a and b: that of an application with this signature (all of them are in one class), or n where there is none.
 pub data LookedAt (representative function first second : List ℕ) (registers n f a b r : ℕ) : Type 0 where

@@ -1,4 +1,4 @@
--- Terms by number, classes of numbers, and when these are the closure: sound and closed under congruence is exact.
+-- Terms by number, classes of numbers, and when these are the closure.
 use mathlib.Core.Path.{_≡_}
 use mathlib.Core.Bool.{true, false}
 use mathlib.Core.List.{List, [], _∷_}

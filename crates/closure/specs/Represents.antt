@@ -1,4 +1,4 @@
--- What arrays, as functions, say of the state of a trace, and that they go on to say it, letter by letter.
+-- What arrays, as functions, say of the state of a trace.
 use mathlib.Core.Path.{_≡_}
 use Prim.Native.Nat.{ℕ, _<_}
 use Rattle.semantics.specs.Terms.{_∈_, Term, State}
@@ -6,7 +6,7 @@ use Rattle.semantics.specs.Facts.{Valid}
 use Rattle.closure.specs.Numbering.{nth, Numbered, Closed, Exact}
 
 -- The arrays of the engine, as functions, and what they say of a state.
-pub record Represents (σ : State) (function first second representative : ℕ → ℕ) (registers n : ℕ) (value : ℕ → ℕ) : Type 0 where
+pub record RepresentsState (σ : State) (function first second representative : ℕ → ℕ) (registers n : ℕ) (value : ℕ → ℕ) : Type 0 where
   pub valid : Valid σ
   pub header-registers : σ .header .registers ≡ registers
   pub numbered : Numbered (σ .terms) function first second registers n

@@ -16,8 +16,8 @@ ghost use lib.ListN.{getD};
 ghost use Rattle.letters.specs.Editions.{mostLetters, mostFunctions};
 ghost use Rattle.closure.specs.Limits.{mostTerms};
 ghost use Rattle.closure.specs.Numbering.{Closed};
-ghost use Rattle.closure.specs.Index.{signatureOf, Down, Chains, Complete, Found, Entered, Cut, CutTo, withoutLast};
-ghost use Rattle.closure.specs.Arrays.{at, Below, Formed, Argument, Readable, Indexed, Named, Lowest, Used, lowOf, highOf, fallOf, signatureAt, relabelled, united};
+ghost use Rattle.closure.specs.Index.{signatureOf, Down, Chains, CompleteIndex, Found, Entered, Cut, CutTo, withoutLast};
+ghost use Rattle.closure.specs.Arrays.{entryAt, Below, Formed, Argument, Readable, IndexedTerms, Named, Lowest, UsedAsArgument, lowOf, highOf, fallOf, signatureAt, relabelled, classesUnited};
 ghost use Rattle.closure.specs.Arrays.{Underway, Propagated, Resumed, Merged, Parts, Clashes};
 
 /// How many registers there are at most, each with an initial constant.
@@ -94,7 +94,7 @@ fn higher(a: u16, b: u16) -> u16
 // The union of the classes of i and j.
 fn unite(representative: &mut Numbers, count: usize, i: usize, j: usize)
     requires { ⌜ (count ≤ mostTerms) × (i < count) × (j < count) × Named (now representative) count ⌝ }
-    ensures { λ _. ⌜ now (representative .exit) ≡ united count i j (now (representative .entry)) ⌝ }
+    ensures { λ _. ⌜ now (representative .exit) ≡ classesUnited count i j (now (representative .entry)) ⌝ }
 {
     let low = lower(representative[i], representative[j]);
     let high = higher(representative[i], representative[j]);
@@ -241,7 +241,7 @@ fn undo(
     i: usize,
     bound: usize,
 )
-    requires { ⌜ Readable (now representative) (now function) (now first) (now second) registers i × Chains i (now head) (now link) × Complete (signatureAt (now representative) (now function) (now first) (now second)) registers i (now head) (now link) × (registers ≤ bound) × (bound ≤ i) ⌝ }
+    requires { ⌜ Readable (now representative) (now function) (now first) (now second) registers i × Chains i (now head) (now link) × CompleteIndex (signatureAt (now representative) (now function) (now first) (now second)) registers i (now head) (now link) × (registers ≤ bound) × (bound ≤ i) ⌝ }
     ensures { λ _. ⌜ CutTo (now (head .entry)) (now (link .entry)) bound (now (head .exit)) ⌝ }
 {
     let mut k = i;
@@ -267,7 +267,7 @@ fn resume(
     i: usize,
     d: u16,
 ) -> usize
-    requires { ⌜ Readable (now representative) (now function) (now first) (now second) registers i × Chains i (now head) (now link) × Complete (signatureAt (now representative) (now function) (now first) (now second)) registers i (now head) (now link) × (d ≤ i) ⌝ }
+    requires { ⌜ Readable (now representative) (now function) (now first) (now second) registers i × Chains i (now head) (now link) × CompleteIndex (signatureAt (now representative) (now function) (now first) (now second)) registers i (now head) (now link) × (d ≤ i) ⌝ }
     ensures { λ r. ⌜ Resumed registers i d (now (head .entry)) (now (link .entry)) r (now (head .exit)) ⌝ }
 {
     let next = later(wide(d), registers);
@@ -346,7 +346,7 @@ fn propagate(
 // name, so the terms before d have none.
 fn used(representative: &Numbers, first: &Numbers, second: &Numbers, count: usize, d: u16) -> bool
     requires { ⌜ Lowest (now representative) (now first) (now second) count ⌝ }
-    ensures { λ r. ⌜ Used (now (representative .entry)) (now (first .entry)) (now (second .entry)) count d r ⌝ }
+    ensures { λ r. ⌜ UsedAsArgument (now (representative .entry)) (now (first .entry)) (now (second .entry)) count d r ⌝ }
 {
     let mut i = wide(d);
     while i < count {
@@ -376,7 +376,7 @@ pub fn merge(
     x: usize,
     y: usize,
 )
-    requires { ⌜ Formed (now representative) (now function) (now first) (now second) registers count × (x < count) × (y < count) × Closed (at (now function)) (at (now first)) (at (now second)) registers count (at (now representative)) × Indexed (now representative) (now function) (now first) (now second) registers count (now head) (now link) ⌝ }
+    requires { ⌜ Formed (now representative) (now function) (now first) (now second) registers count × (x < count) × (y < count) × Closed (entryAt (now function)) (entryAt (now first)) (entryAt (now second)) registers count (entryAt (now representative)) × IndexedTerms (now representative) (now function) (now first) (now second) registers count (now head) (now link) ⌝ }
     ensures { λ _. ⌜ Merged (now (representative .entry)) (now (function .entry)) (now (first .entry)) (now (second .entry)) registers count x y (now (representative .exit)) (now (head .exit)) (now (link .exit)) ⌝ }
 {
     let d = higher(representative[x], representative[y]);

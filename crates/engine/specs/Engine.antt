@@ -13,17 +13,17 @@ use Rattle.closure.specs.Limits.{mostTerms}
 use Rattle.semantics.specs.Terms.{State, after}
 use Rattle.semantics.specs.Facts.{Valid}
 use Rattle.closure.specs.Numbering.{Numbered, Exact, Closed}
-use Rattle.closure.specs.Represents.{Represents, Sides}
-use Rattle.closure.specs.Arrays.{at, Formed, Indexed, Merged, LookedAt, Parts}
+use Rattle.closure.specs.Represents.{RepresentsState, Sides}
+use Rattle.closure.specs.Arrays.{entryAt, Formed, IndexedTerms, Merged, LookedAt, Parts}
 use Rattle.engine.specs.declared.Counts.{Counts}
 
 -- After k letters that leave the state σ: n computed terms with their classes and the index, the term of each register in `value`,
 -- and the m unequal tests by the terms in `left` and `right`, of which the first p are known to have their sides in different classes.
 pub record Engine (σ : State) (function first second representative head link value left right : List ℕ) (registers n m p k : ℕ) : Type 0 where
   pub formed : Formed representative function first second registers n
-  pub represents : Represents σ (at function) (at first) (at second) (at representative) registers n (at value)
-  pub indexed : Indexed representative function first second registers n head link
-  pub sides : Sides σ n (at left) (at right) m
+  pub represents : RepresentsState σ (entryAt function) (entryAt first) (entryAt second) (entryAt representative) registers n (entryAt value)
+  pub indexed : IndexedTerms representative function first second registers n head link
+  pub sides : Sides σ n (entryAt left) (entryAt right) m
   pub registers-few : registers ≤ mostRegisters
   pub functions-few : σ .header .functions ≤ mostFunctions
   pub function-long : length function ≡ mostTerms
@@ -46,20 +46,20 @@ pub record Ready (letter : Letter) (function first second representative head li
   pub fits : Fits (state .header) letter
 
 -- The next letter is performed: of whatever state the arrays held, they hold the state after the letter.
-unfoldable pub Performed : (letter : Letter) (function first second representative head link value left right : List ℕ) (registers : ℕ) (counts : Counts)
+unfoldable pub LetterPerformed : (letter : Letter) (function first second representative head link value left right : List ℕ) (registers : ℕ) (counts : Counts)
     (function′ first′ second′ representative′ head′ link′ value′ left′ right′ : List ℕ) (counts′ : Counts) → Type 0
-Performed letter function first second representative head link value left right registers counts function′ first′ second′ representative′ head′ link′ value′ left′ right′ counts′ =
+LetterPerformed letter function first second representative head link value left right registers counts function′ first′ second′ representative′ head′ link′ value′ left′ right′ counts′ =
     (σ : State) (k : ℕ) → k < mostLetters → Fits (σ .header) letter → Engine σ function first second representative head link value left right registers (counts .terms) (counts .tests) (counts .parted) k
     → Engine (after σ letter) function′ first′ second′ representative′ head′ link′ value′ left′ right′ registers (counts′ .terms) (counts′ .tests) (counts′ .parted) (suc k)
 
 -- The class of the application that the index has, or of the new one, n.
 unfoldable pub nameOf : List ℕ → ℕ → ℕ → ℕ
-nameOf representative found n = pick (eqb found n) (λ _. n) λ _. at representative found
+nameOf representative found n = pick (eqb found n) (λ _. n) λ _. entryAt representative found
 
 -- What `apply` asks: room for a term, a function and two terms.
 pub record Appliable (function first second representative head link : List ℕ) (registers n f a b : ℕ) : Type 0 where
   pub formed : Formed representative function first second registers n
-  pub indexed : Indexed representative function first second registers n head link
+  pub indexed : IndexedTerms representative function first second registers n head link
   pub function-long : length function ≡ mostTerms
   pub first-long : length first ≡ mostTerms
   pub second-long : length second ≡ mostTerms
@@ -76,34 +76,34 @@ pub record Applied (function first second representative head link : List ℕ) (
   pub in-first : first′ ≡ set first n a
   pub in-second : second′ ≡ set second n b
   pub in-representative : representative′ ≡ set representative n name
-  pub indexed : Indexed representative′ function′ first′ second′ registers (suc n) head′ link′
+  pub indexed : IndexedTerms representative′ function′ first′ second′ registers (suc n) head′ link′
 
 -- What `compute` asks: registers that hold terms.
 pub record Computable (function first second representative head link value : List ℕ) (registers : ℕ) (counts : Counts) (x f y z : ℕ) : Type 0 where
-  pub appliable : Appliable function first second representative head link registers (counts .terms) f (at value y) (at value z)
+  pub appliable : Appliable function first second representative head link registers (counts .terms) f (entryAt value y) (entryAt value z)
   pub target-in : x < mostRegisters
   pub first-in : y < mostRegisters
   pub second-in : z < mostRegisters
 
 -- An application of f to the terms of y and z is computed, and x holds the new term.
 pub record Computing (function first second representative head link value : List ℕ) (registers : ℕ) (counts : Counts) (x f y z : ℕ) (function′ first′ second′ representative′ head′ link′ value′ : List ℕ) (counts′ : Counts) : Type 0 where
-  pub applied : Applied function first second representative head link registers (counts .terms) f (at value y) (at value z) function′ first′ second′ representative′ head′ link′
+  pub applied : Applied function first second representative head link registers (counts .terms) f (entryAt value y) (entryAt value z) function′ first′ second′ representative′ head′ link′
   pub in-value : value′ ≡ set value x (counts .terms)
   pub counted : counts′ ≡ record { terms = counts .terms + 1; tests = counts .tests; parted = counts .parted }
 
 -- What an equal test asks: registers that hold terms.
 pub record Equatable (function first second representative head link value : List ℕ) (registers : ℕ) (counts : Counts) (x y : ℕ) : Type 0 where
   pub formed : Formed representative function first second registers (counts .terms)
-  pub closed : Closed (at function) (at first) (at second) registers (counts .terms) (at representative)
-  pub indexed : Indexed representative function first second registers (counts .terms) head link
+  pub closed : Closed (entryAt function) (entryAt first) (entryAt second) registers (counts .terms) (entryAt representative)
+  pub indexed : IndexedTerms representative function first second registers (counts .terms) head link
   pub first-in : x < mostRegisters
   pub second-in : y < mostRegisters
-  pub first-term : at value x < counts .terms
-  pub second-term : at value y < counts .terms
+  pub first-term : entryAt value x < counts .terms
+  pub second-term : entryAt value y < counts .terms
 
 -- The classes of the terms of x and y are one; as many of the unequal tests as `counts′` says are still known to have their sides in different classes.
-pub record Equated (function first second representative value : List ℕ) (registers : ℕ) (counts : Counts) (x y : ℕ) (representative′ head′ link′ : List ℕ) (counts′ : Counts) : Type 0 where
-  pub merged : Merged representative function first second registers (counts .terms) (at value x) (at value y) representative′ head′ link′
+pub record TermsEquated (function first second representative value : List ℕ) (registers : ℕ) (counts : Counts) (x y : ℕ) (representative′ head′ link′ : List ℕ) (counts′ : Counts) : Type 0 where
+  pub merged : Merged representative function first second registers (counts .terms) (entryAt value x) (entryAt value y) representative′ head′ link′
   pub terms : counts′ .terms ≡ counts .terms
   pub tests : counts′ .tests ≡ counts .tests
   pub parted : counts′ .parted ≤ counts .parted
@@ -118,9 +118,9 @@ Notable (Equal x y) counts = Unit
 
 -- A copy stores a term, and an unequal test is listed; another letter changes nothing here.
 unfoldable pub Noted : (letter : Letter) (value left right : List ℕ) (counts : Counts) (value′ left′ right′ : List ℕ) (counts′ : Counts) → Type 0
-Noted (Copy x y) value left right counts value′ left′ right′ counts′ = (value′ ≡ set value x (at value y)) × (left′ ≡ left) × (right′ ≡ right) × (counts′ ≡ counts)
+Noted (Copy x y) value left right counts value′ left′ right′ counts′ = (value′ ≡ set value x (entryAt value y)) × (left′ ≡ left) × (right′ ≡ right) × (counts′ ≡ counts)
 Noted (Unequal x y) value left right counts value′ left′ right′ counts′ =
-    (value′ ≡ value) × (left′ ≡ set left (counts .tests) (at value x)) × (right′ ≡ set right (counts .tests) (at value y))
+    (value′ ≡ value) × (left′ ≡ set left (counts .tests) (entryAt value x)) × (right′ ≡ set right (counts .tests) (entryAt value y))
     × (counts′ ≡ record { terms = counts .terms; tests = counts .tests + 1; parted = counts .parted })
 Noted (Apply x f y z) value left right counts value′ left′ right′ counts′ = (value′ ≡ value) × (left′ ≡ left) × (right′ ≡ right) × (counts′ ≡ counts)
 Noted (Equal x y) value left right counts value′ left′ right′ counts′ = (value′ ≡ value) × (left′ ≡ left) × (right′ ≡ right) × (counts′ ≡ counts)
@@ -131,5 +131,5 @@ pub record Computed (σ : State) (function first second representative : List �
   pub header-registers : σ .header .registers ≡ registers
   pub registers-few : registers ≤ mostRegisters
   pub formed : Formed representative function first second registers n
-  pub numbered : Numbered (σ .terms) (at function) (at first) (at second) registers n
-  pub exactly : Exact (σ .terms) (σ .equals) n (at representative)
+  pub numbered : Numbered (σ .terms) (entryAt function) (entryAt first) (entryAt second) registers n
+  pub exactly : Exact (σ .terms) (σ .equals) n (entryAt representative)

@@ -6,8 +6,8 @@ ghost use mathlib.Core.Path.{_≡_};
 ghost use Prim.Native.Nat.{_<_, _≤_};
 ghost use Rattle.letters.specs.Editions.{mostRegisters};
 ghost use Rattle.closure.specs.Limits.{mostTerms};
-ghost use Rattle.engine.specs.Engine.{Ready, Performed, Appliable, Applied, Computable, Computing, Equatable, Equated, Notable, Noted, nameOf};
-ghost use Rattle.engine.specs.Run.{Begun, Blank, Began, Running, Ran, restOf, RestRead};
+ghost use Rattle.engine.specs.Engine.{Ready, LetterPerformed, Appliable, Applied, Computable, Computing, Equatable, TermsEquated, Notable, Noted, nameOf};
+ghost use Rattle.engine.specs.Run.{Begun, Blank, Began, Running, Ran, readingFrom, RestRead};
 use closure::CHAINS;
 use closure::Heads;
 use closure::Numbers;
@@ -33,7 +33,7 @@ pub struct Counts {
 }
 
 /// How a run over a trace ends: with the number of computed terms, or at the first letter that is infeasible or not well formed.
-pub enum Outcome {
+pub enum EngineOutcome {
     /// All letters are feasible; so many terms were computed.
     Feasible(usize),
     /// The number of the first infeasible letter, from 1. The letters after it were not read.
@@ -145,7 +145,7 @@ fn equate(
     b: u8,
 ) -> Counts
     requires { ⌜ Equatable (now function) (now first) (now second) (now representative) (now head) (now link) (now value) registers counts a b ⌝ }
-    ensures { λ r. ⌜ Equated (now (function .entry)) (now (first .entry)) (now (second .entry)) (now (representative .entry)) (now (value .entry)) registers counts a b (now (representative .exit)) (now (head .exit)) (now (link .exit)) r ⌝ }
+    ensures { λ r. ⌜ TermsEquated (now (function .entry)) (now (first .entry)) (now (second .entry)) (now (representative .entry)) (now (value .entry)) registers counts a b (now (representative .exit)) (now (head .exit)) (now (link .exit)) r ⌝ }
 {
     let terms = counts.terms;
     let x = wide(value[a as usize]);
@@ -220,7 +220,7 @@ fn step(
     counts: Counts,
 ) -> Counts
     requires { ⌜ Ready letter (now function) (now first) (now second) (now representative) (now head) (now link) (now value) (now left) (now right) registers counts ⌝ }
-    ensures { λ r. ⌜ Performed letter (now (function .entry)) (now (first .entry)) (now (second .entry)) (now (representative .entry)) (now (head .entry)) (now (link .entry)) (now (value .entry)) (now (left .entry)) (now (right .entry)) registers counts (now (function .exit)) (now (first .exit)) (now (second .exit)) (now (representative .exit)) (now (head .exit)) (now (link .exit)) (now (value .exit)) (now (left .exit)) (now (right .exit)) r ⌝ }
+    ensures { λ r. ⌜ LetterPerformed letter (now (function .entry)) (now (first .entry)) (now (second .entry)) (now (representative .entry)) (now (head .entry)) (now (link .entry)) (now (value .entry)) (now (left .entry)) (now (right .entry)) registers counts (now (function .exit)) (now (first .exit)) (now (second .exit)) (now (representative .exit)) (now (head .exit)) (now (link .exit)) (now (value .exit)) (now (left .exit)) (now (right .exit)) r ⌝ }
 {
     match letter {
         Letter::Copy { .. } => note(letter, value, left, right, counts),
@@ -291,7 +291,7 @@ fn perform(
     value: &mut [u16; REGISTERS],
     left: &mut Sides,
     right: &mut Sides,
-) -> Outcome
+) -> EngineOutcome
     requires { ⌜ Begun (now trace) header letters × Running (now trace) header letters (now function) (now first) (now second) (now representative) (now head) (now link) (now value) (now left) (now right) (header .registers) (header .registers) 0 0 0 ⌝ }
     ensures { λ r. ⌜ Ran (now (trace .entry)) header letters (now (function .exit)) (now (first .exit)) (now (second .exit)) (now (representative .exit)) r ⌝ }
 {
@@ -305,7 +305,7 @@ fn perform(
     while k < letters {
         let decoded = traces::letter_at(header, trace, k);
         let DecodedLetter::Letter(letter) = decoded else {
-            return Outcome::Malformed(k as u64 + 1);
+            return EngineOutcome::Malformed(k as u64 + 1);
         };
         counts = step(
             letter,
@@ -324,18 +324,18 @@ fn perform(
         let parted = counts.parted;
         let tests = counts.tests;
         if closure::clash(representative, left, right, parted, tests) {
-            return Outcome::Infeasible(k as u64 + 1);
+            return EngineOutcome::Infeasible(k as u64 + 1);
         }
         counts.parted = tests;
         k = k + 1;
     }
-    Outcome::Feasible(counts.terms)
+    EngineOutcome::Feasible(counts.terms)
 }
 
 /// The number of the first letter after the first k that is not well formed, from 1; 0 if all are.
 pub fn first_malformed(header: Header, trace: &[u8], letters: usize, k: usize) -> u64
     requires { ⌜ Begun (now trace) header letters ⌝ }
-    ensures { λ r. ⌜ RestRead header (restOf (now (trace .entry)) header letters k) r ⌝ }
+    ensures { λ r. ⌜ RestRead header (readingFrom (now (trace .entry)) header letters k) r ⌝ }
 {
     let mut i = k;
     while i < letters {
@@ -359,7 +359,7 @@ pub fn run(
     first: &mut Numbers,
     second: &mut Numbers,
     representative: &mut Numbers,
-) -> Outcome
+) -> EngineOutcome
     requires { ⌜ Begun (now trace) header letters × Blank (now function) × Blank (now first) × Blank (now second) × Blank (now representative) ⌝ }
     ensures { λ r. ⌜ Ran (now (trace .entry)) header letters (now (function .exit)) (now (first .exit)) (now (second .exit)) (now (representative .exit)) r ⌝ }
 {

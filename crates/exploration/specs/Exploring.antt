@@ -5,7 +5,7 @@ use mathlib.Core.List.{List}
 use lib.Dec.{ltb, eqb}
 use lib.ListN.{getD}
 use Rattle.base.specs.Choice.{pick}
-use Rattle.blocks.specs.declared.Point.{Point}
+use Rattle.blocks.specs.declared.PointEntry.{PointEntry}
 use Rattle.letters.specs.declared.Header.{Header}
 use Rattle.refusals.specs.Order.{mostPoints}
 use Rattle.window.specs.Perform.{freshOf}
@@ -19,7 +19,7 @@ use Rattle.exploration.specs.Moves.{noPoint}
 use Rattle.exploration.specs.Turns.{turnOf, tableOf}
 
 -- The point of pair i.
-abbrev pub pointOf : List Point → List ℕ → ℕ → Point
+abbrev pub pointOf : List PointEntry → List ℕ → ℕ → PointEntry
 pointOf ps t i = getD ps (pointAt t i % mostPoints) noPoint
 
 -- What follows a move that leaves the table t: the search goes on, or it ends.
@@ -30,7 +30,7 @@ onTurn Breaking t count d next = (found.Breaking count d, t)
 onTurn Failing t count d next = (found.Failing count d, t)
 
 -- From move number d on, of which at most f more are performed. There are no more than 2 n moves.
-unfoldable pub exploreFrom : ℕ → List Point → ℕ → ℕ → ℕ → ℕ → List ℕ → Search × List ℕ
+unfoldable pub exploreFrom : ℕ → List PointEntry → ℕ → ℕ → ℕ → ℕ → List ℕ → Search × List ℕ
 exploreFrom zero ps end n count d t = (found.Pass count, t)
 exploreFrom (suc f) ps end n count d t =
     pick (ltb d (2 * count))
@@ -38,11 +38,11 @@ exploreFrom (suc f) ps end n count d t =
     λ _. (found.Pass count, t)
 
 -- From the pair in record 0 of the table on.
-unfoldable pub exploreOf : List Point → ℕ → ℕ → List ℕ → Search × List ℕ
+unfoldable pub exploreOf : List PointEntry → ℕ → ℕ → List ℕ → Search × List ℕ
 exploreOf ps end n t = exploreFrom (2 * n) ps end n 1 0 t
 
 -- The whole search in a table that holds n pairs.
-unfoldable pub searchOf : Header → List Point → ℕ → ℕ → List ℕ → Search × List ℕ
+unfoldable pub searchOf : Header → List PointEntry → ℕ → ℕ → List ℕ → Search × List ℕ
 searchOf h ps end n t =
     pick (eqb end 0) (λ _. (found.Pass 0, t)) λ _.
     pick (eqb n 0) (λ _. (found.Full, t)) λ _. exploreOf ps end n (putAt t 0 (recordOf (encoded 0 (freshOf (h .registers))) 0 0))

@@ -1,4 +1,4 @@
--- What the search is given: a macro that was read. It is searched with the window as the monitor.
+-- What the search is given: a macro that was read.
 use Prim.Native.Nat.{_≤_}
 use Rattle.refusals.specs.Order.{mostPoints}
 use Rattle.macros.specs.Points.{sizeBlock}

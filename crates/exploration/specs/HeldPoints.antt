@@ -1,4 +1,4 @@
--- The points of a macro as the reader holds them: their branches, their places, and that their letters lie within the packing.
+-- The branches of a point as the reader holds it, as moves.
 use Prim.Native.Nat.{ℕ}
 use Rattle.macros.specs.Walk.{at, failure, Move, no-move, move}
 use Rattle.exploration.specs.declared.PointMove as enum

@@ -5,7 +5,7 @@ use Prim.Native.Nat.{ℕ, _/_, _%_, _<_}
 use mathlib.Core.List.{List}
 use Rattle.window.specs.declared.Window.{Window}
 use Rattle.table.specs.Table.{windowAt}
-use Rattle.index.specs.Index.{Indexed}
+use Rattle.index.specs.Index.{IndexedPairs}
 use Rattle.exploration.specs.declared.Turn.{Turn}
 use Rattle.exploration.specs.declared.Turn.the-variants.{On}
 
@@ -16,4 +16,4 @@ pub record Carried (w : Window) (d : ℕ) (t : List ℕ) : Type 0 where
 -- After a move with count pairs in the table t, that came to a turn and left the table t′ and the index of these heads and links.
 pub record Keeps (count : ℕ) (t : List ℕ) (turn : Turn) (t′ head link : List ℕ) : Type 0 where
   pub windows : (j : ℕ) → j < count → windowAt t′ j ≡ windowAt t j
-  pub indexed : (m : ℕ) → turn ≡ On m → Indexed t′ head link m
+  pub indexed : (m : ℕ) → turn ≡ On m → IndexedPairs t′ head link m

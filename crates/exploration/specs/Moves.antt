@@ -2,12 +2,12 @@
 use Prim.Native.Nat.{ℕ}
 use mathlib.Core.List.{List}
 use lib.ListN.{getD}
-use Rattle.window.specs.Perform.{Within}
+use Rattle.window.specs.Perform.{WithinPacking}
 use lib.Dec.{eqb}
 use Rattle.base.specs.Choice.{pick}
 use Rattle.letters.specs.declared.Letter.{Letter}
 use Rattle.letters.specs.declared.Letter.the-variants.{Copy, Apply, Equal, Unequal}
-use Rattle.blocks.specs.declared.Point.{Point}
+use Rattle.blocks.specs.declared.PointEntry.{PointEntry}
 use Rattle.exploration.specs.declared.PointMove.{PointMove}
 use Rattle.exploration.specs.declared.PointMove.the-variants.{Nothing, Goes, Fails}
 
@@ -19,7 +19,7 @@ oppositeOf (Equal x y) = Unequal x y
 oppositeOf (Unequal x y) = Equal x y
 
 -- What branch b of a point performs, 0 the first.
-unfoldable pub moveOf : Point → ℕ → PointMove
+unfoldable pub moveOf : PointEntry → ℕ → PointMove
 moveOf x b =
     pick (eqb (x .kind) 0) (λ _. pick (eqb b 0) (λ _. Goes (x .letter) (x .first)) λ _. Nothing) λ _.
     pick (eqb (x .kind) 1) (λ _. pick (eqb b 0) (λ _. Fails (oppositeOf (x .letter))) λ _. Goes (x .letter) (x .first)) λ _.
@@ -32,9 +32,9 @@ letterOf (Goes a k) = a
 letterOf (Fails a) = a
 
 -- What stands past the points.
-abbrev pub noPoint : Point
+abbrev pub noPoint : PointEntry
 noPoint = record { kind = 0; letter = Copy 0 0; first = 0; second = 0 }
 
 -- The fields of every letter that is performed lie within the packing.
-abbrev pub AllWithin : List Point → Type 0
-AllWithin ps = (k b : ℕ) → Within (letterOf (moveOf (getD ps k noPoint) b))
+abbrev pub AllWithin : List PointEntry → Type 0
+AllWithin ps = (k b : ℕ) → WithinPacking (letterOf (moveOf (getD ps k noPoint) b))

@@ -4,7 +4,7 @@ use mathlib.Core.List.{List}
 use lib.Dec.{eqb, leb}
 use Rattle.letters.specs.Capacity.{mostPairs}
 use Rattle.base.specs.Choice.{pick}
-use Rattle.blocks.specs.declared.Point.{Point}
+use Rattle.blocks.specs.declared.PointEntry.{PointEntry}
 use Rattle.window.specs.declared.Window.{Window}
 use Rattle.window.specs.Perform.{judgeOf, performOf}
 use Rattle.records.specs.Records.{recordBytes, encoded, recordOf}
@@ -46,8 +46,8 @@ takenTable (Goes a k) w end n count d t = pick (judgeOf w a) (λ _. reachTable k
 takenTable (Fails a) w end n count d t = t
 
 -- Move number d: branch d % 2 of pair d / 2, whose point is x.
-unfoldable pub turnOf : Point → ℕ → ℕ → ℕ → ℕ → List ℕ → Turn
+unfoldable pub turnOf : PointEntry → ℕ → ℕ → ℕ → ℕ → List ℕ → Turn
 turnOf x end n count d t = takenTurn (moveOf x (d % 2)) (windowAt t (d / 2)) end n count t
 
-unfoldable pub tableOf : Point → ℕ → ℕ → ℕ → ℕ → List ℕ → List ℕ
+unfoldable pub tableOf : PointEntry → ℕ → ℕ → ℕ → ℕ → List ℕ → List ℕ
 tableOf x end n count d t = takenTable (moveOf x (d % 2)) (windowAt t (d / 2)) end n count d t

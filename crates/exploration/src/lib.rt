@@ -1,6 +1,6 @@
 // The exploration of the pairs of a macro, breadth first from pair to pair (document 01, "The search for a verdict").
 use blocks::MOST;
-use blocks::Point;
+use blocks::PointEntry;
 use index::CHAINS;
 use index::Heads;
 use index::Links;
@@ -13,13 +13,13 @@ ghost use Prim.Native.Nat.{_+_, _*_, _/_, _%_, _≤_};
 ghost use lib.ListN.{length};
 ghost use Rattle.letters.specs.Capacity.{mostPairs};
 ghost use Rattle.exploration.specs.Moves.{oppositeOf, moveOf, letterOf, AllWithin};
-ghost use Rattle.window.specs.Perform.{Within};
+ghost use Rattle.window.specs.Perform.{WithinPacking};
 ghost use Rattle.exploration.specs.Turns.{Room, reachTurn, reachTable, failTurn, turnOf, tableOf};
 ghost use Rattle.exploration.specs.Exploring.{exploreOf, searchOf};
 ghost use Rattle.exploration.specs.Keeping.{Keeps, Carried};
 ghost use Rattle.records.specs.Records.{recordBytes};
 ghost use Rattle.table.specs.Table.{windowAt};
-ghost use Rattle.index.specs.Index.{Indexed};
+ghost use Rattle.index.specs.Index.{IndexedPairs};
 
 /// How many points a macro has at most.
 pub const POINTS: usize = MOST as usize;
@@ -90,7 +90,7 @@ fn opposite(letter: Letter) -> Letter
 }
 
 // What branch b of a point performs, 0 the first. At an assert the failing letter comes first.
-fn choose(point: Point, b: usize) -> PointMove
+fn choose(point: PointEntry, b: usize) -> PointMove
     ensures { λ r. ⌜ r ≡ moveOf point b ⌝ }
 {
     let letter = point.letter;
@@ -113,7 +113,7 @@ fn choose(point: Point, b: usize) -> PointMove
 }
 
 /// The letter that branch b of a point performs; where it performs none, the copy of register 0 to itself.
-pub fn letter_of(point: Point, b: usize) -> Letter
+pub fn letter_of(point: PointEntry, b: usize) -> Letter
     ensures { λ r. ⌜ r ≡ letterOf (moveOf point b) ⌝ }
 {
     let chosen = choose(point, b);
@@ -145,7 +145,7 @@ fn reach(
     count: usize,
     d: usize,
 ) -> Turn
-    requires { ⌜ Room n count d (length (now table)) × Indexed (now table) (now head) (now link) count ⌝ }
+    requires { ⌜ Room n count d (length (now table)) × IndexedPairs (now table) (now head) (now link) count ⌝ }
     ensures { λ r. ⌜ (r ≡ reachTurn k w end n count (now (table .entry))) × (now (table .exit) ≡ reachTable k w end n count d (now (table .entry)))
         × Keeps count (now (table .entry)) r (now (table .exit)) (now (head .exit)) (now (link .exit)) ⌝ }
 {
@@ -178,7 +178,7 @@ fn fail(w: Window, count: usize) -> Turn
 
 // Performs move number d: branch d % 2 of pair d / 2, whose point and window these are.
 fn one_move(
-    point: Point,
+    point: PointEntry,
     w: Window,
     end: usize,
     table: &mut [u8],
@@ -188,8 +188,8 @@ fn one_move(
     count: usize,
     d: usize,
 ) -> Turn
-    requires { ⌜ Room n count d (length (now table)) × Within (letterOf (moveOf point (d % 2)))
-        × (w ≡ windowAt (now table) (d / 2)) × Indexed (now table) (now head) (now link) count ⌝ }
+    requires { ⌜ Room n count d (length (now table)) × WithinPacking (letterOf (moveOf point (d % 2)))
+        × (w ≡ windowAt (now table) (d / 2)) × IndexedPairs (now table) (now head) (now link) count ⌝ }
     ensures { λ r. ⌜ (r ≡ turnOf point end n count d (now (table .entry))) × (now (table .exit) ≡ tableOf point end n count d (now (table .entry)))
         × Keeps count (now (table .entry)) r (now (table .exit)) (now (head .exit)) (now (link .exit)) ⌝ }
 {
@@ -227,7 +227,7 @@ fn current(table: &[u8], w: Window, d: usize) -> Window
 }
 
 // Performs the moves in order, from the pair in the table's first record on.
-fn explore(points: [Point; POINTS], end: usize, table: &mut [u8], n: usize) -> Search
+fn explore(points: [PointEntry; POINTS], end: usize, table: &mut [u8], n: usize) -> Search
     requires { ⌜ (n ≤ mostPairs) × (1 ≤ n) × (recordBytes * n ≤ length (now table)) × AllWithin points ⌝ }
     ensures { λ r. ⌜ (r ≡ exploreOf points end n (now (table .entry)) .0) × (now (table .exit) ≡ exploreOf points end n (now (table .entry)) .1) ⌝ }
 {
@@ -264,7 +264,7 @@ fn explore(points: [Point; POINTS], end: usize, table: &mut [u8], n: usize) -> S
 /// For a caller that has counted the table's room, and whose points were read.
 pub fn search_pairs(
     header: Header,
-    points: [Point; POINTS],
+    points: [PointEntry; POINTS],
     end: usize,
     table: &mut [u8],
     n: usize,

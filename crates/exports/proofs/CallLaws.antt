@@ -19,20 +19,20 @@ use Rattle.letters.specs.Editions.{firstEdition}
 use Rattle.letters.proofs.Theory.WordLaws.{first-roomy, decode-header-refused}
 use Rattle.traces.specs.Reading.{reading}
 use Rattle.letters.specs.RefusalNumbers.{headerMalformed, letterMalformed}
-use Rattle.traces.specs.Writing.{unpacking, Wrote}
+use Rattle.traces.specs.Writing.{unpacking, WroteTrace}
 use Rattle.traces.specs.Unpacking.{Unpacked}
 use Rattle.semantics.specs.Terms.{Trace}
-use Rattle.monitoring.specs.Monitor.{outcomeAnswer, idleOf, startOf, advance}
-use Rattle.monitoring.proofs.Theory.MonitorLaws.{start-refused}
-use Rattle.monitoring.specs.Run.{verdictAnswer}
-use Rattle.monitoring.specs.Stream.{emptyStream, pushedAll, finishedOf}
-use Rattle.monitoring.specs.Meanings.{Monitors, Starts, Advances, Streams, StreamStarts, StreamPushes, StreamFinishes}
-use Rattle.monitoring.proofs.Theory.Meanings.{finishes}
-use Rattle.monitoring.specs.declared.Monitor.{Monitor}
-use Rattle.monitoring.specs.declared.Outcome.the-variants as outcome
-use Rattle.monitoring.specs.declared.Stepped.{Stepped}
-use Rattle.monitoring.specs.declared.Stream.{Stream}
-use Rattle.monitoring.specs.declared.Verdict.{Verdict}
+use Rattle.streaming.specs.Monitor.{outcomeAnswer, idleOf, startOf, advance}
+use Rattle.streaming.proofs.Theory.MonitorLaws.{start-refused}
+use Rattle.streaming.specs.Run.{runAnswer}
+use Rattle.streaming.specs.Stream.{emptyStream, pushedAll, finishedOf}
+use Rattle.streaming.specs.Meanings.{Monitors, Starts, Advances, Streams, StreamStarts, StreamPushes, StreamFinishes}
+use Rattle.streaming.proofs.Theory.Meanings.{finishes}
+use Rattle.streaming.specs.declared.Monitor.{Monitor}
+use Rattle.streaming.specs.declared.StepOutcome.the-variants as outcome
+use Rattle.streaming.specs.declared.Stepped.{Stepped}
+use Rattle.streaming.specs.declared.Stream.{Stream}
+use Rattle.streaming.specs.declared.RunAnswer.{RunAnswer}
 use Rattle.records.specs.Records.{flag}
 use Rattle.states.specs.States.{monitorSize, streamSize, streamThen, monitorIn, streamIn, KeepsMonitor, KeepsStream}
 use Rattle.exports.specs.Numbers.{runNumbers}
@@ -78,7 +78,7 @@ module _ (h : Header) (fields out answer : List ℕ) where
   pub writes-short : length answer < 3 → Writes h fields out answer out answer
   writes-short s = record { short = λ _. (refl, refl); written = λ room. absurd (too-short s room) }
 
-  pub writes-stored : (out′ stored answer′ : List ℕ) (w : Written) → Wrote firstEdition (unpacking firstEdition h fields) out out′ (writtenAnswer w)
+  pub writes-stored : (out′ stored answer′ : List ℕ) (w : Written) → WroteTrace firstEdition (unpacking firstEdition h fields) out out′ (writtenAnswer w)
       → stored ≡ writtenNumbers (writtenAnswer w) → length stored ≡ 3 → 3 ≤ length answer → answer′ ≡ stored ++ drop (length stored) answer
       → Writes h fields out answer out′ answer′
   writes-stored out′ stored answer′ w d same full room e = record {
@@ -306,13 +306,13 @@ module _ (entry answer : List ℕ) where
     beyond = λ bytes t. answered entry .beyond bytes (t .streams);
   }
 
-  pub finish-done : (stored answer′ : List ℕ) (s : Stream) (v : Verdict) → 4 ≤ length answer → holdsState streamKind streamSize entry ≡ true
-      → s ≡ streamIn entry → StreamFinishes s v → stored ≡ runNumbers (verdictAnswer v) → length stored ≡ 4
+  pub finish-done : (stored answer′ : List ℕ) (s : Stream) (v : RunAnswer) → 4 ≤ length answer → holdsState streamKind streamSize entry ≡ true
+      → s ≡ streamIn entry → StreamFinishes s v → stored ≡ runNumbers (runAnswer v) → length stored ≡ 4
       → answer′ ≡ stored ++ drop (length stored) answer → FinishesStream entry answer answer′
   finish-done stored answer′ s v room yes-held same-stream d same full e = record {
     short = λ s. absurd (too-short s room);
     none = λ _ lacks. absurd (true-false yes-held lacks);
-    finished = λ _ _. stored-over 4 _ stored answer answer′ (same ∙ ap (λ w. runNumbers (verdictAnswer w)) (d .computed ∙ ap finishedOf same-stream)) full e;
+    finished = λ _ _. stored-over 4 _ stored answer answer′ (same ∙ ap (λ w. runNumbers (runAnswer w)) (d .computed ∙ ap finishedOf same-stream)) full e;
     meets = λ bytes t. answered entry .meets bytes (t .streams);
     beyond = λ bytes t. answered entry .beyond bytes (t .streams);
   }

@@ -5,22 +5,22 @@ use Prim.Native.Nat.{ℕ, _≤_, _<_}
 use mathlib.Core.List.{List, [], _∷_, _++_}
 use lib.ListN.{length, drop}
 use borrow.Author.Tests.{lt-ltb, le-ltb}
-use Rattle.monitoring.specs.Run.{verdictAnswer}
-use Rattle.monitoring.specs.Stream.{answerOf}
-use Rattle.monitoring.specs.declared.Verdict.{Verdict}
-use Rattle.monitoring.specs.declared.Verdict.the-variants.{Judged, Refused}
+use Rattle.streaming.specs.Run.{runAnswer}
+use Rattle.streaming.specs.Stream.{judgedBytes}
+use Rattle.streaming.specs.declared.RunAnswer.{RunAnswer}
+use Rattle.streaming.specs.declared.RunAnswer.the-variants.{Judged, Refused}
 use Rattle.letters.specs.Editions.{firstEdition, mostLetters}
 use Rattle.traces.specs.ReadingParts.{readingWithin}
-use Rattle.shown.specs.Answer.{shownAnswer, answerTo, outputAfter, Means, Showed}
-use Rattle.shown.specs.declared.Shown.{Shown}
-use Rattle.shown.specs.declared.Shown.the-variants as shown
+use Rattle.model_writer.specs.Answer.{shownAnswer, answerTo, outputAfter, Means, Showed}
+use Rattle.model_writer.specs.declared.Shown.{Shown}
+use Rattle.model_writer.specs.declared.Shown.the-variants as shown
 use Rattle.syntax.specs.Reads.{Reads}
-use Rattle.syntax.specs.declared.Answer.{Answer}
-use Rattle.exports.specs.Numbers.{laidOver, runNumbers, monitored, modelNumbers, modelled, modelOutput, ModelMeans, MacroRead}
+use Rattle.syntax.specs.declared.MacroRead.{MacroRead}
+use Rattle.exports.specs.Numbers.{laidOver, runNumbers, monitored, modelNumbers, modelled, modelOutput, ModelMeans, ReadsMacro}
 use Rattle.exports.specs.Held.{heldNumbers}
 use Rattle.exports.proofs.Theory.Held.{held-accepted, held-refused}
 use Rattle.semantics.specs.Models.{Feasible}
-use Rattle.verdicts.specs.Demand3.{Demand3}
+use Rattle.verdict_theory.specs.Demand3.{Demand3}
 use Rattle.search.specs.Answering as search
 use Rattle.search.specs.declared.Verdict as searched
 use Rattle.search.specs.declared.Verdict.the-variants as found
@@ -41,11 +41,11 @@ laid-stored n numbers stored answer answer′ same full room e = rw (le-ltb (len
 
 -- ---- The monitor
 
-pub numbers-judged : (v : Verdict) (incoherent infeasible : ℕ) → v ≡ Judged incoherent infeasible → 0 ∷ 0 ∷ incoherent ∷ infeasible ∷ [] ≡ runNumbers (verdictAnswer v)
+pub numbers-judged : (v : RunAnswer) (incoherent infeasible : ℕ) → v ≡ Judged incoherent infeasible → 0 ∷ 0 ∷ incoherent ∷ infeasible ∷ [] ≡ runNumbers (runAnswer v)
 unfolding runNumbers
 numbers-judged v incoherent infeasible e = rw e refl
 
-pub numbers-refused : (v : Verdict) (number place : ℕ) → v ≡ Refused number place → number ∷ place ∷ 0 ∷ 0 ∷ [] ≡ runNumbers (verdictAnswer v)
+pub numbers-refused : (v : RunAnswer) (number place : ℕ) → v ≡ Refused number place → number ∷ place ∷ 0 ∷ 0 ∷ [] ≡ runNumbers (runAnswer v)
 unfolding runNumbers
 numbers-refused v number place e = rw e refl
 
@@ -53,10 +53,10 @@ pub monitored-short : (trace answer : List ℕ) → length answer < 4 → answer
 unfolding monitored
 monitored-short trace answer short = laid-short 4 _ answer short
 
-pub monitored-stored : (trace stored answer answer′ : List ℕ) (v : Verdict) → v ≡ answerOf trace → stored ≡ runNumbers (verdictAnswer v) → length stored ≡ 4 → 4 ≤ length answer → answer′ ≡ stored ++ drop (length stored) answer
+pub monitored-stored : (trace stored answer answer′ : List ℕ) (v : RunAnswer) → v ≡ judgedBytes trace → stored ≡ runNumbers (runAnswer v) → length stored ≡ 4 → 4 ≤ length answer → answer′ ≡ stored ++ drop (length stored) answer
     → answer′ ≡ monitored trace answer
 unfolding monitored
-monitored-stored trace stored answer answer′ v e same = laid-stored 4 _ stored answer answer′ (same ∙ ap (λ w. runNumbers (verdictAnswer w)) e)
+monitored-stored trace stored answer answer′ v e same = laid-stored 4 _ stored answer answer′ (same ∙ ap (λ w. runNumbers (runAnswer w)) e)
 
 -- ---- The shown model
 
@@ -94,11 +94,11 @@ model-means {trace} {out} {out′} w = subst (λ a. Means trace out a out′) (w
 
 -- ---- The reader
 
-pub read-short : (text answer : List ℕ) → length answer < 5 → MacroRead text answer answer
+pub read-short : (text answer : List ℕ) → length answer < 5 → ReadsMacro text answer answer
 read-short text answer short = record { accepted = λ m a. laid-short 5 _ answer short; refused = λ number place r. laid-short 5 _ answer short }
 
-pub read-stored : (text stored answer answer′ : List ℕ) (a : Answer) → Reads text a → stored ≡ heldNumbers a → length stored ≡ 5 → 5 ≤ length answer
-    → answer′ ≡ stored ++ drop (length stored) answer → MacroRead text answer answer′
+pub read-stored : (text stored answer answer′ : List ℕ) (a : MacroRead) → Reads text a → stored ≡ heldNumbers a → length stored ≡ 5 → 5 ≤ length answer
+    → answer′ ≡ stored ++ drop (length stored) answer → ReadsMacro text answer answer′
 read-stored text stored answer answer′ a reads same full room e = record {
   accepted = λ m k. laid-stored 5 _ stored answer answer′ (same ∙ held-accepted text a reads m k) full room e;
   refused = λ number place r. laid-stored 5 _ stored answer answer′ (same ∙ held-refused text a reads number place r) full room e;

@@ -5,15 +5,15 @@ use Prim.Native.Nat.{ℕ, _≤_, _<_}
 use mathlib.Core.List.{List, [], _∷_, _++_}
 use lib.ListN.{length, drop}
 use Rattle.semantics.specs.Models.{Feasible}
-use Rattle.verdicts.specs.Verdict.{Answer, pass, fail, incoherent, refused}
-use Rattle.verdicts.specs.Demand3.{Demand3}
+use Rattle.verdict_theory.specs.Verdict.{VerdictAnswer, pass, fail, incoherent, refused}
+use Rattle.verdict_theory.specs.Demand3.{Demand3}
 
 -- How many numbers the verdict is.
 abbrev pub verdictCount : ℕ
 verdictCount = 5
 
 -- The third number is 0 for pass, 1 for fail, 2 for incoherent; on a refusal the numbers behind its place are 0.
-unfoldable pub verdictNumbers : Answer → List ℕ
+unfoldable pub verdictNumbers : VerdictAnswer → List ℕ
 verdictNumbers (pass pairs) = 0 ∷ 0 ∷ 0 ∷ pairs ∷ 0 ∷ []
 verdictNumbers (fail pairs letters) = 0 ∷ 0 ∷ 1 ∷ pairs ∷ letters ∷ []
 verdictNumbers (incoherent pairs letters) = 0 ∷ 0 ∷ 2 ∷ pairs ∷ letters ∷ []
@@ -26,4 +26,4 @@ pub record Judging (text table output answer table′ output′ answer′ : List
   -- Else demand 3 holds of an answer whose numbers stand over the front of the slice. What the output's bytes are then read back as, for any table:
   -- `ReadBack.read-back` of crate `verdict_lines`.
   pub judged : verdictCount ≤ length answer
-      → (a : Answer) × Demand3 Feasible text table output a table′ output′ × (answer′ ≡ verdictNumbers a ++ drop verdictCount answer)
+      → (a : VerdictAnswer) × Demand3 Feasible text table output a table′ output′ × (answer′ ≡ verdictNumbers a ++ drop verdictCount answer)

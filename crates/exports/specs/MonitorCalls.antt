@@ -18,15 +18,15 @@ use Rattle.traces.specs.Reading.{letterCount}
 use Rattle.letters.specs.RefusalNumbers.{headerMalformed, letterMalformed}
 use Rattle.semantics.specs.Terms.{Trace, begin, _▸_, state}
 use Rattle.records.specs.Records.{flag}
-use Rattle.monitoring.specs.Monitor.{outcomeAnswer, startOf, advance}
-use Rattle.monitoring.specs.Run.{last, verdictAnswer}
-use Rattle.monitoring.specs.Stream.{emptyStream, pushedAll, finishedOf}
-use Rattle.monitoring.specs.Demand2.{Demand2}
-use Rattle.monitoring.specs.StreamRight.{cappedAnswer}
-use Rattle.monitoring.specs.Meanings.{Monitors, Streams}
-use Rattle.monitoring.specs.declared.Monitor.{Monitor}
-use Rattle.monitoring.specs.declared.Outcome.{Outcome}
-use Rattle.monitoring.specs.declared.Stepped.{Stepped}
+use Rattle.streaming.specs.Monitor.{outcomeAnswer, startOf, advance}
+use Rattle.streaming.specs.Run.{last, runAnswer}
+use Rattle.streaming.specs.Stream.{emptyStream, pushedAll, finishedOf}
+use Rattle.streaming.specs.Demand2.{Demand2}
+use Rattle.streaming.specs.Run.{cappedAnswer}
+use Rattle.streaming.specs.Meanings.{Monitors, Streams}
+use Rattle.streaming.specs.declared.Monitor.{Monitor}
+use Rattle.streaming.specs.declared.StepOutcome.{StepOutcome}
+use Rattle.streaming.specs.declared.Stepped.{Stepped}
 use Rattle.states.specs.States.{monitorSize, streamSize, monitorThen, monitorIn, streamThen, streamIn}
 use Rattle.exports.specs.Numbers.{runCount, runNumbers}
 
@@ -54,7 +54,7 @@ holdsState kind size s = pick (ltb (length s) size) (λ _. false) λ _. eqb (get
 abbrev pub stepCount : ℕ
 stepCount = 4
 
-abbrev pub outcomeNumber : Outcome → ℕ
+abbrev pub outcomeNumber : StepOutcome → ℕ
 outcomeNumber o = onAnswer (outcomeAnswer o) (λ _. 0) λ number _. number
 
 -- refusal (0: none), place, whether the monitor runs, its infeasible mark
@@ -138,10 +138,10 @@ pub record FinishesStream (entry answer answer′ : List ℕ) : Type 0 where
   pub short : length answer < runCount → answer′ ≡ answer
   pub none : runCount ≤ length answer → holdsState streamKind streamSize entry ≡ false → answer′ ≡ noStateNumbers ++ drop runCount answer
   pub finished : runCount ≤ length answer → holdsState streamKind streamSize entry ≡ true
-      → answer′ ≡ runNumbers (verdictAnswer (finishedOf (streamIn entry))) ++ drop runCount answer
+      → answer′ ≡ runNumbers (runAnswer (finishedOf (streamIn entry))) ++ drop runCount answer
   -- demand 2 for all the bytes together
   pub meets : (bytes : List ℕ) → HoldsStream bytes entry → letterCount firstEdition bytes ≤ last
-      → Demand2 bytes (verdictAnswer (finishedOf (streamIn entry)))
+      → Demand2 bytes (runAnswer (finishedOf (streamIn entry)))
   -- of more letters than 64 bits can number, those have the last number
   pub beyond : (bytes : List ℕ) → HoldsStream bytes entry → (exact : Answer (ℕ × ℕ)) → Demand2 bytes exact
-      → verdictAnswer (finishedOf (streamIn entry)) ≡ cappedAnswer exact
+      → runAnswer (finishedOf (streamIn entry)) ≡ cappedAnswer exact

@@ -10,10 +10,10 @@ use Rattle.letters.specs.Answers.{Answer, value, refusal}
 use Rattle.letters.specs.Editions.{firstEdition, mostLetters}
 use Rattle.traces.specs.ReadingParts.{readingWithin}
 use Rattle.macros.specs.Points.{sizeBlock}
-use Rattle.monitoring.specs.Run.{verdictAnswer}
-use Rattle.monitoring.specs.Stream.{answerOf}
-use Rattle.shown.specs.Answer.{answerTo, outputAfter, Means}
-use Rattle.shown.specs.Answer as shown
+use Rattle.streaming.specs.Run.{runAnswer}
+use Rattle.streaming.specs.Stream.{judgedBytes}
+use Rattle.model_writer.specs.Answer.{answerTo, outputAfter, Means}
+use Rattle.model_writer.specs.Answer as shown
 use Rattle.grammar.specs.Grammar.{Macro}
 use Rattle.refusals.specs.Order.{Refusal}
 use Rattle.refusals.specs.Accepted.{Accepted}
@@ -44,11 +44,11 @@ runNumbers (refusal number place) = number ∷ place ∷ 0 ∷ 0 ∷ []
 
 -- the answer after the bytes of a trace were judged
 unfoldable pub monitored : (trace answer : List ℕ) → List ℕ
-monitored trace answer = laidOver runCount (runNumbers (verdictAnswer (answerOf trace))) answer
+monitored trace answer = laidOver runCount (runNumbers (runAnswer (judgedBytes trace))) answer
 
 -- ---- The shown model: refusal, place, first infeasible letter, bytes of the model.
 
-unfoldable pub modelNumbers : shown.Answer → List ℕ
+unfoldable pub modelNumbers : shown.ModelAnswer → List ℕ
 modelNumbers (shown.model bytes) = 0 ∷ 0 ∷ 0 ∷ bytes ∷ []
 modelNumbers (shown.infeasible letter) = 0 ∷ 0 ∷ letter ∷ 0 ∷ []
 modelNumbers (shown.refusal number place) = number ∷ place ∷ 0 ∷ 0 ∷ []
@@ -75,6 +75,6 @@ refusedNumbers number place = number ∷ place ∷ 0 ∷ 0 ∷ 0 ∷ []
 
 -- The answer after a text was read; `answer` is lent, and `answer′` is what it holds afterwards. Each text is accepted as one macro or refused by
 -- one number at one place (`Accepted.exactly-one` of crate `refusals`), so that the answer is settled (`Held.one-read`).
-pub record MacroRead (text answer answer′ : List ℕ) : Type 0 where
+pub record ReadsMacro (text answer answer′ : List ℕ) : Type 0 where
   pub accepted : (m : Macro) → Accepted text m → answer′ ≡ laidOver macroCount (acceptedNumbers m) answer
   pub refused : (number place : ℕ) → Refusal text number place → answer′ ≡ laidOver macroCount (refusedNumbers number place) answer

@@ -3,11 +3,6 @@
 use super::RUN_NUMBERS;
 use super::run_numbers;
 use super::store;
-use monitoring::Outcome;
-use monitoring::Stepped;
-use monitoring::starting;
-use monitoring::stepping;
-use monitoring::streaming;
 use records::flagged;
 use states::MONITOR_SIZE;
 use states::STREAM_SIZE;
@@ -15,6 +10,11 @@ use states::monitor_in;
 use states::put_monitor;
 use states::put_stream;
 use states::stream_in;
+use streaming::StepOutcome;
+use streaming::Stepped;
+use streaming::byte_stream;
+use streaming::starting;
+use streaming::stepping;
 ghost use mathlib.Core.Path.{_≡_};
 ghost use Prim.Native.Nat.{_≤_};
 ghost use lib.ListN.{length};
@@ -44,12 +44,12 @@ fn holds(kind: u8, size: usize, state: &[u8]) -> bool
     state[0] == kind
 }
 
-fn outcome_number(outcome: Outcome) -> u64
+fn outcome_number(outcome: StepOutcome) -> u64
     ensures { λ r. ⌜ r ≡ outcomeNumber outcome ⌝ }
 {
     match outcome {
-        Outcome::Taken => 0,
-        Outcome::Refused(number) => number as u64,
+        StepOutcome::Taken => 0,
+        StepOutcome::Refused(number) => number as u64,
     }
 }
 
@@ -76,8 +76,8 @@ fn keep(stepped: Stepped, state: &mut [u8])
     let outcome = stepped.outcome;
     let monitor = stepped.monitor;
     match outcome {
-        Outcome::Taken => put_monitor(MONITOR, monitor, state),
-        Outcome::Refused(number) => {}
+        StepOutcome::Taken => put_monitor(MONITOR, monitor, state),
+        StepOutcome::Refused(number) => {}
     }
 }
 
@@ -132,7 +132,7 @@ pub extern "C" fn fadzgime_stream_start(state: &mut [u8], answer: &mut [u64])
         answer[0] = NO_STATE;
         return;
     }
-    put_stream(STREAM, streaming::start(), state);
+    put_stream(STREAM, byte_stream::start(), state);
     answer[0] = 0;
 }
 
@@ -145,7 +145,7 @@ pub extern "C" fn fadzgime_stream_push(bytes: &[u8], state: &mut [u8], answer: &
         return;
     }
     if holds(STREAM, STREAM_SIZE, state) {
-        let next = streaming::push_all(stream_in(state), bytes);
+        let next = byte_stream::push_all(stream_in(state), bytes);
         put_stream(STREAM, next, state);
         answer[0] = 0;
         return;
@@ -162,7 +162,7 @@ pub extern "C" fn fadzgime_stream_finish(state: &[u8], answer: &mut [u64])
         return;
     }
     if holds(STREAM, STREAM_SIZE, state) {
-        let verdict = streaming::finish(stream_in(state));
+        let verdict = byte_stream::finish(stream_in(state));
         let numbers = run_numbers(verdict);
         store(&numbers, answer);
         return;

@@ -1,18 +1,18 @@
 // The proved functions for Rust and C: numbers and slices. A slice passes as a pointer and its length.
 // Each function stores its answer as numbers over the front of a lent slice. If the slice is too short for them, nothing is done.
-use monitoring::Verdict;
-use search::Verdict as MacroVerdict;
-use shown::Shown;
-use syntax::Answer;
+use model_writer::Shown;
+use search::Verdict;
+use streaming::RunAnswer;
+use syntax::MacroRead;
 ghost use mathlib.Core.Path.{_≡_};
 ghost use mathlib.Core.List.{_++_};
 ghost use Prim.Native.Nat.{_≤_};
 ghost use lib.ListN.{length, drop};
-ghost use Rattle.monitoring.specs.Demand2.{Demand2};
-ghost use Rattle.monitoring.specs.Run.{verdictAnswer};
-ghost use Rattle.monitoring.specs.Stream.{answerOf};
-ghost use Rattle.shown.specs.Answer.{shownAnswer};
-ghost use Rattle.exports.specs.Numbers.{runCount, modelCount, runNumbers, monitored, modelNumbers, modelled, modelOutput, ModelMeans, MacroRead};
+ghost use Rattle.streaming.specs.Demand2.{Demand2};
+ghost use Rattle.streaming.specs.Run.{runAnswer};
+ghost use Rattle.streaming.specs.Stream.{judgedBytes};
+ghost use Rattle.model_writer.specs.Answer.{shownAnswer};
+ghost use Rattle.exports.specs.Numbers.{runCount, modelCount, runNumbers, monitored, modelNumbers, modelled, modelOutput, ModelMeans, ReadsMacro};
 ghost use Rattle.exports.specs.Held.{heldNumbers};
 ghost use Rattle.search.specs.Answering as search;
 ghost use Rattle.exports.specs.Judging.{verdictNumbers, Judging};
@@ -44,12 +44,12 @@ fn store(numbers: &[u64], answer: &mut [u64])
 }
 
 // The numbers of what the run over a trace answers.
-fn run_numbers(verdict: Verdict) -> [u64; RUN_NUMBERS]
-    ensures { λ r. ⌜ r ≡ runNumbers (verdictAnswer verdict) ⌝ }
+fn run_numbers(verdict: RunAnswer) -> [u64; RUN_NUMBERS]
+    ensures { λ r. ⌜ r ≡ runNumbers (runAnswer verdict) ⌝ }
 {
     match verdict {
-        Verdict::Judged(incoherent, infeasible) => [0, 0, incoherent, infeasible],
-        Verdict::Refused(number, place) => [number as u64, place, 0, 0],
+        RunAnswer::Judged(incoherent, infeasible) => [0, 0, incoherent, infeasible],
+        RunAnswer::Refused(number, place) => [number as u64, place, 0, 0],
     }
 }
 
@@ -58,12 +58,12 @@ fn run_numbers(verdict: Verdict) -> [u64; RUN_NUMBERS]
 #[no_mangle]
 pub extern "C" fn fadzgime_monitor(trace: &[u8], answer: &mut [u64])
     ensures { λ _. ⌜ now (answer .exit) ≡ monitored (now (trace .entry)) (now (answer .entry)) ⌝ }
-    ensures { λ _. ⌜ (runCount ≤ length (now (answer .entry)) → Demand2 (now (trace .entry)) (verdictAnswer (answerOf (now (trace .entry))))) ⌝ }
+    ensures { λ _. ⌜ (runCount ≤ length (now (answer .entry)) → Demand2 (now (trace .entry)) (runAnswer (judgedBytes (now (trace .entry))))) ⌝ }
 {
     if answer.len() < RUN_NUMBERS {
         return;
     }
-    let verdict = monitoring::streaming::judge_trace(trace);
+    let verdict = streaming::byte_stream::judge_trace(trace);
     let numbers = run_numbers(verdict);
     store(&numbers, answer);
 }
@@ -81,7 +81,7 @@ fn model_numbers(shown: Shown) -> [u64; MODEL_NUMBERS]
 
 /// Shows a data model of a packed trace of at most 1,024 letters: the refusal and its place; the first infeasible letter; the bytes of
 /// the packed model, which stands at the front of the output. Each is 0 for none. Where `answer` has room for the four, they mean what
-/// `shown::show` says: the bytes describe a model of all tests, or there is none.
+/// `model_writer::show` says: the bytes describe a model of all tests, or there is none.
 #[no_mangle]
 pub extern "C" fn fadzgime_model(trace: &[u8], out: &mut [u8], answer: &mut [u64])
     ensures { λ _. ⌜ now (answer .exit) ≡ modelled (now (trace .entry)) (length (now (out .entry))) (now (answer .entry)) ⌝ }
@@ -91,13 +91,13 @@ pub extern "C" fn fadzgime_model(trace: &[u8], out: &mut [u8], answer: &mut [u64
     if answer.len() < MODEL_NUMBERS {
         return;
     }
-    let shown = shown::show(trace, out);
+    let shown = model_writer::show(trace, out);
     let numbers = model_numbers(shown);
     store(&numbers, answer);
 }
 
 // The numbers of what reading a text gives.
-fn macro_numbers(read: Answer) -> [u64; MACRO_NUMBERS]
+fn macro_numbers(read: MacroRead) -> [u64; MACRO_NUMBERS]
     ensures { λ r. ⌜ r ≡ heldNumbers read ⌝ }
 {
     let program = read.program;
@@ -114,7 +114,7 @@ fn macro_numbers(read: Answer) -> [u64; MACRO_NUMBERS]
 /// Reads a macro: the refusal and its place, 0 for none; the counts of its registers, functions and points, 0 on a refusal.
 #[no_mangle]
 pub extern "C" fn fadzgime_read(text: &[u8], answer: &mut [u64])
-    ensures { λ _. ⌜ MacroRead (now (text .entry)) (now (answer .entry)) (now (answer .exit)) ⌝ }
+    ensures { λ _. ⌜ ReadsMacro (now (text .entry)) (now (answer .entry)) (now (answer .exit)) ⌝ }
 {
     if answer.len() < MACRO_NUMBERS {
         return;
@@ -125,14 +125,14 @@ pub extern "C" fn fadzgime_read(text: &[u8], answer: &mut [u64])
 }
 
 // The numbers of the verdict on a macro.
-fn verdict_numbers(verdict: MacroVerdict) -> [u64; VERDICT_NUMBERS]
+fn verdict_numbers(verdict: Verdict) -> [u64; VERDICT_NUMBERS]
     ensures { λ r. ⌜ r ≡ verdictNumbers (search.answerOf verdict) ⌝ }
 {
     match verdict {
-        MacroVerdict::Pass(pairs) => [0, 0, 0, pairs as u64, 0],
-        MacroVerdict::Fail(pairs, letters) => [0, 0, 1, pairs as u64, letters as u64],
-        MacroVerdict::Incoherent(pairs, letters) => [0, 0, 2, pairs as u64, letters as u64],
-        MacroVerdict::Refused(number, place) => [number as u64, place as u64, 0, 0, 0],
+        Verdict::Pass(pairs) => [0, 0, 0, pairs as u64, 0],
+        Verdict::Fail(pairs, letters) => [0, 0, 1, pairs as u64, letters as u64],
+        Verdict::Incoherent(pairs, letters) => [0, 0, 2, pairs as u64, letters as u64],
+        Verdict::Refused(number, place) => [number as u64, place as u64, 0, 0, 0],
     }
 }
 

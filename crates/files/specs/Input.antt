@@ -11,8 +11,8 @@ use Rattle.files.specs.declared.OneRead.{OneRead}
 use Rattle.files.specs.declared.OneRead.the-variants as once
 use Rattle.files.specs.declared.Input.{Input}
 use Rattle.files.specs.declared.Input.the-variants.{Ended, Full, Failed}
-use Rattle.files.specs.declared.Progress.{Progress}
-use Rattle.files.specs.declared.Progress.the-variants.{More, Over}
+use Rattle.files.specs.declared.AfterRead.{AfterRead}
+use Rattle.files.specs.declared.AfterRead.the-variants.{More, Over}
 
 -- A read of at most `most` bytes answers a negative number where it failed, 0 at the end of the input, and else how many bytes it gave
 -- (POSIX.1-2024, read, "Return value").
@@ -39,26 +39,26 @@ pub record Stored (entry : List ℕ) (at : ℕ) (piece : List ℕ) (r : OneRead)
   pub bytes : exit ≡ paste entry at piece (given r)
 
 -- How many of the buffer's bytes were read.
-abbrev pub count : Input → ℕ → ℕ
-count (Ended n) room = n
-count Full room = room
-count (Failed n) room = n
+abbrev pub readCount : Input → ℕ → ℕ
+readCount (Ended n) room = n
+readCount Full room = room
+readCount (Failed n) room = n
 
 -- What follows a read before which `done` bytes were read: only bytes lead on, and only the end of the input is taken for it.
-unfoldable pub following : OneRead → ℕ → Progress
+unfoldable pub following : OneRead → ℕ → AfterRead
 following (once.Bytes n) done = More n
 following once.End done = Over (Ended done)
 following once.Failed done = Over (Failed done)
 
 -- Reads one after the other into a buffer of `room` bytes, `done` of which are read: while there is room, each gives bytes or is the last.
-pub data Reads (room : ℕ) (r : Input) : ℕ → Type 0 where
-  full : r ≡ Full → Reads room r room
-  over : {done : ℕ} (answer : OneRead) → done < room → following answer done ≡ Over r → Reads room r done
-  more : {done : ℕ} (answer : OneRead) (n : ℕ) → following answer done ≡ More n → 0 < n → done + n ≤ room → Reads room r (done + n) → Reads room r done
+pub data ReadSequence (room : ℕ) (r : Input) : ℕ → Type 0 where
+  full : r ≡ Full → ReadSequence room r room
+  over : {done : ℕ} (answer : OneRead) → done < room → following answer done ≡ Over r → ReadSequence room r done
+  more : {done : ℕ} (answer : OneRead) (n : ℕ) → following answer done ≡ More n → 0 < n → done + n ≤ room → ReadSequence room r (done + n) → ReadSequence room r done
 
 -- The reads' answers lead to the result. The bytes that they gave are the front of the buffer; those behind them stay as they were lent. What
 -- the system answers is free: the contracts have no history of its calls, so `reads` is what the proof takes from them, one from each turn.
 pub record Received (entry : List ℕ) (r : Input) (exit : List ℕ) : Type 0 where
-  pub reads : Reads (length entry) r 0
+  pub reads : ReadSequence (length entry) r 0
   pub length-kept : length exit ≡ length entry
-  pub behind : drop (count r (length entry)) exit ≡ drop (count r (length entry)) entry
+  pub behind : drop (readCount r (length entry)) exit ≡ drop (readCount r (length entry)) entry

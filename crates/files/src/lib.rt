@@ -34,7 +34,7 @@ enum OneRead {
 }
 
 // What follows one read: it gave so many bytes, and reading goes on; or reading is over.
-enum Progress {
+enum AfterRead {
     More(usize),
     Over(Input),
 }
@@ -104,13 +104,13 @@ fn read_once(fd: i32, buffer: &mut [u8], at: usize, piece: &mut [u8]) -> OneRead
 }
 
 // What follows a read before which `done` bytes were read: the end of the input and a failure are told apart here.
-fn after(once: OneRead, done: usize) -> Progress
+fn after(once: OneRead, done: usize) -> AfterRead
     ensures { λ r. ⌜ r ≡ following once done ⌝ }
 {
     match once {
-        OneRead::Bytes(n) => Progress::More(n),
-        OneRead::End => Progress::Over(Input::Ended(done)),
-        OneRead::Failed => Progress::Over(Input::Failed(done)),
+        OneRead::Bytes(n) => AfterRead::More(n),
+        OneRead::End => AfterRead::Over(Input::Ended(done)),
+        OneRead::Failed => AfterRead::Over(Input::Failed(done)),
     }
 }
 
@@ -126,8 +126,8 @@ pub fn read(fd: i32, buffer: &mut [u8]) -> Input
         let once = read_once(fd, buffer, done, piece);
         let next = after(once, done);
         match next {
-            Progress::More(n) => done = done + n,
-            Progress::Over(input) => return input,
+            AfterRead::More(n) => done = done + n,
+            AfterRead::Over(input) => return input,
         }
     }
     Input::Full

@@ -43,32 +43,32 @@ module _ (rs fs ns : List ℕ) where
 
   -- "C is `a = b` or `a != b`."
   abbrev pub conditionTokens : Condition → List ℕ
-  conditionTokens (equal x y) = register x ∷ word.equal ∷ register y ∷ []
-  conditionTokens (unequal x y) = register x ∷ word.unequal ∷ register y ∷ []
+  conditionTokens (equal x y) = register x ∷ word.equalKey ∷ register y ∷ []
+  conditionTokens (unequal x y) = register x ∷ word.unequalKey ∷ register y ∷ []
 
   -- behind the first argument of a function
   abbrev pub argumentTokens : ℕ → ℕ → List ℕ
-  argumentTokens f z = pick (takesTwo f) (λ _. word.comma ∷ register z ∷ word.rparen ∷ []) λ _. word.rparen ∷ []
+  argumentTokens f z = pick (takesTwo f) (λ _. word.commaKey ∷ register z ∷ word.rparenKey ∷ []) λ _. word.rparenKey ∷ []
 
   -- `a := b;` `a := f(b);` `a := f(b,c);` `assume C;`
   abbrev pub letterTokens : Letter → List ℕ
-  letterTokens (Copy x y) = register x ∷ word.becomes ∷ register y ∷ word.semicolon ∷ []
-  letterTokens (Apply x f y z) = register x ∷ word.becomes ∷ function f ∷ word.lparen ∷ register y ∷ (argumentTokens f z ++ word.semicolon ∷ [])
-  letterTokens (Equal x y) = word.assume ∷ register x ∷ word.equal ∷ register y ∷ word.semicolon ∷ []
-  letterTokens (Unequal x y) = word.assume ∷ register x ∷ word.unequal ∷ register y ∷ word.semicolon ∷ []
+  letterTokens (Copy x y) = register x ∷ word.becomesKey ∷ register y ∷ word.semicolonKey ∷ []
+  letterTokens (Apply x f y z) = register x ∷ word.becomesKey ∷ function f ∷ word.lparenKey ∷ register y ∷ (argumentTokens f z ++ word.semicolonKey ∷ [])
+  letterTokens (Equal x y) = word.assumeKey ∷ register x ∷ word.equalKey ∷ register y ∷ word.semicolonKey ∷ []
+  letterTokens (Unequal x y) = word.assumeKey ∷ register x ∷ word.unequalKey ∷ register y ∷ word.semicolonKey ∷ []
 
   -- and `skip;` `assert C;` `if C { .. }` with an optional `else { .. }`, `while C { .. }`
   unfoldable mutual
     pub statementTokens : Statement → List ℕ
-    statementTokens skip = word.skip ∷ word.semicolon ∷ []
+    statementTokens skip = word.skipKey ∷ word.semicolonKey ∷ []
     statementTokens (perform a) = letterTokens a
-    statementTokens (assert c) = word.assert ∷ (conditionTokens c ++ word.semicolon ∷ [])
-    statementTokens (if c b e) = word.if ∷ (conditionTokens c ++ word.lbrace ∷ (blockTokens b ++ word.rbrace ∷ elseTokens e))
-    statementTokens (while c b) = word.while ∷ (conditionTokens c ++ word.lbrace ∷ (blockTokens b ++ word.rbrace ∷ []))
+    statementTokens (assert c) = word.assertKey ∷ (conditionTokens c ++ word.semicolonKey ∷ [])
+    statementTokens (if c b e) = word.ifKey ∷ (conditionTokens c ++ word.lbraceKey ∷ (blockTokens b ++ word.rbraceKey ∷ elseTokens e))
+    statementTokens (while c b) = word.whileKey ∷ (conditionTokens c ++ word.lbraceKey ∷ (blockTokens b ++ word.rbraceKey ∷ []))
 
     pub elseTokens : Else → List ℕ
     elseTokens absent = []
-    elseTokens (present b) = word.else ∷ word.lbrace ∷ (blockTokens b ++ word.rbrace ∷ [])
+    elseTokens (present b) = word.elseKey ∷ word.lbraceKey ∷ (blockTokens b ++ word.rbraceKey ∷ [])
 
     pub blockTokens : Block → List ℕ
     blockTokens empty = []
@@ -78,24 +78,24 @@ module _ (rs fs ns : List ℕ) where
 unfoldable pub entryTokens : List ℕ → List ℕ → List ℕ
 entryTokens [] ns = []
 entryTokens (f ∷ fs) [] = []
-entryTokens (f ∷ fs) (n ∷ ns) = f ∷ word.slash ∷ (48 + n) ∷ entryTokens fs ns
+entryTokens (f ∷ fs) (n ∷ ns) = f ∷ word.slashKey ∷ (48 + n) ∷ entryTokens fs ns
 
 -- "then perhaps `funs` entries and `;` (at least one in each list)"
 unfoldable pub functionTokens : List ℕ → List ℕ → List ℕ
 functionTokens [] ns = []
-functionTokens (f ∷ fs) ns = word.funs ∷ (entryTokens (f ∷ fs) ns ++ word.semicolon ∷ [])
+functionTokens (f ∷ fs) ns = word.funsKey ∷ (entryTokens (f ∷ fs) ns ++ word.semicolonKey ∷ [])
 
 -- "A macro is `vars` names `;`, then perhaps `funs` .., then statements, perhaps none."
 unfoldable pub sentence : Macro → List ℕ
 sentence m =
-    word.vars ∷ (m .registers ++ word.semicolon ∷ (functionTokens (m .functions) (m .arities) ++ blockTokens (m .registers) (m .functions) (m .arities) (m .body)))
+    word.varsKey ∷ (m .registers ++ word.semicolonKey ∷ (functionTokens (m .functions) (m .arities) ++ blockTokens (m .registers) (m .functions) (m .arities) (m .body)))
 
 -- ---- depth
 
 -- one brace deeper
-abbrev pub Inside : (ℕ → Type 0) → ℕ → Type 0
-Inside P zero = ⊥
-Inside P (suc d) = P d
+abbrev pub OneDeeper : (ℕ → Type 0) → ℕ → Type 0
+OneDeeper P zero = ⊥
+OneDeeper P (suc d) = P d
 
 -- "Braces nest at most 16 deep": at most d deep.
 abbrev mutual
@@ -103,12 +103,12 @@ abbrev mutual
   Nests skip d = Unit {0}
   Nests (perform a) d = Unit {0}
   Nests (assert c) d = Unit {0}
-  Nests (if c b e) d = Inside (λ n. NestsBlock b n) d × NestsElse e d
-  Nests (while c b) d = Inside (λ n. NestsBlock b n) d
+  Nests (if c b e) d = OneDeeper (λ n. NestsBlock b n) d × NestsElse e d
+  Nests (while c b) d = OneDeeper (λ n. NestsBlock b n) d
 
   pub NestsElse : Else → ℕ → Type 0
   NestsElse absent d = Unit {0}
-  NestsElse (present b) d = Inside (λ n. NestsBlock b n) d
+  NestsElse (present b) d = OneDeeper (λ n. NestsBlock b n) d
 
   pub NestsBlock : Block → ℕ → Type 0
   NestsBlock empty d = Unit {0}

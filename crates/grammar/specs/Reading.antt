@@ -7,7 +7,7 @@ use lib.Dec.{ltb, eqb}
 use lib.ListN.{length, getD}
 use Rattle.base.specs.Choice.{pick}
 use Rattle.letters.specs.Editions.{mostFunctions}
-use Rattle.letters.specs.RefusalNumbers.{tokenMalformed, grammarViolated, declarationWrong, useWrong, nestingTooDeep, pointsTooMany}
+use Rattle.letters.specs.MacroRefusalNumbers.{tokenMalformed, grammarViolated, declarationWrong, useWrong, nestingTooDeep, pointsTooMany}
 use Rattle.letters.specs.declared.Letter.{Letter}
 use Rattle.letters.specs.declared.Letter.the-variants.{Copy, Apply}
 use Rattle.macros.specs.Tree.{Condition, equal, unequal, test, Statement, skip, perform, assert, if, while, Else, absent, present, Block, empty, _then_}
@@ -26,10 +26,10 @@ pub data Got (A : Type 0) : Type 0 where
   exhausted : Got A
 
 -- goes on with what was read, from the place after it; a refusal stands
-abbrev pub onward : {A B : Type 0} → Got A → (A → ℕ → Got B) → Got B
-onward (got a e) f = f a e
-onward (refused n p) f = refused n p
-onward exhausted f = exhausted
+abbrev pub andThen : {A B : Type 0} → Got A → (A → ℕ → Got B) → Got B
+andThen (got a e) f = f a e
+andThen (Got.refused n p) f = Got.refused n p
+andThen exhausted f = exhausted
 
 -- the place of a name in a list; the list's length if it is not there
 unfoldable pub indexOf : ℕ → List ℕ → ℕ
@@ -37,23 +37,23 @@ indexOf k [] = 0
 indexOf k (x ∷ xs) = pick (sameName k x) (λ _. 0) λ _. suc (indexOf k xs)
 
 -- a token that does not fit the grammar, or is none
-abbrev pub unfit : {A : Type 0} → Token → Got A
-unfit t = refused (pick (eqb (t .key) word.wrong) (λ _. tokenMalformed) λ _. grammarViolated) (t .start)
+abbrev pub refusedToken : {A : Type 0} → Token → Got A
+refusedToken t = Got.refused (pick (eqb (t .key) word.wrong) (λ _. tokenMalformed) λ _. grammarViolated) (t .start)
 
 -- one token k
 abbrev pub expectT : ℕ → Token → Got (Unit {0})
-expectT k t = pick (eqb (t .key) k) (λ _. got tt (t .end)) λ _. unfit t
+expectT k t = pick (eqb (t .key) k) (λ _. got tt (t .end)) λ _. refusedToken t
 
 -- a name that is used: a register or a function, by its place in a list
 abbrev pub useT : List ℕ → Token → Got ℕ
 useT rs t =
     pick (isName (t .key))
-    (λ _. pick (ltb (indexOf (t .key) rs) (length rs)) (λ _. got (indexOf (t .key) rs) (t .end)) λ _. refused useWrong (t .start))
-    λ _. unfit t
+    (λ _. pick (ltb (indexOf (t .key) rs) (length rs)) (λ _. got (indexOf (t .key) rs) (t .end)) λ _. Got.refused useWrong (t .start))
+    λ _. refusedToken t
 
 -- = or !=, as what it makes of two registers
 abbrev pub signT : Token → Got Bool
-signT t = pick (eqb (t .key) word.equal) (λ _. got true (t .end)) λ _. pick (eqb (t .key) word.unequal) (λ _. got false (t .end)) λ _. unfit t
+signT t = pick (eqb (t .key) word.equalKey) (λ _. got true (t .end)) λ _. pick (eqb (t .key) word.unequalKey) (λ _. got false (t .end)) λ _. refusedToken t
 
 abbrev pub compared : Bool → ℕ → ℕ → Condition
 compared true x y = equal x y
@@ -65,57 +65,57 @@ module _ (s : List ℕ) where
 
   -- a value, then a token k, which is no part of it
   abbrev pub ended : {A : Type 0} → ℕ → A → ℕ → Got A
-  ended k a at = onward (expect k at) λ _ e. got a e
+  ended k a at = andThen (expect k at) λ _ e. got a e
 
   module _ (rs : List ℕ) where
     unfoldable pub condition : ℕ → Got Condition
-    condition at = onward (useT rs (tokenAt s at)) λ x a. onward (signT (tokenAt s a)) λ q b. onward (useT rs (tokenAt s b)) λ y e. got (compared q x y) e
+    condition at = andThen (useT rs (tokenAt s at)) λ x a. andThen (signT (tokenAt s a)) λ q b. andThen (useT rs (tokenAt s b)) λ y e. got (compared q x y) e
 
     -- a condition and `;`
-    unfoldable pub tested : ℕ → Got Condition
-    tested at = onward (condition at) λ c e. ended word.semicolon c e
+    unfoldable pub endedCondition : ℕ → Got Condition
+    endedCondition at = andThen (condition at) λ c e. ended word.semicolonKey c e
 
     -- behind the first argument y of f, which takes n: `,` and a second one where it takes two, and `)`
     unfoldable pub argumentsT : ℕ → ℕ → ℕ → ℕ → Token → Got Letter
     argumentsT n x f y t =
-        pick (eqb (t .key) word.comma)
-        (λ _. pick (eqb n 2) (λ _. onward (useT rs (tokenAt s (t .end))) λ z e. ended word.rparen (Apply x f y z) e) λ _. refused useWrong (t .start))
-        λ _. pick (eqb (t .key) word.rparen) (λ _. pick (eqb n 2) (λ _. refused useWrong (t .start)) λ _. got (Apply x f y y) (t .end)) λ _. unfit t
+        pick (eqb (t .key) word.commaKey)
+        (λ _. pick (eqb n 2) (λ _. andThen (useT rs (tokenAt s (t .end))) λ z e. ended word.rparenKey (Apply x f y z) e) λ _. Got.refused useWrong (t .start))
+        λ _. pick (eqb (t .key) word.rparenKey) (λ _. pick (eqb n 2) (λ _. Got.refused useWrong (t .start)) λ _. got (Apply x f y y) (t .end)) λ _. refusedToken t
 
   module _ (rs fs ns : List ℕ) where
     -- behind `x :=`: "a name is a function if the next token is `(`, else a register"
-    unfoldable pub value : ℕ → ℕ → Got Letter
-    value x at =
-        pick (eqb (tokenAt s (tokenAt s at .end) .key) word.lparen)
-        (λ _. onward (useT fs (tokenAt s at)) λ f a. onward (expect word.lparen a) λ _ b. onward (useT rs (tokenAt s b)) λ y e. argumentsT rs (getD ns f 0) x f y (tokenAt s e))
-        λ _. onward (useT rs (tokenAt s at)) λ y e. got (Copy x y) e
+    unfoldable pub rightHandSide : ℕ → ℕ → Got Letter
+    rightHandSide x at =
+        pick (eqb (tokenAt s (tokenAt s at .end) .key) word.lparenKey)
+        (λ _. andThen (useT fs (tokenAt s at)) λ f a. andThen (expect word.lparenKey a) λ _ b. andThen (useT rs (tokenAt s b)) λ y e. argumentsT rs (getD ns f 0) x f y (tokenAt s e))
+        λ _. andThen (useT rs (tokenAt s at)) λ y e. got (Copy x y) e
 
     unfoldable pub assignment : ℕ → Got Letter
-    assignment at = onward (useT rs (tokenAt s at)) λ x a. onward (expect word.becomes a) λ _ b. onward (value x b) λ l e. ended word.semicolon l e
+    assignment at = andThen (useT rs (tokenAt s at)) λ x a. andThen (expect word.becomesKey a) λ _ b. andThen (rightHandSide x b) λ l e. ended word.semicolonKey l e
 
     -- `{`, a block at a depth less by one, and `}`
     abbrev pub bracesT : (ℕ → ℕ → Got Block) → ℕ → Token → Got Block
-    bracesT inner zero t = pick (eqb (t .key) word.lbrace) (λ _. refused nestingTooDeep (t .start)) λ _. unfit t
-    bracesT inner (suc d) t = pick (eqb (t .key) word.lbrace) (λ _. onward (inner d (t .end)) λ b e. ended word.rbrace b e) λ _. unfit t
+    bracesT inner zero t = pick (eqb (t .key) word.lbraceKey) (λ _. Got.refused nestingTooDeep (t .start)) λ _. refusedToken t
+    bracesT inner (suc d) t = pick (eqb (t .key) word.lbraceKey) (λ _. andThen (inner d (t .end)) λ b e. ended word.rbraceKey b e) λ _. refusedToken t
 
     -- perhaps `else` and a block
     abbrev pub elseT : (ℕ → ℕ → Got Block) → ℕ → ℕ → Token → Got Else
-    elseT inner d at t = pick (eqb (t .key) word.else) (λ _. onward (bracesT inner d (tokenAt s (t .end))) λ b e. got (present b) e) λ _. got absent at
+    elseT inner d at t = pick (eqb (t .key) word.elseKey) (λ _. andThen (bracesT inner d (tokenAt s (t .end))) λ b e. got (present b) e) λ _. got absent at
 
     -- one statement, of which t is the first token; inner reads a block at a depth
     abbrev pub statementT : (ℕ → ℕ → Got Block) → ℕ → ℕ → Token → Got Statement
     statementT inner d at t =
-        pick (eqb (t .key) word.skip) (λ _. ended word.semicolon skip (t .end))
-        λ _. pick (eqb (t .key) word.assume) (λ _. onward (tested rs (t .end)) λ c e. got (perform (test c)) e)
-        λ _. pick (eqb (t .key) word.assert) (λ _. onward (tested rs (t .end)) λ c e. got (assert c) e)
-        λ _. pick (eqb (t .key) word.if)
-        (λ _. onward (condition rs (t .end)) λ c a. onward (bracesT inner d (tokenAt s a)) λ b e. onward (elseT inner d e (tokenAt s e)) λ o f. got (if c b o) f)
-        λ _. pick (eqb (t .key) word.while) (λ _. onward (condition rs (t .end)) λ c a. onward (bracesT inner d (tokenAt s a)) λ b e. got (while c b) e)
-        λ _. pick (isName (t .key)) (λ _. onward (assignment at) λ l e. got (perform l) e) λ _. unfit t
+        pick (eqb (t .key) word.skipKey) (λ _. ended word.semicolonKey skip (t .end))
+        λ _. pick (eqb (t .key) word.assumeKey) (λ _. andThen (endedCondition rs (t .end)) λ c e. got (perform (test c)) e)
+        λ _. pick (eqb (t .key) word.assertKey) (λ _. andThen (endedCondition rs (t .end)) λ c e. got (assert c) e)
+        λ _. pick (eqb (t .key) word.ifKey)
+        (λ _. andThen (condition rs (t .end)) λ c a. andThen (bracesT inner d (tokenAt s a)) λ b e. andThen (elseT inner d e (tokenAt s e)) λ o f. got (if c b o) f)
+        λ _. pick (eqb (t .key) word.whileKey) (λ _. andThen (condition rs (t .end)) λ c a. andThen (bracesT inner d (tokenAt s a)) λ b e. got (while c b) e)
+        λ _. pick (isName (t .key)) (λ _. andThen (assignment at) λ l e. got (perform l) e) λ _. refusedToken t
 
     -- a block ends before `}` and at the end of the text
     abbrev pub closing : ℕ → Bool
-    closing k = eqb k word.rbrace || eqb k word.end
+    closing k = eqb k word.rbraceKey || eqb k word.end
 
     -- Statements up to the block's end, at most d braces deep. k bounds the calls: 2 for each byte left, and 1, is enough.
     unfoldable mutual
@@ -123,7 +123,7 @@ module _ (s : List ℕ) where
       block zero d at = exhausted
       block (suc k) d at =
           pick (closing (tokenAt s at .key)) (λ _. got empty at)
-          λ _. onward (statement k d at) λ c a. onward (block k d a) λ b e. got (c then b) e
+          λ _. andThen (statement k d at) λ c a. andThen (block k d a) λ b e. got (c then b) e
 
       pub statement : ℕ → ℕ → ℕ → Got Statement
       statement zero d at = exhausted
@@ -131,47 +131,47 @@ module _ (s : List ℕ) where
 
   -- a list that may end here, and `;`
   abbrev pub listedT : {A : Type 0} → ℕ → A → Token → Got A
-  listedT n a t = pick (eqb (t .key) word.semicolon && not (eqb n 0)) (λ _. got a (t .end)) λ _. unfit t
+  listedT n a t = pick (eqb (t .key) word.semicolonKey && not (eqb n 0)) (λ _. got a (t .end)) λ _. refusedToken t
 
-  abbrev pub known : ℕ → List ℕ → Bool
-  known k l = ltb (indexOf k l) (length l)
+  abbrev pub isDeclared : ℕ → List ℕ → Bool
+  isDeclared k l = ltb (indexOf k l) (length l)
 
   -- the names of registers, and `;`: rs are declared already, and there is room for more
-  unfoldable pub registers : ℕ → List ℕ → ℕ → Got (List ℕ)
-  registers zero rs at = pick (isName (tokenAt s at .key)) (λ _. refused declarationWrong (tokenAt s at .start)) λ _. listedT (length rs) rs (tokenAt s at)
-  registers (suc room) rs at =
+  unfoldable pub registerNames : ℕ → List ℕ → ℕ → Got (List ℕ)
+  registerNames zero rs at = pick (isName (tokenAt s at .key)) (λ _. Got.refused declarationWrong (tokenAt s at .start)) λ _. listedT (length rs) rs (tokenAt s at)
+  registerNames (suc room) rs at =
       pick (isName (tokenAt s at .key))
-      (λ _. pick (known (tokenAt s at .key) rs) (λ _. refused declarationWrong (tokenAt s at .start))
-      λ _. registers room (rs ++ tokenAt s at .key ∷ []) (tokenAt s at .end))
+      (λ _. pick (isDeclared (tokenAt s at .key) rs) (λ _. Got.refused declarationWrong (tokenAt s at .start))
+      λ _. registerNames room (rs ++ tokenAt s at .key ∷ []) (tokenAt s at .end))
       λ _. listedT (length rs) rs (tokenAt s at)
 
   -- `1` or `2`
   abbrev pub arityT : Token → Got ℕ
-  arityT t = pick (eqb (t .key) word.one) (λ _. got 1 (t .end)) λ _. pick (eqb (t .key) word.two) (λ _. got 2 (t .end)) λ _. unfit t
+  arityT t = pick (eqb (t .key) word.oneKey) (λ _. got 1 (t .end)) λ _. pick (eqb (t .key) word.twoKey) (λ _. got 2 (t .end)) λ _. refusedToken t
 
   -- `/` and `1` or `2`
   unfoldable pub arityOf : ℕ → Got ℕ
-  arityOf at = onward (expect word.slash at) λ _ a. arityT (tokenAt s a)
+  arityOf at = andThen (expect word.slashKey at) λ _ a. arityT (tokenAt s a)
 
   -- the entries of functions, and `;`
-  unfoldable pub functions : List ℕ → ℕ → List ℕ → List ℕ → ℕ → Got (List ℕ × List ℕ)
-  functions rs zero fs ns at =
-      pick (isName (tokenAt s at .key)) (λ _. refused declarationWrong (tokenAt s at .start))
+  unfoldable pub functionEntries : List ℕ → ℕ → List ℕ → List ℕ → ℕ → Got (List ℕ × List ℕ)
+  functionEntries rs zero fs ns at =
+      pick (isName (tokenAt s at .key)) (λ _. Got.refused declarationWrong (tokenAt s at .start))
       λ _. listedT (length fs) (fs, ns) (tokenAt s at)
-  functions rs (suc room) fs ns at =
+  functionEntries rs (suc room) fs ns at =
       pick (isName (tokenAt s at .key))
-      (λ _. pick (known (tokenAt s at .key) rs || known (tokenAt s at .key) fs) (λ _. refused declarationWrong (tokenAt s at .start))
-      λ _. onward (arityOf (tokenAt s at .end)) λ n e. functions rs room (fs ++ tokenAt s at .key ∷ []) (ns ++ n ∷ []) e)
+      (λ _. pick (isDeclared (tokenAt s at .key) rs || isDeclared (tokenAt s at .key) fs) (λ _. Got.refused declarationWrong (tokenAt s at .start))
+      λ _. andThen (arityOf (tokenAt s at .end)) λ n e. functionEntries rs room (fs ++ tokenAt s at .key ∷ []) (ns ++ n ∷ []) e)
       λ _. listedT (length fs) (fs, ns) (tokenAt s at)
 
   -- perhaps a line of functions
   abbrev pub functionsT : List ℕ → ℕ → Token → Got (List ℕ × List ℕ)
-  functionsT rs at t = pick (eqb (t .key) word.funs) (λ _. functions rs mostFunctions [] [] (t .end)) λ _. got ([], []) at
+  functionsT rs at t = pick (eqb (t .key) word.funsKey) (λ _. functionEntries rs mostFunctions [] [] (t .end)) λ _. got ([], []) at
 
   -- the end of the text
   abbrev pub finishT : Macro → Token → Got Macro
-  finishT m t = pick (eqb (t .key) word.end) (λ _. got m (t .end)) λ _. unfit t
+  finishT m t = pick (eqb (t .key) word.end) (λ _. got m (t .end)) λ _. refusedToken t
 
   -- "Then: at most 256 points? 13."
   abbrev pub countT : Macro → ℕ → Got Macro
-  countT m e = pick (ltb mostPoints (sizeBlock (m .body))) (λ _. refused pointsTooMany 0) λ _. got m e
+  countT m e = pick (ltb mostPoints (sizeBlock (m .body))) (λ _. Got.refused pointsTooMany 0) λ _. got m e

@@ -29,8 +29,8 @@ pub record Declared (rs : List ℕ) : Type 0 where
   pub once : (i j : ℕ) → i < length rs → j < length rs → getD rs i 0 ≡ getD rs j 0 → i ≡ j
 
 -- No name of one list is in the other.
-unfoldable pub Apart : List ℕ → List ℕ → Type 0
-Apart rs fs = (i j : ℕ) → i < length rs → j < length fs → getD rs i 0 ≡ getD fs j 0 → ⊥
+unfoldable pub Disjoint : List ℕ → List ℕ → Type 0
+Disjoint rs fs = (i j : ℕ) → i < length rs → j < length fs → getD rs i 0 ≡ getD fs j 0 → ⊥
 
 -- As many as the functions, each 1 or 2.
 pub data Arities : List ℕ → List ℕ → Type 0 where
@@ -44,7 +44,7 @@ pub record InOrder (m : Macro) : Type 0 where
   pub some : 1 ≤ length (m .registers)
   pub few : length (m .registers) ≤ mostRegisters
   pub functions : Declared (m .functions)
-  pub apart : Apart (m .registers) (m .functions)
+  pub apart : Disjoint (m .registers) (m .functions)
   pub arities : Arities (m .functions) (m .arities)
   pub fewer : length (m .functions) ≤ mostFunctions
   pub uses : ProperBlock (m .body) (headerOf m)

@@ -15,14 +15,14 @@ unfoldable pub chainOf : List ℕ → ℕ
 chainOf pair = (getD pair 1 0 + 256 * getD pair 0 0) % chainCount
 
 -- The chain from i on has record k, which is not record 0.
-pub data Holds (link : List ℕ) : (i k : ℕ) → Type 0 where
-  here : {i : ℕ} → 1 ≤ i → Holds link i i
-  there : {i k : ℕ} → 1 ≤ i → Holds link (getD link i 0) k → Holds link i k
+pub data ChainHasRecord (link : List ℕ) : (i k : ℕ) → Type 0 where
+  here : {i : ℕ} → 1 ≤ i → ChainHasRecord link i i
+  there : {i k : ℕ} → 1 ≤ i → ChainHasRecord link (getD link i 0) k → ChainHasRecord link i k
 
 -- Each of the first count records but record 0 is in the chain of its pair; chains have no other records, and go down to record 0.
-pub record Indexed (t head link : List ℕ) (count : ℕ) : Type 0 where
+pub record IndexedPairs (t head link : List ℕ) (count : ℕ) : Type 0 where
   pub head-long : length head ≡ chainCount
   pub link-long : length link ≡ mostPairs
   pub heads : (b : ℕ) → getD head b 0 < count
   pub links : (i : ℕ) → 1 ≤ i → getD link i 0 < i
-  pub chained : (k : ℕ) → 1 ≤ k → k < count → Holds link (getD head (chainOf (pairAt t k)) 0) k
+  pub chained : (k : ℕ) → 1 ≤ k → k < count → ChainHasRecord link (getD head (chainOf (pairAt t k)) 0) k

@@ -10,7 +10,7 @@ ghost use lib.ListN.{length, getD, set};
 ghost use Rattle.letters.specs.Capacity.{mostPairs};
 ghost use Rattle.records.specs.Records.{recordBytes, encodedBytes};
 ghost use Rattle.table.specs.Table.{isListed};
-ghost use Rattle.index.specs.Index.{chainCount, chainOf, Indexed};
+ghost use Rattle.index.specs.Index.{chainCount, chainOf, IndexedPairs};
 
 /// How many chains there are.
 pub const CHAINS: usize = 1024;
@@ -51,7 +51,7 @@ pub fn is_listed(
     count: usize,
     pair: &[u8; ENCODED_BYTES],
 ) -> bool
-    requires { ⌜ Indexed (now table) (now head)
+    requires { ⌜ IndexedPairs (now table) (now head)
         (now link) count × (count ≤ mostPairs) × (recordBytes * count ≤ length (now table)) × (length (now pair) ≡ encodedBytes) ⌝ }
     ensures { λ r. ⌜ r ≡ isListed (now (table .entry)) count (now (pair .entry)) ⌝ }
 {

@@ -38,14 +38,14 @@ fitsTest h (Unequal x y) = ltb x (h .registers) && ltb y (h .registers)
 -- ---- decoding: the header or letter that the fields of a word name, if it is well formed and packs to that word
 
 -- the header that these fields name
-unfoldable pub headerOf : Edition → List ℕ → Header
-headerOf e fields =
+unfoldable pub namedHeader : Edition → List ℕ → Header
+namedHeader e fields =
     let own = drop (length (e .lead)) fields in
     record { registers = getD own 0 0; functions = getD own 1 0; binary = maskOf (split (replicate (e .functions) 1) (getD own 2 0)) }
 
 unfoldable pub decodeHeader : Edition → ℕ → Answer Header
 decodeHeader e w =
-    let h = headerOf e (split (e .header) w) in
+    let h = namedHeader e (split (e .header) w) in
     pick (headerTest e h && eqb (headerWord e h) w) (λ _. value h) λ _. refusal headerMalformed 0
 
 -- the letter of this kind; the application of a one-argument function has its argument twice
@@ -55,10 +55,10 @@ letterBy h kind f x y z =
     pick (eqb kind 2) (λ _. Equal y z) λ _. Unequal y z
 
 -- the letter that these fields name
-unfoldable pub letterOf : Header → List ℕ → Letter
-letterOf h fields = letterBy h (getD fields 0 0) (getD fields 1 0) (getD fields 2 0) (getD fields 3 0) (getD fields 4 0)
+unfoldable pub namedLetter : Header → List ℕ → Letter
+namedLetter h fields = letterBy h (getD fields 0 0) (getD fields 1 0) (getD fields 2 0) (getD fields 3 0) (getD fields 4 0)
 
 unfoldable pub decodeLetter : Edition → Header → ℕ → Answer Letter
 decodeLetter e h w =
-    let l = letterOf h (split (e .letter) w) in
+    let l = namedLetter h (split (e .letter) w) in
     pick ((headerTest e h && fitsTest h l) && eqb (letterWord e h l) w) (λ _. value l) λ _. refusal letterMalformed 0

@@ -9,7 +9,7 @@ use Rattle.letters.specs.Letters.{Fits}
 use Rattle.letters.specs.Editions.{firstEdition}
 use Rattle.letters.specs.Answers.{value}
 use Rattle.letters.specs.Letters.{HeaderFits}
-use Rattle.letters.specs.Coding.{headerTest, letterBy, letterOf, applyTest, fitsTest, decodeLetter}
+use Rattle.letters.specs.Coding.{headerTest, letterBy, namedLetter, applyTest, fitsTest, decodeLetter}
 use Rattle.letters.specs.Words.{headerWord, letterWord}
 
 -- "Three registers and one one-argument function"
@@ -36,7 +36,7 @@ test-word = refl
 
 -- 44 40 is register 2 := f(register 1), with its argument twice: the 0 stands in the word alone.
 other-argument : decodeLetter firstEdition unary (0x44 * 256 + 0x40) ≡ value (Apply 2 0 1 1)
-unfolding decodeLetter letterOf letterBy headerTest fitsTest applyTest letterWord
+unfolding decodeLetter namedLetter letterBy headerTest fitsTest applyTest letterWord
 other-argument = refl
 
 -- f(register 1, register 0) fits no header where f takes one argument.

@@ -11,3 +11,4 @@ pub mod CodeAnswers
 pub mod Coding
 pub mod Capacity
 pub mod Encoding
+pub mod MacroRefusalNumbers

@@ -1,4 +1,4 @@
--- The numbers of the refusals (document 01, "The questions"), each with its question.
+-- The numbers of the refusals of a trace (document 01, "The questions"), each with its question; those of a macro alone: MacroRefusalNumbers.
 use Prim.Native.Nat.{ℕ}
 
 -- Of a trace. "At least two bytes? 1."
@@ -24,35 +24,3 @@ traceTooLong = 5
 -- "Does a due model fit the output? 6." Of a macro: "Answer fits the output? 6."
 abbrev pub outputTooSmall : ℕ
 outputTooSmall = 6
-
--- Of a macro. "At most 4,096 bytes? 7."
-abbrev pub textTooLong : ℕ
-textTooLong = 7
-
--- "a token, and no name over eight bytes? 8."
-abbrev pub tokenMalformed : ℕ
-tokenMalformed = 8
-
--- "Fits the grammar? 9 (at the text's length if it ends early)."
-abbrev pub grammarViolated : ℕ
-grammarViolated = 9
-
--- "Within eight registers and four functions, each name declared once? 10."
-abbrev pub declarationWrong : ℕ
-declarationWrong = 10
-
--- "A use declared, of the right sort? 11."
-abbrev pub useWrong : ℕ
-useWrong = 11
-
--- "Braces at most 16 deep? 12."
-abbrev pub nestingTooDeep : ℕ
-nestingTooDeep = 12
-
--- "Then: at most 256 points? 13."
-abbrev pub pointsTooMany : ℕ
-pointsTooMany = 13
-
--- "Table suffices? 14."
-abbrev pub tableTooSmall : ℕ
-tableTooSmall = 14

@@ -22,11 +22,12 @@ ghost use Rattle.letters.specs.Answers.{value};
 ghost use Rattle.letters.specs.CodeAnswers.{headerAnswer, letterAnswer, headerWordAnswer, letterWordAnswer};
 ghost use Rattle.letters.specs.Words.{bitsFrom, headerFields, headerWord, letterFields, letterWord};
 ghost use Rattle.letters.specs.Coding.{headerTest, fitsTest, applyTest};
-ghost use Rattle.letters.specs.Coding.{headerOf, letterBy, decodeHeader, decodeLetter};
+ghost use Rattle.letters.specs.Coding.{namedHeader, letterBy, decodeHeader, decodeLetter};
 ghost use Rattle.letters.specs.Encoding.{encodeHeader, encodeLetter};
 
 // The limits as a header holds its counts.
 const REGISTER_LIMIT: u8 = MOST_REGISTERS as u8;
+
 const FUNCTION_LIMIT: u8 = MOST_FUNCTIONS as u8;
 
 // How many functions the mask of a header has bits for.
@@ -184,7 +185,7 @@ pub fn encode_header(h: Header) -> Encoded
 
 // The header that a word's fields name, well formed or not.
 fn named_header(word: u16) -> Header
-    ensures { λ r. ⌜ r ≡ headerOf firstEdition (split (firstEdition .header) word) ⌝ }
+    ensures { λ r. ⌜ r ≡ namedHeader firstEdition (split (firstEdition .header) word) ⌝ }
 {
     let registers = (word / HEADER_REGISTERS % 16) as u8;
     let functions = (word / HEADER_FUNCTIONS % 8) as u8;

@@ -18,12 +18,12 @@ pub data Point : Type 0 where
 
 -- How many points there are.
 unfoldable mutual
-  pub size : Statement → ℕ
-  size skip = 0
-  size (perform a) = 1
-  size (assert c) = 1
-  size (if c b e) = suc (sizeBlock b + sizeElse e)
-  size (while c b) = suc (sizeBlock b)
+  pub sizeStatement : Statement → ℕ
+  sizeStatement skip = 0
+  sizeStatement (perform a) = 1
+  sizeStatement (assert c) = 1
+  sizeStatement (if c b e) = suc (sizeBlock b + sizeElse e)
+  sizeStatement (while c b) = suc (sizeBlock b)
 
   pub sizeElse : Else → ℕ
   sizeElse absent = 0
@@ -31,7 +31,7 @@ unfoldable mutual
 
   pub sizeBlock : Block → ℕ
   sizeBlock empty = 0
-  sizeBlock (s then b) = size s + sizeBlock b
+  sizeBlock (s then b) = sizeStatement s + sizeBlock b
 
 -- Where a part of n points begins, numbered from b on: at b, or at what follows if it has none.
 unfoldable pub entry : ℕ → ℕ → ℕ → ℕ
@@ -55,7 +55,7 @@ unfoldable mutual
 
   pub compileBlock : Block → ℕ → ℕ → List Point
   compileBlock empty b follow = []
-  compileBlock (s then t) b follow = compile s b (entry (sizeBlock t) (b + size s) follow) ++ compileBlock t (b + size s) follow
+  compileBlock (s then t) b follow = compile s b (entry (sizeBlock t) (b + sizeStatement s) follow) ++ compileBlock t (b + sizeStatement s) follow
 
 -- The points of a whole macro, and the first point to be performed.
 abbrev pub points : Block → List Point

@@ -23,12 +23,12 @@ take-move ρ no-move = nowhere
 take-move ρ (move a l) = stand l (ρ ▸ a)
 
 module _ {A : Type 0} (moves : A → Branch → Move A) where
-  abbrev pub onward : Stand A → Branch → Stand A
-  onward nowhere b = nowhere
-  onward (stand failure ρ) b = nowhere
-  onward (stand (at k) ρ) b = take-move ρ (moves k b)
+  abbrev pub takeBranch : Stand A → Branch → Stand A
+  takeBranch nowhere b = nowhere
+  takeBranch (stand failure ρ) b = nowhere
+  takeBranch (stand (at k) ρ) b = take-move ρ (moves k b)
 
   -- The walk that takes the branches of a path, from a place and a trace on.
   abbrev pub walk : A → Trace → Path → Stand A
   walk origin start root = stand (at origin) start
-  walk origin start (p ▹ b) = onward (walk origin start p) b
+  walk origin start (p ▹ b) = takeBranch (walk origin start p) b

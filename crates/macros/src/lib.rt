@@ -1,1 +1,1 @@
-// Macros and their executions: there is no code here. The definitions and theorems are in specs/.
+// Macros and their executions: there is no code here. The definitions are in specs/, the theorems in proofs/Theory/.

@@ -13,23 +13,23 @@ use Rattle.files.specs.Input.{Received}
 use Rattle.files.specs.Lines.{Known, bytes, unread, Answers}
 use Rattle.model_lines.specs.declared.Rest.{Rest}
 use Rattle.model_lines.specs.declared.Rest.the-variants as rest
-use Rattle.model_lines.specs.declared.Left.{Left}
-use Rattle.model_lines.specs.declared.Left.the-variants.{More, Over}
-use Rattle.model_lines.specs.Prints.{Prints}
+use Rattle.model_lines.specs.declared.InputLeft.{InputLeft}
+use Rattle.model_lines.specs.declared.InputLeft.the-variants.{More, Over}
+use Rattle.model_lines.specs.Prints.{PrintsModelLine}
 
 -- A file is read to its end, or one unit more of it than the most letters and a header have.
-abbrev pub mostRead : ℕ
-mostRead = firstEdition .bytes * (mostLetters + 2)
+abbrev pub mostTraceRead : ℕ
+mostTraceRead = firstEdition .bytes * (mostLetters + 2)
 
 -- Of an odd length, and as good.
 abbrev pub oddRead : ℕ
-oddRead = mostRead - 1
+oddRead = mostTraceRead - 1
 
 unfoldable pub parityOf : ℕ → Rest
 parityOf n = pick (eqb (n % 2) 0) (λ _. rest.Even) λ _. rest.Odd
 
 -- What a piece of an input says of what is left of it, where the pieces before have an even number of bytes.
-unfoldable pub leftOf : Input → Left
+unfoldable pub leftOf : Input → InputLeft
 leftOf (Ended n) = Over (parityOf n)
 leftOf Full = More
 leftOf (Failed n) = Over rest.Failed
@@ -47,11 +47,11 @@ knownTrace Full behind buffer = knownLong behind buffer
 knownTrace (Failed n) behind buffer = unread
 
 -- The line is that of what was read; where reading failed nothing is answered. What the system's reads give is free.
-pub record AnswersRead (entry : List ℕ) (r : files.Lines) (exit : List ℕ) : Type 0 where
+pub record AnswersTraceInput (entry : List ℕ) (r : files.Lines) (exit : List ℕ) : Type 0 where
   pub space : List ℕ
-  pub room : mostRead ≡ length space
+  pub room : mostTraceRead ≡ length space
   pub input : Input
   pub behind : Rest
   pub buffer : List ℕ
   pub received : Received space input buffer
-  pub answers : Answers Prints (knownTrace input behind buffer) entry r exit
+  pub answers : Answers PrintsModelLine (knownTrace input behind buffer) entry r exit

@@ -1,3 +1,3 @@
 pub mod Prints
-pub mod PrintsLaws
 pub mod Answered
+pub mod Written

@@ -7,16 +7,16 @@ use lib.ListN.{length, take}
 use Rattle.io.specs.Digits.{glyph}
 use Rattle.base.specs.Choice.{pick}
 use Rattle.letters.specs.Editions.{firstEdition, mostLetters}
-use Rattle.traces.specs.Reading.{Reading, trace, refused}
+use Rattle.traces.specs.Reading.{TraceReading, trace}
 use Rattle.traces.specs.ReadingParts.{readingWithin}
 use Rattle.semantics.specs.Terms.{state, traceOf}
 use Rattle.semantics.specs.FirstLetters.{firstInfeasible}
 use Rattle.text.specs.Numerals.{numeral}
 use Rattle.text.specs.Appending.{Appended}
 use Rattle.report.specs.Lines.{line, refusedWord, atWord}
-use Rattle.shown.specs.declared.Shown.{Shown}
-use Rattle.shown.specs.declared.Shown.the-variants.{Model, Infeasible, Refused}
-use Rattle.shown.specs.Answer.{modelBytes}
+use Rattle.model_writer.specs.declared.Shown.{Shown}
+use Rattle.model_writer.specs.declared.Shown.the-variants.{Model, Infeasible, Refused}
+use Rattle.model_writer.specs.Answer.{modelBytes}
 
 -- The digits of bytes, two for each, the higher first.
 unfoldable pub octetText : ℕ → List ℕ
@@ -44,8 +44,8 @@ unfoldable pub refusedLine : ℕ → ℕ → List ℕ
 refusedLine number place = line (refusedWord ∷ numeral number ∷ atWord ∷ numeral place ∷ [])
 
 -- "An infeasible trace gets the first letter at which it is so, and no output. For a feasible trace, coherent or not:" the model.
-unfoldable pub readLine : Reading → List ℕ
-readLine (refused number place) = refusedLine number place
+unfoldable pub readLine : TraceReading → List ℕ
+readLine (TraceReading.refused number place) = refusedLine number place
 readLine (trace h ls) =
     pick (eqb (firstInfeasible (traceOf h ls)) 0) (λ _. modelLine (modelBytes (state (traceOf h ls)))) λ _. infeasibleLine (firstInfeasible (traceOf h ls))
 
@@ -60,10 +60,10 @@ lineOf (Infeasible letter) out = infeasibleLine letter
 lineOf (Refused number place) out = refusedLine number place
 
 -- No line is longer.
-abbrev pub mostBytes : ℕ
-mostBytes = 10367
+abbrev pub mostModelLineBytes : ℕ
+mostModelLineBytes = 10367
 
 -- The line was written into a lent buffer, as far as that goes, and its length given.
-pub record Prints (s entry : List ℕ) (size : ℕ) (exit : List ℕ) : Type 0 where
-  pub few : length (lineFor s) ≤ mostBytes
+pub record PrintsModelLine (s entry : List ℕ) (size : ℕ) (exit : List ℕ) : Type 0 where
+  pub few : length (lineFor s) ≤ mostModelLineBytes
   pub appended : Appended entry 0 (lineFor s) exit size

@@ -1,7 +1,7 @@
 // Answers a packed trace by one line: `refused N at P`, `infeasible K`, or `model` and the packed model in hexadecimal.
 use files::Input;
 use files::Lines;
-use shown::Shown;
+use model_writer::Shown;
 use text::put_line;
 use tokens::KEY_BASE;
 ghost use mathlib.Core.Path.{_≡_};
@@ -9,10 +9,10 @@ ghost use Prim.Native.Nat.{_<_};
 ghost use lib.ListN.{length};
 ghost use Rattle.io.specs.Digits.{glyph};
 ghost use Rattle.files.specs.Lines.{Answers};
-ghost use Rattle.text.specs.Appending.{Appended, Room};
-ghost use Rattle.model_lines.specs.Prints.{octetText, hexText, modelLine, mostBytes, Prints};
-ghost use Rattle.model_lines.specs.PrintsLaws.{Held, Wrote};
-ghost use Rattle.model_lines.specs.Answered.{parityOf, leftOf, knownLong, knownTrace, AnswersRead};
+ghost use Rattle.text.specs.Appending.{Appended, PlaceInRange};
+ghost use Rattle.model_lines.specs.Prints.{octetText, hexText, modelLine, mostModelLineBytes, PrintsModelLine};
+ghost use Rattle.model_lines.specs.Written.{ModelWithin, WroteLine};
+ghost use Rattle.model_lines.specs.Answered.{parityOf, leftOf, knownLong, knownTrace, AnswersTraceInput};
 
 // Two bytes more than the longest trace that is taken, of 1,024 letters.
 const MOST_READ: usize = 2052;
@@ -38,7 +38,7 @@ fn model_space() -> [u8; MOST_MODEL] {
 
 /// Room for the line of any trace.
 pub fn line_space() -> [u8; MOST_BYTES]
-    ensures { λ r. ⌜ mostBytes ≡ length r ⌝ }
+    ensures { λ r. ⌜ mostModelLineBytes ≡ length r ⌝ }
 {
     [0; MOST_BYTES]
 }
@@ -53,7 +53,7 @@ fn digit(d: u64) -> u64
 
 // Appends the two digits of a byte, as a name that has these two bytes.
 fn put_octet(out: &mut [u8], at: usize, byte: u8) -> usize
-    requires { ⌜ Room at (octetText byte) ⌝ }
+    requires { ⌜ PlaceInRange at (octetText byte) ⌝ }
     ensures { λ r. ⌜ Appended (now (out .entry)) at (octetText byte) (now (out .exit)) r ⌝ }
 {
     let value = tokens::wide(byte);
@@ -64,7 +64,7 @@ fn put_octet(out: &mut [u8], at: usize, byte: u8) -> usize
 
 // Appends the digits of each byte.
 fn put_hex(out: &mut [u8], at: usize, bytes: &[u8]) -> usize
-    requires { ⌜ Room at (hexText (now bytes)) ⌝ }
+    requires { ⌜ PlaceInRange at (hexText (now bytes)) ⌝ }
     ensures { λ r. ⌜ Appended (now (out .entry)) at (hexText (now (bytes .entry))) (now (out .exit)) r ⌝ }
 {
     let mut next = at;
@@ -78,7 +78,7 @@ fn put_hex(out: &mut [u8], at: usize, bytes: &[u8]) -> usize
 
 // Writes the line of a model.
 fn put_model(out: &mut [u8], bytes: &[u8]) -> usize
-    requires { ⌜ Room 0 (modelLine (now bytes)) ⌝ }
+    requires { ⌜ PlaceInRange 0 (modelLine (now bytes)) ⌝ }
     ensures { λ r. ⌜ Appended (now (out .entry)) 0 (modelLine (now (bytes .entry))) (now (out .exit)) r ⌝ }
 {
     let next = put_line(out, 0, b"model ", [0, 0, 0, 0]);
@@ -88,8 +88,8 @@ fn put_model(out: &mut [u8], bytes: &[u8]) -> usize
 
 // Writes the line of an answer, whose model, if there is one, is in the front of `model`.
 fn put_answer(out: &mut [u8], answer: Shown, model: &[u8]) -> usize
-    requires { ⌜ Held answer (length (now model)) ⌝ }
-    ensures { λ r. ⌜ Wrote (now (out .entry)) answer (now (model .entry)) r (now (out .exit)) ⌝ }
+    requires { ⌜ ModelWithin answer (length (now model)) ⌝ }
+    ensures { λ r. ⌜ WroteLine (now (out .entry)) answer (now (model .entry)) r (now (out .exit)) ⌝ }
 {
     match answer {
         Shown::Model(n) => put_model(out, &model[..n]),
@@ -103,10 +103,10 @@ fn put_answer(out: &mut [u8], answer: Shown, model: &[u8]) -> usize
 /// Writes the line of a packed trace into the front of a lent buffer, as far as that goes, and gives the number of the line's bytes,
 /// which is at most `MOST_BYTES`.
 pub fn write_line(trace: &[u8], out: &mut [u8]) -> usize
-    ensures { λ r. ⌜ Prints (now (trace .entry)) (now (out .entry)) r (now (out .exit)) ⌝ }
+    ensures { λ r. ⌜ PrintsModelLine (now (trace .entry)) (now (out .entry)) r (now (out .exit)) ⌝ }
 {
     let mut model = model_space();
-    let answer = shown::show(trace, &mut model);
+    let answer = model_writer::show(trace, &mut model);
     put_answer(out, answer, &model)
 }
 
@@ -121,7 +121,7 @@ pub enum Rest {
 }
 
 // What a piece of the input says of what is left: there is more, or it is over.
-enum Left {
+enum InputLeft {
     More,
     Over(Rest),
 }
@@ -137,13 +137,13 @@ fn parity(n: usize) -> Rest
 }
 
 // What follows a piece, if all before it have an even number of bytes.
-fn left_after(input: Input) -> Left
+fn left_after(input: Input) -> InputLeft
     ensures { λ r. ⌜ r ≡ leftOf input ⌝ }
 {
     match input {
-        Input::Ended(n) => Left::Over(parity(n)),
-        Input::Full => Left::More,
-        Input::Failed(_) => Left::Over(Rest::Failed),
+        Input::Ended(n) => InputLeft::Over(parity(n)),
+        Input::Full => InputLeft::More,
+        Input::Failed(_) => InputLeft::Over(Rest::Failed),
     }
 }
 
@@ -157,8 +157,8 @@ fn read_rest(fd: i32) -> Rest {
         let input = files::read(fd, &mut piece);
         let next = left_after(input);
         match next {
-            Left::More => turns = turns - 1,
-            Left::Over(rest) => return rest,
+            InputLeft::More => turns = turns - 1,
+            InputLeft::Over(rest) => return rest,
         }
     }
     Rest::Failed
@@ -175,7 +175,7 @@ fn rest_of(fd: i32, input: Input) -> Rest {
 
 // Answers a trace that fills the buffer, from the bytes there: question 2 comes before question 5, and 5 before the letters.
 fn answer_long(trace: &[u8], rest: Rest, line: &mut [u8]) -> Lines
-    ensures { λ r. ⌜ Answers Prints (knownLong rest (now (trace .entry))) (now (line .entry)) r (now (line .exit)) ⌝ }
+    ensures { λ r. ⌜ Answers PrintsModelLine (knownLong rest (now (trace .entry))) (now (line .entry)) r (now (line .exit)) ⌝ }
 {
     match rest {
         Rest::Even => Lines::Written(write_line(trace, line)),
@@ -191,7 +191,7 @@ fn answer_long(trace: &[u8], rest: Rest, line: &mut [u8]) -> Lines
 /// filled `trace`, that of all its bytes, or of all but the last if `rest` is odd. Where a read failed nothing is judged, and the buffer
 /// stays as it is.
 pub fn answer_to(trace: &[u8], input: Input, rest: Rest, line: &mut [u8]) -> Lines
-    ensures { λ r. ⌜ Answers Prints (knownTrace input rest (now (trace .entry))) (now (line .entry)) r (now (line .exit)) ⌝ }
+    ensures { λ r. ⌜ Answers PrintsModelLine (knownTrace input rest (now (trace .entry))) (now (line .entry)) r (now (line .exit)) ⌝ }
 {
     match input {
         Input::Ended(n) => {
@@ -206,7 +206,7 @@ pub fn answer_to(trace: &[u8], input: Input, rest: Rest, line: &mut [u8]) -> Lin
 /// Reads a trace from a file, and writes its line into the front of a lent buffer. Of a trace of more than 2,050 bytes only its header and
 /// the parity of its length matter.
 pub fn answer(fd: i32, line: &mut [u8]) -> Lines
-    ensures { λ r. ⌜ AnswersRead (now (line .entry)) r (now (line .exit)) ⌝ }
+    ensures { λ r. ⌜ AnswersTraceInput (now (line .entry)) r (now (line .exit)) ⌝ }
 {
     let mut trace = trace_space();
     let input = files::read(fd, &mut trace);

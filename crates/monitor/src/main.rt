@@ -1,10 +1,10 @@
 // Judges a packed trace of any length from standard input: whether it is coherent and feasible, and if not, the first letter at which it is not so.
 use files::Input;
 use libc::STDIN_FILENO;
-use monitoring::Stream;
-use monitoring::streaming::finish;
-use monitoring::streaming::push_all;
-use monitoring::streaming::start;
+use streaming::Stream;
+use streaming::byte_stream::finish;
+use streaming::byte_stream::push_all;
+use streaming::byte_stream::start;
 
 // The run so far, whether more input may come, and whether a read has failed.
 struct Fed {

@@ -1,3 +1,2 @@
 pub mod Prints
-pub mod PrintsLaws
 pub mod Examples

@@ -8,8 +8,14 @@ use Rattle.base.specs.Choice.{pick}
 use Rattle.letters.specs.Answers.{Answer, value, refusal}
 use Rattle.text.specs.Numerals.{numeral}
 use Rattle.text.specs.Appending.{Appended}
-use Rattle.report.specs.Lines.{line, incoherentWord, blank}
+use Rattle.report.specs.Lines.{line, incoherentWord, blankWord}
 use Rattle.model_lines.specs.Prints.{infeasibleLine, refusedLine}
+use Rattle.text.specs.Templates.{filledIn}
+
+-- ── lines as templates with their fields ──
+-- The template for a letter, or for none.
+abbrev pub letterText : List ℕ → List ℕ → ℕ → List ℕ
+letterText none some = orNone (filledIn none (0 ∷ 0 ∷ 0 ∷ 0 ∷ [])) λ letter. filledIn some (letter ∷ 0 ∷ 0 ∷ 0 ∷ [])
 
 -- "coherent"
 abbrev pub coherentWord : List ℕ
@@ -20,7 +26,7 @@ abbrev pub feasibleWord : List ℕ
 feasibleWord = 102 ∷ 101 ∷ 97 ∷ 115 ∷ 105 ∷ 98 ∷ 108 ∷ 101 ∷ []
 
 unfoldable pub incoherentLine : ℕ → List ℕ
-incoherentLine letter = line (incoherentWord ∷ blank ∷ numeral letter ∷ [])
+incoherentLine letter = line (incoherentWord ∷ blankWord ∷ numeral letter ∷ [])
 
 -- Letters are numbered from 1: 0 stands for none, and has a line of its own.
 unfoldable pub orNone : List ℕ → (ℕ → List ℕ) → ℕ → List ℕ
@@ -39,10 +45,10 @@ answerLines (value (incoherent, infeasible)) = coherenceLine incoherent ++ feasi
 answerLines (refusal number place) = refusedLine number place
 
 -- No lines are longer: two words of ten bytes, two blanks, two numerals of twenty digits, two line feeds.
-abbrev pub mostBytes : ℕ
-mostBytes = 64
+abbrev pub mostMonitorLineBytes : ℕ
+mostMonitorLineBytes = 64
 
 -- The lines were written into a lent buffer, as far as that goes, and their length given.
-pub record Prints (answer : Answer (ℕ × ℕ)) (entry : List ℕ) (size : ℕ) (exit : List ℕ) : Type 0 where
-  pub few : length (answerLines answer) ≤ mostBytes
+pub record PrintsMonitorLines (answer : Answer (ℕ × ℕ)) (entry : List ℕ) (size : ℕ) (exit : List ℕ) : Type 0 where
+  pub few : length (answerLines answer) ≤ mostMonitorLineBytes
   pub appended : Appended entry 0 (answerLines answer) exit size

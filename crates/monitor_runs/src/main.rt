@@ -3,8 +3,8 @@
 use files::Input;
 use libc::STDERR_FILENO;
 use libc::STDOUT_FILENO;
-use monitoring::Verdict;
-use monitoring::streaming::judge_trace;
+use streaming::RunAnswer;
+use streaming::byte_stream::judge_trace;
 
 fn numbers(name: &[u8], word: &[u8], first: u64, second: u64) {
     files::print(name);
@@ -18,13 +18,13 @@ fn numbers(name: &[u8], word: &[u8], first: u64, second: u64) {
 fn report(name: &[u8], trace: &[u8]) {
     let verdict = judge_trace(trace);
     match verdict {
-        Verdict::Judged(incoherent, infeasible) => numbers(
+        RunAnswer::Judged(incoherent, infeasible) => numbers(
             name,
             b" judged ",
             incoherent,
             infeasible,
         ),
-        Verdict::Refused(number, place) => numbers(name, b" refused ", number as u64, place),
+        RunAnswer::Refused(number, place) => numbers(name, b" refused ", number as u64, place),
     }
 }
 

@@ -10,9 +10,9 @@ ghost use lib.Dec.{ltb};
 ghost use lib.ListN.{length};
 ghost use Rattle.letters.specs.Editions.{mostRegisters};
 ghost use Rattle.macros.specs.Tree.{test};
-ghost use Rattle.grammar.specs.Reading.{indexOf, unfit, expect as expectAt, useT, signT, condition as conditionAt, tested as testedAt, argumentsT, value as valueAt, assignment as assignmentAt};
+ghost use Rattle.grammar.specs.Reading.{indexOf, refusedToken, expect as expectAt, useT, signT, condition as conditionAt, endedCondition as testedAt, argumentsT, rightHandSide as valueAt, assignment as assignmentAt};
 ghost use Rattle.tokens.specs.Tokens.{tokenAt};
-ghost use Rattle.phrases.specs.Codes.{coded, plain, nothing, lettered, same, kind, comparing, carried, Few, secondAt, applicationAt};
+ghost use Rattle.phrases.specs.Codes.{coded, plain, withoutValue, lettered, sameLetter, kind, comparing, carried, Few, secondAt, applicationAt};
 
 // The sign `=` as a number.
 const EQUAL_SIGN: u8 = 1;
@@ -21,7 +21,7 @@ const EQUAL_SIGN: u8 = 1;
 const UNEQUAL_SIGN: u8 = 0;
 
 /// What reading a number gives.
-pub enum Got {
+pub enum GotNumber {
     /// The number, and the place after it.
     At(u8, usize),
     /// The number of a refusal, and its place.
@@ -61,28 +61,28 @@ pub fn is_known(list: &[u64], k: u64) -> bool
 }
 
 /// A token that does not fit the grammar.
-pub fn unfitting(t: Token) -> Got
-    ensures { λ r. ⌜ r ≡ plain (unfit t) ⌝ }
+pub fn unfitting(t: Token) -> GotNumber
+    ensures { λ r. ⌜ r ≡ plain (refusedToken t) ⌝ }
 {
     if t.key == tokens::WRONG {
-        return Got::Refused(TOKEN_MALFORMED, t.start);
+        return GotNumber::Refused(TOKEN_MALFORMED, t.start);
     }
-    Got::Refused(GRAMMAR_VIOLATED, t.start)
+    GotNumber::Refused(GRAMMAR_VIOLATED, t.start)
 }
 
 /// One token k at or after a place.
-pub fn expect(text: &[u8], k: u64, at: usize) -> Got
-    ensures { λ r. ⌜ r ≡ nothing (expectAt (now (text .entry)) k at) ⌝ }
+pub fn expect(text: &[u8], k: u64, at: usize) -> GotNumber
+    ensures { λ r. ⌜ r ≡ withoutValue (expectAt (now (text .entry)) k at) ⌝ }
 {
     let t = tokens::next(text, at);
     if t.key == k {
-        return Got::At(0, t.end);
+        return GotNumber::At(0, t.end);
     }
     unfitting(t)
 }
 
 // A name of a list, as its place in the list.
-fn use_of(t: Token, list: &[u64]) -> Got
+fn use_of(t: Token, list: &[u64]) -> GotNumber
     requires { ⌜ length (now list) ≤ mostRegisters ⌝ }
     ensures { λ r. ⌜ r ≡ plain (useT (now (list .entry)) t) ⌝ }
 {
@@ -90,22 +90,22 @@ fn use_of(t: Token, list: &[u64]) -> Got
     if tokens::is_name(k) {
         let i = find(list, k);
         if (i as usize) < list.len() {
-            return Got::At(i, t.end);
+            return GotNumber::At(i, t.end);
         }
-        return Got::Refused(USE_WRONG, t.start);
+        return GotNumber::Refused(USE_WRONG, t.start);
     }
     unfitting(t)
 }
 
 // `=` or `!=`, as a number.
-fn sign_of(t: Token) -> Got
+fn sign_of(t: Token) -> GotNumber
     ensures { λ r. ⌜ r ≡ coded kind (signT t) ⌝ }
 {
     if t.key == tokens::EQUAL {
-        return Got::At(EQUAL_SIGN, t.end);
+        return GotNumber::At(EQUAL_SIGN, t.end);
     }
     if t.key == tokens::UNEQUAL {
-        return Got::At(UNEQUAL_SIGN, t.end);
+        return GotNumber::At(UNEQUAL_SIGN, t.end);
     }
     unfitting(t)
 }
@@ -127,12 +127,12 @@ fn comparison(sign: u8, x: u8, y: u8) -> Letter
 }
 
 /// The same refusal, where a letter was to be read.
-pub fn refusal(g: Got) -> GotLetter
+pub fn refusal(g: GotNumber) -> GotLetter
     ensures { λ r. ⌜ r ≡ carried g ⌝ }
 {
     match g {
-        Got::At(_, _) => GotLetter::Refused(0, 0),
-        Got::Refused(n, p) => GotLetter::Refused(n, p),
+        GotNumber::At(_, _) => GotLetter::Refused(0, 0),
+        GotNumber::Refused(n, p) => GotLetter::Refused(n, p),
     }
 }
 
@@ -142,15 +142,15 @@ pub fn condition(text: &[u8], regs: &[u64], at: usize) -> GotLetter
     ensures { λ r. ⌜ r ≡ lettered test (conditionAt (now (text .entry)) (now (regs .entry)) at) ⌝ }
 {
     let left = use_of(tokens::next(text, at), regs);
-    let Got::At(x, a) = left else {
+    let GotNumber::At(x, a) = left else {
         return refusal(left);
     };
     let sign = sign_of(tokens::next(text, a));
-    let Got::At(q, b) = sign else {
+    let GotNumber::At(q, b) = sign else {
         return refusal(sign);
     };
     let right = use_of(tokens::next(text, b), regs);
-    let Got::At(y, e) = right else {
+    let GotNumber::At(y, e) = right else {
         return refusal(right);
     };
     GotLetter::At(comparison(q, x, y), e)
@@ -166,7 +166,7 @@ pub fn tested(text: &[u8], regs: &[u64], at: usize) -> GotLetter
         return g;
     };
     let last = expect(text, tokens::SEMICOLON, a);
-    let Got::At(_, e) = last else {
+    let GotNumber::At(_, e) = last else {
         return refusal(last);
     };
     GotLetter::At(l, e)
@@ -175,7 +175,7 @@ pub fn tested(text: &[u8], regs: &[u64], at: usize) -> GotLetter
 // Behind the first argument y of the function f, which takes n.
 fn arguments(text: &[u8], regs: &[u64], n: u8, x: u8, f: u8, y: u8, at: usize) -> GotLetter
     requires { ⌜ length (now regs) ≤ mostRegisters ⌝ }
-    ensures { λ r. ⌜ r ≡ lettered same (argumentsT (now (text .entry)) (now (regs .entry)) n x f y (tokenAt (now (text .entry)) at)) ⌝ }
+    ensures { λ r. ⌜ r ≡ lettered sameLetter (argumentsT (now (text .entry)) (now (regs .entry)) n x f y (tokenAt (now (text .entry)) at)) ⌝ }
 {
     let t = tokens::next(text, at);
     if t.key == tokens::COMMA {
@@ -204,14 +204,14 @@ fn arguments(text: &[u8], regs: &[u64], n: u8, x: u8, f: u8, y: u8, at: usize) -
 // Behind `,`: the second argument of the function f, and `)`.
 fn second_argument(text: &[u8], regs: &[u64], x: u8, f: u8, y: u8, at: usize) -> GotLetter
     requires { ⌜ length (now regs) ≤ mostRegisters ⌝ }
-    ensures { λ r. ⌜ r ≡ lettered same (secondAt (now (text .entry)) (now (regs .entry)) x f y at) ⌝ }
+    ensures { λ r. ⌜ r ≡ lettered sameLetter (secondAt (now (text .entry)) (now (regs .entry)) x f y at) ⌝ }
 {
     let second = use_of(tokens::next(text, at), regs);
-    let Got::At(z, a) = second else {
+    let GotNumber::At(z, a) = second else {
         return refusal(second);
     };
     let last = expect(text, tokens::RPAREN, a);
-    let Got::At(_, e) = last else {
+    let GotNumber::At(_, e) = last else {
         return refusal(last);
     };
     GotLetter::At(
@@ -228,14 +228,14 @@ fn second_argument(text: &[u8], regs: &[u64], x: u8, f: u8, y: u8, at: usize) ->
 // Behind `x := f` and before `(`: the arguments of the function f, which takes n.
 fn application(text: &[u8], regs: &[u64], n: u8, x: u8, f: u8, at: usize) -> GotLetter
     requires { ⌜ length (now regs) ≤ mostRegisters ⌝ }
-    ensures { λ r. ⌜ r ≡ lettered same (applicationAt (now (text .entry)) (now (regs .entry)) n x f at) ⌝ }
+    ensures { λ r. ⌜ r ≡ lettered sameLetter (applicationAt (now (text .entry)) (now (regs .entry)) n x f at) ⌝ }
 {
     let paren = expect(text, tokens::LPAREN, at);
-    let Got::At(_, b) = paren else {
+    let GotNumber::At(_, b) = paren else {
         return refusal(paren);
     };
     let first = use_of(tokens::next(text, b), regs);
-    let Got::At(y, e) = first else {
+    let GotNumber::At(y, e) = first else {
         return refusal(first);
     };
     arguments(text, regs, n, x, f, y, e)
@@ -244,20 +244,20 @@ fn application(text: &[u8], regs: &[u64], n: u8, x: u8, f: u8, at: usize) -> Got
 // Behind `x :=`: a register, or a function of one or two.
 fn value(text: &[u8], regs: &[u64], funs: &[u64], arities: &[u8], x: u8, at: usize) -> GotLetter
     requires { ⌜ Few (now regs) (now funs) (now arities) ⌝ }
-    ensures { λ r. ⌜ r ≡ lettered same (valueAt (now (text .entry)) (now (regs .entry)) (now (funs .entry)) (now (arities .entry)) x at) ⌝ }
+    ensures { λ r. ⌜ r ≡ lettered sameLetter (valueAt (now (text .entry)) (now (regs .entry)) (now (funs .entry)) (now (arities .entry)) x at) ⌝ }
 {
     let t = tokens::next(text, at);
     let u = tokens::next(text, t.end);
     if u.key == tokens::LPAREN {
         let called = use_of(t, funs);
-        let Got::At(f, a) = called else {
+        let GotNumber::At(f, a) = called else {
             return refusal(called);
         };
         let n = arities[f as usize];
         return application(text, regs, n, x, f, a);
     }
     let copied = use_of(t, regs);
-    let Got::At(y, e) = copied else {
+    let GotNumber::At(y, e) = copied else {
         return refusal(copied);
     };
     GotLetter::At(
@@ -272,14 +272,14 @@ fn value(text: &[u8], regs: &[u64], funs: &[u64], arities: &[u8], x: u8, at: usi
 /// An assignment, as its letter.
 pub fn assignment(text: &[u8], regs: &[u64], funs: &[u64], arities: &[u8], at: usize) -> GotLetter
     requires { ⌜ Few (now regs) (now funs) (now arities) ⌝ }
-    ensures { λ r. ⌜ r ≡ lettered same (assignmentAt (now (text .entry)) (now (regs .entry)) (now (funs .entry)) (now (arities .entry)) at) ⌝ }
+    ensures { λ r. ⌜ r ≡ lettered sameLetter (assignmentAt (now (text .entry)) (now (regs .entry)) (now (funs .entry)) (now (arities .entry)) at) ⌝ }
 {
     let target = use_of(tokens::next(text, at), regs);
-    let Got::At(x, a) = target else {
+    let GotNumber::At(x, a) = target else {
         return refusal(target);
     };
     let sign = expect(text, tokens::BECOMES, a);
-    let Got::At(_, b) = sign else {
+    let GotNumber::At(_, b) = sign else {
         return refusal(sign);
     };
     let right = value(text, regs, funs, arities, x, b);
@@ -287,7 +287,7 @@ pub fn assignment(text: &[u8], regs: &[u64], funs: &[u64], arities: &[u8], at: u
         return right;
     };
     let last = expect(text, tokens::SEMICOLON, c);
-    let Got::At(_, e) = last else {
+    let GotNumber::At(_, e) = last else {
         return refusal(last);
     };
     GotLetter::At(l, e)

@@ -1,11 +1,11 @@
 // Reads each text that an argument names, and prints what reading it gives: the refusal and its place, or the counts and the points.
 use blocks::POINT_SPACE;
-use blocks::Point;
+use blocks::PointEntry;
 use files::Input;
 use letters::Letter;
 use libc::STDOUT_FILENO;
+use syntax::CompiledMacro;
 use syntax::LONGEST_TEXT;
-use syntax::Macro;
 
 // One byte more than a macro may have.
 const MOST_READ: usize = LONGEST_TEXT + 1;
@@ -57,7 +57,7 @@ fn print_letter(letter: Letter) {
     }
 }
 
-fn print_point(point: Point) {
+fn print_point(point: PointEntry) {
     io::write_all(STDOUT_FILENO, b" |");
     number(point.kind as u64);
     let letter = point.letter;
@@ -67,7 +67,7 @@ fn print_point(point: Point) {
 }
 
 // The points, if they are few.
-fn print_points(points: [Point; POINT_SPACE], count: u16) {
+fn print_points(points: [PointEntry; POINT_SPACE], count: u16) {
     if FEW_POINTS < count {
         return;
     }
@@ -82,7 +82,7 @@ fn print_points(points: [Point; POINT_SPACE], count: u16) {
     }
 }
 
-fn print_macro(program: Macro) {
+fn print_macro(program: CompiledMacro) {
     let header = program.header;
     io::write_all(STDOUT_FILENO, b": read");
     number(header.registers as u64);

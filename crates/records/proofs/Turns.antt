@@ -19,19 +19,19 @@ use Rattle.base.proofs.Theory.MaskLaws.{trailing-least}
 use Rattle.letters.specs.Packing.{join}
 use Rattle.semantics.specs.PackedTables.{units}
 use Rattle.semantics.specs.TablesRead.{unitsIn}
-use Rattle.base.proofs.Theory.Written.{Written}
+use Rattle.base.proofs.Theory.Written.{WrittenUpTo}
 use Rattle.traces.proofs.Theory.TraceLaws.{units-length}
 use Rattle.window.proofs.Theory.Table.{written-all, table-at, table-length, table-is, Swept, swept-none, swept-more, swept-all}
 use Rattle.window.specs.Table.{table}
 use Rattle.window.specs.declared.Window.{Window}
-use Rattle.records.specs.Codes.{codeOf, codeAt, heldOf, computedOf, assembled, gathered, scattered}
+use Rattle.records.specs.Codes.{codeOf, codeAt, classOfCode, computedOf, assembled, gathered, scattered}
 use Rattle.records.proofs.Theory.Digits.{All<, units-one, bytes-in, gathered-length}
 use Rattle.records.proofs.Theory.FormatLaws.{all-of, all-map}
 use Rattle.records.specs.Formats as formats
 use Rattle.records.specs.Formats.{numberIn, flag, isSet, mix, mixed, spread, sameFront, contentPlace}
 use Rattle.records.proofs.Theory.Pairs.{front-is}
-use Rattle.records.specs.Records.{firstFormat, blank, codeBytes, partsOf, fingerprintOf, encoded, recordOf, recordBytes, encodedBytes}
-use Rattle.records.specs.Records.{codesAt, meaningsOf, meant, everIn, windowIn}
+use Rattle.records.specs.Records.{firstFormat, emptyLine, codeBytes, partsOf, fingerprintOf, encoded, recordOf, recordBytes, encodedBytes}
+use Rattle.records.specs.Records.{codesAt, meaningsOf, resultsMeant, everIn, windowIn}
 use Rattle.records.specs.Words.{wordOf, octetsOf, wordsIn}
 use Rattle.records.proofs.Theory.Words.{octets-back}
 
@@ -148,7 +148,7 @@ gathered-long : (n : ℕ) (ds : List ℕ) → length (gathered 2 4 n ds) ≡ n
 gathered-long n ds = gathered-length 2 4 n ds
 
 pub code-bytes : (result ever : List ℕ) → codeBytes result ever ≡ table (codeByte result ever) 128
-unfolding formats.codeBytes formats.codesOf codeByte
+unfolding formats.codeBytesInFormat formats.codesOf codeByte
 code-bytes result ever =
     let ds = table (codeAt 8 result ever) 256 in
     let at : (i : ℕ) → i < 128 → getD (gathered 2 4 128 ds) i 0 ≡ codeByte result ever i = (λ i h.
@@ -198,13 +198,13 @@ module _ (result ever : List ℕ) where
       subst (λ (k : ℕ). Swept F 0 blanks k (set l₃ (4 * j + 3) c₃)) n w₄
 
   pub codes-past : (codes : List ℕ) (j line : ℕ) (b : Bool) → j < 32 → length result ≡ 256 → line ≡ getD ever j 0
-      → b ≡ blank (take 8 (drop (8 * j) result)) line → b ≡ true
+      → b ≡ emptyLine (take 8 (drop (8 * j) result)) line → b ≡ true
       → Swept (codeByte result ever) 0 blanks (4 * j) codes → Swept (codeByte result ever) 0 blanks (4 * (j + 1)) codes
-  unfolding blank codeOf codeByte
+  unfolding emptyLine codeOf codeByte
   codes-past codes j line b h long e f t w = swept-past (codeByte result ever) blanks 4 (4 * j) (4 * (j + 1)) codes (omega arith) w (omega arith)
       (λ k p q. getD-replicate 128 k 0 0 (omega arith) ∙ none k p q)
     where
-      both : (blank (take 8 (drop (8 * j) result)) line ≡ true) → (line ≡ 0) × (wordOf (take 8 (drop (8 * j) result)) ≡ 0)
+      both : (emptyLine (take 8 (drop (8 * j) result)) line ≡ true) → (line ≡ 0) × (wordOf (take 8 (drop (8 * j) result)) ≡ 0)
       both = byTest (eqb line 0) (λ u. rw u λ v. (eqb-true line 0 u, eqb-true _ 0 v)) λ u. rw u λ v. absurd (let z : _≡_ {A = ℕ} 0 1 = cc in omega arith)
 
       entry : (x : ℕ) → 8 * j ≤ x → x < 8 * j + 8 → codeAt 8 result ever x ≡ 0
@@ -447,7 +447,7 @@ module _ (s : List ℕ) where
   mix-end h i l = let n : 19 - i ≡ 0 = omega arith in ap (λ m. mixed h (wordsIn m (drop (8 * i) s))) n
 
   pub mix-all : (h i : ℕ) → 19 ≤ i → mixed h (words i) ≡ mixed 0 (words 0) → spread h ≡ fingerprintOf s
-  unfolding formats.fingerprintOf
+  unfolding formats.fingerprintInFormat
   mix-all h i l e = ap spread (sym (mix-end h i l) ∙ e)
 
 -- ---- parts laid one after the other
@@ -481,7 +481,7 @@ module _ (point v : ℕ) (class unequal marks codes l₁ l₂ l₃ l₄ : List �
       (x ∙ ap (λ (u : List ℕ). t ++ class ++ unequal ++ marks ++ (v ∷ []) ++ u) (sym (append-nil (replicate 128 0)))) s
       ∙ rw (div-one point) (simp (append-nil, append-assoc))
 
-pub masks-all : (masks bytes : List ℕ) (i : ℕ) → length masks ≡ 8 → Written (λ k. getD (units 1 masks) k 0) 0 8 i bytes → 8 ≤ i → bytes ≡ units 1 masks
+pub masks-all : (masks bytes : List ℕ) (i : ℕ) → length masks ≡ 8 → WrittenUpTo (λ k. getD (units 1 masks) k 0) 0 8 i bytes → 8 ≤ i → bytes ≡ units 1 masks
 masks-all masks bytes i h w l = written-all _ 0 8 i bytes w l ∙ sym (table-is (λ k. getD (units 1 masks) k 0) 8 (units 1 masks) 0 (units-length 1 masks
     ∙ rw h) (λ k b. refl))
 
@@ -510,7 +510,7 @@ pub encoded-made : (point : ℕ) (w : Window) (pair classes unequals marks codes
     → codes ≡ codeBytes (w .result) (w .ever)
     → pair ≡ partsOf point classes unequals marks v codes → length pair ≤ 2 + n → f ≡ fingerprintOf (take n (drop 2 pair))
     → set (set pair 0 (f / 256 % 256)) 1 (f % 256) ≡ encoded point w
-unfolding formats.encoded units
+unfolding formats.encodedInFormat units
 encoded-made point w pair classes unequals marks codes v f n p q r s t e h d =
     let g : f ≡ fingerprintOf (drop 2 pair) = d ∙ ap fingerprintOf (take-all n (drop 2 pair) (rw (length-drop 2 pair) (omega arith))) in
     let c : drop 2 pair ≡ formats.contentOf firstFormat point w = ap (drop 2) e ∙ content-made point w classes unequals marks codes v p q r s t in
@@ -528,8 +528,8 @@ pub meanings-made : (class l : List ℕ) → length class ≡ 8 → l ≡ laidAt
 meanings-made class l h p = laid-over (0 ∷ 0 ∷ []) class (replicate 8 0) (replicate 6 0) (replicate 16 0) l 2 refl (sym h) refl p
 
 -- what a code means is the class that it stands for
-meaning-held : (class : List ℕ) (c : ℕ) → length class ≡ 8 → getD (meaningsOf class) c 0 ≡ heldOf class c
-unfolding heldOf
+meaning-held : (class : List ℕ) (c : ℕ) → length class ≡ 8 → getD (meaningsOf class) c 0 ≡ classOfCode class c
+unfolding classOfCode
 meaning-held class zero h = refl
 meaning-held class (suc zero) h = refl
 meaning-held class (suc (suc c)) h =
@@ -547,9 +547,9 @@ same-table F G n f = table-is G n (table F n) 0 (table-length F n) (λ i h. tabl
 
 pub window-made : (s class unequal flags meanings result ever : List ℕ) (mark : List Bool) (infeasible : Bool) → recordBytes ≤ length s → length class ≡ 8
     → class ≡ take 8 (drop 7 s) → unequal ≡ take 8 (drop 15 s) → flags ≡ take 8 (drop 23 s) → mark ≡ map isSet flags → meanings ≡ meaningsOf class
-    → result ≡ meant meanings (codesAt s) → ever ≡ everIn (codesAt s) → infeasible ≡ isSet (getD s 31 0)
+    → result ≡ resultsMeant meanings (codesAt s) → ever ≡ everIn (codesAt s) → infeasible ≡ isSet (getD s 31 0)
     → _≡_ {A = Window} (record { class = class; unequal = unequal; result = result; ever = ever; mark = mark; infeasible = infeasible }) (windowIn s)
-unfolding formats.windowIn formats.windowFrom formats.resultIn meant codesAt
+unfolding formats.windowInFormat formats.windowFrom formats.resultsInFormat resultsMeant codesAt
 window-made s class unequal flags meanings result ever mark infeasible long count c u f m k r e i =
     let pc : unitsIn 1 8 (formats.afterPoint firstFormat (drop contentPlace s)) ≡ class = ap (unitsIn 1 8) (at-class s) ∙ bytes-at s 8 7 (omega arith)
     ∙ sym c in
@@ -559,7 +559,7 @@ window-made s class unequal flags meanings result ever mark infeasible long coun
     ∙ bytes-at s 8 23 (omega arith) ∙ sym f) ∙ sym m in
     let pi : isSet (numberIn 1 (formats.afterMarks firstFormat (drop contentPlace s))) ≡ infeasible = ap isSet (ap (numberIn 1) (at-infeasible s)
     ∙ number-one s 31 (omega arith)) ∙ sym i in
-    let pr : table (λ n. heldOf class (getD (codesAt s) n 0)) 256 ≡ result = sym (r
+    let pr : table (λ n. classOfCode class (getD (codesAt s) n 0)) 256 ≡ result = sym (r
     ∙ rw k (same-table _ _ 256 (λ n. meaning-held class (getD (codesAt s) n 0) count))) in
     sym (rw (pc, pu, pm, pi, pr, ← e))
 
@@ -567,7 +567,7 @@ window-made s class unequal flags meanings result ever mark infeasible long coun
 
 pub record-made : (pair l : List ℕ) (parent branch : ℕ) → length pair ≡ encodedBytes → l ≡ laidAt 3 pair
     (parent / 256 % 256 ∷ parent % 256 ∷ branch % 256 ∷ replicate 189 0) → l ≡ recordOf pair parent branch
-unfolding formats.recordOf units
+unfolding formats.recordInFormat units
 record-made pair l parent branch h p =
     laid-over (parent / 256 % 256 ∷ parent % 256 ∷ branch % 256 ∷ []) pair (replicate encodedBytes 0) (replicate 32 0)
     (parent / 256 % 256 ∷ parent % 256 ∷ branch % 256 ∷ replicate 189 0) l 3 refl (sym h) refl p

@@ -18,8 +18,8 @@ abbrev pub codeAt : ℕ → List ℕ → List ℕ → ℕ → ℕ
 codeAt n result ever i = codeOf n (getD result i 0) (bit (getD ever (i / n) 0) (i % n))
 
 -- The class that a code stands for: none for 0 and 1, and then the classes by name.
-unfoldable pub heldOf : List ℕ → ℕ → ℕ
-heldOf class c = getD (0 ∷ 0 ∷ class) c 0
+unfoldable pub classOfCode : List ℕ → ℕ → ℕ
+classOfCode class c = getD (0 ∷ 0 ∷ class) c 0
 
 -- Whether a code says that the application was ever computed: 1 or 0.
 unfoldable pub computedOf : ℕ → ℕ

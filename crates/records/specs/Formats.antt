@@ -13,8 +13,8 @@ use Rattle.semantics.specs.PackedTables.{units}
 use Rattle.semantics.specs.TablesRead.{unitsIn}
 use Rattle.window.specs.Table.{table}
 use Rattle.window.specs.declared.Window.{Window}
-use Rattle.records.specs.Words.{wordBytes, wordsIn}
-use Rattle.records.specs.Codes.{codeAt, heldOf, computedOf, assembled, gathered, scattered}
+use Rattle.records.specs.Words.{fingerprintWordBytes, wordsIn}
+use Rattle.records.specs.Codes.{codeAt, classOfCode, computedOf, assembled, gathered, scattered}
 
 pub record Format : Type 0 where
   pub registers : ℕ
@@ -53,31 +53,31 @@ contentPlace = pairPlace + numberBytes
 
 module _ (f : Format) where
   -- the entries of `ever`, and of the table of results
-  abbrev pub lines : ℕ
-  lines = f .functions * f .registers
+  abbrev pub linesOfFormat : ℕ
+  linesOfFormat = f .functions * f .registers
 
-  abbrev pub results : ℕ
-  results = f .functions * f .registers * f .registers
+  abbrev pub resultsOfFormat : ℕ
+  resultsOfFormat = f .functions * f .registers * f .registers
 
   -- the masks of all registers
   abbrev pub masksBytes : ℕ
   masksBytes = f .maskBytes * f .registers
 
   -- point, classes, unequal pairs, marks, infeasible, codes
-  abbrev pub contentBytes : ℕ
-  contentBytes = numberBytes + (masksBytes + (masksBytes + (f .registers + (flagBytes + f .groupBytes * f .groups))))
+  abbrev pub contentBytesOfFormat : ℕ
+  contentBytesOfFormat = numberBytes + (masksBytes + (masksBytes + (f .registers + (flagBytes + f .groupBytes * f .groups))))
 
   -- the fingerprint in front of them
-  abbrev pub encodedBytes : ℕ
-  encodedBytes = numberBytes + contentBytes
+  abbrev pub encodedBytesOfFormat : ℕ
+  encodedBytesOfFormat = numberBytes + contentBytesOfFormat
 
   -- The widths fit.
-  pub record Sound : Type 0 where
+  pub record WidthsFit : Type 0 where
     pub masks : 8 * f .maskBytes ≡ f .registers
     pub names : 2 + f .registers ≤ 2 ^ f .codeBits
     pub grouped : f .group * f .codeBits ≡ 8 * f .groupBytes
-    pub counted : f .group * f .groups ≡ results
-    pub fits : pairPlace + encodedBytes ≤ f .size
+    pub counted : f .group * f .groups ≡ resultsOfFormat
+    pub fits : pairPlace + encodedBytesOfFormat ≤ f .size
 
 -- ---- writing
 
@@ -98,29 +98,29 @@ spread h = (h / 4294967296 % 4294967296 + h % 4294967296) % 4294967296 * 2654435
 
 module _ (f : Format) where
   unfoldable pub codesOf : List ℕ → List ℕ → List ℕ
-  codesOf result ever = table (codeAt (f .registers) result ever) (results f)
+  codesOf result ever = table (codeAt (f .registers) result ever) (resultsOfFormat f)
 
   -- The codes of all entries as bytes.
-  unfoldable pub codeBytes : List ℕ → List ℕ → List ℕ
-  codeBytes result ever = units (f .groupBytes) (gathered (f .group) (f .codeBits) (f .groups) (codesOf result ever))
+  unfoldable pub codeBytesInFormat : List ℕ → List ℕ → List ℕ
+  codeBytesInFormat result ever = units (f .groupBytes) (gathered (f .group) (f .codeBits) (f .groups) (codesOf result ever))
 
   -- What stands for a point and a window.
   unfoldable pub contentOf : ℕ → Window → List ℕ
   contentOf point w =
       units numberBytes (point ∷ []) ++ (units (f .maskBytes) (w .class) ++ (units (f .maskBytes) (w .unequal) ++ (units flagBytes (map flag (w .mark))
-      ++ (units flagBytes (flag (w .infeasible) ∷ []) ++ codeBytes (w .result) (w .ever)))))
+      ++ (units flagBytes (flag (w .infeasible) ∷ []) ++ codeBytesInFormat (w .result) (w .ever)))))
 
-  unfoldable pub fingerprintOf : List ℕ → ℕ
-  fingerprintOf content = spread (mixed 0 (wordsIn (contentBytes f / wordBytes) content))
+  unfoldable pub fingerprintInFormat : List ℕ → ℕ
+  fingerprintInFormat content = spread (mixed 0 (wordsIn (contentBytesOfFormat f / fingerprintWordBytes) content))
 
   -- A pair: the fingerprint, and what stands for the point and the window.
-  unfoldable pub encoded : ℕ → Window → List ℕ
-  encoded point w = units numberBytes (fingerprintOf (contentOf point w) ∷ []) ++ contentOf point w
+  unfoldable pub encodedInFormat : ℕ → Window → List ℕ
+  encodedInFormat point w = units numberBytes (fingerprintInFormat (contentOf point w) ∷ []) ++ contentOf point w
 
   -- A record: the number of the pair from which this one was reached, the branch taken there, and the pair; 0 beyond them.
-  unfoldable pub recordOf : List ℕ → ℕ → ℕ → List ℕ
-  recordOf pair parent branch = units numberBytes (parent ∷ []) ++ (units flagBytes (branch ∷ []) ++
-      (pair ++ replicate (f .size - (pairPlace + encodedBytes f)) 0))
+  unfoldable pub recordInFormat : List ℕ → ℕ → ℕ → List ℕ
+  recordInFormat pair parent branch = units numberBytes (parent ∷ []) ++ (units flagBytes (branch ∷ []) ++
+      (pair ++ replicate (f .size - (pairPlace + encodedBytesOfFormat f)) 0))
 
 -- ---- reading: in bytes that begin with a record
 
@@ -171,15 +171,15 @@ module _ (f : Format) where
   unfoldable pub codesIn : List ℕ → List ℕ
   codesIn s = scattered (f .group) (f .codeBits) (unitsIn (f .groupBytes) (f .groups) s)
 
-  unfoldable pub resultIn : List ℕ → List ℕ → List ℕ
-  resultIn class codes = table (λ i. heldOf class (getD codes i 0)) (results f)
+  unfoldable pub resultsInFormat : List ℕ → List ℕ → List ℕ
+  resultsInFormat class codes = table (λ i. classOfCode class (getD codes i 0)) (resultsOfFormat f)
 
   -- Line j of `ever`.
   unfoldable pub everMask : List ℕ → ℕ → ℕ
   everMask codes j = assembled (λ b. computedOf (getD codes (f .registers * j + b) 0)) 0 (f .registers)
 
-  unfoldable pub everIn : List ℕ → List ℕ
-  everIn codes = table (everMask codes) (lines f)
+  unfoldable pub everInFormat : List ℕ → List ℕ
+  everInFormat codes = table (everMask codes) (linesOfFormat f)
 
   -- The window in what stands for a point and a window.
   unfoldable pub windowFrom : List ℕ → Window
@@ -189,11 +189,11 @@ module _ (f : Format) where
       record {
         class = class;
         unequal = unitsIn (f .maskBytes) (f .registers) (afterClass s);
-        result = resultIn class codes;
-        ever = everIn codes;
+        result = resultsInFormat class codes;
+        ever = everInFormat codes;
         mark = map isSet (unitsIn flagBytes (f .registers) (afterUnequal s));
         infeasible = isSet (numberIn flagBytes (afterMarks s));
       }
 
-  unfoldable pub windowIn : List ℕ → Window
-  windowIn bytes = windowFrom (drop contentPlace bytes)
+  unfoldable pub windowInFormat : List ℕ → Window
+  windowInFormat bytes = windowFrom (drop contentPlace bytes)

@@ -25,45 +25,45 @@ firstFormat = record { registers = registers; functions = functions; maskBytes =
 abbrev pub codeRange : ℕ
 codeRange = 2 ^ firstFormat .codeBits
 
-abbrev pub lines : ℕ
-lines = formats.lines firstFormat
+abbrev pub firstFormatLines : ℕ
+firstFormatLines = formats.linesOfFormat firstFormat
 
-abbrev pub results : ℕ
-results = formats.results firstFormat
+abbrev pub firstFormatResults : ℕ
+firstFormatResults = formats.resultsOfFormat firstFormat
 
 abbrev pub maskBytes : ℕ
 maskBytes = firstFormat .maskBytes
 
 abbrev pub encodedBytes : ℕ
-encodedBytes = formats.encodedBytes firstFormat
+encodedBytes = formats.encodedBytesOfFormat firstFormat
 
 abbrev pub contentBytes : ℕ
-contentBytes = formats.contentBytes firstFormat
+contentBytes = formats.contentBytesOfFormat firstFormat
 
 -- ---- writing
 
 -- A line of results that holds nothing, and of which nothing was ever computed.
-unfoldable pub blank : List ℕ → ℕ → Bool
-blank results line = pick (eqb line 0) (λ _. eqb (wordOf results) 0) λ _. false
+unfoldable pub emptyLine : List ℕ → ℕ → Bool
+emptyLine results line = pick (eqb line 0) (λ _. eqb (wordOf results) 0) λ _. false
 
 -- The codes of all entries.
 abbrev pub codeBytes : List ℕ → List ℕ → List ℕ
-codeBytes = formats.codeBytes firstFormat
+codeBytes = formats.codeBytesInFormat firstFormat
 
 -- The parts of a pair in their order, before its fingerprint is known.
 abbrev pub partsOf : ℕ → List ℕ → List ℕ → List ℕ → ℕ → List ℕ → List ℕ
 partsOf point class unequal marks infeasible codes = 0 ∷ 0 ∷ (units numberBytes (point ∷ []) ++ (class ++ (unequal ++ (marks ++ (infeasible ∷ codes)))))
 
 abbrev pub fingerprintOf : List ℕ → ℕ
-fingerprintOf = formats.fingerprintOf firstFormat
+fingerprintOf = formats.fingerprintInFormat firstFormat
 
 -- The bytes of a pair, a point and a window.
 abbrev pub encoded : ℕ → Window → List ℕ
-encoded = formats.encoded firstFormat
+encoded = formats.encodedInFormat firstFormat
 
 -- A record: a pair, the number of the pair from which it was reached, and the branch taken there.
 abbrev pub recordOf : List ℕ → ℕ → ℕ → List ℕ
-recordOf = formats.recordOf firstFormat
+recordOf = formats.recordInFormat firstFormat
 
 -- ---- reading: in bytes that begin with a record
 
@@ -76,11 +76,11 @@ abbrev pub meaningsOf : List ℕ → List ℕ
 meaningsOf class = 0 ∷ 0 ∷ class ++ replicate (codeRange - (2 + registers)) 0
 
 -- The results that these codes mean.
-unfoldable pub meant : List ℕ → List ℕ → List ℕ
-meant meanings codes = table (λ i. getD meanings (getD codes i 0) 0) results
+unfoldable pub resultsMeant : List ℕ → List ℕ → List ℕ
+resultsMeant meanings codes = table (λ i. getD meanings (getD codes i 0) 0) firstFormatResults
 
 abbrev pub everIn : List ℕ → List ℕ
-everIn = formats.everIn firstFormat
+everIn = formats.everInFormat firstFormat
 
 abbrev pub windowIn : List ℕ → Window
-windowIn = formats.windowIn firstFormat
+windowIn = formats.windowInFormat firstFormat

@@ -4,8 +4,8 @@ use mathlib.Core.List.{List, [], _∷_}
 use lib.ListN.{take, drop}
 
 -- the bytes of a word, and of a half of it
-abbrev pub wordBytes : ℕ
-wordBytes = 8
+abbrev pub fingerprintWordBytes : ℕ
+fingerprintWordBytes = 8
 
 abbrev pub halfBytes : ℕ
 halfBytes = 4
@@ -22,4 +22,4 @@ octetsOf (suc n) word = word % 256 ∷ octetsOf n (word / 256)
 -- The first n words.
 unfoldable pub wordsIn : ℕ → List ℕ → List ℕ
 wordsIn zero s = []
-wordsIn (suc n) s = wordOf (take wordBytes s) ∷ wordsIn n (drop wordBytes s)
+wordsIn (suc n) s = wordOf (take fingerprintWordBytes s) ∷ wordsIn n (drop fingerprintWordBytes s)

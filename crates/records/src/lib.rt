@@ -12,9 +12,9 @@ ghost use Rattle.base.specs.Masks.{bit};
 ghost use Rattle.semantics.specs.PackedTables.{units};
 ghost use Rattle.window.specs.Layout.{registers};
 ghost use Rattle.records.specs.Codes.{codeOf, computedOf};
-ghost use Rattle.records.specs.Words.{wordBytes, halfBytes, wordOf, octetsOf};
-ghost use Rattle.records.specs.Records.{recordBytes, contentBytes, codeRange, maskBytes, lines, results, flag, blank, codeBytes, partsOf, fingerprintOf};
-ghost use Rattle.records.specs.Records.{encoded, recordOf, parentIn, branchIn, pointIn, samePair, isSet, meaningsOf, meant, codesAt, everIn, windowIn};
+ghost use Rattle.records.specs.Words.{fingerprintWordBytes, halfBytes, wordOf, octetsOf};
+ghost use Rattle.records.specs.Records.{recordBytes, contentBytes, codeRange, maskBytes, firstFormatLines, firstFormatResults, flag, emptyLine, codeBytes, partsOf, fingerprintOf};
+ghost use Rattle.records.specs.Records.{encoded, recordOf, parentIn, branchIn, pointIn, samePair, isSet, meaningsOf, resultsMeant, codesAt, everIn, windowIn};
 
 /// How many bytes a record has.
 pub const RECORD_BYTES: usize = 192;
@@ -106,9 +106,9 @@ fn half_in(bytes: &[u8], at: usize) -> usize
 
 // Eight bytes from a place on. One test of a word passes over many entries, or compares many bytes.
 fn word_in(bytes: &[u8], at: usize) -> usize
-    requires { ⌜ at + wordBytes ≤ length (now bytes) ⌝ }
-    ensures { λ r. ⌜ r ≡ wordOf (take wordBytes (drop at (now (bytes .entry)))) ⌝ }
-    ensures back { λ r. ⌜ octetsOf wordBytes r ≡ take wordBytes (drop at (now (bytes .entry))) ⌝ }
+    requires { ⌜ at + fingerprintWordBytes ≤ length (now bytes) ⌝ }
+    ensures { λ r. ⌜ r ≡ wordOf (take fingerprintWordBytes (drop at (now (bytes .entry)))) ⌝ }
+    ensures back { λ r. ⌜ octetsOf fingerprintWordBytes r ≡ take fingerprintWordBytes (drop at (now (bytes .entry))) ⌝ }
 {
     half_in(bytes, at) + half_in(bytes, at + HALF_BYTES) * 4294967296
 }
@@ -151,7 +151,7 @@ fn code_byte(first: Mask, second: Mask, ever: Mask, b: usize) -> u8
 // Whether a line of eight results holds nothing, and nothing of it was ever computed.
 fn is_blank(result: &[u8], at: usize, line: u8) -> bool
     requires { ⌜ at + registers ≤ length (now result) ⌝ }
-    ensures { λ r. ⌜ r ≡ blank (take registers (drop at (now (result .entry)))) line ⌝ }
+    ensures { λ r. ⌜ r ≡ emptyLine (take registers (drop at (now (result .entry)))) line ⌝ }
 {
     if line != 0 {
         return false;
@@ -161,7 +161,7 @@ fn is_blank(result: &[u8], at: usize, line: u8) -> bool
 
 // The codes of all entries. Most lines are blank.
 fn codes(result: &[u8], ever: &[u8]) -> [u8; CODE_BYTES]
-    requires { ⌜ (length (now result) ≡ results) × (length (now ever) ≡ lines) ⌝ }
+    requires { ⌜ (length (now result) ≡ firstFormatResults) × (length (now ever) ≡ firstFormatLines) ⌝ }
     ensures { λ r. ⌜ r ≡ codeBytes (now (result .entry)) (now (ever .entry)) ⌝ }
 {
     let mut codes = [0u8; CODE_BYTES];
@@ -358,8 +358,8 @@ fn meanings(class: &[u8; REGISTERS]) -> [u8; CODES]
 
 // The results, by what each code says. Most lines have the code 0 only, and stay as they are.
 fn put_results(part: &[u8], meanings: &[u8; CODES], result: &mut [Mask; RESULTS])
-    requires { ⌜ (recordBytes ≤ length (now part)) × (getD (now meanings) 0 0 ≡ 0) × (now result ≡ replicate results 0) ⌝ }
-    ensures { λ _. ⌜ now (result .exit) ≡ meant (now (meanings .entry)) (codesAt (now (part .entry))) ⌝ }
+    requires { ⌜ (recordBytes ≤ length (now part)) × (getD (now meanings) 0 0 ≡ 0) × (now result ≡ replicate firstFormatResults 0) ⌝ }
+    ensures { λ _. ⌜ now (result .exit) ≡ resultsMeant (now (meanings .entry)) (codesAt (now (part .entry))) ⌝ }
 {
     let mut j: usize = 0;
     while j < LINES {

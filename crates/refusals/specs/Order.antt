@@ -1,8 +1,8 @@
--- The theorem: a macro's text is refused by n at p exactly if the questions say so, and read exactly if no token has a no.
+-- The refusals of a macro's text: by which number, and at which place (document 01, "The questions", "Macro").
 use Prim.Native.Nat.{ℕ, _≤_, _<_}
 use mathlib.Core.List.{List}
 use lib.ListN.{length}
-use Rattle.letters.specs.RefusalNumbers.{textTooLong, pointsTooMany}
+use Rattle.letters.specs.MacroRefusalNumbers.{textTooLong, pointsTooMany}
 use Rattle.macros.specs.Points.{sizeBlock}
 use Rattle.grammar.specs.Limits.{longestText, mostPoints}
 use Rattle.grammar.specs.Grammar.{Macro}

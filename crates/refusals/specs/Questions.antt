@@ -9,7 +9,7 @@ use lib.Dec.{eqb}
 use lib.ListN.{length, getD}
 use Rattle.base.specs.Choice.{pick}
 use Rattle.letters.specs.Editions.{mostRegisters, mostFunctions}
-use Rattle.letters.specs.RefusalNumbers.{tokenMalformed, grammarViolated, declarationWrong, useWrong, nestingTooDeep}
+use Rattle.letters.specs.MacroRefusalNumbers.{tokenMalformed, grammarViolated, declarationWrong, useWrong, nestingTooDeep}
 use Rattle.tokens.specs.Words.{isName}
 use Rattle.tokens.specs.Words as word
 use Rattle.grammar.specs.Limits.{deepestNesting}
@@ -25,29 +25,29 @@ pub data Unfit (before : List ℕ) (k : ℕ) : Type 0 where
 -- ---- where the tokens so far end
 
 -- Each is a name.
-abbrev pub Names : List ℕ → Type 0
-Names ks = (i : ℕ) → i < length ks → isName (getD ks i 0) ≡ true
+abbrev pub AllNames : List ℕ → Type 0
+AllNames ks = (i : ℕ) → i < length ks → isName (getD ks i 0) ≡ true
 
 -- behind `vars` and the names rs
 pub record InRegisters (before rs : List ℕ) : Type 0 where
-  pub registers : Names rs
-  pub split : before ≡ word.vars ∷ rs
+  pub registers : AllNames rs
+  pub split : before ≡ word.varsKey ∷ rs
 
 -- behind the line of the registers rs, `funs` and the entries of the functions fs, which take ns arguments
 pub record InFunctions (before rs fs ns : List ℕ) : Type 0 where
-  pub registers : Names rs
-  pub functions : Names fs
+  pub registers : AllNames rs
+  pub functions : AllNames fs
   pub arities : Arities fs ns
-  pub split : before ≡ word.vars ∷ (rs ++ word.semicolon ∷ word.funs ∷ entryTokens fs ns)
+  pub split : before ≡ word.varsKey ∷ (rs ++ word.semicolonKey ∷ word.funsKey ∷ entryTokens fs ns)
 
 -- behind both lines, of which the second may be absent, and the tokens `body`; a line of functions that has begun is no statement
 pub record InStatements (before rs fs ns : List ℕ) : Type 0 where
-  pub registers : Names rs
-  pub functions : Names fs
+  pub registers : AllNames rs
+  pub functions : AllNames fs
   pub arities : Arities fs ns
   pub body : List ℕ
-  pub split : before ≡ word.vars ∷ (rs ++ word.semicolon ∷ (functionTokens fs ns ++ body))
-  pub begun : getD body 0 0 ≡ word.funs → ⊥
+  pub split : before ≡ word.varsKey ∷ (rs ++ word.semicolonKey ∷ (functionTokens fs ns ++ body))
+  pub begun : getD body 0 0 ≡ word.funsKey → ⊥
 
 -- ---- 10
 
@@ -67,34 +67,34 @@ Behind before k = (ws : List ℕ) × (before ≡ ws ++ k ∷ [])
 
 -- "after `:=` a name is a function if the next token is `(`, else a register"
 abbrev pub FunctionDue : List ℕ → ℕ → Type 0
-FunctionDue before next = Behind before word.becomes × (next ≡ word.lparen)
+FunctionDue before next = Behind before word.becomesKey × (next ≡ word.lparenKey)
 
 -- behind `f(b`
 abbrev pub Called : List ℕ → ℕ → Type 0
-Called before f = (ws : List ℕ) × (b : ℕ) × (before ≡ ws ++ f ∷ word.lparen ∷ b ∷ [])
+Called before f = (ws : List ℕ) × (b : ℕ) × (before ≡ ws ++ f ∷ word.lparenKey ∷ b ∷ [])
 
 -- f is declared with n arguments
-abbrev pub Takes : List ℕ → List ℕ → ℕ → ℕ → Type 0
-Takes fs ns f n = (i : ℕ) × (i < length fs) × (getD fs i 0 ≡ f) × (getD ns i 0 ≡ n)
+abbrev pub TakesArguments : List ℕ → List ℕ → ℕ → ℕ → Type 0
+TakesArguments fs ns f n = (i : ℕ) × (i < length fs) × (getD fs i 0 ≡ f) × (getD ns i 0 ≡ n)
 
 -- "A use declared, of the right sort? 11 (..; a wrong argument count stands at the `,` or `)`)."
 pub data Misused (before : List ℕ) (k next : ℕ) : Type 0 where
   register : {rs fs ns : List ℕ} → InStatements before rs fs ns → isName k ≡ true → (FunctionDue before next → ⊥) → (Among k rs → ⊥) → Misused before k next
   function : {rs fs ns : List ℕ} → InStatements before rs fs ns → isName k ≡ true → FunctionDue before next → (Among k fs → ⊥) → Misused before k next
-  more-arguments : {rs fs ns : List ℕ} {f : ℕ} → InStatements before rs fs ns → Called before f → Takes fs ns f 1 → k ≡ word.comma → Misused before k next
-  fewer-arguments : {rs fs ns : List ℕ} {f : ℕ} → InStatements before rs fs ns → Called before f → Takes fs ns f 2 → k ≡ word.rparen → Misused before k next
+  more-arguments : {rs fs ns : List ℕ} {f : ℕ} → InStatements before rs fs ns → Called before f → TakesArguments fs ns f 1 → k ≡ word.commaKey → Misused before k next
+  fewer-arguments : {rs fs ns : List ℕ} {f : ℕ} → InStatements before rs fs ns → Called before f → TakesArguments fs ns f 2 → k ≡ word.rparenKey → Misused before k next
 
 -- ---- 12
 
 -- how many tokens of the list are k
-abbrev pub count : ℕ → List ℕ → ℕ
-count k [] = 0
-count k (j ∷ js) = pick (eqb j k) (λ _. 1) (λ _. 0) + count k js
+abbrev pub occurrences : ℕ → List ℕ → ℕ
+occurrences k [] = 0
+occurrences k (j ∷ js) = pick (eqb j k) (λ _. 1) (λ _. 0) + occurrences k js
 
 -- "Braces at most 16 deep? 12."
 pub record TooDeep (before : List ℕ) (k : ℕ) : Type 0 where
-  pub brace : k ≡ word.lbrace
-  pub deep : deepestNesting + count word.rbrace before ≤ count word.lbrace before
+  pub brace : k ≡ word.lbraceKey
+  pub deep : deepestNesting + occurrences word.rbraceKey before ≤ occurrences word.lbraceKey before
 
 -- ---- the questions by their numbers
 

@@ -13,73 +13,73 @@ pub record Name : Type 0 where
   pub real : isName key ≡ true
 
 -- "C is `a = b` or `a != b`."
-pub data Condition : Type 0 where
-  equal unequal : Name → Name → Condition
+pub data NamedCondition : Type 0 where
+  equal unequal : Name → Name → NamedCondition
 
 -- "Statements: `skip;` `a := b;` `a := f(b);` `a := f(b,c);` `assume C;` `assert C;` `if C { .. }` with an optional `else { .. }`, `while C { .. }`."
 mutual
-  pub data Statement : Type 0 where
-    skip : Statement
-    copy : Name → Name → Statement
-    apply : Name → Name → Name → Statement
-    apply-two : Name → Name → Name → Name → Statement
-    assume assert : Condition → Statement
-    if : Condition → Block → Else → Statement
-    while : Condition → Block → Statement
+  pub data NamedStatement : Type 0 where
+    skip : NamedStatement
+    copy : Name → Name → NamedStatement
+    apply : Name → Name → Name → NamedStatement
+    apply-two : Name → Name → Name → Name → NamedStatement
+    assume assert : NamedCondition → NamedStatement
+    if : NamedCondition → NamedBlock → NamedElse → NamedStatement
+    while : NamedCondition → NamedBlock → NamedStatement
 
-  pub data Else : Type 0 where
-    absent : Else
-    present : Block → Else
+  pub data NamedElse : Type 0 where
+    absent : NamedElse
+    present : NamedBlock → NamedElse
 
   -- "A block holds statements, and a statement may hold blocks, empty ones too."
-  infixr 30 _then_
-  pub data Block : Type 0 where
-    empty : Block
-    _then_ : Statement → Block → Block
+  infixr 30 _followedBy_
+  pub data NamedBlock : Type 0 where
+    empty : NamedBlock
+    _followedBy_ : NamedStatement → NamedBlock → NamedBlock
 
 -- "entries such as `cap/1`": of a function of one argument, or of two
 pub data Entry : Type 0 where
   one two : Name → Entry
 
 -- "A macro is `vars` names `;`, then perhaps `funs` entries .. and `;` (at least one in each list), then statements, perhaps none."
-pub record Macro : Type 0 where
+pub record NamedMacro : Type 0 where
   pub first : Name
   pub others : List Name
   pub entries : List Entry
-  pub body : Block
+  pub body : NamedBlock
 
 -- ---- the tokens of each, and then the tokens ws
 
-abbrev pub conditionThen : Condition → List ℕ → List ℕ
-conditionThen (equal a b) ws = a .key ∷ word.equal ∷ b .key ∷ ws
-conditionThen (unequal a b) ws = a .key ∷ word.unequal ∷ b .key ∷ ws
+abbrev pub conditionThen : NamedCondition → List ℕ → List ℕ
+conditionThen (NamedCondition.equal a b) ws = a .key ∷ word.equalKey ∷ b .key ∷ ws
+conditionThen (NamedCondition.unequal a b) ws = a .key ∷ word.unequalKey ∷ b .key ∷ ws
 
 abbrev mutual
-  pub statementThen : Statement → List ℕ → List ℕ
-  statementThen skip ws = word.skip ∷ word.semicolon ∷ ws
-  statementThen (copy a b) ws = a .key ∷ word.becomes ∷ b .key ∷ word.semicolon ∷ ws
-  statementThen (apply a f b) ws = a .key ∷ word.becomes ∷ f .key ∷ word.lparen ∷ b .key ∷ word.rparen ∷ word.semicolon ∷ ws
-  statementThen (apply-two a f b c) ws = a .key ∷ word.becomes ∷ f .key ∷ word.lparen ∷ b .key ∷ word.comma ∷ c .key ∷ word.rparen ∷ word.semicolon ∷ ws
-  statementThen (assume c) ws = word.assume ∷ conditionThen c (word.semicolon ∷ ws)
-  statementThen (assert c) ws = word.assert ∷ conditionThen c (word.semicolon ∷ ws)
-  statementThen (if c b e) ws = word.if ∷ conditionThen c (word.lbrace ∷ blockThen b (word.rbrace ∷ elseThen e ws))
-  statementThen (while c b) ws = word.while ∷ conditionThen c (word.lbrace ∷ blockThen b (word.rbrace ∷ ws))
+  pub statementThen : NamedStatement → List ℕ → List ℕ
+  statementThen NamedStatement.skip ws = word.skipKey ∷ word.semicolonKey ∷ ws
+  statementThen (NamedStatement.copy a b) ws = a .key ∷ word.becomesKey ∷ b .key ∷ word.semicolonKey ∷ ws
+  statementThen (NamedStatement.apply a f b) ws = a .key ∷ word.becomesKey ∷ f .key ∷ word.lparenKey ∷ b .key ∷ word.rparenKey ∷ word.semicolonKey ∷ ws
+  statementThen (NamedStatement.apply-two a f b c) ws = a .key ∷ word.becomesKey ∷ f .key ∷ word.lparenKey ∷ b .key ∷ word.commaKey ∷ c .key ∷ word.rparenKey ∷ word.semicolonKey ∷ ws
+  statementThen (NamedStatement.assume c) ws = word.assumeKey ∷ conditionThen c (word.semicolonKey ∷ ws)
+  statementThen (NamedStatement.assert c) ws = word.assertKey ∷ conditionThen c (word.semicolonKey ∷ ws)
+  statementThen (NamedStatement.if c b e) ws = word.ifKey ∷ conditionThen c (word.lbraceKey ∷ blockThen b (word.rbraceKey ∷ elseThen e ws))
+  statementThen (NamedStatement.while c b) ws = word.whileKey ∷ conditionThen c (word.lbraceKey ∷ blockThen b (word.rbraceKey ∷ ws))
 
-  pub elseThen : Else → List ℕ → List ℕ
-  elseThen absent ws = ws
-  elseThen (present b) ws = word.else ∷ word.lbrace ∷ blockThen b (word.rbrace ∷ ws)
+  pub elseThen : NamedElse → List ℕ → List ℕ
+  elseThen NamedElse.absent ws = ws
+  elseThen (NamedElse.present b) ws = word.elseKey ∷ word.lbraceKey ∷ blockThen b (word.rbraceKey ∷ ws)
 
-  pub blockThen : Block → List ℕ → List ℕ
-  blockThen empty ws = ws
-  blockThen (c then b) ws = statementThen c (blockThen b ws)
+  pub blockThen : NamedBlock → List ℕ → List ℕ
+  blockThen NamedBlock.empty ws = ws
+  blockThen (c followedBy b) ws = statementThen c (blockThen b ws)
 
 abbrev pub namesThen : List Name → List ℕ → List ℕ
 namesThen [] ws = ws
 namesThen (a ∷ bs) ws = a .key ∷ namesThen bs ws
 
 abbrev pub entryThen : Entry → List ℕ → List ℕ
-entryThen (one f) ws = f .key ∷ word.slash ∷ word.one ∷ ws
-entryThen (two f) ws = f .key ∷ word.slash ∷ word.two ∷ ws
+entryThen (Entry.one f) ws = f .key ∷ word.slashKey ∷ word.oneKey ∷ ws
+entryThen (Entry.two f) ws = f .key ∷ word.slashKey ∷ word.twoKey ∷ ws
 
 abbrev pub entriesThen : List Entry → List ℕ → List ℕ
 entriesThen [] ws = ws
@@ -87,20 +87,20 @@ entriesThen (f ∷ fs) ws = entryThen f (entriesThen fs ws)
 
 abbrev pub functionsThen : List Entry → List ℕ → List ℕ
 functionsThen [] ws = ws
-functionsThen (f ∷ fs) ws = word.funs ∷ entriesThen (f ∷ fs) (word.semicolon ∷ ws)
+functionsThen (f ∷ fs) ws = word.funsKey ∷ entriesThen (f ∷ fs) (word.semicolonKey ∷ ws)
 
-abbrev pub sentence : Macro → List ℕ
-sentence m = word.vars ∷ m .first .key ∷ namesThen (m .others) (word.semicolon ∷ functionsThen (m .entries) (blockThen (m .body) []))
+abbrev pub namedSentence : NamedMacro → List ℕ
+namedSentence m = word.varsKey ∷ m .first .key ∷ namesThen (m .others) (word.semicolonKey ∷ functionsThen (m .entries) (blockThen (m .body) []))
 
 -- ---- sentences, and what begins one
 
 -- The tokens are a sentence.
 pub record Sentence (ws : List ℕ) : Type 0 where
-  pub macro : Macro
-  pub spelled : sentence macro ≡ ws
+  pub macro : NamedMacro
+  pub spelled : namedSentence macro ≡ ws
 
 -- "Fits the grammar?": some sentence begins with the tokens.
 pub record Viable (ws : List ℕ) : Type 0 where
-  pub macro : Macro
+  pub macro : NamedMacro
   pub further : List ℕ
-  pub spelled : sentence macro ≡ ws ++ further
+  pub spelled : namedSentence macro ≡ ws ++ further

@@ -1,5 +1,4 @@
 pub mod Lines
 pub mod Shown
 pub mod Examples
-pub mod ShownLaws
 pub mod Bound

@@ -69,36 +69,36 @@ abbrev pub atWord : List ℕ
 atWord = 32 ∷ 97 ∷ 116 ∷ 32 ∷ []
 
 -- " := "
-abbrev pub becomes : List ℕ
-becomes = 32 ∷ 58 ∷ 61 ∷ 32 ∷ []
+abbrev pub becomesWord : List ℕ
+becomesWord = 32 ∷ 58 ∷ 61 ∷ 32 ∷ []
 
 -- "assume "
 abbrev pub assumeWord : List ℕ
 assumeWord = 97 ∷ 115 ∷ 115 ∷ 117 ∷ 109 ∷ 101 ∷ 32 ∷ []
 
 -- " = "
-abbrev pub equals : List ℕ
-equals = 32 ∷ 61 ∷ 32 ∷ []
+abbrev pub equalsWord : List ℕ
+equalsWord = 32 ∷ 61 ∷ 32 ∷ []
 
 -- " != "
-abbrev pub differs : List ℕ
-differs = 32 ∷ 33 ∷ 61 ∷ 32 ∷ []
+abbrev pub differsWord : List ℕ
+differsWord = 32 ∷ 33 ∷ 61 ∷ 32 ∷ []
 
 -- " "
-abbrev pub blank : List ℕ
-blank = 32 ∷ []
+abbrev pub blankWord : List ℕ
+blankWord = 32 ∷ []
 
 -- "("
-abbrev pub opening : List ℕ
-opening = 40 ∷ []
+abbrev pub openingWord : List ℕ
+openingWord = 40 ∷ []
 
 -- ","
-abbrev pub comma : List ℕ
-comma = 44 ∷ []
+abbrev pub commaWord : List ℕ
+commaWord = 44 ∷ []
 
 -- ")"
-abbrev pub closing : List ℕ
-closing = 41 ∷ []
+abbrev pub closingWord : List ℕ
+closingWord = 41 ∷ []
 
 -- ── lines ──
 -- A line: its pieces, and a line feed.
@@ -114,12 +114,12 @@ linesOf f (x ∷ l) = f x ++ linesOf f l
 -- "`start` with register and value", for register r and those behind it, by their names.
 unfoldable pub startLines : (ℕ → List ℕ) → ℕ → List ℕ → List ℕ
 startLines register r [] = []
-startLines register r (value ∷ values) = line (startWord ∷ register r ∷ blank ∷ numeral value ∷ []) ++ startLines register (r + 1) values
+startLines register r (value ∷ values) = line (startWord ∷ register r ∷ blankWord ∷ numeral value ∷ []) ++ startLines register (r + 1) values
 
 -- "`row` with function, two arguments, result", the second argument 0 for a function of one, as in the packed bytes.
 unfoldable pub rowLine : (ℕ → List ℕ) → Header → Row → List ℕ
 rowLine function h r =
-    line (rowWord ∷ function (r .function) ∷ blank ∷ numeral (r .first) ∷ blank ∷ numeral (secondWritten h r) ∷ blank ∷ numeral (r .result) ∷ [])
+    line (rowWord ∷ function (r .function) ∷ blankWord ∷ numeral (r .first) ∷ blankWord ∷ numeral (secondWritten h r) ∷ blankWord ∷ numeral (r .result) ∷ [])
 
 -- "`verdict` and pass, fail or incoherent. `pairs` and how many".
 unfoldable pub verdictLines : List ℕ → ℕ → List ℕ
@@ -128,13 +128,13 @@ verdictLines word pairs = line (verdictWord ∷ word ∷ []) ++ line (pairsWord 
 module _ (names : Names) (h : Header) where
   -- "each letter as its statement without `;`, a test after `assume`": `a := b`, `a := f(b)`, `a := f(b,c)`, `assume a = b`, `assume a != b`.
   unfoldable pub letterLine : Letter → List ℕ
-  letterLine (Copy x y) = line (names .register x ∷ becomes ∷ names .register y ∷ [])
+  letterLine (Copy x y) = line (names .register x ∷ becomesWord ∷ names .register y ∷ [])
   letterLine (Apply x f y z) =
       pick (has (h .binary) f)
-      (λ _. line (names .register x ∷ becomes ∷ names .function f ∷ opening ∷ names .register y ∷ comma ∷ names .register z ∷ closing ∷ []))
-      λ _. line (names .register x ∷ becomes ∷ names .function f ∷ opening ∷ names .register y ∷ closing ∷ [])
-  letterLine (Equal x y) = line (assumeWord ∷ names .register x ∷ equals ∷ names .register y ∷ [])
-  letterLine (Unequal x y) = line (assumeWord ∷ names .register x ∷ differs ∷ names .register y ∷ [])
+      (λ _. line (names .register x ∷ becomesWord ∷ names .function f ∷ openingWord ∷ names .register y ∷ commaWord ∷ names .register z ∷ closingWord ∷ []))
+      λ _. line (names .register x ∷ becomesWord ∷ names .function f ∷ openingWord ∷ names .register y ∷ closingWord ∷ [])
+  letterLine (Equal x y) = line (assumeWord ∷ names .register x ∷ equalsWord ∷ names .register y ∷ [])
+  letterLine (Unequal x y) = line (assumeWord ∷ names .register x ∷ differsWord ∷ names .register y ∷ [])
 
   -- "`letters`, their count, each letter".
   unfoldable pub letterLines : List Letter → List ℕ
@@ -146,7 +146,7 @@ module _ (names : Names) (h : Header) where
 
   -- The whole report.
   unfoldable pub report : Printed → List ℕ
-  report (pass pairs) = verdictLines passWord pairs
-  report (incoherent pairs letters) = verdictLines incoherentWord pairs ++ letterLines letters
-  report (fail pairs letters tables) = verdictLines failWord pairs ++ (letterLines letters ++ modelLines tables)
-  report (refused number place) = line (refusedWord ∷ numeral number ∷ atWord ∷ numeral place ∷ [])
+  report (Printed.pass pairs) = verdictLines passWord pairs
+  report (Printed.incoherent pairs letters) = verdictLines incoherentWord pairs ++ letterLines letters
+  report (Printed.fail pairs letters tables) = verdictLines failWord pairs ++ (letterLines letters ++ modelLines tables)
+  report (Printed.refused number place) = line (refusedWord ∷ numeral number ∷ atWord ∷ numeral place ∷ [])

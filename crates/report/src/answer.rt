@@ -8,8 +8,8 @@ use traces::letter_at;
 ghost use mathlib.Core.Path.{_≡_};
 ghost use Prim.Native.Nat.{_+_, _^_, _<_};
 ghost use lib.ListN.{getD};
-ghost use Rattle.report.specs.Shown.{letterOf};
-ghost use Rattle.report.specs.ShownLaws.{wordIn, rowIn, wordValues};
+ghost use Rattle.report.specs.Shown.{letterOrCopy};
+ghost use Rattle.report.specs.Shown.{wordAt, rowIn, wordValues};
 
 /// The bytes of a word.
 pub const WORD_BYTES: usize = 2;
@@ -38,7 +38,7 @@ fn byte_at(bytes: &[u8], at: usize) -> u64
 /// The two bytes at `at` as a number.
 pub fn word_at(bytes: &[u8], at: usize) -> u64
     requires { ⌜ at + 1 < 2 ^ 64 ⌝ }
-    ensures { λ r. ⌜ (r ≡ wordIn (now (bytes .entry)) at) × (r < wordValues) ⌝ }
+    ensures { λ r. ⌜ (r ≡ wordAt (now (bytes .entry)) at) × (r < wordValues) ⌝ }
 {
     byte_at(bytes, at) * BYTE + byte_at(bytes, at + 1)
 }
@@ -55,7 +55,7 @@ pub fn row_at(bytes: &[u8], at: usize) -> u64
 
 /// Letter k.
 pub fn letter_of(h: Header, bytes: &[u8], k: usize) -> Letter
-    ensures { λ r. ⌜ r ≡ letterOf h (now (bytes .entry)) k ⌝ }
+    ensures { λ r. ⌜ r ≡ letterOrCopy h (now (bytes .entry)) k ⌝ }
 {
     let decoded = letter_at(h, bytes, k);
     let DecodedLetter::Letter(letter) = decoded else {

@@ -8,14 +8,14 @@ use letters::Header;
 use letters::limits::MOST_FUNCTIONS;
 use letters::limits::MOST_REGISTERS;
 ghost use mathlib.Core.Path.{_≡_};
-ghost use Rattle.report.specs.Shown.{reportOf, Wrote};
+ghost use Rattle.report.specs.Shown.{reportOf, WroteText};
 ghost use Rattle.report.specs.Bound.{Limited};
 
 /// How many numbers a word of two bytes holds. A verdict has fewer letters.
 pub const WORD_VALUES: usize = 65536;
 
 /// What is to be printed.
-pub enum Verdict {
+pub enum ReportedVerdict {
     /// Pass, with the number of pairs.
     Pass(u64),
     /// Incoherent, with the numbers of pairs and of letters in the answer.
@@ -35,14 +35,14 @@ pub enum ReportWritten {
 }
 
 // The verdict as it is, with what the types of its numbers say of them.
-fn limited(verdict: Verdict) -> Verdict
+fn limited(verdict: ReportedVerdict) -> ReportedVerdict
     ensures { λ r. ⌜ (r ≡ verdict) × Limited r ⌝ }
 {
     match verdict {
-        Verdict::Pass(pairs) => Verdict::Pass(pairs),
-        Verdict::Incoherent(pairs, letters) => Verdict::Incoherent(pairs, letters),
-        Verdict::Fail(pairs, letters) => Verdict::Fail(pairs, letters),
-        Verdict::Refused(number, place) => Verdict::Refused(number, place),
+        ReportedVerdict::Pass(pairs) => ReportedVerdict::Pass(pairs),
+        ReportedVerdict::Incoherent(pairs, letters) => ReportedVerdict::Incoherent(pairs, letters),
+        ReportedVerdict::Fail(pairs, letters) => ReportedVerdict::Fail(pairs, letters),
+        ReportedVerdict::Refused(number, place) => ReportedVerdict::Refused(number, place),
     }
 }
 
@@ -52,11 +52,11 @@ pub fn write_report(
     registers: [u64; MOST_REGISTERS],
     functions: [u64; MOST_FUNCTIONS],
     h: Header,
-    verdict: Verdict,
+    verdict: ReportedVerdict,
     answer: &[u8],
     out: &mut [u8],
 ) -> ReportWritten
-    ensures { λ r. ⌜ Wrote (reportOf registers functions h verdict (now (answer .entry))) (now (out .entry)) (now (out .exit)) r ⌝ }
+    ensures { λ r. ⌜ WroteText (reportOf registers functions h verdict (now (answer .entry))) (now (out .entry)) (now (out .exit)) r ⌝ }
 {
     let known = limited(verdict);
     // The same writer counts the bytes first, on a buffer that has none.

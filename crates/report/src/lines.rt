@@ -1,5 +1,5 @@
 // The lines of a report, each appended to a lent buffer.
-use super::Verdict;
+use super::ReportedVerdict;
 use super::answer::ROW_BYTES;
 use super::answer::WORD_BYTES;
 use super::answer::letter_of;
@@ -21,13 +21,13 @@ ghost use Rattle.base.specs.Masks.{has};
 ghost use Rattle.letters.specs.declared.Letter.the-variants.{Apply};
 ghost use Rattle.semantics.specs.TablesRead.{unitsIn, rowFrom, readTables};
 ghost use Rattle.semantics.specs.PackedTables.{rowBytes, wordBytes};
-ghost use Rattle.text.specs.Appending.{Appended, Room};
+ghost use Rattle.text.specs.Appending.{Appended, PlaceInRange};
 ghost use Rattle.text.specs.Numerals.{numeral};
 ghost use Rattle.text.specs.Names.{nameText};
 ghost use Rattle.text.specs.Templates.{filledIn};
 ghost use Rattle.report.specs.Lines.{line, linesOf, pairsWord, letterLine, letterLines, startLines, rowLine, modelLines};
 ghost use Rattle.report.specs.Shown.{namesOf, lettersIn, modelStart, reportOf};
-ghost use Rattle.report.specs.ShownLaws.{wordValues};
+ghost use Rattle.report.specs.Shown.{wordValues};
 
 // The bytes of a word.
 const WORD_SIZE: u32 = WORD_BYTES as u32;
@@ -80,7 +80,7 @@ fn put_two(
     a: u8,
     b: u8,
 ) -> usize
-    requires { ⌜ Room at (filledIn (now template) (getD registers a 0 ∷ getD registers b 0 ∷ 0 ∷ 0 ∷ [])) ⌝ }
+    requires { ⌜ PlaceInRange at (filledIn (now template) (getD registers a 0 ∷ getD registers b 0 ∷ 0 ∷ 0 ∷ [])) ⌝ }
     ensures { λ r. ⌜ Appended (now (out .entry)) at (filledIn (now (template .entry)) (getD registers a 0 ∷ getD registers b 0 ∷ 0 ∷ 0 ∷ [])) (now (out .exit)) r ⌝ }
 {
     let first = register_name(registers, a);
@@ -100,7 +100,7 @@ fn put_application(
     first: u8,
     second: u8,
 ) -> usize
-    requires { ⌜ Room at (letterLine (namesOf registers functions) h (Apply target function first second)) ⌝ }
+    requires { ⌜ PlaceInRange at (letterLine (namesOf registers functions) h (Apply target function first second)) ⌝ }
     ensures { λ r. ⌜ Appended (now (out .entry)) at (letterLine (namesOf registers functions) h (Apply target function first second)) (now (out .exit)) r ⌝ }
 {
     let result = register_name(registers, target);
@@ -122,7 +122,7 @@ fn put_letter(
     functions: [u64; MOST_FUNCTIONS],
     letter: Letter,
 ) -> usize
-    requires { ⌜ Room at (letterLine (namesOf registers functions) h letter) ⌝ }
+    requires { ⌜ PlaceInRange at (letterLine (namesOf registers functions) h letter) ⌝ }
     ensures { λ r. ⌜ Appended (now (out .entry)) at (letterLine (namesOf registers functions) h letter) (now (out .exit)) r ⌝ }
 {
     match letter {
@@ -164,7 +164,7 @@ fn put_letters(
     answer: &[u8],
     count: u16,
 ) -> usize
-    requires { ⌜ Room at (linesOf (letterLine (namesOf registers functions) h) (lettersIn h (now answer) 0 count)) ⌝ }
+    requires { ⌜ PlaceInRange at (linesOf (letterLine (namesOf registers functions) h) (lettersIn h (now answer) 0 count)) ⌝ }
     ensures { λ r. ⌜ Appended (now (out .entry)) at (linesOf (letterLine (namesOf registers functions) h) (lettersIn h (now (answer .entry)) 0 count)) (now (out .exit)) r ⌝ }
 {
     let mut next = at;
@@ -187,7 +187,7 @@ fn put_execution(
     answer: &[u8],
     count: u16,
 ) -> usize
-    requires { ⌜ Room at (letterLines (namesOf registers functions) h (lettersIn h (now answer) 0 count)) ⌝ }
+    requires { ⌜ PlaceInRange at (letterLines (namesOf registers functions) h (lettersIn h (now answer) 0 count)) ⌝ }
     ensures { λ r. ⌜ Appended (now (out .entry)) at (letterLines (namesOf registers functions) h (lettersIn h (now (answer .entry)) 0 count)) (now (out .exit)) r ⌝ }
 {
     let number = count as u64;
@@ -204,7 +204,7 @@ fn put_starts(
     start: u32,
     count: u8,
 ) -> usize
-    requires { ⌜ Room at (startLines (λ r. nameText (getD registers r 0)) 0 (unitsIn wordBytes count (drop start (now answer)))) ⌝ }
+    requires { ⌜ PlaceInRange at (startLines (λ r. nameText (getD registers r 0)) 0 (unitsIn wordBytes count (drop start (now answer)))) ⌝ }
     ensures { λ r. ⌜ Appended (now (out .entry)) at
         (startLines (λ r. nameText (getD registers r 0)) 0 (unitsIn wordBytes count (drop start (now (answer .entry))))) (now (out .exit)) r ⌝ }
 {
@@ -237,7 +237,7 @@ fn put_row(
     functions: [u64; MOST_FUNCTIONS],
     row: u64,
 ) -> usize
-    requires { ⌜ Room at (rowLine (λ f. nameText (getD functions f 0)) h (rowFrom firstEdition h row)) ⌝ }
+    requires { ⌜ PlaceInRange at (rowLine (λ f. nameText (getD functions f 0)) h (rowFrom firstEdition h row)) ⌝ }
     ensures { λ r. ⌜ Appended (now (out .entry)) at (rowLine (λ f. nameText (getD functions f 0)) h (rowFrom firstEdition h row)) (now (out .exit)) r ⌝ }
 {
     let function = (row / FUNCTION % FUNCTION_VALUES) as u8;
@@ -258,7 +258,7 @@ fn put_rows(
     start: u32,
     count: u64,
 ) -> usize
-    requires { ⌜ Room at (linesOf (rowLine (λ f. nameText (getD functions f 0)) h)
+    requires { ⌜ PlaceInRange at (linesOf (rowLine (λ f. nameText (getD functions f 0)) h)
         (map (rowFrom firstEdition h) (unitsIn rowBytes count (drop start (now answer))))) × (count < wordValues) ⌝ }
     ensures { λ r. ⌜ Appended (now (out .entry)) at (linesOf (rowLine (λ f. nameText (getD functions f 0)) h)
         (map (rowFrom firstEdition h) (unitsIn rowBytes count (drop start (now (answer .entry)))))) (now (out .exit)) r ⌝ }
@@ -283,7 +283,7 @@ fn put_model(
     answer: &[u8],
     start: u32,
 ) -> usize
-    requires { ⌜ Room at (modelLines (namesOf registers functions) h (readTables firstEdition h (drop start (now answer))))
+    requires { ⌜ PlaceInRange at (modelLines (namesOf registers functions) h (readTables firstEdition h (drop start (now answer))))
         × (start < modelStart wordValues) ⌝ }
     ensures { λ r. ⌜ Appended (now (out .entry)) at (modelLines (namesOf registers functions) h (readTables firstEdition h (drop start (now (answer .entry))))) (now (out .exit)) r ⌝ }
 {
@@ -304,7 +304,7 @@ fn put_model(
 
 // Appends the two lines that every verdict has.
 fn put_verdict(out: &mut [u8], at: usize, verdict: &[u8], pairs: u64) -> usize
-    requires { ⌜ Room at (filledIn (now verdict) (0 ∷ 0 ∷ 0 ∷ 0 ∷ []) ++ line (pairsWord ∷ numeral pairs ∷ [])) ⌝ }
+    requires { ⌜ PlaceInRange at (filledIn (now verdict) (0 ∷ 0 ∷ 0 ∷ 0 ∷ []) ++ line (pairsWord ∷ numeral pairs ∷ [])) ⌝ }
     ensures { λ r. ⌜ Appended (now (out .entry)) at (filledIn (now (verdict .entry)) (0 ∷ 0 ∷ 0 ∷ 0 ∷ []) ++ line (pairsWord ∷ numeral pairs ∷ [])) (now (out .exit)) r ⌝ }
 {
     let next = put_line(out, at, verdict, [0, 0, 0, 0]);
@@ -318,25 +318,25 @@ pub fn put_report(
     registers: [u64; MOST_REGISTERS],
     functions: [u64; MOST_FUNCTIONS],
     h: Header,
-    verdict: Verdict,
+    verdict: ReportedVerdict,
     answer: &[u8],
 ) -> usize
-    requires { ⌜ Room at (reportOf registers functions h verdict (now answer)) ⌝ }
+    requires { ⌜ PlaceInRange at (reportOf registers functions h verdict (now answer)) ⌝ }
     ensures { λ r. ⌜ Appended (now (out .entry)) at (reportOf registers functions h verdict (now (answer .entry))) (now (out .exit)) r ⌝ }
 {
     match verdict {
-        Verdict::Pass(pairs) => put_verdict(out, at, b"verdict pass\n", pairs),
-        Verdict::Incoherent(pairs, letters) => {
+        ReportedVerdict::Pass(pairs) => put_verdict(out, at, b"verdict pass\n", pairs),
+        ReportedVerdict::Incoherent(pairs, letters) => {
             let next = put_verdict(out, at, b"verdict incoherent\n", pairs);
             put_execution(out, next, h, registers, functions, answer, letters)
         }
-        Verdict::Fail(pairs, letters) => {
+        ReportedVerdict::Fail(pairs, letters) => {
             let mut next = put_verdict(out, at, b"verdict fail\n", pairs);
             next = put_execution(out, next, h, registers, functions, answer, letters);
             let start = WORD_SIZE * (letters as u32) + WORD_SIZE;
             put_model(out, next, h, registers, functions, answer, start)
         }
-        Verdict::Refused(number, place) => {
+        ReportedVerdict::Refused(number, place) => {
             let first = number as u64;
             put_line(out, at, b"refused 4 at 5\n", [first, place, 0, 0])
         }

@@ -11,15 +11,15 @@ use Rattle.traces.specs.Traces.{AllFit, packing}
 use Rattle.semantics.specs.Terms.{begin, traceOf, state}
 use Rattle.semantics.specs.Facts.{WellFormed}
 use Rattle.semantics.specs.Models.{Feasible}
-use Rattle.verdicts.specs.Verdict.{Answer, pass, fail, incoherent, refused, Kind, failing, showing, Delivered}
-use Rattle.verdicts.specs.AnswerPacking.{packed}
+use Rattle.verdict_theory.specs.Verdict.{VerdictAnswer, pass, fail, incoherent, refused, Kind, failing, showing, Delivered}
+use Rattle.verdict_theory.specs.AnswerPacking.{packed}
 use Rattle.search.specs.Tracing.{traceBytes}
 use Rattle.search.specs.declared.Packed.{Packed}
 use Rattle.search.specs.declared.Verdict.{Verdict}
 use Rattle.search.specs.declared.Verdict.the-variants.{Pass, Fail, Incoherent, Refused}
 
 -- What the enum says.
-abbrev pub answerOf : Verdict → Answer
+abbrev pub answerOf : Verdict → VerdictAnswer
 answerOf (Pass k) = pass k
 answerOf (Fail k l) = fail k l
 answerOf (Incoherent k l) = incoherent k l

@@ -15,8 +15,8 @@ use Rattle.macros.specs.Words.{WordBlock}
 use Rattle.macros.specs.Order.{Branch, first, second, Path}
 use Rattle.macros.specs.Walk.{Place, at, failure, Move, no-move, stand, walk}
 use Rattle.grammar.specs.Grammar.{Macro}
-use Rattle.syntax.specs.declared.Answer.{Answer}
-use Rattle.syntax.specs.declared.Macro as struct
+use Rattle.syntax.specs.declared.MacroRead.{MacroRead}
+use Rattle.syntax.specs.declared.CompiledMacro as struct
 use Rattle.syntax.specs.Answer.{heldMacro}
 use Rattle.refusals.specs.Order.{mostPoints}
 use Rattle.refusals.specs.Accepted.{Accepted}
@@ -29,7 +29,7 @@ abbrev pub branchNumber : Branch → ℕ
 branchNumber first = 0
 branchNumber second = 1
 
-module _ (program : struct.Macro) where
+module _ (program : struct.CompiledMacro) where
   -- The branches of point k of the table, as `choose` takes them. At the end, number `count`, there are none.
   abbrev pub branchesAt : ℕ → Branch → Move ℕ
   branchesAt k b = pick (ltb k (program .count)) (λ _. meant (moveOf (getD (program .points) (k % mostPoints) noPoint) (branchNumber b))) λ _. no-move
@@ -39,7 +39,7 @@ module _ (program : struct.Macro) where
   Performed w l = (p : Path) × (walk branchesAt 0 (begin (program .header)) p ≡ stand l (traceOf (program .header) w))
 
 -- The letters that are performed are exactly Definition 2's words of the body.
-pub record HasExecutions (program : struct.Macro) (body : Block) : Type 0 where
+pub record HasExecutions (program : struct.CompiledMacro) (body : Block) : Type 0 where
   -- "Complete executions": those that come to the end
   pub complete : (w : List Letter) → Performed program w (at (program .count)) ↔ WordBlock body w done
   -- "`assert C` is an if on C's opposite whose first branch ends the execution at a failure"
@@ -47,7 +47,7 @@ pub record HasExecutions (program : struct.Macro) (body : Block) : Type 0 where
   -- "A partial execution is any beginning of one, empty or whole included."
   pub partial : (w : List Letter) → ((l : Place ℕ) × Performed program w l) ↔ ((v : List Letter) × (o : Outcome) × WordBlock body (w ++ v) o)
 
-pub record Demand2Macros (text : List ℕ) (answer : Answer) : Type 0 where
+pub record Demand2Macros (text : List ℕ) (answer : MacroRead) : Type 0 where
   -- a text of the grammar is read, and no other one
   pub reads : (m : Macro) → Accepted text m → answer .refusal ≡ 0
   pub grammatical : answer .refusal ≡ 0 → (m : Macro) × Accepted text m
@@ -55,5 +55,5 @@ pub record Demand2Macros (text : List ℕ) (answer : Answer) : Type 0 where
   pub executes : (m : Macro) → Accepted text m → HasExecutions (answer .program) (m .body)
 
 module _ (given : Given) where
-  abbrev pub program : struct.Macro
+  abbrev pub program : struct.CompiledMacro
   program = heldMacro (given .macro)

@@ -26,18 +26,18 @@ abbrev pub Older : List ℕ → ℕ → Type 0
 Older t n = (j : ℕ) → 0 < j → j < n → parentAt t j < j
 
 -- The word of a header or letter; 0 for one that is not well formed, which is never asked for.
-abbrev pub wordOf : Answer ℕ → ℕ
-wordOf (value w) = w
-wordOf (refusal number place) = 0
+abbrev pub wordOrZero : Answer ℕ → ℕ
+wordOrZero (value w) = w
+wordOrZero (refusal number place) = 0
 
 -- The bytes of words, two a word.
-unfoldable pub wordBytes : List ℕ → List ℕ
-wordBytes [] = []
-wordBytes (w ∷ ws) = w / 256 ∷ w % 256 ∷ wordBytes ws
+unfoldable pub bytesOfWords : List ℕ → List ℕ
+bytesOfWords [] = []
+bytesOfWords (w ∷ ws) = w / 256 ∷ w % 256 ∷ bytesOfWords ws
 
 abbrev pub letterWords : Header → List Letter → List ℕ
-letterWords h ls = map (λ a. wordOf (encodeLetter firstEdition h a)) ls
+letterWords h ls = map (λ a. wordOrZero (encodeLetter firstEdition h a)) ls
 
 -- The bytes of a trace.
 unfoldable pub traced : Header → List Letter → List ℕ
-traced h ls = wordBytes (wordOf (encodeHeader firstEdition h) ∷ letterWords h ls)
+traced h ls = bytesOfWords (wordOrZero (encodeHeader firstEdition h) ∷ letterWords h ls)

@@ -2,21 +2,21 @@
 use Prim.Native.Nat.{ℕ, zero, suc, _/_, _%_}
 use mathlib.Core.List.{List, [], _∷_}
 use Rattle.letters.specs.declared.Letter.{Letter}
-use Rattle.blocks.specs.declared.Point.{Point}
+use Rattle.blocks.specs.declared.PointEntry.{PointEntry}
 use Rattle.table.specs.Table.{parentAt, branchAt}
 use Rattle.exploration.specs.Moves.{moveOf, letterOf}
 use Rattle.exploration.specs.Exploring.{pointOf}
 
 -- The letter that branch b performs at pair i.
-unfoldable pub letterAt : List Point → List ℕ → ℕ → ℕ → Letter
-letterAt sp t i b = letterOf (moveOf (pointOf sp t i) b)
+unfoldable pub letterOfBranch : List PointEntry → List ℕ → ℕ → ℕ → Letter
+letterOfBranch sp t i b = letterOf (moveOf (pointOf sp t i) b)
 
 -- The letters up to pair j, and then those of `rest`. f is at least j.
-unfoldable pub trailTo : List Point → List ℕ → ℕ → ℕ → List Letter → List Letter
+unfoldable pub trailTo : List PointEntry → List ℕ → ℕ → ℕ → List Letter → List Letter
 trailTo sp t zero j rest = rest
 trailTo sp t (suc f) zero rest = rest
-trailTo sp t (suc f) (suc j) rest = trailTo sp t f (parentAt t (suc j)) (letterAt sp t (parentAt t (suc j)) (branchAt t (suc j)) ∷ rest)
+trailTo sp t (suc f) (suc j) rest = trailTo sp t f (parentAt t (suc j)) (letterOfBranch sp t (parentAt t (suc j)) (branchAt t (suc j)) ∷ rest)
 
 -- The letters of the execution that move number d ends.
-unfoldable pub trailOf : List Point → List ℕ → ℕ → List Letter
-trailOf sp t d = trailTo sp t (d / 2) (d / 2) (letterAt sp t (d / 2) (d % 2) ∷ [])
+unfoldable pub trailOf : List PointEntry → List ℕ → ℕ → List Letter
+trailOf sp t d = trailTo sp t (d / 2) (d / 2) (letterOfBranch sp t (d / 2) (d % 2) ∷ [])

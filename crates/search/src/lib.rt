@@ -1,5 +1,5 @@
 // The verdict on a macro: what the search over its pairs has found, with the packed trace of an execution and its model.
-use blocks::Point;
+use blocks::PointEntry;
 use exploration::POINTS;
 use exploration::Search;
 use exploration::letter_of;
@@ -13,9 +13,9 @@ use letters::refusal_numbers::OUTPUT_TOO_SMALL;
 use letters::refusal_numbers::TABLE_TOO_SMALL;
 use letters::words::encode_header;
 use letters::words::encode_letter;
-use shown::Shown;
-use shown::show;
-use syntax::Macro;
+use model_writer::Shown;
+use model_writer::show;
+use syntax::CompiledMacro;
 ghost use mathlib.Core.Path.{_≡_};
 ghost use Prim.Native.Nat.{_+_, _*_, _/_, _≤_, _<_};
 ghost use lib.ListN.{length, drop};
@@ -24,13 +24,13 @@ ghost use Rattle.records.specs.Records.{recordBytes};
 ghost use Rattle.letters.specs.Editions.{firstEdition};
 ghost use Rattle.letters.specs.Encoding.{encodeHeader, encodeLetter};
 ghost use Rattle.search.specs.Trails.{trailOf};
-ghost use Rattle.search.specs.Tracing.{traceBytes, lastLetter, mostMoves, Older, wordOf, traced};
-ghost use Rattle.search.specs.Modelling.{Modelled};
+ghost use Rattle.search.specs.Tracing.{traceBytes, lastLetter, mostMoves, Older, wordOrZero, traced};
+ghost use Rattle.search.specs.Modelling.{ModelWrittenBehind};
 ghost use Rattle.search.specs.Answering.{answerOf, Delivers};
 ghost use Rattle.semantics.specs.Models.{Feasible};
-ghost use Rattle.verdicts.specs.Demand3.{Demand3};
-ghost use Rattle.verdicts.specs.Verdict.{breaking, failing};
-ghost use Rattle.search.specs.MacroSearch.{Readable, Tells};
+ghost use Rattle.verdict_theory.specs.Demand3.{Demand3};
+ghost use Rattle.verdict_theory.specs.Verdict.{breaking, failing};
+ghost use Rattle.search.specs.MacroSearch.{HoldsMacro, Tells};
 
 // ---- the packed trace of an execution
 
@@ -52,7 +52,7 @@ pub struct Packed {
 
 // The word of a letter; 0 for one that is not well formed.
 fn letter_word(header: Header, letter: Letter) -> u16
-    ensures { λ r. ⌜ r ≡ wordOf (encodeLetter firstEdition header letter) ⌝ }
+    ensures { λ r. ⌜ r ≡ wordOrZero (encodeLetter firstEdition header letter) ⌝ }
 {
     let coded = encode_letter(header, letter);
     match coded {
@@ -67,7 +67,7 @@ fn letter_word(header: Header, letter: Letter) -> u16
 
 // The word of a header; 0 for one that is not well formed.
 fn header_word(header: Header) -> u16
-    ensures { λ r. ⌜ r ≡ wordOf (encodeHeader firstEdition header) ⌝ }
+    ensures { λ r. ⌜ r ≡ wordOrZero (encodeHeader firstEdition header) ⌝ }
 {
     let coded = encode_header(header);
     match coded {
@@ -81,7 +81,7 @@ fn header_word(header: Header) -> u16
 }
 
 // The trace of the execution that move number d ends, written from its end.
-fn pack(header: Header, points: [Point; POINTS], table: &[u8], d: usize) -> Packed
+fn pack(header: Header, points: [PointEntry; POINTS], table: &[u8], d: usize) -> Packed
     requires { ⌜ (d < mostMoves) × (recordBytes * (d / 2) + recordBytes ≤ length (now table)) × Older (now table) (d / 2 + 1) ⌝ }
     ensures { λ r. ⌜ (drop (r .start) (r .bytes) ≡ traced header (trailOf points (now (table .entry)) d))
         × (length (r .bytes) ≡ traceBytes) × (r .start ≤ lastLetter) ⌝ }
@@ -155,7 +155,7 @@ pub enum Verdict {
 // Writes the shown model of the trace in the bytes from `start` on behind the place of the trace in the output; whether it fits.
 fn show_model(bytes: [u8; TRACE_BYTES], start: usize, output: &mut [u8]) -> bool
     requires { ⌜ (start ≤ traceBytes) × (traceBytes ≤ start + length (now output)) ⌝ }
-    ensures { λ r. ⌜ Modelled (drop start bytes) (now (output .entry)) r (now (output .exit)) ⌝ }
+    ensures { λ r. ⌜ ModelWrittenBehind (drop start bytes) (now (output .entry)) r (now (output .exit)) ⌝ }
 {
     let n = TRACE_BYTES - start;
     let shown = show(&bytes[start..], &mut output[n..]);
@@ -205,8 +205,8 @@ fn deliver_failing(packed: Packed, count: usize, output: &mut [u8]) -> Verdict
 // ---- the search over a macro
 
 // Searches all executions of a macro that was read, and answers. The table is left as the search has filled it.
-fn search_macro(program: Macro, table: &mut [u8], output: &mut [u8]) -> Verdict
-    requires { ⌜ Readable program ⌝ }
+fn search_macro(program: CompiledMacro, table: &mut [u8], output: &mut [u8]) -> Verdict
+    requires { ⌜ HoldsMacro program ⌝ }
     ensures { λ r. ⌜ Tells program (now (table .entry)) (now (output .entry)) r (now (output .exit)) ⌝ }
 {
     let n = table::capacity(table.len());

@@ -1,4 +1,4 @@
--- The closure is decided: a list of merges computes it.
+-- The closure computed, by a list of merges.
 use mathlib.Core.Bool.{Bool, true, false, not, _&&_}
 use mathlib.Core.List.{List, [], _∷_}
 use mathlib.Core.Option.{none, some}
@@ -6,7 +6,7 @@ use Prim.Native.Nat.{ℕ, zero, suc, _+_}
 use lib.Dec.{eqb}
 use lib.ListN.{length}
 use Rattle.semantics.specs.Terms.{Term, con, app}
-use Rattle.semantics.specs.Lists.{first}
+use Rattle.semantics.specs.Lists.{firstPassing}
 use Rattle.semantics.specs.TermEquality.{eqt}
 
 -- ── finding the name of a term's class, under a list of merges, the latest first: (a, b) sends the class named a to b ──
@@ -22,9 +22,9 @@ abbrev pub beside : Term → List Term → List (Term × Term) → List (Term ×
 beside a [] l = l
 beside a (x ∷ xs) l = (a, x) ∷ beside a xs l
 
-abbrev pub pairs : List Term → List Term → List (Term × Term)
-pairs [] ys = []
-pairs (x ∷ xs) ys = beside x ys (pairs xs ys)
+abbrev pub allPairs : List Term → List Term → List (Term × Term)
+allPairs [] ys = []
+allPairs (x ∷ xs) ys = beside x ys (allPairs xs ys)
 
 -- ── the merges ──
 abbrev pub agree : List (Term × Term) → Term → Term → Bool
@@ -49,7 +49,7 @@ tested (e ∷ es) = merge (tested es) e
 module _ (U : List Term) where
   abbrev pub saturate : ℕ → List (Term × Term) → List (Term × Term)
   saturate zero ms = ms
-  saturate (suc n) ms = elim (first (due ms) (pairs U U)) [ none ↦ ms | some p ↦ saturate n (merge ms p) ]
+  saturate (suc n) ms = elim (firstPassing (due ms) (allPairs U U)) [ none ↦ ms | some p ↦ saturate n (merge ms p) ]
 
 -- The merges for the terms U and the tests E: first the tests, then what they force.
 abbrev pub merges : List Term → List (Term × Term) → List (Term × Term)

@@ -1,4 +1,4 @@
--- What holds of every well-formed trace.
+-- Well-formed traces, and what holds of the state of each.
 use Prim.Native.Nat.{ℕ, _<_}
 use Rattle.semantics.specs.Terms.{_∈_, Term, con, app, State, constants, Trace, begin, _▸_, state}
 use Rattle.letters.specs.Letters.{Fits}

@@ -1,7 +1,7 @@
 -- The first incoherent and the first infeasible letter of a trace, computed.
 use Rattle.base.specs.Choice.{pick}
 use Rattle.semantics.specs.Terms.{Trace, begin, _▸_, state}
-use Rattle.semantics.specs.Judge.{coherent, fails, feasible}
+use Rattle.semantics.specs.Judge.{coherent, firstFailing, feasible}
 use Prim.Native.Nat.{ℕ}
 
 -- The longest coherent beginning of a trace.
@@ -11,12 +11,12 @@ coherentPart (ρ ▸ a) = pick (coherent (ρ ▸ a)) (λ _. ρ ▸ a) λ _. cohe
 
 -- The first incoherent letter of a run, 0 for none.
 unfoldable pub incoherentLetter : Trace → ℕ
-incoherentLetter ρ = fails coherent ρ
+incoherentLetter ρ = firstFailing coherent ρ
 
 -- The first infeasible letter of a run, 0 for none.
 unfoldable pub infeasibleLetter : Trace → ℕ
-infeasibleLetter ρ = fails (λ π. feasible (state π)) (coherentPart ρ)
+infeasibleLetter ρ = firstFailing (λ π. feasible (state π)) (coherentPart ρ)
 
 -- The first infeasible letter of a trace, coherent or not, 0 for none: the whole-trace engine's.
 unfoldable pub firstInfeasible : Trace → ℕ
-firstInfeasible ρ = fails (λ π. feasible (state π)) ρ
+firstInfeasible ρ = firstFailing (λ π. feasible (state π)) ρ

@@ -14,9 +14,9 @@ module _ {A : Type 0} where
   firstsAfter same kept (x ∷ xs) = pick (any (same x) kept) (λ _. firstsAfter same kept xs) λ _. firstsAfter same (kept ++ x ∷ []) xs
 
   -- The place, counted from k, of the first element that passes; 0 if none does.
-  unfoldable pub place : (A → Bool) → ℕ → List A → ℕ
-  place p k [] = 0
-  place p k (x ∷ xs) = pick (p x) (λ _. k) λ _. place p (suc k) xs
+  unfoldable pub firstPlace : (A → Bool) → ℕ → List A → ℕ
+  firstPlace p k [] = 0
+  firstPlace p k (x ∷ xs) = pick (p x) (λ _. k) λ _. firstPlace p (suc k) xs
 
   -- No element is the same as one before it.
   abbrev pub NoRepeats : (A → A → Bool) → List A → Type 0

@@ -1,4 +1,4 @@
--- Coherence and feasibility of a trace are decided by computing.
+-- Coherence and feasibility of a trace, computed.
 use mathlib.Core.Bool.{Bool, true, false, not, _&&_, _||_}
 use mathlib.Core.List.{List, [], _∷_}
 use mathlib.Core.Option.{none, some}
@@ -7,7 +7,7 @@ use lib.ListN.{length}
 use Rattle.letters.specs.declared.Letter.{Letter}
 use Rattle.letters.specs.declared.Letter.the-variants.{Copy, Apply, Equal, Unequal}
 use Rattle.semantics.specs.Terms.{Term, con, app, Trace, begin, _▸_, State, after, state}
-use Rattle.semantics.specs.Lists.{any, all, first}
+use Rattle.semantics.specs.Lists.{any, all, firstPassing}
 use Rattle.semantics.specs.Decide.{merges, agree}
 use Rattle.semantics.specs.Judgement.{size}
 
@@ -17,23 +17,23 @@ abbrev pub touch : List (Term × Term) → List Term → Term → Bool
 touch ms R t = any (agree ms t) R
 
 -- an application that is not in the list, with an argument that is
-abbrev pub new : List (Term × Term) → List Term → Term → Bool
-new ms R (con r) = false
-new ms R (app f a b) = not (touch ms R (app f a b)) && (touch ms R a || touch ms R b)
+abbrev pub isNewAbove : List (Term × Term) → List Term → Term → Bool
+isNewAbove ms R (con r) = false
+isNewAbove ms R (app f a b) = not (touch ms R (app f a b)) && (touch ms R a || touch ms R b)
 
 module _ (U : List Term) (ms : List (Term × Term)) where
   -- the list with such applications added, at most n
   abbrev pub grow : ℕ → List Term → List Term
   grow zero R = R
-  grow (suc n) R = elim (first (new ms R) U) [ none ↦ R | some p ↦ grow n (p ∷ R) ]
+  grow (suc n) R = elim (firstPassing (isNewAbove ms R) U) [ none ↦ R | some p ↦ grow n (p ∷ R) ]
 
 -- the merges of a trace
-abbrev pub names : State → List (Term × Term)
-names σ = merges (σ .terms) (σ .equals)
+abbrev pub mergesOf : State → List (Term × Term)
+mergesOf σ = merges (σ .terms) (σ .equals)
 
 -- the terms that equal t or lie above it
 abbrev pub above : State → Term → List Term
-above σ t = grow (σ .terms) (names σ) (length (σ .terms)) (t ∷ [])
+above σ t = grow (σ .terms) (mergesOf σ) (length (σ .terms)) (t ∷ [])
 
 -- ── registers ──
 -- the numbers below n
@@ -53,12 +53,12 @@ kept ms σ R (app f a b) = not (touch ms R a || touch ms R b) || (held ms σ (ap
 
 -- the condition on equal tests
 abbrev pub early : State → ℕ → ℕ → Bool
-early σ x y = all (kept (names σ) σ (above σ (σ .value x))) (σ .terms) && all (kept (names σ) σ (above σ (σ .value y))) (σ .terms)
+early σ x y = all (kept (mergesOf σ) σ (above σ (σ .value x))) (σ .terms) && all (kept (mergesOf σ) σ (above σ (σ .value y))) (σ .terms)
 
 -- the condition on applications
 abbrev pub memoizing : State → ℕ → ℕ → ℕ → ℕ → Bool
 memoizing σ x f y z =
-    let ms = names (after σ (Apply x f y z)) in
+    let ms = mergesOf (after σ (Apply x f y z)) in
     let t = app f (σ .value y) (σ .value z) in
     not (any (agree ms t) (σ .terms)) || held ms σ t
 
@@ -78,6 +78,6 @@ abbrev pub feasible : State → Bool
 feasible σ = let ms = merges (σ .terms) (σ .equals) in all (λ (p : Term × Term). not (agree ms (p .0) (p .1))) (σ .unequals)
 
 -- The first letter after which the test fails; 0 if there is none.
-abbrev pub fails : (Trace → Bool) → Trace → ℕ
-fails p (begin h) = 0
-fails p (ρ ▸ a) = elim (fails p ρ) [ zero ↦ elim (p (ρ ▸ a)) [ true ↦ 0 | false ↦ suc (size ρ) ] | suc k ↦ suc k ]
+abbrev pub firstFailing : (Trace → Bool) → Trace → ℕ
+firstFailing p (begin h) = 0
+firstFailing p (ρ ▸ a) = elim (firstFailing p ρ) [ zero ↦ elim (p (ρ ▸ a)) [ true ↦ 0 | false ↦ suc (size ρ) ] | suc k ↦ suc k ]

@@ -19,9 +19,9 @@ FailsAt P (begin h) k = ⊥
 FailsAt P (ρ ▸ a) k = FailsAt P ρ k ⊎ ((k ≡ suc (size ρ)) × P ρ × ¬ P (ρ ▸ a))
 
 -- P fails first at letter k, or holds of the trace where k is 0.
-abbrev pub Judged : (Trace → Type 0) → Trace → ℕ → Type 0
-Judged P ρ zero = P ρ
-Judged P ρ (suc k) = FailsAt P ρ (suc k)
+abbrev pub FirstFailure : (Trace → Type 0) → Trace → ℕ → Type 0
+FirstFailure P ρ zero = P ρ
+FirstFailure P ρ (suc k) = FailsAt P ρ (suc k)
 
 -- The longest coherent beginning of a trace.
 pub record Longest (ρ π : Trace) : Type 0 where
@@ -32,7 +32,7 @@ pub record Longest (ρ π : Trace) : Type 0 where
 -- The letters of a run, 0 for none: the first at which coherence fails, and the first at which the longest coherent beginning becomes
 -- infeasible. So no letter is named infeasible at or after the incoherent one.
 pub record Judgement (ρ : Trace) (incoherent infeasible : ℕ) : Type 0 where
-  pub coherence : Judged Coherent ρ incoherent
+  pub coherence : FirstFailure Coherent ρ incoherent
   pub part : Trace
   pub longest : Longest ρ part
-  pub feasibility : Judged (λ π. Feasible (state π)) part infeasible
+  pub feasibility : FirstFailure (λ π. Feasible (state π)) part infeasible

@@ -1,4 +1,4 @@
--- Tests over lists, what they say, and other laws of lists.
+-- Tests over lists.
 use mathlib.Core.Bool.{Bool, true, false, _&&_, _||_}
 use mathlib.Core.List.{List, [], _∷_}
 use mathlib.Core.Option.{Option, none, some}
@@ -13,6 +13,6 @@ module _ {A : Type 0} where
   all p (x ∷ xs) = p x && all p xs
 
   -- the first element that passes
-  abbrev pub first : (A → Bool) → List A → Option A
-  first p [] = none
-  first p (x ∷ xs) = elim (p x) [ true ↦ some x | false ↦ first p xs ]
+  abbrev pub firstPassing : (A → Bool) → List A → Option A
+  firstPassing p [] = none
+  firstPassing p (x ∷ xs) = elim (p x) [ true ↦ some x | false ↦ firstPassing p xs ]

@@ -25,7 +25,7 @@ pub record Numbering (U : List Term) (E : List (Term × Term)) (value : Term →
       → (k : ℕ) × (value t ≡ suc k) × Filled value before k
 
 -- "One row for each distinct application, in order of first computation."
-pub record Listing (U : List Term) (value : Term → ℕ) (rows : List Row) : Type 0 where
+pub record RowListing (U : List Term) (value : Term → ℕ) (rows : List Row) : Type 0 where
   -- the rows are those of the computed applications
   pub computed : (r : Row) → r ∈ rows → (f : ℕ) × (s : Term) × (t : Term) × (app f s t ∈ U) × (r ≡ rowOf value f s t)
   pub complete : (f : ℕ) (s t : Term) → app f s t ∈ U → rowOf value f s t ∈ rows
@@ -46,7 +46,7 @@ pub record IsShown (n : ℕ) (U : List Term) (E : List (Term × Term)) (t : Tabl
   -- each register's initial value, in order
   pub registers : length (t .starts) ≡ n
   pub starts : (r : ℕ) → r < n → getD (t .starts) r 0 ≡ value (con r)
-  pub listing : Listing U value (t .rows)
+  pub listing : RowListing U value (t .rows)
 
 -- The tables that are shown for a state, and the model that they describe, in which all its tests hold.
 pub record ShownModel (σ : State) (t : Tables) : Type 0 where

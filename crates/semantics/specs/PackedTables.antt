@@ -27,9 +27,9 @@ unfoldable pub secondWritten : Header → Row → ℕ
 secondWritten h r = pick (has (h .binary) (r .function)) (λ _. r .second) λ _. 0
 
 -- A row as one number.
-unfoldable pub rowWord : Edition → Header → Row → ℕ
-rowWord w h r = join (rowWidths w) (r .function ∷ r .first ∷ secondWritten h r ∷ r .result ∷ 0 ∷ [])
+unfoldable pub packedRow : Edition → Header → Row → ℕ
+packedRow w h r = join (rowWidths w) (r .function ∷ r .first ∷ secondWritten h r ∷ r .result ∷ 0 ∷ [])
 
 -- The tables as bytes.
 unfoldable pub packTables : Edition → Header → Tables → List ℕ
-packTables w h t = units wordBytes (t .count ∷ length (t .rows) ∷ t .starts) ++ units rowBytes (map (rowWord w h) (t .rows))
+packTables w h t = units wordBytes (t .count ∷ length (t .rows) ∷ t .starts) ++ units rowBytes (map (packedRow w h) (t .rows))

@@ -16,11 +16,11 @@ pub data Congruent (A : List (Term × Term)) : Term → Term → Type 0 where
 
 -- The first term stands in the second, below its root: the second is a proper superterm of the first. The source document leaves open whether
 -- a term is its own superterm. It makes no difference to Definition 5: a term equal to t_x or t_y modulo ≅ is held, by x or by y.
-pub data Within (t : Term) : Term → Type 0 where
-  first : {f : ℕ} {b : Term} → Within t (app f t b)
-  second : {f : ℕ} {a : Term} → Within t (app f a t)
-  in-first : {f : ℕ} {a b : Term} → Within t a → Within t (app f a b)
-  in-second : {f : ℕ} {a b : Term} → Within t b → Within t (app f a b)
+pub data ProperSubterm (t : Term) : Term → Type 0 where
+  first : {f : ℕ} {b : Term} → ProperSubterm t (app f t b)
+  second : {f : ℕ} {a : Term} → ProperSubterm t (app f a t)
+  in-first : {f : ℕ} {a b : Term} → ProperSubterm t a → ProperSubterm t (app f a b)
+  in-second : {f : ℕ} {a b : Term} → ProperSubterm t b → ProperSubterm t (app f a b)
 
 -- "t₂ is a superterm of t₁ modulo ≅ if there are terms t₁′, t₂′ such that t₁′ ≅ t₁, t₂′ ≅ t₂ and t₂′ is a superterm of t₁′."
 pub record SupertermModulo (A : List (Term × Term)) (t s : Term) : Type 0 where
@@ -28,7 +28,7 @@ pub record SupertermModulo (A : List (Term × Term)) (t s : Term) : Type 0 where
   pub upper : Term
   pub at-lower : Congruent A lower t
   pub at-upper : Congruent A upper s
-  pub within : Within lower upper
+  pub within : ProperSubterm lower upper
 
 -- "There must exist some y such that Comp(σ, y) ≅ t."
 abbrev pub HeldModulo : State → Term → Type 0

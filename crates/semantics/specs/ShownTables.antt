@@ -4,7 +4,7 @@ use Rattle.semantics.specs.Terms.{State, Term, con, app}
 use Rattle.semantics.specs.Tables.{Tables, Row, rowOf, sameCall}
 use Prim.Native.Nat.{ℕ, zero, suc}
 use Rattle.semantics.specs.Decide.{alike}
-use Rattle.semantics.specs.Firsts.{firstsAfter, place}
+use Rattle.semantics.specs.Firsts.{firstsAfter, firstPlace}
 use lib.ListN.{length}
 
 -- The first computed term of each class of the closure of the whole, in order of computation.
@@ -12,8 +12,8 @@ unfoldable pub classesOf : List Term → List (Term × Term) → List Term
 classesOf U E = firstsAfter (alike U E) [] U
 
 -- "Classes of computed terms get values 1, 2, .. by first computed term (initial constants in register order, then letter by letter)."
-unfoldable pub numberIn : List Term → List (Term × Term) → Term → ℕ
-numberIn U E t = place (alike U E t) 1 (classesOf U E)
+unfoldable pub classValue : List Term → List (Term × Term) → Term → ℕ
+classValue U E t = firstPlace (alike U E t) 1 (classesOf U E)
 
 -- The row of each computed application, in order of computation.
 unfoldable pub applications : (Term → ℕ) → List Term → List Row
@@ -23,7 +23,7 @@ applications v (app f s t ∷ ts) = rowOf v f s t ∷ applications v ts
 
 -- "One row for each distinct application, in order of first computation."
 unfoldable pub rowsOf : List Term → List (Term × Term) → List Row
-rowsOf U E = firstsAfter sameCall [] (applications (numberIn U E) U)
+rowsOf U E = firstsAfter sameCall [] (applications (classValue U E) U)
 
 -- The values of the initial constants of n registers, from register k on.
 unfoldable pub startsFrom : (Term → ℕ) → ℕ → ℕ → List ℕ
@@ -34,7 +34,7 @@ startsFrom v k (suc n) = v (con k) ∷ startsFrom v (suc k) n
 unfoldable pub shownTables : ℕ → List Term → List (Term × Term) → Tables
 shownTables n U E = record {
   count = suc (length (classesOf U E));
-  starts = startsFrom (numberIn U E) 0 n;
+  starts = startsFrom (classValue U E) 0 n;
   rows = rowsOf U E;
 }
 
@@ -43,5 +43,5 @@ unfoldable pub tablesOf : State → Tables
 tablesOf σ = shownTables (σ .header .registers) (reverse (σ .terms)) (σ .equals)
 
 -- The value of a term in them.
-abbrev pub number : State → Term → ℕ
-number σ t = numberIn (reverse (σ .terms)) (σ .equals) t
+abbrev pub shownValue : State → Term → ℕ
+shownValue σ t = classValue (reverse (σ .terms)) (σ .equals) t

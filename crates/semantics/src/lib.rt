@@ -1,1 +1,1 @@
-// The mathematics of traces: there is no code here. The definitions and theorems are in specs/.
+// The mathematics of traces: there is no code here. The definitions are in specs/, the theorems in proofs/Theory/.

@@ -11,7 +11,7 @@ use Rattle.base.specs.Masks.{has}
 use Rattle.base.specs.LeastAndSize.{leastIn, sizeOf}
 use Rattle.letters.specs.declared.Letter.{Letter}
 use Rattle.letters.specs.declared.Letter.the-variants.{Copy, Apply, Equal, Unequal}
-use Rattle.window.specs.Places.{place, Function, First, Second}
+use Rattle.window.specs.Places.{place, placeFunction, placeFirst, placeSecond}
 use Rattle.window.specs.Table.{table}
 use Rattle.window.specs.Bits.{nonempty, minus}
 use Rattle.window.specs.Lines.{columns, rows, cleared}
@@ -20,13 +20,13 @@ use Rattle.window.specs.Adding.{partOf, masksForgotten}
 use Rattle.window.specs.Marks.{unionOf, flagOf, raisedOf, lostOf}
 use Rattle.window.specs.Performing.{argumentsOf}
 use Rattle.window.specs.declared.Window.{Window}
-use Rattle.slots.specs.Slots.{Slots, at}
+use Rattle.slots.specs.Slots.{Slots, slotOf}
 
 -- ---- registers and slots
 
 -- the register has a slot
-unfoldable pub heldOf : List ℕ → List ℕ → ℕ → Bool
-heldOf slot regs r = has (getD regs (at slot r) 0) r
+unfoldable pub hasSlot : List ℕ → List ℕ → ℕ → Bool
+hasSlot slot regs r = has (getD regs (slotOf slot r) 0) r
 
 -- register x goes from slot s to slot t
 unfoldable pub regsMoved : List ℕ → ℕ → ℕ → ℕ → List ℕ
@@ -58,12 +58,12 @@ earlySlots mark x y = not (getD mark x false || getD mark y false)
 abbrev pub withMark : Slots → List Bool → Slots
 withMark w mark = record { slot = w .slot; regs = w .regs; unequal = w .unequal; result = w .result; ever = w .ever; mark = mark; infeasible = w .infeasible }
 
-abbrev pub withUnequal : Slots → List ℕ → Bool → Slots
-withUnequal w unequal infeasible = record { slot = w .slot; regs = w .regs; unequal = unequal; result = w .result; ever = w .ever; mark = w .mark; infeasible = infeasible }
+abbrev pub slotsWithUnequal : Slots → List ℕ → Bool → Slots
+slotsWithUnequal w unequal infeasible = record { slot = w .slot; regs = w .regs; unequal = unequal; result = w .result; ever = w .ever; mark = w .mark; infeasible = infeasible }
 
 -- the slots with register x in slot t
 abbrev pub placed : Slots → ℕ → ℕ → Slots
-placed w x t = record { slot = set (w .slot) x t; regs = regsMoved (w .regs) x (at (w .slot) x) t; unequal = w .unequal; result = w .result; ever = w .ever; mark = w .mark; infeasible = w .infeasible }
+placed w x t = record { slot = set (w .slot) x t; regs = regsMoved (w .regs) x (slotOf (w .slot) x) t; unequal = w .unequal; result = w .result; ever = w .ever; mark = w .mark; infeasible = w .infeasible }
 
 -- ---- tables
 
@@ -110,11 +110,11 @@ module _ (ρ : ℕ) where
   resultsRenamed a b l = resultsDropped b (resultsThrough ρ a b (2 ^ a) l)
 
   unfoldable pub slotRenamed : ℕ → ℕ → List ℕ → List ℕ
-  slotRenamed a b slot = table (λ r. cond (eqb (at slot r) b) a (at slot r)) ρ
+  slotRenamed a b slot = table (λ r. cond (eqb (slotOf slot r) b) a (slotOf slot r)) ρ
 
   -- the marks, and those of the registers whose slot is in the mask
   unfoldable pub marksIn : List ℕ → List Bool → ℕ → List Bool
-  marksIn slot mark lost = table (λ r. getD mark r false || has lost (at slot r)) ρ
+  marksIn slot mark lost = table (λ r. getD mark r false || has lost (slotOf slot r)) ρ
 
   -- the lowest register of the lowest slot of a mask; ρ if the mask is empty
   unfoldable pub registerIn : List ℕ → ℕ → ℕ
@@ -129,7 +129,7 @@ module _ (ρ : ℕ) where
 
   -- the slots that hold the result at place k of a window
   unfoldable pub entryOf : List ℕ → List ℕ → List ℕ → ℕ → ℕ
-  entryOf slot regs result k = pick (heldOf slot regs (First ρ k) && heldOf slot regs (Second ρ k)) (λ _. getD result (place ρ (Function ρ k) (at slot (First ρ k)) (at slot (Second ρ k))) 0) λ _. 0
+  entryOf slot regs result k = pick (hasSlot slot regs (placeFirst ρ k) && hasSlot slot regs (placeSecond ρ k)) (λ _. getD result (place ρ (placeFunction ρ k) (slotOf slot (placeFirst ρ k)) (slotOf slot (placeSecond ρ k))) 0) λ _. 0
 
   -- of k results of a window from i on, the registers of the first that is in two slots, or the empty mask
   unfoldable pub findSlots : List ℕ → List ℕ → List ℕ → ℕ → ℕ → ℕ
@@ -138,7 +138,7 @@ module _ (ρ : ℕ) where
 
   -- "Memoizing": a slot holds the value, or it was never computed
   unfoldable pub memoizingSlots : List ℕ → List ℕ → List ℕ → ℕ → ℕ → ℕ → Bool
-  memoizingSlots slot result ever f y z = pick (has (getD ever (ρ * f + at slot y) 0) (at slot z)) (λ _. nonempty ρ (getD result (place ρ f (at slot y) (at slot z)) 0)) λ _. true
+  memoizingSlots slot result ever f y z = pick (has (getD ever (ρ * f + slotOf slot y) 0) (slotOf slot z)) (λ _. nonempty ρ (getD result (place ρ f (slotOf slot y) (slotOf slot z)) 0)) λ _. true
 
 -- ---- a letter
 
@@ -161,9 +161,9 @@ module _ (ρ φ : ℕ) where
 
   -- x has come to hold what y holds; nothing moves within a slot
   unfoldable pub copiedSlots : Slots → ℕ → ℕ → Slots
-  copiedSlots w x y = pick (eqb (at (w .slot) x) (at (w .slot) y)) (λ _. w) λ _.
-      let s = at (w .slot) x in
-      let next = leftSlots (placed w x (at (w .slot) y)) s (eqb (getD (w .regs) s 0) (2 ^ x)) in
+  copiedSlots w x y = pick (eqb (slotOf (w .slot) x) (slotOf (w .slot) y)) (λ _. w) λ _.
+      let s = slotOf (w .slot) x in
+      let next = leftSlots (placed w x (slotOf (w .slot) y)) s (eqb (getD (w .regs) s 0) (2 ^ x)) in
       withMark next (set (next .mark) x (getD (next .mark) y false))
 
   -- slot n holds the result of f at slots a and b, and register x has no mark
@@ -180,7 +180,7 @@ module _ (ρ φ : ℕ) where
 
   -- x, alone in its slot, gets the value of f at slots a and b
   unfoldable pub renewedSlots : Slots → ℕ → ℕ → ℕ → ℕ → Slots
-  renewedSlots w x f a b = let s = at (w .slot) x in recordedSlots (droppedSlots w s (argumentsOf s a b (2 ^ a) (2 ^ b))) x f a b s
+  renewedSlots w x f a b = let s = slotOf (w .slot) x in recordedSlots (droppedSlots w s (argumentsOf s a b (2 ^ a) (2 ^ b))) x f a b s
 
   -- x leaves its slot to others, and gets the value of f at slots a and b in a free one
   unfoldable pub freshenedSlots : Slots → ℕ → ℕ → ℕ → ℕ → Slots
@@ -188,13 +188,13 @@ module _ (ρ φ : ℕ) where
 
   -- x := f of what is in slots a and b, a value that was never computed
   unfoldable pub newSlots : Slots → ℕ → ℕ → ℕ → ℕ → Slots
-  newSlots w x f a b = pick (eqb (getD (w .regs) (at (w .slot) x) 0) (2 ^ x)) (λ _. renewedSlots w x f a b) λ _. freshenedSlots w x f a b
+  newSlots w x f a b = pick (eqb (getD (w .regs) (slotOf (w .slot) x) 0) (2 ^ x)) (λ _. renewedSlots w x f a b) λ _. freshenedSlots w x f a b
 
   -- x := f(y, z): a value that is known is copied from a register that holds it
   unfoldable pub applySlots : Slots → ℕ → ℕ → ℕ → ℕ → Slots
   applySlots w x f y z =
-      let r = registerIn ρ (w .regs) (getD (w .result) (place ρ f (at (w .slot) y) (at (w .slot) z)) 0) in
-      pick (ltb r ρ) (λ _. copiedSlots w x r) λ _. newSlots w x f (at (w .slot) y) (at (w .slot) z)
+      let r = registerIn ρ (w .regs) (getD (w .result) (place ρ f (slotOf (w .slot) y) (slotOf (w .slot) z)) 0) in
+      pick (ltb r ρ) (λ _. copiedSlots w x r) λ _. newSlots w x f (slotOf (w .slot) y) (slotOf (w .slot) z)
 
   -- the registers of slot b go to slot a
   unfoldable pub mergedSlots : Slots → ℕ → ℕ → Slots
@@ -214,20 +214,20 @@ module _ (ρ φ : ℕ) where
   closedSlots (suc n) w = pick (doubledOf ρ (w .result) (φ * ρ * ρ)) (λ _.
       let entry = findSlots ρ (w .slot) (w .regs) (w .result) 0 (φ * ρ * ρ) in
       let one = leastIn ρ entry in
-      let two = leastIn ρ (minus entry (getD (w .regs) (at (w .slot) one) 0)) in
-      pick (ltb one ρ) (λ _. pick (ltb two ρ) (λ _. closedSlots n (mergedSlots w (at (w .slot) one) (at (w .slot) two))) λ _. w) λ _. w) λ _. w
+      let two = leastIn ρ (minus entry (getD (w .regs) (slotOf (w .slot) one) 0)) in
+      pick (ltb one ρ) (λ _. pick (ltb two ρ) (λ _. closedSlots n (mergedSlots w (slotOf (w .slot) one) (slotOf (w .slot) two))) λ _. w) λ _. w) λ _. w
 
   -- "Once infeasible, it has no unequal pairs."
   unfoldable pub settledSlots : Slots → Bool → Slots
-  settledSlots w bad = pick (w .infeasible || bad) (λ _. withUnequal w (replicate ρ 0) true) λ _. w
+  settledSlots w bad = pick (w .infeasible || bad) (λ _. slotsWithUnequal w (replicate ρ 0) true) λ _. w
 
   unfoldable pub equalSlots : Slots → ℕ → ℕ → Slots
-  equalSlots w x y = pick (eqb (at (w .slot) x) (at (w .slot) y)) (λ _. w) λ _.
-      let next = closedSlots (ρ * ρ + 1) (mergedSlots w (at (w .slot) x) (at (w .slot) y)) in
+  equalSlots w x y = pick (eqb (slotOf (w .slot) x) (slotOf (w .slot) y)) (λ _. w) λ _.
+      let next = closedSlots (ρ * ρ + 1) (mergedSlots w (slotOf (w .slot) x) (slotOf (w .slot) y)) in
       settledSlots next (clashSlots (next .unequal) ρ)
 
   unfoldable pub unequalSlots : Slots → ℕ → ℕ → Slots
-  unequalSlots w x y = settledSlots (withUnequal w (apartSlots (w .unequal) (at (w .slot) x) (at (w .slot) y)) (w .infeasible)) (eqb (at (w .slot) x) (at (w .slot) y))
+  unequalSlots w x y = settledSlots (slotsWithUnequal w (apartSlots (w .unequal) (slotOf (w .slot) x) (slotOf (w .slot) y)) (w .infeasible)) (eqb (slotOf (w .slot) x) (slotOf (w .slot) y))
 
   -- the letter is coherent
   abbrev pub judgeSlots : Slots → Letter → Bool
@@ -248,7 +248,7 @@ module _ (ρ φ : ℕ) where
 module _ (ρ : ℕ) where
   -- the table of a window that a table of slots stands for: a register that has no slot has the empty mask
   unfoldable pub pulledAt : List ℕ → List ℕ → List ℕ → ℕ → ℕ
-  pulledAt slot regs l k = pick (heldOf slot regs (k % ρ)) (λ _. pulledOf regs (getD l (ρ * (k / ρ) + at slot (k % ρ)) 0) ρ) λ _. 0
+  pulledAt slot regs l k = pick (hasSlot slot regs (k % ρ)) (λ _. pulledOf regs (getD l (ρ * (k / ρ) + slotOf slot (k % ρ)) 0) ρ) λ _. 0
 
   unfoldable pub pulledMasks : List ℕ → List ℕ → List ℕ → ℕ → List ℕ
   pulledMasks slot regs l n = table (pulledAt slot regs l) n
@@ -257,20 +257,20 @@ module _ (ρ : ℕ) where
   pulledResults slot regs l n = table (λ k. pulledOf regs (entryOf ρ slot regs l k) ρ) n
 
   unfoldable pub pulledClasses : List ℕ → List ℕ → List ℕ
-  pulledClasses slot regs = table (λ r. pick (heldOf slot regs r) (λ _. getD regs (at slot r) 0) λ _. 0) ρ
+  pulledClasses slot regs = table (λ r. pick (hasSlot slot regs r) (λ _. getD regs (slotOf slot r) 0) λ _. 0) ρ
 
   unfoldable pub pulledMarks : List ℕ → List ℕ → List Bool → List Bool
-  pulledMarks slot regs mark = table (λ r. heldOf slot regs r && getD mark r false) ρ
+  pulledMarks slot regs mark = table (λ r. hasSlot slot regs r && getD mark r false) ρ
 
   -- the registers below k and n whose slot is s
   unfoldable pub membersOf : List ℕ → ℕ → ℕ → ℕ → ℕ
   membersOf slot n s zero = 0
-  membersOf slot n s (suc k) = bitOr (membersOf slot n s k) (cond (ltb k n && eqb (at slot k) s) (2 ^ k) 0)
+  membersOf slot n s (suc k) = bitOr (membersOf slot n s k) (cond (ltb k n && eqb (slotOf slot k) s) (2 ^ k) 0)
 
   -- of the slots below k, each has the registers that name it, and each register has one of ρ
   unfoldable pub groupedOf : List ℕ → List ℕ → ℕ → ℕ → Bool
   groupedOf slot regs n zero = true
-  groupedOf slot regs n (suc k) = groupedOf slot regs n k && (ltb (at slot k) ρ && eqb (getD regs k 0) (membersOf slot n k ρ))
+  groupedOf slot regs n (suc k) = groupedOf slot regs n k && (ltb (slotOf slot k) ρ && eqb (getD regs k 0) (membersOf slot n k ρ))
 
   -- the slots below k that have a register
   unfoldable pub usedOf : List ℕ → ℕ → ℕ

@@ -11,7 +11,7 @@ use Rattle.semantics.specs.View.{View}
 use Rattle.window.specs.Places.{place}
 use Rattle.window.specs.Viewing.{view, Inside, Masks, Shaped}
 use Rattle.window.specs.declared.Window.{Window}
-use Rattle.slots.specs.Slots.{Slots, at, Laid}
+use Rattle.slots.specs.Slots.{Slots, slotOf, Laid}
 
 module _ (n : ℕ) (g : ℕ → ℕ) where
   -- slot s has one of n registers
@@ -38,7 +38,7 @@ module _ (ρ : ℕ) where
 
   -- the registers of a slot are those that have it
   pub record Grouped (n : ℕ) (slot regs : List ℕ) : Type 0 where
-    pub members : (s r : ℕ) → s < ρ → T (has (getD regs s 0) r) ↔ ((r < n) × (at slot r ≡ s))
+    pub members : (s r : ℕ) → s < ρ → T (has (getD regs s 0) r) ↔ ((r < n) × (slotOf slot r ≡ s))
     pub bytes : Masks ρ regs
 
 module _ (ρ φ : ℕ) where
@@ -59,11 +59,11 @@ module _ (ρ φ : ℕ) where
     pub inside : Inside ρ n (view ρ φ w)
     pub laid : Laid ρ φ (s .slot) (s .regs) (s .unequal) (s .result) (s .ever) (s .mark)
     pub grouped : Grouped ρ n (s .slot) (s .regs)
-    pub clean : Clean ρ (Used n (at (s .slot))) (slotView (s .unequal) (s .result) (s .ever))
-    pub pulled : Pulled n (at (s .slot)) (view ρ φ w) (slotView (s .unequal) (s .result) (s .ever))
+    pub clean : Clean ρ (Used n (slotOf (s .slot))) (slotView (s .unequal) (s .result) (s .ever))
+    pub pulled : Pulled n (slotOf (s .slot)) (view ρ φ w) (slotView (s .unequal) (s .result) (s .ever))
     pub marked : (r : ℕ) → r < n → T (view ρ φ w .marked r) ↔ T (getD (s .mark) r false)
     pub infeasible : w .infeasible ≡ s .infeasible
 
-  pub record Represents (n : ℕ) (s : Slots) (w : Window) : Type 0 where
+  pub record RepresentsWindow (n : ℕ) (s : Slots) (w : Window) : Type 0 where
     pub mirrors : Mirrors n s w
     pub single : Single ρ (slotView (s .unequal) (s .result) (s .ever))

@@ -23,18 +23,18 @@ abbrev pub slotsOf : List ℕ → List ℕ → List ℕ → List ℕ → List �
 slotsOf slot regs unequal result ever mark infeasible = record { slot = slot; regs = regs; unequal = unequal; result = result; ever = ever; mark = mark; infeasible = infeasible }
 
 -- the slot of a register
-abbrev pub at : List ℕ → ℕ → ℕ
-at slot r = getD slot r 0
+abbrev pub slotOf : List ℕ → ℕ → ℕ
+slotOf slot r = getD slot r 0
 
 module _ (ρ : ℕ) where
   -- each register has one of ρ slots
   pub record Low (slot : List ℕ) : Type 0 where
     pub long : length slot ≡ ρ
-    pub below : (r : ℕ) → r < ρ → at slot r < ρ
+    pub below : (r : ℕ) → r < ρ → slotOf slot r < ρ
 
 module _ (ρ φ : ℕ) where
   -- the tables have an entry for each place
-  pub record Tabled (unequal result ever : List ℕ) : Type 0 where
+  pub record SlotTableLengths (unequal result ever : List ℕ) : Type 0 where
     pub unequal-long : length unequal ≡ ρ
     pub result-long : length result ≡ φ * ρ * ρ
     pub ever-long : length ever ≡ φ * ρ
@@ -43,5 +43,5 @@ module _ (ρ φ : ℕ) where
   pub record Laid (slot regs unequal result ever : List ℕ) (mark : List Bool) : Type 0 where
     pub low : Low ρ slot
     pub regs-long : length regs ≡ ρ
-    pub tables : Tabled unequal result ever
+    pub tables : SlotTableLengths unequal result ever
     pub mark-long : length mark ≡ ρ

@@ -29,13 +29,13 @@ ghost use mathlib.Core.List.{List};
 ghost use Prim.Native.Nat.{ℕ, _+_, _*_, _/_, _%_, _^_, _<_, _≤_};
 ghost use lib.Dec.{eqb};
 ghost use lib.ListN.{length, getD, set};
-ghost use Rattle.window.specs.Layout.{registers, functions, pairs, lines, results};
+ghost use Rattle.window.specs.Layout.{registers, functions, registerPairs, lines, results};
 ghost use Rattle.window.specs.Bits.{minus};
 ghost use Rattle.window.specs.Marks.{raisedOf};
 ghost use Rattle.window.specs.Performing.{argumentsOf};
-ghost use Rattle.window.specs.Perform.{Within};
-ghost use Rattle.slots.specs.Slots.{slotsOf, at, Low, Tabled, Laid};
-ghost use Rattle.slots.specs.Performing.{heldOf, regsMoved, freeFrom, pulledOf, manyOf, doubledOf, clashSlots, apartSlots, earlySlots};
+ghost use Rattle.window.specs.Perform.{WithinPacking};
+ghost use Rattle.slots.specs.Slots.{slotsOf, slotOf, Low, SlotTableLengths, Laid};
+ghost use Rattle.slots.specs.Performing.{hasSlot, regsMoved, freeFrom, pulledOf, manyOf, doubledOf, clashSlots, apartSlots, earlySlots};
 ghost use Rattle.slots.specs.Performing.{resultsDropped, masksRenamed, resultsRenamed, slotRenamed, marksIn, registerIn, resultRecorded, everRecorded};
 ghost use Rattle.slots.specs.Performing.{aboveSlots, besideSlots, lostSlots, pairRecorded};
 ghost use Rattle.slots.specs.Around.{Around, aroundOf};
@@ -59,7 +59,7 @@ fn wide(slot: u8) -> usize
 // The number that stands for the slot of a register.
 fn number(slot: &[u8; REGISTERS], r: usize) -> usize
     requires { ⌜ r < registers ⌝ }
-    ensures { λ v. ⌜ v ≡ at (now (slot .entry)) r ⌝ }
+    ensures { λ v. ⌜ v ≡ slotOf (now (slot .entry)) r ⌝ }
 {
     wide(slot[r])
 }
@@ -67,7 +67,7 @@ fn number(slot: &[u8; REGISTERS], r: usize) -> usize
 // The slot of a register.
 fn slot_of(slot: &[u8; REGISTERS], r: usize) -> usize
     requires { ⌜ (r < registers) × Low registers (now slot) ⌝ }
-    ensures { λ v. ⌜ v ≡ at (now (slot .entry)) r ⌝ }
+    ensures { λ v. ⌜ v ≡ slotOf (now (slot .entry)) r ⌝ }
     ensures low { λ v. ⌜ v < registers ⌝ }
 {
     number(slot, r)
@@ -76,7 +76,7 @@ fn slot_of(slot: &[u8; REGISTERS], r: usize) -> usize
 // Whether the register has a slot.
 fn held(slot: &[u8; REGISTERS], regs: &[Mask; REGISTERS], r: usize) -> bool
     requires { ⌜ (r < registers) × Low registers (now slot) ⌝ }
-    ensures { λ v. ⌜ v ≡ heldOf (now (slot .entry)) (now (regs .entry)) r ⌝ }
+    ensures { λ v. ⌜ v ≡ hasSlot (now (slot .entry)) (now (regs .entry)) r ⌝ }
 {
     holds(regs[slot_of(slot, r)], r)
 }
@@ -85,7 +85,7 @@ fn held(slot: &[u8; REGISTERS], regs: &[Mask; REGISTERS], r: usize) -> bool
 fn move_register(slot: &mut [u8; REGISTERS], regs: &mut [Mask; REGISTERS], x: usize, t: usize)
     requires { ⌜ (x < registers) × (t < registers) × Low registers (now slot) × (length (now regs) ≡ registers) ⌝ }
     ensures { λ _. ⌜ now (slot .exit) ≡ set (now (slot .entry)) x t ⌝ }
-    ensures regs { λ _. ⌜ now (regs .exit) ≡ regsMoved (now (regs .entry)) x (at (now (slot .entry)) x) t ⌝ }
+    ensures regs { λ _. ⌜ now (regs .exit) ≡ regsMoved (now (regs .entry)) x (slotOf (now (slot .entry)) x) t ⌝ }
 {
     let s = slot_of(slot, x);
     let own = single(x);
@@ -123,7 +123,7 @@ fn register_in(regs: &[Mask; REGISTERS], slots: Mask) -> usize
 
 // In a table of results, slot s is no argument and holds none.
 fn drop_results(t: &mut [Mask], s: usize)
-    requires { ⌜ (s < registers) × (length (now t) % pairs ≡ 0) ⌝ }
+    requires { ⌜ (s < registers) × (length (now t) % registerPairs ≡ 0) ⌝ }
     ensures { λ _. ⌜ now (t .exit) ≡ resultsDropped registers s (now (t .entry)) ⌝ }
 {
     move_bits(t, 0, single(s));
@@ -208,12 +208,12 @@ fn drop_slot(
     more: Mask,
 )
     requires { ⌜ (s < registers) × Low registers (now slot)
-        × Tabled registers functions (now unequal) (now result) (now ever) × (length (now mark) ≡ registers)
+        × SlotTableLengths registers functions (now unequal) (now result) (now ever) × (length (now mark) ≡ registers)
         × Around registers functions (now result) (now around) ⌝ }
     ensures { λ _. ⌜ ((g : List ℕ) (i : Bool) →
         slotsOf (now (slot .entry)) g (now (unequal .exit)) (now (result .exit)) (now (ever .exit)) (now (mark .exit)) i ≡ droppedSlots registers functions
         (slotsOf (now (slot .entry)) g (now (unequal .entry)) (now (result .entry)) (now (ever .entry)) (now (mark .entry)) i) s more) ⌝ }
-    ensures long { λ _. ⌜ Tabled registers functions (now (unequal .exit)) (now (result .exit)) (now (ever .exit)) × (length (now (mark .exit)) ≡ registers) ⌝ }
+    ensures long { λ _. ⌜ SlotTableLengths registers functions (now (unequal .exit)) (now (result .exit)) (now (ever .exit)) × (length (now (mark .exit)) ≡ registers) ⌝ }
     ensures around { λ _. ⌜ Around registers functions (now (result .exit)) (now (around .exit)) ⌝ }
 {
     mark_slots(slot, mark, lost_slots(around, s, more));
@@ -235,12 +235,12 @@ fn leave_slot(
     empty: bool,
 )
     requires { ⌜ (s < registers) × Low registers (now slot)
-        × Tabled registers functions (now unequal) (now result) (now ever) × (length (now mark) ≡ registers)
+        × SlotTableLengths registers functions (now unequal) (now result) (now ever) × (length (now mark) ≡ registers)
         × Around registers functions (now result) (now around) ⌝ }
     ensures { λ _. ⌜ ((g : List ℕ) (i : Bool) →
         slotsOf (now (slot .entry)) g (now (unequal .exit)) (now (result .exit)) (now (ever .exit)) (now (mark .exit)) i ≡ leftSlots registers functions
         (slotsOf (now (slot .entry)) g (now (unequal .entry)) (now (result .entry)) (now (ever .entry)) (now (mark .entry)) i) s empty) ⌝ }
-    ensures long { λ _. ⌜ Tabled registers functions (now (unequal .exit)) (now (result .exit)) (now (ever .exit)) × (length (now (mark .exit)) ≡ registers) ⌝ }
+    ensures long { λ _. ⌜ SlotTableLengths registers functions (now (unequal .exit)) (now (result .exit)) (now (ever .exit)) × (length (now (mark .exit)) ≡ registers) ⌝ }
     ensures around { λ _. ⌜ Around registers functions (now (result .exit)) (now (around .exit)) ⌝ }
 {
     if empty {
@@ -309,7 +309,7 @@ fn hold_result(
     n: usize,
 )
     requires { ⌜ (f < functions) × (a < registers) × (b < registers) × (n < registers) × (length (now result) ≡ results) × (length (now ever) ≡ lines)
-        × (length (now around) ≡ pairs) ⌝ }
+        × (length (now around) ≡ registerPairs) ⌝ }
     ensures { λ _. ⌜ now (result .exit) ≡ resultRecorded registers f a b n (now (result .entry)) ⌝ }
     ensures ever { λ _. ⌜ now (ever .exit) ≡ everRecorded registers f a b n (now (ever .entry)) ⌝ }
     ensures around { λ _. ⌜ now (around .exit) ≡ pairRecorded registers a b n (now (around .entry)) ⌝ }
@@ -341,12 +341,12 @@ fn renew(
     b: usize,
 )
     requires { ⌜ (x < registers) × (f < functions) × (a < registers) × (b < registers) × Low registers (now slot)
-        × Tabled registers functions (now unequal) (now result) (now ever) × (length (now mark) ≡ registers)
+        × SlotTableLengths registers functions (now unequal) (now result) (now ever) × (length (now mark) ≡ registers)
         × Around registers functions (now result) (now around) ⌝ }
     ensures { λ _. ⌜ ((g : List ℕ) (i : Bool) →
         slotsOf (now (slot .entry)) g (now (unequal .exit)) (now (result .exit)) (now (ever .exit)) (now (mark .exit)) i ≡ renewedSlots registers functions
         (slotsOf (now (slot .entry)) g (now (unequal .entry)) (now (result .entry)) (now (ever .entry)) (now (mark .entry)) i) x f a b) ⌝ }
-    ensures long { λ _. ⌜ Tabled registers functions (now (unequal .exit)) (now (result .exit)) (now (ever .exit)) × (length (now (mark .exit)) ≡ registers) ⌝ }
+    ensures long { λ _. ⌜ SlotTableLengths registers functions (now (unequal .exit)) (now (result .exit)) (now (ever .exit)) × (length (now (mark .exit)) ≡ registers) ⌝ }
     ensures around { λ _. ⌜ Around registers functions (now (result .exit)) (now (around .exit)) ⌝ }
 {
     let s = slot_of(slot, x);
@@ -500,7 +500,7 @@ fn rename_results(result: &mut [Mask; RESULTS], a: usize, b: usize)
 
 // The same where an entry stands for a pair of slots; a function of its own, so that the compiler lays it out for the shorter table.
 fn rename_pairs(around: &mut [Mask; PAIRS], a: usize, b: usize)
-    requires { ⌜ (a < registers) × (b < registers) × (length (now around) ≡ pairs) ⌝ }
+    requires { ⌜ (a < registers) × (b < registers) × (length (now around) ≡ registerPairs) ⌝ }
     ensures { λ _. ⌜ now (around .exit) ≡ resultsRenamed registers a b (now (around .entry)) ⌝ }
 {
     unite_column(around, a, a, b);
@@ -521,13 +521,13 @@ fn merge_slots(
     b: usize,
 )
     requires { ⌜ (a < registers) × (b < registers) × Low registers (now slot) × (length (now regs) ≡ registers)
-        × Tabled registers functions (now unequal) (now result) (now ever)
+        × SlotTableLengths registers functions (now unequal) (now result) (now ever)
         × Around registers functions (now result) (now around) ⌝ }
     ensures { λ _. ⌜ ((m : List Bool) (i : Bool) →
         slotsOf (now (slot .exit)) (now (regs .exit)) (now (unequal .exit)) (now (result .exit)) (now (ever .exit)) m i ≡ mergedSlots registers functions
         (slotsOf (now (slot .entry)) (now (regs .entry)) (now (unequal .entry)) (now (result .entry)) (now (ever .entry)) m i) a b) ⌝ }
     ensures long { λ _. ⌜ Low registers (now (slot .exit)) × (length (now (regs .exit)) ≡ registers)
-        × Tabled registers functions (now (unequal .exit)) (now (result .exit)) (now (ever .exit)) ⌝ }
+        × SlotTableLengths registers functions (now (unequal .exit)) (now (result .exit)) (now (ever .exit)) ⌝ }
     ensures around { λ _. ⌜ Around registers functions (now (result .exit)) (now (around .exit)) ⌝ }
 {
     regs[a] = regs[a] | regs[b];
@@ -610,7 +610,7 @@ fn find(slot: &[u8; REGISTERS], regs: &[Mask; REGISTERS], result: &[Mask; RESULT
 // The registers of the mask that are not in the slot of the given one.
 fn rest(slot: &[u8; REGISTERS], regs: &[Mask; REGISTERS], m: Mask, one: usize) -> Mask
     requires { ⌜ (one < registers) × Low registers (now slot) ⌝ }
-    ensures { λ v. ⌜ v ≡ minus m (getD (now (regs .entry)) (at (now (slot .entry)) one) 0) ⌝ }
+    ensures { λ v. ⌜ v ≡ minus m (getD (now (regs .entry)) (slotOf (now (slot .entry)) one) 0) ⌝ }
 {
     let own = regs[slot_of(slot, one)];
     (m | own) ^ own
@@ -625,14 +625,14 @@ fn close_slots(
     ever: &mut [Mask; LINES],
     around: &mut [Mask; PAIRS],
 )
-    requires { ⌜ Low registers (now slot) × (length (now regs) ≡ registers) × Tabled registers functions (now unequal) (now result) (now ever)
+    requires { ⌜ Low registers (now slot) × (length (now regs) ≡ registers) × SlotTableLengths registers functions (now unequal) (now result) (now ever)
         × Around registers functions (now result) (now around) ⌝ }
     ensures { λ _. ⌜ ((m : List Bool) (i : Bool) →
         slotsOf (now (slot .exit)) (now (regs .exit)) (now (unequal .exit)) (now (result .exit))
-        (now (ever .exit)) m i ≡ closedSlots registers functions (pairs + 1) (slotsOf (now (slot .entry)) (now (regs .entry)) (now (unequal .entry))
+        (now (ever .exit)) m i ≡ closedSlots registers functions (registerPairs + 1) (slotsOf (now (slot .entry)) (now (regs .entry)) (now (unequal .entry))
         (now (result .entry)) (now (ever .entry)) m i)) ⌝ }
     ensures long { λ _. ⌜ Low registers (now (slot .exit)) × (length (now (regs .exit)) ≡ registers)
-        × Tabled registers functions (now (unequal .exit)) (now (result .exit)) (now (ever .exit)) ⌝ }
+        × SlotTableLengths registers functions (now (unequal .exit)) (now (result .exit)) (now (ever .exit)) ⌝ }
     ensures around { λ _. ⌜ Around registers functions (now (result .exit)) (now (around .exit)) ⌝ }
 {
     let mut fuel: usize = PAIRS + 1;
@@ -695,13 +695,13 @@ fn equal_slots(
     y: usize,
 ) -> bool
     requires { ⌜ (x < registers) × (y < registers) × Low registers (now slot) × (length (now regs) ≡ registers)
-        × Tabled registers functions (now unequal) (now result) (now ever)
+        × SlotTableLengths registers functions (now unequal) (now result) (now ever)
         × Around registers functions (now result) (now around) ⌝ }
     ensures { λ v. ⌜ ((m : List Bool) → slotsOf (now (slot .exit)) (now (regs .exit)) (now (unequal .exit)) (now (result .exit)) (now (ever .exit)) m v
         ≡ equalSlots registers functions
         (slotsOf (now (slot .entry)) (now (regs .entry)) (now (unequal .entry)) (now (result .entry)) (now (ever .entry)) m infeasible) x y) ⌝ }
     ensures long { λ _. ⌜ Low registers (now (slot .exit)) × (length (now (regs .exit)) ≡ registers)
-        × Tabled registers functions (now (unequal .exit)) (now (result .exit)) (now (ever .exit)) ⌝ }
+        × SlotTableLengths registers functions (now (unequal .exit)) (now (result .exit)) (now (ever .exit)) ⌝ }
     ensures around { λ _. ⌜ Around registers functions (now (result .exit)) (now (around .exit)) ⌝ }
 {
     let a = slot_of(slot, x);
@@ -786,7 +786,7 @@ pub fn judge_slots(
     mark: &[bool; REGISTERS],
     letter: Letter,
 ) -> bool
-    requires { ⌜ Within letter × Low registers (now slot) ⌝ }
+    requires { ⌜ WithinPacking letter × Low registers (now slot) ⌝ }
     ensures { λ v. ⌜ ((g u : List ℕ) (i : Bool) → v ≡ judgeSlots registers functions
         (slotsOf (now (slot .entry)) g u (now (result .entry)) (now (ever .entry)) (now (mark .entry)) i) letter) ⌝ }
 {
@@ -828,7 +828,7 @@ pub fn perform_slots(
     infeasible: bool,
     letter: Letter,
 ) -> bool
-    requires { ⌜ Within letter × Laid registers functions (now slot) (now regs) (now unequal) (now result) (now ever) (now mark)
+    requires { ⌜ WithinPacking letter × Laid registers functions (now slot) (now regs) (now unequal) (now result) (now ever) (now mark)
         × Around registers functions (now result) (now around) ⌝ }
     ensures { λ v. ⌜ slotsOf (now (slot .exit)) (now (regs .exit)) (now (unequal .exit)) (now (result .exit)) (now (ever .exit)) (now (mark .exit)) v
         ≡ performSlots registers functions
@@ -1079,9 +1079,9 @@ pub fn to_slots(
     result: &mut [Mask; RESULTS],
     ever: &mut [Mask; LINES],
 )
-    requires { ⌜ (length (now slot) ≡ registers) × (length (now regs) ≡ registers) × Tabled registers functions (now unequal) (now result) (now ever) ⌝ }
+    requires { ⌜ (length (now slot) ≡ registers) × (length (now regs) ≡ registers) × SlotTableLengths registers functions (now unequal) (now result) (now ever) ⌝ }
     ensures { λ _. ⌜ Low registers (now (slot .exit)) × (length (now (regs .exit)) ≡ registers)
-        × Tabled registers functions (now (unequal .exit)) (now (result .exit)) (now (ever .exit)) ⌝ }
+        × SlotTableLengths registers functions (now (unequal .exit)) (now (result .exit)) (now (ever .exit)) ⌝ }
 {
     let lowest = leaders(class);
     name_slots(class, slot);

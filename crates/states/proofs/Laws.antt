@@ -9,8 +9,8 @@ use lib.Seq.{take-at, drop-at, drop-drop}
 use Rattle.letters.specs.Packing.{join, split}
 use Rattle.letters.proofs.Theory.Packing.{join-split}
 use Rattle.records.specs.Records.{flag}
-use Rattle.monitoring.specs.declared.Monitor.{Monitor}
-use Rattle.monitoring.specs.declared.Stream.{Stream}
+use Rattle.streaming.specs.declared.Monitor.{Monitor}
+use Rattle.streaming.specs.declared.Stream.{Stream}
 use Rattle.states.specs.States.{monitorSize, lettersPlace, firstPlace, secondPlace, streamSize}
 use Rattle.states.specs.States.{eightOctets, headOf, partsThen, monitorThen, Sizes, WindowSizes, monitorIn, KeepsMonitor}
 use Rattle.states.specs.States.{firstNumber, secondNumber, tailOf, tailThen, streamThen, streamIn, KeepsStream}

@@ -10,14 +10,14 @@ use Rattle.letters.specs.Packing.{join, split}
 use Rattle.records.specs.Records.{flag, isSet}
 use Rattle.window.specs.Layout as layout
 use Rattle.window.specs.declared.Window.{Window}
-use Rattle.monitoring.specs.Run.{runWith}
-use Rattle.monitoring.specs.Stream.{streamWith}
-use Rattle.monitoring.specs.declared.Monitor.{Monitor}
-use Rattle.monitoring.specs.declared.Phase.{Phase}
-use Rattle.monitoring.specs.declared.Phase.the-variants.{Empty, One, Even, Odd}
-use Rattle.monitoring.specs.declared.Stream.{Stream}
-use Rattle.monitoring.specs.declared.Verdict.{Verdict}
-use Rattle.monitoring.specs.declared.Verdict.the-variants.{Judged, Refused}
+use Rattle.streaming.specs.Run.{runWith}
+use Rattle.streaming.specs.Stream.{streamWith}
+use Rattle.streaming.specs.declared.Monitor.{Monitor}
+use Rattle.streaming.specs.declared.Phase.{Phase}
+use Rattle.streaming.specs.declared.Phase.the-variants.{Empty, One, Even, Odd}
+use Rattle.streaming.specs.declared.Stream.{Stream}
+use Rattle.streaming.specs.declared.RunAnswer.{RunAnswer}
+use Rattle.streaming.specs.declared.RunAnswer.the-variants.{Judged, Refused}
 
 abbrev pub eightOctets : List ℕ
 eightOctets = 8 ∷ 8 ∷ 8 ∷ 8 ∷ 8 ∷ 8 ∷ 8 ∷ 8 ∷ []
@@ -92,8 +92,8 @@ pub record Sizes (class unequal marks ever result : List ℕ) : Type 0 where
 abbrev pub WindowSizes : Window → Type 0
 WindowSizes w = Sizes (w .class) (w .unequal) (map flag (w .mark)) (w .ever) (w .result)
 
-unfoldable pub windowIn : List ℕ → Window
-windowIn bytes = record {
+unfoldable pub monitorWindowIn : List ℕ → Window
+monitorWindowIn bytes = record {
   class = take layout.registers (drop classPlace bytes);
   unequal = take layout.registers (drop unequalPlace bytes);
   result = take layout.results (drop resultPlace bytes);
@@ -105,7 +105,7 @@ windowIn bytes = record {
 unfoldable pub monitorIn : List ℕ → Monitor
 monitorIn bytes = record {
   header = record { registers = getD bytes 1 0; functions = getD bytes 2 0; binary = getD bytes 3 0 };
-  window = windowIn bytes;
+  window = monitorWindowIn bytes;
   running = isSet (getD bytes 4 0);
 }
 
@@ -127,28 +127,28 @@ phaseCode Odd = 3
 unfoldable pub phaseIn : ℕ → Phase
 phaseIn code = pick (eqb code 0) (λ _. Empty) λ _. pick (eqb code 1) (λ _. One) λ _. pick (eqb code 2) (λ _. Even) λ _. Odd
 
-abbrev pub verdictCode : Verdict → ℕ
-verdictCode (Judged incoherent infeasible) = 0
-verdictCode (Refused number place) = 1
+abbrev pub runAnswerCode : RunAnswer → ℕ
+runAnswerCode (Judged incoherent infeasible) = 0
+runAnswerCode (Refused number place) = 1
 
-abbrev pub refusalNumber : Verdict → ℕ
+abbrev pub refusalNumber : RunAnswer → ℕ
 refusalNumber (Judged incoherent infeasible) = 0
 refusalNumber (Refused number place) = number
 
-abbrev pub firstNumber : Verdict → ℕ
+abbrev pub firstNumber : RunAnswer → ℕ
 firstNumber (Judged incoherent infeasible) = incoherent
 firstNumber (Refused number place) = 0
 
-abbrev pub secondNumber : Verdict → ℕ
+abbrev pub secondNumber : RunAnswer → ℕ
 secondNumber (Judged incoherent infeasible) = infeasible
 secondNumber (Refused number place) = place
 
-unfoldable pub verdictIn : ℕ → ℕ → ℕ → ℕ → Verdict
-verdictIn code number first second = pick (eqb code 0) (λ _. Judged first second) λ _. Refused number second
+unfoldable pub runAnswerIn : ℕ → ℕ → ℕ → ℕ → RunAnswer
+runAnswerIn code number first second = pick (eqb code 0) (λ _. Judged first second) λ _. Refused number second
 
 -- the bytes behind the monitor's that are no numbers of letters
 abbrev pub tailOf : Stream → List ℕ
-tailOf s = phaseCode (s .phase) ∷ s .high ∷ verdictCode (s .run .verdict) ∷ refusalNumber (s .run .verdict) ∷ []
+tailOf s = phaseCode (s .phase) ∷ s .high ∷ runAnswerCode (s .run .verdict) ∷ refusalNumber (s .run .verdict) ∷ []
 
 -- four parts one after the other, and then rest
 abbrev pub tailThen : List ℕ → List ℕ → List ℕ → List ℕ → List ℕ → List ℕ
@@ -161,14 +161,14 @@ streamThen kind s rest =
     (tailThen (tailOf s) (split eightOctets (s .run .letters)) (split eightOctets (firstNumber (s .run .verdict)))
     (split eightOctets (secondNumber (s .run .verdict))) rest)
 
-abbrev pub numberIn : ℕ → List ℕ → ℕ
-numberIn place bytes = join eightOctets (take numberSize (drop place bytes))
+abbrev pub numberAt : ℕ → List ℕ → ℕ
+numberAt place bytes = join eightOctets (take numberSize (drop place bytes))
 
 unfoldable pub streamIn : List ℕ → Stream
 streamIn bytes =
     streamWith (phaseIn (getD bytes monitorSize 0)) (getD bytes (monitorSize + 1) 0)
-    (runWith (monitorIn bytes) (numberIn lettersPlace bytes)
-    (verdictIn (getD bytes (monitorSize + 2) 0) (getD bytes (monitorSize + 3) 0) (numberIn firstPlace bytes) (numberIn secondPlace bytes)))
+    (runWith (monitorIn bytes) (numberAt lettersPlace bytes)
+    (runAnswerIn (getD bytes (monitorSize + 2) 0) (getD bytes (monitorSize + 3) 0) (numberAt firstPlace bytes) (numberAt secondPlace bytes)))
 
 -- What storing a stream leaves: every byte, and a stream that is read again.
 pub record KeepsStream (kind : ℕ) (s : Stream) (entry exit : List ℕ) : Type 0 where

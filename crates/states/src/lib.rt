@@ -1,14 +1,14 @@
 // Monitors and streams as bytes, so that a caller in C or Rust can keep them between calls: one byte an entry, numbers of 64 bits in eight bytes.
 use letters::Header;
-use monitoring::Monitor;
-use monitoring::Phase;
-use monitoring::Run;
-use monitoring::Stream;
-use monitoring::Verdict;
 use records::flagged;
 use records::flags;
 use records::lay;
 use records::marks;
+use streaming::Monitor;
+use streaming::Phase;
+use streaming::Run;
+use streaming::RunAnswer;
+use streaming::Stream;
 use tokens::wide;
 use window::LINES;
 use window::Mask;
@@ -20,8 +20,8 @@ ghost use Prim.Native.Nat.{_+_, _≤_};
 ghost use mathlib.Core.List.{_++_};
 ghost use lib.ListN.{length, take, drop};
 ghost use Rattle.letters.specs.Packing.{join, split};
-ghost use Rattle.states.specs.States.{numberSize, eightOctets, monitorSize, streamSize, headOf, partsThen, Sizes, windowIn, monitorIn, KeepsMonitor};
-ghost use Rattle.states.specs.States.{phaseCode, phaseIn, verdictCode, refusalNumber, firstNumber, secondNumber, verdictIn};
+ghost use Rattle.states.specs.States.{numberSize, eightOctets, monitorSize, streamSize, headOf, partsThen, Sizes, monitorWindowIn, monitorIn, KeepsMonitor};
+ghost use Rattle.states.specs.States.{phaseCode, phaseIn, runAnswerCode, refusalNumber, firstNumber, secondNumber, runAnswerIn};
 ghost use Rattle.states.specs.States.{tailThen, streamIn, KeepsStream};
 
 // The bytes of a state's head, of a stream's tail, which is behind its monitor and before its numbers, and of a number.
@@ -162,7 +162,7 @@ pub fn put_monitor(kind: u8, m: Monitor, state: &mut [u8])
 // The window in a state.
 fn window_in(state: &[u8]) -> Window
     requires { ⌜ monitorSize ≤ length (now state) ⌝ }
-    ensures { λ r. ⌜ r ≡ windowIn (now (state .entry)) ⌝ }
+    ensures { λ r. ⌜ r ≡ monitorWindowIn (now (state .entry)) ⌝ }
 {
     let class = eight_at(state, CLASS);
     let unequal = eight_at(state, UNEQUAL);
@@ -229,49 +229,49 @@ fn phase_of(code: u8) -> Phase
     Phase::Odd
 }
 
-fn verdict_code(verdict: Verdict) -> u8
-    ensures { λ r. ⌜ r ≡ verdictCode verdict ⌝ }
+fn verdict_code(verdict: RunAnswer) -> u8
+    ensures { λ r. ⌜ r ≡ runAnswerCode verdict ⌝ }
 {
     match verdict {
-        Verdict::Judged(incoherent, infeasible) => 0,
-        Verdict::Refused(number, place) => 1,
+        RunAnswer::Judged(incoherent, infeasible) => 0,
+        RunAnswer::Refused(number, place) => 1,
     }
 }
 
-fn refusal_number(verdict: Verdict) -> u8
+fn refusal_number(verdict: RunAnswer) -> u8
     ensures { λ r. ⌜ r ≡ refusalNumber verdict ⌝ }
 {
     match verdict {
-        Verdict::Judged(incoherent, infeasible) => 0,
-        Verdict::Refused(number, place) => number,
+        RunAnswer::Judged(incoherent, infeasible) => 0,
+        RunAnswer::Refused(number, place) => number,
     }
 }
 
-fn first_number(verdict: Verdict) -> u64
+fn first_number(verdict: RunAnswer) -> u64
     ensures { λ r. ⌜ r ≡ firstNumber verdict ⌝ }
 {
     match verdict {
-        Verdict::Judged(incoherent, infeasible) => incoherent,
-        Verdict::Refused(number, place) => 0,
+        RunAnswer::Judged(incoherent, infeasible) => incoherent,
+        RunAnswer::Refused(number, place) => 0,
     }
 }
 
-fn second_number(verdict: Verdict) -> u64
+fn second_number(verdict: RunAnswer) -> u64
     ensures { λ r. ⌜ r ≡ secondNumber verdict ⌝ }
 {
     match verdict {
-        Verdict::Judged(incoherent, infeasible) => infeasible,
-        Verdict::Refused(number, place) => place,
+        RunAnswer::Judged(incoherent, infeasible) => infeasible,
+        RunAnswer::Refused(number, place) => place,
     }
 }
 
-fn verdict_of(code: u8, number: u8, first: u64, second: u64) -> Verdict
-    ensures { λ r. ⌜ r ≡ verdictIn code number first second ⌝ }
+fn verdict_of(code: u8, number: u8, first: u64, second: u64) -> RunAnswer
+    ensures { λ r. ⌜ r ≡ runAnswerIn code number first second ⌝ }
 {
     if code == 0 {
-        return Verdict::Judged(first, second);
+        return RunAnswer::Judged(first, second);
     }
-    Verdict::Refused(number, second)
+    RunAnswer::Refused(number, second)
 }
 
 // Lays what a stream has behind its monitor over the state.

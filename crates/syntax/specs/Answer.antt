@@ -6,17 +6,17 @@ use lib.Dec.{eqb}
 use lib.ListN.{length, replicate}
 use Rattle.base.specs.Choice.{pick}
 use Rattle.letters.specs.Editions.{mostRegisters, mostFunctions}
-use Rattle.letters.specs.RefusalNumbers.{tokenMalformed, grammarViolated}
+use Rattle.letters.specs.MacroRefusalNumbers.{tokenMalformed, grammarViolated}
 use Rattle.macros.specs.Points.{points, sizeBlock}
 use Rattle.tokens.specs.Words as word
 use Rattle.tokens.specs.Tokens.{tokenAt}
 use Rattle.tokens.specs.declared.Token.{Token}
 use Rattle.grammar.specs.Limits.{deepestNesting}
 use Rattle.grammar.specs.Grammar.{Macro, headerOf}
-use Rattle.grammar.specs.Reading.{Got, got, refused, exhausted, onward, block, functionsT, finishT, countT}
-use Rattle.blocks.specs.Held.{table, heldPoint}
-use Rattle.syntax.specs.declared.Macro as held
-use Rattle.syntax.specs.declared.Answer.{Answer}
+use Rattle.grammar.specs.Reading.{Got, got, exhausted, andThen, block, functionsT, finishT, countT}
+use Rattle.blocks.specs.Held.{pointTable, heldPoint}
+use Rattle.syntax.specs.declared.CompiledMacro as held
+use Rattle.syntax.specs.declared.MacroRead.{MacroRead}
 use Rattle.syntax.specs.declared.Registers.{Registers}
 use Rattle.syntax.specs.declared.Functions.{Functions}
 
@@ -25,36 +25,36 @@ abbrev pub padded : ℕ → List ℕ → List ℕ
 padded n l = l ++ replicate (n - length l) 0
 
 -- A macro as the struct holds it: its header, its names and its points.
-unfoldable pub heldMacro : Macro → held.Macro
+unfoldable pub heldMacro : Macro → held.CompiledMacro
 heldMacro m = record {
   header = headerOf m;
   registers = padded mostRegisters (m .registers);
   functions = padded mostFunctions (m .functions);
-  points = table (map heldPoint (points (m .body)));
+  points = pointTable (map heldPoint (points (m .body)));
   count = sizeBlock (m .body);
 }
 
 -- what the struct holds beside a refusal
-abbrev pub noMacro : held.Macro
+abbrev pub noMacro : held.CompiledMacro
 noMacro = record {
   header = record { registers = 0; functions = 0; binary = 0 };
   registers = replicate mostRegisters 0;
   functions = replicate mostFunctions 0;
-  points = table [];
+  points = pointTable [];
   count = 0;
 }
 
 -- The answer: refusal 0 is none. (`exhausted` is never what reading gives: `read-answers`.)
-unfoldable pub answerOf : Got Macro → Answer
-answerOf (got m e) = record { refusal = 0; place = 0; program = heldMacro m }
-answerOf (refused n p) = record { refusal = n; place = p; program = noMacro }
-answerOf exhausted = record { refusal = 0; place = 0; program = noMacro }
+unfoldable pub heldReading : Got Macro → MacroRead
+heldReading (got m e) = record { refusal = 0; place = 0; program = heldMacro m }
+heldReading (Got.refused n p) = record { refusal = n; place = p; program = noMacro }
+heldReading exhausted = record { refusal = 0; place = 0; program = noMacro }
 
 -- ---- declarations on the way
 
 unfoldable pub heldRegisters : Got (List ℕ) → Registers
 heldRegisters (got rs e) = record { ok = true; number = 0; place = 0; at = e; count = length rs; names = padded mostRegisters rs }
-heldRegisters (refused n p) = record { ok = false; number = n; place = p; at = 0; count = 0; names = replicate mostRegisters 0 }
+heldRegisters (Got.refused n p) = record { ok = false; number = n; place = p; at = 0; count = 0; names = replicate mostRegisters 0 }
 heldRegisters exhausted = record { ok = false; number = 0; place = 0; at = 0; count = 0; names = replicate mostRegisters 0 }
 
 abbrev pub noFunctions : ℕ → ℕ → Functions
@@ -71,26 +71,26 @@ heldFunctions (got r e) = record {
   names = padded mostFunctions (r .0);
   arities = padded mostFunctions (r .1);
 }
-heldFunctions (refused n p) = noFunctions n p
+heldFunctions (Got.refused n p) = noFunctions n p
 heldFunctions exhausted = noFunctions 0 0
 
 -- the number by which a token that does not fit is refused
-abbrev pub unfitNumber : Token → ℕ
-unfitNumber t = pick (eqb (t .key) word.wrong) (λ _. tokenMalformed) λ _. grammarViolated
+abbrev pub refusedTokenNumber : Token → ℕ
+refusedTokenNumber t = pick (eqb (t .key) word.wrong) (λ _. tokenMalformed) λ _. grammarViolated
 
 -- ---- the rest of the reading, from each step on
 
 module _ (s : List ℕ) where
   -- behind the last statement
   abbrev pub endFrom : Macro → ℕ → Got Macro
-  endFrom m e = onward (finishT s m (tokenAt s e)) (countT s)
+  endFrom m e = andThen (finishT s m (tokenAt s e)) (countT s)
 
   -- behind the declarations
   unfoldable pub bodyFrom : List ℕ → List ℕ → List ℕ → ℕ → Got Macro
   bodyFrom rs fs ns c =
-      onward (block s rs fs ns (2 * length s + 1) deepestNesting c) λ body e.
+      andThen (block s rs fs ns (2 * length s + 1) deepestNesting c) λ body e.
       endFrom (record { registers = rs; functions = fs; arities = ns; body = body }) e
 
   -- behind the registers
   unfoldable pub functionsFrom : List ℕ → ℕ → Got Macro
-  functionsFrom rs b = onward (functionsT s rs b (tokenAt s b)) λ r c. bodyFrom rs (r .0) (r .1) c
+  functionsFrom rs b = andThen (functionsT s rs b (tokenAt s b)) λ r c. bodyFrom rs (r .0) (r .1) c

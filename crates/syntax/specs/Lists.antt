@@ -1,24 +1,24 @@
--- The lists of names as arrays hold them while they are read, and the returns of the functions that read them.
+-- The lists of names as arrays hold them while they are read.
 use mathlib.Core.Path.{_≡_}
 use Prim.Native.Nat.{ℕ, _≤_}
 use mathlib.Core.Bool.{Bool}
 use mathlib.Core.List.{List}
 use lib.Dec.{ltb}
 use lib.ListN.{length, take}
-use Rattle.grammar.specs.Reading.{Got, refused, indexOf}
-use Rattle.phrases.specs.declared.Got as number
+use Rattle.grammar.specs.Reading.{Got, indexOf}
+use Rattle.phrases.specs.declared.GotNumber as number
 use Rattle.syntax.specs.Answer.{padded}
 
 abbrev pub taken : ℕ → List ℕ → Bool
 taken k l = ltb (indexOf k l) (length l)
 
 -- the first `count` of n entries are names, and 0 stands behind them
-pub record Kept (n : ℕ) (names : List ℕ) (count : ℕ) : Type 0 where
+pub record NamesPadded (n : ℕ) (names : List ℕ) (count : ℕ) : Type 0 where
   pub few : count ≤ n
   pub pad : names ≡ padded n (take count names)
   pub size : length (take count names) ≡ count
 
 -- a refusal that is no list
-abbrev pub refusedBy : {A : Type 0} → number.Got → Got A
-refusedBy (number.the-variants.At v e) = refused 0 0
-refusedBy (number.the-variants.Refused n p) = refused n p
+abbrev pub refusedBy : {A : Type 0} → number.GotNumber → Got A
+refusedBy (number.the-variants.At v e) = Got.refused 0 0
+refusedBy (number.the-variants.Refused n p) = Got.refused n p

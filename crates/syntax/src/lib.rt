@@ -1,9 +1,9 @@
 // The macro reader: from bytes to a macro (document 01, "Macro text" and "The questions").
 use blocks::Codes;
-use blocks::Follows;
 use blocks::POINT_SPACE;
-use blocks::Point;
-use blocks::State;
+use blocks::PointEntry;
+use blocks::ReaderState;
+use blocks::Successors;
 use letters::Header;
 use letters::limits::MOST_FUNCTIONS;
 use letters::limits::MOST_REGISTERS;
@@ -12,7 +12,7 @@ use letters::refusal_numbers::GRAMMAR_VIOLATED;
 use letters::refusal_numbers::POINTS_TOO_MANY;
 use letters::refusal_numbers::TEXT_TOO_LONG;
 use letters::refusal_numbers::TOKEN_MALFORMED;
-use phrases::Got;
+use phrases::GotNumber;
 use tokens::Token;
 ghost use mathlib.Core.Path.{_≡_};
 ghost use mathlib.Core.Bool.{_||_};
@@ -22,14 +22,14 @@ ghost use lib.Dec.{eqb};
 ghost use lib.ListN.{take, length};
 ghost use Rattle.letters.specs.Editions.{mostRegisters, mostFunctions};
 ghost use Rattle.grammar.specs.Grammar.{binaryOf};
-ghost use Rattle.grammar.specs.Reading.{refused, listedT, registers as registersAt, functions as functionsAt, functionsT, arityOf};
+ghost use Rattle.grammar.specs.Reading.{Got, listedT, registerNames as registersAt, functionEntries as functionsAt, functionsT, arityOf};
 ghost use Rattle.tokens.specs.Tokens.{tokenAt};
 ghost use Rattle.phrases.specs.Codes.{plain};
 ghost use Rattle.blocks.specs.Held.{heldBy};
-ghost use Rattle.syntax.specs.Answer.{noMacro, answerOf, heldRegisters, heldFunctions, unfitNumber, bodyFrom, functionsFrom};
-ghost use Rattle.syntax.specs.Lists.{taken, Kept, refusedBy};
+ghost use Rattle.syntax.specs.Answer.{noMacro, heldReading, heldRegisters, heldFunctions, refusedTokenNumber, bodyFrom, functionsFrom};
+ghost use Rattle.syntax.specs.Lists.{taken, NamesPadded, refusedBy};
 ghost use Rattle.syntax.specs.Reads.{Reads};
-ghost use Rattle.syntax.specs.Top.{KeptRegisters, KeptFunctions, Finishes, headed, startOf, flagOf};
+ghost use Rattle.syntax.specs.Top.{RegistersPadded, FunctionsPadded, Finishes, headed, readerStart, arityFlag};
 
 /// The most bytes that a macro's text has.
 pub const LONGEST_TEXT: usize = 4096;
@@ -38,7 +38,7 @@ pub const LONGEST_TEXT: usize = 4096;
 const DEEPEST_NESTING: usize = 16;
 
 /// A macro. A name is held as one number, its bytes as digits to base `tokens::KEY_BASE`, the first byte lowest; 0 stands behind the last name.
-pub struct Macro {
+pub struct CompiledMacro {
     /// How many registers and functions it has, and the functions' arities.
     pub header: Header,
     /// The names of its registers, as declared.
@@ -46,19 +46,19 @@ pub struct Macro {
     /// The names of its functions, as declared.
     pub functions: [u64; MOST_FUNCTIONS],
     /// Its points.
-    pub points: [Point; POINT_SPACE],
+    pub points: [PointEntry; POINT_SPACE],
     /// How many points it has; also the number of the end.
     pub count: u16,
 }
 
 /// What reading a text gives.
-pub struct Answer {
+pub struct MacroRead {
     /// The number of the refusal; 0 if there is none.
     pub refusal: u8,
     /// The place of the refusal; 0 if there is none.
     pub place: usize,
     /// The macro; one without registers and points beside a refusal.
-    pub program: Macro,
+    pub program: CompiledMacro,
 }
 
 /// The registers that were read, or a refusal.
@@ -97,7 +97,7 @@ pub struct Functions {
 
 // The number by which a token that does not fit the grammar is refused.
 fn unfit_number(t: Token) -> u8
-    ensures { λ r. ⌜ r ≡ unfitNumber t ⌝ }
+    ensures { λ r. ⌜ r ≡ refusedTokenNumber t ⌝ }
 {
     if t.key == tokens::WRONG {
         return TOKEN_MALFORMED;
@@ -106,7 +106,7 @@ fn unfit_number(t: Token) -> u8
 }
 
 fn no_registers(number: u8, place: usize) -> Registers
-    ensures { λ r. ⌜ r ≡ heldRegisters (refused number place) ⌝ }
+    ensures { λ r. ⌜ r ≡ heldRegisters (Got.refused number place) ⌝ }
 {
     Registers {
         ok: false,
@@ -119,7 +119,7 @@ fn no_registers(number: u8, place: usize) -> Registers
 }
 
 fn no_functions(number: u8, place: usize) -> Functions
-    ensures { λ r. ⌜ r ≡ heldFunctions (refused number place) ⌝ }
+    ensures { λ r. ⌜ r ≡ heldFunctions (Got.refused number place) ⌝ }
 {
     Functions {
         ok: false,
@@ -134,7 +134,7 @@ fn no_functions(number: u8, place: usize) -> Functions
 
 // Whether no register of this name can be declared any more.
 fn is_register_taken(names: [u64; MOST_REGISTERS], count: usize, k: u64) -> bool
-    requires { ⌜ Kept mostRegisters names count ⌝ }
+    requires { ⌜ NamesPadded mostRegisters names count ⌝ }
     ensures { λ r. ⌜ r ≡ (eqb count mostRegisters || taken k (take count names)) ⌝ }
 {
     if count == MOST_REGISTERS {
@@ -145,7 +145,7 @@ fn is_register_taken(names: [u64; MOST_REGISTERS], count: usize, k: u64) -> bool
 
 // Behind the last register.
 fn registers_end(names: [u64; MOST_REGISTERS], count: usize, t: Token) -> Registers
-    requires { ⌜ Kept mostRegisters names count ⌝ }
+    requires { ⌜ NamesPadded mostRegisters names count ⌝ }
     ensures { λ r. ⌜ r ≡ heldRegisters (listedT [] (length (take count names)) (take count names) t) ⌝ }
 {
     if t.key == tokens::SEMICOLON {
@@ -188,7 +188,7 @@ fn read_registers(text: &[u8], from: usize) -> Registers
 
 // Whether no function of this name can be declared any more.
 fn is_function_taken(regs: &[u64], names: [u64; MOST_FUNCTIONS], count: usize, k: u64) -> bool
-    requires { ⌜ (length (now regs) ≤ mostRegisters) × Kept mostFunctions names count ⌝ }
+    requires { ⌜ (length (now regs) ≤ mostRegisters) × NamesPadded mostFunctions names count ⌝ }
     ensures { λ r. ⌜ r ≡ (eqb count mostFunctions || (taken k (now (regs .entry)) || taken k (take count names))) ⌝ }
 {
     if count == MOST_FUNCTIONS {
@@ -201,30 +201,30 @@ fn is_function_taken(regs: &[u64], names: [u64; MOST_FUNCTIONS], count: usize, k
 }
 
 // `/` and how many arguments.
-fn arity(text: &[u8], at: usize) -> Got
+fn arity(text: &[u8], at: usize) -> GotNumber
     ensures { λ r. ⌜ r ≡ plain (arityOf (now (text .entry)) at) ⌝ }
 {
     let slash = phrases::expect(text, tokens::SLASH, at);
-    let Got::At(_, a) = slash else {
+    let GotNumber::At(_, a) = slash else {
         return slash;
     };
     let t = tokens::next(text, a);
     if t.key == tokens::ONE {
-        return Got::At(1, t.end);
+        return GotNumber::At(1, t.end);
     }
     if t.key == tokens::TWO {
-        return Got::At(2, t.end);
+        return GotNumber::At(2, t.end);
     }
     phrases::unfitting(t)
 }
 
 // The same refusal, where functions were to be read.
-fn refused_functions(g: Got) -> Functions
+fn refused_functions(g: GotNumber) -> Functions
     ensures { λ r. ⌜ r ≡ heldFunctions (refusedBy g) ⌝ }
 {
     match g {
-        Got::At(_, _) => no_functions(0, 0),
-        Got::Refused(n, p) => no_functions(n, p),
+        GotNumber::At(_, _) => no_functions(0, 0),
+        GotNumber::Refused(n, p) => no_functions(n, p),
     }
 }
 
@@ -235,7 +235,7 @@ fn functions_end(
     count: usize,
     t: Token,
 ) -> Functions
-    requires { ⌜ Kept mostFunctions names count × Kept mostFunctions arities count ⌝ }
+    requires { ⌜ NamesPadded mostFunctions names count × NamesPadded mostFunctions arities count ⌝ }
     ensures { λ r. ⌜ r ≡ heldFunctions (listedT [] (length (take count names)) (take count names, take count arities) t) ⌝ }
 {
     if t.key == tokens::SEMICOLON {
@@ -271,7 +271,7 @@ fn read_functions(text: &[u8], regs: &[u64], from: usize) -> Functions
                 return no_functions(DECLARATION_WRONG, t.start);
             }
             let g = arity(text, t.end);
-            let Got::At(n, e) = g else {
+            let GotNumber::At(n, e) = g else {
                 return refused_functions(g);
             };
             names[count] = t.key;
@@ -304,10 +304,10 @@ fn functions_line(text: &[u8], regs: &[u64], at: usize) -> Functions
     }
 }
 
-fn no_macro() -> Macro
+fn no_macro() -> CompiledMacro
     ensures { λ r. ⌜ r ≡ noMacro ⌝ }
 {
-    Macro {
+    CompiledMacro {
         header: Header {
             registers: 0,
             functions: 0,
@@ -320,11 +320,11 @@ fn no_macro() -> Macro
     }
 }
 
-fn refused_answer(number: u8, place: usize) -> Answer
-    ensures { λ r. ⌜ r ≡ answerOf (refused number place) ⌝ }
+fn refused_answer(number: u8, place: usize) -> MacroRead
+    ensures { λ r. ⌜ r ≡ heldReading (Got.refused number place) ⌝ }
 {
     let none = no_macro();
-    Answer {
+    MacroRead {
         refusal: number,
         place: place,
         program: none,
@@ -332,18 +332,18 @@ fn refused_answer(number: u8, place: usize) -> Answer
 }
 
 // The same refusal, where a macro was to be read.
-fn refused_text(g: Got) -> Answer
-    ensures { λ r. ⌜ r ≡ answerOf (refusedBy g) ⌝ }
+fn refused_text(g: GotNumber) -> MacroRead
+    ensures { λ r. ⌜ r ≡ heldReading (refusedBy g) ⌝ }
 {
     match g {
-        Got::At(_, _) => refused_answer(0, 0),
-        Got::Refused(n, p) => refused_answer(n, p),
+        GotNumber::At(_, _) => refused_answer(0, 0),
+        GotNumber::Refused(n, p) => refused_answer(n, p),
     }
 }
 
 // 1 for two arguments.
 fn flag(n: u8) -> u8
-    ensures { λ r. ⌜ (r ≡ flagOf n) × (r ≤ 1) ⌝ }
+    ensures { λ r. ⌜ (r ≡ arityFlag n) × (r ≤ 1) ⌝ }
 {
     if n == 2 {
         return 1;
@@ -359,7 +359,7 @@ fn binary_of(arities: [u8; MOST_FUNCTIONS]) -> u8
 }
 
 fn header_of(rs: Registers, fs: Functions) -> Header
-    requires { ⌜ KeptRegisters rs × KeptFunctions fs ⌝ }
+    requires { ⌜ RegistersPadded rs × FunctionsPadded fs ⌝ }
     ensures { λ r. ⌜ r ≡ headed rs fs ⌝ }
 {
     let arities = fs.arities;
@@ -371,10 +371,10 @@ fn header_of(rs: Registers, fs: Functions) -> Header
 }
 
 // Where reading the statements begins.
-fn start(at: usize) -> State
-    ensures { λ r. ⌜ r ≡ startOf at ⌝ }
+fn start(at: usize) -> ReaderState
+    ensures { λ r. ⌜ r ≡ readerStart at ⌝ }
 {
-    State {
+    ReaderState {
         ok: true,
         number: 0,
         place: 0,
@@ -388,12 +388,12 @@ fn finish(
     text: &[u8],
     rs: Registers,
     fs: Functions,
-    body: State,
+    body: ReaderState,
     code: &Codes,
-    first: &mut Follows,
-    second: &mut Follows,
-) -> Answer
-    requires { ⌜ KeptRegisters rs × KeptFunctions fs ⌝ }
+    first: &mut Successors,
+    second: &mut Successors,
+) -> MacroRead
+    requires { ⌜ RegistersPadded rs × FunctionsPadded fs ⌝ }
     ensures { λ r. ⌜ Finishes (now (text .entry)) rs fs (heldBy body (now (code .entry)) (now (first .entry)) (now (second .entry))) r ⌝ }
 {
     let t = tokens::next(text, body.at);
@@ -407,10 +407,10 @@ fn finish(
         let header = header_of(rs, fs);
         let registers = rs.names;
         let functions = fs.names;
-        return Answer {
+        return MacroRead {
             refusal: 0,
             place: 0,
-            program: Macro {
+            program: CompiledMacro {
                 header: header,
                 registers: registers,
                 functions: functions,
@@ -423,9 +423,9 @@ fn finish(
 }
 
 // Behind the declarations.
-fn read_body(text: &[u8], rs: Registers, fs: Functions) -> Answer
-    requires { ⌜ KeptRegisters rs × KeptFunctions fs ⌝ }
-    ensures { λ r. ⌜ r ≡ answerOf (bodyFrom (now (text .entry)) (take (rs .count) (rs .names)) (take (fs .count) (fs .names)) (take (fs .count) (fs .arities)) (fs .at)) ⌝ }
+fn read_body(text: &[u8], rs: Registers, fs: Functions) -> MacroRead
+    requires { ⌜ RegistersPadded rs × FunctionsPadded fs ⌝ }
+    ensures { λ r. ⌜ r ≡ heldReading (bodyFrom (now (text .entry)) (take (rs .count) (rs .names)) (take (fs .count) (fs .names)) (take (fs .count) (fs .arities)) (fs .at)) ⌝ }
 {
     let regs = rs.names;
     let n = rs.count;
@@ -454,9 +454,9 @@ fn read_body(text: &[u8], rs: Registers, fs: Functions) -> Answer
 }
 
 // Behind the registers.
-fn read_rest(text: &[u8], rs: Registers) -> Answer
-    requires { ⌜ KeptRegisters rs ⌝ }
-    ensures { λ r. ⌜ r ≡ answerOf (functionsFrom (now (text .entry)) (take (rs .count) (rs .names)) (rs .at)) ⌝ }
+fn read_rest(text: &[u8], rs: Registers) -> MacroRead
+    requires { ⌜ RegistersPadded rs ⌝ }
+    ensures { λ r. ⌜ r ≡ heldReading (functionsFrom (now (text .entry)) (take (rs .count) (rs .names)) (rs .at)) ⌝ }
 {
     let regs = rs.names;
     let n = rs.count;
@@ -469,14 +469,14 @@ fn read_rest(text: &[u8], rs: Registers) -> Answer
 }
 
 /// Reads a macro: question 7, then the text token by token (8 to 12), then the count of points (13).
-pub fn read(text: &[u8]) -> Answer
+pub fn read(text: &[u8]) -> MacroRead
     ensures { λ r. ⌜ Reads (now (text .entry)) r ⌝ }
 {
     if LONGEST_TEXT < text.len() {
         return refused_answer(TEXT_TOO_LONG, 0);
     }
     let g = phrases::expect(text, tokens::VARS, 0);
-    let Got::At(_, a) = g else {
+    let GotNumber::At(_, a) = g else {
         return refused_text(g);
     };
     let rs = read_registers(text, a);

@@ -15,5 +15,5 @@ pub record Appended (entry : List ℕ) (at : ℕ) (text exit : List ℕ) (next :
   pub place : next ≡ at + length text
 
 -- The place behind the text is a number that the machine has.
-pub record Room (at : ℕ) (text : List ℕ) : Type 0 where
+pub record PlaceInRange (at : ℕ) (text : List ℕ) : Type 0 where
   pub fits : at + length text < 2 ^ 64

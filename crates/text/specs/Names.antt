@@ -6,9 +6,9 @@ use Rattle.base.specs.Choice.{pick}
 use Rattle.base.specs.Recursion.{fixed}
 use Rattle.tokens.specs.Bytes.{keyBase}
 
-abbrev pub step : (ℕ → List ℕ) → ℕ → List ℕ
-step f w = pick (eqb w 0) (λ _. []) λ _. w % keyBase ∷ f (w / keyBase)
+abbrev pub nameStep : (ℕ → List ℕ) → ℕ → List ℕ
+nameStep f w = pick (eqb w 0) (λ _. []) λ _. w % keyBase ∷ f (w / keyBase)
 
 -- The bytes of a name.
 unfoldable pub nameText : ℕ → List ℕ
-nameText = fixed (λ w. w) (λ _. []) step
+nameText = fixed (λ w. w) (λ _. []) nameStep

@@ -6,12 +6,12 @@ use Rattle.base.specs.Choice.{pick}
 use Rattle.base.specs.Recursion.{fixed}
 
 -- The byte of a digit: 48 is the ASCII code of 0.
-abbrev pub digit : ℕ → ℕ
-digit d = 48 + d
+abbrev pub digitByte : ℕ → ℕ
+digitByte d = 48 + d
 
-abbrev pub step : (ℕ → List ℕ) → ℕ → List ℕ
-step f n = pick (ltb n 10) (λ _. digit n ∷ []) λ _. f (n / 10) ++ (digit (n % 10) ∷ [])
+abbrev pub numeralStep : (ℕ → List ℕ) → ℕ → List ℕ
+numeralStep f n = pick (ltb n 10) (λ _. digitByte n ∷ []) λ _. f (n / 10) ++ (digitByte (n % 10) ∷ [])
 
 -- The numeral of a number, the most significant digit first: that of its tenth, and its last digit.
 unfoldable pub numeral : ℕ → List ℕ
-numeral = fixed (λ n. n) (λ _. []) step
+numeral = fixed (λ n. n) (λ _. []) numeralStep

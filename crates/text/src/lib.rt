@@ -2,7 +2,7 @@
 use tokens::KEY_BASE;
 ghost use mathlib.Core.List.{[], _∷_};
 ghost use Prim.Native.Nat.{_+_};
-ghost use Rattle.text.specs.Appending.{Appended, Room};
+ghost use Rattle.text.specs.Appending.{Appended, PlaceInRange};
 ghost use Rattle.text.specs.Numerals.{numeral};
 ghost use Rattle.text.specs.Names.{nameText};
 ghost use Rattle.text.specs.Templates.{part, filledIn};
@@ -12,7 +12,7 @@ pub const FIELDS: usize = 4;
 
 // Appends a byte at `at`, and answers the place behind it. Past the buffer's end nothing is stored; the place moves all the same.
 fn put_byte(out: &mut [u8], at: usize, byte: u8) -> usize
-    requires { ⌜ Room at (byte ∷ []) ⌝ }
+    requires { ⌜ PlaceInRange at (byte ∷ []) ⌝ }
     ensures { λ r. ⌜ Appended (now (out .entry)) at (byte ∷ []) (now (out .exit)) r ⌝ }
 {
     if at < out.len() {
@@ -23,7 +23,7 @@ fn put_byte(out: &mut [u8], at: usize, byte: u8) -> usize
 
 // Appends a name.
 fn put_name(out: &mut [u8], at: usize, name: u64) -> usize
-    requires { ⌜ Room at (nameText name) ⌝ }
+    requires { ⌜ PlaceInRange at (nameText name) ⌝ }
     ensures { λ r. ⌜ Appended (now (out .entry)) at (nameText name) (now (out .exit)) r ⌝ }
 {
     let mut next = at;
@@ -37,7 +37,7 @@ fn put_name(out: &mut [u8], at: usize, name: u64) -> usize
 
 // Appends the numeral of a number.
 fn put_number(out: &mut [u8], at: usize, number: u64) -> usize
-    requires { ⌜ Room at (numeral number) ⌝ }
+    requires { ⌜ PlaceInRange at (numeral number) ⌝ }
     ensures { λ r. ⌜ Appended (now (out .entry)) at (numeral number) (now (out .exit)) r ⌝ }
 {
     let last = b'0' + (number % 10) as u8;
@@ -50,7 +50,7 @@ fn put_number(out: &mut [u8], at: usize, number: u64) -> usize
 
 // Appends what a byte of a template stands for.
 fn put_part(out: &mut [u8], at: usize, byte: u8, fields: [u64; FIELDS]) -> usize
-    requires { ⌜ Room at (part byte fields) ⌝ }
+    requires { ⌜ PlaceInRange at (part byte fields) ⌝ }
     ensures { λ r. ⌜ Appended (now (out .entry)) at (part byte fields) (now (out .exit)) r ⌝ }
 {
     if byte < b'0' {
@@ -69,7 +69,7 @@ fn put_part(out: &mut [u8], at: usize, byte: u8, fields: [u64; FIELDS]) -> usize
 
 /// Appends a template with its fields: in it `0` to `3` stand for the names of the fields and `4` to `7` for their numerals.
 pub fn put_line(out: &mut [u8], at: usize, template: &[u8], fields: [u64; FIELDS]) -> usize
-    requires { ⌜ Room at (filledIn (now template) fields) ⌝ }
+    requires { ⌜ PlaceInRange at (filledIn (now template) fields) ⌝ }
     ensures { λ r. ⌜ Appended (now (out .entry)) at (filledIn (now (template .entry)) fields) (now (out .exit)) r ⌝ }
 {
     let mut next = at;

@@ -36,9 +36,9 @@ gap true (b ∷ s) = suc (gap (not (eqb b 10)) s)
 gap false (b ∷ s) = pick (eqb b 35) (λ _. suc (gap true s)) λ _. pick (blank b) (λ _. suc (gap false s)) λ _. 0
 
 -- how many letters, digits and _ stand in front
-unfoldable pub run : List ℕ → ℕ
-run [] = 0
-run (b ∷ s) = pick (inner b) (λ _. suc (run s)) λ _. 0
+unfoldable pub nameLength : List ℕ → ℕ
+nameLength [] = 0
+nameLength (b ∷ s) = pick (inner b) (λ _. suc (nameLength s)) λ _. 0
 
 -- "A name is a lower-case letter and up to seven more lower-case letters, digits or `_`."
 abbrev pub longestName : ℕ
@@ -48,7 +48,7 @@ longestName = 8
 unfoldable pub width : List ℕ → ℕ
 width [] = 0
 width (b ∷ s) =
-    pick (lower b) (λ _. pick (leb (run (b ∷ s)) longestName) (λ _. run (b ∷ s)) λ _. 0)
+    pick (lower b) (λ _. pick (leb (nameLength (b ∷ s)) longestName) (λ _. nameLength (b ∷ s)) λ _. 0)
     λ _. pick (mark b) (λ _. pick (eqb (getD s 0 0) 61) (λ _. 2) λ _. 0)
     λ _. pick (symbol b) (λ _. 1) λ _. 0
 

@@ -11,8 +11,8 @@ use Rattle.tokens.specs.Words as word
 use Rattle.tokens.specs.declared.Token.{Token}
 
 -- the first place at or after a place that is no blank and in no comment
-abbrev pub onward : List ℕ → ℕ → ℕ
-onward s at = at + gap false (drop at s)
+abbrev pub skipBlanks : List ℕ → ℕ → ℕ
+skipBlanks s at = at + gap false (drop at s)
 
 abbrev pub token : ℕ → ℕ → ℕ → Token
 token k p e = record { key = k; start = p; end = e }
@@ -21,7 +21,7 @@ token k p e = record { key = k; start = p; end = e }
 -- The end of the text stands at the text's length.
 unfoldable pub tokenAt : List ℕ → ℕ → Token
 tokenAt s at =
-    let p = onward s at in
+    let p = skipBlanks s at in
     pick (leb (length s) p) (λ _. token word.end (length s) (length s))
     λ _. pick (eqb (width (drop p s)) 0) (λ _. token word.wrong p p)
     λ _. token (key (slice p (p + width (drop p s)) s)) p (p + width (drop p s))

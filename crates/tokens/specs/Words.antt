@@ -14,69 +14,69 @@ abbrev pub wrong : ℕ
 wrong = 1
 
 -- "Words that are not names: vars funs skip assume assert if else while."
-abbrev pub vars : ℕ
-vars = key (118 ∷ 97 ∷ 114 ∷ 115 ∷ [])
+abbrev pub varsKey : ℕ
+varsKey = key (118 ∷ 97 ∷ 114 ∷ 115 ∷ [])
 
-abbrev pub funs : ℕ
-funs = key (102 ∷ 117 ∷ 110 ∷ 115 ∷ [])
+abbrev pub funsKey : ℕ
+funsKey = key (102 ∷ 117 ∷ 110 ∷ 115 ∷ [])
 
-abbrev pub skip : ℕ
-skip = key (115 ∷ 107 ∷ 105 ∷ 112 ∷ [])
+abbrev pub skipKey : ℕ
+skipKey = key (115 ∷ 107 ∷ 105 ∷ 112 ∷ [])
 
-abbrev pub assume : ℕ
-assume = key (97 ∷ 115 ∷ 115 ∷ 117 ∷ 109 ∷ 101 ∷ [])
+abbrev pub assumeKey : ℕ
+assumeKey = key (97 ∷ 115 ∷ 115 ∷ 117 ∷ 109 ∷ 101 ∷ [])
 
-abbrev pub assert : ℕ
-assert = key (97 ∷ 115 ∷ 115 ∷ 101 ∷ 114 ∷ 116 ∷ [])
+abbrev pub assertKey : ℕ
+assertKey = key (97 ∷ 115 ∷ 115 ∷ 101 ∷ 114 ∷ 116 ∷ [])
 
-abbrev pub if : ℕ
-if = key (105 ∷ 102 ∷ [])
+abbrev pub ifKey : ℕ
+ifKey = key (105 ∷ 102 ∷ [])
 
-abbrev pub else : ℕ
-else = key (101 ∷ 108 ∷ 115 ∷ 101 ∷ [])
+abbrev pub elseKey : ℕ
+elseKey = key (101 ∷ 108 ∷ 115 ∷ 101 ∷ [])
 
-abbrev pub while : ℕ
-while = key (119 ∷ 104 ∷ 105 ∷ 108 ∷ 101 ∷ [])
+abbrev pub whileKey : ℕ
+whileKey = key (119 ∷ 104 ∷ 105 ∷ 108 ∷ 101 ∷ [])
 
 abbrev pub keyword : ℕ → Bool
-keyword k = eqb k vars || eqb k funs || eqb k skip || eqb k assume || eqb k assert || eqb k if || eqb k else || eqb k while
+keyword k = eqb k varsKey || eqb k funsKey || eqb k skipKey || eqb k assumeKey || eqb k assertKey || eqb k ifKey || eqb k elseKey || eqb k whileKey
 
 -- "Tokens: names, `1`, `2`, `:=`, `=`, `!=`, `;`, `,`, `(`, `)`, `{`, `}`, `/`."
-abbrev pub one : ℕ
-one = key (49 ∷ [])
+abbrev pub oneKey : ℕ
+oneKey = key (49 ∷ [])
 
-abbrev pub two : ℕ
-two = key (50 ∷ [])
+abbrev pub twoKey : ℕ
+twoKey = key (50 ∷ [])
 
-abbrev pub becomes : ℕ
-becomes = key (58 ∷ 61 ∷ [])
+abbrev pub becomesKey : ℕ
+becomesKey = key (58 ∷ 61 ∷ [])
 
-abbrev pub equal : ℕ
-equal = key (61 ∷ [])
+abbrev pub equalKey : ℕ
+equalKey = key (61 ∷ [])
 
-abbrev pub unequal : ℕ
-unequal = key (33 ∷ 61 ∷ [])
+abbrev pub unequalKey : ℕ
+unequalKey = key (33 ∷ 61 ∷ [])
 
-abbrev pub semicolon : ℕ
-semicolon = key (59 ∷ [])
+abbrev pub semicolonKey : ℕ
+semicolonKey = key (59 ∷ [])
 
-abbrev pub comma : ℕ
-comma = key (44 ∷ [])
+abbrev pub commaKey : ℕ
+commaKey = key (44 ∷ [])
 
-abbrev pub lparen : ℕ
-lparen = key (40 ∷ [])
+abbrev pub lparenKey : ℕ
+lparenKey = key (40 ∷ [])
 
-abbrev pub rparen : ℕ
-rparen = key (41 ∷ [])
+abbrev pub rparenKey : ℕ
+rparenKey = key (41 ∷ [])
 
-abbrev pub lbrace : ℕ
-lbrace = key (123 ∷ [])
+abbrev pub lbraceKey : ℕ
+lbraceKey = key (123 ∷ [])
 
-abbrev pub rbrace : ℕ
-rbrace = key (125 ∷ [])
+abbrev pub rbraceKey : ℕ
+rbraceKey = key (125 ∷ [])
 
-abbrev pub slash : ℕ
-slash = key (47 ∷ [])
+abbrev pub slashKey : ℕ
+slashKey = key (47 ∷ [])
 
 -- A token is a name if it begins with a lower-case letter and is none of the words; a token that begins so goes on as a name does.
 abbrev pub isName : ℕ → Bool

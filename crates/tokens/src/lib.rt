@@ -4,7 +4,7 @@ ghost use mathlib.Core.Bool.{true, false};
 ghost use Prim.Native.Nat.{_+_, _≤_, _<_};
 ghost use lib.ListN.{length, drop};
 ghost use lib.Seq.{slice};
-ghost use Rattle.tokens.specs.Bytes.{blank, lower, digit, inner, symbol, mark, gap, run, longestName, width, keyBase, key};
+ghost use Rattle.tokens.specs.Bytes.{blank, lower, digit, inner, symbol, mark, gap, nameLength, longestName, width, keyBase, key};
 ghost use Rattle.tokens.specs.Tokens.{tokenAt};
 ghost use Rattle.tokens.specs.Words.{keyword, isName, sameName};
 
@@ -215,7 +215,7 @@ fn skip_gap(text: &[u8], from: usize) -> usize
 
 // The first place at or after `from` that no name goes on with.
 fn run_end(text: &[u8], from: usize) -> usize
-    ensures { λ r. ⌜ r ≡ from + run (drop from (now (text .entry))) ⌝ }
+    ensures { λ r. ⌜ r ≡ from + nameLength (drop from (now (text .entry))) ⌝ }
 {
     let mut at = from;
     while at < text.len() {

@@ -25,7 +25,7 @@ use Rattle.letters.specs.Answers.{Answer, value, refusal, onAnswer}
 use Rattle.letters.specs.CodeAnswers.{letterAnswer}
 use Rattle.traces.specs.Answers.{beginningAnswer}
 use Rattle.letters.specs.Coding.{decodeLetter}
-use Rattle.traces.specs.Reading.{Reading, trace, refused, before, lettersFrom, parts, letterIn, beginning, letterCount, lettersOf, readingWhere}
+use Rattle.traces.specs.Reading.{TraceReading, trace, prependLetter, lettersFrom, chunks, letterIn, beginning, letterCount, lettersOf, readingWhere}
 use Rattle.traces.specs.ReadingParts.{counted}
 
 module _ {A : Type 0} (decode : A → Answer Letter) (h : Header) where
@@ -38,9 +38,9 @@ abbrev shift : ℕ → Answer (Header × ℕ) → Answer (Header × ℕ)
 shift n (value x) = value (x .0, n + x .1)
 shift n (refusal number place) = refusal number place
 
-shift-before : (n : ℕ) (l : Letter) (r : Reading) → shift n (counted (before l r)) ≡ shift (n + 1) (counted r)
+shift-before : (n : ℕ) (l : Letter) (r : TraceReading) → shift n (counted (prependLetter l r)) ≡ shift (n + 1) (counted r)
 shift-before n l (trace h ls) = ap (λ (m : ℕ). value (h, m)) (omega arith)
-shift-before n l (refused number place) = refl
+shift-before n l (TraceReading.refused number place) = refl
 
 shift-none : (x : Answer (Header × ℕ)) → shift 0 x ≡ x
 shift-none (value x) = rw zero-add
@@ -52,30 +52,30 @@ module _ {A : Type 0} (decode : A → Answer Letter) (h : Header) where
   counted-on n [] = rw add-zero
   counted-on n (x ∷ codes) = by (lettersFrom decode h (n + 1 + 1) codes) (countFrom decode h (n + 1) codes) (counted-on (n + 1) codes) (decode x)
     where
-      by : (r : Reading) (c : Answer (Header × ℕ)) → shift (n + 1) (counted r) ≡ c → (a : Answer Letter)
-          → shift n (counted (onAnswer a (λ l. before l r) λ _ _. refused 4 (n + 1))) ≡ onAnswer a (λ _. c) λ _ _. refusal 4 (n + 1)
+      by : (r : TraceReading) (c : Answer (Header × ℕ)) → shift (n + 1) (counted r) ≡ c → (a : Answer Letter)
+          → shift n (counted (onAnswer a (λ l. prependLetter l r) λ _ _. TraceReading.refused 4 (n + 1))) ≡ onAnswer a (λ _. c) λ _ _. refusal 4 (n + 1)
       by r c e (value l) = shift-before n l r ∙ e
       by r c e (refusal number place) = refl
 
 -- the loop over the parts of s, b bytes each, k in all, of which n are read and the next starts at `at`
 module _ (decode : List ℕ → Answer Letter) (h : Header) (b k : ℕ) (s : List ℕ) where
-  pub count-begins : (at : ℕ) → countFrom decode h 0 (parts b (k - 0) (drop at s)) ≡ counted (lettersFrom decode h 1 (parts b k (drop at s)))
-  count-begins at = rw sub-zero (sym (counted-on decode h 0 (parts b k (drop at s))) ∙ shift-none _)
+  pub count-begins : (at : ℕ) → countFrom decode h 0 (chunks b (k - 0) (drop at s)) ≡ counted (lettersFrom decode h 1 (chunks b k (drop at s)))
+  count-begins at = rw sub-zero (sym (counted-on decode h 0 (chunks b k (drop at s))) ∙ shift-none _)
 
   turn : (n at : ℕ) → n < k
-      → countFrom decode h n (parts b (k - n) (drop at s)) ≡ onAnswer (decode (take b (drop at s))) (λ _. countFrom decode h (n + 1) (parts b (k - (n + 1)) (drop (at + b) s))) λ _ _. refusal 4 (n + 1)
-  unfolding countFrom parts
+      → countFrom decode h n (chunks b (k - n) (drop at s)) ≡ onAnswer (decode (take b (drop at s))) (λ _. countFrom decode h (n + 1) (chunks b (k - (n + 1)) (drop (at + b) s))) λ _ _. refusal 4 (n + 1)
+  unfolding countFrom chunks
   turn n at l = let m : k - n ≡ suc (k - (n + 1)) = omega arith in rw (m, ← drop-drop b at s)
 
   pub count-good : (n at : ℕ) (l : Letter) → n < k → decode (take b (drop at s)) ≡ value l
-      → countFrom decode h n (parts b (k - n) (drop at s)) ≡ countFrom decode h (n + 1) (parts b (k - (n + 1)) (drop (at + b) s))
+      → countFrom decode h n (chunks b (k - n) (drop at s)) ≡ countFrom decode h (n + 1) (chunks b (k - (n + 1)) (drop (at + b) s))
   count-good n at l m e = turn n at m ∙ rw e
 
-  pub count-bad : (n at a p : ℕ) → n < k → decode (take b (drop at s)) ≡ refusal a p → countFrom decode h n (parts b (k - n) (drop at s)) ≡ refusal 4 (n + 1)
+  pub count-bad : (n at a p : ℕ) → n < k → decode (take b (drop at s)) ≡ refusal a p → countFrom decode h n (chunks b (k - n) (drop at s)) ≡ refusal 4 (n + 1)
   count-bad n at a p m e = turn n at m ∙ rw e
 
-  pub count-ends : (n at : ℕ) → k ≤ n → countFrom decode h n (parts b (k - n) (drop at s)) ≡ value (h, n)
-  unfolding countFrom parts
+  pub count-ends : (n at : ℕ) → k ≤ n → countFrom decode h n (chunks b (k - n) (drop at s)) ≡ value (h, n)
+  unfolding countFrom chunks
   count-ends n at l = let m : k - n ≡ 0 = omega arith in rw m
 
 -- a word's two bytes
@@ -127,7 +127,7 @@ module _ (tooMany : ℕ → Bool) (s : List ℕ) (begun : HeaderRead) (e : begin
 
 pub same-limit : (f g : ℕ → Bool) (s : List ℕ) → f (letterCount firstEdition s) ≡ g (letterCount firstEdition s) → readingWhere f firstEdition s ≡ readingWhere g firstEdition s
 unfolding readingWhere
-same-limit f g s e = ap (λ (t : Bool). onAnswer (beginning firstEdition s) (λ h. pick t (λ _. refused 5 0) λ _. lettersOf firstEdition h s) refused) e
+same-limit f g s e = ap (λ (t : Bool). onAnswer (beginning firstEdition s) (λ h. pick t (λ _. TraceReading.refused 5 0) λ _. lettersOf firstEdition h s) TraceReading.refused) e
 
 -- ---- five bytes at a place
 

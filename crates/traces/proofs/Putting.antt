@@ -22,11 +22,11 @@ use Rattle.letters.specs.Words.{headerFields, letterFields, headerWord, letterW
 use Rattle.letters.specs.Coding.{headerTest}
 use Rattle.letters.specs.Encoding.{encodeHeader, encodeLetter}
 use Rattle.letters.proofs.Theory.WordLaws.{chosen, header-test, fits-test, first-roomy}
-use Rattle.traces.specs.Reading.{Reading, trace, refused, parts, lettersFrom}
+use Rattle.traces.specs.Reading.{TraceReading, trace, chunks, lettersFrom}
 use Rattle.traces.specs.ReadingParts.{counted}
 use Rattle.traces.specs.Traces.{units, bytesOf, packing}
 use Rattle.traces.proofs.Theory.TraceLaws.{Decoded, letters-decoded, decoded-length, parts-length, bytes-length}
-use Rattle.traces.specs.Writing.{unpackLetter, unpackedParts, unpacking, writtenLength, writtenOver, Wrote}
+use Rattle.traces.specs.Writing.{unpackLetter, unpackedParts, unpacking, writtenLength, writtenOver, WroteTrace}
 use Rattle.traces.proofs.Theory.WritingLaws.{unpack-letter, unpack-whole}
 use Rattle.letters.specs.Putting.{putWord}
 use Rattle.traces.specs.Putting.{wordIn, putEach, putWords}
@@ -49,25 +49,25 @@ word-in h x l v q = rw (q, header-test firstEdition h .1 v, fits-test h l .1 (un
 -- ---- the loop over the parts of s, k in all, b bytes each, of which m are done and the next starts at `at`
 
 module _ {B : Type 0} (put : List ℕ → ℕ → B → List ℕ) (n b : ℕ) (decode : List ℕ → Answer B) (k : ℕ) (s : List ℕ) where
-  pub put-begins : (at to : ℕ) (out : List ℕ) → putEach put n decode out to (parts b (k - 0) (drop at s)) ≡ putEach put n decode out to (parts b k (drop at s))
+  pub put-begins : (at to : ℕ) (out : List ℕ) → putEach put n decode out to (chunks b (k - 0) (drop at s)) ≡ putEach put n decode out to (chunks b k (drop at s))
   put-begins at to out = rw sub-zero
 
   turn : (m next at to : ℕ) (out : List ℕ) → m < k → next ≡ m + 1
-      → putEach put n decode out to (parts b (k - m) (drop at s))
-      ≡ onAnswer (decode (take b (drop at s))) (λ x. putEach put n decode (put out to x) (to + n) (parts b (k - next) (drop (at + b) s))) λ _ _. out
-  unfolding putEach parts
+      → putEach put n decode out to (chunks b (k - m) (drop at s))
+      ≡ onAnswer (decode (take b (drop at s))) (λ x. putEach put n decode (put out to x) (to + n) (chunks b (k - next) (drop (at + b) s))) λ _ _. out
+  unfolding putEach chunks
   turn m next at to out l e = let g : k - m ≡ suc (k - next) = omega arith in rw (g, ← drop-drop b at s)
 
   pub put-good : (m next at to : ℕ) (x : B) (out after : List ℕ) → m < k → next ≡ m + 1 → decode (take b (drop at s)) ≡ value x → after ≡ put out to x
-      → putEach put n decode out to (parts b (k - m) (drop at s)) ≡ putEach put n decode after (to + n) (parts b (k - next) (drop (at + b) s))
+      → putEach put n decode out to (chunks b (k - m) (drop at s)) ≡ putEach put n decode after (to + n) (chunks b (k - next) (drop (at + b) s))
   put-good m next at to x out after l e q p = turn m next at to out l e ∙ rw (q, p)
 
   pub put-bad : (m at to a p : ℕ) (out : List ℕ) → m < k → decode (take b (drop at s)) ≡ refusal a p
-      → putEach put n decode out to (parts b (k - m) (drop at s)) ≡ out
+      → putEach put n decode out to (chunks b (k - m) (drop at s)) ≡ out
   put-bad m at to a p out l q = turn m (m + 1) at to out l refl ∙ rw q
 
-  pub put-ends : (m at to : ℕ) (out : List ℕ) → k ≤ m → putEach put n decode out to (parts b (k - m) (drop at s)) ≡ out
-  unfolding putEach parts
+  pub put-ends : (m at to : ℕ) (out : List ℕ) → k ≤ m → putEach put n decode out to (chunks b (k - m) (drop at s)) ≡ out
+  unfolding putEach chunks
   put-ends m at to out l = let e : k - m ≡ 0 = omega arith in rw e
 
 -- ---- what all the turns leave
@@ -98,26 +98,26 @@ put-decoded h out to (x ∷ codes) (l ∷ ls) v d =
     rw (word-in h x l v (d .0)) (put-decoded h (putWord out to w) (to + 2) codes ls v (d .1)
     ∙ stores out to w (bytesOf firstEdition (map (letterWord firstEdition h) ls)) (letter-lt h l v (unpack-letter h x l .0 (d .0) .1)))
 
-pub counted-trace : (r : Reading) (g : Header) (n : ℕ) → counted r ≡ value (g, n) → (ls : List Letter) × (r ≡ trace g ls) × (length ls ≡ n)
+pub counted-trace : (r : TraceReading) (g : Header) (n : ℕ) → counted r ≡ value (g, n) → (ls : List Letter) × (r ≡ trace g ls) × (length ls ≡ n)
 counted-trace (trace h ls) g n q =
     let p : _≡_ {A = Header × ℕ} (h, length ls) (g, n) = cc in
     (ls, ap (λ x. trace x ls) (ap (λ (x : Header × ℕ). x .0) p), ap (λ (x : Header × ℕ). x .1) p)
-counted-trace (refused a b) g n q = let z : _≡_ {A = ℕ} 0 1 = cc in absurd (omega arith)
+counted-trace (TraceReading.refused a b) g n q = let z : _≡_ {A = ℕ} 0 1 = cc in absurd (omega arith)
 
-pub counted-refused : (r : Reading) (a b : ℕ) → counted r ≡ refusal a b → r ≡ refused a b
+pub counted-refused : (r : TraceReading) (a b : ℕ) → counted r ≡ refusal a b → r ≡ TraceReading.refused a b
 counted-refused (trace h ls) a b q = let z : _≡_ {A = ℕ} 0 1 = cc in absurd (omega arith)
-counted-refused (refused c d) a b q = let e : c ≡ a = cc in let f : d ≡ b = cc in rw (e, f)
+counted-refused (TraceReading.refused c d) a b q = let e : c ≡ a = cc in let f : d ≡ b = cc in rw (e, f)
 
 pub put-length : (out : List ℕ) (to w : ℕ) → length (putWord out to w) ≡ length out
 put-length out to w = length-set (set out to (w / 256)) (to + 1) (w % 256) ∙ length-set out to (w / 256)
 
 -- ---- the writer's answer
 
-header-refused : (h : Header) (s : List ℕ) → encodeHeader firstEdition h ≡ refusal 3 0 → unpacking firstEdition h s ≡ refused 3 0
+header-refused : (h : Header) (s : List ℕ) → encodeHeader firstEdition h ≡ refusal 3 0 → unpacking firstEdition h s ≡ TraceReading.refused 3 0
 unfolding encodeHeader unpacking
 header-refused h s = byTest (headerTest firstEdition h) (λ t. rw t λ q. let z : _≡_ {A = ℕ} 0 1 = cc in absurd (omega arith)) λ t. rw t λ q. refl
 
-pub wrote-header : (h : Header) (s out : List ℕ) → encodeHeader firstEdition h ≡ refusal 3 0 → Wrote firstEdition (unpacking firstEdition h s) out out (refusal 3 0)
+pub wrote-header : (h : Header) (s out : List ℕ) → encodeHeader firstEdition h ≡ refusal 3 0 → WroteTrace firstEdition (unpacking firstEdition h s) out out (refusal 3 0)
 unfolding writtenLength writtenOver
 wrote-header h s out q = rw (header-refused h s q) (record { answered = refl; bytes = refl })
 
@@ -127,8 +127,8 @@ unfolding unpackedParts
 counted-size h g s n q =
     let k = (length s + 4) / 5 in
     let t = counted-trace _ g n q in
-    let d = letters-decoded (unpackLetter h) h 1 (parts 5 k s) g (t .0) (t .1) in
-    sym (t .2) ∙ sym (decoded-length (unpackLetter h) h (parts 5 k s) (t .0) (d .1)) ∙ parts-length 5 k s
+    let d = letters-decoded (unpackLetter h) h 1 (chunks 5 k s) g (t .0) (t .1) in
+    sym (t .2) ∙ sym (decoded-length (unpackLetter h) h (chunks 5 k s) (t .0) (d .1)) ∙ parts-length 5 k s
 
 module _ (h : Header) (s out : List ℕ) (w : ℕ) (q : encodeHeader firstEdition h ≡ value w) where
   good : (headerTest firstEdition h ≡ true) × (headerWord firstEdition h ≡ w)
@@ -139,7 +139,7 @@ module _ (h : Header) (s out : List ℕ) (w : ℕ) (q : encodeHeader firstEditio
   unfolding unpacking
   unpacked = rw (good .0)
 
-  pub wrote-refused : (a b : ℕ) → counted (lettersFrom (unpackLetter h) h 1 (unpackedParts s)) ≡ refusal a b → Wrote firstEdition (unpacking firstEdition h s) out out (refusal a b)
+  pub wrote-refused : (a b : ℕ) → counted (lettersFrom (unpackLetter h) h 1 (unpackedParts s)) ≡ refusal a b → WroteTrace firstEdition (unpacking firstEdition h s) out out (refusal a b)
   unfolding writtenLength writtenOver
   wrote-refused a b p = rw (unpacked, counted-refused (lettersFrom (unpackLetter h) h 1 (unpackedParts s)) a b p) (record { answered = refl; bytes = refl })
 
@@ -175,14 +175,14 @@ module _ (h : Header) (s out : List ℕ) (w : ℕ) (q : encodeHeader firstEditio
         ∙ sets-eq (packing firstEdition h letters) out 0 room
         ∙ rw zero-add
 
-    pub wrote-short : length out < 2 * n + 2 → Wrote firstEdition (unpacking firstEdition h s) out out (refusal 6 0)
+    pub wrote-short : length out < 2 * n + 2 → WroteTrace firstEdition (unpacking firstEdition h s) out out (refusal 6 0)
     unfolding writtenLength writtenOver
     wrote-short l =
         let m = lt-leb (length (packing firstEdition h letters)) (length out) (rw size l) in
         rw (is-trace) (record { answered = rw m; bytes = rw m })
 
     pub wrote-all : (exit : List ℕ) → 2 * n + 2 ≤ length out → exit ≡ putWords (wordIn firstEdition h) (putWord out 0 w) 2 (unpackedParts s)
-        → Wrote firstEdition (unpacking firstEdition h s) out exit (value (2 * n + 2))
+        → WroteTrace firstEdition (unpacking firstEdition h s) out exit (value (2 * n + 2))
     unfolding writtenLength writtenOver
     wrote-all exit l x =
         let m = le-leb (length (packing firstEdition h letters)) (length out) (rw size l) in

@@ -14,7 +14,7 @@ use Rattle.letters.specs.declared.Letter.the-variants.{Copy, Apply, Equal, Uneq
 use Rattle.letters.specs.Editions.{firstEdition}
 use Rattle.letters.specs.Answers.{value, refusal}
 use Rattle.letters.proofs.Theory.WordLaws.{first-roomy}
-use Rattle.traces.specs.Reading.{trace, parts, letterCount, letterIn, reading}
+use Rattle.traces.specs.Reading.{trace, chunks, letterCount, letterIn, reading}
 use Rattle.traces.specs.ReadingParts.{counted}
 use Rattle.traces.proofs.Theory.TraceLaws.{Decoded, Read, read, read-count}
 use Rattle.traces.specs.Writing.{plainFields, unpackedBytes}
@@ -87,6 +87,6 @@ module _ (s out : List ℕ) where
     unpack-all exit l x =
         let room : 0 + length (unpackedBytes h letters) ≤ length out = rw size (omega arith) in
         let m = le-leb (length (unpackedBytes h letters)) (length out) (rw zero-add at room) in
-        let codes = parts 2 (letterCount firstEdition s) (drop 2 s) in
+        let codes = chunks 2 (letterCount firstEdition s) (drop 2 s) in
         let laid = put-plain h out 0 codes letters (known .letters) ∙ sets-eq (unpackedBytes h letters) out 0 room in
         rw (the-letters .0) (record { answered = rw (m, the-letters .1); bytes = rw m (x ∙ laid ∙ rw zero-add) })

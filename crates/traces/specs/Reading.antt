@@ -14,9 +14,9 @@ use mathlib.Core.Bool.{Bool, false}
 use Rattle.letters.specs.RefusalNumbers.{traceTooShort, traceOddLength, letterMalformed, traceTooLong}
 
 -- What a reading of a trace gives: its header and letters, or a refusal, a number and a place.
-pub data Reading : Type 0 where
-  trace : Header → List Letter → Reading
-  refused : ℕ → ℕ → Reading
+pub data TraceReading : Type 0 where
+  trace : Header → List Letter → TraceReading
+  refused : ℕ → ℕ → TraceReading
 
 -- ---- units
 
@@ -25,20 +25,20 @@ abbrev pub octets : Edition → List ℕ
 octets e = replicate (e .bytes) 8
 
 -- k parts of n entries each
-unfoldable pub parts : ℕ → ℕ → List ℕ → List (List ℕ)
-parts n zero s = []
-parts n (suc k) s = take n s ∷ parts n k (drop n s)
+unfoldable pub chunks : ℕ → ℕ → List ℕ → List (List ℕ)
+chunks n zero s = []
+chunks n (suc k) s = take n s ∷ chunks n k (drop n s)
 
 -- ---- reading
 
-abbrev pub before : Letter → Reading → Reading
-before l (trace h ls) = trace h (l ∷ ls)
-before l (refused number place) = refused number place
+abbrev pub prependLetter : Letter → TraceReading → TraceReading
+prependLetter l (trace h ls) = trace h (l ∷ ls)
+prependLetter l (TraceReading.refused number place) = TraceReading.refused number place
 
 -- The letters of these codes under h, of which the next has number n: "A letter that is not well formed ends the reading with 4 and its number, from 1."
-unfoldable pub lettersFrom : {A : Type 0} → (A → Answer Letter) → Header → ℕ → List A → Reading
+unfoldable pub lettersFrom : {A : Type 0} → (A → Answer Letter) → Header → ℕ → List A → TraceReading
 lettersFrom decode h n [] = trace h []
-lettersFrom decode h n (x ∷ codes) = onAnswer (decode x) (λ l. before l (lettersFrom decode h (n + 1) codes)) λ _ _. refused letterMalformed n
+lettersFrom decode h n (x ∷ codes) = onAnswer (decode x) (λ l. prependLetter l (lettersFrom decode h (n + 1) codes)) λ _ _. TraceReading.refused letterMalformed n
 
 -- "At least two bytes? 1. Even length? 2. Header as above? 3." In another edition it is the bytes of its unit.
 unfoldable pub beginning : Edition → List ℕ → Answer Header
@@ -55,14 +55,14 @@ abbrev pub letterIn : Edition → Header → List ℕ → Answer Letter
 letterIn e h part = decodeLetter e h (join (octets e) part)
 
 -- the letters after the header's unit
-unfoldable pub lettersOf : Edition → Header → List ℕ → Reading
-lettersOf e h s = lettersFrom (letterIn e h) h 1 (parts (e .bytes) (letterCount e s) (drop (e .bytes) s))
+unfoldable pub lettersOf : Edition → Header → List ℕ → TraceReading
+lettersOf e h s = lettersFrom (letterIn e h) h 1 (chunks (e .bytes) (letterCount e s) (drop (e .bytes) s))
 
 -- The questions in their order; 5 is put where some number of letters is too many.
-unfoldable pub readingWhere : (ℕ → Bool) → Edition → List ℕ → Reading
+unfoldable pub readingWhere : (ℕ → Bool) → Edition → List ℕ → TraceReading
 readingWhere tooMany e s =
-    onAnswer (beginning e s) (λ h. pick (tooMany (letterCount e s)) (λ _. refused traceTooLong 0) λ _. lettersOf e h s) refused
+    onAnswer (beginning e s) (λ h. pick (tooMany (letterCount e s)) (λ _. TraceReading.refused traceTooLong 0) λ _. lettersOf e h s) TraceReading.refused
 
 -- a trace of any length
-abbrev pub reading : Edition → List ℕ → Reading
+abbrev pub reading : Edition → List ℕ → TraceReading
 reading e s = readingWhere (λ _. false) e s

@@ -3,7 +3,7 @@ use Prim.Native.Nat.{ℕ, _+_, _*_}
 use mathlib.Core.List.{List}
 use Rattle.letters.specs.Editions.{Edition}
 use lib.Dec.{ltb, leb}
-use Rattle.traces.specs.Reading.{Reading, readingWhere, trace, refused, letterIn}
+use Rattle.traces.specs.Reading.{TraceReading, readingWhere, trace, letterIn}
 use Rattle.letters.specs.declared.Header.{Header}
 use lib.ListN.{length, take, drop}
 use Rattle.letters.specs.Answers.{Answer, refusal, value}
@@ -12,13 +12,13 @@ use Rattle.base.specs.Choice.{pick}
 use Rattle.letters.specs.RefusalNumbers.{letterMalformed}
 
 -- "For the whole-trace engine, at most 1,024 letters? 5."
-abbrev pub readingWithin : ℕ → Edition → List ℕ → Reading
+abbrev pub readingWithin : ℕ → Edition → List ℕ → TraceReading
 readingWithin limit e s = readingWhere (ltb limit) e s
 
 -- header and number of letters
-abbrev pub counted : Reading → Answer (Header × ℕ)
+abbrev pub counted : TraceReading → Answer (Header × ℕ)
 counted (trace h ls) = value (h, length ls)
-counted (refused number place) = refusal number place
+counted (TraceReading.refused number place) = refusal number place
 
 -- Letter k, from 0, of the bytes of a trace with header h; refused where there are no such bytes.
 unfoldable pub letterAt : Edition → Header → List ℕ → ℕ → Answer Letter

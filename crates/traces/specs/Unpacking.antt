@@ -10,7 +10,7 @@ use Rattle.letters.specs.declared.Header.{Header}
 use Rattle.letters.specs.declared.Letter.{Letter}
 use Rattle.letters.specs.Editions.{firstEdition}
 use Rattle.letters.specs.Answers.{Answer, value, refusal}
-use Rattle.traces.specs.Reading.{Reading, trace, refused, parts, letterIn}
+use Rattle.traces.specs.Reading.{TraceReading, trace, chunks, letterIn}
 use Rattle.traces.specs.Writing.{plainFields, unpackedBytes}
 use Rattle.traces.specs.Putting.{putEach}
 use Rattle.letters.specs.RefusalNumbers.{outputTooSmall}
@@ -21,20 +21,20 @@ putPlain h out to l = sets out to (plainFields h l)
 
 -- the letters behind the header, up to the first that is not well formed, five bytes each
 abbrev pub putUnpacked : Header → List ℕ → List ℕ → List ℕ
-putUnpacked h out s = putEach (putPlain h) 5 (letterIn firstEdition h) out 0 (parts 2 (length s / 2 - 1) (drop 2 s))
+putUnpacked h out s = putEach (putPlain h) 5 (letterIn firstEdition h) out 0 (chunks 2 (length s / 2 - 1) (drop 2 s))
 
 -- The header and the number of letters, or a refusal: the reading's, or 6 if the output is too short.
-unfoldable pub unpackedCount : ℕ → Reading → Answer (Header × ℕ)
+unfoldable pub unpackedCount : ℕ → TraceReading → Answer (Header × ℕ)
 unpackedCount room (trace h ls) = pick (leb (length (unpackedBytes h ls)) room) (λ _. value (h, length ls)) λ _. refusal outputTooSmall 0
-unpackedCount room (refused number place) = refusal number place
+unpackedCount room (TraceReading.refused number place) = refusal number place
 
 -- "Refused calls write no output; bytes past a written answer stay."
-unfoldable pub unpackedOver : List ℕ → Reading → List ℕ
+unfoldable pub unpackedOver : List ℕ → TraceReading → List ℕ
 unpackedOver out (trace h ls) =
     pick (leb (length (unpackedBytes h ls)) (length out)) (λ _. unpackedBytes h ls ++ drop (length (unpackedBytes h ls)) out) λ _. out
-unpackedOver out (refused number place) = out
+unpackedOver out (TraceReading.refused number place) = out
 
 -- What a call leaves: its answer, and every byte of the output.
-pub record Unpacked (r : Reading) (entry exit : List ℕ) (answer : Answer (Header × ℕ)) : Type 0 where
+pub record Unpacked (r : TraceReading) (entry exit : List ℕ) (answer : Answer (Header × ℕ)) : Type 0 where
   pub answered : answer ≡ unpackedCount (length entry) r
   pub bytes : exit ≡ unpackedOver entry r

@@ -13,7 +13,7 @@ use Rattle.letters.specs.Editions.{Edition}
 use Rattle.letters.specs.Answers.{Answer, value, refusal}
 use Rattle.letters.specs.Words.{letterFields}
 use Rattle.letters.specs.Coding.{headerTest, fitsTest, letterBy}
-use Rattle.traces.specs.Reading.{Reading, trace, refused, lettersFrom, parts}
+use Rattle.traces.specs.Reading.{TraceReading, trace, lettersFrom, chunks}
 use Rattle.traces.specs.Traces.{packing}
 use Rattle.letters.specs.RefusalNumbers.{letterMalformed, headerMalformed, outputTooSmall}
 
@@ -43,23 +43,23 @@ unpackLetter h s = pick (eqb (length s) 5) (λ _. plainLetter h (getD s 0 0) (ge
 
 -- the bytes of each letter; the last ones may be fewer than five
 unfoldable pub unpackedParts : List ℕ → List (List ℕ)
-unpackedParts s = parts 5 ((length s + 4) / 5) s
+unpackedParts s = chunks 5 ((length s + 4) / 5) s
 
 -- the trace of a header and unpacked letters, or the refusal: 3, then 4 with the letter's number
-unfoldable pub unpacking : Edition → Header → List ℕ → Reading
-unpacking e h s = pick (headerTest e h) (λ _. lettersFrom (unpackLetter h) h 1 (unpackedParts s)) λ _. refused headerMalformed 0
+unfoldable pub unpacking : Edition → Header → List ℕ → TraceReading
+unpacking e h s = pick (headerTest e h) (λ _. lettersFrom (unpackLetter h) h 1 (unpackedParts s)) λ _. TraceReading.refused headerMalformed 0
 
 -- "then 6 to its output"
-unfoldable pub writtenLength : Edition → ℕ → Reading → Answer ℕ
+unfoldable pub writtenLength : Edition → ℕ → TraceReading → Answer ℕ
 writtenLength e room (trace h ls) = pick (leb (length (packing e h ls)) room) (λ _. value (length (packing e h ls))) λ _. refusal outputTooSmall 0
-writtenLength e room (refused number place) = refusal number place
+writtenLength e room (TraceReading.refused number place) = refusal number place
 
 -- "Refused calls write no output; bytes past a written answer stay."
-unfoldable pub writtenOver : Edition → List ℕ → Reading → List ℕ
+unfoldable pub writtenOver : Edition → List ℕ → TraceReading → List ℕ
 writtenOver e out (trace h ls) = pick (leb (length (packing e h ls)) (length out)) (λ _. packing e h ls ++ drop (length (packing e h ls)) out) λ _. out
-writtenOver e out (refused number place) = out
+writtenOver e out (TraceReading.refused number place) = out
 
 -- What a call of the writer leaves: its answer, and every byte of the output.
-pub record Wrote (e : Edition) (r : Reading) (entry exit : List ℕ) (answer : Answer ℕ) : Type 0 where
+pub record WroteTrace (e : Edition) (r : TraceReading) (entry exit : List ℕ) (answer : Answer ℕ) : Type 0 where
   pub answered : answer ≡ writtenLength e (length entry) r
   pub bytes : exit ≡ writtenOver e entry r

@@ -27,7 +27,7 @@ ghost use Rattle.letters.specs.CodeAnswers.{letterAnswer, letterWordAnswer};
 ghost use Rattle.traces.specs.Answers.{traceAnswer, writtenAnswer};
 ghost use Rattle.traces.specs.ReadingParts.{counted};
 ghost use Rattle.traces.specs.Reading.{lettersFrom};
-ghost use Rattle.traces.specs.Writing.{plainTest, plainLetter, unpackLetter, unpacking, unpackedParts, Wrote};
+ghost use Rattle.traces.specs.Writing.{plainTest, plainLetter, unpackLetter, unpacking, unpackedParts, WroteTrace};
 ghost use Rattle.letters.specs.Putting.{putWord};
 ghost use Rattle.traces.specs.Putting.{wordIn, putWords};
 
@@ -145,7 +145,7 @@ fn put_trace(h: Header, first: u16, fields: &[u8], out: &mut [u8])
 
 /// Writes the trace of a header and unpacked letters. All is checked before the first byte is written.
 pub fn write_trace(h: Header, fields: &[u8], out: &mut [u8]) -> Written
-    ensures { λ r. ⌜ Wrote firstEdition (unpacking firstEdition h (now (fields .entry))) (now (out .entry)) (now (out .exit)) (writtenAnswer r) ⌝ }
+    ensures { λ r. ⌜ WroteTrace firstEdition (unpacking firstEdition h (now (fields .entry))) (now (out .entry)) (now (out .exit)) (writtenAnswer r) ⌝ }
 {
     let encoded = encode_header(h);
     let Encoded::Word(first) = encoded else {

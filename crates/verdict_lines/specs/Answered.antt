@@ -8,17 +8,17 @@ use Rattle.files.specs.declared.Input.{Input}
 use Rattle.files.specs.declared.Lines as files
 use Rattle.files.specs.Input.{Received}
 use Rattle.files.specs.Lines.{known, Answers}
-use Rattle.verdict_lines.specs.Prints.{Prints}
+use Rattle.verdict_lines.specs.Prints.{PrintsVerdictLines}
 
 -- A file is read to its end, or one byte more of it than a macro may have.
-abbrev pub mostRead : ℕ
-mostRead = longestText + 1
+abbrev pub mostTextRead : ℕ
+mostTextRead = longestText + 1
 
 -- The lines are those of what was read; where reading failed nothing is answered. What the system's reads give is free.
-pub record AnswersRead (entry : List ℕ) (r : files.Lines) (exit : List ℕ) : Type 0 where
+pub record AnswersMacroInput (entry : List ℕ) (r : files.Lines) (exit : List ℕ) : Type 0 where
   pub space : List ℕ
-  pub room : mostRead ≡ length space
+  pub room : mostTextRead ≡ length space
   pub input : Input
   pub text : List ℕ
   pub received : Received space input text
-  pub answers : Answers Prints (known input text) entry r exit
+  pub answers : Answers PrintsVerdictLines (known input text) entry r exit

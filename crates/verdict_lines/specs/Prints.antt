@@ -6,7 +6,7 @@ use Prim.Native.Nat.{ℕ, _≤_}
 use lib.Dec.{leb}
 use lib.ListN.{length, drop}
 use Rattle.base.specs.Choice.{pick}
-use Rattle.letters.specs.RefusalNumbers.{tableTooSmall}
+use Rattle.letters.specs.MacroRefusalNumbers.{tableTooSmall}
 use Rattle.semantics.specs.Terms.{Trace, begin, extend, state}
 use Rattle.semantics.specs.Models.{Feasible}
 use Rattle.semantics.specs.Coherence.{Coherent}
@@ -15,9 +15,9 @@ use Rattle.macros.specs.Executions.{Partial, Failing}
 use Rattle.grammar.specs.Grammar.{Macro, headerOf}
 use Rattle.refusals.specs.Order.{Refusal}
 use Rattle.refusals.specs.Accepted.{Accepted}
-use Rattle.verdicts.specs.Verdict.{breaking, failing, PairCount, PairsPass, Shows}
+use Rattle.verdict_theory.specs.Verdict.{breaking, failing, PairCount, PairsPass, Shows}
 use Rattle.text.specs.Numerals.{numeral}
-use Rattle.report.specs.Lines.{Names, Printed, pass, incoherent, fail, refused, line, refusedWord, atWord, report}
+use Rattle.report.specs.Lines.{Names, Printed, line, refusedWord, atWord, report}
 use Rattle.report.specs.Shown.{namesOf}
 
 -- "with a table of 65,536 bytes"
@@ -40,13 +40,13 @@ declaredNames m = namesOf (m .registers) (m .functions)
 -- `outputTooSmall` is not among the answers.
 -- "`pairs` and how many have first executions before the event, or exist. Unless pass: `letters` [..] On fail also `values`".
 unfoldable pub Told : Macro → Printed → Type 0
-Told m (pass k) =
+Told m (Printed.pass k) =
     PairCount Feasible (begin (headerOf m)) (m .body) k × (k ≤ tablePairs)
     × ((ρ : Trace) → Partial (begin (headerOf m)) (m .body) ρ → Coherent ρ) × ((ρ : Trace) → Failing (begin (headerOf m)) (m .body) ρ → ¬ Feasible (state ρ))
-Told m (incoherent k ls) = Shows Feasible (begin (headerOf m)) (m .body) breaking k ls × (k ≤ tablePairs)
-Told m (fail k ls tables) =
+Told m (Printed.incoherent k ls) = Shows Feasible (begin (headerOf m)) (m .body) breaking k ls × (k ≤ tablePairs)
+Told m (Printed.fail k ls tables) =
     Shows Feasible (begin (headerOf m)) (m .body) failing k ls × (k ≤ tablePairs) × ShownModel (state (extend (begin (headerOf m)) ls)) tables
-Told m (refused number place) = (number ≡ tableTooSmall) × (place ≡ 0) × PairsPass Feasible (begin (headerOf m)) (m .body) tablePairs
+Told m (Printed.refused number place) = (number ≡ tableTooSmall) × (place ≡ 0) × PairsPass Feasible (begin (headerOf m)) (m .body) tablePairs
 
 -- The lines for a text.
 pub record Says (text lines : List ℕ) : Type 0 where
@@ -55,14 +55,14 @@ pub record Says (text lines : List ℕ) : Type 0 where
   pub verdict : (m : Macro) → Accepted text m → (told : Printed) × Told m told × (lines ≡ report (declaredNames m) (headerOf m) told)
 
 -- The lines are never longer.
-abbrev pub mostBytes : ℕ
-mostBytes = 32768
+abbrev pub mostVerdictLineBytes : ℕ
+mostVerdictLineBytes = 32768
 
 -- A lent buffer holds `entry` and then `exit`, and `size` is given: the lines stand in front and the bytes behind them stay; or, in a buffer
--- that is too small, which one of `mostBytes` never is, all bytes stay, and 0 is given.
-pub record Prints (text entry : List ℕ) (size : ℕ) (exit : List ℕ) : Type 0 where
+-- that is too small, which one of `mostVerdictLineBytes` never is, all bytes stay, and 0 is given.
+pub record PrintsVerdictLines (text entry : List ℕ) (size : ℕ) (exit : List ℕ) : Type 0 where
   pub lines : List ℕ
   pub says : Says text lines
-  pub few : length lines ≤ mostBytes
+  pub few : length lines ≤ mostVerdictLineBytes
   pub given : size ≡ pick (leb (length lines) (length entry)) (λ _. length lines) λ _. 0
   pub bytes : exit ≡ pick (leb (length lines) (length entry)) (λ _. lines ++ drop (length lines) entry) λ _. entry

@@ -7,10 +7,10 @@ use syntax::LONGEST_TEXT;
 ghost use mathlib.Core.Path.{_≡_};
 ghost use lib.ListN.{length};
 ghost use Rattle.report.specs.Bound.{Limited};
-ghost use Rattle.verdict_lines.specs.Prints.{mostBytes, Prints};
+ghost use Rattle.verdict_lines.specs.Prints.{mostVerdictLineBytes, PrintsVerdictLines};
 ghost use Rattle.files.specs.Lines.{known, Answers};
-ghost use Rattle.verdict_lines.specs.Answered.{AnswersRead};
-ghost use Rattle.verdict_lines.specs.Reported.{reported as reportedOf, sizeOf, Reports};
+ghost use Rattle.verdict_lines.specs.Answered.{AnswersMacroInput};
+ghost use Rattle.verdict_lines.specs.Reported.{reported as reportedOf, bytesWritten, Reports};
 
 // One byte more than the longest text that is taken.
 const MOST_READ: usize = LONGEST_TEXT + 1;
@@ -41,32 +41,35 @@ fn answer_space() -> [u8; ANSWER_BYTES] {
 
 /// Room for the lines of any text.
 pub fn line_space() -> [u8; MOST_BYTES]
-    ensures { λ r. ⌜ mostBytes ≡ length r ⌝ }
+    ensures { λ r. ⌜ mostVerdictLineBytes ≡ length r ⌝ }
 {
     [0; MOST_BYTES]
 }
 
 // The verdict as the report takes it.
-fn reported(verdict: search::Verdict) -> report::Verdict
+fn reported(verdict: search::Verdict) -> report::ReportedVerdict
     ensures { λ r. ⌜ (r ≡ reportedOf verdict) × Limited r ⌝ }
 {
     match verdict {
-        search::Verdict::Pass(pairs) => report::Verdict::Pass(pairs as u64),
-        search::Verdict::Fail(pairs, letters) => report::Verdict::Fail(
+        search::Verdict::Pass(pairs) => report::ReportedVerdict::Pass(pairs as u64),
+        search::Verdict::Fail(pairs, letters) => report::ReportedVerdict::Fail(
             pairs as u64,
             (letters % WORD_VALUES) as u16,
         ),
-        search::Verdict::Incoherent(pairs, letters) => report::Verdict::Incoherent(
+        search::Verdict::Incoherent(pairs, letters) => report::ReportedVerdict::Incoherent(
             pairs as u64,
             (letters % WORD_VALUES) as u16,
         ),
-        search::Verdict::Refused(number, place) => report::Verdict::Refused(number, place as u64),
+        search::Verdict::Refused(number, place) => report::ReportedVerdict::Refused(
+            number,
+            place as u64,
+        ),
     }
 }
 
 // How many bytes were written, 0 if there was no room.
 fn size(written: ReportWritten) -> usize
-    ensures { λ r. ⌜ r ≡ sizeOf written ⌝ }
+    ensures { λ r. ⌜ r ≡ bytesWritten written ⌝ }
 {
     match written {
         ReportWritten::Bytes(n) => n,
@@ -91,7 +94,7 @@ fn write_verdict(text: &[u8], verdict: search::Verdict, answer: &[u8], lines: &m
 /// Writes the lines for the text of a macro into the front of a lent buffer, and gives the number of their bytes, which is at most `MOST_BYTES`.
 /// A buffer that is too small for them stays as it is, and 0 is given.
 pub fn write_lines(text: &[u8], lines: &mut [u8]) -> usize
-    ensures { λ r. ⌜ Prints (now (text .entry)) (now (lines .entry)) r (now (lines .exit)) ⌝ }
+    ensures { λ r. ⌜ PrintsVerdictLines (now (text .entry)) (now (lines .entry)) r (now (lines .exit)) ⌝ }
 {
     let mut table = table_space();
     let mut answer = answer_space();
@@ -102,7 +105,7 @@ pub fn write_lines(text: &[u8], lines: &mut [u8]) -> usize
 /// Writes the lines of an input that was read into `text` into the front of a lent buffer: those of the bytes that it had, or of all bytes
 /// where it filled `text`. Where a read failed nothing is judged, and the buffer stays as it is.
 pub fn answer_to(text: &[u8], input: Input, lines: &mut [u8]) -> Lines
-    ensures { λ r. ⌜ Answers Prints (known input (now (text .entry))) (now (lines .entry)) r (now (lines .exit)) ⌝ }
+    ensures { λ r. ⌜ Answers PrintsVerdictLines (known input (now (text .entry))) (now (lines .entry)) r (now (lines .exit)) ⌝ }
 {
     match input {
         Input::Ended(n) => {
@@ -117,7 +120,7 @@ pub fn answer_to(text: &[u8], input: Input, lines: &mut [u8]) -> Lines
 /// Reads a text from a file, and writes its lines into the front of a lent buffer. Of a text that is too long one byte more than
 /// `LONGEST_TEXT` is read: it is refused for its length.
 pub fn answer(fd: i32, lines: &mut [u8]) -> Lines
-    ensures { λ r. ⌜ AnswersRead (now (lines .entry)) r (now (lines .exit)) ⌝ }
+    ensures { λ r. ⌜ AnswersMacroInput (now (lines .entry)) r (now (lines .exit)) ⌝ }
 {
     let mut text = text_space();
     let input = files::read(fd, &mut text);

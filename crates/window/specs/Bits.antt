@@ -15,5 +15,5 @@ nonempty ρ m = ltb (leastIn ρ m) ρ
 
 -- ---- a mask in which the registers `to` become one with those of `from`
 
-unfoldable pub movedOf : ℕ → ℕ → ℕ → ℕ
-movedOf m from to = cond (eqb (bitAnd m from) 0) (minus m to) (bitOr m to)
+unfoldable pub maskMoved : ℕ → ℕ → ℕ → ℕ
+maskMoved m from to = cond (eqb (bitAnd m from) 0) (minus m to) (bitOr m to)

@@ -10,8 +10,8 @@ abbrev pub functions : ℕ
 functions = firstEdition .functions
 
 -- the entries of a table by pairs of registers, by functions and registers, and of the table of results
-abbrev pub pairs : ℕ
-pairs = registers * registers
+abbrev pub registerPairs : ℕ
+registerPairs = registers * registers
 
 abbrev pub lines : ℕ
 lines = functions * registers

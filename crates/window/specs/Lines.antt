@@ -14,7 +14,7 @@ use Rattle.window.specs.Places.{place, place-sum, place-is, function-pla
 use Rattle.window.specs.Table.{table}
 
 module _ (ρ : ℕ) where
-  pub record Lines : Type 0 where
+  pub record TableLines : Type 0 where
     -- the line that entry i is on, and its place there, a register
     pub line : ℕ → ℕ
     pub along : ℕ → ℕ
@@ -26,7 +26,7 @@ module _ (ρ : ℕ) where
     pub along-below : 0 < ρ → (i : ℕ) → along i < ρ
 
   -- the entries from ρ j on are a line
-  abbrev pub columns : Lines
+  abbrev pub columns : TableLines
   columns = record {
     line = λ i. i / ρ;
     along = λ i. i % ρ;
@@ -52,7 +52,7 @@ module _ (ρ : ℕ) where
   row-along j d h = ap (λ k. k / ρ % ρ) (row-entry j d) ∙ first-place ρ (j / ρ) d (j % ρ) h (mod-lt j {m = ρ} (omega arith))
 
   -- the entries of one function and one second register are a line
-  abbrev pub rows : Lines
+  abbrev pub rows : TableLines
   rows = record {
     line = λ i. ρ * (i / (ρ * ρ)) + i % ρ;
     along = λ i. i / ρ % ρ;
@@ -63,14 +63,14 @@ module _ (ρ : ℕ) where
     along-below = λ p i. mod-lt (i / ρ) p;
   }
 
-module _ {ρ : ℕ} (L : Lines ρ) where
+module _ {ρ : ℕ} (L : TableLines ρ) where
   -- the entry at register d of the line of entry i
-  abbrev pub at : ℕ → ℕ → ℕ
-  at i d = L .entry (L .line i) d
+  abbrev pub entryOnLine : ℕ → ℕ → ℕ
+  entryOnLine i d = L .entry (L .line i) d
 
   -- along each line, the entries of the registers that pass the test are the union of those of a and b
   unfoldable pub unitedAt : (ℕ → Bool) → ℕ → ℕ → List ℕ → ℕ → ℕ
-  unitedAt P a b l i = cond (P (L .along i)) (bitOr (getD l (at i a) 0) (getD l (at i b) 0)) (getD l i 0)
+  unitedAt P a b l i = cond (P (L .along i)) (bitOr (getD l (entryOnLine i a) 0) (getD l (entryOnLine i b) 0)) (getD l i 0)
 
   unfoldable pub united : (ℕ → Bool) → ℕ → ℕ → List ℕ → List ℕ
   united P a b l = table (unitedAt P a b l) (length l)

@@ -8,16 +8,16 @@ use Rattle.window.specs.declared.Window.{Window}
 
 -- the window of a header with n registers alone
 abbrev pub freshOf : ℕ → Window
-freshOf = performing.freshOf registers functions
+freshOf = performing.freshInLayout registers functions
 
 -- the letter's fields are within the packing's
-abbrev pub Within : Letter → Type 0
-Within = performing.Within registers functions
+abbrev pub WithinPacking : Letter → Type 0
+WithinPacking = performing.WithinLayout registers functions
 
 -- the letter is coherent
 abbrev pub judgeOf : Window → Letter → Bool
-judgeOf = performing.judgeOf registers functions
+judgeOf = performing.judgeInLayout registers functions
 
 -- the window after it
 abbrev pub performOf : Window → Letter → Window
-performOf = performing.performOf registers functions
+performOf = performing.performInLayout registers functions

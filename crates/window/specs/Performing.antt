@@ -27,8 +27,8 @@ abbrev pub withUnequal : Window → List ℕ → Bool → Window
 withUnequal w unequal infeasible = record { class = w .class; unequal = unequal; result = w .result; ever = w .ever; mark = w .mark; infeasible = infeasible }
 
 -- the registers of the classes of a and b
-abbrev pub both : Window → ℕ → ℕ → ℕ
-both w a b = bitOr (bitOr (getD (w .class) a 0) (getD (w .class) b 0)) (2 ^ a)
+abbrev pub bothClasses : Window → ℕ → ℕ → ℕ
+bothClasses w a b = bitOr (bitOr (getD (w .class) a 0) (getD (w .class) b 0)) (2 ^ a)
 
 -- the argument classes, where one of the arguments is x
 unfoldable pub argumentsOf : ℕ → ℕ → ℕ → ℕ → ℕ → ℕ
@@ -62,7 +62,7 @@ module _ (ρ φ : ℕ) where
 
   -- the classes of a and b made one
   unfoldable pub mergedOf : Window → ℕ → ℕ → Window
-  mergedOf w a b = withTables w (masksThrough ρ a b (both w a b) (w .class)) (masksThrough ρ a b (both w a b) (w .unequal)) (resultsThrough ρ a b (both w a b) (w .result)) (masksThrough ρ a b (both w a b) (w .ever)) (w .mark)
+  mergedOf w a b = withTables w (masksThrough ρ a b (bothClasses w a b) (w .class)) (masksThrough ρ a b (bothClasses w a b) (w .unequal)) (resultsThrough ρ a b (bothClasses w a b) (w .result)) (masksThrough ρ a b (bothClasses w a b) (w .ever)) (w .mark)
 
   -- the registers of the entry that are not in the class of its lowest register
   unfoldable pub restOf : List ℕ → ℕ → ℕ
@@ -123,32 +123,32 @@ module _ (ρ φ : ℕ) where
 
   -- ---- the header alone
 
-  abbrev pub freshOf : ℕ → Window
-  freshOf n = record { class = table (ownOf n) ρ; unequal = replicate ρ 0; result = replicate (φ * ρ * ρ) 0; ever = replicate (φ * ρ) 0; mark = replicate ρ false; infeasible = false }
+  abbrev pub freshInLayout : ℕ → Window
+  freshInLayout n = record { class = table (ownOf n) ρ; unequal = replicate ρ 0; result = replicate (φ * ρ * ρ) 0; ever = replicate (φ * ρ) 0; mark = replicate ρ false; infeasible = false }
 
   -- ---- a letter
 
   -- the letter's fields are within the packing's
-  abbrev pub Within : Letter → Type 0
-  Within (Copy x y) = (x < ρ) × (y < ρ)
-  Within (Apply x f y z) = (x < ρ) × (f < φ) × (y < ρ) × (z < ρ)
-  Within (Equal x y) = (x < ρ) × (y < ρ)
-  Within (Unequal x y) = (x < ρ) × (y < ρ)
+  abbrev pub WithinLayout : Letter → Type 0
+  WithinLayout (Copy x y) = (x < ρ) × (y < ρ)
+  WithinLayout (Apply x f y z) = (x < ρ) × (f < φ) × (y < ρ) × (z < ρ)
+  WithinLayout (Equal x y) = (x < ρ) × (y < ρ)
+  WithinLayout (Unequal x y) = (x < ρ) × (y < ρ)
 
   -- "Memoizing": a register holds the value, or it was never computed
   unfoldable pub memoizingOf : Window → ℕ → ℕ → ℕ → Bool
   memoizingOf w f y z = cond (has (getD (w .ever) (ρ * f + y) 0) z) (nonempty ρ (getD (w .result) (place ρ f y z) 0)) true
 
   -- the letter is coherent
-  abbrev pub judgeOf : Window → Letter → Bool
-  judgeOf w (Copy x y) = true
-  judgeOf w (Apply x f y z) = memoizingOf w f y z
-  judgeOf w (Equal x y) = earlyOf w x y
-  judgeOf w (Unequal x y) = true
+  abbrev pub judgeInLayout : Window → Letter → Bool
+  judgeInLayout w (Copy x y) = true
+  judgeInLayout w (Apply x f y z) = memoizingOf w f y z
+  judgeInLayout w (Equal x y) = earlyOf w x y
+  judgeInLayout w (Unequal x y) = true
 
   -- the window after it
-  abbrev pub performOf : Window → Letter → Window
-  performOf w (Copy x y) = copiedOf w x y
-  performOf w (Apply x f y z) = applyOf w x f y z
-  performOf w (Equal x y) = equalOf w x y
-  performOf w (Unequal x y) = unequalOf w x y
+  abbrev pub performInLayout : Window → Letter → Window
+  performInLayout w (Copy x y) = copiedOf w x y
+  performInLayout w (Apply x f y z) = applyOf w x f y z
+  performInLayout w (Equal x y) = equalOf w x y
+  performInLayout w (Unequal x y) = unequalOf w x y

@@ -22,27 +22,27 @@ module _ (ρ : ℕ) where
   place f a b = ρ * (ρ * f + a) + b
 
   -- the function and the two arguments of entry k of the results
-  abbrev pub Function : ℕ → ℕ
-  Function k = k / (ρ * ρ)
+  abbrev pub placeFunction : ℕ → ℕ
+  placeFunction k = k / (ρ * ρ)
 
-  abbrev pub First : ℕ → ℕ
-  First k = k / ρ % ρ
+  abbrev pub placeFirst : ℕ → ℕ
+  placeFirst k = k / ρ % ρ
 
-  abbrev pub Second : ℕ → ℕ
-  Second k = k % ρ
+  abbrev pub placeSecond : ℕ → ℕ
+  placeSecond k = k % ρ
 
   pub place-sum : (f a b : ℕ) → ρ * ρ * f + ρ * a + b ≡ place f a b
   place-sum f a b = omega (arith, mul-assoc ρ ρ f, mul-add ρ (ρ * f) a)
 
-  pub place-is : (k : ℕ) → place (Function k) (First k) (Second k) ≡ k
-  place-is k = ap (λ f. place f (First k) (Second k)) (sym (div-div-eq-div-mul k ρ ρ)) ∙ ap (λ j. ρ * j + k % ρ) (entry-is (k / ρ)) ∙ entry-is k
+  pub place-is : (k : ℕ) → place (placeFunction k) (placeFirst k) (placeSecond k) ≡ k
+  place-is k = ap (λ f. place f (placeFirst k) (placeSecond k)) (sym (div-div-eq-div-mul k ρ ρ)) ∙ ap (λ j. ρ * j + k % ρ) (entry-is (k / ρ)) ∙ entry-is k
 
   module _ (f a b : ℕ) (ab : a < ρ) (bb : b < ρ) where
-    pub function-place : Function (place f a b) ≡ f
+    pub function-place : placeFunction (place f a b) ≡ f
     function-place = sym (div-div-eq-div-mul (place f a b) ρ ρ) ∙ ap (λ j. j / ρ) (line-entry (ρ * f + a) b bb) ∙ line-entry f a ab
 
-    pub first-place : First (place f a b) ≡ a
+    pub first-place : placeFirst (place f a b) ≡ a
     first-place = ap (λ j. j % ρ) (line-entry (ρ * f + a) b bb) ∙ along-entry f a ab
 
-    pub second-place : Second (place f a b) ≡ b
+    pub second-place : placeSecond (place f a b) ≡ b
     second-place = along-entry (ρ * f + a) b bb

@@ -1,4 +1,4 @@
--- The window of a trace in a layout, letter by letter: what `judge` and `perform` do on the window of a state.
+-- A window value is the window of a state, in a layout.
 use Prim.Native.Nat.{ℕ}
 use Rattle.semantics.specs.Terms.{State}
 use Rattle.semantics.specs.View.{Tracks}
@@ -7,7 +7,7 @@ use Rattle.window.specs.declared.Window.{Window}
 
 module _ (ρ φ : ℕ) where
   -- w is the window of the state: all six parts are, and it says nothing of registers beyond the header's count
-  pub record Holds (σ : State) (w : Window) : Type 0 where
+  pub record IsWindowInLayout (σ : State) (w : Window) : Type 0 where
     pub tracks : Tracks σ (view ρ φ w)
     pub inside : Inside ρ (σ .header .registers) (view ρ φ w)
     pub shaped : Shaped ρ φ w

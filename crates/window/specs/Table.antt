@@ -1,4 +1,4 @@
--- A list given place by place, and the loop that writes one.
+-- A list given place by place.
 use Prim.Native.Nat.{ℕ, zero, suc}
 use mathlib.Core.List.{List, [], _∷_}
 

@@ -6,11 +6,11 @@ use lib.ListN.{length, getD}
 use Rattle.base.specs.Masks.{has}
 use Rattle.window.specs.Table.{table}
 use Rattle.window.specs.Lines.{columns, rows, united}
-use Rattle.window.specs.Bits.{movedOf}
+use Rattle.window.specs.Bits.{maskMoved}
 
 -- each mask of the table, with the registers `to` in it if one of `from` is
 unfoldable pub bitsMoved : ℕ → ℕ → List ℕ → List ℕ
-bitsMoved from to l = table (λ i. movedOf (getD l i 0) from to) (length l)
+bitsMoved from to l = table (λ i. maskMoved (getD l i 0) from to) (length l)
 
 -- A table of masks by register (classes, unequal pairs, computed applications), and the table of results, in which each register of `to`
 -- stands for a and for b: as a line's register and in the masks, and of the results as the first and as the second argument.

@@ -8,15 +8,15 @@ ghost use lib.Dec.{eqb};
 ghost use lib.ListN.{length};
 ghost use Rattle.base.specs.Masks.{has};
 ghost use Rattle.base.specs.LeastAndSize.{leastIn, sizeOf};
-ghost use Rattle.window.specs.Bits.{nonempty, movedOf};
+ghost use Rattle.window.specs.Bits.{nonempty, maskMoved};
 ghost use Rattle.window.specs.Lines.{columns, rows, united, cleared};
 ghost use Rattle.window.specs.Through.{bitsMoved, masksThrough, resultsThrough};
 ghost use Rattle.window.specs.Adding.{partOf, lineAdded, resultsAdded, masksForgotten, resultsForgotten};
-ghost use Rattle.window.specs.Layout.{registers, functions, pairs, results};
+ghost use Rattle.window.specs.Layout.{registers, functions, registerPairs, results};
 ghost use Rattle.window.specs.Performing.{fallenOf, copiedOf, mergedOf, restOf, findOf, closedOf, clashOf, settledOf, equalOf};
 ghost use Rattle.window.specs.Performing.{partedOf, unequalOf, argumentsOf, appliedOf, ownOf, memoizingOf, earlyOf, applyOf, apartOf};
-ghost use Rattle.window.specs.Parts.{parts, Tabled, Shaped};
-ghost use Rattle.window.specs.Perform.{freshOf, Within, judgeOf, performOf};
+ghost use Rattle.window.specs.Parts.{windowOfParts, TableLengths, PartLengths};
+ghost use Rattle.window.specs.Perform.{freshOf, WithinPacking, judgeOf, performOf};
 ghost use Rattle.window.specs.Marks.{foldedOf, unionOf, aboveOf, flagOf, belowOf, besideOf, raisedOf, lostOf, markedWith};
 
 // ---- the layout: what a window has entries for
@@ -81,7 +81,7 @@ pub fn inhabited(mask: Mask) -> bool
 
 // The mask, with the registers `to` in it exactly if one of `from` is.
 fn moved(m: Mask, from: Mask, to: Mask) -> Mask
-    ensures { λ r. ⌜ r ≡ movedOf m from to ⌝ }
+    ensures { λ r. ⌜ r ≡ maskMoved m from to ⌝ }
 {
     if m & from == 0 { (m | to) ^ to } else { m | to }
 }
@@ -114,7 +114,7 @@ pub fn unite_column(t: &mut [Mask], r: usize, a: usize, b: usize)
 
 /// The same along the lines by the first argument of a table of results.
 pub fn unite_row(t: &mut [Mask], r: usize, a: usize, b: usize)
-    requires { ⌜ (r < registers) × (a < registers) × (b < registers) × (length (now t) % pairs ≡ 0) ⌝ }
+    requires { ⌜ (r < registers) × (a < registers) × (b < registers) × (length (now t) % registerPairs ≡ 0) ⌝ }
     ensures { λ _. ⌜ now (t .exit) ≡ united (rows registers) (λ s. eqb s r) a b (now (t .entry)) ⌝ }
 {
     let n = t.len() / REGISTERS;
@@ -142,7 +142,7 @@ pub fn clear_column(t: &mut [Mask], x: usize)
 
 /// The same along the lines by the first argument of a table of results.
 pub fn clear_row(t: &mut [Mask], x: usize)
-    requires { ⌜ (x < registers) × (length (now t) % pairs ≡ 0) ⌝ }
+    requires { ⌜ (x < registers) × (length (now t) % registerPairs ≡ 0) ⌝ }
     ensures { λ _. ⌜ now (t .exit) ≡ cleared (rows registers) x (now (t .entry)) ⌝ }
 {
     let n = t.len() / REGISTERS;
@@ -280,8 +280,8 @@ fn renew_results(t: &mut [Mask], x: usize, f: usize, first: Mask, second: Mask)
 
 /// The classes that hold a result of any function at the i-th pair of registers.
 pub fn results_at(result: &[Mask; RESULTS], i: usize) -> Mask
-    requires { ⌜ i < pairs ⌝ }
-    ensures { λ r. ⌜ r ≡ unionOf (now (result .entry)) i pairs functions ⌝ }
+    requires { ⌜ i < registerPairs ⌝ }
+    ensures { λ r. ⌜ r ≡ unionOf (now (result .entry)) i registerPairs functions ⌝ }
 {
     let mut m: Mask = 0;
     let mut f: usize = 0;
@@ -307,7 +307,7 @@ fn folded(result: &[Mask; RESULTS]) -> [Mask; PAIRS]
 
 /// The union of an entry for each register, `step` apart.
 pub fn union(t: &[Mask; PAIRS], start: usize, step: usize) -> Mask
-    requires { ⌜ (step ≤ registers) × (start + (registers - 1) * step < pairs) ⌝ }
+    requires { ⌜ (step ≤ registers) × (start + (registers - 1) * step < registerPairs) ⌝ }
     ensures { λ r. ⌜ r ≡ unionOf (now (t .entry)) start step registers ⌝ }
 {
     let mut m: Mask = 0;
@@ -444,12 +444,12 @@ fn copy_in(
     x: usize,
     y: usize,
 )
-    requires { ⌜ (x < registers) × (y < registers) × Shaped (now class) (now unequal) (now result) (now ever) (now mark) ⌝ }
+    requires { ⌜ (x < registers) × (y < registers) × PartLengths (now class) (now unequal) (now result) (now ever) (now mark) ⌝ }
     ensures { λ _. ⌜ ((b : Bool) →
-        parts (now (class .exit)) (now (unequal .exit)) (now (result .exit)) (now (ever .exit)) (now (mark .exit)) b
+        windowOfParts (now (class .exit)) (now (unequal .exit)) (now (result .exit)) (now (ever .exit)) (now (mark .exit)) b
         ≡ copiedOf registers functions
-        (parts (now (class .entry)) (now (unequal .entry)) (now (result .entry)) (now (ever .entry)) (now (mark .entry)) b) x y) ⌝ }
-    ensures long { λ _. ⌜ Shaped (now (class .exit)) (now (unequal .exit)) (now (result .exit)) (now (ever .exit)) (now (mark .exit)) ⌝ }
+        (windowOfParts (now (class .entry)) (now (unequal .entry)) (now (result .entry)) (now (ever .entry)) (now (mark .entry)) b) x y) ⌝ }
+    ensures long { λ _. ⌜ PartLengths (now (class .exit)) (now (unequal .exit)) (now (result .exit)) (now (ever .exit)) (now (mark .exit)) ⌝ }
 {
     let own = class[x];
     if holds(own, y) {
@@ -473,11 +473,11 @@ fn merge_in(
     a: usize,
     b: usize,
 )
-    requires { ⌜ (a < registers) × (b < registers) × Tabled (now class) (now unequal) (now result) (now ever) ⌝ }
+    requires { ⌜ (a < registers) × (b < registers) × TableLengths (now class) (now unequal) (now result) (now ever) ⌝ }
     ensures { λ _. ⌜ ((m : List Bool) (i : Bool) →
-        parts (now (class .exit)) (now (unequal .exit)) (now (result .exit)) (now (ever .exit)) m i
-        ≡ mergedOf registers functions (parts (now (class .entry)) (now (unequal .entry)) (now (result .entry)) (now (ever .entry)) m i) a b) ⌝ }
-    ensures long { λ _. ⌜ Tabled (now (class .exit)) (now (unequal .exit)) (now (result .exit)) (now (ever .exit)) ⌝ }
+        windowOfParts (now (class .exit)) (now (unequal .exit)) (now (result .exit)) (now (ever .exit)) m i
+        ≡ mergedOf registers functions (windowOfParts (now (class .entry)) (now (unequal .entry)) (now (result .entry)) (now (ever .entry)) m i) a b) ⌝ }
+    ensures long { λ _. ⌜ TableLengths (now (class .exit)) (now (unequal .exit)) (now (result .exit)) (now (ever .exit)) ⌝ }
 {
     let to = (class[a] | class[b]) | single(a);
     merge_masks(class, a, b, to);
@@ -518,11 +518,11 @@ fn close_in(
     result: &mut [Mask; RESULTS],
     ever: &mut [Mask; LINES],
 )
-    requires { ⌜ Tabled (now class) (now unequal) (now result) (now ever) ⌝ }
+    requires { ⌜ TableLengths (now class) (now unequal) (now result) (now ever) ⌝ }
     ensures { λ _. ⌜ ((m : List Bool) (i : Bool) →
-        parts (now (class .exit)) (now (unequal .exit)) (now (result .exit)) (now (ever .exit)) m i
-        ≡ closedOf registers functions (pairs + 1) (parts (now (class .entry)) (now (unequal .entry)) (now (result .entry)) (now (ever .entry)) m i)) ⌝ }
-    ensures long { λ _. ⌜ Tabled (now (class .exit)) (now (unequal .exit)) (now (result .exit)) (now (ever .exit)) ⌝ }
+        windowOfParts (now (class .exit)) (now (unequal .exit)) (now (result .exit)) (now (ever .exit)) m i
+        ≡ closedOf registers functions (registerPairs + 1) (windowOfParts (now (class .entry)) (now (unequal .entry)) (now (result .entry)) (now (ever .entry)) m i)) ⌝ }
+    ensures long { λ _. ⌜ TableLengths (now (class .exit)) (now (unequal .exit)) (now (result .exit)) (now (ever .exit)) ⌝ }
 {
     let mut fuel: usize = PAIRS + 1;
     while fuel > 0 {
@@ -566,8 +566,8 @@ fn clash(class: &[Mask; REGISTERS], unequal: &[Mask; REGISTERS]) -> bool
 // On lent unequal pairs: the window, made infeasible where it is `bad`; whether it is infeasible. An infeasible window has no unequal pairs.
 fn settle_in(unequal: &mut [Mask; REGISTERS], infeasible: bool, bad: bool) -> bool
     ensures { λ v. ⌜ ((c r e : List ℕ) (m : List Bool) →
-        parts c (now (unequal .exit)) r e m v
-        ≡ settledOf registers functions (parts c (now (unequal .entry)) r e m infeasible) bad) ⌝ }
+        windowOfParts c (now (unequal .exit)) r e m v
+        ≡ settledOf registers functions (windowOfParts c (now (unequal .entry)) r e m infeasible) bad) ⌝ }
     ensures long { λ _. ⌜ (length (now (unequal .entry)) ≡ registers → length (now (unequal .exit)) ≡ registers) ⌝ }
 {
     if infeasible | bad {
@@ -587,11 +587,11 @@ fn equal_in(
     x: usize,
     y: usize,
 ) -> bool
-    requires { ⌜ (x < registers) × (y < registers) × Tabled (now class) (now unequal) (now result) (now ever) ⌝ }
+    requires { ⌜ (x < registers) × (y < registers) × TableLengths (now class) (now unequal) (now result) (now ever) ⌝ }
     ensures { λ v. ⌜ ((m : List Bool) →
-        parts (now (class .exit)) (now (unequal .exit)) (now (result .exit)) (now (ever .exit)) m v
-        ≡ equalOf registers functions (parts (now (class .entry)) (now (unequal .entry)) (now (result .entry)) (now (ever .entry)) m infeasible) x y) ⌝ }
-    ensures long { λ _. ⌜ Tabled (now (class .exit)) (now (unequal .exit)) (now (result .exit)) (now (ever .exit)) ⌝ }
+        windowOfParts (now (class .exit)) (now (unequal .exit)) (now (result .exit)) (now (ever .exit)) m v
+        ≡ equalOf registers functions (windowOfParts (now (class .entry)) (now (unequal .entry)) (now (result .entry)) (now (ever .entry)) m infeasible) x y) ⌝ }
+    ensures long { λ _. ⌜ TableLengths (now (class .exit)) (now (unequal .exit)) (now (result .exit)) (now (ever .exit)) ⌝ }
 {
     let own = class[x];
     if holds(own, y) {
@@ -626,8 +626,8 @@ fn unequal_in(
 ) -> bool
     requires { ⌜ (x < registers) × (y < registers) × (length (now unequal) ≡ registers) ⌝ }
     ensures { λ v. ⌜ ((r e : List ℕ) (m : List Bool) →
-        parts (now (class .entry)) (now (unequal .exit)) r e m v
-        ≡ unequalOf registers functions (parts (now (class .entry)) (now (unequal .entry)) r e m infeasible) x y) ⌝ }
+        windowOfParts (now (class .entry)) (now (unequal .exit)) r e m v
+        ≡ unequalOf registers functions (windowOfParts (now (class .entry)) (now (unequal .entry)) r e m infeasible) x y) ⌝ }
     ensures long { λ _. ⌜ length (now (unequal .exit)) ≡ registers ⌝ }
 {
     let one = class[x];
@@ -659,12 +659,12 @@ fn new_in(
     z: usize,
 )
     requires { ⌜ (x < registers) × (f < functions) × (y < registers) × (z < registers)
-        × Shaped (now class) (now unequal) (now result) (now ever) (now mark) ⌝ }
+        × PartLengths (now class) (now unequal) (now result) (now ever) (now mark) ⌝ }
     ensures { λ _. ⌜ ((i : Bool) →
-        parts (now (class .exit)) (now (unequal .exit)) (now (result .exit)) (now (ever .exit)) (now (mark .exit)) i
+        windowOfParts (now (class .exit)) (now (unequal .exit)) (now (result .exit)) (now (ever .exit)) (now (mark .exit)) i
         ≡ appliedOf registers functions
-        (parts (now (class .entry)) (now (unequal .entry)) (now (result .entry)) (now (ever .entry)) (now (mark .entry)) i) x f y z) ⌝ }
-    ensures long { λ _. ⌜ Shaped (now (class .exit)) (now (unequal .exit)) (now (result .exit)) (now (ever .exit)) (now (mark .exit)) ⌝ }
+        (windowOfParts (now (class .entry)) (now (unequal .entry)) (now (result .entry)) (now (ever .entry)) (now (mark .entry)) i) x f y z) ⌝ }
+    ensures long { λ _. ⌜ PartLengths (now (class .exit)) (now (unequal .exit)) (now (result .exit)) (now (ever .exit)) (now (mark .exit)) ⌝ }
 {
     let one = class[y];
     let two = class[z];
@@ -719,7 +719,7 @@ pub fn fresh(registers: u8) -> Window
 fn memoizing(result: &[Mask; RESULTS], ever: &[Mask; LINES], f: usize, y: usize, z: usize) -> bool
     requires { ⌜ (f < functions) × (y < registers) × (z < registers) ⌝ }
     ensures { λ v. ⌜ ((c u : List ℕ) (m : List Bool) (i : Bool) → v
-        ≡ memoizingOf registers functions (parts c u (now (result .entry)) (now (ever .entry)) m i) f y z) ⌝ }
+        ≡ memoizingOf registers functions (windowOfParts c u (now (result .entry)) (now (ever .entry)) m i) f y z) ⌝ }
 {
     let at = REGISTERS * f + y;
     let line = ever[at];
@@ -732,7 +732,7 @@ fn memoizing(result: &[Mask; RESULTS], ever: &[Mask; LINES], f: usize, y: usize,
 // Whether the test x = y is coherent: nothing above either side is lost ("early").
 fn early(mark: &[bool; REGISTERS], x: usize, y: usize) -> bool
     requires { ⌜ (x < registers) × (y < registers) ⌝ }
-    ensures { λ v. ⌜ ((c u r e : List ℕ) (i : Bool) → v ≡ earlyOf (parts c u r e (now (mark .entry)) i) x y) ⌝ }
+    ensures { λ v. ⌜ ((c u r e : List ℕ) (i : Bool) → v ≡ earlyOf (windowOfParts c u r e (now (mark .entry)) i) x y) ⌝ }
 {
     if mark[x] | mark[y] {
         return false;
@@ -748,8 +748,8 @@ pub fn judge_in(
     mark: &[bool; REGISTERS],
     letter: Letter,
 ) -> bool
-    requires { ⌜ Within letter ⌝ }
-    ensures { λ v. ⌜ ((c u : List ℕ) (i : Bool) → v ≡ judgeOf (parts c u (now (result .entry)) (now (ever .entry)) (now (mark .entry)) i) letter) ⌝ }
+    requires { ⌜ WithinPacking letter ⌝ }
+    ensures { λ v. ⌜ ((c u : List ℕ) (i : Bool) → v ≡ judgeOf (windowOfParts c u (now (result .entry)) (now (ever .entry)) (now (mark .entry)) i) letter) ⌝ }
 {
     match letter {
         Letter::Copy {
@@ -778,7 +778,7 @@ pub fn judge_in(
 
 /// Whether the letter is coherent after a trace with this window. Its registers lie below REGISTERS and its function below FUNCTIONS, as packed ones do.
 pub fn judge(w: Window, letter: Letter) -> bool
-    requires { ⌜ Within letter ⌝ }
+    requires { ⌜ WithinPacking letter ⌝ }
     ensures { λ r. ⌜ r ≡ judgeOf w letter ⌝ }
 {
     let result = w.result;
@@ -800,12 +800,12 @@ fn apply_in(
     z: usize,
 )
     requires { ⌜ (x < registers) × (f < functions) × (y < registers) × (z < registers)
-        × Shaped (now class) (now unequal) (now result) (now ever) (now mark) ⌝ }
+        × PartLengths (now class) (now unequal) (now result) (now ever) (now mark) ⌝ }
     ensures { λ _. ⌜ ((i : Bool) →
-        parts (now (class .exit)) (now (unequal .exit)) (now (result .exit)) (now (ever .exit)) (now (mark .exit)) i
+        windowOfParts (now (class .exit)) (now (unequal .exit)) (now (result .exit)) (now (ever .exit)) (now (mark .exit)) i
         ≡ applyOf registers functions
-        (parts (now (class .entry)) (now (unequal .entry)) (now (result .entry)) (now (ever .entry)) (now (mark .entry)) i) x f y z) ⌝ }
-    ensures long { λ _. ⌜ Shaped (now (class .exit)) (now (unequal .exit)) (now (result .exit)) (now (ever .exit)) (now (mark .exit)) ⌝ }
+        (windowOfParts (now (class .entry)) (now (unequal .entry)) (now (result .entry)) (now (ever .entry)) (now (mark .entry)) i) x f y z) ⌝ }
+    ensures long { λ _. ⌜ PartLengths (now (class .exit)) (now (unequal .exit)) (now (result .exit)) (now (ever .exit)) (now (mark .exit)) ⌝ }
 {
     let held = result[REGISTERS * (REGISTERS * f + y) + z];
     let r = name(held);
@@ -826,10 +826,10 @@ pub fn perform_in(
     infeasible: bool,
     letter: Letter,
 ) -> bool
-    requires { ⌜ Within letter × Shaped (now class) (now unequal) (now result) (now ever) (now mark) ⌝ }
-    ensures { λ v. ⌜ parts (now (class .exit)) (now (unequal .exit)) (now (result .exit)) (now (ever .exit)) (now (mark .exit)) v
-        ≡ performOf (parts (now (class .entry)) (now (unequal .entry)) (now (result .entry)) (now (ever .entry)) (now (mark .entry)) infeasible) letter ⌝ }
-    ensures long { λ _. ⌜ Shaped (now (class .exit)) (now (unequal .exit)) (now (result .exit)) (now (ever .exit)) (now (mark .exit)) ⌝ }
+    requires { ⌜ WithinPacking letter × PartLengths (now class) (now unequal) (now result) (now ever) (now mark) ⌝ }
+    ensures { λ v. ⌜ windowOfParts (now (class .exit)) (now (unequal .exit)) (now (result .exit)) (now (ever .exit)) (now (mark .exit)) v
+        ≡ performOf (windowOfParts (now (class .entry)) (now (unequal .entry)) (now (result .entry)) (now (ever .entry)) (now (mark .entry)) infeasible) letter ⌝ }
+    ensures long { λ _. ⌜ PartLengths (now (class .exit)) (now (unequal .exit)) (now (result .exit)) (now (ever .exit)) (now (mark .exit)) ⌝ }
 {
     match letter {
         Letter::Copy { target, source } => {
@@ -882,7 +882,7 @@ pub fn perform_in(
 
 /// The window after a letter that is coherent. Its registers lie below REGISTERS and its function below FUNCTIONS.
 pub fn perform(w: Window, letter: Letter) -> Window
-    requires { ⌜ Within letter ⌝ }
+    requires { ⌜ WithinPacking letter ⌝ }
     ensures { λ r. ⌜ r ≡ performOf w letter ⌝ }
 {
     let mut class = w.class;

@@ -11,15 +11,15 @@ use Rattle.base.proofs.Theory.Choice.{byTest}
 
 module _ {ℓ} {A : Type ℓ} (F : ℕ → A) (d : A) (n : ℕ) where
   -- the first i of n values are those of F
-  pub record Written (i : ℕ) (l : List A) : Type ℓ where
+  pub record WrittenUpTo (i : ℕ) (l : List A) : Type ℓ where
     pub long : length l ≡ n
     pub within : i ≤ n
     pub at : (k : ℕ) → k < i → getD l k d ≡ F k
 
-  pub written-none : (l : List A) → length l ≡ n → Written 0 l
+  pub written-none : (l : List A) → length l ≡ n → WrittenUpTo 0 l
   written-none l h = record { long = h; within = omega arith; at = λ k b. absurd (omega arith) }
 
-  pub written-more : (i : ℕ) (l : List A) (v : A) → Written i l → i < n → v ≡ F i → Written (i + 1) (set l i v)
+  pub written-more : (i : ℕ) (l : List A) (v : A) → WrittenUpTo i l → i < n → v ≡ F i → WrittenUpTo (i + 1) (set l i v)
   written-more i l v w h e = record {
     long = simp length-set (w .long);
     within = omega arith;

@@ -97,7 +97,7 @@ statement-below t = and 7 statement-kinds.ps (falls 7 statement-kinds.ps _<_ μ-
 
 abbrev block-Inv-loop : block-lts.InvT-loop
 block-Inv-loop text regs funs arities depth code₀ first₀ second₀ from start cur₀ code first second cur =
-    law.Reached text regs funs arities depth from (heldBy cur₀ code₀ first₀ second₀) (heldBy cur code first second)
+    law.BlockReached text regs funs arities depth from (heldBy cur₀ code₀ first₀ second₀) (heldBy cur code first second)
 
 abbrev block-μ-loop : block-lts.MeasureT-loop
 block-μ-loop text regs funs arities depth code₀ first₀ second₀ from start cur₀ code first second cur = length text - cur .at

@@ -9,60 +9,60 @@ use lib.ListN.{length, length-append}
 use borrow.Author.Tests.{eq-eqb, ne-eqb, leb-true, leb-false, eqb-true, lt-ltb, le-ltb}
 use Rattle.base.proofs.Theory.Choice.{byTest}
 use Rattle.base.specs.Each.{each}
-use Rattle.letters.specs.RefusalNumbers.{nestingTooDeep}
+use Rattle.letters.specs.MacroRefusalNumbers.{nestingTooDeep}
 use Rattle.grammar.specs.Limits.{mostPoints}
 use Rattle.blocks.specs.Held.{forkKind, unknown, tooMany}
 use Rattle.letters.specs.declared.Letter.{Letter}
 use Rattle.macros.specs.Tree.{Condition, test, Statement, skip, perform, assert, if, while, Else, present, Block, empty, _then_}
-use Rattle.macros.specs.Points.{size, sizeElse, sizeBlock, entry, compile, compileElse, compileBlock}
+use Rattle.macros.specs.Points.{sizeStatement, sizeElse, sizeBlock, entry, compile, compileElse, compileBlock}
 use Rattle.tokens.specs.declared.Token.{Token}
 use Rattle.tokens.specs.Tokens.{tokenAt}
 use Rattle.tokens.proofs.Theory.TokensLaws.{token-advance, token-before-end}
 use Rattle.tokens.specs.Words.{isName}
 use Rattle.tokens.specs.Words as word
-use Rattle.grammar.specs.Reading.{Got, got, refused, exhausted, onward, unfit, expect, ended, condition, tested, assignment, bracesT, block, statement, closing}
+use Rattle.grammar.specs.Reading.{Got, got, exhausted, andThen, refusedToken, expect, ended, condition, endedCondition, assignment, bracesT, block, statement, closing}
 use Rattle.grammar.proofs.Theory.Advance.{condition-on, statement-on, braces-on}
-use Rattle.grammar.proofs.Theory.Enough.{Answers, expect-answers, condition-answers, tested-answers, assignment-answers}
-use Rattle.phrases.specs.Codes.{plain, nothing, lettered, same}
-use Rattle.phrases.specs.declared.Got as number
+use Rattle.grammar.proofs.Theory.Enough.{IsAnswer, expect-answers, condition-answers, tested-answers, assignment-answers}
+use Rattle.phrases.specs.Codes.{plain, withoutValue, lettered, sameLetter}
+use Rattle.phrases.specs.declared.GotNumber as number
 use Rattle.phrases.specs.declared.GotLetter as letter
-use Rattle.blocks.specs.Held.{point, heldPoint, Progress, over, Holds}
+use Rattle.blocks.specs.Held.{point, heldPoint, Progress, pointsOver, HoldsPoints}
 use Rattle.blocks.proofs.Theory.Held.{redirected}
-use Rattle.blocks.specs.Outcome.{Fine, Refusal, Outcome, Settled, Passed, Ready, Enough, inner, bracesAt, elseAt, ifAt, whileAt}
+use Rattle.blocks.specs.Outcome.{Fine, RefusedAt, ReadAs, Settled, Passed, ReaderReady, Enough, innerBlock, bracesAt, elseAt, ifAt, whileAt}
 use Rattle.blocks.specs.Outcome.{waiting, begins, statementCode, elseCode, blockCode}
 use Rattle.blocks.proofs.Theory.Outcome.{within, forked, joined, branched, looped}
 use Rattle.blocks.specs.Outcome.{PlainRead, BlockRead, StatementRead, BracesRead, ElseRead, ConditionalRead, RepeatRead}
 use Rattle.blocks.proofs.Theory.OutcomeLaws.{fine-count, fine-then, fine-changed, outcome-fine, outcome-refused, changed-none, changed-some}
 use Rattle.blocks.proofs.Theory.TableLaws.{over-forked, over-range, map-append}
 use Rattle.blocks.proofs.Theory.Redirect.{blockHeld, statement-length, else-length, block-length, behind, behind-size, code-none, code-some, size-while, size-if, turned-code}
-use Rattle.blocks.specs.declared.Point.{Point}
+use Rattle.blocks.specs.declared.PointEntry.{PointEntry}
 
 -- ---- the outcome of a phrase
 
 -- an answer that was settled is the outcome of the reading behind it
-settled-outcome : {A : Type 0} (f : A → Letter) (k : ℕ) (g : Got A) (h : letter.GotLetter) (st r : Progress) → Answers g → h ≡ lettered f g
-    → Settled k st r h → Outcome (λ a _. waiting k (f a) ∷ []) st r g
+settled-outcome : {A : Type 0} (f : A → Letter) (k : ℕ) (g : Got A) (h : letter.GotLetter) (st r : Progress) → IsAnswer g → h ≡ lettered f g
+    → Settled k st r h → ReadAs (λ a _. waiting k (f a) ∷ []) st r g
 settled-outcome f k (got a e) h st r x p q = rw p at q
-settled-outcome f k (refused m o) h st r x p q = rw p at q
+settled-outcome f k (Got.refused m o) h st r x p q = rw p at q
 settled-outcome f k exhausted h st r x p q = absurd (x refl)
 
-passed-outcome : (g : Got (Unit {0})) (h : number.Got) (st r : Progress) → Answers g → h ≡ nothing g → Passed st r h → Outcome (λ _ _. []) st r g
+passed-outcome : (g : Got (Unit {0})) (h : number.GotNumber) (st r : Progress) → IsAnswer g → h ≡ withoutValue g → Passed st r h → ReadAs (λ _ _. []) st r g
 passed-outcome (got a e) h st r x p q = rw p at q
-passed-outcome (refused m o) h st r x p q = rw p at q
+passed-outcome (Got.refused m o) h st r x p q = rw p at q
 passed-outcome exhausted h st r x p q = absurd (x refl)
 
 -- what was read, made into something with the same points
-outcome-map : {A B : Type 0} (code : A → ℕ → List Point) (code′ : B → ℕ → List Point) (st r : Progress) (g : Got A) (f : A → B)
-    → ((a : A) → code′ (f a) (st .count) ≡ code a (st .count)) → Outcome code st r g → Outcome code′ st r (onward g λ a e. got (f a) e)
+outcome-map : {A B : Type 0} (code : A → ℕ → List PointEntry) (code′ : B → ℕ → List PointEntry) (st r : Progress) (g : Got A) (f : A → B)
+    → ((a : A) → code′ (f a) (st .count) ≡ code a (st .count)) → ReadAs code st r g → ReadAs code′ st r (andThen g λ a e. got (f a) e)
 outcome-map code code′ st r (got a e) f k o = subst (λ ps. Fine st r ps e) (sym (k a)) o
-outcome-map code code′ st r (refused n p) f k o = o
+outcome-map code code′ st r (Got.refused n p) f k o = o
 outcome-map code code′ st r exhausted f k o = o
 
 -- what was read behind something with no point
-outcome-behind : {A : Type 0} (code : A → ℕ → List Point) (st q r : Progress) (g : Got A) (a : ℕ) → q .count ≡ st .count → Fine st q [] a
-    → Outcome code q r g → Outcome code st r g
+outcome-behind : {A : Type 0} (code : A → ℕ → List PointEntry) (st q r : Progress) (g : Got A) (a : ℕ) → q .count ≡ st .count → Fine st q [] a
+    → ReadAs code q r g → ReadAs code st r g
 outcome-behind code st q r (got x e) a n f o = fine-then f (subst (λ c. Fine q r (code x c) e) n o)
-outcome-behind code st q r (refused m p) a n f o = o
+outcome-behind code st q r (Got.refused m p) a n f o = o
 outcome-behind code st q r exhausted a n f o = o
 
 pub moved-count : {st r : Progress} {e : ℕ} → st .count ≤ tooMany → Fine st r [] e → r .count ≡ st .count
@@ -86,15 +86,15 @@ unfolding followed
 followed-empty empty = refl
 followed-empty (c then b) = ap (λ z. c then z) (followed-empty b)
 
-onward-got : (x : Got Block) → onward x (λ b e. got (followed empty b) e) ≡ x
+onward-got : (x : Got Block) → andThen x (λ b e. got (followed empty b) e) ≡ x
 unfolding followed
 onward-got (got b e) = refl
-onward-got (refused n p) = refl
+onward-got (Got.refused n p) = refl
 onward-got exhausted = refl
 
-onward-behind : (x : Got Block) (b : Block) (c : Statement) → onward (onward x λ y e. got (c then y) e) (λ y e. got (followed b y) e) ≡ onward x (λ y e. got (followed (behind b c) y) e)
+onward-behind : (x : Got Block) (b : Block) (c : Statement) → andThen (andThen x λ y e. got (c then y) e) (λ y e. got (followed b y) e) ≡ andThen x (λ y e. got (followed (behind b c) y) e)
 onward-behind (got y e) b c = ap (λ z. got z e) (sym (followed-behind b c y))
-onward-behind (refused n p) b c = refl
+onward-behind (Got.refused n p) b c = refl
 onward-behind exhausted b c = refl
 
 -- the table after a statement behind a block
@@ -113,23 +113,23 @@ joined-holds b c cur₀ cur one a e F G =
     let all = length-append ds (pb ++ pc) in
     let count = Q .count in let start = H .count in
     let turn = each (within base (cur .count) (cur .count)) in
-    byTest (eqb (size c) 0)
+    byTest (eqb (sizeStatement c) 0)
     (λ t.
-    let z : size c ≡ 0 = eqb-true (size c) 0 t in
-    subst (λ x. Holds old x (ds ++ blockCode (behind b c) base)) (changed-none one (cur .count) (turn (one .points)) (omega arith) (omega arith))
-    (subst (λ ps. Holds old one (ds ++ ps)) (sym (code-none b c base z ∙ ap (λ n. pb ++ statementCode c n) (sym low))) Q))
+    let z : sizeStatement c ≡ 0 = eqb-true (sizeStatement c) 0 t in
+    subst (λ x. HoldsPoints old x (ds ++ blockCode (behind b c) base)) (changed-none one (cur .count) (turn (one .points)) (omega arith) (omega arith))
+    (subst (λ ps. HoldsPoints old one (ds ++ ps)) (sym (code-none b c base z ∙ ap (λ n. pb ++ statementCode c n) (sym low))) Q))
     λ t.
-    let z : 0 < size c = some (size c) t in
-    subst (λ x. Holds old x (ds ++ blockCode (behind b c) base)) (changed-some one (cur .count) (turn (one .points)) (omega arith) (omega arith))
+    let z : 0 < sizeStatement c = some (sizeStatement c) t in
+    subst (λ x. HoldsPoints old x (ds ++ blockCode (behind b c) base)) (changed-some one (cur .count) (turn (one .points)) (omega arith) (omega arith))
     (record {
       size = H .size;
       count = let k = length-append ds (blockCode (behind b c) base) in omega arith;
       points =
           ap turn (Q .points)
           ∙ over-range old ds pb pc base (cur .count) (cur .count) (omega arith) (omega arith)
-          ∙ ap (λ n. over old (ds ++ (map (redirected n) pb ++ pc))) low
-          ∙ ap (λ n. over old (ds ++ (map (redirected (base + sizeBlock b)) pb ++ statementCode c n))) low
-          ∙ ap (λ ps. over old (ds ++ ps)) (sym (code-some b c base z (omega arith)));
+          ∙ ap (λ n. pointsOver old (ds ++ (map (redirected n) pb ++ pc))) low
+          ∙ ap (λ n. pointsOver old (ds ++ (map (redirected (base + sizeBlock b)) pb ++ statementCode c n))) low
+          ∙ ap (λ ps. pointsOver old (ds ++ ps)) (sym (code-some b c base z (omega arith)));
     })
   where
     some : (n : ℕ) → eqb n 0 ≡ false → 0 < n
@@ -140,17 +140,17 @@ module _ (s rs fs ns : List ℕ) (d : ℕ) where
   -- with k calls the block that begins at cur₀ is a block b, which cur has read, and then what begins at cur
   abbrev Begun : Progress → Progress → ℕ → Type 0
   Begun cur₀ cur k = (b : Block) × (j : ℕ) × Enough s rs fs ns d (cur .at) j
-      × (block s rs fs ns (suc k) d (cur₀ .at) ≡ onward (block s rs fs ns (suc j) d (cur .at)) λ x e. got (followed b x) e)
+      × (block s rs fs ns (suc k) d (cur₀ .at) ≡ andThen (block s rs fs ns (suc j) d (cur .at)) λ x e. got (followed b x) e)
       × Fine cur₀ cur (blockCode b (cur₀ .count)) (cur .at)
 
   -- The block from cur₀ on, as far as cur: a beginning of it is read.
-  pub record Reached (from : ℕ) (cur₀ cur : Progress) : Type 0 where
+  pub record BlockReached (from : ℕ) (cur₀ cur : Progress) : Type 0 where
     pub counted : cur .count ≤ tooMany
     pub origin : from ≡ cur₀ .count
     pub on : cur₀ .at ≤ cur .at
     pub sofar : (k : ℕ) → Enough s rs fs ns d (cur₀ .at) k → Begun cur₀ cur k
 
-  pub reached-start : (st cur : Progress) → st .count ≤ tooMany → Fine st cur [] (st .at) → Reached (st .count) cur cur
+  pub reached-start : (st cur : Progress) → st .count ≤ tooMany → Fine st cur [] (st .at) → BlockReached (st .count) cur cur
   unfolding blockCode compile
   reached-start st cur h f = record {
     counted = fine-count f;
@@ -167,10 +167,10 @@ module _ (s rs fs ns : List ℕ) (d : ℕ) where
         at = refl;
         low = λ l. omega arith;
         high = λ l. let c = fine-count f in omega arith;
-        laid = λ old ds H l. subst (Holds old cur) (sym (append-nil ds)) H;
+        laid = λ old ds H l. subst (HoldsPoints old cur) (sym (append-nil ds)) H;
       }
 
-  module _ (from : ℕ) (cur₀ cur : Progress) (R : Reached from cur₀ cur) (t : Token) (e : t ≡ tokenAt s (cur .at)) where
+  module _ (from : ℕ) (cur₀ cur : Progress) (R : BlockReached from cur₀ cur) (t : Token) (e : t ≡ tokenAt s (cur .at)) where
     -- the end of the block
     block-done : (st : Progress) → st .count ≤ tooMany → Fine st cur₀ [] (st .at) → closing s rs fs ns (t .key) ≡ true → BlockRead s rs fs ns d st cur
     unfolding block
@@ -182,12 +182,12 @@ module _ (s rs fs ns : List ℕ) (d : ℕ) where
           let whole : block s rs fs ns (suc k) d (st .at) ≡ got b (cur .at) =
           ap (block s rs fs ns (suc k) d) (sym (f .at))
           ∙ q
-          ∙ ap (λ x. onward x λ x e. got (followed b x) e) last
+          ∙ ap (λ x. andThen x λ x e. got (followed b x) e) last
           ∙ ap (λ b. got b (cur .at)) (followed-empty b) in
-          subst (Outcome blockCode st cur) (sym whole) (fine-then f (subst (λ n. Fine cur₀ cur (blockCode b n) (cur .at)) n F));
+          subst (ReadAs blockCode st cur) (sym whole) (fine-then f (subst (λ n. Fine cur₀ cur (blockCode b n) (cur .at)) n F));
     }
 
-    pub block-brace : (st : Progress) → st .count ≤ tooMany → Fine st cur₀ [] (st .at) → t .key ≡ word.rbrace → BlockRead s rs fs ns d st cur
+    pub block-brace : (st : Progress) → st .count ≤ tooMany → Fine st cur₀ [] (st .at) → t .key ≡ word.rbraceKey → BlockRead s rs fs ns d st cur
     block-brace st h f k = block-done st h f (ap (λ n. closing s rs fs ns n) k)
 
     pub block-end : (st : Progress) → st .count ≤ tooMany → Fine st cur₀ [] (st .at) → t .key ≡ 0 → BlockRead s rs fs ns d st cur
@@ -202,19 +202,19 @@ module _ (s rs fs ns : List ℕ) (d : ℕ) where
           let (x, y) = statement-on s rs fs ns (suc k) d (cur .at) c a g in
           (omega (arith, f .at), y, fine-count f)
 
-      module _ (no-brace : t .key ≡ word.rbrace → ⊥) (no-end : t .key ≡ 0 → ⊥) where
+      module _ (no-brace : t .key ≡ word.rbraceKey → ⊥) (no-end : t .key ≡ 0 → ⊥) where
         -- one step of the block
         stepped : ℕ → Got Block
-        stepped k = onward (statement s rs fs ns k d (cur .at)) λ c a. onward (block s rs fs ns k d a) λ b e. got (c then b) e
+        stepped k = andThen (statement s rs fs ns k d (cur .at)) λ c a. andThen (block s rs fs ns k d a) λ b e. got (c then b) e
 
         opened : (k : ℕ) → block s rs fs ns (suc k) d (cur .at) ≡ stepped k
         unfolding block stepped
         opened k = rw (ap (λ t. closing s rs fs ns (t .key)) (sym e) ∙ not-closed)
           where
             not-closed : closing s rs fs ns (t .key) ≡ false
-            not-closed = rw (ne-eqb (t .key) word.rbrace no-brace, ne-eqb (t .key) 0 no-end)
+            not-closed = rw (ne-eqb (t .key) word.rbraceKey no-brace, ne-eqb (t .key) 0 no-end)
 
-        pub reached-turn : one .ok ≡ true → (r : Progress) → r ≡ joined one from (cur .count) → (length s - r .at < length s - cur .at) × Reached from cur₀ r
+        pub reached-turn : one .ok ≡ true → (r : Progress) → r ≡ joined one from (cur .count) → (length s - r .at < length s - cur .at) × BlockReached from cur₀ r
         unfolding joined stepped
         reached-turn h r u =
             let (x, y, z) = statement-at h in
@@ -234,10 +234,10 @@ module _ (s rs fs ns : List ℕ) (d : ℕ) where
                   j,
                   omega (arith, f .at),
                   q
-                      ∙ ap (λ x. onward x λ x e. got (followed b x) e) (opened (suc j))
-                      ∙ ap (λ x. onward (onward x λ c a. onward (block s rs fs ns (suc j) d a) λ b e. got (c then b) e) λ x e. got (followed b x) e) g
+                      ∙ ap (λ x. andThen x λ x e. got (followed b x) e) (opened (suc j))
+                      ∙ ap (λ x. andThen (andThen x λ c a. andThen (block s rs fs ns (suc j) d a) λ b e. got (c then b) e) λ x e. got (followed b x) e) g
                       ∙ onward-behind (block s rs fs ns (suc j) d a) b c
-                      ∙ ap (λ n. onward (block s rs fs ns (suc j) d n) λ x e. got (followed (behind b c) x) e) place,
+                      ∙ ap (λ n. andThen (block s rs fs ns (suc j) d n) λ x e. got (followed (behind b c) x) e) place,
                   subst (λ x. Fine cur₀ x (blockCode (behind b c) (cur₀ .count)) (r .at)) (ap (λ n. joined one n (cur .count)) (sym (R .origin)) ∙ sym u)
                       (subst (λ n. Fine cur₀ (joined one (cur₀ .count) (cur .count)) (blockCode (behind b c) (cur₀ .count)) n) place behind-one),
                 )
@@ -246,11 +246,11 @@ module _ (s rs fs ns : List ℕ) (d : ℕ) where
         unfolding stepped
         block-refused st f h = record { outcome = λ k l. go k (R .sofar k (subst (λ n. Enough s rs fs ns d n k) (sym (f .at)) l)) }
           where
-            go : (k : ℕ) → Begun cur₀ cur k → Outcome blockCode st one (block s rs fs ns (suc k) d (st .at))
+            go : (k : ℕ) → Begun cur₀ cur k → ReadAs blockCode st one (block s rs fs ns (suc k) d (st .at))
             go k (b, zero, m, q, F) = let y = token-before-end s (cur .at) (λ z. no-end (ap (λ t. t .key) e ∙ z)) in absurd (omega arith)
             go k (b, suc j, m, q, F) =
-                let whole = ap (block s rs fs ns (suc k) d) (sym (f .at)) ∙ q ∙ ap (λ x. onward x λ x e. got (followed b x) e) (opened (suc j)) in
-                subst (Outcome blockCode st one) (sym whole)
+                let whole = ap (block s rs fs ns (suc k) d) (sym (f .at)) ∙ q ∙ ap (λ x. andThen x λ x e. got (followed b x) e) (opened (suc j)) in
+                subst (ReadAs blockCode st one) (sym whole)
                 (outcome-refused blockCode blockCode st st one (stepped (suc j)) _
                 (outcome-refused statementCode blockCode cur st one (statement s rs fs ns (suc j) d (cur .at)) _ (S .outcome j m) h) h)
 
@@ -261,58 +261,58 @@ token-on s at t e h = subst (λ t. (2 ≤ t .key) → (at < t .end) × (t .end �
 -- ---- statements
 
 module _ (s rs fs ns : List ℕ) (t : Token) (st : Progress) where
-  pub plain-skip : (h : number.Got) (r : Progress) → t .key ≡ word.skip → h ≡ nothing (expect s word.semicolon (t .end)) → Passed st r h
+  pub plain-skip : (h : number.GotNumber) (r : Progress) → t .key ≡ word.skipKey → h ≡ withoutValue (expect s word.semicolonKey (t .end)) → Passed st r h
       → PlainRead s rs fs ns t st r
   unfolding statement statementCode compile
   plain-skip h r i p q = record {
     read = λ d e m n. record {
-      outcome = λ k l. rw (← e, eq-eqb _ word.skip i)
-          (outcome-map (λ _ _. []) statementCode st r (expect s word.semicolon (t .end)) (λ _. skip) (λ _. refl)
-          (passed-outcome (expect s word.semicolon (t .end)) h st r (expect-answers s word.semicolon (t .end)) p q));
+      outcome = λ k l. rw (← e, eq-eqb _ word.skipKey i)
+          (outcome-map (λ _ _. []) statementCode st r (expect s word.semicolonKey (t .end)) (λ _. skip) (λ _. refl)
+          (passed-outcome (expect s word.semicolonKey (t .end)) h st r (expect-answers s word.semicolonKey (t .end)) p q));
     };
   }
 
-  pub plain-assume : (h : letter.GotLetter) (r : Progress) → t .key ≡ word.assume → h ≡ lettered test (tested s rs (t .end)) → Settled 0 st r h
+  pub plain-assume : (h : letter.GotLetter) (r : Progress) → t .key ≡ word.assumeKey → h ≡ lettered test (endedCondition s rs (t .end)) → Settled 0 st r h
       → PlainRead s rs fs ns t st r
   unfolding statement statementCode compile
   plain-assume h r i p q = record {
     read = λ d e m n. record {
-      outcome = λ k l. rw (← e, ap (λ k. eqb k word.skip) i, eq-eqb _ word.assume i)
-          (outcome-map (λ c _. waiting 0 (test c) ∷ []) statementCode st r (tested s rs (t .end)) (λ c. perform (test c)) (λ _. refl)
-          (settled-outcome test 0 (tested s rs (t .end)) h st r (tested-answers s rs fs ns (t .end)) p q));
+      outcome = λ k l. rw (← e, ap (λ k. eqb k word.skipKey) i, eq-eqb _ word.assumeKey i)
+          (outcome-map (λ c _. waiting 0 (test c) ∷ []) statementCode st r (endedCondition s rs (t .end)) (λ c. perform (test c)) (λ _. refl)
+          (settled-outcome test 0 (endedCondition s rs (t .end)) h st r (tested-answers s rs fs ns (t .end)) p q));
     };
   }
 
-  pub plain-assert : (h : letter.GotLetter) (r : Progress) → t .key ≡ word.assert → h ≡ lettered test (tested s rs (t .end)) → Settled 1 st r h
+  pub plain-assert : (h : letter.GotLetter) (r : Progress) → t .key ≡ word.assertKey → h ≡ lettered test (endedCondition s rs (t .end)) → Settled 1 st r h
       → PlainRead s rs fs ns t st r
   unfolding statement statementCode compile
   plain-assert h r i p q = record {
     read = λ d e m n. record {
-      outcome = λ k l. rw (← e, ap (λ k. eqb k word.skip) i, ap (λ k. eqb k word.assume) i, eq-eqb _ word.assert i)
-          (outcome-map (λ c _. waiting 1 (test c) ∷ []) statementCode st r (tested s rs (t .end)) assert (λ _. refl)
-          (settled-outcome test 1 (tested s rs (t .end)) h st r (tested-answers s rs fs ns (t .end)) p q));
+      outcome = λ k l. rw (← e, ap (λ k. eqb k word.skipKey) i, ap (λ k. eqb k word.assumeKey) i, eq-eqb _ word.assertKey i)
+          (outcome-map (λ c _. waiting 1 (test c) ∷ []) statementCode st r (endedCondition s rs (t .end)) assert (λ _. refl)
+          (settled-outcome test 1 (endedCondition s rs (t .end)) h st r (tested-answers s rs fs ns (t .end)) p q));
     };
   }
 
-  module _ (n₁ : t .key ≡ word.skip → ⊥) (n₂ : t .key ≡ word.assume → ⊥) (n₃ : t .key ≡ word.assert → ⊥) (b : Bool) (i : b ≡ isName (t .key)) where
-    pub plain-assign : (h : letter.GotLetter) (r : Progress) → b ≡ true → h ≡ lettered same (assignment s rs fs ns (st .at)) → Settled 0 st r h
+  module _ (n₁ : t .key ≡ word.skipKey → ⊥) (n₂ : t .key ≡ word.assumeKey → ⊥) (n₃ : t .key ≡ word.assertKey → ⊥) (b : Bool) (i : b ≡ isName (t .key)) where
+    pub plain-assign : (h : letter.GotLetter) (r : Progress) → b ≡ true → h ≡ lettered sameLetter (assignment s rs fs ns (st .at)) → Settled 0 st r h
         → PlainRead s rs fs ns t st r
     unfolding statement statementCode compile
     plain-assign h r j p q = record {
       read = λ d e n₄ n₅. record {
         outcome = λ k l.
-            rw (← e, ← i, ne-eqb _ word.skip n₁, ne-eqb _ word.assume n₂, ne-eqb _ word.assert n₃, ne-eqb _ word.if n₄, ne-eqb _ word.while n₅, j)
+            rw (← e, ← i, ne-eqb _ word.skipKey n₁, ne-eqb _ word.assumeKey n₂, ne-eqb _ word.assertKey n₃, ne-eqb _ word.ifKey n₄, ne-eqb _ word.whileKey n₅, j)
             (outcome-map (λ c _. waiting 0 c ∷ []) statementCode st r (assignment s rs fs ns (st .at)) perform (λ _. refl)
-            (settled-outcome same 0 (assignment s rs fs ns (st .at)) h st r (assignment-answers s rs fs ns (st .at)) p q));
+            (settled-outcome sameLetter 0 (assignment s rs fs ns (st .at)) h st r (assignment-answers s rs fs ns (st .at)) p q));
       };
     }
 
-    pub plain-unfit : (h : number.Got) (r : Progress) → b ≡ false → h ≡ plain (unfit t) → Passed st r h → PlainRead s rs fs ns t st r
+    pub plain-unfit : (h : number.GotNumber) (r : Progress) → b ≡ false → h ≡ plain (refusedToken t) → Passed st r h → PlainRead s rs fs ns t st r
     unfolding statement
     plain-unfit h r j p q = record {
       read = λ d e n₄ n₅. record {
         outcome = λ k l.
-            rw (← e, ← i, ne-eqb _ word.skip n₁, ne-eqb _ word.assume n₂, ne-eqb _ word.assert n₃, ne-eqb _ word.if n₄, ne-eqb _ word.while n₅, j)
+            rw (← e, ← i, ne-eqb _ word.skipKey n₁, ne-eqb _ word.assumeKey n₂, ne-eqb _ word.assertKey n₃, ne-eqb _ word.ifKey n₄, ne-eqb _ word.whileKey n₅, j)
             (rw p at q);
       };
     }
@@ -320,53 +320,53 @@ module _ (s rs fs ns : List ℕ) (t : Token) (st : Progress) where
 module _ (s rs fs ns : List ℕ) (d : ℕ) (st : Progress) (t : Token) (e : t ≡ tokenAt s (st .at)) where
   -- the word, and what stands behind it
   module _ (v : st .count ≤ tooMany) (p r : Progress) (f : Fine st p [] (t .end)) where
-    pub statement-if : t .key ≡ word.if → ConditionalRead s rs fs ns d p r → StatementRead s rs fs ns d st r
+    pub statement-if : t .key ≡ word.ifKey → ConditionalRead s rs fs ns d p r → StatementRead s rs fs ns d st r
     unfolding statement
     statement-if i C = record {
       outcome = λ k l.
           let (x, y) = token-on s (st .at) t e (omega arith) in
-          rw (← e, ap (λ k. eqb k word.skip) i, ap (λ k. eqb k word.assume) i, ap (λ k. eqb k word.assert) i, eq-eqb _ word.if i)
+          rw (← e, ap (λ k. eqb k word.skipKey) i, ap (λ k. eqb k word.assumeKey) i, ap (λ k. eqb k word.assertKey) i, eq-eqb _ word.ifKey i)
           (outcome-behind statementCode st p r (ifAt s rs fs ns d k (t .end)) (t .end) (moved-count v f) f
-          (subst (λ n. Outcome statementCode p r (ifAt s rs fs ns d k n)) (f .at) (C .outcome k (let z = f .at in omega arith))));
+          (subst (λ n. ReadAs statementCode p r (ifAt s rs fs ns d k n)) (f .at) (C .outcome k (let z = f .at in omega arith))));
     }
 
-    pub statement-while : t .key ≡ word.while → RepeatRead s rs fs ns d p r → StatementRead s rs fs ns d st r
+    pub statement-while : t .key ≡ word.whileKey → RepeatRead s rs fs ns d p r → StatementRead s rs fs ns d st r
     unfolding statement
     statement-while i C = record {
       outcome = λ k l.
           let (x, y) = token-on s (st .at) t e (omega arith) in
-          rw (← e, ap (λ k. eqb k word.skip) i, ap (λ k. eqb k word.assume) i, ap (λ k. eqb k word.assert) i, ap (λ k. eqb k word.if) i, eq-eqb _ word.while i)
+          rw (← e, ap (λ k. eqb k word.skipKey) i, ap (λ k. eqb k word.assumeKey) i, ap (λ k. eqb k word.assertKey) i, ap (λ k. eqb k word.ifKey) i, eq-eqb _ word.whileKey i)
           (outcome-behind statementCode st p r (whileAt s rs fs ns d k (t .end)) (t .end) (moved-count v f) f
-          (subst (λ n. Outcome statementCode p r (whileAt s rs fs ns d k n)) (f .at) (C .outcome k (let z = f .at in omega arith))));
+          (subst (λ n. ReadAs statementCode p r (whileAt s rs fs ns d k n)) (f .at) (C .outcome k (let z = f .at in omega arith))));
     }
 
   -- ---- braces
 
-  pub braces-deep : (r : Progress) → t .key ≡ word.lbrace → d ≡ 0 → Refusal r nestingTooDeep (t .start) → BracesRead s rs fs ns d st r
-  braces-deep r h z o = record { outcome = λ k l. rw (z, ← e, eq-eqb _ word.lbrace h) o }
+  pub braces-deep : (r : Progress) → t .key ≡ word.lbraceKey → d ≡ 0 → RefusedAt r nestingTooDeep (t .start) → BracesRead s rs fs ns d st r
+  braces-deep r h z o = record { outcome = λ k l. rw (z, ← e, eq-eqb _ word.lbraceKey h) o }
 
-  pub braces-unfit : (h : number.Got) (r : Progress) → (t .key ≡ word.lbrace → ⊥) → h ≡ plain (unfit t) → Passed st r h → BracesRead s rs fs ns d st r
+  pub braces-unfit : (h : number.GotNumber) (r : Progress) → (t .key ≡ word.lbraceKey → ⊥) → h ≡ plain (refusedToken t) → Passed st r h → BracesRead s rs fs ns d st r
   braces-unfit h r n p q = record { outcome = λ k l. go k d }
     where
-      go : (k d : ℕ) → Outcome blockCode st r (bracesT s rs fs ns (inner s rs fs ns d k) d (tokenAt s (st .at)))
-      go k zero = rw (← e, ne-eqb _ word.lbrace n) (rw p at q)
-      go k (suc d) = rw (← e, ne-eqb _ word.lbrace n) (rw p at q)
+      go : (k d : ℕ) → ReadAs blockCode st r (bracesT s rs fs ns (innerBlock s rs fs ns d k) d (tokenAt s (st .at)))
+      go k zero = rw (← e, ne-eqb _ word.lbraceKey n) (rw p at q)
+      go k (suc d) = rw (← e, ne-eqb _ word.lbraceKey n) (rw p at q)
 
-  module _ (h : t .key ≡ word.lbrace) (n : d ≡ 0 → ⊥) (v : st .count ≤ tooMany) (p q : Progress) (f : Fine st p [] (t .end))
+  module _ (h : t .key ≡ word.lbraceKey) (n : d ≡ 0 → ⊥) (v : st .count ≤ tooMany) (p q : Progress) (f : Fine st p [] (t .end))
       (B : BlockRead s rs fs ns (d - 1) p q) where
     abbrev brace : (st .at < t .end) × (t .end ≤ length s)
     brace = token-on s (st .at) t e (subst (λ n. 2 ≤ n) (sym h) (omega arith))
 
     -- the block inside, at the calls that the braces have
-    block-inside : (k : ℕ) → Enough s rs fs ns d (st .at) k → Outcome blockCode st q (block s rs fs ns k (d - 1) (t .end))
+    block-inside : (k : ℕ) → Enough s rs fs ns d (st .at) k → ReadAs blockCode st q (block s rs fs ns k (d - 1) (t .end))
     block-inside zero l = let (x, y) = brace in absurd (omega arith)
     block-inside (suc k) l =
         let (x, y) = brace in
         outcome-behind blockCode st p q (block s rs fs ns (suc k) (d - 1) (t .end)) (t .end) (moved-count v f) f
-        (subst (λ n. Outcome blockCode p q (block s rs fs ns (suc k) (d - 1) n)) (f .at) (B .outcome k (let z = f .at in omega arith)))
+        (subst (λ n. ReadAs blockCode p q (block s rs fs ns (suc k) (d - 1) n)) (f .at) (B .outcome k (let z = f .at in omega arith)))
 
-    opened-brace : (k c : ℕ) → d ≡ suc c → bracesAt s rs fs ns d k (st .at) ≡ onward (block s rs fs ns k (d - 1) (t .end)) λ b e. ended s word.rbrace b e
-    opened-brace k c z = let y : suc c - 1 ≡ c = omega arith in rw (z, ← e, eq-eqb _ word.lbrace h, y)
+    opened-brace : (k c : ℕ) → d ≡ suc c → bracesAt s rs fs ns d k (st .at) ≡ andThen (block s rs fs ns k (d - 1) (t .end)) λ b e. ended s word.rbraceKey b e
+    opened-brace k c z = let y : suc c - 1 ≡ c = omega arith in rw (z, ← e, eq-eqb _ word.lbraceKey h, y)
 
     pub braces-refused : q .ok ≡ false → BracesRead s rs fs ns d st q
     braces-refused i = record {
@@ -375,18 +375,18 @@ module _ (s rs fs ns : List ℕ) (d : ℕ) (st : Progress) (t : Token) (e : t �
           rw (opened-brace k (d - 1) z) (outcome-refused blockCode blockCode st st q (block s rs fs ns k (d - 1) (t .end)) _ (block-inside k l) i);
     }
 
-    pub braces-read : q .ok ≡ true → (o : number.Got) (r : Progress) → o ≡ nothing (expect s word.rbrace (q .at)) → Passed q r o → BracesRead s rs fs ns d st r
+    pub braces-read : q .ok ≡ true → (o : number.GotNumber) (r : Progress) → o ≡ withoutValue (expect s word.rbraceKey (q .at)) → Passed q r o → BracesRead s rs fs ns d st r
     braces-read i o r g u = record {
       outcome = λ k l.
           let z : d ≡ suc (d - 1) = omega arith in
           let (b, m, w, j) = outcome-fine blockCode st q (block s rs fs ns k (d - 1) (t .end)) (block-inside k l) i in
           rw (opened-brace k (d - 1) z, w)
-          (go b m j (expect s word.rbrace m) (expect-answers s word.rbrace m) (g ∙ ap (λ n. nothing (expect s word.rbrace n)) (j .at)));
+          (go b m j (expect s word.rbraceKey m) (expect-answers s word.rbraceKey m) (g ∙ ap (λ n. withoutValue (expect s word.rbraceKey n)) (j .at)));
     }
       where
-        go : (b : Block) (m : ℕ) → Fine st q (blockCode b (st .count)) m → (x : Got (Unit {0})) → Answers x → o ≡ nothing x → Outcome blockCode st r (onward x λ _ e. got b e)
+        go : (b : Block) (m : ℕ) → Fine st q (blockCode b (st .count)) m → (x : Got (Unit {0})) → IsAnswer x → o ≡ withoutValue x → ReadAs blockCode st r (andThen x λ _ e. got b e)
         go b m y (got v e) a g = subst (λ ps. Fine st r ps e) (append-nil (blockCode b (st .count))) (fine-then y (rw g at u))
-        go b m y (refused n v) a g = rw g at u
+        go b m y (Got.refused n v) a g = rw g at u
         go b m y exhausted a g = absurd (a refl)
 
     pub block-count : q .ok ≡ true → q .count ≤ tooMany
@@ -397,20 +397,20 @@ module _ (s rs fs ns : List ℕ) (d : ℕ) (st : Progress) (t : Token) (e : t �
 
   -- ---- else
 
-  pub else-absent : (r : Progress) → (t .key ≡ word.else → ⊥) → Fine st r [] (st .at) → ElseRead s rs fs ns d st r
+  pub else-absent : (r : Progress) → (t .key ≡ word.elseKey → ⊥) → Fine st r [] (st .at) → ElseRead s rs fs ns d st r
   unfolding elseCode compileElse
-  else-absent r h f = record { outcome = λ k l. rw (← e, ne-eqb _ word.else h) f }
+  else-absent r h f = record { outcome = λ k l. rw (← e, ne-eqb _ word.elseKey h) f }
 
-  pub else-present : (p r : Progress) → t .key ≡ word.else → st .count ≤ tooMany → Fine st p [] (t .end) → BracesRead s rs fs ns d p r
+  pub else-present : (p r : Progress) → t .key ≡ word.elseKey → st .count ≤ tooMany → Fine st p [] (t .end) → BracesRead s rs fs ns d p r
       → ElseRead s rs fs ns d st r
   unfolding elseCode compileElse blockCode
   else-present p r h v f B = record {
     outcome = λ k l.
         let (x, y) = token-on s (st .at) t e (subst (λ n. 2 ≤ n) (sym h) (omega arith)) in
-        rw (← e, eq-eqb _ word.else h)
+        rw (← e, eq-eqb _ word.elseKey h)
         (outcome-map blockCode elseCode st r (bracesAt s rs fs ns d k (t .end)) present (λ _. refl)
         (outcome-behind blockCode st p r (bracesAt s rs fs ns d k (t .end)) (t .end) (moved-count v f) f
-        (subst (λ n. Outcome blockCode p r (bracesAt s rs fs ns d k n)) (f .at) (B .outcome k (let z = f .at in omega arith)))));
+        (subst (λ n. ReadAs blockCode p r (bracesAt s rs fs ns d k n)) (f .at) (B .outcome k (let z = f .at in omega arith)))));
   }
 
 -- where braces that were read end
@@ -447,22 +447,22 @@ looped-fine c b st p y a e F G =
     let count = Q .count in let start = H .count in
     let end : y .count ≡ base + 1 + sizeBlock b = omega arith in
     let body : map (redirected base) pb ≡ blockHeld b (base + 1) base = ap (λ n. map (redirected base) (blockCode b n)) low ∙ turned-code b base (omega arith) in
-    subst (λ x. Holds old x (ds ++ statementCode (while c b) base)) (changed-some y base _ (omega arith) (omega arith))
+    subst (λ x. HoldsPoints old x (ds ++ statementCode (while c b) base)) (changed-some y base _ (omega arith) (omega arith))
     (record {
       size = H .size;
       count = let k = length-append ds (statementCode (while c b) base) in omega arith;
       points =
-          ap (λ ps. forked (turn ps) base start-at unknown) (Q .points ∙ ap (over old) (regroup ds w pb))
+          ap (λ ps. forked (turn ps) base start-at unknown) (Q .points ∙ ap (pointsOver old) (regroup ds w pb))
           ∙ ap (λ ps. forked ps base start-at unknown)
           (over-range old (ds ++ w ∷ []) pb [] (base + 1) (y .count) base (omega arith) (omega arith)
-          ∙ ap (over old) (sym (regroup ds w (map (redirected base) pb))))
-          ∙ ap (λ n. forked (over old (ds ++ w ∷ map (redirected base) pb)) n start-at unknown) start
+          ∙ ap (pointsOver old) (sym (regroup ds w (map (redirected base) pb))))
+          ∙ ap (λ n. forked (pointsOver old (ds ++ w ∷ map (redirected base) pb)) n start-at unknown) start
           ∙ over-forked old ds (map (redirected base) pb) w start-at unknown
-          ∙ (λ i. over old
+          ∙ (λ i. pointsOver old
           (ds ++ point forkKind (test c) ((ap (λ n. begins (base + 1) n base) end ∙ begins-entry (base + 1) (sizeBlock b) base) i) unknown ∷ body i));
     })
   where
-    regroup : (ds : List Point) (w : Point) (pb : List Point) → ds ++ w ∷ pb ≡ (ds ++ w ∷ []) ++ (pb ++ [])
+    regroup : (ds : List PointEntry) (w : PointEntry) (pb : List PointEntry) → ds ++ w ∷ pb ≡ (ds ++ w ∷ []) ++ (pb ++ [])
     regroup ds w pb = ap (λ l. ds ++ w ∷ l) (sym (append-nil pb)) ∙ sym (append-assoc ds (w ∷ []) (pb ++ []))
 
 -- the table after an if
@@ -490,21 +490,21 @@ branched-fine c b o st p y z a e n F G E =
     let yes-at = ap (λ n. begins (base + 1) n unknown) mid ∙ begins-entry (base + 1) (sizeBlock b) unknown in
     let no-at : fails ≡ entry (sizeElse o) (base + 1 + sizeBlock b) unknown =
     (λ j. begins (mid j) (end j) unknown) ∙ begins-entry (base + 1 + sizeBlock b) (sizeElse o) unknown in
-    subst (λ x. Holds old x (ds ++ statementCode (if c b o) base)) (changed-some z base _ (omega arith) (omega arith))
+    subst (λ x. HoldsPoints old x (ds ++ statementCode (if c b o) base)) (changed-some z base _ (omega arith) (omega arith))
     (record {
       size = H .size;
       count = let k = length-append ds (statementCode (if c b o) base) in omega arith;
       points =
           (λ i. forked (Q .points i) (start i) holds fails)
           ∙ over-forked old ds (pb ++ pe) w holds fails
-          ∙ (λ i. over old (ds ++ point forkKind (test c) (yes-at i) (no-at i) ∷ (blockCode b (low i) ++ elseCode o (mid i))))
-          ∙ ap (λ ps. over old
+          ∙ (λ i. pointsOver old (ds ++ point forkKind (test c) (yes-at i) (no-at i) ∷ (blockCode b (low i) ++ elseCode o (mid i))))
+          ∙ ap (λ ps. pointsOver old
           (ds ++ point forkKind (test c) (entry (sizeBlock b) (base + 1) unknown) (entry (sizeElse o) (base + 1 + sizeBlock b) unknown) ∷ ps))
           (sym (map-append heldPoint (compileBlock b (base + 1) unknown) (compileElse o (base + 1 + sizeBlock b) unknown)));
     })
 
 module _ (s rs : List ℕ) (st p : Progress) (g : letter.GotLetter) (i : g ≡ lettered test (condition s rs (st .at))) (u : Settled 2 st p g) where
-  tested-outcome : Outcome (λ c _. waiting 2 (test c) ∷ []) st p (condition s rs (st .at))
+  tested-outcome : ReadAs (λ c _. waiting 2 (test c) ∷ []) st p (condition s rs (st .at))
   tested-outcome = settled-outcome test 2 (condition s rs (st .at)) g st p (condition-answers s rs (st .at)) i u
 
   -- the condition that was read
@@ -527,8 +527,8 @@ module _ (s rs : List ℕ) (st p : Progress) (g : letter.GotLetter) (i : g ≡ l
 
     module _ (ok : p .ok ≡ true) (y : Progress) (B : BracesRead s rs fs ns d p y) where
       -- the braces, at the place behind the condition
-      braced : (k a : ℕ) → Enough s rs fs ns d (st .at) k → p .at ≡ a → Outcome blockCode p y (bracesAt s rs fs ns d k a)
-      braced k a h q = let (x, z, w) = condition-at ok in subst (λ n. Outcome blockCode p y (bracesAt s rs fs ns d k n)) q (B .outcome k (omega arith))
+      braced : (k a : ℕ) → Enough s rs fs ns d (st .at) k → p .at ≡ a → ReadAs blockCode p y (bracesAt s rs fs ns d k a)
+      braced k a h q = let (x, z, w) = condition-at ok in subst (λ n. ReadAs blockCode p y (bracesAt s rs fs ns d k n)) q (B .outcome k (omega arith))
 
       pub repeat-braces : y .ok ≡ false → RepeatRead s rs fs ns d st y
       repeat-braces n = record {
@@ -553,10 +553,10 @@ module _ (s rs : List ℕ) (st p : Progress) (g : letter.GotLetter) (i : g ≡ l
       }
 
       module _ (n : y .ok ≡ true) (z : Progress) (E : ElseRead s rs fs ns d y z) where
-        otherwised : (k m : ℕ) → Enough s rs fs ns d (st .at) k → y .at ≡ m → Outcome elseCode y z (elseAt s rs fs ns d k m)
+        otherwised : (k m : ℕ) → Enough s rs fs ns d (st .at) k → y .at ≡ m → ReadAs elseCode y z (elseAt s rs fs ns d k m)
         otherwised k m h q =
             let (x, v) = braces-at s rs fs ns d p y B n in let (x′, v′, w′) = condition-at ok in
-            subst (λ n. Outcome elseCode y z (elseAt s rs fs ns d k n)) q (E .outcome k (omega arith))
+            subst (λ n. ReadAs elseCode y z (elseAt s rs fs ns d k n)) q (E .outcome k (omega arith))
 
         pub conditional-else : z .ok ≡ false → ConditionalRead s rs fs ns d st z
         conditional-else x = record {
@@ -577,5 +577,5 @@ module _ (s rs : List ℕ) (st p : Progress) (g : letter.GotLetter) (i : g ≡ l
 
 -- ---- small facts for the calls
 
-pub ready : {rs fs ns : List ℕ} {n m : ℕ} → Ready rs fs ns n → m ≤ tooMany → Ready rs fs ns m
+pub ready : {rs fs ns : List ℕ} {n m : ℕ} → ReaderReady rs fs ns n → m ≤ tooMany → ReaderReady rs fs ns m
 ready r h = record { few = r .few; counted = h }

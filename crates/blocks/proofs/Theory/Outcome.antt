@@ -6,19 +6,19 @@ use lib.ListN.{getD, set}
 use Rattle.base.specs.Choice.{pick}
 use Rattle.base.specs.Each.{each}
 use Rattle.blocks.specs.Held.{unknown}
-use Rattle.blocks.specs.Held.{point, unused, Progress}
+use Rattle.blocks.specs.Held.{point, unusedPoint, Progress}
 use Rattle.blocks.proofs.Theory.Held.{redirected}
-use Rattle.blocks.specs.declared.Point.{Point}
+use Rattle.blocks.specs.declared.PointEntry.{PointEntry}
 use Rattle.blocks.specs.Outcome.{begins, changedTo}
 
 -- the same of a point
-abbrev pub within : ℕ → ℕ → ℕ → ℕ → Point → Point
+abbrev pub within : ℕ → ℕ → ℕ → ℕ → PointEntry → PointEntry
 within from to f i p = pick (ltb i from) (λ _. p) λ _. pick (ltb i to) (λ _. redirected f p) λ _. p
 
-abbrev pub withPoints : Progress → List Point → Progress
+abbrev pub withPoints : Progress → List PointEntry → Progress
 withPoints q ps = record { ok = q .ok; number = q .number; place = q .place; at = q .at; count = q .count; points = ps }
 
-abbrev pub changed : Progress → ℕ → List Point → Progress
+abbrev pub changed : Progress → ℕ → List PointEntry → Progress
 changed q n ps = withPoints q (changedTo (q .count) n ps (q .points))
 
 -- a statement whose points are numbered from `to` on follows the points from `from` on
@@ -26,8 +26,8 @@ unfoldable pub joined : Progress → ℕ → ℕ → Progress
 joined q from to = changed q to (each (within from to to) (q .points))
 
 -- point n, followed by a and b
-abbrev pub forked : List Point → ℕ → ℕ → ℕ → List Point
-forked ps n a b = set ps n (point (getD ps n unused .kind) (getD ps n unused .letter) a b)
+abbrev pub forked : List PointEntry → ℕ → ℕ → ℕ → List PointEntry
+forked ps n a b = set ps n (point (getD ps n unusedPoint .kind) (getD ps n unusedPoint .letter) a b)
 
 -- the point of an if, once its blocks are read
 unfoldable pub branched : Progress → ℕ → ℕ → Progress

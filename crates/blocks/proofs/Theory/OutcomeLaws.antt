@@ -13,23 +13,23 @@ use Rattle.base.specs.Each.{each}
 use Rattle.grammar.specs.Limits.{mostPoints}
 use Rattle.blocks.specs.Held.{unknown, tooMany}
 use Rattle.letters.specs.declared.Letter.{Letter}
-use Rattle.grammar.specs.Reading.{Got, got, refused, exhausted, onward}
-use Rattle.phrases.specs.declared.Got as number
+use Rattle.grammar.specs.Reading.{Got, got, exhausted, andThen}
+use Rattle.phrases.specs.declared.GotNumber as number
 use Rattle.phrases.specs.declared.GotLetter as letter
-use Rattle.blocks.specs.Held.{Coded, pointsOf, Progress, progressOf, heldBy, Holds}
-use Rattle.blocks.specs.Outcome.{Fine, Refusal, Outcome, Settled, Passed, waiting, turnedIn, begins}
+use Rattle.blocks.specs.Held.{Coded, pointsOf, Progress, progressOf, heldBy, HoldsPoints}
+use Rattle.blocks.specs.Outcome.{Fine, RefusedAt, ReadAs, Settled, Passed, waiting, backpatchedIn, begins}
 use Rattle.blocks.specs.Outcome.{changedTo}
 use Rattle.blocks.proofs.Theory.Outcome.{withPoints, changed, forked, joined, branched, looped}
 use Rattle.blocks.proofs.Theory.TableLaws.{over-push, points-set, points-forked, points-range}
-use Rattle.blocks.specs.declared.Point.{Point}
-use Rattle.blocks.specs.declared.State.{State}
+use Rattle.blocks.specs.declared.PointEntry.{PointEntry}
+use Rattle.blocks.specs.declared.ReaderState.{ReaderState}
 
 -- ---- one step
 
-abbrev pub on : ℕ → ℕ → State
+abbrev pub on : ℕ → ℕ → ReaderState
 on at n = record { ok = true; number = 0; place = 0; at = at; count = n }
 
-pub fine-moved : (st : State) (at : ℕ) → st .count ≤ tooMany → (ps : List Point) → Fine (progressOf st ps) (progressOf (on at (st .count)) ps) [] at
+pub fine-moved : (st : ReaderState) (at : ℕ) → st .count ≤ tooMany → (ps : List PointEntry) → Fine (progressOf st ps) (progressOf (on at (st .count)) ps) [] at
 fine-moved st at h ps = record {
   ok = refl;
   number = refl;
@@ -37,11 +37,11 @@ fine-moved st at h ps = record {
   at = refl;
   low = λ l. omega arith;
   high = λ l. omega arith;
-  laid = λ old ds H l. subst (Holds old (progressOf (on at (st .count)) ps)) (sym (append-nil ds))
+  laid = λ old ds H l. subst (HoldsPoints old (progressOf (on at (st .count)) ps)) (sym (append-nil ds))
       (record { size = H .size; count = H .count; points = H .points });
 }
 
-pub fine-pushed : (st : State) (k : ℕ) (w : Letter) (at : ℕ) (cs xs ys : List ℕ) (c : ℕ) → Coded k w c → st .count < mostPoints
+pub fine-pushed : (st : ReaderState) (k : ℕ) (w : Letter) (at : ℕ) (cs xs ys : List ℕ) (c : ℕ) → Coded k w c → st .count < mostPoints
     → Fine (heldBy st cs xs ys) (heldBy (on at (st .count + 1)) (set cs (st .count) c) (set xs (st .count) unknown) (set ys (st .count) 0))
     (waiting k w ∷ []) at
 fine-pushed st k w at cs xs ys c e h = record {
@@ -62,7 +62,7 @@ fine-pushed st k w at cs xs ys c e h = record {
   };
 }
 
-pub fine-full : (st : State) (k : ℕ) (w : Letter) (at : ℕ) (ps : List Point) → mostPoints ≤ st .count
+pub fine-full : (st : ReaderState) (k : ℕ) (w : Letter) (at : ℕ) (ps : List PointEntry) → mostPoints ≤ st .count
     → Fine (progressOf st ps) (progressOf (on at tooMany) ps) (waiting k w ∷ []) at
 fine-full st k w at ps h = record {
   ok = refl;
@@ -74,13 +74,13 @@ fine-full st k w at ps h = record {
   laid = λ old ds H l. absurd (let n = H .count in omega arith);
 }
 
-pub fine-count : {st r : Progress} {ps : List Point} {e : ℕ} → Fine st r ps e → r .count ≤ tooMany
+pub fine-count : {st r : Progress} {ps : List PointEntry} {e : ℕ} → Fine st r ps e → r .count ≤ tooMany
 fine-count {st} {r} {ps} f = byTest (leb (st .count + length ps) mostPoints)
     (λ t. let l = leb-true (st .count + length ps) mostPoints t in omega (arith, f .low l))
     λ t. omega (arith, f .high (leb-false (st .count + length ps) mostPoints t))
 
 -- one reading behind another: the points of the second are numbered on from those of the first
-pub fine-then : {st q r : Progress} {ps qs : List Point} {a e : ℕ} → Fine st q ps a → Fine q r qs e → Fine st r (ps ++ qs) e
+pub fine-then : {st q r : Progress} {ps qs : List PointEntry} {a e : ℕ} → Fine st q ps a → Fine q r qs e → Fine st r (ps ++ qs) e
 fine-then {st} {q} {r} {ps} {qs} f g = record {
   ok = g .ok;
   number = g .number;
@@ -88,7 +88,7 @@ fine-then {st} {q} {r} {ps} {qs} f g = record {
   at = g .at;
   low = λ h. omega (arith, n, f .low (omega (arith, n)), g .low (omega (arith, n, f .low (omega (arith, n)))));
   high = λ h. go (omega (arith, n));
-  laid = λ old ds H l. subst (Holds old r) (append-assoc ds ps qs)
+  laid = λ old ds H l. subst (HoldsPoints old r) (append-assoc ds ps qs)
       (g .laid old (ds ++ ps) (f .laid old ds H (omega (arith, n))) (let m = length-append ds ps in omega (arith, n)));
 }
   where
@@ -106,32 +106,32 @@ pub settled-at : (k e : ℕ) (l : Letter) (st r : Progress) (g : letter.GotLette
     → Settled k st r g
 settled-at k e l st r g h f = rw h f
 
-pub settled-refused : (k n p : ℕ) (st r : Progress) (g : letter.GotLetter) → g ≡ letter.the-variants.Refused n p → Refusal r n p → Settled k st r g
+pub settled-refused : (k n p : ℕ) (st r : Progress) (g : letter.GotLetter) → g ≡ letter.the-variants.Refused n p → RefusedAt r n p → Settled k st r g
 settled-refused k n p st r g h f = rw h f
 
-pub passed-at : (v e : ℕ) (st r : Progress) (g : number.Got) → g ≡ number.the-variants.At v e → Fine st r [] e → Passed st r g
+pub passed-at : (v e : ℕ) (st r : Progress) (g : number.GotNumber) → g ≡ number.the-variants.At v e → Fine st r [] e → Passed st r g
 passed-at v e st r g h f = rw h f
 
-pub passed-refused : (n p : ℕ) (st r : Progress) (g : number.Got) → g ≡ number.the-variants.Refused n p → Refusal r n p → Passed st r g
+pub passed-refused : (n p : ℕ) (st r : Progress) (g : number.GotNumber) → g ≡ number.the-variants.Refused n p → RefusedAt r n p → Passed st r g
 passed-refused n p st r g h f = rw h f
 
 -- ---- a reading that came out well, or not
 
-pub outcome-fine : {A : Type 0} (code : A → ℕ → List Point) (st r : Progress) (g : Got A) → Outcome code st r g → r .ok ≡ true
+pub outcome-fine : {A : Type 0} (code : A → ℕ → List PointEntry) (st r : Progress) (g : Got A) → ReadAs code st r g → r .ok ≡ true
     → (a : A) × (e : ℕ) × (g ≡ got a e) × Fine st r (code a (st .count)) e
 outcome-fine code st r (got a e) o h = (a, e, refl, o)
-outcome-fine code st r (refused n p) o h = let b = o .ok in let z : _≡_ {A = ℕ} 0 1 = cc in absurd (omega arith)
+outcome-fine code st r (Got.refused n p) o h = let b = o .ok in let z : _≡_ {A = ℕ} 0 1 = cc in absurd (omega arith)
 outcome-fine code st r exhausted o h = absurd o
 
-pub outcome-refused : {A B : Type 0} (code : A → ℕ → List Point) (code′ : B → ℕ → List Point) (st st′ r : Progress) (g : Got A) (f : A → ℕ → Got B)
-    → Outcome code st r g → r .ok ≡ false → Outcome code′ st′ r (onward g f)
+pub outcome-refused : {A B : Type 0} (code : A → ℕ → List PointEntry) (code′ : B → ℕ → List PointEntry) (st st′ r : Progress) (g : Got A) (f : A → ℕ → Got B)
+    → ReadAs code st r g → r .ok ≡ false → ReadAs code′ st′ r (andThen g f)
 outcome-refused code code′ st st′ r (got a e) f o h = let k = o .ok in let z : _≡_ {A = ℕ} 0 1 = cc in absurd (omega arith)
-outcome-refused code code′ st st′ r (refused n p) f o h = o
+outcome-refused code code′ st st′ r (Got.refused n p) f o h = o
 outcome-refused code code′ st st′ r exhausted f o h = absurd o
 
 -- ---- changes to the table
 
-module _ (q : Progress) (n : ℕ) (ps : List Point) where
+module _ (q : Progress) (n : ℕ) (ps : List PointEntry) where
   pub changed-none : q .count ≤ mostPoints → q .count ≤ n → q ≡ changed q n ps
   changed-none h g = rw (le-ltb mostPoints (q .count) h, le-leb (q .count) n g)
 
@@ -139,8 +139,8 @@ module _ (q : Progress) (n : ℕ) (ps : List Point) where
   changed-some h g = rw (le-ltb mostPoints (q .count) h, lt-leb (q .count) n g)
 
 -- the same reading, with other points, as many
-pub fine-changed : {st q : Progress} {ps : List Point} {e : ℕ} (n : ℕ) (xs qs : List Point) → Fine st q ps e → length qs ≡ length ps
-    → ((old ds : List Point) → Holds old st ds → length ds + length ps ≤ mostPoints → Holds old q (ds ++ ps) → Holds old (changed q n xs) (ds ++ qs))
+pub fine-changed : {st q : Progress} {ps : List PointEntry} {e : ℕ} (n : ℕ) (xs qs : List PointEntry) → Fine st q ps e → length qs ≡ length ps
+    → ((old ds : List PointEntry) → HoldsPoints old st ds → length ds + length ps ≤ mostPoints → HoldsPoints old q (ds ++ ps) → HoldsPoints old (changed q n xs) (ds ++ qs))
     → Fine st (changed q n xs) qs e
 fine-changed {st} {q} {ps} n xs qs f h k = record {
   ok = f .ok;
@@ -155,14 +155,14 @@ fine-changed {st} {q} {ps} n xs qs f h k = record {
 -- ---- what the changes to the arrays make of the points
 
 -- a change to both arrays of what follows is a change to the points
-points-changed : (count n : ℕ) (cs xs ys xs′ ys′ : List ℕ) (ps : List Point) → pointsOf cs xs′ ys′ ≡ ps
+points-changed : (count n : ℕ) (cs xs ys xs′ ys′ : List ℕ) (ps : List PointEntry) → pointsOf cs xs′ ys′ ≡ ps
     → pointsOf cs (changedTo count n xs′ xs) (changedTo count n ys′ ys) ≡ changedTo count n ps (pointsOf cs xs ys)
 points-changed count n cs xs ys xs′ ys′ ps e =
     byTest (ltb mostPoints count) (λ t. rw t refl) λ t. rw t (byTest (leb count n) (λ u. rw u refl) λ u. rw u e)
 
-module _ (q : State) (cs xs ys xs′ ys′ : List ℕ) where
-  pub points-joined : (from to : ℕ) → xs′ ≡ changedTo (q .count) to (each (turnedIn from to to) xs) xs
-      → ys′ ≡ changedTo (q .count) to (each (turnedIn from to to) ys) ys → heldBy q cs xs′ ys′ ≡ joined (heldBy q cs xs ys) from to
+module _ (q : ReaderState) (cs xs ys xs′ ys′ : List ℕ) where
+  pub points-joined : (from to : ℕ) → xs′ ≡ changedTo (q .count) to (each (backpatchedIn from to to) xs) xs
+      → ys′ ≡ changedTo (q .count) to (each (backpatchedIn from to to) ys) ys → heldBy q cs xs′ ys′ ≡ joined (heldBy q cs xs ys) from to
   unfolding joined
   points-joined from to e f =
       (λ i. heldBy q cs (e i) (f i)) ∙ ap (progressOf q) (points-changed (q .count) to cs xs ys _ _ _ (points-range cs xs ys from to to))
@@ -174,8 +174,8 @@ module _ (q : State) (cs xs ys xs′ ys′ : List ℕ) where
       (λ i. heldBy q cs (e i) (f i)) ∙ ap (progressOf q) (points-changed (q .count) base cs xs ys _ _ _ (points-forked cs xs ys base _ _))
 
   pub points-looped : (base : ℕ)
-      → xs′ ≡ changedTo (q .count) base (set (each (turnedIn (base + 1) (q .count) base) xs) base (begins (base + 1) (q .count) base)) xs
-      → ys′ ≡ changedTo (q .count) base (set (each (turnedIn (base + 1) (q .count) base) ys) base unknown) ys
+      → xs′ ≡ changedTo (q .count) base (set (each (backpatchedIn (base + 1) (q .count) base) xs) base (begins (base + 1) (q .count) base)) xs
+      → ys′ ≡ changedTo (q .count) base (set (each (backpatchedIn (base + 1) (q .count) base) ys) base unknown) ys
       → heldBy q cs xs′ ys′ ≡ looped (heldBy q cs xs ys) base
   unfolding looped
   points-looped base e f =
@@ -187,7 +187,7 @@ module _ (q : State) (cs xs ys xs′ ys′ : List ℕ) where
 -- ---- what the arrays hold, whatever stood in them
 
 -- any table of 256 entries holds its first points
-pub lent-holds : (st : Progress) → length (st .points) ≡ mostPoints → st .count ≤ mostPoints → Holds (st .points) st (take (st .count) (st .points))
+pub lent-holds : (st : Progress) → length (st .points) ≡ mostPoints → st .count ≤ mostPoints → HoldsPoints (st .points) st (take (st .count) (st .points))
 lent-holds st h g =
     let n : length (take (st .count) (st .points)) ≡ st .count = length-take-le (st .count) (st .points) (omega arith) in
     record {
@@ -197,7 +197,7 @@ lent-holds st h g =
     }
 
 -- the entries in front of the points read, and those behind them, are as lent
-pub fine-points : (st r : Progress) (ps : List Point) (e : ℕ) → Fine st r ps e → length (st .points) ≡ mostPoints → st .count + length ps ≤ mostPoints
+pub fine-points : (st r : Progress) (ps : List PointEntry) (e : ℕ) → Fine st r ps e → length (st .points) ≡ mostPoints → st .count + length ps ≤ mostPoints
     → r .points ≡ take (st .count) (st .points) ++ (ps ++ drop (st .count + length ps) (st .points))
 fine-points st r ps e f h g =
     let front = take (st .count) (st .points) in

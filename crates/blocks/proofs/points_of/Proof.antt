@@ -4,12 +4,12 @@ use mathlib.Core.Path.{_≡_, ap, _∙_}
 use lib.ListN.{replicate}
 use borrow.Author.Needs.{needs}
 use Rattle.base.proofs.Theory.Each.{each-none, each-turn, ended}
-use Rattle.blocks.specs.Held.{tableOf, unused}
+use Rattle.blocks.specs.Held.{tableOfCodes, unusedPoint}
 use Rattle.blocks.proofs.points_of.Statement.{statement}
 use Rattle.blocks.proofs.points_of.Tie as tie
 
 abbrev Inv-loop : tie.InvT-loop
-Inv-loop code first second count points₀ i₀ points i = (i ≤ count) × (points ≡ tableOf code first second i)
+Inv-loop code first second count points₀ i₀ points i = (i ≤ count) × (points ≡ tableOfCodes code first second i)
 
 abbrev μ-loop : tie.MeasureT-loop
 μ-loop code first second count points₀ i₀ points i = count - i
@@ -21,7 +21,7 @@ points-of-spec =
     Inv-loop
     μ-loop
     (λ c κs. search needs)
-    (λ c. (omega arith, ap (replicate 256) (c .no-point .ensures) ∙ each-none _ (replicate 256 unused)))
+    (λ c. (omega arith, ap (replicate 256) (c .no-point .ensures) ∙ each-none _ (replicate 256 unusedPoint)))
     (λ c. search needs)
     (λ c. search needs)
     (λ c. search needs)
@@ -36,5 +36,5 @@ points-of-spec =
     (λ c.
     let here = c .before .before .before .before in
     let (low, filled) = here .before .loop .inv in
-    (omega (arith, here .loop-test .taken), each-turn _ _ _ _ unused _ filled (c .point-at .ensures)))
+    (omega (arith, here .loop-test .taken), each-turn _ _ _ _ unusedPoint _ filled (c .point-at .ensures)))
     (λ c. let (low, filled) = c .before .loop .inv in ended _ _ _ _ _ filled (omega (arith, low, c .loop-test .left))))

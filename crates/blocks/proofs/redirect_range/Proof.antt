@@ -2,16 +2,16 @@ use Prim.Native.Nat.{_-_, _≤_}
 use native.Mathlib.Omega.{arith}
 use mathlib.Core.Path.{_≡_}
 use borrow.Author.Needs.{needs}
-use Rattle.base.specs.Each.{done}
+use Rattle.base.specs.Each.{eachUpTo}
 use Rattle.base.proofs.Theory.Each.{each-turn}
-use Rattle.blocks.specs.Outcome.{turnedIn}
+use Rattle.blocks.specs.Outcome.{backpatchedIn}
 use Rattle.blocks.proofs.Theory.CodeLaws.{range-begun, range-turn, range-ended}
 use Rattle.blocks.proofs.redirect_range.Statement.{statement}
 use Rattle.blocks.proofs.redirect_range.Tie as tie
 
 abbrev Inv-loop : tie.InvT-loop
 Inv-loop first₀ second₀ from to f i₀ first second i =
-    (from ≤ i) × (first ≡ done (turnedIn from to f) i first₀) × (second ≡ done (turnedIn from to f) i second₀)
+    (from ≤ i) × (first ≡ eachUpTo (backpatchedIn from to f) i first₀) × (second ≡ eachUpTo (backpatchedIn from to f) i second₀)
 
 abbrev μ-loop : tie.MeasureT-loop
 μ-loop first₀ second₀ from to f i₀ first second i = to - i

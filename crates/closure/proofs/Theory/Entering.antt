@@ -6,7 +6,7 @@ use native.Mathlib.Omega.{arith}
 use lib.ListN.{length, getD}
 use Rattle.letters.specs.Editions.{mostFunctions}
 use Rattle.closure.specs.Limits.{mostTerms, chainCount}
-use Rattle.closure.specs.Index.{signatureOf, Holds, here, there, Chains, Complete, Entered}
+use Rattle.closure.specs.Index.{signatureOf, ChainHas, here, there, Chains, CompleteIndex, Entered}
 use Rattle.closure.proofs.Theory.Index.{signature-same}
 use Rattle.closure.specs.Arrays.{Below, Formed, Argument, Readable, signatureAt, LookedAt, knownAt, freshAt}
 
@@ -19,13 +19,13 @@ chains-none head link registers h l zh zl s = record {
   links = record { lower = λ i p. let e = zl i in omega arith };
 }
 
-pub complete-none : (signature : ℕ → ℕ) (registers : ℕ) (head link : List ℕ) → ((b : ℕ) → getD head b 0 ≡ 0) → 1 ≤ registers → Complete signature registers registers head link
+pub complete-none : (signature : ℕ → ℕ) (registers : ℕ) (head link : List ℕ) → ((b : ℕ) → getD head b 0 ≡ 0) → 1 ≤ registers → CompleteIndex signature registers registers head link
 complete-none signature registers head link z s = record {
   has = λ k p h. absurd (omega arith);
   only = λ b o k. absurd (empty (getD head b 0) o (z b) k);
 }
   where
-    empty : (i o : ℕ) → i ≡ 0 → Holds registers link i o → ⊥
+    empty : (i o : ℕ) → i ≡ 0 → ChainHas registers link i o → ⊥
     empty i o e (here l) = omega arith
     empty i o e (there l k) = omega arith
 
@@ -69,5 +69,5 @@ module _ (representative function first second : List ℕ) (registers n : ℕ) (
     pub looked-known : (name : ℕ) → r < n → name ≡ getD representative r 0 → LookedAt representative function first second registers n f a b name
     looked-known name h q = let (u, v, z) = same-as r h (w .hit h) in knownAt r (w .least) h u v z q
 
-    pub looked-fresh : Complete (signatureAt representative function first second) registers n head link → r ≡ n → LookedAt representative function first second registers n f a b n
+    pub looked-fresh : CompleteIndex (signatureAt representative function first second) registers n head link → r ≡ n → LookedAt representative function first second registers n f a b n
     looked-fresh all q = freshAt refl (λ m p h u v z. w .fresh q all m p h (as-same m u v z))

@@ -13,21 +13,21 @@ use Rattle.letters.specs.Editions.{mostFunctions}
 use Rattle.base.proofs.Theory.Choice.{byTest}
 use Rattle.base.specs.Choice.{pick}
 use Rattle.closure.specs.Limits.{chainCount, mostTerms}
-use Rattle.closure.specs.Index.{signatureOf, Holds, here, there, Down, Chains, Complete, Found, Entered, Cut, CutTo, withoutLast}
+use Rattle.closure.specs.Index.{signatureOf, ChainHas, here, there, Down, Chains, CompleteIndex, Found, Entered, Cut, CutTo, withoutLast}
 
 pub signature-same : {f p q g r s : ℕ} → f < mostFunctions → g < mostFunctions → q < mostTerms → s < mostTerms
     → signatureOf f p q ≡ signatureOf g r s → (f ≡ g) × (p ≡ r) × (q ≡ s)
 unfolding signatureOf
 signature-same hf hg hq hs e = (omega arith, omega arith, omega arith)
 
-pub holds-least : (registers : ℕ) (link : List ℕ) (i o : ℕ) → Holds registers link i o → registers ≤ o
+pub holds-least : (registers : ℕ) (link : List ℕ) (i o : ℕ) → ChainHas registers link i o → registers ≤ o
 holds-least registers link i o (here l) = l
 holds-least registers link i o (there l h) = holds-least registers link (getD link i 0) o h
 
 pub link-less : (registers : ℕ) (link : List ℕ) (i j : ℕ) → Down link → 1 ≤ registers → registers ≤ i → j ≡ getD link i 0 → j < i
 link-less registers link i j w s l e = let h = w .lower i (omega arith) in omega arith
 
-pub holds-most : (registers : ℕ) (link : List ℕ) (i o : ℕ) → Down link → 1 ≤ registers → Holds registers link i o → o ≤ i
+pub holds-most : (registers : ℕ) (link : List ℕ) (i o : ℕ) → Down link → 1 ≤ registers → ChainHas registers link i o → o ≤ i
 holds-most registers link i o w s (here l) = omega arith
 holds-most registers link i o w s (there l h) = let a = w .lower i (omega arith) in let b = holds-most registers link (getD link i 0) o w s h in omega arith
 
@@ -37,8 +37,8 @@ chain-below n head link b v w e = let h = w .heads b in omega arith
 -- ---- the loop of `below`
 module _ (link : List ℕ) (start bound : ℕ) where
   pub record Cutting (i : ℕ) : Type 0 where
-    pub keeps : (registers o : ℕ) → Holds registers link start o → o < bound → Holds registers link i o
-    pub back : (registers o : ℕ) → registers ≤ bound → Holds registers link i o → Holds registers link start o
+    pub keeps : (registers o : ℕ) → ChainHas registers link start o → o < bound → ChainHas registers link i o
+    pub back : (registers o : ℕ) → registers ≤ bound → ChainHas registers link i o → ChainHas registers link start o
 
   pub cutting-start : Cutting start
   cutting-start = record { keeps = λ registers o h l. h; back = λ registers o s h. h }
@@ -49,7 +49,7 @@ module _ (link : List ℕ) (start bound : ℕ) where
     back = λ registers o s h. c .back registers o s (there (omega arith) h);
   })
     where
-      beyond : (registers o : ℕ) → o < bound → Holds registers link i o → Holds registers link (getD link i 0) o
+      beyond : (registers o : ℕ) → o < bound → ChainHas registers link i o → ChainHas registers link (getD link i 0) o
       beyond registers o b (here k) = absurd (omega arith)
       beyond registers o b (there k h) = h
 
@@ -99,10 +99,10 @@ module _ (head₀ link : List ℕ) (bound : ℕ) (w : Chains mostTerms head₀ l
     };
     keeps = λ registers b o k l. byTest (ltb b chainCount)
         (λ t. (c .past b (let l = ltb-true b chainCount t in omega arith)) .keeps registers o k l)
-        (λ t. let l = ltb-false b chainCount t in let m = c .most in subst (λ j. Holds registers link j o) (sym (c .rest b (omega arith))) k);
+        (λ t. let l = ltb-false b chainCount t in let m = c .most in subst (λ j. ChainHas registers link j o) (sym (c .rest b (omega arith))) k);
     back = λ registers b o s k. byTest (ltb b chainCount)
         (λ t. (c .past b (let l = ltb-true b chainCount t in omega arith)) .back registers o s k)
-        (λ t. let l = ltb-false b chainCount t in let m = c .most in subst (λ j. Holds registers link j o) (c .rest b (omega arith)) k);
+        (λ t. let l = ltb-false b chainCount t in let m = c .most in subst (λ j. ChainHas registers link j o) (c .rest b (omega arith)) k);
   }
 
 without-last : (last before k : ℕ) → ((last ≡ k) × (withoutLast last before k ≡ before)) ⊎ ((last ≢ k) × (withoutLast last before k ≡ last))
@@ -117,8 +117,8 @@ without-last last before k = go (eqb last k) refl
 pub record Undoing (head₀ link : List ℕ) (bound : ℕ) (head : List ℕ) (k : ℕ) : Type 0 where
   pub least : bound ≤ k
   pub chains : Chains k head link
-  pub keeps : (registers b o : ℕ) → Holds registers link (getD head₀ b 0) o → o < bound → Holds registers link (getD head b 0) o
-  pub back : (registers b o : ℕ) → registers ≤ bound → Holds registers link (getD head b 0) o → Holds registers link (getD head₀ b 0) o
+  pub keeps : (registers b o : ℕ) → ChainHas registers link (getD head₀ b 0) o → o < bound → ChainHas registers link (getD head b 0) o
+  pub back : (registers b o : ℕ) → registers ≤ bound → ChainHas registers link (getD head b 0) o → ChainHas registers link (getD head₀ b 0) o
 
 module _ (head₀ link : List ℕ) (bound : ℕ) where
   pub undoing-start : (i : ℕ) → Chains i head₀ link → bound ≤ i → Undoing head₀ link bound head₀ i
@@ -128,7 +128,7 @@ module _ (head₀ link : List ℕ) (bound : ℕ) where
   undoing-end head k u h = let l = u .least in let e : k ≡ bound = omega arith in record { chains = subst (λ k. Chains k head link) e (u .chains); keeps = u .keeps; back = u .back }
 
   -- application j, the last that is left, is taken out of the chain of its signature
-  module _ (signature : ℕ → ℕ) (registers n : ℕ) (all : Complete signature registers n head₀ link) (some : 1 ≤ registers) (first : registers ≤ bound)
+  module _ (signature : ℕ → ℕ) (registers n : ℕ) (all : CompleteIndex signature registers n head₀ link) (some : 1 ≤ registers) (first : registers ≤ bound)
       (head : List ℕ) (k j chain v : ℕ) (u : Undoing head₀ link bound head k) (h : bound < k) (ej : j ≡ k - 1) (ec : chain ≡ signature j % chainCount) (small : chain < chainCount) (ev : v ≡ withoutLast (getD head chain 0) (getD link j 0) j) where
     stored : getD (set head chain v) chain 0 ≡ v
     stored = getD-set-same head chain v 0 (let l = u .chains .head-long in omega arith)
@@ -136,21 +136,21 @@ module _ (head₀ link : List ℕ) (bound : ℕ) where
     other : (b : ℕ) → b ≢ chain → getD (set head chain v) b 0 ≡ getD head b 0
     other b d = getD-set-other head chain b v 0 d
 
-    beyond : (r i o : ℕ) → i ≡ j → o < bound → Holds r link i o → Holds r link (getD link j 0) o
+    beyond : (r i o : ℕ) → i ≡ j → o < bound → ChainHas r link i o → ChainHas r link (getD link j 0) o
     beyond r i o e b (here l) = absurd (omega arith)
-    beyond r i o e b (there l z) = subst (λ i. Holds r link (getD link i 0) o) e z
+    beyond r i o e b (there l z) = subst (λ i. ChainHas r link (getD link i 0) o) e z
 
     -- what the stored entry has
-    kept : (r o : ℕ) → o < bound → Holds r link (getD head chain 0) o → Holds r link v o
+    kept : (r o : ℕ) → o < bound → ChainHas r link (getD head chain 0) o → ChainHas r link v o
     kept r o b z = elim (without-last (getD head chain 0) (getD link j 0) j) [
-      | inl (e, q) ↦ subst (λ i. Holds r link i o) (sym (ev ∙ q)) (beyond r (getD head chain 0) o e b z)
-      | inr (d, q) ↦ subst (λ i. Holds r link i o) (sym (ev ∙ q)) z
+      | inl (e, q) ↦ subst (λ i. ChainHas r link i o) (sym (ev ∙ q)) (beyond r (getD head chain 0) o e b z)
+      | inr (d, q) ↦ subst (λ i. ChainHas r link i o) (sym (ev ∙ q)) z
     ]
 
-    came : (r o : ℕ) → r ≤ bound → Holds r link v o → Holds r link (getD head chain 0) o
+    came : (r o : ℕ) → r ≤ bound → ChainHas r link v o → ChainHas r link (getD head chain 0) o
     came r o b z = elim (without-last (getD head chain 0) (getD link j 0) j) [
-      | inl (e, q) ↦ subst (λ i. Holds r link i o) (sym e) (there (omega arith) (subst (λ i. Holds r link i o) (ev ∙ q) z))
-      | inr (d, q) ↦ subst (λ i. Holds r link i o) (ev ∙ q) z
+      | inl (e, q) ↦ subst (λ i. ChainHas r link i o) (sym e) (there (omega arith) (subst (λ i. ChainHas r link i o) (ev ∙ q) z))
+      | inr (d, q) ↦ subst (λ i. ChainHas r link i o) (ev ∙ q) z
     ]
 
     stored-less : v < j
@@ -163,7 +163,7 @@ module _ (head₀ link : List ℕ) (bound : ℕ) where
     other-less : (b : ℕ) → b ≢ chain → getD head b 0 < j
     other-less b d = byTest (eqb (getD head b 0) j)
         (λ t. let e = eqb-true (getD head b 0) j t in
-        absurd (d (sym (all .only b j (u .back registers b j first (subst (λ i. Holds registers link i j) (sym e) (here (omega arith))))) ∙ sym ec)))
+        absurd (d (sym (all .only b j (u .back registers b j first (subst (λ i. ChainHas registers link i j) (sym e) (here (omega arith))))) ∙ sym ec)))
         (λ t. let y : getD head b 0 ≢ j = eqb-false (getD head b 0) j t in let l = u .chains .heads b in omega arith)
 
     pub undoing-turn : Undoing head₀ link bound (set head chain v) j
@@ -178,24 +178,24 @@ module _ (head₀ link : List ℕ) (bound : ℕ) where
         links = u .chains .links;
       };
       keeps = λ r b o z l. byTest (eqb b chain)
-          (λ t. let e = eqb-true b chain t in subst (λ i. Holds r link i o) (sym (ap (λ b. getD (set head chain v) b 0) e ∙ stored)) (kept r o l (subst (λ b. Holds r link (getD head b 0) o) e (u .keeps r b o z l))))
-          (λ t. subst (λ i. Holds r link i o) (sym (other b (eqb-false b chain t))) (u .keeps r b o z l));
+          (λ t. let e = eqb-true b chain t in subst (λ i. ChainHas r link i o) (sym (ap (λ b. getD (set head chain v) b 0) e ∙ stored)) (kept r o l (subst (λ b. ChainHas r link (getD head b 0) o) e (u .keeps r b o z l))))
+          (λ t. subst (λ i. ChainHas r link i o) (sym (other b (eqb-false b chain t))) (u .keeps r b o z l));
       back = λ r b o s z. u .back r b o s (byTest (eqb b chain)
-          (λ t. let e = eqb-true b chain t in subst (λ b. Holds r link (getD head b 0) o) (sym e) (came r o s (subst (λ i. Holds r link i o) (ap (λ b. getD (set head chain v) b 0) e ∙ stored) z)))
-          (λ t. subst (λ i. Holds r link i o) (other b (eqb-false b chain t)) z));
+          (λ t. let e = eqb-true b chain t in subst (λ b. ChainHas r link (getD head b 0) o) (sym e) (came r o s (subst (λ i. ChainHas r link i o) (ap (λ b. getD (set head chain v) b 0) e ∙ stored) z)))
+          (λ t. subst (λ i. ChainHas r link i o) (other b (eqb-false b chain t)) z));
     }
 
 -- ---- the loop of `find`
 module _ (signature : ℕ → ℕ) (registers : ℕ) (link : List ℕ) (start c : ℕ) where
   -- At i, all that is left of the chain is the chain from i on, and nothing with the signature c was passed.
   pub record Finding (i : ℕ) : Type 0 where
-    pub back : (o : ℕ) → Holds registers link i o → Holds registers link start o
-    pub on : (o : ℕ) → Holds registers link start o → signature o ≡ c → Holds registers link i o
+    pub back : (o : ℕ) → ChainHas registers link i o → ChainHas registers link start o
+    pub on : (o : ℕ) → ChainHas registers link start o → signature o ≡ c → ChainHas registers link i o
 
   pub finding-start : Finding start
   finding-start = record { back = λ o h. h; on = λ o h e. h }
 
-  past : (i o : ℕ) → signature i ≢ c → signature o ≡ c → Holds registers link i o → Holds registers link (getD link i 0) o
+  past : (i o : ℕ) → signature i ≢ c → signature o ≡ c → ChainHas registers link i o → ChainHas registers link (getD link i 0) o
   past i o d e (here l) = absurd (d e)
   past i o d e (there l h) = h
 
@@ -208,7 +208,7 @@ module _ (signature : ℕ → ℕ) (registers : ℕ) (link : List ℕ) (start c 
   pub finding-hit : (n i s : ℕ) → Finding i → i < n → registers ≤ i → s ≡ signature i → s ≡ c → Found signature registers n link start c i
   finding-hit n i s f h l p e = record { below = h; hit = λ _. (sym p ∙ e, f .back i (here l)); miss = λ z. absurd (omega arith) }
 
-  ended : (i o : ℕ) → i < registers → Holds registers link i o → ⊥
+  ended : (i o : ℕ) → i < registers → ChainHas registers link i o → ⊥
   ended i o h (here l) = omega arith
   ended i o h (there l k) = omega arith
 
@@ -229,7 +229,7 @@ module _ (signature : ℕ → ℕ) (registers n c : ℕ) (head link : List ℕ) 
   upTo P f p k h = byTest (eqb k n) (λ t. subst P (sym (eqb-true k n t)) p) (λ t. let d : k ≢ n = eqb-false k n t in f k (omega arith))
 
   -- the applications of a bucket are below n, and so have the signatures that they had
-  still-only : (signature′ : ℕ → ℕ) → ((k : ℕ) → k < n → signature′ k ≡ signature k) → Complete signature registers n head link → (q o : ℕ) → Holds registers link (getD head q 0) o → signature′ o % chainCount ≡ q
+  still-only : (signature′ : ℕ → ℕ) → ((k : ℕ) → k < n → signature′ k ≡ signature k) → CompleteIndex signature registers n head link → (q o : ℕ) → ChainHas registers link (getD head q 0) o → signature′ o % chainCount ≡ q
   still-only signature′ same all q o k =
       let a = holds-most registers link (getD head q 0) o (w .links) some k in
       let b = w .heads q in
@@ -246,9 +246,9 @@ module _ (signature : ℕ → ℕ) (registers n c : ℕ) (head link : List ℕ) 
     completes = λ signature′ same e all. record {
       only = still-only signature′ same all;
       has = λ k p h. upTo
-          (λ k. registers ≤ k → (o : ℕ) × (o ≤ k) × Holds registers link (getD head (signature′ k % chainCount) 0) o × (signature′ o ≡ signature′ k))
-          (λ k h p. let (o, b, u, v) = all .has k p h in (o, b, subst (λ s. Holds registers link (getD head (s % chainCount) 0) o) (sym (same k h)) u, same o (omega arith) ∙ v ∙ sym (same k h)))
-          (λ p. let b = f .below in (r, omega arith, subst (λ s. Holds registers link (getD head (s % chainCount) 0) r) (sym e) ((f .hit l) .1), same r b ∙ (f .hit l) .0 ∙ sym e))
+          (λ k. registers ≤ k → (o : ℕ) × (o ≤ k) × ChainHas registers link (getD head (signature′ k % chainCount) 0) o × (signature′ o ≡ signature′ k))
+          (λ k h p. let (o, b, u, v) = all .has k p h in (o, b, subst (λ s. ChainHas registers link (getD head (s % chainCount) 0) o) (sym (same k h)) u, same o (omega arith) ∙ v ∙ sym (same k h)))
+          (λ p. let b = f .below in (r, omega arith, subst (λ s. ChainHas registers link (getD head (s % chainCount) 0) r) (sym e) ((f .hit l) .1), same r b ∙ (f .hit l) .0 ∙ sym e))
           k h p;
     };
   }
@@ -263,41 +263,41 @@ module _ (signature : ℕ → ℕ) (registers n c : ℕ) (head link : List ℕ) 
     headed : getD (set head b n) b 0 ≡ n
     headed = getD-set-same head b n 0 (let l = w .head-long in omega arith)
 
-    held : (i o : ℕ) → i < n → Holds registers link i o → Holds registers (set link n (getD head b 0)) i o
+    held : (i o : ℕ) → i < n → ChainHas registers link i o → ChainHas registers (set link n (getD head b 0)) i o
     held i o h (here l) = here l
     held i o h (there l k) =
         let d : i ≢ n = λ e. omega arith in
         let g = w .links .lower i (omega arith) in
-        there l (subst (λ j. Holds registers (set link n (getD head b 0)) j o) (sym (getD-set-other link n i (getD head b 0) 0 d)) (held (getD link i 0) o (omega arith) k))
+        there l (subst (λ j. ChainHas registers (set link n (getD head b 0)) j o) (sym (getD-set-other link n i (getD head b 0) 0 d)) (held (getD link i 0) o (omega arith) k))
 
     -- what a bucket had it still has
-    bucket : (q o : ℕ) → Holds registers link (getD head q 0) o → Holds registers (set link n (getD head b 0)) (getD (set head b n) q 0) o
+    bucket : (q o : ℕ) → ChainHas registers link (getD head q 0) o → ChainHas registers (set link n (getD head b 0)) (getD (set head b n) q 0) o
     bucket q o k = byTest (eqb q b)
-        (λ t. let e = eqb-true q b t in subst (λ j. Holds registers (set link n (getD head b 0)) j o) (sym (ap (λ q. getD (set head b n) q 0) e ∙ headed))
-        (there more (subst (λ j. Holds registers (set link n (getD head b 0)) j o) (ap (λ q. getD head q 0) e ∙ sym linked) (held (getD head q 0) o (w .heads q) k))))
-        (λ t. subst (λ j. Holds registers (set link n (getD head b 0)) j o) (sym (getD-set-other head b q n 0 (eqb-false q b t))) (held (getD head q 0) o (w .heads q) k))
+        (λ t. let e = eqb-true q b t in subst (λ j. ChainHas registers (set link n (getD head b 0)) j o) (sym (ap (λ q. getD (set head b n) q 0) e ∙ headed))
+        (there more (subst (λ j. ChainHas registers (set link n (getD head b 0)) j o) (ap (λ q. getD head q 0) e ∙ sym linked) (held (getD head q 0) o (w .heads q) k))))
+        (λ t. subst (λ j. ChainHas registers (set link n (getD head b 0)) j o) (sym (getD-set-other head b q n 0 (eqb-false q b t))) (held (getD head q 0) o (w .heads q) k))
 
     -- below n chains are as they were
-    unheld : (i o : ℕ) → i < n → Holds registers (set link n (getD head b 0)) i o → Holds registers link i o
+    unheld : (i o : ℕ) → i < n → ChainHas registers (set link n (getD head b 0)) i o → ChainHas registers link i o
     unheld i o h (here l) = here l
     unheld i o h (there l k) =
         let d : i ≢ n = λ e. omega arith in
         let g = w .links .lower i (omega arith) in
         let e = getD-set-other link n i (getD head b 0) 0 d in
-        there l (subst (λ j. Holds registers link j o) e (unheld (getD (set link n (getD head b 0)) i 0) o (omega arith) k))
+        there l (subst (λ j. ChainHas registers link j o) e (unheld (getD (set link n (getD head b 0)) i 0) o (omega arith) k))
 
-    from-new : (i o : ℕ) → i ≡ n → Holds registers (set link n (getD head b 0)) i o → (o ≡ n) ⊎ Holds registers link (getD head b 0) o
+    from-new : (i o : ℕ) → i ≡ n → ChainHas registers (set link n (getD head b 0)) i o → (o ≡ n) ⊎ ChainHas registers link (getD head b 0) o
     from-new i o e (here l) = inl e
-    from-new i o e (there l k) = inr (unheld (getD head b 0) o (w .heads b) (subst (λ j. Holds registers (set link n (getD head b 0)) j o) (ap (λ i. getD (set link n (getD head b 0)) i 0) e ∙ linked) k))
+    from-new i o e (there l k) = inr (unheld (getD head b 0) o (w .heads b) (subst (λ j. ChainHas registers (set link n (getD head b 0)) j o) (ap (λ i. getD (set link n (getD head b 0)) i 0) e ∙ linked) k))
 
-    new-only : (signature′ : ℕ → ℕ) → ((k : ℕ) → k < n → signature′ k ≡ signature k) → signature′ n ≡ c → Complete signature registers n head link
-        → (q o : ℕ) → Holds registers (set link n (getD head b 0)) (getD (set head b n) q 0) o → signature′ o % chainCount ≡ q
+    new-only : (signature′ : ℕ → ℕ) → ((k : ℕ) → k < n → signature′ k ≡ signature k) → signature′ n ≡ c → CompleteIndex signature registers n head link
+        → (q o : ℕ) → ChainHas registers (set link n (getD head b 0)) (getD (set head b n) q 0) o → signature′ o % chainCount ≡ q
     new-only signature′ same e all q o k = byTest (eqb q b)
         (λ t. let z = eqb-true q b t in elim (from-new (getD (set head b n) q 0) o (ap (λ q. getD (set head b n) q 0) z ∙ headed) k) [
           | inl y ↦ ap (λ o. signature′ o % chainCount) y ∙ ap (λ s. s % chainCount) e ∙ sym eb ∙ sym z
           | inr y ↦ still-only signature′ same all b o y ∙ sym z
         ])
-        (λ t. still-only signature′ same all q o (unheld (getD head q 0) o (w .heads q) (subst (λ j. Holds registers (set link n (getD head b 0)) j o) (getD-set-other head b q n 0 (eqb-false q b t)) k)))
+        (λ t. still-only signature′ same all q o (unheld (getD head q 0) o (w .heads q) (subst (λ j. ChainHas registers (set link n (getD head b 0)) j o) (getD-set-other head b q n 0 (eqb-false q b t)) k)))
 
     new : (r : ℕ) → Found signature registers n link (getD head (c % chainCount) 0) c r → r < registers → Entered signature registers n c head link n (set head b n) (set link n (getD head b 0))
     new r f l = record {
@@ -305,7 +305,7 @@ module _ (signature : ℕ → ℕ) (registers n c : ℕ) (head link : List ℕ) 
       most = omega arith;
       hit = λ z. absurd (omega arith);
       fresh = λ _ all k p h e. let (o, s, u, v) = all .has k p h in
-          f .miss l o (subst (λ s. Holds registers link (getD head (s % chainCount) 0) o) e u) (v ∙ e);
+          f .miss l o (subst (λ s. ChainHas registers link (getD head (s % chainCount) 0) o) e u) (v ∙ e);
       kept = λ z. absurd (omega arith);
       chains = record {
         head-long = simp length-set (w .head-long);
@@ -321,9 +321,9 @@ module _ (signature : ℕ → ℕ) (registers n c : ℕ) (head link : List ℕ) 
       };
       completes = λ signature′ same e all. record {
         only = new-only signature′ same e all;
-        has = λ k p h. upTo (λ k. registers ≤ k → (o : ℕ) × (o ≤ k) × Holds registers (set link n (getD head b 0)) (getD (set head b n) (signature′ k % chainCount) 0) o × (signature′ o ≡ signature′ k))
-            (λ k h p. let (o, s, u, v) = all .has k p h in (o, s, bucket (signature′ k % chainCount) o (subst (λ s. Holds registers link (getD head (s % chainCount) 0) o) (sym (same k h)) u), same o (omega arith) ∙ v ∙ sym (same k h)))
-            (λ p. (n, omega arith, subst (λ j. Holds registers (set link n (getD head b 0)) j n) (sym (ap (λ s. getD (set head b n) (s % chainCount) 0) e ∙ ap (λ q. getD (set head b n) q 0) (sym eb) ∙ headed)) (here more), refl))
+        has = λ k p h. upTo (λ k. registers ≤ k → (o : ℕ) × (o ≤ k) × ChainHas registers (set link n (getD head b 0)) (getD (set head b n) (signature′ k % chainCount) 0) o × (signature′ o ≡ signature′ k))
+            (λ k h p. let (o, s, u, v) = all .has k p h in (o, s, bucket (signature′ k % chainCount) o (subst (λ s. ChainHas registers link (getD head (s % chainCount) 0) o) (sym (same k h)) u), same o (omega arith) ∙ v ∙ sym (same k h)))
+            (λ p. (n, omega arith, subst (λ j. ChainHas registers (set link n (getD head b 0)) j n) (sym (ap (λ s. getD (set head b n) (s % chainCount) 0) e ∙ ap (λ q. getD (set head b n) q 0) (sym eb) ∙ headed)) (here more), refl))
             k h p;
       };
     }

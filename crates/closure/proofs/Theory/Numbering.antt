@@ -9,7 +9,7 @@ use lib.ListN.{length}
 use borrow.Author.Tests.{eqb-true, eqb-false, eq-eqb, ne-eqb, ltb-true, ltb-false}
 use Rattle.base.proofs.Theory.Choice.{byTest}
 use Rattle.semantics.specs.Terms.{_∈_, Term, con, app}
-use Rattle.semantics.specs.Closure.{Closure, reflexive, test, symmetric, transitive, congruence}
+use Rattle.semantics.specs.Closure.{Closure, reflexive, symmetric, transitive, congruence}
 use Rattle.closure.specs.Numbering.{nth, Numbered, Closed, Exact}
 
 pub nth-last : (t : Term) (U : List Term) (i : ℕ) → i ≡ length U → nth (t ∷ U) i ≡ t
@@ -84,7 +84,7 @@ module _ (U : List Term) (E : List (Term × Term)) (function first second : ℕ 
       pub all : {s t : Term} → Closure U E s t → (i j : ℕ) → i < n → j < n → nth U i ≡ s → nth U j ≡ t → representative i ≡ representative j
       unfolding Closed
       all {s} {t} (reflexive m) i j h k p q = twice s i j h k p q
-      all {s} {t} (test m) i j h k p q =
+      all {s} {t} (Closure.test m) i j h k p q =
           let (a, b, la, lb, ea, eb, c) = tests s t m in
           twice s i a h la p ea ∙ c ∙ twice t b j lb k eb q
       all (symmetric c) i j h k p q = sym (all c j i k h q p)

@@ -11,16 +11,16 @@ use lib.ListN.{length, getD}
 use borrow.Author.Tests.{eqb-true, eqb-false, ltb-true, ltb-false}
 use Rattle.base.proofs.Theory.Choice.{byTest}
 use Rattle.base.specs.Choice.{pick}
-use Rattle.base.specs.Each.{done}
+use Rattle.base.specs.Each.{eachUpTo}
 use Rattle.base.proofs.Theory.Each.{each-length}
 use Rattle.closure.specs.Limits.{mostTerms, chainCount}
 use Rattle.closure.proofs.Theory.Written.{done-below, done-beyond, done-same}
 use Rattle.closure.specs.Numbering.{Closed}
-use Rattle.closure.specs.Merging.{tested, congruent, already, relabelOf}
+use Rattle.closure.specs.Merging.{Entailed, relabelOf}
 use Rattle.closure.proofs.Theory.Merging.{propagating-start, propagating-union, Relabeled, moved, stays, relabeled}
-use Rattle.closure.specs.Index.{Holds, CutTo, Chains, Complete, Entered}
+use Rattle.closure.specs.Index.{ChainHas, CutTo, Chains, CompleteIndex, Entered}
 use Rattle.closure.proofs.Theory.Index.{holds-least, holds-most, chains-widen, signature-same}
-use Rattle.closure.specs.Arrays.{at, Below, Formed, Readable, Named, lowOf, highOf, fallOf, total, united, relabelled, signatureAt, Indexed, Joined, Underway, Propagated, Resumed, Merged}
+use Rattle.closure.specs.Arrays.{entryAt, Below, Formed, Readable, Named, lowOf, highOf, fallOf, sumBelow, classesUnited, relabelled, signatureAt, IndexedTerms, CongruentUnions, Underway, Propagated, Resumed, Merged}
 use Rattle.closure.proofs.Theory.Entering.{readable}
 
 -- ---- the lower and the higher of two
@@ -84,13 +84,13 @@ module _ (representative function first second : List ℕ) (registers i d v next
   resumed-cut head′ c = record { least = next-least; most = next-most; before = next-before; chains = c .chains; keeps = c .keeps registers; back = λ b o h. c .back registers b o next-least h }
 
 -- ---- the measure: the sum of the representatives
-total-le : (k : ℕ) (l m : List ℕ) → ((i : ℕ) → i < k → getD l i 0 ≤ getD m i 0) → total k l ≤ total k m
-unfolding total
+total-le : (k : ℕ) (l m : List ℕ) → ((i : ℕ) → i < k → getD l i 0 ≤ getD m i 0) → sumBelow k l ≤ sumBelow k m
+unfolding sumBelow
 total-le zero l m h = omega arith
 total-le (suc k) l m h = let a = h k (omega arith) in let b = total-le k l m (λ i p. h i (omega arith)) in omega arith
 
-total-lt : (k : ℕ) (l m : List ℕ) (p : ℕ) → p < k → ((i : ℕ) → i < k → getD l i 0 ≤ getD m i 0) → getD l p 0 < getD m p 0 → total k l < total k m
-unfolding total
+total-lt : (k : ℕ) (l m : List ℕ) (p : ℕ) → p < k → ((i : ℕ) → i < k → getD l i 0 ≤ getD m i 0) → getD l p 0 < getD m p 0 → sumBelow k l < sumBelow k m
+unfolding sumBelow
 total-lt zero l m p b h x = absurd (omega arith)
 total-lt (suc k) l m p b h x = byTest (eqb p k)
     (λ t. let a = subst (λ v. getD l v 0 < getD m v 0) (eqb-true p k t) x in let c = total-le k l m (λ i q. h i (omega arith)) in omega arith)
@@ -154,7 +154,7 @@ module _ (from to by v less : ℕ) (h : to ≤ from) (eb : by ≡ from - to) (el
   ]
 
 -- the terms before `from` keep their names
-pub relabel-starts : (from to n i : ℕ) (l : List ℕ) → Named l n → from ≤ n → i ≡ from → l ≡ done (λ _ v. relabelOf from to v) i l
+pub relabel-starts : (from to n i : ℕ) (l : List ℕ) → Named l n → from ≤ n → i ≡ from → l ≡ eachUpTo (λ _ v. relabelOf from to v) i l
 relabel-starts from to n i l w h e = done-same (λ _ v. relabelOf from to v) i l 0 (λ k b. relabel-other from to (getD l k 0) (λ z. let x = w .lowest k (omega arith) in omega arith))
 
 -- the names of two terms, and that of the lower
@@ -169,15 +169,15 @@ pub record United (n i j : ℕ) (l r : List ℕ) : Type 0 where
   pub at-each : (k : ℕ) → k < n → getD r k 0 ≡ relabelOf (highOf (getD l i 0) (getD l j 0)) (lowOf (getD l i 0) (getD l j 0)) (getD l k 0)
   pub beyond : (k : ℕ) → n ≤ k → getD r k 0 ≡ getD l k 0
 
-pub united-is : (n i j : ℕ) (l r : List ℕ) → n ≤ length l → r ≡ united n i j l → United n i j l r
-unfolding united relabelled
+pub united-is : (n i j : ℕ) (l r : List ℕ) → n ≤ length l → r ≡ classesUnited n i j l → United n i j l r
+unfolding classesUnited relabelled
 united-is n i j l r h e = record {
   long = ap length e ∙ each-length _ n l;
   at-each = λ k b. ap (λ (r : List ℕ). getD r k 0) e ∙ done-below _ n l 0 k b (omega arith);
   beyond = λ k b. ap (λ (r : List ℕ). getD r k 0) e ∙ done-beyond _ n l 0 k b;
 }
 
-union-less : (n : ℕ) (next r : List ℕ) (i j : ℕ) → i < n → j < n → getD next i 0 ≢ getD next j 0 → United n i j next r → total n r < total n next
+union-less : (n : ℕ) (next r : List ℕ) (i j : ℕ) → i < n → j < n → getD next i 0 ≢ getD next j 0 → United n i j next r → sumBelow n r < sumBelow n next
 union-less n next r i j bi bj x m =
     let a = getD next i 0 in
     let b = getD next j 0 in
@@ -246,10 +246,10 @@ module _ (function first second : List ℕ) (registers n : ℕ) where
   same-signature next i j f p q e = signature-same (f .functions i p) (f .functions j q)
       (let w = f .within in let u = f .classes (getD second i 0) (f .seconds i p) in omega arith) (let w = f .within in let u = f .classes (getD second j 0) (f .seconds j q) in omega arith) e
 
-  joined-none : (start : List ℕ) → Formed start function first second registers n → Joined start function first second registers n start
+  joined-none : (start : List ℕ) → Formed start function first second registers n → CongruentUnions start function first second registers n start
   joined-none start f = record { formed = f; keeps = λ i j p q e. e; beyond = λ k h. refl; propagates = λ old x y w. w; shrinks = omega arith }
 
-  joined-more : {start next r : List ℕ} → Joined start function first second registers n next → Joined next function first second registers n r → Joined start function first second registers n r
+  joined-more : {start next r : List ℕ} → CongruentUnions start function first second registers n next → CongruentUnions next function first second registers n r → CongruentUnions start function first second registers n r
   joined-more a b = record {
     formed = b .formed;
     keeps = λ i j p q e. b .keeps i j p q (a .keeps i j p q e);
@@ -260,7 +260,7 @@ module _ (function first second : List ℕ) (registers n : ℕ) where
 
   -- one union of congruent applications
   joined-union : (next r : List ℕ) (i j : ℕ) → Formed next function first second registers n → registers ≤ i → i < n → registers ≤ j → j < n → signature next i ≡ signature next j → getD next i 0 ≢ getD next j 0 → United n i j next r
-      → Joined next function first second registers n r
+      → CongruentUnions next function first second registers n r
   unfolding Below
   joined-union next r i j f li bi lj bj e x m = record {
     formed = united-formed next r i j f bi bj m;
@@ -268,8 +268,8 @@ module _ (function first second : List ℕ) (registers n : ℕ) where
     beyond = m .beyond;
     propagates = λ old x y w.
         let (g, u, v) = same-signature next i j f bi bj e in
-        propagating-union (at function) (at first) (at second) registers n old x y (at next) (at r) i j (highOf (getD next i 0) (getD next j 0)) (lowOf (getD next i 0) (getD next j 0)) w
-        (congruent li bi lj bj g (w .sound (at first i) (at first j) (f .firsts i bi) (f .firsts j bj) u) (w .sound (at second i) (at second j) (f .seconds i bi) (f .seconds j bj) v))
+        propagating-union (entryAt function) (entryAt first) (entryAt second) registers n old x y (entryAt next) (entryAt r) i j (highOf (getD next i 0) (getD next j 0)) (lowOf (getD next i 0) (getD next j 0)) w
+        (Entailed.congruent li bi lj bj g (w .sound (entryAt first i) (entryAt first j) (f .firsts i bi) (f .firsts j bj) u) (w .sound (entryAt second i) (entryAt second j) (f .seconds i bi) (f .seconds j bj) v))
         bi bj (sides (getD next i 0) (getD next j 0)) (m .at-each);
     shrinks = let l = union-less n next r i j bi bj x m in omega arith;
   }
@@ -279,13 +279,13 @@ module _ (function first second : List ℕ) (registers n : ℕ) where
   name-most next a b i d f la lb p q e = let u = f .lowest a la in let v = f .lowest b lb in
       elim (sides (getD next a 0) (getD next b 0)) [ inl (x, y) ↦ let c : d ≡ getD next a 0 = e ∙ x in omega arith | inr (x, y) ↦ let c : d ≡ getD next b 0 = e ∙ x in omega arith ]
 
-  pub start-ready : (representative head link : List ℕ) (x y d : ℕ) → Formed representative function first second registers n → x < n → y < n → Indexed representative function first second registers n head link
-      → d ≡ highOf (getD representative x 0) (getD representative y 0) → Readable representative function first second registers n × Chains n head link × Complete (signature representative) registers n head link × (d ≤ n)
+  pub start-ready : (representative head link : List ℕ) (x y d : ℕ) → Formed representative function first second registers n → x < n → y < n → IndexedTerms representative function first second registers n head link
+      → d ≡ highOf (getD representative x 0) (getD representative y 0) → Readable representative function first second registers n × Chains n head link × CompleteIndex (signature representative) registers n head link × (d ≤ n)
   start-ready representative head link x y d f p q w e = (readable n f (f .more) (omega arith), w .chains, w .complete, name-most representative x y n d f p q (omega arith) (omega arith) e)
 
   -- ---- a union, and what is still known of the applications before the name that went
   module _ (next r : List ℕ) (a b i d : ℕ) (f : Formed next function first second registers n) (h : i ≤ n) (m : United n a b next r) (ed : d ≡ highOf (getD next a 0) (getD next b 0))
-      (st : Closed (at function) (at first) (at second) registers i (at next)) (head link : List ℕ) (all : Complete (signature next) registers i head link) (q : ℕ) (head′ : List ℕ) (w : Resumed registers i d head link q head′) where
+      (st : Closed (entryAt function) (entryAt first) (entryAt second) registers i (entryAt next)) (head link : List ℕ) (all : CompleteIndex (signature next) registers i head link) (q : ℕ) (head′ : List ℕ) (w : Resumed registers i d head link q head′) where
     unmoved : (v k : ℕ) → registers ≤ k → k < q → v ≤ k → v < n → getD r v 0 ≡ getD next v 0
     unmoved v k p l le ln = m .at-each v ln ∙ relabel-other (highOf (getD next a 0) (getD next b 0)) (lowOf (getD next a 0) (getD next b 0)) (getD next v 0)
         (λ z. let x = w .before k p l in let y = f .lowest v ln in omega arith)
@@ -302,18 +302,18 @@ module _ (function first second : List ℕ) (registers n : ℕ) where
     unfolding signatureAt
     same k p l = rw (first-same k p l, second-same k p l)
 
-    pub resumed-closed : Closed (at function) (at first) (at second) registers q (at r)
+    pub resumed-closed : Closed (entryAt function) (entryAt first) (entryAt second) registers q (entryAt r)
     unfolding Closed
     resumed-closed u v pu lu pv lv e x y = let z = w .most in
         m .at-each u (omega arith) ∙ ap (relabelOf (highOf (getD next a 0) (getD next b 0)) (lowOf (getD next a 0) (getD next b 0)))
         (st u v pu (omega arith) pv (omega arith) e (sym (first-same u pu lu) ∙ x ∙ first-same v pv lv) (sym (second-same u pu lu) ∙ y ∙ second-same v pv lv)) ∙ sym (m .at-each v (omega arith))
 
-    pub resumed-complete : Complete (signature r) registers q head′ link
+    pub resumed-complete : CompleteIndex (signature r) registers q head′ link
     resumed-complete = record {
       has = λ k p l. let z = w .most in let (o, u, x, y) = all .has k p (omega arith) in (
         o,
         u,
-        w .keeps (signature r k % chainCount) o (subst (λ s. Holds registers link (getD head (s % chainCount) 0) o) (sym (same k p l)) x) (omega arith),
+        w .keeps (signature r k % chainCount) o (subst (λ s. ChainHas registers link (getD head (s % chainCount) 0) o) (sym (same k p l)) x) (omega arith),
         same o (holds-least registers link _ o x) (omega arith) ∙ y ∙ sym (same k p l),
       );
       only = λ b o x. let y = holds-most registers link (getD head′ b 0) o (w .chains .links) (f .some) x in let z = w .chains .heads b in
@@ -355,7 +355,7 @@ module _ (function first second : List ℕ) (registers n : ℕ) where
           (λ y. let d : a ≢ i = eqb-false a i y in byTest (eqb b i)
           (λ y. let eb = eqb-true b i y in with-others e a p (omega arith) (u ∙ ap (λ k. getD function k 0) eb) (v ∙ ap (λ k. getD next (getD first k 0) 0) eb) (t ∙ ap (λ k. getD next (getD second k 0) 0) eb) ∙ ap (λ k. getD next k 0) (sym eb))
           (λ y. let c : b ≢ i = eqb-false b i y in g .closed a b p (omega arith) r (omega arith) u v t));
-      complete = subst (λ k. Complete (signature next) registers k head′ link′) (sym (add-one i)) (w .completes (signature next) (λ k l. refl) (sym ec) (g .complete));
+      complete = subst (λ k. CompleteIndex (signature next) registers k head′ link′) (sym (add-one i)) (w .completes (signature next) (λ k l. refl) (sym ec) (g .complete));
     }
 
     module _ (x : getD next o 0 ≢ getD next i 0) where
@@ -363,17 +363,17 @@ module _ (function first second : List ℕ) (registers n : ℕ) where
       found-before : o < i
       found-before = let d : o ≢ i = λ e. x (ap (λ k. getD next k 0) e) in let m = w .most in omega arith
 
-      pub resume-ready : (d : ℕ) → d ≡ highOf (getD next o 0) (getD next i 0) → Readable next function first second registers i × Chains i head′ link′ × Complete (signature next) registers i head′ link′ × (d ≤ i)
+      pub resume-ready : (d : ℕ) → d ≡ highOf (getD next o 0) (getD next i 0) → Readable next function first second registers i × Chains i head′ link′ × CompleteIndex (signature next) registers i head′ link′ × (d ≤ i)
       resume-ready d e = let (p, q) = w .kept found-before in
           (readable i (g .joined .formed) (g .least) (g .most), rw (p, q) (g .chains), rw (p, q) (g .complete), let a = found-before in name-most next o i i d (g .joined .formed) found-below h (omega arith) (omega arith) e)
 
-      into : (r : List ℕ) → r ≡ united n o i next → United n o i next r
+      into : (r : List ℕ) → r ≡ classesUnited n o i next → United n o i next r
       into r e = united-is n o i next r (let l = g .joined .formed .long in let v = g .joined .formed .within in omega arith) e
 
-      union-shrinks : (r : List ℕ) → r ≡ united n o i next → total n r < total n next
+      union-shrinks : (r : List ℕ) → r ≡ classesUnited n o i next → sumBelow n r < sumBelow n next
       union-shrinks r e = union-less n next r o i found-below h x (into r e)
 
-      pub underway-union : (r head″ : List ℕ) (d q : ℕ) → r ≡ united n o i next → d ≡ highOf (getD next o 0) (getD next i 0) → Resumed registers i d head′ link′ q head″ → Underway start function first second registers n r head″ link′ q
+      pub underway-union : (r head″ : List ℕ) (d q : ℕ) → r ≡ classesUnited n o i next → d ≡ highOf (getD next o 0) (getD next i 0) → Resumed registers i d head′ link′ q head″ → Underway start function first second registers n r head″ link′ q
       underway-union r head″ d q e ed z = let (eh, el) = w .kept found-before in record {
         least = z .least;
         most = let m = z .most in omega arith;
@@ -383,19 +383,19 @@ module _ (function first second : List ℕ) (registers n : ℕ) where
         complete = resumed-complete next r o i i d (g .joined .formed) (omega arith) (into r e) ed (g .closed) head′ link′ (rw (eh, el) (g .complete)) q head″ z;
       }
 
-    pub less-union : (x : getD next o 0 ≢ getD next i 0) (r : List ℕ) (q : ℕ) → r ≡ united n o i next → 2000 * total n r + (n - q) < 2000 * total n next + (n - i)
+    pub less-union : (x : getD next o 0 ≢ getD next i 0) (r : List ℕ) (q : ℕ) → r ≡ classesUnited n o i next → 2000 * sumBelow n r + (n - q) < 2000 * sumBelow n next + (n - i)
     less-union x r q e = let l = union-shrinks x r e in let v = g .joined .formed .within in omega arith
 
   pub underway-end : (start next head link : List ℕ) (i : ℕ) → Underway start function first second registers n next head link i → n ≤ i → Propagated start function first second registers n next head link
   underway-end start next head link i g h = let m = g .most in let e : i ≡ n = omega arith in record {
     joined = g .joined;
-    closed = subst (λ k. Closed (at function) (at first) (at second) registers k (at next)) e (g .closed);
-    indexed = record { chains = subst (λ k. Chains k head link) e (g .chains); complete = subst (λ k. Complete (signature next) registers k head link) e (g .complete) };
+    closed = subst (λ k. Closed (entryAt function) (entryAt first) (entryAt second) registers k (entryAt next)) e (g .closed);
+    indexed = record { chains = subst (λ k. Chains k head link) e (g .chains); complete = subst (λ k. CompleteIndex (signature next) registers k head link) e (g .complete) };
   }
 
   -- how it starts: after the union of x and y
-  pub underway-start : (representative next head link head′ : List ℕ) (x y d q : ℕ) → Formed representative function first second registers n → x < n → y < n → Closed (at function) (at first) (at second) registers n (at representative)
-      → Indexed representative function first second registers n head link → next ≡ united n x y representative → d ≡ highOf (getD representative x 0) (getD representative y 0) → Resumed registers n d head link q head′
+  pub underway-start : (representative next head link head′ : List ℕ) (x y d q : ℕ) → Formed representative function first second registers n → x < n → y < n → Closed (entryAt function) (entryAt first) (entryAt second) registers n (entryAt representative)
+      → IndexedTerms representative function first second registers n head link → next ≡ classesUnited n x y representative → d ≡ highOf (getD representative x 0) (getD representative y 0) → Resumed registers n d head link q head′
       → Underway next function first second registers n next head′ link q
   underway-start representative next head link head′ x y d q f p l st w e ed z = let m = united-is n x y representative next (let a = f .long in let b = f .within in omega arith) e in record {
     least = z .least;
@@ -409,9 +409,9 @@ module _ (function first second : List ℕ) (registers n : ℕ) where
   pub merged-is : (representative next r head link : List ℕ) (x y : ℕ) → Formed representative function first second registers n → x < n → y < n
       → United n x y representative next → Propagated next function first second registers n r head link → Merged representative function first second registers n x y r head link
   merged-is representative next r head link x y f p q m c =
-      let w = propagating-union (at function) (at first) (at second) registers n (at representative) x y (at representative) (at next) x y (highOf (getD representative x 0) (getD representative y 0)) (lowOf (getD representative x 0) (getD representative y 0))
-      (propagating-start (at function) (at first) (at second) registers n (at representative) x y) tested p q (sides (getD representative x 0) (getD representative y 0)) (m .at-each) in
-      let v = c .joined .propagates (at representative) x y w in
+      let w = propagating-union (entryAt function) (entryAt first) (entryAt second) registers n (entryAt representative) x y (entryAt representative) (entryAt next) x y (highOf (getD representative x 0) (getD representative y 0)) (lowOf (getD representative x 0) (getD representative y 0))
+      (propagating-start (entryAt function) (entryAt first) (entryAt second) registers n (entryAt representative) x y) Entailed.tested p q (sides (getD representative x 0) (getD representative y 0)) (m .at-each) in
+      let v = c .joined .propagates (entryAt representative) x y w in
       record {
         formed = c .joined .formed;
         sound = v .sound;
@@ -424,16 +424,16 @@ module _ (function first second : List ℕ) (registers n : ℕ) where
 
   -- one union, where the classes are closed after it
   pub united-merged : (representative next head link : List ℕ) (x y : ℕ) → Formed representative function first second registers n → x < n → y < n → United n x y representative next
-      → Closed (at function) (at first) (at second) registers n (at next) → Indexed next function first second registers n head link → Merged representative function first second registers n x y next head link
+      → Closed (entryAt function) (entryAt first) (entryAt second) registers n (entryAt next) → IndexedTerms next function first second registers n head link → Merged representative function first second registers n x y next head link
   united-merged representative next head link x y f p q m st w = let g = united-formed representative next x y f p q m in
       merged-is representative next next head link x y f p q m (record { joined = joined-none next g; closed = st; indexed = w })
 
   -- classes that are one already
-  pub merged-same : (representative head link : List ℕ) (x y : ℕ) → Formed representative function first second registers n → Closed (at function) (at first) (at second) registers n (at representative)
-      → Indexed representative function first second registers n head link → getD representative x 0 ≡ getD representative y 0 → Merged representative function first second registers n x y representative head link
+  pub merged-same : (representative head link : List ℕ) (x y : ℕ) → Formed representative function first second registers n → Closed (entryAt function) (entryAt first) (entryAt second) registers n (entryAt representative)
+      → IndexedTerms representative function first second registers n head link → getD representative x 0 ≡ getD representative y 0 → Merged representative function first second registers n x y representative head link
   merged-same representative head link x y f st w e = record {
     formed = f;
-    sound = λ i j h k e. already h k e;
+    sound = λ i j h k e. Entailed.already h k e;
     keeps = λ i j h k e. e;
     joins = e;
     closed = st;

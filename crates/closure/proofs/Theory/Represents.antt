@@ -13,7 +13,7 @@ use Rattle.letters.specs.declared.Header.{Header}
 use Rattle.letters.specs.declared.Letter.the-variants.{Copy, Apply, Equal, Unequal}
 use Rattle.letters.specs.Letters.{Fits}
 use Rattle.semantics.specs.Terms.{_∈_, Term, con, app, State, begin, start, constants, after}
-use Rattle.semantics.specs.Closure.{Closure, reflexive, test, symmetric, transitive, congruence}
+use Rattle.semantics.specs.Closure.{Closure, reflexive, symmetric, transitive, congruence}
 use Rattle.semantics.specs.Facts.{Valid}
 use Rattle.semantics.proofs.Theory.Facts.{after-valid, state-valid, closure-in}
 use Rattle.semantics.proofs.Theory.ClosureLaws.{weaken, more-tests}
@@ -21,14 +21,14 @@ use Rattle.semantics.specs.Models.{Feasible}
 use Rattle.semantics.proofs.Theory.Shown.{corollary-2}
 use Rattle.closure.specs.Numbering.{nth, Numbered, Closed}
 use Rattle.closure.proofs.Theory.Numbering.{nth-in, nth-of, nth-last, nth-old, exact}
-use Rattle.closure.specs.Merging.{Entailed, already, tested, reversed, chained, congruent}
-use Rattle.closure.specs.Represents.{Represents, Sides}
+use Rattle.closure.specs.Merging.{Entailed}
+use Rattle.closure.specs.Represents.{RepresentsState, Sides}
 
 -- a number is old or the new one
 old-or : (i n : ℕ) → i < suc n → (i < n) ⊎ (i ≡ n)
 old-or i n h = byTest (ltb i n) (λ e. inl (ltb-true i n e)) (λ e. inr (let g = ltb-false i n e in omega arith))
 
-module _ (σ : State) (function first second representative : ℕ → ℕ) (registers n : ℕ) (value : ℕ → ℕ) (w : Represents σ function first second representative registers n value) where
+module _ (σ : State) (function first second representative : ℕ → ℕ) (registers n : ℕ) (value : ℕ → ℕ) (w : RepresentsState σ function first second representative registers n value) where
   number : {t : Term} → t ∈ σ .terms → (i : ℕ) × (i < n) × (nth (σ .terms) i ≡ t)
   number m = let (i, l, e) = nth-of m in let c = w .numbered .count in (i, omega arith, e)
 
@@ -38,17 +38,17 @@ module _ (σ : State) (function first second representative : ℕ → ℕ) (regi
       let (a, b) = w .valid .equal-sides s t m in
       let (i, li, ei) = number a in
       let (j, lj, ej) = number b in
-      (i, j, li, lj, ei, ej, w .exactly .complete i j li lj (subst (λ u. Closure (σ .terms) (σ .equals) u (nth (σ .terms) j)) (sym ei) (subst (λ u. Closure (σ .terms) (σ .equals) s u) (sym ej) (test m))))
+      (i, j, li, lj, ei, ej, w .exactly .complete i j li lj (subst (λ u. Closure (σ .terms) (σ .equals) u (nth (σ .terms) j)) (sym ei) (subst (λ u. Closure (σ .terms) (σ .equals) s u) (sym ej) (Closure.test m))))
 
   -- ── an equal test ──
   module _ (x y : ℕ) (lx : x < registers) (ly : y < registers) where
     entailed : {i j : ℕ} → Entailed function first second registers n representative (value x) (value y) i j → Closure (σ .terms) ((σ .value x, σ .value y) ∷ σ .equals) (nth (σ .terms) i) (nth (σ .terms) j)
-    entailed (already h k e) = more-tests (σ .value x, σ .value y) (w .exactly .sound _ _ h k e)
-    entailed tested = subst (λ u. Closure (σ .terms) ((σ .value x, σ .value y) ∷ σ .equals) u (nth (σ .terms) (value y))) (sym (w .value-is x lx))
-        (subst (λ u. Closure (σ .terms) ((σ .value x, σ .value y) ∷ σ .equals) (σ .value x) u) (sym (w .value-is y ly)) (test (List·Memᴰ·head refl)))
-    entailed (reversed c) = symmetric (entailed c)
-    entailed (chained c d) = transitive (entailed c) (entailed d)
-    entailed (congruent {i} {j} p h q k e c d) =
+    entailed (Entailed.already h k e) = more-tests (σ .value x, σ .value y) (w .exactly .sound _ _ h k e)
+    entailed Entailed.tested = subst (λ u. Closure (σ .terms) ((σ .value x, σ .value y) ∷ σ .equals) u (nth (σ .terms) (value y))) (sym (w .value-is x lx))
+        (subst (λ u. Closure (σ .terms) ((σ .value x, σ .value y) ∷ σ .equals) (σ .value x) u) (sym (w .value-is y ly)) (Closure.test (List·Memᴰ·head refl)))
+    entailed (Entailed.reversed c) = symmetric (entailed c)
+    entailed (Entailed.chained c d) = transitive (entailed c) (entailed d)
+    entailed (Entailed.congruent {i} {j} p h q k e c d) =
         let a = w .numbered .application i p h in
         let b = w .numbered .application j q k in
         let b′ : nth (σ .terms) j ≡ app (function i) (nth (σ .terms) (first j)) (nth (σ .terms) (second j)) = subst (λ f. nth (σ .terms) j ≡ app f (nth (σ .terms) (first j)) (nth (σ .terms) (second j))) (sym e) b in
@@ -74,7 +74,7 @@ module _ (σ : State) (function first second representative : ℕ → ℕ) (regi
         | inr k ↦ let (i, j, li, lj, ei, ej, c) = old-tests s t k in (i, j, li, lj, ei, ej, keeps i j li lj c)
       ]
 
-      pub represents-equal : Represents (after σ (Equal x y)) function first second representative′ registers n value
+      pub represents-equal : RepresentsState (after σ (Equal x y)) function first second representative′ registers n value
       represents-equal = record {
         valid = valid′;
         header-registers = w .header-registers;
@@ -87,7 +87,7 @@ module _ (σ : State) (function first second representative : ℕ → ℕ) (regi
       }
 
   -- ── an unequal test, and what it says of feasibility ──
-  pub represents-unequal : (x y : ℕ) → x < registers → y < registers → Represents (after σ (Unequal x y)) function first second representative registers n value
+  pub represents-unequal : (x y : ℕ) → x < registers → y < registers → RepresentsState (after σ (Unequal x y)) function first second representative registers n value
   represents-unequal x y lx ly = record {
     valid = after-valid σ (Unequal x y) (w .valid) (let r = w .header-registers in (omega arith, omega arith));
     header-registers = w .header-registers;
@@ -147,7 +147,7 @@ module _ (σ : State) (function first second representative : ℕ → ℕ) (regi
       (subst (λ u. Closure (σ .terms) (σ .equals) u (nth (σ .terms) (right q))) (sym es) (subst (λ u. Closure (σ .terms) (σ .equals) (c .0) u) (sym et) (c .3)))))
 
   -- ── a copy ──
-  pub represents-copy : (x y : ℕ) (value′ : ℕ → ℕ) → x < registers → y < registers → ((r : ℕ) → value′ r ≡ value (cond (eqb r x) y r)) → Represents (after σ (Copy x y)) function first second representative registers n value′
+  pub represents-copy : (x y : ℕ) (value′ : ℕ → ℕ) → x < registers → y < registers → ((r : ℕ) → value′ r ≡ value (cond (eqb r x) y r)) → RepresentsState (after σ (Copy x y)) function first second representative registers n value′
   represents-copy x y value′ lx ly same = record {
     valid = after-valid σ (Copy x y) (w .valid) (let r = w .header-registers in (omega arith, omega arith));
     header-registers = w .header-registers;
@@ -309,7 +309,7 @@ module _ (σ : State) (function first second representative : ℕ → ℕ) (regi
     valid″ : Valid (after σ (Apply x f y z))
     valid″ = after-valid σ (Apply x f y z) (w .valid) fits
 
-    pub represents-apply : Represents (after σ (Apply x f y z)) function′ first′ second′ representative′ registers (suc n) value′
+    pub represents-apply : RepresentsState (after σ (Apply x f y z)) function′ first′ second′ representative′ registers (suc n) value′
     represents-apply = record {
       valid = valid″;
       header-registers = w .header-registers;
@@ -339,7 +339,7 @@ constants-nth (suc r) i h = byTest (eqb i r)
     (λ e. let d : i ≢ r = eqb-false i r e in let l = constants-length r in nth-old (con r) (constants r) i (omega arith) ∙ constants-nth r i (omega arith))
 
 pub represents-start : (h : Header) (function first second representative value : ℕ → ℕ) → ((i : ℕ) → i < h .registers → representative i ≡ i) → ((i : ℕ) → i < h .registers → value i ≡ i)
-    → Represents (start h) function first second representative (h .registers) (h .registers) value
+    → RepresentsState (start h) function first second representative (h .registers) (h .registers) value
 unfolding Closed
 represents-start h function first second representative value c v = record {
   valid = ok;

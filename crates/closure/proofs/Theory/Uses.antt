@@ -13,8 +13,8 @@ use Rattle.closure.specs.Limits.{chainCount, mostTerms}
 use Rattle.closure.specs.Numbering.{Closed}
 use Rattle.closure.specs.Merging.{relabelOf}
 use Rattle.closure.proofs.Theory.Index.{holds-most}
-use Rattle.closure.specs.Index.{Complete}
-use Rattle.closure.specs.Arrays.{at, Below, Formed, highOf, lowOf, signatureAt, Indexed, Lowest, Used, used, unused, Merged}
+use Rattle.closure.specs.Index.{CompleteIndex}
+use Rattle.closure.specs.Arrays.{entryAt, Below, Formed, highOf, lowOf, signatureAt, IndexedTerms, Lowest, UsedAsArgument, used, unused, Merged}
 use Rattle.closure.proofs.Theory.Propagation.{United, united-merged, relabel-other}
 
 pub lowest : {representative function first second : List ℕ} {registers n : ℕ} → Formed representative function first second registers n → Lowest representative first second n
@@ -38,10 +38,10 @@ module _ (representative first second : List ℕ) (n d : ℕ) (w : Lowest repres
     pub use-below : (a < mostTerms) × (b < mostTerms)
     use-below = let (p, q) = w .firsts i h in let (r, s) = w .seconds i h in let l = w .within in (omega arith, omega arith)
 
-    pub use-first : getD representative a 0 ≡ d → Used representative first second n d true
+    pub use-first : getD representative a 0 ≡ d → UsedAsArgument representative first second n d true
     use-first e = used i h (inl (ap (λ v. getD representative v 0) (sym ea) ∙ e))
 
-    pub use-second : getD representative b 0 ≡ d → Used representative first second n d true
+    pub use-second : getD representative b 0 ≡ d → UsedAsArgument representative first second n d true
     use-second e = used i h (inr (ap (λ v. getD representative v 0) (sym eb) ∙ e))
 
     pub no-use-more : NoUse representative first second n d i → getD representative a 0 ≢ d → getD representative b 0 ≢ d → NoUse representative first second n d (i + 1)
@@ -52,7 +52,7 @@ module _ (representative first second : List ℕ) (n d : ℕ) (w : Lowest repres
           (λ t. let c : k ≢ i = eqb-false k i t in u .none k (omega arith) m);
     }
 
-  pub no-use-end : (i : ℕ) → NoUse representative first second n d i → n ≤ i → Used representative first second n d false
+  pub no-use-end : (i : ℕ) → NoUse representative first second n d i → n ≤ i → UsedAsArgument representative first second n d false
   no-use-end i u h = unused (λ k l. u .none k (omega arith) l)
 
 true-false : true ≡ false → ⊥
@@ -60,7 +60,7 @@ true-false e = let z : _≡_ {A = ℕ} 0 1 = cc in omega arith
 
 -- ---- a union that changes no signature
 module _ (function first second representative head link : List ℕ) (registers n x y : ℕ) (f : Formed representative function first second registers n) (p : x < n) (q : y < n)
-    (st : Closed (at function) (at first) (at second) registers n (at representative)) (index : Indexed representative function first second registers n head link) (next : List ℕ) (m : United n x y representative next) where
+    (st : Closed (entryAt function) (entryAt first) (entryAt second) registers n (entryAt representative)) (index : IndexedTerms representative function first second registers n head link) (next : List ℕ) (m : United n x y representative next) where
   module _ (none : (k : ℕ) → k < n → (getD representative (getD first k 0) 0 ≢ highOf (getD representative x 0) (getD representative y 0)) × (getD representative (getD second k 0) 0 ≢ highOf (getD representative x 0) (getD representative y 0))) where
     first-same : (k : ℕ) → k < n → getD next (getD first k 0) 0 ≡ getD representative (getD first k 0) 0
     unfolding Below
@@ -74,20 +74,20 @@ module _ (function first second representative head link : List ℕ) (registers 
     unfolding signatureAt
     same k h = rw (first-same k h, second-same k h)
 
-    still-complete : Complete (signatureAt next function first second) registers n head link
+    still-complete : CompleteIndex (signatureAt next function first second) registers n head link
     still-complete = record {
       has = λ k l h. let (o, b, u, v) = index .complete .has k l h in (o, b, rw (same k h) u, same o (omega arith) ∙ v ∙ sym (same k h));
       only = λ b o k. let l = holds-most registers link (getD head b 0) o (index .chains .links) (f .some) k in let g = index .chains .heads b in
           ap (λ s. s % chainCount) (same o (omega arith)) ∙ index .complete .only b o k;
     }
 
-    still-closed : Closed (at function) (at first) (at second) registers n (at next)
+    still-closed : Closed (entryAt function) (entryAt first) (entryAt second) registers n (entryAt next)
     unfolding Closed
     still-closed i j l h r k e u v =
         m .at-each i h ∙ ap (relabelOf (highOf (getD representative x 0) (getD representative y 0)) (lowOf (getD representative x 0) (getD representative y 0)))
         (st i j l h r k e (sym (first-same i h) ∙ u ∙ first-same j k) (sym (second-same i h) ∙ v ∙ second-same j k)) ∙ sym (m .at-each j k)
 
-  pub merged-unused : (d : ℕ) (b : Bool) → d ≡ highOf (getD representative x 0) (getD representative y 0) → Used representative first second n d b → not b ≡ true → Merged representative function first second registers n x y next head link
+  pub merged-unused : (d : ℕ) (b : Bool) → d ≡ highOf (getD representative x 0) (getD representative y 0) → UsedAsArgument representative first second n d b → not b ≡ true → Merged representative function first second registers n x y next head link
   merged-unused d b e (used k h u) z = absurd (true-false (sym z))
   merged-unused d b e (unused none) z =
       let none′ = subst (λ d. (k : ℕ) → k < n → (getD representative (getD first k 0) 0 ≢ d) × (getD representative (getD second k 0) 0 ≢ d)) e none in

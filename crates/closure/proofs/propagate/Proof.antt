@@ -1,7 +1,7 @@
 use Prim.Native.Nat.{_+_, _-_, _*_}
 use native.Mathlib.Omega.{arith}
 use borrow.Author.Needs.{needs}
-use Rattle.closure.specs.Arrays.{Underway, total}
+use Rattle.closure.specs.Arrays.{Underway, sumBelow}
 use Rattle.closure.proofs.Theory.Entering.{readable, readable-at}
 use Rattle.closure.proofs.Theory.Propagation.{named, found-below, underway-same, resume-ready, underway-union, less-union, underway-end}
 use Rattle.closure.proofs.propagate.Statement.{statement}
@@ -11,7 +11,7 @@ abbrev Inv-loop : tie.InvT-loop
 Inv-loop representative₀ function first second head₀ link₀ registers count start i₀ representative head link i = Underway representative₀ function first second registers count representative head link i
 
 abbrev μ-loop : tie.MeasureT-loop
-μ-loop representative₀ function first second head₀ link₀ registers count start i₀ representative head link i = 2000 * total count representative + (count - i)
+μ-loop representative₀ function first second head₀ link₀ registers count start i₀ representative head link i = 2000 * sumBelow count representative + (count - i)
 
 pub propagate-spec : {M : Type 1} → statement M
 propagate-spec =

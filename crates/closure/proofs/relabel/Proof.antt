@@ -2,7 +2,7 @@ use Prim.Native.Nat.{_-_, _≤_}
 use native.Mathlib.Omega.{arith}
 use mathlib.Core.Path.{_≡_, refl}
 use borrow.Author.Needs.{needs}
-use Rattle.base.specs.Each.{done}
+use Rattle.base.specs.Each.{eachUpTo}
 use Rattle.base.proofs.Theory.Each.{each-turn, ended}
 use Rattle.closure.specs.Merging.{relabelOf}
 use Rattle.closure.specs.Arrays.{relabelled}
@@ -11,7 +11,7 @@ use Rattle.closure.proofs.relabel.Statement.{statement}
 use Rattle.closure.proofs.relabel.Tie as tie
 
 abbrev Inv-loop : tie.InvT-loop
-Inv-loop representative₀ count from to by i₀ representative i = (i ≤ count) × (representative ≡ done (λ _ v. relabelOf from to v) i representative₀)
+Inv-loop representative₀ count from to by i₀ representative i = (i ≤ count) × (representative ≡ eachUpTo (λ _ v. relabelOf from to v) i representative₀)
 
 abbrev μ-loop : tie.MeasureT-loop
 μ-loop representative₀ count from to by i₀ representative i = count - i

@@ -1,11 +1,11 @@
 use borrow.Author.Needs.{needs}
-use Rattle.closure.specs.Arrays.{united}
+use Rattle.closure.specs.Arrays.{classesUnited}
 use Rattle.closure.proofs.Theory.Propagation.{names-ready}
 use Rattle.closure.proofs.unite.Statement.{statement}
 use Rattle.closure.proofs.unite.Tie as tie
 
 pub unite-spec : {M : Type 1} → statement M
-unfolding united
+unfolding classesUnited
 unite-spec =
     tie.close
     (tie.spec

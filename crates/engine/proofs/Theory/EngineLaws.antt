@@ -20,12 +20,12 @@ use Rattle.semantics.specs.Terms.{State, after}
 use Rattle.closure.proofs.Theory.Represents.{represents-copy, represents-unequal, sides-unequal, sides-apply}
 use Rattle.closure.specs.Numbering.{Closed}
 use Rattle.closure.specs.Index.{signatureOf, Entered}
-use Rattle.closure.specs.Arrays.{at, Below, Formed, Indexed, signatureAt, Merged, LookedAt, knownAt, freshAt, Parts}
+use Rattle.closure.specs.Arrays.{entryAt, Below, Formed, IndexedTerms, signatureAt, Merged, LookedAt, knownAt, freshAt, Parts}
 use Rattle.closure.proofs.Theory.Entering.{looked-known, looked-fresh}
 use Rattle.closure.proofs.Theory.Propagation.{merged-same}
 use Rattle.closure.proofs.Theory.Steps.{letter-equal, letter-apply}
 use Rattle.engine.specs.declared.Counts.{Counts}
-use Rattle.engine.specs.Engine.{Engine, Ready, Performed, Applied, Appliable, Computable, Computing, Equatable, Equated, Notable, Noted, nameOf}
+use Rattle.engine.specs.Engine.{Engine, Ready, LetterPerformed, Applied, Appliable, Computable, Computing, Equatable, TermsEquated, Notable, Noted, nameOf}
 
 -- the entries of an array with one stored
 module _ (l : List ℕ) (i v : ℕ) where
@@ -119,7 +119,7 @@ module _ (function first second representative head link : List ℕ) (registers 
       kept-below representative n name b (u .second-term),
     ) (sym e)
 
-    applied-indexed : Indexed (set representative n name) (set function n f) (set first n a) (set second n b) registers (suc n) head′ link′
+    applied-indexed : IndexedTerms (set representative n name) (set function n f) (set first n a) (set second n b) registers (suc n) head′ link′
     applied-indexed = record { chains = w .chains; complete = w .completes (signatureAt (set representative n name) (set function n f) (set first n a) (set second n b)) same last (u .indexed .complete) }
 
   pub applied : (name : ℕ) → name ≡ nameOf representative r n
@@ -152,7 +152,7 @@ module _ (σ : State) (function first second representative head link value left
   pub engine-copy : (x y : ℕ) → Fits (σ .header) (Copy x y) → Engine (after σ (Copy x y)) function first second representative head link (set value x (getD value y 0)) left right registers n m p (suc k)
   engine-copy x y (hx, hy) = record {
     formed = w .formed;
-    represents = represents-copy σ (at function) (at first) (at second) (at representative) registers n (at value) (w .represents) x y (at (set value x (getD value y 0))) (lx .0) ((register-below y hy) .0) same;
+    represents = represents-copy σ (entryAt function) (entryAt first) (entryAt second) (entryAt representative) registers n (entryAt value) (w .represents) x y (entryAt (set value x (getD value y 0))) (lx .0) ((register-below y hy) .0) same;
     indexed = w .indexed;
     sides = record { left-below = w .sides .left-below; right-below = w .sides .right-below; listed = w .sides .listed; all = w .sides .all };
     registers-few = w .registers-few;
@@ -180,7 +180,7 @@ module _ (σ : State) (function first second representative head link value left
           go false e = kept value x (getD value y 0) r (eqb-false r x e)
 
   pub engine-apply : (x f y z : ℕ) (name : ℕ) (head′ link′ : List ℕ) → k < mostLetters → Fits (σ .header) (Apply x f y z) → LookedAt representative function first second registers n f (getD value y 0) (getD value z 0) name
-      → Indexed (set representative n name) (set function n f) (set first n (getD value y 0)) (set second n (getD value z 0)) registers (suc n) head′ link′
+      → IndexedTerms (set representative n name) (set function n f) (set first n (getD value y 0)) (set second n (getD value z 0)) registers (suc n) head′ link′
       → Engine (after σ (Apply x f y z)) (set function n f) (set first n (getD value y 0)) (set second n (getD value z 0)) (set representative n name) head′ link′ (set value x n) left right registers (suc n) m p (suc k)
   engine-apply x f y z name head′ link′ few fits look index = record {
     formed = applied-formed representative function first second registers n f (getD value y 0) (getD value z 0) name (w .formed) in-function in-first in-second in-all
@@ -188,7 +188,7 @@ module _ (σ : State) (function first second representative head link value left
     represents = letter-apply σ function first second representative value registers n (w .represents) x f y z name fits look in-function in-first in-second
         (let l = w .formed .long in let h = in-all in omega arith) (let l = w .value-long in let h = (register-below x (fits .0)) .1 in omega arith);
     indexed = index;
-    sides = sides-apply σ (at function) (at first) (at second) (at representative) registers n (at value) (w .represents) (at left) (at right) (at left) (at right) m (w .sides) x f y z;
+    sides = sides-apply σ (entryAt function) (entryAt first) (entryAt second) (entryAt representative) registers n (entryAt value) (w .represents) (entryAt left) (entryAt right) (entryAt left) (entryAt right) m (w .sides) x f y z;
     registers-few = w .registers-few;
     functions-few = w .functions-few;
     function-long = simp length-set (w .function-long);
@@ -247,9 +247,9 @@ module _ (σ : State) (function first second representative head link value left
       → Engine (after σ (Unequal x y)) function first second representative head link value (set left m (getD value x 0)) (set right m (getD value y 0)) registers n (suc m) p (suc k)
   engine-unequal x y few (hx, hy) = record {
     formed = w .formed;
-    represents = represents-unequal σ (at function) (at first) (at second) (at representative) registers n (at value) (w .represents) x y lx ly;
+    represents = represents-unequal σ (entryAt function) (entryAt first) (entryAt second) (entryAt representative) registers n (entryAt value) (w .represents) x y lx ly;
     indexed = w .indexed;
-    sides = sides-unequal σ (at function) (at first) (at second) (at representative) registers n (at value) (w .represents) (at left) (at right) (at (set left m (getD value x 0))) (at (set right m (getD value y 0))) m (w .sides)
+    sides = sides-unequal σ (entryAt function) (entryAt first) (entryAt second) (entryAt representative) registers n (entryAt value) (w .represents) (entryAt left) (entryAt right) (entryAt (set left m (getD value x 0))) (entryAt (set right m (getD value y 0))) m (w .sides)
         x y lx ly (kept-below left m (getD value x 0)) (kept-below right m (getD value y 0))
         (put left m (getD value x 0) (let l = w .left-long in let h = w .tests-few in omega arith)) (put right m (getD value y 0) (let l = w .right-long in let h = w .tests-few in omega arith));
     registers-few = w .registers-few;
@@ -325,31 +325,31 @@ module _ (letter : Letter) (function first second representative head link value
 module _ (letter : Letter) (function first second representative head link value left right : List ℕ) (registers : ℕ) (counts : Counts) where
   pub performed-apply : {x f y z : ℕ} (function′ first′ second′ representative′ head′ link′ value′ : List ℕ) (counts′ : Counts) → letter ≡ Apply x f y z
       → Computing function first second representative head link value registers counts x f y z function′ first′ second′ representative′ head′ link′ value′ counts′
-      → Performed letter function first second representative head link value left right registers counts function′ first′ second′ representative′ head′ link′ value′ left right counts′
-  unfolding Performed
+      → LetterPerformed letter function first second representative head link value left right registers counts function′ first′ second′ representative′ head′ link′ value′ left right counts′
+  unfolding LetterPerformed
   performed-apply {x} {f} {y} {z} function′ first′ second′ representative′ head′ link′ value′ counts′ e c σ k few fits w = let d = c .applied in
       rw (e, c .in-value, c .counted, d .in-function, d .in-first, d .in-second, d .in-representative, add-one (counts .terms))
       (engine-apply σ function first second representative head link value left right registers (counts .terms) (counts .tests) (counts .parted) k w x f y z (d .name) head′ link′ few (subst (Fits (σ .header)) e fits) (d .looked)
       (rw (← d .in-function, ← d .in-first, ← d .in-second, ← d .in-representative) (d .indexed)))
 
   pub performed-equal : {x y : ℕ} (representative′ head′ link′ : List ℕ) (counts′ : Counts) → letter ≡ Equal x y
-      → Equated function first second representative value registers counts x y representative′ head′ link′ counts′
-      → Performed letter function first second representative head link value left right registers counts function first second representative′ head′ link′ value left right counts′
-  unfolding Performed
+      → TermsEquated function first second representative value registers counts x y representative′ head′ link′ counts′
+      → LetterPerformed letter function first second representative head link value left right registers counts function first second representative′ head′ link′ value left right counts′
+  unfolding LetterPerformed
   performed-equal {x} {y} representative′ head′ link′ counts′ e c σ k few fits w =
       rw (e, c .terms, c .tests) (engine-equal σ function first second representative head link value left right registers (counts .terms) (counts .tests) (counts .parted) k w x y representative′ head′ link′ (counts′ .parted)
       (subst (Fits (σ .header)) e fits) (c .merged) (c .parts left right (w .parts)) (c .parted))
 
   pub performed-copy : {x y : ℕ} (value′ left′ right′ : List ℕ) (counts′ : Counts) → letter ≡ Copy x y → Noted letter value left right counts value′ left′ right′ counts′
-      → Performed letter function first second representative head link value left right registers counts function first second representative head link value′ left′ right′ counts′
-  unfolding Performed Noted
+      → LetterPerformed letter function first second representative head link value left right registers counts function first second representative head link value′ left′ right′ counts′
+  unfolding LetterPerformed Noted
   performed-copy {x} {y} value′ left′ right′ counts′ e d σ k few fits w =
       let (p, q, r, t) = subst (λ l. Noted l value left right counts value′ left′ right′ counts′) e d in
       rw (e, p, q, r, t) (engine-copy σ function first second representative head link value left right registers (counts .terms) (counts .tests) (counts .parted) k w x y (subst (Fits (σ .header)) e fits))
 
   pub performed-unequal : {x y : ℕ} (value′ left′ right′ : List ℕ) (counts′ : Counts) → letter ≡ Unequal x y → Noted letter value left right counts value′ left′ right′ counts′
-      → Performed letter function first second representative head link value left right registers counts function first second representative head link value′ left′ right′ counts′
-  unfolding Performed Noted
+      → LetterPerformed letter function first second representative head link value left right registers counts function first second representative head link value′ left′ right′ counts′
+  unfolding LetterPerformed Noted
   performed-unequal {x} {y} value′ left′ right′ counts′ e d σ k few fits w =
       let (p, q, r, t) = subst (λ l. Noted l value left right counts value′ left′ right′ counts′) e d in
       rw (e, p, q, r, t, add-one (counts .tests)) (engine-unequal σ function first second representative head link value left right registers (counts .terms) (counts .tests) (counts .parted) k w x y few (subst (Fits (σ .header)) e fits))
@@ -384,11 +384,11 @@ module _ (letter : Letter) (value left right : List ℕ) (counts : Counts) where
 
 -- ---- as `equate` uses them
 module _ (function first second representative head link value : List ℕ) (registers : ℕ) (counts : Counts) (x y : ℕ) (r : Equatable function first second representative head link value registers counts x y) (a b : ℕ) (ea : a ≡ getD value x 0) (eb : b ≡ getD value y 0) where
-  pub equate-ready : Formed representative function first second registers (counts .terms) × (a < counts .terms) × (b < counts .terms) × Closed (at function) (at first) (at second) registers (counts .terms) (at representative)
-      × Indexed representative function first second registers (counts .terms) head link
+  pub equate-ready : Formed representative function first second registers (counts .terms) × (a < counts .terms) × (b < counts .terms) × Closed (entryAt function) (entryAt first) (entryAt second) registers (counts .terms) (entryAt representative)
+      × IndexedTerms representative function first second registers (counts .terms) head link
   equate-ready = (r .formed, subst (λ v. v < counts .terms) (sym ea) (r .first-term), subst (λ v. v < counts .terms) (sym eb) (r .second-term), r .closed, r .indexed)
 
-  pub equated-same : getD representative a 0 ≡ getD representative b 0 → Equated function first second representative value registers counts x y representative head link counts
+  pub equated-same : getD representative a 0 ≡ getD representative b 0 → TermsEquated function first second representative value registers counts x y representative head link counts
   equated-same e = record {
     merged = merged-same function first second registers (counts .terms) representative head link (getD value x 0) (getD value y 0) (r .formed) (r .closed) (r .indexed)
         (ap (λ v. getD representative v 0) (sym ea) ∙ e ∙ ap (λ v. getD representative v 0) eb);
@@ -399,7 +399,7 @@ module _ (function first second representative head link value : List ℕ) (regi
   }
 
   pub equated-merged : (representative′ head′ link′ : List ℕ) → Merged representative function first second registers (counts .terms) a b representative′ head′ link′
-      → Equated function first second representative value registers counts x y representative′ head′ link′ (record { terms = counts .terms; tests = counts .tests; parted = 0 })
+      → TermsEquated function first second representative value registers counts x y representative′ head′ link′ (record { terms = counts .terms; tests = counts .tests; parted = 0 })
   unfolding Parts
   equated-merged representative′ head′ link′ m = record {
     merged = subst (λ a. Merged representative function first second registers (counts .terms) a (getD value y 0) representative′ head′ link′) ea

@@ -21,10 +21,10 @@ use Rattle.letters.specs.CodeAnswers.{letterAnswer}
 use Rattle.letters.specs.Letters.{HeaderFits}
 use Rattle.letters.specs.Coding.{decodeLetter}
 use Rattle.letters.proofs.Theory.WordLaws.{first-roomy, decode-header, decode-letter}
-use Rattle.traces.specs.Reading.{Reading, trace, refused, before, octets, reading, readingWhere, beginning, lettersFrom, lettersOf, letterIn, letterCount, parts}
+use Rattle.traces.specs.Reading.{TraceReading, trace, prependLetter, octets, reading, readingWhere, beginning, lettersFrom, lettersOf, letterIn, letterCount, chunks}
 use Rattle.traces.specs.ReadingParts.{readingWithin, letterAt}
 use Rattle.letters.specs.RefusalNumbers.{letterMalformed}
-use Rattle.engine.specs.Run.{Begun, restOf, behind, RestRead, all-read, broken}
+use Rattle.engine.specs.Run.{Begun, readingFrom, behind, RestRead, all-read, broken}
 use Rattle.engine.proofs.Theory.Run.{Following}
 
 not-value : {A : Type 0} {a b : ℕ} {x : A} → refusal a b ≡ value x → ⊥
@@ -56,13 +56,13 @@ unit-at s at l =
     two x y (z ∷ s) = omega arith
 
 -- ---- some letters, and then what is read
-pub behind-none : (x : Reading) → behind [] x ≡ x
+pub behind-none : (x : TraceReading) → behind [] x ≡ x
 behind-none (trace h ms) = refl
-behind-none (refused a b) = refl
+behind-none (TraceReading.refused a b) = refl
 
-pub behind-one : (ls : List Letter) (l : Letter) (x : Reading) → behind ls (before l x) ≡ behind (ls ++ (l ∷ [])) x
+pub behind-one : (ls : List Letter) (l : Letter) (x : TraceReading) → behind ls (prependLetter l x) ≡ behind (ls ++ (l ∷ [])) x
 behind-one ls l (trace h ms) = ap (trace h) (sym (append-assoc ls (l ∷ []) ms))
-behind-one ls l (refused a b) = refl
+behind-one ls l (TraceReading.refused a b) = refl
 
 module _ (s : List ℕ) (h : Header) (n : ℕ) (r : Begun s h n) where
   -- the letters are read as questions 5 and 4 ask
@@ -74,13 +74,13 @@ module _ (s : List ℕ) (h : Header) (n : ℕ) (r : Begun s h n) where
   unfolding readingWhere
   read-any = rw (r .header)
 
-  pub rest-starts : lettersOf firstEdition h s ≡ restOf s h n 0
+  pub rest-starts : lettersOf firstEdition h s ≡ readingFrom s h n 0
   unfolding lettersOf
-  rest-starts = let e : letterCount firstEdition s ≡ n - 0 = (let c = r .letters in omega arith) in ap (λ m. lettersFrom (letterIn firstEdition h) h 1 (parts 2 m (drop 2 s))) e
+  rest-starts = let e : letterCount firstEdition s ≡ n - 0 = (let c = r .letters in omega arith) in ap (λ m. lettersFrom (letterIn firstEdition h) h 1 (chunks 2 m (drop 2 s))) e
 
-  pub rest-ends : (k : ℕ) → n ≤ k → restOf s h n k ≡ trace h []
-  unfolding parts lettersFrom
-  rest-ends k b = let e : n - k ≡ 0 = omega arith in ap (λ m. lettersFrom (letterIn firstEdition h) h (k + 1) (parts 2 m (drop (2 * (k + 1)) s))) e
+  pub rest-ends : (k : ℕ) → n ≤ k → readingFrom s h n k ≡ trace h []
+  unfolding chunks lettersFrom
+  rest-ends k b = let e : n - k ≡ 0 = omega arith in ap (λ m. lettersFrom (letterIn firstEdition h) h (k + 1) (chunks 2 m (drop (2 * (k + 1)) s))) e
 
   -- letter k is decoded
   module _ (k : ℕ) (b : k < n) (d : DecodedLetter) (e : letterAnswer d ≡ letterAt firstEdition h s k) where
@@ -89,21 +89,21 @@ module _ (s : List ℕ) (h : Header) (n : ℕ) (r : Begun s h n) where
     unit = let c = r .letters in rw (le-leb (2 * (k + 2)) (length s) (omega arith))
 
     -- the letters from k on are letter k and the others
-    rest-is : restOf s h n k ≡ onAnswer (letterAnswer d) (λ l. before l (restOf s h n (k + 1))) λ _ _. refused letterMalformed (k + 1)
-    unfolding parts lettersFrom
+    rest-is : readingFrom s h n k ≡ onAnswer (letterAnswer d) (λ l. prependLetter l (readingFrom s h n (k + 1))) λ _ _. TraceReading.refused letterMalformed (k + 1)
+    unfolding chunks lettersFrom
     rest-is =
         let m : n - k ≡ suc (n - (k + 1)) = omega arith in
         let p : drop 2 (drop (2 * (k + 1)) s) ≡ drop (2 * (k + 1 + 1)) s = drop-drop 2 (2 * (k + 1)) s ∙ ap (λ i. drop i s) (let z : 2 * (k + 1) + 2 ≡ 2 * (k + 1 + 1) = omega arith in z) in
-        ap (λ m. lettersFrom (letterIn firstEdition h) h (k + 1) (parts 2 m (drop (2 * (k + 1)) s))) m
-        ∙ ap (λ t. onAnswer (letterIn firstEdition h (take 2 (drop (2 * (k + 1)) s))) (λ l. before l (lettersFrom (letterIn firstEdition h) h (k + 1 + 1) (parts 2 (n - (k + 1)) t))) λ _ _. refused letterMalformed (k + 1)) p
-        ∙ ap (λ a. onAnswer a (λ l. before l (restOf s h n (k + 1))) λ _ _. refused letterMalformed (k + 1)) (sym (e ∙ unit))
+        ap (λ m. lettersFrom (letterIn firstEdition h) h (k + 1) (chunks 2 m (drop (2 * (k + 1)) s))) m
+        ∙ ap (λ t. onAnswer (letterIn firstEdition h (take 2 (drop (2 * (k + 1)) s))) (λ l. prependLetter l (lettersFrom (letterIn firstEdition h) h (k + 1 + 1) (chunks 2 (n - (k + 1)) t))) λ _ _. TraceReading.refused letterMalformed (k + 1)) p
+        ∙ ap (λ a. onAnswer a (λ l. prependLetter l (readingFrom s h n (k + 1))) λ _ _. TraceReading.refused letterMalformed (k + 1)) (sym (e ∙ unit))
 
-    pub rest-bad : d ≡ decoded.Malformed → restOf s h n k ≡ refused letterMalformed (k + 1)
-    rest-bad q = rest-is ∙ ap (λ d. onAnswer (letterAnswer d) (λ l. before l (restOf s h n (k + 1))) λ _ _. refused letterMalformed (k + 1)) q
+    pub rest-bad : d ≡ decoded.Malformed → readingFrom s h n k ≡ TraceReading.refused letterMalformed (k + 1)
+    rest-bad q = rest-is ∙ ap (λ d. onAnswer (letterAnswer d) (λ l. prependLetter l (readingFrom s h n (k + 1))) λ _ _. TraceReading.refused letterMalformed (k + 1)) q
 
     module _ {l : Letter} (q : d ≡ decoded.Letter l) where
-      pub rest-good : restOf s h n k ≡ before l (restOf s h n (k + 1))
-      rest-good = rest-is ∙ ap (λ d. onAnswer (letterAnswer d) (λ l. before l (restOf s h n (k + 1))) λ _ _. refused letterMalformed (k + 1)) q
+      pub rest-good : readingFrom s h n k ≡ prependLetter l (readingFrom s h n (k + 1))
+      rest-good = rest-is ∙ ap (λ d. onAnswer (letterAnswer d) (λ l. prependLetter l (readingFrom s h n (k + 1))) λ _ _. TraceReading.refused letterMalformed (k + 1)) q
 
       pub letter-fits : Fits h l
       letter-fits = decode-letter first-roomy h (join (octets firstEdition) (take 2 (drop (2 * (k + 1)) s))) l .0 (sym unit ∙ sym e ∙ ap letterAnswer q) .1
@@ -122,15 +122,15 @@ module _ (s : List ℕ) (h : Header) (n : ℕ) (r : Begun s h n) where
 
   module _ (k : ℕ) where
     pub following-start : Following s h n k k
-    following-start = record { letters = []; rest = sym (behind-none (restOf s h n k)) }
+    following-start = record { letters = []; rest = sym (behind-none (readingFrom s h n k)) }
 
     module _ (i : ℕ) (w : Following s h n k i) where
-      pub following-end : n ≤ i → RestRead h (restOf s h n k) 0
+      pub following-end : n ≤ i → RestRead h (readingFrom s h n k) 0
       following-end b = all-read (w .letters ++ []) (w .rest ∙ ap (behind (w .letters)) (rest-ends i b))
 
       module _ (b : i < n) (d : DecodedLetter) (e : letterAnswer d ≡ letterAt firstEdition h s i) where
         pub following-turn : {l : Letter} → d ≡ decoded.Letter l → Following s h n k (i + 1)
-        following-turn {l} q = record { letters = w .letters ++ (l ∷ []); rest = w .rest ∙ ap (behind (w .letters)) (rest-good i b d e q) ∙ behind-one (w .letters) l (restOf s h n (i + 1)) }
+        following-turn {l} q = record { letters = w .letters ++ (l ∷ []); rest = w .rest ∙ ap (behind (w .letters)) (rest-good i b d e q) ∙ behind-one (w .letters) l (readingFrom s h n (i + 1)) }
 
-        pub following-bad : d ≡ decoded.Malformed → RestRead h (restOf s h n k) (i + 1)
+        pub following-bad : d ≡ decoded.Malformed → RestRead h (readingFrom s h n k) (i + 1)
         following-bad q = broken (i + 1) (omega arith) (w .rest ∙ ap (behind (w .letters)) (rest-bad i b d e q))

@@ -29,13 +29,13 @@ use Rattle.semantics.proofs.Theory.Shown.{corollary-2}
 use Rattle.base.proofs.Theory.Each.{each-length}
 use Rattle.closure.proofs.Theory.Written.{done-below}
 use Rattle.closure.proofs.Theory.Represents.{represents-start}
-use Rattle.closure.specs.Arrays.{at, Below, signatureAt, Parts, Clashes, clashes}
+use Rattle.closure.specs.Arrays.{entryAt, Below, signatureAt, Parts, Clashes, clashes}
 use Rattle.closure.specs.Arrays as arrays
 use Rattle.closure.proofs.Theory.Entering.{chains-none, complete-none}
 use Rattle.closure.proofs.Theory.Steps.{letter-clash}
-use Rattle.engine.specs.Engine.{Engine, Computed, Ready, Performed}
+use Rattle.engine.specs.Engine.{Engine, Computed, Ready, LetterPerformed}
 use Rattle.engine.specs.declared.Counts.{Counts}
-use Rattle.engine.specs.declared.Outcome.the-variants as outcome
+use Rattle.engine.specs.declared.EngineOutcome.the-variants as outcome
 use Rattle.engine.specs.Run as spec
 use Rattle.engine.proofs.Theory.ReadingLaws.{headed, behind-none, behind-one, rest-starts, rest-ends, rest-bad, rest-good, letter-fits}
 
@@ -77,13 +77,13 @@ module _ (s : List ℕ) (h : Header) (n : ℕ) (r : spec.Begun s h n) where
     next : traceOf h letters-next ≡ traceOf h (w .letters) ▸ l
     next = extend-append (begin h) (w .letters) (l ∷ [])
 
-    rest-next : lettersOf firstEdition h s ≡ spec.behind letters-next (spec.restOf s h n (k + 1))
-    rest-next = w .rest ∙ ap (spec.behind (w .letters)) (rest-good s h n r k b read e q) ∙ behind-one (w .letters) l (spec.restOf s h n (k + 1))
+    rest-next : lettersOf firstEdition h s ≡ spec.behind letters-next (spec.readingFrom s h n (k + 1))
+    rest-next = w .rest ∙ ap (spec.behind (w .letters)) (rest-good s h n r k b read e q) ∙ behind-one (w .letters) l (spec.readingFrom s h n (k + 1))
 
     module _ (function′ first′ second′ representative′ head′ link′ value′ left′ right′ : List ℕ) (counts′ : Counts)
-        (p : Performed l function first second representative head link value left right registers counts function′ first′ second′ representative′ head′ link′ value′ left′ right′ counts′) where
+        (p : LetterPerformed l function first second representative head link value left right registers counts function′ first′ second′ representative′ head′ link′ value′ left′ right′ counts′) where
       engine-next : Engine (after (state (traceOf h (w .letters))) l) function′ first′ second′ representative′ head′ link′ value′ left′ right′ registers (counts′ .terms) (counts′ .tests) (counts′ .parted) (suc k)
-      unfolding Performed
+      unfolding LetterPerformed
       engine-next = p (state (traceOf h (w .letters))) k under fits-next (w .engine)
 
       pub clash-ready : (counts′ .parted ≤ counts′ .tests) × (counts′ .tests ≤ mostLetters) × Below mostTerms (counts′ .tests) left′ × Below mostTerms (counts′ .tests) right′ × Parts representative′ left′ right′ (counts′ .parted)
@@ -164,7 +164,7 @@ module _ (s : List ℕ) (h : Header) (n : ℕ) (r : spec.Begun s h n) where
     begun b = record {
       letters = [];
       long = refl;
-      rest = rest-starts s h n r ∙ sym (behind-none (spec.restOf s h n 0));
+      rest = rest-starts s h n r ∙ sym (behind-none (spec.readingFrom s h n 0));
       formed = tt;
       engine = record {
         formed = record {
@@ -181,7 +181,7 @@ module _ (s : List ℕ) (h : Header) (n : ℕ) (r : spec.Begun s h n) where
           first-before = λ k l. let z = bo .zero k in omega arith;
           second-before = λ k l. let z = bs .zero k in omega arith;
         };
-        represents = represents-start h (at function) (at first) (at second) (at representative′) (at value′) class-at value-at;
+        represents = represents-start h (entryAt function) (entryAt first) (entryAt second) (entryAt representative′) (entryAt value′) class-at value-at;
         indexed = record { chains = chains-none head link (h .registers) lh (bl .long) zh (bl .zero) (fit .some); complete = complete-none (signatureAt representative′ function first second) (h .registers) head link zh (fit .some) };
         sides = record { left-below = λ q l. absurd (omega arith); right-below = λ q l. absurd (omega arith); listed = λ q l. absurd (omega arith); all = λ u v m. absurd (List·Memᴰ·not-nil m) };
         registers-few = within-registers;

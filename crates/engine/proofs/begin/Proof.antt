@@ -2,13 +2,13 @@ use Prim.Native.Nat.{_-_, _≤_}
 use native.Mathlib.Omega.{arith}
 use mathlib.Core.Path.{_≡_, refl}
 use borrow.Author.Needs.{needs}
-use Rattle.base.specs.Each.{done}
+use Rattle.base.specs.Each.{eachUpTo}
 use Rattle.base.proofs.Theory.Each.{each-none, each-turn, ended}
 use Rattle.engine.proofs.begin.Statement.{statement}
 use Rattle.engine.proofs.begin.Tie as tie
 
 abbrev Inv-loop : tie.InvT-loop
-Inv-loop representative₀ value₀ registers i₀ representative value i = (i ≤ registers) × (representative ≡ done (λ i _. i) i representative₀) × (value ≡ done (λ i _. i) i value₀)
+Inv-loop representative₀ value₀ registers i₀ representative value i = (i ≤ registers) × (representative ≡ eachUpTo (λ i _. i) i representative₀) × (value ≡ eachUpTo (λ i _. i) i value₀)
 
 abbrev μ-loop : tie.MeasureT-loop
 μ-loop representative₀ value₀ registers i₀ representative value i = registers - i

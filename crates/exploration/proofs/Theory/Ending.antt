@@ -17,7 +17,7 @@ use Rattle.exploration.specs.declared.Search.the-variants as found
 use Rattle.exploration.specs.Exploring.{exploreOf, searchOf}
 use Rattle.exploration.specs.Given.{Given}
 use Rattle.exploration.proofs.Theory.Given.{header, end, held, fresh}
-use Rattle.exploration.proofs.Theory.Explored.{Ended, explored, first-listed, none-fits}
+use Rattle.exploration.proofs.Theory.Explored.{SearchEnded, explored, first-listed, none-fits}
 
 module _ (given : Given) (n : ℕ) (t : List ℕ) (most : n ≤ mostPairs) (room : recordBytes * n ≤ length t) where
   abbrev ending : Search × List ℕ
@@ -25,7 +25,7 @@ module _ (given : Given) (n : ℕ) (t : List ℕ) (most : n ≤ mostPairs) (room
 
   -- Where there is a point.
   pub search-ended : eqb (end given) 0 ≡ false
-      → Ended given n (searchOf (header given) (held given) (end given) n t .0) (searchOf (header given) (held given) (end given) n t .1)
+      → SearchEnded given n (searchOf (header given) (held given) (end given) n t .0) (searchOf (header given) (held given) (end given) n t .1)
   unfolding searchOf exploreOf
   search-ended e = byTest (eqb n 0)
       (λ f. rw (e, f) (none-fits given n some-point (eqb-true n 0 f)))
@@ -42,7 +42,7 @@ module _ (given : Given) (n : ℕ) (t : List ℕ) (most : n ≤ mostPairs) (room
 
   -- A search that ends otherwise than without a point.
   pub search-event : (r : Search) → searchOf (header given) (held given) (end given) n t .0 ≡ r → r ≢ found.Pass 0
-      → Ended given n r (searchOf (header given) (held given) (end given) n t .1)
+      → SearchEnded given n r (searchOf (header given) (held given) (end given) n t .1)
   search-event r e other = byTest (eqb (end given) 0)
       (λ f. absurd (other (sym e ∙ ap (λ x. x .0) (search-empty f))))
-      (λ f. subst (λ r. Ended given n r (ending .1)) e (search-ended f))
+      (λ f. subst (λ r. SearchEnded given n r (ending .1)) e (search-ended f))

@@ -14,16 +14,16 @@ use Rattle.semantics.specs.Terms.{begin, state}
 use Rattle.semantics.proofs.Theory.Facts.{state-valid}
 use Rattle.macros.specs.Order.{first}
 use Rattle.macros.specs.Points.{entry}
-use Rattle.verdicts.proofs.Theory.System.{event}
-use Rattle.verdicts.proofs.Theory.Listing.{Listing, begins-one, listed-more}
-use Rattle.verdicts.specs.Verdict.{Kind, breaking, failing}
-use Rattle.verdicts.proofs.Theory.Pairs.{first-pair}
-use Rattle.blocks.specs.declared.Point.{Point}
+use Rattle.verdict_theory.proofs.Theory.System.{event}
+use Rattle.verdict_theory.proofs.Theory.Listing.{Listing, begins-one, listed-more}
+use Rattle.verdict_theory.specs.Verdict.{Kind, breaking, failing}
+use Rattle.verdict_theory.proofs.Theory.Pairs.{first-pair}
+use Rattle.blocks.specs.declared.PointEntry.{PointEntry}
 use Rattle.window.specs.declared.Window.{Window}
 use Rattle.records.specs.Records.{recordBytes, encoded, recordOf}
 use Rattle.records.proofs.Theory.Storable.{Storable}
 use Rattle.table.specs.Table.{putAt, pointAt, windowAt}
-use Rattle.table.proofs.Theory.TableLaws.{Kept}
+use Rattle.table.proofs.Theory.TableLaws.{PairStored}
 use Rattle.stored.proofs.Theory.Stored.{storable}
 use Rattle.exploration.specs.declared.Turn.{Turn}
 use Rattle.exploration.specs.declared.Turn.the-variants.{On, Full, Breaking, Failing}
@@ -49,21 +49,21 @@ module _ (given : Given) where
     pub happens : step given (pointAt t (d / 2), windowAt t (d / 2)) (branchNumbered (d % 2)) ≡ event kind
 
   -- How the search has ended, with the table t, which holds n pairs.
-  abbrev pub Ended : ℕ → Search → List ℕ → Type 0
-  Ended n found.Full t = Passing given n
-  Ended n (found.Pass k) t = Going given n k (2 * k) t
-  Ended n (found.Breaking k d) t = Met n breaking k d t
-  Ended n (found.Failing k d) t = Met n failing k d t
+  abbrev pub SearchEnded : ℕ → Search → List ℕ → Type 0
+  SearchEnded n found.Full t = Passing given n
+  SearchEnded n (found.Pass k) t = Going given n k (2 * k) t
+  SearchEnded n (found.Breaking k d) t = Met n breaking k d t
+  SearchEnded n (found.Failing k d) t = Met n failing k d t
 
   abbrev EndedAs : ℕ → Search × List ℕ → Type 0
-  EndedAs n r = Ended n (r .0) (r .1)
+  EndedAs n r = SearchEnded n (r .0) (r .1)
 
-  finished : (n count d : ℕ) (t : List ℕ) → Going given n count d t → 2 * count ≤ d → Ended n (found.Pass count) t
+  finished : (n count d : ℕ) (t : List ℕ) → Going given n count d t → 2 * count ≤ d → SearchEnded n (found.Pass count) t
   finished n count d t g l = subst (λ e. Going given n count e t) (let b = g .behind in omega arith) g
 
   -- every end is one of these
   pub explored : (n f count d : ℕ) (t : List ℕ) → Going given n count d t → 2 * n ≤ f + d
-      → Ended n (exploreFrom f (held given) (end given) n count d t .0) (exploreFrom f (held given) (end given) n count d t .1)
+      → SearchEnded n (exploreFrom f (held given) (end given) n count d t .0) (exploreFrom f (held given) (end given) n count d t .1)
   unfolding exploreFrom
   explored n zero count d t g l = finished n count d t g (let w = g .within in omega arith)
   explored n (suc f) count d t g l = byTest (ltb d (2 * count))
@@ -71,15 +71,15 @@ module _ (given : Given) where
       (λ m u v. explored n f m (d + 1) u v (omega arith))))
       (λ e. rw e (finished n count d t g (ltb-false d (2 * count) e)))
     where
-      x : Point
+      x : PointEntry
       x = pointOf (held given) t (d / 2)
 
       after : (r : Turn) (u : List ℕ) → d < 2 * count → Turned given n count d t r u → ((m : ℕ) (v : List ℕ) → Going given n m (d + 1) v → EndedAs n (exploreFrom f (held given) (end given) n m (d + 1) v))
           → EndedAs n (onTurn r u count d λ m. exploreFrom f (held given) (end given) n m (d + 1) u)
       after (On m) u q z ih = ih m u z
       after Full u q z ih = z
-      after Breaking u q z ih = subst (λ v. Ended n (found.Breaking count d) v) (sym (z .1)) (record { going = g; due = q; happens = z .0 })
-      after Failing u q z ih = subst (λ v. Ended n (found.Failing count d) v) (sym (z .1)) (record { going = g; due = q; happens = z .0 })
+      after Breaking u q z ih = subst (λ v. SearchEnded n (found.Breaking count d) v) (sym (z .1)) (record { going = g; due = q; happens = z .0 })
+      after Failing u q z ih = subst (λ v. SearchEnded n (found.Failing count d) v) (sym (z .1)) (record { going = g; due = q; happens = z .0 })
 
   -- a search begins at point 0, where there is one
   starts-at : 0 < end given → starts given ≡ some (0, fresh given)
@@ -103,7 +103,7 @@ module _ (given : Given) where
         let (a, b, c, d, e) = written t 0 0 0 0 (fresh given) (omega arith) fits-record (omega arith) (omega arith) (omega arith) in
         record {
           searching = begins-one (starts given) (step given) (listed u 1) (0, fresh given) (starts-at some-point) refl (λ i. (a i, b i));
-          kept = λ j l. subst (Kept u) (let z : 0 ≡ j = omega arith in z) e;
+          kept = λ j l. subst (PairStored u) (let z : 0 ≡ j = omega arith in z) e;
           live = λ j l. subst (λ j. Live given (windowAt u j)) (let z : 0 ≡ j = omega arith in z) (subst (Live given) (sym b) live);
           due = λ j l. subst (λ j. pointAt u j < end given) (let z : 0 ≡ j = omega arith in z) (subst (λ k. k < end given) (sym a) some-point);
           within = omega arith;

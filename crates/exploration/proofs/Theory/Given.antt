@@ -15,12 +15,12 @@ use Rattle.macros.proofs.Theory.Points.{compileBlock-length}
 use Rattle.macros.proofs.Theory.Fitting.{FitsMove, points-fit}
 use Rattle.macros.specs.Order.{Branch}
 use Rattle.grammar.specs.Grammar.{headerOf}
-use Rattle.blocks.specs.declared.Point.{Point}
-use Rattle.blocks.specs.Held.{heldPoint, table}
-use Rattle.verdicts.proofs.Theory.Pairs.{Setting}
+use Rattle.blocks.specs.declared.PointEntry.{PointEntry}
+use Rattle.blocks.specs.Held.{heldPoint, pointTable}
+use Rattle.verdict_theory.proofs.Theory.Pairs.{Setting}
 use Rattle.window.specs.declared.Window.{Window}
 use Rattle.window.specs.Perform.{freshOf}
-use Rattle.window.specs.Step.{Holds}
+use Rattle.window.specs.Step.{IsWindow}
 use Rattle.exploration.specs.Moves.{moveOf, noPoint}
 use Rattle.exploration.proofs.Theory.Store.{branchNumbered}
 use Rattle.exploration.specs.HeldPoints.{meant}
@@ -46,8 +46,8 @@ module _ (given : Given) where
   end = sizeBlock (given .macro .body)
 
   -- the points as the reader holds them
-  abbrev pub held : List Point
-  held = table (map heldPoint (points.points (given .macro .body)))
+  abbrev pub held : List PointEntry
+  held = pointTable (map heldPoint (points.points (given .macro .body)))
 
   -- the window at the start
   abbrev pub fresh : Window
@@ -62,7 +62,7 @@ module _ (given : Given) where
     body = given .macro .body;
     proper = given .in-order .uses;
     Window = Window;
-    Tracks = Holds;
+    Tracks = IsWindow;
     fresh = freshOf (length (given .macro .registers));
     perform = performing;
     infeasible = infeasibleIn;

@@ -19,19 +19,19 @@ use Rattle.semantics.specs.Coherence.{Coherent}
 use Rattle.macros.specs.Order.{Branch, Before}
 use Rattle.macros.specs.Walk.{at, failure}
 use Rattle.macros.specs.Points.{points, moves-at}
-use Rattle.macros.proofs.Theory.Fitting.{Formed, FitsMove}
-use Rattle.verdicts.specs.Count.{More}
-use Rattle.verdicts.proofs.Theory.System.{stop, event, next, Leads, Alike, Meets}
-use Rattle.verdicts.proofs.Theory.Listing.{turn, Searching, Extends, passes, meets, grows, new-more}
-use Rattle.verdicts.specs.Verdict.{breaking, failing}
-use Rattle.verdicts.proofs.Theory.Pairs.{Step, starting, stepping, reach, reached, performed, moving}
+use Rattle.macros.proofs.Theory.Fitting.{FormedUnder, FitsMove}
+use Rattle.verdict_theory.specs.Count.{More}
+use Rattle.verdict_theory.proofs.Theory.System.{stop, event, next, Leads, LeadAlike, Meets}
+use Rattle.verdict_theory.proofs.Theory.Listing.{turn, Searching, Extends, passes, meets, grows, new-more}
+use Rattle.verdict_theory.specs.Verdict.{breaking, failing}
+use Rattle.verdict_theory.proofs.Theory.Pairs.{Step, starting, stepping, reach, reached, performed, moving}
 use Rattle.window.specs.declared.Window.{Window}
 use Rattle.window.specs.Perform.{judgeOf, performOf}
-use Rattle.window.specs.Step.{Holds}
+use Rattle.window.specs.Step.{IsWindow}
 use Rattle.records.specs.Records.{recordBytes, encoded, recordOf}
 use Rattle.records.proofs.Theory.Storable.{Storable}
 use Rattle.table.specs.Table.{putAt, pointAt, windowAt, parentAt, branchAt, isListed}
-use Rattle.table.proofs.Theory.TableLaws.{Kept, found as found-pair, nowhere}
+use Rattle.table.proofs.Theory.TableLaws.{PairStored, found as found-pair, nowhere}
 use Rattle.stored.proofs.Theory.Stored.{storable}
 use Rattle.exploration.specs.declared.PointMove as enum
 use Rattle.exploration.specs.declared.PointMove.the-variants.{Nothing, Goes, Fails}
@@ -65,15 +65,15 @@ module _ (given : Given) where
 
   -- w is the window of a coherent trace.
   abbrev pub Live : Window → Type 0
-  Live w = (ρ : Trace) × Formed (header given) ρ × Coherent ρ × Holds (state ρ) w
+  Live w = (ρ : Trace) × FormedUnder (header given) ρ × Coherent ρ × IsWindow (state ρ) w
 
   abbrev pub Passing : ℕ → Type 0
-  Passing n = More Before (Leads starts step) (Alike starts step) (Meets starts step) n
+  Passing n = More Before (Leads starts step) (LeadAlike starts step) (Meets starts step) n
 
   -- Before move number d, with count pairs listed in the table t, which holds n.
   pub record Going (n count d : ℕ) (t : List ℕ) : Type 0 where
     pub searching : Searching starts step (listed t count) d
-    pub kept : (j : ℕ) → j < count → Kept t j
+    pub kept : (j : ℕ) → j < count → PairStored t j
     pub live : (j : ℕ) → j < count → Live (windowAt t j)
     pub due : (j : ℕ) → j < count → pointAt t j < end given
     pub within : count ≤ n
@@ -140,10 +140,10 @@ module _ (given : Given) where
         bound : d < 2 * mostPairs
         bound = let r = g .most in omega arith
 
-        at-new : (pointAt u count ≡ p) × (windowAt u count ≡ v) × (parentAt u count ≡ d / 2) × (branchAt u count ≡ d % 2) × Kept u count
+        at-new : (pointAt u count ≡ p) × (windowAt u count ≡ v) × (parentAt u count ≡ d / 2) × (branchAt u count ≡ d % 2) × PairStored u count
         at-new = written t count p (d / 2) (d % 2) v fits fits-record (omega (arith, given .few)) (omega (arith, bound)) (omega arith)
 
-        at-old : (j : ℕ) → j < count → (pointAt u j ≡ pointAt t j) × (windowAt u j ≡ windowAt t j) × (parentAt u j ≡ parentAt t j) × (branchAt u j ≡ branchAt t j) × (Kept t j → Kept u j)
+        at-old : (j : ℕ) → j < count → (pointAt u j ≡ pointAt t j) × (windowAt u j ≡ windowAt t j) × (parentAt u j ≡ parentAt t j) × (branchAt u j ≡ branchAt t j) × (PairStored t j → PairStored u j)
         at-old j r = others t count p (d / 2) (d % 2) v fits fits-record j r
 
         one-more : Extends (listed t count) (p, v) i b (listed u (count + 1))
@@ -163,7 +163,7 @@ module _ (given : Given) where
         listed-anew : Going n (count + 1) (d + 1) u
         listed-anew = record {
           searching = onward (count + 1) u (grows starts step (listed t count) i b (p, v) (listed u (count + 1)) here (omega arith) e (new f) one-more);
-          kept = by-place (Kept u) (λ j r. at-old j r .4 (g .kept j r)) (at-new .4);
+          kept = by-place (PairStored u) (λ j r. at-old j r .4 (g .kept j r)) (at-new .4);
           live = by-place (λ j. Live (windowAt u j)) (λ j r. subst Live (sym (at-old j r .1)) (g .live j r)) (subst Live (sym (at-new .1)) lv);
           due = by-place (λ j. pointAt u j < end given) (λ j r. subst (λ z. z < end given) (sym (at-old j r .0)) (g .due j r)) (subst (λ z. z < end given) (sym (at-new .0)) q);
           within = omega arith;
@@ -185,7 +185,7 @@ module _ (given : Given) where
       live-after : Live (performOf w a)
       live-after =
           let (ρ, f, co, tr) = g .live i (omega arith) in
-          let f′ : Formed (header given) (ρ ▸ a) = ((f .0, subst (λ z. Fits z a) (sym (f .1)) c), f .1) in
+          let f′ : FormedUnder (header given) (ρ ▸ a) = ((f .0, subst (λ z. Fits z a) (sym (f .1)) c), f .1) in
           let (cl, tr′) = setting given .monitor .goes ρ a w (performOf w a) f′ co tr (performing-yes w a ok) in
           (ρ ▸ a, f′, (co, cl), tr′)
 

@@ -10,17 +10,17 @@ use Rattle.window.specs.declared.Window.{Window}
 use Rattle.records.specs.Records.{recordBytes, encodedBytes, recordOf}
 use Rattle.table.specs.Table.{putAt, windowAt}
 use Rattle.table.proofs.Theory.TableLaws.{record-long, window-other, pair-other, pair-same}
-use Rattle.index.specs.Index.{chainOf, Indexed}
+use Rattle.index.specs.Index.{chainOf, IndexedPairs}
 use Rattle.index.proofs.Theory.IndexLaws.{index-more}
 use Rattle.exploration.specs.declared.Turn.{Turn}
 use Rattle.exploration.specs.declared.Turn.the-variants.{On, Full, Breaking, Failing}
 use Rattle.exploration.specs.Turns.{failTurn}
 use Rattle.exploration.specs.Keeping.{Carried, Keeps}
 
-module _ (count : ℕ) (t head link : List ℕ) (x : Indexed t head link count) where
+module _ (count : ℕ) (t head link : List ℕ) (x : IndexedPairs t head link count) where
   -- nothing is listed
   pub keeps-on : Keeps count t (On count) t head link
-  keeps-on = record { windows = λ j l. refl; indexed = λ m e. subst (Indexed t head link) (let z : count ≡ m = cc in z) x }
+  keeps-on = record { windows = λ j l. refl; indexed = λ m e. subst (IndexedPairs t head link) (let z : count ≡ m = cc in z) x }
 
   pub keeps-full : Keeps count t Full t head link
   keeps-full = record { windows = λ j l. refl; indexed = λ m e. absurd (let z : _≡_ {A = ℕ} 0 1 = cc in omega arith) }
@@ -44,7 +44,7 @@ module _ (count : ℕ) (t head link : List ℕ) (x : Indexed t head link count) 
     new : Keeps count t (On (count + 1)) (putAt t count (recordOf pair i b)) (set head (chainOf pair) count) (set link count (getD head (chainOf pair) 0))
     new = record {
       windows = λ j l. window-other t count (recordOf pair i b) fits long j (λ z. omega arith);
-      indexed = λ m e. subst (Indexed (putAt t count (recordOf pair i b)) (set head (chainOf pair) count) (set link count (getD head (chainOf pair) 0))) (let z : count + 1 ≡ m = cc in z)
+      indexed = λ m e. subst (IndexedPairs (putAt t count (recordOf pair i b)) (set head (chainOf pair) count) (set link count (getD head (chainOf pair) 0))) (let z : count + 1 ≡ m = cc in z)
           (index-more t head link count x within pair (putAt t count (recordOf pair i b))
           (λ j l. pair-other t count (recordOf pair i b) fits long j (λ z. omega arith))
           (pair-same t count i b pair fits whole));

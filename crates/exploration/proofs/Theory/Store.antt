@@ -6,12 +6,12 @@ use native.Mathlib.Omega.{arith}
 use mathlib.Core.List.{List}
 use lib.ListN.{length}
 use Rattle.macros.specs.Order.{Branch, first, second}
-use Rattle.verdicts.proofs.Theory.Listing.{Listing}
+use Rattle.verdict_theory.proofs.Theory.Listing.{Listing}
 use Rattle.window.specs.declared.Window.{Window}
 use Rattle.records.specs.Records.{recordBytes, encoded, recordOf}
 use Rattle.records.proofs.Theory.Storable.{Storable}
 use Rattle.table.specs.Table.{putAt, pointAt, windowAt, parentAt, branchAt}
-use Rattle.table.proofs.Theory.TableLaws.{Kept, put-length, point-other, parent-other, branch-other, window-other, kept-other, record-length, point-same, window-same, parent-same, branch-same, kept-same}
+use Rattle.table.proofs.Theory.TableLaws.{PairStored, put-length, point-other, parent-other, branch-other, window-other, kept-other, record-length, point-same, window-same, parent-same, branch-same, kept-same}
 
 -- The branch of a number, 0 the first.
 abbrev pub branchNumbered : ℕ → Branch
@@ -27,7 +27,7 @@ module _ (t : List ℕ) (k p i b : ℕ) (w : Window) (fits : recordBytes * k + r
   abbrev put : List ℕ
   put = putAt t k (recordOf (encoded p w) i b)
 
-  pub written : p < 65536 → i < 65536 → b < 2 → (pointAt put k ≡ p) × (windowAt put k ≡ w) × (parentAt put k ≡ i) × (branchAt put k ≡ b) × Kept put k
+  pub written : p < 65536 → i < 65536 → b < 2 → (pointAt put k ≡ p) × (windowAt put k ≡ w) × (parentAt put k ≡ i) × (branchAt put k ≡ b) × PairStored put k
   written pb ib bb = (
     point-same t k p i b w fits s pb,
     window-same t k p i b w fits s,
@@ -38,7 +38,7 @@ module _ (t : List ℕ) (k p i b : ℕ) (w : Window) (fits : recordBytes * k + r
 
   -- the records before it stay
   pub others : (j : ℕ) → j < k
-      → (pointAt put j ≡ pointAt t j) × (windowAt put j ≡ windowAt t j) × (parentAt put j ≡ parentAt t j) × (branchAt put j ≡ branchAt t j) × (Kept t j → Kept put j)
+      → (pointAt put j ≡ pointAt t j) × (windowAt put j ≡ windowAt t j) × (parentAt put j ≡ parentAt t j) × (branchAt put j ≡ branchAt t j) × (PairStored t j → PairStored put j)
   others j l =
       let long = record-length t k p i b w fits s in
       let e : j ≢ k = λ z. omega arith in (

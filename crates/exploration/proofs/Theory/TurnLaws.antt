@@ -6,7 +6,7 @@ use mathlib.Core.Bool.{Bool, true, false}
 use mathlib.Core.List.{List}
 use borrow.Author.Tests.{le-leb, lt-leb, eq-eqb, ne-eqb}
 use Rattle.letters.specs.declared.Letter.{Letter}
-use Rattle.blocks.specs.declared.Point.{Point}
+use Rattle.blocks.specs.declared.PointEntry.{PointEntry}
 use Rattle.window.specs.declared.Window.{Window}
 use Rattle.window.specs.Perform.{judgeOf, performOf}
 use Rattle.records.specs.Records.{encoded, recordOf}
@@ -47,7 +47,7 @@ module _ (k : ℕ) (w : Window) (end n count d : ℕ) (t : List ℕ) where
     )
 
 -- ── a move ──
-module _ (x : Point) (end n count d : ℕ) (t : List ℕ) (b : PointMove) (e : b ≡ moveOf x (d % 2)) where
+module _ (x : PointEntry) (end n count d : ℕ) (t : List ℕ) (b : PointMove) (e : b ≡ moveOf x (d % 2)) where
   abbrev Turned : Turn → List ℕ → Type 0
   Turned r t′ = (r ≡ turnOf x end n count d t) × (t′ ≡ tableOf x end n count d t)
 

@@ -18,11 +18,11 @@ use Rattle.semantics.specs.Models.{Feasible}
 use Rattle.semantics.proofs.Theory.Shown.{corollary-2}
 use Rattle.semantics.proofs.Theory.Judge.{clash-or-feasible}
 use Rattle.semantics.specs.Coherence.{CoherentLetter}
-use Rattle.macros.proofs.Theory.Fitting.{Formed}
-use Rattle.verdicts.proofs.Theory.Pairs.{Monitor}
+use Rattle.macros.proofs.Theory.Fitting.{FormedUnder}
+use Rattle.verdict_theory.proofs.Theory.Pairs.{MonitorLaws}
 use Rattle.window.specs.declared.Window.{Window}
-use Rattle.window.specs.Perform.{Within, judgeOf, performOf, freshOf}
-use Rattle.window.specs.Step.{Holds}
+use Rattle.window.specs.Perform.{WithinPacking, judgeOf, performOf, freshOf}
+use Rattle.window.specs.Step.{IsWindow}
 use Rattle.window.proofs.Theory.Step.{holds-fresh, judged, performed, fits-within}
 use Rattle.stored.proofs.Theory.SamePair.{same-window}
 
@@ -55,26 +55,26 @@ feasible-told σ v n = elim (clash-or-feasible σ v) [ inl c ↦ absurd (n (λ f
 
 -- ── it is a monitor ──
 module _ (h : Header) (registers : h .registers ≤ 8) (functions : h .functions ≤ 4) where
-  module _ (ρ : Trace) (a : Letter) (w : Window) (f : Formed h (ρ ▸ a)) (x : Holds (state ρ) w) where
+  module _ (ρ : Trace) (a : Letter) (w : Window) (f : FormedUnder h (ρ ▸ a)) (x : IsWindow (state ρ) w) where
     valid : Valid (state ρ)
     valid = state-valid ρ (f .0 .0)
 
-    within : Within a
+    within : WithinPacking a
     within = fits-within h a registers functions (subst (λ g. Fits g a) (f .1) (f .0 .1))
 
     says : T (judgeOf w a) ↔ CoherentLetter (state ρ) a
     says = judged (state ρ) valid w x a within (f .0 .1)
 
-    holds-after : CoherentLetter (state ρ) a → Holds (state (ρ ▸ a)) (performOf w a)
+    holds-after : CoherentLetter (state ρ) a → IsWindow (state (ρ ▸ a)) (performOf w a)
     holds-after c = performed (state ρ) valid w x a within (f .0 .1) c
 
-  pub watches : Monitor h (begin h) Window Holds (freshOf (h .registers)) performing infeasibleIn
+  pub watches : MonitorLaws h (begin h) Window IsWindow (freshOf (h .registers)) performing infeasibleIn
   watches = record {
     begins = holds-fresh h registers;
     goes = λ ρ a w v f c x e.
         let (j, g) = performed-some w v a e in
         let cl = says ρ a w f x .0 (subst T (sym j) tt) in
-        (cl, subst (Holds (state (ρ ▸ a))) (sym g) (holds-after ρ a w f x cl));
+        (cl, subst (IsWindow (state (ρ ▸ a))) (sym g) (holds-after ρ a w f x cl));
     stops = λ ρ a w f c x e cl. subst T (performed-none w a e) (says ρ a w f x .1 cl);
     alike = λ ρ π w f g c d x y. same-window (state ρ) (state π) (state-valid ρ (f .0)) (state-valid π (g .0)) w w x y .0 refl;
     equal = λ ρ π w v f g c d x y z. same-window (state ρ) (state π) (state-valid ρ (f .0)) (state-valid π (g .0)) w v x y .1 z;

@@ -5,7 +5,7 @@ use lib.ListN.{length, getD}
 use Rattle.letters.specs.Capacity.{mostPairs}
 use Rattle.refusals.specs.Order.{mostPoints}
 use Rattle.records.specs.Records.{recordBytes}
-use Rattle.index.specs.Index.{Indexed}
+use Rattle.index.specs.Index.{IndexedPairs}
 use Rattle.index.proofs.Theory.IndexLaws.{index-begins}
 use Rattle.exploration.specs.Moves.{noPoint}
 use Rattle.exploration.specs.Exploring.{exploreFrom, exploreOf}
@@ -25,7 +25,7 @@ use Rattle.window.proofs.fresh.Reads as fresh-reads
 abbrev Inv-loop : tie.InvT-loop
 Inv-loop end table₀ n points head₀ link₀ w₀ count₀ d₀ table head link w count d =
     (1 ≤ count) × (count ≤ n) × (d ≤ 2 * count) × (n ≤ mostPairs) × (recordBytes * n ≤ length table₀) × (length table ≡ length table₀)
-    × (exploreFrom (2 * n - d) points end n count d table ≡ exploreOf points end n table₀) × Carried w d table × Indexed table head link count
+    × (exploreFrom (2 * n - d) points end n count d table ≡ exploreOf points end n table₀) × Carried w d table × IndexedPairs table head link count
 
 abbrev μ-loop : tie.MeasureT-loop
 μ-loop end table₀ n points head₀ link₀ w₀ count₀ d₀ table head link w count d = 2 * n - d

@@ -6,7 +6,7 @@ use Prim.Native.Nat.{ℕ, _≤_, _<_}
 use mathlib.Core.List.{List, _++_}
 use lib.ListN.{length, drop}
 use Rattle.semantics.specs.Models.{Feasible}
-use Rattle.verdicts.proofs.Theory.Settled.{one-way}
+use Rattle.verdict_theory.proofs.Theory.Settled.{one-way}
 use Rattle.macros.proofs.Theory.Numbers.{three}
 use Rattle.exports.specs.Judging.{verdictNumbers, Judging}
 

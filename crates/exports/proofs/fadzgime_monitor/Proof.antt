@@ -1,8 +1,8 @@
 -- `fadzgime_monitor` meets its contract: an answer that is too short stays; else the numbers of what the run answers are stored.
 use mathlib.Core.Path.{subst}
 use borrow.Author.Needs.{needs}
-use Rattle.monitoring.specs.Demand2.{Demand2}
-use Rattle.monitoring.specs.Run.{verdictAnswer}
+use Rattle.streaming.specs.Demand2.{Demand2}
+use Rattle.streaming.specs.Run.{runAnswer}
 use Rattle.exports.proofs.Laws.{monitored-short, monitored-stored, too-short}
 use Rattle.exports.proofs.fadzgime_monitor.Statement.{statement}
 use Rattle.exports.proofs.fadzgime_monitor.Tie as tie
@@ -33,7 +33,7 @@ returns-2 c =
     let bytes = judged .before .before .before .before .args .trace .now in
     let answer = judged .judge-trace .ensures in (
       monitored-stored _ _ _ _ _ (answer .0) (numbered .run-numbers .ensures) (search needs) (judged .before .if1 .left) (stored .store .ensures),
-      λ _. subst (λ v. Demand2 bytes (verdictAnswer v)) (answer .0) (answer .1),
+      λ _. subst (λ v. Demand2 bytes (runAnswer v)) (answer .0) (answer .1),
     )
 
 pub fadzgime-monitor-spec : {M : Type 1} → statement M

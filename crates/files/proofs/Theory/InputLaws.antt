@@ -14,9 +14,9 @@ use Rattle.files.specs.declared.OneRead.{OneRead}
 use Rattle.files.specs.declared.OneRead.the-variants.{Bytes, End, Failed}
 use Rattle.files.specs.declared.Input.{Input}
 use Rattle.files.specs.declared.Input.the-variants.{Ended, Full}
-use Rattle.files.specs.declared.Progress.{Progress}
-use Rattle.files.specs.declared.Progress.the-variants.{More, Over}
-use Rattle.files.specs.Input.{meaning, given, Gave, Stored, count, following, Reads, full, over, more, Received}
+use Rattle.files.specs.declared.AfterRead.{AfterRead}
+use Rattle.files.specs.declared.AfterRead.the-variants.{More, Over}
+use Rattle.files.specs.Input.{meaning, given, Gave, Stored, readCount, following, ReadSequence, Received}
 use Rattle.files.proofs.Theory.Input.{Short}
 
 meaning-gave : (z : ℤ) (most : ℕ) → 0 < most → Gave most (meaning z most)
@@ -41,15 +41,15 @@ gave-wider most room End l h = tt
 gave-wider most room Failed l h = tt
 
 -- ── one read after the other ──
-abbrev overOf : Progress → Input
+abbrev overOf : AfterRead → Input
 overOf (More n) = Full
 overOf (Over i) = i
 
-abbrev moreOf : Progress → ℕ
+abbrev moreOf : AfterRead → ℕ
 moreOf (More n) = n
 moreOf (Over i) = 0
 
-abbrev isMore : Progress → Bool
+abbrev isMore : AfterRead → Bool
 isMore (More n) = true
 isMore (Over i) = false
 
@@ -69,23 +69,23 @@ following-none (Bytes k) done i e = absurd (more-over e)
 following-none End done i e = refl
 following-none Failed done i e = refl
 
-following-over : (r : OneRead) (done room : ℕ) (i : Input) → following r done ≡ Over i → (count i room ≡ done) × (done < room → Short i room)
+following-over : (r : OneRead) (done room : ℕ) (i : Input) → following r done ≡ Over i → (readCount i room ≡ done) × (done < room → Short i room)
 unfolding following
 following-over (Bytes k) done room i e = absurd (more-over e)
-following-over End done room i e = subst (λ (j : Input). (count j room ≡ done) × (done < room → Short j room)) (ap overOf e) (refl, λ l. l)
-following-over Failed done room i e = subst (λ (j : Input). (count j room ≡ done) × (done < room → Short j room)) (ap overOf e) (refl, λ l. l)
+following-over End done room i e = subst (λ (j : Input). (readCount j room ≡ done) × (done < room → Short j room)) (ap overOf e) (refl, λ l. l)
+following-over Failed done room i e = subst (λ (j : Input). (readCount j room ≡ done) × (done < room → Short j room)) (ap overOf e) (refl, λ l. l)
 
-reads-short : {room done : ℕ} {r : Input} → Reads room r done → Short r room
-reads-short {room} (full e) = subst (λ (i : Input). Short i room) (sym e) tt
-reads-short {room} {done} {r} (over answer l f) = following-over answer done room r f .1 l
-reads-short (more answer n f p w x) = reads-short x
+reads-short : {room done : ℕ} {r : Input} → ReadSequence room r done → Short r room
+reads-short {room} (ReadSequence.full e) = subst (λ (i : Input). Short i room) (sym e) tt
+reads-short {room} {done} {r} (ReadSequence.over answer l f) = following-over answer done room r f .1 l
+reads-short (ReadSequence.more answer n f p w x) = reads-short x
 
 -- So far `done` bytes were read into the buffer's front: what follows them follows from the beginning.
 pub record SoFar (entry : List ℕ) (done : ℕ) (buffer : List ℕ) : Type 0 where
   pub length-kept : length buffer ≡ length entry
   pub within : done ≤ length entry
   pub behind : drop done buffer ≡ drop done entry
-  pub onward : (r : Input) → Reads (length entry) r done → Reads (length entry) r 0
+  pub onward : (r : Input) → ReadSequence (length entry) r done → ReadSequence (length entry) r 0
 
 pub so-far-none : (entry : List ℕ) → SoFar entry 0 entry
 so-far-none entry = record { length-kept = refl; within = omega arith; behind = refl; onward = λ r x. x }
@@ -117,7 +117,7 @@ module _ (entry buffer piece exit : List ℕ) (done : ℕ) (r : OneRead) (s : So
           length-kept = stored-length;
           within = all;
           behind = subst (λ (k : ℕ). drop (done + k) exit ≡ drop (done + k) entry) e stored-behind;
-          onward = λ i x. s .onward i (more r n f some all x);
+          onward = λ i x. s .onward i (ReadSequence.more r n f some all x);
         },
         some,
       )
@@ -125,9 +125,9 @@ module _ (entry buffer piece exit : List ℕ) (done : ℕ) (r : OneRead) (s : So
   -- It was the last.
   pub received : (i : Input) → following r done ≡ Over i → done < length entry → Received entry i exit
   received i f l =
-      let e : done + given r ≡ count i (length entry) = omega (arith, following-none r done i f, following-over r done (length entry) i f .0) in
+      let e : done + given r ≡ readCount i (length entry) = omega (arith, following-none r done i f, following-over r done (length entry) i f .0) in
       record {
-        reads = s .onward i (over r l f);
+        reads = s .onward i (ReadSequence.over r l f);
         length-kept = stored-length;
         behind = subst (λ (k : ℕ). drop k exit ≡ drop k entry) e stored-behind;
       }
@@ -137,7 +137,7 @@ pub received-full : (entry buffer : List ℕ) (done : ℕ) → SoFar entry done 
 received-full entry buffer done s l =
     let e : done ≡ length entry = omega (arith, s .within) in
     record {
-      reads = s .onward Full (subst (Reads (length entry) Full) (sym e) (full refl));
+      reads = s .onward Full (subst (ReadSequence (length entry) Full) (sym e) (ReadSequence.full refl));
       length-kept = s .length-kept;
       behind = subst (λ (k : ℕ). drop k buffer ≡ drop k entry) e (s .behind);
     }

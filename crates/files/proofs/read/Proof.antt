@@ -6,7 +6,7 @@ use mathlib.Core.List.{List}
 use Prim.Native.Nat.{ℕ, _+_, _-_, _<_}
 use lib.ListN.{length}
 use Rattle.files.specs.declared.Input.{Input}
-use Rattle.files.specs.declared.Progress.the-variants.{More, Over}
+use Rattle.files.specs.declared.AfterRead.the-variants.{More, Over}
 use Rattle.files.specs.Input.{Received}
 use Rattle.files.proofs.Theory.InputLaws.{SoFar, so-far-none, so-far-more, received, received-full}
 use Rattle.files.proofs.read.Statement.{statement}

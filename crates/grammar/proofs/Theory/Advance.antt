@@ -10,21 +10,21 @@ use Rattle.tokens.specs.Tokens.{tokenAt}
 use Rattle.tokens.proofs.Theory.TokensLaws.{token-advance}
 use Rattle.grammar.specs.Grammar.{statementTokens, conditionTokens}
 use Rattle.grammar.specs.Reading.{got, condition, statement, block, bracesT}
-use Rattle.grammar.specs.Spelled.{Spells, none, more}
+use Rattle.grammar.specs.Spelled.{Spells, Arities}
 use Rattle.grammar.proofs.Theory.Sound.{condition-sound, statement-sound, block-sound, braces-sound, ReadStatement}
 
 module _ (s : List ℕ) where
   pub spells-mono : {at e : ℕ} {ks : List ℕ} → Spells s at ks e → at ≤ e
-  spells-mono none = omega arith
-  spells-mono (more {at} h l p) = let a = token-advance s at (subst (λ n. 2 ≤ n) (sym h) l) in omega (arith, spells-mono p)
+  spells-mono Spells.none = omega arith
+  spells-mono (Spells.more {at} h l p) = let a = token-advance s at (subst (λ n. 2 ≤ n) (sym h) l) in omega (arith, spells-mono p)
 
   spells-within : {at k e : ℕ} {ks : List ℕ} → Spells s at (k ∷ ks) e → (at < e) × (at < length s)
-  spells-within (more {at} h l p) = let a = token-advance s at (subst (λ n. 2 ≤ n) (sym h) l) in (omega (arith, spells-mono p), omega arith)
+  spells-within (Spells.more {at} h l p) = let a = token-advance s at (subst (λ n. 2 ≤ n) (sym h) l) in (omega (arith, spells-mono p), omega arith)
 
   -- there are no more tokens than bytes
   pub spells-bounded : {at e : ℕ} {ks : List ℕ} → Spells s at ks e → length ks ≤ length s - at
-  spells-bounded none = omega arith
-  spells-bounded (more {at} h l p) = let a = token-advance s at (subst (λ n. 2 ≤ n) (sym h) l) in omega (arith, spells-bounded p)
+  spells-bounded Spells.none = omega arith
+  spells-bounded (Spells.more {at} h l p) = let a = token-advance s at (subst (λ n. 2 ≤ n) (sym h) l) in omega (arith, spells-bounded p)
 
   pub condition-on : (rs : List ℕ) (at : ℕ) (c : Condition) (e : ℕ) → condition s rs at ≡ got c e → (at < e) × (at < length s)
   condition-on rs at c e h = go c (condition-sound s rs [] [] at c e h .1)

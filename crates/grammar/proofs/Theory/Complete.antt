@@ -15,10 +15,10 @@ use Rattle.tokens.specs.Tokens.{tokenAt}
 use Rattle.tokens.specs.Words.{isName}
 use Rattle.tokens.specs.Words as word
 use Rattle.tokens.proofs.Theory.WordsLaws.{not-word}
-use Rattle.grammar.specs.Grammar.{header, takesTwo, conditionTokens, argumentTokens, letterTokens, statementTokens, elseTokens, blockTokens, Inside, Nests, NestsElse, NestsBlock}
+use Rattle.grammar.specs.Grammar.{header, takesTwo, conditionTokens, argumentTokens, letterTokens, statementTokens, elseTokens, blockTokens, OneDeeper, Nests, NestsElse, NestsBlock}
 use Rattle.grammar.proofs.Theory.HeaderLaws.{arity-one}
-use Rattle.grammar.specs.Reading.{Got, got, onward, indexOf, useT, signT, expect, ended, condition, argumentsT, value, assignment, tested, bracesT, elseT, statementT, block, statement, closing}
-use Rattle.grammar.specs.Spelled.{Spells, none, more, Declared}
+use Rattle.grammar.specs.Reading.{Got, got, andThen, indexOf, useT, signT, expect, ended, condition, argumentsT, rightHandSide, assignment, endedCondition, bracesT, elseT, statementT, block, statement, closing}
+use Rattle.grammar.specs.Spelled.{Spells, Arities, Declared}
 use Rattle.grammar.proofs.Theory.Sound.{index-at}
 
 pub index-below : (k : ℕ) (l : List ℕ) (i : ℕ) → i < length l → k ≡ getD l i 0 → indexOf k l < length l
@@ -54,17 +54,17 @@ weight-some (while c b) h = omega arith
 
 module _ (s : List ℕ) where
   pub spells-split : (ks : List ℕ) {ls : List ℕ} {at e : ℕ} → Spells s at (ks ++ ls) e → (m : ℕ) × Spells s at ks m × Spells s m ls e
-  spells-split [] {at = at} p = (at, none, p)
-  spells-split (k ∷ ks) (more h l p) = let (m, q, r) = spells-split ks p in (m, more h l q, r)
+  spells-split [] {at = at} p = (at, Spells.none, p)
+  spells-split (k ∷ ks) (Spells.more h l p) = let (m, q, r) = spells-split ks p in (m, Spells.more h l q, r)
 
   pub spells-key : {at k e : ℕ} {ks : List ℕ} → Spells s at (k ∷ ks) e → tokenAt s at .key ≡ k
-  spells-key (more h l p) = h
+  spells-key (Spells.more h l p) = h
 
   pub spells-rest : {at k e : ℕ} {ks : List ℕ} → Spells s at (k ∷ ks) e → Spells s (tokenAt s at .end) ks e
-  spells-rest (more h l p) = p
+  spells-rest (Spells.more h l p) = p
 
   pub spells-nil : {at e : ℕ} → Spells s at [] e → at ≡ e
-  spells-nil none = refl
+  spells-nil Spells.none = refl
 
   -- one token
   pub spells-end : {at k e : ℕ} → Spells s at (k ∷ []) e → tokenAt s at .end ≡ e
@@ -84,70 +84,70 @@ module _ (s : List ℕ) where
       rw (ap isName k ∙ d .names i l, lt-ltb _ _ b) (λ n. got (j n) (spells-end p n))
 
   module _ (rs fs ns : List ℕ) (R : Declared rs) (F : Declared fs) where
-    sign-equal : {at e : ℕ} → Spells s at (word.equal ∷ []) e → signT (tokenAt s at) ≡ got true e
-    sign-equal {at} p = rw (eq-eqb (tokenAt s at .key) word.equal (spells-key p)) (ap (got true) (spells-end p))
+    sign-equal : {at e : ℕ} → Spells s at (word.equalKey ∷ []) e → signT (tokenAt s at) ≡ got true e
+    sign-equal {at} p = rw (eq-eqb (tokenAt s at .key) word.equalKey (spells-key p)) (ap (got true) (spells-end p))
 
-    sign-unequal : {at e : ℕ} → Spells s at (word.unequal ∷ []) e → signT (tokenAt s at) ≡ got false e
-    sign-unequal {at} p = rw (ap (λ k. eqb k word.equal) (spells-key p), eq-eqb (tokenAt s at .key) word.unequal (spells-key p)) (ap (got false) (spells-end p))
+    sign-unequal : {at e : ℕ} → Spells s at (word.unequalKey ∷ []) e → signT (tokenAt s at) ≡ got false e
+    sign-unequal {at} p = rw (ap (λ k. eqb k word.equalKey) (spells-key p), eq-eqb (tokenAt s at .key) word.unequalKey (spells-key p)) (ap (got false) (spells-end p))
 
     condition-complete : (c : Condition) {at e : ℕ} → Fits (header rs fs ns) (test c) → Spells s at (conditionTokens rs fs ns c) e → condition s rs at ≡ got c e
     unfolding condition
     condition-complete (equal x y) {at} {e} (l, r) p =
         let (a, p₁, q) = spells-split (getD rs x 0 ∷ []) p in
-        let (b, p₂, p₃) = spells-split (word.equal ∷ []) q in
+        let (b, p₂, p₃) = spells-split (word.equalKey ∷ []) q in
         rw (use-complete rs R l p₁, sign-equal p₂, use-complete rs R r p₃)
     condition-complete (unequal x y) {at} {e} (l, r) p =
         let (a, p₁, q) = spells-split (getD rs x 0 ∷ []) p in
-        let (b, p₂, p₃) = spells-split (word.unequal ∷ []) q in
+        let (b, p₂, p₃) = spells-split (word.unequalKey ∷ []) q in
         rw (use-complete rs R l p₁, sign-unequal p₂, use-complete rs R r p₃)
 
-    tested-complete : (c : Condition) {at e : ℕ} → Fits (header rs fs ns) (test c) → Spells s at (conditionTokens rs fs ns c ++ word.semicolon ∷ []) e → tested s rs at ≡ got c e
-    unfolding tested
+    tested-complete : (c : Condition) {at e : ℕ} → Fits (header rs fs ns) (test c) → Spells s at (conditionTokens rs fs ns c ++ word.semicolonKey ∷ []) e → endedCondition s rs at ≡ got c e
+    unfolding endedCondition
     tested-complete c {at} {e} o p =
         let (m, p₁, p₂) = spells-split (conditionTokens rs fs ns c) p in
         rw (condition-complete c o p₁, ended-complete c p₂)
 
     -- the value of a copy: no `(` follows
-    copy-complete : (x y : ℕ) {at e : ℕ} → y < length rs → Spells s at (getD rs y 0 ∷ []) e → eqb (tokenAt s e .key) word.lparen ≡ false → value s rs fs ns x at ≡ got (Copy x y) e
-    unfolding value
-    copy-complete x y {at} {e} l p h = rw (ap (λ n. eqb (tokenAt s n .key) word.lparen) (spells-end p) ∙ h, use-complete rs R l p)
+    copy-complete : (x y : ℕ) {at e : ℕ} → y < length rs → Spells s at (getD rs y 0 ∷ []) e → eqb (tokenAt s e .key) word.lparenKey ≡ false → rightHandSide s rs fs ns x at ≡ got (Copy x y) e
+    unfolding rightHandSide
+    copy-complete x y {at} {e} l p h = rw (ap (λ n. eqb (tokenAt s n .key) word.lparenKey) (spells-end p) ∙ h, use-complete rs R l p)
 
     arguments-complete : (x f y z : ℕ) {at e : ℕ} → z < length rs → (takesTwo rs fs ns f ≡ false → y ≡ z) → Spells s at (argumentTokens rs fs ns f z) e → argumentsT s rs (getD ns f 0) x f y (tokenAt s at) ≡ got (Apply x f y z) e
     unfolding argumentsT
     arguments-complete x f y z {at} {e} l same p =
         byTest (eqb (getD ns f 0) 2)
         (λ u.
-        let q : Spells s at (word.comma ∷ getD rs z 0 ∷ word.rparen ∷ []) e = rw u at p in
+        let q : Spells s at (word.commaKey ∷ getD rs z 0 ∷ word.rparenKey ∷ []) e = rw u at p in
         let (m, p₁, p₂) = spells-split (getD rs z 0 ∷ []) (spells-rest q) in
-        rw (eq-eqb _ word.comma (spells-key q), u, use-complete rs R l p₁, expect-complete p₂))
+        rw (eq-eqb _ word.commaKey (spells-key q), u, use-complete rs R l p₁, expect-complete p₂))
         λ u.
-        let q : Spells s at (word.rparen ∷ []) e = rw u at p in
-        rw (ap (λ k. eqb k word.comma) (spells-key q), eq-eqb _ word.rparen (spells-key q), u) (λ i. got (Apply x f y (same u i)) (spells-end q i))
+        let q : Spells s at (word.rparenKey ∷ []) e = rw u at p in
+        rw (ap (λ k. eqb k word.commaKey) (spells-key q), eq-eqb _ word.rparenKey (spells-key q), u) (λ i. got (Apply x f y (same u i)) (spells-end q i))
 
-    apply-complete : (x f y z : ℕ) {at e : ℕ} → Fits (header rs fs ns) (Apply x f y z) → Spells s at (getD fs f 0 ∷ word.lparen ∷ getD rs y 0 ∷ argumentTokens rs fs ns f z) e → value s rs fs ns x at ≡ got (Apply x f y z) e
-    unfolding value
+    apply-complete : (x f y z : ℕ) {at e : ℕ} → Fits (header rs fs ns) (Apply x f y z) → Spells s at (getD fs f 0 ∷ word.lparenKey ∷ getD rs y 0 ∷ argumentTokens rs fs ns f z) e → rightHandSide s rs fs ns x at ≡ got (Apply x f y z) e
+    unfolding rightHandSide
     apply-complete x f y z {at} {e} (lx, lf, ly, lz, same) p =
         let (a, p₁, q) = spells-split (getD fs f 0 ∷ []) p in
-        let (b, p₂, o) = spells-split (word.lparen ∷ []) q in
+        let (b, p₂, o) = spells-split (word.lparenKey ∷ []) q in
         let (c, p₃, p₄) = spells-split (getD rs y 0 ∷ []) o in
-        let t : tokenAt s (tokenAt s at .end) .key ≡ word.lparen = ap (λ n. tokenAt s n .key) (spells-end p₁) ∙ spells-key p₂ in
-        rw (eq-eqb _ word.lparen t, use-complete fs F lf p₁, expect-complete p₂, use-complete rs R ly p₃)
+        let t : tokenAt s (tokenAt s at .end) .key ≡ word.lparenKey = ap (λ n. tokenAt s n .key) (spells-end p₁) ∙ spells-key p₂ in
+        rw (eq-eqb _ word.lparenKey t, use-complete fs F lf p₁, expect-complete p₂, use-complete rs R ly p₃)
         (arguments-complete x f y z lz (λ u. same (arity-one rs fs ns f u)) p₄)
 
-    copied-complete : (x y : ℕ) {at e : ℕ} → x < length rs → y < length rs → Spells s at (getD rs x 0 ∷ word.becomes ∷ getD rs y 0 ∷ word.semicolon ∷ []) e → assignment s rs fs ns at ≡ got (Copy x y) e
+    copied-complete : (x y : ℕ) {at e : ℕ} → x < length rs → y < length rs → Spells s at (getD rs x 0 ∷ word.becomesKey ∷ getD rs y 0 ∷ word.semicolonKey ∷ []) e → assignment s rs fs ns at ≡ got (Copy x y) e
     unfolding assignment
     copied-complete x y {at} {e} l r p =
         let (a, p₁, q) = spells-split (getD rs x 0 ∷ []) p in
-        let (b, p₂, u) = spells-split (word.becomes ∷ []) q in
+        let (b, p₂, u) = spells-split (word.becomesKey ∷ []) q in
         let (c, p₃, p₄) = spells-split (getD rs y 0 ∷ []) u in
-        rw (use-complete rs R l p₁, expect-complete p₂, copy-complete x y r p₃ (ap (λ k. eqb k word.lparen) (spells-key p₄)), ended-complete (Copy x y) p₄)
+        rw (use-complete rs R l p₁, expect-complete p₂, copy-complete x y r p₃ (ap (λ k. eqb k word.lparenKey) (spells-key p₄)), ended-complete (Copy x y) p₄)
 
     applied-complete : (x f y z : ℕ) {at e : ℕ} → Fits (header rs fs ns) (Apply x f y z) → Spells s at (letterTokens rs fs ns (Apply x f y z)) e → assignment s rs fs ns at ≡ got (Apply x f y z) e
     unfolding assignment
     applied-complete x f y z {at} {e} o p =
         let (a, p₁, q) = spells-split (getD rs x 0 ∷ []) p in
-        let (b, p₂, u) = spells-split (word.becomes ∷ []) q in
-        let (c, p₃, p₄) = spells-split (getD fs f 0 ∷ word.lparen ∷ getD rs y 0 ∷ argumentTokens rs fs ns f z) u in
+        let (b, p₂, u) = spells-split (word.becomesKey ∷ []) q in
+        let (c, p₃, p₄) = spells-split (getD fs f 0 ∷ word.lparenKey ∷ getD rs y 0 ∷ argumentTokens rs fs ns f z) u in
         rw (use-complete rs R (o .0) p₁, expect-complete p₂, apply-complete x f y z o p₃, ended-complete (Apply x f y z) p₄)
 
     -- ---- blocks
@@ -158,61 +158,61 @@ module _ (s : List ℕ) where
 
     -- `else` does not follow
     abbrev pub NoElse : ℕ → Type 0
-    NoElse e = eqb (tokenAt s e .key) word.else ≡ false
+    NoElse e = eqb (tokenAt s e .key) word.elseKey ≡ false
 
     module _ (inner : ℕ → ℕ → Got Block) (k : ℕ) where
       -- inner reads the block b, if it takes no more than k calls
       abbrev Reads : Block → Type 0
       Reads b = (d at e : ℕ) → weightBlock b ≤ k → ProperBlock b (header rs fs ns) → NestsBlock b d → Spells s at (blockTokens rs fs ns b) e → Ends e → inner d at ≡ got b e
 
-      braces-complete : (b : Block) → weightBlock b ≤ k → Reads b → (d : ℕ) {at e : ℕ} → ProperBlock b (header rs fs ns) → Inside (λ n. NestsBlock b n) d → Spells s at (word.lbrace ∷ (blockTokens rs fs ns b ++ word.rbrace ∷ [])) e
+      braces-complete : (b : Block) → weightBlock b ≤ k → Reads b → (d : ℕ) {at e : ℕ} → ProperBlock b (header rs fs ns) → OneDeeper (λ n. NestsBlock b n) d → Spells s at (word.lbraceKey ∷ (blockTokens rs fs ns b ++ word.rbraceKey ∷ [])) e
           → bracesT s rs fs ns inner d (tokenAt s at) ≡ got b e
       braces-complete b w r zero u o p = absurd o
       braces-complete b w r (suc d) {at} {e} u o p =
           let (m, p₁, p₂) = spells-split (blockTokens rs fs ns b) (spells-rest p) in
-          rw (eq-eqb _ word.lbrace (spells-key p), r d (tokenAt s at .end) m w u o p₁ (ap (λ k. closing s rs fs ns k) (spells-key p₂)), ended-complete b p₂)
+          rw (eq-eqb _ word.lbraceKey (spells-key p), r d (tokenAt s at .end) m w u o p₁ (ap (λ k. closing s rs fs ns k) (spells-key p₂)), ended-complete b p₂)
 
       else-complete : (o : Else) → weightElse o ≤ k → ((x : Block) → Reads x) → (d : ℕ) {at e : ℕ} → ProperElse o (header rs fs ns) → NestsElse o d → Spells s at (elseTokens rs fs ns o) e → NoElse e
           → elseT s rs fs ns inner d at (tokenAt s at) ≡ got o e
       unfolding elseTokens weightElse
-      else-complete absent w r d {at} {e} u k p h = rw (ap (λ n. eqb (tokenAt s n .key) word.else) (spells-nil p) ∙ h) (ap (got absent) (spells-nil p))
-      else-complete (present x) w r d {at} {e} u k p h = rw (eq-eqb _ word.else (spells-key p), braces-complete x w (r x) d u k (spells-rest p))
+      else-complete absent w r d {at} {e} u k p h = rw (ap (λ n. eqb (tokenAt s n .key) word.elseKey) (spells-nil p) ∙ h) (ap (got absent) (spells-nil p))
+      else-complete (present x) w r d {at} {e} u k p h = rw (eq-eqb _ word.elseKey (spells-key p), braces-complete x w (r x) d u k (spells-rest p))
 
       -- a name at the front of a statement
-      named : (at : ℕ) → isName (tokenAt s at .key) ≡ true → (d : ℕ) → statementT s rs fs ns inner d at (tokenAt s at) ≡ onward (assignment s rs fs ns at) λ l e. got (perform l) e
-      named at n d = rw (n, not-word _ word.skip refl n, not-word _ word.assume refl n, not-word _ word.assert refl n, not-word _ word.if refl n, not-word _ word.while refl n)
+      named : (at : ℕ) → isName (tokenAt s at .key) ≡ true → (d : ℕ) → statementT s rs fs ns inner d at (tokenAt s at) ≡ andThen (assignment s rs fs ns at) λ l e. got (perform l) e
+      named at n d = rw (n, not-word _ word.skipKey refl n, not-word _ word.assumeKey refl n, not-word _ word.assertKey refl n, not-word _ word.ifKey refl n, not-word _ word.whileKey refl n)
 
       -- `assume` at the front
-      assumed : (c : Condition) {at e : ℕ} → Fits (header rs fs ns) (test c) → Spells s at (word.assume ∷ (conditionTokens rs fs ns c ++ word.semicolon ∷ [])) e → (d : ℕ) → statementT s rs fs ns inner d at (tokenAt s at) ≡ got (perform (test c)) e
-      assumed c o p d = let y = spells-key p in rw (ap (λ k. eqb k word.skip) y, eq-eqb _ word.assume y, tested-complete c o (spells-rest p))
+      assumed : (c : Condition) {at e : ℕ} → Fits (header rs fs ns) (test c) → Spells s at (word.assumeKey ∷ (conditionTokens rs fs ns c ++ word.semicolonKey ∷ [])) e → (d : ℕ) → statementT s rs fs ns inner d at (tokenAt s at) ≡ got (perform (test c)) e
+      assumed c o p d = let y = spells-key p in rw (ap (λ k. eqb k word.skipKey) y, eq-eqb _ word.assumeKey y, tested-complete c o (spells-rest p))
 
       statement-complete-by : (c : Statement) (d : ℕ) {at e : ℕ} → weight c ≤ suc k → ((b : Block) → Reads b) → Proper c (header rs fs ns) → Nests c d → Spells s at (statementTokens rs fs ns c) e → NoElse e
           → statementT s rs fs ns inner d at (tokenAt s at) ≡ got c e
       unfolding statementTokens weight
-      statement-complete-by skip d w r u o p h = rw (eq-eqb _ word.skip (spells-key p), ended-complete skip (spells-rest p))
+      statement-complete-by skip d w r u o p h = rw (eq-eqb _ word.skipKey (spells-key p), ended-complete skip (spells-rest p))
       statement-complete-by (perform (Copy x y)) d {at} w r (l, g) o p h = rw (named at (ap isName (spells-key p) ∙ R .names x l) d, copied-complete x y l g p)
       statement-complete-by (perform (Apply x f y z)) d {at} w r u o p h = rw (named at (ap isName (spells-key p) ∙ R .names x (u .0)) d, applied-complete x f y z u p)
       statement-complete-by (perform (Equal x y)) d w r u o p h = assumed (equal x y) u p d
       statement-complete-by (perform (Unequal x y)) d w r u o p h = assumed (unequal x y) u p d
       statement-complete-by (assert c) d w r u o p h =
           let y = spells-key p in
-          rw (ap (λ k. eqb k word.skip) y, ap (λ k. eqb k word.assume) y, eq-eqb _ word.assert y, tested-complete c u (spells-rest p))
+          rw (ap (λ k. eqb k word.skipKey) y, ap (λ k. eqb k word.assumeKey) y, eq-eqb _ word.assertKey y, tested-complete c u (spells-rest p))
       statement-complete-by (if c b x) d {at} {e} w r (l, u, v) (o, q) p h =
           let (m, p₁, p₂) = spells-split (conditionTokens rs fs ns c) (spells-rest p) in
-          let (a, p₃, p₄) = spells-split (word.lbrace ∷ (blockTokens rs fs ns b ++ word.rbrace ∷ [])) (subst (λ l. Spells s m (word.lbrace ∷ l) e) (sym (append-assoc (blockTokens rs fs ns b) (word.rbrace ∷ []) (elseTokens rs fs ns x))) p₂) in
+          let (a, p₃, p₄) = spells-split (word.lbraceKey ∷ (blockTokens rs fs ns b ++ word.rbraceKey ∷ [])) (subst (λ l. Spells s m (word.lbraceKey ∷ l) e) (sym (append-assoc (blockTokens rs fs ns b) (word.rbraceKey ∷ []) (elseTokens rs fs ns x))) p₂) in
           let y = spells-key p in
-          rw (ap (λ k. eqb k word.skip) y, ap (λ k. eqb k word.assume) y, ap (λ k. eqb k word.assert) y, eq-eqb _ word.if y, condition-complete c l p₁, braces-complete b (omega arith) (r b) d u o p₃, else-complete x (omega arith) r d v q p₄ h)
+          rw (ap (λ k. eqb k word.skipKey) y, ap (λ k. eqb k word.assumeKey) y, ap (λ k. eqb k word.assertKey) y, eq-eqb _ word.ifKey y, condition-complete c l p₁, braces-complete b (omega arith) (r b) d u o p₃, else-complete x (omega arith) r d v q p₄ h)
       statement-complete-by (while c b) d w r (l, u) o p h =
           let (m, p₁, p₂) = spells-split (conditionTokens rs fs ns c) (spells-rest p) in
           let y = spells-key p in
-          rw (ap (λ k. eqb k word.skip) y, ap (λ k. eqb k word.assume) y, ap (λ k. eqb k word.assert) y, ap (λ k. eqb k word.if) y, eq-eqb _ word.while y, condition-complete c l p₁, braces-complete b (omega arith) (r b) d u o p₂)
+          rw (ap (λ k. eqb k word.skipKey) y, ap (λ k. eqb k word.assumeKey) y, ap (λ k. eqb k word.assertKey) y, ap (λ k. eqb k word.ifKey) y, eq-eqb _ word.whileKey y, condition-complete c l p₁, braces-complete b (omega arith) (r b) d u o p₂)
 
     -- the first token of a statement ends no block, and is not `else` and not `funs`
     abbrev Head : ℕ → Type 0
-    Head k = (closing s rs fs ns k ≡ false) × (eqb k word.else ≡ false) × (eqb k word.funs ≡ false)
+    Head k = (closing s rs fs ns k ≡ false) × (eqb k word.elseKey ≡ false) × (eqb k word.funsKey ≡ false)
 
     name-head : (k : ℕ) → isName k ≡ true → Head k
-    name-head k n = (rw (not-word k word.rbrace refl n, not-word k 0 refl n), not-word k word.else refl n, not-word k word.funs refl n)
+    name-head k n = (rw (not-word k word.rbraceKey refl n, not-word k 0 refl n), not-word k word.elseKey refl n, not-word k word.funsKey refl n)
 
     head : (c : Statement) {at e : ℕ} → Proper c (header rs fs ns) → Spells s at (statementTokens rs fs ns c) e → Head (tokenAt s at .key)
     unfolding statementTokens
@@ -226,8 +226,8 @@ module _ (s : List ℕ) where
     head (while c b) o p = subst Head (sym (spells-key p)) (refl, refl, refl)
 
     ends-no-else : (e : ℕ) → Ends e → NoElse e
-    ends-no-else e h = byTest (eqb (tokenAt s e .key) word.else)
-        (λ t. let j : tokenAt s e .key ≡ word.else = eqb-true (tokenAt s e .key) word.else t in let q : closing s rs fs ns word.else ≡ true = sym (ap (λ k. closing s rs fs ns k) j) ∙ h in let z : _≡_ {A = ℕ} 0 1 = cc in absurd (omega arith))
+    ends-no-else e h = byTest (eqb (tokenAt s e .key) word.elseKey)
+        (λ t. let j : tokenAt s e .key ≡ word.elseKey = eqb-true (tokenAt s e .key) word.elseKey t in let q : closing s rs fs ns word.elseKey ≡ true = sym (ap (λ k. closing s rs fs ns k) j) ∙ h in let z : _≡_ {A = ℕ} 0 1 = cc in absurd (omega arith))
         λ t. t
 
     block-no-else : (b : Block) {at e : ℕ} → ProperBlock b (header rs fs ns) → Spells s at (blockTokens rs fs ns b) e → Ends e → NoElse at
@@ -236,9 +236,9 @@ module _ (s : List ℕ) where
     block-no-else (c then b) (o, q) p h = let (m, p₁, p₂) = spells-split (statementTokens rs fs ns c) p in head c o p₁ .1
 
     -- `funs` begins no block
-    pub block-no-funs : (b : Block) {at e : ℕ} → ProperBlock b (header rs fs ns) → Spells s at (blockTokens rs fs ns b) e → tokenAt s e .key ≡ 0 → eqb (tokenAt s at .key) word.funs ≡ false
+    pub block-no-funs : (b : Block) {at e : ℕ} → ProperBlock b (header rs fs ns) → Spells s at (blockTokens rs fs ns b) e → tokenAt s e .key ≡ 0 → eqb (tokenAt s at .key) word.funsKey ≡ false
     unfolding blockTokens
-    block-no-funs empty o p z = ap (λ n. eqb (tokenAt s n .key) word.funs) (spells-nil p) ∙ ap (λ k. eqb k word.funs) z
+    block-no-funs empty o p z = ap (λ n. eqb (tokenAt s n .key) word.funsKey) (spells-nil p) ∙ ap (λ k. eqb k word.funsKey) z
     block-no-funs (c then b) (o, q) p z = let (m, p₁, p₂) = spells-split (statementTokens rs fs ns c) p in head c o p₁ .2
 
     mutual

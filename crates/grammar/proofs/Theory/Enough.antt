@@ -15,114 +15,114 @@ use Rattle.tokens.specs.Tokens.{tokenAt}
 use Rattle.tokens.proofs.Theory.TokensLaws.{token-advance, token-before-end}
 use Rattle.tokens.specs.Words.{isName}
 use Rattle.tokens.specs.Words as word
-use Rattle.grammar.specs.Reading.{Got, got, refused, exhausted, onward, indexOf, useT, signT, expect, ended, condition, argumentsT, value, assignment, tested, bracesT, elseT, statementT, block, statement, closing, listedT, known, registers, arityOf, functions, functionsT}
+use Rattle.grammar.specs.Reading.{Got, got, exhausted, andThen, indexOf, useT, signT, expect, ended, condition, argumentsT, rightHandSide, assignment, endedCondition, bracesT, elseT, statementT, block, statement, closing, listedT, isDeclared, registerNames, arityOf, functionEntries, functionsT}
 use Rattle.grammar.proofs.Theory.Reading.{readText, readMacro}
 use Rattle.grammar.proofs.Theory.Sound.{pick-case}
 use Rattle.grammar.proofs.Theory.Advance.{condition-on, statement-on, braces-on}
 
 -- an answer
-abbrev pub Answers : {A : Type 0} → Got A → Type 0
-Answers g = g ≡ exhausted → ⊥
+abbrev pub IsAnswer : {A : Type 0} → Got A → Type 0
+IsAnswer g = g ≡ exhausted → ⊥
 
-got-answers : {A : Type 0} {a : A} {e : ℕ} → Answers (got a e)
+got-answers : {A : Type 0} {a : A} {e : ℕ} → IsAnswer (got a e)
 got-answers h = let z : _≡_ {A = ℕ} 0 1 = cc in omega arith
 
-refused-answers : {A : Type 0} {n p : ℕ} → Answers {A = A} (refused n p)
+refused-answers : {A : Type 0} {n p : ℕ} → IsAnswer {A = A} (Got.refused n p)
 refused-answers h = let z : _≡_ {A = ℕ} 0 1 = cc in omega arith
 
-onward-answers : {A B : Type 0} (g : Got A) (f : A → ℕ → Got B) → Answers g → ((a : A) (e : ℕ) → g ≡ got a e → Answers (f a e)) → Answers (onward g f)
+onward-answers : {A B : Type 0} (g : Got A) (f : A → ℕ → Got B) → IsAnswer g → ((a : A) (e : ℕ) → g ≡ got a e → IsAnswer (f a e)) → IsAnswer (andThen g f)
 onward-answers (got a e) f h k = k a e refl
-onward-answers (refused n p) f h k = refused-answers
+onward-answers (Got.refused n p) f h k = refused-answers
 onward-answers exhausted f h k = absurd (h refl)
 
 module _ (s : List ℕ) where
-  pub expect-answers : (k at : ℕ) → Answers (expect s k at)
+  pub expect-answers : (k at : ℕ) → IsAnswer (expect s k at)
   expect-answers k at h = pick-case (eqb (tokenAt s at .key) k) _ _ _ h (λ _ g. got-answers g) λ _ g. refused-answers g
 
-  ended-answers : {A : Type 0} (k : ℕ) (a : A) (at : ℕ) → Answers (ended s k a at)
+  ended-answers : {A : Type 0} (k : ℕ) (a : A) (at : ℕ) → IsAnswer (ended s k a at)
   ended-answers k a at = onward-answers (expect s k at) _ (expect-answers k at) λ _ _ _. got-answers
 
-  use-answers : (rs : List ℕ) (at : ℕ) → Answers (useT rs (tokenAt s at))
+  use-answers : (rs : List ℕ) (at : ℕ) → IsAnswer (useT rs (tokenAt s at))
   use-answers rs at h =
       pick-case (isName (tokenAt s at .key)) _ _ _ h
       (λ _ g. pick-case (ltb (indexOf (tokenAt s at .key) rs) (length rs)) _ _ _ g (λ _ f. got-answers f) λ _ f. refused-answers f)
       λ _ g. refused-answers g
 
-  sign-answers : (at : ℕ) → Answers (signT (tokenAt s at))
+  sign-answers : (at : ℕ) → IsAnswer (signT (tokenAt s at))
   sign-answers at h =
-      pick-case (eqb (tokenAt s at .key) word.equal) _ _ _ h (λ _ g. got-answers g)
-      λ _ g. pick-case (eqb (tokenAt s at .key) word.unequal) _ _ _ g (λ _ f. got-answers f) λ _ f. refused-answers f
+      pick-case (eqb (tokenAt s at .key) word.equalKey) _ _ _ h (λ _ g. got-answers g)
+      λ _ g. pick-case (eqb (tokenAt s at .key) word.unequalKey) _ _ _ g (λ _ f. got-answers f) λ _ f. refused-answers f
 
-  pub condition-answers : (rs : List ℕ) (at : ℕ) → Answers (condition s rs at)
+  pub condition-answers : (rs : List ℕ) (at : ℕ) → IsAnswer (condition s rs at)
   unfolding condition
   condition-answers rs at =
       onward-answers (useT rs (tokenAt s at)) _ (use-answers rs at) λ x a _.
       onward-answers (signT (tokenAt s a)) _ (sign-answers a) λ q b _.
       onward-answers (useT rs (tokenAt s b)) _ (use-answers rs b) λ _ _ _. got-answers
 
-  arguments-answers : (rs : List ℕ) (n x f y at : ℕ) → Answers (argumentsT s rs n x f y (tokenAt s at))
+  arguments-answers : (rs : List ℕ) (n x f y at : ℕ) → IsAnswer (argumentsT s rs n x f y (tokenAt s at))
   unfolding argumentsT
   arguments-answers rs n x f y at h =
-      pick-case (eqb (tokenAt s at .key) word.comma) _ _ _ h
+      pick-case (eqb (tokenAt s at .key) word.commaKey) _ _ _ h
       (λ _ g. pick-case (eqb n 2) _ _ _ g
-      (λ _. onward-answers (useT rs (tokenAt s (tokenAt s at .end))) _ (use-answers rs (tokenAt s at .end)) λ z e _. ended-answers word.rparen _ e)
+      (λ _. onward-answers (useT rs (tokenAt s (tokenAt s at .end))) _ (use-answers rs (tokenAt s at .end)) λ z e _. ended-answers word.rparenKey _ e)
       λ _ k. refused-answers k)
-      λ _ g. pick-case (eqb (tokenAt s at .key) word.rparen) _ _ _ g
+      λ _ g. pick-case (eqb (tokenAt s at .key) word.rparenKey) _ _ _ g
       (λ _ k. pick-case (eqb n 2) _ _ _ k (λ _ f. refused-answers f) λ _ f. got-answers f)
       λ _ k. refused-answers k
 
   module _ (rs fs ns : List ℕ) where
-    value-answers : (x at : ℕ) → Answers (value s rs fs ns x at)
-    unfolding value
+    value-answers : (x at : ℕ) → IsAnswer (rightHandSide s rs fs ns x at)
+    unfolding rightHandSide
     value-answers x at h =
-        pick-case (eqb (tokenAt s (tokenAt s at .end) .key) word.lparen) _ _ _ h
+        pick-case (eqb (tokenAt s (tokenAt s at .end) .key) word.lparenKey) _ _ _ h
         (λ _. onward-answers (useT fs (tokenAt s at)) _ (use-answers fs at) λ f a _.
-        onward-answers (expect s word.lparen a) _ (expect-answers word.lparen a) λ _ b _.
+        onward-answers (expect s word.lparenKey a) _ (expect-answers word.lparenKey a) λ _ b _.
         onward-answers (useT rs (tokenAt s b)) _ (use-answers rs b) λ y e _. arguments-answers rs (getD ns f 0) x f y e)
         λ _. onward-answers (useT rs (tokenAt s at)) _ (use-answers rs at) λ _ _ _. got-answers
 
-    pub assignment-answers : (at : ℕ) → Answers (assignment s rs fs ns at)
+    pub assignment-answers : (at : ℕ) → IsAnswer (assignment s rs fs ns at)
     unfolding assignment
     assignment-answers at =
         onward-answers (useT rs (tokenAt s at)) _ (use-answers rs at) λ x a _.
-        onward-answers (expect s word.becomes a) _ (expect-answers word.becomes a) λ _ b _.
-        onward-answers (value s rs fs ns x b) _ (value-answers x b) λ l e _. ended-answers word.semicolon l e
+        onward-answers (expect s word.becomesKey a) _ (expect-answers word.becomesKey a) λ _ b _.
+        onward-answers (rightHandSide s rs fs ns x b) _ (value-answers x b) λ l e _. ended-answers word.semicolonKey l e
 
-    pub tested-answers : (at : ℕ) → Answers (tested s rs at)
-    unfolding tested
-    tested-answers at = onward-answers (condition s rs at) _ (condition-answers rs at) λ c e _. ended-answers word.semicolon c e
+    pub tested-answers : (at : ℕ) → IsAnswer (endedCondition s rs at)
+    unfolding endedCondition
+    tested-answers at = onward-answers (condition s rs at) _ (condition-answers rs at) λ c e _. ended-answers word.semicolonKey c e
 
     -- inner answers at every place behind `low`
-    module _ (inner : ℕ → ℕ → Got Block) (low : ℕ) (enough : (d at : ℕ) → low < at → Answers (inner d at)) (on : (d at : ℕ) (b : Block) (e : ℕ) → bracesT s rs fs ns inner d (tokenAt s at) ≡ got b e → at < e) where
-      braces-answers : (d at : ℕ) → low ≤ at → Answers (bracesT s rs fs ns inner d (tokenAt s at))
-      braces-answers zero at l h = pick-case (eqb (tokenAt s at .key) word.lbrace) _ _ _ h (λ _ g. refused-answers g) λ _ g. refused-answers g
+    module _ (inner : ℕ → ℕ → Got Block) (low : ℕ) (enough : (d at : ℕ) → low < at → IsAnswer (inner d at)) (on : (d at : ℕ) (b : Block) (e : ℕ) → bracesT s rs fs ns inner d (tokenAt s at) ≡ got b e → at < e) where
+      braces-answers : (d at : ℕ) → low ≤ at → IsAnswer (bracesT s rs fs ns inner d (tokenAt s at))
+      braces-answers zero at l h = pick-case (eqb (tokenAt s at .key) word.lbraceKey) _ _ _ h (λ _ g. refused-answers g) λ _ g. refused-answers g
       braces-answers (suc d) at l h =
-          pick-case (eqb (tokenAt s at .key) word.lbrace) _ _ _ h
-          (λ t. let k = eqb-true (tokenAt s at .key) word.lbrace t in let a = token-advance s at (omega arith) in
-          onward-answers (inner d (tokenAt s at .end)) _ (enough d (tokenAt s at .end) (omega arith)) λ b e _. ended-answers word.rbrace b e)
+          pick-case (eqb (tokenAt s at .key) word.lbraceKey) _ _ _ h
+          (λ t. let k = eqb-true (tokenAt s at .key) word.lbraceKey t in let a = token-advance s at (omega arith) in
+          onward-answers (inner d (tokenAt s at .end)) _ (enough d (tokenAt s at .end) (omega arith)) λ b e _. ended-answers word.rbraceKey b e)
           λ _ g. refused-answers g
 
-      else-answers : (d at : ℕ) → low ≤ at → Answers (elseT s rs fs ns inner d at (tokenAt s at))
+      else-answers : (d at : ℕ) → low ≤ at → IsAnswer (elseT s rs fs ns inner d at (tokenAt s at))
       else-answers d at l h =
-          pick-case (eqb (tokenAt s at .key) word.else) _ _ _ h
-          (λ t. let k = eqb-true (tokenAt s at .key) word.else t in let a = token-advance s at (omega arith) in
+          pick-case (eqb (tokenAt s at .key) word.elseKey) _ _ _ h
+          (λ t. let k = eqb-true (tokenAt s at .key) word.elseKey t in let a = token-advance s at (omega arith) in
           onward-answers (bracesT s rs fs ns inner d (tokenAt s (tokenAt s at .end))) _ (braces-answers d (tokenAt s at .end) (omega arith)) λ _ _ _. got-answers)
           λ _ g. got-answers g
 
-      statement-answers-by : (d at : ℕ) → low ≡ at → Answers (statementT s rs fs ns inner d at (tokenAt s at))
+      statement-answers-by : (d at : ℕ) → low ≡ at → IsAnswer (statementT s rs fs ns inner d at (tokenAt s at))
       statement-answers-by d at l h =
-          pick-case (eqb (tokenAt s at .key) word.skip) _ _ _ h (λ _. ended-answers word.semicolon skip (tokenAt s at .end))
-          λ _ h. pick-case (eqb (tokenAt s at .key) word.assume) _ _ _ h
-          (λ _. onward-answers (tested s rs (tokenAt s at .end)) _ (tested-answers (tokenAt s at .end)) λ _ _ _. got-answers)
-          λ _ h. pick-case (eqb (tokenAt s at .key) word.assert) _ _ _ h
-          (λ _. onward-answers (tested s rs (tokenAt s at .end)) _ (tested-answers (tokenAt s at .end)) λ _ _ _. got-answers)
-          λ _ h. pick-case (eqb (tokenAt s at .key) word.if) _ _ _ h
-          (λ t. let k = eqb-true (tokenAt s at .key) word.if t in let z = token-advance s at (omega arith) in
+          pick-case (eqb (tokenAt s at .key) word.skipKey) _ _ _ h (λ _. ended-answers word.semicolonKey skip (tokenAt s at .end))
+          λ _ h. pick-case (eqb (tokenAt s at .key) word.assumeKey) _ _ _ h
+          (λ _. onward-answers (endedCondition s rs (tokenAt s at .end)) _ (tested-answers (tokenAt s at .end)) λ _ _ _. got-answers)
+          λ _ h. pick-case (eqb (tokenAt s at .key) word.assertKey) _ _ _ h
+          (λ _. onward-answers (endedCondition s rs (tokenAt s at .end)) _ (tested-answers (tokenAt s at .end)) λ _ _ _. got-answers)
+          λ _ h. pick-case (eqb (tokenAt s at .key) word.ifKey) _ _ _ h
+          (λ t. let k = eqb-true (tokenAt s at .key) word.ifKey t in let z = token-advance s at (omega arith) in
           onward-answers (condition s rs (tokenAt s at .end)) _ (condition-answers rs (tokenAt s at .end)) λ c a g. let y = condition-on s rs (tokenAt s at .end) c a g in
           onward-answers (bracesT s rs fs ns inner d (tokenAt s a)) _ (braces-answers d a (omega arith)) λ b e w. let x = on d a b e w in
           onward-answers (elseT s rs fs ns inner d e (tokenAt s e)) _ (else-answers d e (omega arith)) λ _ _ _. got-answers)
-          λ _ h. pick-case (eqb (tokenAt s at .key) word.while) _ _ _ h
-          (λ t. let k = eqb-true (tokenAt s at .key) word.while t in let z = token-advance s at (omega arith) in
+          λ _ h. pick-case (eqb (tokenAt s at .key) word.whileKey) _ _ _ h
+          (λ t. let k = eqb-true (tokenAt s at .key) word.whileKey t in let z = token-advance s at (omega arith) in
           onward-answers (condition s rs (tokenAt s at .end)) _ (condition-answers rs (tokenAt s at .end)) λ c a g. let y = condition-on s rs (tokenAt s at .end) c a g in
           onward-answers (bracesT s rs fs ns inner d (tokenAt s a)) _ (braces-answers d a (omega arith)) λ _ _ _. got-answers)
           λ _ h. pick-case (isName (tokenAt s at .key)) _ _ _ h
@@ -135,7 +135,7 @@ module _ (s : List ℕ) where
     mutual
       unfolding block
 
-      pub block-answers : (k d at : ℕ) → 2 * (length s - at) ≤ k → Answers (block s rs fs ns (suc k) d at)
+      pub block-answers : (k d at : ℕ) → 2 * (length s - at) ≤ k → IsAnswer (block s rs fs ns (suc k) d at)
       block-answers zero d at l h = pick-case (closing s rs fs ns (tokenAt s at .key)) _ _ _ h (λ _ g. got-answers g) λ t g. let y = open-here at t in omega arith
       block-answers (suc k) d at l h =
           pick-case (closing s rs fs ns (tokenAt s at .key)) _ _ _ h (λ _ g. got-answers g)
@@ -143,50 +143,50 @@ module _ (s : List ℕ) where
           onward-answers (statement s rs fs ns (suc k) d at) _ (λ h. statement-answers k d at y l h) λ c a g. let x = statement-on s rs fs ns (suc k) d at c a g in
           onward-answers (block s rs fs ns (suc k) d a) _ (λ h. block-answers k d a (omega arith) h) λ _ _ _. got-answers
 
-      statement-answers : (k d at : ℕ) → at < length s → 2 * (length s - at) ≤ suc k → Answers (statement s rs fs ns (suc k) d at)
+      statement-answers : (k d at : ℕ) → at < length s → 2 * (length s - at) ≤ suc k → IsAnswer (statement s rs fs ns (suc k) d at)
       statement-answers zero d at y l h = absurd (omega arith)
       statement-answers (suc k) d at y l h = statement-answers-by (λ d at. block s rs fs ns (suc k) d at) at (λ d a h g. block-answers k d a (omega arith) g) (λ d a b e g. braces-on s rs fs ns (suc k) d a b e g .0) d at refl h
 
-  listed-answers : {A : Type 0} (n : ℕ) (a : A) (at : ℕ) → Answers (listedT s n a (tokenAt s at))
-  listed-answers n a at h = pick-case (eqb (tokenAt s at .key) word.semicolon && not (eqb n 0)) _ _ _ h (λ _ g. got-answers g) λ _ g. refused-answers g
+  listed-answers : {A : Type 0} (n : ℕ) (a : A) (at : ℕ) → IsAnswer (listedT s n a (tokenAt s at))
+  listed-answers n a at h = pick-case (eqb (tokenAt s at .key) word.semicolonKey && not (eqb n 0)) _ _ _ h (λ _ g. got-answers g) λ _ g. refused-answers g
 
-  registers-answers : (room : ℕ) (rs : List ℕ) (at : ℕ) → Answers (registers s room rs at)
-  unfolding registers
+  registers-answers : (room : ℕ) (rs : List ℕ) (at : ℕ) → IsAnswer (registerNames s room rs at)
+  unfolding registerNames
   registers-answers zero rs at h = pick-case (isName (tokenAt s at .key)) _ _ _ h (λ _ g. refused-answers g) λ _. listed-answers (length rs) rs at
   registers-answers (suc room) rs at h =
       pick-case (isName (tokenAt s at .key)) _ _ _ h
-      (λ _ g. pick-case (known s (tokenAt s at .key) rs) _ _ _ g (λ _ f. refused-answers f) λ _. registers-answers room (rs ++ tokenAt s at .key ∷ []) (tokenAt s at .end))
+      (λ _ g. pick-case (isDeclared s (tokenAt s at .key) rs) _ _ _ g (λ _ f. refused-answers f) λ _. registers-answers room (rs ++ tokenAt s at .key ∷ []) (tokenAt s at .end))
       λ _. listed-answers (length rs) rs at
 
-  arity-answers : (at : ℕ) → Answers (arityOf s at)
+  arity-answers : (at : ℕ) → IsAnswer (arityOf s at)
   unfolding arityOf
   arity-answers at =
-      onward-answers (expect s word.slash at) _ (expect-answers word.slash at) λ _ a _ h.
-      pick-case (eqb (tokenAt s a .key) word.one) _ _ _ h (λ _ g. got-answers g)
-      λ _ g. pick-case (eqb (tokenAt s a .key) word.two) _ _ _ g (λ _ f. got-answers f) λ _ f. refused-answers f
+      onward-answers (expect s word.slashKey at) _ (expect-answers word.slashKey at) λ _ a _ h.
+      pick-case (eqb (tokenAt s a .key) word.oneKey) _ _ _ h (λ _ g. got-answers g)
+      λ _ g. pick-case (eqb (tokenAt s a .key) word.twoKey) _ _ _ g (λ _ f. got-answers f) λ _ f. refused-answers f
 
-  functions-answers : (rs : List ℕ) (room : ℕ) (fs ns : List ℕ) (at : ℕ) → Answers (functions s rs room fs ns at)
-  unfolding functions
+  functions-answers : (rs : List ℕ) (room : ℕ) (fs ns : List ℕ) (at : ℕ) → IsAnswer (functionEntries s rs room fs ns at)
+  unfolding functionEntries
   functions-answers rs zero fs ns at h = pick-case (isName (tokenAt s at .key)) _ _ _ h (λ _ g. refused-answers g) λ _. listed-answers (length fs) (fs, ns) at
   functions-answers rs (suc room) fs ns at h =
       pick-case (isName (tokenAt s at .key)) _ _ _ h
-      (λ _ g. pick-case (known s (tokenAt s at .key) rs || known s (tokenAt s at .key) fs) _ _ _ g (λ _ f. refused-answers f)
+      (λ _ g. pick-case (isDeclared s (tokenAt s at .key) rs || isDeclared s (tokenAt s at .key) fs) _ _ _ g (λ _ f. refused-answers f)
       λ _. onward-answers (arityOf s (tokenAt s at .end)) _ (arity-answers (tokenAt s at .end)) λ n e _. functions-answers rs room (fs ++ tokenAt s at .key ∷ []) (ns ++ n ∷ []) e)
       λ _. listed-answers (length fs) (fs, ns) at
 
-  line-answers : (rs : List ℕ) (at : ℕ) → Answers (functionsT s rs at (tokenAt s at))
-  line-answers rs at h = pick-case (eqb (tokenAt s at .key) word.funs) _ _ _ h (λ _. functions-answers rs mostFunctions [] [] (tokenAt s at .end))
+  line-answers : (rs : List ℕ) (at : ℕ) → IsAnswer (functionsT s rs at (tokenAt s at))
+  line-answers rs at h = pick-case (eqb (tokenAt s at .key) word.funsKey) _ _ _ h (λ _. functions-answers rs mostFunctions [] [] (tokenAt s at .end))
       λ _ g. got-answers g
 
-  text-answers : Answers (readText s)
+  text-answers : IsAnswer (readText s)
   unfolding readText
   text-answers h =
       pick-case (ltb 4096 (length s)) _ _ _ h (λ _ g. refused-answers g)
-      λ _. onward-answers (expect s word.vars 0) _ (expect-answers word.vars 0) λ _ a _.
-      onward-answers (registers s mostRegisters [] a) _ (registers-answers mostRegisters [] a) λ rs b _.
+      λ _. onward-answers (expect s word.varsKey 0) _ (expect-answers word.varsKey 0) λ _ a _.
+      onward-answers (registerNames s mostRegisters [] a) _ (registers-answers mostRegisters [] a) λ rs b _.
       onward-answers (functionsT s rs b (tokenAt s b)) _ (line-answers rs b) λ r c _.
       onward-answers (block s rs (r .0) (r .1) (2 * length s + 1) deepestNesting c) _
-      (subst (λ n. Answers (block s rs (r .0) (r .1) n deepestNesting c)) (more-one (2 * length s))
+      (subst (λ n. IsAnswer (block s rs (r .0) (r .1) n deepestNesting c)) (more-one (2 * length s))
       (block-answers rs (r .0) (r .1) (2 * length s) deepestNesting c (omega arith))) λ body e _ g.
       pick-case (eqb (tokenAt s e .key) 0) _ _ _ g (λ _ f. got-answers f) λ _ f. refused-answers f
     where

@@ -17,16 +17,16 @@ use Rattle.tokens.specs.Tokens.{tokenAt}
 use Rattle.tokens.specs.Words.{isName}
 use Rattle.tokens.specs.Words as word
 use Rattle.tokens.proofs.Theory.WordsLaws.{name-real}
-use Rattle.grammar.specs.Grammar.{header, conditionTokens, letterTokens, statementTokens, elseTokens, blockTokens, Inside, Nests, NestsElse, NestsBlock}
+use Rattle.grammar.specs.Grammar.{header, conditionTokens, letterTokens, statementTokens, elseTokens, blockTokens, OneDeeper, Nests, NestsElse, NestsBlock}
 use Rattle.grammar.proofs.Theory.HeaderLaws.{arity-two}
-use Rattle.grammar.specs.Reading.{Got, got, refused, exhausted, onward, indexOf, useT, signT, compared, expect, ended, condition, argumentsT, value, assignment, tested, bracesT, elseT, statementT, block, statement, closing}
-use Rattle.grammar.specs.Spelled.{Spells, none, more}
+use Rattle.grammar.specs.Reading.{Got, got, exhausted, andThen, indexOf, useT, signT, compared, expect, ended, condition, argumentsT, rightHandSide, assignment, endedCondition, bracesT, elseT, statementT, block, statement, closing}
+use Rattle.grammar.specs.Spelled.{Spells, Arities}
 
 -- ---- inversions
 
-pub onward-got : {A B : Type 0} (g : Got A) (f : A → ℕ → Got B) (b : B) (e : ℕ) → onward g f ≡ got b e → (a : A) × (m : ℕ) × (g ≡ got a m) × (f a m ≡ got b e)
+pub onward-got : {A B : Type 0} (g : Got A) (f : A → ℕ → Got B) (b : B) (e : ℕ) → andThen g f ≡ got b e → (a : A) × (m : ℕ) × (g ≡ got a m) × (f a m ≡ got b e)
 onward-got (got a m) f b e h = (a, m, refl, h)
-onward-got (refused n p) f b e h = let z : _≡_ {A = ℕ} 0 1 = cc in absurd (omega arith)
+onward-got (Got.refused n p) f b e h = let z : _≡_ {A = ℕ} 0 1 = cc in absurd (omega arith)
 onward-got exhausted f b e h = let z : _≡_ {A = ℕ} 0 1 = cc in absurd (omega arith)
 
 -- the two cases of a choice that came out as r
@@ -34,7 +34,7 @@ pub pick-case : {A B : Type 0} (c : Bool) (x y : Unit {0} → A) (r : A) → pic
 pick-case true x y r h f g = f refl h
 pick-case false x y r h f g = g refl h
 
-pub not-refused : {A : Type 0} {n p e : ℕ} {a : A} → refused n p ≡ got a e → ⊥
+pub not-refused : {A : Type 0} {n p e : ℕ} {a : A} → Got.refused n p ≡ got a e → ⊥
 not-refused h = let z : _≡_ {A = ℕ} 0 1 = cc in omega arith
 
 pub not-exhausted : {A : Type 0} {e : ℕ} {a : A} → exhausted ≡ got a e → ⊥
@@ -56,12 +56,12 @@ index-at k (x ∷ l) h = byTest (eqb k x) (λ t. rw t (eqb-true k x t)) (λ t. r
 module _ (s : List ℕ) where
   -- the tokens of two parts, one behind the other
   pub spells-then : {at m e : ℕ} {ks ls : List ℕ} → Spells s at ks m → Spells s m ls e → Spells s at (ks ++ ls) e
-  spells-then none q = q
-  spells-then (more h l p) q = more h l (spells-then p q)
+  spells-then Spells.none q = q
+  spells-then (Spells.more h l p) q = Spells.more h l (spells-then p q)
 
   -- a token that was read, up to the place behind it
   pub spells-one : (at k e : ℕ) → tokenAt s at .key ≡ k → 2 ≤ k → tokenAt s at .end ≡ e → Spells s at (k ∷ []) e
-  spells-one at k e h l g = more h l (subst (λ m. Spells s (tokenAt s at .end) [] m) g none)
+  spells-one at k e h l g = Spells.more h l (subst (λ m. Spells s (tokenAt s at .end) [] m) g Spells.none)
 
   pub expect-sound : (k at e : ℕ) (u : Unit {0}) → 2 ≤ k → expect s k at ≡ got u e → Spells s at (k ∷ []) e
   expect-sound k at e u r h =
@@ -90,8 +90,8 @@ module _ (s : List ℕ) where
   module _ (rs fs ns : List ℕ) where
     -- the token of a sign
     abbrev signToken : Bool → ℕ
-    signToken true = word.equal
-    signToken false = word.unequal
+    signToken true = word.equalKey
+    signToken false = word.unequalKey
 
     sign-real : (q : Bool) → 2 ≤ signToken q
     sign-real true = omega arith
@@ -99,10 +99,10 @@ module _ (s : List ℕ) where
 
     sign-sound : (at : ℕ) (q : Bool) (e : ℕ) → signT (tokenAt s at) ≡ got q e → Spells s at (signToken q ∷ []) e
     sign-sound at q e h =
-        pick-case (eqb (tokenAt s at .key) word.equal) _ _ _ h
-        (λ t g. spells-one at (signToken q) e (eqb-true _ word.equal t ∙ ap signToken (got-value g)) (sign-real q) (got-place g))
-        λ t g. pick-case (eqb (tokenAt s at .key) word.unequal) _ _ _ g
-        (λ u f. spells-one at (signToken q) e (eqb-true _ word.unequal u ∙ ap signToken (got-value f)) (sign-real q) (got-place f))
+        pick-case (eqb (tokenAt s at .key) word.equalKey) _ _ _ h
+        (λ t g. spells-one at (signToken q) e (eqb-true _ word.equalKey t ∙ ap signToken (got-value g)) (sign-real q) (got-place g))
+        λ t g. pick-case (eqb (tokenAt s at .key) word.unequalKey) _ _ _ g
+        (λ u f. spells-one at (signToken q) e (eqb-true _ word.unequalKey u ∙ ap signToken (got-value f)) (sign-real q) (got-place f))
         λ u f. absurd (not-refused f)
 
     -- what a reader of conditions has to show
@@ -126,44 +126,44 @@ module _ (s : List ℕ) where
 
     -- what a reader behind `x :=` has to show
     abbrev Assigns : ℕ → ℕ → Letter → ℕ → Type 0
-    Assigns x at l e = Fits (header rs fs ns) l × (ls : List ℕ) × (letterTokens rs fs ns l ≡ getD rs x 0 ∷ word.becomes ∷ (ls ++ word.semicolon ∷ [])) × Spells s at ls e
+    Assigns x at l e = Fits (header rs fs ns) l × (ls : List ℕ) × (letterTokens rs fs ns l ≡ getD rs x 0 ∷ word.becomesKey ∷ (ls ++ word.semicolonKey ∷ [])) × Spells s at ls e
 
     -- what one behind `x := f(y` has to show
     abbrev Applies : ℕ → ℕ → ℕ → ℕ → Letter → ℕ → Type 0
     Applies x f y at l e =
-        Fits (header rs fs ns) l × (ls : List ℕ) × (letterTokens rs fs ns l ≡ getD rs x 0 ∷ word.becomes ∷ getD fs f 0 ∷ word.lparen ∷ getD rs y 0 ∷ (ls ++ word.semicolon ∷ [])) × Spells s at ls e
+        Fits (header rs fs ns) l × (ls : List ℕ) × (letterTokens rs fs ns l ≡ getD rs x 0 ∷ word.becomesKey ∷ getD fs f 0 ∷ word.lparenKey ∷ getD rs y 0 ∷ (ls ++ word.semicolonKey ∷ [])) × Spells s at ls e
 
     arguments-sound : (x f y at : ℕ) (l : Letter) (e : ℕ) → x < length rs → f < length fs → y < length rs → argumentsT s rs (getD ns f 0) x f y (tokenAt s at) ≡ got l e → Applies x f y at l e
     unfolding argumentsT
     arguments-sound x f y at l e hx hf hy h =
-        pick-case (eqb (tokenAt s at .key) word.comma) _ _ _ h
+        pick-case (eqb (tokenAt s at .key) word.commaKey) _ _ _ h
         (λ t g. pick-case (eqb (getD ns f 0) 2) _ _ _ g
         (λ u k.
         let (z, a, g₁, h₁) = onward-got (useT rs (tokenAt s (tokenAt s at .end))) _ l e k in
         let (l₁, p₁) = use-sound rs (tokenAt s at .end) z a g₁ in
-        let (q, p₂) = ended-sound word.rparen a e (Apply x f y z) l (omega arith) h₁ in
+        let (q, p₂) = ended-sound word.rparenKey a e (Apply x f y z) l (omega arith) h₁ in
         subst (λ l. Applies x f y at l e) q
-        ((hx, hf, hy, l₁, λ r. absurd (let w = arity-two rs fs ns f u in omega arith)), word.comma ∷ getD rs z 0 ∷ word.rparen ∷ [], rw u, more (eqb-true _ word.comma t) (omega arith) (spells-then p₁ p₂)))
+        ((hx, hf, hy, l₁, λ r. absurd (let w = arity-two rs fs ns f u in omega arith)), word.commaKey ∷ getD rs z 0 ∷ word.rparenKey ∷ [], rw u, Spells.more (eqb-true _ word.commaKey t) (omega arith) (spells-then p₁ p₂)))
         λ u k. absurd (not-refused k))
-        λ t g. pick-case (eqb (tokenAt s at .key) word.rparen) _ _ _ g
+        λ t g. pick-case (eqb (tokenAt s at .key) word.rparenKey) _ _ _ g
         (λ t′ g′. pick-case (eqb (getD ns f 0) 2) _ _ _ g′ (λ u k. absurd (not-refused k))
         λ u k. subst (λ l. Applies x f y at l e) (got-value k)
-        ((hx, hf, hy, hy, λ r. refl), word.rparen ∷ [], rw u, spells-one at word.rparen e (eqb-true _ word.rparen t′) (omega arith) (got-place k)))
+        ((hx, hf, hy, hy, λ r. refl), word.rparenKey ∷ [], rw u, spells-one at word.rparenKey e (eqb-true _ word.rparenKey t′) (omega arith) (got-place k)))
         λ t′ g′. absurd (not-refused g′)
 
-    pub value-sound : (x at : ℕ) (l : Letter) (e : ℕ) → x < length rs → value s rs fs ns x at ≡ got l e → Assigns x at l e
-    unfolding value
+    pub value-sound : (x at : ℕ) (l : Letter) (e : ℕ) → x < length rs → rightHandSide s rs fs ns x at ≡ got l e → Assigns x at l e
+    unfolding rightHandSide
     value-sound x at l e hx h =
-        pick-case (eqb (tokenAt s (tokenAt s at .end) .key) word.lparen) _ _ _ h
+        pick-case (eqb (tokenAt s (tokenAt s at .end) .key) word.lparenKey) _ _ _ h
         (λ t g.
         let (f, a, g₁, h₁) = onward-got (useT fs (tokenAt s at)) _ l e g in
-        let (u, b, g₂, h₂) = onward-got (expect s word.lparen a) _ l e h₁ in
+        let (u, b, g₂, h₂) = onward-got (expect s word.lparenKey a) _ l e h₁ in
         let (y, m, g₃, h₃) = onward-got (useT rs (tokenAt s b)) _ l e h₂ in
         let (l₁, p₁) = use-sound fs at f a g₁ in
-        let p₂ = expect-sound word.lparen a b u (omega arith) g₂ in
+        let p₂ = expect-sound word.lparenKey a b u (omega arith) g₂ in
         let (l₃, p₃) = use-sound rs b y m g₃ in
         let (o, ls, q, p₄) = arguments-sound x f y m l e hx l₁ l₃ h₃ in
-        (o, getD fs f 0 ∷ word.lparen ∷ getD rs y 0 ∷ ls, q, spells-then p₁ (spells-then p₂ (spells-then p₃ p₄))))
+        (o, getD fs f 0 ∷ word.lparenKey ∷ getD rs y 0 ∷ ls, q, spells-then p₁ (spells-then p₂ (spells-then p₃ p₄))))
         λ t g.
         let (y, m, g₁, h₁) = onward-got (useT rs (tokenAt s at)) _ l e g in
         let (l₁, p₁) = use-sound rs at y m g₁ in
@@ -177,21 +177,21 @@ module _ (s : List ℕ) where
     unfolding assignment
     assignment-sound at l e h =
         let (x, a, g₁, h₁) = onward-got (useT rs (tokenAt s at)) _ l e h in
-        let (u, b, g₂, h₂) = onward-got (expect s word.becomes a) _ l e h₁ in
-        let (v, m, g₃, h₃) = onward-got (value s rs fs ns x b) _ l e h₂ in
+        let (u, b, g₂, h₂) = onward-got (expect s word.becomesKey a) _ l e h₁ in
+        let (v, m, g₃, h₃) = onward-got (rightHandSide s rs fs ns x b) _ l e h₂ in
         let (l₁, p₁) = use-sound rs at x a g₁ in
-        let p₂ = expect-sound word.becomes a b u (omega arith) g₂ in
+        let p₂ = expect-sound word.becomesKey a b u (omega arith) g₂ in
         let (o, ls, w, p₃) = value-sound x b v m l₁ g₃ in
-        let (q, p₄) = ended-sound word.semicolon m e v l (omega arith) h₃ in
+        let (q, p₄) = ended-sound word.semicolonKey m e v l (omega arith) h₃ in
         subst (λ l. ReadLetter at l e) q (o, subst (λ l. Spells s at l e) (sym w) (spells-then p₁ (spells-then p₂ (spells-then p₃ p₄))))
 
-    pub tested-sound : (at : ℕ) (c : Condition) (e : ℕ) → tested s rs at ≡ got c e → Fits (header rs fs ns) (test c) × Spells s at (conditionTokens rs fs ns c ++ word.semicolon ∷ []) e
-    unfolding tested
+    pub tested-sound : (at : ℕ) (c : Condition) (e : ℕ) → endedCondition s rs at ≡ got c e → Fits (header rs fs ns) (test c) × Spells s at (conditionTokens rs fs ns c ++ word.semicolonKey ∷ []) e
+    unfolding endedCondition
     tested-sound at r e h =
         let (c, m, g₁, h₁) = onward-got (condition s rs at) _ r e h in
         let (l, p₁) = condition-sound at c m g₁ in
-        let (q, p₂) = ended-sound word.semicolon m e c r (omega arith) h₁ in
-        subst (λ c. Fits (header rs fs ns) (test c) × Spells s at (conditionTokens rs fs ns c ++ word.semicolon ∷ []) e) q (l, spells-then p₁ p₂)
+        let (q, p₂) = ended-sound word.semicolonKey m e c r (omega arith) h₁ in
+        subst (λ c. Fits (header rs fs ns) (test c) × Spells s at (conditionTokens rs fs ns c ++ word.semicolonKey ∷ []) e) q (l, spells-then p₁ p₂)
 
     -- ---- blocks
 
@@ -204,54 +204,54 @@ module _ (s : List ℕ) where
 
     module _ (inner : ℕ → ℕ → Got Block) (sound : (d at : ℕ) (b : Block) (e : ℕ) → inner d at ≡ got b e → ReadBlock d at b e) where
       abbrev pub ReadBraces : ℕ → ℕ → Block → ℕ → Type 0
-      ReadBraces d at b e = ProperBlock b (header rs fs ns) × Inside (λ n. NestsBlock b n) d × Spells s at (word.lbrace ∷ (blockTokens rs fs ns b ++ word.rbrace ∷ [])) e
+      ReadBraces d at b e = ProperBlock b (header rs fs ns) × OneDeeper (λ n. NestsBlock b n) d × Spells s at (word.lbraceKey ∷ (blockTokens rs fs ns b ++ word.rbraceKey ∷ [])) e
 
       pub braces-sound : (d at : ℕ) (b : Block) (e : ℕ) → bracesT s rs fs ns inner d (tokenAt s at) ≡ got b e → ReadBraces d at b e
       unfolding ReadBlock
-      braces-sound zero at b e h = pick-case (eqb (tokenAt s at .key) word.lbrace) _ _ _ h (λ t g. absurd (not-refused g)) λ t g. absurd (not-refused g)
+      braces-sound zero at b e h = pick-case (eqb (tokenAt s at .key) word.lbraceKey) _ _ _ h (λ t g. absurd (not-refused g)) λ t g. absurd (not-refused g)
       braces-sound (suc d) at b e h =
-          pick-case (eqb (tokenAt s at .key) word.lbrace) _ _ _ h
+          pick-case (eqb (tokenAt s at .key) word.lbraceKey) _ _ _ h
           (λ t g.
           let (c, m, g₁, h₁) = onward-got (inner d (tokenAt s at .end)) _ b e g in
           let (u, o, p₁) = sound d (tokenAt s at .end) c m g₁ in
-          let (q, p₂) = ended-sound word.rbrace m e c b (omega arith) h₁ in
-          subst (λ b. ReadBraces (suc d) at b e) q (u, o, more (eqb-true _ word.lbrace t) (omega arith) (spells-then p₁ p₂)))
+          let (q, p₂) = ended-sound word.rbraceKey m e c b (omega arith) h₁ in
+          subst (λ b. ReadBraces (suc d) at b e) q (u, o, Spells.more (eqb-true _ word.lbraceKey t) (omega arith) (spells-then p₁ p₂)))
           λ t g. absurd (not-refused g)
 
       pub else-sound : (d at : ℕ) (o : Else) (e : ℕ) → elseT s rs fs ns inner d at (tokenAt s at) ≡ got o e → ProperElse o (header rs fs ns) × NestsElse o d × Spells s at (elseTokens rs fs ns o) e
       unfolding elseTokens
       else-sound d at o e h =
-          pick-case (eqb (tokenAt s at .key) word.else) _ _ _ h
+          pick-case (eqb (tokenAt s at .key) word.elseKey) _ _ _ h
           (λ t g.
           let (x, m, g₁, h₁) = onward-got (bracesT s rs fs ns inner d (tokenAt s (tokenAt s at .end))) _ o e g in
           let (u, i, p₁) = braces-sound d (tokenAt s at .end) x m g₁ in
           subst (λ o. ProperElse o (header rs fs ns) × NestsElse o d × Spells s at (elseTokens rs fs ns o) e) (got-value h₁)
-          (u, i, more (eqb-true _ word.else t) (omega arith) (subst (λ n. Spells s (tokenAt s at .end) (word.lbrace ∷ (blockTokens rs fs ns x ++ word.rbrace ∷ [])) n) (got-place h₁) p₁)))
-          λ t g. subst (λ o. ProperElse o (header rs fs ns) × NestsElse o d × Spells s at (elseTokens rs fs ns o) e) (got-value g) (tt, tt, subst (λ n. Spells s at [] n) (got-place g) none)
+          (u, i, Spells.more (eqb-true _ word.elseKey t) (omega arith) (subst (λ n. Spells s (tokenAt s at .end) (word.lbraceKey ∷ (blockTokens rs fs ns x ++ word.rbraceKey ∷ [])) n) (got-place h₁) p₁)))
+          λ t g. subst (λ o. ProperElse o (header rs fs ns) × NestsElse o d × Spells s at (elseTokens rs fs ns o) e) (got-value g) (tt, tt, subst (λ n. Spells s at [] n) (got-place g) Spells.none)
 
       -- a test as the letter of an assume
-      assumed : (c : Condition) → letterTokens rs fs ns (test c) ≡ word.assume ∷ (conditionTokens rs fs ns c ++ word.semicolon ∷ [])
+      assumed : (c : Condition) → letterTokens rs fs ns (test c) ≡ word.assumeKey ∷ (conditionTokens rs fs ns c ++ word.semicolonKey ∷ [])
       assumed (equal x y) = refl
       assumed (unequal x y) = refl
 
       statement-sound-by : (d at : ℕ) (r : Statement) (e : ℕ) → statementT s rs fs ns inner d at (tokenAt s at) ≡ got r e → ReadStatement d at r e
       unfolding ReadStatement statementTokens
       statement-sound-by d at r e h =
-          pick-case (eqb (tokenAt s at .key) word.skip) _ _ _ h
-          (λ t g. let (q, p) = ended-sound word.semicolon (tokenAt s at .end) e skip r (omega arith) g in subst (λ r. ReadStatement d at r e) q (tt, tt, more (eqb-true _ word.skip t) (omega arith) p))
-          λ _ h. pick-case (eqb (tokenAt s at .key) word.assume) _ _ _ h
+          pick-case (eqb (tokenAt s at .key) word.skipKey) _ _ _ h
+          (λ t g. let (q, p) = ended-sound word.semicolonKey (tokenAt s at .end) e skip r (omega arith) g in subst (λ r. ReadStatement d at r e) q (tt, tt, Spells.more (eqb-true _ word.skipKey t) (omega arith) p))
+          λ _ h. pick-case (eqb (tokenAt s at .key) word.assumeKey) _ _ _ h
           (λ t g.
-          let (c, m, g₁, h₁) = onward-got (tested s rs (tokenAt s at .end)) _ r e g in
+          let (c, m, g₁, h₁) = onward-got (endedCondition s rs (tokenAt s at .end)) _ r e g in
           let (l, p) = tested-sound (tokenAt s at .end) c m g₁ in
           subst (λ r. ReadStatement d at r e) (got-value h₁)
-          (l, tt, subst (λ l. Spells s at l e) (sym (assumed c)) (more (eqb-true _ word.assume t) (omega arith) (subst (λ n. Spells s (tokenAt s at .end) (conditionTokens rs fs ns c ++ word.semicolon ∷ []) n) (got-place h₁) p))))
-          λ _ h. pick-case (eqb (tokenAt s at .key) word.assert) _ _ _ h
+          (l, tt, subst (λ l. Spells s at l e) (sym (assumed c)) (Spells.more (eqb-true _ word.assumeKey t) (omega arith) (subst (λ n. Spells s (tokenAt s at .end) (conditionTokens rs fs ns c ++ word.semicolonKey ∷ []) n) (got-place h₁) p))))
+          λ _ h. pick-case (eqb (tokenAt s at .key) word.assertKey) _ _ _ h
           (λ t g.
-          let (c, m, g₁, h₁) = onward-got (tested s rs (tokenAt s at .end)) _ r e g in
+          let (c, m, g₁, h₁) = onward-got (endedCondition s rs (tokenAt s at .end)) _ r e g in
           let (l, p) = tested-sound (tokenAt s at .end) c m g₁ in
           subst (λ r. ReadStatement d at r e) (got-value h₁)
-          (l, tt, more (eqb-true _ word.assert t) (omega arith) (subst (λ n. Spells s (tokenAt s at .end) (conditionTokens rs fs ns c ++ word.semicolon ∷ []) n) (got-place h₁) p)))
-          λ _ h. pick-case (eqb (tokenAt s at .key) word.if) _ _ _ h
+          (l, tt, Spells.more (eqb-true _ word.assertKey t) (omega arith) (subst (λ n. Spells s (tokenAt s at .end) (conditionTokens rs fs ns c ++ word.semicolonKey ∷ []) n) (got-place h₁) p)))
+          λ _ h. pick-case (eqb (tokenAt s at .key) word.ifKey) _ _ _ h
           (λ t g.
           let (c, a, g₁, h₁) = onward-got (condition s rs (tokenAt s at .end)) _ r e g in
           let (b, m, g₂, h₂) = onward-got (bracesT s rs fs ns inner d (tokenAt s a)) _ r e h₁ in
@@ -259,17 +259,17 @@ module _ (s : List ℕ) where
           let (l, p₁) = condition-sound (tokenAt s at .end) c a g₁ in
           let (u, i, p₂) = braces-sound d a b m g₂ in
           let (v, j, p₃) = else-sound d m o n g₃ in
-          let p = spells-then p₁ (subst (λ l. Spells s a (word.lbrace ∷ l) n) (append-assoc (blockTokens rs fs ns b) (word.rbrace ∷ []) (elseTokens rs fs ns o)) (spells-then p₂ p₃)) in
+          let p = spells-then p₁ (subst (λ l. Spells s a (word.lbraceKey ∷ l) n) (append-assoc (blockTokens rs fs ns b) (word.rbraceKey ∷ []) (elseTokens rs fs ns o)) (spells-then p₂ p₃)) in
           subst (λ r. ReadStatement d at r e) (got-value h₃)
-          ((l, u, v), (i, j), more (eqb-true _ word.if t) (omega arith) (subst (λ n. Spells s (tokenAt s at .end) (conditionTokens rs fs ns c ++ word.lbrace ∷ (blockTokens rs fs ns b ++ word.rbrace ∷ elseTokens rs fs ns o)) n) (got-place h₃) p)))
-          λ _ h. pick-case (eqb (tokenAt s at .key) word.while) _ _ _ h
+          ((l, u, v), (i, j), Spells.more (eqb-true _ word.ifKey t) (omega arith) (subst (λ n. Spells s (tokenAt s at .end) (conditionTokens rs fs ns c ++ word.lbraceKey ∷ (blockTokens rs fs ns b ++ word.rbraceKey ∷ elseTokens rs fs ns o)) n) (got-place h₃) p)))
+          λ _ h. pick-case (eqb (tokenAt s at .key) word.whileKey) _ _ _ h
           (λ t g.
           let (c, a, g₁, h₁) = onward-got (condition s rs (tokenAt s at .end)) _ r e g in
           let (b, m, g₂, h₂) = onward-got (bracesT s rs fs ns inner d (tokenAt s a)) _ r e h₁ in
           let (l, p₁) = condition-sound (tokenAt s at .end) c a g₁ in
           let (u, i, p₂) = braces-sound d a b m g₂ in
           subst (λ r. ReadStatement d at r e) (got-value h₂)
-          ((l, u), i, more (eqb-true _ word.while t) (omega arith) (spells-then p₁ (subst (λ n. Spells s a (word.lbrace ∷ (blockTokens rs fs ns b ++ word.rbrace ∷ [])) n) (got-place h₂) p₂))))
+          ((l, u), i, Spells.more (eqb-true _ word.whileKey t) (omega arith) (spells-then p₁ (subst (λ n. Spells s a (word.lbraceKey ∷ (blockTokens rs fs ns b ++ word.rbraceKey ∷ [])) n) (got-place h₂) p₂))))
           λ _ h. pick-case (isName (tokenAt s at .key)) _ _ _ h
           (λ t g.
           let (l, m, g₁, h₁) = onward-got (assignment s rs fs ns at) _ r e g in
@@ -284,7 +284,7 @@ module _ (s : List ℕ) where
       block-sound zero d at b e h = absurd (not-exhausted h)
       block-sound (suc k) d at b e h =
           pick-case (closing s rs fs ns (tokenAt s at .key)) _ _ _ h
-          (λ t g. subst (λ b. ReadBlock d at b e) (got-value g) (tt, tt, subst (λ n. Spells s at [] n) (got-place g) none))
+          (λ t g. subst (λ b. ReadBlock d at b e) (got-value g) (tt, tt, subst (λ n. Spells s at [] n) (got-place g) Spells.none))
           λ t g.
           let (c, a, g₁, h₁) = onward-got (statement s rs fs ns k d at) _ b e g in
           let (x, m, g₂, h₂) = onward-got (block s rs fs ns k d a) _ b e h₁ in

@@ -25,7 +25,7 @@ use Rattle.letters.specs.Editions.{Edition, firstEdition}
 use Rattle.letters.specs.Answers.{Answer, value, refusal}
 use Rattle.letters.specs.Letters.{HeaderFits}
 use Rattle.letters.specs.Words.{bitsFrom, arityField, headerFields, headerWord, letterFields, letterWord}
-use Rattle.letters.specs.Coding.{maskOf, headerTest, applyTest, fitsTest, headerOf, decodeHeader, letterBy, letterOf, decodeLetter}
+use Rattle.letters.specs.Coding.{maskOf, headerTest, applyTest, fitsTest, namedHeader, decodeHeader, letterBy, namedLetter, decodeLetter}
 use Rattle.letters.specs.Encoding.{encodeHeader, encodeLetter}
 use Rattle.letters.specs.Roomy.{Roomy}
 
@@ -124,8 +124,8 @@ first-roomy = record {
 
 module _ {e : Edition} (r : Roomy e) where
   -- the fields of a header's word name the header
-  named-header : (h : Header) → HeaderFits e h → headerOf e (split (e .header) (headerWord e h)) ≡ h
-  unfolding headerOf headerWord
+  named-header : (h : Header) → HeaderFits e h → namedHeader e (split (e .header) (headerWord e h)) ≡ h
+  unfolding namedHeader headerWord
   named-header h v =
       let k = e .functions in
       let s : split (replicate k 1) (arityField e h) ≡ bitsFrom 0 k (h .binary) = split-join (replicate k 1) (bitsFrom 0 k (h .binary)) (bits-sized 0 k (h .binary)) in
@@ -137,13 +137,13 @@ module _ {e : Edition} (r : Roomy e) where
   pub decode-header : (w : ℕ) (h : Header) → (decodeHeader e w ≡ value h) ↔ (HeaderFits e h × (headerWord e h ≡ w))
   unfolding decodeHeader
   decode-header w h =
-      let x = headerOf e (split (e .header) w) in (
+      let x = namedHeader e (split (e .header) w) in (
         λ q.
             let c = chosen (headerTest e x && eqb (headerWord e x) w) x h 3 0 q in
             let b = and-true (headerTest e x) (eqb (headerWord e x) w) (c .0) in
             (subst (HeaderFits e) (c .1) (header-test e x .0 (b .0)), ap (headerWord e) (sym (c .1)) ∙ eqb-true (headerWord e x) w (b .1)),
         λ v.
-            let n : headerOf e (split (e .header) w) ≡ h = ap (λ u. headerOf e (split (e .header) u)) (sym (v .1)) ∙ named-header h (v .0) in
+            let n : namedHeader e (split (e .header) w) ≡ h = ap (λ u. namedHeader e (split (e .header) u)) (sym (v .1)) ∙ named-header h (v .0) in
             rw (n, header-test e h .1 (v .0), eq-eqb (headerWord e h) w (v .1)),
       )
 
@@ -151,7 +151,7 @@ module _ {e : Edition} (r : Roomy e) where
   pub decode-header-refused : (w : ℕ) → (decodeHeader e w ≡ refusal 3 0) ↔ ((h : Header) → HeaderFits e h → headerWord e h ≡ w → ⊥)
   unfolding decodeHeader
   decode-header-refused w =
-      let x = headerOf e (split (e .header) w) in (
+      let x = namedHeader e (split (e .header) w) in (
         λ q h v g. not-both q (decode-header w h .1 (v, g)),
         λ f. unchosen (headerTest e x && eqb (headerWord e x) w) x 3 0 λ q. let d = decode-header w x .0 (rw q) in f x (d .0) (d .1),
       )
@@ -167,30 +167,30 @@ module _ {e : Edition} (r : Roomy e) where
 -- ---- letters
 
 -- a letter's own fields name the letter
-named-fields : (h : Header) (l : Letter) → Fits h l → letterOf h (letterFields h l) ≡ l
-unfolding letterOf letterBy
+named-fields : (h : Header) (l : Letter) → Fits h l → namedLetter h (letterFields h l) ≡ l
+unfolding namedLetter letterBy
 named-fields h (Copy x y) v = refl
 named-fields h (Apply x f y z) v = byTest (has (h .binary) f) (λ t. rw t) λ t. rw t (ap (λ (n : ℕ). Apply x f y n) (v .4 (rw t)))
 named-fields h (Equal x y) v = refl
 named-fields h (Unequal x y) v = refl
 
 module _ {e : Edition} (r : Roomy e) (h : Header) where
-  named-letter : (l : Letter) → HeaderFits e h → Fits h l → letterOf h (split (e .letter) (letterWord e h l)) ≡ l
+  named-letter : (l : Letter) → HeaderFits e h → Fits h l → namedLetter h (split (e .letter) (letterWord e h l)) ≡ l
   unfolding letterWord
-  named-letter l v w = ap (letterOf h) (split-join (e .letter) (letterFields h l) (r .letter-sized h l v w)) ∙ named-fields h l w
+  named-letter l v w = ap (namedLetter h) (split-join (e .letter) (letterFields h l) (r .letter-sized h l v w)) ∙ named-fields h l w
 
   -- A word is read as l exactly if l is well formed and packs to it.
   pub decode-letter : (w : ℕ) (l : Letter) → (decodeLetter e h w ≡ value l) ↔ (HeaderFits e h × Fits h l × (letterWord e h l ≡ w))
   unfolding decodeLetter
   decode-letter w l =
-      let x = letterOf h (split (e .letter) w) in (
+      let x = namedLetter h (split (e .letter) w) in (
         λ q.
             let c = chosen ((headerTest e h && fitsTest h x) && eqb (letterWord e h x) w) x l 4 0 q in
             let b = and-true (headerTest e h && fitsTest h x) (eqb (letterWord e h x) w) (c .0) in
             let a = and-true (headerTest e h) (fitsTest h x) (b .0) in
             (header-test e h .0 (a .0), subst (Fits h) (c .1) (fits-test h x .0 (a .1)), ap (letterWord e h) (sym (c .1)) ∙ eqb-true (letterWord e h x) w (b .1)),
         λ v.
-            let n : letterOf h (split (e .letter) w) ≡ l = ap (λ u. letterOf h (split (e .letter) u)) (sym (v .2)) ∙ named-letter l (v .0) (v .1) in
+            let n : namedLetter h (split (e .letter) w) ≡ l = ap (λ u. namedLetter h (split (e .letter) u)) (sym (v .2)) ∙ named-letter l (v .0) (v .1) in
             rw (n, header-test e h .1 (v .0), fits-test h l .1 (v .1), eq-eqb (letterWord e h l) w (v .2)),
       )
 
@@ -198,7 +198,7 @@ module _ {e : Edition} (r : Roomy e) (h : Header) where
   pub decode-letter-refused : (w : ℕ) → (decodeLetter e h w ≡ refusal 4 0) ↔ ((l : Letter) → HeaderFits e h → Fits h l → letterWord e h l ≡ w → ⊥)
   unfolding decodeLetter
   decode-letter-refused w =
-      let x = letterOf h (split (e .letter) w) in (
+      let x = namedLetter h (split (e .letter) w) in (
         λ q l v f g. not-both q (decode-letter w l .1 (v, f, g)),
         λ f. unchosen ((headerTest e h && fitsTest h x) && eqb (letterWord e h x) w) x 4 0 λ q. let d = decode-letter w x .0 (rw q) in f x (d .0) (d .1) (d .2),
       )

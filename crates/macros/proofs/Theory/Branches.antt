@@ -8,7 +8,7 @@ use Rattle.macros.specs.Executions.{Outcome, done, failed, Exec, ExecEls
 use Rattle.macros.proofs.Theory.Executions.{completesBlock, block-begins}
 use Rattle.macros.specs.Executions
 use Rattle.macros.specs.Order.{Branch, first, second, Path, root, _▹_}
-use Rattle.macros.specs.Walk.{Place, at, failure, Move, no-move, move, Stand, nowhere, stand, take-move, onward, walk}
+use Rattle.macros.specs.Walk.{Place, at, failure, Move, no-move, move, Stand, nowhere, stand, take-move, takeBranch, walk}
 use Rattle.macros.proofs.Theory.Walk.{walk-keeps, walk-begins, shorter}
 
 -- One block after another.
@@ -55,7 +55,7 @@ Arrives start m failed k π = (p : Path) × (perform-along start m p ≡ stand f
 
 module _ (start : Trace) (m : Block) where
   goes : (p : Path) {k : Block} {ρ : Trace} (b : Branch) → perform-along start m p ≡ stand (at k) ρ → perform-along start m (p ▹ b) ≡ take-move ρ (branches k b)
-  goes p b e = ap (λ z. onward branches z b) e
+  goes p b e = ap (λ z. takeBranch branches z b) e
 
   mutual
     exec-walk : {s : Statement} {ρ π : Trace} {o : Outcome} → Exec s ρ π o → (k : Block) (p : Path) → perform-along start m p ≡ stand (at (due (s then k))) ρ → Arrives start m o k π

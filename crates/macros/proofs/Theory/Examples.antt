@@ -7,12 +7,12 @@ use native.Mathlib.Omega.{arith}
 use Rattle.letters.specs.declared.Letter.the-variants.{Copy, Apply, Equal, Unequal}
 use Rattle.semantics.specs.Terms.{Trace, _▸_}
 use Rattle.macros.specs.Tree.{equal, unequal, skip, perform, assert, if, while, present, Block, empty, _then_}
-use Rattle.macros.specs.Executions.{Partial, Complete, Failing, letter, holds, fails, leaves, turns, both, ends, stop, whole}
+use Rattle.macros.specs.Executions.{Partial, Complete, Failing, Exec, ExecBlock, whole}
 use Rattle.macros.proofs.Theory.Executions.{block-begins}
 use Rattle.macros.specs.Order.{Branch, first, second, Path, root, _▹_, Before}
 use Rattle.macros.specs.Walk.{Place, at, failure, move, stand}
 use Rattle.macros.proofs.Theory.Walk.{last, no-letters}
-use Rattle.macros.specs.Points.{size, entry, compile, step, check, fork, points, entrance, moves-at, run}
+use Rattle.macros.specs.Points.{sizeStatement, entry, compile, step, check, fork, points, entrance, moves-at, run}
 use Rattle.macros.proofs.Theory.Runs.{partial-is}
 
 -- vars x y; funs n/1; while x != y { x := n(x); } assert x = y;
@@ -22,17 +22,17 @@ chase = while (unequal 0 1) (perform (Apply 0 0 0 0) then empty) then assert (eq
 module _ (start : Trace) where
   -- no turn of the loop, one turn, and two turns
   no-turn : Complete start chase (start ▸ Equal 0 1 ▸ Equal 0 1)
-  no-turn = both (leaves refl) (both (holds refl) stop)
+  no-turn = ExecBlock.both (Exec.leaves refl) (ExecBlock.both (Exec.holds refl) ExecBlock.stop)
 
   one-turn : Complete start chase (start ▸ Unequal 0 1 ▸ Apply 0 0 0 0 ▸ Equal 0 1 ▸ Equal 0 1)
-  one-turn = both (turns (both letter stop) (leaves refl)) (both (holds refl) stop)
+  one-turn = ExecBlock.both (Exec.turns (ExecBlock.both Exec.letter ExecBlock.stop) (Exec.leaves refl)) (ExecBlock.both (Exec.holds refl) ExecBlock.stop)
 
   two-turns : Complete start chase (start ▸ Unequal 0 1 ▸ Apply 0 0 0 0 ▸ Unequal 0 1 ▸ Apply 0 0 0 0 ▸ Equal 0 1 ▸ Equal 0 1)
-  two-turns = both (turns (both letter stop) (turns (both letter stop) (leaves refl))) (both (holds refl) stop)
+  two-turns = ExecBlock.both (Exec.turns (ExecBlock.both Exec.letter ExecBlock.stop) (Exec.turns (ExecBlock.both Exec.letter ExecBlock.stop) (Exec.leaves refl))) (ExecBlock.both (Exec.holds refl) ExecBlock.stop)
 
   -- the assertion fails after one turn
   fails-after-one : Failing start chase (start ▸ Unequal 0 1 ▸ Apply 0 0 0 0 ▸ Equal 0 1 ▸ Unequal 0 1)
-  fails-after-one = both (turns (both letter stop) (leaves refl)) (ends (fails refl))
+  fails-after-one = ExecBlock.both (Exec.turns (ExecBlock.both Exec.letter ExecBlock.stop) (Exec.leaves refl)) (ExecBlock.ends (Exec.fails refl))
 
   -- the empty execution is a partial one
   nothing-yet : Partial start chase start
@@ -40,7 +40,7 @@ module _ (start : Trace) where
 
   -- the loop's body without its test is none
   not-the-body : ¬ Partial start chase (start ▸ Apply 0 0 0 0)
-  unfolding size entry compile
+  unfolding sizeStatement entry compile
   not-the-body x =
       let (p, l, e) = partial-is start chase (start ▸ Apply 0 0 0 0) .0 x in
       let z = last (moves-at (points chase)) (entrance chase) start p l start (Apply 0 0 0 0) e whole in
@@ -59,15 +59,15 @@ module _ (start : Trace) where
 
   -- ── points ──
   chase-points : points chase ≡ fork (unequal 0 1) 1 2 ∷ step (Apply 0 0 0 0) 0 ∷ check (equal 0 1) 3 ∷ []
-  unfolding size entry compile
+  unfolding sizeStatement entry compile
   chase-points = refl
 
   chase-fails : run start chase (root ▹ first ▹ first ▹ second ▹ first) ≡ stand failure (start ▸ Unequal 0 1 ▸ Apply 0 0 0 0 ▸ Equal 0 1 ▸ Unequal 0 1)
-  unfolding size entry compile
+  unfolding sizeStatement entry compile
   chase-fails = refl
 
   chase-ends : run start chase (root ▹ second ▹ second) ≡ stand (at 3) (start ▸ Equal 0 1 ▸ Equal 0 1)
-  unfolding size entry compile
+  unfolding sizeStatement entry compile
   chase-ends = refl
 
 -- if x = y { } else { skip; while x = y { } x := y; } y := x;
@@ -75,7 +75,7 @@ abbrev nest : Block
 nest = if (equal 0 1) empty (present (skip then while (equal 0 1) empty then perform (Copy 0 1) then empty)) then perform (Copy 1 0) then empty
 
 nest-points : points nest ≡ fork (equal 0 1) 3 1 ∷ fork (equal 0 1) 1 2 ∷ step (Copy 0 1) 3 ∷ step (Copy 1 0) 4 ∷ []
-unfolding size entry compile
+unfolding sizeStatement entry compile
 nest-points = refl
 
 -- ── order: shorter first, then by branch, from the front ──

@@ -10,13 +10,13 @@ use Rattle.macros.specs.Executions.{Partial}
 use Rattle.macros.specs.Order.{Branch, first, second, Path}
 use Rattle.macros.specs.Walk.{Place, Move, no-move, move, Stand, nowhere, stand, take-move, walk}
 use Rattle.macros.proofs.Theory.Walk.{walk-keeps}
-use Rattle.macros.specs.Points.{Point, step, check, fork, size, sizeBlock, entry, compile, compileElse, compileBlock, points, entrance, moves, moves-at, run}
+use Rattle.macros.specs.Points.{Point, step, check, fork, sizeStatement, sizeBlock, entry, compile, compileElse, compileBlock, points, entrance, moves, moves-at, run}
 use Rattle.macros.proofs.Theory.Points.{Every, every-append, every-moves}
 use Rattle.macros.proofs.Theory.Runs.{partial-is}
 
 -- A trace of the header's, every letter of which fits.
-abbrev pub Formed : Header → Trace → Type 0
-Formed h ρ = WellFormed ρ × (state ρ .header ≡ h)
+abbrev pub FormedUnder : Header → Trace → Type 0
+FormedUnder h ρ = WellFormed ρ × (state ρ .header ≡ h)
 
 -- The letter of a move fits.
 abbrev pub FitsMove : {A : Type 0} → Header → Move A → Type 0
@@ -60,20 +60,20 @@ module _ (h : Header) where
     fit-block : (t : Block) (b n : ℕ) → ProperBlock t h → Every (FitsPoint h) (compileBlock t b n)
     fit-block empty b n p = tt
     fit-block (s then t) b n p =
-        every-append (FitsPoint h) (compile s b (entry (sizeBlock t) (b + size s) n)) (compileBlock t (b + size s) n)
-        (fit-compile s b (entry (sizeBlock t) (b + size s) n) (p .0)) (fit-block t (b + size s) n (p .1))
+        every-append (FitsPoint h) (compile s b (entry (sizeBlock t) (b + sizeStatement s) n)) (compileBlock t (b + sizeStatement s) n)
+        (fit-compile s b (entry (sizeBlock t) (b + sizeStatement s) n) (p .0)) (fit-block t (b + sizeStatement s) n (p .1))
 
   -- The letters at the points of a proper macro fit.
   pub points-fit : (m : Block) → ProperBlock m h → (n : ℕ) (d : Branch) → FitsMove h (moves-at (points m) n d)
   points-fit m p n d = every-moves (FitsPoint h) (FitsMove h) tt (fits-moves h) (points m) n d (fit-block m 0 (sizeBlock m) p)
 
   -- ── the letters of a walk ──
-  module _ {A : Type 0} (moves : A → Branch → Move A) (fit : (k : A) (d : Branch) → FitsMove h (moves k d)) (origin : A) (start : Trace) (formed : Formed h start) where
+  module _ {A : Type 0} (moves : A → Branch → Move A) (fit : (k : A) (d : Branch) → FitsMove h (moves k d)) (origin : A) (start : Trace) (formed : FormedUnder h start) where
     abbrev FormedStand : Stand A → Type 0
     FormedStand nowhere = Unit {0}
-    FormedStand (stand l ρ) = Formed h ρ
+    FormedStand (stand l ρ) = FormedUnder h ρ
 
-    formed-move : (ρ : Trace) → Formed h ρ → (y : Move A) → FitsMove h y → FormedStand (take-move ρ y)
+    formed-move : (ρ : Trace) → FormedUnder h ρ → (y : Move A) → FitsMove h y → FormedStand (take-move ρ y)
     formed-move ρ x no-move f = tt
     formed-move ρ x (move a l) f = ((x .0, subst (λ g. Fits g a) (sym (x .1)) f), x .1)
 
@@ -81,9 +81,9 @@ module _ (h : Header) where
     formed-walk p = walk-keeps moves FormedStand tt (λ k ρ d x. formed-move ρ x (moves k d) (fit k d)) origin start formed p
 
   -- The executions of a proper macro from a formed start are formed.
-  pub run-formed : (start : Trace) (m : Block) → Formed h start → ProperBlock m h → (p : Path) (l : Place ℕ) (ρ : Trace) → run start m p ≡ stand l ρ → Formed h ρ
+  pub run-formed : (start : Trace) (m : Block) → FormedUnder h start → ProperBlock m h → (p : Path) (l : Place ℕ) (ρ : Trace) → run start m p ≡ stand l ρ → FormedUnder h ρ
   run-formed start m f x p l ρ e =
       subst (FormedStand (moves-at (points m)) (points-fit m x) (entrance m) start f) e (formed-walk (moves-at (points m)) (points-fit m x) (entrance m) start f p)
 
-  pub partial-formed : (start : Trace) (m : Block) (ρ : Trace) → Formed h start → ProperBlock m h → Partial start m ρ → Formed h ρ
+  pub partial-formed : (start : Trace) (m : Block) (ρ : Trace) → FormedUnder h start → ProperBlock m h → Partial start m ρ → FormedUnder h ρ
   partial-formed start m ρ f x y = let (p, l, e) = partial-is start m ρ .0 y in run-formed start m f x p l ρ e

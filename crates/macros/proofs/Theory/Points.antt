@@ -10,7 +10,7 @@ use Rattle.base.specs.Choice.{pick}
 use Rattle.macros.specs.Order.{Branch}
 use Rattle.macros.specs.Walk.{Move, no-move}
 use Rattle.macros.specs.Tree.{Statement, skip, perform, assert, if, while, Else, absent, present, Block, empty, _then_}
-use Rattle.macros.specs.Points.{Point, step, check, fork, size, sizeElse, sizeBlock, entry, compile, compileElse, compileBlock, points, moves, moves-at}
+use Rattle.macros.specs.Points.{Point, step, check, fork, sizeStatement, sizeElse, sizeBlock, entry, compile, compileElse, compileBlock, points, moves, moves-at}
 
 -- ── laws ──
 -- the entry as a choice by the count
@@ -32,9 +32,9 @@ entry-then (suc m) n b follow =
 
 -- there are as many points as counted
 mutual
-  unfolding size compile
+  unfolding sizeStatement compile
 
-  pub compile-length : (s : Statement) (b follow : ℕ) → length (compile s b follow) ≡ size s
+  pub compile-length : (s : Statement) (b follow : ℕ) → length (compile s b follow) ≡ sizeStatement s
   compile-length skip b follow = refl
   compile-length (perform a) b follow = refl
   compile-length (assert c) b follow = refl
@@ -51,8 +51,8 @@ mutual
   pub compileBlock-length : (t : Block) (b follow : ℕ) → length (compileBlock t b follow) ≡ sizeBlock t
   compileBlock-length empty b follow = refl
   compileBlock-length (s then t) b follow =
-      let i = compile-length s b (entry (sizeBlock t) (b + size s) follow) in
-      let j = compileBlock-length t (b + size s) follow in
+      let i = compile-length s b (entry (sizeBlock t) (b + sizeStatement s) follow) in
+      let j = compileBlock-length t (b + sizeStatement s) follow in
       simp (length-append) (omega arith)
 
 -- P holds of every point.
@@ -84,9 +84,9 @@ entry-within zero b follow n u v = v
 entry-within (suc k) b follow n u v = u
 
 mutual
-  unfolding size compile
+  unfolding sizeStatement compile
 
-  leads : (s : Statement) (b follow n : ℕ) → b + size s ≤ n → follow ≤ n → Every (LeadsWithin n) (compile s b follow)
+  leads : (s : Statement) (b follow n : ℕ) → b + sizeStatement s ≤ n → follow ≤ n → Every (LeadsWithin n) (compile s b follow)
   leads skip b follow n u v = tt
   leads (perform a) b follow n u v = (v, tt)
   leads (assert c) b follow n u v = (v, tt)
@@ -104,9 +104,9 @@ mutual
   leadsBlock : (t : Block) (b follow n : ℕ) → b + sizeBlock t ≤ n → follow ≤ n → Every (LeadsWithin n) (compileBlock t b follow)
   leadsBlock empty b follow n u v = tt
   leadsBlock (s then t) b follow n u v =
-      every-append (LeadsWithin n) (compile s b (entry (sizeBlock t) (b + size s) follow)) (compileBlock t (b + size s) follow)
-      (leads s b (entry (sizeBlock t) (b + size s) follow) n (omega arith) (entry-within (sizeBlock t) (b + size s) follow n (omega arith) v))
-      (leadsBlock t (b + size s) follow n (omega arith) v)
+      every-append (LeadsWithin n) (compile s b (entry (sizeBlock t) (b + sizeStatement s) follow)) (compileBlock t (b + sizeStatement s) follow)
+      (leads s b (entry (sizeBlock t) (b + sizeStatement s) follow) n (omega arith) (entry-within (sizeBlock t) (b + sizeStatement s) follow n (omega arith) v))
+      (leadsBlock t (b + sizeStatement s) follow n (omega arith) v)
 
 pub points-lead : (m : Block) → Every (LeadsWithin (sizeBlock m)) (points m)
 points-lead m = leadsBlock m 0 (sizeBlock m) (sizeBlock m) (omega arith) (omega arith)

@@ -17,7 +17,7 @@ use Rattle.macros.specs.Order.{Branch, first, second, Path, steps}
 use Rattle.macros.specs.Walk.{Place, at, failure, Move, no-move, move, Stand, nowhere, stand, take-move, walk}
 use Rattle.macros.proofs.Theory.Walk.{walk-keeps, walk-begins, walk-steps, walk-once, on-place, on-move, on-stand, on-stand-back, same-walk}
 use Rattle.macros.proofs.Theory.Branches.{_before_, elseBlock, due, branches, perform-along, before-empty, complete-walk, failing-walk, partial-walk}
-use Rattle.macros.specs.Points.{Point, step, check, fork, size, sizeElse, sizeBlock, entry, compile, compileElse, compileBlock, points, entrance, moves, moved, moves-at, run}
+use Rattle.macros.specs.Points.{Point, step, check, fork, sizeStatement, sizeElse, sizeBlock, entry, compile, compileElse, compileBlock, points, entrance, moves, moved, moves-at, run}
 use Rattle.macros.proofs.Theory.Points.{entry-then, compile-length, compileBlock-length, every-moves, LeadsWithin, entry-within, points-lead}
 
 -- ── a part of a list, from number b on ──
@@ -68,9 +68,9 @@ abbrev mutual
   remainsBlock (s then b) k = remains s (b before k) ++ remainsBlock b k
 
 mutual
-  unfolding size
+  unfolding sizeStatement
 
-  remains-length : (s : Statement) (k : Block) → length (remains s k) ≡ size s
+  remains-length : (s : Statement) (k : Block) → length (remains s k) ≡ sizeStatement s
   remains-length skip k = refl
   remains-length (perform a) k = refl
   remains-length (assert c) k = refl
@@ -109,17 +109,17 @@ module _ (m : Block) where
   rest-is : (n : ℕ) (k : Block) → getElem? (remainsBlock m empty) n ≡ some k → rest m n ≡ k
   rest-is n k e = ap remaining e
 
-  rests-then : (s : Statement) (t k : Block) (b : ℕ) → Rests b (remainsBlock (s then t) k) → Rests b (remains s (t before k)) × Rests (b + size s) (remainsBlock t k)
+  rests-then : (s : Statement) (t k : Block) (b : ℕ) → Rests b (remainsBlock (s then t) k) → Rests b (remains s (t before k)) × Rests (b + sizeStatement s) (remainsBlock t k)
   rests-then s t k b g = (
     segment-left (remainsBlock m empty) b (remains s (t before k)) (remainsBlock t k) g,
-    segment-right (remainsBlock m empty) b (remains s (t before k)) (remainsBlock t k) (size s) (remains-length s (t before k)) g,
+    segment-right (remainsBlock m empty) b (remains s (t before k)) (remainsBlock t k) (sizeStatement s) (remains-length s (t before k)) g,
   )
 
   -- at the entry of a part, the part is left to perform
   mutual
-    unfolding size entry
+    unfolding sizeStatement entry
 
-    enters : (s : Statement) (b n : ℕ) (k : Block) → Rests b (remains s k) → rest m n ≡ due k → rest m (entry (size s) b n) ≡ due (s then k)
+    enters : (s : Statement) (b n : ℕ) (k : Block) → Rests b (remains s k) → rest m n ≡ due k → rest m (entry (sizeStatement s) b n) ≡ due (s then k)
     enters skip b n k g e = e
     enters (perform a) b n k g e = rest-is b (perform a then k) (g .0)
     enters (assert c) b n k g e = rest-is b (assert c then k) (g .0)
@@ -134,8 +134,8 @@ module _ (m : Block) where
     entersBlock empty b n k g e = e
     entersBlock (s then t) b n k g e =
         let (u, v) = rests-then s t k b g in
-        ap (rest m) (entry-then (size s) (sizeBlock t) b n)
-        ∙ enters s b (entry (sizeBlock t) (b + size s) n) (t before k) u (entersBlock t (b + size s) n k v e)
+        ap (rest m) (entry-then (sizeStatement s) (sizeBlock t) b n)
+        ∙ enters s b (entry (sizeBlock t) (b + sizeStatement s) n) (t before k) u (entersBlock t (b + sizeStatement s) n k v e)
 
   -- point n has the branches of what is left there
   abbrev Alike : ℕ → Branch → Type 0
@@ -168,10 +168,10 @@ module _ (m : Block) where
   first-or-later b n d i x y = elim (less-or b n) [ inl l ↦ y (omega arith) | inr l ↦ subst (λ z. Alike z d) (omega arith) x ]
 
   mutual
-    unfolding size compile
+    unfolding sizeStatement compile
 
     alike : (s : Statement) (b n : ℕ) (k : Block) → Stands b (compile s b n) → Rests b (remains s k) → rest m n ≡ due k
-        → (i : ℕ) → b ≤ i → i < b + size s → (d : Branch) → Alike i d
+        → (i : ℕ) → b ≤ i → i < b + sizeStatement s → (d : Branch) → Alike i d
     alike skip b n k p r e i l h d = absurd (omega arith)
     alike (perform a) b n k p r e i l h d =
         first-or-later b i d l (alike-at b (step a n) (perform a then k) d (p .0) (r .0) (alike-step a n k e d)) (λ u. absurd (omega arith))
@@ -210,14 +210,14 @@ module _ (m : Block) where
     alikeBlock empty b n k p r e i l h d = absurd (omega arith)
     alikeBlock (s then t) b n k p r e i l h d =
         let (rs, rt) = rests-then s t k b r in
-        let ps : Stands b (compile s b (entry (sizeBlock t) (b + size s) n)) =
-        segment-left (points m) b (compile s b (entry (sizeBlock t) (b + size s) n)) (compileBlock t (b + size s) n) p in
-        let pt : Stands (b + size s) (compileBlock t (b + size s) n) =
-        segment-right (points m) b (compile s b (entry (sizeBlock t) (b + size s) n)) (compileBlock t (b + size s) n) (size s)
-        (compile-length s b (entry (sizeBlock t) (b + size s) n)) p in
-        elim (less-or i (b + size s)) [
-          | inl v ↦ alike s b (entry (sizeBlock t) (b + size s) n) (t before k) ps rs (entersBlock t (b + size s) n k rt e) i l v d
-          | inr v ↦ alikeBlock t (b + size s) n k pt rt e i v (omega arith) d
+        let ps : Stands b (compile s b (entry (sizeBlock t) (b + sizeStatement s) n)) =
+        segment-left (points m) b (compile s b (entry (sizeBlock t) (b + sizeStatement s) n)) (compileBlock t (b + sizeStatement s) n) p in
+        let pt : Stands (b + sizeStatement s) (compileBlock t (b + sizeStatement s) n) =
+        segment-right (points m) b (compile s b (entry (sizeBlock t) (b + sizeStatement s) n)) (compileBlock t (b + sizeStatement s) n) (sizeStatement s)
+        (compile-length s b (entry (sizeBlock t) (b + sizeStatement s) n)) p in
+        elim (less-or i (b + sizeStatement s)) [
+          | inl v ↦ alike s b (entry (sizeBlock t) (b + sizeStatement s) n) (t before k) ps rs (entersBlock t (b + sizeStatement s) n k rt e) i l v d
+          | inr v ↦ alikeBlock t (b + sizeStatement s) n k pt rt e i v (omega arith) d
         ]
 
   -- nothing is left at the end

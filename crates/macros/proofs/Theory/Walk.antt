@@ -9,13 +9,13 @@ use Rattle.semantics.specs.Prefixes.{Begins, whole, before}
 use Rattle.semantics.proofs.Theory.Prefixes.{begins-join}
 use Rattle.semantics.proofs.Theory.Prefixes.{begins-size}
 use Rattle.macros.specs.Order.{Branch, Path, root, _▹_, steps}
-use Rattle.macros.specs.Walk.{Place, at, failure, Move, no-move, move, Stand, nowhere, stand, take-move, onward, walk}
+use Rattle.macros.specs.Walk.{Place, at, failure, Move, no-move, move, Stand, nowhere, stand, take-move, takeBranch, walk}
 
 -- ── laws ──
 -- What holds at the start, and after each move from where it holds, holds of every walk.
 module _ {A : Type 0} (moves : A → Branch → Move A) (P : Stand A → Type 0) (none : P nowhere)
     (step : (k : A) (ρ : Trace) (b : Branch) → P (stand (at k) ρ) → P (take-move ρ (moves k b))) where
-  keeps-onward : (z : Stand A) (b : Branch) → P z → P (onward moves z b)
+  keeps-onward : (z : Stand A) (b : Branch) → P z → P (takeBranch moves z b)
   keeps-onward nowhere b x = none
   keeps-onward (stand failure ρ) b x = none
   keeps-onward (stand (at k) ρ) b x = step k ρ b x
@@ -58,7 +58,7 @@ module _ {A : Type 0} (moves : A → Branch → Move A) (origin : A) (start : Tr
       taken k π no-move u v w = absurd (let z : _≡_ {A = ℕ} 0 1 = cc in omega arith)
       taken k π (move c j) u v w = record { path = p; branch = b; place = k; is = refl; stood = cc; moved = cc }
 
-      go : (z : Stand A) → walk moves origin start p ≡ z → onward moves z b ≡ stand l (ρ ▸ a) → Last (p ▹ b) l ρ a
+      go : (z : Stand A) → walk moves origin start p ≡ z → takeBranch moves z b ≡ stand l (ρ ▸ a) → Last (p ▹ b) l ρ a
       go nowhere u w = absurd (let z : _≡_ {A = ℕ} 0 1 = cc in omega arith)
       go (stand failure π) u w = absurd (let z : _≡_ {A = ℕ} 0 1 = cc in omega arith)
       go (stand (at k) π) u w = taken k π (moves k b) u refl w
@@ -84,7 +84,7 @@ module _ {A : Type 0} (moves : A → Branch → Move A) (origin : A) (start : Tr
           let h = ap letters f in
           omega arith
 
-      go : (z : Stand A) → walk moves origin start p ≡ z → onward moves z b ≡ stand l start → ⊥
+      go : (z : Stand A) → walk moves origin start p ≡ z → takeBranch moves z b ≡ stand l start → ⊥
       go nowhere u w = let z : _≡_ {A = ℕ} 0 1 = cc in omega arith
       go (stand failure π) u w = let z : _≡_ {A = ℕ} 0 1 = cc in omega arith
       go (stand (at k) π) u w = taken k π (moves k b) u w
@@ -140,7 +140,7 @@ module _ {A B : Type 0} (f : A → B) where
     on-take ρ no-move = refl
     on-take ρ (move a l) = refl
 
-    on-onward : (z : Stand A) (b : Branch) → onward others (on-stand z) b ≡ on-stand (onward moves z b)
+    on-onward : (z : Stand A) (b : Branch) → takeBranch others (on-stand z) b ≡ on-stand (takeBranch moves z b)
     on-onward nowhere b = refl
     on-onward (stand failure ρ) b = refl
     on-onward (stand (at k) ρ) b = ap (take-move ρ) (alike k b) ∙ on-take ρ (moves k b)
@@ -148,4 +148,4 @@ module _ {A B : Type 0} (f : A → B) where
     -- if each place has the moves of the place that f makes of it, the walks are the same
     pub same-walk : (origin : A) (start : Trace) (p : Path) → walk others (f origin) start p ≡ on-stand (walk moves origin start p)
     same-walk origin start root = refl
-    same-walk origin start (p ▹ b) = ap (λ z. onward others z b) (same-walk origin start p) ∙ on-onward (walk moves origin start p) b
+    same-walk origin start (p ▹ b) = ap (λ z. takeBranch others z b) (same-walk origin start p) ∙ on-onward (walk moves origin start p) b

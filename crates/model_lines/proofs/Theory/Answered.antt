@@ -9,13 +9,13 @@ use Rattle.files.specs.declared.Lines as files
 use Rattle.files.specs.declared.Lines.the-variants.{Written}
 use Rattle.files.proofs.Theory.LinesLaws.{answers-written}
 use Rattle.text.proofs.Theory.Appending.{appended-length}
-use Rattle.model_lines.specs.Prints.{mostBytes, Prints}
-use Rattle.model_lines.specs.Answered.{knownTrace, AnswersRead}
+use Rattle.model_lines.specs.Prints.{mostModelLineBytes, PrintsModelLine}
+use Rattle.model_lines.specs.Answered.{knownTrace, AnswersTraceInput}
 
 -- A line that was written lies in the buffer.
-module _ (entry exit : List ℕ) (r : files.Lines) (x : AnswersRead entry r exit) (room : mostBytes ≡ length entry) {size : ℕ} (e : r ≡ Written size) where
-  written : (s : List ℕ) × Prints s entry size exit
-  written = answers-written Prints (knownTrace (x .input) (x .behind) (x .buffer)) entry exit r size e (x .answers)
+module _ (entry exit : List ℕ) (r : files.Lines) (x : AnswersTraceInput entry r exit) (room : mostModelLineBytes ≡ length entry) {size : ℕ} (e : r ≡ Written size) where
+  written : (s : List ℕ) × PrintsModelLine s entry size exit
+  written = answers-written PrintsModelLine (knownTrace (x .input) (x .behind) (x .buffer)) entry exit r size e (x .answers)
 
   pub written-within : size ≤ length exit
   written-within = let p = written .1 in omega (arith, p .few, p .appended .place, appended-length (p .appended), room)

@@ -13,11 +13,11 @@ use Rattle.base.proofs.Theory.Choice.{byTest}
 use Rattle.letters.specs.declared.Header.{Header}
 use Rattle.letters.specs.declared.Letter.{Letter}
 use Rattle.letters.specs.Editions.{firstEdition, mostLetters}
-use Rattle.traces.specs.Reading.{Reading, trace, refused}
+use Rattle.traces.specs.Reading.{TraceReading, trace}
 use Rattle.traces.specs.ReadingParts.{readingWithin}
 use Rattle.semantics.specs.Terms.{State, begin, state, traceOf}
 use Rattle.semantics.proofs.Theory.TraceLaws.{extend-size, extend-header, terms-length}
-use Rattle.semantics.specs.ShownTables.{number, tablesOf}
+use Rattle.semantics.specs.ShownTables.{shownValue, tablesOf}
 use Rattle.semantics.specs.ShownTables.{shownTables}
 use Rattle.semantics.proofs.Theory.ShownPacked.{rows-length, starts-length}
 use Rattle.semantics.proofs.Theory.PackedTablesLaws.{packed-length}
@@ -27,16 +27,16 @@ use Rattle.text.proofs.Theory.Numerals.{numeral-length}
 use Rattle.text.specs.Names.{nameText}
 use Rattle.text.proofs.Theory.Names.{name-back}
 use Rattle.text.specs.Templates.{part, filledIn}
-use Rattle.text.specs.Appending.{Appended, Room}
+use Rattle.text.specs.Appending.{Appended, PlaceInRange}
 use Rattle.report.specs.Lines.{line}
-use Rattle.shown.specs.declared.Shown.{Shown}
-use Rattle.shown.specs.declared.Shown.the-variants.{Model, Infeasible, Refused}
-use Rattle.shown.specs.Answer as answer
-use Rattle.shown.specs.Answer.{shownAnswer, modelBytes, answerTo, outputAfter, Showed}
-use Rattle.shown.proofs.Theory.AnswerLaws.{model-within}
-use Rattle.shown.proofs.Theory.Means.{is-trace}
-use Rattle.model_lines.specs.Prints.{octetText, hexText, modelWord, modelLine, infeasibleLine, refusedLine, readLine, lineFor, lineOf, mostBytes, Prints}
-use Rattle.model_lines.specs.PrintsLaws.{mostModel, Held, Wrote}
+use Rattle.model_writer.specs.declared.Shown.{Shown}
+use Rattle.model_writer.specs.declared.Shown.the-variants.{Model, Infeasible, Refused}
+use Rattle.model_writer.specs.Answer as answer
+use Rattle.model_writer.specs.Answer.{shownAnswer, modelBytes, answerTo, outputAfter, Showed}
+use Rattle.model_writer.proofs.Theory.AnswerLaws.{model-within}
+use Rattle.model_writer.proofs.Theory.Means.{is-trace}
+use Rattle.model_lines.specs.Prints.{octetText, hexText, modelWord, modelLine, infeasibleLine, refusedLine, readLine, lineFor, lineOf, mostModelLineBytes, PrintsModelLine}
+use Rattle.model_lines.specs.Written.{mostModel, ModelWithin, WroteLine}
 
 -- ── lines as templates with their fields ──
 glyph-byte : (d : ℕ) → d < 16 → (0 < glyph d) × (glyph d < 256)
@@ -100,45 +100,45 @@ hex-length (b ∷ bytes) = let i = hex-length bytes in omega arith
 long-number : (n : ℕ) → n < 2 ^ 64 → length (numeral n) ≤ 20
 long-number n h = numeral-length 19 n (omega arith)
 
-pub model-few : (bytes : List ℕ) → length bytes ≤ mostModel → length (modelLine bytes) ≤ mostBytes
+pub model-few : (bytes : List ℕ) → length bytes ≤ mostModel → length (modelLine bytes) ≤ mostModelLineBytes
 unfolding modelLine line
 model-few bytes h = simp length-append (omega (arith, hex-length bytes))
 
-pub infeasible-few : (n : ℕ) → n < 2 ^ 64 → length (infeasibleLine n) ≤ mostBytes
+pub infeasible-few : (n : ℕ) → n < 2 ^ 64 → length (infeasibleLine n) ≤ mostModelLineBytes
 unfolding infeasibleLine line
 infeasible-few n h = simp length-append (omega (arith, long-number n h))
 
-pub refused-few : (m n : ℕ) → m < 2 ^ 64 → n < 2 ^ 64 → length (refusedLine m n) ≤ mostBytes
+pub refused-few : (m n : ℕ) → m < 2 ^ 64 → n < 2 ^ 64 → length (refusedLine m n) ≤ mostModelLineBytes
 unfolding refusedLine line
 refused-few m n h l = simp length-append (omega (arith, long-number m h, long-number n l))
 
-pub few-room : {text : List ℕ} → length text ≤ mostBytes → Room 0 text
+pub few-room : {text : List ℕ} → length text ≤ mostModelLineBytes → PlaceInRange 0 text
 few-room h = record { fits = omega (arith, h) }
 
 module _ (entry out exit : List ℕ) (r : Shown) (size : ℕ) where
-  pub wrote-model : (n : ℕ) → r ≡ Model n → Held r (length out) → Appended entry 0 (modelLine (take n out)) exit size → Wrote entry r out size exit
+  pub wrote-model : (n : ℕ) → r ≡ Model n → ModelWithin r (length out) → Appended entry 0 (modelLine (take n out)) exit size → WroteLine entry r out size exit
   unfolding lineOf
-  wrote-model n e h a = subst (λ (q : Shown). Wrote entry q out size exit)
+  wrote-model n e h a = subst (λ (q : Shown). WroteLine entry q out size exit)
       (sym e) record { few = model-few (take n out) (omega (arith, held .0, held .1, length-take-le n out (held .0))); appended = a }
     where
       held : (n ≤ length out) × (length out ≤ mostModel)
-      held = subst (λ (q : Shown). Held q (length out)) e h
+      held = subst (λ (q : Shown). ModelWithin q (length out)) e h
 
-  pub wrote-infeasible : (n : ℕ) → r ≡ Infeasible n → n < 2 ^ 64 → Appended entry 0 (infeasibleLine n) exit size → Wrote entry r out size exit
+  pub wrote-infeasible : (n : ℕ) → r ≡ Infeasible n → n < 2 ^ 64 → Appended entry 0 (infeasibleLine n) exit size → WroteLine entry r out size exit
   unfolding lineOf
-  wrote-infeasible n e h a = subst (λ (q : Shown). Wrote entry q out size exit) (sym e) record { few = infeasible-few n h; appended = a }
+  wrote-infeasible n e h a = subst (λ (q : Shown). WroteLine entry q out size exit) (sym e) record { few = infeasible-few n h; appended = a }
 
-  pub wrote-refused : (m n : ℕ) → r ≡ Refused m n → m < 2 ^ 64 → n < 2 ^ 64 → Appended entry 0 (refusedLine m n) exit size → Wrote entry r out size exit
+  pub wrote-refused : (m n : ℕ) → r ≡ Refused m n → m < 2 ^ 64 → n < 2 ^ 64 → Appended entry 0 (refusedLine m n) exit size → WroteLine entry r out size exit
   unfolding lineOf
-  wrote-refused m n e h l a = subst (λ (q : Shown). Wrote entry q out size exit) (sym e) record { few = refused-few m n h l; appended = a }
+  wrote-refused m n e h l a = subst (λ (q : Shown). WroteLine entry q out size exit) (sym e) record { few = refused-few m n h l; appended = a }
 
-pub model-held : (r : Shown) (n room : ℕ) → r ≡ Model n → Held r room → (n ≤ room) × (room ≤ mostModel)
-model-held r n room e h = subst (λ (q : Shown). Held q room) e h
+pub model-held : (r : Shown) (n room : ℕ) → r ≡ Model n → ModelWithin r room → (n ≤ room) × (room ≤ mostModel)
+model-held r n room e h = subst (λ (q : Shown). ModelWithin q room) e h
 
-pub model-room : (n : ℕ) (out : List ℕ) → n ≤ length out → length out ≤ mostModel → Room 0 (modelLine (take n out))
+pub model-room : (n : ℕ) (out : List ℕ) → n ≤ length out → length out ≤ mostModel → PlaceInRange 0 (modelLine (take n out))
 model-room n out h l = few-room (model-few (take n out) (omega (arith, length-take-le n out h)))
 
-pub showed-held : (s entry exit : List ℕ) (r : Shown) → Showed s entry r exit → length exit ≡ length entry → length entry ≤ mostModel → Held r (length exit)
+pub showed-held : (s entry exit : List ℕ) (r : Shown) → Showed s entry r exit → length exit ≡ length entry → length entry ≤ mostModel → ModelWithin r (length exit)
 showed-held s entry exit (Model n) x e l = (omega (arith, model-within s entry exit (Model n) n x refl, e), omega (arith, e, l))
 showed-held s entry exit (Infeasible k) x e l = tt
 showed-held s entry exit (Refused number place) x e l = tt
@@ -166,7 +166,7 @@ module _ (s : List ℕ) (h : Header) (ls : List Letter) (e : readingWithin mostL
   unfolding tablesOf shownTables
   starts-few = omega (
     arith,
-    starts-length (number σ) 0 (σ .header .registers),
+    starts-length (shownValue σ) 0 (σ .header .registers),
     ap (λ (g : Header). g .registers) (extend-header (begin h) ls),
     is-trace s h ls e .header .registers,
   )
@@ -199,9 +199,9 @@ module _ (s entry exit : List ℕ) (r : Shown) (x : Showed s entry r exit) (room
   unfolding answerTo outputAfter readLine
   answer-line = go (readingWithin mostLetters firstEdition s) refl (x .answer) (x .output)
     where
-      go : (y : Reading) → readingWithin mostLetters firstEdition s ≡ y → shownAnswer r ≡ answerTo y (length entry) → exit ≡ outputAfter y entry
+      go : (y : TraceReading) → readingWithin mostLetters firstEdition s ≡ y → shownAnswer r ≡ answerTo y (length entry) → exit ≡ outputAfter y entry
           → lineOf r exit ≡ readLine y
-      go (refused a b) q e f = refused-line r a b exit e
+      go (TraceReading.refused a b) q e f = refused-line r a b exit e
       go (trace h ls) q e f =
           let bytes = modelBytes (state (traceOf h ls)) in
           let u = le-leb (length bytes) (length entry) (omega (arith, model-fits s h ls q, room)) in
@@ -209,8 +209,8 @@ module _ (s entry exit : List ℕ) (r : Shown) (x : Showed s entry r exit) (room
           (λ t. rw t (model-line r bytes (drop (length bytes) entry) exit (rw (t, u) at e) (rw (t, u) at f)))
           λ t. rw t (infeasible-line r (firstInfeasible (traceOf h ls)) exit (rw t at e))
 
-  pub prints : (before : List ℕ) (size : ℕ) (after : List ℕ) → Wrote before r exit size after → Prints s before size after
+  pub prints : (before : List ℕ) (size : ℕ) (after : List ℕ) → WroteLine before r exit size after → PrintsModelLine s before size after
   prints before size after w = record {
-    few = subst (λ (l : List ℕ). length l ≤ mostBytes) answer-line (w .few);
+    few = subst (λ (l : List ℕ). length l ≤ mostModelLineBytes) answer-line (w .few);
     appended = subst (λ (l : List ℕ). Appended before 0 l after size) answer-line (w .appended);
   }

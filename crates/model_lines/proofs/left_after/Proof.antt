@@ -1,6 +1,6 @@
 use borrow.Author.Needs.{needs}
 use mathlib.Core.Path.{sym, ap, _∙_}
-use Rattle.model_lines.specs.declared.Left.the-variants.{Over}
+use Rattle.model_lines.specs.declared.InputLeft.the-variants.{Over}
 use Rattle.model_lines.specs.Answered.{leftOf}
 use Rattle.model_lines.proofs.left_after.Statement.{statement}
 use Rattle.model_lines.proofs.left_after.Tie as tie

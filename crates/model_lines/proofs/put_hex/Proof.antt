@@ -1,14 +1,14 @@
 use borrow.Author.Needs.{needs}
 use Prim.Native.Nat.{_+_, _-_}
 use lib.ListN.{length, getD, drop}
-use Rattle.text.proofs.Theory.Appending.{Left, left-all, left-next, left-none, left-room, left-same, left-length}
+use Rattle.text.proofs.Theory.Appending.{LeftToAppend, left-all, left-next, left-none, left-room, left-same, left-length}
 use Rattle.model_lines.specs.Prints.{octetText, hexText}
 use Rattle.model_lines.proofs.Theory.PrintsLaws.{hex-next, hex-none}
 use Rattle.model_lines.proofs.put_hex.Statement.{statement}
 use Rattle.model_lines.proofs.put_hex.Tie as tie
 
 abbrev Inv-loop : tie.InvT-loop
-Inv-loop out₀ at bytes next₀ i₀ out next i = Left out₀ at (hexText bytes) (hexText (drop i bytes)) out next
+Inv-loop out₀ at bytes next₀ i₀ out next i = LeftToAppend out₀ at (hexText bytes) (hexText (drop i bytes)) out next
 
 abbrev μ-loop : tie.MeasureT-loop
 μ-loop out₀ at bytes next₀ i₀ out next i = length bytes - i

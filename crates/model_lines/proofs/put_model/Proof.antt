@@ -2,7 +2,7 @@ use borrow.Author.Needs.{needs}
 use mathlib.Core.Path.{sym, _∙_}
 use mathlib.Core.List.{List, [], _∷_, _++_}
 use Prim.Native.Nat.{ℕ}
-use Rattle.text.specs.Appending.{Appended, Room}
+use Rattle.text.specs.Appending.{Appended, PlaceInRange}
 use Rattle.text.proofs.Theory.Appending.{room-same, room-first, room-then, appended-same, appended-then, appended-length}
 use Rattle.text.specs.Templates.{filledIn}
 use Rattle.model_lines.specs.Prints.{hexText, modelWord, modelLine}
@@ -11,18 +11,18 @@ use Rattle.model_lines.proofs.put_model.Statement.{statement}
 use Rattle.model_lines.proofs.put_model.Tie as tie
 
 -- the word, the digits and the line feed
-module _ (bytes : List ℕ) (room : Room 0 (modelLine bytes)) where
+module _ (bytes : List ℕ) (room : PlaceInRange 0 (modelLine bytes)) where
   abbrev rest : List ℕ
   rest = hexText bytes ++ (10 ∷ [])
 
-  whole : Room 0 (modelWord ++ (hexText bytes ++ (10 ∷ [])))
+  whole : PlaceInRange 0 (modelWord ++ (hexText bytes ++ (10 ∷ [])))
   whole = room-same (model-parts bytes) room
 
   module _ {entry exit : List ℕ} {n : ℕ} (a : Appended entry 0 (filledIn modelWord (0 ∷ 0 ∷ 0 ∷ 0 ∷ [])) exit n) where
     word : Appended entry 0 modelWord exit n
     word = appended-same (sym model-form) a
 
-    behind : Room n (hexText bytes ++ (10 ∷ []))
+    behind : PlaceInRange n (hexText bytes ++ (10 ∷ []))
     behind = room-then modelWord rest whole word
 
 pub put-model-spec : {M : Type 1} → statement M

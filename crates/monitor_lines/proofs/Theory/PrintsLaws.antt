@@ -12,16 +12,16 @@ use Rattle.letters.specs.Answers.{Answer}
 use Rattle.text.specs.Numerals.{numeral}
 use Rattle.text.proofs.Theory.Numerals.{numeral-length}
 use Rattle.text.specs.Templates.{part, filledIn}
-use Rattle.text.specs.Appending.{Appended, Room}
+use Rattle.text.specs.Appending.{Appended, PlaceInRange}
 use Rattle.text.proofs.Theory.Appending.{appended-then, appended-length, room-first, room-then}
 use Rattle.report.specs.Lines.{line}
 use Rattle.model_lines.specs.Prints.{infeasibleLine, refusedLine}
-use Rattle.monitoring.specs.Run.{verdictAnswer}
-use Rattle.monitoring.specs.declared.Verdict.{Verdict}
-use Rattle.monitoring.specs.declared.Verdict.the-variants.{Judged, Refused}
+use Rattle.streaming.specs.Run.{runAnswer}
+use Rattle.streaming.specs.declared.RunAnswer.{RunAnswer}
+use Rattle.streaming.specs.declared.RunAnswer.the-variants.{Judged, Refused}
 use Rattle.monitor_lines.specs.Prints.{incoherentLine, orNone, coherenceLine, feasibilityLine}
-use Rattle.monitor_lines.specs.Prints.{answerLines, mostBytes, Prints}
-use Rattle.monitor_lines.specs.PrintsLaws.{letterText}
+use Rattle.monitor_lines.specs.Prints.{answerLines, mostMonitorLineBytes, PrintsMonitorLines}
+use Rattle.monitor_lines.specs.Prints.{letterText}
 
 module _ (none : List ℕ) (some : ℕ → List ℕ) where
   pub none-text : (letter : ℕ) → letter ≡ 0 → orNone none some letter ≡ none
@@ -56,44 +56,44 @@ feasibility-few : (n : ℕ) → n < 2 ^ 64 → length (feasibilityLine n) ≤ 32
 unfolding orNone infeasibleLine line
 feasibility-few n h = byTest (eqb n 0) (λ t. rw t (omega arith)) λ t. rw t (simp length-append (omega (arith, long-number n h)))
 
-judged-few : (k n : ℕ) → k < 2 ^ 64 → n < 2 ^ 64 → length (coherenceLine k ++ feasibilityLine n) ≤ mostBytes
+judged-few : (k n : ℕ) → k < 2 ^ 64 → n < 2 ^ 64 → length (coherenceLine k ++ feasibilityLine n) ≤ mostMonitorLineBytes
 judged-few k n h l = omega (arith, coherence-few k h, feasibility-few n l, length-append (coherenceLine k) (feasibilityLine n))
 
-refused-few : (number place : ℕ) → number < 2 ^ 64 → place < 2 ^ 64 → length (refusedLine number place) ≤ mostBytes
+refused-few : (number place : ℕ) → number < 2 ^ 64 → place < 2 ^ 64 → length (refusedLine number place) ≤ mostMonitorLineBytes
 unfolding refusedLine line
 refused-few m n h l = simp length-append (omega (arith, long-number m h, long-number n l))
 
-few-room : {text : List ℕ} → length text ≤ mostBytes → Room 0 text
+few-room : {text : List ℕ} → length text ≤ mostMonitorLineBytes → PlaceInRange 0 text
 few-room h = record { fits = omega (arith, h) }
 
 -- ── the two lines of a trace that is judged ──
 module _ (k n : ℕ) (h : k < 2 ^ 64) (l : n < 2 ^ 64) where
-  pub coherence-room : Room 0 (coherenceLine k)
+  pub coherence-room : PlaceInRange 0 (coherenceLine k)
   coherence-room = room-first (coherenceLine k) (feasibilityLine n) (few-room (judged-few k n h l))
 
   module _ {entry middle : List ℕ} {next : ℕ} (a : Appended entry 0 (coherenceLine k) middle next) where
-    pub feasibility-room : Room next (feasibilityLine n)
+    pub feasibility-room : PlaceInRange next (feasibilityLine n)
     feasibility-room = room-then (coherenceLine k) (feasibilityLine n) (few-room (judged-few k n h l)) a
 
-    pub judged-prints : (v : Verdict) {exit : List ℕ} {size : ℕ} → v ≡ Judged k n → Appended middle next (feasibilityLine n) exit size
-        → Prints (verdictAnswer v) entry size exit
+    pub judged-prints : (v : RunAnswer) {exit : List ℕ} {size : ℕ} → v ≡ Judged k n → Appended middle next (feasibilityLine n) exit size
+        → PrintsMonitorLines (runAnswer v) entry size exit
     unfolding answerLines
-    judged-prints v {exit} {size} e b = subst (λ (w : Verdict). Prints (verdictAnswer w) entry size exit)
+    judged-prints v {exit} {size} e b = subst (λ (w : RunAnswer). PrintsMonitorLines (runAnswer w) entry size exit)
         (sym e) record { few = judged-few k n h l; appended = appended-then (coherenceLine k) (feasibilityLine n) a b }
 
 -- ── the line of a refusal ──
 module _ (number place : ℕ) (h : number < 2 ^ 64) (l : place < 2 ^ 64) where
-  pub refused-room : Room 0 (refusedLine number place)
+  pub refused-room : PlaceInRange 0 (refusedLine number place)
   refused-room = few-room (refused-few number place h l)
 
-  pub refused-prints : (v : Verdict) {entry exit : List ℕ} {size : ℕ} → v ≡ Refused number place → Appended entry 0 (refusedLine number place) exit size
-      → Prints (verdictAnswer v) entry size exit
+  pub refused-prints : (v : RunAnswer) {entry exit : List ℕ} {size : ℕ} → v ≡ Refused number place → Appended entry 0 (refusedLine number place) exit size
+      → PrintsMonitorLines (runAnswer v) entry size exit
   unfolding answerLines
-  refused-prints v {entry} {exit} {size} e a = subst (λ (w : Verdict). Prints (verdictAnswer w) entry size exit)
+  refused-prints v {entry} {exit} {size} e a = subst (λ (w : RunAnswer). PrintsMonitorLines (runAnswer w) entry size exit)
       (sym e) record { few = refused-few number place h l; appended = a }
 
 -- ── in a buffer that is large enough, all lines are there ──
-module _ {answer : Answer (ℕ × ℕ)} {entry exit : List ℕ} {size : ℕ} (p : Prints answer entry size exit) (room : mostBytes ≡ length entry) where
+module _ {answer : Answer (ℕ × ℕ)} {entry exit : List ℕ} {size : ℕ} (p : PrintsMonitorLines answer entry size exit) (room : mostMonitorLineBytes ≡ length entry) where
   pub prints-within : size ≤ length exit
   prints-within = omega (arith, p .few, p .appended .place, appended-length (p .appended), room)
 

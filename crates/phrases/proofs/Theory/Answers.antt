@@ -16,8 +16,8 @@ use Rattle.tokens.specs.declared.Token.{Token}
 use Rattle.tokens.specs.Words.{isName, sameName}
 use Rattle.grammar.specs.Reading as reading
 use Rattle.phrases.specs.Codes.{coded, plain, lettered, carried, kind, comparing}
-use Rattle.phrases.specs.declared.Got.{Got}
-use Rattle.phrases.specs.declared.Got.the-variants.{At, Refused}
+use Rattle.phrases.specs.declared.GotNumber.{GotNumber}
+use Rattle.phrases.specs.declared.GotNumber.the-variants.{At, Refused}
 use Rattle.phrases.specs.declared.GotLetter.{GotLetter}
 use Rattle.phrases.specs.declared.GotLetter.the-variants as letter
 
@@ -43,7 +43,7 @@ module _ (l : List ℕ) (k i : ℕ) where
 
 -- ---- what stands behind an answer that is no refusal
 
-pub coded-at : {A : Type 0} (f : A → ℕ) (g : reading.Got A) (r : Got) (v e : ℕ) → r ≡ coded f g → r ≡ At v e → (a : A) × (g ≡ reading.got a e) × (v ≡ f a)
+pub coded-at : {A : Type 0} (f : A → ℕ) (g : reading.Got A) (r : GotNumber) (v e : ℕ) → r ≡ coded f g → r ≡ At v e → (a : A) × (g ≡ reading.got a e) × (v ≡ f a)
 coded-at f (reading.got a e′) r v e p q = (a, (cc), (cc))
 coded-at f (reading.refused n p′) r v e p q = let z : _≡_ {A = ℕ} 0 1 = cc in absurd (omega arith)
 coded-at f reading.exhausted r v e p q = let z : _≡_ {A = ℕ} 0 1 = cc in absurd (omega arith)
@@ -55,19 +55,19 @@ lettered-at f reading.exhausted r l e p q = let z : _≡_ {A = ℕ} 0 1 = cc in 
 
 -- ---- a refusal stands, whatever would have followed
 
-pub coded-refused : {A B : Type 0} (f : A → ℕ) (h : B → Letter) (g : reading.Got A) (k : A → ℕ → reading.Got B) (r : Got) (n p : ℕ) (q : GotLetter)
-    → r ≡ coded f g → r ≡ Refused n p → q ≡ carried r → q ≡ lettered h (reading.onward g k)
+pub coded-refused : {A B : Type 0} (f : A → ℕ) (h : B → Letter) (g : reading.Got A) (k : A → ℕ → reading.Got B) (r : GotNumber) (n p : ℕ) (q : GotLetter)
+    → r ≡ coded f g → r ≡ Refused n p → q ≡ carried r → q ≡ lettered h (reading.andThen g k)
 coded-refused f h (reading.got a e) k r n p q i j c = let z : _≡_ {A = ℕ} 0 1 = cc in absurd (omega arith)
 coded-refused f h (reading.refused m o) k r n p q i j c = c ∙ ap carried i
 coded-refused f h reading.exhausted k r n p q i j c = c ∙ ap carried i
 
-pub lettered-refused : {A B : Type 0} (f : A → Letter) (h : B → Letter) (g : reading.Got A) (k : A → ℕ → reading.Got B) (r : GotLetter) (n p : ℕ) → r ≡ lettered f g → r ≡ letter.Refused n p → r ≡ lettered h (reading.onward g k)
+pub lettered-refused : {A B : Type 0} (f : A → Letter) (h : B → Letter) (g : reading.Got A) (k : A → ℕ → reading.Got B) (r : GotLetter) (n p : ℕ) → r ≡ lettered f g → r ≡ letter.Refused n p → r ≡ lettered h (reading.andThen g k)
 lettered-refused f h (reading.got a e) k r n p i j = let z : _≡_ {A = ℕ} 0 1 = cc in absurd (omega arith)
 lettered-refused f h (reading.refused m o) k r n p i j = i
 lettered-refused f h reading.exhausted k r n p i j = i
 
 -- a place that is used lies within its list
-pub use-below : (rs : List ℕ) (t : Token) (r : Got) (i e : ℕ) → r ≡ plain (reading.useT rs t) → r ≡ At i e → i < length rs
+pub use-below : (rs : List ℕ) (t : Token) (r : GotNumber) (i e : ℕ) → r ≡ plain (reading.useT rs t) → r ≡ At i e → i < length rs
 use-below rs t r i e =
     byTest (isName (t .key)) (λ a. rw a (byTest (ltb (reading.indexOf (t .key) rs) (length rs))
     (λ b. rw b λ p q. let j : i ≡ reading.indexOf (t .key) rs = cc in omega (arith, ltb-true (reading.indexOf (t .key) rs) (length rs) b))
@@ -79,5 +79,5 @@ pub compared-test : (q : Bool) (x y : ℕ) → comparing (kind q) x y ≡ test (
 compared-test true x y = refl
 compared-test false x y = refl
 
-pub carried-refused : (g : Got) (n p : ℕ) → g ≡ Refused n p → letter.Refused n p ≡ carried g
+pub carried-refused : (g : GotNumber) (n p : ℕ) → g ≡ Refused n p → letter.Refused n p ≡ carried g
 carried-refused g n p h = rw h

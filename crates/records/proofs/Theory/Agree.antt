@@ -8,36 +8,36 @@ use lib.ListN.{getD, take, drop, replicate}
 use lib.Seq.{take-take, take-nil}
 use Rattle.letters.specs.Packing.{join}
 use Rattle.semantics.specs.TablesRead.{unitsIn}
-use Rattle.records.specs.Formats.{Format, numberBytes, flagBytes, branchPlace, pairPlace, contentPlace, masksBytes, contentBytes, encodedBytes}
-use Rattle.records.specs.Formats.{Sound, numberIn, parentIn, branchIn, pointIn, codesIn, windowFrom, windowIn}
+use Rattle.records.specs.Formats.{Format, numberBytes, flagBytes, branchPlace, pairPlace, contentPlace, masksBytes, contentBytesOfFormat, encodedBytesOfFormat}
+use Rattle.records.specs.Formats.{WidthsFit, numberIn, parentIn, branchIn, pointIn, codesIn, windowFrom, windowInFormat}
 
 -- Two lists with the same first n bytes.
-abbrev pub Agree : ℕ → List ℕ → List ℕ → Type 0
-Agree n a b = take n a ≡ take n b
+abbrev pub SameFirstBytes : ℕ → List ℕ → List ℕ → Type 0
+SameFirstBytes n a b = take n a ≡ take n b
 
 pub drop-take : (d n : ℕ) (s : List ℕ) → drop d (take (d + n) s) ≡ take n (drop d s)
 drop-take zero n s = ap (λ m. take m s) (zero-add n)
 drop-take (suc d) n [] = rw (suc-add d n) (sym (take-nil n))
 drop-take (suc d) n (x ∷ s) = rw (suc-add d n) (drop-take d n s)
 
-pub agree-less : (m n : ℕ) (a b : List ℕ) → m ≤ n → Agree n a b → Agree m a b
+pub agree-less : (m n : ℕ) (a b : List ℕ) → m ≤ n → SameFirstBytes n a b → SameFirstBytes m a b
 agree-less m n a b h g = sym (take-take m n a h) ∙ ap (take m) g ∙ take-take m n b h
 
 -- what stands behind the first d bytes
-pub agree-drop : (d n : ℕ) (a b : List ℕ) → Agree (d + n) a b → Agree n (drop d a) (drop d b)
+pub agree-drop : (d n : ℕ) (a b : List ℕ) → SameFirstBytes (d + n) a b → SameFirstBytes n (drop d a) (drop d b)
 agree-drop d n a b g = sym (drop-take d n a) ∙ ap (drop d) g ∙ drop-take d n b
 
 -- n numbers of k bytes each
-pub units-agree : (k n m : ℕ) (a b : List ℕ) → k * n ≤ m → Agree m a b → unitsIn k n a ≡ unitsIn k n b
+pub units-agree : (k n m : ℕ) (a b : List ℕ) → k * n ≤ m → SameFirstBytes m a b → unitsIn k n a ≡ unitsIn k n b
 unfolding unitsIn
 units-agree k zero m a b h g = refl
 units-agree k (suc n) m a b h g =
     let l : k + k * n ≤ m = omega (arith, mul-suc k n) in
-    let e : Agree (k + k * n) a b = agree-less (k + k * n) m a b l g in
+    let e : SameFirstBytes (k + k * n) a b = agree-less (k + k * n) m a b l g in
     ap₂ (λ x r. x ∷ r) (ap (join (replicate k 8)) (agree-less k (k + k * n) a b (omega arith) e))
     (units-agree k n (k * n) (drop k a) (drop k b) (omega arith) (agree-drop k (k * n) a b e))
 
-module _ (f : Format) (sound : Sound f) (a b : List ℕ) (g : Agree (f .size) a b) where
+module _ (f : Format) (sound : WidthsFit f) (a b : List ℕ) (g : SameFirstBytes (f .size) a b) where
   -- the number of k bytes at a place
   number-agree : (k place : ℕ) → place + k ≤ f .size → numberIn k (drop place a) ≡ numberIn k (drop place b)
   number-agree k place h = ap (λ l. getD l 0 0) (units-agree k 1 k (drop place a) (drop place b) (omega arith)
@@ -56,11 +56,11 @@ module _ (f : Format) (sound : Sound f) (a b : List ℕ) (g : Agree (f .size) a 
   point-agree = number-agree numberBytes contentPlace (omega (arith, sound .fits))
 
   -- the pair's bytes
-  pub pair-agree : Agree (encodedBytes f) (drop pairPlace a) (drop pairPlace b)
-  pair-agree = agree-drop pairPlace (encodedBytes f) a b (agree-less (pairPlace + encodedBytes f) (f .size) a b (sound .fits) g)
+  pub pair-agree : SameFirstBytes (encodedBytesOfFormat f) (drop pairPlace a) (drop pairPlace b)
+  pair-agree = agree-drop pairPlace (encodedBytesOfFormat f) a b (agree-less (pairPlace + encodedBytesOfFormat f) (f .size) a b (sound .fits) g)
 
-  pub window-agree : windowIn f a ≡ windowIn f b
-  unfolding windowIn windowFrom codesIn
+  pub window-agree : windowInFormat f a ≡ windowInFormat f b
+  unfolding windowInFormat windowFrom codesIn
   window-agree =
       let s = drop contentPlace a in
       let t = drop contentPlace b in
@@ -68,8 +68,8 @@ module _ (f : Format) (sound : Sound f) (a b : List ℕ) (g : Agree (f .size) a 
       let rest₃ = flagBytes + rest₄ in
       let rest₂ = f .registers + rest₃ in
       let rest₁ = masksBytes f + rest₂ in
-      let g₀ : Agree (contentBytes f) s t = agree-drop contentPlace (contentBytes f) a b
-      (agree-less (contentPlace + contentBytes f) (f .size) a b (omega (arith, sound .fits)) g) in
+      let g₀ : SameFirstBytes (contentBytesOfFormat f) s t = agree-drop contentPlace (contentBytesOfFormat f) a b
+      (agree-less (contentPlace + contentBytesOfFormat f) (f .size) a b (omega (arith, sound .fits)) g) in
       let g₁ = agree-drop numberBytes (masksBytes f + rest₁) s t g₀ in
       let g₂ = agree-drop (masksBytes f) rest₁ _ _ g₁ in
       let g₃ = agree-drop (masksBytes f) rest₂ _ _ g₂ in

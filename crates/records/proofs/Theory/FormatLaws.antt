@@ -21,11 +21,11 @@ use Rattle.window.specs.Places.{line-entry, along-entry}
 use Rattle.window.proofs.Theory.Places.{entry-below}
 use Rattle.window.proofs.Theory.Table.{table-at, table-length, table-is}
 use Rattle.window.specs.declared.Window.{Window}
-use Rattle.records.specs.Codes.{codeOf, codeAt, heldOf, computedOf, assembled, gathered, scattered}
-use Rattle.records.specs.Formats.{Format, numberBytes, pairPlace, contentPlace, lines, results, masksBytes, encodedBytes}
-use Rattle.records.specs.Formats.{Sound, flag, isSet, codesOf, codeBytes, contentOf, encoded, recordOf, numberIn, afterPoint}
-use Rattle.records.specs.Formats.{afterClass, afterUnequal, afterMarks, afterInfeasible, parentIn, branchIn, pointIn, codesIn, resultIn}
-use Rattle.records.specs.Formats.{everMask, everIn, windowFrom, windowIn}
+use Rattle.records.specs.Codes.{codeOf, codeAt, classOfCode, computedOf, assembled, gathered, scattered}
+use Rattle.records.specs.Formats.{Format, numberBytes, pairPlace, contentPlace, linesOfFormat, resultsOfFormat, masksBytes, encodedBytesOfFormat}
+use Rattle.records.specs.Formats.{WidthsFit, flag, isSet, codesOf, codeBytesInFormat, contentOf, encodedInFormat, recordInFormat, numberIn, afterPoint}
+use Rattle.records.specs.Formats.{afterClass, afterUnequal, afterMarks, afterInfeasible, parentIn, branchIn, pointIn, codesIn, resultsInFormat}
+use Rattle.records.specs.Formats.{everMask, everInFormat, windowFrom, windowInFormat}
 use Rattle.traces.proofs.Theory.TraceLaws.{units-length}
 use Rattle.records.proofs.Theory.Digits.{All<, units-back, digits-back, gathered-small, gathered-length}
 
@@ -67,8 +67,8 @@ module _ (n : ℕ) where
   low class (suc (suc k)) p = absurd (omega arith)
 
   held-back : (class : List ℕ) (mask computed : ℕ) → computed < 2 → (mask ≡ 0) ⊎ ((leastIn n mask < n) × (getD class (leastIn n mask) 0 ≡ mask))
-      → heldOf class (codeOf n mask computed) ≡ mask
-  unfolding heldOf codeOf
+      → classOfCode class (codeOf n mask computed) ≡ mask
+  unfolding classOfCode codeOf
   held-back class mask computed c (inl e) = rw (eq-eqb mask 0 e) (low class computed c ∙ sym e)
   held-back class mask computed c (inr (l, e)) =
       byTest (eqb mask 0) (λ t. rw t (low class computed c ∙ sym (eqb-true mask 0 t)))
@@ -101,21 +101,21 @@ module _ (f : Format) where
   abbrev ρ : ℕ
   ρ = f .registers
 
-  pub record Storable (w : Window) : Type 0 where
+  pub record StorableInFormat (w : Window) : Type 0 where
     pub classes : length (w .class) ≡ f .registers
     pub unequals : length (w .unequal) ≡ f .registers
     pub marks : length (w .mark) ≡ f .registers
-    pub result-count : length (w .result) ≡ results f
+    pub result-count : length (w .result) ≡ resultsOfFormat f
     pub evers : length (w .ever) ≡ f .functions * f .registers
     pub class-masks : (k : ℕ) → getD (w .class) k 0 < 2 ^ f .registers
     pub unequal-masks : (k : ℕ) → getD (w .unequal) k 0 < 2 ^ f .registers
     pub lines : (j : ℕ) → getD (w .ever) j 0 < 2 ^ f .registers
-    pub named : (i : ℕ) → i < results f → (getD (w .result) i 0 ≡ 0) ⊎
+    pub named : (i : ℕ) → i < resultsOfFormat f → (getD (w .result) i 0 ≡ 0) ⊎
         ((leastIn (f .registers) (getD (w .result) i 0) < f .registers) ×
         (getD (w .class) (leastIn (f .registers) (getD (w .result) i 0)) 0 ≡ getD (w .result) i 0))
-    pub computed : (i : ℕ) → i < results f → (getD (w .result) i 0 ≡ 0) ⊎ (bit (getD (w .ever) (i / f .registers) 0) (i % f .registers) ≡ 1)
+    pub computed : (i : ℕ) → i < resultsOfFormat f → (getD (w .result) i 0 ≡ 0) ⊎ (bit (getD (w .ever) (i / f .registers) 0) (i % f .registers) ≡ 1)
 
-  module _ (sound : Sound f) (point : ℕ) (w : Window) (s : Storable w) (rest : List ℕ) where
+  module _ (sound : WidthsFit f) (point : ℕ) (w : Window) (s : StorableInFormat w) (rest : List ℕ) where
     -- numbers in their bytes, one part after the other
     mask-all : (l : List ℕ) → ((k : ℕ) → getD l k 0 < 2 ^ f .registers) → All< (2 ^ (8 * f .maskBytes)) l
     mask-all l h = all-of (2 ^ (8 * f .maskBytes)) l (λ k _. subst (λ n. getD l k 0 < 2 ^ n) (sym (sound .masks)) (h k))
@@ -143,7 +143,7 @@ module _ (f : Format) where
     s₀ = units 2 (point ∷ []) ++ s₁
 
     laid : contentOf f point w ++ rest ≡ s₀
-    unfolding contentOf codeBytes
+    unfolding contentOf codeBytesInFormat
     laid =
         let a = units 2 (point ∷ []) in
         let b = units (f .maskBytes) (w .class) in
@@ -181,13 +181,13 @@ module _ (f : Format) where
 
     -- ---- the codes
 
-    code-at : (i : ℕ) → i < results f → getD (codesOf f (w .result) (w .ever)) i 0 ≡ codeAt (f .registers) (w .result) (w .ever) i
+    code-at : (i : ℕ) → i < resultsOfFormat f → getD (codesOf f (w .result) (w .ever)) i 0 ≡ codeAt (f .registers) (w .result) (w .ever) i
     unfolding codesOf
-    code-at i h = table-at (codeAt (f .registers) (w .result) (w .ever)) (results f) i 0 h
+    code-at i h = table-at (codeAt (f .registers) (w .result) (w .ever)) (resultsOfFormat f) i 0 h
 
-    codes-length : length (codesOf f (w .result) (w .ever)) ≡ results f
+    codes-length : length (codesOf f (w .result) (w .ever)) ≡ resultsOfFormat f
     unfolding codesOf
-    codes-length = table-length (codeAt (f .registers) (w .result) (w .ever)) (results f)
+    codes-length = table-length (codeAt (f .registers) (w .result) (w .ever)) (resultsOfFormat f)
 
     named-or : {A B : Type 0} (i : ℕ) → A ⊎ (B × (getD (w .class) (leastIn (f .registers) (getD (w .result) i 0)) 0 ≡ getD (w .result) i 0)) → A ⊎ B
     named-or i (inl a) = inl a
@@ -195,7 +195,7 @@ module _ (f : Format) where
 
     codes-small : All< (2 ^ f .codeBits) (codesOf f (w .result) (w .ever))
     codes-small = all-of (2 ^ f .codeBits) (codesOf f (w .result) (w .ever)) (λ k h.
-        let l : k < results f = omega (arith, codes-length) in
+        let l : k < resultsOfFormat f = omega (arith, codes-length) in
         let c = code-small (f .registers) (getD (w .result) k 0) (bit (getD (w .ever) (k / f .registers) 0) (k % f .registers)) (mod-lt _ (omega arith))
         (named-or k (s .named k l)) in
         let e = code-at k l in
@@ -217,14 +217,14 @@ module _ (f : Format) where
         (gathered-length (f .group) (f .codeBits) (f .groups) (codesOf f (w .result) (w .ever))) small)
         ∙ digits-back (f .group) (f .codeBits) (f .groups) (codesOf f (w .result) (w .ever)) groups-long codes-small
 
-    result-back : resultIn f (w .class) (codesOf f (w .result) (w .ever)) ≡ w .result
-    unfolding resultIn
-    result-back = sym (table-is (λ i. heldOf (w .class) (getD (codesOf f (w .result) (w .ever)) i 0)) (results f) (w .result) 0 (s .result-count)
-        (λ i h. sym (ap (heldOf (w .class)) (code-at i h) ∙ held-back (f .registers) (w .class) (getD (w .result) i 0) _ (mod-lt _ (omega arith))
+    result-back : resultsInFormat f (w .class) (codesOf f (w .result) (w .ever)) ≡ w .result
+    unfolding resultsInFormat
+    result-back = sym (table-is (λ i. classOfCode (w .class) (getD (codesOf f (w .result) (w .ever)) i 0)) (resultsOfFormat f) (w .result) 0 (s .result-count)
+        (λ i h. sym (ap (classOfCode (w .class)) (code-at i h) ∙ held-back (f .registers) (w .class) (getD (w .result) i 0) _ (mod-lt _ (omega arith))
         (s .named i h))))
 
-    ever-back : everIn f (codesOf f (w .result) (w .ever)) ≡ w .ever
-    unfolding everIn everMask
+    ever-back : everInFormat f (codesOf f (w .result) (w .ever)) ≡ w .ever
+    unfolding everInFormat everMask
     ever-back = sym (table-is (everMask f (codesOf f (w .result) (w .ever))) (f .functions * f .registers) (w .ever) 0 (s .evers)
         (λ j h. sym (bits-back (getD (w .ever) j 0) (λ b. computedOf (getD (codesOf f (w .result) (w .ever)) (f .registers * j + b) 0)) 0 (f .registers)
         (rw div-one (s .lines j)) (λ b p q. at j b h (omega arith)) ∙ div-one (getD (w .ever) j 0))))
@@ -232,7 +232,7 @@ module _ (f : Format) where
         at : (j b : ℕ) → j < f .functions * f .registers → b < f .registers → computedOf
             (getD (codesOf f (w .result) (w .ever)) (f .registers * j + b) 0) ≡ bit (getD (w .ever) j 0) b
         at j b h q =
-            let k : f .registers * j + b < results f = entry-below (f .registers) (f .functions * f .registers) j b h q in
+            let k : f .registers * j + b < resultsOfFormat f = entry-below (f .registers) (f .functions * f .registers) j b h q in
             ap computedOf (code-at (f .registers * j + b) k)
             ∙ computed-back (f .registers) (getD (w .result) (f .registers * j + b) 0) _ (mod-lt _ (omega arith)) (s .computed (f .registers * j + b) k)
             ∙ rw (line-entry (f .registers) j b q, along-entry (f .registers) j b q)
@@ -267,9 +267,9 @@ module _ (f : Format) where
     content-point : point < 65536 → numberIn numberBytes (contentOf f point w ++ rest) ≡ point
     content-point h = ap (numberIn numberBytes) laid ∙ ap (λ l. getD l 0 0) (read 2 1 (point ∷ []) s₁ refl (h, tt))
 
-  module _ (sound : Sound f) (point : ℕ) (w : Window) (s : Storable w) where
-    pub encoded-length : length (encoded f point w) ≡ encodedBytes f
-    unfolding encoded contentOf codeBytes units
+  module _ (sound : WidthsFit f) (point : ℕ) (w : Window) (s : StorableInFormat w) where
+    pub encoded-length : length (encodedInFormat f point w) ≡ encodedBytesOfFormat f
+    unfolding encodedInFormat contentOf codeBytesInFormat units
     encoded-length =
         simp (length-append, units-length)
         (rw (
@@ -282,13 +282,13 @@ module _ (f : Format) where
         ) (omega arith))
 
     -- What is read where the pair stands.
-    module _ (bytes rest : List ℕ) (e : drop pairPlace bytes ≡ encoded f point w ++ rest) where
+    module _ (bytes rest : List ℕ) (e : drop pairPlace bytes ≡ encodedInFormat f point w ++ rest) where
       content-at : drop contentPlace bytes ≡ contentOf f point w ++ rest
-      unfolding encoded units
+      unfolding encodedInFormat units
       content-at = sym (drop-drop numberBytes pairPlace bytes) ∙ ap (drop numberBytes) e
 
-      pub window-back : windowIn f bytes ≡ w
-      unfolding windowIn
+      pub window-back : windowInFormat f bytes ≡ w
+      unfolding windowInFormat
       window-back = ap (windowFrom f) content-at ∙ content-window sound point w s rest
 
       pub point-back : point < 65536 → pointIn bytes ≡ point
@@ -296,11 +296,11 @@ module _ (f : Format) where
       point-back h = ap (numberIn numberBytes) content-at ∙ content-point sound point w s rest h
 
   -- Pairs are equal where their bytes are.
-  pub encoded-injective : Sound f → (p q : ℕ) (w v : Window) → p < 65536 → q < 65536 → Storable w → Storable v → encoded f p w ≡ encoded f q v
+  pub encoded-injective : WidthsFit f → (p q : ℕ) (w v : Window) → p < 65536 → q < 65536 → StorableInFormat w → StorableInFormat v → encodedInFormat f p w ≡ encodedInFormat f q v
       → (p ≡ q) × (w ≡ v)
   encoded-injective sound p q w v a b s r e = (
-    sym (point-back sound p w s (at (encoded f p w)) [] refl a) ∙ ap (λ l. pointIn (at l)) e ∙ point-back sound q v r (at (encoded f q v)) [] refl b,
-    sym (window-back sound p w s (at (encoded f p w)) [] refl) ∙ ap (λ l. windowIn f (at l)) e ∙ window-back sound q v r (at (encoded f q v)) [] refl,
+    sym (point-back sound p w s (at (encodedInFormat f p w)) [] refl a) ∙ ap (λ l. pointIn (at l)) e ∙ point-back sound q v r (at (encodedInFormat f q v)) [] refl b,
+    sym (window-back sound p w s (at (encodedInFormat f p w)) [] refl) ∙ ap (λ l. windowInFormat f (at l)) e ∙ window-back sound q v r (at (encodedInFormat f q v)) [] refl,
   )
     where
       at : List ℕ → List ℕ
@@ -309,22 +309,22 @@ module _ (f : Format) where
   -- ---- a record
 
   module _ (pair : List ℕ) (parent branch : ℕ) where
-    pub record-length : Sound f → length pair ≡ encodedBytes f → length (recordOf f pair parent branch) ≡ f .size
-    unfolding recordOf units
+    pub record-length : WidthsFit f → length pair ≡ encodedBytesOfFormat f → length (recordInFormat f pair parent branch) ≡ f .size
+    unfolding recordInFormat units
     record-length sound h = simp (length-append, length-replicate) (omega (arith, sound .fits))
 
     module _ (rest : List ℕ) where
       abbrev bytes : List ℕ
-      bytes = recordOf f pair parent branch ++ rest
+      bytes = recordInFormat f pair parent branch ++ rest
 
-      pub record-pair : drop pairPlace bytes ≡ pair ++ (replicate (f .size - (pairPlace + encodedBytes f)) 0 ++ rest)
-      unfolding recordOf units
-      record-pair = append-assoc pair (replicate (f .size - (pairPlace + encodedBytes f)) 0) rest
+      pub record-pair : drop pairPlace bytes ≡ pair ++ (replicate (f .size - (pairPlace + encodedBytesOfFormat f)) 0 ++ rest)
+      unfolding recordInFormat units
+      record-pair = append-assoc pair (replicate (f .size - (pairPlace + encodedBytesOfFormat f)) 0) rest
 
       pub parent-back : parent < 65536 → parentIn bytes ≡ parent
-      unfolding parentIn recordOf units unitsIn
+      unfolding parentIn recordInFormat units unitsIn
       parent-back h = omega arith
 
       pub branch-back : branch < 256 → branchIn bytes ≡ branch
-      unfolding branchIn recordOf units unitsIn
+      unfolding branchIn recordInFormat units unitsIn
       branch-back h = omega arith

@@ -5,16 +5,16 @@ use native.Mathlib.Omega.{arith}
 use mathlib.Core.List.{List, _++_}
 use lib.ListN.{length, drop}
 use Rattle.window.specs.declared.Window.{Window}
-use Rattle.records.specs.Formats.{Sound, pairPlace}
+use Rattle.records.specs.Formats.{WidthsFit, pairPlace}
 use Rattle.records.specs.Records.{firstFormat, encodedBytes, encoded, pointIn, windowIn}
 use Rattle.records.proofs.Theory.FormatLaws as laws
 pub use Rattle.records.proofs.Theory.FormatLaws.{flag-back, flags-back}
 
-pub first-sound : Sound firstFormat
+pub first-sound : WidthsFit firstFormat
 first-sound = record { masks = refl; names = omega arith; grouped = refl; counted = refl; fits = omega arith }
 
 abbrev pub Storable : Window → Type 0
-Storable = laws.Storable firstFormat
+Storable = laws.StorableInFormat firstFormat
 
 module _ (point : ℕ) (w : Window) (s : Storable w) where
   pub encoded-length : length (encoded point w) ≡ encodedBytes

@@ -2,7 +2,7 @@ use Prim.Native.Nat.{_-_, _≤_}
 use native.Mathlib.Omega.{arith}
 use lib.ListN.{length, replicate}
 use Rattle.window.proofs.Theory.Table.{Swept, swept-none, swept-more}
-use Rattle.records.specs.Formats.{everMask, everIn}
+use Rattle.records.specs.Formats.{everMask, everInFormat}
 use Rattle.records.specs.Records.{firstFormat, codesAt, recordBytes}
 use Rattle.records.proofs.Turns.{ever-is, ever-past, swept-zeros}
 use borrow.Author.Needs.{needs}
@@ -16,7 +16,7 @@ abbrev μ-loop : tie.MeasureT-loop
 μ-loop part ever₀ j₀ ever j = 32 - j
 
 pub ever-lines-spec : {M : Type 1} → statement M
-unfolding everIn
+unfolding everInFormat
 ever-lines-spec =
     tie.close
     (tie.spec

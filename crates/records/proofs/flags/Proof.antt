@@ -3,7 +3,7 @@ use mathlib.Core.Bool.{false}
 use Prim.Native.Nat.{_-_}
 use native.Mathlib.Omega.{arith}
 use lib.ListN.{length, getD}
-use Rattle.base.proofs.Theory.Written.{Written, written-none, written-more}
+use Rattle.base.proofs.Theory.Written.{WrittenUpTo, written-none, written-more}
 use Rattle.window.proofs.Theory.Table.{written-all}
 use Rattle.records.specs.Records.{flag}
 use Rattle.records.proofs.Theory.Tables.{map-table}
@@ -12,7 +12,7 @@ use Rattle.records.proofs.flags.Statement.{statement}
 use Rattle.records.proofs.flags.Tie as tie
 
 abbrev Inv-loop : tie.InvT-loop
-Inv-loop marks flags₀ i₀ flags i = (length marks ≡ 8) × Written (λ k. flag (getD marks k false)) 0 8 i flags
+Inv-loop marks flags₀ i₀ flags i = (length marks ≡ 8) × WrittenUpTo (λ k. flag (getD marks k false)) 0 8 i flags
 
 abbrev μ-loop : tie.MeasureT-loop
 μ-loop marks flags₀ i₀ flags i = 8 - i

@@ -3,7 +3,7 @@ use mathlib.Core.Bool.{false}
 use Prim.Native.Nat.{_-_}
 use native.Mathlib.Omega.{arith}
 use lib.ListN.{length, getD}
-use Rattle.base.proofs.Theory.Written.{Written, written-none, written-more}
+use Rattle.base.proofs.Theory.Written.{WrittenUpTo, written-none, written-more}
 use Rattle.window.proofs.Theory.Table.{written-all}
 use Rattle.records.specs.Records.{isSet}
 use Rattle.records.proofs.Theory.Tables.{map-table}
@@ -12,7 +12,7 @@ use Rattle.records.proofs.marks.Statement.{statement}
 use Rattle.records.proofs.marks.Tie as tie
 
 abbrev Inv-loop : tie.InvT-loop
-Inv-loop flags marks₀ i₀ marks i = (length flags ≡ 8) × Written (λ k. isSet (getD flags k 0)) false 8 i marks
+Inv-loop flags marks₀ i₀ marks i = (length flags ≡ 8) × WrittenUpTo (λ k. isSet (getD flags k 0)) false 8 i marks
 
 abbrev μ-loop : tie.MeasureT-loop
 μ-loop flags marks₀ i₀ marks i = 8 - i

@@ -2,7 +2,7 @@ use mathlib.Core.Path.{_≡_}
 use Prim.Native.Nat.{_-_}
 use native.Mathlib.Omega.{arith}
 use lib.ListN.{length, getD}
-use Rattle.base.proofs.Theory.Written.{Written, written-none, written-more}
+use Rattle.base.proofs.Theory.Written.{WrittenUpTo, written-none, written-more}
 use Rattle.semantics.specs.PackedTables.{units}
 use Rattle.records.proofs.Turns.{mask-is, masks-all}
 use borrow.Author.Needs.{needs}
@@ -10,7 +10,7 @@ use Rattle.records.proofs.mask_bytes.Statement.{statement}
 use Rattle.records.proofs.mask_bytes.Tie as tie
 
 abbrev Inv-loop : tie.InvT-loop
-Inv-loop masks bytes₀ i₀ bytes i = (length masks ≡ 8) × Written (λ k. getD (units 1 masks) k 0) 0 8 i bytes
+Inv-loop masks bytes₀ i₀ bytes i = (length masks ≡ 8) × WrittenUpTo (λ k. getD (units 1 masks) k 0) 0 8 i bytes
 
 abbrev μ-loop : tie.MeasureT-loop
 μ-loop masks bytes₀ i₀ bytes i = 8 - i

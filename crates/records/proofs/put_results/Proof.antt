@@ -3,7 +3,7 @@ use Prim.Native.Nat.{_*_, _-_, _≤_}
 use native.Mathlib.Omega.{arith}
 use lib.ListN.{length, getD, replicate}
 use Rattle.window.proofs.Theory.Table.{Swept}
-use Rattle.records.specs.Records.{codesAt, meant, recordBytes}
+use Rattle.records.specs.Records.{codesAt, resultsMeant, recordBytes}
 use Rattle.records.proofs.Turns.{results-turn, results-past, swept-begin, swept-zeros}
 use borrow.Author.Needs.{needs}
 use Rattle.records.proofs.put_results.Statement.{statement}
@@ -17,7 +17,7 @@ abbrev μ-loop : tie.MeasureT-loop
 μ-loop part meanings result₀ j₀ result j = 32 - j
 
 pub put-results-spec : {M : Type 1} → statement M
-unfolding meant
+unfolding resultsMeant
 put-results-spec =
     tie.close
     (tie.spec

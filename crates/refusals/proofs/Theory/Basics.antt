@@ -5,7 +5,7 @@ use Prim.Native.Nat.{ℕ}
 use native.Mathlib.Omega.{arith}
 use mathlib.Core.Bool.{Bool, true, false, not, _&&_, _||_}
 use mathlib.Core.List.{List, [], _∷_}
-use Rattle.grammar.specs.Reading.{Got, got, refused, exhausted, onward}
+use Rattle.grammar.specs.Reading.{Got, got, exhausted, andThen}
 
 -- ---- lists
 
@@ -49,19 +49,19 @@ nor false b h = (refl, h)
 
 -- ---- answers
 
-pub not-got : {A : Type 0} {a : A} {e n p : ℕ} → got a e ≡ refused n p → ⊥
+pub not-got : {A : Type 0} {a : A} {e n p : ℕ} → got a e ≡ Got.refused n p → ⊥
 not-got h = let z : _≡_ {A = ℕ} 0 1 = cc in omega arith
 
-pub not-exhausted : {A : Type 0} {n p : ℕ} → _≡_ {A = Got A} exhausted (refused n p) → ⊥
+pub not-exhausted : {A : Type 0} {n p : ℕ} → _≡_ {A = Got A} exhausted (Got.refused n p) → ⊥
 not-exhausted h = let z : _≡_ {A = ℕ} 0 1 = cc in omega arith
 
-pub refused-number : {A : Type 0} {m q n p : ℕ} → _≡_ {A = Got A} (refused m q) (refused n p) → m ≡ n
+pub refused-number : {A : Type 0} {m q n p : ℕ} → _≡_ {A = Got A} (Got.refused m q) (Got.refused n p) → m ≡ n
 refused-number h = cc
 
-pub refused-place : {A : Type 0} {m q n p : ℕ} → _≡_ {A = Got A} (refused m q) (refused n p) → q ≡ p
+pub refused-place : {A : Type 0} {m q n p : ℕ} → _≡_ {A = Got A} (Got.refused m q) (Got.refused n p) → q ≡ p
 refused-place h = cc
 
-pub onward-case : {A B C : Type 0} (g : Got A) (f : A → ℕ → Got B) (n p : ℕ) → onward g f ≡ refused n p → (g ≡ refused n p → C) → ((a : A) (m : ℕ) → g ≡ got a m → f a m ≡ refused n p → C) → C
+pub onward-case : {A B C : Type 0} (g : Got A) (f : A → ℕ → Got B) (n p : ℕ) → andThen g f ≡ Got.refused n p → (g ≡ Got.refused n p → C) → ((a : A) (m : ℕ) → g ≡ got a m → f a m ≡ Got.refused n p → C) → C
 onward-case (got a m) f n p h k l = l a m refl h
-onward-case (refused m q) f n p h k l = k (λ i. refused (refused-number h i) (refused-place h i))
+onward-case (Got.refused m q) f n p h k l = k (λ i. Got.refused (refused-number h i) (refused-place h i))
 onward-case exhausted f n p h k l = absurd (not-exhausted h)

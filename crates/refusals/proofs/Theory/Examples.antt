@@ -4,11 +4,11 @@ use Prim.Native.Nat.{ℕ}
 use mathlib.Core.List.{List, [], _∷_}
 use Rattle.letters.specs.declared.Letter.the-variants.{Apply}
 use Rattle.macros.specs.Tree.{equal, unequal, perform, assert, while, empty, _then_}
-use Rattle.macros.specs.Points.{size}
-use Rattle.tokens.specs.Bytes.{gap, run, width}
+use Rattle.macros.specs.Points.{sizeStatement}
+use Rattle.tokens.specs.Bytes.{gap, nameLength, width}
 use Rattle.tokens.specs.Tokens.{tokenAt}
 use Rattle.grammar.specs.Grammar.{Macro}
-use Rattle.grammar.specs.Reading.{got, refused, indexOf, condition, tested, argumentsT, value, assignment, block, registers, arityOf, functions}
+use Rattle.grammar.specs.Reading.{got, Got, indexOf, condition, endedCondition, argumentsT, rightHandSide, assignment, block, registerNames, arityOf, functionEntries}
 use Rattle.grammar.proofs.Theory.Reading.{readText, readMacro}
 use Rattle.grammar.specs.Spelled.{Spelled, InOrder}
 use Rattle.grammar.proofs.Theory.Whole.{read-sound}
@@ -22,7 +22,7 @@ unfoldable pub searched : Macro
 searched = record { registers = 120 ∷ 121 ∷ []; functions = 110 ∷ []; arities = 1 ∷ []; body = while (unequal 0 1) (perform (Apply 0 0 0 0) then empty) then assert (equal 0 1) then empty }
 
 pub loop-read : readMacro loop ≡ got searched 61
-unfolding loop searched readMacro readText tokenAt gap width run registers indexOf functions arityOf block condition tested assignment value argumentsT size
+unfolding loop searched readMacro readText tokenAt gap width nameLength registerNames indexOf functionEntries arityOf block condition endedCondition assignment rightHandSide argumentsT sizeStatement
 loop-read = refl
 
 -- so this text spells that macro, and it is in order
@@ -33,26 +33,26 @@ pub loop-in-order : InOrder searched
 loop-in-order = read-sound loop searched _ loop-read .2
 
 -- `vars a b a;`
-pub twice-refused : readMacro (118 ∷ 97 ∷ 114 ∷ 115 ∷ 32 ∷ 97 ∷ 32 ∷ 98 ∷ 32 ∷ 97 ∷ 59 ∷ []) ≡ refused 10 9
-unfolding readMacro readText tokenAt gap width run registers indexOf functions arityOf block condition tested assignment value argumentsT size
+pub twice-refused : readMacro (118 ∷ 97 ∷ 114 ∷ 115 ∷ 32 ∷ 97 ∷ 32 ∷ 98 ∷ 32 ∷ 97 ∷ 59 ∷ []) ≡ Got.refused 10 9
+unfolding readMacro readText tokenAt gap width nameLength registerNames indexOf functionEntries arityOf block condition endedCondition assignment rightHandSide argumentsT sizeStatement
 twice-refused = refl
 
 -- `vars a; a := b;`
-pub undeclared-refused : readMacro (118 ∷ 97 ∷ 114 ∷ 115 ∷ 32 ∷ 97 ∷ 59 ∷ 32 ∷ 97 ∷ 32 ∷ 58 ∷ 61 ∷ 32 ∷ 98 ∷ 59 ∷ []) ≡ refused 11 13
-unfolding readMacro readText tokenAt gap width run registers indexOf functions arityOf block condition tested assignment value argumentsT size
+pub undeclared-refused : readMacro (118 ∷ 97 ∷ 114 ∷ 115 ∷ 32 ∷ 97 ∷ 59 ∷ 32 ∷ 97 ∷ 32 ∷ 58 ∷ 61 ∷ 32 ∷ 98 ∷ 59 ∷ []) ≡ Got.refused 11 13
+unfolding readMacro readText tokenAt gap width nameLength registerNames indexOf functionEntries arityOf block condition endedCondition assignment rightHandSide argumentsT sizeStatement
 undeclared-refused = refl
 
 -- `vars a; a == a;`
-pub unfit-refused : readMacro (118 ∷ 97 ∷ 114 ∷ 115 ∷ 32 ∷ 97 ∷ 59 ∷ 32 ∷ 97 ∷ 32 ∷ 61 ∷ 61 ∷ 32 ∷ 97 ∷ 59 ∷ []) ≡ refused 9 10
-unfolding readMacro readText tokenAt gap width run registers indexOf functions arityOf block condition tested assignment value argumentsT size
+pub unfit-refused : readMacro (118 ∷ 97 ∷ 114 ∷ 115 ∷ 32 ∷ 97 ∷ 59 ∷ 32 ∷ 97 ∷ 32 ∷ 61 ∷ 61 ∷ 32 ∷ 97 ∷ 59 ∷ []) ≡ Got.refused 9 10
+unfolding readMacro readText tokenAt gap width nameLength registerNames indexOf functionEntries arityOf block condition endedCondition assignment rightHandSide argumentsT sizeStatement
 unfit-refused = refl
 
 -- `vars a; a : = a;`
-pub wrong-refused : readMacro (118 ∷ 97 ∷ 114 ∷ 115 ∷ 32 ∷ 97 ∷ 59 ∷ 32 ∷ 97 ∷ 32 ∷ 58 ∷ 32 ∷ 61 ∷ 32 ∷ 97 ∷ 59 ∷ []) ≡ refused 8 10
-unfolding readMacro readText tokenAt gap width run registers indexOf functions arityOf block condition tested assignment value argumentsT size
+pub wrong-refused : readMacro (118 ∷ 97 ∷ 114 ∷ 115 ∷ 32 ∷ 97 ∷ 59 ∷ 32 ∷ 97 ∷ 32 ∷ 58 ∷ 32 ∷ 61 ∷ 32 ∷ 97 ∷ 59 ∷ []) ≡ Got.refused 8 10
+unfolding readMacro readText tokenAt gap width nameLength registerNames indexOf functionEntries arityOf block condition endedCondition assignment rightHandSide argumentsT sizeStatement
 wrong-refused = refl
 
 -- `vars a; a :=`
-pub short-refused : readMacro (118 ∷ 97 ∷ 114 ∷ 115 ∷ 32 ∷ 97 ∷ 59 ∷ 32 ∷ 97 ∷ 32 ∷ 58 ∷ 61 ∷ []) ≡ refused 9 12
-unfolding readMacro readText tokenAt gap width run registers indexOf functions arityOf block condition tested assignment value argumentsT size
+pub short-refused : readMacro (118 ∷ 97 ∷ 114 ∷ 115 ∷ 32 ∷ 97 ∷ 59 ∷ 32 ∷ 97 ∷ 32 ∷ 58 ∷ 61 ∷ []) ≡ Got.refused 9 12
+unfolding readMacro readText tokenAt gap width nameLength registerNames indexOf functionEntries arityOf block condition endedCondition assignment rightHandSide argumentsT sizeStatement
 short-refused = refl

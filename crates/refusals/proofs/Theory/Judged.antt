@@ -8,56 +8,56 @@ use lib.Dec.{eqb, ltb}
 use borrow.Author.Tests.{eqb-true, eqb-false, ltb-true, ltb-false}
 use Rattle.base.specs.Choice.{pick}
 use Rattle.base.proofs.Theory.Choice.{byTest}
-use Rattle.letters.specs.RefusalNumbers.{declarationWrong, grammarViolated, nestingTooDeep, tokenMalformed, useWrong}
+use Rattle.letters.specs.MacroRefusalNumbers.{declarationWrong, grammarViolated, nestingTooDeep, tokenMalformed, useWrong}
 use Rattle.tokens.specs.Tokens.{tokenAt}
 use Rattle.tokens.specs.Words.{isName}
 use Rattle.tokens.specs.Words as word
 use Rattle.tokens.proofs.Theory.WordsLaws.{name-real}
-use Rattle.grammar.specs.Reading.{Got, got, refused, exhausted, onward}
+use Rattle.grammar.specs.Reading.{Got, got, exhausted, andThen}
 use Rattle.grammar.specs.Reading as reading
 use Rattle.refusals.proofs.Theory.Basics.{clash, not-true, nor}
 use Rattle.refusals.proofs.Theory.Rests.{Rest, took, stuck, take, start, complete, onTook, run, run-more, run-viable, viable-run, sentence-run}
-use Rattle.refusals.specs.Questions.{Unfit, early, misplaced, Redeclared, register, function, Misused, more-arguments, fewer-arguments, TooDeep, No, no-token, unfit, redeclared, misused, too-deep}
+use Rattle.refusals.specs.Questions.{Unfit, Redeclared, Misused, TooDeep, No}
 use Rattle.refusals.specs.FirstNo.{placeOf, keyOf, tokensBefore, NoAt, Reached, FirstNo}
 
-pub data Judged (s : List ℕ) (A : Type 0) (P : A → ℕ → Type 0) : Got A → Type 0 where
-  fine : {a : A} {e : ℕ} → P a e → Judged s A P (got a e)
-  first : {n p : ℕ} → FirstNo s n p → Judged s A P (refused n p)
-  never : Judged s A P exhausted
+pub data JudgedReading (s : List ℕ) (A : Type 0) (P : A → ℕ → Type 0) : Got A → Type 0 where
+  fine : {a : A} {e : ℕ} → P a e → JudgedReading s A P (got a e)
+  first : {n p : ℕ} → FirstNo s n p → JudgedReading s A P (Got.refused n p)
+  never : JudgedReading s A P exhausted
 
-pub judged-on : {s : List ℕ} {A B : Type 0} {P : A → ℕ → Type 0} {Q : B → ℕ → Type 0} (g : Got A) (f : A → ℕ → Got B) → Judged s A P g → ((a : A) (e : ℕ) → g ≡ got a e → P a e → Judged s B Q (f a e)) → Judged s B Q (onward g f)
+pub judged-on : {s : List ℕ} {A B : Type 0} {P : A → ℕ → Type 0} {Q : B → ℕ → Type 0} (g : Got A) (f : A → ℕ → Got B) → JudgedReading s A P g → ((a : A) (e : ℕ) → g ≡ got a e → P a e → JudgedReading s B Q (f a e)) → JudgedReading s B Q (andThen g f)
 judged-on (got a e) f (fine p) k = k a e refl p
-judged-on (refused n p) f (first h) k = first h
+judged-on (Got.refused n p) f (first h) k = first h
 judged-on exhausted f never k = never
 
-pub judged-pick : {s : List ℕ} {A : Type 0} {P : A → ℕ → Type 0} (c : Bool) (x y : Unit {0} → Got A) → (c ≡ true → Judged s A P (x tt)) → (c ≡ false → Judged s A P (y tt)) → Judged s A P (pick c x y)
+pub judged-pick : {s : List ℕ} {A : Type 0} {P : A → ℕ → Type 0} (c : Bool) (x y : Unit {0} → Got A) → (c ≡ true → JudgedReading s A P (x tt)) → (c ≡ false → JudgedReading s A P (y tt)) → JudgedReading s A P (pick c x y)
 judged-pick true x y f g = f refl
 judged-pick false x y f g = g refl
 
-pub judged-map : {s : List ℕ} {A : Type 0} {P Q : A → ℕ → Type 0} {g : Got A} → Judged s A P g → ((a : A) (e : ℕ) → P a e → Q a e) → Judged s A Q g
+pub judged-map : {s : List ℕ} {A : Type 0} {P Q : A → ℕ → Type 0} {g : Got A} → JudgedReading s A P g → ((a : A) (e : ℕ) → P a e → Q a e) → JudgedReading s A Q g
 judged-map (fine {a} {e} p) k = fine (k a e p)
 judged-map (first h) k = first h
 judged-map never k = never
 
-pub judged-first : {s : List ℕ} {A : Type 0} {P : A → ℕ → Type 0} (n p : ℕ) → Judged s A P (refused n p) → FirstNo s n p
+pub judged-first : {s : List ℕ} {A : Type 0} {P : A → ℕ → Type 0} (n p : ℕ) → JudgedReading s A P (Got.refused n p) → FirstNo s n p
 judged-first n p (first h) = h
 
-pub judged-fine : {s : List ℕ} {A : Type 0} {P : A → ℕ → Type 0} (a : A) (e : ℕ) → Judged s A P (got a e) → P a e
+pub judged-fine : {s : List ℕ} {A : Type 0} {P : A → ℕ → Type 0} (a : A) (e : ℕ) → JudgedReading s A P (got a e) → P a e
 judged-fine a e (fine p) = p
 
 -- a no is one of the five
 pub lower : {before : List ℕ} {k next : ℕ} (n m : ℕ) → m < n → (tokenMalformed < n → k ≡ 1 → ⊥) → (grammarViolated < n → Unfit before k → ⊥)
     → (declarationWrong < n → Redeclared before k → ⊥) → (useWrong < n → Misused before k next → ⊥) → (nestingTooDeep < n → TooDeep before k → ⊥)
     → No m before k next → ⊥
-lower n m l a b c d e (no-token h) = a l h
-lower n m l a b c d e (unfit h) = b l h
-lower n m l a b c d e (redeclared h) = c l h
-lower n m l a b c d e (misused h) = d l h
-lower n m l a b c d e (too-deep h) = e l h
+lower n m l a b c d e (No.no-token h) = a l h
+lower n m l a b c d e (No.unfit h) = b l h
+lower n m l a b c d e (No.redeclared h) = c l h
+lower n m l a b c d e (No.misused h) = d l h
+lower n m l a b c d e (No.too-deep h) = e l h
 
 -- tokens that questions 10 to 12 do not concern: no name, `,`, `)` or `{`
 abbrev pub plain : ℕ → Bool
-plain k = not (isName k || (eqb k word.comma || (eqb k word.rparen || (eqb k word.lbrace || (eqb k 0 || eqb k 1)))))
+plain k = not (isName k || (eqb k word.commaKey || (eqb k word.rparenKey || (eqb k word.lbraceKey || (eqb k 0 || eqb k 1)))))
 
 -- a token is two or more
 pub real : (k : ℕ) → (k ≡ 0 → ⊥) → (k ≡ 1 → ⊥) → 2 ≤ k
@@ -67,33 +67,33 @@ real (suc (suc k)) h g = omega arith
 
 module _ (k : ℕ) (h : plain k ≡ true) where
   -- the tests one after the other
-  plain-tests : (isName k ≡ false) × (eqb k word.comma ≡ false) × (eqb k word.rparen ≡ false) × (eqb k word.lbrace ≡ false) × (eqb k 0 ≡ false) × (eqb k 1 ≡ false)
+  plain-tests : (isName k ≡ false) × (eqb k word.commaKey ≡ false) × (eqb k word.rparenKey ≡ false) × (eqb k word.lbraceKey ≡ false) × (eqb k 0 ≡ false) × (eqb k 1 ≡ false)
   plain-tests =
       let (a, x) = nor (isName k) _ h in
-      let (b, y) = nor (eqb k word.comma) _ x in
-      let (c, z) = nor (eqb k word.rparen) _ y in
-      let (d, w) = nor (eqb k word.lbrace) _ z in
+      let (b, y) = nor (eqb k word.commaKey) _ x in
+      let (c, z) = nor (eqb k word.rparenKey) _ y in
+      let (d, w) = nor (eqb k word.lbraceKey) _ z in
       let (e, v) = nor (eqb k 0) _ w in
       (a, b, c, d, e, not-true (eqb k 1) v)
 
-  pub plain-brace : eqb k word.lbrace ≡ false
+  pub plain-brace : eqb k word.lbraceKey ≡ false
   plain-brace = plain-tests .3
 
   pub plain-real : 2 ≤ k
   plain-real = real k (eqb-false k 0 (plain-tests .4)) (eqb-false k 1 (plain-tests .5))
 
   pub plain-redeclared : {before : List ℕ} → Redeclared before k → ⊥
-  plain-redeclared (register I t x) = clash t (plain-tests .0)
-  plain-redeclared (function I t x) = clash t (plain-tests .0)
+  plain-redeclared (Redeclared.register I t x) = clash t (plain-tests .0)
+  plain-redeclared (Redeclared.function I t x) = clash t (plain-tests .0)
 
   pub plain-misused : {before : List ℕ} {next : ℕ} → Misused before k next → ⊥
-  plain-misused (register I t x y) = clash t (plain-tests .0)
-  plain-misused (function I t x y) = clash t (plain-tests .0)
-  plain-misused (more-arguments I c t e) = eqb-false k word.comma (plain-tests .1) e
-  plain-misused (fewer-arguments I c t e) = eqb-false k word.rparen (plain-tests .2) e
+  plain-misused (Misused.register I t x y) = clash t (plain-tests .0)
+  plain-misused (Misused.function I t x y) = clash t (plain-tests .0)
+  plain-misused (Misused.more-arguments I c t e) = eqb-false k word.commaKey (plain-tests .1) e
+  plain-misused (Misused.fewer-arguments I c t e) = eqb-false k word.rparenKey (plain-tests .2) e
 
   pub plain-deep : {before : List ℕ} → TooDeep before k → ⊥
-  plain-deep D = eqb-false k word.lbrace (plain-tests .3) (D .brace)
+  plain-deep D = eqb-false k word.lbraceKey (plain-tests .3) (D .brace)
 
 -- The token k does not fit where r is to come.
 pub record Stuck (r : Rest) (k : ℕ) : Type 0 where
@@ -152,8 +152,8 @@ module _ (s : List ℕ) where
   -- ---- no no at a token
 
   fits : {i at : ℕ} {r q : Rest} → At i at r → take r (keyAt at) ≡ took q → 2 ≤ keyAt at → Unfit (tokensBefore s i) (keyAt at) → ⊥
-  fits A h l (early e n) = omega arith
-  fits {i} {at} {r} {q} A h l (misplaced e n) = n (run-viable (tokensBefore s i ++ keyAt at ∷ []) q (run-next A ∙ h))
+  fits A h l (Unfit.early e n) = omega arith
+  fits {i} {at} {r} {q} A h l (Unfit.misplaced e n) = n (run-viable (tokensBefore s i ++ keyAt at ∷ []) q (run-next A ∙ h))
 
   pub none-here : {i at : ℕ} {r q : Rest} → At i at r → take r (keyAt at) ≡ took q → 2 ≤ keyAt at → (Redeclared (tokensBefore s i) (keyAt at) → ⊥) → (Misused (tokensBefore s i) (keyAt at) (nextAt at) → ⊥) → (TooDeep (tokensBefore s i) (keyAt at) → ⊥) → (m : ℕ) → NoHere i at m → ⊥
   none-here A h l x y z m n = lower (suc m) m (omega arith) (λ _ e. omega arith) (λ _ u. fits A h l u) (λ _. x) (λ _. y) (λ _. z) n
@@ -168,12 +168,12 @@ module _ (s : List ℕ) where
   first-here {i} A n x y = record { index = i; reached = A .reached; place = sym (ap (λ p. tokenAt s p .start) (A .place)); no = there n A x; lowest = λ m l z. y m l (here m A z); first = A .none-before }
 
   -- by 8 or 9
-  pub unfit-judged : {A : Type 0} {P : A → ℕ → Type 0} {i at : ℕ} {r : Rest} → At i at r → Stuck r (keyAt at) → Judged s A P (reading.unfit (tokenAt s at))
+  pub unfit-judged : {A : Type 0} {P : A → ℕ → Type 0} {i at : ℕ} {r : Rest} → At i at r → Stuck r (keyAt at) → JudgedReading s A P (reading.refusedToken (tokenAt s at))
   unfit-judged {i = i} {at} {r} A S =
       byTest (eqb (keyAt at) 1)
-      (λ t. rw t (first (first-here A tokenMalformed (no-token (eqb-true (keyAt at) 1 t)) λ m l. lower tokenMalformed m l (λ x. absurd (omega arith))
+      (λ t. rw t (first (first-here A tokenMalformed (No.no-token (eqb-true (keyAt at) 1 t)) λ m l. lower tokenMalformed m l (λ x. absurd (omega arith))
       (λ x. absurd (omega arith)) (λ x. absurd (omega arith)) (λ x. absurd (omega arith)) λ x. absurd (omega arith))))
-      λ t. rw t (first (first-here A grammarViolated (unfit wrong) λ m l. lower grammarViolated m l (λ _. eqb-false (keyAt at) 1 t) (λ x. absurd (omega arith))
+      λ t. rw t (first (first-here A grammarViolated (No.unfit wrong) λ m l. lower grammarViolated m l (λ _. eqb-false (keyAt at) 1 t) (λ x. absurd (omega arith))
       (λ x. absurd (omega arith)) (λ x. absurd (omega arith)) λ x. absurd (omega arith)))
     where
       not-took : (q : Rest) → stuck ≡ took q → ⊥
@@ -181,37 +181,37 @@ module _ (s : List ℕ) where
 
       wrong : Unfit (tokensBefore s i) (keyAt at)
       wrong = byTest (eqb (keyAt at) 0)
-          (λ t. let e = eqb-true (keyAt at) 0 t in early e λ n. clash (sentence-run (tokensBefore s i) r (A .leaves) n) (S .end e))
-          λ t. let e = eqb-false (keyAt at) 0 t in misplaced e λ n. let (q, h) = viable-run (tokensBefore s i ++ keyAt at ∷ []) n in not-took q (sym (S .token e) ∙ sym (run-next A) ∙ h)
+          (λ t. let e = eqb-true (keyAt at) 0 t in Unfit.early e λ n. clash (sentence-run (tokensBefore s i) r (A .leaves) n) (S .end e))
+          λ t. let e = eqb-false (keyAt at) 0 t in Unfit.misplaced e λ n. let (q, h) = viable-run (tokensBefore s i ++ keyAt at ∷ []) n in not-took q (sym (S .token e) ∙ sym (run-next A) ∙ h)
 
   pub redeclared-judged : {A : Type 0} {P : A → ℕ → Type 0} {i at : ℕ} {r q : Rest} → At i at r → take r (keyAt at) ≡ took q → isName (keyAt at) ≡ true
-      → Redeclared (tokensBefore s i) (keyAt at) → Judged s A P (refused declarationWrong (tokenAt s at .start))
+      → Redeclared (tokensBefore s i) (keyAt at) → JudgedReading s A P (Got.refused declarationWrong (tokenAt s at .start))
   redeclared-judged {at = at} A h t x =
       let l = name-real (keyAt at) t in
-      first (first-here A declarationWrong (redeclared x) λ m g. lower declarationWrong m g (λ _ e. omega arith) (λ _. fits A h l) (λ y. absurd (omega arith))
+      first (first-here A declarationWrong (No.redeclared x) λ m g. lower declarationWrong m g (λ _ e. omega arith) (λ _. fits A h l) (λ y. absurd (omega arith))
       (λ y. absurd (omega arith)) λ y. absurd (omega arith))
 
   pub misused-judged : {A : Type 0} {P : A → ℕ → Type 0} {i at : ℕ} {r q : Rest} → At i at r → take r (keyAt at) ≡ took q → 2 ≤ keyAt at
       → (Redeclared (tokensBefore s i) (keyAt at) → ⊥) → Misused (tokensBefore s i) (keyAt at) (nextAt at)
-      → Judged s A P (refused useWrong (tokenAt s at .start))
+      → JudgedReading s A P (Got.refused useWrong (tokenAt s at .start))
   misused-judged A h l d x =
-      first (first-here A useWrong (misused x) λ m g. lower useWrong m g (λ _ e. omega arith) (λ _. fits A h l) (λ _. d) (λ y. absurd (omega arith))
+      first (first-here A useWrong (No.misused x) λ m g. lower useWrong m g (λ _ e. omega arith) (λ _. fits A h l) (λ _. d) (λ y. absurd (omega arith))
       λ y. absurd (omega arith))
 
   pub deep-judged : {A : Type 0} {P : A → ℕ → Type 0} {i at : ℕ} {r q : Rest} → At i at r → take r (keyAt at) ≡ took q → TooDeep (tokensBefore s i) (keyAt at)
-      → Judged s A P (refused nestingTooDeep (tokenAt s at .start))
+      → JudgedReading s A P (Got.refused nestingTooDeep (tokenAt s at .start))
   deep-judged {i = i} {at} A h x =
-      let k : keyAt at ≡ word.lbrace = x .brace in
-      first (first-here A nestingTooDeep (too-deep x) λ m g. lower nestingTooDeep m g (λ _ e. omega arith) (λ _. fits A h (omega arith))
+      let k : keyAt at ≡ word.lbraceKey = x .brace in
+      first (first-here A nestingTooDeep (No.too-deep x) λ m g. lower nestingTooDeep m g (λ _ e. omega arith) (λ _. fits A h (omega arith))
       (λ _. subst (λ k. Redeclared (tokensBefore s i) k → ⊥) (sym k) brace-redeclared)
       (λ _. subst (λ k. Misused (tokensBefore s i) k (nextAt at) → ⊥) (sym k) brace-misused) λ y. absurd (omega arith))
     where
-      brace-redeclared : Redeclared (tokensBefore s i) word.lbrace → ⊥
-      brace-redeclared (register I t y) = clash t refl
-      brace-redeclared (function I t y) = clash t refl
+      brace-redeclared : Redeclared (tokensBefore s i) word.lbraceKey → ⊥
+      brace-redeclared (Redeclared.register I t y) = clash t refl
+      brace-redeclared (Redeclared.function I t y) = clash t refl
 
-      brace-misused : Misused (tokensBefore s i) word.lbrace (nextAt at) → ⊥
-      brace-misused (register I t y z) = clash t refl
-      brace-misused (function I t y z) = clash t refl
-      brace-misused (more-arguments I c t e) = omega arith
-      brace-misused (fewer-arguments I c t e) = omega arith
+      brace-misused : Misused (tokensBefore s i) word.lbraceKey (nextAt at) → ⊥
+      brace-misused (Misused.register I t y z) = clash t refl
+      brace-misused (Misused.function I t y z) = clash t refl
+      brace-misused (Misused.more-arguments I c t e) = omega arith
+      brace-misused (Misused.fewer-arguments I c t e) = omega arith

@@ -14,7 +14,7 @@ use Rattle.tokens.specs.Words as word
 use Rattle.tokens.proofs.Theory.WordsLaws.{not-word}
 use Rattle.grammar.proofs.Theory.Sound.{pick-case}
 use Rattle.refusals.proofs.Theory.Basics.{head-same, tail-same, not-nil, clash, or-case, and-true}
-use Rattle.refusals.specs.Sentences.{Name, Condition, equal, unequal, Statement, skip, copy, apply, apply-two, assume, assert, if, while, Else, absent, present, Block, empty, _then_, Entry, one, two, Macro, conditionThen, statementThen, elseThen, blockThen, namesThen, entryThen, entriesThen, functionsThen, sentence, Sentence, Viable}
+use Rattle.refusals.specs.Sentences.{Name, NamedCondition, NamedStatement, NamedElse, NamedBlock, _followedBy_, Entry, NamedMacro, conditionThen, statementThen, elseThen, blockThen, namesThen, entryThen, entriesThen, functionsThen, namedSentence, Sentence, Viable}
 
 -- What is still to come.
 pub data Rest : Type 0 where
@@ -40,30 +40,30 @@ pub data Took : Type 0 where
 -- k as the first token of a statement: r is left behind it, q behind the first block of an `if`
 abbrev pub begin : Bool → ℕ → Rest → Rest → Took
 begin e k r q =
-    pick (isName k) (λ _. took (token word.becomes (name (value r))))
-    λ _. pick (eqb k word.skip) (λ _. took (token word.semicolon r))
-    λ _. pick (eqb k word.assume || eqb k word.assert) (λ _. took (name (sign (name (token word.semicolon r)))))
-    λ _. pick (eqb k word.if) (λ _. took (name (sign (name (token word.lbrace (inside false q))))))
-    λ _. pick (eqb k word.while) (λ _. took (name (sign (name (token word.lbrace (inside false r))))))
-    λ _. pick (eqb k word.else && e) (λ _. took (token word.lbrace (inside false r))) λ _. stuck
+    pick (isName k) (λ _. took (token word.becomesKey (name (value r))))
+    λ _. pick (eqb k word.skipKey) (λ _. took (token word.semicolonKey r))
+    λ _. pick (eqb k word.assumeKey || eqb k word.assertKey) (λ _. took (name (sign (name (token word.semicolonKey r)))))
+    λ _. pick (eqb k word.ifKey) (λ _. took (name (sign (name (token word.lbraceKey (inside false q))))))
+    λ _. pick (eqb k word.whileKey) (λ _. took (name (sign (name (token word.lbraceKey (inside false r))))))
+    λ _. pick (eqb k word.elseKey && e) (λ _. took (token word.lbraceKey (inside false r))) λ _. stuck
 
 abbrev pub take : Rest → ℕ → Took
 take (token j r) k = pick (eqb k j) (λ _. took r) λ _. stuck
 take (name r) k = pick (isName k) (λ _. took r) λ _. stuck
-take (sign r) k = pick (eqb k word.equal || eqb k word.unequal) (λ _. took r) λ _. stuck
-take (digit r) k = pick (eqb k word.one || eqb k word.two) (λ _. took r) λ _. stuck
-take (value r) k = pick (eqb k word.semicolon) (λ _. took r) λ _. pick (eqb k word.lparen) (λ _. took (name (arguments r))) λ _. stuck
+take (sign r) k = pick (eqb k word.equalKey || eqb k word.unequalKey) (λ _. took r) λ _. stuck
+take (digit r) k = pick (eqb k word.oneKey || eqb k word.twoKey) (λ _. took r) λ _. stuck
+take (value r) k = pick (eqb k word.semicolonKey) (λ _. took r) λ _. pick (eqb k word.lparenKey) (λ _. took (name (arguments r))) λ _. stuck
 take (arguments r) k =
-    pick (eqb k word.rparen) (λ _. took (token word.semicolon r))
-    λ _. pick (eqb k word.comma) (λ _. took (name (token word.rparen (token word.semicolon r)))) λ _. stuck
-take (names e) k = pick (isName k) (λ _. took (names true)) λ _. pick (eqb k word.semicolon && e) (λ _. took line) λ _. stuck
-take (entries e) k = pick (isName k) (λ _. took (token word.slash (digit (entries true)))) λ _. pick (eqb k word.semicolon && e) (λ _. took (outside false)) λ _. stuck
-take line k = pick (eqb k word.funs) (λ _. took (entries false)) λ _. begin false k (outside false) (outside true)
-take (inside e r) k = pick (eqb k word.rbrace) (λ _. took r) λ _. begin e k (inside false r) (inside true r)
+    pick (eqb k word.rparenKey) (λ _. took (token word.semicolonKey r))
+    λ _. pick (eqb k word.commaKey) (λ _. took (name (token word.rparenKey (token word.semicolonKey r)))) λ _. stuck
+take (names e) k = pick (isName k) (λ _. took (names true)) λ _. pick (eqb k word.semicolonKey && e) (λ _. took line) λ _. stuck
+take (entries e) k = pick (isName k) (λ _. took (token word.slashKey (digit (entries true)))) λ _. pick (eqb k word.semicolonKey && e) (λ _. took (outside false)) λ _. stuck
+take line k = pick (eqb k word.funsKey) (λ _. took (entries false)) λ _. begin false k (outside false) (outside true)
+take (inside e r) k = pick (eqb k word.rbraceKey) (λ _. took r) λ _. begin e k (inside false r) (inside true r)
 take (outside e) k = begin e k (outside false) (outside true)
 
 abbrev pub start : Rest
-start = token word.vars (names false)
+start = token word.varsKey (names false)
 
 -- whether the text may end here
 abbrev pub complete : Rest → Bool
@@ -90,26 +90,26 @@ data Value : Type 0 where
   applied : Name → Arguments → Value
 
 abbrev argumentsThen : Arguments → List ℕ → List ℕ
-argumentsThen last ws = word.rparen ∷ word.semicolon ∷ ws
-argumentsThen (second c) ws = word.comma ∷ c .key ∷ word.rparen ∷ word.semicolon ∷ ws
+argumentsThen last ws = word.rparenKey ∷ word.semicolonKey ∷ ws
+argumentsThen (second c) ws = word.commaKey ∷ c .key ∷ word.rparenKey ∷ word.semicolonKey ∷ ws
 
 abbrev valueThen : Value → List ℕ → List ℕ
-valueThen register ws = word.semicolon ∷ ws
-valueThen (applied b v) ws = word.lparen ∷ b .key ∷ argumentsThen v ws
+valueThen register ws = word.semicolonKey ∷ ws
+valueThen (applied b v) ws = word.lparenKey ∷ b .key ∷ argumentsThen v ws
 
 abbrev signToken : Bool → ℕ
-signToken true = word.equal
-signToken false = word.unequal
+signToken true = word.equalKey
+signToken false = word.unequalKey
 
 abbrev digitToken : Bool → ℕ
-digitToken true = word.one
-digitToken false = word.two
+digitToken true = word.oneKey
+digitToken false = word.twoKey
 
 -- an `else` in front only where it may be
-abbrev Allowed : Bool → Else → Type 0
+abbrev Allowed : Bool → NamedElse → Type 0
 Allowed true o = Unit {0}
-Allowed false absent = Unit {0}
-Allowed false (present b) = ⊥
+Allowed false NamedElse.absent = Unit {0}
+Allowed false (NamedElse.present b) = ⊥
 
 -- "at least one in each list"
 abbrev Some : {A : Type 0} → Bool → List A → Type 0
@@ -119,7 +119,7 @@ Some false (a ∷ bs) = Unit {0}
 
 -- perhaps an else, statements, and then what T says
 abbrev Body : Bool → (List ℕ → Type 0) → List ℕ → Type 0
-Body e T ws = (o : Else) × (b : Block) × (vs : List ℕ) × Allowed e o × (ws ≡ elseThen o (blockThen b vs)) × T vs
+Body e T ws = (o : NamedElse) × (b : NamedBlock) × (vs : List ℕ) × Allowed e o × (ws ≡ elseThen o (blockThen b vs)) × T vs
 
 abbrev Nothing : List ℕ → Type 0
 Nothing ws = ws ≡ []
@@ -134,10 +134,10 @@ Means (sign r) ws = (q : Bool) × (vs : List ℕ) × (ws ≡ signToken q ∷ vs)
 Means (digit r) ws = (q : Bool) × (vs : List ℕ) × (ws ≡ digitToken q ∷ vs) × Means r vs
 Means (value r) ws = (v : Value) × (vs : List ℕ) × (ws ≡ valueThen v vs) × Means r vs
 Means (arguments r) ws = (v : Arguments) × (vs : List ℕ) × (ws ≡ argumentsThen v vs) × Means r vs
-Means (names e) ws = (ks : List Name) × (vs : List ℕ) × Some e ks × (ws ≡ namesThen ks (word.semicolon ∷ vs)) × Line vs
-Means (entries e) ws = (fs : List Entry) × (vs : List ℕ) × Some e fs × (ws ≡ entriesThen fs (word.semicolon ∷ vs)) × Body false Nothing vs
+Means (names e) ws = (ks : List Name) × (vs : List ℕ) × Some e ks × (ws ≡ namesThen ks (word.semicolonKey ∷ vs)) × Line vs
+Means (entries e) ws = (fs : List Entry) × (vs : List ℕ) × Some e fs × (ws ≡ entriesThen fs (word.semicolonKey ∷ vs)) × Body false Nothing vs
 Means line ws = Line ws
-Means (inside e r) ws = Body e (λ vs. (us : List ℕ) × (vs ≡ word.rbrace ∷ us) × Means r us) ws
+Means (inside e r) ws = Body e (λ vs. (us : List ℕ) × (vs ≡ word.rbraceKey ∷ us) × Means r us) ws
 Means (outside e) ws = Body e Nothing ws
 
 -- ---- taking a token, backwards: what is left, with the token in front of it
@@ -152,104 +152,104 @@ left ws h m = subst (λ r. Means r ws) (sym (took-same h)) m
 not-took : {r : Rest} → stuck ≡ took r → ⊥
 not-took h = let z : _≡_ {A = ℕ} 0 1 = cc in omega arith
 
-allowed-absent : (e : Bool) → Allowed e absent
+allowed-absent : (e : Bool) → Allowed e NamedElse.absent
 allowed-absent true = tt
 allowed-absent false = tt
 
 -- a body that has no else in front
-plainly : (T : List ℕ → Type 0) (ws : List ℕ) → Body false T ws → (b : Block) × (vs : List ℕ) × (ws ≡ blockThen b vs) × T vs
-plainly T ws (absent, b, vs, a, h, t) = (b, vs, h, t)
-plainly T ws (present x, b, vs, a, h, t) = absurd a
+plainly : (T : List ℕ → Type 0) (ws : List ℕ) → Body false T ws → (b : NamedBlock) × (vs : List ℕ) × (ws ≡ blockThen b vs) × T vs
+plainly T ws (NamedElse.absent, b, vs, a, h, t) = (b, vs, h, t)
+plainly T ws (NamedElse.present x, b, vs, a, h, t) = absurd a
 
 -- a statement in front of a body
-prefixed : (T : List ℕ → Type 0) (e : Bool) (c : Statement) (ws vs : List ℕ) → ws ≡ statementThen c vs → Body false T vs → Body e T ws
-prefixed T e c ws vs h m = let (b, us, g, t) = plainly T vs m in (absent, c then b, us, allowed-absent e, h ∙ ap (statementThen c) g, t)
+prefixed : (T : List ℕ → Type 0) (e : Bool) (c : NamedStatement) (ws vs : List ℕ) → ws ≡ statementThen c vs → Body false T vs → Body e T ws
+prefixed T e c ws vs h m = let (b, us, g, t) = plainly T vs m in (NamedElse.absent, c followedBy b, us, allowed-absent e, h ∙ ap (statementThen c) g, t)
 
-abbrev compare : Bool → Name → Name → Condition
-compare true a b = equal a b
-compare false a b = unequal a b
+abbrev compare : Bool → Name → Name → NamedCondition
+compare true a b = NamedCondition.equal a b
+compare false a b = NamedCondition.unequal a b
 
 compare-tokens : (q : Bool) (a b : Name) (ws : List ℕ) → conditionThen (compare q a b) ws ≡ a .key ∷ signToken q ∷ b .key ∷ ws
 compare-tokens true a b ws = refl
 compare-tokens false a b ws = refl
 
-condition-of : (r : Rest) (ws : List ℕ) → Means (name (sign (name r))) ws → (c : Condition) × (vs : List ℕ) × (ws ≡ conditionThen c vs) × Means r vs
+condition-of : (r : Rest) (ws : List ℕ) → Means (name (sign (name r))) ws → (c : NamedCondition) × (vs : List ℕ) × (ws ≡ conditionThen c vs) × Means r vs
 condition-of r ws (a, x, h, (q, y, g, (b, z, f, m))) = (compare q a b, z, rw (h, g, f) (sym (compare-tokens q a b z)), m)
 
-abbrev assigned : Name → Name → Value → Statement
-assigned a b register = copy a b
-assigned a f (applied b last) = apply a f b
-assigned a f (applied b (second c)) = apply-two a f b c
+abbrev assigned : Name → Name → Value → NamedStatement
+assigned a b register = NamedStatement.copy a b
+assigned a f (applied b last) = NamedStatement.apply a f b
+assigned a f (applied b (second c)) = NamedStatement.apply-two a f b c
 
-assigned-tokens : (a b : Name) (v : Value) (ws : List ℕ) → statementThen (assigned a b v) ws ≡ a .key ∷ word.becomes ∷ b .key ∷ valueThen v ws
+assigned-tokens : (a b : Name) (v : Value) (ws : List ℕ) → statementThen (assigned a b v) ws ≡ a .key ∷ word.becomesKey ∷ b .key ∷ valueThen v ws
 assigned-tokens a b register ws = refl
 assigned-tokens a f (applied b last) ws = refl
 assigned-tokens a f (applied b (second c)) ws = refl
 
-allowed-true : (e : Bool) (o : Else) → e ≡ true → Allowed e o
+allowed-true : (e : Bool) (o : NamedElse) → e ≡ true → Allowed e o
 allowed-true true o h = tt
 allowed-true false o h = absurd (clash h refl)
 
 -- `{`, a block, `}`, and the rest
-braced : (r : Rest) (ws : List ℕ) → Means (token word.lbrace (inside false r)) ws → (b : Block) × (vs : List ℕ) × (ws ≡ word.lbrace ∷ blockThen b (word.rbrace ∷ vs)) × Means r vs
-braced r ws (x, h, (absent, b, y, a, g, (z, f, m))) = (b, z, rw (h, g, f), m)
-braced r ws (x, h, (present c, b, y, a, g, (z, f, m))) = absurd a
+braced : (r : Rest) (ws : List ℕ) → Means (token word.lbraceKey (inside false r)) ws → (b : NamedBlock) × (vs : List ℕ) × (ws ≡ word.lbraceKey ∷ blockThen b (word.rbraceKey ∷ vs)) × Means r vs
+braced r ws (x, h, (NamedElse.absent, b, y, a, g, (z, f, m))) = (b, z, rw (h, g, f), m)
+braced r ws (x, h, (NamedElse.present c, b, y, a, g, (z, f, m))) = absurd a
 
 module _ (T : List ℕ → Type 0) (r q : Rest) (into : (ws : List ℕ) → Means r ws → Body false T ws) (into-else : (ws : List ℕ) → Means q ws → Body true T ws) (e : Bool) (k : ℕ) where
-  name-put : (ws : List ℕ) → isName k ≡ true → Means (token word.becomes (name (value r))) ws → Body e T (k ∷ ws)
+  name-put : (ws : List ℕ) → isName k ≡ true → Means (token word.becomesKey (name (value r))) ws → Body e T (k ∷ ws)
   name-put ws t (x, h, (b, y, g, (v, z, f, m))) = let a : Name = record { key = k; real = t } in prefixed T e (assigned a b v) (k ∷ ws) z (rw (h, g, f) (sym (assigned-tokens a b v z))) (into z m)
 
-  skip-put : (ws : List ℕ) → k ≡ word.skip → Means (token word.semicolon r) ws → Body e T (k ∷ ws)
-  skip-put ws t (x, h, m) = prefixed T e skip (k ∷ ws) x (rw (t, h)) (into x m)
+  skip-put : (ws : List ℕ) → k ≡ word.skipKey → Means (token word.semicolonKey r) ws → Body e T (k ∷ ws)
+  skip-put ws t (x, h, m) = prefixed T e NamedStatement.skip (k ∷ ws) x (rw (t, h)) (into x m)
 
-  tested-put : (ws : List ℕ) → (k ≡ word.assume) ⊎ (k ≡ word.assert) → (c : Condition) × (vs : List ℕ) × (ws ≡ conditionThen c vs) × Means (token word.semicolon r) vs → Body e T (k ∷ ws)
-  tested-put ws (inl t) (c, x, h, (y, g, m)) = prefixed T e (assume c) (k ∷ ws) y (rw (t, h, g)) (into y m)
-  tested-put ws (inr t) (c, x, h, (y, g, m)) = prefixed T e (assert c) (k ∷ ws) y (rw (t, h, g)) (into y m)
+  tested-put : (ws : List ℕ) → (k ≡ word.assumeKey) ⊎ (k ≡ word.assertKey) → (c : NamedCondition) × (vs : List ℕ) × (ws ≡ conditionThen c vs) × Means (token word.semicolonKey r) vs → Body e T (k ∷ ws)
+  tested-put ws (inl t) (c, x, h, (y, g, m)) = prefixed T e (NamedStatement.assume c) (k ∷ ws) y (rw (t, h, g)) (into y m)
+  tested-put ws (inr t) (c, x, h, (y, g, m)) = prefixed T e (NamedStatement.assert c) (k ∷ ws) y (rw (t, h, g)) (into y m)
 
-  if-put : (ws : List ℕ) (c : Condition) (b : Block) (x y : List ℕ) → k ≡ word.if → ws ≡ conditionThen c x → x ≡ word.lbrace ∷ blockThen b (word.rbrace ∷ y) → Body true T y → Body e T (k ∷ ws)
-  if-put ws c b x y t h g (o, d, z, a, f, m) = prefixed T e (if c b o) (k ∷ ws) (blockThen d z) (rw (t, h, g, f)) (absent, d, z, tt, refl, m)
+  if-put : (ws : List ℕ) (c : NamedCondition) (b : NamedBlock) (x y : List ℕ) → k ≡ word.ifKey → ws ≡ conditionThen c x → x ≡ word.lbraceKey ∷ blockThen b (word.rbraceKey ∷ y) → Body true T y → Body e T (k ∷ ws)
+  if-put ws c b x y t h g (o, d, z, a, f, m) = prefixed T e (NamedStatement.if c b o) (k ∷ ws) (blockThen d z) (rw (t, h, g, f)) (NamedElse.absent, d, z, tt, refl, m)
 
-  else-put : (ws : List ℕ) (b : Block) (y : List ℕ) → k ≡ word.else → e ≡ true → ws ≡ word.lbrace ∷ blockThen b (word.rbrace ∷ y) → (d : Block) × (vs : List ℕ) × (y ≡ blockThen d vs) × T vs → Body e T (k ∷ ws)
-  else-put ws b y t u h (d, z, g, m) = (present b, d, z, allowed-true e (present b) u, rw (t, h, g), m)
+  else-put : (ws : List ℕ) (b : NamedBlock) (y : List ℕ) → k ≡ word.elseKey → e ≡ true → ws ≡ word.lbraceKey ∷ blockThen b (word.rbraceKey ∷ y) → (d : NamedBlock) × (vs : List ℕ) × (y ≡ blockThen d vs) × T vs → Body e T (k ∷ ws)
+  else-put ws b y t u h (d, z, g, m) = (NamedElse.present b, d, z, allowed-true e (NamedElse.present b) u, rw (t, h, g), m)
 
   begun : (l : Rest) (ws : List ℕ) → begin e k r q ≡ took l → Means l ws → Body e T (k ∷ ws)
   begun l ws h m =
       pick-case (isName k) _ _ _ h (λ t g. name-put ws t (left ws g m))
-      λ _ h. pick-case (eqb k word.skip) _ _ _ h (λ t g. skip-put ws (eqb-true k word.skip t) (left ws g m))
-      λ _ h. pick-case (eqb k word.assume || eqb k word.assert) _ _ _ h
-      (λ t g. tested-put ws (assume-or-assert (or-case (eqb k word.assume) (eqb k word.assert) t))
-      (condition-of (token word.semicolon r) ws (left ws g m)))
-      λ _ h. pick-case (eqb k word.if) _ _ _ h
-      (λ t g. let (c, x, i, n) = condition-of (token word.lbrace (inside false q)) ws (left ws g m) in
-      let (b, y, j, w) = braced q x n in if-put ws c b x y (eqb-true k word.if t) i j (into-else y w))
-      λ _ h. pick-case (eqb k word.while) _ _ _ h
-      (λ t g. let (c, x, i, n) = condition-of (token word.lbrace (inside false r)) ws (left ws g m) in
-      let (b, y, j, w) = braced r x n in prefixed T e (while c b) (k ∷ ws) y (spelled-while c b ws x y (eqb-true k word.while t) i j) (into y w))
-      λ _ h. pick-case (eqb k word.else && e) _ _ _ h
+      λ _ h. pick-case (eqb k word.skipKey) _ _ _ h (λ t g. skip-put ws (eqb-true k word.skipKey t) (left ws g m))
+      λ _ h. pick-case (eqb k word.assumeKey || eqb k word.assertKey) _ _ _ h
+      (λ t g. tested-put ws (assume-or-assert (or-case (eqb k word.assumeKey) (eqb k word.assertKey) t))
+      (condition-of (token word.semicolonKey r) ws (left ws g m)))
+      λ _ h. pick-case (eqb k word.ifKey) _ _ _ h
+      (λ t g. let (c, x, i, n) = condition-of (token word.lbraceKey (inside false q)) ws (left ws g m) in
+      let (b, y, j, w) = braced q x n in if-put ws c b x y (eqb-true k word.ifKey t) i j (into-else y w))
+      λ _ h. pick-case (eqb k word.whileKey) _ _ _ h
+      (λ t g. let (c, x, i, n) = condition-of (token word.lbraceKey (inside false r)) ws (left ws g m) in
+      let (b, y, j, w) = braced r x n in prefixed T e (NamedStatement.while c b) (k ∷ ws) y (spelled-while c b ws x y (eqb-true k word.whileKey t) i j) (into y w))
+      λ _ h. pick-case (eqb k word.elseKey && e) _ _ _ h
       (λ t g. let (b, y, j, w) = braced r ws (left ws g m) in
-      let (f, u) = and-true (eqb k word.else) e t in else-put ws b y (eqb-true k word.else f) u j (plainly T y (into y w)))
+      let (f, u) = and-true (eqb k word.elseKey) e t in else-put ws b y (eqb-true k word.elseKey f) u j (plainly T y (into y w)))
       λ _ h. absurd (not-took h)
     where
-      assume-or-assert : (eqb k word.assume ≡ true) ⊎ (eqb k word.assert ≡ true) → (k ≡ word.assume) ⊎ (k ≡ word.assert)
-      assume-or-assert (inl u) = inl (eqb-true k word.assume u)
-      assume-or-assert (inr u) = inr (eqb-true k word.assert u)
+      assume-or-assert : (eqb k word.assumeKey ≡ true) ⊎ (eqb k word.assertKey ≡ true) → (k ≡ word.assumeKey) ⊎ (k ≡ word.assertKey)
+      assume-or-assert (inl u) = inl (eqb-true k word.assumeKey u)
+      assume-or-assert (inr u) = inr (eqb-true k word.assertKey u)
 
-      spelled-while : (c : Condition) (b : Block) (ws x y : List ℕ) → k ≡ word.while → ws ≡ conditionThen c x → x ≡ word.lbrace ∷ blockThen b (word.rbrace ∷ y) → k ∷ ws ≡ statementThen (while c b) y
+      spelled-while : (c : NamedCondition) (b : NamedBlock) (ws x y : List ℕ) → k ≡ word.whileKey → ws ≡ conditionThen c x → x ≡ word.lbraceKey ∷ blockThen b (word.rbraceKey ∷ y) → k ∷ ws ≡ statementThen (NamedStatement.while c b) y
       spelled-while c b ws x y t h g = rw (t, h, g)
 
-sign-of : (k : ℕ) → eqb k word.equal || eqb k word.unequal ≡ true → (q : Bool) × (k ≡ signToken q)
-sign-of k h = go (or-case (eqb k word.equal) (eqb k word.unequal) h)
+sign-of : (k : ℕ) → eqb k word.equalKey || eqb k word.unequalKey ≡ true → (q : Bool) × (k ≡ signToken q)
+sign-of k h = go (or-case (eqb k word.equalKey) (eqb k word.unequalKey) h)
   where
-    go : (eqb k word.equal ≡ true) ⊎ (eqb k word.unequal ≡ true) → (q : Bool) × (k ≡ signToken q)
-    go (inl t) = (true, eqb-true k word.equal t)
-    go (inr t) = (false, eqb-true k word.unequal t)
+    go : (eqb k word.equalKey ≡ true) ⊎ (eqb k word.unequalKey ≡ true) → (q : Bool) × (k ≡ signToken q)
+    go (inl t) = (true, eqb-true k word.equalKey t)
+    go (inr t) = (false, eqb-true k word.unequalKey t)
 
-digit-of : (k : ℕ) → eqb k word.one || eqb k word.two ≡ true → (q : Bool) × (k ≡ digitToken q)
-digit-of k h = go (or-case (eqb k word.one) (eqb k word.two) h)
+digit-of : (k : ℕ) → eqb k word.oneKey || eqb k word.twoKey ≡ true → (q : Bool) × (k ≡ digitToken q)
+digit-of k h = go (or-case (eqb k word.oneKey) (eqb k word.twoKey) h)
   where
-    go : (eqb k word.one ≡ true) ⊎ (eqb k word.two ≡ true) → (q : Bool) × (k ≡ digitToken q)
-    go (inl t) = (true, eqb-true k word.one t)
-    go (inr t) = (false, eqb-true k word.two t)
+    go : (eqb k word.oneKey ≡ true) ⊎ (eqb k word.twoKey ≡ true) → (q : Bool) × (k ≡ digitToken q)
+    go (inl t) = (true, eqb-true k word.oneKey t)
+    go (inr t) = (false, eqb-true k word.twoKey t)
 
 some-true : {A : Type 0} (e : Bool) (bs : List A) → e ≡ true → Some e bs
 some-true true bs h = tt
@@ -260,31 +260,31 @@ some-one true b bs = tt
 some-one false b bs = tt
 
 abbrev entryOf : Bool → Name → Entry
-entryOf true f = one f
-entryOf false f = two f
+entryOf true f = Entry.one f
+entryOf false f = Entry.two f
 
-entry-tokens : (q : Bool) (f : Name) (ws : List ℕ) → entryThen (entryOf q f) ws ≡ f .key ∷ word.slash ∷ digitToken q ∷ ws
+entry-tokens : (q : Bool) (f : Name) (ws : List ℕ) → entryThen (entryOf q f) ws ≡ f .key ∷ word.slashKey ∷ digitToken q ∷ ws
 entry-tokens true f ws = refl
 entry-tokens false f ws = refl
 
 -- each with its token in front of what is left
-value-put : (k : ℕ) (r : Rest) (ws : List ℕ) → k ≡ word.lparen → Means (name (arguments r)) ws → Means (value r) (k ∷ ws)
+value-put : (k : ℕ) (r : Rest) (ws : List ℕ) → k ≡ word.lparenKey → Means (name (arguments r)) ws → Means (value r) (k ∷ ws)
 value-put k r ws t (b, x, h, (v, y, g, m)) = (applied b v, y, rw (t, h, g), m)
 
-second-put : (k : ℕ) (r : Rest) (ws : List ℕ) → k ≡ word.comma → Means (name (token word.rparen (token word.semicolon r))) ws → Means (arguments r) (k ∷ ws)
+second-put : (k : ℕ) (r : Rest) (ws : List ℕ) → k ≡ word.commaKey → Means (name (token word.rparenKey (token word.semicolonKey r))) ws → Means (arguments r) (k ∷ ws)
 second-put k r ws t (c, x, h, (y, g, (z, f, m))) = (second c, z, rw (t, h, g, f), m)
 
-last-put : (k : ℕ) (r : Rest) (ws : List ℕ) → k ≡ word.rparen → Means (token word.semicolon r) ws → Means (arguments r) (k ∷ ws)
+last-put : (k : ℕ) (r : Rest) (ws : List ℕ) → k ≡ word.rparenKey → Means (token word.semicolonKey r) ws → Means (arguments r) (k ∷ ws)
 last-put k r ws t (x, h, m) = (last, x, rw (t, h), m)
 
 names-put : (e : Bool) (k : ℕ) (ws : List ℕ) → isName k ≡ true → Means (names true) ws → Means (names e) (k ∷ ws)
 names-put e k ws t (ks, x, o, h, m) = let a : Name = record { key = k; real = t } in (a ∷ ks, x, some-one e a ks, ap (λ l. k ∷ l) h, m)
 
-entries-put : (e : Bool) (k : ℕ) (ws : List ℕ) → isName k ≡ true → Means (token word.slash (digit (entries true))) ws → Means (entries e) (k ∷ ws)
+entries-put : (e : Bool) (k : ℕ) (ws : List ℕ) → isName k ≡ true → Means (token word.slashKey (digit (entries true))) ws → Means (entries e) (k ∷ ws)
 entries-put e k ws t (x, h, (q, y, g, (fs, z, o, f, m))) =
-    let a : Name = record { key = k; real = t } in (entryOf q a ∷ fs, z, some-one e (entryOf q a) fs, rw (h, g, f) (sym (entry-tokens q a (entriesThen fs (word.semicolon ∷ z)))), m)
+    let a : Name = record { key = k; real = t } in (entryOf q a ∷ fs, z, some-one e (entryOf q a) fs, rw (h, g, f) (sym (entry-tokens q a (entriesThen fs (word.semicolonKey ∷ z)))), m)
 
-line-put : (k : ℕ) (ws : List ℕ) → k ≡ word.funs → Means (entries false) ws → Line (k ∷ ws)
+line-put : (k : ℕ) (ws : List ℕ) → k ≡ word.funsKey → Means (entries false) ws → Line (k ∷ ws)
 line-put k ws t ([], x, o, h, m) = absurd o
 line-put k ws t (f ∷ fs, x, o, h, m) = (f ∷ fs, x, rw (t, h), m)
 
@@ -293,33 +293,33 @@ take-put : (r : Rest) (k : ℕ) (l : Rest) (ws : List ℕ) → take r k ≡ took
 take-put (token j r) k l ws h m = pick-case (eqb k j) _ _ _ h (λ t g. (ws, ap (λ k. k ∷ ws) (eqb-true k j t), left ws g m)) λ _ g. absurd (not-took g)
 take-put (name r) k l ws h m = pick-case (isName k) _ _ _ h (λ t g. (record { key = k; real = t }, ws, refl, left ws g m)) λ _ g. absurd (not-took g)
 take-put (sign r) k l ws h m =
-    pick-case (eqb k word.equal || eqb k word.unequal) _ _ _ h (λ t g. let (q, i) = sign-of k t in (q, ws, ap (λ k. k ∷ ws) i, left ws g m))
+    pick-case (eqb k word.equalKey || eqb k word.unequalKey) _ _ _ h (λ t g. let (q, i) = sign-of k t in (q, ws, ap (λ k. k ∷ ws) i, left ws g m))
     λ _ g. absurd (not-took g)
 take-put (digit r) k l ws h m =
-    pick-case (eqb k word.one || eqb k word.two) _ _ _ h (λ t g. let (q, i) = digit-of k t in (q, ws, ap (λ k. k ∷ ws) i, left ws g m))
+    pick-case (eqb k word.oneKey || eqb k word.twoKey) _ _ _ h (λ t g. let (q, i) = digit-of k t in (q, ws, ap (λ k. k ∷ ws) i, left ws g m))
     λ _ g. absurd (not-took g)
 take-put (value r) k l ws h m =
-    pick-case (eqb k word.semicolon) _ _ _ h (λ t g. (register, ws, ap (λ k. k ∷ ws) (eqb-true k word.semicolon t), left ws g m))
-    λ _ h. pick-case (eqb k word.lparen) _ _ _ h (λ t g. value-put k r ws (eqb-true k word.lparen t) (left ws g m)) λ _ g. absurd (not-took g)
+    pick-case (eqb k word.semicolonKey) _ _ _ h (λ t g. (register, ws, ap (λ k. k ∷ ws) (eqb-true k word.semicolonKey t), left ws g m))
+    λ _ h. pick-case (eqb k word.lparenKey) _ _ _ h (λ t g. value-put k r ws (eqb-true k word.lparenKey t) (left ws g m)) λ _ g. absurd (not-took g)
 take-put (arguments r) k l ws h m =
-    pick-case (eqb k word.rparen) _ _ _ h (λ t g. last-put k r ws (eqb-true k word.rparen t) (left ws g m))
-    λ _ h. pick-case (eqb k word.comma) _ _ _ h (λ t g. second-put k r ws (eqb-true k word.comma t) (left ws g m)) λ _ g. absurd (not-took g)
+    pick-case (eqb k word.rparenKey) _ _ _ h (λ t g. last-put k r ws (eqb-true k word.rparenKey t) (left ws g m))
+    λ _ h. pick-case (eqb k word.commaKey) _ _ _ h (λ t g. second-put k r ws (eqb-true k word.commaKey t) (left ws g m)) λ _ g. absurd (not-took g)
 take-put (names e) k l ws h m =
     pick-case (isName k) _ _ _ h (λ t g. names-put e k ws t (left ws g m))
-    λ _ h. pick-case (eqb k word.semicolon && e) _ _ _ h
-    (λ t g. let (f, u) = and-true (eqb k word.semicolon) e t in ([], ws, some-true e [] u, ap (λ k. k ∷ ws) (eqb-true k word.semicolon f), left ws g m))
+    λ _ h. pick-case (eqb k word.semicolonKey && e) _ _ _ h
+    (λ t g. let (f, u) = and-true (eqb k word.semicolonKey) e t in ([], ws, some-true e [] u, ap (λ k. k ∷ ws) (eqb-true k word.semicolonKey f), left ws g m))
     λ _ g. absurd (not-took g)
 take-put (entries e) k l ws h m =
     pick-case (isName k) _ _ _ h (λ t g. entries-put e k ws t (left ws g m))
-    λ _ h. pick-case (eqb k word.semicolon && e) _ _ _ h
-    (λ t g. let (f, u) = and-true (eqb k word.semicolon) e t in ([], ws, some-true e [] u, ap (λ k. k ∷ ws) (eqb-true k word.semicolon f), left ws g m))
+    λ _ h. pick-case (eqb k word.semicolonKey && e) _ _ _ h
+    (λ t g. let (f, u) = and-true (eqb k word.semicolonKey) e t in ([], ws, some-true e [] u, ap (λ k. k ∷ ws) (eqb-true k word.semicolonKey f), left ws g m))
     λ _ g. absurd (not-took g)
 take-put line k l ws h m =
-    pick-case (eqb k word.funs) _ _ _ h (λ t g. line-put k ws (eqb-true k word.funs t) (left ws g m))
+    pick-case (eqb k word.funsKey) _ _ _ h (λ t g. line-put k ws (eqb-true k word.funsKey t) (left ws g m))
     λ _ g. ([], k ∷ ws, refl, begun Nothing (outside false) (outside true) (λ _ n. n) (λ _ n. n) false k l ws g m)
 take-put (inside e r) k l ws h m =
-    pick-case (eqb k word.rbrace) _ _ _ h (λ t g. (absent, empty, k ∷ ws, allowed-absent e, refl, (ws, ap (λ k. k ∷ ws) (eqb-true k word.rbrace t), left ws g m)))
-    λ _ g. begun (λ vs. (us : List ℕ) × (vs ≡ word.rbrace ∷ us) × Means r us) (inside false r) (inside true r) (λ _ n. n) (λ _ n. n) e k l ws g m
+    pick-case (eqb k word.rbraceKey) _ _ _ h (λ t g. (NamedElse.absent, NamedBlock.empty, k ∷ ws, allowed-absent e, refl, (ws, ap (λ k. k ∷ ws) (eqb-true k word.rbraceKey t), left ws g m)))
+    λ _ g. begun (λ vs. (us : List ℕ) × (vs ≡ word.rbraceKey ∷ us) × Means r us) (inside false r) (inside true r) (λ _ n. n) (λ _ n. n) e k l ws g m
 take-put (outside e) k l ws h m = begun Nothing (outside false) (outside true) (λ _ n. n) (λ _ n. n) e k l ws h m
 
 -- ---- taking a token, forwards: what is to come begins with a token that can be taken
@@ -330,38 +330,38 @@ Taken t ws = (r : Rest) × (t ≡ took r) × Means r ws
 shift : (f : ℕ → Took) (k j : ℕ) (ws us : List ℕ) → k ∷ ws ≡ j ∷ us → Taken (f j) us → Taken (f k) ws
 shift f k j ws us h d = subst (λ j. Taken (f j) ws) (sym (head-same h)) (subst (λ us. Taken (f j) us) (sym (tail-same h)) d)
 
-compared : (c : Condition) (r : Rest) (ws : List ℕ) → Means r ws → Means (name (sign (name r))) (conditionThen c ws)
-compared (equal a b) r ws m = (a, _, refl, (true, _, refl, (b, ws, refl, m)))
-compared (unequal a b) r ws m = (a, _, refl, (false, _, refl, (b, ws, refl, m)))
+compared : (c : NamedCondition) (r : Rest) (ws : List ℕ) → Means r ws → Means (name (sign (name r))) (conditionThen c ws)
+compared (NamedCondition.equal a b) r ws m = (a, _, refl, (true, _, refl, (b, ws, refl, m)))
+compared (NamedCondition.unequal a b) r ws m = (a, _, refl, (false, _, refl, (b, ws, refl, m)))
 
 -- f takes the first token of a body: as begin does, or stops as T says
 module _ (T : List ℕ → Type 0) (r q : Rest) (out : (ws : List ℕ) → Body false T ws → Means r ws) (out-else : (ws : List ℕ) → Body true T ws → Means q ws) (f : ℕ → Took)
     (stop : (k : ℕ) (ws : List ℕ) → T (k ∷ ws) → Taken (f k) ws) where
   abbrev Agrees : Bool → Type 0
-  Agrees e = (j : ℕ) → eqb j word.rbrace ≡ false → eqb j word.funs ≡ false → f j ≡ begin e j r q
+  Agrees e = (j : ℕ) → eqb j word.rbraceKey ≡ false → eqb j word.funsKey ≡ false → f j ≡ begin e j r q
 
-  name-taken : (e : Bool) → Agrees e → (x : Name) → f (x .key) ≡ took (token word.becomes (name (value r)))
-  name-taken e agree x = agree (x .key) (not-word (x .key) word.rbrace refl (x .real)) (not-word (x .key) word.funs refl (x .real)) ∙ rw (x .real)
+  name-taken : (e : Bool) → Agrees e → (x : Name) → f (x .key) ≡ took (token word.becomesKey (name (value r)))
+  name-taken e agree x = agree (x .key) (not-word (x .key) word.rbraceKey refl (x .real)) (not-word (x .key) word.funsKey refl (x .real)) ∙ rw (x .real)
 
-  body-taken : (e : Bool) → Agrees e → (o : Else) (b : Block) (k : ℕ) (ws vs : List ℕ)
+  body-taken : (e : Bool) → Agrees e → (o : NamedElse) (b : NamedBlock) (k : ℕ) (ws vs : List ℕ)
       → Allowed e o → k ∷ ws ≡ elseThen o (blockThen b vs) → T vs → Taken (f k) ws
-  body-taken e agree absent empty k ws vs a h t = stop k ws (subst T (sym h) t)
-  body-taken e agree absent (skip then b) k ws vs a h t = shift f k word.skip ws _ h (token word.semicolon r, agree word.skip refl refl, (_, refl, out _ (absent, b, vs, tt, refl, t)))
-  body-taken e agree absent (copy x y then b) k ws vs a h t =
-      shift f k (x .key) ws _ h (token word.becomes (name (value r)), name-taken e agree x, (_, refl, (y, _, refl, (register, _, refl, out _ (absent, b, vs, tt, refl, t)))))
-  body-taken e agree absent (apply x g y then b) k ws vs a h t =
-      shift f k (x .key) ws _ h (token word.becomes (name (value r)), name-taken e agree x, (_, refl, (g, _, refl, (applied y last, _, refl, out _ (absent, b, vs, tt, refl, t)))))
-  body-taken e agree absent (apply-two x g y z then b) k ws vs a h t =
-      shift f k (x .key) ws _ h (token word.becomes (name (value r)), name-taken e agree x, (_, refl, (g, _, refl, (applied y (second z), _, refl, out _ (absent, b, vs, tt, refl, t)))))
-  body-taken e agree absent (assume c then b) k ws vs a h t = shift f k word.assume ws _ h (name (sign (name (token word.semicolon r))), agree word.assume refl refl, compared c (token word.semicolon r) _ (_, refl, out _ (absent, b, vs, tt, refl, t)))
-  body-taken e agree absent (assert c then b) k ws vs a h t = shift f k word.assert ws _ h (name (sign (name (token word.semicolon r))), agree word.assert refl refl, compared c (token word.semicolon r) _ (_, refl, out _ (absent, b, vs, tt, refl, t)))
-  body-taken e agree absent (if c x o then b) k ws vs a h t =
-      shift f k word.if ws _ h (name (sign (name (token word.lbrace (inside false q)))), agree word.if refl refl, compared c (token word.lbrace (inside false q)) _ (_, refl, (absent, x, _, tt, refl, (_, refl, out-else _ (o, b, vs, tt, refl, t)))))
-  body-taken e agree absent (while c x then b) k ws vs a h t =
-      shift f k word.while ws _ h (name (sign (name (token word.lbrace (inside false r)))), agree word.while refl refl, compared c (token word.lbrace (inside false r)) _ (_, refl, (absent, x, _, tt, refl, (_, refl, out _ (absent, b, vs, tt, refl, t)))))
-  body-taken true agree (present x) b k ws vs a h t =
-      shift f k word.else ws _ h (token word.lbrace (inside false r), agree word.else refl refl, (_, refl, (absent, x, _, tt, refl, (_, refl, out _ (absent, b, vs, tt, refl, t)))))
-  body-taken false agree (present x) b k ws vs a h t = absurd a
+  body-taken e agree NamedElse.absent NamedBlock.empty k ws vs a h t = stop k ws (subst T (sym h) t)
+  body-taken e agree NamedElse.absent (NamedStatement.skip followedBy b) k ws vs a h t = shift f k word.skipKey ws _ h (token word.semicolonKey r, agree word.skipKey refl refl, (_, refl, out _ (NamedElse.absent, b, vs, tt, refl, t)))
+  body-taken e agree NamedElse.absent (NamedStatement.copy x y followedBy b) k ws vs a h t =
+      shift f k (x .key) ws _ h (token word.becomesKey (name (value r)), name-taken e agree x, (_, refl, (y, _, refl, (register, _, refl, out _ (NamedElse.absent, b, vs, tt, refl, t)))))
+  body-taken e agree NamedElse.absent (NamedStatement.apply x g y followedBy b) k ws vs a h t =
+      shift f k (x .key) ws _ h (token word.becomesKey (name (value r)), name-taken e agree x, (_, refl, (g, _, refl, (applied y last, _, refl, out _ (NamedElse.absent, b, vs, tt, refl, t)))))
+  body-taken e agree NamedElse.absent (NamedStatement.apply-two x g y z followedBy b) k ws vs a h t =
+      shift f k (x .key) ws _ h (token word.becomesKey (name (value r)), name-taken e agree x, (_, refl, (g, _, refl, (applied y (second z), _, refl, out _ (NamedElse.absent, b, vs, tt, refl, t)))))
+  body-taken e agree NamedElse.absent (NamedStatement.assume c followedBy b) k ws vs a h t = shift f k word.assumeKey ws _ h (name (sign (name (token word.semicolonKey r))), agree word.assumeKey refl refl, compared c (token word.semicolonKey r) _ (_, refl, out _ (NamedElse.absent, b, vs, tt, refl, t)))
+  body-taken e agree NamedElse.absent (NamedStatement.assert c followedBy b) k ws vs a h t = shift f k word.assertKey ws _ h (name (sign (name (token word.semicolonKey r))), agree word.assertKey refl refl, compared c (token word.semicolonKey r) _ (_, refl, out _ (NamedElse.absent, b, vs, tt, refl, t)))
+  body-taken e agree NamedElse.absent (NamedStatement.if c x o followedBy b) k ws vs a h t =
+      shift f k word.ifKey ws _ h (name (sign (name (token word.lbraceKey (inside false q)))), agree word.ifKey refl refl, compared c (token word.lbraceKey (inside false q)) _ (_, refl, (NamedElse.absent, x, _, tt, refl, (_, refl, out-else _ (o, b, vs, tt, refl, t)))))
+  body-taken e agree NamedElse.absent (NamedStatement.while c x followedBy b) k ws vs a h t =
+      shift f k word.whileKey ws _ h (name (sign (name (token word.lbraceKey (inside false r)))), agree word.whileKey refl refl, compared c (token word.lbraceKey (inside false r)) _ (_, refl, (NamedElse.absent, x, _, tt, refl, (_, refl, out _ (NamedElse.absent, b, vs, tt, refl, t)))))
+  body-taken true agree (NamedElse.present x) b k ws vs a h t =
+      shift f k word.elseKey ws _ h (token word.lbraceKey (inside false r), agree word.elseKey refl refl, (_, refl, (NamedElse.absent, x, _, tt, refl, (_, refl, out _ (NamedElse.absent, b, vs, tt, refl, t)))))
+  body-taken false agree (NamedElse.present x) b k ws vs a h t = absurd a
 
 outer-taken : (e : Bool) (k : ℕ) (ws : List ℕ) → Body e Nothing (k ∷ ws) → Taken (take (outside e) k) ws
 outer-taken e k ws (o, b, vs, a, h, t) =
@@ -369,33 +369,33 @@ outer-taken e k ws (o, b, vs, a, h, t) =
 
 inner-taken : (e : Bool) (r : Rest) (k : ℕ) (ws : List ℕ) → Means (inside e r) (k ∷ ws) → Taken (take (inside e r) k) ws
 inner-taken e r k ws (o, b, vs, a, h, t) =
-    body-taken (λ vs. (us : List ℕ) × (vs ≡ word.rbrace ∷ us) × Means r us) (inside false r) (inside true r) (λ _ m. m) (λ _ m. m) (take (inside e r))
-    (λ k ws (us, n, m). shift (take (inside e r)) k word.rbrace ws us n (r, refl, m)) e (λ j x y. rw x) o b k ws vs a h t
+    body-taken (λ vs. (us : List ℕ) × (vs ≡ word.rbraceKey ∷ us) × Means r us) (inside false r) (inside true r) (λ _ m. m) (λ _ m. m) (take (inside e r))
+    (λ k ws (us, n, m). shift (take (inside e r)) k word.rbraceKey ws us n (r, refl, m)) e (λ j x y. rw x) o b k ws vs a h t
 
-entry-taken : (e : Bool) (f : Entry) (fs : List Entry) (vs : List ℕ) → Body false Nothing vs → (k : ℕ) (ws : List ℕ) → k ∷ ws ≡ entriesThen (f ∷ fs) (word.semicolon ∷ vs) → Taken (take (entries e) k) ws
-entry-taken e (one f) fs vs m k ws h = shift (take (entries e)) k (f .key) ws _ h (token word.slash (digit (entries true)), rw (f .real), (_, refl, (true, _, refl, (fs, vs, tt, refl, m))))
-entry-taken e (two f) fs vs m k ws h = shift (take (entries e)) k (f .key) ws _ h (token word.slash (digit (entries true)), rw (f .real), (_, refl, (false, _, refl, (fs, vs, tt, refl, m))))
+entry-taken : (e : Bool) (f : Entry) (fs : List Entry) (vs : List ℕ) → Body false Nothing vs → (k : ℕ) (ws : List ℕ) → k ∷ ws ≡ entriesThen (f ∷ fs) (word.semicolonKey ∷ vs) → Taken (take (entries e) k) ws
+entry-taken e (Entry.one f) fs vs m k ws h = shift (take (entries e)) k (f .key) ws _ h (token word.slashKey (digit (entries true)), rw (f .real), (_, refl, (true, _, refl, (fs, vs, tt, refl, m))))
+entry-taken e (Entry.two f) fs vs m k ws h = shift (take (entries e)) k (f .key) ws _ h (token word.slashKey (digit (entries true)), rw (f .real), (_, refl, (false, _, refl, (fs, vs, tt, refl, m))))
 
 line-taken : (k : ℕ) (ws : List ℕ) → Line (k ∷ ws) → Taken (take line k) ws
 line-taken k ws ([], xs, g, (o, b, vs, a, h, t)) =
     body-taken Nothing (outside false) (outside true) (λ _ m. m) (λ _ m. m) (take line) (λ k ws n. absurd (not-nil n)) false (λ j x y. rw y) o b k ws vs a (g ∙ h) t
-line-taken k ws (f ∷ fs, vs, h, m) = shift (take line) k word.funs ws _ h (entries false, refl, (f ∷ fs, vs, tt, refl, m))
+line-taken k ws (f ∷ fs, vs, h, m) = shift (take line) k word.funsKey ws _ h (entries false, refl, (f ∷ fs, vs, tt, refl, m))
 
 token-taken : (r : Rest) (k : ℕ) (ws : List ℕ) → Means r (k ∷ ws) → Taken (take r k) ws
 token-taken (token j r) k ws (vs, h, m) = shift (take (token j r)) k j ws vs h (r, rw (eq-eqb j j refl), m)
 token-taken (name r) k ws (a, vs, h, m) = shift (take (name r)) k (a .key) ws vs h (r, rw (a .real), m)
-token-taken (sign r) k ws (true, vs, h, m) = shift (take (sign r)) k word.equal ws vs h (r, refl, m)
-token-taken (sign r) k ws (false, vs, h, m) = shift (take (sign r)) k word.unequal ws vs h (r, refl, m)
-token-taken (digit r) k ws (true, vs, h, m) = shift (take (digit r)) k word.one ws vs h (r, refl, m)
-token-taken (digit r) k ws (false, vs, h, m) = shift (take (digit r)) k word.two ws vs h (r, refl, m)
-token-taken (value r) k ws (register, vs, h, m) = shift (take (value r)) k word.semicolon ws vs h (r, refl, m)
-token-taken (value r) k ws (applied b v, vs, h, m) = shift (take (value r)) k word.lparen ws _ h (name (arguments r), refl, (b, _, refl, (v, vs, refl, m)))
-token-taken (arguments r) k ws (last, vs, h, m) = shift (take (arguments r)) k word.rparen ws _ h (token word.semicolon r, refl, (vs, refl, m))
-token-taken (arguments r) k ws (second c, vs, h, m) = shift (take (arguments r)) k word.comma ws _ h (name (token word.rparen (token word.semicolon r)), refl, (c, _, refl, (_, refl, (vs, refl, m))))
-token-taken (names true) k ws ([], vs, o, h, m) = shift (take (names true)) k word.semicolon ws vs h (line, refl, m)
+token-taken (sign r) k ws (true, vs, h, m) = shift (take (sign r)) k word.equalKey ws vs h (r, refl, m)
+token-taken (sign r) k ws (false, vs, h, m) = shift (take (sign r)) k word.unequalKey ws vs h (r, refl, m)
+token-taken (digit r) k ws (true, vs, h, m) = shift (take (digit r)) k word.oneKey ws vs h (r, refl, m)
+token-taken (digit r) k ws (false, vs, h, m) = shift (take (digit r)) k word.twoKey ws vs h (r, refl, m)
+token-taken (value r) k ws (register, vs, h, m) = shift (take (value r)) k word.semicolonKey ws vs h (r, refl, m)
+token-taken (value r) k ws (applied b v, vs, h, m) = shift (take (value r)) k word.lparenKey ws _ h (name (arguments r), refl, (b, _, refl, (v, vs, refl, m)))
+token-taken (arguments r) k ws (last, vs, h, m) = shift (take (arguments r)) k word.rparenKey ws _ h (token word.semicolonKey r, refl, (vs, refl, m))
+token-taken (arguments r) k ws (second c, vs, h, m) = shift (take (arguments r)) k word.commaKey ws _ h (name (token word.rparenKey (token word.semicolonKey r)), refl, (c, _, refl, (_, refl, (vs, refl, m))))
+token-taken (names true) k ws ([], vs, o, h, m) = shift (take (names true)) k word.semicolonKey ws vs h (line, refl, m)
 token-taken (names false) k ws ([], vs, o, h, m) = absurd o
 token-taken (names e) k ws (a ∷ ks, vs, o, h, m) = shift (take (names e)) k (a .key) ws _ h (names true, rw (a .real), (ks, vs, tt, refl, m))
-token-taken (entries true) k ws ([], vs, o, h, m) = shift (take (entries true)) k word.semicolon ws vs h (outside false, refl, m)
+token-taken (entries true) k ws ([], vs, o, h, m) = shift (take (entries true)) k word.semicolonKey ws vs h (outside false, refl, m)
 token-taken (entries false) k ws ([], vs, o, h, m) = absurd o
 token-taken (entries e) k ws (f ∷ fs, vs, o, h, m) = entry-taken e f fs vs m k ws h
 token-taken line k ws m = line-taken k ws m
@@ -404,20 +404,20 @@ token-taken (outside e) k ws m = outer-taken e k ws m
 
 -- ---- the end of the text
 
-statement-some : (c : Statement) (ws : List ℕ) → [] ≡ statementThen c ws → ⊥
-statement-some skip ws h = not-nil (sym h)
-statement-some (copy a b) ws h = not-nil (sym h)
-statement-some (apply a f b) ws h = not-nil (sym h)
-statement-some (apply-two a f b c) ws h = not-nil (sym h)
-statement-some (assume c) ws h = not-nil (sym h)
-statement-some (assert c) ws h = not-nil (sym h)
-statement-some (if c b e) ws h = not-nil (sym h)
-statement-some (while c b) ws h = not-nil (sym h)
+statement-some : (c : NamedStatement) (ws : List ℕ) → [] ≡ statementThen c ws → ⊥
+statement-some NamedStatement.skip ws h = not-nil (sym h)
+statement-some (NamedStatement.copy a b) ws h = not-nil (sym h)
+statement-some (NamedStatement.apply a f b) ws h = not-nil (sym h)
+statement-some (NamedStatement.apply-two a f b c) ws h = not-nil (sym h)
+statement-some (NamedStatement.assume c) ws h = not-nil (sym h)
+statement-some (NamedStatement.assert c) ws h = not-nil (sym h)
+statement-some (NamedStatement.if c b e) ws h = not-nil (sym h)
+statement-some (NamedStatement.while c b) ws h = not-nil (sym h)
 
-inside-some : (o : Else) (b : Block) (vs us : List ℕ) → [] ≡ elseThen o (blockThen b vs) → vs ≡ word.rbrace ∷ us → ⊥
-inside-some absent empty vs us h g = not-nil (sym (h ∙ g))
-inside-some absent (c then b) vs us h g = statement-some c (blockThen b vs) h
-inside-some (present x) b vs us h g = not-nil (sym h)
+inside-some : (o : NamedElse) (b : NamedBlock) (vs us : List ℕ) → [] ≡ elseThen o (blockThen b vs) → vs ≡ word.rbraceKey ∷ us → ⊥
+inside-some NamedElse.absent NamedBlock.empty vs us h g = not-nil (sym (h ∙ g))
+inside-some NamedElse.absent (c followedBy b) vs us h g = statement-some c (blockThen b vs) h
+inside-some (NamedElse.present x) b vs us h g = not-nil (sym h)
 
 arguments-some : (v : Arguments) (ws : List ℕ) → [] ≡ argumentsThen v ws → ⊥
 arguments-some last ws h = not-nil (sym h)
@@ -427,14 +427,14 @@ value-some : (v : Value) (ws : List ℕ) → [] ≡ valueThen v ws → ⊥
 value-some register ws h = not-nil (sym h)
 value-some (applied b v) ws h = not-nil (sym h)
 
-names-some : (ks : List Name) (ws : List ℕ) → [] ≡ namesThen ks (word.semicolon ∷ ws) → ⊥
+names-some : (ks : List Name) (ws : List ℕ) → [] ≡ namesThen ks (word.semicolonKey ∷ ws) → ⊥
 names-some [] ws h = not-nil (sym h)
 names-some (a ∷ ks) ws h = not-nil (sym h)
 
-entries-some : (fs : List Entry) (ws : List ℕ) → [] ≡ entriesThen fs (word.semicolon ∷ ws) → ⊥
+entries-some : (fs : List Entry) (ws : List ℕ) → [] ≡ entriesThen fs (word.semicolonKey ∷ ws) → ⊥
 entries-some [] ws h = not-nil (sym h)
-entries-some (one f ∷ fs) ws h = not-nil (sym h)
-entries-some (two f ∷ fs) ws h = not-nil (sym h)
+entries-some (Entry.one f ∷ fs) ws h = not-nil (sym h)
+entries-some (Entry.two f ∷ fs) ws h = not-nil (sym h)
 
 ended-complete : (r : Rest) → Means r [] → complete r ≡ true
 ended-complete (token j r) (vs, h, m) = absurd (not-nil (sym h))
@@ -458,9 +458,9 @@ complete-ended (value r) h = absurd (clash h refl)
 complete-ended (arguments r) h = absurd (clash h refl)
 complete-ended (names e) h = absurd (clash h refl)
 complete-ended (entries e) h = absurd (clash h refl)
-complete-ended line h = ([], [], refl, (absent, empty, [], tt, refl, refl))
+complete-ended line h = ([], [], refl, (NamedElse.absent, NamedBlock.empty, [], tt, refl, refl))
 complete-ended (inside e r) h = absurd (clash h refl)
-complete-ended (outside e) h = (absent, empty, [], allowed-absent e, refl, refl)
+complete-ended (outside e) h = (NamedElse.absent, NamedBlock.empty, [], allowed-absent e, refl, refl)
 
 -- Every rest can be completed; where a name is due, `a` will do.
 abbrev letter-a : Name
@@ -472,20 +472,20 @@ some-names false = (letter-a ∷ [], tt)
 
 some-entries : (e : Bool) → (fs : List Entry) × Some e fs
 some-entries true = ([], tt)
-some-entries false = (one letter-a ∷ [], tt)
+some-entries false = (Entry.one letter-a ∷ [], tt)
 
 finished : (r : Rest) → (ws : List ℕ) × Means r ws
 finished (token j r) = let (ws, m) = finished r in (j ∷ ws, (ws, refl, m))
 finished (name r) = let (ws, m) = finished r in (97 ∷ ws, (letter-a, ws, refl, m))
-finished (sign r) = let (ws, m) = finished r in (word.equal ∷ ws, (true, ws, refl, m))
-finished (digit r) = let (ws, m) = finished r in (word.one ∷ ws, (true, ws, refl, m))
-finished (value r) = let (ws, m) = finished r in (word.semicolon ∷ ws, (register, ws, refl, m))
-finished (arguments r) = let (ws, m) = finished r in (word.rparen ∷ word.semicolon ∷ ws, (last, ws, refl, m))
-finished (names e) = let (ks, o) = some-names e in (namesThen ks (word.semicolon ∷ []), (ks, [], o, refl, ([], [], refl, (absent, empty, [], tt, refl, refl))))
-finished (entries e) = let (fs, o) = some-entries e in (entriesThen fs (word.semicolon ∷ []), (fs, [], o, refl, (absent, empty, [], tt, refl, refl)))
-finished line = ([], ([], [], refl, (absent, empty, [], tt, refl, refl)))
-finished (inside e r) = let (ws, m) = finished r in (word.rbrace ∷ ws, (absent, empty, _, allowed-absent e, refl, (ws, refl, m)))
-finished (outside e) = ([], (absent, empty, [], allowed-absent e, refl, refl))
+finished (sign r) = let (ws, m) = finished r in (word.equalKey ∷ ws, (true, ws, refl, m))
+finished (digit r) = let (ws, m) = finished r in (word.oneKey ∷ ws, (true, ws, refl, m))
+finished (value r) = let (ws, m) = finished r in (word.semicolonKey ∷ ws, (register, ws, refl, m))
+finished (arguments r) = let (ws, m) = finished r in (word.rparenKey ∷ word.semicolonKey ∷ ws, (last, ws, refl, m))
+finished (names e) = let (ks, o) = some-names e in (namesThen ks (word.semicolonKey ∷ []), (ks, [], o, refl, ([], [], refl, (NamedElse.absent, NamedBlock.empty, [], tt, refl, refl))))
+finished (entries e) = let (fs, o) = some-entries e in (entriesThen fs (word.semicolonKey ∷ []), (fs, [], o, refl, (NamedElse.absent, NamedBlock.empty, [], tt, refl, refl)))
+finished line = ([], ([], [], refl, (NamedElse.absent, NamedBlock.empty, [], tt, refl, refl)))
+finished (inside e r) = let (ws, m) = finished r in (word.rbraceKey ∷ ws, (NamedElse.absent, NamedBlock.empty, _, allowed-absent e, refl, (ws, refl, m)))
+finished (outside e) = ([], (NamedElse.absent, NamedBlock.empty, [], allowed-absent e, refl, refl))
 
 -- ---- tokens one after the other
 
@@ -528,11 +528,11 @@ run-taken (k ∷ ks) r ws m = let (q, h, n) = token-taken r k (ks ++ ws) m in le
 
 start-sentence : (ws : List ℕ) → Means start ws → Sentence ws
 start-sentence ws (x, h, ([], y, o, g, m)) = absurd o
-start-sentence ws (x, h, (a ∷ ks, y, o, g, (fs, z, f, (absent, b, us, p, i, j)))) = record { macro = record { first = a; others = ks; entries = fs; body = b }; spelled = rw (h, g, f, i, j) }
-start-sentence ws (x, h, (a ∷ ks, y, o, g, (fs, z, f, (present c, b, us, p, i, j)))) = absurd p
+start-sentence ws (x, h, (a ∷ ks, y, o, g, (fs, z, f, (NamedElse.absent, b, us, p, i, j)))) = record { macro = record { first = a; others = ks; entries = fs; body = b }; spelled = rw (h, g, f, i, j) }
+start-sentence ws (x, h, (a ∷ ks, y, o, g, (fs, z, f, (NamedElse.present c, b, us, p, i, j)))) = absurd p
 
-sentence-start : (m : Macro) → Means start (sentence m)
-sentence-start m = (_, refl, (m .first ∷ m .others, _, tt, refl, (m .entries, _, refl, (absent, m .body, [], tt, refl, refl))))
+sentence-start : (m : NamedMacro) → Means start (namedSentence m)
+sentence-start m = (_, refl, (m .first ∷ m .others, _, tt, refl, (m .entries, _, refl, (NamedElse.absent, m .body, [], tt, refl, refl))))
 
 -- What can be taken begins a sentence, and what begins one can be taken.
 pub run-viable : (ks : List ℕ) (r : Rest) → run start ks ≡ took r → Viable ks

@@ -14,18 +14,18 @@ use Rattle.tokens.specs.Tokens.{tokenAt}
 use Rattle.tokens.specs.Words.{isName}
 use Rattle.tokens.specs.Words as word
 use Rattle.grammar.specs.Grammar.{Macro, functionTokens}
-use Rattle.grammar.specs.Reading.{expect, registers, functionsT, block}
+use Rattle.grammar.specs.Reading.{expect, registerNames, functionsT, block}
 use Rattle.grammar.proofs.Theory.Reading.{readText}
 use Rattle.grammar.proofs.Theory.Whole.{functions-line}
 use Rattle.refusals.proofs.Theory.Basics.{clash}
 use Rattle.refusals.proofs.Theory.Rests.{Rest, names, start, run, take, complete, run-sentence}
-use Rattle.refusals.specs.Questions.{Names, Unfit, early, misplaced, Redeclared, register, function, Misused, more-arguments, fewer-arguments, count}
+use Rattle.refusals.specs.Questions.{AllNames, Unfit, Redeclared, Misused, occurrences}
 use Rattle.refusals.specs.FirstNo.{tokensBefore, NoAt}
 use Rattle.refusals.proofs.Theory.FirstNo.{AllYes}
-use Rattle.refusals.proofs.Theory.Judged.{Judged, fine, judged-on, judged-pick, lower, keyAt, nextAt, At, here, unfit-judged}
+use Rattle.refusals.proofs.Theory.Judged.{JudgedReading, fine, judged-on, judged-pick, lower, keyAt, nextAt, At, here, unfit-judged}
 use Rattle.refusals.proofs.Theory.Phrases.{In}
 use Rattle.refusals.proofs.Theory.Statements.{outermost, block-judged}
-use Rattle.refusals.proofs.Theory.Lines.{expect-judged, registers-judged, Lines, line-judged, count-lines}
+use Rattle.refusals.proofs.Theory.Lines.{expect-judged, registers-judged, WholeLines, line-judged, count-lines}
 
 module _ (s : List ℕ) where
   begin-at : At s 0 0 start
@@ -35,18 +35,18 @@ module _ (s : List ℕ) where
   -- at the end of a sentence there is no no
   module _ {i at : ℕ} {r : Rest} (A : At s i at r) (z : keyAt s at ≡ 0) (c : complete r ≡ true) where
     end-fits : Unfit (tokensBefore s i) (keyAt s at) → ⊥
-    end-fits (early e n) = n (run-sentence (tokensBefore s i) r (A .leaves) c)
-    end-fits (misplaced e n) = e z
+    end-fits (Unfit.early e n) = n (run-sentence (tokensBefore s i) r (A .leaves) c)
+    end-fits (Unfit.misplaced e n) = e z
 
     end-declared : Redeclared (tokensBefore s i) (keyAt s at) → ⊥
-    end-declared (register I t x) = clash (sym (ap isName z) ∙ t) refl
-    end-declared (function I t x) = clash (sym (ap isName z) ∙ t) refl
+    end-declared (Redeclared.register I t x) = clash (sym (ap isName z) ∙ t) refl
+    end-declared (Redeclared.function I t x) = clash (sym (ap isName z) ∙ t) refl
 
     end-used : Misused (tokensBefore s i) (keyAt s at) (nextAt s at) → ⊥
-    end-used (register I t x y) = clash (sym (ap isName z) ∙ t) refl
-    end-used (function I t x y) = clash (sym (ap isName z) ∙ t) refl
-    end-used (more-arguments I d t e) = omega arith
-    end-used (fewer-arguments I d t e) = omega arith
+    end-used (Misused.register I t x y) = clash (sym (ap isName z) ∙ t) refl
+    end-used (Misused.function I t x y) = clash (sym (ap isName z) ∙ t) refl
+    end-used (Misused.more-arguments I d t e) = omega arith
+    end-used (Misused.fewer-arguments I d t e) = omega arith
 
     none-at-end : AllYes s
     none-at-end m j reached n =
@@ -58,29 +58,29 @@ module _ (s : List ℕ) where
         same j i t u = let x = ltb-false j i t in let y = ltb-false i j u in omega arith
 
   -- behind the lines, the statements
-  lines-in : (rs fs ns : List ℕ) (e : ℕ) → Names rs → (L : Lines s rs (fs, ns) e) → In s rs fs ns (L .0) deepestNesting e word.semicolon (L .1)
+  lines-in : (rs fs ns : List ℕ) (e : ℕ) → AllNames rs → (L : WholeLines s rs (fs, ns) e) → In s rs fs ns (L .0) deepestNesting e word.semicolonKey (L .1)
   lines-in rs fs ns e R (j, b, A, S, N, Y, B, h) =
       record {
         standing = A;
-        part = record { registers = R; functions = N; arities = Y; body = []; split = h ∙ ap (λ l. word.vars ∷ (rs ++ word.semicolon ∷ l)) (sym (append-nil (functionTokens fs ns))); begun = λ z. omega arith };
+        part = record { registers = R; functions = N; arities = Y; body = []; split = h ∙ ap (λ l. word.varsKey ∷ (rs ++ word.semicolonKey ∷ l)) (sym (append-nil (functionTokens fs ns))); begun = λ z. omega arith };
         behind = B;
-        depth = let x = ap (λ l. count word.lbrace l) h ∙ count-lines word.lbrace refl refl rs fs ns R Y N in let y = ap (λ l. count word.rbrace l) h ∙ count-lines word.rbrace refl refl rs fs ns R Y N in omega arith;
+        depth = let x = ap (λ l. occurrences word.lbraceKey l) h ∙ count-lines word.lbraceKey refl refl rs fs ns R Y N in let y = ap (λ l. occurrences word.rbraceKey l) h ∙ count-lines word.rbraceKey refl refl rs fs ns R Y N in omega arith;
       }
 
-  pub text-judged : length s ≤ 4096 → Judged s Macro (λ m e. AllYes s) (readText s)
+  pub text-judged : length s ≤ 4096 → JudgedReading s Macro (λ m e. AllYes s) (readText s)
   unfolding readText
   text-judged l =
       rw (le-ltb 4096 (length s) l)
-      (judged-on (expect s word.vars 0) _ (expect-judged s word.vars (names false) begin-at refl refl) λ _ a _ (A, h).
-      judged-on (registers s mostRegisters [] a) _
+      (judged-on (expect s word.varsKey 0) _ (expect-judged s word.varsKey (names false) begin-at refl refl) λ _ a _ (A, h).
+      judged-on (registerNames s mostRegisters [] a) _
       (registers-judged s mostRegisters [] 1 a refl A (record { registers = λ j l. absurd (omega arith); split = h })) λ rs b _ (i, B, R, g).
       judged-on (functionsT s rs b (tokenAt s b)) _ (line-judged s rs i b B R g) λ r c eq L.
       let (D, P, Y, n, p) = functions-line s rs b r c eq in
       judged-on (block s rs (r .0) (r .1) (2 * length s + 1) deepestNesting c) _
-      (block-judged s rs (r .0) (r .1) D Y (2 * length s + 1) outermost deepestNesting c (L .0) word.semicolon (L .1) (lines-in rs (r .0) (r .1) c R L)
+      (block-judged s rs (r .0) (r .1) D Y (2 * length s + 1) outermost deepestNesting c (L .0) word.semicolonKey (L .1) (lines-in rs (r .0) (r .1) c R L)
       (λ z. absurd (omega arith)) (L .3)) λ body e _ (j, y, q, m, o, w, t, I).
       judged-pick (eqb (keyAt s e) 0) _ _ (λ u. fine (none-at-end (I .standing) (eqb-true (keyAt s e) 0 u) w))
-      λ u. unfit-judged s (I .standing) (record { end = λ z. absurd (eqb-false (keyAt s e) 0 u z); token = λ _. ap (λ k. take q k) (eqb-true (keyAt s e) word.rbrace (only (eqb (keyAt s e) word.rbrace) (eqb (keyAt s e) 0) u t)) ∙ o }))
+      λ u. unfit-judged s (I .standing) (record { end = λ z. absurd (eqb-false (keyAt s e) 0 u z); token = λ _. ap (λ k. take q k) (eqb-true (keyAt s e) word.rbraceKey (only (eqb (keyAt s e) word.rbraceKey) (eqb (keyAt s e) 0) u t)) ∙ o }))
     where
       only : (a b : Bool) → b ≡ false → a || b ≡ true → a ≡ true
       only true b h g = refl

@@ -18,16 +18,16 @@ use Rattle.semantics.specs.PackedTables.{secondWritten}
 use Rattle.text.specs.Numerals.{numeral}
 use Rattle.text.proofs.Theory.Numerals.{numeral-length}
 use Rattle.text.proofs.Theory.Names.{name-length}
-use Rattle.text.specs.Appending.{Room}
-use Rattle.report.specs.declared.Verdict.{Verdict}
-use Rattle.report.specs.declared.Verdict.the-variants.{Pass, Incoherent, Fail, Refused}
+use Rattle.text.specs.Appending.{PlaceInRange}
+use Rattle.report.specs.declared.ReportedVerdict.{ReportedVerdict}
+use Rattle.report.specs.declared.ReportedVerdict.the-variants.{Pass, Incoherent, Fail, Refused}
 use Rattle.report.specs.Lines.{Names, valuesWord, refusedWord, atWord, passWord, incoherentWord, failWord, line, linesOf, letterLine, startLines, rowLine, verdictLines, letterLines, modelLines, report}
-use Rattle.report.specs.Shown.{namesOf, lettersIn, modelStart, shown, reportOf}
+use Rattle.report.specs.Shown.{namesOf, lettersIn, modelStart, printedOf, reportOf}
 use Rattle.report.proofs.Theory.ShownLaws.{units-count, second-read, letters-length, word-bytes, execution-parts, model-parts}
-use Rattle.report.specs.ShownLaws.{wordIn}
+use Rattle.report.specs.Shown.{wordAt}
 use Rattle.report.specs.Bound.{Limited, letterNumber, rowNumber}
 
-abbrev pub bound : Header → Verdict → List ℕ → ℕ
+abbrev pub bound : Header → ReportedVerdict → List ℕ → ℕ
 bound h v s = 67 + 40 * letterNumber v + 21 * h .registers + 28 * rowNumber v s
 
 -- ── numbers ──
@@ -53,7 +53,7 @@ unfolding linesOf
 lines-map f g [] = refl
 lines-map f g (x ∷ l) = ap (λ (r : List ℕ). f (g x) ++ r) (lines-map f g l)
 
-word-small : (s : List ℕ) → ((i : ℕ) → getD s i 0 < 256) → (at : ℕ) → wordIn s at < 65536
+word-small : (s : List ℕ) → ((i : ℕ) → getD s i 0 < 256) → (at : ℕ) → wordAt s at < 65536
 word-small s b at = rw (word-bytes s at) (omega (arith, b at, b (at + 1)))
 
 module _ (names : Names) (reg : (r : ℕ) → length (names .register r) ≤ 8) (fun : (f : ℕ) → length (names .function f) ≤ 8) (h : Header) where
@@ -96,7 +96,7 @@ module _ (names : Names) (reg : (r : ℕ) → length (names .register r) ≤ 8) 
   unfolding startLines unitsIn line
   starts-length s b r zero = omega arith
   starts-length s b r (suc m) =
-      simp length-append (omega (arith, reg r, word-number (wordIn s 0) (word-small s b 0), starts-length (drop 2 s) (λ i. rw (getD-drop 2 s i 0) (b (2 + i))) (r + 1) m))
+      simp length-append (omega (arith, reg r, word-number (wordAt s 0) (word-small s b 0), starts-length (drop 2 s) (λ i. rw (getD-drop 2 s i 0) (b (2 + i))) (r + 1) m))
 
   module _ (s : List ℕ) (b : (i : ℕ) → getD s i 0 < 256) where
     verdict-length : (word : List ℕ) (pairs : ℕ) → pairs < 2 ^ 64 → length (verdictLines word pairs) ≤ 36 + length word
@@ -108,24 +108,24 @@ module _ (names : Names) (reg : (r : ℕ) → length (names .register r) ≤ 8) 
     execution-length n l =
         rw (execution-parts names h s n) (simp length-append (omega (arith, word-number n l, lines-length (letterLine names h) 40 letter-length (lettersIn h s 0 n), letters-length h s 0 n)))
 
-    model-length : (o : ℕ) → length (modelLines names h (readTables firstEdition h (drop o s))) ≤ 13 + 21 * h .registers + 28 * wordIn s (o + 2)
+    model-length : (o : ℕ) → length (modelLines names h (readTables firstEdition h (drop o s))) ≤ 13 + 21 * h .registers + 28 * wordAt s (o + 2)
     model-length o =
-        let ns : List ℕ = unitsIn 5 (wordIn s (o + 2)) (drop (o + 4 + 2 * h .registers) s) in
+        let ns : List ℕ = unitsIn 5 (wordAt s (o + 2)) (drop (o + 4 + 2 * h .registers) s) in
         rw (model-parts names h s o, lines-map (rowLine (names .function) h) (rowFrom firstEdition h) ns)
         (simp length-append (omega (
           arith,
-          values-length (wordIn s o) (word-small s b o),
+          values-length (wordAt s o) (word-small s b o),
           starts-length (drop (o + 4) s) (λ i. rw (getD-drop (o + 4) s i 0) (b (o + 4 + i))) 0 (h .registers),
           lines-length (λ n. rowLine (names .function) h (rowFrom firstEdition h n)) 28 row-length ns,
-          units-count 5 (wordIn s (o + 2)) (drop (o + 4 + 2 * h .registers) s),
+          units-count 5 (wordAt s (o + 2)) (drop (o + 4 + 2 * h .registers) s),
         )))
 
     refusal-length : (number place : ℕ) → number < 256 → place < 2 ^ 64 → length (line (refusedWord ∷ numeral number ∷ atWord ∷ numeral place ∷ [])) ≤ 36
     unfolding line
     refusal-length number place a c = simp length-append (omega (arith, byte-number number a, long-number place c))
 
-    shown-length : (v : Verdict) → Limited v → length (report names h (shown h v s)) ≤ bound h v s
-    unfolding report shown
+    shown-length : (v : ReportedVerdict) → Limited v → length (report names h (printedOf h v s)) ≤ bound h v s
+    unfolding report printedOf
     shown-length (Pass pairs) l = omega (arith, verdict-length passWord pairs l)
     shown-length (Incoherent pairs n) l = simp length-append (omega (arith, verdict-length incoherentWord pairs (l .0), execution-length n (l .1)))
     shown-length (Fail pairs n) l = simp length-append (omega (arith, verdict-length failWord pairs (l .0), execution-length n (l .1), model-length (modelStart n)))
@@ -133,26 +133,26 @@ module _ (names : Names) (reg : (r : ℕ) → length (names .register r) ≤ 8) 
 
 -- ── the bound ──
 module _ (registers functions : List ℕ) (reg : (r : ℕ) → getD registers r 0 < 2 ^ 64) (fun : (f : ℕ) → getD functions f 0 < 2 ^ 64) (h : Header) (s : List ℕ) (b : (i : ℕ) → getD s i 0 < 256) where
-  pub report-length : (v : Verdict) → Limited v → length (reportOf registers functions h v s) ≤ bound h v s
+  pub report-length : (v : ReportedVerdict) → Limited v → length (reportOf registers functions h v s) ≤ bound h v s
   unfolding reportOf
   report-length v l = shown-length (namesOf registers functions) (λ r. name-length 8 (getD registers r 0) (reg r)) (λ f. name-length 8 (getD functions f 0) (fun f)) h s b v l
 
   -- The number of bytes is one that the machine has.
-  pub report-room : (v : Verdict) → Limited v → h .registers < 256 → Room 0 (reportOf registers functions h v s)
+  pub report-room : (v : ReportedVerdict) → Limited v → h .registers < 256 → PlaceInRange 0 (reportOf registers functions h v s)
   report-room v l g = record { fits = omega (arith, report-length v l, letters-few v l, rows-few v) }
     where
-      letters-few : (v : Verdict) → Limited v → letterNumber v < 65536
+      letters-few : (v : ReportedVerdict) → Limited v → letterNumber v < 65536
       letters-few (Pass pairs) l = omega arith
       letters-few (Incoherent pairs n) l = l .1
       letters-few (Fail pairs n) l = l .1
       letters-few (Refused number place) l = omega arith
 
-      rows-few : (v : Verdict) → rowNumber v s < 65536
+      rows-few : (v : ReportedVerdict) → rowNumber v s < 65536
       rows-few (Pass pairs) = omega arith
       rows-few (Incoherent pairs n) = omega arith
       rows-few (Fail pairs n) = word-small s b (modelStart n + 2)
       rows-few (Refused number place) = omega arith
 
   -- With at most 341 letters, 349 rows and 8 registers, as the verdict program has them, 32,768 bytes suffice.
-  pub report-fits : (v : Verdict) → Limited v → letterNumber v ≤ 341 → rowNumber v s ≤ 349 → h .registers ≤ 8 → length (reportOf registers functions h v s) ≤ 32768
+  pub report-fits : (v : ReportedVerdict) → Limited v → letterNumber v ≤ 341 → rowNumber v s ≤ 349 → h .registers ≤ 8 → length (reportOf registers functions h v s) ≤ 32768
   report-fits v l n m r = omega (arith, report-length v l)

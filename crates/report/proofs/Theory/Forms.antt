@@ -13,7 +13,7 @@ use Rattle.semantics.specs.TablesRead.{rowFrom}
 use Rattle.text.specs.Numerals.{numeral}
 use Rattle.text.specs.Names.{nameText}
 use Rattle.text.specs.Templates.{part, filledIn}
-use Rattle.report.specs.Lines.{passWord, incoherentWord, failWord, verdictWord, pairsWord, lettersWord, valuesWord, startWord, refusedWord, atWord, blank, line, letterLine, rowLine}
+use Rattle.report.specs.Lines.{passWord, incoherentWord, failWord, verdictWord, pairsWord, lettersWord, valuesWord, startWord, refusedWord, atWord, blankWord, line, letterLine, rowLine}
 use Rattle.report.specs.Shown.{namesOf}
 use Rattle.report.proofs.Theory.ShownLaws.{second-read}
 
@@ -52,7 +52,7 @@ row-form functions h n p q = rw (p, q, second-read h (n / 274877906944 % 4) (n /
 
 -- "start 0 5"
 pub start-form : (registers : List ℕ) (r : ℕ) {a b v : ℕ} → a ≡ getD registers r 0 → b ≡ v
-    → line (startWord ∷ nameText (getD registers r 0) ∷ blank ∷ numeral v ∷ []) ≡ filledIn (115 ∷ 116 ∷ 97 ∷ 114 ∷ 116 ∷ 32 ∷ 48 ∷ 32 ∷ 53 ∷ 10 ∷ []) (a ∷ b ∷ 0 ∷ 0 ∷ [])
+    → line (startWord ∷ nameText (getD registers r 0) ∷ blankWord ∷ numeral v ∷ []) ≡ filledIn (115 ∷ 116 ∷ 97 ∷ 114 ∷ 116 ∷ 32 ∷ 48 ∷ 32 ∷ 53 ∷ 10 ∷ []) (a ∷ b ∷ 0 ∷ 0 ∷ [])
 unfolding line filledIn part
 start-form registers r p q = rw (p, q)
 

@@ -23,11 +23,11 @@ use Rattle.semantics.specs.Tables.{Tables}
 use Rattle.semantics.specs.TablesRead.{unitsIn, rowFrom, readTables, Packable}
 use Rattle.semantics.specs.PackedTables.{packTables}
 use Rattle.semantics.proofs.Theory.PackedTablesLaws.{packed-length, read-packed}
-use Rattle.report.specs.declared.Verdict.the-variants.{Incoherent, Fail}
-use Rattle.report.specs.Lines.{incoherent, fail, report}
+use Rattle.report.specs.declared.ReportedVerdict.the-variants.{Incoherent, Fail}
+use Rattle.report.specs.Lines.{Printed, report}
 use Rattle.report.proofs.Theory.ShownLaws.{units-count}
-use Rattle.report.specs.ShownLaws.{wordIn}
-use Rattle.report.specs.Shown.{namesOf, letterOf, lettersIn, modelStart, shown, reportOf}
+use Rattle.report.specs.Shown.{wordAt}
+use Rattle.report.specs.Shown.{namesOf, letterOrCopy, lettersIn, modelStart, printedOf, reportOf}
 
 -- ── the front of a longer list ──
 take-front : (k : ℕ) (s rest : List ℕ) → k ≤ length s → take k (s ++ rest) ≡ take k s
@@ -59,12 +59,12 @@ units-front k (suc m) s rest h =
     others k m n h = omega (arith, mul-suc k m)
 
 -- ── letters ──
-letters-are : (h : Header) (s : List ℕ) (ls : List Letter) (k : ℕ) → ((i : ℕ) → i < length ls → letterOf h s (k + i) ≡ getD ls i (Copy 0 0)) → lettersIn h s k (length ls) ≡ ls
+letters-are : (h : Header) (s : List ℕ) (ls : List Letter) (k : ℕ) → ((i : ℕ) → i < length ls → letterOrCopy h s (k + i) ≡ getD ls i (Copy 0 0)) → lettersIn h s k (length ls) ≡ ls
 unfolding lettersIn
 letters-are h s [] k e = refl
 letters-are h s (l ∷ ls) k e =
-    ap₂ (λ (x : Letter) (r : List Letter). x ∷ r) (ap (letterOf h s) (sym (add-zero k)) ∙ e 0 (omega arith))
-    (letters-are h s ls (k + 1) (λ i g. ap (letterOf h s) (shift k i) ∙ e (suc i) (omega arith)))
+    ap₂ (λ (x : Letter) (r : List Letter). x ∷ r) (ap (letterOrCopy h s) (sym (add-zero k)) ∙ e 0 (omega arith))
+    (letters-are h s ls (k + 1) (λ i g. ap (letterOrCopy h s) (shift k i) ∙ e (suc i) (omega arith)))
   where
     shift : (k i : ℕ) → k + 1 + i ≡ k + suc i
     shift k i = omega arith
@@ -81,8 +81,8 @@ module _ (h : Header) (ls : List Letter) (v : HeaderFits firstEdition h) (f : Al
   unfolding letterAt
   letter-front s k l = rw (le-leb (2 * (k + 2)) (length s) l, le-leb (2 * (k + 2)) (length (s ++ rest)) (omega (arith, length-append s rest)), take-within 2 (2 * (k + 1)) s rest (omega arith))
 
-  letter-is : (i : ℕ) → i < length ls → letterOf h (packing firstEdition h ls ++ rest) (0 + i) ≡ getD ls i (Copy 0 0)
-  unfolding letterOf
+  letter-is : (i : ℕ) → i < length ls → letterOrCopy h (packing firstEdition h ls ++ rest) (0 + i) ≡ getD ls i (Copy 0 0)
+  unfolding letterOrCopy
   letter-is i l =
       ap (λ (a : Answer Letter). onAnswer a (λ x. x) (λ _ _. Copy 0 0))
       (ap (letterAt firstEdition h (packing firstEdition h ls ++ rest)) (from-zero i) ∙ letter-front (packing firstEdition h ls) i (omega (arith, packed-size))
@@ -97,9 +97,9 @@ module _ (h : Header) (ls : List Letter) (v : HeaderFits firstEdition h) (f : Al
 
   -- The report of an incoherent execution.
   pub incoherent-report : (registers functions : List ℕ) (pairs : ℕ)
-      → reportOf registers functions h (Incoherent pairs (length ls)) (packing firstEdition h ls ++ rest) ≡ report (namesOf registers functions) h (incoherent pairs ls)
-  unfolding reportOf shown
-  incoherent-report registers functions pairs = ap (λ (l : List Letter). report (namesOf registers functions) h (incoherent pairs l)) packed-letters
+      → reportOf registers functions h (Incoherent pairs (length ls)) (packing firstEdition h ls ++ rest) ≡ report (namesOf registers functions) h (Printed.incoherent pairs ls)
+  unfolding reportOf printedOf
+  incoherent-report registers functions pairs = ap (λ (l : List Letter). report (namesOf registers functions) h (Printed.incoherent pairs l)) packed-letters
 
 -- ── tables ──
 module _ (h : Header) (t : Tables) (p : Packable firstEdition h t) (rest : List ℕ) where
@@ -160,7 +160,7 @@ module _ (h : Header) (ls : List Letter) (t : Tables) (rest : List ℕ) (v : Hea
       ap (readTables firstEdition h) (drop-at (packing firstEdition h ls) (packTables firstEdition h t ++ rest) (modelStart (length ls)) (packed-size h ls v f rest)) ∙ packed-tables h t p rest
 
   -- The count of rows comes back.
-  pub packed-rows : wordIn (packing firstEdition h ls ++ (packTables firstEdition h t ++ rest)) (modelStart (length ls) + 2) ≡ length (t .rows)
+  pub packed-rows : wordAt (packing firstEdition h ls ++ (packTables firstEdition h t ++ rest)) (modelStart (length ls) + 2) ≡ length (t .rows)
   packed-rows =
       let s : List ℕ = packing firstEdition h ls ++ (packTables firstEdition h t ++ rest) in
       ap (λ (l : List ℕ). join (8 ∷ 8 ∷ []) (take 2 l)) (sym (drop-drop 2 (modelStart (length ls)) s)) ∙ sym (rows-read h (drop (modelStart (length ls)) s))
@@ -168,7 +168,7 @@ module _ (h : Header) (ls : List Letter) (t : Tables) (rest : List ℕ) (v : Hea
 
   -- The report of a failing execution with its model.
   pub fail-report : (registers functions : List ℕ) (pairs : ℕ)
-      → reportOf registers functions h (Fail pairs (length ls)) (packing firstEdition h ls ++ (packTables firstEdition h t ++ rest)) ≡ report (namesOf registers functions) h (fail pairs ls t)
-  unfolding reportOf shown
+      → reportOf registers functions h (Fail pairs (length ls)) (packing firstEdition h ls ++ (packTables firstEdition h t ++ rest)) ≡ report (namesOf registers functions) h (Printed.fail pairs ls t)
+  unfolding reportOf printedOf
   fail-report registers functions pairs =
-      ap₂ (λ (l : List Letter) (x : Tables). report (namesOf registers functions) h (fail pairs l x)) (packed-letters h ls v f (packTables firstEdition h t ++ rest)) tables-behind
+      ap₂ (λ (l : List Letter) (x : Tables). report (namesOf registers functions) h (Printed.fail pairs l x)) (packed-letters h ls v f (packTables firstEdition h t ++ rest)) tables-behind

@@ -18,9 +18,9 @@ use Rattle.semantics.specs.Tables.{Row}
 use Rattle.semantics.specs.TablesRead.{unitsIn, secondMeant, rowFrom, readTables}
 use Rattle.semantics.specs.PackedTables.{secondWritten}
 use Rattle.text.specs.Numerals.{numeral}
-use Rattle.report.specs.Lines.{Names, linesOf, line, letterLine, letterLines, modelLines, startLines, rowLine, startWord, lettersWord, valuesWord, blank}
-use Rattle.report.specs.Shown.{letterOf, lettersIn}
-use Rattle.report.specs.ShownLaws.{wordIn, rowIn}
+use Rattle.report.specs.Lines.{Names, linesOf, line, letterLine, letterLines, modelLines, startLines, rowLine, startWord, lettersWord, valuesWord, blankWord}
+use Rattle.report.specs.Shown.{letterOrCopy, lettersIn}
+use Rattle.report.specs.Shown.{wordAt, rowIn}
 
 -- ── one entry after the other ──
 take-away : (i n : ℕ) → i < n → n - i ≡ suc (n - (i + 1))
@@ -30,7 +30,7 @@ nothing-left : (i n : ℕ) → n ≤ i → n - i ≡ 0
 nothing-left i n h = omega arith
 
 module _ (h : Header) (s : List ℕ) (n k : ℕ) where
-  pub letters-next : k < n → lettersIn h s k (n - k) ≡ letterOf h s k ∷ lettersIn h s (k + 1) (n - (k + 1))
+  pub letters-next : k < n → lettersIn h s k (n - k) ≡ letterOrCopy h s k ∷ lettersIn h s (k + 1) (n - (k + 1))
   unfolding lettersIn
   letters-next l = rw (take-away k n l)
 
@@ -111,7 +111,7 @@ module _ (F : Letter → List ℕ) (h : Header) (s : List ℕ) (n : ℕ) where
   pub letter-lines-start : linesOf F (lettersIn h s 0 n) ≡ linesOf F (lettersIn h s 0 (n - 0))
   letter-lines-start = ap (λ (m : ℕ). linesOf F (lettersIn h s 0 m)) (sym (sub-zero n))
 
-  pub letter-lines-next : (k : ℕ) → k < n → linesOf F (lettersIn h s k (n - k)) ≡ F (letterOf h s k) ++ linesOf F (lettersIn h s (k + 1) (n - (k + 1)))
+  pub letter-lines-next : (k : ℕ) → k < n → linesOf F (lettersIn h s k (n - k)) ≡ F (letterOrCopy h s k) ++ linesOf F (lettersIn h s (k + 1) (n - (k + 1)))
   unfolding linesOf
   letter-lines-next k l = ap (linesOf F) (letters-next h s n k l)
 
@@ -124,7 +124,7 @@ module _ (R : ℕ → List ℕ) (s : List ℕ) (o n : ℕ) where
   start-lines-start = ap₂ (λ (m j : ℕ). startLines R 0 (unitsIn 2 m (drop j s))) (sym (sub-zero n)) (sym (add-zero o))
 
   pub start-lines-next : (i : ℕ) → i < n → startLines R i (unitsIn 2 (n - i) (drop (o + 2 * i) s))
-      ≡ line (startWord ∷ R i ∷ blank ∷ numeral (wordIn s (o + 2 * i)) ∷ []) ++ startLines R (i + 1) (unitsIn 2 (n - (i + 1)) (drop (o + 2 * (i + 1)) s))
+      ≡ line (startWord ∷ R i ∷ blankWord ∷ numeral (wordAt s (o + 2 * i)) ∷ []) ++ startLines R (i + 1) (unitsIn 2 (n - (i + 1)) (drop (o + 2 * (i + 1)) s))
   unfolding startLines
   start-lines-next i l = ap (startLines R i) (units-next 2 n i o s l)
 
@@ -152,11 +152,11 @@ module _ (names : Names) (h : Header) (s : List ℕ) where
   execution-parts n = ap (λ (m : ℕ). line (lettersWord ∷ numeral m ∷ []) ++ linesOf (letterLine names h) (lettersIn h s 0 n)) (letters-length h s 0 n)
 
   module _ (o : ℕ) where
-    words : unitsIn 2 (2 + h .registers) (drop o s) ≡ wordIn s o ∷ wordIn s (o + 2) ∷ unitsIn 2 (h .registers) (drop (o + 4) s)
+    words : unitsIn 2 (2 + h .registers) (drop o s) ≡ wordAt s o ∷ wordAt s (o + 2) ∷ unitsIn 2 (h .registers) (drop (o + 4) s)
     unfolding unitsIn
     words =
         ap (λ (m : ℕ). unitsIn 2 m (drop o s)) (two-more (h .registers))
-        ∙ (λ i. wordIn s o ∷ join (8 ∷ 8 ∷ []) (take 2 (drop-drop 2 o s i)) ∷ unitsIn 2 (h .registers) ((ap (drop 2) (drop-drop 2 o s) ∙ drop-drop 2 (o + 2) s ∙ ap (λ (j : ℕ). drop j s) (four o)) i))
+        ∙ (λ i. wordAt s o ∷ join (8 ∷ 8 ∷ []) (take 2 (drop-drop 2 o s i)) ∷ unitsIn 2 (h .registers) ((ap (drop 2) (drop-drop 2 o s) ∙ drop-drop 2 (o + 2) s ∙ ap (λ (j : ℕ). drop j s) (four o)) i))
       where
         two-more : (n : ℕ) → 2 + n ≡ suc (suc n)
         two-more n = omega arith
@@ -171,7 +171,7 @@ module _ (names : Names) (h : Header) (s : List ℕ) where
         further o n = omega arith
 
     pub model-parts : modelLines names h (readTables firstEdition h (drop o s))
-        ≡ line (valuesWord ∷ numeral (wordIn s o) ∷ []) ++ (startLines (names .register) 0 (unitsIn 2 (h .registers) (drop (o + 4) s))
-        ++ linesOf (rowLine (names .function) h) (map (rowFrom firstEdition h) (unitsIn 5 (wordIn s (o + 2)) (drop (o + 4 + 2 * h .registers) s))))
+        ≡ line (valuesWord ∷ numeral (wordAt s o) ∷ []) ++ (startLines (names .register) 0 (unitsIn 2 (h .registers) (drop (o + 4) s))
+        ++ linesOf (rowLine (names .function) h) (map (rowFrom firstEdition h) (unitsIn 5 (wordAt s (o + 2)) (drop (o + 4 + 2 * h .registers) s))))
     unfolding modelLines readTables
     model-parts = λ i. line (valuesWord ∷ numeral (getD (words i) 0 0) ∷ []) ++ (startLines (names .register) 0 (drop 2 (words i)) ++ linesOf (rowLine (names .function) h) (map (rowFrom firstEdition h) (unitsIn 5 (getD (words i) 1 0) (behind i))))

@@ -6,9 +6,9 @@ use lib.ListN.{getD}
 use mir.Syntax.{w8, w64}
 use mir.Val.{Fits}
 use Rattle.text.proofs.Theory.Appending.{appended-length}
-use Rattle.report.specs.declared.Verdict.{Verdict}
+use Rattle.report.specs.declared.ReportedVerdict.{ReportedVerdict}
 use Rattle.report.specs.declared.ReportWritten.the-variants.{Bytes, NoRoom}
-use Rattle.report.specs.Shown.{reportOf, Wrote}
+use Rattle.report.specs.Shown.{reportOf, WroteText}
 use Rattle.report.proofs.Theory.WroteLaws.{wrote-none, wrote-all}
 use Rattle.report.proofs.Theory.Bound.{report-room}
 use Rattle.report.proofs.write_report.Statement.{statement}
@@ -28,9 +28,9 @@ write-report-spec =
     report-room (a .registers) (a .functions) (λ r. reg r .fits) (λ f. fun f .fits) (a .h) (a .answer .now) (λ i. omega (arith, c .before .before .before .shared-slice-known .given i)) (c .before .limited .result) (c .before .limited .ensures .1) (few .fits))
     (λ c.
     let a = c .before .before .before .before .before .before .before .args in
-    subst (λ (v : Verdict). Wrote (reportOf (a .registers) (a .functions) (a .h) v (a .answer .now)) (a .out .now) (a .out .now) NoRoom) (c .before .before .before .before .limited .ensures .0) (wrote-none (c .before .before .put-report .ensures .place) (c .if1 .taken)))
+    subst (λ (v : ReportedVerdict). WroteText (reportOf (a .registers) (a .functions) (a .h) v (a .answer .now)) (a .out .now) (a .out .now) NoRoom) (c .before .before .before .before .limited .ensures .0) (wrote-none (c .before .before .put-report .ensures .place) (c .if1 .taken)))
     (λ c κs. search needs)
     (λ c. appended-length (c .before .before .put-report2 .ensures))
     (λ c.
     let a = c .before .before .before .before .before .before .before .before .before .before .before .args in
-    subst (λ (v : Verdict). Wrote (reportOf (a .registers) (a .functions) (a .h) v (a .answer .now)) (a .out .now) (c .before .before .put-report2 .last .0) (Bytes (c .before .before .put-report2 .result))) (c .before .before .before .before .before .before .before .before .limited .ensures .0) (wrote-all (c .before .before .before .before .before .before .put-report .ensures .place) (c .before .before .before .before .if1 .left) (c .before .before .put-report2 .ensures))))
+    subst (λ (v : ReportedVerdict). WroteText (reportOf (a .registers) (a .functions) (a .h) v (a .answer .now)) (a .out .now) (c .before .before .put-report2 .last .0) (Bytes (c .before .before .put-report2 .result))) (c .before .before .before .before .before .before .before .before .limited .ensures .0) (wrote-all (c .before .before .before .before .before .before .put-report .ensures .place) (c .before .before .before .before .if1 .left) (c .before .before .put-report2 .ensures))))

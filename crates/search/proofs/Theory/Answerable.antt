@@ -1,4 +1,4 @@
--- An answer always exists: for each text, table and output there is one that meets demand 3. There is only one: `Settled.one-way` of crate `verdicts`.
+-- An answer always exists: for each text, table and output there is one that meets demand 3. There is only one: `Settled.one-way` of crate `verdict_theory`.
 use mathlib.Core.Path.{ap}
 use mathlib.Core.HLevel.{Discrete, ×-discrete}
 use mathlib.Core.Bool.{Bool, Bool-discrete}
@@ -7,10 +7,10 @@ use Prim.Native.Nat.{ℕ}
 use native.Mathlib.Decide.{ℕ-discrete}
 use Rattle.letters.specs.Editions.{firstEdition}
 use Rattle.semantics.specs.Models.{Feasible}
-use Rattle.verdicts.specs.Verdict.{Answer}
-use Rattle.verdicts.specs.Demand3.{pairsIn, Demand3}
-use Rattle.verdicts.proofs.Theory.Total.{search-answer}
-use Rattle.verdicts.proofs.Theory.Settled.{a-way}
+use Rattle.verdict_theory.specs.Verdict.{VerdictAnswer}
+use Rattle.verdict_theory.specs.Demand3.{pairsIn, Demand3}
+use Rattle.verdict_theory.proofs.Theory.Total.{search-answer}
+use Rattle.verdict_theory.proofs.Theory.Settled.{a-way}
 use Rattle.window.specs.declared.Window.{Window}
 use Rattle.exploration.proofs.Theory.Given.{setting}
 
@@ -34,7 +34,7 @@ window-discrete : Discrete Window
 window-discrete w v = elim (parts-discrete (parts w) (parts v)) [ yes e ↦ yes (ap whole e) | no n ↦ no (λ e. n (ap parts e)) ]
 
 -- There is an answer, with what the table and the output then hold.
-pub answerable : (text table output : List ℕ) → (a : Answer) × (table′ : List ℕ) × (output′ : List ℕ) × Demand3 Feasible text table output a table′ output′
+pub answerable : (text table output : List ℕ) → (a : VerdictAnswer) × (table′ : List ℕ) × (output′ : List ℕ) × Demand3 Feasible text table output a table′ output′
 answerable text table output =
     a-way Feasible text table output
     λ m a.

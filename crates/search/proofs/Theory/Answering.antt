@@ -16,12 +16,12 @@ use Rattle.search.specs.Tracing.{traceBytes, lastLetter}
 use Rattle.traces.specs.Traces.{packing}
 use Rattle.traces.proofs.Theory.TraceLaws.{bytes-length}
 use Rattle.semantics.specs.Terms.{begin}
-use Rattle.verdicts.specs.Verdict.{fail, incoherent, unfit, breaking, failing, showing, Delivered}
-use Rattle.verdicts.specs.AnswerPacking.{packed}
+use Rattle.verdict_theory.specs.Verdict.{fail, incoherent, unfit, breaking, failing, showing, Delivered}
+use Rattle.verdict_theory.specs.AnswerPacking.{packed}
 use Rattle.search.specs.declared.Packed.{Packed}
 use Rattle.search.specs.declared.Verdict.the-variants.{Fail, Incoherent, Refused}
 use Rattle.search.proofs.Theory.Delivering.{delivered-trace, refused-trace, refused-failing, delivered-model, refused-model, behind-kept}
-use Rattle.search.specs.Modelling.{Modelled}
+use Rattle.search.specs.Modelling.{ModelWrittenBehind}
 use Rattle.search.specs.Answering.{Packs, Delivers}
 
 module _ (p : Packed) (count : ℕ) (output : List ℕ) (inside : p .start ≤ lastLetter) where
@@ -62,15 +62,15 @@ module _ (p : Packed) (count : ℕ) (output : List ℕ) (inside : p .start ≤ l
   failing-refused l h ls x f = refused-failing h ls output (showing failing count (length ls)) (let a = same h ls x in omega arith)
 
   module _ (l : traceBytes - p .start ≤ length output) (between : List ℕ) where
-    module _ (fits : Bool) (w : Modelled (drop (p .start) (p .bytes)) output fits between) (h : Header) (ls : List Letter) (x : Packs p h ls) where
+    module _ (fits : Bool) (w : ModelWrittenBehind (drop (p .start) (p .bytes)) output fits between) (h : Header) (ls : List Letter) (x : Packs p h ls) where
       abbrev trace : List ℕ
       trace = packing firstEdition h ls
 
-      showed : Modelled (packing firstEdition h ls) output fits between
-      showed = subst (λ b. Modelled b output fits between) (x .bytes) w
+      showed : ModelWrittenBehind (packing firstEdition h ls) output fits between
+      showed = subst (λ b. ModelWrittenBehind b output fits between) (x .bytes) w
 
     -- the model does not fit behind the trace
-    pub failing-unfit : Modelled (drop (p .start) (p .bytes)) output false between → Delivers failing p count output (Refused outputTooSmall 0) between
+    pub failing-unfit : ModelWrittenBehind (drop (p .start) (p .bytes)) output false between → Delivers failing p count output (Refused outputTooSmall 0) between
     failing-unfit w h ls x f =
         let y = showed false w h ls x in
         let k = behind-kept h ls output (showing failing count (length ls)) (x .header) (x .fit) (x .few) (x .formed) (f refl) (y .shown) (y .behind) (y .showed) (y .no refl) in
@@ -78,7 +78,7 @@ module _ (p : Packed) (count : ℕ) (output : List ℕ) (inside : p .start ≤ l
         subst (λ o. Delivered (packed firstEdition (begin h) failing ls) (showing failing count (length ls)) output unfit o) (sym e)
         (refused-model h ls output (showing failing count (length ls)) (x .header) (x .fit) (x .few) (x .formed) (f refl) (y .shown) (y .behind) (y .showed) (let a = same h ls x in omega arith) (y .no refl))
 
-    pub failing-shown : Modelled (drop (p .start) (p .bytes)) output true between → (output′ : List ℕ)
+    pub failing-shown : ModelWrittenBehind (drop (p .start) (p .bytes)) output true between → (output′ : List ℕ)
         → output′ ≡ drop (p .start) (p .bytes) ++ drop (length (drop (p .start) (p .bytes))) between
         → Delivers failing p count output (Fail count ((traceBytes - p .start - 2) / 2)) output′
     failing-shown w output′ e h ls x f =

@@ -15,14 +15,14 @@ use Rattle.macros.specs.Walk.{Place, Move, no-move, move, stand}
 use Rattle.macros.specs.Points.{points, entry, moves-at, run}
 use Rattle.macros.proofs.Theory.Runs.{run-steps}
 use Rattle.macros.proofs.Theory.Fitting.{run-formed}
-use Rattle.verdicts.proofs.Theory.System.{event}
-use Rattle.verdicts.proofs.Theory.Listing.{Listing, turn, path, path-steps, Searching, begins-none, event-first}
-use Rattle.verdicts.proofs.Theory.Since.{since-letters}
-use Rattle.verdicts.proofs.Theory.Trail.{letter-of, letters-to, move-letters}
-use Rattle.verdicts.specs.Verdict.{Answer, pass, full, Kind, failing, showing, Delivered, Verdict}
-use Rattle.verdicts.specs.AnswerPacking.{packed}
-use Rattle.verdicts.proofs.Theory.Pairs.{first-pair, moving, meets-failing}
-use Rattle.verdicts.proofs.Theory.Answers.{answers-full, answers-pass, answers-event}
+use Rattle.verdict_theory.proofs.Theory.System.{event}
+use Rattle.verdict_theory.proofs.Theory.Listing.{Listing, turn, path, path-steps, Searching, begins-none, event-first}
+use Rattle.verdict_theory.proofs.Theory.Since.{since-letters}
+use Rattle.verdict_theory.proofs.Theory.Trail.{letter-of, letters-to, move-letters}
+use Rattle.verdict_theory.specs.Verdict.{VerdictAnswer, pass, full, Kind, failing, showing, Delivered, IsVerdict}
+use Rattle.verdict_theory.specs.AnswerPacking.{packed}
+use Rattle.verdict_theory.proofs.Theory.Pairs.{first-pair, moving, meets-failing}
+use Rattle.verdict_theory.proofs.Theory.Answers.{answers-full, answers-pass, answers-event}
 use Rattle.window.specs.declared.Window.{Window}
 use Rattle.table.specs.Table.{pointAt, windowAt, parentAt, branchAt}
 use Rattle.exploration.specs.declared.PointMove as enum
@@ -36,7 +36,7 @@ use Rattle.exploration.specs.Given.{Given}
 use Rattle.exploration.proofs.Theory.Given.{header, body, end, held, fresh, setting, branch-held}
 use Rattle.exploration.proofs.Theory.Going.{turn-of, starts, step, Passing, Going}
 use Rattle.exploration.proofs.Theory.Explored.{Met}
-use Rattle.search.specs.Trails.{letterAt, trailTo, trailOf}
+use Rattle.search.specs.Trails.{letterOfBranch, trailTo, trailOf}
 
 letter-meant : (o : enum.PointMove) → letter-of (meant o) ≡ letterOf o
 letter-meant Nothing = refl
@@ -52,8 +52,8 @@ module _ (given : Given) (n : ℕ) (kind : Kind) (k d : ℕ) (t : List ℕ) (met
   branch = branchNumbered (d % 2)
 
   -- the letter at a listed pair
-  letter-stored : (i b : ℕ) → i < k → letter-of (moves-at (points (body given)) (pointAt t i) (branchNumbered b)) ≡ letterAt (held given) t i b
-  unfolding letterAt
+  letter-stored : (i b : ℕ) → i < k → letter-of (moves-at (points (body given)) (pointAt t i) (branchNumbered b)) ≡ letterOfBranch (held given) t i b
+  unfolding letterOfBranch
   letter-stored i b q = ap letter-of (sym (branch-held given (pointAt t i) b (met .going .due i q))) ∙ letter-meant (moveOf (pointOf (held given) t i) b)
 
   -- the letters along the parents are those of the table
@@ -64,7 +64,7 @@ module _ (given : Given) (n : ℕ) (kind : Kind) (k d : ℕ) (t : List ℕ) (met
   trail-is (suc f) (suc j) rest q =
       let o = met .going .searching .older (suc j) (omega arith) q in
       ap (λ a. extend (letters-to start (points (body given)) (listed t k) f (parentAt t (suc j))) (a ∷ rest)) (letter-stored (parentAt t (suc j)) (branchAt t (suc j)) (omega arith))
-      ∙ trail-is f (parentAt t (suc j)) (letterAt (held given) t (parentAt t (suc j)) (branchAt t (suc j)) ∷ rest) (omega arith)
+      ∙ trail-is f (parentAt t (suc j)) (letterOfBranch (held given) t (parentAt t (suc j)) (branchAt t (suc j)) ∷ rest) (omega arith)
 
   abbrev way : Path
   way = path (listed t k) (d / 2) ▹ branch
@@ -79,8 +79,8 @@ module _ (given : Given) (n : ℕ) (kind : Kind) (k d : ℕ) (t : List ℕ) (met
   moved-to (move a p) u v =
       let l = met .due in
       let s = move-letters (setting given) (listed t k) d (met .going .searching) (d / 2) branch a p (omega arith) u in
-      let c : a ≡ letterAt (held given) t (d / 2) (d % 2) = ap letter-of (sym u) ∙ letter-stored (d / 2) (d % 2) (omega arith) in
-      (p, s ∙ ap (stand p) (ap (λ z. letters-to start (points (body given)) (listed t k) (d / 2) (d / 2) ▸ z) c ∙ trail-is (d / 2) (d / 2) (letterAt (held given) t (d / 2) (d % 2) ∷ []) (omega arith)))
+      let c : a ≡ letterOfBranch (held given) t (d / 2) (d % 2) = ap letter-of (sym u) ∙ letter-stored (d / 2) (d % 2) (omega arith) in
+      (p, s ∙ ap (stand p) (ap (λ z. letters-to start (points (body given)) (listed t k) (d / 2) (d / 2) ▸ z) c ∙ trail-is (d / 2) (d / 2) (letterOfBranch (held given) t (d / 2) (d % 2) ∷ []) (omega arith)))
 
   came : (p : Place ℕ) × (run start (body given) way ≡ stand p execution)
   came = moved-to (moves-at (points (body given)) (pointAt t (d / 2)) branch) refl (met .happens)
@@ -113,17 +113,17 @@ module _ (given : Given) (n : ℕ) (kind : Kind) (k d : ℕ) (t : List ℕ) (met
       let i : ρ ≡ execution = cc in
       subst (λ π. Feasible (state π)) i y
 
-  pub concluded-event : (edition : Edition) (output : List ℕ) (answer : Answer) (output′ : List ℕ)
+  pub concluded-event : (edition : Edition) (output : List ℕ) (answer : VerdictAnswer) (output′ : List ℕ)
       → Delivered (packed edition (begin (header given)) kind (trailOf (held given) t d)) (showing kind k (length (trailOf (held given) t d))) output answer output′
-      → Verdict Feasible (begin (header given)) (body given) edition n output answer output′
+      → IsVerdict Feasible (begin (header given)) (body given) edition n output answer output′
   concluded-event edition output answer output′ y =
       let l = met .due in
       answers-event (setting given) edition n output (listed t k) (d / 2) branch here (omega arith) (met .going .within) kind (met .happens) (came .0) (trailOf (held given) t d) (came .1) answer output′ y
 
 -- ── the other ends ──
 module _ (given : Given) (edition : Edition) (n : ℕ) (output : List ℕ) where
-  abbrev Right : Answer → Type 0
-  Right a = Verdict Feasible (begin (header given)) (body given) edition n output a output
+  abbrev Right : VerdictAnswer → Type 0
+  Right a = IsVerdict Feasible (begin (header given)) (body given) edition n output a output
 
   pub concluded-full : Passing given n → Right full
   concluded-full y = answers-full (setting given) edition n output y

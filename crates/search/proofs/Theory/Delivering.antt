@@ -18,7 +18,7 @@ use Rattle.letters.specs.Letters.{HeaderFits}
 use Rattle.letters.specs.Words.{headerWord, letterWord}
 use Rattle.letters.proofs.Theory.WordLaws.{first-roomy}
 use Rattle.letters.specs.Answers.{onAnswer}
-use Rattle.traces.specs.Reading.{trace, refused, beginning, letterCount, lettersOf, readingWhere}
+use Rattle.traces.specs.Reading.{trace, TraceReading, beginning, letterCount, lettersOf, readingWhere}
 use Rattle.traces.specs.ReadingParts.{readingWithin}
 use Rattle.traces.specs.Traces.{AllFit, packing}
 use Rattle.letters.specs.RefusalNumbers.{outputTooSmall, traceTooLong}
@@ -30,17 +30,17 @@ use Rattle.semantics.specs.PackedTables.{packTables}
 use Rattle.semantics.specs.ShownTables.{tablesOf}
 use Rattle.semantics.specs.FirstLetters.{firstInfeasible}
 use Rattle.semantics.proofs.Theory.JudgementLaws.{first-infeasible-unique}
-use Rattle.shown.specs.Answer.{shownAnswer, model, modelBytes, fitted, laidIn, answerTo, outputAfter, Showed}
-use Rattle.shown.specs.Answer as answer
-use Rattle.shown.specs.declared.Shown.{Shown}
-use Rattle.verdicts.specs.Verdict.{Answer, unfit, breaking, failing, Delivered}
-use Rattle.verdicts.specs.AnswerPacking.{packed}
+use Rattle.model_writer.specs.Answer.{shownAnswer, ModelAnswer, modelBytes, fitted, laidIn, answerTo, outputAfter, Showed}
+use Rattle.model_writer.specs.Answer as answer
+use Rattle.model_writer.specs.declared.Shown.{Shown}
+use Rattle.verdict_theory.specs.Verdict.{VerdictAnswer, unfit, breaking, failing, Delivered}
+use Rattle.verdict_theory.specs.AnswerPacking.{packed}
 
 header-stays : (ρ : Trace) (ls : List Letter) → state (extend ρ ls) .header ≡ state ρ .header
 header-stays ρ [] = refl
 header-stays ρ (a ∷ ls) = header-stays (ρ ▸ a) ls
 
-module _ (h : Header) (ls : List Letter) (output : List ℕ) (a : Answer) where
+module _ (h : Header) (ls : List Letter) (output : List ℕ) (a : VerdictAnswer) where
   abbrev s : List ℕ
   s = packing firstEdition h ls
 
@@ -73,7 +73,7 @@ module _ (h : Header) (ls : List Letter) (output : List ℕ) (a : Answer) where
     read-within = same (le-ltb mostLetters (letterCount firstEdition s) (omega (arith, long))) ∙ reading-packing firstEdition first-roomy h ls v fit
       where
         same : ltb mostLetters (letterCount firstEdition s) ≡ false → readingWhere (ltb mostLetters) firstEdition s ≡ readingWhere (λ _. false) firstEdition s
-        same e = λ i. onAnswer (beginning firstEdition s) (λ g. pick (e i) (λ _. refused traceTooLong 0) λ _. lettersOf firstEdition g s) refused
+        same e = λ i. onAnswer (beginning firstEdition s) (λ g. pick (e i) (λ _. TraceReading.refused traceTooLong 0) λ _. lettersOf firstEdition g s) TraceReading.refused
 
     possible : firstInfeasible (traceOf h ls) ≡ 0
     possible = sym (first-infeasible-unique (traceOf h ls) formed 0 feasible)
@@ -98,10 +98,10 @@ module _ (h : Header) (ls : List Letter) (output : List ℕ) (a : Answer) where
       room = length-drop (length s) output
 
       -- where no model is written the output stays
-      pub behind-kept : ((k : ℕ) → shownAnswer r ≡ model k → ⊥) → out′ ≡ out
+      pub behind-kept : ((k : ℕ) → shownAnswer r ≡ ModelAnswer.model k → ⊥) → out′ ≡ out
       behind-kept n = byTest (leb (length (modelBytes σ)) (length out)) (λ y. absurd (n (length (modelBytes σ)) (told ∙ rw y refl))) (λ y. left ∙ rw y refl)
 
-      pub delivered-model : (k : ℕ) → length (packing firstEdition h ls) ≤ length output → shownAnswer r ≡ model k
+      pub delivered-model : (k : ℕ) → length (packing firstEdition h ls) ≤ length output → shownAnswer r ≡ ModelAnswer.model k
           → Delivered (packed firstEdition (begin h) failing ls) a output a (packing firstEdition h ls ++ out′)
       delivered-model k l e = byTest (leb (length (modelBytes σ)) (length out))
           (λ y.
@@ -114,10 +114,10 @@ module _ (h : Header) (ls : List Letter) (output : List ℕ) (a : Answer) where
           )))
           (λ y. absurd (differ (sym e ∙ told ∙ rw y refl)))
         where
-          differ : model k ≡ answer.refusal outputTooSmall 0 → ⊥
+          differ : ModelAnswer.model k ≡ answer.refusal outputTooSmall 0 → ⊥
           differ f = let z : _≡_ {A = ℕ} 0 1 = cc in omega arith
 
-      pub refused-model : length (packing firstEdition h ls) ≤ length output → ((k : ℕ) → shownAnswer r ≡ model k → ⊥)
+      pub refused-model : length (packing firstEdition h ls) ≤ length output → ((k : ℕ) → shownAnswer r ≡ ModelAnswer.model k → ⊥)
           → Delivered (packed firstEdition (begin h) failing ls) a output unfit output
       refused-model l n = byTest (leb (length (modelBytes σ)) (length out))
           (λ y. absurd (n (length (modelBytes σ)) (told ∙ rw y refl)))

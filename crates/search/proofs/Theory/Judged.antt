@@ -9,19 +9,19 @@ use Rattle.grammar.specs.Grammar.{Macro}
 use Rattle.refusals.specs.Order.{Refusal}
 use Rattle.refusals.proofs.Theory.Order.{refusal-number}
 use Rattle.refusals.specs.Accepted.{Accepted}
-use Rattle.syntax.specs.declared.Answer as reading
+use Rattle.syntax.specs.declared.MacroRead as reading
 use Rattle.syntax.specs.Reads.{Reads}
-use Rattle.verdicts.specs.Verdict.{refused}
+use Rattle.verdict_theory.specs.Verdict.{refused}
 use Rattle.semantics.specs.Models.{Feasible}
-use Rattle.verdicts.specs.Demand3.{Demand3}
+use Rattle.verdict_theory.specs.Demand3.{Demand3}
 use Rattle.search.specs.declared.Verdict.{Verdict}
 use Rattle.search.specs.declared.Verdict.the-variants.{Refused}
 use Rattle.search.specs.Answering.{answerOf}
-use Rattle.search.specs.MacroSearch.{Readable, Tells}
+use Rattle.search.specs.MacroSearch.{HoldsMacro, Tells}
 use Rattle.search.proofs.Theory.MacroSearch.{tells-verdict}
 
 -- The text was read, with this answer.
-module _ (text : List ℕ) (read : reading.Answer) (told : Reads text read) where
+module _ (text : List ℕ) (read : reading.MacroRead) (told : Reads text read) where
   not-refused : {n p : ℕ} → read .refusal ≡ 0 → Refusal text n p → ⊥
   not-refused {n} {p} e r =
       let (a, b) = refusal-number n p r in
@@ -31,7 +31,7 @@ module _ (text : List ℕ) (read : reading.Answer) (told : Reads text read) wher
   not-accepted : {m : Macro} → read .refusal ≢ 0 → Accepted text m → ⊥
   not-accepted {m} e a = e (told .accepts m a .0)
 
-  pub readable : read .refusal ≡ 0 → Readable (read .program)
+  pub readable : read .refusal ≡ 0 → HoldsMacro (read .program)
   readable e = let (m, a, h) = told .accepted e in (record { macro = m; in-order = a .in-order; few = a .few }, sym h)
 
   module _ (table output : List ℕ) where

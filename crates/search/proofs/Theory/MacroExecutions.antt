@@ -19,10 +19,10 @@ use Rattle.macros.specs.Order.{Branch, first, second, Path}
 use Rattle.macros.specs.Walk.{walk}
 use Rattle.macros.specs.Points.{sizeBlock, entry, points, entrance, moves-at, run}
 use Rattle.macros.proofs.Theory.Runs.{complete-end, failing-is, partial-is, past-points}
-use Rattle.syntax.specs.declared.Answer.{Answer}
+use Rattle.syntax.specs.declared.MacroRead.{MacroRead}
 use Rattle.syntax.specs.Answer.{heldMacro}
 use Rattle.syntax.specs.Reads.{Reads}
-use Rattle.verdicts.proofs.Theory.Since.{since, since-once}
+use Rattle.verdict_theory.proofs.Theory.Since.{since, since-once}
 use Rattle.exploration.proofs.Theory.Store.{branchNumbered}
 use Rattle.exploration.specs.Given.{Given}
 use Rattle.exploration.proofs.Theory.Given.{branch-held}
@@ -99,7 +99,7 @@ module _ (given : Given) where
   }
 
 -- Whatever the reader answers for a text by its contract has exactly the executions of Definition 2.
-pub macros-have-executions : (text : List ℕ) (answer : Answer) → Reads text answer → Demand2Macros text answer
+pub macros-have-executions : (text : List ℕ) (answer : MacroRead) → Reads text answer → Demand2Macros text answer
 macros-have-executions text answer x = record {
   reads = λ m a. x .accepts m a .0;
   grammatical = λ e. let (m, a, f) = x .accepted e in (m, a);

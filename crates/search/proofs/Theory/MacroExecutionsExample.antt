@@ -8,11 +8,11 @@ use Rattle.letters.specs.declared.Letter.{Letter}
 use Rattle.letters.specs.declared.Letter.the-variants.{Apply, Equal, Unequal}
 use Rattle.macros.specs.Tree.{Condition, test, opposite, while, Block}
 use Rattle.macros.specs.Executions.{Outcome}
-use Rattle.macros.specs.Words.{Word, WordBlock, letter, fails, holds, leaves, turns, breaks, stop, both, ends}
+use Rattle.macros.specs.Words.{Word, WordBlock}
 use Rattle.macros.specs.Walk.{Place, at, failure}
 use Rattle.grammar.proofs.Theory.Whole.{read-sound}
 use Rattle.refusals.proofs.Theory.Examples.{loop, searched, loop-read}
-use Rattle.syntax.specs.declared.Answer.{Answer}
+use Rattle.syntax.specs.declared.MacroRead.{MacroRead}
 use Rattle.refusals.specs.Accepted.{Accepted}
 use Rattle.syntax.specs.Reads.{Reads}
 use Rattle.search.specs.MacroExecutions.{Performed, HasExecutions}
@@ -23,23 +23,23 @@ loop-accepted = let (l, s, o, f) = read-sound loop searched 61 loop-read in reco
 
 -- `while x != y { x := n(x); }`: a word of it begins with its test
 opens : {c : Condition} {b : Block} {u : List Letter} {o : Outcome} → Word (while c b) u o → (v : List Letter) × ((u ≡ test c ∷ v) ⊎ (u ≡ opposite c ∷ v))
-opens (leaves e) = ([], inr e)
-opens (turns {u} {v} x y e) = (u ++ v, inl e)
-opens (breaks {v} x e) = (v, inl e)
+opens (Word.leaves e) = ([], inr e)
+opens (Word.turns {u} {v} x y e) = (u ++ v, inl e)
+opens (Word.breaks {v} x e) = (v, inl e)
 
-module _ (answer : Answer) (read : Reads loop answer) where
+module _ (answer : MacroRead) (read : Reads loop answer) where
   executions : HasExecutions (answer .program) (searched .body)
   executions = macros-have-executions loop answer read .executes searched loop-accepted
 
   two-turns : Performed (answer .program) (Unequal 0 1 ∷ Apply 0 0 0 0 ∷ Unequal 0 1 ∷ Apply 0 0 0 0 ∷ Equal 0 1 ∷ Equal 0 1 ∷ []) (at (answer .program .count))
   unfolding searched
   two-turns = executions .complete _ .1
-      (both (turns (both letter stop refl) (turns (both letter stop refl) (leaves refl) refl) refl) (both (holds refl) stop refl) refl)
+      (WordBlock.both (Word.turns (WordBlock.both Word.letter WordBlock.stop refl) (Word.turns (WordBlock.both Word.letter WordBlock.stop refl) (Word.leaves refl) refl) refl) (WordBlock.both (Word.holds refl) WordBlock.stop refl) refl)
 
   -- the assertion fails where the loop is left at once
   fails-at-once : Performed (answer .program) (Equal 0 1 ∷ Unequal 0 1 ∷ []) failure
   unfolding searched
-  fails-at-once = executions .failing _ .1 (both (leaves refl) (ends (fails refl)) refl)
+  fails-at-once = executions .failing _ .1 (WordBlock.both (Word.leaves refl) (WordBlock.ends (Word.fails refl)) refl)
 
   not-the-body : (l : Place ℕ) → ¬ Performed (answer .program) (Apply 0 0 0 0 ∷ []) l
   unfolding searched
@@ -50,5 +50,5 @@ module _ (answer : Answer) (read : Reads loop answer) where
       begins (e, w, inr f) = let z : _≡_ {A = ℕ} 0 1 = cc in omega arith
 
       none : {v : List Letter} {o : Outcome} → ¬ WordBlock (searched .body) (Apply 0 0 0 0 ∷ v) o
-      none (both {v = v} x y e) = let (w, z) = opens x in begins (sym e, w ++ v, elim z [ inl f ↦ inl (ap (λ k. k ++ v) f) | inr f ↦ inr (ap (λ k. k ++ v) f) ])
-      none (ends x) = let (w, z) = opens x in begins (refl, w, z)
+      none (WordBlock.both {v = v} x y e) = let (w, z) = opens x in begins (sym e, w ++ v, elim z [ inl f ↦ inl (ap (λ k. k ++ v) f) | inr f ↦ inr (ap (λ k. k ++ v) f) ])
+      none (WordBlock.ends x) = let (w, z) = opens x in begins (refl, w, z)

@@ -12,19 +12,19 @@ use Rattle.letters.specs.Capacity.{capacityOf, mostPairs}
 use Rattle.letters.specs.Letters.{HeaderFits}
 use Rattle.semantics.specs.Terms.{begin, traceOf, state}
 use Rattle.semantics.specs.Facts.{WellFormed}
-use Rattle.letters.specs.RefusalNumbers.{tableTooSmall}
+use Rattle.letters.specs.MacroRefusalNumbers.{tableTooSmall}
 use Rattle.refusals.specs.Order.{mostPoints}
 use Rattle.semantics.specs.Models.{Feasible}
 use Rattle.macros.specs.Points.{points}
 use Rattle.grammar.specs.Grammar.{Macro, headerOf, binaryOf}
-use Rattle.grammar.specs.Spelled.{InOrder, Arities, none, one, two}
+use Rattle.grammar.specs.Spelled.{InOrder, Arities, Spells}
 use Rattle.blocks.specs.Held.{heldPoint}
-use Rattle.syntax.specs.declared.Macro as struct
+use Rattle.syntax.specs.declared.CompiledMacro as struct
 use Rattle.syntax.specs.Answer.{heldMacro}
 use Rattle.letters.proofs.Theory.CapacityLaws.{capacity-fits}
-use Rattle.verdicts.specs.Verdict.{Kind, breaking, failing, showing, Delivered, Verdict}
-use Rattle.verdicts.specs.AnswerPacking.{packed}
-use Rattle.verdicts.specs.Demand3.{pairsIn}
+use Rattle.verdict_theory.specs.Verdict.{Kind, breaking, failing, showing, Delivered, IsVerdict}
+use Rattle.verdict_theory.specs.AnswerPacking.{packed}
+use Rattle.verdict_theory.specs.Demand3.{pairsIn}
 use Rattle.records.specs.Records.{recordBytes}
 use Rattle.search.specs.declared.Packed.{Packed}
 use Rattle.exploration.specs.declared.Search.{Search}
@@ -36,16 +36,16 @@ use Rattle.exploration.specs.Exploring.{searchOf}
 use Rattle.exploration.proofs.Theory.HeldPoints.{all-within}
 use Rattle.exploration.specs.Given.{Given}
 use Rattle.exploration.proofs.Theory.Given.{header, body, end, held}
-use Rattle.exploration.proofs.Theory.Explored.{Met, Ended}
+use Rattle.exploration.proofs.Theory.Explored.{Met, SearchEnded}
 use Rattle.exploration.proofs.Theory.Ending.{search-event}
 use Rattle.search.specs.Trails.{trailOf}
 use Rattle.search.specs.Tracing.{Older, traced, traceBytes, mostMoves}
 use Rattle.search.proofs.Theory.TracedLaws.{traced-is, formed-fit}
 use Rattle.search.proofs.Theory.Concluded.{event-formed, event-few, event-older, event-feasible}
-use Rattle.search.specs.Searched.{Told}
+use Rattle.search.specs.Searched.{SearchAnswered}
 use Rattle.search.proofs.Theory.Searched.{search-verdict}
 use Rattle.search.specs.Answering.{answerOf, Packs, Delivers}
-use Rattle.search.specs.MacroSearch.{Readable, searchOn, Tells}
+use Rattle.search.specs.MacroSearch.{HoldsMacro, searchOn, Tells}
 
 -- How the search ends at an event of either kind.
 abbrev pub foundEvent : Kind → ℕ → ℕ → Search
@@ -63,9 +63,9 @@ capacity-most n = omega arith
 
 -- ── the header of a macro in order ──
 binary-below : {fs ns : List ℕ} → Arities fs ns → binaryOf ns < 2 ^ length fs
-binary-below none = omega arith
-binary-below (one {f = f} {fs = fs} a) = let l = binary-below a in omega (arith, two-pow-succ (length fs))
-binary-below (two {f = f} {fs = fs} a) = let l = binary-below a in omega (arith, two-pow-succ (length fs))
+binary-below Arities.none = omega arith
+binary-below (Arities.one {f = f} {fs = fs} a) = let l = binary-below a in omega (arith, two-pow-succ (length fs))
+binary-below (Arities.two {f = f} {fs = fs} a) = let l = binary-below a in omega (arith, two-pow-succ (length fs))
 
 pub header-fits : (m : Macro) → InOrder m → HeaderFits firstEdition (headerOf m)
 header-fits m o = record { some = o .some; registers = o .few; functions = o .fewer; binary = binary-below (o .arities) }
@@ -79,7 +79,7 @@ module _ (given : Given) (n : ℕ) (t : List ℕ) (most : n ≤ mostPairs) (room
     abbrev trail : List Letter
     trail = trailOf (held given) after d
 
-    parts : (kind : Kind) → Ended given n (foundEvent kind k d) after → Met given n kind k d after
+    parts : (kind : Kind) → SearchEnded given n (foundEvent kind k d) after → Met given n kind k d after
     parts breaking y = y
     parts failing y = y
 
@@ -115,7 +115,7 @@ module _ (given : Given) (n : ℕ) (t : List ℕ) (most : n ≤ mostPairs) (room
     event-possible f = event-feasible given n kind k d after met f
 
 -- ── of the struct that holds the macro ──
-module _ (program : struct.Macro) (given : Given) (holds : heldMacro (given .macro) ≡ program) where
+module _ (program : struct.CompiledMacro) (given : Given) (holds : heldMacro (given .macro) ≡ program) where
   pub points-within : AllWithin (program .points)
   unfolding heldMacro
   points-within = subst (λ p. AllWithin (p .points)) holds
@@ -153,13 +153,13 @@ module _ (program : struct.Macro) (given : Given) (holds : heldMacro (given .mac
 
     -- what is told is the verdict
     pub tells-verdict : (output : List ℕ) (r : answer.Verdict) (output′ : List ℕ) → Tells program t output r output′
-        → Verdict Feasible (begin (header given)) (body given) firstEdition (pairsIn firstEdition t) output (answerOf r) output′
+        → IsVerdict Feasible (begin (header given)) (body given) firstEdition (pairsIn firstEdition t) output (answerOf r) output′
     unfolding heldMacro capacityOf
     tells-verdict output r output′ y =
         search-verdict given (capacityOf firstEdition (length t)) t most room firstEdition output (answerOf r) output′ (subst (λ p. Tells p t output r output′) (sym holds) y)
 
 -- ── what the code has found ──
-module _ (program : struct.Macro) (t output : List ℕ) (n : ℕ) (r : Search) (u : List ℕ) (c : n ≡ capacityOf firstEdition (length t))
+module _ (program : struct.CompiledMacro) (t output : List ℕ) (n : ℕ) (r : Search) (u : List ℕ) (c : n ≡ capacityOf firstEdition (length t))
     (e : r ≡ searchOf (program .header) (program .points) (program .count) n t .0) (f : u ≡ searchOf (program .header) (program .points) (program .count) n t .1) where
   ends : r ≡ searchOn program t .0
   ends = e ∙ ap (λ n. searchOf (program .header) (program .points) (program .count) n t .0) c
@@ -168,7 +168,7 @@ module _ (program : struct.Macro) (t output : List ℕ) (n : ℕ) (r : Search) (
   leaves = f ∙ ap (λ n. searchOf (program .header) (program .points) (program .count) n t .1) c
 
   abbrev Tell : Search → answer.Verdict → List ℕ → Type 0
-  Tell z v output′ = Told (program .header) (program .points) firstEdition output z (searchOn program t .1) (answerOf v) output′
+  Tell z v output′ = SearchAnswered (program .header) (program .points) firstEdition output z (searchOn program t .1) (answerOf v) output′
 
   told : (z : Search) → r ≡ z → (v : answer.Verdict) (output′ : List ℕ) → Tell z v output′ → Tells program t output v output′
   told z y v output′ = subst (λ z. Tell z v output′) (sym y ∙ ends)
@@ -179,7 +179,7 @@ module _ (program : struct.Macro) (t output : List ℕ) (n : ℕ) (r : Search) (
   pub told-pass : (k : ℕ) → r ≡ found.Pass k → Tells program t output (Pass k) output
   told-pass k y = told (found.Pass k) y (Pass k) output (refl, refl)
 
-  module _ (x : Readable program) (k d : ℕ) where
+  module _ (x : HoldsMacro program) (k d : ℕ) where
     pub packable : (kind : Kind) → r ≡ foundEvent kind k d → (d < mostMoves) × (recordBytes * (d / 2) + recordBytes ≤ length u) × Older u (d / 2 + 1)
     packable kind y = subst (λ u. (d < mostMoves) × (recordBytes * (d / 2) + recordBytes ≤ length u) × Older u (d / 2 + 1)) (sym leaves)
         (event-written program (x .0) (x .1) t kind k d (sym ends ∙ y))

@@ -7,10 +7,10 @@ use native.Mathlib.Omega.{arith}
 use lib.ListN.{length, take, drop, length-drop}
 use Rattle.search.specs.Tracing.{traceBytes}
 use Rattle.base.proofs.Theory.Lent.{tail-lent, tail-back}
-use Rattle.shown.specs.Answer.{shownAnswer, model, Showed}
-use Rattle.shown.specs.declared.Shown.{Shown}
-use Rattle.shown.specs.declared.Shown.the-variants.{Model, Infeasible, Refused}
-use Rattle.search.specs.Modelling.{Modelled}
+use Rattle.model_writer.specs.Answer.{shownAnswer, ModelAnswer, Showed}
+use Rattle.model_writer.specs.declared.Shown.{Shown}
+use Rattle.model_writer.specs.declared.Shown.the-variants.{Model, Infeasible, Refused}
+use Rattle.search.specs.Modelling.{ModelWrittenBehind}
 
 module _ (bytes : List ℕ) (start : ℕ) (output : List ℕ) (r : Shown) (back : List ℕ) (b : length bytes ≡ traceBytes) (l : start ≤ traceBytes)
     (w : Showed (take (traceBytes - start) (drop start bytes)) (take (length output - (traceBytes - start)) (drop (traceBytes - start) output)) r back) where
@@ -29,17 +29,17 @@ module _ (bytes : List ℕ) (start : ℕ) (output : List ℕ) (r : Shown) (back 
     standing : output′ ≡ take (length s) output ++ back
     standing = e ∙ tail-back (traceBytes - start) output back ∙ ap (λ n. take n output ++ back) (sym long)
 
-    pub modelled-yes : (k : ℕ) → r ≡ Model k → Modelled s output true output′
+    pub modelled-yes : (k : ℕ) → r ≡ Model k → ModelWrittenBehind s output true output′
     modelled-yes k f = record { shown = r; behind = back; showed = at-place; stands = standing; yes = λ _. (k, ap shownAnswer f); no = λ x. absurd (let z : _≡_ {A = ℕ} 0 1 = cc in omega arith) }
 
-    pub modelled-infeasible : (k : ℕ) → r ≡ Infeasible k → Modelled s output false output′
+    pub modelled-infeasible : (k : ℕ) → r ≡ Infeasible k → ModelWrittenBehind s output false output′
     modelled-infeasible k f = record { shown = r; behind = back; showed = at-place; stands = standing; yes = λ x. absurd (let z : _≡_ {A = ℕ} 0 1 = cc in omega arith); no = λ _ j g. differ j (sym (ap shownAnswer f) ∙ g) }
       where
-        differ : (j : ℕ) → shownAnswer (Infeasible k) ≡ model j → ⊥
+        differ : (j : ℕ) → shownAnswer (Infeasible k) ≡ ModelAnswer.model j → ⊥
         differ j g = let z : _≡_ {A = ℕ} 0 1 = cc in omega arith
 
-    pub modelled-refused : (k j : ℕ) → r ≡ Refused k j → Modelled s output false output′
+    pub modelled-refused : (k j : ℕ) → r ≡ Refused k j → ModelWrittenBehind s output false output′
     modelled-refused k j f = record { shown = r; behind = back; showed = at-place; stands = standing; yes = λ x. absurd (let z : _≡_ {A = ℕ} 0 1 = cc in omega arith); no = λ _ i g. differ i (sym (ap shownAnswer f) ∙ g) }
       where
-        differ : (i : ℕ) → shownAnswer (Refused k j) ≡ model i → ⊥
+        differ : (i : ℕ) → shownAnswer (Refused k j) ≡ ModelAnswer.model i → ⊥
         differ i g = let z : _≡_ {A = ℕ} 0 1 = cc in omega arith

@@ -17,7 +17,7 @@ use Rattle.letters.proofs.Theory.WordLaws.{header-test, fits-test, first-roomy}
 use Rattle.traces.specs.Traces.{AllFit, units, bytesOf, packing}
 use Rattle.semantics.specs.Terms.{Trace, _▸_, extend, state}
 use Rattle.semantics.specs.Facts.{WellFormed}
-use Rattle.search.specs.Tracing.{wordOf, wordBytes, letterWords, traced}
+use Rattle.search.specs.Tracing.{wordOrZero, bytesOfWords, letterWords, traced}
 
 -- the bytes of a word
 unit-bytes : (w : ℕ) → w < 65536 → split (8 ∷ 8 ∷ []) w ≡ w / 256 ∷ w % 256 ∷ []
@@ -38,16 +38,16 @@ module _ (h : Header) (v : HeaderFits firstEdition h) where
   unfolding letterWord
   letter-lt a f = join-lt (firstEdition .letter) (letterFields h a) (first-roomy .letter-sized h a v f)
 
-  header-coded : wordOf (encodeHeader firstEdition h) ≡ headerWord firstEdition h
+  header-coded : wordOrZero (encodeHeader firstEdition h) ≡ headerWord firstEdition h
   unfolding encodeHeader
   header-coded = rw (header-test firstEdition h .1 v) refl
 
-  letter-coded : (a : Letter) → Fits h a → wordOf (encodeLetter firstEdition h a) ≡ letterWord firstEdition h a
+  letter-coded : (a : Letter) → Fits h a → wordOrZero (encodeLetter firstEdition h a) ≡ letterWord firstEdition h a
   unfolding encodeLetter
   letter-coded a f = rw (header-test firstEdition h .1 v, fits-test h a .1 f) refl
 
-  letters-traced : (ls : List Letter) → AllFit h ls → wordBytes (letterWords h ls) ≡ bytesOf firstEdition (map (letterWord firstEdition h) ls)
-  unfolding wordBytes units
+  letters-traced : (ls : List Letter) → AllFit h ls → bytesOfWords (letterWords h ls) ≡ bytesOf firstEdition (map (letterWord firstEdition h) ls)
+  unfolding bytesOfWords units
   letters-traced [] f = refl
   letters-traced (a ∷ ls) f =
       (λ i. letter-coded a (f .0) i / 256 ∷ letter-coded a (f .0) i % 256 ∷ letters-traced ls (f .1) i)
@@ -55,7 +55,7 @@ module _ (h : Header) (v : HeaderFits firstEdition h) where
 
   -- of letters that fit, under a header that fits
   pub traced-is : (ls : List Letter) → AllFit h ls → traced h ls ≡ packing firstEdition h ls
-  unfolding traced wordBytes packing units
+  unfolding traced bytesOfWords packing units
   traced-is ls f =
       (λ i. header-coded i / 256 ∷ header-coded i % 256 ∷ letters-traced ls f i)
       ∙ ap (λ l. l ++ bytesOf firstEdition (map (letterWord firstEdition h) ls)) (sym (unit-bytes (headerWord firstEdition h) header-lt))

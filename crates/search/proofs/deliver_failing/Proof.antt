@@ -1,6 +1,6 @@
 use mathlib.Core.Path.{subst}
 use lib.ListN.{drop}
-use Rattle.search.specs.Modelling.{Modelled}
+use Rattle.search.specs.Modelling.{ModelWrittenBehind}
 use Rattle.search.proofs.Theory.Answering.{failing-refused, failing-shown, failing-unfit}
 use borrow.Author.Needs.{needs}
 use Rattle.search.proofs.deliver_failing.Statement.{statement}
@@ -34,7 +34,7 @@ returns-2 c =
     let a = x .args in
     let m = c .before .before .before .before .before .before .before .show-model in
     failing-shown (a .packed) (a .count) (a .output .now) (x .pre) (c .before .before .before .before .before .before .before .before .before .before .if1 .left) (m .last .1 .1 .0)
-    (subst (λ f. Modelled (drop (a .packed .start) (a .packed .bytes)) (a .output .now) f (m .last .1 .1 .0)) (c .before .before .before .before .if2 .taken) (m .ensures))
+    (subst (λ f. ModelWrittenBehind (drop (a .packed .start) (a .packed .bytes)) (a .output .now) f (m .last .1 .1 .0)) (c .before .before .before .before .if2 .taken) (m .ensures))
     (c .before .before .write-trace .last .1 .0) (c .before .before .write-trace .ensures)
 
 same-length-2 : tie.Need-same-length-2
@@ -46,7 +46,7 @@ returns-3 c =
     let a = x .args in
     let m = c .before .before .before .show-model in
     failing-unfit (a .packed) (a .count) (a .output .now) (x .pre) (c .before .before .before .before .before .before .if1 .left) (m .last .1 .1 .0)
-    (subst (λ f. Modelled (drop (a .packed .start) (a .packed .bytes)) (a .output .now) f (m .last .1 .1 .0)) (c .if2 .left) (m .ensures))
+    (subst (λ f. ModelWrittenBehind (drop (a .packed .start) (a .packed .bytes)) (a .output .now) f (m .last .1 .1 .0)) (c .if2 .left) (m .ensures))
 
 pub deliver-failing-spec : {M : Type 1} → statement M
 deliver-failing-spec =

@@ -1,7 +1,7 @@
 use native.Mathlib.Omega.{arith}
 use lib.ListN.{length}
 use Rattle.letters.specs.Editions.{firstEdition}
-use Rattle.verdicts.specs.Verdict.{breaking, failing}
+use Rattle.verdict_theory.specs.Verdict.{breaking, failing}
 use Rattle.letters.proofs.Theory.CapacityLaws.{capacity-fits}
 use Rattle.search.proofs.Theory.MacroSearch.{capacity-most, points-within, told-full, told-pass, packable, told-incoherent, told-failing}
 use borrow.Author.Needs.{needs}

@@ -6,7 +6,7 @@ use Rattle.search.proofs.show_model.Statement.{statement}
 use Rattle.search.proofs.show_model.Tie as tie
 use Rattle.search.proofs.show_model.Reads as reads
 use Rattle.search.proofs.show_model.Lts as lts
-use Rattle.shown.proofs.show.Reads as show-reads
+use Rattle.model_writer.proofs.show.Reads as show-reads
 
 sub-n : tie.Need-sub-n
 sub-n c = search needs

@@ -19,18 +19,18 @@ use Rattle.semantics.proofs.Theory.JudgementLaws.{coherent-closed}
 use Rattle.semantics.specs.View.{View, Tracks}
 use Rattle.semantics.specs.SameWindow.{SameWindow}
 use Rattle.semantics.proofs.Theory.SameWindow.{agree-is, view-unique, tracks-same}
-use Rattle.semantics.proofs.Theory.Of.{windowOf, tracks-of}
+use Rattle.semantics.proofs.Theory.Of.{viewOf, tracks-of}
 use Rattle.semantics.proofs.Theory.Steps.{Equated, Separated, Renamed, equated-is, separated-is, renamed-is, fresh-is, known-is, tracks-copy, tracks-equal, tracks-unequal, tracks-apply-new, tracks-apply-known, fine-apply, copied, copied-below, freshened, target}
 use Rattle.semantics.proofs.Theory.JudgeView.{coherentIn, coherent-in}
 
 module _ (σ τ : State) (v : Valid σ) (u : Valid τ) (same : SameWindow σ τ) where
   abbrev w : View
-  w = windowOf σ
+  w = viewOf σ
 
-  at-σ : Tracks σ (windowOf σ)
+  at-σ : Tracks σ (viewOf σ)
   at-σ = tracks-of σ v
 
-  at-τ : Tracks τ (windowOf σ)
+  at-τ : Tracks τ (viewOf σ)
   at-τ = tracks-same same at-σ
 
   -- A letter is coherent in both or in neither.
@@ -62,7 +62,7 @@ module _ (σ τ : State) (v : Valid σ) (u : Valid τ) (same : SameWindow σ τ)
   pub window-after : (a : Letter) → Fits (σ .header) a → Fits (τ .header) a → CoherentLetter σ a → SameWindow (after σ a) (after τ a)
   window-after a f g c =
       let t = tracks-of (after σ a) (after-valid σ a v f) in
-      agree-is t (tracks-both a f g c (windowOf (after σ a)) t) (same .registers) .0 (view-unique t t)
+      agree-is t (tracks-both a f g c (viewOf (after σ a)) t) (same .registers) .0 (view-unique t t)
 
 -- Letters that are coherent after one of two traces with the same window are so after the other, and leave the same window.
 pub carries : (ρ π : Trace) (l : List Letter) → SameWindow (state ρ) (state π) → WellFormed (extend ρ l) → WellFormed (extend π l)

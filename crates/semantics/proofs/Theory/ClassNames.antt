@@ -9,12 +9,12 @@ use Rattle.semantics.specs.Closure.{reflexive, symmetric, transitive}
 use Rattle.semantics.specs.Facts.{Valid}
 use Rattle.semantics.proofs.Theory.Facts.{eq-or}
 use Rattle.semantics.specs.Window.{Same}
-use Rattle.semantics.proofs.Theory.Of.{windowOf, tracks-of}
+use Rattle.semantics.proofs.Theory.Of.{viewOf, tracks-of}
 use Rattle.semantics.specs.ClassNames.{NamedBy}
 
 module _ (σ : State) (v : Valid σ) where
   same-or-not : (r s : ℕ) → r < σ .header .registers → s < σ .header .registers → Same σ r s ⊎ ¬ Same σ r s
-  same-or-not r s rb sb = elim (or-not (windowOf σ .same r s)) [
+  same-or-not r s rb sb = elim (or-not (viewOf σ .same r s)) [
     | inl y ↦ inl (tracks-of σ v .same r s rb sb .0 y)
     | inr n ↦ inr (λ c. n (tracks-of σ v .same r s rb sb .1 c))
   ]

@@ -10,12 +10,12 @@ use lib.Dec.{T, eqb, eqb→eq, eqb-refl, T-not, not-T}
 use lib.ListN.{length}
 use Rattle.semantics.specs.Terms.{_∈_, Term, con, app}
 use Rattle.semantics.proofs.Theory.Booleans.{or-not, and-l, and-r, and-i}
-use Rattle.semantics.specs.Lists.{first}
-use Rattle.semantics.proofs.Theory.Lists.{Found, at, nowhere, first-is}
+use Rattle.semantics.specs.Lists.{firstPassing}
+use Rattle.semantics.proofs.Theory.Lists.{FirstFound, at, nowhere, first-is}
 use Rattle.semantics.specs.TermEquality.{eqt}
 use Rattle.semantics.proofs.Theory.TermEquality.{eqt→eq, eqt-refl, eq→eqt}
-use Rattle.semantics.specs.Closure.{Closure, reflexive, test, symmetric, transitive, congruence}
-use Rattle.semantics.specs.Decide.{redirect, find, beside, pairs, agree, congruent, due, merge, tested, saturate, merges, alike}
+use Rattle.semantics.specs.Closure.{Closure, reflexive, symmetric, transitive, congruence}
+use Rattle.semantics.specs.Decide.{redirect, find, beside, allPairs, agree, congruent, due, merge, tested, saturate, merges, alike}
 
 redirect-hit : (m : Term × Term) → redirect m (m .0) ≡ m .1
 redirect-hit m = go (eqt (m .0) (m .0)) (eqt-refl (m .0))
@@ -61,15 +61,15 @@ beside-e a (y ∷ ys) {l} {p} m = go (λ k. beside-e a ys k) (List·Memᴰ·case
     go ih (inl e) = inl (ap (λ q. q .0) e, List·Memᴰ·head (ap (λ q. q .1) e))
     go ih (inr k) = elim (ih k) [ inl h ↦ inl (h .0, List·Memᴰ·tail (h .1)) | inr h ↦ inr h ]
 
-pub pairs-i : {a b : Term} {xs : List Term} (ys : List Term) → a ∈ xs → b ∈ ys → (a, b) ∈ pairs xs ys
-pairs-i ys (List·Memᴰ·head {xs} e) n = beside-i (pairs xs ys) e n
+pub pairs-i : {a b : Term} {xs : List Term} (ys : List Term) → a ∈ xs → b ∈ ys → (a, b) ∈ allPairs xs ys
+pairs-i ys (List·Memᴰ·head {xs} e) n = beside-i (allPairs xs ys) e n
 pairs-i ys (List·Memᴰ·tail {x} m) n = beside-skip x ys (pairs-i ys m n)
 
-pub pairs-e : (xs ys : List Term) {p : Term × Term} → p ∈ pairs xs ys → (p .0 ∈ xs) × (p .1 ∈ ys)
+pub pairs-e : (xs ys : List Term) {p : Term × Term} → p ∈ allPairs xs ys → (p .0 ∈ xs) × (p .1 ∈ ys)
 pairs-e [] ys m = absurd (List·Memᴰ·not-nil m)
 pairs-e (x ∷ xs) ys {p} m = go (λ k. pairs-e xs ys k) (beside-e x ys m)
   where
-    go : (p ∈ pairs xs ys → (p .0 ∈ xs) × (p .1 ∈ ys)) → ((p .0 ≡ x) × (p .1 ∈ ys)) ⊎ (p ∈ pairs xs ys) → (p .0 ∈ x ∷ xs) × (p .1 ∈ ys)
+    go : (p ∈ allPairs xs ys → (p .0 ∈ xs) × (p .1 ∈ ys)) → ((p .0 ≡ x) × (p .1 ∈ ys)) ⊎ (p ∈ allPairs xs ys) → (p .0 ∈ x ∷ xs) × (p .1 ∈ ys)
     go ih (inl h) = (List·Memᴰ·head (h .0), h .1)
     go ih (inr k) = (List·Memᴰ·tail ((ih k) .0), (ih k) .1)
 
@@ -129,10 +129,10 @@ module _ (U : List Term) (E : List (Term × Term)) where
   unfolding Sound
   tested-sound [] h = λ t r. r
   tested-sound (e ∷ es) h =
-      merge-sound (tested es) e (tested-sound es (λ s t m. h s t (List·Memᴰ·tail m))) (test (h (e .0) (e .1) (List·Memᴰ·head refl)))
+      merge-sound (tested es) e (tested-sound es (λ s t m. h s t (List·Memᴰ·tail m))) (Closure.test (h (e .0) (e .1) (List·Memᴰ·head refl)))
 
   module _ (sub : (f : ℕ) (a b : Term) → app f a b ∈ U → (a ∈ U) × (b ∈ U)) where
-    due-sound : (ms : List (Term × Term)) → Sound ms → (p : Term × Term) → p ∈ pairs U U → T (due ms p) → Closure U E (p .0) (p .1)
+    due-sound : (ms : List (Term × Term)) → Sound ms → (p : Term × Term) → p ∈ allPairs U U → T (due ms p) → Closure U E (p .0) (p .1)
     due-sound ms h p m y =
         let (k, l) = pairs-e U U m in
         congruent-e ms (λ s t. s ∈ U → t ∈ U → Closure U E s t) (p .0) (p .1)
@@ -143,24 +143,24 @@ module _ (U : List Term) (E : List (Term × Term)) where
 
     saturate-sound : (n : ℕ) (ms : List (Term × Term)) → Sound ms → Sound (saturate U n ms)
     saturate-sound zero ms h = h
-    saturate-sound (suc n) ms h = go (λ ks. saturate-sound n ks) (first-is (due ms) (pairs U U))
+    saturate-sound (suc n) ms h = go (λ ks. saturate-sound n ks) (first-is (due ms) (allPairs U U))
       where
-        go : ((ks : List (Term × Term)) → Sound ks → Sound (saturate U n ks)) → {o : Option (Term × Term)} → Found (due ms) (pairs U U) o
+        go : ((ks : List (Term × Term)) → Sound ks → Sound (saturate U n ks)) → {o : Option (Term × Term)} → FirstFound (due ms) (allPairs U U) o
             → Sound (elim o [ none ↦ ms | some p ↦ saturate U n (merge ms p) ])
         go ih (at {a = p} m y) = ih (merge ms p) (merge-sound ms p h (due-sound ms h p m y))
         go ih (nowhere q) = h
 
   -- nothing is left to merge
   Stable : List (Term × Term) → Type 0
-  Stable ms = (p : Term × Term) → p ∈ pairs U U → ¬ T (due ms p)
+  Stable ms = (p : Term × Term) → p ∈ allPairs U U → ¬ T (due ms p)
 
   saturate-stable : (n : ℕ) (ms : List (Term × Term)) (l : List Term) → length l ≤ n → ((t : Term) → t ∈ U → find ms t ∈ l) → Stable (saturate U n ms)
   unfolding Stable
   saturate-stable zero ms [] b h = λ p m y. List·Memᴰ·not-nil (h (p .0) ((pairs-e U U m) .0))
   saturate-stable zero ms (x ∷ l) b h = λ p m y. omega arith
-  saturate-stable (suc n) ms l b h = go (λ ks. saturate-stable n ks) (first-is (due ms) (pairs U U))
+  saturate-stable (suc n) ms l b h = go (λ ks. saturate-stable n ks) (first-is (due ms) (allPairs U U))
     where
-      kept : (p : Term × Term) → p ∈ pairs U U → T (due ms p) → (k : List Term) → ((t : Term) → t ∈ l → t ≢ find ms (p .0) → t ∈ k) → (t : Term)
+      kept : (p : Term × Term) → p ∈ allPairs U U → T (due ms p) → (k : List Term) → ((t : Term) → t ∈ l → t ≢ find ms (p .0) → t ∈ k) → (t : Term)
           → t ∈ U
           → {u : Term} → Redirected (find ms (p .0), find ms (p .1)) (find ms t) u → u ∈ k
       kept p m y k w t i (moved e) =
@@ -170,7 +170,7 @@ module _ (U : List Term) (E : List (Term × Term)) where
       kept p m y k w t i (stays n) = w (find ms t) (h t i) n
 
       go : ((ks : List (Term × Term)) (k : List Term) → length k ≤ n → ((t : Term) → t ∈ U → find ks t ∈ k) → Stable (saturate U n ks))
-          → {o : Option (Term × Term)} → Found (due ms) (pairs U U) o
+          → {o : Option (Term × Term)} → FirstFound (due ms) (allPairs U U) o
           → Stable (elim o [ none ↦ ms | some p ↦ saturate U n (merge ms p) ])
       go ih (nowhere q) = q
       go ih (at {a = p} m y) =
@@ -182,7 +182,7 @@ module _ (U : List Term) (E : List (Term × Term)) where
       → find ms s ≡ find ms t
   unfolding Stable
   stable-e ms h k (reflexive m) = refl
-  stable-e ms h k (test m) = k _ _ m
+  stable-e ms h k (Closure.test m) = k _ _ m
   stable-e ms h k (symmetric c) = sym (stable-e ms h k c)
   stable-e ms h k (transitive c d) = stable-e ms h k c ∙ stable-e ms h k d
   stable-e ms h k (congruence {f} {a} {b} {c} {d} i j p q) =
@@ -196,7 +196,7 @@ module _ (U : List Term) (E : List (Term × Term)) where
   -- later merges part nothing
   saturate-keeps : (n : ℕ) (ms : List (Term × Term)) (s t : Term) → find ms s ≡ find ms t → find (saturate U n ms) s ≡ find (saturate U n ms) t
   saturate-keeps zero ms s t e = e
-  saturate-keeps (suc n) ms s t e = go (λ ks. saturate-keeps n ks s t) (first (due ms) (pairs U U))
+  saturate-keeps (suc n) ms s t e = go (λ ks. saturate-keeps n ks s t) (firstPassing (due ms) (allPairs U U))
     where
       go : ((ks : List (Term × Term)) → find ks s ≡ find ks t → find (saturate U n ks) s ≡ find (saturate U n ks) t) → (o : Option (Term × Term))
           → find (elim o [ none ↦ ms | some p ↦ saturate U n (merge ms p) ]) s ≡ find (elim o [ none ↦ ms | some p ↦ saturate U n (merge ms p) ]) t

@@ -13,11 +13,11 @@ use Rattle.semantics.proofs.Theory.Lists.{all-e}
 use Rattle.semantics.specs.Terms.{_∈_, Trace, begin, _▸_, state}
 use Rattle.semantics.specs.Facts.{WellFormed}
 use Rattle.semantics.specs.Models.{Feasible}
-use Rattle.semantics.specs.Judgement.{Judged}
-use Rattle.semantics.specs.Firsts.{firstsAfter, place}
-use Rattle.semantics.specs.ShownTables.{shownTables, startsFrom, rowsOf, applications, classesOf, numberIn}
+use Rattle.semantics.specs.Judgement.{FirstFailure}
+use Rattle.semantics.specs.Firsts.{firstsAfter, firstPlace}
+use Rattle.semantics.specs.ShownTables.{shownTables, startsFrom, rowsOf, applications, classesOf, classValue}
 use Rattle.semantics.specs.ShownTables.{tablesOf}
-use Rattle.semantics.specs.PackedTables.{packTables, units, rowWord, secondWritten}
+use Rattle.semantics.specs.PackedTables.{packTables, units, packedRow, secondWritten}
 use Rattle.semantics.proofs.Theory.Judge.{formed, formed-e}
 use Rattle.semantics.specs.Judgement.{Judgement}
 use Rattle.semantics.specs.FirstLetters.{coherentPart, incoherentLetter, infeasibleLetter, firstInfeasible}
@@ -72,10 +72,10 @@ table =
     ∷ []
 
 -- What the table says of an example: a run over it names these letters, and the whole-trace engine, which knows no coherence, names its own.
-pub record Holds (e : Example) : Type 0 where
+pub record ExampleHolds (e : Example) : Type 0 where
   pub well-formed : WellFormed (e .trace)
   pub run : Judgement (e .trace) (e .incoherent) (e .infeasible)
-  pub engine : Judged (λ ρ. Feasible (state ρ)) (e .trace) (e .whole)
+  pub engine : FirstFailure (λ ρ. Feasible (state ρ)) (e .trace) (e .whole)
 
 abbrev letters : Example → Bool
 letters e = eqb (infeasibleLetter (e .trace)) (e .infeasible) && eqb (firstInfeasible (e .trace)) (e .whole)
@@ -83,7 +83,7 @@ letters e = eqb (infeasibleLetter (e .trace)) (e .infeasible) && eqb (firstInfea
 abbrev right : Example → Bool
 right e = formed (e .trace) && (eqb (incoherentLetter (e .trace)) (e .incoherent) && letters e)
 
-right-e : (e : Example) → T (right e) → Holds e
+right-e : (e : Example) → T (right e) → ExampleHolds e
 right-e e t =
     let i = eqb (incoherentLetter (e .trace)) (e .incoherent) in
     let j = eqb (infeasibleLetter (e .trace)) (e .infeasible) in
@@ -98,12 +98,12 @@ right-e e t =
           (subst (Judgement (e .trace) (incoherentLetter (e .trace))) (eqb→eq (infeasibleLetter (e .trace)) (e .infeasible) (and-l j k v))
           (judgement-is (e .trace) w));
       engine =
-          subst (Judged (λ ρ. Feasible (state ρ)) (e .trace)) (eqb→eq (firstInfeasible (e .trace)) (e .whole) (and-r j k v))
+          subst (FirstFailure (λ ρ. Feasible (state ρ)) (e .trace)) (eqb→eq (firstInfeasible (e .trace)) (e .whole) (and-r j k v))
           (first-infeasible-is (e .trace) w);
     }
 
 -- Every example is as the table says.
-pub examples : (e : Example) → e ∈ table → Holds e
+pub examples : (e : Example) → e ∈ table → ExampleHolds e
 unfolding table incoherentLetter infeasibleLetter firstInfeasible coherentPart fitsTest applyTest
 examples e m = right-e e (all-e right {l = table} tt m)
 
@@ -125,12 +125,12 @@ pub printed-tables : tablesOf (state printed) ≡ record {
       ∷ record { function = 0; first = 5; second = 5; result = 8 }
       ∷ [];
 }
-unfolding printed tablesOf shownTables startsFrom rowsOf applications classesOf numberIn firstsAfter place
+unfolding printed tablesOf shownTables startsFrom rowsOf applications classesOf classValue firstsAfter firstPlace
 printed-tables = refl
 
 -- and their bytes
 pub printed-bytes : packTables firstEdition (state printed .header) (tablesOf (state printed)) ≡
     0 ∷ 9 ∷ 0 ∷ 4 ∷ 0 ∷ 1 ∷ 0 ∷ 2 ∷ 0 ∷ 3 ∷ 0 ∷ 4
     ∷ 64 ∷ 8 ∷ 2 ∷ 0 ∷ 160 ∷ 0 ∷ 8 ∷ 0 ∷ 0 ∷ 192 ∷ 64 ∷ 48 ∷ 2 ∷ 0 ∷ 224 ∷ 0 ∷ 40 ∷ 0 ∷ 1 ∷ 0 ∷ []
-unfolding printed tablesOf shownTables startsFrom rowsOf applications classesOf numberIn firstsAfter place packTables units rowWord secondWritten
+unfolding printed tablesOf shownTables startsFrom rowsOf applications classesOf classValue firstsAfter firstPlace packTables units packedRow secondWritten
 printed-bytes = refl

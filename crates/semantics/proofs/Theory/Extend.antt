@@ -4,7 +4,7 @@ use mathlib.Core.Logic.{_⊎_, inl, inr, _↔_}
 use mathlib.Core.List.{_∷_, List·Memᴰ·head, List·Memᴰ·tail, List·Memᴰ·cases-cons, Memᴰ·cast}
 use Prim.Native.Nat.{ℕ}
 use Rattle.semantics.specs.Terms.{_∈_, Term, app, State}
-use Rattle.semantics.specs.Closure.{Closure, reflexive, test, symmetric, transitive, congruence, Equivalent}
+use Rattle.semantics.specs.Closure.{Closure, reflexive, symmetric, transitive, congruence, Equivalent}
 use Rattle.semantics.specs.Window.{Match}
 use Rattle.semantics.specs.Facts.{Valid}
 use Rattle.semantics.proofs.Theory.Facts.{closure-in}
@@ -68,7 +68,7 @@ module _ (σ : State) (v : Valid σ) (f : ℕ) {y z : Term} (i : y ∈ σ .terms
 
   extend-e : {s t : Term} → Closure (app f y z ∷ σ .terms) (σ .equals) s t → Equivalent σ s t ⊎ (Is s × Is t)
   extend-e (reflexive m) = elim (List·Memᴰ·cases-cons m) [ inl e ↦ inr (inl e, inl e) | inr k ↦ inl (reflexive k) ]
-  extend-e (test m) = inl (test m)
+  extend-e (Closure.test m) = inl (Closure.test m)
   extend-e (symmetric c) = elim (extend-e c) [ inl d ↦ inl (symmetric d) | inr k ↦ inr (k .1, k .0) ]
   extend-e (transitive c d) = elim (extend-e c) [
     | inl p ↦ elim (extend-e d) [ inl q ↦ inl (transitive p q) | inr k ↦ inr (is-equal (k .0) (symmetric p), k .1) ]

@@ -13,7 +13,7 @@ use Rattle.letters.specs.declared.Letter.the-variants.{Copy, Apply, Equal, Uneq
 use Rattle.letters.specs.Letters.{Fits}
 use Rattle.semantics.specs.Terms.{_∈_, Term, con, app, Trace, begin, _▸_, State, start, after, state, constants}
 use Rattle.semantics.specs.Facts.{WellFormed}
-use Rattle.semantics.specs.Closure.{reflexive, test, symmetric, transitive, congruence, Equivalent}
+use Rattle.semantics.specs.Closure.{reflexive, Closure, symmetric, transitive, congruence, Equivalent}
 use Rattle.semantics.specs.Facts.{Valid}
 
 pub eq-or : (m n : ℕ) → (m ≡ n) ⊎ (m ≢ n)
@@ -100,7 +100,7 @@ state-valid (ρ ▸ a) w = after-valid (state ρ) a (state-valid ρ (w .0)) (w .
 -- The closure relates computed terms only.
 pub closure-in : (σ : State) → Valid σ → {s t : Term} → Equivalent σ s t → (s ∈ σ .terms) × (t ∈ σ .terms)
 closure-in σ v (reflexive m) = (m, m)
-closure-in σ v (test m) = v .equal-sides _ _ m
+closure-in σ v (Closure.test m) = v .equal-sides _ _ m
 closure-in σ v (symmetric c) = let (i, j) = closure-in σ v c in (j, i)
 closure-in σ v (transitive c d) = ((closure-in σ v c) .0, (closure-in σ v d) .1)
 closure-in σ v (congruence i j p q) = (i, j)

@@ -12,11 +12,11 @@ use Rattle.semantics.specs.Terms.{_∈_}
 use Rattle.semantics.proofs.Theory.Booleans.{or-e, or-l, or-r, of-true, of-false, is-true, is-false}
 use Rattle.semantics.specs.Lists.{any}
 use Rattle.semantics.proofs.Theory.Lists.{any-e, any-i, end-split, any-left, any-right}
-use Rattle.semantics.specs.Firsts.{firstsAfter, place, NoRepeats}
+use Rattle.semantics.specs.Firsts.{firstsAfter, firstPlace, NoRepeats}
 
 module _ {A : Type 0} where
-  pub place-below : (p : A → Bool) (k : ℕ) (l : List A) → 0 < k → place p k l < k + length l
-  unfolding place
+  pub place-below : (p : A → Bool) (k : ℕ) (l : List A) → 0 < k → firstPlace p k l < k + length l
+  unfolding firstPlace
   place-below p k [] h = omega arith
   place-below p k (x ∷ xs) h = byTest (p x)
       (λ e. rw e (omega arith))
@@ -39,15 +39,15 @@ module _ {A : Type 0} where
 
 module _ {A : Type 0} where
   -- ── the place of an element ──
-  pub place-first : (p : A → Bool) (k : ℕ) (pre post : List A) (x : A) → ¬ T (any p pre) → T (p x) → place p k (pre ++ x ∷ post) ≡ k + length pre
-  unfolding place
+  pub place-first : (p : A → Bool) (k : ℕ) (pre post : List A) (x : A) → ¬ T (any p pre) → T (p x) → firstPlace p k (pre ++ x ∷ post) ≡ k + length pre
+  unfolding firstPlace
   place-first p k [] post x n t = rw (is-true (p x) t) (omega arith)
   place-first p k (y ∷ pre) post x n t =
       rw (is-false (p y) (λ h. n (or-l (p y) (any p pre) h)))
       (place-first p (suc k) pre post x (λ h. n (or-r (p y) (any p pre) h)) t ∙ omega arith)
 
-  pub place-in : (p : A → Bool) (k : ℕ) (l m : List A) → T (any p l) → (k ≤ place p k (l ++ m)) × (place p k (l ++ m) < k + length l)
-  unfolding place
+  pub place-in : (p : A → Bool) (k : ℕ) (l m : List A) → T (any p l) → (k ≤ firstPlace p k (l ++ m)) × (firstPlace p k (l ++ m) < k + length l)
+  unfolding firstPlace
   place-in p k [] m t = absurd t
   place-in p k (x ∷ xs) m t = byTest (p x)
       (λ e. rw e (omega arith, omega arith))
@@ -55,8 +55,8 @@ module _ {A : Type 0} where
       (elim (or-e (p x) (any p xs) t) [ inl h ↦ absurd (of-false e h) | inr h ↦ h ]) in (omega arith, omega arith)))
 
   -- two that are found at one place are both passed by one element
-  pub place-both : (p q : A → Bool) (k : ℕ) (l : List A) → T (any p l) → T (any q l) → place p k l ≡ place q k l → (x : A) × T (p x) × T (q x)
-  unfolding place
+  pub place-both : (p q : A → Bool) (k : ℕ) (l : List A) → T (any p l) → T (any q l) → firstPlace p k l ≡ firstPlace q k l → (x : A) × T (p x) × T (q x)
+  unfolding firstPlace
   place-both p q k [] s t e = absurd s
   place-both p q k (x ∷ xs) s t e = byTest (p x)
       (λ a. byTest (q x)
@@ -69,7 +69,7 @@ module _ {A : Type 0} where
       rest : (p : A → Bool) → p x ≡ false → T (any p (x ∷ xs)) → T (any p xs)
       rest p e t = elim (or-e (p x) (any p xs) t) [ inl h ↦ absurd (of-false e h) | inr h ↦ h ]
 
-      later : (p : A → Bool) → T (any p xs) → k ≡ place p (suc k) xs → ⊥
+      later : (p : A → Bool) → T (any p xs) → k ≡ firstPlace p (suc k) xs → ⊥
       later p t e = let (a, b) = rw (append-nil xs) at (place-in p (suc k) xs [] t) in omega arith
 
   -- ── the first of each kind ──

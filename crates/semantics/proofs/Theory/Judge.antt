@@ -17,8 +17,8 @@ use Rattle.letters.proofs.Theory.WordLaws.{fits-test}
 use Rattle.semantics.specs.Terms.{_∈_, Term, con, app, Trace, begin, _▸_, State, after, state}
 use Rattle.semantics.specs.Facts.{WellFormed}
 use Rattle.semantics.proofs.Theory.Booleans.{is-true, or-not, and-l, and-r, and-i, or-e, or-l, or-r}
-use Rattle.semantics.specs.Lists.{any, all, first}
-use Rattle.semantics.proofs.Theory.Lists.{any-e, any-i, all-e, all-i, all-n, Found, at, nowhere, first-is}
+use Rattle.semantics.specs.Lists.{any, all, firstPassing}
+use Rattle.semantics.proofs.Theory.Lists.{any-e, any-i, all-e, all-i, all-n, FirstFound, at, nowhere, first-is}
 use Rattle.semantics.specs.TermEquality.{eqt}
 use Rattle.semantics.proofs.Theory.TermEquality.{eqt→eq, eq→eqt, eqt-or}
 use Rattle.semantics.specs.Closure.{reflexive, symmetric, Equivalent, Held}
@@ -31,15 +31,15 @@ use Rattle.semantics.proofs.Theory.Shown.{Clash, corollary-2}
 use Rattle.semantics.specs.Window.{Exposed}
 use Rattle.semantics.proofs.Theory.Climb.{Reaches, from, up, reaches-equal, above-climbs, climbs-above}
 use Rattle.semantics.specs.Coherence.{Kept, Memoizing, CoherentLetter, Coherent}
-use Rattle.semantics.specs.Judgement.{size, Judged}
-use Rattle.semantics.specs.Judge.{touch, new, grow, names, above, upto, held, kept, coherentLetter, coherent, feasible, fails}
+use Rattle.semantics.specs.Judgement.{size, FirstFailure}
+use Rattle.semantics.specs.Judge.{touch, isNewAbove, grow, mergesOf, above, upto, held, kept, coherentLetter, coherent, feasible, firstFailing}
 
 module _ (U : List Term) (ms : List (Term × Term)) where
   -- nothing is left to add
   Closed : List Term → Type 0
-  Closed R = (p : Term) → p ∈ U → ¬ T (new ms R p)
+  Closed R = (p : Term) → p ∈ U → ¬ T (isNewAbove ms R p)
 
-  new-not : (R : List Term) (p : Term) → T (new ms R p) → ¬ T (touch ms R p)
+  new-not : (R : List Term) (p : Term) → T (isNewAbove ms R p) → ¬ T (touch ms R p)
   new-not R (con r) y k = y
   new-not R (app f a b) y k = T-not (touch ms R (app f a b)) (and-l (not (touch ms R (app f a b))) (touch ms R a || touch ms R b) y) k
 
@@ -47,7 +47,7 @@ module _ (U : List Term) (ms : List (Term × Term)) where
   unfolding Closed
   grow-closed zero R [] b h = λ p m y. elim (h p m) [ inl k ↦ new-not R p y k | inr k ↦ List·Memᴰ·not-nil k ]
   grow-closed zero R (x ∷ l) b h = λ p m y. omega arith
-  grow-closed (suc n) R l b h = go (λ Q. grow-closed n Q) (first-is (new ms R) U)
+  grow-closed (suc n) R l b h = go (λ Q. grow-closed n Q) (first-is (isNewAbove ms R) U)
     where
       rest : (p : Term) (k : List Term) → ((t : Term) → t ∈ l → t ≢ p → t ∈ k) → (t : Term) → T (touch ms R t) ⊎ (t ∈ l)
           → T (touch ms (p ∷ R) t) ⊎ (t ∈ k)
@@ -58,7 +58,7 @@ module _ (U : List Term) (ms : List (Term × Term)) where
       ]
 
       go : ((Q k : List Term) → length k ≤ n → ((t : Term) → t ∈ U → T (touch ms Q t) ⊎ (t ∈ k)) → Closed (grow U ms n Q))
-          → {o : Option Term} → Found (new ms R) U o → Closed (elim o [ none ↦ R | some p ↦ (grow U ms) n (p ∷ R) ])
+          → {o : Option Term} → FirstFound (isNewAbove ms R) U o → Closed (elim o [ none ↦ R | some p ↦ (grow U ms) n (p ∷ R) ])
       go ih (nowhere q) = q
       go ih (at {a = p} m y) =
           let (k, e, v) = less {a = p} {l = l} (elim (h p m) [ inl k ↦ absurd (new-not R p y k) | inr k ↦ k ]) in
@@ -68,9 +68,9 @@ module _ (U : List Term) (ms : List (Term × Term)) where
   grow-all : (P : Term → Type 0) → ((f : ℕ) (a b r : Term) → app f a b ∈ U → P r → T (agree ms a r) ⊎ T (agree ms b r) → P (app f a b))
       → (n : ℕ) (R : List Term) → ((t : Term) → t ∈ R → P t) → (t : Term) → t ∈ (grow U ms) n R → P t
   grow-all P s zero R h = h
-  grow-all P s (suc n) R h = go (λ Q. grow-all P s n Q) (first-is (new ms R) U)
+  grow-all P s (suc n) R h = go (λ Q. grow-all P s n Q) (first-is (isNewAbove ms R) U)
     where
-      added : (p : Term) → p ∈ U → T (new ms R p) → P p
+      added : (p : Term) → p ∈ U → T (isNewAbove ms R p) → P p
       added (con r) m y = absurd y
       added (app f a b) m y =
           elim (or-e (touch ms R a) (touch ms R b) (and-r (not (touch ms R (app f a b))) (touch ms R a || touch ms R b) y)) [
@@ -79,51 +79,51 @@ module _ (U : List Term) (ms : List (Term × Term)) where
           ]
 
       go : ((Q : List Term) → ((t : Term) → t ∈ Q → P t) → (t : Term) → t ∈ (grow U ms) n Q → P t)
-          → {o : Option Term} → Found (new ms R) U o → (t : Term) → t ∈ elim o [ none ↦ R | some p ↦ (grow U ms) n (p ∷ R) ] → P t
+          → {o : Option Term} → FirstFound (isNewAbove ms R) U o → (t : Term) → t ∈ elim o [ none ↦ R | some p ↦ (grow U ms) n (p ∷ R) ] → P t
       go ih (nowhere q) t i = h t i
       go ih (at {a = p} m y) t i = ih (p ∷ R) (λ u j. elim (List·Memᴰ·cases-cons j) [ inl e ↦ subst P (sym e) (added p m y) | inr k ↦ h u k ]) t i
 
   grow-keeps : (n : ℕ) (R : List Term) (t : Term) → t ∈ R → t ∈ (grow U ms) n R
   grow-keeps zero R t m = m
   grow-keeps (suc n) R t m =
-      elim (first (new ms R) U) as (λ o. t ∈ elim o [ none ↦ R | some p ↦ (grow U ms) n (p ∷ R) ])
+      elim (firstPassing (isNewAbove ms R) U) as (λ o. t ∈ elim o [ none ↦ R | some p ↦ (grow U ms) n (p ∷ R) ])
       [ none ↦ m | some p ↦ grow-keeps n (p ∷ R) t (List·Memᴰ·tail m) ]
 
 touch-path : (ms : List (Term × Term)) (R : List Term) (s t : Term) → find ms s ≡ find ms t → T (touch ms R s) → T (touch ms R t)
 touch-path ms R s t e y = subst (λ n. T (any (λ r. eqt n (find ms r)) R)) e y
 
 module _ (σ : State) (v : Valid σ) where
-  same-name : {s t : Term} → Equivalent σ s t → find (names σ) s ≡ find (names σ) t
-  same-name {s} {t} c = eqt→eq (find (names σ) s) (find (names σ) t) (alike-i (σ .terms) (σ .equals) c)
+  same-name : {s t : Term} → Equivalent σ s t → find (mergesOf σ) s ≡ find (mergesOf σ) t
+  same-name {s} {t} c = eqt→eq (find (mergesOf σ) s) (find (mergesOf σ) t) (alike-i (σ .terms) (σ .equals) c)
 
-  pub agree-e : {s t : Term} → s ∈ σ .terms → t ∈ σ .terms → T (agree (names σ) s t) → Equivalent σ s t
+  pub agree-e : {s t : Term} → s ∈ σ .terms → t ∈ σ .terms → T (agree (mergesOf σ) s t) → Equivalent σ s t
   agree-e i j y = alike-e (σ .terms) (σ .equals) (v .arguments) i j y
 
-  pub above-i : {t s : Term} → Reaches σ t s → T (touch (names σ) (above σ t) s)
+  pub above-i : {t s : Term} → Reaches σ t s → T (touch (mergesOf σ) (above σ t) s)
   unfolding Closed
   above-i {t} (from {s} c) =
-      any-i (agree (names σ) s) (grow-keeps (σ .terms) (names σ) (length (σ .terms)) (t ∷ []) t (List·Memᴰ·head refl))
-      (eq→eqt (find (names σ) s) (find (names σ) t) (sym (same-name c)))
+      any-i (agree (mergesOf σ) s) (grow-keeps (σ .terms) (mergesOf σ) (length (σ .terms)) (t ∷ []) t (List·Memᴰ·head refl))
+      (eq→eqt (find (mergesOf σ) s) (find (mergesOf σ) t) (sym (same-name c)))
   above-i {t} (up {u} {s} {a} {b} {f} r m e c) =
-      touch-path (names σ) (above σ t) (app f a b) s (same-name c) (go (above-i r) (or-not (touch (names σ) (above σ t) (app f a b))))
+      touch-path (mergesOf σ) (above σ t) (app f a b) s (same-name c) (go (above-i r) (or-not (touch (mergesOf σ) (above σ t) (app f a b))))
     where
-      arg : T (touch (names σ) (above σ t) u) → T (touch (names σ) (above σ t) a || touch (names σ) (above σ t) b)
+      arg : T (touch (mergesOf σ) (above σ t) u) → T (touch (mergesOf σ) (above σ t) a || touch (mergesOf σ) (above σ t) b)
       arg y = elim e [
-        | inl p ↦ or-l (touch (names σ) (above σ t) a) (touch (names σ) (above σ t) b) (touch-path (names σ) (above σ t) u a (same-name p) y)
-        | inr p ↦ or-r (touch (names σ) (above σ t) a) (touch (names σ) (above σ t) b) (touch-path (names σ) (above σ t) u b (same-name p) y)
+        | inl p ↦ or-l (touch (mergesOf σ) (above σ t) a) (touch (mergesOf σ) (above σ t) b) (touch-path (mergesOf σ) (above σ t) u a (same-name p) y)
+        | inr p ↦ or-r (touch (mergesOf σ) (above σ t) a) (touch (mergesOf σ) (above σ t) b) (touch-path (mergesOf σ) (above σ t) u b (same-name p) y)
       ]
 
-      go : T (touch (names σ) (above σ t) u) → T (touch (names σ) (above σ t) (app f a b)) ⊎ ¬ T (touch (names σ) (above σ t) (app f a b))
-          → T (touch (names σ) (above σ t) (app f a b))
+      go : T (touch (mergesOf σ) (above σ t) u) → T (touch (mergesOf σ) (above σ t) (app f a b)) ⊎ ¬ T (touch (mergesOf σ) (above σ t) (app f a b))
+          → T (touch (mergesOf σ) (above σ t) (app f a b))
       go y (inl k) = k
-      go y (inr n) = absurd (grow-closed (σ .terms) (names σ) (length (σ .terms)) (t ∷ []) (σ .terms) (omega arith) (λ s i. inr i) (app f a b) m
-          (and-i (not (touch (names σ) (above σ t) (app f a b))) (touch (names σ) (above σ t) a || touch (names σ) (above σ t) b)
-          (not-T (touch (names σ) (above σ t) (app f a b)) n) (arg y)))
+      go y (inr n) = absurd (grow-closed (σ .terms) (mergesOf σ) (length (σ .terms)) (t ∷ []) (σ .terms) (omega arith) (λ s i. inr i) (app f a b) m
+          (and-i (not (touch (mergesOf σ) (above σ t) (app f a b))) (touch (mergesOf σ) (above σ t) a || touch (mergesOf σ) (above σ t) b)
+          (not-T (touch (mergesOf σ) (above σ t) (app f a b)) n) (arg y)))
 
-  above-e : {t s : Term} → t ∈ σ .terms → s ∈ σ .terms → T (touch (names σ) (above σ t) s) → Reaches σ t s
+  above-e : {t s : Term} → t ∈ σ .terms → s ∈ σ .terms → T (touch (mergesOf σ) (above σ t) s) → Reaches σ t s
   above-e {t} {s} i j y =
-      let (r, m, z) = any-e (agree (names σ) s) (above σ t) y in
-      let (k, h) = grow-all (σ .terms) (names σ) (λ r. (r ∈ σ .terms) × Reaches σ t r)
+      let (r, m, z) = any-e (agree (mergesOf σ) s) (above σ t) y in
+      let (k, h) = grow-all (σ .terms) (mergesOf σ) (λ r. (r ∈ σ .terms) × Reaches σ t r)
       (λ f a b r m p e. (
         m,
         up (p .1) m
@@ -156,27 +156,27 @@ upto-e (suc n) {r} m = go (λ k. upto-e n k) (List·Memᴰ·cases-cons m)
     go ih (inr k) = omega (arith, ih k)
 
 module _ (σ : State) (v : Valid σ) where
-  pub held-i : {t : Term} → Held σ t → T (held (names σ) σ t)
-  held-i {t} (r, b, c) = any-i (λ r. agree (names σ) t (σ .value r)) (upto-i b) (alike-i (σ .terms) (σ .equals) c)
+  pub held-i : {t : Term} → Held σ t → T (held (mergesOf σ) σ t)
+  held-i {t} (r, b, c) = any-i (λ r. agree (mergesOf σ) t (σ .value r)) (upto-i b) (alike-i (σ .terms) (σ .equals) c)
 
-  pub held-e : {t : Term} → t ∈ σ .terms → T (held (names σ) σ t) → Held σ t
+  pub held-e : {t : Term} → t ∈ σ .terms → T (held (mergesOf σ) σ t) → Held σ t
   held-e {t} m y =
-      let (r, i, z) = any-e (λ r. agree (names σ) t (σ .value r)) (upto (σ .header .registers)) y in
+      let (r, i, z) = any-e (λ r. agree (mergesOf σ) t (σ .value r)) (upto (σ .header .registers)) y in
       (r, upto-e (σ .header .registers) i, agree-e σ v m (v .values r (upto-e (σ .header .registers) i)) z)
 
-  pub kept-is : (t : Term) → t ∈ σ .terms → T (all (kept (names σ) σ (above σ t)) (σ .terms)) ↔ Kept σ t
+  pub kept-is : (t : Term) → t ∈ σ .terms → T (all (kept (mergesOf σ) σ (above σ t)) (σ .terms)) ↔ Kept σ t
   kept-is t i = (
-    λ y f a b m r. out f a b m (all-e (kept (names σ) σ (above σ t)) y m) (above-climbs r),
-    λ h. all-i (kept (names σ) σ (above σ t)) (σ .terms) (into h),
+    λ y f a b m r. out f a b m (all-e (kept (mergesOf σ) σ (above σ t)) y m) (above-climbs r),
+    λ h. all-i (kept (mergesOf σ) σ (above σ t)) (σ .terms) (into h),
   )
     where
       reached : Term → Bool
-      reached = touch (names σ) (above σ t)
+      reached = touch (mergesOf σ) (above σ t)
 
       hd : Term → Bool
-      hd = held (names σ) σ
+      hd = held (mergesOf σ) σ
 
-      out : (f : ℕ) (a b : Term) → app f a b ∈ σ .terms → T (kept (names σ) σ (above σ t) (app f a b)) → Reaches σ t a ⊎ Reaches σ t b
+      out : (f : ℕ) (a b : Term) → app f a b ∈ σ .terms → T (kept (mergesOf σ) σ (above σ t) (app f a b)) → Reaches σ t a ⊎ Reaches σ t b
           → Held σ (app f a b) × Held σ a × Held σ b
       out f a b m y r =
           let (j, k) = v .arguments f a b m in
@@ -191,7 +191,7 @@ module _ (σ : State) (v : Valid σ) where
                 (held-e m (and-l (hd (app f a b)) (hd a && hd b) h), held-e j (and-l (hd a) (hd b) g), held-e k (and-r (hd a) (hd b) g))
           ]
 
-      into : Kept σ t → (p : Term) → p ∈ σ .terms → T (kept (names σ) σ (above σ t) p)
+      into : Kept σ t → (p : Term) → p ∈ σ .terms → T (kept (mergesOf σ) σ (above σ t) p)
       into h (con r) m = tt
       into h (app f a b) m =
           let (j, k) = v .arguments f a b m in
@@ -208,15 +208,15 @@ module _ (σ : State) (v : Valid σ) where
 
 -- above a computed term all is held, or something is exposed
 pub exposed-or-kept : (σ : State) → Valid σ → (t : Term) → t ∈ σ .terms → Exposed (σ .terms) (σ .equals) (Held σ) t ⊎ Kept σ t
-exposed-or-kept σ v t i = go (or-not (all (kept (names σ) σ (above σ t)) (σ .terms)))
+exposed-or-kept σ v t i = go (or-not (all (kept (mergesOf σ) σ (above σ t)) (σ .terms)))
   where
     reached : Term → Bool
-    reached = touch (names σ) (above σ t)
+    reached = touch (mergesOf σ) (above σ t)
 
     hd : Term → Bool
-    hd = held (names σ) σ
+    hd = held (mergesOf σ) σ
 
-    witness : (p : Term) → p ∈ σ .terms → ¬ T (kept (names σ) σ (above σ t) p) → Exposed (σ .terms) (σ .equals) (Held σ) t
+    witness : (p : Term) → p ∈ σ .terms → ¬ T (kept (mergesOf σ) σ (above σ t) p) → Exposed (σ .terms) (σ .equals) (Held σ) t
     witness (con r) m n = absurd (n tt)
     witness (app f a b) m n =
         let (j, k) = v .arguments f a b m in
@@ -233,10 +233,10 @@ exposed-or-kept σ v t i = go (or-not (all (kept (names σ) σ (above σ t)) (σ
               (and-i (hd (app f a b)) (hd a && hd b) (held-i σ v (h .0)) (and-i (hd a) (hd b) (held-i σ v (h .1)) (held-i σ v (h .2)))));
         }
 
-    go : T (all (kept (names σ) σ (above σ t)) (σ .terms)) ⊎ ¬ T (all (kept (names σ) σ (above σ t)) (σ .terms))
+    go : T (all (kept (mergesOf σ) σ (above σ t)) (σ .terms)) ⊎ ¬ T (all (kept (mergesOf σ) σ (above σ t)) (σ .terms))
         → Exposed (σ .terms) (σ .equals) (Held σ) t ⊎ Kept σ t
     go (inl y) = inr (kept-is σ v t i .0 y)
-    go (inr n) = let (p, m, k) = all-n (kept (names σ) σ (above σ t)) (σ .terms) n in inl (witness p m k)
+    go (inr n) = let (p, m, k) = all-n (kept (mergesOf σ) σ (above σ t)) (σ .terms) n in inl (witness p m k)
 
 memo-is : (σ : State) (x f y z : ℕ) → Valid σ → Fits (σ .header) (Apply x f y z) → T (coherentLetter σ (Apply x f y z)) ↔ Memoizing σ x f y z
 memo-is σ x f y z v w = (out, into)
@@ -245,7 +245,7 @@ memo-is σ x f y z v w = (out, into)
     t = app f (σ .value y) (σ .value z)
 
     ms : List (Term × Term)
-    ms = names (after σ (Apply x f y z))
+    ms = mergesOf (after σ (Apply x f y z))
 
     old : Bool
     old = any (agree ms t) (σ .terms)
@@ -280,8 +280,8 @@ fine-is σ (Apply x f y z) v w = memo-is σ x f y z v w
 fine-is σ (Equal x y) v w =
     let p = kept-is σ v (σ .value x) (v .values x (w .0)) in
     let q = kept-is σ v (σ .value y) (v .values y (w .1)) in
-    let c = all (kept (names σ) σ (above σ (σ .value x))) (σ .terms) in
-    let d = all (kept (names σ) σ (above σ (σ .value y))) (σ .terms) in
+    let c = all (kept (mergesOf σ) σ (above σ (σ .value x))) (σ .terms) in
+    let d = all (kept (mergesOf σ) σ (above σ (σ .value y))) (σ .terms) in
     (λ t. (p .0 (and-l c d t), q .0 (and-r c d t)), λ h. and-i c d (p .1 (h .0)) (q .1 (h .1)))
 fine-is σ (Unequal x y) v w = (λ t. tt, λ t. tt)
 
@@ -296,40 +296,40 @@ coherent-is (ρ ▸ a) w =
 
 pub feasible-is : (σ : State) → Valid σ → T (feasible σ) ↔ Feasible σ
 feasible-is σ v = (
-  λ y. corollary-2 σ v .1 (λ c. T-not (agree (names σ) (c .0) (c .1)) (all-e apart y (c .2)) (alike-i (σ .terms) (σ .equals) (c .3))),
+  λ y. corollary-2 σ v .1 (λ c. T-not (agree (mergesOf σ) (c .0) (c .1)) (all-e apart y (c .2)) (alike-i (σ .terms) (σ .equals) (c .3))),
   λ f. all-i apart (σ .unequals) (λ p m. let (i, j) = v .unequal-sides (p .0) (p .1) m in
-      not-T (agree (names σ) (p .0) (p .1)) (λ y. corollary-2 σ v .0 f (p .0, p .1, m, agree-e σ v i j y))),
+      not-T (agree (mergesOf σ) (p .0) (p .1)) (λ y. corollary-2 σ v .0 f (p .0, p .1, m, agree-e σ v i j y))),
 )
   where
     apart : Term × Term → Bool
-    apart p = not (agree (names σ) (p .0) (p .1))
+    apart p = not (agree (mergesOf σ) (p .0) (p .1))
 
 pub clash-or-feasible : (σ : State) → Valid σ → Clash σ ⊎ Feasible σ
 clash-or-feasible σ v = go (or-not (feasible σ))
   where
     apart : Term × Term → Bool
-    apart p = not (agree (names σ) (p .0) (p .1))
+    apart p = not (agree (mergesOf σ) (p .0) (p .1))
 
     go : T (feasible σ) ⊎ ¬ T (feasible σ) → Clash σ ⊎ Feasible σ
     go (inl y) = inr (feasible-is σ v .0 y)
     go (inr n) =
         let (p, m, k) = all-n apart (σ .unequals) n in
         let (i, j) = v .unequal-sides (p .0) (p .1) m in
-        elim (or-not (agree (names σ) (p .0) (p .1))) [
+        elim (or-not (agree (mergesOf σ) (p .0) (p .1))) [
           | inl y ↦ inl (p .0, p .1, m, agree-e σ v i j y)
-          | inr o ↦ absurd (k (not-T (agree (names σ) (p .0) (p .1)) o))
+          | inr o ↦ absurd (k (not-T (agree (mergesOf σ) (p .0) (p .1)) o))
         ]
 
 pub fails-is : (P : Trace → Type 0) (p : Trace → Bool) → ((ρ : Trace) → WellFormed ρ → T (p ρ) ↔ P ρ) → ((h : Header) → P (begin h))
-    → (ρ : Trace) → WellFormed ρ → Judged P ρ (fails p ρ)
+    → (ρ : Trace) → WellFormed ρ → FirstFailure P ρ (firstFailing p ρ)
 fails-is P p e b (begin h) w = b h
-fails-is P p e b (ρ ▸ a) w = go (fails p ρ) (fails-is P p e b ρ (w .0))
+fails-is P p e b (ρ ▸ a) w = go (firstFailing p ρ) (fails-is P p e b ρ (w .0))
   where
-    last : P ρ → (t : Bool) → p (ρ ▸ a) ≡ t → Judged P (ρ ▸ a) (elim t [ true ↦ 0 | false ↦ suc (size ρ) ])
+    last : P ρ → (t : Bool) → p (ρ ▸ a) ≡ t → FirstFailure P (ρ ▸ a) (elim t [ true ↦ 0 | false ↦ suc (size ρ) ])
     last h true q = e (ρ ▸ a) w .0 (subst T (sym q) tt)
     last h false q = inr (refl, h, λ k. subst T q (e (ρ ▸ a) w .1 k))
 
-    go : (k : ℕ) → Judged P ρ k → Judged P (ρ ▸ a) (elim k [ zero ↦ elim (p (ρ ▸ a)) [ true ↦ 0 | false ↦ suc (size ρ) ] | suc k ↦ suc k ])
+    go : (k : ℕ) → FirstFailure P ρ k → FirstFailure P (ρ ▸ a) (elim k [ zero ↦ elim (p (ρ ▸ a)) [ true ↦ 0 | false ↦ suc (size ρ) ] | suc k ↦ suc k ])
     go zero h = last h (p (ρ ▸ a)) refl
     go (suc k) h = inl h
 

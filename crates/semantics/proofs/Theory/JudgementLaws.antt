@@ -16,7 +16,7 @@ use Rattle.semantics.proofs.Theory.Booleans.{of-true, of-false, is-true
 use Rattle.semantics.proofs.Theory.Facts.{state-valid}
 use Rattle.semantics.specs.Models.{Feasible}
 use Rattle.semantics.specs.Coherence.{Coherent}
-use Rattle.semantics.specs.Judgement.{size, FailsAt, Judged}
+use Rattle.semantics.specs.Judgement.{size, FailsAt, FirstFailure}
 use Rattle.semantics.specs.Judge.{coherent, feasible}
 use Rattle.semantics.proofs.Theory.Judge.{coherent-is, feasible-is, fails-is}
 use Rattle.semantics.specs.Judgement.{Longest, Judgement}
@@ -59,7 +59,7 @@ module _ (P : Trace → Type 0) (closed : PrefixClosed P) where
   fails-unique (ρ ▸ a) j k (inr (e, p, n)) (inl g) = absurd (failed ρ k g p)
   fails-unique (ρ ▸ a) j k (inr (e, p, n)) (inr (q, r, m)) = e ∙ sym q
 
-  pub judged-unique : (ρ : Trace) (j k : ℕ) → Judged P ρ j → Judged P ρ k → j ≡ k
+  pub judged-unique : (ρ : Trace) (j k : ℕ) → FirstFailure P ρ j → FirstFailure P ρ k → j ≡ k
   judged-unique ρ zero zero f g = refl
   judged-unique ρ zero (suc k) f g = absurd (failed ρ (suc k) g f)
   judged-unique ρ (suc j) zero f g = absurd (failed ρ (suc j) f g)
@@ -119,17 +119,17 @@ longest-unique ρ π κ l m =
     begins-same (l .beginning) (m .beginning) (omega (arith, l .longest κ (m .beginning) (m .coherent), m .longest π (l .beginning) (l .coherent)))
 
 -- ── the letters of a run ──
-pub incoherent-is : (ρ : Trace) → WellFormed ρ → Judged Coherent ρ (incoherentLetter ρ)
+pub incoherent-is : (ρ : Trace) → WellFormed ρ → FirstFailure Coherent ρ (incoherentLetter ρ)
 unfolding incoherentLetter
 incoherent-is ρ w = fails-is Coherent coherent coherent-is (λ h. tt) ρ w
 
-pub first-infeasible-is : (ρ : Trace) → WellFormed ρ → Judged (λ π. Feasible (state π)) ρ (firstInfeasible ρ)
+pub first-infeasible-is : (ρ : Trace) → WellFormed ρ → FirstFailure (λ π. Feasible (state π)) ρ (firstInfeasible ρ)
 unfolding firstInfeasible
 first-infeasible-is ρ w =
     fails-is FeasibleTrace (λ π. feasible (state π)) (λ π v. feasible-is (state π) (state-valid π v))
     (λ h. feasible-is (start h) (state-valid (begin h) tt) .0 tt) ρ w
 
-pub first-infeasible-unique : (ρ : Trace) → WellFormed ρ → (k : ℕ) → Judged (λ π. Feasible (state π)) ρ k → k ≡ firstInfeasible ρ
+pub first-infeasible-unique : (ρ : Trace) → WellFormed ρ → (k : ℕ) → FirstFailure (λ π. Feasible (state π)) ρ k → k ≡ firstInfeasible ρ
 first-infeasible-unique ρ w k j = judged-unique FeasibleTrace feasible-closed ρ k (firstInfeasible ρ) j (first-infeasible-is ρ w)
 
 pub judgement-is : (ρ : Trace) → WellFormed ρ → Judgement ρ (incoherentLetter ρ) (infeasibleLetter ρ)
@@ -146,11 +146,11 @@ pub judgement-unique : (ρ : Trace) (i j k l : ℕ) → Judgement ρ i j → Jud
 judgement-unique ρ i j k l p q = (
   judged-unique Coherent coherent-closed ρ i k (p .coherence) (q .coherence),
   judged-unique FeasibleTrace feasible-closed (p .part) j l (p .feasibility)
-      (subst (λ π. Judged FeasibleTrace π l) (longest-unique ρ (q .part) (p .part) (q .longest) (p .longest)) (q .feasibility)),
+      (subst (λ π. FirstFailure FeasibleTrace π l) (longest-unique ρ (q .part) (p .part) (q .longest) (p .longest)) (q .feasibility)),
 )
 
 -- The letter behind the longest coherent beginning is the incoherent one.
-pub part-size : (ρ : Trace) → WellFormed ρ → (k : ℕ) → Judged Coherent ρ (suc k) → size (coherentPart ρ) ≡ k
+pub part-size : (ρ : Trace) → WellFormed ρ → (k : ℕ) → FirstFailure Coherent ρ (suc k) → size (coherentPart ρ) ≡ k
 part-size (begin h) w k f = absurd f
 part-size (ρ ▸ a) w k (inl f) =
     ap size (part-shorter ρ a (λ t. failed Coherent coherent-closed ρ (suc k) f ((coherent-is (ρ ▸ a) w .0 t) .0))) ∙ part-size ρ (w .0) k f

@@ -10,7 +10,7 @@ use lib.Dec.{T}
 use lib.ListN.{length, take, drop}
 use Rattle.semantics.specs.Terms.{_∈_}
 use Rattle.semantics.proofs.Theory.Booleans.{or-not, and-l, and-r, and-i, or-e, or-l, or-r}
-use Rattle.semantics.specs.Lists.{any, all, first}
+use Rattle.semantics.specs.Lists.{any, all, firstPassing}
 
 module _ {A : Type 0} where
   pub any-e : (p : A → Bool) (l : List A) → T (any p l) → (a : A) × (a ∈ l) × T (p a)
@@ -42,19 +42,19 @@ module _ {A : Type 0} where
       go ih (inl y) = let (a, m, k) = ih (λ t. n (and-i (p x) (all p xs) y t)) in (a, List·Memᴰ·tail m, k)
 
   -- what the first element that passes is, and that none passes where there is none
-  pub data Found (p : A → Bool) (l : List A) : Option A → Type 0 where
-    at : {a : A} → a ∈ l → T (p a) → Found p l (some a)
-    nowhere : ((a : A) → a ∈ l → ¬ T (p a)) → Found p l none
+  pub data FirstFound (p : A → Bool) (l : List A) : Option A → Type 0 where
+    at : {a : A} → a ∈ l → T (p a) → FirstFound p l (some a)
+    nowhere : ((a : A) → a ∈ l → ¬ T (p a)) → FirstFound p l none
 
-  pub first-is : (p : A → Bool) (l : List A) → Found p l (first p l)
+  pub first-is : (p : A → Bool) (l : List A) → FirstFound p l (firstPassing p l)
   first-is p [] = nowhere (λ a m. absurd (List·Memᴰ·not-nil m))
   first-is p (x ∷ xs) = head (first-is p xs) (p x) refl
     where
-      rest : {o : Option A} → p x ≡ false → Found p xs o → Found p (x ∷ xs) o
+      rest : {o : Option A} → p x ≡ false → FirstFound p xs o → FirstFound p (x ∷ xs) o
       rest e (at m t) = at (List·Memᴰ·tail m) t
       rest e (nowhere h) = nowhere (λ a m t. elim (List·Memᴰ·cases-cons m) [ inl q ↦ subst T (ap p q ∙ e) t | inr k ↦ h a k t ])
 
-      head : Found p xs (first p xs) → (b : Bool) → p x ≡ b → Found p (x ∷ xs) (elim b [ true ↦ some x | false ↦ first p xs ])
+      head : FirstFound p xs (firstPassing p xs) → (b : Bool) → p x ≡ b → FirstFound p (x ∷ xs) (elim b [ true ↦ some x | false ↦ firstPassing p xs ])
       head ih true e = at (List·Memᴰ·head refl) (subst T (sym e) tt)
       head ih false e = rest e ih
 

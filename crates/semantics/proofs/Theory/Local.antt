@@ -5,7 +5,7 @@ use mathlib.Core.List.{List·Memᴰ·head, List·Memᴰ·cases-cons}
 use Prim.Native.Nat.{ℕ, _<_}
 use Rattle.letters.specs.declared.Letter.the-variants.{Equal}
 use Rattle.semantics.specs.Terms.{_∈_, Term, app, State, after}
-use Rattle.semantics.specs.Closure.{reflexive, test, symmetric, transitive, congruence, Equivalent, Held}
+use Rattle.semantics.specs.Closure.{reflexive, Closure, symmetric, transitive, congruence, Equivalent, Held}
 use Rattle.semantics.specs.Coherence.{Early}
 use Rattle.semantics.proofs.Theory.Climb.{Reaches, from, up, reaches-equal, climbs-above}
 use Rattle.semantics.specs.Window.{Same, Result}
@@ -25,7 +25,7 @@ module _ (σ : State) (v : Valid σ) (x y : ℕ) (xb : x < σ .header .registers
   -- the local closure is part of the closure with the test
   pub local-sound : {r s : ℕ} → Local σ x y r s → Same (after σ (Equal x y)) r s
   local-sound (class p q c) = more-tests _ c
-  local-sound tested = test (List·Memᴰ·head refl)
+  local-sound tested = Closure.test (List·Memᴰ·head refl)
   local-sound (turned l) = symmetric (local-sound l)
   local-sound (joined l k) = transitive (local-sound l) (local-sound k)
   local-sound (lifted p q m n l k) =
@@ -118,9 +118,9 @@ module _ (σ : State) (v : Valid σ) (x y : ℕ) (xb : x < σ .header .registers
 
     equate-e : {s t : Term} → Equivalent (after σ (Equal x y)) s t → Equivalent σ s t ⊎ Via s t
     equate-e (reflexive m) = inl (reflexive m)
-    equate-e (test {s} {t} m) = elim (List·Memᴰ·cases-cons m) [
+    equate-e (Closure.test {s} {t} m) = elim (List·Memᴰ·cases-cons m) [
       | inl e ↦ inr (via-test (ap (λ (k : Term × Term). k .0) e) (ap (λ (k : Term × Term). k .1) e))
-      | inr k ↦ inl (test k)
+      | inr k ↦ inl (Closure.test k)
     ]
     equate-e (symmetric c) = elim (equate-e c) [ inl d ↦ inl (symmetric d) | inr w ↦ inr (via-turn w) ]
     equate-e (transitive c d) = elim (equate-e c) [

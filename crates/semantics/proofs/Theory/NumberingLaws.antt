@@ -17,15 +17,15 @@ use Rattle.semantics.proofs.Theory.TermEquality.{eqt→eq, eqt-refl, eq
 use Rattle.semantics.specs.Closure.{Closure, symmetric}
 use Rattle.semantics.specs.Decide.{find, merges, alike}
 use Rattle.semantics.proofs.Theory.Decide.{alike-i, alike-e}
-use Rattle.semantics.specs.Firsts.{firstsAfter, place}
+use Rattle.semantics.specs.Firsts.{firstsAfter, firstPlace}
 use Rattle.semantics.proofs.Theory.FirstsLaws.{place-first, place-in, place-both, firsts-append, firsts-seen, firsts-new, firsts-extends, firsts-all, firsts-distinct, none-repeats, no-repeats-more, firsts-in, place-below}
 use Rattle.semantics.specs.Tables.{Row, rowOf, sameCall}
-use Rattle.semantics.specs.ShownTables.{applications, classesOf, numberIn}
-use Rattle.semantics.specs.Numbering.{Filled, Numbering, Listing}
+use Rattle.semantics.specs.ShownTables.{applications, classesOf, classValue}
+use Rattle.semantics.specs.Numbering.{Filled, Numbering, RowListing}
 
 module _ (U : List Term) (E : List (Term × Term)) where
-  pub number-below : (t : Term) → numberIn U E t < suc (length (classesOf U E))
-  unfolding numberIn
+  pub number-below : (t : Term) → classValue U E t < suc (length (classesOf U E))
+  unfolding classValue
   number-below t = omega (arith, place-below (alike U E t) 1 (classesOf U E) (omega arith))
 
 module _ (U : List Term) (E : List (Term × Term)) where
@@ -38,12 +38,12 @@ module _ (U : List Term) (E : List (Term × Term)) where
   alike-name : (s t : Term) → T (alike U E s t) → name s ≡ name t
   alike-name s t y = eqt→eq (name s) (name t) y
 
-  number-name : (s t : Term) → name s ≡ name t → numberIn U E s ≡ numberIn U E t
-  unfolding numberIn
-  number-name s t e = ap (λ n. place (λ u. eqt n (name u)) 1 (classesOf U E)) e
+  number-name : (s t : Term) → name s ≡ name t → classValue U E s ≡ classValue U E t
+  unfolding classValue
+  number-name s t e = ap (λ n. firstPlace (λ u. eqt n (name u)) 1 (classesOf U E)) e
 
   -- terms that are equal in the closure have one value
-  pub number-i : {s t : Term} → Closure U E s t → numberIn U E s ≡ numberIn U E t
+  pub number-i : {s t : Term} → Closure U E s t → classValue U E s ≡ classValue U E t
   number-i {s} {t} c = number-name s t (alike-name s t (alike-i U E c))
 
   -- the classes of a beginning of the terms, and what follows
@@ -54,8 +54,8 @@ module _ (U : List Term) (E : List (Term × Term)) where
       (r, ap (firstsAfter (alike U E) []) e ∙ firsts-append (alike U E) [] before after ∙ q)
 
   -- the terms of a beginning have the values 1 to the count of its classes
-  filled : (before after : List Term) → U ≡ before ++ after → Filled (numberIn U E) before (length (firstsAfter (alike U E) [] before))
-  unfolding numberIn
+  filled : (before after : List Term) → U ≡ before ++ after → Filled (classValue U E) before (length (firstsAfter (alike U E) [] before))
+  unfolding classValue
   filled before after e k = (into, out)
     where
       C : List Term
@@ -67,27 +67,27 @@ module _ (U : List Term) (E : List (Term × Term)) where
       are : classesOf U E ≡ firstsAfter (alike U E) [] before ++ rest
       are = (beginning before after e) .1
 
-      into : (1 ≤ k) × (k ≤ length (firstsAfter (alike U E) [] before)) → (t : Term) × (t ∈ before) × (place (alike U E t) 1 (classesOf U E) ≡ k)
+      into : (1 ≤ k) × (k ≤ length (firstsAfter (alike U E) [] before)) → (t : Term) × (t ∈ before) × (firstPlace (alike U E t) 1 (classesOf U E) ≡ k)
       into (a, b) =
           let (pre, x, post, q, n) = split-at C (k - 1) (omega arith) in
           let m : x ∈ C = subst (λ l. x ∈ l) (sym q) (Memᴰ·append-right pre (List·Memᴰ·head refl)) in (
             x,
             elim (firsts-in (alike U E) [] before m) [ inl i ↦ absurd (List·Memᴰ·not-nil i) | inr i ↦ i ],
-            ap (place (alike U E x) 1) (are ∙ ap (λ l. l ++ rest) q ∙ append-assoc pre (x ∷ post) rest)
+            ap (firstPlace (alike U E x) 1) (are ∙ ap (λ l. l ++ rest) q ∙ append-assoc pre (x ∷ post) rest)
                 ∙ place-first (alike U E x) 1 pre (post ++ rest) x (firsts-distinct (alike U E) [] before (none-repeats (alike U E)) pre post x q)
                 (alike-refl x) ∙ omega arith,
           )
 
-      out : (t : Term) × (t ∈ before) × (place (alike U E t) 1 (classesOf U E) ≡ k) → (1 ≤ k) × (k ≤ length (firstsAfter (alike U E) [] before))
+      out : (t : Term) × (t ∈ before) × (firstPlace (alike U E t) 1 (classesOf U E) ≡ k) → (1 ≤ k) × (k ≤ length (firstsAfter (alike U E) [] before))
       out (t, m, q) =
           let h = place-in (alike U E t) 1 C rest (firsts-all (alike U E) alike-refl [] before m) in
-          let g : place (alike U E t) 1 (C ++ rest) ≡ k = ap (place (alike U E t) 1) (sym are) ∙ q in
+          let g : firstPlace (alike U E t) 1 (C ++ rest) ≡ k = ap (firstPlace (alike U E t) 1) (sym are) ∙ q in
           (omega arith, omega arith)
 
   module _ (sub : (f : ℕ) (a b : Term) → app f a b ∈ U → (a ∈ U) × (b ∈ U)) where
     -- computed terms of one value are equal in the closure
-    pub number-e : {s t : Term} → s ∈ U → t ∈ U → numberIn U E s ≡ numberIn U E t → Closure U E s t
-    unfolding numberIn classesOf
+    pub number-e : {s t : Term} → s ∈ U → t ∈ U → classValue U E s ≡ classValue U E t → Closure U E s t
+    unfolding classValue classesOf
     number-e {s} {t} i j e =
         let (x, p, q) = place-both (alike U E s) (alike U E t) 1 (classesOf U E) (firsts-all (alike U E) alike-refl [] U i)
         (firsts-all (alike U E) alike-refl [] U j) e in
@@ -95,8 +95,8 @@ module _ (U : List Term) (E : List (Term × Term)) where
 
     -- the first term of a class has the next value
     pub number-next : (before after : List Term) (t : Term) → U ≡ before ++ t ∷ after → ((s : Term) → s ∈ before → ¬ Closure U E s t)
-        → numberIn U E t ≡ suc (length (firstsAfter (alike U E) [] before))
-    unfolding numberIn classesOf
+        → classValue U E t ≡ suc (length (firstsAfter (alike U E) [] before))
+    unfolding classValue classesOf
     number-next before after t e n =
         let C = firstsAfter (alike U E) [] before in
         let new : ¬ T (any (alike U E t) C) = λ y.
@@ -106,7 +106,7 @@ module _ (U : List Term) (E : List (Term × Term)) where
         (eq→eqt (name s) (name t) (sym (alike-name t s z)))) in
         let (r, q) = firsts-extends (alike U E) (C ++ t ∷ []) after in
         let are : classesOf U E ≡ C ++ t ∷ r = whole before after t e new ∙ q ∙ append-assoc C (t ∷ []) r in
-        ap (place (alike U E t) 1) are ∙ place-first (alike U E t) 1 C r t new (alike-refl t) ∙ omega arith
+        ap (firstPlace (alike U E t) 1) are ∙ place-first (alike U E t) 1 C r t new (alike-refl t) ∙ omega arith
       where
         whole : (before after : List Term) (t : Term) → U ≡ before ++ t ∷ after → ¬ T (any (alike U E t) (firstsAfter (alike U E) [] before))
             → classesOf U E ≡ firstsAfter (alike U E) (firstsAfter (alike U E) [] before ++ t ∷ []) after
@@ -115,7 +115,7 @@ module _ (U : List Term) (E : List (Term × Term)) where
             (firstsAfter (alike U E) [] before) after t new
 
     -- ── it is the numbering of document 01 ──
-    pub numbering : Numbering U E (numberIn U E) (length (classesOf U E))
+    pub numbering : Numbering U E (classValue U E) (length (classesOf U E))
     unfolding classesOf
     numbering = record {
       equal = λ s t i j. (number-e i j, number-i);
@@ -194,9 +194,9 @@ con-app e = let z : _≡_ {A = ℕ} 0 1 = cc in omega arith
 
 module _ (v : Term → ℕ) where
   -- one more term, whose row, if it is an application, is there
-  listing-old : (before : List Term) (rows : List Row) (x : Term) → Listing before v rows
+  listing-old : (before : List Term) (rows : List Row) (x : Term) → RowListing before v rows
       → ((f : ℕ) (s t : Term) → app f s t ≡ x → rowOf v f s t ∈ rows)
-      → Listing (before ++ x ∷ []) v rows
+      → RowListing (before ++ x ∷ []) v rows
   listing-old before rows x h there = record {
     computed = λ r m. let (f, s, t, i, e) = h .computed r m in (f, s, t, Memᴰ·append-left (x ∷ []) i, e);
     complete = λ f s t m. elim (List·Memᴰ·append-cases before m) [
@@ -210,8 +210,8 @@ module _ (v : Term → ℕ) where
   }
 
   -- one more application, whose row is not there
-  listing-new : (before : List Term) (rows : List Row) (f : ℕ) (s t : Term) → Listing before v rows → ¬ T (any (sameCall (rowOf v f s t)) rows)
-      → Listing (before ++ app f s t ∷ []) v (rows ++ rowOf v f s t ∷ [])
+  listing-new : (before : List Term) (rows : List Row) (f : ℕ) (s t : Term) → RowListing before v rows → ¬ T (any (sameCall (rowOf v f s t)) rows)
+      → RowListing (before ++ app f s t ∷ []) v (rows ++ rowOf v f s t ∷ [])
   listing-new before rows f s t h n = record {
     computed = λ r m. elim (List·Memᴰ·append-cases rows m) [
       | inl i ↦ let (g, u, w, j, e) = h .computed r i in (g, u, w, Memᴰ·append-left (app f s t ∷ []) j, e)
@@ -243,7 +243,7 @@ module _ (v : Term → ℕ) where
   module _ (U : List Term)
       (functional : (f : ℕ) (s t u w : Term) → app f s t ∈ U → app f u w ∈ U → v s ≡ v u → v t ≡ v w → v (app f s t) ≡ v (app f u w)) where
     -- an application whose call is listed has its row there
-    listed-call : (before after : List Term) (rows : List Row) (f : ℕ) (s t : Term) → U ≡ before ++ app f s t ∷ after → Listing before v rows
+    listed-call : (before after : List Term) (rows : List Row) (f : ℕ) (s t : Term) → U ≡ before ++ app f s t ∷ after → RowListing before v rows
         → T (any (sameCall (rowOf v f s t)) rows)
         → rowOf v f s t ∈ rows
     listed-call before after rows f s t e h y =
@@ -256,28 +256,28 @@ module _ (v : Term → ℕ) where
         let p : v (app f s t) ≡ v (app g u w) = ap (λ n. v (app n s t)) a ∙ functional g s t u w k′ j b c in
         Memᴰ·cast (row-path a b c p ∙ sym q) m
 
-    listing-from : (before after : List Term) (rows : List Row) → U ≡ before ++ after → Listing before v rows
-        → Listing (before ++ after) v (firstsAfter sameCall rows (applications v after))
+    listing-from : (before after : List Term) (rows : List Row) → U ≡ before ++ after → RowListing before v rows
+        → RowListing (before ++ after) v (firstsAfter sameCall rows (applications v after))
     unfolding applications firstsAfter
-    listing-from before [] rows e h = subst (λ l. Listing l v rows) (sym (append-nil before)) h
+    listing-from before [] rows e h = subst (λ l. RowListing l v rows) (sym (append-nil before)) h
     listing-from before (con r ∷ after) rows e h =
-        subst (λ l. Listing l v (firstsAfter sameCall rows (applications v after))) (append-assoc before (con r ∷ []) after)
+        subst (λ l. RowListing l v (firstsAfter sameCall rows (applications v after))) (append-assoc before (con r ∷ []) after)
         (listing-from (before ++ con r ∷ []) after rows (e ∙ sym (append-assoc before (con r ∷ []) after))
         (listing-old before rows (con r) h (λ f s t q. absurd (con-app q))))
     listing-from before (app f s t ∷ after) rows e h = byTest (any (sameCall (rowOf v f s t)) rows)
-        (λ y. subst (λ k. Listing (before ++ app f s t ∷ after) v k) (sym (firsts-seen sameCall rows (applications v after) (rowOf v f s t) (of-true y)))
+        (λ y. subst (λ k. RowListing (before ++ app f s t ∷ after) v k) (sym (firsts-seen sameCall rows (applications v after) (rowOf v f s t) (of-true y)))
         (moved rows (listing-from (before ++ app f s t ∷ []) after rows (sym′)
         (listing-old before rows (app f s t) h (λ g u w q. there g u w q (listed-call before after rows f s t e h (of-true y)))))))
-        (λ y. subst (λ k. Listing (before ++ app f s t ∷ after) v k) (sym (firsts-new sameCall rows (applications v after) (rowOf v f s t) (of-false y)))
+        (λ y. subst (λ k. RowListing (before ++ app f s t ∷ after) v k) (sym (firsts-new sameCall rows (applications v after) (rowOf v f s t) (of-false y)))
         (moved (rows ++ rowOf v f s t ∷ [])
         (listing-from (before ++ app f s t ∷ []) after (rows ++ rowOf v f s t ∷ []) (sym′) (listing-new before rows f s t h (of-false y)))))
       where
         sym′ : U ≡ before ++ app f s t ∷ [] ++ after
         sym′ = e ∙ sym (append-assoc before (app f s t ∷ []) after)
 
-        moved : (k : List Row) → Listing (before ++ app f s t ∷ [] ++ after) v (firstsAfter sameCall k (applications v after))
-            → Listing (before ++ app f s t ∷ after) v (firstsAfter sameCall k (applications v after))
-        moved k h = subst (λ l. Listing l v (firstsAfter sameCall k (applications v after))) (append-assoc before (app f s t ∷ []) after) h
+        moved : (k : List Row) → RowListing (before ++ app f s t ∷ [] ++ after) v (firstsAfter sameCall k (applications v after))
+            → RowListing (before ++ app f s t ∷ after) v (firstsAfter sameCall k (applications v after))
+        moved k h = subst (λ l. RowListing l v (firstsAfter sameCall k (applications v after))) (append-assoc before (app f s t ∷ []) after) h
 
         there : (g : ℕ) (u w : Term) → app g u w ≡ app f s t → rowOf v f s t ∈ rows → rowOf v g u w ∈ rows
         there g u w q m =
@@ -285,7 +285,7 @@ module _ (v : Term → ℕ) where
             let b : w ≡ t = cc in
             Memᴰ·cast (row-path (cc) (ap v a) (ap v b) (ap v q)) m
 
-    pub listing : Listing U v (firstsAfter sameCall [] (applications v U))
+    pub listing : RowListing U v (firstsAfter sameCall [] (applications v U))
     listing = listing-from [] U [] refl (record {
       computed = λ r m. absurd (List·Memᴰ·not-nil m);
       complete = λ f s t m. absurd (List·Memᴰ·not-nil m);
@@ -305,17 +305,17 @@ call-refl r =
 
 module _ (U : List Term) (v : Term → ℕ) where
   -- a row is not among those before it
-  not-before : {rows : List Row} → Listing U v rows → (earlier later : List Row) (r : Row) → rows ≡ earlier ++ r ∷ later → ¬ (r ∈ earlier)
+  not-before : {rows : List Row} → RowListing U v rows → (earlier later : List Row) (r : Row) → rows ≡ earlier ++ r ∷ later → ¬ (r ∈ earlier)
   not-before h earlier later r e m = h .distinct earlier later r e (any-i (sameCall r) m (call-refl r))
 
   -- rows that go on where others end are not rows
-  no-more : {rows more : List Row} → Listing U v rows → Listing U v more → (later : List Row) (r : Row) → more ≡ rows ++ r ∷ later → ⊥
+  no-more : {rows more : List Row} → RowListing U v rows → RowListing U v more → (later : List Row) (r : Row) → more ≡ rows ++ r ∷ later → ⊥
   no-more {rows} h g later r e =
       let (b, a, f, s, t, q, p, o) = g .ordered rows later r e in
       not-before g rows later r e (Memᴰ·cast p (h .complete f s t (subst (λ l. app f s t ∈ l) (sym q) (Memᴰ·append-right b (List·Memᴰ·head refl)))))
 
   -- rows that agree so far have the same next row
-  next-row : {rows other : List Row} → Listing U v rows → Listing U v other → (earlier l m : List Row) (r s : Row) → rows ≡ earlier ++ r ∷ l → other ≡ earlier ++ s ∷ m
+  next-row : {rows other : List Row} → RowListing U v rows → RowListing U v other → (earlier l m : List Row) (r s : Row) → rows ≡ earlier ++ r ∷ l → other ≡ earlier ++ s ∷ m
       → r ≡ s
   next-row h g earlier l m r s e d =
       let (b, a, f, t, u, q, p, o) = h .ordered earlier l r e in
@@ -334,7 +334,7 @@ module _ (U : List Term) (v : Term → ℕ) where
           let d : u ≡ y = cc in
           row-path (cc) (ap v c) (ap v d) (ap v e)
 
-  module _ (rows other : List Row) (h : Listing U v rows) (g : Listing U v other) where
+  module _ (rows other : List Row) (h : RowListing U v rows) (g : RowListing U v other) where
     agree-from : (earlier l m : List Row) → rows ≡ earlier ++ l → other ≡ earlier ++ m → l ≡ m
     agree-from earlier [] [] e d = refl
     agree-from earlier [] (s ∷ m) e d = absurd (no-more h g m s (d ∙ ap (λ k. k ++ s ∷ m) (sym (e ∙ append-nil earlier))))

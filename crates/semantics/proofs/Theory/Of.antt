@@ -15,7 +15,7 @@ use Rattle.semantics.specs.Window.{Match, Apart}
 use Rattle.semantics.specs.Decide.{agree}
 use Rattle.semantics.proofs.Theory.Decide.{alike-i}
 use Rattle.semantics.specs.Facts.{Valid}
-use Rattle.semantics.specs.Judge.{names, above, kept, feasible}
+use Rattle.semantics.specs.Judge.{mergesOf, above, kept, feasible}
 use Rattle.semantics.proofs.Theory.Judge.{kept-is, agree-e, feasible-is, exposed-or-kept}
 
 -- t is an application of f to arguments in the classes of y and z
@@ -26,24 +26,24 @@ calls ms f y z (app g a b) = eqb g f && (agree ms a y && agree ms b z)
 abbrev parts : List (Term × Term) → Term → Term → Term × Term → Bool
 parts ms s t p = (agree ms (p .0) s && agree ms (p .1) t) || (agree ms (p .1) s && agree ms (p .0) t)
 
-abbrev pub windowOf : State → View
-windowOf σ = record {
-  same = λ r s. agree (names σ) (σ .value r) (σ .value s);
-  apart = λ r s. feasible σ && any (parts (names σ) (σ .value r) (σ .value s)) (σ .unequals);
-  result = λ f a b r. any (λ t. calls (names σ) f (σ .value a) (σ .value b) t && agree (names σ) t (σ .value r)) (σ .terms);
-  ever = λ f a b. any (calls (names σ) f (σ .value a) (σ .value b)) (σ .terms);
-  marked = λ r. not (all (kept (names σ) σ (above σ (σ .value r))) (σ .terms));
+abbrev pub viewOf : State → View
+viewOf σ = record {
+  same = λ r s. agree (mergesOf σ) (σ .value r) (σ .value s);
+  apart = λ r s. feasible σ && any (parts (mergesOf σ) (σ .value r) (σ .value s)) (σ .unequals);
+  result = λ f a b r. any (λ t. calls (mergesOf σ) f (σ .value a) (σ .value b) t && agree (mergesOf σ) t (σ .value r)) (σ .terms);
+  ever = λ f a b. any (calls (mergesOf σ) f (σ .value a) (σ .value b)) (σ .terms);
+  marked = λ r. not (all (kept (mergesOf σ) σ (above σ (σ .value r))) (σ .terms));
   infeasible = not (feasible σ);
 }
 
 module _ (σ : State) (v : Valid σ) where
   abbrev ms : List (Term × Term)
-  ms = names σ
+  ms = mergesOf σ
 
-  agrees : {s t : Term} → Equivalent σ s t → T (agree (names σ) s t)
+  agrees : {s t : Term} → Equivalent σ s t → T (agree (mergesOf σ) s t)
   agrees c = alike-i (σ .terms) (σ .equals) c
 
-  calls-e : (f : ℕ) (y z t : Term) → y ∈ σ .terms → z ∈ σ .terms → t ∈ σ .terms → T (calls (names σ) f y z t) → {s : Term} → Equivalent σ t s
+  calls-e : (f : ℕ) (y z t : Term) → y ∈ σ .terms → z ∈ σ .terms → t ∈ σ .terms → T (calls (mergesOf σ) f y z t) → {s : Term} → Equivalent σ t s
       → Match (σ .terms) (σ .equals) f y z s
   calls-e f y z (con r) i j m k c = absurd k
   calls-e f y z (app g a b) i j m k {s} c =
@@ -59,12 +59,12 @@ module _ (σ : State) (v : Valid σ) where
         gives = c;
       })
 
-  calls-i : (f : ℕ) (y z : Term) {s : Term} (m : Match (σ .terms) (σ .equals) f y z s) → T (calls (names σ) f y z (app f (m .first) (m .second)))
+  calls-i : (f : ℕ) (y z : Term) {s : Term} (m : Match (σ .terms) (σ .equals) f y z s) → T (calls (mergesOf σ) f y z (app f (m .first) (m .second)))
   calls-i f y z m =
       and-i (eqb f f) (agree ms (m .first) y && agree ms (m .second) z) (eqb-refl f)
       (and-i (agree ms (m .first) y) (agree ms (m .second) z) (agrees (m .at-first)) (agrees (m .at-second)))
 
-  pub tracks-of : Tracks σ (windowOf σ)
+  pub tracks-of : Tracks σ (viewOf σ)
   tracks-of = record {
     same = λ r s p q. (agree-e σ v (v .values r p) (v .values s q), agrees);
     apart = λ r s p q. (
@@ -99,7 +99,7 @@ module _ (σ : State) (v : Valid σ) where
     infeasible = ((λ k f. T-not (feasible σ) k (feasible-is σ v .1 f)), (λ n. not-T (feasible σ) (λ k. n (feasible-is σ v .0 k))));
   }
     where
-      parted : (r s : ℕ) → r < σ .header .registers → s < σ .header .registers → T (any (parts (names σ) (σ .value r) (σ .value s)) (σ .unequals))
+      parted : (r s : ℕ) → r < σ .header .registers → s < σ .header .registers → T (any (parts (mergesOf σ) (σ .value r) (σ .value s)) (σ .unequals))
           → Apart σ r s
       parted r s rb sb k =
           let (p, m, y) = any-e (parts ms (σ .value r) (σ .value s)) (σ .unequals) k in
@@ -122,7 +122,7 @@ module _ (σ : State) (v : Valid σ) where
             }
           ]
 
-      parted-i : (r s : ℕ) → Apart σ r s → T (any (parts (names σ) (σ .value r) (σ .value s)) (σ .unequals))
+      parted-i : (r s : ℕ) → Apart σ r s → T (any (parts (mergesOf σ) (σ .value r) (σ .value s)) (σ .unequals))
       parted-i r s m =
           let R = σ .value r in
           let S = σ .value s in

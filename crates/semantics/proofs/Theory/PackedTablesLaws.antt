@@ -17,7 +17,7 @@ use Rattle.traces.proofs.Theory.TraceLaws.{octets-total, octets-length}
 pub use Rattle.traces.proofs.Theory.TraceLaws.{units-length}
 use Rattle.semantics.specs.Terms.{_∈_}
 use Rattle.semantics.specs.Tables.{Row, Tables}
-use Rattle.semantics.specs.PackedTables.{units, rowWidths, rowBytes, wordBytes, secondWritten, rowWord, packTables}
+use Rattle.semantics.specs.PackedTables.{units, rowWidths, rowBytes, wordBytes, secondWritten, packedRow, packTables}
 use Rattle.semantics.specs.TablesRead.{unitsIn, secondMeant, rowFrom, readTables, Packable}
 use Rattle.semantics.proofs.Theory.Lists.{take-front, drop-front}
 
@@ -53,8 +53,8 @@ module _ (w : Edition) (h : Header) where
   sized r f a b c = (f, (a, (byTest (has (h .binary) (r .function)) (λ e. rw e b) (λ e. rw e (pow-pos (w .rowValue))), (c, (pow-pos (w .rowSpare), tt)))))
 
   row-back : (r : Row) → r .function < 2 ^ w .rowFunction → r .first < 2 ^ w .rowValue → r .second < 2 ^ w .rowValue → r .result < 2 ^ w .rowValue
-      → (arity h (r .function) ≡ 1 → r .second ≡ r .first) → rowFrom w h (rowWord w h r) ≡ r
-  unfolding rowFrom rowWord
+      → (arity h (r .function) ≡ 1 → r .second ≡ r .first) → rowFrom w h (packedRow w h r) ≡ r
+  unfolding rowFrom packedRow
   row-back r f a b c one =
       ap (λ (l : List ℕ). record {
         function = getD l 0 0;
@@ -65,11 +65,11 @@ module _ (w : Edition) (h : Header) where
       (split-join (rowWidths w) (r .function ∷ r .first ∷ secondWritten h r ∷ r .result ∷ 0 ∷ []) (sized r f a b c))
       ∙ ap (λ (k : ℕ). record { function = r .function; first = r .first; second = k; result = r .result }) (second-back r one)
 
-  rows-back : (rows : List Row) → ((r : Row) → r ∈ rows → rowFrom w h (rowWord w h r) ≡ r) → map (rowFrom w h) (map (rowWord w h) rows) ≡ rows
+  rows-back : (rows : List Row) → ((r : Row) → r ∈ rows → rowFrom w h (packedRow w h r) ≡ r) → map (rowFrom w h) (map (packedRow w h) rows) ≡ rows
   rows-back [] e = refl
   rows-back (r ∷ rows) e = ap₂ (λ a l. a ∷ l) (e r (List·Memᴰ·head refl)) (rows-back rows (λ s m. e s (List·Memᴰ·tail m)))
 
-  words-fit : (rows : List Row) (k : ℕ) → ((r : Row) → r ∈ rows → rowWord w h r < k) → (n : ℕ) → n ∈ map (rowWord w h) rows → n < k
+  words-fit : (rows : List Row) (k : ℕ) → ((r : Row) → r ∈ rows → packedRow w h r < k) → (n : ℕ) → n ∈ map (packedRow w h) rows → n < k
   words-fit [] k e n m = absurd (List·Memᴰ·not-nil m)
   words-fit (r ∷ rows) k e n m = elim (List·Memᴰ·cases-cons m) [
     | inl q ↦ subst (λ j. j < k) (sym q) (e r (List·Memᴰ·head refl))
@@ -78,18 +78,18 @@ module _ (w : Edition) (h : Header) where
 
   row-fits : (r : Row) → total (rowWidths w) ≡ 8 * rowBytes → r .function < 2 ^ w .rowFunction → r .first < 2 ^ w .rowValue → r .second < 2 ^ w .rowValue
       → r .result < 2 ^ w .rowValue
-      → rowWord w h r < 2 ^ (8 * rowBytes)
-  unfolding rowWord
+      → packedRow w h r < 2 ^ (8 * rowBytes)
+  unfolding packedRow
   row-fits r e f a b c =
-      subst (λ j. rowWord w h r < 2 ^ j) e (join-lt (rowWidths w) (r .function ∷ r .first ∷ secondWritten h r ∷ r .result ∷ 0 ∷ []) (sized r f a b c))
+      subst (λ j. packedRow w h r < 2 ^ j) e (join-lt (rowWidths w) (r .function ∷ r .first ∷ secondWritten h r ∷ r .result ∷ 0 ∷ []) (sized r f a b c))
 
   -- The length of packed tables.
   pub packed-length : (t : Tables) → length (packTables w h t) ≡ wordBytes * (2 + length (t .starts)) + rowBytes * length (t .rows)
   unfolding packTables
   packed-length t =
-      length-append (units wordBytes (t .count ∷ length (t .rows) ∷ t .starts)) (units rowBytes (map (rowWord w h) (t .rows)))
+      length-append (units wordBytes (t .count ∷ length (t .rows) ∷ t .starts)) (units rowBytes (map (packedRow w h) (t .rows)))
       ∙ ap₂ _+_ (units-length wordBytes (t .count ∷ length (t .rows) ∷ t .starts) ∙ omega arith)
-      (units-length rowBytes (map (rowWord w h) (t .rows)) ∙ ap (λ (k : ℕ). rowBytes * k) (length-map (t .rows) (rowWord w h)))
+      (units-length rowBytes (map (packedRow w h) (t .rows)) ∙ ap (λ (k : ℕ). rowBytes * k) (length-map (t .rows) (packedRow w h)))
 
   -- ── the tables come back ──
   pub read-packed : (t : Tables) → Packable w h t → readTables w h (packTables w h t) ≡ t
@@ -100,7 +100,7 @@ module _ (w : Edition) (h : Header) where
       numbers = t .count ∷ length (t .rows) ∷ t .starts
 
       rest : List ℕ
-      rest = units rowBytes (map (rowWord w h) (t .rows))
+      rest = units rowBytes (map (packedRow w h) (t .rows))
 
       small : (n : ℕ) → n ∈ t .count ∷ length (t .rows) ∷ t .starts → n < 2 ^ (8 * wordBytes)
       small n m = elim (List·Memᴰ·cases-cons m) [
@@ -117,7 +117,7 @@ module _ (w : Edition) (h : Header) where
           count-is : {k : ℕ} → k ≡ h .registers → 2 + h .registers ≡ suc (suc k)
           count-is e = omega arith
 
-      behind : drop (wordBytes * (2 + h .registers)) (packTables w h t) ≡ units rowBytes (map (rowWord w h) (t .rows))
+      behind : drop (wordBytes * (2 + h .registers)) (packTables w h t) ≡ units rowBytes (map (packedRow w h) (t .rows))
       behind =
           ap (λ (k : ℕ). drop k (packTables w h t)) (offset (p .registers) (units-length wordBytes numbers)) ∙ drop-front
           (units wordBytes numbers) rest
@@ -125,7 +125,7 @@ module _ (w : Edition) (h : Header) where
           offset : {k n : ℕ} → k ≡ h .registers → n ≡ wordBytes * suc (suc k) → wordBytes * (2 + h .registers) ≡ n
           offset e q = omega arith
 
-      fits : (r : Row) → r ∈ t .rows → rowWord w h r < 2 ^ (8 * rowBytes)
+      fits : (r : Row) → r ∈ t .rows → packedRow w h r < 2 ^ (8 * rowBytes)
       fits r m = row-fits r (p .width) (p .function-fits r m) (p .first-fits r m) (p .second-fits r m) (p .result-fits r m)
 
       rows-are : map (rowFrom w h)
@@ -133,8 +133,8 @@ module _ (w : Edition) (h : Header) where
           (drop (wordBytes * (2 + h .registers)) (packTables w h t))) ≡ t .rows
       rows-are =
           ap₂ (λ (k : ℕ) s. map (rowFrom w h) (unitsIn rowBytes k s))
-          (ap (λ (l : List ℕ). getD l 1 0) words-are ∙ sym (length-map (t .rows) (rowWord w h)))
-          (behind ∙ sym (append-nil (units rowBytes (map (rowWord w h) (t .rows)))))
-          ∙ ap (map (rowFrom w h)) (units-back rowBytes (map (rowWord w h) (t .rows)) [] (words-fit (t .rows) (2 ^ (8 * rowBytes)) fits))
+          (ap (λ (l : List ℕ). getD l 1 0) words-are ∙ sym (length-map (t .rows) (packedRow w h)))
+          (behind ∙ sym (append-nil (units rowBytes (map (packedRow w h) (t .rows)))))
+          ∙ ap (map (rowFrom w h)) (units-back rowBytes (map (packedRow w h) (t .rows)) [] (words-fit (t .rows) (2 ^ (8 * rowBytes)) fits))
           ∙ rows-back (t .rows)
           (λ r m. row-back r (p .function-fits r m) (p .first-fits r m) (p .second-fits r m) (p .result-fits r m) (p .twice r m))

@@ -15,7 +15,7 @@ use Rattle.letters.specs.Letters.{arity, Fits}
 use Rattle.semantics.specs.Terms.{_∈_, Term, con, app, Trace, begin, _▸_, State, start, after, state}
 use Rattle.semantics.specs.Facts.{WellFormed}
 use Rattle.semantics.proofs.Theory.Booleans.{and-l, and-r, of-true}
-use Rattle.semantics.specs.Closure.{Closure, reflexive, test, symmetric, transitive, congruence, Equivalent, Held}
+use Rattle.semantics.specs.Closure.{Closure, reflexive, symmetric, transitive, congruence, Equivalent, Held}
 use Rattle.semantics.specs.Facts.{Valid}
 use Rattle.semantics.proofs.Theory.Facts.{after-valid, state-valid, constants-i}
 use Rattle.semantics.proofs.Theory.ClosureLaws.{held-equal}
@@ -23,20 +23,20 @@ use Rattle.semantics.specs.Models.{Model, eval, Feasible}
 use Rattle.semantics.specs.AnyModel.{AnyModel, evalIn, SatisfiesIn, FeasibleInSomeModel}
 use Rattle.semantics.proofs.Theory.Shown.{corollary-2, number-i, number-e, eval-shown, shown-numbering, shown-listing, to, back}
 use Rattle.semantics.proofs.Theory.Shown.{shown}
-use Rattle.semantics.specs.ShownTables.{number}
+use Rattle.semantics.specs.ShownTables.{shownValue}
 use Rattle.semantics.proofs.Theory.ShownPacked.{starts-length, applications-fit}
 use Rattle.semantics.specs.Tables.{Row, lists, resultIn, rowOf}
 use Rattle.semantics.proofs.Theory.Tables.{modelOf}
 use Rattle.semantics.specs.ShownTables.{rowsOf, startsFrom, shownTables}
 use Rattle.semantics.specs.Coherence.{Superterm, once, again, Above, Kept, Early, Memoizing, Coherent}
-use Rattle.semantics.specs.Paper.{Congruent, same, member, turned, joined, applied, Within, first, second, in-first, in-second, SupertermModulo, HeldModulo, MemoizingModulo, EarlyModulo, CoherentModulo}
+use Rattle.semantics.specs.Paper.{Congruent, same, member, turned, joined, applied, ProperSubterm, SupertermModulo, HeldModulo, MemoizingModulo, EarlyModulo, CoherentModulo}
 
 -- ── models over any values ──
 -- A model of the equal tests respects the closure.
 pub respects-anywhere {ℓ} : (M : AnyModel {ℓ}) (σ : State) → SatisfiesIn M (σ .equals) (σ .unequals) → {s t : Term} → Equivalent σ s t
     → evalIn M s ≡ evalIn M t
 respects-anywhere M σ h (reflexive m) = refl
-respects-anywhere M σ h (test m) = h .equal-hold _ _ m
+respects-anywhere M σ h (Closure.test m) = h .equal-hold _ _ m
 respects-anywhere M σ h (symmetric c) = sym (respects-anywhere M σ h c)
 respects-anywhere M σ h (transitive c d) = respects-anywhere M σ h c ∙ respects-anywhere M σ h d
 respects-anywhere M σ h (congruence {f} i j p q) = ap₂ (M .table f) (respects-anywhere M σ h p) (respects-anywhere M σ h q)
@@ -78,7 +78,7 @@ proposition-1 M A h (applied {f} c d) = ap₂ (M .table f) (proposition-1 M A h 
 
 closure-congruent : {U : List Term} {A : List (Term × Term)} {s t : Term} → Closure U A s t → Congruent A s t
 closure-congruent (reflexive m) = same
-closure-congruent (test m) = member m
+closure-congruent (Closure.test m) = member m
 closure-congruent (symmetric c) = turned (closure-congruent c)
 closure-congruent (transitive c d) = joined (closure-congruent c) (closure-congruent d)
 closure-congruent (congruence i j p q) = applied (closure-congruent p) (closure-congruent q)
@@ -86,7 +86,7 @@ closure-congruent (congruence i j p q) = applied (closure-congruent p) (closure-
 module _ (σ : State) (v : Valid σ) where
   equal-values : {s t : Term} → Congruent (σ .equals) s t → eval (shown σ) s ≡ eval (shown σ) t
   equal-values c = proposition-1 (shown σ) (σ .equals)
-      (λ s t m. let (i, j) = v .equal-sides s t m in eval-shown σ v s i ∙ number-i σ v (test m) ∙ sym (eval-shown σ v t j)) c
+      (λ s t m. let (i, j) = v .equal-sides s t m in eval-shown σ v s i ∙ number-i σ v (Closure.test m) ∙ sym (eval-shown σ v t j)) c
 
   -- Between computed terms the congruence over all terms is the closure.
   pub congruent-is : {s t : Term} → s ∈ σ .terms → t ∈ σ .terms → Congruent (σ .equals) s t ↔ Equivalent σ s t
@@ -123,11 +123,11 @@ module _ (σ : State) (v : Valid σ) (computed : (r : ℕ) → r < σ .header .r
   abbrev Near : Term → Type 0
   Near w = (u : Term) × (u ∈ σ .terms) × Congruent (σ .equals) w u
 
-  value-near : {w u : Term} → u ∈ σ .terms → Congruent (σ .equals) w u → value w ≡ number σ u
+  value-near : {w u : Term} → u ∈ σ .terms → Congruent (σ .equals) w u → value w ≡ shownValue σ u
   value-near m c = equal-values σ v c ∙ eval-shown σ v _ m
 
-  positive : {u : Term} → u ∈ σ .terms → number σ u ≢ 0
-  positive {u} m e = let (a, b) = shown-numbering σ v .all (number σ u) .1 (u, to σ v m, refl) in omega arith
+  positive : {u : Term} → u ∈ σ .terms → shownValue σ u ≢ 0
+  positive {u} m e = let (a, b) = shown-numbering σ v .all (shownValue σ u) .1 (u, to σ v m, refl) in omega arith
 
   -- an application with a value has the arguments of a computed one
   record Computed (f : ℕ) (a b : Term) : Type 0 where
@@ -139,7 +139,7 @@ module _ (σ : State) (v : Valid σ) (computed : (r : ℕ) → r < σ .header .r
     first-value : value a ≢ 0
     second-value : value b ≢ 0
 
-  argument : (a u : Term) → u ∈ σ .terms → value a ≡ number σ u → (value a ≢ 0 → Near a) → (value a ≢ 0) × Congruent (σ .equals) a u
+  argument : (a u : Term) → u ∈ σ .terms → value a ≡ shownValue σ u → (value a ≢ 0 → Near a) → (value a ≢ 0) × Congruent (σ .equals) a u
   argument a u m e ih =
       let n : value a ≢ 0 = λ z. positive m (sym e ∙ z) in
       let (w, i, c) = ih n in
@@ -152,14 +152,14 @@ module _ (σ : State) (v : Valid σ) (computed : (r : ℕ) → r < σ .header .r
       let (g, s, t, i, e) = shown-listing σ v .computed r m in
       go g s t (back σ v i) (subst (λ k. T (lists f (value a) (value b) k)) e y)
     where
-      go : (g : ℕ) (s t : Term) → app g s t ∈ σ .terms → T (lists f (value a) (value b) (rowOf (number σ) g s t)) → Computed f a b
+      go : (g : ℕ) (s t : Term) → app g s t ∈ σ .terms → T (lists f (value a) (value b) (rowOf (shownValue σ) g s t)) → Computed f a b
       go g s t m y =
-          let c = eqb (value a) (number σ s) in
-          let d = eqb (value b) (number σ t) in
+          let c = eqb (value a) (shownValue σ s) in
+          let d = eqb (value b) (shownValue σ t) in
           let z = and-r (eqb f g) (c && d) y in
           let (i, j) = v .arguments g s t m in
-          let (p, q) = argument a s i (eqb→eq (value a) (number σ s) (and-l c d z)) ia in
-          let (h, o) = argument b t j (eqb→eq (value b) (number σ t) (and-r c d z)) ib in
+          let (p, q) = argument a s i (eqb→eq (value a) (shownValue σ s) (and-l c d z)) ia in
+          let (h, o) = argument b t j (eqb→eq (value b) (shownValue σ t) (and-r c d z)) ib in
           record {
             first′ = s;
             second′ = t;
@@ -175,8 +175,8 @@ module _ (σ : State) (v : Valid σ) (computed : (r : ℕ) → r < σ .header .r
   unfolding modelOf shownTables
   near (con r) n = byTest (ltb r (σ .header .registers))
       (λ e. (con r, computed r (ltb-true r (σ .header .registers) e), same))
-      (λ e. absurd (n (List·getD-eq-default (startsFrom (number σ) 0 (σ .header .registers)) 0
-      (subst (λ (k : ℕ). k ≤ r) (sym (starts-length (number σ) 0 (σ .header .registers))) (ltb-false r (σ .header .registers) e)))))
+      (λ e. absurd (n (List·getD-eq-default (startsFrom (shownValue σ) 0 (σ .header .registers)) 0
+      (subst (λ (k : ℕ). k ≤ r) (sym (starts-length (shownValue σ) 0 (σ .header .registers))) (ltb-false r (σ .header .registers) e)))))
   near (app f a b) n =
       let k = computed-application f a b (near a) (near b) n in
       (app f (k .first′) (k .second′), k .listed, applied (k .at-first) (k .at-second))
@@ -185,25 +185,25 @@ module _ (σ : State) (v : Valid σ) (computed : (r : ℕ) → r < σ .header .r
   application : (f : ℕ) (a b : Term) → value (app f a b) ≢ 0 → Computed f a b
   application f a b n = computed-application f a b (near a) (near b) n
 
-  within-superterm : {p w : Term} → Within p w → value w ≢ 0 → {t : Term} → t ∈ σ .terms → Congruent (σ .equals) p t → {s : Term} → s ∈ σ .terms
+  within-superterm : {p w : Term} → ProperSubterm p w → value w ≢ 0 → {t : Term} → t ∈ σ .terms → Congruent (σ .equals) p t → {s : Term} → s ∈ σ .terms
       → Congruent (σ .equals) w s
       → Superterm (σ .terms) (σ .equals) t s
-  within-superterm {p} (first {f} {b}) n i c j d =
+  within-superterm {p} (ProperSubterm.first {f} {b}) n i c j d =
       let k = application f p b n in
       let (x, y) = v .arguments f (k .first′) (k .second′) (k .listed) in
       once (k .listed) (inl (congruent-is σ v i x .0 (joined (turned c) (k .at-first))))
       (congruent-is σ v (k .listed) j .0 (joined (turned (applied (k .at-first) (k .at-second))) d))
-  within-superterm {p} (second {f} {a}) n i c j d =
+  within-superterm {p} (ProperSubterm.second {f} {a}) n i c j d =
       let k = application f a p n in
       let (x, y) = v .arguments f (k .first′) (k .second′) (k .listed) in
       once (k .listed) (inr (congruent-is σ v i y .0 (joined (turned c) (k .at-second))))
       (congruent-is σ v (k .listed) j .0 (joined (turned (applied (k .at-first) (k .at-second))) d))
-  within-superterm {p} (in-first {f} {a} {b} h) n i c j d =
+  within-superterm {p} (ProperSubterm.in-first {f} {a} {b} h) n i c j d =
       let k = application f a b n in
       let (x, y) = v .arguments f (k .first′) (k .second′) (k .listed) in
       again (within-superterm h (k .first-value) i c x (k .at-first)) (k .listed) (inl (reflexive x))
       (congruent-is σ v (k .listed) j .0 (joined (turned (applied (k .at-first) (k .at-second))) d))
-  within-superterm {p} (in-second {f} {a} {b} h) n i c j d =
+  within-superterm {p} (ProperSubterm.in-second {f} {a} {b} h) n i c j d =
       let k = application f a b n in
       let (x, y) = v .arguments f (k .first′) (k .second′) (k .listed) in
       again (within-superterm h (k .second-value) i c y (k .at-second)) (k .listed) (inr (reflexive y))
@@ -215,14 +215,14 @@ module _ (σ : State) (v : Valid σ) (computed : (r : ℕ) → r < σ .header .r
     upper = app f a b;
     at-lower = turned (closure-congruent d);
     at-upper = closure-congruent c;
-    within = first;
+    within = ProperSubterm.first;
   }
   superterm-modulo (once {a} {b} {f} m (inr d) c) = record {
     lower = b;
     upper = app f a b;
     at-lower = turned (closure-congruent d);
     at-upper = closure-congruent c;
-    within = second;
+    within = ProperSubterm.second;
   }
   superterm-modulo (again {a} {b} {f} h m (inl d) c) =
       let k = superterm-modulo h in
@@ -231,7 +231,7 @@ module _ (σ : State) (v : Valid σ) (computed : (r : ℕ) → r < σ .header .r
         upper = app f (k .upper) b;
         at-lower = k .at-lower;
         at-upper = joined (applied (joined (k .at-upper) (closure-congruent d)) same) (closure-congruent c);
-        within = in-first (k .within);
+        within = ProperSubterm.in-first (k .within);
       }
   superterm-modulo (again {a} {b} {f} h m (inr d) c) =
       let k = superterm-modulo h in
@@ -240,7 +240,7 @@ module _ (σ : State) (v : Valid σ) (computed : (r : ℕ) → r < σ .header .r
         upper = app f a (k .upper);
         at-lower = k .at-lower;
         at-upper = joined (applied same (joined (k .at-upper) (closure-congruent d))) (closure-congruent c);
-        within = in-second (k .within);
+        within = ProperSubterm.in-second (k .within);
       }
 
   -- Between computed terms, superterms modulo the congruence, through all terms, are those by computed applications.

@@ -5,7 +5,7 @@ use mathlib.Core.List.{List, _∷_, List·Memᴰ·tail, List·Memᴰ·cases-cons
 use Prim.Native.Nat.{ℕ}
 use Rattle.letters.specs.declared.Letter.the-variants.{Equal}
 use Rattle.semantics.specs.Terms.{Term, State, after}
-use Rattle.semantics.specs.Closure.{Closure, reflexive, test, symmetric, transitive, congruence, Equivalent, Held}
+use Rattle.semantics.specs.Closure.{Closure, reflexive, symmetric, transitive, congruence, Equivalent, Held}
 use Rattle.semantics.proofs.Theory.ClosureLaws.{more-tests}
 use Rattle.semantics.specs.Coherence.{Superterm, once, again, Above}
 use Rattle.semantics.specs.Models.{eval, Feasible}
@@ -19,9 +19,9 @@ use Rattle.semantics.proofs.Theory.SameWindow.{tracks-same}
 pub fewer-tests : {U : List Term} {E : List (Term × Term)} {u w : Term} → Closure U E u w → {s t : Term} → Closure U ((u, w) ∷ E) s t
     → Closure U E s t
 fewer-tests k (reflexive m) = reflexive m
-fewer-tests {U} {E} k (test {s} {t} m) = elim (List·Memᴰ·cases-cons m) [
+fewer-tests {U} {E} k (Closure.test {s} {t} m) = elim (List·Memᴰ·cases-cons m) [
   | inl e ↦ subst (λ (p : Term × Term). Closure U E (p .0) (p .1)) (sym e) k
-  | inr i ↦ test i
+  | inr i ↦ Closure.test i
 ]
 fewer-tests k (symmetric c) = symmetric (fewer-tests k c)
 fewer-tests k (transitive c d) = transitive (fewer-tests k c) (fewer-tests k d)

@@ -10,7 +10,7 @@ use Rattle.semantics.proofs.Theory.Of.{same-test}
 use Rattle.semantics.specs.SameWindow.{SameWindow}
 
 -- Two views say the same of registers below n.
-pub record Agree (n : ℕ) (v w : View) : Type 0 where
+pub record ViewsAgree (n : ℕ) (v w : View) : Type 0 where
   pub same : (r s : ℕ) → r < n → s < n → v .same r s ≡ w .same r s
   pub apart : (r s : ℕ) → r < n → s < n → v .apart r s ≡ w .apart r s
   pub result : (f a b r : ℕ) → a < n → b < n → r < n → v .result f a b r ≡ w .result f a b r
@@ -64,7 +64,7 @@ both e = (subst T e, subst T (sym e))
 
 -- Views of two states of one count of registers agree exactly if the states have the same window.
 pub agree-is : {σ τ : State} {v w : View} → Tracks σ v → Tracks τ w → σ .header .registers ≡ τ .header .registers
-    → Agree (σ .header .registers) v w ↔ SameWindow σ τ
+    → ViewsAgree (σ .header .registers) v w ↔ SameWindow σ τ
 agree-is {σ} {τ} {v} {w} t u e = (
   (λ a. record {
     registers = e;
@@ -94,7 +94,7 @@ agree-is {σ} {τ} {v} {w} t u e = (
     to {r} h = subst (λ n. r < n) e h
 
 -- A window is fixed by what it says: two views of one state agree.
-pub view-unique : {σ : State} {v w : View} → Tracks σ v → Tracks σ w → Agree (σ .header .registers) v w
+pub view-unique : {σ : State} {v w : View} → Tracks σ v → Tracks σ w → ViewsAgree (σ .header .registers) v w
 view-unique {σ} t u = agree-is t u refl .1 (same-window-refl σ)
 
 -- A view of a state is one of every state with the same window.

@@ -12,14 +12,14 @@ use Rattle.base.proofs.Theory.Choice.{byTest}
 use Rattle.semantics.specs.Terms.{_∈_, Term, con, app, State}
 use Rattle.semantics.proofs.Theory.Booleans.{and-l, and-r, and-i, of-true, of-false}
 use Rattle.semantics.proofs.Theory.Lists.{in-reversed, reversed-in}
-use Rattle.semantics.specs.Closure.{Closure, reflexive, test, symmetric, transitive, congruence, Equivalent}
+use Rattle.semantics.specs.Closure.{Closure, reflexive, symmetric, transitive, congruence, Equivalent}
 use Rattle.semantics.proofs.Theory.ClosureLaws.{weaken}
 use Rattle.semantics.specs.Facts.{Valid}
 use Rattle.semantics.specs.Models.{Model, eval, Satisfies, Feasible}
 use Rattle.semantics.specs.Tables.{Row, lists, resultIn, rowOf, sameCall}
 use Rattle.semantics.proofs.Theory.Tables.{modelOf, InRange}
-use Rattle.semantics.specs.ShownTables.{classesOf, numberIn, rowsOf, startsFrom, shownTables, number, applications}
-use Rattle.semantics.specs.Numbering.{Numbering, Listing}
+use Rattle.semantics.specs.ShownTables.{classesOf, classValue, rowsOf, startsFrom, shownTables, shownValue, applications}
+use Rattle.semantics.specs.Numbering.{Numbering, RowListing}
 use Rattle.semantics.proofs.Theory.NumberingLaws as laws
 use Rattle.semantics.proofs.Theory.FirstsLaws.{firsts-in}
 
@@ -43,10 +43,10 @@ pub in-range : (n : ℕ) (U : List Term) (E : List (Term × Term)) → InRange (
 unfolding shownTables rowsOf
 in-range n U E = record {
   default = omega arith;
-  starts = starts-below (numberIn U E) (length (classesOf U E)) (laws.number-below U E) 0 n;
-  rows = λ r m. elim (firsts-in sameCall [] (applications (numberIn U E) U) m) [
+  starts = starts-below (classValue U E) (length (classesOf U E)) (laws.number-below U E) 0 n;
+  rows = λ r m. elim (firsts-in sameCall [] (applications (classValue U E) U) m) [
     | inl k ↦ absurd (List·Memᴰ·not-nil k)
-    | inr k ↦ applications-below (numberIn U E) (length (classesOf U E)) (laws.number-below U E) U k
+    | inr k ↦ applications-below (classValue U E) (length (classesOf U E)) (laws.number-below U E) U k
   ];
 }
 
@@ -78,7 +78,7 @@ start-at v k (suc n) (suc r) h = start-at v (suc k) n r (omega arith) ∙ ap (λ
 
 module _ (n : ℕ) (U : List Term) (E : List (Term × Term)) (sub : (f : ℕ) (a b : Term) → app f a b ∈ U → (a ∈ U) × (b ∈ U)) where
   abbrev value : Term → ℕ
-  value = numberIn U E
+  value = classValue U E
 
   functional : (f : ℕ) (s t u w : Term) → app f s t ∈ U → app f u w ∈ U → value s ≡ value u → value t ≡ value w
       → value (app f s t) ≡ value (app f u w)
@@ -88,13 +88,13 @@ module _ (n : ℕ) (U : List Term) (E : List (Term × Term)) (sub : (f : ℕ) (a
       laws.number-i U E (congruence i j (laws.number-e U E sub a c p) (laws.number-e U E sub b d q))
 
   -- the rows are those that document 01 asks for
-  pub listing : Listing U (numberIn U E) (rowsOf U E)
+  pub listing : RowListing U (classValue U E) (rowsOf U E)
   unfolding rowsOf
   listing = laws.listing value U functional
 
   module _ (constants : (r : ℕ) → con r ∈ U → r < n) where
     -- in the shown model a computed term has the value of its class
-    pub eval-tables : (t : Term) → t ∈ U → eval (shownModel n U E) t ≡ numberIn U E t
+    pub eval-tables : (t : Term) → t ∈ U → eval (shownModel n U E) t ≡ classValue U E t
     unfolding modelOf shownTables
     eval-tables (con r) m = start-at value 0 n r (constants r m) ∙ ap (λ (k : ℕ). value (con k)) (omega arith)
     eval-tables (app f s t) m =
@@ -137,7 +137,7 @@ module _ (n : ℕ) (U : List Term) (E : List (Term × Term)) (sub : (f : ℕ) (a
 -- A model that satisfies the equal tests respects the closure.
 pub respects : (M : Model) (σ : State) → Satisfies M (σ .equals) (σ .unequals) → {s t : Term} → Equivalent σ s t → eval M s ≡ eval M t
 respects M σ h (reflexive m) = refl
-respects M σ h (test m) = h .equal-hold _ _ m
+respects M σ h (Closure.test m) = h .equal-hold _ _ m
 respects M σ h (symmetric c) = sym (respects M σ h c)
 respects M σ h (transitive c d) = respects M σ h c ∙ respects M σ h d
 respects M σ h (congruence {f} i j p q) = ap₂ (M .table f) (respects M σ h p) (respects M σ h q)
@@ -164,25 +164,25 @@ module _ (σ : State) (v : Valid σ) where
   reversed = (weaken (λ t m. back m), weaken (λ t m. to m))
 
   -- the numbering and the rows are those that document 01 asks for
-  pub shown-numbering : Numbering (reverse (σ .terms)) (σ .equals) (number σ) (length (classesOf (reverse (σ .terms)) (σ .equals)))
+  pub shown-numbering : Numbering (reverse (σ .terms)) (σ .equals) (shownValue σ) (length (classesOf (reverse (σ .terms)) (σ .equals)))
   shown-numbering = laws.numbering U (σ .equals) sub
 
-  pub shown-listing : Listing (reverse (σ .terms)) (number σ) (rowsOf (reverse (σ .terms)) (σ .equals))
+  pub shown-listing : RowListing (reverse (σ .terms)) (shownValue σ) (rowsOf (reverse (σ .terms)) (σ .equals))
   shown-listing = listing (σ .header .registers) U (σ .equals) sub
 
-  pub number-i : {s t : Term} → Equivalent σ s t → number σ s ≡ number σ t
+  pub number-i : {s t : Term} → Equivalent σ s t → shownValue σ s ≡ shownValue σ t
   number-i c = laws.number-i U (σ .equals) (reversed .1 c)
 
-  pub number-e : {s t : Term} → s ∈ σ .terms → t ∈ σ .terms → number σ s ≡ number σ t → Equivalent σ s t
+  pub number-e : {s t : Term} → s ∈ σ .terms → t ∈ σ .terms → shownValue σ s ≡ shownValue σ t → Equivalent σ s t
   number-e i j e = reversed .0 (laws.number-e U (σ .equals) sub (to i) (to j) e)
 
-  pub eval-shown : (t : Term) → t ∈ σ .terms → eval (shown σ) t ≡ number σ t
+  pub eval-shown : (t : Term) → t ∈ σ .terms → eval (shown σ) t ≡ shownValue σ t
   eval-shown t m = eval-tables (σ .header .registers) U (σ .equals) sub (λ r k. v .constants r (back k)) t (to m)
 
   -- the shown model of a trace in which no unequal test joins equal terms satisfies all its tests
   pub shown-satisfies : ¬ Clash σ → Satisfies (shown σ) (σ .equals) (σ .unequals)
   shown-satisfies n = record {
-    equal-hold = λ s t m. let (i, j) = v .equal-sides s t m in eval-shown s i ∙ number-i (test m) ∙ sym (eval-shown t j);
+    equal-hold = λ s t m. let (i, j) = v .equal-sides s t m in eval-shown s i ∙ number-i (Closure.test m) ∙ sym (eval-shown t j);
     unequal-hold = λ s t m e. let (i, j) = v .unequal-sides s t m in n (s, t, m, number-e i j (sym (eval-shown s i) ∙ e ∙ eval-shown t j));
   }
 

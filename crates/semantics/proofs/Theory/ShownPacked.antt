@@ -19,10 +19,10 @@ use Rattle.semantics.specs.Facts.{Valid}
 use Rattle.semantics.proofs.Theory.Facts.{constants-app}
 use Rattle.semantics.specs.Firsts.{firstsAfter}
 use Rattle.semantics.specs.Tables.{Row, sameCall}
-use Rattle.semantics.specs.ShownTables.{applications, rowsOf, classesOf, numberIn, startsFrom, shownTables}
-use Rattle.semantics.specs.Numbering.{Listing}
+use Rattle.semantics.specs.ShownTables.{applications, rowsOf, classesOf, classValue, startsFrom, shownTables}
+use Rattle.semantics.specs.Numbering.{RowListing}
 use Rattle.semantics.proofs.Theory.NumberingLaws as laws
-use Rattle.semantics.specs.ShownTables.{tablesOf, number}
+use Rattle.semantics.specs.ShownTables.{tablesOf, shownValue}
 use Rattle.semantics.proofs.Theory.Shown.{shown-listing, back}
 use Rattle.semantics.specs.PackedTables.{rowWidths, rowBytes, wordBytes}
 use Rattle.semantics.specs.TablesRead.{Packable}
@@ -47,7 +47,7 @@ classes-length U E = omega (arith, firsts-length (alike U E) [] U)
 
 pub rows-length : (U : List Term) (E : List (Term × Term)) → length (rowsOf U E) ≤ length U
 unfolding rowsOf
-rows-length U E = omega (arith, firsts-length sameCall [] (applications (numberIn U E) U), applications-length (numberIn U E) U)
+rows-length U E = omega (arith, firsts-length sameCall [] (applications (classValue U E) U), applications-length (classValue U E) U)
 
 pub starts-length : (v : Term → ℕ) (k n : ℕ) → length (startsFrom v k n) ≡ n
 unfolding startsFrom
@@ -90,10 +90,10 @@ pub shown-packable : (w : Edition) (σ : State) → Valid σ → ApplicationsFit
 unfolding tablesOf shownTables
 shown-packable w σ v fit width functions values words = record {
   width = width;
-  registers = starts-length (number σ) 0 (σ .header .registers);
+  registers = starts-length (shownValue σ) 0 (σ .header .registers);
   count-fits = omega (arith, classes-length U (σ .equals), long);
   rows-fit = omega (arith, rows-length U (σ .equals), long);
-  starts-fit = λ n m. omega (arith, starts-below (number σ) (2 ^ w .rowValue) small 0 (σ .header .registers) m);
+  starts-fit = λ n m. omega (arith, starts-below (shownValue σ) (2 ^ w .rowValue) small 0 (σ .header .registers) m);
   function-fits = λ r m. let (f, s, t, i, e) = list .computed r m in subst (λ (k : Row). k .function < 2 ^ w .rowFunction) (sym e)
       (omega (arith, (fit f s t (back σ v i)) .0));
   first-fits = λ r m. let (f, s, t, i, e) = list .computed r m in subst (λ (k : Row). k .first < 2 ^ w .rowValue) (sym e) (small s);
@@ -101,7 +101,7 @@ shown-packable w σ v fit width functions values words = record {
   result-fits = λ r m. let (f, s, t, i, e) = list .computed r m in subst (λ (k : Row). k .result < 2 ^ w .rowValue) (sym e) (small (app f s t));
   twice = λ r m one.
       let (f, s, t, i, e) = list .computed r m in
-      ap (λ (k : Row). k .second) e ∙ ap (number σ)
+      ap (λ (k : Row). k .second) e ∙ ap (shownValue σ)
       (sym ((fit f s t (back σ v i)) .1 (subst (λ (k : Row). arity (σ .header) (k .function) ≡ 1) e one))) ∙ sym (ap (λ (k : Row). k .first) e);
 }
   where
@@ -111,8 +111,8 @@ shown-packable w σ v fit width functions values words = record {
     long : length (reverse (σ .terms)) ≡ length (σ .terms)
     long = length-reverse (σ .terms)
 
-    small : (t : Term) → number σ t < 2 ^ w .rowValue
+    small : (t : Term) → shownValue σ t < 2 ^ w .rowValue
     small t = omega (arith, laws.number-below U (σ .equals) t, classes-length U (σ .equals), long)
 
-    list : Listing (reverse (σ .terms)) (number σ) (rowsOf (reverse (σ .terms)) (σ .equals))
+    list : RowListing (reverse (σ .terms)) (shownValue σ) (rowsOf (reverse (σ .terms)) (σ .equals))
     list = shown-listing σ v

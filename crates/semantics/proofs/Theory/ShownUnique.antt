@@ -9,8 +9,8 @@ use Rattle.semantics.specs.Facts.{WellFormed}
 use Rattle.semantics.specs.Facts.{Valid}
 use Rattle.semantics.proofs.Theory.Facts.{state-valid}
 use Rattle.semantics.specs.Tables.{Row, Tables, rowOf}
-use Rattle.semantics.specs.ShownTables.{classesOf, numberIn, shownTables}
-use Rattle.semantics.specs.Numbering.{Listing, IsShown}
+use Rattle.semantics.specs.ShownTables.{classesOf, classValue, shownTables}
+use Rattle.semantics.specs.Numbering.{RowListing, IsShown}
 use Rattle.semantics.proofs.Theory.NumberingLaws.{numbering, numbering-unique, listing-unique}
 use Rattle.semantics.specs.ShownTables.{tablesOf}
 use Rattle.semantics.proofs.Theory.Shown.{start-at, listing, to, back}
@@ -31,17 +31,17 @@ module _ (n : ℕ) (U : List Term) (E : List (Term × Term)) (sub : (f : ℕ) (a
   pub shown-is : IsShown n U E (shownTables n U E)
   unfolding shownTables
   shown-is = record {
-    value = numberIn U E;
+    value = classValue U E;
     classes = length (classesOf U E);
     numbering = numbering U E sub;
     count = refl;
-    registers = starts-length (numberIn U E) 0 n;
-    starts = λ r b. start-at (numberIn U E) 0 n r b ∙ ap (λ (k : ℕ). numberIn U E (con k)) (omega arith);
+    registers = starts-length (classValue U E) 0 n;
+    starts = λ r b. start-at (classValue U E) 0 n r b ∙ ap (λ (k : ℕ). classValue U E (con k)) (omega arith);
     listing = listing n U E sub;
   }
 
   -- values that agree on the computed terms have the same rows
-  listing-along : (v w : Term → ℕ) {rows : List Row} → ((t : Term) → t ∈ U → v t ≡ w t) → Listing U v rows → Listing U w rows
+  listing-along : (v w : Term → ℕ) {rows : List Row} → ((t : Term) → t ∈ U → v t ≡ w t) → RowListing U v rows → RowListing U w rows
   listing-along v w e h = record {
     computed = λ r m. let (f, s, t, i, p) = h .computed r m in (f, s, t, i, p ∙ row f s t i);
     complete = λ f s t m. Memᴰ·cast (sym (row f s t m)) (h .complete f s t m);

@@ -7,7 +7,7 @@ use Prim.Native.Nat.{ℕ}
 use lib.Dec.{T, eqb, eqb→eq, eqb-refl}
 use Rattle.letters.specs.declared.Header.{Header}
 use Rattle.semantics.specs.Terms.{Term, con, begin, start, constants}
-use Rattle.semantics.specs.Closure.{Closure, reflexive, test, symmetric, transitive, congruence, Equivalent}
+use Rattle.semantics.specs.Closure.{Closure, reflexive, symmetric, transitive, congruence, Equivalent}
 use Rattle.semantics.specs.View.{View, Tracks}
 use Rattle.semantics.specs.Facts.{Valid}
 use Rattle.semantics.proofs.Theory.Facts.{state-valid, constants-app}
@@ -18,7 +18,7 @@ initial = record { same = eqb; apart = λ r s. false; result = λ f a b r. false
 
 closure-start : (n : ℕ) {s t : Term} → Closure (constants n) [] s t → s ≡ t
 closure-start n (reflexive m) = refl
-closure-start n (test m) = absurd (List·Memᴰ·not-nil m)
+closure-start n (Closure.test m) = absurd (List·Memᴰ·not-nil m)
 closure-start n (symmetric c) = sym (closure-start n c)
 closure-start n (transitive c d) = closure-start n c ∙ closure-start n d
 closure-start n (congruence i j p q) = absurd (constants-app n i)

@@ -18,7 +18,7 @@ use Rattle.semantics.specs.TermEquality.{eqt}
 use Rattle.semantics.proofs.Theory.TermEquality.{eqt→eq}
 use Rattle.semantics.specs.Terms.{_∈_, Term, con, app, Trace, _▸_, State, state}
 use Rattle.semantics.specs.Facts.{WellFormed}
-use Rattle.semantics.specs.Closure.{reflexive, test, Equivalent, Held}
+use Rattle.semantics.specs.Closure.{reflexive, Closure, Equivalent, Held}
 use Rattle.semantics.specs.Facts.{Valid}
 use Rattle.semantics.proofs.Theory.Facts.{state-valid}
 use Rattle.semantics.specs.Models.{Feasible}
@@ -27,9 +27,9 @@ use Rattle.semantics.specs.Coherence.{Superterm, once, Early, Memoizing,
 use Rattle.semantics.proofs.Theory.Climb.{climbs}
 use Rattle.semantics.specs.Window.{Same, Apart, Result, EverComputed, Marked}
 use Rattle.semantics.specs.View.{View, Tracks}
-use Rattle.semantics.specs.Judge.{names, held}
+use Rattle.semantics.specs.Judge.{mergesOf, held}
 use Rattle.semantics.proofs.Theory.Judge.{held-i, held-e, above-i, fine-is, coherent-is, feasible-is, formed-e}
-use Rattle.semantics.proofs.Theory.Of.{windowOf, tracks-of}
+use Rattle.semantics.proofs.Theory.Of.{viewOf, tracks-of}
 use Rattle.semantics.specs.Prefixes.{whole}
 use Rattle.semantics.specs.Judgement.{Longest, Judgement}
 use Rattle.semantics.specs.FirstLetters.{coherentPart, incoherentLetter, infeasibleLetter, firstInfeasible}
@@ -39,10 +39,10 @@ use Rattle.semantics.proofs.Theory.ShownUnique.{tables-are}
 use Rattle.semantics.specs.SameWindow.{SameWindow}
 use Rattle.semantics.proofs.Theory.Tables.{InRange}
 use Rattle.semantics.specs.ShownTables.{classesOf, rowsOf}
-use Rattle.semantics.specs.Numbering.{Numbering, Listing, IsShown}
+use Rattle.semantics.specs.Numbering.{Numbering, RowListing, IsShown}
 use Rattle.semantics.specs.Paper.{EarlyModulo}
 use Rattle.semantics.proofs.Theory.PaperLaws.{no-model, constants-computed, early-results}
-use Rattle.semantics.specs.ShownTables.{tablesOf, number}
+use Rattle.semantics.specs.ShownTables.{tablesOf, shownValue}
 use Rattle.semantics.proofs.Theory.Shown.{in-range}
 use Rattle.semantics.proofs.Theory.Shown.{shown-numbering, shown-listing}
 use Rattle.semantics.proofs.Theory.Examples.{one, two, printed}
@@ -204,7 +204,7 @@ pub longest-no : ¬ Longest lost (one 3)
 longest-no l = let b = l .longest lost whole coherent-yes in omega arith
 
 -- ── windows ──
-pub tracks-yes : Tracks σ (windowOf σ)
+pub tracks-yes : Tracks σ (viewOf σ)
 tracks-yes = tracks-of σ valid
 
 -- a register is in its own class
@@ -219,7 +219,7 @@ same-window-yes = redundant-test τ 0 0 same-yes
 pub same-window-no : ¬ SameWindow (state (one 2)) (state (one 2 ▸ Equal 0 1))
 same-window-no w =
     tracks-of (state (one 2)) (state-valid (one 2) tt) .same 0 1 (lit< tt) (lit< tt) .1
-    (w .same 0 1 (lit< tt) (lit< tt) .1 (test (List·Memᴰ·head refl)))
+    (w .same 0 1 (lit< tt) (lit< tt) .1 (Closure.test (List·Memᴰ·head refl)))
 
 -- ── tables ──
 pub in-range-yes : InRange (tablesOf (state printed))
@@ -244,17 +244,17 @@ printed-back = read-packed firstEdition (state printed .header) (tablesOf (state
 pub packable-no : ¬ Packable firstEdition (record { registers = 1; functions = 0; binary = 0 }) (record { count = 1; starts = []; rows = [] })
 packable-no p = let e = p .registers in omega arith
 
-pub numbering-yes : Numbering (reverse (state lost .terms)) (state lost .equals) (number (state lost)) (length (classesOf (reverse (state lost .terms)) (state lost .equals)))
+pub numbering-yes : Numbering (reverse (state lost .terms)) (state lost .equals) (shownValue (state lost)) (length (classesOf (reverse (state lost .terms)) (state lost .equals)))
 numbering-yes = shown-numbering (state lost) valid
 
 -- values start at 1
 pub numbering-no : ¬ Numbering (con 0 ∷ []) [] (λ t. 0) 0
 numbering-no h = let (a, b) = h .all 0 .1 (con 0, List·Memᴰ·head refl, refl) in omega arith
 
-pub listing-yes : Listing (reverse (state lost .terms)) (number (state lost)) (rowsOf (reverse (state lost .terms)) (state lost .equals))
+pub listing-yes : RowListing (reverse (state lost .terms)) (shownValue (state lost)) (rowsOf (reverse (state lost .terms)) (state lost .equals))
 listing-yes = shown-listing (state lost) valid
 
-pub listing-no : ¬ Listing (app 0 (con 0) (con 0) ∷ con 0 ∷ []) (λ t. 1) []
+pub listing-no : ¬ RowListing (app 0 (con 0) (con 0) ∷ con 0 ∷ []) (λ t. 1) []
 listing-no h = List·Memᴰ·not-nil (h .complete 0 (con 0) (con 0) (List·Memᴰ·head refl))
 
 pub is-shown-yes : IsShown 3 (reverse (state lost .terms)) (state lost .equals) (tablesOf (state lost))
@@ -271,7 +271,7 @@ early-slip = two 5 ▸ Apply 0 0 3 2 ▸ Apply 1 0 4 2 ▸ Copy 2 3
 
 results-held : Term → Bool
 results-held (con r) = true
-results-held (app f a b) = held (names (state early-slip)) (state early-slip) (app f a b)
+results-held (app f a b) = held (mergesOf (state early-slip)) (state early-slip) (app f a b)
 
 -- Definition 5 lets the test through, for u and v hold the results,
 pub early-by-definition-5 : EarlyModulo (state early-slip) 3 4

@@ -32,10 +32,10 @@ use Rattle.window.proofs.Theory.Applying.{renamed-applied, inside-applied}
 use Rattle.window.proofs.Theory.Shape.{shaped-performed}
 use Rattle.window.proofs.Theory.Uniqueness.{bit-same}
 use Rattle.window.specs.declared.Window.{Window}
-use Rattle.slots.specs.Slots.{Slots, at, Tabled}
+use Rattle.slots.specs.Slots.{Slots, slotOf, SlotTableLengths}
 use Rattle.slots.specs.Performing.{placed, marksIn, freeFrom, registerIn, resultsDropped, resultRecorded, everRecorded, droppedSlots, recordedSlots, renewedSlots, freshenedSlots, newSlots, applySlots}
 use Rattle.slots.proofs.Theory.Laying.{LaidIn, marks-length, tabled-dropped, laid-renewed, laid-placed, laid-recorded}
-use Rattle.slots.specs.Represents.{Used, Single, slotView, Mirrors, Represents}
+use Rattle.slots.specs.Represents.{Used, Single, slotView, Mirrors, RepresentsWindow}
 use Rattle.slots.proofs.Theory.Pulling.{laws-pulled, pulled-applied, Renewed, renewed-dropped, renewed-free, clean-renewed, single-renewed}
 use Rattle.slots.proofs.Theory.Tables.{dropped, recorded}
 use Rattle.slots.proofs.Theory.Marking.{one-more, up, low, only, alone-is, lost-is}
@@ -45,7 +45,7 @@ use Rattle.slots.proofs.Theory.Room.{free-slot}
 
 module _ (ρ φ n : ℕ) (s : Slots) (w : Window) (m : Mirrors ρ φ n s w) (x f y z : ℕ) (xb : x < n) (fb : f < φ) (yb : y < n) (zb : z < n) where
   abbrev g : ℕ → ℕ
-  g = at (s .slot)
+  g = slotOf (s .slot)
 
   abbrev K : View
   K = slotView ρ φ (s .unequal) (s .result) (s .ever)
@@ -60,7 +60,7 @@ module _ (ρ φ n : ℕ) (s : Slots) (w : Window) (m : Mirrors ρ φ n s w) (x f
   more = argumentsOf x y z (getD (w .class) y 0) (getD (w .class) z 0)
 
   abbrev more′ : ℕ
-  more′ = argumentsOf (at (s .slot) x) (at (s .slot) y) (at (s .slot) z) (2 ^ at (s .slot) y) (2 ^ at (s .slot) z)
+  more′ = argumentsOf (slotOf (s .slot) x) (slotOf (s .slot) y) (slotOf (s .slot) z) (2 ^ slotOf (s .slot) y) (2 ^ slotOf (s .slot) z)
 
   more-small : more < 2 ^ ρ
   unfolding argumentsOf
@@ -97,17 +97,17 @@ module _ (ρ φ n : ℕ) (s : Slots) (w : Window) (m : Mirrors ρ φ n s w) (x f
   unfolding windows.appliedOf
   kept-infeasible = refl
 
-  module _ (o : Single ρ (slotView ρ φ (s .unequal) (s .result) (s .ever))) (none : (c : ℕ) → c < ρ → ¬ T (slotView ρ φ (s .unequal) (s .result) (s .ever) .result f (at (s .slot) y) (at (s .slot) z) c)) (sh : Shaped ρ φ w′) where
+  module _ (o : Single ρ (slotView ρ φ (s .unequal) (s .result) (s .ever))) (none : (c : ℕ) → c < ρ → ¬ T (slotView ρ φ (s .unequal) (s .result) (s .ever) .result f (slotOf (s .slot) y) (slotOf (s .slot) z) c)) (sh : Shaped ρ φ w′) where
     -- ---- x is alone in its slot
 
-    module _ (e : getD (s .regs) (at (s .slot) x) 0 ≡ 2 ^ x) where
-      alone : (r : ℕ) → r < n → at (s .slot) r ≡ at (s .slot) x → r ≡ x
+    module _ (e : getD (s .regs) (slotOf (s .slot) x) 0 ≡ 2 ^ x) where
+      alone : (r : ℕ) → r < n → slotOf (s .slot) r ≡ slotOf (s .slot) x → r ≡ x
       alone = only ρ φ n s w m x xb e
 
-      test-same : (q : ℕ) → q < n → eqb (at (s .slot) q) (at (s .slot) x) ≡ eqb q x
+      test-same : (q : ℕ) → q < n → eqb (slotOf (s .slot) q) (slotOf (s .slot) x) ≡ eqb q x
       test-same q qb = ⊎-elim (λ i. eq-eqb (g q) (g x) (ap g i) ∙ sym (eq-eqb q x i)) (λ i. ne-eqb (g q) (g x) (λ j. i (alone q qb j)) ∙ sym (ne-eqb q x i)) (eq-or q x)
 
-      more-is : (r : ℕ) → r < n → T (has more r) ↔ T (has more′ (at (s .slot) r))
+      more-is : (r : ℕ) → r < n → T (has more r) ↔ T (has more′ (slotOf (s .slot) r))
       unfolding argumentsOf
       more-is r rb =
           let t′ = ap₂ _||_ (test-same y yb) (test-same z zb) in
@@ -119,9 +119,9 @@ module _ (ρ φ n : ℕ) (s : Slots) (w : Window) (m : Mirrors ρ φ n s w) (x f
           (λ t. rw (t′, t) ((λ k. absurd (none-in r k)), (λ k. absurd (none-in (g r) k))))
 
       abbrev lost : ℕ
-      lost = bitOr (lostOf ρ φ (s .result) (at (s .slot) x) more′) (2 ^ at (s .slot) x)
+      lost = bitOr (lostOf ρ φ (s .result) (slotOf (s .slot) x) more′) (2 ^ slotOf (s .slot) x)
 
-      at-mark : (q : ℕ) → q < n → q ≢ x → (T (view ρ φ w .marked q) ⊎ T (has (fallenOf ρ φ (getD (w .class) x 0) (w .result) x more) q)) ↔ T (getD (marksIn ρ (s .slot) (s .mark) (bitOr (lostOf ρ φ (s .result) (at (s .slot) x) more′) (2 ^ at (s .slot) x))) q false)
+      at-mark : (q : ℕ) → q < n → q ≢ x → (T (view ρ φ w .marked q) ⊎ T (has (fallenOf ρ φ (getD (w .class) x 0) (w .result) x more) q)) ↔ T (getD (marksIn ρ (s .slot) (s .mark) (bitOr (lostOf ρ φ (s .result) (slotOf (s .slot) x) more′) (2 ^ slotOf (s .slot) x))) q false)
       at-mark q qb i =
           let below = Iff·trans (lost-is ρ φ n s w m x more more′ xb alone more-is more-small′ q qb) (one-more (lostOf ρ φ (s .result) (g x) more′) (g x) (g q) (λ h. i (alone q qb h))) in
           let here = marks-at ρ (s .slot) (s .mark) lost q (up ρ φ n s w m q qb) in (
@@ -130,13 +130,13 @@ module _ (ρ φ n : ℕ) (s : Slots) (w : Window) (m : Mirrors ρ φ n s w) (x f
           )
 
       abbrev D : View
-      D = slotView ρ φ (masksForgotten ρ (at (s .slot) x) (s .unequal)) (resultsDropped ρ (at (s .slot) x) (s .result)) (masksForgotten ρ (at (s .slot) x) (s .ever))
+      D = slotView ρ φ (masksForgotten ρ (slotOf (s .slot) x) (s .unequal)) (resultsDropped ρ (slotOf (s .slot) x) (s .result)) (masksForgotten ρ (slotOf (s .slot) x) (s .ever))
 
       abbrev K₁ : View
-      K₁ = slotView ρ φ (masksForgotten ρ (at (s .slot) x) (s .unequal)) (resultRecorded ρ f (at (s .slot) y) (at (s .slot) z) (at (s .slot) x) (resultsDropped ρ (at (s .slot) x) (s .result)))
-          (everRecorded ρ f (at (s .slot) y) (at (s .slot) z) (at (s .slot) x) (masksForgotten ρ (at (s .slot) x) (s .ever)))
+      K₁ = slotView ρ φ (masksForgotten ρ (slotOf (s .slot) x) (s .unequal)) (resultRecorded ρ f (slotOf (s .slot) y) (slotOf (s .slot) z) (slotOf (s .slot) x) (resultsDropped ρ (slotOf (s .slot) x) (s .result)))
+          (everRecorded ρ f (slotOf (s .slot) y) (slotOf (s .slot) z) (slotOf (s .slot) x) (masksForgotten ρ (slotOf (s .slot) x) (s .ever)))
 
-      pub renewed : Represents ρ φ n (renewedSlots ρ φ s x f (at (s .slot) y) (at (s .slot) z)) w′
+      pub renewed : RepresentsWindow ρ φ n (renewedSlots ρ φ s x f (slotOf (s .slot) y) (slotOf (s .slot) z)) w′
       unfolding renewedSlots recordedSlots droppedSlots
       renewed = record {
         mirrors = record {
@@ -147,47 +147,47 @@ module _ (ρ φ n : ℕ) (s : Slots) (w : Window) (m : Mirrors ρ φ n s w) (x f
           clean = clean-renewed ρ (g x) (Used n g) (Used n g) K K₁ (m .clean) (λ p _ u. u) f (g y) (g z) (y, yb, refl) (z, zb, refl) (x, xb, refl) new;
           pulled = pulled-applied ρ n g g (view ρ φ w) (view ρ φ w′) K K₁ (m .pulled) (low ρ φ n s w m) x f y z (g x) xb yb zb (λ r rb d. (refl, λ h. d (alone r rb h))) refl
               (renamed-applied ρ φ w (m .shaped) n laws (m .inside) x f y z xb fb yb zb) new;
-          marked = marks (marksIn ρ (s .slot) (s .mark) (bitOr (lostOf ρ φ (s .result) (at (s .slot) x) more′) (2 ^ at (s .slot) x))) (marks-length ρ (s .slot) (s .mark) lost) at-mark;
+          marked = marks (marksIn ρ (s .slot) (s .mark) (bitOr (lostOf ρ φ (s .result) (slotOf (s .slot) x) more′) (2 ^ slotOf (s .slot) x))) (marks-length ρ (s .slot) (s .mark) lost) at-mark;
           infeasible = kept-infeasible ∙ m .infeasible;
         };
         single = single-renewed ρ f (g y) (g z) (g x) K K₁ o none new;
       }
         where
-          t : Tabled ρ φ (masksForgotten ρ (at (s .slot) x) (s .unequal)) (resultsDropped ρ (at (s .slot) x) (s .result)) (masksForgotten ρ (at (s .slot) x) (s .ever))
-          t = tabled-dropped ρ φ (at (s .slot) x) (s .unequal) (s .result) (s .ever) (m .laid .tables)
+          t : SlotTableLengths ρ φ (masksForgotten ρ (slotOf (s .slot) x) (s .unequal)) (resultsDropped ρ (slotOf (s .slot) x) (s .result)) (masksForgotten ρ (slotOf (s .slot) x) (s .ever))
+          t = tabled-dropped ρ φ (slotOf (s .slot) x) (s .unequal) (s .result) (s .ever) (m .laid .tables)
 
-          new : Renewed ρ f (at (s .slot) y) (at (s .slot) z) (at (s .slot) x) (slotView ρ φ (s .unequal) (s .result) (s .ever))
-              (slotView ρ φ (masksForgotten ρ (at (s .slot) x) (s .unequal)) (resultRecorded ρ f (at (s .slot) y) (at (s .slot) z) (at (s .slot) x) (resultsDropped ρ (at (s .slot) x) (s .result)))
-              (everRecorded ρ f (at (s .slot) y) (at (s .slot) z) (at (s .slot) x) (masksForgotten ρ (at (s .slot) x) (s .ever))))
+          new : Renewed ρ f (slotOf (s .slot) y) (slotOf (s .slot) z) (slotOf (s .slot) x) (slotView ρ φ (s .unequal) (s .result) (s .ever))
+              (slotView ρ φ (masksForgotten ρ (slotOf (s .slot) x) (s .unequal)) (resultRecorded ρ f (slotOf (s .slot) y) (slotOf (s .slot) z) (slotOf (s .slot) x) (resultsDropped ρ (slotOf (s .slot) x) (s .result)))
+              (everRecorded ρ f (slotOf (s .slot) y) (slotOf (s .slot) z) (slotOf (s .slot) x) (masksForgotten ρ (slotOf (s .slot) x) (s .ever))))
           new = renewed-dropped ρ f (g y) (g z) (g x) K D K₁ (dropped ρ φ (s .unequal) (s .result) (s .ever) (m .laid .tables .unequal-long) (m .laid .tables .result-long) (m .laid .tables .ever-long) (g x))
               (recorded ρ φ (masksForgotten ρ (g x) (s .unequal)) (resultsDropped ρ (g x) (s .result)) (masksForgotten ρ (g x) (s .ever)) (t .unequal-long) (t .result-long) (t .ever-long) f (g y) (g z) (g x) fb (low ρ φ n s w m y yb) (low ρ φ n s w m z zb))
 
     -- ---- x leaves its slot to others
 
-    module _ (e : getD (s .regs) (at (s .slot) x) 0 ≢ 2 ^ x) where
+    module _ (e : getD (s .regs) (slotOf (s .slot) x) 0 ≢ 2 ^ x) where
       abbrev c : ℕ
       c = freeFrom (s .regs) 0 ρ
 
-      free : (freeFrom (s .regs) 0 ρ < ρ) × (¬ Used n (at (s .slot)) (freeFrom (s .regs) 0 ρ))
+      free : (freeFrom (s .regs) 0 ρ < ρ) × (¬ Used n (slotOf (s .slot)) (freeFrom (s .regs) 0 ρ))
       free = let (j, jb, d, h) = another ρ φ n s w m x xb e in free-slot ρ n (s .slot) (s .regs) (m .grouped) x j xb jb d h (m .inside .fits)
 
       abbrev g′ : ℕ → ℕ
-      g′ = at (set (s .slot) x (freeFrom (s .regs) 0 ρ))
+      g′ = slotOf (set (s .slot) x (freeFrom (s .regs) 0 ρ))
 
       abbrev K₂ : View
-      K₂ = slotView ρ φ (s .unequal) (resultRecorded ρ f (at (s .slot) y) (at (s .slot) z) (freeFrom (s .regs) 0 ρ) (s .result)) (everRecorded ρ f (at (s .slot) y) (at (s .slot) z) (freeFrom (s .regs) 0 ρ) (s .ever))
+      K₂ = slotView ρ φ (s .unequal) (resultRecorded ρ f (slotOf (s .slot) y) (slotOf (s .slot) z) (freeFrom (s .regs) 0 ρ) (s .result)) (everRecorded ρ f (slotOf (s .slot) y) (slotOf (s .slot) z) (freeFrom (s .regs) 0 ρ) (s .ever))
 
-      own : at (set (s .slot) x (freeFrom (s .regs) 0 ρ)) x ≡ freeFrom (s .regs) 0 ρ
+      own : slotOf (set (s .slot) x (freeFrom (s .regs) 0 ρ)) x ≡ freeFrom (s .regs) 0 ρ
       own = at-same ρ n (s .slot) (s .regs) x c (m .inside .fits) (m .laid .low) (m .laid .regs-long) (m .grouped) xb (free .0)
 
-      lay : LaidIn ρ φ (recordedSlots ρ φ (placed s x (freeFrom (s .regs) 0 ρ)) x f (at (s .slot) y) (at (s .slot) z) (freeFrom (s .regs) 0 ρ))
+      lay : LaidIn ρ φ (recordedSlots ρ φ (placed s x (freeFrom (s .regs) 0 ρ)) x f (slotOf (s .slot) y) (slotOf (s .slot) z) (freeFrom (s .regs) 0 ρ))
       lay = laid-recorded ρ φ (placed s x c) x f (g y) (g z) c (laid-placed ρ φ s x c (up ρ φ n s w m x xb) (free .0) (m .laid))
 
-      new : Renewed ρ f (at (s .slot) y) (at (s .slot) z) (freeFrom (s .regs) 0 ρ) (slotView ρ φ (s .unequal) (s .result) (s .ever)) K₂
+      new : Renewed ρ f (slotOf (s .slot) y) (slotOf (s .slot) z) (freeFrom (s .regs) 0 ρ) (slotView ρ φ (s .unequal) (s .result) (s .ever)) K₂
       new = renewed-free ρ f (g y) (g z) c (Used n g) K K₂ (m .clean) (free .1) (y, yb, refl) (z, zb, refl)
           (recorded ρ φ (s .unequal) (s .result) (s .ever) (m .laid .tables .unequal-long) (m .laid .tables .result-long) (m .laid .tables .ever-long) f (g y) (g z) c fb (low ρ φ n s w m y yb) (low ρ φ n s w m z zb))
 
-      pub freshened : Represents ρ φ n (freshenedSlots ρ φ s x f (at (s .slot) y) (at (s .slot) z)) w′
+      pub freshened : RepresentsWindow ρ φ n (freshenedSlots ρ φ s x f (slotOf (s .slot) y) (slotOf (s .slot) z)) w′
       unfolding freshenedSlots recordedSlots
       freshened = rw (lt-ltb c ρ (free .0)) (record {
         mirrors = record {
@@ -207,26 +207,26 @@ module _ (ρ φ n : ℕ) (s : Slots) (w : Window) (m : Mirrors ρ φ n s w) (x f
         single = single-renewed ρ f (g y) (g z) c K K₂ o none new;
       })
 
-    pub new-represents : Represents ρ φ n (newSlots ρ φ s x f (at (s .slot) y) (at (s .slot) z)) w′
+    pub new-represents : RepresentsWindow ρ φ n (newSlots ρ φ s x f (slotOf (s .slot) y) (slotOf (s .slot) z)) w′
     unfolding newSlots
     new-represents = byTest (eqb (getD (s .regs) (g x) 0) (2 ^ x)) (λ t. rw t (renewed (eqb-true (getD (s .regs) (g x) 0) (2 ^ x) t))) (λ t. rw t (freshened (eqb-false (getD (s .regs) (g x) 0) (2 ^ x) t)))
 
 -- ---- a known value
 
-module _ (ρ φ n : ℕ) (s : Slots) (w : Window) (h : Represents ρ φ n s w) (x f y z : ℕ) (xb : x < n) (fb : f < φ) (yb : y < n) (zb : z < n) where
+module _ (ρ φ n : ℕ) (s : Slots) (w : Window) (h : RepresentsWindow ρ φ n s w) (x f y z : ℕ) (xb : x < n) (fb : f < φ) (yb : y < n) (zb : z < n) where
   -- the slots that hold the value, and the registers
   abbrev E : ℕ
-  E = getD (s .result) (place ρ f (at (s .slot) y) (at (s .slot) z)) 0
+  E = getD (s .result) (place ρ f (slotOf (s .slot) y) (slotOf (s .slot) z)) 0
 
   abbrev R : ℕ
   R = getD (w .result) (place ρ f y z) 0
 
-  pub entry-is : (r : ℕ) → r < ρ → T (has R r) ↔ ((r < n) × T (has E (at (s .slot) r)))
+  pub entry-is : (r : ℕ) → r < ρ → T (has R r) ↔ ((r < n) × T (has E (slotOf (s .slot) r)))
   entry-is r rb = (
     (λ t. let u = and-i (ltb f φ) (has R r) (lt→ltb f φ fb) t in
         let (_, _, rn) = h .mirrors .inside .result f y z r (up ρ φ n s w (h .mirrors) y yb) (up ρ φ n s w (h .mirrors) z zb) rb u in
-        (rn, and-r (ltb f φ) (has E (at (s .slot) r)) (h .mirrors .pulled .result f y z r yb zb rn .0 u))),
-    (λ (rn, t). and-r (ltb f φ) (has R r) (h .mirrors .pulled .result f y z r yb zb rn .1 (and-i (ltb f φ) (has E (at (s .slot) r)) (lt→ltb f φ fb) t))),
+        (rn, and-r (ltb f φ) (has E (slotOf (s .slot) r)) (h .mirrors .pulled .result f y z r yb zb rn .0 u))),
+    (λ (rn, t). and-r (ltb f φ) (has R r) (h .mirrors .pulled .result f y z r yb zb rn .1 (and-i (ltb f φ) (has E (slotOf (s .slot) r)) (lt→ltb f φ fb) t))),
   )
 
   -- with a slot in it, the registers are that slot's
@@ -235,8 +235,8 @@ module _ (ρ φ n : ℕ) (s : Slots) (w : Window) (h : Represents ρ φ n s w) (
     (λ k. let (ni, e) = entry-is i ib .0 k in
         h .mirrors .grouped .members t i tb .1 (
           ni,
-          h .single .one f (at (s .slot) y) (at (s .slot) z) (at (s .slot) i) t (low ρ φ n s w (h .mirrors) y yb) (low ρ φ n s w (h .mirrors) z zb) (low ρ φ n s w (h .mirrors) i ni) tb
-              (and-i (ltb f φ) (has E (at (s .slot) i)) (lt→ltb f φ fb) e) (and-i (ltb f φ) (has E t) (lt→ltb f φ fb) u),
+          h .single .one f (slotOf (s .slot) y) (slotOf (s .slot) z) (slotOf (s .slot) i) t (low ρ φ n s w (h .mirrors) y yb) (low ρ φ n s w (h .mirrors) z zb) (low ρ φ n s w (h .mirrors) i ni) tb
+              (and-i (ltb f φ) (has E (slotOf (s .slot) i)) (lt→ltb f φ fb) e) (and-i (ltb f φ) (has E t) (lt→ltb f φ fb) u),
         )),
     (λ k. let (ni, e) = h .mirrors .grouped .members t i tb .0 k in entry-is i ib .1 (ni, subst (λ j. T (has E j)) (sym e) u)),
   )))
@@ -250,13 +250,13 @@ module _ (ρ φ n : ℕ) (s : Slots) (w : Window) (h : Represents ρ φ n s w) (
   found = ⊎-elim
       (λ l. let u = truth (has E (leastIn ρ E)) (least-in ρ E l) in
       let k = known (leastIn ρ E) l u in
-      let (_, _, (r, rn, e)) = h .mirrors .clean .result f (at (s .slot) y) (at (s .slot) z) (leastIn ρ E) (low ρ φ n s w (h .mirrors) y yb) (low ρ φ n s w (h .mirrors) z zb) l (and-i (ltb f φ) (has E (leastIn ρ E)) (lt→ltb f φ fb) u) in
+      let (_, _, (r, rn, e)) = h .mirrors .clean .result f (slotOf (s .slot) y) (slotOf (s .slot) z) (leastIn ρ E) (low ρ φ n s w (h .mirrors) y yb) (low ρ φ n s w (h .mirrors) z zb) l (and-i (ltb f φ) (has E (leastIn ρ E)) (lt→ltb f φ fb) u) in
       let ru = up ρ φ n s w (h .mirrors) r rn in
       let ir = entry-is r ru .1 (rn, subst (λ j. T (has E j)) (sym e) u) in
       let lr : leastIn ρ R < ρ = ⊎-elim (λ q. q) (λ q. absurd (no-truth (has R r) (least-below ρ R r (omega arith)) ir)) (less-or (leastIn ρ R) ρ) in
       inl (rw (lt-ltb (leastIn ρ E) ρ l) (ap (leastIn ρ) (sym k)), entry-is (leastIn ρ R) lr .0 (truth (has R (leastIn ρ R)) (least-in ρ R lr)) .0))
       (λ l. let none : (c : ℕ) → c < ρ → ¬ T (has E c) = (λ c cb. no-truth (has E c) (least-below ρ E c (omega arith))) in
-      let lr : ρ ≤ leastIn ρ R = ⊎-elim (λ q. let (rn, t) = entry-is (leastIn ρ R) q .0 (truth (has R (leastIn ρ R)) (least-in ρ R q)) in absurd (none (at (s .slot) (leastIn ρ R)) (low ρ φ n s w (h .mirrors) (leastIn ρ R) rn) t)) (λ q. q) (less-or (leastIn ρ R) ρ) in
+      let lr : ρ ≤ leastIn ρ R = ⊎-elim (λ q. let (rn, t) = entry-is (leastIn ρ R) q .0 (truth (has R (leastIn ρ R)) (least-in ρ R q)) in absurd (none (slotOf (s .slot) (leastIn ρ R)) (low ρ φ n s w (h .mirrors) (leastIn ρ R) rn) t)) (λ q. q) (less-or (leastIn ρ R) ρ) in
       inr (rw (le-ltb (leastIn ρ E) ρ l) (omega arith), lr, none))
       (less-or (leastIn ρ E) ρ)
 
@@ -264,7 +264,7 @@ module _ (ρ φ n : ℕ) (s : Slots) (w : Window) (h : Represents ρ φ n s w) (
   unfolding windows.applyOf
   shaped-new l = rw (le-ltb (leastIn ρ R) ρ l) at (shaped-performed ρ φ w (Apply x f y z) (up ρ φ n s w (h .mirrors) x xb, fb, up ρ φ n s w (h .mirrors) y yb, up ρ φ n s w (h .mirrors) z zb) (h .mirrors .shaped))
 
-  pub apply-represents : Represents ρ φ n (applySlots ρ φ s x f y z) (windows.applyOf ρ φ w x f y z)
+  pub apply-represents : RepresentsWindow ρ φ n (applySlots ρ φ s x f y z) (windows.applyOf ρ φ w x f y z)
   unfolding applySlots windows.applyOf
   apply-represents = ⊎-elim
       (λ (e, l). rw (e, lt-ltb (leastIn ρ R) ρ (up ρ φ n s w (h .mirrors) (leastIn ρ R) l)) (copied-represents ρ φ n s w h x (leastIn ρ R) xb l))

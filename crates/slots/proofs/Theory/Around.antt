@@ -16,7 +16,7 @@ use Rattle.semantics.proofs.Theory.Booleans.{and-l, and-r, and-i}
 use Rattle.semantics.proofs.Theory.Of.{same-test}
 use Rattle.window.specs.Places.{place, first-place, second-place, place-is, function-place, line-entry, along-entry}
 use Rattle.window.proofs.Theory.Places.{place-below, function-below, first-below, second-below, entry-below}
-use Rattle.window.specs.Places.{Function, First, Second}
+use Rattle.window.specs.Places.{placeFunction, placeFirst, placeSecond}
 use Rattle.window.specs.Table.{table}
 use Rattle.window.proofs.Theory.Table.{table-at, table-length}
 use Rattle.window.specs.Bits.{nonempty}
@@ -27,7 +27,7 @@ use Rattle.window.proofs.Theory.Through.{results-length}
 use Rattle.window.proofs.Theory.Read.{pick-below, results-is}
 use Rattle.window.specs.Marks.{unionOf, flagOf, belowOf, besideOf, passes, raisedOf, aboveOf, foldedOf, lostOf}
 use Rattle.window.proofs.Theory.Marks.{union-is, folded-is, above-is, beside-is, beside-small, raised-is, raised-small, lost-small, lost-beneath}
-use Rattle.window.proofs.Theory.Marks.{Below, seeded, lower, Beneath, extra, direct, beneath}
+use Rattle.window.proofs.Theory.Marks.{BelowSeed, seeded, lower, Beneath, extra, direct, beneath}
 use Rattle.slots.specs.Performing.{resultsDropped, resultsRenamed, resultRecorded, aboveSlots, besideSlots, lostSlots, pairRecorded}
 use Rattle.slots.proofs.Theory.Laying.{dropped-length}
 use Rattle.slots.proofs.Theory.Tables.{added, results-dropped-is}
@@ -184,16 +184,16 @@ module _ (ρ φ : ℕ) (l t : List ℕ) (h : Around ρ φ l t) where
           (λ z. (place ρ f g j, place-below ρ f g j gb jb φ fb, z, inl (sym (first-place ρ f g j gb jb)))) v),
       (λ (k, kb, u, d). ⊎-elim
           (λ e. (
-            Second ρ k,
+            placeSecond ρ k,
             second-below ρ φ k kb,
-            subst (λ z. T (has (getD t z 0) c)) (sym (down (Second ρ k) g)) (h .holds (Second ρ k) g c (second-below ρ φ k kb) gb cb .1
-                (Function ρ k, function-below ρ φ k kb, inr (subst (λ z. T (has (getD l z 0) c)) (sym (place-is ρ k) ∙ ap (λ z. place ρ (Function ρ k) z (Second ρ k)) (sym e)) u))),
+            subst (λ z. T (has (getD t z 0) c)) (sym (down (placeSecond ρ k) g)) (h .holds (placeSecond ρ k) g c (second-below ρ φ k kb) gb cb .1
+                (placeFunction ρ k, function-below ρ φ k kb, inr (subst (λ z. T (has (getD l z 0) c)) (sym (place-is ρ k) ∙ ap (λ z. place ρ (placeFunction ρ k) z (placeSecond ρ k)) (sym e)) u))),
           ))
           (λ e. (
-            First ρ k,
+            placeFirst ρ k,
             first-below ρ φ k kb,
-            subst (λ z. T (has (getD t z 0) c)) (sym (down (First ρ k) g)) (h .holds (First ρ k) g c (first-below ρ φ k kb) gb cb .1
-                (Function ρ k, function-below ρ φ k kb, inl (subst (λ z. T (has (getD l z 0) c)) (sym (place-is ρ k) ∙ ap (λ z. place ρ (Function ρ k) (First ρ k) z) (sym e)) u))),
+            subst (λ z. T (has (getD t z 0) c)) (sym (down (placeFirst ρ k) g)) (h .holds (placeFirst ρ k) g c (first-below ρ φ k kb) gb cb .1
+                (placeFunction ρ k, function-below ρ φ k kb, inl (subst (λ z. T (has (getD l z 0) c)) (sym (place-is ρ k) ∙ ap (λ z. place ρ (placeFunction ρ k) (placeFirst ρ k) z) (sym e)) u))),
           )) d),
     ) (Iff·symm (above-is ρ φ l g c gb))));
   }
@@ -228,32 +228,32 @@ module _ (ρ φ : ℕ) (l t : List ℕ) (h : Around ρ φ l t) where
         (λ u. let (f, fb, v) = folded-is ρ φ l h x c hb xb .0 u in direct (place ρ f h x) (place-below ρ f h x hb xb φ fb) cb v (inr (inl (second-place ρ f h x hb xb))) (inl (sym (first-place ρ f h x hb xb))))
         p
 
-    into : {h : ℕ} → Below ρ φ l seed h → Beneath ρ φ l x more h ⊎ (h ≡ x)
+    into : {h : ℕ} → BelowSeed ρ φ l seed h → Beneath ρ φ l x more h ⊎ (h ≡ x)
     into {h} (seeded t) = ⊎-elim (λ u. ⊎-elim (λ v. inr (single-is x h .0 v)) (λ v. inl (near h v)) (or-is (2 ^ x) (besideOf ρ (foldedOf ρ φ l) x ρ) h .0 u)) (λ u. inl (extra u)) (or-is (bitOr (2 ^ x) (besideOf ρ (foldedOf ρ φ l) x ρ)) more h .0 t)
     into (lower {c} hb cb (k, kb, u, d) o) = ⊎-elim (λ b. inl (beneath k kb cb u b d)) (λ e. inl (direct k kb cb u (inr (inr e)) d)) (into o)
 
-    self : Below ρ φ l seed x
+    self : BelowSeed ρ φ l seed x
     self = seeded (or-is (bitOr (2 ^ x) (besideOf ρ (foldedOf ρ φ l) x ρ)) more x .1 (inl (or-is (2 ^ x) (besideOf ρ (foldedOf ρ φ l) x ρ) x .1 (inl (single-is x x .1 refl)))))
 
     -- an argument of a result at x lies beside x, or is x
-    beside : (k : ℕ) {c h : ℕ} → k < φ * ρ * ρ → c < ρ → T (has (getD l k 0) c) → (First ρ k ≡ x) ⊎ (Second ρ k ≡ x) → (h ≡ First ρ k) ⊎ (h ≡ Second ρ k) → Below ρ φ l seed h
+    beside : (k : ℕ) {c h : ℕ} → k < φ * ρ * ρ → c < ρ → T (has (getD l k 0) c) → (placeFirst ρ k ≡ x) ⊎ (placeSecond ρ k ≡ x) → (h ≡ placeFirst ρ k) ⊎ (h ≡ placeSecond ρ k) → BelowSeed ρ φ l seed h
     beside k {c} {h} kb cb t d e = go d e
       where
-        from : (h : ℕ) → h < ρ → T (has (getD (foldedOf ρ φ l) (ρ * x + h) 0) c) ⊎ T (has (getD (foldedOf ρ φ l) (ρ * h + x) 0) c) → Below ρ φ l seed h
+        from : (h : ℕ) → h < ρ → T (has (getD (foldedOf ρ φ l) (ρ * x + h) 0) c) ⊎ T (has (getD (foldedOf ρ φ l) (ρ * h + x) 0) c) → BelowSeed ρ φ l seed h
         from h hb p = seeded (or-is (bitOr (2 ^ x) (besideOf ρ (foldedOf ρ φ l) x ρ)) more h .1 (inl (or-is (2 ^ x) (besideOf ρ (foldedOf ρ φ l) x ρ) h .1 (inr (beside-is ρ (foldedOf ρ φ l) x ρ h .1 (hb, (c, cb, p)))))))
 
-        go : (First ρ k ≡ x) ⊎ (Second ρ k ≡ x) → (h ≡ First ρ k) ⊎ (h ≡ Second ρ k) → Below ρ φ l seed h
-        go (inl p) (inl q) = subst (Below ρ φ l seed) (sym (q ∙ p)) self
+        go : (placeFirst ρ k ≡ x) ⊎ (placeSecond ρ k ≡ x) → (h ≡ placeFirst ρ k) ⊎ (h ≡ placeSecond ρ k) → BelowSeed ρ φ l seed h
+        go (inl p) (inl q) = subst (BelowSeed ρ φ l seed) (sym (q ∙ p)) self
         go (inl p) (inr q) = let hb = subst (λ z. z < ρ) (sym q) (second-below ρ φ k kb) in
-            from h hb (inl (folded-is ρ φ l x h c xb hb .1 (Function ρ k, function-below ρ φ k kb, subst (λ z. T (has (getD l z 0) c)) (sym (place-is ρ k) ∙ ap₂ (place ρ (Function ρ k)) p (sym q)) t)))
+            from h hb (inl (folded-is ρ φ l x h c xb hb .1 (placeFunction ρ k, function-below ρ φ k kb, subst (λ z. T (has (getD l z 0) c)) (sym (place-is ρ k) ∙ ap₂ (place ρ (placeFunction ρ k)) p (sym q)) t)))
         go (inr p) (inl q) = let hb = subst (λ z. z < ρ) (sym q) (first-below ρ φ k kb) in
-            from h hb (inr (folded-is ρ φ l h x c hb xb .1 (Function ρ k, function-below ρ φ k kb, subst (λ z. T (has (getD l z 0) c)) (sym (place-is ρ k) ∙ ap₂ (place ρ (Function ρ k)) (sym q) p) t)))
-        go (inr p) (inr q) = subst (Below ρ φ l seed) (sym (q ∙ p)) self
+            from h hb (inr (folded-is ρ φ l h x c hb xb .1 (placeFunction ρ k, function-below ρ φ k kb, subst (λ z. T (has (getD l z 0) c)) (sym (place-is ρ k) ∙ ap₂ (place ρ (placeFunction ρ k)) (sym q) p) t)))
+        go (inr p) (inr q) = subst (BelowSeed ρ φ l seed) (sym (q ∙ p)) self
 
-    argument : (k h : ℕ) → k < φ * ρ * ρ → (h ≡ First ρ k) ⊎ (h ≡ Second ρ k) → h < ρ
+    argument : (k h : ℕ) → k < φ * ρ * ρ → (h ≡ placeFirst ρ k) ⊎ (h ≡ placeSecond ρ k) → h < ρ
     argument k h kb d = ⊎-elim (λ e. subst (λ z. z < ρ) (sym e) (first-below ρ φ k kb)) (λ e. subst (λ z. z < ρ) (sym e) (second-below ρ φ k kb)) d
 
-    back : {h : ℕ} → Beneath ρ φ l x more h → Below ρ φ l seed h
+    back : {h : ℕ} → Beneath ρ φ l x more h → BelowSeed ρ φ l seed h
     back {h} (extra t) = seeded (or-is (bitOr (2 ^ x) (besideOf ρ (foldedOf ρ φ l) x ρ)) more h .1 (inr t))
     back {h} (direct k {c} kb cb t d e) = ⊎-elim (λ p. beside k kb cb t (inl p) e) (⊎-elim (λ p. beside k kb cb t (inr p) e) (λ p. lower (argument k h kb e) xb (k, kb, subst (λ z. T (has (getD l k 0) z)) p t, e) self)) d
     back {h} (beneath k {c} kb cb t o e) = lower (argument k h kb e) cb (k, kb, t, e) (back o)
@@ -266,7 +266,7 @@ module _ (ρ φ : ℕ) (l t : List ℕ) (h : Around ρ φ l t) where
         let v = aboveOf ρ (foldedOf ρ φ l) in
         passes-same ρ u v above-same (2 ^ ρ) _ ∙ ap (λ m. passes ρ v (2 ^ ρ) (bitOr (bitOr (2 ^ x) m) more)) (beside-same x xb ρ (omega arith)) ∙ bits-same ρ A B (raised-small ρ (aboveOf ρ (foldedOf ρ φ l)) seed seed-small) (or-small ρ (lostOf ρ φ l x more) (2 ^ x) (lost-small ρ φ l x more xb mb) (pow-small ρ x xb)) (λ i ib. bit-same A B i (same-test (has A i) (has B i) (
           (λ k. or-is (lostOf ρ φ l x more) (2 ^ x) i .1 (⊎-elim (λ b. inl (lost-beneath ρ φ l x more xb mb i .1 b)) (λ e. inr (single-is x i .1 e)) (into (raised-is ρ φ l seed i seed-small .0 k)))),
-          (λ k. raised-is ρ φ l seed i seed-small .1 (⊎-elim (λ b. back (lost-beneath ρ φ l x more xb mb i .0 b)) (λ e. subst (Below ρ φ l seed) (sym (single-is x i .0 e)) self) (or-is (lostOf ρ φ l x more) (2 ^ x) i .0 k))),
+          (λ k. raised-is ρ φ l seed i seed-small .1 (⊎-elim (λ b. back (lost-beneath ρ φ l x more xb mb i .0 b)) (λ e. subst (BelowSeed ρ φ l seed) (sym (single-is x i .0 e)) self) (or-is (lostOf ρ φ l x more) (2 ^ x) i .0 k))),
         )))
       where
         A : ℕ

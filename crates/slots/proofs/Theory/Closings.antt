@@ -15,7 +15,7 @@ use Rattle.semantics.proofs.Theory.Booleans.{or-not, or-l, or-r, is-true, is-fa
 use Rattle.semantics.proofs.Theory.Of.{same-test}
 use Rattle.window.proofs.Theory.Bits.{truth, no-truth, none-in, nonempty-is, minus-is, eq-or, less-or}
 use Rattle.window.specs.Bits.{nonempty, minus}
-use Rattle.window.specs.Places.{place, Function, First, Second}
+use Rattle.window.specs.Places.{place, placeFunction, placeFirst, placeSecond}
 use Rattle.window.proofs.Theory.Places.{place-below, function-below, first-below, second-below}
 use Rattle.window.specs.Performing as windows
 use Rattle.window.proofs.Theory.Performing as windows-laws
@@ -23,7 +23,7 @@ use Rattle.window.specs.Performing.{restOf}
 use Rattle.window.proofs.Theory.Performing.{rest-some}
 use Rattle.window.proofs.Theory.Closing.{Stable, name-in, rest-is, rest-none}
 use Rattle.window.specs.declared.Window.{Window}
-use Rattle.slots.specs.Slots.{Slots, at}
+use Rattle.slots.specs.Slots.{Slots, slotOf}
 use Rattle.slots.specs.Performing.{manyOf, doubledOf, entryOf, findSlots, mergedSlots, closedSlots}
 use Rattle.slots.specs.Represents.{Used, Single, slotView, Mirrors}
 use Rattle.slots.proofs.Theory.Pulling.{move3}
@@ -81,16 +81,16 @@ module _ (ρ m : ℕ) where
 
 module _ (ρ φ n : ℕ) (s : Slots) (w : Window) (m : Mirrors ρ φ n s w) where
   abbrev g : ℕ → ℕ
-  g = at (s .slot)
+  g = slotOf (s .slot)
 
   abbrev E : ℕ → ℕ
   E j = entryOf ρ (s .slot) (s .regs) (s .result) j
 
   -- a slot in an entry is used
-  entry-used : (j c : ℕ) → j < φ * ρ * ρ → c < ρ → T (has (entryOf ρ (s .slot) (s .regs) (s .result) j) c) → Used n (at (s .slot)) c
+  entry-used : (j c : ℕ) → j < φ * ρ * ρ → c < ρ → T (has (entryOf ρ (s .slot) (s .regs) (s .result) j) c) → Used n (slotOf (s .slot)) c
   entry-used j c jb cb t =
       let (an, bn, u) = entry-has ρ n (s .slot) (s .regs) (m .laid .low) (m .grouped) (s .result) j c (first-below ρ φ j jb) (second-below ρ φ j jb) .0 t in
-      let (_, _, r) = m .clean .result (Function ρ j) (g (First ρ j)) (g (Second ρ j)) c (low ρ φ n s w m (First ρ j) an) (low ρ φ n s w m (Second ρ j) bn) cb (rw (lt-ltb (Function ρ j) φ (function-below ρ φ j jb)) u) in
+      let (_, _, r) = m .clean .result (placeFunction ρ j) (g (placeFirst ρ j)) (g (placeSecond ρ j)) c (low ρ φ n s w m (placeFirst ρ j) an) (low ρ φ n s w m (placeSecond ρ j) bn) cb (rw (lt-ltb (placeFunction ρ j) φ (function-below ρ φ j jb)) u) in
       r
 
   -- a result is in two classes exactly if it is in two slots
@@ -143,8 +143,8 @@ module _ (ρ φ n : ℕ) (s : Slots) (w : Window) (m : Mirrors ρ φ n s w) wher
           let H = entry-has ρ n (s .slot) (s .regs) (m .laid .low) (m .grouped) (s .result) j in
           let (an, bn, u′) = H c (first-below ρ φ j jb) (second-below ρ φ j jb) .0 u in
           let (_, _, v′) = H d (first-below ρ φ j jb) (second-below ρ φ j jb) .0 v in
-          let k = place ρ (Function ρ j) (g (First ρ j)) (g (Second ρ j)) in
-          doubled-none ρ 0 (s .result) (φ * ρ * ρ) e k (place-below ρ (Function ρ j) (g (First ρ j)) (g (Second ρ j)) (low ρ φ n s w m (First ρ j) an) (low ρ φ n s w m (Second ρ j) bn) φ (function-below ρ φ j jb)) (many-is ρ (getD (s .result) k 0) .1 (c, d, cb, db, i, u′, v′))
+          let k = place ρ (placeFunction ρ j) (g (placeFirst ρ j)) (g (placeSecond ρ j)) in
+          doubled-none ρ 0 (s .result) (φ * ρ * ρ) e k (place-below ρ (placeFunction ρ j) (g (placeFirst ρ j)) (g (placeSecond ρ j)) (low ρ φ n s w m (placeFirst ρ j) an) (low ρ φ n s w m (placeSecond ρ j) bn) φ (function-below ρ φ j jb)) (many-is ρ (getD (s .result) k 0) .1 (c, d, cb, db, i, u′, v′))
 
   abbrev entry : ℕ
   entry = findSlots ρ (s .slot) (s .regs) (s .result) 0 (φ * ρ * ρ)
@@ -153,7 +153,7 @@ module _ (ρ φ n : ℕ) (s : Slots) (w : Window) (m : Mirrors ρ φ n s w) wher
   one = leastIn ρ (findSlots ρ (s .slot) (s .regs) (s .result) 0 (φ * ρ * ρ))
 
   abbrev others : ℕ
-  others = minus (findSlots ρ (s .slot) (s .regs) (s .result) 0 (φ * ρ * ρ)) (getD (s .regs) (at (s .slot) one) 0)
+  others = minus (findSlots ρ (s .slot) (s .regs) (s .result) 0 (φ * ρ * ρ)) (getD (s .regs) (slotOf (s .slot) one) 0)
 
   one-in : one < ρ → one < n
   one-in l = find-in (φ * ρ * ρ) 0 one l (name-in ρ φ entry l)
@@ -161,7 +161,7 @@ module _ (ρ φ n : ℕ) (s : Slots) (w : Window) (m : Mirrors ρ φ n s w) wher
   rest-same : one < ρ → restOf ρ φ (w .class) entry ≡ others
   rest-same l = sym (rest-some ρ φ (w .class) entry one refl l) ∙ ap (minus entry) (class-is ρ φ n s w m one (one-in l))
 
-  two-in : leastIn ρ others < ρ → (leastIn ρ others < n) × (at (s .slot) one ≡ at (s .slot) (leastIn ρ others) → one < ρ → ⊥)
+  two-in : leastIn ρ others < ρ → (leastIn ρ others < n) × (slotOf (s .slot) one ≡ slotOf (s .slot) (leastIn ρ others) → one < ρ → ⊥)
   two-in l =
       let (p, q) = minus-is entry (getD (s .regs) (g one) 0) (leastIn ρ others) .0 (name-in ρ φ others l) in
       let b = find-in (φ * ρ * ρ) 0 (leastIn ρ others) l p in
@@ -181,7 +181,7 @@ module _ (ρ φ k : ℕ) (s : Slots) where
   first = leastIn ρ found
 
   abbrev second : ℕ
-  second = leastIn ρ (minus found (getD (s .regs) (at (s .slot) first) 0))
+  second = leastIn ρ (minus found (getD (s .regs) (slotOf (s .slot) first) 0))
 
   closed-first : ltb first ρ ≡ false → closedSlots ρ φ (suc k) s ≡ s
   unfolding closedSlots
@@ -191,7 +191,7 @@ module _ (ρ φ k : ℕ) (s : Slots) where
   unfolding closedSlots
   closed-second t = byTest (doubledOf ρ (s .result) (φ * ρ * ρ)) (λ d. rw d (byTest (ltb first ρ) (λ u. rw (u, t)) (λ u. rw u))) (λ d. rw d)
 
-  closed-merged : doubledOf ρ (s .result) (φ * ρ * ρ) ≡ true → ltb first ρ ≡ true → ltb second ρ ≡ true → closedSlots ρ φ (suc k) s ≡ closedSlots ρ φ k (mergedSlots ρ φ s (at (s .slot) first) (at (s .slot) second))
+  closed-merged : doubledOf ρ (s .result) (φ * ρ * ρ) ≡ true → ltb first ρ ≡ true → ltb second ρ ≡ true → closedSlots ρ φ (suc k) s ≡ closedSlots ρ φ k (mergedSlots ρ φ s (slotOf (s .slot) first) (slotOf (s .slot) second))
   unfolding closedSlots
   closed-merged d t u = rw (d, t, u)
 
@@ -209,7 +209,7 @@ module _ (ρ φ n k : ℕ) (s : Slots) (w : Window) (m : Mirrors ρ φ n s w) (n
   o = leastIn ρ (findSlots ρ (s .slot) (s .regs) (s .result) 0 (φ * ρ * ρ))
 
   abbrev t : ℕ
-  t = leastIn ρ (minus (findSlots ρ (s .slot) (s .regs) (s .result) 0 (φ * ρ * ρ)) (getD (s .regs) (at (s .slot) o) 0))
+  t = leastIn ρ (minus (findSlots ρ (s .slot) (s .regs) (s .result) 0 (φ * ρ * ρ)) (getD (s .regs) (slotOf (s .slot) o) 0))
 
   same : findSlots ρ (s .slot) (s .regs) (s .result) 0 (φ * ρ * ρ) ≡ windows.findOf ρ φ (w .class) (w .result) 0 (φ * ρ * ρ)
   same = sym (find-same ρ φ n s w m (φ * ρ * ρ) 0 (omega arith))
@@ -222,12 +222,12 @@ module _ (ρ φ n k : ℕ) (s : Slots) (w : Window) (m : Mirrors ρ φ n s w) (n
   merges d ob tb =
       let (tn, apart) = two-in ρ φ n s w m tb in
       along ρ φ n (closed-merged ρ φ k s d (lt-ltb o ρ ob) (lt-ltb t ρ tb))
-      (windows-laws.closed-more ρ φ (suc k) o t F (minus F (getD (s .regs) (at (s .slot) o) 0)) w same refl (sym (rest-same ρ φ n s w m ob)) refl (omega arith) (windows.mergedOf ρ φ w o t) ob tb refl ∙ ap (λ j. windows.closedOf ρ φ j (windows.mergedOf ρ φ w o t)) (omega arith))
-      (next (mergedSlots ρ φ s (at (s .slot) o) (at (s .slot) t)) (windows.mergedOf ρ φ w o t) (merged-mirrors ρ φ n s w m o t (one-in ρ φ n s w m ob) tn (λ e. apart e ob)))
+      (windows-laws.closed-more ρ φ (suc k) o t F (minus F (getD (s .regs) (slotOf (s .slot) o) 0)) w same refl (sym (rest-same ρ φ n s w m ob)) refl (omega arith) (windows.mergedOf ρ φ w o t) ob tb refl ∙ ap (λ j. windows.closedOf ρ φ j (windows.mergedOf ρ φ w o t)) (omega arith))
+      (next (mergedSlots ρ φ s (slotOf (s .slot) o) (slotOf (s .slot) t)) (windows.mergedOf ρ φ w o t) (merged-mirrors ρ φ n s w m o t (one-in ρ φ n s w m ob) tn (λ e. apart e ob)))
 
   ends : o < ρ → ρ ≤ t → Mirrors ρ φ n (closedSlots ρ φ (suc k) s) (windows.closedOf ρ φ (suc k) w)
   ends ob l = along ρ φ n (closed-second ρ φ k s (le-ltb t ρ l))
-      (windows-laws.closed-one ρ φ (suc k) o t F (minus F (getD (s .regs) (at (s .slot) o) 0)) w same refl (sym (rest-same ρ φ n s w m ob)) refl (omega arith) ob l) m
+      (windows-laws.closed-one ρ φ (suc k) o t F (minus F (getD (s .regs) (slotOf (s .slot) o) 0)) w same refl (sym (rest-same ρ φ n s w m ob)) refl (omega arith) ob l) m
 
   turn : Mirrors ρ φ n (closedSlots ρ φ (suc k) s) (windows.closedOf ρ φ (suc k) w)
   turn = byTest (doubledOf ρ (s .result) (φ * ρ * ρ))

@@ -27,22 +27,22 @@ use Rattle.window.specs.Viewing.{view}
 use Rattle.window.proofs.Theory.Copying.{copied-same, copied-other, fallen-is, marked-copied, renamed-copied, inside-copied}
 use Rattle.window.proofs.Theory.Shape.{shaped-tables}
 use Rattle.window.specs.declared.Window.{Window}
-use Rattle.slots.specs.Slots.{Slots, at}
+use Rattle.slots.specs.Slots.{Slots, slotOf}
 use Rattle.slots.specs.Performing.{placed, withMark, marksIn, resultsDropped, droppedSlots, leftSlots, copiedSlots}
 use Rattle.slots.proofs.Theory.Laying.{laid-placed, laid-left, LaidIn}
-use Rattle.slots.specs.Represents.{Used, Single, slotView, Mirrors, Represents}
+use Rattle.slots.specs.Represents.{Used, Single, slotView, Mirrors, RepresentsWindow}
 use Rattle.slots.proofs.Theory.Pulling.{laws-pulled, pulled-copied, alike-same, alike-dropped, clean-dropped, clean-kept, single-dropped, Dropped}
 use Rattle.slots.proofs.Theory.Tables.{dropped}
 use Rattle.slots.proofs.Theory.Marking.{one-more, up, low, only, alone-is, lost-is}
 use Rattle.slots.proofs.Theory.Moving.{at-same, keep, grouped-moved, keep-all}
 
-pub marks-at : (ρ : ℕ) (slot : List ℕ) (mark : List Bool) (lost q : ℕ) → q < ρ → getD (marksIn ρ slot mark lost) q false ≡ (getD mark q false || has lost (at slot q))
+pub marks-at : (ρ : ℕ) (slot : List ℕ) (mark : List Bool) (lost q : ℕ) → q < ρ → getD (marksIn ρ slot mark lost) q false ≡ (getD mark q false || has lost (slotOf slot q))
 unfolding marksIn
-marks-at ρ slot mark lost q qb = table-at (λ r. getD mark r false || has lost (at slot r)) ρ q false qb
+marks-at ρ slot mark lost q qb = table-at (λ r. getD mark r false || has lost (slotOf slot r)) ρ q false qb
 
 module _ (ρ φ n : ℕ) (s : Slots) (w : Window) (m : Mirrors ρ φ n s w) (o : Single ρ (slotView ρ φ (s .unequal) (s .result) (s .ever))) (x y : ℕ) (xb : x < n) (yb : y < n) where
   abbrev g : ℕ → ℕ
-  g = at (s .slot)
+  g = slotOf (s .slot)
 
   abbrev K : View
   K = slotView ρ φ (s .unequal) (s .result) (s .ever)
@@ -53,17 +53,17 @@ module _ (ρ φ n : ℕ) (s : Slots) (w : Window) (m : Mirrors ρ φ n s w) (o :
   laws : Laws n (view ρ φ w)
   laws = laws-pulled n g (view ρ φ w) K (m .pulled)
 
-  module _ (d : at (s .slot) x ≢ at (s .slot) y) where
+  module _ (d : slotOf (s .slot) x ≢ slotOf (s .slot) y) where
     abbrev g′ : ℕ → ℕ
-    g′ = at (set (s .slot) x (at (s .slot) y))
+    g′ = slotOf (set (s .slot) x (slotOf (s .slot) y))
 
     apart : x ≢ y
     apart e = d (ap g e)
 
-    here : at (set (s .slot) x (at (s .slot) y)) x ≡ at (s .slot) y
+    here : slotOf (set (s .slot) x (slotOf (s .slot) y)) x ≡ slotOf (s .slot) y
     here = at-same ρ n (s .slot) (s .regs) x (g y) (m .inside .fits) (m .laid .low) (m .laid .regs-long) (m .grouped) xb (low ρ φ n s w m y yb)
 
-    there : (r : ℕ) → r ≢ x → at (set (s .slot) x (at (s .slot) y)) r ≡ at (s .slot) r
+    there : (r : ℕ) → r ≢ x → slotOf (set (s .slot) x (slotOf (s .slot) y)) r ≡ slotOf (s .slot) r
     there r i = getD-set-other (s .slot) x r (g y) 0 i
 
     source : (r : ℕ) → r < n → copied x y r < n
@@ -73,7 +73,7 @@ module _ (ρ φ n : ℕ) (s : Slots) (w : Window) (m : Mirrors ρ φ n s w) (o :
     not-x : (r : ℕ) → copied x y r ≢ x
     not-x r e = ⊎-elim (λ i. apart (sym (sym (copied-same x y) ∙ ap (copied x y) (sym i) ∙ e))) (λ i. i (sym (copied-other x y r i) ∙ e)) (eq-or r x)
 
-    slot-of : (r : ℕ) → r < n → at (s .slot) (copied x y r) ≡ at (set (s .slot) x (at (s .slot) y)) r
+    slot-of : (r : ℕ) → r < n → slotOf (s .slot) (copied x y r) ≡ slotOf (set (s .slot) x (slotOf (s .slot) y)) r
     slot-of r rb = ⊎-elim
         (λ e. ap (λ k. g (copied x y k)) e ∙ ap g (copied-same x y) ∙ sym (ap g′ e ∙ here))
         (λ e. ap g (copied-other x y r e) ∙ sym (there r e))
@@ -104,16 +104,16 @@ module _ (ρ φ n : ℕ) (s : Slots) (w : Window) (m : Mirrors ρ φ n s w) (o :
     fall = fallen-is ρ φ (getD (w .class) x 0) (w .result) x 0 (up ρ φ n s w m x xb) (none-small ρ)
 
     abbrev P : Slots
-    P = placed s x (at (s .slot) y)
+    P = placed s x (slotOf (s .slot) y)
 
     abbrev E : Slots
-    E = droppedSlots ρ φ (placed s x (at (s .slot) y)) (at (s .slot) x) 0
+    E = droppedSlots ρ φ (placed s x (slotOf (s .slot) y)) (slotOf (s .slot) x) 0
 
-    laid-p : LaidIn ρ φ (placed s x (at (s .slot) y))
+    laid-p : LaidIn ρ φ (placed s x (slotOf (s .slot) y))
     laid-p = laid-placed ρ φ s x (g y) (up ρ φ n s w m x xb) (low ρ φ n s w m y yb) (m .laid)
 
     -- the slot of x is empty
-    emptied : getD (s .regs) (at (s .slot) x) 0 ≡ 2 ^ x → Represents ρ φ n (withMark E (set (E .mark) x (getD (E .mark) y false))) (copiedTables ρ φ w x y)
+    emptied : getD (s .regs) (slotOf (s .slot) x) 0 ≡ 2 ^ x → RepresentsWindow ρ φ n (withMark E (set (E .mark) x (getD (E .mark) y false))) (copiedTables ρ φ w x y)
     unfolding droppedSlots leftSlots
     emptied e = record {
       mirrors = record {
@@ -131,33 +131,33 @@ module _ (ρ φ n : ℕ) (s : Slots) (w : Window) (m : Mirrors ρ φ n s w) (o :
       single = single-dropped ρ (g x) K Q o gone;
     }
       where
-        lay : LaidIn ρ φ (leftSlots ρ φ (placed s x (at (s .slot) y)) (at (s .slot) x) true)
+        lay : LaidIn ρ φ (leftSlots ρ φ (placed s x (slotOf (s .slot) y)) (slotOf (s .slot) x) true)
         lay = laid-left ρ φ P (g x) true laid-p
 
         Q : View
-        Q = slotView ρ φ (masksForgotten ρ (at (s .slot) x) (s .unequal)) (resultsDropped ρ (at (s .slot) x) (s .result)) (masksForgotten ρ (at (s .slot) x) (s .ever))
+        Q = slotView ρ φ (masksForgotten ρ (slotOf (s .slot) x) (s .unequal)) (resultsDropped ρ (slotOf (s .slot) x) (s .result)) (masksForgotten ρ (slotOf (s .slot) x) (s .ever))
 
-        gone : Dropped ρ (at (s .slot) x) (slotView ρ φ (s .unequal) (s .result) (s .ever)) (slotView ρ φ (masksForgotten ρ (at (s .slot) x) (s .unequal)) (resultsDropped ρ (at (s .slot) x) (s .result)) (masksForgotten ρ (at (s .slot) x) (s .ever)))
-        gone = dropped ρ φ (s .unequal) (s .result) (s .ever) (m .laid .tables .unequal-long) (m .laid .tables .result-long) (m .laid .tables .ever-long) (at (s .slot) x)
+        gone : Dropped ρ (slotOf (s .slot) x) (slotView ρ φ (s .unequal) (s .result) (s .ever)) (slotView ρ φ (masksForgotten ρ (slotOf (s .slot) x) (s .unequal)) (resultsDropped ρ (slotOf (s .slot) x) (s .result)) (masksForgotten ρ (slotOf (s .slot) x) (s .ever)))
+        gone = dropped ρ φ (s .unequal) (s .result) (s .ever) (m .laid .tables .unequal-long) (m .laid .tables .result-long) (m .laid .tables .ever-long) (slotOf (s .slot) x)
 
-        not-gone : (r : ℕ) → r < n → at (set (s .slot) x (at (s .slot) y)) r ≢ at (s .slot) x
+        not-gone : (r : ℕ) → r < n → slotOf (set (s .slot) x (slotOf (s .slot) y)) r ≢ slotOf (s .slot) x
         not-gone r rb h = ⊎-elim (λ i. d (sym h ∙ ap g′ i ∙ here)) (λ i. i (only ρ φ n s w m x xb e r rb (sym (there r i) ∙ h))) (eq-or r x)
 
         lost : ℕ
-        lost = bitOr (lostOf ρ φ (s .result) (at (s .slot) x) 0) (2 ^ at (s .slot) x)
+        lost = bitOr (lostOf ρ φ (s .result) (slotOf (s .slot) x) 0) (2 ^ slotOf (s .slot) x)
 
         at-mark : (q : ℕ) → q < n → q ≢ x
-            → (T (view ρ φ w .marked q) ⊎ T (has (fallenOf ρ φ (getD (w .class) x 0) (w .result) x 0) q)) ↔ T (getD (marksIn ρ (set (s .slot) x (at (s .slot) y)) (s .mark) (bitOr (lostOf ρ φ (s .result) (at (s .slot) x) 0) (2 ^ at (s .slot) x))) q false)
+            → (T (view ρ φ w .marked q) ⊎ T (has (fallenOf ρ φ (getD (w .class) x 0) (w .result) x 0) q)) ↔ T (getD (marksIn ρ (set (s .slot) x (slotOf (s .slot) y)) (s .mark) (bitOr (lostOf ρ φ (s .result) (slotOf (s .slot) x) 0) (2 ^ slotOf (s .slot) x))) q false)
         at-mark q qb i =
             let below = Iff·trans (lost-is ρ φ n s w m x 0 0 xb (only ρ φ n s w m x xb e) (λ r rb. ((λ t. absurd (none-in r t)), (λ t. absurd (none-in (g r) t)))) (none-small ρ) q qb)
             (one-more (lostOf ρ φ (s .result) (g x) 0) (g x) (g q) (λ h. i (only ρ φ n s w m x xb e q qb h))) in
-            let here′ : getD (marksIn ρ (set (s .slot) x (at (s .slot) y)) (s .mark) lost) q false ≡ (getD (s .mark) q false || has lost (g q)) = marks-at ρ (set (s .slot) x (g y)) (s .mark) lost q (up ρ φ n s w m q qb) ∙ ap (λ k. getD (s .mark) q false || has lost k) (there q i) in (
+            let here′ : getD (marksIn ρ (set (s .slot) x (slotOf (s .slot) y)) (s .mark) lost) q false ≡ (getD (s .mark) q false || has lost (g q)) = marks-at ρ (set (s .slot) x (g y)) (s .mark) lost q (up ρ φ n s w m q qb) ∙ ap (λ k. getD (s .mark) q false || has lost k) (there q i) in (
               (λ k. subst T (sym here′) (⊎-elim (λ t. or-l (getD (s .mark) q false) (has lost (g q)) (m .marked q qb .0 t)) (λ t. or-r (getD (s .mark) q false) (has lost (g q)) (below .0 (fall q .0 t .1))) k)),
               (λ k. ⊎-elim (λ t. inl (m .marked q qb .1 t)) (λ t. inr (fall q .1 (alone-is ρ φ n s w m x xb .1 e, below .1 t))) (or-e (getD (s .mark) q false) (has lost (g q)) (subst T here′ k))),
             )
 
     -- others are left in it
-    shared : getD (s .regs) (at (s .slot) x) 0 ≢ 2 ^ x → Represents ρ φ n (withMark P (set (P .mark) x (getD (P .mark) y false))) (copiedTables ρ φ w x y)
+    shared : getD (s .regs) (slotOf (s .slot) x) 0 ≢ 2 ^ x → RepresentsWindow ρ φ n (withMark P (set (P .mark) x (getD (P .mark) y false))) (copiedTables ρ φ w x y)
     shared e = record {
       mirrors = record {
         shaped = shaped-tables ρ φ w x y (up ρ φ n s w m x xb) (m .shaped);
@@ -175,14 +175,14 @@ module _ (ρ φ n : ℕ) (s : Slots) (w : Window) (m : Mirrors ρ φ n s w) (o :
       single = o;
     }
 
-pub copied-represents : (ρ φ n : ℕ) (s : Slots) (w : Window) → Represents ρ φ n s w → (x y : ℕ) → x < n → y < n → Represents ρ φ n (copiedSlots ρ φ s x y) (windows.copiedOf ρ φ w x y)
+pub copied-represents : (ρ φ n : ℕ) (s : Slots) (w : Window) → RepresentsWindow ρ φ n s w → (x y : ℕ) → x < n → y < n → RepresentsWindow ρ φ n (copiedSlots ρ φ s x y) (windows.copiedOf ρ φ w x y)
 unfolding copiedSlots leftSlots windows.copiedOf
 copied-represents ρ φ n s w h x y xb yb =
     let m = h .mirrors in
-    byTest (eqb (at (s .slot) x) (at (s .slot) y))
-    (λ t. let e = is-true (has (getD (w .class) x 0) y) (m .pulled .same x y xb yb .1 (eqb-true (at (s .slot) x) (at (s .slot) y) t)) in rw (t, e) h)
-    (λ t. let d = eqb-false (at (s .slot) x) (at (s .slot) y) t in
+    byTest (eqb (slotOf (s .slot) x) (slotOf (s .slot) y))
+    (λ t. let e = is-true (has (getD (w .class) x 0) y) (m .pulled .same x y xb yb .1 (eqb-true (slotOf (s .slot) x) (slotOf (s .slot) y) t)) in rw (t, e) h)
+    (λ t. let d = eqb-false (slotOf (s .slot) x) (slotOf (s .slot) y) t in
     let e = is-false (has (getD (w .class) x 0) y) (λ k. d (m .pulled .same x y xb yb .0 k)) in
-    rw (t, e) (byTest (eqb (getD (s .regs) (at (s .slot) x) 0) (2 ^ x))
-    (λ u. rw u (emptied ρ φ n s w m (h .single) x y xb yb d (eqb-true (getD (s .regs) (at (s .slot) x) 0) (2 ^ x) u)))
-    (λ u. rw u (shared ρ φ n s w m (h .single) x y xb yb d (eqb-false (getD (s .regs) (at (s .slot) x) 0) (2 ^ x) u)))))
+    rw (t, e) (byTest (eqb (getD (s .regs) (slotOf (s .slot) x) 0) (2 ^ x))
+    (λ u. rw u (emptied ρ φ n s w m (h .single) x y xb yb d (eqb-true (getD (s .regs) (slotOf (s .slot) x) 0) (2 ^ x) u)))
+    (λ u. rw u (shared ρ φ n s w m (h .single) x y xb yb d (eqb-false (getD (s .regs) (slotOf (s .slot) x) 0) (2 ^ x) u)))))

@@ -16,7 +16,7 @@ use Rattle.base.proofs.Theory.MaskLaws.{bits-same}
 use Rattle.semantics.proofs.Theory.Booleans.{and-l, and-r, and-i}
 use Rattle.semantics.proofs.Theory.Of.{same-test}
 use Rattle.window.proofs.Theory.Bits.{truth, no-truth, none-small, none-in, or-is, or-small, same-iff, eq-or}
-use Rattle.window.specs.Places.{place, Function, First, Second, entry-is, place-is}
+use Rattle.window.specs.Places.{place, placeFunction, placeFirst, placeSecond, entry-is, place-is}
 use Rattle.window.proofs.Theory.Places.{some, line-below, function-below, first-below, second-below}
 use Rattle.window.proofs.Theory.Table.{table-is}
 use Rattle.window.specs.Adding.{partOf}
@@ -24,8 +24,8 @@ use Rattle.window.specs.Viewing.{view, Masks}
 use Rattle.window.proofs.Theory.Copying.{cell-result, result-cell}
 use Rattle.window.proofs.Theory.Uniqueness.{bit-same}
 use Rattle.window.specs.declared.Window.{Window}
-use Rattle.slots.specs.Slots.{Slots, at, Low}
-use Rattle.slots.specs.Performing.{heldOf, pulledOf, entryOf, pulledAt, pulledMasks, pulledResults, pulledClasses, pulledMarks, windowOf}
+use Rattle.slots.specs.Slots.{Slots, slotOf, Low}
+use Rattle.slots.specs.Performing.{hasSlot, pulledOf, entryOf, pulledAt, pulledMasks, pulledResults, pulledClasses, pulledMarks, windowOf}
 use Rattle.slots.specs.Represents.{Grouped, Mirrors}
 use Rattle.slots.proofs.Theory.Marking.{low, class-is, slot-cell}
 use Rattle.slots.proofs.Theory.Room.{some-in}
@@ -56,60 +56,60 @@ pub nothing : (ρ m : ℕ) → m < 2 ^ ρ → ((c : ℕ) → c < ρ → ¬ T (ha
 nothing ρ m b n = ⊎-elim (λ e. e) (λ d. let (c, cb, t) = some-in ρ m b d in absurd (n c cb t)) (eq-or m 0)
 
 module _ (ρ n : ℕ) (slot regs : List ℕ) (lo : Low ρ slot) (k : Grouped ρ n slot regs) where
-  pub held-is : (r : ℕ) → r < ρ → T (heldOf slot regs r) ↔ (r < n)
-  unfolding heldOf
-  held-is r rb = Iff·trans (k .members (at slot r) r (lo .below r rb)) ((λ (h, _). h), (λ h. (h, refl)))
+  pub held-is : (r : ℕ) → r < ρ → T (hasSlot slot regs r) ↔ (r < n)
+  unfolding hasSlot
+  held-is r rb = Iff·trans (k .members (slotOf slot r) r (lo .below r rb)) ((λ (h, _). h), (λ h. (h, refl)))
 
-  pub pulled-in : (m r : ℕ) → r < ρ → T (has (pulledOf regs m ρ) r) ↔ ((r < n) × T (has m (at slot r)))
+  pub pulled-in : (m r : ℕ) → r < ρ → T (has (pulledOf regs m ρ) r) ↔ ((r < n) × T (has m (slotOf slot r)))
   pulled-in m r rb = Iff·trans (pulled-is regs m ρ r) (
     (λ (s, sb, p, q). let (h, e) = k .members s r sb .0 q in (h, subst (λ z. T (has m z)) (sym e) p)),
-    (λ (h, p). (at slot r, lo .below r rb, p, k .members (at slot r) r (lo .below r rb) .1 (h, refl))),
+    (λ (h, p). (slotOf slot r, lo .below r rb, p, k .members (slotOf slot r) r (lo .below r rb) .1 (h, refl))),
   )
 
-  pub entry-has : (result : List ℕ) (j c : ℕ) → First ρ j < ρ → Second ρ j < ρ
-      → T (has (entryOf ρ slot regs result j) c) ↔ ((First ρ j < n) × (Second ρ j < n) × T (has (getD result (place ρ (Function ρ j) (at slot (First ρ j)) (at slot (Second ρ j))) 0) c))
+  pub entry-has : (result : List ℕ) (j c : ℕ) → placeFirst ρ j < ρ → placeSecond ρ j < ρ
+      → T (has (entryOf ρ slot regs result j) c) ↔ ((placeFirst ρ j < n) × (placeSecond ρ j < n) × T (has (getD result (place ρ (placeFunction ρ j) (slotOf slot (placeFirst ρ j)) (slotOf slot (placeSecond ρ j))) 0) c))
   unfolding entryOf
-  entry-has result j c ab bb = byTest (heldOf slot regs (First ρ j) && heldOf slot regs (Second ρ j))
-      (λ t. let u = truth (heldOf slot regs (First ρ j) && heldOf slot regs (Second ρ j)) t in rw t (
-        (λ q. (held-is (First ρ j) ab .0 (and-l (heldOf slot regs (First ρ j)) (heldOf slot regs (Second ρ j)) u), held-is (Second ρ j) bb .0 (and-r (heldOf slot regs (First ρ j)) (heldOf slot regs (Second ρ j)) u), q)),
+  entry-has result j c ab bb = byTest (hasSlot slot regs (placeFirst ρ j) && hasSlot slot regs (placeSecond ρ j))
+      (λ t. let u = truth (hasSlot slot regs (placeFirst ρ j) && hasSlot slot regs (placeSecond ρ j)) t in rw t (
+        (λ q. (held-is (placeFirst ρ j) ab .0 (and-l (hasSlot slot regs (placeFirst ρ j)) (hasSlot slot regs (placeSecond ρ j)) u), held-is (placeSecond ρ j) bb .0 (and-r (hasSlot slot regs (placeFirst ρ j)) (hasSlot slot regs (placeSecond ρ j)) u), q)),
         (λ (_, _, q). q),
       ))
       (λ t. rw t (
         (λ q. absurd (none-in c q)),
-        (λ (p, q, _). absurd (no-truth (heldOf slot regs (First ρ j) && heldOf slot regs (Second ρ j)) t (and-i (heldOf slot regs (First ρ j)) (heldOf slot regs (Second ρ j)) (held-is (First ρ j) ab .1 p) (held-is (Second ρ j) bb .1 q)))),
+        (λ (p, q, _). absurd (no-truth (hasSlot slot regs (placeFirst ρ j) && hasSlot slot regs (placeSecond ρ j)) t (and-i (hasSlot slot regs (placeFirst ρ j)) (hasSlot slot regs (placeSecond ρ j)) (held-is (placeFirst ρ j) ab .1 p) (held-is (placeSecond ρ j) bb .1 q)))),
       ))
 
   -- a table of masks of which a table of slots says the same
   masks-pulled : (c : ℕ) (l t : List ℕ) → length l ≡ c * ρ → Masks ρ l
-      → ((j r q : ℕ) → j < c → r < ρ → q < ρ → T (has (getD l (ρ * j + r) 0) q) ↔ ((r < n) × (q < n) × T (has (getD t (ρ * j + at slot r) 0) (at slot q))))
+      → ((j r q : ℕ) → j < c → r < ρ → q < ρ → T (has (getD l (ρ * j + r) 0) q) ↔ ((r < n) × (q < n) × T (has (getD t (ρ * j + slotOf slot r) 0) (slotOf slot q))))
       → l ≡ pulledMasks ρ slot regs t (c * ρ)
   unfolding pulledMasks pulledAt
-  masks-pulled c l t long small h = table-is (λ i. pick (heldOf slot regs (i % ρ)) (λ _. pulledOf regs (getD t (ρ * (i / ρ) + at slot (i % ρ)) 0) ρ) λ _. 0) (c * ρ) l 0 long (λ i ib.
+  masks-pulled c l t long small h = table-is (λ i. pick (hasSlot slot regs (i % ρ)) (λ _. pulledOf regs (getD t (ρ * (i / ρ) + slotOf slot (i % ρ)) 0) ρ) λ _. 0) (c * ρ) l 0 long (λ i ib.
       let rb = mod-lt i (some ρ c i ib) in
       let jb = line-below ρ c i ib in
       let e = entry-is ρ i in
-      byTest (heldOf slot regs (i % ρ))
-      (λ u. let rn = held-is (i % ρ) rb .0 (truth (heldOf slot regs (i % ρ)) u) in
-      rw u (bits-same ρ (getD l i 0) (pulledOf regs (getD t (ρ * (i / ρ) + at slot (i % ρ)) 0) ρ) (small i) (pulled-small ρ regs (getD t (ρ * (i / ρ) + at slot (i % ρ)) 0) ρ (k .bytes)) (λ q qb.
-      bit-same (getD l i 0) (pulledOf regs (getD t (ρ * (i / ρ) + at slot (i % ρ)) 0) ρ) q (same-test (has (getD l i 0) q) (has (pulledOf regs (getD t (ρ * (i / ρ) + at slot (i % ρ)) 0) ρ) q) (
-        (λ p. let (_, qn, z) = h (i / ρ) (i % ρ) q jb rb qb .0 (subst (λ o. T (has (getD l o 0) q)) (sym e) p) in pulled-in (getD t (ρ * (i / ρ) + at slot (i % ρ)) 0) q qb .1 (qn, z)),
-        (λ p. let (qn, z) = pulled-in (getD t (ρ * (i / ρ) + at slot (i % ρ)) 0) q qb .0 p in subst (λ o. T (has (getD l o 0) q)) e (h (i / ρ) (i % ρ) q jb rb qb .1 (rn, qn, z))),
+      byTest (hasSlot slot regs (i % ρ))
+      (λ u. let rn = held-is (i % ρ) rb .0 (truth (hasSlot slot regs (i % ρ)) u) in
+      rw u (bits-same ρ (getD l i 0) (pulledOf regs (getD t (ρ * (i / ρ) + slotOf slot (i % ρ)) 0) ρ) (small i) (pulled-small ρ regs (getD t (ρ * (i / ρ) + slotOf slot (i % ρ)) 0) ρ (k .bytes)) (λ q qb.
+      bit-same (getD l i 0) (pulledOf regs (getD t (ρ * (i / ρ) + slotOf slot (i % ρ)) 0) ρ) q (same-test (has (getD l i 0) q) (has (pulledOf regs (getD t (ρ * (i / ρ) + slotOf slot (i % ρ)) 0) ρ) q) (
+        (λ p. let (_, qn, z) = h (i / ρ) (i % ρ) q jb rb qb .0 (subst (λ o. T (has (getD l o 0) q)) (sym e) p) in pulled-in (getD t (ρ * (i / ρ) + slotOf slot (i % ρ)) 0) q qb .1 (qn, z)),
+        (λ p. let (qn, z) = pulled-in (getD t (ρ * (i / ρ) + slotOf slot (i % ρ)) 0) q qb .0 p in subst (λ o. T (has (getD l o 0) q)) e (h (i / ρ) (i % ρ) q jb rb qb .1 (rn, qn, z))),
       )))))
-      (λ u. rw u (nothing ρ (getD l i 0) (small i) (λ q qb p. no-truth (heldOf slot regs (i % ρ)) u (held-is (i % ρ) rb .1 (h (i / ρ) (i % ρ) q jb rb qb .0 (subst (λ o. T (has (getD l o 0) q)) (sym e) p) .0))))))
+      (λ u. rw u (nothing ρ (getD l i 0) (small i) (λ q qb p. no-truth (hasSlot slot regs (i % ρ)) u (held-is (i % ρ) rb .1 (h (i / ρ) (i % ρ) q jb rb qb .0 (subst (λ o. T (has (getD l o 0) q)) (sym e) p) .0))))))
 
 module _ (ρ φ n : ℕ) (s : Slots) (w : Window) (m : Mirrors ρ φ n s w) where
   -- an entry of the window's table of results
-  pub result-is : (j : ℕ) → j < φ * ρ * ρ → (r : ℕ) → r < ρ → T (has (getD (w .result) j 0) r) ↔ ((r < n) × T (has (entryOf ρ (s .slot) (s .regs) (s .result) j) (at (s .slot) r)))
+  pub result-is : (j : ℕ) → j < φ * ρ * ρ → (r : ℕ) → r < ρ → T (has (getD (w .result) j 0) r) ↔ ((r < n) × T (has (entryOf ρ (s .slot) (s .regs) (s .result) j) (slotOf (s .slot) r)))
   result-is j jb r rb =
       let ab = first-below ρ φ j jb in
       let bb = second-below ρ φ j jb in
-      let E = entry-has ρ n (s .slot) (s .regs) (m .laid .low) (m .grouped) (s .result) j (at (s .slot) r) ab bb in (
+      let E = entry-has ρ n (s .slot) (s .regs) (m .laid .low) (m .grouped) (s .result) j (slotOf (s .slot) r) ab bb in (
         (λ t. let u = cell-result ρ φ w j r jb t in
-            let (an, bn, rn) = m .inside .result (Function ρ j) (First ρ j) (Second ρ j) r ab bb rb u in
-            (rn, E .1 (an, bn, slot-cell ρ φ n s w m (Function ρ j) (at (s .slot) (First ρ j)) (at (s .slot) (Second ρ j)) (at (s .slot) r) (low ρ φ n s w m (First ρ j) an) (low ρ φ n s w m (Second ρ j) bn) (m .pulled .result (Function ρ j) (First ρ j) (Second ρ j) r an bn rn .0 u) .1))),
+            let (an, bn, rn) = m .inside .result (placeFunction ρ j) (placeFirst ρ j) (placeSecond ρ j) r ab bb rb u in
+            (rn, E .1 (an, bn, slot-cell ρ φ n s w m (placeFunction ρ j) (slotOf (s .slot) (placeFirst ρ j)) (slotOf (s .slot) (placeSecond ρ j)) (slotOf (s .slot) r) (low ρ φ n s w m (placeFirst ρ j) an) (low ρ φ n s w m (placeSecond ρ j) bn) (m .pulled .result (placeFunction ρ j) (placeFirst ρ j) (placeSecond ρ j) r an bn rn .0 u) .1))),
         (λ (rn, t). let (an, bn, u) = E .0 t in
-            let v = m .pulled .result (Function ρ j) (First ρ j) (Second ρ j) r an bn rn .1 (rw (lt-ltb (Function ρ j) φ (function-below ρ φ j jb)) u) in
-            subst (λ z. T (has (getD (w .result) z 0) r)) (place-is ρ j) (result-cell ρ φ w (Function ρ j) (First ρ j) (Second ρ j) r ab bb v .1)),
+            let v = m .pulled .result (placeFunction ρ j) (placeFirst ρ j) (placeSecond ρ j) r an bn rn .1 (rw (lt-ltb (placeFunction ρ j) φ (function-below ρ φ j jb)) u) in
+            subst (λ z. T (has (getD (w .result) z 0) r)) (place-is ρ j) (result-cell ρ φ w (placeFunction ρ j) (placeFirst ρ j) (placeSecond ρ j) r ab bb v .1)),
       )
 
   pub result-pulled : (j : ℕ) → j < φ * ρ * ρ → getD (w .result) j 0 ≡ pulledOf (s .regs) (entryOf ρ (s .slot) (s .regs) (s .result) j) ρ
@@ -126,18 +126,18 @@ module _ (ρ φ n : ℕ) (s : Slots) (w : Window) (m : Mirrors ρ φ n s w) wher
 
   class-pulled : w .class ≡ pulledClasses ρ (s .slot) (s .regs)
   unfolding pulledClasses
-  class-pulled = table-is (λ r. pick (heldOf (s .slot) (s .regs) r) (λ _. getD (s .regs) (at (s .slot) r) 0) λ _. 0) ρ (w .class) 0 (m .shaped .class) (λ r rb. byTest (heldOf (s .slot) (s .regs) r)
-      (λ u. rw u (class-is ρ φ n s w m r (held r rb .0 (truth (heldOf (s .slot) (s .regs) r) u))))
-      (λ u. rw u (nothing ρ (getD (w .class) r 0) (m .shaped .class-bytes r) (λ q qb p. no-truth (heldOf (s .slot) (s .regs) r) u (held r rb .1 (m .inside .same r q rb qb p .0))))))
+  class-pulled = table-is (λ r. pick (hasSlot (s .slot) (s .regs) r) (λ _. getD (s .regs) (slotOf (s .slot) r) 0) λ _. 0) ρ (w .class) 0 (m .shaped .class) (λ r rb. byTest (hasSlot (s .slot) (s .regs) r)
+      (λ u. rw u (class-is ρ φ n s w m r (held r rb .0 (truth (hasSlot (s .slot) (s .regs) r) u))))
+      (λ u. rw u (nothing ρ (getD (w .class) r 0) (m .shaped .class-bytes r) (λ q qb p. no-truth (hasSlot (s .slot) (s .regs) r) u (held r rb .1 (m .inside .same r q rb qb p .0))))))
     where
-      held : (r : ℕ) → r < ρ → T (heldOf (s .slot) (s .regs) r) ↔ (r < n)
+      held : (r : ℕ) → r < ρ → T (hasSlot (s .slot) (s .regs) r) ↔ (r < n)
       held = held-is ρ n (s .slot) (s .regs) (m .laid .low) (m .grouped)
 
   unequal-pulled : w .unequal ≡ pulledMasks ρ (s .slot) (s .regs) (s .unequal) ρ
   unequal-pulled = subst (λ z. w .unequal ≡ pulledMasks ρ (s .slot) (s .regs) (s .unequal) z) (omega arith) (masks-pulled ρ n (s .slot) (s .regs) (m .laid .low) (m .grouped) 1 (w .unequal) (s .unequal) (omega (arith, m .shaped .unequal)) (m .shaped .unequal-bytes)
       (λ j r q jb rb qb. Iff·trans (same-iff (ap (λ z. has (getD (w .unequal) z 0) q) (zero-line j r jb))) (
-        (λ t. let (rn, qn) = m .inside .apart r q rb qb t in (rn, qn, subst (λ z. T (has (getD (s .unequal) z 0) (at (s .slot) q))) (sym (zero-line j (at (s .slot) r) jb)) (m .pulled .apart r q rn qn .0 t))),
-        (λ (rn, qn, t). m .pulled .apart r q rn qn .1 (subst (λ z. T (has (getD (s .unequal) z 0) (at (s .slot) q))) (zero-line j (at (s .slot) r) jb) t)),
+        (λ t. let (rn, qn) = m .inside .apart r q rb qb t in (rn, qn, subst (λ z. T (has (getD (s .unequal) z 0) (slotOf (s .slot) q))) (sym (zero-line j (slotOf (s .slot) r) jb)) (m .pulled .apart r q rn qn .0 t))),
+        (λ (rn, qn, t). m .pulled .apart r q rn qn .1 (subst (λ z. T (has (getD (s .unequal) z 0) (slotOf (s .slot) q))) (zero-line j (slotOf (s .slot) r) jb) t)),
       )))
     where
       zero-line : (j r : ℕ) → j < 1 → ρ * j + r ≡ r
@@ -147,8 +147,8 @@ module _ (ρ φ n : ℕ) (s : Slots) (w : Window) (m : Mirrors ρ φ n s w) wher
   ever-pulled = masks-pulled ρ n (s .slot) (s .regs) (m .laid .low) (m .grouped) φ (w .ever) (s .ever) (m .shaped .ever) (m .shaped .ever-bytes) (λ j r q jb rb qb. (
     (λ t. let u : T (view ρ φ w .ever j r q) = rw (lt-ltb j φ jb) t in
         let (rn, qn) = m .inside .ever j r q rb qb u in
-        (rn, qn, and-r (ltb j φ) (has (getD (s .ever) (ρ * j + at (s .slot) r) 0) (at (s .slot) q)) (m .pulled .ever j r q rn qn .0 u))),
-    (λ (rn, qn, t). and-r (ltb j φ) (has (getD (w .ever) (ρ * j + r) 0) q) (m .pulled .ever j r q rn qn .1 (and-i (ltb j φ) (has (getD (s .ever) (ρ * j + at (s .slot) r) 0) (at (s .slot) q)) (lt→ltb j φ jb) t))),
+        (rn, qn, and-r (ltb j φ) (has (getD (s .ever) (ρ * j + slotOf (s .slot) r) 0) (slotOf (s .slot) q)) (m .pulled .ever j r q rn qn .0 u))),
+    (λ (rn, qn, t). and-r (ltb j φ) (has (getD (w .ever) (ρ * j + r) 0) q) (m .pulled .ever j r q rn qn .1 (and-i (ltb j φ) (has (getD (s .ever) (ρ * j + slotOf (s .slot) r) 0) (slotOf (s .slot) q)) (lt→ltb j φ jb) t))),
   ))
 
   results-pulled : w .result ≡ pulledResults ρ (s .slot) (s .regs) (s .result) (φ * ρ * ρ)
@@ -157,12 +157,12 @@ module _ (ρ φ n : ℕ) (s : Slots) (w : Window) (m : Mirrors ρ φ n s w) wher
 
   marks-pulled : w .mark ≡ pulledMarks ρ (s .slot) (s .regs) (s .mark)
   unfolding pulledMarks
-  marks-pulled = table-is (λ r. heldOf (s .slot) (s .regs) r && getD (s .mark) r false) ρ (w .mark) false (m .shaped .mark) (λ r rb. same-test (getD (w .mark) r false) (heldOf (s .slot) (s .regs) r && getD (s .mark) r false) (
-    (λ t. let rn = m .inside .marked r rb t in and-i (heldOf (s .slot) (s .regs) r) (getD (s .mark) r false) (held r rb .1 rn) (m .marked r rn .0 t)),
-    (λ t. m .marked r (held r rb .0 (and-l (heldOf (s .slot) (s .regs) r) (getD (s .mark) r false) t)) .1 (and-r (heldOf (s .slot) (s .regs) r) (getD (s .mark) r false) t)),
+  marks-pulled = table-is (λ r. hasSlot (s .slot) (s .regs) r && getD (s .mark) r false) ρ (w .mark) false (m .shaped .mark) (λ r rb. same-test (getD (w .mark) r false) (hasSlot (s .slot) (s .regs) r && getD (s .mark) r false) (
+    (λ t. let rn = m .inside .marked r rb t in and-i (hasSlot (s .slot) (s .regs) r) (getD (s .mark) r false) (held r rb .1 rn) (m .marked r rn .0 t)),
+    (λ t. m .marked r (held r rb .0 (and-l (hasSlot (s .slot) (s .regs) r) (getD (s .mark) r false) t)) .1 (and-r (hasSlot (s .slot) (s .regs) r) (getD (s .mark) r false) t)),
   ))
     where
-      held : (r : ℕ) → r < ρ → T (heldOf (s .slot) (s .regs) r) ↔ (r < n)
+      held : (r : ℕ) → r < ρ → T (hasSlot (s .slot) (s .regs) r) ↔ (r < n)
       held = held-is ρ n (s .slot) (s .regs) (m .laid .low) (m .grouped)
 
   -- the window is read back

@@ -13,7 +13,7 @@ use borrow.Author.Tests.{eq-eqb, ne-eqb, lt-ltb, le-ltb}
 use Rattle.base.specs.Masks.{has}
 use Rattle.base.specs.LeastAndSize.{leastIn, sizeOf}
 use Rattle.letters.specs.declared.Letter.{Letter}
-use Rattle.window.specs.Places.{place, Function, First, Second}
+use Rattle.window.specs.Places.{place, placeFunction, placeFirst, placeSecond}
 use Rattle.window.specs.Table.{table}
 use Rattle.window.proofs.Theory.Table.{Swept, swept-more, swept-all}
 use Rattle.window.specs.Bits.{nonempty, minus}
@@ -23,8 +23,8 @@ use Rattle.window.specs.Through.{bitsMoved, masksThrough, resultsThrough}
 use Rattle.window.specs.Adding.{partOf, masksForgotten}
 use Rattle.window.specs.Marks.{flagOf, raisedOf, lostOf}
 use Rattle.window.specs.Performing.{argumentsOf}
-use Rattle.slots.specs.Slots.{Slots, slotsOf, at, Tabled}
-use Rattle.slots.specs.Performing.{heldOf, regsMoved, freeFrom, pulledOf, manyOf, doubledOf, clashSlots, apartSlots, withMark, withUnequal}
+use Rattle.slots.specs.Slots.{Slots, slotsOf, slotOf, SlotTableLengths}
+use Rattle.slots.specs.Performing.{hasSlot, regsMoved, freeFrom, pulledOf, manyOf, doubledOf, clashSlots, apartSlots, withMark, slotsWithUnequal}
 use Rattle.slots.specs.Performing.{resultsDropped, masksRenamed, resultsRenamed, slotRenamed, marksIn, registerIn, resultRecorded, everRecorded}
 use Rattle.slots.specs.Performing.{aboveSlots, besideSlots, lostSlots, pairRecorded}
 use Rattle.slots.specs.Performing.{entryOf, findSlots, memoizingSlots}
@@ -33,13 +33,13 @@ use Rattle.slots.specs.Performing.{closedSlots, settledSlots, equalSlots
 
 -- ---- registers and slots
 
-pub held-is : (slot regs : List ℕ) (r s : ℕ) (v : Bool) → s ≡ at slot r → v ≡ has (getD regs s 0) r → v ≡ heldOf slot regs r
-unfolding heldOf
+pub held-is : (slot regs : List ℕ) (r s : ℕ) (v : Bool) → s ≡ slotOf slot r → v ≡ has (getD regs s 0) r → v ≡ hasSlot slot regs r
+unfolding hasSlot
 held-is slot regs r s v e d = d ∙ ap (λ k. has (getD regs k 0) r) e
 
-pub moved-register : (slot regs : List ℕ) (x t s own : ℕ) → s ≡ at slot x → own ≡ 2 ^ x
+pub moved-register : (slot regs : List ℕ) (x t s own : ℕ) → s ≡ slotOf slot x → own ≡ 2 ^ x
     → set (set regs s (bitXor (bitOr (getD regs s 0) own) own)) t (bitOr (getD (set regs s (bitXor (bitOr (getD regs s 0) own) own)) t 0) own)
-    ≡ regsMoved regs x (at slot x) t
+    ≡ regsMoved regs x (slotOf slot x) t
 unfolding regsMoved minus
 moved-register slot regs x t s own e d = rw (e, d)
 
@@ -73,10 +73,10 @@ results-dropped ρ x own l m n k e p q r = rw (r, q, p, e)
 
 -- the mark of a register, with those of the slots of a mask
 abbrev pub markedAt : List ℕ → List Bool → ℕ → ℕ → Bool
-markedAt slot old slots k = getD old k false || has slots (at slot k)
+markedAt slot old slots k = getD old k false || has slots (slotOf slot k)
 
 module _ (ρ : ℕ) (slot : List ℕ) (old : List Bool) (slots : ℕ) (long : length old ≡ ρ) where
-  pub marks-more : (l : List Bool) (r s : ℕ) (v : Bool) → Swept (markedAt slot old slots) false old r l → r < ρ → s ≡ at slot r → v ≡ has slots s
+  pub marks-more : (l : List Bool) (r s : ℕ) (v : Bool) → Swept (markedAt slot old slots) false old r l → r < ρ → s ≡ slotOf slot r → v ≡ has slots s
       → Swept (markedAt slot old slots) false old (r + 1) (set l r (getD l r false || v))
   marks-more l r s v w h e d = swept-more (markedAt slot old slots) false old r l (getD l r false || v) w (omega arith)
       (ap₂ _||_ (w .ahead r (omega arith)) (d ∙ ap (has slots) e))
@@ -112,7 +112,7 @@ module _ (ρ φ : ℕ) where
   unfolding droppedSlots
   dropped-is slot g u r e u′ r′ e′ m m′ i s more lost a b c d f = rw (b, c, d, f, a)
 
-  pub tabled-same : (u r e u′ r′ e′ : List ℕ) → u′ ≡ u → r′ ≡ r → e′ ≡ e → Tabled ρ φ u r e → Tabled ρ φ u′ r′ e′
+  pub tabled-same : (u r e u′ r′ e′ : List ℕ) → u′ ≡ u → r′ ≡ r → e′ ≡ e → SlotTableLengths ρ φ u r e → SlotTableLengths ρ φ u′ r′ e′
   tabled-same u r e u′ r′ e′ p q d t = rw (p, q, d) t
 
   pub left-dropped : (w v : Slots) (s : ℕ) (empty : Bool) → empty ≡ true → v ≡ droppedSlots ρ φ w s 0 → v ≡ leftSlots ρ φ w s empty
@@ -125,13 +125,13 @@ module _ (ρ φ : ℕ) where
 
   -- ---- a copy
 
-  pub copied-within : (w : Slots) (x y s t : ℕ) → s ≡ at (w .slot) x → t ≡ at (w .slot) y → s ≡ t → w ≡ copiedSlots ρ φ w x y
+  pub copied-within : (w : Slots) (x y s t : ℕ) → s ≡ slotOf (w .slot) x → t ≡ slotOf (w .slot) y → s ≡ t → w ≡ copiedSlots ρ φ w x y
   unfolding copiedSlots
-  copied-within w x y s t p q e = rw (eq-eqb (at (w .slot) x) (at (w .slot) y) (sym p ∙ e ∙ q))
+  copied-within w x y s t p q e = rw (eq-eqb (slotOf (w .slot) x) (slotOf (w .slot) y) (sym p ∙ e ∙ q))
 
-  pub copied-moved : (w next : Slots) (x y s t own : ℕ) (slot regs : List ℕ) → s ≡ at (w .slot) x → t ≡ at (w .slot) y → s ≢ t → own ≡ 2 ^ x
+  pub copied-moved : (w next : Slots) (x y s t own : ℕ) (slot regs : List ℕ) → s ≡ slotOf (w .slot) x → t ≡ slotOf (w .slot) y → s ≢ t → own ≡ 2 ^ x
       → slot ≡ set (w .slot) x t
-      → regs ≡ regsMoved (w .regs) x (at (w .slot) x) t
+      → regs ≡ regsMoved (w .regs) x (slotOf (w .slot) x) t
       → next ≡ leftSlots ρ φ (slotsOf slot regs (w .unequal) (w .result) (w .ever) (w .mark) (w .infeasible)) s (eqb (getD (w .regs) s 0) own)
       → withMark next (set (next .mark) x (getD (next .mark) y false)) ≡ copiedSlots ρ φ w x y
   unfolding copiedSlots
@@ -178,7 +178,7 @@ module _ (ρ a b n : ℕ) (t : List ℕ) where
   pair-recorded e one two p q = rw (e, p, q)
 
 module _ (ρ φ : ℕ) where
-  pub renewed-is : (w d : Slots) (x f a b s more : ℕ) (r e : List ℕ) → s ≡ at (w .slot) x → more ≡ argumentsOf s a b (2 ^ a) (2 ^ b)
+  pub renewed-is : (w d : Slots) (x f a b s more : ℕ) (r e : List ℕ) → s ≡ slotOf (w .slot) x → more ≡ argumentsOf s a b (2 ^ a) (2 ^ b)
       → d ≡ droppedSlots ρ φ w s more
       → r ≡ resultRecorded ρ f a b s (d .result) → e ≡ everRecorded ρ f a b s (d .ever)
       → slotsOf (d .slot) (d .regs) (d .unequal) r e (set (d .mark) x false) (d .infeasible) ≡ renewedSlots ρ φ w x f a b
@@ -186,7 +186,7 @@ module _ (ρ φ : ℕ) where
   renewed-is w d x f a b s more r e p q k c g = rw (c, g, k, q, p)
 
   pub freshened-some : (w : Slots) (x f a b n : ℕ) (slot regs r e : List ℕ) → n ≡ freeFrom (w .regs) 0 ρ → n < ρ → slot ≡ set (w .slot) x n
-      → regs ≡ regsMoved (w .regs) x (at (w .slot) x) n → r ≡ resultRecorded ρ f a b n (w .result) → e ≡ everRecorded ρ f a b n (w .ever)
+      → regs ≡ regsMoved (w .regs) x (slotOf (w .slot) x) n → r ≡ resultRecorded ρ f a b n (w .result) → e ≡ everRecorded ρ f a b n (w .ever)
       → slotsOf slot regs (w .unequal) r e (set (w .mark) x false) (w .infeasible) ≡ freshenedSlots ρ φ w x f a b
   unfolding freshenedSlots recordedSlots
   freshened-some w x f a b n slot regs r e p h c d g k = rw (c, d, g, k, ← p, lt-ltb n ρ h)
@@ -195,23 +195,23 @@ module _ (ρ φ : ℕ) where
   unfolding freshenedSlots
   freshened-none w x f a b n p h = rw (← p, le-ltb n ρ h)
 
-  pub new-renewed : (w v : Slots) (x f a b s own : ℕ) → s ≡ at (w .slot) x → own ≡ 2 ^ x → getD (w .regs) s 0 ≡ own
+  pub new-renewed : (w v : Slots) (x f a b s own : ℕ) → s ≡ slotOf (w .slot) x → own ≡ 2 ^ x → getD (w .regs) s 0 ≡ own
       → v ≡ renewedSlots ρ φ w x f a b → v ≡ newSlots ρ φ w x f a b
   unfolding newSlots
   new-renewed w v x f a b s own p q e d = rw (← p, ← q, eq-eqb (getD (w .regs) s 0) own e) d
 
-  pub new-freshened : (w v : Slots) (x f a b s own : ℕ) → s ≡ at (w .slot) x → own ≡ 2 ^ x → getD (w .regs) s 0 ≢ own
+  pub new-freshened : (w v : Slots) (x f a b s own : ℕ) → s ≡ slotOf (w .slot) x → own ≡ 2 ^ x → getD (w .regs) s 0 ≢ own
       → v ≡ freshenedSlots ρ φ w x f a b → v ≡ newSlots ρ φ w x f a b
   unfolding newSlots
   new-freshened w v x f a b s own p q n d = rw (← p, ← q, ne-eqb (getD (w .regs) s 0) own n) d
 
-  pub apply-known : (w v : Slots) (x f y z a b r : ℕ) → a ≡ at (w .slot) y → b ≡ at (w .slot) z
+  pub apply-known : (w v : Slots) (x f y z a b r : ℕ) → a ≡ slotOf (w .slot) y → b ≡ slotOf (w .slot) z
       → r ≡ registerIn ρ (w .regs) (getD (w .result) (place ρ f a b) 0) → r < ρ
       → v ≡ copiedSlots ρ φ w x r → v ≡ applySlots ρ φ w x f y z
   unfolding applySlots
   apply-known w v x f y z a b r p q e h d = rw (← p, ← q, ← e, lt-ltb r ρ h) d
 
-  pub apply-new : (w v : Slots) (x f y z a b r : ℕ) → a ≡ at (w .slot) y → b ≡ at (w .slot) z
+  pub apply-new : (w v : Slots) (x f y z a b r : ℕ) → a ≡ slotOf (w .slot) y → b ≡ slotOf (w .slot) z
       → r ≡ registerIn ρ (w .regs) (getD (w .result) (place ρ f a b) 0) → ρ ≤ r
       → v ≡ newSlots ρ φ w x f a b → v ≡ applySlots ρ φ w x f y z
   unfolding applySlots
@@ -221,7 +221,7 @@ module _ (ρ φ : ℕ) where
 
 -- the slot of a register, with slot b called a
 abbrev pub renamedAt : List ℕ → ℕ → ℕ → ℕ → ℕ
-renamedAt old a b k = cond (eqb (at old k) b) a (at old k)
+renamedAt old a b k = cond (eqb (slotOf old k) b) a (slotOf old k)
 
 module _ (ρ : ℕ) (old : List ℕ) (a b : ℕ) (long : length old ≡ ρ) where
   pub renamed-more : (l : List ℕ) (r v to from : ℕ) → to ≡ a → from ≡ b → Swept (renamedAt old a b) 0 old r l → r < ρ
@@ -283,13 +283,13 @@ pub pulled-all : (regs : List ℕ) (slots m s n : ℕ) → s ≤ n → n ≤ s �
 pulled-all regs slots m s n h g e = e ∙ ap (pulledOf regs slots) (omega arith)
 
 module _ (ρ : ℕ) (slot regs result : List ℕ) where
-  pub entry-some : (k s t : ℕ) (p q : Bool) → p ≡ heldOf slot regs (First ρ k) → q ≡ heldOf slot regs (Second ρ k) → (p && q) ≡ true
-      → s ≡ at slot (First ρ k) → t ≡ at slot (Second ρ k)
-      → getD result (place ρ (Function ρ k) s t) 0 ≡ entryOf ρ slot regs result k
+  pub entry-some : (k s t : ℕ) (p q : Bool) → p ≡ hasSlot slot regs (placeFirst ρ k) → q ≡ hasSlot slot regs (placeSecond ρ k) → (p && q) ≡ true
+      → s ≡ slotOf slot (placeFirst ρ k) → t ≡ slotOf slot (placeSecond ρ k)
+      → getD result (place ρ (placeFunction ρ k) s t) 0 ≡ entryOf ρ slot regs result k
   unfolding entryOf
   entry-some k s t p q d e h c g = rw (← d, ← e, h, ← c, ← g)
 
-  pub entry-none : (k : ℕ) (p q : Bool) → p ≡ heldOf slot regs (First ρ k) → q ≡ heldOf slot regs (Second ρ k) → (p && q) ≡ false
+  pub entry-none : (k : ℕ) (p q : Bool) → p ≡ hasSlot slot regs (placeFirst ρ k) → q ≡ hasSlot slot regs (placeSecond ρ k) → (p && q) ≡ false
       → 0 ≡ entryOf ρ slot regs result k
   unfolding entryOf
   entry-none k p q d e h = rw (← d, ← e, h)
@@ -308,7 +308,7 @@ module _ (ρ : ℕ) (slot regs result : List ℕ) where
   unfolding findSlots
   find-none n i h = let k : n - i ≡ 0 = omega arith in rw k
 
-pub rest-is : (slot regs : List ℕ) (m one s : ℕ) → s ≡ at slot one → bitXor (bitOr m (getD regs s 0)) (getD regs s 0) ≡ minus m (getD regs (at slot one) 0)
+pub rest-is : (slot regs : List ℕ) (m one s : ℕ) → s ≡ slotOf slot one → bitXor (bitOr m (getD regs s 0)) (getD regs s 0) ≡ minus m (getD regs (slotOf slot one) 0)
 unfolding minus
 rest-is slot regs m one s e = rw e
 
@@ -337,12 +337,12 @@ module _ (ρ φ : ℕ) where
       unfolding closedSlots
       closed-none g = rw (more, ← de, double, ← me, ← oe, le-ltb one ρ g)
 
-      module _ (others two : ℕ) (re : others ≡ minus m (getD (w .regs) (at (w .slot) one) 0)) (te : two ≡ leastIn ρ others) (ob : one < ρ) where
+      module _ (others two : ℕ) (re : others ≡ minus m (getD (w .regs) (slotOf (w .slot) one) 0)) (te : two ≡ leastIn ρ others) (ob : one < ρ) where
         pub closed-one : ρ ≤ two → closedSlots ρ φ fuel w ≡ w
         unfolding closedSlots
         closed-one g = rw (more, ← de, double, ← me, ← oe, lt-ltb one ρ ob, ← re, ← te, le-ltb two ρ g)
 
-        pub closed-more : two < ρ → (a b : ℕ) → a ≡ at (w .slot) one → b ≡ at (w .slot) two → (v : Slots) → v ≡ mergedSlots ρ φ w a b
+        pub closed-more : two < ρ → (a b : ℕ) → a ≡ slotOf (w .slot) one → b ≡ slotOf (w .slot) two → (v : Slots) → v ≡ mergedSlots ρ φ w a b
             → closedSlots ρ φ fuel w ≡ closedSlots ρ φ (fuel - 1) v
         unfolding closedSlots
         closed-more g a b ae be v ve = ap (λ n. closedSlots ρ φ n w) more ∙ step (fuel - 1)
@@ -366,7 +366,7 @@ pub clash-all : (unequal : List ℕ) (b : Bool) (i n : ℕ) → i ≤ n → n �
 clash-all unequal b i n h g e = e ∙ ap (clashSlots unequal) (omega arith)
 
 module _ (ρ φ : ℕ) where
-  pub settled-bad : (w : Slots) (bad : Bool) → (w .infeasible || bad) ≡ true → withUnequal w (replicate ρ 0) true ≡ settledSlots ρ φ w bad
+  pub settled-bad : (w : Slots) (bad : Bool) → (w .infeasible || bad) ≡ true → slotsWithUnequal w (replicate ρ 0) true ≡ settledSlots ρ φ w bad
   unfolding settledSlots
   settled-bad w bad t = rw t
 
@@ -374,19 +374,19 @@ module _ (ρ φ : ℕ) where
   unfolding settledSlots
   settled-still w bad t = rw t
 
-  pub equal-within : (w : Slots) (x y a b : ℕ) → a ≡ at (w .slot) x → b ≡ at (w .slot) y → a ≡ b → w ≡ equalSlots ρ φ w x y
+  pub equal-within : (w : Slots) (x y a b : ℕ) → a ≡ slotOf (w .slot) x → b ≡ slotOf (w .slot) y → a ≡ b → w ≡ equalSlots ρ φ w x y
   unfolding equalSlots
-  equal-within w x y a b p q e = rw (eq-eqb (at (w .slot) x) (at (w .slot) y) (sym p ∙ e ∙ q))
+  equal-within w x y a b p q e = rw (eq-eqb (slotOf (w .slot) x) (slotOf (w .slot) y) (sym p ∙ e ∙ q))
 
-  pub equal-moved : (w next closed v : Slots) (x y a b : ℕ) (bad : Bool) → a ≡ at (w .slot) x → b ≡ at (w .slot) y → a ≢ b → next ≡ mergedSlots ρ φ w a b
+  pub equal-moved : (w next closed v : Slots) (x y a b : ℕ) (bad : Bool) → a ≡ slotOf (w .slot) x → b ≡ slotOf (w .slot) y → a ≢ b → next ≡ mergedSlots ρ φ w a b
       → closed ≡ closedSlots ρ φ (ρ * ρ + 1) next → bad ≡ clashSlots (closed .unequal) ρ → v ≡ settledSlots ρ φ closed bad → v ≡ equalSlots ρ φ w x y
   unfolding equalSlots
   equal-moved w next closed v x y a b bad p q n d c e k = rw (k, e, c, d, ← p, ← q, ne-eqb a b n)
 
   -- ---- an unequal test
 
-  pub unequal-is : (w v : Slots) (x y a b : ℕ) (u : List ℕ) → a ≡ at (w .slot) x → b ≡ at (w .slot) y → u ≡ apartSlots (w .unequal) a b
-      → v ≡ settledSlots ρ φ (withUnequal w u (w .infeasible)) (eqb a b) → v ≡ unequalSlots ρ φ w x y
+  pub unequal-is : (w v : Slots) (x y a b : ℕ) (u : List ℕ) → a ≡ slotOf (w .slot) x → b ≡ slotOf (w .slot) y → u ≡ apartSlots (w .unequal) a b
+      → v ≡ settledSlots ρ φ (slotsWithUnequal w u (w .infeasible)) (eqb a b) → v ≡ unequalSlots ρ φ w x y
   unfolding unequalSlots
   unequal-is w v x y a b u p q e d = rw (d, e, p, q)
 
@@ -397,7 +397,7 @@ parted-is l a b one two p q = rw (p, q)
 
 -- ---- a letter
 
-module _ (ρ : ℕ) (slot result ever : List ℕ) (f y z a b : ℕ) (p : a ≡ at slot y) (q : b ≡ at slot z) (t : Bool)
+module _ (ρ : ℕ) (slot result ever : List ℕ) (f y z a b : ℕ) (p : a ≡ slotOf slot y) (q : b ≡ slotOf slot z) (t : Bool)
     (e : t ≡ has (getD ever (ρ * f + a) 0) b) where
   pub memoizing-known : t ≡ true → (v : Bool) → v ≡ nonempty ρ (getD result (place ρ f a b) 0) → v ≡ memoizingSlots ρ slot result ever f y z
   unfolding memoizingSlots

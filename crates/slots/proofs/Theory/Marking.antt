@@ -12,7 +12,7 @@ use Rattle.base.specs.LeastAndSize.{sizeOf}
 use Rattle.base.proofs.Theory.MaskLaws.{bits-same}
 use Rattle.semantics.proofs.Theory.Booleans.{and-l, and-r}
 use Rattle.semantics.proofs.Theory.Of.{same-test}
-use Rattle.window.specs.Places.{place, Function, First, Second, place-is, first-place, second-place}
+use Rattle.window.specs.Places.{place, placeFunction, placeFirst, placeSecond, place-is, first-place, second-place}
 use Rattle.window.proofs.Theory.Places.{place-below, function-below, first-below, second-below}
 use Rattle.window.proofs.Theory.Bits.{or-is, single-is, pow-small, eq-or}
 use Rattle.window.proofs.Theory.Size.{alone, other}
@@ -21,7 +21,7 @@ use Rattle.window.proofs.Theory.Marks.{Beneath, extra, direct, beneath, lost-be
 use Rattle.window.proofs.Theory.Copying.{cell-result, result-cell}
 use Rattle.window.proofs.Theory.Uniqueness.{bit-same}
 use Rattle.window.specs.declared.Window.{Window}
-use Rattle.slots.specs.Slots.{Slots, at}
+use Rattle.slots.specs.Slots.{Slots, slotOf}
 use Rattle.slots.specs.Represents.{slotView, Mirrors}
 use Rattle.slots.proofs.Theory.Pulling.{move3}
 
@@ -31,15 +31,15 @@ one-more m s t d = ((λ k. or-is m (2 ^ s) t .1 (inl k)), (λ k. ⊎-elim (λ u.
 
 module _ (ρ φ n : ℕ) (s : Slots) (w : Window) (m : Mirrors ρ φ n s w) where
   abbrev g : ℕ → ℕ
-  g = at (s .slot)
+  g = slotOf (s .slot)
 
   pub up : (r : ℕ) → r < n → r < ρ
   up r b = omega (arith, m .inside .fits)
 
-  pub low : (r : ℕ) → r < n → at (s .slot) r < ρ
+  pub low : (r : ℕ) → r < n → slotOf (s .slot) r < ρ
   low r b = m .laid .low .below r (up r b)
 
-  pub class-is : (x : ℕ) → x < n → getD (w .class) x 0 ≡ getD (s .regs) (at (s .slot) x) 0
+  pub class-is : (x : ℕ) → x < n → getD (w .class) x 0 ≡ getD (s .regs) (slotOf (s .slot) x) 0
   class-is x xb = bits-same ρ A B (m .shaped .class-bytes x) (m .grouped .bytes (g x)) (λ i ib. bit-same A B i (same-test (has A i) (has B i) (
     (λ t. let ib′ = m .inside .same x i (up x xb) ib t .1 in m .grouped .members (g x) i (low x xb) .1 (ib′, sym (m .pulled .same x i xb ib′ .0 t))),
     (λ t. let (ib′, e) = m .grouped .members (g x) i (low x xb) .0 t in m .pulled .same x i xb ib′ .1 (sym e)),
@@ -49,13 +49,13 @@ module _ (ρ φ n : ℕ) (s : Slots) (w : Window) (m : Mirrors ρ φ n s w) wher
       A = getD (w .class) x 0
 
       B : ℕ
-      B = getD (s .regs) (at (s .slot) x) 0
+      B = getD (s .regs) (slotOf (s .slot) x) 0
 
   -- x is alone in its slot
-  pub only : (x : ℕ) → x < n → getD (s .regs) (at (s .slot) x) 0 ≡ 2 ^ x → (r : ℕ) → r < n → at (s .slot) r ≡ at (s .slot) x → r ≡ x
+  pub only : (x : ℕ) → x < n → getD (s .regs) (slotOf (s .slot) x) 0 ≡ 2 ^ x → (r : ℕ) → r < n → slotOf (s .slot) r ≡ slotOf (s .slot) x → r ≡ x
   only x xb e r rb h = single-is x r .0 (subst (λ z. T (has z r)) e (m .grouped .members (g x) r (low x xb) .1 (rb, h)))
 
-  pub alone-is : (x : ℕ) → x < n → (sizeOf ρ (getD (w .class) x 0) ≡ 1) ↔ (getD (s .regs) (at (s .slot) x) 0 ≡ 2 ^ x)
+  pub alone-is : (x : ℕ) → x < n → (sizeOf ρ (getD (w .class) x 0) ≡ 1) ↔ (getD (s .regs) (slotOf (s .slot) x) 0 ≡ 2 ^ x)
   alone-is x xb = (
     (λ e. bits-same ρ B (2 ^ x) (m .grouped .bytes (g x)) (pow-small ρ x (up x xb)) (λ i ib. bit-same B (2 ^ x) i (same-test (has B i) (has (2 ^ x) i) (
       (λ t. single-is x i .1 (alone ρ A x (up x xb) self e i ib (subst (λ z. T (has z i)) (sym (class-is x xb)) t))),
@@ -68,7 +68,7 @@ module _ (ρ φ n : ℕ) (s : Slots) (w : Window) (m : Mirrors ρ φ n s w) wher
       A = getD (w .class) x 0
 
       B : ℕ
-      B = getD (s .regs) (at (s .slot) x) 0
+      B = getD (s .regs) (slotOf (s .slot) x) 0
 
       self : T (has (getD (w .class) x 0) x)
       self = m .pulled .same x x xb xb .1 refl
@@ -80,76 +80,76 @@ module _ (ρ φ n : ℕ) (s : Slots) (w : Window) (m : Mirrors ρ φ n s w) wher
       let l = ltb→lt f φ (and-l (ltb f φ) (has (getD (s .result) (place ρ f a b) 0) c) t) in
       (place-below ρ f a b ab bb φ l, and-r (ltb f φ) (has (getD (s .result) (place ρ f a b) 0) c) t)
 
-  pub cell-slot : (k c : ℕ) → k < φ * ρ * ρ → T (has (getD (s .result) k 0) c) → T (slotView ρ φ (s .unequal) (s .result) (s .ever) .result (Function ρ k) (First ρ k) (Second ρ k) c)
-  cell-slot k c b t = rw (lt-ltb (Function ρ k) φ (function-below ρ φ k b), place-is ρ k) t
+  pub cell-slot : (k c : ℕ) → k < φ * ρ * ρ → T (has (getD (s .result) k 0) c) → T (slotView ρ φ (s .unequal) (s .result) (s .ever) .result (placeFunction ρ k) (placeFirst ρ k) (placeSecond ρ k) c)
+  cell-slot k c b t = rw (lt-ltb (placeFunction ρ k) φ (function-below ρ φ k b), place-is ρ k) t
 
   -- ---- what lies beneath a register that is alone in its slot, and what lies beneath the slot
 
-  module _ (x more more′ : ℕ) (xb : x < n) (lone : (r : ℕ) → r < n → at (s .slot) r ≡ at (s .slot) x → r ≡ x) (mo : (r : ℕ) → r < n → T (has more r) ↔ T (has more′ (at (s .slot) r))) where
+  module _ (x more more′ : ℕ) (xb : x < n) (lone : (r : ℕ) → r < n → slotOf (s .slot) r ≡ slotOf (s .slot) x → r ≡ x) (mo : (r : ℕ) → r < n → T (has more r) ↔ T (has more′ (slotOf (s .slot) r))) where
     -- the entry of a window at the slots of its registers
     record Entry (k c : ℕ) : Type 0 where
-      first-in : First ρ k < n
-      second-in : Second ρ k < n
+      first-in : placeFirst ρ k < n
+      second-in : placeSecond ρ k < n
       to-in : c < n
-      below : place ρ (Function ρ k) (at (s .slot) (First ρ k)) (at (s .slot) (Second ρ k)) < φ * ρ * ρ
-      holds : T (has (getD (s .result) (place ρ (Function ρ k) (at (s .slot) (First ρ k)) (at (s .slot) (Second ρ k))) 0) (at (s .slot) c))
+      below : place ρ (placeFunction ρ k) (slotOf (s .slot) (placeFirst ρ k)) (slotOf (s .slot) (placeSecond ρ k)) < φ * ρ * ρ
+      holds : T (has (getD (s .result) (place ρ (placeFunction ρ k) (slotOf (s .slot) (placeFirst ρ k)) (slotOf (s .slot) (placeSecond ρ k))) 0) (slotOf (s .slot) c))
 
     entry : (k c : ℕ) → k < φ * ρ * ρ → c < ρ → T (has (getD (w .result) k 0) c) → Entry k c
     entry k c kb cb t =
         let u = cell-result ρ φ w k c kb t in
-        let (ab, bb, cc) = m .inside .result (Function ρ k) (First ρ k) (Second ρ k) c (first-below ρ φ k kb) (second-below ρ φ k kb) cb u in
-        let (l, v) = slot-cell (Function ρ k) (g (First ρ k)) (g (Second ρ k)) (g c) (low (First ρ k) ab) (low (Second ρ k) bb) (m .pulled .result (Function ρ k) (First ρ k) (Second ρ k) c ab bb cc .0 u) in
+        let (ab, bb, cc) = m .inside .result (placeFunction ρ k) (placeFirst ρ k) (placeSecond ρ k) c (first-below ρ φ k kb) (second-below ρ φ k kb) cb u in
+        let (l, v) = slot-cell (placeFunction ρ k) (g (placeFirst ρ k)) (g (placeSecond ρ k)) (g c) (low (placeFirst ρ k) ab) (low (placeSecond ρ k) bb) (m .pulled .result (placeFunction ρ k) (placeFirst ρ k) (placeSecond ρ k) c ab bb cc .0 u) in
         record { first-in = ab; second-in = bb; to-in = cc; below = l; holds = v }
 
-    first-of : (k c : ℕ) → Entry k c → First ρ (place ρ (Function ρ k) (at (s .slot) (First ρ k)) (at (s .slot) (Second ρ k))) ≡ at (s .slot) (First ρ k)
-    first-of k c e = first-place ρ (Function ρ k) (g (First ρ k)) (g (Second ρ k)) (low (First ρ k) (e .first-in)) (low (Second ρ k) (e .second-in))
+    first-of : (k c : ℕ) → Entry k c → placeFirst ρ (place ρ (placeFunction ρ k) (slotOf (s .slot) (placeFirst ρ k)) (slotOf (s .slot) (placeSecond ρ k))) ≡ slotOf (s .slot) (placeFirst ρ k)
+    first-of k c e = first-place ρ (placeFunction ρ k) (g (placeFirst ρ k)) (g (placeSecond ρ k)) (low (placeFirst ρ k) (e .first-in)) (low (placeSecond ρ k) (e .second-in))
 
-    second-of : (k c : ℕ) → Entry k c → Second ρ (place ρ (Function ρ k) (at (s .slot) (First ρ k)) (at (s .slot) (Second ρ k))) ≡ at (s .slot) (Second ρ k)
-    second-of k c e = second-place ρ (Function ρ k) (g (First ρ k)) (g (Second ρ k)) (low (First ρ k) (e .first-in)) (low (Second ρ k) (e .second-in))
+    second-of : (k c : ℕ) → Entry k c → placeSecond ρ (place ρ (placeFunction ρ k) (slotOf (s .slot) (placeFirst ρ k)) (slotOf (s .slot) (placeSecond ρ k))) ≡ slotOf (s .slot) (placeSecond ρ k)
+    second-of k c e = second-place ρ (placeFunction ρ k) (g (placeFirst ρ k)) (g (placeSecond ρ k)) (low (placeFirst ρ k) (e .first-in)) (low (placeSecond ρ k) (e .second-in))
 
-    into : {h : ℕ} → h < n → Beneath ρ φ (w .result) x more h → Beneath ρ φ (s .result) (at (s .slot) x) more′ (at (s .slot) h)
+    into : {h : ℕ} → h < n → Beneath ρ φ (w .result) x more h → Beneath ρ φ (s .result) (slotOf (s .slot) x) more′ (slotOf (s .slot) h)
     into {h} hb (extra t) = extra (mo h hb .0 t)
     into {h} hb (direct k {c} kb cb t d e) =
         let v = entry k c kb cb t in
-        direct (place ρ (Function ρ k) (g (First ρ k)) (g (Second ρ k))) (v .below) (low c (v .to-in)) (v .holds)
+        direct (place ρ (placeFunction ρ k) (g (placeFirst ρ k)) (g (placeSecond ρ k))) (v .below) (low c (v .to-in)) (v .holds)
         (⊎-elim (λ i. inl (first-of k c v ∙ ap g i)) (⊎-elim (λ i. inr (inl (second-of k c v ∙ ap g i))) (λ i. inr (inr (ap g i)))) d)
         (⊎-elim (λ i. inl (ap g i ∙ sym (first-of k c v))) (λ i. inr (ap g i ∙ sym (second-of k c v))) e)
     into {h} hb (beneath k {c} kb cb t o e) =
         let v = entry k c kb cb t in
-        beneath (place ρ (Function ρ k) (g (First ρ k)) (g (Second ρ k))) (v .below) (low c (v .to-in)) (v .holds) (into (v .to-in) o)
+        beneath (place ρ (placeFunction ρ k) (g (placeFirst ρ k)) (g (placeSecond ρ k))) (v .below) (low c (v .to-in)) (v .holds) (into (v .to-in) o)
         (⊎-elim (λ i. inl (ap g i ∙ sym (first-of k c v))) (λ i. inr (ap g i ∙ sym (second-of k c v))) e)
 
     -- an entry at slots, at registers of those slots
-    at-registers : (k c p q r : ℕ) → k < φ * ρ * ρ → T (has (getD (s .result) k 0) c) → p < n → q < n → r < n → at (s .slot) p ≡ First ρ k → at (s .slot) q ≡ Second ρ k → at (s .slot) r ≡ c
-        → (place ρ (Function ρ k) p q < φ * ρ * ρ) × T (has (getD (w .result) (place ρ (Function ρ k) p q) 0) r)
-    at-registers k c p q r kb t pb qb rb i j l = result-cell ρ φ w (Function ρ k) p q r (up p pb) (up q qb) (m .pulled .result (Function ρ k) p q r pb qb rb .1
-        (move3 (λ a b d. T (slotView ρ φ (s .unequal) (s .result) (s .ever) .result (Function ρ k) a b d)) (sym i) (sym j) (sym l) (cell-slot k c kb t)))
+    at-registers : (k c p q r : ℕ) → k < φ * ρ * ρ → T (has (getD (s .result) k 0) c) → p < n → q < n → r < n → slotOf (s .slot) p ≡ placeFirst ρ k → slotOf (s .slot) q ≡ placeSecond ρ k → slotOf (s .slot) r ≡ c
+        → (place ρ (placeFunction ρ k) p q < φ * ρ * ρ) × T (has (getD (w .result) (place ρ (placeFunction ρ k) p q) 0) r)
+    at-registers k c p q r kb t pb qb rb i j l = result-cell ρ φ w (placeFunction ρ k) p q r (up p pb) (up q qb) (m .pulled .result (placeFunction ρ k) p q r pb qb rb .1
+        (move3 (λ a b d. T (slotView ρ φ (s .unequal) (s .result) (s .ever) .result (placeFunction ρ k) a b d)) (sym i) (sym j) (sym l) (cell-slot k c kb t)))
 
     -- registers of the slots of an entry, with h for the one that it stands beneath
-    chosen : (k c h : ℕ) {t : ℕ} → k < φ * ρ * ρ → c < ρ → T (has (getD (s .result) k 0) c) → h < n → at (s .slot) h ≡ t → (t ≡ First ρ k) ⊎ (t ≡ Second ρ k)
-        → (p : ℕ) × (q : ℕ) × (r : ℕ) × (p < n) × (q < n) × (r < n) × (at (s .slot) p ≡ First ρ k) × (at (s .slot) q ≡ Second ρ k) × (at (s .slot) r ≡ c) × ((h ≡ p) ⊎ (h ≡ q))
+    chosen : (k c h : ℕ) {t : ℕ} → k < φ * ρ * ρ → c < ρ → T (has (getD (s .result) k 0) c) → h < n → slotOf (s .slot) h ≡ t → (t ≡ placeFirst ρ k) ⊎ (t ≡ placeSecond ρ k)
+        → (p : ℕ) × (q : ℕ) × (r : ℕ) × (p < n) × (q < n) × (r < n) × (slotOf (s .slot) p ≡ placeFirst ρ k) × (slotOf (s .slot) q ≡ placeSecond ρ k) × (slotOf (s .slot) r ≡ c) × ((h ≡ p) ⊎ (h ≡ q))
     chosen k c h kb cb t hb i e =
-        let ((p, pb, pe), (q, qb, qe), (r, rb, re)) = m .clean .result (Function ρ k) (First ρ k) (Second ρ k) c (first-below ρ φ k kb) (second-below ρ φ k kb) cb (cell-slot k c kb t) in
+        let ((p, pb, pe), (q, qb, qe), (r, rb, re)) = m .clean .result (placeFunction ρ k) (placeFirst ρ k) (placeSecond ρ k) c (first-below ρ φ k kb) (second-below ρ φ k kb) cb (cell-slot k c kb t) in
         ⊎-elim (λ j. (h, q, r, hb, qb, rb, i ∙ j, qe, re, inl refl)) (λ j. (p, h, r, pb, hb, rb, pe, i ∙ j, re, inr refl)) e
 
-    back : {t : ℕ} → Beneath ρ φ (s .result) (at (s .slot) x) more′ t → (h : ℕ) → h < n → at (s .slot) h ≡ t → Beneath ρ φ (w .result) x more h
+    back : {t : ℕ} → Beneath ρ φ (s .result) (slotOf (s .slot) x) more′ t → (h : ℕ) → h < n → slotOf (s .slot) h ≡ t → Beneath ρ φ (w .result) x more h
     back (extra t) h hb e = extra (mo h hb .1 (subst (λ z. T (has more′ z)) (sym e) t))
     back (direct k {c} kb cb t d e) h hb i =
         let (p, q, r, pb, qb, rb, pe, qe, re, o) = chosen k c h kb cb t hb i e in
         let (l, u) = at-registers k c p q r kb t pb qb rb pe qe re in
-        let f1 = first-place ρ (Function ρ k) p q (up p pb) (up q qb) in
-        let f2 = second-place ρ (Function ρ k) p q (up p pb) (up q qb) in
-        direct (place ρ (Function ρ k) p q) l (up r rb) u
+        let f1 = first-place ρ (placeFunction ρ k) p q (up p pb) (up q qb) in
+        let f2 = second-place ρ (placeFunction ρ k) p q (up p pb) (up q qb) in
+        direct (place ρ (placeFunction ρ k) p q) l (up r rb) u
         (⊎-elim (λ j. inl (f1 ∙ lone p pb (pe ∙ j))) (⊎-elim (λ j. inr (inl (f2 ∙ lone q qb (qe ∙ j)))) (λ j. inr (inr (lone r rb (re ∙ j))))) d)
         (⊎-elim (λ j. inl (j ∙ sym f1)) (λ j. inr (j ∙ sym f2)) o)
     back (beneath k {c} kb cb t b e) h hb i =
         let (p, q, r, pb, qb, rb, pe, qe, re, o) = chosen k c h kb cb t hb i e in
         let (l, u) = at-registers k c p q r kb t pb qb rb pe qe re in
-        let f1 = first-place ρ (Function ρ k) p q (up p pb) (up q qb) in
-        let f2 = second-place ρ (Function ρ k) p q (up p pb) (up q qb) in
-        beneath (place ρ (Function ρ k) p q) l (up r rb) u (back b r rb re)
+        let f1 = first-place ρ (placeFunction ρ k) p q (up p pb) (up q qb) in
+        let f2 = second-place ρ (placeFunction ρ k) p q (up p pb) (up q qb) in
+        beneath (place ρ (placeFunction ρ k) p q) l (up r rb) u (back b r rb re)
         (⊎-elim (λ j. inl (j ∙ sym f1)) (λ j. inr (j ∙ sym f2)) o)
 
     -- a register gets a mark exactly if its slot is below the lost one
-    pub lost-is : more′ < 2 ^ ρ → (h : ℕ) → h < n → Beneath ρ φ (w .result) x more h ↔ T (has (lostOf ρ φ (s .result) (at (s .slot) x) more′) (at (s .slot) h))
+    pub lost-is : more′ < 2 ^ ρ → (h : ℕ) → h < n → Beneath ρ φ (w .result) x more h ↔ T (has (lostOf ρ φ (s .result) (slotOf (s .slot) x) more′) (slotOf (s .slot) h))
     lost-is mb h hb = Iff·trans ((λ b. into hb b), (λ b. back b h hb refl)) (Iff·symm (lost-beneath ρ φ (s .result) (g x) more′ (low x xb) mb (g h)))

@@ -17,7 +17,7 @@ use Rattle.window.specs.Viewing.{view}
 use Rattle.window.proofs.Theory.Merging.{merged, inside-merged}
 use Rattle.window.proofs.Theory.Shape.{shaped-merged}
 use Rattle.window.specs.declared.Window.{Window}
-use Rattle.slots.specs.Slots.{Slots, at}
+use Rattle.slots.specs.Slots.{Slots, slotOf}
 use Rattle.slots.specs.Performing.{slotRenamed, masksRenamed, resultsRenamed, mergedSlots}
 use Rattle.slots.proofs.Theory.Laying.{LaidIn, laid-merged, renamed-at}
 use Rattle.slots.specs.Represents.{Grouped, slotView, Mirrors}
@@ -26,15 +26,15 @@ use Rattle.slots.proofs.Theory.Tables.{called-tables}
 use Rattle.slots.proofs.Theory.Marking.{up, low}
 use Rattle.slots.proofs.Theory.Moving.{bytes-set}
 
-module _ (ρ φ n : ℕ) (s : Slots) (w : Window) (m : Mirrors ρ φ n s w) (x y : ℕ) (xb : x < n) (yb : y < n) (d : at (s .slot) x ≢ at (s .slot) y) where
+module _ (ρ φ n : ℕ) (s : Slots) (w : Window) (m : Mirrors ρ φ n s w) (x y : ℕ) (xb : x < n) (yb : y < n) (d : slotOf (s .slot) x ≢ slotOf (s .slot) y) where
   abbrev g : ℕ → ℕ
-  g = at (s .slot)
+  g = slotOf (s .slot)
 
   abbrev a : ℕ
-  a = at (s .slot) x
+  a = slotOf (s .slot) x
 
   abbrev b : ℕ
-  b = at (s .slot) y
+  b = slotOf (s .slot) y
 
   abbrev K : View
   K = slotView ρ φ (s .unequal) (s .result) (s .ever)
@@ -42,7 +42,7 @@ module _ (ρ φ n : ℕ) (s : Slots) (w : Window) (m : Mirrors ρ φ n s w) (x y
   laws : Laws n (view ρ φ w)
   laws = laws-pulled n g (view ρ φ w) K (m .pulled)
 
-  slot-of : (r : ℕ) → r < n → called a b (at (s .slot) r) ≡ at (slotRenamed ρ a b (s .slot)) r
+  slot-of : (r : ℕ) → r < n → called a b (slotOf (s .slot) r) ≡ slotOf (slotRenamed ρ a b (s .slot)) r
   slot-of r rb = sym (renamed-at ρ a b (s .slot) r (up ρ φ n s w m r rb))
 
   abbrev next : List ℕ
@@ -55,17 +55,17 @@ module _ (ρ φ n : ℕ) (s : Slots) (w : Window) (m : Mirrors ρ φ n s w) (x y
   bb = low ρ φ n s w m y yb
 
   -- what the registers of a slot are called
-  at-slot : (r t : ℕ) → r < n → (called a b (at (s .slot) r) ≡ t) ↔ (at (slotRenamed ρ a b (s .slot)) r ≡ t)
+  at-slot : (r t : ℕ) → r < n → (called a b (slotOf (s .slot) r) ≡ t) ↔ (slotOf (slotRenamed ρ a b (s .slot)) r ≡ t)
   at-slot r t rb = ((λ h. sym (slot-of r rb) ∙ h), (λ h. slot-of r rb ∙ h))
 
-  members : (t r : ℕ) → t < ρ → T (has (getD (set next b 0) t 0) r) ↔ ((r < n) × (at (slotRenamed ρ a b (s .slot)) r ≡ t))
+  members : (t r : ℕ) → t < ρ → T (has (getD (set next b 0) t 0) r) ↔ ((r < n) × (slotOf (slotRenamed ρ a b (s .slot)) r ≡ t))
   members t r tb = ⊎-elim
-      (λ e. subst (λ z. T (has (getD (set next b 0) z 0) r) ↔ ((r < n) × (at (slotRenamed ρ a b (s .slot)) r ≡ z))) (sym e) (
+      (λ e. subst (λ z. T (has (getD (set next b 0) z 0) r) ↔ ((r < n) × (slotOf (slotRenamed ρ a b (s .slot)) r ≡ z))) (sym e) (
         (λ k. absurd (none-in r (subst (λ z. T (has z r)) (getD-set-same next b 0 0 (simp length-set (subst (λ z. b < z) (sym (m .laid .regs-long)) bb))) k))),
         (λ (rb, h). absurd (not-b r rb (at-slot r b rb .1 h))),
       ))
       (λ e. Iff·trans (same-iff (ap (λ z. has z r) (getD-set-other next b t 0 0 e))) (⊎-elim
-      (λ i. subst (λ z. T (has (getD next z 0) r) ↔ ((r < n) × (at (slotRenamed ρ a b (s .slot)) r ≡ z))) (sym i)
+      (λ i. subst (λ z. T (has (getD next z 0) r) ↔ ((r < n) × (slotOf (slotRenamed ρ a b (s .slot)) r ≡ z))) (sym i)
       (Iff·trans (same-iff (ap (λ z. has z r) (getD-set-same (s .regs) a (bitOr (getD (s .regs) a 0) (getD (s .regs) b 0)) 0 (subst (λ z. a < z) (sym (m .laid .regs-long)) ab))))
       (Iff·trans (or-is (getD (s .regs) a 0) (getD (s .regs) b 0) r) (
         (λ k. ⊎-elim
@@ -80,7 +80,7 @@ module _ (ρ φ n : ℕ) (s : Slots) (w : Window) (m : Mirrors ρ φ n s w) (x y
       (eq-or t a)))
       (eq-or t b)
     where
-      not-b : (r : ℕ) → r < n → called a b (at (s .slot) r) ≡ b → ⊥
+      not-b : (r : ℕ) → r < n → called a b (slotOf (s .slot) r) ≡ b → ⊥
       not-b r rb h = ⊎-elim (λ j. d (sym (called-same a b (g r) j) ∙ h)) (λ j. j (sym (called-other a b (g r) j) ∙ h)) (eq-or (g r) b)
 
   grouped : Grouped ρ n (slotRenamed ρ a b (s .slot)) (set next b 0)
@@ -106,7 +106,7 @@ module _ (ρ φ n : ℕ) (s : Slots) (w : Window) (m : Mirrors ρ φ n s w) (x y
   unfolding windows.mergedOf
   kept-infeasible = refl
 
-  pub merged-mirrors : Mirrors ρ φ n (mergedSlots ρ φ s (at (s .slot) x) (at (s .slot) y)) (windows.mergedOf ρ φ w x y)
+  pub merged-mirrors : Mirrors ρ φ n (mergedSlots ρ φ s (slotOf (s .slot) x) (slotOf (s .slot) y)) (windows.mergedOf ρ φ w x y)
   unfolding mergedSlots
   merged-mirrors = record {
     shaped = shaped-merged ρ φ w x y (up ρ φ n s w m x xb) (m .shaped);
@@ -120,10 +120,10 @@ module _ (ρ φ n : ℕ) (s : Slots) (w : Window) (m : Mirrors ρ φ n s w) (x y
   }
     where
       g′ : ℕ → ℕ
-      g′ = at (slotRenamed ρ a b (s .slot))
+      g′ = slotOf (slotRenamed ρ a b (s .slot))
 
-      lay : LaidIn ρ φ (mergedSlots ρ φ s (at (s .slot) x) (at (s .slot) y))
+      lay : LaidIn ρ φ (mergedSlots ρ φ s (slotOf (s .slot) x) (slotOf (s .slot) y))
       lay = laid-merged ρ φ s a b ab (m .laid)
 
-      low′ : (r : ℕ) → r < n → at (slotRenamed ρ a b (s .slot)) r < ρ
+      low′ : (r : ℕ) → r < n → slotOf (slotRenamed ρ a b (s .slot)) r < ρ
       low′ r rb = lay .low .below r (up ρ φ n s w m r rb)

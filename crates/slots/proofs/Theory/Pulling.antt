@@ -10,8 +10,8 @@ use Rattle.semantics.proofs.Theory.Steps.{Renamed, freshened, target}
 use borrow.Author.Tests.{eq-eqb, ne-eqb}
 use Rattle.window.proofs.Theory.Bits.{eq-or}
 use Rattle.window.proofs.Theory.Laws.{Laws}
-use Rattle.window.proofs.Theory.Merge.{In, Merged}
-use Rattle.window.proofs.Theory.Applying.{At, here, there, at}
+use Rattle.window.proofs.Theory.Merge.{In, ClassesMerged}
+use Rattle.window.proofs.Theory.Applying.{GrownRegister, here, there, at}
 use Rattle.slots.specs.Represents.{Used, Pulled, Clean, Single}
 
 pub move2 : (P : ℕ → ℕ → Type 0) {a b c d : ℕ} → a ≡ c → b ≡ d → P a b → P c d
@@ -34,12 +34,12 @@ laws-pulled n g w v p = record {
 
 -- ---- a copy: no table says anything else of the slots that are left
 
-pub record Alike (n : ℕ) (g : ℕ → ℕ) (v v′ : View) : Type 0 where
+pub record SlotsAlike (n : ℕ) (g : ℕ → ℕ) (v v′ : View) : Type 0 where
   pub apart : (r s : ℕ) → r < n → s < n → T (v .apart (g r) (g s)) ↔ T (v′ .apart (g r) (g s))
   pub result : (f a b c : ℕ) → a < n → b < n → c < n → T (v .result f (g a) (g b) (g c)) ↔ T (v′ .result f (g a) (g b) (g c))
   pub ever : (f a b : ℕ) → a < n → b < n → T (v .ever f (g a) (g b)) ↔ T (v′ .ever f (g a) (g b))
 
-module _ (n : ℕ) (g g′ c : ℕ → ℕ) (w w′ v v′ : View) (p : Pulled n g w v) (cb : (r : ℕ) → r < n → c r < n) (e : (r : ℕ) → r < n → g (c r) ≡ g′ r) (t : Renamed n w c n w′) (k : Alike n g′ v v′) where
+module _ (n : ℕ) (g g′ c : ℕ → ℕ) (w w′ v v′ : View) (p : Pulled n g w v) (cb : (r : ℕ) → r < n → c r < n) (e : (r : ℕ) → r < n → g (c r) ≡ g′ r) (t : Renamed n w c n w′) (k : SlotsAlike n g′ v v′) where
   pub pulled-copied : Pulled n g′ w′ v′
   pulled-copied = record {
     same = λ r s rb sb. Iff·trans (t .same r s rb sb) (Iff·trans (p .same (c r) (c s) (cb r rb) (cb s sb)) (
@@ -76,13 +76,13 @@ module _ (ρ n : ℕ) (g g′ : ℕ → ℕ) (w w′ v v′ : View) (p : Pulled 
   off : (r : ℕ) → r < n → r ≢ x → g′ r ≢ m
   off r rb d h = e r rb d .1 (e r rb d .0 ∙ h)
 
-  same-go : {r s r′ s′ : ℕ} → r < n → s < n → At x r r′ → At x s s′ → T (freshened w f y z .same r′ s′) ↔ (g′ r ≡ g′ s)
+  same-go : {r s r′ s′ : ℕ} → r < n → s < n → GrownRegister x r r′ → GrownRegister x s s′ → T (freshened w f y z .same r′ s′) ↔ (g′ r ≡ g′ s)
   same-go {r} {s} rb sb (here i) (here j) = ((λ _. own r i ∙ sym (own s j)), (λ _. tt))
   same-go {r} {s} rb sb (here i) (there j) = ((λ u. absurd u), (λ h. absurd (off s sb j (sym h ∙ own r i))))
   same-go {r} {s} rb sb (there i) (here j) = ((λ u. absurd u), (λ h. absurd (off r rb i (h ∙ own s j))))
   same-go {r} {s} rb sb (there i) (there j) = Iff·trans (p .same r s rb sb) ((λ h. sym (e r rb i .0) ∙ h ∙ e s sb j .0), (λ h. e r rb i .0 ∙ h ∙ sym (e s sb j .0)))
 
-  apart-go : {r s r′ s′ : ℕ} → r < n → s < n → At x r r′ → At x s s′ → T (freshened w f y z .apart r′ s′) ↔ T (v′ .apart (g′ r) (g′ s))
+  apart-go : {r s r′ s′ : ℕ} → r < n → s < n → GrownRegister x r r′ → GrownRegister x s s′ → T (freshened w f y z .apart r′ s′) ↔ T (v′ .apart (g′ r) (g′ s))
   apart-go {r} {s} rb sb (here i) j = ((λ u. absurd u), (λ h. absurd (k .apart (g′ r) (g′ s) (low r rb) (low s sb) .0 h .0 (own r i))))
   apart-go {r} {s} rb sb (there i) (here j) = ((λ u. absurd u), (λ h. absurd (k .apart (g′ r) (g′ s) (low r rb) (low s sb) .0 h .1 (own s j))))
   apart-go {r} {s} rb sb (there i) (there j) = Iff·trans (p .apart r s rb sb) (
@@ -98,7 +98,7 @@ module _ (ρ n : ℕ) (g g′ : ℕ → ℕ) (w w′ v v′ : View) (p : Pulled 
     (λ (a, b, c). and-i (eqb h f) (w .same y r && w .same z s) (subst (λ q. T (eqb h q)) a (eqb-refl h)) (and-i (w .same y r) (w .same z s) (p .same y r yb rb .1 (sym b ∙ sym (e r rb i .0))) (p .same z s zb sb .1 (sym c ∙ sym (e s sb j .0))))),
   )
 
-  result-go : (h : ℕ) {r s c r′ s′ c′ : ℕ} → r < n → s < n → c < n → At x r r′ → At x s s′ → At x c c′ → T (freshened w f y z .result h r′ s′ c′) ↔ T (v′ .result h (g′ r) (g′ s) (g′ c))
+  result-go : (h : ℕ) {r s c r′ s′ c′ : ℕ} → r < n → s < n → c < n → GrownRegister x r r′ → GrownRegister x s s′ → GrownRegister x c c′ → T (freshened w f y z .result h r′ s′ c′) ↔ T (v′ .result h (g′ r) (g′ s) (g′ c))
   result-go h {r} {s} {c} rb sb cb (here i) j l = ((λ u. absurd u), (λ q. absurd (k .result h (g′ r) (g′ s) (g′ c) (low r rb) (low s sb) (low c cb) .0 q .0 (own r i))))
   result-go h {r} {s} {c} rb sb cb (there i) (here j) l = ((λ u. absurd u), (λ q. absurd (k .result h (g′ r) (g′ s) (g′ c) (low r rb) (low s sb) (low c cb) .0 q .1 (own s j))))
   result-go h {r} {s} {c} rb sb cb (there i) (there j) (here l) = Iff·trans (new-is h r s rb sb i j) (
@@ -110,7 +110,7 @@ module _ (ρ n : ℕ) (g g′ : ℕ → ℕ) (w w′ v v′ : View) (p : Pulled 
     (λ q. ⊎-elim (λ (u, _). move3 (λ a b d. T (v .result h a b d)) (sym (e r rb i .0)) (sym (e s sb j .0)) (sym (e c cb l .0)) u) (λ (d, _, _, _). absurd (off c cb l d)) (k .result h (g′ r) (g′ s) (g′ c) (low r rb) (low s sb) (low c cb) .0 q .2)),
   )
 
-  ever-go : (h : ℕ) {r s r′ s′ : ℕ} → r < n → s < n → At x r r′ → At x s s′ → T (freshened w f y z .ever h r′ s′) ↔ T (v′ .ever h (g′ r) (g′ s))
+  ever-go : (h : ℕ) {r s r′ s′ : ℕ} → r < n → s < n → GrownRegister x r r′ → GrownRegister x s s′ → T (freshened w f y z .ever h r′ s′) ↔ T (v′ .ever h (g′ r) (g′ s))
   ever-go h {r} {s} rb sb (here i) j = ((λ u. absurd u), (λ q. absurd (k .ever h (g′ r) (g′ s) (low r rb) (low s sb) .0 q .0 (own r i))))
   ever-go h {r} {s} rb sb (there i) (here j) = ((λ u. absurd u), (λ q. absurd (k .ever h (g′ r) (g′ s) (low r rb) (low s sb) .0 q .1 (own s j))))
   ever-go h {r} {s} rb sb (there i) (there j) = (
@@ -162,7 +162,7 @@ called-is a b s t = (
 
 module _ (ρ n : ℕ) (g g′ : ℕ → ℕ) (w w′ v v′ : View) (p : Pulled n g w v) (c : Clean ρ (Used n g) v) (low : (r : ℕ) → r < n → g r < ρ) (low′ : (r : ℕ) → r < n → g′ r < ρ)
     (x y : ℕ) (xb : x < n) (yb : y < n) (e : (r : ℕ) → r < n → called (g x) (g y) (g r) ≡ g′ r) (k : Called ρ (g x) (g y) v v′) where
-  module _ (m : Merged n w x y w′) where
+  module _ (m : ClassesMerged n w x y w′) where
     in-is : (r : ℕ) → r < n → In n w x y r ↔ ((g x ≡ g r) ⊎ (g y ≡ g r))
     in-is r rb = (
       (λ i. ⊎-elim (λ t. inl (p .same x r xb rb .0 t)) (λ t. inr (p .same y r yb rb .0 t)) i),
@@ -220,10 +220,10 @@ pub record Dropped (ρ m : ℕ) (v v′ : View) : Type 0 where
   pub result : (f s t c : ℕ) → s < ρ → t < ρ → c < ρ → T (v′ .result f s t c) ↔ ((s ≢ m) × (t ≢ m) × (c ≢ m) × T (v .result f s t c))
   pub ever : (f s t : ℕ) → s < ρ → t < ρ → T (v′ .ever f s t) ↔ ((s ≢ m) × (t ≢ m) × T (v .ever f s t))
 
-pub alike-same : (n : ℕ) (g : ℕ → ℕ) (v : View) → Alike n g v v
+pub alike-same : (n : ℕ) (g : ℕ → ℕ) (v : View) → SlotsAlike n g v v
 alike-same n g v = record { apart = λ r s rb sb. ((λ t. t), (λ t. t)); result = λ f a b c ab bb cb. ((λ t. t), (λ t. t)); ever = λ f a b ab bb. ((λ t. t), (λ t. t)) }
 
-pub alike-dropped : (ρ n m : ℕ) (g : ℕ → ℕ) (v v′ : View) → ((r : ℕ) → r < n → (g r < ρ) × (g r ≢ m)) → Dropped ρ m v v′ → Alike n g v v′
+pub alike-dropped : (ρ n m : ℕ) (g : ℕ → ℕ) (v v′ : View) → ((r : ℕ) → r < n → (g r < ρ) × (g r ≢ m)) → Dropped ρ m v v′ → SlotsAlike n g v v′
 alike-dropped ρ n m g v v′ e d = record {
   apart = λ r s rb sb. ((λ t. d .apart (g r) (g s) (e r rb .0) (e s sb .0) .1 (e r rb .1, e s sb .1, t)), (λ t. d .apart (g r) (g s) (e r rb .0) (e s sb .0) .0 t .2));
   result = λ f a b c ab bb cb. ((λ t. d .result f (g a) (g b) (g c) (e a ab .0) (e b bb .0) (e c cb .0) .1 (e a ab .1, e b bb .1, e c cb .1, t)), (λ t. d .result f (g a) (g b) (g c) (e a ab .0) (e b bb .0) (e c cb .0) .0 t .3));

@@ -15,8 +15,8 @@ use Rattle.base.proofs.Theory.Choice.{byTest}
 use Rattle.base.specs.Masks.{has}
 use Rattle.window.specs.Adding.{partOf}
 use Rattle.window.specs.declared.Window.{Window}
-use Rattle.slots.specs.Slots.{Slots, slotsOf, at, Low}
-use Rattle.slots.specs.Performing.{heldOf, pulledOf, pulledAt, pulledMasks, pulledResults, pulledClasses, pulledMarks, windowOf, doubledOf}
+use Rattle.slots.specs.Slots.{Slots, slotsOf, slotOf, Low}
+use Rattle.slots.specs.Performing.{hasSlot, pulledOf, pulledAt, pulledMasks, pulledResults, pulledClasses, pulledMarks, windowOf, doubledOf}
 use Rattle.slots.specs.Performing.{membersOf, groupedOf, usedOf, keptAt, cleanOf, regularOf, sameMasks, alikeOf, sameMarks, sameWindow, representsOf}
 
 -- a fold up to i, where i is the end
@@ -26,10 +26,10 @@ at-end F n i b h g e = e ∙ ap F (omega arith)
 -- ---- the window of slots
 
 -- a register's class, where it has one
-pub class-pulled : (slot regs : List ℕ) (r s v : ℕ) → s ≡ at slot r → v ≡ partOf (getD regs s 0) (getD regs s 0) r
-    → v ≡ pick (heldOf slot regs r) (λ _. getD regs (at slot r) 0) λ _. 0
-unfolding heldOf partOf
-class-pulled slot regs r s v e d = byTest (has (getD regs (at slot r) 0) r) (λ t. d ∙ rw (e, t)) (λ t. d ∙ rw (e, t))
+pub class-pulled : (slot regs : List ℕ) (r s v : ℕ) → s ≡ slotOf slot r → v ≡ partOf (getD regs s 0) (getD regs s 0) r
+    → v ≡ pick (hasSlot slot regs r) (λ _. getD regs (slotOf slot r) 0) λ _. 0
+unfolding hasSlot partOf
+class-pulled slot regs r s v e d = byTest (has (getD regs (slotOf slot r) 0) r) (λ t. d ∙ rw (e, t)) (λ t. d ∙ rw (e, t))
 
 -- a register's mark, where it has a slot
 pub mark-pulled : (h g m : Bool) → h ≡ g → (h && m) ≡ (g && m)
@@ -40,12 +40,12 @@ pub result-pulled : (regs : List ℕ) (n m x v : ℕ) → m ≡ x → v ≡ pull
 result-pulled regs n m x v e d = d ∙ rw e
 
 module _ (ρ : ℕ) where
-  pub entry-pulled : (slot regs l : List ℕ) (k s v : ℕ) → heldOf slot regs (k % ρ) ≡ true → s ≡ at slot (k % ρ)
+  pub entry-pulled : (slot regs l : List ℕ) (k s v : ℕ) → hasSlot slot regs (k % ρ) ≡ true → s ≡ slotOf slot (k % ρ)
       → v ≡ pulledOf regs (getD l (ρ * (k / ρ) + s) 0) ρ → v ≡ pulledAt ρ slot regs l k
   unfolding pulledAt
   entry-pulled slot regs l k s v t e d = rw t (d ∙ rw e)
 
-  pub entry-none : (slot regs l : List ℕ) (k : ℕ) → heldOf slot regs (k % ρ) ≡ false → 0 ≡ pulledAt ρ slot regs l k
+  pub entry-none : (slot regs l : List ℕ) (k : ℕ) → hasSlot slot regs (k % ρ) ≡ false → 0 ≡ pulledAt ρ slot regs l k
   unfolding pulledAt
   entry-none slot regs l k t = rw t
 
@@ -67,7 +67,7 @@ module _ (ρ : ℕ) where
   -- the first i registers have one of ρ slots
   pub record Lowered (i : ℕ) (slot : List ℕ) : Type 0 where
     pub long : length slot ≡ ρ
-    pub below : (r : ℕ) → r < i → at slot r < ρ
+    pub below : (r : ℕ) → r < i → slotOf slot r < ρ
 
   pub lowered-none : (slot : List ℕ) → length slot ≡ ρ → Lowered 0 slot
   lowered-none slot h = record { long = h; below = λ r b. absurd (omega arith) }
@@ -90,7 +90,7 @@ module _ (ρ : ℕ) where
   unfolding membersOf
   members-none slot n s = refl
 
-  pub members-more : (slot : List ℕ) (n s k m a v : ℕ) → m ≡ membersOf ρ slot n s k → a ≡ at slot k → v ≡ cond (ltb k n && eqb a s) (2 ^ k) 0
+  pub members-more : (slot : List ℕ) (n s k m a v : ℕ) → m ≡ membersOf ρ slot n s k → a ≡ slotOf slot k → v ≡ cond (ltb k n && eqb a s) (2 ^ k) 0
       → bitOr m v ≡ membersOf ρ slot n s (k + 1)
   unfolding membersOf
   members-more slot n s k m a v e f d = rw (add-one, e, d, f)
@@ -99,7 +99,7 @@ module _ (ρ : ℕ) where
   unfolding groupedOf
   grouped-none slot regs n = refl
 
-  pub grouped-more : (slot regs : List ℕ) (n k : ℕ) (b : Bool) (a m : ℕ) → b ≡ groupedOf ρ slot regs n k → a ≡ at slot k → m ≡ membersOf ρ slot n k ρ
+  pub grouped-more : (slot regs : List ℕ) (n k : ℕ) (b : Bool) (a m : ℕ) → b ≡ groupedOf ρ slot regs n k → a ≡ slotOf slot k → m ≡ membersOf ρ slot n k ρ
       → (b && (ltb a ρ && eqb (getD regs k 0) m)) ≡ groupedOf ρ slot regs n (k + 1)
   unfolding groupedOf
   grouped-more slot regs n k b a m e f d = rw (add-one, e, d, f)

@@ -22,9 +22,9 @@ use Rattle.window.proofs.Theory.Table.{table-at, table-out, table-length}
 use Rattle.window.specs.Adding.{partOf}
 use Rattle.window.specs.Viewing.{view, Inside, Masks, Shaped}
 use Rattle.window.specs.declared.Window.{Window}
-use Rattle.slots.specs.Slots.{Slots, at, Low, Tabled}
-use Rattle.slots.specs.Performing.{heldOf, pulledOf, doubledOf, entryOf, pulledAt, pulledMasks, pulledResults, pulledClasses, pulledMarks, windowOf, membersOf, groupedOf, usedOf, keptAt, cleanOf, regularOf, representsOf}
-use Rattle.slots.specs.Represents.{Used, Pulled, Clean, Single, Grouped, slotView, Represents}
+use Rattle.slots.specs.Slots.{Slots, slotOf, Low, SlotTableLengths}
+use Rattle.slots.specs.Performing.{hasSlot, pulledOf, doubledOf, entryOf, pulledAt, pulledMasks, pulledResults, pulledClasses, pulledMarks, windowOf, membersOf, groupedOf, usedOf, keptAt, cleanOf, regularOf, representsOf}
+use Rattle.slots.specs.Represents.{Used, Pulled, Clean, Single, Grouped, slotView, RepresentsWindow}
 use Rattle.slots.proofs.Theory.Room.{some-in}
 use Rattle.slots.proofs.Theory.Entries.{part-is, held-is, pulled-in, pulled-small, entry-has}
 use Rattle.slots.proofs.Theory.Closings.{many-is, doubled-none}
@@ -32,35 +32,35 @@ use Rattle.slots.proofs.Theory.Closings.{many-is, doubled-none}
 -- ---- what the tests say
 
 module _ (ρ : ℕ) where
-  members-is : (slot : List ℕ) (n s k r : ℕ) → T (has (membersOf ρ slot n s k) r) ↔ ((r < k) × (r < n) × (at slot r ≡ s))
+  members-is : (slot : List ℕ) (n s k r : ℕ) → T (has (membersOf ρ slot n s k) r) ↔ ((r < k) × (r < n) × (slotOf slot r ≡ s))
   unfolding membersOf
   members-is slot n s zero r = ((λ t. absurd (none-in r t)), (λ (b, _, _). absurd (omega arith)))
-  members-is slot n s (suc k) r = Iff·trans (or-is (membersOf ρ slot n s k) (cond (ltb k n && eqb (at slot k) s) (2 ^ k) 0) r) (
-    (λ t. ⊎-elim (λ u. let (b, p, q) = members-is slot n s k r .0 u in (omega arith, p, q)) (λ u. let (e, p, q) = here r .0 u in (omega arith, subst (λ z. z < n) (sym e) p, subst (λ z. at slot z ≡ s) (sym e) q)) t),
-    (λ (b, p, q). ⊎-elim (λ e. inr (here r .1 (e, subst (λ z. z < n) e p, subst (λ z. at slot z ≡ s) e q))) (λ e. inl (members-is slot n s k r .1 (omega arith, p, q))) (eq-or r k)),
+  members-is slot n s (suc k) r = Iff·trans (or-is (membersOf ρ slot n s k) (cond (ltb k n && eqb (slotOf slot k) s) (2 ^ k) 0) r) (
+    (λ t. ⊎-elim (λ u. let (b, p, q) = members-is slot n s k r .0 u in (omega arith, p, q)) (λ u. let (e, p, q) = here r .0 u in (omega arith, subst (λ z. z < n) (sym e) p, subst (λ z. slotOf slot z ≡ s) (sym e) q)) t),
+    (λ (b, p, q). ⊎-elim (λ e. inr (here r .1 (e, subst (λ z. z < n) e p, subst (λ z. slotOf slot z ≡ s) e q))) (λ e. inl (members-is slot n s k r .1 (omega arith, p, q))) (eq-or r k)),
   )
     where
-      here : (r : ℕ) → T (has (cond (ltb k n && eqb (at slot k) s) (2 ^ k) 0) r) ↔ ((r ≡ k) × (k < n) × (at slot k ≡ s))
-      here r = byTest (ltb k n && eqb (at slot k) s)
-          (λ t. let u = truth (ltb k n && eqb (at slot k) s) t in rw t ((λ q. (single-is k r .0 q, ltb→lt k n (and-l (ltb k n) (eqb (at slot k) s) u), eqb→eq (at slot k) s (and-r (ltb k n) (eqb (at slot k) s) u))), (λ (e, _, _). single-is k r .1 e)))
-          (λ t. rw t ((λ q. absurd (none-in r q)), (λ (_, p, q). absurd (no-truth (ltb k n && eqb (at slot k) s) t (and-i (ltb k n) (eqb (at slot k) s) (lt→ltb k n p) (truth (eqb (at slot k) s) (eq-eqb (at slot k) s q)))))))
+      here : (r : ℕ) → T (has (cond (ltb k n && eqb (slotOf slot k) s) (2 ^ k) 0) r) ↔ ((r ≡ k) × (k < n) × (slotOf slot k ≡ s))
+      here r = byTest (ltb k n && eqb (slotOf slot k) s)
+          (λ t. let u = truth (ltb k n && eqb (slotOf slot k) s) t in rw t ((λ q. (single-is k r .0 q, ltb→lt k n (and-l (ltb k n) (eqb (slotOf slot k) s) u), eqb→eq (slotOf slot k) s (and-r (ltb k n) (eqb (slotOf slot k) s) u))), (λ (e, _, _). single-is k r .1 e)))
+          (λ t. rw t ((λ q. absurd (none-in r q)), (λ (_, p, q). absurd (no-truth (ltb k n && eqb (slotOf slot k) s) t (and-i (ltb k n) (eqb (slotOf slot k) s) (lt→ltb k n p) (truth (eqb (slotOf slot k) s) (eq-eqb (slotOf slot k) s q)))))))
 
   members-small : (slot : List ℕ) (n s k : ℕ) → k ≤ ρ → membersOf ρ slot n s k < 2 ^ ρ
   unfolding membersOf
   members-small slot n s zero h = none-small ρ
-  members-small slot n s (suc k) h = or-small ρ (membersOf ρ slot n s k) (cond (ltb k n && eqb (at slot k) s) (2 ^ k) 0) (members-small slot n s k (omega arith))
-      (byTest (ltb k n && eqb (at slot k) s) (λ t. rw t (pow-small ρ k (omega arith))) (λ t. rw t (none-small ρ)))
+  members-small slot n s (suc k) h = or-small ρ (membersOf ρ slot n s k) (cond (ltb k n && eqb (slotOf slot k) s) (2 ^ k) 0) (members-small slot n s k (omega arith))
+      (byTest (ltb k n && eqb (slotOf slot k) s) (λ t. rw t (pow-small ρ k (omega arith))) (λ t. rw t (none-small ρ)))
 
-  grouped-at : (slot regs : List ℕ) (n k : ℕ) → T (groupedOf ρ slot regs n k) → (j : ℕ) → j < k → (at slot j < ρ) × (getD regs j 0 ≡ membersOf ρ slot n j ρ)
+  grouped-at : (slot regs : List ℕ) (n k : ℕ) → T (groupedOf ρ slot regs n k) → (j : ℕ) → j < k → (slotOf slot j < ρ) × (getD regs j 0 ≡ membersOf ρ slot n j ρ)
   unfolding groupedOf
   grouped-at slot regs n zero t j b = absurd (omega arith)
   grouped-at slot regs n (suc k) t j b =
       let G = groupedOf ρ slot regs n k in
-      let L = ltb (at slot k) ρ in
+      let L = ltb (slotOf slot k) ρ in
       let E = eqb (getD regs k 0) (membersOf ρ slot n k ρ) in
       ⊎-elim
       (λ e. let u = and-r G (L && E) t in
-      subst (λ z. (at slot z < ρ) × (getD regs z 0 ≡ membersOf ρ slot n z ρ)) (sym e) (ltb→lt (at slot k) ρ (and-l L E u), eqb→eq (getD regs k 0) (membersOf ρ slot n k ρ) (and-r L E u)))
+      subst (λ z. (slotOf slot z < ρ) × (getD regs z 0 ≡ membersOf ρ slot n z ρ)) (sym e) (ltb→lt (slotOf slot k) ρ (and-l L E u), eqb→eq (getD regs k 0) (membersOf ρ slot n k ρ) (and-r L E u)))
       (λ e. grouped-at slot regs n k (and-l G (L && E) t) j (omega arith))
       (eq-or j k)
 
@@ -89,9 +89,9 @@ module _ (ρ : ℕ) where
       (λ e. clean-at used step l k (and-l G E t) j c (omega arith) u)
       (eq-or j k)
 
-module _ (ρ φ n : ℕ) (s : Slots) (fits : n ≤ ρ) (slot-long : length (s .slot) ≡ ρ) (regs-long : length (s .regs) ≡ ρ) (tables : Tabled ρ φ (s .unequal) (s .result) (s .ever)) (mark-long : length (s .mark) ≡ ρ) (ok : T (regularOf ρ φ s n)) where
+module _ (ρ φ n : ℕ) (s : Slots) (fits : n ≤ ρ) (slot-long : length (s .slot) ≡ ρ) (regs-long : length (s .regs) ≡ ρ) (tables : SlotTableLengths ρ φ (s .unequal) (s .result) (s .ever)) (mark-long : length (s .mark) ≡ ρ) (ok : T (regularOf ρ φ s n)) where
   abbrev g : ℕ → ℕ
-  g = at (s .slot)
+  g = slotOf (s .slot)
 
   abbrev used : ℕ
   used = usedOf ρ (s .regs) ρ
@@ -139,14 +139,14 @@ module _ (ρ φ n : ℕ) (s : Slots) (fits : n ≤ ρ) (slot-long : length (s .s
         (less-or k ρ);
   }
 
-  has-used : (t : ℕ) → T (has (usedOf ρ (s .regs) ρ) t) → Used n (at (s .slot)) t
+  has-used : (t : ℕ) → T (has (usedOf ρ (s .regs) ρ) t) → Used n (slotOf (s .slot)) t
   has-used t u =
       let (tb, d) = used-is ρ (s .regs) ρ t u in
       let (r, _, v) = some-in ρ (getD (s .regs) t 0) (grouped .bytes t) d in
       let (rn, e) = grouped .members t r tb .0 v in
       (r, rn, e)
 
-  clean : Clean ρ (Used n (at (s .slot))) (slotView ρ φ (s .unequal) (s .result) (s .ever))
+  clean : Clean ρ (Used n (slotOf (s .slot))) (slotView ρ φ (s .unequal) (s .result) (s .ever))
   clean = record {
     apart = λ a b ab bb t. let (p, q) = clean-at ρ used 1 (s .unequal) ρ (passed .apart) a b ab t in (has-used a (subst (λ z. T (has used z)) (over-one a ∙ mod-eq-of-lt ab) p), has-used b q);
     result = λ f a b c ab bb cb t.
@@ -183,22 +183,22 @@ module _ (ρ φ n : ℕ) (s : Slots) (fits : n ≤ ρ) (slot-long : length (s .s
 
   -- ---- the window that is read
 
-  held : (r : ℕ) → r < ρ → T (heldOf (s .slot) (s .regs) r) ↔ (r < n)
+  held : (r : ℕ) → r < ρ → T (hasSlot (s .slot) (s .regs) r) ↔ (r < n)
   held = held-is ρ n (s .slot) (s .regs) low grouped
 
-  class-has : (r q : ℕ) → r < ρ → T (has (getD (pulledClasses ρ (s .slot) (s .regs)) r 0) q) ↔ ((r < n) × (q < n) × (at (s .slot) r ≡ at (s .slot) q))
+  class-has : (r q : ℕ) → r < ρ → T (has (getD (pulledClasses ρ (s .slot) (s .regs)) r 0) q) ↔ ((r < n) × (q < n) × (slotOf (s .slot) r ≡ slotOf (s .slot) q))
   unfolding pulledClasses
-  class-has r q rb = Iff·trans (same-iff (ap (λ z. has z q) (table-at (λ r. pick (heldOf (s .slot) (s .regs) r) (λ _. getD (s .regs) (g r) 0) λ _. 0) ρ r 0 rb))) (byTest (heldOf (s .slot) (s .regs) r)
-      (λ t. let rn = held r rb .0 (truth (heldOf (s .slot) (s .regs) r) t) in rw t (Iff·trans (grouped .members (g r) q (low .below r rb)) ((λ (p, e). (rn, p, sym e)), (λ (_, p, e). (p, sym e)))))
-      (λ t. rw t ((λ u. absurd (none-in q u)), (λ (rn, _, _). absurd (no-truth (heldOf (s .slot) (s .regs) r) t (held r rb .1 rn))))))
+  class-has r q rb = Iff·trans (same-iff (ap (λ z. has z q) (table-at (λ r. pick (hasSlot (s .slot) (s .regs) r) (λ _. getD (s .regs) (g r) 0) λ _. 0) ρ r 0 rb))) (byTest (hasSlot (s .slot) (s .regs) r)
+      (λ t. let rn = held r rb .0 (truth (hasSlot (s .slot) (s .regs) r) t) in rw t (Iff·trans (grouped .members (g r) q (low .below r rb)) ((λ (p, e). (rn, p, sym e)), (λ (_, p, e). (p, sym e)))))
+      (λ t. rw t ((λ u. absurd (none-in q u)), (λ (rn, _, _). absurd (no-truth (hasSlot (s .slot) (s .regs) r) t (held r rb .1 rn))))))
 
-  masks-has : (c : ℕ) (t : List ℕ) (j r q : ℕ) → j < c → r < ρ → q < ρ → T (has (getD (pulledMasks ρ (s .slot) (s .regs) t (c * ρ)) (ρ * j + r) 0) q) ↔ ((r < n) × (q < n) × T (has (getD t (ρ * j + at (s .slot) r) 0) (at (s .slot) q)))
+  masks-has : (c : ℕ) (t : List ℕ) (j r q : ℕ) → j < c → r < ρ → q < ρ → T (has (getD (pulledMasks ρ (s .slot) (s .regs) t (c * ρ)) (ρ * j + r) 0) q) ↔ ((r < n) × (q < n) × T (has (getD t (ρ * j + slotOf (s .slot) r) 0) (slotOf (s .slot) q)))
   unfolding pulledMasks pulledAt
-  masks-has c t j r q jb rb qb = Iff·trans (same-iff (ap (λ z. has z q) (table-at (pulledAt ρ (s .slot) (s .regs) t) (c * ρ) (ρ * j + r) 0 (entry-below ρ c j r jb rb)))) (rw (line-entry ρ j r rb, along-entry ρ j r rb) (byTest (heldOf (s .slot) (s .regs) r)
-      (λ u. let rn = held r rb .0 (truth (heldOf (s .slot) (s .regs) r) u) in rw u (Iff·trans (pulled-in ρ n (s .slot) (s .regs) low grouped (getD t (ρ * j + g r) 0) q qb) ((λ (p, z). (rn, p, z)), (λ (_, p, z). (p, z)))))
-      (λ u. rw u ((λ z. absurd (none-in q z)), (λ (rn, _, _). absurd (no-truth (heldOf (s .slot) (s .regs) r) u (held r rb .1 rn)))))))
+  masks-has c t j r q jb rb qb = Iff·trans (same-iff (ap (λ z. has z q) (table-at (pulledAt ρ (s .slot) (s .regs) t) (c * ρ) (ρ * j + r) 0 (entry-below ρ c j r jb rb)))) (rw (line-entry ρ j r rb, along-entry ρ j r rb) (byTest (hasSlot (s .slot) (s .regs) r)
+      (λ u. let rn = held r rb .0 (truth (hasSlot (s .slot) (s .regs) r) u) in rw u (Iff·trans (pulled-in ρ n (s .slot) (s .regs) low grouped (getD t (ρ * j + g r) 0) q qb) ((λ (p, z). (rn, p, z)), (λ (_, p, z). (p, z)))))
+      (λ u. rw u ((λ z. absurd (none-in q z)), (λ (rn, _, _). absurd (no-truth (hasSlot (s .slot) (s .regs) r) u (held r rb .1 rn)))))))
 
-  unequal-has : (r q : ℕ) → r < ρ → q < ρ → T (has (getD (pulledMasks ρ (s .slot) (s .regs) (s .unequal) ρ) r 0) q) ↔ ((r < n) × (q < n) × T (has (getD (s .unequal) (at (s .slot) r) 0) (at (s .slot) q)))
+  unequal-has : (r q : ℕ) → r < ρ → q < ρ → T (has (getD (pulledMasks ρ (s .slot) (s .regs) (s .unequal) ρ) r 0) q) ↔ ((r < n) × (q < n) × T (has (getD (s .unequal) (slotOf (s .slot) r) 0) (slotOf (s .slot) q)))
   unequal-has r q rb qb =
       let one : 1 * ρ ≡ ρ = omega arith in
       let i : ρ * 0 + r ≡ r = omega arith in
@@ -208,7 +208,7 @@ module _ (ρ φ n : ℕ) (s : Slots) (fits : n ≤ ρ) (slot-long : length (s .s
       (subst (λ z. T (has (getD (pulledMasks ρ (s .slot) (s .regs) (s .unequal) (1 * ρ)) (ρ * 0 + r) 0) q) ↔ ((r < n) × (q < n) × T (has (getD (s .unequal) z 0) (g q)))) j (masks-has 1 (s .unequal) 0 r q (omega arith) rb qb)))
 
   results-has : (f a b c : ℕ) → f < φ → a < ρ → b < ρ → c < ρ → T (has (getD (pulledResults ρ (s .slot) (s .regs) (s .result) (φ * ρ * ρ)) (place ρ f a b) 0) c)
-      ↔ ((a < n) × (b < n) × (c < n) × T (has (getD (s .result) (place ρ f (at (s .slot) a) (at (s .slot) b)) 0) (at (s .slot) c)))
+      ↔ ((a < n) × (b < n) × (c < n) × T (has (getD (s .result) (place ρ f (slotOf (s .slot) a) (slotOf (s .slot) b)) 0) (slotOf (s .slot) c)))
   unfolding pulledResults
   results-has f a b c fb ab bb cb =
       let k = place ρ f a b in
@@ -226,16 +226,16 @@ module _ (ρ φ n : ℕ) (s : Slots) (fits : n ≤ ρ) (slot-long : length (s .s
   marks-has : (r : ℕ) → r < ρ → T (getD (pulledMarks ρ (s .slot) (s .regs) (s .mark)) r false) ↔ ((r < n) × T (getD (s .mark) r false))
   unfolding pulledMarks
   marks-has r rb =
-      let H = heldOf (s .slot) (s .regs) r in
+      let H = hasSlot (s .slot) (s .regs) r in
       let M = getD (s .mark) r false in
-      Iff·trans (same-iff (table-at (λ r. heldOf (s .slot) (s .regs) r && getD (s .mark) r false) ρ r false rb)) ((λ t. (held r rb .0 (and-l H M t), and-r H M t)), (λ (p, q). and-i H M (held r rb .1 p) q))
+      Iff·trans (same-iff (table-at (λ r. hasSlot (s .slot) (s .regs) r && getD (s .mark) r false) ρ r false rb)) ((λ t. (held r rb .0 (and-l H M t), and-r H M t)), (λ (p, q). and-i H M (held r rb .1 p) q))
 
   bytes-table : (F : ℕ → ℕ) (c : ℕ) → ((k : ℕ) → k < c → F k < 2 ^ ρ) → Masks ρ (table F c)
   bytes-table F c f k = ⊎-elim (λ l. rw (table-at F c k 0 l) (f k l)) (λ l. rw (table-out F c k 0 l) (none-small ρ)) (less-or k c)
 
   masks-bytes : (t : List ℕ) (c : ℕ) → Masks ρ (pulledMasks ρ (s .slot) (s .regs) t c)
   unfolding pulledMasks pulledAt
-  masks-bytes t c = bytes-table (pulledAt ρ (s .slot) (s .regs) t) c (λ k kb. byTest (heldOf (s .slot) (s .regs) (k % ρ)) (λ u. rw u (pulled-small ρ (s .regs) (getD t (ρ * (k / ρ) + g (k % ρ)) 0) ρ (grouped .bytes))) (λ u. rw u (none-small ρ)))
+  masks-bytes t c = bytes-table (pulledAt ρ (s .slot) (s .regs) t) c (λ k kb. byTest (hasSlot (s .slot) (s .regs) (k % ρ)) (λ u. rw u (pulled-small ρ (s .regs) (getD t (ρ * (k / ρ) + g (k % ρ)) 0) ρ (grouped .bytes))) (λ u. rw u (none-small ρ)))
 
   abbrev w : Window
   w = windowOf ρ φ s
@@ -248,7 +248,7 @@ module _ (ρ φ n : ℕ) (s : Slots) (fits : n ≤ ρ) (slot-long : length (s .s
     result = table-length _ (φ * ρ * ρ);
     ever = table-length _ (φ * ρ);
     mark = table-length _ ρ;
-    class-bytes = bytes-table _ ρ (λ k kb. byTest (heldOf (s .slot) (s .regs) k) (λ u. rw u (grouped .bytes (g k))) (λ u. rw u (none-small ρ)));
+    class-bytes = bytes-table _ ρ (λ k kb. byTest (hasSlot (s .slot) (s .regs) k) (λ u. rw u (grouped .bytes (g k))) (λ u. rw u (none-small ρ)));
     unequal-bytes = masks-bytes (s .unequal) ρ;
     result-bytes = bytes-table _ (φ * ρ * ρ) (λ k kb. pulled-small ρ (s .regs) (entryOf ρ (s .slot) (s .regs) (s .result) k) ρ (grouped .bytes));
     ever-bytes = masks-bytes (s .ever) (φ * ρ);
@@ -267,7 +267,7 @@ module _ (ρ φ n : ℕ) (s : Slots) (fits : n ≤ ρ) (slot-long : length (s .s
   up : (r : ℕ) → r < n → r < ρ
   up r b = omega (arith, fits)
 
-  pulled : Pulled n (at (s .slot)) (view ρ φ w) (slotView ρ φ (s .unequal) (s .result) (s .ever))
+  pulled : Pulled n (slotOf (s .slot)) (view ρ φ w) (slotView ρ φ (s .unequal) (s .result) (s .ever))
   pulled = record {
     same = λ r q rn qn. Iff·trans (class-has r q (up r rn)) ((λ (_, _, e). e), (λ e. (rn, qn, e)));
     apart = λ r q rn qn. Iff·trans (unequal-has r q (up r rn) (up q qn)) ((λ (_, _, t). t), (λ t. (rn, qn, t)));
@@ -275,7 +275,7 @@ module _ (ρ φ n : ℕ) (s : Slots) (fits : n ≤ ρ) (slot-long : length (s .s
     ever = λ f a b an bn. byTest (ltb f φ) (λ u. rw u (Iff·trans (masks-has φ (s .ever) f a b (ltb→lt f φ (truth (ltb f φ) u)) (up a an) (up b bn)) ((λ (_, _, t). t), (λ t. (an, bn, t))))) (λ u. rw u ((λ t. t), (λ t. t)));
   }
 
-  pub regular-represents : Represents ρ φ n s (windowOf ρ φ s)
+  pub regular-represents : RepresentsWindow ρ φ n s (windowOf ρ φ s)
   regular-represents = record {
     mirrors = record {
       shaped = shaped;
@@ -291,10 +291,10 @@ module _ (ρ φ n : ℕ) (s : Slots) (fits : n ≤ ρ) (slot-long : length (s .s
   }
 
 -- what the whole test says
-pub represents-is : (ρ φ n : ℕ) (v : Window) (s : Slots) → length (s .slot) ≡ ρ → length (s .regs) ≡ ρ → Tabled ρ φ (s .unequal) (s .result) (s .ever) → length (s .mark) ≡ ρ
-    → representsOf ρ φ v s n ≡ true → v ≡ windowOf ρ φ s → Represents ρ φ n s v
+pub represents-is : (ρ φ n : ℕ) (v : Window) (s : Slots) → length (s .slot) ≡ ρ → length (s .regs) ≡ ρ → SlotTableLengths ρ φ (s .unequal) (s .result) (s .ever) → length (s .mark) ≡ ρ
+    → representsOf ρ φ v s n ≡ true → v ≡ windowOf ρ φ s → RepresentsWindow ρ φ n s v
 unfolding representsOf
-represents-is ρ φ n v s a b c d ok e = subst (Represents ρ φ n s) (sym e) (byTest (ltb ρ n)
+represents-is ρ φ n v s a b c d ok e = subst (RepresentsWindow ρ φ n s) (sym e) (byTest (ltb ρ n)
     (λ t. absurd (truth false (rw t at ok)))
     (λ t. byTest (regularOf ρ φ s n)
     (λ u. regular-represents ρ φ n s (ltb-false ρ n t) a b c d (truth (regularOf ρ φ s n) u))

@@ -14,7 +14,7 @@ use Rattle.base.specs.LeastAndSize.{leastIn}
 use Rattle.base.proofs.Theory.MaskLaws.{least-in, least-below, bits-same}
 use Rattle.window.proofs.Theory.Bits.{truth, none-in, none-zero, none-small, eq-or, less-or}
 use Rattle.window.proofs.Theory.Uniqueness.{bit-same}
-use Rattle.slots.specs.Slots.{at}
+use Rattle.slots.specs.Slots.{slotOf}
 use Rattle.slots.specs.Performing.{freeFrom}
 use Rattle.slots.specs.Represents.{Used, Grouped}
 
@@ -75,11 +75,11 @@ some-in ρ m b n = ⊎-elim (λ l. (leastIn ρ m, l, truth (has m (leastIn ρ m)
 
 module _ (ρ n : ℕ) (slot regs : List ℕ) (k : Grouped ρ n slot regs) where
   -- a slot with no registers is free
-  pub unused : (s : ℕ) → s < ρ → getD regs s 0 ≡ 0 → ¬ Used n (at slot) s
+  pub unused : (s : ℕ) → s < ρ → getD regs s 0 ≡ 0 → ¬ Used n (slotOf slot) s
   unused s sb e (r, rb, h) = none-in r (subst (λ z. T (has z r)) e (k .members s r sb .1 (rb, h)))
 
-  pub free-slot : (x y : ℕ) → x < n → y < n → y ≢ x → at slot y ≡ at slot x → n ≤ ρ → (freeFrom regs 0 ρ < ρ) × (¬ Used n (at slot) (freeFrom regs 0 ρ))
+  pub free-slot : (x y : ℕ) → x < n → y < n → y ≢ x → slotOf slot y ≡ slotOf slot x → n ≤ ρ → (freeFrom regs 0 ρ < ρ) × (¬ Used n (slotOf slot) (freeFrom regs 0 ρ))
   free-slot x y xb yb d e fits = ⊎-elim
       (λ (a, h). let b : freeFrom regs 0 ρ < ρ = omega arith in (b, unused (freeFrom regs 0 ρ) b h))
-      (λ h. absurd (room n ρ (at slot) x y xb yb d e fits (λ s sb. let (r, _, t) = some-in ρ (getD regs s 0) (k .bytes s) (h s (omega arith) (omega arith)) in let (rb, i) = k .members s r sb .0 t in (r, rb, i))))
+      (λ h. absurd (room n ρ (slotOf slot) x y xb yb d e fits (λ s sb. let (r, _, t) = some-in ρ (getD regs s 0) (k .bytes s) (h s (omega arith) (omega arith)) in let (rb, i) = k .members s r sb .0 t in (r, rb, i))))
       (free-is regs ρ 0)

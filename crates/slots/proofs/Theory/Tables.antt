@@ -15,7 +15,7 @@ use Rattle.base.specs.Masks.{has}
 use Rattle.semantics.proofs.Theory.Booleans.{or-e, or-l, or-r}
 use Rattle.window.specs.Places.{place, function-place, first-place, second-place, line-entry, along-entry}
 use Rattle.window.proofs.Theory.Places.{place-below, entry-below}
-use Rattle.window.specs.Bits.{movedOf}
+use Rattle.window.specs.Bits.{maskMoved}
 use Rattle.window.proofs.Theory.Bits.{none-in, or-is, single-is, same-iff, eq-or, truth, no-truth}
 use Rattle.window.specs.Lines.{columns, rows, cleared, clearedAt}
 use Rattle.window.proofs.Theory.Lines.{cleared-at, cleared-length}
@@ -60,7 +60,7 @@ module _ (ρ φ : ℕ) where
       (λ p. let z : getD (cleared (rows ρ) x C) k 0 ≡ 0 = e1 ∙ rw (eq-eqb (k / ρ % ρ) x (f1 ∙ p)) in ((λ t. absurd (none-in c (subst (λ m. T (has m c)) z t))), (λ (n, _, _, _). absurd (n p))))
       (λ p. ⊎-elim
       (λ q. let z : getD (cleared (rows ρ) x C) k 0 ≡ 0 = e1 ∙ rw (ne-eqb (k / ρ % ρ) x (λ u. p (sym f1 ∙ u))) (e2 ∙ rw (eq-eqb (k % ρ) x (f2 ∙ q))) in ((λ t. absurd (none-in c (subst (λ m. T (has m c)) z t))), (λ (_, n, _, _). absurd (n q))))
-      (λ q. let z : getD (cleared (rows ρ) x C) k 0 ≡ movedOf (getD l k 0) 0 (2 ^ x) =
+      (λ q. let z : getD (cleared (rows ρ) x C) k 0 ≡ maskMoved (getD l k 0) 0 (2 ^ x) =
       e1 ∙ rw (ne-eqb (k / ρ % ρ) x (λ u. p (sym f1 ∙ u))) (e2 ∙ rw (ne-eqb (k % ρ) x (λ u. q (sym f2 ∙ u))) (moved-at 0 (2 ^ x) l k lk)) in
       Iff·trans (same-iff (ap (λ m. has m c) z)) (Iff·trans (gone-is (getD l k 0) x c) ((λ (t, n). (p, q, n, t)), (λ (_, _, n, t). (t, n)))))
       (eq-or b x))

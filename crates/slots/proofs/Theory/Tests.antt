@@ -22,10 +22,10 @@ use Rattle.window.specs.Performing as windows
 use Rattle.window.specs.Viewing.{view, Inside, Shaped}
 use Rattle.window.proofs.Theory.Judging.{clash-is, steady}
 use Rattle.window.specs.declared.Window.{Window}
-use Rattle.slots.specs.Slots.{Slots, at}
-use Rattle.slots.specs.Performing.{withUnequal, clashSlots, apartSlots, earlySlots, memoizingSlots, mergedSlots, closedSlots, settledSlots, equalSlots, unequalSlots}
+use Rattle.slots.specs.Slots.{Slots, slotOf}
+use Rattle.slots.specs.Performing.{slotsWithUnequal, clashSlots, apartSlots, earlySlots, memoizingSlots, mergedSlots, closedSlots, settledSlots, equalSlots, unequalSlots}
 use Rattle.slots.proofs.Theory.Laying.{apart-length}
-use Rattle.slots.specs.Represents.{slotView, Mirrors, Represents}
+use Rattle.slots.specs.Represents.{slotView, Mirrors, RepresentsWindow}
 use Rattle.slots.proofs.Theory.Pulling.{laws-pulled, move2}
 use Rattle.slots.proofs.Theory.Tables.{added}
 use Rattle.slots.proofs.Theory.Marking.{up, low}
@@ -44,11 +44,11 @@ zero-at (suc n) (suc k) = zero-at n k
 zero-in : (n k c : ℕ) → ¬ T (has (getD (replicate n 0) k 0) c)
 zero-in n k c t = none-in c (subst (λ z. T (has z c)) (zero-at n k) t)
 
-module _ (ρ φ n : ℕ) (s : Slots) (w : Window) (h : Represents ρ φ n s w) where
+module _ (ρ φ n : ℕ) (s : Slots) (w : Window) (h : RepresentsWindow ρ φ n s w) where
   abbrev m : Mirrors ρ φ n s w
   m = h .mirrors
 
-  cleared : Represents ρ φ n (withUnequal s (replicate ρ 0) true) (windows.withUnequal w (replicate ρ 0) true)
+  cleared : RepresentsWindow ρ φ n (slotsWithUnequal s (replicate ρ 0) true) (windows.withUnequal w (replicate ρ 0) true)
   cleared = record {
     mirrors = record {
       shaped = record {
@@ -80,7 +80,7 @@ module _ (ρ φ n : ℕ) (s : Slots) (w : Window) (h : Represents ρ φ n s w) w
       clean = record { apart = λ p q pb qb t. absurd (zero-in ρ p q t); result = m .clean .result; ever = m .clean .ever };
       pulled = record {
         same = m .pulled .same;
-        apart = λ r q rb qb. ((λ t. absurd (zero-in ρ r q t)), (λ t. absurd (zero-in ρ (at (s .slot) r) (at (s .slot) q) t)));
+        apart = λ r q rb qb. ((λ t. absurd (zero-in ρ r q t)), (λ t. absurd (zero-in ρ (slotOf (s .slot) r) (slotOf (s .slot) q) t)));
         result = m .pulled .result;
         ever = m .pulled .ever;
       };
@@ -90,7 +90,7 @@ module _ (ρ φ n : ℕ) (s : Slots) (w : Window) (h : Represents ρ φ n s w) w
     single = record { one = h .single .one };
   }
 
-  pub settled-represents : (bad bad′ : Bool) → bad′ ≡ bad → Represents ρ φ n (settledSlots ρ φ s bad) (windows.settledOf ρ φ w bad′)
+  pub settled-represents : (bad bad′ : Bool) → bad′ ≡ bad → RepresentsWindow ρ φ n (settledSlots ρ φ s bad) (windows.settledOf ρ φ w bad′)
   unfolding settledSlots windows.settledOf
   settled-represents bad bad′ e = let i = ap₂ _||_ (m .infeasible) e in byTest (s .infeasible || bad) (λ t. rw (i, t) cleared) (λ t. rw (i, t) h)
 
@@ -111,34 +111,34 @@ clash-same : (ρ φ n : ℕ) (s : Slots) (w : Window) → Mirrors ρ φ n s w �
 clash-same ρ φ n s w m = same-test (windows.clashOf ρ φ (w .class) (w .unequal) ρ) (clashSlots (s .unequal) ρ) (
   (λ t. let (r, q, rb, qb, i, j) = clash-is ρ φ (w .class) (w .unequal) ρ .0 t in
       let (rn, qn) = m .inside .same r q rb qb i in
-      clash-slots (s .unequal) ρ .1 (at (s .slot) r, low ρ φ n s w m r rn, subst (λ z. T (has (getD (s .unequal) (at (s .slot) r) 0) z)) (sym (m .pulled .same r q rn qn .0 i)) (m .pulled .apart r q rn qn .0 j))),
+      clash-slots (s .unequal) ρ .1 (slotOf (s .slot) r, low ρ φ n s w m r rn, subst (λ z. T (has (getD (s .unequal) (slotOf (s .slot) r) 0) z)) (sym (m .pulled .same r q rn qn .0 i)) (m .pulled .apart r q rn qn .0 j))),
   (λ t. let (u, ub, p) = clash-slots (s .unequal) ρ .0 t in
       let ((r, rn, e), _) = m .clean .apart u u ub ub p in
       let rb = up ρ φ n s w m r rn in
       clash-is ρ φ (w .class) (w .unequal) ρ .1 (r, r, rb, rb, m .pulled .same r r rn rn .1 refl, m .pulled .apart r r rn rn .1 (move2 (λ a b. T (has (getD (s .unequal) a 0) b)) (sym e) (sym e) p))),
 )
 
-pub equal-represents : (ρ φ n : ℕ) (s : Slots) (w : Window) → Represents ρ φ n s w → (x y : ℕ) → x < n → y < n → Represents ρ φ n (equalSlots ρ φ s x y) (windows.equalOf ρ φ w x y)
+pub equal-represents : (ρ φ n : ℕ) (s : Slots) (w : Window) → RepresentsWindow ρ φ n s w → (x y : ℕ) → x < n → y < n → RepresentsWindow ρ φ n (equalSlots ρ φ s x y) (windows.equalOf ρ φ w x y)
 unfolding equalSlots windows.equalOf
-equal-represents ρ φ n s w h x y xb yb = byTest (eqb (at (s .slot) x) (at (s .slot) y))
-    (λ t. let e = is-true (has (getD (w .class) x 0) y) (h .mirrors .pulled .same x y xb yb .1 (eqb-true (at (s .slot) x) (at (s .slot) y) t)) in rw (t, e) h)
-    (λ t. let d = eqb-false (at (s .slot) x) (at (s .slot) y) t in
+equal-represents ρ φ n s w h x y xb yb = byTest (eqb (slotOf (s .slot) x) (slotOf (s .slot) y))
+    (λ t. let e = is-true (has (getD (w .class) x 0) y) (h .mirrors .pulled .same x y xb yb .1 (eqb-true (slotOf (s .slot) x) (slotOf (s .slot) y) t)) in rw (t, e) h)
+    (λ t. let d = eqb-false (slotOf (s .slot) x) (slotOf (s .slot) y) t in
     let e = is-false (has (getD (w .class) x 0) y) (λ k. d (h .mirrors .pulled .same x y xb yb .0 k)) in
-    let k = closed-mirrors ρ φ n (ρ * ρ + 1) (mergedSlots ρ φ s (at (s .slot) x) (at (s .slot) y)) (windows.mergedOf ρ φ w x y) (merged-mirrors ρ φ n s w (h .mirrors) x y xb yb d) in
-    let laws = laws-pulled n (at (s .slot)) (view ρ φ w) (slotView ρ φ (s .unequal) (s .result) (s .ever)) (h .mirrors .pulled) in
+    let k = closed-mirrors ρ φ n (ρ * ρ + 1) (mergedSlots ρ φ s (slotOf (s .slot) x) (slotOf (s .slot) y)) (windows.mergedOf ρ φ w x y) (merged-mirrors ρ φ n s w (h .mirrors) x y xb yb d) in
+    let laws = laws-pulled n (slotOf (s .slot)) (view ρ φ w) (slotView ρ φ (s .unequal) (s .result) (s .ever)) (h .mirrors .pulled) in
     let st = steady ρ φ w (h .mirrors .shaped) n laws (h .mirrors .inside) x y xb yb in
-    let s₁ = closedSlots ρ φ (ρ * ρ + 1) (mergedSlots ρ φ s (at (s .slot) x) (at (s .slot) y)) in
+    let s₁ = closedSlots ρ φ (ρ * ρ + 1) (mergedSlots ρ φ s (slotOf (s .slot) x) (slotOf (s .slot) y)) in
     let w₁ = windows.closedOf ρ φ (ρ * ρ + 1) (windows.mergedOf ρ φ w x y) in
     rw (t, e) (settled-represents ρ φ n s₁ w₁ (record { mirrors = k; single = single-stable ρ φ n s₁ w₁ k st }) (clashSlots (s₁ .unequal) ρ) (windows.clashOf ρ φ (w₁ .class) (w₁ .unequal) ρ) (clash-same ρ φ n s₁ w₁ k)))
 
 -- ---- an unequal test
 
-module _ (ρ φ n : ℕ) (s : Slots) (w : Window) (h : Represents ρ φ n s w) (x y : ℕ) (xb : x < n) (yb : y < n) where
+module _ (ρ φ n : ℕ) (s : Slots) (w : Window) (h : RepresentsWindow ρ φ n s w) (x y : ℕ) (xb : x < n) (yb : y < n) where
   abbrev a : ℕ
-  a = at (s .slot) x
+  a = slotOf (s .slot) x
 
   abbrev b : ℕ
-  b = at (s .slot) y
+  b = slotOf (s .slot) y
 
   abbrev C : ℕ
   C = getD (w .class) x 0
@@ -166,7 +166,7 @@ module _ (ρ φ n : ℕ) (s : Slots) (w : Window) (h : Represents ρ φ n s w) (
       )
 
   abbrev s′ : Slots
-  s′ = withUnequal s (apartSlots (s .unequal) a b) (s .infeasible)
+  s′ = slotsWithUnequal s (apartSlots (s .unequal) a b) (s .infeasible)
 
   abbrev w′ : Window
   w′ = windows.withUnequal w (windows.partedOf ρ φ (w .unequal) C D) (w .infeasible)
@@ -203,7 +203,7 @@ module _ (ρ φ n : ℕ) (s : Slots) (w : Window) (h : Represents ρ φ n s w) (
     marked = i .marked;
   }
 
-  separated : Represents ρ φ n s′ w′
+  separated : RepresentsWindow ρ φ n s′ w′
   separated = let m = h .mirrors in record {
     mirrors = record {
       shaped = shaped;
@@ -227,7 +227,7 @@ module _ (ρ φ n : ℕ) (s : Slots) (w : Window) (h : Represents ρ φ n s w) (
               (λ (i, j). inl (sym (m .pulled .same x r xb rn .0 i), sym (m .pulled .same y q yb qn .0 j))) (λ (i, j). inr (sym (m .pulled .same y r yb rn .0 i), sym (m .pulled .same x q xb qn .0 j))) k)) t),
           (λ t. ⊎-elim (λ k. inl (m .pulled .apart r q rn qn .1 k)) (λ k. inr (⊎-elim
               (λ (i, j). inl (m .pulled .same x r xb rn .1 (sym i), m .pulled .same y q yb qn .1 (sym j))) (λ (i, j). inr (m .pulled .same y r yb rn .1 (sym i), m .pulled .same x q xb qn .1 (sym j))) k)) t),
-        ) ((λ t. apart-is (at (s .slot) r) (at (s .slot) q) .1 t), (λ t. apart-is (at (s .slot) r) (at (s .slot) q) .0 t)));
+        ) ((λ t. apart-is (slotOf (s .slot) r) (slotOf (s .slot) q) .1 t), (λ t. apart-is (slotOf (s .slot) r) (slotOf (s .slot) q) .0 t)));
         result = m .pulled .result;
         ever = m .pulled .ever;
       };
@@ -237,7 +237,7 @@ module _ (ρ φ n : ℕ) (s : Slots) (w : Window) (h : Represents ρ φ n s w) (
     single = record { one = h .single .one };
   }
 
-  pub unequal-represents : Represents ρ φ n (unequalSlots ρ φ s x y) (windows.unequalOf ρ φ w x y)
+  pub unequal-represents : RepresentsWindow ρ φ n (unequalSlots ρ φ s x y) (windows.unequalOf ρ φ w x y)
   unfolding unequalSlots windows.unequalOf
   unequal-represents = settled-represents ρ φ n s′ w′ separated (eqb a b) (has (getD (w .class) x 0) y) (same-test (has (getD (w .class) x 0) y) (eqb a b) (
     (λ t. truth (eqb a b) (eq-eqb a b (h .mirrors .pulled .same x y xb yb .0 t))),
@@ -246,29 +246,29 @@ module _ (ρ φ n : ℕ) (s : Slots) (w : Window) (h : Represents ρ φ n s w) (
 
 -- ---- whether a letter is coherent
 
-module _ (ρ φ n : ℕ) (s : Slots) (w : Window) (h : Represents ρ φ n s w) where
+module _ (ρ φ n : ℕ) (s : Slots) (w : Window) (h : RepresentsWindow ρ φ n s w) where
   pub memoizing-same : (f y z : ℕ) → f < φ → y < n → z < n → memoizingSlots ρ (s .slot) (s .result) (s .ever) f y z ≡ windows.memoizingOf ρ φ w f y z
   unfolding memoizingSlots windows.memoizingOf
   memoizing-same f y z fb yb zb =
-      let E = getD (s .result) (place ρ f (at (s .slot) y) (at (s .slot) z)) 0 in
+      let E = getD (s .result) (place ρ f (slotOf (s .slot) y) (slotOf (s .slot) z)) 0 in
       let R = getD (w .result) (place ρ f y z) 0 in
       byTest (has (getD (w .ever) (ρ * f + y) 0) z)
       (λ t. rw (ever-same ∙ t, t) (same-test (nonempty ρ E) (nonempty ρ R) (
         (λ k. let (c, cb, u) = nonempty-is ρ E .0 k in
-            let (_, _, (r, rn, e)) = h .mirrors .clean .result f (at (s .slot) y) (at (s .slot) z) c (low ρ φ n s w (h .mirrors) y yb) (low ρ φ n s w (h .mirrors) z zb) cb (and-i (ltb f φ) (has E c) (lt→ltb f φ fb) u) in
+            let (_, _, (r, rn, e)) = h .mirrors .clean .result f (slotOf (s .slot) y) (slotOf (s .slot) z) c (low ρ φ n s w (h .mirrors) y yb) (low ρ φ n s w (h .mirrors) z zb) cb (and-i (ltb f φ) (has E c) (lt→ltb f φ fb) u) in
             let ru = up ρ φ n s w (h .mirrors) r rn in
             nonempty-is ρ R .1 (r, ru, entry-is ρ φ n s w h 0 f y z (less yb) fb yb zb r ru .1 (rn, subst (λ j. T (has E j)) (sym e) u))),
         (λ k. let (c, cb, u) = nonempty-is ρ R .0 k in
             let (cn, v) = entry-is ρ φ n s w h 0 f y z (less yb) fb yb zb c cb .0 u in
-            nonempty-is ρ E .1 (at (s .slot) c, low ρ φ n s w (h .mirrors) c cn, v)),
+            nonempty-is ρ E .1 (slotOf (s .slot) c, low ρ φ n s w (h .mirrors) c cn, v)),
       )))
       (λ t. rw (ever-same ∙ t, t))
     where
       less : {y : ℕ} → y < n → 0 < n
       less b = omega arith
 
-      ever-same : has (getD (s .ever) (ρ * f + at (s .slot) y) 0) (at (s .slot) z) ≡ has (getD (w .ever) (ρ * f + y) 0) z
-      ever-same = let A = has (getD (s .ever) (ρ * f + at (s .slot) y) 0) (at (s .slot) z) in let B = has (getD (w .ever) (ρ * f + y) 0) z in same-test A B (
+      ever-same : has (getD (s .ever) (ρ * f + slotOf (s .slot) y) 0) (slotOf (s .slot) z) ≡ has (getD (w .ever) (ρ * f + y) 0) z
+      ever-same = let A = has (getD (s .ever) (ρ * f + slotOf (s .slot) y) 0) (slotOf (s .slot) z) in let B = has (getD (w .ever) (ρ * f + y) 0) z in same-test A B (
         (λ t. and-r (ltb f φ) B (h .mirrors .pulled .ever f y z yb zb .1 (and-i (ltb f φ) A (lt→ltb f φ fb) t))),
         (λ t. and-r (ltb f φ) A (h .mirrors .pulled .ever f y z yb zb .0 (and-i (ltb f φ) B (lt→ltb f φ fb) t))),
       )

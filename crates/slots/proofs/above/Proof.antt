@@ -1,6 +1,6 @@
 use Prim.Native.Nat.{_-_}
 use borrow.Author.Needs.{needs}
-use Rattle.base.proofs.Theory.Written.{Written, written-none, written-more}
+use Rattle.base.proofs.Theory.Written.{WrittenUpTo, written-none, written-more}
 use Rattle.window.specs.Layout.{registers}
 use Rattle.window.proofs.Theory.Table.{written-all}
 use Rattle.window.specs.Marks.{unionOf}
@@ -9,7 +9,7 @@ use Rattle.slots.proofs.above.Statement.{statement}
 use Rattle.slots.proofs.above.Tie as tie
 
 abbrev Inv-loop : tie.InvT-loop
-Inv-loop around next₀ h₀ next h = Written (λ k. unionOf around k registers registers) 0 registers h next
+Inv-loop around next₀ h₀ next h = WrittenUpTo (λ k. unionOf around k registers registers) 0 registers h next
 
 abbrev μ-loop : tie.MeasureT-loop
 μ-loop around next₀ h₀ next h = registers - h

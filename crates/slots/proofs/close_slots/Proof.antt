@@ -5,8 +5,8 @@ use Prim.Native.Nat.{_+_}
 use native.Mathlib.Omega.{arith}
 use lib.ListN.{length}
 use borrow.Author.Needs.{needs}
-use Rattle.window.specs.Layout.{registers, functions, pairs}
-use Rattle.slots.specs.Slots.{slotsOf, Low, Tabled}
+use Rattle.window.specs.Layout.{registers, functions, registerPairs}
+use Rattle.slots.specs.Slots.{slotsOf, Low, SlotTableLengths}
 use Rattle.slots.specs.Performing.{closedSlots}
 use Rattle.slots.specs.Around.{Around}
 use Rattle.slots.proofs.Theory.Loops.{closed-still, closed-none, closed-one, closed-more, closed-end}
@@ -15,8 +15,8 @@ use Rattle.slots.proofs.close_slots.Tie as tie
 
 abbrev Inv-loop : tie.InvT-loop
 Inv-loop slot₀ regs₀ unequal₀ result₀ ever₀ around₀ fuel₀ slot regs unequal result ever around fuel =
-    Low registers slot × (length regs ≡ registers) × Tabled registers functions unequal result ever × ((m : List Bool) (i : Bool)
-    → closedSlots registers functions fuel (slotsOf slot regs unequal result ever m i) ≡ closedSlots registers functions (pairs + 1)
+    Low registers slot × (length regs ≡ registers) × SlotTableLengths registers functions unequal result ever × ((m : List Bool) (i : Bool)
+    → closedSlots registers functions fuel (slotsOf slot regs unequal result ever m i) ≡ closedSlots registers functions (registerPairs + 1)
     (slotsOf slot₀ regs₀ unequal₀ result₀ ever₀ m i)) × Around registers functions result around
 
 abbrev μ-loop : tie.MeasureT-loop

@@ -1,7 +1,7 @@
 use mathlib.Core.Path.{refl, subst}
 use borrow.Author.Needs.{needs}
 use Rattle.window.specs.Layout.{registers, functions}
-use Rattle.window.specs.Perform.{Within}
+use Rattle.window.specs.Perform.{WithinPacking}
 use Rattle.slots.specs.Slots.{slotsOf}
 use Rattle.slots.proofs.Theory.Loops.{judged}
 use Rattle.slots.proofs.judge_slots.Statement.{statement}
@@ -14,12 +14,12 @@ judge-slots-spec = tie.close (tie.spec
     (λ c. search needs)
     (λ c. search needs)
     (λ c. search needs)
-    (λ c κs. let p = subst Within (c .before .letter .given .1) (c .before .before .before .pre .0) in
+    (λ c κs. let p = subst WithinPacking (c .before .letter .given .1) (c .before .before .before .pre .0) in
     (p .1, p .2, p .3, c .before .before .before .pre .1))
     (λ c. search needs)
     (λ c. search needs)
     (λ c. search needs)
-    (λ c κs. subst Within (c .before .letter2 .given .1) (c .before .before .before .pre .0))
+    (λ c κs. subst WithinPacking (c .before .letter2 .given .1) (c .before .before .before .pre .0))
     (λ c. search needs)
     (λ c. λ g u i. judged registers functions _ (slotsOf _ g u _ _ _ i) _ _ (c .enum-told .given .1) refl)
     (λ c. λ g u i. judged registers functions _ (slotsOf _ g u _ _ _ i) _ _ (c .before .before .letter .given .1) (c .memoizing .ensures))

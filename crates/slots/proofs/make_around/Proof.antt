@@ -2,8 +2,8 @@ use mathlib.Core.Path.{sym, ap₂, subst}
 use Prim.Native.Nat.{_+_, _*_, _/_, _%_, _-_}
 use lib.Bits.{bitOr}
 use borrow.Author.Needs.{needs}
-use Rattle.base.proofs.Theory.Written.{Written, written-none, written-more}
-use Rattle.window.specs.Layout.{registers, functions, pairs}
+use Rattle.base.proofs.Theory.Written.{WrittenUpTo, written-none, written-more}
+use Rattle.window.specs.Layout.{registers, functions, registerPairs}
 use Rattle.window.proofs.Theory.Table.{written-all}
 use Rattle.window.specs.Marks.{unionOf}
 use Rattle.slots.specs.Around.{Around, aroundOf}
@@ -13,10 +13,10 @@ use Rattle.slots.proofs.make_around.Tie as tie
 
 abbrev Inv-loop : tie.InvT-loop
 Inv-loop result next₀ i₀ next i =
-    Written (λ k. bitOr (unionOf result k pairs functions) (unionOf result (registers * (k % registers) + k / registers) pairs functions)) 0 pairs i next
+    WrittenUpTo (λ k. bitOr (unionOf result k registerPairs functions) (unionOf result (registers * (k % registers) + k / registers) registerPairs functions)) 0 registerPairs i next
 
 abbrev μ-loop : tie.MeasureT-loop
-μ-loop result next₀ i₀ next i = pairs - i
+μ-loop result next₀ i₀ next i = registerPairs - i
 
 pub make-around-spec : {M : Type 1} → statement M
 unfolding aroundOf

@@ -1,7 +1,7 @@
 use mathlib.Core.Path.{subst}
 use borrow.Author.Needs.{needs}
 use Rattle.window.specs.Layout.{registers, functions}
-use Rattle.window.specs.Perform.{Within}
+use Rattle.window.specs.Perform.{WithinPacking}
 use Rattle.slots.specs.Slots.{slotsOf}
 use Rattle.slots.proofs.Theory.Loops.{performed}
 use Rattle.slots.proofs.perform_slots.Statement.{statement}
@@ -12,24 +12,24 @@ perform-slots-spec = tie.close (tie.spec
     (λ c. search needs)
     (λ c. search needs)
     (λ c. search needs)
-    (λ c κs. let p = subst Within (c .before .before .before .before .before .before .before .before .letter .given .1) (c .before .before .before .before .before .before .before .before .before .before .pre .0) in (p .0, p .1, c .before .before .before .before .before .before .before .before .before .before .pre .1, c .before .before .before .before .before .before .before .before .before .before .pre .2))
+    (λ c κs. let p = subst WithinPacking (c .before .before .before .before .before .before .before .before .letter .given .1) (c .before .before .before .before .before .before .before .before .before .before .pre .0) in (p .0, p .1, c .before .before .before .before .before .before .before .before .before .before .pre .1, c .before .before .before .before .before .before .before .before .before .before .pre .2))
     (λ c. search needs)
     (λ c. search needs)
     (λ c. search needs)
     (λ c. search needs)
     (λ c. search needs)
-    (λ c κs. let p = subst Within (c .before .before .before .before .before .before .before .before .letter2 .given .1) (c .before .before .before .before .before .before .before .before .before .before .pre .0) in
+    (λ c κs. let p = subst WithinPacking (c .before .before .before .before .before .before .before .before .letter2 .given .1) (c .before .before .before .before .before .before .before .before .before .before .pre .0) in
     (p .0, p .1, p .2, p .3, c .before .before .before .before .before .before .before .before .before .before .pre .1, c .before .before .before .before .before .before .before .before .before .before .pre .2))
     (λ c. search needs)
     (λ c. search needs)
     (λ c. search needs)
-    (λ c κs. let p = subst Within (c .before .before .before .before .before .before .before .letter3 .given .1) (c .before .before .before .before .before .before .before .before .before .pre .0) in
+    (λ c κs. let p = subst WithinPacking (c .before .before .before .before .before .before .before .letter3 .given .1) (c .before .before .before .before .before .before .before .before .before .pre .0) in
     let l = c .before .before .before .before .before .before .before .before .before .pre .1 in
     (p .0, p .1, l .low, l .regs-long, l .tables, c .before .before .before .before .before .before .before .before .before .pre .2))
     (λ c. search needs)
     (λ c. search needs)
     (λ c. search needs)
-    (λ c κs. let p = subst Within (c .before .before .before .letter4 .given .1) (c .before .before .before .before .before .pre .0) in
+    (λ c κs. let p = subst WithinPacking (c .before .before .before .letter4 .given .1) (c .before .before .before .before .before .pre .0) in
     let l = c .before .before .before .before .before .pre .1 in
     (p .0, p .1, l .low, l .tables .unequal-long))
     (λ c. let a = c .before .before .before .before .before .before .before .before .before .before .before .args in

@@ -2,17 +2,17 @@ use Prim.Native.Nat.{_-_}
 use lib.ListN.{getD}
 use borrow.Author.Needs.{needs}
 use Rattle.base.specs.Choice.{pick}
-use Rattle.base.proofs.Theory.Written.{Written, written-none, written-more}
+use Rattle.base.proofs.Theory.Written.{WrittenUpTo, written-none, written-more}
 use Rattle.window.specs.Layout.{registers}
 use Rattle.window.proofs.Theory.Table.{written-all}
-use Rattle.slots.specs.Slots.{at}
-use Rattle.slots.specs.Performing.{heldOf, pulledClasses}
+use Rattle.slots.specs.Slots.{slotOf}
+use Rattle.slots.specs.Performing.{hasSlot, pulledClasses}
 use Rattle.slots.proofs.Theory.Pulls.{class-pulled}
 use Rattle.slots.proofs.pull_classes.Statement.{statement}
 use Rattle.slots.proofs.pull_classes.Tie as tie
 
 abbrev Inv-loop : tie.InvT-loop
-Inv-loop slot regs next₀ r₀ next r = Written (λ k. pick (heldOf slot regs k) (λ _. getD regs (at slot k) 0) λ _. 0) 0 registers r next
+Inv-loop slot regs next₀ r₀ next r = WrittenUpTo (λ k. pick (hasSlot slot regs k) (λ _. getD regs (slotOf slot k) 0) λ _. 0) 0 registers r next
 
 abbrev μ-loop : tie.MeasureT-loop
 μ-loop slot regs next₀ r₀ next r = registers - r

@@ -2,16 +2,16 @@ use mathlib.Core.Bool.{false, _&&_}
 use Prim.Native.Nat.{_-_}
 use lib.ListN.{getD}
 use borrow.Author.Needs.{needs}
-use Rattle.base.proofs.Theory.Written.{Written, written-none, written-more}
+use Rattle.base.proofs.Theory.Written.{WrittenUpTo, written-none, written-more}
 use Rattle.window.specs.Layout.{registers}
 use Rattle.window.proofs.Theory.Table.{written-all}
-use Rattle.slots.specs.Performing.{heldOf, pulledMarks}
+use Rattle.slots.specs.Performing.{hasSlot, pulledMarks}
 use Rattle.slots.proofs.Theory.Pulls.{mark-pulled}
 use Rattle.slots.proofs.pull_marks.Statement.{statement}
 use Rattle.slots.proofs.pull_marks.Tie as tie
 
 abbrev Inv-loop : tie.InvT-loop
-Inv-loop slot regs mark next₀ r₀ next r = Written (λ k. heldOf slot regs k && getD mark k false) false registers r next
+Inv-loop slot regs mark next₀ r₀ next r = WrittenUpTo (λ k. hasSlot slot regs k && getD mark k false) false registers r next
 
 abbrev μ-loop : tie.MeasureT-loop
 μ-loop slot regs mark next₀ r₀ next r = registers - r

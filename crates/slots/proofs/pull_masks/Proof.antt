@@ -3,7 +3,7 @@ use native.Mathlib.Omega.{arith}
 use lib.ListN.{length}
 use mathlib.Core.Path.{sym, _∙_}
 use borrow.Author.Needs.{needs}
-use Rattle.base.proofs.Theory.Written.{Written, written-none, written-more}
+use Rattle.base.proofs.Theory.Written.{WrittenUpTo, written-none, written-more}
 use Rattle.window.specs.Layout.{registers}
 use Rattle.window.proofs.Theory.Table.{written-all}
 use Rattle.slots.specs.Performing.{pulledAt, pulledMasks}
@@ -11,7 +11,7 @@ use Rattle.slots.proofs.pull_masks.Statement.{statement}
 use Rattle.slots.proofs.pull_masks.Tie as tie
 
 abbrev Inv-loop : tie.InvT-loop
-Inv-loop slot regs t next₀ k₀ next k = Written (pulledAt registers slot regs t) 0 (length t) k next
+Inv-loop slot regs t next₀ k₀ next k = WrittenUpTo (pulledAt registers slot regs t) 0 (length t) k next
 
 abbrev μ-loop : tie.MeasureT-loop
 μ-loop slot regs t next₀ k₀ next k = length t - k

@@ -1,6 +1,6 @@
 use Prim.Native.Nat.{_-_}
 use borrow.Author.Needs.{needs}
-use Rattle.base.proofs.Theory.Written.{Written, written-none, written-more}
+use Rattle.base.proofs.Theory.Written.{WrittenUpTo, written-none, written-more}
 use Rattle.window.specs.Layout.{registers, results}
 use Rattle.window.proofs.Theory.Table.{written-all}
 use Rattle.slots.specs.Performing.{pulledOf, entryOf, pulledResults}
@@ -9,7 +9,7 @@ use Rattle.slots.proofs.pull_results.Statement.{statement}
 use Rattle.slots.proofs.pull_results.Tie as tie
 
 abbrev Inv-loop : tie.InvT-loop
-Inv-loop slot regs result next₀ k₀ next k = Written (λ i. pulledOf regs (entryOf registers slot regs result i) registers) 0 results k next
+Inv-loop slot regs result next₀ k₀ next k = WrittenUpTo (λ i. pulledOf regs (entryOf registers slot regs result i) registers) 0 results k next
 
 abbrev μ-loop : tie.MeasureT-loop
 μ-loop slot regs result next₀ k₀ next k = results - k

@@ -8,16 +8,16 @@ use lib.Seq.{take-at, drop-at, drop-drop, getD-drop}
 use Rattle.letters.specs.Packing.{join, split}
 use Rattle.records.specs.Records.{flag, isSet}
 use Rattle.records.proofs.Theory.Storable.{flag-back, flags-back}
-use Rattle.monitoring.specs.declared.Monitor.{Monitor}
-use Rattle.monitoring.specs.declared.Phase.{Phase}
-use Rattle.monitoring.specs.declared.Phase.the-variants.{Empty, One, Even, Odd}
-use Rattle.monitoring.specs.declared.Stream.{Stream}
-use Rattle.monitoring.specs.declared.Verdict.{Verdict}
-use Rattle.monitoring.specs.declared.Verdict.the-variants.{Judged, Refused}
+use Rattle.streaming.specs.declared.Monitor.{Monitor}
+use Rattle.streaming.specs.declared.Phase.{Phase}
+use Rattle.streaming.specs.declared.Phase.the-variants.{Empty, One, Even, Odd}
+use Rattle.streaming.specs.declared.Stream.{Stream}
+use Rattle.streaming.specs.declared.RunAnswer.{RunAnswer}
+use Rattle.streaming.specs.declared.RunAnswer.the-variants.{Judged, Refused}
 use Rattle.states.specs.States.{monitorSize, lettersPlace, firstPlace, secondPlace}
-use Rattle.states.specs.States.{eightOctets, headOf, partsThen, monitorThen, Sizes, WindowSizes, windowIn, monitorIn}
-use Rattle.states.specs.States.{phaseCode, phaseIn, verdictCode, refusalNumber, firstNumber, secondNumber, verdictIn}
-use Rattle.states.specs.States.{tailOf, tailThen, streamThen, numberIn, streamIn}
+use Rattle.states.specs.States.{eightOctets, headOf, partsThen, monitorThen, Sizes, WindowSizes, monitorWindowIn, monitorIn}
+use Rattle.states.specs.States.{phaseCode, phaseIn, runAnswerCode, refusalNumber, firstNumber, secondNumber, runAnswerIn}
+use Rattle.states.specs.States.{tailOf, tailThen, streamThen, numberAt, streamIn}
 
 -- one part further
 next : (s x y : List ℕ) (a n b : ℕ) → drop a s ≡ x ++ y → length x ≡ n → b ≡ a + n → drop b s ≡ y
@@ -47,7 +47,7 @@ module _ (head class unequal marks ever result : List ℕ) (heads : length head 
   front rest other = rw (parts-joined rest, take-at joined rest monitorSize joined-size) (sym (parts-joined other))
 
 pub monitor-back : (kind : ℕ) (m : Monitor) (rest : List ℕ) → WindowSizes (m .window) → monitorIn (monitorThen kind m rest) ≡ m
-unfolding monitorIn windowIn
+unfolding monitorIn monitorWindowIn
 monitor-back kind m rest z =
     let w = m .window in
     let s = monitorThen kind m rest in
@@ -81,8 +81,8 @@ phase-back One = refl
 phase-back Even = refl
 phase-back Odd = refl
 
-verdict-back : (v : Verdict) → verdictIn (verdictCode v) (refusalNumber v) (firstNumber v) (secondNumber v) ≡ v
-unfolding verdictIn
+verdict-back : (v : RunAnswer) → runAnswerIn (runAnswerCode v) (refusalNumber v) (firstNumber v) (secondNumber v) ≡ v
+unfolding runAnswerIn
 verdict-back (Judged incoherent infeasible) = refl
 verdict-back (Refused number place) = refl
 
@@ -106,7 +106,7 @@ stream-back kind s rest z a b c =
     let f : drop lettersPlace all ≡ x ++ (y ++ (o ++ rest)) = next all (tailOf s) (x ++ (y ++ (o ++ rest))) monitorSize 4 lettersPlace d refl refl in
     let g : drop firstPlace all ≡ y ++ (o ++ rest) = next all x (y ++ (o ++ rest)) lettersPlace 8 firstPlace f refl refl in
     let i : drop secondPlace all ≡ o ++ rest = next all y (o ++ rest) firstPlace 8 secondPlace g refl refl in
-    let n₁ : numberIn lettersPlace all ≡ s .run .letters = ap (λ l. join eightOctets (take 8 l)) f ∙ a in
-    let n₂ : numberIn firstPlace all ≡ firstNumber v = ap (λ l. join eightOctets (take 8 l)) g ∙ b in
-    let n₃ : numberIn secondPlace all ≡ secondNumber v = ap (λ l. join eightOctets (take 8 l)) i ∙ c in
+    let n₁ : numberAt lettersPlace all ≡ s .run .letters = ap (λ l. join eightOctets (take 8 l)) f ∙ a in
+    let n₂ : numberAt firstPlace all ≡ firstNumber v = ap (λ l. join eightOctets (take 8 l)) g ∙ b in
+    let n₃ : numberAt secondPlace all ≡ secondNumber v = ap (λ l. join eightOctets (take 8 l)) i ∙ c in
     rw (at 0, at 1, at 2, at 3, monitor-back kind m t z, n₁, n₂, n₃, phase-back (s .phase), verdict-back v)

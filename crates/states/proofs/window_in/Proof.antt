@@ -1,6 +1,6 @@
 use mathlib.Core.Path.{refl}
 use Rattle.states.proofs.Laws.{copied}
-use Rattle.states.specs.States.{windowIn}
+use Rattle.states.specs.States.{monitorWindowIn}
 use Rattle.records.specs.Records.{isSet}
 use borrow.Author.Needs.{needs}
 use Rattle.states.proofs.window_in.Statement.{statement}
@@ -52,7 +52,7 @@ shared-slice-read-infeasible : tie.Need-shared-slice-read-infeasible
 shared-slice-read-infeasible c = search needs
 
 returns : tie.Need-returns
-unfolding windowIn isSet
+unfolding monitorWindowIn isSet
 returns c = let s = c .before .before .before .before .before .before .before .before .before .before .before .before .before .before .args .state .now in rw (c .before .before .before .before .before .before .before .before .before .before .before .before .eight-at .ensures, c .before .before .before .before .before .before .before .before .before .before .before .eight-at2 .ensures, c .before .before .before .before .before .before .before .before .before .marks .ensures, c .before .before .before .before .before .before .before .before .before .before .eight-at3 .ensures, copied (c .before .before .before .before .before .before .lay .last .0) s _ 30 32 _ refl (search needs) (search needs) (c .before .before .before .before .before .before .lay .ensures .0), copied (c .before .before .lay2 .last .0) s _ 62 256 _ refl (search needs) (search needs) (c .before .before .lay2 .ensures .0))
 
 pub window-in-spec : {M : Type 1} → statement M

@@ -11,15 +11,15 @@ use Rattle.semantics.specs.SameWindow.{SameWindow}
 use Rattle.semantics.proofs.Theory.SameWindow.{agree-is, view-unique, tracks-same}
 use Rattle.window.specs.declared.Window.{Window}
 use Rattle.window.proofs.Theory.Bits.{less-or}
-use Rattle.window.proofs.Theory.View.{view, Inside}
-use Rattle.window.specs.Step.{Holds}
+use Rattle.window.proofs.Theory.View.{viewInFirstEdition, InsideInFirstEdition}
+use Rattle.window.specs.Step.{IsWindow}
 use Rattle.window.proofs.Theory.Unique.{unique}
 use Rattle.records.specs.Records.{encoded}
 use Rattle.records.proofs.Theory.Storable.{encoded-injective}
 use Rattle.stored.proofs.Theory.Stored.{storable}
 
 -- a window tells how many registers there are: those that are in a class
-registers-told : (σ τ : State) → Valid σ → (w : Window) → Holds σ w → Holds τ w → σ .header .registers ≤ τ .header .registers
+registers-told : (σ τ : State) → Valid σ → (w : Window) → IsWindow σ w → IsWindow τ w → σ .header .registers ≤ τ .header .registers
 registers-told σ τ u w x y = elim (less-or (τ .header .registers) (σ .header .registers)) [
   | inl l ↦ let n = τ .header .registers in
       let b = x .inside .fits in
@@ -29,14 +29,14 @@ registers-told σ τ u w x y = elim (less-or (τ .header .registers) (σ .header
 ]
 
 -- the window of a state is that of every state with the same window
-same-holds : (σ τ : State) (w : Window) → SameWindow σ τ → Holds σ w → Holds τ w
-same-holds σ τ w z x = record { tracks = tracks-same z (x .tracks); inside = subst (λ n. Inside n (view w)) (z .registers) (x .inside); shaped = x .shaped }
+same-holds : (σ τ : State) (w : Window) → SameWindow σ τ → IsWindow σ w → IsWindow τ w
+same-holds σ τ w z x = record { tracks = tracks-same z (x .tracks); inside = subst (λ n. InsideInFirstEdition n (viewInFirstEdition w)) (z .registers) (x .inside); shaped = x .shaped }
 
-module _ (σ τ : State) (u : Valid σ) (v : Valid τ) (w w′ : Window) (x : Holds σ w) (y : Holds τ w′) where
+module _ (σ τ : State) (u : Valid σ) (v : Valid τ) (w w′ : Window) (x : IsWindow σ w) (y : IsWindow τ w′) where
   -- Windows are equal exactly if the states have the same window.
   pub same-window : (w ≡ w′) ↔ SameWindow σ τ
   same-window = (
-    (λ e. let y′ : Holds τ w = subst (Holds τ) (sym e) y in
+    (λ e. let y′ : IsWindow τ w = subst (IsWindow τ) (sym e) y in
         let n : σ .header .registers ≡ τ .header .registers = omega (arith, registers-told σ τ u w x y′, registers-told τ σ v w y′ x) in
         agree-is (x .tracks) (y′ .tracks) n .0 (view-unique (x .tracks) (x .tracks))),
     (λ z. unique τ w w′ (same-holds σ τ w z x) y),

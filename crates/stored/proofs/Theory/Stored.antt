@@ -18,12 +18,12 @@ use Rattle.semantics.specs.View.{Tracks}
 use Rattle.semantics.specs.Facts.{Valid}
 use Rattle.window.specs.declared.Window.{Window}
 use Rattle.window.proofs.Theory.Bits.{none-small}
-use Rattle.window.specs.Places.{Function, First, Second, place-is, entry-is}
+use Rattle.window.specs.Places.{placeFunction, placeFirst, placeSecond, place-is, entry-is}
 use Rattle.window.proofs.Theory.Places.{function-below, first-below, second-below}
 use Rattle.window.specs.Viewing.{view, Shaped}
 use Rattle.window.specs.Stepping as stepping
-use Rattle.window.specs.Step.{Holds}
-use Rattle.records.specs.Formats.{Format, results}
+use Rattle.window.specs.Step.{IsWindow}
+use Rattle.records.specs.Formats.{Format, resultsOfFormat}
 use Rattle.records.specs.Records.{firstFormat}
 use Rattle.records.proofs.Theory.FormatLaws as laws
 use Rattle.records.proofs.Theory.Storable.{Storable}
@@ -50,7 +50,7 @@ same-bit x y i f g =
     λ t. byTest (has y i) (λ u. eqb→eq (bit x i) 1 (g (true-T u)) ∙ sym (eqb-true (bit y i) 1 u))
     λ u. let a = eqb-false (bit x i) 1 t in let b = eqb-false (bit y i) 1 u in omega arith
 
-module _ (ϕ : Format) (σ : State) (v : Valid σ) (w : Window) (holds : stepping.Holds (ϕ .registers) (ϕ .functions) σ w) where
+module _ (ϕ : Format) (σ : State) (v : Valid σ) (w : Window) (holds : stepping.IsWindowInLayout (ϕ .registers) (ϕ .functions) σ w) where
   abbrev ρ : ℕ
   ρ = ϕ .registers
 
@@ -63,15 +63,15 @@ module _ (ϕ : Format) (σ : State) (v : Valid σ) (w : Window) (holds : steppin
   abbrev y : Shaped (ϕ .registers) (ϕ .functions) w
   y = holds .shaped
 
-  module _ (i : ℕ) (ib : i < results ϕ) where
+  module _ (i : ℕ) (ib : i < resultsOfFormat ϕ) where
     abbrev f : ℕ
-    f = Function (ϕ .registers) i
+    f = placeFunction (ϕ .registers) i
 
     abbrev a : ℕ
-    a = First (ϕ .registers) i
+    a = placeFirst (ϕ .registers) i
 
     abbrev b : ℕ
-    b = Second (ϕ .registers) i
+    b = placeSecond (ϕ .registers) i
 
     abbrev m : ℕ
     m = getD (w .result) i 0
@@ -123,7 +123,7 @@ module _ (ϕ : Format) (σ : State) (v : Valid σ) (w : Window) (holds : steppin
         back k = rw (lt-ltb f φ (function-below ρ φ i ib), k) λ h. h
 
   -- the window of a state can be stored
-  pub storable-in : laws.Storable ϕ w
+  pub storable-in : laws.StorableInFormat ϕ w
   storable-in = record {
     classes = y .class;
     unequals = y .unequal;
@@ -138,5 +138,5 @@ module _ (ϕ : Format) (σ : State) (v : Valid σ) (w : Window) (holds : steppin
   }
 
 -- and so in the first edition's
-pub storable : (σ : State) → Valid σ → (w : Window) → Holds σ w → Storable w
+pub storable : (σ : State) → Valid σ → (w : Window) → IsWindow σ w → Storable w
 storable = storable-in firstFormat

@@ -3,7 +3,7 @@ use Rattle.letters.specs.Editions.{mostRegisters}
 use Prim.Native.Nat.{ℕ}
 use mathlib.Core.List.{List, []}
 use Rattle.grammar.specs.Grammar.{Macro}
-use Rattle.grammar.specs.Reading.{Got, onward, registers}
+use Rattle.grammar.specs.Reading.{Got, andThen, registerNames}
 use Rattle.syntax.specs.Answer.{functionsFrom}
 
 -- ---- the rest of the reading, from each step on
@@ -11,4 +11,4 @@ use Rattle.syntax.specs.Answer.{functionsFrom}
 module _ (s : List ℕ) where
   -- behind `vars`
   unfoldable pub registersFrom : ℕ → Got Macro
-  registersFrom a = onward (registers s mostRegisters [] a) λ rs b. functionsFrom s rs b
+  registersFrom a = andThen (registerNames s mostRegisters [] a) λ rs b. functionsFrom s rs b

@@ -10,22 +10,22 @@ use lib.Seq.{set-append-seam}
 use borrow.Author.Tests.{eq-eqb, ne-eqb, eqb-true, eqb-false, ltb-true, ltb-false}
 use Rattle.base.proofs.Theory.Choice.{byTest}
 use Rattle.letters.specs.Editions.{mostFunctions, mostRegisters}
-use Rattle.letters.specs.RefusalNumbers.{declarationWrong}
+use Rattle.letters.specs.MacroRefusalNumbers.{declarationWrong}
 use Rattle.tokens.specs.Tokens.{tokenAt}
 use Rattle.tokens.specs.declared.Token.{Token}
 use Rattle.tokens.specs.Words.{isName}
 use Rattle.tokens.specs.Words as word
-use Rattle.grammar.specs.Reading.{Got, got, refused, exhausted, onward, unfit, listedT, expect, arityT, arityOf, registers, functions, functionsT}
-use Rattle.phrases.specs.Codes.{plain, nothing}
+use Rattle.grammar.specs.Reading.{Got, got, exhausted, andThen, refusedToken, listedT, expect, arityT, arityOf, registerNames, functionEntries, functionsT}
+use Rattle.phrases.specs.Codes.{plain, withoutValue}
 use Rattle.phrases.proofs.Theory.Answers.{coded-at}
-use Rattle.phrases.specs.declared.Got as number
-use Rattle.syntax.specs.Answer.{padded, heldRegisters, noFunctions, heldFunctions, unfitNumber}
+use Rattle.phrases.specs.declared.GotNumber as number
+use Rattle.syntax.specs.Answer.{padded, heldRegisters, noFunctions, heldFunctions, refusedTokenNumber}
 use Rattle.syntax.specs.declared.Registers.{Registers}
 use Rattle.syntax.specs.declared.Functions.{Functions}
-use Rattle.syntax.specs.Lists.{taken, Kept, refusedBy}
+use Rattle.syntax.specs.Lists.{taken, NamesPadded, refusedBy}
 
 -- the array is long enough
-pub kept-within : (n : ℕ) (names : List ℕ) (count : ℕ) → Kept n names count → count ≤ length names
+pub kept-within : (n : ℕ) (names : List ℕ) (count : ℕ) → NamesPadded n names count → count ≤ length names
 kept-within n names count K =
     let a = K .size in let b = ap length (K .pad) in let c = length-append (take count names) (replicate (n - length (take count names)) 0) in omega arith
 
@@ -40,12 +40,12 @@ take-all [] m = take-none m
 take-all (x ∷ l) m = ap (λ l. x ∷ l) (take-all l m)
 
 -- an array that holds a list
-pub kept-list : (n : ℕ) (l : List ℕ) → length l ≤ n → (take (length l) (padded n l) ≡ l) × Kept n (padded n l) (length l)
+pub kept-list : (n : ℕ) (l : List ℕ) → length l ≤ n → (take (length l) (padded n l) ≡ l) × NamesPadded n (padded n l) (length l)
 kept-list n l h =
     let e = take-all l (replicate (n - length l) 0) in
     (e, record { few = h; pad = ap (padded n) (sym e); size = ap length e })
 
-module _ (n : ℕ) (names : List ℕ) (count k : ℕ) (K : Kept n names count) (h : count < n) where
+module _ (n : ℕ) (names : List ℕ) (count k : ℕ) (K : NamesPadded n names count) (h : count < n) where
   abbrev so : List ℕ
   so = take count names
 
@@ -65,13 +65,13 @@ module _ (n : ℕ) (names : List ℕ) (count k : ℕ) (K : Kept n names count) (
   pub kept-take : take (count + 1) (set names count k) ≡ so ++ k ∷ []
   kept-take = (λ i. take (sym more i) (stored i)) ∙ take-all (so ++ k ∷ []) (replicate (n - length (so ++ k ∷ [])) 0)
 
-  pub kept-more : Kept n (set names count k) (count + 1)
+  pub kept-more : NamesPadded n (set names count k) (count + 1)
   kept-more = record { few = omega arith; pad = stored ∙ ap (padded n) (sym kept-take); size = ap length kept-take ∙ more }
 
-pub kept-eight : Kept mostRegisters (replicate mostRegisters 0) 0
+pub kept-eight : NamesPadded mostRegisters (replicate mostRegisters 0) 0
 kept-eight = record { few = omega arith; pad = refl; size = refl }
 
-pub kept-four : Kept mostFunctions (replicate mostFunctions 0) 0
+pub kept-four : NamesPadded mostFunctions (replicate mostFunctions 0) 0
 kept-four = record { few = omega arith; pad = refl; size = refl }
 
 -- ---- registers
@@ -90,73 +90,73 @@ not-full count n k l b e f h = byTest (eqb count n)
     (λ t. let z : true ≡ false = sym (or-left (eqb count n) (taken k l) t) ∙ sym e ∙ f in let y : _≡_ {A = ℕ} 0 1 = cc in absurd (omega arith))
     λ t. let g = eqb-false count n t in byTest (ltb count n) (λ u. ltb-true count n u) λ u. absurd (g (let v = ltb-false count n u in omega arith))
 
-listed-end : (s : List ℕ) {A : Type 0} (n : ℕ) (a : A) (t : Token) → t .key ≡ word.semicolon → (n ≡ 0 → ⊥) → listedT s n a t ≡ got a (t .end)
-listed-end s n a t h g = rw (eq-eqb (t .key) word.semicolon h, ne-eqb n 0 g)
+listed-end : (s : List ℕ) {A : Type 0} (n : ℕ) (a : A) (t : Token) → t .key ≡ word.semicolonKey → (n ≡ 0 → ⊥) → listedT s n a t ≡ got a (t .end)
+listed-end s n a t h g = rw (eq-eqb (t .key) word.semicolonKey h, ne-eqb n 0 g)
 
-listed-unfit : (s : List ℕ) {A : Type 0} (n : ℕ) (a : A) (t : Token) → eqb (t .key) word.semicolon && not (eqb n 0) ≡ false → listedT s n a t ≡ refused (unfitNumber t) (t .start)
+listed-unfit : (s : List ℕ) {A : Type 0} (n : ℕ) (a : A) (t : Token) → eqb (t .key) word.semicolonKey && not (eqb n 0) ≡ false → listedT s n a t ≡ Got.refused (refusedTokenNumber t) (t .start)
 listed-unfit s n a t h = rw h
 
-pub unlisted-token : (t : Token) (n : ℕ) → (t .key ≡ word.semicolon → ⊥) → eqb (t .key) word.semicolon && not (eqb n 0) ≡ false
-unlisted-token t n h = rw (ne-eqb (t .key) word.semicolon h)
+pub unlisted-token : (t : Token) (n : ℕ) → (t .key ≡ word.semicolonKey → ⊥) → eqb (t .key) word.semicolonKey && not (eqb n 0) ≡ false
+unlisted-token t n h = rw (ne-eqb (t .key) word.semicolonKey h)
 
-pub unlisted-none : (t : Token) (n : ℕ) → t .key ≡ word.semicolon → n ≡ 0 → eqb (t .key) word.semicolon && not (eqb n 0) ≡ false
-unlisted-none t n h g = rw (eq-eqb (t .key) word.semicolon h, eq-eqb n 0 g)
+pub unlisted-none : (t : Token) (n : ℕ) → t .key ≡ word.semicolonKey → n ≡ 0 → eqb (t .key) word.semicolonKey && not (eqb n 0) ≡ false
+unlisted-none t n h g = rw (eq-eqb (t .key) word.semicolonKey h, eq-eqb n 0 g)
 
-pub semicolon-unfit : (t : Token) → t .key ≡ word.semicolon → 9 ≡ unfitNumber t
+pub semicolon-unfit : (t : Token) → t .key ≡ word.semicolonKey → 9 ≡ refusedTokenNumber t
 semicolon-unfit t h = rw (ap (λ k. eqb k 1) h)
 
 -- refusals as the structs hold them
 pub no-registers-held : (n p : ℕ)
-    → record { ok = false; number = n; place = p; at = 0; count = 0; names = replicate mostRegisters 0 } ≡ heldRegisters (refused n p)
+    → record { ok = false; number = n; place = p; at = 0; count = 0; names = replicate mostRegisters 0 } ≡ heldRegisters (Got.refused n p)
 unfolding heldRegisters
 no-registers-held n p = refl
 
-pub no-functions-held : (n p : ℕ) → noFunctions n p ≡ heldFunctions (refused n p)
+pub no-functions-held : (n p : ℕ) → noFunctions n p ≡ heldFunctions (Got.refused n p)
 unfolding heldFunctions
 no-functions-held n p = refl
 
-module _ (s : List ℕ) (names : List ℕ) (count : ℕ) (K : Kept mostRegisters names count) (t : Token) where
-  pub registers-listed : t .key ≡ word.semicolon → (count ≡ 0 → ⊥) → record { ok = true; number = 0; place = 0; at = t .end; count = count; names = names } ≡ heldRegisters (listedT s (length (take count names)) (take count names) t)
+module _ (s : List ℕ) (names : List ℕ) (count : ℕ) (K : NamesPadded mostRegisters names count) (t : Token) where
+  pub registers-listed : t .key ≡ word.semicolonKey → (count ≡ 0 → ⊥) → record { ok = true; number = 0; place = 0; at = t .end; count = count; names = names } ≡ heldRegisters (listedT s (length (take count names)) (take count names) t)
   unfolding heldRegisters
   registers-listed h g = rw (listed-end s (length (take count names)) (take count names) t h λ z. g (sym (K .size) ∙ z)) λ i. record { ok = true; number = 0; place = 0; at = t .end; count = sym (K .size) i; names = K .pad i }
 
-  pub registers-unlisted : (n : ℕ) → n ≡ unfitNumber t → eqb (t .key) word.semicolon && not (eqb count 0) ≡ false → (r : Registers) → r ≡ heldRegisters (refused n (t .start)) → r ≡ heldRegisters (listedT s (length (take count names)) (take count names) t)
-  registers-unlisted n e h r g = g ∙ ap (λ n. heldRegisters (refused n (t .start))) e ∙ ap heldRegisters (sym (listed-unfit s (length (take count names)) (take count names) t (ap (λ m. eqb (t .key) word.semicolon && not (eqb m 0)) (K .size) ∙ h)))
+  pub registers-unlisted : (n : ℕ) → n ≡ refusedTokenNumber t → eqb (t .key) word.semicolonKey && not (eqb count 0) ≡ false → (r : Registers) → r ≡ heldRegisters (Got.refused n (t .start)) → r ≡ heldRegisters (listedT s (length (take count names)) (take count names) t)
+  registers-unlisted n e h r g = g ∙ ap (λ n. heldRegisters (Got.refused n (t .start))) e ∙ ap heldRegisters (sym (listed-unfit s (length (take count names)) (take count names) t (ap (λ m. eqb (t .key) word.semicolonKey && not (eqb m 0)) (K .size) ∙ h)))
 
 -- what is left of the list of registers
 abbrev pub RegistersLeft : List ℕ → ℕ → List ℕ → ℕ → ℕ → Type 0
-RegistersLeft s from names count at = registers s mostRegisters [] from ≡ registers s (mostRegisters - count) (take count names) at
+RegistersLeft s from names count at = registerNames s mostRegisters [] from ≡ registerNames s (mostRegisters - count) (take count names) at
 
-module _ (s : List ℕ) (from : ℕ) (names : List ℕ) (count at : ℕ) (K : Kept mostRegisters names count) (L : RegistersLeft s from names count at) (t : Token)
+module _ (s : List ℕ) (from : ℕ) (names : List ℕ) (count at : ℕ) (K : NamesPadded mostRegisters names count) (L : RegistersLeft s from names count at) (t : Token)
     (e : t ≡ tokenAt s at) where
   pub registers-last : (b : Bool) → b ≡ isName (t .key) → b ≡ false → (r : Registers)
-      → r ≡ heldRegisters (listedT s (length (take count names)) (take count names) t) → r ≡ heldRegisters (registers s mostRegisters [] from)
-  unfolding registers
+      → r ≡ heldRegisters (listedT s (length (take count names)) (take count names) t) → r ≡ heldRegisters (registerNames s mostRegisters [] from)
+  unfolding registerNames
   registers-last b i h r g = g ∙ ap heldRegisters (sym (L ∙ go (mostRegisters - count)))
     where
-      go : (room : ℕ) → registers s room (take count names) at ≡ listedT s (length (take count names)) (take count names) t
+      go : (room : ℕ) → registerNames s room (take count names) at ≡ listedT s (length (take count names)) (take count names) t
       go zero = rw (← e, ← i, h)
       go (suc room) = rw (← e, ← i, h)
 
   module _ (b : Bool) (i : b ≡ isName (t .key)) (j : b ≡ true) (x : Bool) (y : x ≡ (eqb count mostRegisters || taken (t .key) (take count names))) where
-    pub registers-taken : x ≡ true → (r : Registers) → r ≡ heldRegisters (refused declarationWrong (t .start))
-        → r ≡ heldRegisters (registers s mostRegisters [] from)
-    unfolding registers
+    pub registers-taken : x ≡ true → (r : Registers) → r ≡ heldRegisters (Got.refused declarationWrong (t .start))
+        → r ≡ heldRegisters (registerNames s mostRegisters [] from)
+    unfolding registerNames
     registers-taken h r g = g ∙ ap heldRegisters (sym (L ∙ byTest (eqb count mostRegisters)
         (λ u. let z : mostRegisters - count ≡ 0 = (let v = eqb-true count mostRegisters u in omega arith) in
-        ap (λ m. registers s m (take count names) at) z ∙ rw (← e, ← i, j))
+        ap (λ m. registerNames s m (take count names) at) z ∙ rw (← e, ← i, j))
         λ u.
         let v = eqb-false count mostRegisters u in
         let w : taken (t .key) (take count names) ≡ true = sym (ap (λ b. b || taken (t .key) (take count names)) u) ∙ sym y ∙ h in
         let z : mostRegisters - count ≡ suc (mostRegisters - 1 - count) = (let f = K .few in let k = below count v f in omega arith) in
-        ap (λ m. registers s m (take count names) at) z ∙ rw (← e, ← i, j, w)))
+        ap (λ m. registerNames s m (take count names) at) z ∙ rw (← e, ← i, j, w)))
       where
         below : (c : ℕ) → (c ≡ mostRegisters → ⊥) → c ≤ mostRegisters → c < mostRegisters
         below c v f = byTest (ltb c mostRegisters) (λ t. ltb-true c mostRegisters t) λ t. absurd (v (let g = ltb-false c mostRegisters t in omega arith))
 
     pub registers-turn : x ≡ false → (mostRegisters - (count + 1) < mostRegisters - count)
-        × Kept mostRegisters (set names count (t .key)) (count + 1) × RegistersLeft s from (set names count (t .key)) (count + 1) (t .end)
-    unfolding registers
+        × NamesPadded mostRegisters (set names count (t .key)) (count + 1) × RegistersLeft s from (set names count (t .key)) (count + 1) (t .end)
+    unfolding registerNames
     registers-turn h =
         let l = not-full count mostRegisters (t .key) (take count names) x y h (K .few) in
         let z : mostRegisters - count ≡ suc (mostRegisters - (count + 1)) = omega arith in
@@ -164,8 +164,8 @@ module _ (s : List ℕ) (from : ℕ) (names : List ℕ) (count at : ℕ) (K : Ke
         sym (ap (λ b. b || taken (t .key) (take count names)) (ne-eqb count mostRegisters λ q. omega arith)) ∙ sym y ∙ h in (
           omega arith,
           kept-more mostRegisters names count (t .key) K l,
-          L ∙ ap (λ m. registers s m (take count names) at) z
-              ∙ rw (← e, ← i, j, w) (ap (λ l. registers s (mostRegisters - (count + 1)) l (t .end)) (sym (kept-take mostRegisters names count (t .key) K l))),
+          L ∙ ap (λ m. registerNames s m (take count names) at) z
+              ∙ rw (← e, ← i, j, w) (ap (λ l. registerNames s (mostRegisters - (count + 1)) l (t .end)) (sym (kept-take mostRegisters names count (t .key) K l))),
         )
 
 -- ---- functions
@@ -181,81 +181,81 @@ taken-last count k rs l h b e f c g = rw (ne-eqb count mostFunctions h, ← e, f
 pub taken-all : (count k : ℕ) (rs l : List ℕ) → count ≡ mostFunctions → true ≡ (eqb count mostFunctions || (taken k rs || taken k l))
 taken-all count k rs l h = rw (eq-eqb count mostFunctions h)
 
-pub refused-by : {A : Type 0} {B : Type 0} (held : Got A → B) (g : number.Got) (n p : ℕ) (r : B) → g ≡ number.the-variants.Refused n p → r ≡ held (refused n p) → r ≡ held (refusedBy g)
+pub refused-by : {A : Type 0} {B : Type 0} (held : Got A → B) (g : number.GotNumber) (n p : ℕ) (r : B) → g ≡ number.the-variants.Refused n p → r ≡ held (Got.refused n p) → r ≡ held (refusedBy g)
 refused-by held g n p r h e = e ∙ rw h
 
-pub refused-at : {A : Type 0} {B : Type 0} (held : Got A → B) (g : number.Got) (v p : ℕ) (r : B) → g ≡ number.the-variants.At v p → r ≡ held (refused 0 0) → r ≡ held (refusedBy g)
+pub refused-at : {A : Type 0} {B : Type 0} (held : Got A → B) (g : number.GotNumber) (v p : ℕ) (r : B) → g ≡ number.the-variants.At v p → r ≡ held (Got.refused 0 0) → r ≡ held (refusedBy g)
 refused-at held g v p r h e = e ∙ rw h
 
-module _ (s : List ℕ) (at : ℕ) (g : number.Got) (i : g ≡ nothing (expect s word.slash at)) where
+module _ (s : List ℕ) (at : ℕ) (g : number.GotNumber) (i : g ≡ withoutValue (expect s word.slashKey at)) where
   pub arity-slash : (n p : ℕ) → g ≡ number.the-variants.Refused n p → g ≡ plain (arityOf s at)
   unfolding arityOf
-  arity-slash n p h = go (expect s word.slash at) i
+  arity-slash n p h = go (expect s word.slashKey at) i
     where
-      go : (x : Got (Unit {0})) → g ≡ nothing x → g ≡ plain (onward x λ _ a. arityT s (tokenAt s a))
+      go : (x : Got (Unit {0})) → g ≡ withoutValue x → g ≡ plain (andThen x λ _ a. arityT s (tokenAt s a))
       go (got u e) i = let z : _≡_ {A = ℕ} 0 1 = cc in absurd (omega arith)
-      go (refused n p) i = i
+      go (Got.refused n p) i = i
       go exhausted i = i
 
   module _ (v a : ℕ) (h : g ≡ number.the-variants.At v a) (t : Token) (e : t ≡ tokenAt s a) where
     behind : arityOf s at ≡ arityT s t
     unfolding arityOf
-    behind = let (u, x, y) = coded-at (λ _. 0) (expect s word.slash at) g v a i h in rw (x, e)
+    behind = let (u, x, y) = coded-at (λ _. 0) (expect s word.slashKey at) g v a i h in rw (x, e)
 
-    pub arity-one : t .key ≡ word.one → number.the-variants.At 1 (t .end) ≡ plain (arityOf s at)
-    arity-one k = rw (behind, eq-eqb (t .key) word.one k)
+    pub arity-one : t .key ≡ word.oneKey → number.the-variants.At 1 (t .end) ≡ plain (arityOf s at)
+    arity-one k = rw (behind, eq-eqb (t .key) word.oneKey k)
 
-    pub arity-two : (t .key ≡ word.one → ⊥) → t .key ≡ word.two → number.the-variants.At 2 (t .end) ≡ plain (arityOf s at)
-    arity-two n k = rw (behind, ne-eqb (t .key) word.one n, eq-eqb (t .key) word.two k)
+    pub arity-two : (t .key ≡ word.oneKey → ⊥) → t .key ≡ word.twoKey → number.the-variants.At 2 (t .end) ≡ plain (arityOf s at)
+    arity-two n k = rw (behind, ne-eqb (t .key) word.oneKey n, eq-eqb (t .key) word.twoKey k)
 
-    pub arity-unfit : (t .key ≡ word.one → ⊥) → (t .key ≡ word.two → ⊥) → (r : number.Got) → r ≡ plain (unfit t) → r ≡ plain (arityOf s at)
-    arity-unfit n m r k = rw (behind, ne-eqb (t .key) word.one n, ne-eqb (t .key) word.two m) k
+    pub arity-unfit : (t .key ≡ word.oneKey → ⊥) → (t .key ≡ word.twoKey → ⊥) → (r : number.GotNumber) → r ≡ plain (refusedToken t) → r ≡ plain (arityOf s at)
+    arity-unfit n m r k = rw (behind, ne-eqb (t .key) word.oneKey n, ne-eqb (t .key) word.twoKey m) k
 
-module _ (s : List ℕ) (names arities : List ℕ) (count : ℕ) (K : Kept mostFunctions names count) (A : Kept mostFunctions arities count) (t : Token) where
+module _ (s : List ℕ) (names arities : List ℕ) (count : ℕ) (K : NamesPadded mostFunctions names count) (A : NamesPadded mostFunctions arities count) (t : Token) where
   abbrev Both : List ℕ × List ℕ
   Both = (take count names, take count arities)
 
-  pub functions-listed : t .key ≡ word.semicolon → (count ≡ 0 → ⊥) → record { ok = true; number = 0; place = 0; at = t .end; count = count; names = names; arities = arities } ≡ heldFunctions (listedT s (length (take count names)) Both t)
+  pub functions-listed : t .key ≡ word.semicolonKey → (count ≡ 0 → ⊥) → record { ok = true; number = 0; place = 0; at = t .end; count = count; names = names; arities = arities } ≡ heldFunctions (listedT s (length (take count names)) Both t)
   unfolding heldFunctions
   functions-listed h g = rw (listed-end s (length (take count names)) Both t h λ z. g (sym (K .size) ∙ z)) λ i. record { ok = true; number = 0; place = 0; at = t .end; count = sym (K .size) i; names = K .pad i; arities = A .pad i }
 
-  pub functions-unlisted : (n : ℕ) → n ≡ unfitNumber t → eqb (t .key) word.semicolon && not (eqb count 0) ≡ false → (r : Functions) → r ≡ heldFunctions (refused n (t .start)) → r ≡ heldFunctions (listedT s (length (take count names)) Both t)
-  functions-unlisted n e h r g = g ∙ ap (λ n. heldFunctions (refused n (t .start))) e ∙ ap heldFunctions (sym (listed-unfit s (length (take count names)) Both t (ap (λ m. eqb (t .key) word.semicolon && not (eqb m 0)) (K .size) ∙ h)))
+  pub functions-unlisted : (n : ℕ) → n ≡ refusedTokenNumber t → eqb (t .key) word.semicolonKey && not (eqb count 0) ≡ false → (r : Functions) → r ≡ heldFunctions (Got.refused n (t .start)) → r ≡ heldFunctions (listedT s (length (take count names)) Both t)
+  functions-unlisted n e h r g = g ∙ ap (λ n. heldFunctions (Got.refused n (t .start))) e ∙ ap heldFunctions (sym (listed-unfit s (length (take count names)) Both t (ap (λ m. eqb (t .key) word.semicolonKey && not (eqb m 0)) (K .size) ∙ h)))
 
 abbrev pub FunctionsLeft : List ℕ → List ℕ → ℕ → List ℕ → List ℕ → ℕ → ℕ → Type 0
 FunctionsLeft s rs from names arities count at =
-    functions s rs mostFunctions [] [] from ≡ functions s rs (mostFunctions - count) (take count names) (take count arities) at
+    functionEntries s rs mostFunctions [] [] from ≡ functionEntries s rs (mostFunctions - count) (take count names) (take count arities) at
 
-module _ (s rs : List ℕ) (from : ℕ) (names arities : List ℕ) (count at : ℕ) (K : Kept mostFunctions names count) (A : Kept mostFunctions arities count)
+module _ (s rs : List ℕ) (from : ℕ) (names arities : List ℕ) (count at : ℕ) (K : NamesPadded mostFunctions names count) (A : NamesPadded mostFunctions arities count)
     (L : FunctionsLeft s rs from names arities count at) (t : Token) (e : t ≡ tokenAt s at) where
   pub functions-last : (b : Bool) → b ≡ isName (t .key) → b ≡ false → (r : Functions)
       → r ≡ heldFunctions (listedT s (length (take count names)) (take count names, take count arities) t)
-      → r ≡ heldFunctions (functions s rs mostFunctions [] [] from)
-  unfolding functions
+      → r ≡ heldFunctions (functionEntries s rs mostFunctions [] [] from)
+  unfolding functionEntries
   functions-last b i h r g = g ∙ ap heldFunctions (sym (L ∙ go (mostFunctions - count)))
     where
-      go : (room : ℕ) → functions s rs room (take count names) (take count arities) at ≡ listedT s (length (take count names)) (take count names, take count arities) t
+      go : (room : ℕ) → functionEntries s rs room (take count names) (take count arities) at ≡ listedT s (length (take count names)) (take count names, take count arities) t
       go zero = rw (← e, ← i, h)
       go (suc room) = rw (← e, ← i, h)
 
   module _ (b : Bool) (i : b ≡ isName (t .key)) (j : b ≡ true) (x : Bool)
       (y : x ≡ (eqb count mostFunctions || (taken (t .key) rs || taken (t .key) (take count names)))) where
-    pub functions-taken : x ≡ true → (r : Functions) → r ≡ heldFunctions (refused declarationWrong (t .start))
-        → r ≡ heldFunctions (functions s rs mostFunctions [] [] from)
-    unfolding functions
+    pub functions-taken : x ≡ true → (r : Functions) → r ≡ heldFunctions (Got.refused declarationWrong (t .start))
+        → r ≡ heldFunctions (functionEntries s rs mostFunctions [] [] from)
+    unfolding functionEntries
     functions-taken h r g = g ∙ ap heldFunctions (sym (L ∙ byTest (eqb count mostFunctions)
         (λ u. let z : mostFunctions - count ≡ 0 = (let v = eqb-true count mostFunctions u in omega arith) in
-        ap (λ m. functions s rs m (take count names) (take count arities) at) z ∙ rw (← e, ← i, j))
+        ap (λ m. functionEntries s rs m (take count names) (take count arities) at) z ∙ rw (← e, ← i, j))
         λ u.
         let v = eqb-false count mostFunctions u in
         let w : (taken (t .key) rs || taken (t .key) (take count names)) ≡ true = sym (ap (λ b. b || (taken (t .key) rs || taken (t .key) (take count names))) u) ∙ sym y ∙ h in
         let z : mostFunctions - count ≡ suc (mostFunctions - 1 - count) = (let f = K .few in let k = below count v f in omega arith) in
-        ap (λ m. functions s rs m (take count names) (take count arities) at) z ∙ rw (← e, ← i, j, w)))
+        ap (λ m. functionEntries s rs m (take count names) (take count arities) at) z ∙ rw (← e, ← i, j, w)))
       where
         below : (c : ℕ) → (c ≡ mostFunctions → ⊥) → c ≤ mostFunctions → c < mostFunctions
         below c v f = byTest (ltb c mostFunctions) (λ t. ltb-true c mostFunctions t) λ t. absurd (v (let g = ltb-false c mostFunctions t in omega arith))
 
-    module _ (h : x ≡ false) (g : number.Got) (a : g ≡ plain (arityOf s (t .end))) where
+    module _ (h : x ≡ false) (g : number.GotNumber) (a : g ≡ plain (arityOf s (t .end))) where
       pub functions-room : count < mostFunctions
       functions-room = byTest (eqb count mostFunctions)
           (λ u. let z : true ≡ false = sym (or-left (eqb count mostFunctions) (taken (t .key) rs || taken (t .key) (take count names)) u) ∙ sym y ∙ h in
@@ -269,28 +269,28 @@ module _ (s rs : List ℕ) (from : ℕ) (names arities : List ℕ) (count at : �
           sym (ap (λ b. b || (taken (t .key) rs || taken (t .key) (take count names)))
           (ne-eqb count mostFunctions λ q. let f = functions-room in omega arith)) ∙ sym y ∙ h
 
-      entered : functions s rs mostFunctions [] [] from ≡ onward (arityOf s (t .end)) λ n e. functions s rs (mostFunctions - (count + 1))
+      entered : functionEntries s rs mostFunctions [] [] from ≡ andThen (arityOf s (t .end)) λ n e. functionEntries s rs (mostFunctions - (count + 1))
           (take count names ++ t .key ∷ []) (take count arities ++ n ∷ []) e
-      unfolding functions
+      unfolding functionEntries
       entered =
           let f = functions-room in
           let z : mostFunctions - count ≡ suc (mostFunctions - (count + 1)) = omega arith in
-          L ∙ ap (λ m. functions s rs m (take count names) (take count arities) at) z ∙ rw (← e, ← i, j, unknown)
+          L ∙ ap (λ m. functionEntries s rs m (take count names) (take count arities) at) z ∙ rw (← e, ← i, j, unknown)
 
       pub functions-refused : (n p : ℕ) → g ≡ number.the-variants.Refused n p → (r : Functions) → r ≡ heldFunctions (refusedBy g)
-          → r ≡ heldFunctions (functions s rs mostFunctions [] [] from)
+          → r ≡ heldFunctions (functionEntries s rs mostFunctions [] [] from)
       unfolding heldFunctions
       functions-refused n p k r q = q ∙ go (arityOf s (t .end)) a ∙ ap heldFunctions (sym entered)
         where
           go : (x : Got ℕ) → g ≡ plain x → heldFunctions (refusedBy g) ≡ heldFunctions
-              (onward x λ n e. functions s rs (mostFunctions - (count + 1)) (take count names ++ t .key ∷ []) (take count arities ++ n ∷ []) e)
+              (andThen x λ n e. functionEntries s rs (mostFunctions - (count + 1)) (take count names ++ t .key ∷ []) (take count arities ++ n ∷ []) e)
           go (got u e) i = let z : _≡_ {A = ℕ} 0 1 = cc in absurd (omega arith)
-          go (refused n p) i = rw i
+          go (Got.refused n p) i = rw i
           go exhausted i = rw i
 
       pub functions-turn : (n b′ : ℕ) → g ≡ number.the-variants.At n b′
-          → (mostFunctions - (count + 1) < mostFunctions - count) × Kept mostFunctions (set names count (t .key)) (count + 1)
-          × Kept mostFunctions (set arities count n) (count + 1) × FunctionsLeft s rs from (set names count (t .key)) (set arities count n) (count + 1) b′
+          → (mostFunctions - (count + 1) < mostFunctions - count) × NamesPadded mostFunctions (set names count (t .key)) (count + 1)
+          × NamesPadded mostFunctions (set arities count n) (count + 1) × FunctionsLeft s rs from (set names count (t .key)) (set arities count n) (count + 1) b′
       functions-turn n b′ k =
           let l = functions-room in
           let (m, q, u) = coded-at (λ n. n) (arityOf s (t .end)) g n b′ a k in (
@@ -298,19 +298,19 @@ module _ (s rs : List ℕ) (from : ℕ) (names arities : List ℕ) (count at : �
             kept-more mostFunctions names count (t .key) K l,
             kept-more mostFunctions arities count n A l,
             entered
-                ∙ ap (λ x. onward x λ n e. functions s rs (mostFunctions - (count + 1)) (take count names ++ t .key ∷ []) (take count arities ++ n ∷ []) e) q
-                ∙ (λ i. functions s rs (mostFunctions - (count + 1)) (sym (kept-take mostFunctions names count (t .key) K l) i)
+                ∙ ap (λ x. andThen x λ n e. functionEntries s rs (mostFunctions - (count + 1)) (take count names ++ t .key ∷ []) (take count arities ++ n ∷ []) e) q
+                ∙ (λ i. functionEntries s rs (mostFunctions - (count + 1)) (sym (kept-take mostFunctions names count (t .key) K l) i)
                 ((ap (λ n. take count arities ++ n ∷ []) (sym u) ∙ sym (kept-take mostFunctions arities count n A l)) i) b′),
           )
 
 -- perhaps a line of functions
 module _ (s rs : List ℕ) (at : ℕ) (t : Token) (e : t ≡ tokenAt s at) where
-  pub line-some : t .key ≡ word.funs → (r : Functions) → r ≡ heldFunctions (functions s rs mostFunctions [] [] (t .end))
+  pub line-some : t .key ≡ word.funsKey → (r : Functions) → r ≡ heldFunctions (functionEntries s rs mostFunctions [] [] (t .end))
       → r ≡ heldFunctions (functionsT s rs at (tokenAt s at))
-  line-some h r g = rw (← e, eq-eqb (t .key) word.funs h) g
+  line-some h r g = rw (← e, eq-eqb (t .key) word.funsKey h) g
 
-  pub line-none : (t .key ≡ word.funs → ⊥)
+  pub line-none : (t .key ≡ word.funsKey → ⊥)
       → record { ok = true; number = 0; place = 0; at = at; count = 0; names = replicate mostFunctions 0; arities = replicate mostFunctions 0 }
       ≡ heldFunctions (functionsT s rs at (tokenAt s at))
   unfolding heldFunctions
-  line-none h = rw (← e, ne-eqb (t .key) word.funs h)
+  line-none h = rw (← e, ne-eqb (t .key) word.funsKey h)

@@ -8,25 +8,25 @@ use lib.Dec.{eqb}
 use borrow.Author.Tests.{eqb-true, eqb-false}
 use Rattle.base.proofs.Theory.Choice.{byTest}
 use Rattle.grammar.specs.Grammar.{Macro}
-use Rattle.grammar.specs.Reading.{Got, got, refused, exhausted}
+use Rattle.grammar.specs.Reading.{Got, got, exhausted}
 use Rattle.grammar.proofs.Theory.Reading.{readMacro}
 use Rattle.grammar.proofs.Theory.Enough.{read-answers}
 use Rattle.refusals.specs.Order.{Refusal}
 use Rattle.refusals.proofs.Theory.Order.{refused-refusal, refusal-refused, refusal-number}
 use Rattle.refusals.specs.Accepted.{Accepted}
 use Rattle.refusals.proofs.Theory.Accepted.{read-accepted, accepted-read}
-use Rattle.syntax.specs.declared.Answer.{Answer}
-use Rattle.syntax.specs.Answer.{heldMacro, noMacro, answerOf}
+use Rattle.syntax.specs.declared.MacroRead.{MacroRead}
+use Rattle.syntax.specs.Answer.{heldMacro, noMacro, heldReading}
 use Rattle.syntax.specs.Reads.{Reads}
 
-module _ (text : List ℕ) (r : Answer) (e : r ≡ answerOf (readMacro text)) where
+module _ (text : List ℕ) (r : MacroRead) (e : r ≡ heldReading (readMacro text)) where
   as-got : (m : Macro) (f : ℕ) → readMacro text ≡ got m f → (r .refusal ≡ 0) × (r .place ≡ 0) × (r .program ≡ heldMacro m)
-  unfolding answerOf
-  as-got m f h = let g = e ∙ ap answerOf h in (ap (λ r. r .refusal) g, ap (λ r. r .place) g, ap (λ r. r .program) g)
+  unfolding heldReading
+  as-got m f h = let g = e ∙ ap heldReading h in (ap (λ r. r .refusal) g, ap (λ r. r .place) g, ap (λ r. r .program) g)
 
-  as-refused : (n p : ℕ) → readMacro text ≡ refused n p → (r .refusal ≡ n) × (r .place ≡ p) × (r .program ≡ noMacro)
-  unfolding answerOf
-  as-refused n p h = let g = e ∙ ap answerOf h in (ap (λ r. r .refusal) g, ap (λ r. r .place) g, ap (λ r. r .program) g)
+  as-refused : (n p : ℕ) → readMacro text ≡ Got.refused n p → (r .refusal ≡ n) × (r .place ≡ p) × (r .program ≡ noMacro)
+  unfolding heldReading
+  as-refused n p h = let g = e ∙ ap heldReading h in (ap (λ r. r .refusal) g, ap (λ r. r .place) g, ap (λ r. r .program) g)
 
   -- The definition gives what the contract says.
   pub reads : Reads text r
@@ -39,18 +39,18 @@ module _ (text : List ℕ) (r : Answer) (e : r ≡ answerOf (readMacro text)) wh
     where
       accepted-as : (g : Got Macro) → readMacro text ≡ g → r .refusal ≡ 0 → (m : Macro) × Accepted text m × (r .program ≡ heldMacro m)
       accepted-as (got m f) h z = (m, read-accepted text m f h, as-got m f h .2)
-      accepted-as (refused n p) h z = let (a, b) = refusal-number n p (refused-refusal text n p h) in absurd (let i = as-refused n p h .0 in omega arith)
+      accepted-as (Got.refused n p) h z = let (a, b) = refusal-number n p (refused-refusal text n p h) in absurd (let i = as-refused n p h .0 in omega arith)
       accepted-as exhausted h z = absurd (read-answers text h)
 
       refused-as : (g : Got Macro) → readMacro text ≡ g → r .refusal ≢ 0 → Refusal text (r .refusal) (r .place)
       refused-as (got m f) h z = absurd (z (as-got m f h .0))
-      refused-as (refused n p) h z =
+      refused-as (Got.refused n p) h z =
           let (a, b, c) = as-refused n p h in
           subst (λ k. Refusal text k (r .place)) (sym a) (subst (Refusal text n) (sym b) (refused-refusal text n p h))
       refused-as exhausted h z = absurd (read-answers text h)
 
 -- There is one answer at most.
-pub reads-once : (text : List ℕ) (r q : Answer) → Reads text r → Reads text q → r ≡ q
+pub reads-once : (text : List ℕ) (r q : MacroRead) → Reads text r → Reads text q → r ≡ q
 reads-once text r q x y = byTest (eqb (r .refusal) 0)
     (λ t.
     let (m, a, k) = x .accepted (eqb-true (r .refusal) 0 t) in

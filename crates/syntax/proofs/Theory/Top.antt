@@ -12,7 +12,7 @@ use borrow.Author.Tests.{eq-eqb, ne-eqb, le-ltb, lt-ltb, leb-true, leb-false}
 use Rattle.base.proofs.Theory.Choice.{byTest}
 use Rattle.base.specs.Each.{each}
 use Rattle.letters.specs.Editions.{mostRegisters, mostFunctions}
-use Rattle.letters.specs.RefusalNumbers.{textTooLong, pointsTooMany}
+use Rattle.letters.specs.MacroRefusalNumbers.{textTooLong, pointsTooMany}
 use Rattle.grammar.specs.Limits.{longestText, mostPoints, deepestNesting}
 use Rattle.blocks.specs.Held.{unknown}
 use Rattle.letters.specs.declared.Header.{Header}
@@ -22,33 +22,33 @@ use Rattle.tokens.specs.declared.Token.{Token}
 use Rattle.tokens.specs.Tokens.{tokenAt}
 use Rattle.tokens.specs.Words as word
 use Rattle.grammar.specs.Grammar.{Macro, binaryOf}
-use Rattle.grammar.specs.Reading.{Got, got, refused, exhausted, onward, expect, registers, functionsT, block, countT}
+use Rattle.grammar.specs.Reading.{Got, got, exhausted, andThen, expect, registerNames, functionsT, block, countT}
 use Rattle.grammar.proofs.Theory.Reading.{readText, readMacro}
-use Rattle.grammar.specs.Spelled.{Arities, none, one, two}
+use Rattle.grammar.specs.Spelled.{Arities, Spells}
 use Rattle.grammar.proofs.Theory.Declarations.{registers-sound}
 use Rattle.grammar.proofs.Theory.Whole.{none-declared, functions-line}
-use Rattle.phrases.specs.Codes.{nothing, Few}
+use Rattle.phrases.specs.Codes.{withoutValue, Few}
 use Rattle.phrases.proofs.Theory.Answers.{coded-at}
-use Rattle.phrases.specs.declared.Got as number
-use Rattle.blocks.specs.Held.{table, over, unused, heldPoint, Progress, progressOf, heldBy, pointsOf, tableOf, Holds}
+use Rattle.phrases.specs.declared.GotNumber as number
+use Rattle.blocks.specs.Held.{pointTable, pointsOver, unusedPoint, heldPoint, Progress, progressOf, heldBy, pointsOf, tableOfCodes, HoldsPoints}
 use Rattle.blocks.proofs.Theory.Held.{redirected}
 use Rattle.blocks.proofs.Theory.CodeLaws.{table-filled}
-use Rattle.blocks.specs.Outcome.{Outcome, turnedIn, blockCode, BlockRead, Ready}
+use Rattle.blocks.specs.Outcome.{ReadAs, backpatchedIn, blockCode, BlockRead, ReaderReady}
 use Rattle.blocks.proofs.Theory.Outcome.{within}
 use Rattle.blocks.proofs.Theory.OutcomeLaws.{outcome-fine}
 use Rattle.blocks.proofs.Theory.TableLaws.{over-range, points-range, points-none, length-map}
 use Rattle.blocks.proofs.Theory.Redirect.{block-length, redirect-block}
-use Rattle.blocks.specs.declared.Point.{Point}
-use Rattle.blocks.specs.declared.State.{State}
-use Rattle.syntax.specs.Answer.{padded, heldMacro, noMacro, answerOf, heldRegisters, heldFunctions, unfitNumber, endFrom, bodyFrom, functionsFrom}
+use Rattle.blocks.specs.declared.PointEntry.{PointEntry}
+use Rattle.blocks.specs.declared.ReaderState.{ReaderState}
+use Rattle.syntax.specs.Answer.{padded, heldMacro, noMacro, heldReading, heldRegisters, heldFunctions, refusedTokenNumber, endFrom, bodyFrom, functionsFrom}
 use Rattle.syntax.proofs.Theory.Answer.{registersFrom}
-use Rattle.syntax.specs.Lists.{Kept, refusedBy}
+use Rattle.syntax.specs.Lists.{NamesPadded, refusedBy}
 use Rattle.syntax.proofs.Theory.Lists.{kept-list}
-use Rattle.syntax.specs.declared.Macro as held
-use Rattle.syntax.specs.declared.Answer.{Answer}
+use Rattle.syntax.specs.declared.CompiledMacro as held
+use Rattle.syntax.specs.declared.MacroRead.{MacroRead}
 use Rattle.syntax.specs.declared.Registers.{Registers}
 use Rattle.syntax.specs.declared.Functions.{Functions}
-use Rattle.syntax.specs.Top.{KeptRegisters, KeptFunctions, macroOf, blank, Ended, Finishes, startOf, flagOf, headed}
+use Rattle.syntax.specs.Top.{RegistersPadded, FunctionsPadded, macroOf, emptyTable, BlockEnded, Finishes, readerStart, arityFlag, headed}
 
 -- the lists that the arrays hold
 abbrev pub listOf : Registers → List ℕ
@@ -56,11 +56,11 @@ listOf rs = take (rs .count) (rs .names)
 
 -- where reading the statements begins, with arrays of zeros
 abbrev pub startWith : ℕ → Progress
-startWith at = progressOf (startOf at) blank
+startWith at = progressOf (readerStart at) emptyTable
 
 -- ---- fixed values
 
-pub no-macro-held : (p : Point) → p ≡ unused
+pub no-macro-held : (p : PointEntry) → p ≡ unusedPoint
     → record {
       header = record { registers = 0; functions = 0; binary = 0 };
       registers = replicate mostRegisters 0;
@@ -76,23 +76,23 @@ no-macro-held p e = λ i. record {
   count = 0;
 }
 
-pub refused-held : (n p : ℕ) (m : held.Macro) → m ≡ noMacro → record { refusal = n; place = p; program = m } ≡ answerOf (refused n p)
-unfolding answerOf
+pub refused-held : (n p : ℕ) (m : held.CompiledMacro) → m ≡ noMacro → record { refusal = n; place = p; program = m } ≡ heldReading (Got.refused n p)
+unfolding heldReading
 refused-held n p m e = λ i. record { refusal = n; place = p; program = e i }
 
-pub flag-one : (n : ℕ) → n ≡ 2 → (1 ≡ flagOf n) × (1 ≤ 1)
+pub flag-one : (n : ℕ) → n ≡ 2 → (1 ≡ arityFlag n) × (1 ≤ 1)
 flag-one n h = (rw (eq-eqb n 2 h), omega arith)
 
-pub flag-none : (n : ℕ) → (n ≡ 2 → ⊥) → (0 ≡ flagOf n) × (0 ≤ 1)
+pub flag-none : (n : ℕ) → (n ≡ 2 → ⊥) → (0 ≡ arityFlag n) × (0 ≤ 1)
 flag-none n h = (rw (ne-eqb n 2 h), omega arith)
 
-pub four : (ns : List ℕ) (a b c d : ℕ) → length ns ≡ mostFunctions → a ≡ flagOf (getD ns 0 0) → b ≡ flagOf (getD ns 1 0) → c ≡ flagOf (getD ns 2 0)
-    → d ≡ flagOf (getD ns 3 0) → a + 2 * b + 4 * c + 8 * d ≡ binaryOf ns
+pub four : (ns : List ℕ) (a b c d : ℕ) → length ns ≡ mostFunctions → a ≡ arityFlag (getD ns 0 0) → b ≡ arityFlag (getD ns 1 0) → c ≡ arityFlag (getD ns 2 0)
+    → d ≡ arityFlag (getD ns 3 0) → a + 2 * b + 4 * c + 8 * d ≡ binaryOf ns
 four [] a b c d h p q r s = absurd (omega arith)
 four (w ∷ []) a b c d h p q r s = absurd (omega arith)
 four (w ∷ x ∷ []) a b c d h p q r s = absurd (omega arith)
 four (w ∷ x ∷ y ∷ []) a b c d h p q r s = absurd (omega arith)
-four (w ∷ x ∷ y ∷ z ∷ []) a b c d h p q r s = sum (flagOf w) (flagOf x) (flagOf y) (flagOf z) p q r s
+four (w ∷ x ∷ y ∷ z ∷ []) a b c d h p q r s = sum (arityFlag w) (arityFlag x) (arityFlag y) (arityFlag z) p q r s
   where
     sum : (w x y z : ℕ) → a ≡ w → b ≡ x → c ≡ y → d ≡ z → a + 2 * b + 4 * c + 8 * d ≡ w + 2 * (x + 2 * (y + 2 * (z + 2 * 0)))
     sum w x y z p q r s = omega arith
@@ -101,14 +101,14 @@ four (w ∷ x ∷ y ∷ z ∷ v ∷ ns) a b c d h p q r s = absurd (omega arith)
 binary-padded : (ns : List ℕ) (k : ℕ) → binaryOf (ns ++ replicate k 0) ≡ binaryOf ns
 binary-padded [] zero = refl
 binary-padded [] (suc k) = let e = binary-padded [] k in omega arith
-binary-padded (n ∷ ns) k = ap (λ m. flagOf n + 2 * m) (binary-padded ns k)
+binary-padded (n ∷ ns) k = ap (λ m. arityFlag n + 2 * m) (binary-padded ns k)
 
 pub head-held : (rs : Registers) (fs : Functions) (n : ℕ) → n ≡ binaryOf (fs .arities)
     → record { registers = rs .count; functions = fs .count; binary = n } ≡ headed rs fs
 head-held rs fs n e = λ i. record { registers = rs .count; functions = fs .count; binary = e i }
 
 -- the answer of a text that was read
-abbrev read : Registers → Functions → Header → List Point → ℕ → Answer
+abbrev read : Registers → Functions → Header → List PointEntry → ℕ → MacroRead
 read rs fs h ps n = record {
   refusal = 0;
   place = 0;
@@ -127,12 +127,12 @@ unfolding blockCode
 turned-whole b l = redirect-block (sizeBlock b) unknown b 0 (omega arith)
 
 module _ (s : List ℕ) (rs : Registers) (fs : Functions) (body : Progress) (t : Token) (e : t ≡ tokenAt s (body .at)) where
-  pub finish-unfit : (t .key ≡ 0 → ⊥) → (n : ℕ) → n ≡ unfitNumber t → (r : Answer) → r ≡ answerOf (refused n (t .start)) → Finishes s rs fs body r
+  pub finish-unfit : (t .key ≡ 0 → ⊥) → (n : ℕ) → n ≡ refusedTokenNumber t → (r : MacroRead) → r ≡ heldReading (Got.refused n (t .start)) → Finishes s rs fs body r
   unfolding Finishes
-  finish-unfit h n i r g b E = rw (← e, ne-eqb (t .key) 0 h) (g ∙ ap (λ n. answerOf (refused n (t .start))) i)
+  finish-unfit h n i r g b E = rw (← e, ne-eqb (t .key) 0 h) (g ∙ ap (λ n. heldReading (Got.refused n (t .start))) i)
 
   module _ (z : t .key ≡ 0) where
-    pub finish-long : mostPoints < body .count → (r : Answer) → r ≡ answerOf (refused pointsTooMany 0) → Finishes s rs fs body r
+    pub finish-long : mostPoints < body .count → (r : MacroRead) → r ≡ heldReading (Got.refused pointsTooMany 0) → Finishes s rs fs body r
     unfolding Finishes
     finish-long h r g b E =
         let l : mostPoints < sizeBlock b = byTest (leb (sizeBlock b) mostPoints)
@@ -144,12 +144,12 @@ module _ (s : List ℕ) (rs : Registers) (fs : Functions) (body : Progress) (t :
         (λ u. leb-false (sizeBlock b) mostPoints u) in
         rw (← e, eq-eqb (t .key) 0 z, lt-ltb mostPoints (sizeBlock b) l) g
 
-    pub finish-read : Kept mostRegisters (rs .names) (rs .count) → Kept mostFunctions (fs .names) (fs .count) × Kept mostFunctions (fs .arities) (fs .count)
+    pub finish-read : NamesPadded mostRegisters (rs .names) (rs .count) → NamesPadded mostFunctions (fs .names) (fs .count) × NamesPadded mostFunctions (fs .arities) (fs .count)
         → body .count ≤ mostPoints
         → (head : Header) → head ≡ headed rs fs
-        → (ps : List Point) → ((b : Block) → sizeBlock b ≤ mostPoints → Holds blank body (blockCode b 0) → ps ≡ table (map heldPoint (points b)))
+        → (ps : List PointEntry) → ((b : Block) → sizeBlock b ≤ mostPoints → HoldsPoints emptyTable body (blockCode b 0) → ps ≡ pointTable (map heldPoint (points b)))
         → Finishes s rs fs body (read rs fs head ps (body .count))
-    unfolding Finishes answerOf heldMacro
+    unfolding Finishes heldReading heldMacro
     finish-read R (F, A) h head i ps p b E =
         let l : sizeBlock b ≤ mostPoints = byTest (leb (sizeBlock b) mostPoints) (λ u. leb-true (sizeBlock b) mostPoints u)
         (λ u. let c = E .high (leb-false (sizeBlock b) mostPoints u) in absurd (omega arith)) in
@@ -171,29 +171,29 @@ module _ (s : List ℕ) (rs : Registers) (fs : Functions) (body : Progress) (t :
         }
 
 -- the points of a macro that was read, once the end is put for what follows
-module _ (body : State) (cs xs ys xs′ ys′ : List ℕ) (ps : List Point) (e : xs′ ≡ each (turnedIn 0 (body .count) (body .count)) xs)
-    (f : ys′ ≡ each (turnedIn 0 (body .count) (body .count)) ys)
-    (g : ps ≡ tableOf cs xs′ ys′ (body .count)) where
-  pub points-whole : (b : Block) → sizeBlock b ≤ mostPoints → Holds blank (heldBy body cs xs ys) (blockCode b 0) → ps ≡ table (map heldPoint (points b))
+module _ (body : ReaderState) (cs xs ys xs′ ys′ : List ℕ) (ps : List PointEntry) (e : xs′ ≡ each (backpatchedIn 0 (body .count) (body .count)) xs)
+    (f : ys′ ≡ each (backpatchedIn 0 (body .count) (body .count)) ys)
+    (g : ps ≡ tableOfCodes cs xs′ ys′ (body .count)) where
+  pub points-whole : (b : Block) → sizeBlock b ≤ mostPoints → HoldsPoints emptyTable (heldBy body cs xs ys) (blockCode b 0) → ps ≡ pointTable (map heldPoint (points b))
   points-whole b l H =
       let n = body .count in
       let held = blockCode b 0 in
       let ts = map (redirected n) held in
       let size : length ts ≡ n = length-map (redirected n) held ∙ sym (H .count) in
-      let all : pointsOf cs xs′ ys′ ≡ over blank ts =
+      let all : pointsOf cs xs′ ys′ ≡ pointsOver emptyTable ts =
       (λ i. pointsOf cs (e i) (f i))
       ∙ points-range cs xs ys 0 n n
-      ∙ ap (each (within 0 n n)) (H .points ∙ ap (over blank) (sym (append-nil held)))
-      ∙ over-range blank [] held [] 0 n n refl (zero-add (length held) ∙ sym (H .count))
-      ∙ ap (over blank) (append-nil ts) in
-      let more = length-append ts (drop (length ts) blank) in
+      ∙ ap (each (within 0 n n)) (H .points ∙ ap (pointsOver emptyTable) (sym (append-nil held)))
+      ∙ over-range emptyTable [] held [] 0 n n refl (zero-add (length held) ∙ sym (H .count))
+      ∙ ap (pointsOver emptyTable) (append-nil ts) in
+      let more = length-append ts (drop (length ts) emptyTable) in
       g
       ∙ table-filled cs xs′ ys′ n (let c = H .count in let m = block-length b 0 in omega arith) (omega (arith, ap length all))
-      ∙ ap (λ l. table (take n l)) all
-      ∙ ap (λ k. table (take k (over blank ts))) (sym size)
-      ∙ ap table (take-append-seam ts (drop (length ts) blank))
-      ∙ ap (λ k. table (map (redirected k) held)) (H .count ∙ block-length b 0)
-      ∙ ap table (turned-whole b l)
+      ∙ ap (λ l. pointTable (take n l)) all
+      ∙ ap (λ k. pointTable (take k (pointsOver emptyTable ts))) (sym size)
+      ∙ ap pointTable (take-append-seam ts (drop (length ts) emptyTable))
+      ∙ ap (λ k. pointTable (map (redirected k) held)) (H .count ∙ block-length b 0)
+      ∙ ap pointTable (turned-whole b l)
 
 -- ---- behind the declarations
 
@@ -202,8 +202,8 @@ module _ (s : List ℕ) (rs : Registers) (fs : Functions) (body st : Progress) (
   abbrev Body : Got Block
   Body = block s (take (rs .count) (rs .names)) (take (fs .count) (fs .names)) (take (fs .count) (fs .arities)) (2 * length s + 1) deepestNesting (fs .at)
 
-  outcome : Outcome blockCode (startWith (fs .at)) body Body
-  outcome = subst (λ k. Outcome blockCode (startWith (fs .at)) body (called k)) (one-more (2 * length s)) (begun .outcome (2 * length s) (omega arith))
+  outcome : ReadAs blockCode (startWith (fs .at)) body Body
+  outcome = subst (λ k. ReadAs blockCode (startWith (fs .at)) body (called k)) (one-more (2 * length s)) (begun .outcome (2 * length s) (omega arith))
     where
       called : ℕ → Got Block
       called k = block s (take (rs .count) (rs .names)) (take (fs .count) (fs .names)) (take (fs .count) (fs .arities)) k deepestNesting (fs .at)
@@ -216,53 +216,53 @@ module _ (s : List ℕ) (rs : Registers) (fs : Functions) (body st : Progress) (
       begun =
           subst (λ st. BlockRead s (take (rs .count) (rs .names)) (take (fs .count) (fs .names)) (take (fs .count) (fs .arities)) deepestNesting st body) S B
 
-  pub body-refused : body .ok ≡ false → (r : Answer) → r ≡ answerOf (refused (body .number) (body .place)) → r ≡ answerOf (bodyFrom s (take (rs .count) (rs .names)) (take (fs .count) (fs .names)) (take (fs .count) (fs .arities)) (fs .at))
+  pub body-refused : body .ok ≡ false → (r : MacroRead) → r ≡ heldReading (Got.refused (body .number) (body .place)) → r ≡ heldReading (bodyFrom s (take (rs .count) (rs .names)) (take (fs .count) (fs .names)) (take (fs .count) (fs .arities)) (fs .at))
   unfolding bodyFrom
   body-refused h r g = g ∙ go Body outcome
     where
-      go : (x : Got Block) → Outcome blockCode (startWith (fs .at)) body x
-          → answerOf (refused (body .number) (body .place)) ≡ answerOf (onward x λ b e. endFrom s (macroOf rs fs b) e)
+      go : (x : Got Block) → ReadAs blockCode (startWith (fs .at)) body x
+          → heldReading (Got.refused (body .number) (body .place)) ≡ heldReading (andThen x λ b e. endFrom s (macroOf rs fs b) e)
       go (got b e) o = let k = o .ok in let z : _≡_ {A = ℕ} 0 1 = cc in absurd (omega arith)
-      go (refused n p) o = λ m. answerOf (refused (o .number m) (o .place m))
+      go (Got.refused n p) o = λ m. heldReading (Got.refused (o .number m) (o .place m))
       go exhausted o = absurd o
 
-  pub body-read : body .ok ≡ true → (r : Answer) → Finishes s rs fs body r → r ≡ answerOf (bodyFrom s (take (rs .count) (rs .names)) (take (fs .count) (fs .names)) (take (fs .count) (fs .arities)) (fs .at))
+  pub body-read : body .ok ≡ true → (r : MacroRead) → Finishes s rs fs body r → r ≡ heldReading (bodyFrom s (take (rs .count) (rs .names)) (take (fs .count) (fs .names)) (take (fs .count) (fs .arities)) (fs .at))
   unfolding bodyFrom Finishes
   body-read h r g =
       let (b, e, w, F) = outcome-fine blockCode (startWith (fs .at)) body Body outcome h in
       let n = block-length b 0 in
-      let begun : Holds blank (startWith (fs .at)) [] = record { size = refl; count = refl; points = refl } in
-      let E : Ended body b = record { low = λ l. F .laid blank [] begun (omega arith); high = λ l. F .high (omega arith) } in
-      g b E ∙ ap (λ e. answerOf (endFrom s (macroOf rs fs b) e)) (F .at) ∙ ap (λ x. answerOf (onward x λ b e. endFrom s (macroOf rs fs b) e)) (sym w)
+      let begun : HoldsPoints emptyTable (startWith (fs .at)) [] = record { size = refl; count = refl; points = refl } in
+      let E : BlockEnded body b = record { low = λ l. F .laid emptyTable [] begun (omega arith); high = λ l. F .high (omega arith) } in
+      g b E ∙ ap (λ e. heldReading (endFrom s (macroOf rs fs b) e)) (F .at) ∙ ap (λ x. heldReading (andThen x λ b e. endFrom s (macroOf rs fs b) e)) (sym w)
 
 -- arrays of zeros, where reading begins
-pub start-with : (st : State) (at : ℕ) → st ≡ startOf at → heldBy st (replicate mostPoints 0) (replicate mostPoints 0) (replicate mostPoints 0) ≡ startWith at
+pub start-with : (st : ReaderState) (at : ℕ) → st ≡ readerStart at → heldBy st (replicate mostPoints 0) (replicate mostPoints 0) (replicate mostPoints 0) ≡ startWith at
 start-with st at e = λ i. progressOf (e i) (points-none mostPoints i)
 
-pub few : (rs : Registers) (fs : Functions) → KeptRegisters rs → KeptFunctions fs → Few (take (rs .count) (rs .names)) (take (fs .count) (fs .names)) (take (fs .count) (fs .arities))
+pub few : (rs : Registers) (fs : Functions) → RegistersPadded rs → FunctionsPadded fs → Few (take (rs .count) (rs .names)) (take (fs .count) (fs .names)) (take (fs .count) (fs .arities))
 few rs fs R (F, A) = record { registers = let a = R .size in let b = R .few in omega arith; functions = let a = F .size in let b = F .few in omega arith; arities = A .size ∙ sym (F .size) }
 
-pub start-ready : (rs : Registers) (fs : Functions) (st : State) → st ≡ startOf (fs .at) → KeptRegisters rs → KeptFunctions fs
-    → Ready (take (rs .count) (rs .names)) (take (fs .count) (fs .names)) (take (fs .count) (fs .arities)) (st .count)
+pub start-ready : (rs : Registers) (fs : Functions) (st : ReaderState) → st ≡ readerStart (fs .at) → RegistersPadded rs → FunctionsPadded fs
+    → ReaderReady (take (rs .count) (rs .names)) (take (fs .count) (fs .names)) (take (fs .count) (fs .arities)) (st .count)
 start-ready rs fs st h R F = record { few = few rs fs R F; counted = let c = ap (λ st. st .count) h in omega arith }
 
 -- ---- behind the registers
 
 arities-length : {fs ns : List ℕ} → Arities fs ns → length ns ≡ length fs
-arities-length none = refl
-arities-length (one a) = ap suc (arities-length a)
-arities-length (two a) = ap suc (arities-length a)
+arities-length Arities.none = refl
+arities-length (Arities.one a) = ap suc (arities-length a)
+arities-length (Arities.two a) = ap suc (arities-length a)
 
 module _ (s : List ℕ) (rs : Registers) (fs : Functions) (h : fs ≡ heldFunctions (functionsT s (listOf rs) (rs .at) (tokenAt s (rs .at)))) where
   abbrev Line : Got (List ℕ × List ℕ)
   Line = functionsT s (listOf rs) (rs .at) (tokenAt s (rs .at))
 
   -- what the functions' struct holds
-  pub line-ok : fs .ok ≡ true → (r : List ℕ × List ℕ) × (c : ℕ) × (Line ≡ got r c) × (fs .at ≡ c) × (take (fs .count) (fs .names) ≡ r .0) × (take (fs .count) (fs .arities) ≡ r .1) × KeptFunctions fs
+  pub line-ok : fs .ok ≡ true → (r : List ℕ × List ℕ) × (c : ℕ) × (Line ≡ got r c) × (fs .at ≡ c) × (take (fs .count) (fs .names) ≡ r .0) × (take (fs .count) (fs .arities) ≡ r .1) × FunctionsPadded fs
   unfolding heldFunctions
   line-ok k = go Line refl h
     where
-      go : (x : Got (List ℕ × List ℕ)) → Line ≡ x → fs ≡ heldFunctions x → (r : List ℕ × List ℕ) × (c : ℕ) × (Line ≡ got r c) × (fs .at ≡ c) × (take (fs .count) (fs .names) ≡ r .0) × (take (fs .count) (fs .arities) ≡ r .1) × KeptFunctions fs
+      go : (x : Got (List ℕ × List ℕ)) → Line ≡ x → fs ≡ heldFunctions x → (r : List ℕ × List ℕ) × (c : ℕ) × (Line ≡ got r c) × (fs .at ≡ c) × (take (fs .count) (fs .names) ≡ r .0) × (take (fs .count) (fs .arities) ≡ r .1) × FunctionsPadded fs
       go (got r c) w e =
           let (D, P, A, l, p) = functions-line s (listOf rs) (rs .at) r c w in
           let n = arities-length A in
@@ -279,71 +279,71 @@ module _ (s : List ℕ) (rs : Registers) (fs : Functions) (h : fs ≡ heldFuncti
             (λ i. take (ec i) (en i)) ∙ a₁,
             (λ i. take (ed i) (ea i)) ∙ a₂,
             (
-              (subst (λ c. Kept mostFunctions (fs .names) c) (sym ec) (subst (λ l. Kept mostFunctions l (length (r .0))) (sym en) k₁)),
-              (subst (λ c. Kept mostFunctions (fs .arities) c) (sym ed) (subst (λ l. Kept mostFunctions l (length (r .1))) (sym ea) k₂)),
+              (subst (λ c. NamesPadded mostFunctions (fs .names) c) (sym ec) (subst (λ l. NamesPadded mostFunctions l (length (r .0))) (sym en) k₁)),
+              (subst (λ c. NamesPadded mostFunctions (fs .arities) c) (sym ed) (subst (λ l. NamesPadded mostFunctions l (length (r .1))) (sym ea) k₂)),
             ),
           )
-      go (refused n p) w e = let z = ap (λ f. f .ok) e in let y : _≡_ {A = ℕ} 0 1 = cc in absurd (omega arith)
+      go (Got.refused n p) w e = let z = ap (λ f. f .ok) e in let y : _≡_ {A = ℕ} 0 1 = cc in absurd (omega arith)
       go exhausted w e = let z = ap (λ f. f .ok) e in let y : _≡_ {A = ℕ} 0 1 = cc in absurd (omega arith)
 
-  pub line-kept : fs .ok ≡ true → KeptFunctions fs
+  pub line-kept : fs .ok ≡ true → FunctionsPadded fs
   line-kept k = let (r, c, w, a, x, y, K) = line-ok k in K
 
-  pub rest-read : fs .ok ≡ true → (r : Answer) → r ≡ answerOf (bodyFrom s (listOf rs) (take (fs .count) (fs .names)) (take (fs .count) (fs .arities)) (fs .at)) → r ≡ answerOf (functionsFrom s (listOf rs) (rs .at))
+  pub rest-read : fs .ok ≡ true → (r : MacroRead) → r ≡ heldReading (bodyFrom s (listOf rs) (take (fs .count) (fs .names)) (take (fs .count) (fs .arities)) (fs .at)) → r ≡ heldReading (functionsFrom s (listOf rs) (rs .at))
   unfolding functionsFrom
   rest-read k r g =
       let (l, c, w, a, x, y, K) = line-ok k in
-      g ∙ (λ i. answerOf (bodyFrom s (listOf rs) (x i) (y i) (a i))) ∙ ap (λ x. answerOf (onward x λ r c. bodyFrom s (listOf rs) (r .0) (r .1) c)) (sym w)
+      g ∙ (λ i. heldReading (bodyFrom s (listOf rs) (x i) (y i) (a i))) ∙ ap (λ x. heldReading (andThen x λ r c. bodyFrom s (listOf rs) (r .0) (r .1) c)) (sym w)
 
-  pub rest-refused : fs .ok ≡ false → (r : Answer) → r ≡ answerOf (refused (fs .number) (fs .place)) → r ≡ answerOf (functionsFrom s (listOf rs) (rs .at))
-  unfolding functionsFrom heldFunctions answerOf
+  pub rest-refused : fs .ok ≡ false → (r : MacroRead) → r ≡ heldReading (Got.refused (fs .number) (fs .place)) → r ≡ heldReading (functionsFrom s (listOf rs) (rs .at))
+  unfolding functionsFrom heldFunctions heldReading
   rest-refused k r g = g ∙ go Line h
     where
-      go : (x : Got (List ℕ × List ℕ)) → fs ≡ heldFunctions x → answerOf (refused (fs .number) (fs .place)) ≡ answerOf (onward x λ r c. bodyFrom s (listOf rs) (r .0) (r .1) c)
+      go : (x : Got (List ℕ × List ℕ)) → fs ≡ heldFunctions x → heldReading (Got.refused (fs .number) (fs .place)) ≡ heldReading (andThen x λ r c. bodyFrom s (listOf rs) (r .0) (r .1) c)
       go (got r c) e = let z = ap (λ f. f .ok) e in let y : _≡_ {A = ℕ} 0 1 = cc in absurd (omega arith)
-      go (refused n p) e = λ i. answerOf (refused (e i .number) (e i .place))
-      go exhausted e = λ i. answerOf (refused (e i .number) (e i .place))
+      go (Got.refused n p) e = λ i. heldReading (Got.refused (e i .number) (e i .place))
+      go exhausted e = λ i. heldReading (Got.refused (e i .number) (e i .place))
 
 -- ---- the whole text
 
-assoc : {A B C : Type 0} (x : Got A) (f : A → ℕ → Got B) (g : B → ℕ → Got C) (h : A → ℕ → Got C) → ((a : A) (e : ℕ) → onward (f a e) g ≡ h a e) → onward (onward x f) g ≡ onward x h
+assoc : {A B C : Type 0} (x : Got A) (f : A → ℕ → Got B) (g : B → ℕ → Got C) (h : A → ℕ → Got C) → ((a : A) (e : ℕ) → andThen (f a e) g ≡ h a e) → andThen (andThen x f) g ≡ andThen x h
 assoc (got a e) f g h k = k a e
-assoc (refused n p) f g h k = refl
+assoc (Got.refused n p) f g h k = refl
 assoc exhausted f g h k = refl
 
-pub read-long : (s : List ℕ) → longestText < length s → (r : Answer) → r ≡ answerOf (refused textTooLong 0) → r ≡ answerOf (readMacro s)
+pub read-long : (s : List ℕ) → longestText < length s → (r : MacroRead) → r ≡ heldReading (Got.refused textTooLong 0) → r ≡ heldReading (readMacro s)
 unfolding readMacro readText
 read-long s h r g = rw (lt-ltb longestText (length s) h) g
 
-steps : (s : List ℕ) → length s ≤ longestText → readMacro s ≡ onward (expect s word.vars 0) λ _ a. registersFrom s a
+steps : (s : List ℕ) → length s ≤ longestText → readMacro s ≡ andThen (expect s word.varsKey 0) λ _ a. registersFrom s a
 unfolding readMacro readText registersFrom functionsFrom bodyFrom
 steps s h =
     rw (le-ltb longestText (length s) h)
-    (assoc (expect s word.vars 0) _ (countT s) _ λ _ a.
-    assoc (registers s mostRegisters [] a) _ (countT s) _ λ rs b.
+    (assoc (expect s word.varsKey 0) _ (countT s) _ λ _ a.
+    assoc (registerNames s mostRegisters [] a) _ (countT s) _ λ rs b.
     assoc (functionsT s rs b (tokenAt s b)) _ (countT s) _ λ r c.
     assoc (block s rs (r .0) (r .1) (2 * length s + 1) deepestNesting c) _ (countT s) _ λ body e. refl)
 
-module _ (s : List ℕ) (l : length s ≤ longestText) (g : number.Got) (i : g ≡ nothing (expect s word.vars 0)) where
-  pub read-vars : (n p : ℕ) → g ≡ number.the-variants.Refused n p → (r : Answer) → r ≡ answerOf (refusedBy g) → r ≡ answerOf (readMacro s)
-  unfolding answerOf
-  read-vars n p h r e = e ∙ go (expect s word.vars 0) i ∙ ap answerOf (sym (steps s l))
+module _ (s : List ℕ) (l : length s ≤ longestText) (g : number.GotNumber) (i : g ≡ withoutValue (expect s word.varsKey 0)) where
+  pub read-vars : (n p : ℕ) → g ≡ number.the-variants.Refused n p → (r : MacroRead) → r ≡ heldReading (refusedBy g) → r ≡ heldReading (readMacro s)
+  unfolding heldReading
+  read-vars n p h r e = e ∙ go (expect s word.varsKey 0) i ∙ ap heldReading (sym (steps s l))
     where
-      go : (x : Got (Unit {0})) → g ≡ nothing x → answerOf (refusedBy g) ≡ answerOf (onward x λ _ a. registersFrom s a)
+      go : (x : Got (Unit {0})) → g ≡ withoutValue x → heldReading (refusedBy g) ≡ heldReading (andThen x λ _ a. registersFrom s a)
       go (got u e) i = let z : _≡_ {A = ℕ} 0 1 = cc in absurd (omega arith)
-      go (refused n p) i = rw i
+      go (Got.refused n p) i = rw i
       go exhausted i = rw i
 
-  module _ (v a : ℕ) (h : g ≡ number.the-variants.At v a) (rs : Registers) (e : rs ≡ heldRegisters (registers s mostRegisters [] a)) where
+  module _ (v a : ℕ) (h : g ≡ number.the-variants.At v a) (rs : Registers) (e : rs ≡ heldRegisters (registerNames s mostRegisters [] a)) where
     begun : readMacro s ≡ registersFrom s a
-    begun = let (u, x, y) = coded-at (λ _. 0) (expect s word.vars 0) g v a i h in steps s l ∙ ap (λ x. onward x λ _ a. registersFrom s a) x
+    begun = let (u, x, y) = coded-at (λ _. 0) (expect s word.varsKey 0) g v a i h in steps s l ∙ ap (λ x. andThen x λ _ a. registersFrom s a) x
 
-    names-ok : rs .ok ≡ true → (l : List ℕ) × (b : ℕ) × (registers s mostRegisters [] a ≡ got l b) × (rs .at ≡ b) × (listOf rs ≡ l) × KeptRegisters rs
+    names-ok : rs .ok ≡ true → (l : List ℕ) × (b : ℕ) × (registerNames s mostRegisters [] a ≡ got l b) × (rs .at ≡ b) × (listOf rs ≡ l) × RegistersPadded rs
     unfolding heldRegisters
-    names-ok k = go (registers s mostRegisters [] a) refl e
+    names-ok k = go (registerNames s mostRegisters [] a) refl e
       where
-        go : (x : Got (List ℕ)) → registers s mostRegisters [] a ≡ x → rs ≡ heldRegisters x
-            → (l : List ℕ) × (b : ℕ) × (registers s mostRegisters [] a ≡ got l b) × (rs .at ≡ b) × (listOf rs ≡ l) × KeptRegisters rs
+        go : (x : Got (List ℕ)) → registerNames s mostRegisters [] a ≡ x → rs ≡ heldRegisters x
+            → (l : List ℕ) × (b : ℕ) × (registerNames s mostRegisters [] a ≡ got l b) × (rs .at ≡ b) × (listOf rs ≡ l) × RegistersPadded rs
         go (got l b) w e =
             let (ks, q, D, m, z, p) = registers-sound s mostRegisters [] a l b none-declared w in
             let (a₁, k₁) = kept-list mostRegisters l (subst (λ l. length l ≤ mostRegisters) (sym q) z) in
@@ -354,25 +354,25 @@ module _ (s : List ℕ) (l : length s ≤ longestText) (g : number.Got) (i : g �
               w,
               ap (λ f. f .at) e,
               (λ i. take (ec i) (en i)) ∙ a₁,
-              subst (λ c. Kept mostRegisters (rs .names) c) (sym ec) (subst (λ x. Kept mostRegisters x (length l)) (sym en) k₁),
+              subst (λ c. NamesPadded mostRegisters (rs .names) c) (sym ec) (subst (λ x. NamesPadded mostRegisters x (length l)) (sym en) k₁),
             )
-        go (refused n p) w e = let z = ap (λ f. f .ok) e in let y : _≡_ {A = ℕ} 0 1 = cc in absurd (omega arith)
+        go (Got.refused n p) w e = let z = ap (λ f. f .ok) e in let y : _≡_ {A = ℕ} 0 1 = cc in absurd (omega arith)
         go exhausted w e = let z = ap (λ f. f .ok) e in let y : _≡_ {A = ℕ} 0 1 = cc in absurd (omega arith)
 
-    pub names-kept : rs .ok ≡ true → KeptRegisters rs
+    pub names-kept : rs .ok ≡ true → RegistersPadded rs
     names-kept k = let (l, b, w, x, y, K) = names-ok k in K
 
-    pub read-rest : rs .ok ≡ true → (r : Answer) → r ≡ answerOf (functionsFrom s (listOf rs) (rs .at)) → r ≡ answerOf (readMacro s)
+    pub read-rest : rs .ok ≡ true → (r : MacroRead) → r ≡ heldReading (functionsFrom s (listOf rs) (rs .at)) → r ≡ heldReading (readMacro s)
     unfolding registersFrom
     read-rest k r g =
         let (l, b, w, x, y, K) = names-ok k in
-        g ∙ (λ i. answerOf (functionsFrom s (y i) (x i))) ∙ ap (λ x. answerOf (onward x λ rs b. functionsFrom s rs b)) (sym w) ∙ ap answerOf (sym begun)
+        g ∙ (λ i. heldReading (functionsFrom s (y i) (x i))) ∙ ap (λ x. heldReading (andThen x λ rs b. functionsFrom s rs b)) (sym w) ∙ ap heldReading (sym begun)
 
-    pub read-refused : rs .ok ≡ false → (r : Answer) → r ≡ answerOf (refused (rs .number) (rs .place)) → r ≡ answerOf (readMacro s)
-    unfolding registersFrom heldRegisters answerOf
-    read-refused k r g = g ∙ go (registers s mostRegisters [] a) e ∙ ap answerOf (sym begun)
+    pub read-refused : rs .ok ≡ false → (r : MacroRead) → r ≡ heldReading (Got.refused (rs .number) (rs .place)) → r ≡ heldReading (readMacro s)
+    unfolding registersFrom heldRegisters heldReading
+    read-refused k r g = g ∙ go (registerNames s mostRegisters [] a) e ∙ ap heldReading (sym begun)
       where
-        go : (x : Got (List ℕ)) → rs ≡ heldRegisters x → answerOf (refused (rs .number) (rs .place)) ≡ answerOf (onward x λ rs b. functionsFrom s rs b)
+        go : (x : Got (List ℕ)) → rs ≡ heldRegisters x → heldReading (Got.refused (rs .number) (rs .place)) ≡ heldReading (andThen x λ rs b. functionsFrom s rs b)
         go (got l b) e = let z = ap (λ f. f .ok) e in let y : _≡_ {A = ℕ} 0 1 = cc in absurd (omega arith)
-        go (refused n p) e = λ i. answerOf (refused (e i .number) (e i .place))
-        go exhausted e = λ i. answerOf (refused (e i .number) (e i .place))
+        go (Got.refused n p) e = λ i. heldReading (Got.refused (e i .number) (e i .place))
+        go exhausted e = λ i. heldReading (Got.refused (e i .number) (e i .place))

@@ -1,7 +1,7 @@
 use mathlib.Core.Path.{refl}
 use Prim.Native.Nat.{_-_}
 use native.Mathlib.Omega.{arith}
-use Rattle.syntax.specs.Lists.{Kept}
+use Rattle.syntax.specs.Lists.{NamesPadded}
 use Rattle.syntax.proofs.Theory.Lists.{FunctionsLeft}
 use Rattle.syntax.proofs.Theory.Lists as law
 use borrow.Author.Needs.{needs}
@@ -18,7 +18,7 @@ use Rattle.tokens.proofs.is_name.Reads as is-name-reads
 use Rattle.tokens.proofs.next.Reads as next-reads
 
 abbrev Inv-loop : tie.InvT-loop
-Inv-loop text regs from names₀ arities₀ count₀ at₀ names arities count at = Kept 4 names count × Kept 4 arities count × FunctionsLeft text regs from names arities count at
+Inv-loop text regs from names₀ arities₀ count₀ at₀ names arities count at = NamesPadded 4 names count × NamesPadded 4 arities count × FunctionsLeft text regs from names arities count at
 
 abbrev μ-loop : tie.MeasureT-loop
 μ-loop text regs from names₀ arities₀ count₀ at₀ names arities count at = 4 - count

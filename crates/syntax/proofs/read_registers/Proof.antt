@@ -1,7 +1,7 @@
 use mathlib.Core.Path.{refl}
 use Prim.Native.Nat.{_-_}
 use native.Mathlib.Omega.{arith}
-use Rattle.syntax.specs.Lists.{Kept}
+use Rattle.syntax.specs.Lists.{NamesPadded}
 use Rattle.syntax.proofs.Theory.Lists.{RegistersLeft}
 use Rattle.syntax.proofs.Theory.Lists as law
 use borrow.Author.Needs.{needs}
@@ -16,7 +16,7 @@ use Rattle.tokens.proofs.is_name.Reads as is-name-reads
 use Rattle.tokens.proofs.next.Reads as next-reads
 
 abbrev Inv-loop : tie.InvT-loop
-Inv-loop text from names₀ count₀ at₀ names count at = Kept 8 names count × RegistersLeft text from names count at
+Inv-loop text from names₀ count₀ at₀ names count at = NamesPadded 8 names count × RegistersLeft text from names count at
 
 abbrev μ-loop : tie.MeasureT-loop
 μ-loop text from names₀ count₀ at₀ names count at = 8 - count

@@ -15,13 +15,13 @@ use Rattle.records.specs.Formats.{pairPlace}
 use Rattle.records.specs.Records.{firstFormat, recordBytes, encodedBytes, encoded, recordOf, parentIn, branchIn, samePair}
 use Rattle.records.proofs.Theory.FormatLaws as laws
 use Rattle.records.proofs.Theory.Storable.{first-sound, Storable, point-back, window-back, encoded-length}
-use Rattle.records.proofs.Theory.Agree.{Agree, point-agree, parent-agree, branch-agree, window-agree, pair-agree}
+use Rattle.records.proofs.Theory.Agree.{SameFirstBytes, point-agree, parent-agree, branch-agree, window-agree, pair-agree}
 use Rattle.records.proofs.Theory.Pairs as pairs
 use Rattle.table.specs.Table.{onward, pointAt, parentAt, branchAt, windowAt, putAt, pairAt, isAt, isListed}
 
 -- The bytes of record k's pair are those of the pair that is read of it.
-pub Kept : List ℕ → ℕ → Type 0
-Kept t k = pairAt t k ≡ encoded (pointAt t k) (windowAt t k)
+pub PairStored : List ℕ → ℕ → Type 0
+PairStored t k = pairAt t k ≡ encoded (pointAt t k) (windowAt t k)
 
 -- ---- a record that was put
 
@@ -60,7 +60,7 @@ module _ (t : List ℕ) (k : ℕ) (r : List ℕ) (fits : recordBytes * k + recor
           let z : recordBytes * k + (recordBytes + (recordBytes * j + i - recordBytes * k - recordBytes)) ≡ recordBytes * j + i = omega (arith, e) in
           subst (λ (x : ℕ). getD (putAt t k r) x 0 ≡ getD t x 0) z (behind (recordBytes * j + i - recordBytes * k - recordBytes))
 
-  pub put-agree : (j : ℕ) → j ≢ k → Agree recordBytes (onward (putAt t k r) j) (onward t j)
+  pub put-agree : (j : ℕ) → j ≢ k → SameFirstBytes recordBytes (onward (putAt t k r) j) (onward t j)
   put-agree j e =
       let n : length (onward (putAt t k r) j) ≡ length (onward t j) = length-drop (recordBytes * j) (putAt t k r)
       ∙ ap (λ (x : ℕ). x - recordBytes * j) put-length ∙ sym (length-drop (recordBytes * j) t) in
@@ -93,8 +93,8 @@ module _ (t : List ℕ) (k : ℕ) (r : List ℕ) (fits : recordBytes * k + recor
     unfolding pairAt
     pair-other = pair-agree firstFormat first-sound (onward (putAt t k r) j) (onward t j) (put-agree j e)
 
-    pub kept-other : Kept t j → Kept (putAt t k r) j
-    unfolding Kept
+    pub kept-other : PairStored t j → PairStored (putAt t k r) j
+    unfolding PairStored
     kept-other g = rw (point-other, window-other) (pair-other ∙ g)
 
 -- the record of bytes that are as many as those of a pair
@@ -146,8 +146,8 @@ module _ (t : List ℕ) (k point parent branch : ℕ) (w : Window) (fits : recor
   unfolding branchAt
   branch-same h = ap branchIn begun ∙ laws.branch-back firstFormat (encoded point w) parent branch (drop recordBytes (onward t k)) h
 
-  pub kept-same : point < 65536 → Kept put k
-  unfolding Kept
+  pub kept-same : point < 65536 → PairStored put k
+  unfolding PairStored
   kept-same h = rw (point-same h, window-same) (pair-same t k parent branch (encoded point w) fits (encoded-length point w s))
 
 -- ---- a pair that is looked for
@@ -183,8 +183,8 @@ module _ (t : List ℕ) (count point : ℕ) (w : Window) where
       (j, l, point-back point w s (onward t j) _ z h, window-back point w s (onward t j) _ z)
 
   -- what is not listed is none of the pairs below count
-  pub nowhere : isListed t count (encoded point w) ≡ false → (j : ℕ) → j < count → Kept t j → ¬ ((pointAt t j ≡ point) × (windowAt t j ≡ w))
-  unfolding isAt Kept pairAt
+  pub nowhere : isListed t count (encoded point w) ≡ false → (j : ℕ) → j < count → PairStored t j → ¬ ((pointAt t j ≡ point) × (windowAt t j ≡ w))
+  unfolding isAt PairStored pairAt
   nowhere e j h g (p, v) =
       let b : List ℕ = drop pairPlace (onward t j) in
       let f : take encodedBytes b ≡ encoded point w = g ∙ ap (λ (x : ℕ). encoded x (windowAt t j)) p ∙ ap (encoded point) v in

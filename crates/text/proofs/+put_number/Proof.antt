@@ -5,7 +5,7 @@ use mathlib.Core.List.{[], _∷_}
 use Prim.Native.Nat.{ℕ, _/_, _%_, _<_}
 use borrow.Fn.Kinds.{In}
 use borrow.Fn.PlainCycle.{Measures, is, falls, and}
-use Rattle.text.specs.Numerals.{digit, numeral}
+use Rattle.text.specs.Numerals.{digitByte, numeral}
 use Rattle.text.proofs.Theory.Numerals.{numeral-one, numeral-more}
 use Rattle.text.proofs.Theory.Appending.{room-same, room-first, room-then, appended-same, appended-then, appended-length}
 use Rattle.text.proofs.put_number.Reads as put-number
@@ -32,7 +32,7 @@ put-number-returns-2 t c =
     let a = c .before .before .before .before .before .before .before .before .before .before in
     let n : ℕ = a .args .number in
     appended-same (sym (numeral-more n (c .before .before .before .before .before .before .before .before .if1 .left)))
-    (appended-then (numeral (n / 10)) (digit (n % 10) ∷ []) (c .before .before .before .before .before .before .put-number .ensures) (c .before .before .put-byte2 .ensures))
+    (appended-then (numeral (n / 10)) (digitByte (n % 10) ∷ []) (c .before .before .before .before .before .before .put-number .ensures) (c .before .before .put-byte2 .ensures))
 
 pub +put-number-spec : {M : Type 1} → statement M
 +put-number-spec = close μ-put-number λ t. put-number-lts.spec (
@@ -55,10 +55,10 @@ pub +put-number-spec : {M : Type 1} → statement M
     (λ c κs.
     let a = c .before .before .before in
     let n : ℕ = a .args .number in
-    (omega (arith, a .pre .0, c .before .if1 .left), room-first (numeral (n / 10)) (digit (n % 10) ∷ []) (room-same (numeral-more n (c .before .if1 .left)) (a .pre .1))))
+    (omega (arith, a .pre .0, c .before .if1 .left), room-first (numeral (n / 10)) (digitByte (n % 10) ∷ []) (room-same (numeral-more n (c .before .if1 .left)) (a .pre .1))))
     (λ c κs.
     let a = c .before .before .before .before .before .before .before in
     let n : ℕ = a .args .number in
-    room-then (numeral (n / 10)) (digit (n % 10) ∷ []) (room-same (numeral-more n (c .before .before .before .before .before .if1 .left)) (a .pre .1)) (c .before .before .before .put-number .ensures))
+    room-then (numeral (n / 10)) (digitByte (n % 10) ∷ []) (room-same (numeral-more n (c .before .before .before .before .before .if1 .left)) (a .pre .1)) (c .before .before .before .put-number .ensures))
     (λ c. appended-length (c .before .before .put-byte2 .ensures) ∙ appended-length (c .before .before .before .before .before .before .put-number .ensures))
     (put-number-returns-2 t)

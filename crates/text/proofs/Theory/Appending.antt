@@ -6,7 +6,7 @@ use native.Mathlib.Nat.{add-suc, suc-add, add-zero}
 use mathlib.Core.List.{List, [], _∷_, _++_}
 use lib.ListN.{length, take, drop, set, length-append}
 use lib.Seq.{sets, sets-eq, length-sets, set-out}
-use Rattle.text.specs.Appending.{stored, Appended, Room}
+use Rattle.text.specs.Appending.{stored, Appended, PlaceInRange}
 
 -- Where there is room, that is the text between what stood before it and behind it.
 pub stored-between : (out : List ℕ) (at : ℕ) (text : List ℕ) → at + length text ≤ length out → stored out at text ≡ take at out ++ text ++ drop (at + length text) out
@@ -24,10 +24,10 @@ stored-append out at [] t = ap (λ n. sets out n t) (add-zero at)
 stored-append out at (b ∷ s) t =
     ap (λ n. sets (sets (set out at b) (suc at) s) n t) (add-suc at (length s) ∙ sym (suc-add at (length s))) ∙ stored-append (set out at b) (suc at) s t
 
-pub room-same : {at : ℕ} {s t : List ℕ} → s ≡ t → Room at s → Room at t
-room-same {at} e h = subst (λ (x : List ℕ). Room at x) e h
+pub room-same : {at : ℕ} {s t : List ℕ} → s ≡ t → PlaceInRange at s → PlaceInRange at t
+room-same {at} e h = subst (λ (x : List ℕ). PlaceInRange at x) e h
 
-pub room-first : {at : ℕ} (s t : List ℕ) → Room at (s ++ t) → Room at s
+pub room-first : {at : ℕ} (s t : List ℕ) → PlaceInRange at (s ++ t) → PlaceInRange at s
 room-first s t h = record { fits = omega (arith, h .fits, length-append s t) }
 
 module _ {entry : List ℕ} {at : ℕ} where
@@ -48,30 +48,30 @@ module _ {entry : List ℕ} {at : ℕ} where
   byte-dropped b h e = record { bytes = e ∙ sym (set-out entry at b h); place = refl }
 
 -- Of a text to be appended, `rest` is left: with it at `next`, all of it is there.
-pub record Left (entry : List ℕ) (at : ℕ) (text rest now : List ℕ) (next : ℕ) : Type 0 where
+pub record LeftToAppend (entry : List ℕ) (at : ℕ) (text rest now : List ℕ) (next : ℕ) : Type 0 where
   pub bytes : stored now next rest ≡ stored entry at text
   pub place : next + length rest ≡ at + length text
 
-pub left-all : (entry : List ℕ) (at : ℕ) (text : List ℕ) → Left entry at text text entry at
+pub left-all : (entry : List ℕ) (at : ℕ) (text : List ℕ) → LeftToAppend entry at text text entry at
 left-all entry at text = record { bytes = refl; place = refl }
 
 module _ {entry : List ℕ} {at : ℕ} {text : List ℕ} where
-  pub left-next : (s rest : List ℕ) {now exit : List ℕ} {n r : ℕ} → Left entry at text (s ++ rest) now n → Appended now n s exit r → Left entry at text rest exit r
+  pub left-next : (s rest : List ℕ) {now exit : List ℕ} {n r : ℕ} → LeftToAppend entry at text (s ++ rest) now n → Appended now n s exit r → LeftToAppend entry at text rest exit r
   left-next s rest {now} {exit} {n} {r} l a = record {
     bytes = (λ i. stored (a .bytes i) (a .place i) rest) ∙ stored-append now n s rest ∙ l .bytes;
     place = omega (arith, a .place, l .place, length-append s rest);
   }
 
-  pub left-none : {exit : List ℕ} {r : ℕ} → Left entry at text [] exit r → Appended entry at text exit r
+  pub left-none : {exit : List ℕ} {r : ℕ} → LeftToAppend entry at text [] exit r → Appended entry at text exit r
   left-none {exit} {r} l = record { bytes = sym (stored-none exit r) ∙ l .bytes; place = omega (arith, l .place) }
 
-  pub left-room : (s rest : List ℕ) {now : List ℕ} {n : ℕ} → Room at text → Left entry at text (s ++ rest) now n → Room n s
+  pub left-room : (s rest : List ℕ) {now : List ℕ} {n : ℕ} → PlaceInRange at text → LeftToAppend entry at text (s ++ rest) now n → PlaceInRange n s
   left-room s rest h l = record { fits = omega (arith, h .fits, l .place, length-append s rest) }
 
-  pub left-same : {s rest now : List ℕ} {n : ℕ} → rest ≡ s → Left entry at text rest now n → Left entry at text s now n
-  left-same {s} {rest} {now} {n} e l = subst (λ (x : List ℕ). Left entry at text x now n) e l
+  pub left-same : {s rest now : List ℕ} {n : ℕ} → rest ≡ s → LeftToAppend entry at text rest now n → LeftToAppend entry at text s now n
+  left-same {s} {rest} {now} {n} e l = subst (λ (x : List ℕ). LeftToAppend entry at text x now n) e l
 
-  pub left-length : {rest now : List ℕ} {n : ℕ} → Left entry at text rest now n → length now ≡ length entry
+  pub left-length : {rest now : List ℕ} {n : ℕ} → LeftToAppend entry at text rest now n → length now ≡ length entry
   unfolding stored
   left-length {rest} {now} {n} l = sym (length-sets now n rest) ∙ ap (λ (x : List ℕ). length x) (l .bytes) ∙ length-sets entry at text
 
@@ -82,5 +82,5 @@ appended-then {entry} {at} s t a b = record {
   place = omega (arith, a .place, b .place, length-append s t);
 }
 
-pub room-then : {entry : List ℕ} {at : ℕ} (s t : List ℕ) {middle : List ℕ} {n : ℕ} → Room at (s ++ t) → Appended entry at s middle n → Room n t
+pub room-then : {entry : List ℕ} {at : ℕ} (s t : List ℕ) {middle : List ℕ} {n : ℕ} → PlaceInRange at (s ++ t) → Appended entry at s middle n → PlaceInRange n t
 room-then s t h a = record { fits = omega (arith, h .fits, a .place, length-append s t) }

@@ -12,13 +12,13 @@ use Rattle.base.proofs.Theory.Choice.{byTest}
 use Rattle.base.proofs.Theory.Recursion.{fixed-law}
 use Rattle.tokens.specs.Bytes.{key}
 use Rattle.tokens.proofs.Theory.Keys.{TokenBytes}
-use Rattle.text.specs.Names.{step, nameText}
+use Rattle.text.specs.Names.{nameStep, nameText}
 
 pub name-law : (w : ℕ) → nameText w ≡ pick (eqb w 0) (λ _. []) λ _. w % 256 ∷ nameText (w / 256)
 unfolding nameText
-name-law w = fixed-law (λ n. n) (λ _. []) step (λ _ _. Unit {0}) (λ _. tt) (λ _ _ _. tt) local w
+name-law w = fixed-law (λ n. n) (λ _. []) nameStep (λ _ _. Unit {0}) (λ _. tt) (λ _ _ _. tt) local w
   where
-    local : (f g : ℕ → List ℕ) → ((y : ℕ) → Unit {0}) → (x : ℕ) → ((y : ℕ) → y < x → f y ≡ g y) → step f x ≡ step g x
+    local : (f g : ℕ → List ℕ) → ((y : ℕ) → Unit {0}) → (x : ℕ) → ((y : ℕ) → y < x → f y ≡ g y) → nameStep f x ≡ nameStep g x
     local f g h x a = byTest (eqb x 0) (λ t. rw t) λ t. let l = eqb-false x 0 t in rw (t, a (x / 256) (omega arith))
 
 pub name-next : (w : ℕ) → (w ≡ 0 → ⊥) → nameText w ≡ w % 256 ∷ nameText (w / 256)

@@ -9,24 +9,24 @@ use lib.ListN.{length, length-append}
 use borrow.Author.Tests.{ltb-true, ltb-false, lt-ltb, le-ltb}
 use Rattle.base.specs.Choice.{pick}
 use Rattle.base.proofs.Theory.Choice.{byTest}
-use Rattle.base.specs.Recursion.{run, fixed}
+use Rattle.base.specs.Recursion.{withinCalls, fixed}
 use Rattle.base.proofs.Theory.Recursion.{fixed-law}
-use Rattle.text.specs.Numerals.{digit, step, numeral}
+use Rattle.text.specs.Numerals.{digitByte, numeralStep, numeral}
 
-pub numeral-law : (n : ℕ) → numeral n ≡ pick (ltb n 10) (λ _. digit n ∷ []) λ _. numeral (n / 10) ++ (digit (n % 10) ∷ [])
+pub numeral-law : (n : ℕ) → numeral n ≡ pick (ltb n 10) (λ _. digitByte n ∷ []) λ _. numeral (n / 10) ++ (digitByte (n % 10) ∷ [])
 unfolding numeral
-numeral-law n = fixed-law (λ n. n) (λ _. []) step (λ _ _. Unit {0}) (λ _. tt) (λ _ _ _. tt) local n
+numeral-law n = fixed-law (λ n. n) (λ _. []) numeralStep (λ _ _. Unit {0}) (λ _. tt) (λ _ _ _. tt) local n
   where
-    local : (f g : ℕ → List ℕ) → ((y : ℕ) → Unit {0}) → (x : ℕ) → ((y : ℕ) → y < x → f y ≡ g y) → step f x ≡ step g x
+    local : (f g : ℕ → List ℕ) → ((y : ℕ) → Unit {0}) → (x : ℕ) → ((y : ℕ) → y < x → f y ≡ g y) → numeralStep f x ≡ numeralStep g x
     local f g h x a = byTest (ltb x 10) (λ t. rw t) λ t. let l = ltb-false x 10 t in rw (t, a (x / 10) (omega arith))
 
-pub numeral-one : (n : ℕ) → n < 10 → numeral n ≡ digit (n % 10) ∷ []
-numeral-one n h = rw (numeral-law n, lt-ltb n 10 h) (ap (λ (d : ℕ). digit d ∷ []) (small n h))
+pub numeral-one : (n : ℕ) → n < 10 → numeral n ≡ digitByte (n % 10) ∷ []
+numeral-one n h = rw (numeral-law n, lt-ltb n 10 h) (ap (λ (d : ℕ). digitByte d ∷ []) (small n h))
   where
     small : (n : ℕ) → n < 10 → n ≡ n % 10
     small n h = omega arith
 
-pub numeral-more : (n : ℕ) → 10 ≤ n → numeral n ≡ numeral (n / 10) ++ (digit (n % 10) ∷ [])
+pub numeral-more : (n : ℕ) → 10 ≤ n → numeral n ≡ numeral (n / 10) ++ (digitByte (n % 10) ∷ [])
 numeral-more n h = numeral-law n ∙ rw (le-ltb n 10 h)
 
 -- A fact of every number, where it holds of one digit and passes from the tenth of a number to the number.
@@ -41,7 +41,7 @@ abbrev pub numberAfter : ℕ → List ℕ → ℕ
 numberAfter high [] = high
 numberAfter high (c ∷ s) = numberAfter (high * 10 + (c - 48)) s
 
-number-last : (high : ℕ) (s : List ℕ) (d : ℕ) → numberAfter high (s ++ (digit d ∷ [])) ≡ numberAfter high s * 10 + d
+number-last : (high : ℕ) (s : List ℕ) (d : ℕ) → numberAfter high (s ++ (digitByte d ∷ [])) ≡ numberAfter high s * 10 + d
 number-last high [] d = omega arith
 number-last high (c ∷ s) d = number-last (high * 10 + (c - 48)) s d
 
@@ -61,7 +61,7 @@ abbrev pub Digits : List ℕ → Type 0
 Digits [] = Unit {0}
 Digits (c ∷ s) = (48 ≤ c) × (c ≤ 57) × Digits s
 
-digits-last : (s : List ℕ) (d : ℕ) → d < 10 → Digits s → Digits (s ++ (digit d ∷ []))
+digits-last : (s : List ℕ) (d : ℕ) → d < 10 → Digits s → Digits (s ++ (digitByte d ∷ []))
 digits-last [] d h t = (omega arith, omega arith, tt)
 digits-last (c ∷ s) d h t = (t .0, t .1, digits-last s d h (t .2))
 
@@ -72,18 +72,18 @@ numeral-digits n = by-digits (λ n. Digits (numeral n))
     (suc n) n (omega arith)
 
 -- The first digit is not 0, unless the number is.
-abbrev pub Leads : ℕ → List ℕ → Type 0
-Leads n [] = ⊥
-Leads n (c ∷ s) = 0 < n → 48 < c
+abbrev pub LeadingDigit : ℕ → List ℕ → Type 0
+LeadingDigit n [] = ⊥
+LeadingDigit n (c ∷ s) = 0 < n → 48 < c
 
-leads-last : (m n : ℕ) (s : List ℕ) (d : ℕ) → 0 < m → Leads m s → Leads n (s ++ (d ∷ []))
+leads-last : (m n : ℕ) (s : List ℕ) (d : ℕ) → 0 < m → LeadingDigit m s → LeadingDigit n (s ++ (d ∷ []))
 leads-last m n [] d h t = absurd t
 leads-last m n (c ∷ s) d h t = λ _. t h
 
-pub numeral-leads : (n : ℕ) → Leads n (numeral n)
-numeral-leads n = by-digits (λ n. Leads n (numeral n))
+pub numeral-leads : (n : ℕ) → LeadingDigit n (numeral n)
+numeral-leads n = by-digits (λ n. LeadingDigit n (numeral n))
     (λ n h. rw (numeral-law n, lt-ltb n 10 h) (λ z. omega arith))
-    (λ n h e. rw (numeral-law n, le-ltb n 10 h) (leads-last (n / 10) n (numeral (n / 10)) (digit (n % 10)) (omega arith) e))
+    (λ n h e. rw (numeral-law n, le-ltb n 10 h) (leads-last (n / 10) n (numeral (n / 10)) (digitByte (n % 10)) (omega arith) e))
     (suc n) n (omega arith)
 
 -- A number below 10 to the k has at most k digits.
@@ -98,9 +98,9 @@ numeral-length (suc k) n h = byTest (ltb n 10)
 
 -- Two of them.
 pub numeral-zero : numeral 0 ≡ 48 ∷ []
-unfolding numeral fixed run
+unfolding numeral fixed withinCalls
 numeral-zero = refl
 
 pub numeral-341 : numeral 341 ≡ 51 ∷ 52 ∷ 49 ∷ []
-unfolding numeral fixed run
+unfolding numeral fixed withinCalls
 numeral-341 = refl

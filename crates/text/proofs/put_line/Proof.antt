@@ -1,14 +1,14 @@
 use borrow.Author.Needs.{needs}
 use Prim.Native.Nat.{_+_, _-_}
 use lib.ListN.{length, getD, drop}
-use Rattle.text.proofs.Theory.Appending.{Left, left-all, left-next, left-none, left-room, left-same, left-length}
+use Rattle.text.proofs.Theory.Appending.{LeftToAppend, left-all, left-next, left-none, left-room, left-same, left-length}
 use Rattle.text.specs.Templates.{part, filledIn}
 use Rattle.text.proofs.Theory.Templates.{filled-next, filled-none}
 use Rattle.text.proofs.put_line.Statement.{statement}
 use Rattle.text.proofs.put_line.Tie as tie
 
 abbrev Inv-loop : tie.InvT-loop
-Inv-loop out₀ at template fields next₀ i₀ out next i = Left out₀ at (filledIn template fields) (filledIn (drop i template) fields) out next
+Inv-loop out₀ at template fields next₀ i₀ out next i = LeftToAppend out₀ at (filledIn template fields) (filledIn (drop i template) fields) out next
 
 abbrev μ-loop : tie.MeasureT-loop
 μ-loop out₀ at template fields next₀ i₀ out next i = length template - i

@@ -3,12 +3,12 @@ use mathlib.Core.List.{[], _∷_}
 use Prim.Native.Nat.{_/_, _%_}
 use Rattle.text.specs.Names.{nameText}
 use Rattle.text.proofs.Theory.Names.{name-next, name-none}
-use Rattle.text.proofs.Theory.Appending.{Left, left-all, left-next, left-none, left-room, left-same, left-length}
+use Rattle.text.proofs.Theory.Appending.{LeftToAppend, left-all, left-next, left-none, left-room, left-same, left-length}
 use Rattle.text.proofs.put_name.Statement.{statement}
 use Rattle.text.proofs.put_name.Tie as tie
 
 abbrev Inv-loop : tie.InvT-loop
-Inv-loop out₀ at name next₀ rest₀ out next rest = Left out₀ at (nameText name) (nameText rest) out next
+Inv-loop out₀ at name next₀ rest₀ out next rest = LeftToAppend out₀ at (nameText name) (nameText rest) out next
 
 abbrev μ-loop : tie.MeasureT-loop
 μ-loop out₀ at name next₀ rest₀ out next rest = rest

@@ -12,7 +12,7 @@ use lib.Seq.{drop-cons, getD-drop, slice, slice-cons, slice-empty}
 use borrow.Author.Tests.{eq-eqb, ne-eqb, le-leb, lt-leb, leb-true, eqb-true}
 use Rattle.base.specs.Choice.{pick}
 use Rattle.base.proofs.Theory.Choice.{byTest}
-use Rattle.tokens.specs.Bytes.{blank, inner, lower, symbol, mark, gap, run, width, key}
+use Rattle.tokens.specs.Bytes.{blank, inner, lower, symbol, mark, gap, nameLength, width, key}
 
 module _ (s : List ℕ) (at : ℕ) where
   pub gap-out : (c : Bool) → length s ≤ at → gap c (drop at s) ≡ 0
@@ -36,16 +36,16 @@ module _ (s : List ℕ) (at : ℕ) where
   unfolding gap
   gap-stop h e f = rw (drop-cons s at 0 h, e, f)
 
-  pub run-out : length s ≤ at → run (drop at s) ≡ 0
-  unfolding run
+  pub run-out : length s ≤ at → nameLength (drop at s) ≡ 0
+  unfolding nameLength
   run-out h = rw (drop-of-length-le s h)
 
-  pub run-more : at < length s → inner (getD s at 0) ≡ true → run (drop at s) ≡ suc (run (drop (at + 1) s))
-  unfolding run
+  pub run-more : at < length s → inner (getD s at 0) ≡ true → nameLength (drop at s) ≡ suc (nameLength (drop (at + 1) s))
+  unfolding nameLength
   run-more h e = rw (add-one, drop-cons s at 0 h, e)
 
-  pub run-stop : at < length s → inner (getD s at 0) ≡ false → run (drop at s) ≡ 0
-  unfolding run
+  pub run-stop : at < length s → inner (getD s at 0) ≡ false → nameLength (drop at s) ≡ 0
+  unfolding nameLength
   run-stop h e = rw (drop-cons s at 0 h, e)
 
 -- ---- the turns of the loops over a text, from a place `from` on
@@ -53,16 +53,16 @@ module _ (s : List ℕ) (at : ℕ) where
 module _ (s : List ℕ) (from at : ℕ) where
   -- what is left at the place `at`
   abbrev pub Run : Type 0
-  Run = from + run (drop from s) ≡ at + run (drop at s)
+  Run = from + nameLength (drop from s) ≡ at + nameLength (drop at s)
 
   abbrev pub Gap : Bool → Type 0
   Gap c = from + gap false (drop from s) ≡ at + gap c (drop at s)
 
 module _ (s : List ℕ) (from at : ℕ) where
-  pub run-ended : length s ≤ at → Run s from at → at ≡ from + run (drop from s)
+  pub run-ended : length s ≤ at → Run s from at → at ≡ from + nameLength (drop from s)
   run-ended h i = omega (arith, run-out s at h)
 
-  pub run-halted : (r : Bool) → at < length s → r ≡ inner (getD s at 0) → r ≡ false → Run s from at → at ≡ from + run (drop from s)
+  pub run-halted : (r : Bool) → at < length s → r ≡ inner (getD s at 0) → r ≡ false → Run s from at → at ≡ from + nameLength (drop from s)
   run-halted r h e f i = omega (arith, run-stop s at h (sym e ∙ f))
 
   pub run-turn : (r : Bool) → at < length s → r ≡ inner (getD s at 0) → r ≡ true → Run s from at → Run s from (at + 1)
@@ -138,18 +138,18 @@ module _ (s : List ℕ) (at : ℕ) (h : at < length s) where
   second = let e : suc at + 0 ≡ at + 1 = omega arith in getD-drop (suc at) s 0 0 ∙ ap (λ n. getD s n 0) e
 
   width-law : width (drop at s) ≡
-      pick (lower (getD s at 0)) (λ _. pick (leb (run (drop at s)) 8) (λ _. run (drop at s)) λ _. 0)
+      pick (lower (getD s at 0)) (λ _. pick (leb (nameLength (drop at s)) 8) (λ _. nameLength (drop at s)) λ _. 0)
       λ _. pick (mark (getD s at 0)) (λ _. pick (eqb (getD s (at + 1) 0) 61) (λ _. 2) λ _. 0)
       λ _. pick (symbol (getD s at 0)) (λ _. 1) λ _. 0
   unfolding width
   width-law = rw (drop-cons s at 0 h, second)
 
   module _ (l : Bool) (e : l ≡ lower (getD s at 0)) where
-    pub width-name : (n : ℕ) → l ≡ true → n ≡ at + run (drop at s) → n - at ≤ 8 → n - at ≡ width (drop at s)
-    width-name n t f g = let k : run (drop at s) ≡ n - at = omega arith in rw (width-law, ← e, t, k, le-leb (n - at) 8 g)
+    pub width-name : (n : ℕ) → l ≡ true → n ≡ at + nameLength (drop at s) → n - at ≤ 8 → n - at ≡ width (drop at s)
+    width-name n t f g = let k : nameLength (drop at s) ≡ n - at = omega arith in rw (width-law, ← e, t, k, le-leb (n - at) 8 g)
 
-    pub width-long : (n : ℕ) → l ≡ true → n ≡ at + run (drop at s) → 8 < n - at → 0 ≡ width (drop at s)
-    width-long n t f g = let k : run (drop at s) ≡ n - at = omega arith in rw (width-law, ← e, t, k, lt-leb (n - at) 8 g)
+    pub width-long : (n : ℕ) → l ≡ true → n ≡ at + nameLength (drop at s) → 8 < n - at → 0 ≡ width (drop at s)
+    width-long n t f g = let k : nameLength (drop at s) ≡ n - at = omega arith in rw (width-law, ← e, t, k, lt-leb (n - at) 8 g)
 
     module _ (t : l ≡ false) (m : Bool) (f : m ≡ mark (getD s at 0)) where
       pub width-pair : m ≡ true → getD s (at + 1) 0 ≡ 61 → 2 ≡ width (drop at s)
@@ -167,8 +167,8 @@ module _ (s : List ℕ) (at : ℕ) (h : at < length s) where
       pub width-none : (y : Bool) → m ≡ false → y ≡ symbol (getD s at 0) → y ≡ false → 0 ≡ width (drop at s)
       width-none y u g v = rw (width-law, ← e, t, ← f, u, ← g, v)
 
-run-le : (s : List ℕ) → run s ≤ length s
-unfolding run
+run-le : (s : List ℕ) → nameLength s ≤ length s
+unfolding nameLength
 run-le [] = omega arith
 run-le (b ∷ s) = byTest (inner b) (λ t. rw t (omega (arith, run-le s))) λ t. rw t (omega arith)
 
@@ -177,7 +177,7 @@ pub width-le : (s : List ℕ) → (width s ≤ length s) × (width s ≤ 8)
 unfolding width
 width-le [] = (omega arith, omega arith)
 width-le (b ∷ s) =
-    byTest (lower b) (λ t. rw t (byTest (leb (run (b ∷ s)) 8) (λ u. rw u (omega (arith, run-le (b ∷ s)), leb-true _ _ u)) λ u. rw u (omega arith, omega arith)))
+    byTest (lower b) (λ t. rw t (byTest (leb (nameLength (b ∷ s)) 8) (λ u. rw u (omega (arith, run-le (b ∷ s)), leb-true _ _ u)) λ u. rw u (omega arith, omega arith)))
     λ t. rw t (byTest (mark b) (λ u. rw u (byTest (eqb (getD s 0 0) 61) (λ v. rw v (pair s (eqb-true _ _ v))) λ v. rw v (omega arith, omega arith)))
     λ u. rw u (byTest (symbol b) (λ v. rw v (omega arith, omega arith)) λ v. rw v (omega arith, omega arith)))
   where

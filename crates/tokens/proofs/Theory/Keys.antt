@@ -11,7 +11,7 @@ use lib.ListN.{length, getD, take, drop}
 use lib.Seq.{slice}
 use borrow.Author.Tests.{eqb-true, eq-eqb, ne-eqb, le-leb, lt-leb}
 use Rattle.base.proofs.Theory.Choice.{byTest}
-use Rattle.tokens.specs.Bytes.{lower, inner, mark, symbol, gap, run, width, key}
+use Rattle.tokens.specs.Bytes.{lower, inner, mark, symbol, gap, nameLength, width, key}
 use Rattle.tokens.specs.Tokens.{tokenAt}
 use Rattle.tokens.specs.Words.{sameName}
 
@@ -85,8 +85,8 @@ symbol-byte = byte-by symbol refl high
           other b 47 l (omega arith),
         ) refl
 
-run-bytes : (l : List ℕ) (w : ℕ) → w ≤ run l → TokenBytes (take w l)
-unfolding run
+run-bytes : (l : List ℕ) (w : ℕ) → w ≤ nameLength l → TokenBytes (take w l)
+unfolding nameLength
 run-bytes [] zero = λ h. tt
 run-bytes [] (suc w) = λ h. absurd (omega arith)
 run-bytes (b ∷ l) zero = λ h. tt
@@ -98,7 +98,7 @@ width-bytes : (l : List ℕ) → TokenBytes (take (width l) l)
 unfolding width
 width-bytes [] = tt
 width-bytes (b ∷ s) = byTest (lower b)
-    (λ t. rw t (byTest (leb (run (b ∷ s)) 8) (λ u. rw u (run-bytes (b ∷ s) (run (b ∷ s)) (omega arith))) (λ u. rw u tt)))
+    (λ t. rw t (byTest (leb (nameLength (b ∷ s)) 8) (λ u. rw u (run-bytes (b ∷ s) (nameLength (b ∷ s)) (omega arith))) (λ u. rw u tt)))
     λ t. rw t (byTest (mark b)
     (λ u. rw u (byTest (eqb (getD s 0 0) 61) (λ v. rw v (pair s v (mark-byte b u))) (λ v. rw v tt)))
     λ u. rw u (byTest (symbol b) (λ v. rw v (let (p, q) = symbol-byte b v in (p, q, tt))) (λ v. rw v tt)))

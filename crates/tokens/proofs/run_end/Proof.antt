@@ -3,7 +3,7 @@ use mathlib.Core.Path.{_≡_}
 use Prim.Native.Nat.{_+_, _-_}
 use lib.ListN.{length, drop}
 use borrow.Author.Needs.{needs}
-use Rattle.tokens.specs.Bytes.{run}
+use Rattle.tokens.specs.Bytes.{nameLength}
 use Rattle.tokens.proofs.Theory.BytesLaws.{run-ended, run-halted, run-turn}
 use Rattle.tokens.proofs.run_end.Statement.{statement}
 use Rattle.tokens.proofs.run_end.Tie as tie
@@ -12,7 +12,7 @@ use Rattle.tokens.proofs.run_end.Lts as lts
 use Rattle.tokens.proofs.is_inner.Reads as is-inner-reads
 
 abbrev Inv-loop : tie.InvT-loop
-Inv-loop text from at₀ at = from + run (drop from text) ≡ at + run (drop at text)
+Inv-loop text from at₀ at = from + nameLength (drop from text) ≡ at + nameLength (drop at text)
 
 abbrev μ-loop : tie.MeasureT-loop
 μ-loop text from at₀ at = length text - at

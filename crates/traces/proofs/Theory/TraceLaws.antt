@@ -22,7 +22,7 @@ use Rattle.letters.specs.Words.{headerFields, headerWord, letterFields, letterW
 use Rattle.letters.specs.Coding.{decodeHeader}
 use Rattle.letters.specs.Roomy.{Roomy}
 use Rattle.letters.proofs.Theory.WordLaws.{decode-header, decode-letter}
-use Rattle.traces.specs.Reading.{Reading, trace, refused, octets, parts, before, lettersFrom, beginning, letterCount, letterIn, lettersOf, readingWhere, reading}
+use Rattle.traces.specs.Reading.{TraceReading, trace, octets, chunks, prependLetter, lettersFrom, beginning, letterCount, letterIn, lettersOf, readingWhere, reading}
 use Rattle.traces.specs.ReadingParts.{letterAt}
 use Rattle.traces.specs.Traces.{AllFit, units, bytesOf, packing}
 use Rattle.traces.specs.Traces.{Bytes}
@@ -35,13 +35,13 @@ Decoded decode (x ∷ codes) [] = ⊥
 Decoded decode (x ∷ codes) (l ∷ ls) = (decode x ≡ value l) × Decoded decode codes ls
 
 -- A refusal is no trace.
-pub not-trace : {a b : ℕ} {g : Header} {ls : List Letter} → refused a b ≡ trace g ls → ⊥
+pub not-trace : {a b : ℕ} {g : Header} {ls : List Letter} → TraceReading.refused a b ≡ trace g ls → ⊥
 not-trace e = let z : _≡_ {A = ℕ} 0 1 = cc in omega arith
 
 -- ---- the reading of a list of codes
 
 module _ {A : Type 0} (decode : A → Answer Letter) (h : Header) where
-  first-letter : (n : ℕ) (x : A) (codes : List A) → lettersFrom decode h n (x ∷ codes) ≡ onAnswer (decode x) (λ l. before l (lettersFrom decode h (n + 1) codes)) λ _ _. refused 4 n
+  first-letter : (n : ℕ) (x : A) (codes : List A) → lettersFrom decode h n (x ∷ codes) ≡ onAnswer (decode x) (λ l. prependLetter l (lettersFrom decode h (n + 1) codes)) λ _ _. TraceReading.refused 4 n
   unfolding lettersFrom
   first-letter n x codes = refl
 
@@ -60,13 +60,13 @@ module _ {A : Type 0} (decode : A → Answer Letter) (h : Header) where
       by-answer (λ ls q. letters-decoded (n + 1) codes g ls q) (decode x) refl (lettersFrom decode h (n + 1) codes) refl (sym (first-letter n x codes) ∙ e)
     where
       by-reading : ((ls : List Letter) → lettersFrom decode h (n + 1) codes ≡ trace g ls → (g ≡ h) × Decoded decode codes ls)
-          → (l : Letter) (ls : List Letter) (r : Reading) → decode x ≡ value l → lettersFrom decode h (n + 1) codes ≡ r → before l r ≡ trace g ls → (g ≡ h) × Decoded decode (x ∷ codes) ls
+          → (l : Letter) (ls : List Letter) (r : TraceReading) → decode x ≡ value l → lettersFrom decode h (n + 1) codes ≡ r → prependLetter l r ≡ trace g ls → (g ≡ h) × Decoded decode (x ∷ codes) ls
       by-reading rest l [] (trace k ms) q p e = let z : _≡_ {A = ℕ} 0 1 = cc in absurd (omega arith)
       by-reading rest l (m ∷ ls) (trace k ms) q p e = let d = rest ls (p ∙ cc) in (d .0, (q ∙ cc, d .1))
-      by-reading rest l ls (refused a b) q p e = absurd (not-trace e)
+      by-reading rest l ls (TraceReading.refused a b) q p e = absurd (not-trace e)
 
       by-answer : ((ls : List Letter) → lettersFrom decode h (n + 1) codes ≡ trace g ls → (g ≡ h) × Decoded decode codes ls)
-          → (a : Answer Letter) → decode x ≡ a → (r : Reading) → lettersFrom decode h (n + 1) codes ≡ r → onAnswer a (λ l. before l r) (λ _ _. refused 4 n) ≡ trace g ls
+          → (a : Answer Letter) → decode x ≡ a → (r : TraceReading) → lettersFrom decode h (n + 1) codes ≡ r → onAnswer a (λ l. prependLetter l r) (λ _ _. TraceReading.refused 4 n) ≡ trace g ls
           → (g ≡ h) × Decoded decode (x ∷ codes) ls
       by-answer rest (value l) q r p e = by-reading rest l ls r q p e
       by-answer rest (refusal a b) q r p e = absurd (not-trace e)
@@ -79,8 +79,8 @@ module _ {A : Type 0} (decode : A → Answer Letter) (h : Header) where
 
 -- ---- units
 
-pub parts-length : (n k : ℕ) (s : List ℕ) → length (parts n k s) ≡ k
-unfolding parts
+pub parts-length : (n k : ℕ) (s : List ℕ) → length (chunks n k s) ≡ k
+unfolding chunks
 parts-length n zero s = refl
 parts-length n (suc k) s = ap suc (parts-length n k (drop n s))
 
@@ -124,8 +124,8 @@ module _ (e : Edition) (r : Roomy e) where
   letter-back h l v f = unit-back _ (rw (r .letter-total) at (join-lt (e .letter) (letterFields h l) (r .letter-sized h l v f)))
 
   -- the letters' bytes are read as the letters
-  packed-decoded : (h : Header) (ls : List Letter) → HeaderFits e h → AllFit h ls → Decoded (letterIn e h) (parts (e .bytes) (length ls) (bytesOf e (map (letterWord e h) ls))) ls
-  unfolding parts units
+  packed-decoded : (h : Header) (ls : List Letter) → HeaderFits e h → AllFit h ls → Decoded (letterIn e h) (chunks (e .bytes) (length ls) (bytesOf e (map (letterWord e h) ls))) ls
+  unfolding chunks units
   packed-decoded h [] v f = tt
   packed-decoded h (l ∷ ls) v f =
       rw (take-at (split (octets e) (letterWord e h l)) (bytesOf e (map (letterWord e h) ls)) (e .bytes) (unit-length _), drop-at (split (octets e) (letterWord e h l)) (bytesOf e (map (letterWord e h) ls)) (e .bytes) (unit-length _), letter-back h l v (f .0))
@@ -143,7 +143,7 @@ module _ (e : Edition) (r : Roomy e) where
       let quotient : length (first ++ rest) / e .bytes ≡ suc (length ls) = rw long (mul-div-right (suc (length ls)) (r .some)) in
       let count : length (first ++ rest) / e .bytes - 1 ≡ length ls = rw quotient (omega arith) in
       rw (le-ltb (length (first ++ rest)) (e .bytes) enough, eq-eqb (length (first ++ rest) % e .bytes) 0 whole, take-at first rest (e .bytes) (unit-length _), header-back h v, decode-header r (headerWord e h) h .1 (v, refl), count, drop-at first rest (e .bytes) (unit-length _))
-      (decoded-letters (letterIn e h) h 1 (parts (e .bytes) (length ls) rest) ls (packed-decoded h ls v f))
+      (decoded-letters (letterIn e h) h 1 (chunks (e .bytes) (length ls) rest) ls (packed-decoded h ls v f))
 
   -- ---- what a reading that is a trace tells
 
@@ -151,7 +151,7 @@ module _ (e : Edition) (r : Roomy e) where
     pub enough : e .bytes ≤ length s
     pub whole : length s % e .bytes ≡ 0
     pub header : decodeHeader e (join (octets e) (take (e .bytes) s)) ≡ value h
-    pub letters : Decoded (letterIn e h) (parts (e .bytes) (letterCount e s) (drop (e .bytes) s)) ls
+    pub letters : Decoded (letterIn e h) (chunks (e .bytes) (letterCount e s) (drop (e .bytes) s)) ls
 
   pub read : (s : List ℕ) (h : Header) (ls : List Letter) → reading e s ≡ trace h ls → Read s h ls
   unfolding readingWhere beginning lettersOf
@@ -162,17 +162,17 @@ module _ (e : Edition) (r : Roomy e) where
       λ u. rw u λ q. absurd (not-trace q))
     where
       by-header : (a : Answer Header) → decodeHeader e (join (octets e) (take (e .bytes) s)) ≡ a → e .bytes ≤ length s → length s % e .bytes ≡ 0
-          → onAnswer a (λ g. lettersFrom (letterIn e g) g 1 (parts (e .bytes) (letterCount e s) (drop (e .bytes) s))) refused ≡ trace h ls → Read s h ls
+          → onAnswer a (λ g. lettersFrom (letterIn e g) g 1 (chunks (e .bytes) (letterCount e s) (drop (e .bytes) s))) TraceReading.refused ≡ trace h ls → Read s h ls
       by-header (refusal a b) d l w q = absurd (not-trace q)
       by-header (value g) d l w q =
-          let x = letters-decoded (letterIn e g) g 1 (parts (e .bytes) (letterCount e s) (drop (e .bytes) s)) h ls q in
-          subst (λ g. decodeHeader e (join (octets e) (take (e .bytes) s)) ≡ value g → Decoded (letterIn e g) (parts (e .bytes) (letterCount e s) (drop (e .bytes) s)) ls → Read s h ls) (x .0)
+          let x = letters-decoded (letterIn e g) g 1 (chunks (e .bytes) (letterCount e s) (drop (e .bytes) s)) h ls q in
+          subst (λ g. decodeHeader e (join (octets e) (take (e .bytes) s)) ≡ value g → Decoded (letterIn e g) (chunks (e .bytes) (letterCount e s) (drop (e .bytes) s)) ls → Read s h ls) (x .0)
           (λ d y. record { enough = l; whole = w; header = d; letters = y }) d (x .1)
 
   -- the number of letters that were read
   pub read-count : (s : List ℕ) (h : Header) (ls : List Letter) → reading e s ≡ trace h ls → letterCount e s ≡ length ls
   read-count s h ls q =
-      let codes = parts (e .bytes) (letterCount e s) (drop (e .bytes) s) in
+      let codes = chunks (e .bytes) (letterCount e s) (drop (e .bytes) s) in
       sym (parts-length (e .bytes) (letterCount e s) (drop (e .bytes) s)) ∙ decoded-length (letterIn e h) h codes ls (read s h ls q .letters)
 
   all-fit : (h : Header) (codes : List (List ℕ)) (ls : List Letter) → Decoded (letterIn e h) codes ls → AllFit h ls
@@ -183,12 +183,12 @@ module _ (e : Edition) (r : Roomy e) where
 
   -- What is read is well formed.
   pub reading-fits : (s : List ℕ) (h : Header) (ls : List Letter) → reading e s ≡ trace h ls → HeaderFits e h × AllFit h ls
-  reading-fits s h ls q = let x = read s h ls q in (decode-header r _ h .0 (x .header) .0, all-fit h (parts (e .bytes) (letterCount e s) (drop (e .bytes) s)) ls (x .letters))
+  reading-fits s h ls q = let x = read s h ls q in (decode-header r _ h .0 (x .header) .0, all-fit h (chunks (e .bytes) (letterCount e s) (drop (e .bytes) s)) ls (x .letters))
 
   -- the bytes of letters that were read from k units
-  letters-bytes : (h : Header) (k : ℕ) (s : List ℕ) (ls : List Letter) → length s ≡ e .bytes * k → Bytes s → Decoded (letterIn e h) (parts (e .bytes) k s) ls
+  letters-bytes : (h : Header) (k : ℕ) (s : List ℕ) (ls : List Letter) → length s ≡ e .bytes * k → Bytes s → Decoded (letterIn e h) (chunks (e .bytes) k s) ls
       → bytesOf e (map (letterWord e h) ls) ≡ s
-  unfolding parts units
+  unfolding chunks units
   letters-bytes h zero [] [] l b d = refl
   letters-bytes h zero (x ∷ s) [] l b d = absurd (omega (arith, mul-zero (e .bytes)))
   letters-bytes h zero s (x ∷ ls) l b d = absurd d
@@ -216,16 +216,16 @@ module _ (e : Edition) (r : Roomy e) where
       rw (v, letters-bytes h k (drop (e .bytes) s) ls m (bytes-drop (e .bytes) s b) (x .letters)) (take-append-drop (e .bytes) s)
 
   -- Bytes that are refused are the packing of no well-formed trace.
-  pub refused-packing : (s : List ℕ) (number place : ℕ) → reading e s ≡ refused number place → (h : Header) (ls : List Letter) → HeaderFits e h → AllFit h ls → packing e h ls ≡ s → ⊥
+  pub refused-packing : (s : List ℕ) (number place : ℕ) → reading e s ≡ TraceReading.refused number place → (h : Header) (ls : List Letter) → HeaderFits e h → AllFit h ls → packing e h ls ≡ s → ⊥
   refused-packing s number place q h ls v f p =
       let t : reading e s ≡ trace h ls = subst (λ s. reading e s ≡ trace h ls) p (reading-packing h ls v f) in
       let z : _≡_ {A = ℕ} 0 1 = cc in omega arith
 
   -- ---- one letter of a trace
 
-  decoded-at : (h : Header) (n : ℕ) (s : List ℕ) (ls : List Letter) (k : ℕ) (none : Letter) → k < length ls → Decoded (letterIn e h) (parts (e .bytes) n s) ls
+  decoded-at : (h : Header) (n : ℕ) (s : List ℕ) (ls : List Letter) (k : ℕ) (none : Letter) → k < length ls → Decoded (letterIn e h) (chunks (e .bytes) n s) ls
       → letterIn e h (take (e .bytes) (drop (e .bytes * k) s)) ≡ value (getD ls k none)
-  unfolding parts
+  unfolding chunks
   decoded-at h n s [] k none l d = absurd (omega arith)
   decoded-at h zero s (x ∷ ls) k none l d = absurd d
   decoded-at h (suc n) s (x ∷ ls) zero none l d = rw (mul-zero (e .bytes)) (rw (drop-zero s) (d .0))

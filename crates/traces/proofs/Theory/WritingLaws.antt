@@ -22,12 +22,12 @@ use Rattle.letters.specs.Letters.{HeaderFits}
 use Rattle.letters.specs.Coding.{headerTest, fitsTest, letterBy}
 use Rattle.letters.proofs.Theory.WordLaws.{and-true, chosen, header-test, fits-test}
 use Rattle.letters.specs.Roomy.{Roomy}
-use Rattle.traces.specs.Reading.{Reading, trace, refused, parts, reading}
+use Rattle.traces.specs.Reading.{TraceReading, trace, chunks, reading}
 use Rattle.traces.specs.Traces.{AllFit, packing}
 use Rattle.traces.specs.Traces.{Bytes}
 use Rattle.traces.proofs.Theory.TraceLaws.{Decoded, decoded-letters, letters-decoded, reading-packing, reading-fits, packing-reading}
 use Rattle.traces.specs.Writing.{plainFields, unpackedBytes, plainTest, plainLetter, unpackLetter, unpackedParts}
-use Rattle.traces.specs.Writing.{unpacking, writtenLength, writtenOver, Wrote}
+use Rattle.traces.specs.Writing.{unpacking, writtenLength, writtenOver, WroteTrace}
 
 -- ---- one letter
 
@@ -105,8 +105,8 @@ pub unpacked-length : (h : Header) (ls : List Letter) → length (unpackedBytes 
 unpacked-length h [] = refl
 unpacked-length h (l ∷ ls) = rw (length-append, plain-length h l, unpacked-length h ls) (omega arith)
 
-unpacked-decoded : (h : Header) (ls : List Letter) → AllFit h ls → Decoded (unpackLetter h) (parts 5 (length ls) (unpackedBytes h ls)) ls
-unfolding parts
+unpacked-decoded : (h : Header) (ls : List Letter) → AllFit h ls → Decoded (unpackLetter h) (chunks 5 (length ls) (unpackedBytes h ls)) ls
+unfolding chunks
 unpacked-decoded h [] f = tt
 unpacked-decoded h (l ∷ ls) f =
     rw (take-at (plainFields h l) (unpackedBytes h ls) 5 (plain-length h l), drop-at (plainFields h l) (unpackedBytes h ls) 5 (plain-length h l))
@@ -117,11 +117,11 @@ pub unpacking-plain : (e : Edition) (h : Header) (ls : List Letter) → HeaderFi
 unfolding unpacking unpackedParts
 unpacking-plain e h ls v f =
     let k : (length (unpackedBytes h ls) + 4) / 5 ≡ length ls = rw (unpacked-length h ls) (omega arith) in
-    rw (header-test e h .1 v, k) (decoded-letters (unpackLetter h) h 1 (parts 5 (length ls) (unpackedBytes h ls)) ls (unpacked-decoded h ls f))
+    rw (header-test e h .1 v, k) (decoded-letters (unpackLetter h) h 1 (chunks 5 (length ls) (unpackedBytes h ls)) ls (unpacked-decoded h ls f))
 
 decoded-plain : (h : Header) (k : ℕ) (s : List ℕ) (ls : List Letter) → length s ≤ 5 * k
-    → Decoded (unpackLetter h) (parts 5 k s) ls → AllFit h ls × (unpackedBytes h ls ≡ s)
-unfolding parts
+    → Decoded (unpackLetter h) (chunks 5 k s) ls → AllFit h ls × (unpackedBytes h ls ≡ s)
+unfolding chunks
 decoded-plain h zero [] [] l d = (tt, refl)
 decoded-plain h zero (x ∷ s) [] l d = absurd (omega arith)
 decoded-plain h zero s (a ∷ ls) l d = absurd d
@@ -139,7 +139,7 @@ unfolding unpacking unpackedParts
 plain-unpacking e h g s ls =
     byTest (headerTest e h)
     (λ t. rw t λ q.
-    let d = letters-decoded (unpackLetter h) h 1 (parts 5 ((length s + 4) / 5) s) g ls q in
+    let d = letters-decoded (unpackLetter h) h 1 (chunks 5 ((length s + 4) / 5) s) g ls q in
     let p = decoded-plain h ((length s + 4) / 5) s ls (omega arith) (d .1) in
     (d .0, header-test e h .0 t, p .0, p .1))
     λ t. rw t λ q. let n : _≡_ {A = ℕ} 0 1 = cc in absurd (omega arith)
@@ -147,14 +147,14 @@ plain-unpacking e h g s ls =
 -- ---- what was written is read again
 
 -- After an answer of n bytes, the first n bytes of the output are read as the header and the letters that were given.
-pub written-read : (e : Edition) → Roomy e → (h : Header) (s entry exit : List ℕ) (n : ℕ) → Wrote e (unpacking e h s) entry exit (value n)
+pub written-read : (e : Edition) → Roomy e → (h : Header) (s entry exit : List ℕ) (n : ℕ) → WroteTrace e (unpacking e h s) entry exit (value n)
     → (ls : List Letter) × (unpackedBytes h ls ≡ s) × (reading e (take n exit) ≡ trace h ls)
 unfolding writtenLength writtenOver
 written-read e r h s entry exit n w = go (unpacking e h s) refl (w .answered) (w .bytes)
   where
-    go : (x : Reading) → unpacking e h s ≡ x → value n ≡ writtenLength e (length entry) x → exit ≡ writtenOver e entry x
+    go : (x : TraceReading) → unpacking e h s ≡ x → value n ≡ writtenLength e (length entry) x → exit ≡ writtenOver e entry x
         → (ls : List Letter) × (unpackedBytes h ls ≡ s) × (reading e (take n exit) ≡ trace h ls)
-    go (refused a b) q p o = absurd (let z : _≡_ {A = ℕ} 0 1 = cc in omega arith)
+    go (TraceReading.refused a b) q p o = absurd (let z : _≡_ {A = ℕ} 0 1 = cc in omega arith)
     go (trace g ls) q p o =
         let (i, v, f, u) = plain-unpacking e h g s ls q in
         let size = length (packing e g ls) in

@@ -2,7 +2,7 @@ use native.Mathlib.Omega.{arith}
 use mathlib.Core.Path.{_≡_, sym, _∙_}
 use lib.ListN.{length, drop}
 use Rattle.traces.proofs.Counting.{countFrom, count-begins, count-good, count-bad, count-ends, unit-good, unit-bad}
-use Rattle.traces.specs.Reading.{parts, letterIn, lettersOf}
+use Rattle.traces.specs.Reading.{chunks, letterIn, lettersOf}
 use Rattle.traces.specs.ReadingParts.{counted}
 use Rattle.letters.specs.Editions.{firstEdition}
 use Prim.Native.Nat.{_+_, _-_, _*_, _/_, _≤_}
@@ -11,7 +11,7 @@ use Rattle.traces.proofs.read_letters.Statement.{statement}
 use Rattle.traces.proofs.read_letters.Tie as tie
 
 abbrev Inv-loop : tie.InvT-loop
-Inv-loop h bytes at₀ n₀ at n = (at ≤ length bytes) × (2 * n + 2 ≡ at) × (countFrom (letterIn firstEdition h) h n (parts 2 (length bytes / 2 - 1 - n) (drop at bytes)) ≡ counted (lettersOf firstEdition h bytes))
+Inv-loop h bytes at₀ n₀ at n = (at ≤ length bytes) × (2 * n + 2 ≡ at) × (countFrom (letterIn firstEdition h) h n (chunks 2 (length bytes / 2 - 1 - n) (drop at bytes)) ≡ counted (lettersOf firstEdition h bytes))
 
 abbrev μ-loop : tie.MeasureT-loop
 μ-loop h bytes at₀ n₀ at n = length bytes - at

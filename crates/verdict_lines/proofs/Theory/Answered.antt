@@ -7,13 +7,13 @@ use Rattle.files.specs.declared.Lines as files
 use Rattle.files.specs.declared.Lines.the-variants.{Written}
 use Rattle.files.specs.Lines.{known}
 use Rattle.files.proofs.Theory.LinesLaws.{answers-written}
-use Rattle.verdict_lines.specs.Prints.{Prints}
+use Rattle.verdict_lines.specs.Prints.{PrintsVerdictLines}
 use Rattle.verdict_lines.proofs.Theory.PrintsLaws.{prints-within, prints-length}
-use Rattle.verdict_lines.specs.Answered.{AnswersRead}
+use Rattle.verdict_lines.specs.Answered.{AnswersMacroInput}
 
-module _ (entry exit : List ℕ) (r : files.Lines) (x : AnswersRead entry r exit) {size : ℕ} (e : r ≡ Written size) where
-  written : (s : List ℕ) × Prints s entry size exit
-  written = answers-written Prints (known (x .input) (x .text)) entry exit r size e (x .answers)
+module _ (entry exit : List ℕ) (r : files.Lines) (x : AnswersMacroInput entry r exit) {size : ℕ} (e : r ≡ Written size) where
+  written : (s : List ℕ) × PrintsVerdictLines s entry size exit
+  written = answers-written PrintsVerdictLines (known (x .input) (x .text)) entry exit r size e (x .answers)
 
   pub written-within : size ≤ length exit
   written-within = prints-within (written .1)

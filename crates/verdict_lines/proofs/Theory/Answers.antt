@@ -8,7 +8,8 @@ use lib.ListN.{length, drop, length-append, length-map, length-reverse}
 use Rattle.letters.specs.declared.Letter.{Letter}
 use Rattle.letters.specs.Editions.{firstEdition, mostRegisters}
 use Rattle.letters.specs.Capacity.{mostPairs}
-use Rattle.letters.specs.RefusalNumbers.{outputTooSmall, tableTooSmall}
+use Rattle.letters.specs.RefusalNumbers.{outputTooSmall}
+use Rattle.letters.specs.MacroRefusalNumbers.{tableTooSmall}
 use Rattle.letters.specs.Words.{headerWord, letterWord}
 use Rattle.letters.proofs.Theory.WordLaws.{first-roomy}
 use Rattle.traces.specs.Traces.{AllFit, packing}
@@ -21,12 +22,12 @@ use Rattle.semantics.proofs.Theory.TraceLaws.{extend-size, extend-header, terms
 use Rattle.semantics.specs.Coherence.{Coherent}
 use Rattle.semantics.specs.Numbering.{ShownModel}
 use Rattle.semantics.specs.ShownTables.{shownTables}
-use Rattle.semantics.specs.ShownTables.{tablesOf, number}
+use Rattle.semantics.specs.ShownTables.{tablesOf, shownValue}
 use Rattle.semantics.proofs.Theory.ShownPacked.{rows-length, starts-length, applications-fit, shown-packable}
 use Rattle.semantics.specs.TablesRead.{Packable}
 use Rattle.semantics.proofs.Theory.PackedTablesLaws.{packed-length}
 use Rattle.macros.proofs.Theory.Numbers.{less-or}
-use Rattle.macros.proofs.Theory.Fitting.{Formed, partial-formed, run-formed}
+use Rattle.macros.proofs.Theory.Fitting.{FormedUnder, partial-formed, run-formed}
 use Rattle.macros.specs.Walk.{failure}
 use Rattle.macros.proofs.Theory.Runs.{failing-is}
 use Rattle.macros.specs.Order.{Before}
@@ -37,10 +38,10 @@ use Rattle.grammar.specs.Grammar.{Macro, headerOf}
 use Rattle.grammar.specs.Spelled.{InOrder}
 use Rattle.exploration.proofs.Theory.Given.{setting}
 use Rattle.search.proofs.Theory.TracedLaws.{formed-fit}
-use Rattle.verdicts.specs.Verdict.{Answer, refused, full, unfit, IsPass, Kind, breaking, failing, showing, Delivered, OfKind, Leaves, SamePair, EventAt, PairCount, PairsPass, Shows, Verdict, Event, breaks, fails}
-use Rattle.verdicts.specs.AnswerPacking.{packed}
-use Rattle.verdicts.proofs.Theory.AnswerPacking.{bytes-are, shown-tables}
-use Rattle.verdicts.proofs.Theory.Counting.{more-is}
+use Rattle.verdict_theory.specs.Verdict.{VerdictAnswer, refused, full, unfit, IsPass, Kind, breaking, failing, showing, Delivered, OfKind, Leaves, SamePair, EventAt, PairCount, PairsPass, Shows, IsVerdict, Event, breaks, fails}
+use Rattle.verdict_theory.specs.AnswerPacking.{packed}
+use Rattle.verdict_theory.proofs.Theory.AnswerPacking.{bytes-are, shown-tables}
+use Rattle.verdict_theory.proofs.Theory.Counting.{more-is}
 use Rattle.report.specs.Shown.{modelStart}
 use Rattle.verdict_lines.proofs.Theory.Short.{few-letters}
 use Rattle.verdict_lines.specs.Prints.{tablePairs, answerBytes}
@@ -68,7 +69,7 @@ module _ (m : Macro) (o : InOrder m) where
   start = begin (headerOf m)
 
   -- ── an execution that is shown ──
-  shown-formed : (kind : Kind) (ρ : Trace) → OfKind (begin (headerOf m)) (m .body) kind ρ → Formed (headerOf m) ρ
+  shown-formed : (kind : Kind) (ρ : Trace) → OfKind (begin (headerOf m)) (m .body) kind ρ → FormedUnder (headerOf m) ρ
   shown-formed breaking ρ x = partial-formed (headerOf m) start (m .body) ρ (tt, refl) (o .uses) (x .0)
   shown-formed failing ρ x = let (p, e) = failing-is start (m .body) ρ .0 (x .0) in run-formed (headerOf m) start (m .body) (tt, refl) (o .uses) p failure ρ e
 
@@ -92,7 +93,7 @@ module _ (m : Macro) (o : InOrder m) where
 
     starts-few : length (tablesOf σ .starts) ≤ mostRegisters
     unfolding tablesOf shownTables
-    starts-few = omega (arith, starts-length (number σ) 0 (σ .header .registers), ap (λ h. h .registers) (extend-header start ls), o .few)
+    starts-few = omega (arith, starts-length (shownValue σ) 0 (σ .header .registers), ap (λ h. h .registers) (extend-header start ls), o .few)
 
     -- the model of an execution of no more letters than a table has pairs fits the packed form
     pub packable : length ls ≤ mostPairs → Packable firstEdition (headerOf m) (tablesOf (state (extend (begin (headerOf m)) ls)))
@@ -133,7 +134,7 @@ module _ (m : Macro) (o : InOrder m) where
   ]
 
   -- The event that an answer shows, with its computed bytes.
-  pub shown-event : (n : ℕ) (output : List ℕ) (answer : Answer) (output′ : List ℕ) → Verdict Feasible (begin (headerOf m)) (m .body) firstEdition n output answer output′
+  pub shown-event : (n : ℕ) (output : List ℕ) (answer : VerdictAnswer) (output′ : List ℕ) → IsVerdict Feasible (begin (headerOf m)) (m .body) firstEdition n output answer output′
       → answer ≢ full → ¬ IsPass answer
       → (kind : Kind) × (k : ℕ) × (ls : List Letter) × Shows Feasible (begin (headerOf m)) (m .body) kind k ls
       × Delivered (packed firstEdition (begin (headerOf m)) kind ls) (showing kind k (length ls)) output answer output′
@@ -143,8 +144,8 @@ module _ (m : Macro) (o : InOrder m) where
       (kind, k, ls, s, subst (λ bs. Delivered bs (showing kind k (length ls)) output answer output′) e d)
 
   -- An answer for a table of n pairs that is neither full nor pass.
-  module _ (points : sizeBlock (m .body) ≤ mostPoints) (n : ℕ) (output : List ℕ) (answer : Answer) (output′ : List ℕ)
-      (v : Verdict Feasible (begin (headerOf m)) (m .body) firstEdition n output answer output′) (u : answer ≢ full) (w : ¬ IsPass answer) where
+  module _ (points : sizeBlock (m .body) ≤ mostPoints) (n : ℕ) (output : List ℕ) (answer : VerdictAnswer) (output′ : List ℕ)
+      (v : IsVerdict Feasible (begin (headerOf m)) (m .body) firstEdition n output answer output′) (u : answer ≢ full) (w : ¬ IsPass answer) where
     -- the event that the search finds: no more letters than pairs, and no more pairs than the table holds
     found : (kind : Kind) × (k : ℕ) × (ls : List Letter) × OfKind (begin (headerOf m)) (m .body) kind (extend (begin (headerOf m)) ls) × (length ls ≤ k) × (k ≤ n)
         × Delivered (packed firstEdition (begin (headerOf m)) kind ls) (showing kind k (length ls)) output answer output′
@@ -172,7 +173,7 @@ module _ (m : Macro) (o : InOrder m) where
         ]
 
   -- An event that is shown with its pairs, at most `tablePairs`, and no more letters than pairs; the output holds it in front.
-  pub record Shown (output : List ℕ) (answer : Answer) (output′ : List ℕ) : Type 0 where
+  pub record EventShown (output : List ℕ) (answer : VerdictAnswer) (output′ : List ℕ) : Type 0 where
     pub kind : Kind
     pub pairs : ℕ
     pub letters : List Letter
@@ -182,9 +183,9 @@ module _ (m : Macro) (o : InOrder m) where
     pub told : answer ≡ showing kind pairs (length letters)
     pub bytes : output′ ≡ packed firstEdition (begin (headerOf m)) kind letters ++ drop (length (packed firstEdition (begin (headerOf m)) kind letters)) output
 
-  pub event-shown : sizeBlock (m .body) ≤ mostPoints → (output : List ℕ) → length output ≡ answerBytes → (answer : Answer) (output′ : List ℕ)
-      → Verdict Feasible (begin (headerOf m)) (m .body) firstEdition tablePairs output answer output′
-      → answer ≢ full → ¬ IsPass answer → Shown output answer output′
+  pub event-shown : sizeBlock (m .body) ≤ mostPoints → (output : List ℕ) → length output ≡ answerBytes → (answer : VerdictAnswer) (output′ : List ℕ)
+      → IsVerdict Feasible (begin (headerOf m)) (m .body) firstEdition tablePairs output answer output′
+      → answer ≢ full → ¬ IsPass answer → EventShown output answer output′
   event-shown points output room answer output′ v u w =
       let (kind, k, ls, s, d) = shown-event tablePairs output answer output′ v u w in
       elim d [

@@ -9,7 +9,7 @@ use Rattle.tokens.specs.Tokens.{tokenAt}
 use Rattle.tokens.proofs.Theory.Keys.{bytesAt, token-key, same-token}
 use Rattle.tokens.specs.Words as word
 use Rattle.grammar.specs.Grammar.{Macro, entryTokens, functionTokens, blockTokens, sentence}
-use Rattle.grammar.specs.Spelled.{Spells, Declared, Arities, none, one, two}
+use Rattle.grammar.specs.Spelled.{Spells, Declared, Arities}
 use Rattle.grammar.specs.Spelled
 use Rattle.refusals.specs.Accepted.{Accepted}
 use Rattle.text.specs.Names.{nameText}
@@ -39,16 +39,16 @@ has-right (k ∷ ks) h = has-later (has-right ks h)
 
 entry-has : {fs ns : List ℕ} → Arities fs ns → (f : ℕ) → f < length fs → Has (getD fs f 0) (entryTokens fs ns)
 unfolding entryTokens
-entry-has none f l = absurd (omega arith)
-entry-has (one a) zero l = record { place = 0; within = omega arith; is = refl }
-entry-has (one a) (suc f) l = has-later (has-later (has-later (entry-has a f (omega arith))))
-entry-has (two a) zero l = record { place = 0; within = omega arith; is = refl }
-entry-has (two a) (suc f) l = has-later (has-later (has-later (entry-has a f (omega arith))))
+entry-has Arities.none f l = absurd (omega arith)
+entry-has (Arities.one a) zero l = record { place = 0; within = omega arith; is = refl }
+entry-has (Arities.one a) (suc f) l = has-later (has-later (has-later (entry-has a f (omega arith))))
+entry-has (Arities.two a) zero l = record { place = 0; within = omega arith; is = refl }
+entry-has (Arities.two a) (suc f) l = has-later (has-later (has-later (entry-has a f (omega arith))))
 
 function-has : (fs ns : List ℕ) → Arities fs ns → (f : ℕ) → f < length fs → Has (getD fs f 0) (functionTokens fs ns)
 unfolding functionTokens
 function-has [] ns a f l = absurd (omega arith)
-function-has (g ∷ fs) ns a f l = let h = entry-has a f l in has-later (has-left (entryTokens (g ∷ fs) ns) (word.semicolon ∷ []) (h .place) (h .within) (h .is))
+function-has (g ∷ fs) ns a f l = let h = entry-has a f l in has-later (has-left (entryTokens (g ∷ fs) ns) (word.semicolonKey ∷ []) (h .place) (h .within) (h .is))
 
 spells-at : {s ks : List ℕ} {at e : ℕ} → Spells s at ks e → (i : ℕ) → i < length ks → (at′ : ℕ) × (tokenAt s at′ .key ≡ getD ks i 0) × (2 ≤ getD ks i 0)
 spells-at Spelled.none i l = absurd (omega arith)
@@ -79,7 +79,7 @@ module _ (text : List ℕ) (m : Macro) (read : Accepted text m) where
   pub register-stands : (r : ℕ) → r < length (m .registers) → Stands (getD (m .registers) r 0)
   unfolding sentence
   register-stands r l =
-      let behind : List ℕ = word.semicolon ∷ (functionTokens (m .functions) (m .arities) ++ blockTokens (m .registers) (m .functions) (m .arities) (m .body)) in
+      let behind : List ℕ = word.semicolonKey ∷ (functionTokens (m .functions) (m .arities) ++ blockTokens (m .registers) (m .functions) (m .arities) (m .body)) in
       stands (getD (m .registers) r 0) (has-later (has-left (m .registers) behind r l refl))
 
   pub function-stands : (f : ℕ) → f < length (m .functions) → Stands (getD (m .functions) f 0)

@@ -3,28 +3,28 @@ use mathlib.Core.Path.{_≡_, refl, sym, subst}
 use mathlib.Core.List.{List, [], _∷_, _++_}
 use Prim.Native.Nat.{ℕ}
 use native.Mathlib.Omega.{arith}
-use Rattle.base.specs.Recursion.{run, fixed}
+use Rattle.base.specs.Recursion.{withinCalls, fixed}
 use Rattle.semantics.specs.Terms.{Trace, begin, state}
 use Rattle.semantics.specs.Models.{Feasible}
 use Rattle.semantics.specs.Coherence.{Coherent}
 use Rattle.macros.specs.Tree.{skip, empty, _then_}
-use Rattle.macros.specs.Executions.{Outcome, done, failed, ExecBlock, Partial, Failing, Begins, both, stop, nothing, whole}
+use Rattle.macros.specs.Executions.{Outcome, done, failed, ExecBlock, Partial, Failing, Begins, Exec, whole}
 use Rattle.macros.specs.Order.{Path, root}
-use Rattle.macros.specs.Points.{size, sizeBlock}
+use Rattle.macros.specs.Points.{sizeStatement, sizeBlock}
 use Rattle.tokens.specs.Bytes.{gap, width}
 use Rattle.tokens.specs.Bytes
 use Rattle.tokens.specs.Tokens.{tokenAt}
 use Rattle.grammar.specs.Grammar.{Macro, headerOf}
-use Rattle.grammar.specs.Reading.{got, indexOf, block, statement, registers}
+use Rattle.grammar.specs.Reading.{got, indexOf, block, statement, registerNames}
 use Rattle.grammar.proofs.Theory.Reading.{readText, readMacro}
 use Rattle.grammar.specs.Reading
 use Rattle.refusals.specs.Order.{Refusal}
 use Rattle.refusals.proofs.Theory.Order.{refused-refusal}
 use Rattle.refusals.specs.Accepted.{Accepted}
 use Rattle.refusals.proofs.Theory.Accepted.{read-accepted, accepted-once, refused-once, never-both}
-use Rattle.verdicts.specs.Verdict.{Leaves, PairCount}
+use Rattle.verdict_theory.specs.Verdict.{Leaves, PairCount}
 use Rattle.text.specs.Numerals.{numeral}
-use Rattle.report.specs.Lines.{pass, line, verdictLines, report}
+use Rattle.report.specs.Lines.{Printed, line, verdictLines, report}
 use Rattle.verdict_lines.specs.Prints.{Told, Says}
 use Rattle.verdict_lines.proofs.Theory.PrintsLaws.{one-said}
 
@@ -36,7 +36,7 @@ abbrev still : Macro
 still = record { registers = 120 ∷ []; functions = []; arities = []; body = skip then empty }
 
 still-read : readMacro still-text ≡ got still 12
-unfolding readMacro readText tokenAt gap width Bytes.run registers block statement indexOf sizeBlock size
+unfolding readMacro readText tokenAt gap width Bytes.nameLength registerNames block statement indexOf sizeBlock sizeStatement
 still-read = refl
 
 still-accepted : Accepted still-text still
@@ -48,14 +48,14 @@ abbrev still-lines : List ℕ
 still-lines = (118 ∷ 101 ∷ 114 ∷ 100 ∷ 105 ∷ 99 ∷ 116 ∷ 32 ∷ 112 ∷ 97 ∷ 115 ∷ 115 ∷ 10 ∷ []) ++ (112 ∷ 97 ∷ 105 ∷ 114 ∷ 115 ∷ 32 ∷ 48 ∷ 10 ∷ [])
 
 no-pairs : {p : Path} → Leaves (begin (headerOf still)) (still .body) p → ⊥
-unfolding size
+unfolding sizeStatement
 no-pairs x = let l = x .due in omega arith
 
 none-counted : PairCount Feasible (begin (headerOf still)) (still .body) 0
 none-counted = (λ i. root, record { counted = λ i l. absurd (omega arith); every = λ p c. absurd (no-pairs (c .is-first .leaves)); sorted = λ i j l m. absurd (omega arith) })
 
 only-start : {ρ π : Trace} {o : Outcome} → ExecBlock (still .body) ρ π o → (π ≡ ρ) × (o ≡ done)
-only-start (both nothing stop) = (refl, refl)
+only-start (ExecBlock.both Exec.nothing ExecBlock.stop) = (refl, refl)
 
 nothing-before : {ρ : Trace} → Begins ρ (begin (headerOf still)) → ρ ≡ begin (headerOf still)
 nothing-before whole = refl
@@ -66,15 +66,15 @@ coherent ρ x = subst Coherent (sym (nothing-before (subst (Begins ρ) (only-sta
 never-fails : (ρ : Trace) → Failing (begin (headerOf still)) (still .body) ρ → ¬ Feasible (state ρ)
 never-fails ρ x f = let e : failed ≡ done = only-start x .1 in let z : _≡_ {A = ℕ} 0 1 = cc in omega arith
 
-still-told : Told still (pass 0)
+still-told : Told still (Printed.pass 0)
 unfolding Told
 still-told = (none-counted, omega arith, coherent, never-fails)
 
 pub still-said : Says still-text still-lines
-unfolding report verdictLines line numeral fixed run
+unfolding report verdictLines line numeral fixed withinCalls
 still-said = record {
   unread = λ n p r. absurd (never-both still-text still-accepted r);
-  verdict = λ m a. (pass 0, subst (λ k. Told k (pass 0)) (accepted-once still-text still-accepted a) still-told, refl);
+  verdict = λ m a. (Printed.pass 0, subst (λ k. Told k (Printed.pass 0)) (accepted-once still-text still-accepted a) still-told, refl);
 }
 
 -- no lines at all are wrong
@@ -90,7 +90,7 @@ nothing-refused : Refusal [] 9 0
 nothing-refused = refused-refusal [] 9 0 nothing-read
 
 pub nothing-said : Says [] (114 ∷ 101 ∷ 102 ∷ 117 ∷ 115 ∷ 101 ∷ 100 ∷ 32 ∷ 57 ∷ 32 ∷ 97 ∷ 116 ∷ 32 ∷ 48 ∷ 10 ∷ [])
-unfolding line numeral fixed run
+unfolding line numeral fixed withinCalls
 nothing-said = record {
   unread = λ n p r.
       let (i, j) = refused-once [] nothing-refused r in

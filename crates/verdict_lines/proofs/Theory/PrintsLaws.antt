@@ -23,15 +23,15 @@ use Rattle.macros.specs.Order.{Before}
 use Rattle.macros.proofs.Theory.Order.{before-not}
 use Rattle.grammar.specs.Grammar.{Macro, headerOf}
 use Rattle.grammar.specs.Spelled.{InOrder}
-use Rattle.refusals.proofs.Theory.Accepted.{Acceptance, accepted, Becomes, an-acceptance}
+use Rattle.refusals.proofs.Theory.Accepted.{Acceptance, Becomes, an-acceptance}
 use Rattle.refusals.proofs.Theory.Accepted as acceptance
-use Rattle.verdicts.proofs.Theory.Counting.{one-count, more-is}
-use Rattle.verdicts.proofs.Theory.Since.{since-once}
-use Rattle.verdicts.specs.Verdict.{Kind, breaking, failing, Breaks, Event, breaks, fails, EventAt, Leaves, SamePair, PairCount, PairsPass, Shows}
-use Rattle.verdicts.proofs.Theory.AnswerPacking.{failing-formed}
-use Rattle.verdicts.proofs.Theory.Unique.{one-event}
-use Rattle.report.specs.Lines.{Printed, pass, incoherent, fail, refused, report}
-use Rattle.verdict_lines.specs.Prints.{declaredNames, tablePairs, mostBytes, Told, Says, Prints}
+use Rattle.verdict_theory.proofs.Theory.Counting.{one-count, more-is}
+use Rattle.verdict_theory.proofs.Theory.Since.{since-once}
+use Rattle.verdict_theory.specs.Verdict.{Kind, breaking, failing, Breaks, Event, breaks, fails, EventAt, Leaves, SamePair, PairCount, PairsPass, Shows}
+use Rattle.verdict_theory.proofs.Theory.AnswerPacking.{failing-formed}
+use Rattle.verdict_theory.proofs.Theory.Unique.{one-event}
+use Rattle.report.specs.Lines.{Printed, report}
+use Rattle.verdict_lines.specs.Prints.{declaredNames, tablePairs, mostVerdictLineBytes, Told, Says, PrintsVerdictLines}
 
 breaks-not : (ρ : Trace) → Breaks ρ → ¬ Coherent ρ
 breaks-not (begin h) x c = x
@@ -65,37 +65,37 @@ module _ (m : Macro) (o : InOrder m) where
 
   pub one-told : (s t : Printed) → Told m s → Told m t → s ≡ t
   unfolding Told
-  one-told (pass k) (pass l) x y = ap pass (counted-once k l (x .0) (y .0))
-  one-told (pass k) (incoherent l ls) (c, x, q, r) (d, y) = absurd (not-pass (extend start ls) (d .first-event .event) q r)
-  one-told (pass k) (fail l ls t) (c, x, q, r) (d, y, u) = absurd (not-pass (extend start ls) (d .first-event .event) q r)
-  one-told (pass k) (refused n p) (c, x, q, r) (d, e, y) = absurd (not-full k c x y)
-  one-told (incoherent k ks) (pass l) (c, x) (d, y, q, r) = absurd (not-pass (extend start ks) (c .first-event .event) q r)
-  one-told (incoherent k ks) (incoherent l ls) (c, x) (d, y) = λ i. incoherent (counted-once k l (c .count) (d .count) i) (one-execution breaking breaking k l ks ls c d i)
-  one-told (incoherent k ks) (fail l ls t) (c, x) (d, y, u) = absurd (not-both k l ks ls c d)
-  one-told (incoherent k ks) (refused n p) (c, x) (d, e, y) = absurd (not-full k (c .count) x y)
-  one-told (fail k ks s) (pass l) (c, x, u) (d, y, q, r) = absurd (not-pass (extend start ks) (c .first-event .event) q r)
-  one-told (fail k ks s) (incoherent l ls) (c, x, u) (d, y) = absurd (not-both l k ls ks d c)
-  one-told (fail k ks s) (fail l ls t) (c, x, u) (d, y, v) =
+  one-told (Printed.pass k) (Printed.pass l) x y = ap Printed.pass (counted-once k l (x .0) (y .0))
+  one-told (Printed.pass k) (Printed.incoherent l ls) (c, x, q, r) (d, y) = absurd (not-pass (extend start ls) (d .first-event .event) q r)
+  one-told (Printed.pass k) (Printed.fail l ls t) (c, x, q, r) (d, y, u) = absurd (not-pass (extend start ls) (d .first-event .event) q r)
+  one-told (Printed.pass k) (Printed.refused n p) (c, x, q, r) (d, e, y) = absurd (not-full k c x y)
+  one-told (Printed.incoherent k ks) (Printed.pass l) (c, x) (d, y, q, r) = absurd (not-pass (extend start ks) (c .first-event .event) q r)
+  one-told (Printed.incoherent k ks) (Printed.incoherent l ls) (c, x) (d, y) = λ i. Printed.incoherent (counted-once k l (c .count) (d .count) i) (one-execution breaking breaking k l ks ls c d i)
+  one-told (Printed.incoherent k ks) (Printed.fail l ls t) (c, x) (d, y, u) = absurd (not-both k l ks ls c d)
+  one-told (Printed.incoherent k ks) (Printed.refused n p) (c, x) (d, e, y) = absurd (not-full k (c .count) x y)
+  one-told (Printed.fail k ks s) (Printed.pass l) (c, x, u) (d, y, q, r) = absurd (not-pass (extend start ks) (c .first-event .event) q r)
+  one-told (Printed.fail k ks s) (Printed.incoherent l ls) (c, x, u) (d, y) = absurd (not-both l k ls ks d c)
+  one-told (Printed.fail k ks s) (Printed.fail l ls t) (c, x, u) (d, y, v) =
       let w = one-execution failing failing k l ks ls c d in
       let tables : s ≡ t = one-model ks s (c .of-kind .0) u ∙ ap (λ w. tablesOf (state (extend start w))) w ∙ sym (one-model ls t (d .of-kind .0) v) in
-      λ i. fail (counted-once k l (c .count) (d .count) i) (w i) (tables i)
-  one-told (fail k ks s) (refused n p) (c, x, u) (d, e, y) = absurd (not-full k (c .count) x y)
-  one-told (refused n p) (pass k) (d, e, y) (c, x, q, r) = absurd (not-full k c x y)
-  one-told (refused n p) (incoherent k ks) (d, e, y) (c, x) = absurd (not-full k (c .count) x y)
-  one-told (refused n p) (fail k ks s) (d, e, y) (c, x, u) = absurd (not-full k (c .count) x y)
-  one-told (refused n p) (refused n′ p′) (d, e, y) (d′, e′, y′) = λ i. refused ((d ∙ sym d′) i) ((e ∙ sym e′) i)
+      λ i. Printed.fail (counted-once k l (c .count) (d .count) i) (w i) (tables i)
+  one-told (Printed.fail k ks s) (Printed.refused n p) (c, x, u) (d, e, y) = absurd (not-full k (c .count) x y)
+  one-told (Printed.refused n p) (Printed.pass k) (d, e, y) (c, x, q, r) = absurd (not-full k c x y)
+  one-told (Printed.refused n p) (Printed.incoherent k ks) (d, e, y) (c, x) = absurd (not-full k (c .count) x y)
+  one-told (Printed.refused n p) (Printed.fail k ks s) (d, e, y) (c, x, u) = absurd (not-full k (c .count) x y)
+  one-told (Printed.refused n p) (Printed.refused n′ p′) (d, e, y) (d′, e′, y′) = λ i. Printed.refused ((d ∙ sym d′) i) ((e ∙ sym e′) i)
 
 pub one-said : (text a b : List ℕ) → Says text a → Says text b → a ≡ b
 one-said text a b x y = let (o, k) = an-acceptance text in go o k
   where
     go : (o : Acceptance) → Becomes text o → a ≡ b
     go (acceptance.refused n p) r = x .unread n p r ∙ sym (y .unread n p r)
-    go (accepted m) r =
+    go (Acceptance.accepted m) r =
         let (s, t, u) = x .verdict m r in
         let (s′, t′, u′) = y .verdict m r in
         u ∙ ap (report (declaredNames m) (headerOf m)) (one-told m (r .in-order) s s′ t t′) ∙ sym u′
 
-module _ {text entry exit : List ℕ} {size : ℕ} (x : Prints text entry size exit) where
+module _ {text entry exit : List ℕ} {size : ℕ} (x : PrintsVerdictLines text entry size exit) where
   -- So many bytes are there.
   pub prints-within : size ≤ length exit
   prints-within = byTest (leb (length (x .lines)) (length entry))
@@ -109,13 +109,13 @@ module _ {text entry exit : List ℕ} {size : ℕ} (x : Prints text entry size e
   prints-length = sym (length-take-le size exit prints-within)
 
   -- All lines are there.
-  pub prints-all : mostBytes ≤ length entry → (size ≡ length (x .lines)) × (exit ≡ x .lines ++ drop size entry)
+  pub prints-all : mostVerdictLineBytes ≤ length entry → (size ≡ length (x .lines)) × (exit ≡ x .lines ++ drop size entry)
   prints-all l =
       let t = le-leb (length (x .lines)) (length entry) (omega (arith, x .few)) in
       let g : size ≡ length (x .lines) = x .given ∙ rw t refl in
       (g, x .bytes ∙ rw t refl ∙ ap (λ n. x .lines ++ drop n entry) (sym g))
 
-pub one-way : (text entry : List ℕ) (n k : ℕ) (a b : List ℕ) → Prints text entry n a → Prints text entry k b → (n ≡ k) × (a ≡ b)
+pub one-way : (text entry : List ℕ) (n k : ℕ) (a b : List ℕ) → PrintsVerdictLines text entry n a → PrintsVerdictLines text entry k b → (n ≡ k) × (a ≡ b)
 one-way text entry n k a b x y =
     let e = one-said text (x .lines) (y .lines) (x .says) (y .says) in (
       x .given ∙ ap (λ (l : List ℕ). pick (leb (length l) (length entry)) (λ _. length l) λ _. 0) e ∙ sym (y .given),

@@ -23,11 +23,11 @@ use Rattle.semantics.specs.TablesRead.{readTables}
 use Rattle.semantics.specs.ShownTables.{tablesOf}
 use Rattle.grammar.specs.Grammar.{Macro, headerOf}
 use Rattle.refusals.specs.Accepted.{Accepted}
-use Rattle.refusals.proofs.Theory.Accepted.{Acceptance, accepted, refused, Becomes, an-acceptance}
-use Rattle.verdicts.specs.Verdict.{Kind, breaking, failing, showing, fail, incoherent, Delivered, Event, Shows, Verdict}
-use Rattle.verdicts.specs.AnswerPacking.{packed}
-use Rattle.verdicts.specs.Demand3.{pairsIn, Demand3}
-use Rattle.verdicts.proofs.Theory.Shortest.{shown-shortest}
+use Rattle.refusals.proofs.Theory.Accepted.{Acceptance, Becomes, an-acceptance}
+use Rattle.verdict_theory.specs.Verdict.{Kind, breaking, failing, showing, fail, incoherent, Delivered, Event, Shows, IsVerdict}
+use Rattle.verdict_theory.specs.AnswerPacking.{packed}
+use Rattle.verdict_theory.specs.Demand3.{pairsIn, Demand3}
+use Rattle.verdict_theory.proofs.Theory.Shortest.{shown-shortest}
 use Rattle.search.proofs.Theory.MacroSearch.{header-fits}
 use Rattle.report.specs.Shown.{modelStart}
 use Rattle.report.proofs.Theory.Packed.{packed-tables}
@@ -75,7 +75,7 @@ module _ (text table output : List ℕ) where
     ShownWith j k ls = Shows Feasible (begin (headerOf m)) (m .body) j k ls
 
     abbrev Judged : Type 0
-    Judged = Verdict Feasible (begin (headerOf m)) (m .body) firstEdition (pairsIn firstEdition table) output (showing kind pairs letters) output′
+    Judged = IsVerdict Feasible (begin (headerOf m)) (m .body) firstEdition (pairsIn firstEdition table) output (showing kind pairs letters) output′
 
     -- the first event, and where it stands in the output
     record ShownEvent : Type 0 where
@@ -86,7 +86,7 @@ module _ (text table output : List ℕ) where
       bytes : output′ ≡ bytesOf kind execution ++ rest
 
     told : Judged → ShownEvent
-    told v = 
+    told v =
         let (j, k, ls, s, d) = shown-event m (a .in-order) (pairsIn firstEdition table) output (showing kind pairs letters) output′ v
         (showing-not-full kind pairs letters) (showing-not-pass kind pairs letters) in
         go j k ls s d
@@ -150,8 +150,8 @@ module _ (text table output : List ℕ) where
     read-back kind pairs letters x = let (o, k) = an-acceptance text in go o k
       where
         go : (o : Acceptance) → Becomes text o → (m : Macro) × Accepted text m × ReadsBack m kind pairs letters output′
-        go (refused number place) r = absurd (showing-refused kind pairs letters number place (x .unread number place r .0))
-        go (accepted m) a = (m, a, back m a kind pairs letters output′ (x .verdict m a) (told m a kind pairs letters output′ (x .verdict m a)))
+        go (Acceptance.refused number place) r = absurd (showing-refused kind pairs letters number place (x .unread number place r .0))
+        go (Acceptance.accepted m) a = (m, a, back m a kind pairs letters output′ (x .verdict m a) (told m a kind pairs letters output′ (x .verdict m a)))
 
     -- The two answers.
     pub fail-back : (pairs letters : ℕ) → Demand3 Feasible text table output (fail pairs letters) table′ output′

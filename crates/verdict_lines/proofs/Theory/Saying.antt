@@ -8,7 +8,7 @@ use lib.ListN.{length, getD, drop, replicate}
 use Rattle.letters.specs.declared.Letter.{Letter}
 use Rattle.letters.specs.Editions.{firstEdition, mostFunctions, mostRegisters}
 use Rattle.letters.specs.Capacity.{capacityOf}
-use Rattle.letters.specs.RefusalNumbers.{tableTooSmall}
+use Rattle.letters.specs.MacroRefusalNumbers.{tableTooSmall}
 use Rattle.traces.specs.Traces.{packing}
 use Rattle.semantics.specs.Terms.{begin, extend, state}
 use Rattle.semantics.specs.Models.{Feasible}
@@ -23,16 +23,16 @@ use Rattle.grammar.specs.Grammar.{Macro, headerOf}
 use Rattle.grammar.specs.Spelled.{InOrder}
 use Rattle.refusals.specs.Order.{Refusal}
 use Rattle.refusals.specs.Accepted.{Accepted}
-use Rattle.refusals.proofs.Theory.Accepted.{Acceptance, accepted, Becomes, an-acceptance}
+use Rattle.refusals.proofs.Theory.Accepted.{Acceptance, Becomes, an-acceptance}
 use Rattle.refusals.proofs.Theory.Accepted as acceptance
 use Rattle.syntax.specs.Answer.{heldMacro, padded}
-use Rattle.syntax.specs.declared.Answer as syntax
+use Rattle.syntax.specs.declared.MacroRead as syntax
 use Rattle.syntax.specs.Reads.{Reads}
-use Rattle.syntax.specs.declared.Macro as held
-use Rattle.verdicts.specs.Verdict.{full, IsPass, Kind, breaking, failing, showing, Shows, Verdict}
-use Rattle.verdicts.specs.AnswerPacking.{packed}
-use Rattle.verdicts.specs.Verdict as verdict
-use Rattle.verdicts.specs.Demand3.{pairsIn, Demand3}
+use Rattle.syntax.specs.declared.CompiledMacro as held
+use Rattle.verdict_theory.specs.Verdict.{full, IsPass, Kind, breaking, failing, showing, Shows, IsVerdict}
+use Rattle.verdict_theory.specs.AnswerPacking.{packed}
+use Rattle.verdict_theory.specs.Verdict as verdict
+use Rattle.verdict_theory.specs.Demand3.{pairsIn, Demand3}
 use Rattle.search.specs.declared.Verdict as search
 use Rattle.search.specs.declared.Verdict.the-variants.{Pass, Fail, Incoherent, Refused}
 use Rattle.search.specs.Answering.{answerOf}
@@ -40,12 +40,12 @@ use Rattle.text.specs.Names.{nameText}
 use Rattle.text.specs.Numerals.{numeral}
 use Rattle.report.specs.Lines.{Names, Printed, line, refusedWord, atWord, report}
 use Rattle.report.specs.Lines as printed
-use Rattle.report.specs.declared.Verdict.the-variants as report
-use Rattle.report.specs.Shown.{namesOf, shown, reportOf}
+use Rattle.report.specs.declared.ReportedVerdict.the-variants as report
+use Rattle.report.specs.Shown.{namesOf, printedOf, reportOf}
 use Rattle.report.specs.Bound.{letterNumber, rowNumber}
-use Rattle.report.specs.ShownLaws.{wordValues}
+use Rattle.report.specs.Shown.{wordValues}
 use Rattle.report.proofs.Theory.Packed.{incoherent-report, packed-rows, fail-report}
-use Rattle.verdict_lines.specs.Prints.{tableBytes, tablePairs, answerBytes, declaredNames, Told, Says, Prints}
+use Rattle.verdict_lines.specs.Prints.{tableBytes, tablePairs, answerBytes, declaredNames, Told, Says, PrintsVerdictLines}
 use Rattle.search.proofs.Theory.MacroSearch.{header-fits}
 use Rattle.verdict_lines.proofs.Theory.Answers.{event-model, showing-refused, letters-fit, rows-few, packable, count-few, event-shown}
 use Rattle.verdict_lines.specs.Reported.{reported, reportFor, Reports, mostRows}
@@ -88,7 +88,7 @@ full-or n p = go (same-or n tableTooSmall) (same-or p 0)
 
 module _ (m : Macro) (o : InOrder m) (points : sizeBlock (m .body) ≤ mostPoints) (output : List ℕ) (room : length output ≡ answerBytes) (output′ : List ℕ) where
   abbrev Judged : search.Verdict → Type 0
-  Judged v = Verdict Feasible (begin (headerOf m)) (m .body) firstEdition tablePairs output (answerOf v) output′
+  Judged v = IsVerdict Feasible (begin (headerOf m)) (m .body) firstEdition tablePairs output (answerOf v) output′
 
   -- the event is packed in front of the output
   abbrev Front : Kind → List Letter → Type 0
@@ -161,7 +161,7 @@ module _ (m : Macro) (o : InOrder m) (points : sizeBlock (m .body) ≤ mostPoint
       shown-right v (x .kind) (x .pairs) (x .letters) (x .shows) (x .pairs-few) (x .letters-few) (x .told) (x .bytes)
 
   right : (v : search.Verdict) → Judged v → Right m v output′
-  unfolding Told reported reportOf shown report
+  unfolding Told reported reportOf printedOf report
   right (Fail k l) j = event-right (Fail k l) j (λ e. let z : _≡_ {A = ℕ} 0 1 = cc in omega arith) (λ p. p)
   right (Incoherent k l) j = event-right (Incoherent k l) j (λ e. let z : _≡_ {A = ℕ} 0 1 = cc in omega arith) (λ p. p)
   right (Pass k) j = record {
@@ -187,17 +187,17 @@ module _ (m : Macro) (o : InOrder m) (points : sizeBlock (m .body) ≤ mostPoint
       go (inr u) = event-right (Refused n p) j u (λ w. w)
 
 -- ── a text, and what the reader answers ──
-module _ (text : List ℕ) (read : syntax.Answer) (reads : Reads text read) where
+module _ (text : List ℕ) (read : syntax.MacroRead) (reads : Reads text read) where
   report-is : (m : Macro) (v : search.Verdict) (s : List ℕ) → Accepted text m
       → reportFor (read .program) v s ≡ reportOf (m .registers) (m .functions) (headerOf m) (reported v) s
   unfolding reportFor reportOf heldMacro
   report-is m v s a =
-      ap (λ (p : held.Macro). reportOf (p .registers) (p .functions) (p .header) (reported v) s) (reads .accepts m a .2)
-      ∙ ap (λ (n : Names). report n (headerOf m) (shown (headerOf m) (reported v) s)) (names-held m)
+      ap (λ (p : held.CompiledMacro). reportOf (p .registers) (p .functions) (p .header) (reported v) s) (reads .accepts m a .2)
+      ∙ ap (λ (n : Names). report n (headerOf m) (printedOf (headerOf m) (reported v) s)) (names-held m)
 
   held-registers : (m : Macro) → Accepted text m → read .program .header .registers ≤ mostRegisters
   unfolding heldMacro
-  held-registers m a = let z = ap (λ (p : held.Macro). p .header .registers) (reads .accepts m a .2) in let l = a .in-order .few in omega arith
+  held-registers m a = let z = ap (λ (p : held.CompiledMacro). p .header .registers) (reads .accepts m a .2) in let l = a .in-order .few in omega arith
 
   -- What a report needs to be short.
   abbrev Brief : search.Verdict → List ℕ → Type 0
@@ -207,7 +207,7 @@ module _ (text : List ℕ) (read : syntax.Answer) (reads : Reads text read) wher
   module _ (number place : ℕ) (s : List ℕ) (r : Refusal text number place) where
     refused-report : (v : search.Verdict) → answerOf v ≡ verdict.refused number place
         → reportFor (read .program) v s ≡ line (refusedWord ∷ numeral number ∷ atWord ∷ numeral place ∷ [])
-    unfolding reportFor reported reportOf shown report
+    unfolding reportFor reported reportOf printedOf report
     refused-report (Refused n p) f =
         let i : n ≡ number = cc in
         let j : p ≡ place = cc in
@@ -219,7 +219,7 @@ module _ (text : List ℕ) (read : syntax.Answer) (reads : Reads text read) wher
     refused-brief : (v : search.Verdict) → answerOf v ≡ verdict.refused number place → Brief v s
     unfolding reported
     refused-brief (Refused n p) f =
-        let z = ap (λ (p : held.Macro). p .header .registers) (reads .refuses number place r .2) in
+        let z = ap (λ (p : held.CompiledMacro). p .header .registers) (reads .refuses number place r .2) in
         (omega arith, omega arith, omega arith)
     refused-brief (Pass k) f = absurd (let z : _≡_ {A = ℕ} 0 1 = cc in omega arith)
     refused-brief (Fail k l) f = absurd (let z : _≡_ {A = ℕ} 0 1 = cc in omega arith)
@@ -234,9 +234,9 @@ module _ (text table output : List ℕ) (size : length table ≡ tableBytes) (ro
   judged : (m : Macro) → Accepted text m → Right m v output′
   judged m a =
       right m (a .in-order) (a .few) output room output′ v
-      (subst (λ n. Verdict Feasible (begin (headerOf m)) (m .body) firstEdition n output (answerOf v) output′) pairs (demand .verdict m a))
+      (subst (λ n. IsVerdict Feasible (begin (headerOf m)) (m .body) firstEdition n output (answerOf v) output′) pairs (demand .verdict m a))
 
-  module _ (read : syntax.Answer) (reads : Reads text read) where
+  module _ (read : syntax.MacroRead) (reads : Reads text read) where
     says : Says text (reportFor (read .program) v output′)
     says = record {
       unread = λ number place r. refused-report text read reads number place output′ r v (demand .unread number place r .0);
@@ -248,10 +248,10 @@ module _ (text table output : List ℕ) (size : length table ≡ tableBytes) (ro
       where
         go : (o : Acceptance) → Becomes text o → Brief text read reads v output′
         go (acceptance.refused number place) r = refused-brief text read reads number place output′ r v (demand .unread number place r .0)
-        go (accepted m) a = let r = judged m a in (r .letters, r .rows, held-registers text read reads m a)
+        go (Acceptance.accepted m) a = let r = judged m a in (r .letters, r .rows, held-registers text read reads m a)
 
   -- The lines are those of the program, and few.
-  pub prints : (entry : List ℕ) (n : ℕ) (exit : List ℕ) → Reports text v output′ entry n exit → Prints text entry n exit
+  pub prints : (entry : List ℕ) (n : ℕ) (exit : List ℕ) → Reports text v output′ entry n exit → PrintsVerdictLines text entry n exit
   prints entry n exit x =
       let b = brief (x .read) (x .reads) in
       record {

@@ -17,11 +17,11 @@ use Rattle.macros.proofs.Theory.Order.{AtOrBefore, before-or, before-till, till
 use Rattle.macros.specs.Walk.{Place, failure, stand}
 use Rattle.macros.specs.Points.{run}
 use Rattle.macros.proofs.Theory.Runs.{partial-is, failing-is, run-once, run-steps}
-use Rattle.verdicts.specs.Count.{Counted}
-use Rattle.verdicts.proofs.Theory.Since.{since-letters}
-use Rattle.verdicts.proofs.Theory.System.{Result, stop, event, next, onto, follow, Leads, Alike, Meets, FirstMet}
-use Rattle.verdicts.specs.Verdict.{Kind, Event, breaks, fails, EventAt, Leaves, SamePair, FirstEvent, Shows}
-use Rattle.verdicts.proofs.Theory.Pairs.{Setting, starting, stepping, lead-leaves, leaves-lead, same-alike, event-met, met-event}
+use Rattle.verdict_theory.specs.Count.{Counted}
+use Rattle.verdict_theory.proofs.Theory.Since.{since-letters}
+use Rattle.verdict_theory.proofs.Theory.System.{BranchResult, stop, event, next, onto, follow, Leads, LeadAlike, Meets, FirstMet}
+use Rattle.verdict_theory.specs.Verdict.{Kind, Event, breaks, fails, EventAt, Leaves, SamePair, FirstEvent, Shows}
+use Rattle.verdict_theory.proofs.Theory.Pairs.{Setting, starting, stepping, lead-leaves, leaves-lead, same-alike, event-met, met-event}
 
 -- p, and then these branches
 abbrev beyond : Path → List Branch → Path
@@ -55,12 +55,12 @@ place-below (p ▹ first) (q ▹ second) (inr s) = omega (arith, ap place (s .0)
 place-below (p ▹ second) (q ▹ c) (inr s) = absurd (s .1)
 
 -- ── in the search ──
-module _ {S E : Type 0} (start : Option S) (move : S → Branch → Result S E) where
+module _ {S E : Type 0} (start : Option S) (move : S → Branch → BranchResult S E) where
   abbrev Numbered : Path → Type 0
-  Numbered = Counted Before (Leads start move) (Alike start move) (Meets start move)
+  Numbered = Counted Before (Leads start move) (LeadAlike start move) (Meets start move)
 
   -- from one state the same branches lead to the same
-  alike-beyond : (p q : Path) (bs : List Branch) → Alike start move p q → Alike start move (beyond p bs) (beyond q bs)
+  alike-beyond : (p q : Path) (bs : List Branch) → LeadAlike start move p q → LeadAlike start move (beyond p bs) (beyond q bs)
   alike-beyond p q [] e = e
   alike-beyond p q (b ∷ bs) e = alike-beyond (p ▹ b) (q ▹ b) bs (ap (λ r. onto start move r b) e)
 
@@ -68,7 +68,7 @@ module _ {S E : Type 0} (start : Option S) (move : S → Branch → Result S E) 
   stopped p [] e = e
   stopped p (b ∷ bs) e = stopped (p ▹ b) bs (ap (λ r. onto start move r b) e)
 
-  stop-not : {e : E} → _≡_ {A = Result S E} stop (event e) → ⊥
+  stop-not : {e : E} → _≡_ {A = BranchResult S E} stop (event e) → ⊥
   stop-not e = let z : _≡_ {A = ℕ} 0 1 = cc in omega arith
 
   -- an event that lies beyond a path and is not on it
@@ -76,7 +76,7 @@ module _ {S E : Type 0} (start : Option S) (move : S → Branch → Result S E) 
   on-the-way p [] e l f = absurd (omega arith)
   on-the-way p (b ∷ bs) e l f = go (follow start move p) refl
     where
-      go : (r : Result S E) → follow start move p ≡ r → Leads start move p
+      go : (r : BranchResult S E) → follow start move p ≡ r → Leads start move p
       go stop u = absurd (stop-not (sym (stopped (p ▹ b) bs (ap (λ r. onto start move r b) u)) ∙ f))
       go (event d) u = absurd (stop-not (sym (stopped (p ▹ b) bs (ap (λ r. onto start move r b) u)) ∙ f))
       go (next s) u = (s, u)
@@ -95,7 +95,7 @@ module _ {S E : Type 0} (start : Option S) (move : S → Branch → Result S E) 
     opening-leads j a o = on-the-way a (o .rest) e (let u = o .size in let v = o .less in let w = o .long in omega arith) (o .ends)
 
     -- another path to the same state
-    module _ (j : ℕ) (a q : Path) (o : Opening j a) (same : Alike start move q a) where
+    module _ (j : ℕ) (a q : Path) (o : Opening j a) (same : LeadAlike start move q a) where
       ends-too : follow start move (beyond q (o .rest)) ≡ event e
       ends-too = alike-beyond q a (o .rest) same ∙ o .ends
 
@@ -114,11 +114,11 @@ module _ {S E : Type 0} (start : Option S) (move : S → Branch → Result S E) 
         go : (n : ℕ) → ((i : ℕ) → i < n → (a : Path) → place a ≡ i → Opening j a → ⊥) → (a : Path) → place a ≡ n → Opening j a → ⊥
         go n ih a f o = none a (record { is-first = record { leaves = opening-leads j a o; least = least }; early = early }) (o .size)
           where
-            earlier : (q : Path) → Alike start move q a → Before q a → ⊥
+            earlier : (q : Path) → LeadAlike start move q a → Before q a → ⊥
             earlier q same (inl l) = no-shorter j a q o same l
             earlier q same (inr (l, s)) = ih (place q) (omega (arith, place-below q a s)) q refl (opens-too j a q o same l)
 
-            least : (q : Path) → Leads start move q → Alike start move q a → (a ≡ q) ⊎ Before a q
+            least : (q : Path) → Leads start move q → LeadAlike start move q a → (a ≡ q) ⊎ Before a q
             least q l same = elim (before-or a q) [ inl u ↦ inl u | inr v ↦ elim v [ inl u ↦ inr u | inr u ↦ absurd (earlier q same u) ] ]
 
             early : (q : Path) → Meets start move q → Before a q

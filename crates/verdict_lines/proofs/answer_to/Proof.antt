@@ -3,7 +3,7 @@ use mathlib.Core.Path.{refl, ap}
 use Rattle.files.specs.declared.Input.{Input}
 use Rattle.files.specs.Lines.{known}
 use Rattle.files.proofs.Theory.LinesLaws.{least-length, answers-bytes, answers-first, answers-unread}
-use Rattle.verdict_lines.specs.Prints.{Prints}
+use Rattle.verdict_lines.specs.Prints.{PrintsVerdictLines}
 use Rattle.verdict_lines.proofs.answer_to.Statement.{statement}
 use Rattle.verdict_lines.proofs.answer_to.Tie as tie
 
@@ -26,15 +26,15 @@ answer-to-spec =
     let n = c .before .before .before .before .before .before .before .input .given in
     let wrote = c .before .before .write-lines in
     let end = c .before .before .before .before .before .least in
-    answers-first Prints (known (a .input) (a .text .now)) (a .text .now) (a .lines .now) (wrote .last .1 .0) (n .0 .0) (end .result) (wrote .result)
+    answers-first PrintsVerdictLines (known (a .input) (a .text .now)) (a .text .now) (a .lines .now) (wrote .last .1 .0) (n .0 .0) (end .result) (wrote .result)
     (ap (λ (i : Input). known i (a .text .now)) (n .1)) (end .ensures) (wrote .ensures))
     (λ c. search needs)
     (λ c.
     let a = c .before .before .before .before .before .before .before .before .args in
     let wrote = c .before .before .write-lines2 in
-    answers-bytes Prints (known (a .input) (a .text .now)) (a .text .now) (a .lines .now) (wrote .last .1 .0) (wrote .result)
+    answers-bytes PrintsVerdictLines (known (a .input) (a .text .now)) (a .text .now) (a .lines .now) (wrote .last .1 .0) (wrote .result)
     (ap (λ (i : Input). known i (a .text .now)) (c .before .before .before .before .enum-told .given .1)) (wrote .ensures))
     (λ c.
     let a = c .before .before .before .before .args in
-    answers-unread Prints (known (a .input) (a .text .now)) (a .lines .now) (a .lines .now)
+    answers-unread PrintsVerdictLines (known (a .input) (a .text .now)) (a .lines .now) (a .lines .now)
     (ap (λ (i : Input). known i (a .text .now)) (c .enum-told2 .given .1)) refl))

@@ -17,8 +17,8 @@ use Rattle.semantics.proofs.Theory.Booleans.{and-l, and-r, and-i, or-e, or-l, o
 use Rattle.semantics.specs.View.{View}
 use Rattle.semantics.proofs.Theory.Steps.{target, freshened, Renamed, Bared′, Over′, at′, above′, Still′}
 use Rattle.window.proofs.Theory.Bits.{single-is, truth, no-truth, none-in, or-is, same-iff, eq-or, moved-in, moved-out, or-small, none-small}
-use Rattle.window.specs.Bits.{movedOf}
-use Rattle.window.specs.Places.{place, Function, First, Second, function-place, first-place, second-place, line-entry, along-entry}
+use Rattle.window.specs.Bits.{maskMoved}
+use Rattle.window.specs.Places.{place, placeFunction, placeFirst, placeSecond, function-place, first-place, second-place, line-entry, along-entry}
 use Rattle.window.proofs.Theory.Places.{place-below, entry-below}
 use Rattle.window.specs.Lines.{columns, rows, cleared, clearedAt}
 use Rattle.window.proofs.Theory.Lines.{cleared-at, cleared-length}
@@ -36,20 +36,20 @@ use Rattle.window.proofs.Theory.Copying.{cell-result, result-cell, firs
 use Rattle.window.specs.declared.Window.{Window}
 
 -- what register r is in the grown window: x is the new register 0, and any other its own successor
-pub data At (x r : ℕ) : ℕ → Type 0 where
-  here : r ≡ x → At x r 0
-  there : r ≢ x → At x r (suc r)
+pub data GrownRegister (x r : ℕ) : ℕ → Type 0 where
+  here : r ≡ x → GrownRegister x r 0
+  there : r ≢ x → GrownRegister x r (suc r)
 
-pub at : (x r : ℕ) → At x r (target x r)
+pub at : (x r : ℕ) → GrownRegister x r (target x r)
 at x r = go (eqb r x) refl
   where
-    go : (b : Bool) → eqb r x ≡ b → At x r (cond b 0 (suc r))
+    go : (b : Bool) → eqb r x ≡ b → GrownRegister x r (cond b 0 (suc r))
     go true e = here (eqb-true r x e)
     go false e = there (eqb-false r x e)
 
 -- ---- a mask that x has left, and the tables that x has left
 
-pub gone-is : (m x j : ℕ) → T (has (movedOf m 0 (2 ^ x)) j) ↔ (T (has m j) × (j ≢ x))
+pub gone-is : (m x j : ℕ) → T (has (maskMoved m 0 (2 ^ x)) j) ↔ (T (has m j) × (j ≢ x))
 gone-is m x j = ⊎-elim
     (λ e. Iff·trans (moved-in 0 m 0 (2 ^ x) j (none-small 0) (single-is x j .1 e)) ((λ (d, t, _). absurd (none-in d t)), (λ (_, n). absurd (n e))))
     (λ n. Iff·trans (moved-out m 0 (2 ^ x) j (λ t. n (single-is x j .0 t))) ((λ t. (t, n)), (λ (t, _). t)))
@@ -70,7 +70,7 @@ module _ (ρ φ : ℕ) where
       ⊎-elim
       (λ p. let z : getD (cleared (columns ρ) x B) (ρ * j + r) 0 ≡ 0 = e ∙ rw (eq-eqb ((ρ * j + r) % ρ) x (k ∙ p)) in
       ((λ t. absurd (none-in s (subst (λ m. T (has m s)) z t))), (λ (n, _, _). absurd (n p))))
-      (λ p. let z : getD (cleared (columns ρ) x B) (ρ * j + r) 0 ≡ movedOf (getD l (ρ * j + r) 0) 0 (2 ^ x) = e ∙ rw (ne-eqb ((ρ * j + r) % ρ) x (λ q. p (sym k ∙ q))) (moved-at 0 (2 ^ x) l (ρ * j + r) h) in
+      (λ p. let z : getD (cleared (columns ρ) x B) (ρ * j + r) 0 ≡ maskMoved (getD l (ρ * j + r) 0) 0 (2 ^ x) = e ∙ rw (ne-eqb ((ρ * j + r) % ρ) x (λ q. p (sym k ∙ q))) (moved-at 0 (2 ^ x) l (ρ * j + r) h) in
       Iff·trans (same-iff (ap (λ m. has m s) z)) (Iff·trans (gone-is (getD l (ρ * j + r) 0) x s) ((λ (t, n). (p, t, n)), (λ (_, t, n). (t, n)))))
       (eq-or r x)
 
@@ -100,9 +100,9 @@ module _ (ρ φ : ℕ) where
       (λ p. let z : getD (cleared (rows ρ) x C) k 0 ≡ 0 = e1 ∙ rw (eq-eqb (k / ρ % ρ) x (f1 ∙ p)) in ((λ t. absurd (none-in c (subst (λ m. T (has m c)) z t))), (λ (n, _, _). absurd (n p))))
       (λ p. ⊎-elim
       (λ q. let z : getD (cleared (rows ρ) x C) k 0 ≡ 0 = e1 ∙ rw (ne-eqb (k / ρ % ρ) x (λ u. p (sym f1 ∙ u))) (e2 ∙ rw (eq-eqb (k % ρ) x (f2 ∙ q))) in ((λ t. absurd (none-in c (subst (λ m. T (has m c)) z t))), (λ (_, n, _). absurd (n q))))
-      (λ q. let z : getD (cleared (rows ρ) x C) k 0 ≡ bitOr (movedOf (getD l k 0) 0 (2 ^ x)) (cond ((eqb h f && has one a) && has two b) (2 ^ x) 0) =
+      (λ q. let z : getD (cleared (rows ρ) x C) k 0 ≡ bitOr (maskMoved (getD l k 0) 0 (2 ^ x)) (cond ((eqb h f && has one a) && has two b) (2 ^ x) 0) =
       e1 ∙ rw (ne-eqb (k / ρ % ρ) x (λ u. p (sym f1 ∙ u))) (e2 ∙ rw (ne-eqb (k % ρ) x (λ u. q (sym f2 ∙ u))) (added-at ρ (has one) f two (2 ^ x) B k lB ∙ ap₂ bitOr (moved-at 0 (2 ^ x) l k lk) (rw (f0, f1, f2)))) in
-      Iff·trans (same-iff (ap (λ m. has m c) z)) (Iff·trans (or-is (movedOf (getD l k 0) 0 (2 ^ x)) (cond ((eqb h f && has one a) && has two b) (2 ^ x) 0) c) (
+      Iff·trans (same-iff (ap (λ m. has m c) z)) (Iff·trans (or-is (maskMoved (getD l k 0) 0 (2 ^ x)) (cond ((eqb h f && has one a) && has two b) (2 ^ x) 0) c) (
         (λ t. (p, q, ⊎-elim (λ u. inl (gone-is (getD l k 0) x c .0 u)) (λ u. inr (fresh (eqb h f) (has one a) (has two b) .0 u)) t)),
         (λ (_, _, t). ⊎-elim (λ u. inl (gone-is (getD l k 0) x c .1 u)) (λ u. inr (fresh (eqb h f) (has one a) (has two b) .1 u)) t),
       )))
@@ -144,13 +144,13 @@ module _ (ρ φ : ℕ) where
     unfolding appliedOf
     unequal-is r s rb = row-forgotten x (w .unequal) r s (sh .unequal) rb
 
-    same-go : {r s p q : ℕ} → r < ρ → At x r p → At x s q → T (view ρ φ w′ .same r s) ↔ T (W .same p q)
+    same-go : {r s p q : ℕ} → r < ρ → GrownRegister x r p → GrownRegister x s q → T (view ρ φ w′ .same r s) ↔ T (W .same p q)
     same-go {r} {s} rb (here a) (here b) = ((λ t. tt), (λ t. class-here r s a .1 b))
     same-go {r} {s} rb (here a) (there b) = ((λ t. absurd (b (class-here r s a .0 t))), (λ t. absurd t))
     same-go {r} {s} rb (there a) (here b) = ((λ t. absurd (class-there r s rb a .0 t .1 b)), (λ t. absurd t))
     same-go {r} {s} rb (there a) (there b) = ((λ t. class-there r s rb a .0 t .0), (λ t. class-there r s rb a .1 (t, b)))
 
-    apart-go : {r s p q : ℕ} → r < ρ → At x r p → At x s q → T (view ρ φ w′ .apart r s) ↔ T (W .apart p q)
+    apart-go : {r s p q : ℕ} → r < ρ → GrownRegister x r p → GrownRegister x s q → T (view ρ φ w′ .apart r s) ↔ T (W .apart p q)
     apart-go {r} {s} rb (here a) b = ((λ t. absurd (unequal-is r s rb .0 t .0 a)), (λ t. absurd t))
     apart-go {r} {s} rb (there a) (here b) = ((λ t. absurd (unequal-is r s rb .0 t .2 b)), (λ t. absurd t))
     apart-go {r} {s} rb (there a) (there b) = ((λ t. unequal-is r s rb .0 t .1), (λ t. unequal-is r s rb .1 (a, t, b)))
@@ -169,7 +169,7 @@ module _ (ρ φ : ℕ) where
           (λ u. rw u (Iff·trans (renewed-is x f one two (w .result) (sh .result) h a b c (ltb→lt h φ (truth (ltb h φ) u)) ab bb) ((λ (p, q, t). (tt, p, q, t)), (λ (_, p, q, t). (p, q, t)))))
           (λ u. rw u ((λ k. absurd k), (λ (k, _, _, _). k)))
 
-      result-go : {p q o : ℕ} → At x a p → At x b q → At x c o → T (view ρ φ w′ .result h a b c) ↔ T (W .result h p q o)
+      result-go : {p q o : ℕ} → GrownRegister x a p → GrownRegister x b q → GrownRegister x c o → T (view ρ φ w′ .result h a b c) ↔ T (W .result h p q o)
       result-go (here k) l m = ((λ t. absurd (result-is .0 t .1 k)), (λ t. absurd t))
       result-go (there k) (here l) m = ((λ t. absurd (result-is .0 t .2 l)), (λ t. absurd t))
       result-go (there k) (there l) (here m) = (
@@ -208,7 +208,7 @@ module _ (ρ φ : ℕ) where
                 (λ t. ⊎-elim inl (λ u. inr (part (eqb h f) (has one a) .1 u)) t),
               ))
 
-      ever-go : {p q : ℕ} → At x a p → At x b q → T (view ρ φ w′ .ever h a b) ↔ T (W .ever h p q)
+      ever-go : {p q : ℕ} → GrownRegister x a p → GrownRegister x b q → T (view ρ φ w′ .ever h a b) ↔ T (W .ever h p q)
       ever-go (here k) l = ((λ t. absurd (ever-is .0 t .1 k)), (λ t. absurd t))
       ever-go (there k) (here l) = ((λ t. absurd (ever-is .0 t .2 l)), (λ t. absurd t))
       ever-go (there k) (there l) =
@@ -277,7 +277,7 @@ module _ (ρ φ : ℕ) where
     not-still : sizeOf ρ (getD (w .class) x 0) ≡ 1 → ¬ Still′ (suc n) W (target x) n (suc x)
     not-still one (r, rb, t) = go (at x r) t
       where
-        go : {k : ℕ} → At x r k → T (W .same (suc x) k) → ⊥
+        go : {k : ℕ} → GrownRegister x r k → T (W .same (suc x) k) → ⊥
         go (here p) t = t
         go (there p) t = p (only ρ φ w n g i x xb one r rb t)
 
@@ -329,9 +329,9 @@ module _ (ρ φ : ℕ) where
         let (ab, bb, cc) = first-below ρ φ w n g i x xb k c kb cb t in
         let bad = not-still one in
         record {
-          function = Function ρ k;
-          first = suc (First ρ k);
-          second = suc (Second ρ k);
+          function = placeFunction ρ k;
+          first = suc (placeFirst ρ k);
+          second = suc (placeSecond ρ k);
           to = suc c;
           first-below = suc-le-suc ab;
           second-below = suc-le-suc bb;
@@ -358,9 +358,9 @@ module _ (ρ φ : ℕ) where
           lost = b .lost;
         }
       where
-        over-up : {q s : ℕ} (k c : ℕ) → k < φ * ρ * ρ → c < ρ → T (has (getD (w .result) k 0) c) → q < n → (q ≡ First ρ k) ⊎ (q ≡ Second ρ k) → First ρ k < n → Second ρ k < n → c < n
+        over-up : {q s : ℕ} (k c : ℕ) → k < φ * ρ * ρ → c < ρ → T (has (getD (w .result) k 0) c) → q < n → (q ≡ placeFirst ρ k) ⊎ (q ≡ placeSecond ρ k) → placeFirst ρ k < n → placeSecond ρ k < n → c < n
             → Over′ (suc n) W (suc c) s → Over′ (suc n) W (suc q) s
-        over-up {q} k c kb cb t qb v ab bb cc (at′ sb d) = above′ (Function ρ k) {a = suc (First ρ k)} {b = suc (Second ρ k)} {c = suc c} (suc-le-suc ab) (suc-le-suc bb) (suc-le-suc cc) sb (at′ (suc-le-suc qb) (g .self q qb))
+        over-up {q} k c kb cb t qb v ab bb cc (at′ sb d) = above′ (placeFunction ρ k) {a = suc (placeFirst ρ k)} {b = suc (placeSecond ρ k)} {c = suc c} (suc-le-suc ab) (suc-le-suc bb) (suc-le-suc cc) sb (at′ (suc-le-suc qb) (g .self q qb))
             (⊎-elim (λ p. inl (subst (λ z. T (view ρ φ w .same q z)) p (g .self q qb))) (λ p. inr (subst (λ z. T (view ρ φ w .same q z)) p (g .self q qb))) v) (cell-result ρ φ w k c kb t) d
         over-up k c kb cb t qb v ab bb cc (above′ h ab′ bb′ cb′ sb o d m j) = above′ h ab′ bb′ cb′ sb (over-up k c kb cb t qb v ab bb cc o) d m j
 
@@ -429,7 +429,7 @@ module _ (ρ φ : ℕ) where
     unfolding appliedOf
     kept-infeasible = refl
 
-    marked-go : {r p : ℕ} → r < n → At x r p → T (view ρ φ w′ .marked r) ↔ (T (W .marked p) ⊎ Bared′ (suc n) W (target x) n p)
+    marked-go : {r p : ℕ} → r < n → GrownRegister x r p → T (view ρ φ w′ .marked r) ↔ (T (W .marked p) ⊎ Bared′ (suc n) W (target x) n p)
     marked-go {r} rb (here d) = ((λ t. absurd (no-truth (view ρ φ w′ .marked r) (marked-here r (low r rb) d) t)), (λ k. absurd (⊎-elim (λ t. t) no-bared k)))
     marked-go {r} rb (there d) = Iff·trans (same-iff (marked-there r (low r rb) d)) (
       (λ t. ⊎-elim inl (λ k. let (o, b) = fall r .0 k in inr (bared-i o rb b)) (or-e (view ρ φ w .marked r) (has F r) t)),
@@ -456,13 +456,13 @@ module _ (ρ φ : ℕ) where
       marked = λ r rb t. marked-in rb t (eq-or r x);
     }
       where
-        same-in : {r s p q : ℕ} → r < ρ → s < ρ → At x r p → At x s q → T (W .same p q) → (r < n) × (s < n)
+        same-in : {r s p q : ℕ} → r < ρ → s < ρ → GrownRegister x r p → GrownRegister x s q → T (W .same p q) → (r < n) × (s < n)
         same-in rb sb (here d) (here d′) t = (subst (λ z. z < n) (sym d) xb, subst (λ z. z < n) (sym d′) xb)
         same-in rb sb (here d) (there d′) t = absurd t
         same-in rb sb (there d) (here d′) t = absurd t
         same-in {r} {s} rb sb (there d) (there d′) t = i .same r s rb sb t
 
-        apart-in : {r s p q : ℕ} → r < ρ → s < ρ → At x r p → At x s q → T (W .apart p q) → (r < n) × (s < n)
+        apart-in : {r s p q : ℕ} → r < ρ → s < ρ → GrownRegister x r p → GrownRegister x s q → T (W .apart p q) → (r < n) × (s < n)
         apart-in rb sb (here d) k t = absurd t
         apart-in rb sb (there d) (here d′) t = absurd t
         apart-in {r} {s} rb sb (there d) (there d′) t = i .apart r s rb sb t
@@ -472,13 +472,13 @@ module _ (ρ φ : ℕ) where
             let r = and-r (eqb h f) (view ρ φ w .same y a && view ρ φ w .same z b) t in
             (i .same y a (low y yb) ab (and-l (view ρ φ w .same y a) (view ρ φ w .same z b) r) .1, i .same z b (low z zb) bb (and-r (view ρ φ w .same y a) (view ρ φ w .same z b) r) .1)
 
-        result-in : (h : ℕ) {a b c p q o : ℕ} → a < ρ → b < ρ → c < ρ → At x a p → At x b q → At x c o → T (W .result h p q o) → (a < n) × (b < n) × (c < n)
+        result-in : (h : ℕ) {a b c p q o : ℕ} → a < ρ → b < ρ → c < ρ → GrownRegister x a p → GrownRegister x b q → GrownRegister x c o → T (W .result h p q o) → (a < n) × (b < n) × (c < n)
         result-in h ab bb cb (here d) k l t = absurd t
         result-in h ab bb cb (there d) (here d′) l t = absurd t
         result-in h {a} {b} ab bb cb (there d) (there d′) (here d″) t = let (p, q) = new-in h a b ab bb t in (p, q, subst (λ z. z < n) (sym d″) xb)
         result-in h {a} {b} {c} ab bb cb (there d) (there d′) (there d″) t = i .result h a b c ab bb cb t
 
-        ever-in : (h : ℕ) {a b p q : ℕ} → a < ρ → b < ρ → At x a p → At x b q → T (W .ever h p q) → (a < n) × (b < n)
+        ever-in : (h : ℕ) {a b p q : ℕ} → a < ρ → b < ρ → GrownRegister x a p → GrownRegister x b q → T (W .ever h p q) → (a < n) × (b < n)
         ever-in h ab bb (here d) k t = absurd t
         ever-in h ab bb (there d) (here d′) t = absurd t
         ever-in h {a} {b} ab bb (there d) (there d′) t = ⊎-elim (λ k. i .ever h a b ab bb k) (λ k. new-in h a b ab bb k) (or-e (view ρ φ w .ever h a b) (new h a b) t)

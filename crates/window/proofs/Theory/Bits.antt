@@ -15,7 +15,7 @@ use Rattle.base.specs.LeastAndSize.{leastIn}
 use Rattle.base.proofs.Theory.MaskLaws.{bit-or, bit-and, bit-single-same, bit-single-other, least-below, least-in, bits-same}
 use Rattle.semantics.proofs.Theory.Booleans.{or-e, or-l, or-r, and-l, and-r, and-i}
 use Rattle.semantics.proofs.Theory.Of.{same-test}
-use Rattle.window.specs.Bits.{minus, nonempty, movedOf}
+use Rattle.window.specs.Bits.{minus, nonempty, maskMoved}
 
 -- ---- tests as facts
 
@@ -143,20 +143,20 @@ pub or-small : (ρ a b : ℕ) → a < 2 ^ ρ → b < 2 ^ ρ → bitOr a b < 2 ^ 
 or-small ρ a b p q = or-lt ρ a b p q
 
 -- a register of `to` is in it if some register of `from` was, and any other if it was itself
-pub moved-in : (ρ m from to c : ℕ) → from < 2 ^ ρ → T (has to c) → T (has (movedOf m from to) c) ↔ ((d : ℕ) × T (has from d) × T (has m d))
-unfolding movedOf
+pub moved-in : (ρ m from to c : ℕ) → from < 2 ^ ρ → T (has to c) → T (has (maskMoved m from to) c) ↔ ((d : ℕ) × T (has from d) × T (has m d))
+unfolding maskMoved
 moved-in ρ m from to c b t = byTest (eqb (bitAnd m from) 0)
     (λ e. rw e ((λ k. absurd (minus-is m to c .0 k .1 t)), (λ (d, p, q). absurd (meets-not m from d q p (eqb-true (bitAnd m from) 0 e)))))
     (λ e. rw e ((λ k. let (d, _, q, p) = meets ρ m from b (eqb-false (bitAnd m from) 0 e) in (d, p, q)), (λ k. or-is m to c .1 (inr t))))
 
-pub moved-out : (m from to c : ℕ) → ¬ T (has to c) → T (has (movedOf m from to) c) ↔ T (has m c)
-unfolding movedOf
+pub moved-out : (m from to c : ℕ) → ¬ T (has to c) → T (has (maskMoved m from to) c) ↔ T (has m c)
+unfolding maskMoved
 moved-out m from to c n = byTest (eqb (bitAnd m from) 0)
     (λ e. rw e ((λ k. minus-is m to c .0 k .0), (λ k. minus-is m to c .1 (k, n))))
     (λ e. rw e ((λ k. ⊎-elim (λ j. j) (λ j. absurd (n j)) (or-is m to c .0 k)), (λ k. or-is m to c .1 (inl k))))
 
-pub moved-small : (ρ m from to : ℕ) → m < 2 ^ ρ → to < 2 ^ ρ → movedOf m from to < 2 ^ ρ
-unfolding movedOf minus
+pub moved-small : (ρ m from to : ℕ) → m < 2 ^ ρ → to < 2 ^ ρ → maskMoved m from to < 2 ^ ρ
+unfolding maskMoved minus
 moved-small ρ m from to p q = byTest (eqb (bitAnd m from) 0) (λ t. rw t (xor-lt ρ (bitOr m to) to (or-small ρ m to p q) q)) (λ t. rw t (or-small ρ m to p q))
 
 -- ---- a loop over the registers of a mask

@@ -16,7 +16,7 @@ use Rattle.semantics.specs.View.{View}
 use Rattle.semantics.proofs.Theory.Steps.{Joined, turn′, join′, lift′}
 use Rattle.window.proofs.Theory.Bits.{truth, no-truth, none-in, nonempty-is, minus-is, less-or}
 use Rattle.window.specs.Bits.{nonempty, minus}
-use Rattle.window.specs.Places.{place, Function, First, Second}
+use Rattle.window.specs.Places.{place, placeFunction, placeFirst, placeSecond}
 use Rattle.window.proofs.Theory.Places.{first-below, second-below}
 use Rattle.window.specs.Performing.{restOf, findOf, mergedOf, closedOf}
 use Rattle.window.specs.Viewing.{view, Inside, Shaped}
@@ -101,10 +101,10 @@ module _ (ρ φ : ℕ) where
     pub way-more : Way n w₀ x y (mergedOf ρ φ v one two) × (suc (total ρ (v .class)) ≤ total ρ (mergedOf ρ φ v one two .class))
     way-more =
         let j = m .joining in
-        let (ab, bb, on) = m .inside .result (Function ρ k) (First ρ k) (Second ρ k) one (first-below ρ φ k kb) (second-below ρ φ k kb) ob (cell-result ρ φ v k one kb s) in
-        let (_, _, tn) = m .inside .result (Function ρ k) (First ρ k) (Second ρ k) two (first-below ρ φ k kb) (second-below ρ φ k kb) tb (cell-result ρ φ v k two kb t) in
-        let joined = both-joined n w₀ x y (Function ρ k) (First ρ k) (Second ρ k) one two
-        (j .result-e (Function ρ k) (First ρ k) (Second ρ k) one ab bb on (cell-result ρ φ v k one kb s)) (j .result-e (Function ρ k) (First ρ k) (Second ρ k) two ab bb tn (cell-result ρ φ v k two kb t)) in
+        let (ab, bb, on) = m .inside .result (placeFunction ρ k) (placeFirst ρ k) (placeSecond ρ k) one (first-below ρ φ k kb) (second-below ρ φ k kb) ob (cell-result ρ φ v k one kb s) in
+        let (_, _, tn) = m .inside .result (placeFunction ρ k) (placeFirst ρ k) (placeSecond ρ k) two (first-below ρ φ k kb) (second-below ρ φ k kb) tb (cell-result ρ φ v k two kb t) in
+        let joined = both-joined n w₀ x y (placeFunction ρ k) (placeFirst ρ k) (placeSecond ρ k) one two
+        (j .result-e (placeFunction ρ k) (placeFirst ρ k) (placeSecond ρ k) one ab bb on (cell-result ρ φ v k one kb s)) (j .result-e (placeFunction ρ k) (placeFirst ρ k) (placeSecond ρ k) two ab bb tn (cell-result ρ φ v k two kb t)) in
         let mg = merged ρ φ v (m .shaped) n (j .laws) (m .inside) one two on tn in (
           record {
             joining = joining-more n w₀ x y (view ρ φ v) j one two on tn joined (view ρ φ (mergedOf ρ φ v one two)) mg;

@@ -16,7 +16,7 @@ use Rattle.semantics.proofs.Theory.Booleans.{and-l, and-r, or-e, or-l, or-r}
 use Rattle.semantics.proofs.Theory.Steps.{copied, Renamed, Bared′, Over′, at′, above′, Still′}
 use Rattle.semantics.specs.View.{View}
 use Rattle.window.proofs.Theory.Places as places
-use Rattle.window.specs.Places.{place, Function, First, Second, place-is, first-place, second-place}
+use Rattle.window.specs.Places.{place, placeFunction, placeFirst, placeSecond, place-is, first-place, second-place}
 use Rattle.window.proofs.Theory.Places.{place-below, function-below, entry-below}
 use Rattle.window.proofs.Theory.Table.{table-at, table-length}
 use Rattle.window.proofs.Theory.Bits.{no-truth, none-zero, none-small, none-in, same-iff, eq-or}
@@ -78,8 +78,8 @@ module _ (w : View) (n : ℕ) (g : Laws n w) (s : Sound n w) (x y : ℕ) (xb : x
 
 module _ (ρ φ : ℕ) where
   module _ (w : Window) where
-    pub cell-result : (k c : ℕ) → k < φ * ρ * ρ → T (has (getD (w .result) k 0) c) → T (view ρ φ w .result (Function ρ k) (First ρ k) (Second ρ k) c)
-    cell-result k c b t = rw (lt-ltb (Function ρ k) φ (function-below ρ φ k b), place-is ρ k) t
+    pub cell-result : (k c : ℕ) → k < φ * ρ * ρ → T (has (getD (w .result) k 0) c) → T (view ρ φ w .result (placeFunction ρ k) (placeFirst ρ k) (placeSecond ρ k) c)
+    cell-result k c b t = rw (lt-ltb (placeFunction ρ k) φ (function-below ρ φ k b), place-is ρ k) t
 
     pub result-cell : (f a b c : ℕ) → a < ρ → b < ρ → T (view ρ φ w .result f a b c) → (place ρ f a b < φ * ρ * ρ) × T (has (getD (w .result) (place ρ f a b) 0) c)
     result-cell f a b c ab bb t =
@@ -106,17 +106,17 @@ module _ (ρ φ : ℕ) where
     up r b = omega (arith, i .fits)
 
     -- the entry at arguments equal to those of an entry
-    recell : (k c a b : ℕ) → k < φ * ρ * ρ → c < ρ → T (has (getD (w .result) k 0) c) → a < n → b < n → T (view ρ φ w .same (First ρ k) a) → T (view ρ φ w .same (Second ρ k) b)
-        → (j : ℕ) × (j < φ * ρ * ρ) × T (has (getD (w .result) j 0) c) × (First ρ j ≡ a) × (Second ρ j ≡ b)
+    recell : (k c a b : ℕ) → k < φ * ρ * ρ → c < ρ → T (has (getD (w .result) k 0) c) → a < n → b < n → T (view ρ φ w .same (placeFirst ρ k) a) → T (view ρ φ w .same (placeSecond ρ k) b)
+        → (j : ℕ) × (j < φ * ρ * ρ) × T (has (getD (w .result) j 0) c) × (placeFirst ρ j ≡ a) × (placeSecond ρ j ≡ b)
     recell k c a b kb cb t ab bb p q =
         let m = cell-result w k c kb t in
-        let (ab₀, bb₀, cc) = i .result (Function ρ k) (First ρ k) (Second ρ k) c (places.first-below ρ φ k kb) (places.second-below ρ φ k kb) cb m in
-        let m′ = g .result (Function ρ k) (First ρ k) (Second ρ k) c a b c ab₀ bb₀ cc ab bb cc m p q (g .self c cc) in
-        let (l, t′) = result-cell w (Function ρ k) a b c (up a ab) (up b bb) m′ in
-        (place ρ (Function ρ k) a b, l, t′, first-place ρ (Function ρ k) a b (up a ab) (up b bb), second-place ρ (Function ρ k) a b (up a ab) (up b bb))
+        let (ab₀, bb₀, cc) = i .result (placeFunction ρ k) (placeFirst ρ k) (placeSecond ρ k) c (places.first-below ρ φ k kb) (places.second-below ρ φ k kb) cb m in
+        let m′ = g .result (placeFunction ρ k) (placeFirst ρ k) (placeSecond ρ k) c a b c ab₀ bb₀ cc ab bb cc m p q (g .self c cc) in
+        let (l, t′) = result-cell w (placeFunction ρ k) a b c (up a ab) (up b bb) m′ in
+        (place ρ (placeFunction ρ k) a b, l, t′, first-place ρ (placeFunction ρ k) a b (up a ab) (up b bb), second-place ρ (placeFunction ρ k) a b (up a ab) (up b bb))
 
-    pub first-below : (k c : ℕ) → k < φ * ρ * ρ → c < ρ → T (has (getD (w .result) k 0) c) → (First ρ k < n) × (Second ρ k < n) × (c < n)
-    first-below k c kb cb t = i .result (Function ρ k) (First ρ k) (Second ρ k) c (places.first-below ρ φ k kb) (places.second-below ρ φ k kb) cb (cell-result w k c kb t)
+    pub first-below : (k c : ℕ) → k < φ * ρ * ρ → c < ρ → T (has (getD (w .result) k 0) c) → (placeFirst ρ k < n) × (placeSecond ρ k < n) × (c < n)
+    first-below k c kb cb t = i .result (placeFunction ρ k) (placeFirst ρ k) (placeSecond ρ k) c (places.first-below ρ φ k kb) (places.second-below ρ φ k kb) cb (cell-result w k c kb t)
 
     module _ (one : sizeOf ρ (getD (w .class) x 0) ≡ 1) where
       pub only : (j : ℕ) → j < n → T (view ρ φ w .same x j) → j ≡ x
@@ -129,20 +129,20 @@ module _ (ρ φ : ℕ) where
         beneath-same {q} {s} qb sb e (direct k {c} kb cb t d (inl p)) =
             let (ab, bb, cc) = first-below k c kb cb t in
             let u = subst (λ z. T (view ρ φ w .same z q)) p (g .turned q s qb sb e) in
-            let (j, l, t′, v, v′) = recell k c q (Second ρ k) kb cb t qb bb u (g .self (Second ρ k) bb) in
+            let (j, l, t′, v, v′) = recell k c q (placeSecond ρ k) kb cb t qb bb u (g .self (placeSecond ρ k) bb) in
             direct j l cb t′ (⊎-elim (λ h. inl (v ∙ only q qb (subst (λ z. T (view ρ φ w .same z q)) h u))) (⊎-elim (λ h. inr (inl (v′ ∙ h))) (λ h. inr (inr h))) d) (inl (sym v))
         beneath-same {q} {s} qb sb e (direct k {c} kb cb t d (inr p)) =
             let (ab, bb, cc) = first-below k c kb cb t in
             let u = subst (λ z. T (view ρ φ w .same z q)) p (g .turned q s qb sb e) in
-            let (j, l, t′, v, v′) = recell k c (First ρ k) q kb cb t ab qb (g .self (First ρ k) ab) u in
+            let (j, l, t′, v, v′) = recell k c (placeFirst ρ k) q kb cb t ab qb (g .self (placeFirst ρ k) ab) u in
             direct j l cb t′ (⊎-elim (λ h. inl (v ∙ h)) (⊎-elim (λ h. inr (inl (v′ ∙ only q qb (subst (λ z. T (view ρ φ w .same z q)) h u)))) (λ h. inr (inr h))) d) (inr (sym v′))
         beneath-same {q} {s} qb sb e (beneath k {c} kb cb t o (inl p)) =
             let (ab, bb, cc) = first-below k c kb cb t in
-            let (j, l, t′, v, v′) = recell k c q (Second ρ k) kb cb t qb bb (subst (λ z. T (view ρ φ w .same z q)) p (g .turned q s qb sb e)) (g .self (Second ρ k) bb) in
+            let (j, l, t′, v, v′) = recell k c q (placeSecond ρ k) kb cb t qb bb (subst (λ z. T (view ρ φ w .same z q)) p (g .turned q s qb sb e)) (g .self (placeSecond ρ k) bb) in
             beneath j l cb t′ o (inl (sym v))
         beneath-same {q} {s} qb sb e (beneath k {c} kb cb t o (inr p)) =
             let (ab, bb, cc) = first-below k c kb cb t in
-            let (j, l, t′, v, v′) = recell k c (First ρ k) q kb cb t ab qb (g .self (First ρ k) ab) (subst (λ z. T (view ρ φ w .same z q)) p (g .turned q s qb sb e)) in
+            let (j, l, t′, v, v′) = recell k c (placeFirst ρ k) q kb cb t ab qb (g .self (placeFirst ρ k) ab) (subst (λ z. T (view ρ φ w .same z q)) p (g .turned q s qb sb e)) in
             beneath j l cb t′ o (inr (sym v′))
 
         -- down a way of results
@@ -161,10 +161,10 @@ module _ (ρ φ : ℕ) where
             ub (above′ f ab bb cb sb o e m d) = up _ sb
 
     -- up by one result
-    over-up : {q s : ℕ} (k c : ℕ) → k < φ * ρ * ρ → c < ρ → T (has (getD (w .result) k 0) c) → q < n → (q ≡ First ρ k) ⊎ (q ≡ Second ρ k) → Over′ n (view ρ φ w) c s → Over′ n (view ρ φ w) q s
+    over-up : {q s : ℕ} (k c : ℕ) → k < φ * ρ * ρ → c < ρ → T (has (getD (w .result) k 0) c) → q < n → (q ≡ placeFirst ρ k) ⊎ (q ≡ placeSecond ρ k) → Over′ n (view ρ φ w) c s → Over′ n (view ρ φ w) q s
     over-up {q} k c kb cb t qb e (at′ sb d) =
         let (ab, bb, cc) = first-below k c kb cb t in
-        above′ (Function ρ k) ab bb cc sb (at′ qb (g .self q qb)) (⊎-elim (λ p. inl (subst (λ z. T (view ρ φ w .same q z)) p (g .self q qb))) (λ p. inr (subst (λ z. T (view ρ φ w .same q z)) p (g .self q qb))) e) (cell-result w k c kb t) d
+        above′ (placeFunction ρ k) ab bb cc sb (at′ qb (g .self q qb)) (⊎-elim (λ p. inl (subst (λ z. T (view ρ φ w .same q z)) p (g .self q qb))) (λ p. inr (subst (λ z. T (view ρ φ w .same q z)) p (g .self q qb))) e) (cell-result w k c kb t) d
     over-up k c kb cb t qb e (above′ f ab bb cb′ sb o d m h) = above′ f ab bb cb′ sb (over-up k c kb cb t qb e o) d m h
 
     beneath-below : {q : ℕ} → Beneath ρ φ (w .result) x 0 q → q < n
@@ -191,9 +191,9 @@ module _ (ρ φ : ℕ) where
           let (ab, bb, cc) = first-below k c kb cb t in
           let no = not-still one d in
           record {
-            function = Function ρ k;
-            first = First ρ k;
-            second = Second ρ k;
+            function = placeFunction ρ k;
+            first = placeFirst ρ k;
+            second = placeSecond ρ k;
             to = c;
             first-below = ab;
             second-below = bb;

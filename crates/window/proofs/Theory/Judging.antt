@@ -67,7 +67,7 @@ part-has one two k s = byTest (has one k)
 module _ (ρ φ : ℕ) where
   -- ---- a window made infeasible where it is bad
 
-  pub record Settled (w : Window) (bad : Bool) (r : Window) : Type 0 where
+  pub record SettledWindow (w : Window) (bad : Bool) (r : Window) : Type 0 where
     pub class : r .class ≡ w .class
     pub result : r .result ≡ w .result
     pub ever : r .ever ≡ w .ever
@@ -75,7 +75,7 @@ module _ (ρ φ : ℕ) where
     pub infeasible : r .infeasible ≡ (w .infeasible || bad)
     pub unequal : (k : ℕ) → k < ρ → getD (r .unequal) k 0 ≡ cond (w .infeasible || bad) 0 (getD (w .unequal) k 0)
 
-  pub settled-is : (w : Window) (bad : Bool) → Settled w bad (settledOf ρ φ w bad)
+  pub settled-is : (w : Window) (bad : Bool) → SettledWindow w bad (settledOf ρ φ w bad)
   unfolding settledOf
   settled-is w bad = byTest (w .infeasible || bad)
       (λ t. rw t (record { class = refl; result = refl; ever = refl; mark = refl; infeasible = sym t; unequal = λ k b. getD-replicate ρ k 0 0 b ∙ ap (λ z. cond z 0 (getD (w .unequal) k 0)) (sym t) }))
@@ -85,7 +85,7 @@ module _ (ρ φ : ℕ) where
       none true b e = e
       none false b e = refl
 
-  module _ (w : Window) (bad : Bool) (r : Window) (e : Settled w bad r) where
+  module _ (w : Window) (bad : Bool) (r : Window) (e : SettledWindow w bad r) where
     same-settled : (a b : ℕ) → T (view ρ φ r .same a b) ↔ T (view ρ φ w .same a b)
     same-settled a b = same-iff (ap (λ l. has (getD l a 0) b) (e .class))
 
@@ -182,7 +182,7 @@ module _ (ρ φ : ℕ) where
     abbrev r : Window
     r = settledOf ρ φ v bad
 
-    e : Settled (closedOf ρ φ (ρ * ρ + 1) (mergedOf ρ φ w x y)) bad (settledOf ρ φ (closedOf ρ φ (ρ * ρ + 1) (mergedOf ρ φ w x y)) bad)
+    e : SettledWindow (closedOf ρ φ (ρ * ρ + 1) (mergedOf ρ φ w x y)) bad (settledOf ρ φ (closedOf ρ φ (ρ * ρ + 1) (mergedOf ρ φ w x y)) bad)
     e = settled-is v bad
 
     pub equated : Equated n (view ρ φ w) x y (view ρ φ r)
@@ -231,7 +231,7 @@ module _ (ρ φ : ℕ) where
     abbrev r′ : Window
     r′ = settledOf ρ φ v′ apart-bad
 
-    e′ : Settled (withUnequal w (partedOf ρ φ (w .unequal) (getD (w .class) x 0) (getD (w .class) y 0)) (w .infeasible)) (has (getD (w .class) x 0) y) (settledOf ρ φ v′ apart-bad)
+    e′ : SettledWindow (withUnequal w (partedOf ρ φ (w .unequal) (getD (w .class) x 0) (getD (w .class) y 0)) (w .infeasible)) (has (getD (w .class) x 0) y) (settledOf ρ φ v′ apart-bad)
     e′ = settled-is v′ apart-bad
 
     pub separated : Separated n (view ρ φ w) x y (view ρ φ r′)

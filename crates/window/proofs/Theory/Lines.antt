@@ -12,10 +12,10 @@ use lib.Seq.{getD-set-same, getD-set-other}
 use borrow.Author.Tests.{eq-eqb, ne-eqb, eqb-true, eqb-false}
 use Rattle.base.proofs.Theory.Choice.{byTest}
 use Rattle.window.proofs.Theory.Table.{table-length, table-at, table-is}
-use Rattle.window.specs.Lines.{Lines, at, unitedAt, united, clearedAt, cleared}
+use Rattle.window.specs.Lines.{TableLines, entryOnLine, unitedAt, united, clearedAt, cleared}
 
-module _ {ρ : ℕ} (L : Lines ρ) where
-  at-entry : (j r d : ℕ) → r < ρ → at L (L .entry j r) d ≡ L .entry j d
+module _ {ρ : ℕ} (L : TableLines ρ) where
+  at-entry : (j r d : ℕ) → r < ρ → entryOnLine L (L .entry j r) d ≡ L .entry j d
   at-entry j r d rb = ap (λ k. L .entry k d) (L .line-entry j r rb)
 
   pub united-length : (P : ℕ → Bool) (a b : ℕ) (l : List ℕ) → length (united L P a b l) ≡ length l
@@ -102,15 +102,15 @@ module _ {ρ : ℕ} (L : Lines ρ) where
   -- ---- a loop over the registers that unites along the lines at each register of a mask
 
   module _ (n : ℕ) (old : List ℕ) (sp : Spans n old) (a : ℕ) (ab : a < ρ) where
-    at-below : (i d : ℕ) → i < length old → d < ρ → at L i d < length old
+    at-below : (i d : ℕ) → i < length old → d < ρ → entryOnLine L i d < length old
     at-below i d h db = sp .inside (L .line i) d (sp .reached i h) db
 
     -- the entry of a stays what it is
-    still : (P : ℕ → Bool) (i : ℕ) → i < length old → getD (united L P a a old) (at L i a) 0 ≡ getD old (at L i a) 0
+    still : (P : ℕ → Bool) (i : ℕ) → i < length old → getD (united L P a a old) (entryOnLine L i a) 0 ≡ getD old (entryOnLine L i a) 0
     unfolding unitedAt
     still P i h =
         let j = L .line i in
-        united-at P a a old (at L i a) (at-below i a h ab) ∙ rw (L .along-entry j a ab, at-entry j a a ab) (both (P a) (getD old (at L i a) 0))
+        united-at P a a old (entryOnLine L i a) (at-below i a h ab) ∙ rw (L .along-entry j a ab, at-entry j a a ab) (both (P a) (getD old (entryOnLine L i a) 0))
       where
         both : (p : Bool) (x : ℕ) → cond p (bitOr x x) x ≡ x
         both true x = or-self x
@@ -130,7 +130,7 @@ module _ {ρ : ℕ} (L : Lines ρ) where
     unfolding united unitedAt
     united-twice P b e = table-is (unitedAt L P a b old) (length old) (united L P a a J) 0 (united-length P a a J ∙ united-length (λ s. eqb s a) a b old)
         (λ i h. united-at P a a J i (rw (united-length (λ s. eqb s a) a b old) h) ∙ byTest (P (L .along i))
-        (λ t. rw t (ap₂ bitOr (joined i h) (joined i h) ∙ or-self (bitOr (getD old (at L i a) 0) (getD old (at L i b) 0))))
+        (λ t. rw t (ap₂ bitOr (joined i h) (joined i h) ∙ or-self (bitOr (getD old (entryOnLine L i a) 0) (getD old (entryOnLine L i b) 0))))
         (λ t. rw t (united-at (λ s. eqb s a) a b old i h ∙ rw (ne-eqb (L .along i) a (λ k. no (sym (ap P k ∙ e) ∙ t))))))
       where
         J : List ℕ
@@ -139,8 +139,8 @@ module _ {ρ : ℕ} (L : Lines ρ) where
         no : _≡_ {A = Bool} true false → ⊥
         no z = subst T z tt
 
-        joined : (i : ℕ) → i < length old → getD J (at L i a) 0 ≡ bitOr (getD old (at L i a) 0) (getD old (at L i b) 0)
-        joined i h = united-at (λ s. eqb s a) a b old (at L i a) (at-below i a h ab) ∙ united-here a a b old (L .line i) ab
+        joined : (i : ℕ) → i < length old → getD J (entryOnLine L i a) 0 ≡ bitOr (getD old (entryOnLine L i a) 0) (getD old (entryOnLine L i b) 0)
+        joined i h = united-at (λ s. eqb s a) a b old (entryOnLine L i a) (at-below i a h ab) ∙ united-here a a b old (L .line i) ab
 
   pub united-none : (a b : ℕ) (old : List ℕ) (P : ℕ → Bool) → ((s : ℕ) → P s ≡ false) → old ≡ united L P a b old
   unfolding united unitedAt

@@ -14,7 +14,7 @@ use borrow.Author.Tests.{eqb-true, eqb-false}
 use Rattle.base.proofs.Theory.Choice.{byTest}
 use Rattle.base.specs.Masks.{has}
 use Rattle.semantics.proofs.Theory.Booleans.{and-l, and-r, and-i}
-use Rattle.window.specs.Places.{place, Function, First, Second, place-sum, place-is, first-place, second-place}
+use Rattle.window.specs.Places.{place, placeFunction, placeFirst, placeSecond, place-sum, place-is, first-place, second-place}
 use Rattle.window.proofs.Theory.Places.{place-below, function-below, first-below, second-below, entry-below}
 use Rattle.window.proofs.Theory.Table.{table-at}
 use Rattle.window.specs.Bits.{nonempty}
@@ -248,7 +248,7 @@ module _ (ρ φ : ℕ) where
 
   -- c holds a result with h as an argument
   abbrev pub Up : List ℕ → ℕ → ℕ → Type 0
-  Up l h c = (k : ℕ) × (k < φ * ρ * ρ) × T (has (getD l k 0) c) × ((h ≡ First ρ k) ⊎ (h ≡ Second ρ k))
+  Up l h c = (k : ℕ) × (k < φ * ρ * ρ) × T (has (getD l k 0) c) × ((h ≡ placeFirst ρ k) ⊎ (h ≡ placeSecond ρ k))
 
   pub above-is : (l : List ℕ) (h c : ℕ) → h < ρ → T (has (getD (aboveOf ρ (foldedOf ρ φ l)) h 0) c) ↔ Up l h c
   unfolding aboveOf
@@ -265,16 +265,16 @@ module _ (ρ φ : ℕ) where
             (place ρ f j h, place-below ρ f j h b hb φ fb, w, inr (sym (second-place ρ f j h b hb)))) k),
         (λ (k, kb, w, d). ⊎-elim
             (λ p. inl (union-is t (ρ * h) 1 ρ c .1 (
-              Second ρ k,
+              placeSecond ρ k,
               second-below ρ φ k kb,
-              subst (λ z. T (has (getD (foldedOf ρ φ l) z 0) c)) (sym (across (Second ρ k)))
-                  (folded-is l h (Second ρ k) c hb (second-below ρ φ k kb) .1 (Function ρ k, function-below ρ φ k kb, subst (λ z. T (has (getD l z 0) c)) (sym (ap (λ a. place ρ (Function ρ k) a (Second ρ k)) p ∙ place-is ρ k)) w)),
+              subst (λ z. T (has (getD (foldedOf ρ φ l) z 0) c)) (sym (across (placeSecond ρ k)))
+                  (folded-is l h (placeSecond ρ k) c hb (second-below ρ φ k kb) .1 (placeFunction ρ k, function-below ρ φ k kb, subst (λ z. T (has (getD l z 0) c)) (sym (ap (λ a. place ρ (placeFunction ρ k) a (placeSecond ρ k)) p ∙ place-is ρ k)) w)),
             )))
             (λ p. inr (union-is t h ρ ρ c .1 (
-              First ρ k,
+              placeFirst ρ k,
               first-below ρ φ k kb,
-              subst (λ z. T (has (getD (foldedOf ρ φ l) z 0) c)) (sym (down (First ρ k)))
-                  (folded-is l (First ρ k) h c (first-below ρ φ k kb) hb .1 (Function ρ k, function-below ρ φ k kb, subst (λ z. T (has (getD l z 0) c)) (sym (ap (λ b. place ρ (Function ρ k) (First ρ k) b) p ∙ place-is ρ k)) w)),
+              subst (λ z. T (has (getD (foldedOf ρ φ l) z 0) c)) (sym (down (placeFirst ρ k)))
+                  (folded-is l (placeFirst ρ k) h c (first-below ρ φ k kb) hb .1 (placeFunction ρ k, function-below ρ φ k kb, subst (λ z. T (has (getD l z 0) c)) (sym (ap (λ b. place ρ (placeFunction ρ k) (placeFirst ρ k) b) p ∙ place-is ρ k)) w)),
             ))) d),
       ))
     where
@@ -286,12 +286,12 @@ module _ (ρ φ : ℕ) where
 
 -- ---- the registers from which a set is reached by held results
 
-pub data Below (ρ φ : ℕ) (l : List ℕ) (seed : ℕ) : ℕ → Type 0 where
-  seeded : {h : ℕ} → T (has seed h) → Below ρ φ l seed h
-  lower : {c h : ℕ} → h < ρ → c < ρ → Up ρ φ l h c → Below ρ φ l seed c → Below ρ φ l seed h
+pub data BelowSeed (ρ φ : ℕ) (l : List ℕ) (seed : ℕ) : ℕ → Type 0 where
+  seeded : {h : ℕ} → T (has seed h) → BelowSeed ρ φ l seed h
+  lower : {c h : ℕ} → h < ρ → c < ρ → Up ρ φ l h c → BelowSeed ρ φ l seed c → BelowSeed ρ φ l seed h
 
 module _ (ρ φ : ℕ) (l : List ℕ) where
-  passes-sound : (n seed s h : ℕ) → ((g : ℕ) → T (has s g) → Below ρ φ l seed g) → T (has (passes ρ (aboveOf ρ (foldedOf ρ φ l)) n s) h) → Below ρ φ l seed h
+  passes-sound : (n seed s h : ℕ) → ((g : ℕ) → T (has s g) → BelowSeed ρ φ l seed g) → T (has (passes ρ (aboveOf ρ (foldedOf ρ φ l)) n s) h) → BelowSeed ρ φ l seed h
   unfolding passes
   passes-sound zero seed s h f t = f h t
   passes-sound (suc n) seed s h f t = passes-sound n seed (bitOr s (belowOf ρ (aboveOf ρ (foldedOf ρ φ l)) s ρ)) h
@@ -302,14 +302,14 @@ module _ (ρ φ : ℕ) (l : List ℕ) where
   passes-keep zero s h t = t
   passes-keep (suc n) s h t = passes-keep n (bitOr s (belowOf ρ (aboveOf ρ (foldedOf ρ φ l)) s ρ)) h (or-is s (belowOf ρ (aboveOf ρ (foldedOf ρ φ l)) s ρ) h .1 (inl t))
 
-  pub raised-is : (seed h : ℕ) → seed < 2 ^ ρ → T (has (raisedOf ρ (aboveOf ρ (foldedOf ρ φ l)) seed) h) ↔ Below ρ φ l seed h
+  pub raised-is : (seed h : ℕ) → seed < 2 ^ ρ → T (has (raisedOf ρ (aboveOf ρ (foldedOf ρ φ l)) seed) h) ↔ BelowSeed ρ φ l seed h
   unfolding raisedOf
   raised-is seed h b = (passes-sound (2 ^ ρ) seed seed h (λ g t. seeded t), back)
     where
       p : ℕ
       p = passes ρ (aboveOf ρ (foldedOf ρ φ l)) (2 ^ ρ) seed
 
-      back : {h : ℕ} → Below ρ φ l seed h → T (has (passes ρ (aboveOf ρ (foldedOf ρ φ l)) (2 ^ ρ) seed) h)
+      back : {h : ℕ} → BelowSeed ρ φ l seed h → T (has (passes ρ (aboveOf ρ (foldedOf ρ φ l)) (2 ^ ρ) seed) h)
       back {h} (seeded t) = passes-keep (2 ^ ρ) seed h t
       back {h} (lower {c} hb cb u o) = subst (λ m. T (has m h)) (passes-ended ρ (aboveOf ρ (foldedOf ρ φ l)) (2 ^ ρ) seed b (omega arith))
           (or-is p (belowOf ρ (aboveOf ρ (foldedOf ρ φ l)) p ρ) h .1 (inr (below-is ρ (aboveOf ρ (foldedOf ρ φ l)) p ρ h .1 (hb, (c, cb, above-is ρ φ l h c hb .1 u, back o)))))
@@ -317,15 +317,15 @@ module _ (ρ φ : ℕ) (l : List ℕ) where
 -- h reaches, by zero or more results, an argument of a result that has x, or a register of `more`
 pub data Beneath (ρ φ : ℕ) (l : List ℕ) (x more : ℕ) : ℕ → Type 0 where
   extra : {h : ℕ} → T (has more h) → Beneath ρ φ l x more h
-  direct : (k : ℕ) {c h : ℕ} → k < φ * ρ * ρ → c < ρ → T (has (getD l k 0) c) → (First ρ k ≡ x) ⊎ ((Second ρ k ≡ x) ⊎ (c ≡ x)) → (h ≡ First ρ k) ⊎ (h ≡ Second ρ k) → Beneath ρ φ l x more h
-  beneath : (k : ℕ) {c h : ℕ} → k < φ * ρ * ρ → c < ρ → T (has (getD l k 0) c) → Beneath ρ φ l x more c → (h ≡ First ρ k) ⊎ (h ≡ Second ρ k) → Beneath ρ φ l x more h
+  direct : (k : ℕ) {c h : ℕ} → k < φ * ρ * ρ → c < ρ → T (has (getD l k 0) c) → (placeFirst ρ k ≡ x) ⊎ ((placeSecond ρ k ≡ x) ⊎ (c ≡ x)) → (h ≡ placeFirst ρ k) ⊎ (h ≡ placeSecond ρ k) → Beneath ρ φ l x more h
+  beneath : (k : ℕ) {c h : ℕ} → k < φ * ρ * ρ → c < ρ → T (has (getD l k 0) c) → Beneath ρ φ l x more c → (h ≡ placeFirst ρ k) ⊎ (h ≡ placeSecond ρ k) → Beneath ρ φ l x more h
 
 module _ (ρ φ : ℕ) (l : List ℕ) (x more : ℕ) (xb : x < ρ) (mb : more < 2 ^ ρ) where
-  argument-below : (k h : ℕ) → (h ≡ First ρ k) ⊎ (h ≡ Second ρ k) → h < ρ
+  argument-below : (k h : ℕ) → (h ≡ placeFirst ρ k) ⊎ (h ≡ placeSecond ρ k) → h < ρ
   argument-below k h d = let p : 0 < ρ = omega arith in ⊎-elim (λ e. subst (λ z. z < ρ) (sym e) (mod-lt (k / ρ) p)) (λ e. subst (λ z. z < ρ) (sym e) (mod-lt k p)) d
 
   seed-is : (h : ℕ) → T (has (bitOr (bitOr (bitOr (belowOf ρ (aboveOf ρ (foldedOf ρ φ l)) (2 ^ x) ρ) (besideOf ρ (foldedOf ρ φ l) x ρ)) (flagOf ρ (getD (aboveOf ρ (foldedOf ρ φ l)) x 0) x)) more) h)
-      ↔ (T (has more h) ⊎ ((k : ℕ) × (c : ℕ) × (k < φ * ρ * ρ) × (c < ρ) × T (has (getD l k 0) c) × ((First ρ k ≡ x) ⊎ ((Second ρ k ≡ x) ⊎ (c ≡ x))) × ((h ≡ First ρ k) ⊎ (h ≡ Second ρ k))))
+      ↔ (T (has more h) ⊎ ((k : ℕ) × (c : ℕ) × (k < φ * ρ * ρ) × (c < ρ) × T (has (getD l k 0) c) × ((placeFirst ρ k ≡ x) ⊎ ((placeSecond ρ k ≡ x) ⊎ (c ≡ x))) × ((h ≡ placeFirst ρ k) ⊎ (h ≡ placeSecond ρ k))))
   seed-is h = (into, out)
     where
       B : ℕ
@@ -338,15 +338,15 @@ module _ (ρ φ : ℕ) (l : List ℕ) (x more : ℕ) (xb : x < ρ) (mb : more < 
       G = flagOf ρ (getD (aboveOf ρ (foldedOf ρ φ l)) x 0) x
 
       Found : Type 0
-      Found = (k : ℕ) × (c : ℕ) × (k < φ * ρ * ρ) × (c < ρ) × T (has (getD l k 0) c) × ((First ρ k ≡ x) ⊎ ((Second ρ k ≡ x) ⊎ (c ≡ x))) × ((h ≡ First ρ k) ⊎ (h ≡ Second ρ k))
+      Found = (k : ℕ) × (c : ℕ) × (k < φ * ρ * ρ) × (c < ρ) × T (has (getD l k 0) c) × ((placeFirst ρ k ≡ x) ⊎ ((placeSecond ρ k ≡ x) ⊎ (c ≡ x))) × ((h ≡ placeFirst ρ k) ⊎ (h ≡ placeSecond ρ k))
 
-      from-below : T (has (belowOf ρ (aboveOf ρ (foldedOf ρ φ l)) (2 ^ x) ρ) h) → (k : ℕ) × (c : ℕ) × (k < φ * ρ * ρ) × (c < ρ) × T (has (getD l k 0) c) × ((First ρ k ≡ x) ⊎ ((Second ρ k ≡ x) ⊎ (c ≡ x))) × ((h ≡ First ρ k) ⊎ (h ≡ Second ρ k))
+      from-below : T (has (belowOf ρ (aboveOf ρ (foldedOf ρ φ l)) (2 ^ x) ρ) h) → (k : ℕ) × (c : ℕ) × (k < φ * ρ * ρ) × (c < ρ) × T (has (getD l k 0) c) × ((placeFirst ρ k ≡ x) ⊎ ((placeSecond ρ k ≡ x) ⊎ (c ≡ x))) × ((h ≡ placeFirst ρ k) ⊎ (h ≡ placeSecond ρ k))
       from-below t =
           let (hb, (c, cb, p, q)) = below-is ρ (aboveOf ρ (foldedOf ρ φ l)) (2 ^ x) ρ h .0 t in
           let (k, kb, u, d) = above-is ρ φ l h c hb .0 p in
           (k, c, kb, cb, u, inr (inr (single-is x c .0 q)), d)
 
-      from-beside : T (has (besideOf ρ (foldedOf ρ φ l) x ρ) h) → (k : ℕ) × (c : ℕ) × (k < φ * ρ * ρ) × (c < ρ) × T (has (getD l k 0) c) × ((First ρ k ≡ x) ⊎ ((Second ρ k ≡ x) ⊎ (c ≡ x))) × ((h ≡ First ρ k) ⊎ (h ≡ Second ρ k))
+      from-beside : T (has (besideOf ρ (foldedOf ρ φ l) x ρ) h) → (k : ℕ) × (c : ℕ) × (k < φ * ρ * ρ) × (c < ρ) × T (has (getD l k 0) c) × ((placeFirst ρ k ≡ x) ⊎ ((placeSecond ρ k ≡ x) ⊎ (c ≡ x))) × ((h ≡ placeFirst ρ k) ⊎ (h ≡ placeSecond ρ k))
       from-beside t =
           let (hb, (c, cb, p)) = beside-is ρ (foldedOf ρ φ l) x ρ h .0 t in
           ⊎-elim
@@ -354,7 +354,7 @@ module _ (ρ φ : ℕ) (l : List ℕ) (x more : ℕ) (xb : x < ρ) (mb : more < 
           (λ u. let (f, fb, v) = folded-is ρ φ l h x c hb xb .0 u in (place ρ f h x, c, place-below ρ f h x hb xb φ fb, cb, v, inr (inl (second-place ρ f h x hb xb)), inl (sym (first-place ρ f h x hb xb))))
           p
 
-      from-own : T (has (flagOf ρ (getD (aboveOf ρ (foldedOf ρ φ l)) x 0) x) h) → (k : ℕ) × (c : ℕ) × (k < φ * ρ * ρ) × (c < ρ) × T (has (getD l k 0) c) × ((First ρ k ≡ x) ⊎ ((Second ρ k ≡ x) ⊎ (c ≡ x))) × ((h ≡ First ρ k) ⊎ (h ≡ Second ρ k))
+      from-own : T (has (flagOf ρ (getD (aboveOf ρ (foldedOf ρ φ l)) x 0) x) h) → (k : ℕ) × (c : ℕ) × (k < φ * ρ * ρ) × (c < ρ) × T (has (getD l k 0) c) × ((placeFirst ρ k ≡ x) ⊎ ((placeSecond ρ k ≡ x) ⊎ (c ≡ x))) × ((h ≡ placeFirst ρ k) ⊎ (h ≡ placeSecond ρ k))
       from-own t =
           let (e, (c, cb, p)) = flag-is ρ (getD (aboveOf ρ (foldedOf ρ φ l)) x 0) x h .0 t in
           let (k, kb, u, d) = above-is ρ φ l x c xb .0 p in
@@ -376,13 +376,13 @@ module _ (ρ φ : ℕ) (l : List ℕ) (x more : ℕ) (xb : x < ρ) (mb : more < 
           beside : T (has (getD (foldedOf ρ φ l) (ρ * x + h) 0) c) ⊎ T (has (getD (foldedOf ρ φ l) (ρ * h + x) 0) c) → T (has (bitOr B S) h) ⊎ T (has G h)
           beside p = inl (or-is B S h .1 (inr (beside-is ρ (foldedOf ρ φ l) x ρ h .1 (hb, (c, cb, p)))))
 
-          own : (x ≡ First ρ k) ⊎ (x ≡ Second ρ k) → h ≡ x → T (has (bitOr B S) h) ⊎ T (has G h)
+          own : (x ≡ placeFirst ρ k) ⊎ (x ≡ placeSecond ρ k) → h ≡ x → T (has (bitOr B S) h) ⊎ T (has G h)
           own p q = inr (flag-is ρ (getD (aboveOf ρ (foldedOf ρ φ l)) x 0) x h .1 (q, (c, cb, above-is ρ φ l x c xb .1 (k, kb, t, p))))
 
-          find : (First ρ k ≡ x) ⊎ ((Second ρ k ≡ x) ⊎ (c ≡ x)) → (h ≡ First ρ k) ⊎ (h ≡ Second ρ k) → T (has (bitOr B S) h) ⊎ T (has G h)
+          find : (placeFirst ρ k ≡ x) ⊎ ((placeSecond ρ k ≡ x) ⊎ (c ≡ x)) → (h ≡ placeFirst ρ k) ⊎ (h ≡ placeSecond ρ k) → T (has (bitOr B S) h) ⊎ T (has G h)
           find (inl p) (inl q) = own (inl (sym p)) (q ∙ p)
-          find (inl p) (inr q) = beside (inl (folded-is ρ φ l x h c xb hb .1 (Function ρ k, function-below ρ φ k kb, subst (λ z. T (has (getD l z 0) c)) (sym (place-is ρ k) ∙ ap₂ (place ρ (Function ρ k)) p (sym q)) t)))
-          find (inr (inl p)) (inl q) = beside (inr (folded-is ρ φ l h x c hb xb .1 (Function ρ k, function-below ρ φ k kb, subst (λ z. T (has (getD l z 0) c)) (sym (place-is ρ k) ∙ ap₂ (place ρ (Function ρ k)) (sym q) p) t)))
+          find (inl p) (inr q) = beside (inl (folded-is ρ φ l x h c xb hb .1 (placeFunction ρ k, function-below ρ φ k kb, subst (λ z. T (has (getD l z 0) c)) (sym (place-is ρ k) ∙ ap₂ (place ρ (placeFunction ρ k)) p (sym q)) t)))
+          find (inr (inl p)) (inl q) = beside (inr (folded-is ρ φ l h x c hb xb .1 (placeFunction ρ k, function-below ρ φ k kb, subst (λ z. T (has (getD l z 0) c)) (sym (place-is ρ k) ∙ ap₂ (place ρ (placeFunction ρ k)) (sym q) p) t)))
           find (inr (inl p)) (inr q) = own (inr (sym p)) (q ∙ p)
           find (inr (inr p)) q = inl (or-is B S h .1 (inl (below-is ρ (aboveOf ρ (foldedOf ρ φ l)) (2 ^ x) ρ h .1 (hb, (c, cb, above-is ρ φ l h c hb .1 (k, kb, t, q), single-is x c .1 p)))))
 
@@ -405,11 +405,11 @@ module _ (ρ φ : ℕ) (l : List ℕ) (x more : ℕ) (xb : x < ρ) (mb : more < 
       seed : ℕ
       seed = bitOr (bitOr (bitOr (belowOf ρ (aboveOf ρ (foldedOf ρ φ l)) (2 ^ x) ρ) (besideOf ρ (foldedOf ρ φ l) x ρ)) (flagOf ρ (getD (aboveOf ρ (foldedOf ρ φ l)) x 0) x)) more
 
-      into : {h : ℕ} → Below ρ φ l seed h → Beneath ρ φ l x more h
+      into : {h : ℕ} → BelowSeed ρ φ l seed h → Beneath ρ φ l x more h
       into {h} (seeded t) = ⊎-elim extra (λ (k, c, kb, cb, u, d, e). direct k kb cb u d e) (seed-is h .0 t)
       into (lower hb cb (k, kb, u, d) o) = beneath k kb cb u (into o) d
 
-      back : {h : ℕ} → Beneath ρ φ l x more h → Below ρ φ l seed h
+      back : {h : ℕ} → Beneath ρ φ l x more h → BelowSeed ρ φ l seed h
       back {h} (extra t) = seeded (seed-is h .1 (inl t))
       back {h} (direct k {c} kb cb u d e) = seeded (seed-is h .1 (inr (k, c, kb, cb, u, d, e)))
       back {h} (beneath k {c} kb cb u o e) = lower (argument-below k h e) cb (k, kb, u, e) (back o)

@@ -11,7 +11,7 @@ module _ (n : ℕ) (w : View) (a b : ℕ) where
   In r = T (w .same a r) ⊎ T (w .same b r)
 
   -- w′ is w with the classes of a and b made one: its tables are the images of those of w
-  pub record Merged (w′ : View) : Type 0 where
+  pub record ClassesMerged (w′ : View) : Type 0 where
     pub same : (r s : ℕ) → r < n → s < n → T (w′ .same r s) ↔ (T (w .same r s) ⊎ (In r × In s))
     pub apart : (r s : ℕ) → r < n → s < n → T (w′ .apart r s) ↔ ((p : ℕ) × (q : ℕ) × (p < n) × (q < n) × T (w .apart p q) × T (w′ .same p r) × T (w′ .same q s))
     pub result : (f r s c : ℕ) → r < n → s < n → c < n
@@ -20,7 +20,7 @@ module _ (n : ℕ) (w : View) (a b : ℕ) where
     pub marked : (r : ℕ) → r < n → T (w′ .marked r) ↔ T (w .marked r)
     pub infeasible : T (w′ .infeasible) ↔ T (w .infeasible)
 
-  module _ (g : Laws n w) (ab : a < n) (bb : b < n) (w′ : View) (m : Merged w′) where
+  module _ (g : Laws n w) (ab : a < n) (bb : b < n) (w′ : View) (m : ClassesMerged w′) where
     in-same : {r s : ℕ} → r < n → s < n → T (w .same r s) → In r → In s
     in-same {r} {s} rb sb k (inl i) = inl (g .joined a r s ab rb sb i k)
     in-same {r} {s} rb sb k (inr i) = inr (g .joined b r s bb rb sb i k)
@@ -86,7 +86,7 @@ joining-none n w x y g = record {
   infeasible = ((λ t. t), (λ t. t));
 }
 
-module _ (n : ℕ) (w₀ : View) (x y : ℕ) (w : View) (j : Joining n w₀ x y w) (a b : ℕ) (ab : a < n) (bb : b < n) (l : Joined n w₀ x y a b) (w′ : View) (m : Merged n w a b w′) where
+module _ (n : ℕ) (w₀ : View) (x y : ℕ) (w : View) (j : Joining n w₀ x y w) (a b : ℕ) (ab : a < n) (bb : b < n) (l : Joined n w₀ x y a b) (w′ : View) (m : ClassesMerged n w a b w′) where
   to-a : {r : ℕ} → r < n → In n w a b r → Joined n w₀ x y a r
   to-a {r} rb (inl t) = j .same-e a r ab rb t
   to-a {r} rb (inr t) = join′ l (j .same-e b r bb rb t)

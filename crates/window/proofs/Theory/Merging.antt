@@ -15,16 +15,16 @@ use Rattle.window.proofs.Theory.Places.{entry-below}
 use Rattle.window.proofs.Theory.Bits.{same-iff, or-is, single-is}
 use Rattle.window.specs.Through.{masksThrough}
 use Rattle.window.proofs.Theory.Read.{Pick, masks-is, results-is}
-use Rattle.window.specs.Performing.{both, mergedOf}
+use Rattle.window.specs.Performing.{bothClasses, mergedOf}
 use Rattle.window.specs.Viewing.{view, Inside, Shaped}
 use Rattle.window.proofs.Theory.Laws.{Laws}
-use Rattle.window.proofs.Theory.Merge.{In, Merged}
+use Rattle.window.proofs.Theory.Merge.{In, ClassesMerged}
 use Rattle.window.specs.declared.Window.{Window}
 
 module _ (ρ φ : ℕ) where
   module _ (w : Window) (sh : Shaped ρ φ w) (n : ℕ) (g : Laws n (view ρ φ w)) (i : Inside ρ n (view ρ φ w)) (a b : ℕ) (ab : a < n) (bb : b < n) where
     abbrev to : ℕ
-    to = both w a b
+    to = bothClasses w a b
 
     abbrev w′ : Window
     w′ = mergedOf ρ φ w a b
@@ -34,10 +34,10 @@ module _ (ρ φ : ℕ) where
 
     -- z is what r is read as
     abbrev As : ℕ → ℕ → Type 0
-    As r z = Pick ρ φ a b (both w a b) (low a ab) (low b bb) r z
+    As r z = Pick ρ φ a b (bothClasses w a b) (low a ab) (low b bb) r z
 
     -- the registers of the union
-    in-to : (r : ℕ) → T (has (both w a b) r) ↔ In n (view ρ φ w) a b r
+    in-to : (r : ℕ) → T (has (bothClasses w a b) r) ↔ In n (view ρ φ w) a b r
     in-to r = (
       (λ t. ⊎-elim (λ k. or-is (getD (w .class) a 0) (getD (w .class) b 0) r .0 k) (λ k. inl (subst (λ z. T (view ρ φ w .same a z)) (sym (single-is a r .0 k)) (g .self a ab)))
           (or-is (bitOr (getD (w .class) a 0) (getD (w .class) b 0)) (2 ^ a) r .0 t)),
@@ -87,11 +87,11 @@ module _ (ρ φ : ℕ) where
     in-pick z h = ⊎-elim (λ q. subst (λ v. In n (view ρ φ w) a b v × (v < n)) (sym q) (in-a, ab)) (λ q. subst (λ v. In n (view ρ φ w) a b v × (v < n)) (sym q) (in-b, bb)) h
 
     -- a table of masks of the merged window
-    table-merged : (l : List ℕ) (j r s : ℕ) → r < ρ → ρ * j + r < length l → T (has (getD (masksThrough ρ a b (both w a b) l) (ρ * j + r) 0) s) ↔ ((z : ℕ) × (y : ℕ) × As r z × As s y × T (has (getD l (ρ * j + z) 0) y))
-    table-merged l j r s rb h = masks-is ρ φ a b (both w a b) (low a ab) (low b bb) l j r s rb h
+    table-merged : (l : List ℕ) (j r s : ℕ) → r < ρ → ρ * j + r < length l → T (has (getD (masksThrough ρ a b (bothClasses w a b) l) (ρ * j + r) 0) s) ↔ ((z : ℕ) × (y : ℕ) × As r z × As s y × T (has (getD l (ρ * j + z) 0) y))
+    table-merged l j r s rb h = masks-is ρ φ a b (bothClasses w a b) (low a ab) (low b bb) l j r s rb h
 
-    row-merged : (l : List ℕ) (r s : ℕ) → length l ≡ ρ → r < ρ → T (has (getD (masksThrough ρ a b (both w a b) l) r 0) s) ↔ ((z : ℕ) × (y : ℕ) × As r z × As s y × T (has (getD l z 0) y))
-    row-merged l r s e rb = Iff·trans (same-iff (ap (λ k. has (getD (masksThrough ρ a b (both w a b) l) k 0) s) (omega arith))) (Iff·trans (table-merged l 0 r s rb (omega arith)) (
+    row-merged : (l : List ℕ) (r s : ℕ) → length l ≡ ρ → r < ρ → T (has (getD (masksThrough ρ a b (bothClasses w a b) l) r 0) s) ↔ ((z : ℕ) × (y : ℕ) × As r z × As s y × T (has (getD l z 0) y))
+    row-merged l r s e rb = Iff·trans (same-iff (ap (λ k. has (getD (masksThrough ρ a b (bothClasses w a b) l) k 0) s) (omega arith))) (Iff·trans (table-merged l 0 r s rb (omega arith)) (
       (λ (z, y, p, q, t). (z, y, p, q, subst (λ k. T (has (getD l k 0) y)) (omega arith) t)),
       (λ (z, y, p, q, t). (z, y, p, q, subst (λ k. T (has (getD l k 0) y)) (omega arith) t)),
     ))
@@ -140,7 +140,7 @@ module _ (ρ φ : ℕ) where
     result-table : (f r s c : ℕ) → r < ρ → s < ρ → T (view ρ φ w′ .result f r s c) ↔ ((z : ℕ) × (y : ℕ) × (d : ℕ) × As r z × As s y × As c d × T (view ρ φ w .result f z y d))
     unfolding mergedOf
     result-table f r s c rb sb = byTest (ltb f φ)
-        (λ u. rw u (results-is ρ φ a b (both w a b) (low a ab) (low b bb) (w .result) (sh .result) f r s c (ltb-true f φ u) rb sb))
+        (λ u. rw u (results-is ρ φ a b (bothClasses w a b) (low a ab) (low b bb) (w .result) (sh .result) f r s c (ltb-true f φ u) rb sb))
         (λ u. rw u ((λ k. absurd k), (λ (_, _, _, _, _, _, k). k)))
 
     ever-table : (f r s : ℕ) → r < ρ → s < ρ → T (view ρ φ w′ .ever f r s) ↔ ((z : ℕ) × (y : ℕ) × As r z × As s y × T (view ρ φ w .ever f z y))
@@ -161,7 +161,7 @@ module _ (ρ φ : ℕ) where
     unfolding mergedOf
     infeasible-kept = refl
 
-    pub merged : Merged n (view ρ φ w) a b (view ρ φ w′)
+    pub merged : ClassesMerged n (view ρ φ w) a b (view ρ φ w′)
     merged = record {
       same = same-merged;
       apart = λ r s rb sb. (

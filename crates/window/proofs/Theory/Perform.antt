@@ -4,5 +4,5 @@ use Rattle.window.specs.Layout.{registers}
 use Rattle.window.specs.Places as places
 
 -- the entry of the table of results for f at a and b
-abbrev pub place : ℕ → ℕ → ℕ → ℕ
-place = places.place registers
+abbrev pub placeInFirstEdition : ℕ → ℕ → ℕ → ℕ
+placeInFirstEdition = places.place registers

@@ -6,7 +6,7 @@ use native.Mathlib.Nat.{mul-zero, mul-suc, mul-comm, mul-le-mul-left, mod-lt, di
 use lib.Dec.{ltb}
 use borrow.Author.Tests.{ltb-true, ltb-false}
 use Rattle.base.proofs.Theory.Choice.{byTest}
-use Rattle.window.specs.Places.{place, Function, First, Second}
+use Rattle.window.specs.Places.{place, placeFunction, placeFirst, placeSecond}
 
 module _ (ρ : ℕ) where
   -- a table with an entry has a register
@@ -24,11 +24,11 @@ module _ (ρ : ℕ) where
     place-below φ fb = entry-below (φ * ρ) (ρ * f + a) b (entry-below φ f a fb ab) bb
 
   module _ (φ k : ℕ) (kb : k < φ * ρ * ρ) where
-    pub function-below : Function ρ k < φ
+    pub function-below : placeFunction ρ k < φ
     function-below = subst (λ z. z < φ) (div-div-eq-div-mul k ρ ρ) (line-below φ (k / ρ) (line-below (φ * ρ) k kb))
 
-    pub first-below : First ρ k < ρ
+    pub first-below : placeFirst ρ k < ρ
     first-below = mod-lt (k / ρ) (some (φ * ρ) k kb)
 
-    pub second-below : Second ρ k < ρ
+    pub second-below : placeSecond ρ k < ρ
     second-below = mod-lt k (some (φ * ρ) k kb)

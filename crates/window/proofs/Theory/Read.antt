@@ -13,9 +13,9 @@ use Rattle.semantics.proofs.Theory.Steps.{copied}
 use borrow.Author.Tests.{eq-eqb, ne-eqb}
 use Rattle.window.specs.Places.{place, place-sum, line-entry, along-entry}
 use Rattle.window.proofs.Theory.Places.{place-below}
-use Rattle.window.specs.Bits.{movedOf}
+use Rattle.window.specs.Bits.{maskMoved}
 use Rattle.window.proofs.Theory.Bits.{moved-in, moved-out, or-is, single-is, same-iff, or-small, pow-small, eq-or}
-use Rattle.window.specs.Lines.{Lines, columns, rows, unitedAt, united}
+use Rattle.window.specs.Lines.{TableLines, columns, rows, unitedAt, united}
 use Rattle.window.proofs.Theory.Lines.{united-at, united-length}
 use Rattle.window.proofs.Theory.Through.{moved-at}
 use Rattle.window.specs.Through.{masksThrough, resultsThrough}
@@ -38,7 +38,7 @@ module _ (ρ φ a b to : ℕ) (ab : a < ρ) (bb : b < ρ) where
   )
 
   -- in a mask
-  pub mask-is : (m c : ℕ) → T (has (movedOf m (bitOr (2 ^ a) (2 ^ b)) to) c) ↔ ((d : ℕ) × Pick c d × T (has m d))
+  pub mask-is : (m c : ℕ) → T (has (maskMoved m (bitOr (2 ^ a) (2 ^ b)) to) c) ↔ ((d : ℕ) × Pick c d × T (has m d))
   mask-is m c = ⊎-elim
       (λ t. Iff·trans (moved-in ρ m (bitOr (2 ^ a) (2 ^ b)) to c from-small t) (
         (λ (d, p, q). (d, inl (t, from-is d .0 p), q)),
@@ -51,7 +51,7 @@ module _ (ρ φ a b to : ℕ) (ab : a < ρ) (bb : b < ρ) where
       (or-not (has to c))
 
   -- along the lines of a table
-  pub line-is : (L : Lines ρ) (l : List ℕ) (j r s : ℕ) → r < ρ → T (has (unitedAt L (has to) a b l (L .entry j r)) s) ↔ ((z : ℕ) × Pick r z × T (has (getD l (L .entry j z) 0) s))
+  pub line-is : (L : TableLines ρ) (l : List ℕ) (j r s : ℕ) → r < ρ → T (has (unitedAt L (has to) a b l (L .entry j r)) s) ↔ ((z : ℕ) × Pick r z × T (has (getD l (L .entry j z) 0) s))
   unfolding unitedAt
   line-is L l j r s rb = ⊎-elim
       (λ t. let t′ : has to (L .along (L .entry j r)) ≡ true = ap (has to) (L .along-entry j r rb) ∙ true-of (has to r) t in
@@ -83,7 +83,7 @@ module _ (ρ φ a b to : ℕ) (ab : a < ρ) (bb : b < ρ) where
   unfolding masksThrough
   masks-is l j r s rb h =
       let u = united (columns ρ) (has to) a b l in
-      let e = moved-at (bitOr (2 ^ a) (2 ^ b)) to u (ρ * j + r) (rw (united-length (columns ρ) (has to) a b l) h) ∙ ap (λ m. movedOf m (bitOr (2 ^ a) (2 ^ b)) to) (united-at (columns ρ) (has to) a b l (ρ * j + r) h) in
+      let e = moved-at (bitOr (2 ^ a) (2 ^ b)) to u (ρ * j + r) (rw (united-length (columns ρ) (has to) a b l) h) ∙ ap (λ m. maskMoved m (bitOr (2 ^ a) (2 ^ b)) to) (united-at (columns ρ) (has to) a b l (ρ * j + r) h) in
       Iff·trans (same-iff (ap (λ m. has m s) e)) (Iff·trans (mask-is (unitedAt (columns ρ) (has to) a b l (ρ * j + r)) s) (
         (λ (y, p, t). let (z, q, k) = line-is (columns ρ) l j r y rb .0 t in (z, y, q, p, k)),
         (λ (z, y, q, p, k). (y, p, line-is (columns ρ) l j r y rb .1 (z, q, k))),
@@ -102,7 +102,7 @@ module _ (ρ φ a b to : ℕ) (ab : a < ρ) (bb : b < ρ) where
       let h = subst (λ z. place ρ f r s < z) (sym len) (place-below ρ f r s rb sb φ fb) in
       let hC : place ρ f r s < length C = rw (united-length (columns ρ) (has to) a b l) h in
       let e = moved-at (bitOr (2 ^ a) (2 ^ b)) to R (place ρ f r s) (rw (united-length (rows ρ) (has to) a b C) hC)
-      ∙ ap (λ m. movedOf m (bitOr (2 ^ a) (2 ^ b)) to) (united-at (rows ρ) (has to) a b C (place ρ f r s) hC ∙ ap (unitedAt (rows ρ) (has to) a b C) (at-row f r s sb)) in
+      ∙ ap (λ m. maskMoved m (bitOr (2 ^ a) (2 ^ b)) to) (united-at (rows ρ) (has to) a b C (place ρ f r s) hC ∙ ap (unitedAt (rows ρ) (has to) a b C) (at-row f r s sb)) in
       Iff·trans (same-iff (ap (λ m. has m c) e)) (Iff·trans (mask-is (unitedAt (rows ρ) (has to) a b C ((rows ρ) .entry (ρ * f + s) r)) c) (
         (λ (d, o, t). let (z, p, k) = line-is (rows ρ) C (ρ * f + s) r d rb .0 t in let (y, q, m) = column z d (pick-below r z rb p) .0 (subst (λ i. T (has (getD C i 0) d)) (sym (at-row f z s sb)) k) in (z, y, d, p, q, o, m)),
         (λ (z, y, d, p, q, o, m). (d, o, line-is (rows ρ) C (ρ * f + s) r d rb .1 (z, p, subst (λ i. T (has (getD C i 0) d)) (at-row f z s sb) (column z d (pick-below r z rb p) .1 (y, q, m))))),

@@ -17,16 +17,16 @@ use Rattle.letters.specs.declared.Letter.the-variants.{Copy, Apply, Equal, Uneq
 use Rattle.window.specs.Places.{place}
 use Rattle.window.specs.Table.{table}
 use Rattle.window.proofs.Theory.Table.{table-length, table-at, table-out}
-use Rattle.window.specs.Bits.{movedOf}
+use Rattle.window.specs.Bits.{maskMoved}
 use Rattle.window.proofs.Theory.Bits.{moved-small, or-small, pow-small, none-small, less-or}
-use Rattle.window.specs.Lines.{Lines, columns, rows, at, unitedAt, united, clearedAt, cleared}
+use Rattle.window.specs.Lines.{TableLines, columns, rows, entryOnLine, unitedAt, united, clearedAt, cleared}
 use Rattle.window.proofs.Theory.Lines.{cleared-length}
 use Rattle.window.specs.Through.{bitsMoved, masksThrough, resultsThrough}
 use Rattle.window.proofs.Theory.Through.{moved-length, masks-length, results-length}
 use Rattle.window.specs.Adding.{partOf, masksForgotten, resultsForgotten, resultsAdded, lineAdded}
 use Rattle.window.proofs.Theory.Adding.{line-length, added-length}
 use Rattle.window.proofs.Theory.Copying.{marked-length}
-use Rattle.window.specs.Performing.{fallenOf, copiedTables, copiedOf, both, mergedOf, findOf, restOf, closedOf, clashOf, settledOf, equalOf, partedOf, unequalOf, argumentsOf, appliedOf, applyOf, ownOf, freshOf, performOf, withUnequal, Within}
+use Rattle.window.specs.Performing.{fallenOf, copiedTables, copiedOf, bothClasses, mergedOf, findOf, restOf, closedOf, clashOf, settledOf, equalOf, partedOf, unequalOf, argumentsOf, appliedOf, applyOf, ownOf, freshInLayout, performInLayout, withUnequal, WithinLayout}
 use Rattle.window.specs.Viewing.{Shaped, Masks}
 use Rattle.window.specs.declared.Window.{Window}
 
@@ -49,13 +49,13 @@ module _ (ρ φ : ℕ) where
 
   bytes-moved : (from to : ℕ) (l : List ℕ) → to < 2 ^ ρ → Masks ρ l → Masks ρ (bitsMoved from to l)
   unfolding bitsMoved
-  bytes-moved from to l h f = bytes-table (λ i. movedOf (getD l i 0) from to) (length l) (λ k b. moved-small ρ (getD l k 0) from to (f k) h)
+  bytes-moved from to l h f = bytes-table (λ i. maskMoved (getD l i 0) from to) (length l) (λ k b. moved-small ρ (getD l k 0) from to (f k) h)
 
-  bytes-united : (L : Lines ρ) (P : ℕ → Bool) (a b : ℕ) (l : List ℕ) → Masks ρ l → Masks ρ (united L P a b l)
+  bytes-united : (L : TableLines ρ) (P : ℕ → Bool) (a b : ℕ) (l : List ℕ) → Masks ρ l → Masks ρ (united L P a b l)
   unfolding united unitedAt
-  bytes-united L P a b l f = bytes-table (unitedAt L P a b l) (length l) (λ i h. byTest (P (L .along i)) (λ t. rw t (or-small ρ (getD l (at L i a) 0) (getD l (at L i b) 0) (f (at L i a)) (f (at L i b)))) (λ t. rw t (f i)))
+  bytes-united L P a b l f = bytes-table (unitedAt L P a b l) (length l) (λ i h. byTest (P (L .along i)) (λ t. rw t (or-small ρ (getD l (entryOnLine L i a) 0) (getD l (entryOnLine L i b) 0) (f (entryOnLine L i a)) (f (entryOnLine L i b)))) (λ t. rw t (f i)))
 
-  bytes-cleared : (L : Lines ρ) (x : ℕ) (l : List ℕ) → Masks ρ l → Masks ρ (cleared L x l)
+  bytes-cleared : (L : TableLines ρ) (x : ℕ) (l : List ℕ) → Masks ρ l → Masks ρ (cleared L x l)
   unfolding cleared clearedAt
   bytes-cleared L x l f = bytes-table (clearedAt L x l) (length l) (λ i h. byTest (eqb (L .along i) x) (λ t. rw t (none-small ρ)) (λ t. rw t (f i)))
 
@@ -104,7 +104,7 @@ module _ (ρ φ : ℕ) where
   bytes-zero (suc n) zero = none-small ρ
   bytes-zero (suc n) (suc k) = bytes-zero n k
 
-  bytes-both : (w : Window) (a b : ℕ) → a < ρ → Shaped ρ φ w → both w a b < 2 ^ ρ
+  bytes-both : (w : Window) (a b : ℕ) → a < ρ → Shaped ρ φ w → bothClasses w a b < 2 ^ ρ
   bytes-both w a b h s = or-small ρ (bitOr (getD (w .class) a 0) (getD (w .class) b 0)) (2 ^ a) (or-small ρ (getD (w .class) a 0) (getD (w .class) b 0) (s .class-bytes a) (s .class-bytes b)) (pow-small ρ a h)
 
   -- ---- the window after a letter
@@ -130,15 +130,15 @@ module _ (ρ φ : ℕ) where
   pub shaped-merged : (w : Window) (a b : ℕ) → a < ρ → Shaped ρ φ w → Shaped ρ φ (mergedOf ρ φ w a b)
   unfolding mergedOf
   shaped-merged w a b h s = record {
-    class = masks-length ρ a b (both w a b) (w .class) ∙ s .class;
-    unequal = masks-length ρ a b (both w a b) (w .unequal) ∙ s .unequal;
-    result = results-length ρ a b (both w a b) (w .result) ∙ s .result;
-    ever = masks-length ρ a b (both w a b) (w .ever) ∙ s .ever;
+    class = masks-length ρ a b (bothClasses w a b) (w .class) ∙ s .class;
+    unequal = masks-length ρ a b (bothClasses w a b) (w .unequal) ∙ s .unequal;
+    result = results-length ρ a b (bothClasses w a b) (w .result) ∙ s .result;
+    ever = masks-length ρ a b (bothClasses w a b) (w .ever) ∙ s .ever;
     mark = s .mark;
-    class-bytes = bytes-masks a b (both w a b) (w .class) (bytes-both w a b h s) (s .class-bytes);
-    unequal-bytes = bytes-masks a b (both w a b) (w .unequal) (bytes-both w a b h s) (s .unequal-bytes);
-    result-bytes = bytes-results a b (both w a b) (w .result) (bytes-both w a b h s) (s .result-bytes);
-    ever-bytes = bytes-masks a b (both w a b) (w .ever) (bytes-both w a b h s) (s .ever-bytes);
+    class-bytes = bytes-masks a b (bothClasses w a b) (w .class) (bytes-both w a b h s) (s .class-bytes);
+    unequal-bytes = bytes-masks a b (bothClasses w a b) (w .unequal) (bytes-both w a b h s) (s .unequal-bytes);
+    result-bytes = bytes-results a b (bothClasses w a b) (w .result) (bytes-both w a b h s) (s .result-bytes);
+    ever-bytes = bytes-masks a b (bothClasses w a b) (w .ever) (bytes-both w a b h s) (s .ever-bytes);
   }
 
   pub shaped-closed : (n : ℕ) (w : Window) → Shaped ρ φ w → Shaped ρ φ (closedOf ρ φ n w)
@@ -198,14 +198,14 @@ module _ (ρ φ : ℕ) where
         ever-bytes = bytes-forgotten x (lineAdded ρ f one two (w .ever)) h (bytes-line f one two (w .ever) (s .class-bytes z) (s .ever-bytes));
       }
 
-  pub shaped-performed : (w : Window) (l : Letter) → Within ρ φ l → Shaped ρ φ w → Shaped ρ φ (performOf ρ φ w l)
+  pub shaped-performed : (w : Window) (l : Letter) → WithinLayout ρ φ l → Shaped ρ φ w → Shaped ρ φ (performInLayout ρ φ w l)
   unfolding applyOf
   shaped-performed w (Copy x y) (xb, _) s = shaped-copied w x y xb s
   shaped-performed w (Apply x f y z) (xb, _, _, _) s = let r = leastIn ρ (getD (w .result) (place ρ f y z) 0) in byTest (ltb r ρ) (λ t. rw t (shaped-copied w x r xb s)) (λ t. rw t (shaped-applied w x f y z xb s))
   shaped-performed w (Equal x y) (xb, _) s = shaped-equal w x y xb s
   shaped-performed w (Unequal x y) b s = shaped-unequal w x y s
 
-  pub shaped-fresh : (n : ℕ) → Shaped ρ φ (freshOf ρ φ n)
+  pub shaped-fresh : (n : ℕ) → Shaped ρ φ (freshInLayout ρ φ n)
   unfolding ownOf
   shaped-fresh n = record {
     class = table-length (ownOf n) ρ;

@@ -18,14 +18,14 @@ use Rattle.window.specs.Places.{place}
 use Rattle.window.proofs.Theory.Places.{place-below, entry-below}
 use Rattle.window.proofs.Theory.Table.{table-at}
 use Rattle.window.proofs.Theory.Bits.{single-is, no-truth, none-zero}
-use Rattle.window.specs.Performing.{ownOf, freshOf}
+use Rattle.window.specs.Performing.{ownOf, freshInLayout}
 use Rattle.window.specs.Viewing.{view, Inside}
 use Rattle.window.specs.declared.Window.{Window}
 
 module _ (ρ φ : ℕ) where
   module _ (n : ℕ) (nb : n ≤ ρ) where
     abbrev w : Window
-    w = freshOf ρ φ n
+    w = freshInLayout ρ φ n
 
     first-has : (r s : ℕ) → r < ρ → T (view ρ φ w .same r s) ↔ ((r < n) × (s ≡ r))
     unfolding ownOf
@@ -62,11 +62,11 @@ module _ (ρ φ : ℕ) where
       marked = λ r rb t. absurd (no-mark r rb t);
     }
 
-  pub tracks-fresh : (h : Header) → h .registers ≤ ρ → Tracks (start h) (view ρ φ (freshOf ρ φ (h .registers)))
+  pub tracks-fresh : (h : Header) → h .registers ≤ ρ → Tracks (start h) (view ρ φ (freshInLayout ρ φ (h .registers)))
   unfolding initial
   tracks-fresh h nb =
       let n = h .registers in
-      let w = freshOf ρ φ n in
+      let w = freshInLayout ρ φ n in
       let t = tracks-start h in
       record {
         same = λ r s rb sb. Iff·trans (Iff·trans (first-has n nb r s (omega arith)) ((λ (_, k). subst (λ z. T (eqb r z)) (sym k) (eqb-refl r)), (λ k. (rb, sym (eqb→eq r s k))))) (t .same r s rb sb);

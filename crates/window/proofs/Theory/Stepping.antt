@@ -23,7 +23,7 @@ use Rattle.semantics.proofs.Theory.Steps.{copied, Renamed, tracks-copy, tracks-
 use Rattle.window.specs.Places.{place}
 use Rattle.window.proofs.Theory.Bits.{truth, no-truth, nonempty-is}
 use Rattle.window.specs.Bits.{nonempty}
-use Rattle.window.specs.Performing.{copiedOf, equalOf, unequalOf, appliedOf, applyOf, Within, memoizingOf, earlyOf, judgeOf, performOf, freshOf}
+use Rattle.window.specs.Performing.{copiedOf, equalOf, unequalOf, appliedOf, applyOf, WithinLayout, memoizingOf, earlyOf, judgeInLayout, performInLayout, freshInLayout}
 use Rattle.window.specs.Viewing.{view, Inside}
 use Rattle.window.proofs.Theory.Laws.{Laws, laws-of, Sound, sound-of}
 use Rattle.window.proofs.Theory.Shape.{shaped-copied, shaped-performed, shaped-fresh}
@@ -32,14 +32,14 @@ use Rattle.window.proofs.Theory.Judging.{equated, inside-equated, equat
 use Rattle.window.proofs.Theory.Applying.{renamed-applied, inside-applied}
 use Rattle.window.proofs.Theory.Starting.{tracks-fresh, inside-fresh}
 use Rattle.window.specs.declared.Window.{Window}
-use Rattle.window.specs.Stepping.{Holds}
+use Rattle.window.specs.Stepping.{IsWindowInLayout}
 
 module _ (ρ φ : ℕ) where
   -- the window of a header alone
-  pub holds-fresh : (h : Header) → h .registers ≤ ρ → Holds ρ φ (start h) (freshOf ρ φ (h .registers))
+  pub holds-fresh : (h : Header) → h .registers ≤ ρ → IsWindowInLayout ρ φ (start h) (freshInLayout ρ φ (h .registers))
   holds-fresh h b = record { tracks = tracks-fresh ρ φ h b; inside = inside-fresh ρ φ (h .registers) b; shaped = shaped-fresh ρ φ (h .registers) }
 
-  module _ (σ : State) (v : Valid σ) (w : Window) (h : Holds ρ φ σ w) where
+  module _ (σ : State) (v : Valid σ) (w : Window) (h : IsWindowInLayout ρ φ σ w) where
     abbrev n : ℕ
     n = σ .header .registers
 
@@ -60,14 +60,14 @@ module _ (ρ φ : ℕ) where
         (λ t. let d : x ≢ y = (λ e. no-truth (view ρ φ w .same x y) t (subst (λ k. T (view ρ φ w .same x k)) e (laws .self x xb))) in
         rw t (renamed-copied ρ φ w (h .shaped) (σ .header .registers) laws (h .inside) x y xb yb d, inside-copied ρ φ w (h .shaped) (σ .header .registers) laws (h .inside) x y xb yb d))
 
-    copy-holds : (x y : ℕ) → x < σ .header .registers → y < σ .header .registers → Holds ρ φ (after σ (Copy x y)) (copiedOf ρ φ w x y)
+    copy-holds : (x y : ℕ) → x < σ .header .registers → y < σ .header .registers → IsWindowInLayout ρ φ (after σ (Copy x y)) (copiedOf ρ φ w x y)
     copy-holds x y xb yb = record {
       tracks = tracks-copy σ v x y yb (view ρ φ w) (view ρ φ (copiedOf ρ φ w x y)) (h .tracks) (renamed x y xb yb .0);
       inside = renamed x y xb yb .1;
       shaped = shaped-copied ρ φ w x y (low x xb) (h .shaped);
     }
 
-    unequal-holds : (x y : ℕ) → x < σ .header .registers → y < σ .header .registers → Holds ρ φ (after σ (Unequal x y)) (unequalOf ρ φ w x y)
+    unequal-holds : (x y : ℕ) → x < σ .header .registers → y < σ .header .registers → IsWindowInLayout ρ φ (after σ (Unequal x y)) (unequalOf ρ φ w x y)
     unfolding unequalOf
     unequal-holds x y xb yb = record {
       tracks = tracks-unequal σ v x y xb yb (view ρ φ w) (view ρ φ (unequalOf ρ φ w x y)) (h .tracks) (separated ρ φ w (σ .header .registers) (h .inside) x y xb yb);
@@ -75,7 +75,7 @@ module _ (ρ φ : ℕ) where
       shaped = shaped-performed ρ φ w (Unequal x y) (low x xb, low y yb) (h .shaped);
     }
 
-    equal-holds : (x y : ℕ) → x < σ .header .registers → y < σ .header .registers → CoherentLetter σ (Equal x y) → Holds ρ φ (after σ (Equal x y)) (equalOf ρ φ w x y)
+    equal-holds : (x y : ℕ) → x < σ .header .registers → y < σ .header .registers → CoherentLetter σ (Equal x y) → IsWindowInLayout ρ φ (after σ (Equal x y)) (equalOf ρ φ w x y)
     unfolding equalOf
     equal-holds x y xb yb c = record {
       tracks = byTest (has (getD (w .class) x 0) y)
@@ -121,13 +121,13 @@ module _ (ρ φ : ℕ) where
         neither false false = ((λ _. ((λ t. t), (λ t. t))), (λ _. tt))
 
     -- the letter is coherent exactly if the window says so
-    pub judged : (l : Letter) → Within ρ φ l → Fits (σ .header) l → T (judgeOf ρ φ w l) ↔ CoherentLetter σ l
+    pub judged : (l : Letter) → WithinLayout ρ φ l → Fits (σ .header) l → T (judgeInLayout ρ φ w l) ↔ CoherentLetter σ l
     judged (Copy x y) b f = ((λ t. tt), (λ t. tt))
     judged (Apply x f y z) (_, fb, _, _) (_, _, yb, zb, _) = memoizing-is x f y z fb yb zb
     judged (Equal x y) b (xb, yb) = early-is x y xb yb
     judged (Unequal x y) b f = ((λ t. tt), (λ t. tt))
 
-    apply-holds : (x f y z : ℕ) → x < σ .header .registers → f < φ → y < σ .header .registers → z < σ .header .registers → CoherentLetter σ (Apply x f y z) → Holds ρ φ (after σ (Apply x f y z)) (applyOf ρ φ w x f y z)
+    apply-holds : (x f y z : ℕ) → x < σ .header .registers → f < φ → y < σ .header .registers → z < σ .header .registers → CoherentLetter σ (Apply x f y z) → IsWindowInLayout ρ φ (after σ (Apply x f y z)) (applyOf ρ φ w x f y z)
     unfolding applyOf
     apply-holds x f y z xb fb yb zb c = record {
       tracks = byTest (ltb r ρ)
@@ -159,14 +159,14 @@ module _ (ρ φ : ℕ) where
             no-truth (has R q) (least-below ρ R q (let k = low q qb in omega arith)) (and-r (ltb f φ) (has R q) m)
 
     -- after a coherent letter `perform` gives the window of the longer trace
-    pub performed : (l : Letter) → Within ρ φ l → Fits (σ .header) l → CoherentLetter σ l → Holds ρ φ (after σ l) (performOf ρ φ w l)
+    pub performed : (l : Letter) → WithinLayout ρ φ l → Fits (σ .header) l → CoherentLetter σ l → IsWindowInLayout ρ φ (after σ l) (performInLayout ρ φ w l)
     performed (Copy x y) b (xb, yb) c = copy-holds x y xb yb
     performed (Apply x f y z) (_, fb, _, _) (xb, _, yb, zb, _) c = apply-holds x f y z xb fb yb zb c
     performed (Equal x y) b (xb, yb) c = equal-holds x y xb yb c
     performed (Unequal x y) b (xb, yb) c = unequal-holds x y xb yb
 
   -- a header of the layout has letters within the packing
-  pub fits-within : (h : Header) (l : Letter) → h .registers ≤ ρ → h .functions ≤ φ → Fits h l → Within ρ φ l
+  pub fits-within : (h : Header) (l : Letter) → h .registers ≤ ρ → h .functions ≤ φ → Fits h l → WithinLayout ρ φ l
   fits-within h (Copy x y) a b (p, q) = (omega arith, omega arith)
   fits-within h (Apply x f y z) a b (p, q, r, s, _) = (omega arith, omega arith, omega arith, omega arith)
   fits-within h (Equal x y) a b (p, q) = (omega arith, omega arith)

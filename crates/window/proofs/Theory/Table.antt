@@ -9,7 +9,7 @@ use lib.ListN.{length, getD, set, length-set}
 use lib.Seq.{getD-set-same, getD-set-other, ext-getD}
 use borrow.Author.Tests.{eqb-true, eqb-false}
 use Rattle.base.proofs.Theory.Choice.{byTest}
-use Rattle.base.proofs.Theory.Written.{Written}
+use Rattle.base.proofs.Theory.Written.{WrittenUpTo}
 use Rattle.window.specs.Table.{tableFrom, table}
 
 module _ {ℓ} {A : Type ℓ} (F : ℕ → A) where
@@ -47,7 +47,7 @@ module _ {ℓ} {A : Type ℓ} (F : ℕ → A) where
   table-is n l d e h = ext-getD d l (table F n) (e ∙ sym (table-length n)) (λ k b. h k (omega arith) ∙ sym (table-at n k d (omega arith)))
 
 module _ {ℓ} {A : Type ℓ} (F : ℕ → A) (d : A) (n : ℕ) where
-  pub written-all : (i : ℕ) (l : List A) → Written F d n i l → n ≤ i → l ≡ table F n
+  pub written-all : (i : ℕ) (l : List A) → WrittenUpTo F d n i l → n ≤ i → l ≡ table F n
   written-all i l w h = table-is F n l d (w .long) (λ k b. w .at k (omega arith))
 
 module _ {ℓ} {A : Type ℓ} (F : ℕ → A) (d : A) (old : List A) where

@@ -13,24 +13,24 @@ use Rattle.base.specs.Masks.{has}
 use Rattle.window.proofs.Theory.Places.{some, entry-below, line-below, place-below, function-below, second-below}
 use Rattle.window.specs.Places.{entry-is, line-entry, place-sum}
 use Rattle.window.proofs.Theory.Table.{table-length, table-at, Swept, swept-more}
-use Rattle.window.specs.Lines.{Lines, columns, rows, united}
+use Rattle.window.specs.Lines.{TableLines, columns, rows, united}
 use Rattle.window.proofs.Theory.Lines.{Spans, united-length, united-turn, united-none, united-same, united-twice}
-use Rattle.window.specs.Bits.{movedOf}
+use Rattle.window.specs.Bits.{maskMoved}
 use Rattle.window.proofs.Theory.Bits.{single-test, until, until-none, until-more, until-skip}
 use Rattle.window.specs.Through.{bitsMoved, masksThrough, resultsThrough}
 
 pub moved-length : (from to : ℕ) (l : List ℕ) → length (bitsMoved from to l) ≡ length l
 unfolding bitsMoved
-moved-length from to l = table-length (λ i. movedOf (getD l i 0) from to) (length l)
+moved-length from to l = table-length (λ i. maskMoved (getD l i 0) from to) (length l)
 
-pub moved-at : (from to : ℕ) (l : List ℕ) (i : ℕ) → i < length l → getD (bitsMoved from to l) i 0 ≡ movedOf (getD l i 0) from to
+pub moved-at : (from to : ℕ) (l : List ℕ) (i : ℕ) → i < length l → getD (bitsMoved from to l) i 0 ≡ maskMoved (getD l i 0) from to
 unfolding bitsMoved
-moved-at from to l i h = table-at (λ i. movedOf (getD l i 0) from to) (length l) i 0 h
+moved-at from to l i h = table-at (λ i. maskMoved (getD l i 0) from to) (length l) i 0 h
 
 -- one turn of the loop
-pub moved-turn : (from to : ℕ) (old l : List ℕ) (i v : ℕ) → Swept (λ k. movedOf (getD old k 0) from to) 0 old i l → i < length l → v ≡ movedOf (getD l i 0) from to
-    → Swept (λ k. movedOf (getD old k 0) from to) 0 old (i + 1) (set l i v)
-moved-turn from to old l i v w h e = swept-more (λ k. movedOf (getD old k 0) from to) 0 old i l v w (omega (arith, w .long)) (e ∙ ap (λ m. movedOf m from to) (w .ahead i (omega arith)))
+pub moved-turn : (from to : ℕ) (old l : List ℕ) (i v : ℕ) → Swept (λ k. maskMoved (getD old k 0) from to) 0 old i l → i < length l → v ≡ maskMoved (getD l i 0) from to
+    → Swept (λ k. maskMoved (getD old k 0) from to) 0 old (i + 1) (set l i v)
+moved-turn from to old l i v w h e = swept-more (λ k. maskMoved (getD old k 0) from to) 0 old i l v w (omega (arith, w .long)) (e ∙ ap (λ m. maskMoved m from to) (w .ahead i (omega arith)))
 
 pub masks-length : (ρ a b to : ℕ) (l : List ℕ) → length (masksThrough ρ a b to l) ≡ length l
 unfolding masksThrough
@@ -89,7 +89,7 @@ results-copied ρ x y l m n k from to e f p q d = rw (d, p, q, f, e, or-self (2 
 
 -- ---- a merge: each register of `to` is read as a and as b
 
-module _ {ρ : ℕ} (L : Lines ρ) (n : ℕ) (to a : ℕ) (ab : a < ρ) where
+module _ {ρ : ℕ} (L : TableLines ρ) (n : ℕ) (to a : ℕ) (ab : a < ρ) where
   pub spread-none : (old : List ℕ) → old ≡ united L (until to 0) a a old
   spread-none old = united-none L a a old (until to 0) (until-none to)
 

@@ -15,11 +15,11 @@ use Rattle.base.specs.Masks.{bit, has}
 use Rattle.base.proofs.Theory.MaskLaws.{bits-same}
 use Rattle.semantics.proofs.Theory.Of.{same-test}
 use Rattle.semantics.specs.Terms.{State}
-use Rattle.window.specs.Places.{Function, First, Second, entry-is, place-is}
+use Rattle.window.specs.Places.{placeFunction, placeFirst, placeSecond, entry-is, place-is}
 use Rattle.window.proofs.Theory.Places.{some, line-below, function-below, first-below, second-below}
 use Rattle.window.proofs.Theory.Bits.{less-or}
 use Rattle.window.specs.Viewing.{view, Masks}
-use Rattle.window.specs.Stepping.{Holds}
+use Rattle.window.specs.Stepping.{IsWindowInLayout}
 use Rattle.window.specs.declared.Window.{Window}
 
 pub bit-same : (m n i : ℕ) → has m i ≡ has n i → bit m i ≡ bit n i
@@ -35,7 +35,7 @@ module _ (ρ φ : ℕ) where
   flags-same : (n : ℕ) (l m : List Bool) → length l ≡ n → length m ≡ n → ((k : ℕ) → k < n → T (getD l k false) ↔ T (getD m k false)) → l ≡ m
   flags-same n l m a c f = ext-getD false l m (a ∙ sym c) (λ k h. same-test (getD l k false) (getD m k false) (f k (omega arith)))
 
-  module _ (σ : State) (w w′ : Window) (h : Holds ρ φ σ w) (h′ : Holds ρ φ σ w′) where
+  module _ (σ : State) (w w′ : Window) (h : IsWindowInLayout ρ φ σ w) (h′ : IsWindowInLayout ρ φ σ w′) where
     -- a fact that holds within the count, and of which neither window says anything outside
     within : (P : Type 0) (b c : Bool) → P ⊎ ¬ P → (P → T b ↔ T c) → (T b → P) → (T c → P) → T b ↔ T c
     within P b c (inl p) f g k = f p
@@ -67,7 +67,7 @@ module _ (ρ φ : ℕ) where
         (λ (p, q). Iff·trans (h .tracks .ever f a b p q) (Iff·symm (h′ .tracks .ever f a b p q))) (h .inside .ever f a b ab bb) (h′ .inside .ever f a b ab bb)
 
     cell : (k c : ℕ) → k < φ * ρ * ρ → c < ρ → T (has (getD (w .result) k 0) c) ↔ T (has (getD (w′ .result) k 0) c)
-    cell k c kb cb = rw (lt-ltb (Function ρ k) φ (function-below ρ φ k kb), place-is ρ k) at (result-at (Function ρ k) (First ρ k) (Second ρ k) c (first-below ρ φ k kb) (second-below ρ φ k kb) cb)
+    cell k c kb cb = rw (lt-ltb (placeFunction ρ k) φ (function-below ρ φ k kb), place-is ρ k) at (result-at (placeFunction ρ k) (placeFirst ρ k) (placeSecond ρ k) c (first-below ρ φ k kb) (second-below ρ φ k kb) cb)
 
     flag : (k s : ℕ) → k < φ * ρ → s < ρ → T (has (getD (w .ever) k 0) s) ↔ T (has (getD (w′ .ever) k 0) s)
     flag k q kb qb = rw (lt-ltb (k / ρ) φ (line-below ρ φ k kb), entry-is ρ k) at (ever-at (k / ρ) (k % ρ) q (mod-lt k (some ρ φ k kb)) qb)

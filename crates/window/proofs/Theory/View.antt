@@ -5,13 +5,13 @@ use Rattle.window.specs.Layout.{registers, functions}
 use Rattle.window.specs.Viewing as viewing
 use Rattle.window.specs.declared.Window.{Window}
 
-abbrev pub view : Window → View
-view = viewing.view registers functions
+abbrev pub viewInFirstEdition : Window → View
+viewInFirstEdition = viewing.view registers functions
 
 -- nothing is said of registers from n on
-abbrev pub Inside : ℕ → View → Type 0
-Inside = viewing.Inside registers
+abbrev pub InsideInFirstEdition : ℕ → View → Type 0
+InsideInFirstEdition = viewing.Inside registers
 
 -- the arrays have the lengths and the entries of their types
-abbrev pub Shaped : Window → Type 0
-Shaped = viewing.Shaped registers functions
+abbrev pub ShapedInFirstEdition : Window → Type 0
+ShapedInFirstEdition = viewing.Shaped registers functions

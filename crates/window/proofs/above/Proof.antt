@@ -3,14 +3,14 @@ use Prim.Native.Nat.{_*_, _-_}
 use lib.Bits.{bitOr}
 use borrow.Author.Needs.{needs}
 use Rattle.window.specs.Layout.{registers}
-use Rattle.base.proofs.Theory.Written.{Written, written-none, written-more}
+use Rattle.base.proofs.Theory.Written.{WrittenUpTo, written-none, written-more}
 use Rattle.window.proofs.Theory.Table.{written-all}
 use Rattle.window.specs.Marks.{aboveOf, unionOf}
 use Rattle.window.proofs.above.Statement.{statement}
 use Rattle.window.proofs.above.Tie as tie
 
 abbrev Inv-loop : tie.InvT-loop
-Inv-loop t next₀ h₀ next h = Written (λ k. bitOr (unionOf t (registers * k) 1 registers) (unionOf t k registers registers)) 0 registers h next
+Inv-loop t next₀ h₀ next h = WrittenUpTo (λ k. bitOr (unionOf t (registers * k) 1 registers) (unionOf t k registers registers)) 0 registers h next
 
 abbrev μ-loop : tie.MeasureT-loop
 μ-loop t next₀ h₀ next h = registers - h

@@ -1,6 +1,6 @@
 use borrow.Author.Needs.{needs}
 use Rattle.window.specs.Layout.{registers, functions}
-use Rattle.window.specs.Parts.{parts}
+use Rattle.window.specs.Parts.{windowOfParts}
 use Rattle.window.proofs.Theory.Performing.{apply-known, apply-new}
 use Rattle.window.proofs.apply_in.Statement.{statement}
 use Rattle.window.proofs.apply_in.Tie as tie
@@ -15,14 +15,14 @@ apply-in-spec = tie.close (tie.spec
     (λ c κs. search needs)
     (λ c κs. search needs)
     (λ c. (
-      (λ i. let a = c .before .before .before .before .before .before .before .before .before .args in apply-known registers functions (parts (a .class
+      (λ i. let a = c .before .before .before .before .before .before .before .before .before .args in apply-known registers functions (windowOfParts (a .class
           .now) (a .unequal .now) (a .result .now) (a .ever .now) (a .mark .now) i) (a .x) (a .f) (a .y) (a .z) _ _ (c .before .before .before .before .before
           .before .before .name .ensures) (c .before .before .before .before .before .before .if1 .taken) (c .copy-in .ensures .0 i)),
       c .copy-in .ensures .1,
     ))
     (λ c κs. search needs)
     (λ c. (
-      (λ i. let a = c .before .before .before .before .before .before .before .before .before .args in apply-new registers functions (parts (a .class .now)
+      (λ i. let a = c .before .before .before .before .before .before .before .before .before .args in apply-new registers functions (windowOfParts (a .class .now)
           (a .unequal .now) (a .result .now) (a .ever .now) (a .mark .now) i) (a .x) (a .f) (a .y) (a .z) _ _ (c .before .before .before .before .before .before
           .before .name .ensures) (c .before .before .before .before .before .before .if1 .left) (c .new-in .ensures .0 i)),
       c .new-in .ensures .1,

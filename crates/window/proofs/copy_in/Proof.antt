@@ -4,7 +4,7 @@ use lib.ListN.{length, length-set}
 use borrow.Author.Needs.{needs}
 use Rattle.window.specs.Layout.{registers, functions}
 use Rattle.window.proofs.Theory.Through.{masks-length, results-length}
-use Rattle.window.specs.Parts.{parts}
+use Rattle.window.specs.Parts.{windowOfParts}
 use Rattle.window.proofs.Theory.Performing.{copied-within, copied-moved}
 use Rattle.window.proofs.copy_in.Statement.{statement}
 use Rattle.window.proofs.copy_in.Tie as tie
@@ -25,7 +25,7 @@ copy-in-spec = tie.close (tie.spec
     (λ c. (
       (λ b.
           let a = c .before .before .before .before .before .before .before .before .before .before .before .before .before .before .before .before .args in
-          copied-moved registers functions (parts (a .class .now) (a .unequal .now) (a .result .now) (a .ever .now) (a .mark .now) b) (a .x) (a .y) _ _ _ _ _
+          copied-moved registers functions (windowOfParts (a .class .now) (a .unequal .now) (a .result .now) (a .ever .now) (a .mark .now) b) (a .x) (a .y) _ _ _ _ _
           _ _
           (sym (c .before .before .before .before .before .before .before .before .before .before .before .before .before .before .holds .ensures) ∙ c
           .before .before .before .before .before .before .before .before .before .before .before .before .before .if1 .left) (c .before .before .before

@@ -1,7 +1,7 @@
 use mathlib.Core.Path.{sym, _∙_}
 use borrow.Author.Needs.{needs}
 use Rattle.window.specs.Layout.{registers, functions}
-use Rattle.window.specs.Parts.{parts}
+use Rattle.window.specs.Parts.{windowOfParts}
 use Rattle.window.proofs.Theory.Performing.{equal-within, equal-moved}
 use Rattle.window.proofs.equal_in.Statement.{statement}
 use Rattle.window.proofs.equal_in.Tie as tie
@@ -18,7 +18,7 @@ equal-in-spec = tie.close (tie.spec
     (λ c. (
       (λ m.
           let a = c .before .before .before .before .before .before .before .before .before .before .before .before .before .before .before .before .before
-          .before .args in equal-moved registers functions (parts (a .class .now) (a .unequal .now) (a .result .now) (a .ever .now) m (a .infeasible)) (a .x)
+          .before .args in equal-moved registers functions (windowOfParts (a .class .now) (a .unequal .now) (a .result .now) (a .ever .now) m (a .infeasible)) (a .x)
           (a .y) _ _ _ _
           (sym (c .before .before .before .before .before .before .before .before .before .before .before .before .before .before .before .before .holds
           .ensures) ∙ c .before .before .before .before .before .before .before .before .before .before .before .before .before .before .before .if1

@@ -1,17 +1,17 @@
 use Prim.Native.Nat.{_-_}
 use borrow.Author.Needs.{needs}
-use Rattle.window.specs.Layout.{functions, pairs}
-use Rattle.base.proofs.Theory.Written.{Written, written-none, written-more}
+use Rattle.window.specs.Layout.{functions, registerPairs}
+use Rattle.base.proofs.Theory.Written.{WrittenUpTo, written-none, written-more}
 use Rattle.window.proofs.Theory.Table.{written-all}
 use Rattle.window.specs.Marks.{foldedOf, unionOf}
 use Rattle.window.proofs.folded.Statement.{statement}
 use Rattle.window.proofs.folded.Tie as tie
 
 abbrev Inv-loop : tie.InvT-loop
-Inv-loop result next₀ i₀ next i = Written (λ k. unionOf result k pairs functions) 0 pairs i next
+Inv-loop result next₀ i₀ next i = WrittenUpTo (λ k. unionOf result k registerPairs functions) 0 registerPairs i next
 
 abbrev μ-loop : tie.MeasureT-loop
-μ-loop result next₀ i₀ next i = pairs - i
+μ-loop result next₀ i₀ next i = registerPairs - i
 
 pub folded-spec : {M : Type 1} → statement M
 unfolding foldedOf

@@ -1,8 +1,8 @@
 use mathlib.Core.Path.{_≡_, refl, sym, subst}
 use mathlib.Core.Bool.{true}
 use borrow.Author.Needs.{needs}
-use Rattle.window.specs.Perform.{Within, judgeOf}
-use Rattle.window.specs.Parts.{parts}
+use Rattle.window.specs.Perform.{WithinPacking, judgeOf}
+use Rattle.window.specs.Parts.{windowOfParts}
 use Rattle.window.proofs.judge_in.Statement.{statement}
 use Rattle.window.proofs.judge_in.Tie as tie
 
@@ -13,19 +13,19 @@ judge-in-spec = tie.close (tie.spec
     (λ c. search needs)
     (λ c. search needs)
     (λ c. search needs)
-    (λ c κs. let p = subst Within (c .before .letter .given .1) (c .before .before .before .pre) in (p .1, p .2, p .3))
+    (λ c κs. let p = subst WithinPacking (c .before .letter .given .1) (c .before .before .before .pre) in (p .1, p .2, p .3))
     (λ c. search needs)
     (λ c. search needs)
     (λ c. search needs)
-    (λ c κs. subst Within (c .before .letter2 .given .1) (c .before .before .before .pre))
+    (λ c κs. subst WithinPacking (c .before .letter2 .given .1) (c .before .before .before .pre))
     (λ c. search needs)
-    (λ c k u i. subst (λ l. true ≡ judgeOf (parts k u (c .before .before .args .result .now) (c .before .before .args .ever .now) (c .before .before .args
+    (λ c k u i. subst (λ l. true ≡ judgeOf (windowOfParts k u (c .before .before .args .result .now) (c .before .before .args .ever .now) (c .before .before .args
     .mark .now) i) l) (sym (c .enum-told .given .1)) refl)
-    (λ c k u i. subst (λ l. c .memoizing .result ≡ judgeOf (parts k u (c .before .before .before .before .args .result .now) (c .before .before .before
+    (λ c k u i. subst (λ l. c .memoizing .result ≡ judgeOf (windowOfParts k u (c .before .before .before .before .args .result .now) (c .before .before .before
     .before .args .ever .now) (c .before .before .before .before .args .mark .now) i) l) (sym (c .before .before .letter .given .1)) (c .memoizing
     .ensures k u (c .before .before .before .before .args .mark .now) i))
-    (λ c k u i. subst (λ l. c .early .result ≡ judgeOf (parts k u (c .before .before .before .before .args .result .now) (c .before .before .before .before
+    (λ c k u i. subst (λ l. c .early .result ≡ judgeOf (windowOfParts k u (c .before .before .before .before .args .result .now) (c .before .before .before .before
     .args .ever .now) (c .before .before .before .before .args .mark .now) i) l) (sym (c .before .before .letter2 .given .1)) (c .early .ensures k u (c
     .before .before .before .before .args .result .now) (c .before .before .before .before .args .ever .now) i))
-    (λ c k u i. subst (λ l. true ≡ judgeOf (parts k u (c .before .before .args .result .now) (c .before .before .args .ever .now) (c .before .before .args
+    (λ c k u i. subst (λ l. true ≡ judgeOf (windowOfParts k u (c .before .before .args .result .now) (c .before .before .args .ever .now) (c .before .before .args
     .mark .now) i) l) (sym (c .enum-told2 .given .1)) refl))

@@ -2,7 +2,7 @@ use mathlib.Core.Path.{refl, ap, _∙_}
 use lib.ListN.{getD, length}
 use borrow.Author.Needs.{needs}
 use Rattle.window.specs.Layout.{registers, functions}
-use Rattle.window.specs.Parts.{parts}
+use Rattle.window.specs.Parts.{windowOfParts}
 use Rattle.window.proofs.Theory.Through.{whole, masks-length, results-length}
 use Rattle.window.proofs.Theory.Performing.{both-has, merged-is}
 use Rattle.window.proofs.merge_in.Statement.{statement}
@@ -46,7 +46,7 @@ merge-in-spec = tie.close (tie.spec
           .before .before .before .before .before .pre .2 .ever),
     ))
     (λ c. let a = c .before .before .before .before .before .before .before .before .before .before .before .args in (
-      (λ m i. merged-is registers functions (parts (a .class .now) (a .unequal .now) (a .result .now) (a .ever .now) m i) (a .a) (a .b) _ _ _ _ _ _ (c
+      (λ m i. merged-is registers functions (windowOfParts (a .class .now) (a .unequal .now) (a .result .now) (a .ever .now) m i) (a .a) (a .b) _ _ _ _ _ _ (c
           .before .before .before .before .before .before .before .before .single .ensures) (c .before .before .before .before .before .before .merge-masks
           .ensures) (c .before .before .before .before .merge-masks2 .ensures) (c .before .before .merge-results .ensures) (c .merge-masks3 .ensures) refl),
       record {

@@ -2,7 +2,7 @@ use Prim.Native.Nat.{_-_}
 use lib.ListN.{length, getD}
 use native.Mathlib.Omega.{arith}
 use borrow.Author.Needs.{needs}
-use Rattle.window.specs.Bits.{movedOf}
+use Rattle.window.specs.Bits.{maskMoved}
 use Rattle.window.specs.Through.{bitsMoved}
 use Rattle.window.proofs.Theory.Through.{moved-turn}
 use Rattle.window.proofs.Theory.Table.{Swept, swept-none, swept-all}
@@ -10,7 +10,7 @@ use Rattle.window.proofs.move_bits.Statement.{statement}
 use Rattle.window.proofs.move_bits.Tie as tie
 
 abbrev Inv-loop : tie.InvT-loop
-Inv-loop t₀ from to i₀ t i = Swept (λ k. movedOf (getD t₀ k 0) from to) 0 t₀ i t
+Inv-loop t₀ from to i₀ t i = Swept (λ k. maskMoved (getD t₀ k 0) from to) 0 t₀ i t
 
 abbrev μ-loop : tie.MeasureT-loop
 μ-loop t₀ from to i₀ t i = length t₀ - i

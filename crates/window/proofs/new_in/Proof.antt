@@ -2,7 +2,7 @@ use mathlib.Core.Path.{refl, ap, _∙_}
 use lib.ListN.{length, length-set}
 use borrow.Author.Needs.{needs}
 use Rattle.window.specs.Layout.{registers, functions}
-use Rattle.window.specs.Parts.{parts}
+use Rattle.window.specs.Parts.{windowOfParts}
 use Rattle.window.specs.Adding.{masksForgotten}
 use Rattle.window.proofs.Theory.Adding.{line-length}
 use Rattle.window.proofs.Theory.Shape.{forgotten-length, renewed-length}
@@ -29,7 +29,7 @@ new-in-spec = tie.close (tie.spec
     (λ c. (
       (λ i.
           let a = c .before .before .before .before .before .before .before .before .before .before .before .before .before .before .before .before .before
-          .before .before .args in applied-is registers functions (parts (a .class .now) (a .unequal .now) (a .result .now) (a .ever .now) (a .mark .now) i)
+          .before .before .args in applied-is registers functions (windowOfParts (a .class .now) (a .unequal .now) (a .result .now) (a .ever .now) (a .mark .now) i)
           (a .x) (a .f) (a .y) (a .z) _ _ _ _ _ _ _ _ _
           (c .before .before .before .before .before .before .before .before .before .before .before .before .before .arguments .ensures) (c .before .before
           .before .before .before .before .before .before .before .before .before .before .fallen .ensures) (c .before .before .before .before .before

@@ -1,14 +1,14 @@
 use Prim.Native.Nat.{_-_}
 use borrow.Author.Needs.{needs}
 use Rattle.window.specs.Layout.{registers}
-use Rattle.base.proofs.Theory.Written.{Written, written-none, written-more}
+use Rattle.base.proofs.Theory.Written.{WrittenUpTo, written-none, written-more}
 use Rattle.window.proofs.Theory.Table.{written-all}
 use Rattle.window.specs.Performing.{ownOf}
 use Rattle.window.proofs.own_classes.Statement.{statement}
 use Rattle.window.proofs.own_classes.Tie as tie
 
 abbrev Inv-loop : tie.InvT-loop
-Inv-loop count next₀ i₀ next i = Written (ownOf count) 0 registers i next
+Inv-loop count next₀ i₀ next i = WrittenUpTo (ownOf count) 0 registers i next
 
 abbrev μ-loop : tie.MeasureT-loop
 μ-loop count next₀ i₀ next i = registers - i

@@ -1,8 +1,8 @@
 use mathlib.Core.Path.{subst}
 use borrow.Author.Needs.{needs}
-use Rattle.window.specs.Parts.{parts}
+use Rattle.window.specs.Parts.{windowOfParts}
 use Rattle.window.proofs.Theory.Parts.{told}
-use Rattle.window.specs.Perform.{Within}
+use Rattle.window.specs.Perform.{WithinPacking}
 use Rattle.window.proofs.perform_in.Statement.{statement}
 use Rattle.window.proofs.perform_in.Tie as tie
 
@@ -13,7 +13,7 @@ perform-in-spec = tie.close (tie.spec
     (λ c. search needs)
     (λ c κs.
     let pre-of = c .before .before .before .before .before .before .before .before .pre in
-    let p = subst Within (c .before .before .before .before .before .before .letter .given .1) (pre-of .0) in (p .0, p .1, (pre-of .1)))
+    let p = subst WithinPacking (c .before .before .before .before .before .before .letter .given .1) (pre-of .0) in (p .0, p .1, (pre-of .1)))
     (λ c. search needs)
     (λ c. search needs)
     (λ c. search needs)
@@ -21,13 +21,13 @@ perform-in-spec = tie.close (tie.spec
     (λ c. search needs)
     (λ c κs.
     let pre-of = c .before .before .before .before .before .before .before .before .pre in
-    let p = subst Within (c .before .before .before .before .before .before .letter2 .given .1) (pre-of .0) in (p .0, p .1, p .2, p .3, (pre-of .1)))
+    let p = subst WithinPacking (c .before .before .before .before .before .before .letter2 .given .1) (pre-of .0) in (p .0, p .1, p .2, p .3, (pre-of .1)))
     (λ c. search needs)
     (λ c. search needs)
     (λ c. search needs)
     (λ c κs.
     let pre-of = c .before .before .before .before .before .before .before .pre in
-    let p = subst Within (c .before .before .before .before .before .letter3 .given .1) (pre-of .0) in let s = pre-of .1 in (
+    let p = subst WithinPacking (c .before .before .before .before .before .letter3 .given .1) (pre-of .0) in let s = pre-of .1 in (
       p .0,
       p .1,
       record {
@@ -43,21 +43,21 @@ perform-in-spec = tie.close (tie.spec
     (λ c. search needs)
     (λ c κs.
     let pre-of = c .before .before .before .before .before .pre in
-    let p = subst Within (c .before .before .before .letter4 .given .1) (pre-of .0) in (p .0, p .1, pre-of .1 .unequal))
+    let p = subst WithinPacking (c .before .before .before .letter4 .given .1) (pre-of .0) in (p .0, p .1, pre-of .1 .unequal))
     (λ c. (
-      let a = c .before .before .before .before .before .before .before .before .before .args in told _ (parts (a .class .now) (a .unequal .now) (a .result
+      let a = c .before .before .before .before .before .before .before .before .before .args in told _ (windowOfParts (a .class .now) (a .unequal .now) (a .result
           .now) (a .ever .now) (a .mark .now) (a .infeasible)) _ _ (c .before .before .before .before .before .before .before .letter .given .1) (c .copy-in
           .ensures .0 (a .infeasible)),
       c .copy-in .ensures .1,
     ))
     (λ c. (
-      let a = c .before .before .before .before .before .before .before .before .before .args in told _ (parts (a .class .now) (a .unequal .now) (a .result
+      let a = c .before .before .before .before .before .before .before .before .before .args in told _ (windowOfParts (a .class .now) (a .unequal .now) (a .result
           .now) (a .ever .now) (a .mark .now) (a .infeasible)) _ _ (c .before .before .before .before .before .before .before .letter2 .given .1) (c .apply-in
           .ensures .0 (a .infeasible)),
       c .apply-in .ensures .1,
     ))
     (λ c. (
-      let a = c .before .before .before .before .before .before .before .before .args in told _ (parts (a .class .now) (a .unequal .now) (a .result .now)
+      let a = c .before .before .before .before .before .before .before .before .args in told _ (windowOfParts (a .class .now) (a .unequal .now) (a .result .now)
           (a .ever .now) (a .mark .now) (a .infeasible)) _ _ (c .before .before .before .before .before .before .letter3 .given .1) (c .equal-in .ensures .0 (a
           .mark .now)),
       let l = c .equal-in .ensures .1 in record {
@@ -70,7 +70,7 @@ perform-in-spec = tie.close (tie.spec
       },
     ))
     (λ c. (
-      let a = c .before .before .before .before .before .before .args in told _ (parts (a .class .now) (a .unequal .now) (a .result .now) (a .ever .now) (a
+      let a = c .before .before .before .before .before .before .args in told _ (windowOfParts (a .class .now) (a .unequal .now) (a .result .now) (a .ever .now) (a
           .mark .now) (a .infeasible)) _ _ (c .before .before .before .before .letter4 .given .1) (c .unequal-in .ensures .0 (a .result .now) (a .ever .now) (a
           .mark .now)),
       let s = c .before .before .before .before .before .before .pre .1 in record {

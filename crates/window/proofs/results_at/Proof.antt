@@ -2,14 +2,14 @@ use mathlib.Core.Path.{_≡_}
 use Prim.Native.Nat.{_-_, _≤_}
 use native.Mathlib.Omega.{arith}
 use borrow.Author.Needs.{needs}
-use Rattle.window.specs.Layout.{functions, pairs}
+use Rattle.window.specs.Layout.{functions, registerPairs}
 use Rattle.window.specs.Marks.{unionOf}
 use Rattle.window.proofs.Theory.Marks.{union-more, union-none, union-all}
 use Rattle.window.proofs.results_at.Statement.{statement}
 use Rattle.window.proofs.results_at.Tie as tie
 
 abbrev Inv-loop : tie.InvT-loop
-Inv-loop result i m₀ f₀ m f = (f ≤ functions) × (m ≡ unionOf result i pairs f)
+Inv-loop result i m₀ f₀ m f = (f ≤ functions) × (m ≡ unionOf result i registerPairs f)
 
 abbrev μ-loop : tie.MeasureT-loop
 μ-loop result i m₀ f₀ m f = functions - f

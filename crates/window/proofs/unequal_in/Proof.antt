@@ -1,6 +1,6 @@
 use borrow.Author.Needs.{needs}
 use Rattle.window.specs.Layout.{registers, functions}
-use Rattle.window.specs.Parts.{parts}
+use Rattle.window.specs.Parts.{windowOfParts}
 use Rattle.window.proofs.Theory.Performing.{unequal-is}
 use Rattle.window.proofs.unequal_in.Statement.{statement}
 use Rattle.window.proofs.unequal_in.Tie as tie
@@ -14,7 +14,7 @@ unequal-in-spec = tie.close (tie.spec
     (λ c κs. search needs)
     (λ c.
     let part-in = c .before .before .before .part-in in (
-      (λ r e m. let a = c .before .before .before .before .before .before .before .args in unequal-is registers functions (parts (a .class .now) (a
+      (λ r e m. let a = c .before .before .before .before .before .before .before .args in unequal-is registers functions (windowOfParts (a .class .now) (a
           .unequal .now) r e m (a .infeasible)) (a .x) (a .y) _ _ _ (part-in .ensures .0) (c .before .holds .ensures) (c .settle-in .ensures .0 (a .class .now)
           r e m)),
       c .settle-in .ensures .1 (part-in .ensures .1),

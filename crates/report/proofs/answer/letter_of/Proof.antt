@@ -4,12 +4,12 @@ use Rattle.letters.specs.Answers.{Answer, onAnswer}
 use Rattle.letters.specs.CodeAnswers.{letterAnswer}
 use Rattle.letters.specs.declared.Letter.{Letter}
 use Rattle.letters.specs.declared.Letter.the-variants.{Copy}
-use Rattle.report.specs.Shown.{letterOf}
+use Rattle.report.specs.Shown.{letterOrCopy}
 use Rattle.report.proofs.answer.letter_of.Statement.{statement}
 use Rattle.report.proofs.answer.letter_of.Tie as tie
 
 pub letter-of-spec : {M : Type 1} → statement M
-unfolding letterOf
+unfolding letterOrCopy
 letter-of-spec =
     tie.close
     (tie.spec

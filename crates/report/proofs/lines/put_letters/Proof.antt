@@ -2,16 +2,16 @@ use borrow.Author.Needs.{needs}
 use mathlib.Core.Path.{sym, ap}
 use Prim.Native.Nat.{_+_, _-_}
 use Rattle.report.specs.Lines.{linesOf, letterLine}
-use Rattle.report.specs.Shown.{namesOf, letterOf, lettersIn}
+use Rattle.report.specs.Shown.{namesOf, letterOrCopy, lettersIn}
 use Rattle.report.proofs.Theory.ShownLaws.{letter-lines-start, letter-lines-next, letter-lines-none}
-use Rattle.text.proofs.Theory.Appending.{Left, left-all, left-next, left-none, left-room, left-same, left-length, room-same, appended-same}
+use Rattle.text.proofs.Theory.Appending.{LeftToAppend, left-all, left-next, left-none, left-room, left-same, left-length, room-same, appended-same}
 use Rattle.report.proofs.lines.put_letters.Statement.{statement}
 use Rattle.report.proofs.lines.put_letters.Tie as tie
 
 abbrev Inv-loop : tie.InvT-loop
 Inv-loop out₀ at h registers functions answer count next₀ k₀ out next k =
     let F = letterLine (namesOf registers functions) h in
-    Left out₀ at (linesOf F (lettersIn h answer 0 count)) (linesOf F (lettersIn h answer k (count - k))) out next
+    LeftToAppend out₀ at (linesOf F (lettersIn h answer 0 count)) (linesOf F (lettersIn h answer k (count - k))) out next
 
 abbrev μ-loop : tie.MeasureT-loop
 μ-loop out₀ at h registers functions answer count next₀ k₀ out next k = count - k
@@ -28,14 +28,14 @@ put-letters-spec =
     let a = c .before .before .before .before .before .before .args in
     let l = c .before .before .before .loop in
     room-same (ap (letterLine (namesOf (a .registers) (a .functions)) (a .h)) (sym (c .before .letter-of .ensures)))
-    (left-room (letterLine (namesOf (a .registers) (a .functions)) (a .h) (letterOf (a .h) (a .answer .now) (l .k))) (linesOf (letterLine (namesOf (a .registers) (a .functions)) (a .h)) (lettersIn (a .h) (a .answer .now) (l .k + 1) (a .count - (l .k + 1))))
+    (left-room (letterLine (namesOf (a .registers) (a .functions)) (a .h) (letterOrCopy (a .h) (a .answer .now) (l .k))) (linesOf (letterLine (namesOf (a .registers) (a .functions)) (a .h)) (lettersIn (a .h) (a .answer .now) (l .k + 1) (a .count - (l .k + 1))))
     (c .before .before .before .before .before .before .pre) (left-same (letter-lines-next (letterLine (namesOf (a .registers) (a .functions)) (a .h)) (a .h) (a .answer .now) (a .count) (l .k) (c .before .before .loop-test .taken)) (l .inv))))
     (λ c. search needs)
     (λ c. search needs)
     (λ c.
     let a = c .before .before .before .before .before .before .before .before .before .args in
     let l = c .before .before .before .before .before .before .loop in
-    left-next (letterLine (namesOf (a .registers) (a .functions)) (a .h) (letterOf (a .h) (a .answer .now) (l .k))) (linesOf (letterLine (namesOf (a .registers) (a .functions)) (a .h)) (lettersIn (a .h) (a .answer .now) (l .k + 1) (a .count - (l .k + 1))))
+    left-next (letterLine (namesOf (a .registers) (a .functions)) (a .h) (letterOrCopy (a .h) (a .answer .now) (l .k))) (linesOf (letterLine (namesOf (a .registers) (a .functions)) (a .h)) (lettersIn (a .h) (a .answer .now) (l .k + 1) (a .count - (l .k + 1))))
     (left-same (letter-lines-next (letterLine (namesOf (a .registers) (a .functions)) (a .h)) (a .h) (a .answer .now) (a .count) (l .k) (c .before .before .before .before .before .loop-test .taken)) (l .inv))
     (appended-same (ap (letterLine (namesOf (a .registers) (a .functions)) (a .h)) (c .before .before .before .before .letter-of .ensures)) (c .before .before .put-letter .ensures)))
     (λ c. left-length (c .before .loop .inv))

@@ -8,16 +8,16 @@ use Rattle.letters.specs.Editions.{firstEdition}
 use Rattle.semantics.specs.TablesRead.{unitsIn, rowFrom}
 use Rattle.text.specs.Names.{nameText}
 use Rattle.report.specs.Lines.{linesOf, rowLine}
-use Rattle.report.specs.ShownLaws.{rowIn}
+use Rattle.report.specs.Shown.{rowIn}
 use Rattle.report.proofs.Theory.ShownLaws.{row-lines-start, row-lines-next, row-lines-none}
-use Rattle.text.proofs.Theory.Appending.{Left, left-all, left-next, left-none, left-room, left-same, left-length, room-same, appended-same}
+use Rattle.text.proofs.Theory.Appending.{LeftToAppend, left-all, left-next, left-none, left-room, left-same, left-length, room-same, appended-same}
 use Rattle.report.proofs.lines.put_rows.Statement.{statement}
 use Rattle.report.proofs.lines.put_rows.Tie as tie
 
 abbrev Inv-loop : tie.InvT-loop
 Inv-loop out₀ at h functions answer start count next₀ k₀ out next k =
     let G = rowLine (λ f. nameText (getD functions f 0)) h in
-    Left out₀ at (linesOf G (map (rowFrom firstEdition h) (unitsIn 5 count (drop start answer))))
+    LeftToAppend out₀ at (linesOf G (map (rowFrom firstEdition h) (unitsIn 5 count (drop start answer))))
     (linesOf G (map (rowFrom firstEdition h) (unitsIn 5 (count - k) (drop (start + 5 * k) answer)))) out next
 
 abbrev μ-loop : tie.MeasureT-loop

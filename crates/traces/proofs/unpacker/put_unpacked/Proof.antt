@@ -5,7 +5,7 @@ use lib.Seq.{length-sets}
 use Rattle.traces.proofs.Counting.{unit-good, unit-bad}
 use Rattle.traces.proofs.Putting.{put-begins, put-good, put-bad, put-ends}
 use Rattle.letters.specs.Editions.{firstEdition}
-use Rattle.traces.specs.Reading.{parts, letterIn}
+use Rattle.traces.specs.Reading.{chunks, letterIn}
 use Rattle.traces.specs.Writing.{plainFields}
 use Rattle.traces.specs.Unpacking.{putPlain, putUnpacked}
 use Rattle.traces.specs.Putting.{putEach}
@@ -15,7 +15,7 @@ use Rattle.traces.proofs.unpacker.put_unpacked.Statement.{statement}
 use Rattle.traces.proofs.unpacker.put_unpacked.Tie as tie
 
 abbrev Inv-loop : tie.InvT-loop
-Inv-loop h bytes out₀ at₀ to₀ out at to = (at ≤ length bytes) × (2 * (to / 5) + 2 ≡ at) × (5 * (to / 5) ≡ to) × (5 * (length bytes / 2 - 1) ≤ length out₀) × (length out ≡ length out₀) × (putEach (putPlain h) 5 (letterIn firstEdition h) out to (parts 2 (length bytes / 2 - 1 - to / 5) (drop at bytes)) ≡ putUnpacked h out₀ bytes)
+Inv-loop h bytes out₀ at₀ to₀ out at to = (at ≤ length bytes) × (2 * (to / 5) + 2 ≡ at) × (5 * (to / 5) ≡ to) × (5 * (length bytes / 2 - 1) ≤ length out₀) × (length out ≡ length out₀) × (putEach (putPlain h) 5 (letterIn firstEdition h) out to (chunks 2 (length bytes / 2 - 1 - to / 5) (drop at bytes)) ≡ putUnpacked h out₀ bytes)
 
 abbrev μ-loop : tie.MeasureT-loop
 μ-loop h bytes out₀ at₀ to₀ out at to = length bytes - at

@@ -5,7 +5,7 @@ use native.Mathlib.Omega.{arith}
 use mathlib.Core.Path.{_≡_, sym, ap, _∙_}
 use lib.ListN.{length, drop}
 use Rattle.traces.proofs.Counting.{countFrom, count-begins, count-good, count-bad, count-ends}
-use Rattle.traces.specs.Reading.{parts, lettersFrom}
+use Rattle.traces.specs.Reading.{chunks, lettersFrom}
 use Rattle.traces.specs.ReadingParts.{counted}
 use Prim.Native.Nat.{_+_, _-_, _*_, _/_, _≤_}
 use borrow.Author.Needs.{needs}
@@ -13,7 +13,7 @@ use Rattle.traces.proofs.writer.check_letters.Statement.{statement}
 use Rattle.traces.proofs.writer.check_letters.Tie as tie
 
 abbrev Inv-loop : tie.InvT-loop
-Inv-loop h fields at₀ n₀ at n = (at ≤ length fields) × (5 * n ≡ at) × (countFrom (unpackLetter h) h n (parts 5 ((length fields + 4) / 5 - n) (drop at fields)) ≡ counted (lettersFrom (unpackLetter h) h 1 (unpackedParts fields)))
+Inv-loop h fields at₀ n₀ at n = (at ≤ length fields) × (5 * n ≡ at) × (countFrom (unpackLetter h) h n (chunks 5 ((length fields + 4) / 5 - n) (drop at fields)) ≡ counted (lettersFrom (unpackLetter h) h 1 (unpackedParts fields)))
 
 abbrev μ-loop : tie.MeasureT-loop
 μ-loop h fields at₀ n₀ at n = length fields - at

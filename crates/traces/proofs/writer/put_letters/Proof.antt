@@ -7,14 +7,14 @@ use Rattle.traces.specs.Writing.{unpackedParts}
 use native.Mathlib.Omega.{arith}
 use mathlib.Core.Path.{_≡_, sym, ap, _∙_}
 use lib.ListN.{length, drop}
-use Rattle.traces.specs.Reading.{parts}
+use Rattle.traces.specs.Reading.{chunks}
 use Prim.Native.Nat.{_+_, _-_, _*_, _/_, _≤_}
 use borrow.Author.Needs.{needs}
 use Rattle.traces.proofs.writer.put_letters.Statement.{statement}
 use Rattle.traces.proofs.writer.put_letters.Tie as tie
 
 abbrev Inv-loop : tie.InvT-loop
-Inv-loop h fields out₀ at₀ to₀ out at to = (at ≤ length fields) × (5 * (at / 5) ≡ at) × (to ≡ 2 * (at / 5) + 2) × (length out ≡ length out₀) × (putWords (wordIn firstEdition h) out to (parts 5 ((length fields + 4) / 5 - at / 5) (drop at fields)) ≡ putWords (wordIn firstEdition h) out₀ 2 (unpackedParts fields))
+Inv-loop h fields out₀ at₀ to₀ out at to = (at ≤ length fields) × (5 * (at / 5) ≡ at) × (to ≡ 2 * (at / 5) + 2) × (length out ≡ length out₀) × (putWords (wordIn firstEdition h) out to (chunks 5 ((length fields + 4) / 5 - at / 5) (drop at fields)) ≡ putWords (wordIn firstEdition h) out₀ 2 (unpackedParts fields))
 
 abbrev μ-loop : tie.MeasureT-loop
 μ-loop h fields out₀ at₀ to₀ out at to = length fields - at

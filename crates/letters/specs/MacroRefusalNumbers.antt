@@ -1,0 +1,34 @@
+-- The numbers of the refusals of a macro (document 01, "The questions"), each with its question. 6 is that of a trace too: RefusalNumbers.
+use Prim.Native.Nat.{ℕ}
+
+-- Of a macro. "At most 4,096 bytes? 7."
+abbrev pub textTooLong : ℕ
+textTooLong = 7
+
+-- "a token, and no name over eight bytes? 8."
+abbrev pub tokenMalformed : ℕ
+tokenMalformed = 8
+
+-- "Fits the grammar? 9 (at the text's length if it ends early)."
+abbrev pub grammarViolated : ℕ
+grammarViolated = 9
+
+-- "Within eight registers and four functions, each name declared once? 10."
+abbrev pub declarationWrong : ℕ
+declarationWrong = 10
+
+-- "A use declared, of the right sort? 11."
+abbrev pub useWrong : ℕ
+useWrong = 11
+
+-- "Braces at most 16 deep? 12."
+abbrev pub nestingTooDeep : ℕ
+nestingTooDeep = 12
+
+-- "Then: at most 256 points? 13."
+abbrev pub pointsTooMany : ℕ
+pointsTooMany = 13
+
+-- "Table suffices? 14."
+abbrev pub tableTooSmall : ℕ
+tableTooSmall = 14

@@ -1,0 +1,20 @@
+use native.Mathlib.Omega.{arith}
+use mathlib.Core.List.{[]}
+use borrow.Author.Needs.{needs}
+use Rattle.model_writer.proofs.Theory.AnswerLaws.{showed-refused, bytes-enough, showed-long, begun}
+use Rattle.model_writer.proofs.show.Statement.{statement}
+use Rattle.model_writer.proofs.show.Tie as tie
+
+pub show-spec : {M : Type 1} → statement M
+show-spec =
+    tie.close
+    (tie.spec
+    (λ c κs. search needs)
+    (λ c. search needs)
+    (λ c. search needs)
+    (λ c. let h = bytes-enough _ _ (c .before .before .before .read-beginning .ensures) [] (c .before .begun2 .given .1) in omega arith)
+    (λ c. showed-long _ _ (c .before .before .before .before .read-beginning .ensures) _ (c .before .before .begun2 .given .1) (c .if1 .taken))
+    (λ c κs. begun _ _ (c .before .before .before .before .before .read-beginning .ensures) [] (c .before .before .before .begun2 .given .1) (c .before .if1 .left))
+    (λ c. showed-refused _ _ (c .before .before .before .read-beginning .ensures) _ (c .before .begun .given .1))
+    (λ c. search needs)
+    (λ c. search needs))

@@ -1,0 +1,115 @@
+use Prim.Native.Nat.{_-_, _≤_}
+use mathlib.Core.Path.{_≡_, refl, ap, _∙_}
+use native.Mathlib.Omega.{arith}
+use lib.ListN.{length, drop}
+use borrow.Author.Needs.{needs}
+use Rattle.letters.specs.RefusalNumbers.{letterMalformed}
+use Rattle.window.specs.Parts.{windowOfParts, PartLengths}
+use Rattle.streaming.specs.declared.RunAnswer.the-variants.{Judged, Refused}
+use Rattle.streaming.specs.Run.{runOf}
+use Rattle.streaming.specs.Stream.{takenAll}
+use Rattle.streaming.proofs.Laws.{step-within}
+use Rattle.streaming.proofs.Pairs.{taken-more, taken-malformed, taken-done}
+use Rattle.streaming.proofs.by_tables.take_tables.Statement.{statement}
+use Rattle.streaming.proofs.by_tables.take_tables.Tie as tie
+
+abbrev Inv-loop : tie.InvT-loop
+Inv-loop header running letters incoherent infeasible bytes start class₀ unequal₀ result₀ ever₀ mark₀ bad₀ fine₀ count₀ one₀ two₀ i₀
+    class unequal result ever mark bad fine count one two i =
+    (i ≤ length bytes) × PartLengths class unequal result ever mark
+    × (takenAll (runOf header (windowOfParts class unequal result ever mark bad) fine count (Judged one two)) (drop i bytes)
+    ≡ takenAll (runOf header (windowOfParts class₀ unequal₀ result₀ ever₀ mark₀ bad₀) fine₀ count₀ (Judged one₀ two₀)) (drop i₀ bytes))
+
+abbrev μ-loop : tie.MeasureT-loop
+μ-loop header running letters incoherent infeasible bytes start class₀ unequal₀ result₀ ever₀ mark₀ bad₀ fine₀ count₀ one₀ two₀ i₀
+    class unequal result ever mark bad fine count one two i =
+    length bytes - i
+
+pub take-tables-spec : {M : Type 1} → statement M
+take-tables-spec = tie.close (tie.spec
+    Inv-loop
+    μ-loop
+    (λ c. (search needs, record { class = search needs; unequal = search needs; result = search needs; ever = search needs; mark = search needs }, refl))
+    (λ c. search needs)
+    (λ c. search needs)
+    (λ c. search needs)
+    (λ c. search needs)
+    (λ c κs. search needs)
+    (λ c κs. search needs)
+    (λ c κs. search needs)
+    (λ c. search needs)
+    (λ c. search needs)
+    (λ c κs. search needs)
+    (λ c κs. search needs)
+    (λ c.
+    let at-told = c .before .before in
+    let at-number = at-told .before .before in
+    let at-decode = at-number .before in
+    let at-word = at-decode .before in
+    let at-test = at-word .before .before .before in
+    let at-loop = at-test .before in
+    let at-start = at-loop .before .before .before .before .before .before .before in
+    let l = at-loop .loop in
+    let a = at-start .args in
+    c .run-of .ensures
+    ∙ ap (λ w. runOf (a .header) w (l .fine) (l .count) (Refused letterMalformed (at-number .next-number .result))) (c .before .window-of .ensures)
+    ∙ taken-malformed (a .header) (windowOfParts (l .class) (l .unequal) (l .result) (l .ever) (l .mark) (l .bad)) (l .fine) (l .count) (l .one) (l .two)
+    (a .bytes .now) (l .i) _ (l .inv .2) _ _ _ (at-test .loop-test .taken)
+    (at-word .word .ensures) (at-decode .decode-letter .ensures) (at-number .next-number .ensures) (at-told .enum-told .given .1))
+    (λ c κs.
+    let at-decoded = c .before .before .before .before in
+    let at-decode = at-decoded .before .before .before in
+    let at-loop = at-decode .before .before .before .before .before in
+    let at-start = at-loop .before .before .before .before .before .before .before in
+    let l = at-loop .loop in
+    let a = at-start .args in
+    step-within (record { header = a .header; window = a .window; running = a .running }) _ _ (at-decode .decode-letter .ensures) _ (at-decoded .decoded .given .1))
+    (λ c κs.
+    let at-decoded = c .before .before .before .before .before .before .before .before .before .before in
+    let at-decode = at-decoded .before .before .before in
+    let at-loop = at-decode .before .before .before .before .before in
+    let at-start = at-loop .before .before .before .before .before .before .before in
+    let l = at-loop .loop in
+    let a = at-start .args in
+    (step-within (record { header = a .header; window = a .window; running = a .running }) _ _ (at-decode .decode-letter .ensures) _ (at-decoded .decoded .given .1), l .inv .1))
+    (λ c κs. search needs)
+    (λ c κs. search needs)
+    (λ c.
+    let middle = c .before .before .before .before .before .before .before .before .before .before in
+    omega (arith, middle .before .before .before .before .before .before .before .before .before .before))
+    (λ c.
+    let middle = c .before .before .before .before .before .before .before .before .before .before in
+    omega (arith, middle .before .before .before .before .before .before .before .before .before .before .loop-test .taken))
+    (λ c.
+    let at-performed = c .before .before in
+    let at-judged = at-performed .before .before .before .before .before .before in
+    let at-decoded = at-judged .before .before .before .before .before in
+    let at-number = at-decoded .before .before in
+    let at-decode = at-number .before in
+    let at-word = at-decode .before in
+    let at-test = at-word .before .before .before in
+    let at-loop = at-test .before in
+    let at-start = at-loop .before .before .before .before .before .before .before in
+    let l = at-loop .loop in
+    let a = at-start .args in
+    let t = at-test .loop-test .taken in (
+      omega (arith, t, l .inv .0),
+      at-performed .performed .ensures .1,
+      taken-more (a .header) (windowOfParts (l .class) (l .unequal) (l .result) (l .ever) (l .mark) (l .bad)) (l .fine) (l .count) (l .one) (l .two)
+          (a .bytes .now) (l .i) _ (l .inv .2) _ _ _ _ _ _ _ _ t
+          (at-word .word .ensures) (at-decode .decode-letter .ensures) (at-number .next-number .ensures) (at-decoded .decoded .given .1)
+          (at-judged .judge-in .ensures (l .class) (l .unequal) (l .bad)) (at-performed .performed .ensures .0)
+          (c .before .first .ensures) (c .first2 .ensures),
+    ))
+    (λ c κs. search needs)
+    (λ c κs. search needs)
+    (λ c.
+    let at-test = c .before .before in
+    let at-loop = at-test .before in
+    let at-start = at-loop .before .before .before .before .before .before .before in
+    let l = at-loop .loop in
+    let a = at-start .args in
+    c .run-of2 .ensures
+    ∙ ap (λ w. runOf (a .header) w (l .fine) (l .count) (Judged (l .one) (l .two))) (c .before .window-of2 .ensures)
+    ∙ taken-done (a .header) (windowOfParts (l .class) (l .unequal) (l .result) (l .ever) (l .mark) (l .bad)) (l .fine) (l .count) (l .one) (l .two)
+    (a .bytes .now) (l .i) _ (l .inv .2) (at-test .loop-test .left)))

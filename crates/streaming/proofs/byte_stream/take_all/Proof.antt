@@ -1,0 +1,20 @@
+use mathlib.Core.Path.{_∙_}
+use borrow.Author.Needs.{needs}
+use Rattle.streaming.proofs.Pairs.{taken-parts, taken-refused}
+use Rattle.streaming.proofs.byte_stream.take_all.Statement.{statement}
+use Rattle.streaming.proofs.byte_stream.take_all.Tie as tie
+
+pub take-all-spec : {M : Type 1} → statement M
+take-all-spec = tie.close (tie.spec
+    (λ c. search needs)
+    (λ c. search needs)
+    (λ c. taken-refused _ _ _ _ (c .enum-told .given .1))
+    (λ c. search needs)
+    (λ c κs. search needs)
+    (λ c.
+    let at-verdict = c .before .before .before .before .before .before in
+    c .take-tables .ensures ∙ taken-parts (at-verdict .before .before .before .args .run) _ _ _ (at-verdict .verdict .given .1))
+    (λ c κs. search needs)
+    (λ c.
+    let at-verdict = c .before .before .before .before .before .before in
+    c .take-slots .ensures ∙ taken-parts (at-verdict .before .before .before .args .run) _ _ _ (at-verdict .verdict .given .1)))

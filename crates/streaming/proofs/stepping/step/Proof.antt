@@ -1,0 +1,28 @@
+use Rattle.streaming.proofs.Theory.Meanings.{advances}
+use Rattle.streaming.proofs.Laws.{step-refused, step-taken, step-within}
+use borrow.Author.Needs.{needs}
+use Rattle.streaming.proofs.stepping.step.Statement.{statement}
+use Rattle.streaming.proofs.stepping.step.Tie as tie
+
+decode-letter-requires : tie.Need-decode-letter-requires
+decode-letter-requires c κs = search needs
+
+enum-known-decoded : tie.Need-enum-known-decoded
+enum-known-decoded c = search needs
+
+enum-told : tie.Need-enum-told
+enum-told c = search needs
+
+returns : tie.Need-returns
+returns c = advances _ _ _ (step-refused (c .before .before .before .before .args .m) _ _ (c .before .before .decode-letter .ensures) (c .enum-told .given .1))
+
+moved-requires : tie.Need-moved-requires
+moved-requires c κs = step-within (c .before .before .before .before .before .args .m) _ _ (c .before .before .before .decode-letter .ensures) _ (c .before .decoded .given .1)
+
+returns-2 : tie.Need-returns-2
+returns-2 c = advances _ _ _ (step-taken (c .before .before .before .before .before .before .args .m) _ _ (c .before .before .before .before .decode-letter .ensures) _ _ (c .before .before .decoded .given .1) (c .moved .ensures))
+
+pub step-spec : {M : Type 1} → statement M
+step-spec =
+    tie.close
+    (tie.spec decode-letter-requires enum-known-decoded enum-told returns moved-requires returns-2)
