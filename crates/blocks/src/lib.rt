@@ -356,7 +356,8 @@ fn branch(count: u16, base: u16, mid: u16, first: &mut Successors, second: &mut 
 // After the block of a while, of which `base` is the number, up to the point `count`: the while follows its block.
 fn repeat_from(count: u16, base: u16, first: &mut Successors, second: &mut Successors)
     ensures { λ _. ⌜ now (first .exit)
-        ≡ changedTo count base (set (each (backpatchedIn (base + 1) count base) (now (first .entry))) base (begins (base + 1) count base)) (now (first .entry)) ⌝ }
+        ≡ changedTo count base (set (each (backpatchedIn (base + 1) count base) (now (first .entry))) base (begins (base + 1) count base))
+        (now (first .entry)) ⌝ }
     ensures other { λ _. ⌜ now (second .exit)
         ≡ changedTo count base (set (each (backpatchedIn (base + 1) count base) (now (second .entry))) base unknown) (now (second .entry)) ⌝ }
 {

@@ -53,7 +53,8 @@ pub record Formed (representative function first second : List ℕ) (registers n
 
 -- The signature of application i.
 unfoldable pub signatureAt : (representative function first second : List ℕ) → ℕ → ℕ
-signatureAt representative function first second i = signatureOf (getD function i 0) (getD representative (getD first i 0) 0) (getD representative (getD second i 0) 0)
+signatureAt representative function first second i =
+    signatureOf (getD function i 0) (getD representative (getD first i 0) 0) (getD representative (getD second i 0) 0)
 
 -- The index has the signatures of the n terms.
 pub record IndexedTerms (representative function first second : List ℕ) (registers n : ℕ) (head link : List ℕ) : Type 0 where
@@ -95,15 +96,18 @@ pub record Lowest (representative first second : List ℕ) (n : ℕ) : Type 0 wh
 
 -- Whether one of the first n terms has an argument of the class d.
 pub data UsedAsArgument (representative first second : List ℕ) (n d : ℕ) : Bool → Type 0 where
-  used : (k : ℕ) → k < n → (getD representative (getD first k 0) 0 ≡ d) ⊎ (getD representative (getD second k 0) 0 ≡ d) → UsedAsArgument representative first second n d true
-  unused : ((k : ℕ) → k < n → (getD representative (getD first k 0) 0 ≢ d) × (getD representative (getD second k 0) 0 ≢ d)) → UsedAsArgument representative first second n d false
+  used : (k : ℕ) → k < n → (getD representative (getD first k 0) 0 ≡ d) ⊎ (getD representative (getD second k 0) 0 ≡ d)
+      → UsedAsArgument representative first second n d true
+  unused : ((k : ℕ) → k < n → (getD representative (getD first k 0) 0 ≢ d) × (getD representative (getD second k 0) 0 ≢ d))
+      → UsedAsArgument representative first second n d false
 
 -- Some unions of congruent applications, from `representative` to r.
 pub record CongruentUnions (representative function first second : List ℕ) (registers n : ℕ) (r : List ℕ) : Type 0 where
   pub formed : Formed r function first second registers n
   pub keeps : (i j : ℕ) → i < n → j < n → getD representative i 0 ≡ getD representative j 0 → getD r i 0 ≡ getD r j 0
   pub beyond : (k : ℕ) → n ≤ k → getD r k 0 ≡ getD representative k 0
-  pub propagates : (old : ℕ → ℕ) (x y : ℕ) → Propagating (entryAt function) (entryAt first) (entryAt second) registers n old x y (entryAt representative) → Propagating (entryAt function) (entryAt first) (entryAt second) registers n old x y (entryAt r)
+  pub propagates : (old : ℕ → ℕ) (x y : ℕ) → Propagating (entryAt function) (entryAt first) (entryAt second) registers n old x y (entryAt representative)
+      → Propagating (entryAt function) (entryAt first) (entryAt second) registers n old x y (entryAt r)
   pub shrinks : sumBelow n r ≤ sumBelow n representative
 
 -- While congruences are propagated: of the applications below i, the classes are closed and the index has the signatures.
@@ -133,7 +137,8 @@ pub record Resumed (registers i d : ℕ) (head link : List ℕ) (r : ℕ) (head�
 -- The classes of x and y are one, with all that follows by congruence and nothing else; entries past the n terms stay.
 pub record Merged (representative function first second : List ℕ) (registers n x y : ℕ) (r head link : List ℕ) : Type 0 where
   pub formed : Formed r function first second registers n
-  pub sound : (i j : ℕ) → i < n → j < n → getD r i 0 ≡ getD r j 0 → Entailed (entryAt function) (entryAt first) (entryAt second) registers n (entryAt representative) x y i j
+  pub sound : (i j : ℕ) → i < n → j < n → getD r i 0 ≡ getD r j 0
+      → Entailed (entryAt function) (entryAt first) (entryAt second) registers n (entryAt representative) x y i j
   pub keeps : (i j : ℕ) → i < n → j < n → getD representative i 0 ≡ getD representative j 0 → getD r i 0 ≡ getD r j 0
   pub joins : getD r x 0 ≡ getD r y 0
   pub closed : Closed (entryAt function) (entryAt first) (entryAt second) registers n (entryAt r)
@@ -142,9 +147,11 @@ pub record Merged (representative function first second : List ℕ) (registers n
 
 -- r is the class of f of the terms a and b: that of an application with this signature (all of them are in one class), or n where there is none.
 pub data LookedAt (representative function first second : List ℕ) (registers n f a b r : ℕ) : Type 0 where
-  knownAt : (m : ℕ) → registers ≤ m → m < n → getD function m 0 ≡ f → getD representative (getD first m 0) 0 ≡ getD representative a 0 → getD representative (getD second m 0) 0 ≡ getD representative b 0
+  knownAt : (m : ℕ) → registers ≤ m → m < n → getD function m 0 ≡ f → getD representative (getD first m 0) 0 ≡ getD representative a 0
+      → getD representative (getD second m 0) 0 ≡ getD representative b 0
       → r ≡ getD representative m 0 → LookedAt representative function first second registers n f a b r
-  freshAt : r ≡ n → ((m : ℕ) → registers ≤ m → m < n → getD function m 0 ≡ f → getD representative (getD first m 0) 0 ≡ getD representative a 0 → getD representative (getD second m 0) 0 ≡ getD representative b 0 → ⊥)
+  freshAt : r ≡ n → ((m : ℕ) → registers ≤ m → m < n → getD function m 0 ≡ f → getD representative (getD first m 0) 0 ≡ getD representative a 0
+      → getD representative (getD second m 0) 0 ≡ getD representative b 0 → ⊥)
       → LookedAt representative function first second registers n f a b r
 
 -- The sides of the first i unequal tests are in different classes.

@@ -29,9 +29,11 @@ pub record Chains (n : ℕ) (head link : List ℕ) : Type 0 where
   pub heads : (b : ℕ) → getD head b 0 < n
   pub links : Down link
 
--- For each of the applications below n, its bucket has one with its signature that is not after it; and a bucket has only applications whose signatures lead to it.
+-- For each of the applications below n, its bucket has one with its signature that is not after it; and a bucket has only applications whose signatures lead
+-- to it.
 pub record CompleteIndex (signature : ℕ → ℕ) (registers n : ℕ) (head link : List ℕ) : Type 0 where
-  pub has : (k : ℕ) → registers ≤ k → k < n → (o : ℕ) × (o ≤ k) × ChainHas registers link (getD head (signature k % chainCount) 0) o × (signature o ≡ signature k)
+  pub has : (k : ℕ) → registers ≤ k → k < n
+      → (o : ℕ) × (o ≤ k) × ChainHas registers link (getD head (signature k % chainCount) 0) o × (signature o ≡ signature k)
   pub only : (b o : ℕ) → ChainHas registers link (getD head b 0) o → signature o % chainCount ≡ b
 
 -- r is an application with the signature c in the chain from i on, or below `registers` where there is none.
@@ -48,7 +50,8 @@ pub record Entered (signature : ℕ → ℕ) (registers n c : ℕ) (head link : 
   pub fresh : r ≡ n → CompleteIndex signature registers n head link → (k : ℕ) → registers ≤ k → k < n → signature k ≢ c
   pub kept : r < n → (head′ ≡ head) × (link′ ≡ link)
   pub chains : Chains (suc n) head′ link′
-  pub completes : (signature′ : ℕ → ℕ) → ((k : ℕ) → k < n → signature′ k ≡ signature k) → signature′ n ≡ c → CompleteIndex signature registers n head link → CompleteIndex signature′ registers (suc n) head′ link′
+  pub completes : (signature′ : ℕ → ℕ) → ((k : ℕ) → k < n → signature′ k ≡ signature k) → signature′ n ≡ c → CompleteIndex signature registers n head link
+      → CompleteIndex signature′ registers (suc n) head′ link′
 
 -- r is the first number of the chain from start on that is below the bound.
 pub record Cut (link : List ℕ) (start bound r : ℕ) : Type 0 where

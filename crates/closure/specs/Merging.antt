@@ -15,7 +15,8 @@ module _ (function first second : ℕ → ℕ) (registers n : ℕ) (old : ℕ �
     tested : Entailed x y
     reversed : {i j : ℕ} → Entailed i j → Entailed j i
     chained : {i j k : ℕ} → Entailed i j → Entailed j k → Entailed i k
-    congruent : {i j : ℕ} → registers ≤ i → i < n → registers ≤ j → j < n → function i ≡ function j → Entailed (first i) (first j) → Entailed (second i) (second j) → Entailed i j
+    congruent : {i j : ℕ} → registers ≤ i → i < n → registers ≤ j → j < n → function i ≡ function j → Entailed (first i) (first j)
+        → Entailed (second i) (second j) → Entailed i j
 
   -- While congruences are propagated: only what is entailed is joined, and nothing is parted.
   pub record Propagating (representative : ℕ → ℕ) : Type 0 where

@@ -24,7 +24,9 @@ pub record Numbered (U : List Term) (function first second : ℕ → ℕ) (regis
 
 -- The classes are closed under congruence.
 unfoldable pub Closed : (function first second : ℕ → ℕ) (registers n : ℕ) (representative : ℕ → ℕ) → Type 0
-Closed function first second registers n representative = (i j : ℕ) → registers ≤ i → i < n → registers ≤ j → j < n → function i ≡ function j → representative (first i) ≡ representative (first j) → representative (second i) ≡ representative (second j) → representative i ≡ representative j
+Closed function first second registers n representative =
+    (i j : ℕ) → registers ≤ i → i < n → registers ≤ j → j < n → function i ≡ function j → representative (first i) ≡ representative (first j)
+    → representative (second i) ≡ representative (second j) → representative i ≡ representative j
 
 -- The classes are those of the closure.
 pub record Exact (U : List Term) (E : List (Term × Term)) (n : ℕ) (representative : ℕ → ℕ) : Type 0 where

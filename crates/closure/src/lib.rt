@@ -17,7 +17,8 @@ ghost use Rattle.letters.specs.Editions.{mostLetters, mostFunctions};
 ghost use Rattle.closure.specs.Limits.{mostTerms};
 ghost use Rattle.closure.specs.Numbering.{Closed};
 ghost use Rattle.closure.specs.Index.{signatureOf, Down, Chains, CompleteIndex, Found, Entered, Cut, CutTo, withoutLast};
-ghost use Rattle.closure.specs.Arrays.{entryAt, Below, Formed, Argument, Readable, IndexedTerms, Named, Lowest, UsedAsArgument, lowOf, highOf, fallOf, signatureAt, relabelled, classesUnited};
+ghost use Rattle.closure.specs.Arrays.{entryAt, Below, Formed, Argument, Readable, IndexedTerms, Named, Lowest, UsedAsArgument, lowOf, highOf, fallOf};
+ghost use Rattle.closure.specs.Arrays.{signatureAt, relabelled, classesUnited};
 ghost use Rattle.closure.specs.Arrays.{Underway, Propagated, Resumed, Merged, Parts, Clashes};
 
 /// How many registers there are at most, each with an initial constant.
@@ -119,7 +120,8 @@ pub fn signature_at(
     second: &Numbers,
     i: usize,
 ) -> usize
-    requires { ⌜ (i < mostTerms) × (getD (now function) i 0 < mostFunctions) × Argument (now representative) (getD (now first) i 0) × Argument (now representative) (getD (now second) i 0) ⌝ }
+    requires { ⌜ (i < mostTerms) × (getD (now function) i 0 < mostFunctions) × Argument (now representative) (getD (now first) i 0)
+        × Argument (now representative) (getD (now second) i 0) ⌝ }
     ensures { λ r. ⌜ r ≡ signatureAt (now (representative .entry)) (now (function .entry)) (now (first .entry)) (now (second .entry)) i ⌝ }
 {
     signature(representative, function[i], first[i], second[i])
@@ -138,7 +140,8 @@ fn find(
     c: usize,
 ) -> usize
     requires { ⌜ Readable (now representative) (now function) (now first) (now second) registers count × (start < count) × Down (now link) ⌝ }
-    ensures { λ r. ⌜ Found (signatureAt (now (representative .entry)) (now (function .entry)) (now (first .entry)) (now (second .entry))) registers count (now (link .entry)) start c r ⌝ }
+    ensures { λ r. ⌜ Found (signatureAt (now (representative .entry)) (now (function .entry)) (now (first .entry)) (now (second .entry))) registers count
+        (now (link .entry)) start c r ⌝ }
 {
     let mut i = start;
     while registers <= i {
@@ -165,7 +168,8 @@ pub fn enter(
 ) -> usize
     requires { ⌜ Readable (now representative) (now function) (now first) (now second) registers count × (count < mostTerms)
         × Chains count (now head) (now link) ⌝ }
-    ensures { λ r. ⌜ Entered (signatureAt (now (representative .entry)) (now (function .entry)) (now (first .entry)) (now (second .entry))) registers count c (now (head .entry)) (now (link .entry)) r (now (head .exit)) (now (link .exit)) ⌝ }
+    ensures { λ r. ⌜ Entered (signatureAt (now (representative .entry)) (now (function .entry)) (now (first .entry)) (now (second .entry))) registers count c
+        (now (head .entry)) (now (link .entry)) r (now (head .exit)) (now (link .exit)) ⌝ }
 {
     let chain = c % CHAINS;
     let start = wide(head[chain]);
@@ -241,7 +245,9 @@ fn undo(
     i: usize,
     bound: usize,
 )
-    requires { ⌜ Readable (now representative) (now function) (now first) (now second) registers i × Chains i (now head) (now link) × CompleteIndex (signatureAt (now representative) (now function) (now first) (now second)) registers i (now head) (now link) × (registers ≤ bound) × (bound ≤ i) ⌝ }
+    requires { ⌜ Readable (now representative) (now function) (now first) (now second) registers i × Chains i (now head) (now link)
+        × CompleteIndex (signatureAt (now representative) (now function) (now first) (now second)) registers i (now head) (now link) × (registers ≤ bound)
+        × (bound ≤ i) ⌝ }
     ensures { λ _. ⌜ CutTo (now (head .entry)) (now (link .entry)) bound (now (head .exit)) ⌝ }
 {
     let mut k = i;
@@ -267,7 +273,8 @@ fn resume(
     i: usize,
     d: u16,
 ) -> usize
-    requires { ⌜ Readable (now representative) (now function) (now first) (now second) registers i × Chains i (now head) (now link) × CompleteIndex (signatureAt (now representative) (now function) (now first) (now second)) registers i (now head) (now link) × (d ≤ i) ⌝ }
+    requires { ⌜ Readable (now representative) (now function) (now first) (now second) registers i × Chains i (now head) (now link)
+        × CompleteIndex (signatureAt (now representative) (now function) (now first) (now second)) registers i (now head) (now link) × (d ≤ i) ⌝ }
     ensures { λ r. ⌜ Resumed registers i d (now (head .entry)) (now (link .entry)) r (now (head .exit)) ⌝ }
 {
     let next = later(wide(d), registers);
@@ -305,7 +312,8 @@ fn propagate(
     start: usize,
 )
     requires { ⌜ Underway (now representative) (now function) (now first) (now second) registers count (now representative) (now head) (now link) start ⌝ }
-    ensures { λ _. ⌜ Propagated (now (representative .entry)) (now (function .entry)) (now (first .entry)) (now (second .entry)) registers count (now (representative .exit)) (now (head .exit)) (now (link .exit)) ⌝ }
+    ensures { λ _. ⌜ Propagated (now (representative .entry)) (now (function .entry)) (now (first .entry)) (now (second .entry)) registers count
+        (now (representative .exit)) (now (head .exit)) (now (link .exit)) ⌝ }
 {
     let mut i = start;
     while i < count {
@@ -376,8 +384,11 @@ pub fn merge(
     x: usize,
     y: usize,
 )
-    requires { ⌜ Formed (now representative) (now function) (now first) (now second) registers count × (x < count) × (y < count) × Closed (entryAt (now function)) (entryAt (now first)) (entryAt (now second)) registers count (entryAt (now representative)) × IndexedTerms (now representative) (now function) (now first) (now second) registers count (now head) (now link) ⌝ }
-    ensures { λ _. ⌜ Merged (now (representative .entry)) (now (function .entry)) (now (first .entry)) (now (second .entry)) registers count x y (now (representative .exit)) (now (head .exit)) (now (link .exit)) ⌝ }
+    requires { ⌜ Formed (now representative) (now function) (now first) (now second) registers count × (x < count) × (y < count)
+        × Closed (entryAt (now function)) (entryAt (now first)) (entryAt (now second)) registers count (entryAt (now representative))
+        × IndexedTerms (now representative) (now function) (now first) (now second) registers count (now head) (now link) ⌝ }
+    ensures { λ _. ⌜ Merged (now (representative .entry)) (now (function .entry)) (now (first .entry)) (now (second .entry)) registers count x y
+        (now (representative .exit)) (now (head .exit)) (now (link .exit)) ⌝ }
 {
     let d = higher(representative[x], representative[y]);
     let changes = used(representative, first, second, count, d);

@@ -48,9 +48,12 @@ pub record Ready (letter : Letter) (function first second representative head li
 -- The next letter is performed: of whatever state the arrays held, they hold the state after the letter.
 unfoldable pub LetterPerformed : (letter : Letter) (function first second representative head link value left right : List ℕ) (registers : ℕ) (counts : Counts)
     (function′ first′ second′ representative′ head′ link′ value′ left′ right′ : List ℕ) (counts′ : Counts) → Type 0
-LetterPerformed letter function first second representative head link value left right registers counts function′ first′ second′ representative′ head′ link′ value′ left′ right′ counts′ =
-    (σ : State) (k : ℕ) → k < mostLetters → Fits (σ .header) letter → Engine σ function first second representative head link value left right registers (counts .terms) (counts .tests) (counts .parted) k
-    → Engine (after σ letter) function′ first′ second′ representative′ head′ link′ value′ left′ right′ registers (counts′ .terms) (counts′ .tests) (counts′ .parted) (suc k)
+LetterPerformed letter function first second representative head link value left right registers counts function′ first′ second′ representative′ head′ link′
+    value′ left′ right′ counts′ =
+    (σ : State) (k : ℕ) → k < mostLetters → Fits (σ .header) letter
+    → Engine σ function first second representative head link value left right registers (counts .terms) (counts .tests) (counts .parted) k
+    → Engine (after σ letter) function′ first′ second′ representative′ head′ link′ value′ left′ right′ registers (counts′ .terms) (counts′ .tests)
+    (counts′ .parted) (suc k)
 
 -- The class of the application that the index has, or of the new one, n.
 unfoldable pub nameOf : List ℕ → ℕ → ℕ → ℕ
@@ -69,7 +72,8 @@ pub record Appliable (function first second representative head link : List ℕ)
   pub second-term : b < n
 
 -- A new term, f of the terms a and b, with the class that was looked up.
-pub record Applied (function first second representative head link : List ℕ) (registers n f a b : ℕ) (function′ first′ second′ representative′ head′ link′ : List ℕ) : Type 0 where
+pub record Applied (function first second representative head link : List ℕ) (registers n f a b : ℕ)
+    (function′ first′ second′ representative′ head′ link′ : List ℕ) : Type 0 where
   pub name : ℕ
   pub looked : LookedAt representative function first second registers n f a b name
   pub in-function : function′ ≡ set function n f
@@ -86,8 +90,10 @@ pub record Computable (function first second representative head link value : Li
   pub second-in : z < mostRegisters
 
 -- An application of f to the terms of y and z is computed, and x holds the new term.
-pub record Computing (function first second representative head link value : List ℕ) (registers : ℕ) (counts : Counts) (x f y z : ℕ) (function′ first′ second′ representative′ head′ link′ value′ : List ℕ) (counts′ : Counts) : Type 0 where
-  pub applied : Applied function first second representative head link registers (counts .terms) f (entryAt value y) (entryAt value z) function′ first′ second′ representative′ head′ link′
+pub record Computing (function first second representative head link value : List ℕ) (registers : ℕ) (counts : Counts) (x f y z : ℕ)
+    (function′ first′ second′ representative′ head′ link′ value′ : List ℕ) (counts′ : Counts) : Type 0 where
+  pub applied : Applied function first second representative head link registers (counts .terms) f (entryAt value y)
+      (entryAt value z) function′ first′ second′ representative′ head′ link′
   pub in-value : value′ ≡ set value x (counts .terms)
   pub counted : counts′ ≡ record { terms = counts .terms + 1; tests = counts .tests; parted = counts .parted }
 
@@ -102,7 +108,8 @@ pub record Equatable (function first second representative head link value : Lis
   pub second-term : entryAt value y < counts .terms
 
 -- The classes of the terms of x and y are one; as many of the unequal tests as `counts′` says are still known to have their sides in different classes.
-pub record TermsEquated (function first second representative value : List ℕ) (registers : ℕ) (counts : Counts) (x y : ℕ) (representative′ head′ link′ : List ℕ) (counts′ : Counts) : Type 0 where
+pub record TermsEquated (function first second representative value : List ℕ) (registers : ℕ) (counts : Counts) (x y : ℕ) (representative′ head′ link′ : List ℕ)
+    (counts′ : Counts) : Type 0 where
   pub merged : Merged representative function first second registers (counts .terms) (entryAt value x) (entryAt value y) representative′ head′ link′
   pub terms : counts′ .terms ≡ counts .terms
   pub tests : counts′ .tests ≡ counts .tests
@@ -118,7 +125,8 @@ Notable (Equal x y) counts = Unit
 
 -- A copy stores a term, and an unequal test is listed; another letter changes nothing here.
 unfoldable pub Noted : (letter : Letter) (value left right : List ℕ) (counts : Counts) (value′ left′ right′ : List ℕ) (counts′ : Counts) → Type 0
-Noted (Copy x y) value left right counts value′ left′ right′ counts′ = (value′ ≡ set value x (entryAt value y)) × (left′ ≡ left) × (right′ ≡ right) × (counts′ ≡ counts)
+Noted (Copy x y) value left right counts value′ left′ right′ counts′ =
+    (value′ ≡ set value x (entryAt value y)) × (left′ ≡ left) × (right′ ≡ right) × (counts′ ≡ counts)
 Noted (Unequal x y) value left right counts value′ left′ right′ counts′ =
     (value′ ≡ value) × (left′ ≡ set left (counts .tests) (entryAt value x)) × (right′ ≡ set right (counts .tests) (entryAt value y))
     × (counts′ ≡ record { terms = counts .terms; tests = counts .tests + 1; parted = counts .parted })

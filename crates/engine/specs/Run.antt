@@ -46,7 +46,8 @@ pub record Began (representative value : List ℕ) (registers : ℕ) (representa
   pub values : value′ ≡ eachUpTo (λ i _. i) registers value
 
 -- After k letters, none of which made the trace infeasible.
-pub record Running (s : List ℕ) (h : Header) (count : ℕ) (function first second representative head link value left right : List ℕ) (registers n m p k : ℕ) : Type 0 where
+pub record Running (s : List ℕ) (h : Header) (count : ℕ) (function first second representative head link value left right : List ℕ)
+    (registers n m p k : ℕ) : Type 0 where
   pub letters : List Letter
   pub long : length letters ≡ k
   pub rest : lettersOf firstEdition h s ≡ behind letters (readingFrom s h count k)
@@ -57,10 +58,13 @@ pub record Running (s : List ℕ) (h : Header) (count : ℕ) (function first sec
 -- What a run answers: the first letter that is not well formed; the first infeasible letter, where the letters after it are still to be read;
 -- or the number of computed terms, whose classes the arrays then hold.
 pub data Ran (s : List ℕ) (h : Header) (count : ℕ) (function first second representative : List ℕ) : EngineOutcome → Type 0 where
-  malformed : (k : ℕ) → lettersOf firstEdition h s ≡ TraceReading.refused letterMalformed k → Ran s h count function first second representative (outcome.Malformed k)
-  infeasible : (k : ℕ) (ls : List Letter) → lettersOf firstEdition h s ≡ behind ls (readingFrom s h count k) → FailsAt (λ π. Feasible (state π)) (traceOf h ls) k → 1 ≤ k
+  malformed : (k : ℕ) → lettersOf firstEdition h s ≡ TraceReading.refused letterMalformed k
+      → Ran s h count function first second representative (outcome.Malformed k)
+  infeasible : (k : ℕ) (ls : List Letter) → lettersOf firstEdition h s ≡ behind ls (readingFrom s h count k)
+      → FailsAt (λ π. Feasible (state π)) (traceOf h ls) k → 1 ≤ k
       → Ran s h count function first second representative (outcome.Infeasible k)
-  feasible : (n : ℕ) (ls : List Letter) → lettersOf firstEdition h s ≡ trace h ls → 0 ≡ firstInfeasible (traceOf h ls) → Computed (state (traceOf h ls)) function first second representative (h .registers) n
+  feasible : (n : ℕ) (ls : List Letter) → lettersOf firstEdition h s ≡ trace h ls → 0 ≡ firstInfeasible (traceOf h ls)
+      → Computed (state (traceOf h ls)) function first second representative (h .registers) n
       → Ran s h count function first second representative (outcome.Feasible n)
 
 -- What is said of the letters from some number on: all are well formed, or the number of the first that is not, from 1.

@@ -68,7 +68,9 @@ fn apply(
     b: u16,
 )
     requires { ⌜ Appliable (now function) (now first) (now second) (now representative) (now head) (now link) registers count f a b ⌝ }
-    ensures { λ _. ⌜ Applied (now (function .entry)) (now (first .entry)) (now (second .entry)) (now (representative .entry)) (now (head .entry)) (now (link .entry)) registers count f a b (now (function .exit)) (now (first .exit)) (now (second .exit)) (now (representative .exit)) (now (head .exit)) (now (link .exit)) ⌝ }
+    ensures { λ _. ⌜ Applied (now (function .entry)) (now (first .entry)) (now (second .entry)) (now (representative .entry)) (now (head .entry))
+        (now (link .entry)) registers count f a b (now (function .exit)) (now (first .exit)) (now (second .exit)) (now (representative .exit))
+        (now (head .exit)) (now (link .exit)) ⌝ }
 {
     let c = closure::signature(representative, f, a, b);
     let found = closure::enter(
@@ -106,7 +108,9 @@ fn compute(
     b: u8,
 ) -> Counts
     requires { ⌜ Computable (now function) (now first) (now second) (now representative) (now head) (now link) (now value) registers counts target f a b ⌝ }
-    ensures { λ r. ⌜ Computing (now (function .entry)) (now (first .entry)) (now (second .entry)) (now (representative .entry)) (now (head .entry)) (now (link .entry)) (now (value .entry)) registers counts target f a b (now (function .exit)) (now (first .exit)) (now (second .exit)) (now (representative .exit)) (now (head .exit)) (now (link .exit)) (now (value .exit)) r ⌝ }
+    ensures { λ r. ⌜ Computing (now (function .entry)) (now (first .entry)) (now (second .entry)) (now (representative .entry)) (now (head .entry))
+        (now (link .entry)) (now (value .entry)) registers counts target f a b (now (function .exit)) (now (first .exit)) (now (second .exit))
+        (now (representative .exit)) (now (head .exit)) (now (link .exit)) (now (value .exit)) r ⌝ }
 {
     let terms = counts.terms;
     let x = value[a as usize];
@@ -145,7 +149,8 @@ fn equate(
     b: u8,
 ) -> Counts
     requires { ⌜ Equatable (now function) (now first) (now second) (now representative) (now head) (now link) (now value) registers counts a b ⌝ }
-    ensures { λ r. ⌜ TermsEquated (now (function .entry)) (now (first .entry)) (now (second .entry)) (now (representative .entry)) (now (value .entry)) registers counts a b (now (representative .exit)) (now (head .exit)) (now (link .exit)) r ⌝ }
+    ensures { λ r. ⌜ TermsEquated (now (function .entry)) (now (first .entry)) (now (second .entry)) (now (representative .entry))
+        (now (value .entry)) registers counts a b (now (representative .exit)) (now (head .exit)) (now (link .exit)) r ⌝ }
 {
     let terms = counts.terms;
     let x = wide(value[a as usize]);
@@ -179,7 +184,8 @@ fn note(
     counts: Counts,
 ) -> Counts
     requires { ⌜ Notable letter counts ⌝ }
-    ensures { λ r. ⌜ Noted letter (now (value .entry)) (now (left .entry)) (now (right .entry)) counts (now (value .exit)) (now (left .exit)) (now (right .exit)) r ⌝ }
+    ensures { λ r. ⌜ Noted letter (now (value .entry)) (now (left .entry)) (now (right .entry)) counts (now (value .exit)) (now (left .exit))
+        (now (right .exit)) r ⌝ }
 {
     match letter {
         Letter::Copy { target, source } => {
@@ -219,8 +225,11 @@ fn step(
     registers: usize,
     counts: Counts,
 ) -> Counts
-    requires { ⌜ Ready letter (now function) (now first) (now second) (now representative) (now head) (now link) (now value) (now left) (now right) registers counts ⌝ }
-    ensures { λ r. ⌜ LetterPerformed letter (now (function .entry)) (now (first .entry)) (now (second .entry)) (now (representative .entry)) (now (head .entry)) (now (link .entry)) (now (value .entry)) (now (left .entry)) (now (right .entry)) registers counts (now (function .exit)) (now (first .exit)) (now (second .exit)) (now (representative .exit)) (now (head .exit)) (now (link .exit)) (now (value .exit)) (now (left .exit)) (now (right .exit)) r ⌝ }
+    requires { ⌜ Ready letter (now function) (now first) (now second) (now representative) (now head) (now link) (now value) (now left)
+        (now right) registers counts ⌝ }
+    ensures { λ r. ⌜ LetterPerformed letter (now (function .entry)) (now (first .entry)) (now (second .entry)) (now (representative .entry)) (now (head .entry))
+        (now (link .entry)) (now (value .entry)) (now (left .entry)) (now (right .entry)) registers counts (now (function .exit)) (now (first .exit))
+        (now (second .exit)) (now (representative .exit)) (now (head .exit)) (now (link .exit)) (now (value .exit)) (now (left .exit)) (now (right .exit)) r ⌝ }
 {
     match letter {
         Letter::Copy { .. } => note(letter, value, left, right, counts),
@@ -292,7 +301,9 @@ fn perform(
     left: &mut Sides,
     right: &mut Sides,
 ) -> EngineOutcome
-    requires { ⌜ Begun (now trace) header letters × Running (now trace) header letters (now function) (now first) (now second) (now representative) (now head) (now link) (now value) (now left) (now right) (header .registers) (header .registers) 0 0 0 ⌝ }
+    requires { ⌜ Begun (now trace) header letters
+        × Running (now trace) header letters (now function) (now first) (now second) (now representative) (now head) (now link) (now value) (now left)
+        (now right) (header .registers) (header .registers) 0 0 0 ⌝ }
     ensures { λ r. ⌜ Ran (now (trace .entry)) header letters (now (function .exit)) (now (first .exit)) (now (second .exit)) (now (representative .exit)) r ⌝ }
 {
     let registers = header.registers as usize;

@@ -34,7 +34,8 @@ unfoldable pub exploreFrom : ℕ → List PointEntry → ℕ → ℕ → ℕ →
 exploreFrom zero ps end n count d t = (found.Pass count, t)
 exploreFrom (suc f) ps end n count d t =
     pick (ltb d (2 * count))
-    (λ _. onTurn (turnOf (pointOf ps t (d / 2)) end n count d t) (tableOf (pointOf ps t (d / 2)) end n count d t) count d λ m. exploreFrom f ps end n m (d + 1) (tableOf (pointOf ps t (d / 2)) end n count d t))
+    (λ _. onTurn (turnOf (pointOf ps t (d / 2)) end n count d t) (tableOf (pointOf ps t (d / 2)) end n count d t) count d λ m. exploreFrom f ps end n m (d + 1)
+    (tableOf (pointOf ps t (d / 2)) end n count d t))
     λ _. (found.Pass count, t)
 
 -- From the pair in record 0 of the table on.

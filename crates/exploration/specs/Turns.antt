@@ -24,11 +24,13 @@ pub record Room (n count d size : ℕ) : Type 0 where
 
 -- Point k is reached with the window w: a pair, unless k is the end. Of the count of pairs: "full is given exactly when it passes N".
 unfoldable pub reachTurn : ℕ → Window → ℕ → ℕ → ℕ → List ℕ → Turn
-reachTurn k w end n count t = pick (leb end k) (λ _. On count) λ _. pick (isListed t count (encoded k w)) (λ _. On count) λ _. pick (eqb count n) (λ _. Full) λ _. On (count + 1)
+reachTurn k w end n count t = pick (leb end k) (λ _. On count) λ _. pick (isListed t count (encoded k w)) (λ _. On count) λ _. pick (eqb count n) (λ _. Full)
+    λ _. On (count + 1)
 
 unfoldable pub reachTable : ℕ → Window → ℕ → ℕ → ℕ → ℕ → List ℕ → List ℕ
 reachTable k w end n count d t =
-    pick (leb end k) (λ _. t) λ _. pick (isListed t count (encoded k w)) (λ _. t) λ _. pick (eqb count n) (λ _. t) λ _. putAt t count (recordOf (encoded k w) (d / 2) (d % 2))
+    pick (leb end k) (λ _. t) λ _. pick (isListed t count (encoded k w)) (λ _. t) λ _. pick (eqb count n) (λ _. t) λ _. putAt t count
+    (recordOf (encoded k w) (d / 2) (d % 2))
 
 -- An assertion fails with the window w. "Infeasible executions are followed too", and are no event.
 unfoldable pub failTurn : Window → ℕ → Turn

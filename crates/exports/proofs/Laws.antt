@@ -35,13 +35,15 @@ pub laid-short : (n : ℕ) (numbers answer : List ℕ) → length answer < n →
 unfolding laidOver
 laid-short n numbers answer short = rw (lt-ltb (length answer) n short) refl
 
-pub laid-stored : (n : ℕ) (numbers stored answer answer′ : List ℕ) → stored ≡ numbers → length stored ≡ n → n ≤ length answer → answer′ ≡ stored ++ drop (length stored) answer → answer′ ≡ laidOver n numbers answer
+pub laid-stored : (n : ℕ) (numbers stored answer answer′ : List ℕ) → stored ≡ numbers → length stored ≡ n → n ≤ length answer
+    → answer′ ≡ stored ++ drop (length stored) answer → answer′ ≡ laidOver n numbers answer
 unfolding laidOver
 laid-stored n numbers stored answer answer′ same full room e = rw (le-ltb (length answer) n room) (e ∙ rw full (ap (λ l. l ++ drop n answer) same))
 
 -- ---- The monitor
 
-pub numbers-judged : (v : RunAnswer) (incoherent infeasible : ℕ) → v ≡ Judged incoherent infeasible → 0 ∷ 0 ∷ incoherent ∷ infeasible ∷ [] ≡ runNumbers (runAnswer v)
+pub numbers-judged : (v : RunAnswer) (incoherent infeasible : ℕ) → v ≡ Judged incoherent infeasible
+    → 0 ∷ 0 ∷ incoherent ∷ infeasible ∷ [] ≡ runNumbers (runAnswer v)
 unfolding runNumbers
 numbers-judged v incoherent infeasible e = rw e refl
 
@@ -53,7 +55,8 @@ pub monitored-short : (trace answer : List ℕ) → length answer < 4 → answer
 unfolding monitored
 monitored-short trace answer short = laid-short 4 _ answer short
 
-pub monitored-stored : (trace stored answer answer′ : List ℕ) (v : RunAnswer) → v ≡ judgedBytes trace → stored ≡ runNumbers (runAnswer v) → length stored ≡ 4 → 4 ≤ length answer → answer′ ≡ stored ++ drop (length stored) answer
+pub monitored-stored : (trace stored answer answer′ : List ℕ) (v : RunAnswer) → v ≡ judgedBytes trace → stored ≡ runNumbers (runAnswer v) → length stored ≡ 4
+    → 4 ≤ length answer → answer′ ≡ stored ++ drop (length stored) answer
     → answer′ ≡ monitored trace answer
 unfolding monitored
 monitored-stored trace stored answer answer′ v e same = laid-stored 4 _ stored answer answer′ (same ∙ ap (λ w. runNumbers (runAnswer w)) e)
@@ -76,7 +79,8 @@ pub modelled-short : (trace : List ℕ) (room : ℕ) (answer : List ℕ) → len
 unfolding modelled
 modelled-short trace room answer short = laid-short 4 _ answer short
 
-pub modelled-stored : (trace : List ℕ) (room : ℕ) (stored answer answer′ : List ℕ) (s : Shown) → shownAnswer s ≡ answerTo (readingWithin mostLetters firstEdition trace) room → stored ≡ modelNumbers (shownAnswer s) → length stored ≡ 4
+pub modelled-stored : (trace : List ℕ) (room : ℕ) (stored answer answer′ : List ℕ) (s : Shown)
+    → shownAnswer s ≡ answerTo (readingWithin mostLetters firstEdition trace) room → stored ≡ modelNumbers (shownAnswer s) → length stored ≡ 4
     → 4 ≤ length answer → answer′ ≡ stored ++ drop (length stored) answer → answer′ ≡ modelled trace room answer
 unfolding modelled
 modelled-stored trace room stored answer answer′ s e same = laid-stored 4 _ stored answer answer′ (same ∙ ap modelNumbers e)
@@ -85,7 +89,8 @@ pub output-short : (trace out answer : List ℕ) → length answer < 4 → out �
 unfolding modelOutput
 output-short trace out answer short = rw (lt-ltb (length answer) 4 short) refl
 
-pub output-shown : (trace out out′ answer : List ℕ) → 4 ≤ length answer → out′ ≡ outputAfter (readingWithin mostLetters firstEdition trace) out → out′ ≡ modelOutput trace out answer
+pub output-shown : (trace out out′ answer : List ℕ) → 4 ≤ length answer → out′ ≡ outputAfter (readingWithin mostLetters firstEdition trace) out
+    → out′ ≡ modelOutput trace out answer
 unfolding modelOutput
 output-shown trace out out′ answer room e = rw (le-ltb (length answer) 4 room) e
 
@@ -110,22 +115,26 @@ pub numbers-pass : (v : searched.Verdict) (pairs : ℕ) → v ≡ found.Pass pai
 unfolding verdictNumbers
 numbers-pass v pairs e = rw e refl
 
-pub numbers-fail : (v : searched.Verdict) (pairs letters : ℕ) → v ≡ found.Fail pairs letters → 0 ∷ 0 ∷ 1 ∷ pairs ∷ letters ∷ [] ≡ verdictNumbers (search.answerOf v)
+pub numbers-fail : (v : searched.Verdict) (pairs letters : ℕ) → v ≡ found.Fail pairs letters
+    → 0 ∷ 0 ∷ 1 ∷ pairs ∷ letters ∷ [] ≡ verdictNumbers (search.answerOf v)
 unfolding verdictNumbers
 numbers-fail v pairs letters e = rw e refl
 
-pub numbers-incoherent : (v : searched.Verdict) (pairs letters : ℕ) → v ≡ found.Incoherent pairs letters → 0 ∷ 0 ∷ 2 ∷ pairs ∷ letters ∷ [] ≡ verdictNumbers (search.answerOf v)
+pub numbers-incoherent : (v : searched.Verdict) (pairs letters : ℕ) → v ≡ found.Incoherent pairs letters
+    → 0 ∷ 0 ∷ 2 ∷ pairs ∷ letters ∷ [] ≡ verdictNumbers (search.answerOf v)
 unfolding verdictNumbers
 numbers-incoherent v pairs letters e = rw e refl
 
-pub numbers-unjudged : (v : searched.Verdict) (number place : ℕ) → v ≡ found.Refused number place → number ∷ place ∷ 0 ∷ 0 ∷ 0 ∷ [] ≡ verdictNumbers (search.answerOf v)
+pub numbers-unjudged : (v : searched.Verdict) (number place : ℕ) → v ≡ found.Refused number place
+    → number ∷ place ∷ 0 ∷ 0 ∷ 0 ∷ [] ≡ verdictNumbers (search.answerOf v)
 unfolding verdictNumbers
 numbers-unjudged v number place e = rw e refl
 
 pub judging-short : (text table output answer : List ℕ) → length answer < 5 → Judging text table output answer table output answer
 judging-short text table output answer short = record { short = λ _. (refl, refl, refl); judged = λ room. absurd (too-short short room) }
 
-pub judging-stored : (text table output answer table′ output′ stored answer′ : List ℕ) (v : searched.Verdict) → Demand3 Feasible text table output (search.answerOf v) table′ output′
+pub judging-stored : (text table output answer table′ output′ stored answer′ : List ℕ) (v : searched.Verdict)
+    → Demand3 Feasible text table output (search.answerOf v) table′ output′
     → stored ≡ verdictNumbers (search.answerOf v) → length stored ≡ 5 → 5 ≤ length answer → answer′ ≡ stored ++ drop (length stored) answer
     → Judging text table output answer table′ output′ answer′
 judging-stored text table output answer table′ output′ stored answer′ v demand same full room e = record {

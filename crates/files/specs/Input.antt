@@ -54,7 +54,8 @@ following once.Failed done = Over (Failed done)
 pub data ReadSequence (room : ℕ) (r : Input) : ℕ → Type 0 where
   full : r ≡ Full → ReadSequence room r room
   over : {done : ℕ} (answer : OneRead) → done < room → following answer done ≡ Over r → ReadSequence room r done
-  more : {done : ℕ} (answer : OneRead) (n : ℕ) → following answer done ≡ More n → 0 < n → done + n ≤ room → ReadSequence room r (done + n) → ReadSequence room r done
+  more : {done : ℕ} (answer : OneRead) (n : ℕ) → following answer done ≡ More n → 0 < n → done + n ≤ room → ReadSequence room r (done + n)
+      → ReadSequence room r done
 
 -- The reads' answers lead to the result. The bytes that they gave are the front of the buffer; those behind them stay as they were lent. What
 -- the system answers is free: the contracts have no history of its calls, so `reads` is what the proof takes from them, one from each turn.

@@ -88,7 +88,8 @@ functionTokens (f ∷ fs) ns = word.funsKey ∷ (entryTokens (f ∷ fs) ns ++ wo
 -- "A macro is `vars` names `;`, then perhaps `funs` .., then statements, perhaps none."
 unfoldable pub sentence : Macro → List ℕ
 sentence m =
-    word.varsKey ∷ (m .registers ++ word.semicolonKey ∷ (functionTokens (m .functions) (m .arities) ++ blockTokens (m .registers) (m .functions) (m .arities) (m .body)))
+    word.varsKey ∷ (m .registers ++ word.semicolonKey ∷
+    (functionTokens (m .functions) (m .arities) ++ blockTokens (m .registers) (m .functions) (m .arities) (m .body)))
 
 -- ---- depth
 

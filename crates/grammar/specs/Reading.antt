@@ -80,18 +80,21 @@ module _ (s : List ℕ) where
     argumentsT n x f y t =
         pick (eqb (t .key) word.commaKey)
         (λ _. pick (eqb n 2) (λ _. andThen (useT rs (tokenAt s (t .end))) λ z e. ended word.rparenKey (Apply x f y z) e) λ _. Got.refused useWrong (t .start))
-        λ _. pick (eqb (t .key) word.rparenKey) (λ _. pick (eqb n 2) (λ _. Got.refused useWrong (t .start)) λ _. got (Apply x f y y) (t .end)) λ _. refusedToken t
+        λ _. pick (eqb (t .key) word.rparenKey) (λ _. pick (eqb n 2) (λ _. Got.refused useWrong (t .start)) λ _. got (Apply x f y y) (t .end))
+        λ _. refusedToken t
 
   module _ (rs fs ns : List ℕ) where
     -- behind `x :=`: "a name is a function if the next token is `(`, else a register"
     unfoldable pub rightHandSide : ℕ → ℕ → Got Letter
     rightHandSide x at =
         pick (eqb (tokenAt s (tokenAt s at .end) .key) word.lparenKey)
-        (λ _. andThen (useT fs (tokenAt s at)) λ f a. andThen (expect word.lparenKey a) λ _ b. andThen (useT rs (tokenAt s b)) λ y e. argumentsT rs (getD ns f 0) x f y (tokenAt s e))
+        (λ _. andThen (useT fs (tokenAt s at)) λ f a. andThen (expect word.lparenKey a) λ _ b. andThen (useT rs (tokenAt s b)) λ y e. argumentsT rs
+        (getD ns f 0) x f y (tokenAt s e))
         λ _. andThen (useT rs (tokenAt s at)) λ y e. got (Copy x y) e
 
     unfoldable pub assignment : ℕ → Got Letter
-    assignment at = andThen (useT rs (tokenAt s at)) λ x a. andThen (expect word.becomesKey a) λ _ b. andThen (rightHandSide x b) λ l e. ended word.semicolonKey l e
+    assignment at = andThen (useT rs (tokenAt s at)) λ x a. andThen (expect word.becomesKey a) λ _ b. andThen (rightHandSide x b)
+        λ l e. ended word.semicolonKey l e
 
     -- `{`, a block at a depth less by one, and `}`
     abbrev pub bracesT : (ℕ → ℕ → Got Block) → ℕ → Token → Got Block
@@ -109,7 +112,8 @@ module _ (s : List ℕ) where
         λ _. pick (eqb (t .key) word.assumeKey) (λ _. andThen (endedCondition rs (t .end)) λ c e. got (perform (test c)) e)
         λ _. pick (eqb (t .key) word.assertKey) (λ _. andThen (endedCondition rs (t .end)) λ c e. got (assert c) e)
         λ _. pick (eqb (t .key) word.ifKey)
-        (λ _. andThen (condition rs (t .end)) λ c a. andThen (bracesT inner d (tokenAt s a)) λ b e. andThen (elseT inner d e (tokenAt s e)) λ o f. got (if c b o) f)
+        (λ _. andThen (condition rs (t .end)) λ c a. andThen (bracesT inner d (tokenAt s a)) λ b e. andThen (elseT inner d e (tokenAt s e)) λ o f. got
+        (if c b o) f)
         λ _. pick (eqb (t .key) word.whileKey) (λ _. andThen (condition rs (t .end)) λ c a. andThen (bracesT inner d (tokenAt s a)) λ b e. got (while c b) e)
         λ _. pick (isName (t .key)) (λ _. andThen (assignment at) λ l e. got (perform l) e) λ _. refusedToken t
 
@@ -138,7 +142,8 @@ module _ (s : List ℕ) where
 
   -- the names of registers, and `;`: rs are declared already, and there is room for more
   unfoldable pub registerNames : ℕ → List ℕ → ℕ → Got (List ℕ)
-  registerNames zero rs at = pick (isName (tokenAt s at .key)) (λ _. Got.refused declarationWrong (tokenAt s at .start)) λ _. listedT (length rs) rs (tokenAt s at)
+  registerNames zero rs at = pick (isName (tokenAt s at .key)) (λ _. Got.refused declarationWrong (tokenAt s at .start)) λ _. listedT (length rs) rs
+      (tokenAt s at)
   registerNames (suc room) rs at =
       pick (isName (tokenAt s at .key))
       (λ _. pick (isDeclared (tokenAt s at .key) rs) (λ _. Got.refused declarationWrong (tokenAt s at .start))

@@ -39,9 +39,11 @@ module _ {A : Type 0} (t : Bool) (x : A) (a w n : ℕ) where
       same true e q = let g : a ≡ w = cc in rw (eq-eqb a w g)
       same false e q = let z : _≡_ {A = ℕ} 0 1 = cc in absurd (omega arith)
 
-  pub reread-other : (p : ℕ) → pick t (λ _. value a) (λ _. refusal n 0) ≡ value p → (p ≡ w → ⊥) → refusal n 0 ≡ pick (t && eqb a w) (λ _. value x) (λ _. refusal n 0)
+  pub reread-other : (p : ℕ) → pick t (λ _. value a) (λ _. refusal n 0) ≡ value p → (p ≡ w → ⊥)
+      → refusal n 0 ≡ pick (t && eqb a w) (λ _. value x) (λ _. refusal n 0)
   reread-other p = other t
     where
-      other : (t : Bool) → pick t (λ _. value a) (λ _. refusal n 0) ≡ value p → (p ≡ w → ⊥) → refusal n 0 ≡ pick (t && eqb a w) (λ _. value x) (λ _. refusal n 0)
+      other : (t : Bool) → pick t (λ _. value a) (λ _. refusal n 0) ≡ value p → (p ≡ w → ⊥)
+          → refusal n 0 ≡ pick (t && eqb a w) (λ _. value x) (λ _. refusal n 0)
       other true e q = rw (ne-eqb a w λ g. q (cc))
       other false e q = let z : _≡_ {A = ℕ} 0 1 = cc in absurd (omega arith)

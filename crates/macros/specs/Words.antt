@@ -15,7 +15,8 @@ mutual
     first : {c : Condition} {b : Block} {e : Else} {v w : List Letter} {o : Outcome} → WordBlock b v o → w ≡ test c ∷ v → Word (if c b e) w o
     second : {c : Condition} {b : Block} {e : Else} {v w : List Letter} {o : Outcome} → WordElse e v o → w ≡ opposite c ∷ v → Word (if c b e) w o
     leaves : {c : Condition} {b : Block} {w : List Letter} → w ≡ opposite c ∷ [] → Word (while c b) w done
-    turns : {c : Condition} {b : Block} {u v w : List Letter} {o : Outcome} → WordBlock b u done → Word (while c b) v o → w ≡ test c ∷ (u ++ v) → Word (while c b) w o
+    turns : {c : Condition} {b : Block} {u v w : List Letter} {o : Outcome} → WordBlock b u done → Word (while c b) v o → w ≡ test c ∷ (u ++ v)
+        → Word (while c b) w o
     breaks : {c : Condition} {b : Block} {v w : List Letter} → WordBlock b v failed → w ≡ test c ∷ v → Word (while c b) w failed
 
   pub data WordElse : Else → List Letter → Outcome → Type 0 where

@@ -52,7 +52,8 @@ laidIn bytes out = pick (leb (length bytes) (length out)) (λ _. bytes ++ drop (
 -- "An infeasible trace gets the first letter at which it is so, and no output. For a feasible trace, coherent or not:" the model, where it fits.
 unfoldable pub answerTo : TraceReading → ℕ → ModelAnswer
 answerTo (TraceReading.refused number place) room = ModelAnswer.refusal number place
-answerTo (trace h ls) room = pick (eqb (firstInfeasible (traceOf h ls)) 0) (λ _. fitted (modelBytes (state (traceOf h ls))) room) λ _. ModelAnswer.infeasible (firstInfeasible (traceOf h ls))
+answerTo (trace h ls) room = pick (eqb (firstInfeasible (traceOf h ls)) 0) (λ _. fitted (modelBytes (state (traceOf h ls))) room) λ _. ModelAnswer.infeasible
+    (firstInfeasible (traceOf h ls))
 
 unfoldable pub outputAfter : TraceReading → List ℕ → List ℕ
 outputAfter (TraceReading.refused number place) out = out
@@ -123,7 +124,8 @@ pub record SomeStateComputed (h : Header) (function first second representative 
 -- The model of any state that they hold is answered.
 unfoldable pub Modelled : (h : Header) (function first second representative : List ℕ) (n : ℕ) (out : List ℕ) (r : Shown) (out′ : List ℕ) → Type 0
 Modelled h function first second representative n out r out′ =
-    (σ : State) → σ .header ≡ h → Computed σ function first second representative (h .registers) n → (shownAnswer r ≡ fitted (modelBytes σ) (length out)) × (out′ ≡ laidIn (modelBytes σ) out)
+    (σ : State) → σ .header ≡ h → Computed σ function first second representative (h .registers) n
+    → (shownAnswer r ≡ fitted (modelBytes σ) (length out)) × (out′ ≡ laidIn (modelBytes σ) out)
 
 -- What is answered where letter k is the first infeasible one and the letters after it are read as x.
 pub data Stopped (h : Header) (x : TraceReading) (k : ℕ) : Shown → Type 0 where

@@ -47,7 +47,8 @@ joinedOf f a b c = f * functionFactor + a * firstFactor + b * secondFactor + c *
 
 -- five bytes, one by one
 abbrev pub putFive : List ℕ → ℕ → ℕ → List ℕ
-putFive out at w = set (set (set (set (set out at (w / 4294967296 % 256)) (at + 1) (w / 16777216 % 256)) (at + 2) (w / 65536 % 256)) (at + 3) (w / 256 % 256)) (at + 4) (w % 256)
+putFive out at w = set (set (set (set (set out at (w / 4294967296 % 256)) (at + 1) (w / 16777216 % 256)) (at + 2) (w / 65536 % 256)) (at + 3) (w / 256 % 256))
+    (at + 4) (w % 256)
 
 -- ---- rows
 -- the second argument as it is written

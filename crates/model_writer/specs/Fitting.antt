@@ -22,5 +22,6 @@ pub record Puttable (h : Header) (values function first second rows : List ℕ) 
 -- The tables of the arrays are written to the front of the output, or refused by 6 where they do not fit it.
 pub data Put (h : Header) (values function first second rows : List ℕ) (c r : ℕ) (out : List ℕ) : Shown → List ℕ → Type 0 where
   too-large : length out < modelLength h r → Put h values function first second rows c r out (shown.Refused outputTooSmall 0) out
-  fitting : {out′ : List ℕ} → modelLength h r ≤ length out → out′ ≡ inserted 0 (packTables firstEdition h (tablesIn h values function first second rows c r)) out
+  fitting : {out′ : List ℕ} → modelLength h r ≤ length out
+      → out′ ≡ inserted 0 (packTables firstEdition h (tablesIn h values function first second rows c r)) out
       → Put h values function first second rows c r out (shown.Model (modelLength h r)) out′

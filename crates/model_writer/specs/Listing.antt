@@ -20,4 +20,5 @@ pub record ListedAll (representative function first second : List ℕ) (register
   pub few : r + registers ≤ n
   pub room : length rows ≡ mostTerms
   pub entries : (k : ℕ) → k < r → (registers ≤ getD rows k 0) × (getD rows k 0 < n)
-  pub are : (σ : State) (w : Computed σ function first second representative registers n) → map (rowAt σ function first second representative registers n w) (take r rows) ≡ rowsOf (reverse (σ .terms)) (σ .equals)
+  pub are : (σ : State) (w : Computed σ function first second representative registers n)
+      → map (rowAt σ function first second representative registers n w) (take r rows) ≡ rowsOf (reverse (σ .terms)) (σ .equals)

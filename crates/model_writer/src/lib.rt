@@ -124,8 +124,10 @@ fn new_row(
     registers: usize,
     i: usize,
 ) -> usize
-    requires { ⌜ Formed (now representative) (now function) (now first) (now second) registers (suc i) × (registers ≤ i) × IndexedTerms (now representative) (now function) (now first) (now second) registers i (now head) (now link) ⌝ }
-    ensures { λ r. ⌜ NewRow (now (representative .entry)) (now (function .entry)) (now (first .entry)) (now (second .entry)) registers i (now (head .exit)) (now (link .exit)) r ⌝ }
+    requires { ⌜ Formed (now representative) (now function) (now first) (now second) registers (suc i) × (registers ≤ i)
+        × IndexedTerms (now representative) (now function) (now first) (now second) registers i (now head) (now link) ⌝ }
+    ensures { λ r. ⌜ NewRow (now (representative .entry)) (now (function .entry)) (now (first .entry)) (now (second .entry)) registers i (now (head .exit))
+        (now (link .exit)) r ⌝ }
 {
     let c = closure::signature_at(representative, function, first, second, i);
     let found = closure::enter(
@@ -153,7 +155,8 @@ fn list(
     rows: &mut Numbers,
 ) -> usize
     requires { ⌜ Listable (now representative) (now function) (now first) (now second) registers count (now rows) ⌝ }
-    ensures { λ r. ⌜ ListedAll (now (representative .entry)) (now (function .entry)) (now (first .entry)) (now (second .entry)) registers count (now (rows .exit)) r ⌝ }
+    ensures { λ r. ⌜ ListedAll (now (representative .entry)) (now (function .entry)) (now (first .entry)) (now (second .entry)) registers count
+        (now (rows .exit)) r ⌝ }
 {
     let mut head = no_heads();
     let mut link = zeros();
@@ -253,7 +256,9 @@ fn write_rows(
     at: usize,
 )
     requires { ⌜ RowsFit (now values) (now function) (now first) (now second) (now rows) r (length (now out)) at ⌝ }
-    ensures { λ _. ⌜ now (out .exit) ≡ inserted at (units rowBytes (wordsFor header (now (values .entry)) (now (function .entry)) (now (first .entry)) (now (second .entry)) (take r (now (rows .entry))))) (now (out .entry)) ⌝ }
+    ensures { λ _. ⌜ now (out .exit) ≡ inserted at
+        (units rowBytes (wordsFor header (now (values .entry)) (now (function .entry)) (now (first .entry)) (now (second .entry)) (take r (now (rows .entry)))))
+        (now (out .entry)) ⌝ }
 {
     let mut k: usize = 0;
     while k < r {
@@ -277,7 +282,10 @@ fn write(
     out: &mut [u8],
 )
     requires { ⌜ Writable header (now values) (now function) (now first) (now second) (now rows) count r (length (now out)) ⌝ }
-    ensures { λ _. ⌜ now (out .exit) ≡ inserted 0 (packTables firstEdition header (tablesIn header (now (values .entry)) (now (function .entry)) (now (first .entry)) (now (second .entry)) (now (rows .entry)) count r)) (now (out .entry)) ⌝ }
+    ensures { λ _. ⌜ now (out .exit) ≡ inserted 0
+        (packTables firstEdition header
+        (tablesIn header (now (values .entry)) (now (function .entry)) (now (first .entry)) (now (second .entry)) (now (rows .entry)) count r))
+        (now (out .entry)) ⌝ }
 {
     let registers = header.registers as usize;
     words::put_word(out, 0, count);
@@ -309,7 +317,8 @@ fn put_model(
     out: &mut [u8],
 ) -> Shown
     requires { ⌜ Puttable header (now values) (now function) (now first) (now second) (now rows) count r (length (now out)) ⌝ }
-    ensures { λ q. ⌜ Put header (now (values .entry)) (now (function .entry)) (now (first .entry)) (now (second .entry)) (now (rows .entry)) count r (now (out .entry)) q (now (out .exit)) ⌝ }
+    ensures { λ q. ⌜ Put header (now (values .entry)) (now (function .entry)) (now (first .entry)) (now (second .entry)) (now (rows .entry)) count r
+        (now (out .entry)) q (now (out .exit)) ⌝ }
 {
     let length = COUNTS_BYTES + WORD_BYTES * (header.registers as usize) + ROW_BYTES * r;
     if out.len() < length {
@@ -330,7 +339,8 @@ fn show_model(
     out: &mut [u8],
 ) -> Shown
     requires { ⌜ SomeStateComputed header (now function) (now first) (now second) (now representative) count ⌝ }
-    ensures { λ r. ⌜ Modelled header (now (function .entry)) (now (first .entry)) (now (second .entry)) (now (representative .entry)) count (now (out .entry)) r (now (out .exit)) ⌝ }
+    ensures { λ r. ⌜ Modelled header (now (function .entry)) (now (first .entry)) (now (second .entry)) (now (representative .entry)) count (now (out .entry)) r
+        (now (out .exit)) ⌝ }
 {
     let registers = header.registers as usize;
     let mut values = zeros();

@@ -68,4 +68,5 @@ secondAt s rs x f y at = reading.andThen (reading.useT rs (tokenAt s at)) λ z e
 
 abbrev pub applicationAt : List ℕ → List ℕ → ℕ → ℕ → ℕ → ℕ → reading.Got Letter
 applicationAt s rs n x f at =
-    reading.andThen (reading.expect s word.lparenKey at) λ _ b. reading.andThen (reading.useT rs (tokenAt s b)) λ y e. reading.argumentsT s rs n x f y (tokenAt s e)
+    reading.andThen (reading.expect s word.lparenKey at) λ _ b. reading.andThen (reading.useT rs (tokenAt s b)) λ y e. reading.argumentsT s rs n x f y
+    (tokenAt s e)

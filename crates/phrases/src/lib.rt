@@ -10,7 +10,8 @@ ghost use lib.Dec.{ltb};
 ghost use lib.ListN.{length};
 ghost use Rattle.letters.specs.Editions.{mostRegisters};
 ghost use Rattle.macros.specs.Tree.{test};
-ghost use Rattle.grammar.specs.Reading.{indexOf, refusedToken, expect as expectAt, useT, signT, condition as conditionAt, endedCondition as testedAt, argumentsT, rightHandSide as valueAt, assignment as assignmentAt};
+ghost use Rattle.grammar.specs.Reading.{indexOf, refusedToken, expect as expectAt, useT, signT, condition as conditionAt, endedCondition as testedAt};
+ghost use Rattle.grammar.specs.Reading.{argumentsT, rightHandSide as valueAt, assignment as assignmentAt};
 ghost use Rattle.tokens.specs.Tokens.{tokenAt};
 ghost use Rattle.phrases.specs.Codes.{coded, plain, withoutValue, lettered, sameLetter, kind, comparing, carried, Few, secondAt, applicationAt};
 

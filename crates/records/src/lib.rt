@@ -13,8 +13,10 @@ ghost use Rattle.semantics.specs.PackedTables.{units};
 ghost use Rattle.window.specs.Layout.{registers};
 ghost use Rattle.records.specs.Codes.{codeOf, computedOf};
 ghost use Rattle.records.specs.Words.{fingerprintWordBytes, halfBytes, wordOf, octetsOf};
-ghost use Rattle.records.specs.Records.{recordBytes, contentBytes, codeRange, maskBytes, firstFormatLines, firstFormatResults, flag, emptyLine, codeBytes, partsOf, fingerprintOf};
-ghost use Rattle.records.specs.Records.{encoded, recordOf, parentIn, branchIn, pointIn, samePair, isSet, meaningsOf, resultsMeant, codesAt, everIn, windowIn};
+ghost use Rattle.records.specs.Records.{recordBytes, contentBytes, codeRange, maskBytes, firstFormatLines, firstFormatResults, flag, emptyLine};
+ghost use Rattle.records.specs.Records.{codeBytes, partsOf, fingerprintOf};
+ghost use Rattle.records.specs.Records.{encoded, recordOf, parentIn, branchIn, pointIn, samePair, isSet, meaningsOf, resultsMeant, codesAt, everIn};
+ghost use Rattle.records.specs.Records.{windowIn};
 
 /// How many bytes a record has.
 pub const RECORD_BYTES: usize = 192;

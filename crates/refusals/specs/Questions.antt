@@ -81,8 +81,10 @@ TakesArguments fs ns f n = (i : ℕ) × (i < length fs) × (getD fs i 0 ≡ f) �
 pub data Misused (before : List ℕ) (k next : ℕ) : Type 0 where
   register : {rs fs ns : List ℕ} → InStatements before rs fs ns → isName k ≡ true → (FunctionDue before next → ⊥) → (Among k rs → ⊥) → Misused before k next
   function : {rs fs ns : List ℕ} → InStatements before rs fs ns → isName k ≡ true → FunctionDue before next → (Among k fs → ⊥) → Misused before k next
-  more-arguments : {rs fs ns : List ℕ} {f : ℕ} → InStatements before rs fs ns → Called before f → TakesArguments fs ns f 1 → k ≡ word.commaKey → Misused before k next
-  fewer-arguments : {rs fs ns : List ℕ} {f : ℕ} → InStatements before rs fs ns → Called before f → TakesArguments fs ns f 2 → k ≡ word.rparenKey → Misused before k next
+  more-arguments : {rs fs ns : List ℕ} {f : ℕ} → InStatements before rs fs ns → Called before f → TakesArguments fs ns f 1 → k ≡ word.commaKey
+      → Misused before k next
+  fewer-arguments : {rs fs ns : List ℕ} {f : ℕ} → InStatements before rs fs ns → Called before f → TakesArguments fs ns f 2 → k ≡ word.rparenKey
+      → Misused before k next
 
 -- ---- 12
 

@@ -59,7 +59,8 @@ abbrev mutual
   statementThen NamedStatement.skip ws = word.skipKey ∷ word.semicolonKey ∷ ws
   statementThen (NamedStatement.copy a b) ws = a .key ∷ word.becomesKey ∷ b .key ∷ word.semicolonKey ∷ ws
   statementThen (NamedStatement.apply a f b) ws = a .key ∷ word.becomesKey ∷ f .key ∷ word.lparenKey ∷ b .key ∷ word.rparenKey ∷ word.semicolonKey ∷ ws
-  statementThen (NamedStatement.apply-two a f b c) ws = a .key ∷ word.becomesKey ∷ f .key ∷ word.lparenKey ∷ b .key ∷ word.commaKey ∷ c .key ∷ word.rparenKey ∷ word.semicolonKey ∷ ws
+  statementThen (NamedStatement.apply-two a f b c) ws =
+      a .key ∷ word.becomesKey ∷ f .key ∷ word.lparenKey ∷ b .key ∷ word.commaKey ∷ c .key ∷ word.rparenKey ∷ word.semicolonKey ∷ ws
   statementThen (NamedStatement.assume c) ws = word.assumeKey ∷ conditionThen c (word.semicolonKey ∷ ws)
   statementThen (NamedStatement.assert c) ws = word.assertKey ∷ conditionThen c (word.semicolonKey ∷ ws)
   statementThen (NamedStatement.if c b e) ws = word.ifKey ∷ conditionThen c (word.lbraceKey ∷ blockThen b (word.rbraceKey ∷ elseThen e ws))

@@ -25,7 +25,8 @@ exampleHeader = record { registers = 4; functions = 2; binary = 2 }
 
 abbrev pub exampleNames : Names
 exampleNames = record {
-  register = λ r. getD ((114 ∷ 97 ∷ 115 ∷ 116 ∷ 101 ∷ 114 ∷ []) ∷ (99 ∷ 111 ∷ 114 ∷ 110 ∷ 101 ∷ 114 ∷ []) ∷ (115 ∷ 117 ∷ 109 ∷ []) ∷ (100 ∷ 117 ∷ 116 ∷ 121 ∷ []) ∷ []) r [];
+  register = λ r. getD ((114 ∷ 97 ∷ 115 ∷ 116 ∷ 101 ∷ 114 ∷ []) ∷ (99 ∷ 111 ∷ 114 ∷ 110 ∷ 101 ∷ 114 ∷ []) ∷ (115 ∷ 117 ∷ 109 ∷ []) ∷
+      (100 ∷ 117 ∷ 116 ∷ 121 ∷ []) ∷ []) r [];
   function = λ f. getD ((99 ∷ 97 ∷ 112 ∷ []) ∷ (97 ∷ 100 ∷ 100 ∷ []) ∷ []) f [];
 }
 
@@ -80,11 +81,13 @@ worked-example = refl
 
 -- The bytes of that answer, the trace and the model behind it, and two bytes more.
 abbrev pub exampleBytes : List ℕ
-exampleBytes = 68 ∷ 128 ∷ 84 ∷ 8 ∷ 70 ∷ 0 ∷ 86 ∷ 200 ∷ 68 ∷ 128 ∷ 192 ∷ 208 ∷ 0 ∷ 9 ∷ 0 ∷ 4 ∷ 0 ∷ 1 ∷ 0 ∷ 2 ∷ 0 ∷ 3 ∷ 0 ∷ 4 ∷ 64 ∷ 8 ∷ 2 ∷ 0 ∷ 160 ∷ 0 ∷ 8 ∷ 0 ∷ 0 ∷ 192 ∷ 64 ∷ 48 ∷ 2 ∷ 0 ∷ 224 ∷ 0 ∷ 40 ∷ 0 ∷ 1 ∷ 0 ∷ 255 ∷ 255 ∷ []
+exampleBytes = 68 ∷ 128 ∷ 84 ∷ 8 ∷ 70 ∷ 0 ∷ 86 ∷ 200 ∷ 68 ∷ 128 ∷ 192 ∷ 208 ∷ 0 ∷ 9 ∷ 0 ∷ 4 ∷ 0 ∷ 1 ∷ 0 ∷ 2 ∷ 0 ∷ 3 ∷ 0 ∷ 4 ∷ 64 ∷ 8 ∷ 2 ∷ 0 ∷ 160 ∷ 0 ∷ 8 ∷ 0 ∷
+    0 ∷ 192 ∷ 64 ∷ 48 ∷ 2 ∷ 0 ∷ 224 ∷ 0 ∷ 40 ∷ 0 ∷ 1 ∷ 0 ∷ 255 ∷ 255 ∷ []
 
 -- They are read as those letters and tables.
 pub shown-example : printedOf exampleHeader (Fail 5 5) exampleBytes ≡ Printed.fail 5 exampleLetters exampleTables
-unfolding printedOf lettersIn letterOrCopy letterAt coding.decodeLetter coding.namedLetter coding.letterBy coding.fitsTest coding.applyTest coding.headerTest words.headerWord words.letterWord readTables unitsIn rowFrom secondMeant
+unfolding printedOf lettersIn letterOrCopy letterAt coding.decodeLetter coding.namedLetter coding.letterBy coding.fitsTest coding.applyTest coding.headerTest
+    words.headerWord words.letterWord readTables unitsIn rowFrom secondMeant
 shown-example = refl
 
 -- refused 9 at 17

@@ -81,7 +81,8 @@ fn put_two(
     b: u8,
 ) -> usize
     requires { ⌜ PlaceInRange at (filledIn (now template) (getD registers a 0 ∷ getD registers b 0 ∷ 0 ∷ 0 ∷ [])) ⌝ }
-    ensures { λ r. ⌜ Appended (now (out .entry)) at (filledIn (now (template .entry)) (getD registers a 0 ∷ getD registers b 0 ∷ 0 ∷ 0 ∷ [])) (now (out .exit)) r ⌝ }
+    ensures { λ r. ⌜ Appended (now (out .entry)) at (filledIn (now (template .entry)) (getD registers a 0 ∷ getD registers b 0 ∷ 0 ∷ 0 ∷ []))
+        (now (out .exit)) r ⌝ }
 {
     let first = register_name(registers, a);
     let second = register_name(registers, b);
@@ -165,7 +166,8 @@ fn put_letters(
     count: u16,
 ) -> usize
     requires { ⌜ PlaceInRange at (linesOf (letterLine (namesOf registers functions) h) (lettersIn h (now answer) 0 count)) ⌝ }
-    ensures { λ r. ⌜ Appended (now (out .entry)) at (linesOf (letterLine (namesOf registers functions) h) (lettersIn h (now (answer .entry)) 0 count)) (now (out .exit)) r ⌝ }
+    ensures { λ r. ⌜ Appended (now (out .entry)) at (linesOf (letterLine (namesOf registers functions) h) (lettersIn h (now (answer .entry)) 0 count))
+        (now (out .exit)) r ⌝ }
 {
     let mut next = at;
     let mut k: usize = 0;
@@ -188,7 +190,8 @@ fn put_execution(
     count: u16,
 ) -> usize
     requires { ⌜ PlaceInRange at (letterLines (namesOf registers functions) h (lettersIn h (now answer) 0 count)) ⌝ }
-    ensures { λ r. ⌜ Appended (now (out .entry)) at (letterLines (namesOf registers functions) h (lettersIn h (now (answer .entry)) 0 count)) (now (out .exit)) r ⌝ }
+    ensures { λ r. ⌜ Appended (now (out .entry)) at (letterLines (namesOf registers functions) h (lettersIn h (now (answer .entry)) 0 count))
+        (now (out .exit)) r ⌝ }
 {
     let number = count as u64;
     let next = put_line(out, at, b"letters 4\n", [number, 0, 0, 0]);
@@ -285,7 +288,8 @@ fn put_model(
 ) -> usize
     requires { ⌜ PlaceInRange at (modelLines (namesOf registers functions) h (readTables firstEdition h (drop start (now answer))))
         × (start < modelStart wordValues) ⌝ }
-    ensures { λ r. ⌜ Appended (now (out .entry)) at (modelLines (namesOf registers functions) h (readTables firstEdition h (drop start (now (answer .entry))))) (now (out .exit)) r ⌝ }
+    ensures { λ r. ⌜ Appended (now (out .entry)) at (modelLines (namesOf registers functions) h (readTables firstEdition h (drop start (now (answer .entry)))))
+        (now (out .exit)) r ⌝ }
 {
     let values = word_at(answer, start as usize);
     let rows = word_at(answer, (start as usize) + WORD_BYTES);
@@ -305,7 +309,8 @@ fn put_model(
 // Appends the two lines that every verdict has.
 fn put_verdict(out: &mut [u8], at: usize, verdict: &[u8], pairs: u64) -> usize
     requires { ⌜ PlaceInRange at (filledIn (now verdict) (0 ∷ 0 ∷ 0 ∷ 0 ∷ []) ++ line (pairsWord ∷ numeral pairs ∷ [])) ⌝ }
-    ensures { λ r. ⌜ Appended (now (out .entry)) at (filledIn (now (verdict .entry)) (0 ∷ 0 ∷ 0 ∷ 0 ∷ []) ++ line (pairsWord ∷ numeral pairs ∷ [])) (now (out .exit)) r ⌝ }
+    ensures { λ r. ⌜ Appended (now (out .entry)) at (filledIn (now (verdict .entry)) (0 ∷ 0 ∷ 0 ∷ 0 ∷ []) ++ line (pairsWord ∷ numeral pairs ∷ []))
+        (now (out .exit)) r ⌝ }
 {
     let next = put_line(out, at, verdict, [0, 0, 0, 0]);
     put_line(out, next, b"pairs 4\n", [pairs, 0, 0, 0])

@@ -26,4 +26,5 @@ searchOn program t = searchOf (program .header) (program .points) (program .coun
 
 -- What is answered, and what the output then holds.
 abbrev pub Tells : struct.CompiledMacro → List ℕ → List ℕ → answer.Verdict → List ℕ → Type 0
-Tells program t output r output′ = SearchAnswered (program .header) (program .points) firstEdition output (searchOn program t .0) (searchOn program t .1) (answerOf r) output′
+Tells program t output r output′ =
+    SearchAnswered (program .header) (program .points) firstEdition output (searchOn program t .0) (searchOn program t .1) (answerOf r) output′

@@ -59,11 +59,21 @@ abbrev pub withMark : Slots → List Bool → Slots
 withMark w mark = record { slot = w .slot; regs = w .regs; unequal = w .unequal; result = w .result; ever = w .ever; mark = mark; infeasible = w .infeasible }
 
 abbrev pub slotsWithUnequal : Slots → List ℕ → Bool → Slots
-slotsWithUnequal w unequal infeasible = record { slot = w .slot; regs = w .regs; unequal = unequal; result = w .result; ever = w .ever; mark = w .mark; infeasible = infeasible }
+slotsWithUnequal w unequal infeasible =
+    record { slot = w .slot; regs = w .regs; unequal = unequal; result = w .result; ever = w .ever; mark = w .mark; infeasible = infeasible }
 
 -- the slots with register x in slot t
 abbrev pub placed : Slots → ℕ → ℕ → Slots
-placed w x t = record { slot = set (w .slot) x t; regs = regsMoved (w .regs) x (slotOf (w .slot) x) t; unequal = w .unequal; result = w .result; ever = w .ever; mark = w .mark; infeasible = w .infeasible }
+placed w x t = record {
+  slot = set (w .slot) x t;
+  regs = regsMoved (w .regs) x (slotOf (w .slot) x) t;
+  unequal = w .unequal;
+  result = w .result;
+  ever =
+      w .ever;
+  mark = w .mark;
+  infeasible = w .infeasible;
+}
 
 -- ---- tables
 
@@ -129,21 +139,25 @@ module _ (ρ : ℕ) where
 
   -- the slots that hold the result at place k of a window
   unfoldable pub entryOf : List ℕ → List ℕ → List ℕ → ℕ → ℕ
-  entryOf slot regs result k = pick (hasSlot slot regs (placeFirst ρ k) && hasSlot slot regs (placeSecond ρ k)) (λ _. getD result (place ρ (placeFunction ρ k) (slotOf slot (placeFirst ρ k)) (slotOf slot (placeSecond ρ k))) 0) λ _. 0
+  entryOf slot regs result k = pick (hasSlot slot regs (placeFirst ρ k) && hasSlot slot regs (placeSecond ρ k))
+      (λ _. getD result (place ρ (placeFunction ρ k) (slotOf slot (placeFirst ρ k)) (slotOf slot (placeSecond ρ k))) 0) λ _. 0
 
   -- of k results of a window from i on, the registers of the first that is in two slots, or the empty mask
   unfoldable pub findSlots : List ℕ → List ℕ → List ℕ → ℕ → ℕ → ℕ
   findSlots slot regs result i zero = 0
-  findSlots slot regs result i (suc k) = pick (manyOf (entryOf slot regs result i)) (λ _. pulledOf regs (entryOf slot regs result i) ρ) λ _. findSlots slot regs result (suc i) k
+  findSlots slot regs result i (suc k) =
+      pick (manyOf (entryOf slot regs result i)) (λ _. pulledOf regs (entryOf slot regs result i) ρ) λ _. findSlots slot regs result (suc i) k
 
   -- "Memoizing": a slot holds the value, or it was never computed
   unfoldable pub memoizingSlots : List ℕ → List ℕ → List ℕ → ℕ → ℕ → ℕ → Bool
-  memoizingSlots slot result ever f y z = pick (has (getD ever (ρ * f + slotOf slot y) 0) (slotOf slot z)) (λ _. nonempty ρ (getD result (place ρ f (slotOf slot y) (slotOf slot z)) 0)) λ _. true
+  memoizingSlots slot result ever f y z =
+      pick (has (getD ever (ρ * f + slotOf slot y) 0) (slotOf slot z)) (λ _. nonempty ρ (getD result (place ρ f (slotOf slot y) (slotOf slot z)) 0)) λ _. true
 
 -- ---- a letter
 
 module _ (ρ φ : ℕ) where
-  -- slot s has no register any more, or one that gets a new value: it and what is below it, and `more` and what is below that, get a mark, and the tables forget it
+  -- slot s has no register any more, or one that gets a new value: it and what is below it, and `more` and what is below that, get a mark, and the tables
+  -- forget it
   unfoldable pub droppedSlots : Slots → ℕ → ℕ → Slots
   droppedSlots w s more = record {
     slot = w .slot;
@@ -227,7 +241,8 @@ module _ (ρ φ : ℕ) where
       settledSlots next (clashSlots (next .unequal) ρ)
 
   unfoldable pub unequalSlots : Slots → ℕ → ℕ → Slots
-  unequalSlots w x y = settledSlots (slotsWithUnequal w (apartSlots (w .unequal) (slotOf (w .slot) x) (slotOf (w .slot) y)) (w .infeasible)) (eqb (slotOf (w .slot) x) (slotOf (w .slot) y))
+  unequalSlots w x y = settledSlots (slotsWithUnequal w (apartSlots (w .unequal) (slotOf (w .slot) x) (slotOf (w .slot) y)) (w .infeasible))
+      (eqb (slotOf (w .slot) x) (slotOf (w .slot) y))
 
   -- the letter is coherent
   abbrev pub judgeSlots : Slots → Letter → Bool
@@ -315,12 +330,14 @@ module _ (ρ φ : ℕ) where
   unfoldable pub regularOf : Slots → ℕ → Bool
   regularOf w n =
       let used = usedOf ρ (w .regs) ρ in
-      ((((groupedOf ρ (w .slot) (w .regs) n ρ && cleanOf ρ used 1 (w .unequal) ρ) && cleanOf ρ used 1 (w .ever) (φ * ρ)) && cleanOf ρ used 1 (w .result) (φ * ρ * ρ)) && cleanOf ρ used ρ (w .result) (φ * ρ * ρ))
+      ((((groupedOf ρ (w .slot) (w .regs) n ρ && cleanOf ρ used 1 (w .unequal) ρ) && cleanOf ρ used 1 (w .ever) (φ * ρ)) && cleanOf ρ used 1 (w .result)
+      (φ * ρ * ρ)) && cleanOf ρ used ρ (w .result) (φ * ρ * ρ))
       && not (doubledOf ρ (w .result) (φ * ρ * ρ))
 
   unfoldable pub sameWindow : Window → Window → Bool
   sameWindow v w =
-      ((((sameMasks ρ (v .class) (w .class) ρ && sameMasks ρ (v .unequal) (w .unequal) ρ) && sameMasks ρ (v .result) (w .result) (φ * ρ * ρ)) && sameMasks ρ (v .ever) (w .ever) (φ * ρ)) && sameMarks ρ (v .mark) (w .mark) ρ)
+      ((((sameMasks ρ (v .class) (w .class) ρ && sameMasks ρ (v .unequal) (w .unequal) ρ) && sameMasks ρ (v .result) (w .result) (φ * ρ * ρ)) && sameMasks ρ
+      (v .ever) (w .ever) (φ * ρ)) && sameMarks ρ (v .mark) (w .mark) ρ)
       && alikeOf ρ (v .infeasible) (w .infeasible)
 
   -- the slots are those of the window v, with n registers

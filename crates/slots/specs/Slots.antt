@@ -20,7 +20,8 @@ pub record Slots : Type 0 where
   pub infeasible : Bool
 
 abbrev pub slotsOf : List ℕ → List ℕ → List ℕ → List ℕ → List ℕ → List Bool → Bool → Slots
-slotsOf slot regs unequal result ever mark infeasible = record { slot = slot; regs = regs; unequal = unequal; result = result; ever = ever; mark = mark; infeasible = infeasible }
+slotsOf slot regs unequal result ever mark infeasible =
+    record { slot = slot; regs = regs; unequal = unequal; result = result; ever = ever; mark = mark; infeasible = infeasible }
 
 -- the slot of a register
 abbrev pub slotOf : List ℕ → ℕ → ℕ

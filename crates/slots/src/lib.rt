@@ -213,7 +213,8 @@ fn drop_slot(
     ensures { λ _. ⌜ ((g : List ℕ) (i : Bool) →
         slotsOf (now (slot .entry)) g (now (unequal .exit)) (now (result .exit)) (now (ever .exit)) (now (mark .exit)) i ≡ droppedSlots registers functions
         (slotsOf (now (slot .entry)) g (now (unequal .entry)) (now (result .entry)) (now (ever .entry)) (now (mark .entry)) i) s more) ⌝ }
-    ensures long { λ _. ⌜ SlotTableLengths registers functions (now (unequal .exit)) (now (result .exit)) (now (ever .exit)) × (length (now (mark .exit)) ≡ registers) ⌝ }
+    ensures long { λ _. ⌜ SlotTableLengths registers functions (now (unequal .exit)) (now (result .exit)) (now (ever .exit))
+        × (length (now (mark .exit)) ≡ registers) ⌝ }
     ensures around { λ _. ⌜ Around registers functions (now (result .exit)) (now (around .exit)) ⌝ }
 {
     mark_slots(slot, mark, lost_slots(around, s, more));
@@ -240,7 +241,8 @@ fn leave_slot(
     ensures { λ _. ⌜ ((g : List ℕ) (i : Bool) →
         slotsOf (now (slot .entry)) g (now (unequal .exit)) (now (result .exit)) (now (ever .exit)) (now (mark .exit)) i ≡ leftSlots registers functions
         (slotsOf (now (slot .entry)) g (now (unequal .entry)) (now (result .entry)) (now (ever .entry)) (now (mark .entry)) i) s empty) ⌝ }
-    ensures long { λ _. ⌜ SlotTableLengths registers functions (now (unequal .exit)) (now (result .exit)) (now (ever .exit)) × (length (now (mark .exit)) ≡ registers) ⌝ }
+    ensures long { λ _. ⌜ SlotTableLengths registers functions (now (unequal .exit)) (now (result .exit)) (now (ever .exit))
+        × (length (now (mark .exit)) ≡ registers) ⌝ }
     ensures around { λ _. ⌜ Around registers functions (now (result .exit)) (now (around .exit)) ⌝ }
 {
     if empty {
@@ -346,7 +348,8 @@ fn renew(
     ensures { λ _. ⌜ ((g : List ℕ) (i : Bool) →
         slotsOf (now (slot .entry)) g (now (unequal .exit)) (now (result .exit)) (now (ever .exit)) (now (mark .exit)) i ≡ renewedSlots registers functions
         (slotsOf (now (slot .entry)) g (now (unequal .entry)) (now (result .entry)) (now (ever .entry)) (now (mark .entry)) i) x f a b) ⌝ }
-    ensures long { λ _. ⌜ SlotTableLengths registers functions (now (unequal .exit)) (now (result .exit)) (now (ever .exit)) × (length (now (mark .exit)) ≡ registers) ⌝ }
+    ensures long { λ _. ⌜ SlotTableLengths registers functions (now (unequal .exit)) (now (result .exit)) (now (ever .exit))
+        × (length (now (mark .exit)) ≡ registers) ⌝ }
     ensures around { λ _. ⌜ Around registers functions (now (result .exit)) (now (around .exit)) ⌝ }
 {
     let s = slot_of(slot, x);
@@ -1079,7 +1082,8 @@ pub fn to_slots(
     result: &mut [Mask; RESULTS],
     ever: &mut [Mask; LINES],
 )
-    requires { ⌜ (length (now slot) ≡ registers) × (length (now regs) ≡ registers) × SlotTableLengths registers functions (now unequal) (now result) (now ever) ⌝ }
+    requires { ⌜ (length (now slot) ≡ registers) × (length (now regs) ≡ registers)
+        × SlotTableLengths registers functions (now unequal) (now result) (now ever) ⌝ }
     ensures { λ _. ⌜ Low registers (now (slot .exit)) × (length (now (regs .exit)) ≡ registers)
         × SlotTableLengths registers functions (now (unequal .exit)) (now (result .exit)) (now (ever .exit)) ⌝ }
 {

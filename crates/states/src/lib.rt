@@ -20,7 +20,8 @@ ghost use Prim.Native.Nat.{_+_, _≤_};
 ghost use mathlib.Core.List.{_++_};
 ghost use lib.ListN.{length, take, drop};
 ghost use Rattle.letters.specs.Packing.{join, split};
-ghost use Rattle.states.specs.States.{numberSize, eightOctets, monitorSize, streamSize, headOf, partsThen, Sizes, monitorWindowIn, monitorIn, KeepsMonitor};
+ghost use Rattle.states.specs.States.{numberSize, eightOctets, monitorSize, streamSize, headOf, partsThen, Sizes, monitorWindowIn, monitorIn};
+ghost use Rattle.states.specs.States.{KeepsMonitor};
 ghost use Rattle.states.specs.States.{phaseCode, phaseIn, runAnswerCode, refusalNumber, firstNumber, secondNumber, runAnswerIn};
 ghost use Rattle.states.specs.States.{tailThen, streamIn, KeepsStream};
 

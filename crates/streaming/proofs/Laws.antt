@@ -105,7 +105,8 @@ pub pushed-more : (bytes : List ℕ) (i : ℕ) (s next whole : Stream) → i < l
     → pushedAll next (drop (i + 1) bytes) ≡ whole
 unfolding pushedAll
 pushed-more bytes i s next whole l e d =
-    let n : suc i ≡ i + 1 = omega arith in ap (λ t. pushedAll t (drop (i + 1) bytes)) d ∙ sym (ap (pushedAll s) (drop-cons bytes i 0 l ∙ ap (λ k. getD bytes i 0 ∷ drop k bytes) n)) ∙ e
+    let n : suc i ≡ i + 1 = omega arith in
+    ap (λ t. pushedAll t (drop (i + 1) bytes)) d ∙ sym (ap (pushedAll s) (drop-cons bytes i 0 l ∙ ap (λ k. getD bytes i 0 ∷ drop k bytes) n)) ∙ e
 
 pub pushed-done : (bytes : List ℕ) (i : ℕ) (s whole : Stream) → length bytes ≤ i → pushedAll s (drop i bytes) ≡ whole → s ≡ whole
 unfolding pushedAll

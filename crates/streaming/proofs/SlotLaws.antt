@@ -32,12 +32,14 @@ Stands h = RepresentsWindowInFirstEdition (h .registers)
 
 -- ---- a letter
 
-letter-among : (h : Header) (word : ℕ) (d : DecodedLetter) (a : Letter) → letterAnswer d ≡ decodeLetter firstEdition h word → d ≡ decoded-letter.Letter a → RegistersBelowCount (h .registers) a
+letter-among : (h : Header) (word : ℕ) (d : DecodedLetter) (a : Letter) → letterAnswer d ≡ decodeLetter firstEdition h word → d ≡ decoded-letter.Letter a
+    → RegistersBelowCount (h .registers) a
 letter-among h word d a e g =
     let (o, f, _) = decode-letter first-roomy h word a .0 (sym e ∙ ap letterAnswer g) in
     fits-among h a (o .functions) f
 
-slots-performed : (h : Header) (s : Slots) (w : Window) → Stands h s w → (fine : Bool) (a : Letter) → RegistersBelowCount (h .registers) a → Stands h (slotsPerformed s fine a) (performedOf w fine a)
+slots-performed : (h : Header) (s : Slots) (w : Window) → Stands h s w → (fine : Bool) (a : Letter) → RegistersBelowCount (h .registers) a
+    → Stands h (slotsPerformed s fine a) (performedOf w fine a)
 unfolding slotsPerformed performedOf
 slots-performed h s w r true a m = performed (h .registers) s w r a m
 slots-performed h s w r false a m = r
@@ -48,7 +50,8 @@ pub standing-start : (h : Header) (w : Window) (s : Slots) (fine : Bool) (n one 
     → Standing h s fine n one two left (takenAll (runOf h w fine n (Judged one two)) left)
 standing-start h w s fine n one two left r = record { window = w; represents = r; taken = refl }
 
-module _ (h : Header) (s : Slots) (fine : Bool) (n one two : ℕ) (bytes : List ℕ) (i : ℕ) (whole : Run) (st : Standing h s fine n one two (drop i bytes) whole) where
+module _ (h : Header) (s : Slots) (fine : Bool) (n one two : ℕ) (bytes : List ℕ) (i : ℕ) (whole : Run)
+    (st : Standing h s fine n one two (drop i bytes) whole) where
   abbrev w : Window
   w = st .window
 
@@ -64,7 +67,8 @@ module _ (h : Header) (s : Slots) (fine : Bool) (n one two : ℕ) (bytes : List 
       → Standing h s′ (fine && j) number one′ two′ (drop (i + 2) bytes) whole
   standing-more number word d a j s′ one′ two′ l k e c g p q u v =
       let m = letter-among h word d a e g in
-      let after : Stands h s′ (performedOf w (due j) a) = subst (λ t. Stands h t (performedOf w (due j) a)) (sym q) (slots-performed h s w (st .represents) (due j) a m) in
+      let after : Stands h s′ (performedOf w (due j) a) =
+      subst (λ t. Stands h t (performedOf w (due j) a)) (sym q) (slots-performed h s w (st .represents) (due j) a m) in
       record {
         window = performedOf w (due j) a;
         represents = after;
@@ -95,5 +99,6 @@ module _ (v : Window) (s : Slots) (n : ℕ) (slot-long : length (s .slot) ≡ re
   unfolding pulledMarks
   marks-long same = ap length marks ∙ ap (λ (w : Window). length (w .mark)) same ∙ table-length _ registers
 
-  pub represented : (b : Bool) → b ≡ representsOf registers functions v s n → b ≡ true → v ≡ windowOf registers functions s → RepresentsWindowInFirstEdition n s v
+  pub represented : (b : Bool) → b ≡ representsOf registers functions v s n → b ≡ true → v ≡ windowOf registers functions s
+      → RepresentsWindowInFirstEdition n s v
   represented b e t same = represents-is n v s slot-long regs-long tables (marks-long same) (sym e ∙ t) same

@@ -29,7 +29,13 @@ abbrev pub FunctionsPadded : Functions → Type 0
 FunctionsPadded fs = NamesPadded mostFunctions (fs .names) (fs .count) × NamesPadded mostFunctions (fs .arities) (fs .count)
 
 abbrev pub macroOf : Registers → Functions → Block → Macro
-macroOf rs fs b = record { registers = take (rs .count) (rs .names); functions = take (fs .count) (fs .names); arities = take (fs .count) (fs .arities); body = b }
+macroOf rs fs b = record {
+  registers = take (rs .count) (rs .names);
+  functions = take (fs .count) (fs .names);
+  arities = take (fs .count) (fs .arities);
+  body =
+      b;
+}
 
 -- a table without points
 abbrev pub emptyTable : List PointEntry

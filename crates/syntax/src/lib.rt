@@ -425,7 +425,8 @@ fn finish(
 // Behind the declarations.
 fn read_body(text: &[u8], rs: Registers, fs: Functions) -> MacroRead
     requires { ⌜ RegistersPadded rs × FunctionsPadded fs ⌝ }
-    ensures { λ r. ⌜ r ≡ heldReading (bodyFrom (now (text .entry)) (take (rs .count) (rs .names)) (take (fs .count) (fs .names)) (take (fs .count) (fs .arities)) (fs .at)) ⌝ }
+    ensures { λ r. ⌜ r ≡ heldReading
+        (bodyFrom (now (text .entry)) (take (rs .count) (rs .names)) (take (fs .count) (fs .names)) (take (fs .count) (fs .arities)) (fs .at)) ⌝ }
 {
     let regs = rs.names;
     let n = rs.count;

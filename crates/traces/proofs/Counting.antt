@@ -63,7 +63,8 @@ module _ (decode : List ℕ → Answer Letter) (h : Header) (b k : ℕ) (s : Lis
   count-begins at = rw sub-zero (sym (counted-on decode h 0 (chunks b k (drop at s))) ∙ shift-none _)
 
   turn : (n at : ℕ) → n < k
-      → countFrom decode h n (chunks b (k - n) (drop at s)) ≡ onAnswer (decode (take b (drop at s))) (λ _. countFrom decode h (n + 1) (chunks b (k - (n + 1)) (drop (at + b) s))) λ _ _. refusal 4 (n + 1)
+      → countFrom decode h n (chunks b (k - n) (drop at s)) ≡ onAnswer (decode (take b (drop at s)))
+      (λ _. countFrom decode h (n + 1) (chunks b (k - (n + 1)) (drop (at + b) s))) λ _ _. refusal 4 (n + 1)
   unfolding countFrom chunks
   turn n at l = let m : k - n ≡ suc (k - (n + 1)) = omega arith in rw (m, ← drop-drop b at s)
 
@@ -125,9 +126,11 @@ module _ (tooMany : ℕ → Bool) (s : List ℕ) (begun : HeaderRead) (e : begin
     unfolding readingWhere
     begun-letters t = rw (← e, g, t)
 
-pub same-limit : (f g : ℕ → Bool) (s : List ℕ) → f (letterCount firstEdition s) ≡ g (letterCount firstEdition s) → readingWhere f firstEdition s ≡ readingWhere g firstEdition s
+pub same-limit : (f g : ℕ → Bool) (s : List ℕ) → f (letterCount firstEdition s) ≡ g (letterCount firstEdition s)
+    → readingWhere f firstEdition s ≡ readingWhere g firstEdition s
 unfolding readingWhere
-same-limit f g s e = ap (λ (t : Bool). onAnswer (beginning firstEdition s) (λ h. pick t (λ _. TraceReading.refused 5 0) λ _. lettersOf firstEdition h s) TraceReading.refused) e
+same-limit f g s e = ap (λ (t : Bool). onAnswer (beginning firstEdition s)
+    (λ h. pick t (λ _. TraceReading.refused 5 0) λ _. lettersOf firstEdition h s) TraceReading.refused) e
 
 -- ---- five bytes at a place
 
@@ -139,7 +142,8 @@ module _ (h : Header) (s : List ℕ) (at : ℕ) where
   part-at : (i : ℕ) → i < 5 → getD (take 5 (drop at s)) i 0 ≡ getD s (at + i) 0
   part-at i l = getD-take 5 (drop at s) i 0 l ∙ getD-drop at s i 0
 
-  pub five-at : at + 5 ≤ length s → plainLetter h (getD s at 0) (getD s (at + 1) 0) (getD s (at + 2) 0) (getD s (at + 3) 0) (getD s (at + 4) 0) ≡ unpackLetter h (take 5 (drop at s))
+  pub five-at : at + 5 ≤ length s
+      → plainLetter h (getD s at 0) (getD s (at + 1) 0) (getD s (at + 2) 0) (getD s (at + 3) 0) (getD s (at + 4) 0) ≡ unpackLetter h (take 5 (drop at s))
   unfolding unpackLetter
   five-at l =
       let n : length (take 5 (drop at s)) ≡ 5 = simp (length-take, length-drop) (omega arith) in

@@ -37,19 +37,22 @@ pub word-whole : (h : Header) (s : List ℕ) (at w : ℕ) → wordIn firstEditio
 unfolding wordIn
 word-whole h s at w q = by (unpackLetter h (take 5 (drop at s))) refl q
   where
-    by : (a : Answer Letter) → unpackLetter h (take 5 (drop at s)) ≡ a → onAnswer a (encodeLetter firstEdition h) (λ _ _. refusal 4 0) ≡ value w → at + 5 ≤ length s
+    by : (a : Answer Letter) → unpackLetter h (take 5 (drop at s)) ≡ a → onAnswer a (encodeLetter firstEdition h) (λ _ _. refusal 4 0) ≡ value w
+        → at + 5 ≤ length s
     by (value l) e q = unpack-whole h s at l e
     by (refusal a b) e q = let z : _≡_ {A = ℕ} 0 1 = cc in absurd (omega arith)
 
 -- the word of a letter that is well formed
-word-in : (h : Header) (x : List ℕ) (l : Letter) → HeaderFits firstEdition h → unpackLetter h x ≡ value l → wordIn firstEdition h x ≡ value (letterWord firstEdition h l)
+word-in : (h : Header) (x : List ℕ) (l : Letter) → HeaderFits firstEdition h → unpackLetter h x ≡ value l
+    → wordIn firstEdition h x ≡ value (letterWord firstEdition h l)
 unfolding wordIn encodeLetter
 word-in h x l v q = rw (q, header-test firstEdition h .1 v, fits-test h l .1 (unpack-letter h x l .0 q .1))
 
 -- ---- the loop over the parts of s, k in all, b bytes each, of which m are done and the next starts at `at`
 
 module _ {B : Type 0} (put : List ℕ → ℕ → B → List ℕ) (n b : ℕ) (decode : List ℕ → Answer B) (k : ℕ) (s : List ℕ) where
-  pub put-begins : (at to : ℕ) (out : List ℕ) → putEach put n decode out to (chunks b (k - 0) (drop at s)) ≡ putEach put n decode out to (chunks b k (drop at s))
+  pub put-begins : (at to : ℕ) (out : List ℕ)
+      → putEach put n decode out to (chunks b (k - 0) (drop at s)) ≡ putEach put n decode out to (chunks b k (drop at s))
   put-begins at to out = rw sub-zero
 
   turn : (m next at to : ℕ) (out : List ℕ) → m < k → next ≡ m + 1
@@ -117,7 +120,8 @@ header-refused : (h : Header) (s : List ℕ) → encodeHeader firstEdition h ≡
 unfolding encodeHeader unpacking
 header-refused h s = byTest (headerTest firstEdition h) (λ t. rw t λ q. let z : _≡_ {A = ℕ} 0 1 = cc in absurd (omega arith)) λ t. rw t λ q. refl
 
-pub wrote-header : (h : Header) (s out : List ℕ) → encodeHeader firstEdition h ≡ refusal 3 0 → WroteTrace firstEdition (unpacking firstEdition h s) out out (refusal 3 0)
+pub wrote-header : (h : Header) (s out : List ℕ) → encodeHeader firstEdition h ≡ refusal 3 0
+    → WroteTrace firstEdition (unpacking firstEdition h s) out out (refusal 3 0)
 unfolding writtenLength writtenOver
 wrote-header h s out q = rw (header-refused h s q) (record { answered = refl; bytes = refl })
 
@@ -139,7 +143,8 @@ module _ (h : Header) (s out : List ℕ) (w : ℕ) (q : encodeHeader firstEditio
   unfolding unpacking
   unpacked = rw (good .0)
 
-  pub wrote-refused : (a b : ℕ) → counted (lettersFrom (unpackLetter h) h 1 (unpackedParts s)) ≡ refusal a b → WroteTrace firstEdition (unpacking firstEdition h s) out out (refusal a b)
+  pub wrote-refused : (a b : ℕ) → counted (lettersFrom (unpackLetter h) h 1 (unpackedParts s)) ≡ refusal a b
+      → WroteTrace firstEdition (unpacking firstEdition h s) out out (refusal a b)
   unfolding writtenLength writtenOver
   wrote-refused a b p = rw (unpacked, counted-refused (lettersFrom (unpackLetter h) h 1 (unpackedParts s)) a b p) (record { answered = refl; bytes = refl })
 
@@ -159,10 +164,12 @@ module _ (h : Header) (s out : List ℕ) (w : ℕ) (q : encodeHeader firstEditio
 
     size : length (packing firstEdition h letters) ≡ 2 * n + 2
     unfolding packing
-    size = bytes-length firstEdition first-roomy (headerWord firstEdition h ∷ map (letterWord firstEdition h) letters) ∙ rw (length-map letters (letterWord firstEdition h), the-letters .1) (omega arith)
+    size = bytes-length firstEdition first-roomy (headerWord firstEdition h ∷ map (letterWord firstEdition h) letters)
+        ∙ rw (length-map letters (letterWord firstEdition h), the-letters .1) (omega arith)
 
     laid : 2 * n + 2 ≤ length out
-        → putWords (wordIn firstEdition h) (putWord out 0 w) 2 (unpackedParts s) ≡ packing firstEdition h letters ++ drop (length (packing firstEdition h letters)) out
+        → putWords (wordIn firstEdition h) (putWord out 0 w) 2 (unpackedParts s) ≡ packing firstEdition h letters ++ drop
+        (length (packing firstEdition h letters)) out
     unfolding packing units
     laid l =
         let v = header-test firstEdition h .0 (good .0) in

@@ -11,7 +11,8 @@ use Rattle.traces.specs.ReadingParts.{readingWithin}
 use Rattle.traces.specs.Writing.{plainTest, plainLetter, unpackLetter, unpackedParts, unpacking}
 
 a-trace : reading firstEdition (0x32 ∷ 0x00 ∷ 0x44 ∷ 0x40 ∷ 0x80 ∷ 0x08 ∷ []) ≡ trace unary (Apply 2 0 1 1 ∷ Equal 0 1 ∷ [])
-unfolding readingWhere beginning lettersOf lettersFrom chunks decodeHeader namedHeader headerWord decodeLetter namedLetter letterBy headerTest fitsTest applyTest letterWord
+unfolding readingWhere beginning lettersOf lettersFrom chunks decodeHeader namedHeader headerWord decodeLetter namedLetter letterBy headerTest fitsTest
+    applyTest letterWord
 a-trace = refl
 
 header-alone : reading firstEdition (0x32 ∷ 0x00 ∷ []) ≡ trace unary []
@@ -37,7 +38,8 @@ bad-header = refl
 
 -- the second letter has its second argument's field in use
 bad-letter : reading firstEdition (0x32 ∷ 0x00 ∷ 0x44 ∷ 0x40 ∷ 0x44 ∷ 0x48 ∷ []) ≡ TraceReading.refused 4 2
-unfolding readingWhere beginning lettersOf lettersFrom chunks decodeHeader namedHeader headerWord decodeLetter namedLetter letterBy headerTest fitsTest applyTest letterWord
+unfolding readingWhere beginning lettersOf lettersFrom chunks decodeHeader namedHeader headerWord decodeLetter namedLetter letterBy headerTest fitsTest
+    applyTest letterWord
 bad-letter = refl
 
 -- 5 comes before 4

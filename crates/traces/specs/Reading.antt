@@ -38,7 +38,8 @@ prependLetter l (TraceReading.refused number place) = TraceReading.refused numbe
 -- The letters of these codes under h, of which the next has number n: "A letter that is not well formed ends the reading with 4 and its number, from 1."
 unfoldable pub lettersFrom : {A : Type 0} → (A → Answer Letter) → Header → ℕ → List A → TraceReading
 lettersFrom decode h n [] = trace h []
-lettersFrom decode h n (x ∷ codes) = onAnswer (decode x) (λ l. prependLetter l (lettersFrom decode h (n + 1) codes)) λ _ _. TraceReading.refused letterMalformed n
+lettersFrom decode h n (x ∷ codes) =
+    onAnswer (decode x) (λ l. prependLetter l (lettersFrom decode h (n + 1) codes)) λ _ _. TraceReading.refused letterMalformed n
 
 -- "At least two bytes? 1. Even length? 2. Header as above? 3." In another edition it is the bytes of its unit.
 unfoldable pub beginning : Edition → List ℕ → Answer Header

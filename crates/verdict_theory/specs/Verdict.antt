@@ -68,7 +68,8 @@ AnswerBytes e start failing ls bytes =
 -- "Refused calls write no output; bytes past a written answer stay."
 abbrev pub Delivered : List ℕ → VerdictAnswer → List ℕ → VerdictAnswer → List ℕ → Type 0
 Delivered bs a output answer output′ =
-    ((length bs ≤ length output) × (answer ≡ a) × (output′ ≡ bs ++ drop (length bs) output)) ⊎ ((length output < length bs) × (answer ≡ unfit) × (output′ ≡ output))
+    ((length bs ≤ length output) × (answer ≡ a) × (output′ ≡ bs ++ drop (length bs) output))
+    ⊎ ((length output < length bs) × (answer ≡ unfit) × (output′ ≡ output))
 
 -- The last letter is the first incoherent one.
 abbrev pub Breaks : Trace → Type 0
@@ -148,7 +149,8 @@ module _ {ℓ} (Possible : State → Type ℓ) (start : Trace) (m : Block) where
     pub full-exactly : (answer ≡ full) ↔ PairsPass n
     pub full-output : answer ≡ full → output′ ≡ output
     -- else pass is answered exactly if every execution, wherever it is broken off, is coherent so far, and no data model reaches a false assertion
-    pub pass-exactly : answer ≢ full → IsPass answer ↔ (((ρ : Trace) → Partial start m ρ → Coherent ρ) × ((ρ : Trace) → Failing start m ρ → ¬ Possible (state ρ)))
+    pub pass-exactly : answer ≢ full
+        → IsPass answer ↔ (((ρ : Trace) → Partial start m ρ → Coherent ρ) × ((ρ : Trace) → Failing start m ρ → ¬ Possible (state ρ)))
     pub pass-count : (k : ℕ) → answer ≡ pass k → PairCount k × (output′ ≡ output)
     -- else the first event is answered, or 6
     pub otherwise : answer ≢ full → ¬ IsPass answer

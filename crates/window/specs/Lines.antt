@@ -42,11 +42,14 @@ module _ (ρ : ℕ) where
   row-entry j d = place-sum ρ (j / ρ) d (j % ρ)
 
   pub row-is : 0 < ρ → (i : ℕ) → ρ * ρ * ((ρ * (i / (ρ * ρ)) + i % ρ) / ρ) + ρ * (i / ρ % ρ) + (ρ * (i / (ρ * ρ)) + i % ρ) % ρ ≡ i
-  row-is p i = ap₂ (λ f s. ρ * ρ * f + ρ * (i / ρ % ρ) + s) (places.line-entry ρ (i / (ρ * ρ)) (i % ρ) (mod-lt i p)) (places.along-entry ρ (i / (ρ * ρ)) (i % ρ) (mod-lt i p))
+  row-is p i = ap₂ (λ f s. ρ * ρ * f + ρ * (i / ρ % ρ) + s) (places.line-entry ρ (i / (ρ * ρ)) (i % ρ) (mod-lt i p))
+      (places.along-entry ρ (i / (ρ * ρ)) (i % ρ) (mod-lt i p))
       ∙ place-sum ρ (i / (ρ * ρ)) (i / ρ % ρ) (i % ρ) ∙ place-is ρ i
 
   pub row-line : (j d : ℕ) → d < ρ → ρ * ((ρ * ρ * (j / ρ) + ρ * d + j % ρ) / (ρ * ρ)) + (ρ * ρ * (j / ρ) + ρ * d + j % ρ) % ρ ≡ j
-  row-line j d h = let s = mod-lt j {m = ρ} (omega arith) in ap (λ k. ρ * (k / (ρ * ρ)) + k % ρ) (row-entry j d) ∙ ap₂ (λ f b. ρ * f + b) (function-place ρ (j / ρ) d (j % ρ) h s) (second-place ρ (j / ρ) d (j % ρ) h s) ∙ places.entry-is ρ j
+  row-line j d h = let s = mod-lt j {m = ρ} (omega arith) in
+      ap (λ k. ρ * (k / (ρ * ρ)) + k % ρ) (row-entry j d)
+      ∙ ap₂ (λ f b. ρ * f + b) (function-place ρ (j / ρ) d (j % ρ) h s) (second-place ρ (j / ρ) d (j % ρ) h s) ∙ places.entry-is ρ j
 
   pub row-along : (j d : ℕ) → d < ρ → (ρ * ρ * (j / ρ) + ρ * d + j % ρ) / ρ % ρ ≡ d
   row-along j d h = ap (λ k. k / ρ % ρ) (row-entry j d) ∙ first-place ρ (j / ρ) d (j % ρ) h (mod-lt j {m = ρ} (omega arith))

@@ -53,7 +53,8 @@ module _ (ρ φ : ℕ) where
   unfoldable pub copiedTables : Window → ℕ → ℕ → Window
   copiedTables w x y =
       let marks = markedWith ρ (w .mark) (fallenOf (getD (w .class) x 0) (w .result) x 0) in
-      withTables w (masksThrough ρ y y (2 ^ x) (w .class)) (masksThrough ρ y y (2 ^ x) (w .unequal)) (resultsThrough ρ y y (2 ^ x) (w .result)) (masksThrough ρ y y (2 ^ x) (w .ever)) (set marks x (getD marks y false))
+      withTables w (masksThrough ρ y y (2 ^ x) (w .class)) (masksThrough ρ y y (2 ^ x) (w .unequal)) (resultsThrough ρ y y (2 ^ x) (w .result))
+      (masksThrough ρ y y (2 ^ x) (w .ever)) (set marks x (getD marks y false))
 
   unfoldable pub copiedOf : Window → ℕ → ℕ → Window
   copiedOf w x y = pick (has (getD (w .class) x 0) y) (λ _. w) λ _. copiedTables w x y
@@ -62,7 +63,8 @@ module _ (ρ φ : ℕ) where
 
   -- the classes of a and b made one
   unfoldable pub mergedOf : Window → ℕ → ℕ → Window
-  mergedOf w a b = withTables w (masksThrough ρ a b (bothClasses w a b) (w .class)) (masksThrough ρ a b (bothClasses w a b) (w .unequal)) (resultsThrough ρ a b (bothClasses w a b) (w .result)) (masksThrough ρ a b (bothClasses w a b) (w .ever)) (w .mark)
+  mergedOf w a b = withTables w (masksThrough ρ a b (bothClasses w a b) (w .class)) (masksThrough ρ a b (bothClasses w a b) (w .unequal))
+      (resultsThrough ρ a b (bothClasses w a b) (w .result)) (masksThrough ρ a b (bothClasses w a b) (w .ever)) (w .mark)
 
   -- the registers of the entry that are not in the class of its lowest register
   unfoldable pub restOf : List ℕ → ℕ → ℕ
@@ -96,7 +98,8 @@ module _ (ρ φ : ℕ) where
   settledOf w bad = pick (w .infeasible || bad) (λ _. withUnequal w (replicate ρ 0) true) λ _. w
 
   unfoldable pub equalOf : Window → ℕ → ℕ → Window
-  equalOf w x y = pick (has (getD (w .class) x 0) y) (λ _. w) λ _. let next = closedOf (ρ * ρ + 1) (mergedOf w x y) in settledOf next (clashOf (next .class) (next .unequal) ρ)
+  equalOf w x y = pick (has (getD (w .class) x 0) y) (λ _. w) λ _. let next = closedOf (ρ * ρ + 1) (mergedOf w x y) in
+      settledOf next (clashOf (next .class) (next .unequal) ρ)
 
   -- ---- an unequal test
 
@@ -114,7 +117,8 @@ module _ (ρ φ : ℕ) where
   appliedOf w x f y z =
       let one = getD (w .class) y 0 in
       let two = getD (w .class) z 0 in
-      withTables w (set (masksForgotten ρ x (w .class)) x (2 ^ x)) (masksForgotten ρ x (w .unequal)) (resultsForgotten ρ x f one two (w .result)) (masksForgotten ρ x (lineAdded ρ f one two (w .ever)))
+      withTables w (set (masksForgotten ρ x (w .class)) x (2 ^ x)) (masksForgotten ρ x (w .unequal)) (resultsForgotten ρ x f one two (w .result))
+      (masksForgotten ρ x (lineAdded ρ f one two (w .ever)))
       (set (markedWith ρ (w .mark) (fallenOf (getD (w .class) x 0) (w .result) x (argumentsOf x y z one two))) x false)
 
   -- x := f(y, z): a value that is known is copied from the register that holds it
@@ -124,7 +128,15 @@ module _ (ρ φ : ℕ) where
   -- ---- the header alone
 
   abbrev pub freshInLayout : ℕ → Window
-  freshInLayout n = record { class = table (ownOf n) ρ; unequal = replicate ρ 0; result = replicate (φ * ρ * ρ) 0; ever = replicate (φ * ρ) 0; mark = replicate ρ false; infeasible = false }
+  freshInLayout n = record {
+    class = table (ownOf n) ρ;
+    unequal = replicate ρ 0;
+    result = replicate (φ * ρ * ρ) 0;
+    ever = replicate (φ * ρ) 0;
+    mark =
+        replicate ρ false;
+    infeasible = false;
+  }
 
   -- ---- a letter
 

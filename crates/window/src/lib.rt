@@ -521,7 +521,8 @@ fn close_in(
     requires { ⌜ TableLengths (now class) (now unequal) (now result) (now ever) ⌝ }
     ensures { λ _. ⌜ ((m : List Bool) (i : Bool) →
         windowOfParts (now (class .exit)) (now (unequal .exit)) (now (result .exit)) (now (ever .exit)) m i
-        ≡ closedOf registers functions (registerPairs + 1) (windowOfParts (now (class .entry)) (now (unequal .entry)) (now (result .entry)) (now (ever .entry)) m i)) ⌝ }
+        ≡ closedOf registers functions (registerPairs + 1)
+        (windowOfParts (now (class .entry)) (now (unequal .entry)) (now (result .entry)) (now (ever .entry)) m i)) ⌝ }
     ensures long { λ _. ⌜ TableLengths (now (class .exit)) (now (unequal .exit)) (now (result .exit)) (now (ever .exit)) ⌝ }
 {
     let mut fuel: usize = PAIRS + 1;
@@ -590,7 +591,8 @@ fn equal_in(
     requires { ⌜ (x < registers) × (y < registers) × TableLengths (now class) (now unequal) (now result) (now ever) ⌝ }
     ensures { λ v. ⌜ ((m : List Bool) →
         windowOfParts (now (class .exit)) (now (unequal .exit)) (now (result .exit)) (now (ever .exit)) m v
-        ≡ equalOf registers functions (windowOfParts (now (class .entry)) (now (unequal .entry)) (now (result .entry)) (now (ever .entry)) m infeasible) x y) ⌝ }
+        ≡ equalOf registers functions (windowOfParts (now (class .entry)) (now (unequal .entry)) (now (result .entry))
+        (now (ever .entry)) m infeasible) x y) ⌝ }
     ensures long { λ _. ⌜ TableLengths (now (class .exit)) (now (unequal .exit)) (now (result .exit)) (now (ever .exit)) ⌝ }
 {
     let own = class[x];
@@ -828,7 +830,8 @@ pub fn perform_in(
 ) -> bool
     requires { ⌜ WithinPacking letter × PartLengths (now class) (now unequal) (now result) (now ever) (now mark) ⌝ }
     ensures { λ v. ⌜ windowOfParts (now (class .exit)) (now (unequal .exit)) (now (result .exit)) (now (ever .exit)) (now (mark .exit)) v
-        ≡ performOf (windowOfParts (now (class .entry)) (now (unequal .entry)) (now (result .entry)) (now (ever .entry)) (now (mark .entry)) infeasible) letter ⌝ }
+        ≡ performOf (windowOfParts (now (class .entry)) (now (unequal .entry)) (now (result .entry)) (now (ever .entry)) (now (mark .entry)) infeasible)
+        letter ⌝ }
     ensures long { λ _. ⌜ PartLengths (now (class .exit)) (now (unequal .exit)) (now (result .exit)) (now (ever .exit)) (now (mark .exit)) ⌝ }
 {
     match letter {

@@ -5,7 +5,8 @@ use native.Mathlib.Omega.{arith}
 use Rattle.base.specs.Recursion.{withinCalls, fixed}
 
 module _ {S R : Type 0} (size : S → ℕ) (none : S → R) (step : (S → R) → S → R) where
-  -- Good x r: what is known of a result r at x. `local`: a step asks only for results at a smaller size, so two ways to answer that agree there give one result.
+  -- Good x r: what is known of a result r at x. `local`: a step asks only for results at a smaller size, so two ways to answer that agree there give one
+  -- result.
   module _ (Good : S → R → Type 0) (at-none : (x : S) → Good x (none x)) (keeps : (f : S → R) → ((y : S) → Good y (f y)) → (x : S) → Good x (step f x))
       (local : (f g : S → R) → ((y : S) → Good y (f y)) → (x : S) → ((y : S) → size y < size x → f y ≡ g y) → step f x ≡ step g x) where
     run-good : (k : ℕ) (x : S) → Good x (withinCalls size none step k x)
@@ -17,7 +18,8 @@ module _ {S R : Type 0} (size : S → ℕ) (none : S → R) (step : (S → R) �
     unfolding withinCalls
     run-same zero j x a b = absurd (omega arith)
     run-same (suc k) zero x a b = absurd (omega arith)
-    run-same (suc k) (suc j) x a b = local (withinCalls size none step k) (withinCalls size none step j) (run-good k) x λ y l. run-same k j y (omega arith) (omega arith)
+    run-same (suc k) (suc j) x a b =
+        local (withinCalls size none step k) (withinCalls size none step j) (run-good k) x λ y l. run-same k j y (omega arith) (omega arith)
 
     pub fixed-good : (x : S) → Good x (fixed size none step x)
     unfolding fixed
@@ -25,4 +27,5 @@ module _ {S R : Type 0} (size : S → ℕ) (none : S → R) (step : (S → R) �
 
     pub fixed-law : (x : S) → fixed size none step x ≡ step (fixed size none step) x
     unfolding fixed
-    fixed-law x = local (withinCalls size none step (size x)) (fixed size none step) (run-good (size x)) x λ y l. run-same (size x) (suc (size y)) y l (omega arith)
+    fixed-law x = local (withinCalls size none step (size x)) (fixed size none step) (run-good (size x)) x λ y l. run-same (size x) (suc (size y)) y l
+        (omega arith)

@@ -11,7 +11,8 @@ use Rattle.base.proofs.Theory.Each.{each-none, each-more, each-skip, each-all}
 use Rattle.letters.specs.Packing.{split}
 use Rattle.letters.proofs.Theory.Packing.{split-join}
 use Rattle.letters.specs.declared.Letter.{Letter}
-use Rattle.blocks.specs.Held.{point, fields, letterOfFields, pointOfFields, pointOfCode, pointsOf, tableOfCodes, Coded, pointTable, unusedPoint, backpatched}
+use Rattle.blocks.specs.Held.{point, fields, letterOfFields, pointOfFields, pointOfCode, pointsOf, tableOfCodes, Coded, pointTable, unusedPoint}
+use Rattle.blocks.specs.Held.{backpatched}
 use Rattle.blocks.specs.Outcome.{backpatchedIn, changedTo}
 use Rattle.blocks.proofs.Theory.TableLaws.{table-push, points-at}
 use Rattle.blocks.specs.declared.PointEntry.{PointEntry}

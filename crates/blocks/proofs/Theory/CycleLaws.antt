@@ -20,7 +20,8 @@ use Rattle.tokens.specs.Tokens.{tokenAt}
 use Rattle.tokens.proofs.Theory.TokensLaws.{token-advance, token-before-end}
 use Rattle.tokens.specs.Words.{isName}
 use Rattle.tokens.specs.Words as word
-use Rattle.grammar.specs.Reading.{Got, got, exhausted, andThen, refusedToken, expect, ended, condition, endedCondition, assignment, bracesT, block, statement, closing}
+use Rattle.grammar.specs.Reading.{Got, got, exhausted, andThen, refusedToken, expect, ended, condition, endedCondition, assignment, bracesT, block, statement}
+use Rattle.grammar.specs.Reading.{closing}
 use Rattle.grammar.proofs.Theory.Advance.{condition-on, statement-on, braces-on}
 use Rattle.grammar.proofs.Theory.Enough.{IsAnswer, expect-answers, condition-answers, tested-answers, assignment-answers}
 use Rattle.phrases.specs.Codes.{plain, withoutValue, lettered, sameLetter}
@@ -34,7 +35,8 @@ use Rattle.blocks.proofs.Theory.Outcome.{within, forked, joined, branch
 use Rattle.blocks.specs.Outcome.{PlainRead, BlockRead, StatementRead, BracesRead, ElseRead, ConditionalRead, RepeatRead}
 use Rattle.blocks.proofs.Theory.OutcomeLaws.{fine-count, fine-then, fine-changed, outcome-fine, outcome-refused, changed-none, changed-some}
 use Rattle.blocks.proofs.Theory.TableLaws.{over-forked, over-range, map-append}
-use Rattle.blocks.proofs.Theory.Redirect.{blockHeld, statement-length, else-length, block-length, behind, behind-size, code-none, code-some, size-while, size-if, turned-code}
+use Rattle.blocks.proofs.Theory.Redirect.{blockHeld, statement-length, else-length, block-length, behind, behind-size, code-none, code-some, size-while}
+use Rattle.blocks.proofs.Theory.Redirect.{size-if, turned-code}
 use Rattle.blocks.specs.declared.PointEntry.{PointEntry}
 
 -- ---- the outcome of a phrase
@@ -92,7 +94,8 @@ onward-got (got b e) = refl
 onward-got (Got.refused n p) = refl
 onward-got exhausted = refl
 
-onward-behind : (x : Got Block) (b : Block) (c : Statement) → andThen (andThen x λ y e. got (c then y) e) (λ y e. got (followed b y) e) ≡ andThen x (λ y e. got (followed (behind b c) y) e)
+onward-behind : (x : Got Block) (b : Block) (c : Statement)
+    → andThen (andThen x λ y e. got (c then y) e) (λ y e. got (followed b y) e) ≡ andThen x (λ y e. got (followed (behind b c) y) e)
 onward-behind (got y e) b c = ap (λ z. got z e) (sym (followed-behind b c y))
 onward-behind (Got.refused n p) b c = refl
 onward-behind exhausted b c = refl
@@ -107,7 +110,8 @@ joined-holds b c cur₀ cur one a e F G =
     let pc = statementCode c (cur .count) in
     let n = length-append pb pc in
     let m = block-length (behind b c) base in let m₁ = behind-size b c in let m₂ = block-length b base in let m₃ = statement-length c (cur .count) in
-    fine-changed {ps = pb ++ pc} (cur .count) (each (within base (cur .count) (cur .count)) (one .points)) (blockCode (behind b c) base) (fine-then F G) (omega arith)
+    fine-changed {ps = pb ++ pc} (cur .count) (each (within base (cur .count) (cur .count)) (one .points)) (blockCode (behind b c) base) (fine-then F G)
+    (omega arith)
     λ old ds H l Q.
     let low : cur .count ≡ base + sizeBlock b = F .low (omega arith) ∙ ap (λ n. base + n) m₂ in
     let all = length-append ds (pb ++ pc) in
@@ -214,7 +218,8 @@ module _ (s rs fs ns : List ℕ) (d : ℕ) where
             not-closed : closing s rs fs ns (t .key) ≡ false
             not-closed = rw (ne-eqb (t .key) word.rbraceKey no-brace, ne-eqb (t .key) 0 no-end)
 
-        pub reached-turn : one .ok ≡ true → (r : Progress) → r ≡ joined one from (cur .count) → (length s - r .at < length s - cur .at) × BlockReached from cur₀ r
+        pub reached-turn : one .ok ≡ true → (r : Progress) → r ≡ joined one from (cur .count)
+            → (length s - r .at < length s - cur .at) × BlockReached from cur₀ r
         unfolding joined stepped
         reached-turn h r u =
             let (x, y, z) = statement-at h in
@@ -301,7 +306,16 @@ module _ (s rs fs ns : List ℕ) (t : Token) (st : Progress) where
     plain-assign h r j p q = record {
       read = λ d e n₄ n₅. record {
         outcome = λ k l.
-            rw (← e, ← i, ne-eqb _ word.skipKey n₁, ne-eqb _ word.assumeKey n₂, ne-eqb _ word.assertKey n₃, ne-eqb _ word.ifKey n₄, ne-eqb _ word.whileKey n₅, j)
+            rw (
+              ← e,
+              ← i,
+              ne-eqb _ word.skipKey n₁,
+              ne-eqb _ word.assumeKey n₂,
+              ne-eqb _ word.assertKey n₃,
+              ne-eqb _ word.ifKey n₄,
+              ne-eqb _ word.whileKey n₅,
+              j,
+            )
             (outcome-map (λ c _. waiting 0 c ∷ []) statementCode st r (assignment s rs fs ns (st .at)) perform (λ _. refl)
             (settled-outcome sameLetter 0 (assignment s rs fs ns (st .at)) h st r (assignment-answers s rs fs ns (st .at)) p q));
       };
@@ -312,7 +326,16 @@ module _ (s rs fs ns : List ℕ) (t : Token) (st : Progress) where
     plain-unfit h r j p q = record {
       read = λ d e n₄ n₅. record {
         outcome = λ k l.
-            rw (← e, ← i, ne-eqb _ word.skipKey n₁, ne-eqb _ word.assumeKey n₂, ne-eqb _ word.assertKey n₃, ne-eqb _ word.ifKey n₄, ne-eqb _ word.whileKey n₅, j)
+            rw (
+              ← e,
+              ← i,
+              ne-eqb _ word.skipKey n₁,
+              ne-eqb _ word.assumeKey n₂,
+              ne-eqb _ word.assertKey n₃,
+              ne-eqb _ word.ifKey n₄,
+              ne-eqb _ word.whileKey n₅,
+              j,
+            )
             (rw p at q);
       };
     }
@@ -335,7 +358,15 @@ module _ (s rs fs ns : List ℕ) (d : ℕ) (st : Progress) (t : Token) (e : t �
     statement-while i C = record {
       outcome = λ k l.
           let (x, y) = token-on s (st .at) t e (omega arith) in
-          rw (← e, ap (λ k. eqb k word.skipKey) i, ap (λ k. eqb k word.assumeKey) i, ap (λ k. eqb k word.assertKey) i, ap (λ k. eqb k word.ifKey) i, eq-eqb _ word.whileKey i)
+          rw (
+            ← e,
+            ap (λ k. eqb k word.skipKey) i,
+            ap (λ k. eqb k word.assumeKey) i,
+            ap (λ k. eqb k word.assertKey) i,
+            ap
+                (λ k. eqb k word.ifKey) i,
+            eq-eqb _ word.whileKey i,
+          )
           (outcome-behind statementCode st p r (whileAt s rs fs ns d k (t .end)) (t .end) (moved-count v f) f
           (subst (λ n. ReadAs statementCode p r (whileAt s rs fs ns d k n)) (f .at) (C .outcome k (let z = f .at in omega arith))));
     }
@@ -345,7 +376,8 @@ module _ (s rs fs ns : List ℕ) (d : ℕ) (st : Progress) (t : Token) (e : t �
   pub braces-deep : (r : Progress) → t .key ≡ word.lbraceKey → d ≡ 0 → RefusedAt r nestingTooDeep (t .start) → BracesRead s rs fs ns d st r
   braces-deep r h z o = record { outcome = λ k l. rw (z, ← e, eq-eqb _ word.lbraceKey h) o }
 
-  pub braces-unfit : (h : number.GotNumber) (r : Progress) → (t .key ≡ word.lbraceKey → ⊥) → h ≡ plain (refusedToken t) → Passed st r h → BracesRead s rs fs ns d st r
+  pub braces-unfit : (h : number.GotNumber) (r : Progress) → (t .key ≡ word.lbraceKey → ⊥) → h ≡ plain (refusedToken t) → Passed st r h
+      → BracesRead s rs fs ns d st r
   braces-unfit h r n p q = record { outcome = λ k l. go k d }
     where
       go : (k d : ℕ) → ReadAs blockCode st r (bracesT s rs fs ns (innerBlock s rs fs ns d k) d (tokenAt s (st .at)))
@@ -375,7 +407,8 @@ module _ (s rs fs ns : List ℕ) (d : ℕ) (st : Progress) (t : Token) (e : t �
           rw (opened-brace k (d - 1) z) (outcome-refused blockCode blockCode st st q (block s rs fs ns k (d - 1) (t .end)) _ (block-inside k l) i);
     }
 
-    pub braces-read : q .ok ≡ true → (o : number.GotNumber) (r : Progress) → o ≡ withoutValue (expect s word.rbraceKey (q .at)) → Passed q r o → BracesRead s rs fs ns d st r
+    pub braces-read : q .ok ≡ true → (o : number.GotNumber) (r : Progress) → o ≡ withoutValue (expect s word.rbraceKey (q .at)) → Passed q r o
+        → BracesRead s rs fs ns d st r
     braces-read i o r g u = record {
       outcome = λ k l.
           let z : d ≡ suc (d - 1) = omega arith in
@@ -384,7 +417,8 @@ module _ (s rs fs ns : List ℕ) (d : ℕ) (st : Progress) (t : Token) (e : t �
           (go b m j (expect s word.rbraceKey m) (expect-answers s word.rbraceKey m) (g ∙ ap (λ n. withoutValue (expect s word.rbraceKey n)) (j .at)));
     }
       where
-        go : (b : Block) (m : ℕ) → Fine st q (blockCode b (st .count)) m → (x : Got (Unit {0})) → IsAnswer x → o ≡ withoutValue x → ReadAs blockCode st r (andThen x λ _ e. got b e)
+        go : (b : Block) (m : ℕ) → Fine st q (blockCode b (st .count)) m → (x : Got (Unit {0})) → IsAnswer x → o ≡ withoutValue x
+            → ReadAs blockCode st r (andThen x λ _ e. got b e)
         go b m y (got v e) a g = subst (λ ps. Fine st r ps e) (append-nil (blockCode b (st .count))) (fine-then y (rw g at u))
         go b m y (Got.refused n v) a g = rw g at u
         go b m y exhausted a g = absurd (a refl)
@@ -446,7 +480,8 @@ looped-fine c b st p y a e F G =
     let all = length-append ds (w ∷ pb) in let one = length-append ds (w ∷ []) in
     let count = Q .count in let start = H .count in
     let end : y .count ≡ base + 1 + sizeBlock b = omega arith in
-    let body : map (redirected base) pb ≡ blockHeld b (base + 1) base = ap (λ n. map (redirected base) (blockCode b n)) low ∙ turned-code b base (omega arith) in
+    let body : map (redirected base) pb ≡ blockHeld b (base + 1) base =
+    ap (λ n. map (redirected base) (blockCode b n)) low ∙ turned-code b base (omega arith) in
     subst (λ x. HoldsPoints old x (ds ++ statementCode (while c b) base)) (changed-some y base _ (omega arith) (omega arith))
     (record {
       size = H .size;

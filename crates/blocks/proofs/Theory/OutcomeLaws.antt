@@ -140,7 +140,8 @@ module _ (q : Progress) (n : ℕ) (ps : List PointEntry) where
 
 -- the same reading, with other points, as many
 pub fine-changed : {st q : Progress} {ps : List PointEntry} {e : ℕ} (n : ℕ) (xs qs : List PointEntry) → Fine st q ps e → length qs ≡ length ps
-    → ((old ds : List PointEntry) → HoldsPoints old st ds → length ds + length ps ≤ mostPoints → HoldsPoints old q (ds ++ ps) → HoldsPoints old (changed q n xs) (ds ++ qs))
+    → ((old ds : List PointEntry) → HoldsPoints old st ds → length ds + length ps ≤ mostPoints → HoldsPoints old q (ds ++ ps)
+    → HoldsPoints old (changed q n xs) (ds ++ qs))
     → Fine st (changed q n xs) qs e
 fine-changed {st} {q} {ps} n xs qs f h k = record {
   ok = f .ok;

@@ -58,7 +58,8 @@ mutual
       λ i. point 2 (test c) ((turned-entry f base n (base + 1) (omega arith) ∙ ap (entry n (base + 1)) low) i) (backpatched f g) ∷
       (redirect-block f base b (base + 1) (omega arith) ∙ ap (blockHeld b (base + 1)) low) i
 
-  pub redirect-else : (f g : ℕ) (e : Else) (base : ℕ) → base + sizeElse e ≤ mostPoints → map (redirected f) (elseHeld e base g) ≡ elseHeld e base (backpatched f g)
+  pub redirect-else : (f g : ℕ) (e : Else) (base : ℕ) → base + sizeElse e ≤ mostPoints
+      → map (redirected f) (elseHeld e base g) ≡ elseHeld e base (backpatched f g)
   redirect-else f g absent base h = refl
   redirect-else f g (present b) base h = redirect-block f g b base h
 
@@ -69,7 +70,8 @@ mutual
       let n = sizeBlock b in let m = base + sizeStatement c in
       ap (map (redirected f)) (map-append heldPoint (compile c base (entry n m g)) (compileBlock b m g))
       ∙ map-append (redirected f) (statementHeld c base (entry n m g)) (blockHeld b m g)
-      ∙ ap (λ l. l ++ map (redirected f) (blockHeld b m g)) (redirect-statement f (entry n m g) c base (omega arith) ∙ ap (statementHeld c base) (turned-entry f g n m (omega arith)))
+      ∙ ap (λ l. l ++ map (redirected f) (blockHeld b m g))
+      (redirect-statement f (entry n m g) c base (omega arith) ∙ ap (statementHeld c base) (turned-entry f g n m (omega arith)))
       ∙ ap (λ l. statementHeld c base (entry n m (backpatched f g)) ++ l) (redirect-block f g b m (omega arith))
       ∙ sym (map-append heldPoint (compile c base (entry n m (backpatched f g))) (compileBlock b m (backpatched f g)))
 
@@ -103,7 +105,8 @@ entry-none : (b g : ℕ) → entry 0 b g ≡ g
 unfolding entry
 entry-none b g = refl
 
-compile-behind : (b : Block) (c : Statement) (base g : ℕ) → compileBlock (behind b c) base g ≡ compileBlock b base (entry (sizeStatement c) (base + sizeBlock b) g) ++ compile c (base + sizeBlock b) g
+compile-behind : (b : Block) (c : Statement) (base g : ℕ)
+    → compileBlock (behind b c) base g ≡ compileBlock b base (entry (sizeStatement c) (base + sizeBlock b) g) ++ compile c (base + sizeBlock b) g
 unfolding behind compile sizeStatement
 compile-behind empty c base g =
     let e : base + 0 ≡ base = omega arith in
@@ -116,12 +119,15 @@ compile-behind (x then b) c base g =
     let n = base + sizeStatement x in
     let e : n + sizeBlock b ≡ base + (sizeStatement x + sizeBlock b) = omega arith in
     (λ i. compile x base (entry (behind-size b c i) n g) ++ compile-behind b c n g i)
-    ∙ ap (λ k. compile x base k ++ (compileBlock b n (entry (sizeStatement c) (n + sizeBlock b) g) ++ compile c (n + sizeBlock b) g)) (points-laws.entry-then (sizeBlock b) (sizeStatement c) n g)
-    ∙ sym (append-assoc (compile x base (entry (sizeBlock b) n (entry (sizeStatement c) (n + sizeBlock b) g))) (compileBlock b n (entry (sizeStatement c) (n + sizeBlock b) g)) (compile c (n + sizeBlock b) g))
+    ∙ ap (λ k. compile x base k ++ (compileBlock b n (entry (sizeStatement c) (n + sizeBlock b) g) ++ compile c (n + sizeBlock b) g))
+    (points-laws.entry-then (sizeBlock b) (sizeStatement c) n g)
+    ∙ sym (append-assoc (compile x base (entry (sizeBlock b) n (entry (sizeStatement c) (n + sizeBlock b) g)))
+    (compileBlock b n (entry (sizeStatement c) (n + sizeBlock b) g)) (compile c (n + sizeBlock b) g))
     ∙ ap (λ k. (compile x base (entry (sizeBlock b) n (entry (sizeStatement c) k g)) ++ compileBlock b n (entry (sizeStatement c) k g)) ++ compile c k g) e
 
 -- a statement with no point changes nothing
-pub code-none : (b : Block) (c : Statement) (base : ℕ) → sizeStatement c ≡ 0 → blockCode (behind b c) base ≡ blockCode b base ++ statementCode c (base + sizeBlock b)
+pub code-none : (b : Block) (c : Statement) (base : ℕ) → sizeStatement c ≡ 0
+    → blockCode (behind b c) base ≡ blockCode b base ++ statementCode c (base + sizeBlock b)
 unfolding blockCode statementCode
 code-none b c base z =
     ap (map heldPoint) (compile-behind b c base unknown)

@@ -67,9 +67,11 @@ module _ (from to f : ℕ) where
   inside : (i : ℕ) (mid post : List PointEntry) → from ≤ i → i + length mid ≡ to → eachFrom (within from to f) i (mid ++ post) ≡ map (redirected f) mid ++ post
   unfolding eachFrom
   inside i [] post h g = behind i post h (omega arith)
-  inside i (x ∷ mid) post h g = rw (le-ltb i from h, lt-ltb i to (omega arith)) (ap (λ l. redirected f x ∷ l) (inside (suc i) mid post (omega arith) (omega arith)))
+  inside i (x ∷ mid) post h g = rw (le-ltb i from h, lt-ltb i to (omega arith))
+      (ap (λ l. redirected f x ∷ l) (inside (suc i) mid post (omega arith) (omega arith)))
 
-  before : (i : ℕ) (pre mid post : List PointEntry) → i + length pre ≡ from → from + length mid ≡ to → eachFrom (within from to f) i (pre ++ (mid ++ post)) ≡ pre ++ (map (redirected f) mid ++ post)
+  before : (i : ℕ) (pre mid post : List PointEntry) → i + length pre ≡ from → from + length mid ≡ to
+      → eachFrom (within from to f) i (pre ++ (mid ++ post)) ≡ pre ++ (map (redirected f) mid ++ post)
   unfolding eachFrom
   before i [] mid post h g = inside i mid post (omega arith) (omega arith)
   before i (x ∷ pre) mid post h g = rw (lt-ltb i from (omega arith)) (ap (λ l. x ∷ l) (before (suc i) pre mid post (omega arith) g))
@@ -78,7 +80,8 @@ each-from : {A : Type 0} (g : ℕ → A → A) (d : A) (xs : List A) → each g 
 unfolding eachFrom
 each-from {A = A} g d xs =
     let n : length (each g xs) ≡ length xs = sym (ap length (each-all g (length xs) xs (omega arith))) ∙ each-length g (length xs) xs in
-    ext-getD d (each g xs) (eachFrom g 0 xs) (n ∙ sym (from-length 0 xs)) λ k h. each-at g k xs d (omega arith) ∙ ap (λ i. g i (getD xs k d)) (sym (zero-add k)) ∙ sym (from-at 0 k xs (omega arith))
+    ext-getD d (each g xs) (eachFrom g 0 xs) (n ∙ sym (from-length 0 xs)) λ k h. each-at g k xs d (omega arith) ∙ ap (λ i. g i (getD xs k d)) (sym (zero-add k))
+    ∙ sym (from-at 0 k xs (omega arith))
   where
     from-length : (i : ℕ) (xs : List A) → length (eachFrom g i xs) ≡ length xs
     from-length i [] = refl

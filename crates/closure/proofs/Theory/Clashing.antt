@@ -25,13 +25,17 @@ zeros (suc n) zero = refl
 zeros (suc n) (suc q) = zeros n q
 
 module _ (representative left right : List ℕ) (m : ℕ) where
-  pub parts-more : (i a b : ℕ) → Parts representative left right i → a ≡ getD left i 0 → b ≡ getD right i 0 → getD representative a 0 ≢ getD representative b 0 → Parts representative left right (i + 1)
+  pub parts-more : (i a b : ℕ) → Parts representative left right i → a ≡ getD left i 0 → b ≡ getD right i 0 → getD representative a 0 ≢ getD representative b 0
+      → Parts representative left right (i + 1)
   unfolding Parts
   parts-more i a b h p q x k l = byTest (eqb k i)
-      (λ t z. let e = eqb-true k i t in x (ap (λ v. getD representative v 0) (p ∙ ap (λ v. getD left v 0) (sym e)) ∙ z ∙ ap (λ v. getD representative v 0) (sym (q ∙ ap (λ v. getD right v 0) (sym e)))))
+      (λ t z. let e = eqb-true k i t in
+      x (ap (λ v. getD representative v 0) (p ∙ ap (λ v. getD left v 0) (sym e)) ∙ z
+      ∙ ap (λ v. getD representative v 0) (sym (q ∙ ap (λ v. getD right v 0) (sym e)))))
       (λ t. let y : k ≢ i = eqb-false k i t in h k (omega arith))
 
-  pub clash-hit : (i a b : ℕ) → i < m → a ≡ getD left i 0 → b ≡ getD right i 0 → getD representative a 0 ≡ getD representative b 0 → Clashes representative left right m true
+  pub clash-hit : (i a b : ℕ) → i < m → a ≡ getD left i 0 → b ≡ getD right i 0 → getD representative a 0 ≡ getD representative b 0
+      → Clashes representative left right m true
   clash-hit i a b h p q e = clashes i h (ap (λ v. getD representative v 0) (sym p) ∙ e ∙ ap (λ v. getD representative v 0) q)
 
   pub clash-end : (i : ℕ) → Parts representative left right i → m ≤ i → Clashes representative left right m false

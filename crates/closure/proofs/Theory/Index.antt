@@ -76,7 +76,8 @@ module _ (head₀ link : List ℕ) (bound : ℕ) (w : Chains mostTerms head₀ l
     most = omega arith;
     long = simp length-set (c .long);
     past = λ b l. byTest (eqb b i)
-        (λ t. let q = eqb-true b i t in subst (Cut link (getD head₀ b 0) bound) (sym (ap (λ b. getD (set head i v) b 0) q ∙ getD-set-same head i v 0 (let m = c .long in omega arith)))
+        (λ t. let q = eqb-true b i t in
+        subst (Cut link (getD head₀ b 0) bound) (sym (ap (λ b. getD (set head i v) b 0) q ∙ getD-set-same head i v 0 (let m = c .long in omega arith)))
         (subst (λ s. Cut link s bound v) (e ∙ c .rest i (omega arith) ∙ ap (λ b. getD head₀ b 0) (sym q)) k))
         (λ t. let d : b ≢ i = eqb-false b i t in subst (Cut link (getD head₀ b 0) bound) (sym (getD-set-other head i b v 0 d)) (c .past b (omega arith)));
     rest = λ b l. let d : b ≢ i = λ z. omega arith in getD-set-other head i b v 0 d ∙ c .rest b (omega arith);
@@ -125,11 +126,13 @@ module _ (head₀ link : List ℕ) (bound : ℕ) where
   undoing-start i w h = record { least = h; chains = w; keeps = λ registers b o k l. k; back = λ registers b o s k. k }
 
   pub undoing-end : (head : List ℕ) (k : ℕ) → Undoing head₀ link bound head k → k ≤ bound → CutTo head₀ link bound head
-  undoing-end head k u h = let l = u .least in let e : k ≡ bound = omega arith in record { chains = subst (λ k. Chains k head link) e (u .chains); keeps = u .keeps; back = u .back }
+  undoing-end head k u h = let l = u .least in let e : k ≡ bound = omega arith in
+      record { chains = subst (λ k. Chains k head link) e (u .chains); keeps = u .keeps; back = u .back }
 
   -- application j, the last that is left, is taken out of the chain of its signature
   module _ (signature : ℕ → ℕ) (registers n : ℕ) (all : CompleteIndex signature registers n head₀ link) (some : 1 ≤ registers) (first : registers ≤ bound)
-      (head : List ℕ) (k j chain v : ℕ) (u : Undoing head₀ link bound head k) (h : bound < k) (ej : j ≡ k - 1) (ec : chain ≡ signature j % chainCount) (small : chain < chainCount) (ev : v ≡ withoutLast (getD head chain 0) (getD link j 0) j) where
+      (head : List ℕ) (k j chain v : ℕ) (u : Undoing head₀ link bound head k) (h : bound < k) (ej : j ≡ k - 1) (ec : chain ≡ signature j % chainCount)
+      (small : chain < chainCount) (ev : v ≡ withoutLast (getD head chain 0) (getD link j 0) j) where
     stored : getD (set head chain v) chain 0 ≡ v
     stored = getD-set-same head chain v 0 (let l = u .chains .head-long in omega arith)
 
@@ -173,15 +176,20 @@ module _ (head₀ link : List ℕ) (bound : ℕ) where
         head-long = simp length-set (u .chains .head-long);
         link-long = u .chains .link-long;
         heads = λ b. byTest (eqb b chain)
-            (λ t. let e : getD (set head chain v) b 0 ≡ v = ap (λ b. getD (set head chain v) b 0) (eqb-true b chain t) ∙ stored in let l = stored-less in omega arith)
+            (λ t. let e : getD (set head chain v) b 0 ≡ v = ap (λ b. getD (set head chain v) b 0) (eqb-true b chain t) ∙ stored in let l = stored-less in
+            omega arith)
             (λ t. let e = other b (eqb-false b chain t) in let l = other-less b (eqb-false b chain t) in omega arith);
         links = u .chains .links;
       };
       keeps = λ r b o z l. byTest (eqb b chain)
-          (λ t. let e = eqb-true b chain t in subst (λ i. ChainHas r link i o) (sym (ap (λ b. getD (set head chain v) b 0) e ∙ stored)) (kept r o l (subst (λ b. ChainHas r link (getD head b 0) o) e (u .keeps r b o z l))))
+          (λ t. let e = eqb-true b chain t in
+          subst (λ i. ChainHas r link i o) (sym (ap (λ b. getD (set head chain v) b 0) e ∙ stored))
+          (kept r o l (subst (λ b. ChainHas r link (getD head b 0) o) e (u .keeps r b o z l))))
           (λ t. subst (λ i. ChainHas r link i o) (sym (other b (eqb-false b chain t))) (u .keeps r b o z l));
       back = λ r b o s z. u .back r b o s (byTest (eqb b chain)
-          (λ t. let e = eqb-true b chain t in subst (λ b. ChainHas r link (getD head b 0) o) (sym e) (came r o s (subst (λ i. ChainHas r link i o) (ap (λ b. getD (set head chain v) b 0) e ∙ stored) z)))
+          (λ t. let e = eqb-true b chain t in
+          subst (λ b. ChainHas r link (getD head b 0) o) (sym e)
+          (came r o s (subst (λ i. ChainHas r link i o) (ap (λ b. getD (set head chain v) b 0) e ∙ stored) z)))
           (λ t. subst (λ i. ChainHas r link i o) (other b (eqb-false b chain t)) z));
     }
 
@@ -220,7 +228,8 @@ pub chains-widen : (n : ℕ) (head link : List ℕ) → Chains n head link → n
 chains-widen n head link w h = record { head-long = w .head-long; link-long = w .link-long; heads = λ b. let l = w .heads b in omega arith; links = w .links }
 
 -- ---- an entry
-module _ (signature : ℕ → ℕ) (registers n c : ℕ) (head link : List ℕ) (w : Chains n head link) (some : 1 ≤ registers) (more : registers ≤ n) (within : n < mostTerms) where
+module _ (signature : ℕ → ℕ) (registers n c : ℕ) (head link : List ℕ) (w : Chains n head link) (some : 1 ≤ registers) (more : registers ≤ n)
+    (within : n < mostTerms) where
   more-chains : Chains (suc n) head link
   more-chains = record { head-long = w .head-long; link-long = w .link-long; heads = λ b. let h = w .heads b in omega arith; links = w .links }
 
@@ -229,7 +238,8 @@ module _ (signature : ℕ → ℕ) (registers n c : ℕ) (head link : List ℕ) 
   upTo P f p k h = byTest (eqb k n) (λ t. subst P (sym (eqb-true k n t)) p) (λ t. let d : k ≢ n = eqb-false k n t in f k (omega arith))
 
   -- the applications of a bucket are below n, and so have the signatures that they had
-  still-only : (signature′ : ℕ → ℕ) → ((k : ℕ) → k < n → signature′ k ≡ signature k) → CompleteIndex signature registers n head link → (q o : ℕ) → ChainHas registers link (getD head q 0) o → signature′ o % chainCount ≡ q
+  still-only : (signature′ : ℕ → ℕ) → ((k : ℕ) → k < n → signature′ k ≡ signature k) → CompleteIndex signature registers n head link → (q o : ℕ)
+      → ChainHas registers link (getD head q 0) o → signature′ o % chainCount ≡ q
   still-only signature′ same all q o k =
       let a = holds-most registers link (getD head q 0) o (w .links) some k in
       let b = w .heads q in
@@ -247,13 +257,21 @@ module _ (signature : ℕ → ℕ) (registers n c : ℕ) (head link : List ℕ) 
       only = still-only signature′ same all;
       has = λ k p h. upTo
           (λ k. registers ≤ k → (o : ℕ) × (o ≤ k) × ChainHas registers link (getD head (signature′ k % chainCount) 0) o × (signature′ o ≡ signature′ k))
-          (λ k h p. let (o, b, u, v) = all .has k p h in (o, b, subst (λ s. ChainHas registers link (getD head (s % chainCount) 0) o) (sym (same k h)) u, same o (omega arith) ∙ v ∙ sym (same k h)))
-          (λ p. let b = f .below in (r, omega arith, subst (λ s. ChainHas registers link (getD head (s % chainCount) 0) r) (sym e) ((f .hit l) .1), same r b ∙ (f .hit l) .0 ∙ sym e))
+          (λ k h p. let (o, b, u, v) = all .has k p h in
+          (o, b, subst (λ s. ChainHas registers link (getD head (s % chainCount) 0) o) (sym (same k h)) u, same o (omega arith) ∙ v ∙ sym (same k h)))
+          (λ p. let b = f .below in (
+            r,
+            omega arith,
+            subst (λ s. ChainHas registers link (getD head (s % chainCount) 0) r) (sym e) ((f .hit l) .1),
+            same r b
+                ∙ (f .hit l) .0 ∙ sym e,
+          ))
           k h p;
     };
   }
 
-  pub entered-known : (start r : ℕ) → start ≡ getD head (c % chainCount) 0 → Found signature registers n link start c r → registers ≤ r → Entered signature registers n c head link r head link
+  pub entered-known : (start r : ℕ) → start ≡ getD head (c % chainCount) 0 → Found signature registers n link start c r → registers ≤ r
+      → Entered signature registers n c head link r head link
   entered-known start r e f l = known r (subst (λ s. Found signature registers n link s c r) e f) l
 
   module _ (b : ℕ) (eb : b ≡ c % chainCount) (small : b < chainCount) where
@@ -268,14 +286,17 @@ module _ (signature : ℕ → ℕ) (registers n c : ℕ) (head link : List ℕ) 
     held i o h (there l k) =
         let d : i ≢ n = λ e. omega arith in
         let g = w .links .lower i (omega arith) in
-        there l (subst (λ j. ChainHas registers (set link n (getD head b 0)) j o) (sym (getD-set-other link n i (getD head b 0) 0 d)) (held (getD link i 0) o (omega arith) k))
+        there l (subst (λ j. ChainHas registers (set link n (getD head b 0)) j o) (sym (getD-set-other link n i (getD head b 0) 0 d))
+        (held (getD link i 0) o (omega arith) k))
 
     -- what a bucket had it still has
     bucket : (q o : ℕ) → ChainHas registers link (getD head q 0) o → ChainHas registers (set link n (getD head b 0)) (getD (set head b n) q 0) o
     bucket q o k = byTest (eqb q b)
         (λ t. let e = eqb-true q b t in subst (λ j. ChainHas registers (set link n (getD head b 0)) j o) (sym (ap (λ q. getD (set head b n) q 0) e ∙ headed))
-        (there more (subst (λ j. ChainHas registers (set link n (getD head b 0)) j o) (ap (λ q. getD head q 0) e ∙ sym linked) (held (getD head q 0) o (w .heads q) k))))
-        (λ t. subst (λ j. ChainHas registers (set link n (getD head b 0)) j o) (sym (getD-set-other head b q n 0 (eqb-false q b t))) (held (getD head q 0) o (w .heads q) k))
+        (there more (subst (λ j. ChainHas registers (set link n (getD head b 0)) j o) (ap (λ q. getD head q 0) e ∙ sym linked)
+        (held (getD head q 0) o (w .heads q) k))))
+        (λ t. subst (λ j. ChainHas registers (set link n (getD head b 0)) j o) (sym (getD-set-other head b q n 0 (eqb-false q b t)))
+        (held (getD head q 0) o (w .heads q) k))
 
     -- below n chains are as they were
     unheld : (i o : ℕ) → i < n → ChainHas registers (set link n (getD head b 0)) i o → ChainHas registers link i o
@@ -288,7 +309,9 @@ module _ (signature : ℕ → ℕ) (registers n c : ℕ) (head link : List ℕ) 
 
     from-new : (i o : ℕ) → i ≡ n → ChainHas registers (set link n (getD head b 0)) i o → (o ≡ n) ⊎ ChainHas registers link (getD head b 0) o
     from-new i o e (here l) = inl e
-    from-new i o e (there l k) = inr (unheld (getD head b 0) o (w .heads b) (subst (λ j. ChainHas registers (set link n (getD head b 0)) j o) (ap (λ i. getD (set link n (getD head b 0)) i 0) e ∙ linked) k))
+    from-new i o e (there l k) = inr
+        (unheld (getD head b 0) o (w .heads b)
+        (subst (λ j. ChainHas registers (set link n (getD head b 0)) j o) (ap (λ i. getD (set link n (getD head b 0)) i 0) e ∙ linked) k))
 
     new-only : (signature′ : ℕ → ℕ) → ((k : ℕ) → k < n → signature′ k ≡ signature k) → signature′ n ≡ c → CompleteIndex signature registers n head link
         → (q o : ℕ) → ChainHas registers (set link n (getD head b 0)) (getD (set head b n) q 0) o → signature′ o % chainCount ≡ q
@@ -297,9 +320,12 @@ module _ (signature : ℕ → ℕ) (registers n c : ℕ) (head link : List ℕ) 
           | inl y ↦ ap (λ o. signature′ o % chainCount) y ∙ ap (λ s. s % chainCount) e ∙ sym eb ∙ sym z
           | inr y ↦ still-only signature′ same all b o y ∙ sym z
         ])
-        (λ t. still-only signature′ same all q o (unheld (getD head q 0) o (w .heads q) (subst (λ j. ChainHas registers (set link n (getD head b 0)) j o) (getD-set-other head b q n 0 (eqb-false q b t)) k)))
+        (λ t. still-only signature′ same all q o
+        (unheld (getD head q 0) o (w .heads q)
+        (subst (λ j. ChainHas registers (set link n (getD head b 0)) j o) (getD-set-other head b q n 0 (eqb-false q b t)) k)))
 
-    new : (r : ℕ) → Found signature registers n link (getD head (c % chainCount) 0) c r → r < registers → Entered signature registers n c head link n (set head b n) (set link n (getD head b 0))
+    new : (r : ℕ) → Found signature registers n link (getD head (c % chainCount) 0) c r → r < registers
+        → Entered signature registers n c head link n (set head b n) (set link n (getD head b 0))
     new r f l = record {
       least = more;
       most = omega arith;
@@ -315,18 +341,35 @@ module _ (signature : ℕ → ℕ) (registers n c : ℕ) (head link : List ℕ) 
             (λ t. let e = getD-set-other head b q n 0 (eqb-false q b t) in let h = w .heads q in omega arith);
         links = record {
           lower = λ i p. byTest (eqb i n)
-              (λ t. let s = eqb-true i n t in let e : getD (set link n (getD head b 0)) i 0 ≡ getD head b 0 = ap (λ i. getD (set link n (getD head b 0)) i 0) s ∙ linked in let h = w .heads b in omega arith)
+              (λ t. let s = eqb-true i n t in
+              let e : getD (set link n (getD head b 0)) i 0 ≡ getD head b 0 = ap (λ i. getD (set link n (getD head b 0)) i 0) s ∙ linked in
+              let h = w .heads b in omega arith)
               (λ t. let e = getD-set-other link n i (getD head b 0) 0 (eqb-false i n t) in let h = w .links .lower i p in omega arith);
         };
       };
       completes = λ signature′ same e all. record {
         only = new-only signature′ same e all;
-        has = λ k p h. upTo (λ k. registers ≤ k → (o : ℕ) × (o ≤ k) × ChainHas registers (set link n (getD head b 0)) (getD (set head b n) (signature′ k % chainCount) 0) o × (signature′ o ≡ signature′ k))
-            (λ k h p. let (o, s, u, v) = all .has k p h in (o, s, bucket (signature′ k % chainCount) o (subst (λ s. ChainHas registers link (getD head (s % chainCount) 0) o) (sym (same k h)) u), same o (omega arith) ∙ v ∙ sym (same k h)))
-            (λ p. (n, omega arith, subst (λ j. ChainHas registers (set link n (getD head b 0)) j n) (sym (ap (λ s. getD (set head b n) (s % chainCount) 0) e ∙ ap (λ q. getD (set head b n) q 0) (sym eb) ∙ headed)) (here more), refl))
+        has = λ k p h. upTo (λ k. registers ≤ k
+            → (o : ℕ) × (o ≤ k) × ChainHas registers (set link n (getD head b 0)) (getD (set head b n) (signature′ k % chainCount) 0) o
+            × (signature′ o ≡ signature′ k))
+            (λ k h p. let (o, s, u, v) = all .has k p h in (
+              o,
+              s,
+              bucket (signature′ k % chainCount) o (subst (λ s. ChainHas registers link (getD head (s % chainCount) 0) o) (sym (same k h)) u),
+              same o
+                  (omega arith) ∙ v ∙ sym (same k h),
+            ))
+            (λ p. (
+              n,
+              omega arith,
+              subst (λ j. ChainHas registers (set link n (getD head b 0)) j n)
+                  (sym (ap (λ s. getD (set head b n) (s % chainCount) 0) e ∙ ap (λ q. getD (set head b n) q 0) (sym eb) ∙ headed)) (here more),
+              refl,
+            ))
             k h p;
       };
     }
 
-    pub entered-new : (start r : ℕ) → start ≡ getD head (c % chainCount) 0 → Found signature registers n link start c r → r < registers → Entered signature registers n c head link n (set head b n) (set link n (getD head b 0))
+    pub entered-new : (start r : ℕ) → start ≡ getD head (c % chainCount) 0 → Found signature registers n link start c r → r < registers
+        → Entered signature registers n c head link n (set head b n) (set link n (getD head b 0))
     entered-new start r e f l = new r (subst (λ s. Found signature registers n link s c r) e f) l

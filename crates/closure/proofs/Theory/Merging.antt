@@ -25,7 +25,8 @@ module _ (function first second : ℕ → ℕ) (registers n : ℕ) (old : ℕ �
   propagating-start = record { sound = λ i j h k e. Entailed.already h k e; keeps = λ i j h k e. e }
 
   -- one union, of the classes of a and b: from and to are these two, in some order
-  pub propagating-union : (representative representative′ : ℕ → ℕ) (a b from to : ℕ) → Propagating function first second registers n old x y representative → Entailed function first second registers n old x y a b → a < n → b < n
+  pub propagating-union : (representative representative′ : ℕ → ℕ) (a b from to : ℕ) → Propagating function first second registers n old x y representative
+      → Entailed function first second registers n old x y a b → a < n → b < n
       → ((from ≡ representative a) × (to ≡ representative b)) ⊎ ((from ≡ representative b) × (to ≡ representative a))
       → ((k : ℕ) → k < n → representative′ k ≡ relabelOf from to (representative k)) → Propagating function first second registers n old x y representative′
   propagating-union representative representative′ a b from to w f la lb o r = record {
@@ -42,7 +43,8 @@ module _ (function first second : ℕ → ℕ) (registers n : ℕ) (old : ℕ �
         | inr (p, q) ↦ Entailed.chained (w .sound i b h lb (e ∙ p)) (Entailed.chained (Entailed.reversed f) (w .sound a j la k (sym (g ∙ q))))
       ]
 
-      sound′ : (i j : ℕ) → i < n → j < n → {v u : ℕ} → Relabeled from to (representative i) v → Relabeled from to (representative j) u → v ≡ u → Entailed function first second registers n old x y i j
+      sound′ : (i j : ℕ) → i < n → j < n → {v u : ℕ} → Relabeled from to (representative i) v → Relabeled from to (representative j) u → v ≡ u
+          → Entailed function first second registers n old x y i j
       sound′ i j h k (moved e) (moved g) p = w .sound i j h k (e ∙ sym g)
       sound′ i j h k (moved e) (stays g) p = cross i j h k e (sym p)
       sound′ i j h k (stays e) (moved g) p = Entailed.reversed (cross j i k h g p)

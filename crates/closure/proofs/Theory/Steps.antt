@@ -15,23 +15,33 @@ use Rattle.closure.specs.Represents.{RepresentsState, Sides}
 use Rattle.closure.proofs.Theory.Represents.{represents-equal, represents-apply, Looked, known, fresh, infeasible-i, feasible-i}
 use Rattle.closure.specs.Arrays.{entryAt, Below, Merged, LookedAt, knownAt, freshAt, Clashes, clashes, parts}
 
-module _ (σ : State) (function first second representative value : List ℕ) (registers n : ℕ) (w : RepresentsState σ (entryAt function) (entryAt first) (entryAt second) (entryAt representative) registers n (entryAt value)) where
+module _ (σ : State) (function first second representative value : List ℕ) (registers n : ℕ)
+    (w : RepresentsState σ (entryAt function) (entryAt first) (entryAt second) (entryAt representative) registers n (entryAt value)) where
   -- an equal test
-  pub letter-equal : (x y : ℕ) (r head link : List ℕ) → x < registers → y < registers → Merged representative function first second registers n (getD value x 0) (getD value y 0) r head link
+  pub letter-equal : (x y : ℕ) (r head link : List ℕ) → x < registers → y < registers
+      → Merged representative function first second registers n (getD value x 0) (getD value y 0) r head link
       → RepresentsState (after σ (Equal x y)) (entryAt function) (entryAt first) (entryAt second) (entryAt r) registers n (entryAt value)
   unfolding Below
-  letter-equal x y r head link lx ly j = represents-equal σ (entryAt function) (entryAt first) (entryAt second) (entryAt representative) registers n (entryAt value) w x y lx ly (entryAt r) (j .sound) (j .keeps) (j .joins) (j .closed) (λ i h. j .formed .classes i h)
+  letter-equal x y r head link lx ly j =
+      represents-equal σ (entryAt function) (entryAt first) (entryAt second) (entryAt representative) registers n (entryAt value) w x y lx ly (entryAt r)
+      (j .sound) (j .keeps) (j .joins) (j .closed) (λ i h. j .formed .classes i h)
 
-  looked : (f a b k : ℕ) → LookedAt representative function first second registers n f a b k → Looked σ (entryAt function) (entryAt first) (entryAt second) (entryAt representative) registers n (entryAt value) w f a b k
+  looked : (f a b k : ℕ) → LookedAt representative function first second registers n f a b k
+      → Looked σ (entryAt function) (entryAt first) (entryAt second) (entryAt representative) registers n (entryAt value) w f a b k
   looked f a b k (knownAt m p h u v z e) = known m p h u v z e
   looked f a b k (freshAt e none) = fresh e none
 
   -- an application: the next number gets the class that was looked up
-  pub letter-apply : (x f y z k : ℕ) → Fits (σ .header) (Apply x f y z) → LookedAt representative function first second registers n f (getD value y 0) (getD value z 0) k
+  pub letter-apply : (x f y z k : ℕ) → Fits (σ .header) (Apply x f y z)
+      → LookedAt representative function first second registers n f (getD value y 0) (getD value z 0) k
       → n < length function → n < length first → n < length second → n < length representative → x < length value
-      → RepresentsState (after σ (Apply x f y z)) (entryAt (set function n f)) (entryAt (set first n (getD value y 0))) (entryAt (set second n (getD value z 0))) (entryAt (set representative n k)) registers (suc n) (entryAt (set value x n))
-  letter-apply x f y z k fits l hf ho ht hc hv = represents-apply σ (entryAt function) (entryAt first) (entryAt second) (entryAt representative) registers n (entryAt value) w x f y z k fits (looked f (getD value y 0) (getD value z 0) k l)
-      (entryAt (set function n f)) (entryAt (set first n (getD value y 0))) (entryAt (set second n (getD value z 0))) (entryAt (set representative n k)) (entryAt (set value x n))
+      → RepresentsState (after σ (Apply x f y z)) (entryAt (set function n f)) (entryAt (set first n (getD value y 0)))
+      (entryAt (set second n (getD value z 0))) (entryAt (set representative n k)) registers (suc n) (entryAt (set value x n))
+  letter-apply x f y z k fits l hf ho ht hc hv =
+      represents-apply σ (entryAt function) (entryAt first) (entryAt second) (entryAt representative) registers n (entryAt value) w x f y z k fits
+      (looked f (getD value y 0) (getD value z 0) k l)
+      (entryAt (set function n f)) (entryAt (set first n (getD value y 0))) (entryAt (set second n (getD value z 0))) (entryAt (set representative n k))
+      (entryAt (set value x n))
       (λ i h. old function f i h) (λ i h. old first _ i h) (λ i h. old second _ i h) (λ i h. old representative k i h)
       (getD-set-same function n f 0 hf) (getD-set-same first n _ 0 ho) (getD-set-same second n _ 0 ht) (getD-set-same representative n k 0 hc)
       (getD-set-same value x n 0 hv) (λ r d. getD-set-other value x r n 0 d)
@@ -42,5 +52,15 @@ module _ (σ : State) (function first second representative value : List ℕ) (r
   -- the answer of `clash` decides feasibility
   pub letter-clash : (left right : List ℕ) (m : ℕ) → Sides σ n (entryAt left) (entryAt right) m → (b : Bool) → Clashes representative left right m b
       → ((b ≡ true) × (¬ Feasible σ)) ⊎ ((b ≡ false) × Feasible σ)
-  letter-clash left right m a true (clashes q h e) = inl (refl, infeasible-i σ (entryAt function) (entryAt first) (entryAt second) (entryAt representative) registers n (entryAt value) w (entryAt left) (entryAt right) m a q h e)
-  letter-clash left right m a false (parts none) = inr (refl, feasible-i σ (entryAt function) (entryAt first) (entryAt second) (entryAt representative) registers n (entryAt value) w (entryAt left) (entryAt right) m a none)
+  letter-clash left right m a true (clashes q h e) =
+      inl (
+        refl,
+        infeasible-i σ (entryAt function) (entryAt first) (entryAt second) (entryAt representative) registers n (entryAt value) w (entryAt left)
+            (entryAt right) m a q h e,
+      )
+  letter-clash left right m a false (parts none) =
+      inr (
+        refl,
+        feasible-i σ (entryAt function) (entryAt first) (entryAt second) (entryAt representative) registers n (entryAt value) w (entryAt left)
+            (entryAt right) m a none,
+      )

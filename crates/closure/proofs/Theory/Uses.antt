@@ -17,7 +17,8 @@ use Rattle.closure.specs.Index.{CompleteIndex}
 use Rattle.closure.specs.Arrays.{entryAt, Below, Formed, highOf, lowOf, signatureAt, IndexedTerms, Lowest, UsedAsArgument, used, unused, Merged}
 use Rattle.closure.proofs.Theory.Propagation.{United, united-merged, relabel-other}
 
-pub lowest : {representative function first second : List ℕ} {registers n : ℕ} → Formed representative function first second registers n → Lowest representative first second n
+pub lowest : {representative function first second : List ℕ} {registers n : ℕ} → Formed representative function first second registers n
+    → Lowest representative first second n
 unfolding Below
 lowest f = record {
   within = f .within;
@@ -44,11 +45,14 @@ module _ (representative first second : List ℕ) (n d : ℕ) (w : Lowest repres
     pub use-second : getD representative b 0 ≡ d → UsedAsArgument representative first second n d true
     use-second e = used i h (inr (ap (λ v. getD representative v 0) (sym eb) ∙ e))
 
-    pub no-use-more : NoUse representative first second n d i → getD representative a 0 ≢ d → getD representative b 0 ≢ d → NoUse representative first second n d (i + 1)
+    pub no-use-more : NoUse representative first second n d i → getD representative a 0 ≢ d → getD representative b 0 ≢ d
+        → NoUse representative first second n d (i + 1)
     no-use-more u x y = record {
       none = λ k l m. byTest (eqb k i)
-          (λ t. let e = eqb-true k i t in
-          ((λ z. x (ap (λ v. getD representative v 0) (ea ∙ ap (λ k. getD first k 0) (sym e)) ∙ z)), (λ z. y (ap (λ v. getD representative v 0) (eb ∙ ap (λ k. getD second k 0) (sym e)) ∙ z))))
+          (λ t. let e = eqb-true k i t in (
+            (λ z. x (ap (λ v. getD representative v 0) (ea ∙ ap (λ k. getD first k 0) (sym e)) ∙ z)),
+            (λ z. y (ap (λ v. getD representative v 0) (eb ∙ ap (λ k. getD second k 0) (sym e)) ∙ z)),
+          ))
           (λ t. let c : k ≢ i = eqb-false k i t in u .none k (omega arith) m);
     }
 
@@ -59,16 +63,24 @@ true-false : true ≡ false → ⊥
 true-false e = let z : _≡_ {A = ℕ} 0 1 = cc in omega arith
 
 -- ---- a union that changes no signature
-module _ (function first second representative head link : List ℕ) (registers n x y : ℕ) (f : Formed representative function first second registers n) (p : x < n) (q : y < n)
-    (st : Closed (entryAt function) (entryAt first) (entryAt second) registers n (entryAt representative)) (index : IndexedTerms representative function first second registers n head link) (next : List ℕ) (m : United n x y representative next) where
-  module _ (none : (k : ℕ) → k < n → (getD representative (getD first k 0) 0 ≢ highOf (getD representative x 0) (getD representative y 0)) × (getD representative (getD second k 0) 0 ≢ highOf (getD representative x 0) (getD representative y 0))) where
+module _ (function first second representative head link : List ℕ) (registers n x y : ℕ) (f : Formed representative function first second registers n)
+    (p : x < n) (q : y < n)
+    (st : Closed (entryAt function) (entryAt first) (entryAt second) registers n (entryAt representative))
+    (index : IndexedTerms representative function first second registers n head link) (next : List ℕ) (m : United n x y representative next) where
+  module _ (none : (k : ℕ) → k < n
+      → (getD representative (getD first k 0) 0 ≢ highOf (getD representative x 0) (getD representative y 0))
+      × (getD representative (getD second k 0) 0 ≢ highOf (getD representative x 0) (getD representative y 0))) where
     first-same : (k : ℕ) → k < n → getD next (getD first k 0) 0 ≡ getD representative (getD first k 0) 0
     unfolding Below
-    first-same k h = m .at-each (getD first k 0) (f .firsts k h) ∙ relabel-other (highOf (getD representative x 0) (getD representative y 0)) (lowOf (getD representative x 0) (getD representative y 0)) _ ((none k h) .0)
+    first-same k h = m .at-each (getD first k 0) (f .firsts k h)
+        ∙ relabel-other (highOf (getD representative x 0) (getD representative y 0)) (lowOf (getD representative x 0) (getD representative y 0)) _
+        ((none k h) .0)
 
     second-same : (k : ℕ) → k < n → getD next (getD second k 0) 0 ≡ getD representative (getD second k 0) 0
     unfolding Below
-    second-same k h = m .at-each (getD second k 0) (f .seconds k h) ∙ relabel-other (highOf (getD representative x 0) (getD representative y 0)) (lowOf (getD representative x 0) (getD representative y 0)) _ ((none k h) .1)
+    second-same k h = m .at-each (getD second k 0) (f .seconds k h)
+        ∙ relabel-other (highOf (getD representative x 0) (getD representative y 0)) (lowOf (getD representative x 0) (getD representative y 0)) _
+        ((none k h) .1)
 
     same : (k : ℕ) → k < n → signatureAt next function first second k ≡ signatureAt representative function first second k
     unfolding signatureAt
@@ -87,8 +99,10 @@ module _ (function first second representative head link : List ℕ) (registers 
         m .at-each i h ∙ ap (relabelOf (highOf (getD representative x 0) (getD representative y 0)) (lowOf (getD representative x 0) (getD representative y 0)))
         (st i j l h r k e (sym (first-same i h) ∙ u ∙ first-same j k) (sym (second-same i h) ∙ v ∙ second-same j k)) ∙ sym (m .at-each j k)
 
-  pub merged-unused : (d : ℕ) (b : Bool) → d ≡ highOf (getD representative x 0) (getD representative y 0) → UsedAsArgument representative first second n d b → not b ≡ true → Merged representative function first second registers n x y next head link
+  pub merged-unused : (d : ℕ) (b : Bool) → d ≡ highOf (getD representative x 0) (getD representative y 0) → UsedAsArgument representative first second n d b
+      → not b ≡ true → Merged representative function first second registers n x y next head link
   merged-unused d b e (used k h u) z = absurd (true-false (sym z))
   merged-unused d b e (unused none) z =
       let none′ = subst (λ d. (k : ℕ) → k < n → (getD representative (getD first k 0) 0 ≢ d) × (getD representative (getD second k 0) 0 ≢ d)) e none in
-      united-merged function first second registers n representative next head link x y f p q m (still-closed none′) (record { chains = index .chains; complete = still-complete none′ })
+      united-merged function first second registers n representative next head link x y f p q m (still-closed none′)
+      (record { chains = index .chains; complete = still-complete none′ })

@@ -34,4 +34,5 @@ module _ {A : Type 0} (f : ℕ → A → A) where
   -- entries that are what they are to be
   pub done-same : (n : ℕ) (xs : List A) (d : A) → ((k : ℕ) → k < n → f k (getD xs k d) ≡ getD xs k d) → xs ≡ eachUpTo f n xs
   done-same zero xs d h = each-none f xs
-  done-same (suc n) xs d h = sym (done-suc n xs d ∙ ap (λ v. set (eachUpTo f n xs) n v) (h n (omega arith)) ∙ ap (λ l. set l n (getD xs n d)) (sym (done-same n xs d (λ k b. h k (omega arith)))) ∙ set-getD xs n d)
+  done-same (suc n) xs d h = sym (done-suc n xs d ∙ ap (λ v. set (eachUpTo f n xs) n v) (h n (omega arith))
+      ∙ ap (λ l. set l n (getD xs n d)) (sym (done-same n xs d (λ k b. h k (omega arith)))) ∙ set-getD xs n d)

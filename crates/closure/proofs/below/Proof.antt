@@ -22,6 +22,12 @@ below-spec =
     (λ c. search needs)
     (λ c. search needs)
     (λ c κs. search needs)
-    (λ c. link-less _ _ _ _ (c .before .before .before .before .pre .0) (c .before .before .before .before .pre .2) (c .before .before .loop-test .taken) (c .wide .ensures))
-    (λ c. (let l = link-less _ _ _ _ (c .before .before .before .before .pre .0) (c .before .before .before .before .pre .2) (c .before .before .loop-test .taken) (c .wide .ensures) in let h = (c .before .before .before .loop .inv .0) in omega arith, cutting-turn _ _ _ _ _ (c .before .before .before .loop .inv .1) (c .before .before .loop-test .taken) (c .wide .ensures)))
+    (λ c. link-less _ _ _ _ (c .before .before .before .before .pre .0) (c .before .before .before .before .pre .2) (c .before .before .loop-test .taken)
+    (c .wide .ensures))
+    (λ c. (
+      let l = link-less _ _ _ _ (c .before .before .before .before .pre .0) (c .before .before .before .before .pre .2)
+          (c .before .before .loop-test .taken) (c .wide .ensures) in let h = (c .before .before .before .loop .inv .0) in
+          omega arith,
+      cutting-turn _ _ _ _ _ (c .before .before .before .loop .inv .1) (c .before .before .loop-test .taken) (c .wide .ensures),
+    ))
     (λ c. cutting-end _ _ _ _ (c .before .loop .inv .1) (c .loop-test .left)))

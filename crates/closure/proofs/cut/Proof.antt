@@ -22,11 +22,17 @@ cut-spec =
     (λ c. search needs)
     (λ c. search needs)
     (λ c κs. search needs)
-    (λ c κs. ((c .before .before .before .before .pre .0 .links), cutting-below _ _ _ (c .before .before .before .before .pre .0) (c .before .before .before .before .pre .1) _ _ _ (c .before .before .before .loop .inv) (c .wide .ensures), (c .before .before .before .before .pre .1)))
+    (λ c κs. (
+      (c .before .before .before .before .pre .0 .links),
+      cutting-below _ _ _ (c .before .before .before .before .pre .0)
+          (c .before .before .before .before .pre .1) _ _ _ (c .before .before .before .loop .inv) (c .wide .ensures),
+      (c .before .before .before .before .pre .1),
+    ))
     (λ c. let h = (c .below .ensures .below) in let b = (c .before .before .before .before .before .pre .2) in omega arith)
     (λ c. search needs)
     (λ c. search needs)
     (λ c. let h = (c .before .before .before .loop-test .taken) in omega arith)
     (λ c. let h = (c .before .before .before .loop-test .taken) in omega arith)
-    (λ c. cutting-all-turn _ _ _ (c .before .before .before .before .before .pre .0) (c .before .before .before .before .before .pre .1) _ _ _ _ (c .before .before .before .before .loop .inv) (c .before .before .before .loop-test .taken) (c .before .wide .ensures) (c .below .ensures))
+    (λ c. cutting-all-turn _ _ _ (c .before .before .before .before .before .pre .0) (c .before .before .before .before .before .pre .1) _ _ _ _
+    (c .before .before .before .before .loop .inv) (c .before .before .before .loop-test .taken) (c .before .wide .ensures) (c .below .ensures))
     (λ c. cutting-all-end _ _ _ (c .before .before .pre .0) (c .before .before .pre .1) _ _ (c .before .loop .inv) (c .loop-test .left)))

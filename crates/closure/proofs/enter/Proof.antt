@@ -14,8 +14,14 @@ enter-spec =
     (λ c. search needs)
     (λ c. search needs)
     (λ c κs. search needs)
-    (λ c κs. ((c .before .before .before .pre .0), chain-below _ _ _ _ _ (c .before .before .before .pre .2) (c .before .wide .ensures), (c .before .before .before .pre .2 .links)))
-    (λ c. entered-known _ _ _ _ _ _ (c .before .before .before .before .before .pre .2) (c .before .before .before .before .before .pre .0 .some) (c .before .before .before .before .before .pre .0 .more) (c .before .before .before .before .before .pre .1) _ _ (c .before .before .before .wide .ensures) (c .before .find .ensures) (c .if1 .taken))
+    (λ c κs. (
+      (c .before .before .before .pre .0),
+      chain-below _ _ _ _ _ (c .before .before .before .pre .2) (c .before .wide .ensures),
+      (c .before .before .before .pre .2 .links),
+    ))
+    (λ c. entered-known _ _ _ _ _ _ (c .before .before .before .before .before .pre .2) (c .before .before .before .before .before .pre .0 .some)
+    (c .before .before .before .before .before .pre .0 .more) (c .before .before .before .before .before .pre .1) _ _
+    (c .before .before .before .wide .ensures) (c .before .find .ensures) (c .if1 .taken))
     (λ c. search needs)
     (λ c. search needs)
     (λ c. search needs)
@@ -23,4 +29,6 @@ enter-spec =
     (λ c. search needs)
     (λ c. search needs)
     (λ c. search needs)
-    (λ c. entered-new _ _ _ _ _ _ (c .before .before .before .before .before .before .pre .2) (c .before .before .before .before .before .before .pre .0 .some) (c .before .before .before .before .before .before .pre .0 .more) (c .before .before .before .before .before .before .pre .1) _ refl (mod-lt _ (omega arith)) _ _ (c .before .before .before .before .wide .ensures) (c .before .before .find .ensures) (c .before .if1 .left)))
+    (λ c. entered-new _ _ _ _ _ _ (c .before .before .before .before .before .before .pre .2) (c .before .before .before .before .before .before .pre .0 .some)
+    (c .before .before .before .before .before .before .pre .0 .more) (c .before .before .before .before .before .before .pre .1) _ refl
+    (mod-lt _ (omega arith)) _ _ (c .before .before .before .before .wide .ensures) (c .before .before .find .ensures) (c .before .if1 .left)))

@@ -8,7 +8,8 @@ use Rattle.closure.proofs.find.Statement.{statement}
 use Rattle.closure.proofs.find.Tie as tie
 
 abbrev Inv-loop : tie.InvT-loop
-Inv-loop representative function first second link registers count start c i₀ i = (i < count) × Finding (signatureAt representative function first second) registers link start c i
+Inv-loop representative function first second link registers count start c i₀ i =
+    (i < count) × Finding (signatureAt representative function first second) registers link start c i
 
 abbrev μ-loop : tie.MeasureT-loop
 μ-loop representative function first second link registers count start c i₀ i = i
@@ -21,13 +22,18 @@ find-spec =
     μ-loop
     (λ c. ((c .pre .1), finding-start _ _ _ _ _))
     (λ c κs. readable-at _ (c .before .before .pre .0) (c .before .loop .inv .0))
-    (λ c. finding-hit _ _ _ _ _ _ _ _ (c .before .before .before .loop .inv .1) (c .before .before .before .loop .inv .0) (c .before .before .loop-test .taken) (c .before .signature-at .ensures) (c .if1 .taken))
+    (λ c. finding-hit _ _ _ _ _ _ _ _ (c .before .before .before .loop .inv .1) (c .before .before .before .loop .inv .0) (c .before .before .loop-test .taken)
+    (c .before .signature-at .ensures) (c .if1 .taken))
     (λ c. let h = (c .before .before .before .loop .inv .0) in let w = (c .before .before .before .before .pre .0 .within) in omega arith)
     (λ c. let h = (c .before .before .before .loop .inv .0) in let w = (c .before .before .before .before .pre .0 .within) in omega arith)
     (λ c κs. search needs)
-    (λ c. link-less _ _ _ _ (c .before .before .before .before .before .before .pre .2) (c .before .before .before .before .before .before .pre .0 .some) (c .before .before .before .before .loop-test .taken) (c .wide .ensures))
+    (λ c. link-less _ _ _ _ (c .before .before .before .before .before .before .pre .2) (c .before .before .before .before .before .before .pre .0 .some)
+    (c .before .before .before .before .loop-test .taken) (c .wide .ensures))
     (λ c. (
-      let l = link-less _ _ _ _ (c .before .before .before .before .before .before .pre .2) (c .before .before .before .before .before .before .pre .0 .some) (c .before .before .before .before .loop-test .taken) (c .wide .ensures) in let h = (c .before .before .before .before .before .loop .inv .0) in omega arith,
-      finding-turn _ _ _ _ _ _ _ _ (c .before .before .before .before .before .loop .inv .1) (c .before .before .before .before .loop-test .taken) (c .before .before .before .signature-at .ensures) (c .before .before .if1 .left) (c .wide .ensures),
+      let l = link-less _ _ _ _ (c .before .before .before .before .before .before .pre .2) (c .before .before .before .before .before .before .pre .0 .some)
+          (c .before .before .before .before .loop-test .taken) (c .wide .ensures) in let h = (c .before .before .before .before .before .loop .inv .0) in
+          omega arith,
+      finding-turn _ _ _ _ _ _ _ _ (c .before .before .before .before .before .loop .inv .1) (c .before .before .before .before .loop-test .taken)
+          (c .before .before .before .signature-at .ensures) (c .before .before .if1 .left) (c .wide .ensures),
     ))
     (λ c. finding-end _ _ _ _ _ _ _ (c .before .loop .inv .1) (c .before .loop .inv .0) (c .loop-test .left)))

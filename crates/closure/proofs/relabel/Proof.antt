@@ -25,7 +25,11 @@ relabel-spec =
     μ-loop
     (λ c. search needs)
     (λ c κs. search needs)
-    (λ c. (let e = (c .wide .ensures) in let h = (c .before .pre .1) in omega arith, relabel-starts _ _ _ _ _ (c .before .pre .3) (c .before .pre .1) (c .wide .ensures)))
+    (λ c. (
+      let e = (c .wide .ensures) in let h = (c .before .pre .1) in
+          omega arith,
+      relabel-starts _ _ _ _ _ (c .before .pre .3) (c .before .pre .1) (c .wide .ensures),
+    ))
     (λ c. search needs)
     (λ c. search needs)
     (λ c κs. search needs)
@@ -34,5 +38,10 @@ relabel-spec =
     (λ c. search needs)
     (λ c. search needs)
     (λ c. search needs)
-    (λ c. (let h = (c .before .before .loop-test .taken) in omega arith, each-turn _ _ _ _ 0 _ (c .before .before .before .loop .inv .1) (fall-is _ _ _ _ _ (c .before .before .before .before .before .pre .2) refl (c .fall .ensures))))
+    (λ c. (
+      let h = (c .before .before .loop-test .taken) in
+          omega arith,
+      each-turn _ _ _ _ 0 _ (c .before .before .before .loop .inv .1)
+          (fall-is _ _ _ _ _ (c .before .before .before .before .before .pre .2) refl (c .fall .ensures)),
+    ))
     (λ c. ended _ _ _ _ _ (c .before .loop .inv .1) (let h = (c .before .loop .inv .0) in let l = (c .loop-test .left) in omega arith)))

@@ -20,8 +20,22 @@ signature-spec =
     (λ c. search needs)
     (λ c. search needs)
     (λ c κs. search needs)
-    (λ c. let q = class-use _ _ _ _ (c .before .before .before .before .before .before .pre .2) (c .before .before .before .before .wide2 .ensures) (c .wide4 .ensures) in omega arith)
-    (λ c. let p = class-use _ _ _ _ (c .before .before .before .before .before .before .pre .1) (c .before .before .before .before .before .wide .ensures) (c .before .before .wide3 .ensures) in let q = class-use _ _ _ _ (c .before .before .before .before .before .before .pre .2) (c .before .before .before .before .wide2 .ensures) (c .wide4 .ensures) in omega arith)
+    (λ c. let q = class-use _ _ _ _ (c .before .before .before .before .before .before .pre .2) (c .before .before .before .before .wide2 .ensures)
+    (c .wide4 .ensures) in omega arith)
+    (λ c. let p = class-use _ _ _ _ (c .before .before .before .before .before .before .pre .1) (c .before .before .before .before .before .wide .ensures)
+    (c .before .before .wide3 .ensures) in
+    let q = class-use _ _ _ _ (c .before .before .before .before .before .before .pre .2) (c .before .before .before .before .wide2 .ensures)
+    (c .wide4 .ensures) in omega arith)
     (λ c κs. search needs)
-    (λ c. let p = class-use _ _ _ _ (c .before .before .before .before .before .before .before .pre .1) (c .before .before .before .before .before .before .wide .ensures) (c .before .before .before .wide3 .ensures) in let q = class-use _ _ _ _ (c .before .before .before .before .before .before .before .pre .2) (c .before .before .before .before .before .wide2 .ensures) (c .before .wide4 .ensures) in let f = (c .before .before .before .before .before .before .before .pre .0) in let e = (c .wide5 .ensures) in omega arith)
-    (λ c. search ((c .before .before .before .before .before .before .wide .ensures), (c .before .before .before .before .before .wide2 .ensures), (c .before .before .before .wide3 .ensures), (c .before .wide4 .ensures), (c .wide5 .ensures))))
+    (λ c. let p = class-use _ _ _ _ (c .before .before .before .before .before .before .before .pre .1)
+    (c .before .before .before .before .before .before .wide .ensures) (c .before .before .before .wide3 .ensures) in
+    let q = class-use _ _ _ _ (c .before .before .before .before .before .before .before .pre .2)
+    (c .before .before .before .before .before .wide2 .ensures) (c .before .wide4 .ensures) in
+    let f = (c .before .before .before .before .before .before .before .pre .0) in let e = (c .wide5 .ensures) in omega arith)
+    (λ c. search (
+      (c .before .before .before .before .before .before .wide .ensures),
+      (c .before .before .before .before .before .wide2 .ensures),
+      (c .before .before .before .wide3 .ensures),
+      (c .before .wide4 .ensures),
+      (c .wide5 .ensures),
+    )))

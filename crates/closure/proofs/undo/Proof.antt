@@ -26,11 +26,20 @@ undo-spec =
     (λ c κs. readable-at _ (c .before .before .pre .0) (let h = (c .before .loop .inv .0) in let t = (c .loop-test .taken) in omega arith))
     (λ c. search needs)
     (λ c. search needs)
-    (λ c. let h = (c .before .before .before .loop .inv .0) in let t = (c .before .before .loop-test .taken) in let w = (c .before .before .before .before .pre .0 .within) in omega arith)
-    (λ c. let h = (c .before .before .before .loop .inv .0) in let t = (c .before .before .loop-test .taken) in let w = (c .before .before .before .before .pre .0 .within) in omega arith)
+    (λ c. let h = (c .before .before .before .loop .inv .0) in let t = (c .before .before .loop-test .taken) in
+    let w = (c .before .before .before .before .pre .0 .within) in omega arith)
+    (λ c. let h = (c .before .before .before .loop .inv .0) in let t = (c .before .before .loop-test .taken) in
+    let w = (c .before .before .before .before .pre .0 .within) in omega arith)
     (λ c κs. search needs)
     (λ c. search needs)
     (λ c. search needs)
     (λ c. let t = (c .before .before .before .before .loop-test .taken) in omega arith)
-    (λ c. (let h = (c .before .before .before .before .before .loop .inv .0) in let t = (c .before .before .before .before .loop-test .taken) in omega arith, undoing-turn _ _ _ _ _ _ (c .before .before .before .before .before .before .pre .2) (c .before .before .before .before .before .before .pre .0 .some) (c .before .before .before .before .before .before .pre .3) _ _ _ _ _ (c .before .before .before .before .before .loop .inv .1) (c .before .before .before .before .loop-test .taken) refl (ap (λ s. s % chainCount) (c .before .before .before .signature-at .ensures)) (mod-lt _ (omega arith)) (c .without-last .ensures)))
+    (λ c. (
+      let h = (c .before .before .before .before .before .loop .inv .0) in let t = (c .before .before .before .before .loop-test .taken) in
+          omega arith,
+      undoing-turn _ _ _ _ _ _ (c .before .before .before .before .before .before .pre .2)
+          (c .before .before .before .before .before .before .pre .0 .some) (c .before .before .before .before .before .before .pre .3) _ _ _ _ _
+          (c .before .before .before .before .before .loop .inv .1) (c .before .before .before .before .loop-test .taken) refl
+          (ap (λ s. s % chainCount) (c .before .before .before .signature-at .ensures)) (mod-lt _ (omega arith)) (c .without-last .ensures),
+    ))
     (λ c. undoing-end _ _ _ _ _ (c .before .loop .inv .1) (c .loop-test .left)))

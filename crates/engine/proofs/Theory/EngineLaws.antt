@@ -25,7 +25,8 @@ use Rattle.closure.proofs.Theory.Entering.{looked-known, looked-fresh}
 use Rattle.closure.proofs.Theory.Propagation.{merged-same}
 use Rattle.closure.proofs.Theory.Steps.{letter-equal, letter-apply}
 use Rattle.engine.specs.declared.Counts.{Counts}
-use Rattle.engine.specs.Engine.{Engine, Ready, LetterPerformed, Applied, Appliable, Computable, Computing, Equatable, TermsEquated, Notable, Noted, nameOf}
+use Rattle.engine.specs.Engine.{Engine, Ready, LetterPerformed, Applied, Appliable, Computable, Computing, Equatable, TermsEquated, Notable, Noted}
+use Rattle.engine.specs.Engine.{nameOf}
 
 -- the entries of an array with one stored
 module _ (l : List ℕ) (i v : ℕ) where
@@ -65,7 +66,8 @@ module _ (representative function first second : List ℕ) (registers n f a b na
   looked-own (knownAt m p h u v t e) = inr (subst (λ v. v < n) (sym e) (fm .classes m h), ap (λ v. getD representative v 0) e ∙ fm .own m h ∙ sym e)
   looked-own (freshAt e none) = inl e
 
-  module _ (lf : n < length function) (lo : n < length first) (lt : n < length second) (lr : n < mostTerms) (bf : f < mostFunctions) (ba : a < n) (bb : b < n) (look : LookedAt representative function first second registers n f a b name) where
+  module _ (lf : n < length function) (lo : n < length first) (lt : n < length second) (lr : n < mostTerms) (bf : f < mostFunctions) (ba : a < n) (bb : b < n)
+      (look : LookedAt representative function first second registers n f a b name) where
     applied-formed : Formed (set representative n name) (set function n f) (set first n a) (set second n b) registers (suc n)
     unfolding Below
     applied-formed = record {
@@ -73,14 +75,18 @@ module _ (representative function first second : List ℕ) (registers n f a b na
       more = let m = fm .more in omega arith;
       within = omega arith;
       long = simp length-set (fm .long);
-      classes = below-set representative n name (suc n) n rep-long (looked-below look) refl (below-widen n (suc n) n representative (omega arith) (fm .classes));
+      classes = below-set representative n name (suc n) n rep-long (looked-below look) refl
+          (below-widen n (suc n) n representative (omega arith) (fm .classes));
       lowest = λ k h. byTest (eqb k n)
-          (λ t. let e = eqb-true k n t in let l = looked-below look in subst (λ v. v ≤ k) (sym (ap (λ k. getD (set representative n name) k 0) e ∙ put representative n name rep-long)) (omega arith))
+          (λ t. let e = eqb-true k n t in let l = looked-below look in
+          subst (λ v. v ≤ k) (sym (ap (λ k. getD (set representative n name) k 0) e ∙ put representative n name rep-long)) (omega arith))
           (λ t. let d : k ≢ n = eqb-false k n t in subst (λ v. v ≤ k) (sym (kept representative n name k d)) (fm .lowest k (omega arith)));
       own = λ k h. byTest (eqb k n)
-          (λ t. let e = ap (λ k. getD (set representative n name) k 0) (eqb-true k n t) ∙ put representative n name rep-long in ap (λ v. getD (set representative n name) v 0) e ∙ name-own (looked-own look) ∙ sym e)
+          (λ t. let e = ap (λ k. getD (set representative n name) k 0) (eqb-true k n t) ∙ put representative n name rep-long in
+          ap (λ v. getD (set representative n name) v 0) e ∙ name-own (looked-own look) ∙ sym e)
           (λ t. let d : k ≢ n = eqb-false k n t in let e = kept representative n name k d in
-          ap (λ v. getD (set representative n name) v 0) e ∙ kept-below representative n name (getD representative k 0) (fm .classes k (omega arith)) ∙ fm .own k (omega arith) ∙ sym e);
+          ap (λ v. getD (set representative n name) v 0) e ∙ kept-below representative n name (getD representative k 0) (fm .classes k (omega arith))
+          ∙ fm .own k (omega arith) ∙ sym e);
       functions = below-set function n f mostFunctions n lf bf refl (fm .functions);
       firsts = below-set first n a (suc n) n lo (omega arith) refl (below-widen n (suc n) n first (omega arith) (fm .firsts));
       seconds = below-set second n b (suc n) n lt (omega arith) refl (below-widen n (suc n) n second (omega arith) (fm .seconds));
@@ -96,18 +102,31 @@ module _ (representative function first second : List ℕ) (registers n f a b na
         name-own (inr (h, o)) = kept-below representative n name name h ∙ o
 
 -- what `apply` leaves
-module _ (function first second representative head link : List ℕ) (registers n f a b : ℕ) (u : Appliable function first second representative head link registers n f a b) (c r : ℕ) (head′ link′ : List ℕ)
-    (e : c ≡ signatureOf f (getD representative a 0) (getD representative b 0)) (w : Entered (signatureAt representative function first second) registers n c head link r head′ link′) where
+module _ (function first second representative head link : List ℕ) (registers n f a b : ℕ)
+    (u : Appliable function first second representative head link registers n f a b) (c r : ℕ) (head′ link′ : List ℕ)
+    (e : c ≡ signatureOf f (getD representative a 0) (getD representative b 0))
+    (w : Entered (signatureAt representative function first second) registers n c head link r head′ link′) where
   entered-looked : LookedAt representative function first second registers n f a b (nameOf representative r n)
   unfolding nameOf
   entered-looked = byTest (eqb r n)
-      (λ t. rw t (looked-fresh representative function first second registers n (u .formed) f a b c (u .known) (u .first-term) (u .second-term) e head link r head′ link′ w (u .indexed .complete) (eqb-true r n t)))
-      (λ t. let d : r ≢ n = eqb-false r n t in let m = w .most in rw t (looked-known representative function first second registers n (u .formed) f a b c (u .known) (u .first-term) (u .second-term) e head link r head′ link′ w (getD representative r 0) (omega arith) refl))
+      (λ t. rw t (looked-fresh representative function first second registers n (u .formed) f a b c (u .known) (u .first-term)
+      (u .second-term) e head link r head′ link′ w (u .indexed .complete) (eqb-true r n t)))
+      (λ t. let d : r ≢ n = eqb-false r n t in let m = w .most in
+      rw t (looked-known representative function first second registers n (u .formed) f a b c (u .known) (u .first-term)
+      (u .second-term) e head link r head′ link′ w (getD representative r 0) (omega arith) refl))
 
   module _ (name : ℕ) where
-    same : (k : ℕ) → k < n → signatureAt (set representative n name) (set function n f) (set first n a) (set second n b) k ≡ signatureAt representative function first second k
+    same : (k : ℕ) → k < n → signatureAt (set representative n name) (set function n f) (set first n a)
+        (set second n b) k ≡ signatureAt representative function first second k
     unfolding signatureAt Below
-    same k h = rw (kept-below function n f k h, kept-below first n a k h, kept-below second n b k h, kept-below representative n name (getD first k 0) (u .formed .firsts k h), kept-below representative n name (getD second k 0) (u .formed .seconds k h))
+    same k h = rw (
+      kept-below function n f k h,
+      kept-below first n a k h,
+      kept-below second n b k h,
+      kept-below representative n name (getD first k 0)
+          (u .formed .firsts k h),
+      kept-below representative n name (getD second k 0) (u .formed .seconds k h),
+    )
 
     last : signatureAt (set representative n name) (set function n f) (set first n a) (set second n b) n ≡ c
     unfolding signatureAt
@@ -120,10 +139,15 @@ module _ (function first second representative head link : List ℕ) (registers 
     ) (sym e)
 
     applied-indexed : IndexedTerms (set representative n name) (set function n f) (set first n a) (set second n b) registers (suc n) head′ link′
-    applied-indexed = record { chains = w .chains; complete = w .completes (signatureAt (set representative n name) (set function n f) (set first n a) (set second n b)) same last (u .indexed .complete) }
+    applied-indexed = record {
+      chains = w .chains;
+      complete =
+          w .completes (signatureAt (set representative n name) (set function n f) (set first n a) (set second n b)) same last (u .indexed .complete);
+    }
 
   pub applied : (name : ℕ) → name ≡ nameOf representative r n
-      → Applied function first second representative head link registers n f a b (set function n f) (set first n a) (set second n b) (set representative n name) head′ link′
+      → Applied function first second representative head link registers n f a b (set function n f) (set first n a) (set second n b)
+      (set representative n name) head′ link′
   applied name q = record {
     name = name;
     looked = rw q entered-looked;
@@ -135,24 +159,31 @@ module _ (function first second representative head link : List ℕ) (registers 
   }
 
 -- the unequal tests with sides in different classes, after a new term and after a new test
-parts-set : (representative left right : List ℕ) (n v p : ℕ) → ((q : ℕ) → q < p → getD left q 0 < n) → ((q : ℕ) → q < p → getD right q 0 < n) → Parts representative left right p → Parts (set representative n v) left right p
+parts-set : (representative left right : List ℕ) (n v p : ℕ) → ((q : ℕ) → q < p → getD left q 0 < n) → ((q : ℕ) → q < p → getD right q 0 < n)
+    → Parts representative left right p → Parts (set representative n v) left right p
 unfolding Parts
-parts-set representative left right n v p l r w q h e = w q h (sym (kept-below representative n v (getD left q 0) (l q h)) ∙ e ∙ kept-below representative n v (getD right q 0) (r q h))
+parts-set representative left right n v p l r w q h e =
+    w q h (sym (kept-below representative n v (getD left q 0) (l q h)) ∙ e ∙ kept-below representative n v (getD right q 0) (r q h))
 
-parts-list : (representative left right : List ℕ) (m a b p : ℕ) → p ≤ m → Parts representative left right p → Parts representative (set left m a) (set right m b) p
+parts-list : (representative left right : List ℕ) (m a b p : ℕ) → p ≤ m → Parts representative left right p
+    → Parts representative (set left m a) (set right m b) p
 unfolding Parts
 parts-list representative left right m a b p l w q h e =
-    w q h (ap (λ v. getD representative v 0) (sym (kept-below left m a q (omega arith))) ∙ e ∙ ap (λ v. getD representative v 0) (kept-below right m b q (omega arith)))
+    w q h (ap (λ v. getD representative v 0) (sym (kept-below left m a q (omega arith))) ∙ e
+    ∙ ap (λ v. getD representative v 0) (kept-below right m b q (omega arith)))
 
-module _ (σ : State) (function first second representative head link value left right : List ℕ) (registers n m p k : ℕ) (w : Engine σ function first second representative head link value left right registers n m p k) where
+module _ (σ : State) (function first second representative head link value left right : List ℕ) (registers n m p k : ℕ)
+    (w : Engine σ function first second representative head link value left right registers n m p k) where
   -- a register of the header has a place, and its term a number
   register-below : (x : ℕ) → x < σ .header .registers → (x < registers) × (x < mostRegisters)
   register-below x h = let e = w .represents .header-registers in let l = w .registers-few in (omega arith, omega arith)
 
-  pub engine-copy : (x y : ℕ) → Fits (σ .header) (Copy x y) → Engine (after σ (Copy x y)) function first second representative head link (set value x (getD value y 0)) left right registers n m p (suc k)
+  pub engine-copy : (x y : ℕ) → Fits (σ .header) (Copy x y)
+      → Engine (after σ (Copy x y)) function first second representative head link (set value x (getD value y 0)) left right registers n m p (suc k)
   engine-copy x y (hx, hy) = record {
     formed = w .formed;
-    represents = represents-copy σ (entryAt function) (entryAt first) (entryAt second) (entryAt representative) registers n (entryAt value) (w .represents) x y (entryAt (set value x (getD value y 0))) (lx .0) ((register-below y hy) .0) same;
+    represents = represents-copy σ (entryAt function) (entryAt first) (entryAt second) (entryAt representative) registers n (entryAt value) (w .represents) x y
+        (entryAt (set value x (getD value y 0))) (lx .0) ((register-below y hy) .0) same;
     indexed = w .indexed;
     sides = record { left-below = w .sides .left-below; right-below = w .sides .right-below; listed = w .sides .listed; all = w .sides .all };
     registers-few = w .registers-few;
@@ -176,19 +207,24 @@ module _ (σ : State) (function first second representative head link value left
       same r = go (eqb r x) refl
         where
           go : (b : Bool) → eqb r x ≡ b → getD (set value x (getD value y 0)) r 0 ≡ getD value (cond b y r) 0
-          go true e = ap (λ r. getD (set value x (getD value y 0)) r 0) (eqb-true r x e) ∙ put value x (getD value y 0) (let l = w .value-long in let h = lx .1 in omega arith)
+          go true e = ap (λ r. getD (set value x (getD value y 0)) r 0) (eqb-true r x e)
+              ∙ put value x (getD value y 0) (let l = w .value-long in let h = lx .1 in omega arith)
           go false e = kept value x (getD value y 0) r (eqb-false r x e)
 
-  pub engine-apply : (x f y z : ℕ) (name : ℕ) (head′ link′ : List ℕ) → k < mostLetters → Fits (σ .header) (Apply x f y z) → LookedAt representative function first second registers n f (getD value y 0) (getD value z 0) name
+  pub engine-apply : (x f y z : ℕ) (name : ℕ) (head′ link′ : List ℕ) → k < mostLetters → Fits (σ .header) (Apply x f y z)
+      → LookedAt representative function first second registers n f (getD value y 0) (getD value z 0) name
       → IndexedTerms (set representative n name) (set function n f) (set first n (getD value y 0)) (set second n (getD value z 0)) registers (suc n) head′ link′
-      → Engine (after σ (Apply x f y z)) (set function n f) (set first n (getD value y 0)) (set second n (getD value z 0)) (set representative n name) head′ link′ (set value x n) left right registers (suc n) m p (suc k)
+      → Engine (after σ (Apply x f y z)) (set function n f) (set first n (getD value y 0)) (set second n (getD value z 0))
+      (set representative n name) head′ link′ (set value x n) left right registers (suc n) m p (suc k)
   engine-apply x f y z name head′ link′ few fits look index = record {
-    formed = applied-formed representative function first second registers n f (getD value y 0) (getD value z 0) name (w .formed) in-function in-first in-second in-all
+    formed = applied-formed representative function first second registers n f (getD value y 0) (getD value z 0) name
+        (w .formed) in-function in-first in-second in-all
         (let h = w .functions-few in let g = fits .1 in omega arith) (w .represents .value-below y ly) (w .represents .value-below z lz) look;
     represents = letter-apply σ function first second representative value registers n (w .represents) x f y z name fits look in-function in-first in-second
         (let l = w .formed .long in let h = in-all in omega arith) (let l = w .value-long in let h = (register-below x (fits .0)) .1 in omega arith);
     indexed = index;
-    sides = sides-apply σ (entryAt function) (entryAt first) (entryAt second) (entryAt representative) registers n (entryAt value) (w .represents) (entryAt left) (entryAt right) (entryAt left) (entryAt right) m (w .sides) x f y z;
+    sides = sides-apply σ (entryAt function) (entryAt first) (entryAt second) (entryAt representative) registers n (entryAt value) (w .represents)
+        (entryAt left) (entryAt right) (entryAt left) (entryAt right) m (w .sides) x f y z;
     registers-few = w .registers-few;
     functions-few = w .functions-few;
     function-long = simp length-set (w .function-long);
@@ -199,7 +235,8 @@ module _ (σ : State) (function first second representative head link value left
     right-long = w .right-long;
     terms-few = let l = w .terms-few in omega arith;
     tests-few = let l = w .tests-few in omega arith;
-    parts = parts-set representative left right n name p (λ q h. w .sides .left-below q (let l = w .parts-few in omega arith)) (λ q h. w .sides .right-below q (let l = w .parts-few in omega arith)) (w .parts);
+    parts = parts-set representative left right n name p (λ q h. w .sides .left-below q (let l = w .parts-few in omega arith))
+        (λ q h. w .sides .right-below q (let l = w .parts-few in omega arith)) (w .parts);
     parts-few = w .parts-few;
   }
     where
@@ -221,12 +258,14 @@ module _ (σ : State) (function first second representative head link value left
       in-second : n < length second
       in-second = let l = w .second-long in let h = in-all in omega arith
 
-  pub engine-equal : (x y : ℕ) (r head′ link′ : List ℕ) (p′ : ℕ) → Fits (σ .header) (Equal x y) → Merged representative function first second registers n (getD value x 0) (getD value y 0) r head′ link′
+  pub engine-equal : (x y : ℕ) (r head′ link′ : List ℕ) (p′ : ℕ) → Fits (σ .header) (Equal x y)
+      → Merged representative function first second registers n (getD value x 0) (getD value y 0) r head′ link′
       → Parts r left right p′ → p′ ≤ p
       → Engine (after σ (Equal x y)) function first second r head′ link′ value left right registers n m p′ (suc k)
   engine-equal x y r head′ link′ p′ (hx, hy) g a b = record {
     formed = g .formed;
-    represents = letter-equal σ function first second representative value registers n (w .represents) x y r head′ link′ ((register-below x hx) .0) ((register-below y hy) .0) g;
+    represents = letter-equal σ function first second representative value registers n (w .represents) x y r head′ link′ ((register-below x hx) .0)
+        ((register-below y hy) .0) g;
     indexed = g .indexed;
     sides = record { left-below = w .sides .left-below; right-below = w .sides .right-below; listed = w .sides .listed; all = w .sides .all };
     registers-few = w .registers-few;
@@ -244,14 +283,18 @@ module _ (σ : State) (function first second representative head link value left
   }
 
   pub engine-unequal : (x y : ℕ) → k < mostLetters → Fits (σ .header) (Unequal x y)
-      → Engine (after σ (Unequal x y)) function first second representative head link value (set left m (getD value x 0)) (set right m (getD value y 0)) registers n (suc m) p (suc k)
+      → Engine (after σ (Unequal x y)) function first second representative head link value (set left m (getD value x 0))
+      (set right m (getD value y 0)) registers n (suc m) p (suc k)
   engine-unequal x y few (hx, hy) = record {
     formed = w .formed;
-    represents = represents-unequal σ (entryAt function) (entryAt first) (entryAt second) (entryAt representative) registers n (entryAt value) (w .represents) x y lx ly;
+    represents = represents-unequal σ (entryAt function) (entryAt first) (entryAt second) (entryAt representative) registers n (entryAt value)
+        (w .represents) x y lx ly;
     indexed = w .indexed;
-    sides = sides-unequal σ (entryAt function) (entryAt first) (entryAt second) (entryAt representative) registers n (entryAt value) (w .represents) (entryAt left) (entryAt right) (entryAt (set left m (getD value x 0))) (entryAt (set right m (getD value y 0))) m (w .sides)
+    sides = sides-unequal σ (entryAt function) (entryAt first) (entryAt second) (entryAt representative) registers n (entryAt value) (w .represents)
+        (entryAt left) (entryAt right) (entryAt (set left m (getD value x 0))) (entryAt (set right m (getD value y 0))) m (w .sides)
         x y lx ly (kept-below left m (getD value x 0)) (kept-below right m (getD value y 0))
-        (put left m (getD value x 0) (let l = w .left-long in let h = w .tests-few in omega arith)) (put right m (getD value y 0) (let l = w .right-long in let h = w .tests-few in omega arith));
+        (put left m (getD value x 0) (let l = w .left-long in let h = w .tests-few in omega arith))
+        (put right m (getD value y 0) (let l = w .right-long in let h = w .tests-few in omega arith));
     registers-few = w .registers-few;
     functions-few = w .functions-few;
     function-long = w .function-long;
@@ -273,15 +316,19 @@ module _ (σ : State) (function first second representative head link value left
       ly = (register-below y hy) .0
 
 -- ---- as `step` uses them, letter by letter
-module _ (letter : Letter) (function first second representative head link value left right : List ℕ) (registers : ℕ) (counts : Counts) (r : Ready letter function first second representative head link value left right registers counts) where
+module _ (letter : Letter) (function first second representative head link value left right : List ℕ) (registers : ℕ) (counts : Counts)
+    (r : Ready letter function first second representative head link value left right registers counts) where
   fits-as : {l : Letter} → letter ≡ l → Fits (r .state .header) l
   fits-as e = subst (Fits (r .state .header)) e (r .fits)
 
   in-registers : (x : ℕ) → x < r .state .header .registers → x < mostRegisters
-  in-registers x h = (register-below (r .state) function first second representative head link value left right registers (counts .terms) (counts .tests) (counts .parted) (r .letters) (r .engine) x h) .1
+  in-registers x h = (register-below (r .state) function first second representative head link value left right registers (counts .terms) (counts .tests)
+      (counts .parted) (r .letters) (r .engine) x h) .1
 
   value-in : (x : ℕ) → x < r .state .header .registers → getD value x 0 < counts .terms
-  value-in x h = r .engine .represents .value-below x ((register-below (r .state) function first second representative head link value left right registers (counts .terms) (counts .tests) (counts .parted) (r .letters) (r .engine) x h) .0)
+  value-in x h = r .engine .represents .value-below x
+      ((register-below (r .state) function first second representative head link value left right registers (counts .terms) (counts .tests) (counts .parted)
+      (r .letters) (r .engine) x h) .0)
 
   pub computable : {x f y z : ℕ} → letter ≡ Apply x f y z → Computable function first second representative head link value registers counts x f y z
   computable {x} {f} {y} {z} e = let g = fits-as e in record {
@@ -324,35 +371,47 @@ module _ (letter : Letter) (function first second representative head link value
 
 module _ (letter : Letter) (function first second representative head link value left right : List ℕ) (registers : ℕ) (counts : Counts) where
   pub performed-apply : {x f y z : ℕ} (function′ first′ second′ representative′ head′ link′ value′ : List ℕ) (counts′ : Counts) → letter ≡ Apply x f y z
-      → Computing function first second representative head link value registers counts x f y z function′ first′ second′ representative′ head′ link′ value′ counts′
-      → LetterPerformed letter function first second representative head link value left right registers counts function′ first′ second′ representative′ head′ link′ value′ left right counts′
+      → Computing function first second representative head link value registers counts x f y z function′ first′ second′ representative′ head′ link′ value′
+      counts′
+      → LetterPerformed letter function first second representative head link value left right registers counts function′ first′ second′ representative′ head′
+      link′ value′ left right counts′
   unfolding LetterPerformed
   performed-apply {x} {f} {y} {z} function′ first′ second′ representative′ head′ link′ value′ counts′ e c σ k few fits w = let d = c .applied in
       rw (e, c .in-value, c .counted, d .in-function, d .in-first, d .in-second, d .in-representative, add-one (counts .terms))
-      (engine-apply σ function first second representative head link value left right registers (counts .terms) (counts .tests) (counts .parted) k w x f y z (d .name) head′ link′ few (subst (Fits (σ .header)) e fits) (d .looked)
+      (engine-apply σ function first second representative head link value left right registers (counts .terms) (counts .tests) (counts .parted) k w x f y z
+      (d .name) head′ link′ few (subst (Fits (σ .header)) e fits) (d .looked)
       (rw (← d .in-function, ← d .in-first, ← d .in-second, ← d .in-representative) (d .indexed)))
 
   pub performed-equal : {x y : ℕ} (representative′ head′ link′ : List ℕ) (counts′ : Counts) → letter ≡ Equal x y
       → TermsEquated function first second representative value registers counts x y representative′ head′ link′ counts′
-      → LetterPerformed letter function first second representative head link value left right registers counts function first second representative′ head′ link′ value left right counts′
+      → LetterPerformed letter function first second representative head link value left right registers counts function first second representative′ head′
+      link′ value left right counts′
   unfolding LetterPerformed
   performed-equal {x} {y} representative′ head′ link′ counts′ e c σ k few fits w =
-      rw (e, c .terms, c .tests) (engine-equal σ function first second representative head link value left right registers (counts .terms) (counts .tests) (counts .parted) k w x y representative′ head′ link′ (counts′ .parted)
+      rw (e, c .terms, c .tests) (engine-equal σ function first second representative head link value left right registers (counts .terms) (counts .tests)
+      (counts .parted) k w x y representative′ head′ link′ (counts′ .parted)
       (subst (Fits (σ .header)) e fits) (c .merged) (c .parts left right (w .parts)) (c .parted))
 
-  pub performed-copy : {x y : ℕ} (value′ left′ right′ : List ℕ) (counts′ : Counts) → letter ≡ Copy x y → Noted letter value left right counts value′ left′ right′ counts′
-      → LetterPerformed letter function first second representative head link value left right registers counts function first second representative head link value′ left′ right′ counts′
+  pub performed-copy : {x y : ℕ} (value′ left′ right′ : List ℕ) (counts′ : Counts) → letter ≡ Copy x y
+      → Noted letter value left right counts value′ left′ right′ counts′
+      → LetterPerformed letter function first second representative head link value left right registers counts function first second representative head link
+      value′ left′ right′ counts′
   unfolding LetterPerformed Noted
   performed-copy {x} {y} value′ left′ right′ counts′ e d σ k few fits w =
       let (p, q, r, t) = subst (λ l. Noted l value left right counts value′ left′ right′ counts′) e d in
-      rw (e, p, q, r, t) (engine-copy σ function first second representative head link value left right registers (counts .terms) (counts .tests) (counts .parted) k w x y (subst (Fits (σ .header)) e fits))
+      rw (e, p, q, r, t) (engine-copy σ function first second representative head link value left right registers (counts .terms) (counts .tests)
+      (counts .parted) k w x y (subst (Fits (σ .header)) e fits))
 
-  pub performed-unequal : {x y : ℕ} (value′ left′ right′ : List ℕ) (counts′ : Counts) → letter ≡ Unequal x y → Noted letter value left right counts value′ left′ right′ counts′
-      → LetterPerformed letter function first second representative head link value left right registers counts function first second representative head link value′ left′ right′ counts′
+  pub performed-unequal : {x y : ℕ} (value′ left′ right′ : List ℕ) (counts′ : Counts) → letter ≡ Unequal x y
+      → Noted letter value left right counts value′ left′ right′ counts′
+      → LetterPerformed letter function first second representative head link value left right registers counts function first second representative head link
+      value′ left′ right′ counts′
   unfolding LetterPerformed Noted
   performed-unequal {x} {y} value′ left′ right′ counts′ e d σ k few fits w =
       let (p, q, r, t) = subst (λ l. Noted l value left right counts value′ left′ right′ counts′) e d in
-      rw (e, p, q, r, t, add-one (counts .tests)) (engine-unequal σ function first second representative head link value left right registers (counts .terms) (counts .tests) (counts .parted) k w x y few (subst (Fits (σ .header)) e fits))
+      rw (e, p, q, r, t, add-one (counts .tests))
+      (engine-unequal σ function first second representative head link value left right registers (counts .terms) (counts .tests)
+      (counts .parted) k w x y few (subst (Fits (σ .header)) e fits))
 
 -- ---- as `note` uses them
 module _ (letter : Letter) (counts : Counts) (r : Notable letter counts) where
@@ -370,7 +429,8 @@ module _ (letter : Letter) (value left right : List ℕ) (counts : Counts) where
   noted-copy {x} {y} e = rw e (refl, refl, refl, refl)
 
   pub noted-unequal : {x y : ℕ} → letter ≡ Unequal x y
-      → Noted letter value left right counts value (set left (counts .tests) (getD value x 0)) (set right (counts .tests) (getD value y 0)) (record { terms = counts .terms; tests = counts .tests + 1; parted = counts .parted })
+      → Noted letter value left right counts value (set left (counts .tests) (getD value x 0)) (set right (counts .tests) (getD value y 0))
+      (record { terms = counts .terms; tests = counts .tests + 1; parted = counts .parted })
   unfolding Noted
   noted-unequal {x} {y} e = rw e (refl, refl, refl, refl)
 
@@ -383,14 +443,26 @@ module _ (letter : Letter) (value left right : List ℕ) (counts : Counts) where
   noted-equal {x} {y} e = rw e (refl, refl, refl, refl)
 
 -- ---- as `equate` uses them
-module _ (function first second representative head link value : List ℕ) (registers : ℕ) (counts : Counts) (x y : ℕ) (r : Equatable function first second representative head link value registers counts x y) (a b : ℕ) (ea : a ≡ getD value x 0) (eb : b ≡ getD value y 0) where
-  pub equate-ready : Formed representative function first second registers (counts .terms) × (a < counts .terms) × (b < counts .terms) × Closed (entryAt function) (entryAt first) (entryAt second) registers (counts .terms) (entryAt representative)
+module _ (function first second representative head link value : List ℕ) (registers : ℕ) (counts : Counts) (x y : ℕ)
+    (r : Equatable function first second representative head link value registers counts x y) (a b : ℕ) (ea : a ≡ getD value x 0)
+    (eb : b ≡ getD value y 0) where
+  pub equate-ready : Formed representative function first second registers (counts .terms) × (a < counts .terms) × (b < counts .terms)
+      × Closed (entryAt function) (entryAt first) (entryAt second) registers (counts .terms) (entryAt representative)
       × IndexedTerms representative function first second registers (counts .terms) head link
-  equate-ready = (r .formed, subst (λ v. v < counts .terms) (sym ea) (r .first-term), subst (λ v. v < counts .terms) (sym eb) (r .second-term), r .closed, r .indexed)
+  equate-ready = (
+    r .formed,
+    subst (λ v. v < counts .terms) (sym ea) (r .first-term),
+    subst (λ v. v < counts .terms) (sym eb)
+        (r .second-term),
+    r .closed,
+    r .indexed,
+  )
 
-  pub equated-same : getD representative a 0 ≡ getD representative b 0 → TermsEquated function first second representative value registers counts x y representative head link counts
+  pub equated-same : getD representative a 0 ≡ getD representative b 0
+      → TermsEquated function first second representative value registers counts x y representative head link counts
   equated-same e = record {
-    merged = merged-same function first second registers (counts .terms) representative head link (getD value x 0) (getD value y 0) (r .formed) (r .closed) (r .indexed)
+    merged = merged-same function first second registers (counts .terms) representative head link (getD value x 0) (getD value y 0) (r .formed) (r .closed)
+        (r .indexed)
         (ap (λ v. getD representative v 0) (sym ea) ∙ e ∙ ap (λ v. getD representative v 0) eb);
     terms = refl;
     tests = refl;
@@ -398,8 +470,10 @@ module _ (function first second representative head link value : List ℕ) (regi
     parts = λ left right p. p;
   }
 
-  pub equated-merged : (representative′ head′ link′ : List ℕ) → Merged representative function first second registers (counts .terms) a b representative′ head′ link′
-      → TermsEquated function first second representative value registers counts x y representative′ head′ link′ (record { terms = counts .terms; tests = counts .tests; parted = 0 })
+  pub equated-merged : (representative′ head′ link′ : List ℕ)
+      → Merged representative function first second registers (counts .terms) a b representative′ head′ link′
+      → TermsEquated function first second representative value registers counts x y representative′ head′ link′
+      (record { terms = counts .terms; tests = counts .tests; parted = 0 })
   unfolding Parts
   equated-merged representative′ head′ link′ m = record {
     merged = subst (λ a. Merged representative function first second registers (counts .terms) a (getD value y 0) representative′ head′ link′) ea

@@ -21,7 +21,8 @@ use Rattle.letters.specs.CodeAnswers.{letterAnswer}
 use Rattle.letters.specs.Letters.{HeaderFits}
 use Rattle.letters.specs.Coding.{decodeLetter}
 use Rattle.letters.proofs.Theory.WordLaws.{first-roomy, decode-header, decode-letter}
-use Rattle.traces.specs.Reading.{TraceReading, trace, prependLetter, octets, reading, readingWhere, beginning, lettersFrom, lettersOf, letterIn, letterCount, chunks}
+use Rattle.traces.specs.Reading.{TraceReading, trace, prependLetter, octets, reading, readingWhere, beginning, lettersFrom, lettersOf, letterIn, letterCount}
+use Rattle.traces.specs.Reading.{chunks}
 use Rattle.traces.specs.ReadingParts.{readingWithin, letterAt}
 use Rattle.letters.specs.RefusalNumbers.{letterMalformed}
 use Rattle.engine.specs.Run.{Begun, readingFrom, behind, RestRead, all-read, broken}
@@ -41,7 +42,12 @@ unfolding beginning
 headed s h = byTest (ltb (length s) 2)
     (λ t. rw t λ q. absurd (not-value q))
     λ t. rw t (byTest (eqb (length s % 2) 0)
-    (λ u. rw u λ q. record { enough = ltb-false (length s) 2 t; whole = eqb-true (length s % 2) 0 u; fits = decode-header first-roomy (join (octets firstEdition) (take 2 s)) h .0 q .0 })
+    (λ u. rw u λ q. record {
+      enough = ltb-false (length s) 2 t;
+      whole = eqb-true (length s % 2) 0 u;
+      fits =
+          decode-header first-roomy (join (octets firstEdition) (take 2 s)) h .0 q .0;
+    })
     λ u. rw u λ q. absurd (not-value q))
 
 -- a word's two bytes
@@ -76,7 +82,8 @@ module _ (s : List ℕ) (h : Header) (n : ℕ) (r : Begun s h n) where
 
   pub rest-starts : lettersOf firstEdition h s ≡ readingFrom s h n 0
   unfolding lettersOf
-  rest-starts = let e : letterCount firstEdition s ≡ n - 0 = (let c = r .letters in omega arith) in ap (λ m. lettersFrom (letterIn firstEdition h) h 1 (chunks 2 m (drop 2 s))) e
+  rest-starts = let e : letterCount firstEdition s ≡ n - 0 = (let c = r .letters in omega arith) in
+      ap (λ m. lettersFrom (letterIn firstEdition h) h 1 (chunks 2 m (drop 2 s))) e
 
   pub rest-ends : (k : ℕ) → n ≤ k → readingFrom s h n k ≡ trace h []
   unfolding chunks lettersFrom
@@ -89,21 +96,27 @@ module _ (s : List ℕ) (h : Header) (n : ℕ) (r : Begun s h n) where
     unit = let c = r .letters in rw (le-leb (2 * (k + 2)) (length s) (omega arith))
 
     -- the letters from k on are letter k and the others
-    rest-is : readingFrom s h n k ≡ onAnswer (letterAnswer d) (λ l. prependLetter l (readingFrom s h n (k + 1))) λ _ _. TraceReading.refused letterMalformed (k + 1)
+    rest-is : readingFrom s h n k ≡ onAnswer (letterAnswer d) (λ l. prependLetter l (readingFrom s h n (k + 1))) λ _ _. TraceReading.refused letterMalformed
+        (k + 1)
     unfolding chunks lettersFrom
     rest-is =
         let m : n - k ≡ suc (n - (k + 1)) = omega arith in
-        let p : drop 2 (drop (2 * (k + 1)) s) ≡ drop (2 * (k + 1 + 1)) s = drop-drop 2 (2 * (k + 1)) s ∙ ap (λ i. drop i s) (let z : 2 * (k + 1) + 2 ≡ 2 * (k + 1 + 1) = omega arith in z) in
+        let p : drop 2 (drop (2 * (k + 1)) s) ≡ drop (2 * (k + 1 + 1)) s =
+        drop-drop 2 (2 * (k + 1)) s ∙ ap (λ i. drop i s) (let z : 2 * (k + 1) + 2 ≡ 2 * (k + 1 + 1) = omega arith in z) in
         ap (λ m. lettersFrom (letterIn firstEdition h) h (k + 1) (chunks 2 m (drop (2 * (k + 1)) s))) m
-        ∙ ap (λ t. onAnswer (letterIn firstEdition h (take 2 (drop (2 * (k + 1)) s))) (λ l. prependLetter l (lettersFrom (letterIn firstEdition h) h (k + 1 + 1) (chunks 2 (n - (k + 1)) t))) λ _ _. TraceReading.refused letterMalformed (k + 1)) p
+        ∙ ap (λ t. onAnswer (letterIn firstEdition h (take 2 (drop (2 * (k + 1)) s)))
+        (λ l. prependLetter l (lettersFrom (letterIn firstEdition h) h (k + 1 + 1) (chunks 2 (n - (k + 1)) t))) λ _ _. TraceReading.refused letterMalformed
+        (k + 1)) p
         ∙ ap (λ a. onAnswer a (λ l. prependLetter l (readingFrom s h n (k + 1))) λ _ _. TraceReading.refused letterMalformed (k + 1)) (sym (e ∙ unit))
 
     pub rest-bad : d ≡ decoded.Malformed → readingFrom s h n k ≡ TraceReading.refused letterMalformed (k + 1)
-    rest-bad q = rest-is ∙ ap (λ d. onAnswer (letterAnswer d) (λ l. prependLetter l (readingFrom s h n (k + 1))) λ _ _. TraceReading.refused letterMalformed (k + 1)) q
+    rest-bad q = rest-is ∙ ap (λ d. onAnswer (letterAnswer d) (λ l. prependLetter l (readingFrom s h n (k + 1))) λ _ _. TraceReading.refused letterMalformed
+        (k + 1)) q
 
     module _ {l : Letter} (q : d ≡ decoded.Letter l) where
       pub rest-good : readingFrom s h n k ≡ prependLetter l (readingFrom s h n (k + 1))
-      rest-good = rest-is ∙ ap (λ d. onAnswer (letterAnswer d) (λ l. prependLetter l (readingFrom s h n (k + 1))) λ _ _. TraceReading.refused letterMalformed (k + 1)) q
+      rest-good = rest-is ∙ ap (λ d. onAnswer (letterAnswer d) (λ l. prependLetter l (readingFrom s h n (k + 1))) λ _ _. TraceReading.refused letterMalformed
+          (k + 1)) q
 
       pub letter-fits : Fits h l
       letter-fits = decode-letter first-roomy h (join (octets firstEdition) (take 2 (drop (2 * (k + 1)) s))) l .0 (sym unit ∙ sym e ∙ ap letterAnswer q) .1
@@ -113,7 +126,8 @@ module _ (s : List ℕ) (h : Header) (n : ℕ) (r : Begun s h n) where
   pub bytes-there : (i : ℕ) → i < n → 2 * i + 2 + 1 < length s
   bytes-there i b = let c = r .letters in omega arith
 
-  pub decoded-at : (i word : ℕ) (d : DecodedLetter) → i < n → word ≡ getD s (2 * i + 2) 0 * 256 + getD s (2 * i + 2 + 1) 0 → letterAnswer d ≡ decodeLetter firstEdition h word → letterAnswer d ≡ letterAt firstEdition h s i
+  pub decoded-at : (i word : ℕ) (d : DecodedLetter) → i < n → word ≡ getD s (2 * i + 2) 0 * 256 + getD s (2 * i + 2 + 1) 0
+      → letterAnswer d ≡ decodeLetter firstEdition h word → letterAnswer d ≡ letterAt firstEdition h s i
   unfolding letterAt
   decoded-at i word d b w e =
       let c = r .letters in
@@ -130,7 +144,11 @@ module _ (s : List ℕ) (h : Header) (n : ℕ) (r : Begun s h n) where
 
       module _ (b : i < n) (d : DecodedLetter) (e : letterAnswer d ≡ letterAt firstEdition h s i) where
         pub following-turn : {l : Letter} → d ≡ decoded.Letter l → Following s h n k (i + 1)
-        following-turn {l} q = record { letters = w .letters ++ (l ∷ []); rest = w .rest ∙ ap (behind (w .letters)) (rest-good i b d e q) ∙ behind-one (w .letters) l (readingFrom s h n (i + 1)) }
+        following-turn {l} q = record {
+          letters = w .letters ++ (l ∷ []);
+          rest =
+              w .rest ∙ ap (behind (w .letters)) (rest-good i b d e q) ∙ behind-one (w .letters) l (readingFrom s h n (i + 1));
+        }
 
         pub following-bad : d ≡ decoded.Malformed → RestRead h (readingFrom s h n k) (i + 1)
         following-bad q = broken (i + 1) (omega arith) (w .rest ∙ ap (behind (w .letters)) (rest-bad i b d e q))

@@ -50,13 +50,15 @@ module _ (s : List ℕ) (h : Header) (n : ℕ) (r : spec.Begun s h n) where
   registers-few = fit .registers
 
   module _ (function first second representative head link value left right : List ℕ) (registers : ℕ) (counts : Counts) (k : ℕ) (b : k < n)
-      (w : spec.Running s h n function first second representative head link value left right registers (counts .terms) (counts .tests) (counts .parted) k) (read : DecodedLetter) (e : letterAnswer read ≡ letterAt firstEdition h s k) where
+      (w : spec.Running s h n function first second representative head link value left right registers (counts .terms) (counts .tests) (counts .parted) k)
+      (read : DecodedLetter) (e : letterAnswer read ≡ letterAt firstEdition h s k) where
     -- the letter is not well formed
     pub malformed-at : read ≡ decoded.Malformed → spec.Ran s h n function first second representative (outcome.Malformed (k + 1))
     malformed-at q = spec.malformed (k + 1) (w .rest ∙ ap (spec.behind (w .letters)) (rest-bad s h n r k b read e q))
 
   module _ (function first second representative head link value left right : List ℕ) (registers : ℕ) (counts : Counts) (k : ℕ) (b : k < n)
-      (w : spec.Running s h n function first second representative head link value left right registers (counts .terms) (counts .tests) (counts .parted) k) (read : DecodedLetter) (e : letterAnswer read ≡ letterAt firstEdition h s k)
+      (w : spec.Running s h n function first second representative head link value left right registers (counts .terms) (counts .tests) (counts .parted) k)
+      (read : DecodedLetter) (e : letterAnswer read ≡ letterAt firstEdition h s k)
       (l : Letter) (q : read ≡ decoded.Letter l) where
     same-header : state (traceOf h (w .letters)) .header ≡ h
     same-header = extend-header (begin h) (w .letters)
@@ -81,24 +83,36 @@ module _ (s : List ℕ) (h : Header) (n : ℕ) (r : spec.Begun s h n) where
     rest-next = w .rest ∙ ap (spec.behind (w .letters)) (rest-good s h n r k b read e q) ∙ behind-one (w .letters) l (spec.readingFrom s h n (k + 1))
 
     module _ (function′ first′ second′ representative′ head′ link′ value′ left′ right′ : List ℕ) (counts′ : Counts)
-        (p : LetterPerformed l function first second representative head link value left right registers counts function′ first′ second′ representative′ head′ link′ value′ left′ right′ counts′) where
-      engine-next : Engine (after (state (traceOf h (w .letters))) l) function′ first′ second′ representative′ head′ link′ value′ left′ right′ registers (counts′ .terms) (counts′ .tests) (counts′ .parted) (suc k)
+        (p : LetterPerformed l function first second representative head link value left right registers counts function′ first′ second′ representative′ head′
+        link′ value′ left′ right′ counts′) where
+      engine-next : Engine (after (state (traceOf h (w .letters))) l) function′ first′ second′ representative′ head′ link′ value′ left′ right′ registers
+          (counts′ .terms) (counts′ .tests) (counts′ .parted) (suc k)
       unfolding LetterPerformed
       engine-next = p (state (traceOf h (w .letters))) k under fits-next (w .engine)
 
-      pub clash-ready : (counts′ .parted ≤ counts′ .tests) × (counts′ .tests ≤ mostLetters) × Below mostTerms (counts′ .tests) left′ × Below mostTerms (counts′ .tests) right′ × Parts representative′ left′ right′ (counts′ .parted)
+      pub clash-ready : (counts′ .parted ≤ counts′ .tests) × (counts′ .tests ≤ mostLetters) × Below mostTerms (counts′ .tests) left′
+          × Below mostTerms (counts′ .tests) right′ × Parts representative′ left′ right′ (counts′ .parted)
       unfolding Below
       clash-ready =
           let q = engine-next in
-          let f = q .formed .within in
-          (q .parts-few, let a = q .tests-few in let c = under in omega arith, (λ i d. let a = q .sides .left-below i d in omega arith), (λ i d. let a = q .sides .right-below i d in omega arith), q .parts)
+          let f = q .formed .within in (
+            q .parts-few,
+            let a = q .tests-few in let c = under in
+                omega arith,
+            (λ i d. let a = q .sides .left-below i d in omega arith),
+            (λ i d. let a = q .sides .right-below i d in omega arith),
+            q .parts,
+          )
 
       module _ (c : Bool) (d : Clashes representative′ left′ right′ (counts′ .tests) c) where
         clashing : ((c ≡ true) × (¬ Feasible (after (state (traceOf h (w .letters))) l))) ⊎ ((c ≡ false) × Feasible (after (state (traceOf h (w .letters))) l))
-        clashing = let q = engine-next in letter-clash (after (state (traceOf h (w .letters))) l) function′ first′ second′ representative′ value′ registers (counts′ .terms) (q .represents) left′ right′ (counts′ .tests) (q .sides) c d
+        clashing = let q = engine-next in
+            letter-clash (after (state (traceOf h (w .letters))) l) function′ first′ second′ representative′ value′ registers (counts′ .terms)
+            (q .represents) left′ right′ (counts′ .tests) (q .sides) c d
 
         -- all tests so far have their sides in different classes
-        judged : c ≡ false → Engine (after (state (traceOf h (w .letters))) l) function′ first′ second′ representative′ head′ link′ value′ left′ right′ registers (counts′ .terms) (counts′ .tests) (counts′ .tests) (suc k)
+        judged : c ≡ false → Engine (after (state (traceOf h (w .letters))) l) function′ first′ second′ representative′ head′ link′ value′ left′ right′
+            registers (counts′ .terms) (counts′ .tests) (counts′ .tests) (suc k)
         unfolding Parts
         judged z = let q = engine-next in record {
           formed = q .formed;
@@ -119,18 +133,22 @@ module _ (s : List ℕ) (h : Header) (n : ℕ) (r : spec.Begun s h n) where
           parts-few = omega arith;
         }
           where
-            parted : {b : Bool} → b ≡ false → Clashes representative′ left′ right′ (counts′ .tests) b → (q : ℕ) → q < counts′ .tests → getD representative′ (getD left′ q 0) 0 ≢ getD representative′ (getD right′ q 0) 0
+            parted : {b : Bool} → b ≡ false → Clashes representative′ left′ right′ (counts′ .tests) b → (q : ℕ) → q < counts′ .tests
+                → getD representative′ (getD left′ q 0) 0 ≢ getD representative′ (getD right′ q 0) 0
             parted z (clashes q h e) = absurd (true-false z)
             parted z (arrays.parts none) = none
 
-        pub goes-on : c ≡ false → spec.Running s h n function′ first′ second′ representative′ head′ link′ value′ left′ right′ registers (counts′ .terms) (counts′ .tests) (counts′ .tests) (k + 1)
+        pub goes-on : c ≡ false → spec.Running s h n function′ first′ second′ representative′ head′ link′ value′ left′ right′ registers (counts′ .terms)
+            (counts′ .tests) (counts′ .tests) (k + 1)
         goes-on z = record {
           letters = letters-next;
           long = length-append (w .letters) (l ∷ []) ∙ (let a = w .long in omega arith);
           rest = rest-next;
           formed = subst WellFormed (sym next) (w .formed, fits-next);
-          engine = subst (λ ρ. Engine (state ρ) function′ first′ second′ representative′ head′ link′ value′ left′ right′ registers (counts′ .terms) (counts′ .tests) (counts′ .tests) (k + 1)) (sym next)
-              (subst (λ j. Engine (after (state (traceOf h (w .letters))) l) function′ first′ second′ representative′ head′ link′ value′ left′ right′ registers (counts′ .terms) (counts′ .tests) (counts′ .tests) j) (sym (add-one k)) (judged z));
+          engine = subst (λ ρ. Engine (state ρ) function′ first′ second′ representative′ head′ link′ value′ left′ right′ registers (counts′ .terms)
+              (counts′ .tests) (counts′ .tests) (k + 1)) (sym next)
+              (subst (λ j. Engine (after (state (traceOf h (w .letters))) l) function′ first′ second′ representative′ head′ link′ value′ left′ right′ registers
+              (counts′ .terms) (counts′ .tests) (counts′ .tests) j) (sym (add-one k)) (judged z));
           feasible = subst (λ ρ. Feasible (state ρ)) (sym next) (elim clashing [ inl (y, x) ↦ absurd (true-false (sym y ∙ z)) | inr (y, x) ↦ x ]);
         }
 
@@ -143,23 +161,30 @@ module _ (s : List ℕ) (h : Header) (n : ℕ) (r : spec.Begun s h n) where
             fails : FailsAt (λ π. Feasible (state π)) (traceOf h (w .letters) ▸ l) (k + 1)
             fails = inr (so-long, w .feasible, elim clashing [ inl (y, x) ↦ x | inr (y, x) ↦ absurd (true-false (sym z ∙ y)) ])
 
-  module _ (function first second representative head link value left right : List ℕ) (registers : ℕ) (counts : Counts) (k : ℕ) (b : n ≤ k) (e : registers ≡ h .registers)
-      (w : spec.Running s h n function first second representative head link value left right registers (counts .terms) (counts .tests) (counts .parted) k) where
-    pub ends : spec.Ran s h n function first second representative (outcome.Feasible (counts .terms))
-    ends = spec.feasible (counts .terms) (w .letters) (w .rest ∙ ap (spec.behind (w .letters)) (rest-ends s h n r k b) ∙ ap (trace h) (append-nil (w .letters))) (first-infeasible-unique (traceOf h (w .letters)) (w .formed) 0 (w .feasible))
-        (subst (λ g. Computed (state (traceOf h (w .letters))) function first second representative g (counts .terms)) e (record {
-          valid = w .engine .represents .valid;
-          header-registers = w .engine .represents .header-registers;
-          registers-few = w .engine .registers-few;
-          formed = w .engine .formed;
-          numbered = w .engine .represents .numbered;
-          exactly = w .engine .represents .exactly;
-        }))
+  module _ (function first second representative head link value left right : List ℕ) (registers : ℕ) (counts : Counts) (k : ℕ) (b : n ≤ k)
+      (e : registers ≡ h .registers)
+      (w : spec.Running s h n function first second representative head link value left right registers (counts .terms) (counts .tests) (counts .parted) k)
+    where
+      pub ends : spec.Ran s h n function first second representative (outcome.Feasible (counts .terms))
+      ends = spec.feasible (counts .terms) (w .letters)
+          (w .rest ∙ ap (spec.behind (w .letters)) (rest-ends s h n r k b) ∙ ap (trace h) (append-nil (w .letters)))
+          (first-infeasible-unique (traceOf h (w .letters)) (w .formed) 0 (w .feasible))
+          (subst (λ g. Computed (state (traceOf h (w .letters))) function first second representative g (counts .terms)) e (record {
+            valid = w .engine .represents .valid;
+            header-registers = w .engine .represents .header-registers;
+            registers-few = w .engine .registers-few;
+            formed = w .engine .formed;
+            numbered = w .engine .represents .numbered;
+            exactly = w .engine .represents .exactly;
+          }))
 
   -- how a run begins
-  module _ (function first second representative head link value left right representative′ value′ : List ℕ) (bf : spec.Blank function) (bo : spec.Blank first) (bs : spec.Blank second) (br : spec.Blank representative)
-      (lh : length head ≡ chainCount) (zh : (b : ℕ) → getD head b 0 ≡ 0) (bl : spec.Blank link) (lv : length value ≡ mostRegisters) (ll : length left ≡ mostLetters) (lr : length right ≡ mostLetters) where
-    begun : spec.Began representative value (h .registers) representative′ value′ → spec.Running s h n function first second representative′ head link value′ left right (h .registers) (h .registers) 0 0 0
+  module _ (function first second representative head link value left right representative′ value′ : List ℕ) (bf : spec.Blank function) (bo : spec.Blank first)
+      (bs : spec.Blank second) (br : spec.Blank representative)
+      (lh : length head ≡ chainCount) (zh : (b : ℕ) → getD head b 0 ≡ 0) (bl : spec.Blank link) (lv : length value ≡ mostRegisters)
+      (ll : length left ≡ mostLetters) (lr : length right ≡ mostLetters) where
+    begun : spec.Began representative value (h .registers) representative′ value′
+        → spec.Running s h n function first second representative′ head link value′ left right (h .registers) (h .registers) 0 0 0
     unfolding Below Parts
     begun b = record {
       letters = [];
@@ -182,8 +207,18 @@ module _ (s : List ℕ) (h : Header) (n : ℕ) (r : spec.Begun s h n) where
           second-before = λ k l. let z = bs .zero k in omega arith;
         };
         represents = represents-start h (entryAt function) (entryAt first) (entryAt second) (entryAt representative′) (entryAt value′) class-at value-at;
-        indexed = record { chains = chains-none head link (h .registers) lh (bl .long) zh (bl .zero) (fit .some); complete = complete-none (signatureAt representative′ function first second) (h .registers) head link zh (fit .some) };
-        sides = record { left-below = λ q l. absurd (omega arith); right-below = λ q l. absurd (omega arith); listed = λ q l. absurd (omega arith); all = λ u v m. absurd (List·Memᴰ·not-nil m) };
+        indexed = record {
+          chains = chains-none head link (h .registers) lh (bl .long) zh (bl .zero) (fit .some);
+          complete =
+              complete-none (signatureAt representative′ function first second) (h .registers) head link zh (fit .some);
+        };
+        sides = record {
+          left-below = λ q l. absurd (omega arith);
+          right-below = λ q l. absurd (omega arith);
+          listed = λ q l. absurd (omega arith);
+          all =
+              λ u v m. absurd (List·Memᴰ·not-nil m);
+        };
         registers-few = within-registers;
         functions-few = fit .functions;
         function-long = bf .long;
@@ -204,7 +239,8 @@ module _ (s : List ℕ) (h : Header) (n : ℕ) (r : spec.Begun s h n) where
         within-registers = fit .registers
 
         class-at : (k : ℕ) → k < h .registers → getD representative′ k 0 ≡ k
-        class-at k l = ap (λ (r : List ℕ). getD r k 0) (b .classes) ∙ done-below (λ i _. i) (h .registers) representative 0 k l (let m = br .long in let o = within-registers in omega arith)
+        class-at k l = ap (λ (r : List ℕ). getD r k 0) (b .classes)
+            ∙ done-below (λ i _. i) (h .registers) representative 0 k l (let m = br .long in let o = within-registers in omega arith)
 
         value-at : (k : ℕ) → k < h .registers → getD value′ k 0 ≡ k
         value-at k l = ap (λ (r : List ℕ). getD r k 0) (b .values) ∙ done-below (λ i _. i) (h .registers) value 0 k l (let o = within-registers in omega arith)

@@ -8,7 +8,8 @@ use Rattle.engine.proofs.begin.Statement.{statement}
 use Rattle.engine.proofs.begin.Tie as tie
 
 abbrev Inv-loop : tie.InvT-loop
-Inv-loop representative₀ value₀ registers i₀ representative value i = (i ≤ registers) × (representative ≡ eachUpTo (λ i _. i) i representative₀) × (value ≡ eachUpTo (λ i _. i) i value₀)
+Inv-loop representative₀ value₀ registers i₀ representative value i =
+    (i ≤ registers) × (representative ≡ eachUpTo (λ i _. i) i representative₀) × (value ≡ eachUpTo (λ i _. i) i value₀)
 
 abbrev μ-loop : tie.MeasureT-loop
 μ-loop representative₀ value₀ registers i₀ representative value i = registers - i

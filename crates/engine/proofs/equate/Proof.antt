@@ -18,6 +18,10 @@ equate-spec =
     (λ c. search needs)
     (λ c. search needs)
     (λ c. search needs)
-    (λ c. equated-same _ _ _ _ _ _ _ _ _ _ _ (c .before .before .before .before .before .before .before .pre) _ _ (c .before .before .before .before .before .wide .ensures) (c .before .before .before .wide2 .ensures) (c .if1 .taken))
-    (λ c κs. equate-ready _ _ _ _ _ _ _ _ _ _ _ (c .before .before .before .before .before .before .before .before .before .before .pre) _ _ (c .before .before .before .before .before .before .before .before .wide .ensures) (c .before .before .before .before .before .before .wide2 .ensures))
-    (λ c. equated-merged _ _ _ _ _ _ _ _ _ _ _ (c .before .before .before .before .before .before .before .before .before .before .before .pre) _ _ (c .before .before .before .before .before .before .before .before .before .wide .ensures) (c .before .before .before .before .before .before .before .wide2 .ensures) _ _ _ (c .merge .ensures)))
+    (λ c. equated-same _ _ _ _ _ _ _ _ _ _ _ (c .before .before .before .before .before .before .before .pre) _ _
+    (c .before .before .before .before .before .wide .ensures) (c .before .before .before .wide2 .ensures) (c .if1 .taken))
+    (λ c κs. equate-ready _ _ _ _ _ _ _ _ _ _ _ (c .before .before .before .before .before .before .before .before .before .before .pre) _ _
+    (c .before .before .before .before .before .before .before .before .wide .ensures) (c .before .before .before .before .before .before .wide2 .ensures))
+    (λ c. equated-merged _ _ _ _ _ _ _ _ _ _ _ (c .before .before .before .before .before .before .before .before .before .before .before .pre) _ _
+    (c .before .before .before .before .before .before .before .before .before .wide .ensures)
+    (c .before .before .before .before .before .before .before .wide2 .ensures) _ _ _ (c .merge .ensures)))

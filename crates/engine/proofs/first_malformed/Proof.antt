@@ -28,9 +28,20 @@ first-malformed-spec =
     (λ c κs. search needs)
     (λ c. search needs)
     (λ c. search needs)
-    (λ c. let h = (c .before .before .before .before .before .before .loop-test .taken) in let l = (c .before .before .before .before .before .before .before .before .before .pre .few) in omega arith)
-    (λ c. following-bad _ _ _ (c .before .before .before .before .before .before .before .before .before .pre) _ _ (c .before .before .before .before .before .before .before .loop .inv) (c .before .before .before .before .before .before .loop-test .taken) _ (decoded-at _ _ _ (c .before .before .before .before .before .before .before .before .before .pre) _ _ (c .before .before .decode-letter .result) (c .before .before .before .before .before .before .loop-test .taken) (c .before .before .before .word .ensures) (c .before .before .decode-letter .ensures)) (c .enum-told .given .1))
-    (λ c. let h = (c .before .before .before .before .before .before .before .loop-test .taken) in let l = (c .before .before .before .before .before .before .before .before .before .before .pre .few) in omega arith)
+    (λ c. let h = (c .before .before .before .before .before .before .loop-test .taken) in
+    let l = (c .before .before .before .before .before .before .before .before .before .pre .few) in omega arith)
+    (λ c. following-bad _ _ _ (c .before .before .before .before .before .before .before .before .before .pre) _ _
+    (c .before .before .before .before .before .before .before .loop .inv) (c .before .before .before .before .before .before .loop-test .taken) _
+    (decoded-at _ _ _ (c .before .before .before .before .before .before .before .before .before .pre) _ _ (c .before .before .decode-letter .result)
+    (c .before .before .before .before .before .before .loop-test .taken) (c .before .before .before .word .ensures)
+    (c .before .before .decode-letter .ensures)) (c .enum-told .given .1))
+    (λ c. let h = (c .before .before .before .before .before .before .before .loop-test .taken) in
+    let l = (c .before .before .before .before .before .before .before .before .before .before .pre .few) in omega arith)
     (λ c. let h = (c .before .before .before .before .before .before .before .loop-test .taken) in omega arith)
-    (λ c. following-turn _ _ _ (c .before .before .before .before .before .before .before .before .before .before .pre) _ _ (c .before .before .before .before .before .before .before .before .loop .inv) (c .before .before .before .before .before .before .before .loop-test .taken) _ (decoded-at _ _ _ (c .before .before .before .before .before .before .before .before .before .before .pre) _ _ (c .before .before .before .decode-letter .result) (c .before .before .before .before .before .before .before .loop-test .taken) (c .before .before .before .before .word .ensures) (c .before .before .before .decode-letter .ensures)) (c .before .decoded .given .1))
+    (λ c. following-turn _ _ _ (c .before .before .before .before .before .before .before .before .before .before .pre) _ _
+    (c .before .before .before .before .before .before .before .before .loop .inv)
+    (c .before .before .before .before .before .before .before .loop-test .taken) _
+    (decoded-at _ _ _ (c .before .before .before .before .before .before .before .before .before .before .pre) _ _
+    (c .before .before .before .decode-letter .result) (c .before .before .before .before .before .before .before .loop-test .taken)
+    (c .before .before .before .before .word .ensures) (c .before .before .before .decode-letter .ensures)) (c .before .decoded .given .1))
     (λ c. following-end _ _ _ (c .before .before .before .pre) _ _ (c .before .loop .inv) (c .loop-test .left)))

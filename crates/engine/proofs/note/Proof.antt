@@ -26,9 +26,11 @@ note-spec =
     (λ c. search needs)
     (λ c. search needs)
     (λ c. (unequal-below _ _ (c .before .before .before .before .pre) (c .before .before .letter2 .given .1)) .1)
-    (λ c. let h = unequal-below _ _ (c .before .before .before .before .before .pre) (c .before .before .before .letter2 .given .1) in let l = h .2 in omega arith)
+    (λ c. let h = unequal-below _ _ (c .before .before .before .before .before .pre) (c .before .before .before .letter2 .given .1) in let l = h .2 in
+    omega arith)
     (λ c. (unequal-below _ _ (c .before .before .before .before .before .pre) (c .before .before .before .letter2 .given .1)) .2)
-    (λ c. let h = unequal-below _ _ (c .before .before .before .before .before .pre) (c .before .before .before .letter2 .given .1) in let l = h .2 in omega arith)
+    (λ c. let h = unequal-below _ _ (c .before .before .before .before .before .pre) (c .before .before .before .letter2 .given .1) in let l = h .2 in
+    omega arith)
     (λ c. noted-unequal _ _ _ _ _ (c .before .before .before .letter2 .given .1))
     (λ c. search needs)
     (λ c. search needs)

@@ -67,14 +67,16 @@ module _ (given : Given) where
   unfolding exploreFrom
   explored n zero count d t g l = finished n count d t g (let w = g .within in omega arith)
   explored n (suc f) count d t g l = byTest (ltb d (2 * count))
-      (λ e. rw e (after (turnOf x (end given) n count d t) (tableOf x (end given) n count d t) (ltb-true d (2 * count) e) (turned given n count d t g (ltb-true d (2 * count) e))
+      (λ e. rw e (after (turnOf x (end given) n count d t) (tableOf x (end given) n count d t) (ltb-true d (2 * count) e)
+      (turned given n count d t g (ltb-true d (2 * count) e))
       (λ m u v. explored n f m (d + 1) u v (omega arith))))
       (λ e. rw e (finished n count d t g (ltb-false d (2 * count) e)))
     where
       x : PointEntry
       x = pointOf (held given) t (d / 2)
 
-      after : (r : Turn) (u : List ℕ) → d < 2 * count → Turned given n count d t r u → ((m : ℕ) (v : List ℕ) → Going given n m (d + 1) v → EndedAs n (exploreFrom f (held given) (end given) n m (d + 1) v))
+      after : (r : Turn) (u : List ℕ) → d < 2 * count → Turned given n count d t r u
+          → ((m : ℕ) (v : List ℕ) → Going given n m (d + 1) v → EndedAs n (exploreFrom f (held given) (end given) n m (d + 1) v))
           → EndedAs n (onTurn r u count d λ m. exploreFrom f (held given) (end given) n m (d + 1) u)
       after (On m) u q z ih = ih m u z
       after Full u q z ih = z
@@ -114,7 +116,8 @@ module _ (given : Given) where
 
   -- where not even the first pair fits
   pub none-fits : (n : ℕ) → 0 < end given → n ≡ 0 → Passing given n
-  none-fits n l e = listed-more (starts given) (step given) one 0 n (begins-one (starts given) (step given) one (0, fresh given) (starts-at l) refl refl) (omega arith)
+  none-fits n l e = listed-more (starts given) (step given) one 0 n (begins-one (starts given) (step given) one (0, fresh given) (starts-at l) refl refl)
+      (omega arith)
     where
       one : Listing (ℕ × Window)
       one = record { count = 1; state = λ j. (0, fresh given); parent = λ j. 0; branch = λ j. first }

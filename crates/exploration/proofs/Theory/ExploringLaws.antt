@@ -34,7 +34,8 @@ CountWithin count n Failing = Unit {0}
 module _ (n count : ℕ) (l : count ≤ n) where
   reach-within : (k : ℕ) (w : Window) (end : ℕ) (t : List ℕ) → CountWithin count n (reachTurn k w end n count t)
   unfolding reachTurn
-  reach-within k w end t = byTest (leb end k) (λ e. rw e (omega arith, omega arith)) λ e. rw e (byTest (isListed t count (encoded k w)) (λ f. rw f (omega arith, omega arith))
+  reach-within k w end t = byTest (leb end k) (λ e. rw e (omega arith, omega arith)) λ e. rw e
+      (byTest (isListed t count (encoded k w)) (λ f. rw f (omega arith, omega arith))
       λ f. rw f (byTest (eqb count n) (λ g. rw g tt) λ g. rw g (omega arith, let h = eqb-false count n g in omega arith)))
 
   fail-within : (w : Window) → CountWithin count n (failTurn w count)
@@ -58,11 +59,13 @@ module _ (ps : List PointEntry) (end n count d : ℕ) (t : List ℕ) where
 
   -- a turn of it
   step : (f : ℕ) → 2 * n - d ≡ suc f → d < 2 * count
-      → From count d t ≡ onTurn (turnOf (pointOf ps t (d / 2)) end n count d t) (tableOf (pointOf ps t (d / 2)) end n count d t) count d λ m. exploreFrom f ps end n m (d + 1) (tableOf (pointOf ps t (d / 2)) end n count d t)
+      → From count d t ≡ onTurn (turnOf (pointOf ps t (d / 2)) end n count d t) (tableOf (pointOf ps t (d / 2)) end n count d t) count d
+      λ m. exploreFrom f ps end n m (d + 1) (tableOf (pointOf ps t (d / 2)) end n count d t)
   unfolding exploreFrom
   step f e l = rw (e, lt-ltb d (2 * count) l) refl
 
-  module _ (bound : count ≤ n) (l : d < 2 * count) (x : PointEntry) (turn : Turn) (u : List ℕ) (i : x ≡ pointOf ps t (d / 2)) (g : turn ≡ turnOf x end n count d t) (h : u ≡ tableOf x end n count d t) where
+  module _ (bound : count ≤ n) (l : d < 2 * count) (x : PointEntry) (turn : Turn) (u : List ℕ) (i : x ≡ pointOf ps t (d / 2))
+      (g : turn ≡ turnOf x end n count d t) (h : u ≡ tableOf x end n count d t) where
     turned : From count d t ≡ onTurn turn u count d λ m. From m (d + 1) u
     turned =
         step (2 * n - (d + 1)) (omega arith) l
@@ -99,7 +102,8 @@ module _ (ps : List PointEntry) (end n count d : ℕ) (t : List ℕ) where
       go (suc f) = rw (le-ltb d (2 * count) l) refl
 
 -- ── the whole search ──
-pub search-goes : (h : Header) (ps : List PointEntry) (end n : ℕ) (t : List ℕ) → end ≢ 0 → n ≢ 0 → (w : Window) (pair u : List ℕ) → w ≡ freshOf (h .registers) → pair ≡ encoded 0 w
+pub search-goes : (h : Header) (ps : List PointEntry) (end n : ℕ) (t : List ℕ) → end ≢ 0 → n ≢ 0 → (w : Window) (pair u : List ℕ) → w ≡ freshOf (h .registers)
+    → pair ≡ encoded 0 w
     → u ≡ putAt t 0 (recordOf pair 0 0) → (r : Search) (v : List ℕ) → r ≡ exploreOf ps end n u .0 → v ≡ exploreOf ps end n u .1
     → (r ≡ searchOf h ps end n t .0) × (v ≡ searchOf h ps end n t .1)
 unfolding searchOf

@@ -104,12 +104,23 @@ module _ (given : Given) where
     here : Searching starts step (listed t count) (turn (d / 2) (branchNumbered (d % 2)))
     here = subst (Searching starts step (listed t count)) (sym (turn-of d)) (g .searching)
 
-    onward : (m : ℕ) (u : List ℕ) → Searching starts step (listed u m) (suc (turn (d / 2) (branchNumbered (d % 2)))) → Searching starts step (listed u m) (d + 1)
+    onward : (m : ℕ) (u : List ℕ) → Searching starts step (listed u m) (suc (turn (d / 2) (branchNumbered (d % 2))))
+        → Searching starts step (listed u m) (d + 1)
     onward m u v = subst (Searching starts step (listed u m)) (let e = turn-of d in omega arith) v
 
     -- nothing is listed anew
     stays : Searching starts step (listed t count) (suc (turn (d / 2) (branchNumbered (d % 2)))) → Going n count (d + 1) t
-    stays v = record { searching = onward count t v; kept = g .kept; live = g .live; due = g .due; within = g .within; behind = omega arith; most = g .most; room = g .room }
+    stays v = record {
+      searching = onward count t v;
+      kept = g .kept;
+      live = g .live;
+      due = g .due;
+      within = g .within;
+      behind = omega arith;
+      most =
+          g .most;
+      room = g .room;
+    }
 
     stopped : step (k, w) b ≡ stop → Going n count (d + 1) t
     stopped e = stays (passes starts step (listed t count) i b here e)
@@ -143,7 +154,8 @@ module _ (given : Given) where
         at-new : (pointAt u count ≡ p) × (windowAt u count ≡ v) × (parentAt u count ≡ d / 2) × (branchAt u count ≡ d % 2) × PairStored u count
         at-new = written t count p (d / 2) (d % 2) v fits fits-record (omega (arith, given .few)) (omega (arith, bound)) (omega arith)
 
-        at-old : (j : ℕ) → j < count → (pointAt u j ≡ pointAt t j) × (windowAt u j ≡ windowAt t j) × (parentAt u j ≡ parentAt t j) × (branchAt u j ≡ branchAt t j) × (PairStored t j → PairStored u j)
+        at-old : (j : ℕ) → j < count → (pointAt u j ≡ pointAt t j) × (windowAt u j ≡ windowAt t j) × (parentAt u j ≡ parentAt t j)
+            × (branchAt u j ≡ branchAt t j) × (PairStored t j → PairStored u j)
         at-old j r = others t count p (d / 2) (d % 2) v fits fits-record j r
 
         one-more : Extends (listed t count) (p, v) i b (listed u (count + 1))
@@ -165,7 +177,8 @@ module _ (given : Given) where
           searching = onward (count + 1) u (grows starts step (listed t count) i b (p, v) (listed u (count + 1)) here (omega arith) e (new f) one-more);
           kept = by-place (PairStored u) (λ j r. at-old j r .4 (g .kept j r)) (at-new .4);
           live = by-place (λ j. Live (windowAt u j)) (λ j r. subst Live (sym (at-old j r .1)) (g .live j r)) (subst Live (sym (at-new .1)) lv);
-          due = by-place (λ j. pointAt u j < end given) (λ j r. subst (λ z. z < end given) (sym (at-old j r .0)) (g .due j r)) (subst (λ z. z < end given) (sym (at-new .0)) q);
+          due = by-place (λ j. pointAt u j < end given) (λ j r. subst (λ z. z < end given) (sym (at-old j r .0)) (g .due j r))
+              (subst (λ z. z < end given) (sym (at-new .0)) q);
           within = omega arith;
           behind = omega arith;
           most = g .most;
@@ -211,16 +224,28 @@ module _ (given : Given) where
           (λ y. rw y (e ∙ ap (λ z. elim z [ true ↦ stop | false ↦ event failing ]) y, refl))
 
     -- the branch that the move takes
-    taken : (o : enum.PointMove) → moves-at (points (body given)) k b ≡ meant o → Turned n count d t (takenTurn o w (end given) n count t) (takenTable o w (end given) n count d t)
+    taken : (o : enum.PointMove) → moves-at (points (body given)) k b ≡ meant o
+        → Turned n count d t (takenTurn o w (end given) n count t) (takenTable o w (end given) n count d t)
     unfolding takenTurn takenTable
     taken Nothing e = stopped (ap (moving performing infeasibleIn (end given) w) e)
     taken (Goes a p) e = byTest (judgeOf w a)
-        (λ y. rw y (reaching a (subst (FitsMove (header given)) e (moves-fit given k b)) y p (ap (moving performing infeasibleIn (end given) w) e ∙ ap (performed performing infeasibleIn (end given) (at p)) (performing-yes w a y))))
-        (λ y. rw y (ap (moving performing infeasibleIn (end given) w) e ∙ ap (performed performing infeasibleIn (end given) (at p)) (performing-no w a y), refl))
+        (λ y. rw y (reaching a (subst (FitsMove (header given)) e (moves-fit given k b)) y p
+        (ap (moving performing infeasibleIn (end given) w) e ∙ ap (performed performing infeasibleIn (end given) (at p)) (performing-yes w a y))))
+        (λ y. rw y (
+          ap (moving performing infeasibleIn (end given) w) e
+              ∙ ap (performed performing infeasibleIn (end given) (at p)) (performing-no w a y),
+          refl,
+        ))
     taken (Fails a) e = byTest (judgeOf w a)
-        (λ y. rw y (failed a (subst (FitsMove (header given)) e (moves-fit given k b)) y (ap (moving performing infeasibleIn (end given) w) e ∙ ap (performed performing infeasibleIn (end given) failure) (performing-yes w a y))))
-        (λ y. rw y (ap (moving performing infeasibleIn (end given) w) e ∙ ap (performed performing infeasibleIn (end given) failure) (performing-no w a y), refl))
+        (λ y. rw y (failed a (subst (FitsMove (header given)) e (moves-fit given k b)) y
+        (ap (moving performing infeasibleIn (end given) w) e ∙ ap (performed performing infeasibleIn (end given) failure) (performing-yes w a y))))
+        (λ y. rw y (
+          ap (moving performing infeasibleIn (end given) w) e
+              ∙ ap (performed performing infeasibleIn (end given) failure) (performing-no w a y),
+          refl,
+        ))
 
-    pub turned : Turned n count d t (turnOf (pointOf (held given) t (d / 2)) (end given) n count d t) (tableOf (pointOf (held given) t (d / 2)) (end given) n count d t)
+    pub turned : Turned n count d t (turnOf (pointOf (held given) t (d / 2)) (end given) n count d t)
+        (tableOf (pointOf (held given) t (d / 2)) (end given) n count d t)
     unfolding turnOf tableOf
     turned = taken (moveOf (pointOf (held given) t (d / 2)) (d % 2)) (sym (branch-held given k (d % 2) (g .due i (omega arith))))

@@ -42,7 +42,8 @@ unused-at zero k = refl
 unused-at (suc n) zero = refl
 unused-at (suc n) (suc k) = unused-at n k
 
-pub held-at : (ps : List points.Point) (n k : ℕ) (x : points.Point) → getElem? ps k ≡ some x → getD (map heldPoint ps ++ replicate n unusedPoint) k noPoint ≡ heldPoint x
+pub held-at : (ps : List points.Point) (n k : ℕ) (x : points.Point) → getElem? ps k ≡ some x
+    → getD (map heldPoint ps ++ replicate n unusedPoint) k noPoint ≡ heldPoint x
 held-at [] n k x e = absurd (let z : _≡_ {A = ℕ} 0 1 = cc in omega arith)
 held-at (y ∷ ps) n zero x e = let f : y ≡ x = cc in ap heldPoint f
 held-at (y ∷ ps) n (suc k) x e = held-at ps n k x e
@@ -67,7 +68,8 @@ module _ (h : Header) (registers : h .registers ≤ 8) (functions : h .functions
   pub all-within : (m : Block) → ProperBlock m h → (n : ℕ) → AllWithin (map heldPoint (points.points m) ++ replicate n unusedPoint)
   all-within m p n k b = go (getElem? (points.points m) k) refl
     where
-      go : (o : Option points.Point) → getElem? (points.points m) k ≡ o → WithinPacking (letterOf (moveOf (getD (map heldPoint (points.points m) ++ replicate n unusedPoint) k noPoint) b))
+      go : (o : Option points.Point) → getElem? (points.points m) k ≡ o
+          → WithinPacking (letterOf (moveOf (getD (map heldPoint (points.points m) ++ replicate n unusedPoint) k noPoint) b))
       go none e = subst (λ x. WithinPacking (letterOf (moveOf x b))) (sym (held-past (points.points m) n k e)) (copy-within b)
       go (some x) e =
           let f : FitsMove h (moves-at (points.points m) k (branchNumbered b)) = points-fit h m p k (branchNumbered b) in

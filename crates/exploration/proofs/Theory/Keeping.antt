@@ -44,13 +44,15 @@ module _ (count : ℕ) (t head link : List ℕ) (x : IndexedPairs t head link co
     new : Keeps count t (On (count + 1)) (putAt t count (recordOf pair i b)) (set head (chainOf pair) count) (set link count (getD head (chainOf pair) 0))
     new = record {
       windows = λ j l. window-other t count (recordOf pair i b) fits long j (λ z. omega arith);
-      indexed = λ m e. subst (IndexedPairs (putAt t count (recordOf pair i b)) (set head (chainOf pair) count) (set link count (getD head (chainOf pair) 0))) (let z : count + 1 ≡ m = cc in z)
+      indexed = λ m e. subst (IndexedPairs (putAt t count (recordOf pair i b)) (set head (chainOf pair) count) (set link count (getD head (chainOf pair) 0)))
+          (let z : count + 1 ≡ m = cc in z)
           (index-more t head link count x within pair (putAt t count (recordOf pair i b))
           (λ j l. pair-other t count (recordOf pair i b) fits long j (λ z. omega arith))
           (pair-same t count i b pair fits whole));
     }
 
-    pub keeps-new : (t′ head′ link′ : List ℕ) → t′ ≡ putAt t count (recordOf pair i b) → head′ ≡ set head (chainOf pair) count → link′ ≡ set link count (getD head (chainOf pair) 0)
+    pub keeps-new : (t′ head′ link′ : List ℕ) → t′ ≡ putAt t count (recordOf pair i b) → head′ ≡ set head (chainOf pair) count
+        → link′ ≡ set link count (getD head (chainOf pair) 0)
         → Keeps count t (On (count + 1)) t′ head′ link′
     keeps-new t′ head′ link′ e f g = rw (e, f, g) new
 
@@ -58,7 +60,8 @@ module _ (count : ℕ) (t head link : List ℕ) (x : IndexedPairs t head link co
 pub carried-none : (w : Window) (t : List ℕ) → Carried w 0 t
 carried-none w t = record { window = λ z. absurd (z refl) }
 
-pub carried-on : (w : Window) (d count : ℕ) (t : List ℕ) (turn : Turn) (t′ head link : List ℕ) → w ≡ windowAt t (d / 2) → d < 2 * count → Keeps count t turn t′ head link → Carried w (d + 1) t′
+pub carried-on : (w : Window) (d count : ℕ) (t : List ℕ) (turn : Turn) (t′ head link : List ℕ) → w ≡ windowAt t (d / 2) → d < 2 * count
+    → Keeps count t turn t′ head link → Carried w (d + 1) t′
 carried-on w d count t turn t′ head link e l k = record {
   window = λ z. e ∙ sym (k .windows (d / 2) (omega arith)) ∙ ap (windowAt t′) (let s : d / 2 ≡ (d + 1) / 2 = omega (arith, z) in s);
 }

@@ -11,7 +11,8 @@ use Rattle.window.specs.declared.Window.{Window}
 use Rattle.records.specs.Records.{recordBytes, encoded, recordOf}
 use Rattle.records.proofs.Theory.Storable.{Storable}
 use Rattle.table.specs.Table.{putAt, pointAt, windowAt, parentAt, branchAt}
-use Rattle.table.proofs.Theory.TableLaws.{PairStored, put-length, point-other, parent-other, branch-other, window-other, kept-other, record-length, point-same, window-same, parent-same, branch-same, kept-same}
+use Rattle.table.proofs.Theory.TableLaws.{PairStored, put-length, point-other, parent-other, branch-other, window-other, kept-other, record-length, point-same}
+use Rattle.table.proofs.Theory.TableLaws.{window-same, parent-same, branch-same, kept-same}
 
 -- The branch of a number, 0 the first.
 abbrev pub branchNumbered : ℕ → Branch
@@ -38,7 +39,8 @@ module _ (t : List ℕ) (k p i b : ℕ) (w : Window) (fits : recordBytes * k + r
 
   -- the records before it stay
   pub others : (j : ℕ) → j < k
-      → (pointAt put j ≡ pointAt t j) × (windowAt put j ≡ windowAt t j) × (parentAt put j ≡ parentAt t j) × (branchAt put j ≡ branchAt t j) × (PairStored t j → PairStored put j)
+      → (pointAt put j ≡ pointAt t j) × (windowAt put j ≡ windowAt t j) × (parentAt put j ≡ parentAt t j) × (branchAt put j ≡ branchAt t j)
+      × (PairStored t j → PairStored put j)
   others j l =
       let long = record-length t k p i b w fits s in
       let e : j ≢ k = λ z. omega arith in (

@@ -35,7 +35,18 @@ fresh-requires c κs = search needs
 
 loop-holds : tie.Need-loop-holds Inv-loop μ-loop
 unfolding exploreOf
-loop-holds c = let a = (c .before .before .args) in (search needs, search needs, search needs, search needs, search needs, search needs, ap (λ f. exploreFrom f (a .t1) (a .end) (a .n) 1 0 (a .table .now)) (let e : 2 * a .n - 0 ≡ 2 * a .n = omega arith in e), carried-none _ _, index-begins (a .table .now))
+loop-holds c = let a = (c .before .before .args) in (
+  search needs,
+  search needs,
+  search needs,
+  search needs,
+  search needs,
+  search needs,
+  ap (λ f. exploreFrom f (a .t1) (a .end) (a .n) 1 0 (a .table .now))
+      (let e : 2 * a .n - 0 ≡ 2 * a .n = omega arith in e),
+  carried-none _ _,
+  index-begins (a .table .now),
+)
 
 mul-loop : tie.Need-mul-loop Inv-loop μ-loop
 mul-loop c = search needs
@@ -53,7 +64,14 @@ array-copy-out-point : tie.Need-array-copy-out-point Inv-loop μ-loop
 array-copy-out-point c = search needs
 
 one-move-requires : tie.Need-one-move-requires Inv-loop μ-loop
-one-move-requires c κs = (record { most = omega arith; fits = omega arith; listed = omega arith; due = omega arith }, (c .before .before .before .before .before .before .before .before .before .before .before .before .pre .3) ((c .before .before .before .before .point-at .result) % mostPoints) ((c .before .before .before .before .before .before .before .before .before .loop .d) % 2), (c .before .before .before .before .before .before .current .ensures), (c .before .before .before .before .before .before .before .before .before .loop .inv .8))
+one-move-requires c κs = (
+  record { most = omega arith; fits = omega arith; listed = omega arith; due = omega arith },
+  (c .before .before .before .before .before .before .before .before .before .before .before .before .pre .3)
+      ((c .before .before .before .before .point-at .result) % mostPoints)
+      ((c .before .before .before .before .before .before .before .before .before .loop .d) % 2),
+  (c .before .before .before .before .before .before .current .ensures),
+  (c .before .before .before .before .before .before .before .before .before .loop .inv .8),
+)
 
 enum-known-turn : tie.Need-enum-known-turn Inv-loop μ-loop
 enum-known-turn c = search needs
@@ -65,7 +83,38 @@ loop-less : tie.Need-loop-less Inv-loop μ-loop
 loop-less c = search needs
 
 loop-again : tie.Need-loop-again Inv-loop μ-loop
-loop-again c = let a = (c .before .before .before .before .before .before .before .before .before .before .before .before .before .before .before .before .before .before .args) in let l = (c .before .before .before .before .before .before .before .before .before .before .before .before .before .before .before .loop) in let m = (c .before .before .before .before .before .one-move) in let e = (c .before .turn .given .1) in let w = on-within (a .t1) (a .end) (a .n) (l .count) (l .d) (l .table) (omega arith) ((c .before .before .before .before .before .before .before .before .before .before .before .before .before .before .loop-test .taken)) (getD (a .t1) ((c .before .before .before .before .before .before .before .before .before .before .point-at .result) % mostPoints) noPoint) (m .result) (m .last .1 .1 .1 .0) (ap (λ k. getD (a .t1) (k % mostPoints) noPoint) ((c .before .before .before .before .before .before .before .before .before .before .point-at .ensures))) (m .ensures .0) (m .ensures .1) ((c .before .turn .given .0 .0)) e in (omega (arith, w .0), omega (arith, w .1), omega (arith, w .0, l .inv .2), search needs, search needs, search needs, sym (goes-on (a .t1) (a .end) (a .n) (l .count) (l .d) (l .table) (omega arith) ((c .before .before .before .before .before .before .before .before .before .before .before .before .before .before .loop-test .taken)) (getD (a .t1) ((c .before .before .before .before .before .before .before .before .before .before .point-at .result) % mostPoints) noPoint) (m .result) (m .last .1 .1 .1 .0) (ap (λ k. getD (a .t1) (k % mostPoints) noPoint) ((c .before .before .before .before .before .before .before .before .before .before .point-at .ensures))) (m .ensures .0) (m .ensures .1) ((c .before .turn .given .0 .0)) e) ∙ l .inv .6, carried-on ((c .before .before .before .before .before .before .before .before .before .before .before .before .current .result)) (l .d) (l .count) (l .table) (m .result) (m .last .1 .1 .1 .0) _ _ ((c .before .before .before .before .before .before .before .before .before .before .before .before .current .ensures)) ((c .before .before .before .before .before .before .before .before .before .before .before .before .before .before .loop-test .taken)) (m .ensures .2), m .ensures .2 .indexed ((c .before .turn .given .0 .0)) e)
+loop-again c = let a = (c .before .before .before .before .before .before .before .before .before .before .before .before .before .before .before .before
+    .before .before .args) in let l =
+    (c .before .before .before .before .before .before .before .before .before .before .before .before .before .before .before .loop) in
+    let m = (c .before .before .before .before .before .one-move) in let e = (c .before .turn .given .1) in
+    let w = on-within (a .t1) (a .end) (a .n) (l .count) (l .d) (l .table) (omega arith)
+    ((c .before .before .before .before .before .before .before .before .before .before .before .before .before .before .loop-test .taken))
+    (getD (a .t1) ((c .before .before .before .before .before .before .before .before .before .before .point-at .result) % mostPoints) noPoint) (m .result)
+    (m .last .1 .1 .1 .0) (ap (λ k. getD (a .t1) (k % mostPoints) noPoint)
+    ((c .before .before .before .before .before .before .before .before .before .before .point-at .ensures))) (m .ensures .0) (m .ensures .1)
+    ((c .before .turn .given .0 .0)) e in (
+      omega (arith, w .0),
+      omega (arith, w .1),
+      omega (arith, w .0, l .inv .2),
+      search needs,
+      search needs,
+      search needs,
+      sym
+          (goes-on (a .t1) (a .end) (a .n) (l .count) (l .d) (l .table) (omega arith)
+          ((c .before .before .before .before .before .before .before .before .before .before .before .before .before .before .loop-test .taken))
+          (getD (a .t1) ((c .before .before .before .before .before .before .before .before .before .before .point-at .result) % mostPoints) noPoint)
+          (m .result)
+          (m .last .1 .1 .1 .0) (ap (λ k. getD (a .t1) (k % mostPoints) noPoint)
+          ((c .before .before .before .before .before .before .before .before .before .before .point-at .ensures))) (m .ensures .0) (m .ensures .1)
+          ((c .before .turn .given .0 .0)) e)
+          ∙ l .inv .6,
+      carried-on ((c .before .before .before .before .before .before .before .before .before .before .before .before .current .result)) (l .d)
+          (l .count) (l .table) (m .result) (m .last .1 .1 .1 .0) _ _
+          ((c .before .before .before .before .before .before .before .before .before .before .before .before .current .ensures))
+          ((c .before .before .before .before .before .before .before .before .before .before .before .before .before .before .loop-test .taken))
+          (m .ensures .2),
+      m .ensures .2 .indexed ((c .before .turn .given .0 .0)) e,
+    )
 
 enum-told : tie.Need-enum-told Inv-loop μ-loop
 enum-told c = search needs
@@ -74,7 +123,15 @@ same-length : tie.Need-same-length Inv-loop μ-loop
 same-length c = search needs
 
 returns : tie.Need-returns Inv-loop μ-loop
-returns c = let a = (c .before .before .before .before .before .before .before .before .before .before .before .before .before .before .before .before .before .args) in let l = (c .before .before .before .before .before .before .before .before .before .before .before .before .before .before .loop) in let m = (c .before .before .before .before .one-move) in let q = sym (l .inv .6) ∙ ends-full (a .t1) (a .end) (a .n) (l .count) (l .d) (l .table) (omega arith) ((c .before .before .before .before .before .before .before .before .before .before .before .before .before .loop-test .taken)) (getD (a .t1) ((c .before .before .before .before .before .before .before .before .before .point-at .result) % mostPoints) noPoint) (m .result) (m .last .1 .1 .1 .0) (ap (λ k. getD (a .t1) (k % mostPoints) noPoint) ((c .before .before .before .before .before .before .before .before .before .point-at .ensures))) (m .ensures .0) (m .ensures .1) ((c .enum-told .given .1)) in (sym (ap (λ z. z .0) q), sym (ap (λ z. z .1) q))
+returns c = let a = (c .before .before .before .before .before .before .before .before .before .before .before .before .before .before .before .before .before
+    .args) in let l = (c .before .before .before .before .before .before .before .before .before .before .before .before .before .before .loop) in
+    let m = (c .before .before .before .before .one-move) in
+    let q = sym (l .inv .6) ∙ ends-full (a .t1) (a .end) (a .n) (l .count) (l .d) (l .table) (omega arith)
+    ((c .before .before .before .before .before .before .before .before .before .before .before .before .before .loop-test .taken))
+    (getD (a .t1) ((c .before .before .before .before .before .before .before .before .before .point-at .result) % mostPoints) noPoint) (m .result)
+    (m .last .1 .1 .1 .0) (ap (λ k. getD (a .t1) (k % mostPoints) noPoint)
+    ((c .before .before .before .before .before .before .before .before .before .point-at .ensures))) (m .ensures .0) (m .ensures .1)
+    ((c .enum-told .given .1)) in (sym (ap (λ z. z .0) q), sym (ap (λ z. z .1) q))
 
 enum-told-2 : tie.Need-enum-told-2 Inv-loop μ-loop
 enum-told-2 c = search needs
@@ -83,7 +140,15 @@ same-length-2 : tie.Need-same-length-2 Inv-loop μ-loop
 same-length-2 c = search needs
 
 returns-2 : tie.Need-returns-2 Inv-loop μ-loop
-returns-2 c = let a = (c .before .before .before .before .before .before .before .before .before .before .before .before .before .before .before .before .before .args) in let l = (c .before .before .before .before .before .before .before .before .before .before .before .before .before .before .loop) in let m = (c .before .before .before .before .one-move) in let q = sym (l .inv .6) ∙ ends-breaking (a .t1) (a .end) (a .n) (l .count) (l .d) (l .table) (omega arith) ((c .before .before .before .before .before .before .before .before .before .before .before .before .before .loop-test .taken)) (getD (a .t1) ((c .before .before .before .before .before .before .before .before .before .point-at .result) % mostPoints) noPoint) (m .result) (m .last .1 .1 .1 .0) (ap (λ k. getD (a .t1) (k % mostPoints) noPoint) ((c .before .before .before .before .before .before .before .before .before .point-at .ensures))) (m .ensures .0) (m .ensures .1) ((c .enum-told2 .given .1)) in (sym (ap (λ z. z .0) q), sym (ap (λ z. z .1) q))
+returns-2 c = let a = (c .before .before .before .before .before .before .before .before .before .before .before .before .before .before .before .before .before
+    .args) in let l = (c .before .before .before .before .before .before .before .before .before .before .before .before .before .before .loop) in
+    let m = (c .before .before .before .before .one-move) in
+    let q = sym (l .inv .6) ∙ ends-breaking (a .t1) (a .end) (a .n) (l .count) (l .d) (l .table) (omega arith)
+    ((c .before .before .before .before .before .before .before .before .before .before .before .before .before .loop-test .taken))
+    (getD (a .t1) ((c .before .before .before .before .before .before .before .before .before .point-at .result) % mostPoints) noPoint) (m .result)
+    (m .last .1 .1 .1 .0) (ap (λ k. getD (a .t1) (k % mostPoints) noPoint)
+    ((c .before .before .before .before .before .before .before .before .before .point-at .ensures))) (m .ensures .0) (m .ensures .1)
+    ((c .enum-told2 .given .1)) in (sym (ap (λ z. z .0) q), sym (ap (λ z. z .1) q))
 
 enum-told-3 : tie.Need-enum-told-3 Inv-loop μ-loop
 enum-told-3 c = search needs
@@ -92,13 +157,22 @@ same-length-3 : tie.Need-same-length-3 Inv-loop μ-loop
 same-length-3 c = search needs
 
 returns-3 : tie.Need-returns-3 Inv-loop μ-loop
-returns-3 c = let a = (c .before .before .before .before .before .before .before .before .before .before .before .before .before .before .before .before .before .args) in let l = (c .before .before .before .before .before .before .before .before .before .before .before .before .before .before .loop) in let m = (c .before .before .before .before .one-move) in let q = sym (l .inv .6) ∙ ends-failing (a .t1) (a .end) (a .n) (l .count) (l .d) (l .table) (omega arith) ((c .before .before .before .before .before .before .before .before .before .before .before .before .before .loop-test .taken)) (getD (a .t1) ((c .before .before .before .before .before .before .before .before .before .point-at .result) % mostPoints) noPoint) (m .result) (m .last .1 .1 .1 .0) (ap (λ k. getD (a .t1) (k % mostPoints) noPoint) ((c .before .before .before .before .before .before .before .before .before .point-at .ensures))) (m .ensures .0) (m .ensures .1) ((c .enum-told3 .given .1)) in (sym (ap (λ z. z .0) q), sym (ap (λ z. z .1) q))
+returns-3 c = let a = (c .before .before .before .before .before .before .before .before .before .before .before .before .before .before .before .before .before
+    .args) in let l = (c .before .before .before .before .before .before .before .before .before .before .before .before .before .before .loop) in
+    let m = (c .before .before .before .before .one-move) in
+    let q = sym (l .inv .6) ∙ ends-failing (a .t1) (a .end) (a .n) (l .count) (l .d) (l .table) (omega arith)
+    ((c .before .before .before .before .before .before .before .before .before .before .before .before .before .loop-test .taken))
+    (getD (a .t1) ((c .before .before .before .before .before .before .before .before .before .point-at .result) % mostPoints) noPoint) (m .result)
+    (m .last .1 .1 .1 .0) (ap (λ k. getD (a .t1) (k % mostPoints) noPoint)
+    ((c .before .before .before .before .before .before .before .before .before .point-at .ensures))) (m .ensures .0) (m .ensures .1)
+    ((c .enum-told3 .given .1)) in (sym (ap (λ z. z .0) q), sym (ap (λ z. z .1) q))
 
 same-length-4 : tie.Need-same-length-4 Inv-loop μ-loop
 same-length-4 c = search needs
 
 returns-4 : tie.Need-returns-4 Inv-loop μ-loop
-returns-4 c = let a = (c .before .before .before .before .args) in let l = (c .before .loop) in let q = sym (l .inv .6) ∙ ends-pass (a .t1) (a .end) (a .n) (l .count) (l .d) (l .table) (omega arith) in (sym (ap (λ z. z .0) q), sym (ap (λ z. z .1) q))
+returns-4 c = let a = (c .before .before .before .before .args) in let l = (c .before .loop) in
+    let q = sym (l .inv .6) ∙ ends-pass (a .t1) (a .end) (a .n) (l .count) (l .d) (l .table) (omega arith) in (sym (ap (λ z. z .0) q), sym (ap (λ z. z .1) q))
 
 pub explore-spec : {M : Type 1} → statement M
 explore-spec =

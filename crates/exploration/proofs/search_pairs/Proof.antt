@@ -35,7 +35,16 @@ same-length : tie.Need-same-length
 same-length c = search needs
 
 returns-3 : tie.Need-returns-3
-returns-3 c = let a = c .before .before .before .before .before .before .before .before .before .before .before .before .before .args in search-goes (a .header) (a .points) (a .end) (a .n) (a .table .now) (c .before .before .before .before .before .before .before .before .before .before .before .if1 .left) (c .before .before .before .before .before .before .before .before .before .before .if2 .left) (c .before .before .before .before .before .before .before .before .before .fresh .result) (c .before .before .before .before .before .before .before .before .encode .result) (c .before .before .before .before .before .before .put .last .0) (c .before .before .before .before .before .before .before .before .before .fresh .ensures) (c .before .before .before .before .before .before .before .before .encode .ensures) (c .before .before .before .before .before .before .put .ensures) (c .before .before .explore .result) (c .before .before .explore .last .1 .1 .0) (c .before .before .explore .ensures .0) (c .before .before .explore .ensures .1)
+returns-3 c = let a = c .before .before .before .before .before .before .before .before .before .before .before .before .before .args in
+    search-goes (a .header) (a .points) (a .end) (a .n) (a .table .now)
+    (c .before .before .before .before .before .before .before .before .before .before .before .if1 .left)
+    (c .before .before .before .before .before .before .before .before .before .before .if2 .left)
+    (c .before .before .before .before .before .before .before .before .before .fresh .result)
+    (c .before .before .before .before .before .before .before .before .encode .result) (c .before .before .before .before .before .before .put .last .0)
+    (c .before .before .before .before .before .before .before .before .before .fresh .ensures)
+    (c .before .before .before .before .before .before .before .before .encode .ensures) (c .before .before .before .before .before .before .put .ensures)
+    (c .before .before .explore .result) (c .before .before .explore .last .1 .1 .0) (c .before .before .explore .ensures .0)
+    (c .before .before .explore .ensures .1)
 
 pub search-pairs-spec : {M : Type 1} → statement M
 search-pairs-spec =

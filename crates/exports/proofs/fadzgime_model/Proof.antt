@@ -31,7 +31,8 @@ returns-2 c =
     let numbered = stored .before .before .before in
     let showed = numbered .before .before .before in
     let room = showed .before .before .if1 .left in (
-      modelled-stored _ _ _ _ _ (showed .show .result) (showed .show .ensures .answer) (numbered .model-numbers .ensures) (search needs) room (stored .store .ensures),
+      modelled-stored _ _ _ _ _ (showed .show .result) (showed .show .ensures .answer) (numbered .model-numbers .ensures) (search needs) room
+          (stored .store .ensures),
       (output-shown _ _ _ _ room (showed .show .ensures .output), λ _. model-means (showed .show .ensures)),
     )
 

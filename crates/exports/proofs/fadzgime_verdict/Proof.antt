@@ -34,7 +34,8 @@ returns-2 c =
     let numbered = stored .before .before .before in
     let judged = numbered .before .before .before .before .before in
     let room = judged .before .before .before .if1 .left in
-    judging-stored _ _ _ _ _ _ _ _ (judged .judge-macro .result) (judged .judge-macro .ensures) (numbered .verdict-numbers .ensures) (search needs) room (stored .store .ensures)
+    judging-stored _ _ _ _ _ _ _ _ (judged .judge-macro .result) (judged .judge-macro .ensures) (numbered .verdict-numbers .ensures) (search needs) room
+    (stored .store .ensures)
 
 pub fadzgime-verdict-spec : {M : Type 1} → statement M
 fadzgime-verdict-spec =

@@ -9,7 +9,8 @@ use Rattle.exports.proofs.store.Statement.{statement}
 use Rattle.exports.proofs.store.Tie as tie
 
 abbrev Inv-loop : tie.InvT-loop
-Inv-loop numbers answer₀ i₀ answer i = (i ≤ length numbers) × (length numbers ≤ length answer₀) × (length answer ≡ length answer₀) × (answer ≡ laid i numbers answer₀)
+Inv-loop numbers answer₀ i₀ answer i =
+    (i ≤ length numbers) × (length numbers ≤ length answer₀) × (length answer ≡ length answer₀) × (answer ≡ laid i numbers answer₀)
 
 abbrev μ-loop : tie.MeasureT-loop
 μ-loop numbers answer₀ i₀ answer i = length numbers - i

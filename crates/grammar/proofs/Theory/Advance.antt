@@ -47,5 +47,7 @@ module _ (s : List ℕ) where
       go (if c b o) p = spells-within p
       go (while c b) p = spells-within p
 
-  pub braces-on : (rs fs ns : List ℕ) (k d at : ℕ) (b : Block) (e : ℕ) → bracesT s rs fs ns (λ c a. block s rs fs ns k c a) d (tokenAt s at) ≡ got b e → (at < e) × (at < length s)
-  braces-on rs fs ns k d at b e h = spells-within (braces-sound s rs fs ns (λ c a. block s rs fs ns k c a) (λ d at b e g. block-sound s rs fs ns k d at b e g) d at b e h .2)
+  pub braces-on : (rs fs ns : List ℕ) (k d at : ℕ) (b : Block) (e : ℕ) → bracesT s rs fs ns (λ c a. block s rs fs ns k c a) d (tokenAt s at) ≡ got b e
+      → (at < e) × (at < length s)
+  braces-on rs fs ns k d at b e h =
+      spells-within (braces-sound s rs fs ns (λ c a. block s rs fs ns k c a) (λ d at b e g. block-sound s rs fs ns k d at b e g) d at b e h .2)

@@ -10,14 +10,17 @@ use borrow.Author.Tests.{eqb-true, lt-ltb, eq-eqb}
 use Rattle.base.proofs.Theory.Choice.{byTest}
 use Rattle.letters.specs.Letters.{Fits}
 use Rattle.letters.specs.declared.Letter.the-variants.{Copy, Apply, Equal, Unequal}
-use Rattle.macros.specs.Tree.{Condition, equal, unequal, test, Statement, skip, perform, assert, if, while, Else, absent, present, Block, empty, _then_, Proper, ProperElse, ProperBlock}
+use Rattle.macros.specs.Tree.{Condition, equal, unequal, test, Statement, skip, perform, assert, if, while, Else, absent, present, Block, empty, _then_, Proper}
+use Rattle.macros.specs.Tree.{ProperElse, ProperBlock}
 use Rattle.tokens.specs.Tokens.{tokenAt}
 use Rattle.tokens.specs.Words.{isName}
 use Rattle.tokens.specs.Words as word
 use Rattle.tokens.proofs.Theory.WordsLaws.{not-word}
-use Rattle.grammar.specs.Grammar.{header, takesTwo, conditionTokens, argumentTokens, letterTokens, statementTokens, elseTokens, blockTokens, OneDeeper, Nests, NestsElse, NestsBlock}
+use Rattle.grammar.specs.Grammar.{header, takesTwo, conditionTokens, argumentTokens, letterTokens, statementTokens, elseTokens, blockTokens, OneDeeper}
+use Rattle.grammar.specs.Grammar.{Nests, NestsElse, NestsBlock}
 use Rattle.grammar.proofs.Theory.HeaderLaws.{arity-one}
-use Rattle.grammar.specs.Reading.{Got, got, andThen, indexOf, useT, signT, expect, ended, condition, argumentsT, rightHandSide, assignment, endedCondition, bracesT, elseT, statementT, block, statement, closing}
+use Rattle.grammar.specs.Reading.{Got, got, andThen, indexOf, useT, signT, expect, ended, condition, argumentsT, rightHandSide, assignment}
+use Rattle.grammar.specs.Reading.{endedCondition, bracesT, elseT, statementT, block, statement, closing}
 use Rattle.grammar.specs.Spelled.{Spells, Arities, Declared}
 use Rattle.grammar.proofs.Theory.Sound.{index-at}
 
@@ -88,7 +91,8 @@ module _ (s : List ℕ) where
     sign-equal {at} p = rw (eq-eqb (tokenAt s at .key) word.equalKey (spells-key p)) (ap (got true) (spells-end p))
 
     sign-unequal : {at e : ℕ} → Spells s at (word.unequalKey ∷ []) e → signT (tokenAt s at) ≡ got false e
-    sign-unequal {at} p = rw (ap (λ k. eqb k word.equalKey) (spells-key p), eq-eqb (tokenAt s at .key) word.unequalKey (spells-key p)) (ap (got false) (spells-end p))
+    sign-unequal {at} p = rw (ap (λ k. eqb k word.equalKey) (spells-key p), eq-eqb (tokenAt s at .key) word.unequalKey (spells-key p))
+        (ap (got false) (spells-end p))
 
     condition-complete : (c : Condition) {at e : ℕ} → Fits (header rs fs ns) (test c) → Spells s at (conditionTokens rs fs ns c) e → condition s rs at ≡ got c e
     unfolding condition
@@ -101,18 +105,21 @@ module _ (s : List ℕ) where
         let (b, p₂, p₃) = spells-split (word.unequalKey ∷ []) q in
         rw (use-complete rs R l p₁, sign-unequal p₂, use-complete rs R r p₃)
 
-    tested-complete : (c : Condition) {at e : ℕ} → Fits (header rs fs ns) (test c) → Spells s at (conditionTokens rs fs ns c ++ word.semicolonKey ∷ []) e → endedCondition s rs at ≡ got c e
+    tested-complete : (c : Condition) {at e : ℕ} → Fits (header rs fs ns) (test c) → Spells s at (conditionTokens rs fs ns c ++ word.semicolonKey ∷ []) e
+        → endedCondition s rs at ≡ got c e
     unfolding endedCondition
     tested-complete c {at} {e} o p =
         let (m, p₁, p₂) = spells-split (conditionTokens rs fs ns c) p in
         rw (condition-complete c o p₁, ended-complete c p₂)
 
     -- the value of a copy: no `(` follows
-    copy-complete : (x y : ℕ) {at e : ℕ} → y < length rs → Spells s at (getD rs y 0 ∷ []) e → eqb (tokenAt s e .key) word.lparenKey ≡ false → rightHandSide s rs fs ns x at ≡ got (Copy x y) e
+    copy-complete : (x y : ℕ) {at e : ℕ} → y < length rs → Spells s at (getD rs y 0 ∷ []) e → eqb (tokenAt s e .key) word.lparenKey ≡ false
+        → rightHandSide s rs fs ns x at ≡ got (Copy x y) e
     unfolding rightHandSide
     copy-complete x y {at} {e} l p h = rw (ap (λ n. eqb (tokenAt s n .key) word.lparenKey) (spells-end p) ∙ h, use-complete rs R l p)
 
-    arguments-complete : (x f y z : ℕ) {at e : ℕ} → z < length rs → (takesTwo rs fs ns f ≡ false → y ≡ z) → Spells s at (argumentTokens rs fs ns f z) e → argumentsT s rs (getD ns f 0) x f y (tokenAt s at) ≡ got (Apply x f y z) e
+    arguments-complete : (x f y z : ℕ) {at e : ℕ} → z < length rs → (takesTwo rs fs ns f ≡ false → y ≡ z) → Spells s at (argumentTokens rs fs ns f z) e
+        → argumentsT s rs (getD ns f 0) x f y (tokenAt s at) ≡ got (Apply x f y z) e
     unfolding argumentsT
     arguments-complete x f y z {at} {e} l same p =
         byTest (eqb (getD ns f 0) 2)
@@ -124,7 +131,8 @@ module _ (s : List ℕ) where
         let q : Spells s at (word.rparenKey ∷ []) e = rw u at p in
         rw (ap (λ k. eqb k word.commaKey) (spells-key q), eq-eqb _ word.rparenKey (spells-key q), u) (λ i. got (Apply x f y (same u i)) (spells-end q i))
 
-    apply-complete : (x f y z : ℕ) {at e : ℕ} → Fits (header rs fs ns) (Apply x f y z) → Spells s at (getD fs f 0 ∷ word.lparenKey ∷ getD rs y 0 ∷ argumentTokens rs fs ns f z) e → rightHandSide s rs fs ns x at ≡ got (Apply x f y z) e
+    apply-complete : (x f y z : ℕ) {at e : ℕ} → Fits (header rs fs ns) (Apply x f y z)
+        → Spells s at (getD fs f 0 ∷ word.lparenKey ∷ getD rs y 0 ∷ argumentTokens rs fs ns f z) e → rightHandSide s rs fs ns x at ≡ got (Apply x f y z) e
     unfolding rightHandSide
     apply-complete x f y z {at} {e} (lx, lf, ly, lz, same) p =
         let (a, p₁, q) = spells-split (getD fs f 0 ∷ []) p in
@@ -134,7 +142,8 @@ module _ (s : List ℕ) where
         rw (eq-eqb _ word.lparenKey t, use-complete fs F lf p₁, expect-complete p₂, use-complete rs R ly p₃)
         (arguments-complete x f y z lz (λ u. same (arity-one rs fs ns f u)) p₄)
 
-    copied-complete : (x y : ℕ) {at e : ℕ} → x < length rs → y < length rs → Spells s at (getD rs x 0 ∷ word.becomesKey ∷ getD rs y 0 ∷ word.semicolonKey ∷ []) e → assignment s rs fs ns at ≡ got (Copy x y) e
+    copied-complete : (x y : ℕ) {at e : ℕ} → x < length rs → y < length rs
+        → Spells s at (getD rs x 0 ∷ word.becomesKey ∷ getD rs y 0 ∷ word.semicolonKey ∷ []) e → assignment s rs fs ns at ≡ got (Copy x y) e
     unfolding assignment
     copied-complete x y {at} {e} l r p =
         let (a, p₁, q) = spells-split (getD rs x 0 ∷ []) p in
@@ -142,7 +151,8 @@ module _ (s : List ℕ) where
         let (c, p₃, p₄) = spells-split (getD rs y 0 ∷ []) u in
         rw (use-complete rs R l p₁, expect-complete p₂, copy-complete x y r p₃ (ap (λ k. eqb k word.lparenKey) (spells-key p₄)), ended-complete (Copy x y) p₄)
 
-    applied-complete : (x f y z : ℕ) {at e : ℕ} → Fits (header rs fs ns) (Apply x f y z) → Spells s at (letterTokens rs fs ns (Apply x f y z)) e → assignment s rs fs ns at ≡ got (Apply x f y z) e
+    applied-complete : (x f y z : ℕ) {at e : ℕ} → Fits (header rs fs ns) (Apply x f y z) → Spells s at (letterTokens rs fs ns (Apply x f y z)) e
+        → assignment s rs fs ns at ≡ got (Apply x f y z) e
     unfolding assignment
     applied-complete x f y z {at} {e} o p =
         let (a, p₁, q) = spells-split (getD rs x 0 ∷ []) p in
@@ -163,35 +173,50 @@ module _ (s : List ℕ) where
     module _ (inner : ℕ → ℕ → Got Block) (k : ℕ) where
       -- inner reads the block b, if it takes no more than k calls
       abbrev Reads : Block → Type 0
-      Reads b = (d at e : ℕ) → weightBlock b ≤ k → ProperBlock b (header rs fs ns) → NestsBlock b d → Spells s at (blockTokens rs fs ns b) e → Ends e → inner d at ≡ got b e
+      Reads b = (d at e : ℕ) → weightBlock b ≤ k → ProperBlock b (header rs fs ns) → NestsBlock b d → Spells s at (blockTokens rs fs ns b) e → Ends e
+          → inner d at ≡ got b e
 
-      braces-complete : (b : Block) → weightBlock b ≤ k → Reads b → (d : ℕ) {at e : ℕ} → ProperBlock b (header rs fs ns) → OneDeeper (λ n. NestsBlock b n) d → Spells s at (word.lbraceKey ∷ (blockTokens rs fs ns b ++ word.rbraceKey ∷ [])) e
+      braces-complete : (b : Block) → weightBlock b ≤ k → Reads b → (d : ℕ) {at e : ℕ} → ProperBlock b (header rs fs ns) → OneDeeper (λ n. NestsBlock b n) d
+          → Spells s at (word.lbraceKey ∷ (blockTokens rs fs ns b ++ word.rbraceKey ∷ [])) e
           → bracesT s rs fs ns inner d (tokenAt s at) ≡ got b e
       braces-complete b w r zero u o p = absurd o
       braces-complete b w r (suc d) {at} {e} u o p =
           let (m, p₁, p₂) = spells-split (blockTokens rs fs ns b) (spells-rest p) in
           rw (eq-eqb _ word.lbraceKey (spells-key p), r d (tokenAt s at .end) m w u o p₁ (ap (λ k. closing s rs fs ns k) (spells-key p₂)), ended-complete b p₂)
 
-      else-complete : (o : Else) → weightElse o ≤ k → ((x : Block) → Reads x) → (d : ℕ) {at e : ℕ} → ProperElse o (header rs fs ns) → NestsElse o d → Spells s at (elseTokens rs fs ns o) e → NoElse e
+      else-complete : (o : Else) → weightElse o ≤ k → ((x : Block) → Reads x) → (d : ℕ) {at e : ℕ} → ProperElse o (header rs fs ns) → NestsElse o d
+          → Spells s at (elseTokens rs fs ns o) e → NoElse e
           → elseT s rs fs ns inner d at (tokenAt s at) ≡ got o e
       unfolding elseTokens weightElse
       else-complete absent w r d {at} {e} u k p h = rw (ap (λ n. eqb (tokenAt s n .key) word.elseKey) (spells-nil p) ∙ h) (ap (got absent) (spells-nil p))
       else-complete (present x) w r d {at} {e} u k p h = rw (eq-eqb _ word.elseKey (spells-key p), braces-complete x w (r x) d u k (spells-rest p))
 
       -- a name at the front of a statement
-      named : (at : ℕ) → isName (tokenAt s at .key) ≡ true → (d : ℕ) → statementT s rs fs ns inner d at (tokenAt s at) ≡ andThen (assignment s rs fs ns at) λ l e. got (perform l) e
-      named at n d = rw (n, not-word _ word.skipKey refl n, not-word _ word.assumeKey refl n, not-word _ word.assertKey refl n, not-word _ word.ifKey refl n, not-word _ word.whileKey refl n)
+      named : (at : ℕ) → isName (tokenAt s at .key) ≡ true → (d : ℕ)
+          → statementT s rs fs ns inner d at (tokenAt s at) ≡ andThen (assignment s rs fs ns at) λ l e. got (perform l) e
+      named at n d = rw (
+        n,
+        not-word _ word.skipKey refl n,
+        not-word _ word.assumeKey refl n,
+        not-word _ word.assertKey refl n,
+        not-word _ word.ifKey refl n,
+        not-word _ word.whileKey refl n,
+      )
 
       -- `assume` at the front
-      assumed : (c : Condition) {at e : ℕ} → Fits (header rs fs ns) (test c) → Spells s at (word.assumeKey ∷ (conditionTokens rs fs ns c ++ word.semicolonKey ∷ [])) e → (d : ℕ) → statementT s rs fs ns inner d at (tokenAt s at) ≡ got (perform (test c)) e
+      assumed : (c : Condition) {at e : ℕ} → Fits (header rs fs ns) (test c)
+          → Spells s at (word.assumeKey ∷ (conditionTokens rs fs ns c ++ word.semicolonKey ∷ [])) e → (d : ℕ)
+          → statementT s rs fs ns inner d at (tokenAt s at) ≡ got (perform (test c)) e
       assumed c o p d = let y = spells-key p in rw (ap (λ k. eqb k word.skipKey) y, eq-eqb _ word.assumeKey y, tested-complete c o (spells-rest p))
 
-      statement-complete-by : (c : Statement) (d : ℕ) {at e : ℕ} → weight c ≤ suc k → ((b : Block) → Reads b) → Proper c (header rs fs ns) → Nests c d → Spells s at (statementTokens rs fs ns c) e → NoElse e
+      statement-complete-by : (c : Statement) (d : ℕ) {at e : ℕ} → weight c ≤ suc k → ((b : Block) → Reads b) → Proper c (header rs fs ns) → Nests c d
+          → Spells s at (statementTokens rs fs ns c) e → NoElse e
           → statementT s rs fs ns inner d at (tokenAt s at) ≡ got c e
       unfolding statementTokens weight
       statement-complete-by skip d w r u o p h = rw (eq-eqb _ word.skipKey (spells-key p), ended-complete skip (spells-rest p))
       statement-complete-by (perform (Copy x y)) d {at} w r (l, g) o p h = rw (named at (ap isName (spells-key p) ∙ R .names x l) d, copied-complete x y l g p)
-      statement-complete-by (perform (Apply x f y z)) d {at} w r u o p h = rw (named at (ap isName (spells-key p) ∙ R .names x (u .0)) d, applied-complete x f y z u p)
+      statement-complete-by (perform (Apply x f y z)) d {at} w r u o p h =
+          rw (named at (ap isName (spells-key p) ∙ R .names x (u .0)) d, applied-complete x f y z u p)
       statement-complete-by (perform (Equal x y)) d w r u o p h = assumed (equal x y) u p d
       statement-complete-by (perform (Unequal x y)) d w r u o p h = assumed (unequal x y) u p d
       statement-complete-by (assert c) d w r u o p h =
@@ -199,13 +224,33 @@ module _ (s : List ℕ) where
           rw (ap (λ k. eqb k word.skipKey) y, ap (λ k. eqb k word.assumeKey) y, eq-eqb _ word.assertKey y, tested-complete c u (spells-rest p))
       statement-complete-by (if c b x) d {at} {e} w r (l, u, v) (o, q) p h =
           let (m, p₁, p₂) = spells-split (conditionTokens rs fs ns c) (spells-rest p) in
-          let (a, p₃, p₄) = spells-split (word.lbraceKey ∷ (blockTokens rs fs ns b ++ word.rbraceKey ∷ [])) (subst (λ l. Spells s m (word.lbraceKey ∷ l) e) (sym (append-assoc (blockTokens rs fs ns b) (word.rbraceKey ∷ []) (elseTokens rs fs ns x))) p₂) in
+          let (a, p₃, p₄) = spells-split (word.lbraceKey ∷ (blockTokens rs fs ns b ++ word.rbraceKey ∷ []))
+          (subst (λ l. Spells s m (word.lbraceKey ∷ l) e) (sym (append-assoc (blockTokens rs fs ns b) (word.rbraceKey ∷ []) (elseTokens rs fs ns x))) p₂) in
           let y = spells-key p in
-          rw (ap (λ k. eqb k word.skipKey) y, ap (λ k. eqb k word.assumeKey) y, ap (λ k. eqb k word.assertKey) y, eq-eqb _ word.ifKey y, condition-complete c l p₁, braces-complete b (omega arith) (r b) d u o p₃, else-complete x (omega arith) r d v q p₄ h)
+          rw (
+            ap (λ k. eqb k word.skipKey) y,
+            ap (λ k. eqb k word.assumeKey) y,
+            ap
+                (λ k. eqb k word.assertKey) y,
+            eq-eqb _ word.ifKey y,
+            condition-complete c l p₁,
+            braces-complete b (omega arith) (r b) d u o p₃,
+            else-complete x
+                (omega arith) r d v q p₄ h,
+          )
       statement-complete-by (while c b) d w r (l, u) o p h =
           let (m, p₁, p₂) = spells-split (conditionTokens rs fs ns c) (spells-rest p) in
           let y = spells-key p in
-          rw (ap (λ k. eqb k word.skipKey) y, ap (λ k. eqb k word.assumeKey) y, ap (λ k. eqb k word.assertKey) y, ap (λ k. eqb k word.ifKey) y, eq-eqb _ word.whileKey y, condition-complete c l p₁, braces-complete b (omega arith) (r b) d u o p₂)
+          rw (
+            ap (λ k. eqb k word.skipKey) y,
+            ap (λ k. eqb k word.assumeKey) y,
+            ap (λ k. eqb k word.assertKey) y,
+            ap
+                (λ k. eqb k word.ifKey) y,
+            eq-eqb _ word.whileKey y,
+            condition-complete c l p₁,
+            braces-complete b (omega arith) (r b) d u o p₂,
+          )
 
     -- the first token of a statement ends no block, and is not `else` and not `funs`
     abbrev Head : ℕ → Type 0
@@ -227,7 +272,8 @@ module _ (s : List ℕ) where
 
     ends-no-else : (e : ℕ) → Ends e → NoElse e
     ends-no-else e h = byTest (eqb (tokenAt s e .key) word.elseKey)
-        (λ t. let j : tokenAt s e .key ≡ word.elseKey = eqb-true (tokenAt s e .key) word.elseKey t in let q : closing s rs fs ns word.elseKey ≡ true = sym (ap (λ k. closing s rs fs ns k) j) ∙ h in let z : _≡_ {A = ℕ} 0 1 = cc in absurd (omega arith))
+        (λ t. let j : tokenAt s e .key ≡ word.elseKey = eqb-true (tokenAt s e .key) word.elseKey t in
+        let q : closing s rs fs ns word.elseKey ≡ true = sym (ap (λ k. closing s rs fs ns k) j) ∙ h in let z : _≡_ {A = ℕ} 0 1 = cc in absurd (omega arith))
         λ t. t
 
     block-no-else : (b : Block) {at e : ℕ} → ProperBlock b (header rs fs ns) → Spells s at (blockTokens rs fs ns b) e → Ends e → NoElse at
@@ -236,7 +282,8 @@ module _ (s : List ℕ) where
     block-no-else (c then b) (o, q) p h = let (m, p₁, p₂) = spells-split (statementTokens rs fs ns c) p in head c o p₁ .1
 
     -- `funs` begins no block
-    pub block-no-funs : (b : Block) {at e : ℕ} → ProperBlock b (header rs fs ns) → Spells s at (blockTokens rs fs ns b) e → tokenAt s e .key ≡ 0 → eqb (tokenAt s at .key) word.funsKey ≡ false
+    pub block-no-funs : (b : Block) {at e : ℕ} → ProperBlock b (header rs fs ns) → Spells s at (blockTokens rs fs ns b) e → tokenAt s e .key ≡ 0
+        → eqb (tokenAt s at .key) word.funsKey ≡ false
     unfolding blockTokens
     block-no-funs empty o p z = ap (λ n. eqb (tokenAt s n .key) word.funsKey) (spells-nil p) ∙ ap (λ k. eqb k word.funsKey) z
     block-no-funs (c then b) (o, q) p z = let (m, p₁, p₂) = spells-split (statementTokens rs fs ns c) p in head c o p₁ .2
@@ -244,7 +291,8 @@ module _ (s : List ℕ) where
     mutual
       unfolding block blockTokens weightBlock
 
-      pub block-complete : (k : ℕ) (b : Block) (d at e : ℕ) → weightBlock b ≤ k → ProperBlock b (header rs fs ns) → NestsBlock b d → Spells s at (blockTokens rs fs ns b) e → Ends e → block s rs fs ns k d at ≡ got b e
+      pub block-complete : (k : ℕ) (b : Block) (d at e : ℕ) → weightBlock b ≤ k → ProperBlock b (header rs fs ns) → NestsBlock b d
+          → Spells s at (blockTokens rs fs ns b) e → Ends e → block s rs fs ns k d at ≡ got b e
       block-complete zero empty d at e w u o p h = absurd (omega arith)
       block-complete zero (c then b) d at e w u o p h = absurd (omega arith)
       block-complete (suc k) empty d at e w u o p h = rw (ap (λ n. closing s rs fs ns (tokenAt s n .key)) (spells-nil p) ∙ h) (ap (got empty) (spells-nil p))
@@ -252,6 +300,8 @@ module _ (s : List ℕ) where
           let (m, p₁, p₂) = spells-split (statementTokens rs fs ns c) p in
           rw (head c u p₁ .0, statement-complete k c d at m (omega arith) u o p₁ (block-no-else b v p₂ h), block-complete k b d m e (omega arith) v q p₂ h)
 
-      statement-complete : (k : ℕ) (c : Statement) (d at e : ℕ) → weight c ≤ k → Proper c (header rs fs ns) → Nests c d → Spells s at (statementTokens rs fs ns c) e → NoElse e → statement s rs fs ns k d at ≡ got c e
+      statement-complete : (k : ℕ) (c : Statement) (d at e : ℕ) → weight c ≤ k → Proper c (header rs fs ns) → Nests c d
+          → Spells s at (statementTokens rs fs ns c) e → NoElse e → statement s rs fs ns k d at ≡ got c e
       statement-complete zero c d at e w u o p h = absurd (weight-some c w)
-      statement-complete (suc k) c d at e w u o p h = statement-complete-by (λ d at. block s rs fs ns k d at) k c d w (λ b d at e w u o p h. block-complete k b d at e w u o p h) u o p h
+      statement-complete (suc k) c d at e w u o p h =
+          statement-complete-by (λ d at. block s rs fs ns k d at) k c d w (λ b d at e w u o p h. block-complete k b d at e w u o p h) u o p h

@@ -58,7 +58,8 @@ unknown rs ks k D =
     (λ t.
     let l = ltb-true (indexOf k rs) (length rs) t in
     let size = length-append rs (k ∷ ks) in
-    let e = D .once (indexOf k rs) (length rs) (omega arith) (omega arith) (List·getD-append rs (k ∷ ks) 0 (indexOf k rs) l ∙ sym (index-at k rs l) ∙ sym (getD-append-seam rs k ks 0)) in absurd (omega arith))
+    let e = D .once (indexOf k rs) (length rs) (omega arith) (omega arith)
+    (List·getD-append rs (k ∷ ks) 0 (indexOf k rs) l ∙ sym (index-at k rs l) ∙ sym (getD-append-seam rs k ks 0)) in absurd (omega arith))
     λ t. ltb-false (indexOf k rs) (length rs) t
 
 module _ (s : List ℕ) where
@@ -66,7 +67,12 @@ module _ (s : List ℕ) where
   listed-sound : {A : Type 0} (n at : ℕ) (a b : A) (e : ℕ) → listedT s n a (tokenAt s at) ≡ got b e → (a ≡ b) × (1 ≤ n) × Spells s at (word.semicolonKey ∷ []) e
   listed-sound n at a b e h =
       pick-case (eqb (tokenAt s at .key) word.semicolonKey && not (eqb n 0)) _ _ _ h
-      (λ t g. let (x, y) = both (eqb (tokenAt s at .key) word.semicolonKey) (eqb n 0) t in (got-value g, some n y, Spells.more (eqb-true (tokenAt s at .key) word.semicolonKey x) (omega arith) (subst (λ m. Spells s (tokenAt s at .end) [] m) (got-place g) spelled.Spells.none)))
+      (λ t g. let (x, y) = both (eqb (tokenAt s at .key) word.semicolonKey) (eqb n 0) t in (
+        got-value g,
+        some n y,
+        Spells.more (eqb-true (tokenAt s at .key) word.semicolonKey x) (omega arith)
+            (subst (λ m. Spells s (tokenAt s at .end) [] m) (got-place g) spelled.Spells.none),
+      ))
       λ t g. absurd (not-refused g)
     where
       both : (x y : Bool) → x && not y ≡ true → (x ≡ true) × (y ≡ false)
@@ -83,7 +89,8 @@ module _ (s : List ℕ) where
   unfolding registerNames
   registers-sound zero rs at r e D h =
       pick-case (isName (tokenAt s at .key)) _ _ _ h (λ t g. absurd (not-refused g))
-      λ t g. let (q, n, p) = listed-sound (length rs) at rs r e g in ([], sym q ∙ sym (append-nil rs), subst Declared q D, subst (λ r. 1 ≤ length r) q n, omega arith, p)
+      λ t g. let (q, n, p) = listed-sound (length rs) at rs r e g in
+      ([], sym q ∙ sym (append-nil rs), subst Declared q D, subst (λ r. 1 ≤ length r) q n, omega arith, p)
   registers-sound (suc room) rs at r e D h =
       pick-case (isName (tokenAt s at .key)) _ _ _ h
       (λ t g. pick-case (isDeclared s (tokenAt s at .key) rs) _ _ _ g (λ u f. absurd (not-refused f))
@@ -91,13 +98,15 @@ module _ (s : List ℕ) where
       let k = tokenAt s at .key in
       let (ks, q, D′, n, l, p) = registers-sound room (rs ++ k ∷ []) (tokenAt s at .end) r e (declared-more rs k D t u) f in
       (k ∷ ks, q ∙ append-assoc rs (k ∷ []) ks, D′, n, omega arith, Spells.more refl (name-real k t) p))
-      λ t g. let (q, n, p) = listed-sound (length rs) at rs r e g in ([], sym q ∙ sym (append-nil rs), subst Declared q D, subst (λ r. 1 ≤ length r) q n, omega arith, p)
+      λ t g. let (q, n, p) = listed-sound (length rs) at rs r e g in
+      ([], sym q ∙ sym (append-nil rs), subst Declared q D, subst (λ r. 1 ≤ length r) q n, omega arith, p)
 
   listed-complete : {A : Type 0} (n at : ℕ) (a : A) {e : ℕ} → 1 ≤ n → Spells s at (word.semicolonKey ∷ []) e → listedT s n a (tokenAt s at) ≡ got a e
   listed-complete n at a h p = rw (eq-eqb (tokenAt s at .key) word.semicolonKey (spells-key s p), ne-eqb n 0 λ z. omega arith) (ap (got a) (spells-end s p))
 
   -- names that are spelled are read
-  pub registers-complete : (ks rs : List ℕ) (room at e : ℕ) → Declared (rs ++ ks) → 1 ≤ length (rs ++ ks) → length ks ≤ room → Spells s at (ks ++ word.semicolonKey ∷ []) e → registerNames s room rs at ≡ got (rs ++ ks) e
+  pub registers-complete : (ks rs : List ℕ) (room at e : ℕ) → Declared (rs ++ ks) → 1 ≤ length (rs ++ ks) → length ks ≤ room
+      → Spells s at (ks ++ word.semicolonKey ∷ []) e → registerNames s room rs at ≡ got (rs ++ ks) e
   unfolding registerNames
   registers-complete [] rs zero at e D n l p = rw (ap isName (spells-key s p), append-nil rs) (listed-complete (length rs) at rs (rw append-nil at n) p)
   registers-complete [] rs (suc room) at e D n l p = rw (ap isName (spells-key s p), append-nil rs) (listed-complete (length rs) at rs (rw append-nil at n) p)
@@ -109,7 +118,8 @@ module _ (s : List ℕ) where
       let real : isName (tokenAt s at .key) ≡ true = ap isName (j ∙ sym last) ∙ D .names (length rs) size in
       let fresh : isDeclared s (tokenAt s at .key) rs ≡ false = le-ltb _ _ (subst (λ x. length rs ≤ indexOf x rs) (sym j) (unknown rs ks k D)) in
       let q = append-assoc rs (k ∷ []) ks in
-      rw (real, fresh, j) (registers-complete ks (rs ++ k ∷ []) room (tokenAt s at .end) e (subst Declared (sym q) D) (subst (λ r. 1 ≤ length r) (sym q) n) (omega arith) (spells-rest s p) ∙ ap (λ r. got r e) q)
+      rw (real, fresh, j) (registers-complete ks (rs ++ k ∷ []) room (tokenAt s at .end) e (subst Declared (sym q) D) (subst (λ r. 1 ≤ length r) (sym q) n)
+      (omega arith) (spells-rest s p) ∙ ap (λ r. got r e) q)
 
 -- ---- functions
 
@@ -133,22 +143,33 @@ module _ (s rs : List ℕ) where
       let (v, a, g₁, h₁) = onward-got (expect s word.slashKey at) _ n e h in
       let p₁ = expect-sound s word.slashKey at a v (omega arith) g₁ in
       pick-case (eqb (tokenAt s a .key) word.oneKey) _ _ _ h₁
-      (λ t g. (inl (sym (got-value g)), spells-then s p₁ (subst (λ n. Spells s a ((48 + n) ∷ []) e) (got-value g) (spells-one s a 49 e (eqb-true (tokenAt s a .key) 49 t) (omega arith) (got-place g)))))
+      (λ t g. (
+        inl (sym (got-value g)),
+        spells-then s p₁
+            (subst (λ n. Spells s a ((48 + n) ∷ []) e) (got-value g) (spells-one s a 49 e (eqb-true (tokenAt s a .key) 49 t) (omega arith) (got-place g))),
+      ))
       λ t g. pick-case (eqb (tokenAt s a .key) word.twoKey) _ _ _ g
-      (λ u f. (inr (sym (got-value f)), spells-then s p₁ (subst (λ n. Spells s a ((48 + n) ∷ []) e) (got-value f) (spells-one s a 50 e (eqb-true (tokenAt s a .key) 50 u) (omega arith) (got-place f)))))
+      (λ u f. (
+        inr (sym (got-value f)),
+        spells-then s p₁
+            (subst (λ n. Spells s a ((48 + n) ∷ []) e) (got-value f) (spells-one s a 50 e (eqb-true (tokenAt s a .key) 50 u) (omega arith) (got-place f))),
+      ))
       λ u f. absurd (not-refused f)
 
   -- what reading the entries has to show
   abbrev Found : ℕ → List ℕ → List ℕ → ℕ → List ℕ → List ℕ → ℕ → Type 0
-  Found room fs ns at gs ms e = (ks : List ℕ) × (ls : List ℕ) × (gs ≡ fs ++ ks) × (ms ≡ ns ++ ls) × Declared gs × Disjoint rs gs × Arities ks ls × (1 ≤ length gs) × (length ks ≤ room) × Spells s at (entryTokens ks ls ++ word.semicolonKey ∷ []) e
+  Found room fs ns at gs ms e = (ks : List ℕ) × (ls : List ℕ) × (gs ≡ fs ++ ks) × (ms ≡ ns ++ ls) × Declared gs × Disjoint rs gs × Arities ks ls
+      × (1 ≤ length gs) × (length ks ≤ room) × Spells s at (entryTokens ks ls ++ word.semicolonKey ∷ []) e
 
-  ended-list : (room : ℕ) (fs ns : List ℕ) (at : ℕ) (r : List ℕ × List ℕ) (e : ℕ) → Declared fs → Disjoint rs fs → listedT s (length fs) (fs, ns) (tokenAt s at) ≡ got r e → Found room fs ns at (r .0) (r .1) e
+  ended-list : (room : ℕ) (fs ns : List ℕ) (at : ℕ) (r : List ℕ × List ℕ) (e : ℕ) → Declared fs → Disjoint rs fs
+      → listedT s (length fs) (fs, ns) (tokenAt s at) ≡ got r e → Found room fs ns at (r .0) (r .1) e
   unfolding entryTokens
   ended-list room fs ns at r e D P g =
       let (q, n, p) = listed-sound s (length fs) at (fs, ns) r e g in
       subst (λ r. Found room fs ns at (r .0) (r .1) e) q ([], [], sym (append-nil fs), sym (append-nil ns), D, P, Arities.none, n, omega arith, p)
 
-  pub functions-sound : (room : ℕ) (fs ns : List ℕ) (at : ℕ) (r : List ℕ × List ℕ) (e : ℕ) → Declared fs → Disjoint rs fs → functionEntries s rs room fs ns at ≡ got r e → Found room fs ns at (r .0) (r .1) e
+  pub functions-sound : (room : ℕ) (fs ns : List ℕ) (at : ℕ) (r : List ℕ × List ℕ) (e : ℕ) → Declared fs → Disjoint rs fs
+      → functionEntries s rs room fs ns at ≡ got r e → Found room fs ns at (r .0) (r .1) e
   unfolding functionEntries entryTokens
   functions-sound zero fs ns at r e D P h =
       pick-case (isName (tokenAt s at .key)) _ _ _ h (λ t g. absurd (not-refused g)) λ t g. ended-list zero fs ns at r e D P g
@@ -160,8 +181,20 @@ module _ (s rs : List ℕ) where
       let (x, y) = or-false (isDeclared s k rs) (isDeclared s k fs) u in
       let (n, b, g₂, h₂) = onward-got (arityOf s (tokenAt s at .end)) _ r e f in
       let (w, p₂) = arity-sound (tokenAt s at .end) n b g₂ in
-      let (ks, ls, q, q′, D′, P′, A, m, l, p) = functions-sound room (fs ++ k ∷ []) (ns ++ n ∷ []) b r e (declared-more fs k D t y) (apart-more rs fs k P x) h₂ in
-      (k ∷ ks, n ∷ ls, q ∙ append-assoc fs (k ∷ []) ks, q′ ∙ append-assoc ns (n ∷ []) ls, D′, P′, arity k n ks ls w A, m, omega arith, Spells.more refl (name-real k t) (spells-then s p₂ p)))
+      let (ks, ls, q, q′, D′, P′, A, m, l, p) =
+      functions-sound room (fs ++ k ∷ []) (ns ++ n ∷ []) b r e (declared-more fs k D t y) (apart-more rs fs k P x) h₂ in (
+        k ∷ ks,
+        n ∷ ls,
+        q ∙ append-assoc fs (k ∷ []) ks,
+        q′
+            ∙ append-assoc ns (n ∷ []) ls,
+        D′,
+        P′,
+        arity k n ks ls w A,
+        m,
+        omega arith,
+        Spells.more refl (name-real k t) (spells-then s p₂ p),
+      ))
       λ t g. ended-list (suc room) fs ns at r e D P g
     where
       arity : (k n : ℕ) (ks ls : List ℕ) → (n ≡ 1) ⊎ (n ≡ 2) → Arities ks ls → Arities (k ∷ ks) (n ∷ ls)
@@ -172,12 +205,14 @@ module _ (s rs : List ℕ) where
   foreign : (fs ks : List ℕ) (k : ℕ) → Disjoint rs (fs ++ k ∷ ks) → isDeclared s k rs ≡ false
   unfolding Disjoint
   foreign fs ks k P = byTest (isDeclared s k rs)
-      (λ t. let l = ltb-true (indexOf k rs) (length rs) t in let size = length-append fs (k ∷ ks) in absurd (P (indexOf k rs) (length fs) l (omega arith) (sym (index-at k rs l) ∙ sym (getD-append-seam fs k ks 0))))
+      (λ t. let l = ltb-true (indexOf k rs) (length rs) t in let size = length-append fs (k ∷ ks) in
+      absurd (P (indexOf k rs) (length fs) l (omega arith) (sym (index-at k rs l) ∙ sym (getD-append-seam fs k ks 0))))
       λ t. t
 
   arity-one : {at e : ℕ} → Spells s at (word.slashKey ∷ word.oneKey ∷ []) e → arityOf s at ≡ got 1 e
   unfolding arityOf
-  arity-one {at} p = let (m, p₁, q) = spells-split s (word.slashKey ∷ []) p in rw (expect-complete s p₁, eq-eqb (tokenAt s m .key) 49 (spells-key s q)) (ap (got 1) (spells-end s q))
+  arity-one {at} p = let (m, p₁, q) = spells-split s (word.slashKey ∷ []) p in
+      rw (expect-complete s p₁, eq-eqb (tokenAt s m .key) 49 (spells-key s q)) (ap (got 1) (spells-end s q))
 
   arity-two : {at e : ℕ} → Spells s at (word.slashKey ∷ word.twoKey ∷ []) e → arityOf s at ≡ got 2 e
   unfolding arityOf
@@ -185,14 +220,19 @@ module _ (s rs : List ℕ) where
       let (m, p₁, q) = spells-split s (word.slashKey ∷ []) p in
       rw (expect-complete s p₁, ap (λ k. eqb k 49) (spells-key s q), eq-eqb (tokenAt s m .key) 50 (spells-key s q)) (ap (got 2) (spells-end s q))
 
-  list-end : (room : ℕ) (fs ns : List ℕ) (at e : ℕ) → 1 ≤ length (fs ++ []) → Spells s at (word.semicolonKey ∷ []) e → functionEntries s rs room fs ns at ≡ got (fs ++ [], ns ++ []) e
+  list-end : (room : ℕ) (fs ns : List ℕ) (at e : ℕ) → 1 ≤ length (fs ++ []) → Spells s at (word.semicolonKey ∷ []) e
+      → functionEntries s rs room fs ns at ≡ got (fs ++ [], ns ++ []) e
   unfolding functionEntries
-  list-end zero fs ns at e m p = rw (ap isName (spells-key s p), append-nil fs, append-nil ns) (listed-complete s (length fs) at (fs, ns) (rw append-nil at m) p)
-  list-end (suc room) fs ns at e m p = rw (ap isName (spells-key s p), append-nil fs, append-nil ns) (listed-complete s (length fs) at (fs, ns) (rw append-nil at m) p)
+  list-end zero fs ns at e m p = rw (ap isName (spells-key s p), append-nil fs, append-nil ns)
+      (listed-complete s (length fs) at (fs, ns) (rw append-nil at m) p)
+  list-end (suc room) fs ns at e m p =
+      rw (ap isName (spells-key s p), append-nil fs, append-nil ns) (listed-complete s (length fs) at (fs, ns) (rw append-nil at m) p)
 
   -- one entry, and the others
-  entry-complete : (k n : ℕ) (ks ls fs ns : List ℕ) (room at b e : ℕ) → Declared (fs ++ k ∷ ks) → Disjoint rs (fs ++ k ∷ ks) → tokenAt s at .key ≡ k → arityOf s (tokenAt s at .end) ≡ got n b
-      → functionEntries s rs room (fs ++ k ∷ []) (ns ++ n ∷ []) b ≡ got ((fs ++ k ∷ []) ++ ks, (ns ++ n ∷ []) ++ ls) e → functionEntries s rs (suc room) fs ns at ≡ got (fs ++ k ∷ ks, ns ++ n ∷ ls) e
+  entry-complete : (k n : ℕ) (ks ls fs ns : List ℕ) (room at b e : ℕ) → Declared (fs ++ k ∷ ks) → Disjoint rs (fs ++ k ∷ ks) → tokenAt s at .key ≡ k
+      → arityOf s (tokenAt s at .end) ≡ got n b
+      → functionEntries s rs room (fs ++ k ∷ []) (ns ++ n ∷ []) b ≡ got ((fs ++ k ∷ []) ++ ks, (ns ++ n ∷ []) ++ ls) e
+      → functionEntries s rs (suc room) fs ns at ≡ got (fs ++ k ∷ ks, ns ++ n ∷ ls) e
   unfolding functionEntries
   entry-complete k n ks ls fs ns room at b e D P j g h =
       let size : length fs < length (fs ++ k ∷ ks) = omega (arith, length-append fs (k ∷ ks)) in
@@ -201,7 +241,8 @@ module _ (s rs : List ℕ) where
       let fresh : isDeclared s (tokenAt s at .key) fs ≡ false = le-ltb _ _ (subst (λ x. length fs ≤ indexOf x fs) (sym j) (unknown fs ks k D)) in
       rw (real, far, fresh, g, j) (h ∙ λ i. got (append-assoc fs (k ∷ []) ks i, append-assoc ns (n ∷ []) ls i) e)
 
-  pub functions-complete : (ks ls : List ℕ) → Arities ks ls → (fs ns : List ℕ) (room at e : ℕ) → Declared (fs ++ ks) → Disjoint rs (fs ++ ks) → 1 ≤ length (fs ++ ks) → length ks ≤ room → Spells s at (entryTokens ks ls ++ word.semicolonKey ∷ []) e
+  pub functions-complete : (ks ls : List ℕ) → Arities ks ls → (fs ns : List ℕ) (room at e : ℕ) → Declared (fs ++ ks) → Disjoint rs (fs ++ ks)
+      → 1 ≤ length (fs ++ ks) → length ks ≤ room → Spells s at (entryTokens ks ls ++ word.semicolonKey ∷ []) e
       → functionEntries s rs room fs ns at ≡ got (fs ++ ks, ns ++ ls) e
   unfolding entryTokens
   functions-complete ks ls Arities.none fs ns room at e D P m l p = list-end room fs ns at e m p
@@ -210,10 +251,12 @@ module _ (s rs : List ℕ) where
       let (b, p₂, p₃) = spells-split s (word.slashKey ∷ word.oneKey ∷ []) (spells-rest s p) in
       let y = append-assoc fs (f ∷ []) gs in
       entry-complete f 1 gs ms fs ns room at b e D P (spells-key s p) (arity-one p₂)
-      (functions-complete gs ms A (fs ++ f ∷ []) (ns ++ 1 ∷ []) room b e (subst Declared (sym y) D) (subst (Disjoint rs) (sym y) P) (subst (λ x. 1 ≤ length x) (sym y) m) (omega arith) p₃)
+      (functions-complete gs ms A (fs ++ f ∷ []) (ns ++ 1 ∷ []) room b e (subst Declared (sym y) D) (subst (Disjoint rs) (sym y) P)
+      (subst (λ x. 1 ≤ length x) (sym y) m) (omega arith) p₃)
   functions-complete ks ls (Arities.two {f} {fs = gs} {ns = ms} A) fs ns zero at e D P m l p = absurd (omega arith)
   functions-complete ks ls (Arities.two {f} {fs = gs} {ns = ms} A) fs ns (suc room) at e D P m l p =
       let (b, p₂, p₃) = spells-split s (word.slashKey ∷ word.twoKey ∷ []) (spells-rest s p) in
       let y = append-assoc fs (f ∷ []) gs in
       entry-complete f 2 gs ms fs ns room at b e D P (spells-key s p) (arity-two p₂)
-      (functions-complete gs ms A (fs ++ f ∷ []) (ns ++ 2 ∷ []) room b e (subst Declared (sym y) D) (subst (Disjoint rs) (sym y) P) (subst (λ x. 1 ≤ length x) (sym y) m) (omega arith) p₃)
+      (functions-complete gs ms A (fs ++ f ∷ []) (ns ++ 2 ∷ []) room b e (subst Declared (sym y) D) (subst (Disjoint rs) (sym y) P)
+      (subst (λ x. 1 ≤ length x) (sym y) m) (omega arith) p₃)

@@ -15,7 +15,9 @@ use Rattle.tokens.specs.Tokens.{tokenAt}
 use Rattle.tokens.proofs.Theory.TokensLaws.{token-advance, token-before-end}
 use Rattle.tokens.specs.Words.{isName}
 use Rattle.tokens.specs.Words as word
-use Rattle.grammar.specs.Reading.{Got, got, exhausted, andThen, indexOf, useT, signT, expect, ended, condition, argumentsT, rightHandSide, assignment, endedCondition, bracesT, elseT, statementT, block, statement, closing, listedT, isDeclared, registerNames, arityOf, functionEntries, functionsT}
+use Rattle.grammar.specs.Reading.{Got, got, exhausted, andThen, indexOf, useT, signT, expect, ended, condition, argumentsT, rightHandSide, assignment}
+use Rattle.grammar.specs.Reading.{endedCondition, bracesT, elseT, statementT, block, statement, closing, listedT, isDeclared, registerNames, arityOf}
+use Rattle.grammar.specs.Reading.{functionEntries, functionsT}
 use Rattle.grammar.proofs.Theory.Reading.{readText, readMacro}
 use Rattle.grammar.proofs.Theory.Sound.{pick-case}
 use Rattle.grammar.proofs.Theory.Advance.{condition-on, statement-on, braces-on}
@@ -93,7 +95,8 @@ module _ (s : List ℕ) where
     tested-answers at = onward-answers (condition s rs at) _ (condition-answers rs at) λ c e _. ended-answers word.semicolonKey c e
 
     -- inner answers at every place behind `low`
-    module _ (inner : ℕ → ℕ → Got Block) (low : ℕ) (enough : (d at : ℕ) → low < at → IsAnswer (inner d at)) (on : (d at : ℕ) (b : Block) (e : ℕ) → bracesT s rs fs ns inner d (tokenAt s at) ≡ got b e → at < e) where
+    module _ (inner : ℕ → ℕ → Got Block) (low : ℕ) (enough : (d at : ℕ) → low < at → IsAnswer (inner d at))
+        (on : (d at : ℕ) (b : Block) (e : ℕ) → bracesT s rs fs ns inner d (tokenAt s at) ≡ got b e → at < e) where
       braces-answers : (d at : ℕ) → low ≤ at → IsAnswer (bracesT s rs fs ns inner d (tokenAt s at))
       braces-answers zero at l h = pick-case (eqb (tokenAt s at .key) word.lbraceKey) _ _ _ h (λ _ g. refused-answers g) λ _ g. refused-answers g
       braces-answers (suc d) at l h =
@@ -106,7 +109,8 @@ module _ (s : List ℕ) where
       else-answers d at l h =
           pick-case (eqb (tokenAt s at .key) word.elseKey) _ _ _ h
           (λ t. let k = eqb-true (tokenAt s at .key) word.elseKey t in let a = token-advance s at (omega arith) in
-          onward-answers (bracesT s rs fs ns inner d (tokenAt s (tokenAt s at .end))) _ (braces-answers d (tokenAt s at .end) (omega arith)) λ _ _ _. got-answers)
+          onward-answers (bracesT s rs fs ns inner d (tokenAt s (tokenAt s at .end))) _ (braces-answers d (tokenAt s at .end) (omega arith))
+          λ _ _ _. got-answers)
           λ _ g. got-answers g
 
       statement-answers-by : (d at : ℕ) → low ≡ at → IsAnswer (statementT s rs fs ns inner d at (tokenAt s at))
@@ -118,12 +122,14 @@ module _ (s : List ℕ) where
           (λ _. onward-answers (endedCondition s rs (tokenAt s at .end)) _ (tested-answers (tokenAt s at .end)) λ _ _ _. got-answers)
           λ _ h. pick-case (eqb (tokenAt s at .key) word.ifKey) _ _ _ h
           (λ t. let k = eqb-true (tokenAt s at .key) word.ifKey t in let z = token-advance s at (omega arith) in
-          onward-answers (condition s rs (tokenAt s at .end)) _ (condition-answers rs (tokenAt s at .end)) λ c a g. let y = condition-on s rs (tokenAt s at .end) c a g in
+          onward-answers (condition s rs (tokenAt s at .end)) _ (condition-answers rs (tokenAt s at .end)) λ c a g. let y =
+          condition-on s rs (tokenAt s at .end) c a g in
           onward-answers (bracesT s rs fs ns inner d (tokenAt s a)) _ (braces-answers d a (omega arith)) λ b e w. let x = on d a b e w in
           onward-answers (elseT s rs fs ns inner d e (tokenAt s e)) _ (else-answers d e (omega arith)) λ _ _ _. got-answers)
           λ _ h. pick-case (eqb (tokenAt s at .key) word.whileKey) _ _ _ h
           (λ t. let k = eqb-true (tokenAt s at .key) word.whileKey t in let z = token-advance s at (omega arith) in
-          onward-answers (condition s rs (tokenAt s at .end)) _ (condition-answers rs (tokenAt s at .end)) λ c a g. let y = condition-on s rs (tokenAt s at .end) c a g in
+          onward-answers (condition s rs (tokenAt s at .end)) _ (condition-answers rs (tokenAt s at .end)) λ c a g. let y =
+          condition-on s rs (tokenAt s at .end) c a g in
           onward-answers (bracesT s rs fs ns inner d (tokenAt s a)) _ (braces-answers d a (omega arith)) λ _ _ _. got-answers)
           λ _ h. pick-case (isName (tokenAt s at .key)) _ _ _ h
           (λ _. onward-answers (assignment s rs fs ns at) _ (assignment-answers at) λ _ _ _. got-answers)
@@ -136,16 +142,20 @@ module _ (s : List ℕ) where
       unfolding block
 
       pub block-answers : (k d at : ℕ) → 2 * (length s - at) ≤ k → IsAnswer (block s rs fs ns (suc k) d at)
-      block-answers zero d at l h = pick-case (closing s rs fs ns (tokenAt s at .key)) _ _ _ h (λ _ g. got-answers g) λ t g. let y = open-here at t in omega arith
+      block-answers zero d at l h = pick-case (closing s rs fs ns (tokenAt s at .key)) _ _ _ h (λ _ g. got-answers g) λ t g. let y = open-here at t in
+          omega arith
       block-answers (suc k) d at l h =
           pick-case (closing s rs fs ns (tokenAt s at .key)) _ _ _ h (λ _ g. got-answers g)
           λ t. let y = open-here at t in
-          onward-answers (statement s rs fs ns (suc k) d at) _ (λ h. statement-answers k d at y l h) λ c a g. let x = statement-on s rs fs ns (suc k) d at c a g in
+          onward-answers (statement s rs fs ns (suc k) d at) _ (λ h. statement-answers k d at y l h) λ c a g. let x =
+          statement-on s rs fs ns (suc k) d at c a g in
           onward-answers (block s rs fs ns (suc k) d a) _ (λ h. block-answers k d a (omega arith) h) λ _ _ _. got-answers
 
       statement-answers : (k d at : ℕ) → at < length s → 2 * (length s - at) ≤ suc k → IsAnswer (statement s rs fs ns (suc k) d at)
       statement-answers zero d at y l h = absurd (omega arith)
-      statement-answers (suc k) d at y l h = statement-answers-by (λ d at. block s rs fs ns (suc k) d at) at (λ d a h g. block-answers k d a (omega arith) g) (λ d a b e g. braces-on s rs fs ns (suc k) d a b e g .0) d at refl h
+      statement-answers (suc k) d at y l h =
+          statement-answers-by (λ d at. block s rs fs ns (suc k) d at) at (λ d a h g. block-answers k d a (omega arith) g)
+          (λ d a b e g. braces-on s rs fs ns (suc k) d a b e g .0) d at refl h
 
   listed-answers : {A : Type 0} (n : ℕ) (a : A) (at : ℕ) → IsAnswer (listedT s n a (tokenAt s at))
   listed-answers n a at h = pick-case (eqb (tokenAt s at .key) word.semicolonKey && not (eqb n 0)) _ _ _ h (λ _ g. got-answers g) λ _ g. refused-answers g
@@ -155,7 +165,8 @@ module _ (s : List ℕ) where
   registers-answers zero rs at h = pick-case (isName (tokenAt s at .key)) _ _ _ h (λ _ g. refused-answers g) λ _. listed-answers (length rs) rs at
   registers-answers (suc room) rs at h =
       pick-case (isName (tokenAt s at .key)) _ _ _ h
-      (λ _ g. pick-case (isDeclared s (tokenAt s at .key) rs) _ _ _ g (λ _ f. refused-answers f) λ _. registers-answers room (rs ++ tokenAt s at .key ∷ []) (tokenAt s at .end))
+      (λ _ g. pick-case (isDeclared s (tokenAt s at .key) rs) _ _ _ g (λ _ f. refused-answers f) λ _. registers-answers room (rs ++ tokenAt s at .key ∷ [])
+      (tokenAt s at .end))
       λ _. listed-answers (length rs) rs at
 
   arity-answers : (at : ℕ) → IsAnswer (arityOf s at)
@@ -171,7 +182,8 @@ module _ (s : List ℕ) where
   functions-answers rs (suc room) fs ns at h =
       pick-case (isName (tokenAt s at .key)) _ _ _ h
       (λ _ g. pick-case (isDeclared s (tokenAt s at .key) rs || isDeclared s (tokenAt s at .key) fs) _ _ _ g (λ _ f. refused-answers f)
-      λ _. onward-answers (arityOf s (tokenAt s at .end)) _ (arity-answers (tokenAt s at .end)) λ n e _. functions-answers rs room (fs ++ tokenAt s at .key ∷ []) (ns ++ n ∷ []) e)
+      λ _. onward-answers (arityOf s (tokenAt s at .end)) _ (arity-answers (tokenAt s at .end)) λ n e _. functions-answers rs room
+      (fs ++ tokenAt s at .key ∷ []) (ns ++ n ∷ []) e)
       λ _. listed-answers (length fs) (fs, ns) at
 
   line-answers : (rs : List ℕ) (at : ℕ) → IsAnswer (functionsT s rs at (tokenAt s at))

@@ -17,9 +17,11 @@ use Rattle.tokens.specs.Tokens.{tokenAt}
 use Rattle.tokens.specs.Words.{isName}
 use Rattle.tokens.specs.Words as word
 use Rattle.tokens.proofs.Theory.WordsLaws.{name-real}
-use Rattle.grammar.specs.Grammar.{header, conditionTokens, letterTokens, statementTokens, elseTokens, blockTokens, OneDeeper, Nests, NestsElse, NestsBlock}
+use Rattle.grammar.specs.Grammar.{header, conditionTokens, letterTokens, statementTokens, elseTokens, blockTokens, OneDeeper, Nests, NestsElse}
+use Rattle.grammar.specs.Grammar.{NestsBlock}
 use Rattle.grammar.proofs.Theory.HeaderLaws.{arity-two}
-use Rattle.grammar.specs.Reading.{Got, got, exhausted, andThen, indexOf, useT, signT, compared, expect, ended, condition, argumentsT, rightHandSide, assignment, endedCondition, bracesT, elseT, statementT, block, statement, closing}
+use Rattle.grammar.specs.Reading.{Got, got, exhausted, andThen, indexOf, useT, signT, compared, expect, ended, condition, argumentsT, rightHandSide}
+use Rattle.grammar.specs.Reading.{assignment, endedCondition, bracesT, elseT, statementT, block, statement, closing}
 use Rattle.grammar.specs.Spelled.{Spells, Arities}
 
 -- ---- inversions
@@ -49,7 +51,8 @@ got-place h = cc
 pub index-at : (k : ℕ) (l : List ℕ) → indexOf k l < length l → k ≡ getD l (indexOf k l) 0
 unfolding indexOf
 index-at k [] h = absurd (omega arith)
-index-at k (x ∷ l) h = byTest (eqb k x) (λ t. rw t (eqb-true k x t)) (λ t. rw t (index-at k l (let g : suc (indexOf k l) < suc (length l) = rw t at h in omega arith)))
+index-at k (x ∷ l) h = byTest (eqb k x) (λ t. rw t (eqb-true k x t))
+    (λ t. rw t (index-at k l (let g : suc (indexOf k l) < suc (length l) = rw t at h in omega arith)))
 
 -- ---- one token
 
@@ -70,7 +73,8 @@ module _ (s : List ℕ) where
       λ t g. absurd (not-refused g)
 
   pub ended-sound : {A : Type 0} (k at e : ℕ) (a b : A) → 2 ≤ k → ended s k a at ≡ got b e → (a ≡ b) × Spells s at (k ∷ []) e
-  ended-sound k at e a b r h = let (u, m, g, f) = onward-got (expect s k at) (λ _ e. got a e) b e h in (got-value f, expect-sound k at e u r (g ∙ ap (got u) (got-place f)))
+  ended-sound k at e a b r h = let (u, m, g, f) = onward-got (expect s k at) (λ _ e. got a e) b e h in
+      (got-value f, expect-sound k at e u r (g ∙ ap (got u) (got-place f)))
 
   pub use-sound : (rs : List ℕ) (at i e : ℕ) → useT rs (tokenAt s at) ≡ got i e → (i < length rs) × Spells s at (getD rs i 0 ∷ []) e
   use-sound rs at i e h =
@@ -118,22 +122,28 @@ module _ (s : List ℕ) where
         let (l₁, p₁) = use-sound rs at x a g₁ in
         let p₂ = sign-sound a q b g₂ in
         let (l₃, p₃) = use-sound rs b y m g₃ in
-        subst (λ c. ReadCondition at c e) (got-value h₃) (subst (λ n. ReadCondition at (compared q x y) n) (got-place h₃) (both q x y m l₁ l₃ (spells-then p₁ (spells-then p₂ p₃))))
+        subst (λ c. ReadCondition at c e) (got-value h₃)
+        (subst (λ n. ReadCondition at (compared q x y) n) (got-place h₃) (both q x y m l₁ l₃ (spells-then p₁ (spells-then p₂ p₃))))
       where
-        both : (q : Bool) (x y n : ℕ) → x < length rs → y < length rs → Spells s at (getD rs x 0 ∷ signToken q ∷ getD rs y 0 ∷ []) n → ReadCondition at (compared q x y) n
+        both : (q : Bool) (x y n : ℕ) → x < length rs → y < length rs → Spells s at (getD rs x 0 ∷ signToken q ∷ getD rs y 0 ∷ []) n
+            → ReadCondition at (compared q x y) n
         both true x y n l r p = ((l, r), p)
         both false x y n l r p = ((l, r), p)
 
     -- what a reader behind `x :=` has to show
     abbrev Assigns : ℕ → ℕ → Letter → ℕ → Type 0
-    Assigns x at l e = Fits (header rs fs ns) l × (ls : List ℕ) × (letterTokens rs fs ns l ≡ getD rs x 0 ∷ word.becomesKey ∷ (ls ++ word.semicolonKey ∷ [])) × Spells s at ls e
+    Assigns x at l e = Fits (header rs fs ns) l × (ls : List ℕ) × (letterTokens rs fs ns l ≡ getD rs x 0 ∷ word.becomesKey ∷ (ls ++ word.semicolonKey ∷ []))
+        × Spells s at ls e
 
     -- what one behind `x := f(y` has to show
     abbrev Applies : ℕ → ℕ → ℕ → ℕ → Letter → ℕ → Type 0
     Applies x f y at l e =
-        Fits (header rs fs ns) l × (ls : List ℕ) × (letterTokens rs fs ns l ≡ getD rs x 0 ∷ word.becomesKey ∷ getD fs f 0 ∷ word.lparenKey ∷ getD rs y 0 ∷ (ls ++ word.semicolonKey ∷ [])) × Spells s at ls e
+        Fits (header rs fs ns) l × (ls : List ℕ)
+        × (letterTokens rs fs ns l ≡ getD rs x 0 ∷ word.becomesKey ∷ getD fs f 0 ∷ word.lparenKey ∷ getD rs y 0 ∷ (ls ++ word.semicolonKey ∷ []))
+        × Spells s at ls e
 
-    arguments-sound : (x f y at : ℕ) (l : Letter) (e : ℕ) → x < length rs → f < length fs → y < length rs → argumentsT s rs (getD ns f 0) x f y (tokenAt s at) ≡ got l e → Applies x f y at l e
+    arguments-sound : (x f y at : ℕ) (l : Letter) (e : ℕ) → x < length rs → f < length fs → y < length rs
+        → argumentsT s rs (getD ns f 0) x f y (tokenAt s at) ≡ got l e → Applies x f y at l e
     unfolding argumentsT
     arguments-sound x f y at l e hx hf hy h =
         pick-case (eqb (tokenAt s at .key) word.commaKey) _ _ _ h
@@ -142,8 +152,13 @@ module _ (s : List ℕ) where
         let (z, a, g₁, h₁) = onward-got (useT rs (tokenAt s (tokenAt s at .end))) _ l e k in
         let (l₁, p₁) = use-sound rs (tokenAt s at .end) z a g₁ in
         let (q, p₂) = ended-sound word.rparenKey a e (Apply x f y z) l (omega arith) h₁ in
-        subst (λ l. Applies x f y at l e) q
-        ((hx, hf, hy, l₁, λ r. absurd (let w = arity-two rs fs ns f u in omega arith)), word.commaKey ∷ getD rs z 0 ∷ word.rparenKey ∷ [], rw u, Spells.more (eqb-true _ word.commaKey t) (omega arith) (spells-then p₁ p₂)))
+        subst (λ l. Applies x f y at l e) q (
+          (hx, hf, hy, l₁, λ r. absurd (let w = arity-two rs fs ns f u in omega arith)),
+          word.commaKey ∷ getD rs z 0 ∷ word.rparenKey ∷ [],
+          rw u,
+          Spells.more
+              (eqb-true _ word.commaKey t) (omega arith) (spells-then p₁ p₂),
+        ))
         λ u k. absurd (not-refused k))
         λ t g. pick-case (eqb (tokenAt s at .key) word.rparenKey) _ _ _ g
         (λ t′ g′. pick-case (eqb (getD ns f 0) 2) _ _ _ g′ (λ u k. absurd (not-refused k))
@@ -185,7 +200,8 @@ module _ (s : List ℕ) where
         let (q, p₄) = ended-sound word.semicolonKey m e v l (omega arith) h₃ in
         subst (λ l. ReadLetter at l e) q (o, subst (λ l. Spells s at l e) (sym w) (spells-then p₁ (spells-then p₂ (spells-then p₃ p₄))))
 
-    pub tested-sound : (at : ℕ) (c : Condition) (e : ℕ) → endedCondition s rs at ≡ got c e → Fits (header rs fs ns) (test c) × Spells s at (conditionTokens rs fs ns c ++ word.semicolonKey ∷ []) e
+    pub tested-sound : (at : ℕ) (c : Condition) (e : ℕ) → endedCondition s rs at ≡ got c e
+        → Fits (header rs fs ns) (test c) × Spells s at (conditionTokens rs fs ns c ++ word.semicolonKey ∷ []) e
     unfolding endedCondition
     tested-sound at r e h =
         let (c, m, g₁, h₁) = onward-got (condition s rs at) _ r e h in
@@ -204,7 +220,8 @@ module _ (s : List ℕ) where
 
     module _ (inner : ℕ → ℕ → Got Block) (sound : (d at : ℕ) (b : Block) (e : ℕ) → inner d at ≡ got b e → ReadBlock d at b e) where
       abbrev pub ReadBraces : ℕ → ℕ → Block → ℕ → Type 0
-      ReadBraces d at b e = ProperBlock b (header rs fs ns) × OneDeeper (λ n. NestsBlock b n) d × Spells s at (word.lbraceKey ∷ (blockTokens rs fs ns b ++ word.rbraceKey ∷ [])) e
+      ReadBraces d at b e = ProperBlock b (header rs fs ns) × OneDeeper (λ n. NestsBlock b n) d
+          × Spells s at (word.lbraceKey ∷ (blockTokens rs fs ns b ++ word.rbraceKey ∷ [])) e
 
       pub braces-sound : (d at : ℕ) (b : Block) (e : ℕ) → bracesT s rs fs ns inner d (tokenAt s at) ≡ got b e → ReadBraces d at b e
       unfolding ReadBlock
@@ -218,16 +235,22 @@ module _ (s : List ℕ) where
           subst (λ b. ReadBraces (suc d) at b e) q (u, o, Spells.more (eqb-true _ word.lbraceKey t) (omega arith) (spells-then p₁ p₂)))
           λ t g. absurd (not-refused g)
 
-      pub else-sound : (d at : ℕ) (o : Else) (e : ℕ) → elseT s rs fs ns inner d at (tokenAt s at) ≡ got o e → ProperElse o (header rs fs ns) × NestsElse o d × Spells s at (elseTokens rs fs ns o) e
+      pub else-sound : (d at : ℕ) (o : Else) (e : ℕ) → elseT s rs fs ns inner d at (tokenAt s at) ≡ got o e
+          → ProperElse o (header rs fs ns) × NestsElse o d × Spells s at (elseTokens rs fs ns o) e
       unfolding elseTokens
       else-sound d at o e h =
           pick-case (eqb (tokenAt s at .key) word.elseKey) _ _ _ h
           (λ t g.
           let (x, m, g₁, h₁) = onward-got (bracesT s rs fs ns inner d (tokenAt s (tokenAt s at .end))) _ o e g in
           let (u, i, p₁) = braces-sound d (tokenAt s at .end) x m g₁ in
-          subst (λ o. ProperElse o (header rs fs ns) × NestsElse o d × Spells s at (elseTokens rs fs ns o) e) (got-value h₁)
-          (u, i, Spells.more (eqb-true _ word.elseKey t) (omega arith) (subst (λ n. Spells s (tokenAt s at .end) (word.lbraceKey ∷ (blockTokens rs fs ns x ++ word.rbraceKey ∷ [])) n) (got-place h₁) p₁)))
-          λ t g. subst (λ o. ProperElse o (header rs fs ns) × NestsElse o d × Spells s at (elseTokens rs fs ns o) e) (got-value g) (tt, tt, subst (λ n. Spells s at [] n) (got-place g) Spells.none)
+          subst (λ o. ProperElse o (header rs fs ns) × NestsElse o d × Spells s at (elseTokens rs fs ns o) e) (got-value h₁) (
+            u,
+            i,
+            Spells.more (eqb-true _ word.elseKey t) (omega arith)
+                (subst (λ n. Spells s (tokenAt s at .end) (word.lbraceKey ∷ (blockTokens rs fs ns x ++ word.rbraceKey ∷ [])) n) (got-place h₁) p₁),
+          ))
+          λ t g. subst (λ o. ProperElse o (header rs fs ns) × NestsElse o d × Spells s at (elseTokens rs fs ns o) e) (got-value g)
+          (tt, tt, subst (λ n. Spells s at [] n) (got-place g) Spells.none)
 
       -- a test as the letter of an assume
       assumed : (c : Condition) → letterTokens rs fs ns (test c) ≡ word.assumeKey ∷ (conditionTokens rs fs ns c ++ word.semicolonKey ∷ [])
@@ -238,19 +261,29 @@ module _ (s : List ℕ) where
       unfolding ReadStatement statementTokens
       statement-sound-by d at r e h =
           pick-case (eqb (tokenAt s at .key) word.skipKey) _ _ _ h
-          (λ t g. let (q, p) = ended-sound word.semicolonKey (tokenAt s at .end) e skip r (omega arith) g in subst (λ r. ReadStatement d at r e) q (tt, tt, Spells.more (eqb-true _ word.skipKey t) (omega arith) p))
+          (λ t g. let (q, p) = ended-sound word.semicolonKey (tokenAt s at .end) e skip r (omega arith) g in
+          subst (λ r. ReadStatement d at r e) q (tt, tt, Spells.more (eqb-true _ word.skipKey t) (omega arith) p))
           λ _ h. pick-case (eqb (tokenAt s at .key) word.assumeKey) _ _ _ h
           (λ t g.
           let (c, m, g₁, h₁) = onward-got (endedCondition s rs (tokenAt s at .end)) _ r e g in
           let (l, p) = tested-sound (tokenAt s at .end) c m g₁ in
-          subst (λ r. ReadStatement d at r e) (got-value h₁)
-          (l, tt, subst (λ l. Spells s at l e) (sym (assumed c)) (Spells.more (eqb-true _ word.assumeKey t) (omega arith) (subst (λ n. Spells s (tokenAt s at .end) (conditionTokens rs fs ns c ++ word.semicolonKey ∷ []) n) (got-place h₁) p))))
+          subst (λ r. ReadStatement d at r e) (got-value h₁) (
+            l,
+            tt,
+            subst (λ l. Spells s at l e) (sym (assumed c))
+                (Spells.more (eqb-true _ word.assumeKey t) (omega arith)
+                (subst (λ n. Spells s (tokenAt s at .end) (conditionTokens rs fs ns c ++ word.semicolonKey ∷ []) n) (got-place h₁) p)),
+          ))
           λ _ h. pick-case (eqb (tokenAt s at .key) word.assertKey) _ _ _ h
           (λ t g.
           let (c, m, g₁, h₁) = onward-got (endedCondition s rs (tokenAt s at .end)) _ r e g in
           let (l, p) = tested-sound (tokenAt s at .end) c m g₁ in
-          subst (λ r. ReadStatement d at r e) (got-value h₁)
-          (l, tt, Spells.more (eqb-true _ word.assertKey t) (omega arith) (subst (λ n. Spells s (tokenAt s at .end) (conditionTokens rs fs ns c ++ word.semicolonKey ∷ []) n) (got-place h₁) p)))
+          subst (λ r. ReadStatement d at r e) (got-value h₁) (
+            l,
+            tt,
+            Spells.more (eqb-true _ word.assertKey t) (omega arith)
+                (subst (λ n. Spells s (tokenAt s at .end) (conditionTokens rs fs ns c ++ word.semicolonKey ∷ []) n) (got-place h₁) p),
+          ))
           λ _ h. pick-case (eqb (tokenAt s at .key) word.ifKey) _ _ _ h
           (λ t g.
           let (c, a, g₁, h₁) = onward-got (condition s rs (tokenAt s at .end)) _ r e g in
@@ -259,17 +292,27 @@ module _ (s : List ℕ) where
           let (l, p₁) = condition-sound (tokenAt s at .end) c a g₁ in
           let (u, i, p₂) = braces-sound d a b m g₂ in
           let (v, j, p₃) = else-sound d m o n g₃ in
-          let p = spells-then p₁ (subst (λ l. Spells s a (word.lbraceKey ∷ l) n) (append-assoc (blockTokens rs fs ns b) (word.rbraceKey ∷ []) (elseTokens rs fs ns o)) (spells-then p₂ p₃)) in
-          subst (λ r. ReadStatement d at r e) (got-value h₃)
-          ((l, u, v), (i, j), Spells.more (eqb-true _ word.ifKey t) (omega arith) (subst (λ n. Spells s (tokenAt s at .end) (conditionTokens rs fs ns c ++ word.lbraceKey ∷ (blockTokens rs fs ns b ++ word.rbraceKey ∷ elseTokens rs fs ns o)) n) (got-place h₃) p)))
+          let p = spells-then p₁ (subst (λ l. Spells s a (word.lbraceKey ∷ l) n)
+          (append-assoc (blockTokens rs fs ns b) (word.rbraceKey ∷ []) (elseTokens rs fs ns o)) (spells-then p₂ p₃)) in
+          subst (λ r. ReadStatement d at r e) (got-value h₃) (
+            (l, u, v),
+            (i, j),
+            Spells.more (eqb-true _ word.ifKey t) (omega arith)
+                (subst (λ n. Spells s (tokenAt s at .end)
+                (conditionTokens rs fs ns c ++ word.lbraceKey ∷ (blockTokens rs fs ns b ++ word.rbraceKey ∷ elseTokens rs fs ns o)) n) (got-place h₃) p),
+          ))
           λ _ h. pick-case (eqb (tokenAt s at .key) word.whileKey) _ _ _ h
           (λ t g.
           let (c, a, g₁, h₁) = onward-got (condition s rs (tokenAt s at .end)) _ r e g in
           let (b, m, g₂, h₂) = onward-got (bracesT s rs fs ns inner d (tokenAt s a)) _ r e h₁ in
           let (l, p₁) = condition-sound (tokenAt s at .end) c a g₁ in
           let (u, i, p₂) = braces-sound d a b m g₂ in
-          subst (λ r. ReadStatement d at r e) (got-value h₂)
-          ((l, u), i, Spells.more (eqb-true _ word.whileKey t) (omega arith) (spells-then p₁ (subst (λ n. Spells s a (word.lbraceKey ∷ (blockTokens rs fs ns b ++ word.rbraceKey ∷ [])) n) (got-place h₂) p₂))))
+          subst (λ r. ReadStatement d at r e) (got-value h₂) (
+            (l, u),
+            i,
+            Spells.more (eqb-true _ word.whileKey t) (omega arith)
+                (spells-then p₁ (subst (λ n. Spells s a (word.lbraceKey ∷ (blockTokens rs fs ns b ++ word.rbraceKey ∷ [])) n) (got-place h₂) p₂)),
+          ))
           λ _ h. pick-case (isName (tokenAt s at .key)) _ _ _ h
           (λ t g.
           let (l, m, g₁, h₁) = onward-got (assignment s rs fs ns at) _ r e g in
@@ -290,7 +333,8 @@ module _ (s : List ℕ) where
           let (x, m, g₂, h₂) = onward-got (block s rs fs ns k d a) _ b e h₁ in
           let (u₁, o₁, p₁) = statement-sound k d at c a g₁ in
           let (u₂, o₂, p₂) = block-sound k d a x m g₂ in
-          subst (λ b. ReadBlock d at b e) (got-value h₂) ((u₁, u₂), (o₁, o₂), subst (λ n. Spells s at (statementTokens rs fs ns c ++ blockTokens rs fs ns x) n) (got-place h₂) (spells-then p₁ p₂))
+          subst (λ b. ReadBlock d at b e) (got-value h₂)
+          ((u₁, u₂), (o₁, o₂), subst (λ n. Spells s at (statementTokens rs fs ns c ++ blockTokens rs fs ns x) n) (got-place h₂) (spells-then p₁ p₂))
 
       pub statement-sound : (k d at : ℕ) (r : Statement) (e : ℕ) → statement s rs fs ns k d at ≡ got r e → ReadStatement d at r e
       statement-sound zero d at r e h = absurd (not-exhausted h)

@@ -21,7 +21,8 @@ use Rattle.grammar.proofs.Theory.Reading.{readText, readMacro}
 use Rattle.grammar.specs.Spelled.{Spells, Spelled, Declared, Disjoint, Arities, InOrder}
 use Rattle.grammar.specs.Spelled as spelled
 use Rattle.grammar.proofs.Theory.Sound.{onward-got, pick-case, not-refused, got-value, got-place, expect-sound, block-sound, ReadBlock, spells-then}
-use Rattle.grammar.proofs.Theory.Complete.{spells-split, spells-rest, spells-key, spells-nil, weight, weightElse, weightBlock, block-no-funs, block-complete}
+use Rattle.grammar.proofs.Theory.Complete.{spells-split, spells-rest, spells-key, spells-nil, weight, weightElse, weightBlock, block-no-funs}
+use Rattle.grammar.proofs.Theory.Complete.{block-complete}
 use Rattle.grammar.proofs.Theory.Declarations.{registers-sound, functions-sound, registers-complete, functions-complete}
 use Rattle.grammar.proofs.Theory.Advance.{spells-bounded}
 
@@ -37,14 +38,23 @@ functions-line s rs at r e h =
     let (ks, ls, q, q′, D, P, A, m, l, p) = functions-sound s rs mostFunctions [] [] (tokenAt s at .end) r e none-declared
     (λ i j x y z. absurd (omega arith)) g in
     let A′ : Arities (r .0) (r .1) = subst (λ x. Arities x (r .1)) (sym q) (subst (λ y. Arities ks y) (sym q′) A) in
-    let p′ : Spells s (tokenAt s at .end) (entryTokens (r .0) (r .1) ++ word.semicolonKey ∷ []) e = subst (λ x. Spells s (tokenAt s at .end) (entryTokens x (r .1) ++ word.semicolonKey ∷ []) e) (sym q) (subst (λ y. Spells s (tokenAt s at .end) (entryTokens ks y ++ word.semicolonKey ∷ []) e) (sym q′) p) in
-    (D, P, A′, subst (λ x. length x ≤ mostFunctions) (sym q) l, line (r .0) (r .1) m (Spells.more (eqb-true (tokenAt s at .key) word.funsKey t) (omega arith) p′)))
+    let p′ : Spells s (tokenAt s at .end) (entryTokens (r .0) (r .1) ++ word.semicolonKey ∷ []) e =
+    subst (λ x. Spells s (tokenAt s at .end) (entryTokens x (r .1) ++ word.semicolonKey ∷ []) e) (sym q)
+    (subst (λ y. Spells s (tokenAt s at .end) (entryTokens ks y ++ word.semicolonKey ∷ []) e) (sym q′) p) in (
+      D,
+      P,
+      A′,
+      subst (λ x. length x ≤ mostFunctions) (sym q) l,
+      line (r .0) (r .1) m
+          (Spells.more (eqb-true (tokenAt s at .key) word.funsKey t) (omega arith) p′),
+    ))
     λ t g. subst
     (λ r. Declared (r .0) × Disjoint rs (r .0) × Arities (r .0) (r .1) × (length (r .0) ≤ mostFunctions) × Spells s at (functionTokens (r .0) (r .1)) e)
     (got-value g)
     (none-declared, (λ i j x y z. absurd (omega arith)), spelled.Arities.none, omega arith, subst (λ n. Spells s at [] n) (got-place g) spelled.Spells.none)
   where
-    line : (fs ns : List ℕ) → 1 ≤ length fs → Spells s at (word.funsKey ∷ (entryTokens fs ns ++ word.semicolonKey ∷ [])) e → Spells s at (functionTokens fs ns) e
+    line : (fs ns : List ℕ) → 1 ≤ length fs → Spells s at (word.funsKey ∷ (entryTokens fs ns ++ word.semicolonKey ∷ [])) e
+        → Spells s at (functionTokens fs ns) e
     line [] ns m p = absurd (omega arith)
     line (f ∷ fs) ns m p = p
 
@@ -66,7 +76,14 @@ text-sound s m e h =
     pick-case (eqb (tokenAt s f .key) 0) _ _ _ h₄
     (λ x w. subst (λ m. (length s ≤ longestText) × Spelled s m × InOrder m) (got-value w) (
       ltb-false 4096 (length s) t,
-      record { place = f; tokens = spells-then s p₁ (regroup rs (functionTokens (r .0) (r .1)) (blockTokens rs (r .0) (r .1) body) (spells-then s (subst (λ x. Spells s a (x ++ word.semicolonKey ∷ []) b) (sym q) p₂) (spells-then s p₃ p₄))); ended = eqb-true (tokenAt s f .key) 0 x },
+      record {
+        place = f;
+        tokens = spells-then s p₁
+            (regroup rs (functionTokens (r .0) (r .1)) (blockTokens rs (r .0) (r .1) body)
+            (spells-then s (subst (λ x. Spells s a (x ++ word.semicolonKey ∷ []) b) (sym q) p₂) (spells-then s p₃ p₄)));
+        ended =
+            eqb-true (tokenAt s f .key) 0 x;
+      },
       record {
         registers = D;
         some = n;
@@ -81,7 +98,8 @@ text-sound s m e h =
     ))
     λ x y. absurd (not-refused y)
   where
-    regroup : (xs ys zs : List ℕ) {at e : ℕ} → Spells s at ((xs ++ word.semicolonKey ∷ []) ++ (ys ++ zs)) e → Spells s at (xs ++ word.semicolonKey ∷ (ys ++ zs)) e
+    regroup : (xs ys zs : List ℕ) {at e : ℕ} → Spells s at ((xs ++ word.semicolonKey ∷ []) ++ (ys ++ zs)) e
+        → Spells s at (xs ++ word.semicolonKey ∷ (ys ++ zs)) e
     regroup xs ys zs {at} {e} p = subst (λ l. Spells s at l e) (append-assoc xs (word.semicolonKey ∷ []) (ys ++ zs)) p
 
 -- What is read is spelled by the text, is in order, and has at most 256 points.
@@ -130,9 +148,14 @@ functions-read : (s rs : List ℕ) (at : ℕ) (fs ns : List ℕ) (e : ℕ) → D
     → Spells s at (functionTokens fs ns) e → eqb (tokenAt s e .key) word.funsKey ≡ false
     → functionsT s rs at (tokenAt s at) ≡ got (fs, ns) e
 unfolding functionTokens
-functions-read s rs at fs ns e D P spelled.Arities.none l p h = rw (ap (λ n. eqb (tokenAt s n .key) word.funsKey) (spells-nil s p) ∙ h) (ap (got ([], [])) (spells-nil s p))
-functions-read s rs at fs ns e D P (spelled.Arities.one A) l p h = rw (eq-eqb (tokenAt s at .key) word.funsKey (spells-key s p)) (functions-complete s rs _ _ (spelled.Arities.one A) [] [] 4 (tokenAt s at .end) e D P (omega arith) l (spells-rest s p))
-functions-read s rs at fs ns e D P (spelled.Arities.two A) l p h = rw (eq-eqb (tokenAt s at .key) word.funsKey (spells-key s p)) (functions-complete s rs _ _ (spelled.Arities.two A) [] [] 4 (tokenAt s at .end) e D P (omega arith) l (spells-rest s p))
+functions-read s rs at fs ns e D P spelled.Arities.none l p h =
+    rw (ap (λ n. eqb (tokenAt s n .key) word.funsKey) (spells-nil s p) ∙ h) (ap (got ([], [])) (spells-nil s p))
+functions-read s rs at fs ns e D P (spelled.Arities.one A) l p h =
+    rw (eq-eqb (tokenAt s at .key) word.funsKey (spells-key s p))
+    (functions-complete s rs _ _ (spelled.Arities.one A) [] [] 4 (tokenAt s at .end) e D P (omega arith) l (spells-rest s p))
+functions-read s rs at fs ns e D P (spelled.Arities.two A) l p h =
+    rw (eq-eqb (tokenAt s at .key) word.funsKey (spells-key s p))
+    (functions-complete s rs _ _ (spelled.Arities.two A) [] [] 4 (tokenAt s at .end) e D P (omega arith) l (spells-rest s p))
 
 -- A text that spells a macro in order is read as it.
 pub text-complete : (s : List ℕ) (m : Macro) → length s ≤ longestText → Spelled s m → InOrder m → (e : ℕ) × (readText s ≡ got m e)
@@ -140,7 +163,9 @@ unfolding readText sentence
 text-complete s m l S O =
     let rs = m .registers in let fs = m .functions in let ns = m .arities in
     let P = S .tokens in
-    let (b, p₂, q) = spells-split s (rs ++ word.semicolonKey ∷ []) (subst (λ l. Spells s (tokenAt s 0 .end) l (S .place)) (sym (append-assoc rs (word.semicolonKey ∷ []) (functionTokens fs ns ++ blockTokens rs fs ns (m .body)))) (spells-rest s P)) in
+    let (b, p₂, q) = spells-split s (rs ++ word.semicolonKey ∷ [])
+    (subst (λ l. Spells s (tokenAt s 0 .end) l (S .place))
+    (sym (append-assoc rs (word.semicolonKey ∷ []) (functionTokens fs ns ++ blockTokens rs fs ns (m .body)))) (spells-rest s P)) in
     let (c, p₃, p₄) = spells-split s (functionTokens fs ns) q in
     let w = weight-block rs fs ns (m .body) in
     let n = spells-bounded s p₄ in (
@@ -149,7 +174,8 @@ text-complete s m l S O =
         le-ltb longestText (length s) l,
         eq-eqb (tokenAt s 0 .key) word.varsKey (spells-key s P),
         registers-complete s rs [] mostRegisters (tokenAt s 0 .end) b (O .registers) (O .some) (O .few) p₂,
-        functions-read s rs b fs ns c (O .functions) (O .apart) (O .arities) (O .fewer) p₃ (block-no-funs s rs fs ns (O .registers) (O .functions) (m .body) (O .uses) p₄ (S .ended)),
+        functions-read s rs b fs ns c (O .functions) (O .apart) (O .arities) (O .fewer) p₃
+            (block-no-funs s rs fs ns (O .registers) (O .functions) (m .body) (O .uses) p₄ (S .ended)),
         block-complete s rs fs ns (O .registers) (O .functions) (2 * length s + 1) (m .body) deepestNesting c (S .place) (omega arith) (O .uses) (O .depth) p₄
             (ap (λ k. closing s rs fs ns k) (S .ended)),
         eq-eqb (tokenAt s (S .place) .key) 0 (S .ended),

@@ -58,13 +58,15 @@ module _ (t head link : List ℕ) (count : ℕ) (x : IndexedPairs t head link co
   held i k h (ChainHasRecord.there l r) =
       let g = x .links i l in
       let d : i ≢ count = λ e. omega arith in
-      ChainHasRecord.there l (subst (λ j. ChainHasRecord link′ j k) (sym (getD-set-other link count i (getD head b 0) 0 d)) (held (getD link i 0) k (omega arith) r))
+      ChainHasRecord.there l (subst (λ j. ChainHasRecord link′ j k) (sym (getD-set-other link count i (getD head b 0) 0 d))
+      (held (getD link i 0) k (omega arith) r))
 
   -- what a chain had it still has
   chain : (q k : ℕ) → ChainHasRecord link (getD head q 0) k → ChainHasRecord link′ (getD head′ q 0) k
   chain q k r = byTest (eqb q b)
       (λ e. let z = eqb-true q b e in subst (λ j. ChainHasRecord link′ j k) (sym (ap (λ q. getD head′ q 0) z ∙ headed))
-      (ChainHasRecord.there (let h = x .heads q in omega arith) (subst (λ j. ChainHasRecord link′ j k) (ap (λ q. getD head q 0) z ∙ sym linked) (held (getD head q 0) k (x .heads q) r))))
+      (ChainHasRecord.there (let h = x .heads q in omega arith)
+      (subst (λ j. ChainHasRecord link′ j k) (ap (λ q. getD head q 0) z ∙ sym linked) (held (getD head q 0) k (x .heads q) r))))
       λ e. subst (λ j. ChainHasRecord link′ j k) (sym (getD-set-other head b q count 0 (eqb-false q b e))) (held (getD head q 0) k (x .heads q) r)
 
   pub index-more : (u : List ℕ) → ((j : ℕ) → j < count → pairAt u j ≡ pairAt t j) → pairAt u count ≡ pair → IndexedPairs u head′ link′ (count + 1)
@@ -79,7 +81,8 @@ module _ (t head link : List ℕ) (count : ℕ) (x : IndexedPairs t head link co
         λ e. let z = getD-set-other link count i (getD head b 0) 0 (eqb-false i count e) in let h = x .links i p in omega arith;
     chained = λ k p l. byTest (eqb k count)
         (λ e. let s = eqb-true k count e in
-        let z : getD head′ (chainOf (pairAt u k)) 0 ≡ k = ap (λ j. getD head′ (chainOf (pairAt u j)) 0) s ∙ ap (λ y. getD head′ (chainOf y) 0) new ∙ headed ∙ sym s in
+        let z : getD head′ (chainOf (pairAt u k)) 0 ≡ k =
+        ap (λ j. getD head′ (chainOf (pairAt u j)) 0) s ∙ ap (λ y. getD head′ (chainOf y) 0) new ∙ headed ∙ sym s in
         subst (λ j. ChainHasRecord link′ j k) (sym z) (ChainHasRecord.here p))
         λ e. let d = eqb-false k count e in
         let h : k < count = omega arith in
@@ -121,4 +124,5 @@ module _ (t link : List ℕ) (count : ℕ) (pair : List ℕ) where
       (λ y. let (j, l, z) = listed-at t pair count y in rw y (byTest (eqb j 0)
       (λ s. subst (λ j. isAt t j pair ≡ true) (eqb-true j 0 s) z)
       λ s. absurd (ended i j e (f .on j (let d = eqb-false j 0 s in omega arith) l z))))
-      λ y. byTest (isAt t 0 pair) (λ z. absurd (let q = at-listed t pair count 0 (let h = f .below in omega arith) z in let o : _≡_ {A = ℕ} 0 1 = cc in omega arith)) λ z. z ∙ sym y
+      λ y. byTest (isAt t 0 pair) (λ z. absurd
+      (let q = at-listed t pair count 0 (let h = f .below in omega arith) z in let o : _≡_ {A = ℕ} 0 1 = cc in omega arith)) λ z. z ∙ sym y

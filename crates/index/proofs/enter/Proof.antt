@@ -16,4 +16,9 @@ enter-spec =
     (λ c. search needs)
     (λ c. search needs)
     (λ c. search needs)
-    (λ c. (λ i. set ((c .before .before .args .head .now)) ((c .before .chain-of .ensures .0) i) ((c .before .before .args .k)), λ i. set ((c .before .before .args .link .now)) ((c .before .before .args .k)) (getD ((c .before .before .args .head .now)) ((c .before .chain-of .ensures .0) i) 0))))
+    (λ c. (
+      λ i. set ((c .before .before .args .head .now)) ((c .before .chain-of .ensures .0) i) ((c .before .before .args .k)),
+      λ i. set
+          ((c .before .before .args .link .now)) ((c .before .before .args .k))
+          (getD ((c .before .before .args .head .now)) ((c .before .chain-of .ensures .0) i) 0),
+    )))

@@ -18,7 +18,8 @@ pub join-lt : (widths values : List ℕ) → Sized widths values → join widths
 join-lt [] [] s = omega arith
 join-lt [] (v ∷ values) s = absurd s
 join-lt (k ∷ widths) [] s = absurd s
-join-lt (k ∷ widths) (v ∷ values) s = rw (pow.pow-add 2 k (total widths)) (below v (2 ^ k) (2 ^ total widths) (join widths values) (s .0) (join-lt widths values (s .1)))
+join-lt (k ∷ widths) (v ∷ values) s =
+    rw (pow.pow-add 2 k (total widths)) (below v (2 ^ k) (2 ^ total widths) (join widths values) (s .0) (join-lt widths values (s .1)))
   where
     below : (v a b j : ℕ) → v < a → j < b → v * b + j < a * b
     below v a b j h g = let l : suc v * b ≤ a * b = mul-le-mul-right b h in omega (arith, suc-mul v b)

@@ -128,10 +128,17 @@ module _ {e : Edition} (r : Roomy e) where
   unfolding namedHeader headerWord
   named-header h v =
       let k = e .functions in
-      let s : split (replicate k 1) (arityField e h) ≡ bitsFrom 0 k (h .binary) = split-join (replicate k 1) (bitsFrom 0 k (h .binary)) (bits-sized 0 k (h .binary)) in
+      let s : split (replicate k 1) (arityField e h) ≡ bitsFrom 0 k (h .binary) =
+      split-join (replicate k 1) (bitsFrom 0 k (h .binary)) (bits-sized 0 k (h .binary)) in
       let l : h .binary < 2 ^ k = lt-of-lt-of-le (v .binary) (pow.pow-mono (v .functions)) in
-      let b : maskOf (split (replicate k 1) (arityField e h)) ≡ h .binary = ap maskOf s ∙ mask-low 0 k (h .binary) ∙ rw (div-one (h .binary)) (mod-eq-of-lt l) in
-      rw (split-join (e .header) (headerFields e h) (r .header-sized h v), drop-append-seam (e .lead) (h .registers ∷ h .functions ∷ arityField e h ∷ 0 ∷ []), b)
+      let b : maskOf (split (replicate k 1) (arityField e h)) ≡ h .binary =
+      ap maskOf s ∙ mask-low 0 k (h .binary) ∙ rw (div-one (h .binary)) (mod-eq-of-lt l) in
+      rw (
+        split-join (e .header) (headerFields e h) (r .header-sized h v),
+        drop-append-seam (e .lead)
+            (h .registers ∷ h .functions ∷ arityField e h ∷ 0 ∷ []),
+        b,
+      )
 
   -- A word is read as h exactly if h is well formed and packs to it.
   pub decode-header : (w : ℕ) (h : Header) → (decodeHeader e w ≡ value h) ↔ (HeaderFits e h × (headerWord e h ≡ w))
@@ -187,8 +194,12 @@ module _ {e : Edition} (r : Roomy e) (h : Header) where
         λ q.
             let c = chosen ((headerTest e h && fitsTest h x) && eqb (letterWord e h x) w) x l 4 0 q in
             let b = and-true (headerTest e h && fitsTest h x) (eqb (letterWord e h x) w) (c .0) in
-            let a = and-true (headerTest e h) (fitsTest h x) (b .0) in
-            (header-test e h .0 (a .0), subst (Fits h) (c .1) (fits-test h x .0 (a .1)), ap (letterWord e h) (sym (c .1)) ∙ eqb-true (letterWord e h x) w (b .1)),
+            let a = and-true (headerTest e h) (fitsTest h x) (b .0) in (
+              header-test e h .0 (a .0),
+              subst (Fits h) (c .1) (fits-test h x .0 (a .1)),
+              ap (letterWord e h) (sym (c .1))
+                  ∙ eqb-true (letterWord e h x) w (b .1),
+            ),
         λ v.
             let n : namedLetter h (split (e .letter) w) ≡ l = ap (λ u. namedLetter h (split (e .letter) u)) (sym (v .2)) ∙ named-letter l (v .0) (v .1) in
             rw (n, header-test e h .1 (v .0), fits-test h l .1 (v .1), eq-eqb (letterWord e h l) w (v .2)),

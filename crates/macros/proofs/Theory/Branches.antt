@@ -58,7 +58,8 @@ module _ (start : Trace) (m : Block) where
   goes p b e = ap (λ z. takeBranch branches z b) e
 
   mutual
-    exec-walk : {s : Statement} {ρ π : Trace} {o : Outcome} → Exec s ρ π o → (k : Block) (p : Path) → perform-along start m p ≡ stand (at (due (s then k))) ρ → Arrives start m o k π
+    exec-walk : {s : Statement} {ρ π : Trace} {o : Outcome} → Exec s ρ π o → (k : Block) (p : Path) → perform-along start m p ≡ stand (at (due (s then k))) ρ
+        → Arrives start m o k π
     exec-walk Executions.nothing k p e = (p, e)
     exec-walk Executions.letter k p e = (p ▹ first, goes p first e)
     exec-walk (Executions.fails {ρ} x) k p e = (p ▹ first, goes p first e ∙ ap (λ a. stand failure (ρ ▸ a)) (sym x))
@@ -71,12 +72,14 @@ module _ (start : Trace) (m : Block) where
         exec-walk y k q i
     exec-walk (Executions.breaks {c} {b} x) k p e = block-walk x (while c b then k) (p ▹ first) (goes p first e)
 
-    else-walk : {f : Else} {ρ π : Trace} {o : Outcome} → ExecElse f ρ π o → (k : Block) (p : Path) → perform-along start m p ≡ stand (at (due (elseBlock f before k))) ρ
+    else-walk : {f : Else} {ρ π : Trace} {o : Outcome} → ExecElse f ρ π o → (k : Block) (p : Path)
+        → perform-along start m p ≡ stand (at (due (elseBlock f before k))) ρ
         → Arrives start m o k π
     else-walk Executions.none k p e = (p, e)
     else-walk (Executions.some x) k p e = block-walk x k p e
 
-    block-walk : {b : Block} {ρ π : Trace} {o : Outcome} → ExecBlock b ρ π o → (k : Block) (p : Path) → perform-along start m p ≡ stand (at (due (b before k))) ρ → Arrives start m o k π
+    block-walk : {b : Block} {ρ π : Trace} {o : Outcome} → ExecBlock b ρ π o → (k : Block) (p : Path)
+        → perform-along start m p ≡ stand (at (due (b before k))) ρ → Arrives start m o k π
     block-walk Executions.stop k p e = (p, e)
     block-walk (Executions.both {b} x y) k p e =
         let (q, i) = exec-walk x (b before k) p e in
@@ -171,7 +174,8 @@ module _ (start : Trace) (m : Block) (ρ : Trace) where
   pub partial-walk : Partial start m ρ ↔ ((p : Path) × (l : Place Block) × (perform-along start m p ≡ stand l ρ))
   partial-walk = (λ x. into (x .outcome) (x .execution) (x .runs) (x .from-start) (x .begins), λ (p, l, e). onto p l e)
     where
-      into : (o : Outcome) (π : Trace) → ExecBlock m start π o → Begins start ρ → Begins ρ π → (p : Path) × (l : Place Block) × (perform-along start m p ≡ stand l ρ)
+      into : (o : Outcome) (π : Trace) → ExecBlock m start π o → Begins start ρ → Begins ρ π
+          → (p : Path) × (l : Place Block) × (perform-along start m p ≡ stand l ρ)
       into done π x s b = let (p, i) = arrived start m x in shorter branches (due m) start b s p (at empty) i
       into failed π x s b = let (p, i) = arrived start m x in shorter branches (due m) start b s p failure i
 

@@ -28,7 +28,8 @@ module _ (start : Trace) where
   one-turn = ExecBlock.both (Exec.turns (ExecBlock.both Exec.letter ExecBlock.stop) (Exec.leaves refl)) (ExecBlock.both (Exec.holds refl) ExecBlock.stop)
 
   two-turns : Complete start chase (start ▸ Unequal 0 1 ▸ Apply 0 0 0 0 ▸ Unequal 0 1 ▸ Apply 0 0 0 0 ▸ Equal 0 1 ▸ Equal 0 1)
-  two-turns = ExecBlock.both (Exec.turns (ExecBlock.both Exec.letter ExecBlock.stop) (Exec.turns (ExecBlock.both Exec.letter ExecBlock.stop) (Exec.leaves refl))) (ExecBlock.both (Exec.holds refl) ExecBlock.stop)
+  two-turns = ExecBlock.both (Exec.turns (ExecBlock.both Exec.letter ExecBlock.stop)
+      (Exec.turns (ExecBlock.both Exec.letter ExecBlock.stop) (Exec.leaves refl))) (ExecBlock.both (Exec.holds refl) ExecBlock.stop)
 
   -- the assertion fails after one turn
   fails-after-one : Failing start chase (start ▸ Unequal 0 1 ▸ Apply 0 0 0 0 ▸ Equal 0 1 ▸ Unequal 0 1)

@@ -5,12 +5,14 @@ use Rattle.letters.specs.declared.Header.{Header}
 use Rattle.letters.specs.Letters.{Fits}
 use Rattle.semantics.specs.Terms.{Trace, state}
 use Rattle.semantics.specs.Facts.{WellFormed}
-use Rattle.macros.specs.Tree.{Condition, equal, unequal, test, opposite, Statement, skip, perform, assert, if, while, Else, absent, present, Block, empty, _then_, Proper, ProperElse, ProperBlock}
+use Rattle.macros.specs.Tree.{Condition, equal, unequal, test, opposite, Statement, skip, perform, assert, if, while, Else, absent, present, Block, empty}
+use Rattle.macros.specs.Tree.{_then_, Proper, ProperElse, ProperBlock}
 use Rattle.macros.specs.Executions.{Partial}
 use Rattle.macros.specs.Order.{Branch, first, second, Path}
 use Rattle.macros.specs.Walk.{Place, Move, no-move, move, Stand, nowhere, stand, take-move, walk}
 use Rattle.macros.proofs.Theory.Walk.{walk-keeps}
-use Rattle.macros.specs.Points.{Point, step, check, fork, sizeStatement, sizeBlock, entry, compile, compileElse, compileBlock, points, entrance, moves, moves-at, run}
+use Rattle.macros.specs.Points.{Point, step, check, fork, sizeStatement, sizeBlock, entry, compile, compileElse, compileBlock, points, entrance, moves}
+use Rattle.macros.specs.Points.{moves-at, run}
 use Rattle.macros.proofs.Theory.Points.{Every, every-append, every-moves}
 use Rattle.macros.proofs.Theory.Runs.{partial-is}
 
@@ -49,8 +51,11 @@ module _ (h : Header) where
     fit-compile skip b n p = tt
     fit-compile (perform a) b n p = (p, tt)
     fit-compile (assert c) b n p = (p, tt)
-    fit-compile (if c t e) b n p =
-        (p .0, every-append (FitsPoint h) (compileBlock t (b + 1) n) (compileElse e (b + 1 + sizeBlock t) n) (fit-block t (b + 1) n (p .1)) (fit-else e (b + 1 + sizeBlock t) n (p .2)))
+    fit-compile (if c t e) b n p = (
+      p .0,
+      every-append (FitsPoint h) (compileBlock t (b + 1) n) (compileElse e (b + 1 + sizeBlock t) n) (fit-block t (b + 1) n (p .1))
+          (fit-else e (b + 1 + sizeBlock t) n (p .2)),
+    )
     fit-compile (while c t) b n p = (p .0, fit-block t (b + 1) b (p .1))
 
     fit-else : (e : Else) (b n : ℕ) → ProperElse e h → Every (FitsPoint h) (compileElse e b n)
@@ -68,7 +73,8 @@ module _ (h : Header) where
   points-fit m p n d = every-moves (FitsPoint h) (FitsMove h) tt (fits-moves h) (points m) n d (fit-block m 0 (sizeBlock m) p)
 
   -- ── the letters of a walk ──
-  module _ {A : Type 0} (moves : A → Branch → Move A) (fit : (k : A) (d : Branch) → FitsMove h (moves k d)) (origin : A) (start : Trace) (formed : FormedUnder h start) where
+  module _ {A : Type 0} (moves : A → Branch → Move A) (fit : (k : A) (d : Branch) → FitsMove h (moves k d)) (origin : A) (start : Trace)
+      (formed : FormedUnder h start) where
     abbrev FormedStand : Stand A → Type 0
     FormedStand nowhere = Unit {0}
     FormedStand (stand l ρ) = FormedUnder h ρ
@@ -81,9 +87,11 @@ module _ (h : Header) where
     formed-walk p = walk-keeps moves FormedStand tt (λ k ρ d x. formed-move ρ x (moves k d) (fit k d)) origin start formed p
 
   -- The executions of a proper macro from a formed start are formed.
-  pub run-formed : (start : Trace) (m : Block) → FormedUnder h start → ProperBlock m h → (p : Path) (l : Place ℕ) (ρ : Trace) → run start m p ≡ stand l ρ → FormedUnder h ρ
+  pub run-formed : (start : Trace) (m : Block) → FormedUnder h start → ProperBlock m h → (p : Path) (l : Place ℕ) (ρ : Trace) → run start m p ≡ stand l ρ
+      → FormedUnder h ρ
   run-formed start m f x p l ρ e =
-      subst (FormedStand (moves-at (points m)) (points-fit m x) (entrance m) start f) e (formed-walk (moves-at (points m)) (points-fit m x) (entrance m) start f p)
+      subst (FormedStand (moves-at (points m)) (points-fit m x) (entrance m) start f) e
+      (formed-walk (moves-at (points m)) (points-fit m x) (entrance m) start f p)
 
   pub partial-formed : (start : Trace) (m : Block) (ρ : Trace) → FormedUnder h start → ProperBlock m h → Partial start m ρ → FormedUnder h ρ
   partial-formed start m ρ f x y = let (p, l, e) = partial-is start m ρ .0 y in run-formed start m f x p l ρ e

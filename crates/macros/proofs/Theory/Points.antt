@@ -10,7 +10,8 @@ use Rattle.base.specs.Choice.{pick}
 use Rattle.macros.specs.Order.{Branch}
 use Rattle.macros.specs.Walk.{Move, no-move}
 use Rattle.macros.specs.Tree.{Statement, skip, perform, assert, if, while, Else, absent, present, Block, empty, _then_}
-use Rattle.macros.specs.Points.{Point, step, check, fork, sizeStatement, sizeElse, sizeBlock, entry, compile, compileElse, compileBlock, points, moves, moves-at}
+use Rattle.macros.specs.Points.{Point, step, check, fork, sizeStatement, sizeElse, sizeBlock, entry, compile, compileElse, compileBlock, points, moves}
+use Rattle.macros.specs.Points.{moves-at}
 
 -- ── laws ──
 -- the entry as a choice by the count
@@ -65,7 +66,8 @@ every-append P [] k u v = v
 every-append P (x ∷ l) k u v = (u .0, every-append P l k (u .1) v)
 
 -- what holds of the branches of every point
-pub every-moves : (P : Point → Type 0) (Q : Move ℕ → Type 0) → Q no-move → ((x : Point) (d : Branch) → P x → Q (moves x d)) → (l : List Point) (n : ℕ) (d : Branch) → Every P l
+pub every-moves : (P : Point → Type 0) (Q : Move ℕ → Type 0) → Q no-move → ((x : Point) (d : Branch) → P x → Q (moves x d))
+    → (l : List Point) (n : ℕ) (d : Branch) → Every P l
     → Q (moves-at l n d)
 every-moves P Q start each [] n d u = start
 every-moves P Q start each (x ∷ l) zero d u = each x d (u .0)
@@ -95,7 +97,8 @@ mutual
     every-append (LeadsWithin n) (compileBlock t (b + 1) follow) (compileElse e (b + 1 + sizeBlock t) follow)
         (leadsBlock t (b + 1) follow n (omega arith) v) (leadsElse e (b + 1 + sizeBlock t) follow n (omega arith) v),
   )
-  leads (while c t) b follow n u v = ((entry-within (sizeBlock t) (b + 1) b n (omega arith) (omega arith), v), leadsBlock t (b + 1) b n (omega arith) (omega arith))
+  leads (while c t) b follow n u v =
+      ((entry-within (sizeBlock t) (b + 1) b n (omega arith) (omega arith), v), leadsBlock t (b + 1) b n (omega arith) (omega arith))
 
   leadsElse : (e : Else) (b follow n : ℕ) → b + sizeElse e ≤ n → follow ≤ n → Every (LeadsWithin n) (compileElse e b follow)
   leadsElse absent b follow n u v = tt

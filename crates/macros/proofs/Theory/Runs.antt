@@ -11,13 +11,15 @@ use Rattle.letters.specs.declared.Letter.{Letter}
 use Rattle.semantics.specs.Terms.{Trace}
 use Rattle.semantics.specs.Judgement.{size as letters}
 use Rattle.macros.proofs.Theory.Numbers.{less-or}
-use Rattle.macros.specs.Tree.{Condition, equal, unequal, test, opposite, Statement, skip, perform, assert, if, while, Else, absent, present, Block, empty, _then_}
+use Rattle.macros.specs.Tree.{Condition, equal, unequal, test, opposite, Statement, skip, perform, assert, if, while, Else, absent, present, Block, empty}
+use Rattle.macros.specs.Tree.{_then_}
 use Rattle.macros.specs.Executions.{Partial, Complete, Failing}
 use Rattle.macros.specs.Order.{Branch, first, second, Path, steps}
 use Rattle.macros.specs.Walk.{Place, at, failure, Move, no-move, move, Stand, nowhere, stand, take-move, walk}
 use Rattle.macros.proofs.Theory.Walk.{walk-keeps, walk-begins, walk-steps, walk-once, on-place, on-move, on-stand, on-stand-back, same-walk}
 use Rattle.macros.proofs.Theory.Branches.{_before_, elseBlock, due, branches, perform-along, before-empty, complete-walk, failing-walk, partial-walk}
-use Rattle.macros.specs.Points.{Point, step, check, fork, sizeStatement, sizeElse, sizeBlock, entry, compile, compileElse, compileBlock, points, entrance, moves, moved, moves-at, run}
+use Rattle.macros.specs.Points.{Point, step, check, fork, sizeStatement, sizeElse, sizeBlock, entry, compile, compileElse, compileBlock, points, entrance}
+use Rattle.macros.specs.Points.{moves, moved, moves-at, run}
 use Rattle.macros.proofs.Theory.Points.{entry-then, compile-length, compileBlock-length, every-moves, LeadsWithin, entry-within, points-lead}
 
 -- ── a part of a list, from number b on ──
@@ -109,7 +111,8 @@ module _ (m : Block) where
   rest-is : (n : ℕ) (k : Block) → getElem? (remainsBlock m empty) n ≡ some k → rest m n ≡ k
   rest-is n k e = ap remaining e
 
-  rests-then : (s : Statement) (t k : Block) (b : ℕ) → Rests b (remainsBlock (s then t) k) → Rests b (remains s (t before k)) × Rests (b + sizeStatement s) (remainsBlock t k)
+  rests-then : (s : Statement) (t k : Block) (b : ℕ) → Rests b (remainsBlock (s then t) k)
+      → Rests b (remains s (t before k)) × Rests (b + sizeStatement s) (remainsBlock t k)
   rests-then s t k b g = (
     segment-left (remainsBlock m empty) b (remains s (t before k)) (remainsBlock t k) g,
     segment-right (remainsBlock m empty) b (remains s (t before k)) (remainsBlock t k) (sizeStatement s) (remains-length s (t before k)) g,
@@ -142,7 +145,8 @@ module _ (m : Block) where
   Alike n d = branches (rest m n) d ≡ on-move (rest m) (moves-at (points m) n d)
 
   -- the branches d of a point x where k is left
-  alike-at : (n : ℕ) (x : Point) (k : Block) (d : Branch) → getElem? (points m) n ≡ some x → getElem? (remainsBlock m empty) n ≡ some k → branches k d ≡ on-move (rest m) (moves x d) → Alike n d
+  alike-at : (n : ℕ) (x : Point) (k : Block) (d : Branch) → getElem? (points m) n ≡ some x → getElem? (remainsBlock m empty) n ≡ some k
+      → branches k d ≡ on-move (rest m) (moves x d) → Alike n d
   alike-at n x k d p r e = ap (λ z. branches z d) (rest-is n k r) ∙ e ∙ ap (λ z. on-move (rest m) (moved z d)) (sym p)
 
   alike-step : (a : Letter) (n : ℕ) (k : Block) → rest m n ≡ due k → (d : Branch) → branches (perform a then k) d ≡ on-move (rest m) (moves (step a n) d)
@@ -184,7 +188,8 @@ module _ (m : Block) where
         let pt : Stands (b + 1) (compileBlock t (b + 1) n) =
         segment-left (points m) (b + 1) (compileBlock t (b + 1) n) (compileElse f (b + 1 + sizeBlock t) n) (p .1) in
         let pf : Stands (b + 1 + sizeBlock t) (compileElse f (b + 1 + sizeBlock t) n) =
-        segment-right (points m) (b + 1) (compileBlock t (b + 1) n) (compileElse f (b + 1 + sizeBlock t) n) (sizeBlock t) (compileBlock-length t (b + 1) n) (p .1) in
+        segment-right (points m) (b + 1) (compileBlock t (b + 1) n) (compileElse f (b + 1 + sizeBlock t) n) (sizeBlock t) (compileBlock-length t (b + 1) n)
+        (p .1) in
         first-or-later b i d l
         (alike-at b (fork c (entry (sizeBlock t) (b + 1) n) (entry (sizeElse f) (b + 1 + sizeBlock t) n)) (if c t f then k) d (p .0) (r .0)
         (alike-if c t f (entry (sizeBlock t) (b + 1) n) (entry (sizeElse f) (b + 1 + sizeBlock t) n) k
@@ -235,7 +240,8 @@ module _ (m : Block) where
   -- each point has the branches of what is left there
   pub point-branches : (n : ℕ) (d : Branch) → branches (rest m n) d ≡ on-move (rest m) (moves-at (points m) n d)
   point-branches n d = elim (less-or n (sizeBlock m)) [
-    | inl l ↦ alikeBlock m 0 (sizeBlock m) empty (segment-whole (points m)) (segment-whole (remainsBlock m empty)) (rest-end (sizeBlock m) (omega arith)) n (omega arith) (omega arith) d
+    | inl l ↦ alikeBlock m 0 (sizeBlock m) empty (segment-whole (points m)) (segment-whole (remainsBlock m empty)) (rest-end (sizeBlock m) (omega arith)) n
+        (omega arith) (omega arith) d
     | inr l ↦ ap (λ k. branches k d) (rest-end n l) ∙ sym (ap (on-move (rest m)) (past-points n d l))
   ]
 
@@ -265,7 +271,8 @@ module _ (m : Block) where
       go : n < sizeBlock m → ⊥
       go l =
           let (x, f) = within (points m) n (omega (arith, compileBlock-length m 0 (sizeBlock m))) in
-          let g : moves-at (points m) n first ≡ no-move = no-move-back (moves-at (points m) n first) (ap (λ k. branches k first) (sym e) ∙ point-branches n first) in
+          let g : moves-at (points m) n first ≡ no-move =
+          no-move-back (moves-at (points m) n first) (ap (λ k. branches k first) (sym e) ∙ point-branches n first) in
           first-move x (ap (λ z. moved z first) (sym f) ∙ g)
 
 -- ── Definition 2's executions are the walks through the points ──
@@ -278,9 +285,14 @@ module _ (start : Trace) (m : Block) (ρ : Trace) where
 
   -- those that run through the whole macro come to the end
   pub complete-is : Complete start m ρ ↔ ((p : Path) × (n : ℕ) × (sizeBlock m ≤ n) × (run start m p ≡ stand (at n) ρ))
-  complete-is = (λ x. let (p, e) = complete-walk start m ρ .0 x in ends p (run-back p (at empty) e), λ (p, n, l, e). complete-walk start m ρ .1 (p, run-there p (at n) e ∙ ap (λ k. stand (at k) ρ) (rest-end m n l)))
+  complete-is = (
+    λ x. let (p, e) = complete-walk start m ρ .0 x in
+        ends p (run-back p (at empty) e),
+    λ (p, n, l, e). complete-walk start m ρ .1 (p, run-there p (at n) e ∙ ap (λ k. stand (at k) ρ) (rest-end m n l)),
+  )
     where
-      ends : (p : Path) → (k : Place ℕ) × (run start m p ≡ stand k ρ) × (on-place (rest m) k ≡ at empty) → (p : Path) × (n : ℕ) × (sizeBlock m ≤ n) × (run start m p ≡ stand (at n) ρ)
+      ends : (p : Path) → (k : Place ℕ) × (run start m p ≡ stand k ρ) × (on-place (rest m) k ≡ at empty)
+          → (p : Path) × (n : ℕ) × (sizeBlock m ≤ n) × (run start m p ≡ stand (at n) ρ)
       ends p (at n, e, f) = (p, n, rest-empty m n (cc), e)
       ends p (failure, e, f) = absurd (let z : _≡_ {A = ℕ} 0 1 = cc in omega arith)
 
@@ -294,7 +306,11 @@ module _ (start : Trace) (m : Block) (ρ : Trace) where
 
   -- and the partial ones come anywhere
   pub partial-is : Partial start m ρ ↔ ((p : Path) × (l : Place ℕ) × (run start m p ≡ stand l ρ))
-  partial-is = (λ x. let (p, l, e) = partial-walk start m ρ .0 x in let (k, f, g) = run-back p l e in (p, k, f), λ (p, l, e). partial-walk start m ρ .1 (p, on-place (rest m) l, run-there p l e))
+  partial-is = (
+    λ x. let (p, l, e) = partial-walk start m ρ .0 x in let (k, f, g) = run-back p l e in
+        (p, k, f),
+    λ (p, l, e). partial-walk start m ρ .1 (p, on-place (rest m) l, run-there p l e),
+  )
 
 -- ── the letters tell the branches, and their number is that of the branches ──
 opposed : (c : Condition) → test c ≢ opposite c
@@ -354,7 +370,8 @@ pub run-bound : (start : Trace) (m : Block) (p : Path) (n : ℕ) (ρ : Trace) �
 run-bound start m p n ρ e =
     subst (StandsWithin (sizeBlock m)) e
     (walk-keeps (moves-at (points m)) (StandsWithin (sizeBlock m)) tt
-    (λ k ρ b x. take-within (sizeBlock m) ρ (moves-at (points m) k b) (every-moves (LeadsWithin (sizeBlock m)) (MoveWithin (sizeBlock m)) tt (leads-moves (sizeBlock m)) (points m) k b (points-lead m)))
+    (λ k ρ b x. take-within (sizeBlock m) ρ (moves-at (points m) k b)
+    (every-moves (LeadsWithin (sizeBlock m)) (MoveWithin (sizeBlock m)) tt (leads-moves (sizeBlock m)) (points m) k b (points-lead m)))
     (entrance m) start (entry-within (sizeBlock m) 0 (sizeBlock m) (sizeBlock m) (omega arith) (omega arith)) p)
 
 -- Those that run through the whole macro come to the number after its last point.

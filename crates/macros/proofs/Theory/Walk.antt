@@ -54,7 +54,8 @@ module _ {A : Type 0} (moves : A → Branch → Move A) (origin : A) (start : Tr
       absurd (omega arith)
   last (p ▹ b) l ρ a e x = go (walk moves origin start p) refl e
     where
-      taken : (k : A) (π : Trace) (y : Move A) → walk moves origin start p ≡ stand (at k) π → moves k b ≡ y → take-move π y ≡ stand l (ρ ▸ a) → Last (p ▹ b) l ρ a
+      taken : (k : A) (π : Trace) (y : Move A) → walk moves origin start p ≡ stand (at k) π → moves k b ≡ y → take-move π y ≡ stand l (ρ ▸ a)
+          → Last (p ▹ b) l ρ a
       taken k π no-move u v w = absurd (let z : _≡_ {A = ℕ} 0 1 = cc in omega arith)
       taken k π (move c j) u v w = record { path = p; branch = b; place = k; is = refl; stood = cc; moved = cc }
 
@@ -100,7 +101,8 @@ module _ {A : Type 0} (moves : A → Branch → Move A) (origin : A) (start : Tr
 
   -- the letters tell the branches, if they do so at each place
   module _ (told : (k : A) (a : Letter) (b c : Branch) (i j : Place A) → moves k b ≡ move a i → moves k c ≡ move a j → b ≡ c) where
-    pub walk-once : {ρ : Trace} → Begins start ρ → (p q : Path) (k l : Place A) → walk moves origin start p ≡ stand k ρ → walk moves origin start q ≡ stand l ρ → p ≡ q
+    pub walk-once : {ρ : Trace} → Begins start ρ → (p q : Path) (k l : Place A) → walk moves origin start p ≡ stand k ρ → walk moves origin start q ≡ stand l ρ
+        → p ≡ q
     walk-once whole p q k l u v = no-letters p k u ∙ sym (no-letters q l v)
     walk-once (before {π} {a} s) p q k l u v =
         let x = last p k π a u s in
@@ -110,7 +112,8 @@ module _ {A : Type 0} (moves : A → Branch → Move A) (origin : A) (start : Tr
         let g = told (x .place) a (x .branch) (y .branch) k l (x .moved) (subst (λ z. moves z (y .branch) ≡ move a l) (sym f) (y .moved)) in
         x .is ∙ (λ i. e i ▹ g i) ∙ sym (y .is)
       where
-        same-place : (p q : Path) (i j : A) (π : Trace) → p ≡ q → walk moves origin start p ≡ stand (at i) π → walk moves origin start q ≡ stand (at j) π → i ≡ j
+        same-place : (p q : Path) (i j : A) (π : Trace) → p ≡ q → walk moves origin start p ≡ stand (at i) π → walk moves origin start q ≡ stand (at j) π
+            → i ≡ j
         same-place p q i j π e u v = cc
 
 -- ── the same walk among other places ──

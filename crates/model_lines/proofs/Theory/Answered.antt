@@ -13,7 +13,8 @@ use Rattle.model_lines.specs.Prints.{mostModelLineBytes, PrintsModelLine
 use Rattle.model_lines.specs.Answered.{knownTrace, AnswersTraceInput}
 
 -- A line that was written lies in the buffer.
-module _ (entry exit : List ℕ) (r : files.Lines) (x : AnswersTraceInput entry r exit) (room : mostModelLineBytes ≡ length entry) {size : ℕ} (e : r ≡ Written size) where
+module _ (entry exit : List ℕ) (r : files.Lines) (x : AnswersTraceInput entry r exit) (room : mostModelLineBytes ≡ length entry) {size : ℕ}
+    (e : r ≡ Written size) where
   written : (s : List ℕ) × PrintsModelLine s entry size exit
   written = answers-written PrintsModelLine (knownTrace (x .input) (x .behind) (x .buffer)) entry exit r size e (x .answers)
 

@@ -35,7 +35,8 @@ use Rattle.model_writer.specs.Answer as answer
 use Rattle.model_writer.specs.Answer.{shownAnswer, modelBytes, answerTo, outputAfter, Showed}
 use Rattle.model_writer.proofs.Theory.AnswerLaws.{model-within}
 use Rattle.model_writer.proofs.Theory.Means.{is-trace}
-use Rattle.model_lines.specs.Prints.{octetText, hexText, modelWord, modelLine, infeasibleLine, refusedLine, readLine, lineFor, lineOf, mostModelLineBytes, PrintsModelLine}
+use Rattle.model_lines.specs.Prints.{octetText, hexText, modelWord, modelLine, infeasibleLine, refusedLine, readLine, lineFor, lineOf, mostModelLineBytes}
+use Rattle.model_lines.specs.Prints.{PrintsModelLine}
 use Rattle.model_lines.specs.Written.{mostModel, ModelWithin, WroteLine}
 
 -- ── lines as templates with their fields ──
@@ -138,7 +139,8 @@ model-held r n room e h = subst (λ (q : Shown). ModelWithin q room) e h
 pub model-room : (n : ℕ) (out : List ℕ) → n ≤ length out → length out ≤ mostModel → PlaceInRange 0 (modelLine (take n out))
 model-room n out h l = few-room (model-few (take n out) (omega (arith, length-take-le n out h)))
 
-pub showed-held : (s entry exit : List ℕ) (r : Shown) → Showed s entry r exit → length exit ≡ length entry → length entry ≤ mostModel → ModelWithin r (length exit)
+pub showed-held : (s entry exit : List ℕ) (r : Shown) → Showed s entry r exit → length exit ≡ length entry → length entry ≤ mostModel
+    → ModelWithin r (length exit)
 showed-held s entry exit (Model n) x e l = (omega (arith, model-within s entry exit (Model n) n x refl, e), omega (arith, e, l))
 showed-held s entry exit (Infeasible k) x e l = tt
 showed-held s entry exit (Refused number place) x e l = tt

@@ -50,7 +50,8 @@ use Rattle.model_writer.specs.Inserted.{inserted}
 use Rattle.model_writer.specs.Bytes.{rowFor, RowIn, Writable, tablesIn, valueRange, modelLength}
 use Rattle.model_writer.proofs.Theory.Bytes.{map-length}
 use Rattle.model_writer.specs.Fitting.{Puttable, Put, too-large, fitting}
-use Rattle.model_writer.specs.Answer.{ModelAnswer, shownAnswer, modelBytes, answerTo, outputAfter, Means, Showed, SomeStateComputed, Modelled, Stopped, well, ill}
+use Rattle.model_writer.specs.Answer.{ModelAnswer, shownAnswer, modelBytes, answerTo, outputAfter, Means, Showed, SomeStateComputed, Modelled, Stopped}
+use Rattle.model_writer.specs.Answer.{well, ill}
 use Rattle.model_writer.proofs.Theory.Means.{showed}
 
 starts-are : (v : Term → ℕ) (k m : ℕ) (l : List ℕ) → m ≤ length l → ((i : ℕ) → i < m → getD l i 0 ≡ v (con (k + i))) → take m l ≡ startsFrom v k m
@@ -69,7 +70,8 @@ module _ (h : Header) (function first second representative : List ℕ) (n : ℕ
   w : Computed (k .state) function first second representative (h .registers) n
   w = k .computed
 
-  module _ (values rows : List ℕ) (c r : ℕ) (v : Valued representative n values c) (l : ListedAll representative function first second (h .registers) n rows r) where
+  module _ (values rows : List ℕ) (c r : ℕ) (v : Valued representative n values c)
+      (l : ListedAll representative function first second (h .registers) n rows r) where
     value-small : (i : ℕ) → i < n → getD values i 0 < valueRange
     unfolding valueAt
     value-small i b =
@@ -124,11 +126,18 @@ module _ (h : Header) (function first second representative : List ℕ) (n : ℕ
 
       rows-are : map (rowFor values function first second) (take r rows) ≡ rowsOf (reverse (σ .terms)) (σ .equals)
       unfolding rowFor rowAt
-      rows-are = rows-same (rowFor values function first second) (rowAt σ function first second representative (h .registers) n x) rows r (let a = l .room in let b = rows-few .0 in omega arith)
+      rows-are = rows-same (rowFor values function first second) (rowAt σ function first second representative (h .registers) n x) rows r
+          (let a = l .room in let b = rows-few .0 in omega arith)
           (λ i q. let (p, b) = l .entries i q in
           let o = x .numbered .first-before (getD rows i 0) p b in
           let t = x .numbered .second-before (getD rows i 0) p b in
-          λ j. record { function = entryAt function (getD rows i 0); first = given (getD first (getD rows i 0) 0) (omega arith) j; second = given (getD second (getD rows i 0) 0) (omega arith) j; result = given (getD rows i 0) b j })
+          λ j. record {
+            function = entryAt function (getD rows i 0);
+            first = given (getD first (getD rows i 0) 0) (omega arith) j;
+            second =
+                given (getD second (getD rows i 0) 0) (omega arith) j;
+            result = given (getD rows i 0) b j;
+          })
           ∙ l .are σ x
 
       tables-are : tablesIn h values function first second rows c r ≡ tablesOf σ
@@ -147,60 +156,82 @@ module _ (h : Header) (function first second representative : List ℕ) (n : ℕ
       unfolding tablesIn
       bytes-long = ap length (sym bytes-are) ∙ packed-length firstEdition h (tablesIn h values function first second rows c r)
           ∙ (let a = length-take-le (h .registers) values (let a = v .long in let b = w .registers-few in omega arith) in
-          let b = map-length (rowFor values function first second) (take r rows) ∙ length-take-le r rows (let a = l .room in let b = rows-few .0 in omega arith) in omega arith)
+          let b = map-length (rowFor values function first second) (take r rows)
+          ∙ length-take-le r rows (let a = l .room in let b = rows-few .0 in omega arith) in omega arith)
 
     too-long : (out : List ℕ) → length out < modelLength h r → Modelled h function first second representative n out (shown.Refused outputTooSmall 0) out
     unfolding Modelled
     too-long out b σ e x = let q = bytes-long σ e x in let t = lt-leb (length (modelBytes σ)) (length out) (omega arith) in (rw t, rw t)
 
-    fits-in : (out out′ : List ℕ) → modelLength h r ≤ length out → out′ ≡ inserted 0 (packTables firstEdition h (tablesIn h values function first second rows c r)) out
+    fits-in : (out out′ : List ℕ) → modelLength h r ≤ length out
+        → out′ ≡ inserted 0 (packTables firstEdition h (tablesIn h values function first second rows c r)) out
         → Modelled h function first second representative n out (shown.Model (modelLength h r)) out′
     unfolding Modelled inserted
     fits-in out out′ b g σ e x =
         let q = bytes-long σ e x in
-        let t = le-leb (length (modelBytes σ)) (length out) (omega arith) in
-        (rw t (ap ModelAnswer.model (sym q)), rw t (g ∙ (λ j. bytes-are σ e x j ++ drop (0 + length (bytes-are σ e x j)) out) ∙ ap (λ (m : ℕ). modelBytes σ ++ drop m out) (zero-add (length (modelBytes σ)))))
+        let t = le-leb (length (modelBytes σ)) (length out) (omega arith) in (
+          rw t (ap ModelAnswer.model (sym q)),
+          rw t
+              (g ∙ (λ j. bytes-are σ e x j ++ drop (0 + length (bytes-are σ e x j)) out)
+              ∙ ap (λ (m : ℕ). modelBytes σ ++ drop m out) (zero-add (length (modelBytes σ)))),
+        )
 
-    pub put-modelled : (out out′ : List ℕ) (q : Shown) → Put h values function first second rows c r out q out′ → Modelled h function first second representative n out q out′
+    pub put-modelled : (out out′ : List ℕ) (q : Shown) → Put h values function first second rows c r out q out′
+        → Modelled h function first second representative n out q out′
     put-modelled out out′ q (too-large b) = too-long out b
     put-modelled out out′ q (fitting b g) = fits-in out out′ b g
 
 -- ---- what the run of a trace gives
 module _ (s : List ℕ) (h : Header) (n : ℕ) (r : run.Begun s h n) (out : List ℕ) where
-  ran-malformed : {function first second representative : List ℕ} {o : EngineOutcome} (k : ℕ) → run.Ran s h n function first second representative o → o ≡ outcome.Malformed k → lettersOf firstEdition h s ≡ TraceReading.refused letterMalformed k
+  ran-malformed : {function first second representative : List ℕ} {o : EngineOutcome} (k : ℕ) → run.Ran s h n function first second representative o
+      → o ≡ outcome.Malformed k → lettersOf firstEdition h s ≡ TraceReading.refused letterMalformed k
   ran-malformed k (run.malformed j e) q = let z : j ≡ k = cc in e ∙ ap (TraceReading.refused letterMalformed) z
   ran-malformed k (run.infeasible j ls e f p) q = let z : _≡_ {A = ℕ} 0 1 = cc in absurd (omega arith)
   ran-malformed k (run.feasible j ls e i c) q = let z : _≡_ {A = ℕ} 0 1 = cc in absurd (omega arith)
 
-  ran-infeasible : {function first second representative : List ℕ} {o : EngineOutcome} (k : ℕ) → run.Ran s h n function first second representative o → o ≡ outcome.Infeasible k
-      → (ls : List Letter) × (lettersOf firstEdition h s ≡ run.behind ls (run.readingFrom s h n k)) × FailsAt (λ π. Feasible (state π)) (traceOf h ls) k × (1 ≤ k)
+  ran-infeasible : {function first second representative : List ℕ} {o : EngineOutcome} (k : ℕ) → run.Ran s h n function first second representative o
+      → o ≡ outcome.Infeasible k
+      → (ls : List Letter) × (lettersOf firstEdition h s ≡ run.behind ls (run.readingFrom s h n k)) × FailsAt (λ π. Feasible (state π)) (traceOf h ls) k
+      × (1 ≤ k)
   ran-infeasible k (run.malformed j e) q = let z : _≡_ {A = ℕ} 0 1 = cc in absurd (omega arith)
-  ran-infeasible k (run.infeasible j ls e f p) q = let z : j ≡ k = cc in
-      (ls, subst (λ i. lettersOf firstEdition h s ≡ run.behind ls (run.readingFrom s h n i)) z e, subst (FailsAt (λ π. Feasible (state π)) (traceOf h ls)) z f, subst (λ i. 1 ≤ i) z p)
+  ran-infeasible k (run.infeasible j ls e f p) q = let z : j ≡ k = cc in (
+    ls,
+    subst (λ i. lettersOf firstEdition h s ≡ run.behind ls (run.readingFrom s h n i)) z e,
+    subst
+        (FailsAt (λ π. Feasible (state π)) (traceOf h ls)) z f,
+    subst (λ i. 1 ≤ i) z p,
+  )
   ran-infeasible k (run.feasible j ls e i c) q = let z : _≡_ {A = ℕ} 0 1 = cc in absurd (omega arith)
 
-  ran-feasible : {function first second representative : List ℕ} {o : EngineOutcome} (k : ℕ) → run.Ran s h n function first second representative o → o ≡ outcome.Feasible k
-      → (ls : List Letter) × (lettersOf firstEdition h s ≡ trace h ls) × (0 ≡ firstInfeasible (traceOf h ls)) × Computed (state (traceOf h ls)) function first second representative (h .registers) k
+  ran-feasible : {function first second representative : List ℕ} {o : EngineOutcome} (k : ℕ) → run.Ran s h n function first second representative o
+      → o ≡ outcome.Feasible k
+      → (ls : List Letter) × (lettersOf firstEdition h s ≡ trace h ls) × (0 ≡ firstInfeasible (traceOf h ls))
+      × Computed (state (traceOf h ls)) function first second representative (h .registers) k
   ran-feasible k (run.malformed j e) q = let z : _≡_ {A = ℕ} 0 1 = cc in absurd (omega arith)
   ran-feasible k (run.infeasible j ls e f p) q = let z : _≡_ {A = ℕ} 0 1 = cc in absurd (omega arith)
-  ran-feasible {function} {first} {second} {representative} k (run.feasible j ls e i c) q = let z : j ≡ k = cc in (ls, e, i, subst (Computed (state (traceOf h ls)) function first second representative (h .registers)) z c)
+  ran-feasible {function} {first} {second} {representative} k (run.feasible j ls e i c) q = let z : j ≡ k = cc in
+      (ls, e, i, subst (Computed (state (traceOf h ls)) function first second representative (h .registers)) z c)
 
   -- the answer to a reading
   showed-unread : (a b : ℕ) → readingWithin mostLetters firstEdition s ≡ TraceReading.refused a b → Showed s out (shown.Refused a b) out
   unfolding answerTo outputAfter
   showed-unread a b x = showed s out (shown.Refused a b) out (rw x) (rw x)
 
-  pub showed-malformed : {function first second representative : List ℕ} {o : EngineOutcome} (k : ℕ) → run.Ran s h n function first second representative o → o ≡ outcome.Malformed k → Showed s out (shown.Refused letterMalformed k) out
+  pub showed-malformed : {function first second representative : List ℕ} {o : EngineOutcome} (k : ℕ) → run.Ran s h n function first second representative o
+      → o ≡ outcome.Malformed k → Showed s out (shown.Refused letterMalformed k) out
   showed-malformed k d q = showed-unread letterMalformed k (read-within s h n r ∙ ran-malformed k d q)
 
   -- a letter that makes the beginning infeasible is the first of the whole trace
-  first-of-all : (ls more : List Letter) (k : ℕ) → 1 ≤ k → lettersOf firstEdition h s ≡ trace h (ls ++ more) → FailsAt (λ π. Feasible (state π)) (traceOf h ls) k → k ≡ firstInfeasible (traceOf h (ls ++ more))
+  first-of-all : (ls more : List Letter) (k : ℕ) → 1 ≤ k → lettersOf firstEdition h s ≡ trace h (ls ++ more)
+      → FailsAt (λ π. Feasible (state π)) (traceOf h ls) k → k ≡ firstInfeasible (traceOf h (ls ++ more))
   first-of-all ls more zero p e f = absurd (omega arith)
   first-of-all ls more (suc k) p e f = first-infeasible-unique (traceOf h (ls ++ more))
       (all-formed (begin h) (ls ++ more) tt (reading-fits firstEdition first-roomy s h (ls ++ more) (read-any s h n r ∙ e) .1)) (suc k)
-      (subst (λ ρ. FailsAt (λ π. Feasible (state π)) ρ (suc k)) (sym (extend-append (begin h) ls more)) (extend-fails (λ π. Feasible (state π)) (traceOf h ls) more (suc k) f))
+      (subst (λ ρ. FailsAt (λ π. Feasible (state π)) ρ (suc k)) (sym (extend-append (begin h) ls more))
+      (extend-fails (λ π. Feasible (state π)) (traceOf h ls) more (suc k) f))
 
-  showed-first : (ls : List Letter) (k : ℕ) → lettersOf firstEdition h s ≡ trace h ls → k ≡ firstInfeasible (traceOf h ls) → 1 ≤ k → Showed s out (shown.Infeasible k) out
+  showed-first : (ls : List Letter) (k : ℕ) → lettersOf firstEdition h s ≡ trace h ls → k ≡ firstInfeasible (traceOf h ls) → 1 ≤ k
+      → Showed s out (shown.Infeasible k) out
   unfolding answerTo outputAfter
   showed-first ls k e g p =
       let x = read-within s h n r ∙ e in
@@ -208,13 +239,16 @@ module _ (s : List ℕ) (h : Header) (n : ℕ) (r : run.Begun s h n) (out : List
       let t = ne-eqb (firstInfeasible (traceOf h ls)) 0 m in
       showed s out (shown.Infeasible k) out (rw (x, t) (ap ModelAnswer.infeasible g)) (rw (x, t))
 
-  pub showed-stopped : {function first second representative : List ℕ} {o : EngineOutcome} (k : ℕ) → run.Ran s h n function first second representative o → o ≡ outcome.Infeasible k
+  pub showed-stopped : {function first second representative : List ℕ} {o : EngineOutcome} (k : ℕ) → run.Ran s h n function first second representative o
+      → o ≡ outcome.Infeasible k
       → (a : Shown) → Stopped h (run.readingFrom s h n k) k a → Showed s out a out
-  showed-stopped k d q a (well more y) = let (ls, e, f, p) = ran-infeasible k d q in let g = e ∙ ap (run.behind ls) y in showed-first (ls ++ more) k g (first-of-all ls more k p g f) p
+  showed-stopped k d q a (well more y) = let (ls, e, f, p) = ran-infeasible k d q in let g = e ∙ ap (run.behind ls) y in
+      showed-first (ls ++ more) k g (first-of-all ls more k p g f) p
   showed-stopped k d q a (ill b y) = let (ls, e, f, p) = ran-infeasible k d q in
       showed-unread letterMalformed b (read-within s h n r ∙ e ∙ ap (run.behind ls) y)
 
-  module _ {function first second representative : List ℕ} {o : EngineOutcome} (k : ℕ) (d : run.Ran s h n function first second representative o) (q : o ≡ outcome.Feasible k) where
+  module _ {function first second representative : List ℕ} {o : EngineOutcome} (k : ℕ) (d : run.Ran s h n function first second representative o)
+      (q : o ≡ outcome.Feasible k) where
     pub known : SomeStateComputed h function first second representative k
     known = let (ls, e, i, c) = ran-feasible k d q in record { state = state (traceOf h ls); header = extend-header (begin h) ls; computed = c }
 
@@ -227,7 +261,8 @@ module _ (s : List ℕ) (h : Header) (n : ℕ) (r : run.Begun s h n) (out : List
         let (y, z) = f (state (traceOf h ls)) (extend-header (begin h) ls) c in
         showed s out a out′ (rw (x, t) y) (rw (x, t) z)
 
-pub stopped : (h : Header) (x : TraceReading) (k b : ℕ) → run.RestRead h x b → (b ≡ 0 → Stopped h x k (shown.Infeasible k)) × (b ≢ 0 → Stopped h x k (shown.Refused letterMalformed b))
+pub stopped : (h : Header) (x : TraceReading) (k b : ℕ) → run.RestRead h x b
+    → (b ≡ 0 → Stopped h x k (shown.Infeasible k)) × (b ≢ 0 → Stopped h x k (shown.Refused letterMalformed b))
 stopped h x k b (run.all-read ls e) = ((λ _. well ls e), (λ z. absurd (z refl)))
 stopped h x k b (run.broken p l e) = ((λ z. absurd (omega arith)), (λ _. ill p e))
 

@@ -23,7 +23,8 @@ use Rattle.model_writer.specs.Bytes.{putFive, written, rowFor, wordFor, 
 pub units-append : (k : ℕ) (ns ms : List ℕ) → units k (ns ++ ms) ≡ units k ns ++ units k ms
 unfolding units
 units-append k [] ms = refl
-units-append k (n ∷ ns) ms = ap (λ r. split (replicate k 8) n ++ r) (units-append k ns ms) ∙ sym (append-assoc (split (replicate k 8) n) (units k ns) (units k ms))
+units-append k (n ∷ ns) ms = ap (λ r. split (replicate k 8) n ++ r) (units-append k ns ms)
+    ∙ sym (append-assoc (split (replicate k 8) n) (units k ns) (units k ms))
 
 units-one : (k n : ℕ) → units k (n ∷ []) ≡ split (replicate k 8) n
 unfolding units
@@ -33,7 +34,8 @@ units-one k n = append-nil (split (replicate k 8) n)
 pub word-inserted : (out : List ℕ) (at w : ℕ) → w < 65536 → at + 1 < length out → putWord out at w ≡ inserted at (units wordBytes (w ∷ [])) out
 unfolding inserted
 word-inserted out at w b h =
-    ap (λ k. set (set out at (w / 256)) k (w % 256)) (add-one at) ∙ sets-eq (w / 256 ∷ w % 256 ∷ []) out at (omega arith) ∙ append-assoc (take at out) (w / 256 ∷ w % 256 ∷ []) (drop (at + 2) out)
+    ap (λ k. set (set out at (w / 256)) k (w % 256)) (add-one at) ∙ sets-eq (w / 256 ∷ w % 256 ∷ []) out at (omega arith)
+    ∙ append-assoc (take at out) (w / 256 ∷ w % 256 ∷ []) (drop (at + 2) out)
     ∙ ap (λ (v : List ℕ). take at out ++ (v ++ drop (at + length v) out)) (bytes ∙ sym (units-one wordBytes w))
   where
     high : w / 256 ≡ w / 256 % 256
@@ -48,7 +50,8 @@ word-inserted out at w b h =
 pub five-inserted : (out : List ℕ) (at w : ℕ) → at + 4 < length out → putFive out at w ≡ inserted at (units rowBytes (w ∷ [])) out
 unfolding inserted
 five-inserted out at w h =
-    (λ k. set (set (set (set (set out at (w / 4294967296 % 256)) (one k) (w / 16777216 % 256)) (two k) (w / 65536 % 256)) (three k) (w / 256 % 256)) (four k) (w % 256))
+    (λ k. set (set (set (set (set out at (w / 4294967296 % 256)) (one k) (w / 16777216 % 256)) (two k) (w / 65536 % 256)) (three k) (w / 256 % 256)) (four k)
+    (w % 256))
     ∙ sets-eq (w / 4294967296 % 256 ∷ w / 16777216 % 256 ∷ w / 65536 % 256 ∷ w / 256 % 256 ∷ w % 256 ∷ []) out at (omega arith)
     ∙ append-assoc (take at out) (w / 4294967296 % 256 ∷ w / 16777216 % 256 ∷ w / 65536 % 256 ∷ w / 256 % 256 ∷ w % 256 ∷ []) (drop (at + 5) out)
     ∙ ap (λ (v : List ℕ). take at out ++ (v ++ drop (at + length v) out)) (bytes ∙ sym (units-one rowBytes w))
@@ -72,12 +75,15 @@ five-inserted out at w h =
     bytes = λ k. w / 4294967296 % 256 ∷ w / 16777216 % 256 ∷ w / 65536 % 256 ∷ w / 256 % 256 ∷ low k ∷ []
 
 -- one more number of k bytes, in the loop that writes those of a list
-pub units-turn : (k at i v : ℕ) (ns out now next : List ℕ) → i < length ns → at + k * length ns ≤ length out → now ≡ inserted at (units k (take i ns)) out → v ≡ getD ns i 0
+pub units-turn : (k at i v : ℕ) (ns out now next : List ℕ) → i < length ns → at + k * length ns ≤ length out → now ≡ inserted at (units k (take i ns)) out
+    → v ≡ getD ns i 0
     → next ≡ inserted (at + k * i) (units k (v ∷ [])) now → next ≡ inserted at (units k (take (i + 1) ns)) out
 units-turn k at i v ns out now next h l e q g =
     g ∙ (λ j. inserted (at + k * i) (units k (q j ∷ [])) (e j))
-    ∙ inserted-more at (at + k * i) (units k (take i ns)) (units k (getD ns i 0 ∷ [])) out (ap (λ n. at + n) (sym long)) (omega (arith, long, units-length k (getD ns i 0 ∷ []), mul-le-mul-left k h, mul-suc k i))
-    ∙ ap (λ r. inserted at r out) (sym (units-append k (take i ns) (getD ns i 0 ∷ [])) ∙ ap (units k) (sym (take-suc ns i 0 h) ∙ ap (λ j. take j ns) (sym (add-one i))))
+    ∙ inserted-more at (at + k * i) (units k (take i ns)) (units k (getD ns i 0 ∷ [])) out (ap (λ n. at + n) (sym long))
+    (omega (arith, long, units-length k (getD ns i 0 ∷ []), mul-le-mul-left k h, mul-suc k i))
+    ∙ ap (λ r. inserted at r out) (sym (units-append k (take i ns) (getD ns i 0 ∷ []))
+    ∙ ap (units k) (sym (take-suc ns i 0 h) ∙ ap (λ j. take j ns) (sym (add-one i))))
   where
     long : length (units k (take i ns)) ≡ k * i
     long = units-length k (take i ns) ∙ ap (λ n. k * n) (length-take-le i ns (omega arith))
@@ -107,7 +113,8 @@ module _ (h : Header) (values function first second rows : List ℕ) (r : ℕ) w
   unfolding wordsFor
   words-length l = map-length (wordFor h values function first second) (take r rows) ∙ length-take-le r rows l
 
-  pub word-at : (k i w : ℕ) → k < r → k < length rows → i ≡ getD rows k 0 → w ≡ wordFor h values function first second i → w ≡ getD (wordsFor h values function first second (take r rows)) k 0
+  pub word-at : (k i w : ℕ) → k < r → k < length rows → i ≡ getD rows k 0 → w ≡ wordFor h values function first second i
+      → w ≡ getD (wordsFor h values function first second (take r rows)) k 0
   unfolding wordsFor
   word-at k i w a b e q = q ∙ ap (wordFor h values function first second) e ∙ sym (map-take-at (wordFor h values function first second) rows r k a b)
 
@@ -122,9 +129,11 @@ module _ {k at : ℕ} {ns out : List ℕ} where
   unfolding units
   units-none = record { most = omega arith; long = refl; so-far = inserted-none at out }
 
-  pub units-more : {now next : List ℕ} {i v : ℕ} → UnitsDone k at ns out now i → i < length ns → at + k * length ns ≤ length out → length next ≡ length now → v ≡ getD ns i 0
+  pub units-more : {now next : List ℕ} {i v : ℕ} → UnitsDone k at ns out now i → i < length ns → at + k * length ns ≤ length out → length next ≡ length now
+      → v ≡ getD ns i 0
       → next ≡ inserted (at + k * i) (units k (v ∷ [])) now → UnitsDone k at ns out next (i + 1)
-  units-more {now} {next} {i} {v} u h l e q g = record { most = omega arith; long = e ∙ u .long; so-far = units-turn k at i v ns out now next h l (u .so-far) q g }
+  units-more {now} {next} {i} {v} u h l e q g =
+      record { most = omega arith; long = e ∙ u .long; so-far = units-turn k at i v ns out now next h l (u .so-far) q g }
 
   pub units-all : {now : List ℕ} {i : ℕ} → UnitsDone k at ns out now i → length ns ≤ i → now ≡ inserted at (units k ns) out
   units-all {now} {i} u h = u .so-far ∙ ap (λ l. inserted at (units k l) out) (take-all i ns h)
@@ -134,7 +143,8 @@ written-small : (h : Header) (f b : ℕ) → b < valueRange → written h f b < 
 unfolding written
 written-small h f b l = byTest (has (h .binary) f) (λ t. rw t l) (λ t. rw t (omega arith))
 
-module _ (h : Header) (values function first second : List ℕ) (i a b f A s S C : ℕ) (ea : a ≡ getD first i 0) (eb : b ≡ getD second i 0) (ef : f ≡ getD function i 0) (eA : A ≡ getD values a 0)
+module _ (h : Header) (values function first second : List ℕ) (i a b f A s S C : ℕ) (ea : a ≡ getD first i 0) (eb : b ≡ getD second i 0)
+    (ef : f ≡ getD function i 0) (eA : A ≡ getD values a 0)
     (es : s ≡ written h (getD function i 0) (getD values b 0)) (eS : S ≡ s) (eC : C ≡ getD values i 0) where
   pub word-of : joinedOf f A S C ≡ wordFor h values function first second i
   word-of = rw (ef, eA, ea, eS, eC) (word-is h values function first second i s (es ∙ ap (λ k. written h (getD function i 0) (getD values k 0)) eb))
@@ -155,32 +165,40 @@ module _ (values : List ℕ) (registers at : ℕ) (out : List ℕ) (f : StartsFi
   pub starts-room : (now : List ℕ) (i : ℕ) → UnitsDone wordBytes at (take registers values) out now i → i < registers → at + wordBytes * i + 1 < length now
   starts-room now i u h = let a = u .long in let b = f .fits in omega arith
 
-  pub starts-turn : (now next : List ℕ) (i : ℕ) → UnitsDone wordBytes at (take registers values) out now i → i < registers → next ≡ putWord now (at + wordBytes * i) (getD values i 0)
+  pub starts-turn : (now next : List ℕ) (i : ℕ) → UnitsDone wordBytes at (take registers values) out now i → i < registers
+      → next ≡ putWord now (at + wordBytes * i) (getD values i 0)
       → UnitsDone wordBytes at (take registers values) out next (i + 1)
   starts-turn now next i u h e = units-more u (let a = starts-length in omega arith) (let a = starts-length in let b = f .fits in omega arith)
-      (ap length e ∙ simp length-set) (sym (getD-take registers values i 0 h)) (e ∙ word-inserted now (at + wordBytes * i) (getD values i 0) (let a = f .small i h in omega arith) (starts-room now i u h))
+      (ap length e ∙ simp length-set) (sym (getD-take registers values i 0 h))
+      (e ∙ word-inserted now (at + wordBytes * i) (getD values i 0) (let a = f .small i h in omega arith) (starts-room now i u h))
 
-  pub starts-end : (now : List ℕ) (i : ℕ) → UnitsDone wordBytes at (take registers values) out now i → registers ≤ i → now ≡ inserted at (units wordBytes (take registers values)) out
+  pub starts-end : (now : List ℕ) (i : ℕ) → UnitsDone wordBytes at (take registers values) out now i → registers ≤ i
+      → now ≡ inserted at (units wordBytes (take registers values)) out
   starts-end now i u h = units-all u (let a = starts-length in omega arith)
 
-module _ (h : Header) (values function first second rows : List ℕ) (r at : ℕ) (out : List ℕ) (f : RowsFit values function first second rows r (length out) at) where
+module _ (h : Header) (values function first second rows : List ℕ) (r at : ℕ) (out : List ℕ)
+    (f : RowsFit values function first second rows r (length out) at) where
   rows-length : length (wordsFor h values function first second (take r rows)) ≡ r
   rows-length = words-length h values function first second rows r (let a = f .long in let b = f .few in omega arith)
 
-  pub rows-room : (now : List ℕ) (k : ℕ) → UnitsDone rowBytes at (wordsFor h values function first second (take r rows)) out now k → k < r → at + rowBytes * k + 4 < length now
+  pub rows-room : (now : List ℕ) (k : ℕ) → UnitsDone rowBytes at (wordsFor h values function first second (take r rows)) out now k → k < r
+      → at + rowBytes * k + 4 < length now
   rows-room now k u l = let a = u .long in let b = f .fits in omega arith
 
-  pub rows-turn : (now next : List ℕ) (k i w : ℕ) → UnitsDone rowBytes at (wordsFor h values function first second (take r rows)) out now k → k < r → i ≡ getD rows k 0 → w ≡ wordFor h values function first second i
+  pub rows-turn : (now next : List ℕ) (k i w : ℕ) → UnitsDone rowBytes at (wordsFor h values function first second (take r rows)) out now k → k < r
+      → i ≡ getD rows k 0 → w ≡ wordFor h values function first second i
       → next ≡ putFive now (at + rowBytes * k) w → UnitsDone rowBytes at (wordsFor h values function first second (take r rows)) out next (k + 1)
   rows-turn now next k i w u l ei ew e = units-more u (let a = rows-length in omega arith) (let a = rows-length in let b = f .fits in omega arith)
-      (ap length e ∙ simp length-set) (word-at h values function first second rows r k i w l (let a = f .long in let b = f .few in omega arith) ei ew) (e ∙ five-inserted now (at + rowBytes * k) w (rows-room now k u l))
+      (ap length e ∙ simp length-set) (word-at h values function first second rows r k i w l (let a = f .long in let b = f .few in omega arith) ei ew)
+      (e ∙ five-inserted now (at + rowBytes * k) w (rows-room now k u l))
 
   pub rows-end : (now : List ℕ) (k : ℕ) → UnitsDone rowBytes at (wordsFor h values function first second (take r rows)) out now k → r ≤ k
       → now ≡ inserted at (units rowBytes (wordsFor h values function first second (take r rows))) out
   rows-end now k u l = units-all u (let a = rows-length in omega arith)
 
 -- the whole, part after part
-pub whole : (h : Header) (values function first second rows : List ℕ) (count r : ℕ) (out o₁ o₂ o₃ o₄ : List ℕ) → Writable h values function first second rows count r (length out)
+pub whole : (h : Header) (values function first second rows : List ℕ) (count r : ℕ) (out o₁ o₂ o₃ o₄ : List ℕ)
+    → Writable h values function first second rows count r (length out)
     → o₁ ≡ putWord out 0 count → o₂ ≡ putWord o₁ 2 r → o₃ ≡ inserted countsBytes (units wordBytes (take (h .registers) values)) o₂
     → o₄ ≡ inserted (countsBytes + wordBytes * h .registers) (units rowBytes (wordsFor h values function first second (take r rows))) o₃
     → o₄ ≡ inserted 0 (packTables firstEdition h (tablesIn h values function first second rows count r)) out
@@ -206,35 +224,45 @@ whole h values function first second rows count r out o₁ o₂ o₃ o₄ w e₁
     l₁ = units-length wordBytes (count ∷ [])
 
     l₂ : length A₂ ≡ 4
-    l₂ = let a = length-append (units wordBytes (count ∷ [])) (units wordBytes (r ∷ [])) in let b = units-length wordBytes (count ∷ []) in let c = units-length wordBytes (r ∷ []) in omega arith
+    l₂ = let a = length-append (units wordBytes (count ∷ [])) (units wordBytes (r ∷ [])) in let b = units-length wordBytes (count ∷ []) in
+        let c = units-length wordBytes (r ∷ []) in omega arith
 
     lS : length S ≡ wordBytes * h .registers
-    lS = units-length wordBytes (take (h .registers) values) ∙ ap (λ n. wordBytes * n) (length-take-le (h .registers) values (let a = w .values-long in let b = w .few in omega arith))
+    lS = units-length wordBytes (take (h .registers) values)
+        ∙ ap (λ n. wordBytes * n) (length-take-le (h .registers) values (let a = w .values-long in let b = w .few in omega arith))
 
     l₃ : length (A₂ ++ S) ≡ countsBytes + wordBytes * h .registers
     l₃ = let a = length-append A₂ S in let b = l₂ in let c = lS in omega arith
 
     lW : length W ≡ rowBytes * r
-    lW = units-length rowBytes (wordsFor h values function first second (take r rows)) ∙ ap (λ n. rowBytes * n) (words-length h values function first second rows r (let a = w .rows-long in let b = w .rows-few in omega arith))
+    lW = units-length rowBytes (wordsFor h values function first second (take r rows))
+        ∙ ap (λ n. rowBytes * n) (words-length h values function first second rows r (let a = w .rows-long in let b = w .rows-few in omega arith))
 
     p₁ : o₁ ≡ inserted 0 A₁ out
     p₁ = e₁ ∙ word-inserted out 0 count (let a = w .count-small in omega arith) (let a = fits in omega arith)
 
     p₂ : o₂ ≡ inserted 0 A₂ out
-    p₂ = e₂ ∙ word-inserted o₁ 2 r (let a = w .rows-few in omega arith) (let a = ap length p₁ ∙ inserted-length 0 A₁ out (let b = l₁ in let c = fits in omega arith) in let c = fits in omega arith)
-        ∙ ap (inserted 2 (units wordBytes (r ∷ []))) p₁ ∙ inserted-more 0 2 A₁ (units wordBytes (r ∷ [])) out (let b = l₁ in omega arith) (let b = l₁ in let c = units-length wordBytes (r ∷ []) in let d = fits in omega arith)
+    p₂ = e₂ ∙ word-inserted o₁ 2 r (let a = w .rows-few in omega arith)
+        (let a = ap length p₁ ∙ inserted-length 0 A₁ out (let b = l₁ in let c = fits in omega arith) in let c = fits in omega arith)
+        ∙ ap (inserted 2 (units wordBytes (r ∷ []))) p₁
+        ∙ inserted-more 0 2 A₁ (units wordBytes (r ∷ [])) out (let b = l₁ in omega arith)
+        (let b = l₁ in let c = units-length wordBytes (r ∷ []) in let d = fits in omega arith)
 
     p₃ : o₃ ≡ inserted 0 (A₂ ++ S) out
     p₃ = e₃ ∙ ap (inserted countsBytes S) p₂ ∙ inserted-more 0 4 A₂ S out (let b = l₂ in omega arith) (let b = l₂ in let c = lS in let d = fits in omega arith)
 
     p₄ : o₄ ≡ inserted 0 ((A₂ ++ S) ++ W) out
-    p₄ = e₄ ∙ ap (inserted (countsBytes + wordBytes * h .registers) W) p₃ ∙ inserted-more 0 (countsBytes + wordBytes * h .registers) (A₂ ++ S) W out (let b = l₃ in omega arith) (let b = l₃ in let c = lW in let d = fits in omega arith)
+    p₄ = e₄ ∙ ap (inserted (countsBytes + wordBytes * h .registers) W) p₃
+        ∙ inserted-more 0 (countsBytes + wordBytes * h .registers) (A₂ ++ S) W out (let b = l₃ in omega arith)
+        (let b = l₃ in let c = lW in let d = fits in omega arith)
 
     count-is : r ≡ length (map (rowFor values function first second) (take r rows))
-    count-is = sym (map-length (rowFor values function first second) (take r rows) ∙ length-take-le r rows (let a = w .rows-long in let b = w .rows-few in omega arith))
+    count-is = sym (map-length (rowFor values function first second) (take r rows)
+        ∙ length-take-le r rows (let a = w .rows-long in let b = w .rows-few in omega arith))
 
     head : A₂ ++ S ≡ units wordBytes (count ∷ length (map (rowFor values function first second) (take r rows)) ∷ take (h .registers) values)
-    head = ap (λ l. l ++ S) (sym (units-append wordBytes (count ∷ []) (r ∷ []))) ∙ sym (units-append wordBytes (count ∷ r ∷ []) (take (h .registers) values)) ∙ ap (λ n. units wordBytes (count ∷ n ∷ take (h .registers) values)) count-is
+    head = ap (λ l. l ++ S) (sym (units-append wordBytes (count ∷ []) (r ∷ []))) ∙ sym (units-append wordBytes (count ∷ r ∷ []) (take (h .registers) values))
+        ∙ ap (λ n. units wordBytes (count ∷ n ∷ take (h .registers) values)) count-is
 
     tail : wordsFor h values function first second (take r rows) ≡ map (packedRow firstEdition h) (map (rowFor values function first second) (take r rows))
     tail = sym (map-twice (packedRow firstEdition h) (rowFor values function first second) (take r rows))

@@ -16,7 +16,8 @@ unfolding inserted
 inserted-length at bytes l h = simp (length-append, length-take, length-drop) (omega arith)
 
 -- one part after another
-pub inserted-more : (at p : ℕ) (a b l : List ℕ) → p ≡ at + length a → at + length a + length b ≤ length l → inserted p b (inserted at a l) ≡ inserted at (a ++ b) l
+pub inserted-more : (at p : ℕ) (a b l : List ℕ) → p ≡ at + length a → at + length a + length b ≤ length l
+    → inserted p b (inserted at a l) ≡ inserted at (a ++ b) l
 unfolding inserted
 inserted-more at p a b l e h = rw e (
     (λ k. front k ++ (b ++ back k))
@@ -26,7 +27,8 @@ inserted-more at p a b l e h = rw e (
     long = length-append (take at l) a ∙ ap (λ n. n + length a) (length-take-le at l (omega arith))
 
     front : take (at + length a) (take at l ++ (a ++ drop (at + length a) l)) ≡ take at l ++ a
-    front = ap (take (at + length a)) (sym (append-assoc (take at l) a (drop (at + length a) l))) ∙ take-at (take at l ++ a) (drop (at + length a) l) (at + length a) long
+    front = ap (take (at + length a)) (sym (append-assoc (take at l) a (drop (at + length a) l)))
+        ∙ take-at (take at l ++ a) (drop (at + length a) l) (at + length a) long
 
     back : drop (at + length a + length b) (take at l ++ (a ++ drop (at + length a) l)) ≡ drop (at + length (a ++ b)) l
     back = ap (drop (at + length a + length b)) (sym (append-assoc (take at l) a (drop (at + length a) l)))

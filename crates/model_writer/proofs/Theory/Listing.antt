@@ -22,7 +22,8 @@ use Rattle.model_writer.proofs.Theory.Meaning.{Listed, listed-none, lis
 use Rattle.model_writer.specs.Listing.{Listable, ListedAll}
 
 -- the same of the first i terms
-pub formed-part : {representative function first second : List ℕ} {registers n : ℕ} (i : ℕ) → Formed representative function first second registers n → registers ≤ i → i ≤ n → Formed representative function first second registers i
+pub formed-part : {representative function first second : List ℕ} {registers n : ℕ} (i : ℕ) → Formed representative function first second registers n
+    → registers ≤ i → i ≤ n → Formed representative function first second registers i
 unfolding Below
 formed-part i f p h = record {
   some = f .some;
@@ -47,22 +48,29 @@ pub record ListedBelow (representative function first second : List ℕ) (regist
   pub indexed : IndexedTerms representative function first second registers i head link
   pub room : length rows ≡ mostTerms
   pub entries : (k : ℕ) → k < r → (registers ≤ getD rows k 0) × (getD rows k 0 < i)
-  pub listed : (σ : State) (w : Computed σ function first second representative registers n) → Listed σ function first second representative registers n w rows r i
+  pub listed : (σ : State) (w : Computed σ function first second representative registers n)
+      → Listed σ function first second representative registers n w rows r i
 
 module _ {representative function first second : List ℕ} {registers n : ℕ} where
-  pub listed-start : (head link rows : List ℕ) → Listable representative function first second registers n rows → length head ≡ chainCount → ((b : ℕ) → getD head b 0 ≡ 0) → Blank link
+  pub listed-start : (head link rows : List ℕ) → Listable representative function first second registers n rows → length head ≡ chainCount
+      → ((b : ℕ) → getD head b 0 ≡ 0) → Blank link
       → ListedBelow representative function first second registers n registers head link rows 0
   listed-start head link rows l h z b = record {
     least = omega arith;
     most = l .formed .more;
     few = omega arith;
-    indexed = record { chains = chains-none head link registers h (b .long) z (b .zero) (l .formed .some); complete = complete-none (signatureAt representative function first second) registers head link z (l .formed .some) };
+    indexed = record {
+      chains = chains-none head link registers h (b .long) z (b .zero) (l .formed .some);
+      complete =
+          complete-none (signatureAt representative function first second) registers head link z (l .formed .some);
+    };
     room = l .room;
     entries = λ k h. absurd (omega arith);
     listed = λ σ w. listed-none σ function first second representative registers n w rows;
   }
 
-  pub listed-turn : (i r b : ℕ) (head link rows head′ link′ : List ℕ) → ListedBelow representative function first second registers n i head link rows r → i < n → n ≤ mostTerms → NewRow representative function first second registers i head′ link′ b
+  pub listed-turn : (i r b : ℕ) (head link rows head′ link′ : List ℕ) → ListedBelow representative function first second registers n i head link rows r → i < n
+      → n ≤ mostTerms → NewRow representative function first second registers i head′ link′ b
       → ListedBelow representative function first second registers n (i + 1) head′ link′ (set rows r i) (r + b)
   listed-turn i r b head link rows head′ link′ l h u new = record {
     least = let a = l .least in omega arith;
@@ -81,7 +89,8 @@ module _ {representative function first second : List ℕ} {registers n : ℕ} w
       inside : r < length rows
       inside = let a = l .few in let c = l .room in omega arith
 
-  pub listed-end : (i r : ℕ) (head link rows : List ℕ) → ListedBelow representative function first second registers n i head link rows r → n ≤ i → ListedAll representative function first second registers n rows r
+  pub listed-end : (i r : ℕ) (head link rows : List ℕ) → ListedBelow representative function first second registers n i head link rows r → n ≤ i
+      → ListedAll representative function first second registers n rows r
   listed-end i r head link rows l h = record {
     few = let a = l .few in let b = l .most in omega arith;
     room = l .room;

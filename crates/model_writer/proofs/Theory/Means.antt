@@ -50,7 +50,9 @@ module _ (limit : ℕ) (e : Edition) (s : List ℕ) (h : Header) (ls : List Lett
   unfolding readingWhere lettersOf
   within q = go (beginning e s) q
     where
-      go : (a : letters.Answer Header) → letters.onAnswer a (λ g. pick (ltb limit (letterCount e s)) (λ _. TraceReading.refused traceTooLong 0) λ _. lettersOf e g s) TraceReading.refused ≡ trace h ls
+      go : (a : letters.Answer Header)
+          → letters.onAnswer a (λ g. pick (ltb limit (letterCount e s)) (λ _. TraceReading.refused traceTooLong 0) λ _. lettersOf e g s) TraceReading.refused
+          ≡ trace h ls
           → (letters.onAnswer a (λ g. lettersOf e g s) TraceReading.refused ≡ trace h ls) × (length ls ≤ limit)
       go (letters.refusal a b) q = absurd (not-trace q)
       go (letters.value g) q = byTest (ltb limit (letterCount e s))
@@ -133,7 +135,8 @@ module _ (s : List ℕ) (h : Header) (ls : List Letter) (q : readingWithin mostL
         record { header = h; letters = ls; is-trace = is-trace; first = first; none = none; kept = refl }
 
     trace-means : (k : ℕ) → firstInfeasible (traceOf h ls) ≡ k
-        → Means s out (pick (eqb k 0) (λ _. fitted (modelBytes σ) (length out)) λ _. ModelAnswer.infeasible k) (pick (eqb k 0) (λ _. laidIn (modelBytes σ) out) λ _. out)
+        → Means s out (pick (eqb k 0) (λ _. fitted (modelBytes σ) (length out)) λ _. ModelAnswer.infeasible k)
+        (pick (eqb k 0) (λ _. laidIn (modelBytes σ) out) λ _. out)
     trace-means zero e = feasible-means (rw e at (first-infeasible-is (traceOf h ls) (is-trace .formed)))
     trace-means (suc k) e = rw (ne-eqb (suc k) 0 λ z. omega arith) (infeasible-means k e)
 

@@ -17,13 +17,20 @@ new-le representative function first second registers i b (new none) = omega ari
 new-le representative function first second registers i b (old m p h a) = omega arith
 
 -- as `new_row` finds it
-module _ (representative function first second : List ℕ) (registers i : ℕ) (fm : Formed representative function first second registers (suc i)) (least : registers ≤ i) (head link : List ℕ) (index : IndexedTerms representative function first second registers i head link) where
-  pub row-readable : (i < mostTerms) × (entryAt function i < mostFunctions) × Argument representative (entryAt first i) × Argument representative (entryAt second i)
+module _ (representative function first second : List ℕ) (registers i : ℕ) (fm : Formed representative function first second registers (suc i))
+    (least : registers ≤ i) (head link : List ℕ) (index : IndexedTerms representative function first second registers i head link) where
+  pub row-readable : (i < mostTerms) × (entryAt function i < mostFunctions) × Argument representative (entryAt first i)
+      × Argument representative (entryAt second i)
   row-readable = readable-at i (readable (suc i) fm (fm .more) (omega arith)) (omega arith)
 
-  module _ (c r : ℕ) (e : c ≡ signatureAt representative function first second i) (head′ link′ : List ℕ) (w : Entered (signatureAt representative function first second) registers i c head link r head′ link′) where
+  module _ (c r : ℕ) (e : c ≡ signatureAt representative function first second i) (head′ link′ : List ℕ)
+      (w : Entered (signatureAt representative function first second) registers i c head link r head′ link′) where
     indexed-next : IndexedTerms representative function first second registers (suc i) head′ link′
-    indexed-next = record { chains = w .chains; complete = w .completes (signatureAt representative function first second) (λ k l. refl) (sym e) (index .complete) }
+    indexed-next = record {
+      chains = w .chains;
+      complete =
+          w .completes (signatureAt representative function first second) (λ k l. refl) (sym e) (index .complete);
+    }
 
     as-signature : (m : ℕ) → Alike representative function first second m i → signatureAt representative function first second m ≡ c
     unfolding signatureAt

@@ -49,9 +49,11 @@ pub classes-none : (l : List ℕ) → 1 ≡ suc (classesBelow l 0)
 unfolding classesBelow
 classes-none l = refl
 
-module _ (representative : List ℕ) (n : ℕ) (lowest : (i : ℕ) → i < n → getD representative i 0 ≤ i) (own : (i : ℕ) → i < n → getD representative (getD representative i 0) 0 ≡ getD representative i 0) where
+module _ (representative : List ℕ) (n : ℕ) (lowest : (i : ℕ) → i < n → getD representative i 0 ≤ i)
+    (own : (i : ℕ) → i < n → getD representative (getD representative i 0) 0 ≡ getD representative i 0) where
   -- one turn of the loop
-  pub chosen-is : (values : List ℕ) (i next : ℕ) → i < n → WrittenUpTo (valueAt representative) 0 mostTerms i values → next ≡ suc (classesBelow representative i) → chosen representative values i next ≡ valueAt representative i
+  pub chosen-is : (values : List ℕ) (i next : ℕ) → i < n → WrittenUpTo (valueAt representative) 0 mostTerms i values
+      → next ≡ suc (classesBelow representative i) → chosen representative values i next ≡ valueAt representative i
   unfolding chosen valueAt
   chosen-is values i next h w e = byTest (eqb (getD representative i 0) i)
       (λ t. rw (t, e) (ap (λ j. suc (classesBelow representative j)) (sym (eqb-true (getD representative i 0) i t))))
@@ -59,10 +61,12 @@ module _ (representative : List ℕ) (n : ℕ) (lowest : (i : ℕ) → i < n →
       let l = lowest i h in
       rw t (w .at (getD representative i 0) (omega arith) ∙ ap (λ j. suc (classesBelow representative j)) (own i h)))
 
-pub next-is : (representative : List ℕ) (i next v : ℕ) → next ≡ suc (classesBelow representative i) → v ≡ newClass representative i → next + v ≡ suc (classesBelow representative (i + 1))
+pub next-is : (representative : List ℕ) (i next v : ℕ) → next ≡ suc (classesBelow representative i) → v ≡ newClass representative i
+    → next + v ≡ suc (classesBelow representative (i + 1))
 next-is representative i next v e g = let h = classes-more representative i in omega arith
 
-pub valued-end : (representative : List ℕ) (n i : ℕ) (values : List ℕ) (next : ℕ) → i ≤ n → n ≤ i → WrittenUpTo (valueAt representative) 0 mostTerms i values → next ≡ suc (classesBelow representative i) → Valued representative n values next
+pub valued-end : (representative : List ℕ) (n i : ℕ) (values : List ℕ) (next : ℕ) → i ≤ n → n ≤ i → WrittenUpTo (valueAt representative) 0 mostTerms i values
+    → next ≡ suc (classesBelow representative i) → Valued representative n values next
 valued-end representative n i values next h g w e = record {
   at-each = λ k b. w .at k (omega arith);
   long = w .long;

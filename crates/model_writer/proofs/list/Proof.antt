@@ -7,7 +7,8 @@ use Rattle.model_writer.proofs.list.Statement.{statement}
 use Rattle.model_writer.proofs.list.Tie as tie
 
 abbrev Inv-loop : tie.InvT-loop
-Inv-loop representative function first second registers count rows₀ head₀ link₀ r₀ i₀ rows head link r i = ListedBelow representative function first second registers count i head link rows r
+Inv-loop representative function first second registers count rows₀ head₀ link₀ r₀ i₀ rows head link r i =
+    ListedBelow representative function first second registers count i head link rows r
 
 abbrev μ-loop : tie.MeasureT-loop
 μ-loop representative function first second registers count rows₀ head₀ link₀ r₀ i₀ rows head link r i = count - i
@@ -22,11 +23,20 @@ list-spec =
     (λ c κs. search needs)
     (λ c. listed-start _ _ _ (c .before .before .pre) (c .before .no-heads .ensures .0) (c .before .no-heads .ensures .1) (c .zeros .ensures))
     (λ c. let h = (c .loop-test .taken) in let w = (c .before .before .before .before .pre .formed .within) in omega arith)
-    (λ c. let h = (c .loop-test .taken) in let w = (c .before .before .before .before .pre .formed .within) in let f = (c .before .loop .inv .few) in omega arith)
-    (λ c. let h = (c .loop-test .taken) in let w = (c .before .before .before .before .pre .formed .within) in let f = (c .before .loop .inv .few) in omega arith)
-    (λ c κs. let h = (c .before .before .loop-test .taken) in let l = (c .before .before .before .loop .inv .least) in (formed-part _ (c .before .before .before .before .before .before .pre .formed) (omega arith) (omega arith), l, (c .before .before .before .loop .inv .indexed)))
-    (λ c. let h = (c .before .before .before .loop-test .taken) in let w = (c .before .before .before .before .before .before .before .pre .formed .within) in let f = (c .before .before .before .before .loop .inv .few) in let b = new-le _ _ _ _ _ _ _ (c .new-row .ensures .is) in omega arith)
-    (λ c. let h = (c .before .before .before .loop-test .taken) in let w = (c .before .before .before .before .before .before .before .pre .formed .within) in omega arith)
+    (λ c. let h = (c .loop-test .taken) in let w = (c .before .before .before .before .pre .formed .within) in let f = (c .before .loop .inv .few) in
+    omega arith)
+    (λ c. let h = (c .loop-test .taken) in let w = (c .before .before .before .before .pre .formed .within) in let f = (c .before .loop .inv .few) in
+    omega arith)
+    (λ c κs. let h = (c .before .before .loop-test .taken) in let l = (c .before .before .before .loop .inv .least) in (
+      formed-part _ (c .before .before .before .before .before .before .pre .formed) (omega arith) (omega arith),
+      l,
+      (c .before .before .before .loop .inv .indexed),
+    ))
+    (λ c. let h = (c .before .before .before .loop-test .taken) in let w = (c .before .before .before .before .before .before .before .pre .formed .within) in
+    let f = (c .before .before .before .before .loop .inv .few) in let b = new-le _ _ _ _ _ _ _ (c .new-row .ensures .is) in omega arith)
+    (λ c. let h = (c .before .before .before .loop-test .taken) in let w = (c .before .before .before .before .before .before .before .pre .formed .within) in
+    omega arith)
     (λ c. let h = (c .before .before .before .loop-test .taken) in omega arith)
-    (λ c. listed-turn _ _ _ _ _ _ _ _ (c .before .before .before .before .loop .inv) (c .before .before .before .loop-test .taken) (c .before .before .before .before .before .before .before .pre .formed .within) (c .new-row .ensures))
+    (λ c. listed-turn _ _ _ _ _ _ _ _ (c .before .before .before .before .loop .inv) (c .before .before .before .loop-test .taken)
+    (c .before .before .before .before .before .before .before .pre .formed .within) (c .new-row .ensures))
     (λ c. listed-end _ _ _ _ _ (c .before .loop .inv) (c .loop-test .left)))

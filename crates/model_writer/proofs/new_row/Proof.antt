@@ -10,6 +10,14 @@ new-row-spec =
     tie.close
     (tie.spec
     (λ c κs. row-readable _ _ _ _ _ _ (c .pre .0) (c .pre .1) _ _ (c .pre .2))
-    (λ c κs. (readable _ (c .before .before .before .pre .0) (c .before .before .before .pre .1) (omega arith), (row-readable _ _ _ _ _ _ (c .before .before .before .pre .0) (c .before .before .before .pre .1) _ _ (c .before .before .before .pre .2)) .0, (c .before .before .before .pre .2 .chains)))
-    (λ c. new-hit _ _ _ _ _ _ (c .before .before .before .before .before .pre .0) (c .before .before .before .before .before .pre .1) _ _ (c .before .before .before .before .before .pre .2) _ _ (c .before .before .before .before .signature-at .ensures) _ _ (c .before .enter .ensures) (c .if1 .taken))
-    (λ c. new-miss _ _ _ _ _ _ (c .before .before .before .before .before .pre .0) (c .before .before .before .before .before .pre .1) _ _ (c .before .before .before .before .before .pre .2) _ _ (c .before .before .before .before .signature-at .ensures) _ _ (c .before .enter .ensures) (c .if1 .left)))
+    (λ c κs. (
+      readable _ (c .before .before .before .pre .0) (c .before .before .before .pre .1) (omega arith),
+      (row-readable _ _ _ _ _ _ (c .before .before .before .pre .0) (c .before .before .before .pre .1) _ _ (c .before .before .before .pre .2)) .0,
+      (c .before .before .before .pre .2 .chains),
+    ))
+    (λ c. new-hit _ _ _ _ _ _ (c .before .before .before .before .before .pre .0) (c .before .before .before .before .before .pre .1) _ _
+    (c .before .before .before .before .before .pre .2) _ _ (c .before .before .before .before .signature-at .ensures) _ _ (c .before .enter .ensures)
+    (c .if1 .taken))
+    (λ c. new-miss _ _ _ _ _ _ (c .before .before .before .before .before .pre .0) (c .before .before .before .before .before .pre .1) _ _
+    (c .before .before .before .before .before .pre .2) _ _ (c .before .before .before .before .signature-at .ensures) _ _ (c .before .enter .ensures)
+    (c .if1 .left)))

@@ -10,7 +10,8 @@ use Rattle.model_writer.proofs.number.Statement.{statement}
 use Rattle.model_writer.proofs.number.Tie as tie
 
 abbrev Inv-loop : tie.InvT-loop
-Inv-loop representative count values₀ next₀ i₀ values next i = (i ≤ count) × WrittenUpTo (valueAt representative) 0 mostTerms i values × (next ≡ suc (classesBelow representative i))
+Inv-loop representative count values₀ next₀ i₀ values next i =
+    (i ≤ count) × WrittenUpTo (valueAt representative) 0 mostTerms i values × (next ≡ suc (classesBelow representative i))
 
 abbrev μ-loop : tie.MeasureT-loop
 μ-loop representative count values₀ next₀ i₀ values next i = count - i
@@ -22,12 +23,24 @@ number-spec =
     Inv-loop
     μ-loop
     (λ c. (search needs, written-none _ _ _ _ (c .pre .room), classes-none _))
-    (λ c κs. let h = (c .before .loop-test .taken) in let w = (c .before .before .before .pre .within) in let l = (c .before .before .before .pre .lowest) _ h in (omega arith, omega arith))
+    (λ c κs. let h = (c .before .loop-test .taken) in let w = (c .before .before .before .pre .within) in
+    let l = (c .before .before .before .pre .lowest) _ h in (omega arith, omega arith))
     (λ c. let h = (c .before .before .loop-test .taken) in let w = (c .before .before .before .before .pre .within) in omega arith)
     (λ c. let h = (c .before .before .loop-test .taken) in let w = (c .before .before .before .before .pre .within) in omega arith)
     (λ c κs. let h = (c .before .before .loop-test .taken) in let w = (c .before .before .before .before .pre .within) in omega arith)
-    (λ c. let h = (c .before .before .before .loop-test .taken) in let w = (c .before .before .before .before .before .pre .within) in let e = (c .before .before .before .before .loop .inv .2) in let g = (c .new-class .ensures) in let a = classes-le (c .before .before .before .before .before .args .representative .now) (c .before .before .before .before .loop .i) in let b = new-class-le (c .before .before .before .before .before .args .representative .now) (c .before .before .before .before .loop .i) in omega arith)
+    (λ c. let h = (c .before .before .before .loop-test .taken) in let w = (c .before .before .before .before .before .pre .within) in
+    let e = (c .before .before .before .before .loop .inv .2) in let g = (c .new-class .ensures) in
+    let a = classes-le (c .before .before .before .before .before .args .representative .now) (c .before .before .before .before .loop .i) in
+    let b = new-class-le (c .before .before .before .before .before .args .representative .now) (c .before .before .before .before .loop .i) in omega arith)
     (λ c. let h = (c .before .before .before .loop-test .taken) in omega arith)
     (λ c. let h = (c .before .before .before .loop-test .taken) in omega arith)
-    (λ c. let h = (c .before .before .before .loop-test .taken) in let w = (c .before .before .before .before .before .pre .within) in (omega arith, written-more _ _ _ _ _ _ (c .before .before .before .before .loop .inv .1) (omega arith) ((c .before .value-of .ensures) ∙ chosen-is _ _ (c .before .before .before .before .before .pre .lowest) (c .before .before .before .before .before .pre .own) _ _ _ h (c .before .before .before .before .loop .inv .1) (c .before .before .before .before .loop .inv .2)), next-is _ _ _ _ (c .before .before .before .before .loop .inv .2) (c .new-class .ensures)))
+    (λ c. let h = (c .before .before .before .loop-test .taken) in let w = (c .before .before .before .before .before .pre .within) in (
+      omega arith,
+      written-more _ _ _ _ _ _ (c .before .before .before .before .loop .inv .1) (omega arith)
+          ((c .before .value-of .ensures)
+          ∙ chosen-is _ _ (c .before .before .before .before .before .pre .lowest) (c .before .before .before .before .before .pre .own) _ _ _ h
+          (c .before .before .before .before .loop .inv .1) (c .before .before .before .before .loop .inv .2)),
+      next-is _ _ _ _
+          (c .before .before .before .before .loop .inv .2) (c .new-class .ensures),
+    ))
     (λ c. valued-end _ _ _ _ _ (c .before .loop .inv .0) (c .loop-test .left) (c .before .loop .inv .1) (c .before .loop .inv .2)))

@@ -13,6 +13,9 @@ show-model-spec =
     (λ c κs. search needs)
     (λ c κs. search needs)
     (λ c κs. search needs)
-    (λ c κs. puttable _ _ _ _ _ _ (c .before .before .before .before .before .before .before .before .before .before .before .pre) _ _ _ _ (c .before .before .before .before .before .number .ensures) (c .before .before .before .list .ensures) _)
+    (λ c κs. puttable _ _ _ _ _ _ (c .before .before .before .before .before .before .before .before .before .before .before .pre) _ _ _ _
+    (c .before .before .before .before .before .number .ensures) (c .before .before .before .list .ensures) _)
     (λ c. search needs)
-    (λ c. put-modelled _ _ _ _ _ _ (c .before .before .before .before .before .before .before .before .before .before .before .before .before .before .pre) _ _ _ _ (c .before .before .before .before .before .before .before .before .number .ensures) (c .before .before .before .before .before .before .list .ensures) _ _ _ (c .before .before .put-model .ensures)))
+    (λ c. put-modelled _ _ _ _ _ _ (c .before .before .before .before .before .before .before .before .before .before .before .before .before .before .pre) _ _
+    _ _ (c .before .before .before .before .before .before .before .before .number .ensures)
+    (c .before .before .before .before .before .before .list .ensures) _ _ _ (c .before .before .put-model .ensures)))

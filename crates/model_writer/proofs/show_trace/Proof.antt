@@ -18,8 +18,15 @@ show-trace-spec =
     (λ c. search needs)
     (λ c κs. search needs)
     (λ c. search needs)
-    (λ c κs. known _ _ _ (c .before .before .before .before .before .before .before .before .before .before .before .before .before .before .before .before .before .before .before .pre) [] _ (c .before .before .before .before .before .before .before .before .run .ensures) (c .before .before .before .before .before .before .outcome3 .given .1))
-    (λ c. showed-malformed _ _ _ (c .before .before .before .before .before .before .before .before .before .before .before .before .before .before .pre) _ _ (c .before .before .before .run .ensures) (c .before .outcome .given .1))
-    (λ c. showed-stopped _ _ _ (c .before .before .before .before .before .before .before .before .before .before .before .before .before .before .before .pre) _ _ (c .before .before .before .before .run .ensures) (c .before .before .outcome2 .given .1) _ (c .name-infeasible .ensures))
+    (λ c κs. known _ _ _ (c .before .before .before .before .before .before .before .before .before .before .before .before .before .before .before .before
+    .before .before .before .pre) [] _ (c .before .before .before .before .before .before .before .before .run .ensures)
+    (c .before .before .before .before .before .before .outcome3 .given .1))
+    (λ c. showed-malformed _ _ _ (c .before .before .before .before .before .before .before .before .before .before .before .before .before .before .pre) _ _
+    (c .before .before .before .run .ensures) (c .before .outcome .given .1))
+    (λ c. showed-stopped _ _ _ (c .before .before .before .before .before .before .before .before .before .before .before .before .before .before .before .pre)
+    _ _ (c .before .before .before .before .run .ensures) (c .before .before .outcome2 .given .1) _ (c .name-infeasible .ensures))
     (λ c. search needs)
-    (λ c. showed-model _ _ _ (c .before .before .before .before .before .before .before .before .before .before .before .before .before .before .before .before .before .before .before .before .before .before .pre) _ _ (c .before .before .before .before .before .before .before .before .before .before .before .run .ensures) (c .before .before .before .before .before .before .before .before .before .outcome3 .given .1) _ _ (c .before .before .show-model .ensures)))
+    (λ c. showed-model _ _ _ (c .before .before .before .before .before .before .before .before .before .before .before .before .before .before .before .before
+    .before .before .before .before .before .before .pre) _ _
+    (c .before .before .before .before .before .before .before .before .before .before .before .run .ensures)
+    (c .before .before .before .before .before .before .before .before .before .outcome3 .given .1) _ _ (c .before .before .show-model .ensures)))

@@ -21,12 +21,21 @@ write-starts-spec =
     μ-loop
     (λ c. (search needs, units-none))
     (λ c. let h = (c .before .loop-test .taken) in let f = (c .before .before .before .before .pre .few) in omega arith)
-    (λ c. let h = (c .before .loop-test .taken) in let f = (c .before .before .before .before .pre .few) in let p = (c .before .before .before .before .pre .place) in omega arith)
+    (λ c. let h = (c .before .loop-test .taken) in let f = (c .before .before .before .before .pre .few) in
+    let p = (c .before .before .before .before .pre .place) in omega arith)
     (λ c. let h = (c .before .loop-test .taken) in let f = (c .before .before .before .before .pre .few) in omega arith)
     (λ c. let h = (c .before .loop-test .taken) in let f = (c .before .before .before .before .pre .few) in omega arith)
-    (λ c κs. starts-room _ _ _ _ (c .before .before .before .before .before .pre) _ _ (c .before .before .before .loop .inv .1) (c .before .before .loop-test .taken))
-    (λ c. let h = (c .before .before .before .before .before .loop-test .taken) in let f = (c .before .before .before .before .before .before .before .before .pre .few) in omega arith)
+    (λ c κs. starts-room _ _ _ _ (c .before .before .before .before .before .pre) _ _ (c .before .before .before .loop .inv .1)
+    (c .before .before .loop-test .taken))
+    (λ c. let h = (c .before .before .before .before .before .loop-test .taken) in
+    let f = (c .before .before .before .before .before .before .before .before .pre .few) in omega arith)
     (λ c. let h = (c .before .before .before .before .before .loop-test .taken) in omega arith)
-    (λ c. (let h = (c .before .before .before .before .before .loop-test .taken) in omega arith, starts-turn _ _ _ _ (c .before .before .before .before .before .before .before .before .pre) _ _ _ (c .before .before .before .before .before .before .loop .inv .1) (c .before .before .before .before .before .loop-test .taken) (c .before .before .put-word .ensures)))
+    (λ c. (
+      let h = (c .before .before .before .before .before .loop-test .taken) in
+          omega arith,
+      starts-turn _ _ _ _ (c .before .before .before .before .before .before .before .before .pre) _ _ _
+          (c .before .before .before .before .before .before .loop .inv .1) (c .before .before .before .before .before .loop-test .taken)
+          (c .before .before .put-word .ensures),
+    ))
     (λ c. search needs)
     (λ c. starts-end _ _ _ _ (c .before .before .before .pre) _ _ (c .before .loop .inv .1) (c .loop-test .left)))

@@ -93,7 +93,8 @@ module _ (number place : ℕ) (h : number < 2 ^ 64) (l : place < 2 ^ 64) where
       (sym e) record { few = refused-few number place h l; appended = a }
 
 -- ── in a buffer that is large enough, all lines are there ──
-module _ {answer : Answer (ℕ × ℕ)} {entry exit : List ℕ} {size : ℕ} (p : PrintsMonitorLines answer entry size exit) (room : mostMonitorLineBytes ≡ length entry) where
+module _ {answer : Answer (ℕ × ℕ)} {entry exit : List ℕ} {size : ℕ} (p : PrintsMonitorLines answer entry size exit)
+    (room : mostMonitorLineBytes ≡ length entry) where
   pub prints-within : size ≤ length exit
   prints-within = omega (arith, p .few, p .appended .place, appended-length (p .appended), room)
 

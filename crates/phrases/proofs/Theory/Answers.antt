@@ -48,7 +48,8 @@ coded-at f (reading.got a e′) r v e p q = (a, (cc), (cc))
 coded-at f (reading.refused n p′) r v e p q = let z : _≡_ {A = ℕ} 0 1 = cc in absurd (omega arith)
 coded-at f reading.exhausted r v e p q = let z : _≡_ {A = ℕ} 0 1 = cc in absurd (omega arith)
 
-pub lettered-at : {A : Type 0} (f : A → Letter) (g : reading.Got A) (r : GotLetter) (l : Letter) (e : ℕ) → r ≡ lettered f g → r ≡ letter.At l e → (a : A) × (g ≡ reading.got a e) × (l ≡ f a)
+pub lettered-at : {A : Type 0} (f : A → Letter) (g : reading.Got A) (r : GotLetter) (l : Letter) (e : ℕ) → r ≡ lettered f g → r ≡ letter.At l e
+    → (a : A) × (g ≡ reading.got a e) × (l ≡ f a)
 lettered-at f (reading.got a e′) r l e p q = (a, (cc), (cc))
 lettered-at f (reading.refused n p′) r l e p q = let z : _≡_ {A = ℕ} 0 1 = cc in absurd (omega arith)
 lettered-at f reading.exhausted r l e p q = let z : _≡_ {A = ℕ} 0 1 = cc in absurd (omega arith)
@@ -61,7 +62,8 @@ coded-refused f h (reading.got a e) k r n p q i j c = let z : _≡_ {A = ℕ} 0 
 coded-refused f h (reading.refused m o) k r n p q i j c = c ∙ ap carried i
 coded-refused f h reading.exhausted k r n p q i j c = c ∙ ap carried i
 
-pub lettered-refused : {A B : Type 0} (f : A → Letter) (h : B → Letter) (g : reading.Got A) (k : A → ℕ → reading.Got B) (r : GotLetter) (n p : ℕ) → r ≡ lettered f g → r ≡ letter.Refused n p → r ≡ lettered h (reading.andThen g k)
+pub lettered-refused : {A B : Type 0} (f : A → Letter) (h : B → Letter) (g : reading.Got A) (k : A → ℕ → reading.Got B) (r : GotLetter) (n p : ℕ)
+    → r ≡ lettered f g → r ≡ letter.Refused n p → r ≡ lettered h (reading.andThen g k)
 lettered-refused f h (reading.got a e) k r n p i j = let z : _≡_ {A = ℕ} 0 1 = cc in absurd (omega arith)
 lettered-refused f h (reading.refused m o) k r n p i j = i
 lettered-refused f h reading.exhausted k r n p i j = i

@@ -45,7 +45,8 @@ module _ (s rs : List ℕ) (at : ℕ) (t : Token) (e₁ : t ≡ tokenAt s at) (r
       condition-read y e h l c =
           let (z, g, f) = coded-at kind (reading.signT u) q k b g₂ h₂ in
           let (v′, i, j) = coded-at (λ n. n) (reading.useT rs v) o y e g₃ h in
-          rw (← e₁, first, ← e₂, g, ← e₃, i) (ap (λ l. letter.At l e) (c ∙ ap (λ k. comparing k x y) f ∙ ap (λ y. comparing (kind z) x y) j ∙ compared-test z x v′))
+          rw (← e₁, first, ← e₂, g, ← e₃, i)
+          (ap (λ l. letter.At l e) (c ∙ ap (λ k. comparing k x y) f ∙ ap (λ y. comparing (kind z) x y) j ∙ compared-test z x v′))
 
 -- ---- a condition and `;`
 
@@ -57,7 +58,8 @@ module _ (s rs : List ℕ) (at : ℕ) (r : GotLetter) (g : r ≡ lettered test (
   module _ (l : Letter) (a : ℕ) (h : r ≡ letter.At l a) (o : GotNumber) (i : o ≡ withoutValue (reading.expect s word.semicolonKey a)) where
     pub tested-end : (n p : ℕ) → o ≡ Refused n p → (w : GotLetter) → w ≡ carried o → w ≡ lettered test (reading.endedCondition s rs at)
     unfolding reading.endedCondition
-    tested-end n p j w c = let (x, y, z) = lettered-at test (reading.condition s rs at) r l a g h in rw y (coded-refused (λ _. 0) test (reading.expect s word.semicolonKey a) _ o n p w i j c)
+    tested-end n p j w c = let (x, y, z) = lettered-at test (reading.condition s rs at) r l a g h in
+        rw y (coded-refused (λ _. 0) test (reading.expect s word.semicolonKey a) _ o n p w i j c)
 
     pub tested-read : (v e : ℕ) → o ≡ At v e → letter.At l e ≡ lettered test (reading.endedCondition s rs at)
     unfolding reading.endedCondition

@@ -16,16 +16,19 @@ second-argument-requires : tie.Need-second-argument-requires
 second-argument-requires c κs = search needs
 
 returns : tie.Need-returns
-returns c = arguments-two _ _ _ _ _ _ _ _ (c .before .before .before .before .next .ensures) (c .before .before .if1 .taken) (c .before .if2 .taken) _ (c .second-argument .ensures)
+returns c = arguments-two _ _ _ _ _ _ _ _ (c .before .before .before .before .next .ensures) (c .before .before .if1 .taken) (c .before .if2 .taken) _
+    (c .second-argument .ensures)
 
 returns-2 : tie.Need-returns-2
 returns-2 c = arguments-more _ _ _ _ _ _ _ _ (c .before .before .before .next .ensures) (c .before .if1 .taken) (c .if2 .left)
 
 returns-3 : tie.Need-returns-3
-returns-3 c = arguments-less _ _ _ _ _ _ _ _ (c .before .before .before .before .before .next .ensures) (c .before .before .before .if1 .left) (c .before .if3 .taken) (c .if4 .taken)
+returns-3 c = arguments-less _ _ _ _ _ _ _ _ (c .before .before .before .before .before .next .ensures) (c .before .before .before .if1 .left)
+    (c .before .if3 .taken) (c .if4 .taken)
 
 returns-4 : tie.Need-returns-4
-returns-4 c = arguments-one _ _ _ _ _ _ _ _ (c .before .before .before .before .before .next .ensures) (c .before .before .before .if1 .left) (c .before .if3 .taken) (c .if4 .left)
+returns-4 c = arguments-one _ _ _ _ _ _ _ _ (c .before .before .before .before .before .next .ensures) (c .before .before .before .if1 .left)
+    (c .before .if3 .taken) (c .if4 .left)
 
 unfitting-requires : tie.Need-unfitting-requires
 unfitting-requires c κs = search needs
@@ -34,7 +37,8 @@ refusal-requires : tie.Need-refusal-requires
 refusal-requires c κs = search needs
 
 returns-5 : tie.Need-returns-5
-returns-5 c = arguments-unfit _ _ _ _ _ _ _ _ (c .before .before .before .before .before .before .next .ensures) (c .before .before .before .before .if1 .left) (c .before .before .if3 .left) _ (c .before .unfitting .ensures) _ (c .refusal .ensures)
+returns-5 c = arguments-unfit _ _ _ _ _ _ _ _ (c .before .before .before .before .before .before .next .ensures) (c .before .before .before .before .if1 .left)
+    (c .before .before .if3 .left) _ (c .before .unfitting .ensures) _ (c .refusal .ensures)
 
 pub arguments-spec : {M : Type 1} → statement M
 arguments-spec =

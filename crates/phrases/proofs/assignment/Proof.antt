@@ -26,7 +26,8 @@ refusal-requires : tie.Need-refusal-requires
 refusal-requires c κs = search needs
 
 returns : tie.Need-returns
-returns c = assignment-target _ _ _ _ _ _ (c .before .before .before .before .next .ensures) _ (c .before .before .before .use-of .ensures) _ _ ((c .before .enum-told .given) .1) _ (c .refusal .ensures)
+returns c = assignment-target _ _ _ _ _ _ (c .before .before .before .before .next .ensures) _ (c .before .before .before .use-of .ensures) _ _
+    ((c .before .enum-told .given) .1) _ (c .refusal .ensures)
 
 expect-requires : tie.Need-expect-requires
 expect-requires c κs = search needs
@@ -41,7 +42,9 @@ refusal-requires-2 : tie.Need-refusal-requires-2
 refusal-requires-2 c κs = search needs
 
 returns-2 : tie.Need-returns-2
-returns-2 c = assignment-becomes _ _ _ _ _ _ (c .before .before .before .before .before .before .before .before .next .ensures) _ (c .before .before .before .before .before .before .before .use-of .ensures) _ _ ((c .before .before .before .before .before .target .given) .1) _ (c .before .before .before .expect .ensures) _ _ ((c .before .enum-told2 .given) .1) _ (c .refusal2 .ensures)
+returns-2 c = assignment-becomes _ _ _ _ _ _ (c .before .before .before .before .before .before .before .before .next .ensures) _
+    (c .before .before .before .before .before .before .before .use-of .ensures) _ _ ((c .before .before .before .before .before .target .given) .1) _
+    (c .before .before .before .expect .ensures) _ _ ((c .before .enum-told2 .given) .1) _ (c .refusal2 .ensures)
 
 value-requires : tie.Need-value-requires
 value-requires c κs = search needs
@@ -53,7 +56,11 @@ enum-told-3 : tie.Need-enum-told-3
 enum-told-3 c = search needs
 
 returns-3 : tie.Need-returns-3
-returns-3 c = assignment-value _ _ _ _ _ _ (c .before .before .before .before .before .before .before .before .before .before .before .next .ensures) _ (c .before .before .before .before .before .before .before .before .before .before .use-of .ensures) _ _ ((c .before .before .before .before .before .before .before .before .target .given) .1) _ (c .before .before .before .before .before .before .expect .ensures) _ _ ((c .before .before .before .before .sign .given) .1) _ (c .before .before .value .ensures) _ _ ((c .enum-told3 .given) .1)
+returns-3 c = assignment-value _ _ _ _ _ _ (c .before .before .before .before .before .before .before .before .before .before .before .next .ensures) _
+    (c .before .before .before .before .before .before .before .before .before .before .use-of .ensures) _ _
+    ((c .before .before .before .before .before .before .before .before .target .given) .1) _
+    (c .before .before .before .before .before .before .expect .ensures) _ _ ((c .before .before .before .before .sign .given) .1) _
+    (c .before .before .value .ensures) _ _ ((c .enum-told3 .given) .1)
 
 expect-requires-2 : tie.Need-expect-requires-2
 expect-requires-2 c κs = search needs
@@ -68,10 +75,24 @@ refusal-requires-3 : tie.Need-refusal-requires-3
 refusal-requires-3 c κs = search needs
 
 returns-4 : tie.Need-returns-4
-returns-4 c = assignment-semicolon _ _ _ _ _ _ (c .before .before .before .before .before .before .before .before .before .before .before .before .before .before .before .before .next .ensures) _ (c .before .before .before .before .before .before .before .before .before .before .before .before .before .before .before .use-of .ensures) _ _ ((c .before .before .before .before .before .before .before .before .before .before .before .before .before .target .given) .1) _ (c .before .before .before .before .before .before .before .before .before .before .before .expect .ensures) _ _ ((c .before .before .before .before .before .before .before .before .before .sign .given) .1) _ (c .before .before .before .before .before .before .before .value .ensures) _ _ ((c .before .before .before .before .before .right .given) .1) _ (c .before .before .before .expect2 .ensures) _ _ ((c .before .enum-told4 .given) .1) _ (c .refusal3 .ensures)
+returns-4 c = assignment-semicolon _ _ _ _ _ _
+    (c .before .before .before .before .before .before .before .before .before .before .before .before .before .before .before .before .next .ensures) _
+    (c .before .before .before .before .before .before .before .before .before .before .before .before .before .before .before .use-of .ensures) _ _
+    ((c .before .before .before .before .before .before .before .before .before .before .before .before .before .target .given) .1) _
+    (c .before .before .before .before .before .before .before .before .before .before .before .expect .ensures) _ _
+    ((c .before .before .before .before .before .before .before .before .before .sign .given) .1) _
+    (c .before .before .before .before .before .before .before .value .ensures) _ _ ((c .before .before .before .before .before .right .given) .1) _
+    (c .before .before .before .expect2 .ensures) _ _ ((c .before .enum-told4 .given) .1) _ (c .refusal3 .ensures)
 
 returns-5 : tie.Need-returns-5
-returns-5 c = assignment-read _ _ _ _ _ _ (c .before .before .before .before .before .before .before .before .before .before .before .before .before .before .before .before .next .ensures) _ (c .before .before .before .before .before .before .before .before .before .before .before .before .before .before .before .use-of .ensures) _ _ ((c .before .before .before .before .before .before .before .before .before .before .before .before .before .target .given) .1) _ (c .before .before .before .before .before .before .before .before .before .before .before .expect .ensures) _ _ ((c .before .before .before .before .before .before .before .before .before .sign .given) .1) _ (c .before .before .before .before .before .before .before .value .ensures) _ _ ((c .before .before .before .before .before .right .given) .1) _ (c .before .before .before .expect2 .ensures) _ _ ((c .before .last .given) .1)
+returns-5 c = assignment-read _ _ _ _ _ _
+    (c .before .before .before .before .before .before .before .before .before .before .before .before .before .before .before .before .next .ensures) _
+    (c .before .before .before .before .before .before .before .before .before .before .before .before .before .before .before .use-of .ensures) _ _
+    ((c .before .before .before .before .before .before .before .before .before .before .before .before .before .target .given) .1) _
+    (c .before .before .before .before .before .before .before .before .before .before .before .expect .ensures) _ _
+    ((c .before .before .before .before .before .before .before .before .before .sign .given) .1) _
+    (c .before .before .before .before .before .before .before .value .ensures) _ _ ((c .before .before .before .before .before .right .given) .1) _
+    (c .before .before .before .expect2 .ensures) _ _ ((c .before .last .given) .1)
 
 pub assignment-spec : {M : Type 1} → statement M
 assignment-spec =

@@ -26,7 +26,8 @@ refusal-requires : tie.Need-refusal-requires
 refusal-requires c κs = search needs
 
 returns : tie.Need-returns
-returns c = condition-left _ _ _ _ (c .before .before .before .before .next .ensures) _ (c .before .before .before .use-of .ensures) _ _ ((c .before .enum-told .given) .1) _ (c .refusal .ensures)
+returns c = condition-left _ _ _ _ (c .before .before .before .before .next .ensures) _ (c .before .before .before .use-of .ensures) _ _
+    ((c .before .enum-told .given) .1) _ (c .refusal .ensures)
 
 next-requires-2 : tie.Need-next-requires-2
 next-requires-2 c κs = search needs
@@ -44,7 +45,10 @@ refusal-requires-2 : tie.Need-refusal-requires-2
 refusal-requires-2 c κs = search needs
 
 returns-2 : tie.Need-returns-2
-returns-2 c = condition-sign _ _ _ _ (c .before .before .before .before .before .before .before .before .before .next .ensures) _ (c .before .before .before .before .before .before .before .before .use-of .ensures) _ _ ((c .before .before .before .before .before .before .left .given) .1) _ (c .before .before .before .before .next2 .ensures) _ (c .before .before .before .sign-of .ensures) _ _ ((c .before .enum-told2 .given) .1) _ (c .refusal2 .ensures)
+returns-2 c = condition-sign _ _ _ _ (c .before .before .before .before .before .before .before .before .before .next .ensures) _
+    (c .before .before .before .before .before .before .before .before .use-of .ensures) _ _
+    ((c .before .before .before .before .before .before .left .given) .1) _ (c .before .before .before .before .next2 .ensures) _
+    (c .before .before .before .sign-of .ensures) _ _ ((c .before .enum-told2 .given) .1) _ (c .refusal2 .ensures)
 
 next-requires-3 : tie.Need-next-requires-3
 next-requires-3 c κs = search needs
@@ -62,13 +66,27 @@ refusal-requires-3 : tie.Need-refusal-requires-3
 refusal-requires-3 c κs = search needs
 
 returns-3 : tie.Need-returns-3
-returns-3 c = condition-right _ _ _ _ (c .before .before .before .before .before .before .before .before .before .before .before .before .before .before .next .ensures) _ (c .before .before .before .before .before .before .before .before .before .before .before .before .before .use-of .ensures) _ _ ((c .before .before .before .before .before .before .before .before .before .before .before .left .given) .1) _ (c .before .before .before .before .before .before .before .before .before .next2 .ensures) _ (c .before .before .before .before .before .before .before .before .sign-of .ensures) _ _ ((c .before .before .before .before .before .before .sign .given) .1) _ (c .before .before .before .before .next3 .ensures) _ (c .before .before .before .use-of2 .ensures) _ _ ((c .before .enum-told3 .given) .1) _ (c .refusal3 .ensures)
+returns-3 c = condition-right _ _ _ _
+    (c .before .before .before .before .before .before .before .before .before .before .before .before .before .before .next .ensures) _
+    (c .before .before .before .before .before .before .before .before .before .before .before .before .before .use-of .ensures) _ _
+    ((c .before .before .before .before .before .before .before .before .before .before .before .left .given) .1) _
+    (c .before .before .before .before .before .before .before .before .before .next2 .ensures) _
+    (c .before .before .before .before .before .before .before .before .sign-of .ensures) _ _
+    ((c .before .before .before .before .before .before .sign .given) .1) _ (c .before .before .before .before .next3 .ensures) _
+    (c .before .before .before .use-of2 .ensures) _ _ ((c .before .enum-told3 .given) .1) _ (c .refusal3 .ensures)
 
 comparison-requires : tie.Need-comparison-requires
 comparison-requires c κs = search needs
 
 returns-4 : tie.Need-returns-4
-returns-4 c = condition-read _ _ _ _ (c .before .before .before .before .before .before .before .before .before .before .before .before .before .before .before .next .ensures) _ (c .before .before .before .before .before .before .before .before .before .before .before .before .before .before .use-of .ensures) _ _ ((c .before .before .before .before .before .before .before .before .before .before .before .before .left .given) .1) _ (c .before .before .before .before .before .before .before .before .before .before .next2 .ensures) _ (c .before .before .before .before .before .before .before .before .before .sign-of .ensures) _ _ ((c .before .before .before .before .before .before .before .sign .given) .1) _ (c .before .before .before .before .before .next3 .ensures) _ (c .before .before .before .before .use-of2 .ensures) _ _ ((c .before .before .right .given) .1) _ (c .comparison .ensures)
+returns-4 c = condition-read _ _ _ _
+    (c .before .before .before .before .before .before .before .before .before .before .before .before .before .before .before .next .ensures) _
+    (c .before .before .before .before .before .before .before .before .before .before .before .before .before .before .use-of .ensures) _ _
+    ((c .before .before .before .before .before .before .before .before .before .before .before .before .left .given) .1) _
+    (c .before .before .before .before .before .before .before .before .before .before .next2 .ensures) _
+    (c .before .before .before .before .before .before .before .before .before .sign-of .ensures) _ _
+    ((c .before .before .before .before .before .before .before .sign .given) .1) _ (c .before .before .before .before .before .next3 .ensures) _
+    (c .before .before .before .before .use-of2 .ensures) _ _ ((c .before .before .right .given) .1) _ (c .comparison .ensures)
 
 pub condition-spec : {M : Type 1} → statement M
 condition-spec =

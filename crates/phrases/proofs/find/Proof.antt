@@ -34,7 +34,8 @@ same-name-requires : tie.Need-same-name-requires Inv-loop μ-loop
 same-name-requires c κs = search needs
 
 returns : tie.Need-returns Inv-loop μ-loop
-returns c = sought-hit _ _ _ _ (c .before .same-name .ensures) (c .before .before .before .loop-test .taken) (c .if1 .taken) ((c .before .before .before .before .loop .inv) .2)
+returns c = sought-hit _ _ _ _ (c .before .same-name .ensures) (c .before .before .before .loop-test .taken) (c .if1 .taken)
+    ((c .before .before .before .before .loop .inv) .2)
 
 add-i : tie.Need-add-i Inv-loop μ-loop
 add-i c = search needs
@@ -43,7 +44,12 @@ loop-less : tie.Need-loop-less Inv-loop μ-loop
 loop-less c = search needs
 
 loop-again : tie.Need-loop-again Inv-loop μ-loop
-loop-again c = ((c .before .before .before .before .loop .inv) .0, search needs, sought-turn _ _ _ _ (c .before .same-name .ensures) (c .before .before .before .loop-test .taken) (c .if1 .left) ((c .before .before .before .before .loop .inv) .2))
+loop-again c = (
+  (c .before .before .before .before .loop .inv) .0,
+  search needs,
+  sought-turn _ _ _ _ (c .before .same-name .ensures)
+      (c .before .before .before .loop-test .taken) (c .if1 .left) ((c .before .before .before .before .loop .inv) .2),
+)
 
 returns-2 : tie.Need-returns-2 Inv-loop μ-loop
 returns-2 c = sought-ended _ _ _ (c .loop-test .left) ((c .before .loop .inv) .2)

@@ -25,7 +25,8 @@ refusal-requires : tie.Need-refusal-requires
 refusal-requires c κs = search needs
 
 returns : tie.Need-returns
-returns c = second-refused _ _ _ _ _ _ _ (c .before .before .before .before .next .ensures) _ (c .before .before .before .use-of .ensures) _ _ ((c .before .enum-told .given) .1) _ (c .refusal .ensures)
+returns c = second-refused _ _ _ _ _ _ _ (c .before .before .before .before .next .ensures) _ (c .before .before .before .use-of .ensures) _ _
+    ((c .before .enum-told .given) .1) _ (c .refusal .ensures)
 
 expect-requires : tie.Need-expect-requires
 expect-requires c κs = search needs
@@ -40,10 +41,14 @@ refusal-requires-2 : tie.Need-refusal-requires-2
 refusal-requires-2 c κs = search needs
 
 returns-2 : tie.Need-returns-2
-returns-2 c = second-end _ _ _ _ _ _ _ (c .before .before .before .before .before .before .before .before .next .ensures) _ (c .before .before .before .before .before .before .before .use-of .ensures) _ _ ((c .before .before .before .before .before .second .given) .1) _ (c .before .before .before .expect .ensures) _ _ ((c .before .enum-told2 .given) .1) _ (c .refusal2 .ensures)
+returns-2 c = second-end _ _ _ _ _ _ _ (c .before .before .before .before .before .before .before .before .next .ensures) _
+    (c .before .before .before .before .before .before .before .use-of .ensures) _ _ ((c .before .before .before .before .before .second .given) .1) _
+    (c .before .before .before .expect .ensures) _ _ ((c .before .enum-told2 .given) .1) _ (c .refusal2 .ensures)
 
 returns-3 : tie.Need-returns-3
-returns-3 c = second-read _ _ _ _ _ _ _ (c .before .before .before .before .before .before .before .before .next .ensures) _ (c .before .before .before .before .before .before .before .use-of .ensures) _ _ ((c .before .before .before .before .before .second .given) .1) _ (c .before .before .before .expect .ensures) _ _ ((c .before .last .given) .1)
+returns-3 c = second-read _ _ _ _ _ _ _ (c .before .before .before .before .before .before .before .before .next .ensures) _
+    (c .before .before .before .before .before .before .before .use-of .ensures) _ _ ((c .before .before .before .before .before .second .given) .1) _
+    (c .before .before .before .expect .ensures) _ _ ((c .before .last .given) .1)
 
 pub second-argument-spec : {M : Type 1} → statement M
 second-argument-spec =

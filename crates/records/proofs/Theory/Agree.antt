@@ -8,7 +8,8 @@ use lib.ListN.{getD, take, drop, replicate}
 use lib.Seq.{take-take, take-nil}
 use Rattle.letters.specs.Packing.{join}
 use Rattle.semantics.specs.TablesRead.{unitsIn}
-use Rattle.records.specs.Formats.{Format, numberBytes, flagBytes, branchPlace, pairPlace, contentPlace, masksBytes, contentBytesOfFormat, encodedBytesOfFormat}
+use Rattle.records.specs.Formats.{Format, numberBytes, flagBytes, branchPlace, pairPlace, contentPlace, masksBytes, contentBytesOfFormat}
+use Rattle.records.specs.Formats.{encodedBytesOfFormat}
 use Rattle.records.specs.Formats.{WidthsFit, numberIn, parentIn, branchIn, pointIn, codesIn, windowFrom, windowInFormat}
 
 -- Two lists with the same first n bytes.

@@ -296,11 +296,14 @@ module _ (f : Format) where
       point-back h = ap (numberIn numberBytes) content-at ∙ content-point sound point w s rest h
 
   -- Pairs are equal where their bytes are.
-  pub encoded-injective : WidthsFit f → (p q : ℕ) (w v : Window) → p < 65536 → q < 65536 → StorableInFormat w → StorableInFormat v → encodedInFormat f p w ≡ encodedInFormat f q v
+  pub encoded-injective : WidthsFit f → (p q : ℕ) (w v : Window) → p < 65536 → q < 65536 → StorableInFormat w → StorableInFormat v
+      → encodedInFormat f p w ≡ encodedInFormat f q v
       → (p ≡ q) × (w ≡ v)
   encoded-injective sound p q w v a b s r e = (
-    sym (point-back sound p w s (at (encodedInFormat f p w)) [] refl a) ∙ ap (λ l. pointIn (at l)) e ∙ point-back sound q v r (at (encodedInFormat f q v)) [] refl b,
-    sym (window-back sound p w s (at (encodedInFormat f p w)) [] refl) ∙ ap (λ l. windowInFormat f (at l)) e ∙ window-back sound q v r (at (encodedInFormat f q v)) [] refl,
+    sym (point-back sound p w s (at (encodedInFormat f p w)) [] refl a) ∙ ap (λ l. pointIn (at l)) e
+        ∙ point-back sound q v r (at (encodedInFormat f q v)) [] refl b,
+    sym (window-back sound p w s (at (encodedInFormat f p w)) [] refl) ∙ ap (λ l. windowInFormat f (at l)) e
+        ∙ window-back sound q v r (at (encodedInFormat f q v)) [] refl,
   )
     where
       at : List ℕ → List ℕ

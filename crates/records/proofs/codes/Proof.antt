@@ -67,6 +67,19 @@ codes-spec =
     (λ c. search needs)
     (λ c. search needs)
     (λ c. search needs)
-    (λ c. (search needs, search needs, search needs, codes-turn (c .before .before .before .before .before .before .before .before .before .before .before .before .before .before .before .before .before .before .before .args .result .now) (c .before .before .before .before .before .before .before .before .before .before .before .before .before .before .before .before .before .before .before .args .ever .now) (c .before .before .before .before .before .before .before .before .before .before .before .before .before .before .before .before .loop .codes) (c .before .before .before .before .before .before .before .before .before .before .before .before .before .before .before .before .loop .j) _ _ _ _ _ (omega arith) refl (c .before .before .before .before .before .before .before .before .before .code-byte .ensures) (c .before .before .before .before .before .before .code-byte2 .ensures) (c .before .before .before .code-byte3 .ensures) (c .code-byte4 .ensures) (c .before .before .before .before .before .before .before .before .before .before .before .before .before .before .before .before .loop .inv .3)))
+    (λ c. (
+      search needs,
+      search needs,
+      search needs,
+      codes-turn
+          (c .before .before .before .before .before .before .before .before .before .before .before .before .before .before .before .before .before .before
+          .before .args .result .now) (c .before .before .before .before .before .before .before .before .before .before .before .before .before .before .before
+          .before .before .before .before .args .ever .now)
+          (c .before .before .before .before .before .before .before .before .before .before .before .before .before .before .before .before .loop .codes)
+          (c .before .before .before .before .before .before .before .before .before .before .before .before .before .before .before .before .loop .j) _ _ _ _ _
+          (omega arith) refl (c .before .before .before .before .before .before .before .before .before .code-byte .ensures)
+          (c .before .before .before .before .before .before .code-byte2 .ensures) (c .before .before .before .code-byte3 .ensures) (c .code-byte4 .ensures)
+          (c .before .before .before .before .before .before .before .before .before .before .before .before .before .before .before .before .loop .inv .3),
+    ))
     (λ c. swept-zeros _ 128 (4 * (c .before .loop .j)) (c .before .loop .codes) (c .before .loop .inv .3) (omega arith)
     ∙ sym (code-bytes (c .before .before .before .before .args .result .now) (c .before .before .before .before .args .ever .now))))

@@ -25,4 +25,13 @@ encode-spec =
     (λ c. search needs)
     (λ c. search needs)
     (λ c. search needs)
-    (λ c. encoded-made (c .before .before .before .before .before .before .before .before .before .before .before .before .before .before .before .before .before .before .before .before .before .before .args .point) (c .before .before .before .before .before .before .before .before .before .before .before .before .before .before .before .before .before .before .before .before .before .before .args .w) (c .before .before .before .parts .result) _ _ _ _ _ _ 155 (c .before .before .before .before .before .before .before .before .before .before .before .before .before .before .before .mask-bytes .ensures) (c .before .before .before .before .before .before .before .before .before .before .before .before .before .mask-bytes2 .ensures) (c .before .before .before .before .before .before .before .before .before .before .before .before .flags .ensures) (c .before .before .before .before .before .flagged .ensures) (c .before .before .before .before .before .before .before .before .before .codes .ensures) (c .before .before .before .parts .ensures) (search needs) (c .fingerprint .ensures)))
+    (λ c. encoded-made (c .before .before .before .before .before .before .before .before .before .before .before .before .before .before .before .before
+    .before .before .before .before .before .before .args .point)
+    (c .before .before .before .before .before .before .before .before .before .before .before .before .before .before .before .before .before .before
+    .before .before .before .before .args .w) (c .before .before .before .parts .result) _ _ _ _ _ _ 155
+    (c .before .before .before .before .before .before .before .before .before .before .before .before .before .before .before .mask-bytes .ensures)
+    (c .before .before .before .before .before .before .before .before .before .before .before .before .before .mask-bytes2 .ensures)
+    (c .before .before .before .before .before .before .before .before .before .before .before .before .flags .ensures)
+    (c .before .before .before .before .before .flagged .ensures)
+    (c .before .before .before .before .before .before .before .before .before .codes .ensures) (c .before .before .before .parts .ensures) (search needs)
+    (c .fingerprint .ensures)))

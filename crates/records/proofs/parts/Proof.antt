@@ -30,4 +30,15 @@ parts-spec =
           (c .before .before .before .before .before .before .before .before .before .before .before .before .before .before .args .infeasible),
       n,
     ))
-    (λ c. parts-made (c .before .before .before .before .before .before .before .before .before .before .before .before .before .before .before .before .args .point) (c .before .before .before .before .before .before .before .before .before .before .before .before .before .before .before .before .args .infeasible) (c .before .before .before .before .before .before .before .before .before .before .before .before .before .before .before .before .args .class .now) (c .before .before .before .before .before .before .before .before .before .before .before .before .before .before .before .before .args .unequal .now) (c .before .before .before .before .before .before .before .before .before .before .before .before .before .before .before .before .args .marks .now) (c .before .before .before .before .before .before .before .before .before .before .before .before .before .before .before .before .args .codes .now) (c .before .before .before .before .before .before .before .before .before .before .before .before .before .lay .last .0) (c .before .before .before .before .before .before .before .before .before .lay2 .last .0) (c .before .before .before .before .before .lay3 .last .0) (c .before .lay4 .last .0) (search needs) (search needs) (search needs) (search needs) (c .before .before .before .before .before .before .before .before .before .before .before .before .before .lay .ensures .0) (c .before .before .before .before .before .before .before .before .before .lay2 .ensures .0) (c .before .before .before .before .before .lay3 .ensures .0) (c .before .lay4 .ensures .0)))
+    (λ c. parts-made (c .before .before .before .before .before .before .before .before .before .before .before .before .before .before .before .before .args
+    .point) (c .before .before .before .before .before .before .before .before .before .before .before .before .before .before .before .before .args
+    .infeasible) (c .before .before .before .before .before .before .before .before .before .before .before .before .before .before .before .before .args
+    .class .now) (c .before .before .before .before .before .before .before .before .before .before .before .before .before .before .before .before .args
+    .unequal .now) (c .before .before .before .before .before .before .before .before .before .before .before .before .before .before .before .before .args
+    .marks .now) (c .before .before .before .before .before .before .before .before .before .before .before .before .before .before .before .before .args
+    .codes .now) (c .before .before .before .before .before .before .before .before .before .before .before .before .before .lay .last .0)
+    (c .before .before .before .before .before .before .before .before .before .lay2 .last .0) (c .before .before .before .before .before .lay3 .last .0)
+    (c .before .lay4 .last .0) (search needs) (search needs) (search needs) (search needs)
+    (c .before .before .before .before .before .before .before .before .before .before .before .before .before .lay .ensures .0)
+    (c .before .before .before .before .before .before .before .before .before .lay2 .ensures .0)
+    (c .before .before .before .before .before .lay3 .ensures .0) (c .before .lay4 .ensures .0)))

@@ -75,5 +75,27 @@ put-results-spec =
     (λ c. search needs)
     (λ c. search needs)
     (λ c. search needs)
-    (λ c. (search needs, search needs, search needs, results-turn (c .before .before .before .before .before .before .before .before .before .before .before .before .before .before .before .before .before .before .before .before .before .args .part .now) (search needs) (c .before .before .before .before .before .before .before .before .before .before .before .before .before .before .before .before .before .before .before .before .before .args .meanings .now) (c .before .before .before .before .before .before .before .before .before .before .before .before .before .before .before .before .before .before .before .loop .result) (c .before .before .before .before .before .before .before .before .before .before .before .before .before .before .before .before .before .before .before .loop .j) _ _ _ _ (omega arith) (c .before .before .before .before .before .before .before .before .before .before .before .before .before .before .wide .ensures .0) (c .before .before .before .before .before .before .before .before .before .before .before .before .wide2 .ensures .0) (c .before .before .before .before .before .before .before .before .before .before .wide3 .ensures .0) (c .before .before .before .before .before .before .before .before .wide4 .ensures .0) (c .before .before .before .before .before .before .before .before .before .before .before .before .before .before .wide .ensures .1) (c .before .before .before .before .before .before .before .before .before .before .before .before .wide2 .ensures .1) (c .before .before .before .before .before .before .before .before .before .before .wide3 .ensures .1) (c .before .before .before .before .before .before .before .before .wide4 .ensures .1) (c .before .before .before .before .before .before .before .before .before .before .before .before .before .before .before .before .before .before .before .loop .inv .3)))
+    (λ c. (
+      search needs,
+      search needs,
+      search needs,
+      results-turn
+          (c .before .before .before .before .before .before .before .before .before .before .before .before .before .before .before .before .before .before
+          .before .before .before .args .part .now) (search needs)
+          (c .before .before .before .before .before .before .before .before .before .before .before .before .before .before .before .before .before .before
+          .before .before .before .args .meanings .now)
+          (c .before .before .before .before .before .before .before .before .before .before .before .before .before .before .before .before .before .before
+          .before .loop .result) (c .before .before .before .before .before .before .before .before .before .before .before .before .before .before .before
+          .before .before .before .before .loop .j) _ _ _ _ (omega arith)
+          (c .before .before .before .before .before .before .before .before .before .before .before .before .before .before .wide .ensures .0)
+          (c .before .before .before .before .before .before .before .before .before .before .before .before .wide2 .ensures .0)
+          (c .before .before .before .before .before .before .before .before .before .before .wide3 .ensures .0)
+          (c .before .before .before .before .before .before .before .before .wide4 .ensures .0)
+          (c .before .before .before .before .before .before .before .before .before .before .before .before .before .before .wide .ensures .1)
+          (c .before .before .before .before .before .before .before .before .before .before .before .before .wide2 .ensures .1)
+          (c .before .before .before .before .before .before .before .before .before .before .wide3 .ensures .1)
+          (c .before .before .before .before .before .before .before .before .wide4 .ensures .1)
+          (c .before .before .before .before .before .before .before .before .before .before .before .before .before .before .before .before .before .before
+          .before .loop .inv .3),
+    ))
     (λ c. swept-zeros _ 256 (8 * (c .before .loop .j)) (c .before .loop .result) (c .before .loop .inv .3) (omega arith)))

@@ -40,9 +40,12 @@ module _ (text : List ℕ) where
   becomes-gives (Acceptance.refused number place) r = refusal-refused text number place r
 
   one-given : (g : Got Macro) (o q : Acceptance) → Gives o g → Gives q g → o ≡ q
-  one-given g (Acceptance.accepted m) (Acceptance.accepted k) (i, e) (j, f) = let z : got m i ≡ got k j = sym e ∙ f in let y : m ≡ k = cc in ap Acceptance.accepted y
-  one-given g (Acceptance.accepted m) (Acceptance.refused n p) (i, e) f = absurd (let z : got m i ≡ Reading.refused n p = sym e ∙ f in let y : _≡_ {A = ℕ} 0 1 = cc in omega arith)
-  one-given g (Acceptance.refused n p) (Acceptance.accepted m) e (i, f) = absurd (let z : Reading.refused n p ≡ got m i = sym e ∙ f in let y : _≡_ {A = ℕ} 0 1 = cc in omega arith)
+  one-given g (Acceptance.accepted m) (Acceptance.accepted k) (i, e) (j, f) = let z : got m i ≡ got k j = sym e ∙ f in let y : m ≡ k = cc in
+      ap Acceptance.accepted y
+  one-given g (Acceptance.accepted m) (Acceptance.refused n p) (i, e) f =
+      absurd (let z : got m i ≡ Reading.refused n p = sym e ∙ f in let y : _≡_ {A = ℕ} 0 1 = cc in omega arith)
+  one-given g (Acceptance.refused n p) (Acceptance.accepted m) e (i, f) =
+      absurd (let z : Reading.refused n p ≡ got m i = sym e ∙ f in let y : _≡_ {A = ℕ} 0 1 = cc in omega arith)
   one-given g (Acceptance.refused n p) (Acceptance.refused k q) e f =
       let z : Reading.refused n p ≡ Reading.refused k q = sym e ∙ f in
       let x : n ≡ k = cc in

@@ -61,7 +61,8 @@ refused-number h = cc
 pub refused-place : {A : Type 0} {m q n p : ℕ} → _≡_ {A = Got A} (Got.refused m q) (Got.refused n p) → q ≡ p
 refused-place h = cc
 
-pub onward-case : {A B C : Type 0} (g : Got A) (f : A → ℕ → Got B) (n p : ℕ) → andThen g f ≡ Got.refused n p → (g ≡ Got.refused n p → C) → ((a : A) (m : ℕ) → g ≡ got a m → f a m ≡ Got.refused n p → C) → C
+pub onward-case : {A B C : Type 0} (g : Got A) (f : A → ℕ → Got B) (n p : ℕ) → andThen g f ≡ Got.refused n p → (g ≡ Got.refused n p → C)
+    → ((a : A) (m : ℕ) → g ≡ got a m → f a m ≡ Got.refused n p → C) → C
 onward-case (got a m) f n p h k l = l a m refl h
 onward-case (Got.refused m q) f n p h k l = k (λ i. Got.refused (refused-number h i) (refused-place h i))
 onward-case exhausted f n p h k l = absurd (not-exhausted h)

@@ -15,7 +15,8 @@ module _ (s : List ℕ) where
   -- While they are tokens, they are those that the text spells (crate `grammar`).
   pub before-spelled : (i : ℕ) → ((j : ℕ) → j < i → 2 ≤ keyOf s j) → Spells s 0 (tokensBefore s i) (placeOf s i)
   before-spelled zero h = Spells.none
-  before-spelled (suc i) h = spells-then s (before-spelled i λ j l. h j (omega arith)) (spells-one s (placeOf s i) (keyOf s i) (placeOf s (suc i)) refl (h i (omega arith)) refl)
+  before-spelled (suc i) h = spells-then s (before-spelled i λ j l. h j (omega arith))
+      (spells-one s (placeOf s i) (keyOf s i) (placeOf s (suc i)) refl (h i (omega arith)) refl)
 
   -- No token has a no, the end of the text included.
   abbrev pub AllYes : Type 0

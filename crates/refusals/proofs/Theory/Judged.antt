@@ -25,16 +25,19 @@ pub data JudgedReading (s : List ℕ) (A : Type 0) (P : A → ℕ → Type 0) : 
   first : {n p : ℕ} → FirstNo s n p → JudgedReading s A P (Got.refused n p)
   never : JudgedReading s A P exhausted
 
-pub judged-on : {s : List ℕ} {A B : Type 0} {P : A → ℕ → Type 0} {Q : B → ℕ → Type 0} (g : Got A) (f : A → ℕ → Got B) → JudgedReading s A P g → ((a : A) (e : ℕ) → g ≡ got a e → P a e → JudgedReading s B Q (f a e)) → JudgedReading s B Q (andThen g f)
+pub judged-on : {s : List ℕ} {A B : Type 0} {P : A → ℕ → Type 0} {Q : B → ℕ → Type 0} (g : Got A) (f : A → ℕ → Got B) → JudgedReading s A P g
+    → ((a : A) (e : ℕ) → g ≡ got a e → P a e → JudgedReading s B Q (f a e)) → JudgedReading s B Q (andThen g f)
 judged-on (got a e) f (fine p) k = k a e refl p
 judged-on (Got.refused n p) f (first h) k = first h
 judged-on exhausted f never k = never
 
-pub judged-pick : {s : List ℕ} {A : Type 0} {P : A → ℕ → Type 0} (c : Bool) (x y : Unit {0} → Got A) → (c ≡ true → JudgedReading s A P (x tt)) → (c ≡ false → JudgedReading s A P (y tt)) → JudgedReading s A P (pick c x y)
+pub judged-pick : {s : List ℕ} {A : Type 0} {P : A → ℕ → Type 0} (c : Bool) (x y : Unit {0} → Got A) → (c ≡ true → JudgedReading s A P (x tt))
+    → (c ≡ false → JudgedReading s A P (y tt)) → JudgedReading s A P (pick c x y)
 judged-pick true x y f g = f refl
 judged-pick false x y f g = g refl
 
-pub judged-map : {s : List ℕ} {A : Type 0} {P Q : A → ℕ → Type 0} {g : Got A} → JudgedReading s A P g → ((a : A) (e : ℕ) → P a e → Q a e) → JudgedReading s A Q g
+pub judged-map : {s : List ℕ} {A : Type 0} {P Q : A → ℕ → Type 0} {g : Got A} → JudgedReading s A P g → ((a : A) (e : ℕ) → P a e → Q a e)
+    → JudgedReading s A Q g
 judged-map (fine {a} {e} p) k = fine (k a e p)
 judged-map (first h) k = first h
 judged-map never k = never
@@ -67,7 +70,8 @@ real (suc (suc k)) h g = omega arith
 
 module _ (k : ℕ) (h : plain k ≡ true) where
   -- the tests one after the other
-  plain-tests : (isName k ≡ false) × (eqb k word.commaKey ≡ false) × (eqb k word.rparenKey ≡ false) × (eqb k word.lbraceKey ≡ false) × (eqb k 0 ≡ false) × (eqb k 1 ≡ false)
+  plain-tests : (isName k ≡ false) × (eqb k word.commaKey ≡ false) × (eqb k word.rparenKey ≡ false) × (eqb k word.lbraceKey ≡ false) × (eqb k 0 ≡ false)
+      × (eqb k 1 ≡ false)
   plain-tests =
       let (a, x) = nor (isName k) _ h in
       let (b, y) = nor (eqb k word.commaKey) _ x in
@@ -134,13 +138,15 @@ module _ (s : List ℕ) where
   run-next {i} {at} {r} A = run-more start (tokensBefore s i) (keyAt at) ∙ ap (λ t. onTook t λ q. take q (keyAt at)) (A .leaves)
 
   -- One token is taken.
-  pub advance : {i at : ℕ} {r : Rest} → At i at r → (q : Rest) → 2 ≤ keyAt at → take r (keyAt at) ≡ took q → ((m : ℕ) → NoHere i at m → ⊥) → At (suc i) (tokenAt s at .end) q
+  pub advance : {i at : ℕ} {r : Rest} → At i at r → (q : Rest) → 2 ≤ keyAt at → take r (keyAt at) ≡ took q → ((m : ℕ) → NoHere i at m → ⊥)
+      → At (suc i) (tokenAt s at .end) q
   advance {i} {at} {r} A q l h c =
       record {
         place = ap (λ p. tokenAt s p .end) (A .place);
         leaves = ap (λ ws. run start ws) (before-next A) ∙ run-next A ∙ h;
         none-before = λ m j g. byTest (ltb j i) (λ t. A .none-before m j (ltb-true j i t)) λ t n. c m (here m A (subst (NoAt s m) (last j g t) n));
-        reached = λ j g. byTest (ltb j i) (λ t. A .reached j (ltb-true j i t)) λ t n. nothing (ap (λ p. tokenAt s p .key) (sym (A .place)) ∙ subst (λ j. keyOf s j ≡ 0) (last j g t) n);
+        reached = λ j g. byTest (ltb j i) (λ t. A .reached j (ltb-true j i t)) λ t n. nothing
+            (ap (λ p. tokenAt s p .key) (sym (A .place)) ∙ subst (λ j. keyOf s j ≡ 0) (last j g t) n);
       }
     where
       last : (j : ℕ) → j < suc i → ltb j i ≡ false → j ≡ i
@@ -155,25 +161,37 @@ module _ (s : List ℕ) where
   fits A h l (Unfit.early e n) = omega arith
   fits {i} {at} {r} {q} A h l (Unfit.misplaced e n) = n (run-viable (tokensBefore s i ++ keyAt at ∷ []) q (run-next A ∙ h))
 
-  pub none-here : {i at : ℕ} {r q : Rest} → At i at r → take r (keyAt at) ≡ took q → 2 ≤ keyAt at → (Redeclared (tokensBefore s i) (keyAt at) → ⊥) → (Misused (tokensBefore s i) (keyAt at) (nextAt at) → ⊥) → (TooDeep (tokensBefore s i) (keyAt at) → ⊥) → (m : ℕ) → NoHere i at m → ⊥
+  pub none-here : {i at : ℕ} {r q : Rest} → At i at r → take r (keyAt at) ≡ took q → 2 ≤ keyAt at → (Redeclared (tokensBefore s i) (keyAt at) → ⊥)
+      → (Misused (tokensBefore s i) (keyAt at) (nextAt at) → ⊥) → (TooDeep (tokensBefore s i) (keyAt at) → ⊥) → (m : ℕ) → NoHere i at m → ⊥
   none-here A h l x y z m n = lower (suc m) m (omega arith) (λ _ e. omega arith) (λ _ u. fits A h l u) (λ _. x) (λ _. y) (λ _. z) n
 
   -- a token that questions 10 to 12 do not concern
   pub plain-on : {i at : ℕ} {r : Rest} → At i at r → (q : Rest) → plain (keyAt at) ≡ true → take r (keyAt at) ≡ took q → At (suc i) (tokenAt s at .end) q
-  plain-on {i} {at} A q p h = advance A q (plain-real (keyAt at) p) h (none-here A h (plain-real (keyAt at) p) (plain-redeclared (keyAt at) p) (plain-misused (keyAt at) p) (plain-deep (keyAt at) p))
+  plain-on {i} {at} A q p h = advance A q (plain-real (keyAt at) p) h
+      (none-here A h (plain-real (keyAt at) p) (plain-redeclared (keyAt at) p) (plain-misused (keyAt at) p) (plain-deep (keyAt at) p))
 
   -- ---- refusals
 
   pub first-here : {i at : ℕ} {r : Rest} → At i at r → (n : ℕ) → NoHere i at n → ((m : ℕ) → m < n → NoHere i at m → ⊥) → FirstNo s n (tokenAt s at .start)
-  first-here {i} A n x y = record { index = i; reached = A .reached; place = sym (ap (λ p. tokenAt s p .start) (A .place)); no = there n A x; lowest = λ m l z. y m l (here m A z); first = A .none-before }
+  first-here {i} A n x y = record {
+    index = i;
+    reached = A .reached;
+    place = sym (ap (λ p. tokenAt s p .start) (A .place));
+    no = there n A x;
+    lowest =
+        λ m l z. y m l (here m A z);
+    first = A .none-before;
+  }
 
   -- by 8 or 9
-  pub unfit-judged : {A : Type 0} {P : A → ℕ → Type 0} {i at : ℕ} {r : Rest} → At i at r → Stuck r (keyAt at) → JudgedReading s A P (reading.refusedToken (tokenAt s at))
+  pub unfit-judged : {A : Type 0} {P : A → ℕ → Type 0} {i at : ℕ} {r : Rest} → At i at r → Stuck r (keyAt at)
+      → JudgedReading s A P (reading.refusedToken (tokenAt s at))
   unfit-judged {i = i} {at} {r} A S =
       byTest (eqb (keyAt at) 1)
       (λ t. rw t (first (first-here A tokenMalformed (No.no-token (eqb-true (keyAt at) 1 t)) λ m l. lower tokenMalformed m l (λ x. absurd (omega arith))
       (λ x. absurd (omega arith)) (λ x. absurd (omega arith)) (λ x. absurd (omega arith)) λ x. absurd (omega arith))))
-      λ t. rw t (first (first-here A grammarViolated (No.unfit wrong) λ m l. lower grammarViolated m l (λ _. eqb-false (keyAt at) 1 t) (λ x. absurd (omega arith))
+      λ t. rw t (first (first-here A grammarViolated (No.unfit wrong) λ m l. lower grammarViolated m l (λ _. eqb-false (keyAt at) 1 t)
+      (λ x. absurd (omega arith))
       (λ x. absurd (omega arith)) (λ x. absurd (omega arith)) λ x. absurd (omega arith)))
     where
       not-took : (q : Rest) → stuck ≡ took q → ⊥
@@ -182,13 +200,15 @@ module _ (s : List ℕ) where
       wrong : Unfit (tokensBefore s i) (keyAt at)
       wrong = byTest (eqb (keyAt at) 0)
           (λ t. let e = eqb-true (keyAt at) 0 t in Unfit.early e λ n. clash (sentence-run (tokensBefore s i) r (A .leaves) n) (S .end e))
-          λ t. let e = eqb-false (keyAt at) 0 t in Unfit.misplaced e λ n. let (q, h) = viable-run (tokensBefore s i ++ keyAt at ∷ []) n in not-took q (sym (S .token e) ∙ sym (run-next A) ∙ h)
+          λ t. let e = eqb-false (keyAt at) 0 t in Unfit.misplaced e λ n. let (q, h) = viable-run (tokensBefore s i ++ keyAt at ∷ []) n in
+          not-took q (sym (S .token e) ∙ sym (run-next A) ∙ h)
 
   pub redeclared-judged : {A : Type 0} {P : A → ℕ → Type 0} {i at : ℕ} {r q : Rest} → At i at r → take r (keyAt at) ≡ took q → isName (keyAt at) ≡ true
       → Redeclared (tokensBefore s i) (keyAt at) → JudgedReading s A P (Got.refused declarationWrong (tokenAt s at .start))
   redeclared-judged {at = at} A h t x =
       let l = name-real (keyAt at) t in
-      first (first-here A declarationWrong (No.redeclared x) λ m g. lower declarationWrong m g (λ _ e. omega arith) (λ _. fits A h l) (λ y. absurd (omega arith))
+      first (first-here A declarationWrong (No.redeclared x) λ m g. lower declarationWrong m g (λ _ e. omega arith) (λ _. fits A h l)
+      (λ y. absurd (omega arith))
       (λ y. absurd (omega arith)) λ y. absurd (omega arith))
 
   pub misused-judged : {A : Type 0} {P : A → ℕ → Type 0} {i at : ℕ} {r q : Rest} → At i at r → take r (keyAt at) ≡ took q → 2 ≤ keyAt at

@@ -23,7 +23,8 @@ use Rattle.refusals.proofs.Theory.Rests.{Rest, token, digit, names, ent
 use Rattle.refusals.specs.Questions.{AllNames, InRegisters, InFunctions, InStatements, Among, Behind, Redeclared, Misused, occurrences}
 use Rattle.refusals.specs.FirstNo.{tokensBefore}
 use Rattle.refusals.proofs.Theory.Parts.{not-name, registers-same, registers-functions, registers-statements, functions-same, functions-statements}
-use Rattle.refusals.proofs.Theory.Judged.{JudgedReading, fine, judged-on, judged-pick, judged-map, stuck-at, keyAt, At, before-next, advance, none-here, plain-on, plain, unfit-judged, redeclared-judged}
+use Rattle.refusals.proofs.Theory.Judged.{JudgedReading, fine, judged-on, judged-pick, judged-map, stuck-at, keyAt, At, before-next, advance, none-here}
+use Rattle.refusals.proofs.Theory.Judged.{plain-on, plain, unfit-judged, redeclared-judged}
 use Rattle.refusals.proofs.Theory.Statements.{Stands, outermost, stands}
 
 -- ---- one name or entry more
@@ -69,17 +70,20 @@ module _ (s : List ℕ) where
   next-on : {i at : ℕ} {r : Rest} → At s i at r → (k : ℕ) (q : Rest) → keyAt s at ≡ k → plain k ≡ true → take r k ≡ took q → Next i k q (tokenAt s at .end)
   next-on {i} {at} {r} A k q e p h = (plain-on s A q (ap plain e ∙ p) (ap (λ k. take r k) e ∙ h), before-next s A ∙ ap (λ k. tokensBefore s i ++ k ∷ []) e)
 
-  pub expect-judged : {i at : ℕ} (k : ℕ) (r : Rest) → At s i at (token k r) → plain k ≡ true → take (token k r) k ≡ took r → JudgedReading s (Unit {0}) (λ _ e. Next i k r e) (expect s k at)
+  pub expect-judged : {i at : ℕ} (k : ℕ) (r : Rest) → At s i at (token k r) → plain k ≡ true → take (token k r) k ≡ took r
+      → JudgedReading s (Unit {0}) (λ _ e. Next i k r e) (expect s k at)
   expect-judged {i} {at} k r A p h =
       judged-pick (eqb (keyAt s at) k) _ _ (λ t. fine (next-on A k r (eqb-true (keyAt s at) k t) p h))
       λ t. unfit-judged s A (stuck-at (token k r) (keyAt s at) refl (rw t))
 
   -- `;` at the end of a list of n
-  listed-judged : {A : Type 0} (a : A) (n : ℕ) {i at : ℕ} (r q : Rest) → At s i at r → complete r ≡ false → (not (eqb n 0) ≡ true → take r word.semicolonKey ≡ took q) → (eqb (keyAt s at) word.semicolonKey && not (eqb n 0) ≡ false → take r (keyAt s at) ≡ stuck)
+  listed-judged : {A : Type 0} (a : A) (n : ℕ) {i at : ℕ} (r q : Rest) → At s i at r → complete r ≡ false
+      → (not (eqb n 0) ≡ true → take r word.semicolonKey ≡ took q) → (eqb (keyAt s at) word.semicolonKey && not (eqb n 0) ≡ false → take r (keyAt s at) ≡ stuck)
       → JudgedReading s A (λ b e. (a ≡ b) × (eqb n 0 ≡ false) × Next i word.semicolonKey q e) (listedT s n a (tokenAt s at))
   listed-judged a n {i} {at} r q A c f g =
       judged-pick (eqb (keyAt s at) word.semicolonKey && not (eqb n 0)) _ _
-      (λ t. let (x, y) = and-true (eqb (keyAt s at) word.semicolonKey) (not (eqb n 0)) t in fine (refl, not-true (eqb n 0) y, next-on A word.semicolonKey q (eqb-true (keyAt s at) word.semicolonKey x) refl (f y)))
+      (λ t. let (x, y) = and-true (eqb (keyAt s at) word.semicolonKey) (not (eqb n 0)) t in
+      fine (refl, not-true (eqb n 0) y, next-on A word.semicolonKey q (eqb-true (keyAt s at) word.semicolonKey x) refl (f y)))
       λ t. unfit-judged s A (stuck-at r (keyAt s at) c (g t))
 
   -- ---- registers
@@ -87,7 +91,8 @@ module _ (s : List ℕ) where
   abbrev Registered : List ℕ → ℕ → Type 0
   Registered us e = (j : ℕ) × At s j e line × AllNames us × (tokensBefore s j ≡ word.varsKey ∷ (us ++ word.semicolonKey ∷ []))
 
-  names-ended : (rs : List ℕ) (i at : ℕ) → At s i at (names (not (eqb (length rs) 0))) → InRegisters (tokensBefore s i) rs → isName (keyAt s at) ≡ false → JudgedReading s (List ℕ) Registered (listedT s (length rs) rs (tokenAt s at))
+  names-ended : (rs : List ℕ) (i at : ℕ) → At s i at (names (not (eqb (length rs) 0))) → InRegisters (tokensBefore s i) rs → isName (keyAt s at) ≡ false
+      → JudgedReading s (List ℕ) Registered (listedT s (length rs) rs (tokenAt s at))
   names-ended rs i at A I t =
       judged-map (listed-judged rs (length rs) (names (not (eqb (length rs) 0))) line A refl (λ f. rw f) λ g. rw (t, g))
       λ us e (h, n, (B, b)). subst (λ us. Registered us e) h (suc i, B, I .registers, b ∙ ap (λ l. l ++ word.semicolonKey ∷ []) (I .split))
@@ -101,40 +106,50 @@ module _ (s : List ℕ) where
       → InRegisters (tokensBefore s i) rs → JudgedReading s (List ℕ) Registered (registerNames s room rs at)
   unfolding registerNames
   registers-judged zero rs i at n A I =
-      judged-pick (isName (keyAt s at)) _ _ (λ t. redeclared-judged s {q = names true} A (rw t) t (Redeclared.register I t (inr (omega arith)))) λ t. names-ended rs i at A I t
+      judged-pick (isName (keyAt s at)) _ _ (λ t. redeclared-judged s {q = names true} A (rw t) t (Redeclared.register I t (inr (omega arith))))
+      λ t. names-ended rs i at A I t
   registers-judged (suc room) rs i at n A I =
       judged-pick (isName (keyAt s at)) _ _
       (λ t. let h : take (names (not (eqb (length rs) 0))) (keyAt s at) ≡ took (names true) = rw t in judged-pick (isDeclared s (keyAt s at) rs) _ _
       (λ u. redeclared-judged s A h t (Redeclared.register I t (inl (known-among (keyAt s at) rs u))))
       λ u. let l = name-real (keyAt s at) t in
-      let B = advance s A (names true) l h (none-here s A h l (fresh-register I (unknown-among (keyAt s at) rs u) (omega arith)) (not-misused λ _ _ _ J. registers-statements I J) λ D. not-name (keyAt s at) word.lbraceKey refl t (D .brace)) in
-      registers-judged room (rs ++ keyAt s at ∷ []) (suc i) (tokenAt s at .end) (let z = length-append rs (keyAt s at ∷ []) in omega arith) (subst (λ e. At s (suc i) (tokenAt s at .end) (names e)) (some-more rs (keyAt s at)) B)
+      let B = advance s A (names true) l h
+      (none-here s A h l (fresh-register I (unknown-among (keyAt s at) rs u) (omega arith)) (not-misused λ _ _ _ J. registers-statements I J) λ D. not-name
+      (keyAt s at) word.lbraceKey refl t (D .brace)) in
+      registers-judged room (rs ++ keyAt s at ∷ []) (suc i) (tokenAt s at .end) (let z = length-append rs (keyAt s at ∷ []) in omega arith)
+      (subst (λ e. At s (suc i) (tokenAt s at .end) (names e)) (some-more rs (keyAt s at)) B)
       (record { registers = names-more rs (keyAt s at) (I .registers) t; split = before-next s A ∙ ap (λ l. l ++ keyAt s at ∷ []) (I .split) }))
       λ t. names-ended rs i at A I t
 
   -- ---- functions
 
-  arity-judged : {i at : ℕ} → At s i at (token word.slashKey (digit (entries true))) → JudgedReading s ℕ (λ n e. At s (suc (suc i)) e (entries true) × ((n ≡ 1) ⊎ (n ≡ 2)) × (tokensBefore s (suc (suc i)) ≡ tokensBefore s i ++ word.slashKey ∷ (48 + n) ∷ [])) (arityOf s at)
+  arity-judged : {i at : ℕ} → At s i at (token word.slashKey (digit (entries true)))
+      → JudgedReading s ℕ (λ n e. At s (suc (suc i)) e (entries true) × ((n ≡ 1) ⊎ (n ≡ 2))
+      × (tokensBefore s (suc (suc i)) ≡ tokensBefore s i ++ word.slashKey ∷ (48 + n) ∷ [])) (arityOf s at)
   unfolding arityOf
   arity-judged {i} {at} A =
       judged-on (expect s word.slashKey at) _ (expect-judged word.slashKey (digit (entries true)) A refl refl) λ _ a _ (B, b).
       judged-pick (eqb (keyAt s a) word.oneKey) _ _
-      (λ t. let (C, c) = next-on B word.oneKey (entries true) (eqb-true (keyAt s a) word.oneKey t) refl refl in fine (C, inl refl, c ∙ ap (λ l. l ++ word.oneKey ∷ []) b ∙ append-assoc (tokensBefore s i) (word.slashKey ∷ []) (word.oneKey ∷ [])))
+      (λ t. let (C, c) = next-on B word.oneKey (entries true) (eqb-true (keyAt s a) word.oneKey t) refl refl in
+      fine (C, inl refl, c ∙ ap (λ l. l ++ word.oneKey ∷ []) b ∙ append-assoc (tokensBefore s i) (word.slashKey ∷ []) (word.oneKey ∷ [])))
       λ t. judged-pick (eqb (keyAt s a) word.twoKey) _ _
-      (λ u. let (C, c) = next-on B word.twoKey (entries true) (eqb-true (keyAt s a) word.twoKey u) refl refl in fine (C, inr refl, c ∙ ap (λ l. l ++ word.twoKey ∷ []) b ∙ append-assoc (tokensBefore s i) (word.slashKey ∷ []) (word.twoKey ∷ [])))
+      (λ u. let (C, c) = next-on B word.twoKey (entries true) (eqb-true (keyAt s a) word.twoKey u) refl refl in
+      fine (C, inr refl, c ∙ ap (λ l. l ++ word.twoKey ∷ []) b ∙ append-assoc (tokensBefore s i) (word.slashKey ∷ []) (word.twoKey ∷ [])))
       λ u. unfit-judged s B (stuck-at (digit (entries true)) (keyAt s a) refl (rw (t, u)))
 
   module _ (rs : List ℕ) where
     -- the lines are whole
     abbrev pub WholeLines : List ℕ × List ℕ → ℕ → Type 0
-    WholeLines r e = (j : ℕ) × (b : Rest) × At s j e b × Stands outermost b (keyAt s e) × AllNames (r .0) × Arities (r .0) (r .1) × Behind (tokensBefore s j) word.semicolonKey × (tokensBefore s j ≡ word.varsKey ∷ (rs ++ word.semicolonKey ∷ functionTokens (r .0) (r .1)))
+    WholeLines r e = (j : ℕ) × (b : Rest) × At s j e b × Stands outermost b (keyAt s e) × AllNames (r .0) × Arities (r .0) (r .1)
+        × Behind (tokensBefore s j) word.semicolonKey × (tokensBefore s j ≡ word.varsKey ∷ (rs ++ word.semicolonKey ∷ functionTokens (r .0) (r .1)))
 
     line-whole : (fs ns : List ℕ) → eqb (length fs) 0 ≡ false → functionTokens fs ns ≡ word.funsKey ∷ (entryTokens fs ns ++ word.semicolonKey ∷ [])
     unfolding functionTokens
     line-whole [] ns h = absurd (clash refl h)
     line-whole (f ∷ fs) ns h = refl
 
-    entries-ended : (fs ns : List ℕ) (i at : ℕ) → At s i at (entries (not (eqb (length fs) 0))) → InFunctions (tokensBefore s i) rs fs ns → isName (keyAt s at) ≡ false → JudgedReading s (List ℕ × List ℕ) WholeLines (listedT s (length fs) (fs, ns) (tokenAt s at))
+    entries-ended : (fs ns : List ℕ) (i at : ℕ) → At s i at (entries (not (eqb (length fs) 0))) → InFunctions (tokensBefore s i) rs fs ns
+        → isName (keyAt s at) ≡ false → JudgedReading s (List ℕ × List ℕ) WholeLines (listedT s (length fs) (fs, ns) (tokenAt s at))
     entries-ended fs ns i at A I t =
         judged-map (listed-judged (fs, ns) (length fs) (entries (not (eqb (length fs) 0))) (outside false) A refl (λ f. rw f) λ g. rw (t, g))
         λ r e (h, n, (B, b)). subst (λ r. WholeLines r e) h (
@@ -145,7 +160,9 @@ module _ (s : List ℕ) where
           I .functions,
           I .arities,
           (tokensBefore s i, b),
-          b ∙ ap (λ l. l ++ word.semicolonKey ∷ []) (I .split) ∙ ap (λ l. word.varsKey ∷ l) (append-assoc rs (word.semicolonKey ∷ word.funsKey ∷ entryTokens fs ns) (word.semicolonKey ∷ [])) ∙ ap (λ l. word.varsKey ∷ (rs ++ word.semicolonKey ∷ l)) (sym (line-whole fs ns n)),
+          b ∙ ap (λ l. l ++ word.semicolonKey ∷ []) (I .split)
+              ∙ ap (λ l. word.varsKey ∷ l) (append-assoc rs (word.semicolonKey ∷ word.funsKey ∷ entryTokens fs ns) (word.semicolonKey ∷ []))
+              ∙ ap (λ l. word.varsKey ∷ (rs ++ word.semicolonKey ∷ l)) (sym (line-whole fs ns n)),
         )
 
     pub fresh-function : {before fs ns : List ℕ} {k : ℕ} → InFunctions before rs fs ns → (Among k rs → ⊥) → (Among k fs → ⊥) → length fs < mostFunctions
@@ -153,13 +170,16 @@ module _ (s : List ℕ) where
     fresh-function I a b l (Redeclared.register J t x) = registers-functions J I
     fresh-function {k = k} I a b l (Redeclared.function J t (inl (inl x))) = a (subst (Among k) (sym (functions-same I J .0)) x)
     fresh-function {k = k} I a b l (Redeclared.function J t (inl (inr x))) = b (subst (Among k) (sym (functions-same I J .1)) x)
-    fresh-function {fs = fs} I a b l (Redeclared.function {fs = gs} J t (inr x)) = let e : length fs ≡ length gs = ap length (functions-same I J .1) in omega arith
+    fresh-function {fs = fs} I a b l (Redeclared.function {fs = gs} J t (inr x)) = let e : length fs ≡ length gs = ap length (functions-same I J .1) in
+        omega arith
 
     pub functions-judged : (room : ℕ) (fs ns : List ℕ) (i at : ℕ) → room + length fs ≡ mostFunctions → At s i at (entries (not (eqb (length fs) 0)))
         → InFunctions (tokensBefore s i) rs fs ns → JudgedReading s (List ℕ × List ℕ) WholeLines (functionEntries s rs room fs ns at)
     unfolding functionEntries
     functions-judged zero fs ns i at n A I =
-        judged-pick (isName (keyAt s at)) _ _ (λ t. redeclared-judged s {q = token word.slashKey (digit (entries true))} A (rw t) t (Redeclared.function I t (inr (omega arith)))) λ t. entries-ended fs ns i at A I t
+        judged-pick (isName (keyAt s at)) _ _
+        (λ t. redeclared-judged s {q = token word.slashKey (digit (entries true))} A (rw t) t (Redeclared.function I t (inr (omega arith))))
+        λ t. entries-ended fs ns i at A I t
     functions-judged (suc room) fs ns i at n A I =
         judged-pick (isName (keyAt s at)) _ _
         (λ t. let k = keyAt s at in
@@ -168,23 +188,35 @@ module _ (s : List ℕ) where
         (λ u. redeclared-judged s A h t (Redeclared.function I t (inl (again (or-case (isDeclared s (keyAt s at) rs) (isDeclared s (keyAt s at) fs) u)))))
         λ u. let (x, y) = or-false (isDeclared s (keyAt s at) rs) (isDeclared s (keyAt s at) fs) u in
         let l = name-real (keyAt s at) t in
-        let B = advance s A (token word.slashKey (digit (entries true))) l h (none-here s A h l (fresh-function I (unknown-among (keyAt s at) rs x) (unknown-among (keyAt s at) fs y) (omega arith)) (not-misused λ _ _ _ J. functions-statements I J) λ D. not-name (keyAt s at) word.lbraceKey refl t (D .brace)) in
+        let B = advance s A (token word.slashKey (digit (entries true))) l h
+        (none-here s A h l (fresh-function I (unknown-among (keyAt s at) rs x) (unknown-among (keyAt s at) fs y) (omega arith))
+        (not-misused λ _ _ _ J. functions-statements I J) λ D. not-name (keyAt s at) word.lbraceKey refl t (D .brace)) in
         judged-on (arityOf s (tokenAt s at .end)) _ (arity-judged B) λ m e _ (C, w, c).
-        functions-judged room (fs ++ k ∷ []) (ns ++ m ∷ []) (suc (suc (suc i))) e (let z = length-append fs (keyAt s at ∷ []) in omega arith) (subst (λ f. At s (suc (suc (suc i))) e (entries f)) (some-more fs k) C)
-        (record { registers = I .registers; functions = names-more fs k (I .functions) t; arities = arities-more fs ns k m (I .arities) w; split = c ∙ ap (λ l. l ++ word.slashKey ∷ (48 + m) ∷ []) (before-next s A ∙ ap (λ l. l ++ k ∷ []) (I .split)) ∙ regroup fs ns k m (I .arities) }))
+        functions-judged room (fs ++ k ∷ []) (ns ++ m ∷ []) (suc (suc (suc i))) e (let z = length-append fs (keyAt s at ∷ []) in omega arith)
+        (subst (λ f. At s (suc (suc (suc i))) e (entries f)) (some-more fs k) C)
+        (record {
+          registers = I .registers;
+          functions = names-more fs k (I .functions) t;
+          arities = arities-more fs ns k m (I .arities) w;
+          split =
+              c ∙ ap (λ l. l ++ word.slashKey ∷ (48 + m) ∷ []) (before-next s A ∙ ap (λ l. l ++ k ∷ []) (I .split)) ∙ regroup fs ns k m (I .arities);
+        }))
         λ t. entries-ended fs ns i at A I t
       where
         again : (isDeclared s (keyAt s at) rs ≡ true) ⊎ (isDeclared s (keyAt s at) fs ≡ true) → Among (keyAt s at) rs ⊎ Among (keyAt s at) fs
         again (inl u) = inl (known-among (keyAt s at) rs u)
         again (inr u) = inr (known-among (keyAt s at) fs u)
 
-        regroup : (fs ns : List ℕ) (k m : ℕ) → Arities fs ns → (word.varsKey ∷ (rs ++ word.semicolonKey ∷ word.funsKey ∷ entryTokens fs ns) ++ k ∷ []) ++ word.slashKey ∷ (48 + m) ∷ [] ≡ word.varsKey ∷ (rs ++ word.semicolonKey ∷ word.funsKey ∷ entryTokens (fs ++ k ∷ []) (ns ++ m ∷ []))
+        regroup : (fs ns : List ℕ) (k m : ℕ) → Arities fs ns
+            → (word.varsKey ∷ (rs ++ word.semicolonKey ∷ word.funsKey ∷ entryTokens fs ns) ++ k ∷ []) ++ word.slashKey ∷ (48 + m) ∷ []
+            ≡ word.varsKey ∷ (rs ++ word.semicolonKey ∷ word.funsKey ∷ entryTokens (fs ++ k ∷ []) (ns ++ m ∷ []))
         regroup fs ns k m a =
             append-assoc (word.varsKey ∷ (rs ++ word.semicolonKey ∷ word.funsKey ∷ entryTokens fs ns)) (k ∷ []) (word.slashKey ∷ (48 + m) ∷ [])
             ∙ ap (λ l. word.varsKey ∷ l) (append-assoc rs (word.semicolonKey ∷ word.funsKey ∷ entryTokens fs ns) (k ∷ word.slashKey ∷ (48 + m) ∷ []))
             ∙ ap (λ l. word.varsKey ∷ (rs ++ word.semicolonKey ∷ word.funsKey ∷ l)) (sym (entries-more fs ns k m a))
 
-    pub line-judged : (i at : ℕ) → At s i at line → AllNames rs → tokensBefore s i ≡ word.varsKey ∷ (rs ++ word.semicolonKey ∷ []) → JudgedReading s (List ℕ × List ℕ) WholeLines (functionsT s rs at (tokenAt s at))
+    pub line-judged : (i at : ℕ) → At s i at line → AllNames rs → tokensBefore s i ≡ word.varsKey ∷ (rs ++ word.semicolonKey ∷ [])
+        → JudgedReading s (List ℕ × List ℕ) WholeLines (functionsT s rs at (tokenAt s at))
     unfolding functionTokens entryTokens
     line-judged i at A R b =
         judged-pick (eqb (keyAt s at) word.funsKey) _ _
@@ -205,7 +237,8 @@ count-append : (j : ℕ) (xs ys : List ℕ) → occurrences j (xs ++ ys) ≡ occ
 count-append j [] ys = omega arith
 count-append j (x ∷ xs) ys = omega (arith, count-append j xs ys)
 
-module _ (j : ℕ) (n : isName j ≡ false) (c : occurrences j (word.varsKey ∷ word.funsKey ∷ word.semicolonKey ∷ word.slashKey ∷ word.oneKey ∷ word.twoKey ∷ []) ≡ 0) where
+module _ (j : ℕ) (n : isName j ≡ false)
+    (c : occurrences j (word.varsKey ∷ word.funsKey ∷ word.semicolonKey ∷ word.slashKey ∷ word.oneKey ∷ word.twoKey ∷ []) ≡ 0) where
   count-names : (ks : List ℕ) → AllNames ks → occurrences j ks ≡ 0
   count-names [] h = refl
   count-names (k ∷ ks) h = let x = count-names ks (λ i l. h (suc i) (omega arith)) in rw (not-word k j n (h 0 (omega arith))) (omega arith)
@@ -213,13 +246,17 @@ module _ (j : ℕ) (n : isName j ≡ false) (c : occurrences j (word.varsKey ∷
   count-entries : (fs ns : List ℕ) → Arities fs ns → AllNames fs → occurrences j (entryTokens fs ns) ≡ 0
   unfolding entryTokens
   count-entries fs ns Arities.none h = refl
-  count-entries fs ns (Arities.one {f} {fs = gs} {ns = ms} a) h = let x = count-entries gs ms a (λ i l. h (suc i) (omega arith)) in rw (not-word f j n (h 0 (omega arith))) (omega arith)
-  count-entries fs ns (Arities.two {f} {fs = gs} {ns = ms} a) h = let x = count-entries gs ms a (λ i l. h (suc i) (omega arith)) in rw (not-word f j n (h 0 (omega arith))) (omega arith)
+  count-entries fs ns (Arities.one {f} {fs = gs} {ns = ms} a) h = let x = count-entries gs ms a (λ i l. h (suc i) (omega arith)) in
+      rw (not-word f j n (h 0 (omega arith))) (omega arith)
+  count-entries fs ns (Arities.two {f} {fs = gs} {ns = ms} a) h = let x = count-entries gs ms a (λ i l. h (suc i) (omega arith)) in
+      rw (not-word f j n (h 0 (omega arith))) (omega arith)
 
   count-line : (fs ns : List ℕ) → Arities fs ns → AllNames fs → occurrences j (functionTokens fs ns) ≡ 0
   unfolding functionTokens
   count-line [] ns a h = refl
   count-line (f ∷ fs) ns a h = let x = count-entries (f ∷ fs) ns a h in let y = count-append j (entryTokens (f ∷ fs) ns) (word.semicolonKey ∷ []) in omega arith
 
-  pub count-lines : (rs fs ns : List ℕ) → AllNames rs → Arities fs ns → AllNames fs → occurrences j (word.varsKey ∷ (rs ++ word.semicolonKey ∷ functionTokens fs ns)) ≡ 0
-  count-lines rs fs ns r a h = let x = count-names rs r in let y = count-append j rs (word.semicolonKey ∷ functionTokens fs ns) in let z = count-line fs ns a h in omega arith
+  pub count-lines : (rs fs ns : List ℕ) → AllNames rs → Arities fs ns → AllNames fs
+      → occurrences j (word.varsKey ∷ (rs ++ word.semicolonKey ∷ functionTokens fs ns)) ≡ 0
+  count-lines rs fs ns r a h = let x = count-names rs r in let y = count-append j rs (word.semicolonKey ∷ functionTokens fs ns) in
+      let z = count-line fs ns a h in omega arith

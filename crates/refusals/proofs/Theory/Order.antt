@@ -102,4 +102,5 @@ first-viable {s} F = go (F .index) (F .reached) (F .first)
   where
     go : (i : ℕ) → ((j : ℕ) → j < i → keyOf s j ≡ 0 → ⊥) → ((m j : ℕ) → j < i → NoAt s m j → ⊥) → Viable (tokensBefore s i)
     go zero r f = viable-nothing
-    go (suc i) r f = ⊎-elim (λ v. v) (λ n. absurd (f 9 i (omega arith) (No.unfit (Unfit.misplaced (r i (omega arith)) n)))) (viable-decided (tokensBefore s (suc i)))
+    go (suc i) r f = ⊎-elim (λ v. v) (λ n. absurd (f 9 i (omega arith) (No.unfit (Unfit.misplaced (r i (omega arith)) n))))
+        (viable-decided (tokensBefore s (suc i)))

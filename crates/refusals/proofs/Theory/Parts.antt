@@ -28,8 +28,14 @@ names-without (k ∷ ks) n = (not-name k word.semicolonKey refl (n 0 (omega arit
 entries-without : (fs ns : List ℕ) → Arities fs ns → AllNames fs → Without (entryTokens fs ns)
 unfolding entryTokens
 entries-without fs ns Arities.none n = tt
-entries-without fs ns (Arities.one {f} {fs = gs} {ns = ms} a) n = (not-name f word.semicolonKey refl (n 0 (omega arith)), ((λ h. absurd (omega arith)), ((λ h. absurd (omega arith)), entries-without gs ms a λ i l. n (suc i) (omega arith))))
-entries-without fs ns (Arities.two {f} {fs = gs} {ns = ms} a) n = (not-name f word.semicolonKey refl (n 0 (omega arith)), ((λ h. absurd (omega arith)), ((λ h. absurd (omega arith)), entries-without gs ms a λ i l. n (suc i) (omega arith))))
+entries-without fs ns (Arities.one {f} {fs = gs} {ns = ms} a) n = (
+  not-name f word.semicolonKey refl (n 0 (omega arith)),
+  ((λ h. absurd (omega arith)), ((λ h. absurd (omega arith)), entries-without gs ms a λ i l. n (suc i) (omega arith))),
+)
+entries-without fs ns (Arities.two {f} {fs = gs} {ns = ms} a) n = (
+  not-name f word.semicolonKey refl (n 0 (omega arith)),
+  ((λ h. absurd (omega arith)), ((λ h. absurd (omega arith)), entries-without gs ms a λ i l. n (suc i) (omega arith))),
+)
 
 split-same : (xs us ys vs : List ℕ) → Without xs → Without us → xs ++ word.semicolonKey ∷ ys ≡ us ++ word.semicolonKey ∷ vs → (xs ≡ us) × (ys ≡ vs)
 split-same [] [] ys vs w v h = (refl, tail-same h)
@@ -55,12 +61,15 @@ entries-same fs ns gs ms Arities.none (Arities.one b) h = absurd (not-nil (sym h
 entries-same fs ns gs ms Arities.none (Arities.two b) h = absurd (not-nil (sym h))
 entries-same fs ns gs ms (Arities.one a) Arities.none h = absurd (not-nil h)
 entries-same fs ns gs ms (Arities.two a) Arities.none h = absurd (not-nil h)
-entries-same fs ns gs ms (Arities.one {fs = fs′} {ns = ns′} a) (Arities.one {fs = gs′} {ns = ms′} b) h = let (p, q) = entries-same fs′ ns′ gs′ ms′ a b (tail-same (tail-same (tail-same h))) in (λ i. head-same h i ∷ p i, λ i. 1 ∷ q i)
+entries-same fs ns gs ms (Arities.one {fs = fs′} {ns = ns′} a) (Arities.one {fs = gs′} {ns = ms′} b) h = let (p, q) =
+    entries-same fs′ ns′ gs′ ms′ a b (tail-same (tail-same (tail-same h))) in (λ i. head-same h i ∷ p i, λ i. 1 ∷ q i)
 entries-same fs ns gs ms (Arities.one a) (Arities.two b) h = let z : _≡_ {A = ℕ} 49 50 = head-same (tail-same (tail-same h)) in absurd (omega arith)
 entries-same fs ns gs ms (Arities.two a) (Arities.one b) h = let z : _≡_ {A = ℕ} 50 49 = head-same (tail-same (tail-same h)) in absurd (omega arith)
-entries-same fs ns gs ms (Arities.two {fs = fs′} {ns = ns′} a) (Arities.two {fs = gs′} {ns = ms′} b) h = let (p, q) = entries-same fs′ ns′ gs′ ms′ a b (tail-same (tail-same (tail-same h))) in (λ i. head-same h i ∷ p i, λ i. 2 ∷ q i)
+entries-same fs ns gs ms (Arities.two {fs = fs′} {ns = ns′} a) (Arities.two {fs = gs′} {ns = ms′} b) h = let (p, q) =
+    entries-same fs′ ns′ gs′ ms′ a b (tail-same (tail-same (tail-same h))) in (λ i. head-same h i ∷ p i, λ i. 2 ∷ q i)
 
-lines-same : (fs ns gs ms b d : List ℕ) → Arities fs ns → AllNames fs → Arities gs ms → AllNames gs → (getD b 0 0 ≡ word.funsKey → ⊥) → (getD d 0 0 ≡ word.funsKey → ⊥) → functionTokens fs ns ++ b ≡ functionTokens gs ms ++ d → (fs ≡ gs) × (ns ≡ ms)
+lines-same : (fs ns gs ms b d : List ℕ) → Arities fs ns → AllNames fs → Arities gs ms → AllNames gs → (getD b 0 0 ≡ word.funsKey → ⊥)
+    → (getD d 0 0 ≡ word.funsKey → ⊥) → functionTokens fs ns ++ b ≡ functionTokens gs ms ++ d → (fs ≡ gs) × (ns ≡ ms)
 unfolding functionTokens
 lines-same [] ns [] ms b d A N B M x y h = (refl, no-arities ns A ∙ sym (no-arities ms B))
 lines-same [] ns (g ∷ gs) ms b d A N B M x y h = absurd (x (ap (λ l. getD l 0 0) h))
@@ -68,14 +77,18 @@ lines-same (f ∷ fs) ns [] ms b d A N B M x y h = absurd (y (sym (ap (λ l. get
 lines-same (f ∷ fs) ns (g ∷ gs) ms b d A N B M x y h =
     let E = entryTokens (f ∷ fs) ns in
     let D = entryTokens (g ∷ gs) ms in
-    let j : E ++ word.semicolonKey ∷ b ≡ D ++ word.semicolonKey ∷ d = sym (append-assoc E (word.semicolonKey ∷ []) b) ∙ tail-same h ∙ append-assoc D (word.semicolonKey ∷ []) d in
+    let j : E ++ word.semicolonKey ∷ b ≡ D ++ word.semicolonKey ∷ d =
+    sym (append-assoc E (word.semicolonKey ∷ []) b) ∙ tail-same h ∙ append-assoc D (word.semicolonKey ∷ []) d in
     entries-same (f ∷ fs) ns (g ∷ gs) ms A B (split-same E D b d (entries-without (f ∷ fs) ns A N) (entries-without (g ∷ gs) ms B M) j .0)
 
 -- entries that go on are not followed by statements
-open-line : (fs ns gs ms d : List ℕ) → Arities fs ns → AllNames fs → (getD d 0 0 ≡ word.funsKey → ⊥) → word.funsKey ∷ entryTokens fs ns ≡ functionTokens gs ms ++ d → ⊥
+open-line : (fs ns gs ms d : List ℕ) → Arities fs ns → AllNames fs → (getD d 0 0 ≡ word.funsKey → ⊥)
+    → word.funsKey ∷ entryTokens fs ns ≡ functionTokens gs ms ++ d → ⊥
 unfolding functionTokens
 open-line fs ns [] ms d A N y h = y (sym (ap (λ l. getD l 0 0) h))
-open-line fs ns (g ∷ gs) ms d A N y h = no-split (entryTokens fs ns) (entryTokens (g ∷ gs) ms) d (entries-without fs ns A N) (tail-same h ∙ append-assoc (entryTokens (g ∷ gs) ms) (word.semicolonKey ∷ []) d)
+open-line fs ns (g ∷ gs) ms d A N y h =
+    no-split (entryTokens fs ns) (entryTokens (g ∷ gs) ms) d (entries-without fs ns A N)
+    (tail-same h ∙ append-assoc (entryTokens (g ∷ gs) ms) (word.semicolonKey ∷ []) d)
 
 -- ---- the parts
 
@@ -113,7 +126,9 @@ statements-more {before} {rs} {fs} {ns} k h I =
       functions = I .functions;
       arities = I .arities;
       body = I .body ++ k ∷ [];
-      split = ap (λ l. l ++ k ∷ []) (I .split) ∙ ap (λ l. word.varsKey ∷ l) (append-assoc rs (word.semicolonKey ∷ (functionTokens fs ns ++ I .body)) (k ∷ []) ∙ ap (λ l. rs ++ word.semicolonKey ∷ l) (append-assoc (functionTokens fs ns) (I .body) (k ∷ [])));
+      split = ap (λ l. l ++ k ∷ []) (I .split)
+          ∙ ap (λ l. word.varsKey ∷ l) (append-assoc rs (word.semicolonKey ∷ (functionTokens fs ns ++ I .body)) (k ∷ [])
+          ∙ ap (λ l. rs ++ word.semicolonKey ∷ l) (append-assoc (functionTokens fs ns) (I .body) (k ∷ [])));
       begun = still (I .body) (I .begun);
     }
   where
@@ -138,5 +153,7 @@ called-same {before} {f} {g} (xs, b, h) (us, c, e) = head-same (ends-same xs us 
 -- behind `,` and a name there is no first argument
 pub not-called : {before : List ℕ} {f : ℕ} (b : ℕ) (xs : List ℕ) → before ≡ xs ++ word.commaKey ∷ b ∷ [] → Called before f → ⊥
 not-called {before} {f} b xs h (us, c, e) =
-    let p : word.commaKey ∷ b ∷ [] ≡ word.lparenKey ∷ c ∷ [] = ends-same xs (us ++ f ∷ []) (word.commaKey ∷ b ∷ []) (word.lparenKey ∷ c ∷ []) refl (sym h ∙ e ∙ sym (append-assoc us (f ∷ []) (word.lparenKey ∷ c ∷ []))) in
+    let p : word.commaKey ∷ b ∷ [] ≡ word.lparenKey ∷ c ∷ [] =
+    ends-same xs (us ++ f ∷ []) (word.commaKey ∷ b ∷ []) (word.lparenKey ∷ c ∷ []) refl
+    (sym h ∙ e ∙ sym (append-assoc us (f ∷ []) (word.lparenKey ∷ c ∷ []))) in
     let z : word.commaKey ≡ word.lparenKey = head-same p in omega arith

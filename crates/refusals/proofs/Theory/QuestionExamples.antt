@@ -11,7 +11,8 @@ use Rattle.tokens.specs.Words as word
 use Rattle.tokens.specs.Bytes.{gap, nameLength, width}
 use Rattle.tokens.specs.Tokens.{tokenAt}
 use Rattle.grammar.specs.Grammar.{entryTokens, functionTokens}
-use Rattle.grammar.specs.Reading.{got, Got, indexOf, condition, endedCondition, argumentsT, rightHandSide, assignment, block, registerNames, arityOf, functionEntries}
+use Rattle.grammar.specs.Reading.{got, Got, indexOf, condition, endedCondition, argumentsT, rightHandSide, assignment, block, registerNames, arityOf}
+use Rattle.grammar.specs.Reading.{functionEntries}
 use Rattle.grammar.proofs.Theory.Reading.{readText}
 use Rattle.grammar.specs.Spelled.{Spells, Arities}
 use Rattle.refusals.proofs.Theory.Basics.{clash}
@@ -109,7 +110,15 @@ assigning = word.varsKey ∷ 97 ∷ word.semicolonKey ∷ word.funsKey ∷ 102 �
 
 in-statements : InStatements assigning (97 ∷ []) (102 ∷ []) (1 ∷ [])
 unfolding functionTokens entryTokens
-in-statements = record { registers = named 97 refl; functions = named 102 refl; arities = Arities.one Arities.none; body = 97 ∷ word.becomesKey ∷ []; split = refl; begun = λ e. omega arith }
+in-statements = record {
+  registers = named 97 refl;
+  functions = named 102 refl;
+  arities = Arities.one Arities.none;
+  body = 97 ∷ word.becomesKey ∷ [];
+  split =
+      refl;
+  begun = λ e. omega arith;
+}
 
 abbrev declared-lines : List ℕ
 declared-lines = word.varsKey ∷ 97 ∷ word.semicolonKey ∷ word.funsKey ∷ 102 ∷ word.slashKey ∷ word.oneKey ∷ word.semicolonKey ∷ 97 ∷ []
@@ -133,7 +142,15 @@ calling = assigning ++ 102 ∷ word.lparenKey ∷ 97 ∷ []
 
 in-call : InStatements calling (97 ∷ []) (102 ∷ []) (1 ∷ [])
 unfolding functionTokens entryTokens
-in-call = record { registers = named 97 refl; functions = named 102 refl; arities = Arities.one Arities.none; body = 97 ∷ word.becomesKey ∷ 102 ∷ word.lparenKey ∷ 97 ∷ []; split = refl; begun = λ e. omega arith }
+in-call = record {
+  registers = named 97 refl;
+  functions = named 102 refl;
+  arities = Arities.one Arities.none;
+  body =
+      97 ∷ word.becomesKey ∷ 102 ∷ word.lparenKey ∷ 97 ∷ [];
+  split = refl;
+  begun = λ e. omega arith;
+}
 
 too-many : Misused calling word.commaKey 97
 too-many = Misused.more-arguments in-call (assigning, 97, refl) (0, omega arith, refl, refl) refl
@@ -150,14 +167,25 @@ enough (Misused.fewer-arguments J c (i, l, e, n) k) = two-at i (ap (λ l. getD l
 
 -- and where it takes two, `)` is wrong: behind `vars a; funs g/2; a := g(a`
 abbrev calling-two : List ℕ
-calling-two = word.varsKey ∷ 97 ∷ word.semicolonKey ∷ word.funsKey ∷ 103 ∷ word.slashKey ∷ word.twoKey ∷ word.semicolonKey ∷ 97 ∷ word.becomesKey ∷ 103 ∷ word.lparenKey ∷ 97 ∷ []
+calling-two = word.varsKey ∷ 97 ∷ word.semicolonKey ∷ word.funsKey ∷ 103 ∷ word.slashKey ∷ word.twoKey ∷ word.semicolonKey ∷ 97 ∷ word.becomesKey ∷ 103 ∷
+    word.lparenKey ∷ 97 ∷ []
 
 in-call-of-two : InStatements calling-two (97 ∷ []) (103 ∷ []) (2 ∷ [])
 unfolding functionTokens entryTokens
-in-call-of-two = record { registers = named 97 refl; functions = named 103 refl; arities = Arities.two Arities.none; body = 97 ∷ word.becomesKey ∷ 103 ∷ word.lparenKey ∷ 97 ∷ []; split = refl; begun = λ e. omega arith }
+in-call-of-two = record {
+  registers = named 97 refl;
+  functions = named 103 refl;
+  arities = Arities.two Arities.none;
+  body =
+      97 ∷ word.becomesKey ∷ 103 ∷ word.lparenKey ∷ 97 ∷ [];
+  split = refl;
+  begun = λ e. omega arith;
+}
 
 too-few : Misused calling-two word.rparenKey word.semicolonKey
-too-few = Misused.fewer-arguments in-call-of-two (word.varsKey ∷ 97 ∷ word.semicolonKey ∷ word.funsKey ∷ 103 ∷ word.slashKey ∷ word.twoKey ∷ word.semicolonKey ∷ 97 ∷ word.becomesKey ∷ [], 97, refl) (0, omega arith, refl, refl) refl
+too-few = Misused.fewer-arguments in-call-of-two
+    (word.varsKey ∷ 97 ∷ word.semicolonKey ∷ word.funsKey ∷ 103 ∷ word.slashKey ∷ word.twoKey ∷ word.semicolonKey ∷ 97 ∷ word.becomesKey ∷ [], 97, refl)
+    (0, omega arith, refl, refl) refl
 
 -- ---- 12
 
@@ -206,7 +234,8 @@ deeper-first = refused-first deeper (omega arith) 12 176 deeper-read
 
 -- the bench example of Examples.antt has no no
 loop-text : readText loop ≡ got searched 61
-unfolding loop searched readText tokenAt gap width nameLength registerNames indexOf functionEntries arityOf block condition endedCondition assignment rightHandSide argumentsT
+unfolding loop searched readText tokenAt gap width nameLength registerNames indexOf functionEntries arityOf block condition endedCondition assignment
+    rightHandSide argumentsT
 loop-text = refl
 
 pub loop-all-yes : AllYes loop

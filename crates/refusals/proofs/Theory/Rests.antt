@@ -14,7 +14,9 @@ use Rattle.tokens.specs.Words as word
 use Rattle.tokens.proofs.Theory.WordsLaws.{not-word}
 use Rattle.grammar.proofs.Theory.Sound.{pick-case}
 use Rattle.refusals.proofs.Theory.Basics.{head-same, tail-same, not-nil, clash, or-case, and-true}
-use Rattle.refusals.specs.Sentences.{Name, NamedCondition, NamedStatement, NamedElse, NamedBlock, _followedBy_, Entry, NamedMacro, conditionThen, statementThen, elseThen, blockThen, namesThen, entryThen, entriesThen, functionsThen, namedSentence, Sentence, Viable}
+use Rattle.refusals.specs.Sentences.{Name, NamedCondition, NamedStatement, NamedElse, NamedBlock, _followedBy_, Entry, NamedMacro, conditionThen}
+use Rattle.refusals.specs.Sentences.{statementThen, elseThen, blockThen, namesThen, entryThen, entriesThen, functionsThen, namedSentence, Sentence}
+use Rattle.refusals.specs.Sentences.{Viable}
 
 -- What is still to come.
 pub data Rest : Type 0 where
@@ -57,7 +59,8 @@ take (arguments r) k =
     pick (eqb k word.rparenKey) (λ _. took (token word.semicolonKey r))
     λ _. pick (eqb k word.commaKey) (λ _. took (name (token word.rparenKey (token word.semicolonKey r)))) λ _. stuck
 take (names e) k = pick (isName k) (λ _. took (names true)) λ _. pick (eqb k word.semicolonKey && e) (λ _. took line) λ _. stuck
-take (entries e) k = pick (isName k) (λ _. took (token word.slashKey (digit (entries true)))) λ _. pick (eqb k word.semicolonKey && e) (λ _. took (outside false)) λ _. stuck
+take (entries e) k = pick (isName k) (λ _. took (token word.slashKey (digit (entries true)))) λ _. pick (eqb k word.semicolonKey && e)
+    (λ _. took (outside false)) λ _. stuck
 take line k = pick (eqb k word.funsKey) (λ _. took (entries false)) λ _. begin false k (outside false) (outside true)
 take (inside e r) k = pick (eqb k word.rbraceKey) (λ _. took r) λ _. begin e k (inside false r) (inside true r)
 take (outside e) k = begin e k (outside false) (outside true)
@@ -191,25 +194,32 @@ allowed-true true o h = tt
 allowed-true false o h = absurd (clash h refl)
 
 -- `{`, a block, `}`, and the rest
-braced : (r : Rest) (ws : List ℕ) → Means (token word.lbraceKey (inside false r)) ws → (b : NamedBlock) × (vs : List ℕ) × (ws ≡ word.lbraceKey ∷ blockThen b (word.rbraceKey ∷ vs)) × Means r vs
+braced : (r : Rest) (ws : List ℕ) → Means (token word.lbraceKey (inside false r)) ws
+    → (b : NamedBlock) × (vs : List ℕ) × (ws ≡ word.lbraceKey ∷ blockThen b (word.rbraceKey ∷ vs)) × Means r vs
 braced r ws (x, h, (NamedElse.absent, b, y, a, g, (z, f, m))) = (b, z, rw (h, g, f), m)
 braced r ws (x, h, (NamedElse.present c, b, y, a, g, (z, f, m))) = absurd a
 
-module _ (T : List ℕ → Type 0) (r q : Rest) (into : (ws : List ℕ) → Means r ws → Body false T ws) (into-else : (ws : List ℕ) → Means q ws → Body true T ws) (e : Bool) (k : ℕ) where
+module _ (T : List ℕ → Type 0) (r q : Rest) (into : (ws : List ℕ) → Means r ws → Body false T ws) (into-else : (ws : List ℕ) → Means q ws → Body true T ws)
+    (e : Bool) (k : ℕ) where
   name-put : (ws : List ℕ) → isName k ≡ true → Means (token word.becomesKey (name (value r))) ws → Body e T (k ∷ ws)
-  name-put ws t (x, h, (b, y, g, (v, z, f, m))) = let a : Name = record { key = k; real = t } in prefixed T e (assigned a b v) (k ∷ ws) z (rw (h, g, f) (sym (assigned-tokens a b v z))) (into z m)
+  name-put ws t (x, h, (b, y, g, (v, z, f, m))) = let a : Name = record { key = k; real = t } in
+      prefixed T e (assigned a b v) (k ∷ ws) z (rw (h, g, f) (sym (assigned-tokens a b v z))) (into z m)
 
   skip-put : (ws : List ℕ) → k ≡ word.skipKey → Means (token word.semicolonKey r) ws → Body e T (k ∷ ws)
   skip-put ws t (x, h, m) = prefixed T e NamedStatement.skip (k ∷ ws) x (rw (t, h)) (into x m)
 
-  tested-put : (ws : List ℕ) → (k ≡ word.assumeKey) ⊎ (k ≡ word.assertKey) → (c : NamedCondition) × (vs : List ℕ) × (ws ≡ conditionThen c vs) × Means (token word.semicolonKey r) vs → Body e T (k ∷ ws)
+  tested-put : (ws : List ℕ) → (k ≡ word.assumeKey) ⊎ (k ≡ word.assertKey)
+      → (c : NamedCondition) × (vs : List ℕ) × (ws ≡ conditionThen c vs) × Means (token word.semicolonKey r) vs → Body e T (k ∷ ws)
   tested-put ws (inl t) (c, x, h, (y, g, m)) = prefixed T e (NamedStatement.assume c) (k ∷ ws) y (rw (t, h, g)) (into y m)
   tested-put ws (inr t) (c, x, h, (y, g, m)) = prefixed T e (NamedStatement.assert c) (k ∷ ws) y (rw (t, h, g)) (into y m)
 
-  if-put : (ws : List ℕ) (c : NamedCondition) (b : NamedBlock) (x y : List ℕ) → k ≡ word.ifKey → ws ≡ conditionThen c x → x ≡ word.lbraceKey ∷ blockThen b (word.rbraceKey ∷ y) → Body true T y → Body e T (k ∷ ws)
-  if-put ws c b x y t h g (o, d, z, a, f, m) = prefixed T e (NamedStatement.if c b o) (k ∷ ws) (blockThen d z) (rw (t, h, g, f)) (NamedElse.absent, d, z, tt, refl, m)
+  if-put : (ws : List ℕ) (c : NamedCondition) (b : NamedBlock) (x y : List ℕ) → k ≡ word.ifKey → ws ≡ conditionThen c x
+      → x ≡ word.lbraceKey ∷ blockThen b (word.rbraceKey ∷ y) → Body true T y → Body e T (k ∷ ws)
+  if-put ws c b x y t h g (o, d, z, a, f, m) =
+      prefixed T e (NamedStatement.if c b o) (k ∷ ws) (blockThen d z) (rw (t, h, g, f)) (NamedElse.absent, d, z, tt, refl, m)
 
-  else-put : (ws : List ℕ) (b : NamedBlock) (y : List ℕ) → k ≡ word.elseKey → e ≡ true → ws ≡ word.lbraceKey ∷ blockThen b (word.rbraceKey ∷ y) → (d : NamedBlock) × (vs : List ℕ) × (y ≡ blockThen d vs) × T vs → Body e T (k ∷ ws)
+  else-put : (ws : List ℕ) (b : NamedBlock) (y : List ℕ) → k ≡ word.elseKey → e ≡ true → ws ≡ word.lbraceKey ∷ blockThen b (word.rbraceKey ∷ y)
+      → (d : NamedBlock) × (vs : List ℕ) × (y ≡ blockThen d vs) × T vs → Body e T (k ∷ ws)
   else-put ws b y t u h (d, z, g, m) = (NamedElse.present b, d, z, allowed-true e (NamedElse.present b) u, rw (t, h, g), m)
 
   begun : (l : Rest) (ws : List ℕ) → begin e k r q ≡ took l → Means l ws → Body e T (k ∷ ws)
@@ -224,7 +234,8 @@ module _ (T : List ℕ → Type 0) (r q : Rest) (into : (ws : List ℕ) → Mean
       let (b, y, j, w) = braced q x n in if-put ws c b x y (eqb-true k word.ifKey t) i j (into-else y w))
       λ _ h. pick-case (eqb k word.whileKey) _ _ _ h
       (λ t g. let (c, x, i, n) = condition-of (token word.lbraceKey (inside false r)) ws (left ws g m) in
-      let (b, y, j, w) = braced r x n in prefixed T e (NamedStatement.while c b) (k ∷ ws) y (spelled-while c b ws x y (eqb-true k word.whileKey t) i j) (into y w))
+      let (b, y, j, w) = braced r x n in
+      prefixed T e (NamedStatement.while c b) (k ∷ ws) y (spelled-while c b ws x y (eqb-true k word.whileKey t) i j) (into y w))
       λ _ h. pick-case (eqb k word.elseKey && e) _ _ _ h
       (λ t g. let (b, y, j, w) = braced r ws (left ws g m) in
       let (f, u) = and-true (eqb k word.elseKey) e t in else-put ws b y (eqb-true k word.elseKey f) u j (plainly T y (into y w)))
@@ -234,7 +245,8 @@ module _ (T : List ℕ → Type 0) (r q : Rest) (into : (ws : List ℕ) → Mean
       assume-or-assert (inl u) = inl (eqb-true k word.assumeKey u)
       assume-or-assert (inr u) = inr (eqb-true k word.assertKey u)
 
-      spelled-while : (c : NamedCondition) (b : NamedBlock) (ws x y : List ℕ) → k ≡ word.whileKey → ws ≡ conditionThen c x → x ≡ word.lbraceKey ∷ blockThen b (word.rbraceKey ∷ y) → k ∷ ws ≡ statementThen (NamedStatement.while c b) y
+      spelled-while : (c : NamedCondition) (b : NamedBlock) (ws x y : List ℕ) → k ≡ word.whileKey → ws ≡ conditionThen c x
+          → x ≡ word.lbraceKey ∷ blockThen b (word.rbraceKey ∷ y) → k ∷ ws ≡ statementThen (NamedStatement.while c b) y
       spelled-while c b ws x y t h g = rw (t, h, g)
 
 sign-of : (k : ℕ) → eqb k word.equalKey || eqb k word.unequalKey ≡ true → (q : Bool) × (k ≡ signToken q)
@@ -271,7 +283,8 @@ entry-tokens false f ws = refl
 value-put : (k : ℕ) (r : Rest) (ws : List ℕ) → k ≡ word.lparenKey → Means (name (arguments r)) ws → Means (value r) (k ∷ ws)
 value-put k r ws t (b, x, h, (v, y, g, m)) = (applied b v, y, rw (t, h, g), m)
 
-second-put : (k : ℕ) (r : Rest) (ws : List ℕ) → k ≡ word.commaKey → Means (name (token word.rparenKey (token word.semicolonKey r))) ws → Means (arguments r) (k ∷ ws)
+second-put : (k : ℕ) (r : Rest) (ws : List ℕ) → k ≡ word.commaKey → Means (name (token word.rparenKey (token word.semicolonKey r))) ws
+    → Means (arguments r) (k ∷ ws)
 second-put k r ws t (c, x, h, (y, g, (z, f, m))) = (second c, z, rw (t, h, g, f), m)
 
 last-put : (k : ℕ) (r : Rest) (ws : List ℕ) → k ≡ word.rparenKey → Means (token word.semicolonKey r) ws → Means (arguments r) (k ∷ ws)
@@ -282,7 +295,8 @@ names-put e k ws t (ks, x, o, h, m) = let a : Name = record { key = k; real = t 
 
 entries-put : (e : Bool) (k : ℕ) (ws : List ℕ) → isName k ≡ true → Means (token word.slashKey (digit (entries true))) ws → Means (entries e) (k ∷ ws)
 entries-put e k ws t (x, h, (q, y, g, (fs, z, o, f, m))) =
-    let a : Name = record { key = k; real = t } in (entryOf q a ∷ fs, z, some-one e (entryOf q a) fs, rw (h, g, f) (sym (entry-tokens q a (entriesThen fs (word.semicolonKey ∷ z)))), m)
+    let a : Name = record { key = k; real = t } in
+    (entryOf q a ∷ fs, z, some-one e (entryOf q a) fs, rw (h, g, f) (sym (entry-tokens q a (entriesThen fs (word.semicolonKey ∷ z)))), m)
 
 line-put : (k : ℕ) (ws : List ℕ) → k ≡ word.funsKey → Means (entries false) ws → Line (k ∷ ws)
 line-put k ws t ([], x, o, h, m) = absurd o
@@ -318,7 +332,8 @@ take-put line k l ws h m =
     pick-case (eqb k word.funsKey) _ _ _ h (λ t g. line-put k ws (eqb-true k word.funsKey t) (left ws g m))
     λ _ g. ([], k ∷ ws, refl, begun Nothing (outside false) (outside true) (λ _ n. n) (λ _ n. n) false k l ws g m)
 take-put (inside e r) k l ws h m =
-    pick-case (eqb k word.rbraceKey) _ _ _ h (λ t g. (NamedElse.absent, NamedBlock.empty, k ∷ ws, allowed-absent e, refl, (ws, ap (λ k. k ∷ ws) (eqb-true k word.rbraceKey t), left ws g m)))
+    pick-case (eqb k word.rbraceKey) _ _ _ h
+    (λ t g. (NamedElse.absent, NamedBlock.empty, k ∷ ws, allowed-absent e, refl, (ws, ap (λ k. k ∷ ws) (eqb-true k word.rbraceKey t), left ws g m)))
     λ _ g. begun (λ vs. (us : List ℕ) × (vs ≡ word.rbraceKey ∷ us) × Means r us) (inside false r) (inside true r) (λ _ n. n) (λ _ n. n) e k l ws g m
 take-put (outside e) k l ws h m = begun Nothing (outside false) (outside true) (λ _ n. n) (λ _ n. n) e k l ws h m
 
@@ -335,7 +350,8 @@ compared (NamedCondition.equal a b) r ws m = (a, _, refl, (true, _, refl, (b, ws
 compared (NamedCondition.unequal a b) r ws m = (a, _, refl, (false, _, refl, (b, ws, refl, m)))
 
 -- f takes the first token of a body: as begin does, or stops as T says
-module _ (T : List ℕ → Type 0) (r q : Rest) (out : (ws : List ℕ) → Body false T ws → Means r ws) (out-else : (ws : List ℕ) → Body true T ws → Means q ws) (f : ℕ → Took)
+module _ (T : List ℕ → Type 0) (r q : Rest) (out : (ws : List ℕ) → Body false T ws → Means r ws) (out-else : (ws : List ℕ) → Body true T ws → Means q ws)
+    (f : ℕ → Took)
     (stop : (k : ℕ) (ws : List ℕ) → T (k ∷ ws) → Taken (f k) ws) where
   abbrev Agrees : Bool → Type 0
   Agrees e = (j : ℕ) → eqb j word.rbraceKey ≡ false → eqb j word.funsKey ≡ false → f j ≡ begin e j r q
@@ -346,39 +362,83 @@ module _ (T : List ℕ → Type 0) (r q : Rest) (out : (ws : List ℕ) → Body 
   body-taken : (e : Bool) → Agrees e → (o : NamedElse) (b : NamedBlock) (k : ℕ) (ws vs : List ℕ)
       → Allowed e o → k ∷ ws ≡ elseThen o (blockThen b vs) → T vs → Taken (f k) ws
   body-taken e agree NamedElse.absent NamedBlock.empty k ws vs a h t = stop k ws (subst T (sym h) t)
-  body-taken e agree NamedElse.absent (NamedStatement.skip followedBy b) k ws vs a h t = shift f k word.skipKey ws _ h (token word.semicolonKey r, agree word.skipKey refl refl, (_, refl, out _ (NamedElse.absent, b, vs, tt, refl, t)))
+  body-taken e agree NamedElse.absent (NamedStatement.skip followedBy b) k ws vs a h t =
+      shift f k word.skipKey ws _ h (token word.semicolonKey r, agree word.skipKey refl refl, (_, refl, out _ (NamedElse.absent, b, vs, tt, refl, t)))
   body-taken e agree NamedElse.absent (NamedStatement.copy x y followedBy b) k ws vs a h t =
-      shift f k (x .key) ws _ h (token word.becomesKey (name (value r)), name-taken e agree x, (_, refl, (y, _, refl, (register, _, refl, out _ (NamedElse.absent, b, vs, tt, refl, t)))))
+      shift f k (x .key) ws _ h (
+        token word.becomesKey (name (value r)),
+        name-taken e agree x,
+        (_, refl, (y, _, refl, (register, _, refl, out _ (NamedElse.absent, b, vs, tt, refl, t)))),
+      )
   body-taken e agree NamedElse.absent (NamedStatement.apply x g y followedBy b) k ws vs a h t =
-      shift f k (x .key) ws _ h (token word.becomesKey (name (value r)), name-taken e agree x, (_, refl, (g, _, refl, (applied y last, _, refl, out _ (NamedElse.absent, b, vs, tt, refl, t)))))
+      shift f k (x .key) ws _ h (
+        token word.becomesKey (name (value r)),
+        name-taken e agree x,
+        (_, refl, (g, _, refl, (applied y last, _, refl, out _ (NamedElse.absent, b, vs, tt, refl, t)))),
+      )
   body-taken e agree NamedElse.absent (NamedStatement.apply-two x g y z followedBy b) k ws vs a h t =
-      shift f k (x .key) ws _ h (token word.becomesKey (name (value r)), name-taken e agree x, (_, refl, (g, _, refl, (applied y (second z), _, refl, out _ (NamedElse.absent, b, vs, tt, refl, t)))))
-  body-taken e agree NamedElse.absent (NamedStatement.assume c followedBy b) k ws vs a h t = shift f k word.assumeKey ws _ h (name (sign (name (token word.semicolonKey r))), agree word.assumeKey refl refl, compared c (token word.semicolonKey r) _ (_, refl, out _ (NamedElse.absent, b, vs, tt, refl, t)))
-  body-taken e agree NamedElse.absent (NamedStatement.assert c followedBy b) k ws vs a h t = shift f k word.assertKey ws _ h (name (sign (name (token word.semicolonKey r))), agree word.assertKey refl refl, compared c (token word.semicolonKey r) _ (_, refl, out _ (NamedElse.absent, b, vs, tt, refl, t)))
+      shift f k (x .key) ws _ h (
+        token word.becomesKey (name (value r)),
+        name-taken e agree x,
+        (_, refl, (g, _, refl, (applied y (second z), _, refl, out _ (NamedElse.absent, b, vs, tt, refl, t)))),
+      )
+  body-taken e agree NamedElse.absent (NamedStatement.assume c followedBy b) k ws vs a h t =
+      shift f k word.assumeKey ws _ h (
+        name (sign (name (token word.semicolonKey r))),
+        agree word.assumeKey refl refl,
+        compared c (token word.semicolonKey r) _
+            (_, refl, out _ (NamedElse.absent, b, vs, tt, refl, t)),
+      )
+  body-taken e agree NamedElse.absent (NamedStatement.assert c followedBy b) k ws vs a h t =
+      shift f k word.assertKey ws _ h (
+        name (sign (name (token word.semicolonKey r))),
+        agree word.assertKey refl refl,
+        compared c (token word.semicolonKey r) _
+            (_, refl, out _ (NamedElse.absent, b, vs, tt, refl, t)),
+      )
   body-taken e agree NamedElse.absent (NamedStatement.if c x o followedBy b) k ws vs a h t =
-      shift f k word.ifKey ws _ h (name (sign (name (token word.lbraceKey (inside false q)))), agree word.ifKey refl refl, compared c (token word.lbraceKey (inside false q)) _ (_, refl, (NamedElse.absent, x, _, tt, refl, (_, refl, out-else _ (o, b, vs, tt, refl, t)))))
+      shift f k word.ifKey ws _ h (
+        name (sign (name (token word.lbraceKey (inside false q)))),
+        agree word.ifKey refl refl,
+        compared c
+            (token word.lbraceKey (inside false q)) _ (_, refl, (NamedElse.absent, x, _, tt, refl, (_, refl, out-else _ (o, b, vs, tt, refl, t)))),
+      )
   body-taken e agree NamedElse.absent (NamedStatement.while c x followedBy b) k ws vs a h t =
-      shift f k word.whileKey ws _ h (name (sign (name (token word.lbraceKey (inside false r)))), agree word.whileKey refl refl, compared c (token word.lbraceKey (inside false r)) _ (_, refl, (NamedElse.absent, x, _, tt, refl, (_, refl, out _ (NamedElse.absent, b, vs, tt, refl, t)))))
+      shift f k word.whileKey ws _ h (
+        name (sign (name (token word.lbraceKey (inside false r)))),
+        agree word.whileKey refl refl,
+        compared c
+            (token word.lbraceKey (inside false r)) _ (_, refl, (NamedElse.absent, x, _, tt, refl, (_, refl, out _ (NamedElse.absent, b, vs, tt, refl, t)))),
+      )
   body-taken true agree (NamedElse.present x) b k ws vs a h t =
-      shift f k word.elseKey ws _ h (token word.lbraceKey (inside false r), agree word.elseKey refl refl, (_, refl, (NamedElse.absent, x, _, tt, refl, (_, refl, out _ (NamedElse.absent, b, vs, tt, refl, t)))))
+      shift f k word.elseKey ws _ h (
+        token word.lbraceKey (inside false r),
+        agree word.elseKey refl refl,
+        (_, refl, (NamedElse.absent, x, _, tt, refl, (_, refl, out _ (NamedElse.absent, b, vs, tt, refl, t)))),
+      )
   body-taken false agree (NamedElse.present x) b k ws vs a h t = absurd a
 
 outer-taken : (e : Bool) (k : ℕ) (ws : List ℕ) → Body e Nothing (k ∷ ws) → Taken (take (outside e) k) ws
 outer-taken e k ws (o, b, vs, a, h, t) =
-    body-taken Nothing (outside false) (outside true) (λ _ m. m) (λ _ m. m) (take (outside e)) (λ k ws n. absurd (not-nil n)) e (λ j x y. refl) o b k ws vs a h t
+    body-taken Nothing (outside false) (outside true) (λ _ m. m) (λ _ m. m) (take (outside e)) (λ k ws n. absurd (not-nil n)) e
+    (λ j x y. refl) o b k ws vs a h t
 
 inner-taken : (e : Bool) (r : Rest) (k : ℕ) (ws : List ℕ) → Means (inside e r) (k ∷ ws) → Taken (take (inside e r) k) ws
 inner-taken e r k ws (o, b, vs, a, h, t) =
     body-taken (λ vs. (us : List ℕ) × (vs ≡ word.rbraceKey ∷ us) × Means r us) (inside false r) (inside true r) (λ _ m. m) (λ _ m. m) (take (inside e r))
     (λ k ws (us, n, m). shift (take (inside e r)) k word.rbraceKey ws us n (r, refl, m)) e (λ j x y. rw x) o b k ws vs a h t
 
-entry-taken : (e : Bool) (f : Entry) (fs : List Entry) (vs : List ℕ) → Body false Nothing vs → (k : ℕ) (ws : List ℕ) → k ∷ ws ≡ entriesThen (f ∷ fs) (word.semicolonKey ∷ vs) → Taken (take (entries e) k) ws
-entry-taken e (Entry.one f) fs vs m k ws h = shift (take (entries e)) k (f .key) ws _ h (token word.slashKey (digit (entries true)), rw (f .real), (_, refl, (true, _, refl, (fs, vs, tt, refl, m))))
-entry-taken e (Entry.two f) fs vs m k ws h = shift (take (entries e)) k (f .key) ws _ h (token word.slashKey (digit (entries true)), rw (f .real), (_, refl, (false, _, refl, (fs, vs, tt, refl, m))))
+entry-taken : (e : Bool) (f : Entry) (fs : List Entry) (vs : List ℕ) → Body false Nothing vs → (k : ℕ) (ws : List ℕ)
+    → k ∷ ws ≡ entriesThen (f ∷ fs) (word.semicolonKey ∷ vs) → Taken (take (entries e) k) ws
+entry-taken e (Entry.one f) fs vs m k ws h =
+    shift (take (entries e)) k (f .key) ws _ h (token word.slashKey (digit (entries true)), rw (f .real), (_, refl, (true, _, refl, (fs, vs, tt, refl, m))))
+entry-taken e (Entry.two f) fs vs m k ws h =
+    shift (take (entries e)) k (f .key) ws _ h (token word.slashKey (digit (entries true)), rw (f .real), (_, refl, (false, _, refl, (fs, vs, tt, refl, m))))
 
 line-taken : (k : ℕ) (ws : List ℕ) → Line (k ∷ ws) → Taken (take line k) ws
 line-taken k ws ([], xs, g, (o, b, vs, a, h, t)) =
-    body-taken Nothing (outside false) (outside true) (λ _ m. m) (λ _ m. m) (take line) (λ k ws n. absurd (not-nil n)) false (λ j x y. rw y) o b k ws vs a (g ∙ h) t
+    body-taken Nothing (outside false) (outside true) (λ _ m. m) (λ _ m. m) (take line) (λ k ws n. absurd (not-nil n)) false (λ j x y. rw y) o b k ws vs a
+    (g ∙ h) t
 line-taken k ws (f ∷ fs, vs, h, m) = shift (take line) k word.funsKey ws _ h (entries false, refl, (f ∷ fs, vs, tt, refl, m))
 
 token-taken : (r : Rest) (k : ℕ) (ws : List ℕ) → Means r (k ∷ ws) → Taken (take r k) ws
@@ -391,7 +451,8 @@ token-taken (digit r) k ws (false, vs, h, m) = shift (take (digit r)) k word.two
 token-taken (value r) k ws (register, vs, h, m) = shift (take (value r)) k word.semicolonKey ws vs h (r, refl, m)
 token-taken (value r) k ws (applied b v, vs, h, m) = shift (take (value r)) k word.lparenKey ws _ h (name (arguments r), refl, (b, _, refl, (v, vs, refl, m)))
 token-taken (arguments r) k ws (last, vs, h, m) = shift (take (arguments r)) k word.rparenKey ws _ h (token word.semicolonKey r, refl, (vs, refl, m))
-token-taken (arguments r) k ws (second c, vs, h, m) = shift (take (arguments r)) k word.commaKey ws _ h (name (token word.rparenKey (token word.semicolonKey r)), refl, (c, _, refl, (_, refl, (vs, refl, m))))
+token-taken (arguments r) k ws (second c, vs, h, m) =
+    shift (take (arguments r)) k word.commaKey ws _ h (name (token word.rparenKey (token word.semicolonKey r)), refl, (c, _, refl, (_, refl, (vs, refl, m))))
 token-taken (names true) k ws ([], vs, o, h, m) = shift (take (names true)) k word.semicolonKey ws vs h (line, refl, m)
 token-taken (names false) k ws ([], vs, o, h, m) = absurd o
 token-taken (names e) k ws (a ∷ ks, vs, o, h, m) = shift (take (names e)) k (a .key) ws _ h (names true, rw (a .real), (ks, vs, tt, refl, m))
@@ -481,8 +542,10 @@ finished (sign r) = let (ws, m) = finished r in (word.equalKey ∷ ws, (true, ws
 finished (digit r) = let (ws, m) = finished r in (word.oneKey ∷ ws, (true, ws, refl, m))
 finished (value r) = let (ws, m) = finished r in (word.semicolonKey ∷ ws, (register, ws, refl, m))
 finished (arguments r) = let (ws, m) = finished r in (word.rparenKey ∷ word.semicolonKey ∷ ws, (last, ws, refl, m))
-finished (names e) = let (ks, o) = some-names e in (namesThen ks (word.semicolonKey ∷ []), (ks, [], o, refl, ([], [], refl, (NamedElse.absent, NamedBlock.empty, [], tt, refl, refl))))
-finished (entries e) = let (fs, o) = some-entries e in (entriesThen fs (word.semicolonKey ∷ []), (fs, [], o, refl, (NamedElse.absent, NamedBlock.empty, [], tt, refl, refl)))
+finished (names e) = let (ks, o) = some-names e in
+    (namesThen ks (word.semicolonKey ∷ []), (ks, [], o, refl, ([], [], refl, (NamedElse.absent, NamedBlock.empty, [], tt, refl, refl))))
+finished (entries e) = let (fs, o) = some-entries e in
+    (entriesThen fs (word.semicolonKey ∷ []), (fs, [], o, refl, (NamedElse.absent, NamedBlock.empty, [], tt, refl, refl)))
 finished line = ([], ([], [], refl, (NamedElse.absent, NamedBlock.empty, [], tt, refl, refl)))
 finished (inside e r) = let (ws, m) = finished r in (word.rbraceKey ∷ ws, (NamedElse.absent, NamedBlock.empty, _, allowed-absent e, refl, (ws, refl, m)))
 finished (outside e) = ([], (NamedElse.absent, NamedBlock.empty, [], allowed-absent e, refl, refl))
@@ -506,7 +569,8 @@ run-more r [] k = one-more (take r k)
     one-more stuck = refl
 run-more r (j ∷ ks) k = go (take r j) λ q. run-more q ks k
   where
-    go : (t : Took) → ((q : Rest) → run q (ks ++ k ∷ []) ≡ onTook (run q ks) λ p. take p k) → onTook t (λ q. run q (ks ++ k ∷ [])) ≡ onTook (onTook t λ q. run q ks) λ p. take p k
+    go : (t : Took) → ((q : Rest) → run q (ks ++ k ∷ []) ≡ onTook (run q ks) λ p. take p k)
+        → onTook t (λ q. run q (ks ++ k ∷ [])) ≡ onTook (onTook t λ q. run q ks) λ p. take p k
     go (took q) ih = ih q
     go stuck ih = refl
 
@@ -528,7 +592,8 @@ run-taken (k ∷ ks) r ws m = let (q, h, n) = token-taken r k (ks ++ ws) m in le
 
 start-sentence : (ws : List ℕ) → Means start ws → Sentence ws
 start-sentence ws (x, h, ([], y, o, g, m)) = absurd o
-start-sentence ws (x, h, (a ∷ ks, y, o, g, (fs, z, f, (NamedElse.absent, b, us, p, i, j)))) = record { macro = record { first = a; others = ks; entries = fs; body = b }; spelled = rw (h, g, f, i, j) }
+start-sentence ws (x, h, (a ∷ ks, y, o, g, (fs, z, f, (NamedElse.absent, b, us, p, i, j)))) =
+    record { macro = record { first = a; others = ks; entries = fs; body = b }; spelled = rw (h, g, f, i, j) }
 start-sentence ws (x, h, (a ∷ ks, y, o, g, (fs, z, f, (NamedElse.present c, b, us, p, i, j)))) = absurd p
 
 sentence-start : (m : NamedMacro) → Means start (namedSentence m)
@@ -536,7 +601,8 @@ sentence-start m = (_, refl, (m .first ∷ m .others, _, tt, refl, (m .entries, 
 
 -- What can be taken begins a sentence, and what begins one can be taken.
 pub run-viable : (ks : List ℕ) (r : Rest) → run start ks ≡ took r → Viable ks
-run-viable ks r h = let (ws, m) = finished r in let S = start-sentence (ks ++ ws) (run-put ks start r ws h m) in record { macro = S .macro; further = ws; spelled = S .spelled }
+run-viable ks r h = let (ws, m) = finished r in let S = start-sentence (ks ++ ws) (run-put ks start r ws h m) in
+    record { macro = S .macro; further = ws; spelled = S .spelled }
 
 pub viable-run : (ks : List ℕ) → Viable ks → (r : Rest) × (run start ks ≡ took r)
 viable-run ks F = let (r, h, m) = run-taken ks start (F .further) (subst (Means start) (F .spelled) (sentence-start (F .macro))) in (r, h)

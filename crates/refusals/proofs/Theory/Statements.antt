@@ -49,21 +49,30 @@ begin-plain : (e : Bool) (k : ℕ) (r q : Rest) → eqb k word.elseKey && e ≡ 
 begin-plain e k r q h = rw (h, and-false (eqb k word.elseKey))
 
 pub stands : (l : Level) (e : Bool) (k : ℕ) → eqb k word.elseKey && e ≡ false → Stands l (state l e) k
-stands (within r) e k h = record { opens = λ c. rw (or-false (eqb k word.rbraceKey) (eqb k 0) c .0) (begin-plain e k (inside false r) (inside true r) h); shuts = refl; ends = refl }
+stands (within r) e k h = record {
+  opens =
+      λ c. rw (or-false (eqb k word.rbraceKey) (eqb k 0) c .0) (begin-plain e k (inside false r) (inside true r) h);
+  shuts = refl;
+  ends = refl;
+}
 stands outermost e k h = record { opens = λ c. begin-plain e k (outside false) (outside true) h; shuts = refl; ends = refl }
 
 module _ (s rs fs ns : List ℕ) (F : Declared fs) (Y : Arities fs ns) where
   -- behind a statement, and behind a block
   abbrev AfterStatement : Level → ℕ → ℕ → Type 0
-  AfterStatement l d e = (j : ℕ) × (y : ℕ) × (f : Bool) × (y ≡ word.becomesKey → ⊥) × (eqb (keyAt s e) word.elseKey && f ≡ false) × In s rs fs ns j d e y (state l f)
+  AfterStatement l d e = (j : ℕ) × (y : ℕ) × (f : Bool) × (y ≡ word.becomesKey → ⊥) × (eqb (keyAt s e) word.elseKey && f ≡ false)
+      × In s rs fs ns j d e y (state l f)
 
   abbrev pub AfterBlock : Level → ℕ → ℕ → Type 0
-  AfterBlock l d e = (j : ℕ) × (y : ℕ) × (b : Rest) × (y ≡ word.becomesKey → ⊥) × (take b word.rbraceKey ≡ shut l) × (complete b ≡ outer l) × (eqb (keyAt s e) word.rbraceKey || eqb (keyAt s e) 0 ≡ true) × In s rs fs ns j d e y b
+  AfterBlock l d e = (j : ℕ) × (y : ℕ) × (b : Rest) × (y ≡ word.becomesKey → ⊥) × (take b word.rbraceKey ≡ shut l) × (complete b ≡ outer l)
+      × (eqb (keyAt s e) word.rbraceKey || eqb (keyAt s e) 0 ≡ true) × In s rs fs ns j d e y b
 
   finished : (l : Level) (d e j y : ℕ) → (y ≡ word.becomesKey → ⊥) → In s rs fs ns j d e y (state l false) → AfterStatement l d e
   finished l d e j y n I = (j, y, false, n, and-false (eqb (keyAt s e) word.elseKey), I)
 
-  module _ (inner : ℕ → ℕ → Got Block) (judge : (l : Level) (d at i x : ℕ) (b : Rest) → In s rs fs ns i d at x b → (x ≡ word.becomesKey → ⊥) → Stands l b (keyAt s at) → JudgedReading s Block (λ _ e. AfterBlock l d e) (inner d at)) where
+  module _ (inner : ℕ → ℕ → Got Block)
+      (judge : (l : Level) (d at i x : ℕ) (b : Rest) → In s rs fs ns i d at x b → (x ≡ word.becomesKey → ⊥) → Stands l b (keyAt s at)
+      → JudgedReading s Block (λ _ e. AfterBlock l d e) (inner d at)) where
     open-right : {before : List ℕ} {k next : ℕ} → k ≡ word.lbraceKey → Misused before k next → ⊥
     open-right h (Misused.register J t x y) = clash (sym (ap isName h) ∙ t) refl
     open-right h (Misused.function J t x y) = clash (sym (ap isName h) ∙ t) refl
@@ -77,42 +86,58 @@ module _ (s rs fs ns : List ℕ) (F : Declared fs) (Y : Arities fs ns) where
     close-right h (Misused.fewer-arguments J c t e) = omega arith
 
     -- `{`
-    open-on : {i d at x : ℕ} (r : Rest) → In s rs fs ns i (suc d) at x (token word.lbraceKey r) → keyAt s at ≡ word.lbraceKey → In s rs fs ns (suc i) d (tokenAt s at .end) (keyAt s at) r
+    open-on : {i d at x : ℕ} (r : Rest) → In s rs fs ns i (suc d) at x (token word.lbraceKey r) → keyAt s at ≡ word.lbraceKey
+        → In s rs fs ns (suc i) d (tokenAt s at .end) (keyAt s at) r
     open-on {i} {d} {at} r I k =
-        go-on s rs fs ns I r d (subst (λ k. 2 ≤ k) (sym k) (omega arith)) (ap (λ k. take (token word.lbraceKey r) k) k) (λ n. let z : word.lbraceKey ≡ word.funsKey = sym k ∙ n in omega arith) (open-right k)
+        go-on s rs fs ns I r d (subst (λ k. 2 ≤ k) (sym k) (omega arith)) (ap (λ k. take (token word.lbraceKey r) k) k)
+        (λ n. let z : word.lbraceKey ≡ word.funsKey = sym k ∙ n in omega arith) (open-right k)
         (λ D. let x = I .depth in let y = D .deep in omega arith)
-        (let x = I .depth in let a = count-more word.lbraceKey (tokensBefore s i) (keyAt s at) ∙ ap (λ k. occurrences word.lbraceKey (tokensBefore s i) + pick (eqb k word.lbraceKey) (λ _. 1) λ _. 0) k in
-        let b = count-more word.rbraceKey (tokensBefore s i) (keyAt s at) ∙ ap (λ k. occurrences word.rbraceKey (tokensBefore s i) + pick (eqb k word.rbraceKey) (λ _. 1) λ _. 0) k in omega arith)
+        (let x = I .depth in let a = count-more word.lbraceKey (tokensBefore s i) (keyAt s at)
+        ∙ ap (λ k. occurrences word.lbraceKey (tokensBefore s i) + pick (eqb k word.lbraceKey) (λ _. 1) λ _. 0) k in
+        let b = count-more word.rbraceKey (tokensBefore s i) (keyAt s at)
+        ∙ ap (λ k. occurrences word.rbraceKey (tokensBefore s i) + pick (eqb k word.rbraceKey) (λ _. 1) λ _. 0) k in omega arith)
 
     -- `}`
-    close-on : {i d at x : ℕ} (b r : Rest) → In s rs fs ns i d at x b → take b word.rbraceKey ≡ took r → keyAt s at ≡ word.rbraceKey → In s rs fs ns (suc i) (suc d) (tokenAt s at .end) word.rbraceKey r
+    close-on : {i d at x : ℕ} (b r : Rest) → In s rs fs ns i d at x b → take b word.rbraceKey ≡ took r → keyAt s at ≡ word.rbraceKey
+        → In s rs fs ns (suc i) (suc d) (tokenAt s at .end) word.rbraceKey r
     close-on {i} {d} {at} b r I h k =
         subst (λ k. In s rs fs ns (suc i) (suc d) (tokenAt s at .end) k r) k
-        (go-on s rs fs ns I r (suc d) (subst (λ k. 2 ≤ k) (sym k) (omega arith)) (ap (λ k. take b k) k ∙ h) (λ n. let z : word.rbraceKey ≡ word.funsKey = sym k ∙ n in omega arith) (close-right k)
+        (go-on s rs fs ns I r (suc d) (subst (λ k. 2 ≤ k) (sym k) (omega arith)) (ap (λ k. take b k) k ∙ h)
+        (λ n. let z : word.rbraceKey ≡ word.funsKey = sym k ∙ n in omega arith) (close-right k)
         (λ D. let z : word.rbraceKey ≡ word.lbraceKey = sym k ∙ D .brace in omega arith)
-        (let x = I .depth in let a = count-more word.lbraceKey (tokensBefore s i) (keyAt s at) ∙ ap (λ k. occurrences word.lbraceKey (tokensBefore s i) + pick (eqb k word.lbraceKey) (λ _. 1) λ _. 0) k in
-        let c = count-more word.rbraceKey (tokensBefore s i) (keyAt s at) ∙ ap (λ k. occurrences word.rbraceKey (tokensBefore s i) + pick (eqb k word.rbraceKey) (λ _. 1) λ _. 0) k in omega arith))
+        (let x = I .depth in let a = count-more word.lbraceKey (tokensBefore s i) (keyAt s at)
+        ∙ ap (λ k. occurrences word.lbraceKey (tokensBefore s i) + pick (eqb k word.lbraceKey) (λ _. 1) λ _. 0) k in
+        let c = count-more word.rbraceKey (tokensBefore s i) (keyAt s at)
+        ∙ ap (λ k. occurrences word.rbraceKey (tokensBefore s i) + pick (eqb k word.rbraceKey) (λ _. 1) λ _. 0) k in omega arith))
 
-    closed-judged : {A : Type 0} (a : A) (r : Rest) (d at : ℕ) → AfterBlock (within r) d at → JudgedReading s A (λ _ e. (j : ℕ) × In s rs fs ns j (suc d) e word.rbraceKey r) (ended s word.rbraceKey a at)
+    closed-judged : {A : Type 0} (a : A) (r : Rest) (d at : ℕ) → AfterBlock (within r) d at
+        → JudgedReading s A (λ _ e. (j : ℕ) × In s rs fs ns j (suc d) e word.rbraceKey r) (ended s word.rbraceKey a at)
     closed-judged a r d at (j, y, b, n, h, c, t, I) =
         judged-on {P = λ u e. In s rs fs ns (suc j) (suc d) e word.rbraceKey r} (expect s word.rbraceKey at) _
         (judged-pick (eqb (keyAt s at) word.rbraceKey) _ _ (λ u. fine (close-on b r I h (eqb-true (keyAt s at) word.rbraceKey u)))
-        λ u. unfit-judged s (I .standing) (record { end = λ _. c; token = λ z. absurd (z (eqb-true (keyAt s at) 0 (only (eqb (keyAt s at) word.rbraceKey) (eqb (keyAt s at) 0) u t))) }))
+        λ u. unfit-judged s (I .standing)
+        (record { end = λ _. c; token = λ z. absurd (z (eqb-true (keyAt s at) 0 (only (eqb (keyAt s at) word.rbraceKey) (eqb (keyAt s at) 0) u t))) }))
         λ u e _ J. fine (suc j, J)
       where
         only : (a b : Bool) → a ≡ false → a || b ≡ true → b ≡ true
         only true b h g = absurd (clash refl h)
         only false b h g = g
 
-    braces-judged : (d : ℕ) {i at x : ℕ} (r : Rest) → In s rs fs ns i d at x (token word.lbraceKey (inside false r)) → JudgedReading s Block (λ _ e. (j : ℕ) × In s rs fs ns j d e word.rbraceKey r) (bracesT s rs fs ns inner d (tokenAt s at))
+    braces-judged : (d : ℕ) {i at x : ℕ} (r : Rest) → In s rs fs ns i d at x (token word.lbraceKey (inside false r))
+        → JudgedReading s Block (λ _ e. (j : ℕ) × In s rs fs ns j d e word.rbraceKey r) (bracesT s rs fs ns inner d (tokenAt s at))
     braces-judged zero {i} {at} r I =
         judged-pick (eqb (keyAt s at) word.lbraceKey) _ _
-        (λ t. let k = eqb-true (keyAt s at) word.lbraceKey t in deep-judged s (I .standing) (ap (λ k. take (token word.lbraceKey (inside false r)) k) k) (record { brace = k; deep = let x = I .depth in omega arith }))
+        (λ t. let k = eqb-true (keyAt s at) word.lbraceKey t in
+        deep-judged s (I .standing) (ap (λ k. take (token word.lbraceKey (inside false r)) k) k)
+        (record { brace = k; deep = let x = I .depth in omega arith }))
         λ t. unfit-judged s (I .standing) (stuck-at (token word.lbraceKey (inside false r)) (keyAt s at) refl (rw t))
     braces-judged (suc d) {i} {at} r I =
         judged-pick (eqb (keyAt s at) word.lbraceKey) _ _
         (λ t. let k = eqb-true (keyAt s at) word.lbraceKey t in
-        judged-on (inner d (tokenAt s at .end)) _ (judge (within r) d (tokenAt s at .end) (suc i) (keyAt s at) (inside false r) (open-on (inside false r) I k) (λ n. let z : word.lbraceKey ≡ word.becomesKey = sym k ∙ n in omega arith) (stands (within r) false (keyAt s (tokenAt s at .end)) (and-false (eqb (keyAt s (tokenAt s at .end)) word.elseKey))))
+        judged-on (inner d (tokenAt s at .end)) _
+        (judge (within r) d (tokenAt s at .end) (suc i) (keyAt s at) (inside false r) (open-on (inside false r) I k)
+        (λ n. let z : word.lbraceKey ≡ word.becomesKey = sym k ∙ n in omega arith)
+        (stands (within r) false (keyAt s (tokenAt s at .end)) (and-false (eqb (keyAt s (tokenAt s at .end)) word.elseKey))))
         λ b e _ B. closed-judged b r d e B)
         λ t. unfit-judged s (I .standing) (stuck-at (token word.lbraceKey (inside false r)) (keyAt s at) refl (rw t))
 
@@ -121,50 +146,77 @@ module _ (s rs fs ns : List ℕ) (F : Declared fs) (Y : Arities fs ns) where
     else-taken (within r) = refl
     else-taken outermost = refl
 
-    else-judged : (l : Level) (d : ℕ) {i at : ℕ} → In s rs fs ns i d at word.rbraceKey (state l true) → JudgedReading s Else (λ _ e. AfterStatement l d e) (elseT s rs fs ns inner d at (tokenAt s at))
+    else-judged : (l : Level) (d : ℕ) {i at : ℕ} → In s rs fs ns i d at word.rbraceKey (state l true)
+        → JudgedReading s Else (λ _ e. AfterStatement l d e) (elseT s rs fs ns inner d at (tokenAt s at))
     else-judged l d {i} {at} I =
         judged-pick (eqb (keyAt s at) word.elseKey) _ _
         (λ t. let k = eqb-true (keyAt s at) word.elseKey t in
-        judged-on (bracesT s rs fs ns inner d (tokenAt s (tokenAt s at .end))) _ (braces-judged d (state l false) (steady-on s rs fs ns I word.elseKey (token word.lbraceKey (inside false (state l false))) k refl (ap (λ k. take (state l true) k) k ∙ else-taken l)))
+        judged-on (bracesT s rs fs ns inner d (tokenAt s (tokenAt s at .end))) _
+        (braces-judged d (state l false)
+        (steady-on s rs fs ns I word.elseKey (token word.lbraceKey (inside false (state l false))) k refl
+        (ap (λ k. take (state l true) k) k ∙ else-taken l)))
         λ b e _ (j, J). fine (finished l d e j word.rbraceKey (λ n. absurd (omega arith)) J))
         λ t. fine (i, word.rbraceKey, true, (λ n. absurd (omega arith)), rw t, I)
 
-    statement-judged-by : (l : Level) (d : ℕ) {i at x : ℕ} {b : Rest} → In s rs fs ns i d at x b → (x ≡ word.becomesKey → ⊥) → eqb (keyAt s at) word.rbraceKey || eqb (keyAt s at) 0 ≡ false → take b (keyAt s at) ≡ begin false (keyAt s at) (state l false) (state l true)
+    statement-judged-by : (l : Level) (d : ℕ) {i at x : ℕ} {b : Rest} → In s rs fs ns i d at x b → (x ≡ word.becomesKey → ⊥)
+        → eqb (keyAt s at) word.rbraceKey || eqb (keyAt s at) 0 ≡ false → take b (keyAt s at) ≡ begin false (keyAt s at) (state l false) (state l true)
         → JudgedReading s Statement (λ _ e. AfterStatement l d e) (statementT s rs fs ns inner d at (tokenAt s at))
     statement-judged-by l d {i} {at} {x} {b} I n c h =
         let r = state l false in
         let q = state l true in
         judged-pick (eqb (keyAt s at) word.skipKey) _ _
-        (λ t. judged-map (ended-judged s rs fs ns skip word.semicolonKey r (first-on word.skipKey (token word.semicolonKey r) t refl refl) refl refl (λ u. stuck-at (token word.semicolonKey r) (keyAt s (tokenAt s at .end)) refl (rw u))) λ _ e J. finished l d e (suc (suc i)) word.semicolonKey (λ m. absurd (omega arith)) J)
+        (λ t. judged-map (ended-judged s rs fs ns skip word.semicolonKey r (first-on word.skipKey (token word.semicolonKey r) t refl refl) refl refl
+        (λ u. stuck-at (token word.semicolonKey r) (keyAt s (tokenAt s at .end)) refl (rw u))) λ _ e J. finished l d e (suc (suc i)) word.semicolonKey
+        (λ m. absurd (omega arith)) J)
         λ t₁. judged-pick (eqb (keyAt s at) word.assumeKey) _ _
-        (λ t. judged-on (endedCondition s rs (tokenAt s at .end)) _ (tested-judged s rs fs ns r (first-on word.assumeKey (name (sign (name (token word.semicolonKey r)))) t refl refl) λ m. absurd (omega arith)) λ _ e _ (j, J). fine (finished l d e j word.semicolonKey (λ m. absurd (omega arith)) J))
+        (λ t. judged-on (endedCondition s rs (tokenAt s at .end)) _
+        (tested-judged s rs fs ns r (first-on word.assumeKey (name (sign (name (token word.semicolonKey r)))) t refl refl) λ m. absurd (omega arith))
+        λ _ e _ (j, J). fine (finished l d e j word.semicolonKey (λ m. absurd (omega arith)) J))
         λ t₂. judged-pick (eqb (keyAt s at) word.assertKey) _ _
-        (λ t. judged-on (endedCondition s rs (tokenAt s at .end)) _ (tested-judged s rs fs ns r (first-on word.assertKey (name (sign (name (token word.semicolonKey r)))) t refl refl) λ m. absurd (omega arith)) λ _ e _ (j, J). fine (finished l d e j word.semicolonKey (λ m. absurd (omega arith)) J))
+        (λ t. judged-on (endedCondition s rs (tokenAt s at .end)) _
+        (tested-judged s rs fs ns r (first-on word.assertKey (name (sign (name (token word.semicolonKey r)))) t refl refl) λ m. absurd (omega arith))
+        λ _ e _ (j, J). fine (finished l d e j word.semicolonKey (λ m. absurd (omega arith)) J))
         λ t₃. judged-pick (eqb (keyAt s at) word.ifKey) _ _
-        (λ t. judged-on (condition s rs (tokenAt s at .end)) _ (condition-judged s rs fs ns (token word.lbraceKey (inside false q)) (first-on word.ifKey (name (sign (name (token word.lbraceKey (inside false q))))) t refl refl) λ m. absurd (omega arith)) λ _ a _ (j, y, m, J).
+        (λ t. judged-on (condition s rs (tokenAt s at .end)) _
+        (condition-judged s rs fs ns (token word.lbraceKey (inside false q))
+        (first-on word.ifKey (name (sign (name (token word.lbraceKey (inside false q))))) t refl refl) λ m. absurd (omega arith)) λ _ a _ (j, y, m, J).
         judged-on (bracesT s rs fs ns inner d (tokenAt s a)) _ (braces-judged d q J) λ _ e _ (j₂, J₂).
         judged-on (elseT s rs fs ns inner d e (tokenAt s e)) _ (else-judged l d J₂) λ _ f _ A. fine A)
         λ t₄. judged-pick (eqb (keyAt s at) word.whileKey) _ _
-        (λ t. judged-on (condition s rs (tokenAt s at .end)) _ (condition-judged s rs fs ns (token word.lbraceKey (inside false r)) (first-on word.whileKey (name (sign (name (token word.lbraceKey (inside false r))))) t refl refl) λ m. absurd (omega arith)) λ _ a _ (j, y, m, J).
-        judged-on (bracesT s rs fs ns inner d (tokenAt s a)) _ (braces-judged d r J) λ _ e _ (j₂, J₂). fine (finished l d e j₂ word.rbraceKey (λ m. absurd (omega arith)) J₂))
+        (λ t. judged-on (condition s rs (tokenAt s at .end)) _
+        (condition-judged s rs fs ns (token word.lbraceKey (inside false r))
+        (first-on word.whileKey (name (sign (name (token word.lbraceKey (inside false r))))) t refl refl) λ m. absurd (omega arith)) λ _ a _ (j, y, m, J).
+        judged-on (bracesT s rs fs ns inner d (tokenAt s a)) _ (braces-judged d r J) λ _ e _ (j₂, J₂). fine
+        (finished l d e j₂ word.rbraceKey (λ m. absurd (omega arith)) J₂))
         λ t₅. judged-pick (isName (keyAt s at)) _ _
-        (λ t. judged-on (assignment s rs fs ns at) _ (assignment-judged s rs fs ns F Y r I n t (h ∙ rw t)) λ _ e _ (j, J). fine (finished l d e j word.semicolonKey (λ m. absurd (omega arith)) J))
-        λ t. unfit-judged s (I .standing) (record { end = λ z. absurd (eqb-false (keyAt s at) 0 (or-false (eqb (keyAt s at) word.rbraceKey) (eqb (keyAt s at) 0) c .1) z); token = λ _. h ∙ rw (t, t₁, t₂, t₃, t₄, t₅, and-false (eqb (keyAt s at) word.elseKey)) })
+        (λ t. judged-on (assignment s rs fs ns at) _ (assignment-judged s rs fs ns F Y r I n t (h ∙ rw t)) λ _ e _ (j, J). fine
+        (finished l d e j word.semicolonKey (λ m. absurd (omega arith)) J))
+        λ t. unfit-judged s (I .standing)
+        (record {
+          end = λ z. absurd (eqb-false (keyAt s at) 0 (or-false (eqb (keyAt s at) word.rbraceKey) (eqb (keyAt s at) 0) c .1) z);
+          token =
+              λ _. h ∙ rw (t, t₁, t₂, t₃, t₄, t₅, and-false (eqb (keyAt s at) word.elseKey));
+        })
       where
-        first-on : (k : ℕ) (q : Rest) → eqb (keyAt s at) k ≡ true → steady k ≡ true → begin false k (state l false) (state l true) ≡ took q → In s rs fs ns (suc i) d (tokenAt s at .end) k q
-        first-on k q t u g = let e = eqb-true (keyAt s at) k t in steady-on s rs fs ns I k q e u (h ∙ ap (λ k. begin false k (state l false) (state l true)) e ∙ g)
+        first-on : (k : ℕ) (q : Rest) → eqb (keyAt s at) k ≡ true → steady k ≡ true → begin false k (state l false) (state l true) ≡ took q
+            → In s rs fs ns (suc i) d (tokenAt s at .end) k q
+        first-on k q t u g = let e = eqb-true (keyAt s at) k t in
+            steady-on s rs fs ns I k q e u (h ∙ ap (λ k. begin false k (state l false) (state l true)) e ∙ g)
 
   mutual
     unfolding block
 
-    pub block-judged : (k : ℕ) (l : Level) (d at i x : ℕ) (b : Rest) → In s rs fs ns i d at x b → (x ≡ word.becomesKey → ⊥) → Stands l b (keyAt s at) → JudgedReading s Block (λ _ e. AfterBlock l d e) (block s rs fs ns k d at)
+    pub block-judged : (k : ℕ) (l : Level) (d at i x : ℕ) (b : Rest) → In s rs fs ns i d at x b → (x ≡ word.becomesKey → ⊥) → Stands l b (keyAt s at)
+        → JudgedReading s Block (λ _ e. AfterBlock l d e) (block s rs fs ns k d at)
     block-judged zero l d at i x b I n S = never
     block-judged (suc k) l d at i x b I n S =
         judged-pick (closing s rs fs ns (keyAt s at)) _ _ (λ t. fine (i, x, b, n, S .shuts, S .ends, t, I))
         λ t. judged-on (statement s rs fs ns k d at) _ (statement-judged k l d at i x b I n t (S .opens t)) λ c a _ (j, y, f, m, o, J).
         judged-on (block s rs fs ns k d a) _ (block-judged k l d a j y (state l f) J m (stands l f (keyAt s a) o)) λ _ e _ B. fine B
 
-    statement-judged : (k : ℕ) (l : Level) (d at i x : ℕ) (b : Rest) → In s rs fs ns i d at x b → (x ≡ word.becomesKey → ⊥) → eqb (keyAt s at) word.rbraceKey || eqb (keyAt s at) 0 ≡ false → take b (keyAt s at) ≡ begin false (keyAt s at) (state l false) (state l true)
+    statement-judged : (k : ℕ) (l : Level) (d at i x : ℕ) (b : Rest) → In s rs fs ns i d at x b → (x ≡ word.becomesKey → ⊥)
+        → eqb (keyAt s at) word.rbraceKey || eqb (keyAt s at) 0 ≡ false → take b (keyAt s at) ≡ begin false (keyAt s at) (state l false) (state l true)
         → JudgedReading s Statement (λ _ e. AfterStatement l d e) (statement s rs fs ns k d at)
     statement-judged zero l d at i x b I n c h = never
-    statement-judged (suc k) l d at i x b I n c h = statement-judged-by (λ d at. block s rs fs ns k d at) (λ l d at i x b I n S. block-judged k l d at i x b I n S) l d I n c h
+    statement-judged (suc k) l d at i x b I n c h =
+        statement-judged-by (λ d at. block s rs fs ns k d at) (λ l d at i x b I n S. block-judged k l d at i x b I n S) l d I n c h

@@ -52,7 +52,8 @@ module _ (s : List ℕ) where
     none-at-end m j reached n =
         byTest (ltb j i) (λ t. A .none-before m j (ltb-true j i t) n)
         λ t. byTest (ltb i j) (λ u. reached i (ltb-true i j u) (ap (λ p. tokenAt s p .key) (A .place) ∙ z))
-        λ u. lower (suc m) m (omega arith) (λ _ e. omega arith) (λ _. end-fits) (λ _. end-declared) (λ _. end-used) (λ _ D. let e = D .brace in omega arith) (here s m A (subst (NoAt s m) (same j i t u) n))
+        λ u. lower (suc m) m (omega arith) (λ _ e. omega arith) (λ _. end-fits) (λ _. end-declared) (λ _. end-used) (λ _ D. let e = D .brace in omega arith)
+        (here s m A (subst (NoAt s m) (same j i t u) n))
       where
         same : (j i : ℕ) → ltb j i ≡ false → ltb i j ≡ false → j ≡ i
         same j i t u = let x = ltb-false j i t in let y = ltb-false i j u in omega arith
@@ -62,9 +63,18 @@ module _ (s : List ℕ) where
   lines-in rs fs ns e R (j, b, A, S, N, Y, B, h) =
       record {
         standing = A;
-        part = record { registers = R; functions = N; arities = Y; body = []; split = h ∙ ap (λ l. word.varsKey ∷ (rs ++ word.semicolonKey ∷ l)) (sym (append-nil (functionTokens fs ns))); begun = λ z. omega arith };
+        part = record {
+          registers = R;
+          functions = N;
+          arities = Y;
+          body = [];
+          split =
+              h ∙ ap (λ l. word.varsKey ∷ (rs ++ word.semicolonKey ∷ l)) (sym (append-nil (functionTokens fs ns)));
+          begun = λ z. omega arith;
+        };
         behind = B;
-        depth = let x = ap (λ l. occurrences word.lbraceKey l) h ∙ count-lines word.lbraceKey refl refl rs fs ns R Y N in let y = ap (λ l. occurrences word.rbraceKey l) h ∙ count-lines word.rbraceKey refl refl rs fs ns R Y N in omega arith;
+        depth = let x = ap (λ l. occurrences word.lbraceKey l) h ∙ count-lines word.lbraceKey refl refl rs fs ns R Y N in
+            let y = ap (λ l. occurrences word.rbraceKey l) h ∙ count-lines word.rbraceKey refl refl rs fs ns R Y N in omega arith;
       }
 
   pub text-judged : length s ≤ 4096 → JudgedReading s Macro (λ m e. AllYes s) (readText s)
@@ -80,7 +90,12 @@ module _ (s : List ℕ) where
       (block-judged s rs (r .0) (r .1) D Y (2 * length s + 1) outermost deepestNesting c (L .0) word.semicolonKey (L .1) (lines-in rs (r .0) (r .1) c R L)
       (λ z. absurd (omega arith)) (L .3)) λ body e _ (j, y, q, m, o, w, t, I).
       judged-pick (eqb (keyAt s e) 0) _ _ (λ u. fine (none-at-end (I .standing) (eqb-true (keyAt s e) 0 u) w))
-      λ u. unfit-judged s (I .standing) (record { end = λ z. absurd (eqb-false (keyAt s e) 0 u z); token = λ _. ap (λ k. take q k) (eqb-true (keyAt s e) word.rbraceKey (only (eqb (keyAt s e) word.rbraceKey) (eqb (keyAt s e) 0) u t)) ∙ o }))
+      λ u. unfit-judged s (I .standing)
+      (record {
+        end = λ z. absurd (eqb-false (keyAt s e) 0 u z);
+        token =
+            λ _. ap (λ k. take q k) (eqb-true (keyAt s e) word.rbraceKey (only (eqb (keyAt s e) word.rbraceKey) (eqb (keyAt s e) 0) u t)) ∙ o;
+      }))
     where
       only : (a b : Bool) → b ≡ false → a || b ≡ true → a ≡ true
       only true b h g = refl

@@ -21,7 +21,8 @@ use Rattle.text.proofs.Theory.Names.{name-length}
 use Rattle.text.specs.Appending.{PlaceInRange}
 use Rattle.report.specs.declared.ReportedVerdict.{ReportedVerdict}
 use Rattle.report.specs.declared.ReportedVerdict.the-variants.{Pass, Incoherent, Fail, Refused}
-use Rattle.report.specs.Lines.{Names, valuesWord, refusedWord, atWord, passWord, incoherentWord, failWord, line, linesOf, letterLine, startLines, rowLine, verdictLines, letterLines, modelLines, report}
+use Rattle.report.specs.Lines.{Names, valuesWord, refusedWord, atWord, passWord, incoherentWord, failWord, line, linesOf, letterLine, startLines, rowLine}
+use Rattle.report.specs.Lines.{verdictLines, letterLines, modelLines, report}
 use Rattle.report.specs.Shown.{namesOf, lettersIn, modelStart, printedOf, reportOf}
 use Rattle.report.proofs.Theory.ShownLaws.{units-count, second-read, letters-length, word-bytes, execution-parts, model-parts}
 use Rattle.report.specs.Shown.{wordAt}
@@ -76,7 +77,8 @@ module _ (names : Names) (reg : (r : ℕ) → length (names .register r) ≤ 8) 
 
     second-written : secondWritten h (rowFrom firstEdition h n) < 2048
     unfolding rowFrom
-    second-written = rw (second-read h (n / 274877906944 % 4) (n / 134217728 % 2048) (n / 65536 % 2048) (n / 32 % 2048)) (second-small (n / 274877906944 % 4) (n / 65536 % 2048) (omega arith))
+    second-written = rw (second-read h (n / 274877906944 % 4) (n / 134217728 % 2048) (n / 65536 % 2048) (n / 32 % 2048))
+        (second-small (n / 274877906944 % 4) (n / 65536 % 2048) (omega arith))
 
     result-small : rowFrom firstEdition h n .result < 2048
     unfolding rowFrom
@@ -86,7 +88,14 @@ module _ (names : Names) (reg : (r : ℕ) → length (names .register r) ≤ 8) 
     unfolding rowLine line
     row-length =
         let r = rowFrom firstEdition h n in
-        simp length-append (omega (arith, fun (r .function), value-number (r .first) first-small, value-number (secondWritten h r) second-written, value-number (r .result) result-small))
+        simp length-append (omega (
+          arith,
+          fun (r .function),
+          value-number (r .first) first-small,
+          value-number (secondWritten h r) second-written,
+          value-number
+              (r .result) result-small,
+        ))
 
   values-length : (n : ℕ) → n < 65536 → length (line (valuesWord ∷ numeral n ∷ [])) ≤ 13
   unfolding line
@@ -96,7 +105,13 @@ module _ (names : Names) (reg : (r : ℕ) → length (names .register r) ≤ 8) 
   unfolding startLines unitsIn line
   starts-length s b r zero = omega arith
   starts-length s b r (suc m) =
-      simp length-append (omega (arith, reg r, word-number (wordAt s 0) (word-small s b 0), starts-length (drop 2 s) (λ i. rw (getD-drop 2 s i 0) (b (2 + i))) (r + 1) m))
+      simp length-append (omega (
+        arith,
+        reg r,
+        word-number (wordAt s 0) (word-small s b 0),
+        starts-length (drop 2 s) (λ i. rw (getD-drop 2 s i 0) (b (2 + i)))
+            (r + 1) m,
+      ))
 
   module _ (s : List ℕ) (b : (i : ℕ) → getD s i 0 < 256) where
     verdict-length : (word : List ℕ) (pairs : ℕ) → pairs < 2 ^ 64 → length (verdictLines word pairs) ≤ 36 + length word
@@ -106,7 +121,14 @@ module _ (names : Names) (reg : (r : ℕ) → length (names .register r) ≤ 8) 
     execution-length : (n : ℕ) → n < 65536 → length (letterLines names h (lettersIn h s 0 n)) ≤ 14 + 40 * n
     unfolding line
     execution-length n l =
-        rw (execution-parts names h s n) (simp length-append (omega (arith, word-number n l, lines-length (letterLine names h) 40 letter-length (lettersIn h s 0 n), letters-length h s 0 n)))
+        rw (execution-parts names h s n)
+        (simp length-append (omega (
+          arith,
+          word-number n l,
+          lines-length (letterLine names h) 40 letter-length
+              (lettersIn h s 0 n),
+          letters-length h s 0 n,
+        )))
 
     model-length : (o : ℕ) → length (modelLines names h (readTables firstEdition h (drop o s))) ≤ 13 + 21 * h .registers + 28 * wordAt s (o + 2)
     model-length o =
@@ -128,14 +150,17 @@ module _ (names : Names) (reg : (r : ℕ) → length (names .register r) ≤ 8) 
     unfolding report printedOf
     shown-length (Pass pairs) l = omega (arith, verdict-length passWord pairs l)
     shown-length (Incoherent pairs n) l = simp length-append (omega (arith, verdict-length incoherentWord pairs (l .0), execution-length n (l .1)))
-    shown-length (Fail pairs n) l = simp length-append (omega (arith, verdict-length failWord pairs (l .0), execution-length n (l .1), model-length (modelStart n)))
+    shown-length (Fail pairs n) l =
+        simp length-append (omega (arith, verdict-length failWord pairs (l .0), execution-length n (l .1), model-length (modelStart n)))
     shown-length (Refused number place) l = omega (arith, refusal-length number place (l .0) (l .1))
 
 -- ── the bound ──
-module _ (registers functions : List ℕ) (reg : (r : ℕ) → getD registers r 0 < 2 ^ 64) (fun : (f : ℕ) → getD functions f 0 < 2 ^ 64) (h : Header) (s : List ℕ) (b : (i : ℕ) → getD s i 0 < 256) where
+module _ (registers functions : List ℕ) (reg : (r : ℕ) → getD registers r 0 < 2 ^ 64) (fun : (f : ℕ) → getD functions f 0 < 2 ^ 64) (h : Header) (s : List ℕ)
+    (b : (i : ℕ) → getD s i 0 < 256) where
   pub report-length : (v : ReportedVerdict) → Limited v → length (reportOf registers functions h v s) ≤ bound h v s
   unfolding reportOf
-  report-length v l = shown-length (namesOf registers functions) (λ r. name-length 8 (getD registers r 0) (reg r)) (λ f. name-length 8 (getD functions f 0) (fun f)) h s b v l
+  report-length v l = shown-length (namesOf registers functions) (λ r. name-length 8 (getD registers r 0) (reg r))
+      (λ f. name-length 8 (getD functions f 0) (fun f)) h s b v l
 
   -- The number of bytes is one that the machine has.
   pub report-room : (v : ReportedVerdict) → Limited v → h .registers < 256 → PlaceInRange 0 (reportOf registers functions h v s)
@@ -154,5 +179,6 @@ module _ (registers functions : List ℕ) (reg : (r : ℕ) → getD registers r 
       rows-few (Refused number place) = omega arith
 
   -- With at most 341 letters, 349 rows and 8 registers, as the verdict program has them, 32,768 bytes suffice.
-  pub report-fits : (v : ReportedVerdict) → Limited v → letterNumber v ≤ 341 → rowNumber v s ≤ 349 → h .registers ≤ 8 → length (reportOf registers functions h v s) ≤ 32768
+  pub report-fits : (v : ReportedVerdict) → Limited v → letterNumber v ≤ 341 → rowNumber v s ≤ 349 → h .registers ≤ 8
+      → length (reportOf registers functions h v s) ≤ 32768
   report-fits v l n m r = omega (arith, report-length v l)

@@ -13,62 +13,75 @@ use Rattle.semantics.specs.TablesRead.{rowFrom}
 use Rattle.text.specs.Numerals.{numeral}
 use Rattle.text.specs.Names.{nameText}
 use Rattle.text.specs.Templates.{part, filledIn}
-use Rattle.report.specs.Lines.{passWord, incoherentWord, failWord, verdictWord, pairsWord, lettersWord, valuesWord, startWord, refusedWord, atWord, blankWord, line, letterLine, rowLine}
+use Rattle.report.specs.Lines.{passWord, incoherentWord, failWord, verdictWord, pairsWord, lettersWord, valuesWord, startWord, refusedWord, atWord}
+use Rattle.report.specs.Lines.{blankWord, line, letterLine, rowLine}
 use Rattle.report.specs.Shown.{namesOf}
 use Rattle.report.proofs.Theory.ShownLaws.{second-read}
 
 module _ (registers functions : List ℕ) (h : Header) where
   -- "0 := 1"
-  pub copy-form : (x y : ℕ) → letterLine (namesOf registers functions) h (Copy x y) ≡ filledIn (48 ∷ 32 ∷ 58 ∷ 61 ∷ 32 ∷ 49 ∷ 10 ∷ []) (getD registers x 0 ∷ getD registers y 0 ∷ 0 ∷ 0 ∷ [])
+  pub copy-form : (x y : ℕ) → letterLine (namesOf registers functions) h (Copy x y) ≡ filledIn (48 ∷ 32 ∷ 58 ∷ 61 ∷ 32 ∷ 49 ∷ 10 ∷ [])
+      (getD registers x 0 ∷ getD registers y 0 ∷ 0 ∷ 0 ∷ [])
   unfolding letterLine rowLine line filledIn part
   copy-form x y = refl
 
   -- "assume 0 = 1"
-  pub equal-form : (x y : ℕ) → letterLine (namesOf registers functions) h (Equal x y) ≡ filledIn (97 ∷ 115 ∷ 115 ∷ 117 ∷ 109 ∷ 101 ∷ 32 ∷ 48 ∷ 32 ∷ 61 ∷ 32 ∷ 49 ∷ 10 ∷ []) (getD registers x 0 ∷ getD registers y 0 ∷ 0 ∷ 0 ∷ [])
+  pub equal-form : (x y : ℕ) → letterLine (namesOf registers functions) h (Equal x y) ≡ filledIn
+      (97 ∷ 115 ∷ 115 ∷ 117 ∷ 109 ∷ 101 ∷ 32 ∷ 48 ∷ 32 ∷ 61 ∷ 32 ∷ 49 ∷ 10 ∷ []) (getD registers x 0 ∷ getD registers y 0 ∷ 0 ∷ 0 ∷ [])
   unfolding letterLine rowLine line filledIn part
   equal-form x y = refl
 
   -- "assume 0 != 1"
-  pub unequal-form : (x y : ℕ) → letterLine (namesOf registers functions) h (Unequal x y) ≡ filledIn (97 ∷ 115 ∷ 115 ∷ 117 ∷ 109 ∷ 101 ∷ 32 ∷ 48 ∷ 32 ∷ 33 ∷ 61 ∷ 32 ∷ 49 ∷ 10 ∷ []) (getD registers x 0 ∷ getD registers y 0 ∷ 0 ∷ 0 ∷ [])
+  pub unequal-form : (x y : ℕ) → letterLine (namesOf registers functions) h (Unequal x y) ≡ filledIn
+      (97 ∷ 115 ∷ 115 ∷ 117 ∷ 109 ∷ 101 ∷ 32 ∷ 48 ∷ 32 ∷ 33 ∷ 61 ∷ 32 ∷ 49 ∷ 10 ∷ []) (getD registers x 0 ∷ getD registers y 0 ∷ 0 ∷ 0 ∷ [])
   unfolding letterLine rowLine line filledIn part
   unequal-form x y = refl
 
   module _ (x f y z : ℕ) {a b c d : ℕ} (p : a ≡ getD registers x 0) (q : b ≡ getD functions f 0) (r : c ≡ getD registers y 0) (t : d ≡ getD registers z 0) where
     -- "0 := 1(2,3)"
-    pub two-form : has (h .binary) f ≡ true → letterLine (namesOf registers functions) h (Apply x f y z) ≡ filledIn (48 ∷ 32 ∷ 58 ∷ 61 ∷ 32 ∷ 49 ∷ 40 ∷ 50 ∷ 44 ∷ 51 ∷ 41 ∷ 10 ∷ []) (a ∷ b ∷ c ∷ d ∷ [])
+    pub two-form : has (h .binary) f ≡ true
+        → letterLine (namesOf registers functions) h (Apply x f y z) ≡ filledIn (48 ∷ 32 ∷ 58 ∷ 61 ∷ 32 ∷ 49 ∷ 40 ∷ 50 ∷ 44 ∷ 51 ∷ 41 ∷ 10 ∷ [])
+        (a ∷ b ∷ c ∷ d ∷ [])
     unfolding letterLine line filledIn part
     two-form e = rw (e, p, q, r, t)
 
     -- "0 := 1(2)"
-    pub one-form : has (h .binary) f ≡ false → letterLine (namesOf registers functions) h (Apply x f y z) ≡ filledIn (48 ∷ 32 ∷ 58 ∷ 61 ∷ 32 ∷ 49 ∷ 40 ∷ 50 ∷ 41 ∷ 10 ∷ []) (a ∷ b ∷ c ∷ d ∷ [])
+    pub one-form : has (h .binary) f ≡ false
+        → letterLine (namesOf registers functions) h (Apply x f y z) ≡ filledIn (48 ∷ 32 ∷ 58 ∷ 61 ∷ 32 ∷ 49 ∷ 40 ∷ 50 ∷ 41 ∷ 10 ∷ []) (a ∷ b ∷ c ∷ d ∷ [])
     unfolding letterLine line filledIn part
     one-form e = rw (e, p, q, r)
 
 -- "row 0 5 6 7", of a row that is packed in a number
-pub row-form : (functions : List ℕ) (h : Header) (n : ℕ) {a b : ℕ} → a ≡ getD functions (n / 274877906944 % 4) 0 → b ≡ pick (has (h .binary) (n / 274877906944 % 4)) (λ _. n / 65536 % 2048) (λ _. 0)
-    → rowLine (λ f. nameText (getD functions f 0)) h (rowFrom firstEdition h n) ≡ filledIn (114 ∷ 111 ∷ 119 ∷ 32 ∷ 48 ∷ 32 ∷ 53 ∷ 32 ∷ 54 ∷ 32 ∷ 55 ∷ 10 ∷ []) (a ∷ n / 134217728 % 2048 ∷ b ∷ n / 32 % 2048 ∷ [])
+pub row-form : (functions : List ℕ) (h : Header) (n : ℕ) {a b : ℕ} → a ≡ getD functions (n / 274877906944 % 4) 0
+    → b ≡ pick (has (h .binary) (n / 274877906944 % 4)) (λ _. n / 65536 % 2048) (λ _. 0)
+    → rowLine (λ f. nameText (getD functions f 0)) h (rowFrom firstEdition h n) ≡ filledIn (114 ∷ 111 ∷ 119 ∷ 32 ∷ 48 ∷ 32 ∷ 53 ∷ 32 ∷ 54 ∷ 32 ∷ 55 ∷ 10 ∷ [])
+    (a ∷ n / 134217728 % 2048 ∷ b ∷ n / 32 % 2048 ∷ [])
 unfolding rowLine rowFrom line filledIn part
 row-form functions h n p q = rw (p, q, second-read h (n / 274877906944 % 4) (n / 134217728 % 2048) (n / 65536 % 2048) (n / 32 % 2048))
 
 -- "start 0 5"
 pub start-form : (registers : List ℕ) (r : ℕ) {a b v : ℕ} → a ≡ getD registers r 0 → b ≡ v
-    → line (startWord ∷ nameText (getD registers r 0) ∷ blankWord ∷ numeral v ∷ []) ≡ filledIn (115 ∷ 116 ∷ 97 ∷ 114 ∷ 116 ∷ 32 ∷ 48 ∷ 32 ∷ 53 ∷ 10 ∷ []) (a ∷ b ∷ 0 ∷ 0 ∷ [])
+    → line (startWord ∷ nameText (getD registers r 0) ∷ blankWord ∷ numeral v ∷ []) ≡ filledIn (115 ∷ 116 ∷ 97 ∷ 114 ∷ 116 ∷ 32 ∷ 48 ∷ 32 ∷ 53 ∷ 10 ∷ [])
+    (a ∷ b ∷ 0 ∷ 0 ∷ [])
 unfolding line filledIn part
 start-form registers r p q = rw (p, q)
 
 -- Lines with numbers alone.
 -- "verdict pass"
-pub pass-form : line (verdictWord ∷ passWord ∷ []) ≡ filledIn (118 ∷ 101 ∷ 114 ∷ 100 ∷ 105 ∷ 99 ∷ 116 ∷ 32 ∷ 112 ∷ 97 ∷ 115 ∷ 115 ∷ 10 ∷ []) (0 ∷ 0 ∷ 0 ∷ 0 ∷ [])
+pub pass-form : line (verdictWord ∷ passWord ∷ []) ≡ filledIn (118 ∷ 101 ∷ 114 ∷ 100 ∷ 105 ∷ 99 ∷ 116 ∷ 32 ∷ 112 ∷ 97 ∷ 115 ∷ 115 ∷ 10 ∷ [])
+    (0 ∷ 0 ∷ 0 ∷ 0 ∷ [])
 unfolding line filledIn part
 pass-form = refl
 
 -- "verdict incoherent"
-pub incoherent-form : line (verdictWord ∷ incoherentWord ∷ []) ≡ filledIn (118 ∷ 101 ∷ 114 ∷ 100 ∷ 105 ∷ 99 ∷ 116 ∷ 32 ∷ 105 ∷ 110 ∷ 99 ∷ 111 ∷ 104 ∷ 101 ∷ 114 ∷ 101 ∷ 110 ∷ 116 ∷ 10 ∷ []) (0 ∷ 0 ∷ 0 ∷ 0 ∷ [])
+pub incoherent-form : line (verdictWord ∷ incoherentWord ∷ []) ≡ filledIn
+    (118 ∷ 101 ∷ 114 ∷ 100 ∷ 105 ∷ 99 ∷ 116 ∷ 32 ∷ 105 ∷ 110 ∷ 99 ∷ 111 ∷ 104 ∷ 101 ∷ 114 ∷ 101 ∷ 110 ∷ 116 ∷ 10 ∷ []) (0 ∷ 0 ∷ 0 ∷ 0 ∷ [])
 unfolding line filledIn part
 incoherent-form = refl
 
 -- "verdict fail"
-pub fail-form : line (verdictWord ∷ failWord ∷ []) ≡ filledIn (118 ∷ 101 ∷ 114 ∷ 100 ∷ 105 ∷ 99 ∷ 116 ∷ 32 ∷ 102 ∷ 97 ∷ 105 ∷ 108 ∷ 10 ∷ []) (0 ∷ 0 ∷ 0 ∷ 0 ∷ [])
+pub fail-form : line (verdictWord ∷ failWord ∷ []) ≡ filledIn (118 ∷ 101 ∷ 114 ∷ 100 ∷ 105 ∷ 99 ∷ 116 ∷ 32 ∷ 102 ∷ 97 ∷ 105 ∷ 108 ∷ 10 ∷ [])
+    (0 ∷ 0 ∷ 0 ∷ 0 ∷ [])
 unfolding line filledIn part
 fail-form = refl
 
@@ -88,6 +101,7 @@ unfolding line filledIn part
 values-form e = rw e
 
 -- "refused 4 at 5"
-pub refused-form : (m n : ℕ) → line (refusedWord ∷ numeral m ∷ atWord ∷ numeral n ∷ []) ≡ filledIn (114 ∷ 101 ∷ 102 ∷ 117 ∷ 115 ∷ 101 ∷ 100 ∷ 32 ∷ 52 ∷ 32 ∷ 97 ∷ 116 ∷ 32 ∷ 53 ∷ 10 ∷ []) (m ∷ n ∷ 0 ∷ 0 ∷ [])
+pub refused-form : (m n : ℕ) → line (refusedWord ∷ numeral m ∷ atWord ∷ numeral n ∷ []) ≡ filledIn
+    (114 ∷ 101 ∷ 102 ∷ 117 ∷ 115 ∷ 101 ∷ 100 ∷ 32 ∷ 52 ∷ 32 ∷ 97 ∷ 116 ∷ 32 ∷ 53 ∷ 10 ∷ []) (m ∷ n ∷ 0 ∷ 0 ∷ [])
 unfolding line filledIn part
 refused-form m n = refl

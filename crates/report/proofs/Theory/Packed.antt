@@ -59,7 +59,8 @@ units-front k (suc m) s rest h =
     others k m n h = omega (arith, mul-suc k m)
 
 -- ── letters ──
-letters-are : (h : Header) (s : List ℕ) (ls : List Letter) (k : ℕ) → ((i : ℕ) → i < length ls → letterOrCopy h s (k + i) ≡ getD ls i (Copy 0 0)) → lettersIn h s k (length ls) ≡ ls
+letters-are : (h : Header) (s : List ℕ) (ls : List Letter) (k : ℕ) → ((i : ℕ) → i < length ls → letterOrCopy h s (k + i) ≡ getD ls i (Copy 0 0))
+    → lettersIn h s k (length ls) ≡ ls
 unfolding lettersIn
 letters-are h s [] k e = refl
 letters-are h s (l ∷ ls) k e =
@@ -72,14 +73,20 @@ letters-are h s (l ∷ ls) k e =
 module _ (h : Header) (ls : List Letter) (v : HeaderFits firstEdition h) (f : AllFit h ls) (rest : List ℕ) where
   packed-size : length (packing firstEdition h ls) ≡ modelStart (length ls)
   unfolding packing
-  packed-size = bytes-length firstEdition first-roomy (headerWord firstEdition h ∷ map (letterWord firstEdition h) ls) ∙ double (length (map (letterWord firstEdition h) ls)) (length ls) (length-map ls (letterWord firstEdition h))
+  packed-size = bytes-length firstEdition first-roomy (headerWord firstEdition h ∷ map (letterWord firstEdition h) ls)
+      ∙ double (length (map (letterWord firstEdition h) ls)) (length ls) (length-map ls (letterWord firstEdition h))
     where
       double : (m n : ℕ) → m ≡ n → 2 * suc m ≡ 2 * n + 2
       double m n e = omega arith
 
   letter-front : (s : List ℕ) (k : ℕ) → 2 * (k + 2) ≤ length s → letterAt firstEdition h (s ++ rest) k ≡ letterAt firstEdition h s k
   unfolding letterAt
-  letter-front s k l = rw (le-leb (2 * (k + 2)) (length s) l, le-leb (2 * (k + 2)) (length (s ++ rest)) (omega (arith, length-append s rest)), take-within 2 (2 * (k + 1)) s rest (omega arith))
+  letter-front s k l = rw (
+    le-leb (2 * (k + 2)) (length s) l,
+    le-leb (2 * (k + 2)) (length (s ++ rest)) (omega (arith, length-append s rest)),
+    take-within 2
+        (2 * (k + 1)) s rest (omega arith),
+  )
 
   letter-is : (i : ℕ) → i < length ls → letterOrCopy h (packing firstEdition h ls ++ rest) (0 + i) ≡ getD ls i (Copy 0 0)
   unfolding letterOrCopy
@@ -97,7 +104,8 @@ module _ (h : Header) (ls : List Letter) (v : HeaderFits firstEdition h) (f : Al
 
   -- The report of an incoherent execution.
   pub incoherent-report : (registers functions : List ℕ) (pairs : ℕ)
-      → reportOf registers functions h (Incoherent pairs (length ls)) (packing firstEdition h ls ++ rest) ≡ report (namesOf registers functions) h (Printed.incoherent pairs ls)
+      → reportOf registers functions h (Incoherent pairs (length ls)) (packing firstEdition h ls ++ rest) ≡ report (namesOf registers functions) h
+      (Printed.incoherent pairs ls)
   unfolding reportOf printedOf
   incoherent-report registers functions pairs = ap (λ (l : List Letter). report (namesOf registers functions) h (Printed.incoherent pairs l)) packed-letters
 
@@ -111,7 +119,8 @@ module _ (h : Header) (t : Tables) (p : Packable firstEdition h t) (rest : List 
   rows-count =
       let m : ℕ = getD (unitsIn 2 (2 + h .registers) (packTables firstEdition h t)) 1 0 in
       let behind : List ℕ = drop (2 * (2 + h .registers)) (packTables firstEdition h t) in
-      sym (units-count 5 m behind) ∙ sym (length-map (unitsIn 5 m behind) (rowFrom firstEdition h)) ∙ ap (λ (x : Tables). length (x .rows)) (read-packed firstEdition h t p)
+      sym (units-count 5 m behind) ∙ sym (length-map (unitsIn 5 m behind) (rowFrom firstEdition h))
+      ∙ ap (λ (x : Tables). length (x .rows)) (read-packed firstEdition h t p)
 
   -- The tables come back.
   pub packed-tables : readTables firstEdition h (packTables firstEdition h t ++ rest) ≡ t
@@ -138,9 +147,11 @@ module _ (h : Header) (t : Tables) (p : Packable firstEdition h t) (rest : List 
       behind : drop (2 * (2 + h .registers)) (packTables firstEdition h t ++ rest) ≡ drop (2 * (2 + h .registers)) (packTables firstEdition h t) ++ rest
       behind = drop-front (2 * (2 + h .registers)) (packTables firstEdition h t) rest (omega (arith, size))
 
-      rows : unitsIn 5 (getD (unitsIn 2 (2 + h .registers) (packTables firstEdition h t)) 1 0) (drop (2 * (2 + h .registers)) (packTables firstEdition h t) ++ rest)
+      rows : unitsIn 5 (getD (unitsIn 2 (2 + h .registers) (packTables firstEdition h t)) 1 0)
+          (drop (2 * (2 + h .registers)) (packTables firstEdition h t) ++ rest)
           ≡ unitsIn 5 (getD (unitsIn 2 (2 + h .registers) (packTables firstEdition h t)) 1 0) (drop (2 * (2 + h .registers)) (packTables firstEdition h t))
-      rows = units-front 5 (getD (unitsIn 2 (2 + h .registers) (packTables firstEdition h t)) 1 0) (drop (2 * (2 + h .registers)) (packTables firstEdition h t)) rest
+      rows = units-front 5 (getD (unitsIn 2 (2 + h .registers) (packTables firstEdition h t)) 1 0)
+          (drop (2 * (2 + h .registers)) (packTables firstEdition h t)) rest
           (omega (arith, size, rows-count, length-drop (2 * (2 + h .registers)) (packTables firstEdition h t)))
 
 rows-read : (h : Header) (s : List ℕ) → length (readTables firstEdition h s .rows) ≡ join (8 ∷ 8 ∷ []) (take 2 (drop 2 s))
@@ -157,7 +168,8 @@ rows-read h s =
 module _ (h : Header) (ls : List Letter) (t : Tables) (rest : List ℕ) (v : HeaderFits firstEdition h) (f : AllFit h ls) (p : Packable firstEdition h t) where
   tables-behind : readTables firstEdition h (drop (modelStart (length ls)) (packing firstEdition h ls ++ (packTables firstEdition h t ++ rest))) ≡ t
   tables-behind =
-      ap (readTables firstEdition h) (drop-at (packing firstEdition h ls) (packTables firstEdition h t ++ rest) (modelStart (length ls)) (packed-size h ls v f rest)) ∙ packed-tables h t p rest
+      ap (readTables firstEdition h) (drop-at (packing firstEdition h ls) (packTables firstEdition h t ++ rest) (modelStart (length ls))
+      (packed-size h ls v f rest)) ∙ packed-tables h t p rest
 
   -- The count of rows comes back.
   pub packed-rows : wordAt (packing firstEdition h ls ++ (packTables firstEdition h t ++ rest)) (modelStart (length ls) + 2) ≡ length (t .rows)
@@ -168,7 +180,9 @@ module _ (h : Header) (ls : List Letter) (t : Tables) (rest : List ℕ) (v : Hea
 
   -- The report of a failing execution with its model.
   pub fail-report : (registers functions : List ℕ) (pairs : ℕ)
-      → reportOf registers functions h (Fail pairs (length ls)) (packing firstEdition h ls ++ (packTables firstEdition h t ++ rest)) ≡ report (namesOf registers functions) h (Printed.fail pairs ls t)
+      → reportOf registers functions h (Fail pairs (length ls)) (packing firstEdition h ls ++ (packTables firstEdition h t ++ rest)) ≡ report
+      (namesOf registers functions) h (Printed.fail pairs ls t)
   unfolding reportOf printedOf
   fail-report registers functions pairs =
-      ap₂ (λ (l : List Letter) (x : Tables). report (namesOf registers functions) h (Printed.fail pairs l x)) (packed-letters h ls v f (packTables firstEdition h t ++ rest)) tables-behind
+      ap₂ (λ (l : List Letter) (x : Tables). report (namesOf registers functions) h (Printed.fail pairs l x))
+      (packed-letters h ls v f (packTables firstEdition h t ++ rest)) tables-behind

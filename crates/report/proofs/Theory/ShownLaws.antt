@@ -18,7 +18,8 @@ use Rattle.semantics.specs.Tables.{Row}
 use Rattle.semantics.specs.TablesRead.{unitsIn, secondMeant, rowFrom, readTables}
 use Rattle.semantics.specs.PackedTables.{secondWritten}
 use Rattle.text.specs.Numerals.{numeral}
-use Rattle.report.specs.Lines.{Names, linesOf, line, letterLine, letterLines, modelLines, startLines, rowLine, startWord, lettersWord, valuesWord, blankWord}
+use Rattle.report.specs.Lines.{Names, linesOf, line, letterLine, letterLines, modelLines, startLines, rowLine, startWord, lettersWord, valuesWord}
+use Rattle.report.specs.Lines.{blankWord}
 use Rattle.report.specs.Shown.{letterOrCopy, lettersIn}
 use Rattle.report.specs.Shown.{wordAt, rowIn}
 
@@ -45,9 +46,12 @@ letters-length h s k (suc n) = ap suc (letters-length h s (k + 1) n)
 
 -- Units of k bytes that begin at o: unit i, of m.
 module _ (k m i o : ℕ) (s : List ℕ) where
-  pub units-next : i < m → unitsIn k (m - i) (drop (o + k * i) s) ≡ join (replicate k 8) (take k (drop (o + k * i) s)) ∷ unitsIn k (m - (i + 1)) (drop (o + k * (i + 1)) s)
+  pub units-next : i < m → unitsIn k (m - i) (drop (o + k * i) s) ≡ join (replicate k 8) (take k (drop (o + k * i) s)) ∷ unitsIn k (m - (i + 1))
+      (drop (o + k * (i + 1)) s)
   unfolding unitsIn
-  units-next l = rw (take-away i m l) (ap (λ (t : List ℕ). join (replicate k 8) (take k (drop (o + k * i) s)) ∷ unitsIn k (m - (i + 1)) t) (drop-drop k (o + k * i) s ∙ ap (λ (j : ℕ). drop j s) (further k o i)))
+  units-next l = rw (take-away i m l)
+      (ap (λ (t : List ℕ). join (replicate k 8) (take k (drop (o + k * i) s)) ∷ unitsIn k (m - (i + 1)) t)
+      (drop-drop k (o + k * i) s ∙ ap (λ (j : ℕ). drop j s) (further k o i)))
     where
       further : (k o i : ℕ) → o + k * i + k ≡ o + k * (i + 1)
       further k o i = rw (add-one i, mul-suc k i) (omega arith)
@@ -85,7 +89,8 @@ module _ (s : List ℕ) (at : ℕ) where
   row-bytes = five (drop at s) ∙ rw (getD-drop at s 0 0, getD-drop at s 1 0, getD-drop at s 2 0, getD-drop at s 3 0, getD-drop at s 4 0, add-zero at)
 
 -- The five bytes as two words and a byte.
-pub row-words : (s : List ℕ) (at : ℕ) {a b c : ℕ} → a ≡ join (8 ∷ 8 ∷ []) (take 2 (drop at s)) → b ≡ join (8 ∷ 8 ∷ []) (take 2 (drop (at + 2) s)) → c ≡ getD s (at + 4) 0
+pub row-words : (s : List ℕ) (at : ℕ) {a b c : ℕ} → a ≡ join (8 ∷ 8 ∷ []) (take 2 (drop at s)) → b ≡ join (8 ∷ 8 ∷ []) (take 2 (drop (at + 2) s))
+    → c ≡ getD s (at + 4) 0
     → (a * 65536 + b) * 256 + c ≡ join (8 ∷ 8 ∷ 8 ∷ 8 ∷ 8 ∷ []) (take 5 (drop at s))
 row-words s at p q r =
     ap₃ (λ (x y z : ℕ). (x * 65536 + y) * 256 + z) (p ∙ word-bytes s at) (q ∙ word-bytes s (at + 2)) r
@@ -102,7 +107,8 @@ row-words s at p q r =
 
 -- ── the model's parts, as they are read ──
 -- The second argument of a row that was read is written as it stood, and as 0 for a function of one argument.
-pub second-read : (h : Header) (f a b c : ℕ) → secondWritten h (record { function = f; first = a; second = secondMeant h f a b; result = c }) ≡ pick (has (h .binary) f) (λ _. b) λ _. 0
+pub second-read : (h : Header) (f a b c : ℕ)
+    → secondWritten h (record { function = f; first = a; second = secondMeant h f a b; result = c }) ≡ pick (has (h .binary) f) (λ _. b) λ _. 0
 unfolding secondWritten secondMeant
 second-read h f a b c = byTest (has (h .binary) f) (λ e. rw e) (λ e. rw e)
 
@@ -133,7 +139,8 @@ module _ (R : ℕ → List ℕ) (s : List ℕ) (o n : ℕ) where
   start-lines-none i l = ap (startLines R i) (units-none 2 n i o s l)
 
 module _ (G : Row → List ℕ) (h : Header) (s : List ℕ) (o n : ℕ) where
-  pub row-lines-start : linesOf G (map (rowFrom firstEdition h) (unitsIn 5 n (drop o s))) ≡ linesOf G (map (rowFrom firstEdition h) (unitsIn 5 (n - 0) (drop (o + 5 * 0) s)))
+  pub row-lines-start : linesOf G (map (rowFrom firstEdition h) (unitsIn 5 n (drop o s))) ≡ linesOf G
+      (map (rowFrom firstEdition h) (unitsIn 5 (n - 0) (drop (o + 5 * 0) s)))
   row-lines-start = ap₂ (λ (m j : ℕ). linesOf G (map (rowFrom firstEdition h) (unitsIn 5 m (drop j s)))) (sym (sub-zero n)) (sym (add-zero o))
 
   pub row-lines-next : (i : ℕ) → i < n → linesOf G (map (rowFrom firstEdition h) (unitsIn 5 (n - i) (drop (o + 5 * i) s)))
@@ -147,7 +154,8 @@ module _ (G : Row → List ℕ) (h : Header) (s : List ℕ) (o n : ℕ) where
 
 -- ── the parts of a report ──
 module _ (names : Names) (h : Header) (s : List ℕ) where
-  pub execution-parts : (n : ℕ) → letterLines names h (lettersIn h s 0 n) ≡ line (lettersWord ∷ numeral n ∷ []) ++ linesOf (letterLine names h) (lettersIn h s 0 n)
+  pub execution-parts : (n : ℕ) → letterLines names h (lettersIn h s 0 n) ≡ line (lettersWord ∷ numeral n ∷ []) ++ linesOf (letterLine names h)
+      (lettersIn h s 0 n)
   unfolding letterLines
   execution-parts n = ap (λ (m : ℕ). line (lettersWord ∷ numeral m ∷ []) ++ linesOf (letterLine names h) (lettersIn h s 0 n)) (letters-length h s 0 n)
 
@@ -156,7 +164,8 @@ module _ (names : Names) (h : Header) (s : List ℕ) where
     unfolding unitsIn
     words =
         ap (λ (m : ℕ). unitsIn 2 m (drop o s)) (two-more (h .registers))
-        ∙ (λ i. wordAt s o ∷ join (8 ∷ 8 ∷ []) (take 2 (drop-drop 2 o s i)) ∷ unitsIn 2 (h .registers) ((ap (drop 2) (drop-drop 2 o s) ∙ drop-drop 2 (o + 2) s ∙ ap (λ (j : ℕ). drop j s) (four o)) i))
+        ∙ (λ i. wordAt s o ∷ join (8 ∷ 8 ∷ []) (take 2 (drop-drop 2 o s i)) ∷ unitsIn 2 (h .registers)
+        ((ap (drop 2) (drop-drop 2 o s) ∙ drop-drop 2 (o + 2) s ∙ ap (λ (j : ℕ). drop j s) (four o)) i))
       where
         two-more : (n : ℕ) → 2 + n ≡ suc (suc n)
         two-more n = omega arith
@@ -174,4 +183,6 @@ module _ (names : Names) (h : Header) (s : List ℕ) where
         ≡ line (valuesWord ∷ numeral (wordAt s o) ∷ []) ++ (startLines (names .register) 0 (unitsIn 2 (h .registers) (drop (o + 4) s))
         ++ linesOf (rowLine (names .function) h) (map (rowFrom firstEdition h) (unitsIn 5 (wordAt s (o + 2)) (drop (o + 4 + 2 * h .registers) s))))
     unfolding modelLines readTables
-    model-parts = λ i. line (valuesWord ∷ numeral (getD (words i) 0 0) ∷ []) ++ (startLines (names .register) 0 (drop 2 (words i)) ++ linesOf (rowLine (names .function) h) (map (rowFrom firstEdition h) (unitsIn 5 (getD (words i) 1 0) (behind i))))
+    model-parts = λ i. line (valuesWord ∷ numeral (getD (words i) 0 0) ∷ [])
+        ++ (startLines (names .register) 0 (drop 2 (words i)) ++ linesOf (rowLine (names .function) h)
+        (map (rowFrom firstEdition h) (unitsIn 5 (getD (words i) 1 0) (behind i))))

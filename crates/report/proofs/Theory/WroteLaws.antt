@@ -19,8 +19,11 @@ module _ {text entry : List ℕ} where
   pub wrote-none : {size : ℕ} → size ≡ 0 + length text → length entry < size → WroteText text entry entry NoRoom
   wrote-none e l = record { answered = rw (lt-leb (length text) (length entry) (omega arith)); bytes = rw (lt-leb (length text) (length entry) (omega arith)) }
 
-  pub wrote-all : {size next : ℕ} {exit : List ℕ} → size ≡ 0 + length text → size ≤ length entry → Appended entry 0 text exit next → WroteText text entry exit (Bytes next)
+  pub wrote-all : {size next : ℕ} {exit : List ℕ} → size ≡ 0 + length text → size ≤ length entry → Appended entry 0 text exit next
+      → WroteText text entry exit (Bytes next)
   wrote-all {size} {next} {exit} e l a = record {
     answered = ap Bytes (a .place ∙ zero-add (length text)) ∙ rw (le-leb (length text) (length entry) (omega arith));
-    bytes = a .bytes ∙ stored-between entry 0 text (omega arith) ∙ ap₂ (λ (x : List ℕ) (n : ℕ). x ++ text ++ drop n entry) (take-none entry) (zero-add (length text)) ∙ rw (le-leb (length text) (length entry) (omega arith));
+    bytes = a .bytes ∙ stored-between entry 0 text (omega arith)
+        ∙ ap₂ (λ (x : List ℕ) (n : ℕ). x ++ text ++ drop n entry) (take-none entry) (zero-add (length text))
+        ∙ rw (le-leb (length text) (length entry) (omega arith));
   }

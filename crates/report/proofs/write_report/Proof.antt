@@ -25,12 +25,18 @@ write-report-spec =
     let reg : (r : ℕ) → Fits w64 (getD (a .registers) r 0) = λ r. search needs in
     let fun : (f : ℕ) → Fits w64 (getD (a .functions) f 0) = λ f. search needs in
     let few : Fits w8 (a .h .registers) = search needs in
-    report-room (a .registers) (a .functions) (λ r. reg r .fits) (λ f. fun f .fits) (a .h) (a .answer .now) (λ i. omega (arith, c .before .before .before .shared-slice-known .given i)) (c .before .limited .result) (c .before .limited .ensures .1) (few .fits))
+    report-room (a .registers) (a .functions) (λ r. reg r .fits) (λ f. fun f .fits) (a .h) (a .answer .now)
+    (λ i. omega (arith, c .before .before .before .shared-slice-known .given i)) (c .before .limited .result) (c .before .limited .ensures .1) (few .fits))
     (λ c.
     let a = c .before .before .before .before .before .before .before .args in
-    subst (λ (v : ReportedVerdict). WroteText (reportOf (a .registers) (a .functions) (a .h) v (a .answer .now)) (a .out .now) (a .out .now) NoRoom) (c .before .before .before .before .limited .ensures .0) (wrote-none (c .before .before .put-report .ensures .place) (c .if1 .taken)))
+    subst (λ (v : ReportedVerdict). WroteText (reportOf (a .registers) (a .functions) (a .h) v (a .answer .now)) (a .out .now) (a .out .now) NoRoom)
+    (c .before .before .before .before .limited .ensures .0) (wrote-none (c .before .before .put-report .ensures .place) (c .if1 .taken)))
     (λ c κs. search needs)
     (λ c. appended-length (c .before .before .put-report2 .ensures))
     (λ c.
     let a = c .before .before .before .before .before .before .before .before .before .before .before .args in
-    subst (λ (v : ReportedVerdict). WroteText (reportOf (a .registers) (a .functions) (a .h) v (a .answer .now)) (a .out .now) (c .before .before .put-report2 .last .0) (Bytes (c .before .before .put-report2 .result))) (c .before .before .before .before .before .before .before .before .limited .ensures .0) (wrote-all (c .before .before .before .before .before .before .put-report .ensures .place) (c .before .before .before .before .if1 .left) (c .before .before .put-report2 .ensures))))
+    subst (λ (v : ReportedVerdict). WroteText (reportOf (a .registers) (a .functions) (a .h) v (a .answer .now)) (a .out .now)
+    (c .before .before .put-report2 .last .0) (Bytes (c .before .before .put-report2 .result)))
+    (c .before .before .before .before .before .before .before .before .limited .ensures .0)
+    (wrote-all (c .before .before .before .before .before .before .put-report .ensures .place) (c .before .before .before .before .if1 .left)
+    (c .before .before .put-report2 .ensures))))

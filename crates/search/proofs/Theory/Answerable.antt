@@ -34,7 +34,8 @@ window-discrete : Discrete Window
 window-discrete w v = elim (parts-discrete (parts w) (parts v)) [ yes e ↦ yes (ap whole e) | no n ↦ no (λ e. n (ap parts e)) ]
 
 -- There is an answer, with what the table and the output then hold.
-pub answerable : (text table output : List ℕ) → (a : VerdictAnswer) × (table′ : List ℕ) × (output′ : List ℕ) × Demand3 Feasible text table output a table′ output′
+pub answerable : (text table output : List ℕ)
+    → (a : VerdictAnswer) × (table′ : List ℕ) × (output′ : List ℕ) × Demand3 Feasible text table output a table′ output′
 answerable text table output =
     a-way Feasible text table output
     λ m a.

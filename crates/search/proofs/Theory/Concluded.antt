@@ -57,13 +57,15 @@ module _ (given : Given) (n : ℕ) (kind : Kind) (k d : ℕ) (t : List ℕ) (met
   letter-stored i b q = ap letter-of (sym (branch-held given (pointAt t i) b (met .going .due i q))) ∙ letter-meant (moveOf (pointOf (held given) t i) b)
 
   -- the letters along the parents are those of the table
-  trail-is : (f j : ℕ) (rest : List Letter) → j < k → extend (letters-to start (points (body given)) (listed t k) f j) rest ≡ extend start (trailTo (held given) t f j rest)
+  trail-is : (f j : ℕ) (rest : List Letter) → j < k
+      → extend (letters-to start (points (body given)) (listed t k) f j) rest ≡ extend start (trailTo (held given) t f j rest)
   unfolding trailTo
   trail-is zero j rest q = refl
   trail-is (suc f) zero rest q = refl
   trail-is (suc f) (suc j) rest q =
       let o = met .going .searching .older (suc j) (omega arith) q in
-      ap (λ a. extend (letters-to start (points (body given)) (listed t k) f (parentAt t (suc j))) (a ∷ rest)) (letter-stored (parentAt t (suc j)) (branchAt t (suc j)) (omega arith))
+      ap (λ a. extend (letters-to start (points (body given)) (listed t k) f (parentAt t (suc j))) (a ∷ rest))
+      (letter-stored (parentAt t (suc j)) (branchAt t (suc j)) (omega arith))
       ∙ trail-is f (parentAt t (suc j)) (letterOfBranch (held given) t (parentAt t (suc j)) (branchAt t (suc j)) ∷ rest) (omega arith)
 
   abbrev way : Path
@@ -72,15 +74,19 @@ module _ (given : Given) (n : ℕ) (kind : Kind) (k d : ℕ) (t : List ℕ) (met
   abbrev execution : Trace
   execution = extend start (trailOf (held given) t d)
 
-  moved-to : (y : Move ℕ) → moves-at (points (body given)) (pointAt t (d / 2)) branch ≡ y → moving performing infeasibleIn (end given) (windowAt t (d / 2)) y ≡ event kind
+  moved-to : (y : Move ℕ) → moves-at (points (body given)) (pointAt t (d / 2)) branch ≡ y
+      → moving performing infeasibleIn (end given) (windowAt t (d / 2)) y ≡ event kind
       → (p : Place ℕ) × (run start (body given) way ≡ stand p execution)
   unfolding trailOf
   moved-to no-move u v = absurd (let z : _≡_ {A = ℕ} 0 1 = cc in omega arith)
   moved-to (move a p) u v =
       let l = met .due in
       let s = move-letters (setting given) (listed t k) d (met .going .searching) (d / 2) branch a p (omega arith) u in
-      let c : a ≡ letterOfBranch (held given) t (d / 2) (d % 2) = ap letter-of (sym u) ∙ letter-stored (d / 2) (d % 2) (omega arith) in
-      (p, s ∙ ap (stand p) (ap (λ z. letters-to start (points (body given)) (listed t k) (d / 2) (d / 2) ▸ z) c ∙ trail-is (d / 2) (d / 2) (letterOfBranch (held given) t (d / 2) (d % 2) ∷ []) (omega arith)))
+      let c : a ≡ letterOfBranch (held given) t (d / 2) (d % 2) = ap letter-of (sym u) ∙ letter-stored (d / 2) (d % 2) (omega arith) in (
+        p,
+        s ∙ ap (stand p) (ap (λ z. letters-to start (points (body given)) (listed t k) (d / 2) (d / 2) ▸ z) c
+            ∙ trail-is (d / 2) (d / 2) (letterOfBranch (held given) t (d / 2) (d % 2) ∷ []) (omega arith)),
+      )
 
   came : (p : Place ℕ) × (run start (body given) way ≡ stand p execution)
   came = moved-to (moves-at (points (body given)) (pointAt t (d / 2)) branch) refl (met .happens)
@@ -114,11 +120,13 @@ module _ (given : Given) (n : ℕ) (kind : Kind) (k d : ℕ) (t : List ℕ) (met
       subst (λ π. Feasible (state π)) i y
 
   pub concluded-event : (edition : Edition) (output : List ℕ) (answer : VerdictAnswer) (output′ : List ℕ)
-      → Delivered (packed edition (begin (header given)) kind (trailOf (held given) t d)) (showing kind k (length (trailOf (held given) t d))) output answer output′
+      → Delivered (packed edition (begin (header given)) kind (trailOf (held given) t d))
+      (showing kind k (length (trailOf (held given) t d))) output answer output′
       → IsVerdict Feasible (begin (header given)) (body given) edition n output answer output′
   concluded-event edition output answer output′ y =
       let l = met .due in
-      answers-event (setting given) edition n output (listed t k) (d / 2) branch here (omega arith) (met .going .within) kind (met .happens) (came .0) (trailOf (held given) t d) (came .1) answer output′ y
+      answers-event (setting given) edition n output (listed t k) (d / 2) branch here (omega arith) (met .going .within) kind (met .happens) (came .0)
+      (trailOf (held given) t d) (came .1) answer output′ y
 
 -- ── the other ends ──
 module _ (given : Given) (edition : Edition) (n : ℕ) (output : List ℕ) where
@@ -130,7 +138,8 @@ module _ (given : Given) (edition : Edition) (n : ℕ) (output : List ℕ) where
 
   pub concluded-pass : (k : ℕ) (t : List ℕ) → Going given n k (2 * k) t → Right (pass k)
   concluded-pass k t g =
-      answers-pass (setting given) edition n output (listed t k) (subst (Searching (starts given) (step given) (listed t k)) (let e : 2 * k ≡ k + k = omega arith in e) (g .searching)) (g .within)
+      answers-pass (setting given) edition n output (listed t k)
+      (subst (Searching (starts given) (step given) (listed t k)) (let e : 2 * k ≡ k + k = omega arith in e) (g .searching)) (g .within)
 
   -- no point: nothing is searched
   pub concluded-empty : end given ≡ 0 → Right (pass 0)

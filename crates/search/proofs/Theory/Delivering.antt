@@ -60,20 +60,23 @@ module _ (h : Header) (ls : List Letter) (output : List ℕ) (a : VerdictAnswer)
   refused-failing l = inr (simp length-append (omega arith), refl, refl)
 
   -- ── fail: the model behind it ──
-  module _ (v : HeaderFits firstEdition h) (fit : AllFit h ls) (few : length ls ≤ mostLetters) (formed : WellFormed (traceOf h ls)) (feasible : Feasible (state (traceOf h ls))) where
+  module _ (v : HeaderFits firstEdition h) (fit : AllFit h ls) (few : length ls ≤ mostLetters) (formed : WellFormed (traceOf h ls))
+      (feasible : Feasible (state (traceOf h ls))) where
     abbrev σ : State
     σ = state (traceOf h ls)
 
     long : length s ≡ 2 * suc (length ls)
     unfolding packing
-    long = bytes-length firstEdition first-roomy (headerWord firstEdition h ∷ map (letterWord firstEdition h) ls) ∙ ap (λ n. 2 * suc n) (length-map ls (letterWord firstEdition h))
+    long = bytes-length firstEdition first-roomy (headerWord firstEdition h ∷ map (letterWord firstEdition h) ls)
+        ∙ ap (λ n. 2 * suc n) (length-map ls (letterWord firstEdition h))
 
     read-within : readingWithin mostLetters firstEdition s ≡ trace h ls
     unfolding readingWhere
     read-within = same (le-ltb mostLetters (letterCount firstEdition s) (omega (arith, long))) ∙ reading-packing firstEdition first-roomy h ls v fit
       where
         same : ltb mostLetters (letterCount firstEdition s) ≡ false → readingWhere (ltb mostLetters) firstEdition s ≡ readingWhere (λ _. false) firstEdition s
-        same e = λ i. onAnswer (beginning firstEdition s) (λ g. pick (e i) (λ _. TraceReading.refused traceTooLong 0) λ _. lettersOf firstEdition g s) TraceReading.refused
+        same e = λ i. onAnswer (beginning firstEdition s)
+            (λ g. pick (e i) (λ _. TraceReading.refused traceTooLong 0) λ _. lettersOf firstEdition g s) TraceReading.refused
 
     possible : firstInfeasible (traceOf h ls) ≡ 0
     possible = sym (first-infeasible-unique (traceOf h ls) formed 0 feasible)
@@ -110,7 +113,9 @@ module _ (h : Header) (ls : List Letter) (output : List ℕ) (a : VerdictAnswer)
           subst (λ bs. Delivered bs a output a (s ++ out′)) (sym bytes-are) (inl (
             simp length-append (omega (arith, room)),
             refl,
-            ap (λ t. s ++ t) z ∙ sym (append-assoc s (modelBytes σ) (drop (length (modelBytes σ)) out)) ∙ ap (λ t. (s ++ modelBytes σ) ++ t) (drop-drop (length (modelBytes σ)) (length s) output ∙ ap (λ n. drop n output) (sym (length-append s (modelBytes σ)))),
+            ap (λ t. s ++ t) z ∙ sym (append-assoc s (modelBytes σ) (drop (length (modelBytes σ)) out))
+                ∙ ap (λ t. (s ++ modelBytes σ) ++ t)
+                (drop-drop (length (modelBytes σ)) (length s) output ∙ ap (λ n. drop n output) (sym (length-append s (modelBytes σ)))),
           )))
           (λ y. absurd (differ (sym e ∙ told ∙ rw y refl)))
         where

@@ -44,7 +44,8 @@ module _ (text : List ℕ) (read : reading.MacroRead) (told : Reads text read) w
     }
 
     -- after the search
-    pub judged-macro : read .refusal ≡ 0 → (r : Verdict) (table′ output′ : List ℕ) → Tells (read .program) table output r output′ → table′ ≡ replicate (length table) 0
+    pub judged-macro : read .refusal ≡ 0 → (r : Verdict) (table′ output′ : List ℕ) → Tells (read .program) table output r output′
+        → table′ ≡ replicate (length table) 0
         → Demand3 Feasible text table output (answerOf r) table′ output′
     judged-macro e r table′ output′ y z = record {
       unread = λ n p q. absurd (not-refused e q);

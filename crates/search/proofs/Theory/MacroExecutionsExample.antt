@@ -34,7 +34,9 @@ module _ (answer : MacroRead) (read : Reads loop answer) where
   two-turns : Performed (answer .program) (Unequal 0 1 ∷ Apply 0 0 0 0 ∷ Unequal 0 1 ∷ Apply 0 0 0 0 ∷ Equal 0 1 ∷ Equal 0 1 ∷ []) (at (answer .program .count))
   unfolding searched
   two-turns = executions .complete _ .1
-      (WordBlock.both (Word.turns (WordBlock.both Word.letter WordBlock.stop refl) (Word.turns (WordBlock.both Word.letter WordBlock.stop refl) (Word.leaves refl) refl) refl) (WordBlock.both (Word.holds refl) WordBlock.stop refl) refl)
+      (WordBlock.both (Word.turns (WordBlock.both Word.letter WordBlock.stop refl)
+      (Word.turns (WordBlock.both Word.letter WordBlock.stop refl) (Word.leaves refl) refl) refl)
+      (WordBlock.both (Word.holds refl) WordBlock.stop refl) refl)
 
   -- the assertion fails where the loop is left at once
   fails-at-once : Performed (answer .program) (Equal 0 1 ∷ Unequal 0 1 ∷ []) failure
@@ -50,5 +52,6 @@ module _ (answer : MacroRead) (read : Reads loop answer) where
       begins (e, w, inr f) = let z : _≡_ {A = ℕ} 0 1 = cc in omega arith
 
       none : {v : List Letter} {o : Outcome} → ¬ WordBlock (searched .body) (Apply 0 0 0 0 ∷ v) o
-      none (WordBlock.both {v = v} x y e) = let (w, z) = opens x in begins (sym e, w ++ v, elim z [ inl f ↦ inl (ap (λ k. k ++ v) f) | inr f ↦ inr (ap (λ k. k ++ v) f) ])
+      none (WordBlock.both {v = v} x y e) = let (w, z) = opens x in
+          begins (sym e, w ++ v, elim z [ inl f ↦ inl (ap (λ k. k ++ v) f) | inr f ↦ inr (ap (λ k. k ++ v) f) ])
       none (WordBlock.ends x) = let (w, z) = opens x in begins (refl, w, z)

@@ -119,7 +119,8 @@ module _ (program : struct.CompiledMacro) (given : Given) (holds : heldMacro (gi
   pub points-within : AllWithin (program .points)
   unfolding heldMacro
   points-within = subst (λ p. AllWithin (p .points)) holds
-      (all-within (header given) (given .in-order .few) (given .in-order .fewer) (body given) (given .in-order .uses) (mostPoints - length (map heldPoint (points (body given)))))
+      (all-within (header given) (given .in-order .few) (given .in-order .fewer) (body given) (given .in-order .uses)
+      (mostPoints - length (map heldPoint (points (body given)))))
 
   module _ (t : List ℕ) where
     -- the search in the lent table
@@ -139,13 +140,16 @@ module _ (program : struct.CompiledMacro) (given : Given) (holds : heldMacro (gi
           (event-writable given (capacityOf firstEdition (length t)) t most room kind k d)
 
       -- what is told of an event
-      pub event-delivered : (p : Packed) → length (p .bytes) ≡ traceBytes → (output : List ℕ) (r : answer.Verdict) (output′ : List ℕ) → Delivers kind p k output r output′ → searchOn program t .0 ≡ foundEvent kind k d
+      pub event-delivered : (p : Packed) → length (p .bytes) ≡ traceBytes → (output : List ℕ) (r : answer.Verdict) (output′ : List ℕ)
+          → Delivers kind p k output r output′ → searchOn program t .0 ≡ foundEvent kind k d
           → drop (p .start) (p .bytes) ≡ traced (program .header) (trailOf (program .points) (searchOn program t .1) d)
-          → Delivered (packed firstEdition (begin (program .header)) kind (trailOf (program .points) (searchOn program t .1) d)) (showing kind k (length (trailOf (program .points) (searchOn program t .1) d))) output (answerOf r) output′
+          → Delivered (packed firstEdition (begin (program .header)) kind (trailOf (program .points) (searchOn program t .1) d))
+          (showing kind k (length (trailOf (program .points) (searchOn program t .1) d))) output (answerOf r) output′
       unfolding heldMacro
       event-delivered p l output r output′ z =
           subst (λ q. searchOn q t .0 ≡ foundEvent kind k d → drop (p .start) (p .bytes) ≡ traced (q .header) (trailOf (q .points) (searchOn q t .1) d)
-          → Delivered (packed firstEdition (begin (q .header)) kind (trailOf (q .points) (searchOn q t .1) d)) (showing kind k (length (trailOf (q .points) (searchOn q t .1) d))) output (answerOf r) output′)
+          → Delivered (packed firstEdition (begin (q .header)) kind (trailOf (q .points) (searchOn q t .1) d))
+          (showing kind k (length (trailOf (q .points) (searchOn q t .1) d))) output (answerOf r) output′)
           holds
           (λ e b. z (header given) (trailOf (held given) (searchOn (heldMacro (given .macro)) t .1) d)
           (event-packs given (capacityOf firstEdition (length t)) t most room kind k d e p b l)
@@ -156,11 +160,13 @@ module _ (program : struct.CompiledMacro) (given : Given) (holds : heldMacro (gi
         → IsVerdict Feasible (begin (header given)) (body given) firstEdition (pairsIn firstEdition t) output (answerOf r) output′
     unfolding heldMacro capacityOf
     tells-verdict output r output′ y =
-        search-verdict given (capacityOf firstEdition (length t)) t most room firstEdition output (answerOf r) output′ (subst (λ p. Tells p t output r output′) (sym holds) y)
+        search-verdict given (capacityOf firstEdition (length t)) t most room firstEdition output (answerOf r) output′
+        (subst (λ p. Tells p t output r output′) (sym holds) y)
 
 -- ── what the code has found ──
 module _ (program : struct.CompiledMacro) (t output : List ℕ) (n : ℕ) (r : Search) (u : List ℕ) (c : n ≡ capacityOf firstEdition (length t))
-    (e : r ≡ searchOf (program .header) (program .points) (program .count) n t .0) (f : u ≡ searchOf (program .header) (program .points) (program .count) n t .1) where
+    (e : r ≡ searchOf (program .header) (program .points) (program .count) n t .0)
+    (f : u ≡ searchOf (program .header) (program .points) (program .count) n t .1) where
   ends : r ≡ searchOn program t .0
   ends = e ∙ ap (λ n. searchOf (program .header) (program .points) (program .count) n t .0) c
 
@@ -184,12 +190,15 @@ module _ (program : struct.CompiledMacro) (t output : List ℕ) (n : ℕ) (r : S
     packable kind y = subst (λ u. (d < mostMoves) × (recordBytes * (d / 2) + recordBytes ≤ length u) × Older u (d / 2 + 1)) (sym leaves)
         (event-written program (x .0) (x .1) t kind k d (sym ends ∙ y))
 
-    module _ (p : Packed) (b : drop (p .start) (p .bytes) ≡ traced (program .header) (trailOf (program .points) u d)) (l : length (p .bytes) ≡ traceBytes) (v : answer.Verdict) (output′ : List ℕ) where
+    module _ (p : Packed) (b : drop (p .start) (p .bytes) ≡ traced (program .header) (trailOf (program .points) u d)) (l : length (p .bytes) ≡ traceBytes)
+        (v : answer.Verdict) (output′ : List ℕ) where
       abbrev packed-so : drop (p .start) (p .bytes) ≡ traced (program .header) (trailOf (program .points) (searchOn program t .1) d)
       packed-so = b ∙ ap (λ u. traced (program .header) (trailOf (program .points) u d)) leaves
 
       pub told-incoherent : r ≡ found.Breaking k d → Delivers breaking p k output v output′ → Tells program t output v output′
-      told-incoherent y z = told (found.Breaking k d) y v output′ (event-delivered program (x .0) (x .1) t breaking k d p l output v output′ z (sym ends ∙ y) packed-so)
+      told-incoherent y z = told (found.Breaking k d) y v output′
+          (event-delivered program (x .0) (x .1) t breaking k d p l output v output′ z (sym ends ∙ y) packed-so)
 
       pub told-failing : r ≡ found.Failing k d → Delivers failing p k output v output′ → Tells program t output v output′
-      told-failing y z = told (found.Failing k d) y v output′ (event-delivered program (x .0) (x .1) t failing k d p l output v output′ z (sym ends ∙ y) packed-so)
+      told-failing y z = told (found.Failing k d) y v output′
+          (event-delivered program (x .0) (x .1) t failing k d p l output v output′ z (sym ends ∙ y) packed-so)

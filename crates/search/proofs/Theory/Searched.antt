@@ -31,7 +31,8 @@ module _ (given : Given) (n : ℕ) where
     same-right : {a b : VerdictAnswer} {o p : List ℕ} → (a ≡ b) × (o ≡ p) → Right b p → Right a o
     same-right {a} {b} {o} {p} (e, f) r = subst (λ x. Right x o) (sym e) (subst (Right b) (sym f) r)
 
-    ended-told : (r : Search) (u : List ℕ) → SearchEnded given n r u → (answer : VerdictAnswer) (output′ : List ℕ) → SearchAnswered (header given) (held given) edition output r u answer output′ → Right answer output′
+    ended-told : (r : Search) (u : List ℕ) → SearchEnded given n r u → (answer : VerdictAnswer) (output′ : List ℕ)
+        → SearchAnswered (header given) (held given) edition output r u answer output′ → Right answer output′
     ended-told found.Full u y answer output′ e = same-right e (concluded-full given edition n output y)
     ended-told (found.Pass k) u y answer output′ e = same-right e (concluded-pass given edition n output k u y)
     ended-told (found.Breaking k d) u y answer output′ z = concluded-event given n breaking k d u y edition output answer output′ z

@@ -50,7 +50,8 @@ module _ (h : Header) (b : List ℕ) (at : ℕ) (rest : List Letter) (e : drop (
   header-before w f = put-drop b at w l ∙ (λ i. f i / 256 ∷ f i % 256 ∷ e i)
 
 -- the letters up to a pair, with any number of calls that suffices
-trail-same : (sp : List PointEntry) (t : List ℕ) (n : ℕ) → Older t n → (f g j : ℕ) (rest : List Letter) → j < n → j ≤ f → j ≤ g → trailTo sp t f j rest ≡ trailTo sp t g j rest
+trail-same : (sp : List PointEntry) (t : List ℕ) (n : ℕ) → Older t n → (f g j : ℕ) (rest : List Letter) → j < n → j ≤ f → j ≤ g
+    → trailTo sp t f j rest ≡ trailTo sp t g j rest
 unfolding trailTo
 trail-same sp t n o zero zero j rest l p q = refl
 trail-same sp t n o zero (suc g) zero rest l p q = refl
@@ -60,7 +61,8 @@ trail-same sp t n o (suc f) zero (suc j) rest l p q = absurd (omega arith)
 trail-same sp t n o (suc f) (suc g) zero rest l p q = refl
 trail-same sp t n o (suc f) (suc g) (suc j) rest l p q =
     let i = o (suc j) (omega arith) l in
-    trail-same sp t n o f g (parentAt t (suc j)) (letterOfBranch sp t (parentAt t (suc j)) (branchAt t (suc j)) ∷ rest) (omega arith) (omega arith) (omega arith)
+    trail-same sp t n o f g (parentAt t (suc j)) (letterOfBranch sp t (parentAt t (suc j)) (branchAt t (suc j)) ∷ rest) (omega arith) (omega arith)
+    (omega arith)
 
 -- a step from a pair to its parent
 trail-step : (sp : List PointEntry) (t : List ℕ) (n : ℕ) → Older t n → (j : ℕ) (rest : List Letter) → 0 < j → j < n
@@ -69,7 +71,8 @@ unfolding trailTo
 trail-step sp t n o zero rest l q = absurd (omega arith)
 trail-step sp t n o (suc j) rest l q =
     let i = o (suc j) (omega arith) q in
-    trail-same sp t n o (parentAt t (suc j)) j (parentAt t (suc j)) (letterOfBranch sp t (parentAt t (suc j)) (branchAt t (suc j)) ∷ rest) (omega arith) (omega arith) (omega arith)
+    trail-same sp t n o (parentAt t (suc j)) j (parentAt t (suc j)) (letterOfBranch sp t (parentAt t (suc j)) (branchAt t (suc j)) ∷ rest) (omega arith)
+    (omega arith) (omega arith)
 
 trail-end : (sp : List PointEntry) (t : List ℕ) (rest : List Letter) (j : ℕ) → j ≡ 0 → trailTo sp t j j rest ≡ rest
 unfolding trailTo
@@ -77,14 +80,16 @@ trail-end sp t rest zero e = refl
 trail-end sp t rest (suc j) e = absurd (omega arith)
 
 -- the letter of a branch of the point of pair i
-pub letter-is : (sp : List PointEntry) (t : List ℕ) (i b k : ℕ) (a : Letter) → k ≡ pointAt t i → a ≡ letterOf (moveOf (getD sp (k % mostPoints) noPoint) b) → a ≡ letterOfBranch sp t i b
+pub letter-is : (sp : List PointEntry) (t : List ℕ) (i b k : ℕ) (a : Letter) → k ≡ pointAt t i → a ≡ letterOf (moveOf (getD sp (k % mostPoints) noPoint) b)
+    → a ≡ letterOfBranch sp t i b
 unfolding letterOfBranch
 letter-is sp t i b k a e f = f ∙ ap (λ n. letterOf (moveOf (getD sp (n % mostPoints) noPoint) b)) e
 
 -- ── as the loop stores them ──
 module _ (h : Header) (b : List ℕ) (w : ℕ) where
   -- the last letter
-  pub first-stored : length b ≡ traceBytes → (a : Letter) → w ≡ wordOrZero (encodeLetter firstEdition h a) → drop lastLetter (set (set b lastLetter (w / 256)) (lastLetter + 1) (w % 256)) ≡ bytesOfWords (letterWords h (a ∷ []))
+  pub first-stored : length b ≡ traceBytes → (a : Letter) → w ≡ wordOrZero (encodeLetter firstEdition h a)
+      → drop lastLetter (set (set b lastLetter (w / 256)) (lastLetter + 1) (w % 256)) ≡ bytesOfWords (letterWords h (a ∷ []))
   unfolding bytesOfWords
   first-stored l a f = letter-before h b lastLetter [] (drop-of-length-le b {i = traceBytes} (omega arith)) (omega arith) a w f
 
@@ -99,7 +104,8 @@ module _ (h : Header) (b : List ℕ) (w : ℕ) where
     same-store : set (set b (at - 2) (w / 256)) (at - 1) (w % 256) ≡ putWord b place w
     same-store = ap (λ n. set (set b (at - 2) (w / 256)) n (w % 256)) (let z : at - 1 ≡ at - 2 + 1 = omega arith in z)
 
-    pub letter-stored : (a : Letter) → w ≡ wordOrZero (encodeLetter firstEdition h a) → drop (at - 2) (set (set b (at - 2) (w / 256)) (at - 1) (w % 256)) ≡ bytesOfWords (letterWords h (a ∷ rest))
+    pub letter-stored : (a : Letter) → w ≡ wordOrZero (encodeLetter firstEdition h a)
+        → drop (at - 2) (set (set b (at - 2) (w / 256)) (at - 1) (w % 256)) ≡ bytesOfWords (letterWords h (a ∷ rest))
     letter-stored a f = ap (drop (at - 2)) same-store ∙ letter-before h b place rest behind (omega arith) a w f
 
     pub header-stored : w ≡ wordOrZero (encodeHeader firstEdition h) → drop (at - 2) (set (set b (at - 2) (w / 256)) (at - 1) (w % 256)) ≡ traced h rest
@@ -107,12 +113,14 @@ module _ (h : Header) (b : List ℕ) (w : ℕ) where
 
 -- a turn of the loop: from pair j to its parent
 pub trail-turn : (sp : List PointEntry) (t : List ℕ) (n : ℕ) → Older t n → (j parent branch : ℕ) (letter : Letter) (rest whole : List Letter) → 0 < j → j < n
-    → parent ≡ parentAt t j → branch ≡ branchAt t j → letter ≡ letterOfBranch sp t parent branch → trailTo sp t j j rest ≡ whole → trailTo sp t parent parent (letter ∷ rest) ≡ whole
+    → parent ≡ parentAt t j → branch ≡ branchAt t j → letter ≡ letterOfBranch sp t parent branch → trailTo sp t j j rest ≡ whole
+    → trailTo sp t parent parent (letter ∷ rest) ≡ whole
 trail-turn sp t n o j parent branch letter rest whole l q pe be le e =
     let le′ : letter ≡ letterOfBranch sp t (parentAt t j) (branchAt t j) = le ∙ (λ i. letterOfBranch sp t (pe i) (be i)) in
     (λ i. trailTo sp t (pe i) (pe i) (le′ i ∷ rest)) ∙ trail-step sp t n o j rest l q ∙ e
 
-pub trail-first : (sp : List PointEntry) (t : List ℕ) (d : ℕ) (letter : Letter) → letter ≡ letterOfBranch sp t (d / 2) (d % 2) → trailTo sp t (d / 2) (d / 2) (letter ∷ []) ≡ trailOf sp t d
+pub trail-first : (sp : List PointEntry) (t : List ℕ) (d : ℕ) (letter : Letter) → letter ≡ letterOfBranch sp t (d / 2) (d % 2)
+    → trailTo sp t (d / 2) (d / 2) (letter ∷ []) ≡ trailOf sp t d
 unfolding trailOf
 trail-first sp t d letter e = ap (λ a. trailTo sp t (d / 2) (d / 2) (a ∷ [])) e
 

@@ -12,7 +12,9 @@ use Rattle.search.proofs.copy_from.Reads as reads
 use Rattle.search.proofs.copy_from.Lts as lts
 
 abbrev Inv-loop : tie.InvT-loop
-Inv-loop start output₀ bytes n i₀ output i = (i ≤ n) × (n + start ≡ traceBytes) × (length bytes ≡ traceBytes) × (n ≤ length output₀) × (length output ≡ length output₀) × (output ≡ laid i (drop start bytes) output₀)
+Inv-loop start output₀ bytes n i₀ output i =
+    (i ≤ n) × (n + start ≡ traceBytes) × (length bytes ≡ traceBytes) × (n ≤ length output₀) × (length output ≡ length output₀)
+    × (output ≡ laid i (drop start bytes) output₀)
 
 abbrev μ-loop : tie.MeasureT-loop
 μ-loop start output₀ bytes n i₀ output i = n - i
@@ -39,7 +41,15 @@ loop-less : tie.Need-loop-less Inv-loop μ-loop
 loop-less c = search needs
 
 loop-again : tie.Need-loop-again Inv-loop μ-loop
-loop-again c = let x = c .before in (search needs, search needs, search needs, search needs, search needs, laid-more _ _ _ _ 0 _ (simp length-drop (omega arith)) (omega arith) (x .loop .inv .5) (sym (getD-drop (x .before .args .start) (x .before .args .t1) (x .loop .i) 0)))
+loop-again c = let x = c .before in (
+  search needs,
+  search needs,
+  search needs,
+  search needs,
+  search needs,
+  laid-more _ _ _ _ 0 _ (simp length-drop (omega arith)) (omega arith)
+      (x .loop .inv .5) (sym (getD-drop (x .before .args .start) (x .before .args .t1) (x .loop .i) 0)),
+)
 
 same-length : tie.Need-same-length Inv-loop μ-loop
 same-length c = search needs
@@ -49,7 +59,8 @@ returns c =
     let x = c .before in
     let a = x .before .args in
     let e : x .loop .i ≡ length (drop (a .start) (a .t1)) = simp length-drop (omega arith) in
-    x .loop .inv .5 ∙ ap (λ i. laid i (drop (a .start) (a .t1)) (a .output .now)) e ∙ laid-all (length (drop (a .start) (a .t1))) (drop (a .start) (a .t1)) (a .output .now) refl
+    x .loop .inv .5 ∙ ap (λ i. laid i (drop (a .start) (a .t1)) (a .output .now)) e
+    ∙ laid-all (length (drop (a .start) (a .t1))) (drop (a .start) (a .t1)) (a .output .now) refl
 
 pub copy-from-spec : {M : Type 1} → statement M
 copy-from-spec =

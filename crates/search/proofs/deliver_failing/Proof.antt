@@ -33,8 +33,10 @@ returns-2 c =
     let x = c .before .before .before .before .before .before .before .before .before .before .before .before .before in
     let a = x .args in
     let m = c .before .before .before .before .before .before .before .show-model in
-    failing-shown (a .packed) (a .count) (a .output .now) (x .pre) (c .before .before .before .before .before .before .before .before .before .before .if1 .left) (m .last .1 .1 .0)
-    (subst (λ f. ModelWrittenBehind (drop (a .packed .start) (a .packed .bytes)) (a .output .now) f (m .last .1 .1 .0)) (c .before .before .before .before .if2 .taken) (m .ensures))
+    failing-shown (a .packed) (a .count) (a .output .now) (x .pre)
+    (c .before .before .before .before .before .before .before .before .before .before .if1 .left) (m .last .1 .1 .0)
+    (subst (λ f. ModelWrittenBehind (drop (a .packed .start) (a .packed .bytes)) (a .output .now) f (m .last .1 .1 .0))
+    (c .before .before .before .before .if2 .taken) (m .ensures))
     (c .before .before .write-trace .last .1 .0) (c .before .before .write-trace .ensures)
 
 same-length-2 : tie.Need-same-length-2

@@ -20,7 +20,9 @@ use Rattle.semantics.specs.View.{View, Tracks}
 use Rattle.semantics.specs.SameWindow.{SameWindow}
 use Rattle.semantics.proofs.Theory.SameWindow.{agree-is, view-unique, tracks-same}
 use Rattle.semantics.proofs.Theory.Of.{viewOf, tracks-of}
-use Rattle.semantics.proofs.Theory.Steps.{Equated, Separated, Renamed, equated-is, separated-is, renamed-is, fresh-is, known-is, tracks-copy, tracks-equal, tracks-unequal, tracks-apply-new, tracks-apply-known, fine-apply, copied, copied-below, freshened, target}
+use Rattle.semantics.proofs.Theory.Steps.{Equated, Separated, Renamed, equated-is, separated-is, renamed-is, fresh-is, known-is, tracks-copy}
+use Rattle.semantics.proofs.Theory.Steps.{tracks-equal, tracks-unequal, tracks-apply-new, tracks-apply-known, fine-apply, copied, copied-below}
+use Rattle.semantics.proofs.Theory.Steps.{freshened, target}
 use Rattle.semantics.proofs.Theory.JudgeView.{coherentIn, coherent-in}
 
 module _ (σ τ : State) (v : Valid σ) (u : Valid τ) (same : SameWindow σ τ) where

@@ -2,7 +2,8 @@
 use mathlib.Core.Path.{_≡_, refl, sym, _∙_, ap, subst}
 use mathlib.Core.Logic.{inl, inr}
 use mathlib.Core.Bool.{true, false, _&&_}
-use mathlib.Core.List.{List, [], _∷_, _++_, append-nil, append-assoc, List·Memᴰ·head, List·Memᴰ·not-nil, List·Memᴰ·cases-cons, List·Memᴰ·append-cases, Memᴰ·append-left, Memᴰ·append-right, Memᴰ·cast}
+use mathlib.Core.List.{List, [], _∷_, _++_, append-nil, append-assoc, List·Memᴰ·head, List·Memᴰ·not-nil, List·Memᴰ·cases-cons, List·Memᴰ·append-cases}
+use mathlib.Core.List.{Memᴰ·append-left, Memᴰ·append-right, Memᴰ·cast}
 use Prim.Native.Nat.{ℕ, zero, suc, _-_, _≤_, _<_}
 use native.Mathlib.Omega.{arith}
 use lib.Dec.{T, eqb, eqb→eq, eqb-refl}
@@ -18,7 +19,8 @@ use Rattle.semantics.specs.Closure.{Closure, symmetric}
 use Rattle.semantics.specs.Decide.{find, merges, alike}
 use Rattle.semantics.proofs.Theory.Decide.{alike-i, alike-e}
 use Rattle.semantics.specs.Firsts.{firstsAfter, firstPlace}
-use Rattle.semantics.proofs.Theory.FirstsLaws.{place-first, place-in, place-both, firsts-append, firsts-seen, firsts-new, firsts-extends, firsts-all, firsts-distinct, none-repeats, no-repeats-more, firsts-in, place-below}
+use Rattle.semantics.proofs.Theory.FirstsLaws.{place-first, place-in, place-both, firsts-append, firsts-seen, firsts-new, firsts-extends, firsts-all}
+use Rattle.semantics.proofs.Theory.FirstsLaws.{firsts-distinct, none-repeats, no-repeats-more, firsts-in, place-below}
 use Rattle.semantics.specs.Tables.{Row, rowOf, sameCall}
 use Rattle.semantics.specs.ShownTables.{applications, classesOf, classValue}
 use Rattle.semantics.specs.Numbering.{Filled, Numbering, RowListing}
@@ -102,7 +104,8 @@ module _ (U : List Term) (E : List (Term × Term)) where
         let new : ¬ T (any (alike U E t) C) = λ y.
         let (s, m, z) = any-e (alike U E t) C y in
         let i = elim (firsts-in (alike U E) [] before m) as (λ _. s ∈ before) [ inl k ↦ absurd (List·Memᴰ·not-nil k) | inr k ↦ k ] in
-        n s i (alike-e U E sub (subst (λ l. s ∈ l) (sym e) (Memᴰ·append-left (t ∷ after) i)) (subst (λ l. t ∈ l) (sym e) (Memᴰ·append-right before (List·Memᴰ·head refl)))
+        n s i (alike-e U E sub (subst (λ l. s ∈ l) (sym e) (Memᴰ·append-left (t ∷ after) i))
+        (subst (λ l. t ∈ l) (sym e) (Memᴰ·append-right before (List·Memᴰ·head refl)))
         (eq→eqt (name s) (name t) (sym (alike-name t s z)))) in
         let (r, q) = firsts-extends (alike U E) (C ++ t ∷ []) after in
         let are : classesOf U E ≡ C ++ t ∷ r = whole before after t e new ∙ q ∙ append-assoc C (t ∷ []) r in
@@ -315,7 +318,8 @@ module _ (U : List Term) (v : Term → ℕ) where
       not-before g rows later r e (Memᴰ·cast p (h .complete f s t (subst (λ l. app f s t ∈ l) (sym q) (Memᴰ·append-right b (List·Memᴰ·head refl)))))
 
   -- rows that agree so far have the same next row
-  next-row : {rows other : List Row} → RowListing U v rows → RowListing U v other → (earlier l m : List Row) (r s : Row) → rows ≡ earlier ++ r ∷ l → other ≡ earlier ++ s ∷ m
+  next-row : {rows other : List Row} → RowListing U v rows → RowListing U v other → (earlier l m : List Row) (r s : Row) → rows ≡ earlier ++ r ∷ l
+      → other ≡ earlier ++ s ∷ m
       → r ≡ s
   next-row h g earlier l m r s e d =
       let (b, a, f, t, u, q, p, o) = h .ordered earlier l r e in

@@ -29,7 +29,8 @@ use Rattle.semantics.specs.Tables.{Row, lists, resultIn, rowOf}
 use Rattle.semantics.proofs.Theory.Tables.{modelOf}
 use Rattle.semantics.specs.ShownTables.{rowsOf, startsFrom, shownTables}
 use Rattle.semantics.specs.Coherence.{Superterm, once, again, Above, Kept, Early, Memoizing, Coherent}
-use Rattle.semantics.specs.Paper.{Congruent, same, member, turned, joined, applied, ProperSubterm, SupertermModulo, HeldModulo, MemoizingModulo, EarlyModulo, CoherentModulo}
+use Rattle.semantics.specs.Paper.{Congruent, same, member, turned, joined, applied, ProperSubterm, SupertermModulo, HeldModulo, MemoizingModulo}
+use Rattle.semantics.specs.Paper.{EarlyModulo, CoherentModulo}
 
 -- ── models over any values ──
 -- A model of the equal tests respects the closure.

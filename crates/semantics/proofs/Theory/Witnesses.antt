@@ -244,7 +244,8 @@ printed-back = read-packed firstEdition (state printed .header) (tablesOf (state
 pub packable-no : ¬ Packable firstEdition (record { registers = 1; functions = 0; binary = 0 }) (record { count = 1; starts = []; rows = [] })
 packable-no p = let e = p .registers in omega arith
 
-pub numbering-yes : Numbering (reverse (state lost .terms)) (state lost .equals) (shownValue (state lost)) (length (classesOf (reverse (state lost .terms)) (state lost .equals)))
+pub numbering-yes : Numbering (reverse (state lost .terms)) (state lost .equals) (shownValue (state lost))
+    (length (classesOf (reverse (state lost .terms)) (state lost .equals)))
 numbering-yes = shown-numbering (state lost) valid
 
 -- values start at 1

@@ -33,7 +33,8 @@ use Rattle.window.proofs.Theory.Shape.{shaped-performed}
 use Rattle.window.proofs.Theory.Uniqueness.{bit-same}
 use Rattle.window.specs.declared.Window.{Window}
 use Rattle.slots.specs.Slots.{Slots, slotOf, SlotTableLengths}
-use Rattle.slots.specs.Performing.{placed, marksIn, freeFrom, registerIn, resultsDropped, resultRecorded, everRecorded, droppedSlots, recordedSlots, renewedSlots, freshenedSlots, newSlots, applySlots}
+use Rattle.slots.specs.Performing.{placed, marksIn, freeFrom, registerIn, resultsDropped, resultRecorded, everRecorded, droppedSlots, recordedSlots}
+use Rattle.slots.specs.Performing.{renewedSlots, freshenedSlots, newSlots, applySlots}
 use Rattle.slots.proofs.Theory.Laying.{LaidIn, marks-length, tabled-dropped, laid-renewed, laid-placed, laid-recorded}
 use Rattle.slots.specs.Represents.{Used, Single, slotView, Mirrors, RepresentsWindow}
 use Rattle.slots.proofs.Theory.Pulling.{laws-pulled, pulled-applied, Renewed, renewed-dropped, renewed-free, clean-renewed, single-renewed}
@@ -64,26 +65,37 @@ module _ (ρ φ n : ℕ) (s : Slots) (w : Window) (m : Mirrors ρ φ n s w) (x f
 
   more-small : more < 2 ^ ρ
   unfolding argumentsOf
-  more-small = byTest (eqb y x || eqb z x) (λ t. rw t (or-small ρ (getD (w .class) y 0) (getD (w .class) z 0) (m .shaped .class-bytes y) (m .shaped .class-bytes z))) (λ t. rw t (none-small ρ))
+  more-small = byTest (eqb y x || eqb z x)
+      (λ t. rw t (or-small ρ (getD (w .class) y 0) (getD (w .class) z 0) (m .shaped .class-bytes y) (m .shaped .class-bytes z))) (λ t. rw t (none-small ρ))
 
   more-small′ : more′ < 2 ^ ρ
   unfolding argumentsOf
-  more-small′ = byTest (eqb (g y) (g x) || eqb (g z) (g x)) (λ t. rw t (or-small ρ (2 ^ g y) (2 ^ g z) (pow-small ρ (g y) (low ρ φ n s w m y yb)) (pow-small ρ (g z) (low ρ φ n s w m z zb)))) (λ t. rw t (none-small ρ))
+  more-small′ = byTest (eqb (g y) (g x) || eqb (g z) (g x))
+      (λ t. rw t (or-small ρ (2 ^ g y) (2 ^ g z) (pow-small ρ (g y) (low ρ φ n s w m y yb)) (pow-small ρ (g z) (low ρ φ n s w m z zb))))
+      (λ t. rw t (none-small ρ))
 
   -- ---- marks
 
   fall : (q : ℕ) → T (has (fallenOf ρ φ (getD (w .class) x 0) (w .result) x more) q) ↔ ((sizeOf ρ (getD (w .class) x 0) ≡ 1) × Beneath ρ φ (w .result) x more q)
   fall = fallen-is ρ φ (getD (w .class) x 0) (w .result) x more (up ρ φ n s w m x xb) more-small
 
-  module _ (mk : List Bool) (long : length mk ≡ ρ) (at-mark : (q : ℕ) → q < n → q ≢ x → (T (view ρ φ w .marked q) ⊎ T (has (fallenOf ρ φ (getD (w .class) x 0) (w .result) x more) q)) ↔ T (getD mk q false)) where
+  module _ (mk : List Bool) (long : length mk ≡ ρ)
+      (at-mark : (q : ℕ) → q < n → q ≢ x
+      → (T (view ρ φ w .marked q) ⊎ T (has (fallenOf ρ φ (getD (w .class) x 0) (w .result) x more) q)) ↔ T (getD mk q false)) where
     marks : (r : ℕ) → r < n → T (view ρ φ w′ .marked r) ↔ T (getD (set mk x false) r false)
     unfolding windows.appliedOf
     marks r rb = ⊎-elim
-        (λ e. let i : getD (set (markedWith ρ (w .mark) F) x false) r false ≡ false = ap (λ k. getD (set (markedWith ρ (w .mark) F) x false) k false) e ∙ getD-set-same (markedWith ρ (w .mark) F) x false false (subst (λ k. x < k) (sym (marked-length ρ φ (w .mark) F)) xu) in
-        let j : getD (set mk x false) r false ≡ false = ap (λ k. getD (set mk x false) k false) e ∙ getD-set-same mk x false false (subst (λ k. x < k) (sym long) xu) in
+        (λ e. let i : getD (set (markedWith ρ (w .mark) F) x false) r false ≡ false =
+        ap (λ k. getD (set (markedWith ρ (w .mark) F) x false) k false) e
+        ∙ getD-set-same (markedWith ρ (w .mark) F) x false false (subst (λ k. x < k) (sym (marked-length ρ φ (w .mark) F)) xu) in
+        let j : getD (set mk x false) r false ≡ false =
+        ap (λ k. getD (set mk x false) k false) e ∙ getD-set-same mk x false false (subst (λ k. x < k) (sym long) xu) in
         same-iff (i ∙ sym j))
         (λ d. Iff·trans (same-iff (getD-set-other (markedWith ρ (w .mark) F) x r false false d ∙ marked-at ρ φ (w .mark) F r (up ρ φ n s w m r rb)))
-        (Iff·trans ((λ t. or-e (view ρ φ w .marked r) (has F r) t), (λ k. ⊎-elim (or-l (view ρ φ w .marked r) (has F r)) (or-r (view ρ φ w .marked r) (has F r)) k))
+        (Iff·trans (
+          (λ t. or-e (view ρ φ w .marked r) (has F r) t),
+          (λ k. ⊎-elim (or-l (view ρ φ w .marked r) (has F r)) (or-r (view ρ φ w .marked r) (has F r)) k),
+        )
         (Iff·trans (at-mark r rb d) (same-iff (sym (getD-set-other mk x r false false d))))))
         (eq-or r x)
       where
@@ -97,7 +109,9 @@ module _ (ρ φ n : ℕ) (s : Slots) (w : Window) (m : Mirrors ρ φ n s w) (x f
   unfolding windows.appliedOf
   kept-infeasible = refl
 
-  module _ (o : Single ρ (slotView ρ φ (s .unequal) (s .result) (s .ever))) (none : (c : ℕ) → c < ρ → ¬ T (slotView ρ φ (s .unequal) (s .result) (s .ever) .result f (slotOf (s .slot) y) (slotOf (s .slot) z) c)) (sh : Shaped ρ φ w′) where
+  module _ (o : Single ρ (slotView ρ φ (s .unequal) (s .result) (s .ever)))
+      (none : (c : ℕ) → c < ρ → ¬ T (slotView ρ φ (s .unequal) (s .result) (s .ever) .result f (slotOf (s .slot) y) (slotOf (s .slot) z) c))
+      (sh : Shaped ρ φ w′) where
     -- ---- x is alone in its slot
 
     module _ (e : getD (s .regs) (slotOf (s .slot) x) 0 ≡ 2 ^ x) where
@@ -105,7 +119,8 @@ module _ (ρ φ n : ℕ) (s : Slots) (w : Window) (m : Mirrors ρ φ n s w) (x f
       alone = only ρ φ n s w m x xb e
 
       test-same : (q : ℕ) → q < n → eqb (slotOf (s .slot) q) (slotOf (s .slot) x) ≡ eqb q x
-      test-same q qb = ⊎-elim (λ i. eq-eqb (g q) (g x) (ap g i) ∙ sym (eq-eqb q x i)) (λ i. ne-eqb (g q) (g x) (λ j. i (alone q qb j)) ∙ sym (ne-eqb q x i)) (eq-or q x)
+      test-same q qb = ⊎-elim (λ i. eq-eqb (g q) (g x) (ap g i) ∙ sym (eq-eqb q x i)) (λ i. ne-eqb (g q) (g x) (λ j. i (alone q qb j)) ∙ sym (ne-eqb q x i))
+          (eq-or q x)
 
       more-is : (r : ℕ) → r < n → T (has more r) ↔ T (has more′ (slotOf (s .slot) r))
       unfolding argumentsOf
@@ -113,27 +128,36 @@ module _ (ρ φ n : ℕ) (s : Slots) (w : Window) (m : Mirrors ρ φ n s w) (x f
           let t′ = ap₂ _||_ (test-same y yb) (test-same z zb) in
           byTest (eqb y x || eqb z x)
           (λ t. rw (t′, t) (Iff·trans (or-is (getD (w .class) y 0) (getD (w .class) z 0) r) (Iff·trans (
-            (λ k. ⊎-elim (λ i. inl (single-is (g y) (g r) .1 (sym (m .pulled .same y r yb rb .0 i)))) (λ i. inr (single-is (g z) (g r) .1 (sym (m .pulled .same z r zb rb .0 i)))) k),
-            (λ k. ⊎-elim (λ i. inl (m .pulled .same y r yb rb .1 (sym (single-is (g y) (g r) .0 i)))) (λ i. inr (m .pulled .same z r zb rb .1 (sym (single-is (g z) (g r) .0 i)))) k),
+            (λ k. ⊎-elim (λ i. inl (single-is (g y) (g r) .1 (sym (m .pulled .same y r yb rb .0 i))))
+                (λ i. inr (single-is (g z) (g r) .1 (sym (m .pulled .same z r zb rb .0 i)))) k),
+            (λ k. ⊎-elim (λ i. inl (m .pulled .same y r yb rb .1 (sym (single-is (g y) (g r) .0 i))))
+                (λ i. inr (m .pulled .same z r zb rb .1 (sym (single-is (g z) (g r) .0 i)))) k),
           ) ((λ k. or-is (2 ^ g y) (2 ^ g z) (g r) .1 k), (λ k. or-is (2 ^ g y) (2 ^ g z) (g r) .0 k)))))
           (λ t. rw (t′, t) ((λ k. absurd (none-in r k)), (λ k. absurd (none-in (g r) k))))
 
       abbrev lost : ℕ
       lost = bitOr (lostOf ρ φ (s .result) (slotOf (s .slot) x) more′) (2 ^ slotOf (s .slot) x)
 
-      at-mark : (q : ℕ) → q < n → q ≢ x → (T (view ρ φ w .marked q) ⊎ T (has (fallenOf ρ φ (getD (w .class) x 0) (w .result) x more) q)) ↔ T (getD (marksIn ρ (s .slot) (s .mark) (bitOr (lostOf ρ φ (s .result) (slotOf (s .slot) x) more′) (2 ^ slotOf (s .slot) x))) q false)
+      at-mark : (q : ℕ) → q < n → q ≢ x
+          → (T (view ρ φ w .marked q) ⊎ T (has (fallenOf ρ φ (getD (w .class) x 0) (w .result) x more) q))
+          ↔ T (getD (marksIn ρ (s .slot) (s .mark) (bitOr (lostOf ρ φ (s .result) (slotOf (s .slot) x) more′) (2 ^ slotOf (s .slot) x))) q false)
       at-mark q qb i =
-          let below = Iff·trans (lost-is ρ φ n s w m x more more′ xb alone more-is more-small′ q qb) (one-more (lostOf ρ φ (s .result) (g x) more′) (g x) (g q) (λ h. i (alone q qb h))) in
+          let below = Iff·trans (lost-is ρ φ n s w m x more more′ xb alone more-is more-small′ q qb)
+          (one-more (lostOf ρ φ (s .result) (g x) more′) (g x) (g q) (λ h. i (alone q qb h))) in
           let here = marks-at ρ (s .slot) (s .mark) lost q (up ρ φ n s w m q qb) in (
-            (λ k. subst T (sym here) (⊎-elim (λ t. or-l (getD (s .mark) q false) (has lost (g q)) (m .marked q qb .0 t)) (λ t. or-r (getD (s .mark) q false) (has lost (g q)) (below .0 (fall q .0 t .1))) k)),
-            (λ k. ⊎-elim (λ t. inl (m .marked q qb .1 t)) (λ t. inr (fall q .1 (alone-is ρ φ n s w m x xb .1 e, below .1 t))) (or-e (getD (s .mark) q false) (has lost (g q)) (subst T here k))),
+            (λ k. subst T (sym here) (⊎-elim (λ t. or-l (getD (s .mark) q false) (has lost (g q)) (m .marked q qb .0 t))
+                (λ t. or-r (getD (s .mark) q false) (has lost (g q)) (below .0 (fall q .0 t .1))) k)),
+            (λ k. ⊎-elim (λ t. inl (m .marked q qb .1 t)) (λ t. inr (fall q .1 (alone-is ρ φ n s w m x xb .1 e, below .1 t)))
+                (or-e (getD (s .mark) q false) (has lost (g q)) (subst T here k))),
           )
 
       abbrev D : View
-      D = slotView ρ φ (masksForgotten ρ (slotOf (s .slot) x) (s .unequal)) (resultsDropped ρ (slotOf (s .slot) x) (s .result)) (masksForgotten ρ (slotOf (s .slot) x) (s .ever))
+      D = slotView ρ φ (masksForgotten ρ (slotOf (s .slot) x) (s .unequal)) (resultsDropped ρ (slotOf (s .slot) x) (s .result))
+          (masksForgotten ρ (slotOf (s .slot) x) (s .ever))
 
       abbrev K₁ : View
-      K₁ = slotView ρ φ (masksForgotten ρ (slotOf (s .slot) x) (s .unequal)) (resultRecorded ρ f (slotOf (s .slot) y) (slotOf (s .slot) z) (slotOf (s .slot) x) (resultsDropped ρ (slotOf (s .slot) x) (s .result)))
+      K₁ = slotView ρ φ (masksForgotten ρ (slotOf (s .slot) x) (s .unequal))
+          (resultRecorded ρ f (slotOf (s .slot) y) (slotOf (s .slot) z) (slotOf (s .slot) x) (resultsDropped ρ (slotOf (s .slot) x) (s .result)))
           (everRecorded ρ f (slotOf (s .slot) y) (slotOf (s .slot) z) (slotOf (s .slot) x) (masksForgotten ρ (slotOf (s .slot) x) (s .ever)))
 
       pub renewed : RepresentsWindow ρ φ n (renewedSlots ρ φ s x f (slotOf (s .slot) y) (slotOf (s .slot) z)) w′
@@ -145,22 +169,28 @@ module _ (ρ φ n : ℕ) (s : Slots) (w : Window) (m : Mirrors ρ φ n s w) (x f
           laid = laid-renewed ρ φ s x f (g y) (g z) (m .laid);
           grouped = m .grouped;
           clean = clean-renewed ρ (g x) (Used n g) (Used n g) K K₁ (m .clean) (λ p _ u. u) f (g y) (g z) (y, yb, refl) (z, zb, refl) (x, xb, refl) new;
-          pulled = pulled-applied ρ n g g (view ρ φ w) (view ρ φ w′) K K₁ (m .pulled) (low ρ φ n s w m) x f y z (g x) xb yb zb (λ r rb d. (refl, λ h. d (alone r rb h))) refl
+          pulled = pulled-applied ρ n g g (view ρ φ w) (view ρ φ w′) K K₁ (m .pulled) (low ρ φ n s w m) x f y z (g x) xb yb zb
+              (λ r rb d. (refl, λ h. d (alone r rb h))) refl
               (renamed-applied ρ φ w (m .shaped) n laws (m .inside) x f y z xb fb yb zb) new;
-          marked = marks (marksIn ρ (s .slot) (s .mark) (bitOr (lostOf ρ φ (s .result) (slotOf (s .slot) x) more′) (2 ^ slotOf (s .slot) x))) (marks-length ρ (s .slot) (s .mark) lost) at-mark;
+          marked = marks (marksIn ρ (s .slot) (s .mark) (bitOr (lostOf ρ φ (s .result) (slotOf (s .slot) x) more′) (2 ^ slotOf (s .slot) x)))
+              (marks-length ρ (s .slot) (s .mark) lost) at-mark;
           infeasible = kept-infeasible ∙ m .infeasible;
         };
         single = single-renewed ρ f (g y) (g z) (g x) K K₁ o none new;
       }
         where
-          t : SlotTableLengths ρ φ (masksForgotten ρ (slotOf (s .slot) x) (s .unequal)) (resultsDropped ρ (slotOf (s .slot) x) (s .result)) (masksForgotten ρ (slotOf (s .slot) x) (s .ever))
+          t : SlotTableLengths ρ φ (masksForgotten ρ (slotOf (s .slot) x) (s .unequal)) (resultsDropped ρ (slotOf (s .slot) x) (s .result))
+              (masksForgotten ρ (slotOf (s .slot) x) (s .ever))
           t = tabled-dropped ρ φ (slotOf (s .slot) x) (s .unequal) (s .result) (s .ever) (m .laid .tables)
 
           new : Renewed ρ f (slotOf (s .slot) y) (slotOf (s .slot) z) (slotOf (s .slot) x) (slotView ρ φ (s .unequal) (s .result) (s .ever))
-              (slotView ρ φ (masksForgotten ρ (slotOf (s .slot) x) (s .unequal)) (resultRecorded ρ f (slotOf (s .slot) y) (slotOf (s .slot) z) (slotOf (s .slot) x) (resultsDropped ρ (slotOf (s .slot) x) (s .result)))
+              (slotView ρ φ (masksForgotten ρ (slotOf (s .slot) x) (s .unequal))
+              (resultRecorded ρ f (slotOf (s .slot) y) (slotOf (s .slot) z) (slotOf (s .slot) x) (resultsDropped ρ (slotOf (s .slot) x) (s .result)))
               (everRecorded ρ f (slotOf (s .slot) y) (slotOf (s .slot) z) (slotOf (s .slot) x) (masksForgotten ρ (slotOf (s .slot) x) (s .ever))))
-          new = renewed-dropped ρ f (g y) (g z) (g x) K D K₁ (dropped ρ φ (s .unequal) (s .result) (s .ever) (m .laid .tables .unequal-long) (m .laid .tables .result-long) (m .laid .tables .ever-long) (g x))
-              (recorded ρ φ (masksForgotten ρ (g x) (s .unequal)) (resultsDropped ρ (g x) (s .result)) (masksForgotten ρ (g x) (s .ever)) (t .unequal-long) (t .result-long) (t .ever-long) f (g y) (g z) (g x) fb (low ρ φ n s w m y yb) (low ρ φ n s w m z zb))
+          new = renewed-dropped ρ f (g y) (g z) (g x) K D K₁
+              (dropped ρ φ (s .unequal) (s .result) (s .ever) (m .laid .tables .unequal-long) (m .laid .tables .result-long) (m .laid .tables .ever-long) (g x))
+              (recorded ρ φ (masksForgotten ρ (g x) (s .unequal)) (resultsDropped ρ (g x) (s .result)) (masksForgotten ρ (g x) (s .ever)) (t .unequal-long)
+              (t .result-long) (t .ever-long) f (g y) (g z) (g x) fb (low ρ φ n s w m y yb) (low ρ φ n s w m z zb))
 
     -- ---- x leaves its slot to others
 
@@ -175,7 +205,8 @@ module _ (ρ φ n : ℕ) (s : Slots) (w : Window) (m : Mirrors ρ φ n s w) (x f
       g′ = slotOf (set (s .slot) x (freeFrom (s .regs) 0 ρ))
 
       abbrev K₂ : View
-      K₂ = slotView ρ φ (s .unequal) (resultRecorded ρ f (slotOf (s .slot) y) (slotOf (s .slot) z) (freeFrom (s .regs) 0 ρ) (s .result)) (everRecorded ρ f (slotOf (s .slot) y) (slotOf (s .slot) z) (freeFrom (s .regs) 0 ρ) (s .ever))
+      K₂ = slotView ρ φ (s .unequal) (resultRecorded ρ f (slotOf (s .slot) y) (slotOf (s .slot) z) (freeFrom (s .regs) 0 ρ) (s .result))
+          (everRecorded ρ f (slotOf (s .slot) y) (slotOf (s .slot) z) (freeFrom (s .regs) 0 ρ) (s .ever))
 
       own : slotOf (set (s .slot) x (freeFrom (s .regs) 0 ρ)) x ≡ freeFrom (s .regs) 0 ρ
       own = at-same ρ n (s .slot) (s .regs) x c (m .inside .fits) (m .laid .low) (m .laid .regs-long) (m .grouped) xb (free .0)
@@ -185,7 +216,8 @@ module _ (ρ φ n : ℕ) (s : Slots) (w : Window) (m : Mirrors ρ φ n s w) (x f
 
       new : Renewed ρ f (slotOf (s .slot) y) (slotOf (s .slot) z) (freeFrom (s .regs) 0 ρ) (slotView ρ φ (s .unequal) (s .result) (s .ever)) K₂
       new = renewed-free ρ f (g y) (g z) c (Used n g) K K₂ (m .clean) (free .1) (y, yb, refl) (z, zb, refl)
-          (recorded ρ φ (s .unequal) (s .result) (s .ever) (m .laid .tables .unequal-long) (m .laid .tables .result-long) (m .laid .tables .ever-long) f (g y) (g z) c fb (low ρ φ n s w m y yb) (low ρ φ n s w m z zb))
+          (recorded ρ φ (s .unequal) (s .result) (s .ever) (m .laid .tables .unequal-long) (m .laid .tables .result-long) (m .laid .tables .ever-long) f (g y)
+          (g z) c fb (low ρ φ n s w m y yb) (low ρ φ n s w m z zb))
 
       pub freshened : RepresentsWindow ρ φ n (freshenedSlots ρ φ s x f (slotOf (s .slot) y) (slotOf (s .slot) z)) w′
       unfolding freshenedSlots recordedSlots
@@ -194,10 +226,13 @@ module _ (ρ φ n : ℕ) (s : Slots) (w : Window) (m : Mirrors ρ φ n s w) (x f
           shaped = sh;
           inside = inside-applied ρ φ w (m .shaped) n laws (m .inside) x f y z xb fb yb zb;
           laid = lay;
-          grouped = grouped-moved ρ n (s .slot) (s .regs) x c (m .inside .fits) (m .laid .low) (m .laid .regs-long) (m .grouped) xb (free .0) (λ i. free .1 (x, xb, sym i));
-          clean = clean-renewed ρ c (Used n g) (Used n g′) K K₂ (m .clean) (λ p _ u. keep-all ρ φ n s w m x c xb e p u) f (g y) (g z) (y, yb, refl) (z, zb, refl) (x, xb, own) new;
+          grouped = grouped-moved ρ n (s .slot) (s .regs) x c (m .inside .fits) (m .laid .low) (m .laid .regs-long) (m .grouped) xb (free .0)
+              (λ i. free .1 (x, xb, sym i));
+          clean = clean-renewed ρ c (Used n g) (Used n g′) K K₂ (m .clean) (λ p _ u. keep-all ρ φ n s w m x c xb e p u) f (g y) (g z) (y, yb, refl)
+              (z, zb, refl) (x, xb, own) new;
           pulled = pulled-applied ρ n g g′ (view ρ φ w) (view ρ φ w′) K K₂ (m .pulled) (λ r rb. lay .low .below r (up ρ φ n s w m r rb)) x f y z c xb yb zb
-              (λ r rb d. (sym (getD-set-other (s .slot) x r c 0 d), λ h. free .1 (r, rb, h))) own (renamed-applied ρ φ w (m .shaped) n laws (m .inside) x f y z xb fb yb zb) new;
+              (λ r rb d. (sym (getD-set-other (s .slot) x r c 0 d), λ h. free .1 (r, rb, h))) own
+              (renamed-applied ρ φ w (m .shaped) n laws (m .inside) x f y z xb fb yb zb) new;
           marked = marks (s .mark) (m .laid .mark-long) (λ q qb d. (
             (λ k. ⊎-elim (λ t. m .marked q qb .0 t) (λ t. absurd (e (alone-is ρ φ n s w m x xb .0 (fall q .0 t .0)))) k),
             (λ k. inl (m .marked q qb .1 k)),
@@ -209,7 +244,8 @@ module _ (ρ φ n : ℕ) (s : Slots) (w : Window) (m : Mirrors ρ φ n s w) (x f
 
     pub new-represents : RepresentsWindow ρ φ n (newSlots ρ φ s x f (slotOf (s .slot) y) (slotOf (s .slot) z)) w′
     unfolding newSlots
-    new-represents = byTest (eqb (getD (s .regs) (g x) 0) (2 ^ x)) (λ t. rw t (renewed (eqb-true (getD (s .regs) (g x) 0) (2 ^ x) t))) (λ t. rw t (freshened (eqb-false (getD (s .regs) (g x) 0) (2 ^ x) t)))
+    new-represents = byTest (eqb (getD (s .regs) (g x) 0) (2 ^ x)) (λ t. rw t (renewed (eqb-true (getD (s .regs) (g x) 0) (2 ^ x) t)))
+        (λ t. rw t (freshened (eqb-false (getD (s .regs) (g x) 0) (2 ^ x) t)))
 
 -- ---- a known value
 
@@ -231,38 +267,47 @@ module _ (ρ φ n : ℕ) (s : Slots) (w : Window) (h : RepresentsWindow ρ φ n 
 
   -- with a slot in it, the registers are that slot's
   known : (t : ℕ) → t < ρ → T (has E t) → R ≡ getD (s .regs) t 0
-  known t tb u = bits-same ρ R B (h .mirrors .shaped .result-bytes (place ρ f y z)) (h .mirrors .grouped .bytes t) (λ i ib. bit-same R B i (same-test (has R i) (has B i) (
-    (λ k. let (ni, e) = entry-is i ib .0 k in
-        h .mirrors .grouped .members t i tb .1 (
-          ni,
-          h .single .one f (slotOf (s .slot) y) (slotOf (s .slot) z) (slotOf (s .slot) i) t (low ρ φ n s w (h .mirrors) y yb) (low ρ φ n s w (h .mirrors) z zb) (low ρ φ n s w (h .mirrors) i ni) tb
-              (and-i (ltb f φ) (has E (slotOf (s .slot) i)) (lt→ltb f φ fb) e) (and-i (ltb f φ) (has E t) (lt→ltb f φ fb) u),
-        )),
-    (λ k. let (ni, e) = h .mirrors .grouped .members t i tb .0 k in entry-is i ib .1 (ni, subst (λ j. T (has E j)) (sym e) u)),
-  )))
+  known t tb u = bits-same ρ R B (h .mirrors .shaped .result-bytes (place ρ f y z)) (h .mirrors .grouped .bytes t)
+      (λ i ib. bit-same R B i (same-test (has R i) (has B i) (
+        (λ k. let (ni, e) = entry-is i ib .0 k in
+            h .mirrors .grouped .members t i tb .1 (
+              ni,
+              h .single .one f (slotOf (s .slot) y) (slotOf (s .slot) z) (slotOf (s .slot) i) t (low ρ φ n s w (h .mirrors) y yb)
+                  (low ρ φ n s w (h .mirrors) z zb)
+                  (low ρ φ n s w (h .mirrors) i ni) tb
+                  (and-i (ltb f φ) (has E (slotOf (s .slot) i)) (lt→ltb f φ fb) e) (and-i (ltb f φ) (has E t) (lt→ltb f φ fb) u),
+            )),
+        (λ k. let (ni, e) = h .mirrors .grouped .members t i tb .0 k in entry-is i ib .1 (ni, subst (λ j. T (has E j)) (sym e) u)),
+      )))
     where
       B : ℕ
       B = getD (s .regs) t 0
 
   -- the register that the value is copied from is the window's, and there is none where the window has none
-  found : ((registerIn ρ (s .regs) E ≡ leastIn ρ R) × (leastIn ρ R < n)) ⊎ ((ρ ≤ registerIn ρ (s .regs) E) × (ρ ≤ leastIn ρ R) × ((c : ℕ) → c < ρ → ¬ T (has E c)))
+  found : ((registerIn ρ (s .regs) E ≡ leastIn ρ R) × (leastIn ρ R < n))
+      ⊎ ((ρ ≤ registerIn ρ (s .regs) E) × (ρ ≤ leastIn ρ R) × ((c : ℕ) → c < ρ → ¬ T (has E c)))
   unfolding registerIn
   found = ⊎-elim
       (λ l. let u = truth (has E (leastIn ρ E)) (least-in ρ E l) in
       let k = known (leastIn ρ E) l u in
-      let (_, _, (r, rn, e)) = h .mirrors .clean .result f (slotOf (s .slot) y) (slotOf (s .slot) z) (leastIn ρ E) (low ρ φ n s w (h .mirrors) y yb) (low ρ φ n s w (h .mirrors) z zb) l (and-i (ltb f φ) (has E (leastIn ρ E)) (lt→ltb f φ fb) u) in
+      let (_, _, (r, rn, e)) = h .mirrors .clean .result f (slotOf (s .slot) y) (slotOf (s .slot) z) (leastIn ρ E) (low ρ φ n s w (h .mirrors) y yb)
+      (low ρ φ n s w (h .mirrors) z zb) l (and-i (ltb f φ) (has E (leastIn ρ E)) (lt→ltb f φ fb) u) in
       let ru = up ρ φ n s w (h .mirrors) r rn in
       let ir = entry-is r ru .1 (rn, subst (λ j. T (has E j)) (sym e) u) in
       let lr : leastIn ρ R < ρ = ⊎-elim (λ q. q) (λ q. absurd (no-truth (has R r) (least-below ρ R r (omega arith)) ir)) (less-or (leastIn ρ R) ρ) in
       inl (rw (lt-ltb (leastIn ρ E) ρ l) (ap (leastIn ρ) (sym k)), entry-is (leastIn ρ R) lr .0 (truth (has R (leastIn ρ R)) (least-in ρ R lr)) .0))
       (λ l. let none : (c : ℕ) → c < ρ → ¬ T (has E c) = (λ c cb. no-truth (has E c) (least-below ρ E c (omega arith))) in
-      let lr : ρ ≤ leastIn ρ R = ⊎-elim (λ q. let (rn, t) = entry-is (leastIn ρ R) q .0 (truth (has R (leastIn ρ R)) (least-in ρ R q)) in absurd (none (slotOf (s .slot) (leastIn ρ R)) (low ρ φ n s w (h .mirrors) (leastIn ρ R) rn) t)) (λ q. q) (less-or (leastIn ρ R) ρ) in
+      let lr : ρ ≤ leastIn ρ R = ⊎-elim
+      (λ q. let (rn, t) = entry-is (leastIn ρ R) q .0 (truth (has R (leastIn ρ R)) (least-in ρ R q)) in
+      absurd (none (slotOf (s .slot) (leastIn ρ R)) (low ρ φ n s w (h .mirrors) (leastIn ρ R) rn) t)) (λ q. q) (less-or (leastIn ρ R) ρ) in
       inr (rw (le-ltb (leastIn ρ E) ρ l) (omega arith), lr, none))
       (less-or (leastIn ρ E) ρ)
 
   shaped-new : ρ ≤ leastIn ρ R → Shaped ρ φ (windows.appliedOf ρ φ w x f y z)
   unfolding windows.applyOf
-  shaped-new l = rw (le-ltb (leastIn ρ R) ρ l) at (shaped-performed ρ φ w (Apply x f y z) (up ρ φ n s w (h .mirrors) x xb, fb, up ρ φ n s w (h .mirrors) y yb, up ρ φ n s w (h .mirrors) z zb) (h .mirrors .shaped))
+  shaped-new l = rw (le-ltb (leastIn ρ R) ρ l) at
+      (shaped-performed ρ φ w (Apply x f y z) (up ρ φ n s w (h .mirrors) x xb, fb, up ρ φ n s w (h .mirrors) y yb, up ρ φ n s w (h .mirrors) z zb)
+      (h .mirrors .shaped))
 
   pub apply-represents : RepresentsWindow ρ φ n (applySlots ρ φ s x f y z) (windows.applyOf ρ φ w x f y z)
   unfolding applySlots windows.applyOf

@@ -39,20 +39,27 @@ module _ (ρ φ : ℕ) where
 
   union-at : (l : List ℕ) (a b c : ℕ) → a < ρ → b < ρ → T (has (unionOf l (ρ * a + b) (ρ * ρ) φ) c) ↔ ((f : ℕ) × (f < φ) × T (has (getD l (place ρ f a b) 0) c))
   unfolding foldedOf
-  union-at l a b c ab bb = Iff·trans (same-iff (ap (λ m. has m c) (sym (table-at (λ i. unionOf l i (ρ * ρ) φ) (ρ * ρ) (ρ * a + b) 0 (entry-below ρ ρ a b ab bb))))) (folded-is ρ φ l a b c ab bb)
+  union-at l a b c ab bb = Iff·trans
+      (same-iff (ap (λ m. has m c) (sym (table-at (λ i. unionOf l i (ρ * ρ) φ) (ρ * ρ) (ρ * a + b) 0 (entry-below ρ ρ a b ab bb)))))
+      (folded-is ρ φ l a b c ab bb)
 
   pub around-made : (l : List ℕ) → Around ρ φ l (aroundOf ρ φ l)
   unfolding aroundOf
   around-made l = record {
     long = table-length _ (ρ * ρ);
-    holds = λ a b c ab bb cb. Iff·trans (same-iff (ap (λ m. has m c) (at-pair a b ab bb))) (Iff·trans (or-is (unionOf l (ρ * a + b) (ρ * ρ) φ) (unionOf l (ρ * b + a) (ρ * ρ) φ) c) (
-      (λ k. ⊎-elim (λ t. let (f, fb, u) = union-at l a b c ab bb .0 t in (f, fb, inl u)) (λ t. let (f, fb, u) = union-at l b a c bb ab .0 t in (f, fb, inr u)) k),
-      (λ (f, fb, k). ⊎-elim (λ t. inl (union-at l a b c ab bb .1 (f, fb, t))) (λ t. inr (union-at l b a c bb ab .1 (f, fb, t))) k),
-    ));
+    holds = λ a b c ab bb cb. Iff·trans (same-iff (ap (λ m. has m c) (at-pair a b ab bb)))
+        (Iff·trans (or-is (unionOf l (ρ * a + b) (ρ * ρ) φ) (unionOf l (ρ * b + a) (ρ * ρ) φ) c) (
+          (λ k. ⊎-elim (λ t. let (f, fb, u) = union-at l a b c ab bb .0 t in (f, fb, inl u))
+              (λ t. let (f, fb, u) = union-at l b a c bb ab .0 t in (f, fb, inr u)) k),
+          (λ (f, fb, k). ⊎-elim (λ t. inl (union-at l a b c ab bb .1 (f, fb, t))) (λ t. inr (union-at l b a c bb ab .1 (f, fb, t))) k),
+        ));
   }
     where
-      at-pair : (a b : ℕ) → a < ρ → b < ρ → getD (table (λ k. bitOr (unionOf l k (ρ * ρ) φ) (unionOf l (ρ * (k % ρ) + k / ρ) (ρ * ρ) φ)) (ρ * ρ)) (ρ * a + b) 0 ≡ bitOr (unionOf l (ρ * a + b) (ρ * ρ) φ) (unionOf l (ρ * b + a) (ρ * ρ) φ)
-      at-pair a b ab bb = table-at (λ k. bitOr (unionOf l k (ρ * ρ) φ) (unionOf l (ρ * (k % ρ) + k / ρ) (ρ * ρ) φ)) (ρ * ρ) (ρ * a + b) 0 (entry-below ρ ρ a b ab bb)
+      at-pair : (a b : ℕ) → a < ρ → b < ρ
+          → getD (table (λ k. bitOr (unionOf l k (ρ * ρ) φ) (unionOf l (ρ * (k % ρ) + k / ρ) (ρ * ρ) φ)) (ρ * ρ)) (ρ * a + b) 0 ≡ bitOr
+          (unionOf l (ρ * a + b) (ρ * ρ) φ) (unionOf l (ρ * b + a) (ρ * ρ) φ)
+      at-pair a b ab bb = table-at (λ k. bitOr (unionOf l k (ρ * ρ) φ) (unionOf l (ρ * (k % ρ) + k / ρ) (ρ * ρ) φ)) (ρ * ρ) (ρ * a + b) 0
+          (entry-below ρ ρ a b ab bb)
           ∙ ap₂ (λ i j. bitOr (unionOf l (ρ * a + b) (ρ * ρ) φ) (unionOf l (ρ * i + j) (ρ * ρ) φ)) (along-entry ρ a b bb) (line-entry ρ a b bb)
 
 -- the table of pairs is a table of results of one function
@@ -72,13 +79,20 @@ module _ (ρ φ : ℕ) (l t : List ℕ) (ll : length l ≡ φ * ρ * ρ) (h : Ar
   pub around-dropped : (s : ℕ) → Around ρ φ (resultsDropped ρ s l) (resultsDropped ρ s t)
   around-dropped s = record {
     long = dropped-length ρ s t ∙ h .long;
-    holds = λ a b c ab bb cb. Iff·trans (at-one ρ (resultsDropped ρ s t) a b c) (Iff·trans (results-dropped-is ρ 1 s t (one-long ρ (length t) (h .long)) 0 a b c (omega arith) ab bb) (
-      (λ (i, j, k, u). let (f, fb, v) = h .holds a b c ab bb cb .0 (at-one ρ t a b c .1 u) in
-          (f, fb, ⊎-elim (λ z. inl (results-dropped-is ρ φ s l ll f a b c fb ab bb .1 (i, j, k, z))) (λ z. inr (results-dropped-is ρ φ s l ll f b a c fb bb ab .1 (j, i, k, z))) v)),
-      (λ (f, fb, v). ⊎-elim
-          (λ z. let (i, j, k, u) = results-dropped-is ρ φ s l ll f a b c fb ab bb .0 z in (i, j, k, at-one ρ t a b c .0 (h .holds a b c ab bb cb .1 (f, fb, inl u))))
-          (λ z. let (j, i, k, u) = results-dropped-is ρ φ s l ll f b a c fb bb ab .0 z in (i, j, k, at-one ρ t a b c .0 (h .holds a b c ab bb cb .1 (f, fb, inr u)))) v),
-    ));
+    holds = λ a b c ab bb cb. Iff·trans (at-one ρ (resultsDropped ρ s t) a b c)
+        (Iff·trans (results-dropped-is ρ 1 s t (one-long ρ (length t) (h .long)) 0 a b c (omega arith) ab bb) (
+          (λ (i, j, k, u). let (f, fb, v) = h .holds a b c ab bb cb .0 (at-one ρ t a b c .1 u) in (
+            f,
+            fb,
+            ⊎-elim (λ z. inl (results-dropped-is ρ φ s l ll f a b c fb ab bb .1 (i, j, k, z)))
+                (λ z. inr (results-dropped-is ρ φ s l ll f b a c fb bb ab .1 (j, i, k, z))) v,
+          )),
+          (λ (f, fb, v). ⊎-elim
+              (λ z. let (i, j, k, u) = results-dropped-is ρ φ s l ll f a b c fb ab bb .0 z in
+              (i, j, k, at-one ρ t a b c .0 (h .holds a b c ab bb cb .1 (f, fb, inl u))))
+              (λ z. let (j, i, k, u) = results-dropped-is ρ φ s l ll f b a c fb bb ab .0 z in
+              (i, j, k, at-one ρ t a b c .0 (h .holds a b c ab bb cb .1 (f, fb, inr u)))) v),
+        ));
   }
 
   -- ---- slot b is called a
@@ -87,15 +101,40 @@ module _ (ρ φ : ℕ) (l t : List ℕ) (ll : length l ≡ φ * ρ * ρ) (h : Ar
     around-through : Around ρ φ (resultsThrough ρ a b (2 ^ a) l) (resultsThrough ρ a b (2 ^ a) t)
     around-through = record {
       long = results-length ρ a b (2 ^ a) t ∙ h .long;
-      holds = λ p q c pb qb cb. Iff·trans (at-one ρ (resultsThrough ρ a b (2 ^ a) t) p q c) (Iff·trans (results-is ρ 1 a b (2 ^ a) ab bb t (one-long ρ (length t) (h .long)) 0 p q c (omega arith) pb qb) (
-        (λ (z, y, d, i, j, k, u). let (f, fb, v) = h .holds z y d (pick-below ρ φ a b (2 ^ a) ab bb p z pb i) (pick-below ρ φ a b (2 ^ a) ab bb q y qb j) (pick-below ρ φ a b (2 ^ a) ab bb c d cb k) .0 (at-one ρ t z y d .1 u) in
-            (f, fb, ⊎-elim (λ o. inl (results-is ρ φ a b (2 ^ a) ab bb l ll f p q c fb pb qb .1 (z, y, d, i, j, k, o))) (λ o. inr (results-is ρ φ a b (2 ^ a) ab bb l ll f q p c fb qb pb .1 (y, z, d, j, i, k, o))) v)),
-        (λ (f, fb, v). ⊎-elim
-            (λ o. let (z, y, d, i, j, k, u) = results-is ρ φ a b (2 ^ a) ab bb l ll f p q c fb pb qb .0 o in
-            (z, y, d, i, j, k, at-one ρ t z y d .0 (h .holds z y d (pick-below ρ φ a b (2 ^ a) ab bb p z pb i) (pick-below ρ φ a b (2 ^ a) ab bb q y qb j) (pick-below ρ φ a b (2 ^ a) ab bb c d cb k) .1 (f, fb, inl u))))
-            (λ o. let (y, z, d, j, i, k, u) = results-is ρ φ a b (2 ^ a) ab bb l ll f q p c fb qb pb .0 o in
-            (z, y, d, i, j, k, at-one ρ t z y d .0 (h .holds z y d (pick-below ρ φ a b (2 ^ a) ab bb p z pb i) (pick-below ρ φ a b (2 ^ a) ab bb q y qb j) (pick-below ρ φ a b (2 ^ a) ab bb c d cb k) .1 (f, fb, inr u)))) v),
-      ));
+      holds = λ p q c pb qb cb. Iff·trans (at-one ρ (resultsThrough ρ a b (2 ^ a) t) p q c)
+          (Iff·trans (results-is ρ 1 a b (2 ^ a) ab bb t (one-long ρ (length t) (h .long)) 0 p q c (omega arith) pb qb) (
+            (λ (z, y, d, i, j, k, u). let (f, fb, v) =
+                h .holds z y d (pick-below ρ φ a b (2 ^ a) ab bb p z pb i) (pick-below ρ φ a b (2 ^ a) ab bb q y qb j)
+                (pick-below ρ φ a b (2 ^ a) ab bb c d cb k) .0 (at-one ρ t z y d .1 u) in (
+                  f,
+                  fb,
+                  ⊎-elim (λ o. inl (results-is ρ φ a b (2 ^ a) ab bb l ll f p q c fb pb qb .1 (z, y, d, i, j, k, o)))
+                      (λ o. inr (results-is ρ φ a b (2 ^ a) ab bb l ll f q p c fb qb pb .1 (y, z, d, j, i, k, o))) v,
+                )),
+            (λ (f, fb, v). ⊎-elim
+                (λ o. let (z, y, d, i, j, k, u) = results-is ρ φ a b (2 ^ a) ab bb l ll f p q c fb pb qb .0 o in (
+                  z,
+                  y,
+                  d,
+                  i,
+                  j,
+                  k,
+                  at-one ρ t z y d .0
+                      (h .holds z y d (pick-below ρ φ a b (2 ^ a) ab bb p z pb i) (pick-below ρ φ a b (2 ^ a) ab bb q y qb j)
+                      (pick-below ρ φ a b (2 ^ a) ab bb c d cb k) .1 (f, fb, inl u)),
+                ))
+                (λ o. let (y, z, d, j, i, k, u) = results-is ρ φ a b (2 ^ a) ab bb l ll f q p c fb qb pb .0 o in (
+                  z,
+                  y,
+                  d,
+                  i,
+                  j,
+                  k,
+                  at-one ρ t z y d .0
+                      (h .holds z y d (pick-below ρ φ a b (2 ^ a) ab bb p z pb i) (pick-below ρ φ a b (2 ^ a) ab bb q y qb j)
+                      (pick-below ρ φ a b (2 ^ a) ab bb c d cb k) .1 (f, fb, inr u)),
+                )) v),
+          ));
     }
 
   -- ---- a result is recorded
@@ -103,29 +142,42 @@ module _ (ρ φ : ℕ) (l t : List ℕ) (ll : length l ≡ φ * ρ * ρ) (h : Ar
   module _ (f a b m : ℕ) (fb : f < φ) (ab : a < ρ) (bb : b < ρ) where
     -- the entry of a pair of slots to which m is added
     pair-added : (u : List ℕ) → length u ≡ ρ * ρ → (a b s q c : ℕ) → a < ρ → b < ρ → s < ρ → q < ρ
-        → T (has (getD (set u (ρ * a + b) (bitOr (getD u (ρ * a + b) 0) (2 ^ m))) (ρ * s + q) 0) c) ↔ (T (has (getD u (ρ * s + q) 0) c) ⊎ ((s ≡ a) × (q ≡ b) × (c ≡ m)))
+        → T (has (getD (set u (ρ * a + b) (bitOr (getD u (ρ * a + b) 0) (2 ^ m))) (ρ * s + q) 0) c)
+        ↔ (T (has (getD u (ρ * s + q) 0) c) ⊎ ((s ≡ a) × (q ≡ b) × (c ≡ m)))
     pair-added u ul a b s q c ab bb sb qb = Iff·trans (added u (ρ * a + b) (ρ * s + q) m c (subst (λ z. ρ * a + b < z) (sym ul) (entry-below ρ ρ a b ab bb))) (
-      (λ k. ⊎-elim inl (λ (e, i). inr (sym (line-entry ρ s q qb) ∙ ap (λ z. z / ρ) e ∙ line-entry ρ a b bb, sym (along-entry ρ s q qb) ∙ ap (λ z. z % ρ) e ∙ along-entry ρ a b bb, i)) k),
+      (λ k. ⊎-elim inl (λ (e, i). inr
+          (sym (line-entry ρ s q qb) ∙ ap (λ z. z / ρ) e ∙ line-entry ρ a b bb, sym (along-entry ρ s q qb) ∙ ap (λ z. z % ρ) e ∙ along-entry ρ a b bb, i)) k),
       (λ k. ⊎-elim inl (λ (i, j, e). inr (ap₂ (λ x y. ρ * x + y) i j, e)) k),
     )
 
     both-added : (s q c : ℕ) → s < ρ → q < ρ
-        → T (has (getD (set (set t (ρ * a + b) (bitOr (getD t (ρ * a + b) 0) (2 ^ m))) (ρ * b + a) (bitOr (getD (set t (ρ * a + b) (bitOr (getD t (ρ * a + b) 0) (2 ^ m))) (ρ * b + a) 0) (2 ^ m))) (ρ * s + q) 0) c)
+        → T (has (getD (set (set t (ρ * a + b) (bitOr (getD t (ρ * a + b) 0) (2 ^ m))) (ρ * b + a)
+        (bitOr (getD (set t (ρ * a + b) (bitOr (getD t (ρ * a + b) 0) (2 ^ m))) (ρ * b + a) 0) (2 ^ m))) (ρ * s + q) 0) c)
         ↔ (T (has (getD t (ρ * s + q) 0) c) ⊎ ((c ≡ m) × (((s ≡ a) × (q ≡ b)) ⊎ ((s ≡ b) × (q ≡ a)))))
     both-added s q c sb qb =
         let n = set t (ρ * a + b) (bitOr (getD t (ρ * a + b) 0) (2 ^ m)) in
         Iff·trans (pair-added n (length-set t (ρ * a + b) (bitOr (getD t (ρ * a + b) 0) (2 ^ m)) ∙ h .long) b a s q c bb ab sb qb) (
-          (λ k. ⊎-elim (λ u. ⊎-elim inl (λ (i, j, e). inr (e, inl (i, j))) (pair-added t (h .long) a b s q c ab bb sb qb .0 u)) (λ (i, j, e). inr (e, inr (i, j))) k),
-          (λ k. ⊎-elim (λ u. inl (pair-added t (h .long) a b s q c ab bb sb qb .1 (inl u))) (λ (e, o). ⊎-elim (λ (i, j). inl (pair-added t (h .long) a b s q c ab bb sb qb .1 (inr (i, j, e)))) (λ (i, j). inr (i, j, e)) o) k),
+          (λ k. ⊎-elim (λ u. ⊎-elim inl (λ (i, j, e). inr (e, inl (i, j))) (pair-added t (h .long) a b s q c ab bb sb qb .0 u))
+              (λ (i, j, e). inr (e, inr (i, j))) k),
+          (λ k. ⊎-elim (λ u. inl (pair-added t (h .long) a b s q c ab bb sb qb .1 (inl u)))
+              (λ (e, o). ⊎-elim (λ (i, j). inl (pair-added t (h .long) a b s q c ab bb sb qb .1 (inr (i, j, e)))) (λ (i, j). inr (i, j, e)) o) k),
         )
 
     -- the entry of a result to which m is added
     result-added : (g s q c : ℕ) → g < φ → s < ρ → q < ρ
-        → T (has (getD (set l (place ρ f a b) (bitOr (getD l (place ρ f a b) 0) (2 ^ m))) (place ρ g s q) 0) c) ↔ (T (has (getD l (place ρ g s q) 0) c) ⊎ ((g ≡ f) × (s ≡ a) × (q ≡ b) × (c ≡ m)))
-    result-added g s q c gb sb qb = Iff·trans (added l (place ρ f a b) (place ρ g s q) m c (subst (λ z. place ρ f a b < z) (sym ll) (place-below ρ f a b ab bb φ fb))) (
-      (λ k. ⊎-elim inl (λ (e, i). inr (sym (function-place ρ g s q sb qb) ∙ ap (λ z. z / (ρ * ρ)) e ∙ function-place ρ f a b ab bb, sym (first-place ρ g s q sb qb) ∙ ap (λ z. z / ρ % ρ) e ∙ first-place ρ f a b ab bb, sym (second-place ρ g s q sb qb) ∙ ap (λ z. z % ρ) e ∙ second-place ρ f a b ab bb, i)) k),
-      (λ k. ⊎-elim inl (λ (i, j, o, e). inr (ap₂ (λ x y. ρ * x + y) (ap₂ (λ x y. ρ * x + y) i j) o, e)) k),
-    )
+        → T (has (getD (set l (place ρ f a b) (bitOr (getD l (place ρ f a b) 0) (2 ^ m))) (place ρ g s q) 0) c)
+        ↔ (T (has (getD l (place ρ g s q) 0) c) ⊎ ((g ≡ f) × (s ≡ a) × (q ≡ b) × (c ≡ m)))
+    result-added g s q c gb sb qb =
+        Iff·trans (added l (place ρ f a b) (place ρ g s q) m c (subst (λ z. place ρ f a b < z) (sym ll) (place-below ρ f a b ab bb φ fb))) (
+          (λ k. ⊎-elim inl (λ (e, i). inr (
+            sym (function-place ρ g s q sb qb) ∙ ap (λ z. z / (ρ * ρ)) e ∙ function-place ρ f a b ab bb,
+            sym (first-place ρ g s q sb qb) ∙ ap (λ z. z / ρ % ρ) e
+                ∙ first-place ρ f a b ab bb,
+            sym (second-place ρ g s q sb qb) ∙ ap (λ z. z % ρ) e ∙ second-place ρ f a b ab bb,
+            i,
+          )) k),
+          (λ k. ⊎-elim inl (λ (i, j, o, e). inr (ap₂ (λ x y. ρ * x + y) (ap₂ (λ x y. ρ * x + y) i j) o, e)) k),
+        )
 
     pub around-recorded : Around ρ φ (resultRecorded ρ f a b m l) (pairRecorded ρ a b m t)
     unfolding resultRecorded pairRecorded
@@ -133,18 +185,26 @@ module _ (ρ φ : ℕ) (l t : List ℕ) (ll : length l ≡ φ * ρ * ρ) (h : Ar
       long = simp length-set (h .long);
       holds = λ s q c sb qb cb. Iff·trans (both-added s q c sb qb) (
         (λ k. ⊎-elim
-            (λ u. let (g, gb, v) = h .holds s q c sb qb cb .0 u in (g, gb, ⊎-elim (λ z. inl (result-added g s q c gb sb qb .1 (inl z))) (λ z. inr (result-added g q s c gb qb sb .1 (inl z))) v))
-            (λ (i, o). (f, fb, ⊎-elim (λ (x, y). inl (result-added f s q c fb sb qb .1 (inr (refl, x, y, i)))) (λ (x, y). inr (result-added f q s c fb qb sb .1 (inr (refl, y, x, i)))) o)) k),
+            (λ u. let (g, gb, v) = h .holds s q c sb qb cb .0 u in
+            (g, gb, ⊎-elim (λ z. inl (result-added g s q c gb sb qb .1 (inl z))) (λ z. inr (result-added g q s c gb qb sb .1 (inl z))) v))
+            (λ (i, o). (
+              f,
+              fb,
+              ⊎-elim (λ (x, y). inl (result-added f s q c fb sb qb .1 (inr (refl, x, y, i))))
+                  (λ (x, y). inr (result-added f q s c fb qb sb .1 (inr (refl, y, x, i)))) o,
+            )) k),
         (λ (g, gb, v). ⊎-elim
             (λ z. ⊎-elim (λ u. inl (h .holds s q c sb qb cb .1 (g, gb, inl u))) (λ (_, x, y, i). inr (i, inl (x, y))) (result-added g s q c gb sb qb .0 z))
             (λ z. ⊎-elim (λ u. inl (h .holds s q c sb qb cb .1 (g, gb, inr u))) (λ (_, y, x, i). inr (i, inr (x, y))) (result-added g q s c gb qb sb .0 z)) v),
       );
     }))
 
-pub around-renamed : (ρ φ : ℕ) (l t : List ℕ) → length l ≡ φ * ρ * ρ → Around ρ φ l t → (a b : ℕ) → a < ρ → b < ρ → Around ρ φ (resultsRenamed ρ a b l) (resultsRenamed ρ a b t)
+pub around-renamed : (ρ φ : ℕ) (l t : List ℕ) → length l ≡ φ * ρ * ρ → Around ρ φ l t → (a b : ℕ) → a < ρ → b < ρ
+    → Around ρ φ (resultsRenamed ρ a b l) (resultsRenamed ρ a b t)
 unfolding resultsRenamed
 around-renamed ρ φ l t ll h a b ab bb =
-    around-dropped ρ φ (resultsThrough ρ a b (2 ^ a) l) (resultsThrough ρ a b (2 ^ a) t) (results-length ρ a b (2 ^ a) l ∙ ll) (around-through ρ φ l t ll h a b ab bb) b
+    around-dropped ρ φ (resultsThrough ρ a b (2 ^ a) l) (resultsThrough ρ a b (2 ^ a) t) (results-length ρ a b (2 ^ a) l ∙ ll)
+    (around-through ρ φ l t ll h a b ab bb) b
 
 -- ---- what gets a mark
 
@@ -161,7 +221,8 @@ module _ (ρ : ℕ) where
   ))
 
   both : (m n s c : ℕ) → (T (has m c) ↔ T (has n c)) → T (has (bitAnd m s) c) → T (has (bitAnd n s) c)
-  both m n s c e t = let u = subst T (has-and m s c) t in subst T (sym (has-and n s c)) (and-i (has n c) (has s c) (e .0 (and-l (has m c) (has s c) u)) (and-r (has m c) (has s c) u))
+  both m n s c e t = let u = subst T (has-and m s c) t in
+      subst T (sym (has-and n s c)) (and-i (has n c) (has s c) (e .0 (and-l (has m c) (has s c) u)) (and-r (has m c) (has s c) u))
 
   below-same : (up up′ : List ℕ) → SameAbove up up′ → (s k : ℕ) → k ≤ ρ → belowOf ρ up s k ≡ belowOf ρ up′ s k
   unfolding belowOf
@@ -172,7 +233,8 @@ module _ (ρ : ℕ) where
   passes-same : (up up′ : List ℕ) → SameAbove up up′ → (n s : ℕ) → passes ρ up n s ≡ passes ρ up′ n s
   unfolding passes
   passes-same up up′ e zero s = refl
-  passes-same up up′ e (suc n) s = ap (λ z. passes ρ up n (bitOr s z)) (below-same up up′ e s ρ (omega arith)) ∙ passes-same up up′ e n (bitOr s (belowOf ρ up′ s ρ))
+  passes-same up up′ e (suc n) s =
+      ap (λ z. passes ρ up n (bitOr s z)) (below-same up up′ e s ρ (omega arith)) ∙ passes-same up up′ e n (bitOr s (belowOf ρ up′ s ρ))
 
 module _ (ρ φ : ℕ) (l t : List ℕ) (h : Around ρ φ l t) where
   above-same : SameAbove ρ (aboveSlots ρ t) (aboveOf ρ (foldedOf ρ φ l))
@@ -186,14 +248,22 @@ module _ (ρ φ : ℕ) (l t : List ℕ) (h : Around ρ φ l t) where
           (λ e. (
             placeSecond ρ k,
             second-below ρ φ k kb,
-            subst (λ z. T (has (getD t z 0) c)) (sym (down (placeSecond ρ k) g)) (h .holds (placeSecond ρ k) g c (second-below ρ φ k kb) gb cb .1
-                (placeFunction ρ k, function-below ρ φ k kb, inr (subst (λ z. T (has (getD l z 0) c)) (sym (place-is ρ k) ∙ ap (λ z. place ρ (placeFunction ρ k) z (placeSecond ρ k)) (sym e)) u))),
+            subst (λ z. T (has (getD t z 0) c)) (sym (down (placeSecond ρ k) g)) (h .holds (placeSecond ρ k) g c (second-below ρ φ k kb) gb cb .1 (
+              placeFunction ρ k,
+              function-below ρ φ k kb,
+              inr
+                  (subst (λ z. T (has (getD l z 0) c)) (sym (place-is ρ k) ∙ ap (λ z. place ρ (placeFunction ρ k) z (placeSecond ρ k)) (sym e)) u),
+            )),
           ))
           (λ e. (
             placeFirst ρ k,
             first-below ρ φ k kb,
-            subst (λ z. T (has (getD t z 0) c)) (sym (down (placeFirst ρ k) g)) (h .holds (placeFirst ρ k) g c (first-below ρ φ k kb) gb cb .1
-                (placeFunction ρ k, function-below ρ φ k kb, inl (subst (λ z. T (has (getD l z 0) c)) (sym (place-is ρ k) ∙ ap (λ z. place ρ (placeFunction ρ k) (placeFirst ρ k) z) (sym e)) u))),
+            subst (λ z. T (has (getD t z 0) c)) (sym (down (placeFirst ρ k) g)) (h .holds (placeFirst ρ k) g c (first-below ρ φ k kb) gb cb .1 (
+              placeFunction ρ k,
+              function-below ρ φ k kb,
+              inl
+                  (subst (λ z. T (has (getD l z 0) c)) (sym (place-is ρ k) ∙ ap (λ z. place ρ (placeFunction ρ k) (placeFirst ρ k) z) (sym e)) u),
+            )),
           )) d),
     ) (Iff·symm (above-is ρ φ l g c gb))));
   }
@@ -206,10 +276,12 @@ module _ (ρ φ : ℕ) (l t : List ℕ) (h : Around ρ φ l t) where
   beside-same x xb zero b = refl
   beside-same x xb (suc k) b =
       let kb : k < ρ = omega arith in
-      ap₂ bitOr (beside-same x xb k (omega arith)) (flag-same ρ (getD t (ρ * x + k) 0) (bitOr (getD (foldedOf ρ φ l) (ρ * x + k) 0) (getD (foldedOf ρ φ l) (ρ * k + x) 0)) k (λ c cb.
+      ap₂ bitOr (beside-same x xb k (omega arith))
+      (flag-same ρ (getD t (ρ * x + k) 0) (bitOr (getD (foldedOf ρ φ l) (ρ * x + k) 0) (getD (foldedOf ρ φ l) (ρ * k + x) 0)) k (λ c cb.
       Iff·trans (h .holds x k c xb kb cb) (Iff·trans (
         (λ (f, fb, v). ⊎-elim (λ z. inl (folded-is ρ φ l x k c xb kb .1 (f, fb, z))) (λ z. inr (folded-is ρ φ l k x c kb xb .1 (f, fb, z))) v),
-        (λ v. ⊎-elim (λ z. let (f, fb, u) = folded-is ρ φ l x k c xb kb .0 z in (f, fb, inl u)) (λ z. let (f, fb, u) = folded-is ρ φ l k x c kb xb .0 z in (f, fb, inr u)) v),
+        (λ v. ⊎-elim (λ z. let (f, fb, u) = folded-is ρ φ l x k c xb kb .0 z in (f, fb, inl u))
+            (λ z. let (f, fb, u) = folded-is ρ φ l k x c kb xb .0 z in (f, fb, inr u)) v),
       ) (Iff·symm (or-is (getD (foldedOf ρ φ l) (ρ * x + k) 0) (getD (foldedOf ρ φ l) (ρ * k + x) 0) c)))))
 
   module _ (x more : ℕ) (xb : x < ρ) (mb : more < 2 ^ ρ) where
@@ -217,37 +289,54 @@ module _ (ρ φ : ℕ) (l t : List ℕ) (h : Around ρ φ l t) where
     seed = bitOr (bitOr (2 ^ x) (besideOf ρ (foldedOf ρ φ l) x ρ)) more
 
     seed-small : bitOr (bitOr (2 ^ x) (besideOf ρ (foldedOf ρ φ l) x ρ)) more < 2 ^ ρ
-    seed-small = or-small ρ (bitOr (2 ^ x) (besideOf ρ (foldedOf ρ φ l) x ρ)) more (or-small ρ (2 ^ x) (besideOf ρ (foldedOf ρ φ l) x ρ) (pow-small ρ x xb) (beside-small ρ (foldedOf ρ φ l) x ρ (omega arith))) mb
+    seed-small = or-small ρ (bitOr (2 ^ x) (besideOf ρ (foldedOf ρ φ l) x ρ)) more
+        (or-small ρ (2 ^ x) (besideOf ρ (foldedOf ρ φ l) x ρ) (pow-small ρ x xb) (beside-small ρ (foldedOf ρ φ l) x ρ (omega arith))) mb
 
     -- what lies beside x stands in an entry with it
     near : (h : ℕ) → T (has (besideOf ρ (foldedOf ρ φ l) x ρ) h) → Beneath ρ φ l x more h
     near h t =
         let (hb, (c, cb, p)) = beside-is ρ (foldedOf ρ φ l) x ρ h .0 t in
         ⊎-elim
-        (λ u. let (f, fb, v) = folded-is ρ φ l x h c xb hb .0 u in direct (place ρ f x h) (place-below ρ f x h xb hb φ fb) cb v (inl (first-place ρ f x h xb hb)) (inr (sym (second-place ρ f x h xb hb))))
-        (λ u. let (f, fb, v) = folded-is ρ φ l h x c hb xb .0 u in direct (place ρ f h x) (place-below ρ f h x hb xb φ fb) cb v (inr (inl (second-place ρ f h x hb xb))) (inl (sym (first-place ρ f h x hb xb))))
+        (λ u. let (f, fb, v) = folded-is ρ φ l x h c xb hb .0 u in
+        direct (place ρ f x h) (place-below ρ f x h xb hb φ fb) cb v (inl (first-place ρ f x h xb hb)) (inr (sym (second-place ρ f x h xb hb))))
+        (λ u. let (f, fb, v) = folded-is ρ φ l h x c hb xb .0 u in
+        direct (place ρ f h x) (place-below ρ f h x hb xb φ fb) cb v (inr (inl (second-place ρ f h x hb xb))) (inl (sym (first-place ρ f h x hb xb))))
         p
 
     into : {h : ℕ} → BelowSeed ρ φ l seed h → Beneath ρ φ l x more h ⊎ (h ≡ x)
-    into {h} (seeded t) = ⊎-elim (λ u. ⊎-elim (λ v. inr (single-is x h .0 v)) (λ v. inl (near h v)) (or-is (2 ^ x) (besideOf ρ (foldedOf ρ φ l) x ρ) h .0 u)) (λ u. inl (extra u)) (or-is (bitOr (2 ^ x) (besideOf ρ (foldedOf ρ φ l) x ρ)) more h .0 t)
+    into {h} (seeded t) = ⊎-elim (λ u. ⊎-elim (λ v. inr (single-is x h .0 v)) (λ v. inl (near h v)) (or-is (2 ^ x) (besideOf ρ (foldedOf ρ φ l) x ρ) h .0 u))
+        (λ u. inl (extra u)) (or-is (bitOr (2 ^ x) (besideOf ρ (foldedOf ρ φ l) x ρ)) more h .0 t)
     into (lower {c} hb cb (k, kb, u, d) o) = ⊎-elim (λ b. inl (beneath k kb cb u b d)) (λ e. inl (direct k kb cb u (inr (inr e)) d)) (into o)
 
     self : BelowSeed ρ φ l seed x
-    self = seeded (or-is (bitOr (2 ^ x) (besideOf ρ (foldedOf ρ φ l) x ρ)) more x .1 (inl (or-is (2 ^ x) (besideOf ρ (foldedOf ρ φ l) x ρ) x .1 (inl (single-is x x .1 refl)))))
+    self = seeded (or-is (bitOr (2 ^ x) (besideOf ρ (foldedOf ρ φ l) x ρ)) more x .1
+        (inl (or-is (2 ^ x) (besideOf ρ (foldedOf ρ φ l) x ρ) x .1 (inl (single-is x x .1 refl)))))
 
     -- an argument of a result at x lies beside x, or is x
-    beside : (k : ℕ) {c h : ℕ} → k < φ * ρ * ρ → c < ρ → T (has (getD l k 0) c) → (placeFirst ρ k ≡ x) ⊎ (placeSecond ρ k ≡ x) → (h ≡ placeFirst ρ k) ⊎ (h ≡ placeSecond ρ k) → BelowSeed ρ φ l seed h
+    beside : (k : ℕ) {c h : ℕ} → k < φ * ρ * ρ → c < ρ → T (has (getD l k 0) c) → (placeFirst ρ k ≡ x) ⊎ (placeSecond ρ k ≡ x)
+        → (h ≡ placeFirst ρ k) ⊎ (h ≡ placeSecond ρ k) → BelowSeed ρ φ l seed h
     beside k {c} {h} kb cb t d e = go d e
       where
         from : (h : ℕ) → h < ρ → T (has (getD (foldedOf ρ φ l) (ρ * x + h) 0) c) ⊎ T (has (getD (foldedOf ρ φ l) (ρ * h + x) 0) c) → BelowSeed ρ φ l seed h
-        from h hb p = seeded (or-is (bitOr (2 ^ x) (besideOf ρ (foldedOf ρ φ l) x ρ)) more h .1 (inl (or-is (2 ^ x) (besideOf ρ (foldedOf ρ φ l) x ρ) h .1 (inr (beside-is ρ (foldedOf ρ φ l) x ρ h .1 (hb, (c, cb, p)))))))
+        from h hb p = seeded (or-is (bitOr (2 ^ x) (besideOf ρ (foldedOf ρ φ l) x ρ)) more h .1
+            (inl (or-is (2 ^ x) (besideOf ρ (foldedOf ρ φ l) x ρ) h .1 (inr (beside-is ρ (foldedOf ρ φ l) x ρ h .1 (hb, (c, cb, p)))))))
 
         go : (placeFirst ρ k ≡ x) ⊎ (placeSecond ρ k ≡ x) → (h ≡ placeFirst ρ k) ⊎ (h ≡ placeSecond ρ k) → BelowSeed ρ φ l seed h
         go (inl p) (inl q) = subst (BelowSeed ρ φ l seed) (sym (q ∙ p)) self
         go (inl p) (inr q) = let hb = subst (λ z. z < ρ) (sym q) (second-below ρ φ k kb) in
-            from h hb (inl (folded-is ρ φ l x h c xb hb .1 (placeFunction ρ k, function-below ρ φ k kb, subst (λ z. T (has (getD l z 0) c)) (sym (place-is ρ k) ∙ ap₂ (place ρ (placeFunction ρ k)) p (sym q)) t)))
+            from h hb (inl (folded-is ρ φ l x h c xb hb .1 (
+              placeFunction ρ k,
+              function-below ρ φ k kb,
+              subst (λ z. T (has (getD l z 0) c))
+                  (sym (place-is ρ k) ∙ ap₂ (place ρ (placeFunction ρ k)) p (sym q)) t,
+            )))
         go (inr p) (inl q) = let hb = subst (λ z. z < ρ) (sym q) (first-below ρ φ k kb) in
-            from h hb (inr (folded-is ρ φ l h x c hb xb .1 (placeFunction ρ k, function-below ρ φ k kb, subst (λ z. T (has (getD l z 0) c)) (sym (place-is ρ k) ∙ ap₂ (place ρ (placeFunction ρ k)) (sym q) p) t)))
+            from h hb (inr (folded-is ρ φ l h x c hb xb .1 (
+              placeFunction ρ k,
+              function-below ρ φ k kb,
+              subst (λ z. T (has (getD l z 0) c))
+                  (sym (place-is ρ k) ∙ ap₂ (place ρ (placeFunction ρ k)) (sym q) p) t,
+            )))
         go (inr p) (inr q) = subst (BelowSeed ρ φ l seed) (sym (q ∙ p)) self
 
     argument : (k h : ℕ) → k < φ * ρ * ρ → (h ≡ placeFirst ρ k) ⊎ (h ≡ placeSecond ρ k) → h < ρ
@@ -255,7 +344,9 @@ module _ (ρ φ : ℕ) (l t : List ℕ) (h : Around ρ φ l t) where
 
     back : {h : ℕ} → Beneath ρ φ l x more h → BelowSeed ρ φ l seed h
     back {h} (extra t) = seeded (or-is (bitOr (2 ^ x) (besideOf ρ (foldedOf ρ φ l) x ρ)) more h .1 (inr t))
-    back {h} (direct k {c} kb cb t d e) = ⊎-elim (λ p. beside k kb cb t (inl p) e) (⊎-elim (λ p. beside k kb cb t (inr p) e) (λ p. lower (argument k h kb e) xb (k, kb, subst (λ z. T (has (getD l k 0) z)) p t, e) self)) d
+    back {h} (direct k {c} kb cb t d e) =
+        ⊎-elim (λ p. beside k kb cb t (inl p) e)
+        (⊎-elim (λ p. beside k kb cb t (inr p) e) (λ p. lower (argument k h kb e) xb (k, kb, subst (λ z. T (has (getD l k 0) z)) p t, e) self)) d
     back {h} (beneath k {c} kb cb t o e) = lower (argument k h kb e) cb (k, kb, t, e) (back o)
 
     -- x and the slots that get a mark are found in the table of pairs
@@ -264,9 +355,15 @@ module _ (ρ φ : ℕ) (l t : List ℕ) (h : Around ρ φ l t) where
     lost-around =
         let u = aboveSlots ρ t in
         let v = aboveOf ρ (foldedOf ρ φ l) in
-        passes-same ρ u v above-same (2 ^ ρ) _ ∙ ap (λ m. passes ρ v (2 ^ ρ) (bitOr (bitOr (2 ^ x) m) more)) (beside-same x xb ρ (omega arith)) ∙ bits-same ρ A B (raised-small ρ (aboveOf ρ (foldedOf ρ φ l)) seed seed-small) (or-small ρ (lostOf ρ φ l x more) (2 ^ x) (lost-small ρ φ l x more xb mb) (pow-small ρ x xb)) (λ i ib. bit-same A B i (same-test (has A i) (has B i) (
-          (λ k. or-is (lostOf ρ φ l x more) (2 ^ x) i .1 (⊎-elim (λ b. inl (lost-beneath ρ φ l x more xb mb i .1 b)) (λ e. inr (single-is x i .1 e)) (into (raised-is ρ φ l seed i seed-small .0 k)))),
-          (λ k. raised-is ρ φ l seed i seed-small .1 (⊎-elim (λ b. back (lost-beneath ρ φ l x more xb mb i .0 b)) (λ e. subst (BelowSeed ρ φ l seed) (sym (single-is x i .0 e)) self) (or-is (lostOf ρ φ l x more) (2 ^ x) i .0 k))),
+        passes-same ρ u v above-same (2 ^ ρ) _ ∙ ap (λ m. passes ρ v (2 ^ ρ) (bitOr (bitOr (2 ^ x) m) more)) (beside-same x xb ρ (omega arith))
+        ∙ bits-same ρ A B (raised-small ρ (aboveOf ρ (foldedOf ρ φ l)) seed seed-small)
+        (or-small ρ (lostOf ρ φ l x more) (2 ^ x) (lost-small ρ φ l x more xb mb) (pow-small ρ x xb))
+        (λ i ib. bit-same A B i (same-test (has A i) (has B i) (
+          (λ k. or-is (lostOf ρ φ l x more) (2 ^ x) i .1
+              (⊎-elim (λ b. inl (lost-beneath ρ φ l x more xb mb i .1 b)) (λ e. inr (single-is x i .1 e)) (into (raised-is ρ φ l seed i seed-small .0 k)))),
+          (λ k. raised-is ρ φ l seed i seed-small .1
+              (⊎-elim (λ b. back (lost-beneath ρ φ l x more xb mb i .0 b)) (λ e. subst (BelowSeed ρ φ l seed) (sym (single-is x i .0 e)) self)
+              (or-is (lostOf ρ φ l x more) (2 ^ x) i .0 k))),
         )))
       where
         A : ℕ

@@ -44,8 +44,10 @@ two-from : (m i k : ℕ) → 2 ≤ sizeFrom i k m → (c : ℕ) × (d : ℕ) × 
 unfolding sizeFrom
 two-from m i zero h = absurd (omega arith)
 two-from m i (suc k) h = byTest (has m i)
-    (λ t. let e = eqb-true (bit m i) 1 t in let (d, a, b, u) = some-from m (suc i) k (omega arith) in (i, d, omega arith, omega arith, omega arith, omega arith, (λ z. absurd (omega arith)), truth (has m i) t, u))
-    (λ t. let e = eqb-false (bit m i) 1 t in let (c, d, p, q, r, s, n, u, v) = two-from m (suc i) k (omega arith) in (c, d, omega arith, omega arith, omega arith, omega arith, n, u, v))
+    (λ t. let e = eqb-true (bit m i) 1 t in let (d, a, b, u) = some-from m (suc i) k (omega arith) in
+    (i, d, omega arith, omega arith, omega arith, omega arith, (λ z. absurd (omega arith)), truth (has m i) t, u))
+    (λ t. let e = eqb-false (bit m i) 1 t in let (c, d, p, q, r, s, n, u, v) = two-from m (suc i) k (omega arith) in
+    (c, d, omega arith, omega arith, omega arith, omega arith, n, u, v))
 
 has-some : (m i k c : ℕ) → i ≤ c → c < i + k → T (has m c) → 1 ≤ sizeFrom i k m
 unfolding sizeFrom
@@ -59,7 +61,8 @@ has-two : (m i k c d : ℕ) → i ≤ c → c < d → d < i + k → T (has m c) 
 unfolding sizeFrom
 has-two m i zero c d a b e t u = absurd (omega arith)
 has-two m i (suc k) c d a b e t u = ⊎-elim
-    (λ z. let v : bit m i ≡ 1 = eqb→eq (bit m i) 1 (subst (λ z. T (has m z)) z t) in let r = has-some m (suc i) k d (omega arith) (omega arith) u in omega arith)
+    (λ z. let v : bit m i ≡ 1 = eqb→eq (bit m i) 1 (subst (λ z. T (has m z)) z t) in let r = has-some m (suc i) k d (omega arith) (omega arith) u in
+    omega arith)
     (λ z. let r = has-two m (suc i) k c d (omega arith) b (omega arith) t u in omega arith)
     (eq-or c i)
 
@@ -67,8 +70,11 @@ module _ (ρ m : ℕ) where
   pub many-is : T (manyOf ρ m) ↔ ((c : ℕ) × (d : ℕ) × (c < ρ) × (d < ρ) × (c ≢ d) × T (has m c) × T (has m d))
   unfolding manyOf sizeOf
   many-is = (
-    (λ t. let l = ltb-true 1 (sizeFrom 0 ρ m) (is-true (ltb 1 (sizeFrom 0 ρ m)) t) in let (c, d, _, q, _, s, n, u, v) = two-from m 0 ρ (omega arith) in (c, d, omega arith, omega arith, n, u, v)),
-    (λ (c, d, cb, db, n, u, v). let l : 2 ≤ sizeFrom 0 ρ m = ⊎-elim (λ l. has-two m 0 ρ c d (omega arith) l (omega arith) u v) (λ l. has-two m 0 ρ d c (omega arith) (omega arith) (omega arith) v u) (less-or c d) in lt→ltb 1 (sizeFrom 0 ρ m) (omega arith)),
+    (λ t. let l = ltb-true 1 (sizeFrom 0 ρ m) (is-true (ltb 1 (sizeFrom 0 ρ m)) t) in let (c, d, _, q, _, s, n, u, v) = two-from m 0 ρ (omega arith) in
+        (c, d, omega arith, omega arith, n, u, v)),
+    (λ (c, d, cb, db, n, u, v). let l : 2 ≤ sizeFrom 0 ρ m =
+        ⊎-elim (λ l. has-two m 0 ρ c d (omega arith) l (omega arith) u v) (λ l. has-two m 0 ρ d c (omega arith) (omega arith) (omega arith) v u)
+        (less-or c d) in lt→ltb 1 (sizeFrom 0 ρ m) (omega arith)),
   )
 
   pub doubled-none : (l : List ℕ) (k : ℕ) → doubledOf ρ l k ≡ false → (j : ℕ) → j < k → ¬ T (manyOf ρ (getD l j 0))
@@ -76,7 +82,8 @@ module _ (ρ m : ℕ) where
   doubled-none l zero e j b t = absurd (omega arith)
   doubled-none l (suc k) e j b t = ⊎-elim
       (λ i. no-truth (doubledOf ρ l k || manyOf ρ (getD l k 0)) e (or-r (doubledOf ρ l k) (manyOf ρ (getD l k 0)) (subst (λ z. T (manyOf ρ (getD l z 0))) i t)))
-      (λ i. doubled-none l k (is-false (doubledOf ρ l k) (λ u. no-truth (doubledOf ρ l k || manyOf ρ (getD l k 0)) e (or-l (doubledOf ρ l k) (manyOf ρ (getD l k 0)) u))) j (omega arith) t)
+      (λ i. doubled-none l k (is-false (doubledOf ρ l k)
+      (λ u. no-truth (doubledOf ρ l k || manyOf ρ (getD l k 0)) e (or-l (doubledOf ρ l k) (manyOf ρ (getD l k 0)) u))) j (omega arith) t)
       (eq-or j k)
 
 module _ (ρ φ n : ℕ) (s : Slots) (w : Window) (m : Mirrors ρ φ n s w) where
@@ -90,7 +97,8 @@ module _ (ρ φ n : ℕ) (s : Slots) (w : Window) (m : Mirrors ρ φ n s w) wher
   entry-used : (j c : ℕ) → j < φ * ρ * ρ → c < ρ → T (has (entryOf ρ (s .slot) (s .regs) (s .result) j) c) → Used n (slotOf (s .slot)) c
   entry-used j c jb cb t =
       let (an, bn, u) = entry-has ρ n (s .slot) (s .regs) (m .laid .low) (m .grouped) (s .result) j c (first-below ρ φ j jb) (second-below ρ φ j jb) .0 t in
-      let (_, _, r) = m .clean .result (placeFunction ρ j) (g (placeFirst ρ j)) (g (placeSecond ρ j)) c (low ρ φ n s w m (placeFirst ρ j) an) (low ρ φ n s w m (placeSecond ρ j) bn) cb (rw (lt-ltb (placeFunction ρ j) φ (function-below ρ φ j jb)) u) in
+      let (_, _, r) = m .clean .result (placeFunction ρ j) (g (placeFirst ρ j)) (g (placeSecond ρ j)) c (low ρ φ n s w m (placeFirst ρ j) an)
+      (low ρ φ n s w m (placeSecond ρ j) bn) cb (rw (lt-ltb (placeFunction ρ j) φ (function-below ρ φ j jb)) u) in
       r
 
   -- a result is in two classes exactly if it is in two slots
@@ -100,7 +108,15 @@ module _ (ρ φ n : ℕ) (s : Slots) (w : Window) (m : Mirrors ρ φ n s w) wher
         let (ob, p, q) = rest-is ρ φ (w .class) W c u in
         let (cn, p′) = result-is ρ φ n s w m j jb c cb .0 p in
         let (on, o′) = result-is ρ φ n s w m j jb (leastIn ρ W) ob .0 (name-in ρ φ W ob) in
-        many-is ρ (E j) .1 (g (leastIn ρ W), g c, low ρ φ n s w m (leastIn ρ W) on, low ρ φ n s w m c cn, (λ e. q (m .pulled .same (leastIn ρ W) c on cn .1 e)), o′, p′)),
+        many-is ρ (E j) .1 (
+          g (leastIn ρ W),
+          g c,
+          low ρ φ n s w m (leastIn ρ W) on,
+          low ρ φ n s w m c cn,
+          (λ e. q (m .pulled .same (leastIn ρ W) c on cn .1 e)),
+          o′,
+          p′,
+        )),
     (λ t. let (c, d, cb, db, i, u, v) = many-is ρ (E j) .0 t in
         let (p, pn, pe) = entry-used j c jb cb u in
         let (q, qn, qe) = entry-used j d jb db v in
@@ -130,7 +146,8 @@ module _ (ρ φ n : ℕ) (s : Slots) (w : Window) (m : Mirrors ρ φ n s w) wher
   find-in : (k i : ℕ) (r : ℕ) → r < ρ → T (has (findSlots ρ (s .slot) (s .regs) (s .result) i k) r) → r < n
   unfolding findSlots
   find-in zero i r rb = λ t. absurd (none-in r t)
-  find-in (suc k) i r rb = byTest (manyOf ρ (E i)) (λ u. rw u (λ t. pulled-in ρ n (s .slot) (s .regs) (m .laid .low) (m .grouped) (E i) r rb .0 t .0)) (λ u. rw u (find-in k (suc i) r rb))
+  find-in (suc k) i r rb = byTest (manyOf ρ (E i)) (λ u. rw u (λ t. pulled-in ρ n (s .slot) (s .regs) (m .laid .low) (m .grouped) (E i) r rb .0 t .0))
+      (λ u. rw u (find-in k (suc i) r rb))
 
   find-none : doubledOf ρ (s .result) (φ * ρ * ρ) ≡ false → (k i : ℕ) → i + k ≤ φ * ρ * ρ → findSlots ρ (s .slot) (s .regs) (s .result) i k ≡ 0
   unfolding findSlots
@@ -144,7 +161,9 @@ module _ (ρ φ n : ℕ) (s : Slots) (w : Window) (m : Mirrors ρ φ n s w) wher
           let (an, bn, u′) = H c (first-below ρ φ j jb) (second-below ρ φ j jb) .0 u in
           let (_, _, v′) = H d (first-below ρ φ j jb) (second-below ρ φ j jb) .0 v in
           let k = place ρ (placeFunction ρ j) (g (placeFirst ρ j)) (g (placeSecond ρ j)) in
-          doubled-none ρ 0 (s .result) (φ * ρ * ρ) e k (place-below ρ (placeFunction ρ j) (g (placeFirst ρ j)) (g (placeSecond ρ j)) (low ρ φ n s w m (placeFirst ρ j) an) (low ρ φ n s w m (placeSecond ρ j) bn) φ (function-below ρ φ j jb)) (many-is ρ (getD (s .result) k 0) .1 (c, d, cb, db, i, u′, v′))
+          doubled-none ρ 0 (s .result) (φ * ρ * ρ) e k
+          (place-below ρ (placeFunction ρ j) (g (placeFirst ρ j)) (g (placeSecond ρ j)) (low ρ φ n s w m (placeFirst ρ j) an)
+          (low ρ φ n s w m (placeSecond ρ j) bn) φ (function-below ρ φ j jb)) (many-is ρ (getD (s .result) k 0) .1 (c, d, cb, db, i, u′, v′))
 
   abbrev entry : ℕ
   entry = findSlots ρ (s .slot) (s .regs) (s .result) 0 (φ * ρ * ρ)
@@ -191,7 +210,8 @@ module _ (ρ φ k : ℕ) (s : Slots) where
   unfolding closedSlots
   closed-second t = byTest (doubledOf ρ (s .result) (φ * ρ * ρ)) (λ d. rw d (byTest (ltb first ρ) (λ u. rw (u, t)) (λ u. rw u))) (λ d. rw d)
 
-  closed-merged : doubledOf ρ (s .result) (φ * ρ * ρ) ≡ true → ltb first ρ ≡ true → ltb second ρ ≡ true → closedSlots ρ φ (suc k) s ≡ closedSlots ρ φ k (mergedSlots ρ φ s (slotOf (s .slot) first) (slotOf (s .slot) second))
+  closed-merged : doubledOf ρ (s .result) (φ * ρ * ρ) ≡ true → ltb first ρ ≡ true → ltb second ρ ≡ true
+      → closedSlots ρ φ (suc k) s ≡ closedSlots ρ φ k (mergedSlots ρ φ s (slotOf (s .slot) first) (slotOf (s .slot) second))
   unfolding closedSlots
   closed-merged d t u = rw (d, t, u)
 
@@ -201,7 +221,8 @@ least-none ρ = ⊎-elim (λ l. absurd (none-in (leastIn ρ 0) (name-in ρ ρ 0 
 along : (ρ φ n : ℕ) {s s′ : Slots} {w w′ : Window} → s ≡ s′ → w ≡ w′ → Mirrors ρ φ n s′ w′ → Mirrors ρ φ n s w
 along ρ φ n {s} {s′} {w} {w′} e h m = subst (λ a. Mirrors ρ φ n a w) (sym e) (subst (λ b. Mirrors ρ φ n s′ b) (sym h) m)
 
-module _ (ρ φ n k : ℕ) (s : Slots) (w : Window) (m : Mirrors ρ φ n s w) (next : (s′ : Slots) (w′ : Window) → Mirrors ρ φ n s′ w′ → Mirrors ρ φ n (closedSlots ρ φ k s′) (windows.closedOf ρ φ k w′)) where
+module _ (ρ φ n k : ℕ) (s : Slots) (w : Window) (m : Mirrors ρ φ n s w)
+    (next : (s′ : Slots) (w′ : Window) → Mirrors ρ φ n s′ w′ → Mirrors ρ φ n (closedSlots ρ φ k s′) (windows.closedOf ρ φ k w′)) where
   abbrev F : ℕ
   F = findSlots ρ (s .slot) (s .regs) (s .result) 0 (φ * ρ * ρ)
 
@@ -216,18 +237,22 @@ module _ (ρ φ n k : ℕ) (s : Slots) (w : Window) (m : Mirrors ρ φ n s w) (n
 
   -- nothing is found
   stays : ρ ≤ o → Mirrors ρ φ n (closedSlots ρ φ (suc k) s) (windows.closedOf ρ φ (suc k) w)
-  stays l = along ρ φ n (closed-first ρ φ k s (le-ltb o ρ l)) (windows-laws.closed-none ρ φ (suc k) o (leastIn ρ (restOf ρ φ (w .class) F)) F (restOf ρ φ (w .class) F) w same refl refl refl (omega arith) l) m
+  stays l = along ρ φ n (closed-first ρ φ k s (le-ltb o ρ l))
+      (windows-laws.closed-none ρ φ (suc k) o (leastIn ρ (restOf ρ φ (w .class) F)) F (restOf ρ φ (w .class) F) w same refl refl refl (omega arith) l) m
 
   merges : doubledOf ρ (s .result) (φ * ρ * ρ) ≡ true → o < ρ → t < ρ → Mirrors ρ φ n (closedSlots ρ φ (suc k) s) (windows.closedOf ρ φ (suc k) w)
   merges d ob tb =
       let (tn, apart) = two-in ρ φ n s w m tb in
       along ρ φ n (closed-merged ρ φ k s d (lt-ltb o ρ ob) (lt-ltb t ρ tb))
-      (windows-laws.closed-more ρ φ (suc k) o t F (minus F (getD (s .regs) (slotOf (s .slot) o) 0)) w same refl (sym (rest-same ρ φ n s w m ob)) refl (omega arith) (windows.mergedOf ρ φ w o t) ob tb refl ∙ ap (λ j. windows.closedOf ρ φ j (windows.mergedOf ρ φ w o t)) (omega arith))
-      (next (mergedSlots ρ φ s (slotOf (s .slot) o) (slotOf (s .slot) t)) (windows.mergedOf ρ φ w o t) (merged-mirrors ρ φ n s w m o t (one-in ρ φ n s w m ob) tn (λ e. apart e ob)))
+      (windows-laws.closed-more ρ φ (suc k) o t F (minus F (getD (s .regs) (slotOf (s .slot) o) 0)) w same refl (sym (rest-same ρ φ n s w m ob)) refl
+      (omega arith) (windows.mergedOf ρ φ w o t) ob tb refl ∙ ap (λ j. windows.closedOf ρ φ j (windows.mergedOf ρ φ w o t)) (omega arith))
+      (next (mergedSlots ρ φ s (slotOf (s .slot) o) (slotOf (s .slot) t)) (windows.mergedOf ρ φ w o t)
+      (merged-mirrors ρ φ n s w m o t (one-in ρ φ n s w m ob) tn (λ e. apart e ob)))
 
   ends : o < ρ → ρ ≤ t → Mirrors ρ φ n (closedSlots ρ φ (suc k) s) (windows.closedOf ρ φ (suc k) w)
   ends ob l = along ρ φ n (closed-second ρ φ k s (le-ltb t ρ l))
-      (windows-laws.closed-one ρ φ (suc k) o t F (minus F (getD (s .regs) (slotOf (s .slot) o) 0)) w same refl (sym (rest-same ρ φ n s w m ob)) refl (omega arith) ob l) m
+      (windows-laws.closed-one ρ φ (suc k) o t F (minus F (getD (s .regs) (slotOf (s .slot) o) 0)) w same refl (sym (rest-same ρ φ n s w m ob)) refl
+      (omega arith) ob l) m
 
   turn : Mirrors ρ φ n (closedSlots ρ φ (suc k) s) (windows.closedOf ρ φ (suc k) w)
   turn = byTest (doubledOf ρ (s .result) (φ * ρ * ρ))

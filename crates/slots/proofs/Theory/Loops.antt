@@ -99,7 +99,8 @@ module _ (ρ : ℕ) (t : List ℕ) (x : ℕ) where
   pub beside-all : (m h : ℕ) → h ≤ ρ → ρ ≤ h → m ≡ besideSlots ρ t x h → m ≡ besideSlots ρ t x ρ
   beside-all m h k g e = e ∙ ap (besideSlots ρ t x) (omega arith)
 
-  pub lost-more : (up : List ℕ) (own near more r : ℕ) → up ≡ aboveSlots ρ t → own ≡ 2 ^ x → near ≡ besideSlots ρ t x ρ → r ≡ raisedOf ρ up (bitOr (bitOr own near) more)
+  pub lost-more : (up : List ℕ) (own near more r : ℕ) → up ≡ aboveSlots ρ t → own ≡ 2 ^ x → near ≡ besideSlots ρ t x ρ
+      → r ≡ raisedOf ρ up (bitOr (bitOr own near) more)
       → r ≡ lostSlots ρ t x more
   unfolding lostSlots
   lost-more up own near more r e o d k = rw (k, e, o, d)
@@ -172,7 +173,8 @@ module _ (ρ a b n : ℕ) (t : List ℕ) where
   pair-still e = rw e
 
   pub pair-recorded : (eqb a n || eqb b n) ≡ false → (one two : ℕ) → one ≡ 2 ^ n → two ≡ 2 ^ n
-      → set (set t (ρ * a + b) (bitOr (getD t (ρ * a + b) 0) one)) (ρ * b + a) (bitOr (getD (set t (ρ * a + b) (bitOr (getD t (ρ * a + b) 0) one)) (ρ * b + a) 0) two)
+      → set (set t (ρ * a + b) (bitOr (getD t (ρ * a + b) 0) one)) (ρ * b + a)
+      (bitOr (getD (set t (ρ * a + b) (bitOr (getD t (ρ * a + b) 0) one)) (ρ * b + a) 0) two)
       ≡ pairRecorded ρ a b n t
   unfolding pairRecorded
   pair-recorded e one two p q = rw (e, p, q)
@@ -308,7 +310,8 @@ module _ (ρ : ℕ) (slot regs result : List ℕ) where
   unfolding findSlots
   find-none n i h = let k : n - i ≡ 0 = omega arith in rw k
 
-pub rest-is : (slot regs : List ℕ) (m one s : ℕ) → s ≡ slotOf slot one → bitXor (bitOr m (getD regs s 0)) (getD regs s 0) ≡ minus m (getD regs (slotOf slot one) 0)
+pub rest-is : (slot regs : List ℕ) (m one s : ℕ) → s ≡ slotOf slot one
+    → bitXor (bitOr m (getD regs s 0)) (getD regs s 0) ≡ minus m (getD regs (slotOf slot one) 0)
 unfolding minus
 rest-is slot regs m one s e = rw e
 
@@ -378,7 +381,8 @@ module _ (ρ φ : ℕ) where
   unfolding equalSlots
   equal-within w x y a b p q e = rw (eq-eqb (slotOf (w .slot) x) (slotOf (w .slot) y) (sym p ∙ e ∙ q))
 
-  pub equal-moved : (w next closed v : Slots) (x y a b : ℕ) (bad : Bool) → a ≡ slotOf (w .slot) x → b ≡ slotOf (w .slot) y → a ≢ b → next ≡ mergedSlots ρ φ w a b
+  pub equal-moved : (w next closed v : Slots) (x y a b : ℕ) (bad : Bool) → a ≡ slotOf (w .slot) x → b ≡ slotOf (w .slot) y → a ≢ b
+      → next ≡ mergedSlots ρ φ w a b
       → closed ≡ closedSlots ρ φ (ρ * ρ + 1) next → bad ≡ clashSlots (closed .unequal) ρ → v ≡ settledSlots ρ φ closed bad → v ≡ equalSlots ρ φ w x y
   unfolding equalSlots
   equal-moved w next closed v x y a b bad p q n d c e k = rw (k, e, c, d, ← p, ← q, ne-eqb a b n)

@@ -61,7 +61,8 @@ module _ (ρ φ n : ℕ) (s : Slots) (w : Window) (m : Mirrors ρ φ n s w) wher
       (λ t. single-is x i .1 (alone ρ A x (up x xb) self e i ib (subst (λ z. T (has z i)) (sym (class-is x xb)) t))),
       (λ t. subst (λ z. T (has B z)) (sym (single-is x i .0 t)) (subst (λ z. T (has z x)) (class-is x xb) self)),
     )))),
-    (λ e. ⊎-elim (λ p. p) (λ p. let (j, jb, d, t) = other ρ A x (up x xb) self p in absurd (d (single-is x j .0 (subst (λ z. T (has z j)) (class-is x xb ∙ e) t)))) (eq-or (sizeOf ρ A) 1)),
+    (λ e. ⊎-elim (λ p. p) (λ p. let (j, jb, d, t) = other ρ A x (up x xb) self p in
+        absurd (d (single-is x j .0 (subst (λ z. T (has z j)) (class-is x xb ∙ e) t)))) (eq-or (sizeOf ρ A) 1)),
   )
     where
       A : ℕ
@@ -75,37 +76,48 @@ module _ (ρ φ n : ℕ) (s : Slots) (w : Window) (m : Mirrors ρ φ n s w) wher
 
   -- ---- an entry of the table of results
 
-  pub slot-cell : (f a b c : ℕ) → a < ρ → b < ρ → T (slotView ρ φ (s .unequal) (s .result) (s .ever) .result f a b c) → (place ρ f a b < φ * ρ * ρ) × T (has (getD (s .result) (place ρ f a b) 0) c)
+  pub slot-cell : (f a b c : ℕ) → a < ρ → b < ρ → T (slotView ρ φ (s .unequal) (s .result) (s .ever) .result f a b c)
+      → (place ρ f a b < φ * ρ * ρ) × T (has (getD (s .result) (place ρ f a b) 0) c)
   slot-cell f a b c ab bb t =
       let l = ltb→lt f φ (and-l (ltb f φ) (has (getD (s .result) (place ρ f a b) 0) c) t) in
       (place-below ρ f a b ab bb φ l, and-r (ltb f φ) (has (getD (s .result) (place ρ f a b) 0) c) t)
 
-  pub cell-slot : (k c : ℕ) → k < φ * ρ * ρ → T (has (getD (s .result) k 0) c) → T (slotView ρ φ (s .unequal) (s .result) (s .ever) .result (placeFunction ρ k) (placeFirst ρ k) (placeSecond ρ k) c)
+  pub cell-slot : (k c : ℕ) → k < φ * ρ * ρ → T (has (getD (s .result) k 0) c)
+      → T (slotView ρ φ (s .unequal) (s .result) (s .ever) .result (placeFunction ρ k) (placeFirst ρ k) (placeSecond ρ k) c)
   cell-slot k c b t = rw (lt-ltb (placeFunction ρ k) φ (function-below ρ φ k b), place-is ρ k) t
 
   -- ---- what lies beneath a register that is alone in its slot, and what lies beneath the slot
 
-  module _ (x more more′ : ℕ) (xb : x < n) (lone : (r : ℕ) → r < n → slotOf (s .slot) r ≡ slotOf (s .slot) x → r ≡ x) (mo : (r : ℕ) → r < n → T (has more r) ↔ T (has more′ (slotOf (s .slot) r))) where
+  module _ (x more more′ : ℕ) (xb : x < n) (lone : (r : ℕ) → r < n → slotOf (s .slot) r ≡ slotOf (s .slot) x → r ≡ x)
+      (mo : (r : ℕ) → r < n → T (has more r) ↔ T (has more′ (slotOf (s .slot) r))) where
     -- the entry of a window at the slots of its registers
     record Entry (k c : ℕ) : Type 0 where
       first-in : placeFirst ρ k < n
       second-in : placeSecond ρ k < n
       to-in : c < n
       below : place ρ (placeFunction ρ k) (slotOf (s .slot) (placeFirst ρ k)) (slotOf (s .slot) (placeSecond ρ k)) < φ * ρ * ρ
-      holds : T (has (getD (s .result) (place ρ (placeFunction ρ k) (slotOf (s .slot) (placeFirst ρ k)) (slotOf (s .slot) (placeSecond ρ k))) 0) (slotOf (s .slot) c))
+      holds : T (has (getD (s .result) (place ρ (placeFunction ρ k) (slotOf (s .slot) (placeFirst ρ k)) (slotOf (s .slot) (placeSecond ρ k))) 0)
+          (slotOf (s .slot) c))
 
     entry : (k c : ℕ) → k < φ * ρ * ρ → c < ρ → T (has (getD (w .result) k 0) c) → Entry k c
     entry k c kb cb t =
         let u = cell-result ρ φ w k c kb t in
         let (ab, bb, cc) = m .inside .result (placeFunction ρ k) (placeFirst ρ k) (placeSecond ρ k) c (first-below ρ φ k kb) (second-below ρ φ k kb) cb u in
-        let (l, v) = slot-cell (placeFunction ρ k) (g (placeFirst ρ k)) (g (placeSecond ρ k)) (g c) (low (placeFirst ρ k) ab) (low (placeSecond ρ k) bb) (m .pulled .result (placeFunction ρ k) (placeFirst ρ k) (placeSecond ρ k) c ab bb cc .0 u) in
+        let (l, v) = slot-cell (placeFunction ρ k) (g (placeFirst ρ k)) (g (placeSecond ρ k)) (g c) (low (placeFirst ρ k) ab) (low (placeSecond ρ k) bb)
+        (m .pulled .result (placeFunction ρ k) (placeFirst ρ k) (placeSecond ρ k) c ab bb cc .0 u) in
         record { first-in = ab; second-in = bb; to-in = cc; below = l; holds = v }
 
-    first-of : (k c : ℕ) → Entry k c → placeFirst ρ (place ρ (placeFunction ρ k) (slotOf (s .slot) (placeFirst ρ k)) (slotOf (s .slot) (placeSecond ρ k))) ≡ slotOf (s .slot) (placeFirst ρ k)
-    first-of k c e = first-place ρ (placeFunction ρ k) (g (placeFirst ρ k)) (g (placeSecond ρ k)) (low (placeFirst ρ k) (e .first-in)) (low (placeSecond ρ k) (e .second-in))
+    first-of : (k c : ℕ) → Entry k c
+        → placeFirst ρ (place ρ (placeFunction ρ k) (slotOf (s .slot) (placeFirst ρ k)) (slotOf (s .slot) (placeSecond ρ k))) ≡ slotOf (s .slot)
+        (placeFirst ρ k)
+    first-of k c e = first-place ρ (placeFunction ρ k) (g (placeFirst ρ k)) (g (placeSecond ρ k)) (low (placeFirst ρ k) (e .first-in))
+        (low (placeSecond ρ k) (e .second-in))
 
-    second-of : (k c : ℕ) → Entry k c → placeSecond ρ (place ρ (placeFunction ρ k) (slotOf (s .slot) (placeFirst ρ k)) (slotOf (s .slot) (placeSecond ρ k))) ≡ slotOf (s .slot) (placeSecond ρ k)
-    second-of k c e = second-place ρ (placeFunction ρ k) (g (placeFirst ρ k)) (g (placeSecond ρ k)) (low (placeFirst ρ k) (e .first-in)) (low (placeSecond ρ k) (e .second-in))
+    second-of : (k c : ℕ) → Entry k c
+        → placeSecond ρ (place ρ (placeFunction ρ k) (slotOf (s .slot) (placeFirst ρ k)) (slotOf (s .slot) (placeSecond ρ k))) ≡ slotOf (s .slot)
+        (placeSecond ρ k)
+    second-of k c e = second-place ρ (placeFunction ρ k) (g (placeFirst ρ k)) (g (placeSecond ρ k)) (low (placeFirst ρ k) (e .first-in))
+        (low (placeSecond ρ k) (e .second-in))
 
     into : {h : ℕ} → h < n → Beneath ρ φ (w .result) x more h → Beneath ρ φ (s .result) (slotOf (s .slot) x) more′ (slotOf (s .slot) h)
     into {h} hb (extra t) = extra (mo h hb .0 t)
@@ -120,16 +132,21 @@ module _ (ρ φ n : ℕ) (s : Slots) (w : Window) (m : Mirrors ρ φ n s w) wher
         (⊎-elim (λ i. inl (ap g i ∙ sym (first-of k c v))) (λ i. inr (ap g i ∙ sym (second-of k c v))) e)
 
     -- an entry at slots, at registers of those slots
-    at-registers : (k c p q r : ℕ) → k < φ * ρ * ρ → T (has (getD (s .result) k 0) c) → p < n → q < n → r < n → slotOf (s .slot) p ≡ placeFirst ρ k → slotOf (s .slot) q ≡ placeSecond ρ k → slotOf (s .slot) r ≡ c
+    at-registers : (k c p q r : ℕ) → k < φ * ρ * ρ → T (has (getD (s .result) k 0) c) → p < n → q < n → r < n → slotOf (s .slot) p ≡ placeFirst ρ k
+        → slotOf (s .slot) q ≡ placeSecond ρ k → slotOf (s .slot) r ≡ c
         → (place ρ (placeFunction ρ k) p q < φ * ρ * ρ) × T (has (getD (w .result) (place ρ (placeFunction ρ k) p q) 0) r)
-    at-registers k c p q r kb t pb qb rb i j l = result-cell ρ φ w (placeFunction ρ k) p q r (up p pb) (up q qb) (m .pulled .result (placeFunction ρ k) p q r pb qb rb .1
+    at-registers k c p q r kb t pb qb rb i j l =
+        result-cell ρ φ w (placeFunction ρ k) p q r (up p pb) (up q qb) (m .pulled .result (placeFunction ρ k) p q r pb qb rb .1
         (move3 (λ a b d. T (slotView ρ φ (s .unequal) (s .result) (s .ever) .result (placeFunction ρ k) a b d)) (sym i) (sym j) (sym l) (cell-slot k c kb t)))
 
     -- registers of the slots of an entry, with h for the one that it stands beneath
-    chosen : (k c h : ℕ) {t : ℕ} → k < φ * ρ * ρ → c < ρ → T (has (getD (s .result) k 0) c) → h < n → slotOf (s .slot) h ≡ t → (t ≡ placeFirst ρ k) ⊎ (t ≡ placeSecond ρ k)
-        → (p : ℕ) × (q : ℕ) × (r : ℕ) × (p < n) × (q < n) × (r < n) × (slotOf (s .slot) p ≡ placeFirst ρ k) × (slotOf (s .slot) q ≡ placeSecond ρ k) × (slotOf (s .slot) r ≡ c) × ((h ≡ p) ⊎ (h ≡ q))
+    chosen : (k c h : ℕ) {t : ℕ} → k < φ * ρ * ρ → c < ρ → T (has (getD (s .result) k 0) c) → h < n → slotOf (s .slot) h ≡ t
+        → (t ≡ placeFirst ρ k) ⊎ (t ≡ placeSecond ρ k)
+        → (p : ℕ) × (q : ℕ) × (r : ℕ) × (p < n) × (q < n) × (r < n) × (slotOf (s .slot) p ≡ placeFirst ρ k) × (slotOf (s .slot) q ≡ placeSecond ρ k)
+        × (slotOf (s .slot) r ≡ c) × ((h ≡ p) ⊎ (h ≡ q))
     chosen k c h kb cb t hb i e =
-        let ((p, pb, pe), (q, qb, qe), (r, rb, re)) = m .clean .result (placeFunction ρ k) (placeFirst ρ k) (placeSecond ρ k) c (first-below ρ φ k kb) (second-below ρ φ k kb) cb (cell-slot k c kb t) in
+        let ((p, pb, pe), (q, qb, qe), (r, rb, re)) =
+        m .clean .result (placeFunction ρ k) (placeFirst ρ k) (placeSecond ρ k) c (first-below ρ φ k kb) (second-below ρ φ k kb) cb (cell-slot k c kb t) in
         ⊎-elim (λ j. (h, q, r, hb, qb, rb, i ∙ j, qe, re, inl refl)) (λ j. (p, h, r, pb, hb, rb, pe, i ∙ j, re, inr refl)) e
 
     back : {t : ℕ} → Beneath ρ φ (s .result) (slotOf (s .slot) x) more′ t → (h : ℕ) → h < n → slotOf (s .slot) h ≡ t → Beneath ρ φ (w .result) x more h
@@ -151,5 +168,6 @@ module _ (ρ φ n : ℕ) (s : Slots) (w : Window) (m : Mirrors ρ φ n s w) wher
         (⊎-elim (λ j. inl (j ∙ sym f1)) (λ j. inr (j ∙ sym f2)) o)
 
     -- a register gets a mark exactly if its slot is below the lost one
-    pub lost-is : more′ < 2 ^ ρ → (h : ℕ) → h < n → Beneath ρ φ (w .result) x more h ↔ T (has (lostOf ρ φ (s .result) (slotOf (s .slot) x) more′) (slotOf (s .slot) h))
+    pub lost-is : more′ < 2 ^ ρ → (h : ℕ) → h < n
+        → Beneath ρ φ (w .result) x more h ↔ T (has (lostOf ρ φ (s .result) (slotOf (s .slot) x) more′) (slotOf (s .slot) h))
     lost-is mb h hb = Iff·trans ((λ b. into hb b), (λ b. back b h hb refl)) (Iff·symm (lost-beneath ρ φ (s .result) (g x) more′ (low x xb) mb (g h)))

@@ -66,16 +66,23 @@ module _ (ρ φ n : ℕ) (s : Slots) (w : Window) (m : Mirrors ρ φ n s w) (x y
       ))
       (λ e. Iff·trans (same-iff (ap (λ z. has z r) (getD-set-other next b t 0 0 e))) (⊎-elim
       (λ i. subst (λ z. T (has (getD next z 0) r) ↔ ((r < n) × (slotOf (slotRenamed ρ a b (s .slot)) r ≡ z))) (sym i)
-      (Iff·trans (same-iff (ap (λ z. has z r) (getD-set-same (s .regs) a (bitOr (getD (s .regs) a 0) (getD (s .regs) b 0)) 0 (subst (λ z. a < z) (sym (m .laid .regs-long)) ab))))
+      (Iff·trans (same-iff (ap (λ z. has z r)
+      (getD-set-same (s .regs) a (bitOr (getD (s .regs) a 0) (getD (s .regs) b 0)) 0 (subst (λ z. a < z) (sym (m .laid .regs-long)) ab))))
       (Iff·trans (or-is (getD (s .regs) a 0) (getD (s .regs) b 0) r) (
         (λ k. ⊎-elim
             (λ j. let (rb, h) = m .grouped .members a r ab .0 j in (rb, at-slot r a rb .0 (called-other a b (g r) (λ o. d (sym h ∙ o)) ∙ h)))
             (λ j. let (rb, h) = m .grouped .members b r bb .0 j in (rb, at-slot r a rb .0 (called-same a b (g r) h))) k),
-        (λ (rb, h). ⊎-elim (λ j. inr (m .grouped .members b r bb .1 (rb, j))) (λ j. inl (m .grouped .members a r ab .1 (rb, sym (called-other a b (g r) j) ∙ at-slot r a rb .1 h))) (eq-or (g r) b)),
+        (λ (rb, h). ⊎-elim (λ j. inr (m .grouped .members b r bb .1 (rb, j)))
+            (λ j. inl (m .grouped .members a r ab .1 (rb, sym (called-other a b (g r) j) ∙ at-slot r a rb .1 h))) (eq-or (g r) b)),
       ))))
-      (λ i. Iff·trans (same-iff (ap (λ z. has z r) (getD-set-other (s .regs) a t (bitOr (getD (s .regs) a 0) (getD (s .regs) b 0)) 0 i))) (Iff·trans (m .grouped .members t r tb) (
+      (λ i. Iff·trans (same-iff (ap (λ z. has z r) (getD-set-other (s .regs) a t (bitOr (getD (s .regs) a 0) (getD (s .regs) b 0)) 0 i)))
+      (Iff·trans (m .grouped .members t r tb) (
         (λ (rb, h). (rb, at-slot r t rb .0 (called-other a b (g r) (λ o. e (sym h ∙ o)) ∙ h))),
-        (λ (rb, h). (rb, ⊎-elim (λ j. absurd (i (sym (sym (called-same a b (g r) j) ∙ at-slot r t rb .1 h)))) (λ j. sym (called-other a b (g r) j) ∙ at-slot r t rb .1 h) (eq-or (g r) b))),
+        (λ (rb, h). (
+          rb,
+          ⊎-elim (λ j. absurd (i (sym (sym (called-same a b (g r) j) ∙ at-slot r t rb .1 h))))
+              (λ j. sym (called-other a b (g r) j) ∙ at-slot r t rb .1 h) (eq-or (g r) b),
+        )),
       )))
       (eq-or t a)))
       (eq-or t b)
@@ -86,14 +93,17 @@ module _ (ρ φ n : ℕ) (s : Slots) (w : Window) (m : Mirrors ρ φ n s w) (x y
   grouped : Grouped ρ n (slotRenamed ρ a b (s .slot)) (set next b 0)
   grouped = record {
     members = members;
-    bytes = bytes-set ρ next b 0 (none-small ρ) (bytes-set ρ (s .regs) a (bitOr (getD (s .regs) a 0) (getD (s .regs) b 0)) (or-small ρ (getD (s .regs) a 0) (getD (s .regs) b 0) (m .grouped .bytes a) (m .grouped .bytes b)) (m .grouped .bytes));
+    bytes = bytes-set ρ next b 0 (none-small ρ)
+        (bytes-set ρ (s .regs) a (bitOr (getD (s .regs) a 0) (getD (s .regs) b 0))
+        (or-small ρ (getD (s .regs) a 0) (getD (s .regs) b 0) (m .grouped .bytes a) (m .grouped .bytes b)) (m .grouped .bytes));
   }
 
   abbrev K′ : View
   K′ = slotView ρ φ (masksRenamed ρ a b (s .unequal)) (resultsRenamed ρ a b (s .result)) (masksRenamed ρ a b (s .ever))
 
   tables : Called ρ a b K K′
-  tables = called-tables ρ φ (s .unequal) (s .result) (s .ever) (m .laid .tables .unequal-long) (m .laid .tables .result-long) (m .laid .tables .ever-long) a b ab bb d
+  tables = called-tables ρ φ (s .unequal) (s .result) (s .ever) (m .laid .tables .unequal-long) (m .laid .tables .result-long)
+      (m .laid .tables .ever-long) a b ab bb d
 
   abbrev w′ : Window
   w′ = windows.mergedOf ρ φ w x y
@@ -114,7 +124,8 @@ module _ (ρ φ n : ℕ) (s : Slots) (w : Window) (m : Mirrors ρ φ n s w) (x y
     laid = lay;
     grouped = grouped;
     clean = clean-merged ρ n g g′ (view ρ φ w) (view ρ φ w′) K K′ (m .pulled) (m .clean) (low ρ φ n s w m) low′ x y xb yb slot-of tables;
-    pulled = pulled-merged ρ n g g′ (view ρ φ w) (view ρ φ w′) K K′ (m .pulled) (m .clean) (low ρ φ n s w m) low′ x y xb yb slot-of tables (merged ρ φ w (m .shaped) n laws (m .inside) x y xb yb);
+    pulled = pulled-merged ρ n g g′ (view ρ φ w) (view ρ φ w′) K K′ (m .pulled) (m .clean) (low ρ φ n s w m) low′ x y xb yb slot-of tables
+        (merged ρ φ w (m .shaped) n laws (m .inside) x y xb yb);
     marked = λ r rb. Iff·trans (same-iff (ap (λ l. getD l r false) kept-mark)) (m .marked r rb);
     infeasible = kept-infeasible ∙ m .infeasible;
   }

@@ -23,7 +23,8 @@ pub onto : (n ρ : ℕ) (f : ℕ → ℕ) → ((s : ℕ) → s < ρ → Used n f
 onto zero ρ f h = ⊎-elim (λ l. let (r, rb, _) = h 0 l in absurd (omega arith)) (λ l. l) (less-or 0 ρ)
 onto (suc n) ρ f h = ⊎-elim
     (λ l. let k = onto n (ρ - 1) g (λ s sb. back s sb (eq-or s (f n))) in omega arith)
-    (λ l. let k = onto n ρ f (λ s sb. let (r, rb, e) = h s (omega arith) in let d : r ≢ n = (λ i. let j = ap f (sym i) ∙ e in omega arith) in (r, omega arith, e)) in omega arith)
+    (λ l. let k = onto n ρ f (λ s sb. let (r, rb, e) = h s (omega arith) in let d : r ≢ n = (λ i. let j = ap f (sym i) ∙ e in omega arith) in
+    (r, omega arith, e)) in omega arith)
     (less-or (f n) ρ)
   where
     g : ℕ → ℕ
@@ -58,14 +59,16 @@ room n ρ f x y xb yb d e fits h = let k = onto (n - 1) ρ g all in omega arith
     all s sb = let (r, rb, j) = h s sb in ⊎-elim (λ i. place s y yb d (e ∙ ap f (sym i) ∙ j)) (λ i. place s r rb i j) (eq-or r x)
 
 -- the first free slot, if there is one
-pub free-is : (regs : List ℕ) (k i : ℕ) → ((freeFrom regs i k < i + k) × (getD regs (freeFrom regs i k) 0 ≡ 0)) ⊎ ((j : ℕ) → i ≤ j → j < i + k → getD regs j 0 ≢ 0)
+pub free-is : (regs : List ℕ) (k i : ℕ)
+    → ((freeFrom regs i k < i + k) × (getD regs (freeFrom regs i k) 0 ≡ 0)) ⊎ ((j : ℕ) → i ≤ j → j < i + k → getD regs j 0 ≢ 0)
 unfolding freeFrom
 free-is regs zero i = inr (λ j a b. absurd (omega arith))
 free-is regs (suc k) i = byTest (eqb (getD regs i 0) 0)
     (λ t. rw t (inl (omega arith, eqb-true (getD regs i 0) 0 t)))
     (λ t. rw t (⊎-elim
     (λ (a, e). inl (omega arith, e))
-    (λ h. inr (λ j a b. ⊎-elim (λ l. subst (λ z. getD regs z 0 ≢ 0) (omega arith) (eqb-false (getD regs i 0) 0 t)) (λ l. h j l (omega arith)) (less-or j (suc i))))
+    (λ h. inr (λ j a b. ⊎-elim (λ l. subst (λ z. getD regs z 0 ≢ 0) (omega arith) (eqb-false (getD regs i 0) 0 t)) (λ l. h j l (omega arith))
+    (less-or j (suc i))))
     (free-is regs k (suc i))))
 
 -- a mask that is not empty has a register
@@ -78,8 +81,11 @@ module _ (ρ n : ℕ) (slot regs : List ℕ) (k : Grouped ρ n slot regs) where
   pub unused : (s : ℕ) → s < ρ → getD regs s 0 ≡ 0 → ¬ Used n (slotOf slot) s
   unused s sb e (r, rb, h) = none-in r (subst (λ z. T (has z r)) e (k .members s r sb .1 (rb, h)))
 
-  pub free-slot : (x y : ℕ) → x < n → y < n → y ≢ x → slotOf slot y ≡ slotOf slot x → n ≤ ρ → (freeFrom regs 0 ρ < ρ) × (¬ Used n (slotOf slot) (freeFrom regs 0 ρ))
+  pub free-slot : (x y : ℕ) → x < n → y < n → y ≢ x → slotOf slot y ≡ slotOf slot x → n ≤ ρ
+      → (freeFrom regs 0 ρ < ρ) × (¬ Used n (slotOf slot) (freeFrom regs 0 ρ))
   free-slot x y xb yb d e fits = ⊎-elim
       (λ (a, h). let b : freeFrom regs 0 ρ < ρ = omega arith in (b, unused (freeFrom regs 0 ρ) b h))
-      (λ h. absurd (room n ρ (slotOf slot) x y xb yb d e fits (λ s sb. let (r, _, t) = some-in ρ (getD regs s 0) (k .bytes s) (h s (omega arith) (omega arith)) in let (rb, i) = k .members s r sb .0 t in (r, rb, i))))
+      (λ h. absurd (room n ρ (slotOf slot) x y xb yb d e fits
+      (λ s sb. let (r, _, t) = some-in ρ (getD regs s 0) (k .bytes s) (h s (omega arith) (omega arith)) in let (rb, i) = k .members s r sb .0 t in
+      (r, rb, i))))
       (free-is regs ρ 0)

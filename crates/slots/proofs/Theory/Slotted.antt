@@ -26,11 +26,13 @@ abbrev pub RegistersBelowCount : ℕ → Letter → Type 0
 RegistersBelowCount = steps.RegistersBelowIn registers functions
 
 -- the letter is coherent for the slots exactly if it is for the window
-pub judged : (n : ℕ) (s : Slots) (w : Window) → RepresentsWindowInFirstEdition n s w → (l : Letter) → RegistersBelowCount n l → judgeSlots registers functions s l ≡ judgeOf w l
+pub judged : (n : ℕ) (s : Slots) (w : Window) → RepresentsWindowInFirstEdition n s w → (l : Letter) → RegistersBelowCount n l
+    → judgeSlots registers functions s l ≡ judgeOf w l
 judged = steps.judged registers functions
 
 -- the slots after a letter are those of the window after it
-pub performed : (n : ℕ) (s : Slots) (w : Window) → RepresentsWindowInFirstEdition n s w → (l : Letter) → RegistersBelowCount n l → RepresentsWindowInFirstEdition n (performSlots registers functions s l) (performOf w l)
+pub performed : (n : ℕ) (s : Slots) (w : Window) → RepresentsWindowInFirstEdition n s w → (l : Letter) → RegistersBelowCount n l
+    → RepresentsWindowInFirstEdition n (performSlots registers functions s l) (performOf w l)
 performed = steps.performed registers functions
 
 -- the window is read back
@@ -38,7 +40,8 @@ pub read-back : (n : ℕ) (s : Slots) (w : Window) → RepresentsWindowInFirstEd
 read-back = steps.read-back registers functions
 
 -- slots that pass the test represent the window that is read from them
-pub represents-is : (n : ℕ) (v : Window) (s : Slots) → length (s .slot) ≡ registers → length (s .regs) ≡ registers → SlotTableLengths registers functions (s .unequal) (s .result) (s .ever) → length (s .mark) ≡ registers
+pub represents-is : (n : ℕ) (v : Window) (s : Slots) → length (s .slot) ≡ registers → length (s .regs) ≡ registers
+    → SlotTableLengths registers functions (s .unequal) (s .result) (s .ever) → length (s .mark) ≡ registers
     → representsOf registers functions v s n ≡ true → v ≡ windowOf registers functions s → RepresentsWindowInFirstEdition n s v
 represents-is = regular.represents-is registers functions
 

@@ -23,7 +23,8 @@ use Rattle.window.specs.Viewing.{view, Inside, Shaped}
 use Rattle.window.proofs.Theory.Judging.{clash-is, steady}
 use Rattle.window.specs.declared.Window.{Window}
 use Rattle.slots.specs.Slots.{Slots, slotOf}
-use Rattle.slots.specs.Performing.{slotsWithUnequal, clashSlots, apartSlots, earlySlots, memoizingSlots, mergedSlots, closedSlots, settledSlots, equalSlots, unequalSlots}
+use Rattle.slots.specs.Performing.{slotsWithUnequal, clashSlots, apartSlots, earlySlots, memoizingSlots, mergedSlots, closedSlots, settledSlots}
+use Rattle.slots.specs.Performing.{equalSlots, unequalSlots}
 use Rattle.slots.proofs.Theory.Laying.{apart-length}
 use Rattle.slots.specs.Represents.{slotView, Mirrors, RepresentsWindow}
 use Rattle.slots.proofs.Theory.Pulling.{laws-pulled, move2}
@@ -111,25 +112,42 @@ clash-same : (ρ φ n : ℕ) (s : Slots) (w : Window) → Mirrors ρ φ n s w �
 clash-same ρ φ n s w m = same-test (windows.clashOf ρ φ (w .class) (w .unequal) ρ) (clashSlots (s .unequal) ρ) (
   (λ t. let (r, q, rb, qb, i, j) = clash-is ρ φ (w .class) (w .unequal) ρ .0 t in
       let (rn, qn) = m .inside .same r q rb qb i in
-      clash-slots (s .unequal) ρ .1 (slotOf (s .slot) r, low ρ φ n s w m r rn, subst (λ z. T (has (getD (s .unequal) (slotOf (s .slot) r) 0) z)) (sym (m .pulled .same r q rn qn .0 i)) (m .pulled .apart r q rn qn .0 j))),
+      clash-slots (s .unequal) ρ .1 (
+        slotOf (s .slot) r,
+        low ρ φ n s w m r rn,
+        subst (λ z. T (has (getD (s .unequal) (slotOf (s .slot) r) 0) z))
+            (sym (m .pulled .same r q rn qn .0 i)) (m .pulled .apart r q rn qn .0 j),
+      )),
   (λ t. let (u, ub, p) = clash-slots (s .unequal) ρ .0 t in
       let ((r, rn, e), _) = m .clean .apart u u ub ub p in
       let rb = up ρ φ n s w m r rn in
-      clash-is ρ φ (w .class) (w .unequal) ρ .1 (r, r, rb, rb, m .pulled .same r r rn rn .1 refl, m .pulled .apart r r rn rn .1 (move2 (λ a b. T (has (getD (s .unequal) a 0) b)) (sym e) (sym e) p))),
+      clash-is ρ φ (w .class) (w .unequal) ρ .1 (
+        r,
+        r,
+        rb,
+        rb,
+        m .pulled .same r r rn rn .1 refl,
+        m .pulled .apart r r rn rn .1
+            (move2 (λ a b. T (has (getD (s .unequal) a 0) b)) (sym e) (sym e) p),
+      )),
 )
 
-pub equal-represents : (ρ φ n : ℕ) (s : Slots) (w : Window) → RepresentsWindow ρ φ n s w → (x y : ℕ) → x < n → y < n → RepresentsWindow ρ φ n (equalSlots ρ φ s x y) (windows.equalOf ρ φ w x y)
+pub equal-represents : (ρ φ n : ℕ) (s : Slots) (w : Window) → RepresentsWindow ρ φ n s w → (x y : ℕ) → x < n → y < n
+    → RepresentsWindow ρ φ n (equalSlots ρ φ s x y) (windows.equalOf ρ φ w x y)
 unfolding equalSlots windows.equalOf
 equal-represents ρ φ n s w h x y xb yb = byTest (eqb (slotOf (s .slot) x) (slotOf (s .slot) y))
-    (λ t. let e = is-true (has (getD (w .class) x 0) y) (h .mirrors .pulled .same x y xb yb .1 (eqb-true (slotOf (s .slot) x) (slotOf (s .slot) y) t)) in rw (t, e) h)
+    (λ t. let e = is-true (has (getD (w .class) x 0) y) (h .mirrors .pulled .same x y xb yb .1 (eqb-true (slotOf (s .slot) x) (slotOf (s .slot) y) t)) in
+    rw (t, e) h)
     (λ t. let d = eqb-false (slotOf (s .slot) x) (slotOf (s .slot) y) t in
     let e = is-false (has (getD (w .class) x 0) y) (λ k. d (h .mirrors .pulled .same x y xb yb .0 k)) in
-    let k = closed-mirrors ρ φ n (ρ * ρ + 1) (mergedSlots ρ φ s (slotOf (s .slot) x) (slotOf (s .slot) y)) (windows.mergedOf ρ φ w x y) (merged-mirrors ρ φ n s w (h .mirrors) x y xb yb d) in
+    let k = closed-mirrors ρ φ n (ρ * ρ + 1) (mergedSlots ρ φ s (slotOf (s .slot) x) (slotOf (s .slot) y)) (windows.mergedOf ρ φ w x y)
+    (merged-mirrors ρ φ n s w (h .mirrors) x y xb yb d) in
     let laws = laws-pulled n (slotOf (s .slot)) (view ρ φ w) (slotView ρ φ (s .unequal) (s .result) (s .ever)) (h .mirrors .pulled) in
     let st = steady ρ φ w (h .mirrors .shaped) n laws (h .mirrors .inside) x y xb yb in
     let s₁ = closedSlots ρ φ (ρ * ρ + 1) (mergedSlots ρ φ s (slotOf (s .slot) x) (slotOf (s .slot) y)) in
     let w₁ = windows.closedOf ρ φ (ρ * ρ + 1) (windows.mergedOf ρ φ w x y) in
-    rw (t, e) (settled-represents ρ φ n s₁ w₁ (record { mirrors = k; single = single-stable ρ φ n s₁ w₁ k st }) (clashSlots (s₁ .unequal) ρ) (windows.clashOf ρ φ (w₁ .class) (w₁ .unequal) ρ) (clash-same ρ φ n s₁ w₁ k)))
+    rw (t, e) (settled-represents ρ φ n s₁ w₁ (record { mirrors = k; single = single-stable ρ φ n s₁ w₁ k st }) (clashSlots (s₁ .unequal) ρ)
+    (windows.clashOf ρ φ (w₁ .class) (w₁ .unequal) ρ) (clash-same ρ φ n s₁ w₁ k)))
 
 -- ---- an unequal test
 
@@ -146,12 +164,16 @@ module _ (ρ φ n : ℕ) (s : Slots) (w : Window) (h : RepresentsWindow ρ φ n 
   abbrev D : ℕ
   D = getD (w .class) y 0
 
-  parted-is : (r q : ℕ) → r < ρ → T (has (getD (windows.partedOf ρ φ (w .unequal) C D) r 0) q) ↔ (T (view ρ φ w .apart r q) ⊎ ((T (view ρ φ w .same x r) × T (view ρ φ w .same y q)) ⊎ (T (view ρ φ w .same y r) × T (view ρ φ w .same x q))))
+  parted-is : (r q : ℕ) → r < ρ → T (has (getD (windows.partedOf ρ φ (w .unequal) C D) r 0) q)
+      ↔ (T (view ρ φ w .apart r q) ⊎ ((T (view ρ φ w .same x r) × T (view ρ φ w .same y q)) ⊎ (T (view ρ φ w .same y r) × T (view ρ φ w .same x q))))
   unfolding windows.partedOf
-  parted-is r q rb = Iff·trans (same-iff (ap (λ z. has z q) (table-at (λ r. bitOr (bitOr (getD (w .unequal) r 0) (partOf C D r)) (partOf D C r)) ρ r 0 rb))) (Iff·trans (or-is (bitOr (getD (w .unequal) r 0) (partOf C D r)) (partOf D C r) q) (
-    (λ t. ⊎-elim (λ k. ⊎-elim inl (λ l. inr (inl (part-is C D r q .0 l))) (or-is (getD (w .unequal) r 0) (partOf C D r) q .0 k)) (λ k. inr (inr (part-is D C r q .0 k))) t),
-    (λ t. ⊎-elim (λ k. inl (or-is (getD (w .unequal) r 0) (partOf C D r) q .1 (inl k))) (⊎-elim (λ k. inl (or-is (getD (w .unequal) r 0) (partOf C D r) q .1 (inr (part-is C D r q .1 k)))) (λ k. inr (part-is D C r q .1 k))) t),
-  ))
+  parted-is r q rb = Iff·trans (same-iff (ap (λ z. has z q) (table-at (λ r. bitOr (bitOr (getD (w .unequal) r 0) (partOf C D r)) (partOf D C r)) ρ r 0 rb)))
+      (Iff·trans (or-is (bitOr (getD (w .unequal) r 0) (partOf C D r)) (partOf D C r) q) (
+        (λ t. ⊎-elim (λ k. ⊎-elim inl (λ l. inr (inl (part-is C D r q .0 l))) (or-is (getD (w .unequal) r 0) (partOf C D r) q .0 k))
+            (λ k. inr (inr (part-is D C r q .0 k))) t),
+        (λ t. ⊎-elim (λ k. inl (or-is (getD (w .unequal) r 0) (partOf C D r) q .1 (inl k)))
+            (⊎-elim (λ k. inl (or-is (getD (w .unequal) r 0) (partOf C D r) q .1 (inr (part-is C D r q .1 k)))) (λ k. inr (part-is D C r q .1 k))) t),
+      ))
 
   apart-is : (p q : ℕ) → T (has (getD (apartSlots (s .unequal) a b) p 0) q) ↔ (T (has (getD (s .unequal) p 0) q) ⊎ (((p ≡ a) × (q ≡ b)) ⊎ ((p ≡ b) × (q ≡ a))))
   unfolding apartSlots
@@ -159,7 +181,8 @@ module _ (ρ φ n : ℕ) (s : Slots) (w : Window) (h : RepresentsWindow ρ φ n 
       let l = s .unequal in
       let next = set l a (bitOr (getD l a 0) (2 ^ b)) in
       let al = subst (λ z. a < z) (sym (h .mirrors .laid .tables .unequal-long)) (low ρ φ n s w (h .mirrors) x xb) in
-      let bl = subst (λ z. b < z) (sym (length-set l a (bitOr (getD l a 0) (2 ^ b)) ∙ h .mirrors .laid .tables .unequal-long)) (low ρ φ n s w (h .mirrors) y yb) in
+      let bl = subst (λ z. b < z) (sym (length-set l a (bitOr (getD l a 0) (2 ^ b)) ∙ h .mirrors .laid .tables .unequal-long))
+      (low ρ φ n s w (h .mirrors) y yb) in
       Iff·trans (added next b p a q bl) (
         (λ t. ⊎-elim (λ k. ⊎-elim inl (λ z. inr (inl z)) (added l a p b q al .0 k)) (λ k. inr (inr k)) t),
         (λ t. ⊎-elim (λ k. inl (added l a p b q al .1 (inl k))) (⊎-elim (λ k. inl (added l a p b q al .1 (inr k))) (λ k. inr k)) t),
@@ -185,8 +208,10 @@ module _ (ρ φ n : ℕ) (s : Slots) (w : Window) (h : RepresentsWindow ρ φ n 
     mark = h .mirrors .shaped .mark;
     class-bytes = h .mirrors .shaped .class-bytes;
     unequal-bytes = λ k. ⊎-elim
-        (λ kb. subst (λ z. z < 2 ^ ρ) (sym (table-at (λ r. bitOr (bitOr (getD (w .unequal) r 0) (partOf C D r)) (partOf D C r)) ρ k 0 kb)) (or-small ρ (bitOr (getD (w .unequal) k 0) (partOf C D k)) (partOf D C k)
-        (or-small ρ (getD (w .unequal) k 0) (partOf C D k) (h .mirrors .shaped .unequal-bytes k) (part-small C D k (h .mirrors .shaped .class-bytes y))) (part-small D C k (h .mirrors .shaped .class-bytes x))))
+        (λ kb. subst (λ z. z < 2 ^ ρ) (sym (table-at (λ r. bitOr (bitOr (getD (w .unequal) r 0) (partOf C D r)) (partOf D C r)) ρ k 0 kb))
+        (or-small ρ (bitOr (getD (w .unequal) k 0) (partOf C D k)) (partOf D C k)
+        (or-small ρ (getD (w .unequal) k 0) (partOf C D k) (h .mirrors .shaped .unequal-bytes k) (part-small C D k (h .mirrors .shaped .class-bytes y)))
+        (part-small D C k (h .mirrors .shaped .class-bytes x))))
         (λ kb. subst (λ z. z < 2 ^ ρ) (sym (table-out (λ r. bitOr (bitOr (getD (w .unequal) r 0) (partOf C D r)) (partOf D C r)) ρ k 0 kb)) (none-small ρ))
         (less-or k ρ);
     result-bytes = h .mirrors .shaped .result-bytes;
@@ -197,7 +222,9 @@ module _ (ρ φ n : ℕ) (s : Slots) (w : Window) (h : RepresentsWindow ρ φ n 
   inside = let i = h .mirrors .inside in let xu = up ρ φ n s w (h .mirrors) x xb in let yu = up ρ φ n s w (h .mirrors) y yb in record {
     fits = i .fits;
     same = i .same;
-    apart = λ r q rb qb t. ⊎-elim (λ k. i .apart r q rb qb k) (⊎-elim (λ (k, l). (i .same x r xu rb k .1, i .same y q yu qb l .1)) (λ (k, l). (i .same y r yu rb k .1, i .same x q xu qb l .1))) (parted-is r q rb .0 t);
+    apart = λ r q rb qb t. ⊎-elim (λ k. i .apart r q rb qb k)
+        (⊎-elim (λ (k, l). (i .same x r xu rb k .1, i .same y q yu qb l .1)) (λ (k, l). (i .same y r yu rb k .1, i .same x q xu qb l .1)))
+        (parted-is r q rb .0 t);
     result = i .result;
     ever = i .ever;
     marked = i .marked;
@@ -211,12 +238,18 @@ module _ (ρ φ n : ℕ) (s : Slots) (w : Window) (h : RepresentsWindow ρ φ n 
       laid = record {
         low = m .laid .low;
         regs-long = m .laid .regs-long;
-        tables = record { unequal-long = apart-length (s .unequal) a b ∙ m .laid .tables .unequal-long; result-long = m .laid .tables .result-long; ever-long = m .laid .tables .ever-long };
+        tables = record {
+          unequal-long = apart-length (s .unequal) a b ∙ m .laid .tables .unequal-long;
+          result-long = m .laid .tables .result-long;
+          ever-long =
+              m .laid .tables .ever-long;
+        };
         mark-long = m .laid .mark-long;
       };
       grouped = m .grouped;
       clean = record {
-        apart = λ p q pb qb t. ⊎-elim (λ k. m .clean .apart p q pb qb k) (⊎-elim (λ (i, j). ((x, xb, sym i), (y, yb, sym j))) (λ (i, j). ((y, yb, sym i), (x, xb, sym j)))) (apart-is p q .0 t);
+        apart = λ p q pb qb t. ⊎-elim (λ k. m .clean .apart p q pb qb k)
+            (⊎-elim (λ (i, j). ((x, xb, sym i), (y, yb, sym j))) (λ (i, j). ((y, yb, sym i), (x, xb, sym j)))) (apart-is p q .0 t);
         result = m .clean .result;
         ever = m .clean .ever;
       };
@@ -224,9 +257,11 @@ module _ (ρ φ n : ℕ) (s : Slots) (w : Window) (h : RepresentsWindow ρ φ n 
         same = m .pulled .same;
         apart = λ r q rn qn. Iff·trans (parted-is r q (up ρ φ n s w m r rn)) (Iff·trans (
           (λ t. ⊎-elim (λ k. inl (m .pulled .apart r q rn qn .0 k)) (λ k. inr (⊎-elim
-              (λ (i, j). inl (sym (m .pulled .same x r xb rn .0 i), sym (m .pulled .same y q yb qn .0 j))) (λ (i, j). inr (sym (m .pulled .same y r yb rn .0 i), sym (m .pulled .same x q xb qn .0 j))) k)) t),
+              (λ (i, j). inl (sym (m .pulled .same x r xb rn .0 i), sym (m .pulled .same y q yb qn .0 j)))
+              (λ (i, j). inr (sym (m .pulled .same y r yb rn .0 i), sym (m .pulled .same x q xb qn .0 j))) k)) t),
           (λ t. ⊎-elim (λ k. inl (m .pulled .apart r q rn qn .1 k)) (λ k. inr (⊎-elim
-              (λ (i, j). inl (m .pulled .same x r xb rn .1 (sym i), m .pulled .same y q yb qn .1 (sym j))) (λ (i, j). inr (m .pulled .same y r yb rn .1 (sym i), m .pulled .same x q xb qn .1 (sym j))) k)) t),
+              (λ (i, j). inl (m .pulled .same x r xb rn .1 (sym i), m .pulled .same y q yb qn .1 (sym j)))
+              (λ (i, j). inr (m .pulled .same y r yb rn .1 (sym i), m .pulled .same x q xb qn .1 (sym j))) k)) t),
         ) ((λ t. apart-is (slotOf (s .slot) r) (slotOf (s .slot) q) .1 t), (λ t. apart-is (slotOf (s .slot) r) (slotOf (s .slot) q) .0 t)));
         result = m .pulled .result;
         ever = m .pulled .ever;
@@ -255,7 +290,8 @@ module _ (ρ φ n : ℕ) (s : Slots) (w : Window) (h : RepresentsWindow ρ φ n 
       byTest (has (getD (w .ever) (ρ * f + y) 0) z)
       (λ t. rw (ever-same ∙ t, t) (same-test (nonempty ρ E) (nonempty ρ R) (
         (λ k. let (c, cb, u) = nonempty-is ρ E .0 k in
-            let (_, _, (r, rn, e)) = h .mirrors .clean .result f (slotOf (s .slot) y) (slotOf (s .slot) z) c (low ρ φ n s w (h .mirrors) y yb) (low ρ φ n s w (h .mirrors) z zb) cb (and-i (ltb f φ) (has E c) (lt→ltb f φ fb) u) in
+            let (_, _, (r, rn, e)) = h .mirrors .clean .result f (slotOf (s .slot) y) (slotOf (s .slot) z) c (low ρ φ n s w (h .mirrors) y yb)
+            (low ρ φ n s w (h .mirrors) z zb) cb (and-i (ltb f φ) (has E c) (lt→ltb f φ fb) u) in
             let ru = up ρ φ n s w (h .mirrors) r rn in
             nonempty-is ρ R .1 (r, ru, entry-is ρ φ n s w h 0 f y z (less yb) fb yb zb r ru .1 (rn, subst (λ j. T (has E j)) (sym e) u))),
         (λ k. let (c, cb, u) = nonempty-is ρ R .0 k in
@@ -268,10 +304,11 @@ module _ (ρ φ n : ℕ) (s : Slots) (w : Window) (h : RepresentsWindow ρ φ n 
       less b = omega arith
 
       ever-same : has (getD (s .ever) (ρ * f + slotOf (s .slot) y) 0) (slotOf (s .slot) z) ≡ has (getD (w .ever) (ρ * f + y) 0) z
-      ever-same = let A = has (getD (s .ever) (ρ * f + slotOf (s .slot) y) 0) (slotOf (s .slot) z) in let B = has (getD (w .ever) (ρ * f + y) 0) z in same-test A B (
-        (λ t. and-r (ltb f φ) B (h .mirrors .pulled .ever f y z yb zb .1 (and-i (ltb f φ) A (lt→ltb f φ fb) t))),
-        (λ t. and-r (ltb f φ) A (h .mirrors .pulled .ever f y z yb zb .0 (and-i (ltb f φ) B (lt→ltb f φ fb) t))),
-      )
+      ever-same = let A = has (getD (s .ever) (ρ * f + slotOf (s .slot) y) 0) (slotOf (s .slot) z) in let B = has (getD (w .ever) (ρ * f + y) 0) z in
+          same-test A B (
+            (λ t. and-r (ltb f φ) B (h .mirrors .pulled .ever f y z yb zb .1 (and-i (ltb f φ) A (lt→ltb f φ fb) t))),
+            (λ t. and-r (ltb f φ) A (h .mirrors .pulled .ever f y z yb zb .0 (and-i (ltb f φ) B (lt→ltb f φ fb) t))),
+          )
 
   pub early-same : (x y : ℕ) → x < n → y < n → earlySlots (s .mark) x y ≡ windows.earlyOf w x y
   unfolding earlySlots windows.earlyOf

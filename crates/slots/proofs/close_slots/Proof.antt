@@ -63,18 +63,46 @@ close-slots-spec = tie.close (tie.spec
     (λ c κs. let k = c .before .before .before .before .before .before .before in
     let h = k .before .before .before .before .before .before .before in
     (c .before .before .before .if3 .left, h .before .before .before .before .loop .inv .0))
-    (λ c κs. let l = c .before .before .before .before .before .before .before .before .before .before .before .before .before .before .before .before .before .before .before .before .before .before .before .before .before .loop in
-    (c .before .before .before .before .before .before .before .before .slot-of .ensures .1, c .before .before .before .before .before .before .slot-of2 .ensures .1, l .inv .0, l .inv .1, l .inv .2, l .inv .4))
-    (λ c. omega (arith, c .before .before .before .before .before .before .before .before .before .before .before .before .before .before .before .before .before .before .before .before .before .before .before .before .before .loop-test .taken))
-    (λ c. omega (arith, c .before .before .before .before .before .before .before .before .before .before .before .before .before .before .before .before .before .before .before .before .before .before .before .before .before .loop-test .taken))
-    (λ c. let l = c .before .before .before .before .before .before .before .before .before .before .before .before .before .before .before .before .before .before .before .before .before .before .before .before .before .before .loop in
+    (λ c κs. let l = c .before .before .before .before .before .before .before .before .before .before .before .before .before .before .before .before .before
+    .before .before .before .before .before .before .before .before .loop in (
+      c .before .before .before .before .before .before .before .before .slot-of .ensures .1,
+      c .before .before .before .before .before .before .slot-of2 .ensures .1,
+      l .inv .0,
+      l .inv .1,
+      l .inv .2,
+      l .inv .4,
+    ))
+    (λ c. omega (
+      arith,
+      c .before .before .before .before .before .before .before .before .before .before .before .before .before .before .before .before
+          .before .before .before .before .before .before .before .before .before .loop-test .taken,
+    ))
+    (λ c. omega (
+      arith,
+      c .before .before .before .before .before .before .before .before .before .before .before .before .before .before .before .before
+          .before .before .before .before .before .before .before .before .before .loop-test .taken,
+    ))
+    (λ c. let l = c .before .before .before .before .before .before .before .before .before .before .before .before .before .before .before .before .before
+    .before .before .before .before .before .before .before .before .before .loop in
     let e = c .merge-slots .ensures in (
       e .1 .0 .0,
       e .1 .0 .1,
       e .1 .0 .2,
-      (λ m i. sym (closed-more registers functions _ _ (slotsOf (l .slot) (l .regs) (l .unequal) (l .result) (l .ever) m i) (c .before .before .before .before .before .before .before .before .before .before .before .before .before .before .before .before .before .before .before .before .before .before .before .before .before .loop-test .taken) (c .before .before .before .before .before .before .before .before .before .before .before .before .before .before .before .before .before .before .before .before .before .before .before .doubled .ensures)
-          (c .before .before .before .before .before .before .before .before .before .before .before .before .before .before .before .before .before .before .before .before .before .before .if1 .left) _ _ (c .before .before .before .before .before .before .before .before .before .before .before .before .before .before .before .before .before .before .find .ensures) (c .before .before .before .before .before .before .before .before .before .before .before .before .before .before .before .before .before .name .ensures) _ _ (c .before .before .before .before .before .before .before .before .before .before .before .before .before .rest .ensures) (c .before .before .before .before .before .before .before .before .before .before .before .before .name2 .ensures)
-          (c .before .before .before .before .before .before .before .before .before .before .before .before .before .before .before .before .if2 .left) (c .before .before .before .before .before .before .before .before .before .before .before .if3 .left) _ _ (c .before .before .before .before .before .before .before .before .before .slot-of .ensures .0) (c .before .before .before .before .before .before .before .slot-of2 .ensures .0) _ (e .0 m i)) ∙ l .inv .3 m i),
+      (λ m i. sym (closed-more registers functions _ _ (slotsOf (l .slot) (l .regs) (l .unequal) (l .result) (l .ever) m i)
+          (c .before .before .before .before .before .before .before .before .before .before .before .before .before .before .before .before .before .before
+          .before .before .before .before .before .before .before .loop-test .taken)
+          (c .before .before .before .before .before .before .before .before .before .before .before .before .before .before .before .before .before .before
+          .before .before .before .before .before .doubled .ensures)
+          (c .before .before .before .before .before .before .before .before .before .before .before .before .before .before .before .before .before .before
+          .before .before .before .before .if1 .left) _ _
+          (c .before .before .before .before .before .before .before .before .before .before .before .before .before .before .before .before .before .before
+          .find .ensures) (c .before .before .before .before .before .before .before .before .before .before .before .before .before .before .before .before
+          .before .name .ensures) _ _ (c .before .before .before .before .before .before .before .before .before .before .before .before .before .rest
+          .ensures) (c .before .before .before .before .before .before .before .before .before .before .before .before .name2 .ensures)
+          (c .before .before .before .before .before .before .before .before .before .before .before .before .before .before .before .before .if2 .left)
+          (c .before .before .before .before .before .before .before .before .before .before .before .if3 .left) _ _
+          (c .before .before .before .before .before .before .before .before .before .slot-of .ensures .0)
+          (c .before .before .before .before .before .before .before .slot-of2 .ensures .0) _ (e .0 m i)) ∙ l .inv .3 m i),
       e .1 .1,
     ))
     (λ c. let l = c .before .loop in (

@@ -19,25 +19,32 @@ copy-slots-spec = tie.close (tie.spec
     ))
     (λ c. search needs)
     (λ c κs. search needs)
-    (λ c κs. let p = c .before .before .before .before .before .before .before .before .before .pre in (p .0, c .before .before .before .before .before .slot-of2 .ensures .1, p .2 .low, p .2 .regs-long))
+    (λ c κs. let p = c .before .before .before .before .before .before .before .before .before .pre in
+    (p .0, c .before .before .before .before .before .slot-of2 .ensures .1, p .2 .low, p .2 .regs-long))
     (λ c κs. let p = c .before .before .before .before .before .before .before .before .before .before .before .before .before .before .before .before .pre in
     let t = c .before .before .before .before .before .before .before .before .before .before .before .before .slot-of2 .ensures in (
       c .before .before .before .before .before .before .before .before .before .before .before .before .before .before .slot-of .ensures .1,
-      subst (Low registers) (sym (c .before .before .before .before .before .before .move-register .ensures .0)) (low-set registers _ _ _ (p .0) (t .1) (p .2 .low)),
+      subst (Low registers) (sym (c .before .before .before .before .before .before .move-register .ensures .0))
+          (low-set registers _ _ _ (p .0) (t .1) (p .2 .low)),
       p .2 .tables,
       p .2 .mark-long,
       p .3,
     ))
     (λ c. search needs)
     (λ c. search needs)
-    (λ c. let a = c .before .before .before .before .before .before .before .before .before .before .before .before .before .before .before .before .before .before .args in
-    let p = c .before .before .before .before .before .before .before .before .before .before .before .before .before .before .before .before .before .before .pre in
-    let s = c .before .before .before .before .before .before .before .before .before .before .before .before .before .before .before .before .slot-of .ensures in
+    (λ c. let a = c .before .before .before .before .before .before .before .before .before .before .before .before .before .before .before .before .before
+    .before .args in
+    let p = c .before .before .before .before .before .before .before .before .before .before .before .before .before .before .before .before .before .before
+    .pre in
+    let s = c .before .before .before .before .before .before .before .before .before .before .before .before .before .before .before .before .slot-of .ensures
+    in
     let t = c .before .before .before .before .before .before .before .before .before .before .before .before .before .before .slot-of2 .ensures in
     let m = c .before .before .before .before .before .before .before .before .move-register .ensures in
     let n = c .before .leave-slot .ensures in (
       (λ i. copied-moved registers functions (slotsOf (a .slot .now) (a .regs .now) (a .unequal .now) (a .result .now) (a .ever .now) (a .mark .now) i)
-          (slotsOf _ _ _ _ _ _ i) (a .x) (a .y) _ _ _ _ _ (s .0) (t .0) (c .before .before .before .before .before .before .before .before .before .before .before .before .before .if1 .left) (c .before .before .before .before .before .before .before .before .before .before .before .single .ensures) (m .0) (m .1) (n .0 _ i)),
+          (slotsOf _ _ _ _ _ _ i) (a .x) (a .y) _ _ _ _ _ (s .0) (t .0)
+          (c .before .before .before .before .before .before .before .before .before .before .before .before .before .if1 .left)
+          (c .before .before .before .before .before .before .before .before .before .before .before .single .ensures) (m .0) (m .1) (n .0 _ i)),
       (
         record {
           low = subst (Low registers) (sym (m .0)) (low-set registers _ _ _ (p .0) (t .1) (p .2 .low));

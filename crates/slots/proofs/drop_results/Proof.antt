@@ -12,4 +12,5 @@ drop-results-spec = tie.close (tie.spec
     (λ c κs. search needs)
     (λ c. search needs)
     (λ c. let k = c .before .before .before .before .before .before in
-    results-dropped registers _ _ _ _ _ _ (k .before .before .before .before .before .single .ensures) (k .before .before .before .before .move-bits .ensures) (k .clear-column .ensures) (c .before .before .clear-row .ensures)))
+    results-dropped registers _ _ _ _ _ _ (k .before .before .before .before .before .single .ensures) (k .before .before .before .before .move-bits .ensures)
+    (k .clear-column .ensures) (c .before .before .clear-row .ensures)))

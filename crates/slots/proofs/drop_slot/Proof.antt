@@ -33,7 +33,8 @@ drop-slot-spec = tie.close (tie.spec
     let v = h .forget-masks2 .ensures in
     let t = c .drop-results2 .ensures in (
       (λ g i. dropped-is registers functions (a .slot .now) g _ _ _ _ _ _ _ _ i (a .s) (a .more) _
-          (h .before .before .before .before .before .before .before .lost-slots .ensures ∙ lost-around registers functions _ _ (p .4) _ _ (p .0) (search needs)) m u d v),
+          (h .before .before .before .before .before .before .before .lost-slots .ensures
+          ∙ lost-around registers functions _ _ (p .4) _ _ (p .0) (search needs)) m u d v),
       (
         (
           tabled-same registers functions _ _ _ _ _ _ u d v (tabled-dropped registers functions (a .s) _ _ _ (p .2)),

@@ -14,17 +14,30 @@ equal-slots-spec = tie.close (tie.spec
           (c .if1 .taken)),
       ((p .2, p .3, p .4), p .5),
     ))
-    (λ c κs. let p = c .before .before .before .before .before .before .before .before .before .before .before .pre in (c .before .before .before .before .before .before .before .before .before .slot-of .ensures .1, c .before .before .before .before .before .before .before .slot-of2 .ensures .1, p .2, p .3, p .4, p .5))
+    (λ c κs. let p = c .before .before .before .before .before .before .before .before .before .before .before .pre in (
+      c .before .before .before .before .before .before .before .before .before .slot-of .ensures .1,
+      c .before .before .before .before .before .before .before .slot-of2 .ensures .1,
+      p .2,
+      p .3,
+      p .4,
+      p .5,
+    ))
     (λ c κs. let e = c .before .before .before .before .before .before .merge-slots .ensures .1 in (e .0 .0, e .0 .1, e .0 .2, e .1))
     (λ c κs. search needs)
     (λ c κs. search needs)
-    (λ c. let a = c .before .before .before .before .before .before .before .before .before .before .before .before .before .before .before .before .before .before .before .before .before .before .before .args in
+    (λ c. let a = c .before .before .before .before .before .before .before .before .before .before .before .before .before .before .before .before .before
+    .before .before .before .before .before .before .args in
     let i = a .infeasible in
     let e = c .before .before .before .before .close-slots .ensures in
     let s = c .settle .ensures in
     let t = e .1 .0 .2 in (
       (λ m. equal-moved registers functions (slotsOf (a .slot .now) (a .regs .now) (a .unequal .now) (a .result .now) (a .ever .now) m i) _ _ _
-          (a .x) (a .y) _ _ _ (c .before .before .before .before .before .before .before .before .before .before .before .before .before .before .before .before .before .before .before .before .before .slot-of .ensures .0) (c .before .before .before .before .before .before .before .before .before .before .before .before .before .before .before .before .before .before .before .slot-of2 .ensures .0) (c .before .before .before .before .before .before .before .before .before .before .before .before .before .before .before .before .before .before .if1 .left)
-          (c .before .before .before .before .before .before .before .before .before .before .before .merge-slots .ensures .0 m i) (e .0 m i) (c .before .before .clash .ensures) (s .0 _ _ _ _ m)),
+          (a .x) (a .y) _ _ _ (c .before .before .before .before .before .before .before .before .before .before .before .before .before .before .before .before
+          .before .before .before .before .before .slot-of .ensures .0)
+          (c .before .before .before .before .before .before .before .before .before .before .before .before .before .before .before .before .before .before
+          .before .slot-of2 .ensures .0) (c .before .before .before .before .before .before .before .before .before .before .before .before .before .before
+          .before .before .before .before .if1 .left)
+          (c .before .before .before .before .before .before .before .before .before .before .before .merge-slots .ensures .0 m i) (e .0 m i)
+          (c .before .before .clash .ensures) (s .0 _ _ _ _ m)),
       ((e .1 .0 .0, e .1 .0 .1, record { unequal-long = s .1 (t .unequal-long); result-long = t .result-long; ever-long = t .ever-long }), e .1 .1),
     )))

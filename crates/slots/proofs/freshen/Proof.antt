@@ -22,7 +22,8 @@ freshen-spec = tie.close (tie.spec
     let l = c .before .before .before .before .before .before .before .if1 .taken in
     let n = c .hold-result .ensures in (
       (λ u i. freshened-some registers functions (slotsOf (a .slot .now) (a .regs .now) u (a .result .now) (a .ever .now) (a .mark .now) i)
-          (a .x) (a .f) (a .a) (a .b) _ _ _ _ _ (c .before .before .before .before .before .before .before .before .free-slot .ensures) l (m .0) (m .1) (n .0) (n .1 .0)),
+          (a .x) (a .f) (a .a) (a .b) _ _ _ _ _ (c .before .before .before .before .before .before .before .before .free-slot .ensures) l (m .0) (m .1) (n .0)
+          (n .1 .0)),
       (
         (λ u ul. record {
           low = subst (Low registers) (sym (m .0)) (low-set registers _ _ _ (p .0) l (p .4));

@@ -7,8 +7,10 @@ use Rattle.slots.proofs.hold_result.Tie as tie
 pub hold-result-spec : {M : Type 1} → statement M
 hold-result-spec = tie.close (tie.spec
     (λ c. let a = c .before .args in
-    let t = c .if1 .taken in
-    (result-still registers (a .f) (a .a) (a .b) (a .n) _ t, (ever-still registers (a .f) (a .a) (a .b) (a .n) _ t, pair-still registers (a .a) (a .b) (a .n) _ t)))
+    let t = c .if1 .taken in (
+      result-still registers (a .f) (a .a) (a .b) (a .n) _ t,
+      (ever-still registers (a .f) (a .a) (a .b) (a .n) _ t, pair-still registers (a .a) (a .b) (a .n) _ t),
+    ))
     (λ c. search needs)
     (λ c. search needs)
     (λ c. search needs)

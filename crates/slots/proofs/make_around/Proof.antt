@@ -13,7 +13,8 @@ use Rattle.slots.proofs.make_around.Tie as tie
 
 abbrev Inv-loop : tie.InvT-loop
 Inv-loop result next₀ i₀ next i =
-    WrittenUpTo (λ k. bitOr (unionOf result k registerPairs functions) (unionOf result (registers * (k % registers) + k / registers) registerPairs functions)) 0 registerPairs i next
+    WrittenUpTo (λ k. bitOr (unionOf result k registerPairs functions) (unionOf result (registers * (k % registers) + k / registers) registerPairs functions)) 0
+    registerPairs i next
 
 abbrev μ-loop : tie.MeasureT-loop
 μ-loop result next₀ i₀ next i = registerPairs - i
@@ -31,6 +32,7 @@ make-around-spec = tie.close (tie.spec
     (λ c. search needs)
     (λ c. search needs)
     (λ c. search needs)
-    (λ c. written-more _ _ _ _ _ _ (c .before .before .before .loop .inv) (c .before .before .loop-test .taken) (ap₂ bitOr (c .before .results-at .ensures) (c .results-at2 .ensures)))
+    (λ c. written-more _ _ _ _ _ _ (c .before .before .before .loop .inv) (c .before .before .loop-test .taken)
+    (ap₂ bitOr (c .before .results-at .ensures) (c .results-at2 .ensures)))
     (λ c. let e = written-all _ _ _ _ _ (c .before .loop .inv) (c .loop-test .left) in
     (e, subst (Around registers functions _) (sym e) (around-made registers functions _))))

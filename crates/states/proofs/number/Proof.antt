@@ -94,7 +94,17 @@ add-result : tie.Need-add-result
 add-result c = search needs
 
 returns : tie.Need-returns
-returns c = rw (c .before .before .before .before .before .before .before .wide .ensures .0, c .before .before .before .before .before .before .wide2 .ensures .0, c .before .before .before .before .before .wide3 .ensures .0, c .before .before .before .before .wide4 .ensures .0, c .before .before .before .wide5 .ensures .0, c .before .before .wide6 .ensures .0, c .before .wide7 .ensures .0, c .wide8 .ensures .0) (eight-joined (c .before .before .before .before .before .before .before .before .args .t1) (search needs))
+returns c = rw (
+  c .before .before .before .before .before .before .before .wide .ensures .0,
+  c .before .before .before .before .before .before .wide2 .ensures .0,
+  c .before .before .before .before .before .wide3 .ensures .0,
+  c .before .before .before .before .wide4 .ensures .0,
+  c .before .before .before .wide5 .ensures .0,
+  c .before .before .wide6 .ensures .0,
+  c .before .wide7 .ensures .0,
+  c .wide8 .ensures .0,
+)
+    (eight-joined (c .before .before .before .before .before .before .before .before .args .t1) (search needs))
 
 pub number-spec : {M : Type 1} → statement M
 number-spec =

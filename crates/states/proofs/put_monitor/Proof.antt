@@ -16,7 +16,9 @@ same-length : tie.Need-same-length
 same-length c = search needs
 
 returns : tie.Need-returns
-returns c = let a = c .before .before .before .before .before .before .before .before .before .before .before .before .before .args in keeps-monitor (a .kind) (a .m) (a .state .now) _ _ _ (c .before .before .before .before .head .ensures) (c .before .before .before .before .before .flags .ensures) (c .before .before .put-parts .ensures .1) (c .before .before .put-parts .ensures .0)
+returns c = let a = c .before .before .before .before .before .before .before .before .before .before .before .before .before .args in
+    keeps-monitor (a .kind) (a .m) (a .state .now) _ _ _ (c .before .before .before .before .head .ensures)
+    (c .before .before .before .before .before .flags .ensures) (c .before .before .put-parts .ensures .1) (c .before .before .put-parts .ensures .0)
 
 pub put-monitor-spec : {M : Type 1} → statement M
 put-monitor-spec =

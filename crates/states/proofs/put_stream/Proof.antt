@@ -38,7 +38,21 @@ same-length : tie.Need-same-length
 same-length c = search needs
 
 returns : tie.Need-returns
-returns c = let a = c .before .before .before .before .before .before .before .before .before .before .before .before .before .before .before .before .before .before .before .args in keeps-stream (a .kind) (a .s) (a .state .now) _ _ (c .before .before .before .before .before .before .phase-code .result ∷ a .s .high ∷ c .before .before .before .before .before .verdict-code .result ∷ c .before .before .before .before .refusal-number .result ∷ []) _ _ _ (c .before .before .before .before .before .before .before .before .before .before .before .before .before .before .put-monitor .ensures) (rw (c .before .before .before .before .before .before .phase-code .ensures, c .before .before .before .before .before .verdict-code .ensures, c .before .before .before .before .refusal-number .ensures)) (c .before .before .before .before .before .before .before .before .before .before .before .octets .ensures) (rw (c .before .before .before .before .before .before .before .before .before .before .first-number .ensures) at (c .before .before .before .before .before .before .before .before .before .octets2 .ensures)) (rw (c .before .before .before .before .before .before .before .before .second-number .ensures) at (c .before .before .before .before .before .before .before .octets3 .ensures)) (c .before .before .put-tail .ensures)
+returns c = let a = c .before .before .before .before .before .before .before .before .before .before .before .before .before .before .before .before .before
+    .before .before .args in keeps-stream (a .kind) (a .s) (a .state .now) _ _
+    (c .before .before .before .before .before .before .phase-code .result ∷ a .s .high ∷ c .before .before .before .before .before .verdict-code .result ∷
+    c .before .before .before .before .refusal-number .result ∷ []) _ _ _
+    (c .before .before .before .before .before .before .before .before .before .before .before .before .before .before .put-monitor .ensures)
+    (rw (
+      c .before .before .before .before .before .before .phase-code .ensures,
+      c .before .before .before .before .before .verdict-code .ensures,
+      c .before .before .before .before .refusal-number .ensures,
+    ))
+    (c .before .before .before .before .before .before .before .before .before .before .before .octets .ensures)
+    (rw (c .before .before .before .before .before .before .before .before .before .before .first-number .ensures) at
+    (c .before .before .before .before .before .before .before .before .before .octets2 .ensures))
+    (rw (c .before .before .before .before .before .before .before .before .second-number .ensures) at
+    (c .before .before .before .before .before .before .before .octets3 .ensures)) (c .before .before .put-tail .ensures)
 
 pub put-stream-spec : {M : Type 1} → statement M
 put-stream-spec =

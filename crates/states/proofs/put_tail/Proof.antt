@@ -31,7 +31,14 @@ same-length : tie.Need-same-length
 same-length c = search needs
 
 returns : tie.Need-returns
-returns c = let a = c .before .before .before .before .before .before .before .before .before .before .before .before .before .before .before .before .before .before .before .before .before .args in four-laid (a .t1) (a .t2) (a .t3) (a .t4) (a .state .now) _ _ _ _ (c .before .before .before .before .before .before .before .before .before .before .before .before .before .before .before .before .before .before .before .before .before .pre) (search needs) (search needs) (search needs) (search needs) (c .before .before .before .before .before .before .before .before .before .before .before .before .before .before .before .before .before .lay .ensures .0) (c .before .before .before .before .before .before .before .before .before .before .before .before .lay2 .ensures .0) (c .before .before .before .before .before .before .before .lay3 .ensures .0) (c .before .before .lay4 .ensures .0)
+returns c = let a = c .before .before .before .before .before .before .before .before .before .before .before .before .before .before .before .before .before
+    .before .before .before .before .args in
+    four-laid (a .t1) (a .t2) (a .t3) (a .t4) (a .state .now) _ _ _ _
+    (c .before .before .before .before .before .before .before .before .before .before .before .before .before .before .before .before .before .before .before
+    .before .before .pre) (search needs) (search needs) (search needs) (search needs)
+    (c .before .before .before .before .before .before .before .before .before .before .before .before .before .before .before .before .before .lay .ensures .0)
+    (c .before .before .before .before .before .before .before .before .before .before .before .before .lay2 .ensures .0)
+    (c .before .before .before .before .before .before .before .lay3 .ensures .0) (c .before .before .lay4 .ensures .0)
 
 pub put-tail-spec : {M : Type 1} → statement M
 put-tail-spec =

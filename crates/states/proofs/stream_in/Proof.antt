@@ -44,7 +44,14 @@ shared-slice-read-t11 c = search needs
 
 returns : tie.Need-returns
 unfolding streamIn
-returns c = rw (c .before .phase-of .ensures, c .before .before .before .verdict-of .ensures, c .before .before .before .before .before .before .before .before .number-at .ensures, c .before .before .before .before .before .before .before .number-at2 .ensures, c .before .before .before .before .before .before .number-at3 .ensures, c .before .before .before .before .before .before .before .before .before .monitor-in .ensures)
+returns c = rw (
+  c .before .phase-of .ensures,
+  c .before .before .before .verdict-of .ensures,
+  c .before .before .before .before .before .before .before .before .number-at .ensures,
+  c .before .before .before .before .before .before .before .number-at2 .ensures,
+  c .before .before .before .before .before .before .number-at3 .ensures,
+  c .before .before .before .before .before .before .before .before .before .monitor-in .ensures,
+)
 
 pub stream-in-spec : {M : Type 1} → statement M
 stream-in-spec =

@@ -30,7 +30,12 @@ registers-told σ τ u w x y = elim (less-or (τ .header .registers) (σ .header
 
 -- the window of a state is that of every state with the same window
 same-holds : (σ τ : State) (w : Window) → SameWindow σ τ → IsWindow σ w → IsWindow τ w
-same-holds σ τ w z x = record { tracks = tracks-same z (x .tracks); inside = subst (λ n. InsideInFirstEdition n (viewInFirstEdition w)) (z .registers) (x .inside); shaped = x .shaped }
+same-holds σ τ w z x = record {
+  tracks = tracks-same z (x .tracks);
+  inside =
+      subst (λ n. InsideInFirstEdition n (viewInFirstEdition w)) (z .registers) (x .inside);
+  shaped = x .shaped;
+}
 
 module _ (σ τ : State) (u : Valid σ) (v : Valid τ) (w w′ : Window) (x : IsWindow σ w) (y : IsWindow τ w′) where
   -- Windows are equal exactly if the states have the same window.

@@ -27,7 +27,8 @@ module _ (m : Monitor) (word : ℕ) where
   unfolding advance
   advance-taken a e = rw e
 
-  pub advance-refused : (number place : ℕ) → decodeLetter firstEdition (m .header) word ≡ refusal number place → advance m word ≡ stepped (outcome.Refused number) m
+  pub advance-refused : (number place : ℕ) → decodeLetter firstEdition (m .header) word ≡ refusal number place
+      → advance m word ≡ stepped (outcome.Refused number) m
   unfolding advance
   advance-refused number place e = rw e
 
@@ -36,7 +37,8 @@ module _ (m : Monitor) (a : Letter) where
   unfolding movedOf
   moved-stopped r = rw r
 
-  pub moved-coherent : m .running ≡ true → judgeOf (m .window) a ≡ true → movedOf m a ≡ record { header = m .header; window = performOf (m .window) a; running = true }
+  pub moved-coherent : m .running ≡ true → judgeOf (m .window) a ≡ true
+      → movedOf m a ≡ record { header = m .header; window = performOf (m .window) a; running = true }
   unfolding movedOf
   moved-coherent r j = rw (r, j)
 

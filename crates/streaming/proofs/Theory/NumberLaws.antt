@@ -42,11 +42,14 @@ next-beyond n h = rw (le-ltb n last h)
 
 pub next-capped : (n : ℕ) → nextNumber (capped n) ≡ capped (suc n)
 next-capped n = byTest (ltb n last)
-    (λ t. let l = ltb-true n last t in ap nextNumber (capped-within n (omega arith)) ∙ next-within n l ∙ (let e : n + 1 ≡ suc n = omega arith in e) ∙ sym (capped-within (suc n) (omega arith)))
+    (λ t. let l = ltb-true n last t in
+    ap nextNumber (capped-within n (omega arith)) ∙ next-within n l ∙ (let e : n + 1 ≡ suc n = omega arith in e)
+    ∙ sym (capped-within (suc n) (omega arith)))
     (λ t. let l = ltb-false n last t in ap nextNumber (capped-beyond n l) ∙ next-beyond last (omega arith) ∙ sym (capped-beyond (suc n) (omega arith)))
 
 -- the first letter so far, and one letter more
-pub first-capped : (k n : ℕ) (b : Bool) → firstOf (capped k) (not b) (capped (suc n)) ≡ capped (elim k [ zero ↦ elim b [ true ↦ 0 | false ↦ suc n ] | suc j ↦ suc j ])
+pub first-capped : (k n : ℕ) (b : Bool)
+    → firstOf (capped k) (not b) (capped (suc n)) ≡ capped (elim k [ zero ↦ elim b [ true ↦ 0 | false ↦ suc n ] | suc j ↦ suc j ])
 unfolding firstOf
 first-capped zero n true = rw capped-none
 first-capped zero n false = rw capped-none

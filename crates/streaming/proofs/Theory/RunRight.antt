@@ -37,7 +37,8 @@ use Rattle.streaming.specs.Following.{RunFollows}
 abbrev feasibleTrace : Trace → Bool
 feasibleTrace π = feasible (state π)
 
-incoherent-more : (ρ : Trace) (a : Letter) → firstOf (capped (incoherentLetter ρ)) (not (coherent (ρ ▸ a))) (capped (suc (size ρ))) ≡ capped (incoherentLetter (ρ ▸ a))
+incoherent-more : (ρ : Trace) (a : Letter)
+    → firstOf (capped (incoherentLetter ρ)) (not (coherent (ρ ▸ a))) (capped (suc (size ρ))) ≡ capped (incoherentLetter (ρ ▸ a))
 unfolding incoherentLetter
 incoherent-more ρ a = first-capped (firstFailing coherent ρ) (size ρ) (coherent (ρ ▸ a))
 
@@ -57,7 +58,8 @@ infeasible-shorter ρ a e =
     ∙ first-same (firstFailing feasibleTrace (coherentPart ρ)) (capped (suc (size ρ))) (not (feasibleTrace (coherentPart ρ)))
     (λ z. ap not (fails-nowhere feasibleTrace (λ h. refl) (coherentPart ρ) z)) ∙ ap (λ (π : Trace). capped (firstFailing feasibleTrace π)) (sym e)
 
-infeasible-more : (ρ : Trace) (a : Letter) → firstOf (capped (infeasibleLetter ρ)) (not (feasibleTrace (coherentPart (ρ ▸ a)))) (capped (suc (size ρ))) ≡ capped (infeasibleLetter (ρ ▸ a))
+infeasible-more : (ρ : Trace) (a : Letter)
+    → firstOf (capped (infeasibleLetter ρ)) (not (feasibleTrace (coherentPart (ρ ▸ a)))) (capped (suc (size ρ))) ≡ capped (infeasibleLetter (ρ ▸ a))
 infeasible-more ρ a = byTest (coherent (ρ ▸ a))
     (λ t. infeasible-whole ρ a (part-whole (ρ ▸ a) (of-true t)) (part-whole ρ (and-first (coherent ρ) _ t)))
     (λ t. infeasible-shorter ρ a (part-shorter ρ a (of-false t)))
@@ -95,7 +97,8 @@ pub taken-ended : (r : Run) (word number place : ℕ) → r .verdict ≡ Refused
 unfolding takenRun
 taken-ended r word number place v = rw v
 
-judged-follows : (ρ : Trace) (a : Letter) (m : Monitor) (n i k : ℕ) → Follows (ρ ▸ a) m → n ≡ capped (suc (size ρ)) → i ≡ capped (incoherentLetter ρ) → k ≡ capped (infeasibleLetter ρ)
+judged-follows : (ρ : Trace) (a : Letter) (m : Monitor) (n i k : ℕ) → Follows (ρ ▸ a) m → n ≡ capped (suc (size ρ)) → i ≡ capped (incoherentLetter ρ)
+    → k ≡ capped (infeasibleLetter ρ)
     → RunFollows (ρ ▸ a) (judgedRun m n i k)
 unfolding judgedRun
 judged-follows ρ a m n i k f e p q = record {
@@ -112,9 +115,11 @@ run-start word h e = rw (start-taken word h e) (record {
   verdict = rw capped-none;
 })
 
-pub run-more : (ρ : Trace) (r : Run) → RunFollows ρ r → (word : ℕ) (a : Letter) → decodeLetter firstEdition (state ρ .header) word ≡ value a → RunFollows (ρ ▸ a) (takenRun r word)
+pub run-more : (ρ : Trace) (r : Run) → RunFollows ρ r → (word : ℕ) (a : Letter) → decodeLetter firstEdition (state ρ .header) word ≡ value a
+    → RunFollows (ρ ▸ a) (takenRun r word)
 run-more ρ r f word a e =
     let (h, fits, _) = decode-letter first-roomy (state ρ .header) word a .0 e in
     let d : decodeLetter firstEdition (r .monitor .header) word ≡ value a = ap (λ (g : Header). decodeLetter firstEdition g word) (f .monitor .header) ∙ e in
     subst (RunFollows (ρ ▸ a)) (sym (taken-judged r word _ _ a (f .verdict) d))
-    (judged-follows ρ a _ _ _ _ (follows-moved ρ (r .monitor) (f .monitor) a (fits-within (state ρ .header) a (h .registers) (h .functions) fits) fits) (ap nextNumber (f .letters) ∙ next-capped (size ρ)) refl refl)
+    (judged-follows ρ a _ _ _ _ (follows-moved ρ (r .monitor) (f .monitor) a (fits-within (state ρ .header) a (h .registers) (h .functions) fits) fits)
+    (ap nextNumber (f .letters) ∙ next-capped (size ρ)) refl refl)

@@ -17,7 +17,8 @@ use Rattle.letters.specs.Editions.{firstEdition}
 use Rattle.letters.specs.Words.{headerWord, letterWord}
 use Rattle.letters.specs.Coding.{headerTest, fitsTest, namedHeader, namedLetter, decodeHeader, decodeLetter}
 use Rattle.letters.proofs.Theory.WordLaws.{first-roomy}
-use Rattle.traces.specs.Reading.{TraceReading, trace, octets, chunks, prependLetter, lettersFrom, beginning, letterCount, letterIn, lettersOf, readingWhere, reading}
+use Rattle.traces.specs.Reading.{TraceReading, trace, octets, chunks, prependLetter, lettersFrom, beginning, letterCount, letterIn, lettersOf, readingWhere}
+use Rattle.traces.specs.Reading.{reading}
 use Rattle.traces.specs.Traces.{AllFit}
 use Rattle.letters.specs.RefusalNumbers.{headerMalformed, letterMalformed, traceOddLength, traceTooShort}
 use Rattle.traces.proofs.Theory.TraceLaws.{letters-decoded, parts-length, reading-fits}
@@ -68,13 +69,15 @@ exact-before : (ρ : Trace) (a : Letter) (r : TraceReading) → exactAfter (ρ �
 exact-before ρ a (trace h letters) = refl
 exact-before ρ a (TraceReading.refused number place) = refl
 
-exact-begin : (h : Header) (n : ℕ) (codes : List (List ℕ)) → exactAfter (begin h) (lettersFrom (letterIn firstEdition h) h n codes) ≡ exactOf (lettersFrom (letterIn firstEdition h) h n codes)
+exact-begin : (h : Header) (n : ℕ) (codes : List (List ℕ))
+    → exactAfter (begin h) (lettersFrom (letterIn firstEdition h) h n codes) ≡ exactOf (lettersFrom (letterIn firstEdition h) h n codes)
 exact-begin h n codes = by (lettersFrom (letterIn firstEdition h) h n codes) refl
   where
     by : (r : TraceReading) → lettersFrom (letterIn firstEdition h) h n codes ≡ r → exactAfter (begin h) r ≡ exactOf r
     by (TraceReading.refused number place) e = refl
     by (trace g letters) e =
-        ap (λ (k : Header). value (incoherentLetter (traceOf k letters), infeasibleLetter (traceOf k letters))) (sym (letters-decoded (letterIn firstEdition h) h n codes g letters e .0))
+        ap (λ (k : Header). value (incoherentLetter (traceOf k letters), infeasibleLetter (traceOf k letters)))
+        (sym (letters-decoded (letterIn firstEdition h) h n codes g letters e .0))
 
 -- ---- the numbers of letters are at most as many as the letters
 
@@ -101,7 +104,8 @@ module _ {A : Type 0} (decode : A → Answer Letter) (h : Header) where
   letters-numbers [] ρ n e = (omega (arith, named-within ρ .0), omega (arith, named-within ρ .1))
   letters-numbers (x ∷ codes) ρ n e = by (decode x) (λ a. letters-numbers codes (ρ ▸ a) (n + 1) (omega arith))
     where
-      more : (a : Letter) (r : TraceReading) → Numbers (size (ρ ▸ a) + length codes) (exactAfter (ρ ▸ a) r) → Numbers (size ρ + suc (length codes)) (exactAfter ρ (prependLetter a r))
+      more : (a : Letter) (r : TraceReading) → Numbers (size (ρ ▸ a) + length codes) (exactAfter (ρ ▸ a) r)
+          → Numbers (size ρ + suc (length codes)) (exactAfter ρ (prependLetter a r))
       more a (trace g letters) (p, q) = (omega arith, omega arith)
       more a (TraceReading.refused number place) p = omega arith
 
@@ -115,7 +119,8 @@ module _ {A : Type 0} (decode : A → Answer Letter) (h : Header) where
 
 letter-malformed : (h : Header) (w number place : ℕ) → decodeLetter firstEdition h w ≡ refusal number place → number ≡ letterMalformed
 unfolding decodeLetter
-letter-malformed h w number place e = let l = namedLetter h (split (firstEdition .letter) w) in by ((headerTest firstEdition h && fitsTest h l) && eqb (letterWord firstEdition h l) w) l e
+letter-malformed h w number place e = let l = namedLetter h (split (firstEdition .letter) w) in
+    by ((headerTest firstEdition h && fitsTest h l) && eqb (letterWord firstEdition h l) w) l e
   where
     by : (t : Bool) (l : Letter) → pick t (λ _. value l) (λ _. refusal letterMalformed 0) ≡ refusal number place → number ≡ letterMalformed
     by true l q = let z : _≡_ {A = ℕ} 0 1 = cc in absurd (omega arith)
@@ -123,7 +128,8 @@ letter-malformed h w number place e = let l = namedLetter h (split (firstEdition
 
 header-place : (w number place : ℕ) → decodeHeader firstEdition w ≡ refusal number place → place ≡ 0
 unfolding decodeHeader
-header-place w number place e = let h = namedHeader firstEdition (split (firstEdition .header) w) in by (headerTest firstEdition h && eqb (headerWord firstEdition h) w) h e
+header-place w number place e = let h = namedHeader firstEdition (split (firstEdition .header) w) in
+    by (headerTest firstEdition h && eqb (headerWord firstEdition h) w) h e
   where
     by : (t : Bool) (h : Header) → pick t (λ _. value h) (λ _. refusal headerMalformed 0) ≡ refusal number place → place ≡ 0
     by true h q = let z : _≡_ {A = ℕ} 0 1 = cc in absurd (omega arith)
@@ -143,7 +149,8 @@ unfolding readingWhere beginning
 reading-odd x y s e = rw (le-ltb (length (x ∷ y ∷ s)) 2 (omega arith), ne-eqb (length (x ∷ y ∷ s) % 2) 0 (λ d. omega arith))
 
 reading-even : (x y : ℕ) (s : List ℕ) (k : ℕ) → length s ≡ 2 * k
-    → reading firstEdition (x ∷ y ∷ s) ≡ onAnswer (decodeHeader firstEdition (x * 256 + y)) (λ h. lettersFrom (letterIn firstEdition h) h 1 (chunks 2 k s)) TraceReading.refused
+    → reading firstEdition (x ∷ y ∷ s) ≡ onAnswer (decodeHeader firstEdition (x * 256 + y))
+    (λ h. lettersFrom (letterIn firstEdition h) h 1 (chunks 2 k s)) TraceReading.refused
 unfolding readingWhere beginning lettersOf
 reading-even x y s k e =
     let count : length (x ∷ y ∷ s) / 2 - 1 ≡ k = omega arith in
@@ -158,7 +165,8 @@ takenAll r (x ∷ codes) = takenAll (takenRun r (join (octets firstEdition) x)) 
 ended-all : (r : Run) (number place : ℕ) → r .verdict ≡ Refused number place → (codes : List (List ℕ)) → takenAll r codes ≡ r
 unfolding takenAll
 ended-all r number place v [] = refl
-ended-all r number place v (x ∷ codes) = ap (λ t. takenAll t codes) (taken-ended r (join (octets firstEdition) x) number place v) ∙ ended-all r number place v codes
+ended-all r number place v (x ∷ codes) =
+    ap (λ t. takenAll t codes) (taken-ended r (join (octets firstEdition) x) number place v) ∙ ended-all r number place v codes
 
 pushed-even : (k : ℕ) (s : List ℕ) (r : Run) → length s ≡ 2 * k → pushedAll (streamWith Even 0 r) s ≡ streamWith Even 0 (takenAll r (chunks 2 k s))
 unfolding pushedAll pushedOf chunks takenAll
@@ -167,7 +175,8 @@ pushed-even zero (x ∷ s) r l = absurd (omega arith)
 pushed-even (suc k) [] r l = absurd (omega arith)
 pushed-even (suc k) (x ∷ []) r l = absurd (omega arith)
 pushed-even (suc k) (x ∷ y ∷ s) r l =
-    ap (λ w. pushedAll (streamWith Even 0 (takenRun r w)) s) (sym (unit-two x y)) ∙ pushed-even k s (takenRun r (join (octets firstEdition) (x ∷ y ∷ []))) (omega arith)
+    ap (λ w. pushedAll (streamWith Even 0 (takenRun r w)) s) (sym (unit-two x y))
+    ∙ pushed-even k s (takenRun r (join (octets firstEdition) (x ∷ y ∷ []))) (omega arith)
 
 finished-odd : (s : List ℕ) (r : Run) → length s % 2 ≡ 1 → finishedOf (pushedAll (streamWith Even 0 r) s) ≡ Refused traceOddLength 0
 unfolding pushedAll pushedOf finishedOf
@@ -196,7 +205,8 @@ letters-right : (h : Header) (codes : List (List ℕ)) (ρ : Trace) (r : Run) (n
     → runAnswer (takenAll r codes .verdict) ≡ cappedAnswer (exactAfter ρ (lettersFrom (letterIn firstEdition h) h n codes))
 unfolding lettersFrom takenAll
 letters-right h [] ρ r n f g e = ap runAnswer (f .verdict)
-letters-right h (x ∷ codes) ρ r n f g e = by (letterIn firstEdition h x) refl (λ a k. letters-right h codes (ρ ▸ a) (takenRun r (join (octets firstEdition) x)) (n + 1) k g (omega arith))
+letters-right h (x ∷ codes) ρ r n f g e =
+    by (letterIn firstEdition h x) refl (λ a k. letters-right h codes (ρ ▸ a) (takenRun r (join (octets firstEdition) x)) (n + 1) k g (omega arith))
   where
     w : ℕ
     w = join (octets firstEdition) x
@@ -208,10 +218,12 @@ letters-right h (x ∷ codes) ρ r n f g e = by (letterIn firstEdition h x) refl
     next = ap nextNumber (f .letters) ∙ next-capped (size ρ) ∙ ap capped (let d : suc (size ρ) ≡ n = omega arith in d)
 
     by : (d : Answer Letter) → decodeLetter firstEdition h (join (octets firstEdition) x) ≡ d
-        → ((a : Letter) → RunFollows (ρ ▸ a) (takenRun r (join (octets firstEdition) x)) → runAnswer (takenAll (takenRun r (join (octets firstEdition) x)) codes .verdict)
+        → ((a : Letter) → RunFollows (ρ ▸ a) (takenRun r (join (octets firstEdition) x))
+        → runAnswer (takenAll (takenRun r (join (octets firstEdition) x)) codes .verdict)
         ≡ cappedAnswer (exactAfter (ρ ▸ a) (lettersFrom (letterIn firstEdition h) h (n + 1) codes)))
         → runAnswer (takenAll (takenRun r (join (octets firstEdition) x)) codes .verdict)
-        ≡ cappedAnswer (exactAfter ρ (onAnswer d (λ l. prependLetter l (lettersFrom (letterIn firstEdition h) h (n + 1) codes)) λ _ _. TraceReading.refused letterMalformed n))
+        ≡ cappedAnswer (exactAfter ρ (onAnswer d (λ l. prependLetter l (lettersFrom (letterIn firstEdition h) h (n + 1) codes))
+        λ _ _. TraceReading.refused letterMalformed n))
     by (value a) d i =
         i a (run-more ρ r f w a (ap (λ (k : Header). decodeLetter firstEdition k w) g ∙ d))
         ∙ ap cappedAnswer (exact-before ρ a rest)
@@ -222,7 +234,8 @@ letters-right h (x ∷ codes) ρ r n f g e = by (letterIn firstEdition h x) refl
         ∙ ap₂ (λ (i k : ℕ). refusal i k) (letter-malformed h w number place d) next
 
 words-right : (w : ℕ) (codes : List (List ℕ)) (d : Answer Header) → decodeHeader firstEdition w ≡ d
-    → runAnswer (takenAll (begunRun w) codes .verdict) ≡ cappedAnswer (exactOf (onAnswer d (λ h. lettersFrom (letterIn firstEdition h) h 1 codes) TraceReading.refused))
+    → runAnswer (takenAll (begunRun w) codes .verdict) ≡ cappedAnswer
+    (exactOf (onAnswer d (λ h. lettersFrom (letterIn firstEdition h) h 1 codes) TraceReading.refused))
 words-right w codes (value h) e = letters-right h codes (begin h) (begunRun w) 1 (run-start w h e) refl refl ∙ ap cappedAnswer (exact-begin h 1 codes)
 words-right w codes (refusal number place) e =
     ap (λ (q : Run). runAnswer (takenAll q codes .verdict)) (begun-refused w number place e)
@@ -244,7 +257,8 @@ answer-capped (x ∷ y ∷ s) = byTest (eqb (length s % 2) 0)
     ap runAnswer (answer-long x y s ∙ finished-odd s (begunRun (x * 256 + y)) l) ∙ ap (refusal traceOddLength) (sym capped-none)
     ∙ ap (λ (q : TraceReading). cappedAnswer (exactOf q)) (sym (reading-odd x y s l)))
 
-reading-numbers : (bytes : List ℕ) → letterCount firstEdition bytes ≤ last → cappedAnswer (exactOf (reading firstEdition bytes)) ≡ exactOf (reading firstEdition bytes)
+reading-numbers : (bytes : List ℕ) → letterCount firstEdition bytes ≤ last
+    → cappedAnswer (exactOf (reading firstEdition bytes)) ≡ exactOf (reading firstEdition bytes)
 unfolding readingWhere beginning
 reading-numbers [] b = ap (refusal traceTooShort) capped-none
 reading-numbers (x ∷ []) b = ap (refusal traceTooShort) capped-none
@@ -252,16 +266,21 @@ reading-numbers (x ∷ y ∷ s) b = byTest (eqb (length s % 2) 0)
     (λ t. let h = eqb-true (length s % 2) 0 t in
     let l : length s ≡ 2 * (length s / 2) = omega arith in
     let m : length s / 2 ≤ last = omega arith in
-    subst (λ (q : TraceReading). cappedAnswer (exactOf q) ≡ exactOf q) (sym (reading-even x y s (length s / 2) l)) (by (length s / 2) m (decodeHeader firstEdition (x * 256 + y)) refl))
+    subst (λ (q : TraceReading). cappedAnswer (exactOf q) ≡ exactOf q) (sym (reading-even x y s (length s / 2) l))
+    (by (length s / 2) m (decodeHeader firstEdition (x * 256 + y)) refl))
     (λ t. let h = eqb-false (length s % 2) 0 t in
     subst (λ (q : TraceReading). cappedAnswer (exactOf q) ≡ exactOf q) (sym (reading-odd x y s (omega arith))) (ap (refusal traceOddLength) capped-none))
   where
     by : (k : ℕ) → k ≤ last → (d : Answer Header) → decodeHeader firstEdition (x * 256 + y) ≡ d
-        → cappedAnswer (exactOf (onAnswer d (λ h. lettersFrom (letterIn firstEdition h) h 1 (chunks 2 k s)) TraceReading.refused)) ≡ exactOf (onAnswer d (λ h. lettersFrom (letterIn firstEdition h) h 1 (chunks 2 k s)) TraceReading.refused)
+        → cappedAnswer (exactOf (onAnswer d (λ h. lettersFrom (letterIn firstEdition h) h 1 (chunks 2 k s)) TraceReading.refused)) ≡ exactOf
+        (onAnswer d (λ h. lettersFrom (letterIn firstEdition h) h 1 (chunks 2 k s)) TraceReading.refused)
     by k m (value h) e =
         numbers-exact k _ m (subst (Numbers k) (exact-begin h 1 (chunks 2 k s))
-        (subst (λ (j : ℕ). Numbers j (exactAfter (begin h) (lettersFrom (letterIn firstEdition h) h 1 (chunks 2 k s)))) (let z : 0 + length (chunks 2 k s) ≡ k = omega (arith, parts-length 2 k s) in z) (letters-numbers (letterIn firstEdition h) h (chunks 2 k s) (begin h) 1 refl)))
-    by k m (refusal number place) e = ap (refusal number) (ap capped (header-place (x * 256 + y) number place e) ∙ capped-none ∙ sym (header-place (x * 256 + y) number place e))
+        (subst (λ (j : ℕ). Numbers j (exactAfter (begin h) (lettersFrom (letterIn firstEdition h) h 1 (chunks 2 k s))))
+        (let z : 0 + length (chunks 2 k s) ≡ k = omega (arith, parts-length 2 k s) in z)
+        (letters-numbers (letterIn firstEdition h) h (chunks 2 k s) (begin h) 1 refl)))
+    by k m (refusal number place) e =
+        ap (refusal number) (ap capped (header-place (x * 256 + y) number place e) ∙ capped-none ∙ sym (header-place (x * 256 + y) number place e))
 
 -- Of any trace of fewer than 2^64 letters the answer meets demand 2.
 pub demand-met : (bytes : List ℕ) → letterCount firstEdition bytes ≤ last → Demand2 bytes (runAnswer (judgedBytes bytes))

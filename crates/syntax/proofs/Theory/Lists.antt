@@ -93,7 +93,8 @@ not-full count n k l b e f h = byTest (eqb count n)
 listed-end : (s : List ℕ) {A : Type 0} (n : ℕ) (a : A) (t : Token) → t .key ≡ word.semicolonKey → (n ≡ 0 → ⊥) → listedT s n a t ≡ got a (t .end)
 listed-end s n a t h g = rw (eq-eqb (t .key) word.semicolonKey h, ne-eqb n 0 g)
 
-listed-unfit : (s : List ℕ) {A : Type 0} (n : ℕ) (a : A) (t : Token) → eqb (t .key) word.semicolonKey && not (eqb n 0) ≡ false → listedT s n a t ≡ Got.refused (refusedTokenNumber t) (t .start)
+listed-unfit : (s : List ℕ) {A : Type 0} (n : ℕ) (a : A) (t : Token) → eqb (t .key) word.semicolonKey && not (eqb n 0) ≡ false
+    → listedT s n a t ≡ Got.refused (refusedTokenNumber t) (t .start)
 listed-unfit s n a t h = rw h
 
 pub unlisted-token : (t : Token) (n : ℕ) → (t .key ≡ word.semicolonKey → ⊥) → eqb (t .key) word.semicolonKey && not (eqb n 0) ≡ false
@@ -116,18 +117,25 @@ unfolding heldFunctions
 no-functions-held n p = refl
 
 module _ (s : List ℕ) (names : List ℕ) (count : ℕ) (K : NamesPadded mostRegisters names count) (t : Token) where
-  pub registers-listed : t .key ≡ word.semicolonKey → (count ≡ 0 → ⊥) → record { ok = true; number = 0; place = 0; at = t .end; count = count; names = names } ≡ heldRegisters (listedT s (length (take count names)) (take count names) t)
+  pub registers-listed : t .key ≡ word.semicolonKey → (count ≡ 0 → ⊥)
+      → record { ok = true; number = 0; place = 0; at = t .end; count = count; names = names } ≡ heldRegisters
+      (listedT s (length (take count names)) (take count names) t)
   unfolding heldRegisters
-  registers-listed h g = rw (listed-end s (length (take count names)) (take count names) t h λ z. g (sym (K .size) ∙ z)) λ i. record { ok = true; number = 0; place = 0; at = t .end; count = sym (K .size) i; names = K .pad i }
+  registers-listed h g = rw (listed-end s (length (take count names)) (take count names) t h λ z. g (sym (K .size) ∙ z))
+      λ i. record { ok = true; number = 0; place = 0; at = t .end; count = sym (K .size) i; names = K .pad i }
 
-  pub registers-unlisted : (n : ℕ) → n ≡ refusedTokenNumber t → eqb (t .key) word.semicolonKey && not (eqb count 0) ≡ false → (r : Registers) → r ≡ heldRegisters (Got.refused n (t .start)) → r ≡ heldRegisters (listedT s (length (take count names)) (take count names) t)
-  registers-unlisted n e h r g = g ∙ ap (λ n. heldRegisters (Got.refused n (t .start))) e ∙ ap heldRegisters (sym (listed-unfit s (length (take count names)) (take count names) t (ap (λ m. eqb (t .key) word.semicolonKey && not (eqb m 0)) (K .size) ∙ h)))
+  pub registers-unlisted : (n : ℕ) → n ≡ refusedTokenNumber t → eqb (t .key) word.semicolonKey && not (eqb count 0) ≡ false → (r : Registers)
+      → r ≡ heldRegisters (Got.refused n (t .start)) → r ≡ heldRegisters (listedT s (length (take count names)) (take count names) t)
+  registers-unlisted n e h r g = g ∙ ap (λ n. heldRegisters (Got.refused n (t .start))) e
+      ∙ ap heldRegisters (sym (listed-unfit s (length (take count names)) (take count names) t
+      (ap (λ m. eqb (t .key) word.semicolonKey && not (eqb m 0)) (K .size) ∙ h)))
 
 -- what is left of the list of registers
 abbrev pub RegistersLeft : List ℕ → ℕ → List ℕ → ℕ → ℕ → Type 0
 RegistersLeft s from names count at = registerNames s mostRegisters [] from ≡ registerNames s (mostRegisters - count) (take count names) at
 
-module _ (s : List ℕ) (from : ℕ) (names : List ℕ) (count at : ℕ) (K : NamesPadded mostRegisters names count) (L : RegistersLeft s from names count at) (t : Token)
+module _ (s : List ℕ) (from : ℕ) (names : List ℕ) (count at : ℕ) (K : NamesPadded mostRegisters names count) (L : RegistersLeft s from names count at)
+    (t : Token)
     (e : t ≡ tokenAt s at) where
   pub registers-last : (b : Bool) → b ≡ isName (t .key) → b ≡ false → (r : Registers)
       → r ≡ heldRegisters (listedT s (length (take count names)) (take count names) t) → r ≡ heldRegisters (registerNames s mostRegisters [] from)
@@ -165,7 +173,8 @@ module _ (s : List ℕ) (from : ℕ) (names : List ℕ) (count at : ℕ) (K : Na
           omega arith,
           kept-more mostRegisters names count (t .key) K l,
           L ∙ ap (λ m. registerNames s m (take count names) at) z
-              ∙ rw (← e, ← i, j, w) (ap (λ l. registerNames s (mostRegisters - (count + 1)) l (t .end)) (sym (kept-take mostRegisters names count (t .key) K l))),
+              ∙ rw (← e, ← i, j, w) (ap (λ l. registerNames s (mostRegisters - (count + 1)) l (t .end))
+              (sym (kept-take mostRegisters names count (t .key) K l))),
         )
 
 -- ---- functions
@@ -181,10 +190,12 @@ taken-last count k rs l h b e f c g = rw (ne-eqb count mostFunctions h, ← e, f
 pub taken-all : (count k : ℕ) (rs l : List ℕ) → count ≡ mostFunctions → true ≡ (eqb count mostFunctions || (taken k rs || taken k l))
 taken-all count k rs l h = rw (eq-eqb count mostFunctions h)
 
-pub refused-by : {A : Type 0} {B : Type 0} (held : Got A → B) (g : number.GotNumber) (n p : ℕ) (r : B) → g ≡ number.the-variants.Refused n p → r ≡ held (Got.refused n p) → r ≡ held (refusedBy g)
+pub refused-by : {A : Type 0} {B : Type 0} (held : Got A → B) (g : number.GotNumber) (n p : ℕ) (r : B) → g ≡ number.the-variants.Refused n p
+    → r ≡ held (Got.refused n p) → r ≡ held (refusedBy g)
 refused-by held g n p r h e = e ∙ rw h
 
-pub refused-at : {A : Type 0} {B : Type 0} (held : Got A → B) (g : number.GotNumber) (v p : ℕ) (r : B) → g ≡ number.the-variants.At v p → r ≡ held (Got.refused 0 0) → r ≡ held (refusedBy g)
+pub refused-at : {A : Type 0} {B : Type 0} (held : Got A → B) (g : number.GotNumber) (v p : ℕ) (r : B) → g ≡ number.the-variants.At v p
+    → r ≡ held (Got.refused 0 0) → r ≡ held (refusedBy g)
 refused-at held g v p r h e = e ∙ rw h
 
 module _ (s : List ℕ) (at : ℕ) (g : number.GotNumber) (i : g ≡ withoutValue (expect s word.slashKey at)) where
@@ -211,22 +222,29 @@ module _ (s : List ℕ) (at : ℕ) (g : number.GotNumber) (i : g ≡ withoutValu
     pub arity-unfit : (t .key ≡ word.oneKey → ⊥) → (t .key ≡ word.twoKey → ⊥) → (r : number.GotNumber) → r ≡ plain (refusedToken t) → r ≡ plain (arityOf s at)
     arity-unfit n m r k = rw (behind, ne-eqb (t .key) word.oneKey n, ne-eqb (t .key) word.twoKey m) k
 
-module _ (s : List ℕ) (names arities : List ℕ) (count : ℕ) (K : NamesPadded mostFunctions names count) (A : NamesPadded mostFunctions arities count) (t : Token) where
+module _ (s : List ℕ) (names arities : List ℕ) (count : ℕ) (K : NamesPadded mostFunctions names count) (A : NamesPadded mostFunctions arities count)
+    (t : Token) where
   abbrev Both : List ℕ × List ℕ
   Both = (take count names, take count arities)
 
-  pub functions-listed : t .key ≡ word.semicolonKey → (count ≡ 0 → ⊥) → record { ok = true; number = 0; place = 0; at = t .end; count = count; names = names; arities = arities } ≡ heldFunctions (listedT s (length (take count names)) Both t)
+  pub functions-listed : t .key ≡ word.semicolonKey → (count ≡ 0 → ⊥)
+      → record { ok = true; number = 0; place = 0; at = t .end; count = count; names = names; arities = arities } ≡ heldFunctions
+      (listedT s (length (take count names)) Both t)
   unfolding heldFunctions
-  functions-listed h g = rw (listed-end s (length (take count names)) Both t h λ z. g (sym (K .size) ∙ z)) λ i. record { ok = true; number = 0; place = 0; at = t .end; count = sym (K .size) i; names = K .pad i; arities = A .pad i }
+  functions-listed h g = rw (listed-end s (length (take count names)) Both t h λ z. g (sym (K .size) ∙ z))
+      λ i. record { ok = true; number = 0; place = 0; at = t .end; count = sym (K .size) i; names = K .pad i; arities = A .pad i }
 
-  pub functions-unlisted : (n : ℕ) → n ≡ refusedTokenNumber t → eqb (t .key) word.semicolonKey && not (eqb count 0) ≡ false → (r : Functions) → r ≡ heldFunctions (Got.refused n (t .start)) → r ≡ heldFunctions (listedT s (length (take count names)) Both t)
-  functions-unlisted n e h r g = g ∙ ap (λ n. heldFunctions (Got.refused n (t .start))) e ∙ ap heldFunctions (sym (listed-unfit s (length (take count names)) Both t (ap (λ m. eqb (t .key) word.semicolonKey && not (eqb m 0)) (K .size) ∙ h)))
+  pub functions-unlisted : (n : ℕ) → n ≡ refusedTokenNumber t → eqb (t .key) word.semicolonKey && not (eqb count 0) ≡ false → (r : Functions)
+      → r ≡ heldFunctions (Got.refused n (t .start)) → r ≡ heldFunctions (listedT s (length (take count names)) Both t)
+  functions-unlisted n e h r g = g ∙ ap (λ n. heldFunctions (Got.refused n (t .start))) e
+      ∙ ap heldFunctions (sym (listed-unfit s (length (take count names)) Both t (ap (λ m. eqb (t .key) word.semicolonKey && not (eqb m 0)) (K .size) ∙ h)))
 
 abbrev pub FunctionsLeft : List ℕ → List ℕ → ℕ → List ℕ → List ℕ → ℕ → ℕ → Type 0
 FunctionsLeft s rs from names arities count at =
     functionEntries s rs mostFunctions [] [] from ≡ functionEntries s rs (mostFunctions - count) (take count names) (take count arities) at
 
-module _ (s rs : List ℕ) (from : ℕ) (names arities : List ℕ) (count at : ℕ) (K : NamesPadded mostFunctions names count) (A : NamesPadded mostFunctions arities count)
+module _ (s rs : List ℕ) (from : ℕ) (names arities : List ℕ) (count at : ℕ) (K : NamesPadded mostFunctions names count)
+    (A : NamesPadded mostFunctions arities count)
     (L : FunctionsLeft s rs from names arities count at) (t : Token) (e : t ≡ tokenAt s at) where
   pub functions-last : (b : Bool) → b ≡ isName (t .key) → b ≡ false → (r : Functions)
       → r ≡ heldFunctions (listedT s (length (take count names)) (take count names, take count arities) t)
@@ -234,7 +252,8 @@ module _ (s rs : List ℕ) (from : ℕ) (names arities : List ℕ) (count at : �
   unfolding functionEntries
   functions-last b i h r g = g ∙ ap heldFunctions (sym (L ∙ go (mostFunctions - count)))
     where
-      go : (room : ℕ) → functionEntries s rs room (take count names) (take count arities) at ≡ listedT s (length (take count names)) (take count names, take count arities) t
+      go : (room : ℕ) → functionEntries s rs room (take count names) (take count arities) at ≡ listedT s (length (take count names))
+          (take count names, take count arities) t
       go zero = rw (← e, ← i, h)
       go (suc room) = rw (← e, ← i, h)
 
@@ -248,7 +267,8 @@ module _ (s rs : List ℕ) (from : ℕ) (names arities : List ℕ) (count at : �
         ap (λ m. functionEntries s rs m (take count names) (take count arities) at) z ∙ rw (← e, ← i, j))
         λ u.
         let v = eqb-false count mostFunctions u in
-        let w : (taken (t .key) rs || taken (t .key) (take count names)) ≡ true = sym (ap (λ b. b || (taken (t .key) rs || taken (t .key) (take count names))) u) ∙ sym y ∙ h in
+        let w : (taken (t .key) rs || taken (t .key) (take count names)) ≡ true =
+        sym (ap (λ b. b || (taken (t .key) rs || taken (t .key) (take count names))) u) ∙ sym y ∙ h in
         let z : mostFunctions - count ≡ suc (mostFunctions - 1 - count) = (let f = K .few in let k = below count v f in omega arith) in
         ap (λ m. functionEntries s rs m (take count names) (take count arities) at) z ∙ rw (← e, ← i, j, w)))
       where
@@ -290,7 +310,8 @@ module _ (s rs : List ℕ) (from : ℕ) (names arities : List ℕ) (count at : �
 
       pub functions-turn : (n b′ : ℕ) → g ≡ number.the-variants.At n b′
           → (mostFunctions - (count + 1) < mostFunctions - count) × NamesPadded mostFunctions (set names count (t .key)) (count + 1)
-          × NamesPadded mostFunctions (set arities count n) (count + 1) × FunctionsLeft s rs from (set names count (t .key)) (set arities count n) (count + 1) b′
+          × NamesPadded mostFunctions (set arities count n) (count + 1)
+          × FunctionsLeft s rs from (set names count (t .key)) (set arities count n) (count + 1) b′
       functions-turn n b′ k =
           let l = functions-room in
           let (m, q, u) = coded-at (λ n. n) (arityOf s (t .end)) g n b′ a k in (
@@ -298,7 +319,8 @@ module _ (s rs : List ℕ) (from : ℕ) (names arities : List ℕ) (count at : �
             kept-more mostFunctions names count (t .key) K l,
             kept-more mostFunctions arities count n A l,
             entered
-                ∙ ap (λ x. andThen x λ n e. functionEntries s rs (mostFunctions - (count + 1)) (take count names ++ t .key ∷ []) (take count arities ++ n ∷ []) e) q
+                ∙ ap (λ x. andThen x λ n e. functionEntries s rs (mostFunctions - (count + 1)) (take count names ++ t .key ∷ [])
+                (take count arities ++ n ∷ []) e) q
                 ∙ (λ i. functionEntries s rs (mostFunctions - (count + 1)) (sym (kept-take mostFunctions names count (t .key) K l) i)
                 ((ap (λ n. take count arities ++ n ∷ []) (sym u) ∙ sym (kept-take mostFunctions arities count n A l)) i) b′),
           )

@@ -40,7 +40,8 @@ use Rattle.blocks.proofs.Theory.TableLaws.{over-range, points-range, points-non
 use Rattle.blocks.proofs.Theory.Redirect.{block-length, redirect-block}
 use Rattle.blocks.specs.declared.PointEntry.{PointEntry}
 use Rattle.blocks.specs.declared.ReaderState.{ReaderState}
-use Rattle.syntax.specs.Answer.{padded, heldMacro, noMacro, heldReading, heldRegisters, heldFunctions, refusedTokenNumber, endFrom, bodyFrom, functionsFrom}
+use Rattle.syntax.specs.Answer.{padded, heldMacro, noMacro, heldReading, heldRegisters, heldFunctions, refusedTokenNumber, endFrom, bodyFrom}
+use Rattle.syntax.specs.Answer.{functionsFrom}
 use Rattle.syntax.proofs.Theory.Answer.{registersFrom}
 use Rattle.syntax.specs.Lists.{NamesPadded, refusedBy}
 use Rattle.syntax.proofs.Theory.Lists.{kept-list}
@@ -127,7 +128,8 @@ unfolding blockCode
 turned-whole b l = redirect-block (sizeBlock b) unknown b 0 (omega arith)
 
 module _ (s : List ℕ) (rs : Registers) (fs : Functions) (body : Progress) (t : Token) (e : t ≡ tokenAt s (body .at)) where
-  pub finish-unfit : (t .key ≡ 0 → ⊥) → (n : ℕ) → n ≡ refusedTokenNumber t → (r : MacroRead) → r ≡ heldReading (Got.refused n (t .start)) → Finishes s rs fs body r
+  pub finish-unfit : (t .key ≡ 0 → ⊥) → (n : ℕ) → n ≡ refusedTokenNumber t → (r : MacroRead) → r ≡ heldReading (Got.refused n (t .start))
+      → Finishes s rs fs body r
   unfolding Finishes
   finish-unfit h n i r g b E = rw (← e, ne-eqb (t .key) 0 h) (g ∙ ap (λ n. heldReading (Got.refused n (t .start))) i)
 
@@ -144,10 +146,12 @@ module _ (s : List ℕ) (rs : Registers) (fs : Functions) (body : Progress) (t :
         (λ u. leb-false (sizeBlock b) mostPoints u) in
         rw (← e, eq-eqb (t .key) 0 z, lt-ltb mostPoints (sizeBlock b) l) g
 
-    pub finish-read : NamesPadded mostRegisters (rs .names) (rs .count) → NamesPadded mostFunctions (fs .names) (fs .count) × NamesPadded mostFunctions (fs .arities) (fs .count)
+    pub finish-read : NamesPadded mostRegisters (rs .names) (rs .count)
+        → NamesPadded mostFunctions (fs .names) (fs .count) × NamesPadded mostFunctions (fs .arities) (fs .count)
         → body .count ≤ mostPoints
         → (head : Header) → head ≡ headed rs fs
-        → (ps : List PointEntry) → ((b : Block) → sizeBlock b ≤ mostPoints → HoldsPoints emptyTable body (blockCode b 0) → ps ≡ pointTable (map heldPoint (points b)))
+        → (ps : List PointEntry) → ((b : Block) → sizeBlock b ≤ mostPoints → HoldsPoints emptyTable body (blockCode b 0)
+        → ps ≡ pointTable (map heldPoint (points b)))
         → Finishes s rs fs body (read rs fs head ps (body .count))
     unfolding Finishes heldReading heldMacro
     finish-read R (F, A) h head i ps p b E =
@@ -174,7 +178,8 @@ module _ (s : List ℕ) (rs : Registers) (fs : Functions) (body : Progress) (t :
 module _ (body : ReaderState) (cs xs ys xs′ ys′ : List ℕ) (ps : List PointEntry) (e : xs′ ≡ each (backpatchedIn 0 (body .count) (body .count)) xs)
     (f : ys′ ≡ each (backpatchedIn 0 (body .count) (body .count)) ys)
     (g : ps ≡ tableOfCodes cs xs′ ys′ (body .count)) where
-  pub points-whole : (b : Block) → sizeBlock b ≤ mostPoints → HoldsPoints emptyTable (heldBy body cs xs ys) (blockCode b 0) → ps ≡ pointTable (map heldPoint (points b))
+  pub points-whole : (b : Block) → sizeBlock b ≤ mostPoints → HoldsPoints emptyTable (heldBy body cs xs ys) (blockCode b 0)
+      → ps ≡ pointTable (map heldPoint (points b))
   points-whole b l H =
       let n = body .count in
       let held = blockCode b 0 in
@@ -216,7 +221,8 @@ module _ (s : List ℕ) (rs : Registers) (fs : Functions) (body st : Progress) (
       begun =
           subst (λ st. BlockRead s (take (rs .count) (rs .names)) (take (fs .count) (fs .names)) (take (fs .count) (fs .arities)) deepestNesting st body) S B
 
-  pub body-refused : body .ok ≡ false → (r : MacroRead) → r ≡ heldReading (Got.refused (body .number) (body .place)) → r ≡ heldReading (bodyFrom s (take (rs .count) (rs .names)) (take (fs .count) (fs .names)) (take (fs .count) (fs .arities)) (fs .at))
+  pub body-refused : body .ok ≡ false → (r : MacroRead) → r ≡ heldReading (Got.refused (body .number) (body .place))
+      → r ≡ heldReading (bodyFrom s (take (rs .count) (rs .names)) (take (fs .count) (fs .names)) (take (fs .count) (fs .arities)) (fs .at))
   unfolding bodyFrom
   body-refused h r g = g ∙ go Body outcome
     where
@@ -226,7 +232,8 @@ module _ (s : List ℕ) (rs : Registers) (fs : Functions) (body st : Progress) (
       go (Got.refused n p) o = λ m. heldReading (Got.refused (o .number m) (o .place m))
       go exhausted o = absurd o
 
-  pub body-read : body .ok ≡ true → (r : MacroRead) → Finishes s rs fs body r → r ≡ heldReading (bodyFrom s (take (rs .count) (rs .names)) (take (fs .count) (fs .names)) (take (fs .count) (fs .arities)) (fs .at))
+  pub body-read : body .ok ≡ true → (r : MacroRead) → Finishes s rs fs body r
+      → r ≡ heldReading (bodyFrom s (take (rs .count) (rs .names)) (take (fs .count) (fs .names)) (take (fs .count) (fs .arities)) (fs .at))
   unfolding bodyFrom Finishes
   body-read h r g =
       let (b, e, w, F) = outcome-fine blockCode (startWith (fs .at)) body Body outcome h in
@@ -236,11 +243,18 @@ module _ (s : List ℕ) (rs : Registers) (fs : Functions) (body st : Progress) (
       g b E ∙ ap (λ e. heldReading (endFrom s (macroOf rs fs b) e)) (F .at) ∙ ap (λ x. heldReading (andThen x λ b e. endFrom s (macroOf rs fs b) e)) (sym w)
 
 -- arrays of zeros, where reading begins
-pub start-with : (st : ReaderState) (at : ℕ) → st ≡ readerStart at → heldBy st (replicate mostPoints 0) (replicate mostPoints 0) (replicate mostPoints 0) ≡ startWith at
+pub start-with : (st : ReaderState) (at : ℕ) → st ≡ readerStart at
+    → heldBy st (replicate mostPoints 0) (replicate mostPoints 0) (replicate mostPoints 0) ≡ startWith at
 start-with st at e = λ i. progressOf (e i) (points-none mostPoints i)
 
-pub few : (rs : Registers) (fs : Functions) → RegistersPadded rs → FunctionsPadded fs → Few (take (rs .count) (rs .names)) (take (fs .count) (fs .names)) (take (fs .count) (fs .arities))
-few rs fs R (F, A) = record { registers = let a = R .size in let b = R .few in omega arith; functions = let a = F .size in let b = F .few in omega arith; arities = A .size ∙ sym (F .size) }
+pub few : (rs : Registers) (fs : Functions) → RegistersPadded rs → FunctionsPadded fs
+    → Few (take (rs .count) (rs .names)) (take (fs .count) (fs .names)) (take (fs .count) (fs .arities))
+few rs fs R (F, A) = record {
+  registers = let a = R .size in let b = R .few in omega arith;
+  functions = let a = F .size in let b = F .few in
+      omega arith;
+  arities = A .size ∙ sym (F .size);
+}
 
 pub start-ready : (rs : Registers) (fs : Functions) (st : ReaderState) → st ≡ readerStart (fs .at) → RegistersPadded rs → FunctionsPadded fs
     → ReaderReady (take (rs .count) (rs .names)) (take (fs .count) (fs .names)) (take (fs .count) (fs .arities)) (st .count)
@@ -258,11 +272,14 @@ module _ (s : List ℕ) (rs : Registers) (fs : Functions) (h : fs ≡ heldFuncti
   Line = functionsT s (listOf rs) (rs .at) (tokenAt s (rs .at))
 
   -- what the functions' struct holds
-  pub line-ok : fs .ok ≡ true → (r : List ℕ × List ℕ) × (c : ℕ) × (Line ≡ got r c) × (fs .at ≡ c) × (take (fs .count) (fs .names) ≡ r .0) × (take (fs .count) (fs .arities) ≡ r .1) × FunctionsPadded fs
+  pub line-ok : fs .ok ≡ true → (r : List ℕ × List ℕ) × (c : ℕ) × (Line ≡ got r c) × (fs .at ≡ c) × (take (fs .count) (fs .names) ≡ r .0)
+      × (take (fs .count) (fs .arities) ≡ r .1) × FunctionsPadded fs
   unfolding heldFunctions
   line-ok k = go Line refl h
     where
-      go : (x : Got (List ℕ × List ℕ)) → Line ≡ x → fs ≡ heldFunctions x → (r : List ℕ × List ℕ) × (c : ℕ) × (Line ≡ got r c) × (fs .at ≡ c) × (take (fs .count) (fs .names) ≡ r .0) × (take (fs .count) (fs .arities) ≡ r .1) × FunctionsPadded fs
+      go : (x : Got (List ℕ × List ℕ)) → Line ≡ x → fs ≡ heldFunctions x
+          → (r : List ℕ × List ℕ) × (c : ℕ) × (Line ≡ got r c) × (fs .at ≡ c) × (take (fs .count) (fs .names) ≡ r .0) × (take (fs .count) (fs .arities) ≡ r .1)
+          × FunctionsPadded fs
       go (got r c) w e =
           let (D, P, A, l, p) = functions-line s (listOf rs) (rs .at) r c w in
           let n = arities-length A in
@@ -289,24 +306,30 @@ module _ (s : List ℕ) (rs : Registers) (fs : Functions) (h : fs ≡ heldFuncti
   pub line-kept : fs .ok ≡ true → FunctionsPadded fs
   line-kept k = let (r, c, w, a, x, y, K) = line-ok k in K
 
-  pub rest-read : fs .ok ≡ true → (r : MacroRead) → r ≡ heldReading (bodyFrom s (listOf rs) (take (fs .count) (fs .names)) (take (fs .count) (fs .arities)) (fs .at)) → r ≡ heldReading (functionsFrom s (listOf rs) (rs .at))
+  pub rest-read : fs .ok ≡ true → (r : MacroRead)
+      → r ≡ heldReading (bodyFrom s (listOf rs) (take (fs .count) (fs .names)) (take (fs .count) (fs .arities)) (fs .at))
+      → r ≡ heldReading (functionsFrom s (listOf rs) (rs .at))
   unfolding functionsFrom
   rest-read k r g =
       let (l, c, w, a, x, y, K) = line-ok k in
-      g ∙ (λ i. heldReading (bodyFrom s (listOf rs) (x i) (y i) (a i))) ∙ ap (λ x. heldReading (andThen x λ r c. bodyFrom s (listOf rs) (r .0) (r .1) c)) (sym w)
+      g ∙ (λ i. heldReading (bodyFrom s (listOf rs) (x i) (y i) (a i)))
+      ∙ ap (λ x. heldReading (andThen x λ r c. bodyFrom s (listOf rs) (r .0) (r .1) c)) (sym w)
 
-  pub rest-refused : fs .ok ≡ false → (r : MacroRead) → r ≡ heldReading (Got.refused (fs .number) (fs .place)) → r ≡ heldReading (functionsFrom s (listOf rs) (rs .at))
+  pub rest-refused : fs .ok ≡ false → (r : MacroRead) → r ≡ heldReading (Got.refused (fs .number) (fs .place))
+      → r ≡ heldReading (functionsFrom s (listOf rs) (rs .at))
   unfolding functionsFrom heldFunctions heldReading
   rest-refused k r g = g ∙ go Line h
     where
-      go : (x : Got (List ℕ × List ℕ)) → fs ≡ heldFunctions x → heldReading (Got.refused (fs .number) (fs .place)) ≡ heldReading (andThen x λ r c. bodyFrom s (listOf rs) (r .0) (r .1) c)
+      go : (x : Got (List ℕ × List ℕ)) → fs ≡ heldFunctions x
+          → heldReading (Got.refused (fs .number) (fs .place)) ≡ heldReading (andThen x λ r c. bodyFrom s (listOf rs) (r .0) (r .1) c)
       go (got r c) e = let z = ap (λ f. f .ok) e in let y : _≡_ {A = ℕ} 0 1 = cc in absurd (omega arith)
       go (Got.refused n p) e = λ i. heldReading (Got.refused (e i .number) (e i .place))
       go exhausted e = λ i. heldReading (Got.refused (e i .number) (e i .place))
 
 -- ---- the whole text
 
-assoc : {A B C : Type 0} (x : Got A) (f : A → ℕ → Got B) (g : B → ℕ → Got C) (h : A → ℕ → Got C) → ((a : A) (e : ℕ) → andThen (f a e) g ≡ h a e) → andThen (andThen x f) g ≡ andThen x h
+assoc : {A B C : Type 0} (x : Got A) (f : A → ℕ → Got B) (g : B → ℕ → Got C) (h : A → ℕ → Got C) → ((a : A) (e : ℕ) → andThen (f a e) g ≡ h a e)
+    → andThen (andThen x f) g ≡ andThen x h
 assoc (got a e) f g h k = k a e
 assoc (Got.refused n p) f g h k = refl
 assoc exhausted f g h k = refl
@@ -366,13 +389,15 @@ module _ (s : List ℕ) (l : length s ≤ longestText) (g : number.GotNumber) (i
     unfolding registersFrom
     read-rest k r g =
         let (l, b, w, x, y, K) = names-ok k in
-        g ∙ (λ i. heldReading (functionsFrom s (y i) (x i))) ∙ ap (λ x. heldReading (andThen x λ rs b. functionsFrom s rs b)) (sym w) ∙ ap heldReading (sym begun)
+        g ∙ (λ i. heldReading (functionsFrom s (y i) (x i))) ∙ ap (λ x. heldReading (andThen x λ rs b. functionsFrom s rs b)) (sym w)
+        ∙ ap heldReading (sym begun)
 
     pub read-refused : rs .ok ≡ false → (r : MacroRead) → r ≡ heldReading (Got.refused (rs .number) (rs .place)) → r ≡ heldReading (readMacro s)
     unfolding registersFrom heldRegisters heldReading
     read-refused k r g = g ∙ go (registerNames s mostRegisters [] a) e ∙ ap heldReading (sym begun)
       where
-        go : (x : Got (List ℕ)) → rs ≡ heldRegisters x → heldReading (Got.refused (rs .number) (rs .place)) ≡ heldReading (andThen x λ rs b. functionsFrom s rs b)
+        go : (x : Got (List ℕ)) → rs ≡ heldRegisters x
+            → heldReading (Got.refused (rs .number) (rs .place)) ≡ heldReading (andThen x λ rs b. functionsFrom s rs b)
         go (got l b) e = let z = ap (λ f. f .ok) e in let y : _≡_ {A = ℕ} 0 1 = cc in absurd (omega arith)
         go (Got.refused n p) e = λ i. heldReading (Got.refused (e i .number) (e i .place))
         go exhausted e = λ i. heldReading (Got.refused (e i .number) (e i .place))

@@ -24,16 +24,21 @@ next-requires : tie.Need-next-requires
 next-requires c κs = search needs
 
 returns-2 : tie.Need-returns-2
-returns-2 c = law.arity-one _ _ _ (c .before .before .before .before .before .before .expect .ensures) _ _ ((c .before .before .before .before .slash .given) .1) _ (c .before .before .next .ensures) (c .if1 .taken)
+returns-2 c = law.arity-one _ _ _ (c .before .before .before .before .before .before .expect .ensures) _ _
+    ((c .before .before .before .before .slash .given) .1) _ (c .before .before .next .ensures) (c .if1 .taken)
 
 returns-3 : tie.Need-returns-3
-returns-3 c = law.arity-two _ _ _ (c .before .before .before .before .before .before .before .before .expect .ensures) _ _ ((c .before .before .before .before .before .before .slash .given) .1) _ (c .before .before .before .before .next .ensures) (c .before .before .if1 .left) (c .if2 .taken)
+returns-3 c = law.arity-two _ _ _ (c .before .before .before .before .before .before .before .before .expect .ensures) _ _
+    ((c .before .before .before .before .before .before .slash .given) .1) _ (c .before .before .before .before .next .ensures) (c .before .before .if1 .left)
+    (c .if2 .taken)
 
 unfitting-requires : tie.Need-unfitting-requires
 unfitting-requires c κs = search needs
 
 returns-4 : tie.Need-returns-4
-returns-4 c = law.arity-unfit _ _ _ (c .before .before .before .before .before .before .before .before .before .expect .ensures) _ _ ((c .before .before .before .before .before .before .before .slash .given) .1) _ (c .before .before .before .before .before .next .ensures) (c .before .before .before .if1 .left) (c .before .if2 .left) _ (c .unfitting .ensures)
+returns-4 c = law.arity-unfit _ _ _ (c .before .before .before .before .before .before .before .before .before .expect .ensures) _ _
+    ((c .before .before .before .before .before .before .before .slash .given) .1) _ (c .before .before .before .before .before .next .ensures)
+    (c .before .before .before .if1 .left) (c .before .if2 .left) _ (c .unfitting .ensures)
 
 pub arity-spec : {M : Type 1} → statement M
 arity-spec =

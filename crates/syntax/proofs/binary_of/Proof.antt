@@ -49,7 +49,8 @@ add-result-3 : tie.Need-add-result-3
 add-result-3 c = search needs
 
 returns : tie.Need-returns
-returns c = law.four (c .before .before .before .before .args .t1) _ _ _ _ (search needs) ((c .before .before .before .flag .ensures) .0) ((c .before .before .flag2 .ensures) .0) ((c .before .flag3 .ensures) .0) ((c .flag4 .ensures) .0)
+returns c = law.four (c .before .before .before .before .args .t1) _ _ _ _ (search needs) ((c .before .before .before .flag .ensures) .0)
+    ((c .before .before .flag2 .ensures) .0) ((c .before .flag3 .ensures) .0) ((c .flag4 .ensures) .0)
 
 pub binary-of-spec : {M : Type 1} → statement M
 binary-of-spec =

@@ -12,10 +12,14 @@ no-functions-requires : tie.Need-no-functions-requires
 no-functions-requires c κs = search needs
 
 returns : tie.Need-returns
-returns c = law.functions-unlisted [] _ _ _ ((c .before .before .before .before .pre) .0) ((c .before .before .before .before .pre) .1) (c .before .before .before .before .args .t) 9 (law.semicolon-unfit (c .before .before .before .before .args .t) (c .before .before .if1 .taken)) (law.unlisted-none (c .before .before .before .before .args .t) (c .before .before .before .before .args .count) (c .before .before .if1 .taken) (c .before .if2 .taken)) _ (c .no-functions .ensures)
+returns c = law.functions-unlisted [] _ _ _ ((c .before .before .before .before .pre) .0) ((c .before .before .before .before .pre) .1)
+    (c .before .before .before .before .args .t) 9 (law.semicolon-unfit (c .before .before .before .before .args .t) (c .before .before .if1 .taken))
+    (law.unlisted-none (c .before .before .before .before .args .t) (c .before .before .before .before .args .count) (c .before .before .if1 .taken)
+    (c .before .if2 .taken)) _ (c .no-functions .ensures)
 
 returns-2 : tie.Need-returns-2
-returns-2 c = law.functions-listed [] _ _ _ ((c .before .before .before .pre) .0) ((c .before .before .before .pre) .1) (c .before .before .before .args .t) (c .before .if1 .taken) (c .if2 .left)
+returns-2 c = law.functions-listed [] _ _ _ ((c .before .before .before .pre) .0) ((c .before .before .before .pre) .1) (c .before .before .before .args .t)
+    (c .before .if1 .taken) (c .if2 .left)
 
 unfit-number-requires : tie.Need-unfit-number-requires
 unfit-number-requires c κs = search needs
@@ -24,7 +28,10 @@ no-functions-requires-2 : tie.Need-no-functions-requires-2
 no-functions-requires-2 c κs = search needs
 
 returns-3 : tie.Need-returns-3
-returns-3 c = law.functions-unlisted [] _ _ _ ((c .before .before .before .before .pre) .0) ((c .before .before .before .before .pre) .1) (c .before .before .before .before .args .t) _ (c .before .unfit-number .ensures) (law.unlisted-token (c .before .before .before .before .args .t) (c .before .before .before .before .args .count) (c .before .before .if1 .left)) _ (c .no-functions2 .ensures)
+returns-3 c = law.functions-unlisted [] _ _ _ ((c .before .before .before .before .pre) .0) ((c .before .before .before .before .pre) .1)
+    (c .before .before .before .before .args .t) _ (c .before .unfit-number .ensures)
+    (law.unlisted-token (c .before .before .before .before .args .t) (c .before .before .before .before .args .count) (c .before .before .if1 .left)) _
+    (c .no-functions2 .ensures)
 
 pub functions-end-spec : {M : Type 1} → statement M
 functions-end-spec =

@@ -27,7 +27,8 @@ is-known-requires-2 : tie.Need-is-known-requires-2
 is-known-requires-2 c κs = omega (arith, (c .before .before .before .before .before .pre) .1 .size, (c .before .before .before .before .before .pre) .1 .few)
 
 returns-3 : tie.Need-returns-3
-returns-3 c = law.taken-last _ _ _ _ (c .before .before .before .before .if1 .left) _ (c .before .before .before .is-known .ensures) (c .before .before .if2 .left) _ (c .is-known2 .ensures)
+returns-3 c = law.taken-last _ _ _ _ (c .before .before .before .before .if1 .left) _ (c .before .before .before .is-known .ensures)
+    (c .before .before .if2 .left) _ (c .is-known2 .ensures)
 
 pub is-function-taken-spec : {M : Type 1} → statement M
 is-function-taken-spec =

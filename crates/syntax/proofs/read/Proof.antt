@@ -30,22 +30,29 @@ refused-text-requires : tie.Need-refused-text-requires
 refused-text-requires c κs = search needs
 
 returns-2 : tie.Need-returns-2
-returns-2 c = reads _ _ (law.read-vars _ (c .before .before .before .before .if1 .left) _ (c .before .before .before .expect .ensures) _ _ ((c .before .enum-told .given) .1) _ (c .refused-text .ensures))
+returns-2 c = reads _ _ (law.read-vars _ (c .before .before .before .before .if1 .left) _ (c .before .before .before .expect .ensures) _ _
+    ((c .before .enum-told .given) .1) _ (c .refused-text .ensures))
 
 read-registers-requires : tie.Need-read-registers-requires
 read-registers-requires c κs = search needs
 
 read-rest-requires : tie.Need-read-rest-requires
-read-rest-requires c κs = law.names-kept _ (c .before .before .before .before .before .before .if1 .left) _ (c .before .before .before .before .before .expect .ensures) _ _ ((c .before .before .before .g .given) .1) _ (c .before .read-registers .ensures) (c .if2 .taken)
+read-rest-requires c κs = law.names-kept _ (c .before .before .before .before .before .before .if1 .left) _
+    (c .before .before .before .before .before .expect .ensures) _ _ ((c .before .before .before .g .given) .1) _ (c .before .read-registers .ensures)
+    (c .if2 .taken)
 
 returns-3 : tie.Need-returns-3
-returns-3 c = reads _ _ (law.read-rest _ (c .before .before .before .before .before .before .before .if1 .left) _ (c .before .before .before .before .before .before .expect .ensures) _ _ ((c .before .before .before .before .g .given) .1) _ (c .before .before .read-registers .ensures) (c .before .if2 .taken) _ (c .read-rest .ensures))
+returns-3 c = reads _ _ (law.read-rest _ (c .before .before .before .before .before .before .before .if1 .left) _
+    (c .before .before .before .before .before .before .expect .ensures) _ _ ((c .before .before .before .before .g .given) .1) _
+    (c .before .before .read-registers .ensures) (c .before .if2 .taken) _ (c .read-rest .ensures))
 
 refused-answer-requires-2 : tie.Need-refused-answer-requires-2
 refused-answer-requires-2 c κs = search needs
 
 returns-4 : tie.Need-returns-4
-returns-4 c = reads _ _ (law.read-refused _ (c .before .before .before .before .before .before .before .if1 .left) _ (c .before .before .before .before .before .before .expect .ensures) _ _ ((c .before .before .before .before .g .given) .1) _ (c .before .before .read-registers .ensures) (c .before .if2 .left) _ (c .refused-answer2 .ensures))
+returns-4 c = reads _ _ (law.read-refused _ (c .before .before .before .before .before .before .before .if1 .left) _
+    (c .before .before .before .before .before .before .expect .ensures) _ _ ((c .before .before .before .before .g .given) .1) _
+    (c .before .before .read-registers .ensures) (c .before .if2 .left) _ (c .refused-answer2 .ensures))
 
 pub read-spec : {M : Type 1} → statement M
 read-spec =

@@ -18,7 +18,8 @@ use Rattle.tokens.proofs.is_name.Reads as is-name-reads
 use Rattle.tokens.proofs.next.Reads as next-reads
 
 abbrev Inv-loop : tie.InvT-loop
-Inv-loop text regs from names₀ arities₀ count₀ at₀ names arities count at = NamesPadded 4 names count × NamesPadded 4 arities count × FunctionsLeft text regs from names arities count at
+Inv-loop text regs from names₀ arities₀ count₀ at₀ names arities count at =
+    NamesPadded 4 names count × NamesPadded 4 arities count × FunctionsLeft text regs from names arities count at
 
 abbrev μ-loop : tie.MeasureT-loop
 μ-loop text regs from names₀ arities₀ count₀ at₀ names arities count at = 4 - count
@@ -39,7 +40,10 @@ no-functions-requires : tie.Need-no-functions-requires Inv-loop μ-loop
 no-functions-requires c κs = search needs
 
 returns : tie.Need-returns Inv-loop μ-loop
-returns c = law.functions-taken _ _ _ _ _ _ _ ((c .before .before .before .before .before .before .loop .inv) .0) ((c .before .before .before .before .before .before .loop .inv) .1) ((c .before .before .before .before .before .before .loop .inv) .2) _ (c .before .before .before .before .before .next .ensures) _ (c .before .before .before .before .is-name .ensures) (c .before .before .before .if1 .taken) _ (c .before .before .is-function-taken .ensures) (c .before .if2 .taken) _ (c .no-functions .ensures)
+returns c = law.functions-taken _ _ _ _ _ _ _ ((c .before .before .before .before .before .before .loop .inv) .0)
+    ((c .before .before .before .before .before .before .loop .inv) .1) ((c .before .before .before .before .before .before .loop .inv) .2) _
+    (c .before .before .before .before .before .next .ensures) _ (c .before .before .before .before .is-name .ensures) (c .before .before .before .if1 .taken) _
+    (c .before .before .is-function-taken .ensures) (c .before .if2 .taken) _ (c .no-functions .ensures)
 
 arity-requires : tie.Need-arity-requires Inv-loop μ-loop
 arity-requires c κs = search needs
@@ -54,31 +58,64 @@ refused-functions-requires : tie.Need-refused-functions-requires Inv-loop μ-loo
 refused-functions-requires c κs = search needs
 
 returns-2 : tie.Need-returns-2 Inv-loop μ-loop
-returns-2 c = law.functions-refused _ _ _ _ _ _ _ ((c .before .before .before .before .before .before .before .before .before .loop .inv) .0) ((c .before .before .before .before .before .before .before .before .before .loop .inv) .1) ((c .before .before .before .before .before .before .before .before .before .loop .inv) .2) _ (c .before .before .before .before .before .before .before .before .next .ensures) _ (c .before .before .before .before .before .before .before .is-name .ensures) (c .before .before .before .before .before .before .if1 .taken) _ (c .before .before .before .before .before .is-function-taken .ensures) (c .before .before .before .before .if2 .left) _ (c .before .before .before .arity .ensures) _ _ ((c .before .enum-told .given) .1) _ (c .refused-functions .ensures)
+returns-2 c = law.functions-refused _ _ _ _ _ _ _ ((c .before .before .before .before .before .before .before .before .before .loop .inv) .0)
+    ((c .before .before .before .before .before .before .before .before .before .loop .inv) .1)
+    ((c .before .before .before .before .before .before .before .before .before .loop .inv) .2) _
+    (c .before .before .before .before .before .before .before .before .next .ensures) _
+    (c .before .before .before .before .before .before .before .is-name .ensures) (c .before .before .before .before .before .before .if1 .taken) _
+    (c .before .before .before .before .before .is-function-taken .ensures) (c .before .before .before .before .if2 .left) _
+    (c .before .before .before .arity .ensures) _ _ ((c .before .enum-told .given) .1) _ (c .refused-functions .ensures)
 
 mul-names : tie.Need-mul-names Inv-loop μ-loop
 mul-names c = search needs
 
 array-write-names : tie.Need-array-write-names Inv-loop μ-loop
-array-write-names c = let h = law.functions-room _ _ _ _ _ _ _ ((c .before .before .before .before .before .before .before .before .before .loop .inv) .0) ((c .before .before .before .before .before .before .before .before .before .loop .inv) .1) ((c .before .before .before .before .before .before .before .before .before .loop .inv) .2) _ (c .before .before .before .before .before .before .before .before .next .ensures) _ (c .before .before .before .before .before .before .before .is-name .ensures) (c .before .before .before .before .before .before .if1 .taken) _ (c .before .before .before .before .before .is-function-taken .ensures) (c .before .before .before .before .if2 .left) _ (c .before .before .before .arity .ensures) in omega arith
+array-write-names c = let h = law.functions-room _ _ _ _ _ _ _ ((c .before .before .before .before .before .before .before .before .before .loop .inv) .0)
+    ((c .before .before .before .before .before .before .before .before .before .loop .inv) .1)
+    ((c .before .before .before .before .before .before .before .before .before .loop .inv) .2) _
+    (c .before .before .before .before .before .before .before .before .next .ensures) _
+    (c .before .before .before .before .before .before .before .is-name .ensures) (c .before .before .before .before .before .before .if1 .taken) _
+    (c .before .before .before .before .before .is-function-taken .ensures) (c .before .before .before .before .if2 .left) _
+    (c .before .before .before .arity .ensures) in omega arith
 
 array-write-arities : tie.Need-array-write-arities Inv-loop μ-loop
-array-write-arities c = let h = law.functions-room _ _ _ _ _ _ _ ((c .before .before .before .before .before .before .before .before .before .loop .inv) .0) ((c .before .before .before .before .before .before .before .before .before .loop .inv) .1) ((c .before .before .before .before .before .before .before .before .before .loop .inv) .2) _ (c .before .before .before .before .before .before .before .before .next .ensures) _ (c .before .before .before .before .before .before .before .is-name .ensures) (c .before .before .before .before .before .before .if1 .taken) _ (c .before .before .before .before .before .is-function-taken .ensures) (c .before .before .before .before .if2 .left) _ (c .before .before .before .arity .ensures) in omega arith
+array-write-arities c = let h =
+    law.functions-room _ _ _ _ _ _ _ ((c .before .before .before .before .before .before .before .before .before .loop .inv) .0)
+    ((c .before .before .before .before .before .before .before .before .before .loop .inv) .1)
+    ((c .before .before .before .before .before .before .before .before .before .loop .inv) .2) _
+    (c .before .before .before .before .before .before .before .before .next .ensures) _
+    (c .before .before .before .before .before .before .before .is-name .ensures) (c .before .before .before .before .before .before .if1 .taken) _
+    (c .before .before .before .before .before .is-function-taken .ensures) (c .before .before .before .before .if2 .left) _
+    (c .before .before .before .arity .ensures) in omega arith
 
 add-count : tie.Need-add-count Inv-loop μ-loop
 add-count c = search needs
 
 loop-less : tie.Need-loop-less Inv-loop μ-loop
-loop-less c = law.functions-turn _ _ _ _ _ _ _ ((c .before .before .before .before .before .before .before .before .before .loop .inv) .0) ((c .before .before .before .before .before .before .before .before .before .loop .inv) .1) ((c .before .before .before .before .before .before .before .before .before .loop .inv) .2) _ (c .before .before .before .before .before .before .before .before .next .ensures) _ (c .before .before .before .before .before .before .before .is-name .ensures) (c .before .before .before .before .before .before .if1 .taken) _ (c .before .before .before .before .before .is-function-taken .ensures) (c .before .before .before .before .if2 .left) _ (c .before .before .before .arity .ensures) _ _ ((c .before .g .given) .1) .0
+loop-less c = law.functions-turn _ _ _ _ _ _ _ ((c .before .before .before .before .before .before .before .before .before .loop .inv) .0)
+    ((c .before .before .before .before .before .before .before .before .before .loop .inv) .1)
+    ((c .before .before .before .before .before .before .before .before .before .loop .inv) .2) _
+    (c .before .before .before .before .before .before .before .before .next .ensures) _
+    (c .before .before .before .before .before .before .before .is-name .ensures) (c .before .before .before .before .before .before .if1 .taken) _
+    (c .before .before .before .before .before .is-function-taken .ensures) (c .before .before .before .before .if2 .left) _
+    (c .before .before .before .arity .ensures) _ _ ((c .before .g .given) .1) .0
 
 loop-again : tie.Need-loop-again Inv-loop μ-loop
-loop-again c = let x = law.functions-turn _ _ _ _ _ _ _ ((c .before .before .before .before .before .before .before .before .before .loop .inv) .0) ((c .before .before .before .before .before .before .before .before .before .loop .inv) .1) ((c .before .before .before .before .before .before .before .before .before .loop .inv) .2) _ (c .before .before .before .before .before .before .before .before .next .ensures) _ (c .before .before .before .before .before .before .before .is-name .ensures) (c .before .before .before .before .before .before .if1 .taken) _ (c .before .before .before .before .before .is-function-taken .ensures) (c .before .before .before .before .if2 .left) _ (c .before .before .before .arity .ensures) _ _ ((c .before .g .given) .1) in (x .1, x .2, x .3)
+loop-again c = let x = law.functions-turn _ _ _ _ _ _ _ ((c .before .before .before .before .before .before .before .before .before .loop .inv) .0)
+    ((c .before .before .before .before .before .before .before .before .before .loop .inv) .1)
+    ((c .before .before .before .before .before .before .before .before .before .loop .inv) .2) _
+    (c .before .before .before .before .before .before .before .before .next .ensures) _
+    (c .before .before .before .before .before .before .before .is-name .ensures) (c .before .before .before .before .before .before .if1 .taken) _
+    (c .before .before .before .before .before .is-function-taken .ensures) (c .before .before .before .before .if2 .left) _
+    (c .before .before .before .arity .ensures) _ _ ((c .before .g .given) .1) in (x .1, x .2, x .3)
 
 functions-end-requires : tie.Need-functions-end-requires Inv-loop μ-loop
 functions-end-requires c κs = ((c .before .before .before .loop .inv) .0, (c .before .before .before .loop .inv) .1)
 
 returns-3 : tie.Need-returns-3 Inv-loop μ-loop
-returns-3 c = law.functions-last _ _ _ _ _ _ _ ((c .before .before .before .before .loop .inv) .0) ((c .before .before .before .before .loop .inv) .1) ((c .before .before .before .before .loop .inv) .2) _ (c .before .before .before .next .ensures) _ (c .before .before .is-name .ensures) (c .before .if1 .left) _ (c .functions-end .ensures)
+returns-3 c = law.functions-last _ _ _ _ _ _ _ ((c .before .before .before .before .loop .inv) .0) ((c .before .before .before .before .loop .inv) .1)
+    ((c .before .before .before .before .loop .inv) .2) _ (c .before .before .before .next .ensures) _ (c .before .before .is-name .ensures)
+    (c .before .if1 .left) _ (c .functions-end .ensures)
 
 pub read-functions-spec : {M : Type 1} → statement M
 read-functions-spec =

@@ -37,28 +37,37 @@ no-registers-requires : tie.Need-no-registers-requires Inv-loop μ-loop
 no-registers-requires c κs = search needs
 
 returns : tie.Need-returns Inv-loop μ-loop
-returns c = law.registers-taken _ _ _ _ _ ((c .before .before .before .before .before .before .loop .inv) .0) ((c .before .before .before .before .before .before .loop .inv) .1) _ (c .before .before .before .before .before .next .ensures) _ (c .before .before .before .before .is-name .ensures) (c .before .before .before .if1 .taken) _ (c .before .before .is-register-taken .ensures) (c .before .if2 .taken) _ (c .no-registers .ensures)
+returns c = law.registers-taken _ _ _ _ _ ((c .before .before .before .before .before .before .loop .inv) .0)
+    ((c .before .before .before .before .before .before .loop .inv) .1) _ (c .before .before .before .before .before .next .ensures) _
+    (c .before .before .before .before .is-name .ensures) (c .before .before .before .if1 .taken) _ (c .before .before .is-register-taken .ensures)
+    (c .before .if2 .taken) _ (c .no-registers .ensures)
 
 mul-names : tie.Need-mul-names Inv-loop μ-loop
 mul-names c = search needs
 
 array-write-names : tie.Need-array-write-names Inv-loop μ-loop
-array-write-names c = let h = law.not-full _ 8 _ _ _ (c .before .is-register-taken .ensures) (c .if2 .left) ((c .before .before .before .before .before .loop .inv) .0 .few) in omega arith
+array-write-names c = let h = law.not-full _ 8 _ _ _ (c .before .is-register-taken .ensures) (c .if2 .left)
+    ((c .before .before .before .before .before .loop .inv) .0 .few) in omega arith
 
 add-count : tie.Need-add-count Inv-loop μ-loop
 add-count c = search needs
 
 loop-less : tie.Need-loop-less Inv-loop μ-loop
-loop-less c = law.registers-turn _ _ _ _ _ ((c .before .before .before .before .before .loop .inv) .0) ((c .before .before .before .before .before .loop .inv) .1) _ (c .before .before .before .before .next .ensures) _ (c .before .before .before .is-name .ensures) (c .before .before .if1 .taken) _ (c .before .is-register-taken .ensures) (c .if2 .left) .0
+loop-less c = law.registers-turn _ _ _ _ _ ((c .before .before .before .before .before .loop .inv) .0)
+    ((c .before .before .before .before .before .loop .inv) .1) _ (c .before .before .before .before .next .ensures) _
+    (c .before .before .before .is-name .ensures) (c .before .before .if1 .taken) _ (c .before .is-register-taken .ensures) (c .if2 .left) .0
 
 loop-again : tie.Need-loop-again Inv-loop μ-loop
-loop-again c = let x = law.registers-turn _ _ _ _ _ ((c .before .before .before .before .before .loop .inv) .0) ((c .before .before .before .before .before .loop .inv) .1) _ (c .before .before .before .before .next .ensures) _ (c .before .before .before .is-name .ensures) (c .before .before .if1 .taken) _ (c .before .is-register-taken .ensures) (c .if2 .left) in (x .1, x .2)
+loop-again c = let x = law.registers-turn _ _ _ _ _ ((c .before .before .before .before .before .loop .inv) .0)
+    ((c .before .before .before .before .before .loop .inv) .1) _ (c .before .before .before .before .next .ensures) _
+    (c .before .before .before .is-name .ensures) (c .before .before .if1 .taken) _ (c .before .is-register-taken .ensures) (c .if2 .left) in (x .1, x .2)
 
 registers-end-requires : tie.Need-registers-end-requires Inv-loop μ-loop
 registers-end-requires c κs = (c .before .before .before .loop .inv) .0
 
 returns-2 : tie.Need-returns-2 Inv-loop μ-loop
-returns-2 c = law.registers-last _ _ _ _ _ ((c .before .before .before .before .loop .inv) .0) ((c .before .before .before .before .loop .inv) .1) _ (c .before .before .before .next .ensures) _ (c .before .before .is-name .ensures) (c .before .if1 .left) _ (c .registers-end .ensures)
+returns-2 c = law.registers-last _ _ _ _ _ ((c .before .before .before .before .loop .inv) .0) ((c .before .before .before .before .loop .inv) .1) _
+    (c .before .before .before .next .ensures) _ (c .before .before .is-name .ensures) (c .before .if1 .left) _ (c .registers-end .ensures)
 
 pub read-registers-spec : {M : Type 1} → statement M
 read-registers-spec =

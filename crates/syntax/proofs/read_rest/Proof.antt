@@ -19,16 +19,21 @@ functions-line-requires : tie.Need-functions-line-requires
 functions-line-requires c κs = search needs
 
 read-body-requires : tie.Need-read-body-requires
-read-body-requires c κs = let x = law.line-kept (c .before .before .before .before .before .args .text .now) (c .before .before .before .before .before .args .rs) _ (c .before .functions-line .ensures) (c .if1 .taken) in ((c .before .before .before .before .before .pre), x)
+read-body-requires c κs = let x =
+    law.line-kept (c .before .before .before .before .before .args .text .now) (c .before .before .before .before .before .args .rs) _
+    (c .before .functions-line .ensures) (c .if1 .taken) in ((c .before .before .before .before .before .pre), x)
 
 returns : tie.Need-returns
-returns c = law.rest-read (c .before .before .before .before .before .before .args .text .now) (c .before .before .before .before .before .before .args .rs) _ (c .before .before .functions-line .ensures) (c .before .if1 .taken) _ (c .read-body .ensures)
+returns c = law.rest-read (c .before .before .before .before .before .before .args .text .now) (c .before .before .before .before .before .before .args .rs) _
+    (c .before .before .functions-line .ensures) (c .before .if1 .taken) _ (c .read-body .ensures)
 
 refused-answer-requires : tie.Need-refused-answer-requires
 refused-answer-requires c κs = search needs
 
 returns-2 : tie.Need-returns-2
-returns-2 c = law.rest-refused (c .before .before .before .before .before .before .args .text .now) (c .before .before .before .before .before .before .args .rs) _ (c .before .before .functions-line .ensures) (c .before .if1 .left) _ (c .refused-answer .ensures)
+returns-2 c = law.rest-refused (c .before .before .before .before .before .before .args .text .now)
+    (c .before .before .before .before .before .before .args .rs) _ (c .before .before .functions-line .ensures) (c .before .if1 .left) _
+    (c .refused-answer .ensures)
 
 pub read-rest-spec : {M : Type 1} → statement M
 read-rest-spec =

@@ -12,7 +12,10 @@ no-registers-requires : tie.Need-no-registers-requires
 no-registers-requires c κs = search needs
 
 returns : tie.Need-returns
-returns c = law.registers-unlisted [] _ _ (c .before .before .before .before .pre) (c .before .before .before .before .args .t) 9 (law.semicolon-unfit (c .before .before .before .before .args .t) (c .before .before .if1 .taken)) (law.unlisted-none (c .before .before .before .before .args .t) (c .before .before .before .before .args .count) (c .before .before .if1 .taken) (c .before .if2 .taken)) _ (c .no-registers .ensures)
+returns c = law.registers-unlisted [] _ _ (c .before .before .before .before .pre) (c .before .before .before .before .args .t) 9
+    (law.semicolon-unfit (c .before .before .before .before .args .t) (c .before .before .if1 .taken))
+    (law.unlisted-none (c .before .before .before .before .args .t) (c .before .before .before .before .args .count) (c .before .before .if1 .taken)
+    (c .before .if2 .taken)) _ (c .no-registers .ensures)
 
 returns-2 : tie.Need-returns-2
 returns-2 c = law.registers-listed [] _ _ (c .before .before .before .pre) (c .before .before .before .args .t) (c .before .if1 .taken) (c .if2 .left)
@@ -24,7 +27,10 @@ no-registers-requires-2 : tie.Need-no-registers-requires-2
 no-registers-requires-2 c κs = search needs
 
 returns-3 : tie.Need-returns-3
-returns-3 c = law.registers-unlisted [] _ _ (c .before .before .before .before .pre) (c .before .before .before .before .args .t) _ (c .before .unfit-number .ensures) (law.unlisted-token (c .before .before .before .before .args .t) (c .before .before .before .before .args .count) (c .before .before .if1 .left)) _ (c .no-registers2 .ensures)
+returns-3 c = law.registers-unlisted [] _ _ (c .before .before .before .before .pre) (c .before .before .before .before .args .t) _
+    (c .before .unfit-number .ensures)
+    (law.unlisted-token (c .before .before .before .before .args .t) (c .before .before .before .before .args .count) (c .before .before .if1 .left)) _
+    (c .no-registers2 .ensures)
 
 pub registers-end-spec : {M : Type 1} → statement M
 registers-end-spec =

@@ -167,7 +167,9 @@ pub at-listed : (t p : List ℕ) (count j : ℕ) → j < count → isAt t j p �
 unfolding isListed
 at-listed t p zero j l e = absurd (omega arith)
 at-listed t p (suc k) j l e =
-    byTest (isAt t k p) (λ u. rw u) λ u. rw u (at-listed t p k j (byTest (eqb j k) (λ v. absurd (let y = eqb-true j k v in let z : _≡_ {A = ℕ} 0 1 = cc in omega arith)) λ v. omega (arith, eqb-false j k v)) e)
+    byTest (isAt t k p) (λ u. rw u) λ u. rw u
+    (at-listed t p k j (byTest (eqb j k) (λ v. absurd (let y = eqb-true j k v in let z : _≡_ {A = ℕ} 0 1 = cc in omega arith)) λ v. omega
+    (arith, eqb-false j k v)) e)
 
 -- none of the pairs is
 pub nowhere-listed : (t p : List ℕ) (count : ℕ) → isListed t count p ≡ false → (j : ℕ) → j < count → isAt t j p ≡ false

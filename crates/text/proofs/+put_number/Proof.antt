@@ -27,12 +27,14 @@ put-number-below t =
     and 1 put-number-kinds.ps (falls 1 put-number-kinds.ps _<_ μ-put-number t) put-number.Pre
 
 -- what the function ensures, apart, so that its failure has a name
-put-number-returns-2 : (t : ℕ) → put-number-lts.Need-returns-2 (put-byte-reads.Asked, put-byte-reads.Learnt, put-number-below t, put-number.Post) (put-number-at t) put-number.Post
+put-number-returns-2 : (t : ℕ) → put-number-lts.Need-returns-2 (put-byte-reads.Asked, put-byte-reads.Learnt, put-number-below t, put-number.Post)
+    (put-number-at t) put-number.Post
 put-number-returns-2 t c =
     let a = c .before .before .before .before .before .before .before .before .before .before in
     let n : ℕ = a .args .number in
     appended-same (sym (numeral-more n (c .before .before .before .before .before .before .before .before .if1 .left)))
-    (appended-then (numeral (n / 10)) (digitByte (n % 10) ∷ []) (c .before .before .before .before .before .before .put-number .ensures) (c .before .before .put-byte2 .ensures))
+    (appended-then (numeral (n / 10)) (digitByte (n % 10) ∷ []) (c .before .before .before .before .before .before .put-number .ensures)
+    (c .before .before .put-byte2 .ensures))
 
 pub +put-number-spec : {M : Type 1} → statement M
 +put-number-spec = close μ-put-number λ t. put-number-lts.spec (
@@ -54,11 +56,15 @@ pub +put-number-spec : {M : Type 1} → statement M
     appended-same (sym (numeral-one (a .args .number) (c .before .before .before .before .if1 .taken))) (c .before .before .put-byte .ensures))
     (λ c κs.
     let a = c .before .before .before in
-    let n : ℕ = a .args .number in
-    (omega (arith, a .pre .0, c .before .if1 .left), room-first (numeral (n / 10)) (digitByte (n % 10) ∷ []) (room-same (numeral-more n (c .before .if1 .left)) (a .pre .1))))
+    let n : ℕ = a .args .number in (
+      omega (arith, a .pre .0, c .before .if1 .left),
+      room-first (numeral (n / 10)) (digitByte (n % 10) ∷ [])
+          (room-same (numeral-more n (c .before .if1 .left)) (a .pre .1)),
+    ))
     (λ c κs.
     let a = c .before .before .before .before .before .before .before in
     let n : ℕ = a .args .number in
-    room-then (numeral (n / 10)) (digitByte (n % 10) ∷ []) (room-same (numeral-more n (c .before .before .before .before .before .if1 .left)) (a .pre .1)) (c .before .before .before .put-number .ensures))
+    room-then (numeral (n / 10)) (digitByte (n % 10) ∷ []) (room-same (numeral-more n (c .before .before .before .before .before .if1 .left)) (a .pre .1))
+    (c .before .before .before .put-number .ensures))
     (λ c. appended-length (c .before .before .put-byte2 .ensures) ∙ appended-length (c .before .before .before .before .before .before .put-number .ensures))
     (put-number-returns-2 t)

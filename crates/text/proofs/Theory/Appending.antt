@@ -9,7 +9,8 @@ use lib.Seq.{sets, sets-eq, length-sets, set-out}
 use Rattle.text.specs.Appending.{stored, Appended, PlaceInRange}
 
 -- Where there is room, that is the text between what stood before it and behind it.
-pub stored-between : (out : List ℕ) (at : ℕ) (text : List ℕ) → at + length text ≤ length out → stored out at text ≡ take at out ++ text ++ drop (at + length text) out
+pub stored-between : (out : List ℕ) (at : ℕ) (text : List ℕ) → at + length text ≤ length out
+    → stored out at text ≡ take at out ++ text ++ drop (at + length text) out
 unfolding stored
 stored-between out at text h = sets-eq text out at h
 
@@ -56,7 +57,8 @@ pub left-all : (entry : List ℕ) (at : ℕ) (text : List ℕ) → LeftToAppend 
 left-all entry at text = record { bytes = refl; place = refl }
 
 module _ {entry : List ℕ} {at : ℕ} {text : List ℕ} where
-  pub left-next : (s rest : List ℕ) {now exit : List ℕ} {n r : ℕ} → LeftToAppend entry at text (s ++ rest) now n → Appended now n s exit r → LeftToAppend entry at text rest exit r
+  pub left-next : (s rest : List ℕ) {now exit : List ℕ} {n r : ℕ} → LeftToAppend entry at text (s ++ rest) now n → Appended now n s exit r
+      → LeftToAppend entry at text rest exit r
   left-next s rest {now} {exit} {n} {r} l a = record {
     bytes = (λ i. stored (a .bytes i) (a .place i) rest) ∙ stored-append now n s rest ∙ l .bytes;
     place = omega (arith, a .place, l .place, length-append s rest);
@@ -76,7 +78,8 @@ module _ {entry : List ℕ} {at : ℕ} {text : List ℕ} where
   left-length {rest} {now} {n} l = sym (length-sets now n rest) ∙ ap (λ (x : List ℕ). length x) (l .bytes) ∙ length-sets entry at text
 
 -- Two texts, one after the other.
-pub appended-then : {entry : List ℕ} {at : ℕ} (s t : List ℕ) {middle exit : List ℕ} {n r : ℕ} → Appended entry at s middle n → Appended middle n t exit r → Appended entry at (s ++ t) exit r
+pub appended-then : {entry : List ℕ} {at : ℕ} (s t : List ℕ) {middle exit : List ℕ} {n r : ℕ} → Appended entry at s middle n → Appended middle n t exit r
+    → Appended entry at (s ++ t) exit r
 appended-then {entry} {at} s t a b = record {
   bytes = b .bytes ∙ (λ i. stored (a .bytes i) (a .place i) t) ∙ stored-append entry at s t;
   place = omega (arith, a .place, b .place, length-append s t);

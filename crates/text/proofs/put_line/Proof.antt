@@ -32,7 +32,8 @@ put-line-spec =
     let a = c .before .before .before .before .before .before .before .before .before in
     let l = c .before .before .before .before .before .before .loop in
     left-next (part (getD (a .args .template .now) (l .i) 0) (a .args .fields)) (filledIn (drop (l .i + 1) (a .args .template .now)) (a .args .fields))
-    (left-same (filled-next (a .args .template .now) (a .args .fields) (l .i) (c .before .before .before .before .before .loop-test .taken)) (l .inv)) (c .before .before .put-part .ensures))
+    (left-same (filled-next (a .args .template .now) (a .args .fields) (l .i) (c .before .before .before .before .before .loop-test .taken)) (l .inv))
+    (c .before .before .put-part .ensures))
     (λ c. left-length (c .before .loop .inv))
     (λ c.
     let a = c .before .before .before .before in

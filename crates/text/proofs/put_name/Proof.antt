@@ -23,10 +23,12 @@ put-name-spec =
     (λ c. search needs)
     (λ c κs.
     let l = c .before .before .loop in
-    left-room (l .rest % 256 ∷ []) (nameText (l .rest / 256)) (c .before .before .before .before .pre) (left-same (name-next (l .rest) (c .before .loop-test .taken)) (l .inv)))
+    left-room (l .rest % 256 ∷ []) (nameText (l .rest / 256)) (c .before .before .before .before .pre)
+    (left-same (name-next (l .rest) (c .before .loop-test .taken)) (l .inv)))
     (λ c. search needs)
     (λ c.
     let l = c .before .before .before .before .before .loop in
-    left-next (l .rest % 256 ∷ []) (nameText (l .rest / 256)) (left-same (name-next (l .rest) (c .before .before .before .before .loop-test .taken)) (l .inv)) (c .before .before .put-byte .ensures))
+    left-next (l .rest % 256 ∷ []) (nameText (l .rest / 256)) (left-same (name-next (l .rest) (c .before .before .before .before .loop-test .taken)) (l .inv))
+    (c .before .before .put-byte .ensures))
     (λ c. left-length (c .before .loop .inv))
     (λ c. left-none (left-same (name-none (c .before .loop .rest) (c .loop-test .left)) (c .before .loop .inv))))

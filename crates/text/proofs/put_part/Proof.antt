@@ -25,7 +25,8 @@ put-part-spec =
     (λ c. appended-length (c .before .before .put-name .ensures))
     (λ c.
     let a = c .before .before .before .before .before .before .before in
-    appended-same (sym (part-name (a .args .byte) (a .args .t4) (c .before .before .before .before .before .if1 .left) (c .before .before .before .before .if2 .taken))) (c .before .before .put-name .ensures))
+    appended-same (sym (part-name (a .args .byte) (a .args .t4) (c .before .before .before .before .before .if1 .left)
+    (c .before .before .before .before .if2 .taken))) (c .before .before .put-name .ensures))
     (λ c. search needs)
     (λ c. search needs)
     (λ c. search needs)
@@ -35,7 +36,8 @@ put-part-spec =
     (λ c. appended-length (c .before .before .put-number .ensures))
     (λ c.
     let a = c .before .before .before .before .before .before .before .before in
-    appended-same (sym (part-number (a .args .byte) (a .args .t4) (c .before .before .before .before .before .if2 .left) (c .before .before .before .before .if3 .taken))) (c .before .before .put-number .ensures))
+    appended-same (sym (part-number (a .args .byte) (a .args .t4) (c .before .before .before .before .before .if2 .left)
+    (c .before .before .before .before .if3 .taken))) (c .before .before .put-number .ensures))
     (λ c κs.
     let a = c .before .before .before .before .before in
     room-same (part-high (a .args .byte) (a .args .t4) (c .before .if3 .left)) (a .pre))

@@ -71,11 +71,14 @@ module _ (s : List ℕ) (from at : ℕ) where
   pub gap-ended : (c : Bool) → length s ≤ at → Gap s from at c → at ≡ from + gap false (drop from s)
   gap-ended c h i = omega (arith, gap-out s at c h)
 
-  pub gap-halted : (c r : Bool) → at < length s → c ≡ false → (getD s at 0 ≡ 35 → ⊥) → r ≡ blank (getD s at 0) → r ≡ false → Gap s from at c → at ≡ from + gap false (drop from s)
+  pub gap-halted : (c r : Bool) → at < length s → c ≡ false → (getD s at 0 ≡ 35 → ⊥) → r ≡ blank (getD s at 0) → r ≡ false → Gap s from at c
+      → at ≡ from + gap false (drop from s)
   gap-halted c r h e f g k i = let j : Gap s from at false = rw e at i in omega (arith, gap-stop s at h (ne-eqb _ _ f) (sym g ∙ k))
 
-  pub gap-turn : (c r : Bool) → at < length s → c ≡ false → (getD s at 0 ≡ 35 → ⊥) → r ≡ blank (getD s at 0) → r ≡ true → Gap s from at c → Gap s from (at + 1) c
-  gap-turn c r h e f g k i = let j : Gap s from at false = rw e at i in let l : Gap s from (at + 1) false = omega (arith, gap-blank s at h (ne-eqb _ _ f) (sym g ∙ k)) in rw e l
+  pub gap-turn : (c r : Bool) → at < length s → c ≡ false → (getD s at 0 ≡ 35 → ⊥) → r ≡ blank (getD s at 0) → r ≡ true → Gap s from at c
+      → Gap s from (at + 1) c
+  gap-turn c r h e f g k i = let j : Gap s from at false = rw e at i in
+      let l : Gap s from (at + 1) false = omega (arith, gap-blank s at h (ne-eqb _ _ f) (sym g ∙ k)) in rw e l
 
   pub gap-turn-hash : (c : Bool) → at < length s → c ≡ false → getD s at 0 ≡ 35 → Gap s from at c → Gap s from (at + 1) true
   gap-turn-hash c h e f i = let j : Gap s from at false = rw e at i in omega (arith, gap-hash s at h (eq-eqb _ _ f))
@@ -116,7 +119,8 @@ key-none s start end h = record { low = h; high = omega arith; keyed = rw (slice
 pub key-fits : (s : List ℕ) (start end at v b : ℕ) → end ≤ start + 8 → start < at → b < 256 → Keyed s start end at v → v * 256 + b < 18446744073709551616
 key-fits s start end at v b h l m k = omega (arith, small (end - at) (omega arith))
 
-pub key-turn : (s : List ℕ) (start end at v b : ℕ) → end ≤ length s → start < at → b < 256 → b ≡ getD s (at - 1) 0 → Keyed s start end at v → Keyed s start end (at - 1) (v * 256 + b)
+pub key-turn : (s : List ℕ) (start end at v b : ℕ) → end ≤ length s → start < at → b < 256 → b ≡ getD s (at - 1) 0 → Keyed s start end at v
+    → Keyed s start end (at - 1) (v * 256 + b)
 unfolding bound
 key-turn s start end at v b h l m e k =
     let j : suc (at - 1) ≡ at = omega arith in
@@ -177,7 +181,8 @@ pub width-le : (s : List ℕ) → (width s ≤ length s) × (width s ≤ 8)
 unfolding width
 width-le [] = (omega arith, omega arith)
 width-le (b ∷ s) =
-    byTest (lower b) (λ t. rw t (byTest (leb (nameLength (b ∷ s)) 8) (λ u. rw u (omega (arith, run-le (b ∷ s)), leb-true _ _ u)) λ u. rw u (omega arith, omega arith)))
+    byTest (lower b) (λ t. rw t (byTest (leb (nameLength (b ∷ s)) 8) (λ u. rw u (omega (arith, run-le (b ∷ s)), leb-true _ _ u)) λ u. rw u
+    (omega arith, omega arith)))
     λ t. rw t (byTest (mark b) (λ u. rw u (byTest (eqb (getD s 0 0) 61) (λ v. rw v (pair s (eqb-true _ _ v))) λ v. rw v (omega arith, omega arith)))
     λ u. rw u (byTest (symbol b) (λ v. rw v (omega arith, omega arith)) λ v. rw v (omega arith, omega arith)))
   where

@@ -37,7 +37,8 @@ token-advance s at =
     let p = at + gap false (drop at s) in
     byTest (leb (length s) p) (λ t. rw t λ h. absurd (omega arith))
     λ t. rw t (byTest (eqb (width (drop p s)) 0) (λ u. rw u λ h. absurd (omega arith))
-    λ u. rw u λ h. let w = token-within s p (width (drop p s)) refl (leb-false (length s) p t) in let n = eqb-false (width (drop p s)) 0 u in (positive (width (drop p s)) n, w .0))
+    λ u. rw u λ h. let w = token-within s p (width (drop p s)) refl (leb-false (length s) p t) in let n = eqb-false (width (drop p s)) 0 u in
+    (positive (width (drop p s)) n, w .0))
   where
     positive : (w : ℕ) → (w ≡ 0 → ⊥) → at < at + gap false (drop at s) + w
     positive zero n = absurd (n refl)

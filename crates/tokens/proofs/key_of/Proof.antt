@@ -36,7 +36,10 @@ wide-requires c κs = search needs
 
 -- src/lib.rt:146:13
 add-v : tie.Need-add-v Inv-loop μ-loop
-add-v c = record { fits = key-fits _ _ _ _ _ _ (c .before .before .before .before .before .pre .2) (c .before .before .loop-test .taken) (omega (arith, c .before .shared-slice-known2 .given (c .before .before .before .loop .at - 1))) (c .before .before .before .loop .inv) }
+add-v c = record {
+  fits = key-fits _ _ _ _ _ _ (c .before .before .before .before .before .pre .2) (c .before .before .loop-test .taken)
+      (omega (arith, c .before .shared-slice-known2 .given (c .before .before .before .loop .at - 1))) (c .before .before .before .loop .inv);
+}
 
 -- src/lib.rt:144:5
 loop-less : tie.Need-loop-less Inv-loop μ-loop
@@ -44,7 +47,9 @@ loop-less c = search needs
 
 -- src/lib.rt:144:5
 loop-again : tie.Need-loop-again Inv-loop μ-loop
-loop-again c = key-turn _ _ _ _ _ _ (c .before .before .before .before .before .pre .1) (c .before .before .loop-test .taken) (omega (arith, c .before .shared-slice-known2 .given (c .before .before .before .loop .at - 1))) (c .wide .ensures .0) (c .before .before .before .loop .inv)
+loop-again c = key-turn _ _ _ _ _ _ (c .before .before .before .before .before .pre .1) (c .before .before .loop-test .taken)
+    (omega (arith, c .before .shared-slice-known2 .given (c .before .before .before .loop .at - 1))) (c .wide .ensures .0)
+    (c .before .before .before .loop .inv)
 
 -- src/lib.rt:138:1
 returns : tie.Need-returns Inv-loop μ-loop

@@ -28,7 +28,8 @@ key-of-requires : tie.Need-key-of-requires
 key-of-requires c κs = let h = token-within _ _ _ (c .before .width-at .ensures) (c .before .before .if1 .left) in (omega arith, h .0, omega arith)
 
 returns-3 : tie.Need-returns-3
-returns-3 c = token-read _ _ _ _ (c .before .before .before .before .skip-gap .ensures) (c .before .before .before .if1 .left) (c .before .before .width-at .ensures) (c .before .if2 .left) _ (c .key-of .ensures)
+returns-3 c = token-read _ _ _ _ (c .before .before .before .before .skip-gap .ensures) (c .before .before .before .if1 .left)
+    (c .before .before .width-at .ensures) (c .before .if2 .left) _ (c .key-of .ensures)
 
 pub next-spec : {M : Type 1} → statement M
 next-spec =

@@ -27,7 +27,8 @@ is-inner-requires : tie.Need-is-inner-requires Inv-loop μ-loop
 is-inner-requires c κs = search needs
 
 returns : tie.Need-returns Inv-loop μ-loop
-returns c = run-halted _ _ _ _ (c .before .before .before .loop-test .taken) (c .before .is-inner .ensures) (c .if1 .left) (c .before .before .before .before .loop .inv)
+returns c = run-halted _ _ _ _ (c .before .before .before .loop-test .taken) (c .before .is-inner .ensures) (c .if1 .left)
+    (c .before .before .before .before .loop .inv)
 
 add-at : tie.Need-add-at Inv-loop μ-loop
 add-at c = search needs
@@ -36,7 +37,8 @@ loop-less : tie.Need-loop-less Inv-loop μ-loop
 loop-less c = search needs
 
 loop-again : tie.Need-loop-again Inv-loop μ-loop
-loop-again c = run-turn _ _ _ _ (c .before .before .before .loop-test .taken) (c .before .is-inner .ensures) (c .if1 .taken) (c .before .before .before .before .loop .inv)
+loop-again c = run-turn _ _ _ _ (c .before .before .before .loop-test .taken) (c .before .is-inner .ensures) (c .if1 .taken)
+    (c .before .before .before .before .loop .inv)
 
 returns-2 : tie.Need-returns-2 Inv-loop μ-loop
 returns-2 c = run-ended _ _ _ (c .loop-test .left) (c .before .loop .inv)

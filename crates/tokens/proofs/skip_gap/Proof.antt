@@ -44,7 +44,8 @@ loop-less-2 c = search needs
 
 -- src/lib.rt:107:5
 loop-again-2 : tie.Need-loop-again-2 Inv-loop μ-loop
-loop-again-2 c = gap-turn-hash _ _ _ _ (c .before .before .before .loop-test .taken) (c .before .if1 .left) (c .if2 .taken) (c .before .before .before .before .loop .inv)
+loop-again-2 c = gap-turn-hash _ _ _ _ (c .before .before .before .loop-test .taken) (c .before .if1 .left) (c .if2 .taken)
+    (c .before .before .before .before .loop .inv)
 
 -- src/lib.rt:119:13
 is-blank-requires : tie.Need-is-blank-requires Inv-loop μ-loop
@@ -52,7 +53,8 @@ is-blank-requires c κs = search needs
 
 -- src/lib.rt:120:13
 returns : tie.Need-returns Inv-loop μ-loop
-returns c = gap-halted _ _ _ _ _ (c .before .before .before .before .before .loop-test .taken) (c .before .before .before .if1 .left) (c .before .before .if2 .left) (c .before .is-blank .ensures) (c .if3 .left) (c .before .before .before .before .before .before .loop .inv)
+returns c = gap-halted _ _ _ _ _ (c .before .before .before .before .before .loop-test .taken) (c .before .before .before .if1 .left)
+    (c .before .before .if2 .left) (c .before .is-blank .ensures) (c .if3 .left) (c .before .before .before .before .before .before .loop .inv)
 
 -- src/lib.rt:122:9
 add-at-3 : tie.Need-add-at-3 Inv-loop μ-loop
@@ -64,7 +66,8 @@ loop-less-3 c = search needs
 
 -- src/lib.rt:107:5
 loop-again-3 : tie.Need-loop-again-3 Inv-loop μ-loop
-loop-again-3 c = gap-turn _ _ _ _ _ (c .before .before .before .before .before .loop-test .taken) (c .before .before .before .if1 .left) (c .before .before .if2 .left) (c .before .is-blank .ensures) (c .if3 .taken) (c .before .before .before .before .before .before .loop .inv)
+loop-again-3 c = gap-turn _ _ _ _ _ (c .before .before .before .before .before .loop-test .taken) (c .before .before .before .if1 .left)
+    (c .before .before .if2 .left) (c .before .is-blank .ensures) (c .if3 .taken) (c .before .before .before .before .before .before .loop .inv)
 
 -- src/lib.rt:102:1
 returns-2 : tie.Need-returns-2 Inv-loop μ-loop

@@ -22,7 +22,8 @@ use Rattle.letters.specs.Words.{headerFields, headerWord, letterFields, letterW
 use Rattle.letters.specs.Coding.{decodeHeader}
 use Rattle.letters.specs.Roomy.{Roomy}
 use Rattle.letters.proofs.Theory.WordLaws.{decode-header, decode-letter}
-use Rattle.traces.specs.Reading.{TraceReading, trace, octets, chunks, prependLetter, lettersFrom, beginning, letterCount, letterIn, lettersOf, readingWhere, reading}
+use Rattle.traces.specs.Reading.{TraceReading, trace, octets, chunks, prependLetter, lettersFrom, beginning, letterCount, letterIn, lettersOf}
+use Rattle.traces.specs.Reading.{readingWhere, reading}
 use Rattle.traces.specs.ReadingParts.{letterAt}
 use Rattle.traces.specs.Traces.{AllFit, units, bytesOf, packing}
 use Rattle.traces.specs.Traces.{Bytes}
@@ -41,7 +42,8 @@ not-trace e = let z : _≡_ {A = ℕ} 0 1 = cc in omega arith
 -- ---- the reading of a list of codes
 
 module _ {A : Type 0} (decode : A → Answer Letter) (h : Header) where
-  first-letter : (n : ℕ) (x : A) (codes : List A) → lettersFrom decode h n (x ∷ codes) ≡ onAnswer (decode x) (λ l. prependLetter l (lettersFrom decode h (n + 1) codes)) λ _ _. TraceReading.refused 4 n
+  first-letter : (n : ℕ) (x : A) (codes : List A)
+      → lettersFrom decode h n (x ∷ codes) ≡ onAnswer (decode x) (λ l. prependLetter l (lettersFrom decode h (n + 1) codes)) λ _ _. TraceReading.refused 4 n
   unfolding lettersFrom
   first-letter n x codes = refl
 
@@ -60,13 +62,15 @@ module _ {A : Type 0} (decode : A → Answer Letter) (h : Header) where
       by-answer (λ ls q. letters-decoded (n + 1) codes g ls q) (decode x) refl (lettersFrom decode h (n + 1) codes) refl (sym (first-letter n x codes) ∙ e)
     where
       by-reading : ((ls : List Letter) → lettersFrom decode h (n + 1) codes ≡ trace g ls → (g ≡ h) × Decoded decode codes ls)
-          → (l : Letter) (ls : List Letter) (r : TraceReading) → decode x ≡ value l → lettersFrom decode h (n + 1) codes ≡ r → prependLetter l r ≡ trace g ls → (g ≡ h) × Decoded decode (x ∷ codes) ls
+          → (l : Letter) (ls : List Letter) (r : TraceReading) → decode x ≡ value l → lettersFrom decode h (n + 1) codes ≡ r → prependLetter l r ≡ trace g ls
+          → (g ≡ h) × Decoded decode (x ∷ codes) ls
       by-reading rest l [] (trace k ms) q p e = let z : _≡_ {A = ℕ} 0 1 = cc in absurd (omega arith)
       by-reading rest l (m ∷ ls) (trace k ms) q p e = let d = rest ls (p ∙ cc) in (d .0, (q ∙ cc, d .1))
       by-reading rest l ls (TraceReading.refused a b) q p e = absurd (not-trace e)
 
       by-answer : ((ls : List Letter) → lettersFrom decode h (n + 1) codes ≡ trace g ls → (g ≡ h) × Decoded decode codes ls)
-          → (a : Answer Letter) → decode x ≡ a → (r : TraceReading) → lettersFrom decode h (n + 1) codes ≡ r → onAnswer a (λ l. prependLetter l r) (λ _ _. TraceReading.refused 4 n) ≡ trace g ls
+          → (a : Answer Letter) → decode x ≡ a → (r : TraceReading) → lettersFrom decode h (n + 1) codes ≡ r
+          → onAnswer a (λ l. prependLetter l r) (λ _ _. TraceReading.refused 4 n) ≡ trace g ls
           → (g ≡ h) × Decoded decode (x ∷ codes) ls
       by-answer rest (value l) q r p e = by-reading rest l ls r q p e
       by-answer rest (refusal a b) q r p e = absurd (not-trace e)
@@ -124,11 +128,17 @@ module _ (e : Edition) (r : Roomy e) where
   letter-back h l v f = unit-back _ (rw (r .letter-total) at (join-lt (e .letter) (letterFields h l) (r .letter-sized h l v f)))
 
   -- the letters' bytes are read as the letters
-  packed-decoded : (h : Header) (ls : List Letter) → HeaderFits e h → AllFit h ls → Decoded (letterIn e h) (chunks (e .bytes) (length ls) (bytesOf e (map (letterWord e h) ls))) ls
+  packed-decoded : (h : Header) (ls : List Letter) → HeaderFits e h → AllFit h ls
+      → Decoded (letterIn e h) (chunks (e .bytes) (length ls) (bytesOf e (map (letterWord e h) ls))) ls
   unfolding chunks units
   packed-decoded h [] v f = tt
   packed-decoded h (l ∷ ls) v f =
-      rw (take-at (split (octets e) (letterWord e h l)) (bytesOf e (map (letterWord e h) ls)) (e .bytes) (unit-length _), drop-at (split (octets e) (letterWord e h l)) (bytesOf e (map (letterWord e h) ls)) (e .bytes) (unit-length _), letter-back h l v (f .0))
+      rw (
+        take-at (split (octets e) (letterWord e h l)) (bytesOf e (map (letterWord e h) ls)) (e .bytes) (unit-length _),
+        drop-at
+            (split (octets e) (letterWord e h l)) (bytesOf e (map (letterWord e h) ls)) (e .bytes) (unit-length _),
+        letter-back h l v (f .0),
+      )
       (decode-letter r h (letterWord e h l) l .1 (v, f .0, refl), packed-decoded h ls v (f .1))
 
   -- A trace that was packed is read as itself.
@@ -137,12 +147,22 @@ module _ (e : Edition) (r : Roomy e) where
   reading-packing h ls v f =
       let rest = bytesOf e (map (letterWord e h) ls) in
       let first = split (octets e) (headerWord e h) in
-      let long : length (first ++ rest) ≡ e .bytes * suc (length ls) = bytes-length (headerWord e h ∷ map (letterWord e h) ls) ∙ ap (λ n. e .bytes * suc n) (length-map ls (letterWord e h)) in
+      let long : length (first ++ rest) ≡ e .bytes * suc (length ls) =
+      bytes-length (headerWord e h ∷ map (letterWord e h) ls) ∙ ap (λ n. e .bytes * suc n) (length-map ls (letterWord e h)) in
       let enough : e .bytes ≤ length (first ++ rest) = rw (long, mul-suc) (omega arith) in
       let whole : length (first ++ rest) % e .bytes ≡ 0 = rw long (mul-mod-right (e .bytes) (suc (length ls))) in
       let quotient : length (first ++ rest) / e .bytes ≡ suc (length ls) = rw long (mul-div-right (suc (length ls)) (r .some)) in
       let count : length (first ++ rest) / e .bytes - 1 ≡ length ls = rw quotient (omega arith) in
-      rw (le-ltb (length (first ++ rest)) (e .bytes) enough, eq-eqb (length (first ++ rest) % e .bytes) 0 whole, take-at first rest (e .bytes) (unit-length _), header-back h v, decode-header r (headerWord e h) h .1 (v, refl), count, drop-at first rest (e .bytes) (unit-length _))
+      rw (
+        le-ltb (length (first ++ rest)) (e .bytes) enough,
+        eq-eqb (length (first ++ rest) % e .bytes) 0 whole,
+        take-at first rest (e .bytes)
+            (unit-length _),
+        header-back h v,
+        decode-header r (headerWord e h) h .1 (v, refl),
+        count,
+        drop-at first rest (e .bytes) (unit-length _),
+      )
       (decoded-letters (letterIn e h) h 1 (chunks (e .bytes) (length ls) rest) ls (packed-decoded h ls v f))
 
   -- ---- what a reading that is a trace tells
@@ -158,15 +178,18 @@ module _ (e : Edition) (r : Roomy e) where
   read s h ls =
       byTest (ltb (length s) (e .bytes)) (λ t. rw t λ q. absurd (not-trace q))
       λ t. rw t (byTest (eqb (length s % e .bytes) 0)
-      (λ u. rw u λ q. by-header (decodeHeader e (join (octets e) (take (e .bytes) s))) refl (ltb-false (length s) (e .bytes) t) (eqb-true (length s % e .bytes) 0 u) q)
+      (λ u. rw u λ q. by-header (decodeHeader e (join (octets e) (take (e .bytes) s))) refl (ltb-false (length s) (e .bytes) t)
+      (eqb-true (length s % e .bytes) 0 u) q)
       λ u. rw u λ q. absurd (not-trace q))
     where
       by-header : (a : Answer Header) → decodeHeader e (join (octets e) (take (e .bytes) s)) ≡ a → e .bytes ≤ length s → length s % e .bytes ≡ 0
-          → onAnswer a (λ g. lettersFrom (letterIn e g) g 1 (chunks (e .bytes) (letterCount e s) (drop (e .bytes) s))) TraceReading.refused ≡ trace h ls → Read s h ls
+          → onAnswer a (λ g. lettersFrom (letterIn e g) g 1 (chunks (e .bytes) (letterCount e s) (drop (e .bytes) s))) TraceReading.refused ≡ trace h ls
+          → Read s h ls
       by-header (refusal a b) d l w q = absurd (not-trace q)
       by-header (value g) d l w q =
           let x = letters-decoded (letterIn e g) g 1 (chunks (e .bytes) (letterCount e s) (drop (e .bytes) s)) h ls q in
-          subst (λ g. decodeHeader e (join (octets e) (take (e .bytes) s)) ≡ value g → Decoded (letterIn e g) (chunks (e .bytes) (letterCount e s) (drop (e .bytes) s)) ls → Read s h ls) (x .0)
+          subst (λ g. decodeHeader e (join (octets e) (take (e .bytes) s)) ≡ value g
+          → Decoded (letterIn e g) (chunks (e .bytes) (letterCount e s) (drop (e .bytes) s)) ls → Read s h ls) (x .0)
           (λ d y. record { enough = l; whole = w; header = d; letters = y }) d (x .1)
 
   -- the number of letters that were read
@@ -183,7 +206,8 @@ module _ (e : Edition) (r : Roomy e) where
 
   -- What is read is well formed.
   pub reading-fits : (s : List ℕ) (h : Header) (ls : List Letter) → reading e s ≡ trace h ls → HeaderFits e h × AllFit h ls
-  reading-fits s h ls q = let x = read s h ls q in (decode-header r _ h .0 (x .header) .0, all-fit h (chunks (e .bytes) (letterCount e s) (drop (e .bytes) s)) ls (x .letters))
+  reading-fits s h ls q = let x = read s h ls q in
+      (decode-header r _ h .0 (x .header) .0, all-fit h (chunks (e .bytes) (letterCount e s) (drop (e .bytes) s)) ls (x .letters))
 
   -- the bytes of letters that were read from k units
   letters-bytes : (h : Header) (k : ℕ) (s : List ℕ) (ls : List Letter) → length s ≡ e .bytes * k → Bytes s → Decoded (letterIn e h) (chunks (e .bytes) k s) ls
@@ -196,7 +220,8 @@ module _ (e : Edition) (r : Roomy e) where
   letters-bytes h (suc k) s (x ∷ ls) l b d =
       let n : length s ≡ e .bytes * k + e .bytes = l ∙ mul-suc (e .bytes) k in
       let w : letterWord e h x ≡ join (octets e) (take (e .bytes) s) = decode-letter r h _ x .0 (d .0) .2 in
-      let v : split (octets e) (letterWord e h x) ≡ take (e .bytes) s = ap (split (octets e)) w ∙ split-join (octets e) (take (e .bytes) s) (sized-octets (e .bytes) s b (omega arith)) in
+      let v : split (octets e) (letterWord e h x) ≡ take (e .bytes) s =
+      ap (split (octets e)) w ∙ split-join (octets e) (take (e .bytes) s) (sized-octets (e .bytes) s b (omega arith)) in
       let m : length (drop (e .bytes) s) ≡ e .bytes * k = length-drop (e .bytes) s ∙ omega arith in
       rw (v, letters-bytes h k (drop (e .bytes) s) ls m (bytes-drop (e .bytes) s b) (d .1)) (take-append-drop (e .bytes) s)
 
@@ -212,11 +237,13 @@ module _ (e : Edition) (r : Roomy e) where
       let n : length s ≡ e .bytes * k + e .bytes = long ∙ ap (λ m. e .bytes * m) units ∙ mul-suc (e .bytes) k in
       let m : length (drop (e .bytes) s) ≡ e .bytes * k = length-drop (e .bytes) s ∙ omega arith in
       let w : headerWord e h ≡ join (octets e) (take (e .bytes) s) = decode-header r _ h .0 (x .header) .1 in
-      let v : split (octets e) (headerWord e h) ≡ take (e .bytes) s = ap (split (octets e)) w ∙ split-join (octets e) (take (e .bytes) s) (sized-octets (e .bytes) s b (x .enough)) in
+      let v : split (octets e) (headerWord e h) ≡ take (e .bytes) s =
+      ap (split (octets e)) w ∙ split-join (octets e) (take (e .bytes) s) (sized-octets (e .bytes) s b (x .enough)) in
       rw (v, letters-bytes h k (drop (e .bytes) s) ls m (bytes-drop (e .bytes) s b) (x .letters)) (take-append-drop (e .bytes) s)
 
   -- Bytes that are refused are the packing of no well-formed trace.
-  pub refused-packing : (s : List ℕ) (number place : ℕ) → reading e s ≡ TraceReading.refused number place → (h : Header) (ls : List Letter) → HeaderFits e h → AllFit h ls → packing e h ls ≡ s → ⊥
+  pub refused-packing : (s : List ℕ) (number place : ℕ) → reading e s ≡ TraceReading.refused number place → (h : Header) (ls : List Letter) → HeaderFits e h
+      → AllFit h ls → packing e h ls ≡ s → ⊥
   refused-packing s number place q h ls v f p =
       let t : reading e s ≡ trace h ls = subst (λ s. reading e s ≡ trace h ls) p (reading-packing h ls v f) in
       let z : _≡_ {A = ℕ} 0 1 = cc in omega arith
@@ -239,7 +266,8 @@ module _ (e : Edition) (r : Roomy e) where
       rw (drop-drop (e .bytes * k) (e .bytes) s, m) at i
 
   -- Letter k of a trace that is read is the letter there; there is none behind the last.
-  pub letter-at : (s : List ℕ) (h : Header) (ls : List Letter) (k : ℕ) (none : Letter) → reading e s ≡ trace h ls → k < length ls → letterAt e h s k ≡ value (getD ls k none)
+  pub letter-at : (s : List ℕ) (h : Header) (ls : List Letter) (k : ℕ) (none : Letter) → reading e s ≡ trace h ls → k < length ls
+      → letterAt e h s k ≡ value (getD ls k none)
   unfolding letterAt
   letter-at s h ls k none q l =
       let x = read s h ls q in

@@ -24,4 +24,7 @@ letter-at-spec =
     (λ c. search needs)
     (λ c κs. search needs)
     (λ c κs. search needs)
-    (λ c. let a = c .before .before .before .before .before .before .before .args in let m : 2 * (a .k + 1) ≡ 2 * a .k + 2 = omega arith in rw (le-leb (2 * (a .k + 2)) (length (a .bytes .now)) (omega arith), m) (unit-decoded (a .h) (a .bytes .now) (2 * a .k + 2) (c .before .word .result) (c .decode-letter .result) (omega arith) (c .before .word .ensures) (c .decode-letter .ensures))))
+    (λ c. let a = c .before .before .before .before .before .before .before .args in let m : 2 * (a .k + 1) ≡ 2 * a .k + 2 = omega arith in
+    rw (le-leb (2 * (a .k + 2)) (length (a .bytes .now)) (omega arith), m)
+    (unit-decoded (a .h) (a .bytes .now) (2 * a .k + 2) (c .before .word .result) (c .decode-letter .result) (omega arith) (c .before .word .ensures)
+    (c .decode-letter .ensures))))

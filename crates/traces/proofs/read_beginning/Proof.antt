@@ -22,5 +22,23 @@ read-beginning-spec =
     (λ c κs. search needs)
     (λ c. search needs)
     (λ c. search needs)
-    (λ c. let s = c .before .before .before .before .before .before .before .before .before .args .bytes .now in rw (le-ltb (length s) 2 (omega arith), eq-eqb (length s % 2) 0 (omega arith), unit-at s 0 (omega arith), ← c .before .before .before .word .ensures, ← c .before .before .decode-header .ensures, c .enum-told .given .1))
-    (λ c. let s = c .before .before .before .before .before .before .before .before .before .before .args .bytes .now in rw (le-ltb (length s) 2 (omega arith), eq-eqb (length s % 2) 0 (omega arith), unit-at s 0 (omega arith), ← c .before .before .before .before .word .ensures, ← c .before .before .before .decode-header .ensures, c .before .decoded .given .1)))
+    (λ c. let s = c .before .before .before .before .before .before .before .before .before .args .bytes .now in
+    rw (
+      le-ltb (length s) 2 (omega arith),
+      eq-eqb (length s % 2) 0 (omega arith),
+      unit-at s 0
+          (omega arith),
+      ← c .before .before .before .word .ensures,
+      ← c .before .before .decode-header .ensures,
+      c .enum-told .given .1,
+    ))
+    (λ c. let s = c .before .before .before .before .before .before .before .before .before .before .args .bytes .now in
+    rw (
+      le-ltb (length s) 2 (omega arith),
+      eq-eqb (length s % 2) 0 (omega arith),
+      unit-at s 0
+          (omega arith),
+      ← c .before .before .before .before .word .ensures,
+      ← c .before .before .before .decode-header .ensures,
+      c .before .decoded .given .1,
+    )))

@@ -11,7 +11,8 @@ use Rattle.traces.proofs.read_letters.Statement.{statement}
 use Rattle.traces.proofs.read_letters.Tie as tie
 
 abbrev Inv-loop : tie.InvT-loop
-Inv-loop h bytes at₀ n₀ at n = (at ≤ length bytes) × (2 * n + 2 ≡ at) × (countFrom (letterIn firstEdition h) h n (chunks 2 (length bytes / 2 - 1 - n) (drop at bytes)) ≡ counted (lettersOf firstEdition h bytes))
+Inv-loop h bytes at₀ n₀ at n = (at ≤ length bytes) × (2 * n + 2 ≡ at)
+    × (countFrom (letterIn firstEdition h) h n (chunks 2 (length bytes / 2 - 1 - n) (drop at bytes)) ≡ counted (lettersOf firstEdition h bytes))
 
 abbrev μ-loop : tie.MeasureT-loop
 μ-loop h bytes at₀ n₀ at n = length bytes - at
@@ -23,7 +24,12 @@ read-letters-spec =
     (tie.spec
     Inv-loop
     μ-loop
-    (λ c. (search needs, search needs, count-begins (letterIn firstEdition (c .before .args .h)) (c .before .args .h) 2 (length (c .before .args .bytes .now) / 2 - 1) (c .before .args .bytes .now) 2))
+    (λ c. (
+      search needs,
+      search needs,
+      count-begins (letterIn firstEdition (c .before .args .h)) (c .before .args .h) 2
+          (length (c .before .args .bytes .now) / 2 - 1) (c .before .args .bytes .now) 2,
+    ))
     (λ c. search needs)
     (λ c. search needs)
     (λ c. search needs)
@@ -33,9 +39,24 @@ read-letters-spec =
     (λ c. search needs)
     (λ c. search needs)
     (λ c. search needs)
-    (λ c. let a = c .before .before .before .before .before .before .before .before .before .args in let l = c .before .before .before .before .before .before .before .loop in sym (count-bad (letterIn firstEdition (a .h)) (a .h) 2 (length (a .bytes .now) / 2 - 1) (a .bytes .now) (l .n) (l .at) 4 0 (omega arith) (unit-bad (a .h) (a .bytes .now) (l .at) (c .before .before .before .word .result) (c .before .before .decode-letter .result) (omega arith) (c .before .before .before .word .ensures) (c .before .before .decode-letter .ensures) (c .enum-told .given .1))) ∙ l .inv .2)
+    (λ c. let a = c .before .before .before .before .before .before .before .before .before .args in
+    let l = c .before .before .before .before .before .before .before .loop in
+    sym (count-bad (letterIn firstEdition (a .h)) (a .h) 2 (length (a .bytes .now) / 2 - 1) (a .bytes .now) (l .n) (l .at) 4 0 (omega arith)
+    (unit-bad (a .h) (a .bytes .now) (l .at) (c .before .before .before .word .result) (c .before .before .decode-letter .result) (omega arith)
+    (c .before .before .before .word .ensures) (c .before .before .decode-letter .ensures) (c .enum-told .given .1))) ∙ l .inv .2)
     (λ c. search needs)
     (λ c. search needs)
     (λ c. search needs)
-    (λ c. let a = c .before .before .before .before .before .before .before .before .before .before .args in let l = c .before .before .before .before .before .before .before .before .loop in (search needs, search needs, sym (count-good (letterIn firstEdition (a .h)) (a .h) 2 (length (a .bytes .now) / 2 - 1) (a .bytes .now) (l .n) (l .at) _ (omega arith) (unit-good (a .h) (a .bytes .now) (l .at) (c .before .before .before .before .word .result) (c .before .before .before .decode-letter .result) (omega arith) (c .before .before .before .before .word .ensures) (c .before .before .before .decode-letter .ensures) _ (c .before .decoded .given .1))) ∙ l .inv .2))
-    (λ c. let a = c .before .before .before .args in let l = c .before .loop in sym (count-ends (letterIn firstEdition (a .h)) (a .h) 2 (length (a .bytes .now) / 2 - 1) (a .bytes .now) (l .n) (l .at) (omega arith)) ∙ l .inv .2))
+    (λ c. let a = c .before .before .before .before .before .before .before .before .before .before .args in
+    let l = c .before .before .before .before .before .before .before .before .loop in (
+      search needs,
+      search needs,
+      sym
+          (count-good (letterIn firstEdition (a .h)) (a .h) 2 (length (a .bytes .now) / 2 - 1) (a .bytes .now) (l .n) (l .at) _ (omega arith)
+          (unit-good (a .h) (a .bytes .now) (l .at) (c .before .before .before .before .word .result) (c .before .before .before .decode-letter .result)
+          (omega arith) (c .before .before .before .before .word .ensures) (c .before .before .before .decode-letter .ensures) _
+          (c .before .decoded .given .1)))
+          ∙ l .inv .2,
+    ))
+    (λ c. let a = c .before .before .before .args in let l = c .before .loop in
+    sym (count-ends (letterIn firstEdition (a .h)) (a .h) 2 (length (a .bytes .now) / 2 - 1) (a .bytes .now) (l .n) (l .at) (omega arith)) ∙ l .inv .2))

@@ -13,9 +13,22 @@ read-trace-within-spec =
     (tie.spec
     (λ c κs. search needs)
     (λ c. search needs)
-    (λ c. let a = c .before .before .before .before .before .args in omega (arith, begun-long (ltb (a .limit)) (a .bytes .now) (c .before .before .before .read-beginning .result) (c .before .before .before .read-beginning .ensures) _ (c .before .begun .given .1)))
-    (λ c. let a = c .before .before .before .before .before .before .args in begun-over (ltb (a .limit)) (a .bytes .now) (c .before .before .before .before .read-beginning .result) (c .before .before .before .before .read-beginning .ensures) _ (c .before .before .begun .given .1) (lt-ltb _ _ (c .if1 .taken)))
-    (λ c κs. let a = c .before .before .before .before .before .before .args in begun-long (ltb (a .limit)) (a .bytes .now) (c .before .before .before .before .read-beginning .result) (c .before .before .before .before .read-beginning .ensures) _ (c .before .before .begun .given .1))
+    (λ c. let a = c .before .before .before .before .before .args in
+    omega (
+      arith,
+      begun-long (ltb (a .limit)) (a .bytes .now) (c .before .before .before .read-beginning .result)
+          (c .before .before .before .read-beginning .ensures) _ (c .before .begun .given .1),
+    ))
+    (λ c. let a = c .before .before .before .before .before .before .args in
+    begun-over (ltb (a .limit)) (a .bytes .now) (c .before .before .before .before .read-beginning .result)
+    (c .before .before .before .before .read-beginning .ensures) _ (c .before .before .begun .given .1) (lt-ltb _ _ (c .if1 .taken)))
+    (λ c κs. let a = c .before .before .before .before .before .before .args in
+    begun-long (ltb (a .limit)) (a .bytes .now) (c .before .before .before .before .read-beginning .result)
+    (c .before .before .before .before .read-beginning .ensures) _ (c .before .before .begun .given .1))
     (λ c. search needs)
-    (λ c. let a = c .before .before .before .before .before .before .before .args in c .read-letters .ensures ∙ begun-letters (ltb (a .limit)) (a .bytes .now) (c .before .before .before .before .before .read-beginning .result) (c .before .before .before .before .before .read-beginning .ensures) _ (c .before .before .before .begun .given .1) (le-ltb _ _ (c .before .if1 .left)))
-    (λ c. let a = c .before .before .before .before .before .args in begun-refused (ltb (a .limit)) (a .bytes .now) (c .before .before .before .read-beginning .result) (c .before .before .before .read-beginning .ensures) _ (c .before .begun2 .given .1)))
+    (λ c. let a = c .before .before .before .before .before .before .before .args in
+    c .read-letters .ensures ∙ begun-letters (ltb (a .limit)) (a .bytes .now) (c .before .before .before .before .before .read-beginning .result)
+    (c .before .before .before .before .before .read-beginning .ensures) _ (c .before .before .before .begun .given .1) (le-ltb _ _ (c .before .if1 .left)))
+    (λ c. let a = c .before .before .before .before .before .args in
+    begun-refused (ltb (a .limit)) (a .bytes .now) (c .before .before .before .read-beginning .result)
+    (c .before .before .before .read-beginning .ensures) _ (c .before .begun2 .given .1)))

@@ -38,7 +38,8 @@ use Rattle.grammar.specs.Grammar.{Macro, headerOf}
 use Rattle.grammar.specs.Spelled.{InOrder}
 use Rattle.exploration.proofs.Theory.Given.{setting}
 use Rattle.search.proofs.Theory.TracedLaws.{formed-fit}
-use Rattle.verdict_theory.specs.Verdict.{VerdictAnswer, refused, full, unfit, IsPass, Kind, breaking, failing, showing, Delivered, OfKind, Leaves, SamePair, EventAt, PairCount, PairsPass, Shows, IsVerdict, Event, breaks, fails}
+use Rattle.verdict_theory.specs.Verdict.{VerdictAnswer, refused, full, unfit, IsPass, Kind, breaking, failing, showing, Delivered, OfKind, Leaves, SamePair}
+use Rattle.verdict_theory.specs.Verdict.{EventAt, PairCount, PairsPass, Shows, IsVerdict, Event, breaks, fails}
 use Rattle.verdict_theory.specs.AnswerPacking.{packed}
 use Rattle.verdict_theory.proofs.Theory.AnswerPacking.{bytes-are, shown-tables}
 use Rattle.verdict_theory.proofs.Theory.Counting.{more-is}
@@ -127,14 +128,16 @@ module _ (m : Macro) (o : InOrder m) where
 
   -- ── the answer ──
   -- a count that does not pass n is at most n
-  pub count-few {ℓ} : {Possible : State → Type ℓ} (n k : ℕ) → PairCount Possible (begin (headerOf m)) (m .body) k → ¬ PairsPass Possible (begin (headerOf m)) (m .body) n → k ≤ n
+  pub count-few {ℓ} : {Possible : State → Type ℓ} (n k : ℕ) → PairCount Possible (begin (headerOf m)) (m .body) k
+      → ¬ PairsPass Possible (begin (headerOf m)) (m .body) n → k ≤ n
   count-few {Possible} n k c p = elim (less-or n k) [
     | inl l ↦ absurd (p (more-is Before (Leaves start (m .body)) (SamePair start (m .body)) (EventAt Possible start (m .body)) before-not k n c .1 l))
     | inr l ↦ l
   ]
 
   -- The event that an answer shows, with its computed bytes.
-  pub shown-event : (n : ℕ) (output : List ℕ) (answer : VerdictAnswer) (output′ : List ℕ) → IsVerdict Feasible (begin (headerOf m)) (m .body) firstEdition n output answer output′
+  pub shown-event : (n : ℕ) (output : List ℕ) (answer : VerdictAnswer) (output′ : List ℕ)
+      → IsVerdict Feasible (begin (headerOf m)) (m .body) firstEdition n output answer output′
       → answer ≢ full → ¬ IsPass answer
       → (kind : Kind) × (k : ℕ) × (ls : List Letter) × Shows Feasible (begin (headerOf m)) (m .body) kind k ls
       × Delivered (packed firstEdition (begin (headerOf m)) kind ls) (showing kind k (length ls)) output answer output′
@@ -147,7 +150,8 @@ module _ (m : Macro) (o : InOrder m) where
   module _ (points : sizeBlock (m .body) ≤ mostPoints) (n : ℕ) (output : List ℕ) (answer : VerdictAnswer) (output′ : List ℕ)
       (v : IsVerdict Feasible (begin (headerOf m)) (m .body) firstEdition n output answer output′) (u : answer ≢ full) (w : ¬ IsPass answer) where
     -- the event that the search finds: no more letters than pairs, and no more pairs than the table holds
-    found : (kind : Kind) × (k : ℕ) × (ls : List Letter) × OfKind (begin (headerOf m)) (m .body) kind (extend (begin (headerOf m)) ls) × (length ls ≤ k) × (k ≤ n)
+    found : (kind : Kind) × (k : ℕ) × (ls : List Letter) × OfKind (begin (headerOf m)) (m .body) kind (extend (begin (headerOf m)) ls) × (length ls ≤ k)
+        × (k ≤ n)
         × Delivered (packed firstEdition (begin (headerOf m)) kind ls) (showing kind k (length ls)) output answer output′
     found =
         let (kind, k, ls, s, d) = shown-event n output answer output′ v u w in

@@ -48,7 +48,8 @@ entry-has (Arities.two a) (suc f) l = has-later (has-later (has-later (entry-has
 function-has : (fs ns : List ℕ) → Arities fs ns → (f : ℕ) → f < length fs → Has (getD fs f 0) (functionTokens fs ns)
 unfolding functionTokens
 function-has [] ns a f l = absurd (omega arith)
-function-has (g ∷ fs) ns a f l = let h = entry-has a f l in has-later (has-left (entryTokens (g ∷ fs) ns) (word.semicolonKey ∷ []) (h .place) (h .within) (h .is))
+function-has (g ∷ fs) ns a f l = let h = entry-has a f l in
+    has-later (has-left (entryTokens (g ∷ fs) ns) (word.semicolonKey ∷ []) (h .place) (h .within) (h .is))
 
 spells-at : {s ks : List ℕ} {at e : ℕ} → Spells s at ks e → (i : ℕ) → i < length ks → (at′ : ℕ) × (tokenAt s at′ .key ≡ getD ks i 0) × (2 ≤ getD ks i 0)
 spells-at Spelled.none i l = absurd (omega arith)
@@ -79,7 +80,8 @@ module _ (text : List ℕ) (m : Macro) (read : Accepted text m) where
   pub register-stands : (r : ℕ) → r < length (m .registers) → Stands (getD (m .registers) r 0)
   unfolding sentence
   register-stands r l =
-      let behind : List ℕ = word.semicolonKey ∷ (functionTokens (m .functions) (m .arities) ++ blockTokens (m .registers) (m .functions) (m .arities) (m .body)) in
+      let behind : List ℕ = word.semicolonKey ∷
+      (functionTokens (m .functions) (m .arities) ++ blockTokens (m .registers) (m .functions) (m .arities) (m .body)) in
       stands (getD (m .registers) r 0) (has-later (has-left (m .registers) behind r l refl))
 
   pub function-stands : (f : ℕ) → f < length (m .functions) → Stands (getD (m .functions) f 0)
@@ -87,7 +89,9 @@ module _ (text : List ℕ) (m : Macro) (read : Accepted text m) where
   function-stands f l =
       let h = function-has (m .functions) (m .arities) (read .in-order .arities) f l in
       stands (getD (m .functions) f 0)
-      (has-later (has-right (m .registers) (has-later (has-left (functionTokens (m .functions) (m .arities)) (blockTokens (m .registers) (m .functions) (m .arities) (m .body)) (h .place) (h .within) (h .is)))))
+      (has-later (has-right (m .registers)
+      (has-later (has-left (functionTokens (m .functions) (m .arities)) (blockTokens (m .registers) (m .functions) (m .arities) (m .body)) (h .place)
+      (h .within) (h .is)))))
 
   -- so no two registers are printed alike, and no two functions
   once : (names : List ℕ) → Declared names → ((i : ℕ) → i < length names → Stands (getD names i 0)) → Differ names

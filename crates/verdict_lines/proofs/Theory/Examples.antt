@@ -52,7 +52,15 @@ unfolding sizeStatement
 no-pairs x = let l = x .due in omega arith
 
 none-counted : PairCount Feasible (begin (headerOf still)) (still .body) 0
-none-counted = (λ i. root, record { counted = λ i l. absurd (omega arith); every = λ p c. absurd (no-pairs (c .is-first .leaves)); sorted = λ i j l m. absurd (omega arith) })
+none-counted = (
+  λ i. root,
+  record {
+    counted = λ i l. absurd (omega arith);
+    every = λ p c. absurd (no-pairs (c .is-first .leaves));
+    sorted =
+        λ i j l m. absurd (omega arith);
+  },
+)
 
 only-start : {ρ π : Trace} {o : Outcome} → ExecBlock (still .body) ρ π o → (π ≡ ρ) × (o ≡ done)
 only-start (ExecBlock.both Exec.nothing ExecBlock.stop) = (refl, refl)

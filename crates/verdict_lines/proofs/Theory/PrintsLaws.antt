@@ -46,21 +46,25 @@ module _ (m : Macro) (o : InOrder m) where
 
   -- the count does not pass N where it is known to be at most N
   not-full : (k : ℕ) → PairCount Feasible start (m .body) k → k ≤ tablePairs → ¬ PairsPass Feasible start (m .body) tablePairs
-  not-full k c l p = let z = more-is Before (Leaves start (m .body)) (SamePair start (m .body)) (EventAt Feasible start (m .body)) before-not k tablePairs c .0 p in omega arith
+  not-full k c l p = let z = more-is Before (Leaves start (m .body)) (SamePair start (m .body))
+      (EventAt Feasible start (m .body)) before-not k tablePairs c .0 p in omega arith
 
   -- a macro with an event does not pass
-  not-pass : (ρ : Trace) → Event Feasible start (m .body) ρ → ((ρ : Trace) → Partial start (m .body) ρ → Coherent ρ) → ((ρ : Trace) → Failing start (m .body) ρ → ¬ Feasible (state ρ)) → ⊥
+  not-pass : (ρ : Trace) → Event Feasible start (m .body) ρ → ((ρ : Trace) → Partial start (m .body) ρ → Coherent ρ)
+      → ((ρ : Trace) → Failing start (m .body) ρ → ¬ Feasible (state ρ)) → ⊥
   not-pass ρ (breaks x b) c s = breaks-not ρ b (c ρ x)
   not-pass ρ (fails x f) c s = s ρ x f
 
   one-execution : (i j : Kind) (k l : ℕ) (ks ls : List Letter) → Shows Feasible start (m .body) i k ks → Shows Feasible start (m .body) j l ls → ks ≡ ls
-  one-execution i j k l ks ls x y = since-once start ks ls (one-event Feasible start (m .body) (extend start ks) (extend start ls) (x .first-event) (y .first-event))
+  one-execution i j k l ks ls x y =
+      since-once start ks ls (one-event Feasible start (m .body) (extend start ks) (extend start ls) (x .first-event) (y .first-event))
 
   not-both : (k l : ℕ) (ks ls : List Letter) → Shows Feasible start (m .body) breaking k ks → Shows Feasible start (m .body) failing l ls → ⊥
   not-both k l ks ls x y =
       breaks-not (extend start ls) (subst (λ w. Breaks (extend start w)) (one-execution breaking failing k l ks ls x y) (x .of-kind .1)) (y .of-kind .1)
 
-  one-model : (ls : List Letter) (t : Tables) → Failing start (m .body) (extend start ls) → ShownModel (state (extend start ls)) t → t ≡ tablesOf (state (extend start ls))
+  one-model : (ls : List Letter) (t : Tables) → Failing start (m .body) (extend start ls) → ShownModel (state (extend start ls)) t
+      → t ≡ tablesOf (state (extend start ls))
   one-model ls t x y = tables-unique (extend start ls) (failing-formed (headerOf m) start (m .body) (tt, refl) (o .uses) (extend start ls) x) t (y .tables)
 
   pub one-told : (s t : Printed) → Told m s → Told m t → s ≡ t
@@ -70,7 +74,8 @@ module _ (m : Macro) (o : InOrder m) where
   one-told (Printed.pass k) (Printed.fail l ls t) (c, x, q, r) (d, y, u) = absurd (not-pass (extend start ls) (d .first-event .event) q r)
   one-told (Printed.pass k) (Printed.refused n p) (c, x, q, r) (d, e, y) = absurd (not-full k c x y)
   one-told (Printed.incoherent k ks) (Printed.pass l) (c, x) (d, y, q, r) = absurd (not-pass (extend start ks) (c .first-event .event) q r)
-  one-told (Printed.incoherent k ks) (Printed.incoherent l ls) (c, x) (d, y) = λ i. Printed.incoherent (counted-once k l (c .count) (d .count) i) (one-execution breaking breaking k l ks ls c d i)
+  one-told (Printed.incoherent k ks) (Printed.incoherent l ls) (c, x) (d, y) =
+      λ i. Printed.incoherent (counted-once k l (c .count) (d .count) i) (one-execution breaking breaking k l ks ls c d i)
   one-told (Printed.incoherent k ks) (Printed.fail l ls t) (c, x) (d, y, u) = absurd (not-both k l ks ls c d)
   one-told (Printed.incoherent k ks) (Printed.refused n p) (c, x) (d, e, y) = absurd (not-full k (c .count) x y)
   one-told (Printed.fail k ks s) (Printed.pass l) (c, x, u) (d, y, q, r) = absurd (not-pass (extend start ks) (c .first-event .event) q r)

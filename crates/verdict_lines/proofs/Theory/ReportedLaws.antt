@@ -23,10 +23,12 @@ size-of true n = refl
 size-of false n = refl
 
 module _ (text : List ℕ) (v : search.Verdict) (s entry exit : List ℕ) (read : syntax.MacroRead) (shown : ReportedVerdict) (written : ReportWritten) (size : ℕ)
-    (registers : (r : ℕ) → getD (read .program .registers) r 0 < 2 ^ 64) (functions : (f : ℕ) → getD (read .program .functions) f 0 < 2 ^ 64) (bytes : (i : ℕ) → getD s i 0 < 256) where
+    (registers : (r : ℕ) → getD (read .program .registers) r 0 < 2 ^ 64) (functions : (f : ℕ) → getD (read .program .functions) f 0 < 2 ^ 64)
+    (bytes : (i : ℕ) → getD s i 0 < 256) where
   -- The text was read, the verdict taken as the report takes it, and the report written.
   pub reports : Reads text read → shown ≡ reported v → Limited shown
-      → WroteText (reportOf (read .program .registers) (read .program .functions) (read .program .header) shown s) entry exit written → size ≡ bytesWritten written → Reports text v s entry size exit
+      → WroteText (reportOf (read .program .registers) (read .program .functions) (read .program .header) shown s) entry exit written
+      → size ≡ bytesWritten written → Reports text v s entry size exit
   unfolding reportFor
   reports e f l w g = record {
     read = read;
@@ -34,7 +36,8 @@ module _ (text : List ℕ) (v : search.Verdict) (s entry exit : List ℕ) (read 
     few = λ n m r. subst (λ (x : List ℕ). length x ≤ mostVerdictLineBytes) same
         (report-fits (read .program .registers) (read .program .functions) registers functions (read .program .header) s bytes shown l
         (subst (λ (x : ReportedVerdict). letterNumber x ≤ tablePairs) (sym f) n) (subst (λ (x : ReportedVerdict). rowNumber x s ≤ mostRows) (sym f) m) r);
-    given = g ∙ ap bytesWritten (w .answered) ∙ size-of (leb (length made) (length entry)) (length made) ∙ ap (λ (x : List ℕ). pick (leb (length x) (length entry)) (λ _. length x) λ _. 0) same;
+    given = g ∙ ap bytesWritten (w .answered) ∙ size-of (leb (length made) (length entry)) (length made)
+        ∙ ap (λ (x : List ℕ). pick (leb (length x) (length entry)) (λ _. length x) λ _. 0) same;
     bytes = w .bytes ∙ ap (λ (x : List ℕ). pick (leb (length x) (length entry)) (λ _. x ++ drop (length x) entry) λ _. entry) same;
   }
     where

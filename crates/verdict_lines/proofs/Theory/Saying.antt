@@ -145,7 +145,8 @@ module _ (m : Macro) (o : InOrder m) (points : sizeBlock (m .body) ≤ mostPoint
         counted = (λ i. rowNumber (report.Fail (e i) (same i)) (stands i))
             ∙ packed-rows (headerOf m) ls tables rest (header-fits m o) (letters-fit m o failing ls (s .of-kind)) fits
 
-  shown-right : (v : search.Verdict) (kind : Kind) (pairs : ℕ) (ls : List Letter) → Shows Feasible (begin (headerOf m)) (m .body) kind pairs ls → pairs ≤ tablePairs → length ls ≤ tablePairs
+  shown-right : (v : search.Verdict) (kind : Kind) (pairs : ℕ) (ls : List Letter) → Shows Feasible (begin (headerOf m)) (m .body) kind pairs ls
+      → pairs ≤ tablePairs → length ls ≤ tablePairs
       → answerOf v ≡ showing kind pairs (length ls) → Front kind ls → Right m v output′
   shown-right (Incoherent k l) breaking pairs ls s c few e b = incoherent-right k l pairs ls few (cc) (cc) s c b
   shown-right (Fail k l) failing pairs ls s c few e b = fail-right k l pairs ls few (cc) (cc) s c b
@@ -166,7 +167,13 @@ module _ (m : Macro) (o : InOrder m) (points : sizeBlock (m .body) ≤ mostPoint
   right (Incoherent k l) j = event-right (Incoherent k l) j (λ e. let z : _≡_ {A = ℕ} 0 1 = cc in omega arith) (λ p. p)
   right (Pass k) j = record {
     told = printed.pass k;
-    is-told = (j .pass-count k refl .0, count-few m o tablePairs k (j .pass-count k refl .0) (λ p. other (j .full-exactly .1 p)), j .pass-exactly other .0 tt .0, j .pass-exactly other .0 tt .1);
+    is-told = (
+      j .pass-count k refl .0,
+      count-few m o tablePairs k (j .pass-count k refl .0)
+          (λ p. other (j .full-exactly .1 p)),
+      j .pass-exactly other .0 tt .0,
+      j .pass-exactly other .0 tt .1,
+    );
     lines = refl;
     letters = omega arith;
     rows = omega arith;

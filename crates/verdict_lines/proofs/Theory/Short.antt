@@ -105,7 +105,14 @@ module _ {S E : Type 0} (start : Option S) (move : S → Branch → BranchResult
           omega (arith, o .long, beyond-steps a (o .rest), beyond-steps q (o .rest))
 
       opens-too : steps q ≡ steps a → Opening j q
-      opens-too l = record { size = l ∙ o .size; less = o .less; rest = o .rest; long = omega (arith, o .long, beyond-steps a (o .rest), beyond-steps q (o .rest)); ends = ends-too }
+      opens-too l = record {
+        size = l ∙ o .size;
+        less = o .less;
+        rest = o .rest;
+        long =
+            omega (arith, o .long, beyond-steps a (o .rest), beyond-steps q (o .rest));
+        ends = ends-too;
+      }
 
     -- a counted path has j steps
     first-opening : (j : ℕ) → ((q : Path) → Numbered q → steps q ≡ j → ⊥) → (n : ℕ) → (a : Path) → place a ≡ n → Opening j a → ⊥
@@ -130,7 +137,8 @@ module _ {S E : Type 0} (start : Option S) (move : S → Branch → BranchResult
         first-opening j none (place a) a refl (record { size = u; less = l; rest = bs; long = ap steps v; ends = ap (follow start move) v ∙ met .happens })
 
     -- k paths are counted, and f lists them in order
-    module _ (f : ℕ → Path) (k : ℕ) (every : (q : Path) → Numbered q → (i : ℕ) × (i < k) × (f i ≡ q)) (sorted : (i j : ℕ) → i < j → j < k → Before (f i) (f j)) where
+    module _ (f : ℕ → Path) (k : ℕ) (every : (q : Path) → Numbered q → (i : ℕ) × (i < k) × (f i ≡ q))
+        (sorted : (i j : ℕ) → i < j → j < k → Before (f i) (f j)) where
       later : (i i′ : ℕ) → i < k → steps (f i) < steps (f i′) → i < i′
       later i i′ l s = elim (three i i′) [
         | inl u ↦ u

@@ -26,7 +26,8 @@ answer-to-spec =
     let n = c .before .before .before .before .before .before .before .input .given in
     let wrote = c .before .before .write-lines in
     let end = c .before .before .before .before .before .least in
-    answers-first PrintsVerdictLines (known (a .input) (a .text .now)) (a .text .now) (a .lines .now) (wrote .last .1 .0) (n .0 .0) (end .result) (wrote .result)
+    answers-first PrintsVerdictLines (known (a .input) (a .text .now)) (a .text .now) (a .lines .now) (wrote .last .1 .0) (n .0 .0) (end .result)
+    (wrote .result)
     (ap (λ (i : Input). known i (a .text .now)) (n .1)) (end .ensures) (wrote .ensures))
     (λ c. search needs)
     (λ c.

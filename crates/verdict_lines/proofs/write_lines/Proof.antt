@@ -21,4 +21,5 @@ write-lines-spec =
     let answer = c .before .before .before .before .before .before .before .before .before .before .answer-space in
     let judged = c .before .before .before .before .before .before .before .judge-macro in
     let written = c .before .before .write-verdict in
-    prints (a .text .now) (table .result) (answer .result) (search needs) (search needs) (judged .result) (judged .last .1 .0) (judged .last .1 .1 .0) (judged .ensures) (a .lines .now) (written .result) (written .last .1 .1 .1 .0) (written .ensures)))
+    prints (a .text .now) (table .result) (answer .result) (search needs) (search needs) (judged .result) (judged .last .1 .0) (judged .last .1 .1 .0)
+    (judged .ensures) (a .lines .now) (written .result) (written .last .1 .1 .1 .0) (written .ensures)))

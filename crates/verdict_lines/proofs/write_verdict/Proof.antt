@@ -24,6 +24,8 @@ write-verdict-spec =
     let written = c .before .before .before .write-report in
     let reg : (r : ℕ) → Fits w64 (getD (read .result .program .registers) r 0) = λ r. search needs in
     let fun : (f : ℕ) → Fits w64 (getD (read .result .program .functions) f 0) = λ f. search needs in
-    reports (a .text .now) (a .verdict) (a .answer .now) (a .lines .now) (written .last .1 .1 .1 .1 .1 .0) (read .result) (verdict .result) (written .result) (c .size .result)
-    (λ r. reg r .fits) (λ f. fun f .fits) (λ i. omega (arith, c .before .before .before .before .before .before .before .before .before .before .before .before .shared-slice-known2 .given i))
+    reports (a .text .now) (a .verdict) (a .answer .now) (a .lines .now) (written .last .1 .1 .1 .1 .1 .0) (read .result) (verdict .result) (written .result)
+    (c .size .result)
+    (λ r. reg r .fits) (λ f. fun f .fits)
+    (λ i. omega (arith, c .before .before .before .before .before .before .before .before .before .before .before .before .shared-slice-known2 .given i))
     (read .ensures) (verdict .ensures .0) (verdict .ensures .1) (written .ensures) (c .size .ensures)))

@@ -37,17 +37,20 @@ shown-tables ρ w f = record {
 
 module _ (e : Edition) (start : Trace) (ls : List Letter) where
   -- the computed bytes are the answer's
-  pub bytes-so : (kind : Kind) → WellFormed (extend start ls) → (kind ≡ failing → Feasible (state (extend start ls))) → AnswerBytes e start kind ls (packed e start kind ls)
+  pub bytes-so : (kind : Kind) → WellFormed (extend start ls) → (kind ≡ failing → Feasible (state (extend start ls)))
+      → AnswerBytes e start kind ls (packed e start kind ls)
   unfolding packed
   bytes-so breaking w f = refl
   bytes-so failing w f = (tablesOf (state (extend start ls)), shown-tables (extend start ls) w (f refl), refl)
 
   -- there are no others
-  pub bytes-are : (kind : Kind) (bytes : List ℕ) → (kind ≡ failing → WellFormed (extend start ls)) → AnswerBytes e start kind ls bytes → bytes ≡ packed e start kind ls
+  pub bytes-are : (kind : Kind) (bytes : List ℕ) → (kind ≡ failing → WellFormed (extend start ls)) → AnswerBytes e start kind ls bytes
+      → bytes ≡ packed e start kind ls
   unfolding packed
   bytes-are breaking bytes w x = x
   bytes-are failing bytes w (t, x, y) =
-      y ∙ ap (λ (t : Tables). packing e (state start .header) ls ++ packTables e (state start .header) t) (tables-unique (extend start ls) (w refl) t (x .tables))
+      y ∙ ap (λ (t : Tables). packing e (state start .header) ls ++ packTables e (state start .header) t)
+      (tables-unique (extend start ls) (w refl) t (x .tables))
 
 -- The failing executions of a proper macro are well formed.
 pub failing-formed : (h : Header) (start : Trace) (m : Block) → FormedUnder h start → ProperBlock m h → (ρ : Trace) → Failing start m ρ → WellFormed ρ

@@ -22,11 +22,13 @@ use Rattle.verdict_theory.specs.Count.{Lists, More}
 use Rattle.verdict_theory.proofs.Theory.Counting.{more-is, same-lists, same-more}
 use Rattle.verdict_theory.proofs.Theory.System.{event, Leads, LeadAlike, Meets, FirstMet}
 use Rattle.verdict_theory.proofs.Theory.Listing.{Listing, turn, path, Searching, finished-quiet, finished-lists, event-first, event-lists}
-use Rattle.verdict_theory.specs.Verdict.{VerdictAnswer, pass, full, unfit, IsPass, Kind, breaking, failing, showing, Breaks, Precedes, Event, EventAt, Leaves, SamePair, PairCount, PairsPass, OfKind, Shows, Delivered, IsVerdict}
+use Rattle.verdict_theory.specs.Verdict.{VerdictAnswer, pass, full, unfit, IsPass, Kind, breaking, failing, showing, Breaks, Precedes, Event, EventAt}
+use Rattle.verdict_theory.specs.Verdict.{Leaves, SamePair, PairCount, PairsPass, OfKind, Shows, Delivered, IsVerdict}
 use Rattle.verdict_theory.specs.AnswerPacking.{packed}
 use Rattle.verdict_theory.proofs.Theory.AnswerPacking.{bytes-so}
 use Rattle.verdict_theory.specs.Verdict
-use Rattle.verdict_theory.proofs.Theory.Pairs.{Setting, Pair, starting, stepping, leads, lead-leaves, leaves-lead, alike-same, same-alike, meets-breaking, meets-failing, event-met, met-event, quiet-coherent, quiet-safe}
+use Rattle.verdict_theory.proofs.Theory.Pairs.{Setting, Pair, starting, stepping, leads, lead-leaves, leaves-lead, alike-same, same-alike}
+use Rattle.verdict_theory.proofs.Theory.Pairs.{meets-breaking, meets-failing, event-met, met-event, quiet-coherent, quiet-safe}
 
 showing-other : (kind : Kind) (k l : ℕ) → (showing kind k l ≢ full) × (¬ IsPass (showing kind k l))
 showing-other breaking k l = (λ e. let z : _≡_ {A = ℕ} 0 1 = cc in omega arith, λ p. p)
@@ -35,13 +37,15 @@ showing-other failing k l = (λ e. let z : _≡_ {A = ℕ} 0 1 = cc in omega ari
 unfit-other : (unfit ≢ full) × (¬ IsPass unfit)
 unfit-other = (λ e. let z : _≡_ {A = ℕ} 6 14 = cc in omega arith, λ p. p)
 
-given-other : (bs : List ℕ) (kind : Kind) (k l : ℕ) (output : List ℕ) (answer : VerdictAnswer) (output′ : List ℕ) → Delivered bs (showing kind k l) output answer output′
+given-other : (bs : List ℕ) (kind : Kind) (k l : ℕ) (output : List ℕ) (answer : VerdictAnswer) (output′ : List ℕ)
+    → Delivered bs (showing kind k l) output answer output′
     → (answer ≢ full) × (¬ IsPass answer)
 given-other bs kind k l output answer output′ (inl g) = subst (λ y. (y ≢ full) × (¬ IsPass y)) (sym (g .1)) (showing-other kind k l)
 given-other bs kind k l output answer output′ (inr g) = subst (λ y. (y ≢ full) × (¬ IsPass y)) (sym (g .1)) unfit-other
 
 module _ (x : Setting) (edition : Edition) where
-  counted-lists : (f : ℕ → Path) (k : ℕ) → Lists Before (Leads (starting x) (stepping x)) (LeadAlike (starting x) (stepping x)) (Meets (starting x) (stepping x)) f k
+  counted-lists : (f : ℕ → Path) (k : ℕ)
+      → Lists Before (Leads (starting x) (stepping x)) (LeadAlike (starting x) (stepping x)) (Meets (starting x) (stepping x)) f k
       → Lists Before (Leaves (x .start) (x .body)) (SamePair (x .start) (x .body)) (EventAt Feasible (x .start) (x .body)) f k
   counted-lists = same-lists Before before-join (Leads (starting x) (stepping x)) (Leaves (x .start) (x .body))
       (LeadAlike (starting x) (stepping x)) (SamePair (x .start) (x .body)) (Meets (starting x) (stepping x)) (EventAt Feasible (x .start) (x .body))
@@ -64,7 +68,8 @@ module _ (x : Setting) (edition : Edition) where
     Answered answer output′ = IsVerdict Feasible (x .start) (x .body) edition n output answer output′
 
     -- ── the search is full ──
-    pub answers-full : More Before (Leads (starting x) (stepping x)) (LeadAlike (starting x) (stepping x)) (Meets (starting x) (stepping x)) n → Answered full output
+    pub answers-full : More Before (Leads (starting x) (stepping x)) (LeadAlike (starting x) (stepping x)) (Meets (starting x) (stepping x)) n
+        → Answered full output
     answers-full y = record {
       full-exactly = (λ e. counted-more n y, λ z. refl);
       full-output = λ e. refl;
@@ -145,8 +150,10 @@ module _ (x : Setting) (edition : Edition) where
         }
 
     pub answers-event : (t : Listing (Pair x)) (i : ℕ) (b : Branch) → Searching (starting x) (stepping x) t (turn i b) → i < t .count → t .count ≤ n
-        → (kind : Kind) → stepping x (t .state i) b ≡ event kind → (l : Place ℕ) (ls : List Letter) → run (x .start) (x .body) (path t i ▹ b) ≡ stand l (extend (x .start) ls)
-        → (answer : VerdictAnswer) (output′ : List ℕ) → Delivered (packed edition (x .start) kind ls) (showing kind (t .count) (length ls)) output answer output′ → Answered answer output′
+        → (kind : Kind) → stepping x (t .state i) b ≡ event kind → (l : Place ℕ) (ls : List Letter)
+        → run (x .start) (x .body) (path t i ▹ b) ≡ stand l (extend (x .start) ls)
+        → (answer : VerdictAnswer) (output′ : List ℕ)
+        → Delivered (packed edition (x .start) kind ls) (showing kind (t .count) (length ls)) output answer output′ → Answered answer output′
     answers-event t i b v q r kind e l ls u answer output′ g = record {
       full-exactly = (λ f. absurd (other .0 f), λ y. absurd (not-more (t .count) n count r y));
       full-output = λ f. absurd (other .0 f);

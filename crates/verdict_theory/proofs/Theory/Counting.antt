@@ -34,7 +34,8 @@ pigeonhole (suc k) (suc m) f h e =
     other : (i : ℕ) → i < m → f i ≢ f m
     other i l g = let z = e i m (omega arith) (omega arith) g in omega arith
 
-module _ {ℓ} {P : Type 0} (Before : P → P → Type 0) (Leaves : P → Type 0) (Same : P → P → Type 0) (Event : P → Type ℓ) (before-not : (p : P) → ¬ Before p p) where
+module _ {ℓ} {P : Type 0} (Before : P → P → Type 0) (Leaves : P → Type 0) (Same : P → P → Type 0) (Event : P → Type ℓ)
+    (before-not : (p : P) → ¬ Before p p) where
   pub lists-more : (f : ℕ → P) (k n : ℕ) → Lists Before Leaves Same Event f k → n < k → More Before Leaves Same Event n
   lists-more f k n x l = record {
     sample = f;
@@ -86,7 +87,8 @@ module _ {ℓ} {P : Type 0} (Before : P → P → Type 0) (Leaves : P → Type 0
   pub more-is : (k n : ℕ) → Count Before Leaves Same Event k → More Before Leaves Same Event n ↔ (n < k)
   more-is k n (f, x) = (λ y. elim (less-or n k) [ inl l ↦ l | inr l ↦ absurd (lists-not-more f k n x l y) ], λ l. lists-more f k n x l)
 
--- The same pairs are counted, and listed alike, if the same executions leave the same pairs, and the events of one kind are events of the other, or come after one.
+-- The same pairs are counted, and listed alike, if the same executions leave the same pairs, and the events of one kind are events of the other, or come after
+-- one.
 module _ {ℓ κ} {P : Type 0} (Before : P → P → Type 0) (before-join : (p q r : P) → Before p q → Before q r → Before p r)
     (Leaves Leaves′ : P → Type 0) (Same Same′ : P → P → Type 0) (Event : P → Type ℓ) (Event′ : P → Type κ)
     (there : (p : P) → Leaves p → Leaves′ p) (back : (p : P) → Leaves′ p → Leaves p)

@@ -1,4 +1,5 @@
--- Examples: a macro that passes, two on which pass is no right answer, and texts. Passing everything is wrong on the second, trying each loop body once on the third; 14 before a pair is listed, calling everything incoherent and an invented count on the first.
+-- Examples: a macro that passes, two on which pass is no right answer, and texts. Passing everything is wrong on the second, trying each loop body once on the
+-- third; 14 before a pair is listed, calling everything incoherent and an invented count on the first.
 use mathlib.Core.Path.{_≡_, refl, sym, ap, _∙_, subst}
 use mathlib.Core.Bool.{true}
 use mathlib.Core.Logic.{_≢_}
@@ -73,7 +74,15 @@ module _ (h : Header) (edition : Edition) (n : ℕ) (output : List ℕ) where
   }
     where
       none-counted : PairCount Possible (begin h) still 0
-      none-counted = (λ i. root, record { counted = λ i l. absurd (omega arith); every = λ p c. absurd (no-pairs (c .is-first .leaves)); sorted = λ i j l m. absurd (omega arith) })
+      none-counted = (
+        λ i. root,
+        record {
+          counted = λ i l. absurd (omega arith);
+          every = λ p c. absurd (no-pairs (c .is-first .leaves));
+          sorted =
+              λ i j l m. absurd (omega arith);
+        },
+      )
 
   -- ── assert x = y; ──
   abbrev claim : Block
@@ -128,7 +137,8 @@ module _ (h : Header) (edition : Edition) (n : ℕ) (output : List ℕ) where
       differ s t f g e = let z : _≡_ {A = ℕ} 0 1 = sym (ap (evalIn numbered) f) ∙ e ∙ ap (evalIn numbered) g in omega arith
 
   -- pass is wrong where the failure is possible
-  passes-not {ℓ} : (Possible : State → Type ℓ) → Possible (state failure) → (k : ℕ) (output′ : List ℕ) → ¬ IsVerdict Possible (begin h) claim edition n output (pass k) output′
+  passes-not {ℓ} : (Possible : State → Type ℓ) → Possible (state failure) → (k : ℕ) (output′ : List ℕ)
+      → ¬ IsVerdict Possible (begin h) claim edition n output (pass k) output′
   passes-not Possible f k output′ x =
       let u : pass k ≢ full = λ e. let z : _≡_ {A = ℕ} 0 1 = cc in omega arith in
       x .pass-exactly u .0 tt .1 failure (ExecBlock.ends (Exec.fails refl)) f
@@ -153,18 +163,43 @@ module _ (edition : Edition) (n : ℕ) (output : List ℕ) where
   later = perform (Copy 1 0) then perform (Copy 2 0) then while (unequal 4 5) turn then assert (equal 2 0) then empty
 
   abbrev twice : Trace
-  twice = begin six ▸ Copy 1 0 ▸ Copy 2 0 ▸ Unequal 4 5 ▸ Copy 2 1 ▸ Copy 1 3 ▸ Apply 4 0 4 4 ▸ Unequal 4 5 ▸ Copy 2 1 ▸ Copy 1 3 ▸ Apply 4 0 4 4 ▸ Equal 4 5 ▸ Unequal 2 0
+  twice = begin six ▸ Copy 1 0 ▸ Copy 2 0 ▸ Unequal 4 5 ▸ Copy 2 1 ▸ Copy 1 3 ▸ Apply 4 0 4 4 ▸ Unequal 4 5 ▸ Copy 2 1 ▸ Copy 1 3 ▸ Apply 4 0 4 4 ▸ Equal 4 5 ▸
+      Unequal 2 0
 
   turned : (ρ : Trace) → ExecBlock turn ρ (ρ ▸ Copy 2 1 ▸ Copy 1 3 ▸ Apply 4 0 4 4) done
   turned ρ = ExecBlock.both Exec.letter (ExecBlock.both Exec.letter (ExecBlock.both Exec.letter ExecBlock.stop))
 
   twice-fails : Failing (begin six) later twice
-  twice-fails = ExecBlock.both Exec.letter (ExecBlock.both Exec.letter (ExecBlock.both (Exec.turns (turned _) (Exec.turns (turned _) (Exec.leaves refl))) (ExecBlock.ends (Exec.fails refl))))
+  twice-fails = ExecBlock.both Exec.letter
+      (ExecBlock.both Exec.letter (ExecBlock.both (Exec.turns (turned _) (Exec.turns (turned _) (Exec.leaves refl))) (ExecBlock.ends (Exec.fails refl))))
 
   twice-formed : WellFormed twice
   twice-formed =
-      let f : Fits six (Apply 4 0 4 4) = (omega arith, omega arith, omega arith, omega arith, λ e. refl) in
-      ((((((((((((tt, (omega arith, omega arith)), (omega arith, omega arith)), (omega arith, omega arith)), (omega arith, omega arith)), (omega arith, omega arith)), f), (omega arith, omega arith)), (omega arith, omega arith)), (omega arith, omega arith)), f), (omega arith, omega arith)), (omega arith, omega arith))
+      let f : Fits six (Apply 4 0 4 4) = (omega arith, omega arith, omega arith, omega arith, λ e. refl) in (
+        (
+          (
+            (
+              (
+                (
+                  (
+                    (
+                      ((((tt, (omega arith, omega arith)), (omega arith, omega arith)), (omega arith, omega arith)), (omega arith, omega arith)),
+                      (omega arith, omega arith),
+                    ),
+                    f,
+                  ),
+                  (omega arith, omega arith),
+                ),
+                (omega arith, omega arith),
+              ),
+              (omega arith, omega arith),
+            ),
+            f,
+          ),
+          (omega arith, omega arith),
+        ),
+        (omega arith, omega arith),
+      )
 
   twice-possible : Feasible (state twice)
   twice-possible = feasible-is (state twice) (state-valid twice twice-formed) .0 (let e : feasible (state twice) ≡ true = refl in subst T (sym e) tt)
@@ -232,4 +267,5 @@ module _ (table output : List ℕ) where
   -- So on the first text 14, incoherent, another count of pairs, a table that is not cleared and a changed output are all wrong.
   still-only {ℓ} : (Possible : State → Type ℓ) (a : VerdictAnswer) (table′ output′ : List ℕ) → Demand3 Possible still-text table output a table′ output′
       → (a ≡ pass 0) × (table′ ≡ replicate (length table) 0) × (output′ ≡ output)
-  still-only Possible a table′ output′ x = one-way Possible still-text table output a (pass 0) table′ (replicate (length table) 0) output′ output x (still-met Possible)
+  still-only Possible a table′ output′ x =
+      one-way Possible still-text table output a (pass 0) table′ (replicate (length table) 0) output′ output x (still-met Possible)

@@ -35,7 +35,8 @@ use Rattle.macros.specs.Walk.{at, failure, stand}
 use Rattle.macros.specs.Points.{sizeStatement, entry, compile, run}
 use Rattle.macros.proofs.Theory.Runs.{partial-is, run-once, run-steps}
 use Rattle.verdict_theory.specs.Count.{Counted}
-use Rattle.verdict_theory.specs.Verdict.{VerdictAnswer, fail, full, IsPass, Kind, breaking, failing, showing, AnswerBytes, Delivered, Shows, IsVerdict, Breaks, Event, EventAt, Leaves, SamePair, PairCount, PairsPass}
+use Rattle.verdict_theory.specs.Verdict.{VerdictAnswer, fail, full, IsPass, Kind, breaking, failing, showing, AnswerBytes, Delivered, Shows, IsVerdict}
+use Rattle.verdict_theory.specs.Verdict.{Breaks, Event, EventAt, Leaves, SamePair, PairCount, PairsPass}
 use Rattle.verdict_theory.specs.AnswerPacking.{packed}
 use Rattle.verdict_theory.proofs.Theory.AnswerPacking.{bytes-are}
 use Rattle.verdict_theory.specs.Verdict
@@ -111,10 +112,14 @@ module _ {ℓ} (Possible : State → Type ℓ) where
   only-root p x = elim (beginnings (partial-is start claim (x .trace) .1 (p, at (x .point), x .stands))) [
     | inl e ↦ run-once start claim start p root (at (x .point)) (at 0) (x .stands ∙ ap (stand (at (x .point))) e) run-root
     | inr y ↦ elim y [
-      | inl e ↦ absurd (let f : p ≡ root ▹ first = run-once start claim fails-so p (root ▹ first) (at (x .point)) failure (x .stands ∙ ap (stand (at (x .point))) e) run-fails in
-          let g : stand (at (x .point)) (x .trace) ≡ stand failure fails-so = sym (x .stands) ∙ ap (run start claim) f ∙ run-fails in let z : _≡_ {A = ℕ} 0 1 = cc in omega arith)
-      | inr e ↦ absurd (let f : p ≡ root ▹ second = run-once start claim holds-so p (root ▹ second) (at (x .point)) (at 1) (x .stands ∙ ap (stand (at (x .point))) e) run-holds in
-          let g : stand (at (x .point)) (x .trace) ≡ stand (at 1) holds-so = sym (x .stands) ∙ ap (run start claim) f ∙ run-holds in let z : x .point ≡ 1 = cc in let d = x .due in omega arith)
+      | inl e ↦ absurd (let f : p ≡ root ▹ first =
+          run-once start claim fails-so p (root ▹ first) (at (x .point)) failure (x .stands ∙ ap (stand (at (x .point))) e) run-fails in
+          let g : stand (at (x .point)) (x .trace) ≡ stand failure fails-so = sym (x .stands) ∙ ap (run start claim) f ∙ run-fails in
+          let z : _≡_ {A = ℕ} 0 1 = cc in omega arith)
+      | inr e ↦ absurd (let f : p ≡ root ▹ second =
+          run-once start claim holds-so p (root ▹ second) (at (x .point)) (at 1) (x .stands ∙ ap (stand (at (x .point))) e) run-holds in
+          let g : stand (at (x .point)) (x .trace) ≡ stand (at 1) holds-so = sym (x .stands) ∙ ap (run start claim) f ∙ run-holds in
+          let z : x .point ≡ 1 = cc in let d = x .due in omega arith)
     ]
   ]
 
@@ -165,7 +170,8 @@ module _ {ℓ} (Possible : State → Type ℓ) where
         formed = (tt, (omega arith, omega arith))
 
         told : (kind : Kind) × (k : ℕ) × (ls : List Letter) × (bytes : List ℕ)
-            × Shows Possible start claim kind k ls × AnswerBytes edition start kind ls bytes × Delivered bytes (showing kind k (length ls)) output answer output′
+            × Shows Possible start claim kind k ls × AnswerBytes edition start kind ls bytes
+            × Delivered bytes (showing kind k (length ls)) output answer output′
             → Delivered (packed edition start failing (Unequal 0 1 ∷ [])) (fail 1 1) output answer output′
         told (breaking, k, ls, bytes, s, q, d) = absurd (never-breaks (extend start ls) (s .of-kind .0) (s .of-kind .1))
         told (failing, k, ls, bytes, s, q, d) =
@@ -179,14 +185,17 @@ module _ {ℓ} (Possible : State → Type ℓ) where
 -- ── the same of its text ──
 -- The bytes: the header, `x != y`, and the model: three values, no rows, 1 for x and 2 for y.
 claim-bytes : packed firstEdition start failing (Unequal 0 1 ∷ []) ≡ 32 ∷ 0 ∷ 192 ∷ 8 ∷ 0 ∷ 3 ∷ 0 ∷ 0 ∷ 0 ∷ 1 ∷ 0 ∷ 2 ∷ []
-unfolding packed packing headerWord letterWord packTables tablesOf shownTables startsFrom rowsOf applications classesOf classValue firstsAfter firstPlace units packedRow secondWritten
+unfolding packed packing headerWord letterWord packTables tablesOf shownTables startsFrom rowsOf applications classesOf classValue firstsAfter firstPlace units
+    packedRow secondWritten
 claim-bytes = refl
 
 possible : Feasible (state fails-so)
-possible = feasible-is (state fails-so) (state-valid fails-so (tt, (omega arith, omega arith))) .0 (let e : feasible (state fails-so) ≡ true = refl in subst T (sym e) tt)
+possible = feasible-is (state fails-so) (state-valid fails-so (tt, (omega arith, omega arith))) .0
+    (let e : feasible (state fails-so) ≡ true = refl in subst T (sym e) tt)
 
 -- With room for one pair and twelve bytes of output, this is the answer, and these are the bytes.
-pub claim-text-only : (table output : List ℕ) → 192 ≤ length table → 12 ≤ length output → (answer : VerdictAnswer) (table′ output′ : List ℕ) → Demand3 Feasible claim-text table output answer table′ output′
+pub claim-text-only : (table output : List ℕ) → 192 ≤ length table → 12 ≤ length output → (answer : VerdictAnswer) (table′ output′ : List ℕ)
+    → Demand3 Feasible claim-text table output answer table′ output′
     → (answer ≡ fail 1 1) × (table′ ≡ replicate (length table) 0) × (output′ ≡ 32 ∷ 0 ∷ 192 ∷ 8 ∷ 0 ∷ 3 ∷ 0 ∷ 0 ∷ 0 ∷ 1 ∷ 0 ∷ 2 ∷ drop 12 output)
 unfolding capacityOf
 claim-text-only table output wide long answer table′ output′ x =

@@ -64,7 +64,8 @@ trail parent branch (suc n) (suc i) = trail parent branch n (parent (suc i)) ▹
 abbrev pub path : {S : Type 0} → Listing S → ℕ → Path
 path t i = trail (t .parent) (t .branch) i i
 
-pub trail-same : (f : ℕ → ℕ) (g : ℕ → Branch) (c : ℕ) → ((j : ℕ) → 0 < j → j < c → f j < j) → (m n i : ℕ) → i < c → i ≤ m → i ≤ n → trail f g m i ≡ trail f g n i
+pub trail-same : (f : ℕ → ℕ) (g : ℕ → Branch) (c : ℕ) → ((j : ℕ) → 0 < j → j < c → f j < j) → (m n i : ℕ) → i < c → i ≤ m → i ≤ n
+    → trail f g m i ≡ trail f g n i
 trail-same f g c h zero zero i l p q = refl
 trail-same f g c h zero (suc n) zero l p q = refl
 trail-same f g c h zero (suc n) (suc i) l p q = absurd (omega arith)
@@ -144,12 +145,14 @@ module _ {S E : Type 0} (start : Option S) (move : S → Branch → BranchResult
     closed = λ k d s l m g. closed k d s l (three (turn k d) (turn i b)) m g;
   }
     where
-      quiet : (k : ℕ) (d : Branch) (e : E) → k < t .count → (turn k d < turn i b) ⊎ ((turn k d ≡ turn i b) ⊎ (turn i b < turn k d)) → turn k d < suc (turn i b) → move (t .state k) d ≢ event e
+      quiet : (k : ℕ) (d : Branch) (e : E) → k < t .count → (turn k d < turn i b) ⊎ ((turn k d ≡ turn i b) ⊎ (turn i b < turn k d)) → turn k d < suc (turn i b)
+          → move (t .state k) d ≢ event e
       quiet k d e l (inl u) m = v .quiet k d e l u
       quiet k d e l (inr (inl u)) m = λ g. let (p, q) = turn-same k i d b u in n e (cc)
       quiet k d e l (inr (inr u)) m = absurd (omega arith)
 
-      closed : (k : ℕ) (d : Branch) (s : S) → k < t .count → (turn k d < turn i b) ⊎ ((turn k d ≡ turn i b) ⊎ (turn i b < turn k d)) → turn k d < suc (turn i b) → move (t .state k) d ≡ next s
+      closed : (k : ℕ) (d : Branch) (s : S) → k < t .count → (turn k d < turn i b) ⊎ ((turn k d ≡ turn i b) ⊎ (turn i b < turn k d)) → turn k d < suc (turn i b)
+          → move (t .state k) d ≡ next s
           → (j : ℕ) × (j < t .count) × (t .state j ≡ s) × ((j ≡ 0) ⊎ (turn (t .parent j) (t .branch j) ≤ turn k d))
       closed k d s l (inl u) m g = v .closed k d s l u g
       closed k d s l (inr (inl u)) m g =
@@ -163,7 +166,8 @@ module _ {S E : Type 0} (start : Option S) (move : S → Branch → BranchResult
   passes t i b v m = advance t i b v (λ e g. let z : _≡_ {A = ℕ} 0 1 = cc in omega arith) (λ s g. absurd (let z : _≡_ {A = ℕ} 0 1 = cc in omega arith))
 
   -- a state that is listed
-  pub meets : (t : Listing S) (i : ℕ) (b : Branch) (s : S) (j : ℕ) → Searching start move t (turn i b) → move (t .state i) b ≡ next s → j < t .count → t .state j ≡ s
+  pub meets : (t : Listing S) (i : ℕ) (b : Branch) (s : S) (j : ℕ) → Searching start move t (turn i b) → move (t .state i) b ≡ next s → j < t .count
+      → t .state j ≡ s
       → Searching start move t (suc (turn i b))
   meets t i b s j v m l f = advance t i b v (λ e g. let z : _≡_ {A = ℕ} 0 1 = cc in omega arith) (λ u g. (j, l, cc, old j l (three j 0)))
     where
@@ -232,16 +236,19 @@ module _ {S E : Type 0} (start : Option S) (move : S → Branch → BranchResult
 
       -- a state that is listed anew has no move before its own
       late : (k : ℕ) (d : Branch) → k ≡ t .count → turn k d < suc (turn i b) → ⊥
-      late k d e q = let h = turn-above i (t .count) b l in elim d as (λ c. turn k c < suc (turn i b) → ⊥) [ first ↦ λ g. omega arith | second ↦ λ g. omega arith ] q
+      late k d e q = let h = turn-above i (t .count) b l in
+          elim d as (λ c. turn k c < suc (turn i b) → ⊥) [ first ↦ λ g. omega arith | second ↦ λ g. omega arith ] q
 
-      quiet : (k : ℕ) (d : Branch) (e : E) → (k < t .count) ⊎ (k ≡ t .count) → (turn k d < turn i b) ⊎ ((turn k d ≡ turn i b) ⊎ (turn i b < turn k d)) → turn k d < suc (turn i b)
+      quiet : (k : ℕ) (d : Branch) (e : E) → (k < t .count) ⊎ (k ≡ t .count) → (turn k d < turn i b) ⊎ ((turn k d ≡ turn i b) ⊎ (turn i b < turn k d))
+          → turn k d < suc (turn i b)
           → move (t′ .state k) d ≢ event e
       quiet k d e (inl p) (inl u) q = λ g. v .quiet k d e p u (let a = x .states k p in cc)
       quiet k d e (inl p) (inr (inl u)) q = λ g. let (c, f) = turn-same k i d b u in let a = x .states k p in let z : _≡_ {A = ℕ} 0 1 = cc in omega arith
       quiet k d e (inl p) (inr (inr u)) q = absurd (omega arith)
       quiet k d e (inr p) o q = absurd (late k d p q)
 
-      closed : (k : ℕ) (d : Branch) (u : S) → (k < t .count) ⊎ (k ≡ t .count) → (turn k d < turn i b) ⊎ ((turn k d ≡ turn i b) ⊎ (turn i b < turn k d)) → turn k d < suc (turn i b)
+      closed : (k : ℕ) (d : Branch) (u : S) → (k < t .count) ⊎ (k ≡ t .count) → (turn k d < turn i b) ⊎ ((turn k d ≡ turn i b) ⊎ (turn i b < turn k d))
+          → turn k d < suc (turn i b)
           → move (t′ .state k) d ≡ next u
           → (j : ℕ) × (j < t′ .count) × (t′ .state j ≡ u) × ((j ≡ 0) ⊎ (turn (t′ .parent j) (t′ .branch j) ≤ turn k d))
       closed k d u (inl p) (inl o) q g =
@@ -259,7 +266,8 @@ module _ {S E : Type 0} (start : Option S) (move : S → Branch → BranchResult
   path-parent zero p q = absurd (omega arith)
   path-parent (suc j) p q =
       let o = v .older (suc j) p q in
-      ap (λ x. x ▹ t .branch (suc j)) (trail-same (t .parent) (t .branch) (t .count) (v .older) j (t .parent (suc j)) (t .parent (suc j)) (omega arith) (omega arith) (omega arith))
+      ap (λ x. x ▹ t .branch (suc j))
+      (trail-same (t .parent) (t .branch) (t .count) (v .older) j (t .parent (suc j)) (t .parent (suc j)) (omega arith) (omega arith) (omega arith))
 
   -- a path has at most as many letters as states are listed before its state
   pub path-steps : (j : ℕ) → j < t .count → steps (path t j) ≤ j
@@ -277,7 +285,8 @@ module _ {S E : Type 0} (start : Option S) (move : S → Branch → BranchResult
   pub path-leads : (j : ℕ) → j < t .count → follow start move (path t j) ≡ next (t .state j)
   path-leads = strong (λ j. j < t .count → follow start move (path t j) ≡ next (t .state j)) go
     where
-      go : (j : ℕ) → ((i : ℕ) → i < j → i < t .count → follow start move (path t i) ≡ next (t .state i)) → j < t .count → follow start move (path t j) ≡ next (t .state j)
+      go : (j : ℕ) → ((i : ℕ) → i < j → i < t .count → follow start move (path t i) ≡ next (t .state i)) → j < t .count
+          → follow start move (path t j) ≡ next (t .state j)
       go zero ih q = ap begun (v .start-is q)
       go (suc j) ih q =
           let o = v .older (suc j) (omega arith) q in
@@ -302,7 +311,8 @@ module _ {S E : Type 0} (start : Option S) (move : S → Branch → BranchResult
       under j q h (suc i) l = subst (λ x. Before x (path t (t .parent (suc j)) ▹ t .branch (suc j))) (sym (path-parent (suc i) (omega arith) (omega arith)))
           (turn-order (t .parent (suc i)) (t .parent (suc j)) (t .branch (suc i)) (t .branch (suc j)) h (v .sorted (suc i) (suc j) (omega arith) l q))
 
-      go : (j : ℕ) → ((n : ℕ) → n < j → n < t .count → (i : ℕ) → i < n → Before (path t i) (path t n)) → j < t .count → (i : ℕ) → i < j → Before (path t i) (path t j)
+      go : (j : ℕ) → ((n : ℕ) → n < j → n < t .count → (i : ℕ) → i < n → Before (path t i) (path t n)) → j < t .count → (i : ℕ) → i < j
+          → Before (path t i) (path t j)
       go zero ih q i l = absurd (omega arith)
       go (suc j) ih q i l =
           let o = v .older (suc j) (omega arith) q in
@@ -355,7 +365,8 @@ module _ {S E : Type 0} (start : Option S) (move : S → Branch → BranchResult
   root-till (q ▹ b) = inr (inl (omega arith))
 
   -- a state whose move was performed up to turn n has a path that is no later
-  path-till : (k j : ℕ) (b : Branch) → k < t .count → j < t .count → (k ≡ 0) ⊎ (turn (t .parent k) (t .branch k) ≤ turn j b) → AtOrBefore (path t k) (path t j ▹ b)
+  path-till : (k j : ℕ) (b : Branch) → k < t .count → j < t .count → (k ≡ 0) ⊎ (turn (t .parent k) (t .branch k) ≤ turn j b)
+      → AtOrBefore (path t k) (path t j ▹ b)
   path-till zero j b p q u = root-till (path t j ▹ b)
   path-till (suc k) j b p q (inl u) = absurd (omega arith)
   path-till (suc k) j b p q (inr u) =
@@ -450,7 +461,8 @@ module _ {S E : Type 0} (start : Option S) (move : S → Branch → BranchResult
     event-first e m = record {
       happens = ap (λ r. onto start move r b) (path-leads start move t (turn i b) v i l) ∙ m;
       least = λ q f g. let x = event-todo start move t (turn i b) v q f g in
-          till-join (path t i ▹ b) (path t (x .state) ▹ x .branch) q (move-till start move t (turn i b) v i (x .state) b (x .branch) (x .listed) (x .later)) (x .till);
+          till-join (path t i ▹ b) (path t (x .state) ▹ x .branch) q (move-till start move t (turn i b) v i (x .state) b (x .branch) (x .listed) (x .later))
+          (x .till);
     }
 
     pub event-lists : (e : E) → move (t .state i) b ≡ event e → Lists Before (Leads start move) (LeadAlike start move) (Meets start move) (path t) (t .count)
@@ -464,7 +476,8 @@ module _ {S E : Type 0} (start : Option S) (move : S → Branch → BranchResult
             → (j : ℕ) × (j < t .count) × (t .state j ≡ s) × AtOrBefore (path t j) q
         go q s c (inl x) = x
         go q s c (inr x) = absurd (till-not (path t i ▹ b) q
-            (till-join (path t i ▹ b) (path t (x .state) ▹ x .branch) q (move-till start move t (turn i b) v i (x .state) b (x .branch) (x .listed) (x .later)) (x .till))
+            (till-join (path t i ▹ b) (path t (x .state) ▹ x .branch) q (move-till start move t (turn i b) v i (x .state) b (x .branch) (x .listed) (x .later))
+            (x .till))
             (c .early (path t i ▹ b) (e, event-first e m .happens)))
 
 -- ── a listing with one state more ──
@@ -508,7 +521,8 @@ extends t s i b = record {
 }
 
 module _ {S E : Type 0} (start : Option S) (move : S → Branch → BranchResult S E) where
-  pub listed-more : (t : Listing S) (d n : ℕ) → Searching start move t d → n < t .count → More Before (Leads start move) (LeadAlike start move) (Meets start move) n
+  pub listed-more : (t : Listing S) (d n : ℕ) → Searching start move t d → n < t .count
+      → More Before (Leads start move) (LeadAlike start move) (Meets start move) n
   listed-more t d n v l = record {
     sample = path t;
     counted = λ i m. path-counted start move t d v i (omega arith);
@@ -522,4 +536,5 @@ module _ {S E : Type 0} (start : Option S) (move : S → Branch → BranchResult
   pub new-more : (t : Listing S) (i : ℕ) (b : Branch) (s : S) → Searching start move t (turn i b) → i < t .count → move (t .state i) b ≡ next s
       → ((j : ℕ) → j < t .count → t .state j ≢ s) → More Before (Leads start move) (LeadAlike start move) (Meets start move) (t .count)
   unfolding extend
-  new-more t i b s v l m n = listed-more (extend t s i b) (suc (turn i b)) (t .count) (grows start move t i b s (extend t s i b) v l m n (extends t s i b)) (omega arith)
+  new-more t i b s v l m n = listed-more (extend t s i b) (suc (turn i b)) (t .count) (grows start move t i b s (extend t s i b) v l m n (extends t s i b))
+      (omega arith)

@@ -30,11 +30,14 @@ use Rattle.verdict_theory.specs.Verdict
 pub record MonitorLaws (h : Header) (start : Trace) (W : Type 0) (Tracks : State → W → Type 0)
     (fresh : W) (perform : W → Letter → Option W) (infeasible : W → Bool) : Type 0 where
   pub begins : Tracks (state start) fresh
-  pub goes : (ρ : Trace) (a : Letter) (w v : W) → FormedUnder h (ρ ▸ a) → Coherent ρ → Tracks (state ρ) w → perform w a ≡ some v → CoherentLetter (state ρ) a × Tracks (state (ρ ▸ a)) v
+  pub goes : (ρ : Trace) (a : Letter) (w v : W) → FormedUnder h (ρ ▸ a) → Coherent ρ → Tracks (state ρ) w → perform w a ≡ some v
+      → CoherentLetter (state ρ) a × Tracks (state (ρ ▸ a)) v
   pub stops : (ρ : Trace) (a : Letter) (w : W) → FormedUnder h (ρ ▸ a) → Coherent ρ → Tracks (state ρ) w → perform w a ≡ none → ¬ CoherentLetter (state ρ) a
   -- equal windows are the same
-  pub alike : (ρ π : Trace) (w : W) → FormedUnder h ρ → FormedUnder h π → Coherent ρ → Coherent π → Tracks (state ρ) w → Tracks (state π) w → SameWindow (state ρ) (state π)
-  pub equal : (ρ π : Trace) (w v : W) → FormedUnder h ρ → FormedUnder h π → Coherent ρ → Coherent π → Tracks (state ρ) w → Tracks (state π) v → SameWindow (state ρ) (state π) → w ≡ v
+  pub alike : (ρ π : Trace) (w : W) → FormedUnder h ρ → FormedUnder h π → Coherent ρ → Coherent π → Tracks (state ρ) w → Tracks (state π) w
+      → SameWindow (state ρ) (state π)
+  pub equal : (ρ π : Trace) (w v : W) → FormedUnder h ρ → FormedUnder h π → Coherent ρ → Coherent π → Tracks (state ρ) w → Tracks (state π) v
+      → SameWindow (state ρ) (state π) → w ≡ v
   pub tells-infeasible : (ρ : Trace) (w : W) → FormedUnder h ρ → Coherent ρ → Tracks (state ρ) w → infeasible w ≡ true → ¬ Feasible (state ρ)
   pub tells-feasible : (ρ : Trace) (w : W) → FormedUnder h ρ → Coherent ρ → Tracks (state ρ) w → infeasible w ≡ false → Feasible (state ρ)
 
@@ -111,7 +114,8 @@ module _ (x : Setting) where
   formed-at : (p : Path) (l : Place ℕ) (ρ : Trace) → walks p ≡ stand l ρ → FormedUnder (x .header) ρ
   formed-at p l ρ e = run-formed (x .header) (x .start) (x .body) (x .formed) (x .proper) p l ρ e
 
-  view-reach : (p : Path) (k : ℕ) (ρ : Trace) (w : x .Window) → Coherent ρ → x .Tracks (state ρ) w → View p (stand (at k) ρ) (reach (x .perform) (x .infeasible) (sizeBlock (x .body)) k w)
+  view-reach : (p : Path) (k : ℕ) (ρ : Trace) (w : x .Window) → Coherent ρ → x .Tracks (state ρ) w
+      → View p (stand (at k) ρ) (reach (x .perform) (x .infeasible) (sizeBlock (x .body)) k w)
   view-reach p k ρ w c t = go (ltb k (sizeBlock (x .body))) refl
     where
       go : (b : Bool) → ltb k (sizeBlock (x .body)) ≡ b → View p (stand (at k) ρ) (elim b [ true ↦ next (k, w) | false ↦ stop ])
@@ -139,7 +143,8 @@ module _ (x : Setting) where
 
   -- a move at a pair
   view-move : (p : Path) (b : Branch) (k : ℕ) (ρ : Trace) (w : x .Window) → walks p ≡ stand (at k) ρ → Coherent ρ → x .Tracks (state ρ) w
-      → View (p ▹ b) (take-move ρ (moves-at (points (x .body)) k b)) (moving (x .perform) (x .infeasible) (sizeBlock (x .body)) w (moves-at (points (x .body)) k b))
+      → View (p ▹ b) (take-move ρ (moves-at (points (x .body)) k b))
+      (moving (x .perform) (x .infeasible) (sizeBlock (x .body)) w (moves-at (points (x .body)) k b))
   view-move p b k ρ w e c t = go (moves-at (points (x .body)) k b) refl
     where
       done : (a : Letter) (l : Place ℕ) → FormedUnder (x .header) (ρ ▸ a) → (o : Option (x .Window)) → x .perform w a ≡ o
@@ -151,7 +156,8 @@ module _ (x : Setting) where
 
       go : (y : Move ℕ) → moves-at (points (x .body)) k b ≡ y → View (p ▹ b) (take-move ρ y) (moving (x .perform) (x .infeasible) (sizeBlock (x .body)) w y)
       go no-move u = off
-      go (move a l) u = done a l (formed-at (p ▹ b) l (ρ ▸ a) (ap (λ z. takeBranch (moves-at (points (x .body))) z b) e ∙ ap (take-move ρ) u)) (x .perform w a) refl
+      go (move a l) u = done a l (formed-at (p ▹ b) l (ρ ▸ a) (ap (λ z. takeBranch (moves-at (points (x .body))) z b) e ∙ ap (take-move ρ) u))
+          (x .perform w a) refl
 
   view-step : (p : Path) (b : Branch) {z : Stand ℕ} {r : Step (x .Window)} → walks p ≡ z → leads p ≡ r → View p z r
       → View (p ▹ b) (takeBranch (moves-at (points (x .body))) z b) (onto starting stepping r b)
@@ -227,7 +233,8 @@ module _ (x : Setting) where
         other = z .trace;
         stands = y .stands;
         other-stands = z .stands;
-        windows = x .monitor .alike (y .trace) (z .trace) (s .1) (formed-at p (at (s .0)) (y .trace) (y .stands)) (formed-at q (at (s .0)) (z .trace) (z .stands))
+        windows = x .monitor .alike (y .trace) (z .trace) (s .1) (formed-at p (at (s .0)) (y .trace) (y .stands))
+            (formed-at q (at (s .0)) (z .trace) (z .stands))
             (y .coherent) (z .coherent) (y .tracks) (z .tracks);
       }
 
@@ -250,10 +257,12 @@ module _ (x : Setting) where
       second-trace = let b = z .stands in let d = g .other-stands in cc
 
       windows : SameWindow (state (y .trace)) (state (z .trace))
-      windows = subst (λ π. SameWindow (state (y .trace)) (state π)) second-trace (subst (λ ρ. SameWindow (state ρ) (state (g .other))) first-trace (g .windows))
+      windows = subst (λ π. SameWindow (state (y .trace)) (state π)) second-trace
+          (subst (λ ρ. SameWindow (state ρ) (state (g .other))) first-trace (g .windows))
 
       windows-same : s .1 ≡ t .1
-      windows-same = x .monitor .equal (y .trace) (z .trace) (s .1) (t .1) (formed-at p (at (s .0)) (y .trace) (y .stands)) (formed-at q (at (t .0)) (z .trace) (z .stands))
+      windows-same = x .monitor .equal (y .trace) (z .trace) (s .1) (t .1) (formed-at p (at (s .0)) (y .trace) (y .stands))
+          (formed-at q (at (t .0)) (z .trace) (z .stands))
           (y .coherent) (z .coherent) (y .tracks) (z .tracks) windows
 
   -- ── and meets the first events ──

@@ -23,12 +23,14 @@ use Rattle.macros.proofs.Theory.Fitting.{FormedUnder, run-formed}
 use Rattle.grammar.specs.Grammar.{Macro, headerOf}
 use Rattle.refusals.specs.Accepted.{Accepted}
 use Rattle.verdict_theory.proofs.Theory.Counting.{same-lists, same-more}
-use Rattle.verdict_theory.specs.Verdict.{VerdictAnswer, pass, full, Kind, Event, breaks, fails, FirstEvent, EventAt, Leaves, SamePair, PairCount, PairsPass, Shows, IsVerdict}
+use Rattle.verdict_theory.specs.Verdict.{VerdictAnswer, pass, full, Kind, Event, breaks, fails, FirstEvent, EventAt, Leaves, SamePair, PairCount}
+use Rattle.verdict_theory.specs.Verdict.{PairsPass, Shows, IsVerdict}
 use Rattle.verdict_theory.specs.Demand3.{pairsIn, Demand3}
 
 -- ── two readings that have the same events ──
 module _ {ℓ κ} (Possible : State → Type ℓ) (Possible′ : State → Type κ) (start : Trace) (m : Block)
-    (there : (ρ : Trace) → Event Possible start m ρ → Event Possible′ start m ρ) (back : (ρ : Trace) → Event Possible′ start m ρ → Event Possible start m ρ) where
+    (there : (ρ : Trace) → Event Possible start m ρ → Event Possible′ start m ρ)
+    (back : (ρ : Trace) → Event Possible′ start m ρ → Event Possible start m ρ) where
   same-first-event : (ρ : Trace) → FirstEvent Possible start m ρ → FirstEvent Possible′ start m ρ
   same-first-event ρ x = record { event = there ρ (x .event); least = λ π y. x .least π (back π y) }
 
@@ -46,7 +48,8 @@ module _ {ℓ κ} (Possible : State → Type ℓ) (Possible′ : State → Type 
   )
 
   same-pass : (n : ℕ) → PairsPass Possible start m n → PairsPass Possible′ start m n
-  same-pass = same-more Before before-join (Leaves start m) (Leaves start m) (SamePair start m) (SamePair start m) (EventAt Possible start m) (EventAt Possible′ start m)
+  same-pass = same-more Before before-join (Leaves start m) (Leaves start m) (SamePair start m) (SamePair start m) (EventAt Possible start m)
+      (EventAt Possible′ start m)
       (λ p l. l) (λ p l. l) (λ p q i j s. s) (λ p q i j s. s) there-at back-at
 
 -- ── two readings that agree on the failing executions of a macro ──

@@ -18,7 +18,8 @@ use Rattle.verdict_theory.proofs.Theory.Unique.{one-answer}
 -- Whatever is taken to be possible: `Feasible` and `FeasibleInSomeModel` alike.
 module _ {ℓ} (Possible : State → Type ℓ) (text table output : List ℕ) where
   -- There is one answer at most, with one table and one output.
-  pub one-way : (a b : VerdictAnswer) (table′ table″ output′ output″ : List ℕ) → Demand3 Possible text table output a table′ output′ → Demand3 Possible text table output b table″ output″
+  pub one-way : (a b : VerdictAnswer) (table′ table″ output′ output″ : List ℕ) → Demand3 Possible text table output a table′ output′
+      → Demand3 Possible text table output b table″ output″
       → (a ≡ b) × (table′ ≡ table″) × (output′ ≡ output″)
   one-way a b t u o p x y = let (r, k) = an-acceptance text in go r k
     where
@@ -43,7 +44,8 @@ module _ {ℓ} (Possible : State → Type ℓ) (text table output : List ℕ) wh
 
   -- A text that is accepted as a macro, with a verdict on it.
   pub read-way : (m : Macro) → Accepted text m → (a : VerdictAnswer) (o : List ℕ)
-      → IsVerdict Possible (begin (headerOf m)) (m .body) firstEdition (pairsIn firstEdition table) output a o → Demand3 Possible text table output a (replicate (length table) 0) o
+      → IsVerdict Possible (begin (headerOf m)) (m .body) firstEdition (pairsIn firstEdition table) output a o
+      → Demand3 Possible text table output a (replicate (length table) 0) o
   read-way m r a o w = record {
     unread = λ k l s. absurd (never-both text r s);
     verdict = λ k s.
@@ -57,6 +59,7 @@ module _ {ℓ} (Possible : State → Type ℓ) (text table output : List ℕ) wh
       → (a : VerdictAnswer) × (table′ : List ℕ) × (output′ : List ℕ) × Demand3 Possible text table output a table′ output′
   a-way v = let (r, k) = an-acceptance text in go r k
     where
-      go : (r : Acceptance) → Becomes text r → (a : VerdictAnswer) × (table′ : List ℕ) × (output′ : List ℕ) × Demand3 Possible text table output a table′ output′
+      go : (r : Acceptance) → Becomes text r
+          → (a : VerdictAnswer) × (table′ : List ℕ) × (output′ : List ℕ) × Demand3 Possible text table output a table′ output′
       go (acceptance.refused n q) r = (refused n q, table, output, refused-way n q r)
       go (Acceptance.accepted m) r = let (a, o, w) = v m r in (a, replicate (length table) 0, o, read-way m r a o w)

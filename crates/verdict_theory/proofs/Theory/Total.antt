@@ -16,7 +16,8 @@ use Rattle.macros.proofs.Theory.Walk.{walk-begins}
 use Rattle.macros.specs.Points.{points, entrance, moves-at, run}
 use Rattle.verdict_theory.specs.Count.{More}
 use Rattle.verdict_theory.proofs.Theory.System.{stop, event, next, Leads, LeadAlike, Meets}
-use Rattle.verdict_theory.proofs.Theory.Listing.{Listing, turn, turn-above, turn-from, turn-next, path, Searching, extend as extend-listing, extends, begins-none, begins-one, passes, meets, grows, event-first, listed-more, new-more}
+use Rattle.verdict_theory.proofs.Theory.Listing.{Listing, turn, turn-above, turn-from, turn-next, path, Searching, extend as extend-listing, extends}
+use Rattle.verdict_theory.proofs.Theory.Listing.{begins-none, begins-one, passes, meets, grows, event-first, listed-more, new-more}
 use Rattle.verdict_theory.proofs.Theory.Since.{since}
 use Rattle.verdict_theory.specs.Verdict.{VerdictAnswer, pass, full, unfit, Kind, breaking, failing, showing, Delivered, IsVerdict}
 use Rattle.verdict_theory.specs.AnswerPacking.{packed}
@@ -35,7 +36,8 @@ find same f s (suc k) = go (find same f s k) (same (f k) s)
 
 -- an answer, or the refusal where it does not fit
 fitted : (bs : List ℕ) (a : VerdictAnswer) (output : List ℕ) → (answer : VerdictAnswer) × (output′ : List ℕ) × Delivered bs a output answer output′
-fitted bs a output = elim (less-or (length output) (length bs)) [ inl l ↦ (unfit, output, inr (l, refl, refl)) | inr l ↦ (a, bs ++ drop (length bs) output, inl (l, refl, refl)) ]
+fitted bs a output = elim (less-or (length output) (length bs))
+    [ inl l ↦ (unfit, output, inr (l, refl, refl)) | inr l ↦ (a, bs ++ drop (length bs) output, inl (l, refl, refl)) ]
 
 module _ (x : Setting) (edition : Edition) (n : ℕ) (output : List ℕ) (same : (s t : Pair x) → Dec (s ≡ t)) where
   abbrev Answered : Type 0
@@ -45,7 +47,8 @@ module _ (x : Setting) (edition : Edition) (n : ℕ) (output : List ℕ) (same :
   met-at breaking p e = let (ρ, l, u, b) = meets-breaking x p e in (ρ, l, u)
   met-at failing p e = let (ρ, u, c, f) = meets-failing x p e in (ρ, failure, u)
 
-  at-event : (t : Listing (Pair x)) (i : ℕ) (b : Branch) → Searching (starting x) (stepping x) t (turn i b) → i < t .count → t .count ≤ n → (kind : Kind) → stepping x (t .state i) b ≡ event kind
+  at-event : (t : Listing (Pair x)) (i : ℕ) (b : Branch) → Searching (starting x) (stepping x) t (turn i b) → i < t .count → t .count ≤ n → (kind : Kind)
+      → stepping x (t .state i) b ≡ event kind
       → Answered
   at-event t i b v l u kind e =
       let (ρ, k, w) = met-at kind (path t i ▹ b) (event-first (starting x) (stepping x) t i b v l kind e .happens) in
@@ -60,13 +63,15 @@ module _ (x : Setting) (edition : Edition) (n : ℕ) (output : List ℕ) (same :
     fits : listing .count ≤ n
     within : d ≤ listing .count + listing .count
 
-  one-move : (t : Listing (Pair x)) (i : ℕ) (b : Branch) → Searching (starting x) (stepping x) t (turn i b) → i < t .count → t .count ≤ n → Answered ⊎ Onward (suc (turn i b))
+  one-move : (t : Listing (Pair x)) (i : ℕ) (b : Branch) → Searching (starting x) (stepping x) t (turn i b) → i < t .count → t .count ≤ n
+      → Answered ⊎ Onward (suc (turn i b))
   one-move t i b v l u = go (stepping x (t .state i) b) refl
     where
       above : turn i b < t .count + t .count
       above = turn-above i (t .count) b l
 
-      new : (s : Pair x) → stepping x (t .state i) b ≡ next s → ((j : ℕ) → j < t .count → t .state j ≢ s) → (t .count < n) ⊎ (n ≤ t .count) → Answered ⊎ Onward (suc (turn i b))
+      new : (s : Pair x) → stepping x (t .state i) b ≡ next s → ((j : ℕ) → j < t .count → t .state j ≢ s) → (t .count < n) ⊎ (n ≤ t .count)
+          → Answered ⊎ Onward (suc (turn i b))
       new s e w (inl f) =
           let y = extends t s i b in
           inr (record {
@@ -81,11 +86,14 @@ module _ (x : Setting) (edition : Edition) (n : ℕ) (output : List ℕ) (same :
             full,
             output,
             answers-full x edition n output
-                (subst (More Before (Leads (starting x) (stepping x)) (LeadAlike (starting x) (stepping x)) (Meets (starting x) (stepping x))) g (new-more (starting x) (stepping x) t i b s v l e w)),
+                (subst (More Before (Leads (starting x) (stepping x)) (LeadAlike (starting x) (stepping x)) (Meets (starting x) (stepping x))) g
+                (new-more (starting x) (stepping x) t i b s v l e w)),
           )
 
-      seen : (s : Pair x) → stepping x (t .state i) b ≡ next s → ((j : ℕ) × (j < t .count) × (t .state j ≡ s)) ⊎ ((j : ℕ) → j < t .count → t .state j ≢ s) → Answered ⊎ Onward (suc (turn i b))
-      seen s e (inl (j, k, f)) = inr (record { listing = t; searching = meets (starting x) (stepping x) t i b s j v e k f; fits = u; within = omega (arith, above) })
+      seen : (s : Pair x) → stepping x (t .state i) b ≡ next s → ((j : ℕ) × (j < t .count) × (t .state j ≡ s)) ⊎ ((j : ℕ) → j < t .count → t .state j ≢ s)
+          → Answered ⊎ Onward (suc (turn i b))
+      seen s e (inl (j, k, f)) = inr (record
+          { listing = t; searching = meets (starting x) (stepping x) t i b s j v e k f; fits = u; within = omega (arith, above) })
       seen s e (inr w) = new s e w (less-or (t .count) n)
 
       go : (r : Step (x .Window)) → stepping x (t .state i) b ≡ r → Answered ⊎ Onward (suc (turn i b))
@@ -96,10 +104,12 @@ module _ (x : Setting) (edition : Edition) (n : ℕ) (output : List ℕ) (same :
   -- the search from move number d on
   search-from : (fuel d : ℕ) → n + n < fuel + d → Onward d → (i : ℕ) (b : Branch) → d ≡ turn i b → Answered
   search-from zero d f y i b e = let w = y .within in let u = y .fits in absurd (omega arith)
-  search-from (suc fuel) d f y i b e = go (λ z. let (j, c, g) = turn-next i b in search-from fuel (suc (turn i b)) (omega arith) z j c g) (less-or i (y .listing .count))
+  search-from (suc fuel) d f y i b e =
+      go (λ z. let (j, c, g) = turn-next i b in search-from fuel (suc (turn i b)) (omega arith) z j c g) (less-or i (y .listing .count))
     where
       go : (Onward (suc (turn i b)) → Answered) → (i < y .listing .count) ⊎ (y .listing .count ≤ i) → Answered
-      go ih (inl l) = elim (one-move (y .listing) i b (subst (Searching (starting x) (stepping x) (y .listing)) e (y .searching)) l (y .fits)) [ inl a ↦ a | inr z ↦ ih z ]
+      go ih (inl l) = elim (one-move (y .listing) i b (subst (Searching (starting x) (stepping x) (y .listing)) e (y .searching)) l (y .fits))
+          [ inl a ↦ a | inr z ↦ ih z ]
       go ih (inr l) =
           let k : y .listing .count + y .listing .count ≤ turn i b = turn-from i (y .listing .count) b l in
           let g : d ≡ y .listing .count + y .listing .count = (let w = y .within in omega arith) in (
@@ -120,7 +130,13 @@ module _ (x : Setting) (edition : Edition) (n : ℕ) (output : List ℕ) (same :
 
       begin-at : (s : Pair x) → starting x ≡ some s → (0 < n) ⊎ (n ≤ 0) → Answered
       begin-at s e (inl l) = search-from (suc (n + n)) 0 (omega arith)
-          (record { listing = one-listed s; searching = begins-one (starting x) (stepping x) (one-listed s) s e refl refl; fits = omega arith; within = omega arith }) 0 first refl
+          (record {
+            listing = one-listed s;
+            searching = begins-one (starting x) (stepping x) (one-listed s) s e refl refl;
+            fits = omega arith;
+            within =
+                omega arith;
+          }) 0 first refl
       begin-at s e (inr l) = (
         full,
         output,
@@ -130,5 +146,6 @@ module _ (x : Setting) (edition : Edition) (n : ℕ) (output : List ℕ) (same :
 
       go : (o : Option (Pair x)) → starting x ≡ o → Answered
       go none e = search-from (suc (n + n)) 0 (omega arith)
-          (record { listing = none-listed; searching = begins-none (starting x) (stepping x) none-listed e refl; fits = omega arith; within = omega arith }) 0 first refl
+          (record { listing = none-listed; searching = begins-none (starting x) (stepping x) none-listed e refl; fits = omega arith; within = omega arith }) 0
+          first refl
       go (some s) e = begin-at s e (less-or 0 n)

@@ -56,7 +56,8 @@ module _ (x : Setting) (t : Listing (Pair x)) (d : ℕ) (v : Searching (starting
   walks p = run (x .start) (x .body) p
 
   -- the execution of pair j has the letters along the parents
-  pub listed-letters : (j : ℕ) → j < t .count → run (x .start) (x .body) (path t j) ≡ stand (at ((t .state j) .0)) (letters-to (x .start) (points (x .body)) t j j)
+  pub listed-letters : (j : ℕ) → j < t .count
+      → run (x .start) (x .body) (path t j) ≡ stand (at ((t .state j) .0)) (letters-to (x .start) (points (x .body)) t j j)
   listed-letters = strong (λ j. j < t .count → walks (path t j) ≡ stand (at ((t .state j) .0)) (shown-to j)) go
     where
       go : (j : ℕ) → ((i : ℕ) → i < j → i < t .count → walks (path t i) ≡ stand (at ((t .state i) .0)) (shown-to i)) → j < t .count
@@ -71,12 +72,15 @@ module _ (x : Setting) (t : Listing (Pair x)) (d : ℕ) (v : Searching (starting
           let y = lead-left x (path t (suc j)) (t .state (suc j)) (path-leads (starting x) (stepping x) t d v (suc j) l) in
           let p = path-parent (starting x) (stepping x) t d v (suc j) (omega arith) l in
           let i = ih (t .parent (suc j)) (omega arith) (omega arith) in
-          let f : take-move (shown-to (t .parent (suc j))) (moves-at (points (x .body)) ((t .state (t .parent (suc j))) .0) (t .branch (suc j))) ≡ stand (at ((t .state (suc j)) .0)) (y .trace)
+          let f : take-move (shown-to (t .parent (suc j))) (moves-at (points (x .body)) ((t .state (t .parent (suc j))) .0) (t .branch (suc j))) ≡ stand
+          (at ((t .state (suc j)) .0)) (y .trace)
           = sym (ap walks p ∙ ap (λ z. takeBranch (moves-at (points (x .body))) z (t .branch (suc j))) i) ∙ y .stands in
-          let g = moved-on (shown-to (t .parent (suc j))) (y .trace) (at ((t .state (suc j)) .0)) (moves-at (points (x .body)) ((t .state (t .parent (suc j))) .0) (t .branch (suc j))) f in
+          let g = moved-on (shown-to (t .parent (suc j))) (y .trace) (at ((t .state (suc j)) .0))
+          (moves-at (points (x .body)) ((t .state (t .parent (suc j))) .0) (t .branch (suc j))) f in
           y .stands ∙ ap (stand (at ((t .state (suc j)) .0)))
           (g ∙ ap (λ ρ. ρ ▸ letter-to (x .start) (points (x .body)) t (suc j))
-          (letters-same (x .start) (points (x .body)) t (t .count) (v .older) (t .parent (suc j)) j (t .parent (suc j)) (omega arith) (omega arith) (omega arith)))
+          (letters-same (x .start) (points (x .body)) t (t .count) (v .older) (t .parent (suc j)) j (t .parent (suc j)) (omega arith) (omega arith)
+          (omega arith)))
 
   -- a move at pair i comes after its letters
   pub move-letters : (i : ℕ) (b : Branch) (a : Letter) (l : Place ℕ) → i < t .count → moves-at (points (x .body)) ((t .state i) .0) b ≡ move a l

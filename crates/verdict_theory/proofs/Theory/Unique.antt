@@ -18,7 +18,8 @@ use Rattle.macros.proofs.Theory.Order.{before-not, before-join}
 use Rattle.macros.proofs.Theory.Runs.{run-once}
 use Rattle.verdict_theory.proofs.Theory.Counting.{one-count}
 use Rattle.verdict_theory.proofs.Theory.Since.{since-once}
-use Rattle.verdict_theory.specs.Verdict.{VerdictAnswer, pass, fail, incoherent, refused, full, IsPass, Kind, breaking, failing, showing, Breaks, Precedes, FirstEvent, EventAt, Leaves, SamePair, PairCount, OfKind, Shows, AnswerBytes, Delivered, IsVerdict}
+use Rattle.verdict_theory.specs.Verdict.{VerdictAnswer, pass, fail, incoherent, refused, full, IsPass, Kind, breaking, failing, showing, Breaks, Precedes}
+use Rattle.verdict_theory.specs.Verdict.{FirstEvent, EventAt, Leaves, SamePair, PairCount, OfKind, Shows, AnswerBytes, Delivered, IsVerdict}
 use Rattle.verdict_theory.specs.AnswerPacking.{packed}
 use Rattle.verdict_theory.proofs.Theory.AnswerPacking.{bytes-are}
 
@@ -27,7 +28,8 @@ module _ (start : Trace) (m : Block) where
   precedes-not ρ π x y =
       let e = run-once start m ρ (x .path) (y .other) (x .takes .0) (y .other-takes .0) (x .takes .1) (y .other-takes .1) in
       let f = run-once start m π (x .other) (y .path) (x .other-takes .0) (y .takes .0) (x .other-takes .1) (y .takes .1) in
-      before-not (x .path) (before-join (x .path) (x .other) (x .path) (x .before) (subst (λ p. Before p (x .path)) (sym f) (subst (Before (y .path)) (sym e) (y .before))))
+      before-not (x .path) (before-join (x .path) (x .other) (x .path) (x .before)
+      (subst (λ p. Before p (x .path)) (sym f) (subst (Before (y .path)) (sym e) (y .before))))
 
 breaks-not : (ρ : Trace) → Breaks ρ → ¬ Coherent ρ
 breaks-not (begin h) x c = x
@@ -67,7 +69,8 @@ module _ {ℓ} (Possible : State → Type ℓ) (start : Trace) (m : Block) where
       packs : AnswerBytes edition start kind word bytes
 
     one-word : (x y : EventAnswered) → x .word ≡ y .word
-    one-word x y = since-once start (x .word) (y .word) (one-event (extend start (x .word)) (extend start (y .word)) (x .shows .first-event) (y .shows .first-event))
+    one-word x y = since-once start (x .word) (y .word)
+        (one-event (extend start (x .word)) (extend start (y .word)) (x .shows .first-event) (y .shows .first-event))
 
     told-kind : (x y : EventAnswered) → x .kind ≡ y .kind
     told-kind x y = one-kind (x .kind) (y .kind) (extend start (y .word))
@@ -92,7 +95,8 @@ module _ {ℓ} (Possible : State → Type ℓ) (start : Trace) (m : Block) where
     told-bytes x y = told-packed x ∙ (λ i. packed edition start (told-kind x y i) (one-word x y i)) ∙ sym (told-packed y)
 
     module _ (n : ℕ) (output : List ℕ) where
-      one-given : (bs cs : List ℕ) (a b c d : VerdictAnswer) (o p : List ℕ) → bs ≡ cs → a ≡ b → Delivered bs a output c o → Delivered cs b output d p → (c ≡ d) × (o ≡ p)
+      one-given : (bs cs : List ℕ) (a b c d : VerdictAnswer) (o p : List ℕ) → bs ≡ cs → a ≡ b → Delivered bs a output c o → Delivered cs b output d p
+          → (c ≡ d) × (o ≡ p)
       one-given bs cs a b c d o p e f (inl (l, u, v)) (inl (k, y, z)) = (u ∙ f ∙ sym y, v ∙ ap (λ l. l ++ drop (length l) output) e ∙ sym z)
       one-given bs cs a b c d o p e f (inl (l, u, v)) (inr (k, y, z)) = let g = ap length e in absurd (omega arith)
       one-given bs cs a b c d o p e f (inr (l, u, v)) (inl (k, y, z)) = let g = ap length e in absurd (omega arith)
@@ -149,7 +153,8 @@ module _ {ℓ} (Possible : State → Type ℓ) (start : Trace) (m : Block) where
           go (inl e) (inr f) = inr (λ g. f (cc))
           go (inr e) f = inr (λ g. e (cc))
 
-      one-refused : (k l : ℕ) (b : VerdictAnswer) (o p : List ℕ) → Right (refused k l) o → Right b p → (refused k l ≡ full) ⊎ (refused k l ≢ full) → (refused k l ≡ b) × (o ≡ p)
+      one-refused : (k l : ℕ) (b : VerdictAnswer) (o p : List ℕ) → Right (refused k l) o → Right b p → (refused k l ≡ full) ⊎ (refused k l ≢ full)
+          → (refused k l ≡ b) × (o ≡ p)
       one-refused k l b o p x y (inr u) = shown-same (refused k l) b o p x y u (λ w. w)
       one-refused k l b o p x y (inl e) =
           let (f, g) = full-same b o p (subst (λ a. Right a o) e x) y in

@@ -61,7 +61,8 @@ module _ (ρ φ : ℕ) where
   forgotten-length x l = cleared-length (columns ρ) x (bitsMoved 0 (2 ^ x) l) ∙ moved-length 0 (2 ^ x) l
 
   -- a table of masks: x has the empty mask and is in no other
-  pub forgotten-is : (x : ℕ) (l : List ℕ) (j r s : ℕ) → r < ρ → ρ * j + r < length l → T (has (getD (masksForgotten ρ x l) (ρ * j + r) 0) s) ↔ ((r ≢ x) × T (has (getD l (ρ * j + r) 0) s) × (s ≢ x))
+  pub forgotten-is : (x : ℕ) (l : List ℕ) (j r s : ℕ) → r < ρ → ρ * j + r < length l
+      → T (has (getD (masksForgotten ρ x l) (ρ * j + r) 0) s) ↔ ((r ≢ x) × T (has (getD l (ρ * j + r) 0) s) × (s ≢ x))
   unfolding masksForgotten clearedAt
   forgotten-is x l j r s rb h =
       let B = bitsMoved 0 (2 ^ x) l in
@@ -70,12 +71,15 @@ module _ (ρ φ : ℕ) where
       ⊎-elim
       (λ p. let z : getD (cleared (columns ρ) x B) (ρ * j + r) 0 ≡ 0 = e ∙ rw (eq-eqb ((ρ * j + r) % ρ) x (k ∙ p)) in
       ((λ t. absurd (none-in s (subst (λ m. T (has m s)) z t))), (λ (n, _, _). absurd (n p))))
-      (λ p. let z : getD (cleared (columns ρ) x B) (ρ * j + r) 0 ≡ maskMoved (getD l (ρ * j + r) 0) 0 (2 ^ x) = e ∙ rw (ne-eqb ((ρ * j + r) % ρ) x (λ q. p (sym k ∙ q))) (moved-at 0 (2 ^ x) l (ρ * j + r) h) in
+      (λ p. let z : getD (cleared (columns ρ) x B) (ρ * j + r) 0 ≡ maskMoved (getD l (ρ * j + r) 0) 0 (2 ^ x) =
+      e ∙ rw (ne-eqb ((ρ * j + r) % ρ) x (λ q. p (sym k ∙ q))) (moved-at 0 (2 ^ x) l (ρ * j + r) h) in
       Iff·trans (same-iff (ap (λ m. has m s) z)) (Iff·trans (gone-is (getD l (ρ * j + r) 0) x s) ((λ (t, n). (p, t, n)), (λ (_, t, n). (t, n)))))
       (eq-or r x)
 
-  pub row-forgotten : (x : ℕ) (l : List ℕ) (r s : ℕ) → length l ≡ ρ → r < ρ → T (has (getD (masksForgotten ρ x l) r 0) s) ↔ ((r ≢ x) × T (has (getD l r 0) s) × (s ≢ x))
-  row-forgotten x l r s e rb = subst (λ k. T (has (getD (masksForgotten ρ x l) k 0) s) ↔ ((r ≢ x) × T (has (getD l k 0) s) × (s ≢ x))) (omega arith) (forgotten-is x l 0 r s rb (omega arith))
+  pub row-forgotten : (x : ℕ) (l : List ℕ) (r s : ℕ) → length l ≡ ρ → r < ρ
+      → T (has (getD (masksForgotten ρ x l) r 0) s) ↔ ((r ≢ x) × T (has (getD l r 0) s) × (s ≢ x))
+  row-forgotten x l r s e rb = subst (λ k. T (has (getD (masksForgotten ρ x l) k 0) s) ↔ ((r ≢ x) × T (has (getD l k 0) s) × (s ≢ x))) (omega arith)
+      (forgotten-is x l 0 r s rb (omega arith))
 
   -- the table of results: x is no argument, and holds the new result only
   renewed-is : (x f one two : ℕ) (l : List ℕ) → length l ≡ φ * ρ * ρ → (h a b c : ℕ) → h < φ → a < ρ → b < ρ
@@ -97,12 +101,17 @@ module _ (ρ φ : ℕ) where
       let f2 = second-place ρ h a b ab bb in
       let f0 = function-place ρ h a b ab bb in
       ⊎-elim
-      (λ p. let z : getD (cleared (rows ρ) x C) k 0 ≡ 0 = e1 ∙ rw (eq-eqb (k / ρ % ρ) x (f1 ∙ p)) in ((λ t. absurd (none-in c (subst (λ m. T (has m c)) z t))), (λ (n, _, _). absurd (n p))))
+      (λ p. let z : getD (cleared (rows ρ) x C) k 0 ≡ 0 = e1 ∙ rw (eq-eqb (k / ρ % ρ) x (f1 ∙ p)) in
+      ((λ t. absurd (none-in c (subst (λ m. T (has m c)) z t))), (λ (n, _, _). absurd (n p))))
       (λ p. ⊎-elim
-      (λ q. let z : getD (cleared (rows ρ) x C) k 0 ≡ 0 = e1 ∙ rw (ne-eqb (k / ρ % ρ) x (λ u. p (sym f1 ∙ u))) (e2 ∙ rw (eq-eqb (k % ρ) x (f2 ∙ q))) in ((λ t. absurd (none-in c (subst (λ m. T (has m c)) z t))), (λ (_, n, _). absurd (n q))))
+      (λ q. let z : getD (cleared (rows ρ) x C) k 0 ≡ 0 = e1 ∙ rw (ne-eqb (k / ρ % ρ) x (λ u. p (sym f1 ∙ u))) (e2 ∙ rw (eq-eqb (k % ρ) x (f2 ∙ q))) in
+      ((λ t. absurd (none-in c (subst (λ m. T (has m c)) z t))), (λ (_, n, _). absurd (n q))))
       (λ q. let z : getD (cleared (rows ρ) x C) k 0 ≡ bitOr (maskMoved (getD l k 0) 0 (2 ^ x)) (cond ((eqb h f && has one a) && has two b) (2 ^ x) 0) =
-      e1 ∙ rw (ne-eqb (k / ρ % ρ) x (λ u. p (sym f1 ∙ u))) (e2 ∙ rw (ne-eqb (k % ρ) x (λ u. q (sym f2 ∙ u))) (added-at ρ (has one) f two (2 ^ x) B k lB ∙ ap₂ bitOr (moved-at 0 (2 ^ x) l k lk) (rw (f0, f1, f2)))) in
-      Iff·trans (same-iff (ap (λ m. has m c) z)) (Iff·trans (or-is (maskMoved (getD l k 0) 0 (2 ^ x)) (cond ((eqb h f && has one a) && has two b) (2 ^ x) 0) c) (
+      e1 ∙ rw (ne-eqb (k / ρ % ρ) x (λ u. p (sym f1 ∙ u)))
+      (e2 ∙ rw (ne-eqb (k % ρ) x (λ u. q (sym f2 ∙ u)))
+      (added-at ρ (has one) f two (2 ^ x) B k lB ∙ ap₂ bitOr (moved-at 0 (2 ^ x) l k lk) (rw (f0, f1, f2)))) in
+      Iff·trans (same-iff (ap (λ m. has m c) z))
+      (Iff·trans (or-is (maskMoved (getD l k 0) 0 (2 ^ x)) (cond ((eqb h f && has one a) && has two b) (2 ^ x) 0) c) (
         (λ t. (p, q, ⊎-elim (λ u. inl (gone-is (getD l k 0) x c .0 u)) (λ u. inr (fresh (eqb h f) (has one a) (has two b) .0 u)) t)),
         (λ (_, _, t). ⊎-elim (λ u. inl (gone-is (getD l k 0) x c .1 u)) (λ u. inr (fresh (eqb h f) (has one a) (has two b) .1 u)) t),
       )))
@@ -115,7 +124,8 @@ module _ (ρ φ : ℕ) where
       fresh true false w = ((λ t. absurd (none-in c t)), (λ (_, t). absurd t))
       fresh false v w = ((λ t. absurd (none-in c t)), (λ (_, t). absurd t))
 
-  module _ (w : Window) (sh : Shaped ρ φ w) (n : ℕ) (g : Laws n (view ρ φ w)) (i : Inside ρ n (view ρ φ w)) (x f y z : ℕ) (xb : x < n) (fb : f < φ) (yb : y < n) (zb : z < n) where
+  module _ (w : Window) (sh : Shaped ρ φ w) (n : ℕ) (g : Laws n (view ρ φ w)) (i : Inside ρ n (view ρ φ w)) (x f y z : ℕ) (xb : x < n) (fb : f < φ) (yb : y < n)
+      (zb : z < n) where
     abbrev w′ : Window
     w′ = appliedOf ρ φ w x f y z
 
@@ -134,11 +144,13 @@ module _ (ρ φ : ℕ) where
     class-here : (r s : ℕ) → r ≡ x → T (view ρ φ w′ .same r s) ↔ (s ≡ x)
     unfolding appliedOf
     class-here r s e = subst (λ k. T (has (getD (set (masksForgotten ρ x (w .class)) x (2 ^ x)) k 0) s) ↔ (s ≡ x)) (sym e)
-        (Iff·trans (same-iff (ap (λ m. has m s) (getD-set-same (masksForgotten ρ x (w .class)) x (2 ^ x) 0 (rw (forgotten-length x (w .class) ∙ sh .class) (low x xb))))) (single-is x s))
+        (Iff·trans (same-iff (ap (λ m. has m s)
+        (getD-set-same (masksForgotten ρ x (w .class)) x (2 ^ x) 0 (rw (forgotten-length x (w .class) ∙ sh .class) (low x xb))))) (single-is x s))
 
     class-there : (r s : ℕ) → r < ρ → r ≢ x → T (view ρ φ w′ .same r s) ↔ (T (view ρ φ w .same r s) × (s ≢ x))
     unfolding appliedOf
-    class-there r s rb d = Iff·trans (same-iff (ap (λ m. has m s) (getD-set-other (masksForgotten ρ x (w .class)) x r (2 ^ x) 0 d))) (Iff·trans (row-forgotten x (w .class) r s (sh .class) rb) ((λ (_, t, q). (t, q)), (λ (t, q). (d, t, q))))
+    class-there r s rb d = Iff·trans (same-iff (ap (λ m. has m s) (getD-set-other (masksForgotten ρ x (w .class)) x r (2 ^ x) 0 d)))
+        (Iff·trans (row-forgotten x (w .class) r s (sh .class) rb) ((λ (_, t, q). (t, q)), (λ (t, q). (d, t, q))))
 
     unequal-is : (r s : ℕ) → r < ρ → T (view ρ φ w′ .apart r s) ↔ ((r ≢ x) × T (view ρ φ w .apart r s) × (s ≢ x))
     unfolding appliedOf
@@ -163,10 +175,12 @@ module _ (ρ φ : ℕ) where
     new-below h a b t = let p = eqb→eq h f (and-l (eqb h f) (view ρ φ w .same y a && view ρ φ w .same z b) t) in lt→ltb h φ (omega arith)
 
     module _ (h a b c : ℕ) (ab : a < ρ) (bb : b < ρ) where
-      result-is : T (view ρ φ w′ .result h a b c) ↔ (T (ltb h φ) × (a ≢ x) × (b ≢ x) × ((T (has (getD (w .result) (place ρ h a b) 0) c) × (c ≢ x)) ⊎ ((c ≡ x) × T (new h a b))))
+      result-is : T (view ρ φ w′ .result h a b c)
+          ↔ (T (ltb h φ) × (a ≢ x) × (b ≢ x) × ((T (has (getD (w .result) (place ρ h a b) 0) c) × (c ≢ x)) ⊎ ((c ≡ x) × T (new h a b))))
       unfolding appliedOf
       result-is = byTest (ltb h φ)
-          (λ u. rw u (Iff·trans (renewed-is x f one two (w .result) (sh .result) h a b c (ltb→lt h φ (truth (ltb h φ) u)) ab bb) ((λ (p, q, t). (tt, p, q, t)), (λ (_, p, q, t). (p, q, t)))))
+          (λ u. rw u (Iff·trans (renewed-is x f one two (w .result) (sh .result) h a b c (ltb→lt h φ (truth (ltb h φ) u)) ab bb)
+          ((λ (p, q, t). (tt, p, q, t)), (λ (_, p, q, t). (p, q, t)))))
           (λ u. rw u ((λ k. absurd k), (λ (k, _, _, _). k)))
 
       result-go : {p q o : ℕ} → GrownRegister x a p → GrownRegister x b q → GrownRegister x c o → T (view ρ φ w′ .result h a b c) ↔ T (W .result h p q o)
@@ -177,8 +191,15 @@ module _ (ρ φ : ℕ) where
         (λ t. result-is .1 (new-below h a b t, k, l, inr (m, t))),
       )
       result-go (there k) (there l) (there m) = (
-        (λ t. let (u, _, _, v) = result-is .0 t in and-i (ltb h φ) (has (getD (w .result) (place ρ h a b) 0) c) u (⊎-elim (λ (v, _). v) (λ (d, _). absurd (m d)) v)),
-        (λ t. result-is .1 (and-l (ltb h φ) (has (getD (w .result) (place ρ h a b) 0) c) t, k, l, inl (and-r (ltb h φ) (has (getD (w .result) (place ρ h a b) 0) c) t, m))),
+        (λ t. let (u, _, _, v) = result-is .0 t in
+            and-i (ltb h φ) (has (getD (w .result) (place ρ h a b) 0) c) u (⊎-elim (λ (v, _). v) (λ (d, _). absurd (m d)) v)),
+        (λ t. result-is .1 (
+          and-l (ltb h φ) (has (getD (w .result) (place ρ h a b) 0) c) t,
+          k,
+          l,
+          inl
+              (and-r (ltb h φ) (has (getD (w .result) (place ρ h a b) 0) c) t, m),
+        )),
       )
 
       ever-is : T (view ρ φ w′ .ever h a b) ↔ (T (ltb h φ) × (a ≢ x) × (b ≢ x) × (T (has (getD (w .ever) (ρ * h + a) 0) b) ⊎ T (new h a b)))
@@ -198,7 +219,8 @@ module _ (ρ φ : ℕ) where
           part true false = ((λ t. absurd (none-in b t)), (λ t. absurd t))
           part false v = ((λ t. absurd (none-in b t)), (λ t. absurd t))
 
-          added : {m : ℕ} → m ≡ bitOr (getD (w .ever) (ρ * h + a) 0) (cond (eqb ((ρ * h + a) / ρ) f && has one ((ρ * h + a) % ρ)) two 0) → T (has m b) ↔ (T (has (getD (w .ever) (ρ * h + a) 0) b) ⊎ T (new h a b))
+          added : {m : ℕ} → m ≡ bitOr (getD (w .ever) (ρ * h + a) 0) (cond (eqb ((ρ * h + a) / ρ) f && has one ((ρ * h + a) % ρ)) two 0)
+              → T (has m b) ↔ (T (has (getD (w .ever) (ρ * h + a) 0) b) ⊎ T (new h a b))
           added e =
               let p = line-entry ρ h a ab in
               let q = along-entry ρ h a ab in
@@ -213,8 +235,10 @@ module _ (ρ φ : ℕ) where
       ever-go (there k) (here l) = ((λ t. absurd (ever-is .0 t .2 l)), (λ t. absurd t))
       ever-go (there k) (there l) =
           let old = has (getD (w .ever) (ρ * h + a) 0) b in (
-            (λ t. let (u, _, _, v) = ever-is .0 t in ⊎-elim (λ v. or-l (ltb h φ && old) (new h a b) (and-i (ltb h φ) old u v)) (λ v. or-r (ltb h φ && old) (new h a b) v) v),
-            (λ t. ⊎-elim (λ v. ever-is .1 (and-l (ltb h φ) old v, k, l, inl (and-r (ltb h φ) old v))) (λ v. ever-is .1 (new-below h a b v, k, l, inr v)) (or-e (ltb h φ && old) (new h a b) t)),
+            (λ t. let (u, _, _, v) = ever-is .0 t in
+                ⊎-elim (λ v. or-l (ltb h φ && old) (new h a b) (and-i (ltb h φ) old u v)) (λ v. or-r (ltb h φ && old) (new h a b) v) v),
+            (λ t. ⊎-elim (λ v. ever-is .1 (and-l (ltb h φ) old v, k, l, inl (and-r (ltb h φ) old v))) (λ v. ever-is .1 (new-below h a b v, k, l, inr v))
+                (or-e (ltb h φ && old) (new h a b) t)),
           )
 
     -- ---- ways of results in the grown window: the new register is above, and nothing is above it
@@ -229,12 +253,14 @@ module _ (ρ φ : ℕ) where
         let sb′ = subst (λ z. z < suc n) v sb in
         go a b c u ab bb cb (omega arith) (over-old o) d m (subst (λ z. T (W .same c z)) v j)
       where
-        go : (a b c u : ℕ) → a < suc n → b < suc n → c < suc n → s < n → ((t : ℕ) → u ≡ suc t → Over′ n (view ρ φ w) q t) → T (W .same u a) ⊎ T (W .same u b) → T (W .result h a b c) → T (W .same c (suc s)) → Over′ n (view ρ φ w) q s
+        go : (a b c u : ℕ) → a < suc n → b < suc n → c < suc n → s < n → ((t : ℕ) → u ≡ suc t → Over′ n (view ρ φ w) q t) → T (W .same u a) ⊎ T (W .same u b)
+            → T (W .result h a b c) → T (W .same c (suc s)) → Over′ n (view ρ φ w) q s
         go zero b c u ab bb cb sb ih d m j = absurd m
         go (suc a) zero c u ab bb cb sb ih d m j = absurd m
         go (suc a) (suc b) zero u ab bb cb sb ih d m j = absurd j
         go (suc a) (suc b) (suc c) zero ab bb cb sb ih d m j = absurd (⊎-elim (λ k. k) (λ k. k) d)
-        go (suc a) (suc b) (suc c) (suc u) ab bb cb sb ih d m j = above′ h {a = a} {b = b} {c = c} (omega arith) (omega arith) (omega arith) sb (ih u refl) d m j
+        go (suc a) (suc b) (suc c) (suc u) ab bb cb sb ih d m j =
+            above′ h {a = a} {b = b} {c = c} (omega arith) (omega arith) (omega arith) sb (ih u refl) d m j
 
     over-zero : {k : ℕ} → Over′ (suc n) W 0 k → k ≡ 0
     over-zero (at′ {s = k} p c) = go k c
@@ -289,10 +315,13 @@ module _ (ρ φ : ℕ) where
     more-is : (r : ℕ) → T (has more r) ↔ (((y ≡ x) ⊎ (z ≡ x)) × (T (view ρ φ w .same y r) ⊎ T (view ρ φ w .same z r)))
     unfolding argumentsOf
     more-is r = byTest (eqb y x || eqb z x)
-        (λ t. rw t (Iff·trans (or-is one two r) ((λ k. (⊎-elim (λ u. inl (eqb→eq y x u)) (λ u. inr (eqb→eq z x u)) (or-e (eqb y x) (eqb z x) (truth (eqb y x || eqb z x) t)), k)), (λ (_, k). k))))
+        (λ t. rw t (Iff·trans (or-is one two r)
+        ((λ k. (⊎-elim (λ u. inl (eqb→eq y x u)) (λ u. inr (eqb→eq z x u)) (or-e (eqb y x) (eqb z x) (truth (eqb y x || eqb z x) t)), k)), (λ (_, k). k))))
         (λ t. rw t (
           (λ k. absurd (none-in r k)),
-          (λ (p, _). absurd (no-truth (eqb y x || eqb z x) t (⊎-elim (λ e. or-l (eqb y x) (eqb z x) (subst (λ k. T (eqb y k)) e (eqb-refl y))) (λ e. or-r (eqb y x) (eqb z x) (subst (λ k. T (eqb z k)) e (eqb-refl z))) p))),
+          (λ (p, _). absurd (no-truth (eqb y x || eqb z x) t
+              (⊎-elim (λ e. or-l (eqb y x) (eqb z x) (subst (λ k. T (eqb y k)) e (eqb-refl y)))
+              (λ e. or-r (eqb y x) (eqb z x) (subst (λ k. T (eqb z k)) e (eqb-refl z))) p))),
         ))
 
     more-small : more < 2 ^ ρ
@@ -307,8 +336,10 @@ module _ (ρ φ : ℕ) where
 
     beneath-low : {q : ℕ} → q < ρ → Beneath ρ φ (w .result) x more q → q < n
     beneath-low {q} qb (extra t) = ⊎-elim (λ k. i .same y q (low y yb) qb k .1) (λ k. i .same z q (low z zb) qb k .1) (more-is q .0 t .1)
-    beneath-low qb (direct k {c} kb cb t d v) = let (ab, bb, cc) = first-below ρ φ w n g i x xb k c kb cb t in ⊎-elim (λ p. subst (λ z. z < n) (sym p) ab) (λ p. subst (λ z. z < n) (sym p) bb) v
-    beneath-low qb (beneath k {c} kb cb t o v) = let (ab, bb, cc) = first-below ρ φ w n g i x xb k c kb cb t in ⊎-elim (λ p. subst (λ z. z < n) (sym p) ab) (λ p. subst (λ z. z < n) (sym p) bb) v
+    beneath-low qb (direct k {c} kb cb t d v) = let (ab, bb, cc) = first-below ρ φ w n g i x xb k c kb cb t in
+        ⊎-elim (λ p. subst (λ z. z < n) (sym p) ab) (λ p. subst (λ z. z < n) (sym p) bb) v
+    beneath-low qb (beneath k {c} kb cb t o v) = let (ab, bb, cc) = first-below ρ φ w n g i x xb k c kb cb t in
+        ⊎-elim (λ p. subst (λ z. z < n) (sym p) ab) (λ p. subst (λ z. z < n) (sym p) bb) v
 
     bared-i : sizeOf ρ (getD (w .class) x 0) ≡ 1 → {q : ℕ} → q < n → Beneath ρ φ (w .result) x more q → Bared′ (suc n) W (target x) n (suc q)
     bared-i one {q} qb (extra t) =
@@ -321,9 +352,11 @@ module _ (ρ φ : ℕ) where
           first-below = suc-le-suc yb;
           second-below = suc-le-suc zb;
           to-below = omega arith;
-          holds = and-i (eqb f f) (view ρ φ w .same y y && view ρ φ w .same z z) (eqb-refl f) (and-i (view ρ φ w .same y y) (view ρ φ w .same z z) (g .self y yb) (g .self z zb));
+          holds = and-i (eqb f f) (view ρ φ w .same y y && view ρ φ w .same z z) (eqb-refl f)
+              (and-i (view ρ φ w .same y y) (view ρ φ w .same z z) (g .self y yb) (g .self z zb));
           over = ⊎-elim (λ k. inl (at′ (suc-le-suc yb) (g .turned y q yb qb k))) (λ k. inr (at′ (suc-le-suc zb) (g .turned z q zb qb k))) h;
-          lost = λ (s, s′, s″). ⊎-elim (λ v. not-still one (subst (λ r. Still′ (suc n) W (target x) n (suc r)) v s′)) (λ v. not-still one (subst (λ r. Still′ (suc n) W (target x) n (suc r)) v s″)) p;
+          lost = λ (s, s′, s″). ⊎-elim (λ v. not-still one (subst (λ r. Still′ (suc n) W (target x) n (suc r)) v s′))
+              (λ v. not-still one (subst (λ r. Still′ (suc n) W (target x) n (suc r)) v s″)) p;
         }
     bared-i one {q} qb (direct k {c} kb cb t h v) =
         let (ab, bb, cc) = first-below ρ φ w n g i x xb k c kb cb t in
@@ -337,10 +370,12 @@ module _ (ρ φ : ℕ) where
           second-below = suc-le-suc bb;
           to-below = suc-le-suc cc;
           holds = cell-result ρ φ w k c kb t;
-          over = ⊎-elim (λ p. inl (at′ (suc-le-suc ab) (subst (λ z. T (view ρ φ w .same q z)) p (g .self q qb)))) (λ p. inr (at′ (suc-le-suc bb) (subst (λ z. T (view ρ φ w .same q z)) p (g .self q qb)))) v;
+          over = ⊎-elim (λ p. inl (at′ (suc-le-suc ab) (subst (λ z. T (view ρ φ w .same q z)) p (g .self q qb))))
+              (λ p. inr (at′ (suc-le-suc bb) (subst (λ z. T (view ρ φ w .same q z)) p (g .self q qb)))) v;
           lost = λ (s, s′, s″). ⊎-elim
               (λ p. bad (subst (λ r. Still′ (suc n) W (target x) n (suc r)) p s′))
-              (⊎-elim (λ p. bad (subst (λ r. Still′ (suc n) W (target x) n (suc r)) p s″)) (λ p. bad (subst (λ r. Still′ (suc n) W (target x) n (suc r)) p s))) h;
+              (⊎-elim (λ p. bad (subst (λ r. Still′ (suc n) W (target x) n (suc r)) p s″)) (λ p. bad (subst (λ r. Still′ (suc n) W (target x) n (suc r)) p s)))
+              h;
         }
     bared-i one {q} qb (beneath k {c} kb cb t o v) =
         let (ab, bb, cc) = first-below ρ φ w n g i x xb k c kb cb t in
@@ -358,34 +393,53 @@ module _ (ρ φ : ℕ) where
           lost = b .lost;
         }
       where
-        over-up : {q s : ℕ} (k c : ℕ) → k < φ * ρ * ρ → c < ρ → T (has (getD (w .result) k 0) c) → q < n → (q ≡ placeFirst ρ k) ⊎ (q ≡ placeSecond ρ k) → placeFirst ρ k < n → placeSecond ρ k < n → c < n
+        over-up : {q s : ℕ} (k c : ℕ) → k < φ * ρ * ρ → c < ρ → T (has (getD (w .result) k 0) c) → q < n → (q ≡ placeFirst ρ k) ⊎ (q ≡ placeSecond ρ k)
+            → placeFirst ρ k < n → placeSecond ρ k < n → c < n
             → Over′ (suc n) W (suc c) s → Over′ (suc n) W (suc q) s
-        over-up {q} k c kb cb t qb v ab bb cc (at′ sb d) = above′ (placeFunction ρ k) {a = suc (placeFirst ρ k)} {b = suc (placeSecond ρ k)} {c = suc c} (suc-le-suc ab) (suc-le-suc bb) (suc-le-suc cc) sb (at′ (suc-le-suc qb) (g .self q qb))
-            (⊎-elim (λ p. inl (subst (λ z. T (view ρ φ w .same q z)) p (g .self q qb))) (λ p. inr (subst (λ z. T (view ρ φ w .same q z)) p (g .self q qb))) v) (cell-result ρ φ w k c kb t) d
+        over-up {q} k c kb cb t qb v ab bb cc (at′ sb d) =
+            above′ (placeFunction ρ k) {a = suc (placeFirst ρ k)} {b = suc (placeSecond ρ k)} {c = suc c} (suc-le-suc ab) (suc-le-suc bb) (suc-le-suc cc) sb
+            (at′ (suc-le-suc qb) (g .self q qb))
+            (⊎-elim (λ p. inl (subst (λ z. T (view ρ φ w .same q z)) p (g .self q qb))) (λ p. inr (subst (λ z. T (view ρ φ w .same q z)) p (g .self q qb))) v)
+            (cell-result ρ φ w k c kb t) d
         over-up k c kb cb t qb v ab bb cc (above′ h ab′ bb′ cb′ sb o d m j) = above′ h ab′ bb′ cb′ sb (over-up k c kb cb t qb v ab bb cc o) d m j
 
     bared-e : (q : ℕ) → q < n → Bared′ (suc n) W (target x) n (suc q) → (x ≡ ρ → ⊥) × (sizeOf ρ (getD (w .class) x 0) ≡ 1) × Beneath ρ φ (w .result) x more q
-    bared-e q qb v = let xl = low x xb in ((λ p. omega arith), one, go (v .function) (v .first) (v .second) (v .to) (v .first-below) (v .second-below) (v .to-below) (v .holds) (v .over) (v .lost))
+    bared-e q qb v = let xl = low x xb in (
+      (λ p. omega arith),
+      one,
+      go (v .function) (v .first) (v .second) (v .to) (v .first-below) (v .second-below) (v .to-below) (v .holds) (v .over)
+          (v .lost),
+    )
       where
         S : ℕ → Type 0
         S r = Still′ (suc n) W (target x) n r
 
         all-still : (j : ℕ) → j < n → j ≢ x → T (view ρ φ w .same x j) → (r : ℕ) → r < suc n → Still′ (suc n) W (target x) n r
         all-still j jb d t zero rb = still-new
-        all-still j jb d t (suc r) rb = ⊎-elim (λ p. subst (λ k. Still′ (suc n) W (target x) n (suc k)) (sym p) (still-by x j jb d t)) (still-other r (omega arith)) (eq-or r x)
+        all-still j jb d t (suc r) rb =
+            ⊎-elim (λ p. subst (λ k. Still′ (suc n) W (target x) n (suc k)) (sym p) (still-by x j jb d t)) (still-other r (omega arith)) (eq-or r x)
 
         one : sizeOf ρ (getD (w .class) x 0) ≡ 1
         one = ⊎-elim (λ p. p)
             (λ p. let (j, jb, d, t) = other ρ (getD (w .class) x 0) x (low x xb) (g .self x xb) p in
             let jn = i .same x j (low x xb) jb t .1 in
-            absurd (v .lost (all-still j jn d t (v .to) (v .to-below), all-still j jn d t (v .first) (v .first-below), all-still j jn d t (v .second) (v .second-below))))
+            absurd (v .lost (
+              all-still j jn d t (v .to) (v .to-below),
+              all-still j jn d t (v .first) (v .first-below),
+              all-still j jn d t (v .second)
+                  (v .second-below),
+            )))
             (eq-or (sizeOf ρ (getD (w .class) x 0)) 1)
 
         down : {s : ℕ} → Over′ (suc n) W (suc q) (suc s) → Beneath ρ φ (w .result) x more s → Beneath ρ φ (w .result) x more q
         down {s} o h = beneath-over ρ φ w n g i x xb one more more-closed qb (over-old o s refl) h
 
-        named : (a b c : ℕ) → a < n → b < n → c < n → ¬ (Still′ (suc n) W (target x) n (suc c) × Still′ (suc n) W (target x) n (suc a) × Still′ (suc n) W (target x) n (suc b)) → (a ≡ x) ⊎ ((b ≡ x) ⊎ (c ≡ x))
-        named a b c ab bb cb l = ⊎-elim inl (λ p. inr (⊎-elim inl (λ r. inr (⊎-elim (λ t. t) (λ t. absurd (l (still-other c cb t, still-other a ab p, still-other b bb r))) (eq-or c x))) (eq-or b x))) (eq-or a x)
+        named : (a b c : ℕ) → a < n → b < n → c < n
+            → ¬ (Still′ (suc n) W (target x) n (suc c) × Still′ (suc n) W (target x) n (suc a) × Still′ (suc n) W (target x) n (suc b))
+            → (a ≡ x) ⊎ ((b ≡ x) ⊎ (c ≡ x))
+        named a b c ab bb cb l = ⊎-elim inl
+            (λ p. inr (⊎-elim inl (λ r. inr (⊎-elim (λ t. t) (λ t. absurd (l (still-other c cb t, still-other a ab p, still-other b bb r))) (eq-or c x)))
+            (eq-or b x))) (eq-or a x)
 
         go : (h a b c : ℕ) → a < suc n → b < suc n → c < suc n → T (W .result h a b c) → Over′ (suc n) W (suc q) a ⊎ Over′ (suc n) W (suc q) b
             → ¬ (Still′ (suc n) W (target x) n c × Still′ (suc n) W (target x) n a × Still′ (suc n) W (target x) n b) → Beneath ρ φ (w .result) x more q
@@ -399,7 +453,8 @@ module _ (ρ φ : ℕ) where
             let p = first-place ρ h a b (low a an) (low b bn) in
             let p′ = second-place ρ h a b (low a an) (low b bn) in
             let d = ⊎-elim (λ u. inl (p ∙ u)) (⊎-elim (λ u. inr (inl (p′ ∙ u))) (λ u. inr (inr u))) (named a b c an bn cn l) in
-            ⊎-elim (λ u. down u (direct (place ρ h a b) k (low c cn) t d (inl (sym p)))) (λ u. down u (direct (place ρ h a b) k (low c cn) t d (inr (sym p′)))) o
+            ⊎-elim (λ u. down u (direct (place ρ h a b) k (low c cn) t d (inl (sym p))))
+            (λ u. down u (direct (place ρ h a b) k (low c cn) t d (inr (sym p′)))) o
         go h (suc a) (suc b) zero ab bb cb m o l =
             let an : a < n = omega arith in
             let bn : b < n = omega arith in
@@ -408,7 +463,8 @@ module _ (ρ φ : ℕ) where
             let sb = and-r (view ρ φ w .same y a) (view ρ φ w .same z b) r in
             let at-y : a ≡ x → y ≡ x = (λ p. only ρ φ w n g i x xb one y yb (subst (λ k. T (view ρ φ w .same k y)) p (g .turned y a yb an sa))) in
             let at-z : b ≡ x → z ≡ x = (λ p. only ρ φ w n g i x xb one z zb (subst (λ k. T (view ρ φ w .same k z)) p (g .turned z b zb bn sb))) in
-            let d : (y ≡ x) ⊎ (z ≡ x) = ⊎-elim (λ p. inl (at-y p)) (λ p. ⊎-elim (λ p′. inr (at-z p′)) (λ p′. absurd (l (still-new, still-other a an p, still-other b bn p′))) (eq-or b x)) (eq-or a x) in
+            let d : (y ≡ x) ⊎ (z ≡ x) = ⊎-elim (λ p. inl (at-y p))
+            (λ p. ⊎-elim (λ p′. inr (at-z p′)) (λ p′. absurd (l (still-new, still-other a an p, still-other b bn p′))) (eq-or b x)) (eq-or a x) in
             ⊎-elim (λ u. down u (extra (more-is a .1 (d, inl sa)))) (λ u. down u (extra (more-is b .1 (d, inr sb)))) o
 
     abbrev F : ℕ
@@ -423,7 +479,8 @@ module _ (ρ φ : ℕ) where
 
     marked-here : (r : ℕ) → r < ρ → r ≡ x → view ρ φ w′ .marked r ≡ false
     unfolding appliedOf
-    marked-here r rb d = subst (λ k. getD (set (markedWith ρ (w .mark) F) x false) k false ≡ false) (sym d) (getD-set-same (markedWith ρ (w .mark) F) x false false (rw (marked-length ρ φ (w .mark) F) (low x xb)))
+    marked-here r rb d = subst (λ k. getD (set (markedWith ρ (w .mark) F) x false) k false ≡ false) (sym d)
+        (getD-set-same (markedWith ρ (w .mark) F) x false false (rw (marked-length ρ φ (w .mark) F) (low x xb)))
 
     kept-infeasible : view ρ φ w′ .infeasible ≡ view ρ φ w .infeasible
     unfolding appliedOf
@@ -469,10 +526,14 @@ module _ (ρ φ : ℕ) where
 
         new-in : (h a b : ℕ) → a < ρ → b < ρ → T (new h a b) → (a < n) × (b < n)
         new-in h a b ab bb t =
-            let r = and-r (eqb h f) (view ρ φ w .same y a && view ρ φ w .same z b) t in
-            (i .same y a (low y yb) ab (and-l (view ρ φ w .same y a) (view ρ φ w .same z b) r) .1, i .same z b (low z zb) bb (and-r (view ρ φ w .same y a) (view ρ φ w .same z b) r) .1)
+            let r = and-r (eqb h f) (view ρ φ w .same y a && view ρ φ w .same z b) t in (
+              i .same y a (low y yb) ab (and-l (view ρ φ w .same y a) (view ρ φ w .same z b) r) .1,
+              i .same z b (low z zb) bb
+                  (and-r (view ρ φ w .same y a) (view ρ φ w .same z b) r) .1,
+            )
 
-        result-in : (h : ℕ) {a b c p q o : ℕ} → a < ρ → b < ρ → c < ρ → GrownRegister x a p → GrownRegister x b q → GrownRegister x c o → T (W .result h p q o) → (a < n) × (b < n) × (c < n)
+        result-in : (h : ℕ) {a b c p q o : ℕ} → a < ρ → b < ρ → c < ρ → GrownRegister x a p → GrownRegister x b q → GrownRegister x c o → T (W .result h p q o)
+            → (a < n) × (b < n) × (c < n)
         result-in h ab bb cb (here d) k l t = absurd t
         result-in h ab bb cb (there d) (here d′) l t = absurd t
         result-in h {a} {b} ab bb cb (there d) (there d′) (here d″) t = let (p, q) = new-in h a b ab bb t in (p, q, subst (λ z. z < n) (sym d″) xb)
@@ -481,8 +542,10 @@ module _ (ρ φ : ℕ) where
         ever-in : (h : ℕ) {a b p q : ℕ} → a < ρ → b < ρ → GrownRegister x a p → GrownRegister x b q → T (W .ever h p q) → (a < n) × (b < n)
         ever-in h ab bb (here d) k t = absurd t
         ever-in h ab bb (there d) (here d′) t = absurd t
-        ever-in h {a} {b} ab bb (there d) (there d′) t = ⊎-elim (λ k. i .ever h a b ab bb k) (λ k. new-in h a b ab bb k) (or-e (view ρ φ w .ever h a b) (new h a b) t)
+        ever-in h {a} {b} ab bb (there d) (there d′) t =
+            ⊎-elim (λ k. i .ever h a b ab bb k) (λ k. new-in h a b ab bb k) (or-e (view ρ φ w .ever h a b) (new h a b) t)
 
         marked-in : {r : ℕ} → r < ρ → T (view ρ φ w′ .marked r) → (r ≡ x) ⊎ (r ≢ x) → r < n
         marked-in rb t (inl d) = subst (λ z. z < n) (sym d) xb
-        marked-in {r} rb t (inr d) = ⊎-elim (i .marked r rb) (λ k. let (_, b) = fall r .0 k in beneath-low rb b) (or-e (view ρ φ w .marked r) (has F r) (subst T (marked-there r rb d) t))
+        marked-in {r} rb t (inr d) = ⊎-elim (i .marked r rb) (λ k. let (_, b) = fall r .0 k in beneath-low rb b)
+            (or-e (view ρ φ w .marked r) (has F r) (subst T (marked-there r rb d) t))

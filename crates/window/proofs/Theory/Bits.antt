@@ -96,7 +96,8 @@ single-is i j = (
 )
 
 pub single-test : (x r : ℕ) → has (2 ^ x) r ≡ eqb r x
-single-test x r = same-test (has (2 ^ x) r) (eqb r x) ((λ t. subst (λ k. T (eqb r k)) (single-is x r .0 t) (eqb-refl r)), (λ t. single-is x r .1 (eqb→eq r x t)))
+single-test x r = same-test (has (2 ^ x) r) (eqb r x)
+    ((λ t. subst (λ k. T (eqb r k)) (single-is x r .0 t) (eqb-refl r)), (λ t. single-is x r .1 (eqb→eq r x t)))
 
 pub none-zero : (j : ℕ) → has 0 j ≡ false
 none-zero j = ne-eqb (bit 0 j) 1 (λ e. let z : bit 0 j ≡ 0 = rw (zero-div (2 ^ j)) in omega arith)
@@ -108,7 +109,8 @@ pub nonempty-is : (ρ m : ℕ) → T (nonempty ρ m) ↔ ((c : ℕ) × (c < ρ) 
 unfolding nonempty
 nonempty-is ρ m = (
   (λ t. let l = ltb-true (leastIn ρ m) ρ (true-of (ltb (leastIn ρ m) ρ) t) in (leastIn ρ m, l, truth (has m (leastIn ρ m)) (least-in ρ m l))),
-  (λ (c, b, t). ⊎-elim (λ l. truth (ltb (leastIn ρ m) ρ) (lt-ltb (leastIn ρ m) ρ l)) (λ l. absurd (no-truth (has m c) (least-below ρ m c (omega arith)) t)) (less-or (leastIn ρ m) ρ)),
+  (λ (c, b, t). ⊎-elim (λ l. truth (ltb (leastIn ρ m) ρ) (lt-ltb (leastIn ρ m) ρ l)) (λ l. absurd (no-truth (has m c) (least-below ρ m c (omega arith)) t))
+      (less-or (leastIn ρ m) ρ)),
 )
 
 pub none-small : (ρ : ℕ) → 0 < 2 ^ ρ
@@ -118,7 +120,8 @@ none-small ρ = one-le-pow ρ 2 (omega arith)
 pub meets : (ρ e s : ℕ) → s < 2 ^ ρ → bitAnd e s ≢ 0 → (c : ℕ) × (c < ρ) × T (has e c) × T (has s c)
 meets ρ e s b n =
     let found : (c : ℕ) × (c < ρ) × T (has m c) = ⊎-elim (λ l. (leastIn ρ m, l, truth (has m (leastIn ρ m)) (least-in ρ m l)))
-    (λ l. absurd (n (bits-same ρ m 0 (omega (arith, and-le-r e s)) (none-small ρ) (λ i h. bit-of i (least-below ρ m i (omega arith)))))) (less-or (leastIn ρ m) ρ) in
+    (λ l. absurd (n (bits-same ρ m 0 (omega (arith, and-le-r e s)) (none-small ρ) (λ i h. bit-of i (least-below ρ m i (omega arith))))))
+    (less-or (leastIn ρ m) ρ) in
     let (c, h, t) = found in
     let u = subst T (has-and e s c) t in
     (c, h, and-l (has e c) (has s c) u, and-r (has e c) (has s c) u)

@@ -50,16 +50,23 @@ module _ (ρ φ : ℕ) where
   pub name-some : (m c : ℕ) → c < ρ → T (has m c) → leastIn ρ m < ρ
   name-some m c b t = ⊎-elim (λ l. l) (λ l. absurd (no-truth (has m c) (least-below ρ m c (omega arith)) t)) (less-or (leastIn ρ m) ρ)
 
-  pub rest-is : (class : List ℕ) (entry c : ℕ) → T (has (restOf ρ φ class entry) c) → (leastIn ρ entry < ρ) × T (has entry c) × (¬ T (has (getD class (leastIn ρ entry) 0) c))
+  pub rest-is : (class : List ℕ) (entry c : ℕ) → T (has (restOf ρ φ class entry) c)
+      → (leastIn ρ entry < ρ) × T (has entry c) × (¬ T (has (getD class (leastIn ρ entry) 0) c))
   unfolding restOf
   rest-is class entry c = byTest (ltb (leastIn ρ entry) ρ)
       (λ t. rw t (λ k. let (p, q) = minus-is entry (getD class (leastIn ρ entry) 0) c .0 k in (ltb-true (leastIn ρ entry) ρ t, p, q)))
       (λ t. rw t (λ k. absurd (none-in c k)))
 
-  pub rest-none : (class : List ℕ) (entry : ℕ) → ¬ T (nonempty ρ (restOf ρ φ class entry)) → (c : ℕ) → c < ρ → T (has entry c) → (leastIn ρ entry < ρ) × T (has (getD class (leastIn ρ entry) 0) c)
+  pub rest-none : (class : List ℕ) (entry : ℕ) → ¬ T (nonempty ρ (restOf ρ φ class entry)) → (c : ℕ) → c < ρ → T (has entry c)
+      → (leastIn ρ entry < ρ) × T (has (getD class (leastIn ρ entry) 0) c)
   unfolding restOf
   rest-none class entry = byTest (ltb (leastIn ρ entry) ρ)
-      (λ t. rw t (λ n c b k. (ltb-true (leastIn ρ entry) ρ t, ⊎-elim (λ u. u) (λ u. absurd (n (nonempty-is ρ (minus entry (getD class (leastIn ρ entry) 0)) .1 (c, b, minus-is entry (getD class (leastIn ρ entry) 0) c .1 (k, u))))) (or-not (has (getD class (leastIn ρ entry) 0) c)))))
+      (λ t. rw t (λ n c b k. (
+        ltb-true (leastIn ρ entry) ρ t,
+        ⊎-elim (λ u. u)
+            (λ u. absurd (n (nonempty-is ρ (minus entry (getD class (leastIn ρ entry) 0)) .1
+            (c, b, minus-is entry (getD class (leastIn ρ entry) 0) c .1 (k, u))))) (or-not (has (getD class (leastIn ρ entry) 0) c)),
+      )))
       (λ t. rw t (λ n c b k. let l = ltb-false (leastIn ρ entry) ρ t in let m = name-some entry c b k in absurd (omega arith)))
 
   pub find-is : (class result : List ℕ) (k i : ℕ)
@@ -71,12 +78,19 @@ module _ (ρ φ : ℕ) where
       (λ t. rw t (inl (i, omega arith, refl, truth (nonempty ρ (restOf ρ φ class (getD result i 0))) t)))
       (λ t. rw t (⊎-elim
       (λ (j, h, e, u). inl (j, omega arith, e, u))
-      (λ (e, f). inr (e, λ j h g. ⊎-elim (λ l. f j l (omega arith)) (λ l. subst (λ z. ¬ T (nonempty ρ (restOf ρ φ class (getD result z 0)))) (omega arith) (no-truth (nonempty ρ (restOf ρ φ class (getD result i 0))) t)) (less-or i j)))
+      (λ (e, f). inr (
+        e,
+        λ j h g. ⊎-elim (λ l. f j l (omega arith))
+            (λ l. subst (λ z. ¬ T (nonempty ρ (restOf ρ φ class (getD result z 0)))) (omega arith)
+            (no-truth (nonempty ρ (restOf ρ φ class (getD result i 0))) t))
+            (less-or i j),
+      ))
       (find-is class result k (suc i))))
 
   -- ---- the way ends where no result is in two classes
 
-  stable : (w : Window) (n : ℕ) → ((j : ℕ) → j < φ * ρ * ρ → ¬ T (nonempty ρ (restOf ρ φ (w .class) (getD (w .result) j 0)))) → Laws n (view ρ φ w) → Inside ρ n (view ρ φ w) → Stable n w
+  stable : (w : Window) (n : ℕ) → ((j : ℕ) → j < φ * ρ * ρ → ¬ T (nonempty ρ (restOf ρ φ (w .class) (getD (w .result) j 0)))) → Laws n (view ρ φ w)
+      → Inside ρ n (view ρ φ w) → Stable n w
   stable w n none g i f a b c d ab bb cb db s t =
       let up : (r : ℕ) → r < n → r < ρ = (λ r l. omega (arith, i .fits)) in
       let (l, s′) = result-cell ρ φ w f a b c (up a ab) (up b bb) s in
@@ -101,10 +115,13 @@ module _ (ρ φ : ℕ) where
     pub way-more : Way n w₀ x y (mergedOf ρ φ v one two) × (suc (total ρ (v .class)) ≤ total ρ (mergedOf ρ φ v one two .class))
     way-more =
         let j = m .joining in
-        let (ab, bb, on) = m .inside .result (placeFunction ρ k) (placeFirst ρ k) (placeSecond ρ k) one (first-below ρ φ k kb) (second-below ρ φ k kb) ob (cell-result ρ φ v k one kb s) in
-        let (_, _, tn) = m .inside .result (placeFunction ρ k) (placeFirst ρ k) (placeSecond ρ k) two (first-below ρ φ k kb) (second-below ρ φ k kb) tb (cell-result ρ φ v k two kb t) in
+        let (ab, bb, on) = m .inside .result (placeFunction ρ k) (placeFirst ρ k) (placeSecond ρ k) one (first-below ρ φ k kb) (second-below ρ φ k kb) ob
+        (cell-result ρ φ v k one kb s) in
+        let (_, _, tn) = m .inside .result (placeFunction ρ k) (placeFirst ρ k) (placeSecond ρ k) two (first-below ρ φ k kb) (second-below ρ φ k kb) tb
+        (cell-result ρ φ v k two kb t) in
         let joined = both-joined n w₀ x y (placeFunction ρ k) (placeFirst ρ k) (placeSecond ρ k) one two
-        (j .result-e (placeFunction ρ k) (placeFirst ρ k) (placeSecond ρ k) one ab bb on (cell-result ρ φ v k one kb s)) (j .result-e (placeFunction ρ k) (placeFirst ρ k) (placeSecond ρ k) two ab bb tn (cell-result ρ φ v k two kb t)) in
+        (j .result-e (placeFunction ρ k) (placeFirst ρ k) (placeSecond ρ k) one ab bb on (cell-result ρ φ v k one kb s))
+        (j .result-e (placeFunction ρ k) (placeFirst ρ k) (placeSecond ρ k) two ab bb tn (cell-result ρ φ v k two kb t)) in
         let mg = merged ρ φ v (m .shaped) n (j .laws) (m .inside) one two on tn in (
           record {
             joining = joining-more n w₀ x y (view ρ φ v) j one two on tn joined (view ρ φ (mergedOf ρ φ v one two)) mg;
@@ -119,7 +136,8 @@ module _ (ρ φ : ℕ) where
         )
 
   -- with enough merges the closing comes to the end of the way
-  pub closed-way : (n : ℕ) (w₀ : View) (x y fuel : ℕ) (w : Window) → Way n w₀ x y w → ρ * ρ + 1 ≤ fuel + total ρ (w .class) → Way n w₀ x y (closedOf ρ φ fuel w) × Stable n (closedOf ρ φ fuel w)
+  pub closed-way : (n : ℕ) (w₀ : View) (x y fuel : ℕ) (w : Window) → Way n w₀ x y w → ρ * ρ + 1 ≤ fuel + total ρ (w .class)
+      → Way n w₀ x y (closedOf ρ φ fuel w) × Stable n (closedOf ρ φ fuel w)
   unfolding closedOf
   closed-way n w₀ x y zero w m h = absurd (omega (arith, total-most ρ (w .class)))
   closed-way n w₀ x y (suc fuel) w m h = ⊎-elim
@@ -127,7 +145,8 @@ module _ (ρ φ : ℕ) where
       let (c, cb, k) = nonempty-is ρ (restOf ρ φ (w .class) entry) .0 u in
       let tb = name-some (restOf ρ φ (w .class) entry) c cb k in
       let (ob, tin, apart) = rest-is (w .class) entry two (name-in (restOf ρ φ (w .class) entry) tb) in
-      let (mw, grow) = way-more n w₀ x y w m j one two (omega arith) ob tb (subst (λ z. T (has z one)) e (name-in entry ob)) (subst (λ z. T (has z two)) e tin) apart in
+      let (mw, grow) = way-more n w₀ x y w m j one two (omega arith) ob tb (subst (λ z. T (has z one)) e (name-in entry ob))
+      (subst (λ z. T (has z two)) e tin) apart in
       rw (lt-ltb one ρ ob, lt-ltb two ρ tb) (closed-way n w₀ x y fuel (mergedOf ρ φ w one two) mw (omega arith)))
       (λ (e, f).
       let ob : ρ ≤ one = ⊎-elim (λ l. absurd (none-in one (subst (λ z. T (has z one)) e (name-in entry l)))) (λ l. l) (less-or one ρ) in

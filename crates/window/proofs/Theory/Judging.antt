@@ -28,7 +28,8 @@ use Rattle.window.proofs.Theory.Closing.{Way, Stable, closed-way}
 use Rattle.window.specs.declared.Window.{Window}
 
 -- an equal test within a class moves nothing
-module _ (n : ℕ) (w : View) (g : Laws n w) (s : Sound n w) (infeasible : (r q : ℕ) → r < n → q < n → T (w .apart r q) → ¬ T (w .infeasible)) (x y : ℕ) (xb : x < n) (yb : y < n) (e : T (w .same x y)) where
+module _ (n : ℕ) (w : View) (g : Laws n w) (s : Sound n w) (infeasible : (r q : ℕ) → r < n → q < n → T (w .apart r q) → ¬ T (w .infeasible)) (x y : ℕ)
+    (xb : x < n) (yb : y < n) (e : T (w .same x y)) where
   same-joined′ : {r q : ℕ} → Joined n w x y r q → (r < n) × (q < n) × T (w .same r q)
   same-joined′ (alike rb qb t) = (rb, qb, t)
   same-joined′ test = (xb, yb, e)
@@ -78,8 +79,24 @@ module _ (ρ φ : ℕ) where
   pub settled-is : (w : Window) (bad : Bool) → SettledWindow w bad (settledOf ρ φ w bad)
   unfolding settledOf
   settled-is w bad = byTest (w .infeasible || bad)
-      (λ t. rw t (record { class = refl; result = refl; ever = refl; mark = refl; infeasible = sym t; unequal = λ k b. getD-replicate ρ k 0 0 b ∙ ap (λ z. cond z 0 (getD (w .unequal) k 0)) (sym t) }))
-      (λ t. rw t (record { class = refl; result = refl; ever = refl; mark = refl; infeasible = none (w .infeasible) bad t ∙ sym t; unequal = λ k b. ap (λ z. cond z 0 (getD (w .unequal) k 0)) (sym t) }))
+      (λ t. rw t (record {
+        class = refl;
+        result = refl;
+        ever = refl;
+        mark = refl;
+        infeasible = sym t;
+        unequal =
+            λ k b. getD-replicate ρ k 0 0 b ∙ ap (λ z. cond z 0 (getD (w .unequal) k 0)) (sym t);
+      }))
+      (λ t. rw t (record {
+        class = refl;
+        result = refl;
+        ever = refl;
+        mark = refl;
+        infeasible = none (w .infeasible) bad t ∙ sym t;
+        unequal =
+            λ k b. ap (λ z. cond z 0 (getD (w .unequal) k 0)) (sym t);
+      }))
     where
       none : (a b : Bool) → (a || b) ≡ false → a ≡ false
       none true b e = e
@@ -99,12 +116,19 @@ module _ (ρ φ : ℕ) where
     marked-settled a = same-iff (ap (λ l. getD l a false) (e .mark))
 
     infeasible-settled : T (view ρ φ r .infeasible) ↔ (T (w .infeasible) ⊎ T bad)
-    infeasible-settled = ((λ t. or-e (w .infeasible) bad (subst T (e .infeasible) t)), (λ k. subst T (sym (e .infeasible)) (⊎-elim (or-l (w .infeasible) bad) (or-r (w .infeasible) bad) k)))
+    infeasible-settled = (
+      (λ t. or-e (w .infeasible) bad (subst T (e .infeasible) t)),
+      (λ k. subst T (sym (e .infeasible)) (⊎-elim (or-l (w .infeasible) bad) (or-r (w .infeasible) bad) k)),
+    )
 
     apart-settled : (a b : ℕ) → a < ρ → T (view ρ φ r .apart a b) ↔ ((¬ T (view ρ φ r .infeasible)) × T (view ρ φ w .apart a b))
     apart-settled a b ab = byTest (w .infeasible || bad)
-        (λ t. ((λ k. absurd (no-truth (has 0 b) (none-zero b) (subst (λ m. T (has m b)) (e .unequal a ab ∙ rw t) k))), (λ (n, k). absurd (n (truth (view ρ φ r .infeasible) (e .infeasible ∙ t))))))
-        (λ t. let i = same-iff (ap (λ m. has m b) (e .unequal a ab ∙ rw t)) in ((λ k. ((λ u. no-truth (view ρ φ r .infeasible) (e .infeasible ∙ t) u), i .0 k)), (λ (n, k). i .1 k)))
+        (λ t. (
+          (λ k. absurd (no-truth (has 0 b) (none-zero b) (subst (λ m. T (has m b)) (e .unequal a ab ∙ rw t) k))),
+          (λ (n, k). absurd (n (truth (view ρ φ r .infeasible) (e .infeasible ∙ t)))),
+        ))
+        (λ t. let i = same-iff (ap (λ m. has m b) (e .unequal a ab ∙ rw t)) in
+        ((λ k. ((λ u. no-truth (view ρ φ r .infeasible) (e .infeasible ∙ t) u), i .0 k)), (λ (n, k). i .1 k)))
 
     pub inside-settled : (n : ℕ) → Inside ρ n (view ρ φ w) → Inside ρ n (view ρ φ r)
     inside-settled n i = record {
@@ -121,20 +145,24 @@ module _ (ρ φ : ℕ) where
   apart-is : (unequal : List ℕ) (a others : ℕ) → T (apartOf ρ φ unequal a others) ↔ ((c : ℕ) × (c < ρ) × T (has (getD unequal a 0) c) × T (has others c))
   unfolding apartOf
   apart-is unequal a others = Iff·trans (nonempty-is ρ (bitAnd (getD unequal a 0) others)) (
-    (λ (c, b, t). let u = subst T (has-and (getD unequal a 0) others c) t in (c, b, and-l (has (getD unequal a 0) c) (has others c) u, and-r (has (getD unequal a 0) c) (has others c) u)),
+    (λ (c, b, t). let u = subst T (has-and (getD unequal a 0) others c) t in
+        (c, b, and-l (has (getD unequal a 0) c) (has others c) u, and-r (has (getD unequal a 0) c) (has others c) u)),
     (λ (c, b, p, q). (c, b, subst T (sym (has-and (getD unequal a 0) others c)) (and-i (has (getD unequal a 0) c) (has others c) p q))),
   )
 
-  pub clash-is : (class unequal : List ℕ) (k : ℕ) → T (clashOf ρ φ class unequal k) ↔ ((r : ℕ) × (s : ℕ) × (r < k) × (s < ρ) × T (has (getD class r 0) s) × T (has (getD unequal r 0) s))
+  pub clash-is : (class unequal : List ℕ) (k : ℕ)
+      → T (clashOf ρ φ class unequal k) ↔ ((r : ℕ) × (s : ℕ) × (r < k) × (s < ρ) × T (has (getD class r 0) s) × T (has (getD unequal r 0) s))
   unfolding clashOf
   clash-is class unequal zero = ((λ t. absurd t), (λ (r, s, h, _, _, _). absurd (omega arith)))
   clash-is class unequal (suc k) = (
-    (λ t. ⊎-elim (λ u. let (r, s, h, b, p, q) = clash-is class unequal k .0 u in (r, s, omega arith, b, p, q)) (λ u. let (s, b, q, p) = apart-is unequal k (getD class k 0) .0 u in (k, s, omega arith, b, p, q))
+    (λ t. ⊎-elim (λ u. let (r, s, h, b, p, q) = clash-is class unequal k .0 u in (r, s, omega arith, b, p, q))
+        (λ u. let (s, b, q, p) = apart-is unequal k (getD class k 0) .0 u in (k, s, omega arith, b, p, q))
         (or-e (clashOf ρ φ class unequal k) (apartOf ρ φ unequal k (getD class k 0)) t)),
     (λ (r, s, h, b, p, q). byTest (eqb r k)
         (λ e. let z = eqb-true r k e in or-r (clashOf ρ φ class unequal k) (apartOf ρ φ unequal k (getD class k 0))
         (apart-is unequal k (getD class k 0) .1 (s, b, subst (λ i. T (has (getD unequal i 0) s)) z q, subst (λ i. T (has (getD class i 0) s)) z p)))
-        (λ e. let d = eqb-false r k e in or-l (clashOf ρ φ class unequal k) (apartOf ρ φ unequal k (getD class k 0)) (clash-is class unequal k .1 (r, s, omega arith, b, p, q)))),
+        (λ e. let d = eqb-false r k e in
+        or-l (clashOf ρ φ class unequal k) (apartOf ρ φ unequal k (getD class k 0)) (clash-is class unequal k .1 (r, s, omega arith, b, p, q)))),
   )
 
   -- ---- an equal test
@@ -164,7 +192,9 @@ module _ (ρ φ : ℕ) where
     same-next : (a b : ℕ) → a < n → b < n → T (view ρ φ v .same a b) ↔ Joined n (view ρ φ w) x y a b
     same-next = same-joined n (view ρ φ w) x y xb yb (view ρ φ v) (way .joining) (way .tested) steady
 
-    apart-next : (a b : ℕ) → a < n → b < n → T (view ρ φ v .apart a b) ↔ ((p : ℕ) × (q : ℕ) × (p < n) × (q < n) × T (view ρ φ w .apart p q) × Joined n (view ρ φ w) x y p a × Joined n (view ρ φ w) x y q b)
+    apart-next : (a b : ℕ) → a < n → b < n
+        → T (view ρ φ v .apart a b) ↔ ((p : ℕ) × (q : ℕ) × (p < n) × (q < n) × T (view ρ φ w .apart p q) × Joined n (view ρ φ w) x y p a
+        × Joined n (view ρ φ w) x y q b)
     apart-next = apart-joined n (view ρ φ w) x y xb yb (view ρ φ v) (way .joining) (way .tested) steady
 
     abbrev bad : Bool
@@ -176,7 +206,15 @@ module _ (ρ φ : ℕ) where
           let (an, bn) = way .inside .same a b ab bb s in
           let (p, q, pb, qb, h, j, k) = apart-next a b an bn .0 u in
           (p, q, pb, qb, h, join′ j (join′ (same-next a b an bn .0 s) (turn′ k)))),
-      (λ (p, q, pb, qb, h, j). (p, q, low p pb, low q qb, same-next p q pb qb .1 j, apart-next p q pb qb .1 (p, q, pb, qb, h, alike pb pb (g .self p pb), alike qb qb (g .self q qb)))),
+      (λ (p, q, pb, qb, h, j). (
+        p,
+        q,
+        low p pb,
+        low q qb,
+        same-next p q pb qb .1 j,
+        apart-next p q pb qb .1
+            (p, q, pb, qb, h, alike pb pb (g .self p pb), alike qb qb (g .self q qb)),
+      )),
     )
 
     abbrev r : Window
@@ -188,14 +226,17 @@ module _ (ρ φ : ℕ) where
     pub equated : Equated n (view ρ φ w) x y (view ρ φ r)
     equated = record {
       same = λ a b ab bb. Iff·trans (same-settled v bad r e a b) (same-next a b ab bb);
-      result = λ f a b c ab bb cb. Iff·trans (result-settled v bad r e f a b c) (result-joined n (view ρ φ w) x y xb yb (view ρ φ v) (way .joining) (way .tested) steady f a b c ab bb cb);
-      ever = λ f a b ab bb. Iff·trans (ever-settled v bad r e f a b) (ever-joined n (view ρ φ w) x y xb yb (view ρ φ v) (way .joining) (way .tested) steady f a b ab bb);
+      result = λ f a b c ab bb cb. Iff·trans (result-settled v bad r e f a b c)
+          (result-joined n (view ρ φ w) x y xb yb (view ρ φ v) (way .joining) (way .tested) steady f a b c ab bb cb);
+      ever = λ f a b ab bb. Iff·trans (ever-settled v bad r e f a b)
+          (ever-joined n (view ρ φ w) x y xb yb (view ρ φ v) (way .joining) (way .tested) steady f a b ab bb);
       marked = λ a ab. Iff·trans (marked-settled v bad r e a) (way .joining .marked a ab);
       infeasible = Iff·trans (infeasible-settled v bad r e) (
         (λ k. ⊎-elim (λ t. inl (way .joining .infeasible .0 t)) (λ t. inr (bad-is .0 t)) k),
         (λ k. ⊎-elim (λ t. inl (way .joining .infeasible .1 t)) (λ t. inr (bad-is .1 t)) k),
       );
-      apart = λ a b ab bb. Iff·trans (apart-settled v bad r e a b (low a ab)) ((λ (p, k). (p, apart-next a b ab bb .0 k)), (λ (p, k). (p, apart-next a b ab bb .1 k)));
+      apart = λ a b ab bb. Iff·trans (apart-settled v bad r e a b (low a ab))
+          ((λ (p, k). (p, apart-next a b ab bb .0 k)), (λ (p, k). (p, apart-next a b ab bb .1 k)));
     }
 
     pub inside-equated : Inside ρ n (view ρ φ r)
@@ -213,7 +254,8 @@ module _ (ρ φ : ℕ) where
     low′ : (k : ℕ) → k < n → k < ρ
     low′ k b = omega (arith, i .fits)
 
-    pairs-is : (a b : ℕ) → a < ρ → T (has (getD pairs a 0) b) ↔ (T (view ρ φ w .apart a b) ⊎ ((T (view ρ φ w .same x a) × T (view ρ φ w .same y b)) ⊎ (T (view ρ φ w .same y a) × T (view ρ φ w .same x b))))
+    pairs-is : (a b : ℕ) → a < ρ → T (has (getD pairs a 0) b)
+        ↔ (T (view ρ φ w .apart a b) ⊎ ((T (view ρ φ w .same x a) × T (view ρ φ w .same y b)) ⊎ (T (view ρ φ w .same y a) × T (view ρ φ w .same x b))))
     unfolding partedOf
     pairs-is a b ab =
         let cx = getD (w .class) x 0 in
@@ -221,8 +263,10 @@ module _ (ρ φ : ℕ) where
         let u = getD (w .unequal) a 0 in
         let e = table-at (λ r. bitOr (bitOr (getD (w .unequal) r 0) (partOf cx cy r)) (partOf cy cx r)) ρ a 0 ab in
         Iff·trans (same-iff (ap (λ m. has m b) e)) (Iff·trans (or-is (bitOr u (partOf cx cy a)) (partOf cy cx a) b) (
-          (λ t. ⊎-elim (λ k. ⊎-elim inl (λ l. inr (inl (part-has cx cy a b .0 l))) (or-is u (partOf cx cy a) b .0 k)) (λ k. inr (inr (part-has cy cx a b .0 k))) t),
-          (λ k. ⊎-elim (λ l. inl (or-is u (partOf cx cy a) b .1 (inl l))) (⊎-elim (λ l. inl (or-is u (partOf cx cy a) b .1 (inr (part-has cx cy a b .1 l)))) (λ l. inr (part-has cy cx a b .1 l))) k),
+          (λ t. ⊎-elim (λ k. ⊎-elim inl (λ l. inr (inl (part-has cx cy a b .0 l))) (or-is u (partOf cx cy a) b .0 k))
+              (λ k. inr (inr (part-has cy cx a b .0 k))) t),
+          (λ k. ⊎-elim (λ l. inl (or-is u (partOf cx cy a) b .1 (inl l)))
+              (⊎-elim (λ l. inl (or-is u (partOf cx cy a) b .1 (inr (part-has cx cy a b .1 l)))) (λ l. inr (part-has cy cx a b .1 l))) k),
         ))
 
     abbrev apart-bad : Bool
@@ -231,7 +275,8 @@ module _ (ρ φ : ℕ) where
     abbrev r′ : Window
     r′ = settledOf ρ φ v′ apart-bad
 
-    e′ : SettledWindow (withUnequal w (partedOf ρ φ (w .unequal) (getD (w .class) x 0) (getD (w .class) y 0)) (w .infeasible)) (has (getD (w .class) x 0) y) (settledOf ρ φ v′ apart-bad)
+    e′ : SettledWindow (withUnequal w (partedOf ρ φ (w .unequal) (getD (w .class) x 0) (getD (w .class) y 0)) (w .infeasible)) (has (getD (w .class) x 0) y)
+        (settledOf ρ φ v′ apart-bad)
     e′ = settled-is v′ apart-bad
 
     pub separated : Separated n (view ρ φ w) x y (view ρ φ r′)
@@ -243,7 +288,8 @@ module _ (ρ φ : ℕ) where
           ever = λ f a b ab bb. ever-settled v′ bad r′ e′ f a b;
           marked = λ a ab. marked-settled v′ bad r′ e′ a;
           infeasible = infeasible-settled v′ bad r′ e′;
-          apart = λ a b ab bb. Iff·trans (apart-settled v′ bad r′ e′ a b (low′ a ab)) ((λ (p, k). (p, pairs-is a b (low′ a ab) .0 k)), (λ (p, k). (p, pairs-is a b (low′ a ab) .1 k)));
+          apart = λ a b ab bb. Iff·trans (apart-settled v′ bad r′ e′ a b (low′ a ab))
+              ((λ (p, k). (p, pairs-is a b (low′ a ab) .0 k)), (λ (p, k). (p, pairs-is a b (low′ a ab) .1 k)));
         }
 
     pub inside-separated : Inside ρ n (view ρ φ r′)

@@ -89,7 +89,8 @@ sound-of σ v w t = record {
       let e = t .result f a b c ab bb cb .0 m in
       let g = t .result f a b d ab bb db .0 k in
       t .same c d cb db .1 (transitive (symmetric (e .gives))
-      (transitive (congruence (e .listed) (g .listed) (transitive (e .at-first) (symmetric (g .at-first))) (transitive (e .at-second) (symmetric (g .at-second)))) (g .gives)));
+      (transitive (congruence (e .listed) (g .listed) (transitive (e .at-first) (symmetric (g .at-first)))
+      (transitive (e .at-second) (symmetric (g .at-second)))) (g .gives)));
   distinct = λ r s rb sb m i.
       let (g, e) = t .apart r s rb sb .0 m in
       let j = t .same r s rb sb .0 i in

@@ -51,23 +51,28 @@ module _ {ρ : ℕ} (L : TableLines ρ) where
   pub gone-none : (F : ℕ → ℕ) (r : ℕ) (old : List ℕ) → Gone F r old 0 old
   gone-none F r old = record { long = refl; new = λ i h e l. absurd (omega arith); other = λ i n. refl; ahead = λ i h. refl }
 
-  pub gone-more : (F : ℕ → ℕ) (r : ℕ) (old : List ℕ) (j : ℕ) (l : List ℕ) (n : ℕ) → Spans n old → r < ρ → j < n → Gone F r old j l → (v : ℕ) → v ≡ F (L .entry j r) → Gone F r old (j + 1) (set l (L .entry j r) v)
+  pub gone-more : (F : ℕ → ℕ) (r : ℕ) (old : List ℕ) (j : ℕ) (l : List ℕ) (n : ℕ) → Spans n old → r < ρ → j < n → Gone F r old j l → (v : ℕ)
+      → v ≡ F (L .entry j r) → Gone F r old (j + 1) (set l (L .entry j r) v)
   gone-more F r old j l n s rb jb g v e = record {
     long = simp length-set (g .long);
     new = λ i h p q. byTest (eqb (L .line i) j)
         (λ t. let k : L .entry j r ≡ i = ap₂ (L .entry) (sym (eqb-true (L .line i) j t)) (sym p) ∙ L .entry-is (omega arith) i in
         subst (λ z. getD (set l (L .entry j r) v) z 0 ≡ F z) k (getD-set-same l (L .entry j r) v 0 (rw (g .long) (s .inside j r jb rb)) ∙ e))
-        (λ t. let d = eqb-false (L .line i) j t in getD-set-other l (L .entry j r) i v 0 (λ k. d (ap (L .line) k ∙ L .line-entry j r rb)) ∙ g .new i h p (omega arith));
+        (λ t. let d = eqb-false (L .line i) j t in
+        getD-set-other l (L .entry j r) i v 0 (λ k. d (ap (L .line) k ∙ L .line-entry j r rb)) ∙ g .new i h p (omega arith));
     other = λ i d. getD-set-other l (L .entry j r) i v 0 (λ k. d (ap (L .along) k ∙ L .along-entry j r rb)) ∙ g .other i d;
-    ahead = λ i h. getD-set-other l (L .entry j r) i v 0 (λ k. let z = ap (L .line) k ∙ L .line-entry j r rb in absurd (omega arith)) ∙ g .ahead i (omega arith);
+    ahead = λ i h. getD-set-other l (L .entry j r) i v 0 (λ k. let z = ap (L .line) k ∙ L .line-entry j r rb in absurd (omega arith))
+        ∙ g .ahead i (omega arith);
   }
 
   -- an entry of the line at hand is as it was
-  pub gone-read : (F : ℕ → ℕ) (r : ℕ) (old : List ℕ) (j : ℕ) (l : List ℕ) → Gone F r old j l → (d : ℕ) → d < ρ → getD l (L .entry j d) 0 ≡ getD old (L .entry j d) 0
+  pub gone-read : (F : ℕ → ℕ) (r : ℕ) (old : List ℕ) (j : ℕ) (l : List ℕ) → Gone F r old j l → (d : ℕ) → d < ρ
+      → getD l (L .entry j d) 0 ≡ getD old (L .entry j d) 0
   gone-read F r old j l g d db = g .ahead (L .entry j d) (let z = L .line-entry j d db in omega arith)
 
   -- what is stored, at an entry of line j
-  pub united-here : (r a b : ℕ) (l : List ℕ) (j : ℕ) → r < ρ → unitedAt L (λ s. eqb s r) a b l (L .entry j r) ≡ bitOr (getD l (L .entry j a) 0) (getD l (L .entry j b) 0)
+  pub united-here : (r a b : ℕ) (l : List ℕ) (j : ℕ) → r < ρ
+      → unitedAt L (λ s. eqb s r) a b l (L .entry j r) ≡ bitOr (getD l (L .entry j a) 0) (getD l (L .entry j b) 0)
   unfolding unitedAt
   united-here r a b l j rb = rw (L .along-entry j r rb, eq-eqb r r refl, at-entry j r a rb, at-entry j r b rb)
 
@@ -76,7 +81,8 @@ module _ {ρ : ℕ} (L : TableLines ρ) where
   cleared-here r l j rb = rw (L .along-entry j r rb, eq-eqb r r refl)
 
   -- one turn of the loop
-  pub unite-more : (r a b : ℕ) (old : List ℕ) (j : ℕ) (l : List ℕ) (n : ℕ) → Spans n old → r < ρ → a < ρ → b < ρ → j < n → Gone (unitedAt L (λ s. eqb s r) a b old) r old j l
+  pub unite-more : (r a b : ℕ) (old : List ℕ) (j : ℕ) (l : List ℕ) (n : ℕ) → Spans n old → r < ρ → a < ρ → b < ρ → j < n
+      → Gone (unitedAt L (λ s. eqb s r) a b old) r old j l
       → Gone (unitedAt L (λ s. eqb s r) a b old) r old (j + 1) (set l (L .entry j r) (bitOr (getD l (L .entry j a) 0) (getD l (L .entry j b) 0)))
   unite-more r a b old j l n s rb ab bb jb g = gone-more F r old j l n s rb jb g (bitOr (getD l (L .entry j a) 0) (getD l (L .entry j b) 0))
       (ap₂ bitOr (gone-read F r old j l g a ab) (gone-read F r old j l g b bb) ∙ sym (united-here r a b old j rb))
@@ -84,10 +90,12 @@ module _ {ρ : ℕ} (L : TableLines ρ) where
       F : ℕ → ℕ
       F = unitedAt L (λ s. eqb s r) a b old
 
-  pub clear-more : (r : ℕ) (old : List ℕ) (j : ℕ) (l : List ℕ) (n : ℕ) → Spans n old → r < ρ → j < n → Gone (clearedAt L r old) r old j l → Gone (clearedAt L r old) r old (j + 1) (set l (L .entry j r) 0)
+  pub clear-more : (r : ℕ) (old : List ℕ) (j : ℕ) (l : List ℕ) (n : ℕ) → Spans n old → r < ρ → j < n → Gone (clearedAt L r old) r old j l
+      → Gone (clearedAt L r old) r old (j + 1) (set l (L .entry j r) 0)
   clear-more r old j l n s rb jb g = gone-more (clearedAt L r old) r old j l n s rb jb g 0 (sym (cleared-here r old j rb))
 
-  pub united-all : (r a b : ℕ) (old : List ℕ) (j n : ℕ) (l : List ℕ) → Spans n old → n ≤ j → Gone (unitedAt L (λ s. eqb s r) a b old) r old j l → l ≡ united L (λ s. eqb s r) a b old
+  pub united-all : (r a b : ℕ) (old : List ℕ) (j n : ℕ) (l : List ℕ) → Spans n old → n ≤ j → Gone (unitedAt L (λ s. eqb s r) a b old) r old j l
+      → l ≡ united L (λ s. eqb s r) a b old
   unfolding united unitedAt
   united-all r a b old j n l s h g = table-is (unitedAt L (λ s. eqb s r) a b old) (length old) l 0 (g .long) (λ i b. byTest (eqb (L .along i) r)
       (λ t. g .new i b (eqb-true (L .along i) r t) (let z = s .reached i b in omega arith))
@@ -110,7 +118,8 @@ module _ {ρ : ℕ} (L : TableLines ρ) where
     unfolding unitedAt
     still P i h =
         let j = L .line i in
-        united-at P a a old (entryOnLine L i a) (at-below i a h ab) ∙ rw (L .along-entry j a ab, at-entry j a a ab) (both (P a) (getD old (entryOnLine L i a) 0))
+        united-at P a a old (entryOnLine L i a) (at-below i a h ab)
+        ∙ rw (L .along-entry j a ab, at-entry j a a ab) (both (P a) (getD old (entryOnLine L i a) 0))
       where
         both : (p : Bool) (x : ℕ) → cond p (bitOr x x) x ≡ x
         both true x = or-self x
@@ -148,4 +157,5 @@ module _ {ρ : ℕ} (L : TableLines ρ) where
 
   pub united-same : (P Q : ℕ → Bool) (a b : ℕ) (l : List ℕ) → 0 < ρ → ((s : ℕ) → s < ρ → P s ≡ Q s) → united L P a b l ≡ united L Q a b l
   unfolding united unitedAt
-  united-same P Q a b l p e = table-is (unitedAt L Q a b l) (length l) (united L P a b l) 0 (united-length P a b l) (λ i h. united-at P a b l i h ∙ rw (e (L .along i) (L .along-below p i)))
+  united-same P Q a b l p e = table-is (unitedAt L Q a b l) (length l) (united L P a b l) 0 (united-length P a b l)
+      (λ i h. united-at P a b l i h ∙ rw (e (L .along i) (L .along-below p i)))

@@ -18,7 +18,8 @@ use Rattle.window.specs.Places.{place, placeFunction, placeFirst, placeS
 use Rattle.window.proofs.Theory.Places.{place-below, function-below, first-below, second-below, entry-below}
 use Rattle.window.proofs.Theory.Table.{table-at}
 use Rattle.window.specs.Bits.{nonempty}
-use Rattle.window.proofs.Theory.Bits.{nonempty-is, or-is, has-and, single-is, none-in, same-iff, or-ge, or-small, pow-small, none-small, truth, no-truth, less-or}
+use Rattle.window.proofs.Theory.Bits.{nonempty-is, or-is, has-and, single-is, none-in, same-iff, or-ge, or-small, pow-small, none-small, truth, no-truth}
+use Rattle.window.proofs.Theory.Bits.{less-or}
 use Rattle.window.specs.Marks.{unionOf, aboveOf, flagOf, belowOf, besideOf, passes, raisedOf, foldedOf, lostOf}
 
 pub union-more : (t : List ℕ) (start step j m : ℕ) → m ≡ unionOf t start step j → bitOr m (getD t (start + j * step) 0) ≡ unionOf t start step (j + 1)
@@ -56,7 +57,8 @@ module _ (ρ : ℕ) where
   unfolding belowOf
   below-more up s h m v e d = rw (add-one, e, d)
 
-  pub beside-more : (t : List ℕ) (x h m v : ℕ) → m ≡ besideOf ρ t x h → v ≡ flagOf ρ (bitOr (getD t (ρ * x + h) 0) (getD t (ρ * h + x) 0)) h → bitOr m v ≡ besideOf ρ t x (h + 1)
+  pub beside-more : (t : List ℕ) (x h m v : ℕ) → m ≡ besideOf ρ t x h → v ≡ flagOf ρ (bitOr (getD t (ρ * x + h) 0) (getD t (ρ * h + x) 0)) h
+      → bitOr m v ≡ besideOf ρ t x (h + 1)
   unfolding besideOf
   beside-more t x h m v e d = rw (add-one, e, d)
 
@@ -83,13 +85,15 @@ module _ (ρ : ℕ) where
   below-small : (up : List ℕ) (s k : ℕ) → k ≤ ρ → belowOf ρ up s k < 2 ^ ρ
   unfolding belowOf
   below-small up s zero h = none-small ρ
-  below-small up s (suc k) h = or-small ρ (belowOf ρ up s k) (flagOf ρ (bitAnd (getD up k 0) s) k) (below-small up s k (omega arith)) (flag-small (bitAnd (getD up k 0) s) k (omega arith))
+  below-small up s (suc k) h = or-small ρ (belowOf ρ up s k) (flagOf ρ (bitAnd (getD up k 0) s) k) (below-small up s k (omega arith))
+      (flag-small (bitAnd (getD up k 0) s) k (omega arith))
 
   pub beside-small : (t : List ℕ) (x k : ℕ) → k ≤ ρ → besideOf ρ t x k < 2 ^ ρ
   unfolding besideOf
   beside-small t x zero h = none-small ρ
   beside-small t x (suc k) h =
-      or-small ρ (besideOf ρ t x k) (flagOf ρ (bitOr (getD t (ρ * x + k) 0) (getD t (ρ * k + x) 0)) k) (beside-small t x k (omega arith)) (flag-small (bitOr (getD t (ρ * x + k) 0) (getD t (ρ * k + x) 0)) k (omega arith))
+      or-small ρ (besideOf ρ t x k) (flagOf ρ (bitOr (getD t (ρ * x + k) 0) (getD t (ρ * k + x) 0)) k) (beside-small t x k (omega arith))
+      (flag-small (bitOr (getD t (ρ * x + k) 0) (getD t (ρ * k + x) 0)) k (omega arith))
 
   -- ---- the passes come to an end
 
@@ -129,7 +133,14 @@ module _ (ρ : ℕ) where
     pub more : t ≡ bitOr s (belowOf ρ up s ρ)
 
   pub rising-none : (up : List ℕ) (seed v : ℕ) → seed < 2 ^ ρ → v ≡ belowOf ρ up seed ρ → Rising up seed seed (bitOr seed v)
-  rising-none up seed v b e = record { turns = 0; few = omega arith; small = b; left = λ n. ap (λ k. passes ρ up k seed) (omega arith); more = ap (bitOr seed) e }
+  rising-none up seed v b e = record {
+    turns = 0;
+    few = omega arith;
+    small = b;
+    left = λ n. ap (λ k. passes ρ up k seed) (omega arith);
+    more =
+        ap (bitOr seed) e;
+  }
 
   pub rising-more : (up : List ℕ) (seed s t v : ℕ) → Rising up seed s t → t ≢ s → v ≡ belowOf ρ up t ρ → Rising up seed t (bitOr t v)
   unfolding passes
@@ -164,11 +175,13 @@ module _ (ρ : ℕ) where
     pub here : s ≡ passes ρ up turns seed
     pub more : t ≡ bitOr s (belowOf ρ up s ρ)
 
-  pub reaching-none : (up : List ℕ) (seed v w : ℕ) → seed < 2 ^ ρ → v ≡ belowOf ρ up seed ρ → w ≡ belowOf ρ up (bitOr seed v) ρ → Reaching up seed (bitOr seed v) (bitOr (bitOr seed v) w)
+  pub reaching-none : (up : List ℕ) (seed v w : ℕ) → seed < 2 ^ ρ → v ≡ belowOf ρ up seed ρ → w ≡ belowOf ρ up (bitOr seed v) ρ
+      → Reaching up seed (bitOr seed v) (bitOr (bitOr seed v) w)
   unfolding passes
   reaching-none up seed v w b e d = record { turns = 1; start = b; here = ap (bitOr seed) e; more = ap (bitOr (bitOr seed v)) d }
 
-  pub reaching-more : (up : List ℕ) (seed s t v w : ℕ) → Reaching up seed s t → v ≡ belowOf ρ up t ρ → w ≡ belowOf ρ up (bitOr t v) ρ → Reaching up seed (bitOr t v) (bitOr (bitOr t v) w)
+  pub reaching-more : (up : List ℕ) (seed s t v w : ℕ) → Reaching up seed s t → v ≡ belowOf ρ up t ρ → w ≡ belowOf ρ up (bitOr t v) ρ
+      → Reaching up seed (bitOr t v) (bitOr (bitOr t v) w)
   unfolding passes
   reaching-more up seed s t v w r e d = record {
     turns = r .turns + 2;
@@ -189,8 +202,12 @@ module _ (ρ : ℕ) where
       let closed : next up s ≡ s = sym (r .more) ∙ e in
       let N = 2 ^ ρ in
       ⊎-elim
-      (λ l. let k : 2 ^ ρ ≡ r .turns + (2 ^ ρ - r .turns) = omega arith in sym (ap (λ n. passes ρ up n seed) k ∙ passes-add up (r .turns) (N - r .turns) seed ∙ ap (passes ρ up (N - r .turns)) (sym (r .here)) ∙ passes-still up s closed (N - r .turns)))
-      (λ l. let k : r .turns ≡ 2 ^ ρ + (r .turns - 2 ^ ρ) = omega arith in r .here ∙ ap (λ n. passes ρ up n seed) k ∙ passes-add up N (r .turns - N) seed ∙ passes-still up (passes ρ up N seed) (passes-ended up N seed (r .start) (omega arith)) (r .turns - N))
+      (λ l. let k : 2 ^ ρ ≡ r .turns + (2 ^ ρ - r .turns) = omega arith in
+      sym (ap (λ n. passes ρ up n seed) k ∙ passes-add up (r .turns) (N - r .turns) seed ∙ ap (passes ρ up (N - r .turns)) (sym (r .here))
+      ∙ passes-still up s closed (N - r .turns)))
+      (λ l. let k : r .turns ≡ 2 ^ ρ + (r .turns - 2 ^ ρ) = omega arith in
+      r .here ∙ ap (λ n. passes ρ up n seed) k ∙ passes-add up N (r .turns - N) seed
+      ∙ passes-still up (passes ρ up N seed) (passes-ended up N seed (r .start) (omega arith)) (r .turns - N))
       (less-or (r .turns) N)
 
   -- ---- what the definitions say
@@ -207,34 +224,61 @@ module _ (ρ : ℕ) where
   below-is up s (suc k) h = Iff·trans (or-is (belowOf ρ up s k) (flagOf ρ (bitAnd (getD up k 0) s) k) h) (
     (λ t. ⊎-elim (λ u. let (l, v) = below-is up s k h .0 u in (omega arith, v))
         (λ u. let (e, (c, cb, v)) = flag-is (bitAnd (getD up k 0) s) k h .0 u in
-        let v′ = subst T (has-and (getD up k 0) s c) v in
-        (omega arith, (c, cb, subst (λ i. T (has (getD up i 0) c)) (sym e) (and-l (has (getD up k 0) c) (has s c) v′), and-r (has (getD up k 0) c) (has s c) v′))) t),
+        let v′ = subst T (has-and (getD up k 0) s c) v in (
+          omega arith,
+          (
+            c,
+            cb,
+            subst (λ i. T (has (getD up i 0) c)) (sym e) (and-l (has (getD up k 0) c) (has s c) v′),
+            and-r (has (getD up k 0) c)
+                (has s c) v′,
+          ),
+        )) t),
     (λ (l, (c, cb, p, q)). byTest (eqb h k)
         (λ e. let z = eqb-true h k e in
-        inr (flag-is (bitAnd (getD up k 0) s) k h .1 (z, (c, cb, subst T (sym (has-and (getD up k 0) s c)) (and-i (has (getD up k 0) c) (has s c) (subst (λ i. T (has (getD up i 0) c)) z p) q)))))
+        inr (flag-is (bitAnd (getD up k 0) s) k h .1
+        (z, (c, cb, subst T (sym (has-and (getD up k 0) s c)) (and-i (has (getD up k 0) c) (has s c) (subst (λ i. T (has (getD up i 0) c)) z p) q)))))
         (λ e. let d = eqb-false h k e in inl (below-is up s k h .1 (omega arith, (c, cb, p, q))))),
   )
 
-  pub beside-is : (t : List ℕ) (x k h : ℕ) → T (has (besideOf ρ t x k) h) ↔ ((h < k) × ((c : ℕ) × (c < ρ) × (T (has (getD t (ρ * x + h) 0) c) ⊎ T (has (getD t (ρ * h + x) 0) c))))
+  pub beside-is : (t : List ℕ) (x k h : ℕ)
+      → T (has (besideOf ρ t x k) h) ↔ ((h < k) × ((c : ℕ) × (c < ρ) × (T (has (getD t (ρ * x + h) 0) c) ⊎ T (has (getD t (ρ * h + x) 0) c))))
   unfolding besideOf
   beside-is t x zero h = ((λ k. absurd (none-in h k)), (λ (l, _). absurd (omega arith)))
   beside-is t x (suc k) h = Iff·trans (or-is (besideOf ρ t x k) (flagOf ρ (bitOr (getD t (ρ * x + k) 0) (getD t (ρ * k + x) 0)) k) h) (
     (λ u. ⊎-elim (λ v. let (l, p) = beside-is t x k h .0 v in (omega arith, p))
-        (λ v. let (e, (c, cb, p)) = flag-is (bitOr (getD t (ρ * x + k) 0) (getD t (ρ * k + x) 0)) k h .0 v in
-        (omega arith, (c, cb, subst (λ i. T (has (getD t (ρ * x + i) 0) c) ⊎ T (has (getD t (ρ * i + x) 0) c)) (sym e) (or-is (getD t (ρ * x + k) 0) (getD t (ρ * k + x) 0) c .0 p)))) u),
+        (λ v. let (e, (c, cb, p)) = flag-is (bitOr (getD t (ρ * x + k) 0) (getD t (ρ * k + x) 0)) k h .0 v in (
+          omega arith,
+          (
+            c,
+            cb,
+            subst (λ i. T (has (getD t (ρ * x + i) 0) c) ⊎ T (has (getD t (ρ * i + x) 0) c)) (sym e)
+                (or-is (getD t (ρ * x + k) 0) (getD t (ρ * k + x) 0) c .0 p),
+          ),
+        )) u),
     (λ (l, (c, cb, p)). byTest (eqb h k)
         (λ e. let z = eqb-true h k e in
-        inr (flag-is (bitOr (getD t (ρ * x + k) 0) (getD t (ρ * k + x) 0)) k h .1 (z, (c, cb, or-is (getD t (ρ * x + k) 0) (getD t (ρ * k + x) 0) c .1 (subst (λ i. T (has (getD t (ρ * x + i) 0) c) ⊎ T (has (getD t (ρ * i + x) 0) c)) z p)))))
+        inr (flag-is (bitOr (getD t (ρ * x + k) 0) (getD t (ρ * k + x) 0)) k h .1 (
+          z,
+          (
+            c,
+            cb,
+            or-is (getD t (ρ * x + k) 0) (getD t (ρ * k + x) 0) c .1
+                (subst (λ i. T (has (getD t (ρ * x + i) 0) c) ⊎ T (has (getD t (ρ * i + x) 0) c)) z p),
+          ),
+        )))
         (λ e. let d = eqb-false h k e in inl (beside-is t x k h .1 (omega arith, (c, cb, p))))),
   )
 
 module _ (ρ φ : ℕ) where
   -- what `lost` calls, one after the other
-  pub lost-is : (l t up : List ℕ) (x more one b e f r : ℕ) → t ≡ foldedOf ρ φ l → up ≡ aboveOf ρ t → one ≡ 2 ^ x → b ≡ belowOf ρ up one ρ → e ≡ besideOf ρ t x ρ → f ≡ flagOf ρ (getD up x 0) x → r ≡ raisedOf ρ up (bitOr (bitOr (bitOr b e) f) more) → r ≡ lostOf ρ φ l x more
+  pub lost-is : (l t up : List ℕ) (x more one b e f r : ℕ) → t ≡ foldedOf ρ φ l → up ≡ aboveOf ρ t → one ≡ 2 ^ x → b ≡ belowOf ρ up one ρ → e ≡ besideOf ρ t x ρ
+      → f ≡ flagOf ρ (getD up x 0) x → r ≡ raisedOf ρ up (bitOr (bitOr (bitOr b e) f) more) → r ≡ lostOf ρ φ l x more
   unfolding lostOf
   lost-is l t up x more one b e f r p q o i j k h = rw (h, i, j, k, o, q, p)
 
-  pub folded-is : (l : List ℕ) (a b c : ℕ) → a < ρ → b < ρ → T (has (getD (foldedOf ρ φ l) (ρ * a + b) 0) c) ↔ ((f : ℕ) × (f < φ) × T (has (getD l (place ρ f a b) 0) c))
+  pub folded-is : (l : List ℕ) (a b c : ℕ) → a < ρ → b < ρ
+      → T (has (getD (foldedOf ρ φ l) (ρ * a + b) 0) c) ↔ ((f : ℕ) × (f < φ) × T (has (getD l (place ρ f a b) 0) c))
   unfolding foldedOf
   folded-is l a b c ab bb =
       let e = table-at (λ i. unionOf l i (ρ * ρ) φ) (ρ * ρ) (ρ * a + b) 0 (entry-below ρ ρ a b ab bb) in
@@ -268,13 +312,23 @@ module _ (ρ φ : ℕ) where
               placeSecond ρ k,
               second-below ρ φ k kb,
               subst (λ z. T (has (getD (foldedOf ρ φ l) z 0) c)) (sym (across (placeSecond ρ k)))
-                  (folded-is l h (placeSecond ρ k) c hb (second-below ρ φ k kb) .1 (placeFunction ρ k, function-below ρ φ k kb, subst (λ z. T (has (getD l z 0) c)) (sym (ap (λ a. place ρ (placeFunction ρ k) a (placeSecond ρ k)) p ∙ place-is ρ k)) w)),
+                  (folded-is l h (placeSecond ρ k) c hb (second-below ρ φ k kb) .1 (
+                    placeFunction ρ k,
+                    function-below ρ φ k kb,
+                    subst (λ z. T (has (getD l z 0) c))
+                        (sym (ap (λ a. place ρ (placeFunction ρ k) a (placeSecond ρ k)) p ∙ place-is ρ k)) w,
+                  )),
             )))
             (λ p. inr (union-is t h ρ ρ c .1 (
               placeFirst ρ k,
               first-below ρ φ k kb,
               subst (λ z. T (has (getD (foldedOf ρ φ l) z 0) c)) (sym (down (placeFirst ρ k)))
-                  (folded-is l (placeFirst ρ k) h c (first-below ρ φ k kb) hb .1 (placeFunction ρ k, function-below ρ φ k kb, subst (λ z. T (has (getD l z 0) c)) (sym (ap (λ b. place ρ (placeFunction ρ k) (placeFirst ρ k) b) p ∙ place-is ρ k)) w)),
+                  (folded-is l (placeFirst ρ k) h c (first-below ρ φ k kb) hb .1 (
+                    placeFunction ρ k,
+                    function-below ρ φ k kb,
+                    subst (λ z. T (has (getD l z 0) c))
+                        (sym (ap (λ b. place ρ (placeFunction ρ k) (placeFirst ρ k) b) p ∙ place-is ρ k)) w,
+                  )),
             ))) d),
       ))
     where
@@ -291,16 +345,19 @@ pub data BelowSeed (ρ φ : ℕ) (l : List ℕ) (seed : ℕ) : ℕ → Type 0 wh
   lower : {c h : ℕ} → h < ρ → c < ρ → Up ρ φ l h c → BelowSeed ρ φ l seed c → BelowSeed ρ φ l seed h
 
 module _ (ρ φ : ℕ) (l : List ℕ) where
-  passes-sound : (n seed s h : ℕ) → ((g : ℕ) → T (has s g) → BelowSeed ρ φ l seed g) → T (has (passes ρ (aboveOf ρ (foldedOf ρ φ l)) n s) h) → BelowSeed ρ φ l seed h
+  passes-sound : (n seed s h : ℕ) → ((g : ℕ) → T (has s g) → BelowSeed ρ φ l seed g) → T (has (passes ρ (aboveOf ρ (foldedOf ρ φ l)) n s) h)
+      → BelowSeed ρ φ l seed h
   unfolding passes
   passes-sound zero seed s h f t = f h t
   passes-sound (suc n) seed s h f t = passes-sound n seed (bitOr s (belowOf ρ (aboveOf ρ (foldedOf ρ φ l)) s ρ)) h
-      (λ g u. ⊎-elim (f g) (λ v. let (gb, (c, cb, p, q)) = below-is ρ (aboveOf ρ (foldedOf ρ φ l)) s ρ g .0 v in lower gb cb (above-is ρ φ l g c gb .0 p) (f c q)) (or-is s (belowOf ρ (aboveOf ρ (foldedOf ρ φ l)) s ρ) g .0 u)) t
+      (λ g u. ⊎-elim (f g) (λ v. let (gb, (c, cb, p, q)) = below-is ρ (aboveOf ρ (foldedOf ρ φ l)) s ρ g .0 v in
+      lower gb cb (above-is ρ φ l g c gb .0 p) (f c q)) (or-is s (belowOf ρ (aboveOf ρ (foldedOf ρ φ l)) s ρ) g .0 u)) t
 
   passes-keep : (n s h : ℕ) → T (has s h) → T (has (passes ρ (aboveOf ρ (foldedOf ρ φ l)) n s) h)
   unfolding passes
   passes-keep zero s h t = t
-  passes-keep (suc n) s h t = passes-keep n (bitOr s (belowOf ρ (aboveOf ρ (foldedOf ρ φ l)) s ρ)) h (or-is s (belowOf ρ (aboveOf ρ (foldedOf ρ φ l)) s ρ) h .1 (inl t))
+  passes-keep (suc n) s h t = passes-keep n (bitOr s (belowOf ρ (aboveOf ρ (foldedOf ρ φ l)) s ρ)) h
+      (or-is s (belowOf ρ (aboveOf ρ (foldedOf ρ φ l)) s ρ) h .1 (inl t))
 
   pub raised-is : (seed h : ℕ) → seed < 2 ^ ρ → T (has (raisedOf ρ (aboveOf ρ (foldedOf ρ φ l)) seed) h) ↔ BelowSeed ρ φ l seed h
   unfolding raisedOf
@@ -312,20 +369,27 @@ module _ (ρ φ : ℕ) (l : List ℕ) where
       back : {h : ℕ} → BelowSeed ρ φ l seed h → T (has (passes ρ (aboveOf ρ (foldedOf ρ φ l)) (2 ^ ρ) seed) h)
       back {h} (seeded t) = passes-keep (2 ^ ρ) seed h t
       back {h} (lower {c} hb cb u o) = subst (λ m. T (has m h)) (passes-ended ρ (aboveOf ρ (foldedOf ρ φ l)) (2 ^ ρ) seed b (omega arith))
-          (or-is p (belowOf ρ (aboveOf ρ (foldedOf ρ φ l)) p ρ) h .1 (inr (below-is ρ (aboveOf ρ (foldedOf ρ φ l)) p ρ h .1 (hb, (c, cb, above-is ρ φ l h c hb .1 u, back o)))))
+          (or-is p (belowOf ρ (aboveOf ρ (foldedOf ρ φ l)) p ρ) h .1
+          (inr (below-is ρ (aboveOf ρ (foldedOf ρ φ l)) p ρ h .1 (hb, (c, cb, above-is ρ φ l h c hb .1 u, back o)))))
 
 -- h reaches, by zero or more results, an argument of a result that has x, or a register of `more`
 pub data Beneath (ρ φ : ℕ) (l : List ℕ) (x more : ℕ) : ℕ → Type 0 where
   extra : {h : ℕ} → T (has more h) → Beneath ρ φ l x more h
-  direct : (k : ℕ) {c h : ℕ} → k < φ * ρ * ρ → c < ρ → T (has (getD l k 0) c) → (placeFirst ρ k ≡ x) ⊎ ((placeSecond ρ k ≡ x) ⊎ (c ≡ x)) → (h ≡ placeFirst ρ k) ⊎ (h ≡ placeSecond ρ k) → Beneath ρ φ l x more h
-  beneath : (k : ℕ) {c h : ℕ} → k < φ * ρ * ρ → c < ρ → T (has (getD l k 0) c) → Beneath ρ φ l x more c → (h ≡ placeFirst ρ k) ⊎ (h ≡ placeSecond ρ k) → Beneath ρ φ l x more h
+  direct : (k : ℕ) {c h : ℕ} → k < φ * ρ * ρ → c < ρ → T (has (getD l k 0) c) → (placeFirst ρ k ≡ x) ⊎ ((placeSecond ρ k ≡ x) ⊎ (c ≡ x))
+      → (h ≡ placeFirst ρ k) ⊎ (h ≡ placeSecond ρ k) → Beneath ρ φ l x more h
+  beneath : (k : ℕ) {c h : ℕ} → k < φ * ρ * ρ → c < ρ → T (has (getD l k 0) c) → Beneath ρ φ l x more c → (h ≡ placeFirst ρ k) ⊎ (h ≡ placeSecond ρ k)
+      → Beneath ρ φ l x more h
 
 module _ (ρ φ : ℕ) (l : List ℕ) (x more : ℕ) (xb : x < ρ) (mb : more < 2 ^ ρ) where
   argument-below : (k h : ℕ) → (h ≡ placeFirst ρ k) ⊎ (h ≡ placeSecond ρ k) → h < ρ
-  argument-below k h d = let p : 0 < ρ = omega arith in ⊎-elim (λ e. subst (λ z. z < ρ) (sym e) (mod-lt (k / ρ) p)) (λ e. subst (λ z. z < ρ) (sym e) (mod-lt k p)) d
+  argument-below k h d = let p : 0 < ρ = omega arith in
+      ⊎-elim (λ e. subst (λ z. z < ρ) (sym e) (mod-lt (k / ρ) p)) (λ e. subst (λ z. z < ρ) (sym e) (mod-lt k p)) d
 
-  seed-is : (h : ℕ) → T (has (bitOr (bitOr (bitOr (belowOf ρ (aboveOf ρ (foldedOf ρ φ l)) (2 ^ x) ρ) (besideOf ρ (foldedOf ρ φ l) x ρ)) (flagOf ρ (getD (aboveOf ρ (foldedOf ρ φ l)) x 0) x)) more) h)
-      ↔ (T (has more h) ⊎ ((k : ℕ) × (c : ℕ) × (k < φ * ρ * ρ) × (c < ρ) × T (has (getD l k 0) c) × ((placeFirst ρ k ≡ x) ⊎ ((placeSecond ρ k ≡ x) ⊎ (c ≡ x))) × ((h ≡ placeFirst ρ k) ⊎ (h ≡ placeSecond ρ k))))
+  seed-is : (h : ℕ) → T (has (bitOr
+      (bitOr (bitOr (belowOf ρ (aboveOf ρ (foldedOf ρ φ l)) (2 ^ x) ρ) (besideOf ρ (foldedOf ρ φ l) x ρ)) (flagOf ρ (getD (aboveOf ρ (foldedOf ρ φ l)) x 0) x))
+      more) h)
+      ↔ (T (has more h) ⊎ ((k : ℕ) × (c : ℕ) × (k < φ * ρ * ρ) × (c < ρ) × T (has (getD l k 0) c) × ((placeFirst ρ k ≡ x) ⊎ ((placeSecond ρ k ≡ x) ⊎ (c ≡ x)))
+      × ((h ≡ placeFirst ρ k) ⊎ (h ≡ placeSecond ρ k))))
   seed-is h = (into, out)
     where
       B : ℕ
@@ -338,23 +402,32 @@ module _ (ρ φ : ℕ) (l : List ℕ) (x more : ℕ) (xb : x < ρ) (mb : more < 
       G = flagOf ρ (getD (aboveOf ρ (foldedOf ρ φ l)) x 0) x
 
       Found : Type 0
-      Found = (k : ℕ) × (c : ℕ) × (k < φ * ρ * ρ) × (c < ρ) × T (has (getD l k 0) c) × ((placeFirst ρ k ≡ x) ⊎ ((placeSecond ρ k ≡ x) ⊎ (c ≡ x))) × ((h ≡ placeFirst ρ k) ⊎ (h ≡ placeSecond ρ k))
+      Found = (k : ℕ) × (c : ℕ) × (k < φ * ρ * ρ) × (c < ρ) × T (has (getD l k 0) c) × ((placeFirst ρ k ≡ x) ⊎ ((placeSecond ρ k ≡ x) ⊎ (c ≡ x)))
+          × ((h ≡ placeFirst ρ k) ⊎ (h ≡ placeSecond ρ k))
 
-      from-below : T (has (belowOf ρ (aboveOf ρ (foldedOf ρ φ l)) (2 ^ x) ρ) h) → (k : ℕ) × (c : ℕ) × (k < φ * ρ * ρ) × (c < ρ) × T (has (getD l k 0) c) × ((placeFirst ρ k ≡ x) ⊎ ((placeSecond ρ k ≡ x) ⊎ (c ≡ x))) × ((h ≡ placeFirst ρ k) ⊎ (h ≡ placeSecond ρ k))
+      from-below : T (has (belowOf ρ (aboveOf ρ (foldedOf ρ φ l)) (2 ^ x) ρ) h)
+          → (k : ℕ) × (c : ℕ) × (k < φ * ρ * ρ) × (c < ρ) × T (has (getD l k 0) c) × ((placeFirst ρ k ≡ x) ⊎ ((placeSecond ρ k ≡ x) ⊎ (c ≡ x)))
+          × ((h ≡ placeFirst ρ k) ⊎ (h ≡ placeSecond ρ k))
       from-below t =
           let (hb, (c, cb, p, q)) = below-is ρ (aboveOf ρ (foldedOf ρ φ l)) (2 ^ x) ρ h .0 t in
           let (k, kb, u, d) = above-is ρ φ l h c hb .0 p in
           (k, c, kb, cb, u, inr (inr (single-is x c .0 q)), d)
 
-      from-beside : T (has (besideOf ρ (foldedOf ρ φ l) x ρ) h) → (k : ℕ) × (c : ℕ) × (k < φ * ρ * ρ) × (c < ρ) × T (has (getD l k 0) c) × ((placeFirst ρ k ≡ x) ⊎ ((placeSecond ρ k ≡ x) ⊎ (c ≡ x))) × ((h ≡ placeFirst ρ k) ⊎ (h ≡ placeSecond ρ k))
+      from-beside : T (has (besideOf ρ (foldedOf ρ φ l) x ρ) h)
+          → (k : ℕ) × (c : ℕ) × (k < φ * ρ * ρ) × (c < ρ) × T (has (getD l k 0) c) × ((placeFirst ρ k ≡ x) ⊎ ((placeSecond ρ k ≡ x) ⊎ (c ≡ x)))
+          × ((h ≡ placeFirst ρ k) ⊎ (h ≡ placeSecond ρ k))
       from-beside t =
           let (hb, (c, cb, p)) = beside-is ρ (foldedOf ρ φ l) x ρ h .0 t in
           ⊎-elim
-          (λ u. let (f, fb, v) = folded-is ρ φ l x h c xb hb .0 u in (place ρ f x h, c, place-below ρ f x h xb hb φ fb, cb, v, inl (first-place ρ f x h xb hb), inr (sym (second-place ρ f x h xb hb))))
-          (λ u. let (f, fb, v) = folded-is ρ φ l h x c hb xb .0 u in (place ρ f h x, c, place-below ρ f h x hb xb φ fb, cb, v, inr (inl (second-place ρ f h x hb xb)), inl (sym (first-place ρ f h x hb xb))))
+          (λ u. let (f, fb, v) = folded-is ρ φ l x h c xb hb .0 u in
+          (place ρ f x h, c, place-below ρ f x h xb hb φ fb, cb, v, inl (first-place ρ f x h xb hb), inr (sym (second-place ρ f x h xb hb))))
+          (λ u. let (f, fb, v) = folded-is ρ φ l h x c hb xb .0 u in
+          (place ρ f h x, c, place-below ρ f h x hb xb φ fb, cb, v, inr (inl (second-place ρ f h x hb xb)), inl (sym (first-place ρ f h x hb xb))))
           p
 
-      from-own : T (has (flagOf ρ (getD (aboveOf ρ (foldedOf ρ φ l)) x 0) x) h) → (k : ℕ) × (c : ℕ) × (k < φ * ρ * ρ) × (c < ρ) × T (has (getD l k 0) c) × ((placeFirst ρ k ≡ x) ⊎ ((placeSecond ρ k ≡ x) ⊎ (c ≡ x))) × ((h ≡ placeFirst ρ k) ⊎ (h ≡ placeSecond ρ k))
+      from-own : T (has (flagOf ρ (getD (aboveOf ρ (foldedOf ρ φ l)) x 0) x) h)
+          → (k : ℕ) × (c : ℕ) × (k < φ * ρ * ρ) × (c < ρ) × T (has (getD l k 0) c) × ((placeFirst ρ k ≡ x) ⊎ ((placeSecond ρ k ≡ x) ⊎ (c ≡ x)))
+          × ((h ≡ placeFirst ρ k) ⊎ (h ≡ placeSecond ρ k))
       from-own t =
           let (e, (c, cb, p)) = flag-is ρ (getD (aboveOf ρ (foldedOf ρ φ l)) x 0) x h .0 t in
           let (k, kb, u, d) = above-is ρ φ l x c xb .0 p in
@@ -381,17 +454,33 @@ module _ (ρ φ : ℕ) (l : List ℕ) (x more : ℕ) (xb : x < ρ) (mb : more < 
 
           find : (placeFirst ρ k ≡ x) ⊎ ((placeSecond ρ k ≡ x) ⊎ (c ≡ x)) → (h ≡ placeFirst ρ k) ⊎ (h ≡ placeSecond ρ k) → T (has (bitOr B S) h) ⊎ T (has G h)
           find (inl p) (inl q) = own (inl (sym p)) (q ∙ p)
-          find (inl p) (inr q) = beside (inl (folded-is ρ φ l x h c xb hb .1 (placeFunction ρ k, function-below ρ φ k kb, subst (λ z. T (has (getD l z 0) c)) (sym (place-is ρ k) ∙ ap₂ (place ρ (placeFunction ρ k)) p (sym q)) t)))
-          find (inr (inl p)) (inl q) = beside (inr (folded-is ρ φ l h x c hb xb .1 (placeFunction ρ k, function-below ρ φ k kb, subst (λ z. T (has (getD l z 0) c)) (sym (place-is ρ k) ∙ ap₂ (place ρ (placeFunction ρ k)) (sym q) p) t)))
+          find (inl p) (inr q) = beside (inl
+              (folded-is ρ φ l x h c xb hb .1 (
+                placeFunction ρ k,
+                function-below ρ φ k kb,
+                subst (λ z. T (has (getD l z 0) c))
+                    (sym (place-is ρ k) ∙ ap₂ (place ρ (placeFunction ρ k)) p (sym q)) t,
+              )))
+          find (inr (inl p)) (inl q) = beside
+              (inr (folded-is ρ φ l h x c hb xb .1 (
+                placeFunction ρ k,
+                function-below ρ φ k kb,
+                subst (λ z. T (has (getD l z 0) c))
+                    (sym (place-is ρ k) ∙ ap₂ (place ρ (placeFunction ρ k)) (sym q) p) t,
+              )))
           find (inr (inl p)) (inr q) = own (inr (sym p)) (q ∙ p)
-          find (inr (inr p)) q = inl (or-is B S h .1 (inl (below-is ρ (aboveOf ρ (foldedOf ρ φ l)) (2 ^ x) ρ h .1 (hb, (c, cb, above-is ρ φ l h c hb .1 (k, kb, t, q), single-is x c .1 p)))))
+          find (inr (inr p)) q = inl (or-is B S h .1
+              (inl (below-is ρ (aboveOf ρ (foldedOf ρ φ l)) (2 ^ x) ρ h .1 (hb, (c, cb, above-is ρ φ l h c hb .1 (k, kb, t, q), single-is x c .1 p)))))
 
-  seed-small : bitOr (bitOr (bitOr (belowOf ρ (aboveOf ρ (foldedOf ρ φ l)) (2 ^ x) ρ) (besideOf ρ (foldedOf ρ φ l) x ρ)) (flagOf ρ (getD (aboveOf ρ (foldedOf ρ φ l)) x 0) x)) more < 2 ^ ρ
+  seed-small : bitOr (bitOr (bitOr (belowOf ρ (aboveOf ρ (foldedOf ρ φ l)) (2 ^ x) ρ) (besideOf ρ (foldedOf ρ φ l) x ρ))
+      (flagOf ρ (getD (aboveOf ρ (foldedOf ρ φ l)) x 0) x)) more < 2 ^ ρ
   seed-small =
       let B = belowOf ρ (aboveOf ρ (foldedOf ρ φ l)) (2 ^ x) ρ in
       let S = besideOf ρ (foldedOf ρ φ l) x ρ in
       let G = flagOf ρ (getD (aboveOf ρ (foldedOf ρ φ l)) x 0) x in
-      or-small ρ (bitOr (bitOr B S) G) more (or-small ρ (bitOr B S) G (or-small ρ B S (below-small ρ (aboveOf ρ (foldedOf ρ φ l)) (2 ^ x) ρ (omega arith)) (beside-small ρ (foldedOf ρ φ l) x ρ (omega arith))) (flag-small ρ (getD (aboveOf ρ (foldedOf ρ φ l)) x 0) x xb)) mb
+      or-small ρ (bitOr (bitOr B S) G) more
+      (or-small ρ (bitOr B S) G (or-small ρ B S (below-small ρ (aboveOf ρ (foldedOf ρ φ l)) (2 ^ x) ρ (omega arith))
+      (beside-small ρ (foldedOf ρ φ l) x ρ (omega arith))) (flag-small ρ (getD (aboveOf ρ (foldedOf ρ φ l)) x 0) x xb)) mb
 
   pub lost-small : lostOf ρ φ l x more < 2 ^ ρ
   unfolding lostOf
@@ -403,7 +492,8 @@ module _ (ρ φ : ℕ) (l : List ℕ) (x more : ℕ) (xb : x < ρ) (mb : more < 
   lost-beneath h = Iff·trans (raised-is ρ φ l seed h seed-small) (into, back)
     where
       seed : ℕ
-      seed = bitOr (bitOr (bitOr (belowOf ρ (aboveOf ρ (foldedOf ρ φ l)) (2 ^ x) ρ) (besideOf ρ (foldedOf ρ φ l) x ρ)) (flagOf ρ (getD (aboveOf ρ (foldedOf ρ φ l)) x 0) x)) more
+      seed = bitOr (bitOr (bitOr (belowOf ρ (aboveOf ρ (foldedOf ρ φ l)) (2 ^ x) ρ) (besideOf ρ (foldedOf ρ φ l) x ρ))
+          (flagOf ρ (getD (aboveOf ρ (foldedOf ρ φ l)) x 0) x)) more
 
       into : {h : ℕ} → BelowSeed ρ φ l seed h → Beneath ρ φ l x more h
       into {h} (seeded t) = ⊎-elim extra (λ (k, c, kb, cb, u, d, e). direct k kb cb u d e) (seed-is h .0 t)

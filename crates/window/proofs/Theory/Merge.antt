@@ -15,8 +15,10 @@ module _ (n : ℕ) (w : View) (a b : ℕ) where
     pub same : (r s : ℕ) → r < n → s < n → T (w′ .same r s) ↔ (T (w .same r s) ⊎ (In r × In s))
     pub apart : (r s : ℕ) → r < n → s < n → T (w′ .apart r s) ↔ ((p : ℕ) × (q : ℕ) × (p < n) × (q < n) × T (w .apart p q) × T (w′ .same p r) × T (w′ .same q s))
     pub result : (f r s c : ℕ) → r < n → s < n → c < n
-        → T (w′ .result f r s c) ↔ ((p : ℕ) × (q : ℕ) × (d : ℕ) × (p < n) × (q < n) × (d < n) × T (w .result f p q d) × T (w′ .same p r) × T (w′ .same q s) × T (w′ .same d c))
-    pub ever : (f r s : ℕ) → r < n → s < n → T (w′ .ever f r s) ↔ ((p : ℕ) × (q : ℕ) × (p < n) × (q < n) × T (w .ever f p q) × T (w′ .same p r) × T (w′ .same q s))
+        → T (w′ .result f r s c) ↔ ((p : ℕ) × (q : ℕ) × (d : ℕ) × (p < n) × (q < n) × (d < n) × T (w .result f p q d) × T (w′ .same p r) × T (w′ .same q s)
+        × T (w′ .same d c))
+    pub ever : (f r s : ℕ) → r < n → s < n
+        → T (w′ .ever f r s) ↔ ((p : ℕ) × (q : ℕ) × (p < n) × (q < n) × T (w .ever f p q) × T (w′ .same p r) × T (w′ .same q s))
     pub marked : (r : ℕ) → r < n → T (w′ .marked r) ↔ T (w .marked r)
     pub infeasible : T (w′ .infeasible) ↔ T (w .infeasible)
 
@@ -47,7 +49,8 @@ module _ (n : ℕ) (w : View) (a b : ℕ) where
       joined = joined′;
       result = λ f r s c r′ s′ c′ rb sb cb rb′ sb′ cb′ t i j k.
           let (p, q, d, pb, qb, db, h, i₀, j₀, k₀) = m .result f r s c rb sb cb .0 t in
-          m .result f r′ s′ c′ rb′ sb′ cb′ .1 (p, q, d, pb, qb, db, h, joined′ p r r′ pb rb rb′ i₀ i, joined′ q s s′ qb sb sb′ j₀ j, joined′ d c c′ db cb cb′ k₀ k);
+          m .result f r′ s′ c′ rb′ sb′ cb′ .1
+          (p, q, d, pb, qb, db, h, joined′ p r r′ pb rb rb′ i₀ i, joined′ q s s′ qb sb sb′ j₀ j, joined′ d c c′ db cb cb′ k₀ k);
       ever = λ f r s r′ s′ rb sb rb′ sb′ t i j.
           let (p, q, pb, qb, h, i₀, j₀) = m .ever f r s rb sb .0 t in
           m .ever f r′ s′ rb′ sb′ .1 (p, q, pb, qb, h, joined′ p r r′ pb rb rb′ i₀ i, joined′ q s s′ qb sb sb′ j₀ j);
@@ -60,10 +63,12 @@ module _ (n : ℕ) (w : View) (a b : ℕ) where
 pub record Joining (n : ℕ) (w₀ : View) (x y : ℕ) (w : View) : Type 0 where
   pub laws : Laws n w
   pub same-e : (r s : ℕ) → r < n → s < n → T (w .same r s) → Joined n w₀ x y r s
-  pub apart-e : (r s : ℕ) → r < n → s < n → T (w .apart r s) → (p : ℕ) × (q : ℕ) × (p < n) × (q < n) × T (w₀ .apart p q) × Joined n w₀ x y p r × Joined n w₀ x y q s
+  pub apart-e : (r s : ℕ) → r < n → s < n → T (w .apart r s)
+      → (p : ℕ) × (q : ℕ) × (p < n) × (q < n) × T (w₀ .apart p q) × Joined n w₀ x y p r × Joined n w₀ x y q s
   pub result-e : (f r s c : ℕ) → r < n → s < n → c < n → T (w .result f r s c)
       → (p : ℕ) × (q : ℕ) × (d : ℕ) × (p < n) × (q < n) × (d < n) × T (w₀ .result f p q d) × Joined n w₀ x y p r × Joined n w₀ x y q s × Joined n w₀ x y d c
-  pub ever-e : (f r s : ℕ) → r < n → s < n → T (w .ever f r s) → (p : ℕ) × (q : ℕ) × (p < n) × (q < n) × T (w₀ .ever f p q) × Joined n w₀ x y p r × Joined n w₀ x y q s
+  pub ever-e : (f r s : ℕ) → r < n → s < n → T (w .ever f r s)
+      → (p : ℕ) × (q : ℕ) × (p < n) × (q < n) × T (w₀ .ever f p q) × Joined n w₀ x y p r × Joined n w₀ x y q s
   pub same-i : (r s : ℕ) → r < n → s < n → T (w₀ .same r s) → T (w .same r s)
   pub apart-i : (r s : ℕ) → r < n → s < n → T (w₀ .apart r s) → T (w .apart r s)
   pub result-i : (f r s c : ℕ) → r < n → s < n → c < n → T (w₀ .result f r s c) → T (w .result f r s c)
@@ -86,7 +91,8 @@ joining-none n w x y g = record {
   infeasible = ((λ t. t), (λ t. t));
 }
 
-module _ (n : ℕ) (w₀ : View) (x y : ℕ) (w : View) (j : Joining n w₀ x y w) (a b : ℕ) (ab : a < n) (bb : b < n) (l : Joined n w₀ x y a b) (w′ : View) (m : ClassesMerged n w a b w′) where
+module _ (n : ℕ) (w₀ : View) (x y : ℕ) (w : View) (j : Joining n w₀ x y w) (a b : ℕ) (ab : a < n) (bb : b < n) (l : Joined n w₀ x y a b) (w′ : View)
+    (m : ClassesMerged n w a b w′) where
   to-a : {r : ℕ} → r < n → In n w a b r → Joined n w₀ x y a r
   to-a {r} rb (inl t) = j .same-e a r ab rb t
   to-a {r} rb (inr t) = join′ l (j .same-e b r bb rb t)
@@ -114,7 +120,8 @@ module _ (n : ℕ) (w₀ : View) (x y : ℕ) (w : View) (j : Joining n w₀ x y 
             (p₀, q₀, pb₀, qb₀, h₀, join′ i₀ (link p r pb rb i), join′ k₀ (link q s qb sb k));
         same-i = λ r s rb sb t. m .same r s rb sb .1 (inl (j .same-i r s rb sb t));
         apart-i = λ r s rb sb t. m .apart r s rb sb .1 (r, s, rb, sb, j .apart-i r s rb sb t, g .self r rb, g .self s sb);
-        result-i = λ f r s c rb sb cb t. m .result f r s c rb sb cb .1 (r, s, c, rb, sb, cb, j .result-i f r s c rb sb cb t, g .self r rb, g .self s sb, g .self c cb);
+        result-i = λ f r s c rb sb cb t. m .result f r s c rb sb cb .1
+            (r, s, c, rb, sb, cb, j .result-i f r s c rb sb cb t, g .self r rb, g .self s sb, g .self c cb);
         ever-i = λ f r s rb sb t. m .ever f r s rb sb .1 (r, s, rb, sb, j .ever-i f r s rb sb t, g .self r rb, g .self s sb);
         marked = λ r rb. Iff·trans (m .marked r rb) (j .marked r rb);
         infeasible = Iff·trans (m .infeasible) (j .infeasible);
@@ -132,14 +139,16 @@ module _ (n : ℕ) (w₀ : View) (x y : ℕ) (xb : x < n) (yb : y < n) (w : View
       let (ab, cb, u) = closed k in
       let (bb, db, v) = closed l in
       let h′ = j .result-i f a b r ab bb rb h in
-      let i′ = j .laws .result f c d s a b s cb db sb ab bb sb (j .result-i f c d s cb db sb i) (j .laws .turned a c ab cb u) (j .laws .turned b d bb db v) (j .laws .self s sb) in
+      let i′ = j .laws .result f c d s a b s cb db sb ab bb sb (j .result-i f c d s cb db sb i) (j .laws .turned a c ab cb u) (j .laws .turned b d bb db v)
+      (j .laws .self s sb) in
       (rb, sb, stable f a b r s ab bb rb sb h′ i′)
 
   pub same-joined : (r s : ℕ) → r < n → s < n → T (w .same r s) ↔ Joined n w₀ x y r s
   same-joined r s rb sb = (j .same-e r s rb sb, λ k. closed k .2)
 
   pub result-joined : (f r s c : ℕ) → r < n → s < n → c < n
-      → T (w .result f r s c) ↔ ((p : ℕ) × (q : ℕ) × (d : ℕ) × (p < n) × (q < n) × (d < n) × T (w₀ .result f p q d) × Joined n w₀ x y p r × Joined n w₀ x y q s × Joined n w₀ x y d c)
+      → T (w .result f r s c) ↔ ((p : ℕ) × (q : ℕ) × (d : ℕ) × (p < n) × (q < n) × (d < n) × T (w₀ .result f p q d) × Joined n w₀ x y p r × Joined n w₀ x y q s
+      × Joined n w₀ x y d c)
   result-joined f r s c rb sb cb = (
     j .result-e f r s c rb sb cb,
     λ (p, q, d, pb, qb, db, h, i, k, o).
@@ -148,8 +157,16 @@ module _ (n : ℕ) (w₀ : View) (x y : ℕ) (xb : x < n) (yb : y < n) (w : View
 
   pub ever-joined : (f r s : ℕ) → r < n → s < n
       → T (w .ever f r s) ↔ ((p : ℕ) × (q : ℕ) × (p < n) × (q < n) × T (w₀ .ever f p q) × Joined n w₀ x y p r × Joined n w₀ x y q s)
-  ever-joined f r s rb sb = (j .ever-e f r s rb sb, λ (p, q, pb, qb, h, i, k). j .laws .ever f p q r s pb qb rb sb (j .ever-i f p q pb qb h) (closed i .2) (closed k .2))
+  ever-joined f r s rb sb = (
+    j .ever-e f r s rb sb,
+    λ (p, q, pb, qb, h, i, k). j .laws .ever f p q r s pb qb rb sb (j .ever-i f p q pb qb h) (closed i .2)
+        (closed k .2),
+  )
 
   pub apart-joined : (r s : ℕ) → r < n → s < n
       → T (w .apart r s) ↔ ((p : ℕ) × (q : ℕ) × (p < n) × (q < n) × T (w₀ .apart p q) × Joined n w₀ x y p r × Joined n w₀ x y q s)
-  apart-joined r s rb sb = (j .apart-e r s rb sb, λ (p, q, pb, qb, h, i, k). j .laws .apart p q r s pb qb rb sb (j .apart-i p q pb qb h) (closed i .2) (closed k .2))
+  apart-joined r s rb sb = (
+    j .apart-e r s rb sb,
+    λ (p, q, pb, qb, h, i, k). j .laws .apart p q r s pb qb rb sb (j .apart-i p q pb qb h) (closed i .2)
+        (closed k .2),
+  )

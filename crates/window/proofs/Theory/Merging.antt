@@ -39,7 +39,8 @@ module _ (ρ φ : ℕ) where
     -- the registers of the union
     in-to : (r : ℕ) → T (has (bothClasses w a b) r) ↔ In n (view ρ φ w) a b r
     in-to r = (
-      (λ t. ⊎-elim (λ k. or-is (getD (w .class) a 0) (getD (w .class) b 0) r .0 k) (λ k. inl (subst (λ z. T (view ρ φ w .same a z)) (sym (single-is a r .0 k)) (g .self a ab)))
+      (λ t. ⊎-elim (λ k. or-is (getD (w .class) a 0) (getD (w .class) b 0) r .0 k)
+          (λ k. inl (subst (λ z. T (view ρ φ w .same a z)) (sym (single-is a r .0 k)) (g .self a ab)))
           (or-is (bitOr (getD (w .class) a 0) (getD (w .class) b 0)) (2 ^ a) r .0 t)),
       (λ k. or-is (bitOr (getD (w .class) a 0) (getD (w .class) b 0)) (2 ^ a) r .1 (inl (or-is (getD (w .class) a 0) (getD (w .class) b 0) r .1 k))),
     )
@@ -65,13 +66,15 @@ module _ (ρ φ : ℕ) where
     pick-self r k = inr ((λ t. k (in-to r .0 t)), refl)
 
     below-pick : (r z : ℕ) → r < n → As r z → z < n
-    below-pick r z rb p = ⊎-elim (λ (k, h). ⊎-elim (λ q. subst (λ v. v < n) (sym q) ab) (λ q. subst (λ v. v < n) (sym q) bb) h) (λ (k, h). subst (λ v. v < n) (sym h) rb) (picked r z p)
+    below-pick r z rb p = ⊎-elim (λ (k, h). ⊎-elim (λ q. subst (λ v. v < n) (sym q) ab) (λ q. subst (λ v. v < n) (sym q) bb) h)
+        (λ (k, h). subst (λ v. v < n) (sym h) rb) (picked r z p)
 
     back-pick : (r z : ℕ) → r < ρ → As r z → z < n → r < n
     back-pick r z rb p zb = ⊎-elim (λ (k, h). in-below r rb k) (λ (k, h). subst (λ v. v < n) h zb) (picked r z p)
 
     small-pick : (r z : ℕ) → r < ρ → As r z → z < ρ
-    small-pick r z rb p = ⊎-elim (λ (k, h). ⊎-elim (λ q. subst (λ v. v < ρ) (sym q) (low a ab)) (λ q. subst (λ v. v < ρ) (sym q) (low b bb)) h) (λ (k, h). subst (λ v. v < ρ) (sym h) rb) (picked r z p)
+    small-pick r z rb p = ⊎-elim (λ (k, h). ⊎-elim (λ q. subst (λ v. v < ρ) (sym q) (low a ab)) (λ q. subst (λ v. v < ρ) (sym q) (low b bb)) h)
+        (λ (k, h). subst (λ v. v < ρ) (sym h) rb) (picked r z p)
 
     in-of : (r z : ℕ) → r < n → z < n → T (view ρ φ w .same z r) → In n (view ρ φ w) a b z → In n (view ρ φ w) a b r
     in-of r z rb zb t (inl k) = inl (g .joined a z r ab zb rb k t)
@@ -84,17 +87,21 @@ module _ (ρ φ : ℕ) where
     in-b = inr (g .self b bb)
 
     in-pick : (z : ℕ) → (z ≡ a) ⊎ (z ≡ b) → In n (view ρ φ w) a b z × (z < n)
-    in-pick z h = ⊎-elim (λ q. subst (λ v. In n (view ρ φ w) a b v × (v < n)) (sym q) (in-a, ab)) (λ q. subst (λ v. In n (view ρ φ w) a b v × (v < n)) (sym q) (in-b, bb)) h
+    in-pick z h = ⊎-elim (λ q. subst (λ v. In n (view ρ φ w) a b v × (v < n)) (sym q) (in-a, ab))
+        (λ q. subst (λ v. In n (view ρ φ w) a b v × (v < n)) (sym q) (in-b, bb)) h
 
     -- a table of masks of the merged window
-    table-merged : (l : List ℕ) (j r s : ℕ) → r < ρ → ρ * j + r < length l → T (has (getD (masksThrough ρ a b (bothClasses w a b) l) (ρ * j + r) 0) s) ↔ ((z : ℕ) × (y : ℕ) × As r z × As s y × T (has (getD l (ρ * j + z) 0) y))
+    table-merged : (l : List ℕ) (j r s : ℕ) → r < ρ → ρ * j + r < length l
+        → T (has (getD (masksThrough ρ a b (bothClasses w a b) l) (ρ * j + r) 0) s) ↔ ((z : ℕ) × (y : ℕ) × As r z × As s y × T (has (getD l (ρ * j + z) 0) y))
     table-merged l j r s rb h = masks-is ρ φ a b (bothClasses w a b) (low a ab) (low b bb) l j r s rb h
 
-    row-merged : (l : List ℕ) (r s : ℕ) → length l ≡ ρ → r < ρ → T (has (getD (masksThrough ρ a b (bothClasses w a b) l) r 0) s) ↔ ((z : ℕ) × (y : ℕ) × As r z × As s y × T (has (getD l z 0) y))
-    row-merged l r s e rb = Iff·trans (same-iff (ap (λ k. has (getD (masksThrough ρ a b (bothClasses w a b) l) k 0) s) (omega arith))) (Iff·trans (table-merged l 0 r s rb (omega arith)) (
-      (λ (z, y, p, q, t). (z, y, p, q, subst (λ k. T (has (getD l k 0) y)) (omega arith) t)),
-      (λ (z, y, p, q, t). (z, y, p, q, subst (λ k. T (has (getD l k 0) y)) (omega arith) t)),
-    ))
+    row-merged : (l : List ℕ) (r s : ℕ) → length l ≡ ρ → r < ρ
+        → T (has (getD (masksThrough ρ a b (bothClasses w a b) l) r 0) s) ↔ ((z : ℕ) × (y : ℕ) × As r z × As s y × T (has (getD l z 0) y))
+    row-merged l r s e rb = Iff·trans (same-iff (ap (λ k. has (getD (masksThrough ρ a b (bothClasses w a b) l) k 0) s) (omega arith)))
+        (Iff·trans (table-merged l 0 r s rb (omega arith)) (
+          (λ (z, y, p, q, t). (z, y, p, q, subst (λ k. T (has (getD l k 0) y)) (omega arith) t)),
+          (λ (z, y, p, q, t). (z, y, p, q, subst (λ k. T (has (getD l k 0) y)) (omega arith) t)),
+        ))
 
     same-table : (r s : ℕ) → r < ρ → T (view ρ φ w′ .same r s) ↔ ((z : ℕ) × (y : ℕ) × As r z × As s y × T (view ρ φ w .same z y))
     unfolding mergedOf
@@ -106,11 +113,13 @@ module _ (ρ φ : ℕ) where
         into : (z : ℕ) × (y : ℕ) × As r z × As s y × T (view ρ φ w .same z y) → T (view ρ φ w .same r s) ⊎ (In n (view ρ φ w) a b r × In n (view ρ φ w) a b s)
         into (z, y, p, q, t) = go (picked r z p) (picked s y q) t
           where
-            go : (In n (view ρ φ w) a b r × ((z ≡ a) ⊎ (z ≡ b))) ⊎ ((¬ In n (view ρ φ w) a b r) × (z ≡ r)) → (In n (view ρ φ w) a b s × ((y ≡ a) ⊎ (y ≡ b))) ⊎ ((¬ In n (view ρ φ w) a b s) × (y ≡ s))
+            go : (In n (view ρ φ w) a b r × ((z ≡ a) ⊎ (z ≡ b))) ⊎ ((¬ In n (view ρ φ w) a b r) × (z ≡ r))
+                → (In n (view ρ φ w) a b s × ((y ≡ a) ⊎ (y ≡ b))) ⊎ ((¬ In n (view ρ φ w) a b s) × (y ≡ s))
                 → T (view ρ φ w .same z y) → T (view ρ φ w .same r s) ⊎ (In n (view ρ φ w) a b r × In n (view ρ φ w) a b s)
             go (inl (k, h)) (inl (l, h′)) t = inr (k, l)
             go (inl (k, h)) (inr (l, h′)) t = absurd (l (in-of s z sb (in-pick z h .1) (subst (λ v. T (view ρ φ w .same z v)) h′ t) (in-pick z h .0)))
-            go (inr (k, h)) (inl (l, h′)) t = absurd (k (in-of r y rb (in-pick y h′ .1) (g .turned r y rb (in-pick y h′ .1) (subst (λ v. T (view ρ φ w .same v y)) h t)) (in-pick y h′ .0)))
+            go (inr (k, h)) (inl (l, h′)) t =
+                absurd (k (in-of r y rb (in-pick y h′ .1) (g .turned r y rb (in-pick y h′ .1) (subst (λ v. T (view ρ φ w .same v y)) h t)) (in-pick y h′ .0)))
             go (inr (k, h)) (inr (l, h′)) t = inl (subst (λ v. T (view ρ φ w .same v s)) h (subst (λ v. T (view ρ φ w .same z v)) h′ t))
 
         out : T (view ρ φ w .same r s) ⊎ (In n (view ρ φ w) a b r × In n (view ρ φ w) a b s) → (z : ℕ) × (y : ℕ) × As r z × As s y × T (view ρ φ w .same z y)
@@ -137,7 +146,8 @@ module _ (ρ φ : ℕ) where
         go (inr (k, l)) = inside k l
         go (inl k) = ⊎-elim (λ l. inside (in-of p r pb rb (g .turned p r pb rb k) l) l) (λ l. (r, rb, pick-self r l, k)) (in-or r)
 
-    result-table : (f r s c : ℕ) → r < ρ → s < ρ → T (view ρ φ w′ .result f r s c) ↔ ((z : ℕ) × (y : ℕ) × (d : ℕ) × As r z × As s y × As c d × T (view ρ φ w .result f z y d))
+    result-table : (f r s c : ℕ) → r < ρ → s < ρ
+        → T (view ρ φ w′ .result f r s c) ↔ ((z : ℕ) × (y : ℕ) × (d : ℕ) × As r z × As s y × As c d × T (view ρ φ w .result f z y d))
     unfolding mergedOf
     result-table f r s c rb sb = byTest (ltb f φ)
         (λ u. rw u (results-is ρ φ a b (bothClasses w a b) (low a ab) (low b bb) (w .result) (sh .result) f r s c (ltb-true f φ u) rb sb))
@@ -181,7 +191,8 @@ module _ (ρ φ : ℕ) where
             result-table f r s c (low r rb) (low s sb) .1 (z, y, x, i₀, j₀, k₀, g .result f p q d z y x pb qb db zb yb xb h u v o)),
       );
       ever = λ f r s rb sb. (
-        (λ t. let (z, y, p, q, h) = ever-table f r s (low r rb) (low s sb) .0 t in (z, y, below-pick r z rb p, below-pick s y sb q, h, near r z rb p, near s y sb q)),
+        (λ t. let (z, y, p, q, h) = ever-table f r s (low r rb) (low s sb) .0 t in
+            (z, y, below-pick r z rb p, below-pick s y sb q, h, near r z rb p, near s y sb q)),
         (λ (p, q, pb, qb, h, k, l).
             let (z, zb, i₀, u) = pick p r pb rb k in
             let (y, yb, j₀, v) = pick q s qb sb l in
@@ -194,10 +205,14 @@ module _ (ρ φ : ℕ) where
     pub inside-merged : Inside ρ n (view ρ φ w′)
     inside-merged = record {
       fits = i .fits;
-      same = λ r s rb sb t. let (z, y, p, q, h) = same-table r s rb .0 t in let (zb, yb) = i .same z y (small-pick r z rb p) (small-pick s y sb q) h in (back-pick r z rb p zb, back-pick s y sb q yb);
-      apart = λ r s rb sb t. let (z, y, p, q, h) = apart-table r s rb .0 t in let (zb, yb) = i .apart z y (small-pick r z rb p) (small-pick s y sb q) h in (back-pick r z rb p zb, back-pick s y sb q yb);
-      result = λ f r s c rb sb cb t. let (z, y, d, p, q, o, h) = result-table f r s c rb sb .0 t in let (zb, yb, db) = i .result f z y d (small-pick r z rb p) (small-pick s y sb q) (small-pick c d cb o) h in
+      same = λ r s rb sb t. let (z, y, p, q, h) = same-table r s rb .0 t in let (zb, yb) = i .same z y (small-pick r z rb p) (small-pick s y sb q) h in
+          (back-pick r z rb p zb, back-pick s y sb q yb);
+      apart = λ r s rb sb t. let (z, y, p, q, h) = apart-table r s rb .0 t in let (zb, yb) = i .apart z y (small-pick r z rb p) (small-pick s y sb q) h in
+          (back-pick r z rb p zb, back-pick s y sb q yb);
+      result = λ f r s c rb sb cb t. let (z, y, d, p, q, o, h) = result-table f r s c rb sb .0 t in
+          let (zb, yb, db) = i .result f z y d (small-pick r z rb p) (small-pick s y sb q) (small-pick c d cb o) h in
           (back-pick r z rb p zb, back-pick s y sb q yb, back-pick c d cb o db);
-      ever = λ f r s rb sb t. let (z, y, p, q, h) = ever-table f r s rb sb .0 t in let (zb, yb) = i .ever f z y (small-pick r z rb p) (small-pick s y sb q) h in (back-pick r z rb p zb, back-pick s y sb q yb);
+      ever = λ f r s rb sb t. let (z, y, p, q, h) = ever-table f r s rb sb .0 t in let (zb, yb) = i .ever f z y (small-pick r z rb p) (small-pick s y sb q) h in
+          (back-pick r z rb p zb, back-pick s y sb q yb);
       marked = λ r rb t. i .marked r rb (subst T (mark-kept r) t);
     }

@@ -17,22 +17,26 @@ use Rattle.window.specs.Through.{masksThrough, resultsThrough}
 use Rattle.window.specs.Adding.{partOf, lineAdded, masksForgotten, resultsForgotten}
 use Rattle.window.specs.Marks.{markedWith}
 use Rattle.window.specs.declared.Window.{Window}
-use Rattle.window.specs.Performing.{withTables, withUnequal, argumentsOf, fallenOf, copiedTables, copiedOf, mergedOf, restOf, findOf, closedOf, apartOf, clashOf, settledOf, equalOf, partedOf, unequalOf, appliedOf, applyOf}
+use Rattle.window.specs.Performing.{withTables, withUnequal, argumentsOf, fallenOf, copiedTables, copiedOf, mergedOf, restOf, findOf, closedOf, apartOf}
+use Rattle.window.specs.Performing.{clashOf, settledOf, equalOf, partedOf, unequalOf, appliedOf, applyOf}
 
 pub both-has : (m n a s : ℕ) → s ≡ 2 ^ a → has (bitOr (bitOr m n) s) a ≡ true
 both-has m n a s e = rw (e, with-same (bitOr m n) a)
 
-pub parted-is : (l : List ℕ) (one two r p q : ℕ) → p ≡ partOf one two r → q ≡ partOf two one r → bitOr (bitOr (getD l r 0) p) q ≡ bitOr (bitOr (getD l r 0) (partOf one two r)) (partOf two one r)
+pub parted-is : (l : List ℕ) (one two r p q : ℕ) → p ≡ partOf one two r → q ≡ partOf two one r
+    → bitOr (bitOr (getD l r 0) p) q ≡ bitOr (bitOr (getD l r 0) (partOf one two r)) (partOf two one r)
 parted-is l one two r p q d e = rw (d, e)
 
 module _ (ρ φ : ℕ) where
   -- ---- the loops
 
-  pub find-more : (class result : List ℕ) (i : ℕ) → i < φ * ρ * ρ → nonempty ρ (restOf ρ φ class (getD result i 0)) ≡ false → findOf ρ φ class result i (φ * ρ * ρ - i) ≡ findOf ρ φ class result (i + 1) (φ * ρ * ρ - (i + 1))
+  pub find-more : (class result : List ℕ) (i : ℕ) → i < φ * ρ * ρ → nonempty ρ (restOf ρ φ class (getD result i 0)) ≡ false
+      → findOf ρ φ class result i (φ * ρ * ρ - i) ≡ findOf ρ φ class result (i + 1) (φ * ρ * ρ - (i + 1))
   unfolding findOf
   find-more class result i h e = let k : φ * ρ * ρ - i ≡ suc (φ * ρ * ρ - (i + 1)) = omega arith in rw (k, e, add-one)
 
-  pub find-here : (class result : List ℕ) (i : ℕ) → i < φ * ρ * ρ → nonempty ρ (restOf ρ φ class (getD result i 0)) ≡ true → findOf ρ φ class result i (φ * ρ * ρ - i) ≡ getD result i 0
+  pub find-here : (class result : List ℕ) (i : ℕ) → i < φ * ρ * ρ → nonempty ρ (restOf ρ φ class (getD result i 0)) ≡ true
+      → findOf ρ φ class result i (φ * ρ * ρ - i) ≡ getD result i 0
   unfolding findOf
   find-here class result i h e = let k : φ * ρ * ρ - i ≡ suc (φ * ρ * ρ - (i + 1)) = omega arith in rw (k, e)
 
@@ -40,7 +44,8 @@ module _ (ρ φ : ℕ) where
   unfolding findOf
   find-none class result i h = let k : φ * ρ * ρ - i ≡ 0 = omega arith in rw k
 
-  pub clash-more : (class unequal : List ℕ) (i : ℕ) (b v : Bool) → b ≡ clashOf ρ φ class unequal i → v ≡ apartOf ρ φ unequal i (getD class i 0) → (b || v) ≡ clashOf ρ φ class unequal (i + 1)
+  pub clash-more : (class unequal : List ℕ) (i : ℕ) (b v : Bool) → b ≡ clashOf ρ φ class unequal i → v ≡ apartOf ρ φ unequal i (getD class i 0)
+      → (b || v) ≡ clashOf ρ φ class unequal (i + 1)
   unfolding clashOf
   clash-more class unequal i b v e d = rw (add-one, e, d)
 
@@ -65,36 +70,46 @@ module _ (ρ φ : ℕ) where
   unfolding copiedOf
   copied-within w x y h = rw h
 
-  pub copied-moved : (w : Window) (x y s : ℕ) (m : List Bool) (c u r e : List ℕ) (v : Window) → has (getD (w .class) x 0) y ≡ false → s ≡ fallenOf ρ φ (getD (w .class) x 0) (w .result) x 0 → m ≡ markedWith ρ (w .mark) s
-      → c ≡ masksThrough ρ y y (2 ^ x) (w .class) → u ≡ masksThrough ρ y y (2 ^ x) (w .unequal) → r ≡ resultsThrough ρ y y (2 ^ x) (w .result) → e ≡ masksThrough ρ y y (2 ^ x) (w .ever)
+  pub copied-moved : (w : Window) (x y s : ℕ) (m : List Bool) (c u r e : List ℕ) (v : Window) → has (getD (w .class) x 0) y ≡ false
+      → s ≡ fallenOf ρ φ (getD (w .class) x 0) (w .result) x 0 → m ≡ markedWith ρ (w .mark) s
+      → c ≡ masksThrough ρ y y (2 ^ x) (w .class) → u ≡ masksThrough ρ y y (2 ^ x) (w .unequal) → r ≡ resultsThrough ρ y y (2 ^ x) (w .result)
+      → e ≡ masksThrough ρ y y (2 ^ x) (w .ever)
       → v ≡ withTables w c u r e (set m x (getD m y false)) → v ≡ copiedOf ρ φ w x y
   unfolding copiedOf copiedTables
   copied-moved w x y s m c u r e v h p q i j k l d = rw (h, d, i, j, k, l, q, p)
 
   pub merged-is : (w : Window) (a b s : ℕ) (c u r e : List ℕ) (v : Window) → s ≡ 2 ^ a
-      → c ≡ masksThrough ρ a b (bitOr (bitOr (getD (w .class) a 0) (getD (w .class) b 0)) s) (w .class) → u ≡ masksThrough ρ a b (bitOr (bitOr (getD (w .class) a 0) (getD (w .class) b 0)) s) (w .unequal)
-      → r ≡ resultsThrough ρ a b (bitOr (bitOr (getD (w .class) a 0) (getD (w .class) b 0)) s) (w .result) → e ≡ masksThrough ρ a b (bitOr (bitOr (getD (w .class) a 0) (getD (w .class) b 0)) s) (w .ever)
+      → c ≡ masksThrough ρ a b (bitOr (bitOr (getD (w .class) a 0) (getD (w .class) b 0)) s) (w .class)
+      → u ≡ masksThrough ρ a b (bitOr (bitOr (getD (w .class) a 0) (getD (w .class) b 0)) s) (w .unequal)
+      → r ≡ resultsThrough ρ a b (bitOr (bitOr (getD (w .class) a 0) (getD (w .class) b 0)) s) (w .result)
+      → e ≡ masksThrough ρ a b (bitOr (bitOr (getD (w .class) a 0) (getD (w .class) b 0)) s) (w .ever)
       → v ≡ withTables w c u r e (w .mark) → v ≡ mergedOf ρ φ w a b
   unfolding mergedOf
   merged-is w a b s c u r e v o i j k l d = rw (d, i, j, k, l, o)
 
-  pub applied-is : (w : Window) (x f y z s a o : ℕ) (m : List Bool) (c u r e : List ℕ) (v : Window) → a ≡ argumentsOf x y z (getD (w .class) y 0) (getD (w .class) z 0) → s ≡ fallenOf ρ φ (getD (w .class) x 0) (w .result) x a
-      → m ≡ markedWith ρ (w .mark) s → o ≡ 2 ^ x → c ≡ masksForgotten ρ x (w .class) → u ≡ masksForgotten ρ x (w .unequal) → r ≡ resultsForgotten ρ x f (getD (w .class) y 0) (getD (w .class) z 0) (w .result)
-      → e ≡ masksForgotten ρ x (lineAdded ρ f (getD (w .class) y 0) (getD (w .class) z 0) (w .ever)) → v ≡ withTables w (set c x o) u r e (set m x false) → v ≡ appliedOf ρ φ w x f y z
+  pub applied-is : (w : Window) (x f y z s a o : ℕ) (m : List Bool) (c u r e : List ℕ) (v : Window)
+      → a ≡ argumentsOf x y z (getD (w .class) y 0) (getD (w .class) z 0) → s ≡ fallenOf ρ φ (getD (w .class) x 0) (w .result) x a
+      → m ≡ markedWith ρ (w .mark) s → o ≡ 2 ^ x → c ≡ masksForgotten ρ x (w .class) → u ≡ masksForgotten ρ x (w .unequal)
+      → r ≡ resultsForgotten ρ x f (getD (w .class) y 0) (getD (w .class) z 0) (w .result)
+      → e ≡ masksForgotten ρ x (lineAdded ρ f (getD (w .class) y 0) (getD (w .class) z 0) (w .ever)) → v ≡ withTables w (set c x o) u r e (set m x false)
+      → v ≡ appliedOf ρ φ w x f y z
   unfolding appliedOf
   applied-is w x f y z s a o m c u r e v p q i j k l n h d = rw (d, k, j, l, n, h, i, q, p)
 
-  pub apply-known : (w : Window) (x f y z r : ℕ) (v : Window) → r ≡ leastIn ρ (getD (w .result) (place ρ f y z) 0) → r < ρ → v ≡ copiedOf ρ φ w x r → v ≡ applyOf ρ φ w x f y z
+  pub apply-known : (w : Window) (x f y z r : ℕ) (v : Window) → r ≡ leastIn ρ (getD (w .result) (place ρ f y z) 0) → r < ρ → v ≡ copiedOf ρ φ w x r
+      → v ≡ applyOf ρ φ w x f y z
   unfolding applyOf
   apply-known w x f y z r v e h d = rw (← e, lt-ltb r ρ h, d)
 
-  pub apply-new : (w : Window) (x f y z r : ℕ) (v : Window) → r ≡ leastIn ρ (getD (w .result) (place ρ f y z) 0) → ρ ≤ r → v ≡ appliedOf ρ φ w x f y z → v ≡ applyOf ρ φ w x f y z
+  pub apply-new : (w : Window) (x f y z r : ℕ) (v : Window) → r ≡ leastIn ρ (getD (w .result) (place ρ f y z) 0) → ρ ≤ r → v ≡ appliedOf ρ φ w x f y z
+      → v ≡ applyOf ρ φ w x f y z
   unfolding applyOf
   apply-new w x f y z r v e h d = rw (← e, le-ltb r ρ h, d)
 
   -- ---- one turn of the closing
 
-  module _ (fuel one two entry rest : ℕ) (w : Window) (e : entry ≡ findOf ρ φ (w .class) (w .result) 0 (φ * ρ * ρ)) (o : one ≡ leastIn ρ entry) (r : rest ≡ restOf ρ φ (w .class) entry) (t : two ≡ leastIn ρ rest) (fb : 0 < fuel) where
+  module _ (fuel one two entry rest : ℕ) (w : Window) (e : entry ≡ findOf ρ φ (w .class) (w .result) 0 (φ * ρ * ρ)) (o : one ≡ leastIn ρ entry)
+      (r : rest ≡ restOf ρ φ (w .class) entry) (t : two ≡ leastIn ρ rest) (fb : 0 < fuel) where
     closed-suc : (n : ℕ) (v : Window) → one < ρ → two < ρ → v ≡ mergedOf ρ φ w one two → closedOf ρ φ (suc n) w ≡ closedOf ρ φ n v
     unfolding closedOf
     closed-suc n v h g d = rw (← e, ← r, ← o, ← t, lt-ltb one ρ h, lt-ltb two ρ g, d)
@@ -118,10 +133,12 @@ module _ (ρ φ : ℕ) where
   unfolding equalOf
   equal-within w x y h = rw h
 
-  pub equal-moved : (w : Window) (x y : ℕ) (m n v : Window) (b : Bool) → has (getD (w .class) x 0) y ≡ false → m ≡ mergedOf ρ φ w x y → n ≡ closedOf ρ φ (ρ * ρ + 1) m → b ≡ clashOf ρ φ (n .class) (n .unequal) ρ → v ≡ settledOf ρ φ n b → v ≡ equalOf ρ φ w x y
+  pub equal-moved : (w : Window) (x y : ℕ) (m n v : Window) (b : Bool) → has (getD (w .class) x 0) y ≡ false → m ≡ mergedOf ρ φ w x y
+      → n ≡ closedOf ρ φ (ρ * ρ + 1) m → b ≡ clashOf ρ φ (n .class) (n .unequal) ρ → v ≡ settledOf ρ φ n b → v ≡ equalOf ρ φ w x y
   unfolding equalOf
   equal-moved w x y m n v b h p q r d = rw (h, d, r, q, p)
 
-  pub unequal-is : (w : Window) (x y : ℕ) (l : List ℕ) (b : Bool) (v : Window) → l ≡ partedOf ρ φ (w .unequal) (getD (w .class) x 0) (getD (w .class) y 0) → b ≡ has (getD (w .class) x 0) y → v ≡ settledOf ρ φ (withUnequal w l (w .infeasible)) b → v ≡ unequalOf ρ φ w x y
+  pub unequal-is : (w : Window) (x y : ℕ) (l : List ℕ) (b : Bool) (v : Window) → l ≡ partedOf ρ φ (w .unequal) (getD (w .class) x 0) (getD (w .class) y 0)
+      → b ≡ has (getD (w .class) x 0) y → v ≡ settledOf ρ φ (withUnequal w l (w .infeasible)) b → v ≡ unequalOf ρ φ w x y
   unfolding unequalOf
   unequal-is w x y l b v p q d = rw (d, p, q)

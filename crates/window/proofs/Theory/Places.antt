@@ -11,7 +11,8 @@ use Rattle.window.specs.Places.{place, placeFunction, placeFirst, placeS
 module _ (ρ : ℕ) where
   -- a table with an entry has a register
   pub some : (n k : ℕ) → k < n * ρ → 0 < ρ
-  some n k h = byTest (ltb 0 ρ) (λ t. ltb-true 0 ρ t) (λ t. let l = ltb-false 0 ρ t in let z : ρ ≡ 0 = omega arith in let e = ap (λ r. n * r) z ∙ mul-zero n in absurd (omega arith))
+  some n k h = byTest (ltb 0 ρ) (λ t. ltb-true 0 ρ t)
+      (λ t. let l = ltb-false 0 ρ t in let z : ρ ≡ 0 = omega arith in let e = ap (λ r. n * r) z ∙ mul-zero n in absurd (omega arith))
 
   pub entry-below : (n j d : ℕ) → j < n → d < ρ → ρ * j + d < n * ρ
   entry-below n j d h g = let l = mul-le-mul-left ρ h in omega (arith, l, mul-suc ρ j, mul-comm ρ n)

@@ -26,7 +26,8 @@ module _ (ρ φ a b to : ℕ) (ab : a < ρ) (bb : b < ρ) where
   Pick r z = (T (has to r) × ((z ≡ a) ⊎ (z ≡ b))) ⊎ ((¬ T (has to r)) × (z ≡ r))
 
   pub pick-below : (r z : ℕ) → r < ρ → Pick r z → z < ρ
-  pick-below r z rb p = ⊎-elim (λ (_, h). ⊎-elim (λ e. subst (λ k. k < ρ) (sym e) ab) (λ e. subst (λ k. k < ρ) (sym e) bb) h) (λ (_, e). subst (λ k. k < ρ) (sym e) rb) p
+  pick-below r z rb p = ⊎-elim (λ (_, h). ⊎-elim (λ e. subst (λ k. k < ρ) (sym e) ab) (λ e. subst (λ k. k < ρ) (sym e) bb) h)
+      (λ (_, e). subst (λ k. k < ρ) (sym e) rb) p
 
   from-small : bitOr (2 ^ a) (2 ^ b) < 2 ^ ρ
   from-small = or-small ρ (2 ^ a) (2 ^ b) (pow-small ρ a ab) (pow-small ρ b bb)
@@ -51,19 +52,25 @@ module _ (ρ φ a b to : ℕ) (ab : a < ρ) (bb : b < ρ) where
       (or-not (has to c))
 
   -- along the lines of a table
-  pub line-is : (L : TableLines ρ) (l : List ℕ) (j r s : ℕ) → r < ρ → T (has (unitedAt L (has to) a b l (L .entry j r)) s) ↔ ((z : ℕ) × Pick r z × T (has (getD l (L .entry j z) 0) s))
+  pub line-is : (L : TableLines ρ) (l : List ℕ) (j r s : ℕ) → r < ρ
+      → T (has (unitedAt L (has to) a b l (L .entry j r)) s) ↔ ((z : ℕ) × Pick r z × T (has (getD l (L .entry j z) 0) s))
   unfolding unitedAt
   line-is L l j r s rb = ⊎-elim
       (λ t. let t′ : has to (L .along (L .entry j r)) ≡ true = ap (has to) (L .along-entry j r rb) ∙ true-of (has to r) t in
       let x = getD l (L .entry j a) 0 in
       let y = getD l (L .entry j b) 0 in
-      Iff·trans (same-iff (ap (λ m. has m s) (ap (λ v. cond v (bitOr (getD l (L .entry (L .line (L .entry j r)) a) 0) (getD l (L .entry (L .line (L .entry j r)) b) 0)) (getD l (L .entry j r) 0)) t′
+      Iff·trans (same-iff (ap (λ m. has m s)
+      (ap (λ v. cond v (bitOr (getD l (L .entry (L .line (L .entry j r)) a) 0) (getD l (L .entry (L .line (L .entry j r)) b) 0)) (getD l (L .entry j r) 0))
+      t′
       ∙ ap (λ k. bitOr (getD l (L .entry k a) 0) (getD l (L .entry k b) 0)) (L .line-entry j r rb)))) (Iff·trans (or-is x y s) (
         (λ k. ⊎-elim (λ u. (a, inl (t, inl refl), u)) (λ u. (b, inl (t, inr refl), u)) k),
-        (λ (z, p, q). ⊎-elim (λ (_, h). ⊎-elim (λ e. inl (subst (λ k. T (has (getD l (L .entry j k) 0) s)) e q)) (λ e. inr (subst (λ k. T (has (getD l (L .entry j k) 0) s)) e q)) h) (λ (n, _). absurd (n t)) p),
+        (λ (z, p, q). ⊎-elim (λ (_, h). ⊎-elim (λ e. inl (subst (λ k. T (has (getD l (L .entry j k) 0) s)) e q))
+            (λ e. inr (subst (λ k. T (has (getD l (L .entry j k) 0) s)) e q)) h) (λ (n, _). absurd (n t)) p),
       )))
       (λ n. let t′ : has to (L .along (L .entry j r)) ≡ false = ap (has to) (L .along-entry j r rb) ∙ false-of (has to r) n in
-      Iff·trans (same-iff (ap (λ m. has m s) (ap (λ v. cond v (bitOr (getD l (L .entry (L .line (L .entry j r)) a) 0) (getD l (L .entry (L .line (L .entry j r)) b) 0)) (getD l (L .entry j r) 0)) t′))) (
+      Iff·trans (same-iff (ap (λ m. has m s)
+      (ap (λ v. cond v (bitOr (getD l (L .entry (L .line (L .entry j r)) a) 0) (getD l (L .entry (L .line (L .entry j r)) b) 0)) (getD l (L .entry j r) 0))
+      t′))) (
         (λ k. (r, inr (n, refl), k)),
         (λ (z, p, q). ⊎-elim (λ (t, _). absurd (n t)) (λ (_, e). subst (λ k. T (has (getD l (L .entry j k) 0) s)) e q) p),
       ))
@@ -83,7 +90,8 @@ module _ (ρ φ a b to : ℕ) (ab : a < ρ) (bb : b < ρ) where
   unfolding masksThrough
   masks-is l j r s rb h =
       let u = united (columns ρ) (has to) a b l in
-      let e = moved-at (bitOr (2 ^ a) (2 ^ b)) to u (ρ * j + r) (rw (united-length (columns ρ) (has to) a b l) h) ∙ ap (λ m. maskMoved m (bitOr (2 ^ a) (2 ^ b)) to) (united-at (columns ρ) (has to) a b l (ρ * j + r) h) in
+      let e = moved-at (bitOr (2 ^ a) (2 ^ b)) to u (ρ * j + r) (rw (united-length (columns ρ) (has to) a b l) h)
+      ∙ ap (λ m. maskMoved m (bitOr (2 ^ a) (2 ^ b)) to) (united-at (columns ρ) (has to) a b l (ρ * j + r) h) in
       Iff·trans (same-iff (ap (λ m. has m s) e)) (Iff·trans (mask-is (unitedAt (columns ρ) (has to) a b l (ρ * j + r)) s) (
         (λ (y, p, t). let (z, q, k) = line-is (columns ρ) l j r y rb .0 t in (z, y, q, p, k)),
         (λ (z, y, q, p, k). (y, p, line-is (columns ρ) l j r y rb .1 (z, q, k))),
@@ -94,7 +102,8 @@ module _ (ρ φ a b to : ℕ) (ab : a < ρ) (bb : b < ρ) where
 
   -- the table of results
   pub results-is : (l : List ℕ) → length l ≡ φ * ρ * ρ → (f r s c : ℕ) → f < φ → r < ρ → s < ρ
-      → T (has (getD (resultsThrough ρ a b to l) (place ρ f r s) 0) c) ↔ ((z : ℕ) × (y : ℕ) × (d : ℕ) × Pick r z × Pick s y × Pick c d × T (has (getD l (place ρ f z y) 0) d))
+      → T (has (getD (resultsThrough ρ a b to l) (place ρ f r s) 0) c)
+      ↔ ((z : ℕ) × (y : ℕ) × (d : ℕ) × Pick r z × Pick s y × Pick c d × T (has (getD l (place ρ f z y) 0) d))
   unfolding resultsThrough
   results-is l len f r s c fb rb sb =
       let C = united (columns ρ) (has to) a b l in
@@ -102,14 +111,24 @@ module _ (ρ φ a b to : ℕ) (ab : a < ρ) (bb : b < ρ) where
       let h = subst (λ z. place ρ f r s < z) (sym len) (place-below ρ f r s rb sb φ fb) in
       let hC : place ρ f r s < length C = rw (united-length (columns ρ) (has to) a b l) h in
       let e = moved-at (bitOr (2 ^ a) (2 ^ b)) to R (place ρ f r s) (rw (united-length (rows ρ) (has to) a b C) hC)
-      ∙ ap (λ m. maskMoved m (bitOr (2 ^ a) (2 ^ b)) to) (united-at (rows ρ) (has to) a b C (place ρ f r s) hC ∙ ap (unitedAt (rows ρ) (has to) a b C) (at-row f r s sb)) in
+      ∙ ap (λ m. maskMoved m (bitOr (2 ^ a) (2 ^ b)) to)
+      (united-at (rows ρ) (has to) a b C (place ρ f r s) hC ∙ ap (unitedAt (rows ρ) (has to) a b C) (at-row f r s sb)) in
       Iff·trans (same-iff (ap (λ m. has m c) e)) (Iff·trans (mask-is (unitedAt (rows ρ) (has to) a b C ((rows ρ) .entry (ρ * f + s) r)) c) (
-        (λ (d, o, t). let (z, p, k) = line-is (rows ρ) C (ρ * f + s) r d rb .0 t in let (y, q, m) = column z d (pick-below r z rb p) .0 (subst (λ i. T (has (getD C i 0) d)) (sym (at-row f z s sb)) k) in (z, y, d, p, q, o, m)),
-        (λ (z, y, d, p, q, o, m). (d, o, line-is (rows ρ) C (ρ * f + s) r d rb .1 (z, p, subst (λ i. T (has (getD C i 0) d)) (at-row f z s sb) (column z d (pick-below r z rb p) .1 (y, q, m))))),
+        (λ (d, o, t). let (z, p, k) = line-is (rows ρ) C (ρ * f + s) r d rb .0 t in
+            let (y, q, m) = column z d (pick-below r z rb p) .0 (subst (λ i. T (has (getD C i 0) d)) (sym (at-row f z s sb)) k) in (z, y, d, p, q, o, m)),
+        (λ (z, y, d, p, q, o, m). (
+          d,
+          o,
+          line-is (rows ρ) C (ρ * f + s) r d rb .1
+              (z, p, subst (λ i. T (has (getD C i 0) d)) (at-row f z s sb) (column z d (pick-below r z rb p) .1 (y, q, m))),
+        )),
       ))
     where
-      column : (z d : ℕ) → z < ρ → T (has (getD (united (columns ρ) (has to) a b l) (place ρ f z s) 0) d) ↔ ((y : ℕ) × Pick s y × T (has (getD l (place ρ f z y) 0) d))
-      column z d zb = Iff·trans (same-iff (ap (λ m. has m d) (united-at (columns ρ) (has to) a b l (place ρ f z s) (subst (λ k. place ρ f z s < k) (sym len) (place-below ρ f z s zb sb φ fb))))) (line-is (columns ρ) l (ρ * f + z) s d sb)
+      column : (z d : ℕ) → z < ρ → T (has (getD (united (columns ρ) (has to) a b l) (place ρ f z s) 0) d)
+          ↔ ((y : ℕ) × Pick s y × T (has (getD l (place ρ f z y) 0) d))
+      column z d zb = Iff·trans (same-iff
+          (ap (λ m. has m d) (united-at (columns ρ) (has to) a b l (place ρ f z s)
+          (subst (λ k. place ρ f z s < k) (sym len) (place-below ρ f z s zb sb φ fb))))) (line-is (columns ρ) l (ρ * f + z) s d sb)
 
 -- ---- a copy: one register is read as another
 

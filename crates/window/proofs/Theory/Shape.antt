@@ -26,7 +26,9 @@ use Rattle.window.proofs.Theory.Through.{moved-length, masks-length, re
 use Rattle.window.specs.Adding.{partOf, masksForgotten, resultsForgotten, resultsAdded, lineAdded}
 use Rattle.window.proofs.Theory.Adding.{line-length, added-length}
 use Rattle.window.proofs.Theory.Copying.{marked-length}
-use Rattle.window.specs.Performing.{fallenOf, copiedTables, copiedOf, bothClasses, mergedOf, findOf, restOf, closedOf, clashOf, settledOf, equalOf, partedOf, unequalOf, argumentsOf, appliedOf, applyOf, ownOf, freshInLayout, performInLayout, withUnequal, WithinLayout}
+use Rattle.window.specs.Performing.{fallenOf, copiedTables, copiedOf, bothClasses, mergedOf, findOf, restOf, closedOf, clashOf, settledOf, equalOf}
+use Rattle.window.specs.Performing.{partedOf, unequalOf, argumentsOf, appliedOf, applyOf, ownOf, freshInLayout, performInLayout, withUnequal}
+use Rattle.window.specs.Performing.{WithinLayout}
 use Rattle.window.specs.Viewing.{Shaped, Masks}
 use Rattle.window.specs.declared.Window.{Window}
 
@@ -53,7 +55,9 @@ module _ (ρ φ : ℕ) where
 
   bytes-united : (L : TableLines ρ) (P : ℕ → Bool) (a b : ℕ) (l : List ℕ) → Masks ρ l → Masks ρ (united L P a b l)
   unfolding united unitedAt
-  bytes-united L P a b l f = bytes-table (unitedAt L P a b l) (length l) (λ i h. byTest (P (L .along i)) (λ t. rw t (or-small ρ (getD l (entryOnLine L i a) 0) (getD l (entryOnLine L i b) 0) (f (entryOnLine L i a)) (f (entryOnLine L i b)))) (λ t. rw t (f i)))
+  bytes-united L P a b l f = bytes-table (unitedAt L P a b l) (length l)
+      (λ i h. byTest (P (L .along i))
+      (λ t. rw t (or-small ρ (getD l (entryOnLine L i a) 0) (getD l (entryOnLine L i b) 0) (f (entryOnLine L i a)) (f (entryOnLine L i b)))) (λ t. rw t (f i)))
 
   bytes-cleared : (L : TableLines ρ) (x : ℕ) (l : List ℕ) → Masks ρ l → Masks ρ (cleared L x l)
   unfolding cleared clearedAt
@@ -65,11 +69,13 @@ module _ (ρ φ : ℕ) where
 
   bytes-results : (a b to : ℕ) (l : List ℕ) → to < 2 ^ ρ → Masks ρ l → Masks ρ (resultsThrough ρ a b to l)
   unfolding resultsThrough
-  bytes-results a b to l h f = bytes-moved (bitOr (2 ^ a) (2 ^ b)) to (united (rows ρ) (has to) a b (united (columns ρ) (has to) a b l)) h (bytes-united (rows ρ) (has to) a b (united (columns ρ) (has to) a b l) (bytes-united (columns ρ) (has to) a b l f))
+  bytes-results a b to l h f = bytes-moved (bitOr (2 ^ a) (2 ^ b)) to (united (rows ρ) (has to) a b (united (columns ρ) (has to) a b l)) h
+      (bytes-united (rows ρ) (has to) a b (united (columns ρ) (has to) a b l) (bytes-united (columns ρ) (has to) a b l f))
 
   bytes-line : (j mask what : ℕ) (l : List ℕ) → what < 2 ^ ρ → Masks ρ l → Masks ρ (lineAdded ρ j mask what l)
   unfolding lineAdded
-  bytes-line j mask what l h f = bytes-table _ (length l) (λ i b. or-small ρ (getD l i 0) (cond (eqb (i / ρ) j && has mask (i % ρ)) what 0) (f i) (small (eqb (i / ρ) j && has mask (i % ρ))))
+  bytes-line j mask what l h f = bytes-table _ (length l)
+      (λ i b. or-small ρ (getD l i 0) (cond (eqb (i / ρ) j && has mask (i % ρ)) what 0) (f i) (small (eqb (i / ρ) j && has mask (i % ρ))))
     where
       small : (b : Bool) → cond b what 0 < 2 ^ ρ
       small true = h
@@ -77,7 +83,9 @@ module _ (ρ φ : ℕ) where
 
   bytes-added : (P : ℕ → Bool) (f second what : ℕ) (l : List ℕ) → what < 2 ^ ρ → Masks ρ l → Masks ρ (resultsAdded ρ P f second what l)
   unfolding resultsAdded
-  bytes-added P f second what l h g = bytes-table _ (length l) (λ i b. or-small ρ (getD l i 0) (cond ((eqb (i / (ρ * ρ)) f && P (i / ρ % ρ)) && has second (i % ρ)) what 0) (g i) (small ((eqb (i / (ρ * ρ)) f && P (i / ρ % ρ)) && has second (i % ρ))))
+  bytes-added P f second what l h g =
+      bytes-table _ (length l) (λ i b. or-small ρ (getD l i 0) (cond ((eqb (i / (ρ * ρ)) f && P (i / ρ % ρ)) && has second (i % ρ)) what 0) (g i)
+      (small ((eqb (i / (ρ * ρ)) f && P (i / ρ % ρ)) && has second (i % ρ))))
     where
       small : (b : Bool) → cond b what 0 < 2 ^ ρ
       small true = h
@@ -92,7 +100,8 @@ module _ (ρ φ : ℕ) where
   bytes-renewed x f one two l h g =
       let B = bitsMoved 0 (2 ^ x) l in
       let R = resultsAdded ρ (has one) f two (2 ^ x) B in
-      bytes-cleared (rows ρ) x (cleared (columns ρ) x R) (bytes-cleared (columns ρ) x R (bytes-added (has one) f two (2 ^ x) B (pow-small ρ x h) (bytes-moved 0 (2 ^ x) l (pow-small ρ x h) g)))
+      bytes-cleared (rows ρ) x (cleared (columns ρ) x R)
+      (bytes-cleared (columns ρ) x R (bytes-added (has one) f two (2 ^ x) B (pow-small ρ x h) (bytes-moved 0 (2 ^ x) l (pow-small ρ x h) g)))
 
   bytes-set : (l : List ℕ) (i v : ℕ) → v < 2 ^ ρ → Masks ρ l → Masks ρ (set l i v)
   bytes-set l i v h f k = byTest (eqb k i)
@@ -105,7 +114,8 @@ module _ (ρ φ : ℕ) where
   bytes-zero (suc n) (suc k) = bytes-zero n k
 
   bytes-both : (w : Window) (a b : ℕ) → a < ρ → Shaped ρ φ w → bothClasses w a b < 2 ^ ρ
-  bytes-both w a b h s = or-small ρ (bitOr (getD (w .class) a 0) (getD (w .class) b 0)) (2 ^ a) (or-small ρ (getD (w .class) a 0) (getD (w .class) b 0) (s .class-bytes a) (s .class-bytes b)) (pow-small ρ a h)
+  bytes-both w a b h s = or-small ρ (bitOr (getD (w .class) a 0) (getD (w .class) b 0)) (2 ^ a)
+      (or-small ρ (getD (w .class) a 0) (getD (w .class) b 0) (s .class-bytes a) (s .class-bytes b)) (pow-small ρ a h)
 
   -- ---- the window after a letter
 
@@ -148,19 +158,35 @@ module _ (ρ φ : ℕ) where
       let entry = findOf ρ φ (w .class) (w .result) 0 (φ * ρ * ρ) in
       let one = leastIn ρ entry in
       let two = leastIn ρ (restOf ρ φ (w .class) entry) in
-      byTest (ltb one ρ) (λ t. rw t (byTest (ltb two ρ) (λ u. rw u (shaped-closed n (mergedOf ρ φ w one two) (shaped-merged w one two (ltb-true one ρ t) s))) (λ u. rw u s))) (λ t. rw t s)
+      byTest (ltb one ρ) (λ t. rw t (byTest (ltb two ρ) (λ u. rw u (shaped-closed n (mergedOf ρ φ w one two) (shaped-merged w one two (ltb-true one ρ t) s)))
+      (λ u. rw u s))) (λ t. rw t s)
 
   pub shaped-settled : (w : Window) (b : Bool) → Shaped ρ φ w → Shaped ρ φ (settledOf ρ φ w b)
   unfolding settledOf
-  shaped-settled w b s = byTest (w .infeasible || b) (λ t. rw t (record { class = s .class; unequal = length-replicate ρ 0; result = s .result; ever = s .ever; mark = s .mark; class-bytes = s .class-bytes; unequal-bytes = bytes-zero ρ; result-bytes = s .result-bytes; ever-bytes = s .ever-bytes })) (λ t. rw t s)
+  shaped-settled w b s = byTest (w .infeasible || b)
+      (λ t. rw t (record {
+        class = s .class;
+        unequal = length-replicate ρ 0;
+        result = s .result;
+        ever = s .ever;
+        mark = s .mark;
+        class-bytes =
+            s .class-bytes;
+        unequal-bytes = bytes-zero ρ;
+        result-bytes = s .result-bytes;
+        ever-bytes = s .ever-bytes;
+      })) (λ t. rw t s)
 
   pub shaped-equal : (w : Window) (x y : ℕ) → x < ρ → Shaped ρ φ w → Shaped ρ φ (equalOf ρ φ w x y)
   unfolding equalOf
   shaped-equal w x y h s =
       let next = closedOf ρ φ (ρ * ρ + 1) (mergedOf ρ φ w x y) in
-      byTest (has (getD (w .class) x 0) y) (λ t. rw t s) (λ t. rw t (shaped-settled next (clashOf ρ φ (next .class) (next .unequal) ρ) (shaped-closed (ρ * ρ + 1) (mergedOf ρ φ w x y) (shaped-merged w x y h s))))
+      byTest (has (getD (w .class) x 0) y) (λ t. rw t s)
+      (λ t. rw t (shaped-settled next (clashOf ρ φ (next .class) (next .unequal) ρ)
+      (shaped-closed (ρ * ρ + 1) (mergedOf ρ φ w x y) (shaped-merged w x y h s))))
 
-  pub shaped-parted : (w : Window) (one two : ℕ) → one < 2 ^ ρ → two < 2 ^ ρ → Shaped ρ φ w → Shaped ρ φ (withUnequal w (partedOf ρ φ (w .unequal) one two) (w .infeasible))
+  pub shaped-parted : (w : Window) (one two : ℕ) → one < 2 ^ ρ → two < 2 ^ ρ → Shaped ρ φ w
+      → Shaped ρ φ (withUnequal w (partedOf ρ φ (w .unequal) one two) (w .infeasible))
   unfolding partedOf partOf
   shaped-parted w one two h₁ h₂ s = record {
     class = s .class;
@@ -169,7 +195,9 @@ module _ (ρ φ : ℕ) where
     ever = s .ever;
     mark = s .mark;
     class-bytes = s .class-bytes;
-    unequal-bytes = bytes-table _ ρ (λ r b. or-small ρ (bitOr (getD (w .unequal) r 0) (partOf one two r)) (partOf two one r) (or-small ρ (getD (w .unequal) r 0) (partOf one two r) (s .unequal-bytes r) (small one two r h₂)) (small two one r h₁));
+    unequal-bytes = bytes-table _ ρ
+        (λ r b. or-small ρ (bitOr (getD (w .unequal) r 0) (partOf one two r)) (partOf two one r)
+        (or-small ρ (getD (w .unequal) r 0) (partOf one two r) (s .unequal-bytes r) (small one two r h₂)) (small two one r h₁));
     result-bytes = s .result-bytes;
     ever-bytes = s .ever-bytes;
   }
@@ -179,7 +207,8 @@ module _ (ρ φ : ℕ) where
 
   pub shaped-unequal : (w : Window) (x y : ℕ) → Shaped ρ φ w → Shaped ρ φ (unequalOf ρ φ w x y)
   unfolding unequalOf
-  shaped-unequal w x y s = shaped-settled (withUnequal w (partedOf ρ φ (w .unequal) (getD (w .class) x 0) (getD (w .class) y 0)) (w .infeasible)) (has (getD (w .class) x 0) y) (shaped-parted w (getD (w .class) x 0) (getD (w .class) y 0) (s .class-bytes x) (s .class-bytes y) s)
+  shaped-unequal w x y s = shaped-settled (withUnequal w (partedOf ρ φ (w .unequal) (getD (w .class) x 0) (getD (w .class) y 0)) (w .infeasible))
+      (has (getD (w .class) x 0) y) (shaped-parted w (getD (w .class) x 0) (getD (w .class) y 0) (s .class-bytes x) (s .class-bytes y) s)
 
   pub shaped-applied : (w : Window) (x f y z : ℕ) → x < ρ → Shaped ρ φ w → Shaped ρ φ (appliedOf ρ φ w x f y z)
   unfolding appliedOf
@@ -201,7 +230,8 @@ module _ (ρ φ : ℕ) where
   pub shaped-performed : (w : Window) (l : Letter) → WithinLayout ρ φ l → Shaped ρ φ w → Shaped ρ φ (performInLayout ρ φ w l)
   unfolding applyOf
   shaped-performed w (Copy x y) (xb, _) s = shaped-copied w x y xb s
-  shaped-performed w (Apply x f y z) (xb, _, _, _) s = let r = leastIn ρ (getD (w .result) (place ρ f y z) 0) in byTest (ltb r ρ) (λ t. rw t (shaped-copied w x r xb s)) (λ t. rw t (shaped-applied w x f y z xb s))
+  shaped-performed w (Apply x f y z) (xb, _, _, _) s = let r = leastIn ρ (getD (w .result) (place ρ f y z) 0) in
+      byTest (ltb r ρ) (λ t. rw t (shaped-copied w x r xb s)) (λ t. rw t (shaped-applied w x f y z xb s))
   shaped-performed w (Equal x y) (xb, _) s = shaped-equal w x y xb s
   shaped-performed w (Unequal x y) b s = shaped-unequal w x y s
 

@@ -16,7 +16,8 @@ none-from : (m i k : ℕ) → ((j : ℕ) → i ≤ j → j < i + k → ¬ T (has
 unfolding sizeFrom
 none-from m i zero n = refl
 none-from m i (suc k) n =
-    let z : bit m i ≡ 0 = (let d = n i (omega arith) (omega arith) in byTest (has m i) (λ t. absurd (d (subst T (sym t) tt))) (λ t. let e = eqb-false (bit m i) 1 t in omega arith)) in
+    let z : bit m i ≡ 0 = (let d = n i (omega arith) (omega arith) in
+    byTest (has m i) (λ t. absurd (d (subst T (sym t) tt))) (λ t. let e = eqb-false (bit m i) 1 t in omega arith)) in
     let r = none-from m (suc i) k (λ j a b. n j (omega arith) (omega arith)) in
     omega arith
 
@@ -27,7 +28,8 @@ one-from m i (suc k) x a b t n = ⊎-elim
     (λ e. let u : bit m i ≡ 1 = eqb→eq (bit m i) 1 (subst (λ y. T (has m y)) (sym e) t) in
     let r = none-from m (suc i) k (λ j p q h. let d = n j (omega arith) (omega arith) h in omega arith) in
     omega arith)
-    (λ l. let z : bit m i ≡ 0 = (byTest (has m i) (λ h. let d = n i (omega arith) (omega arith) (subst T (sym h) tt) in absurd (omega arith)) (λ h. let e = eqb-false (bit m i) 1 h in omega arith)) in
+    (λ l. let z : bit m i ≡ 0 = (byTest (has m i) (λ h. let d = n i (omega arith) (omega arith) (subst T (sym h) tt) in absurd (omega arith))
+    (λ h. let e = eqb-false (bit m i) 1 h in omega arith)) in
     let r = one-from m (suc i) k x l (omega arith) t (λ j p q h. n j (omega arith) (omega arith) h) in
     omega arith)
     (eq-or-lt-of-le a)
@@ -44,7 +46,8 @@ two-from : (m i k x y : ℕ) → i ≤ x → x < y → y < i + k → T (has m x)
 unfolding sizeFrom
 two-from m i zero x y a b c t u = absurd (omega arith)
 two-from m i (suc k) x y a b c t u = ⊎-elim
-    (λ e. let o : bit m i ≡ 1 = eqb→eq (bit m i) 1 (subst (λ y. T (has m y)) (sym e) t) in let r = some-from m (suc i) k y (omega arith) (omega arith) u in omega arith)
+    (λ e. let o : bit m i ≡ 1 = eqb→eq (bit m i) 1 (subst (λ y. T (has m y)) (sym e) t) in let r = some-from m (suc i) k y (omega arith) (omega arith) u in
+    omega arith)
     (λ l. let r = two-from m (suc i) k x y l b (omega arith) t u in omega arith)
     (eq-or-lt-of-le a)
 
@@ -72,7 +75,8 @@ module _ (ρ m x : ℕ) (xb : x < ρ) (t : T (has m x)) where
       go (inl f) = inl f
       go (inr f) = byTest (eqb k x)
           (λ e. inr (λ j l u. ⊎-elim (λ p. f j p u) (λ p. p ∙ eqb-true k x e) (last j l)))
-          (λ e. ⊎-elim (λ u. inl (k, omega arith, eqb-false k x e, u)) (λ n. inr (λ j l u. ⊎-elim (λ p. f j p u) (λ p. absurd (n (subst (λ i. T (has m i)) p u))) (last j l))) (or-not (has m k)))
+          (λ e. ⊎-elim (λ u. inl (k, omega arith, eqb-false k x e, u))
+          (λ n. inr (λ j l u. ⊎-elim (λ p. f j p u) (λ p. absurd (n (subst (λ i. T (has m i)) p u))) (last j l))) (or-not (has m k)))
 
   -- a class of another size has one
   pub other : sizeOf ρ m ≢ 1 → (j : ℕ) × (j < ρ) × (j ≢ x) × T (has m j)

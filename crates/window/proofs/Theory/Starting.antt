@@ -30,8 +30,10 @@ module _ (ρ φ : ℕ) where
     first-has : (r s : ℕ) → r < ρ → T (view ρ φ w .same r s) ↔ ((r < n) × (s ≡ r))
     unfolding ownOf
     first-has r s rb = byTest (ltb r n)
-        (λ t. let d = table-at (ownOf n) ρ r 0 rb ∙ rw t in ((λ k. (ltb-true r n t, single-is r s .0 (subst (λ m. T (has m s)) d k))), (λ (_, k). subst (λ m. T (has m s)) (sym d) (single-is r s .1 k))))
-        (λ t. let d = table-at (ownOf n) ρ r 0 rb ∙ rw t in let l = ltb-false r n t in ((λ k. absurd (no-truth (has 0 s) (none-zero s) (subst (λ m. T (has m s)) d k))), (λ (k, _). absurd (omega arith))))
+        (λ t. let d = table-at (ownOf n) ρ r 0 rb ∙ rw t in
+        ((λ k. (ltb-true r n t, single-is r s .0 (subst (λ m. T (has m s)) d k))), (λ (_, k). subst (λ m. T (has m s)) (sym d) (single-is r s .1 k))))
+        (λ t. let d = table-at (ownOf n) ρ r 0 rb ∙ rw t in let l = ltb-false r n t in
+        ((λ k. absurd (no-truth (has 0 s) (none-zero s) (subst (λ m. T (has m s)) d k))), (λ (k, _). absurd (omega arith))))
 
     no-apart : (r s : ℕ) → r < ρ → ¬ T (view ρ φ w .apart r s)
     no-apart r s rb t = no-truth (has 0 s) (none-zero s) (subst (λ m. T (has m s)) (getD-replicate ρ r 0 0 rb) t)
@@ -39,12 +41,16 @@ module _ (ρ φ : ℕ) where
     no-result : (f a b c : ℕ) → a < ρ → b < ρ → ¬ T (view ρ φ w .result f a b c)
     no-result f a b c ab bb t =
         let l = ltb→lt f φ (and-l (ltb f φ) (has (getD (w .result) (place ρ f a b) 0) c) t) in
-        no-truth (has 0 c) (none-zero c) (subst (λ m. T (has m c)) (getD-replicate (φ * ρ * ρ) (place ρ f a b) 0 0 (place-below ρ f a b ab bb φ l)) (and-r (ltb f φ) (has (getD (w .result) (place ρ f a b) 0) c) t))
+        no-truth (has 0 c) (none-zero c)
+        (subst (λ m. T (has m c)) (getD-replicate (φ * ρ * ρ) (place ρ f a b) 0 0 (place-below ρ f a b ab bb φ l))
+        (and-r (ltb f φ) (has (getD (w .result) (place ρ f a b) 0) c) t))
 
     no-ever : (f a b : ℕ) → a < ρ → ¬ T (view ρ φ w .ever f a b)
     no-ever f a b ab t =
         let l = ltb→lt f φ (and-l (ltb f φ) (has (getD (w .ever) (ρ * f + a) 0) b) t) in
-        no-truth (has 0 b) (none-zero b) (subst (λ m. T (has m b)) (getD-replicate (φ * ρ) (ρ * f + a) 0 0 (entry-below ρ φ f a l ab)) (and-r (ltb f φ) (has (getD (w .ever) (ρ * f + a) 0) b) t))
+        no-truth (has 0 b) (none-zero b)
+        (subst (λ m. T (has m b)) (getD-replicate (φ * ρ) (ρ * f + a) 0 0 (entry-below ρ φ f a l ab))
+        (and-r (ltb f φ) (has (getD (w .ever) (ρ * f + a) 0) b) t))
 
     no-mark : (r : ℕ) → r < ρ → ¬ T (view ρ φ w .marked r)
     no-mark r rb t = no-truth (view ρ φ w .marked r) (getD-replicate ρ r false false rb) t
@@ -69,9 +75,11 @@ module _ (ρ φ : ℕ) where
       let w = freshInLayout ρ φ n in
       let t = tracks-start h in
       record {
-        same = λ r s rb sb. Iff·trans (Iff·trans (first-has n nb r s (omega arith)) ((λ (_, k). subst (λ z. T (eqb r z)) (sym k) (eqb-refl r)), (λ k. (rb, sym (eqb→eq r s k))))) (t .same r s rb sb);
+        same = λ r s rb sb. Iff·trans (Iff·trans (first-has n nb r s (omega arith))
+            ((λ (_, k). subst (λ z. T (eqb r z)) (sym k) (eqb-refl r)), (λ k. (rb, sym (eqb→eq r s k))))) (t .same r s rb sb);
         apart = λ r s rb sb. none-iff n nb (view ρ φ w .apart r s) (no-apart n nb r s (omega arith)) (t .apart r s rb sb);
-        result = λ f a b c ab bb cb. none-iff n nb (view ρ φ w .result f a b c) (no-result n nb f a b c (omega arith) (omega arith)) (t .result f a b c ab bb cb);
+        result = λ f a b c ab bb cb. none-iff n nb (view ρ φ w .result f a b c) (no-result n nb f a b c (omega arith) (omega arith))
+            (t .result f a b c ab bb cb);
         ever = λ f a b ab bb. none-iff n nb (view ρ φ w .ever f a b) (no-ever n nb f a b (omega arith)) (t .ever f a b ab bb);
         marked = λ r rb. none-iff n nb (view ρ φ w .marked r) (no-mark n nb r (omega arith)) (t .marked r rb);
         infeasible = none-iff n nb false (λ k. k) (t .infeasible);

@@ -23,7 +23,8 @@ pub judged : (σ : State) → Valid σ → (w : Window) → IsWindow σ w → (l
 judged = stepping.judged registers functions
 
 -- after a coherent letter `perform` gives the window of the longer trace
-pub performed : (σ : State) → Valid σ → (w : Window) → IsWindow σ w → (l : Letter) → WithinPacking l → Fits (σ .header) l → CoherentLetter σ l → IsWindow (after σ l) (performOf w l)
+pub performed : (σ : State) → Valid σ → (w : Window) → IsWindow σ w → (l : Letter) → WithinPacking l → Fits (σ .header) l → CoherentLetter σ l
+    → IsWindow (after σ l) (performOf w l)
 performed = stepping.performed registers functions
 
 -- a header of the layout has letters within it

@@ -19,11 +19,13 @@ use Rattle.semantics.proofs.Theory.Booleans.{and-r, and-i}
 use Rattle.semantics.specs.Terms.{State, start, after}
 use Rattle.semantics.specs.Coherence.{CoherentLetter}
 use Rattle.semantics.specs.Facts.{Valid}
-use Rattle.semantics.proofs.Theory.Steps.{copied, Renamed, tracks-copy, tracks-unequal, tracks-equal, tracks-apply-known, tracks-apply-new, fine-apply, fine-equal}
+use Rattle.semantics.proofs.Theory.Steps.{copied, Renamed, tracks-copy, tracks-unequal, tracks-equal, tracks-apply-known, tracks-apply-new, fine-apply}
+use Rattle.semantics.proofs.Theory.Steps.{fine-equal}
 use Rattle.window.specs.Places.{place}
 use Rattle.window.proofs.Theory.Bits.{truth, no-truth, nonempty-is}
 use Rattle.window.specs.Bits.{nonempty}
-use Rattle.window.specs.Performing.{copiedOf, equalOf, unequalOf, appliedOf, applyOf, WithinLayout, memoizingOf, earlyOf, judgeInLayout, performInLayout, freshInLayout}
+use Rattle.window.specs.Performing.{copiedOf, equalOf, unequalOf, appliedOf, applyOf, WithinLayout, memoizingOf, earlyOf, judgeInLayout, performInLayout}
+use Rattle.window.specs.Performing.{freshInLayout}
 use Rattle.window.specs.Viewing.{view, Inside}
 use Rattle.window.proofs.Theory.Laws.{Laws, laws-of, Sound, sound-of}
 use Rattle.window.proofs.Theory.Shape.{shaped-copied, shaped-performed, shaped-fresh}
@@ -53,12 +55,18 @@ module _ (ρ φ : ℕ) where
     low r b = omega (arith, h .inside .fits)
 
     -- x has come to hold what y holds
-    renamed : (x y : ℕ) → x < σ .header .registers → y < σ .header .registers → Renamed (σ .header .registers) (view ρ φ w) (copied x y) (σ .header .registers) (view ρ φ (copiedOf ρ φ w x y)) × Inside ρ (σ .header .registers) (view ρ φ (copiedOf ρ φ w x y))
+    renamed : (x y : ℕ) → x < σ .header .registers → y < σ .header .registers
+        → Renamed (σ .header .registers) (view ρ φ w) (copied x y) (σ .header .registers) (view ρ φ (copiedOf ρ φ w x y))
+        × Inside ρ (σ .header .registers) (view ρ φ (copiedOf ρ φ w x y))
     unfolding copiedOf
     renamed x y xb yb = byTest (has (getD (w .class) x 0) y)
         (λ t. rw t (renamed-within (view ρ φ w) (σ .header .registers) laws sound x y xb yb (truth (view ρ φ w .same x y) t), h .inside))
         (λ t. let d : x ≢ y = (λ e. no-truth (view ρ φ w .same x y) t (subst (λ k. T (view ρ φ w .same x k)) e (laws .self x xb))) in
-        rw t (renamed-copied ρ φ w (h .shaped) (σ .header .registers) laws (h .inside) x y xb yb d, inside-copied ρ φ w (h .shaped) (σ .header .registers) laws (h .inside) x y xb yb d))
+        rw t (
+          renamed-copied ρ φ w (h .shaped) (σ .header .registers) laws (h .inside) x y xb yb d,
+          inside-copied ρ φ w (h .shaped) (σ .header .registers) laws
+              (h .inside) x y xb yb d,
+        ))
 
     copy-holds : (x y : ℕ) → x < σ .header .registers → y < σ .header .registers → IsWindowInLayout ρ φ (after σ (Copy x y)) (copiedOf ρ φ w x y)
     copy-holds x y xb yb = record {
@@ -70,19 +78,23 @@ module _ (ρ φ : ℕ) where
     unequal-holds : (x y : ℕ) → x < σ .header .registers → y < σ .header .registers → IsWindowInLayout ρ φ (after σ (Unequal x y)) (unequalOf ρ φ w x y)
     unfolding unequalOf
     unequal-holds x y xb yb = record {
-      tracks = tracks-unequal σ v x y xb yb (view ρ φ w) (view ρ φ (unequalOf ρ φ w x y)) (h .tracks) (separated ρ φ w (σ .header .registers) (h .inside) x y xb yb);
+      tracks = tracks-unequal σ v x y xb yb (view ρ φ w) (view ρ φ (unequalOf ρ φ w x y)) (h .tracks)
+          (separated ρ φ w (σ .header .registers) (h .inside) x y xb yb);
       inside = inside-separated ρ φ w (σ .header .registers) (h .inside) x y xb yb;
       shaped = shaped-performed ρ φ w (Unequal x y) (low x xb, low y yb) (h .shaped);
     }
 
-    equal-holds : (x y : ℕ) → x < σ .header .registers → y < σ .header .registers → CoherentLetter σ (Equal x y) → IsWindowInLayout ρ φ (after σ (Equal x y)) (equalOf ρ φ w x y)
+    equal-holds : (x y : ℕ) → x < σ .header .registers → y < σ .header .registers → CoherentLetter σ (Equal x y)
+        → IsWindowInLayout ρ φ (after σ (Equal x y)) (equalOf ρ φ w x y)
     unfolding equalOf
     equal-holds x y xb yb c = record {
       tracks = byTest (has (getD (w .class) x 0) y)
           (λ t. rw t (tracks-equal σ v x y xb yb c (view ρ φ w) (view ρ φ w) (h .tracks)
-          (equated-within (σ .header .registers) (view ρ φ w) laws sound (λ r q rb qb m i. h .tracks .infeasible .0 i (h .tracks .apart r q rb qb .0 m .0)) x y xb yb (truth (view ρ φ w .same x y) t))))
+          (equated-within (σ .header .registers) (view ρ φ w) laws sound
+          (λ r q rb qb m i. h .tracks .infeasible .0 i (h .tracks .apart r q rb qb .0 m .0)) x y xb yb (truth (view ρ φ w .same x y) t))))
           (λ t. rw t (tracks-equal σ v x y xb yb c (view ρ φ w) _ (h .tracks) (equated ρ φ w (h .shaped) (σ .header .registers) laws (h .inside) x y xb yb)));
-      inside = byTest (has (getD (w .class) x 0) y) (λ t. rw t (h .inside)) (λ t. rw t (inside-equated ρ φ w (h .shaped) (σ .header .registers) laws (h .inside) x y xb yb));
+      inside = byTest (has (getD (w .class) x 0) y) (λ t. rw t (h .inside))
+          (λ t. rw t (inside-equated ρ φ w (h .shaped) (σ .header .registers) laws (h .inside) x y xb yb));
       shaped = shaped-performed ρ φ w (Equal x y) (low x xb, low y yb) (h .shaped);
     }
 
@@ -97,7 +109,8 @@ module _ (ρ φ : ℕ) where
     memoizing-is : (x f y z : ℕ) → f < φ → y < σ .header .registers → z < σ .header .registers → T (memoizingOf ρ φ w f y z) ↔ CoherentLetter σ (Apply x f y z)
     unfolding memoizingOf
     memoizing-is x f y z fb yb zb = Iff·trans (implied (has E z) (nonempty ρ R)) (Iff·trans (
-      (λ k u. let (c, cb, t) = nonempty-is ρ R .0 (k (and-r (ltb f φ) (has E z) u)) in let m = entry-result f y z fb c t in let (_, _, cn) = h .inside .result f y z c (low y yb) (low z zb) cb m in (c, cn, m)),
+      (λ k u. let (c, cb, t) = nonempty-is ρ R .0 (k (and-r (ltb f φ) (has E z) u)) in let m = entry-result f y z fb c t in
+          let (_, _, cn) = h .inside .result f y z c (low y yb) (low z zb) cb m in (c, cn, m)),
       (λ k t. let (c, cn, m) = k (entry-ever f y z fb t) in nonempty-is ρ R .1 (c, low c cn, and-r (ltb f φ) (has R c) m)),
     ) (Iff·symm (fine-apply σ v x f y z yb zb (view ρ φ w) (h .tracks))))
       where
@@ -127,7 +140,8 @@ module _ (ρ φ : ℕ) where
     judged (Equal x y) b (xb, yb) = early-is x y xb yb
     judged (Unequal x y) b f = ((λ t. tt), (λ t. tt))
 
-    apply-holds : (x f y z : ℕ) → x < σ .header .registers → f < φ → y < σ .header .registers → z < σ .header .registers → CoherentLetter σ (Apply x f y z) → IsWindowInLayout ρ φ (after σ (Apply x f y z)) (applyOf ρ φ w x f y z)
+    apply-holds : (x f y z : ℕ) → x < σ .header .registers → f < φ → y < σ .header .registers → z < σ .header .registers → CoherentLetter σ (Apply x f y z)
+        → IsWindowInLayout ρ φ (after σ (Apply x f y z)) (applyOf ρ φ w x f y z)
     unfolding applyOf
     apply-holds x f y z xb fb yb zb c = record {
       tracks = byTest (ltb r ρ)
@@ -135,7 +149,8 @@ module _ (ρ φ : ℕ) where
           let m = entry-result f y z fb r (truth (has R r) (least-in ρ R rb)) in
           let (_, _, rn) = h .inside .result f y z r (low y yb) (low z zb) rb m in
           rw t (tracks-apply-known σ v x f y z yb zb (view ρ φ w) (view ρ φ (copiedOf ρ φ w x r)) (h .tracks) r rn m (renamed x r xb rn .0)))
-          (λ t. rw t (tracks-apply-new σ v x f y z yb zb (view ρ φ w) (view ρ φ (appliedOf ρ φ w x f y z)) (h .tracks) (never t) (renamed-applied ρ φ w (h .shaped) (σ .header .registers) laws (h .inside) x f y z xb fb yb zb)));
+          (λ t. rw t (tracks-apply-new σ v x f y z yb zb (view ρ φ w) (view ρ φ (appliedOf ρ φ w x f y z)) (h .tracks) (never t)
+          (renamed-applied ρ φ w (h .shaped) (σ .header .registers) laws (h .inside) x f y z xb fb yb zb)));
       inside = byTest (ltb r ρ)
           (λ t. let rb = ltb-true r ρ t in
           let m = entry-result f y z fb r (truth (has R r) (least-in ρ R rb)) in

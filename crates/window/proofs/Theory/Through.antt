@@ -28,9 +28,11 @@ unfolding bitsMoved
 moved-at from to l i h = table-at (λ i. maskMoved (getD l i 0) from to) (length l) i 0 h
 
 -- one turn of the loop
-pub moved-turn : (from to : ℕ) (old l : List ℕ) (i v : ℕ) → Swept (λ k. maskMoved (getD old k 0) from to) 0 old i l → i < length l → v ≡ maskMoved (getD l i 0) from to
+pub moved-turn : (from to : ℕ) (old l : List ℕ) (i v : ℕ) → Swept (λ k. maskMoved (getD old k 0) from to) 0 old i l → i < length l
+    → v ≡ maskMoved (getD l i 0) from to
     → Swept (λ k. maskMoved (getD old k 0) from to) 0 old (i + 1) (set l i v)
-moved-turn from to old l i v w h e = swept-more (λ k. maskMoved (getD old k 0) from to) 0 old i l v w (omega (arith, w .long)) (e ∙ ap (λ m. maskMoved m from to) (w .ahead i (omega arith)))
+moved-turn from to old l i v w h e =
+    swept-more (λ k. maskMoved (getD old k 0) from to) 0 old i l v w (omega (arith, w .long)) (e ∙ ap (λ m. maskMoved m from to) (w .ahead i (omega arith)))
 
 pub masks-length : (ρ a b to : ℕ) (l : List ℕ) → length (masksThrough ρ a b to l) ≡ length l
 unfolding masksThrough
@@ -38,7 +40,8 @@ masks-length ρ a b to l = moved-length (bitOr (2 ^ a) (2 ^ b)) to (united (colu
 
 pub results-length : (ρ a b to : ℕ) (l : List ℕ) → length (resultsThrough ρ a b to l) ≡ length l
 unfolding resultsThrough
-results-length ρ a b to l = moved-length (bitOr (2 ^ a) (2 ^ b)) to (united (rows ρ) (has to) a b (united (columns ρ) (has to) a b l)) ∙ united-length (rows ρ) (has to) a b (united (columns ρ) (has to) a b l) ∙ united-length (columns ρ) (has to) a b l
+results-length ρ a b to l = moved-length (bitOr (2 ^ a) (2 ^ b)) to (united (rows ρ) (has to) a b (united (columns ρ) (has to) a b l))
+    ∙ united-length (rows ρ) (has to) a b (united (columns ρ) (has to) a b l) ∙ united-length (columns ρ) (has to) a b l
 
 -- ---- the whole lines of a table
 
@@ -53,7 +56,8 @@ columns-span ρ l n e k = record {
 
 pub rows-span : (ρ φ : ℕ) (l : List ℕ) → length l ≡ φ * ρ * ρ → Spans (rows ρ) (φ * ρ) l
 rows-span ρ φ l e = record {
-  inside = λ j d h g. subst (λ z. rows ρ .entry j d < z) (sym e) (subst (λ z. z < φ * ρ * ρ) (sym (place-sum ρ (j / ρ) d (j % ρ))) (place-below ρ (j / ρ) d (j % ρ) g (mod-lt j (some ρ φ j h)) φ (line-below ρ φ j h)));
+  inside = λ j d h g. subst (λ z. rows ρ .entry j d < z) (sym e)
+      (subst (λ z. z < φ * ρ * ρ) (sym (place-sum ρ (j / ρ) d (j % ρ))) (place-below ρ (j / ρ) d (j % ρ) g (mod-lt j (some ρ φ j h)) φ (line-below ρ φ j h)));
   reached = λ i h. let b = subst (λ z. i < z) e h in entry-below ρ φ (i / (ρ * ρ)) (i % ρ) (function-below ρ φ i b) (second-below ρ φ i b);
 }
 
@@ -79,11 +83,13 @@ whole ρ n l e = ap (λ z. z % ρ) e ∙ mul-mod-left n ρ
 single-is : (x : ℕ) → (λ (s : ℕ). eqb s x) ≡ has (2 ^ x)
 single-is x = fun-ext λ s. sym (single-test x s)
 
-pub masks-copied : (ρ x y : ℕ) (l m k : List ℕ) (from to : ℕ) → m ≡ united (columns ρ) (λ s. eqb s x) y y l → from ≡ 2 ^ y → to ≡ 2 ^ x → k ≡ bitsMoved from to m → k ≡ masksThrough ρ y y (2 ^ x) l
+pub masks-copied : (ρ x y : ℕ) (l m k : List ℕ) (from to : ℕ) → m ≡ united (columns ρ) (λ s. eqb s x) y y l → from ≡ 2 ^ y → to ≡ 2 ^ x
+    → k ≡ bitsMoved from to m → k ≡ masksThrough ρ y y (2 ^ x) l
 unfolding masksThrough
 masks-copied ρ x y l m k from to e p q d = rw (d, p, q, e, or-self (2 ^ y), single-is x)
 
-pub results-copied : (ρ x y : ℕ) (l m n k : List ℕ) (from to : ℕ) → m ≡ united (columns ρ) (λ s. eqb s x) y y l → n ≡ united (rows ρ) (λ s. eqb s x) y y m → from ≡ 2 ^ y → to ≡ 2 ^ x → k ≡ bitsMoved from to n → k ≡ resultsThrough ρ y y (2 ^ x) l
+pub results-copied : (ρ x y : ℕ) (l m n k : List ℕ) (from to : ℕ) → m ≡ united (columns ρ) (λ s. eqb s x) y y l → n ≡ united (rows ρ) (λ s. eqb s x) y y m
+    → from ≡ 2 ^ y → to ≡ 2 ^ x → k ≡ bitsMoved from to n → k ≡ resultsThrough ρ y y (2 ^ x) l
 unfolding resultsThrough
 results-copied ρ x y l m n k from to e f p q d = rw (d, p, q, f, e, or-self (2 ^ y), single-is x)
 
@@ -93,7 +99,8 @@ module _ {ρ : ℕ} (L : TableLines ρ) (n : ℕ) (to a : ℕ) (ab : a < ρ) whe
   pub spread-none : (old : List ℕ) → old ≡ united L (until to 0) a a old
   spread-none old = united-none L a a old (until to 0) (until-none to)
 
-  pub spread-more : (old l m : List ℕ) (r : ℕ) → Spans L n old → l ≡ united L (until to r) a a old → has to r ≡ true → m ≡ united L (λ s. eqb s r) a a l → m ≡ united L (until to (r + 1)) a a old
+  pub spread-more : (old l m : List ℕ) (r : ℕ) → Spans L n old → l ≡ united L (until to r) a a old → has to r ≡ true → m ≡ united L (λ s. eqb s r) a a l
+      → m ≡ united L (until to (r + 1)) a a old
   spread-more old l m r sp e t d = rw (d, e) (united-turn L n old sp a ab (until to r) (until to (r + 1)) r (λ s. until-more to r s t))
 
   pub spread-skip : (old l : List ℕ) (r : ℕ) → l ≡ united L (until to r) a a old → has to r ≡ false → l ≡ united L (until to (r + 1)) a a old
@@ -103,13 +110,16 @@ module _ {ρ : ℕ} (L : TableLines ρ) (n : ℕ) (to a : ℕ) (ab : a < ρ) whe
   spread-all old l r e h = e ∙ united-same L (until to r) (has to) a a old (omega arith) (λ s b. rw (lt-ltb s r (omega arith)))
 
   -- a gets the union of its entry and that of b, and then each register of `to` gets the entry of a
-  pub merged-twice : (old l m : List ℕ) (b : ℕ) → Spans L n old → has to a ≡ true → l ≡ united L (λ s. eqb s a) a b old → m ≡ united L (has to) a a l → m ≡ united L (has to) a b old
+  pub merged-twice : (old l m : List ℕ) (b : ℕ) → Spans L n old → has to a ≡ true → l ≡ united L (λ s. eqb s a) a b old → m ≡ united L (has to) a a l
+      → m ≡ united L (has to) a b old
   merged-twice old l m b sp t e d = rw (d, e) (united-twice L n old sp a ab (has to) b t)
 
-pub masks-merged : (ρ a b to : ℕ) (l m k : List ℕ) (from : ℕ) → m ≡ united (columns ρ) (has to) a b l → from ≡ bitOr (2 ^ a) (2 ^ b) → k ≡ bitsMoved from to m → k ≡ masksThrough ρ a b to l
+pub masks-merged : (ρ a b to : ℕ) (l m k : List ℕ) (from : ℕ) → m ≡ united (columns ρ) (has to) a b l → from ≡ bitOr (2 ^ a) (2 ^ b) → k ≡ bitsMoved from to m
+    → k ≡ masksThrough ρ a b to l
 unfolding masksThrough
 masks-merged ρ a b to l m k from e p d = rw (d, p, e)
 
-pub results-merged : (ρ a b to : ℕ) (l m n k : List ℕ) (from : ℕ) → m ≡ united (columns ρ) (has to) a b l → n ≡ united (rows ρ) (has to) a b m → from ≡ bitOr (2 ^ a) (2 ^ b) → k ≡ bitsMoved from to n → k ≡ resultsThrough ρ a b to l
+pub results-merged : (ρ a b to : ℕ) (l m n k : List ℕ) (from : ℕ) → m ≡ united (columns ρ) (has to) a b l → n ≡ united (rows ρ) (has to) a b m
+    → from ≡ bitOr (2 ^ a) (2 ^ b) → k ≡ bitsMoved from to n → k ≡ resultsThrough ρ a b to l
 unfolding resultsThrough
 results-merged ρ a b to l m n k from e f p d = rw (d, p, f, e)

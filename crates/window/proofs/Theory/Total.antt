@@ -25,12 +25,14 @@ size-mono i (suc k) m n f =
     let r = size-mono (suc i) k m n (λ j p q. f j (omega arith) (omega arith)) in
     omega arith
 
-size-more : (i k m n x : ℕ) → ((j : ℕ) → i ≤ j → j < i + k → T (has m j) → T (has n j)) → i ≤ x → x < i + k → ¬ T (has m x) → T (has n x) → suc (sizeFrom i k m) ≤ sizeFrom i k n
+size-more : (i k m n x : ℕ) → ((j : ℕ) → i ≤ j → j < i + k → T (has m j) → T (has n j)) → i ≤ x → x < i + k → ¬ T (has m x) → T (has n x)
+    → suc (sizeFrom i k m) ≤ sizeFrom i k n
 unfolding sizeFrom
 size-more i zero m n x f a b p q = absurd (omega arith)
 size-more i (suc k) m n x f a b p q = ⊎-elim
     (λ e. let o : bit n i ≡ 1 = eqb→eq (bit n i) 1 (subst (λ y. T (has n y)) (sym e) q) in
-    let z : bit m i ≡ 0 = (byTest (has m i) (λ t. absurd (p (subst (λ y. T (has m y)) e (subst T (sym t) tt)))) (λ t. let d = eqb-false (bit m i) 1 t in omega arith)) in
+    let z : bit m i ≡ 0 = (byTest (has m i) (λ t. absurd (p (subst (λ y. T (has m y)) e (subst T (sym t) tt))))
+    (λ t. let d = eqb-false (bit m i) 1 t in omega arith)) in
     let r = size-mono (suc i) k m n (λ j p q. f j (omega arith) (omega arith)) in
     omega arith)
     (λ l. let c = bit-mono m n i (f i (omega arith) (omega arith)) in
@@ -73,7 +75,8 @@ module _ (ρ : ℕ) where
   unfolding total sizeOf
   total-most l = sum-most ρ ρ (λ r. sizeOf ρ (getD l r 0)) (λ r h. size-most 0 ρ (getD l r 0))
 
-  pub total-more : (l m : List ℕ) (x y : ℕ) → ((r s : ℕ) → r < ρ → s < ρ → T (has (getD l r 0) s) → T (has (getD m r 0) s)) → x < ρ → y < ρ → ¬ T (has (getD l x 0) y) → T (has (getD m x 0) y) → suc (total l) ≤ total m
+  pub total-more : (l m : List ℕ) (x y : ℕ) → ((r s : ℕ) → r < ρ → s < ρ → T (has (getD l r 0) s) → T (has (getD m r 0) s)) → x < ρ → y < ρ
+      → ¬ T (has (getD l x 0) y) → T (has (getD m x 0) y) → suc (total l) ≤ total m
   unfolding total sizeOf
   total-more l m x y f xb yb p q = sum-more ρ (λ r. sizeOf ρ (getD l r 0)) (λ r. sizeOf ρ (getD m r 0)) x
       (λ r h. size-mono 0 ρ (getD l r 0) (getD m r 0) (λ j a b. f r j h (omega arith))) xb

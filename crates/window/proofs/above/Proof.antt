@@ -27,5 +27,6 @@ above-spec = tie.close (tie.spec
     (λ c. search needs)
     (λ c. search needs)
     (λ c. search needs)
-    (λ c. written-more _ _ _ _ _ _ (c .before .before .before .loop .inv) (c .before .before .loop-test .taken) (ap₂ bitOr (c .before .union .ensures) (c .union2 .ensures)))
+    (λ c. written-more _ _ _ _ _ _ (c .before .before .before .loop .inv) (c .before .before .loop-test .taken)
+    (ap₂ bitOr (c .before .union .ensures) (c .union2 .ensures)))
     (λ c. written-all _ _ _ _ _ (c .before .loop .inv) (c .loop-test .left)))

@@ -26,6 +26,7 @@ add-line-spec = tie.close (tie.spec
     (λ c. let k = c .before .before .before in omega (arith, k .loop .inv .long, c .before .before .loop-test .taken, k .before .before .pre))
     (λ c. search needs)
     (λ c. search needs)
-    (λ c. let k = c .before .before .before in adding-more registers _ _ _ _ (k .before .before .pre) _ _ _ (k .loop .inv) (c .before .before .loop-test .taken) (c .part .ensures))
+    (λ c. let k = c .before .before .before in
+    adding-more registers _ _ _ _ (k .before .before .pre) _ _ _ (k .loop .inv) (c .before .before .loop-test .taken) (c .part .ensures))
     (λ c. c .before .loop .inv .long)
     (λ c. adding-all registers _ _ _ _ (omega arith) _ _ (c .before .loop .inv) (c .loop-test .left)))

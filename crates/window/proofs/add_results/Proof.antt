@@ -22,7 +22,8 @@ loop-again c = (
   omega (arith, c .before .before .loop-test .taken),
   let l = c .before .before .before .loop .inv .1 in
       ⊎-elim
-      (λ (i, _, u, _, _, e). e ∙ added-more registers _ _ _ _ _ _ _ _ (c .before .before .loop-test .taken) l (sym (c .before .holds .ensures) ∙ i .taken) (u .ensures))
+      (λ (i, _, u, _, _, e). e ∙ added-more registers _ _ _ _ _ _ _ _ (c .before .before .loop-test .taken) l (sym (c .before .holds .ensures) ∙ i .taken)
+      (u .ensures))
       (λ (i, e). e ∙ added-skip registers _ _ _ _ _ _ _ l (sym (c .before .holds .ensures) ∙ i .left))
       (c .if1 .came),
 )
@@ -35,7 +36,8 @@ add-results-spec = tie.close (tie.spec
     (λ c κs. search needs)
     (λ c. search needs)
     (λ c. search needs)
-    (λ c κs. let k = c .before .before .before .before in let e = ap length (k .loop .inv .1) ∙ added-length registers _ _ _ _ _ in omega (arith, e, k .before .before .pre, c .before .before .before .loop-test .taken))
+    (λ c κs. let k = c .before .before .before .before in let e = ap length (k .loop .inv .1) ∙ added-length registers _ _ _ _ _ in
+    omega (arith, e, k .before .before .pre, c .before .before .before .loop-test .taken))
     (λ c. search needs)
     (λ c. search needs)
     loop-again

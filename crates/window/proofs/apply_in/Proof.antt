@@ -22,7 +22,8 @@ apply-in-spec = tie.close (tie.spec
     ))
     (λ c κs. search needs)
     (λ c. (
-      (λ i. let a = c .before .before .before .before .before .before .before .before .before .args in apply-new registers functions (windowOfParts (a .class .now)
+      (λ i. let a = c .before .before .before .before .before .before .before .before .before .args in
+          apply-new registers functions (windowOfParts (a .class .now)
           (a .unequal .now) (a .result .now) (a .ever .now) (a .mark .now) i) (a .x) (a .f) (a .y) (a .z) _ _ (c .before .before .before .before .before .before
           .before .name .ensures) (c .before .before .before .before .before .before .if1 .left) (c .new-in .ensures .0 i)),
       c .new-in .ensures .1,

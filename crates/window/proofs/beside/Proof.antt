@@ -28,5 +28,9 @@ beside-spec = tie.close (tie.spec
     (λ c κs. search needs)
     (λ c. search needs)
     (λ c. search needs)
-    (λ c. (omega (arith, c .before .before .before .loop-test .taken), beside-more registers _ _ _ _ _ (c .before .before .before .before .loop .inv .1) (c .flag .ensures)))
+    (λ c. (
+      omega (arith, c .before .before .before .loop-test .taken),
+      beside-more registers _ _ _ _ _ (c .before .before .before .before .loop .inv .1)
+          (c .flag .ensures),
+    ))
     (λ c. beside-all registers _ _ _ _ (c .before .loop .inv .0) (c .loop-test .left) (c .before .loop .inv .1)))

@@ -23,5 +23,9 @@ clash-spec = tie.close (tie.spec
     (λ c κs. search needs)
     (λ c. search needs)
     (λ c. search needs)
-    (λ c. (omega (arith, c .before .before .loop-test .taken), clash-more registers functions _ _ _ _ _ (c .before .before .before .loop .inv .1) (c .apart .ensures)))
+    (λ c. (
+      omega (arith, c .before .before .loop-test .taken),
+      clash-more registers functions _ _ _ _ _ (c .before .before .before .loop .inv .1)
+          (c .apart .ensures),
+    ))
     (λ c. clash-all registers functions _ _ _ _ (c .before .loop .inv .0) (c .loop-test .left) (c .before .loop .inv .1)))

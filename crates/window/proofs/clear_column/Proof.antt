@@ -26,7 +26,12 @@ clear-column-spec = tie.close (tie.spec
     (λ c. let k = c .before in omega (arith, k .loop .inv .0, k .loop .inv .2 .long, c .loop-test .taken, k .before .pre))
     (λ c. search needs)
     (λ c. search needs)
-    (λ c. let k = c .before in let l = c .loop-test .taken in
-    (k .loop .inv .0, omega arith, clear-more (columns registers) _ _ _ _ _ (columns-span registers _ _ (k .before .pre .1) (k .loop .inv .0)) (k .before .pre .0) l (k .loop .inv .2)))
+    (λ c. let k = c .before in let l = c .loop-test .taken in (
+      k .loop .inv .0,
+      omega arith,
+      clear-more (columns registers) _ _ _ _ _ (columns-span registers _ _ (k .before .pre .1) (k .loop .inv .0))
+          (k .before .pre .0) l (k .loop .inv .2),
+    ))
     (λ c. c .before .loop .inv .2 .long)
-    (λ c. let k = c .before in cleared-all (columns registers) _ _ _ _ _ (columns-span registers _ _ (k .before .pre .1) (k .loop .inv .0)) (c .loop-test .left) (k .loop .inv .2)))
+    (λ c. let k = c .before in cleared-all (columns registers) _ _ _ _ _ (columns-span registers _ _ (k .before .pre .1) (k .loop .inv .0)) (c .loop-test .left)
+    (k .loop .inv .2)))

@@ -13,7 +13,8 @@ use Rattle.window.proofs.close_in.Tie as tie
 
 abbrev Inv-loop : tie.InvT-loop
 Inv-loop class₀ unequal₀ result₀ ever₀ fuel₀ class unequal result ever fuel = TableLengths class unequal result ever × ((m : List Bool) (i : Bool) → closedOf
-    registers functions fuel (windowOfParts class unequal result ever m i) ≡ closedOf registers functions (registerPairs + 1) (windowOfParts class₀ unequal₀ result₀ ever₀ m i))
+    registers functions fuel (windowOfParts class unequal result ever m i) ≡ closedOf registers functions (registerPairs + 1)
+    (windowOfParts class₀ unequal₀ result₀ ever₀ m i))
 
 abbrev μ-loop : tie.MeasureT-loop
 μ-loop class₀ unequal₀ result₀ ever₀ fuel₀ class unequal result ever fuel = fuel
@@ -59,7 +60,8 @@ close-in-spec = tie.close (tie.spec
       loop .inv .0,
     ))
     (λ c. (
-      (λ m i. sym (closed-end registers functions _ (windowOfParts (c .before .loop .class) (c .before .loop .unequal) (c .before .loop .result) (c .before .loop
+      (λ m i. sym (closed-end registers functions _
+          (windowOfParts (c .before .loop .class) (c .before .loop .unequal) (c .before .loop .result) (c .before .loop
           .ever) m i) (c .loop-test .left)) ∙ c .before .loop .inv .1 m i),
       c .before .loop .inv .0,
     )))

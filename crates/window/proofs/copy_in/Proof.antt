@@ -25,7 +25,8 @@ copy-in-spec = tie.close (tie.spec
     (λ c. (
       (λ b.
           let a = c .before .before .before .before .before .before .before .before .before .before .before .before .before .before .before .before .args in
-          copied-moved registers functions (windowOfParts (a .class .now) (a .unequal .now) (a .result .now) (a .ever .now) (a .mark .now) b) (a .x) (a .y) _ _ _ _ _
+          copied-moved registers functions (windowOfParts (a .class .now) (a .unequal .now) (a .result .now) (a .ever .now) (a .mark .now) b) (a .x)
+          (a .y) _ _ _ _ _
           _ _
           (sym (c .before .before .before .before .before .before .before .before .before .before .before .before .before .before .holds .ensures) ∙ c
           .before .before .before .before .before .before .before .before .before .before .before .before .before .if1 .left) (c .before .before .before

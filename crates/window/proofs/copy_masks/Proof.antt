@@ -12,4 +12,5 @@ copy-masks-spec = tie.close (tie.spec
     (λ c κs. search needs)
     (λ c. search needs)
     (λ c. let k = c .before .before .before in
-    masks-copied registers _ _ _ _ _ _ _ (k .before .before .before .before .before .unite-column .ensures) (k .before .single .ensures) (k .single2 .ensures) (c .before .before .move-bits .ensures)))
+    masks-copied registers _ _ _ _ _ _ _ (k .before .before .before .before .before .unite-column .ensures) (k .before .single .ensures) (k .single2 .ensures)
+    (c .before .before .move-bits .ensures)))

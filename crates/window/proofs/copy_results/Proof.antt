@@ -12,4 +12,7 @@ copy-results-spec = tie.close (tie.spec
     (λ c κs. search needs)
     (λ c κs. search needs)
     (λ c. search needs)
-    (λ c. results-copied registers _ _ _ _ _ _ _ _ (c .before .before .before .before .before .before .before .before .before .before .before .before .unite-column .ensures) (c .before .before .before .before .before .before .before .before .unite-row .ensures) (c .before .before .before .before .single .ensures) (c .before .before .before .single2 .ensures) (c .before .before .move-bits .ensures)))
+    (λ c. results-copied registers _ _ _ _ _ _ _ _
+    (c .before .before .before .before .before .before .before .before .before .before .before .before .unite-column .ensures)
+    (c .before .before .before .before .before .before .before .before .unite-row .ensures) (c .before .before .before .before .single .ensures)
+    (c .before .before .before .single2 .ensures) (c .before .before .move-bits .ensures)))

@@ -18,7 +18,8 @@ equal-in-spec = tie.close (tie.spec
     (λ c. (
       (λ m.
           let a = c .before .before .before .before .before .before .before .before .before .before .before .before .before .before .before .before .before
-          .before .args in equal-moved registers functions (windowOfParts (a .class .now) (a .unequal .now) (a .result .now) (a .ever .now) m (a .infeasible)) (a .x)
+          .before .args in equal-moved registers functions (windowOfParts (a .class .now) (a .unequal .now) (a .result .now) (a .ever .now) m (a .infeasible))
+          (a .x)
           (a .y) _ _ _ _
           (sym (c .before .before .before .before .before .before .before .before .before .before .before .before .before .before .before .before .holds
           .ensures) ∙ c .before .before .before .before .before .before .before .before .before .before .before .before .before .before .before .if1

@@ -24,8 +24,16 @@ find-spec = tie.close (tie.spec
     (λ c κs. search needs)
     (λ c κs. search needs)
     (λ c. search needs)
-    (λ c. let k = c .before .before .before .before .before .before in sym (find-here registers functions _ _ _ (c .before .before .before .before .before .loop-test .taken) (sym (c .before .before .inhabited .ensures ∙ ap (nonempty registers) (c .before .before .before .rest .ensures)) ∙ c .before .if1 .taken)) ∙ k .loop .inv .1)
+    (λ c. let k = c .before .before .before .before .before .before in
+    sym (find-here registers functions _ _ _ (c .before .before .before .before .before .loop-test .taken)
+    (sym (c .before .before .inhabited .ensures ∙ ap (nonempty registers) (c .before .before .before .rest .ensures)) ∙ c .before .if1 .taken))
+    ∙ k .loop .inv .1)
     (λ c. search needs)
     (λ c. search needs)
-    (λ c. let k = c .before .before .before .before .before in (omega (arith, c .before .before .before .before .loop-test .taken), sym (find-more registers functions _ _ _ (c .before .before .before .before .loop-test .taken) (sym (c .before .inhabited .ensures ∙ ap (nonempty registers) (c .before .before .rest .ensures)) ∙ c .if1 .left)) ∙ k .loop .inv .1))
+    (λ c. let k = c .before .before .before .before .before in (
+      omega (arith, c .before .before .before .before .loop-test .taken),
+      sym
+          (find-more registers functions _ _ _ (c .before .before .before .before .loop-test .taken)
+          (sym (c .before .inhabited .ensures ∙ ap (nonempty registers) (c .before .before .rest .ensures)) ∙ c .if1 .left)) ∙ k .loop .inv .1,
+    ))
     (λ c. sym (find-none registers functions _ _ _ (c .loop-test .left)) ∙ c .before .loop .inv .1))

@@ -9,4 +9,12 @@ use Rattle.window.proofs.fresh.Tie as tie
 pub fresh-spec : {M : Type 1} → statement M
 fresh-spec = tie.close (tie.spec
     (λ c κs. search needs)
-    (λ c. ap (λ k. record { class = k; unequal = replicate registers 0; result = replicate results 0; ever = replicate lines 0; mark = replicate registers false; infeasible = false }) (c .own-classes .ensures)))
+    (λ c. ap (λ k. record {
+      class = k;
+      unequal = replicate registers 0;
+      result = replicate results 0;
+      ever = replicate lines 0;
+      mark =
+          replicate registers false;
+      infeasible = false;
+    }) (c .own-classes .ensures)))

@@ -19,13 +19,16 @@ judge-in-spec = tie.close (tie.spec
     (λ c. search needs)
     (λ c κs. subst WithinPacking (c .before .letter2 .given .1) (c .before .before .before .pre))
     (λ c. search needs)
-    (λ c k u i. subst (λ l. true ≡ judgeOf (windowOfParts k u (c .before .before .args .result .now) (c .before .before .args .ever .now) (c .before .before .args
+    (λ c k u i. subst (λ l. true ≡ judgeOf
+    (windowOfParts k u (c .before .before .args .result .now) (c .before .before .args .ever .now) (c .before .before .args
     .mark .now) i) l) (sym (c .enum-told .given .1)) refl)
     (λ c k u i. subst (λ l. c .memoizing .result ≡ judgeOf (windowOfParts k u (c .before .before .before .before .args .result .now) (c .before .before .before
     .before .args .ever .now) (c .before .before .before .before .args .mark .now) i) l) (sym (c .before .before .letter .given .1)) (c .memoizing
     .ensures k u (c .before .before .before .before .args .mark .now) i))
-    (λ c k u i. subst (λ l. c .early .result ≡ judgeOf (windowOfParts k u (c .before .before .before .before .args .result .now) (c .before .before .before .before
+    (λ c k u i. subst (λ l. c .early .result ≡ judgeOf
+    (windowOfParts k u (c .before .before .before .before .args .result .now) (c .before .before .before .before
     .args .ever .now) (c .before .before .before .before .args .mark .now) i) l) (sym (c .before .before .letter2 .given .1)) (c .early .ensures k u (c
     .before .before .before .before .args .result .now) (c .before .before .before .before .args .ever .now) i))
-    (λ c k u i. subst (λ l. true ≡ judgeOf (windowOfParts k u (c .before .before .args .result .now) (c .before .before .args .ever .now) (c .before .before .args
+    (λ c k u i. subst (λ l. true ≡ judgeOf
+    (windowOfParts k u (c .before .before .args .result .now) (c .before .before .args .ever .now) (c .before .before .args
     .mark .now) i) l) (sym (c .enum-told2 .given .1)) refl))

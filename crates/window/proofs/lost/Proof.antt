@@ -14,4 +14,7 @@ lost-spec = tie.close (tie.spec
     (λ c. search needs)
     (λ c κs. search needs)
     (λ c κs. search needs)
-    (λ c. lost-is registers functions _ _ _ _ _ _ _ _ _ _ (c .before .before .before .before .before .before .before .before .before .before .folded .ensures) (c .before .before .before .before .before .before .before .before .above .ensures) (c .before .before .before .before .before .before .single .ensures) (c .before .before .before .before .before .below .ensures) (c .before .before .before .beside .ensures) (c .before .before .flag .ensures) (c .raised .ensures)))
+    (λ c. lost-is registers functions _ _ _ _ _ _ _ _ _ _ (c .before .before .before .before .before .before .before .before .before .before .folded .ensures)
+    (c .before .before .before .before .before .before .before .before .above .ensures) (c .before .before .before .before .before .before .single .ensures)
+    (c .before .before .before .before .before .below .ensures) (c .before .before .before .beside .ensures) (c .before .before .flag .ensures)
+    (c .raised .ensures)))

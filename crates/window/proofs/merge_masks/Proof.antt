@@ -18,6 +18,7 @@ merge-masks-spec = tie.close (tie.spec
     (λ c. let k = c .before .before .before .before .before .before .before .before .before .before .before .before in
     let p = k .before .before .before .pre in
     masks-merged registers _ _ _ _ _ _ _
-    (merged-twice (columns registers) _ _ _ (p .0) _ _ _ _ (columns-span registers _ _ (p .3) refl) (p .2) (k .unite-column .ensures) (c .before .before .before .before .before .before .before .before .spread-column .ensures))
+    (merged-twice (columns registers) _ _ _ (p .0) _ _ _ _ (columns-span registers _ _ (p .3) refl) (p .2) (k .unite-column .ensures)
+    (c .before .before .before .before .before .before .before .before .spread-column .ensures))
     (ap₂ bitOr (c .before .before .before .before .single .ensures) (c .before .before .before .single2 .ensures))
     (c .before .before .move-bits .ensures)))

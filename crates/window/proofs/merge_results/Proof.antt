@@ -19,11 +19,17 @@ merge-results-spec = tie.close (tie.spec
     (λ c κs. search needs)
     (λ c κs. search needs)
     (λ c. search needs)
-    (λ c. let k = c .before .before .before .before .before .before .before .before .before .before .before .before .before .before .before .before .before .before .before .before in
+    (λ c. let k = c .before .before .before .before .before .before .before .before .before .before .before .before .before .before .before .before .before
+    .before .before .before in
     let p = k .before .before .before .pre in
-    let m = merged-twice (columns registers) _ _ _ (p .0) _ _ _ _ (columns-span registers _ _ (whole registers lines (k .before .before .before .args .t .now) (p .3)) refl) (p .2) (k .unite-column .ensures) (c .before .before .before .before .before .before .before .before .before .before .before .before .before .before .before .before .spread-column .ensures) in
+    let m = merged-twice (columns registers) _ _ _ (p .0) _ _ _ _
+    (columns-span registers _ _ (whole registers lines (k .before .before .before .args .t .now) (p .3)) refl) (p .2) (k .unite-column .ensures)
+    (c .before .before .before .before .before .before .before .before .before .before .before .before .before .before .before .before .spread-column
+    .ensures) in
     results-merged registers _ _ _ _ _ _ _ _
     m
-    (merged-twice (rows registers) _ _ _ (p .0) _ _ _ _ (rows-span registers functions _ (ap length m ∙ united-length (columns registers) _ _ _ _ ∙ p .3)) (p .2) (c .before .before .before .before .before .before .before .before .before .before .before .before .unite-row .ensures) (c .before .before .before .before .before .before .before .before .spread-row .ensures))
+    (merged-twice (rows registers) _ _ _ (p .0) _ _ _ _ (rows-span registers functions _ (ap length m ∙ united-length (columns registers) _ _ _ _ ∙ p .3))
+    (p .2) (c .before .before .before .before .before .before .before .before .before .before .before .before .unite-row .ensures)
+    (c .before .before .before .before .before .before .before .before .spread-row .ensures))
     (ap₂ bitOr (c .before .before .before .before .single .ensures) (c .before .before .before .single2 .ensures))
     (c .before .before .move-bits .ensures)))

@@ -29,7 +29,8 @@ new-in-spec = tie.close (tie.spec
     (λ c. (
       (λ i.
           let a = c .before .before .before .before .before .before .before .before .before .before .before .before .before .before .before .before .before
-          .before .before .args in applied-is registers functions (windowOfParts (a .class .now) (a .unequal .now) (a .result .now) (a .ever .now) (a .mark .now) i)
+          .before .before .args in applied-is registers functions
+          (windowOfParts (a .class .now) (a .unequal .now) (a .result .now) (a .ever .now) (a .mark .now) i)
           (a .x) (a .f) (a .y) (a .z) _ _ _ _ _ _ _ _ _
           (c .before .before .before .before .before .before .before .before .before .before .before .before .before .arguments .ensures) (c .before .before
           .before .before .before .before .before .before .before .before .before .before .fallen .ensures) (c .before .before .before .before .before

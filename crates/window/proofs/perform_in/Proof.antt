@@ -45,19 +45,22 @@ perform-in-spec = tie.close (tie.spec
     let pre-of = c .before .before .before .before .before .pre in
     let p = subst WithinPacking (c .before .before .before .letter4 .given .1) (pre-of .0) in (p .0, p .1, pre-of .1 .unequal))
     (λ c. (
-      let a = c .before .before .before .before .before .before .before .before .before .args in told _ (windowOfParts (a .class .now) (a .unequal .now) (a .result
+      let a = c .before .before .before .before .before .before .before .before .before .args in
+          told _ (windowOfParts (a .class .now) (a .unequal .now) (a .result
           .now) (a .ever .now) (a .mark .now) (a .infeasible)) _ _ (c .before .before .before .before .before .before .before .letter .given .1) (c .copy-in
           .ensures .0 (a .infeasible)),
       c .copy-in .ensures .1,
     ))
     (λ c. (
-      let a = c .before .before .before .before .before .before .before .before .before .args in told _ (windowOfParts (a .class .now) (a .unequal .now) (a .result
+      let a = c .before .before .before .before .before .before .before .before .before .args in
+          told _ (windowOfParts (a .class .now) (a .unequal .now) (a .result
           .now) (a .ever .now) (a .mark .now) (a .infeasible)) _ _ (c .before .before .before .before .before .before .before .letter2 .given .1) (c .apply-in
           .ensures .0 (a .infeasible)),
       c .apply-in .ensures .1,
     ))
     (λ c. (
-      let a = c .before .before .before .before .before .before .before .before .args in told _ (windowOfParts (a .class .now) (a .unequal .now) (a .result .now)
+      let a = c .before .before .before .before .before .before .before .before .args in
+          told _ (windowOfParts (a .class .now) (a .unequal .now) (a .result .now)
           (a .ever .now) (a .mark .now) (a .infeasible)) _ _ (c .before .before .before .before .before .before .letter3 .given .1) (c .equal-in .ensures .0 (a
           .mark .now)),
       let l = c .equal-in .ensures .1 in record {
@@ -70,7 +73,8 @@ perform-in-spec = tie.close (tie.spec
       },
     ))
     (λ c. (
-      let a = c .before .before .before .before .before .before .args in told _ (windowOfParts (a .class .now) (a .unequal .now) (a .result .now) (a .ever .now) (a
+      let a = c .before .before .before .before .before .before .args in
+          told _ (windowOfParts (a .class .now) (a .unequal .now) (a .result .now) (a .ever .now) (a
           .mark .now) (a .infeasible)) _ _ (c .before .before .before .before .letter4 .given .1) (c .unequal-in .ensures .0 (a .result .now) (a .ever .now) (a
           .mark .now)),
       let s = c .before .before .before .before .before .before .pre .1 in record {

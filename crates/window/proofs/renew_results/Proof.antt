@@ -12,4 +12,8 @@ renew-results-spec = tie.close (tie.spec
     (λ c κs. search needs)
     (λ c κs. search needs)
     (λ c. search needs)
-    (λ c. renewed-is registers _ _ _ _ _ _ _ _ _ _ (c .before .before .before .before .before .before .before .before .before .before .before .before .before .before .before .before .single .ensures) (c .before .before .before .before .before .before .before .before .before .before .before .before .before .before .move-bits .ensures) (c .before .before .before .before .before .before .before .before .before .before .add-results .ensures) (c .before .before .before .before .before .before .clear-column .ensures) (c .before .before .clear-row .ensures)))
+    (λ c. renewed-is registers _ _ _ _ _ _ _ _ _ _
+    (c .before .before .before .before .before .before .before .before .before .before .before .before .before .before .before .before .single .ensures)
+    (c .before .before .before .before .before .before .before .before .before .before .before .before .before .before .move-bits .ensures)
+    (c .before .before .before .before .before .before .before .before .before .before .add-results .ensures)
+    (c .before .before .before .before .before .before .clear-column .ensures) (c .before .before .clear-row .ensures)))

@@ -24,7 +24,8 @@ loop-again c = (
   let p = c .before .before .before .before .before .pre in
       let l = c .before .before .before .loop .inv .1 in
       ⊎-elim
-      (λ (i, _, u, _, _, e). e ∙ spread-more (columns registers) _ _ _ (p .0) _ _ _ _ (columns-span registers _ _ (p .1) refl) l (sym (c .before .holds .ensures) ∙ i .taken) (u .ensures))
+      (λ (i, _, u, _, _, e). e ∙ spread-more (columns registers) _ _ _ (p .0) _ _ _ _ (columns-span registers _ _ (p .1) refl) l
+      (sym (c .before .holds .ensures) ∙ i .taken) (u .ensures))
       (λ (i, e). e ∙ spread-skip (columns registers) 0 _ _ (p .0) _ _ _ l (sym (c .before .holds .ensures) ∙ i .left))
       (c .if1 .came),
 )
@@ -35,7 +36,8 @@ spread-column-spec = tie.close (tie.spec
     μ-loop
     (λ c. (search needs, spread-none (columns registers) 0 _ _ (c .before .pre .0) _))
     (λ c κs. search needs)
-    (λ c κs. let k = c .before .before .before .before in let e = ap length (k .loop .inv .1) ∙ united-length (columns registers) _ _ _ _ in (search needs, search needs, search needs, omega (arith, e, k .before .before .pre .1)))
+    (λ c κs. let k = c .before .before .before .before in let e = ap length (k .loop .inv .1) ∙ united-length (columns registers) _ _ _ _ in
+    (search needs, search needs, search needs, omega (arith, e, k .before .before .pre .1)))
     (λ c. search needs)
     (λ c. search needs)
     loop-again

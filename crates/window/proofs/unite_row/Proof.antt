@@ -37,7 +37,12 @@ unite-row-spec = tie.close (tie.spec
     (λ c. let k = c .before .before .before in omega (arith, k .loop .inv .0, k .loop .inv .2 .long, c .before .before .loop-test .taken, k .before .pre))
     (λ c. search needs)
     (λ c. search needs)
-    (λ c. let k = c .before .before .before in let l = c .before .before .loop-test .taken in
-    (k .loop .inv .0, omega arith, unite-more (rows registers) _ _ _ _ _ _ _ (rows-whole registers (search needs) _ _ (k .before .pre .3) (k .loop .inv .0)) (k .before .pre .0) (k .before .pre .1) (k .before .pre .2) l (k .loop .inv .2)))
+    (λ c. let k = c .before .before .before in let l = c .before .before .loop-test .taken in (
+      k .loop .inv .0,
+      omega arith,
+      unite-more (rows registers) _ _ _ _ _ _ _ (rows-whole registers (search needs) _ _ (k .before .pre .3) (k .loop .inv .0))
+          (k .before .pre .0) (k .before .pre .1) (k .before .pre .2) l (k .loop .inv .2),
+    ))
     (λ c. c .before .loop .inv .2 .long)
-    (λ c. let k = c .before in united-all (rows registers) _ _ _ _ _ _ _ (rows-whole registers (search needs) _ _ (k .before .pre .3) (k .loop .inv .0)) (c .loop-test .left) (k .loop .inv .2)))
+    (λ c. let k = c .before in united-all (rows registers) _ _ _ _ _ _ _ (rows-whole registers (search needs) _ _ (k .before .pre .3) (k .loop .inv .0))
+    (c .loop-test .left) (k .loop .inv .2)))

@@ -8,4 +8,5 @@ pub application-fits-spec : {M : Type 1} → statement M
 unfolding applyTest
 application-fits-spec =
     tie.close
-    (tie.spec (λ c. search decide) (λ c. search decide) (λ c. search decide) (λ c. search decide) (λ c κs. search needs) (λ c. search (decide, ← c .before .takes-two .ensures, c .if5 .taken)) (λ c. search (decide, ← c .before .takes-two .ensures, c .if5 .left)))
+    (tie.spec (λ c. search decide) (λ c. search decide) (λ c. search decide) (λ c. search decide) (λ c κs. search needs)
+    (λ c. search (decide, ← c .before .takes-two .ensures, c .if5 .taken)) (λ c. search (decide, ← c .before .takes-two .ensures, c .if5 .left)))

@@ -18,6 +18,15 @@ decode-header-spec =
     (λ c κs. search needs)
     (λ c. search needs)
     (λ c. search needs)
-    (λ c. let x = c .before .before .before .named-header .result in rw (← c .before .before .before .named-header .ensures) (reread-none (headerTest firstEdition x) x (headerWord firstEdition x) (c .before .before .before .before .args .word) 3 (sym (c .before .before .encode-header .ensures) ∙ ap headerWordAnswer (c .enum-told .given .1))))
-    (λ c. let x = c .before .before .before .before .before .named-header .result in rw (← c .before .before .before .before .before .named-header .ensures) (reread-same (headerTest firstEdition x) x (headerWord firstEdition x) (c .before .before .before .before .before .before .args .word) 3 _ (sym (c .before .before .before .before .encode-header .ensures) ∙ ap headerWordAnswer (c .before .before .encoded .given .1)) (c .if1 .taken)))
-    (λ c. let x = c .before .before .before .before .before .named-header .result in rw (← c .before .before .before .before .before .named-header .ensures) (reread-other (headerTest firstEdition x) x (headerWord firstEdition x) (c .before .before .before .before .before .before .args .word) 3 _ (sym (c .before .before .before .before .encode-header .ensures) ∙ ap headerWordAnswer (c .before .before .encoded .given .1)) (c .if1 .left))))
+    (λ c. let x = c .before .before .before .named-header .result in
+    rw (← c .before .before .before .named-header .ensures)
+    (reread-none (headerTest firstEdition x) x (headerWord firstEdition x) (c .before .before .before .before .args .word) 3
+    (sym (c .before .before .encode-header .ensures) ∙ ap headerWordAnswer (c .enum-told .given .1))))
+    (λ c. let x = c .before .before .before .before .before .named-header .result in
+    rw (← c .before .before .before .before .before .named-header .ensures)
+    (reread-same (headerTest firstEdition x) x (headerWord firstEdition x) (c .before .before .before .before .before .before .args .word) 3 _
+    (sym (c .before .before .before .before .encode-header .ensures) ∙ ap headerWordAnswer (c .before .before .encoded .given .1)) (c .if1 .taken)))
+    (λ c. let x = c .before .before .before .before .before .named-header .result in
+    rw (← c .before .before .before .before .before .named-header .ensures)
+    (reread-other (headerTest firstEdition x) x (headerWord firstEdition x) (c .before .before .before .before .before .before .args .word) 3 _
+    (sym (c .before .before .before .before .encode-header .ensures) ∙ ap headerWordAnswer (c .before .before .encoded .given .1)) (c .if1 .left))))

@@ -6,4 +6,6 @@ use Rattle.letters.proofs.words.takes_two.Statement.{statement}
 use Rattle.letters.proofs.words.takes_two.Tie as tie
 
 pub takes-two-spec : {M : Type 1} → statement M
-takes-two-spec = tie.close (tie.spec (λ c. let h : c .before .args .h .binary < 256 = omega arith in no-bit (c .before .args .h .binary) (c .before .args .f) h (c .if1 .taken)) (λ c. search needs) (λ c. search needs))
+takes-two-spec = tie.close (tie.spec
+    (λ c. let h : c .before .args .h .binary < 256 = omega arith in no-bit (c .before .args .h .binary) (c .before .args .f) h (c .if1 .taken))
+    (λ c. search needs) (λ c. search needs))

@@ -16,5 +16,8 @@ word-at-spec =
     (λ c κs. search needs)
     (λ c. search needs)
     (λ c.
-    let a = c .before .before .before .args in
-    (ap₂ (λ (x y : ℕ). x * 256 + y) (c .before .byte-at .ensures .0) (c .byte-at2 .ensures .0) ∙ sym (word-bytes (a .bytes .now) (a .at)), omega (arith, c .before .byte-at .ensures .1, c .byte-at2 .ensures .1))))
+    let a = c .before .before .before .args in (
+      ap₂ (λ (x y : ℕ). x * 256 + y) (c .before .byte-at .ensures .0) (c .byte-at2 .ensures .0)
+          ∙ sym (word-bytes (a .bytes .now) (a .at)),
+      omega (arith, c .before .byte-at .ensures .1, c .byte-at2 .ensures .1),
+    )))

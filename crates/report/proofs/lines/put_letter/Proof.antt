@@ -10,7 +10,10 @@ use Rattle.report.proofs.lines.put_letter.Tie as tie
 -- what the function ensures, apart, so that its failure has a name
 returns-4 : tie.Need-returns-4
 returns-4 c =
-    let a = c .before .before .before .before .before .before .before .before .before .args in appended-same (sym (ap (letterLine (namesOf (a .registers) (a .functions)) (a .h)) (c .before .before .before .before .before .before .letter4 .given .1) ∙ unequal-form (a .registers) (a .functions) (a .h) _ _)) (c .before .before .put-two3 .ensures)
+    let a = c .before .before .before .before .before .before .before .before .before .args in
+    appended-same (sym (ap (letterLine (namesOf (a .registers) (a .functions)) (a .h))
+    (c .before .before .before .before .before .before .letter4 .given .1) ∙ unequal-form (a .registers) (a .functions) (a .h) _ _))
+    (c .before .before .put-two3 .ensures)
 
 pub put-letter-spec : {M : Type 1} → statement M
 put-letter-spec =
@@ -18,20 +21,35 @@ put-letter-spec =
     (tie.spec
     (λ c. search needs)
     (λ c. search needs)
-    (λ c κs. let a = c .before .before .before .before .before .before .args in room-same (ap (letterLine (namesOf (a .registers) (a .functions)) (a .h)) (c .before .before .before .letter .given .1) ∙ copy-form (a .registers) (a .functions) (a .h) _ _) (c .before .before .before .before .before .before .pre))
+    (λ c κs. let a = c .before .before .before .before .before .before .args in
+    room-same (ap (letterLine (namesOf (a .registers) (a .functions)) (a .h)) (c .before .before .before .letter .given .1)
+    ∙ copy-form (a .registers) (a .functions) (a .h) _ _) (c .before .before .before .before .before .before .pre))
     (λ c. search needs)
-    (λ c κs. let a = c .before .before .before .before .before .args in room-same (ap (letterLine (namesOf (a .registers) (a .functions)) (a .h)) (c .before .before .letter2 .given .1)) (c .before .before .before .before .before .pre))
+    (λ c κs. let a = c .before .before .before .before .before .args in
+    room-same (ap (letterLine (namesOf (a .registers) (a .functions)) (a .h)) (c .before .before .letter2 .given .1))
+    (c .before .before .before .before .before .pre))
     (λ c. search needs)
     (λ c. search needs)
-    (λ c κs. let a = c .before .before .before .before .before .before .args in room-same (ap (letterLine (namesOf (a .registers) (a .functions)) (a .h)) (c .before .before .before .letter3 .given .1) ∙ equal-form (a .registers) (a .functions) (a .h) _ _) (c .before .before .before .before .before .before .pre))
+    (λ c κs. let a = c .before .before .before .before .before .before .args in
+    room-same (ap (letterLine (namesOf (a .registers) (a .functions)) (a .h)) (c .before .before .before .letter3 .given .1)
+    ∙ equal-form (a .registers) (a .functions) (a .h) _ _) (c .before .before .before .before .before .before .pre))
     (λ c. search needs)
     (λ c. search needs)
-    (λ c κs. let a = c .before .before .before .before .before .before .args in room-same (ap (letterLine (namesOf (a .registers) (a .functions)) (a .h)) (c .before .before .before .letter4 .given .1) ∙ unequal-form (a .registers) (a .functions) (a .h) _ _) (c .before .before .before .before .before .before .pre))
+    (λ c κs. let a = c .before .before .before .before .before .before .args in
+    room-same (ap (letterLine (namesOf (a .registers) (a .functions)) (a .h)) (c .before .before .before .letter4 .given .1)
+    ∙ unequal-form (a .registers) (a .functions) (a .h) _ _) (c .before .before .before .before .before .before .pre))
     (λ c. appended-length (c .before .before .put-two .ensures))
-    (λ c. let a = c .before .before .before .before .before .before .before .before .before .args in appended-same (sym (ap (letterLine (namesOf (a .registers) (a .functions)) (a .h)) (c .before .before .before .before .before .before .letter .given .1) ∙ copy-form (a .registers) (a .functions) (a .h) _ _)) (c .before .before .put-two .ensures))
+    (λ c. let a = c .before .before .before .before .before .before .before .before .before .args in
+    appended-same (sym (ap (letterLine (namesOf (a .registers) (a .functions)) (a .h)) (c .before .before .before .before .before .before .letter .given .1)
+    ∙ copy-form (a .registers) (a .functions) (a .h) _ _)) (c .before .before .put-two .ensures))
     (λ c. appended-length (c .before .before .put-application .ensures))
-    (λ c. let a = c .before .before .before .before .before .before .before .before .args in appended-same (sym (ap (letterLine (namesOf (a .registers) (a .functions)) (a .h)) (c .before .before .before .before .before .letter2 .given .1))) (c .before .before .put-application .ensures))
+    (λ c. let a = c .before .before .before .before .before .before .before .before .args in
+    appended-same (sym (ap (letterLine (namesOf (a .registers) (a .functions)) (a .h)) (c .before .before .before .before .before .letter2 .given .1)))
+    (c .before .before .put-application .ensures))
     (λ c. appended-length (c .before .before .put-two2 .ensures))
-    (λ c. let a = c .before .before .before .before .before .before .before .before .before .args in appended-same (sym (ap (letterLine (namesOf (a .registers) (a .functions)) (a .h)) (c .before .before .before .before .before .before .letter3 .given .1) ∙ equal-form (a .registers) (a .functions) (a .h) _ _)) (c .before .before .put-two2 .ensures))
+    (λ c. let a = c .before .before .before .before .before .before .before .before .before .args in
+    appended-same (sym (ap (letterLine (namesOf (a .registers) (a .functions)) (a .h))
+    (c .before .before .before .before .before .before .letter3 .given .1) ∙ equal-form (a .registers) (a .functions) (a .h) _ _))
+    (c .before .before .put-two2 .ensures))
     (λ c. appended-length (c .before .before .put-two3 .ensures))
     returns-4)

@@ -24,24 +24,73 @@ put-model-spec =
     (λ c. search needs)
     (λ c κs. search needs)
     (λ c. search needs)
-    (λ c κs. let a = c .before .before .before .before .before .before .args in room-same (values-form (c .before .before .before .word-at .ensures .0)) (room-first (line (valuesWord ∷ numeral (wordAt (a .answer .now) (a .start)) ∷ [])) (startLines (λ r. nameText (getD (a .registers) r 0)) 0 (unitsIn 2 (a .h .registers) (drop (a .start + 4) (a .answer .now))) ++ linesOf (rowLine (λ f. nameText (getD (a .functions) f 0)) (a .h)) (map (rowFrom firstEdition (a .h)) (unitsIn 5 (wordAt (a .answer .now) (a .start + 2)) (drop (a .start + 4 + 2 * a .h .registers) (a .answer .now))))) (room-same (model-parts (namesOf (a .registers) (a .functions)) (a .h) (a .answer .now) (a .start)) (c .before .before .before .before .before .before .pre .0))))
+    (λ c κs. let a = c .before .before .before .before .before .before .args in
+    room-same (values-form (c .before .before .before .word-at .ensures .0))
+    (room-first (line (valuesWord ∷ numeral (wordAt (a .answer .now) (a .start)) ∷ []))
+    (startLines (λ r. nameText (getD (a .registers) r 0)) 0 (unitsIn 2 (a .h .registers) (drop (a .start + 4) (a .answer .now))) ++ linesOf
+    (rowLine (λ f. nameText (getD (a .functions) f 0)) (a .h))
+    (map (rowFrom firstEdition (a .h)) (unitsIn 5 (wordAt (a .answer .now) (a .start + 2)) (drop (a .start + 4 + 2 * a .h .registers) (a .answer .now)))))
+    (room-same (model-parts (namesOf (a .registers) (a .functions)) (a .h) (a .answer .now) (a .start))
+    (c .before .before .before .before .before .before .pre .0))))
     (λ c. search needs)
     (λ c κs.
     let a = c .before .before .before .before .before .before .before .before .before .before .args in
-    room-first (startLines (λ r. nameText (getD (a .registers) r 0)) 0 (unitsIn 2 (a .h .registers) (drop (a .start + 4) (a .answer .now)))) (linesOf (rowLine (λ f. nameText (getD (a .functions) f 0)) (a .h)) (map (rowFrom firstEdition (a .h)) (unitsIn 5 (wordAt (a .answer .now) (a .start + 2)) (drop (a .start + 4 + 2 * a .h .registers) (a .answer .now))))) (room-then (line (valuesWord ∷ numeral (wordAt (a .answer .now) (a .start)) ∷ [])) (startLines (λ r. nameText (getD (a .registers) r 0)) 0 (unitsIn 2 (a .h .registers) (drop (a .start + 4) (a .answer .now))) ++ linesOf (rowLine (λ f. nameText (getD (a .functions) f 0)) (a .h)) (map (rowFrom firstEdition (a .h)) (unitsIn 5 (wordAt (a .answer .now) (a .start + 2)) (drop (a .start + 4 + 2 * a .h .registers) (a .answer .now))))) (room-same (model-parts (namesOf (a .registers) (a .functions)) (a .h) (a .answer .now) (a .start)) (c .before .before .before .before .before .before .before .before .before .before .pre .0)) (appended-same (sym (values-form (c .before .before .before .before .before .before .before .word-at .ensures .0))) (c .before .before .before .put-line .ensures))))
+    room-first (startLines (λ r. nameText (getD (a .registers) r 0)) 0 (unitsIn 2 (a .h .registers) (drop (a .start + 4) (a .answer .now))))
+    (linesOf (rowLine (λ f. nameText (getD (a .functions) f 0)) (a .h))
+    (map (rowFrom firstEdition (a .h)) (unitsIn 5 (wordAt (a .answer .now) (a .start + 2)) (drop (a .start + 4 + 2 * a .h .registers) (a .answer .now)))))
+    (room-then (line (valuesWord ∷ numeral (wordAt (a .answer .now) (a .start)) ∷ []))
+    (startLines (λ r. nameText (getD (a .registers) r 0)) 0 (unitsIn 2 (a .h .registers) (drop (a .start + 4) (a .answer .now))) ++ linesOf
+    (rowLine (λ f. nameText (getD (a .functions) f 0)) (a .h))
+    (map (rowFrom firstEdition (a .h)) (unitsIn 5 (wordAt (a .answer .now) (a .start + 2)) (drop (a .start + 4 + 2 * a .h .registers) (a .answer .now)))))
+    (room-same (model-parts (namesOf (a .registers) (a .functions)) (a .h) (a .answer .now) (a .start))
+    (c .before .before .before .before .before .before .before .before .before .before .pre .0))
+    (appended-same (sym (values-form (c .before .before .before .before .before .before .before .word-at .ensures .0)))
+    (c .before .before .before .put-line .ensures))))
     (λ c. search needs)
     (λ c. search needs)
     (λ c. search needs)
     (λ c. search needs)
     (λ c κs.
     let a = c .before .before .before .before .before .before .before .before .before .before .before .before .before .before .before .args in (
-      room-same (ap (λ (n : ℕ). linesOf (rowLine (λ f. nameText (getD (a .functions) f 0)) (a .h)) (map (rowFrom firstEdition (a .h)) (unitsIn 5 (n) (drop (a .start + 4 + 2 * a .h .registers) (a .answer .now))))) (sym (c .before .before .before .before .before .before .before .before .before .before .before .word-at2 .ensures .0)))
-          (room-then (startLines (λ r. nameText (getD (a .registers) r 0)) 0 (unitsIn 2 (a .h .registers) (drop (a .start + 4) (a .answer .now)))) (linesOf (rowLine (λ f. nameText (getD (a .functions) f 0)) (a .h)) (map (rowFrom firstEdition (a .h)) (unitsIn 5 (wordAt (a .answer .now) (a .start + 2)) (drop (a .start + 4 + 2 * a .h .registers) (a .answer .now))))) (room-then (line (valuesWord ∷ numeral (wordAt (a .answer .now) (a .start)) ∷ [])) (startLines (λ r. nameText (getD (a .registers) r 0)) 0 (unitsIn 2 (a .h .registers) (drop (a .start + 4) (a .answer .now))) ++ linesOf (rowLine (λ f. nameText (getD (a .functions) f 0)) (a .h)) (map (rowFrom firstEdition (a .h)) (unitsIn 5 (wordAt (a .answer .now) (a .start + 2)) (drop (a .start + 4 + 2 * a .h .registers) (a .answer .now))))) (room-same (model-parts (namesOf (a .registers) (a .functions)) (a .h) (a .answer .now) (a .start)) (c .before .before .before .before .before .before .before .before .before .before .before .before .before .before .before .pre .0)) (appended-same (sym (values-form (c .before .before .before .before .before .before .before .before .before .before .before .before .word-at .ensures .0))) (c .before .before .before .before .before .before .before .before .put-line .ensures))) (c .before .before .before .before .put-starts .ensures)),
+      room-same (ap (λ (n : ℕ). linesOf (rowLine (λ f. nameText (getD (a .functions) f 0)) (a .h))
+          (map (rowFrom firstEdition (a .h)) (unitsIn 5 (n) (drop (a .start + 4 + 2 * a .h .registers) (a .answer .now)))))
+          (sym (c .before .before .before .before .before .before .before .before .before .before .before .word-at2 .ensures .0)))
+          (room-then (startLines (λ r. nameText (getD (a .registers) r 0)) 0 (unitsIn 2 (a .h .registers) (drop (a .start + 4) (a .answer .now))))
+          (linesOf (rowLine (λ f. nameText (getD (a .functions) f 0)) (a .h))
+          (map (rowFrom firstEdition (a .h))
+          (unitsIn 5 (wordAt (a .answer .now) (a .start + 2)) (drop (a .start + 4 + 2 * a .h .registers) (a .answer .now)))))
+          (room-then (line (valuesWord ∷ numeral (wordAt (a .answer .now) (a .start)) ∷ []))
+          (startLines (λ r. nameText (getD (a .registers) r 0)) 0 (unitsIn 2 (a .h .registers) (drop (a .start + 4) (a .answer .now))) ++ linesOf
+          (rowLine (λ f. nameText (getD (a .functions) f 0)) (a .h))
+          (map (rowFrom firstEdition (a .h))
+          (unitsIn 5 (wordAt (a .answer .now) (a .start + 2)) (drop (a .start + 4 + 2 * a .h .registers) (a .answer .now)))))
+          (room-same (model-parts (namesOf (a .registers) (a .functions)) (a .h) (a .answer .now) (a .start))
+          (c .before .before .before .before .before .before .before .before .before .before .before .before .before .before .before .pre .0))
+          (appended-same (sym (values-form
+          (c .before .before .before .before .before .before .before .before .before .before .before .before .word-at .ensures .0)))
+          (c .before .before .before .before .before .before .before .before .put-line .ensures)))
+          (c .before .before .before .before .put-starts .ensures)),
       c .before .before .before .before .before .before .before .before .before .before .before .word-at2 .ensures .1,
     ))
-    (λ c. appended-length (c .before .before .put-rows .ensures) ∙ appended-length (c .before .before .before .before .before .before .before .put-starts .ensures) ∙ appended-length (c .before .before .before .before .before .before .before .before .before .before .before .put-line .ensures))
+    (λ c. appended-length (c .before .before .put-rows .ensures)
+    ∙ appended-length (c .before .before .before .before .before .before .before .put-starts .ensures)
+    ∙ appended-length (c .before .before .before .before .before .before .before .before .before .before .before .put-line .ensures))
     (λ c.
-    let a = c .before .before .before .before .before .before .before .before .before .before .before .before .before .before .before .before .before .before .args in
+    let a = c .before .before .before .before .before .before .before .before .before .before .before .before .before .before .before .before .before .before
+    .args in
     appended-same (sym (model-parts (namesOf (a .registers) (a .functions)) (a .h) (a .answer .now) (a .start)))
-    (appended-then (line (valuesWord ∷ numeral (wordAt (a .answer .now) (a .start)) ∷ [])) (startLines (λ r. nameText (getD (a .registers) r 0)) 0 (unitsIn 2 (a .h .registers) (drop (a .start + 4) (a .answer .now))) ++ linesOf (rowLine (λ f. nameText (getD (a .functions) f 0)) (a .h)) (map (rowFrom firstEdition (a .h)) (unitsIn 5 (wordAt (a .answer .now) (a .start + 2)) (drop (a .start + 4 + 2 * a .h .registers) (a .answer .now))))) (appended-same (sym (values-form (c .before .before .before .before .before .before .before .before .before .before .before .before .before .before .before .word-at .ensures .0))) (c .before .before .before .before .before .before .before .before .before .before .before .put-line .ensures))
-    (appended-then (startLines (λ r. nameText (getD (a .registers) r 0)) 0 (unitsIn 2 (a .h .registers) (drop (a .start + 4) (a .answer .now)))) (linesOf (rowLine (λ f. nameText (getD (a .functions) f 0)) (a .h)) (map (rowFrom firstEdition (a .h)) (unitsIn 5 (wordAt (a .answer .now) (a .start + 2)) (drop (a .start + 4 + 2 * a .h .registers) (a .answer .now))))) (c .before .before .before .before .before .before .before .put-starts .ensures) (appended-same (ap (λ (n : ℕ). linesOf (rowLine (λ f. nameText (getD (a .functions) f 0)) (a .h)) (map (rowFrom firstEdition (a .h)) (unitsIn 5 (n) (drop (a .start + 4 + 2 * a .h .registers) (a .answer .now))))) (c .before .before .before .before .before .before .before .before .before .before .before .before .before .before .word-at2 .ensures .0)) (c .before .before .put-rows .ensures))))))
+    (appended-then (line (valuesWord ∷ numeral (wordAt (a .answer .now) (a .start)) ∷ []))
+    (startLines (λ r. nameText (getD (a .registers) r 0)) 0 (unitsIn 2 (a .h .registers) (drop (a .start + 4) (a .answer .now))) ++ linesOf
+    (rowLine (λ f. nameText (getD (a .functions) f 0)) (a .h))
+    (map (rowFrom firstEdition (a .h)) (unitsIn 5 (wordAt (a .answer .now) (a .start + 2)) (drop (a .start + 4 + 2 * a .h .registers) (a .answer .now)))))
+    (appended-same (sym (values-form
+    (c .before .before .before .before .before .before .before .before .before .before .before .before .before .before .before .word-at .ensures .0)))
+    (c .before .before .before .before .before .before .before .before .before .before .before .put-line .ensures))
+    (appended-then (startLines (λ r. nameText (getD (a .registers) r 0)) 0 (unitsIn 2 (a .h .registers) (drop (a .start + 4) (a .answer .now))))
+    (linesOf (rowLine (λ f. nameText (getD (a .functions) f 0)) (a .h))
+    (map (rowFrom firstEdition (a .h)) (unitsIn 5 (wordAt (a .answer .now) (a .start + 2)) (drop (a .start + 4 + 2 * a .h .registers) (a .answer .now)))))
+    (c .before .before .before .before .before .before .before .put-starts .ensures)
+    (appended-same (ap (λ (n : ℕ). linesOf (rowLine (λ f. nameText (getD (a .functions) f 0)) (a .h))
+    (map (rowFrom firstEdition (a .h)) (unitsIn 5 (n) (drop (a .start + 4 + 2 * a .h .registers) (a .answer .now)))))
+    (c .before .before .before .before .before .before .before .before .before .before .before .before .before .before .word-at2 .ensures .0))
+    (c .before .before .put-rows .ensures))))))

@@ -29,7 +29,8 @@ put-rows-spec =
     (tie.spec
     Inv-loop
     μ-loop
-    (λ c. let a = c .before .before .args in left-same (row-lines-start (rowLine (λ f. nameText (getD (a .functions) f 0)) (a .h)) (a .h) (a .answer .now) (a .start) (a .count)) (left-all _ _ _))
+    (λ c. let a = c .before .before .args in
+    left-same (row-lines-start (rowLine (λ f. nameText (getD (a .functions) f 0)) (a .h)) (a .h) (a .answer .now) (a .start) (a .count)) (left-all _ _ _))
     (λ c. record { fits = omega (arith, c .before .before .before .before .pre .1, c .loop-test .taken) })
     (λ c. record { fits = omega (arith, c .before .before .before .before .pre .1, c .loop-test .taken) })
     (λ c κs. omega (arith, c .before .before .before .before .pre .1, c .loop-test .taken))
@@ -37,13 +38,25 @@ put-rows-spec =
     let a = c .before .before .before .before .before .before .args in
     let l = c .before .before .before .loop in
     room-same (ap (λ (n : ℕ). rowLine (λ f. nameText (getD (a .functions) f 0)) (a .h) (rowFrom firstEdition (a .h) n)) (sym (c .before .row-at .ensures)))
-    (left-room (rowLine (λ f. nameText (getD (a .functions) f 0)) (a .h) (rowFrom firstEdition (a .h) (rowIn (a .answer .now) (a .start + 5 * l .k)))) (linesOf (rowLine (λ f. nameText (getD (a .functions) f 0)) (a .h)) (map (rowFrom firstEdition (a .h)) (unitsIn 5 (a .count - (l .k + 1)) (drop (a .start + 5 * (l .k + 1)) (a .answer .now))))) (c .before .before .before .before .before .before .pre .0) (left-same (row-lines-next (rowLine (λ f. nameText (getD (a .functions) f 0)) (a .h)) (a .h) (a .answer .now) (a .start) (a .count) (l .k) (c .before .before .loop-test .taken)) (l .inv))))
+    (left-room (rowLine (λ f. nameText (getD (a .functions) f 0)) (a .h) (rowFrom firstEdition (a .h) (rowIn (a .answer .now) (a .start + 5 * l .k))))
+    (linesOf (rowLine (λ f. nameText (getD (a .functions) f 0)) (a .h))
+    (map (rowFrom firstEdition (a .h)) (unitsIn 5 (a .count - (l .k + 1)) (drop (a .start + 5 * (l .k + 1)) (a .answer .now)))))
+    (c .before .before .before .before .before .before .pre .0)
+    (left-same (row-lines-next (rowLine (λ f. nameText (getD (a .functions) f 0)) (a .h)) (a .h) (a .answer .now) (a .start) (a .count) (l .k)
+    (c .before .before .loop-test .taken)) (l .inv))))
     (λ c. search needs)
     (λ c. search needs)
     (λ c.
     let a = c .before .before .before .before .before .before .before .before .before .args in
     let l = c .before .before .before .before .before .before .loop in
-    left-next (rowLine (λ f. nameText (getD (a .functions) f 0)) (a .h) (rowFrom firstEdition (a .h) (rowIn (a .answer .now) (a .start + 5 * l .k)))) (linesOf (rowLine (λ f. nameText (getD (a .functions) f 0)) (a .h)) (map (rowFrom firstEdition (a .h)) (unitsIn 5 (a .count - (l .k + 1)) (drop (a .start + 5 * (l .k + 1)) (a .answer .now))))) (left-same (row-lines-next (rowLine (λ f. nameText (getD (a .functions) f 0)) (a .h)) (a .h) (a .answer .now) (a .start) (a .count) (l .k) (c .before .before .before .before .before .loop-test .taken)) (l .inv))
-    (appended-same (ap (λ (n : ℕ). rowLine (λ f. nameText (getD (a .functions) f 0)) (a .h) (rowFrom firstEdition (a .h) n)) (c .before .before .before .before .row-at .ensures)) (c .before .before .put-row .ensures)))
+    left-next (rowLine (λ f. nameText (getD (a .functions) f 0)) (a .h) (rowFrom firstEdition (a .h) (rowIn (a .answer .now) (a .start + 5 * l .k))))
+    (linesOf (rowLine (λ f. nameText (getD (a .functions) f 0)) (a .h))
+    (map (rowFrom firstEdition (a .h)) (unitsIn 5 (a .count - (l .k + 1)) (drop (a .start + 5 * (l .k + 1)) (a .answer .now)))))
+    (left-same (row-lines-next (rowLine (λ f. nameText (getD (a .functions) f 0)) (a .h)) (a .h) (a .answer .now) (a .start) (a .count) (l .k)
+    (c .before .before .before .before .before .loop-test .taken)) (l .inv))
+    (appended-same (ap (λ (n : ℕ). rowLine (λ f. nameText (getD (a .functions) f 0)) (a .h) (rowFrom firstEdition (a .h) n))
+    (c .before .before .before .before .row-at .ensures)) (c .before .before .put-row .ensures)))
     (λ c. left-length (c .before .loop .inv))
-    (λ c. let a = c .before .before .before .before .args in left-none (left-same (row-lines-none (rowLine (λ f. nameText (getD (a .functions) f 0)) (a .h)) (a .h) (a .answer .now) (a .start) (a .count) (c .before .loop .k) (c .loop-test .left)) (c .before .loop .inv))))
+    (λ c. let a = c .before .before .before .before .args in
+    left-none (left-same (row-lines-none (rowLine (λ f. nameText (getD (a .functions) f 0)) (a .h)) (a .h) (a .answer .now) (a .start) (a .count)
+    (c .before .loop .k) (c .loop-test .left)) (c .before .loop .inv))))

@@ -17,7 +17,8 @@ use Rattle.report.proofs.lines.put_starts.Tie as tie
 abbrev Inv-loop : tie.InvT-loop
 Inv-loop out₀ at registers answer start count next₀ register₀ t11 out next register =
     let R : ℕ → List ℕ = λ r. nameText (getD registers r 0) in
-    LeftToAppend out₀ at (startLines R 0 (unitsIn 2 count (drop start answer))) (startLines R register (unitsIn 2 (count - register) (drop (start + 2 * register) answer))) out next
+    LeftToAppend out₀ at (startLines R 0 (unitsIn 2 count (drop start answer)))
+    (startLines R register (unitsIn 2 (count - register) (drop (start + 2 * register) answer))) out next
 
 abbrev μ-loop : tie.MeasureT-loop
 μ-loop out₀ at registers answer start count next₀ register₀ t11 out next register = count - register
@@ -28,7 +29,8 @@ put-starts-spec =
     (tie.spec
     Inv-loop
     μ-loop
-    (λ c. let a = c .before .before .args in left-same (start-lines-start (λ r. nameText (getD (a .registers) r 0)) (a .answer .now) (a .start) (a .count)) (left-all _ _ _))
+    (λ c. let a = c .before .before .args in
+    left-same (start-lines-start (λ r. nameText (getD (a .registers) r 0)) (a .answer .now) (a .start) (a .count)) (left-all _ _ _))
     (λ c κs. search needs)
     (λ c. search needs)
     (λ c. search needs)
@@ -39,13 +41,27 @@ put-starts-spec =
     let a = c .before .before .before .before .before .before .before .before .args in
     let l = c .before .before .before .before .before .loop in
     room-same (start-form (a .registers) (l .register) (c .before .before .before .register-name .ensures) (c .before .before .word-at .ensures .0))
-    (left-room (line (startWord ∷ nameText (getD (a .registers) (l .register) 0) ∷ blankWord ∷ numeral (wordAt (a .answer .now) (a .start + 2 * l .register)) ∷ [])) (startLines (λ r. nameText (getD (a .registers) r 0)) (l .register + 1) (unitsIn 2 (a .count - (l .register + 1)) (drop (a .start + 2 * (l .register + 1)) (a .answer .now)))) (c .before .before .before .before .before .before .before .before .pre) (left-same (start-lines-next (λ r. nameText (getD (a .registers) r 0)) (a .answer .now) (a .start) (a .count) (l .register) (c .before .before .before .before .loop-test .taken)) (l .inv))))
+    (left-room (line (startWord ∷ nameText (getD (a .registers) (l .register) 0) ∷ blankWord ∷ numeral
+    (wordAt (a .answer .now) (a .start + 2 * l .register)) ∷ []))
+    (startLines (λ r. nameText (getD (a .registers) r 0)) (l .register + 1)
+    (unitsIn 2 (a .count - (l .register + 1)) (drop (a .start + 2 * (l .register + 1)) (a .answer .now))))
+    (c .before .before .before .before .before .before .before .before .pre)
+    (left-same (start-lines-next (λ r. nameText (getD (a .registers) r 0)) (a .answer .now) (a .start) (a .count) (l .register)
+    (c .before .before .before .before .loop-test .taken)) (l .inv))))
     (λ c. search needs)
     (λ c. search needs)
     (λ c.
     let a = c .before .before .before .before .before .before .before .before .before .before .before .args in
     let l = c .before .before .before .before .before .before .before .before .loop in
-    left-next (line (startWord ∷ nameText (getD (a .registers) (l .register) 0) ∷ blankWord ∷ numeral (wordAt (a .answer .now) (a .start + 2 * l .register)) ∷ [])) (startLines (λ r. nameText (getD (a .registers) r 0)) (l .register + 1) (unitsIn 2 (a .count - (l .register + 1)) (drop (a .start + 2 * (l .register + 1)) (a .answer .now)))) (left-same (start-lines-next (λ r. nameText (getD (a .registers) r 0)) (a .answer .now) (a .start) (a .count) (l .register) (c .before .before .before .before .before .before .before .loop-test .taken)) (l .inv))
-    (appended-same (sym (start-form (a .registers) (l .register) (c .before .before .before .before .before .before .register-name .ensures) (c .before .before .before .before .before .word-at .ensures .0))) (c .before .before .put-line .ensures)))
+    left-next (line (startWord ∷ nameText (getD (a .registers) (l .register) 0) ∷ blankWord ∷ numeral
+    (wordAt (a .answer .now) (a .start + 2 * l .register)) ∷ []))
+    (startLines (λ r. nameText (getD (a .registers) r 0)) (l .register + 1)
+    (unitsIn 2 (a .count - (l .register + 1)) (drop (a .start + 2 * (l .register + 1)) (a .answer .now))))
+    (left-same (start-lines-next (λ r. nameText (getD (a .registers) r 0)) (a .answer .now) (a .start) (a .count) (l .register)
+    (c .before .before .before .before .before .before .before .loop-test .taken)) (l .inv))
+    (appended-same (sym (start-form (a .registers) (l .register) (c .before .before .before .before .before .before .register-name .ensures)
+    (c .before .before .before .before .before .word-at .ensures .0))) (c .before .before .put-line .ensures)))
     (λ c. left-length (c .before .loop .inv))
-    (λ c. let a = c .before .before .before .before .args in left-none (left-same (start-lines-none (λ r. nameText (getD (a .registers) r 0)) (a .answer .now) (a .start) (a .count) (c .before .loop .register) (c .loop-test .left)) (c .before .loop .inv))))
+    (λ c. let a = c .before .before .before .before .args in
+    left-none (left-same (start-lines-none (λ r. nameText (getD (a .registers) r 0)) (a .answer .now) (a .start) (a .count) (c .before .loop .register)
+    (c .loop-test .left)) (c .before .loop .inv))))

@@ -14,7 +14,10 @@ put-two-spec =
     (λ c κs. search needs)
     (λ c κs.
     let a = c .before .before .before .before .before in
-    room-same (λ i. filledIn (a .args .template .now) (sym (c .before .before .register-name .ensures) i ∷ sym (c .before .register-name2 .ensures) i ∷ 0 ∷ 0 ∷ [])) (a .pre))
+    room-same (λ i. filledIn (a .args .template .now)
+    (sym (c .before .before .register-name .ensures) i ∷ sym (c .before .register-name2 .ensures) i ∷ 0 ∷ 0 ∷ [])) (a .pre))
     (λ c. appended-length (c .before .before .put-line .ensures))
     (λ c.
-    appended-same (λ i. filledIn (c .before .before .before .before .before .before .before .before .args .template .now) ((c .before .before .before .before .before .register-name .ensures) i ∷ (c .before .before .before .before .register-name2 .ensures) i ∷ 0 ∷ 0 ∷ [])) (c .before .before .put-line .ensures)))
+    appended-same (λ i. filledIn (c .before .before .before .before .before .before .before .before .args .template .now)
+    ((c .before .before .before .before .before .register-name .ensures) i ∷ (c .before .before .before .before .register-name2 .ensures) i ∷ 0 ∷ 0 ∷ []))
+    (c .before .before .put-line .ensures)))

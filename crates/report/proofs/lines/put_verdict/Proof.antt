@@ -13,8 +13,16 @@ pub put-verdict-spec : {M : Type 1} → statement M
 put-verdict-spec =
     tie.close
     (tie.spec
-    (λ c κs. let a = c .before .before .before .args in room-first (filledIn (a .verdict .now) (0 ∷ 0 ∷ 0 ∷ 0 ∷ [])) (line (pairsWord ∷ numeral (a .pairs) ∷ [])) (c .before .before .before .pre))
+    (λ c κs. let a = c .before .before .before .args in
+    room-first (filledIn (a .verdict .now) (0 ∷ 0 ∷ 0 ∷ 0 ∷ [])) (line (pairsWord ∷ numeral (a .pairs) ∷ [])) (c .before .before .before .pre))
     (λ c. search needs)
-    (λ c κs. let a = c .before .before .before .before .before .before .before .before .args in room-same (pairs-form (a .pairs)) (room-then (filledIn (a .verdict .now) (0 ∷ 0 ∷ 0 ∷ 0 ∷ [])) (line (pairsWord ∷ numeral (a .pairs) ∷ [])) (c .before .before .before .before .before .before .before .before .pre) (c .before .before .before .before .put-line .ensures)))
-    (λ c. appended-length (c .before .before .put-line2 .ensures) ∙ appended-length (c .before .before .before .before .before .before .before .put-line .ensures))
-    (λ c. let a = c .before .before .before .before .before .before .before .before .before .before .before .args in appended-then (filledIn (a .verdict .now) (0 ∷ 0 ∷ 0 ∷ 0 ∷ [])) (line (pairsWord ∷ numeral (a .pairs) ∷ [])) (c .before .before .before .before .before .before .before .put-line .ensures) (appended-same (sym (pairs-form (a .pairs))) (c .before .before .put-line2 .ensures))))
+    (λ c κs. let a = c .before .before .before .before .before .before .before .before .args in
+    room-same (pairs-form (a .pairs))
+    (room-then (filledIn (a .verdict .now) (0 ∷ 0 ∷ 0 ∷ 0 ∷ [])) (line (pairsWord ∷ numeral (a .pairs) ∷ []))
+    (c .before .before .before .before .before .before .before .before .pre) (c .before .before .before .before .put-line .ensures)))
+    (λ c. appended-length (c .before .before .put-line2 .ensures)
+    ∙ appended-length (c .before .before .before .before .before .before .before .put-line .ensures))
+    (λ c. let a = c .before .before .before .before .before .before .before .before .before .before .before .args in
+    appended-then (filledIn (a .verdict .now) (0 ∷ 0 ∷ 0 ∷ 0 ∷ [])) (line (pairsWord ∷ numeral (a .pairs) ∷ []))
+    (c .before .before .before .before .before .before .before .put-line .ensures)
+    (appended-same (sym (pairs-form (a .pairs))) (c .before .before .put-line2 .ensures))))

@@ -71,7 +71,8 @@ take-from-spec = tie.close (tie.spec
     let l = at-loop .loop in
     let a = at-start .args in
     let begun = standing-start (a .header) (a .window) _ (a .fine) (a .count) (a .one) (a .two) (drop (a .start) (a .bytes .now)) (at-start .pre .1) in (
-      step-within (record { header = a .header; window = a .window; running = a .fine }) _ _ (at-decode .decode-letter .ensures) _ (at-decoded .decoded .given .1),
+      step-within (record { header = a .header; window = a .window; running = a .fine }) _ _ (at-decode .decode-letter .ensures) _
+          (at-decoded .decoded .given .1),
       l .inv .1 _ begun .represents .mirrors .laid .low,
     ))
     (λ c κs.
@@ -82,7 +83,8 @@ take-from-spec = tie.close (tie.spec
     let l = at-loop .loop in
     let a = at-start .args in
     let begun = standing-start (a .header) (a .window) _ (a .fine) (a .count) (a .one) (a .two) (drop (a .start) (a .bytes .now)) (at-start .pre .1) in (
-      step-within (record { header = a .header; window = a .window; running = a .fine }) _ _ (at-decode .decode-letter .ensures) _ (at-decoded .decoded .given .1),
+      step-within (record { header = a .header; window = a .window; running = a .fine }) _ _ (at-decode .decode-letter .ensures) _
+          (at-decoded .decoded .given .1),
       l .inv .1 _ begun .represents .mirrors .laid,
       l .inv .2,
     ))

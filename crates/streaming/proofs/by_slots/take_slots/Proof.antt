@@ -14,7 +14,8 @@ take-slots-spec = tie.close (tie.spec
     let at-represents = c .before .before .before in
     let at-test = c .before .before in
     let slots = at-represents .before .before .before .before .before .before .before .before .to-slots .ensures in
-    let at-start = at-represents .before .before .before .before .before .before .before .before .before .before .before .before .before .before .before .before .before .before .before .before .before in (
+    let at-start = at-represents .before .before .before .before .before .before .before .before .before .before .before .before .before .before .before .before
+    .before .before .before .before .before in (
       at-start .pre,
       represented _ _ _ (slots .0 .long) (slots .1) (slots .2) refl _
           (at-represents .represents .ensures .0) (at-test .if1 .taken) (at-represents .represents .ensures .1 (at-test .if1 .taken)),

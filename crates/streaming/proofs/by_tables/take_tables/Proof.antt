@@ -63,15 +63,19 @@ take-tables-spec = tie.close (tie.spec
     let at-start = at-loop .before .before .before .before .before .before .before in
     let l = at-loop .loop in
     let a = at-start .args in
-    step-within (record { header = a .header; window = a .window; running = a .running }) _ _ (at-decode .decode-letter .ensures) _ (at-decoded .decoded .given .1))
+    step-within (record { header = a .header; window = a .window; running = a .running }) _ _ (at-decode .decode-letter .ensures) _
+    (at-decoded .decoded .given .1))
     (λ c κs.
     let at-decoded = c .before .before .before .before .before .before .before .before .before .before in
     let at-decode = at-decoded .before .before .before in
     let at-loop = at-decode .before .before .before .before .before in
     let at-start = at-loop .before .before .before .before .before .before .before in
     let l = at-loop .loop in
-    let a = at-start .args in
-    (step-within (record { header = a .header; window = a .window; running = a .running }) _ _ (at-decode .decode-letter .ensures) _ (at-decoded .decoded .given .1), l .inv .1))
+    let a = at-start .args in (
+      step-within (record { header = a .header; window = a .window; running = a .running }) _ _ (at-decode .decode-letter .ensures) _
+          (at-decoded .decoded .given .1),
+      l .inv .1,
+    ))
     (λ c κs. search needs)
     (λ c κs. search needs)
     (λ c.

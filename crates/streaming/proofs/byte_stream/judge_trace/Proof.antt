@@ -17,7 +17,9 @@ finish-requires c κs = search needs
 returns : tie.Need-returns
 unfolding judgedBytes
 returns c =
-    let e = c .finish .ensures .computed ∙ ap finishedOf (c .before .push-all .ensures .computed ∙ ap (λ s. pushedAll s (c .before .before .before .before .args .bytes .now)) (c .before .before .start .ensures .computed)) in
+    let e = c .finish .ensures .computed
+    ∙ ap finishedOf (c .before .push-all .ensures .computed
+    ∙ ap (λ s. pushedAll s (c .before .before .before .before .args .bytes .now)) (c .before .before .start .ensures .computed)) in
     (e, run-meets (c .before .before .before .before .args .bytes .now) _ (search needs) e)
 
 pub judge-trace-spec : {M : Type 1} → statement M

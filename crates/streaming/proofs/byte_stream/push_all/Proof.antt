@@ -39,7 +39,11 @@ loop-less : tie.Need-loop-less Inv-loop μ-loop
 loop-less c = search needs
 
 loop-again : tie.Need-loop-again Inv-loop μ-loop
-loop-again c = (search needs, pushed-more _ _ _ _ _ (c .before .before .before .before .loop-test .taken) (c .before .before .before .before .before .loop .inv .1) (pushes-one _ _ _ (c .push .ensures)))
+loop-again c = (
+  search needs,
+  pushed-more _ _ _ _ _ (c .before .before .before .before .loop-test .taken)
+      (c .before .before .before .before .before .loop .inv .1) (pushes-one _ _ _ (c .push .ensures)),
+)
 
 returns-2 : tie.Need-returns-2 Inv-loop μ-loop
 returns-2 c = pushes _ _ _ (pushed-done _ _ _ _ (c .loop-test .left) (c .before .loop .inv .1))

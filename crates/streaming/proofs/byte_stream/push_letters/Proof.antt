@@ -20,10 +20,13 @@ push-requires : tie.Need-push-requires
 push-requires c κs = search needs
 
 returns : tie.Need-returns
-returns c = let s = c .before .before .before .before .before .before in letters-odd (s .args .s) (s .args .bytes .now) (s .args .start) _ (s .pre .0) (s .pre .1) (c .before .before .before .take-all .ensures) _ (c .before .before .if1 .taken) (pushes-one _ _ _ (c .push .ensures))
+returns c = let s = c .before .before .before .before .before .before in
+    letters-odd (s .args .s) (s .args .bytes .now) (s .args .start) _ (s .pre .0) (s .pre .1) (c .before .before .before .take-all .ensures) _
+    (c .before .before .if1 .taken) (pushes-one _ _ _ (c .push .ensures))
 
 returns-2 : tie.Need-returns-2
-returns-2 c = let s = c .before .before .before .before in letters-even (s .args .s) (s .args .bytes .now) (s .args .start) _ (s .pre .0) (s .pre .1) (c .before .take-all .ensures) (c .if1 .left)
+returns-2 c = let s = c .before .before .before .before in
+    letters-even (s .args .s) (s .args .bytes .now) (s .args .start) _ (s .pre .0) (s .pre .1) (c .before .take-all .ensures) (c .if1 .left)
 
 pub push-letters-spec : {M : Type 1} → statement M
 push-letters-spec =

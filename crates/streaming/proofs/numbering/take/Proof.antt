@@ -29,10 +29,16 @@ enum-known-outcome : tie.Need-enum-known-outcome
 enum-known-outcome c = search needs
 
 returns-2 : tie.Need-returns-2
-returns-2 c = run-takes _ _ _ (take-taken (c .before .before .before .before .before .before .before .before .before .before .args .run) _ _ _ (c .before .before .before .before .before .before .before .before .verdict .given .1) _ (c .before .before .before .before .before .before .next-number .ensures) _ (c .before .before .before .before .step .ensures .computed) _ (c .before .enum-told2 .given .1) (c .judged .ensures))
+returns-2 c = run-takes _ _ _ (take-taken (c .before .before .before .before .before .before .before .before .before .before .args .run) _ _ _
+    (c .before .before .before .before .before .before .before .before .verdict .given .1) _
+    (c .before .before .before .before .before .before .next-number .ensures) _ (c .before .before .before .before .step .ensures .computed) _
+    (c .before .enum-told2 .given .1) (c .judged .ensures))
 
 returns-3 : tie.Need-returns-3
-returns-3 c = run-takes _ _ _ (take-refused (c .before .before .before .before .before .before .before .before .before .before .args .run) _ _ _ (c .before .before .before .before .before .before .before .before .verdict .given .1) _ (c .before .before .before .before .before .before .next-number .ensures) _ (c .before .before .before .before .step .ensures .computed) _ (c .before .outcome .given .1))
+returns-3 c = run-takes _ _ _ (take-refused (c .before .before .before .before .before .before .before .before .before .before .args .run) _ _ _
+    (c .before .before .before .before .before .before .before .before .verdict .given .1) _
+    (c .before .before .before .before .before .before .next-number .ensures) _ (c .before .before .before .before .step .ensures .computed) _
+    (c .before .outcome .given .1))
 
 pub take-spec : {M : Type 1} → statement M
 take-spec =

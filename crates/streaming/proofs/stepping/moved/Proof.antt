@@ -11,7 +11,8 @@ perform-requires : tie.Need-perform-requires
 perform-requires c κs = search needs
 
 returns : tie.Need-returns
-returns c = moved-performed _ _ (c .before .before .before .before .before .if1 .taken) (sym (c .before .before .judge .ensures) ∙ c .before .if2 .taken) _ (c .perform .ensures)
+returns c = moved-performed _ _ (c .before .before .before .before .before .if1 .taken) (sym (c .before .before .judge .ensures) ∙ c .before .if2 .taken) _
+    (c .perform .ensures)
 
 returns-2 : tie.Need-returns-2
 returns-2 c = sym (moved-incoherent _ _ (c .before .before .before .before .if1 .taken) (sym (c .before .judge .ensures) ∙ c .if2 .left))

@@ -17,10 +17,12 @@ returns : tie.Need-returns
 returns c = advances _ _ _ (step-refused (c .before .before .before .before .args .m) _ _ (c .before .before .decode-letter .ensures) (c .enum-told .given .1))
 
 moved-requires : tie.Need-moved-requires
-moved-requires c κs = step-within (c .before .before .before .before .before .args .m) _ _ (c .before .before .before .decode-letter .ensures) _ (c .before .decoded .given .1)
+moved-requires c κs = step-within (c .before .before .before .before .before .args .m) _ _ (c .before .before .before .decode-letter .ensures) _
+    (c .before .decoded .given .1)
 
 returns-2 : tie.Need-returns-2
-returns-2 c = advances _ _ _ (step-taken (c .before .before .before .before .before .before .args .m) _ _ (c .before .before .before .before .decode-letter .ensures) _ _ (c .before .before .decoded .given .1) (c .moved .ensures))
+returns-2 c = advances _ _ _ (step-taken (c .before .before .before .before .before .before .args .m) _ _
+    (c .before .before .before .before .decode-letter .ensures) _ _ (c .before .before .decoded .given .1) (c .moved .ensures))
 
 pub step-spec : {M : Type 1} → statement M
 step-spec =

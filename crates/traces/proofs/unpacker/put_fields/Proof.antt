@@ -27,4 +27,5 @@ put-fields-spec =
     (λ c. search needs)
     (λ c. simp length-set (omega arith))
     (λ c. search needs)
-    (λ c. let a = c .before .before .args in five-stores (a .out .now) (c .fields-of .result) (plainFields (a .h) (a .l)) (a .to) (c .fields-of .ensures) (plain-length (a .h) (a .l))))
+    (λ c. let a = c .before .before .args in
+    five-stores (a .out .now) (c .fields-of .result) (plainFields (a .h) (a .l)) (a .to) (c .fields-of .ensures) (plain-length (a .h) (a .l))))

@@ -15,7 +15,9 @@ use Rattle.traces.proofs.unpacker.put_unpacked.Statement.{statement}
 use Rattle.traces.proofs.unpacker.put_unpacked.Tie as tie
 
 abbrev Inv-loop : tie.InvT-loop
-Inv-loop h bytes out₀ at₀ to₀ out at to = (at ≤ length bytes) × (2 * (to / 5) + 2 ≡ at) × (5 * (to / 5) ≡ to) × (5 * (length bytes / 2 - 1) ≤ length out₀) × (length out ≡ length out₀) × (putEach (putPlain h) 5 (letterIn firstEdition h) out to (chunks 2 (length bytes / 2 - 1 - to / 5) (drop at bytes)) ≡ putUnpacked h out₀ bytes)
+Inv-loop h bytes out₀ at₀ to₀ out at to =
+    (at ≤ length bytes) × (2 * (to / 5) + 2 ≡ at) × (5 * (to / 5) ≡ to) × (5 * (length bytes / 2 - 1) ≤ length out₀) × (length out ≡ length out₀)
+    × (putEach (putPlain h) 5 (letterIn firstEdition h) out to (chunks 2 (length bytes / 2 - 1 - to / 5) (drop at bytes)) ≡ putUnpacked h out₀ bytes)
 
 abbrev μ-loop : tie.MeasureT-loop
 μ-loop h bytes out₀ at₀ to₀ out at to = length bytes - at
@@ -26,7 +28,15 @@ put-unpacked-spec =
     (tie.spec
     Inv-loop
     μ-loop
-    (λ c. let a = c .before .before .args in (search needs, search needs, search needs, c .before .before .pre .1, search needs, put-begins (putPlain (a .h)) 5 2 (letterIn firstEdition (a .h)) (length (a .bytes .now) / 2 - 1) (a .bytes .now) 2 0 (a .out .now)))
+    (λ c. let a = c .before .before .args in (
+      search needs,
+      search needs,
+      search needs,
+      c .before .before .pre .1,
+      search needs,
+      put-begins (putPlain (a .h)) 5 2 (letterIn firstEdition (a .h))
+          (length (a .bytes .now) / 2 - 1) (a .bytes .now) 2 0 (a .out .now),
+    ))
     (λ c. search needs)
     (λ c. search needs)
     (λ c. search needs)
@@ -36,11 +46,33 @@ put-unpacked-spec =
     (λ c. search needs)
     (λ c. search needs)
     (λ c. search needs)
-    (λ c. let a = c .before .before .before .before .before .before .before .before .before .before .args in let l = c .before .before .before .before .before .before .before .loop in sym (put-bad (putPlain (a .h)) 5 2 (letterIn firstEdition (a .h)) (length (a .bytes .now) / 2 - 1) (a .bytes .now) (l .to / 5) (l .at) (l .to) 4 0 (l .out) (omega arith) (unit-bad (a .h) (a .bytes .now) (l .at) (c .before .before .before .word .result) (c .before .before .decode-letter .result) (omega arith) (c .before .before .before .word .ensures) (c .before .before .decode-letter .ensures) (c .enum-told .given .1))) ∙ l .inv .5)
+    (λ c. let a = c .before .before .before .before .before .before .before .before .before .before .args in
+    let l = c .before .before .before .before .before .before .before .loop in
+    sym (put-bad (putPlain (a .h)) 5 2 (letterIn firstEdition (a .h)) (length (a .bytes .now) / 2 - 1) (a .bytes .now) (l .to / 5) (l .at) (l .to) 4 0
+    (l .out) (omega arith) (unit-bad (a .h) (a .bytes .now) (l .at) (c .before .before .before .word .result) (c .before .before .decode-letter .result)
+    (omega arith) (c .before .before .before .word .ensures) (c .before .before .decode-letter .ensures) (c .enum-told .given .1))) ∙ l .inv .5)
     (λ c κs. omega arith)
     (λ c. search needs)
     (λ c. search needs)
     (λ c. search needs)
-    (λ c. let a = c .before .before .before .before .before .before .before .before .before .before .before .before .before .before .before .args in let l = c .before .before .before .before .before .before .before .before .before .before .before .before .loop in (search needs, search needs, search needs, l .inv .3, ap length (c .before .before .put-fields .ensures) ∙ simp length-sets (l .inv .4), sym (put-good (putPlain (a .h)) 5 2 (letterIn firstEdition (a .h)) (length (a .bytes .now) / 2 - 1) (a .bytes .now) (l .to / 5) ((l .to + 5) / 5) (l .at) (l .to) _ (l .out) _ (omega arith) (omega arith) (unit-good (a .h) (a .bytes .now) (l .at) (c .before .before .before .before .before .before .before .before .word .result) (c .before .before .before .before .before .before .before .decode-letter .result) (omega arith) (c .before .before .before .before .before .before .before .before .word .ensures) (c .before .before .before .before .before .before .before .decode-letter .ensures) _ (c .before .before .before .before .before .decoded .given .1)) (c .before .before .put-fields .ensures)) ∙ l .inv .5))
+    (λ c. let a = c .before .before .before .before .before .before .before .before .before .before .before .before .before .before .before .args in
+    let l = c .before .before .before .before .before .before .before .before .before .before .before .before .loop in (
+      search needs,
+      search needs,
+      search needs,
+      l .inv .3,
+      ap length (c .before .before .put-fields .ensures)
+          ∙ simp length-sets (l .inv .4),
+      sym
+          (put-good (putPlain (a .h)) 5 2 (letterIn firstEdition (a .h)) (length (a .bytes .now) / 2 - 1) (a .bytes .now) (l .to / 5) ((l .to + 5) / 5) (l .at)
+          (l .to) _ (l .out) _ (omega arith) (omega arith)
+          (unit-good (a .h) (a .bytes .now) (l .at) (c .before .before .before .before .before .before .before .before .word .result)
+          (c .before .before .before .before .before .before .before .decode-letter .result) (omega arith)
+          (c .before .before .before .before .before .before .before .before .word .ensures)
+          (c .before .before .before .before .before .before .before .decode-letter .ensures) _ (c .before .before .before .before .before .decoded .given .1))
+          (c .before .before .put-fields .ensures)) ∙ l .inv .5,
+    ))
     (λ c. search needs)
-    (λ c. let a = c .before .before .before .before .args in let l = c .before .loop in sym (put-ends (putPlain (a .h)) 5 2 (letterIn firstEdition (a .h)) (length (a .bytes .now) / 2 - 1) (a .bytes .now) (l .to / 5) (l .at) (l .to) (l .out) (omega arith)) ∙ l .inv .5))
+    (λ c. let a = c .before .before .before .before .args in let l = c .before .loop in
+    sym (put-ends (putPlain (a .h)) 5 2 (letterIn firstEdition (a .h)) (length (a .bytes .now) / 2 - 1) (a .bytes .now) (l .to / 5) (l .at) (l .to) (l .out)
+    (omega arith)) ∙ l .inv .5))

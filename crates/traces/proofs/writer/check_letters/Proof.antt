@@ -13,7 +13,10 @@ use Rattle.traces.proofs.writer.check_letters.Statement.{statement}
 use Rattle.traces.proofs.writer.check_letters.Tie as tie
 
 abbrev Inv-loop : tie.InvT-loop
-Inv-loop h fields at₀ n₀ at n = (at ≤ length fields) × (5 * n ≡ at) × (countFrom (unpackLetter h) h n (chunks 5 ((length fields + 4) / 5 - n) (drop at fields)) ≡ counted (lettersFrom (unpackLetter h) h 1 (unpackedParts fields)))
+Inv-loop h fields at₀ n₀ at n =
+    (at ≤ length fields) × (5 * n ≡ at)
+    × (countFrom (unpackLetter h) h n (chunks 5 ((length fields + 4) / 5 - n) (drop at fields)) ≡ counted
+    (lettersFrom (unpackLetter h) h 1 (unpackedParts fields)))
 
 abbrev μ-loop : tie.MeasureT-loop
 μ-loop h fields at₀ n₀ at n = length fields - at
@@ -25,14 +28,33 @@ check-letters-spec =
     (tie.spec
     Inv-loop
     μ-loop
-    (λ c. let a = c .before .args in (search needs, search needs, count-begins (unpackLetter (a .h)) (a .h) 5 ((length (a .fields .now) + 4) / 5) (a .fields .now) 0))
+    (λ c. let a = c .before .args in
+    (search needs, search needs, count-begins (unpackLetter (a .h)) (a .h) 5 ((length (a .fields .now) + 4) / 5) (a .fields .now) 0))
     (λ c κs. search needs)
     (λ c. search needs)
     (λ c. search needs)
     (λ c. search needs)
-    (λ c. let a = c .before .before .before .before .before .before .args in let l = c .before .before .before .before .loop in sym (count-bad (unpackLetter (a .h)) (a .h) 5 ((length (a .fields .now) + 4) / 5) (a .fields .now) (l .n) (l .at) 4 0 (omega arith) (sym (c .before .before .unpacked-at .ensures) ∙ ap letterAnswer (c .enum-told .given .1))) ∙ l .inv .2)
+    (λ c. let a = c .before .before .before .before .before .before .args in let l = c .before .before .before .before .loop in
+    sym (count-bad (unpackLetter (a .h)) (a .h) 5 ((length (a .fields .now) + 4) / 5) (a .fields .now) (l .n) (l .at) 4 0 (omega arith)
+    (sym (c .before .before .unpacked-at .ensures) ∙ ap letterAnswer (c .enum-told .given .1))) ∙ l .inv .2)
     (λ c. search needs)
-    (λ c. let a = c .before .before .before .before .before .before .before .args in let l = c .before .before .before .before .before .loop in omega (arith, unpack-whole (a .h) (a .fields .now) (l .at) _ (sym (c .before .before .before .unpacked-at .ensures) ∙ ap letterAnswer (c .before .decoded .given .1))))
+    (λ c. let a = c .before .before .before .before .before .before .before .args in let l = c .before .before .before .before .before .loop in
+    omega (
+      arith,
+      unpack-whole (a .h) (a .fields .now) (l .at) _
+          (sym (c .before .before .before .unpacked-at .ensures) ∙ ap letterAnswer (c .before .decoded .given .1)),
+    ))
     (λ c. search needs)
-    (λ c. let a = c .before .before .before .before .before .before .before .args in let l = c .before .before .before .before .before .loop in (omega (arith, unpack-whole (a .h) (a .fields .now) (l .at) _ (sym (c .before .before .before .unpacked-at .ensures) ∙ ap letterAnswer (c .before .decoded .given .1))), search needs, sym (count-good (unpackLetter (a .h)) (a .h) 5 ((length (a .fields .now) + 4) / 5) (a .fields .now) (l .n) (l .at) _ (omega arith) (sym (c .before .before .before .unpacked-at .ensures) ∙ ap letterAnswer (c .before .decoded .given .1))) ∙ l .inv .2))
-    (λ c. let a = c .before .before .before .args in let l = c .before .loop in sym (count-ends (unpackLetter (a .h)) (a .h) 5 ((length (a .fields .now) + 4) / 5) (a .fields .now) (l .n) (l .at) (omega arith)) ∙ l .inv .2))
+    (λ c. let a = c .before .before .before .before .before .before .before .args in let l = c .before .before .before .before .before .loop in (
+      omega (
+        arith,
+        unpack-whole (a .h) (a .fields .now) (l .at) _
+            (sym (c .before .before .before .unpacked-at .ensures) ∙ ap letterAnswer (c .before .decoded .given .1)),
+      ),
+      search needs,
+      sym
+          (count-good (unpackLetter (a .h)) (a .h) 5 ((length (a .fields .now) + 4) / 5) (a .fields .now) (l .n) (l .at) _ (omega arith)
+          (sym (c .before .before .before .unpacked-at .ensures) ∙ ap letterAnswer (c .before .decoded .given .1))) ∙ l .inv .2,
+    ))
+    (λ c. let a = c .before .before .before .args in let l = c .before .loop in
+    sym (count-ends (unpackLetter (a .h)) (a .h) 5 ((length (a .fields .now) + 4) / 5) (a .fields .now) (l .n) (l .at) (omega arith)) ∙ l .inv .2))

@@ -11,6 +11,18 @@ letter-of-spec =
     (λ c κs. search needs)
     (λ c κs. search needs)
     (λ c κs. search needs)
-    (λ c. rw (← c .before .before .before .before .unused-are-zero .ensures, c .before .before .before .if1 .taken, ← c .before .before .letter-by .ensures, ← c .before .letter-fits .ensures, c .if2 .taken))
-    (λ c. rw (← c .before .before .before .before .unused-are-zero .ensures, c .before .before .before .if1 .taken, ← c .before .before .letter-by .ensures, ← c .before .letter-fits .ensures, c .if2 .left))
+    (λ c. rw (
+      ← c .before .before .before .before .unused-are-zero .ensures,
+      c .before .before .before .if1 .taken,
+      ← c .before .before .letter-by .ensures,
+      ← c .before .letter-fits .ensures,
+      c .if2 .taken,
+    ))
+    (λ c. rw (
+      ← c .before .before .before .before .unused-are-zero .ensures,
+      c .before .before .before .if1 .taken,
+      ← c .before .before .letter-by .ensures,
+      ← c .before .letter-fits .ensures,
+      c .if2 .left,
+    ))
     (λ c. rw (← c .before .unused-are-zero .ensures, c .if1 .left)))

@@ -14,7 +14,10 @@ use Rattle.traces.proofs.writer.put_letters.Statement.{statement}
 use Rattle.traces.proofs.writer.put_letters.Tie as tie
 
 abbrev Inv-loop : tie.InvT-loop
-Inv-loop h fields out₀ at₀ to₀ out at to = (at ≤ length fields) × (5 * (at / 5) ≡ at) × (to ≡ 2 * (at / 5) + 2) × (length out ≡ length out₀) × (putWords (wordIn firstEdition h) out to (chunks 5 ((length fields + 4) / 5 - at / 5) (drop at fields)) ≡ putWords (wordIn firstEdition h) out₀ 2 (unpackedParts fields))
+Inv-loop h fields out₀ at₀ to₀ out at to =
+    (at ≤ length fields) × (5 * (at / 5) ≡ at) × (to ≡ 2 * (at / 5) + 2) × (length out ≡ length out₀)
+    × (putWords (wordIn firstEdition h) out to (chunks 5 ((length fields + 4) / 5 - at / 5) (drop at fields)) ≡ putWords (wordIn firstEdition h) out₀ 2
+    (unpackedParts fields))
 
 abbrev μ-loop : tie.MeasureT-loop
 μ-loop h fields out₀ at₀ to₀ out at to = length fields - at
@@ -26,16 +29,51 @@ put-letters-spec =
     (tie.spec
     Inv-loop
     μ-loop
-    (λ c. let a = c .before .before .args in (search needs, search needs, search needs, search needs, put-begins putWord 2 5 (wordIn firstEdition (a .h)) ((length (a .fields .now) + 4) / 5) (a .fields .now) 0 2 (a .out .now)))
+    (λ c. let a = c .before .before .args in (
+      search needs,
+      search needs,
+      search needs,
+      search needs,
+      put-begins putWord 2 5 (wordIn firstEdition (a .h)) ((length (a .fields .now) + 4) / 5)
+          (a .fields .now) 0 2 (a .out .now),
+    ))
     (λ c κs. search needs)
     (λ c. search needs)
     (λ c. search needs)
     (λ c. search needs)
-    (λ c. let a = c .before .before .before .before .before .before .before .args in let l = c .before .before .before .before .loop in sym (put-bad putWord 2 5 (wordIn firstEdition (a .h)) ((length (a .fields .now) + 4) / 5) (a .fields .now) (l .at / 5) (l .at) (l .to) 4 0 (l .out) (omega arith) (sym (c .before .before .word-at .ensures) ∙ ap letterWordAnswer (c .enum-told .given .1))) ∙ l .inv .4)
+    (λ c. let a = c .before .before .before .before .before .before .before .args in let l = c .before .before .before .before .loop in
+    sym (put-bad putWord 2 5 (wordIn firstEdition (a .h)) ((length (a .fields .now) + 4) / 5) (a .fields .now) (l .at / 5) (l .at) (l .to) 4 0 (l .out)
+    (omega arith) (sym (c .before .before .word-at .ensures) ∙ ap letterWordAnswer (c .enum-told .given .1))) ∙ l .inv .4)
     (λ c κs. search needs)
-    (λ c. let a = c .before .before .before .before .before .before .before .before .before .before .before .before .args in let l = c .before .before .before .before .before .before .before .before .before .loop in omega (arith, word-whole (a .h) (a .fields .now) (l .at) _ (sym (c .before .before .before .before .before .before .before .word-at .ensures) ∙ ap letterWordAnswer (c .before .before .before .before .before .encoded .given .1))))
+    (λ c. let a = c .before .before .before .before .before .before .before .before .before .before .before .before .args in
+    let l = c .before .before .before .before .before .before .before .before .before .loop in
+    omega (
+      arith,
+      word-whole (a .h) (a .fields .now) (l .at) _
+          (sym (c .before .before .before .before .before .before .before .word-at .ensures)
+          ∙ ap letterWordAnswer (c .before .before .before .before .before .encoded .given .1)),
+    ))
     (λ c. search needs)
     (λ c. search needs)
-    (λ c. let a = c .before .before .before .before .before .before .before .before .before .before .before .before .args in let l = c .before .before .before .before .before .before .before .before .before .loop in (omega (arith, word-whole (a .h) (a .fields .now) (l .at) _ (sym (c .before .before .before .before .before .before .before .word-at .ensures) ∙ ap letterWordAnswer (c .before .before .before .before .before .encoded .given .1))), search needs, search needs, ap length (c .before .before .put-word .ensures) ∙ put-length (l .out) (l .to) (c .before .before .before .before .before .encoded .given .0 .0) ∙ l .inv .3, sym (put-good putWord 2 5 (wordIn firstEdition (a .h)) ((length (a .fields .now) + 4) / 5) (a .fields .now) (l .at / 5) ((l .at + 5) / 5) (l .at) (l .to) _ (l .out) _ (omega arith) (omega arith) (sym (c .before .before .before .before .before .before .before .word-at .ensures) ∙ ap letterWordAnswer (c .before .before .before .before .before .encoded .given .1)) (c .before .before .put-word .ensures)) ∙ l .inv .4))
+    (λ c. let a = c .before .before .before .before .before .before .before .before .before .before .before .before .args in
+    let l = c .before .before .before .before .before .before .before .before .before .loop in (
+      omega (
+        arith,
+        word-whole (a .h) (a .fields .now) (l .at) _
+            (sym (c .before .before .before .before .before .before .before .word-at .ensures)
+            ∙ ap letterWordAnswer (c .before .before .before .before .before .encoded .given .1)),
+      ),
+      search needs,
+      search needs,
+      ap length
+          (c .before .before .put-word .ensures) ∙ put-length (l .out) (l .to) (c .before .before .before .before .before .encoded .given .0 .0)
+          ∙ l .inv .3,
+      sym (put-good putWord 2 5 (wordIn firstEdition (a .h)) ((length (a .fields .now) + 4) / 5) (a .fields .now) (l .at / 5) ((l .at + 5) / 5)
+          (l .at) (l .to) _ (l .out) _ (omega arith) (omega arith)
+          (sym (c .before .before .before .before .before .before .before .word-at .ensures)
+          ∙ ap letterWordAnswer (c .before .before .before .before .before .encoded .given .1)) (c .before .before .put-word .ensures)) ∙ l .inv .4,
+    ))
     (λ c. search needs)
-    (λ c. let a = c .before .before .before .before .args in let l = c .before .loop in sym (put-ends putWord 2 5 (wordIn firstEdition (a .h)) ((length (a .fields .now) + 4) / 5) (a .fields .now) (l .at / 5) (l .at) (l .to) (l .out) (omega arith)) ∙ l .inv .4))
+    (λ c. let a = c .before .before .before .before .args in let l = c .before .loop in
+    sym (put-ends putWord 2 5 (wordIn firstEdition (a .h)) ((length (a .fields .now) + 4) / 5) (a .fields .now) (l .at / 5) (l .at) (l .to) (l .out)
+    (omega arith)) ∙ l .inv .4))

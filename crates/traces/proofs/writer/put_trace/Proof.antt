@@ -9,4 +9,8 @@ use Rattle.traces.proofs.writer.put_trace.Statement.{statement}
 use Rattle.traces.proofs.writer.put_trace.Tie as tie
 
 pub put-trace-spec : {M : Type 1} → statement M
-put-trace-spec = tie.close (tie.spec (λ c κs. search needs) (λ c κs. search needs) (λ c. search needs) (λ c. let a = c .before .before .before .before .before .before .before .before .before .before .args in c .before .before .put-letters .ensures ∙ ap (λ (o : List ℕ). putWords (wordIn firstEdition (a .h)) o 2 (unpackedParts (a .fields .now))) (c .before .before .before .before .before .before .put-word .ensures)))
+put-trace-spec = tie.close (tie.spec (λ c κs. search needs) (λ c κs. search needs) (λ c. search needs)
+    (λ c. let a = c .before .before .before .before .before .before .before .before .before .before .args in
+    c .before .before .put-letters .ensures
+    ∙ ap (λ (o : List ℕ). putWords (wordIn firstEdition (a .h)) o 2 (unpackedParts (a .fields .now)))
+    (c .before .before .before .before .before .before .put-word .ensures)))

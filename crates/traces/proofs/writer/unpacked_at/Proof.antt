@@ -21,4 +21,5 @@ unpacked-at-spec =
     (λ c. search needs)
     (λ c. search needs)
     (λ c κs. search needs)
-    (λ c. let a = c .before .before .before .before .before .before .before .before .args in c .letter-of .ensures ∙ five-at (a .h) (a .fields .now) (a .at) (omega arith)))
+    (λ c. let a = c .before .before .before .before .before .before .before .before .args in
+    c .letter-of .ensures ∙ five-at (a .h) (a .fields .now) (a .at) (omega arith)))
