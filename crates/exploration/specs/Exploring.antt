@@ -7,7 +7,7 @@ use lib.ListN.{getD}
 use Rattle.base.specs.Choice.{pick}
 use Rattle.blocks.specs.declared.PointEntry.{PointEntry}
 use Rattle.letters.specs.declared.Header.{Header}
-use Rattle.refusals.specs.Order.{mostPoints}
+use Rattle.grammar.specs.Limits.{mostPoints}
 use Rattle.window.specs.Perform.{freshOf}
 use Rattle.records.specs.Records.{encoded, recordOf}
 use Rattle.table.specs.Table.{pointAt, putAt}

@@ -1,6 +1,6 @@
 -- What the search is given: a macro that was read.
 use Prim.Native.Nat.{_≤_}
-use Rattle.refusals.specs.Order.{mostPoints}
+use Rattle.grammar.specs.Limits.{mostPoints}
 use Rattle.macros.specs.Points.{sizeBlock}
 use Rattle.grammar.specs.Grammar.{Macro}
 use Rattle.grammar.specs.Spelled.{InOrder}

@@ -7,6 +7,7 @@ use lib.Dec.{eqb}
 use Rattle.base.specs.Choice.{pick}
 use Rattle.letters.specs.declared.Letter.{Letter}
 use Rattle.letters.specs.declared.Letter.the-variants.{Copy, Apply, Equal, Unequal}
+use Rattle.blocks.specs.Held.{stepKind, checkKind}
 use Rattle.blocks.specs.declared.PointEntry.{PointEntry}
 use Rattle.exploration.specs.declared.PointMove.{PointMove}
 use Rattle.exploration.specs.declared.PointMove.the-variants.{Nothing, Goes, Fails}
@@ -21,8 +22,8 @@ oppositeOf (Unequal x y) = Equal x y
 -- What branch b of a point performs, 0 the first.
 unfoldable pub moveOf : PointEntry → ℕ → PointMove
 moveOf x b =
-    pick (eqb (x .kind) 0) (λ _. pick (eqb b 0) (λ _. Goes (x .letter) (x .first)) λ _. Nothing) λ _.
-    pick (eqb (x .kind) 1) (λ _. pick (eqb b 0) (λ _. Fails (oppositeOf (x .letter))) λ _. Goes (x .letter) (x .first)) λ _.
+    pick (eqb (x .kind) stepKind) (λ _. pick (eqb b 0) (λ _. Goes (x .letter) (x .first)) λ _. Nothing) λ _.
+    pick (eqb (x .kind) checkKind) (λ _. pick (eqb b 0) (λ _. Fails (oppositeOf (x .letter))) λ _. Goes (x .letter) (x .first)) λ _.
     pick (eqb b 0) (λ _. Goes (x .letter) (x .first)) λ _. Goes (oppositeOf (x .letter)) (x .second)
 
 -- The letter of a branch; where there is none, a copy that is never asked for.
@@ -33,7 +34,7 @@ letterOf (Fails a) = a
 
 -- What stands past the points.
 abbrev pub noPoint : PointEntry
-noPoint = record { kind = 0; letter = Copy 0 0; first = 0; second = 0 }
+noPoint = record { kind = stepKind; letter = Copy 0 0; first = 0; second = 0 }
 
 -- The fields of every letter that is performed lie within the packing.
 abbrev pub AllWithin : List PointEntry → Type 0

@@ -1,6 +1,8 @@
 // The exploration of the pairs of a macro, breadth first from pair to pair (document 01, "The search for a verdict").
-use blocks::MOST;
+use blocks::CHECK;
+use blocks::MOST_POINTS;
 use blocks::PointEntry;
+use blocks::STEP;
 use index::CHAINS;
 use index::Heads;
 use index::Links;
@@ -22,7 +24,7 @@ ghost use Rattle.table.specs.Table.{windowAt};
 ghost use Rattle.index.specs.Index.{IndexedPairs};
 
 /// How many points a macro has at most.
-pub const POINTS: usize = MOST as usize;
+pub const POINTS: usize = MOST_POINTS as usize;
 
 /// What a branch of a point performs.
 pub enum PointMove {
@@ -94,13 +96,13 @@ fn choose(point: PointEntry, b: usize) -> PointMove
     ensures { λ r. ⌜ r ≡ moveOf point b ⌝ }
 {
     let letter = point.letter;
-    if point.kind == 0 {
+    if point.kind == STEP {
         if b == 0 {
             return PointMove::Goes(letter, point.first as usize);
         }
         return PointMove::Nothing;
     }
-    if point.kind == 1 {
+    if point.kind == CHECK {
         if b == 0 {
             return PointMove::Fails(opposite(letter));
         }

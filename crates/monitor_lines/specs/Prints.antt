@@ -12,11 +12,6 @@ use Rattle.report.specs.Lines.{line, incoherentWord, blankWord}
 use Rattle.model_lines.specs.Prints.{infeasibleLine, refusedLine}
 use Rattle.text.specs.Templates.{filledIn}
 
--- ── lines as templates with their fields ──
--- The template for a letter, or for none.
-abbrev pub letterText : List ℕ → List ℕ → ℕ → List ℕ
-letterText none some = orNone (filledIn none (0 ∷ 0 ∷ 0 ∷ 0 ∷ [])) λ letter. filledIn some (letter ∷ 0 ∷ 0 ∷ 0 ∷ [])
-
 -- "coherent"
 abbrev pub coherentWord : List ℕ
 coherentWord = 99 ∷ 111 ∷ 104 ∷ 101 ∷ 114 ∷ 101 ∷ 110 ∷ 116 ∷ []
@@ -31,6 +26,10 @@ incoherentLine letter = line (incoherentWord ∷ blankWord ∷ numeral letter �
 -- Letters are numbered from 1: 0 stands for none, and has a line of its own.
 unfoldable pub orNone : List ℕ → (ℕ → List ℕ) → ℕ → List ℕ
 orNone none some letter = pick (eqb letter 0) (λ _. none) λ _. some letter
+
+-- The template for a letter, or for none.
+abbrev pub letterText : List ℕ → List ℕ → ℕ → List ℕ
+letterText none some = orNone (filledIn none (0 ∷ 0 ∷ 0 ∷ 0 ∷ [])) λ letter. filledIn some (letter ∷ 0 ∷ 0 ∷ 0 ∷ [])
 
 abbrev pub coherenceLine : ℕ → List ℕ
 coherenceLine = orNone (line (coherentWord ∷ [])) incoherentLine

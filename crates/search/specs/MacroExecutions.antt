@@ -18,7 +18,7 @@ use Rattle.grammar.specs.Grammar.{Macro}
 use Rattle.syntax.specs.declared.MacroRead.{MacroRead}
 use Rattle.syntax.specs.declared.CompiledMacro as struct
 use Rattle.syntax.specs.Answer.{heldMacro}
-use Rattle.refusals.specs.Order.{mostPoints}
+use Rattle.grammar.specs.Limits.{mostPoints}
 use Rattle.refusals.specs.Accepted.{Accepted}
 use Rattle.exploration.specs.Moves.{moveOf, noPoint}
 use Rattle.exploration.specs.HeldPoints.{meant}

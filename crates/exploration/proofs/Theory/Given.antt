@@ -6,7 +6,7 @@ use Prim.Native.Nat.{ℕ, zero, suc, _-_, _%_, _<_}
 use native.Mathlib.Omega.{arith}
 use lib.ListN.{length, getD, getElem?}
 use Rattle.letters.specs.declared.Header.{Header}
-use Rattle.refusals.specs.Order.{mostPoints}
+use Rattle.grammar.specs.Limits.{mostPoints}
 use Rattle.semantics.specs.Terms.{begin}
 use Rattle.macros.specs.Tree.{Block}
 use Rattle.macros.specs.Points as points

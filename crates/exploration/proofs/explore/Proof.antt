@@ -3,7 +3,7 @@ use Prim.Native.Nat.{_-_, _*_, _%_, _≤_}
 use native.Mathlib.Omega.{arith}
 use lib.ListN.{length, getD}
 use Rattle.letters.specs.Capacity.{mostPairs}
-use Rattle.refusals.specs.Order.{mostPoints}
+use Rattle.grammar.specs.Limits.{mostPoints}
 use Rattle.records.specs.Records.{recordBytes}
 use Rattle.index.specs.Index.{IndexedPairs}
 use Rattle.index.proofs.Theory.IndexLaws.{index-begins}

@@ -13,7 +13,7 @@ use Rattle.letters.specs.Letters.{HeaderFits}
 use Rattle.semantics.specs.Terms.{begin, traceOf, state}
 use Rattle.semantics.specs.Facts.{WellFormed}
 use Rattle.letters.specs.MacroRefusalNumbers.{tableTooSmall}
-use Rattle.refusals.specs.Order.{mostPoints}
+use Rattle.grammar.specs.Limits.{mostPoints}
 use Rattle.semantics.specs.Models.{Feasible}
 use Rattle.macros.specs.Points.{points}
 use Rattle.grammar.specs.Grammar.{Macro, headerOf, binaryOf}

@@ -10,7 +10,7 @@ use Rattle.letters.specs.declared.Letter.{Letter}
 use Rattle.letters.specs.Editions.{firstEdition}
 use Rattle.letters.specs.Encoding.{encodeHeader, encodeLetter}
 use Rattle.letters.specs.Putting.{putWord}
-use Rattle.refusals.specs.Order.{mostPoints}
+use Rattle.grammar.specs.Limits.{mostPoints}
 use Rattle.blocks.specs.declared.PointEntry.{PointEntry}
 use Rattle.table.specs.Table.{pointAt, parentAt, branchAt}
 use Rattle.exploration.specs.Moves.{moveOf, letterOf, noPoint}
