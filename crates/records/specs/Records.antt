@@ -5,6 +5,7 @@ use mathlib.Core.List.{List, [], _∷_, _++_}
 use lib.Dec.{eqb}
 use lib.ListN.{getD, drop, replicate}
 use Rattle.base.specs.Choice.{pick}
+use Rattle.letters.specs.Editions.{firstEdition}
 use Rattle.semantics.specs.PackedTables.{units}
 use Rattle.window.specs.Table.{table}
 use Rattle.window.specs.Layout.{registers, functions}
@@ -15,7 +16,7 @@ use Rattle.records.specs.Words.{wordOf}
 unfoldable pub use Rattle.records.specs.Formats.{flag, isSet, parentIn, branchIn, pointIn, samePair}
 
 abbrev pub recordBytes : ℕ
-recordBytes = 192
+recordBytes = firstEdition .pairBytes
 
 -- Codes of four bits, two to a byte.
 abbrev pub firstFormat : Format

@@ -1,5 +1,7 @@
 // The window of a trace (document 01, "Terms, models, coherence"): whether a letter is coherent, and the window after it.
 use letters::Letter;
+use letters::limits::MOST_FUNCTIONS;
+use letters::limits::MOST_REGISTERS;
 ghost use mathlib.Core.Path.{_≡_};
 ghost use mathlib.Core.List.{List};
 ghost use Prim.Native.Nat.{ℕ, _+_, _*_, _/_, _%_, _^_, _-_, _<_, _≤_};
@@ -25,10 +27,10 @@ ghost use Rattle.window.specs.Marks.{foldedOf, unionOf, aboveOf, flagOf,
 pub type Mask = u8;
 
 /// How many registers there are at most.
-pub const REGISTERS: usize = 8;
+pub const REGISTERS: usize = MOST_REGISTERS;
 
 /// How many functions.
-pub const FUNCTIONS: usize = 4;
+pub const FUNCTIONS: usize = MOST_FUNCTIONS;
 
 /// How many pairs of registers.
 pub const PAIRS: usize = REGISTERS * REGISTERS;
