@@ -1,0 +1,66 @@
+-- The infeasible letter comes before the incoherent one; coherence is Definition 5's and one condition more.
+use mathlib.Core.Path.{_≡_, ap, _∙_}
+use mathlib.Core.Logic.{inl, inr, _↔_}
+use Prim.Native.Nat.{ℕ, zero, suc, _≤_, _<_}
+use native.Mathlib.Omega.{arith}
+use Rattle.letters.specs.declared.Letter.the-variants.{Copy, Apply, Equal, Unequal}
+use Rattle.semantics.specs.Terms.{_∈_, Term, con, app, State, Trace, begin, _▸_, state}
+use Rattle.semantics.specs.Facts.{WellFormed, Valid}
+use Rattle.semantics.specs.Closure.{reflexive, Held}
+use Rattle.semantics.specs.Models.{Feasible}
+use Rattle.semantics.specs.Coherence.{Superterm, once, again, Above, Early, Coherent}
+use Rattle.semantics.specs.Judgement.{size, Judgement}
+use Rattle.semantics.specs.FirstLetters.{coherentPart}
+use Rattle.semantics.specs.Paper.{SupertermModulo, HeldModulo, EarlyModulo, CoherentModulo}
+use Rattle.semantics.proofs.Theory.Facts.{state-valid}
+use Rattle.semantics.proofs.Theory.JudgementLaws.{longest-is, longest-unique, part-size, fails-size, feasible-closed}
+use Rattle.semantics.proofs.Theory.PaperLaws.{held-is, superterm-is, memoizing-is, early-stricter, constants-computed}
+use Rattle.verdict_theory.specs.Verdict.{incoherent}
+use Rattle.theorems.specs.Stricter.{ArgumentsHeld, Stricter}
+
+pub infeasible-before : (ρ : Trace) → WellFormed ρ → (incoherent infeasible : ℕ) → Judgement ρ (suc incoherent) infeasible → infeasible ≤ incoherent
+infeasible-before ρ w i zero j = omega arith
+infeasible-before ρ w i (suc k) j =
+    let part : j .part ≡ coherentPart ρ = longest-unique ρ (j .part) (coherentPart ρ) (j .longest) (longest-is ρ w) in
+    let long : size (j .part) ≡ i = ap size part ∙ part-size ρ w i (j .coherence) in
+    omega (arith, fails-size (λ π. Feasible (state π)) feasible-closed (j .part) (suc k) (j .feasibility) .1)
+
+module _ (σ : State) (v : Valid σ) (computed : (r : ℕ) → r < σ .header .registers → con r ∈ σ .terms) where
+  superterm : {t a b : Term} {f : ℕ} → app f a b ∈ σ .terms → Above (σ .terms) (σ .equals) t a b → Superterm (σ .terms) (σ .equals) t (app f a b)
+  superterm m (inl (inl c)) = once m (inl c) (reflexive m)
+  superterm m (inl (inr n)) = again n m (inl (reflexive (v .arguments _ _ _ m .0))) (reflexive m)
+  superterm m (inr (inl c)) = once m (inr c) (reflexive m)
+  superterm m (inr (inr n)) = again n m (inr (reflexive (v .arguments _ _ _ m .1))) (reflexive m)
+
+  result : (r : ℕ) → r < σ .header .registers → ((s : Term) → s ∈ σ .terms → SupertermModulo (σ .equals) (σ .value r) s → HeldModulo σ s)
+      → (f : ℕ) (a b : Term) → app f a b ∈ σ .terms → Above (σ .terms) (σ .equals) (σ .value r) a b → Held σ (app f a b)
+  result r rb g f a b m k = held-is σ v m .0 (g (app f a b) m (superterm-is σ v computed (v .values r rb) m .1 (superterm m k)))
+
+  early-is : (x y : ℕ) → x < σ .header .registers → y < σ .header .registers → Early σ x y ↔ (EarlyModulo σ x y × ArgumentsHeld σ (Equal x y))
+  early-is x y xb yb = (
+    λ e. (
+      early-stricter σ v computed x y xb yb e,
+      λ f a b m k. elim k [ inl h ↦ let (r, s, t) = e .0 f a b m h in (s, t) | inr h ↦ let (r, s, t) = e .1 f a b m h in (s, t) ],
+    ),
+    λ (e, k). (
+      λ f a b m h. let (s, t) = k f a b m (inl h) in (result x xb (λ u i j. e u i (inl j)) f a b m h, s, t),
+      λ f a b m h. let (s, t) = k f a b m (inr h) in (result y yb (λ u i j. e u i (inr j)) f a b m h, s, t),
+    ),
+  )
+
+pub coherent-exactly : (ρ : Trace) → WellFormed ρ → Coherent ρ ↔ (CoherentModulo ρ × Stricter ρ)
+coherent-exactly (begin h) w = (λ c. (tt, tt), λ c. tt)
+coherent-exactly (ρ ▸ Copy x y) w =
+    let (f, g) = coherent-exactly ρ (w .0) in
+    (λ (c, l). let (p, q) = f c in ((p, tt), (q, tt)), λ ((p, l), (q, k)). (g (p, q), tt))
+coherent-exactly (ρ ▸ Apply x h y z) w =
+    let (f, g) = coherent-exactly ρ (w .0) in
+    let (i, j) = memoizing-is (state ρ) (state-valid ρ (w .0)) (constants-computed ρ) x h y z (w .1) in
+    (λ (c, l). let (p, q) = f c in ((p, i l), (q, tt)), λ ((p, l), (q, k)). (g (p, q), j l))
+coherent-exactly (ρ ▸ Equal x y) w =
+    let (f, g) = coherent-exactly ρ (w .0) in
+    let (i, j) = early-is (state ρ) (state-valid ρ (w .0)) (constants-computed ρ) x y (w .1 .0) (w .1 .1) in
+    (λ (c, l). let (p, q) = f c in let (s, t) = i l in ((p, s), (q, t)), λ ((p, l), (q, k)). (g (p, q), j (l, k)))
+coherent-exactly (ρ ▸ Unequal x y) w =
+    let (f, g) = coherent-exactly ρ (w .0) in
+    (λ (c, l). let (p, q) = f c in ((p, tt), (q, tt)), λ ((p, l), (q, k)). (g (p, q), tt))
