@@ -5,7 +5,7 @@
 -- is, that it indexes inside its buffers, that no arithmetic loses bits, and that every loop and recursion ends, for all values that it may be given.
 --
 -- "Nothing malformed is judged: it is refused under document 01's number and place, and the output buffer stays as lent."
-use mathlib.Core.Path.{_≡_, ap, _∙_, subst}
+use mathlib.Core.Path.{_≡_, refl, ap, _∙_, subst}
 use mathlib.Core.Logic.{_⊎_, inl, inr}
 use mathlib.Core.List.{List}
 use Prim.Native.Nat.{ℕ, _≤_}
@@ -72,7 +72,17 @@ pub refusal-leaves-output : (text table output : List ℕ) (number place : ℕ) 
 refusal-leaves-output = refused-output
 
 -- ── traces ──
--- `reading` asks document 01's questions of the bytes of a trace, in their order. What is read is well formed,
+-- `reading` asks document 01's questions of the bytes of a trace, in their order: they are read as a trace, or refused, and as a function's value never both.
+pub trace-is-read-or-refused : (bytes : List ℕ) → ((h : Header) × (letters : List Letter) × (reading firstEdition bytes ≡ trace h letters))
+    ⊎ ((number : ℕ) × (place : ℕ) × (reading firstEdition bytes ≡ TraceReading.refused number place))
+trace-is-read-or-refused bytes = go (reading firstEdition bytes) refl
+  where
+    go : (r : TraceReading) → reading firstEdition bytes ≡ r → ((h : Header) × (letters : List Letter) × (reading firstEdition bytes ≡ trace h letters))
+        ⊎ ((number : ℕ) × (place : ℕ) × (reading firstEdition bytes ≡ TraceReading.refused number place))
+    go (trace h letters) e = inl (h, letters, e)
+    go (TraceReading.refused number place) e = inr (number, place, e)
+
+-- What is read is well formed,
 pub trace-that-is-read-is-well-formed : (bytes : List ℕ) (h : Header) (letters : List Letter) → reading firstEdition bytes ≡ trace h letters
     → HeaderFits firstEdition h × AllFit h letters
 trace-that-is-read-is-well-formed = reading-fits firstEdition first-roomy

@@ -5,24 +5,25 @@ use mathlib.Core.List.{List, _++_}
 use Prim.Native.Nat.{ℕ, suc, _≤_}
 use Rattle.letters.specs.declared.Header.{Header}
 use Rattle.letters.specs.declared.Letter.{Letter}
-use Rattle.letters.specs.Answers.{Answer}
+use Rattle.letters.specs.Answers.{Answer, value}
 use Rattle.letters.specs.Editions.{firstEdition}
 use Rattle.letters.specs.Letters.{HeaderFits}
 use Rattle.letters.proofs.Theory.WordLaws.{first-roomy}
 use Rattle.traces.specs.Reading.{trace, reading, letterCount}
 use Rattle.traces.specs.Traces.{AllFit, packing, Bytes}
 use Rattle.traces.proofs.Theory.TraceLaws.{reading-packing, packing-reading}
-use Rattle.semantics.specs.Terms.{_∈_, Term, Trace, state}
+use Rattle.semantics.specs.Terms.{_∈_, Term, Trace, state, traceOf}
 use Rattle.semantics.specs.Facts.{WellFormed}
 use Rattle.semantics.specs.Closure.{Equivalent}
 use Rattle.semantics.specs.Models.{Feasible}
 use Rattle.semantics.specs.AnyModel.{FeasibleInSomeModel}
 use Rattle.semantics.specs.Coherence.{Coherent}
-use Rattle.semantics.specs.Judgement.{Judgement}
+use Rattle.semantics.specs.Prefixes.{Begins}
+use Rattle.semantics.specs.Judgement.{size, Judgement}
 use Rattle.semantics.specs.FirstLetters.{incoherentLetter, infeasibleLetter}
 use Rattle.semantics.specs.Paper.{Congruent, CoherentModulo}
 use Rattle.semantics.proofs.Theory.Facts.{state-valid}
-use Rattle.semantics.proofs.Theory.JudgementLaws.{judgement-is, judgement-unique}
+use Rattle.semantics.proofs.Theory.JudgementLaws.{coherent-closed, judgement-is, judgement-unique}
 use Rattle.semantics.proofs.Theory.PaperLaws.{feasible-anywhere, congruent-is, corollary-2-is}
 use Rattle.streaming.specs.Demand2.{Demand2}
 use Rattle.streaming.specs.Run.{last, cappedAnswer, runAnswer}
@@ -37,11 +38,45 @@ use Rattle.syntax.proofs.Theory.Reads.{reads, reads-once}
 use Rattle.search.specs.MacroExecutions.{Demand2Macros}
 use Rattle.search.proofs.Theory.MacroExecutions.{macros-have-executions}
 use Rattle.theorems.specs.Stricter.{Stricter}
-use Rattle.theorems.proofs.Steps.Traces.{infeasible-before, coherent-exactly}
+use Rattle.theorems.proofs.Steps.Traces.{first-exactly, infeasible-exactly, feasible-throughout, infeasible-before, coherent-exactly}
 
 -- "For every trace the monitor names the first letter at which it stops being coherent, and before then the first at which it becomes infeasible,"
--- `Demand2 bytes answer` says this of the bytes of a trace. `streaming::byte_stream::judge_trace` answers `judgedBytes` and ensures `Demand2`.
--- The numbers of letters have 64 bits: a slice has never more letters than they number.
+-- `Demand2 bytes answer` says this of the bytes of a trace: an answer that meets it has the two letters of the trace that is read, from 1, and 0 for none.
+pub trace-is-judged : (bytes : List ℕ) (answer : Answer (ℕ × ℕ)) → Demand2 bytes answer → (h : Header) (letters : List Letter)
+    → reading firstEdition bytes ≡ trace h letters
+    → (incoherent infeasible : ℕ) × Judgement (traceOf h letters) incoherent infeasible × (answer ≡ value (incoherent, infeasible))
+trace-is-judged bytes answer met = met .judges
+
+-- `Judgement ρ incoherent infeasible` says which letters of the trace ρ these are. A beginning of ρ is coherent exactly if it ends before the first;
+pub incoherent-letter-is-the-first : (ρ : Trace) (k infeasible : ℕ) → Judgement ρ (suc k) infeasible → (π : Trace) → Begins π ρ → Coherent π ↔ (size π ≤ k)
+incoherent-letter-is-the-first ρ k infeasible j = first-exactly Coherent coherent-closed ρ k (j .coherence)
+
+-- where there is none, the whole trace is coherent;
+pub coherent-if-none-is-named : (ρ : Trace) (infeasible : ℕ) → Judgement ρ 0 infeasible → Coherent ρ
+coherent-if-none-is-named ρ infeasible j = j .coherence
+
+-- a coherent beginning is feasible exactly if it ends before the second;
+pub infeasible-letter-is-the-first : (ρ : Trace) (incoherent k : ℕ) → Judgement ρ incoherent (suc k)
+    → (π : Trace) → Begins π ρ → Coherent π → Feasible (state π) ↔ (size π ≤ k)
+infeasible-letter-is-the-first = infeasible-exactly
+
+-- where there is none, every coherent beginning is feasible;
+pub feasible-if-none-is-named : (ρ : Trace) (incoherent : ℕ) → Judgement ρ incoherent 0 → (π : Trace) → Begins π ρ → Coherent π → Feasible (state π)
+feasible-if-none-is-named = feasible-throughout
+
+-- and the second, if there is one, comes before the first.
+pub infeasible-comes-before-incoherent : (ρ : Trace) → WellFormed ρ → (incoherent infeasible : ℕ) → Judgement ρ (suc incoherent) infeasible
+    → infeasible ≤ incoherent
+infeasible-comes-before-incoherent = infeasible-before
+
+-- Each trace has both letters, and one of each.
+pub both-letters-exist : (ρ : Trace) → WellFormed ρ → (incoherent : ℕ) × (infeasible : ℕ) × Judgement ρ incoherent infeasible
+both-letters-exist ρ w = (incoherentLetter ρ, infeasibleLetter ρ, judgement-is ρ w)
+
+pub both-letters-are-unique : (ρ : Trace) (i j k l : ℕ) → Judgement ρ i j → Judgement ρ k l → (i ≡ k) × (j ≡ l)
+both-letters-are-unique = judgement-unique
+
+-- `streaming::byte_stream::judge_trace` answers `judgedBytes` and ensures `Demand2`. The numbers of letters have 64 bits, and a slice has never more.
 pub monitor-meets-the-demand : (bytes : List ℕ) → letterCount firstEdition bytes ≤ last → Demand2 bytes (runAnswer (judgedBytes bytes))
 monitor-meets-the-demand = demand-met
 
@@ -60,19 +95,6 @@ some-answer-meets-it bytes = (exactOf (reading firstEdition bytes), demand-exact
 
 pub one-answer-meets-it : (bytes : List ℕ) (a b : Answer (ℕ × ℕ)) → Demand2 bytes a → Demand2 bytes b → a ≡ b
 one-answer-meets-it = demand-unique
-
--- `Judgement ρ incoherent infeasible`: these are the two letters of the trace ρ, from 1, and 0 for none. Each trace has them,
-pub both-letters-exist : (ρ : Trace) → WellFormed ρ → (incoherent : ℕ) × (infeasible : ℕ) × Judgement ρ incoherent infeasible
-both-letters-exist ρ w = (incoherentLetter ρ, infeasibleLetter ρ, judgement-is ρ w)
-
--- one of each,
-pub both-letters-are-unique : (ρ : Trace) (i j k l : ℕ) → Judgement ρ i j → Judgement ρ k l → (i ≡ k) × (j ≡ l)
-both-letters-are-unique = judgement-unique
-
--- and the infeasible one, if there is one, comes before the incoherent one.
-pub infeasible-comes-before-incoherent : (ρ : Trace) → WellFormed ρ → (incoherent infeasible : ℕ) → Judgement ρ (suc incoherent) infeasible
-    → infeasible ≤ incoherent
-infeasible-comes-before-incoherent = infeasible-before
 
 -- "by Definitions 3 and 5 and Corollary 2 of the paper,"
 -- Definition 3: a trace is feasible if some data model satisfies its tests. Document 01's models are finite; models of any values change nothing.

@@ -1,4 +1,5 @@
--- The infeasible letter comes before the incoherent one; coherence is Definition 5's and one condition more.
+-- The letters that a run names are the first ones, and the infeasible one comes before the incoherent one; coherence is Definition 5's and one condition
+-- more.
 use mathlib.Core.Path.{_≡_, ap, _∙_}
 use mathlib.Core.Logic.{inl, inr, _↔_}
 use Prim.Native.Nat.{ℕ, zero, suc, _≤_, _<_}
@@ -9,14 +10,56 @@ use Rattle.semantics.specs.Facts.{WellFormed, Valid}
 use Rattle.semantics.specs.Closure.{reflexive, Held}
 use Rattle.semantics.specs.Models.{Feasible}
 use Rattle.semantics.specs.Coherence.{Superterm, once, again, Above, Early, Coherent}
-use Rattle.semantics.specs.Judgement.{size, Judgement}
+use Rattle.semantics.specs.Prefixes.{Begins, whole, before, PrefixClosed}
+use Rattle.semantics.specs.Judgement.{size, FailsAt, Longest, Judgement}
 use Rattle.semantics.specs.FirstLetters.{coherentPart}
 use Rattle.semantics.specs.Paper.{SupertermModulo, HeldModulo, EarlyModulo, CoherentModulo}
 use Rattle.semantics.proofs.Theory.Facts.{state-valid}
-use Rattle.semantics.proofs.Theory.JudgementLaws.{longest-is, longest-unique, part-size, fails-size, feasible-closed}
+use Rattle.semantics.proofs.Theory.Prefixes.{begins-size, begins-has}
+use Rattle.semantics.proofs.Theory.JudgementLaws.{longest-is, longest-unique, part-size, failed, fails-size, feasible-closed}
+use Rattle.macros.proofs.Theory.Numbers.{less-or}
 use Rattle.semantics.proofs.Theory.PaperLaws.{held-is, superterm-is, memoizing-is, early-stricter, constants-computed}
 use Rattle.verdict_theory.specs.Verdict.{incoherent}
 use Rattle.theorems.specs.Stricter.{ArgumentsHeld, Stricter}
+
+within : {π κ ρ : Trace} → Begins π ρ → Begins κ ρ → size π ≤ size κ → Begins π κ
+within b whole l = b
+within whole (before c) l = absurd (omega (arith, begins-size c))
+within (before b) (before c) l = within b c l
+
+module _ (P : Trace → Type 0) (closed : PrefixClosed P) where
+  fails-before : (ρ : Trace) (k : ℕ) → FailsAt P ρ k → (π : Trace) → Begins π ρ → size π < k → P π
+  fails-before (begin h) k f π b l = absurd f
+  fails-before (ρ ▸ a) k (inl f) π whole l = absurd (omega (arith, fails-size P closed ρ k f .1))
+  fails-before (ρ ▸ a) k (inl f) π (before b) l = fails-before ρ k f π b l
+  fails-before (ρ ▸ a) k (inr (e, p, n)) π whole l = absurd (omega arith)
+  fails-before (ρ ▸ a) k (inr (e, p, n)) π (before b) l = begins-has P closed b p
+
+  fails-from : (ρ : Trace) (k : ℕ) → FailsAt P ρ k → (π : Trace) → Begins π ρ → k ≤ size π → ¬ P π
+  fails-from (begin h) k f π b l p = absurd f
+  fails-from (ρ ▸ a) k (inl f) π whole l p = failed P closed ρ k f (closed ρ a p)
+  fails-from (ρ ▸ a) k (inl f) π (before b) l p = fails-from ρ k f π b l p
+  fails-from (ρ ▸ a) k (inr (e, q, n)) π whole l p = n p
+  fails-from (ρ ▸ a) k (inr (e, q, n)) π (before b) l p = absurd (omega (arith, begins-size b))
+
+  -- the beginnings of which P holds are those without letter k + 1
+  pub first-exactly : (ρ : Trace) (k : ℕ) → FailsAt P ρ (suc k) → (π : Trace) → Begins π ρ → P π ↔ (size π ≤ k)
+  first-exactly ρ k f π b = (
+    λ p. elim (less-or k (size π)) [ inl l ↦ absurd (fails-from ρ (suc k) f π b (omega arith) p) | inr l ↦ l ],
+    λ l. fails-before ρ (suc k) f π b (omega arith),
+  )
+
+-- a coherent beginning begins the longest one
+coherent-within : (ρ π κ : Trace) → Longest ρ κ → Begins π ρ → Coherent π → Begins π κ
+coherent-within ρ π κ l b c = within b (l .beginning) (l .longest π b c)
+
+pub infeasible-exactly : (ρ : Trace) (i k : ℕ) → Judgement ρ i (suc k) → (π : Trace) → Begins π ρ → Coherent π → Feasible (state π) ↔ (size π ≤ k)
+infeasible-exactly ρ i k j π b c =
+    first-exactly (λ π. Feasible (state π)) feasible-closed (j .part) k (j .feasibility) π (coherent-within ρ π (j .part) (j .longest) b c)
+
+pub feasible-throughout : (ρ : Trace) (i : ℕ) → Judgement ρ i 0 → (π : Trace) → Begins π ρ → Coherent π → Feasible (state π)
+feasible-throughout ρ i j π b c =
+    begins-has (λ π. Feasible (state π)) feasible-closed (coherent-within ρ π (j .part) (j .longest) b c) (j .feasibility)
 
 pub infeasible-before : (ρ : Trace) → WellFormed ρ → (incoherent infeasible : ℕ) → Judgement ρ (suc incoherent) infeasible → infeasible ≤ incoherent
 infeasible-before ρ w i zero j = omega arith
