@@ -47,24 +47,25 @@ pub trace-is-judged : (bytes : List ℕ) (answer : Answer (ℕ × ℕ)) → Dema
     → (incoherent infeasible : ℕ) × Judgement (traceOf h letters) incoherent infeasible × (answer ≡ value (incoherent, infeasible))
 trace-is-judged bytes answer met = met .judges
 
--- `Judgement ρ incoherent infeasible` says which letters of the trace ρ these are. A beginning of ρ is coherent exactly if it ends before the first;
+-- `Judgement ρ incoherent infeasible` says which letters of the trace ρ these are.
+-- A beginning of ρ is coherent exactly if it ends before the incoherent letter;
 pub incoherent-letter-is-the-first : (ρ : Trace) (k infeasible : ℕ) → Judgement ρ (suc k) infeasible → (π : Trace) → Begins π ρ → Coherent π ↔ (size π ≤ k)
 incoherent-letter-is-the-first ρ k infeasible j = first-exactly Coherent coherent-closed ρ k (j .coherence)
 
--- where there is none, the whole trace is coherent;
+-- where none is named, the whole trace is coherent;
 pub coherent-if-none-is-named : (ρ : Trace) (infeasible : ℕ) → Judgement ρ 0 infeasible → Coherent ρ
 coherent-if-none-is-named ρ infeasible j = j .coherence
 
--- a coherent beginning is feasible exactly if it ends before the second;
+-- a coherent beginning is feasible exactly if it ends before the infeasible letter;
 pub infeasible-letter-is-the-first : (ρ : Trace) (incoherent k : ℕ) → Judgement ρ incoherent (suc k)
     → (π : Trace) → Begins π ρ → Coherent π → Feasible (state π) ↔ (size π ≤ k)
 infeasible-letter-is-the-first = infeasible-exactly
 
--- where there is none, every coherent beginning is feasible;
+-- where none is named, every coherent beginning is feasible;
 pub feasible-if-none-is-named : (ρ : Trace) (incoherent : ℕ) → Judgement ρ incoherent 0 → (π : Trace) → Begins π ρ → Coherent π → Feasible (state π)
 feasible-if-none-is-named = feasible-throughout
 
--- and the second, if there is one, comes before the first.
+-- and the infeasible letter, if there is one, comes before the incoherent one.
 pub infeasible-comes-before-incoherent : (ρ : Trace) → WellFormed ρ → (incoherent infeasible : ℕ) → Judgement ρ (suc incoherent) infeasible
     → infeasible ≤ incoherent
 infeasible-comes-before-incoherent = infeasible-before
@@ -120,12 +121,12 @@ coherence-is-definition-5-and-stricter = coherent-exactly
 pub macros-have-the-executions-of-definition-2 : (text : List ℕ) (answer : MacroRead) → Reads text answer → Demand2Macros text answer
 macros-have-the-executions-of-definition-2 = macros-have-executions
 
--- There is one such answer for every text.
-pub some-macro-is-read : (text : List ℕ) → (answer : MacroRead) × Reads text answer
-some-macro-is-read text = (heldReading (readMacro text), reads text (heldReading (readMacro text)) refl)
+-- Every text has such an answer, a macro or a refusal, and one only.
+pub some-reading-meets-it : (text : List ℕ) → (answer : MacroRead) × Reads text answer
+some-reading-meets-it text = (heldReading (readMacro text), reads text (heldReading (readMacro text)) refl)
 
-pub one-macro-is-read : (text : List ℕ) (a b : MacroRead) → Reads text a → Reads text b → a ≡ b
-one-macro-is-read = reads-once
+pub one-reading-meets-it : (text : List ℕ) (a b : MacroRead) → Reads text a → Reads text b → a ≡ b
+one-reading-meets-it = reads-once
 
 -- "Packing a trace and reading it are inverse." (`traces::writer::write_trace` packs, `traces::read_trace` and `traces::letter_at` read.)
 pub reading-a-packed-trace : (h : Header) (letters : List Letter) → HeaderFits firstEdition h → AllFit h letters

@@ -6,19 +6,21 @@ use Prim.Native.Nat.{ℕ, _≤_, _<_}
 use lib.ListN.{length, drop, replicate}
 use Rattle.letters.specs.declared.Letter.{Letter}
 use Rattle.letters.specs.Editions.{firstEdition}
-use Rattle.semantics.specs.Terms.{Trace, begin, state}
+use Rattle.semantics.specs.Terms.{Trace, begin, extend, state}
 use Rattle.semantics.specs.Models.{Feasible}
 use Rattle.semantics.specs.AnyModel.{AnyModel, SatisfiesIn, FeasibleInSomeModel}
 use Rattle.semantics.specs.Coherence.{Coherent}
 use Rattle.semantics.specs.Judgement.{size}
+use Rattle.semantics.specs.Numbering.{ShownModel}
+use Rattle.semantics.specs.ShownTables.{tablesOf}
 use Rattle.macros.specs.Executions.{Partial, Failing}
 use Rattle.macros.specs.Order.{Path, Before}
 use Rattle.macros.proofs.Theory.Order.{before-not}
 use Rattle.grammar.specs.Grammar.{Macro, headerOf}
 use Rattle.refusals.specs.Accepted.{Accepted}
 use Rattle.verdict_theory.specs.Count.{Counted}
-use Rattle.verdict_theory.specs.Verdict.{VerdictAnswer, pass, full, unfit, IsPass, Kind, showing, AnswerBytes, Delivered, Leaves, SamePair, Event}
-use Rattle.verdict_theory.specs.Verdict.{FirstEvent, EventAt, PairCount, PairsPass, Shows}
+use Rattle.verdict_theory.specs.Verdict.{VerdictAnswer, pass, full, unfit, IsPass, Kind, failing, showing, AnswerBytes, Delivered, Leaves, SamePair}
+use Rattle.verdict_theory.specs.Verdict.{Event, FirstEvent, EventAt, PairCount, PairsPass, Shows}
 use Rattle.verdict_theory.specs.Demand3.{pairsIn, Demand3}
 use Rattle.verdict_theory.proofs.Theory.Counting.{one-count, more-is}
 use Rattle.verdict_theory.proofs.Theory.CountedPairs.{LeavesAny, counted-any}
@@ -27,6 +29,7 @@ use Rattle.verdict_theory.proofs.Theory.Settled.{one-way}
 use Rattle.verdict_theory.proofs.Theory.Shortest.{first-shortest}
 use Rattle.search.proofs.Theory.Answerable.{answerable}
 use Rattle.verdict_lines.specs.Prints.{mostVerdictLineBytes, Says, PrintsVerdictLines}
+use Rattle.verdict_lines.proofs.Theory.Answers.{event-model}
 use Rattle.verdict_lines.proofs.Theory.PrintsLaws.{one-said, prints-all}
 use Rattle.verdict_lines.proofs.Theory.ReadBack.{ReadsBack, read-back}
 use Rattle.theorems.proofs.Steps.Events.{one-shown, event-delivered, shown-counted, unfit-exactly}
@@ -109,6 +112,11 @@ module _ (text : List ℕ) (m : Macro) (accepted : Accepted text m) where
 
   pub first-event-is-shortest : (ρ : Trace) → FirstEvent Feasible start (m .body) ρ → (π : Trace) → Event Feasible start (m .body) π → size ρ ≤ size π
   first-event-is-shortest = first-shortest Feasible start (m .body)
+
+  -- On fail all tests of the execution hold in the model that its tables describe (`ShownModel`).
+  pub model-satisfies-the-execution : (k : ℕ) (ls : List Letter) → Shows Feasible start (m .body) failing k ls
+      → ShownModel (state (extend start ls)) (tablesOf (state (extend start ls)))
+  model-satisfies-the-execution = event-model m (accepted .in-order)
 
   -- There is one count at most, and where there is one, it passes n if it is greater;
   pub count-is-one : (k l : ℕ) → PairCount Feasible start (m .body) k → PairCount Feasible start (m .body) l → k ≡ l
