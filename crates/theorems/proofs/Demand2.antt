@@ -37,8 +37,9 @@ use Rattle.syntax.specs.Reads.{Reads}
 use Rattle.syntax.proofs.Theory.Reads.{reads, reads-once}
 use Rattle.search.specs.MacroExecutions.{Demand2Macros}
 use Rattle.search.proofs.Theory.MacroExecutions.{macros-have-executions}
+use Rattle.theorems.specs.Definition3.{Definition3}
 use Rattle.theorems.specs.Stricter.{Stricter}
-use Rattle.theorems.proofs.Steps.Traces.{first-exactly, infeasible-exactly, feasible-throughout, infeasible-before, coherent-exactly}
+use Rattle.theorems.proofs.Steps.Traces.{definition-3, first-exactly, infeasible-exactly, feasible-throughout, infeasible-before, coherent-exactly}
 
 -- "For every trace the monitor names the first letter at which it stops being coherent, and before then the first at which it becomes infeasible,"
 -- `Demand2 bytes answer` says this of the bytes of a trace: an answer that meets it has the two letters of the trace that is read, from 1, and 0 for none.
@@ -98,7 +99,11 @@ pub one-answer-meets-it : (bytes : List ℕ) (a b : Answer (ℕ × ℕ)) → Dem
 one-answer-meets-it = demand-unique
 
 -- "by Definitions 3 and 5 and Corollary 2 of the paper,"
--- Definition 3: a trace is feasible if some data model satisfies its tests. Document 01's models are finite; models of any values change nothing.
+-- Definition 3: the terms that are the values of the registers (specs/Definition3.antt).
+pub values-are-those-of-definition-3 : Definition3 (λ ρ. state ρ .value)
+values-are-those-of-definition-3 = definition-3
+
+-- A trace is feasible if some data model satisfies its tests. Document 01's models are finite; models of any values change nothing.
 pub finite-and-any-models-alike {ℓ} : (ρ : Trace) → WellFormed ρ → Feasible (state ρ) ↔ FeasibleInSomeModel {ℓ} (state ρ)
 finite-and-any-models-alike ρ w = feasible-anywhere (state ρ) (state-valid ρ w)
 

@@ -1,1 +1,2 @@
+pub mod Definition3
 pub mod Stricter

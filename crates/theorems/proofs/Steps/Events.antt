@@ -9,6 +9,7 @@ use lib.ListN.{length}
 use Rattle.letters.specs.declared.Letter.{Letter}
 use Rattle.letters.specs.Editions.{firstEdition}
 use Rattle.letters.specs.MacroRefusalNumbers.{tableTooSmall}
+use Rattle.letters.specs.RefusalNumbers.{outputTooSmall}
 use Rattle.semantics.specs.Terms.{Trace, begin, _▸_, extend}
 use Rattle.semantics.specs.Models.{Feasible}
 use Rattle.semantics.specs.Coherence.{Coherent}
@@ -101,7 +102,7 @@ module _ (text : List ℕ) (m : Macro) (a : Accepted text m) where
           | inl (f, g, h) ↦
               let (p, q, r) = showing-same kind′ kind k′ (length ls) k l (sym g ∙ e) in
               (ls, subst (λ i. ShownAs kind i ls) q (subst (λ j. ShownAs j k′ ls) p s), r)
-          | inr (f, g, h) ↦ absurd (showing-refused kind k l 6 0 (sym e ∙ g))
+          | inr (f, g, h) ↦ absurd (showing-refused kind k l outputTooSmall 0 (sym e ∙ g))
         ]
 
 -- ── refusals ──
@@ -121,5 +122,5 @@ refused-output text table output number place t o x = let (r, k) = an-acceptance
 
 pub unfit-exactly : (bytes output output′ : List ℕ) (kind : Kind) (k l : ℕ) (answer : VerdictAnswer)
     → Delivered bytes (showing kind k l) output answer output′ → (answer ≡ unfit) ↔ (length output < length bytes)
-unfit-exactly bs o o′ kind k l answer (inl (f, e, b)) = (λ g. absurd (showing-refused kind k l 6 0 (sym e ∙ g)), λ g. absurd (omega arith))
+unfit-exactly bs o o′ kind k l answer (inl (f, e, b)) = (λ g. absurd (showing-refused kind k l outputTooSmall 0 (sym e ∙ g)), λ g. absurd (omega arith))
 unfit-exactly bs o o′ kind k l answer (inr (f, e, b)) = (λ g. f, λ g. e)

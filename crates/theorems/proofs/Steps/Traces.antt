@@ -1,9 +1,11 @@
--- The letters that a run names are the first ones, and the infeasible one comes before the incoherent one; coherence is Definition 5's and one condition
--- more.
-use mathlib.Core.Path.{_≡_, ap, _∙_}
+-- Values are those of Definition 3; the letters that a run names are the first ones, and the infeasible one comes before the incoherent one;
+-- coherence is Definition 5's and one condition more.
+use mathlib.Core.Path.{_≡_, refl, ap, _∙_}
 use mathlib.Core.Logic.{inl, inr, _↔_}
+use mathlib.Core.Bool.{true, false, cond}
 use Prim.Native.Nat.{ℕ, zero, suc, _≤_, _<_}
 use native.Mathlib.Omega.{arith}
+use borrow.Author.Tests.{eq-eqb, ne-eqb}
 use Rattle.letters.specs.declared.Letter.the-variants.{Copy, Apply, Equal, Unequal}
 use Rattle.semantics.specs.Terms.{_∈_, Term, con, app, State, Trace, begin, _▸_, state}
 use Rattle.semantics.specs.Facts.{WellFormed, Valid}
@@ -19,8 +21,20 @@ use Rattle.semantics.proofs.Theory.Prefixes.{begins-size, begins-has}
 use Rattle.semantics.proofs.Theory.JudgementLaws.{longest-is, longest-unique, part-size, failed, fails-size, feasible-closed}
 use Rattle.macros.proofs.Theory.Numbers.{less-or}
 use Rattle.semantics.proofs.Theory.PaperLaws.{held-is, superterm-is, memoizing-is, early-stricter, constants-computed}
-use Rattle.verdict_theory.specs.Verdict.{incoherent}
+use Rattle.theorems.specs.Definition3.{Definition3}
 use Rattle.theorems.specs.Stricter.{ArgumentsHeld, Stricter}
+
+pub definition-3 : Definition3 (λ ρ. state ρ .value)
+definition-3 = record {
+  begins = λ h r. refl;
+  copied = λ ρ x y. ap (λ b. state ρ .value (cond b y x)) (eq-eqb x x refl);
+  copy-keeps = λ ρ x y r n. ap (λ b. state ρ .value (cond b y r)) (ne-eqb r x n);
+  applied = λ ρ x f y z. ap (λ b. elim b as (λ _. Term) [ true ↦ app f (state ρ .value y) (state ρ .value z) | false ↦ state ρ .value x ]) (eq-eqb x x refl);
+  apply-keeps = λ ρ x f y z r n.
+      ap (λ b. elim b as (λ _. Term) [ true ↦ app f (state ρ .value y) (state ρ .value z) | false ↦ state ρ .value r ]) (ne-eqb r x n);
+  equal-keeps = λ ρ x y r. refl;
+  unequal-keeps = λ ρ x y r. refl;
+}
 
 within : {π κ ρ : Trace} → Begins π ρ → Begins κ ρ → size π ≤ size κ → Begins π κ
 within b whole l = b
