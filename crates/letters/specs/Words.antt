@@ -1,4 +1,4 @@
--- Headers and letters as words (document 01, "Letters and their packing"), and the words read again.
+-- Headers and letters as words (document 01, "Letters and their packing").
 use Prim.Native.Nat.{ℕ, zero, suc}
 use mathlib.Core.List.{List, [], _∷_, _++_}
 use lib.ListN.{replicate}

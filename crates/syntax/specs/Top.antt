@@ -33,8 +33,7 @@ macroOf rs fs b = record {
   registers = take (rs .count) (rs .names);
   functions = take (fs .count) (fs .names);
   arities = take (fs .count) (fs .arities);
-  body =
-      b;
+  body = b;
 }
 
 -- a table without points

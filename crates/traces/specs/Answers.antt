@@ -1,4 +1,4 @@
--- What a call answers in this crate (see the same file of `letters`): each enum of the code has here its number and values, case by case.
+-- What a call answers in this crate: each enum of the code has here its number and values, case by case.
 use Prim.Native.Nat.{ℕ}
 use Rattle.letters.specs.declared.Header.{Header}
 use Rattle.traces.specs.declared.HeaderRead.{HeaderRead}

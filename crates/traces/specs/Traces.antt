@@ -1,4 +1,4 @@
--- Whole traces as bytes: packed, read again by the questions of document 01 ("The questions", "Trace"), and unpacked.
+-- Whole traces as bytes: packed (document 01, "Letters and their packing").
 use Prim.Native.Nat.{ℕ, _<_}
 use mathlib.Core.List.{List, [], _∷_, _++_, map}
 use lib.ListN.{replicate, getD}

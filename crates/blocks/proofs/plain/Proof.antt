@@ -5,38 +5,54 @@ use Rattle.blocks.proofs.plain.Tie as tie
 
 pub plain-spec : {M : Type 1} → statement M
 plain-spec =
-    tie.close
-    (tie.spec
+    tie.close (tie.spec
     (λ c κs. search needs)
-    (λ c κs. c .before .before .before .before .before .before .pre .counted)
+    (λ c κs.
+    let at-pre = c .before .before .before .before .before .before in
+    at-pre .pre .counted)
     (λ c. law.plain-skip _ _ _ _ _ _ _ _ (c .before .before .if1 .taken) (c .before .expect .ensures) (c .passed .ensures _))
-    (λ c κs. c .before .before .before .before .before .before .pre .few .registers)
+    (λ c κs.
+    let at-pre = c .before .before .before .before .before .before in
+    at-pre .pre .few .registers)
     (λ c κs. search needs)
     (λ c.
-    law.plain-assume _ _ _ _ _ _ _ _ (c .before .before .before .before .before .if2 .taken) (c .before .before .before .before .tested .ensures)
+    let at-tested = c .before .before .before .before in
+    let at-if2 = at-tested .before in
+    law.plain-assume _ _ _ _ _ _ _ _ (at-if2 .if2 .taken) (at-tested .tested .ensures)
     (c .settled .ensures))
     (λ c κs.
-    let past = c .before .before .before .before .before .before .before in
+    let at-before = c .before .before .before .before .before .before in
+    let past = at-before .before in
     past .pre .few .registers)
     (λ c κs. search needs)
     (λ c.
-    law.plain-assert _ _ _ _ _ _ _ _ (c .before .before .before .before .before .if3 .taken) (c .before .before .before .before .tested2 .ensures)
+    let at-tested2 = c .before .before .before .before in
+    let at-if3 = at-tested2 .before in
+    law.plain-assert _ _ _ _ _ _ _ _ (at-if3 .if3 .taken) (at-tested2 .tested2 .ensures)
     (c .settled2 .ensures))
     (λ c κs. search needs)
     (λ c κs.
-    let past = c .before .before .before .before .before .before .before in
+    let at-before = c .before .before .before .before .before .before in
+    let past = at-before .before in
     past .before .before .pre .few)
     (λ c κs. search needs)
     (λ c.
-    let past = c .before .before .before .before .before .before .before in
+    let at-assignment = c .before .before .before .before in
+    let at-if4 = at-assignment .before in
+    let at-before = at-if4 .before in
+    let past = at-before .before in
     law.plain-assign _ _ _ _ _ _ (past .before .before .if1 .left) (past .before .if2 .left) (past .if3 .left) _
-    (c .before .before .before .before .before .before .is-name .ensures) _ _ (c .before .before .before .before .before .if4 .taken)
-    (c .before .before .before .before .assignment .ensures) (c .settled3 .ensures))
+    (at-before .is-name .ensures) _ _ (at-if4 .if4 .taken) (at-assignment .assignment .ensures) (c .settled3 .ensures))
     (λ c κs. search needs)
     (λ c κs.
-    let past = c .before .before .before .before .before .before .before in
+    let at-before = c .before .before .before .before .before .before in
+    let past = at-before .before in
     past .before .before .before .pre .counted)
     (λ c.
-    law.plain-unfit _ _ _ _ _ _ (c .before .before .before .before .before .before .if1 .left) (c .before .before .before .before .before .if2 .left)
-    (c .before .before .before .before .if3 .left) _ (c .before .before .before .is-name .ensures) _ _ (c .before .before .if4 .left)
-    (c .before .unfitting .ensures) (c .passed2 .ensures _)))
+    let at-if4 = c .before .before in
+    let at-is-name = at-if4 .before in
+    let at-if3 = at-is-name .before in
+    let at-if2 = at-if3 .before in
+    let at-if1 = at-if2 .before in
+    law.plain-unfit _ _ _ _ _ _ (at-if1 .if1 .left) (at-if2 .if2 .left)
+    (at-if3 .if3 .left) _ (at-is-name .is-name .ensures) _ _ (at-if4 .if4 .left) (c .before .unfitting .ensures) (c .passed2 .ensures _)))

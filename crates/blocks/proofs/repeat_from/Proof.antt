@@ -6,8 +6,7 @@ use Rattle.blocks.proofs.repeat_from.Tie as tie
 
 pub repeat-from-spec : {M : Type 1} → statement M
 repeat-from-spec =
-    tie.close
-    (tie.spec
+    tie.close (tie.spec
     (λ c. (change-high _ _ _ _ (c .if1 .taken), change-high _ _ _ _ (c .if1 .taken)))
     (λ c. (change-none _ _ _ _ (c .before .if1 .left) (c .if2 .taken), change-none _ _ _ _ (c .before .if1 .left) (c .if2 .taken)))
     (λ c. search needs)
@@ -19,9 +18,12 @@ repeat-from-spec =
     (λ c. search needs)
     (λ c. search needs)
     (λ c.
-    let args = c .before .before .before .before .before .before .args in
-    let few = c .before .before .before .before .before .if1 .left in
-    let some = c .before .before .before .before .if2 .left in
+    let at-if2 = c .before .before .before .before in
+    let at-if1 = at-if2 .before in
+    let at-args = at-if1 .before in
+    let args = at-args .args in
+    let few = at-if1 .if1 .left in
+    let some = at-if2 .if2 .left in
     let ranges = c .before .redirect-range .ensures in (
       change-some _ _ _ _ few some _ (λ i. set (ranges .0 i) (args .base) (c .begin .ensures i)),
       change-some _ _ _ _ few some _ (λ i. set (ranges .1 i) (args .base) 256),

@@ -5,11 +5,12 @@ use Rattle.blocks.proofs.settled.Tie as tie
 
 pub settled-spec : {M : Type 1} → statement M
 settled-spec =
-    tie.close
-    (tie.spec
+    tie.close (tie.spec
     (λ c. search needs)
     (λ c κs. search needs)
     (λ c. search needs)
     (λ c κs. search needs)
-    (λ c. settled-at _ _ _ _ _ _ (c .before .before .before .before .before .g .given .1) (c .pushed .ensures))
+    (λ c.
+    let at-g = c .before .before .before .before .before in
+    settled-at _ _ _ _ _ _ (at-g .g .given .1) (c .pushed .ensures))
     (λ c. settled-refused _ _ _ _ _ _ (c .before .before .g2 .given .1) (c .stopped .ensures _)))

@@ -15,8 +15,7 @@ abbrev μ-loop : tie.MeasureT-loop
 
 pub clash-spec : {M : Type 1} → statement M
 clash-spec =
-    tie.close
-    (tie.spec
+    tie.close (tie.spec
     Inv-loop
     μ-loop
     (λ c. ((c .pre .0), (c .pre .4)))
@@ -26,21 +25,41 @@ clash-spec =
     (λ c. let h = (c .before .before .before .before .pre .1) in let k = (c .before .before .loop-test .taken) in omega arith)
     (λ c. let h = (c .before .before .before .before .pre .1) in let k = (c .before .before .loop-test .taken) in omega arith)
     (λ c κs. search needs)
-    (λ c. let h = below-use mostTerms _ _ _ _ (c .before .before .before .before .before .before .pre .2) (c .before .before .before .before .loop-test .taken)
-    (c .before .before .wide .ensures) in omega arith)
-    (λ c. let h = below-use mostTerms _ _ _ _ (c .before .before .before .before .before .before .pre .2) (c .before .before .before .before .loop-test .taken)
-    (c .before .before .wide .ensures) in omega arith)
-    (λ c. let h = below-use mostTerms _ _ _ _ (c .before .before .before .before .before .before .before .pre .3)
-    (c .before .before .before .before .before .loop-test .taken) (c .before .wide2 .ensures) in omega arith)
-    (λ c. let h = below-use mostTerms _ _ _ _ (c .before .before .before .before .before .before .before .pre .3)
-    (c .before .before .before .before .before .loop-test .taken) (c .before .wide2 .ensures) in omega arith)
-    (λ c. clash-hit _ _ _ _ _ _ _ (c .before .before .before .before .before .before .before .loop-test .taken)
-    (c .before .before .before .before .before .wide .ensures) (c .before .before .before .wide2 .ensures) (c .if1 .taken))
+    (λ c.
+    let at-wide = c .before .before in
+    let at-loop-test = at-wide .before .before in
+    let at-pre = at-loop-test .before .before in
+    let h = below-use mostTerms _ _ _ _ (at-pre .pre .2) (at-loop-test .loop-test .taken)
+    (at-wide .wide .ensures) in omega arith)
+    (λ c.
+    let at-wide = c .before .before in
+    let at-loop-test = at-wide .before .before in
+    let at-pre = at-loop-test .before .before in
+    let h = below-use mostTerms _ _ _ _ (at-pre .pre .2) (at-loop-test .loop-test .taken)
+    (at-wide .wide .ensures) in omega arith)
+    (λ c.
+    let at-loop-test = c .before .before .before .before .before in
+    let at-pre = at-loop-test .before .before in
+    let h = below-use mostTerms _ _ _ _ (at-pre .pre .3)
+    (at-loop-test .loop-test .taken) (c .before .wide2 .ensures) in omega arith)
+    (λ c.
+    let at-loop-test = c .before .before .before .before .before in
+    let at-pre = at-loop-test .before .before in
+    let h = below-use mostTerms _ _ _ _ (at-pre .pre .3)
+    (at-loop-test .loop-test .taken) (c .before .wide2 .ensures) in omega arith)
+    (λ c.
+    let at-wide2 = c .before .before .before in
+    let at-wide = at-wide2 .before .before in
+    let at-loop-test = at-wide .before .before in
+    clash-hit _ _ _ _ _ _ _ (at-loop-test .loop-test .taken)
+    (at-wide .wide .ensures) (at-wide2 .wide2 .ensures) (c .if1 .taken))
     (λ c. search needs)
     (λ c. search needs)
-    (λ c. (
+    (λ c.
+    let at-wide2 = c .before .before .before in
+    let at-wide = at-wide2 .before .before in
+    let at-loop = at-wide .before .before .before in (
       search needs,
-      parts-more _ _ _ 0 _ _ _ (c .before .before .before .before .before .before .before .before .loop .inv .1)
-          (c .before .before .before .before .before .wide .ensures) (c .before .before .before .wide2 .ensures) (c .if1 .left),
+      parts-more _ _ _ 0 _ _ _ (at-loop .loop .inv .1) (at-wide .wide .ensures) (at-wide2 .wide2 .ensures) (c .if1 .left),
     ))
     (λ c. clash-end _ _ _ _ _ (c .before .loop .inv .1) (c .loop-test .left)))

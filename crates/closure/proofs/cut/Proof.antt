@@ -14,8 +14,7 @@ abbrev μ-loop : tie.MeasureT-loop
 
 pub cut-spec : {M : Type 1} → statement M
 cut-spec =
-    tie.close
-    (tie.spec
+    tie.close (tie.spec
     Inv-loop
     μ-loop
     (λ c. cutting-all-start _ _ _ (c .pre .0) (c .pre .1))
@@ -28,11 +27,17 @@ cut-spec =
           (c .before .before .before .before .pre .1) _ _ _ (c .before .before .before .loop .inv) (c .wide .ensures),
       (c .before .before .before .before .pre .1),
     ))
-    (λ c. let h = (c .below .ensures .below) in let b = (c .before .before .before .before .before .pre .2) in omega arith)
+    (λ c.
+    let at-pre = c .before .before .before .before .before in
+    let h = (c .below .ensures .below) in let b = (at-pre .pre .2) in omega arith)
     (λ c. search needs)
     (λ c. search needs)
     (λ c. let h = (c .before .before .before .loop-test .taken) in omega arith)
     (λ c. let h = (c .before .before .before .loop-test .taken) in omega arith)
-    (λ c. cutting-all-turn _ _ _ (c .before .before .before .before .before .pre .0) (c .before .before .before .before .before .pre .1) _ _ _ _
-    (c .before .before .before .before .loop .inv) (c .before .before .before .loop-test .taken) (c .before .wide .ensures) (c .below .ensures))
+    (λ c.
+    let at-loop-test = c .before .before .before in
+    let at-loop = at-loop-test .before in
+    let at-pre = at-loop .before in
+    cutting-all-turn _ _ _ (at-pre .pre .0) (at-pre .pre .1) _ _ _ _
+    (at-loop .loop .inv) (at-loop-test .loop-test .taken) (c .before .wide .ensures) (c .below .ensures))
     (λ c. cutting-all-end _ _ _ (c .before .before .pre .0) (c .before .before .pre .1) _ _ (c .before .loop .inv) (c .loop-test .left)))

@@ -9,8 +9,7 @@ use Rattle.closure.proofs.enter.Tie as tie
 
 pub enter-spec : {M : Type 1} → statement M
 enter-spec =
-    tie.close
-    (tie.spec
+    tie.close (tie.spec
     (λ c. search needs)
     (λ c. search needs)
     (λ c κs. search needs)
@@ -19,9 +18,11 @@ enter-spec =
       chain-below _ _ _ _ _ (c .before .before .before .pre .2) (c .before .wide .ensures),
       (c .before .before .before .pre .2 .links),
     ))
-    (λ c. entered-known _ _ _ _ _ _ (c .before .before .before .before .before .pre .2) (c .before .before .before .before .before .pre .0 .some)
-    (c .before .before .before .before .before .pre .0 .more) (c .before .before .before .before .before .pre .1) _ _
-    (c .before .before .before .wide .ensures) (c .before .find .ensures) (c .if1 .taken))
+    (λ c.
+    let at-wide = c .before .before .before in
+    let at-pre = at-wide .before .before in
+    entered-known _ _ _ _ _ _ (at-pre .pre .2) (at-pre .pre .0 .some)
+    (at-pre .pre .0 .more) (at-pre .pre .1) _ _ (at-wide .wide .ensures) (c .before .find .ensures) (c .if1 .taken))
     (λ c. search needs)
     (λ c. search needs)
     (λ c. search needs)
@@ -29,6 +30,10 @@ enter-spec =
     (λ c. search needs)
     (λ c. search needs)
     (λ c. search needs)
-    (λ c. entered-new _ _ _ _ _ _ (c .before .before .before .before .before .before .pre .2) (c .before .before .before .before .before .before .pre .0 .some)
-    (c .before .before .before .before .before .before .pre .0 .more) (c .before .before .before .before .before .before .pre .1) _ refl
-    (mod-lt _ (omega arith)) _ _ (c .before .before .before .before .wide .ensures) (c .before .before .find .ensures) (c .before .if1 .left)))
+    (λ c.
+    let at-find = c .before .before in
+    let at-wide = at-find .before .before in
+    let at-pre = at-wide .before .before in
+    entered-new _ _ _ _ _ _ (at-pre .pre .2) (at-pre .pre .0 .some)
+    (at-pre .pre .0 .more) (at-pre .pre .1) _ refl
+    (mod-lt _ (omega arith)) _ _ (at-wide .wide .ensures) (at-find .find .ensures) (c .before .if1 .left)))

@@ -16,8 +16,7 @@ abbrev μ-loop : tie.MeasureT-loop
 
 pub find-spec : {M : Type 1} → statement M
 find-spec =
-    tie.close
-    (tie.spec
+    tie.close (tie.spec
     Inv-loop
     μ-loop
     (λ c. ((c .pre .1), finding-start _ _ _ _ _))
@@ -27,13 +26,21 @@ find-spec =
     (λ c. let h = (c .before .before .before .loop .inv .0) in let w = (c .before .before .before .before .pre .0 .within) in omega arith)
     (λ c. let h = (c .before .before .before .loop .inv .0) in let w = (c .before .before .before .before .pre .0 .within) in omega arith)
     (λ c κs. search needs)
-    (λ c. link-less _ _ _ _ (c .before .before .before .before .before .before .pre .2) (c .before .before .before .before .before .before .pre .0 .some)
-    (c .before .before .before .before .loop-test .taken) (c .wide .ensures))
-    (λ c. (
-      let l = link-less _ _ _ _ (c .before .before .before .before .before .before .pre .2) (c .before .before .before .before .before .before .pre .0 .some)
-          (c .before .before .before .before .loop-test .taken) (c .wide .ensures) in let h = (c .before .before .before .before .before .loop .inv .0) in
+    (λ c.
+    let at-loop-test = c .before .before .before .before in
+    let at-pre = at-loop-test .before .before in
+    link-less _ _ _ _ (at-pre .pre .2) (at-pre .pre .0 .some)
+    (at-loop-test .loop-test .taken) (c .wide .ensures))
+    (λ c.
+    let at-if1 = c .before .before in
+    let at-signature-at = at-if1 .before in
+    let at-loop-test = at-signature-at .before in
+    let at-loop = at-loop-test .before in
+    let at-pre = at-loop .before in (
+      let l = link-less _ _ _ _ (at-pre .pre .2) (at-pre .pre .0 .some)
+          (at-loop-test .loop-test .taken) (c .wide .ensures) in let h = (at-loop .loop .inv .0) in
           omega arith,
-      finding-turn _ _ _ _ _ _ _ _ (c .before .before .before .before .before .loop .inv .1) (c .before .before .before .before .loop-test .taken)
-          (c .before .before .before .signature-at .ensures) (c .before .before .if1 .left) (c .wide .ensures),
+      finding-turn _ _ _ _ _ _ _ _ (at-loop .loop .inv .1) (at-loop-test .loop-test .taken)
+          (at-signature-at .signature-at .ensures) (at-if1 .if1 .left) (c .wide .ensures),
     ))
     (λ c. finding-end _ _ _ _ _ _ _ (c .before .loop .inv .1) (c .before .loop .inv .0) (c .loop-test .left)))

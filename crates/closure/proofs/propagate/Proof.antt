@@ -17,88 +17,131 @@ abbrev μ-loop : tie.MeasureT-loop
 
 pub propagate-spec : {M : Type 1} → statement M
 propagate-spec =
-    tie.close
-    (tie.spec
+    tie.close (tie.spec
     Inv-loop
     μ-loop
     (λ c. (c .pre))
     (λ c κs. readable-at _ (readable _ (c .before .before .loop .inv .joined .formed) (c .before .before .loop .inv .joined .formed .more) (omega arith))
     (c .before .loop-test .taken))
-    (λ c κs. (
-      readable _ (c .before .before .before .before .before .before .loop .inv .joined .formed)
-          (c .before .before .before .before .before .before .loop .inv .least) (c .before .before .before .before .before .before .loop .inv .most),
+    (λ c κs.
+    let at-loop-test = c .before .before .before .before .before in
+    let at-loop = at-loop-test .before in (
+      readable _ (at-loop .loop .inv .joined .formed) (at-loop .loop .inv .least) (at-loop .loop .inv .most),
       let h =
-          (c .before .before .before .before .before .loop-test .taken) in
-          let w = (c .before .before .before .before .before .before .loop .inv .joined .formed .within) in
+          (at-loop-test .loop-test .taken) in
+          let w = (at-loop .loop .inv .joined .formed .within) in
           omega arith,
-      (c .before .before .before .before .before .before .loop .inv .chains),
+      (at-loop .loop .inv .chains),
     ))
-    (λ c. let g = found-below _ _ _ _ _ _ _ _ _ _ (c .before .before .before .before .before .before .before .loop .inv)
-    (c .before .before .before .before .before .before .loop-test .taken) _ _ (c .before .before .before .before .signature-at .ensures) _ _
-    (c .enter .ensures) in let h = (c .before .before .before .before .before .before .loop-test .taken) in
-    let w = (c .before .before .before .before .before .before .before .loop .inv .joined .formed .within) in omega arith)
-    (λ c. let g = found-below _ _ _ _ _ _ _ _ _ _ (c .before .before .before .before .before .before .before .loop .inv)
-    (c .before .before .before .before .before .before .loop-test .taken) _ _ (c .before .before .before .before .signature-at .ensures) _ _
-    (c .enter .ensures) in let h = (c .before .before .before .before .before .before .loop-test .taken) in
-    let w = (c .before .before .before .before .before .before .before .loop .inv .joined .formed .within) in omega arith)
-    (λ c. let h = (c .before .before .before .before .before .before .before .loop-test .taken) in
-    let w = (c .before .before .before .before .before .before .before .before .loop .inv .joined .formed .within) in omega arith)
-    (λ c. let h = (c .before .before .before .before .before .before .before .loop-test .taken) in
-    let w = (c .before .before .before .before .before .before .before .before .loop .inv .joined .formed .within) in omega arith)
-    (λ c. let h = (c .before .before .before .before .before .before .before .before .before .loop-test .taken) in
-    let w = (c .before .before .before .before .before .before .before .before .before .before .loop .inv .joined .formed .within) in omega arith)
-    (λ c. let h = (c .before .before .before .before .before .before .before .before .before .loop-test .taken) in omega arith)
-    (λ c. underway-same _ _ _ _ _ _ _ _ _ _ (c .before .before .before .before .before .before .before .before .before .before .loop .inv)
-    (c .before .before .before .before .before .before .before .before .before .loop-test .taken) _ _
-    (c .before .before .before .before .before .before .before .signature-at .ensures) _ _ (c .before .before .before .enter .ensures) (c .if1 .taken))
-    (λ c. let g = found-below _ _ _ _ _ _ _ _ _ _ (c .before .before .before .before .before .before .before .before .before .before .loop .inv)
-    (c .before .before .before .before .before .before .before .before .before .loop-test .taken) _ _
-    (c .before .before .before .before .before .before .before .signature-at .ensures) _ _ (c .before .before .before .enter .ensures) in
-    let h = (c .before .before .before .before .before .before .before .before .before .loop-test .taken) in
-    let w = (c .before .before .before .before .before .before .before .before .before .before .loop .inv .joined .formed .within) in omega arith)
-    (λ c. let g = found-below _ _ _ _ _ _ _ _ _ _ (c .before .before .before .before .before .before .before .before .before .before .loop .inv)
-    (c .before .before .before .before .before .before .before .before .before .loop-test .taken) _ _
-    (c .before .before .before .before .before .before .before .signature-at .ensures) _ _ (c .before .before .before .enter .ensures) in
-    let h = (c .before .before .before .before .before .before .before .before .before .loop-test .taken) in
-    let w = (c .before .before .before .before .before .before .before .before .before .before .loop .inv .joined .formed .within) in omega arith)
-    (λ c. let h = (c .before .before .before .before .before .before .before .before .before .before .loop-test .taken) in
-    let w = (c .before .before .before .before .before .before .before .before .before .before .before .loop .inv .joined .formed .within) in omega arith)
-    (λ c. let h = (c .before .before .before .before .before .before .before .before .before .before .loop-test .taken) in
-    let w = (c .before .before .before .before .before .before .before .before .before .before .before .loop .inv .joined .formed .within) in omega arith)
+    (λ c.
+    let at-signature-at = c .before .before .before .before in
+    let at-loop-test = at-signature-at .before .before in
+    let at-loop = at-loop-test .before in
+    let g = found-below _ _ _ _ _ _ _ _ _ _ (at-loop .loop .inv)
+    (at-loop-test .loop-test .taken) _ _ (at-signature-at .signature-at .ensures) _ _
+    (c .enter .ensures) in let h = (at-loop-test .loop-test .taken) in
+    let w = (at-loop .loop .inv .joined .formed .within) in omega arith)
+    (λ c.
+    let at-signature-at = c .before .before .before .before in
+    let at-loop-test = at-signature-at .before .before in
+    let at-loop = at-loop-test .before in
+    let g = found-below _ _ _ _ _ _ _ _ _ _ (at-loop .loop .inv)
+    (at-loop-test .loop-test .taken) _ _ (at-signature-at .signature-at .ensures) _ _
+    (c .enter .ensures) in let h = (at-loop-test .loop-test .taken) in
+    let w = (at-loop .loop .inv .joined .formed .within) in omega arith)
+    (λ c.
+    let at-loop-test = c .before .before .before .before .before .before .before in
+    let at-loop = at-loop-test .before in
+    let h = (at-loop-test .loop-test .taken) in
+    let w = (at-loop .loop .inv .joined .formed .within) in omega arith)
+    (λ c.
+    let at-loop-test = c .before .before .before .before .before .before .before in
+    let at-loop = at-loop-test .before in
+    let h = (at-loop-test .loop-test .taken) in
+    let w = (at-loop .loop .inv .joined .formed .within) in omega arith)
+    (λ c.
+    let at-loop-test = c .before .before .before .before .before .before .before .before .before in
+    let at-loop = at-loop-test .before in
+    let h = (at-loop-test .loop-test .taken) in
+    let w = (at-loop .loop .inv .joined .formed .within) in omega arith)
+    (λ c.
+    let at-loop-test = c .before .before .before .before .before .before .before .before .before in
+    let h = (at-loop-test .loop-test .taken) in omega arith)
+    (λ c.
+    let at-enter = c .before .before .before in
+    let at-signature-at = at-enter .before .before .before .before in
+    let at-loop-test = at-signature-at .before .before in
+    let at-loop = at-loop-test .before in
+    underway-same _ _ _ _ _ _ _ _ _ _ (at-loop .loop .inv)
+    (at-loop-test .loop-test .taken) _ _ (at-signature-at .signature-at .ensures) _ _ (at-enter .enter .ensures) (c .if1 .taken))
+    (λ c.
+    let at-enter = c .before .before .before in
+    let at-signature-at = at-enter .before .before .before .before in
+    let at-loop-test = at-signature-at .before .before in
+    let at-loop = at-loop-test .before in
+    let g = found-below _ _ _ _ _ _ _ _ _ _ (at-loop .loop .inv)
+    (at-loop-test .loop-test .taken) _ _ (at-signature-at .signature-at .ensures) _ _ (at-enter .enter .ensures) in
+    let h = (at-loop-test .loop-test .taken) in
+    let w = (at-loop .loop .inv .joined .formed .within) in omega arith)
+    (λ c.
+    let at-enter = c .before .before .before in
+    let at-signature-at = at-enter .before .before .before .before in
+    let at-loop-test = at-signature-at .before .before in
+    let at-loop = at-loop-test .before in
+    let g = found-below _ _ _ _ _ _ _ _ _ _ (at-loop .loop .inv)
+    (at-loop-test .loop-test .taken) _ _ (at-signature-at .signature-at .ensures) _ _ (at-enter .enter .ensures) in
+    let h = (at-loop-test .loop-test .taken) in
+    let w = (at-loop .loop .inv .joined .formed .within) in omega arith)
+    (λ c.
+    let at-loop-test = c .before .before .before .before .before .before .before .before .before .before in
+    let at-loop = at-loop-test .before in
+    let h = (at-loop-test .loop-test .taken) in
+    let w = (at-loop .loop .inv .joined .formed .within) in omega arith)
+    (λ c.
+    let at-loop-test = c .before .before .before .before .before .before .before .before .before .before in
+    let at-loop = at-loop-test .before in
+    let h = (at-loop-test .loop-test .taken) in
+    let w = (at-loop .loop .inv .joined .formed .within) in omega arith)
     (λ c κs. search needs)
-    (λ c κs. resume-ready _ _ _ _ _ _ _ _ _ _
-    (c .before .before .before .before .before .before .before .before .before .before .before .before .before .before .before .before .loop .inv)
-    (c .before .before .before .before .before .before .before .before .before .before .before .before .before .before .before .loop-test .taken) _ _
-    (c .before .before .before .before .before .before .before .before .before .before .before .before .before .signature-at .ensures) _ _
-    (c .before .before .before .before .before .before .before .before .before .enter .ensures)
-    (c .before .before .before .before .before .before .if1 .left) _ (c .before .before .before .higher .ensures))
-    (λ c κs. (
-      (c .before .before .before .before .before .before .before .before .before .before .before .before .before .before .before .before .before .before
-          .loop .inv .joined .formed .within),
-      found-below _ _ _ _ _ _ _ _ _ _
-          (c .before .before .before .before .before .before .before .before .before .before .before .before .before .before .before .before .before
-          .before .loop
-          .inv) (c .before .before .before .before .before .before .before .before .before .before .before .before .before .before .before .before .before
-          .loop-test .taken) _ _ (c .before .before .before .before .before .before .before .before .before .before .before .before .before .before .before
-          .signature-at .ensures) _ _ (c .before .before .before .before .before .before .before .before .before .before .before .enter .ensures),
-      (c .before .before .before .before .before .before .before .before .before .before .before .before .before .before .before .before .before .loop-test
-          .taken),
-      named (c .before .before .before .before .before .before .before .before .before .before .before .before .before .before .before .before
-          .before .before .loop .inv .joined .formed),
+    (λ c κs.
+    let at-higher = c .before .before .before in
+    let at-if1 = at-higher .before .before .before in
+    let at-enter = at-if1 .before .before .before in
+    let at-signature-at = at-enter .before .before .before .before in
+    let at-loop-test = at-signature-at .before .before in
+    let at-loop = at-loop-test .before in
+    resume-ready _ _ _ _ _ _ _ _ _ _
+    (at-loop .loop .inv) (at-loop-test .loop-test .taken) _ _ (at-signature-at .signature-at .ensures) _ _ (at-enter .enter .ensures)
+    (at-if1 .if1 .left) _ (at-higher .higher .ensures))
+    (λ c κs.
+    let at-enter = c .before .before .before .before .before .before .before .before .before .before .before in
+    let at-signature-at = at-enter .before .before .before .before in
+    let at-loop-test = at-signature-at .before .before in
+    let at-loop = at-loop-test .before in (
+      (at-loop .loop .inv .joined .formed .within),
+      found-below _ _ _ _ _ _ _ _ _ _ (at-loop .loop .inv) (at-loop-test .loop-test .taken) _ _ (at-signature-at
+          .signature-at .ensures) _ _ (at-enter .enter .ensures),
+      (at-loop-test .loop-test .taken),
+      named (at-loop .loop .inv .joined .formed),
     ))
-    (λ c. less-union _ _ _ _ _ _ _ _ _ _
-    (c .before .before .before .before .before .before .before .before .before .before .before .before .before .before .before .before .before .before
-    .before .loop .inv) (c .before .before .before .before .before .before .before .before .before .before .before .before .before .before .before .before
-    .before .before .loop-test .taken) _ _
-    (c .before .before .before .before .before .before .before .before .before .before .before .before .before .before .before .before .signature-at
-    .ensures) _ _ (c .before .before .before .before .before .before .before .before .before .before .before .before .enter .ensures)
-    (c .before .before .before .before .before .before .before .before .before .if1 .left) _ _ (c .unite .ensures))
-    (λ c. underway-union _ _ _ _ _ _ _ _ _ _
-    (c .before .before .before .before .before .before .before .before .before .before .before .before .before .before .before .before .before .before
-    .before .loop .inv) (c .before .before .before .before .before .before .before .before .before .before .before .before .before .before .before .before
-    .before .before .loop-test .taken) _ _
-    (c .before .before .before .before .before .before .before .before .before .before .before .before .before .before .before .before .signature-at
-    .ensures) _ _ (c .before .before .before .before .before .before .before .before .before .before .before .before .enter .ensures)
-    (c .before .before .before .before .before .before .before .before .before .if1 .left) _ _ _ _ (c .unite .ensures)
-    (c .before .before .before .before .before .before .higher .ensures) (c .before .before .resume .ensures))
+    (λ c.
+    let at-if1 = c .before .before .before .before .before .before .before .before .before in
+    let at-enter = at-if1 .before .before .before in
+    let at-signature-at = at-enter .before .before .before .before in
+    let at-loop-test = at-signature-at .before .before in
+    let at-loop = at-loop-test .before in
+    less-union _ _ _ _ _ _ _ _ _ _
+    (at-loop .loop .inv) (at-loop-test .loop-test .taken) _ _ (at-signature-at .signature-at .ensures) _ _ (at-enter .enter .ensures)
+    (at-if1 .if1 .left) _ _ (c .unite .ensures))
+    (λ c.
+    let at-resume = c .before .before in
+    let at-higher = at-resume .before .before .before .before in
+    let at-if1 = at-higher .before .before .before in
+    let at-enter = at-if1 .before .before .before in
+    let at-signature-at = at-enter .before .before .before .before in
+    let at-loop-test = at-signature-at .before .before in
+    let at-loop = at-loop-test .before in
+    underway-union _ _ _ _ _ _ _ _ _ _
+    (at-loop .loop .inv) (at-loop-test .loop-test .taken) _ _ (at-signature-at .signature-at .ensures) _ _ (at-enter .enter .ensures)
+    (at-if1 .if1 .left) _ _ _ _ (c .unite .ensures) (at-higher .higher .ensures) (at-resume .resume .ensures))
     (λ c. underway-end _ _ _ _ _ _ _ _ _ _ (c .before .loop .inv) (c .loop-test .left)))

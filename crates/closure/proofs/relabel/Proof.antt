@@ -19,8 +19,7 @@ abbrev μ-loop : tie.MeasureT-loop
 pub relabel-spec : {M : Type 1} → statement M
 unfolding relabelled
 relabel-spec =
-    tie.close
-    (tie.spec
+    tie.close (tie.spec
     Inv-loop
     μ-loop
     (λ c. search needs)
@@ -33,15 +32,19 @@ relabel-spec =
     (λ c. search needs)
     (λ c. search needs)
     (λ c κs. search needs)
-    (λ c. fall-most _ _ _ _ _ (c .before .before .before .before .before .pre .2) refl (c .fall .ensures))
+    (λ c.
+    let at-pre = c .before .before .before .before .before in
+    fall-most _ _ _ _ _ (at-pre .pre .2) refl (c .fall .ensures))
     (λ c. search needs)
     (λ c. search needs)
     (λ c. search needs)
     (λ c. search needs)
-    (λ c. (
-      let h = (c .before .before .loop-test .taken) in
+    (λ c.
+    let at-loop-test = c .before .before in
+    let at-loop = at-loop-test .before in
+    let at-pre = at-loop .before .before in (
+      let h = (at-loop-test .loop-test .taken) in
           omega arith,
-      each-turn _ _ _ _ 0 _ (c .before .before .before .loop .inv .1)
-          (fall-is _ _ _ _ _ (c .before .before .before .before .before .pre .2) refl (c .fall .ensures)),
+      each-turn _ _ _ _ 0 _ (at-loop .loop .inv .1) (fall-is _ _ _ _ _ (at-pre .pre .2) refl (c .fall .ensures)),
     ))
     (λ c. ended _ _ _ _ _ (c .before .loop .inv .1) (let h = (c .before .loop .inv .0) in let l = (c .loop-test .left) in omega arith)))

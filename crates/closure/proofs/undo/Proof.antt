@@ -17,8 +17,7 @@ abbrev μ-loop : tie.MeasureT-loop
 
 pub undo-spec : {M : Type 1} → statement M
 undo-spec =
-    tie.close
-    (tie.spec
+    tie.close (tie.spec
     Inv-loop
     μ-loop
     (λ c. (omega arith, undoing-start _ _ _ _ (c .pre .1) (c .pre .4)))
@@ -34,12 +33,15 @@ undo-spec =
     (λ c. search needs)
     (λ c. search needs)
     (λ c. let t = (c .before .before .before .before .loop-test .taken) in omega arith)
-    (λ c. (
-      let h = (c .before .before .before .before .before .loop .inv .0) in let t = (c .before .before .before .before .loop-test .taken) in
+    (λ c.
+    let at-signature-at = c .before .before .before in
+    let at-loop-test = at-signature-at .before in
+    let at-loop = at-loop-test .before in
+    let at-pre = at-loop .before in (
+      let h = (at-loop .loop .inv .0) in let t = (at-loop-test .loop-test .taken) in
           omega arith,
-      undoing-turn _ _ _ _ _ _ (c .before .before .before .before .before .before .pre .2)
-          (c .before .before .before .before .before .before .pre .0 .some) (c .before .before .before .before .before .before .pre .3) _ _ _ _ _
-          (c .before .before .before .before .before .loop .inv .1) (c .before .before .before .before .loop-test .taken) refl
-          (ap (λ s. s % chainCount) (c .before .before .before .signature-at .ensures)) (mod-lt _ (omega arith)) (c .without-last .ensures),
+      undoing-turn _ _ _ _ _ _ (at-pre .pre .2) (at-pre .pre .0 .some) (at-pre .pre .3) _ _ _ _ _
+          (at-loop .loop .inv .1) (at-loop-test .loop-test .taken) refl
+          (ap (λ s. s % chainCount) (at-signature-at .signature-at .ensures)) (mod-lt _ (omega arith)) (c .without-last .ensures),
     ))
     (λ c. undoing-end _ _ _ _ _ (c .before .loop .inv .1) (c .loop-test .left)))

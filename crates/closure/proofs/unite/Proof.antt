@@ -7,8 +7,7 @@ use Rattle.closure.proofs.unite.Tie as tie
 pub unite-spec : {M : Type 1} → statement M
 unfolding classesUnited
 unite-spec =
-    tie.close
-    (tie.spec
+    tie.close (tie.spec
     (λ c. search needs)
     (λ c. search needs)
     (λ c. search needs)
@@ -19,8 +18,13 @@ unite-spec =
     (λ c. search needs)
     (λ c. search needs)
     (λ c κs. search needs)
-    (λ c κs. let (p, q) = names-ready _ _ _ _ _ _ (c .before .before .before .before .before .before .before .pre .3)
-    (c .before .before .before .before .before .before .before .pre .1) (c .before .before .before .before .before .before .before .pre .2)
-    (c .before .before .before .before .lower .ensures) (c .before .higher .ensures) in
-    ((c .before .before .before .before .before .before .before .pre .0), p, q, (c .before .before .before .before .before .before .before .pre .3)))
-    (λ c. search ((c .relabel .ensures), (c .before .before .higher .ensures), (c .before .before .before .before .before .lower .ensures))))
+    (λ c κs.
+    let at-lower = c .before .before .before .before in
+    let at-pre = at-lower .before .before .before in
+    let (p, q) = names-ready _ _ _ _ _ _ (at-pre .pre .3)
+    (at-pre .pre .1) (at-pre .pre .2) (at-lower .lower .ensures) (c .before .higher .ensures) in
+    ((at-pre .pre .0), p, q, (at-pre .pre .3)))
+    (λ c.
+    let at-higher = c .before .before in
+    let at-lower = at-higher .before .before .before in
+    search ((c .relabel .ensures), (at-higher .higher .ensures), (at-lower .lower .ensures))))

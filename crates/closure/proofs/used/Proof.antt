@@ -13,8 +13,7 @@ abbrev μ-loop : tie.MeasureT-loop
 
 pub used-spec : {M : Type 1} → statement M
 used-spec =
-    tie.close
-    (tie.spec
+    tie.close (tie.spec
     Inv-loop
     μ-loop
     (λ c κs. search needs)
@@ -22,30 +21,70 @@ used-spec =
     (λ c. let h = (c .loop-test .taken) in let w = (c .before .before .before .pre .within) in omega arith)
     (λ c. let h = (c .loop-test .taken) in let w = (c .before .before .before .pre .within) in omega arith)
     (λ c κs. search needs)
-    (λ c. let h = (c .before .before .loop-test .taken) in let w = (c .before .before .before .before .before .pre .within) in omega arith)
-    (λ c. let h = (c .before .before .loop-test .taken) in let w = (c .before .before .before .before .before .pre .within) in omega arith)
+    (λ c.
+    let at-loop-test = c .before .before in
+    let at-pre = at-loop-test .before .before .before in
+    let h = (at-loop-test .loop-test .taken) in let w = (at-pre .pre .within) in omega arith)
+    (λ c.
+    let at-loop-test = c .before .before in
+    let at-pre = at-loop-test .before .before .before in
+    let h = (at-loop-test .loop-test .taken) in let w = (at-pre .pre .within) in omega arith)
     (λ c κs. search needs)
-    (λ c. let (h, k) = use-below _ _ _ _ 0 (c .before .before .before .before .before .before .before .pre) _ _ _
-    (c .before .before .before .before .loop-test .taken) (c .before .before .wide2 .ensures) (c .wide3 .ensures) in omega arith)
-    (λ c. let (h, k) = use-below _ _ _ _ 0 (c .before .before .before .before .before .before .before .pre) _ _ _
-    (c .before .before .before .before .loop-test .taken) (c .before .before .wide2 .ensures) (c .wide3 .ensures) in omega arith)
-    (λ c. use-first _ _ _ _ _ (c .before .before .before .before .before .before .before .before .before .pre) _ _ _
-    (c .before .before .before .before .before .before .loop-test .taken) (c .before .before .before .before .wide2 .ensures)
-    (c .before .before .wide3 .ensures) (c .if1 .taken))
-    (λ c. let (h, k) = use-below _ _ _ _ 0 (c .before .before .before .before .before .before .before .before .before .pre) _ _ _
-    (c .before .before .before .before .before .before .loop-test .taken) (c .before .before .before .before .wide2 .ensures)
-    (c .before .before .wide3 .ensures) in omega arith)
-    (λ c. let (h, k) = use-below _ _ _ _ 0 (c .before .before .before .before .before .before .before .before .before .pre) _ _ _
-    (c .before .before .before .before .before .before .loop-test .taken) (c .before .before .before .before .wide2 .ensures)
-    (c .before .before .wide3 .ensures) in omega arith)
-    (λ c. use-second _ _ _ _ _ (c .before .before .before .before .before .before .before .before .before .before .before .pre) _ _ _
-    (c .before .before .before .before .before .before .before .before .loop-test .taken)
-    (c .before .before .before .before .before .before .wide2 .ensures) (c .before .before .before .before .wide3 .ensures) (c .if2 .taken))
-    (λ c. let h = (c .before .before .before .before .before .before .before .before .loop-test .taken) in
-    let w = (c .before .before .before .before .before .before .before .before .before .before .before .pre .within) in omega arith)
-    (λ c. let h = (c .before .before .before .before .before .before .before .before .loop-test .taken) in omega arith)
-    (λ c. no-use-more _ _ _ _ _ (c .before .before .before .before .before .before .before .before .before .before .before .pre) _ _ _
-    (c .before .before .before .before .before .before .before .before .loop-test .taken)
-    (c .before .before .before .before .before .before .wide2 .ensures) (c .before .before .before .before .wide3 .ensures)
-    (c .before .before .before .before .before .before .before .before .before .loop .inv) (c .before .before .if1 .left) (c .if2 .left))
+    (λ c.
+    let at-wide2 = c .before .before in
+    let at-loop-test = at-wide2 .before .before in
+    let at-pre = at-loop-test .before .before .before in
+    let (h, k) = use-below _ _ _ _ 0 (at-pre .pre) _ _ _
+    (at-loop-test .loop-test .taken) (at-wide2 .wide2 .ensures) (c .wide3 .ensures) in omega arith)
+    (λ c.
+    let at-wide2 = c .before .before in
+    let at-loop-test = at-wide2 .before .before in
+    let at-pre = at-loop-test .before .before .before in
+    let (h, k) = use-below _ _ _ _ 0 (at-pre .pre) _ _ _
+    (at-loop-test .loop-test .taken) (at-wide2 .wide2 .ensures) (c .wide3 .ensures) in omega arith)
+    (λ c.
+    let at-wide3 = c .before .before in
+    let at-wide2 = at-wide3 .before .before in
+    let at-loop-test = at-wide2 .before .before in
+    let at-pre = at-loop-test .before .before .before in
+    use-first _ _ _ _ _ (at-pre .pre) _ _ _
+    (at-loop-test .loop-test .taken) (at-wide2 .wide2 .ensures) (at-wide3 .wide3 .ensures) (c .if1 .taken))
+    (λ c.
+    let at-wide3 = c .before .before in
+    let at-wide2 = at-wide3 .before .before in
+    let at-loop-test = at-wide2 .before .before in
+    let at-pre = at-loop-test .before .before .before in
+    let (h, k) = use-below _ _ _ _ 0 (at-pre .pre) _ _ _
+    (at-loop-test .loop-test .taken) (at-wide2 .wide2 .ensures) (at-wide3 .wide3 .ensures) in omega arith)
+    (λ c.
+    let at-wide3 = c .before .before in
+    let at-wide2 = at-wide3 .before .before in
+    let at-loop-test = at-wide2 .before .before in
+    let at-pre = at-loop-test .before .before .before in
+    let (h, k) = use-below _ _ _ _ 0 (at-pre .pre) _ _ _
+    (at-loop-test .loop-test .taken) (at-wide2 .wide2 .ensures) (at-wide3 .wide3 .ensures) in omega arith)
+    (λ c.
+    let at-wide3 = c .before .before .before .before in
+    let at-wide2 = at-wide3 .before .before in
+    let at-loop-test = at-wide2 .before .before in
+    let at-pre = at-loop-test .before .before .before in
+    use-second _ _ _ _ _ (at-pre .pre) _ _ _
+    (at-loop-test .loop-test .taken) (at-wide2 .wide2 .ensures) (at-wide3 .wide3 .ensures) (c .if2 .taken))
+    (λ c.
+    let at-loop-test = c .before .before .before .before .before .before .before .before in
+    let at-pre = at-loop-test .before .before .before in
+    let h = (at-loop-test .loop-test .taken) in
+    let w = (at-pre .pre .within) in omega arith)
+    (λ c.
+    let at-loop-test = c .before .before .before .before .before .before .before .before in
+    let h = (at-loop-test .loop-test .taken) in omega arith)
+    (λ c.
+    let at-if1 = c .before .before in
+    let at-wide3 = at-if1 .before .before in
+    let at-wide2 = at-wide3 .before .before in
+    let at-loop-test = at-wide2 .before .before in
+    let at-loop = at-loop-test .before in
+    let at-pre = at-loop .before .before in
+    no-use-more _ _ _ _ _ (at-pre .pre) _ _ _
+    (at-loop-test .loop-test .taken) (at-wide2 .wide2 .ensures) (at-wide3 .wide3 .ensures) (at-loop .loop .inv) (at-if1 .if1 .left) (c .if2 .left))
     (λ c. no-use-end _ _ _ _ _ (c .before .before .before .pre) _ (c .before .loop .inv) (c .loop-test .left)))

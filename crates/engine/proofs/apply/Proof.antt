@@ -8,19 +8,17 @@ use Rattle.engine.proofs.apply.Tie as tie
 
 pub apply-spec : {M : Type 1} → statement M
 apply-spec =
-    tie.close
-    (tie.spec
+    tie.close (tie.spec
     (λ c κs. (
       (c .before .pre .known),
       argument _ (c .before .pre .formed) (c .before .pre .first-term),
-      argument _ (c .before .pre .formed)
-          (c .before .pre .second-term),
+      argument _ (c .before .pre .formed) (c .before .pre .second-term),
     ))
-    (λ c κs. (
-      readable _ (c .before .before .before .before .before .before .before .before .pre .formed)
-          (c .before .before .before .before .before .before .before .before .pre .formed .more) (omega arith),
-      (c .before .before .before .before .before .before .before .before .pre .room),
-      (c .before .before .before .before .before .before .before .before .pre .indexed .chains),
+    (λ c κs.
+    let at-pre = c .before .before .before .before .before .before .before .before in (
+      readable _ (at-pre .pre .formed) (at-pre .pre .formed .more) (omega arith),
+      (at-pre .pre .room),
+      (at-pre .pre .indexed .chains),
     ))
     (λ c κs. search needs)
     (λ c. search needs)
@@ -31,6 +29,9 @@ apply-spec =
     (λ c. search needs)
     (λ c. search needs)
     (λ c. search needs)
-    (λ c. applied _ _ _ _ _ _ _ _ _ _ _ (c .before .before .before .before .before .before .before .before .before .before .before .pre) _ _ _ _
-    (c .before .before .before .before .before .before .before .before .before .signature .ensures) (c .before .before .enter .ensures) _
-    (c .name .ensures)))
+    (λ c.
+    let at-enter = c .before .before in
+    let at-signature = at-enter .before .before .before .before .before .before .before in
+    let at-pre = at-signature .before .before in
+    applied _ _ _ _ _ _ _ _ _ _ _ (at-pre .pre) _ _ _ _
+    (at-signature .signature .ensures) (at-enter .enter .ensures) _ (c .name .ensures)))

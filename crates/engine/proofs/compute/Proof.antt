@@ -5,13 +5,14 @@ use Rattle.engine.proofs.compute.Tie as tie
 
 pub compute-spec : {M : Type 1} → statement M
 compute-spec =
-    tie.close
-    (tie.spec
+    tie.close (tie.spec
     (λ c. search needs)
     (λ c. search needs)
     (λ c. search needs)
     (λ c. search needs)
-    (λ c κs. (c .before .before .before .before .before .before .before .before .pre .appliable))
+    (λ c κs.
+    let at-pre = c .before .before .before .before .before .before .before .before in
+    (at-pre .pre .appliable))
     (λ c. search needs)
     (λ c. search needs)
     (λ c. search needs)

@@ -6,8 +6,7 @@ use Rattle.engine.proofs.equate.Tie as tie
 
 pub equate-spec : {M : Type 1} → statement M
 equate-spec =
-    tie.close
-    (tie.spec
+    tie.close (tie.spec
     (λ c. search needs)
     (λ c. search needs)
     (λ c κs. search needs)
@@ -18,10 +17,21 @@ equate-spec =
     (λ c. search needs)
     (λ c. search needs)
     (λ c. search needs)
-    (λ c. equated-same _ _ _ _ _ _ _ _ _ _ _ (c .before .before .before .before .before .before .before .pre) _ _
-    (c .before .before .before .before .before .wide .ensures) (c .before .before .before .wide2 .ensures) (c .if1 .taken))
-    (λ c κs. equate-ready _ _ _ _ _ _ _ _ _ _ _ (c .before .before .before .before .before .before .before .before .before .before .pre) _ _
-    (c .before .before .before .before .before .before .before .before .wide .ensures) (c .before .before .before .before .before .before .wide2 .ensures))
-    (λ c. equated-merged _ _ _ _ _ _ _ _ _ _ _ (c .before .before .before .before .before .before .before .before .before .before .before .pre) _ _
-    (c .before .before .before .before .before .before .before .before .before .wide .ensures)
-    (c .before .before .before .before .before .before .before .wide2 .ensures) _ _ _ (c .merge .ensures)))
+    (λ c.
+    let at-wide2 = c .before .before .before in
+    let at-wide = at-wide2 .before .before in
+    let at-pre = at-wide .before .before in
+    equated-same _ _ _ _ _ _ _ _ _ _ _ (at-pre .pre) _ _
+    (at-wide .wide .ensures) (at-wide2 .wide2 .ensures) (c .if1 .taken))
+    (λ c κs.
+    let at-wide2 = c .before .before .before .before .before .before in
+    let at-wide = at-wide2 .before .before in
+    let at-pre = at-wide .before .before in
+    equate-ready _ _ _ _ _ _ _ _ _ _ _ (at-pre .pre) _ _
+    (at-wide .wide .ensures) (at-wide2 .wide2 .ensures))
+    (λ c.
+    let at-wide2 = c .before .before .before .before .before .before .before in
+    let at-wide = at-wide2 .before .before in
+    let at-pre = at-wide .before .before in
+    equated-merged _ _ _ _ _ _ _ _ _ _ _ (at-pre .pre) _ _
+    (at-wide .wide .ensures) (at-wide2 .wide2 .ensures) _ _ _ (c .merge .ensures)))

@@ -7,8 +7,7 @@ use Rattle.engine.proofs.note.Tie as tie
 
 pub note-spec : {M : Type 1} → statement M
 note-spec =
-    tie.close
-    (tie.spec
+    tie.close (tie.spec
     (λ c. search needs)
     (λ c. search needs)
     (λ c. search needs)
@@ -26,10 +25,19 @@ note-spec =
     (λ c. search needs)
     (λ c. search needs)
     (λ c. (unequal-below _ _ (c .before .before .before .before .pre) (c .before .before .letter2 .given .1)) .1)
-    (λ c. let h = unequal-below _ _ (c .before .before .before .before .before .pre) (c .before .before .before .letter2 .given .1) in let l = h .2 in
+    (λ c.
+    let at-letter2 = c .before .before .before in
+    let at-pre = at-letter2 .before .before in
+    let h = unequal-below _ _ (at-pre .pre) (at-letter2 .letter2 .given .1) in let l = h .2 in
     omega arith)
-    (λ c. (unequal-below _ _ (c .before .before .before .before .before .pre) (c .before .before .before .letter2 .given .1)) .2)
-    (λ c. let h = unequal-below _ _ (c .before .before .before .before .before .pre) (c .before .before .before .letter2 .given .1) in let l = h .2 in
+    (λ c.
+    let at-letter2 = c .before .before .before in
+    let at-pre = at-letter2 .before .before in
+    (unequal-below _ _ (at-pre .pre) (at-letter2 .letter2 .given .1)) .2)
+    (λ c.
+    let at-letter2 = c .before .before .before in
+    let at-pre = at-letter2 .before .before in
+    let h = unequal-below _ _ (at-pre .pre) (at-letter2 .letter2 .given .1) in let l = h .2 in
     omega arith)
     (λ c. noted-unequal _ _ _ _ _ (c .before .before .before .letter2 .given .1))
     (λ c. search needs)

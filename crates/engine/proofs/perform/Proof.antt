@@ -19,8 +19,7 @@ abbrev μ-loop : tie.MeasureT-loop
 
 pub perform-spec : {M : Type 1} → statement M
 perform-spec =
-    tie.close
-    (tie.spec
+    tie.close (tie.spec
     Inv-loop
     μ-loop
     (λ c. search needs)
@@ -28,57 +27,74 @@ perform-spec =
     (λ c κs. search needs)
     (λ c. search needs)
     (λ c. search needs)
-    (λ c. let h = (c .before .before .before .loop-test .taken) in let l = (c .before .before .before .before .before .before .before .pre .0 .few) in
+    (λ c.
+    let at-loop-test = c .before .before .before in
+    let at-pre = at-loop-test .before .before .before .before in
+    let h = (at-loop-test .loop-test .taken) in let l = (at-pre .pre .0 .few) in
     omega arith)
-    (λ c. malformed-at _ _ _ (c .before .before .before .before .before .before .before .pre .0) _ _ _ _ _ _ _ _ _ _ _ _
-    (c .before .before .before .loop-test .taken) (c .before .before .before .before .loop .inv .0) _ (c .before .before .letter-at .ensures)
-    (c .enum-told .given .1))
-    (λ c κs. ready _ _ _ (c .before .before .before .before .before .before .before .before .before .before .before .before .before .before .before .before
-    .before .pre .0) _ _ _ _ _ _ _ _ _ _ _ _
-    (c .before .before .before .before .before .before .before .before .before .before .before .before .before .loop-test .taken)
-    (c .before .before .before .before .before .before .before .before .before .before .before .before .before .before .loop .inv .0) _
-    (c .before .before .before .before .before .before .before .before .before .before .before .before .letter-at .ensures) _
-    (c .before .before .before .before .before .before .before .before .before .before .decoded .given .1))
-    (λ c κs. clash-ready _ _ _ (c .before .before .before .before .before .before .before .before .before .before .before .before .before .before .before
-    .before .before .before .before .before .before .pre .0) _ _ _ _ _ _ _ _ _ _ _ _
-    (c .before .before .before .before .before .before .before .before .before .before .before .before .before .before .before .before .before .loop-test
-    .taken) (c .before .before .before .before .before .before .before .before .before .before .before .before .before .before .before .before .before
-    .before .loop .inv .0) _ (c .before .before .before .before .before .before .before .before .before .before .before .before .before .before .before
-    .before .letter-at .ensures) _ (c .before .before .before .before .before .before .before .before .before .before .before .before .before .before
-    .decoded .given .1) _ _ _ _ _ _ _ _ _ _ (c .before .before .before .step .ensures))
-    (λ c. let h = (c .before .before .before .before .before .before .before .before .before .before .before .before .before .before .before .before .before
-    .before .before .loop-test .taken) in
-    let l = (c .before .before .before .before .before .before .before .before .before .before .before .before .before .before .before .before .before
-    .before .before .before .before .before .before .pre .0 .few) in omega arith)
-    (λ c. stops _ _ _ (c .before .before .before .before .before .before .before .before .before .before .before .before .before .before .before .before .before
-    .before .before .before .before .before .before .pre .0) _ _ _ _ _ _ _ _ _ _ _ _
-    (c .before .before .before .before .before .before .before .before .before .before .before .before .before .before .before .before .before .before
-    .before .loop-test .taken) (c .before .before .before .before .before .before .before .before .before .before .before .before .before .before .before
-    .before .before .before .before .before .loop .inv .0) _
-    (c .before .before .before .before .before .before .before .before .before .before .before .before .before .before .before .before .before .before
-    .letter-at .ensures) _ (c .before .before .before .before .before .before .before .before .before .before .before .before .before .before .before
-    .before .decoded .given .1) _ _ _ _ _ _ _ _ _ _ (c .before .before .before .before .before .step .ensures) _ (c .before .clash .ensures)
-    (c .if1 .taken))
-    (λ c. let h = (c .before .before .before .before .before .before .before .before .before .before .before .before .before .before .before .before .before
-    .before .before .loop-test .taken) in
-    let l = (c .before .before .before .before .before .before .before .before .before .before .before .before .before .before .before .before .before
-    .before .before .before .before .before .before .pre .0 .few) in omega arith)
-    (λ c. let h = (c .before .before .before .before .before .before .before .before .before .before .before .before .before .before .before .before .before
-    .before .before .loop-test .taken) in omega arith)
-    (λ c. (
-      goes-on _ _ _ (c .before .before .before .before .before .before .before .before .before .before .before .before .before .before .before .before
-          .before .before .before .before .before .before .before .pre .0) _ _ _ _ _ _ _ _ _ _ _ _
-          (c .before .before .before .before .before .before .before .before .before .before .before .before .before .before .before .before .before .before
-          .before .loop-test .taken) (c .before .before .before .before .before .before .before .before .before .before .before .before .before .before .before
-          .before .before .before .before .before .loop .inv .0) _
-          (c .before .before .before .before .before .before .before .before .before .before .before .before .before .before .before .before .before .before
-          .letter-at .ensures) _ (c .before .before .before .before .before .before .before .before .before .before .before .before .before .before .before
-          .before .decoded .given .1) _ _ _ _ _ _ _ _ _ _ (c .before .before .before .before .before .step .ensures) _ (c .before .clash .ensures)
+    (λ c.
+    let at-letter-at = c .before .before in
+    let at-loop-test = at-letter-at .before in
+    let at-loop = at-loop-test .before in
+    let at-pre = at-loop .before .before .before in
+    malformed-at _ _ _ (at-pre .pre .0) _ _ _ _ _ _ _ _ _ _ _ _
+    (at-loop-test .loop-test .taken) (at-loop .loop .inv .0) _ (at-letter-at .letter-at .ensures) (c .enum-told .given .1))
+    (λ c κs.
+    let at-decoded = c .before .before .before .before .before .before .before .before .before .before in
+    let at-letter-at = at-decoded .before .before in
+    let at-loop-test = at-letter-at .before in
+    let at-loop = at-loop-test .before in
+    let at-pre = at-loop .before .before .before in
+    ready _ _ _ (at-pre .pre .0) _ _ _ _ _ _ _ _ _ _ _ _
+    (at-loop-test .loop-test .taken) (at-loop .loop .inv .0) _ (at-letter-at .letter-at .ensures) _ (at-decoded .decoded .given .1))
+    (λ c κs.
+    let at-step = c .before .before .before in
+    let at-decoded = at-step .before .before .before .before .before .before .before .before .before .before .before in
+    let at-letter-at = at-decoded .before .before in
+    let at-loop-test = at-letter-at .before in
+    let at-loop = at-loop-test .before in
+    let at-pre = at-loop .before .before .before in
+    clash-ready _ _ _ (at-pre .pre .0) _ _ _ _ _ _ _ _ _ _ _ _
+    (at-loop-test .loop-test .taken) (at-loop .loop .inv .0) _ (at-letter-at .letter-at .ensures) _ (at-decoded
+    .decoded .given .1) _ _ _ _ _ _ _ _ _ _ (at-step .step .ensures))
+    (λ c.
+    let at-loop-test = c .before .before .before .before .before .before .before .before .before .before .before .before .before .before .before
+    .before .before .before .before in
+    let at-pre = at-loop-test .before .before .before .before in
+    let h = (at-loop-test .loop-test .taken) in
+    let l = (at-pre .pre .0 .few) in omega arith)
+    (λ c.
+    let at-step = c .before .before .before .before .before in
+    let at-decoded = at-step .before .before .before .before .before .before .before .before .before .before .before in
+    let at-letter-at = at-decoded .before .before in
+    let at-loop-test = at-letter-at .before in
+    let at-loop = at-loop-test .before in
+    let at-pre = at-loop .before .before .before in
+    stops _ _ _ (at-pre .pre .0) _ _ _ _ _ _ _ _ _ _ _ _
+    (at-loop-test .loop-test .taken) (at-loop .loop .inv .0) _ (at-letter-at
+    .letter-at .ensures) _ (at-decoded .decoded .given .1) _ _ _ _ _ _ _ _ _ _ (at-step .step .ensures) _ (c .before .clash .ensures) (c .if1 .taken))
+    (λ c.
+    let at-loop-test = c .before .before .before .before .before .before .before .before .before .before .before .before .before .before .before
+    .before .before .before .before in
+    let at-pre = at-loop-test .before .before .before .before in
+    let h = (at-loop-test .loop-test .taken) in
+    let l = (at-pre .pre .0 .few) in omega arith)
+    (λ c.
+    let at-loop-test = c .before .before .before .before .before .before .before .before .before .before .before .before .before .before .before
+    .before .before .before .before in
+    let h = (at-loop-test .loop-test .taken) in omega arith)
+    (λ c.
+    let at-step = c .before .before .before .before .before in
+    let at-decoded = at-step .before .before .before .before .before .before .before .before .before .before .before in
+    let at-letter-at = at-decoded .before .before in
+    let at-loop-test = at-letter-at .before in
+    let at-loop = at-loop-test .before in
+    let at-pre = at-loop .before .before .before in (
+      goes-on _ _ _ (at-pre .pre .0) _ _ _ _ _ _ _ _ _ _ _ _ (at-loop-test .loop-test .taken) (at-loop .loop .inv .0) _ (at-letter-at
+          .letter-at .ensures) _ (at-decoded .decoded .given .1) _ _ _ _ _ _ _ _ _ _ (at-step .step .ensures) _ (c .before .clash .ensures)
           (c .if1 .left),
-      (c .before .before .before .before .before .before .before .before .before .before .before .before .before .before .before .before .before .before
-          .before .before .loop .inv .1),
-      (let h = (c .before .before .before .before .before .before .before .before .before .before .before .before .before .before .before .before .before
-          .before .before .loop-test .taken) in omega arith),
+      (at-loop .loop .inv .1),
+      (let h = (at-loop-test .loop-test .taken) in omega arith),
     ))
     (λ c. ends _ _ _ (c .before .before .before .before .pre .0) _ _ _ _ _ _ _ _ _ _ _ _ (c .loop-test .left) (c .before .loop .inv .1)
     (c .before .loop .inv .0)))

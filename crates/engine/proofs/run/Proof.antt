@@ -9,19 +9,15 @@ use Rattle.engine.proofs.run.Tie as tie
 
 pub run-spec : {M : Type 1} → statement M
 run-spec =
-    tie.close
-    (tie.spec
+    tie.close (tie.spec
     (λ c. search needs)
     (λ c κs. registers-few _ _ _ (c .before .before .before .before .pre .0))
-    (λ c κs. (
-      (c .before .before .before .before .before .before .before .before .before .before .before .before .before .before .pre .0),
-      begins _ _ _
-          (c .before .before .before .before .before .before .before .before .before .before .before .before .before .before .pre .0) _ _ _ _ _ _ _ _ _ _ _
-          (c .before .before .before .before .before .before .before .before .before .before .before .before .before .before .pre .1)
-          (c .before .before .before .before .before .before .before .before .before .before .before .before .before .before .pre .2)
-          (c .before .before .before .before .before .before .before .before .before .before .before .before .before .before .pre .3)
-          (c .before .before .before .before .before .before .before .before .before .before .before .before .before .before .pre .4) (search needs)
+    (λ c κs.
+    let at-begin = c .before .before .before .before .before .before .before .before .before in
+    let at-pre = at-begin .before .before .before .before .before in (
+      (at-pre .pre .0),
+      begins _ _ _ (at-pre .pre .0) _ _ _ _ _ _ _ _ _ _ _ (at-pre .pre .1) (at-pre .pre .2) (at-pre .pre .3) (at-pre .pre .4) (search needs)
           (zeros chainCount) (record { long = search needs; zero = zeros mostTerms }) (search needs) (search needs) (search needs) _ refl
-          (c .before .before .before .before .before .before .before .before .before .begin .ensures),
+          (at-begin .begin .ensures),
     ))
     (λ c. search needs))

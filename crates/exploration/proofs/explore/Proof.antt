@@ -42,8 +42,7 @@ loop-holds c = let a = (c .before .before .args) in (
   search needs,
   search needs,
   search needs,
-  ap (λ f. exploreFrom f (a .t1) (a .end) (a .n) 1 0 (a .table .now))
-      (let e : 2 * a .n - 0 ≡ 2 * a .n = omega arith in e),
+  ap (λ f. exploreFrom f (a .t1) (a .end) (a .n) 1 0 (a .table .now)) (let e : 2 * a .n - 0 ≡ 2 * a .n = omega arith in e),
   carried-none _ _,
   index-begins (a .table .now),
 )
@@ -64,14 +63,16 @@ array-copy-out-point : tie.Need-array-copy-out-point Inv-loop μ-loop
 array-copy-out-point c = search needs
 
 one-move-requires : tie.Need-one-move-requires Inv-loop μ-loop
-one-move-requires c κs = (
-  record { most = omega arith; fits = omega arith; listed = omega arith; due = omega arith },
-  (c .before .before .before .before .before .before .before .before .before .before .before .before .pre .3)
-      ((c .before .before .before .before .point-at .result) % mostPoints)
-      ((c .before .before .before .before .before .before .before .before .before .loop .d) % 2),
-  (c .before .before .before .before .before .before .current .ensures),
-  (c .before .before .before .before .before .before .before .before .before .loop .inv .8),
-)
+one-move-requires c κs =
+    let at-point-at = c .before .before .before .before in
+    let at-current = at-point-at .before .before in
+    let at-loop = at-current .before .before .before in
+    let at-pre = at-loop .before .before .before in (
+      record { most = omega arith; fits = omega arith; listed = omega arith; due = omega arith },
+      (at-pre .pre .3) ((at-point-at .point-at .result) % mostPoints) ((at-loop .loop .d) % 2),
+      (at-current .current .ensures),
+      (at-loop .loop .inv .8),
+    )
 
 enum-known-turn : tie.Need-enum-known-turn Inv-loop μ-loop
 enum-known-turn c = search needs
@@ -83,37 +84,34 @@ loop-less : tie.Need-loop-less Inv-loop μ-loop
 loop-less c = search needs
 
 loop-again : tie.Need-loop-again Inv-loop μ-loop
-loop-again c = let a = (c .before .before .before .before .before .before .before .before .before .before .before .before .before .before .before .before
-    .before .before .args) in let l =
-    (c .before .before .before .before .before .before .before .before .before .before .before .before .before .before .before .loop) in
-    let m = (c .before .before .before .before .before .one-move) in let e = (c .before .turn .given .1) in
-    let w = on-within (a .t1) (a .end) (a .n) (l .count) (l .d) (l .table) (omega arith)
-    ((c .before .before .before .before .before .before .before .before .before .before .before .before .before .before .loop-test .taken))
-    (getD (a .t1) ((c .before .before .before .before .before .before .before .before .before .before .point-at .result) % mostPoints) noPoint) (m .result)
-    (m .last .1 .1 .1 .0) (ap (λ k. getD (a .t1) (k % mostPoints) noPoint)
-    ((c .before .before .before .before .before .before .before .before .before .before .point-at .ensures))) (m .ensures .0) (m .ensures .1)
-    ((c .before .turn .given .0 .0)) e in (
+loop-again c =
+    let at-one-move = c .before .before .before .before .before in
+    let at-point-at = at-one-move .before .before .before .before .before in
+    let at-current = at-point-at .before .before in
+    let at-loop-test = at-current .before .before in
+    let at-loop = at-loop-test .before in
+    let at-args = at-loop .before .before .before in
+    let a = (at-args .args) in let l =
+    (at-loop .loop) in
+    let m = (at-one-move .one-move) in let e = (c .before .turn .given .1) in
+    let w = on-within (a .t1) (a .end) (a .n) (l .count) (l .d) (l .table) (omega arith) (at-loop-test .loop-test .taken)
+    (getD (a .t1) ((at-point-at .point-at .result) % mostPoints) noPoint) (m .result)
+    (m .last .1 .1 .1 .0) (ap (λ k. getD (a .t1) (k % mostPoints) noPoint) (at-point-at .point-at .ensures)) (m .ensures .0) (m .ensures .1)
+    (c .before .turn .given .0 .0) e in (
       omega (arith, w .0),
       omega (arith, w .1),
       omega (arith, w .0, l .inv .2),
       search needs,
       search needs,
       search needs,
-      sym
-          (goes-on (a .t1) (a .end) (a .n) (l .count) (l .d) (l .table) (omega arith)
-          ((c .before .before .before .before .before .before .before .before .before .before .before .before .before .before .loop-test .taken))
-          (getD (a .t1) ((c .before .before .before .before .before .before .before .before .before .before .point-at .result) % mostPoints) noPoint)
-          (m .result)
-          (m .last .1 .1 .1 .0) (ap (λ k. getD (a .t1) (k % mostPoints) noPoint)
-          ((c .before .before .before .before .before .before .before .before .before .before .point-at .ensures))) (m .ensures .0) (m .ensures .1)
-          ((c .before .turn .given .0 .0)) e)
+      sym (goes-on (a .t1) (a .end) (a .n) (l .count) (l .d) (l .table) (omega arith) (at-loop-test .loop-test .taken)
+          (getD (a .t1) ((at-point-at .point-at .result) % mostPoints) noPoint) (m .result)
+          (m .last .1 .1 .1 .0) (ap (λ k. getD (a .t1) (k % mostPoints) noPoint) (at-point-at .point-at .ensures)) (m .ensures .0) (m .ensures .1)
+          (c .before .turn .given .0 .0) e)
           ∙ l .inv .6,
-      carried-on ((c .before .before .before .before .before .before .before .before .before .before .before .before .current .result)) (l .d)
-          (l .count) (l .table) (m .result) (m .last .1 .1 .1 .0) _ _
-          ((c .before .before .before .before .before .before .before .before .before .before .before .before .current .ensures))
-          ((c .before .before .before .before .before .before .before .before .before .before .before .before .before .before .loop-test .taken))
-          (m .ensures .2),
-      m .ensures .2 .indexed ((c .before .turn .given .0 .0)) e,
+      carried-on (at-current .current .result) (l .d) (l .count) (l .table) (m .result) (m .last .1 .1 .1 .0) _ _ (at-current .current .ensures)
+          (at-loop-test .loop-test .taken) (m .ensures .2),
+      m .ensures .2 .indexed (c .before .turn .given .0 .0) e,
     )
 
 enum-told : tie.Need-enum-told Inv-loop μ-loop
@@ -123,15 +121,18 @@ same-length : tie.Need-same-length Inv-loop μ-loop
 same-length c = search needs
 
 returns : tie.Need-returns Inv-loop μ-loop
-returns c = let a = (c .before .before .before .before .before .before .before .before .before .before .before .before .before .before .before .before .before
-    .args) in let l = (c .before .before .before .before .before .before .before .before .before .before .before .before .before .before .loop) in
-    let m = (c .before .before .before .before .one-move) in
-    let q = sym (l .inv .6) ∙ ends-full (a .t1) (a .end) (a .n) (l .count) (l .d) (l .table) (omega arith)
-    ((c .before .before .before .before .before .before .before .before .before .before .before .before .before .loop-test .taken))
-    (getD (a .t1) ((c .before .before .before .before .before .before .before .before .before .point-at .result) % mostPoints) noPoint) (m .result)
-    (m .last .1 .1 .1 .0) (ap (λ k. getD (a .t1) (k % mostPoints) noPoint)
-    ((c .before .before .before .before .before .before .before .before .before .point-at .ensures))) (m .ensures .0) (m .ensures .1)
-    ((c .enum-told .given .1)) in (sym (ap (λ z. z .0) q), sym (ap (λ z. z .1) q))
+returns c =
+    let at-one-move = c .before .before .before .before in
+    let at-point-at = at-one-move .before .before .before .before .before in
+    let at-loop-test = at-point-at .before .before .before .before in
+    let at-loop = at-loop-test .before in
+    let at-args = at-loop .before .before .before in
+    let a = (at-args .args) in let l = (at-loop .loop) in
+    let m = (at-one-move .one-move) in
+    let q = sym (l .inv .6) ∙ ends-full (a .t1) (a .end) (a .n) (l .count) (l .d) (l .table) (omega arith) (at-loop-test .loop-test .taken)
+    (getD (a .t1) ((at-point-at .point-at .result) % mostPoints) noPoint) (m .result)
+    (m .last .1 .1 .1 .0) (ap (λ k. getD (a .t1) (k % mostPoints) noPoint) (at-point-at .point-at .ensures)) (m .ensures .0) (m .ensures .1)
+    (c .enum-told .given .1) in (sym (ap (λ z. z .0) q), sym (ap (λ z. z .1) q))
 
 enum-told-2 : tie.Need-enum-told-2 Inv-loop μ-loop
 enum-told-2 c = search needs
@@ -140,15 +141,18 @@ same-length-2 : tie.Need-same-length-2 Inv-loop μ-loop
 same-length-2 c = search needs
 
 returns-2 : tie.Need-returns-2 Inv-loop μ-loop
-returns-2 c = let a = (c .before .before .before .before .before .before .before .before .before .before .before .before .before .before .before .before .before
-    .args) in let l = (c .before .before .before .before .before .before .before .before .before .before .before .before .before .before .loop) in
-    let m = (c .before .before .before .before .one-move) in
-    let q = sym (l .inv .6) ∙ ends-breaking (a .t1) (a .end) (a .n) (l .count) (l .d) (l .table) (omega arith)
-    ((c .before .before .before .before .before .before .before .before .before .before .before .before .before .loop-test .taken))
-    (getD (a .t1) ((c .before .before .before .before .before .before .before .before .before .point-at .result) % mostPoints) noPoint) (m .result)
-    (m .last .1 .1 .1 .0) (ap (λ k. getD (a .t1) (k % mostPoints) noPoint)
-    ((c .before .before .before .before .before .before .before .before .before .point-at .ensures))) (m .ensures .0) (m .ensures .1)
-    ((c .enum-told2 .given .1)) in (sym (ap (λ z. z .0) q), sym (ap (λ z. z .1) q))
+returns-2 c =
+    let at-one-move = c .before .before .before .before in
+    let at-point-at = at-one-move .before .before .before .before .before in
+    let at-loop-test = at-point-at .before .before .before .before in
+    let at-loop = at-loop-test .before in
+    let at-args = at-loop .before .before .before in
+    let a = (at-args .args) in let l = (at-loop .loop) in
+    let m = (at-one-move .one-move) in
+    let q = sym (l .inv .6) ∙ ends-breaking (a .t1) (a .end) (a .n) (l .count) (l .d) (l .table) (omega arith) (at-loop-test .loop-test .taken)
+    (getD (a .t1) ((at-point-at .point-at .result) % mostPoints) noPoint) (m .result)
+    (m .last .1 .1 .1 .0) (ap (λ k. getD (a .t1) (k % mostPoints) noPoint) (at-point-at .point-at .ensures)) (m .ensures .0) (m .ensures .1)
+    (c .enum-told2 .given .1) in (sym (ap (λ z. z .0) q), sym (ap (λ z. z .1) q))
 
 enum-told-3 : tie.Need-enum-told-3 Inv-loop μ-loop
 enum-told-3 c = search needs
@@ -157,15 +161,18 @@ same-length-3 : tie.Need-same-length-3 Inv-loop μ-loop
 same-length-3 c = search needs
 
 returns-3 : tie.Need-returns-3 Inv-loop μ-loop
-returns-3 c = let a = (c .before .before .before .before .before .before .before .before .before .before .before .before .before .before .before .before .before
-    .args) in let l = (c .before .before .before .before .before .before .before .before .before .before .before .before .before .before .loop) in
-    let m = (c .before .before .before .before .one-move) in
-    let q = sym (l .inv .6) ∙ ends-failing (a .t1) (a .end) (a .n) (l .count) (l .d) (l .table) (omega arith)
-    ((c .before .before .before .before .before .before .before .before .before .before .before .before .before .loop-test .taken))
-    (getD (a .t1) ((c .before .before .before .before .before .before .before .before .before .point-at .result) % mostPoints) noPoint) (m .result)
-    (m .last .1 .1 .1 .0) (ap (λ k. getD (a .t1) (k % mostPoints) noPoint)
-    ((c .before .before .before .before .before .before .before .before .before .point-at .ensures))) (m .ensures .0) (m .ensures .1)
-    ((c .enum-told3 .given .1)) in (sym (ap (λ z. z .0) q), sym (ap (λ z. z .1) q))
+returns-3 c =
+    let at-one-move = c .before .before .before .before in
+    let at-point-at = at-one-move .before .before .before .before .before in
+    let at-loop-test = at-point-at .before .before .before .before in
+    let at-loop = at-loop-test .before in
+    let at-args = at-loop .before .before .before in
+    let a = (at-args .args) in let l = (at-loop .loop) in
+    let m = (at-one-move .one-move) in
+    let q = sym (l .inv .6) ∙ ends-failing (a .t1) (a .end) (a .n) (l .count) (l .d) (l .table) (omega arith) (at-loop-test .loop-test .taken)
+    (getD (a .t1) ((at-point-at .point-at .result) % mostPoints) noPoint) (m .result)
+    (m .last .1 .1 .1 .0) (ap (λ k. getD (a .t1) (k % mostPoints) noPoint) (at-point-at .point-at .ensures)) (m .ensures .0) (m .ensures .1)
+    (c .enum-told3 .given .1) in (sym (ap (λ z. z .0) q), sym (ap (λ z. z .1) q))
 
 same-length-4 : tie.Need-same-length-4 Inv-loop μ-loop
 same-length-4 c = search needs
@@ -176,8 +183,7 @@ returns-4 c = let a = (c .before .before .before .before .args) in let l = (c .b
 
 pub explore-spec : {M : Type 1} → statement M
 explore-spec =
-    tie.close
-    (tie.spec
+    tie.close (tie.spec
     Inv-loop
     μ-loop
     fresh-requires

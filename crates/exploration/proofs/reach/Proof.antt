@@ -13,8 +13,8 @@ use Rattle.records.proofs.encode.Reads as encode-reads
 use Rattle.table.proofs.put.Reads as put-reads
 
 returns : tie.Need-returns
-returns c = let a = (c .before .before .args) in let q = reach-ended (a .k) (a .w) (a .end) (a .n) (a .count) (a .d) (a .table .now) ((c .if1 .taken)) in
-    (q .0, q .1, keeps-on _ _ _ _ ((c .before .before .pre .1)))
+returns c = let a = (c .before .before .args) in let q = reach-ended (a .k) (a .w) (a .end) (a .n) (a .count) (a .d) (a .table .now) (c .if1 .taken) in
+    (q .0, q .1, keeps-on _ _ _ _ (c .before .before .pre .1))
 
 encode-requires : tie.Need-encode-requires
 encode-requires c κs = search needs
@@ -26,21 +26,27 @@ same-length : tie.Need-same-length
 same-length c = search needs
 
 returns-2 : tie.Need-returns-2
-returns-2 c = let a = (c .before .before .before .before .before .before .before .before .before .args) in
+returns-2 c =
+    let at-encode = c .before .before .before .before .before .before in
+    let at-args = at-encode .before .before .before in
+    let a = (at-args .args) in
     let q = reach-seen (a .k) (a .w) (a .end) (a .n) (a .count) (a .d) (a .table .now) (omega arith)
-    ((c .before .before .before .before .before .before .encode .result)) ((c .before .is-listed .result))
-    ((c .before .before .before .before .before .before .encode .ensures)) ((c .before .is-listed .ensures)) ((c .if2 .taken)) in
-    (q .0, q .1, keeps-on _ _ _ _ ((c .before .before .before .before .before .before .before .before .before .pre .1)))
+    (at-encode .encode .result) (c .before .is-listed .result) (at-encode .encode .ensures) (c .before .is-listed .ensures) (c .if2 .taken) in
+    (q .0, q .1, keeps-on _ _ _ _ (at-args .pre .1))
 
 same-length-2 : tie.Need-same-length-2
 same-length-2 c = search needs
 
 returns-3 : tie.Need-returns-3
-returns-3 c = let a = (c .before .before .before .before .before .before .before .before .before .before .args) in
+returns-3 c =
+    let at-is-listed = c .before .before in
+    let at-encode = at-is-listed .before .before .before .before .before in
+    let at-args = at-encode .before .before .before in
+    let a = (at-args .args) in
     let q = reach-full (a .k) (a .w) (a .end) (a .n) (a .count) (a .d) (a .table .now) (omega arith)
-    ((c .before .before .before .before .before .before .before .encode .result)) ((c .before .before .is-listed .result))
-    ((c .before .before .before .before .before .before .before .encode .ensures)) ((c .before .before .is-listed .ensures)) ((c .before .if2 .left))
-    ((c .if3 .taken)) in (q .0, q .1, keeps-full _ _ _ _ ((c .before .before .before .before .before .before .before .before .before .before .pre .1)))
+    (at-encode .encode .result) (at-is-listed .is-listed .result)
+    (at-encode .encode .ensures) (at-is-listed .is-listed .ensures) (c .before .if2 .left)
+    (c .if3 .taken) in (q .0, q .1, keeps-full _ _ _ _ (at-args .pre .1))
 
 put-requires : tie.Need-put-requires
 put-requires c κs = search needs
@@ -55,29 +61,26 @@ same-length-3 : tie.Need-same-length-3
 same-length-3 c = search needs
 
 returns-4 : tie.Need-returns-4
-returns-4 c = let a = (c .before .before .before .before .before .before .before .before .before .before .before .before .before .before .before .before .before
-    .before .args) in let q = reach-new (a .k) (a .w) (a .end) (a .n) (a .count) (a .d) (a .table .now) (omega arith)
-    ((c .before .before .before .before .before .before .before .before .before .before .before .before .before .before .before .encode .result))
-    ((c .before .before .before .before .before .before .before .before .before .before .is-listed .result))
-    ((c .before .before .before .before .before .before .before .before .before .before .before .before .before .before .before .encode .ensures))
-    ((c .before .before .before .before .before .before .before .before .before .before .is-listed .ensures))
-    ((c .before .before .before .before .before .before .before .before .before .if2 .left))
-    ((c .before .before .before .before .before .before .before .before .if3 .left)) ((c .before .before .before .before .before .before .put .last .0))
-    ((c .before .before .before .before .before .before .put .ensures)) in (
+returns-4 c =
+    let at-put = c .before .before .before .before .before .before in
+    let at-if3 = at-put .before .before in
+    let at-if2 = at-if3 .before in
+    let at-is-listed = at-if2 .before in
+    let at-encode = at-is-listed .before .before .before .before .before in
+    let at-args = at-encode .before .before .before in
+    let a = (at-args .args) in let q = reach-new (a .k) (a .w) (a .end) (a .n) (a .count) (a .d) (a .table .now) (omega arith)
+    (at-encode .encode .result) (at-is-listed .is-listed .result) (at-encode .encode .ensures) (at-is-listed .is-listed .ensures) (at-if2 .if2 .left)
+    (at-if3 .if3 .left) (at-put .put .last .0) (at-put .put .ensures) in (
       q .0,
       q .1,
-      keeps-new _ _ _ _ ((c .before .before .before .before .before .before .before .before .before .before .before .before .before .before .before
-          .before .before .before .pre .1))
-          ((c .before .before .before .before .before .before .before .before .before .before .before .before .before .before .before .encode
-          .result)) (a .d / 2)
-          (a .d % 2) (search needs) (omega arith) (omega arith) ((c .before .before .before .before .before .before .put .last .0)) ((c .enter .last .0))
-          ((c .enter .last .1 .0)) ((c .before .before .before .before .before .before .put .ensures)) ((c .enter .ensures .0)) ((c .enter .ensures .1)),
+      keeps-new _ _ _ _ (at-args .pre .1) ((at-encode .encode .result)) (a .d / 2)
+          (a .d % 2) (search needs) (omega arith) (omega arith) (at-put .put .last .0) (c .enter .last .0)
+          (c .enter .last .1 .0) (at-put .put .ensures) (c .enter .ensures .0) (c .enter .ensures .1),
     )
 
 pub reach-spec : {M : Type 1} → statement M
 reach-spec =
-    tie.close
-    (tie.spec
+    tie.close (tie.spec
     returns
     encode-requires
     is-listed-requires

@@ -7,13 +7,13 @@ use Rattle.files.proofs.read_piece.Tie as tie
 
 pub read-piece-spec : {M : Type 1} → statement M
 read-piece-spec =
-    tie.close
-    (tie.spec
+    tie.close (tie.spec
     (λ c. search needs)
     (λ c. let start = c .before .before in sym (length-take-le (start .args .most) (start .args .piece .now) (start .pre .1)))
     (λ c κs. search needs)
     (λ c κs. search needs)
     (λ c. search needs)
     (λ c.
-    let start = c .before .before .before .before .before .before in
+    let at-before = c .before .before .before .before .before in
+    let start = at-before .before in
     gave _ (start .args .most) (c .outcome .result) (c .outcome .ensures) (start .pre .0)))

@@ -1,4 +1,4 @@
--- What follows from the definitions of specs/WordLaws.antt.
+-- Decoding and encoding are inverse on words: a word is read as the one well-formed header or letter that packs to it, and refused if there is none.
 use mathlib.Core.Path.{_≡_, refl, sym, ap, _∙_, subst}
 use mathlib.Core.Logic.{_↔_}
 use Prim.Native.Nat.{ℕ, zero, suc, _/_, _%_, _^_, _<_}

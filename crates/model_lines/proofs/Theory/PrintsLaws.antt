@@ -1,4 +1,4 @@
--- What follows from the definitions of specs/PrintsLaws.antt.
+-- The line that is written is that of the trace.
 use mathlib.Core.Path.{_≡_, refl, sym, ap, _∙_, subst}
 use mathlib.Core.List.{List, [], _∷_, _++_, append-nil, reverse}
 use Prim.Native.Nat.{ℕ, _+_, _*_, _/_, _%_, _^_, _≤_, _<_}

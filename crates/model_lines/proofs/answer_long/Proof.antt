@@ -9,28 +9,36 @@ use Rattle.model_lines.proofs.answer_long.Tie as tie
 
 pub answer-long-spec : {M : Type 1} → statement M
 answer-long-spec =
-    tie.close
-    (tie.spec
+    tie.close (tie.spec
     (λ c. search needs)
     (λ c κs. search needs)
     (λ c. search needs)
     (λ c κs. search needs)
-    (λ c. least-length oddRead (c .before .least .result) (c .before .before .before .before .before .before .args .trace .now) (c .before .least .ensures))
+    (λ c.
+    let at-args = c .before .before .before .before .before .before in
+    least-length oddRead (c .before .least .result) (at-args .args .trace .now) (c .before .least .ensures))
     (λ c κs. search needs)
     (λ c. search needs)
     (λ c. search needs)
     (λ c.
-    let a = c .before .before .before .before .before .before .before .before .args in
-    let wrote = c .before .before .write-line in
+    let at-write-line = c .before .before in
+    let at-enum-told = at-write-line .before .before in
+    let at-args = at-enum-told .before .before .before .before in
+    let a = at-args .args in
+    let wrote = at-write-line .write-line in
     answers-bytes PrintsModelLine (knownLong (a .rest) (a .trace .now)) (a .trace .now) (a .line .now) (wrote .last .1 .0) (wrote .result)
-    (ap (λ (r : Rest). knownLong r (a .trace .now)) (c .before .before .before .before .enum-told .given .1)) (wrote .ensures))
+    (ap (λ (r : Rest). knownLong r (a .trace .now)) (at-enum-told .enum-told .given .1)) (wrote .ensures))
     (λ c. search needs)
     (λ c.
-    let a = c .before .before .before .before .before .before .before .before .before .before .args in
-    let wrote = c .before .before .write-line2 in
-    let end = c .before .before .before .before .before .least in
+    let at-write-line2 = c .before .before in
+    let at-least = at-write-line2 .before .before .before in
+    let at-enum-told2 = at-least .before in
+    let at-args = at-enum-told2 .before .before .before .before in
+    let a = at-args .args in
+    let wrote = at-write-line2 .write-line2 in
+    let end = at-least .least in
     answers-first PrintsModelLine (knownLong (a .rest) (a .trace .now)) (a .trace .now) (a .line .now) (wrote .last .1 .0) oddRead (end .result) (wrote .result)
-    (ap (λ (r : Rest). knownLong r (a .trace .now)) (c .before .before .before .before .before .before .enum-told2 .given .1)) (end .ensures) (wrote .ensures))
+    (ap (λ (r : Rest). knownLong r (a .trace .now)) (at-enum-told2 .enum-told2 .given .1)) (end .ensures) (wrote .ensures))
     (λ c.
     let a = c .before .before .before .before .args in
     answers-unread PrintsModelLine (knownLong (a .rest) (a .trace .now)) (a .line .now) (a .line .now)

@@ -13,18 +13,20 @@ use Rattle.model_lines.proofs.put_answer.Tie as tie
 
 pub put-answer-spec : {M : Type 1} → statement M
 put-answer-spec =
-    tie.close
-    (tie.spec
+    tie.close (tie.spec
     (λ c. search needs)
     (λ c.
-    let start = c .before .before .before .before .before .before .before in
-    let n = c .before .before .before .answer .given in
-    sym
-    (length-take-le (n .0 .0) (start .args .model .now)
+    let at-answer = c .before .before .before in
+    let at-before = at-answer .before .before .before in
+    let start = at-before .before in
+    let n = at-answer .answer .given in
+    sym (length-take-le (n .0 .0) (start .args .model .now)
     (model-held (start .args .answer) (n .0 .0) (length (start .args .model .now)) (n .1) (start .pre) .0)))
     (λ c κs.
-    let start = c .before .before .before .before .before .before .before in
-    let n = c .before .before .before .answer .given in
+    let at-answer = c .before .before .before in
+    let at-before = at-answer .before .before .before in
+    let start = at-before .before in
+    let n = at-answer .answer .given in
     let h = model-held (start .args .answer) (n .0 .0) (length (start .args .model .now)) (n .1) (start .pre) in
     model-room (n .0 .0) (start .args .model .now) (h .0) (h .1))
     (λ c. search needs)
@@ -43,26 +45,34 @@ put-answer-spec =
     room-same (refused-form (v .0) (v .1 .0)) (few-room (refused-few (v .0) (v .1 .0) (omega (arith, f .fits)) (g .fits))))
     (λ c. appended-length (c .before .before .put-model .ensures))
     (λ c.
-    let start = c .before .before .before .before .before .before .before .before .before .before in
-    let n = c .before .before .before .before .before .before .answer .given in
-    let put = c .before .before .put-model in
+    let at-put-model = c .before .before in
+    let at-answer = at-put-model .before .before .before .before in
+    let at-before = at-answer .before .before .before in
+    let start = at-before .before in
+    let n = at-answer .answer .given in
+    let put = at-put-model .put-model in
     wrote-model (start .args .out .now) (start .args .model .now) (put .last .0) (start .args .answer) (put .result) (n .0 .0) (n .1) (start .pre)
     (put .ensures))
     (λ c. appended-length (c .before .before .put-line .ensures))
     (λ c.
-    let start = c .before .before .before .before .before .before .before .before .before .before in
-    let k = c .before .before .before .before .before .before .answer2 .given in
-    let put = c .before .before .put-line in
+    let at-put-line = c .before .before in
+    let at-answer2 = at-put-line .before .before .before .before in
+    let at-before = at-answer2 .before .before .before in
+    let start = at-before .before in
+    let k = at-answer2 .answer2 .given in
+    let put = at-put-line .put-line in
     let f : Fits w64 (k .0 .0) = search needs in
     wrote-infeasible (start .args .out .now) (start .args .model .now) (put .last .0) (start .args .answer) (put .result) (k .0 .0) (k .1) (f .fits)
     (appended-same (sym (infeasible-form (k .0 .0))) (put .ensures)))
     (λ c. appended-length (c .before .before .put-line2 .ensures))
     (λ c.
-    let start = c .before .before .before .before .before .before .before .before .before .before in
-    let v = c .before .before .before .before .before .before .answer3 .given in
-    let put = c .before .before .put-line2 in
+    let at-put-line2 = c .before .before in
+    let at-answer3 = at-put-line2 .before .before .before .before in
+    let at-before = at-answer3 .before .before .before in
+    let start = at-before .before in
+    let v = at-answer3 .answer3 .given in
+    let put = at-put-line2 .put-line2 in
     let f : Fits w8 (v .0 .0) = search needs in
     let g : Fits w64 (v .0 .1 .0) = search needs in
     wrote-refused (start .args .out .now) (start .args .model .now) (put .last .0) (start .args .answer) (put .result) (v .0 .0) (v .0 .1 .0) (v .1)
-    (omega (arith, f .fits)) (g .fits)
-    (appended-same (sym (refused-form (v .0 .0) (v .0 .1 .0))) (put .ensures))))
+    (omega (arith, f .fits)) (g .fits) (appended-same (sym (refused-form (v .0 .0) (v .0 .1 .0))) (put .ensures))))

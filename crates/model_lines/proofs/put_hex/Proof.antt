@@ -15,25 +15,30 @@ abbrev μ-loop : tie.MeasureT-loop
 
 pub put-hex-spec : {M : Type 1} → statement M
 put-hex-spec =
-    tie.close
-    (tie.spec
+    tie.close (tie.spec
     Inv-loop
     μ-loop
     (λ c. left-all _ _ _)
     (λ c. search needs)
     (λ c κs.
-    let a = c .before .before .before .before .before .before in
-    let l = c .before .before .before .loop in
+    let at-loop-test = c .before .before in
+    let at-loop = at-loop-test .before in
+    let at-before = at-loop .before .before in
+    let a = at-before .before in
+    let l = at-loop .loop in
     left-room (octetText (getD (a .args .bytes .now) (l .i) 0)) (hexText (drop (l .i + 1) (a .args .bytes .now)))
-    (a .pre) (left-same (hex-next (a .args .bytes .now) (l .i) (c .before .before .loop-test .taken)) (l .inv)))
+    (a .pre) (left-same (hex-next (a .args .bytes .now) (l .i) (at-loop-test .loop-test .taken)) (l .inv)))
     (λ c. search needs)
     (λ c. search needs)
     (λ c.
-    let a = c .before .before .before .before .before .before .before .before .before in
-    let l = c .before .before .before .before .before .before .loop in
+    let at-put-octet = c .before .before in
+    let at-loop-test = at-put-octet .before .before .before in
+    let at-loop = at-loop-test .before in
+    let at-before = at-loop .before .before in
+    let a = at-before .before in
+    let l = at-loop .loop in
     left-next (octetText (getD (a .args .bytes .now) (l .i) 0)) (hexText (drop (l .i + 1) (a .args .bytes .now)))
-    (left-same (hex-next (a .args .bytes .now) (l .i) (c .before .before .before .before .before .loop-test .taken)) (l .inv))
-    (c .before .before .put-octet .ensures))
+    (left-same (hex-next (a .args .bytes .now) (l .i) (at-loop-test .loop-test .taken)) (l .inv)) (at-put-octet .put-octet .ensures))
     (λ c. left-length (c .before .loop .inv))
     (λ c.
     let a = c .before .before .before .before in

@@ -20,14 +20,15 @@ form c =
 
 pub put-octet-spec : {M : Type 1} → statement M
 put-octet-spec =
-    tie.close
-    (tie.spec
+    tie.close (tie.spec
     (λ c κs. search needs)
     (λ c κs. search needs)
     (λ c κs. search needs)
     (λ c. search needs)
     (λ c. omega (arith, c .before .before .digit2 .ensures .1))
     (λ c. omega (arith, c .before .before .digit2 .ensures .1, c .before .before .before .digit .ensures .1))
-    (λ c κs. room-same (form (c .before .before)) (c .before .before .before .before .before .before .pre))
+    (λ c κs.
+    let at-pre = c .before .before .before .before .before .before in
+    room-same (form (c .before .before)) (at-pre .pre))
     (λ c. appended-length (c .before .before .put-line .ensures))
     (λ c. appended-same (sym (form (c .before .before .before .before .before))) (c .before .before .put-line .ensures)))

@@ -15,8 +15,7 @@ abbrev μ-loop : tie.MeasureT-loop
 
 pub list-spec : {M : Type 1} → statement M
 list-spec =
-    tie.close
-    (tie.spec
+    tie.close (tie.spec
     Inv-loop
     μ-loop
     (λ c κs. search needs)
@@ -27,16 +26,31 @@ list-spec =
     omega arith)
     (λ c. let h = (c .loop-test .taken) in let w = (c .before .before .before .before .pre .formed .within) in let f = (c .before .loop .inv .few) in
     omega arith)
-    (λ c κs. let h = (c .before .before .loop-test .taken) in let l = (c .before .before .before .loop .inv .least) in (
-      formed-part _ (c .before .before .before .before .before .before .pre .formed) (omega arith) (omega arith),
+    (λ c κs.
+    let at-loop-test = c .before .before in
+    let at-loop = at-loop-test .before in
+    let at-pre = at-loop .before .before .before in
+    let h = (at-loop-test .loop-test .taken) in let l = (at-loop .loop .inv .least) in (
+      formed-part _ (at-pre .pre .formed) (omega arith) (omega arith),
       l,
-      (c .before .before .before .loop .inv .indexed),
+      (at-loop .loop .inv .indexed),
     ))
-    (λ c. let h = (c .before .before .before .loop-test .taken) in let w = (c .before .before .before .before .before .before .before .pre .formed .within) in
-    let f = (c .before .before .before .before .loop .inv .few) in let b = new-le _ _ _ _ _ _ _ (c .new-row .ensures .is) in omega arith)
-    (λ c. let h = (c .before .before .before .loop-test .taken) in let w = (c .before .before .before .before .before .before .before .pre .formed .within) in
+    (λ c.
+    let at-loop-test = c .before .before .before in
+    let at-loop = at-loop-test .before in
+    let at-pre = at-loop .before .before .before in
+    let h = (at-loop-test .loop-test .taken) in let w = (at-pre .pre .formed .within) in
+    let f = (at-loop .loop .inv .few) in let b = new-le _ _ _ _ _ _ _ (c .new-row .ensures .is) in omega arith)
+    (λ c.
+    let at-loop-test = c .before .before .before in
+    let at-pre = at-loop-test .before .before .before .before in
+    let h = (at-loop-test .loop-test .taken) in let w = (at-pre .pre .formed .within) in
     omega arith)
     (λ c. let h = (c .before .before .before .loop-test .taken) in omega arith)
-    (λ c. listed-turn _ _ _ _ _ _ _ _ (c .before .before .before .before .loop .inv) (c .before .before .before .loop-test .taken)
-    (c .before .before .before .before .before .before .before .pre .formed .within) (c .new-row .ensures))
+    (λ c.
+    let at-loop-test = c .before .before .before in
+    let at-loop = at-loop-test .before in
+    let at-pre = at-loop .before .before .before in
+    listed-turn _ _ _ _ _ _ _ _ (at-loop .loop .inv) (at-loop-test .loop-test .taken)
+    (at-pre .pre .formed .within) (c .new-row .ensures))
     (λ c. listed-end _ _ _ _ _ (c .before .loop .inv) (c .loop-test .left)))

@@ -18,8 +18,7 @@ abbrev μ-loop : tie.MeasureT-loop
 
 pub number-spec : {M : Type 1} → statement M
 number-spec =
-    tie.close
-    (tie.spec
+    tie.close (tie.spec
     Inv-loop
     μ-loop
     (λ c. (search needs, written-none _ _ _ _ (c .pre .room), classes-none _))
@@ -28,19 +27,24 @@ number-spec =
     (λ c. let h = (c .before .before .loop-test .taken) in let w = (c .before .before .before .before .pre .within) in omega arith)
     (λ c. let h = (c .before .before .loop-test .taken) in let w = (c .before .before .before .before .pre .within) in omega arith)
     (λ c κs. let h = (c .before .before .loop-test .taken) in let w = (c .before .before .before .before .pre .within) in omega arith)
-    (λ c. let h = (c .before .before .before .loop-test .taken) in let w = (c .before .before .before .before .before .pre .within) in
-    let e = (c .before .before .before .before .loop .inv .2) in let g = (c .new-class .ensures) in
-    let a = classes-le (c .before .before .before .before .before .args .representative .now) (c .before .before .before .before .loop .i) in
-    let b = new-class-le (c .before .before .before .before .before .args .representative .now) (c .before .before .before .before .loop .i) in omega arith)
+    (λ c.
+    let at-loop-test = c .before .before .before in
+    let at-loop = at-loop-test .before in
+    let at-pre = at-loop .before in
+    let h = (at-loop-test .loop-test .taken) in let w = (at-pre .pre .within) in
+    let e = (at-loop .loop .inv .2) in let g = (c .new-class .ensures) in
+    let a = classes-le (at-pre .args .representative .now) (at-loop .loop .i) in
+    let b = new-class-le (at-pre .args .representative .now) (at-loop .loop .i) in omega arith)
     (λ c. let h = (c .before .before .before .loop-test .taken) in omega arith)
     (λ c. let h = (c .before .before .before .loop-test .taken) in omega arith)
-    (λ c. let h = (c .before .before .before .loop-test .taken) in let w = (c .before .before .before .before .before .pre .within) in (
+    (λ c.
+    let at-loop-test = c .before .before .before in
+    let at-loop = at-loop-test .before in
+    let at-pre = at-loop .before in
+    let h = (at-loop-test .loop-test .taken) in let w = (at-pre .pre .within) in (
       omega arith,
-      written-more _ _ _ _ _ _ (c .before .before .before .before .loop .inv .1) (omega arith)
-          ((c .before .value-of .ensures)
-          ∙ chosen-is _ _ (c .before .before .before .before .before .pre .lowest) (c .before .before .before .before .before .pre .own) _ _ _ h
-          (c .before .before .before .before .loop .inv .1) (c .before .before .before .before .loop .inv .2)),
-      next-is _ _ _ _
-          (c .before .before .before .before .loop .inv .2) (c .new-class .ensures),
+      written-more _ _ _ _ _ _ (at-loop .loop .inv .1) (omega arith) ((c .before .value-of .ensures)
+          ∙ chosen-is _ _ (at-pre .pre .lowest) (at-pre .pre .own) _ _ _ h (at-loop .loop .inv .1) (at-loop .loop .inv .2)),
+      next-is _ _ _ _ (at-loop .loop .inv .2) (c .new-class .ensures),
     ))
     (λ c. valued-end _ _ _ _ _ (c .before .loop .inv .0) (c .loop-test .left) (c .before .loop .inv .1) (c .before .loop .inv .2)))

@@ -7,14 +7,16 @@ use Rattle.model_writer.proofs.show.Tie as tie
 
 pub show-spec : {M : Type 1} → statement M
 show-spec =
-    tie.close
-    (tie.spec
+    tie.close (tie.spec
     (λ c κs. search needs)
     (λ c. search needs)
     (λ c. search needs)
     (λ c. let h = bytes-enough _ _ (c .before .before .before .read-beginning .ensures) [] (c .before .begun2 .given .1) in omega arith)
     (λ c. showed-long _ _ (c .before .before .before .before .read-beginning .ensures) _ (c .before .before .begun2 .given .1) (c .if1 .taken))
-    (λ c κs. begun _ _ (c .before .before .before .before .before .read-beginning .ensures) [] (c .before .before .before .begun2 .given .1)
+    (λ c κs.
+    let at-begun2 = c .before .before .before in
+    let at-read-beginning = at-begun2 .before .before in
+    begun _ _ (at-read-beginning .read-beginning .ensures) [] (at-begun2 .begun2 .given .1)
     (c .before .if1 .left))
     (λ c. showed-refused _ _ (c .before .before .before .read-beginning .ensures) _ (c .before .begun .given .1))
     (λ c. search needs)

@@ -6,16 +6,23 @@ use Rattle.model_writer.proofs.show_model.Tie as tie
 
 pub show-model-spec : {M : Type 1} → statement M
 show-model-spec =
-    tie.close
-    (tie.spec
+    tie.close (tie.spec
     (λ c. search needs)
     (λ c κs. search needs)
     (λ c κs. search needs)
     (λ c κs. search needs)
     (λ c κs. search needs)
-    (λ c κs. puttable _ _ _ _ _ _ (c .before .before .before .before .before .before .before .before .before .before .before .pre) _ _ _ _
-    (c .before .before .before .before .before .number .ensures) (c .before .before .before .list .ensures) _)
+    (λ c κs.
+    let at-list = c .before .before .before in
+    let at-number = at-list .before .before in
+    let at-pre = at-number .before .before .before .before .before .before in
+    puttable _ _ _ _ _ _ (at-pre .pre) _ _ _ _
+    (at-number .number .ensures) (at-list .list .ensures) _)
     (λ c. search needs)
-    (λ c. put-modelled _ _ _ _ _ _ (c .before .before .before .before .before .before .before .before .before .before .before .before .before .before .pre) _ _
-    _ _ (c .before .before .before .before .before .before .before .before .number .ensures)
-    (c .before .before .before .before .before .before .list .ensures) _ _ _ (c .before .before .put-model .ensures)))
+    (λ c.
+    let at-put-model = c .before .before in
+    let at-list = at-put-model .before .before .before .before in
+    let at-number = at-list .before .before in
+    let at-pre = at-number .before .before .before .before .before .before in
+    put-modelled _ _ _ _ _ _ (at-pre .pre) _ _
+    _ _ (at-number .number .ensures) (at-list .list .ensures) _ _ _ (at-put-model .put-model .ensures)))

@@ -7,8 +7,7 @@ use Rattle.model_writer.proofs.show_trace.Tie as tie
 
 pub show-trace-spec : {M : Type 1} → statement M
 show-trace-spec =
-    tie.close
-    (tie.spec
+    tie.close (tie.spec
     (λ c κs. search needs)
     (λ c κs. search needs)
     (λ c κs. search needs)
@@ -18,15 +17,28 @@ show-trace-spec =
     (λ c. search needs)
     (λ c κs. search needs)
     (λ c. search needs)
-    (λ c κs. known _ _ _ (c .before .before .before .before .before .before .before .before .before .before .before .before .before .before .before .before
-    .before .before .before .pre) [] _ (c .before .before .before .before .before .before .before .before .run .ensures)
-    (c .before .before .before .before .before .before .outcome3 .given .1))
-    (λ c. showed-malformed _ _ _ (c .before .before .before .before .before .before .before .before .before .before .before .before .before .before .pre) _ _
-    (c .before .before .before .run .ensures) (c .before .outcome .given .1))
-    (λ c. showed-stopped _ _ _ (c .before .before .before .before .before .before .before .before .before .before .before .before .before .before .before .pre)
-    _ _ (c .before .before .before .before .run .ensures) (c .before .before .outcome2 .given .1) _ (c .name-infeasible .ensures))
+    (λ c κs.
+    let at-outcome3 = c .before .before .before .before .before .before in
+    let at-run = at-outcome3 .before .before in
+    let at-pre = at-run .before .before .before .before .before .before .before .before .before .before .before in
+    known _ _ _ (at-pre .pre) [] _ (at-run .run .ensures)
+    (at-outcome3 .outcome3 .given .1))
+    (λ c.
+    let at-run = c .before .before .before in
+    let at-pre = at-run .before .before .before .before .before .before .before .before .before .before .before in
+    showed-malformed _ _ _ (at-pre .pre) _ _
+    (at-run .run .ensures) (c .before .outcome .given .1))
+    (λ c.
+    let at-outcome2 = c .before .before in
+    let at-run = at-outcome2 .before .before in
+    let at-pre = at-run .before .before .before .before .before .before .before .before .before .before .before in
+    showed-stopped _ _ _ (at-pre .pre)
+    _ _ (at-run .run .ensures) (at-outcome2 .outcome2 .given .1) _ (c .name-infeasible .ensures))
     (λ c. search needs)
-    (λ c. showed-model _ _ _ (c .before .before .before .before .before .before .before .before .before .before .before .before .before .before .before .before
-    .before .before .before .before .before .before .pre) _ _
-    (c .before .before .before .before .before .before .before .before .before .before .before .run .ensures)
-    (c .before .before .before .before .before .before .before .before .before .outcome3 .given .1) _ _ (c .before .before .show-model .ensures)))
+    (λ c.
+    let at-show-model = c .before .before in
+    let at-outcome3 = at-show-model .before .before .before .before .before .before .before in
+    let at-run = at-outcome3 .before .before in
+    let at-pre = at-run .before .before .before .before .before .before .before .before .before .before .before in
+    showed-model _ _ _ (at-pre .pre) _ _
+    (at-run .run .ensures) (at-outcome3 .outcome3 .given .1) _ _ (at-show-model .show-model .ensures)))

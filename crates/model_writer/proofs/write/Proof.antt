@@ -6,8 +6,7 @@ use Rattle.model_writer.proofs.write.Tie as tie
 
 pub write-spec : {M : Type 1} → statement M
 write-spec =
-    tie.close
-    (tie.spec
+    tie.close (tie.spec
     (λ c. search needs)
     (λ c κs. search needs)
     (λ c. search needs)
@@ -17,8 +16,12 @@ write-spec =
     (λ c. search needs)
     (λ c κs. search needs)
     (λ c. search needs)
-    (λ c. whole _ _ _ _ _ _ _ _ _ _ _ _ _
-    (c .before .before .before .before .before .before .before .before .before .before .before .before .before .before .before .before .before .before .pre)
-    (c .before .before .before .before .before .before .before .before .before .before .before .before .before .before .put-word .ensures)
-    (c .before .before .before .before .before .before .before .before .before .before .put-word2 .ensures)
-    (c .before .before .before .before .before .before .write-starts .ensures) (c .before .before .write-rows .ensures)))
+    (λ c.
+    let at-write-rows = c .before .before in
+    let at-write-starts = at-write-rows .before .before .before .before in
+    let at-put-word2 = at-write-starts .before .before .before .before in
+    let at-put-word = at-put-word2 .before .before .before .before in
+    let at-pre = at-put-word .before .before .before .before in
+    whole _ _ _ _ _ _ _ _ _ _ _ _ _
+    (at-pre .pre) (at-put-word .put-word .ensures) (at-put-word2 .put-word2 .ensures)
+    (at-write-starts .write-starts .ensures) (at-write-rows .write-rows .ensures)))

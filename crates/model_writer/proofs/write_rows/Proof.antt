@@ -18,31 +18,52 @@ abbrev μ-loop : tie.MeasureT-loop
 
 pub write-rows-spec : {M : Type 1} → statement M
 write-rows-spec =
-    tie.close
-    (tie.spec
+    tie.close (tie.spec
     Inv-loop
     μ-loop
     (λ c. (search needs, units-none))
     (λ c. let h = (c .loop-test .taken) in let f = (c .before .before .before .pre .few) in omega arith)
     (λ c. let h = (c .loop-test .taken) in let f = (c .before .before .before .pre .few) in omega arith)
     (λ c κs. search needs)
-    (λ c κs. subst (RowIn _ _ _ _) (sym (c .wide .ensures)) ((c .before .before .before .before .before .pre .each) _ (c .before .before .loop-test .taken)))
-    (λ c. let h = (c .before .before .before .before .loop-test .taken) in let f = (c .before .before .before .before .before .before .before .pre .few) in
+    (λ c κs.
+    let at-loop-test = c .before .before in
+    let at-pre = at-loop-test .before .before .before in
+    subst (RowIn _ _ _ _) (sym (c .wide .ensures)) ((at-pre .pre .each) _ (at-loop-test .loop-test .taken)))
+    (λ c.
+    let at-loop-test = c .before .before .before .before in
+    let at-pre = at-loop-test .before .before .before in
+    let h = (at-loop-test .loop-test .taken) in let f = (at-pre .pre .few) in
     omega arith)
-    (λ c. let h = (c .before .before .before .before .loop-test .taken) in let f = (c .before .before .before .before .before .before .before .pre .few) in
-    let p = (c .before .before .before .before .before .before .before .pre .place) in omega arith)
-    (λ c κs. rows-room _ _ _ _ _ _ _ _ _ (c .before .before .before .before .before .before .before .pre) _ _
-    (c .before .before .before .before .before .loop .inv .1) (c .before .before .before .before .loop-test .taken))
-    (λ c. let h = (c .before .before .before .before .before .before .before .loop-test .taken) in
-    let f = (c .before .before .before .before .before .before .before .before .before .before .pre .few) in omega arith)
-    (λ c. let h = (c .before .before .before .before .before .before .before .loop-test .taken) in omega arith)
-    (λ c. (
-      let h = (c .before .before .before .before .before .before .before .loop-test .taken) in
+    (λ c.
+    let at-loop-test = c .before .before .before .before in
+    let at-pre = at-loop-test .before .before .before in
+    let h = (at-loop-test .loop-test .taken) in let f = (at-pre .pre .few) in
+    let p = (at-pre .pre .place) in omega arith)
+    (λ c κs.
+    let at-loop-test = c .before .before .before .before in
+    let at-loop = at-loop-test .before in
+    let at-pre = at-loop .before .before in
+    rows-room _ _ _ _ _ _ _ _ _ (at-pre .pre) _ _
+    (at-loop .loop .inv .1) (at-loop-test .loop-test .taken))
+    (λ c.
+    let at-loop-test = c .before .before .before .before .before .before .before in
+    let at-pre = at-loop-test .before .before .before in
+    let h = (at-loop-test .loop-test .taken) in
+    let f = (at-pre .pre .few) in omega arith)
+    (λ c.
+    let at-loop-test = c .before .before .before .before .before .before .before in
+    let h = (at-loop-test .loop-test .taken) in omega arith)
+    (λ c.
+    let at-put-five = c .before .before in
+    let at-row-word = at-put-five .before .before in
+    let at-wide = at-row-word .before in
+    let at-loop-test = at-wide .before .before in
+    let at-loop = at-loop-test .before in
+    let at-pre = at-loop .before .before in (
+      let h = (at-loop-test .loop-test .taken) in
           omega arith,
-      rows-turn _ _ _ _ _ _ _ _ _ (c .before .before .before .before .before .before .before .before .before .before .pre) _ _ _ _ _
-          (c .before .before .before .before .before .before .before .before .loop .inv .1)
-          (c .before .before .before .before .before .before .before .loop-test .taken) (c .before .before .before .before .before .wide .ensures)
-          (c .before .before .before .before .row-word .ensures) (c .before .before .put-five .ensures),
+      rows-turn _ _ _ _ _ _ _ _ _ (at-pre .pre) _ _ _ _ _ (at-loop .loop .inv .1) (at-loop-test .loop-test .taken) (at-wide .wide .ensures)
+          (at-row-word .row-word .ensures) (at-put-five .put-five .ensures),
     ))
     (λ c. search needs)
     (λ c. rows-end _ _ _ _ _ _ _ _ _ (c .before .before .before .pre) _ _ (c .before .loop .inv .1) (c .loop-test .left)))

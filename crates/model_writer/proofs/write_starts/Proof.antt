@@ -15,8 +15,7 @@ abbrev μ-loop : tie.MeasureT-loop
 
 pub write-starts-spec : {M : Type 1} → statement M
 write-starts-spec =
-    tie.close
-    (tie.spec
+    tie.close (tie.spec
     Inv-loop
     μ-loop
     (λ c. (search needs, units-none))
@@ -25,17 +24,28 @@ write-starts-spec =
     let p = (c .before .before .before .before .pre .place) in omega arith)
     (λ c. let h = (c .before .loop-test .taken) in let f = (c .before .before .before .before .pre .few) in omega arith)
     (λ c. let h = (c .before .loop-test .taken) in let f = (c .before .before .before .before .pre .few) in omega arith)
-    (λ c κs. starts-room _ _ _ _ (c .before .before .before .before .before .pre) _ _ (c .before .before .before .loop .inv .1)
-    (c .before .before .loop-test .taken))
-    (λ c. let h = (c .before .before .before .before .before .loop-test .taken) in
-    let f = (c .before .before .before .before .before .before .before .before .pre .few) in omega arith)
-    (λ c. let h = (c .before .before .before .before .before .loop-test .taken) in omega arith)
-    (λ c. (
-      let h = (c .before .before .before .before .before .loop-test .taken) in
+    (λ c κs.
+    let at-loop-test = c .before .before in
+    let at-loop = at-loop-test .before in
+    let at-pre = at-loop .before .before in
+    starts-room _ _ _ _ (at-pre .pre) _ _ (at-loop .loop .inv .1)
+    (at-loop-test .loop-test .taken))
+    (λ c.
+    let at-loop-test = c .before .before .before .before .before in
+    let at-pre = at-loop-test .before .before .before in
+    let h = (at-loop-test .loop-test .taken) in
+    let f = (at-pre .pre .few) in omega arith)
+    (λ c.
+    let at-loop-test = c .before .before .before .before .before in
+    let h = (at-loop-test .loop-test .taken) in omega arith)
+    (λ c.
+    let at-put-word = c .before .before in
+    let at-loop-test = at-put-word .before .before .before in
+    let at-loop = at-loop-test .before in
+    let at-pre = at-loop .before .before in (
+      let h = (at-loop-test .loop-test .taken) in
           omega arith,
-      starts-turn _ _ _ _ (c .before .before .before .before .before .before .before .before .pre) _ _ _
-          (c .before .before .before .before .before .before .loop .inv .1) (c .before .before .before .before .before .loop-test .taken)
-          (c .before .before .put-word .ensures),
+      starts-turn _ _ _ _ (at-pre .pre) _ _ _ (at-loop .loop .inv .1) (at-loop-test .loop-test .taken) (at-put-word .put-word .ensures),
     ))
     (λ c. search needs)
     (λ c. starts-end _ _ _ _ (c .before .before .before .pre) _ _ (c .before .loop .inv .1) (c .loop-test .left)))

@@ -1,4 +1,4 @@
--- What follows from the definitions of specs/PrintsLaws.antt.
+-- The lines that are written are those of the answer.
 use mathlib.Core.Path.{_≡_, refl, sym, subst}
 use mathlib.Core.List.{List, [], _∷_, _++_}
 use Prim.Native.Nat.{ℕ, _^_, _≤_, _<_}

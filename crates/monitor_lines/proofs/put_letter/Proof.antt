@@ -6,11 +6,14 @@ use Rattle.monitor_lines.proofs.put_letter.Tie as tie
 
 pub put-letter-spec : {M : Type 1} → statement M
 put-letter-spec =
-    tie.close
-    (tie.spec
-    (λ c κs. room-same (none-text _ _ _ (c .before .if1 .taken)) (c .before .before .before .before .before .pre))
+    tie.close (tie.spec
+    (λ c κs.
+    let at-pre = c .before .before .before .before .before in
+    room-same (none-text _ _ _ (c .before .if1 .taken)) (at-pre .pre))
     (λ c. appended-length (c .before .before .put-line .ensures))
     (λ c. appended-same (sym (none-text _ _ _ (c .before .before .before .before .if1 .taken))) (c .before .before .put-line .ensures))
-    (λ c κs. room-same (some-text _ _ _ (c .before .if1 .left)) (c .before .before .before .before .before .pre))
+    (λ c κs.
+    let at-pre = c .before .before .before .before .before in
+    room-same (some-text _ _ _ (c .before .if1 .left)) (at-pre .pre))
     (λ c. appended-length (c .before .before .put-line2 .ensures))
     (λ c. appended-same (sym (some-text _ _ _ (c .before .before .before .before .if1 .left))) (c .before .before .put-line2 .ensures)))

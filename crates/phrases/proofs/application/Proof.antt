@@ -41,22 +41,30 @@ refusal-requires-2 : tie.Need-refusal-requires-2
 refusal-requires-2 c κs = search needs
 
 returns-2 : tie.Need-returns-2
-returns-2 c = application-first _ _ _ _ _ _ _ (c .before .before .before .before .before .before .before .before .expect .ensures) _ _
-    ((c .before .before .before .before .before .before .paren .given) .1) _ (c .before .before .before .before .next .ensures) _
-    (c .before .before .before .use-of .ensures) _ _ ((c .before .enum-told2 .given) .1) _ (c .refusal2 .ensures)
+returns-2 c =
+    let at-use-of = c .before .before .before in
+    let at-next = at-use-of .before in
+    let at-paren = at-next .before .before in
+    let at-expect = at-paren .before .before in
+    application-first _ _ _ _ _ _ _ (at-expect .expect .ensures) _ _ ((at-paren .paren .given) .1) _ (at-next .next .ensures) _
+    (at-use-of .use-of .ensures) _ _ ((c .before .enum-told2 .given) .1) _ (c .refusal2 .ensures)
 
 arguments-requires : tie.Need-arguments-requires
 arguments-requires c κs = search needs
 
 returns-3 : tie.Need-returns-3
-returns-3 c = application-read _ _ _ _ _ _ _ (c .before .before .before .before .before .before .before .before .before .expect .ensures) _ _
-    ((c .before .before .before .before .before .before .before .paren .given) .1) _ (c .before .before .before .before .before .next .ensures) _
-    (c .before .before .before .before .use-of .ensures) _ _ ((c .before .before .first .given) .1) _ (c .arguments .ensures)
+returns-3 c =
+    let at-first = c .before .before in
+    let at-use-of = at-first .before .before in
+    let at-next = at-use-of .before in
+    let at-paren = at-next .before .before in
+    let at-expect = at-paren .before .before in
+    application-read _ _ _ _ _ _ _ (at-expect .expect .ensures) _ _ ((at-paren .paren .given) .1) _ (at-next .next .ensures) _
+    (at-use-of .use-of .ensures) _ _ ((at-first .first .given) .1) _ (c .arguments .ensures)
 
 pub application-spec : {M : Type 1} → statement M
 application-spec =
-    tie.close
-    (tie.spec
+    tie.close (tie.spec
     expect-requires
     enum-known-paren
     enum-told

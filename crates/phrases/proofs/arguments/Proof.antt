@@ -23,12 +23,16 @@ returns-2 : tie.Need-returns-2
 returns-2 c = arguments-more _ _ _ _ _ _ _ _ (c .before .before .before .next .ensures) (c .before .if1 .taken) (c .if2 .left)
 
 returns-3 : tie.Need-returns-3
-returns-3 c = arguments-less _ _ _ _ _ _ _ _ (c .before .before .before .before .before .next .ensures) (c .before .before .before .if1 .left)
-    (c .before .if3 .taken) (c .if4 .taken)
+returns-3 c =
+    let at-if1 = c .before .before .before in
+    let at-next = at-if1 .before .before in
+    arguments-less _ _ _ _ _ _ _ _ (at-next .next .ensures) (at-if1 .if1 .left) (c .before .if3 .taken) (c .if4 .taken)
 
 returns-4 : tie.Need-returns-4
-returns-4 c = arguments-one _ _ _ _ _ _ _ _ (c .before .before .before .before .before .next .ensures) (c .before .before .before .if1 .left)
-    (c .before .if3 .taken) (c .if4 .left)
+returns-4 c =
+    let at-if1 = c .before .before .before in
+    let at-next = at-if1 .before .before in
+    arguments-one _ _ _ _ _ _ _ _ (at-next .next .ensures) (at-if1 .if1 .left) (c .before .if3 .taken) (c .if4 .left)
 
 unfitting-requires : tie.Need-unfitting-requires
 unfitting-requires c κs = search needs
@@ -37,13 +41,16 @@ refusal-requires : tie.Need-refusal-requires
 refusal-requires c κs = search needs
 
 returns-5 : tie.Need-returns-5
-returns-5 c = arguments-unfit _ _ _ _ _ _ _ _ (c .before .before .before .before .before .before .next .ensures) (c .before .before .before .before .if1 .left)
-    (c .before .before .if3 .left) _ (c .before .unfitting .ensures) _ (c .refusal .ensures)
+returns-5 c =
+    let at-if3 = c .before .before in
+    let at-if1 = at-if3 .before .before in
+    let at-next = at-if1 .before .before in
+    arguments-unfit _ _ _ _ _ _ _ _ (at-next .next .ensures) (at-if1 .if1 .left)
+    (at-if3 .if3 .left) _ (c .before .unfitting .ensures) _ (c .refusal .ensures)
 
 pub arguments-spec : {M : Type 1} → statement M
 arguments-spec =
-    tie.close
-    (tie.spec
+    tie.close (tie.spec
     next-requires
     second-argument-requires
     returns

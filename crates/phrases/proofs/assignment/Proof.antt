@@ -42,9 +42,13 @@ refusal-requires-2 : tie.Need-refusal-requires-2
 refusal-requires-2 c κs = search needs
 
 returns-2 : tie.Need-returns-2
-returns-2 c = assignment-becomes _ _ _ _ _ _ (c .before .before .before .before .before .before .before .before .next .ensures) _
-    (c .before .before .before .before .before .before .before .use-of .ensures) _ _ ((c .before .before .before .before .before .target .given) .1) _
-    (c .before .before .before .expect .ensures) _ _ ((c .before .enum-told2 .given) .1) _ (c .refusal2 .ensures)
+returns-2 c =
+    let at-expect = c .before .before .before in
+    let at-target = at-expect .before .before in
+    let at-use-of = at-target .before .before in
+    let at-next = at-use-of .before in
+    assignment-becomes _ _ _ _ _ _ (at-next .next .ensures) _ (at-use-of .use-of .ensures) _ _ ((at-target .target .given) .1) _
+    (at-expect .expect .ensures) _ _ ((c .before .enum-told2 .given) .1) _ (c .refusal2 .ensures)
 
 value-requires : tie.Need-value-requires
 value-requires c κs = search needs
@@ -56,11 +60,15 @@ enum-told-3 : tie.Need-enum-told-3
 enum-told-3 c = search needs
 
 returns-3 : tie.Need-returns-3
-returns-3 c = assignment-value _ _ _ _ _ _ (c .before .before .before .before .before .before .before .before .before .before .before .next .ensures) _
-    (c .before .before .before .before .before .before .before .before .before .before .use-of .ensures) _ _
-    ((c .before .before .before .before .before .before .before .before .target .given) .1) _
-    (c .before .before .before .before .before .before .expect .ensures) _ _ ((c .before .before .before .before .sign .given) .1) _
-    (c .before .before .value .ensures) _ _ ((c .enum-told3 .given) .1)
+returns-3 c =
+    let at-value = c .before .before in
+    let at-sign = at-value .before .before in
+    let at-expect = at-sign .before .before in
+    let at-target = at-expect .before .before in
+    let at-use-of = at-target .before .before in
+    let at-next = at-use-of .before in
+    assignment-value _ _ _ _ _ _ (at-next .next .ensures) _ (at-use-of .use-of .ensures) _ _ ((at-target .target .given) .1) _
+    (at-expect .expect .ensures) _ _ ((at-sign .sign .given) .1) _ (at-value .value .ensures) _ _ ((c .enum-told3 .given) .1)
 
 expect-requires-2 : tie.Need-expect-requires-2
 expect-requires-2 c κs = search needs
@@ -75,29 +83,36 @@ refusal-requires-3 : tie.Need-refusal-requires-3
 refusal-requires-3 c κs = search needs
 
 returns-4 : tie.Need-returns-4
-returns-4 c = assignment-semicolon _ _ _ _ _ _
-    (c .before .before .before .before .before .before .before .before .before .before .before .before .before .before .before .before .next .ensures) _
-    (c .before .before .before .before .before .before .before .before .before .before .before .before .before .before .before .use-of .ensures) _ _
-    ((c .before .before .before .before .before .before .before .before .before .before .before .before .before .target .given) .1) _
-    (c .before .before .before .before .before .before .before .before .before .before .before .expect .ensures) _ _
-    ((c .before .before .before .before .before .before .before .before .before .sign .given) .1) _
-    (c .before .before .before .before .before .before .before .value .ensures) _ _ ((c .before .before .before .before .before .right .given) .1) _
-    (c .before .before .before .expect2 .ensures) _ _ ((c .before .enum-told4 .given) .1) _ (c .refusal3 .ensures)
+returns-4 c =
+    let at-expect2 = c .before .before .before in
+    let at-right = at-expect2 .before .before in
+    let at-value = at-right .before .before in
+    let at-sign = at-value .before .before in
+    let at-expect = at-sign .before .before in
+    let at-target = at-expect .before .before in
+    let at-use-of = at-target .before .before in
+    let at-next = at-use-of .before in
+    assignment-semicolon _ _ _ _ _ _ (at-next .next .ensures) _ (at-use-of .use-of .ensures) _ _ ((at-target .target .given) .1) _
+    (at-expect .expect .ensures) _ _ ((at-sign .sign .given) .1) _ (at-value .value .ensures) _ _ ((at-right .right .given) .1) _
+    (at-expect2 .expect2 .ensures) _ _ ((c .before .enum-told4 .given) .1) _ (c .refusal3 .ensures)
 
 returns-5 : tie.Need-returns-5
-returns-5 c = assignment-read _ _ _ _ _ _
-    (c .before .before .before .before .before .before .before .before .before .before .before .before .before .before .before .before .next .ensures) _
-    (c .before .before .before .before .before .before .before .before .before .before .before .before .before .before .before .use-of .ensures) _ _
-    ((c .before .before .before .before .before .before .before .before .before .before .before .before .before .target .given) .1) _
-    (c .before .before .before .before .before .before .before .before .before .before .before .expect .ensures) _ _
-    ((c .before .before .before .before .before .before .before .before .before .sign .given) .1) _
-    (c .before .before .before .before .before .before .before .value .ensures) _ _ ((c .before .before .before .before .before .right .given) .1) _
-    (c .before .before .before .expect2 .ensures) _ _ ((c .before .last .given) .1)
+returns-5 c =
+    let at-expect2 = c .before .before .before in
+    let at-right = at-expect2 .before .before in
+    let at-value = at-right .before .before in
+    let at-sign = at-value .before .before in
+    let at-expect = at-sign .before .before in
+    let at-target = at-expect .before .before in
+    let at-use-of = at-target .before .before in
+    let at-next = at-use-of .before in
+    assignment-read _ _ _ _ _ _ (at-next .next .ensures) _ (at-use-of .use-of .ensures) _ _ ((at-target .target .given) .1) _
+    (at-expect .expect .ensures) _ _ ((at-sign .sign .given) .1) _ (at-value .value .ensures) _ _ ((at-right .right .given) .1) _
+    (at-expect2 .expect2 .ensures) _ _ ((c .before .last .given) .1)
 
 pub assignment-spec : {M : Type 1} → statement M
 assignment-spec =
-    tie.close
-    (tie.spec
+    tie.close (tie.spec
     next-requires
     use-of-requires
     enum-known-target

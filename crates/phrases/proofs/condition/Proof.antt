@@ -45,10 +45,14 @@ refusal-requires-2 : tie.Need-refusal-requires-2
 refusal-requires-2 c κs = search needs
 
 returns-2 : tie.Need-returns-2
-returns-2 c = condition-sign _ _ _ _ (c .before .before .before .before .before .before .before .before .before .next .ensures) _
-    (c .before .before .before .before .before .before .before .before .use-of .ensures) _ _
-    ((c .before .before .before .before .before .before .left .given) .1) _ (c .before .before .before .before .next2 .ensures) _
-    (c .before .before .before .sign-of .ensures) _ _ ((c .before .enum-told2 .given) .1) _ (c .refusal2 .ensures)
+returns-2 c =
+    let at-sign-of = c .before .before .before in
+    let at-next2 = at-sign-of .before in
+    let at-left = at-next2 .before .before in
+    let at-use-of = at-left .before .before in
+    let at-next = at-use-of .before in
+    condition-sign _ _ _ _ (at-next .next .ensures) _ (at-use-of .use-of .ensures) _ _ ((at-left .left .given) .1) _ (at-next2 .next2 .ensures) _
+    (at-sign-of .sign-of .ensures) _ _ ((c .before .enum-told2 .given) .1) _ (c .refusal2 .ensures)
 
 next-requires-3 : tie.Need-next-requires-3
 next-requires-3 c κs = search needs
@@ -66,32 +70,40 @@ refusal-requires-3 : tie.Need-refusal-requires-3
 refusal-requires-3 c κs = search needs
 
 returns-3 : tie.Need-returns-3
-returns-3 c = condition-right _ _ _ _
-    (c .before .before .before .before .before .before .before .before .before .before .before .before .before .before .next .ensures) _
-    (c .before .before .before .before .before .before .before .before .before .before .before .before .before .use-of .ensures) _ _
-    ((c .before .before .before .before .before .before .before .before .before .before .before .left .given) .1) _
-    (c .before .before .before .before .before .before .before .before .before .next2 .ensures) _
-    (c .before .before .before .before .before .before .before .before .sign-of .ensures) _ _
-    ((c .before .before .before .before .before .before .sign .given) .1) _ (c .before .before .before .before .next3 .ensures) _
-    (c .before .before .before .use-of2 .ensures) _ _ ((c .before .enum-told3 .given) .1) _ (c .refusal3 .ensures)
+returns-3 c =
+    let at-use-of2 = c .before .before .before in
+    let at-next3 = at-use-of2 .before in
+    let at-sign = at-next3 .before .before in
+    let at-sign-of = at-sign .before .before in
+    let at-next2 = at-sign-of .before in
+    let at-left = at-next2 .before .before in
+    let at-use-of = at-left .before .before in
+    let at-next = at-use-of .before in
+    condition-right _ _ _ _ (at-next .next .ensures) _ (at-use-of .use-of .ensures) _ _ ((at-left .left .given) .1) _ (at-next2 .next2 .ensures) _
+    (at-sign-of .sign-of .ensures) _ _ ((at-sign .sign .given) .1) _ (at-next3 .next3 .ensures) _
+    (at-use-of2 .use-of2 .ensures) _ _ ((c .before .enum-told3 .given) .1) _ (c .refusal3 .ensures)
 
 comparison-requires : tie.Need-comparison-requires
 comparison-requires c κs = search needs
 
 returns-4 : tie.Need-returns-4
-returns-4 c = condition-read _ _ _ _
-    (c .before .before .before .before .before .before .before .before .before .before .before .before .before .before .before .next .ensures) _
-    (c .before .before .before .before .before .before .before .before .before .before .before .before .before .before .use-of .ensures) _ _
-    ((c .before .before .before .before .before .before .before .before .before .before .before .before .left .given) .1) _
-    (c .before .before .before .before .before .before .before .before .before .before .next2 .ensures) _
-    (c .before .before .before .before .before .before .before .before .before .sign-of .ensures) _ _
-    ((c .before .before .before .before .before .before .before .sign .given) .1) _ (c .before .before .before .before .before .next3 .ensures) _
-    (c .before .before .before .before .use-of2 .ensures) _ _ ((c .before .before .right .given) .1) _ (c .comparison .ensures)
+returns-4 c =
+    let at-right = c .before .before in
+    let at-use-of2 = at-right .before .before in
+    let at-next3 = at-use-of2 .before in
+    let at-sign = at-next3 .before .before in
+    let at-sign-of = at-sign .before .before in
+    let at-next2 = at-sign-of .before in
+    let at-left = at-next2 .before .before in
+    let at-use-of = at-left .before .before in
+    let at-next = at-use-of .before in
+    condition-read _ _ _ _ (at-next .next .ensures) _ (at-use-of .use-of .ensures) _ _ ((at-left .left .given) .1) _ (at-next2 .next2 .ensures) _
+    (at-sign-of .sign-of .ensures) _ _ ((at-sign .sign .given) .1) _ (at-next3 .next3 .ensures) _
+    (at-use-of2 .use-of2 .ensures) _ _ ((at-right .right .given) .1) _ (c .comparison .ensures)
 
 pub condition-spec : {M : Type 1} → statement M
 condition-spec =
-    tie.close
-    (tie.spec
+    tie.close (tie.spec
     next-requires
     use-of-requires
     enum-known-left

@@ -41,19 +41,26 @@ refusal-requires-2 : tie.Need-refusal-requires-2
 refusal-requires-2 c κs = search needs
 
 returns-2 : tie.Need-returns-2
-returns-2 c = second-end _ _ _ _ _ _ _ (c .before .before .before .before .before .before .before .before .next .ensures) _
-    (c .before .before .before .before .before .before .before .use-of .ensures) _ _ ((c .before .before .before .before .before .second .given) .1) _
-    (c .before .before .before .expect .ensures) _ _ ((c .before .enum-told2 .given) .1) _ (c .refusal2 .ensures)
+returns-2 c =
+    let at-expect = c .before .before .before in
+    let at-second = at-expect .before .before in
+    let at-use-of = at-second .before .before in
+    let at-next = at-use-of .before in
+    second-end _ _ _ _ _ _ _ (at-next .next .ensures) _ (at-use-of .use-of .ensures) _ _ ((at-second .second .given) .1) _
+    (at-expect .expect .ensures) _ _ ((c .before .enum-told2 .given) .1) _ (c .refusal2 .ensures)
 
 returns-3 : tie.Need-returns-3
-returns-3 c = second-read _ _ _ _ _ _ _ (c .before .before .before .before .before .before .before .before .next .ensures) _
-    (c .before .before .before .before .before .before .before .use-of .ensures) _ _ ((c .before .before .before .before .before .second .given) .1) _
-    (c .before .before .before .expect .ensures) _ _ ((c .before .last .given) .1)
+returns-3 c =
+    let at-expect = c .before .before .before in
+    let at-second = at-expect .before .before in
+    let at-use-of = at-second .before .before in
+    let at-next = at-use-of .before in
+    second-read _ _ _ _ _ _ _ (at-next .next .ensures) _ (at-use-of .use-of .ensures) _ _ ((at-second .second .given) .1) _
+    (at-expect .expect .ensures) _ _ ((c .before .last .given) .1)
 
 pub second-argument-spec : {M : Type 1} → statement M
 second-argument-spec =
-    tie.close
-    (tie.spec
+    tie.close (tie.spec
     next-requires
     use-of-requires
     enum-known-second

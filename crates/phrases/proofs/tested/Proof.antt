@@ -33,18 +33,23 @@ refusal-requires : tie.Need-refusal-requires
 refusal-requires c κs = search needs
 
 returns-2 : tie.Need-returns-2
-returns-2 c = tested-end _ _ _ _ (c .before .before .before .before .before .before .before .condition .ensures) _ _
-    ((c .before .before .before .before .before .g .given) .1) _ (c .before .before .before .expect .ensures) _ _ ((c .before .enum-told2 .given) .1) _
-    (c .refusal .ensures)
+returns-2 c =
+    let at-expect = c .before .before .before in
+    let at-g = at-expect .before .before in
+    let at-condition = at-g .before .before in
+    tested-end _ _ _ _ (at-condition .condition .ensures) _ _
+    ((at-g .g .given) .1) _ (at-expect .expect .ensures) _ _ ((c .before .enum-told2 .given) .1) _ (c .refusal .ensures)
 
 returns-3 : tie.Need-returns-3
-returns-3 c = tested-read _ _ _ _ (c .before .before .before .before .before .before .before .condition .ensures) _ _
-    ((c .before .before .before .before .before .g .given) .1) _ (c .before .before .before .expect .ensures) _ _ ((c .before .last .given) .1)
+returns-3 c =
+    let at-expect = c .before .before .before in
+    let at-g = at-expect .before .before in
+    let at-condition = at-g .before .before in
+    tested-read _ _ _ _ (at-condition .condition .ensures) _ _ ((at-g .g .given) .1) _ (at-expect .expect .ensures) _ _ ((c .before .last .given) .1)
 
 pub tested-spec : {M : Type 1} → statement M
 tested-spec =
-    tie.close
-    (tie.spec
+    tie.close (tie.spec
     condition-requires
     enum-known-g
     enum-told

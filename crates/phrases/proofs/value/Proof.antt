@@ -31,27 +31,40 @@ refusal-requires : tie.Need-refusal-requires
 refusal-requires c κs = search needs
 
 returns : tie.Need-returns
-returns c = value-unknown _ _ _ _ _ _ _ (c .before .before .before .before .before .before .before .next .ensures) _
-    (c .before .before .before .before .before .before .next2 .ensures) (c .before .before .before .before .if1 .taken) _
-    (c .before .before .before .use-of .ensures) _ _ ((c .before .enum-told .given) .1) _ (c .refusal .ensures)
+returns c =
+    let at-use-of = c .before .before .before in
+    let at-if1 = at-use-of .before in
+    let at-next2 = at-if1 .before .before in
+    let at-next = at-next2 .before in
+    value-unknown _ _ _ _ _ _ _ (at-next .next .ensures) _ (at-next2 .next2 .ensures) (at-if1 .if1 .taken) _
+    (at-use-of .use-of .ensures) _ _ ((c .before .enum-told .given) .1) _ (c .refusal .ensures)
 
 cast-n : tie.Need-cast-n
 cast-n c = search needs
 
 shared-slice-read-n : tie.Need-shared-slice-read-n
-shared-slice-read-n c = let h =
-    use-below (c .before .before .before .before .before .before .before .before .before .before .before .before .before .args .funs .now)
-    (c .before .before .before .before .before .before .before .before .next .result) _ _ _ (c .before .before .before .before .use-of .ensures)
-    ((c .before .before .called .given) .1) in
-    omega (arith, (c .before .before .before .before .before .before .before .before .before .before .before .before .before .pre .arities))
+shared-slice-read-n c =
+    let at-called = c .before .before in
+    let at-use-of = at-called .before .before in
+    let at-next = at-use-of .before .before .before .before in
+    let at-args = at-next .before .before .before .before .before in
+    let h =
+    use-below (at-args .args .funs .now)
+    (at-next .next .result) _ _ _ (at-use-of .use-of .ensures) ((at-called .called .given) .1) in
+    omega (arith, (at-args .pre .arities))
 
 application-requires : tie.Need-application-requires
 application-requires c κs = search needs
 
 returns-2 : tie.Need-returns-2
-returns-2 c = value-applied _ _ _ _ _ _ _ (c .before .before .before .before .before .before .before .before .before .next .ensures) _
-    (c .before .before .before .before .before .before .before .before .next2 .ensures) (c .before .before .before .before .before .before .if1 .taken) _
-    (c .before .before .before .before .before .use-of .ensures) _ _ ((c .before .before .before .called .given) .1) _ refl _ (c .application .ensures)
+returns-2 c =
+    let at-called = c .before .before .before in
+    let at-use-of = at-called .before .before in
+    let at-if1 = at-use-of .before in
+    let at-next2 = at-if1 .before .before in
+    let at-next = at-next2 .before in
+    value-applied _ _ _ _ _ _ _ (at-next .next .ensures) _ (at-next2 .next2 .ensures) (at-if1 .if1 .taken) _
+    (at-use-of .use-of .ensures) _ _ ((at-called .called .given) .1) _ refl _ (c .application .ensures)
 
 use-of-requires-2 : tie.Need-use-of-requires-2
 use-of-requires-2 c κs = search needs
@@ -66,19 +79,26 @@ refusal-requires-2 : tie.Need-refusal-requires-2
 refusal-requires-2 c κs = search needs
 
 returns-3 : tie.Need-returns-3
-returns-3 c = value-refused _ _ _ _ _ _ _ (c .before .before .before .before .before .before .before .next .ensures) _
-    (c .before .before .before .before .before .before .next2 .ensures) (c .before .before .before .before .if1 .left) _
-    (c .before .before .before .use-of2 .ensures) _ _ ((c .before .enum-told2 .given) .1) _ (c .refusal2 .ensures)
+returns-3 c =
+    let at-use-of2 = c .before .before .before in
+    let at-if1 = at-use-of2 .before in
+    let at-next2 = at-if1 .before .before in
+    let at-next = at-next2 .before in
+    value-refused _ _ _ _ _ _ _ (at-next .next .ensures) _ (at-next2 .next2 .ensures) (at-if1 .if1 .left) _
+    (at-use-of2 .use-of2 .ensures) _ _ ((c .before .enum-told2 .given) .1) _ (c .refusal2 .ensures)
 
 returns-4 : tie.Need-returns-4
-returns-4 c = value-copy _ _ _ _ _ _ _ (c .before .before .before .before .before .before .before .next .ensures) _
-    (c .before .before .before .before .before .before .next2 .ensures) (c .before .before .before .before .if1 .left) _
-    (c .before .before .before .use-of2 .ensures) _ _ ((c .before .copied .given) .1)
+returns-4 c =
+    let at-use-of2 = c .before .before .before in
+    let at-if1 = at-use-of2 .before in
+    let at-next2 = at-if1 .before .before in
+    let at-next = at-next2 .before in
+    value-copy _ _ _ _ _ _ _ (at-next .next .ensures) _ (at-next2 .next2 .ensures) (at-if1 .if1 .left) _
+    (at-use-of2 .use-of2 .ensures) _ _ ((c .before .copied .given) .1)
 
 pub value-spec : {M : Type 1} → statement M
 value-spec =
-    tie.close
-    (tie.spec
+    tie.close (tie.spec
     next-requires
     next-requires-2
     use-of-requires

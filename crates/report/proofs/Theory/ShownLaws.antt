@@ -1,4 +1,4 @@
--- What follows from the definitions of specs/ShownLaws.antt.
+-- Laws of reading the answer's bytes: one entry after the other, and what packed bytes hold.
 use mathlib.Core.Path.{_≡_, refl, sym, ap, ap₂, _∙_}
 use Prim.Native.Nat.{ℕ, zero, suc, _+_, _-_, _*_, _≤_, _<_}
 use native.Mathlib.Omega.{arith}

@@ -16,8 +16,7 @@ use Rattle.report.proofs.write_report.Tie as tie
 
 pub write-report-spec : {M : Type 1} → statement M
 write-report-spec =
-    tie.close
-    (tie.spec
+    tie.close (tie.spec
     (λ c κs. search needs)
     (λ c. search needs)
     (λ c κs.
@@ -28,15 +27,21 @@ write-report-spec =
     report-room (a .registers) (a .functions) (λ r. reg r .fits) (λ f. fun f .fits) (a .h) (a .answer .now)
     (λ i. omega (arith, c .before .before .before .shared-slice-known .given i)) (c .before .limited .result) (c .before .limited .ensures .1) (few .fits))
     (λ c.
-    let a = c .before .before .before .before .before .before .before .args in
+    let at-put-report = c .before .before in
+    let at-limited = at-put-report .before .before in
+    let at-args = at-limited .before .before .before in
+    let a = at-args .args in
     subst (λ (v : ReportedVerdict). WroteText (reportOf (a .registers) (a .functions) (a .h) v (a .answer .now)) (a .out .now) (a .out .now) NoRoom)
-    (c .before .before .before .before .limited .ensures .0) (wrote-none (c .before .before .put-report .ensures .place) (c .if1 .taken)))
+    (at-limited .limited .ensures .0) (wrote-none (at-put-report .put-report .ensures .place) (c .if1 .taken)))
     (λ c κs. search needs)
     (λ c. appended-length (c .before .before .put-report2 .ensures))
     (λ c.
-    let a = c .before .before .before .before .before .before .before .before .before .before .before .args in
+    let at-put-report2 = c .before .before in
+    let at-if1 = at-put-report2 .before .before in
+    let at-put-report = at-if1 .before .before in
+    let at-limited = at-put-report .before .before in
+    let at-args = at-limited .before .before .before in
+    let a = at-args .args in
     subst (λ (v : ReportedVerdict). WroteText (reportOf (a .registers) (a .functions) (a .h) v (a .answer .now)) (a .out .now)
-    (c .before .before .put-report2 .last .0) (Bytes (c .before .before .put-report2 .result)))
-    (c .before .before .before .before .before .before .before .before .limited .ensures .0)
-    (wrote-all (c .before .before .before .before .before .before .put-report .ensures .place) (c .before .before .before .before .if1 .left)
-    (c .before .before .put-report2 .ensures))))
+    (at-put-report2 .put-report2 .last .0) (Bytes (at-put-report2 .put-report2 .result))) (at-limited .limited .ensures .0)
+    (wrote-all (at-put-report .put-report .ensures .place) (at-if1 .if1 .left) (at-put-report2 .put-report2 .ensures))))

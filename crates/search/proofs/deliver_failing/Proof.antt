@@ -30,30 +30,35 @@ same-length c = search needs
 
 returns-2 : tie.Need-returns-2
 returns-2 c =
-    let x = c .before .before .before .before .before .before .before .before .before .before .before .before .before in
+    let at-write-trace = c .before .before in
+    let at-if2 = at-write-trace .before .before in
+    let at-show-model = at-if2 .before .before .before in
+    let at-if1 = at-show-model .before .before .before in
+    let at-before = at-if1 .before .before in
+    let x = at-before .before in
     let a = x .args in
-    let m = c .before .before .before .before .before .before .before .show-model in
-    failing-shown (a .packed) (a .count) (a .output .now) (x .pre)
-    (c .before .before .before .before .before .before .before .before .before .before .if1 .left) (m .last .1 .1 .0)
+    let m = at-show-model .show-model in
+    failing-shown (a .packed) (a .count) (a .output .now) (x .pre) (at-if1 .if1 .left) (m .last .1 .1 .0)
     (subst (λ f. ModelWrittenBehind (drop (a .packed .start) (a .packed .bytes)) (a .output .now) f (m .last .1 .1 .0))
-    (c .before .before .before .before .if2 .taken) (m .ensures))
-    (c .before .before .write-trace .last .1 .0) (c .before .before .write-trace .ensures)
+    (at-if2 .if2 .taken) (m .ensures)) (at-write-trace .write-trace .last .1 .0) (at-write-trace .write-trace .ensures)
 
 same-length-2 : tie.Need-same-length-2
 same-length-2 c = search needs
 
 returns-3 : tie.Need-returns-3
 returns-3 c =
-    let x = c .before .before .before .before .before .before .before .before .before in
+    let at-show-model = c .before .before .before in
+    let at-if1 = at-show-model .before .before .before in
+    let at-before = at-if1 .before .before in
+    let x = at-before .before in
     let a = x .args in
-    let m = c .before .before .before .show-model in
-    failing-unfit (a .packed) (a .count) (a .output .now) (x .pre) (c .before .before .before .before .before .before .if1 .left) (m .last .1 .1 .0)
+    let m = at-show-model .show-model in
+    failing-unfit (a .packed) (a .count) (a .output .now) (x .pre) (at-if1 .if1 .left) (m .last .1 .1 .0)
     (subst (λ f. ModelWrittenBehind (drop (a .packed .start) (a .packed .bytes)) (a .output .now) f (m .last .1 .1 .0)) (c .if2 .left) (m .ensures))
 
 pub deliver-failing-spec : {M : Type 1} → statement M
 deliver-failing-spec =
-    tie.close
-    (tie.spec
+    tie.close (tie.spec
     sub-n
     returns
     show-model-requires

@@ -22,9 +22,13 @@ same-length : tie.Need-same-length
 same-length c = search needs
 
 returns-2 : tie.Need-returns-2
-returns-2 c = let x = c .before .before .before .before .before .before .before in let a = x .args in
-    breaking-shown (a .packed) (a .count) (a .output .now) (x .pre) (c .before .before .before .before .if1 .left) (c .before .before .write-trace .last .1 .0)
-    (c .before .before .write-trace .ensures)
+returns-2 c =
+    let at-write-trace = c .before .before in
+    let at-if1 = at-write-trace .before .before in
+    let at-before = at-if1 .before .before in
+    let x = at-before .before in let a = x .args in
+    breaking-shown (a .packed) (a .count) (a .output .now) (x .pre) (at-if1 .if1 .left) (at-write-trace .write-trace .last .1 .0)
+    (at-write-trace .write-trace .ensures)
 
 pub deliver-incoherent-spec : {M : Type 1} → statement M
 deliver-incoherent-spec =

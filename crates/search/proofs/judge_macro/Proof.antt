@@ -15,14 +15,19 @@ read-requires c κs = search needs
 
 returns : tie.Need-returns
 returns c =
-    let a = c .before .before .before .before .before .before .args in
-    let r = c .before .before .read in
+    let at-read = c .before .before in
+    let at-args = at-read .before .before .before .before in
+    let a = at-args .args in
+    let r = at-read .read in
     judged-refused (a .text .now) (r .result) (r .ensures) (a .table .now) (a .output .now) (c .if1 .taken)
 
 search-macro-requires : tie.Need-search-macro-requires
 search-macro-requires c κs =
-    let r = c .before .before .before .before .read in
-    readable (c .before .before .before .before .before .before .before .before .args .text .now) (r .result) (r .ensures) (c .before .before .if1 .left)
+    let at-if1 = c .before .before in
+    let at-read = at-if1 .before .before in
+    let at-args = at-read .before .before .before .before in
+    let r = at-read .read in
+    readable (at-args .args .text .now) (r .result) (r .ensures) (at-if1 .if1 .left)
 
 clear-requires : tie.Need-clear-requires
 clear-requires c κs = search needs
@@ -35,19 +40,22 @@ same-length-2 c = search needs
 
 returns-2 : tie.Need-returns-2
 returns-2 c =
-    let a = c .before .before .before .before .before .before .before .before .before .before .before .before .before .before .before .before .before .args in
-    let r = c .before .before .before .before .before .before .before .before .before .before .before .before .before .read in
-    let s = c .before .before .before .before .before .before .before .before .search-macro in
-    let z = c .before .before .clear in
+    let at-clear = c .before .before in
+    let at-search-macro = at-clear .before .before .before .before .before .before in
+    let at-if1 = at-search-macro .before .before .before in
+    let at-read = at-if1 .before .before in
+    let at-args = at-read .before .before .before .before in
+    let a = at-args .args in
+    let r = at-read .read in
+    let s = at-search-macro .search-macro in
+    let z = at-clear .clear in
     let l : length (s .last .1 .0) ≡ length (a .table .now) = search needs in
-    judged-macro (a .text .now) (r .result) (r .ensures) (a .table .now) (a .output .now)
-    (c .before .before .before .before .before .before .before .before .before .before .before .if1 .left)
+    judged-macro (a .text .now) (r .result) (r .ensures) (a .table .now) (a .output .now) (at-if1 .if1 .left)
     (s .result) (z .last .0) (s .last .1 .1 .0) (s .ensures) (z .ensures ∙ ap (λ n. replicate n 0) l)
 
 pub judge-macro-spec : {M : Type 1} → statement M
 judge-macro-spec =
-    tie.close
-    (tie.spec
+    tie.close (tie.spec
     read-requires
     returns
     search-macro-requires

@@ -15,33 +15,46 @@ apply-slots-spec = tie.close (tie.spec
     (λ c. search needs)
     (λ c. search needs)
     (λ c κs. search needs)
-    (λ c κs. let p = c .before .before .before .before .before .before .before .before .before .before .before .before .before .before .before .pre in
-    (p .0, c .before .before .before .before .before .before .before .if1 .taken, p .4, p .5))
-    (λ c. let a = c .before .before .before .before .before .before .before .before .before .before .before .before .before .before .before .before .args in
+    (λ c κs.
+    let at-if1 = c .before .before .before .before .before .before .before in
+    let at-pre = at-if1 .before .before .before .before .before .before .before .before in
+    let p = at-pre .pre in
+    (p .0, at-if1 .if1 .taken, p .4, p .5))
+    (λ c.
+    let at-if1 = c .before .before .before .before .before .before .before .before in
+    let at-register-in = at-if1 .before in
+    let at-slot-of2 = at-register-in .before .before .before in
+    let at-slot-of = at-slot-of2 .before .before in
+    let at-args = at-slot-of .before .before in
+    let a = at-args .args in
     let e = c .copy-slots .ensures in (
       (λ i. apply-known registers functions (slotsOf (a .slot .now) (a .regs .now) (a .unequal .now) (a .result .now) (a .ever .now)
-          (a .mark .now) i) _ _ _ _ _ _ _ _
-          (c .before .before .before .before .before .before .before .before .before .before .before .before .before .before .slot-of .ensures .0)
-          (c .before .before .before .before .before .before .before .before .before .before .before .before .slot-of2 .ensures .0)
-          (c .before .before .before .before .before .before .before .before .before .register-in .ensures)
-          (c .before .before .before .before .before .before .before .before .if1 .taken) (e .0 i)),
+          (a .mark .now) i) _ _ _ _ _ _ _ _ (at-slot-of .slot-of .ensures .0) (at-slot-of2 .slot-of2 .ensures .0)
+          (at-register-in .register-in .ensures) (at-if1 .if1 .taken) (e .0 i)),
       e .1,
     ))
-    (λ c κs. let p = c .before .before .before .before .before .before .before .before .before .before .before .before .before .before .before .pre in (
+    (λ c κs.
+    let at-slot-of2 = c .before .before .before .before .before .before .before .before .before .before .before in
+    let at-slot-of = at-slot-of2 .before .before in
+    let at-pre = at-slot-of .before .before in
+    let p = at-pre .pre in (
       p .0,
       p .1,
-      c .before .before .before .before .before .before .before .before .before .before .before .before .before .slot-of .ensures .1,
-      c .before .before .before .before .before .before .before .before .before .before .before .slot-of2 .ensures .1,
+      at-slot-of .slot-of .ensures .1,
+      at-slot-of2 .slot-of2 .ensures .1,
       p .4,
       p .5,
     ))
-    (λ c. let a = c .before .before .before .before .before .before .before .before .before .before .before .before .before .before .before .before .args in
+    (λ c.
+    let at-if1 = c .before .before .before .before .before .before .before .before in
+    let at-register-in = at-if1 .before in
+    let at-slot-of2 = at-register-in .before .before .before in
+    let at-slot-of = at-slot-of2 .before .before in
+    let at-args = at-slot-of .before .before in
+    let a = at-args .args in
     let e = c .new-value .ensures in (
       (λ i. apply-new registers functions (slotsOf (a .slot .now) (a .regs .now) (a .unequal .now) (a .result .now) (a .ever .now)
-          (a .mark .now) i) _ _ _ _ _ _ _ _
-          (c .before .before .before .before .before .before .before .before .before .before .before .before .before .before .slot-of .ensures .0)
-          (c .before .before .before .before .before .before .before .before .before .before .before .before .slot-of2 .ensures .0)
-          (c .before .before .before .before .before .before .before .before .before .register-in .ensures)
-          (c .before .before .before .before .before .before .before .before .if1 .left) (e .0 i)),
+          (a .mark .now) i) _ _ _ _ _ _ _ _ (at-slot-of .slot-of .ensures .0) (at-slot-of2 .slot-of2 .ensures .0)
+          (at-register-in .register-in .ensures) (at-if1 .if1 .left) (e .0 i)),
       e .1,
     )))

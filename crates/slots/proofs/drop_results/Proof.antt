@@ -11,6 +11,9 @@ drop-results-spec = tie.close (tie.spec
     (λ c κs. search needs)
     (λ c κs. search needs)
     (λ c. search needs)
-    (λ c. let k = c .before .before .before .before .before .before in
+    (λ c.
+    let at-clear-row = c .before .before in
+    let at-before = at-clear-row .before .before .before in
+    let k = at-before .before in
     results-dropped registers _ _ _ _ _ _ (k .before .before .before .before .before .single .ensures) (k .before .before .before .before .move-bits .ensures)
-    (k .clear-column .ensures) (c .before .before .clear-row .ensures)))
+    (k .clear-column .ensures) (at-clear-row .clear-row .ensures)))

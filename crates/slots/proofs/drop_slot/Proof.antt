@@ -14,15 +14,21 @@ pub drop-slot-spec : {M : Type 1} → statement M
 drop-slot-spec = tie.close (tie.spec
     (λ c κs. search needs)
     (λ c κs. (c .before .before .before .pre .1, c .before .before .before .pre .3))
-    (λ c κs. (
-      c .before .before .before .before .before .pre .0,
-      whole registers 1 (c .before .before .before .before .before .args .unequal .now)
-          (c .before .before .before .before .before .pre .2 .unequal-long),
+    (λ c κs.
+    let at-pre = c .before .before .before .before .before in (
+      at-pre .pre .0,
+      whole registers 1 (at-pre .args .unequal .now) (at-pre .pre .2 .unequal-long),
     ))
-    (λ c κs. let p = c .before .before .before .before .before .before .before .pre in (p .0, omega (arith, p .2 .result-long)))
-    (λ c κs. let k = c .before .before .before .before .before .before .before in
+    (λ c κs.
+    let at-pre = c .before .before .before .before .before .before .before in
+    let p = at-pre .pre in (p .0, omega (arith, p .2 .result-long)))
+    (λ c κs.
+    let at-before = c .before .before .before .before .before .before in
+    let k = at-before .before in
     (k .before .before .pre .0, whole registers functions (k .before .before .args .ever .now) (k .before .before .pre .2 .ever-long)))
-    (λ c κs. let p = c .before .before .before .before .before .before .before .before .before .before .before .pre in (p .0, omega (arith, p .4 .long)))
+    (λ c κs.
+    let at-pre = c .before .before .before .before .before .before .before .before .before .before .before in
+    let p = at-pre .pre in (p .0, omega (arith, p .4 .long)))
     (λ c. let h = c .before .before in
     let k = h .before .before .before .before .before .before .before in
     let a = k .before .before .before .args in

@@ -22,9 +22,14 @@ find-spec = tie.close (tie.spec
     (λ c κs. search needs)
     (λ c κs. search needs)
     (λ c κs. search needs)
-    (λ c. find-here registers _ _ _ results _ _ _ _ (c .before .before .before .before .loop-test .taken)
-    (c .before .before .before .entry .ensures) (c .before .before .many .ensures) (c .before .if1 .taken) (c .pulled .ensures)
-    ∙ c .before .before .before .before .before .loop .inv .1)
+    (λ c.
+    let at-many = c .before .before in
+    let at-entry = at-many .before in
+    let at-loop-test = at-entry .before in
+    let at-loop = at-loop-test .before in
+    find-here registers _ _ _ results _ _ _ _ (at-loop-test .loop-test .taken)
+    (at-entry .entry .ensures) (at-many .many .ensures) (c .before .if1 .taken) (c .pulled .ensures)
+    ∙ at-loop .loop .inv .1)
     (λ c. search needs)
     (λ c. search needs)
     (λ c. (

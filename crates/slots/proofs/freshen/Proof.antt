@@ -12,18 +12,28 @@ use Rattle.slots.proofs.freshen.Tie as tie
 pub freshen-spec : {M : Type 1} → statement M
 freshen-spec = tie.close (tie.spec
     (λ c κs. search needs)
-    (λ c κs. let p = c .before .before .before .before .before .pre in (p .0, c .before .before .if1 .taken, p .4, p .5))
-    (λ c κs. let p = c .before .before .before .before .before .before .before .before .before .pre in
-    (p .1, p .2, p .3, c .before .before .before .before .before .before .if1 .taken, p .6, p .7, p .9 .long))
+    (λ c κs.
+    let at-if1 = c .before .before in
+    let at-pre = at-if1 .before .before .before in
+    let p = at-pre .pre in (p .0, at-if1 .if1 .taken, p .4, p .5))
+    (λ c κs.
+    let at-if1 = c .before .before .before .before .before .before in
+    let at-pre = at-if1 .before .before .before in
+    let p = at-pre .pre in
+    (p .1, p .2, p .3, at-if1 .if1 .taken, p .6, p .7, p .9 .long))
     (λ c. search needs)
-    (λ c. let a = c .before .before .before .before .before .before .before .before .before .before .args in
-    let p = c .before .before .before .before .before .before .before .before .before .before .pre in
-    let m = c .before .before .before .before .move-register .ensures in
-    let l = c .before .before .before .before .before .before .before .if1 .taken in
+    (λ c.
+    let at-move-register = c .before .before .before .before in
+    let at-if1 = at-move-register .before .before .before in
+    let at-free-slot = at-if1 .before in
+    let at-args = at-free-slot .before .before in
+    let a = at-args .args in
+    let p = at-args .pre in
+    let m = at-move-register .move-register .ensures in
+    let l = at-if1 .if1 .taken in
     let n = c .hold-result .ensures in (
       (λ u i. freshened-some registers functions (slotsOf (a .slot .now) (a .regs .now) u (a .result .now) (a .ever .now) (a .mark .now) i)
-          (a .x) (a .f) (a .a) (a .b) _ _ _ _ _ (c .before .before .before .before .before .before .before .before .free-slot .ensures) l (m .0) (m .1) (n .0)
-          (n .1 .0)),
+          (a .x) (a .f) (a .a) (a .b) _ _ _ _ _ (at-free-slot .free-slot .ensures) l (m .0) (m .1) (n .0) (n .1 .0)),
       (
         (λ u ul. record {
           low = subst (Low registers) (sym (m .0)) (low-set registers _ _ _ (p .0) l (p .4));

@@ -8,9 +8,12 @@ use Rattle.slots.proofs.leave_slot.Tie as tie
 pub leave-slot-spec : {M : Type 1} → statement M
 leave-slot-spec = tie.close (tie.spec
     (λ c κs. search needs)
-    (λ c. let a = c .before .before .before .before .before .before .before .args in (
+    (λ c.
+    let at-if1 = c .before .before .before .before .before .before in
+    let at-args = at-if1 .before in
+    let a = at-args .args in (
       (λ g i. left-dropped registers functions (slotsOf (a .slot .now) g (a .unequal .now) (a .result .now) (a .ever .now) (a .mark .now) i) _
-          (a .s) _ (c .before .before .before .before .before .before .if1 .taken) (c .drop-slot .ensures .0 g i)),
+          (a .s) _ (at-if1 .if1 .taken) (c .drop-slot .ensures .0 g i)),
       c .drop-slot .ensures .1,
     ))
     (λ c. ((λ g i. left-still registers functions _ (c .before .args .s) _ (c .if1 .left)), ((c .before .pre .2, c .before .pre .3), c .before .pre .4))))

@@ -24,8 +24,12 @@ mark-slots-spec = tie.close (tie.spec
     (λ c. search needs)
     (λ c. search needs)
     (λ c. search needs)
-    (λ c. let a = c .before .before .before .before .before .args in
-    marks-more registers (a .slot .now) _ (a .slots) (c .before .before .before .before .before .pre .1) _ _ _ _
-    (c .before .before .before .before .loop .inv) (c .before .before .before .loop-test .taken) (c .before .slot-of .ensures .0) (c .holds .ensures))
+    (λ c.
+    let at-loop-test = c .before .before .before in
+    let at-loop = at-loop-test .before in
+    let at-args = at-loop .before in
+    let a = at-args .args in
+    marks-more registers (a .slot .now) _ (a .slots) (at-args .pre .1) _ _ _ _
+    (at-loop .loop .inv) (at-loop-test .loop-test .taken) (c .before .slot-of .ensures .0) (c .holds .ensures))
     (λ c. let a = c .before .before .args in
     marks-all registers (a .slot .now) _ (a .slots) (c .before .before .pre .1) _ _ (c .before .loop .inv) (c .loop-test .left)))

@@ -16,10 +16,19 @@ memoizing-spec = tie.close (tie.spec
     (λ c. search needs)
     (λ c. search needs)
     (λ c κs. search needs)
-    (λ c. let a = c .before .before .before .before .before .before .before .args in
+    (λ c.
+    let at-if1 = c .before .before in
+    let at-holds = at-if1 .before in
+    let at-slot-of2 = at-holds .before .before in
+    let at-slot-of = at-slot-of2 .before in
+    let at-args = at-slot-of .before in
+    let a = at-args .args in
     memoizing-known registers (a .slot .now) (a .result .now) (a .ever .now) (a .f) (a .y) (a .z) _ _
-    (c .before .before .before .before .before .slot-of2 .ensures .0) (c .before .before .before .before .before .before .slot-of .ensures .0) _
-    (c .before .before .before .holds .ensures) (c .before .before .if1 .taken) _ (c .inhabited .ensures))
-    (λ c. let a = c .before .before .before .before .before .args in
+    (at-slot-of2 .slot-of2 .ensures .0) (at-slot-of .slot-of .ensures .0) _ (at-holds .holds .ensures) (at-if1 .if1 .taken) _ (c .inhabited .ensures))
+    (λ c.
+    let at-slot-of2 = c .before .before .before in
+    let at-slot-of = at-slot-of2 .before in
+    let at-args = at-slot-of .before in
+    let a = at-args .args in
     memoizing-new registers (a .slot .now) (a .result .now) (a .ever .now) (a .f) (a .y) (a .z) _ _
-    (c .before .before .before .slot-of2 .ensures .0) (c .before .before .before .before .slot-of .ensures .0) _ (c .before .holds .ensures) (c .if1 .left)))
+    (at-slot-of2 .slot-of2 .ensures .0) (at-slot-of .slot-of .ensures .0) _ (c .before .holds .ensures) (c .if1 .left)))

@@ -17,13 +17,21 @@ merge-slots-spec = tie.close (tie.spec
     (λ c. search needs)
     (λ c. search needs)
     (λ c κs. let p = c .before .before .before .pre in (p .0, p .1, p .2 .long))
-    (λ c κs. let p = c .before .before .before .before .before .pre in
-    (p .0, p .1, whole registers 1 (c .before .before .before .before .before .args .unequal .now) (p .4 .unequal-long)))
-    (λ c κs. let p = c .before .before .before .before .before .before .before .pre in (p .0, p .1, p .4 .result-long))
-    (λ c κs. let k = c .before .before .before .before .before .before .before in
+    (λ c κs.
+    let at-pre = c .before .before .before .before .before in
+    let p = at-pre .pre in
+    (p .0, p .1, whole registers 1 (at-pre .args .unequal .now) (p .4 .unequal-long)))
+    (λ c κs.
+    let at-pre = c .before .before .before .before .before .before .before in
+    let p = at-pre .pre in (p .0, p .1, p .4 .result-long))
+    (λ c κs.
+    let at-before = c .before .before .before .before .before .before in
+    let k = at-before .before in
     let p = k .before .before .pre in
     (p .0, p .1, whole registers functions (k .before .before .args .ever .now) (p .4 .ever-long)))
-    (λ c κs. let p = c .before .before .before .before .before .before .before .before .before .before .before .pre in (p .0, p .1, p .5 .long))
+    (λ c κs.
+    let at-pre = c .before .before .before .before .before .before .before .before .before .before .before in
+    let p = at-pre .pre in (p .0, p .1, p .5 .long))
     (λ c. let h = c .before .before in
     let k = h .before .before .before .before .before .before .before in
     let a = k .before .before .before .args in

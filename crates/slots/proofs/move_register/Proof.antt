@@ -14,8 +14,11 @@ move-register-spec = tie.close (tie.spec
     (λ c. search needs)
     (λ c. search needs)
     (λ c. search needs)
-    (λ c. let a = c .before .before .before .before .before .args in (
+    (λ c.
+    let at-single = c .before .before in
+    let at-slot-of = at-single .before in
+    let at-args = at-slot-of .before .before in
+    let a = at-args .args in (
       refl,
-      moved-register (a .slot .now) (a .regs .now) (a .x) (a .t) _ _ (c .before .before .before .slot-of .ensures .0)
-          (c .before .before .single .ensures),
+      moved-register (a .slot .now) (a .regs .now) (a .x) (a .t) _ _ (at-slot-of .slot-of .ensures .0) (at-single .single .ensures),
     )))

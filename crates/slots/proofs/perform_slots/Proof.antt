@@ -12,77 +12,101 @@ perform-slots-spec = tie.close (tie.spec
     (λ c. search needs)
     (λ c. search needs)
     (λ c. search needs)
-    (λ c κs. let p = subst WithinPacking (c .before .before .before .before .before .before .before .before .letter .given .1)
-    (c .before .before .before .before .before .before .before .before .before .before .pre .0) in (
+    (λ c κs.
+    let at-letter = c .before .before .before .before .before .before .before .before in
+    let at-pre = at-letter .before .before in
+    let p = subst WithinPacking (at-letter .letter .given .1)
+    (at-pre .pre .0) in (
       p .0,
       p .1,
-      c .before .before .before .before .before .before .before .before .before .before .pre .1,
-      c .before .before .before .before .before .before .before .before .before .before .pre .2,
+      at-pre .pre .1,
+      at-pre .pre .2,
     ))
     (λ c. search needs)
     (λ c. search needs)
     (λ c. search needs)
     (λ c. search needs)
     (λ c. search needs)
-    (λ c κs. let p = subst WithinPacking (c .before .before .before .before .before .before .before .before .letter2 .given .1)
-    (c .before .before .before .before .before .before .before .before .before .before .pre .0) in (
+    (λ c κs.
+    let at-letter2 = c .before .before .before .before .before .before .before .before in
+    let at-pre = at-letter2 .before .before in
+    let p = subst WithinPacking (at-letter2 .letter2 .given .1)
+    (at-pre .pre .0) in (
       p .0,
       p .1,
       p .2,
       p .3,
-      c .before .before .before .before .before .before .before .before .before .before .pre .1,
-      c .before .before .before .before .before .before .before .before .before .before .pre .2,
+      at-pre .pre .1,
+      at-pre .pre .2,
     ))
     (λ c. search needs)
     (λ c. search needs)
     (λ c. search needs)
-    (λ c κs. let p = subst WithinPacking (c .before .before .before .before .before .before .before .letter3 .given .1)
-    (c .before .before .before .before .before .before .before .before .before .pre .0) in
-    let l = c .before .before .before .before .before .before .before .before .before .pre .1 in
-    (p .0, p .1, l .low, l .regs-long, l .tables, c .before .before .before .before .before .before .before .before .before .pre .2))
+    (λ c κs.
+    let at-letter3 = c .before .before .before .before .before .before .before in
+    let at-pre = at-letter3 .before .before in
+    let p = subst WithinPacking (at-letter3 .letter3 .given .1)
+    (at-pre .pre .0) in
+    let l = at-pre .pre .1 in
+    (p .0, p .1, l .low, l .regs-long, l .tables, at-pre .pre .2))
     (λ c. search needs)
     (λ c. search needs)
     (λ c. search needs)
-    (λ c κs. let p = subst WithinPacking (c .before .before .before .letter4 .given .1) (c .before .before .before .before .before .pre .0) in
-    let l = c .before .before .before .before .before .pre .1 in
+    (λ c κs.
+    let at-letter4 = c .before .before .before in
+    let at-pre = at-letter4 .before .before in
+    let p = subst WithinPacking (at-letter4 .letter4 .given .1) (at-pre .pre .0) in
+    let l = at-pre .pre .1 in
     (p .0, p .1, l .low, l .tables .unequal-long))
-    (λ c. let a = c .before .before .before .before .before .before .before .before .before .before .before .args in
+    (λ c.
+    let at-letter = c .before .before .before .before .before .before .before .before .before in
+    let at-args = at-letter .before .before in
+    let a = at-args .args in
     let e = c .copy-slots .ensures in (
       performed registers functions _
           (slotsOf (a .slot .now) (a .regs .now) (a .unequal .now) (a .result .now) (a .ever .now) (a .mark .now) (a .infeasible)) _ _
-          (c .before .before .before .before .before .before .before .before .before .letter .given .1) (e .0 (a .infeasible)),
+          (at-letter .letter .given .1) (e .0 (a .infeasible)),
       e .1,
     ))
-    (λ c. let a = c .before .before .before .before .before .before .before .before .before .before .before .args in
+    (λ c.
+    let at-letter2 = c .before .before .before .before .before .before .before .before .before in
+    let at-args = at-letter2 .before .before in
+    let a = at-args .args in
     let e = c .apply-slots .ensures in (
       performed registers functions _
           (slotsOf (a .slot .now) (a .regs .now) (a .unequal .now) (a .result .now) (a .ever .now) (a .mark .now) (a .infeasible)) _ _
-          (c .before .before .before .before .before .before .before .before .before .letter2 .given .1) (e .0 (a .infeasible)),
+          (at-letter2 .letter2 .given .1) (e .0 (a .infeasible)),
       e .1,
     ))
-    (λ c. let a = c .before .before .before .before .before .before .before .before .before .before .args in
+    (λ c.
+    let at-letter3 = c .before .before .before .before .before .before .before .before in
+    let at-args = at-letter3 .before .before in
+    let a = at-args .args in
     let e = c .equal-slots .ensures in (
       performed registers functions _
           (slotsOf (a .slot .now) (a .regs .now) (a .unequal .now) (a .result .now) (a .ever .now) (a .mark .now) (a .infeasible)) _ _
-          (c .before .before .before .before .before .before .before .before .letter3 .given .1) (e .0 (a .mark .now)),
+          (at-letter3 .letter3 .given .1) (e .0 (a .mark .now)),
       (
         record {
           low = e .1 .0 .0;
           regs-long = e .1 .0 .1;
           tables = e .1 .0 .2;
           mark-long =
-              c .before .before .before .before .before .before .before .before .before .before .pre .1 .mark-long;
+              at-args .pre .1 .mark-long;
         },
         e .1 .1,
       ),
     ))
-    (λ c. let a = c .before .before .before .before .before .before .args in
+    (λ c.
+    let at-letter4 = c .before .before .before .before in
+    let at-args = at-letter4 .before .before in
+    let a = at-args .args in
     let e = c .unequal-slots .ensures in
-    let l = c .before .before .before .before .before .before .pre .1 in
+    let l = at-args .pre .1 in
     let t = l .tables in (
       performed registers functions _
           (slotsOf (a .slot .now) (a .regs .now) (a .unequal .now) (a .result .now) (a .ever .now) (a .mark .now) (a .infeasible)) _ _
-          (c .before .before .before .before .letter4 .given .1) (e .0 (a .regs .now) (a .result .now) (a .ever .now) (a .mark .now)),
+          (at-letter4 .letter4 .given .1) (e .0 (a .regs .now) (a .result .now) (a .ever .now) (a .mark .now)),
       (
         record {
           low = l .low;
@@ -90,6 +114,6 @@ perform-slots-spec = tie.close (tie.spec
           tables = record { unequal-long = e .1; result-long = t .result-long; ever-long = t .ever-long };
           mark-long = l .mark-long;
         },
-        c .before .before .before .before .before .before .pre .2,
+        at-args .pre .2,
       ),
     )))

@@ -13,7 +13,11 @@ rename-masks-spec = tie.close (tie.spec
     (λ c κs. search needs)
     (λ c κs. search needs)
     (λ c. search needs)
-    (λ c. let k = c .before .before .before .before .before .before .before in
+    (λ c.
+    let at-forget-masks = c .before .before in
+    let at-before = at-forget-masks .before .before .before .before in
+    let at-single3 = at-before .before in
+    let k = at-before .before in
     masks-renamed registers _ _ _ _ _ _ _ _ _ (k .before .before .before .before .before .before .unite-column .ensures)
-    (k .before .before .single .ensures) (k .before .single2 .ensures) (c .before .before .before .before .before .before .before .single3 .ensures)
-    (c .before .before .before .before .before .before .move-bits .ensures) (c .before .before .forget-masks .ensures)))
+    (k .before .before .single .ensures) (k .before .single2 .ensures) (at-single3 .single3 .ensures)
+    (at-before .move-bits .ensures) (at-forget-masks .forget-masks .ensures)))

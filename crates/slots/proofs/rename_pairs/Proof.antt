@@ -13,8 +13,14 @@ rename-pairs-spec = tie.close (tie.spec
     (λ c κs. search needs)
     (λ c κs. search needs)
     (λ c κs. search needs)
-    (λ c. let k = c .before .before .before .before .before .before .before in
+    (λ c.
+    let at-move-bits = c .before .before in
+    let at-single3 = at-move-bits .before in
+    let at-single2 = at-single3 .before in
+    let at-single = at-single2 .before in
+    let at-before = at-single .before in
+    let at-unite-row = at-before .before in
+    let k = at-before .before in
     results-renamed registers _ _ _ _ _ _ _ _ _ _ (k .before .before .unite-column .ensures)
-    (c .before .before .before .before .before .before .before .unite-row .ensures) (c .before .before .before .before .before .single .ensures)
-    (c .before .before .before .before .single2 .ensures) (c .before .before .before .single3 .ensures) (c .before .before .move-bits .ensures)
-    (c .drop-results .ensures)))
+    (at-unite-row .unite-row .ensures) (at-single .single .ensures)
+    (at-single2 .single2 .ensures) (at-single3 .single3 .ensures) (at-move-bits .move-bits .ensures) (c .drop-results .ensures)))

@@ -13,27 +13,38 @@ pub renew-spec : {M : Type 1} → statement M
 renew-spec = tie.close (tie.spec
     (λ c κs. search needs)
     (λ c κs. search needs)
-    (λ c κs. let p = c .before .before .before .before .before .before .before .pre in
-    (c .before .before .before .before .before .before .slot-of .ensures .1, p .4, p .5, p .6, p .7))
-    (λ c κs. let p = c .before .before .before .before .before .before .before .before .before .before .before .pre in
-    let d = c .before .before .before .drop-slot .ensures in (
+    (λ c κs.
+    let at-slot-of = c .before .before .before .before .before .before in
+    let at-pre = at-slot-of .before in
+    let p = at-pre .pre in
+    (at-slot-of .slot-of .ensures .1, p .4, p .5, p .6, p .7))
+    (λ c κs.
+    let at-drop-slot = c .before .before .before in
+    let at-slot-of = at-drop-slot .before .before .before .before .before .before .before in
+    let at-pre = at-slot-of .before in
+    let p = at-pre .pre in
+    let d = at-drop-slot .drop-slot .ensures in (
       p .1,
       p .2,
       p .3,
-      c .before .before .before .before .before .before .before .before .before .before .slot-of .ensures .1,
+      at-slot-of .slot-of .ensures .1,
       d .1 .0 .0 .result-long,
       d .1 .0 .0 .ever-long,
       d .1 .1 .long,
     ))
     (λ c. search needs)
-    (λ c. let a = c .before .before .before .before .before .before .before .before .before .before .before .before .args in
-    let p = c .before .before .before .before .before .before .before .before .before .before .before .before .pre in
-    let d = c .before .before .before .before .drop-slot .ensures in
+    (λ c.
+    let at-drop-slot = c .before .before .before .before in
+    let at-arguments = at-drop-slot .before .before .before .before .before .before in
+    let at-slot-of = at-arguments .before in
+    let at-args = at-slot-of .before in
+    let a = at-args .args in
+    let p = at-args .pre in
+    let d = at-drop-slot .drop-slot .ensures in
     let n = c .hold-result .ensures in (
       (λ g i. renewed-is registers functions (slotsOf (a .slot .now) g (a .unequal .now) (a .result .now) (a .ever .now) (a .mark .now) i)
-          (slotsOf _ g _ _ _ _ i) (a .x) (a .f) (a .a) (a .b) _ _ _ _
-          (c .before .before .before .before .before .before .before .before .before .before .before .slot-of .ensures .0)
-          (c .before .before .before .before .before .before .before .before .before .before .arguments .ensures) (d .0 g i) (n .0) (n .1 .0)),
+          (slotsOf _ g _ _ _ _ i) (a .x) (a .f) (a .a) (a .b) _ _ _ _ (at-slot-of .slot-of .ensures .0)
+          (at-arguments .arguments .ensures) (d .0 g i) (n .0) (n .1 .0)),
       (
         (
           tabled-same registers functions _ _ _ _ _ _ refl (n .0) (n .1 .0) (tabled-recorded registers functions _ _ _ _ _ _ _ (d .1 .0 .0)),

@@ -40,10 +40,16 @@ same-window-spec = tie.close (tie.spec
     (λ c κs. let (v, w) = long (start (c .before .before .before .before .before)) in w .unequal ∙ sym (v .unequal))
     (λ c. search needs)
     (λ c. search needs)
-    (λ c κs. let (v, w) = long (start (c .before .before .before .before .before .before .before .before)) in w .result ∙ sym (v .result))
+    (λ c κs.
+    let at-before = c .before .before .before .before .before .before .before in
+    let (v, w) = long (start (at-before .before)) in w .result ∙ sym (v .result))
     (λ c. search needs)
-    (λ c. sym (long (start (c .before .before .before .before .before .before .before .before .before .before .before)) .1 .ever))
-    (λ c κs. let (v, w) = long (start (c .before .before .before .before .before .before .before .before .before .before .before)) in w .ever ∙ sym (v .ever))
+    (λ c.
+    let at-before = c .before .before .before .before .before .before .before .before .before .before in
+    sym (long (start (at-before .before)) .1 .ever))
+    (λ c κs.
+    let at-before = c .before .before .before .before .before .before .before .before .before .before in
+    let (v, w) = long (start (at-before .before)) in w .ever ∙ sym (v .ever))
     (λ c κs. search needs)
     (λ c κs. search needs)
     (λ c. let p = c .before .before .before .before in let q = p .before .before .before .before .before .before in

@@ -12,13 +12,17 @@ to-slots-spec = tie.close (tie.spec
     (λ c κs. search needs)
     (λ c κs. search needs)
     (λ c κs. search needs)
-    (λ c. let k = c .before .before .before .before .before .before in let g = k .before .before in
+    (λ c.
+    let at-keep3 = c .before .before in
+    let at-keep2 = at-keep3 .before .before in
+    let at-before = at-keep2 .before in
+    let k = at-before .before in let g = k .before .before in
     let t = g .before .before .before .before .before .pre .2 in (
       g .before .before .name-slots .ensures,
       g .group .ensures,
       record {
         unequal-long = k .keep .ensures ∙ t .unequal-long;
-        result-long = c .before .before .keep3 .ensures ∙ c .before .before .before .before .keep2 .ensures ∙ t .result-long;
+        result-long = at-keep3 .keep3 .ensures ∙ at-keep2 .keep2 .ensures ∙ t .result-long;
         ever-long = c .keep4 .ensures ∙ t .ever-long;
       },
     )))

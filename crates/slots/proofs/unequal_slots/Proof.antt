@@ -14,11 +14,15 @@ unequal-slots-spec = tie.close (tie.spec
     (λ c κs. (c .before .pre .1, c .before .pre .2))
     (λ c κs. (c .before .before .slot-of .ensures .1, c .before .slot-of2 .ensures .1, c .before .before .before .pre .3))
     (λ c κs. search needs)
-    (λ c. let a = c .before .before .before .before .before .before .args in
+    (λ c.
+    let at-part-slots = c .before .before in
+    let at-slot-of2 = at-part-slots .before .before in
+    let at-slot-of = at-slot-of2 .before in
+    let at-args = at-slot-of .before in
+    let a = at-args .args in
     let s = c .settle .ensures in
-    let n = c .before .before .part-slots .ensures in (
+    let n = at-part-slots .part-slots .ensures in (
       (λ g r e m. unequal-is registers functions (slotsOf (a .slot .now) g (a .unequal .now) r e m (a .infeasible)) _ (a .x) (a .y) _ _ _
-          (c .before .before .before .before .before .slot-of .ensures .0) (c .before .before .before .before .slot-of2 .ensures .0) n (s .0
-          (a .slot .now) g r e m)),
-      s .1 (ap length n ∙ apart-length _ _ _ ∙ c .before .before .before .before .before .before .pre .3),
+          (at-slot-of .slot-of .ensures .0) (at-slot-of2 .slot-of2 .ensures .0) n (s .0 (a .slot .now) g r e m)),
+      s .1 (ap length n ∙ apart-length _ _ _ ∙ at-args .pre .3),
     )))

@@ -16,9 +16,14 @@ same-length : tie.Need-same-length
 same-length c = search needs
 
 returns : tie.Need-returns
-returns c = let a = c .before .before .before .before .before .before .before .before .before .before .before .before .before .args in
-    keeps-monitor (a .kind) (a .m) (a .state .now) _ _ _ (c .before .before .before .before .head .ensures)
-    (c .before .before .before .before .before .flags .ensures) (c .before .before .put-parts .ensures .1) (c .before .before .put-parts .ensures .0)
+returns c =
+    let at-put-parts = c .before .before in
+    let at-head = at-put-parts .before .before in
+    let at-flags = at-head .before in
+    let at-args = at-flags .before .before .before .before .before .before .before .before in
+    let a = at-args .args in
+    keeps-monitor (a .kind) (a .m) (a .state .now) _ _ _ (at-head .head .ensures)
+    (at-flags .flags .ensures) (at-put-parts .put-parts .ensures .1) (at-put-parts .put-parts .ensures .0)
 
 pub put-monitor-spec : {M : Type 1} → statement M
 put-monitor-spec =

@@ -38,26 +38,30 @@ same-length : tie.Need-same-length
 same-length c = search needs
 
 returns : tie.Need-returns
-returns c = let a = c .before .before .before .before .before .before .before .before .before .before .before .before .before .before .before .before .before
-    .before .before .args in keeps-stream (a .kind) (a .s) (a .state .now) _ _
-    (c .before .before .before .before .before .before .phase-code .result ∷ a .s .high ∷ c .before .before .before .before .before .verdict-code .result ∷
-    c .before .before .before .before .refusal-number .result ∷ []) _ _ _
-    (c .before .before .before .before .before .before .before .before .before .before .before .before .before .before .put-monitor .ensures)
-    (rw (
-      c .before .before .before .before .before .before .phase-code .ensures,
-      c .before .before .before .before .before .verdict-code .ensures,
-      c .before .before .before .before .refusal-number .ensures,
-    ))
-    (c .before .before .before .before .before .before .before .before .before .before .before .octets .ensures)
-    (rw (c .before .before .before .before .before .before .before .before .before .before .first-number .ensures) at
-    (c .before .before .before .before .before .before .before .before .before .octets2 .ensures))
-    (rw (c .before .before .before .before .before .before .before .before .second-number .ensures) at
-    (c .before .before .before .before .before .before .before .octets3 .ensures)) (c .before .before .put-tail .ensures)
+returns c =
+    let at-put-tail = c .before .before in
+    let at-refusal-number = at-put-tail .before .before in
+    let at-verdict-code = at-refusal-number .before in
+    let at-phase-code = at-verdict-code .before in
+    let at-octets3 = at-phase-code .before in
+    let at-second-number = at-octets3 .before in
+    let at-octets2 = at-second-number .before in
+    let at-first-number = at-octets2 .before in
+    let at-octets = at-first-number .before in
+    let at-put-monitor = at-octets .before .before .before in
+    let at-args = at-put-monitor .before .before .before .before .before in
+    let a = at-args .args in keeps-stream (a .kind) (a .s) (a .state .now) _ _
+    (at-phase-code .phase-code .result ∷ a .s .high ∷ at-verdict-code .verdict-code .result ∷
+    at-refusal-number .refusal-number .result ∷ []) _ _ _ (at-put-monitor .put-monitor .ensures) (rw (
+      at-phase-code .phase-code .ensures,
+      at-verdict-code .verdict-code .ensures,
+      at-refusal-number .refusal-number .ensures,
+    )) (at-octets .octets .ensures) (rw (at-first-number .first-number .ensures) at (at-octets2 .octets2 .ensures))
+    (rw (at-second-number .second-number .ensures) at (at-octets3 .octets3 .ensures)) (at-put-tail .put-tail .ensures)
 
 pub put-stream-spec : {M : Type 1} → statement M
 put-stream-spec =
-    tie.close
-    (tie.spec
+    tie.close (tie.spec
     put-monitor-requires
     octets-requires
     first-number-requires

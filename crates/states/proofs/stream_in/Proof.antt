@@ -44,19 +44,24 @@ shared-slice-read-t11 c = search needs
 
 returns : tie.Need-returns
 unfolding streamIn
-returns c = rw (
-  c .before .phase-of .ensures,
-  c .before .before .before .verdict-of .ensures,
-  c .before .before .before .before .before .before .before .before .number-at .ensures,
-  c .before .before .before .before .before .before .before .number-at2 .ensures,
-  c .before .before .before .before .before .before .number-at3 .ensures,
-  c .before .before .before .before .before .before .before .before .before .monitor-in .ensures,
-)
+returns c =
+    let at-verdict-of = c .before .before .before in
+    let at-number-at3 = at-verdict-of .before .before .before in
+    let at-number-at2 = at-number-at3 .before in
+    let at-number-at = at-number-at2 .before in
+    let at-monitor-in = at-number-at .before in
+    rw (
+      c .before .phase-of .ensures,
+      at-verdict-of .verdict-of .ensures,
+      at-number-at .number-at .ensures,
+      at-number-at2 .number-at2 .ensures,
+      at-number-at3 .number-at3 .ensures,
+      at-monitor-in .monitor-in .ensures,
+    )
 
 pub stream-in-spec : {M : Type 1} → statement M
 stream-in-spec =
-    tie.close
-    (tie.spec
+    tie.close (tie.spec
     monitor-in-requires
     number-at-requires
     number-at-requires-2

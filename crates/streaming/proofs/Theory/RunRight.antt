@@ -1,4 +1,4 @@
--- What follows from the definitions of specs/RunRight.antt.
+-- The run over a trace's words answers for the trace.
 use mathlib.Core.Path.{_≡_, refl, sym, _∙_, ap, ap₂, subst}
 use mathlib.Core.Logic.{_↔_}
 use mathlib.Core.Bool.{Bool, true, false, not, _&&_}

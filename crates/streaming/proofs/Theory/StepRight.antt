@@ -1,4 +1,4 @@
--- What follows from the definitions of specs/StepRight.antt.
+-- What the monitor's step does on the window of a trace.
 use mathlib.Core.Path.{_≡_, refl, sym, _∙_, subst}
 use mathlib.Core.Logic.{_↔_}
 use mathlib.Core.Bool.{true, false}

@@ -1,4 +1,4 @@
--- What follows from the definitions of specs/StreamRight.antt.
+-- The run over a trace's bytes, all at once or one by one, meets demand 2.
 use mathlib.Core.Path.{_≡_, refl, sym, _∙_, ap, ap₂, subst}
 use mathlib.Core.Bool.{Bool, true, false, _&&_}
 use Prim.Native.Nat.{ℕ, zero, suc, _+_, _-_, _*_, _/_, _%_, _≤_}

@@ -5,8 +5,7 @@ use Rattle.syntax.proofs.finish.Tie as tie
 
 pub finish-spec : {M : Type 1} → statement M
 finish-spec =
-    tie.close
-    (tie.spec
+    tie.close (tie.spec
     (λ c κs. search needs)
     (λ c κs. search needs)
     (λ c.
@@ -16,13 +15,16 @@ finish-spec =
     (λ c κs. search needs)
     (λ c κs. search needs)
     (λ c.
-    let past = c .before .before .before .before .before .before .before in
+    let at-header-of = c .before .before in
+    let at-points-of = at-header-of .before in
+    let at-before = at-points-of .before .before .before in
+    let past = at-before .before in
     let far = past .before .before .before .before .before .before .before in
     let args = far .args in
-    let whole = law.points-whole (args .body) _ _ _ _ _ _ (c .before .before .before .before .before .before .redirect-range .ensures .0)
-    (c .before .before .before .before .before .before .redirect-range .ensures .1) (c .before .before .before .points-of .ensures) in
+    let whole = law.points-whole (args .body) _ _ _ _ _ _ (at-before .redirect-range .ensures .0)
+    (at-before .redirect-range .ensures .1) (at-points-of .points-of .ensures) in
     law.finish-read (args .text .now) (args .rs) (args .fs) _ _ (past .before .before .before .before .before .next .ensures)
-    (past .before .before .before .if1 .taken) (far .pre .0) (far .pre .1) (past .before .before .if2 .left) _ (c .before .before .header-of .ensures)
+    (past .before .before .before .if1 .taken) (far .pre .0) (far .pre .1) (past .before .before .if2 .left) _ (at-header-of .header-of .ensures)
     _ whole)
     (λ c κs. search needs)
     (λ c κs. search needs)

@@ -21,10 +21,14 @@ array-share-prefix-names : tie.Need-array-share-prefix-names
 array-share-prefix-names c = search needs
 
 slice-aggregate-is-known : tie.Need-slice-aggregate-is-known
-slice-aggregate-is-known c = sym ((c .before .before .before .before .before .pre) .1 .size)
+slice-aggregate-is-known c =
+    let at-pre = c .before .before .before .before .before in
+    sym ((at-pre .pre) .1 .size)
 
 is-known-requires-2 : tie.Need-is-known-requires-2
-is-known-requires-2 c κs = omega (arith, (c .before .before .before .before .before .pre) .1 .size, (c .before .before .before .before .before .pre) .1 .few)
+is-known-requires-2 c κs =
+    let at-pre = c .before .before .before .before .before in
+    omega (arith, (at-pre .pre) .1 .size, (at-pre .pre) .1 .few)
 
 returns-3 : tie.Need-returns-3
 returns-3 c = law.taken-last _ _ _ _ (c .before .before .before .before .if1 .left) _ (c .before .before .before .is-known .ensures)
@@ -32,8 +36,7 @@ returns-3 c = law.taken-last _ _ _ _ (c .before .before .before .before .if1 .le
 
 pub is-function-taken-spec : {M : Type 1} → statement M
 is-function-taken-spec =
-    tie.close
-    (tie.spec
+    tie.close (tie.spec
     returns
     is-known-requires
     returns-2

@@ -37,27 +37,37 @@ read-registers-requires : tie.Need-read-registers-requires
 read-registers-requires c κs = search needs
 
 read-rest-requires : tie.Need-read-rest-requires
-read-rest-requires c κs = law.names-kept _ (c .before .before .before .before .before .before .if1 .left) _
-    (c .before .before .before .before .before .expect .ensures) _ _ ((c .before .before .before .g .given) .1) _ (c .before .read-registers .ensures)
+read-rest-requires c κs =
+    let at-g = c .before .before .before in
+    let at-expect = at-g .before .before in
+    let at-if1 = at-expect .before in
+    law.names-kept _ (at-if1 .if1 .left) _ (at-expect .expect .ensures) _ _ ((at-g .g .given) .1) _ (c .before .read-registers .ensures)
     (c .if2 .taken)
 
 returns-3 : tie.Need-returns-3
-returns-3 c = reads _ _ (law.read-rest _ (c .before .before .before .before .before .before .before .if1 .left) _
-    (c .before .before .before .before .before .before .expect .ensures) _ _ ((c .before .before .before .before .g .given) .1) _
-    (c .before .before .read-registers .ensures) (c .before .if2 .taken) _ (c .read-rest .ensures))
+returns-3 c =
+    let at-read-registers = c .before .before in
+    let at-g = at-read-registers .before .before in
+    let at-expect = at-g .before .before in
+    let at-if1 = at-expect .before in
+    reads _ _ (law.read-rest _ (at-if1 .if1 .left) _ (at-expect .expect .ensures) _ _ ((at-g .g .given) .1) _
+    (at-read-registers .read-registers .ensures) (c .before .if2 .taken) _ (c .read-rest .ensures))
 
 refused-answer-requires-2 : tie.Need-refused-answer-requires-2
 refused-answer-requires-2 c κs = search needs
 
 returns-4 : tie.Need-returns-4
-returns-4 c = reads _ _ (law.read-refused _ (c .before .before .before .before .before .before .before .if1 .left) _
-    (c .before .before .before .before .before .before .expect .ensures) _ _ ((c .before .before .before .before .g .given) .1) _
-    (c .before .before .read-registers .ensures) (c .before .if2 .left) _ (c .refused-answer2 .ensures))
+returns-4 c =
+    let at-read-registers = c .before .before in
+    let at-g = at-read-registers .before .before in
+    let at-expect = at-g .before .before in
+    let at-if1 = at-expect .before in
+    reads _ _ (law.read-refused _ (at-if1 .if1 .left) _ (at-expect .expect .ensures) _ _ ((at-g .g .given) .1) _
+    (at-read-registers .read-registers .ensures) (c .before .if2 .left) _ (c .refused-answer2 .ensures))
 
 pub read-spec : {M : Type 1} → statement M
 read-spec =
-    tie.close
-    (tie.spec
+    tie.close (tie.spec
     refused-answer-requires
     returns
     expect-requires

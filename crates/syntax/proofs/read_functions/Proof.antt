@@ -34,16 +34,24 @@ is-name-requires : tie.Need-is-name-requires Inv-loop μ-loop
 is-name-requires c κs = search needs
 
 is-function-taken-requires : tie.Need-is-function-taken-requires Inv-loop μ-loop
-is-function-taken-requires c κs = ((c .before .before .before .before .before .before .pre), (c .before .before .before .loop .inv) .0)
+is-function-taken-requires c κs =
+    let at-loop = c .before .before .before in
+    let at-pre = at-loop .before .before .before in
+    ((at-pre .pre), (at-loop .loop .inv) .0)
 
 no-functions-requires : tie.Need-no-functions-requires Inv-loop μ-loop
 no-functions-requires c κs = search needs
 
 returns : tie.Need-returns Inv-loop μ-loop
-returns c = law.functions-taken _ _ _ _ _ _ _ ((c .before .before .before .before .before .before .loop .inv) .0)
-    ((c .before .before .before .before .before .before .loop .inv) .1) ((c .before .before .before .before .before .before .loop .inv) .2) _
-    (c .before .before .before .before .before .next .ensures) _ (c .before .before .before .before .is-name .ensures) (c .before .before .before .if1 .taken) _
-    (c .before .before .is-function-taken .ensures) (c .before .if2 .taken) _ (c .no-functions .ensures)
+returns c =
+    let at-is-function-taken = c .before .before in
+    let at-if1 = at-is-function-taken .before in
+    let at-is-name = at-if1 .before in
+    let at-next = at-is-name .before in
+    let at-loop = at-next .before in
+    law.functions-taken _ _ _ _ _ _ _ ((at-loop .loop .inv) .0) ((at-loop .loop .inv) .1) ((at-loop .loop .inv) .2) _
+    (at-next .next .ensures) _ (at-is-name .is-name .ensures) (at-if1 .if1 .taken) _
+    (at-is-function-taken .is-function-taken .ensures) (c .before .if2 .taken) _ (c .no-functions .ensures)
 
 arity-requires : tie.Need-arity-requires Inv-loop μ-loop
 arity-requires c κs = search needs
@@ -58,56 +66,77 @@ refused-functions-requires : tie.Need-refused-functions-requires Inv-loop μ-loo
 refused-functions-requires c κs = search needs
 
 returns-2 : tie.Need-returns-2 Inv-loop μ-loop
-returns-2 c = law.functions-refused _ _ _ _ _ _ _ ((c .before .before .before .before .before .before .before .before .before .loop .inv) .0)
-    ((c .before .before .before .before .before .before .before .before .before .loop .inv) .1)
-    ((c .before .before .before .before .before .before .before .before .before .loop .inv) .2) _
-    (c .before .before .before .before .before .before .before .before .next .ensures) _
-    (c .before .before .before .before .before .before .before .is-name .ensures) (c .before .before .before .before .before .before .if1 .taken) _
-    (c .before .before .before .before .before .is-function-taken .ensures) (c .before .before .before .before .if2 .left) _
-    (c .before .before .before .arity .ensures) _ _ ((c .before .enum-told .given) .1) _ (c .refused-functions .ensures)
+returns-2 c =
+    let at-arity = c .before .before .before in
+    let at-if2 = at-arity .before in
+    let at-is-function-taken = at-if2 .before in
+    let at-if1 = at-is-function-taken .before in
+    let at-is-name = at-if1 .before in
+    let at-next = at-is-name .before in
+    let at-loop = at-next .before in
+    law.functions-refused _ _ _ _ _ _ _ ((at-loop .loop .inv) .0) ((at-loop .loop .inv) .1) ((at-loop .loop .inv) .2) _ (at-next .next .ensures) _
+    (at-is-name .is-name .ensures) (at-if1 .if1 .taken) _ (at-is-function-taken .is-function-taken .ensures) (at-if2 .if2 .left) _
+    (at-arity .arity .ensures) _ _ ((c .before .enum-told .given) .1) _ (c .refused-functions .ensures)
 
 mul-names : tie.Need-mul-names Inv-loop μ-loop
 mul-names c = search needs
 
 array-write-names : tie.Need-array-write-names Inv-loop μ-loop
-array-write-names c = let h = law.functions-room _ _ _ _ _ _ _ ((c .before .before .before .before .before .before .before .before .before .loop .inv) .0)
-    ((c .before .before .before .before .before .before .before .before .before .loop .inv) .1)
-    ((c .before .before .before .before .before .before .before .before .before .loop .inv) .2) _
-    (c .before .before .before .before .before .before .before .before .next .ensures) _
-    (c .before .before .before .before .before .before .before .is-name .ensures) (c .before .before .before .before .before .before .if1 .taken) _
-    (c .before .before .before .before .before .is-function-taken .ensures) (c .before .before .before .before .if2 .left) _
-    (c .before .before .before .arity .ensures) in omega arith
+array-write-names c =
+    let at-arity = c .before .before .before in
+    let at-if2 = at-arity .before in
+    let at-is-function-taken = at-if2 .before in
+    let at-if1 = at-is-function-taken .before in
+    let at-is-name = at-if1 .before in
+    let at-next = at-is-name .before in
+    let at-loop = at-next .before in
+    let h = law.functions-room _ _ _ _ _ _ _ ((at-loop .loop .inv) .0) ((at-loop .loop .inv) .1) ((at-loop .loop .inv) .2) _
+    (at-next .next .ensures) _ (at-is-name .is-name .ensures) (at-if1 .if1 .taken) _
+    (at-is-function-taken .is-function-taken .ensures) (at-if2 .if2 .left) _ (at-arity .arity .ensures) in omega arith
 
 array-write-arities : tie.Need-array-write-arities Inv-loop μ-loop
-array-write-arities c = let h =
-    law.functions-room _ _ _ _ _ _ _ ((c .before .before .before .before .before .before .before .before .before .loop .inv) .0)
-    ((c .before .before .before .before .before .before .before .before .before .loop .inv) .1)
-    ((c .before .before .before .before .before .before .before .before .before .loop .inv) .2) _
-    (c .before .before .before .before .before .before .before .before .next .ensures) _
-    (c .before .before .before .before .before .before .before .is-name .ensures) (c .before .before .before .before .before .before .if1 .taken) _
-    (c .before .before .before .before .before .is-function-taken .ensures) (c .before .before .before .before .if2 .left) _
-    (c .before .before .before .arity .ensures) in omega arith
+array-write-arities c =
+    let at-arity = c .before .before .before in
+    let at-if2 = at-arity .before in
+    let at-is-function-taken = at-if2 .before in
+    let at-if1 = at-is-function-taken .before in
+    let at-is-name = at-if1 .before in
+    let at-next = at-is-name .before in
+    let at-loop = at-next .before in
+    let h =
+    law.functions-room _ _ _ _ _ _ _ ((at-loop .loop .inv) .0) ((at-loop .loop .inv) .1) ((at-loop .loop .inv) .2) _ (at-next .next .ensures) _
+    (at-is-name .is-name .ensures) (at-if1 .if1 .taken) _ (at-is-function-taken .is-function-taken .ensures) (at-if2 .if2 .left) _
+    (at-arity .arity .ensures) in omega arith
 
 add-count : tie.Need-add-count Inv-loop μ-loop
 add-count c = search needs
 
 loop-less : tie.Need-loop-less Inv-loop μ-loop
-loop-less c = law.functions-turn _ _ _ _ _ _ _ ((c .before .before .before .before .before .before .before .before .before .loop .inv) .0)
-    ((c .before .before .before .before .before .before .before .before .before .loop .inv) .1)
-    ((c .before .before .before .before .before .before .before .before .before .loop .inv) .2) _
-    (c .before .before .before .before .before .before .before .before .next .ensures) _
-    (c .before .before .before .before .before .before .before .is-name .ensures) (c .before .before .before .before .before .before .if1 .taken) _
-    (c .before .before .before .before .before .is-function-taken .ensures) (c .before .before .before .before .if2 .left) _
-    (c .before .before .before .arity .ensures) _ _ ((c .before .g .given) .1) .0
+loop-less c =
+    let at-arity = c .before .before .before in
+    let at-if2 = at-arity .before in
+    let at-is-function-taken = at-if2 .before in
+    let at-if1 = at-is-function-taken .before in
+    let at-is-name = at-if1 .before in
+    let at-next = at-is-name .before in
+    let at-loop = at-next .before in
+    law.functions-turn _ _ _ _ _ _ _ ((at-loop .loop .inv) .0) ((at-loop .loop .inv) .1) ((at-loop .loop .inv) .2) _ (at-next .next .ensures) _
+    (at-is-name .is-name .ensures) (at-if1 .if1 .taken) _ (at-is-function-taken .is-function-taken .ensures) (at-if2 .if2 .left) _
+    (at-arity .arity .ensures) _ _ ((c .before .g .given) .1) .0
 
 loop-again : tie.Need-loop-again Inv-loop μ-loop
-loop-again c = let x = law.functions-turn _ _ _ _ _ _ _ ((c .before .before .before .before .before .before .before .before .before .loop .inv) .0)
-    ((c .before .before .before .before .before .before .before .before .before .loop .inv) .1)
-    ((c .before .before .before .before .before .before .before .before .before .loop .inv) .2) _
-    (c .before .before .before .before .before .before .before .before .next .ensures) _
-    (c .before .before .before .before .before .before .before .is-name .ensures) (c .before .before .before .before .before .before .if1 .taken) _
-    (c .before .before .before .before .before .is-function-taken .ensures) (c .before .before .before .before .if2 .left) _
-    (c .before .before .before .arity .ensures) _ _ ((c .before .g .given) .1) in (x .1, x .2, x .3)
+loop-again c =
+    let at-arity = c .before .before .before in
+    let at-if2 = at-arity .before in
+    let at-is-function-taken = at-if2 .before in
+    let at-if1 = at-is-function-taken .before in
+    let at-is-name = at-if1 .before in
+    let at-next = at-is-name .before in
+    let at-loop = at-next .before in
+    let x = law.functions-turn _ _ _ _ _ _ _ ((at-loop .loop .inv) .0) ((at-loop .loop .inv) .1) ((at-loop .loop .inv) .2) _
+    (at-next .next .ensures) _ (at-is-name .is-name .ensures) (at-if1 .if1 .taken) _
+    (at-is-function-taken .is-function-taken .ensures) (at-if2 .if2 .left) _
+    (at-arity .arity .ensures) _ _ ((c .before .g .given) .1) in (x .1, x .2, x .3)
 
 functions-end-requires : tie.Need-functions-end-requires Inv-loop μ-loop
 functions-end-requires c κs = ((c .before .before .before .loop .inv) .0, (c .before .before .before .loop .inv) .1)
@@ -119,8 +148,7 @@ returns-3 c = law.functions-last _ _ _ _ _ _ _ ((c .before .before .before .befo
 
 pub read-functions-spec : {M : Type 1} → statement M
 read-functions-spec =
-    tie.close
-    (tie.spec
+    tie.close (tie.spec
     Inv-loop
     μ-loop
     loop-holds

@@ -37,30 +37,44 @@ no-registers-requires : tie.Need-no-registers-requires Inv-loop μ-loop
 no-registers-requires c κs = search needs
 
 returns : tie.Need-returns Inv-loop μ-loop
-returns c = law.registers-taken _ _ _ _ _ ((c .before .before .before .before .before .before .loop .inv) .0)
-    ((c .before .before .before .before .before .before .loop .inv) .1) _ (c .before .before .before .before .before .next .ensures) _
-    (c .before .before .before .before .is-name .ensures) (c .before .before .before .if1 .taken) _ (c .before .before .is-register-taken .ensures)
+returns c =
+    let at-is-register-taken = c .before .before in
+    let at-if1 = at-is-register-taken .before in
+    let at-is-name = at-if1 .before in
+    let at-next = at-is-name .before in
+    let at-loop = at-next .before in
+    law.registers-taken _ _ _ _ _ ((at-loop .loop .inv) .0) ((at-loop .loop .inv) .1) _ (at-next .next .ensures) _
+    (at-is-name .is-name .ensures) (at-if1 .if1 .taken) _ (at-is-register-taken .is-register-taken .ensures)
     (c .before .if2 .taken) _ (c .no-registers .ensures)
 
 mul-names : tie.Need-mul-names Inv-loop μ-loop
 mul-names c = search needs
 
 array-write-names : tie.Need-array-write-names Inv-loop μ-loop
-array-write-names c = let h = law.not-full _ 8 _ _ _ (c .before .is-register-taken .ensures) (c .if2 .left)
-    ((c .before .before .before .before .before .loop .inv) .0 .few) in omega arith
+array-write-names c =
+    let at-loop = c .before .before .before .before .before in
+    let h = law.not-full _ 8 _ _ _ (c .before .is-register-taken .ensures) (c .if2 .left) ((at-loop .loop .inv) .0 .few) in omega arith
 
 add-count : tie.Need-add-count Inv-loop μ-loop
 add-count c = search needs
 
 loop-less : tie.Need-loop-less Inv-loop μ-loop
-loop-less c = law.registers-turn _ _ _ _ _ ((c .before .before .before .before .before .loop .inv) .0)
-    ((c .before .before .before .before .before .loop .inv) .1) _ (c .before .before .before .before .next .ensures) _
-    (c .before .before .before .is-name .ensures) (c .before .before .if1 .taken) _ (c .before .is-register-taken .ensures) (c .if2 .left) .0
+loop-less c =
+    let at-if1 = c .before .before in
+    let at-is-name = at-if1 .before in
+    let at-next = at-is-name .before in
+    let at-loop = at-next .before in
+    law.registers-turn _ _ _ _ _ ((at-loop .loop .inv) .0) ((at-loop .loop .inv) .1) _ (at-next .next .ensures) _
+    (at-is-name .is-name .ensures) (at-if1 .if1 .taken) _ (c .before .is-register-taken .ensures) (c .if2 .left) .0
 
 loop-again : tie.Need-loop-again Inv-loop μ-loop
-loop-again c = let x = law.registers-turn _ _ _ _ _ ((c .before .before .before .before .before .loop .inv) .0)
-    ((c .before .before .before .before .before .loop .inv) .1) _ (c .before .before .before .before .next .ensures) _
-    (c .before .before .before .is-name .ensures) (c .before .before .if1 .taken) _ (c .before .is-register-taken .ensures) (c .if2 .left) in (x .1, x .2)
+loop-again c =
+    let at-if1 = c .before .before in
+    let at-is-name = at-if1 .before in
+    let at-next = at-is-name .before in
+    let at-loop = at-next .before in
+    let x = law.registers-turn _ _ _ _ _ ((at-loop .loop .inv) .0) ((at-loop .loop .inv) .1) _ (at-next .next .ensures) _
+    (at-is-name .is-name .ensures) (at-if1 .if1 .taken) _ (c .before .is-register-taken .ensures) (c .if2 .left) in (x .1, x .2)
 
 registers-end-requires : tie.Need-registers-end-requires Inv-loop μ-loop
 registers-end-requires c κs = (c .before .before .before .loop .inv) .0
@@ -71,8 +85,7 @@ returns-2 c = law.registers-last _ _ _ _ _ ((c .before .before .before .before .
 
 pub read-registers-spec : {M : Type 1} → statement M
 read-registers-spec =
-    tie.close
-    (tie.spec
+    tie.close (tie.spec
     Inv-loop
     μ-loop
     loop-holds

@@ -19,26 +19,31 @@ functions-line-requires : tie.Need-functions-line-requires
 functions-line-requires c κs = search needs
 
 read-body-requires : tie.Need-read-body-requires
-read-body-requires c κs = let x =
-    law.line-kept (c .before .before .before .before .before .args .text .now) (c .before .before .before .before .before .args .rs) _
-    (c .before .functions-line .ensures) (c .if1 .taken) in ((c .before .before .before .before .before .pre), x)
+read-body-requires c κs =
+    let at-args = c .before .before .before .before .before in
+    let x =
+    law.line-kept (at-args .args .text .now) (at-args .args .rs) _ (c .before .functions-line .ensures) (c .if1 .taken) in ((at-args .pre), x)
 
 returns : tie.Need-returns
-returns c = law.rest-read (c .before .before .before .before .before .before .args .text .now) (c .before .before .before .before .before .before .args .rs) _
-    (c .before .before .functions-line .ensures) (c .before .if1 .taken) _ (c .read-body .ensures)
+returns c =
+    let at-functions-line = c .before .before in
+    let at-args = at-functions-line .before .before .before .before in
+    law.rest-read (at-args .args .text .now) (at-args .args .rs) _
+    (at-functions-line .functions-line .ensures) (c .before .if1 .taken) _ (c .read-body .ensures)
 
 refused-answer-requires : tie.Need-refused-answer-requires
 refused-answer-requires c κs = search needs
 
 returns-2 : tie.Need-returns-2
-returns-2 c = law.rest-refused (c .before .before .before .before .before .before .args .text .now)
-    (c .before .before .before .before .before .before .args .rs) _ (c .before .before .functions-line .ensures) (c .before .if1 .left) _
+returns-2 c =
+    let at-functions-line = c .before .before in
+    let at-args = at-functions-line .before .before .before .before in
+    law.rest-refused (at-args .args .text .now) (at-args .args .rs) _ (at-functions-line .functions-line .ensures) (c .before .if1 .left) _
     (c .refused-answer .ensures)
 
 pub read-rest-spec : {M : Type 1} → statement M
 read-rest-spec =
-    tie.close
-    (tie.spec
+    tie.close (tie.spec
     array-share-prefix-regs
     slice-aggregate-functions-line
     functions-line-requires

@@ -42,8 +42,7 @@ pub +put-number-spec : {M : Type 1} → statement M
   put-byte-reads.Learnt,
   put-number-below t,
   put-number.Post,
-)
-    (put-number-at t)
+) (put-number-at t)
     put-number.Post
     (λ c. search needs)
     (λ c. search needs)
@@ -52,19 +51,27 @@ pub +put-number-spec : {M : Type 1} → statement M
     room-same (numeral-one (a .args .number) (c .before .if1 .taken)) (a .pre .1))
     (λ c. appended-length (c .before .before .put-byte .ensures))
     (λ c.
-    let a = c .before .before .before .before .before .before in
-    appended-same (sym (numeral-one (a .args .number) (c .before .before .before .before .if1 .taken))) (c .before .before .put-byte .ensures))
+    let at-put-byte = c .before .before in
+    let at-if1 = at-put-byte .before .before in
+    let at-before = at-if1 .before in
+    let a = at-before .before in
+    appended-same (sym (numeral-one (a .args .number) (at-if1 .if1 .taken))) (at-put-byte .put-byte .ensures))
     (λ c κs.
     let a = c .before .before .before in
     let n : ℕ = a .args .number in (
       omega (arith, a .pre .0, c .before .if1 .left),
-      room-first (numeral (n / 10)) (digitByte (n % 10) ∷ [])
-          (room-same (numeral-more n (c .before .if1 .left)) (a .pre .1)),
+      room-first (numeral (n / 10)) (digitByte (n % 10) ∷ []) (room-same (numeral-more n (c .before .if1 .left)) (a .pre .1)),
     ))
     (λ c κs.
-    let a = c .before .before .before .before .before .before .before in
+    let at-put-number = c .before .before .before in
+    let at-if1 = at-put-number .before .before in
+    let at-before = at-if1 .before in
+    let a = at-before .before in
     let n : ℕ = a .args .number in
-    room-then (numeral (n / 10)) (digitByte (n % 10) ∷ []) (room-same (numeral-more n (c .before .before .before .before .before .if1 .left)) (a .pre .1))
-    (c .before .before .before .put-number .ensures))
-    (λ c. appended-length (c .before .before .put-byte2 .ensures) ∙ appended-length (c .before .before .before .before .before .before .put-number .ensures))
+    room-then (numeral (n / 10)) (digitByte (n % 10) ∷ []) (room-same (numeral-more n (at-if1 .if1 .left)) (a .pre .1))
+    (at-put-number .put-number .ensures))
+    (λ c.
+    let at-put-byte2 = c .before .before in
+    let at-put-number = at-put-byte2 .before .before .before .before in
+    appended-length (at-put-byte2 .put-byte2 .ensures) ∙ appended-length (at-put-number .put-number .ensures))
     (put-number-returns-2 t)

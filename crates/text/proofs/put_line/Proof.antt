@@ -15,25 +15,31 @@ abbrev μ-loop : tie.MeasureT-loop
 
 pub put-line-spec : {M : Type 1} → statement M
 put-line-spec =
-    tie.close
-    (tie.spec
+    tie.close (tie.spec
     Inv-loop
     μ-loop
     (λ c. left-all _ _ _)
     (λ c. search needs)
     (λ c κs.
-    let a = c .before .before .before .before .before .before in
-    let l = c .before .before .before .loop in
+    let at-loop-test = c .before .before in
+    let at-loop = at-loop-test .before in
+    let at-before = at-loop .before .before in
+    let a = at-before .before in
+    let l = at-loop .loop in
     left-room (part (getD (a .args .template .now) (l .i) 0) (a .args .fields)) (filledIn (drop (l .i + 1) (a .args .template .now)) (a .args .fields))
-    (a .pre) (left-same (filled-next (a .args .template .now) (a .args .fields) (l .i) (c .before .before .loop-test .taken)) (l .inv)))
+    (a .pre) (left-same (filled-next (a .args .template .now) (a .args .fields) (l .i) (at-loop-test .loop-test .taken)) (l .inv)))
     (λ c. search needs)
     (λ c. search needs)
     (λ c.
-    let a = c .before .before .before .before .before .before .before .before .before in
-    let l = c .before .before .before .before .before .before .loop in
+    let at-put-part = c .before .before in
+    let at-loop-test = at-put-part .before .before .before in
+    let at-loop = at-loop-test .before in
+    let at-before = at-loop .before .before in
+    let a = at-before .before in
+    let l = at-loop .loop in
     left-next (part (getD (a .args .template .now) (l .i) 0) (a .args .fields)) (filledIn (drop (l .i + 1) (a .args .template .now)) (a .args .fields))
-    (left-same (filled-next (a .args .template .now) (a .args .fields) (l .i) (c .before .before .before .before .before .loop-test .taken)) (l .inv))
-    (c .before .before .put-part .ensures))
+    (left-same (filled-next (a .args .template .now) (a .args .fields) (l .i) (at-loop-test .loop-test .taken)) (l .inv))
+    (at-put-part .put-part .ensures))
     (λ c. left-length (c .before .loop .inv))
     (λ c.
     let a = c .before .before .before .before in

@@ -15,8 +15,7 @@ abbrev μ-loop : tie.MeasureT-loop
 
 pub put-name-spec : {M : Type 1} → statement M
 put-name-spec =
-    tie.close
-    (tie.spec
+    tie.close (tie.spec
     Inv-loop
     μ-loop
     (λ c. left-all _ _ _)
@@ -27,8 +26,11 @@ put-name-spec =
     (left-same (name-next (l .rest) (c .before .loop-test .taken)) (l .inv)))
     (λ c. search needs)
     (λ c.
-    let l = c .before .before .before .before .before .loop in
-    left-next (l .rest % 256 ∷ []) (nameText (l .rest / 256)) (left-same (name-next (l .rest) (c .before .before .before .before .loop-test .taken)) (l .inv))
-    (c .before .before .put-byte .ensures))
+    let at-put-byte = c .before .before in
+    let at-loop-test = at-put-byte .before .before in
+    let at-loop = at-loop-test .before in
+    let l = at-loop .loop in
+    left-next (l .rest % 256 ∷ []) (nameText (l .rest / 256)) (left-same (name-next (l .rest) (at-loop-test .loop-test .taken)) (l .inv))
+    (at-put-byte .put-byte .ensures))
     (λ c. left-length (c .before .loop .inv))
     (λ c. left-none (left-same (name-none (c .before .loop .rest) (c .loop-test .left)) (c .before .loop .inv))))

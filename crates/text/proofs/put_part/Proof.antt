@@ -7,15 +7,17 @@ use Rattle.text.proofs.put_part.Tie as tie
 
 pub put-part-spec : {M : Type 1} → statement M
 put-part-spec =
-    tie.close
-    (tie.spec
+    tie.close (tie.spec
     (λ c κs.
     let a = c .before .before .before in
     room-same (part-low (a .args .byte) (a .args .t4) (c .before .if1 .taken)) (a .pre))
     (λ c. appended-length (c .before .before .put-byte .ensures))
     (λ c.
-    let a = c .before .before .before .before .before .before in
-    appended-same (sym (part-low (a .args .byte) (a .args .t4) (c .before .before .before .before .if1 .taken))) (c .before .before .put-byte .ensures))
+    let at-put-byte = c .before .before in
+    let at-if1 = at-put-byte .before .before in
+    let at-before = at-if1 .before in
+    let a = at-before .before in
+    appended-same (sym (part-low (a .args .byte) (a .args .t4) (at-if1 .if1 .taken))) (at-put-byte .put-byte .ensures))
     (λ c. search needs)
     (λ c. search needs)
     (λ c. search needs)
@@ -24,9 +26,12 @@ put-part-spec =
     room-same (part-name (a .args .byte) (a .args .t4) (c .before .before .if1 .left) (c .before .if2 .taken)) (a .pre))
     (λ c. appended-length (c .before .before .put-name .ensures))
     (λ c.
-    let a = c .before .before .before .before .before .before .before in
-    appended-same (sym (part-name (a .args .byte) (a .args .t4) (c .before .before .before .before .before .if1 .left)
-    (c .before .before .before .before .if2 .taken))) (c .before .before .put-name .ensures))
+    let at-put-name = c .before .before in
+    let at-if2 = at-put-name .before .before in
+    let at-if1 = at-if2 .before in
+    let at-before = at-if1 .before in
+    let a = at-before .before in
+    appended-same (sym (part-name (a .args .byte) (a .args .t4) (at-if1 .if1 .left) (at-if2 .if2 .taken))) (at-put-name .put-name .ensures))
     (λ c. search needs)
     (λ c. search needs)
     (λ c. search needs)
@@ -35,13 +40,19 @@ put-part-spec =
     room-same (part-number (a .args .byte) (a .args .t4) (c .before .before .if2 .left) (c .before .if3 .taken)) (a .pre))
     (λ c. appended-length (c .before .before .put-number .ensures))
     (λ c.
-    let a = c .before .before .before .before .before .before .before .before in
-    appended-same (sym (part-number (a .args .byte) (a .args .t4) (c .before .before .before .before .before .if2 .left)
-    (c .before .before .before .before .if3 .taken))) (c .before .before .put-number .ensures))
+    let at-put-number = c .before .before in
+    let at-if3 = at-put-number .before .before in
+    let at-if2 = at-if3 .before in
+    let at-before = at-if2 .before .before in
+    let a = at-before .before in
+    appended-same (sym (part-number (a .args .byte) (a .args .t4) (at-if2 .if2 .left) (at-if3 .if3 .taken))) (at-put-number .put-number .ensures))
     (λ c κs.
     let a = c .before .before .before .before .before in
     room-same (part-high (a .args .byte) (a .args .t4) (c .before .if3 .left)) (a .pre))
     (λ c. appended-length (c .before .before .put-byte2 .ensures))
     (λ c.
-    let a = c .before .before .before .before .before .before .before .before in
-    appended-same (sym (part-high (a .args .byte) (a .args .t4) (c .before .before .before .before .if3 .left))) (c .before .before .put-byte2 .ensures)))
+    let at-put-byte2 = c .before .before in
+    let at-if3 = at-put-byte2 .before .before in
+    let at-before = at-if3 .before .before .before in
+    let a = at-before .before in
+    appended-same (sym (part-high (a .args .byte) (a .args .t4) (at-if3 .if3 .left))) (at-put-byte2 .put-byte2 .ensures)))

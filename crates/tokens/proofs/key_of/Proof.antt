@@ -36,10 +36,14 @@ wide-requires c κs = search needs
 
 -- src/lib.rt:146:13
 add-v : tie.Need-add-v Inv-loop μ-loop
-add-v c = record {
-  fits = key-fits _ _ _ _ _ _ (c .before .before .before .before .before .pre .2) (c .before .before .loop-test .taken)
-      (omega (arith, c .before .shared-slice-known2 .given (c .before .before .before .loop .at - 1))) (c .before .before .before .loop .inv);
-}
+add-v c =
+    let at-loop-test = c .before .before in
+    let at-loop = at-loop-test .before in
+    let at-pre = at-loop .before .before in
+    record {
+      fits = key-fits _ _ _ _ _ _ (at-pre .pre .2) (at-loop-test .loop-test .taken)
+          (omega (arith, c .before .shared-slice-known2 .given (at-loop .loop .at - 1))) (at-loop .loop .inv);
+    }
 
 -- src/lib.rt:144:5
 loop-less : tie.Need-loop-less Inv-loop μ-loop
@@ -47,9 +51,12 @@ loop-less c = search needs
 
 -- src/lib.rt:144:5
 loop-again : tie.Need-loop-again Inv-loop μ-loop
-loop-again c = key-turn _ _ _ _ _ _ (c .before .before .before .before .before .pre .1) (c .before .before .loop-test .taken)
-    (omega (arith, c .before .shared-slice-known2 .given (c .before .before .before .loop .at - 1))) (c .wide .ensures .0)
-    (c .before .before .before .loop .inv)
+loop-again c =
+    let at-loop-test = c .before .before in
+    let at-loop = at-loop-test .before in
+    let at-pre = at-loop .before .before in
+    key-turn _ _ _ _ _ _ (at-pre .pre .1) (at-loop-test .loop-test .taken)
+    (omega (arith, c .before .shared-slice-known2 .given (at-loop .loop .at - 1))) (c .wide .ensures .0) (at-loop .loop .inv)
 
 -- src/lib.rt:138:1
 returns : tie.Need-returns Inv-loop μ-loop
@@ -57,8 +64,7 @@ returns c = key-done _ _ _ _ _ (c .loop-test .left) (c .before .loop .inv)
 
 pub key-of-spec : {M : Type 1} → statement M
 key-of-spec =
-    tie.close
-    (tie.spec
+    tie.close (tie.spec
     Inv-loop
     μ-loop
     loop-holds

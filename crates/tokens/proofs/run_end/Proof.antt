@@ -1,4 +1,4 @@
--- `reader::run_end` meets its contract.
+-- `tokens::run_end` meets its contract.
 use mathlib.Core.Path.{_≡_}
 use Prim.Native.Nat.{_+_, _-_}
 use lib.ListN.{length, drop}

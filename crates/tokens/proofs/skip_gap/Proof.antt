@@ -53,8 +53,13 @@ is-blank-requires c κs = search needs
 
 -- src/lib.rt:120:13
 returns : tie.Need-returns Inv-loop μ-loop
-returns c = gap-halted _ _ _ _ _ (c .before .before .before .before .before .loop-test .taken) (c .before .before .before .if1 .left)
-    (c .before .before .if2 .left) (c .before .is-blank .ensures) (c .if3 .left) (c .before .before .before .before .before .before .loop .inv)
+returns c =
+    let at-if2 = c .before .before in
+    let at-if1 = at-if2 .before in
+    let at-loop-test = at-if1 .before .before in
+    let at-loop = at-loop-test .before in
+    gap-halted _ _ _ _ _ (at-loop-test .loop-test .taken) (at-if1 .if1 .left)
+    (at-if2 .if2 .left) (c .before .is-blank .ensures) (c .if3 .left) (at-loop .loop .inv)
 
 -- src/lib.rt:122:9
 add-at-3 : tie.Need-add-at-3 Inv-loop μ-loop
@@ -66,8 +71,13 @@ loop-less-3 c = search needs
 
 -- src/lib.rt:107:5
 loop-again-3 : tie.Need-loop-again-3 Inv-loop μ-loop
-loop-again-3 c = gap-turn _ _ _ _ _ (c .before .before .before .before .before .loop-test .taken) (c .before .before .before .if1 .left)
-    (c .before .before .if2 .left) (c .before .is-blank .ensures) (c .if3 .taken) (c .before .before .before .before .before .before .loop .inv)
+loop-again-3 c =
+    let at-if2 = c .before .before in
+    let at-if1 = at-if2 .before in
+    let at-loop-test = at-if1 .before .before in
+    let at-loop = at-loop-test .before in
+    gap-turn _ _ _ _ _ (at-loop-test .loop-test .taken) (at-if1 .if1 .left)
+    (at-if2 .if2 .left) (c .before .is-blank .ensures) (c .if3 .taken) (at-loop .loop .inv)
 
 -- src/lib.rt:102:1
 returns-2 : tie.Need-returns-2 Inv-loop μ-loop
@@ -75,8 +85,7 @@ returns-2 c = gap-ended _ _ _ _ (c .loop-test .left) (c .before .loop .inv)
 
 pub skip-gap-spec : {M : Type 1} → statement M
 skip-gap-spec =
-    tie.close
-    (tie.spec
+    tie.close (tie.spec
     Inv-loop
     μ-loop
     loop-holds

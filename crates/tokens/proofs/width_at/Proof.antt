@@ -22,12 +22,18 @@ sub-n : tie.Need-sub-n
 sub-n c = search needs
 
 returns : tie.Need-returns
-returns c = width-name _ _ (c .before .before .before .before .before .before .pre) _ (c .before .before .before .is-lower .ensures) _
-    (c .before .before .if1 .taken) (c .before .run-end .ensures) (c .if2 .taken)
+returns c =
+    let at-if1 = c .before .before in
+    let at-is-lower = at-if1 .before in
+    let at-pre = at-is-lower .before .before .before in
+    width-name _ _ (at-pre .pre) _ (at-is-lower .is-lower .ensures) _ (at-if1 .if1 .taken) (c .before .run-end .ensures) (c .if2 .taken)
 
 returns-2 : tie.Need-returns-2
-returns-2 c = width-long _ _ (c .before .before .before .before .before .before .pre) _ (c .before .before .before .is-lower .ensures) _
-    (c .before .before .if1 .taken) (c .before .run-end .ensures) (c .if2 .left)
+returns-2 c =
+    let at-if1 = c .before .before in
+    let at-is-lower = at-if1 .before in
+    let at-pre = at-is-lower .before .before .before in
+    width-long _ _ (at-pre .pre) _ (at-is-lower .is-lower .ensures) _ (at-if1 .if1 .taken) (c .before .run-end .ensures) (c .if2 .left)
 
 is-mark-requires : tie.Need-is-mark-requires
 is-mark-requires c κs = search needs
@@ -42,36 +48,60 @@ shared-slice-read-if5 : tie.Need-shared-slice-read-if5
 shared-slice-read-if5 c = search needs
 
 returns-3 : tie.Need-returns-3
-returns-3 c = width-pair _ _ (c .before .before .before .before .before .before .before .before .before .pre) _
-    (c .before .before .before .before .before .before .is-lower .ensures) (c .before .before .before .before .before .if1 .left) _
-    (c .before .before .before .before .is-mark .ensures) (c .before .before .before .if3 .taken) (c .if5 .taken)
+returns-3 c =
+    let at-if3 = c .before .before .before in
+    let at-is-mark = at-if3 .before in
+    let at-if1 = at-is-mark .before in
+    let at-is-lower = at-if1 .before in
+    let at-pre = at-is-lower .before .before .before in
+    width-pair _ _ (at-pre .pre) _ (at-is-lower .is-lower .ensures) (at-if1 .if1 .left) _
+    (at-is-mark .is-mark .ensures) (at-if3 .if3 .taken) (c .if5 .taken)
 
 returns-4 : tie.Need-returns-4
-returns-4 c = width-half _ _ (c .before .before .before .before .before .before .before .before .before .pre) _
-    (c .before .before .before .before .before .before .is-lower .ensures) (c .before .before .before .before .before .if1 .left) _
-    (c .before .before .before .before .is-mark .ensures) (c .before .before .before .if3 .taken) (c .if5 .left)
+returns-4 c =
+    let at-if3 = c .before .before .before in
+    let at-is-mark = at-if3 .before in
+    let at-if1 = at-is-mark .before in
+    let at-is-lower = at-if1 .before in
+    let at-pre = at-is-lower .before .before .before in
+    width-half _ _ (at-pre .pre) _ (at-is-lower .is-lower .ensures) (at-if1 .if1 .left) _
+    (at-is-mark .is-mark .ensures) (at-if3 .if3 .taken) (c .if5 .left)
 
 returns-5 : tie.Need-returns-5
-returns-5 c = width-last _ _ (c .before .before .before .before .before .before .before .pre) _ (c .before .before .before .before .is-lower .ensures)
-    (c .before .before .before .if1 .left) _ (c .before .before .is-mark .ensures) (c .before .if3 .taken) (c .if4 .left)
+returns-5 c =
+    let at-is-mark = c .before .before in
+    let at-if1 = at-is-mark .before in
+    let at-is-lower = at-if1 .before in
+    let at-pre = at-is-lower .before .before .before in
+    width-last _ _ (at-pre .pre) _ (at-is-lower .is-lower .ensures)
+    (at-if1 .if1 .left) _ (at-is-mark .is-mark .ensures) (c .before .if3 .taken) (c .if4 .left)
 
 is-symbol-requires : tie.Need-is-symbol-requires
 is-symbol-requires c κs = search needs
 
 returns-6 : tie.Need-returns-6
-returns-6 c = width-symbol _ _ (c .before .before .before .before .before .before .before .before .pre) _
-    (c .before .before .before .before .before .is-lower .ensures) (c .before .before .before .before .if1 .left) _
-    (c .before .before .before .is-mark .ensures) _ (c .before .before .if3 .left) (c .before .is-symbol .ensures) (c .if6 .taken)
+returns-6 c =
+    let at-if3 = c .before .before in
+    let at-is-mark = at-if3 .before in
+    let at-if1 = at-is-mark .before in
+    let at-is-lower = at-if1 .before in
+    let at-pre = at-is-lower .before .before .before in
+    width-symbol _ _ (at-pre .pre) _ (at-is-lower .is-lower .ensures) (at-if1 .if1 .left) _
+    (at-is-mark .is-mark .ensures) _ (at-if3 .if3 .left) (c .before .is-symbol .ensures) (c .if6 .taken)
 
 returns-7 : tie.Need-returns-7
-returns-7 c = width-none _ _ (c .before .before .before .before .before .before .before .before .pre) _
-    (c .before .before .before .before .before .is-lower .ensures) (c .before .before .before .before .if1 .left) _
-    (c .before .before .before .is-mark .ensures) _ (c .before .before .if3 .left) (c .before .is-symbol .ensures) (c .if6 .left)
+returns-7 c =
+    let at-if3 = c .before .before in
+    let at-is-mark = at-if3 .before in
+    let at-if1 = at-is-mark .before in
+    let at-is-lower = at-if1 .before in
+    let at-pre = at-is-lower .before .before .before in
+    width-none _ _ (at-pre .pre) _ (at-is-lower .is-lower .ensures) (at-if1 .if1 .left) _
+    (at-is-mark .is-mark .ensures) _ (at-if3 .if3 .left) (c .before .is-symbol .ensures) (c .if6 .left)
 
 pub width-at-spec : {M : Type 1} → statement M
 width-at-spec =
-    tie.close
-    (tie.spec
+    tie.close (tie.spec
     shared-slice-read-b
     is-lower-requires
     run-end-requires

@@ -1,4 +1,4 @@
--- What follows from the definitions of specs/TraceLaws.antt.
+-- Reading and packing are inverse on whole traces.
 use mathlib.Core.Path.{_≡_, refl, sym, ap, _∙_, subst}
 use Prim.Native.Nat.{ℕ, zero, suc, _+_, _-_, _*_, _/_, _%_, _^_, _≤_, _<_}
 use native.Mathlib.Omega.{arith}

@@ -12,8 +12,7 @@ use Rattle.traces.proofs.letter_at.Tie as tie
 pub letter-at-spec : {M : Type 1} → statement M
 unfolding letterAt
 letter-at-spec =
-    tie.close
-    (tie.spec
+    tie.close (tie.spec
     (λ c. let a = c .before .before .args in rw (lt-leb (2 * (a .k + 2)) (length (a .bytes .now)) (omega arith)))
     (λ c. search needs)
     (λ c. search needs)
@@ -24,7 +23,9 @@ letter-at-spec =
     (λ c. search needs)
     (λ c κs. search needs)
     (λ c κs. search needs)
-    (λ c. let a = c .before .before .before .before .before .before .before .args in let m : 2 * (a .k + 1) ≡ 2 * a .k + 2 = omega arith in
+    (λ c.
+    let at-args = c .before .before .before .before .before .before .before in
+    let a = at-args .args in let m : 2 * (a .k + 1) ≡ 2 * a .k + 2 = omega arith in
     rw (le-leb (2 * (a .k + 2)) (length (a .bytes .now)) (omega arith), m)
     (unit-decoded (a .h) (a .bytes .now) (2 * a .k + 2) (c .before .word .result) (c .decode-letter .result) (omega arith) (c .before .word .ensures)
     (c .decode-letter .ensures))))

@@ -12,8 +12,7 @@ use Rattle.traces.proofs.read_beginning.Tie as tie
 pub read-beginning-spec : {M : Type 1} → statement M
 unfolding beginning
 read-beginning-spec =
-    tie.close
-    (tie.spec
+    tie.close (tie.spec
     (λ c. search decide)
     (λ c. search decide)
     (λ c. search needs)
@@ -22,23 +21,29 @@ read-beginning-spec =
     (λ c κs. search needs)
     (λ c. search needs)
     (λ c. search needs)
-    (λ c. let s = c .before .before .before .before .before .before .before .before .before .args .bytes .now in
+    (λ c.
+    let at-decode-header = c .before .before in
+    let at-word = at-decode-header .before in
+    let at-args = at-word .before .before .before .before .before .before in
+    let s = at-args .args .bytes .now in
     rw (
       le-ltb (length s) 2 (omega arith),
       eq-eqb (length s % 2) 0 (omega arith),
-      unit-at s 0
-          (omega arith),
-      ← c .before .before .before .word .ensures,
-      ← c .before .before .decode-header .ensures,
+      unit-at s 0 (omega arith),
+      ← at-word .word .ensures,
+      ← at-decode-header .decode-header .ensures,
       c .enum-told .given .1,
     ))
-    (λ c. let s = c .before .before .before .before .before .before .before .before .before .before .args .bytes .now in
+    (λ c.
+    let at-decode-header = c .before .before .before in
+    let at-word = at-decode-header .before in
+    let at-args = at-word .before .before .before .before .before .before in
+    let s = at-args .args .bytes .now in
     rw (
       le-ltb (length s) 2 (omega arith),
       eq-eqb (length s % 2) 0 (omega arith),
-      unit-at s 0
-          (omega arith),
-      ← c .before .before .before .before .word .ensures,
-      ← c .before .before .before .decode-header .ensures,
+      unit-at s 0 (omega arith),
+      ← at-word .word .ensures,
+      ← at-decode-header .decode-header .ensures,
       c .before .decoded .given .1,
     )))

@@ -20,8 +20,7 @@ abbrev μ-loop : tie.MeasureT-loop
 pub read-letters-spec : {M : Type 1} → statement M
 unfolding lettersOf
 read-letters-spec =
-    tie.close
-    (tie.spec
+    tie.close (tie.spec
     Inv-loop
     μ-loop
     (λ c. (
@@ -39,23 +38,31 @@ read-letters-spec =
     (λ c. search needs)
     (λ c. search needs)
     (λ c. search needs)
-    (λ c. let a = c .before .before .before .before .before .before .before .before .before .args in
-    let l = c .before .before .before .before .before .before .before .loop in
+    (λ c.
+    let at-decode-letter = c .before .before in
+    let at-word = at-decode-letter .before in
+    let at-loop = at-word .before .before .before .before in
+    let at-args = at-loop .before .before in
+    let a = at-args .args in
+    let l = at-loop .loop in
     sym (count-bad (letterIn firstEdition (a .h)) (a .h) 2 (length (a .bytes .now) / 2 - 1) (a .bytes .now) (l .n) (l .at) 4 0 (omega arith)
-    (unit-bad (a .h) (a .bytes .now) (l .at) (c .before .before .before .word .result) (c .before .before .decode-letter .result) (omega arith)
-    (c .before .before .before .word .ensures) (c .before .before .decode-letter .ensures) (c .enum-told .given .1))) ∙ l .inv .2)
+    (unit-bad (a .h) (a .bytes .now) (l .at) (at-word .word .result) (at-decode-letter .decode-letter .result) (omega arith)
+    (at-word .word .ensures) (at-decode-letter .decode-letter .ensures) (c .enum-told .given .1))) ∙ l .inv .2)
     (λ c. search needs)
     (λ c. search needs)
     (λ c. search needs)
-    (λ c. let a = c .before .before .before .before .before .before .before .before .before .before .args in
-    let l = c .before .before .before .before .before .before .before .before .loop in (
+    (λ c.
+    let at-decode-letter = c .before .before .before in
+    let at-word = at-decode-letter .before in
+    let at-loop = at-word .before .before .before .before in
+    let at-args = at-loop .before .before in
+    let a = at-args .args in
+    let l = at-loop .loop in (
       search needs,
       search needs,
-      sym
-          (count-good (letterIn firstEdition (a .h)) (a .h) 2 (length (a .bytes .now) / 2 - 1) (a .bytes .now) (l .n) (l .at) _ (omega arith)
-          (unit-good (a .h) (a .bytes .now) (l .at) (c .before .before .before .before .word .result) (c .before .before .before .decode-letter .result)
-          (omega arith) (c .before .before .before .before .word .ensures) (c .before .before .before .decode-letter .ensures) _
-          (c .before .decoded .given .1)))
+      sym (count-good (letterIn firstEdition (a .h)) (a .h) 2 (length (a .bytes .now) / 2 - 1) (a .bytes .now) (l .n) (l .at) _ (omega arith)
+          (unit-good (a .h) (a .bytes .now) (l .at) (at-word .word .result) (at-decode-letter .decode-letter .result)
+          (omega arith) (at-word .word .ensures) (at-decode-letter .decode-letter .ensures) _ (c .before .decoded .given .1)))
           ∙ l .inv .2,
     ))
     (λ c. let a = c .before .before .before .args in let l = c .before .loop in

@@ -36,7 +36,7 @@ use Rattle.verdict_lines.proofs.Theory.Answers.{letters-fit, packable, 
 
 -- An answer that shows an event of the macro m, with so many pairs and letters, and the output afterwards.
 pub record ReadsBack (m : Macro) (kind : Kind) (pairs letters : ℕ) (output′ : List ℕ) : Type 0 where
-  -- the first event's execution, with the count of pairs; on fail all its tests hold in the shown model
+  -- the first event's execution, with the count of pairs
   pub execution : List Letter
   pub shows : Shows Feasible (begin (headerOf m)) (m .body) kind pairs execution
   pub count : length execution ≡ letters

@@ -9,32 +9,39 @@ use Rattle.verdict_lines.proofs.answer_to.Tie as tie
 
 pub answer-to-spec : {M : Type 1} → statement M
 answer-to-spec =
-    tie.close
-    (tie.spec
+    tie.close (tie.spec
     (λ c. search needs)
     (λ c κs. search needs)
     (λ c.
-    let a = c .before .before .before .before .before .before .before .args in
-    least-length (c .before .before .before .input .given .0 .0) (c .before .least .result) (a .text .now) (c .before .least .ensures))
+    let at-input = c .before .before .before in
+    let at-args = at-input .before .before .before .before in
+    let a = at-args .args in
+    least-length (at-input .input .given .0 .0) (c .before .least .result) (a .text .now) (c .before .least .ensures))
     (λ c κs. search needs)
     (λ c. search needs)
     (λ c κs. search needs)
     (λ c. search needs)
     (λ c. search needs)
     (λ c.
-    let a = c .before .before .before .before .before .before .before .before .before .before .before .args in
-    let n = c .before .before .before .before .before .before .before .input .given in
-    let wrote = c .before .before .write-lines in
-    let end = c .before .before .before .before .before .least in
+    let at-write-lines = c .before .before in
+    let at-least = at-write-lines .before .before .before in
+    let at-input = at-least .before .before in
+    let at-args = at-input .before .before .before .before in
+    let a = at-args .args in
+    let n = at-input .input .given in
+    let wrote = at-write-lines .write-lines in
+    let end = at-least .least in
     answers-first PrintsVerdictLines (known (a .input) (a .text .now)) (a .text .now) (a .lines .now) (wrote .last .1 .0) (n .0 .0) (end .result)
-    (wrote .result)
-    (ap (λ (i : Input). known i (a .text .now)) (n .1)) (end .ensures) (wrote .ensures))
+    (wrote .result) (ap (λ (i : Input). known i (a .text .now)) (n .1)) (end .ensures) (wrote .ensures))
     (λ c. search needs)
     (λ c.
-    let a = c .before .before .before .before .before .before .before .before .args in
-    let wrote = c .before .before .write-lines2 in
+    let at-write-lines2 = c .before .before in
+    let at-enum-told = at-write-lines2 .before .before in
+    let at-args = at-enum-told .before .before .before .before in
+    let a = at-args .args in
+    let wrote = at-write-lines2 .write-lines2 in
     answers-bytes PrintsVerdictLines (known (a .input) (a .text .now)) (a .text .now) (a .lines .now) (wrote .last .1 .0) (wrote .result)
-    (ap (λ (i : Input). known i (a .text .now)) (c .before .before .before .before .enum-told .given .1)) (wrote .ensures))
+    (ap (λ (i : Input). known i (a .text .now)) (at-enum-told .enum-told .given .1)) (wrote .ensures))
     (λ c.
     let a = c .before .before .before .before .args in
     answers-unread PrintsVerdictLines (known (a .input) (a .text .now)) (a .lines .now) (a .lines .now)

@@ -14,17 +14,23 @@ apply-in-spec = tie.close (tie.spec
     (λ c. search needs)
     (λ c κs. search needs)
     (λ c κs. search needs)
-    (λ c. (
-      (λ i. let a = c .before .before .before .before .before .before .before .before .before .args in apply-known registers functions (windowOfParts (a .class
-          .now) (a .unequal .now) (a .result .now) (a .ever .now) (a .mark .now) i) (a .x) (a .f) (a .y) (a .z) _ _ (c .before .before .before .before .before
-          .before .before .name .ensures) (c .before .before .before .before .before .before .if1 .taken) (c .copy-in .ensures .0 i)),
+    (λ c.
+    let at-if1 = c .before .before .before .before .before .before in
+    let at-name = at-if1 .before in
+    let at-args = at-name .before .before in (
+      (λ i. let a = at-args .args in apply-known registers functions (windowOfParts (a .class
+          .now) (a .unequal .now) (a .result .now) (a .ever .now) (a .mark .now) i) (a .x) (a .f) (a .y) (a .z) _ _ (at-name .name .ensures)
+          (at-if1 .if1 .taken) (c .copy-in .ensures .0 i)),
       c .copy-in .ensures .1,
     ))
     (λ c κs. search needs)
-    (λ c. (
-      (λ i. let a = c .before .before .before .before .before .before .before .before .before .args in
+    (λ c.
+    let at-if1 = c .before .before .before .before .before .before in
+    let at-name = at-if1 .before in
+    let at-args = at-name .before .before in (
+      (λ i. let a = at-args .args in
           apply-new registers functions (windowOfParts (a .class .now)
-          (a .unequal .now) (a .result .now) (a .ever .now) (a .mark .now) i) (a .x) (a .f) (a .y) (a .z) _ _ (c .before .before .before .before .before .before
-          .before .name .ensures) (c .before .before .before .before .before .before .if1 .left) (c .new-in .ensures .0 i)),
+          (a .unequal .now) (a .result .now) (a .ever .now) (a .mark .now) i) (a .x) (a .f) (a .y) (a .z) _ _ (at-name .name .ensures)
+          (at-if1 .if1 .left) (c .new-in .ensures .0 i)),
       c .new-in .ensures .1,
     )))

@@ -30,33 +30,56 @@ close-in-spec = tie.close (tie.spec
     (λ c κs. search needs)
     (λ c κs. search needs)
     (λ c κs.
-    let loop = c .before .before .before .before .before .before .before .before .before .before .before .before .before .before .loop in
-    (c .before .before .before .before .before .if1 .taken, c .before .before .before .before .if2 .taken, loop .inv .0))
-    (λ c. omega (arith, c .before .before .before .before .before .before .before .before .before .before .before .before .before .before .loop-test .taken))
-    (λ c. omega (arith, c .before .before .before .before .before .before .before .before .before .before .before .before .before .before .loop-test .taken))
+    let at-if2 = c .before .before .before .before in
+    let at-if1 = at-if2 .before in
+    let at-loop = at-if1 .before .before .before .before .before .before .before .before .before in
+    let loop = at-loop .loop in
+    (at-if1 .if1 .taken, at-if2 .if2 .taken, loop .inv .0))
     (λ c.
-    let loop = c .before .before .before .before .before .before .before .before .before .before .before .before .before .before .before .loop in
-    let loop-test = c .before .before .before .before .before .before .before .before .before .before .before .before .before .before .loop-test in (
+    let at-loop-test = c .before .before .before .before .before .before .before .before .before .before .before .before .before .before in
+    omega (arith, at-loop-test .loop-test .taken))
+    (λ c.
+    let at-loop-test = c .before .before .before .before .before .before .before .before .before .before .before .before .before .before in
+    omega (arith, at-loop-test .loop-test .taken))
+    (λ c.
+    let at-if2 = c .before .before .before .before .before in
+    let at-if1 = at-if2 .before in
+    let at-name2 = at-if1 .before in
+    let at-rest = at-name2 .before in
+    let at-name = at-rest .before .before in
+    let at-find = at-name .before in
+    let at-loop-test = at-find .before .before .before in
+    let at-loop = at-loop-test .before in
+    let loop = at-loop .loop in
+    let loop-test = at-loop-test .loop-test in (
       c .merge-in .ensures .1,
       λ m i. sym (closed-more registers functions _ _ _ _ _ (windowOfParts (loop .class) (loop .unequal) (loop .result) (loop .ever) m i)
-          (c .before .before .before .before .before .before .before .before .before .before .before .find .ensures) (c .before .before .before .before .before
-          .before .before .before .before .before .name .ensures) (c .before .before .before .before .before .before .before .before .rest .ensures) (c .before
-          .before .before .before .before .before .before .name2 .ensures) (loop-test .taken) _ (c .before .before .before .before .before .before .if1 .taken)
-          (c .before .before .before .before .before .if2 .taken) (c .merge-in .ensures .0 m i)) ∙ loop .inv .1 m i,
+          (at-find .find .ensures) (at-name .name .ensures) (at-rest .rest .ensures) (at-name2 .name2 .ensures) (loop-test .taken) _ (at-if1 .if1 .taken)
+          (at-if2 .if2 .taken) (c .merge-in .ensures .0 m i)) ∙ loop .inv .1 m i,
     ))
     (λ c.
-    let loop = c .before .before .before .before .before .before .before .before .before .before .loop in (
-      (λ m i. sym (closed-one registers functions _ _ _ _ _ (windowOfParts (loop .class) (loop .unequal) (loop .result) (loop .ever) m i) (c .before .before
-          .before .before .before .before .find .ensures) (c .before .before .before .before .before .name .ensures) (c .before .before .before .rest .ensures)
-          (c .before .before .name2 .ensures) (c .before .before .before .before .before .before .before .before .before .loop-test .taken) (c .before .if1
-          .taken) (c .if2 .left)) ∙ loop .inv .1 m i),
+    let at-name2 = c .before .before in
+    let at-rest = at-name2 .before in
+    let at-name = at-rest .before .before in
+    let at-find = at-name .before in
+    let at-loop-test = at-find .before .before .before in
+    let at-loop = at-loop-test .before in
+    let loop = at-loop .loop in (
+      (λ m i. sym (closed-one registers functions _ _ _ _ _ (windowOfParts (loop .class) (loop .unequal) (loop .result) (loop .ever) m i)
+          (at-find .find .ensures) (at-name .name .ensures) (at-rest .rest .ensures)
+          (at-name2 .name2 .ensures) (at-loop-test .loop-test .taken) (c .before .if1 .taken) (c .if2 .left)) ∙ loop .inv .1 m i),
       loop .inv .0,
     ))
     (λ c.
-    let loop = c .before .before .before .before .before .before .before .before .before .loop in (
-      (λ m i. sym (closed-none registers functions _ _ _ _ _ (windowOfParts (loop .class) (loop .unequal) (loop .result) (loop .ever) m i) (c .before .before
-          .before .before .before .find .ensures) (c .before .before .before .before .name .ensures) (c .before .before .rest .ensures) (c .before .name2
-          .ensures) (c .before .before .before .before .before .before .before .before .loop-test .taken) (c .if1 .left)) ∙ loop .inv .1 m i),
+    let at-rest = c .before .before in
+    let at-name = at-rest .before .before in
+    let at-find = at-name .before in
+    let at-loop-test = at-find .before .before .before in
+    let at-loop = at-loop-test .before in
+    let loop = at-loop .loop in (
+      (λ m i. sym (closed-none registers functions _ _ _ _ _ (windowOfParts (loop .class) (loop .unequal) (loop .result) (loop .ever) m i)
+          (at-find .find .ensures) (at-name .name .ensures) (at-rest .rest .ensures) (c .before .name2
+          .ensures) (at-loop-test .loop-test .taken) (c .if1 .left)) ∙ loop .inv .1 m i),
       loop .inv .0,
     ))
     (λ c. (

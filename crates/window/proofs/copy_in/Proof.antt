@@ -22,29 +22,31 @@ copy-in-spec = tie.close (tie.spec
     (λ c κs. search needs)
     (λ c κs. search needs)
     (λ c κs. search needs)
-    (λ c. (
+    (λ c.
+    let at-copy-results = c .before .before in
+    let at-copy-masks2 = at-copy-results .before .before in
+    let at-copy-masks = at-copy-masks2 .before .before in
+    let at-mark-in = at-copy-masks .before .before .before in
+    let at-fallen = at-mark-in .before in
+    let at-if1 = at-fallen .before .before .before in
+    let at-holds = at-if1 .before in
+    let at-args = at-holds .before .before in (
       (λ b.
-          let a = c .before .before .before .before .before .before .before .before .before .before .before .before .before .before .before .before .args in
+          let a = at-args .args in
           copied-moved registers functions (windowOfParts (a .class .now) (a .unequal .now) (a .result .now) (a .ever .now) (a .mark .now) b) (a .x)
-          (a .y) _ _ _ _ _
-          _ _
-          (sym (c .before .before .before .before .before .before .before .before .before .before .before .before .before .before .holds .ensures) ∙ c
-          .before .before .before .before .before .before .before .before .before .before .before .before .before .if1 .left) (c .before .before .before
-          .before .before .before .before .before .before .before .fallen .ensures) (c .before .before .before .before .before .before .before .before
-          .before .mark-in .ensures .0) (c .before .before .before .before .before .before .copy-masks .ensures) (c .before .before .before .before
-          .copy-masks2 .ensures) (c .before .before .copy-results .ensures) (c .copy-masks3 .ensures) refl),
-      let a = c .before .before .before .before .before .before .before .before .before .before .before .before .before .before .before .before .args in
+          (a .y) _ _ _ _ _ _ _
+          (sym (at-holds .holds .ensures) ∙ at-if1 .if1 .left) (at-fallen .fallen .ensures) (at-mark-in .mark-in .ensures .0)
+          (at-copy-masks .copy-masks .ensures) (at-copy-masks2
+          .copy-masks2 .ensures) (at-copy-results .copy-results .ensures) (c .copy-masks3 .ensures) refl),
+      let a = at-args .args in
           record {
-            class = ap length (c .before .before .before .before .before .before .copy-masks .ensures) ∙ masks-length registers (a .y) (a .y) (2 ^ a .x) (a
-                .class .now) ∙ c .before .before .before .before .before .before .before .before .before .before .before .before .before .before .before .before
+            class = ap length (at-copy-masks .copy-masks .ensures) ∙ masks-length registers (a .y) (a .y) (2 ^ a .x) (a .class .now) ∙ at-args
                 .pre .2 .class;
-            unequal = ap length (c .before .before .before .before .copy-masks2 .ensures) ∙ masks-length registers (a .y) (a .y) (2 ^ a .x) (a .unequal .now) ∙
-                c .before .before .before .before .before .before .before .before .before .before .before .before .before .before .before .before .pre .2
-                .unequal;
-            result = ap length (c .before .before .copy-results .ensures) ∙ results-length registers (a .y) (a .y) (2 ^ a .x) (a .result .now) ∙ c .before
-                .before .before .before .before .before .before .before .before .before .before .before .before .before .before .before .pre .2 .result;
-            ever = ap length (c .copy-masks3 .ensures) ∙ masks-length registers (a .y) (a .y) (2 ^ a .x) (a .ever .now) ∙ c .before .before .before .before
-                .before .before .before .before .before .before .before .before .before .before .before .before .pre .2 .ever;
-            mark = simp length-set (c .before .before .before .before .before .before .before .before .before .mark-in .ensures .1);
+            unequal = ap length (at-copy-masks2 .copy-masks2 .ensures) ∙ masks-length registers (a .y) (a .y) (2 ^ a .x) (a .unequal .now) ∙
+                at-args .pre .2 .unequal;
+            result = ap length (at-copy-results .copy-results .ensures) ∙ results-length registers (a .y) (a .y) (2 ^ a .x) (a .result .now)
+                ∙ at-args .pre .2 .result;
+            ever = ap length (c .copy-masks3 .ensures) ∙ masks-length registers (a .y) (a .y) (2 ^ a .x) (a .ever .now) ∙ at-args .pre .2 .ever;
+            mark = simp length-set (at-mark-in .mark-in .ensures .1);
           },
     )))

@@ -12,7 +12,12 @@ copy-results-spec = tie.close (tie.spec
     (λ c κs. search needs)
     (λ c κs. search needs)
     (λ c. search needs)
-    (λ c. results-copied registers _ _ _ _ _ _ _ _
-    (c .before .before .before .before .before .before .before .before .before .before .before .before .unite-column .ensures)
-    (c .before .before .before .before .before .before .before .before .unite-row .ensures) (c .before .before .before .before .single .ensures)
-    (c .before .before .before .single2 .ensures) (c .before .before .move-bits .ensures)))
+    (λ c.
+    let at-move-bits = c .before .before in
+    let at-single2 = at-move-bits .before in
+    let at-single = at-single2 .before in
+    let at-unite-row = at-single .before .before .before .before in
+    let at-unite-column = at-unite-row .before .before .before .before in
+    results-copied registers _ _ _ _ _ _ _ _
+    (at-unite-column .unite-column .ensures) (at-unite-row .unite-row .ensures) (at-single .single .ensures)
+    (at-single2 .single2 .ensures) (at-move-bits .move-bits .ensures)))

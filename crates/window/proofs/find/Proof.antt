@@ -24,16 +24,19 @@ find-spec = tie.close (tie.spec
     (λ c κs. search needs)
     (λ c κs. search needs)
     (λ c. search needs)
-    (λ c. let k = c .before .before .before .before .before .before in
-    sym (find-here registers functions _ _ _ (c .before .before .before .before .before .loop-test .taken)
-    (sym (c .before .before .inhabited .ensures ∙ ap (nonempty registers) (c .before .before .before .rest .ensures)) ∙ c .before .if1 .taken))
+    (λ c.
+    let at-inhabited = c .before .before in
+    let at-rest = at-inhabited .before in
+    let at-before = at-rest .before .before in
+    let k = at-before .before in
+    sym (find-here registers functions _ _ _ (at-before .loop-test .taken)
+    (sym (at-inhabited .inhabited .ensures ∙ ap (nonempty registers) (at-rest .rest .ensures)) ∙ c .before .if1 .taken))
     ∙ k .loop .inv .1)
     (λ c. search needs)
     (λ c. search needs)
     (λ c. let k = c .before .before .before .before .before in (
       omega (arith, c .before .before .before .before .loop-test .taken),
-      sym
-          (find-more registers functions _ _ _ (c .before .before .before .before .loop-test .taken)
+      sym (find-more registers functions _ _ _ (c .before .before .before .before .loop-test .taken)
           (sym (c .before .inhabited .ensures ∙ ap (nonempty registers) (c .before .before .rest .ensures)) ∙ c .if1 .left)) ∙ k .loop .inv .1,
     ))
     (λ c. sym (find-none registers functions _ _ _ (c .loop-test .left)) ∙ c .before .loop .inv .1))

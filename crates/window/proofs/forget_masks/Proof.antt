@@ -10,5 +10,8 @@ forget-masks-spec = tie.close (tie.spec
     (λ c κs. search needs)
     (λ c κs. search needs)
     (λ c. search needs)
-    (λ c. let k = c .before .before .before .before .before .before in
-    forgotten-is registers _ _ _ _ _ (k .before .single .ensures) (k .move-bits .ensures) (c .before .before .clear-column .ensures)))
+    (λ c.
+    let at-clear-column = c .before .before in
+    let at-before = at-clear-column .before .before .before in
+    let k = at-before .before in
+    forgotten-is registers _ _ _ _ _ (k .before .single .ensures) (k .move-bits .ensures) (at-clear-column .clear-column .ensures)))

@@ -14,7 +14,13 @@ lost-spec = tie.close (tie.spec
     (λ c. search needs)
     (λ c κs. search needs)
     (λ c κs. search needs)
-    (λ c. lost-is registers functions _ _ _ _ _ _ _ _ _ _ (c .before .before .before .before .before .before .before .before .before .before .folded .ensures)
-    (c .before .before .before .before .before .before .before .before .above .ensures) (c .before .before .before .before .before .before .single .ensures)
-    (c .before .before .before .before .before .below .ensures) (c .before .before .before .beside .ensures) (c .before .before .flag .ensures)
+    (λ c.
+    let at-flag = c .before .before in
+    let at-beside = at-flag .before in
+    let at-below = at-beside .before .before in
+    let at-single = at-below .before in
+    let at-above = at-single .before .before in
+    let at-folded = at-above .before .before in
+    lost-is registers functions _ _ _ _ _ _ _ _ _ _ (at-folded .folded .ensures)
+    (at-above .above .ensures) (at-single .single .ensures) (at-below .below .ensures) (at-beside .beside .ensures) (at-flag .flag .ensures)
     (c .raised .ensures)))

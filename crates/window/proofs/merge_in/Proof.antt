@@ -17,46 +17,51 @@ merge-in-spec = tie.close (tie.spec
     let args = c .before .before .before .before .args in (
       search needs,
       search needs,
-      (let a = args in both-has (getD (a .class .now) (a .a) 0) (getD (a .class .now) (a .b) 0) (a .a) _ (c .before .single
-          .ensures)),
+      (let a = args in both-has (getD (a .class .now) (a .a) 0) (getD (a .class .now) (a .b) 0) (a .a) _ (c .before .single .ensures)),
       whole registers 1 (args .class .now) (c .before .before .before .before .pre .2 .class),
     ))
     (λ c κs.
-    let args = c .before .before .before .before .before .before .args in (
+    let at-single = c .before .before .before in
+    let at-args = at-single .before .before .before in
+    let args = at-args .args in (
       search needs,
       search needs,
-      (let a = args in both-has (getD (a .class .now) (a .a) 0) (getD (a .class .now) (a .b) 0) (a .a) _ (c .before .before
-          .before .single .ensures)),
-      whole registers 1 (args .unequal .now) (c .before .before .before .before .before .before .pre .2 .unequal),
+      (let a = args in both-has (getD (a .class .now) (a .a) 0) (getD (a .class .now) (a .b) 0) (a .a) _ (at-single .single .ensures)),
+      whole registers 1 (args .unequal .now) (at-args .pre .2 .unequal),
     ))
-    (λ c κs. (
+    (λ c κs.
+    let at-single = c .before .before .before .before .before in
+    let at-args = at-single .before .before .before in (
       search needs,
       search needs,
-      (let a = c .before .before .before .before .before .before .before .before .args in both-has (getD (a .class .now) (a .a)
-          0) (getD (a .class .now) (a .b) 0) (a .a) _ (c .before .before .before .before .before .single .ensures)),
+      (let a = at-args .args in both-has (getD (a .class .now) (a .a)
+          0) (getD (a .class .now) (a .b) 0) (a .a) _ (at-single .single .ensures)),
       search needs,
     ))
     (λ c κs.
-    let args = c .before .before .before .before .before .before .before .before .before .before .args in (
+    let at-single = c .before .before .before .before .before .before .before in
+    let at-args = at-single .before .before .before in
+    let args = at-args .args in (
       search needs,
       search needs,
-      (let a = args in both-has (getD (a .class .now) (a .a) 0) (getD (a .class .now) (a .b) 0) (a .a) _ (c .before .before
-          .before .before .before .before .before .single .ensures)),
-      whole registers functions (args .ever .now) (c .before .before .before .before .before
-          .before .before .before .before .before .pre .2 .ever),
+      (let a = args in both-has (getD (a .class .now) (a .a) 0) (getD (a .class .now) (a .b) 0) (a .a) _ (at-single .single .ensures)),
+      whole registers functions (args .ever .now) (at-args .pre .2 .ever),
     ))
-    (λ c. let a = c .before .before .before .before .before .before .before .before .before .before .before .args in (
-      (λ m i. merged-is registers functions (windowOfParts (a .class .now) (a .unequal .now) (a .result .now) (a .ever .now) m i) (a .a) (a .b) _ _ _ _ _ _ (c
-          .before .before .before .before .before .before .before .before .single .ensures) (c .before .before .before .before .before .before .merge-masks
-          .ensures) (c .before .before .before .before .merge-masks2 .ensures) (c .before .before .merge-results .ensures) (c .merge-masks3 .ensures) refl),
+    (λ c.
+    let at-merge-results = c .before .before in
+    let at-merge-masks2 = at-merge-results .before .before in
+    let at-merge-masks = at-merge-masks2 .before .before in
+    let at-single = at-merge-masks .before .before in
+    let at-args = at-single .before .before .before in
+    let a = at-args .args in (
+      (λ m i. merged-is registers functions (windowOfParts (a .class .now) (a .unequal .now) (a .result .now) (a .ever .now) m i) (a .a)
+          (a .b) _ _ _ _ _ _ (at-single .single .ensures) (at-merge-masks .merge-masks
+          .ensures) (at-merge-masks2 .merge-masks2 .ensures) (at-merge-results .merge-results .ensures) (c .merge-masks3 .ensures) refl),
       record {
-        class = ap length (c .before .before .before .before .before .before .merge-masks .ensures) ∙ masks-length registers (a .a) (a .b) _ (a .class .now)
-            ∙ c .before .before .before .before .before .before .before .before .before .before .before .pre .2 .class;
-        unequal = ap length (c .before .before .before .before .merge-masks2 .ensures) ∙ masks-length registers (a .a) (a .b) _ (a .unequal .now) ∙ c
-            .before .before .before .before .before .before .before .before .before .before .before .pre .2 .unequal;
-        result = ap length (c .before .before .merge-results .ensures) ∙ results-length registers (a .a) (a .b) _ (a .result .now) ∙ c .before .before
-            .before .before .before .before .before .before .before .before .before .pre .2 .result;
-        ever = ap length (c .merge-masks3 .ensures) ∙ masks-length registers (a .a) (a .b) _ (a .ever .now) ∙ c .before .before .before .before .before
-            .before .before .before .before .before .before .pre .2 .ever;
+        class = ap length (at-merge-masks .merge-masks .ensures) ∙ masks-length registers (a .a) (a .b) _ (a .class .now)
+            ∙ at-args .pre .2 .class;
+        unequal = ap length (at-merge-masks2 .merge-masks2 .ensures) ∙ masks-length registers (a .a) (a .b) _ (a .unequal .now) ∙ at-args .pre .2 .unequal;
+        result = ap length (at-merge-results .merge-results .ensures) ∙ results-length registers (a .a) (a .b) _ (a .result .now) ∙ at-args .pre .2 .result;
+        ever = ap length (c .merge-masks3 .ensures) ∙ masks-length registers (a .a) (a .b) _ (a .ever .now) ∙ at-args .pre .2 .ever;
       },
     )))

@@ -15,10 +15,15 @@ merge-masks-spec = tie.close (tie.spec
     (λ c κs. search needs)
     (λ c κs. search needs)
     (λ c. search needs)
-    (λ c. let k = c .before .before .before .before .before .before .before .before .before .before .before .before in
+    (λ c.
+    let at-move-bits = c .before .before in
+    let at-single2 = at-move-bits .before in
+    let at-single = at-single2 .before in
+    let at-spread-column = at-single .before .before .before .before in
+    let at-before = at-spread-column .before .before .before in
+    let k = at-before .before in
     let p = k .before .before .before .pre in
     masks-merged registers _ _ _ _ _ _ _
     (merged-twice (columns registers) _ _ _ (p .0) _ _ _ _ (columns-span registers _ _ (p .3) refl) (p .2) (k .unite-column .ensures)
-    (c .before .before .before .before .before .before .before .before .spread-column .ensures))
-    (ap₂ bitOr (c .before .before .before .before .single .ensures) (c .before .before .before .single2 .ensures))
-    (c .before .before .move-bits .ensures)))
+    (at-spread-column .spread-column .ensures)) (ap₂ bitOr (at-single .single .ensures) (at-single2 .single2 .ensures))
+    (at-move-bits .move-bits .ensures)))

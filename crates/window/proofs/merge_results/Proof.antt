@@ -19,17 +19,21 @@ merge-results-spec = tie.close (tie.spec
     (λ c κs. search needs)
     (λ c κs. search needs)
     (λ c. search needs)
-    (λ c. let k = c .before .before .before .before .before .before .before .before .before .before .before .before .before .before .before .before .before
-    .before .before .before in
+    (λ c.
+    let at-move-bits = c .before .before in
+    let at-single2 = at-move-bits .before in
+    let at-single = at-single2 .before in
+    let at-spread-row = at-single .before .before .before .before in
+    let at-unite-row = at-spread-row .before .before .before .before in
+    let at-spread-column = at-unite-row .before .before .before .before in
+    let at-before = at-spread-column .before .before .before in
+    let k = at-before .before in
     let p = k .before .before .before .pre in
     let m = merged-twice (columns registers) _ _ _ (p .0) _ _ _ _
     (columns-span registers _ _ (whole registers lines (k .before .before .before .args .t .now) (p .3)) refl) (p .2) (k .unite-column .ensures)
-    (c .before .before .before .before .before .before .before .before .before .before .before .before .before .before .before .before .spread-column
-    .ensures) in
+    (at-spread-column .spread-column .ensures) in
     results-merged registers _ _ _ _ _ _ _ _
     m
     (merged-twice (rows registers) _ _ _ (p .0) _ _ _ _ (rows-span registers functions _ (ap length m ∙ united-length (columns registers) _ _ _ _ ∙ p .3))
-    (p .2) (c .before .before .before .before .before .before .before .before .before .before .before .before .unite-row .ensures)
-    (c .before .before .before .before .before .before .before .before .spread-row .ensures))
-    (ap₂ bitOr (c .before .before .before .before .single .ensures) (c .before .before .before .single2 .ensures))
-    (c .before .before .move-bits .ensures)))
+    (p .2) (at-unite-row .unite-row .ensures) (at-spread-row .spread-row .ensures))
+    (ap₂ bitOr (at-single .single .ensures) (at-single2 .single2 .ensures)) (at-move-bits .move-bits .ensures)))

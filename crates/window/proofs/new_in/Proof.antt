@@ -26,34 +26,33 @@ new-in-spec = tie.close (tie.spec
     (λ c κs. search needs)
     (λ c κs. search needs)
     (λ c κs. search needs)
-    (λ c. (
+    (λ c.
+    let at-add-line = c .before .before in
+    let at-renew-results = at-add-line .before .before in
+    let at-forget-masks2 = at-renew-results .before .before in
+    let at-single = at-forget-masks2 .before .before in
+    let at-forget-masks = at-single .before in
+    let at-mark-in = at-forget-masks .before .before in
+    let at-fallen = at-mark-in .before in
+    let at-arguments = at-fallen .before in
+    let at-args = at-arguments .before .before .before .before .before .before in (
       (λ i.
-          let a = c .before .before .before .before .before .before .before .before .before .before .before .before .before .before .before .before .before
-          .before .before .args in applied-is registers functions
+          let a = at-args .args in applied-is registers functions
           (windowOfParts (a .class .now) (a .unequal .now) (a .result .now) (a .ever .now) (a .mark .now) i)
           (a .x) (a .f) (a .y) (a .z) _ _ _ _ _ _ _ _ _
-          (c .before .before .before .before .before .before .before .before .before .before .before .before .before .arguments .ensures) (c .before .before
-          .before .before .before .before .before .before .before .before .before .before .fallen .ensures) (c .before .before .before .before .before
-          .before .before .before .before .before .before .mark-in .ensures .0) (c .before .before .before .before .before .before .before .before .single
-          .ensures) (c .before .before .before .before .before .before .before .before .before .forget-masks .ensures) (c .before .before .before .before
-          .before .before .forget-masks2 .ensures) (c .before .before .before .before .renew-results .ensures) (c .forget-masks3 .ensures ∙ ap
-          (masksForgotten registers (a .x)) (c .before .before .add-line .ensures)) refl),
-      let a = c .before .before .before .before .before .before .before .before .before .before .before .before .before .before .before .before .before
-          .before .before .args in record {
-            class = simp length-set (ap length (c .before .before .before .before .before .before .before .before .before .forget-masks .ensures) ∙
-                forgotten-length registers functions (a .x) (a .class .now) ∙ c .before .before .before .before .before .before .before .before .before .before
-                .before .before .before .before .before .before .before .before .before .pre .4 .class);
-            unequal = ap length (c .before .before .before .before .before .before .forget-masks2 .ensures) ∙ forgotten-length registers functions (a .x) (a
-                .unequal .now) ∙ c .before .before .before .before .before .before .before .before .before .before .before .before .before .before
-                .before .before
-                .before .before .before .pre .4 .unequal;
-            result = ap length (c .before .before .before .before .renew-results .ensures) ∙ renewed-length registers functions (a .x) (a .f) _ _ (a .result
-                .now) ∙ c .before .before .before .before .before .before .before .before .before .before .before .before .before .before .before
-                .before .before
-                .before .before .pre .4 .result;
-            ever = ap length (c .forget-masks3 .ensures) ∙ forgotten-length registers functions (a .x) _ ∙ ap length (c .before .before .add-line .ensures) ∙
-                line-length registers (a .f) _ _ (a .ever .now) ∙ c .before .before .before .before .before .before .before .before .before .before .before
-                .before .before .before .before .before .before .before .before .pre .4 .ever;
-            mark = simp length-set (c .before .before .before .before .before .before .before .before .before .before .before .mark-in .ensures .1);
-          },
+          (at-arguments .arguments .ensures) (at-fallen .fallen .ensures) (at-mark-in .mark-in .ensures .0) (at-single .single
+          .ensures) (at-forget-masks .forget-masks .ensures) (at-forget-masks2 .forget-masks2 .ensures) (at-renew-results .renew-results .ensures)
+          (c .forget-masks3 .ensures ∙ ap
+          (masksForgotten registers (a .x)) (at-add-line .add-line .ensures)) refl),
+      let a = at-args .args in record {
+        class = simp length-set (ap length (at-forget-masks .forget-masks .ensures) ∙
+            forgotten-length registers functions (a .x) (a .class .now) ∙ at-args .pre .4 .class);
+        unequal = ap length (at-forget-masks2 .forget-masks2 .ensures) ∙ forgotten-length registers functions (a .x) (a
+            .unequal .now) ∙ at-args .pre .4 .unequal;
+        result = ap length (at-renew-results .renew-results .ensures) ∙ renewed-length registers functions (a .x) (a .f) _ _ (a .result
+            .now) ∙ at-args .pre .4 .result;
+        ever = ap length (c .forget-masks3 .ensures) ∙ forgotten-length registers functions (a .x) _ ∙ ap length (at-add-line .add-line .ensures) ∙
+            line-length registers (a .f) _ _ (a .ever .now) ∙ at-args .pre .4 .ever;
+        mark = simp length-set (at-mark-in .mark-in .ensures .1);
+      },
     )))

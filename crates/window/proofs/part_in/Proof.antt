@@ -31,8 +31,11 @@ part-in-spec = tie.close (tie.spec
     (λ c. search needs)
     (λ c. search needs)
     (λ c.
-    let a = c .before .before .before .before .before .args in let k = c .before .before .before .before .loop in swept-more _ _ _ _ _ _ (k .inv) (omega
-    (arith, c .before .before .before .before .before .pre, c .before .before .before .loop-test .taken)) (parted-is (k .unequal) (a .one) (a .two) (k .i)
+    let at-loop-test = c .before .before .before in
+    let at-loop = at-loop-test .before in
+    let at-args = at-loop .before in
+    let a = at-args .args in let k = at-loop .loop in swept-more _ _ _ _ _ _ (k .inv) (omega
+    (arith, at-args .pre, at-loop-test .loop-test .taken)) (parted-is (k .unequal) (a .one) (a .two) (k .i)
     _ _ (c .before .part .ensures) (c .part2 .ensures) ∙ ap (λ v. bitOr (bitOr v (partOf (a .one) (a .two) (k .i))) (partOf (a .two) (a .one) (k .i))) (k
     .inv .ahead (k .i) (omega arith))))
     (λ c.

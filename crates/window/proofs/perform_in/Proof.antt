@@ -12,22 +12,28 @@ perform-in-spec = tie.close (tie.spec
     (λ c. search needs)
     (λ c. search needs)
     (λ c κs.
-    let pre-of = c .before .before .before .before .before .before .before .before .pre in
-    let p = subst WithinPacking (c .before .before .before .before .before .before .letter .given .1) (pre-of .0) in (p .0, p .1, (pre-of .1)))
+    let at-letter = c .before .before .before .before .before .before in
+    let at-pre = at-letter .before .before in
+    let pre-of = at-pre .pre in
+    let p = subst WithinPacking (at-letter .letter .given .1) (pre-of .0) in (p .0, p .1, (pre-of .1)))
     (λ c. search needs)
     (λ c. search needs)
     (λ c. search needs)
     (λ c. search needs)
     (λ c. search needs)
     (λ c κs.
-    let pre-of = c .before .before .before .before .before .before .before .before .pre in
-    let p = subst WithinPacking (c .before .before .before .before .before .before .letter2 .given .1) (pre-of .0) in (p .0, p .1, p .2, p .3, (pre-of .1)))
+    let at-letter2 = c .before .before .before .before .before .before in
+    let at-pre = at-letter2 .before .before in
+    let pre-of = at-pre .pre in
+    let p = subst WithinPacking (at-letter2 .letter2 .given .1) (pre-of .0) in (p .0, p .1, p .2, p .3, (pre-of .1)))
     (λ c. search needs)
     (λ c. search needs)
     (λ c. search needs)
     (λ c κs.
-    let pre-of = c .before .before .before .before .before .before .before .pre in
-    let p = subst WithinPacking (c .before .before .before .before .before .letter3 .given .1) (pre-of .0) in let s = pre-of .1 in (
+    let at-letter3 = c .before .before .before .before .before in
+    let at-pre = at-letter3 .before .before in
+    let pre-of = at-pre .pre in
+    let p = subst WithinPacking (at-letter3 .letter3 .given .1) (pre-of .0) in let s = pre-of .1 in (
       p .0,
       p .1,
       record {
@@ -42,42 +48,47 @@ perform-in-spec = tie.close (tie.spec
     (λ c. search needs)
     (λ c. search needs)
     (λ c κs.
-    let pre-of = c .before .before .before .before .before .pre in
-    let p = subst WithinPacking (c .before .before .before .letter4 .given .1) (pre-of .0) in (p .0, p .1, pre-of .1 .unequal))
-    (λ c. (
-      let a = c .before .before .before .before .before .before .before .before .before .args in
+    let at-letter4 = c .before .before .before in
+    let at-pre = at-letter4 .before .before in
+    let pre-of = at-pre .pre in
+    let p = subst WithinPacking (at-letter4 .letter4 .given .1) (pre-of .0) in (p .0, p .1, pre-of .1 .unequal))
+    (λ c.
+    let at-letter = c .before .before .before .before .before .before .before in
+    let at-args = at-letter .before .before in (
+      let a = at-args .args in
           told _ (windowOfParts (a .class .now) (a .unequal .now) (a .result
-          .now) (a .ever .now) (a .mark .now) (a .infeasible)) _ _ (c .before .before .before .before .before .before .before .letter .given .1) (c .copy-in
-          .ensures .0 (a .infeasible)),
+          .now) (a .ever .now) (a .mark .now) (a .infeasible)) _ _ (at-letter .letter .given .1) (c .copy-in .ensures .0 (a .infeasible)),
       c .copy-in .ensures .1,
     ))
-    (λ c. (
-      let a = c .before .before .before .before .before .before .before .before .before .args in
+    (λ c.
+    let at-letter2 = c .before .before .before .before .before .before .before in
+    let at-args = at-letter2 .before .before in (
+      let a = at-args .args in
           told _ (windowOfParts (a .class .now) (a .unequal .now) (a .result
-          .now) (a .ever .now) (a .mark .now) (a .infeasible)) _ _ (c .before .before .before .before .before .before .before .letter2 .given .1) (c .apply-in
-          .ensures .0 (a .infeasible)),
+          .now) (a .ever .now) (a .mark .now) (a .infeasible)) _ _ (at-letter2 .letter2 .given .1) (c .apply-in .ensures .0 (a .infeasible)),
       c .apply-in .ensures .1,
     ))
-    (λ c. (
-      let a = c .before .before .before .before .before .before .before .before .args in
+    (λ c.
+    let at-letter3 = c .before .before .before .before .before .before in
+    let at-args = at-letter3 .before .before in (
+      let a = at-args .args in
           told _ (windowOfParts (a .class .now) (a .unequal .now) (a .result .now)
-          (a .ever .now) (a .mark .now) (a .infeasible)) _ _ (c .before .before .before .before .before .before .letter3 .given .1) (c .equal-in .ensures .0 (a
-          .mark .now)),
+          (a .ever .now) (a .mark .now) (a .infeasible)) _ _ (at-letter3 .letter3 .given .1) (c .equal-in .ensures .0 (a .mark .now)),
       let l = c .equal-in .ensures .1 in record {
         class = l .class;
         unequal = l .unequal;
         result = l .result;
         ever = l .ever;
-        mark = c .before
-            .before .before .before .before .before .before .before .pre .1 .mark;
+        mark = at-args .pre .1 .mark;
       },
     ))
-    (λ c. (
-      let a = c .before .before .before .before .before .before .args in
+    (λ c.
+    let at-letter4 = c .before .before .before .before in
+    let at-args = at-letter4 .before .before in (
+      let a = at-args .args in
           told _ (windowOfParts (a .class .now) (a .unequal .now) (a .result .now) (a .ever .now) (a
-          .mark .now) (a .infeasible)) _ _ (c .before .before .before .before .letter4 .given .1) (c .unequal-in .ensures .0 (a .result .now) (a .ever .now) (a
-          .mark .now)),
-      let s = c .before .before .before .before .before .before .pre .1 in record {
+          .mark .now) (a .infeasible)) _ _ (at-letter4 .letter4 .given .1) (c .unequal-in .ensures .0 (a .result .now) (a .ever .now) (a .mark .now)),
+      let s = at-args .pre .1 in record {
         class = s .class;
         unequal = c .unequal-in .ensures .1;
         result = s .result;

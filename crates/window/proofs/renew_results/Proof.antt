@@ -12,8 +12,12 @@ renew-results-spec = tie.close (tie.spec
     (λ c κs. search needs)
     (λ c κs. search needs)
     (λ c. search needs)
-    (λ c. renewed-is registers _ _ _ _ _ _ _ _ _ _
-    (c .before .before .before .before .before .before .before .before .before .before .before .before .before .before .before .before .single .ensures)
-    (c .before .before .before .before .before .before .before .before .before .before .before .before .before .before .move-bits .ensures)
-    (c .before .before .before .before .before .before .before .before .before .before .add-results .ensures)
-    (c .before .before .before .before .before .before .clear-column .ensures) (c .before .before .clear-row .ensures)))
+    (λ c.
+    let at-clear-row = c .before .before in
+    let at-clear-column = at-clear-row .before .before .before .before in
+    let at-add-results = at-clear-column .before .before .before .before in
+    let at-move-bits = at-add-results .before .before .before .before in
+    let at-single = at-move-bits .before .before in
+    renewed-is registers _ _ _ _ _ _ _ _ _ _
+    (at-single .single .ensures) (at-move-bits .move-bits .ensures) (at-add-results .add-results .ensures)
+    (at-clear-column .clear-column .ensures) (at-clear-row .clear-row .ensures)))

@@ -19,16 +19,18 @@ abbrev μ-loop : tie.MeasureT-loop
 μ-loop t₀ to a r₀ t r = registers - r
 
 loop-again : tie.Need-loop-again Inv-loop μ-loop
-loop-again c = (
-  omega (arith, c .before .before .loop-test .taken),
-  let p = c .before .before .before .before .before .pre in
-      let l = c .before .before .before .loop .inv .1 in
-      ⊎-elim
-      (λ (i, _, u, _, _, e). e ∙ spread-more (columns registers) _ _ _ (p .0) _ _ _ _ (columns-span registers _ _ (p .1) refl) l
-      (sym (c .before .holds .ensures) ∙ i .taken) (u .ensures))
-      (λ (i, e). e ∙ spread-skip (columns registers) 0 _ _ (p .0) _ _ _ l (sym (c .before .holds .ensures) ∙ i .left))
-      (c .if1 .came),
-)
+loop-again c =
+    let at-loop-test = c .before .before in
+    let at-loop = at-loop-test .before in
+    let at-pre = at-loop .before .before in (
+      omega (arith, at-loop-test .loop-test .taken),
+      let p = at-pre .pre in
+          let l = at-loop .loop .inv .1 in
+          ⊎-elim
+          (λ (i, _, u, _, _, e). e ∙ spread-more (columns registers) _ _ _ (p .0) _ _ _ _ (columns-span registers _ _ (p .1) refl) l
+          (sym (c .before .holds .ensures) ∙ i .taken) (u .ensures))
+          (λ (i, e). e ∙ spread-skip (columns registers) 0 _ _ (p .0) _ _ _ l (sym (c .before .holds .ensures) ∙ i .left)) (c .if1 .came),
+    )
 
 pub spread-column-spec : {M : Type 1} → statement M
 spread-column-spec = tie.close (tie.spec

@@ -17,7 +17,10 @@ step-requires : tie.Need-step-requires
 step-requires c κs = search needs
 
 keep-requires : tie.Need-keep-requires
-keep-requires c κs = held-long _ _ _ (sym (c .before .before .before .before .before .holds .ensures) ∙ c .before .before .before .before .if2 .taken)
+keep-requires c κs =
+    let at-if2 = c .before .before .before .before in
+    let at-holds = at-if2 .before in
+    held-long _ _ _ (sym (at-holds .holds .ensures) ∙ at-if2 .if2 .taken)
 
 stepped-numbers-requires : tie.Need-stepped-numbers-requires
 stepped-numbers-requires c κs = search needs
@@ -66,8 +69,7 @@ returns-3 c =
 
 pub fadzgime-monitor-step-spec : {M : Type 1} → statement M
 fadzgime-monitor-step-spec =
-    tie.close
-    (tie.spec
+    tie.close (tie.spec
     returns
     holds-requires
     monitor-in-requires

@@ -17,7 +17,10 @@ push-all-requires : tie.Need-push-all-requires
 push-all-requires c κs = search needs
 
 put-stream-requires : tie.Need-put-stream-requires
-put-stream-requires c κs = held-long _ _ _ (sym (c .before .before .before .before .before .holds .ensures) ∙ c .before .before .before .before .if2 .taken)
+put-stream-requires c κs =
+    let at-if2 = c .before .before .before .before in
+    let at-holds = at-if2 .before in
+    held-long _ _ _ (sym (at-holds .holds .ensures) ∙ at-if2 .if2 .taken)
 
 slice-write-answer : tie.Need-slice-write-answer
 slice-write-answer c = search needs
@@ -50,8 +53,7 @@ returns-3 c = push-none _ _ _ (c .before .before .before .if1 .left) (sym (c .be
 
 pub fadzgime-stream-push-spec : {M : Type 1} → statement M
 fadzgime-stream-push-spec =
-    tie.close
-    (tie.spec
+    tie.close (tie.spec
     returns
     holds-requires
     stream-in-requires

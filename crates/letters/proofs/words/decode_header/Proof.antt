@@ -12,8 +12,7 @@ use Rattle.letters.proofs.words.decode_header.Tie as tie
 pub decode-header-spec : {M : Type 1} → statement M
 unfolding encodeHeader decodeHeader
 decode-header-spec =
-    tie.close
-    (tie.spec
+    tie.close (tie.spec
     (λ c κs. search needs)
     (λ c κs. search needs)
     (λ c. search needs)
@@ -22,11 +21,19 @@ decode-header-spec =
     rw (← c .before .before .before .named-header .ensures)
     (reread-none (headerTest firstEdition x) x (headerWord firstEdition x) (c .before .before .before .before .args .word) 3
     (sym (c .before .before .encode-header .ensures) ∙ ap headerWordAnswer (c .enum-told .given .1))))
-    (λ c. let x = c .before .before .before .before .before .named-header .result in
-    rw (← c .before .before .before .before .before .named-header .ensures)
-    (reread-same (headerTest firstEdition x) x (headerWord firstEdition x) (c .before .before .before .before .before .before .args .word) 3 _
-    (sym (c .before .before .before .before .encode-header .ensures) ∙ ap headerWordAnswer (c .before .before .encoded .given .1)) (c .if1 .taken)))
-    (λ c. let x = c .before .before .before .before .before .named-header .result in
-    rw (← c .before .before .before .before .before .named-header .ensures)
-    (reread-other (headerTest firstEdition x) x (headerWord firstEdition x) (c .before .before .before .before .before .before .args .word) 3 _
-    (sym (c .before .before .before .before .encode-header .ensures) ∙ ap headerWordAnswer (c .before .before .encoded .given .1)) (c .if1 .left))))
+    (λ c.
+    let at-encoded = c .before .before in
+    let at-encode-header = at-encoded .before .before in
+    let at-named-header = at-encode-header .before in
+    let at-args = at-named-header .before in
+    let x = at-named-header .named-header .result in
+    rw (← at-named-header .named-header .ensures) (reread-same (headerTest firstEdition x) x (headerWord firstEdition x) (at-args .args .word) 3 _
+    (sym (at-encode-header .encode-header .ensures) ∙ ap headerWordAnswer (at-encoded .encoded .given .1)) (c .if1 .taken)))
+    (λ c.
+    let at-encoded = c .before .before in
+    let at-encode-header = at-encoded .before .before in
+    let at-named-header = at-encode-header .before in
+    let at-args = at-named-header .before in
+    let x = at-named-header .named-header .result in
+    rw (← at-named-header .named-header .ensures) (reread-other (headerTest firstEdition x) x (headerWord firstEdition x) (at-args .args .word) 3 _
+    (sym (at-encode-header .encode-header .ensures) ∙ ap headerWordAnswer (at-encoded .encoded .given .1)) (c .if1 .left))))

@@ -14,7 +14,9 @@ decode-letter-spec = tie.close (tie.spec
     (λ c. search needs)
     (λ c κs. search needs)
     (λ c. let a = c .before .before .args in misfitting (a .h) (a .word) (omega arith) _ (c .before .header-fits .ensures) (c .if1 .taken))
-    (λ c. let a = c .before .before .before .before .before .before .args in uncounted (a .h) (a .word) (omega arith) (c .if2 .taken))
+    (λ c.
+    let at-args = c .before .before .before .before .before .before in
+    let a = at-args .args in uncounted (a .h) (a .word) (omega arith) (c .if2 .taken))
     (λ c. let e = c .before .before .before in let f = e .before .before .before .before in let a = f .before .before .args in
     refuse (a .h) (a .word) (omega arith) λ p. omega (arith, p .function (c .before .before .if3 .taken)))
     (λ c κs. search needs)
@@ -22,11 +24,14 @@ decode-letter-spec = tie.close (tie.spec
     unused (a .h) (a .word) (omega arith) (c .before .before .before .before .if3 .taken) _ (c .before .takes-two .ensures) (c .if5 .taken))
     (λ c κs. search needs)
     (λ c κs. search needs)
-    (λ c. let e = c .before .before .before .before .before .before .before in let f = e .before .before .before .before in let a = f .before .before .args in
+    (λ c.
+    let at-if5 = c .before .before in
+    let at-takes-two = at-if5 .before in
+    let at-before = at-takes-two .before .before .before in
+    let e = at-before .before in let f = e .before .before .before .before in let a = f .before .before .args in
     c .application .ensures ∙ read-application (a .h) (a .word) (omega arith)
     (counted (a .h) (a .word) (omega arith) _ (f .before .header-fits .ensures) (f .if1 .left) (e .if2 .left))
-    (c .before .before .before .before .before .before .if3 .taken) (omega arith) _ (c .before .before .before .takes-two .ensures)
-    (c .before .before .if5 .left) _ (c .before .by-arity .ensures))
+    (at-before .if3 .taken) (omega arith) _ (at-takes-two .takes-two .ensures) (at-if5 .if5 .left) _ (c .before .by-arity .ensures))
     (λ c. let e = c .before .before in let f = e .before .before .before .before in let a = f .before .before .args in
     refuse (a .h) (a .word) (omega arith) λ p. omega (arith, p .plain (c .before .if3 .left)))
     (λ c. let e = c .before .before .before .before in let f = e .before .before .before .before in let a = f .before .before .args in

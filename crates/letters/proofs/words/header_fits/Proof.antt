@@ -9,4 +9,6 @@ use Rattle.letters.proofs.words.header_fits.Tie as tie
 pub header-fits-spec : {M : Type 1} → statement M
 unfolding headerTest
 header-fits-spec = tie.close (tie.spec (λ c. search decide) (λ c. search decide) (λ c. search decide) (λ c. search needs)
-    (λ c. search (decide, shl-one 8 (c .before .before .before .before .before .before .before .before .args .h .functions) (omega arith))))
+    (λ c.
+    let at-args = c .before .before .before .before .before .before .before .before in
+    search (decide, shl-one 8 (at-args .args .h .functions) (omega arith))))

@@ -13,28 +13,33 @@ use Rattle.report.proofs.lines.put_execution.Tie as tie
 -- what the function ensures, apart, so that its failure has a name
 returns : tie.Need-returns
 returns c =
-    let a = c .before .before .before .before .before .before .before .before .before .before .before .args in
+    let at-put-letters = c .before .before in
+    let at-put-line = at-put-letters .before .before .before .before in
+    let at-args = at-put-line .before .before .before .before .before in
+    let a = at-args .args in
     appended-same (sym (execution-parts (namesOf (a .registers) (a .functions)) (a .h) (a .answer .now) (a .count)))
     (appended-then (line (lettersWord ∷ numeral (a .count) ∷ []))
     (linesOf (letterLine (namesOf (a .registers) (a .functions)) (a .h)) (lettersIn (a .h) (a .answer .now) 0 (a .count)))
-    (appended-same (sym (letters-form (a .count))) (c .before .before .before .before .before .before .put-line .ensures))
-    (c .before .before .put-letters .ensures))
+    (appended-same (sym (letters-form (a .count))) (at-put-line .put-line .ensures)) (at-put-letters .put-letters .ensures))
 
 pub put-execution-spec : {M : Type 1} → statement M
 put-execution-spec =
-    tie.close
-    (tie.spec
+    tie.close (tie.spec
     (λ c. search needs)
     (λ c κs. let a = c .before .before .before .before .args in
-    room-same (letters-form (a .count))
-    (room-first (line (lettersWord ∷ numeral (a .count) ∷ []))
+    room-same (letters-form (a .count)) (room-first (line (lettersWord ∷ numeral (a .count) ∷ []))
     (linesOf (letterLine (namesOf (a .registers) (a .functions)) (a .h)) (lettersIn (a .h) (a .answer .now) 0 (a .count)))
     (room-same (execution-parts (namesOf (a .registers) (a .functions)) (a .h) (a .answer .now) (a .count)) (c .before .before .before .before .pre))))
-    (λ c κs. let a = c .before .before .before .before .before .before .before .before .args in
+    (λ c κs.
+    let at-put-line = c .before .before .before in
+    let at-args = at-put-line .before .before .before .before .before in
+    let a = at-args .args in
     room-then (line (lettersWord ∷ numeral (a .count) ∷ []))
     (linesOf (letterLine (namesOf (a .registers) (a .functions)) (a .h)) (lettersIn (a .h) (a .answer .now) 0 (a .count)))
-    (room-same (execution-parts (namesOf (a .registers) (a .functions)) (a .h) (a .answer .now) (a .count))
-    (c .before .before .before .before .before .before .before .before .pre))
-    (appended-same (sym (letters-form (a .count))) (c .before .before .before .put-line .ensures)))
-    (λ c. appended-length (c .before .before .put-letters .ensures) ∙ appended-length (c .before .before .before .before .before .before .put-line .ensures))
+    (room-same (execution-parts (namesOf (a .registers) (a .functions)) (a .h) (a .answer .now) (a .count)) (at-args .pre))
+    (appended-same (sym (letters-form (a .count))) (at-put-line .put-line .ensures)))
+    (λ c.
+    let at-put-letters = c .before .before in
+    let at-put-line = at-put-letters .before .before .before .before in
+    appended-length (at-put-letters .put-letters .ensures) ∙ appended-length (at-put-line .put-line .ensures))
     returns)

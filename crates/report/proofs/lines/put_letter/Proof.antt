@@ -10,46 +10,69 @@ use Rattle.report.proofs.lines.put_letter.Tie as tie
 -- what the function ensures, apart, so that its failure has a name
 returns-4 : tie.Need-returns-4
 returns-4 c =
-    let a = c .before .before .before .before .before .before .before .before .before .args in
+    let at-put-two3 = c .before .before in
+    let at-letter4 = at-put-two3 .before .before .before .before in
+    let at-args = at-letter4 .before .before .before in
+    let a = at-args .args in
     appended-same (sym (ap (letterLine (namesOf (a .registers) (a .functions)) (a .h))
-    (c .before .before .before .before .before .before .letter4 .given .1) ∙ unequal-form (a .registers) (a .functions) (a .h) _ _))
-    (c .before .before .put-two3 .ensures)
+    (at-letter4 .letter4 .given .1) ∙ unequal-form (a .registers) (a .functions) (a .h) _ _)) (at-put-two3 .put-two3 .ensures)
 
 pub put-letter-spec : {M : Type 1} → statement M
 put-letter-spec =
-    tie.close
-    (tie.spec
+    tie.close (tie.spec
     (λ c. search needs)
     (λ c. search needs)
-    (λ c κs. let a = c .before .before .before .before .before .before .args in
-    room-same (ap (letterLine (namesOf (a .registers) (a .functions)) (a .h)) (c .before .before .before .letter .given .1)
-    ∙ copy-form (a .registers) (a .functions) (a .h) _ _) (c .before .before .before .before .before .before .pre))
+    (λ c κs.
+    let at-letter = c .before .before .before in
+    let at-args = at-letter .before .before .before in
+    let a = at-args .args in
+    room-same (ap (letterLine (namesOf (a .registers) (a .functions)) (a .h)) (at-letter .letter .given .1)
+    ∙ copy-form (a .registers) (a .functions) (a .h) _ _) (at-args .pre))
     (λ c. search needs)
-    (λ c κs. let a = c .before .before .before .before .before .args in
-    room-same (ap (letterLine (namesOf (a .registers) (a .functions)) (a .h)) (c .before .before .letter2 .given .1))
-    (c .before .before .before .before .before .pre))
+    (λ c κs.
+    let at-letter2 = c .before .before in
+    let at-args = at-letter2 .before .before .before in
+    let a = at-args .args in
+    room-same (ap (letterLine (namesOf (a .registers) (a .functions)) (a .h)) (at-letter2 .letter2 .given .1)) (at-args .pre))
     (λ c. search needs)
     (λ c. search needs)
-    (λ c κs. let a = c .before .before .before .before .before .before .args in
-    room-same (ap (letterLine (namesOf (a .registers) (a .functions)) (a .h)) (c .before .before .before .letter3 .given .1)
-    ∙ equal-form (a .registers) (a .functions) (a .h) _ _) (c .before .before .before .before .before .before .pre))
+    (λ c κs.
+    let at-letter3 = c .before .before .before in
+    let at-args = at-letter3 .before .before .before in
+    let a = at-args .args in
+    room-same (ap (letterLine (namesOf (a .registers) (a .functions)) (a .h)) (at-letter3 .letter3 .given .1)
+    ∙ equal-form (a .registers) (a .functions) (a .h) _ _) (at-args .pre))
     (λ c. search needs)
     (λ c. search needs)
-    (λ c κs. let a = c .before .before .before .before .before .before .args in
-    room-same (ap (letterLine (namesOf (a .registers) (a .functions)) (a .h)) (c .before .before .before .letter4 .given .1)
-    ∙ unequal-form (a .registers) (a .functions) (a .h) _ _) (c .before .before .before .before .before .before .pre))
+    (λ c κs.
+    let at-letter4 = c .before .before .before in
+    let at-args = at-letter4 .before .before .before in
+    let a = at-args .args in
+    room-same (ap (letterLine (namesOf (a .registers) (a .functions)) (a .h)) (at-letter4 .letter4 .given .1)
+    ∙ unequal-form (a .registers) (a .functions) (a .h) _ _) (at-args .pre))
     (λ c. appended-length (c .before .before .put-two .ensures))
-    (λ c. let a = c .before .before .before .before .before .before .before .before .before .args in
-    appended-same (sym (ap (letterLine (namesOf (a .registers) (a .functions)) (a .h)) (c .before .before .before .before .before .before .letter .given .1)
-    ∙ copy-form (a .registers) (a .functions) (a .h) _ _)) (c .before .before .put-two .ensures))
+    (λ c.
+    let at-put-two = c .before .before in
+    let at-letter = at-put-two .before .before .before .before in
+    let at-args = at-letter .before .before .before in
+    let a = at-args .args in
+    appended-same (sym (ap (letterLine (namesOf (a .registers) (a .functions)) (a .h)) (at-letter .letter .given .1)
+    ∙ copy-form (a .registers) (a .functions) (a .h) _ _)) (at-put-two .put-two .ensures))
     (λ c. appended-length (c .before .before .put-application .ensures))
-    (λ c. let a = c .before .before .before .before .before .before .before .before .args in
-    appended-same (sym (ap (letterLine (namesOf (a .registers) (a .functions)) (a .h)) (c .before .before .before .before .before .letter2 .given .1)))
-    (c .before .before .put-application .ensures))
+    (λ c.
+    let at-put-application = c .before .before in
+    let at-letter2 = at-put-application .before .before .before in
+    let at-args = at-letter2 .before .before .before in
+    let a = at-args .args in
+    appended-same (sym (ap (letterLine (namesOf (a .registers) (a .functions)) (a .h)) (at-letter2 .letter2 .given .1)))
+    (at-put-application .put-application .ensures))
     (λ c. appended-length (c .before .before .put-two2 .ensures))
-    (λ c. let a = c .before .before .before .before .before .before .before .before .before .args in
+    (λ c.
+    let at-put-two2 = c .before .before in
+    let at-letter3 = at-put-two2 .before .before .before .before in
+    let at-args = at-letter3 .before .before .before in
+    let a = at-args .args in
     appended-same (sym (ap (letterLine (namesOf (a .registers) (a .functions)) (a .h))
-    (c .before .before .before .before .before .before .letter3 .given .1) ∙ equal-form (a .registers) (a .functions) (a .h) _ _))
-    (c .before .before .put-two2 .ensures))
+    (at-letter3 .letter3 .given .1) ∙ equal-form (a .registers) (a .functions) (a .h) _ _)) (at-put-two2 .put-two2 .ensures))
     (λ c. appended-length (c .before .before .put-two3 .ensures))
     returns-4)

@@ -18,33 +18,39 @@ abbrev μ-loop : tie.MeasureT-loop
 
 pub put-letters-spec : {M : Type 1} → statement M
 put-letters-spec =
-    tie.close
-    (tie.spec
+    tie.close (tie.spec
     Inv-loop
     μ-loop
     (λ c. let a = c .before .before .args in
     left-same (letter-lines-start (letterLine (namesOf (a .registers) (a .functions)) (a .h)) (a .h) (a .answer .now) (a .count)) (left-all _ _ _))
     (λ c κs. search needs)
     (λ c κs.
-    let a = c .before .before .before .before .before .before .args in
-    let l = c .before .before .before .loop in
+    let at-loop-test = c .before .before in
+    let at-loop = at-loop-test .before in
+    let at-args = at-loop .before .before .before in
+    let a = at-args .args in
+    let l = at-loop .loop in
     room-same (ap (letterLine (namesOf (a .registers) (a .functions)) (a .h)) (sym (c .before .letter-of .ensures)))
     (left-room (letterLine (namesOf (a .registers) (a .functions)) (a .h) (letterOrCopy (a .h) (a .answer .now) (l .k)))
     (linesOf (letterLine (namesOf (a .registers) (a .functions)) (a .h)) (lettersIn (a .h) (a .answer .now) (l .k + 1) (a .count - (l .k + 1))))
-    (c .before .before .before .before .before .before .pre)
-    (left-same (letter-lines-next (letterLine (namesOf (a .registers) (a .functions)) (a .h)) (a .h) (a .answer .now) (a .count) (l .k)
-    (c .before .before .loop-test .taken)) (l .inv))))
+    (at-args .pre) (left-same (letter-lines-next (letterLine (namesOf (a .registers) (a .functions)) (a .h)) (a .h) (a .answer .now) (a .count) (l .k)
+    (at-loop-test .loop-test .taken)) (l .inv))))
     (λ c. search needs)
     (λ c. search needs)
     (λ c.
-    let a = c .before .before .before .before .before .before .before .before .before .args in
-    let l = c .before .before .before .before .before .before .loop in
+    let at-put-letter = c .before .before in
+    let at-letter-of = at-put-letter .before .before in
+    let at-loop-test = at-letter-of .before in
+    let at-loop = at-loop-test .before in
+    let at-args = at-loop .before .before .before in
+    let a = at-args .args in
+    let l = at-loop .loop in
     left-next (letterLine (namesOf (a .registers) (a .functions)) (a .h) (letterOrCopy (a .h) (a .answer .now) (l .k)))
     (linesOf (letterLine (namesOf (a .registers) (a .functions)) (a .h)) (lettersIn (a .h) (a .answer .now) (l .k + 1) (a .count - (l .k + 1))))
     (left-same (letter-lines-next (letterLine (namesOf (a .registers) (a .functions)) (a .h)) (a .h) (a .answer .now) (a .count) (l .k)
-    (c .before .before .before .before .before .loop-test .taken)) (l .inv))
-    (appended-same (ap (letterLine (namesOf (a .registers) (a .functions)) (a .h)) (c .before .before .before .before .letter-of .ensures))
-    (c .before .before .put-letter .ensures)))
+    (at-loop-test .loop-test .taken)) (l .inv))
+    (appended-same (ap (letterLine (namesOf (a .registers) (a .functions)) (a .h)) (at-letter-of .letter-of .ensures))
+    (at-put-letter .put-letter .ensures)))
     (λ c. left-length (c .before .loop .inv))
     (λ c. let a = c .before .before .before .before .args in
     left-none (left-same (letter-lines-none (letterLine (namesOf (a .registers) (a .functions)) (a .h)) (a .h) (a .answer .now) (a .count)

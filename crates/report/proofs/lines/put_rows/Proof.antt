@@ -25,8 +25,7 @@ abbrev μ-loop : tie.MeasureT-loop
 
 pub put-rows-spec : {M : Type 1} → statement M
 put-rows-spec =
-    tie.close
-    (tie.spec
+    tie.close (tie.spec
     Inv-loop
     μ-loop
     (λ c. let a = c .before .before .args in
@@ -35,27 +34,34 @@ put-rows-spec =
     (λ c. record { fits = omega (arith, c .before .before .before .before .pre .1, c .loop-test .taken) })
     (λ c κs. omega (arith, c .before .before .before .before .pre .1, c .loop-test .taken))
     (λ c κs.
-    let a = c .before .before .before .before .before .before .args in
-    let l = c .before .before .before .loop in
+    let at-loop-test = c .before .before in
+    let at-loop = at-loop-test .before in
+    let at-args = at-loop .before .before .before in
+    let a = at-args .args in
+    let l = at-loop .loop in
     room-same (ap (λ (n : ℕ). rowLine (λ f. nameText (getD (a .functions) f 0)) (a .h) (rowFrom firstEdition (a .h) n)) (sym (c .before .row-at .ensures)))
     (left-room (rowLine (λ f. nameText (getD (a .functions) f 0)) (a .h) (rowFrom firstEdition (a .h) (rowIn (a .answer .now) (a .start + 5 * l .k))))
     (linesOf (rowLine (λ f. nameText (getD (a .functions) f 0)) (a .h))
-    (map (rowFrom firstEdition (a .h)) (unitsIn 5 (a .count - (l .k + 1)) (drop (a .start + 5 * (l .k + 1)) (a .answer .now)))))
-    (c .before .before .before .before .before .before .pre .0)
+    (map (rowFrom firstEdition (a .h)) (unitsIn 5 (a .count - (l .k + 1)) (drop (a .start + 5 * (l .k + 1)) (a .answer .now))))) (at-args .pre .0)
     (left-same (row-lines-next (rowLine (λ f. nameText (getD (a .functions) f 0)) (a .h)) (a .h) (a .answer .now) (a .start) (a .count) (l .k)
-    (c .before .before .loop-test .taken)) (l .inv))))
+    (at-loop-test .loop-test .taken)) (l .inv))))
     (λ c. search needs)
     (λ c. search needs)
     (λ c.
-    let a = c .before .before .before .before .before .before .before .before .before .args in
-    let l = c .before .before .before .before .before .before .loop in
+    let at-put-row = c .before .before in
+    let at-row-at = at-put-row .before .before in
+    let at-loop-test = at-row-at .before in
+    let at-loop = at-loop-test .before in
+    let at-args = at-loop .before .before .before in
+    let a = at-args .args in
+    let l = at-loop .loop in
     left-next (rowLine (λ f. nameText (getD (a .functions) f 0)) (a .h) (rowFrom firstEdition (a .h) (rowIn (a .answer .now) (a .start + 5 * l .k))))
     (linesOf (rowLine (λ f. nameText (getD (a .functions) f 0)) (a .h))
     (map (rowFrom firstEdition (a .h)) (unitsIn 5 (a .count - (l .k + 1)) (drop (a .start + 5 * (l .k + 1)) (a .answer .now)))))
     (left-same (row-lines-next (rowLine (λ f. nameText (getD (a .functions) f 0)) (a .h)) (a .h) (a .answer .now) (a .start) (a .count) (l .k)
-    (c .before .before .before .before .before .loop-test .taken)) (l .inv))
+    (at-loop-test .loop-test .taken)) (l .inv))
     (appended-same (ap (λ (n : ℕ). rowLine (λ f. nameText (getD (a .functions) f 0)) (a .h) (rowFrom firstEdition (a .h) n))
-    (c .before .before .before .before .row-at .ensures)) (c .before .before .put-row .ensures)))
+    (at-row-at .row-at .ensures)) (at-put-row .put-row .ensures)))
     (λ c. left-length (c .before .loop .inv))
     (λ c. let a = c .before .before .before .before .args in
     left-none (left-same (row-lines-none (rowLine (λ f. nameText (getD (a .functions) f 0)) (a .h)) (a .h) (a .answer .now) (a .start) (a .count)

@@ -25,8 +25,7 @@ abbrev μ-loop : tie.MeasureT-loop
 
 pub put-starts-spec : {M : Type 1} → statement M
 put-starts-spec =
-    tie.close
-    (tie.spec
+    tie.close (tie.spec
     Inv-loop
     μ-loop
     (λ c. let a = c .before .before .args in
@@ -38,29 +37,37 @@ put-starts-spec =
     (λ c κs. search needs)
     (λ c. search needs)
     (λ c κs.
-    let a = c .before .before .before .before .before .before .before .before .args in
-    let l = c .before .before .before .before .before .loop in
-    room-same (start-form (a .registers) (l .register) (c .before .before .before .register-name .ensures) (c .before .before .word-at .ensures .0))
+    let at-word-at = c .before .before in
+    let at-register-name = at-word-at .before in
+    let at-loop-test = at-register-name .before in
+    let at-loop = at-loop-test .before in
+    let at-args = at-loop .before .before .before in
+    let a = at-args .args in
+    let l = at-loop .loop in
+    room-same (start-form (a .registers) (l .register) (at-register-name .register-name .ensures) (at-word-at .word-at .ensures .0))
     (left-room (line (startWord ∷ nameText (getD (a .registers) (l .register) 0) ∷ blankWord ∷ numeral
-    (wordAt (a .answer .now) (a .start + 2 * l .register)) ∷ []))
-    (startLines (λ r. nameText (getD (a .registers) r 0)) (l .register + 1)
-    (unitsIn 2 (a .count - (l .register + 1)) (drop (a .start + 2 * (l .register + 1)) (a .answer .now))))
-    (c .before .before .before .before .before .before .before .before .pre)
+    (wordAt (a .answer .now) (a .start + 2 * l .register)) ∷ [])) (startLines (λ r. nameText (getD (a .registers) r 0)) (l .register + 1)
+    (unitsIn 2 (a .count - (l .register + 1)) (drop (a .start + 2 * (l .register + 1)) (a .answer .now)))) (at-args .pre)
     (left-same (start-lines-next (λ r. nameText (getD (a .registers) r 0)) (a .answer .now) (a .start) (a .count) (l .register)
-    (c .before .before .before .before .loop-test .taken)) (l .inv))))
+    (at-loop-test .loop-test .taken)) (l .inv))))
     (λ c. search needs)
     (λ c. search needs)
     (λ c.
-    let a = c .before .before .before .before .before .before .before .before .before .before .before .args in
-    let l = c .before .before .before .before .before .before .before .before .loop in
+    let at-put-line = c .before .before in
+    let at-word-at = at-put-line .before .before .before in
+    let at-register-name = at-word-at .before in
+    let at-loop-test = at-register-name .before in
+    let at-loop = at-loop-test .before in
+    let at-args = at-loop .before .before .before in
+    let a = at-args .args in
+    let l = at-loop .loop in
     left-next (line (startWord ∷ nameText (getD (a .registers) (l .register) 0) ∷ blankWord ∷ numeral
-    (wordAt (a .answer .now) (a .start + 2 * l .register)) ∷ []))
-    (startLines (λ r. nameText (getD (a .registers) r 0)) (l .register + 1)
+    (wordAt (a .answer .now) (a .start + 2 * l .register)) ∷ [])) (startLines (λ r. nameText (getD (a .registers) r 0)) (l .register + 1)
     (unitsIn 2 (a .count - (l .register + 1)) (drop (a .start + 2 * (l .register + 1)) (a .answer .now))))
     (left-same (start-lines-next (λ r. nameText (getD (a .registers) r 0)) (a .answer .now) (a .start) (a .count) (l .register)
-    (c .before .before .before .before .before .before .before .loop-test .taken)) (l .inv))
-    (appended-same (sym (start-form (a .registers) (l .register) (c .before .before .before .before .before .before .register-name .ensures)
-    (c .before .before .before .before .before .word-at .ensures .0))) (c .before .before .put-line .ensures)))
+    (at-loop-test .loop-test .taken)) (l .inv))
+    (appended-same (sym (start-form (a .registers) (l .register) (at-register-name .register-name .ensures)
+    (at-word-at .word-at .ensures .0))) (at-put-line .put-line .ensures)))
     (λ c. left-length (c .before .loop .inv))
     (λ c. let a = c .before .before .before .before .args in
     left-none (left-same (start-lines-none (λ r. nameText (getD (a .registers) r 0)) (a .answer .now) (a .start) (a .count) (c .before .loop .register)

@@ -8,8 +8,7 @@ use Rattle.report.proofs.lines.put_two.Tie as tie
 
 pub put-two-spec : {M : Type 1} → statement M
 put-two-spec =
-    tie.close
-    (tie.spec
+    tie.close (tie.spec
     (λ c κs. search needs)
     (λ c κs. search needs)
     (λ c κs.
@@ -18,6 +17,9 @@ put-two-spec =
     (sym (c .before .before .register-name .ensures) i ∷ sym (c .before .register-name2 .ensures) i ∷ 0 ∷ 0 ∷ [])) (a .pre))
     (λ c. appended-length (c .before .before .put-line .ensures))
     (λ c.
-    appended-same (λ i. filledIn (c .before .before .before .before .before .before .before .before .args .template .now)
-    ((c .before .before .before .before .before .register-name .ensures) i ∷ (c .before .before .before .before .register-name2 .ensures) i ∷ 0 ∷ 0 ∷ []))
-    (c .before .before .put-line .ensures)))
+    let at-put-line = c .before .before in
+    let at-register-name2 = at-put-line .before .before in
+    let at-register-name = at-register-name2 .before in
+    let at-args = at-register-name .before .before .before in
+    appended-same (λ i. filledIn (at-args .args .template .now)
+    ((at-register-name .register-name .ensures) i ∷ (at-register-name2 .register-name2 .ensures) i ∷ 0 ∷ 0 ∷ [])) (at-put-line .put-line .ensures)))

@@ -11,18 +11,25 @@ use Rattle.report.proofs.lines.put_verdict.Tie as tie
 
 pub put-verdict-spec : {M : Type 1} → statement M
 put-verdict-spec =
-    tie.close
-    (tie.spec
+    tie.close (tie.spec
     (λ c κs. let a = c .before .before .before .args in
     room-first (filledIn (a .verdict .now) (0 ∷ 0 ∷ 0 ∷ 0 ∷ [])) (line (pairsWord ∷ numeral (a .pairs) ∷ [])) (c .before .before .before .pre))
     (λ c. search needs)
-    (λ c κs. let a = c .before .before .before .before .before .before .before .before .args in
-    room-same (pairs-form (a .pairs))
-    (room-then (filledIn (a .verdict .now) (0 ∷ 0 ∷ 0 ∷ 0 ∷ [])) (line (pairsWord ∷ numeral (a .pairs) ∷ []))
-    (c .before .before .before .before .before .before .before .before .pre) (c .before .before .before .before .put-line .ensures)))
-    (λ c. appended-length (c .before .before .put-line2 .ensures)
-    ∙ appended-length (c .before .before .before .before .before .before .before .put-line .ensures))
-    (λ c. let a = c .before .before .before .before .before .before .before .before .before .before .before .args in
-    appended-then (filledIn (a .verdict .now) (0 ∷ 0 ∷ 0 ∷ 0 ∷ [])) (line (pairsWord ∷ numeral (a .pairs) ∷ []))
-    (c .before .before .before .before .before .before .before .put-line .ensures)
-    (appended-same (sym (pairs-form (a .pairs))) (c .before .before .put-line2 .ensures))))
+    (λ c κs.
+    let at-put-line = c .before .before .before .before in
+    let at-args = at-put-line .before .before .before .before in
+    let a = at-args .args in
+    room-same (pairs-form (a .pairs)) (room-then (filledIn (a .verdict .now) (0 ∷ 0 ∷ 0 ∷ 0 ∷ [])) (line (pairsWord ∷ numeral (a .pairs) ∷ []))
+    (at-args .pre) (at-put-line .put-line .ensures)))
+    (λ c.
+    let at-put-line2 = c .before .before in
+    let at-put-line = at-put-line2 .before .before .before .before .before in
+    appended-length (at-put-line2 .put-line2 .ensures)
+    ∙ appended-length (at-put-line .put-line .ensures))
+    (λ c.
+    let at-put-line2 = c .before .before in
+    let at-put-line = at-put-line2 .before .before .before .before .before in
+    let at-args = at-put-line .before .before .before .before in
+    let a = at-args .args in
+    appended-then (filledIn (a .verdict .now) (0 ∷ 0 ∷ 0 ∷ 0 ∷ [])) (line (pairsWord ∷ numeral (a .pairs) ∷ [])) (at-put-line .put-line .ensures)
+    (appended-same (sym (pairs-form (a .pairs))) (at-put-line2 .put-line2 .ensures))))

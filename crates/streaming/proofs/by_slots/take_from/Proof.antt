@@ -41,7 +41,8 @@ take-from-spec = tie.close (tie.spec
     (λ c. search needs)
     (λ c. search needs)
     (λ c κs.
-    let at-loop = c .before .before .before .before .before .before .before .before .before .before .before .before .before .before in
+    let at-before = c .before .before .before .before .before .before .before .before .before .before .before .before .before in
+    let at-loop = at-before .before in
     let at-start = at-loop .before .before .before in
     let l = at-loop .loop in
     let a = at-start .args in
@@ -49,7 +50,8 @@ take-from-spec = tie.close (tie.spec
     l .inv .1 _ begun .represents .mirrors .laid .low)
     (λ c κs. search needs)
     (λ c.
-    let at-told = c .before .before .before .before .before .before .before .before in
+    let at-before = c .before .before .before .before .before .before .before in
+    let at-told = at-before .before in
     let at-number = at-told .before .before in
     let at-decode = at-number .before in
     let at-word = at-decode .before in
@@ -76,7 +78,8 @@ take-from-spec = tie.close (tie.spec
       l .inv .1 _ begun .represents .mirrors .laid .low,
     ))
     (λ c κs.
-    let at-decoded = c .before .before .before .before .before .before .before .before .before .before .before .before .before in
+    let at-before = c .before .before .before .before .before .before .before .before .before .before .before .before in
+    let at-decoded = at-before .before in
     let at-decode = at-decoded .before .before .before in
     let at-loop = at-decode .before .before .before .before .before in
     let at-start = at-loop .before .before .before in
@@ -91,10 +94,12 @@ take-from-spec = tie.close (tie.spec
     (λ c κs. search needs)
     (λ c κs. search needs)
     (λ c.
-    let middle = c .before .before .before .before .before .before .before .before .before .before .before .before in
+    let at-before = c .before .before .before .before .before .before .before .before .before .before .before in
+    let middle = at-before .before in
     omega (arith, middle .before .before .before .before .before .before .before .before .before .before .before))
     (λ c.
-    let middle = c .before .before .before .before .before .before .before .before .before .before .before .before in
+    let at-before = c .before .before .before .before .before .before .before .before .before .before .before in
+    let middle = at-before .before in
     omega (arith, middle .before .before .before .before .before .before .before .before .before .before .before .loop-test .taken))
     (λ c.
     let at-performed = c .before .before in
@@ -119,7 +124,8 @@ take-from-spec = tie.close (tie.spec
       at-performed .performed .ensures .1 .1,
     ))
     (λ c κs.
-    let at-loop = c .before .before .before .before .before .before .before in
+    let at-before = c .before .before .before .before .before .before in
+    let at-loop = at-before .before in
     let at-start = at-loop .before .before .before in
     let l = at-loop .loop in
     let a = at-start .args in
@@ -127,7 +133,8 @@ take-from-spec = tie.close (tie.spec
     l .inv .1 _ begun .represents .mirrors .laid .low)
     (λ c κs. search needs)
     (λ c.
-    let at-test = c .before .before .before .before .before .before .before .before in
+    let at-before = c .before .before .before .before .before .before .before in
+    let at-test = at-before .before in
     let at-loop = at-test .before in
     let at-start = at-loop .before .before .before in
     let l = at-loop .loop in

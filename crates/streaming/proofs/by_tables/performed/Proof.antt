@@ -7,5 +7,7 @@ pub performed-spec : {M : Type 1} → statement M
 unfolding performedOf
 performed-spec = tie.close (tie.spec
     (λ c κs. search needs)
-    (λ c. (rw (c .before .before .before .before .before .before .if1 .taken) (c .perform-in .ensures .0), c .perform-in .ensures .1))
+    (λ c.
+    let at-if1 = c .before .before .before .before .before .before in
+    (rw (at-if1 .if1 .taken) (c .perform-in .ensures .0), c .perform-in .ensures .1))
     (λ c. (rw (c .if1 .left), c .before .pre .1)))

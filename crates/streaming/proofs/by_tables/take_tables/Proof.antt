@@ -66,7 +66,8 @@ take-tables-spec = tie.close (tie.spec
     step-within (record { header = a .header; window = a .window; running = a .running }) _ _ (at-decode .decode-letter .ensures) _
     (at-decoded .decoded .given .1))
     (λ c κs.
-    let at-decoded = c .before .before .before .before .before .before .before .before .before .before in
+    let at-before = c .before .before .before .before .before .before .before .before .before in
+    let at-decoded = at-before .before in
     let at-decode = at-decoded .before .before .before in
     let at-loop = at-decode .before .before .before .before .before in
     let at-start = at-loop .before .before .before .before .before .before .before in
@@ -79,10 +80,12 @@ take-tables-spec = tie.close (tie.spec
     (λ c κs. search needs)
     (λ c κs. search needs)
     (λ c.
-    let middle = c .before .before .before .before .before .before .before .before .before .before in
+    let at-before = c .before .before .before .before .before .before .before .before .before in
+    let middle = at-before .before in
     omega (arith, middle .before .before .before .before .before .before .before .before .before .before))
     (λ c.
-    let middle = c .before .before .before .before .before .before .before .before .before .before in
+    let at-before = c .before .before .before .before .before .before .before .before .before in
+    let middle = at-before .before in
     omega (arith, middle .before .before .before .before .before .before .before .before .before .before .loop-test .taken))
     (λ c.
     let at-performed = c .before .before in

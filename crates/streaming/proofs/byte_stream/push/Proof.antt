@@ -33,22 +33,25 @@ returns : tie.Need-returns
 returns c = pushes-byte _ _ _ (push-at (c .before .before .before .args .s) _ Empty (c .enum-told .given .1))
 
 returns-2 : tie.Need-returns-2
-returns-2 c = pushes-byte _ _ _
-    (push-one (c .before .before .before .before .before .args .s) _ _ _ (c .before .before .enum-told2 .given .1) (c .before .word .ensures)
+returns-2 c =
+    let at-enum-told2 = c .before .before in
+    let at-args = at-enum-told2 .before .before .before in
+    pushes-byte _ _ _ (push-one (at-args .args .s) _ _ _ (at-enum-told2 .enum-told2 .given .1) (c .before .word .ensures)
     (c .begin .ensures .computed))
 
 returns-3 : tie.Need-returns-3
 returns-3 c = pushes-byte _ _ _ (push-at (c .before .before .before .args .s) _ Even (c .enum-told3 .given .1))
 
 returns-4 : tie.Need-returns-4
-returns-4 c = pushes-byte _ _ _
-    (push-odd (c .before .before .before .before .before .args .s) _ _ _ (c .before .before .enum-told4 .given .1) (c .before .word2 .ensures)
+returns-4 c =
+    let at-enum-told4 = c .before .before in
+    let at-args = at-enum-told4 .before .before .before in
+    pushes-byte _ _ _ (push-odd (at-args .args .s) _ _ _ (at-enum-told4 .enum-told4 .given .1) (c .before .word2 .ensures)
     (c .take .ensures .computed))
 
 pub push-spec : {M : Type 1} → statement M
 push-spec =
-    tie.close
-    (tie.spec
+    tie.close (tie.spec
     enum-told
     enum-told-2
     word-requires

@@ -20,9 +20,13 @@ push-requires : tie.Need-push-requires
 push-requires c κs = search needs
 
 returns : tie.Need-returns
-returns c = let s = c .before .before .before .before .before .before in
-    letters-odd (s .args .s) (s .args .bytes .now) (s .args .start) _ (s .pre .0) (s .pre .1) (c .before .before .before .take-all .ensures) _
-    (c .before .before .if1 .taken) (pushes-one _ _ _ (c .push .ensures))
+returns c =
+    let at-if1 = c .before .before in
+    let at-take-all = at-if1 .before in
+    let at-before = at-take-all .before .before in
+    let s = at-before .before in
+    letters-odd (s .args .s) (s .args .bytes .now) (s .args .start) _ (s .pre .0) (s .pre .1) (at-take-all .take-all .ensures) _
+    (at-if1 .if1 .taken) (pushes-one _ _ _ (c .push .ensures))
 
 returns-2 : tie.Need-returns-2
 returns-2 c = let s = c .before .before .before .before in
@@ -30,8 +34,7 @@ returns-2 c = let s = c .before .before .before .before in
 
 pub push-letters-spec : {M : Type 1} → statement M
 push-letters-spec =
-    tie.close
-    (tie.spec
+    tie.close (tie.spec
     take-all-requires
     sub-if1
     sub-push

@@ -29,21 +29,26 @@ enum-known-outcome : tie.Need-enum-known-outcome
 enum-known-outcome c = search needs
 
 returns-2 : tie.Need-returns-2
-returns-2 c = run-takes _ _ _ (take-taken (c .before .before .before .before .before .before .before .before .before .before .args .run) _ _ _
-    (c .before .before .before .before .before .before .before .before .verdict .given .1) _
-    (c .before .before .before .before .before .before .next-number .ensures) _ (c .before .before .before .before .step .ensures .computed) _
-    (c .before .enum-told2 .given .1) (c .judged .ensures))
+returns-2 c =
+    let at-step = c .before .before .before .before in
+    let at-next-number = at-step .before .before in
+    let at-verdict = at-next-number .before .before in
+    let at-args = at-verdict .before .before in
+    run-takes _ _ _ (take-taken (at-args .args .run) _ _ _ (at-verdict .verdict .given .1) _
+    (at-next-number .next-number .ensures) _ (at-step .step .ensures .computed) _ (c .before .enum-told2 .given .1) (c .judged .ensures))
 
 returns-3 : tie.Need-returns-3
-returns-3 c = run-takes _ _ _ (take-refused (c .before .before .before .before .before .before .before .before .before .before .args .run) _ _ _
-    (c .before .before .before .before .before .before .before .before .verdict .given .1) _
-    (c .before .before .before .before .before .before .next-number .ensures) _ (c .before .before .before .before .step .ensures .computed) _
-    (c .before .outcome .given .1))
+returns-3 c =
+    let at-step = c .before .before .before .before in
+    let at-next-number = at-step .before .before in
+    let at-verdict = at-next-number .before .before in
+    let at-args = at-verdict .before .before in
+    run-takes _ _ _ (take-refused (at-args .args .run) _ _ _ (at-verdict .verdict .given .1) _
+    (at-next-number .next-number .ensures) _ (at-step .step .ensures .computed) _ (c .before .outcome .given .1))
 
 pub take-spec : {M : Type 1} → statement M
 take-spec =
-    tie.close
-    (tie.spec
+    tie.close (tie.spec
     enum-known-verdict
     enum-told
     returns

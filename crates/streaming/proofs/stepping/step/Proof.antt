@@ -17,14 +17,19 @@ returns : tie.Need-returns
 returns c = advances _ _ _ (step-refused (c .before .before .before .before .args .m) _ _ (c .before .before .decode-letter .ensures) (c .enum-told .given .1))
 
 moved-requires : tie.Need-moved-requires
-moved-requires c κs = step-within (c .before .before .before .before .before .args .m) _ _ (c .before .before .before .decode-letter .ensures) _
-    (c .before .decoded .given .1)
+moved-requires c κs =
+    let at-decode-letter = c .before .before .before in
+    let at-args = at-decode-letter .before .before in
+    step-within (at-args .args .m) _ _ (at-decode-letter .decode-letter .ensures) _ (c .before .decoded .given .1)
 
 returns-2 : tie.Need-returns-2
-returns-2 c = advances _ _ _ (step-taken (c .before .before .before .before .before .before .args .m) _ _
-    (c .before .before .before .before .decode-letter .ensures) _ _ (c .before .before .decoded .given .1) (c .moved .ensures))
+returns-2 c =
+    let at-decoded = c .before .before in
+    let at-decode-letter = at-decoded .before .before in
+    let at-args = at-decode-letter .before .before in
+    advances _ _ _ (step-taken (at-args .args .m) _ _
+    (at-decode-letter .decode-letter .ensures) _ _ (at-decoded .decoded .given .1) (c .moved .ensures))
 
 pub step-spec : {M : Type 1} → statement M
 step-spec =
-    tie.close
-    (tie.spec decode-letter-requires enum-known-decoded enum-told returns moved-requires returns-2)
+    tie.close (tie.spec decode-letter-requires enum-known-decoded enum-told returns moved-requires returns-2)

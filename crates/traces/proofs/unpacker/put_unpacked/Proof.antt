@@ -24,8 +24,7 @@ abbrev μ-loop : tie.MeasureT-loop
 
 pub put-unpacked-spec : {M : Type 1} → statement M
 put-unpacked-spec =
-    tie.close
-    (tie.spec
+    tie.close (tie.spec
     Inv-loop
     μ-loop
     (λ c. let a = c .before .before .args in (
@@ -34,8 +33,7 @@ put-unpacked-spec =
       search needs,
       c .before .before .pre .1,
       search needs,
-      put-begins (putPlain (a .h)) 5 2 (letterIn firstEdition (a .h))
-          (length (a .bytes .now) / 2 - 1) (a .bytes .now) 2 0 (a .out .now),
+      put-begins (putPlain (a .h)) 5 2 (letterIn firstEdition (a .h)) (length (a .bytes .now) / 2 - 1) (a .bytes .now) 2 0 (a .out .now),
     ))
     (λ c. search needs)
     (λ c. search needs)
@@ -46,31 +44,40 @@ put-unpacked-spec =
     (λ c. search needs)
     (λ c. search needs)
     (λ c. search needs)
-    (λ c. let a = c .before .before .before .before .before .before .before .before .before .before .args in
-    let l = c .before .before .before .before .before .before .before .loop in
+    (λ c.
+    let at-decode-letter = c .before .before in
+    let at-word = at-decode-letter .before in
+    let at-loop = at-word .before .before .before .before in
+    let at-args = at-loop .before .before .before in
+    let a = at-args .args in
+    let l = at-loop .loop in
     sym (put-bad (putPlain (a .h)) 5 2 (letterIn firstEdition (a .h)) (length (a .bytes .now) / 2 - 1) (a .bytes .now) (l .to / 5) (l .at) (l .to) 4 0
-    (l .out) (omega arith) (unit-bad (a .h) (a .bytes .now) (l .at) (c .before .before .before .word .result) (c .before .before .decode-letter .result)
-    (omega arith) (c .before .before .before .word .ensures) (c .before .before .decode-letter .ensures) (c .enum-told .given .1))) ∙ l .inv .5)
+    (l .out) (omega arith) (unit-bad (a .h) (a .bytes .now) (l .at) (at-word .word .result) (at-decode-letter .decode-letter .result)
+    (omega arith) (at-word .word .ensures) (at-decode-letter .decode-letter .ensures) (c .enum-told .given .1))) ∙ l .inv .5)
     (λ c κs. omega arith)
     (λ c. search needs)
     (λ c. search needs)
     (λ c. search needs)
-    (λ c. let a = c .before .before .before .before .before .before .before .before .before .before .before .before .before .before .before .args in
-    let l = c .before .before .before .before .before .before .before .before .before .before .before .before .loop in (
+    (λ c.
+    let at-put-fields = c .before .before in
+    let at-decoded = at-put-fields .before .before .before in
+    let at-decode-letter = at-decoded .before .before in
+    let at-word = at-decode-letter .before in
+    let at-loop = at-word .before .before .before .before in
+    let at-args = at-loop .before .before .before in
+    let a = at-args .args in
+    let l = at-loop .loop in (
       search needs,
       search needs,
       search needs,
       l .inv .3,
-      ap length (c .before .before .put-fields .ensures)
+      ap length (at-put-fields .put-fields .ensures)
           ∙ simp length-sets (l .inv .4),
       sym
           (put-good (putPlain (a .h)) 5 2 (letterIn firstEdition (a .h)) (length (a .bytes .now) / 2 - 1) (a .bytes .now) (l .to / 5) ((l .to + 5) / 5) (l .at)
-          (l .to) _ (l .out) _ (omega arith) (omega arith)
-          (unit-good (a .h) (a .bytes .now) (l .at) (c .before .before .before .before .before .before .before .before .word .result)
-          (c .before .before .before .before .before .before .before .decode-letter .result) (omega arith)
-          (c .before .before .before .before .before .before .before .before .word .ensures)
-          (c .before .before .before .before .before .before .before .decode-letter .ensures) _ (c .before .before .before .before .before .decoded .given .1))
-          (c .before .before .put-fields .ensures)) ∙ l .inv .5,
+          (l .to) _ (l .out) _ (omega arith) (omega arith) (unit-good (a .h) (a .bytes .now) (l .at) (at-word .word .result)
+          (at-decode-letter .decode-letter .result) (omega arith) (at-word .word .ensures)
+          (at-decode-letter .decode-letter .ensures) _ (at-decoded .decoded .given .1)) (at-put-fields .put-fields .ensures)) ∙ l .inv .5,
     ))
     (λ c. search needs)
     (λ c. let a = c .before .before .before .before .args in let l = c .before .loop in

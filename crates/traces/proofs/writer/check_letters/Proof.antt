@@ -24,8 +24,7 @@ abbrev μ-loop : tie.MeasureT-loop
 pub check-letters-spec : {M : Type 1} → statement M
 unfolding unpackedParts
 check-letters-spec =
-    tie.close
-    (tie.spec
+    tie.close (tie.spec
     Inv-loop
     μ-loop
     (λ c. let a = c .before .args in
@@ -34,27 +33,36 @@ check-letters-spec =
     (λ c. search needs)
     (λ c. search needs)
     (λ c. search needs)
-    (λ c. let a = c .before .before .before .before .before .before .args in let l = c .before .before .before .before .loop in
+    (λ c.
+    let at-unpacked-at = c .before .before in
+    let at-loop = at-unpacked-at .before .before in
+    let at-args = at-loop .before .before in
+    let a = at-args .args in let l = at-loop .loop in
     sym (count-bad (unpackLetter (a .h)) (a .h) 5 ((length (a .fields .now) + 4) / 5) (a .fields .now) (l .n) (l .at) 4 0 (omega arith)
-    (sym (c .before .before .unpacked-at .ensures) ∙ ap letterAnswer (c .enum-told .given .1))) ∙ l .inv .2)
+    (sym (at-unpacked-at .unpacked-at .ensures) ∙ ap letterAnswer (c .enum-told .given .1))) ∙ l .inv .2)
     (λ c. search needs)
-    (λ c. let a = c .before .before .before .before .before .before .before .args in let l = c .before .before .before .before .before .loop in
+    (λ c.
+    let at-unpacked-at = c .before .before .before in
+    let at-loop = at-unpacked-at .before .before in
+    let at-args = at-loop .before .before in
+    let a = at-args .args in let l = at-loop .loop in
     omega (
       arith,
-      unpack-whole (a .h) (a .fields .now) (l .at) _
-          (sym (c .before .before .before .unpacked-at .ensures) ∙ ap letterAnswer (c .before .decoded .given .1)),
+      unpack-whole (a .h) (a .fields .now) (l .at) _ (sym (at-unpacked-at .unpacked-at .ensures) ∙ ap letterAnswer (c .before .decoded .given .1)),
     ))
     (λ c. search needs)
-    (λ c. let a = c .before .before .before .before .before .before .before .args in let l = c .before .before .before .before .before .loop in (
+    (λ c.
+    let at-unpacked-at = c .before .before .before in
+    let at-loop = at-unpacked-at .before .before in
+    let at-args = at-loop .before .before in
+    let a = at-args .args in let l = at-loop .loop in (
       omega (
         arith,
-        unpack-whole (a .h) (a .fields .now) (l .at) _
-            (sym (c .before .before .before .unpacked-at .ensures) ∙ ap letterAnswer (c .before .decoded .given .1)),
+        unpack-whole (a .h) (a .fields .now) (l .at) _ (sym (at-unpacked-at .unpacked-at .ensures) ∙ ap letterAnswer (c .before .decoded .given .1)),
       ),
       search needs,
-      sym
-          (count-good (unpackLetter (a .h)) (a .h) 5 ((length (a .fields .now) + 4) / 5) (a .fields .now) (l .n) (l .at) _ (omega arith)
-          (sym (c .before .before .before .unpacked-at .ensures) ∙ ap letterAnswer (c .before .decoded .given .1))) ∙ l .inv .2,
+      sym (count-good (unpackLetter (a .h)) (a .h) 5 ((length (a .fields .now) + 4) / 5) (a .fields .now) (l .n) (l .at) _ (omega arith)
+          (sym (at-unpacked-at .unpacked-at .ensures) ∙ ap letterAnswer (c .before .decoded .given .1))) ∙ l .inv .2,
     ))
     (λ c. let a = c .before .before .before .args in let l = c .before .loop in
     sym (count-ends (unpackLetter (a .h)) (a .h) 5 ((length (a .fields .now) + 4) / 5) (a .fields .now) (l .n) (l .at) (omega arith)) ∙ l .inv .2))

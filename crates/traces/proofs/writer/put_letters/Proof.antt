@@ -25,8 +25,7 @@ abbrev μ-loop : tie.MeasureT-loop
 pub put-letters-spec : {M : Type 1} → statement M
 unfolding unpackedParts
 put-letters-spec =
-    tie.close
-    (tie.spec
+    tie.close (tie.spec
     Inv-loop
     μ-loop
     (λ c. let a = c .before .before .args in (
@@ -34,44 +33,54 @@ put-letters-spec =
       search needs,
       search needs,
       search needs,
-      put-begins putWord 2 5 (wordIn firstEdition (a .h)) ((length (a .fields .now) + 4) / 5)
-          (a .fields .now) 0 2 (a .out .now),
+      put-begins putWord 2 5 (wordIn firstEdition (a .h)) ((length (a .fields .now) + 4) / 5) (a .fields .now) 0 2 (a .out .now),
     ))
     (λ c κs. search needs)
     (λ c. search needs)
     (λ c. search needs)
     (λ c. search needs)
-    (λ c. let a = c .before .before .before .before .before .before .before .args in let l = c .before .before .before .before .loop in
+    (λ c.
+    let at-word-at = c .before .before in
+    let at-loop = at-word-at .before .before in
+    let at-args = at-loop .before .before .before in
+    let a = at-args .args in let l = at-loop .loop in
     sym (put-bad putWord 2 5 (wordIn firstEdition (a .h)) ((length (a .fields .now) + 4) / 5) (a .fields .now) (l .at / 5) (l .at) (l .to) 4 0 (l .out)
-    (omega arith) (sym (c .before .before .word-at .ensures) ∙ ap letterWordAnswer (c .enum-told .given .1))) ∙ l .inv .4)
+    (omega arith) (sym (at-word-at .word-at .ensures) ∙ ap letterWordAnswer (c .enum-told .given .1))) ∙ l .inv .4)
     (λ c κs. search needs)
-    (λ c. let a = c .before .before .before .before .before .before .before .before .before .before .before .before .args in
-    let l = c .before .before .before .before .before .before .before .before .before .loop in
+    (λ c.
+    let at-encoded = c .before .before .before .before .before in
+    let at-word-at = at-encoded .before .before in
+    let at-loop = at-word-at .before .before in
+    let at-args = at-loop .before .before .before in
+    let a = at-args .args in
+    let l = at-loop .loop in
     omega (
       arith,
-      word-whole (a .h) (a .fields .now) (l .at) _
-          (sym (c .before .before .before .before .before .before .before .word-at .ensures)
-          ∙ ap letterWordAnswer (c .before .before .before .before .before .encoded .given .1)),
+      word-whole (a .h) (a .fields .now) (l .at) _ (sym (at-word-at .word-at .ensures)
+          ∙ ap letterWordAnswer (at-encoded .encoded .given .1)),
     ))
     (λ c. search needs)
     (λ c. search needs)
-    (λ c. let a = c .before .before .before .before .before .before .before .before .before .before .before .before .args in
-    let l = c .before .before .before .before .before .before .before .before .before .loop in (
+    (λ c.
+    let at-put-word = c .before .before in
+    let at-encoded = at-put-word .before .before .before in
+    let at-word-at = at-encoded .before .before in
+    let at-loop = at-word-at .before .before in
+    let at-args = at-loop .before .before .before in
+    let a = at-args .args in
+    let l = at-loop .loop in (
       omega (
         arith,
-        word-whole (a .h) (a .fields .now) (l .at) _
-            (sym (c .before .before .before .before .before .before .before .word-at .ensures)
-            ∙ ap letterWordAnswer (c .before .before .before .before .before .encoded .given .1)),
+        word-whole (a .h) (a .fields .now) (l .at) _ (sym (at-word-at .word-at .ensures)
+            ∙ ap letterWordAnswer (at-encoded .encoded .given .1)),
       ),
       search needs,
       search needs,
-      ap length
-          (c .before .before .put-word .ensures) ∙ put-length (l .out) (l .to) (c .before .before .before .before .before .encoded .given .0 .0)
+      ap length (at-put-word .put-word .ensures) ∙ put-length (l .out) (l .to) (at-encoded .encoded .given .0 .0)
           ∙ l .inv .3,
       sym (put-good putWord 2 5 (wordIn firstEdition (a .h)) ((length (a .fields .now) + 4) / 5) (a .fields .now) (l .at / 5) ((l .at + 5) / 5)
-          (l .at) (l .to) _ (l .out) _ (omega arith) (omega arith)
-          (sym (c .before .before .before .before .before .before .before .word-at .ensures)
-          ∙ ap letterWordAnswer (c .before .before .before .before .before .encoded .given .1)) (c .before .before .put-word .ensures)) ∙ l .inv .4,
+          (l .at) (l .to) _ (l .out) _ (omega arith) (omega arith) (sym (at-word-at .word-at .ensures)
+          ∙ ap letterWordAnswer (at-encoded .encoded .given .1)) (at-put-word .put-word .ensures)) ∙ l .inv .4,
     ))
     (λ c. search needs)
     (λ c. let a = c .before .before .before .before .args in let l = c .before .loop in

@@ -10,7 +10,11 @@ use Rattle.traces.proofs.writer.put_trace.Tie as tie
 
 pub put-trace-spec : {M : Type 1} → statement M
 put-trace-spec = tie.close (tie.spec (λ c κs. search needs) (λ c κs. search needs) (λ c. search needs)
-    (λ c. let a = c .before .before .before .before .before .before .before .before .before .before .args in
-    c .before .before .put-letters .ensures
+    (λ c.
+    let at-put-letters = c .before .before in
+    let at-put-word = at-put-letters .before .before .before .before in
+    let at-args = at-put-word .before .before .before .before in
+    let a = at-args .args in
+    at-put-letters .put-letters .ensures
     ∙ ap (λ (o : List ℕ). putWords (wordIn firstEdition (a .h)) o 2 (unpackedParts (a .fields .now)))
-    (c .before .before .before .before .before .before .put-word .ensures)))
+    (at-put-word .put-word .ensures)))

@@ -7,8 +7,7 @@ use Rattle.traces.proofs.writer.unpacked_at.Tie as tie
 
 pub unpacked-at-spec : {M : Type 1} → statement M
 unpacked-at-spec =
-    tie.close
-    (tie.spec
+    tie.close (tie.spec
     (λ c. search needs)
     (λ c. let a = c .before .before .args in five-short (a .h) (a .fields .now) (a .at) (c .if1 .taken))
     (λ c. search needs)
@@ -21,5 +20,7 @@ unpacked-at-spec =
     (λ c. search needs)
     (λ c. search needs)
     (λ c κs. search needs)
-    (λ c. let a = c .before .before .before .before .before .before .before .before .args in
+    (λ c.
+    let at-args = c .before .before .before .before .before .before .before .before in
+    let a = at-args .args in
     c .letter-of .ensures ∙ five-at (a .h) (a .fields .now) (a .at) (omega arith)))
