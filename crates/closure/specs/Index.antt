@@ -7,11 +7,11 @@ use Prim.Native.Nat.{ℕ, suc, _+_, _*_, _≤_, _<_, _%_}
 use lib.Dec.{eqb}
 use lib.ListN.{length, getD}
 use Rattle.base.specs.Choice.{pick}
-use Rattle.closure.specs.Limits.{mostTerms, chainCount, firstFactor, secondFactor}
+use Rattle.closure.specs.Limits.{mostTerms, signatureChains, signatureFirstFactor, signatureSecondFactor}
 
 -- The signature of f of two arguments of the classes p and q.
 unfoldable pub signatureOf : (f p q : ℕ) → ℕ
-signatureOf f p q = p * firstFactor + q * secondFactor + f
+signatureOf f p q = p * signatureFirstFactor + q * signatureSecondFactor + f
 
 -- The chain from i on has the application o.
 pub data ChainHas (registers : ℕ) (link : List ℕ) : (i o : ℕ) → Type 0 where
@@ -24,7 +24,7 @@ pub record Down (link : List ℕ) : Type 0 where
 
 -- Chains go down, and have numbers below n.
 pub record Chains (n : ℕ) (head link : List ℕ) : Type 0 where
-  pub head-long : length head ≡ chainCount
+  pub head-long : length head ≡ signatureChains
   pub link-long : length link ≡ mostTerms
   pub heads : (b : ℕ) → getD head b 0 < n
   pub links : Down link
@@ -33,8 +33,8 @@ pub record Chains (n : ℕ) (head link : List ℕ) : Type 0 where
 -- to it.
 pub record CompleteIndex (signature : ℕ → ℕ) (registers n : ℕ) (head link : List ℕ) : Type 0 where
   pub has : (k : ℕ) → registers ≤ k → k < n
-      → (o : ℕ) × (o ≤ k) × ChainHas registers link (getD head (signature k % chainCount) 0) o × (signature o ≡ signature k)
-  pub only : (b o : ℕ) → ChainHas registers link (getD head b 0) o → signature o % chainCount ≡ b
+      → (o : ℕ) × (o ≤ k) × ChainHas registers link (getD head (signature k % signatureChains) 0) o × (signature o ≡ signature k)
+  pub only : (b o : ℕ) → ChainHas registers link (getD head b 0) o → signature o % signatureChains ≡ b
 
 -- r is an application with the signature c in the chain from i on, or below `registers` where there is none.
 pub record Found (signature : ℕ → ℕ) (registers n : ℕ) (link : List ℕ) (i c r : ℕ) : Type 0 where

@@ -7,13 +7,13 @@ abbrev pub mostTerms : ℕ
 mostTerms = mostLetters + mostRegisters
 
 -- The chains of the index. No promise rests on how applications spread over them.
-abbrev pub chainCount : ℕ
-chainCount = 1021
+abbrev pub signatureChains : ℕ
+signatureChains = 1021
 
 -- What the classes of the arguments count in a signature, whose function counts 1. A class is below 1,032 and so below 1,056: different signatures have
 -- different numbers.
-abbrev pub secondFactor : ℕ
-secondFactor = mostFunctions
+abbrev pub signatureSecondFactor : ℕ
+signatureSecondFactor = mostFunctions
 
-abbrev pub firstFactor : ℕ
-firstFactor = 1056 * secondFactor
+abbrev pub signatureFirstFactor : ℕ
+signatureFirstFactor = 1056 * signatureSecondFactor

@@ -4,3 +4,4 @@ pub mod Exploring
 pub mod Keeping
 pub mod HeldPoints
 pub mod Given
+pub mod LetterBounds

@@ -1,8 +1,5 @@
 -- The branches of a point as the reader stores it. Document 01: "At a branch the condition as written comes first; at an assert, the failing letter."
 use Prim.Native.Nat.{ℕ}
-use mathlib.Core.List.{List}
-use lib.ListN.{getD}
-use Rattle.window.specs.Perform.{WithinPacking}
 use lib.Dec.{eqb}
 use Rattle.base.specs.Choice.{pick}
 use Rattle.letters.specs.declared.Letter.{Letter}
@@ -35,7 +32,3 @@ letterOf (Fails a) = a
 -- What stands past the points.
 abbrev pub noPoint : PointEntry
 noPoint = record { kind = stepKind; letter = Copy 0 0; first = 0; second = 0 }
-
--- The fields of every letter that is performed lie within the packing.
-abbrev pub AllWithin : List PointEntry → Type 0
-AllWithin ps = (k b : ℕ) → WithinPacking (letterOf (moveOf (getD ps k noPoint) b))

@@ -17,8 +17,8 @@ headerWith registers functions binary = record { registers = registers; function
 abbrev pub writtenCount : ℕ
 writtenCount = 3
 
-abbrev pub readCount : ℕ
-readCount = 6
+abbrev pub traceReadCount : ℕ
+traceReadCount = 6
 
 -- refusal, place, bytes of the trace
 unfoldable pub writtenNumbers : Answer ℕ → List ℕ
@@ -42,7 +42,7 @@ WritesWith registers functions binary fields out answer out′ answer′ = Write
 
 -- Where the answer has room for the numbers, the trace is read and its letters are unpacked; else nothing is done.
 pub record ReadsTrace (trace out answer out′ answer′ : List ℕ) : Type 0 where
-  pub short : length answer < readCount → (out′ ≡ out) × (answer′ ≡ answer)
-  pub read : readCount ≤ length answer
+  pub short : length answer < traceReadCount → (out′ ≡ out) × (answer′ ≡ answer)
+  pub read : traceReadCount ≤ length answer
       → (out′ ≡ unpackedOver out (reading firstEdition trace))
-      × (answer′ ≡ readNumbers (unpackedCount (length out) (reading firstEdition trace)) ++ drop readCount answer)
+      × (answer′ ≡ readNumbers (unpackedCount (length out) (reading firstEdition trace)) ++ drop traceReadCount answer)

@@ -7,12 +7,12 @@ use Rattle.letters.specs.Capacity.{mostPairs}
 use Rattle.table.specs.Table.{pairAt}
 
 -- How many chains there are.
-abbrev pub chainCount : ℕ
-chainCount = 1024
+abbrev pub pairChains : ℕ
+pairChains = 1024
 
 -- The chain of a pair: the remainder of the number in its first two bytes. No promise rests on how pairs spread over the chains.
 unfoldable pub chainOf : List ℕ → ℕ
-chainOf pair = (getD pair 1 0 + 256 * getD pair 0 0) % chainCount
+chainOf pair = (getD pair 1 0 + 256 * getD pair 0 0) % pairChains
 
 -- The chain from i on has record k, which is not record 0.
 pub data ChainHasRecord (link : List ℕ) : (i k : ℕ) → Type 0 where
@@ -21,7 +21,7 @@ pub data ChainHasRecord (link : List ℕ) : (i k : ℕ) → Type 0 where
 
 -- Each of the first count records but record 0 is in the chain of its pair; chains have no other records, and go down to record 0.
 pub record IndexedPairs (t head link : List ℕ) (count : ℕ) : Type 0 where
-  pub head-long : length head ≡ chainCount
+  pub head-long : length head ≡ pairChains
   pub link-long : length link ≡ mostPairs
   pub heads : (b : ℕ) → getD head b 0 < count
   pub links : (i : ℕ) → 1 ≤ i → getD link i 0 < i

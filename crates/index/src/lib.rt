@@ -10,7 +10,7 @@ ghost use lib.ListN.{length, getD, set};
 ghost use Rattle.letters.specs.Capacity.{mostPairs};
 ghost use Rattle.records.specs.Records.{recordBytes, encodedBytes};
 ghost use Rattle.table.specs.Table.{isListed};
-ghost use Rattle.index.specs.Index.{chainCount, chainOf, IndexedPairs};
+ghost use Rattle.index.specs.Index.{pairChains, chainOf, IndexedPairs};
 
 /// How many chains there are.
 pub const CHAINS: usize = 1024;
@@ -38,7 +38,7 @@ fn number(x: u8) -> usize
 fn chain_of(pair: &[u8; ENCODED_BYTES]) -> usize
     requires { ⌜ length (now pair) ≡ encodedBytes ⌝ }
     ensures { λ r. ⌜ r ≡ chainOf (now (pair .entry)) ⌝ }
-    ensures small { λ r. ⌜ r < chainCount ⌝ }
+    ensures small { λ r. ⌜ r < pairChains ⌝ }
 {
     (number(pair[1]) + 256 * number(pair[0])) % CHAINS
 }
@@ -68,7 +68,7 @@ pub fn is_listed(
 
 /// Enters record k at the front of the chain of its pair.
 pub fn enter(head: &mut Heads, link: &mut Links, k: usize, pair: &[u8; ENCODED_BYTES])
-    requires { ⌜ (length (now head) ≡ chainCount) × (length (now link) ≡ mostPairs) × (k < mostPairs) × (length (now pair) ≡ encodedBytes) ⌝ }
+    requires { ⌜ (length (now head) ≡ pairChains) × (length (now link) ≡ mostPairs) × (k < mostPairs) × (length (now pair) ≡ encodedBytes) ⌝ }
     ensures { λ _. ⌜ (now (head .exit) ≡ set (now (head .entry))
         (chainOf (now (pair .entry))) k) × (now (link .exit) ≡ set (now (link .entry)) k (getD (now (head .entry)) (chainOf (now (pair .entry))) 0)) ⌝ }
 {

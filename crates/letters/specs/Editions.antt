@@ -1,5 +1,5 @@
 -- The widths and limits of an edition of packed traces, models and pairs (document 01, "The work", "Letters and their packing", "The shown model",
--- "The search for a verdict"). They stand here alone.
+-- "The search for a verdict"). The widths of fields and the most registers and functions stand here alone.
 use Prim.Native.Nat.{ℕ}
 use mathlib.Core.List.{List, [], _∷_}
 

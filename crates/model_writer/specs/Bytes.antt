@@ -32,18 +32,18 @@ valueRange = 2 ^ firstEdition .rowValue
 abbrev pub resultFactor : ℕ
 resultFactor = 2 ^ firstEdition .rowSpare
 
-abbrev pub secondFactor : ℕ
-secondFactor = valueRange * resultFactor
+abbrev pub rowSecondFactor : ℕ
+rowSecondFactor = valueRange * resultFactor
 
-abbrev pub firstFactor : ℕ
-firstFactor = valueRange * secondFactor
+abbrev pub rowFirstFactor : ℕ
+rowFirstFactor = valueRange * rowSecondFactor
 
 abbrev pub functionFactor : ℕ
-functionFactor = valueRange * firstFactor
+functionFactor = valueRange * rowFirstFactor
 
 -- the fields put together
 abbrev pub joinedOf : (f a b c : ℕ) → ℕ
-joinedOf f a b c = f * functionFactor + a * firstFactor + b * secondFactor + c * resultFactor
+joinedOf f a b c = f * functionFactor + a * rowFirstFactor + b * rowSecondFactor + c * resultFactor
 
 -- five bytes, one by one
 abbrev pub putFive : List ℕ → ℕ → ℕ → List ℕ

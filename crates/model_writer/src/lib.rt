@@ -4,7 +4,7 @@ ghost use Prim.Native.Nat.{ℕ, suc, _+_, _*_, _<_, _≤_};
 ghost use lib.ListN.{length, getD, take};
 ghost use Rattle.letters.specs.Editions.{firstEdition, mostFunctions};
 ghost use Rattle.semantics.specs.PackedTables.{units, packTables, rowBytes, wordBytes};
-ghost use Rattle.closure.specs.Limits.{chainCount, mostTerms};
+ghost use Rattle.closure.specs.Limits.{signatureChains, mostTerms};
 ghost use Rattle.closure.specs.Arrays.{Formed, IndexedTerms};
 ghost use Rattle.model_writer.specs.Values.{chosen, newClass, Numberable, Valued};
 ghost use Rattle.model_writer.specs.Rows.{NewRow};
@@ -72,7 +72,7 @@ fn zeros() -> Numbers
 
 // An index without entries.
 fn no_heads() -> Heads
-    ensures { λ r. ⌜ (length r ≡ chainCount) × ((b : ℕ) → getD r b 0 ≡ 0) ⌝ }
+    ensures { λ r. ⌜ (length r ≡ signatureChains) × ((b : ℕ) → getD r b 0 ≡ 0) ⌝ }
 {
     [0u16; CHAINS]
 }

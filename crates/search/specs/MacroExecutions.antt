@@ -17,12 +17,10 @@ use Rattle.macros.specs.Walk.{Place, at, failure, Move, no-move, stand, walk}
 use Rattle.grammar.specs.Grammar.{Macro}
 use Rattle.syntax.specs.declared.MacroRead.{MacroRead}
 use Rattle.syntax.specs.declared.CompiledMacro as struct
-use Rattle.syntax.specs.Answer.{heldMacro}
 use Rattle.grammar.specs.Limits.{mostPoints}
 use Rattle.refusals.specs.Accepted.{Accepted}
 use Rattle.exploration.specs.Moves.{moveOf, noPoint}
 use Rattle.exploration.specs.HeldPoints.{meant}
-use Rattle.exploration.specs.Given.{Given}
 
 -- The number of a branch in the code, 0 the first.
 abbrev pub branchNumber : Branch → ℕ
@@ -53,7 +51,3 @@ pub record Demand2Macros (text : List ℕ) (answer : MacroRead) : Type 0 where
   pub grammatical : answer .refusal ≡ 0 → (m : Macro) × Accepted text m
   -- and what was read has the executions of the macro
   pub executes : (m : Macro) → Accepted text m → HasExecutions (answer .program) (m .body)
-
-module _ (given : Given) where
-  abbrev pub program : struct.CompiledMacro
-  program = heldMacro (given .macro)

@@ -36,7 +36,8 @@ pub record RowListing (U : List Term) (value : Term → ℕ) (rows : List Row) :
       → (before : List Term) × (after : List Term) × (f : ℕ) × (s : Term) × (t : Term) × (U ≡ before ++ app f s t ∷ after) × (r ≡ rowOf value f s t)
       × ((g : ℕ) (u w : Term) → app g u w ∈ before → rowOf value g u w ∈ earlier)
 
--- The shown tables for n registers, computed terms U, the oldest first, and equal tests E, all as one statement. There is one such table only.
+-- The shown tables for n registers, computed terms U, the oldest first, and equal tests E, all as one statement. A well-formed
+-- trace has one such table only (`ShownUnique.tables-unique`).
 pub record IsShown (n : ℕ) (U : List Term) (E : List (Term × Term)) (t : Tables) : Type 0 where
   pub value : Term → ℕ
   pub classes : ℕ

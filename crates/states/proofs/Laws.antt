@@ -11,7 +11,7 @@ use Rattle.letters.proofs.Theory.Packing.{join-split}
 use Rattle.records.specs.Records.{flag}
 use Rattle.streaming.specs.declared.Monitor.{Monitor}
 use Rattle.streaming.specs.declared.Stream.{Stream}
-use Rattle.states.specs.States.{monitorSize, lettersPlace, firstPlace, secondPlace, streamSize}
+use Rattle.states.specs.States.{monitorSize, lettersPlace, firstLetterPlace, secondPlace, streamSize}
 use Rattle.states.specs.States.{eightOctets, headOf, partsThen, monitorThen, Sizes, WindowSizes, monitorIn, KeepsMonitor}
 use Rattle.states.specs.States.{firstNumber, secondNumber, tailOf, tailThen, streamThen, streamIn, KeepsStream}
 use Rattle.states.proofs.Theory.StateLaws.{behind, front, monitor-back, stream-back}
@@ -60,7 +60,7 @@ pub four-laid : (tail letters first second b₀ b₁ b₂ b₃ b₄ : List ℕ) 
     → length tail ≡ 4 → length letters ≡ 8 → length first ≡ 8 → length second ≡ 8
     → b₁ ≡ take monitorSize b₀ ++ tail ++ drop (monitorSize + length tail) b₀
     → b₂ ≡ take lettersPlace b₁ ++ letters ++ drop (lettersPlace + length letters) b₁
-    → b₃ ≡ take firstPlace b₂ ++ first ++ drop (firstPlace + length first) b₂
+    → b₃ ≡ take firstLetterPlace b₂ ++ first ++ drop (firstLetterPlace + length first) b₂
     → b₄ ≡ take secondPlace b₃ ++ second ++ drop (secondPlace + length second) b₃
     → b₄ ≡ take monitorSize b₀ ++ tailThen tail letters first second (drop streamSize b₀)
 four-laid tail letters first second b₀ b₁ b₂ b₃ b₄ room z₁ z₂ z₃ z₄ q₁ q₂ q₃ q₄ =
@@ -72,14 +72,14 @@ four-laid tail letters first second b₀ b₁ b₂ b₃ b₄ room z₁ z₂ z₃
     let e₁ : b₁ ≡ f ++ tail ++ r₁ = laid-on b₀ b₁ f (drop monitorSize b₀) tail monitorSize (sym (take-append-drop monitorSize b₀)) l₀ q₁ in
     let l₁ : length (f ++ tail) ≡ lettersPlace = simp length-append (omega arith) in
     let e₂ : b₂ ≡ f ++ tail ++ letters ++ r₂ = laid-on b₁ b₂ (f ++ tail) r₁ letters lettersPlace e₁ l₁ q₂ in
-    let l₂ : length (f ++ tail ++ letters) ≡ firstPlace = simp length-append (omega arith) in
-    let e₃ : b₃ ≡ f ++ tail ++ letters ++ first ++ r₃ = laid-on b₂ b₃ (f ++ tail ++ letters) r₂ first firstPlace e₂ l₂ q₃ in
+    let l₂ : length (f ++ tail ++ letters) ≡ firstLetterPlace = simp length-append (omega arith) in
+    let e₃ : b₃ ≡ f ++ tail ++ letters ++ first ++ r₃ = laid-on b₂ b₃ (f ++ tail ++ letters) r₂ first firstLetterPlace e₂ l₂ q₃ in
     let l₃ : length (f ++ tail ++ letters ++ first) ≡ secondPlace = simp length-append (omega arith) in
     let e₄ = laid-on b₃ b₄ (f ++ tail ++ letters ++ first) r₃ second secondPlace e₃ l₃ q₄ in
     e₄ ∙ ap (λ r. f ++ tail ++ letters ++ first ++ second ++ r) behind ∙ simp append-assoc
   where
     behind : drop (length second) (drop (length first) (drop (length letters) (drop (length tail) (drop monitorSize b₀)))) ≡ drop streamSize b₀
-    behind = rw (z₄, z₃, z₂, z₁) (rw (drop-drop 4 monitorSize b₀, drop-drop 8 lettersPlace b₀, drop-drop 8 firstPlace b₀, drop-drop 8 secondPlace b₀))
+    behind = rw (z₄, z₃, z₂, z₁) (rw (drop-drop 4 monitorSize b₀, drop-drop 8 lettersPlace b₀, drop-drop 8 firstLetterPlace b₀, drop-drop 8 secondPlace b₀))
 
 -- a part of a list, copied over an array of its length
 pub copied : (b s zero : List ℕ) (at n k : ℕ) → k ≡ n → length zero ≡ n → at + n ≤ length s

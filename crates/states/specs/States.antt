@@ -56,11 +56,11 @@ monitorSize = resultPlace + layout.results
 abbrev pub lettersPlace : ℕ
 lettersPlace = monitorSize + tailSize
 
-abbrev pub firstPlace : ℕ
-firstPlace = lettersPlace + numberSize
+abbrev pub firstLetterPlace : ℕ
+firstLetterPlace = lettersPlace + numberSize
 
 abbrev pub secondPlace : ℕ
-secondPlace = firstPlace + numberSize
+secondPlace = firstLetterPlace + numberSize
 
 -- how many bytes a stream has
 abbrev pub streamSize : ℕ
@@ -168,7 +168,7 @@ unfoldable pub streamIn : List ℕ → Stream
 streamIn bytes =
     streamWith (phaseIn (getD bytes monitorSize 0)) (getD bytes (monitorSize + 1) 0)
     (runWith (monitorIn bytes) (numberAt lettersPlace bytes)
-    (runAnswerIn (getD bytes (monitorSize + 2) 0) (getD bytes (monitorSize + 3) 0) (numberAt firstPlace bytes) (numberAt secondPlace bytes)))
+    (runAnswerIn (getD bytes (monitorSize + 2) 0) (getD bytes (monitorSize + 3) 0) (numberAt firstLetterPlace bytes) (numberAt secondPlace bytes)))
 
 -- What storing a stream leaves: every byte, and a stream that is read again.
 pub record KeepsStream (kind : ℕ) (s : Stream) (entry exit : List ℕ) : Type 0 where

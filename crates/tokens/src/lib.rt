@@ -4,7 +4,7 @@ ghost use mathlib.Core.Bool.{true, false};
 ghost use Prim.Native.Nat.{_+_, _≤_, _<_};
 ghost use lib.ListN.{length, drop};
 ghost use lib.Seq.{slice};
-ghost use Rattle.tokens.specs.Bytes.{blank, lower, digit, inner, symbol, mark, gap, nameLength, longestName, width, keyBase, key};
+ghost use Rattle.tokens.specs.Bytes.{blank, lower, digit, inner, symbol, mark, gap, nameLength, longestName, width, key};
 ghost use Rattle.tokens.specs.Tokens.{tokenAt};
 ghost use Rattle.tokens.specs.Words.{keyword, isName, sameName};
 

@@ -58,7 +58,7 @@ showing breaking k l = incoherent k l
 showing failing k l = fail k l
 
 -- "the execution as a packed trace, on fail its model after it": these are the bytes of the letters ls after a start, packed in an edition. All tests
--- of a failing execution hold in the model that is shown. There is one such list of bytes only (`AnswerPacking.bytes-are`).
+-- of a failing execution hold in the model that is shown. Of a well-formed execution there is one such list of bytes only (`AnswerPacking.bytes-are`).
 abbrev pub AnswerBytes : Edition → Trace → Kind → List Letter → List ℕ → Type 0
 AnswerBytes e start breaking ls bytes = bytes ≡ packing e (state start .header) ls
 AnswerBytes e start failing ls bytes =

@@ -5,13 +5,13 @@ use Prim.Native.Nat.{ℕ, _≤_, _<_}
 use native.Mathlib.Omega.{arith}
 use lib.ListN.{length, getD}
 use Rattle.letters.specs.Editions.{mostFunctions}
-use Rattle.closure.specs.Limits.{mostTerms, chainCount}
+use Rattle.closure.specs.Limits.{mostTerms, signatureChains}
 use Rattle.closure.specs.Index.{signatureOf, ChainHas, here, there, Chains, CompleteIndex, Entered}
 use Rattle.closure.proofs.Theory.Index.{signature-same}
 use Rattle.closure.specs.Arrays.{Below, Formed, Argument, Readable, signatureAt, LookedAt, knownAt, freshAt}
 
 -- an index without entries
-pub chains-none : (head link : List ℕ) (registers : ℕ) → length head ≡ chainCount → length link ≡ mostTerms → ((b : ℕ) → getD head b 0 ≡ 0)
+pub chains-none : (head link : List ℕ) (registers : ℕ) → length head ≡ signatureChains → length link ≡ mostTerms → ((b : ℕ) → getD head b 0 ≡ 0)
     → ((i : ℕ) → getD link i 0 ≡ 0) → 1 ≤ registers → Chains registers head link
 chains-none head link registers h l zh zl s = record {
   head-long = h;

@@ -12,7 +12,7 @@ use borrow.Author.Tests.{eqb-true, eqb-false, ltb-true, ltb-false}
 use Rattle.letters.specs.Editions.{mostFunctions}
 use Rattle.base.proofs.Theory.Choice.{byTest}
 use Rattle.base.specs.Choice.{pick}
-use Rattle.closure.specs.Limits.{chainCount, mostTerms}
+use Rattle.closure.specs.Limits.{signatureChains, mostTerms}
 use Rattle.closure.specs.Index.{signatureOf, ChainHas, here, there, Down, Chains, CompleteIndex, Found, Entered, Cut, CutTo, withoutLast}
 
 pub signature-same : {f p q g r s : ℕ} → f < mostFunctions → g < mostFunctions → q < mostTerms → s < mostTerms
@@ -58,8 +58,8 @@ module _ (link : List ℕ) (start bound : ℕ) where
 
 -- ---- the loop of `cut`
 pub record CuttingAll (head₀ link : List ℕ) (bound : ℕ) (head : List ℕ) (i : ℕ) : Type 0 where
-  pub most : i ≤ chainCount
-  pub long : length head ≡ chainCount
+  pub most : i ≤ signatureChains
+  pub long : length head ≡ signatureChains
   pub past : (b : ℕ) → b < i → Cut link (getD head₀ b 0) bound (getD head b 0)
   pub rest : (b : ℕ) → i ≤ b → getD head b 0 ≡ getD head₀ b 0
 
@@ -70,7 +70,7 @@ module _ (head₀ link : List ℕ) (bound : ℕ) (w : Chains mostTerms head₀ l
   pub cutting-below : (head : List ℕ) (i start : ℕ) → CuttingAll head₀ link bound head i → start ≡ getD head i 0 → start < mostTerms
   cutting-below head i start c e = let r = c .rest i (omega arith) in let h = w .heads i in omega arith
 
-  pub cutting-all-turn : (head : List ℕ) (i start v : ℕ) → CuttingAll head₀ link bound head i → i < chainCount → start ≡ getD head i 0
+  pub cutting-all-turn : (head : List ℕ) (i start v : ℕ) → CuttingAll head₀ link bound head i → i < signatureChains → start ≡ getD head i 0
       → Cut link start bound v → CuttingAll head₀ link bound (set head i v) (i + 1)
   cutting-all-turn head i start v c h e k = record {
     most = omega arith;
@@ -88,22 +88,22 @@ module _ (head₀ link : List ℕ) (bound : ℕ) (w : Chains mostTerms head₀ l
   past-end (x ∷ l) zero h = absurd (omega arith)
   past-end (x ∷ l) (suc b) h = past-end l b (omega arith)
 
-  pub cutting-all-end : (head : List ℕ) (i : ℕ) → CuttingAll head₀ link bound head i → chainCount ≤ i → CutTo head₀ link bound head
+  pub cutting-all-end : (head : List ℕ) (i : ℕ) → CuttingAll head₀ link bound head i → signatureChains ≤ i → CutTo head₀ link bound head
   cutting-all-end head i c h = record {
     chains = record {
       head-long = c .long;
       link-long = w .link-long;
-      heads = λ b. byTest (ltb b chainCount)
-          (λ t. (c .past b (let l = ltb-true b chainCount t in omega arith)) .below)
-          (λ t. let z = past-end head b (let l = ltb-false b chainCount t in let m = c .long in omega arith) in omega arith);
+      heads = λ b. byTest (ltb b signatureChains)
+          (λ t. (c .past b (let l = ltb-true b signatureChains t in omega arith)) .below)
+          (λ t. let z = past-end head b (let l = ltb-false b signatureChains t in let m = c .long in omega arith) in omega arith);
       links = w .links;
     };
-    keeps = λ registers b o k l. byTest (ltb b chainCount)
-        (λ t. (c .past b (let l = ltb-true b chainCount t in omega arith)) .keeps registers o k l)
-        (λ t. let l = ltb-false b chainCount t in let m = c .most in subst (λ j. ChainHas registers link j o) (sym (c .rest b (omega arith))) k);
-    back = λ registers b o s k. byTest (ltb b chainCount)
-        (λ t. (c .past b (let l = ltb-true b chainCount t in omega arith)) .back registers o s k)
-        (λ t. let l = ltb-false b chainCount t in let m = c .most in subst (λ j. ChainHas registers link j o) (c .rest b (omega arith)) k);
+    keeps = λ registers b o k l. byTest (ltb b signatureChains)
+        (λ t. (c .past b (let l = ltb-true b signatureChains t in omega arith)) .keeps registers o k l)
+        (λ t. let l = ltb-false b signatureChains t in let m = c .most in subst (λ j. ChainHas registers link j o) (sym (c .rest b (omega arith))) k);
+    back = λ registers b o s k. byTest (ltb b signatureChains)
+        (λ t. (c .past b (let l = ltb-true b signatureChains t in omega arith)) .back registers o s k)
+        (λ t. let l = ltb-false b signatureChains t in let m = c .most in subst (λ j. ChainHas registers link j o) (c .rest b (omega arith)) k);
   }
 
 without-last : (last before k : ℕ) → ((last ≡ k) × (withoutLast last before k ≡ before)) ⊎ ((last ≢ k) × (withoutLast last before k ≡ last))
@@ -131,8 +131,8 @@ module _ (head₀ link : List ℕ) (bound : ℕ) where
 
   -- application j, the last that is left, is taken out of the chain of its signature
   module _ (signature : ℕ → ℕ) (registers n : ℕ) (all : CompleteIndex signature registers n head₀ link) (some : 1 ≤ registers) (first : registers ≤ bound)
-      (head : List ℕ) (k j chain v : ℕ) (u : Undoing head₀ link bound head k) (h : bound < k) (ej : j ≡ k - 1) (ec : chain ≡ signature j % chainCount)
-      (small : chain < chainCount) (ev : v ≡ withoutLast (getD head chain 0) (getD link j 0) j) where
+      (head : List ℕ) (k j chain v : ℕ) (u : Undoing head₀ link bound head k) (h : bound < k) (ej : j ≡ k - 1) (ec : chain ≡ signature j % signatureChains)
+      (small : chain < signatureChains) (ev : v ≡ withoutLast (getD head chain 0) (getD link j 0) j) where
     stored : getD (set head chain v) chain 0 ≡ v
     stored = getD-set-same head chain v 0 (let l = u .chains .head-long in omega arith)
 
@@ -239,13 +239,14 @@ module _ (signature : ℕ → ℕ) (registers n c : ℕ) (head link : List ℕ) 
 
   -- the applications of a bucket are below n, and so have the signatures that they had
   still-only : (signature′ : ℕ → ℕ) → ((k : ℕ) → k < n → signature′ k ≡ signature k) → CompleteIndex signature registers n head link → (q o : ℕ)
-      → ChainHas registers link (getD head q 0) o → signature′ o % chainCount ≡ q
+      → ChainHas registers link (getD head q 0) o → signature′ o % signatureChains ≡ q
   still-only signature′ same all q o k =
       let a = holds-most registers link (getD head q 0) o (w .links) some k in
       let b = w .heads q in
-      ap (λ s. s % chainCount) (same o (omega arith)) ∙ all .only q o k
+      ap (λ s. s % signatureChains) (same o (omega arith)) ∙ all .only q o k
 
-  known : (r : ℕ) → Found signature registers n link (getD head (c % chainCount) 0) c r → registers ≤ r → Entered signature registers n c head link r head link
+  known : (r : ℕ) → Found signature registers n link (getD head (c % signatureChains) 0) c r → registers ≤ r
+      → Entered signature registers n c head link r head link
   known r f l = record {
     least = l;
     most = let h = f .below in omega arith;
@@ -256,13 +257,13 @@ module _ (signature : ℕ → ℕ) (registers n c : ℕ) (head link : List ℕ) 
     completes = λ signature′ same e all. record {
       only = still-only signature′ same all;
       has = λ k p h. upTo
-          (λ k. registers ≤ k → (o : ℕ) × (o ≤ k) × ChainHas registers link (getD head (signature′ k % chainCount) 0) o × (signature′ o ≡ signature′ k))
+          (λ k. registers ≤ k → (o : ℕ) × (o ≤ k) × ChainHas registers link (getD head (signature′ k % signatureChains) 0) o × (signature′ o ≡ signature′ k))
           (λ k h p. let (o, b, u, v) = all .has k p h in
-          (o, b, subst (λ s. ChainHas registers link (getD head (s % chainCount) 0) o) (sym (same k h)) u, same o (omega arith) ∙ v ∙ sym (same k h)))
+          (o, b, subst (λ s. ChainHas registers link (getD head (s % signatureChains) 0) o) (sym (same k h)) u, same o (omega arith) ∙ v ∙ sym (same k h)))
           (λ p. let b = f .below in (
             r,
             omega arith,
-            subst (λ s. ChainHas registers link (getD head (s % chainCount) 0) r) (sym e) ((f .hit l) .1),
+            subst (λ s. ChainHas registers link (getD head (s % signatureChains) 0) r) (sym e) ((f .hit l) .1),
             same r b
                 ∙ (f .hit l) .0 ∙ sym e,
           ))
@@ -270,11 +271,11 @@ module _ (signature : ℕ → ℕ) (registers n c : ℕ) (head link : List ℕ) 
     };
   }
 
-  pub entered-known : (start r : ℕ) → start ≡ getD head (c % chainCount) 0 → Found signature registers n link start c r → registers ≤ r
+  pub entered-known : (start r : ℕ) → start ≡ getD head (c % signatureChains) 0 → Found signature registers n link start c r → registers ≤ r
       → Entered signature registers n c head link r head link
   entered-known start r e f l = known r (subst (λ s. Found signature registers n link s c r) e f) l
 
-  module _ (b : ℕ) (eb : b ≡ c % chainCount) (small : b < chainCount) where
+  module _ (b : ℕ) (eb : b ≡ c % signatureChains) (small : b < signatureChains) where
     linked : getD (set link n (getD head b 0)) n 0 ≡ getD head b 0
     linked = getD-set-same link n (getD head b 0) 0 (let l = w .link-long in omega arith)
 
@@ -314,24 +315,24 @@ module _ (signature : ℕ → ℕ) (registers n c : ℕ) (head link : List ℕ) 
         (subst (λ j. ChainHas registers (set link n (getD head b 0)) j o) (ap (λ i. getD (set link n (getD head b 0)) i 0) e ∙ linked) k))
 
     new-only : (signature′ : ℕ → ℕ) → ((k : ℕ) → k < n → signature′ k ≡ signature k) → signature′ n ≡ c → CompleteIndex signature registers n head link
-        → (q o : ℕ) → ChainHas registers (set link n (getD head b 0)) (getD (set head b n) q 0) o → signature′ o % chainCount ≡ q
+        → (q o : ℕ) → ChainHas registers (set link n (getD head b 0)) (getD (set head b n) q 0) o → signature′ o % signatureChains ≡ q
     new-only signature′ same e all q o k = byTest (eqb q b)
         (λ t. let z = eqb-true q b t in elim (from-new (getD (set head b n) q 0) o (ap (λ q. getD (set head b n) q 0) z ∙ headed) k) [
-          | inl y ↦ ap (λ o. signature′ o % chainCount) y ∙ ap (λ s. s % chainCount) e ∙ sym eb ∙ sym z
+          | inl y ↦ ap (λ o. signature′ o % signatureChains) y ∙ ap (λ s. s % signatureChains) e ∙ sym eb ∙ sym z
           | inr y ↦ still-only signature′ same all b o y ∙ sym z
         ])
         (λ t. still-only signature′ same all q o
         (unheld (getD head q 0) o (w .heads q)
         (subst (λ j. ChainHas registers (set link n (getD head b 0)) j o) (getD-set-other head b q n 0 (eqb-false q b t)) k)))
 
-    new : (r : ℕ) → Found signature registers n link (getD head (c % chainCount) 0) c r → r < registers
+    new : (r : ℕ) → Found signature registers n link (getD head (c % signatureChains) 0) c r → r < registers
         → Entered signature registers n c head link n (set head b n) (set link n (getD head b 0))
     new r f l = record {
       least = more;
       most = omega arith;
       hit = λ z. absurd (omega arith);
       fresh = λ _ all k p h e. let (o, s, u, v) = all .has k p h in
-          f .miss l o (subst (λ s. ChainHas registers link (getD head (s % chainCount) 0) o) e u) (v ∙ e);
+          f .miss l o (subst (λ s. ChainHas registers link (getD head (s % signatureChains) 0) o) e u) (v ∙ e);
       kept = λ z. absurd (omega arith);
       chains = record {
         head-long = simp length-set (w .head-long);
@@ -350,12 +351,12 @@ module _ (signature : ℕ → ℕ) (registers n c : ℕ) (head link : List ℕ) 
       completes = λ signature′ same e all. record {
         only = new-only signature′ same e all;
         has = λ k p h. upTo (λ k. registers ≤ k
-            → (o : ℕ) × (o ≤ k) × ChainHas registers (set link n (getD head b 0)) (getD (set head b n) (signature′ k % chainCount) 0) o
+            → (o : ℕ) × (o ≤ k) × ChainHas registers (set link n (getD head b 0)) (getD (set head b n) (signature′ k % signatureChains) 0) o
             × (signature′ o ≡ signature′ k))
             (λ k h p. let (o, s, u, v) = all .has k p h in (
               o,
               s,
-              bucket (signature′ k % chainCount) o (subst (λ s. ChainHas registers link (getD head (s % chainCount) 0) o) (sym (same k h)) u),
+              bucket (signature′ k % signatureChains) o (subst (λ s. ChainHas registers link (getD head (s % signatureChains) 0) o) (sym (same k h)) u),
               same o
                   (omega arith) ∙ v ∙ sym (same k h),
             ))
@@ -363,13 +364,13 @@ module _ (signature : ℕ → ℕ) (registers n c : ℕ) (head link : List ℕ) 
               n,
               omega arith,
               subst (λ j. ChainHas registers (set link n (getD head b 0)) j n)
-                  (sym (ap (λ s. getD (set head b n) (s % chainCount) 0) e ∙ ap (λ q. getD (set head b n) q 0) (sym eb) ∙ headed)) (here more),
+                  (sym (ap (λ s. getD (set head b n) (s % signatureChains) 0) e ∙ ap (λ q. getD (set head b n) q 0) (sym eb) ∙ headed)) (here more),
               refl,
             ))
             k h p;
       };
     }
 
-    pub entered-new : (start r : ℕ) → start ≡ getD head (c % chainCount) 0 → Found signature registers n link start c r → r < registers
+    pub entered-new : (start r : ℕ) → start ≡ getD head (c % signatureChains) 0 → Found signature registers n link start c r → r < registers
         → Entered signature registers n c head link n (set head b n) (set link n (getD head b 0))
     entered-new start r e f l = new r (subst (λ s. Found signature registers n link s c r) e f) l

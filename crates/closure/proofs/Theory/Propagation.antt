@@ -13,7 +13,7 @@ use Rattle.base.proofs.Theory.Choice.{byTest}
 use Rattle.base.specs.Choice.{pick}
 use Rattle.base.specs.Each.{eachUpTo}
 use Rattle.base.proofs.Theory.Each.{each-length}
-use Rattle.closure.specs.Limits.{mostTerms, chainCount}
+use Rattle.closure.specs.Limits.{mostTerms, signatureChains}
 use Rattle.closure.proofs.Theory.Written.{done-below, done-beyond, done-same}
 use Rattle.closure.specs.Numbering.{Closed}
 use Rattle.closure.specs.Merging.{Entailed, relabelOf}
@@ -360,11 +360,12 @@ module _ (function first second : List ℕ) (registers n : ℕ) where
       has = λ k p l. let z = w .most in let (o, u, x, y) = all .has k p (omega arith) in (
         o,
         u,
-        w .keeps (signature r k % chainCount) o (subst (λ s. ChainHas registers link (getD head (s % chainCount) 0) o) (sym (same k p l)) x) (omega arith),
+        w .keeps (signature r k % signatureChains) o (subst (λ s. ChainHas registers link (getD head (s % signatureChains) 0) o) (sym (same k p l)) x)
+            (omega arith),
         same o (holds-least registers link _ o x) (omega arith) ∙ y ∙ sym (same k p l),
       );
       only = λ b o x. let y = holds-most registers link (getD head′ b 0) o (w .chains .links) (f .some) x in let z = w .chains .heads b in
-          ap (λ s. s % chainCount) (same o (holds-least registers link _ o x) (omega arith)) ∙ all .only b o (w .back b o x);
+          ap (λ s. s % signatureChains) (same o (holds-least registers link _ o x) (omega arith)) ∙ all .only b o (w .back b o x);
     }
 
   -- ---- the loop of `propagate`

@@ -9,7 +9,7 @@ use lib.Dec.{eqb}
 use lib.ListN.{getD}
 use borrow.Author.Tests.{eqb-true, eqb-false}
 use Rattle.base.proofs.Theory.Choice.{byTest}
-use Rattle.closure.specs.Limits.{chainCount, mostTerms}
+use Rattle.closure.specs.Limits.{signatureChains, mostTerms}
 use Rattle.closure.specs.Numbering.{Closed}
 use Rattle.closure.specs.Merging.{relabelOf}
 use Rattle.closure.proofs.Theory.Index.{holds-most}
@@ -90,7 +90,7 @@ module _ (function first second representative head link : List ℕ) (registers 
     still-complete = record {
       has = λ k l h. let (o, b, u, v) = index .complete .has k l h in (o, b, rw (same k h) u, same o (omega arith) ∙ v ∙ sym (same k h));
       only = λ b o k. let l = holds-most registers link (getD head b 0) o (index .chains .links) (f .some) k in let g = index .chains .heads b in
-          ap (λ s. s % chainCount) (same o (omega arith)) ∙ index .complete .only b o k;
+          ap (λ s. s % signatureChains) (same o (omega arith)) ∙ index .complete .only b o k;
     }
 
     still-closed : Closed (entryAt function) (entryAt first) (entryAt second) registers n (entryAt next)

@@ -1,7 +1,7 @@
 use Prim.Native.Nat.{_-_}
 use native.Mathlib.Omega.{arith}
 use borrow.Author.Needs.{needs}
-use Rattle.closure.specs.Limits.{chainCount}
+use Rattle.closure.specs.Limits.{signatureChains}
 use Rattle.closure.proofs.Theory.Index.{CuttingAll, cutting-all-start, cutting-below, cutting-all-turn, cutting-all-end}
 use Rattle.closure.proofs.cut.Statement.{statement}
 use Rattle.closure.proofs.cut.Tie as tie
@@ -10,7 +10,7 @@ abbrev Inv-loop : tie.InvT-loop
 Inv-loop head₀ link bound i₀ head i = CuttingAll head₀ link bound head i
 
 abbrev μ-loop : tie.MeasureT-loop
-μ-loop head₀ link bound i₀ head i = chainCount - i
+μ-loop head₀ link bound i₀ head i = signatureChains - i
 
 pub cut-spec : {M : Type 1} → statement M
 cut-spec =

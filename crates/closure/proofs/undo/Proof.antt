@@ -3,7 +3,7 @@ use native.Mathlib.Omega.{arith}
 use mathlib.Core.Path.{refl, ap}
 use native.Mathlib.Nat.{mod-lt}
 use borrow.Author.Needs.{needs}
-use Rattle.closure.specs.Limits.{chainCount}
+use Rattle.closure.specs.Limits.{signatureChains}
 use Rattle.closure.proofs.Theory.Index.{Undoing, undoing-start, undoing-turn, undoing-end}
 use Rattle.closure.proofs.Theory.Entering.{readable-at}
 use Rattle.closure.proofs.undo.Statement.{statement}
@@ -42,6 +42,6 @@ undo-spec =
           omega arith,
       undoing-turn _ _ _ _ _ _ (at-pre .pre .2) (at-pre .pre .0 .some) (at-pre .pre .3) _ _ _ _ _
           (at-loop .loop .inv .1) (at-loop-test .loop-test .taken) refl
-          (ap (λ s. s % chainCount) (at-signature-at .signature-at .ensures)) (mod-lt _ (omega arith)) (c .without-last .ensures),
+          (ap (λ s. s % signatureChains) (at-signature-at .signature-at .ensures)) (mod-lt _ (omega arith)) (c .without-last .ensures),
     ))
     (λ c. undoing-end _ _ _ _ _ (c .before .loop .inv .1) (c .loop-test .left)))

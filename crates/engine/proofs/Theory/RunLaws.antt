@@ -19,7 +19,7 @@ use Rattle.traces.specs.Reading.{trace, lettersOf}
 use Rattle.traces.specs.ReadingParts.{letterAt}
 use Rattle.semantics.specs.Terms.{begin, _▸_, state, start, after, traceOf}
 use Rattle.semantics.specs.Facts.{WellFormed}
-use Rattle.closure.specs.Limits.{chainCount, mostTerms}
+use Rattle.closure.specs.Limits.{signatureChains, mostTerms}
 use Rattle.semantics.specs.Models.{Feasible}
 use Rattle.semantics.specs.Judgement.{FailsAt, size}
 use Rattle.semantics.proofs.Theory.JudgementLaws.{first-infeasible-unique}
@@ -181,7 +181,7 @@ module _ (s : List ℕ) (h : Header) (n : ℕ) (r : spec.Begun s h n) where
   -- how a run begins
   module _ (function first second representative head link value left right representative′ value′ : List ℕ) (bf : spec.Blank function) (bo : spec.Blank first)
       (bs : spec.Blank second) (br : spec.Blank representative)
-      (lh : length head ≡ chainCount) (zh : (b : ℕ) → getD head b 0 ≡ 0) (bl : spec.Blank link) (lv : length value ≡ mostRegisters)
+      (lh : length head ≡ signatureChains) (zh : (b : ℕ) → getD head b 0 ≡ 0) (bl : spec.Blank link) (lv : length value ≡ mostRegisters)
       (ll : length left ≡ mostLetters) (lr : length right ≡ mostLetters) where
     begun : spec.Began representative value (h .registers) representative′ value′
         → spec.Running s h n function first second representative′ head link value′ left right (h .registers) (h .registers) 0 0 0

@@ -1,7 +1,7 @@
 use Prim.Native.Nat.{_-_}
 use mathlib.Core.Path.{refl}
 use borrow.Author.Needs.{needs}
-use Rattle.closure.specs.Limits.{mostTerms, chainCount}
+use Rattle.closure.specs.Limits.{mostTerms, signatureChains}
 use Rattle.closure.proofs.Theory.Clashing.{zeros}
 use Rattle.engine.proofs.Theory.RunLaws.{begins, registers-few}
 use Rattle.engine.proofs.run.Statement.{statement}
@@ -17,7 +17,7 @@ run-spec =
     let at-pre = at-begin .before .before .before .before .before in (
       (at-pre .pre .0),
       begins _ _ _ (at-pre .pre .0) _ _ _ _ _ _ _ _ _ _ _ (at-pre .pre .1) (at-pre .pre .2) (at-pre .pre .3) (at-pre .pre .4) (search needs)
-          (zeros chainCount) (record { long = search needs; zero = zeros mostTerms }) (search needs) (search needs) (search needs) _ refl
+          (zeros signatureChains) (record { long = search needs; zero = zeros mostTerms }) (search needs) (search needs) (search needs) _ refl
           (at-begin .begin .ensures),
     ))
     (λ c. search needs))

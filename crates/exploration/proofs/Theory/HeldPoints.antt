@@ -18,7 +18,8 @@ use Rattle.window.specs.Perform.{WithinPacking}
 use Rattle.window.proofs.Theory.Step.{fits-within}
 use Rattle.exploration.specs.declared.PointMove as enum
 use Rattle.exploration.specs.declared.PointMove.the-variants.{Nothing, Goes, Fails}
-use Rattle.exploration.specs.Moves.{oppositeOf, moveOf, letterOf, noPoint, AllWithin}
+use Rattle.exploration.specs.Moves.{oppositeOf, moveOf, letterOf, noPoint}
+use Rattle.exploration.specs.LetterBounds.{AllWithin}
 use Rattle.exploration.proofs.Theory.Store.{branchNumbered}
 use Rattle.exploration.specs.HeldPoints.{meant}
 

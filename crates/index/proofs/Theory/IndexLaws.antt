@@ -15,7 +15,7 @@ use Rattle.base.proofs.Theory.Choice.{byTest}
 use Rattle.records.specs.Records.{encodedBytes}
 use Rattle.table.specs.Table.{pairAt, isAt, isListed}
 use Rattle.table.proofs.Theory.TableLaws.{is-pair, at-listed, listed-at}
-use Rattle.index.specs.Index.{chainOf, ChainHasRecord, IndexedPairs, chainCount}
+use Rattle.index.specs.Index.{chainOf, ChainHasRecord, IndexedPairs, pairChains}
 
 -- ---- record 0 alone
 zero-at : (n i : ℕ) → getD (replicate {A = ℕ} n 0) i 0 ≡ 0
@@ -23,16 +23,16 @@ zero-at zero i = refl
 zero-at (suc n) zero = refl
 zero-at (suc n) (suc i) = zero-at n i
 
-pub index-begins : (t : List ℕ) → IndexedPairs t (replicate chainCount 0) (replicate mostPairs 0) 1
+pub index-begins : (t : List ℕ) → IndexedPairs t (replicate pairChains 0) (replicate mostPairs 0) 1
 index-begins t = record {
-  head-long = length-replicate {A = ℕ} chainCount 0;
+  head-long = length-replicate {A = ℕ} pairChains 0;
   link-long = length-replicate {A = ℕ} mostPairs 0;
-  heads = λ b. let e = zero-at chainCount b in omega arith;
+  heads = λ b. let e = zero-at pairChains b in omega arith;
   links = λ i p. let e = zero-at mostPairs i in omega arith;
   chained = λ k p q. absurd (omega arith);
 }
 
-pub chain-small : (pair : List ℕ) → chainOf pair < chainCount
+pub chain-small : (pair : List ℕ) → chainOf pair < pairChains
 unfolding chainOf
 chain-small pair = mod-lt _ (omega arith)
 

@@ -10,7 +10,7 @@ use lib.ListN.{length, getD, set, length-set}
 use lib.Seq.{getD-set-same, getD-set-other}
 use borrow.Author.Tests.{eqb-true, eqb-false}
 use Rattle.base.proofs.Theory.Choice.{byTest}
-use Rattle.closure.specs.Limits.{chainCount, mostTerms}
+use Rattle.closure.specs.Limits.{signatureChains, mostTerms}
 use Rattle.semantics.specs.Terms.{State}
 use Rattle.closure.specs.Arrays.{Below, Formed, IndexedTerms, signatureAt}
 use Rattle.closure.proofs.Theory.Entering.{chains-none, complete-none}
@@ -52,7 +52,7 @@ pub record ListedBelow (representative function first second : List ℕ) (regist
       → Listed σ function first second representative registers n w rows r i
 
 module _ {representative function first second : List ℕ} {registers n : ℕ} where
-  pub listed-start : (head link rows : List ℕ) → Listable representative function first second registers n rows → length head ≡ chainCount
+  pub listed-start : (head link rows : List ℕ) → Listable representative function first second registers n rows → length head ≡ signatureChains
       → ((b : ℕ) → getD head b 0 ≡ 0) → Blank link
       → ListedBelow representative function first second registers n registers head link rows 0
   listed-start head link rows l h z b = record {

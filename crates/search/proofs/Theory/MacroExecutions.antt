@@ -26,7 +26,12 @@ use Rattle.verdict_theory.proofs.Theory.Since.{since, since-once}
 use Rattle.exploration.proofs.Theory.Store.{branchNumbered}
 use Rattle.exploration.specs.Given.{Given}
 use Rattle.exploration.proofs.Theory.Given.{branch-held}
-use Rattle.search.specs.MacroExecutions.{branchNumber, branchesAt, HasExecutions, Demand2Macros, program}
+use Rattle.search.specs.MacroExecutions.{branchNumber, branchesAt, HasExecutions, Demand2Macros}
+use Rattle.syntax.specs.declared.CompiledMacro as struct
+
+module _ (given : Given) where
+  abbrev pub program : struct.CompiledMacro
+  program = heldMacro (given .macro)
 
 -- ── laws ──
 first-point : (m : Block) → entrance m ≡ 0

@@ -31,7 +31,7 @@ use Rattle.exploration.specs.declared.Search.{Search}
 use Rattle.exploration.specs.declared.Search.the-variants as found
 use Rattle.search.specs.declared.Verdict as answer
 use Rattle.search.specs.declared.Verdict.the-variants.{Pass, Refused}
-use Rattle.exploration.specs.Moves.{AllWithin}
+use Rattle.exploration.specs.LetterBounds.{AllWithin}
 use Rattle.exploration.specs.Exploring.{searchOf}
 use Rattle.exploration.proofs.Theory.HeldPoints.{all-within}
 use Rattle.exploration.specs.Given.{Given}

@@ -14,7 +14,7 @@ use Rattle.streaming.specs.declared.Phase.the-variants.{Empty, One, Even, Odd}
 use Rattle.streaming.specs.declared.Stream.{Stream}
 use Rattle.streaming.specs.declared.RunAnswer.{RunAnswer}
 use Rattle.streaming.specs.declared.RunAnswer.the-variants.{Judged, Refused}
-use Rattle.states.specs.States.{monitorSize, lettersPlace, firstPlace, secondPlace}
+use Rattle.states.specs.States.{monitorSize, lettersPlace, firstLetterPlace, secondPlace}
 use Rattle.states.specs.States.{eightOctets, headOf, partsThen, monitorThen, Sizes, WindowSizes, monitorWindowIn, monitorIn}
 use Rattle.states.specs.States.{phaseCode, phaseIn, runAnswerCode, refusalNumber, firstNumber, secondNumber, runAnswerIn}
 use Rattle.states.specs.States.{tailOf, tailThen, streamThen, numberAt, streamIn}
@@ -104,9 +104,9 @@ stream-back kind s rest z a b c =
     let d : drop monitorSize all ≡ t = behind (headOf kind m) (w .class) (w .unequal) (map flag (w .mark)) (w .ever) (w .result) refl z t in
     let at : (i : ℕ) → getD all (monitorSize + i) 0 ≡ getD t i 0 = (λ i. sym (getD-drop monitorSize all i 0) ∙ ap (λ l. getD l i 0) d) in
     let f : drop lettersPlace all ≡ x ++ (y ++ (o ++ rest)) = next all (tailOf s) (x ++ (y ++ (o ++ rest))) monitorSize 4 lettersPlace d refl refl in
-    let g : drop firstPlace all ≡ y ++ (o ++ rest) = next all x (y ++ (o ++ rest)) lettersPlace 8 firstPlace f refl refl in
-    let i : drop secondPlace all ≡ o ++ rest = next all y (o ++ rest) firstPlace 8 secondPlace g refl refl in
+    let g : drop firstLetterPlace all ≡ y ++ (o ++ rest) = next all x (y ++ (o ++ rest)) lettersPlace 8 firstLetterPlace f refl refl in
+    let i : drop secondPlace all ≡ o ++ rest = next all y (o ++ rest) firstLetterPlace 8 secondPlace g refl refl in
     let n₁ : numberAt lettersPlace all ≡ s .run .letters = ap (λ l. join eightOctets (take 8 l)) f ∙ a in
-    let n₂ : numberAt firstPlace all ≡ firstNumber v = ap (λ l. join eightOctets (take 8 l)) g ∙ b in
+    let n₂ : numberAt firstLetterPlace all ≡ firstNumber v = ap (λ l. join eightOctets (take 8 l)) g ∙ b in
     let n₃ : numberAt secondPlace all ≡ secondNumber v = ap (λ l. join eightOctets (take 8 l)) i ∙ c in
     rw (at 0, at 1, at 2, at 3, monitor-back kind m t z, n₁, n₂, n₃, phase-back (s .phase), verdict-back v)
