@@ -8,9 +8,10 @@
  * tells you so. An answer that held zeros then reads as accepted, coherent, pass: use
  * the lengths FADZGIME_.._ANSWER below.
  *
- * A refusal is a number (0: none) and a place (0 unless said): document 01, "The
- * questions". A refused call writes no output, and the numbers behind the place are 0
- * unless said.
+ * A refusal is a number (0: none) and a place (0 unless said): docs/SPEC.md, 11. A
+ * refused call writes no output, and the numbers behind the place are 0 unless said.
+ * The bits of a word and of a packed model: docs/SPEC.md, 2 and 7.4. Registers and
+ * functions of a macro are numbered from 0 in the order of their declarations.
  *
  * Stack: at most 33 KB a call (fadzgime_verdict; read 22 KB, model 17 KB, the others
  * at most 7 KB), whatever the input; tested on a thread of 128 KB. Nothing is allocated
