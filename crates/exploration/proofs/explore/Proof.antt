@@ -84,19 +84,15 @@ loop-less : tie.Need-loop-less Inv-loop μ-loop
 loop-less c = search needs
 
 loop-again : tie.Need-loop-again Inv-loop μ-loop
-loop-again c =
-    let at-one-move = c .before .before .before .before .before in
-    let at-point-at = at-one-move .before .before .before .before .before in
-    let at-current = at-point-at .before .before in
-    let at-loop-test = at-current .before .before in
-    let at-loop = at-loop-test .before in
-    let at-args = at-loop .before .before .before in
-    let a = (at-args .args) in let l =
-    (at-loop .loop) in
-    let m = (at-one-move .one-move) in let e = (c .before .turn .given .1) in
-    let w = on-within (a .t1) (a .end) (a .n) (l .count) (l .d) (l .table) (omega arith) (at-loop-test .loop-test .taken)
-    (getD (a .t1) ((at-point-at .point-at .result) % mostPoints) noPoint) (m .result)
-    (m .last .1 .1 .1 .0) (ap (λ k. getD (a .t1) (k % mostPoints) noPoint) (at-point-at .point-at .ensures)) (m .ensures .0) (m .ensures .1)
+loop-again c = let a = (c .before .before .before .before .before .before .before .before .before .before .before .before .before .before .before .before
+    .before .before .args) in let l =
+    (c .before .before .before .before .before .before .before .before .before .before .before .before .before .before .before .loop) in
+    let m = (c .before .before .before .before .before .one-move) in let e = (c .before .turn .given .1) in
+    let w = on-within (a .t1) (a .end) (a .n) (l .count) (l .d) (l .table) (omega arith)
+    (c .before .before .before .before .before .before .before .before .before .before .before .before .before .before .loop-test .taken)
+    (getD (a .t1) ((c .before .before .before .before .before .before .before .before .before .before .point-at .result) % mostPoints) noPoint) (m .result)
+    (m .last .1 .1 .1 .0) (ap (λ k. getD (a .t1) (k % mostPoints) noPoint)
+    (c .before .before .before .before .before .before .before .before .before .before .point-at .ensures)) (m .ensures .0) (m .ensures .1)
     (c .before .turn .given .0 .0) e in (
       omega (arith, w .0),
       omega (arith, w .1),
@@ -104,13 +100,18 @@ loop-again c =
       search needs,
       search needs,
       search needs,
-      sym (goes-on (a .t1) (a .end) (a .n) (l .count) (l .d) (l .table) (omega arith) (at-loop-test .loop-test .taken)
-          (getD (a .t1) ((at-point-at .point-at .result) % mostPoints) noPoint) (m .result)
-          (m .last .1 .1 .1 .0) (ap (λ k. getD (a .t1) (k % mostPoints) noPoint) (at-point-at .point-at .ensures)) (m .ensures .0) (m .ensures .1)
+      sym (goes-on (a .t1) (a .end) (a .n) (l .count) (l .d) (l .table) (omega arith)
+          (c .before .before .before .before .before .before .before .before .before .before .before .before .before .before .loop-test .taken)
+          (getD (a .t1) ((c .before .before .before .before .before .before .before .before .before .before .point-at .result) % mostPoints) noPoint)
+          (m .result) (m .last .1 .1 .1 .0) (ap (λ k. getD (a .t1) (k % mostPoints) noPoint)
+          (c .before .before .before .before .before .before .before .before .before .before .point-at .ensures)) (m .ensures .0) (m .ensures .1)
           (c .before .turn .given .0 .0) e)
           ∙ l .inv .6,
-      carried-on (at-current .current .result) (l .d) (l .count) (l .table) (m .result) (m .last .1 .1 .1 .0) _ _ (at-current .current .ensures)
-          (at-loop-test .loop-test .taken) (m .ensures .2),
+      carried-on (c .before .before .before .before .before .before .before .before .before .before .before .before .current .result) (l .d)
+          (l .count) (l .table) (m .result) (m .last .1 .1 .1 .0) _ _
+          (c .before .before .before .before .before .before .before .before .before .before .before .before .current .ensures)
+          (c .before .before .before .before .before .before .before .before .before .before .before .before .before .before .loop-test .taken)
+          (m .ensures .2),
       m .ensures .2 .indexed (c .before .turn .given .0 .0) e,
     )
 

@@ -61,21 +61,23 @@ same-length-3 : tie.Need-same-length-3
 same-length-3 c = search needs
 
 returns-4 : tie.Need-returns-4
-returns-4 c =
-    let at-put = c .before .before .before .before .before .before in
-    let at-if3 = at-put .before .before in
-    let at-if2 = at-if3 .before in
-    let at-is-listed = at-if2 .before in
-    let at-encode = at-is-listed .before .before .before .before .before in
-    let at-args = at-encode .before .before .before in
-    let a = (at-args .args) in let q = reach-new (a .k) (a .w) (a .end) (a .n) (a .count) (a .d) (a .table .now) (omega arith)
-    (at-encode .encode .result) (at-is-listed .is-listed .result) (at-encode .encode .ensures) (at-is-listed .is-listed .ensures) (at-if2 .if2 .left)
-    (at-if3 .if3 .left) (at-put .put .last .0) (at-put .put .ensures) in (
+returns-4 c = let a = (c .before .before .before .before .before .before .before .before .before .before .before .before .before .before .before .before .before
+    .before .args) in let q = reach-new (a .k) (a .w) (a .end) (a .n) (a .count) (a .d) (a .table .now) (omega arith)
+    (c .before .before .before .before .before .before .before .before .before .before .before .before .before .before .before .encode .result)
+    (c .before .before .before .before .before .before .before .before .before .before .is-listed .result)
+    (c .before .before .before .before .before .before .before .before .before .before .before .before .before .before .before .encode .ensures)
+    (c .before .before .before .before .before .before .before .before .before .before .is-listed .ensures)
+    (c .before .before .before .before .before .before .before .before .before .if2 .left)
+    (c .before .before .before .before .before .before .before .before .if3 .left) (c .before .before .before .before .before .before .put .last .0)
+    (c .before .before .before .before .before .before .put .ensures) in (
       q .0,
       q .1,
-      keeps-new _ _ _ _ (at-args .pre .1) ((at-encode .encode .result)) (a .d / 2)
-          (a .d % 2) (search needs) (omega arith) (omega arith) (at-put .put .last .0) (c .enter .last .0)
-          (c .enter .last .1 .0) (at-put .put .ensures) (c .enter .ensures .0) (c .enter .ensures .1),
+      keeps-new _ _ _ _ ((c .before .before .before .before .before .before .before .before .before .before .before .before .before .before .before
+          .before .before .before .pre .1))
+          ((c .before .before .before .before .before .before .before .before .before .before .before .before .before .before .before .encode
+          .result)) (a .d / 2)
+          (a .d % 2) (search needs) (omega arith) (omega arith) (c .before .before .before .before .before .before .put .last .0) (c .enter .last .0)
+          (c .enter .last .1 .0) (c .before .before .before .before .before .before .put .ensures) (c .enter .ensures .0) (c .enter .ensures .1),
     )
 
 pub reach-spec : {M : Type 1} → statement M

@@ -4,7 +4,8 @@ use Rattle.model_lines.proofs.answer.Tie as tie
 
 pub answer-spec : {M : Type 1} → statement M
 answer-spec =
-    tie.close (tie.spec
+    tie.close
+    (tie.spec
     (λ c κs. search needs)
     (λ c. search needs)
     (λ c κs. search needs)
@@ -13,17 +14,13 @@ answer-spec =
     (λ c κs. search needs)
     (λ c. search needs)
     (λ c.
-    let at-answer-to = c .before .before in
-    let at-rest-of = at-answer-to .before .before .before in
-    let at-read = at-rest-of .before .before in
-    let at-trace-space = at-read .before .before in
-    let read = at-read .read in
+    let read = c .before .before .before .before .before .before .before .read in
     record {
-      space = at-trace-space .trace-space .result;
+      space = c .before .before .before .before .before .before .before .before .before .trace-space .result;
       room = search needs;
       input = read .result;
-      behind = at-rest-of .rest-of .result;
+      behind = c .before .before .before .before .before .rest-of .result;
       buffer = read .last .1 .0;
       received = read .ensures;
-      answers = at-answer-to .answer-to .ensures;
+      answers = c .before .before .answer-to .ensures;
     }))

@@ -55,23 +55,17 @@ put-answer-spec =
     (put .ensures))
     (λ c. appended-length (c .before .before .put-line .ensures))
     (λ c.
-    let at-put-line = c .before .before in
-    let at-answer2 = at-put-line .before .before .before .before in
-    let at-before = at-answer2 .before .before .before in
-    let start = at-before .before in
-    let k = at-answer2 .answer2 .given in
-    let put = at-put-line .put-line in
+    let start = c .before .before .before .before .before .before .before .before .before .before in
+    let k = c .before .before .before .before .before .before .answer2 .given in
+    let put = c .before .before .put-line in
     let f : Fits w64 (k .0 .0) = search needs in
     wrote-infeasible (start .args .out .now) (start .args .model .now) (put .last .0) (start .args .answer) (put .result) (k .0 .0) (k .1) (f .fits)
     (appended-same (sym (infeasible-form (k .0 .0))) (put .ensures)))
     (λ c. appended-length (c .before .before .put-line2 .ensures))
     (λ c.
-    let at-put-line2 = c .before .before in
-    let at-answer3 = at-put-line2 .before .before .before .before in
-    let at-before = at-answer3 .before .before .before in
-    let start = at-before .before in
-    let v = at-answer3 .answer3 .given in
-    let put = at-put-line2 .put-line2 in
+    let start = c .before .before .before .before .before .before .before .before .before .before in
+    let v = c .before .before .before .before .before .before .answer3 .given in
+    let put = c .before .before .put-line2 in
     let f : Fits w8 (v .0 .0) = search needs in
     let g : Fits w64 (v .0 .1 .0) = search needs in
     wrote-refused (start .args .out .now) (start .args .model .now) (put .last .0) (start .args .answer) (put .result) (v .0 .0) (v .0 .1 .0) (v .1)

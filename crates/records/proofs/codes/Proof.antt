@@ -16,7 +16,8 @@ abbrev μ-loop : tie.MeasureT-loop
 
 pub codes-spec : {M : Type 1} → statement M
 codes-spec =
-    tie.close (tie.spec
+    tie.close
+    (tie.spec
     Inv-loop
     μ-loop
     (λ c. (search needs, search needs, search needs, swept-none _ _ _))
@@ -25,14 +26,14 @@ codes-spec =
     (λ c κs. search needs)
     (λ c. search needs)
     (λ c. search needs)
-    (λ c.
-    let at-loop = c .before .before .before .before in
-    let at-args = at-loop .before .before .before in (
+    (λ c. (
       search needs,
       search needs,
       search needs,
-      codes-past (at-args .args .result .now) (at-args .args .ever .now) (at-loop .loop .codes)
-          (at-loop .loop .j) _ _ (omega arith) (search needs) refl (c .before .is-blank .ensures) (c .if1 .taken) (at-loop .loop .inv .3),
+      codes-past (c .before .before .before .before .before .before .before .args .result .now)
+          (c .before .before .before .before .before .before .before .args .ever .now) (c .before .before .before .before .loop .codes)
+          (c .before .before .before .before .loop .j) _ _ (omega arith) (search needs) refl (c .before .is-blank .ensures) (c .if1 .taken)
+          (c .before .before .before .before .loop .inv .3),
     ))
     (λ c. search needs)
     (λ c. search needs)
@@ -66,18 +67,19 @@ codes-spec =
     (λ c. search needs)
     (λ c. search needs)
     (λ c. search needs)
-    (λ c.
-    let at-code-byte3 = c .before .before .before in
-    let at-code-byte2 = at-code-byte3 .before .before .before in
-    let at-code-byte = at-code-byte2 .before .before .before in
-    let at-loop = at-code-byte .before .before .before .before .before .before .before in
-    let at-args = at-loop .before .before .before in (
+    (λ c. (
       search needs,
       search needs,
       search needs,
-      codes-turn (at-args .args .result .now) (at-args .args .ever .now) (at-loop .loop .codes) (at-loop .loop .j) _ _ _ _ _
-          (omega arith) refl (at-code-byte .code-byte .ensures)
-          (at-code-byte2 .code-byte2 .ensures) (at-code-byte3 .code-byte3 .ensures) (c .code-byte4 .ensures) (at-loop .loop .inv .3),
+      codes-turn
+          (c .before .before .before .before .before .before .before .before .before .before .before .before .before .before .before .before .before .before
+          .before .args .result .now) (c .before .before .before .before .before .before .before .before .before .before .before .before .before .before .before
+          .before .before .before .before .args .ever .now)
+          (c .before .before .before .before .before .before .before .before .before .before .before .before .before .before .before .before .loop .codes)
+          (c .before .before .before .before .before .before .before .before .before .before .before .before .before .before .before .before .loop .j) _ _ _ _ _
+          (omega arith) refl (c .before .before .before .before .before .before .before .before .before .code-byte .ensures)
+          (c .before .before .before .before .before .before .code-byte2 .ensures) (c .before .before .before .code-byte3 .ensures) (c .code-byte4 .ensures)
+          (c .before .before .before .before .before .before .before .before .before .before .before .before .before .before .before .before .loop .inv .3),
     ))
     (λ c. swept-zeros _ 128 (4 * (c .before .loop .j)) (c .before .loop .codes) (c .before .loop .inv .3) (omega arith)
     ∙ sym (code-bytes (c .before .before .before .before .args .result .now) (c .before .before .before .before .args .ever .now))))

@@ -5,7 +5,8 @@ use Rattle.records.proofs.encode.Tie as tie
 
 pub encode-spec : {M : Type 1} → statement M
 encode-spec =
-    tie.close (tie.spec
+    tie.close
+    (tie.spec
     (λ c. search needs)
     (λ c κs. search needs)
     (λ c. search needs)
@@ -24,15 +25,13 @@ encode-spec =
     (λ c. search needs)
     (λ c. search needs)
     (λ c. search needs)
-    (λ c.
-    let at-parts = c .before .before .before in
-    let at-flagged = at-parts .before .before in
-    let at-codes = at-flagged .before .before .before .before in
-    let at-flags = at-codes .before .before .before in
-    let at-mask-bytes2 = at-flags .before in
-    let at-mask-bytes = at-mask-bytes2 .before .before in
-    let at-args = at-mask-bytes .before .before .before .before .before .before .before in
-    encoded-made (at-args .args .point)
-    (at-args .args .w) (at-parts .parts .result) _ _ _ _ _ _ 155 (at-mask-bytes .mask-bytes .ensures) (at-mask-bytes2 .mask-bytes2 .ensures)
-    (at-flags .flags .ensures) (at-flagged .flagged .ensures) (at-codes .codes .ensures) (at-parts .parts .ensures) (search needs)
+    (λ c. encoded-made (c .before .before .before .before .before .before .before .before .before .before .before .before .before .before .before .before
+    .before .before .before .before .before .before .args .point)
+    (c .before .before .before .before .before .before .before .before .before .before .before .before .before .before .before .before .before .before
+    .before .before .before .before .args .w) (c .before .before .before .parts .result) _ _ _ _ _ _ 155
+    (c .before .before .before .before .before .before .before .before .before .before .before .before .before .before .before .mask-bytes .ensures)
+    (c .before .before .before .before .before .before .before .before .before .before .before .before .before .mask-bytes2 .ensures)
+    (c .before .before .before .before .before .before .before .before .before .before .before .before .flags .ensures)
+    (c .before .before .before .before .before .flagged .ensures)
+    (c .before .before .before .before .before .before .before .before .before .codes .ensures) (c .before .before .before .parts .ensures) (search needs)
     (c .fingerprint .ensures)))

@@ -7,7 +7,8 @@ use Rattle.records.proofs.point_in.Tie as tie
 pub point-in-spec : {M : Type 1} → statement M
 unfolding pointIn
 point-in-spec =
-    tie.close (tie.spec
+    tie.close
+    (tie.spec
     (λ c. search needs)
     (λ c κs. search needs)
     (λ c. search needs)
@@ -15,8 +16,5 @@ point-in-spec =
     (λ c. search needs)
     (λ c κs. search needs)
     (λ c. search needs)
-    (λ c.
-    let at-wide = c .before .before in
-    let at-args = at-wide .before .before .before in
-    number-made (at-args .args .part .now) 5 _ _ (search needs) (at-wide .wide .ensures .0)
+    (λ c. number-made (c .before .before .before .before .before .args .part .now) 5 _ _ (search needs) (c .before .before .wide .ensures .0)
     (c .wide2 .ensures .0)))

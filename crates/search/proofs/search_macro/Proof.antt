@@ -39,12 +39,8 @@ same-length : tie.Need-same-length
 same-length c = search needs
 
 returns : tie.Need-returns
-returns c =
-    let at-search-pairs = c .before .before .before .before in
-    let at-capacity = at-search-pairs .before .before .before .before .before in
-    let at-before = at-capacity .before .before in
-    let x = at-before .before in let a = x .args in
-    let s = at-search-pairs .search-pairs in let n = at-capacity .capacity in
+returns c = let x = c .before .before .before .before .before .before .before .before .before .before .before .before in let a = x .args in
+    let s = c .before .before .before .before .search-pairs in let n = c .before .before .before .before .before .before .before .before .before .capacity in
     told-full (a .program) (a .table .now) (a .output .now) (n .result) (s .result) (s .last .1 .1 .1 .0) (n .ensures) (s .ensures .0) (s .ensures .1)
     (c .enum-told .given .1)
 
@@ -55,13 +51,9 @@ same-length-2 : tie.Need-same-length-2
 same-length-2 c = search needs
 
 returns-2 : tie.Need-returns-2
-returns-2 c =
-    let at-search-pairs = c .before .before .before .before .before in
-    let at-capacity = at-search-pairs .before .before .before .before .before in
-    let at-before = at-capacity .before .before in
-    let x = at-before .before in let a = x .args in
-    let s = at-search-pairs .search-pairs in
-    let n = at-capacity .capacity in
+returns-2 c = let x = c .before .before .before .before .before .before .before .before .before .before .before .before .before in let a = x .args in
+    let s = c .before .before .before .before .before .search-pairs in
+    let n = c .before .before .before .before .before .before .before .before .before .before .capacity in
     told-pass (a .program) (a .table .now) (a .output .now) (n .result) (s .result) (s .last .1 .1 .1 .0) (n .ensures) (s .ensures .0) (s .ensures .1)
     (c .before .found .given .0 .0) (c .before .found .given .1)
 
@@ -69,16 +61,11 @@ enum-known-found-2 : tie.Need-enum-known-found-2
 enum-known-found-2 c = search needs
 
 pack-requires : tie.Need-pack-requires
-pack-requires c κs =
-    let at-found2 = c .before .before in
-    let at-search-pairs = at-found2 .before .before .before .before in
-    let at-capacity = at-search-pairs .before .before .before .before .before in
-    let at-before = at-capacity .before .before in
-    let x = at-before .before in
-    let a = x .args in let s = at-search-pairs .search-pairs in
-    let n = at-capacity .capacity in
+pack-requires c κs = let x = c .before .before .before .before .before .before .before .before .before .before .before .before .before .before in
+    let a = x .args in let s = c .before .before .before .before .before .before .search-pairs in
+    let n = c .before .before .before .before .before .before .before .before .before .before .before .capacity in
     packable (a .program) (a .table .now) (a .output .now) (n .result) (s .result) (s .last .1 .1 .1 .0) (n .ensures) (s .ensures .0) (s .ensures .1) (x .pre)
-    (at-found2 .found2 .given .0 .0) (at-found2 .found2 .given .0 .1 .0) breaking (at-found2 .found2 .given .1)
+    (c .before .before .found2 .given .0 .0) (c .before .before .found2 .given .0 .1 .0) breaking (c .before .before .found2 .given .1)
 
 deliver-incoherent-requires : tie.Need-deliver-incoherent-requires
 deliver-incoherent-requires c κs = search needs
@@ -90,34 +77,24 @@ same-length-4 : tie.Need-same-length-4
 same-length-4 c = search needs
 
 returns-3 : tie.Need-returns-3
-returns-3 c =
-    let at-deliver-incoherent = c .before .before in
-    let at-pack = at-deliver-incoherent .before .before in
-    let at-found2 = at-pack .before .before .before in
-    let at-search-pairs = at-found2 .before .before .before .before in
-    let at-capacity = at-search-pairs .before .before .before .before .before in
-    let at-before = at-capacity .before .before in
-    let x = at-before .before in let a = x .args in let s = at-search-pairs .search-pairs in
-    let n = at-capacity .capacity in
-    let k = at-pack .pack in let z = at-deliver-incoherent .deliver-incoherent in
+returns-3 c = let x = c .before .before .before .before .before .before .before .before .before .before .before .before .before .before .before .before .before
+    .before .before in let a = x .args in let s = c .before .before .before .before .before .before .before .before .before .before .before .search-pairs in
+    let n = c .before .before .before .before .before .before .before .before .before .before .before .before .before .before .before .before .capacity in
+    let k = c .before .before .before .before .pack in let z = c .before .before .deliver-incoherent in
     told-incoherent (a .program) (a .table .now) (a .output .now) (n .result) (s .result) (s .last .1 .1 .1 .0) (n .ensures) (s .ensures .0) (s .ensures .1)
-    (x .pre) (at-found2 .found2 .given .0 .0) (at-found2 .found2 .given .0 .1 .0) (k .result) (k .ensures .0) (k .ensures .1) (z .result)
-    (z .last .1 .1 .0) (at-found2 .found2 .given .1) (z .ensures)
+    (x .pre) (c .before .before .before .before .before .before .before .found2 .given .0 .0)
+    (c .before .before .before .before .before .before .before .found2 .given .0 .1 .0) (k .result) (k .ensures .0) (k .ensures .1) (z .result)
+    (z .last .1 .1 .0) (c .before .before .before .before .before .before .before .found2 .given .1) (z .ensures)
 
 enum-known-found-3 : tie.Need-enum-known-found-3
 enum-known-found-3 c = search needs
 
 pack-requires-2 : tie.Need-pack-requires-2
-pack-requires-2 c κs =
-    let at-found3 = c .before .before in
-    let at-search-pairs = at-found3 .before .before .before .before in
-    let at-capacity = at-search-pairs .before .before .before .before .before in
-    let at-before = at-capacity .before .before in
-    let x = at-before .before in
-    let a = x .args in let s = at-search-pairs .search-pairs in
-    let n = at-capacity .capacity in
+pack-requires-2 c κs = let x = c .before .before .before .before .before .before .before .before .before .before .before .before .before .before in
+    let a = x .args in let s = c .before .before .before .before .before .before .search-pairs in
+    let n = c .before .before .before .before .before .before .before .before .before .before .before .capacity in
     packable (a .program) (a .table .now) (a .output .now) (n .result) (s .result) (s .last .1 .1 .1 .0) (n .ensures) (s .ensures .0) (s .ensures .1) (x .pre)
-    (at-found3 .found3 .given .0 .0) (at-found3 .found3 .given .0 .1 .0) failing (at-found3 .found3 .given .1)
+    (c .before .before .found3 .given .0 .0) (c .before .before .found3 .given .0 .1 .0) failing (c .before .before .found3 .given .1)
 
 deliver-failing-requires : tie.Need-deliver-failing-requires
 deliver-failing-requires c κs = search needs
@@ -129,19 +106,14 @@ same-length-6 : tie.Need-same-length-6
 same-length-6 c = search needs
 
 returns-4 : tie.Need-returns-4
-returns-4 c =
-    let at-deliver-failing = c .before .before in
-    let at-pack2 = at-deliver-failing .before .before in
-    let at-found3 = at-pack2 .before .before .before in
-    let at-search-pairs = at-found3 .before .before .before .before in
-    let at-capacity = at-search-pairs .before .before .before .before .before in
-    let at-before = at-capacity .before .before in
-    let x = at-before .before in let a = x .args in let s = at-search-pairs .search-pairs in
-    let n = at-capacity .capacity in
-    let k = at-pack2 .pack2 in let z = at-deliver-failing .deliver-failing in
+returns-4 c = let x = c .before .before .before .before .before .before .before .before .before .before .before .before .before .before .before .before .before
+    .before .before in let a = x .args in let s = c .before .before .before .before .before .before .before .before .before .before .before .search-pairs in
+    let n = c .before .before .before .before .before .before .before .before .before .before .before .before .before .before .before .before .capacity in
+    let k = c .before .before .before .before .pack2 in let z = c .before .before .deliver-failing in
     told-failing (a .program) (a .table .now) (a .output .now) (n .result) (s .result) (s .last .1 .1 .1 .0) (n .ensures) (s .ensures .0) (s .ensures .1)
-    (x .pre) (at-found3 .found3 .given .0 .0) (at-found3 .found3 .given .0 .1 .0) (k .result) (k .ensures .0) (k .ensures .1) (z .result)
-    (z .last .1 .1 .0) (at-found3 .found3 .given .1) (z .ensures)
+    (x .pre) (c .before .before .before .before .before .before .before .found3 .given .0 .0)
+    (c .before .before .before .before .before .before .before .found3 .given .0 .1 .0) (k .result) (k .ensures .0) (k .ensures .1) (z .result)
+    (z .last .1 .1 .0) (c .before .before .before .before .before .before .before .found3 .given .1) (z .ensures)
 
 pub search-macro-spec : {M : Type 1} → statement M
 search-macro-spec =

@@ -39,12 +39,9 @@ same-length : tie.Need-same-length
 same-length c = search needs
 
 returns : tie.Need-returns
-returns c =
-    let at-show = c .before .before .before .before .before in
-    let at-args = at-show .before .before .before .before .before in
-    let a = at-args .args in
-    modelled-yes (a .t1) (a .start) (a .output .now) (at-show .show .result)
-    (at-show .show .last .1 .0) (search needs) (omega arith) (at-show .show .ensures) _ refl
+returns c = let a = c .before .before .before .before .before .before .before .before .before .before .args in
+    modelled-yes (a .t1) (a .start) (a .output .now) (c .before .before .before .before .before .show .result)
+    (c .before .before .before .before .before .show .last .1 .0) (search needs) (omega arith) (c .before .before .before .before .before .show .ensures) _ refl
     (c .before .shown .given .0 .0) (c .before .shown .given .1)
 
 enum-known-shown-2 : tie.Need-enum-known-shown-2
@@ -54,12 +51,9 @@ same-length-2 : tie.Need-same-length-2
 same-length-2 c = search needs
 
 returns-2 : tie.Need-returns-2
-returns-2 c =
-    let at-show = c .before .before .before .before .before in
-    let at-args = at-show .before .before .before .before .before in
-    let a = at-args .args in
-    modelled-infeasible (a .t1) (a .start) (a .output .now) (at-show .show .result)
-    (at-show .show .last .1 .0) (search needs) (omega arith) (at-show .show .ensures) _ refl
+returns-2 c = let a = c .before .before .before .before .before .before .before .before .before .before .args in
+    modelled-infeasible (a .t1) (a .start) (a .output .now) (c .before .before .before .before .before .show .result)
+    (c .before .before .before .before .before .show .last .1 .0) (search needs) (omega arith) (c .before .before .before .before .before .show .ensures) _ refl
     (c .before .shown2 .given .0 .0) (c .before .shown2 .given .1)
 
 enum-known-shown-3 : tie.Need-enum-known-shown-3
@@ -69,17 +63,15 @@ same-length-3 : tie.Need-same-length-3
 same-length-3 c = search needs
 
 returns-3 : tie.Need-returns-3
-returns-3 c =
-    let at-show = c .before .before .before .before .before in
-    let at-args = at-show .before .before .before .before .before in
-    let a = at-args .args in
-    modelled-refused (a .t1) (a .start) (a .output .now) (at-show .show .result)
-    (at-show .show .last .1 .0) (search needs) (omega arith) (at-show .show .ensures) _ refl
+returns-3 c = let a = c .before .before .before .before .before .before .before .before .before .before .args in
+    modelled-refused (a .t1) (a .start) (a .output .now) (c .before .before .before .before .before .show .result)
+    (c .before .before .before .before .before .show .last .1 .0) (search needs) (omega arith) (c .before .before .before .before .before .show .ensures) _ refl
     (c .before .shown3 .given .0 .0) (c .before .shown3 .given .0 .1 .0) (c .before .shown3 .given .1)
 
 pub show-model-spec : {M : Type 1} → statement M
 show-model-spec =
-    tie.close (tie.spec
+    tie.close
+    (tie.spec
     sub-n
     sub-show
     part-show-start

@@ -38,57 +38,57 @@ lay-requires-5 : tie.Need-lay-requires-5
 lay-requires-5 c κs = search needs
 
 slice-aggregate-lay-6 : tie.Need-slice-aggregate-lay-6
-slice-aggregate-lay-6 c =
-    let at-good = c .before .before .before .before .before .before .before .before .before .before .before .before .before .before .before .before
-    .before .before .before .before .before .before .before .before .before .before .before .before in
-    let g =
-    at-good .good in search needs
+slice-aggregate-lay-6 c = let g =
+    c .before .before .before .before .before .before .before .before .before .before .before .before .before .before .before .before .before .before .before
+    .before .before .before .before .before .before .before .before .before .good in search needs
 
 lay-requires-6 : tie.Need-lay-requires-6
-lay-requires-6 c κs =
-    let at-lay5 = c .before .before .before .before in
-    let at-lay4 = at-lay5 .before .before .before .before .before in
-    let at-lay3 = at-lay4 .before .before .before .before .before in
-    let at-lay2 = at-lay3 .before .before .before .before .before in
-    let at-lay = at-lay2 .before .before .before .before .before in
-    let at-good = at-lay .before .before .before .before in
-    let g = at-good .good in
-    let a = at-good .args in let m : length (a .t6) ≡ 256 = search needs in
+lay-requires-6 c κs = let g = c .before .before .before .before .before .before .before .before .before .before .before .before .before .before .before .before
+    .before .before .before .before .before .before .before .before .before .before .before .before .good in
+    let a = c .before .before .before .before .before .before .before .before .before .before .before .before .before .before .before .before .before .before
+    .before .before .before .before .before .before .before .before .before .before .args in let m : length (a .t6) ≡ 256 = search needs in
     omega (
       arith,
       m,
-      at-lay5 .lay5 .ensures .1,
-      at-lay4 .lay4 .ensures .1,
-      at-lay3 .lay3 .ensures .1,
-      at-lay2 .lay2 .ensures .1,
-      at-lay .lay .ensures .1,
-      at-good .pre,
+      c .before .before .before .before .lay5 .ensures .1,
+      c .before .before .before .before .before .before .before .before .before .lay4 .ensures .1,
+      c .before .before .before .before .before .before .before .before .before .before .before .before .before .before .lay3 .ensures .1,
+      c .before .before .before .before .before .before .before .before .before .before .before .before .before .before .before .before .before .before .before
+          .lay2 .ensures .1,
+      c .before .before .before .before .before .before .before .before .before .before .before .before .before .before .before .before .before
+          .before .before .before .before .before .before .before .lay .ensures .1,
+      c .before .before .before .before .before .before .before .before .before .before .before .before .before .before .before .before .before .before .before
+          .before .before .before .before .before .before .before .before .before .pre,
     )
 
 same-length : tie.Need-same-length
 same-length c = search needs
 
 returns : tie.Need-returns
-returns c =
-    let at-lay6 = c .before .before in
-    let at-lay5 = at-lay6 .before .before .before .before .before in
-    let at-lay4 = at-lay5 .before .before .before .before .before in
-    let at-lay3 = at-lay4 .before .before .before .before .before in
-    let at-lay2 = at-lay3 .before .before .before .before .before in
-    let at-lay = at-lay2 .before .before .before .before .before in
-    let at-good = at-lay .before .before .before .before in
-    let g = at-good .good in
-    let a = at-good .args in
+returns c = let g = c .before .before .before .before .before .before .before .before .before .before .before .before .before .before .before .before .before
+    .before .before .before .before .before .before .before .before .before .before .before .before .before .before .good in
+    let a = c .before .before .before .before .before .before .before .before .before .before .before .before .before .before .before .before .before .before
+    .before .before .before .before .before .before .before .before .before .before .before .before .before .args in
     let z : Sizes (a .t2) (a .t3) (a .t4) (a .t5) (a .t6) =
     record { classes = search needs; unequals = search needs; marked = search needs; evers = search needs; results = search needs } in (
-      six-laid (a .t1) (a .t2) (a .t3) (a .t4) (a .t5) (a .t6) (search needs) z (a .state .now) _ _ _ _ _ _ (at-lay .lay .ensures .0)
-          (at-lay2 .lay2 .ensures .0) (at-lay3 .lay3 .ensures .0) (at-lay4 .lay4 .ensures .0) (at-lay5 .lay5 .ensures .0) (at-lay6 .lay6 .ensures .0),
+      six-laid (a .t1) (a .t2) (a .t3) (a .t4) (a .t5) (a .t6) (search needs) z (a .state .now) _ _ _ _ _ _
+          (c .before .before .before .before .before .before .before .before .before .before .before .before .before .before .before .before .before
+          .before .before
+          .before .before .before .before .before .before .before .before .lay .ensures .0)
+          (c .before .before .before .before .before .before .before .before .before .before .before .before .before .before .before .before .before
+          .before .before
+          .before .before .before .lay2 .ensures .0)
+          (c .before .before .before .before .before .before .before .before .before .before .before .before .before .before .before .before .before
+          .lay3 .ensures
+          .0) (c .before .before .before .before .before .before .before .before .before .before .before .before .lay4 .ensures .0)
+          (c .before .before .before .before .before .before .before .lay5 .ensures .0) (c .before .before .lay6 .ensures .0),
       z,
     )
 
 pub put-parts-spec : {M : Type 1} → statement M
 put-parts-spec =
-    tie.close (tie.spec
+    tie.close
+    (tie.spec
     slice-aggregate-lay
     lay-requires
     slice-aggregate-lay-2

@@ -31,19 +31,19 @@ same-length : tie.Need-same-length
 same-length c = search needs
 
 returns : tie.Need-returns
-returns c =
-    let at-lay4 = c .before .before in
-    let at-lay3 = at-lay4 .before .before .before .before .before in
-    let at-lay2 = at-lay3 .before .before .before .before .before in
-    let at-lay = at-lay2 .before .before .before .before .before in
-    let at-args = at-lay .before .before .before .before in
-    let a = at-args .args in
-    four-laid (a .t1) (a .t2) (a .t3) (a .t4) (a .state .now) _ _ _ _ (at-args .pre) (search needs) (search needs) (search needs) (search needs)
-    (at-lay .lay .ensures .0) (at-lay2 .lay2 .ensures .0) (at-lay3 .lay3 .ensures .0) (at-lay4 .lay4 .ensures .0)
+returns c = let a = c .before .before .before .before .before .before .before .before .before .before .before .before .before .before .before .before .before
+    .before .before .before .before .args in
+    four-laid (a .t1) (a .t2) (a .t3) (a .t4) (a .state .now) _ _ _ _
+    (c .before .before .before .before .before .before .before .before .before .before .before .before .before .before .before .before .before .before .before
+    .before .before .pre) (search needs) (search needs) (search needs) (search needs)
+    (c .before .before .before .before .before .before .before .before .before .before .before .before .before .before .before .before .before .lay .ensures .0)
+    (c .before .before .before .before .before .before .before .before .before .before .before .before .lay2 .ensures .0)
+    (c .before .before .before .before .before .before .before .lay3 .ensures .0) (c .before .before .lay4 .ensures .0)
 
 pub put-tail-spec : {M : Type 1} → statement M
 put-tail-spec =
-    tie.close (tie.spec
+    tie.close
+    (tie.spec
     slice-aggregate-lay
     lay-requires
     slice-aggregate-lay-2

@@ -4,7 +4,8 @@ use Rattle.verdict_lines.proofs.answer.Tie as tie
 
 pub answer-spec : {M : Type 1} → statement M
 answer-spec =
-    tie.close (tie.spec
+    tie.close
+    (tie.spec
     (λ c κs. search needs)
     (λ c. search needs)
     (λ c κs. search needs)
@@ -12,15 +13,12 @@ answer-spec =
     (λ c κs. search needs)
     (λ c. search needs)
     (λ c.
-    let at-answer-to = c .before .before in
-    let at-read = at-answer-to .before .before .before .before in
-    let at-text-space = at-read .before .before in
-    let read = at-read .read in
+    let read = c .before .before .before .before .before .before .read in
     record {
-      space = at-text-space .text-space .result;
+      space = c .before .before .before .before .before .before .before .before .text-space .result;
       room = search needs;
       input = read .result;
       text = read .last .1 .0;
       received = read .ensures;
-      answers = at-answer-to .answer-to .ensures;
+      answers = c .before .before .answer-to .ensures;
     }))

@@ -39,19 +39,19 @@ loop-less : tie.Need-loop-less Inv-loop μ-loop
 loop-less c = search needs
 
 loop-again : tie.Need-loop-again Inv-loop μ-loop
-loop-again c =
-    let at-loop-test = c .before .before .before .before in
-    let at-loop = at-loop-test .before in (
-      search needs,
-      pushed-more _ _ _ _ _ (at-loop-test .loop-test .taken) (at-loop .loop .inv .1) (pushes-one _ _ _ (c .push .ensures)),
-    )
+loop-again c = (
+  search needs,
+  pushed-more _ _ _ _ _ (c .before .before .before .before .loop-test .taken)
+      (c .before .before .before .before .before .loop .inv .1) (pushes-one _ _ _ (c .push .ensures)),
+)
 
 returns-2 : tie.Need-returns-2 Inv-loop μ-loop
 returns-2 c = pushes _ _ _ (pushed-done _ _ _ _ (c .loop-test .left) (c .before .loop .inv .1))
 
 pub push-all-spec : {M : Type 1} → statement M
 push-all-spec =
-    tie.close (tie.spec
+    tie.close
+    (tie.spec
     Inv-loop
     μ-loop
     loop-holds
