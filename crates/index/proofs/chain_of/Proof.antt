@@ -1,7 +1,7 @@
 use Prim.Native.Nat.{_+_, _*_, _%_}
 use native.Mathlib.Omega.{arith}
 use native.Mathlib.Nat.{mod-lt}
-use Rattle.index.specs.Index.{chainOf, chainCount}
+use Rattle.index.specs.Index.{chainOf, pairChains}
 use borrow.Author.Needs.{needs}
 use Rattle.index.proofs.chain_of.Statement.{statement}
 use Rattle.index.proofs.chain_of.Tie as tie
@@ -18,4 +18,4 @@ chain-of-spec =
     (λ c κs. search needs)
     (λ c. search needs)
     (λ c. search needs)
-    (λ c. (λ i. ((c .before .before .number .ensures .0) i + 256 * (c .number2 .ensures .0) i) % chainCount, mod-lt _ (omega arith))))
+    (λ c. (λ i. ((c .before .before .number .ensures .0) i + 256 * (c .number2 .ensures .0) i) % pairChains, mod-lt _ (omega arith))))
