@@ -1,4 +1,5 @@
 pub mod Choice
+pub mod Bytes
 pub mod Each
 pub mod Recursion
 pub mod Masks

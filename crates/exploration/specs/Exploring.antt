@@ -11,16 +11,16 @@ use Rattle.grammar.specs.Limits.{mostPoints}
 use Rattle.window.specs.Perform.{freshOf}
 use Rattle.records.specs.Records.{encoded, recordOf}
 use Rattle.table.specs.Table.{pointAt, putAt}
+use Rattle.blocks.specs.Held.{unusedPoint}
 use Rattle.exploration.specs.declared.Turn.{Turn}
 use Rattle.exploration.specs.declared.Turn.the-variants.{On, Full, Breaking, Failing}
 use Rattle.exploration.specs.declared.Search.{Search}
 use Rattle.exploration.specs.declared.Search.the-variants as found
-use Rattle.exploration.specs.Moves.{noPoint}
 use Rattle.exploration.specs.Turns.{turnOf, tableOf}
 
 -- The point of pair i.
 abbrev pub pointOf : List PointEntry → List ℕ → ℕ → PointEntry
-pointOf ps t i = getD ps (pointAt t i % mostPoints) noPoint
+pointOf ps t i = getD ps (pointAt t i % mostPoints) unusedPoint
 
 -- What follows a move that leaves the table t: the search goes on, or it ends.
 abbrev pub onTurn : Turn → List ℕ → ℕ → ℕ → (ℕ → Search × List ℕ) → Search × List ℕ

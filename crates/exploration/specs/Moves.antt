@@ -28,7 +28,3 @@ abbrev pub letterOf : PointMove → Letter
 letterOf Nothing = Copy 0 0
 letterOf (Goes a k) = a
 letterOf (Fails a) = a
-
--- What stands past the points.
-abbrev pub noPoint : PointEntry
-noPoint = record { kind = stepKind; letter = Copy 0 0; first = 0; second = 0 }

@@ -36,6 +36,10 @@ unfoldable pub indexOf : ℕ → List ℕ → ℕ
 indexOf k [] = 0
 indexOf k (x ∷ xs) = pick (sameName k x) (λ _. 0) λ _. suc (indexOf k xs)
 
+-- the name is one of the list
+abbrev pub isDeclared : ℕ → List ℕ → Bool
+isDeclared k l = ltb (indexOf k l) (length l)
+
 -- a token that does not fit the grammar, or is none
 abbrev pub refusedToken : {A : Type 0} → Token → Got A
 refusedToken t = Got.refused (pick (eqb (t .key) word.wrong) (λ _. tokenMalformed) λ _. grammarViolated) (t .start)
@@ -48,7 +52,7 @@ expectT k t = pick (eqb (t .key) k) (λ _. got tt (t .end)) λ _. refusedToken t
 abbrev pub useT : List ℕ → Token → Got ℕ
 useT rs t =
     pick (isName (t .key))
-    (λ _. pick (ltb (indexOf (t .key) rs) (length rs)) (λ _. got (indexOf (t .key) rs) (t .end)) λ _. Got.refused useWrong (t .start))
+    (λ _. pick (isDeclared (t .key) rs) (λ _. got (indexOf (t .key) rs) (t .end)) λ _. Got.refused useWrong (t .start))
     λ _. refusedToken t
 
 -- = or !=, as what it makes of two registers
@@ -136,9 +140,6 @@ module _ (s : List ℕ) where
   -- a list that may end here, and `;`
   abbrev pub listedT : {A : Type 0} → ℕ → A → Token → Got A
   listedT n a t = pick (eqb (t .key) word.semicolonKey && not (eqb n 0)) (λ _. got a (t .end)) λ _. refusedToken t
-
-  abbrev pub isDeclared : ℕ → List ℕ → Bool
-  isDeclared k l = ltb (indexOf k l) (length l)
 
   -- the names of registers, and `;`: rs are declared already, and there is room for more
   unfoldable pub registerNames : ℕ → List ℕ → ℕ → Got (List ℕ)

@@ -5,8 +5,6 @@ use Prim.Native.Nat.{ℕ, _+_, _*_, _/_, _%_, _^_, _≤_, _<_}
 use lib.ListN.{length, getD, take, set}
 use Rattle.letters.specs.Editions.{firstEdition, mostRegisters, mostFunctions}
 use Rattle.letters.specs.declared.Header.{Header}
-use Rattle.base.specs.Choice.{pick}
-use Rattle.base.specs.Masks.{has}
 use Rattle.semantics.specs.Tables.{Row, Tables}
 use Rattle.semantics.specs.PackedTables.{rowBytes, wordBytes, packedRow}
 use Rattle.closure.specs.Limits.{mostTerms}
@@ -51,10 +49,6 @@ putFive out at w = set (set (set (set (set out at (w / 4294967296 % 256)) (at + 
     (at + 4) (w % 256)
 
 -- ---- rows
--- the second argument as it is written
-unfoldable pub written : Header → ℕ → ℕ → ℕ
-written h f b = pick (has (h .binary) f) (λ _. b) λ _. 0
-
 -- The row of application i, by the values of its terms.
 unfoldable pub rowFor : (values function first second : List ℕ) → ℕ → Row
 rowFor values function first second i = record {

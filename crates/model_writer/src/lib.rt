@@ -3,7 +3,7 @@ ghost use mathlib.Core.Path.{_≡_};
 ghost use Prim.Native.Nat.{ℕ, suc, _+_, _*_, _<_, _≤_};
 ghost use lib.ListN.{length, getD, take};
 ghost use Rattle.letters.specs.Editions.{firstEdition, mostFunctions};
-ghost use Rattle.semantics.specs.PackedTables.{units, packTables, rowBytes, wordBytes};
+ghost use Rattle.semantics.specs.PackedTables.{units, packTables, secondWritten, rowBytes, wordBytes};
 ghost use Rattle.closure.specs.Limits.{signatureChains, mostTerms};
 ghost use Rattle.closure.specs.Arrays.{Formed, IndexedTerms};
 ghost use Rattle.model_writer.specs.Values.{chosen, newClass, Numberable, Valued};
@@ -13,7 +13,7 @@ ghost use Rattle.engine.specs.Run.{Blank, Begun, readingFrom};
 ghost use Rattle.model_writer.specs.Inserted.{inserted};
 ghost use Rattle.model_writer.specs.Fitting.{Puttable, Put};
 ghost use Rattle.model_writer.specs.Answer.{SomeStateComputed, Modelled, Stopped, Showed};
-ghost use Rattle.model_writer.specs.Bytes.{valueRange, joinedOf, putFive, written, RowIn, wordFor, wordsFor, StartsFit, RowsFit, Writable, tablesIn};
+ghost use Rattle.model_writer.specs.Bytes.{valueRange, joinedOf, putFive, RowIn, wordFor, wordsFor, StartsFit, RowsFit, Writable, tablesIn};
 use closure::CHAINS;
 use closure::Heads;
 use closure::Numbers;
@@ -195,7 +195,7 @@ fn put_five(out: &mut [u8], at: usize, word: u64)
 // The second argument as it is written: 0 for a function of one argument.
 fn second_written(header: Header, f: u16, b: u16) -> u16
     requires { ⌜ f < mostFunctions ⌝ }
-    ensures { λ r. ⌜ r ≡ written header f b ⌝ }
+    ensures { λ r. ⌜ r ≡ secondWritten header f b ⌝ }
 {
     if words::takes_two(header, f as u8) {
         b

@@ -6,12 +6,11 @@ use letters::refusal_numbers::USE_WRONG;
 use tokens::Token;
 ghost use mathlib.Core.Path.{_≡_};
 ghost use Prim.Native.Nat.{_≤_, _<_};
-ghost use lib.Dec.{ltb};
 ghost use lib.ListN.{length};
 ghost use Rattle.letters.specs.Editions.{mostRegisters};
 ghost use Rattle.macros.specs.Tree.{test};
-ghost use Rattle.grammar.specs.Reading.{indexOf, refusedToken, expect as expectAt, useT, signT, condition as conditionAt, endedCondition as testedAt};
-ghost use Rattle.grammar.specs.Reading.{argumentsT, rightHandSide as valueAt, assignment as assignmentAt};
+ghost use Rattle.grammar.specs.Reading.{indexOf, isDeclared, refusedToken, expect as expectAt, useT, signT, condition as conditionAt};
+ghost use Rattle.grammar.specs.Reading.{endedCondition as testedAt, argumentsT, rightHandSide as valueAt, assignment as assignmentAt};
 ghost use Rattle.tokens.specs.Tokens.{tokenAt};
 ghost use Rattle.phrases.specs.Codes.{coded, plain, withoutValue, lettered, sameLetter, kind, comparing, carried, Few, secondAt, applicationAt};
 
@@ -55,7 +54,7 @@ fn find(list: &[u64], k: u64) -> u8
 /// Whether a name is in a list.
 pub fn is_known(list: &[u64], k: u64) -> bool
     requires { ⌜ length (now list) ≤ mostRegisters ⌝ }
-    ensures { λ r. ⌜ r ≡ ltb (indexOf k (now (list .entry))) (length (now (list .entry))) ⌝ }
+    ensures { λ r. ⌜ r ≡ isDeclared k (now (list .entry)) ⌝ }
 {
     let i = find(list, k);
     (i as usize) < list.len()

@@ -13,6 +13,7 @@ use lib.ListN.{length-replicate, List·getD-append, List·getD-eq-default}
 use lib.Seq.{paste, paste-suc, take-all, take-at, drop-at, set-at, append-snoc, drop-cons, drop-drop, drop-append-add, getD-append-add}
 use lib.Seq.{getD-drop, getD-take, length-take-le, take-add, take-append-le}
 use borrow.Author.Tests.{eq-eqb, eqb-true, eqb-false, ltb-true, ltb-false}
+use Rattle.base.specs.Bytes.{littleEndian}
 use Rattle.base.proofs.Theory.Choice.{byTest}
 use Rattle.base.specs.Masks.{bit}
 use Rattle.base.proofs.Theory.MaskLaws.{trailing-least}
@@ -32,7 +33,7 @@ use Rattle.records.specs.Formats.{numberIn, flag, isSet, mix, mixed, spr
 use Rattle.records.proofs.Theory.Pairs.{front-is}
 use Rattle.records.specs.Records.{firstFormat, emptyLine, codeBytes, partsOf, fingerprintOf, encoded, recordOf, recordBytes, encodedBytes}
 use Rattle.records.specs.Records.{codesAt, meaningsOf, resultsMeant, everIn, windowIn}
-use Rattle.records.specs.Words.{wordOf, octetsOf, wordsIn}
+use Rattle.records.specs.Words.{octetsOf, wordsIn}
 use Rattle.records.proofs.Theory.Words.{octets-back}
 
 pub lay-turn : (d s e : List ℕ) (at i : ℕ) → at + i < length d → i < length s → e ≡ paste d at s i → set e (at + i) (getD s i 0) ≡ paste d at s (i + 1)
@@ -56,47 +57,47 @@ four-taken s at h =
 
 pub half-made : (s : List ℕ) (at a b c d : ℕ) → at + 4 ≤ length s
     → a ≡ getD s at 0 → b ≡ getD s (at + 1) 0 → c ≡ getD s (at + 2) 0 → d ≡ getD s (at + 3) 0 → a < 256 → b < 256 → c < 256 → d < 256
-    → (a + b * 256 + c * 65536 + d * 16777216 ≡ wordOf (take 4 (drop at s)))
+    → (a + b * 256 + c * 65536 + d * 16777216 ≡ littleEndian (take 4 (drop at s)))
     × ((octetsOf 4 (a + b * 256 + c * 65536 + d * 16777216) ≡ take 4 (drop at s)) × (a + b * 256 + c * 65536 + d * 16777216 < 4294967296))
 half-made s at a b c d h p q r t u v x y =
     let e : take 4 (drop at s) ≡ a ∷ b ∷ c ∷ d ∷ [] = four-taken s at h ∙ rw (p, q, r, t) in
-    let n : a + b * 256 + c * 65536 + d * 16777216 ≡ wordOf (a ∷ b ∷ c ∷ d ∷ []) = omega arith in
-    (n ∙ ap (wordOf) (sym e), (ap (octetsOf 4) n ∙ octets-back (a ∷ b ∷ c ∷ d ∷ []) (u, (v, (x, (y, tt)))) ∙ sym e, omega arith))
+    let n : a + b * 256 + c * 65536 + d * 16777216 ≡ littleEndian (a ∷ b ∷ c ∷ d ∷ []) = omega arith in
+    (n ∙ ap (littleEndian) (sym e), (ap (octetsOf 4) n ∙ octets-back (a ∷ b ∷ c ∷ d ∷ []) (u, (v, (x, (y, tt)))) ∙ sym e, omega arith))
 
-eight-joined : (a b c d e f g h : ℕ) → wordOf (a ∷ b ∷ c ∷ d ∷ []) + wordOf (e ∷ f ∷ g ∷ h ∷ []) * 4294967296 ≡ wordOf
+eight-joined : (a b c d e f g h : ℕ) → littleEndian (a ∷ b ∷ c ∷ d ∷ []) + littleEndian (e ∷ f ∷ g ∷ h ∷ []) * 4294967296 ≡ littleEndian
     (a ∷ b ∷ c ∷ d ∷ e ∷ f ∷ g ∷ h ∷ [])
 eight-joined a b c d e f g h = omega arith
 
-pub word-made : (s : List ℕ) (at h l : ℕ) → h ≡ wordOf (take 4 (drop at s)) → octetsOf 4 h ≡ take 4 (drop at s)
-    → l ≡ wordOf (take 4 (drop (at + 4) s)) → octetsOf 4 l ≡ take 4 (drop (at + 4) s)
-    → (h + l * 4294967296 ≡ wordOf (take 8 (drop at s))) × (octetsOf 8 (h + l * 4294967296) ≡ take 8 (drop at s))
+pub word-made : (s : List ℕ) (at h l : ℕ) → h ≡ littleEndian (take 4 (drop at s)) → octetsOf 4 h ≡ take 4 (drop at s)
+    → l ≡ littleEndian (take 4 (drop (at + 4) s)) → octetsOf 4 l ≡ take 4 (drop (at + 4) s)
+    → (h + l * 4294967296 ≡ littleEndian (take 8 (drop at s))) × (octetsOf 8 (h + l * 4294967296) ≡ take 8 (drop at s))
 word-made s at h l p q r t =
     let e : take 8 (drop at s) ≡ octetsOf 4 h ++ octetsOf 4 l = take-add 4 4 (drop at s)
     ∙ ap (λ m. take 4 (drop at s) ++ take 4 m) (drop-drop 4 at s) ∙ rw (← q, ← t) in
-    let m : h + l * 4294967296 ≡ wordOf (octetsOf 4 h ++ octetsOf 4 l) =
-    ap₂ (λ x y. x + y * 4294967296) (p ∙ ap (wordOf) (sym q)) (r ∙ ap (wordOf) (sym t)) ∙ eight-joined _ _ _ _ _ _ _ _ in
+    let m : h + l * 4294967296 ≡ littleEndian (octetsOf 4 h ++ octetsOf 4 l) =
+    ap₂ (λ x y. x + y * 4294967296) (p ∙ ap (littleEndian) (sym q)) (r ∙ ap (littleEndian) (sym t)) ∙ eight-joined _ _ _ _ _ _ _ _ in
     let z : (n : ℕ) → n % 256 < 256 = (λ n. mod-lt n (omega arith)) in
     let sized : All< 256 (octetsOf 4 h ++ octetsOf 4 l) = (z _, (z _, (z _, (z _, (z _, (z _, (z _, (z _, tt)))))))) in
-    (m ∙ ap (wordOf) (sym e), ap (octetsOf 8) m ∙ octets-back (octetsOf 4 h ++ octetsOf 4 l) sized ∙ sym e)
+    (m ∙ ap (littleEndian) (sym e), ap (octetsOf 8) m ∙ octets-back (octetsOf 4 h ++ octetsOf 4 l) sized ∙ sym e)
 
 -- a number is 0 only if its bytes are
-four-none : (s : List ℕ) (at : ℕ) → at + 4 ≤ length s → wordOf (take 4 (drop at s)) ≡ 0 → (k : ℕ) → at ≤ k → k < at + 4 → getD s k 0 ≡ 0
+four-none : (s : List ℕ) (at : ℕ) → at + 4 ≤ length s → littleEndian (take 4 (drop at s)) ≡ 0 → (k : ℕ) → at ≤ k → k < at + 4 → getD s k 0 ≡ 0
 four-none s at h e k p q =
-    let n : wordOf (getD s at 0 ∷ getD s (at + 1) 0 ∷ getD s (at + 2) 0 ∷ getD s (at + 3) 0 ∷ []) ≡ 0 = sym
-    (ap (wordOf) (four-taken s at h)) ∙ e in
+    let n : littleEndian (getD s at 0 ∷ getD s (at + 1) 0 ∷ getD s (at + 2) 0 ∷ getD s (at + 3) 0 ∷ []) ≡ 0 = sym
+    (ap (littleEndian) (four-taken s at h)) ∙ e in
     byTest (eqb k at) (λ t. rw (eqb-true k at t) (omega arith))
     λ t. byTest (eqb k (at + 1)) (λ u. rw (eqb-true k (at + 1) u) (omega arith))
     λ u. byTest (eqb k (at + 2)) (λ v. rw (eqb-true k (at + 2) v) (omega arith))
     λ v. let z : k ≡ at + 3 = omega (arith, eqb-false k at t, eqb-false k (at + 1) u, eqb-false k (at + 2) v) in rw z (omega arith)
 
-eight-none : (s : List ℕ) (at : ℕ) → at + 8 ≤ length s → wordOf (take 8 (drop at s)) ≡ 0 → (k : ℕ) → at ≤ k → k < at + 8 → getD s k 0 ≡ 0
+eight-none : (s : List ℕ) (at : ℕ) → at + 8 ≤ length s → littleEndian (take 8 (drop at s)) ≡ 0 → (k : ℕ) → at ≤ k → k < at + 8 → getD s k 0 ≡ 0
 eight-none s at h e k p q =
     let x = take 4 (drop at s) in
     let y = take 4 (drop (at + 4) s) in
     let d : take 8 (drop at s) ≡ x ++ y = take-add 4 4 (drop at s) ∙ ap (λ m. x ++ take 4 m) (drop-drop 4 at s) in
-    let n : wordOf x + wordOf y * 4294967296 ≡ 0 =
+    let n : littleEndian x + littleEndian y * 4294967296 ≡ 0 =
     rw (four-taken s at (omega arith), four-taken s (at + 4) (omega arith)) (eight-joined _ _ _ _ _ _ _ _)
-    ∙ ap (wordOf) (sym (d ∙ ap₂ _++_ (four-taken s at (omega arith)) (four-taken s (at + 4) (omega arith)))) ∙ e in
+    ∙ ap (littleEndian) (sym (d ∙ ap₂ _++_ (four-taken s at (omega arith)) (four-taken s (at + 4) (omega arith)))) ∙ e in
     byTest (ltb k (at + 4)) (λ t. four-none s at (omega arith) (omega arith) k p (ltb-true k (at + 4) t))
     λ t. four-none s (at + 4) (omega arith) (omega arith) k (ltb-false k (at + 4) t) (omega arith)
 
@@ -204,7 +205,7 @@ module _ (result ever : List ℕ) where
   codes-past codes j line b h long e f t w = swept-past (codeByte result ever) blanks 4 (4 * j) (4 * (j + 1)) codes (omega arith) w (omega arith)
       (λ k p q. getD-replicate 128 k 0 0 (omega arith) ∙ none k p q)
     where
-      both : (emptyLine (take 8 (drop (8 * j) result)) line ≡ true) → (line ≡ 0) × (wordOf (take 8 (drop (8 * j) result)) ≡ 0)
+      both : (emptyLine (take 8 (drop (8 * j) result)) line ≡ true) → (line ≡ 0) × (littleEndian (take 8 (drop (8 * j) result)) ≡ 0)
       both = byTest (eqb line 0) (λ u. rw u λ v. (eqb-true line 0 u, eqb-true _ 0 v)) λ u. rw u λ v. absurd (let z : _≡_ {A = ℕ} 0 1 = cc in omega arith)
 
       entry : (x : ℕ) → 8 * j ≤ x → x < 8 * j + 8 → codeAt 8 result ever x ≡ 0
@@ -289,7 +290,7 @@ module _ (s : List ℕ) where
     second-code i k h e = rw (e, codes-are) (scattered-second (take 128 (drop 32 s)) i (omega (arith, bytes-long)) ∙ ap (λ b. b % 16) (code-byte-at i h))
 
     -- four bytes of codes that are 0
-    none-at : (j k : ℕ) → j < 32 → wordOf (take 4 (drop (32 + 4 * j) s)) ≡ 0 → 8 * j ≤ k → k < 8 * j + 8 → getD (codesAt s) k 0 ≡ 0
+    none-at : (j k : ℕ) → j < 32 → littleEndian (take 4 (drop (32 + 4 * j) s)) ≡ 0 → 8 * j ≤ k → k < 8 * j + 8 → getD (codesAt s) k 0 ≡ 0
     none-at j k h e p q =
         let z = four-none s (32 + 4 * j) (omega arith) e (32 + k / 2) (omega arith) (omega arith) in
         byTest (eqb (k % 2) 0) (λ t. first-code (k / 2) k (omega arith) (omega (arith, eqb-true (k % 2) 0 t)) ∙ rw z)
@@ -342,7 +343,7 @@ module _ (s : List ℕ) where
           (8 * j + 4) (getD meanings (c / 16) 0)) (8 * j + 5) (getD meanings (c % 16) 0)) (8 * j + 6) (getD meanings (d / 16) 0)) (8 * j + 7)
           (getD meanings (d % 16) 0))) n w₄
 
-      pub results-past : (result : List ℕ) (j r : ℕ) → j < 32 → getD meanings 0 0 ≡ 0 → r ≡ wordOf (take 4 (drop (32 + 4 * j) s)) → r ≡ 0
+      pub results-past : (result : List ℕ) (j r : ℕ) → j < 32 → getD meanings 0 0 ≡ 0 → r ≡ littleEndian (take 4 (drop (32 + 4 * j) s)) → r ≡ 0
           → Swept held 0 none (8 * j) result → Swept held 0 none (8 * (j + 1)) result
       results-past result j r h m f e w = swept-past held none 8 (8 * j) (8 * (j + 1)) result (omega arith) w (omega arith)
           (λ k p q. getD-replicate 256 k 0 0 (omega arith) ∙ sym (ap (λ c. getD meanings c 0) (none-at j k h (sym f ∙ e) p q) ∙ m))
@@ -377,7 +378,7 @@ module _ (s : List ℕ) where
           second-code (4 * j + 3) (8 * j + 7) (omega arith) (omega arith),
         ) (omega arith)
 
-    pub ever-past : (ever : List ℕ) (j r : ℕ) → j < 32 → r ≡ wordOf (take 4 (drop (32 + 4 * j) s)) → r ≡ 0
+    pub ever-past : (ever : List ℕ) (j r : ℕ) → j < 32 → r ≡ littleEndian (take 4 (drop (32 + 4 * j) s)) → r ≡ 0
         → Swept lineOf 0 (replicate 32 0) j ever → Swept lineOf 0 (replicate 32 0) (j + 1) ever
     unfolding formats.everMask assembled computedOf
     ever-past ever j r h f e w = swept-past lineOf (replicate 32 0) 1 j (j + 1) ever refl w (omega arith) (λ k p q.
@@ -414,10 +415,10 @@ module _ (p l : List ℕ) (n i j x y : ℕ) where
       let b : take n (drop i p) ++ drop (j + n) l ≡ drop j l = ap₂ _++_ (sym t) (sym (drop-drop n j l)) ∙ take-append-drop n (drop j l) in
       ap (λ m. sameFront (drop (i + n) p) (drop m l)) z ∙ sym (front-same (take n (drop i p)) (drop (i + n) p) (drop (j + n) l)) ∙ ap₂ sameFront a b
 
-  pub same-differ : x ≡ wordOf (take n (drop j l)) → y ≡ wordOf (take n (drop i p)) → (x ≡ y → ⊥) → i + n ≤ length p
+  pub same-differ : x ≡ littleEndian (take n (drop j l)) → y ≡ littleEndian (take n (drop i p)) → (x ≡ y → ⊥) → i + n ≤ length p
       → sameFront (drop i p) (drop j l) ≡ false
   same-differ f g d h = byTest (sameFront (drop i p) (drop j l))
-      (λ t. absurd (d (f ∙ ap wordOf (ap (take n) (front-is (drop i p) (drop j l) t)
+      (λ t. absurd (d (f ∙ ap littleEndian (ap (take n) (front-is (drop i p) (drop j l) t)
       ∙ take-append-le n (drop i p) _ (rw (length-drop i p) (omega arith))) ∙ sym g)))
       λ t. t
 
@@ -434,7 +435,7 @@ module _ (s : List ℕ) where
   abbrev words : ℕ → List ℕ
   words i = wordsIn (19 - i) (drop (8 * i) s)
 
-  pub mix-turn : (h i word : ℕ) → i < 19 → word ≡ wordOf (take 8 (drop (8 * i) s)) → mixed (mix h word) (words (i + 1)) ≡ mixed h (words i)
+  pub mix-turn : (h i word : ℕ) → i < 19 → word ≡ littleEndian (take 8 (drop (8 * i) s)) → mixed (mix h word) (words (i + 1)) ≡ mixed h (words i)
   unfolding mixed wordsIn
   mix-turn h i word l e =
       let n : 19 - i ≡ suc (19 - (i + 1)) = omega arith in

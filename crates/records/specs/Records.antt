@@ -4,6 +4,7 @@ use mathlib.Core.Bool.{Bool, false}
 use mathlib.Core.List.{List, [], _∷_, _++_}
 use lib.Dec.{eqb}
 use lib.ListN.{getD, drop, replicate}
+use Rattle.base.specs.Bytes.{littleEndian}
 use Rattle.base.specs.Choice.{pick}
 use Rattle.letters.specs.Editions.{firstEdition}
 use Rattle.semantics.specs.PackedTables.{units}
@@ -12,7 +13,6 @@ use Rattle.window.specs.Layout.{registers, functions}
 use Rattle.window.specs.declared.Window.{Window}
 use Rattle.records.specs.Formats as formats
 use Rattle.records.specs.Formats.{Format, numberBytes, contentPlace}
-use Rattle.records.specs.Words.{wordOf}
 unfoldable pub use Rattle.records.specs.Formats.{flag, isSet, parentIn, branchIn, pointIn, samePair}
 
 abbrev pub recordBytes : ℕ
@@ -25,12 +25,6 @@ firstFormat = record { registers = registers; functions = functions; maskBytes =
 -- How many codes there can be.
 abbrev pub codeRange : ℕ
 codeRange = 2 ^ firstFormat .codeBits
-
-abbrev pub firstFormatLines : ℕ
-firstFormatLines = formats.linesOfFormat firstFormat
-
-abbrev pub firstFormatResults : ℕ
-firstFormatResults = formats.resultsOfFormat firstFormat
 
 abbrev pub maskBytes : ℕ
 maskBytes = firstFormat .maskBytes
@@ -45,7 +39,7 @@ contentBytes = formats.contentBytesOfFormat firstFormat
 
 -- A line of results that holds nothing, and of which nothing was ever computed.
 unfoldable pub emptyLine : List ℕ → ℕ → Bool
-emptyLine results line = pick (eqb line 0) (λ _. eqb (wordOf results) 0) λ _. false
+emptyLine results line = pick (eqb line 0) (λ _. eqb (littleEndian results) 0) λ _. false
 
 -- The codes of all entries.
 abbrev pub codeBytes : List ℕ → List ℕ → List ℕ

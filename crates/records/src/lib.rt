@@ -8,12 +8,13 @@ ghost use mathlib.Core.Path.{_≡_};
 ghost use Prim.Native.Nat.{_+_, _*_, _/_, _%_, _≤_, _<_};
 ghost use mathlib.Core.List.{_++_, map};
 ghost use lib.ListN.{length, getD, take, drop, replicate};
+ghost use Rattle.base.specs.Bytes.{littleEndian};
 ghost use Rattle.base.specs.Masks.{bit};
 ghost use Rattle.semantics.specs.PackedTables.{units};
-ghost use Rattle.window.specs.Layout.{registers};
+ghost use Rattle.window.specs.Layout.{registers, lines, results};
 ghost use Rattle.records.specs.Codes.{codeOf, computedOf};
-ghost use Rattle.records.specs.Words.{fingerprintWordBytes, halfBytes, wordOf, octetsOf};
-ghost use Rattle.records.specs.Records.{recordBytes, contentBytes, codeRange, maskBytes, firstFormatLines, firstFormatResults, flag, emptyLine};
+ghost use Rattle.records.specs.Words.{fingerprintWordBytes, halfBytes, octetsOf};
+ghost use Rattle.records.specs.Records.{recordBytes, contentBytes, codeRange, maskBytes, flag, emptyLine};
 ghost use Rattle.records.specs.Records.{codeBytes, partsOf, fingerprintOf};
 ghost use Rattle.records.specs.Records.{encoded, recordOf, parentIn, branchIn, pointIn, samePair, isSet, meaningsOf, resultsMeant, codesAt, everIn};
 ghost use Rattle.records.specs.Records.{windowIn};
@@ -95,7 +96,7 @@ fn wide(x: u8) -> usize
 // Four bytes from a place on as one number, the least significant first: one load.
 fn half_in(bytes: &[u8], at: usize) -> usize
     requires { ⌜ at + halfBytes ≤ length (now bytes) ⌝ }
-    ensures { λ r. ⌜ r ≡ wordOf (take halfBytes (drop at (now (bytes .entry)))) ⌝ }
+    ensures { λ r. ⌜ r ≡ littleEndian (take halfBytes (drop at (now (bytes .entry)))) ⌝ }
     ensures back { λ r. ⌜ octetsOf halfBytes r ≡ take halfBytes (drop at (now (bytes .entry))) ⌝ }
     ensures small { λ r. ⌜ r < 4294967296 ⌝ }
 {
@@ -109,7 +110,7 @@ fn half_in(bytes: &[u8], at: usize) -> usize
 // Eight bytes from a place on. One test of a word passes over many entries, or compares many bytes.
 fn word_in(bytes: &[u8], at: usize) -> usize
     requires { ⌜ at + fingerprintWordBytes ≤ length (now bytes) ⌝ }
-    ensures { λ r. ⌜ r ≡ wordOf (take fingerprintWordBytes (drop at (now (bytes .entry)))) ⌝ }
+    ensures { λ r. ⌜ r ≡ littleEndian (take fingerprintWordBytes (drop at (now (bytes .entry)))) ⌝ }
     ensures back { λ r. ⌜ octetsOf fingerprintWordBytes r ≡ take fingerprintWordBytes (drop at (now (bytes .entry))) ⌝ }
 {
     half_in(bytes, at) + half_in(bytes, at + HALF_BYTES) * 4294967296
@@ -163,7 +164,7 @@ fn is_blank(result: &[u8], at: usize, line: u8) -> bool
 
 // The codes of all entries. Most lines are blank.
 fn codes(result: &[u8], ever: &[u8]) -> [u8; CODE_BYTES]
-    requires { ⌜ (length (now result) ≡ firstFormatResults) × (length (now ever) ≡ firstFormatLines) ⌝ }
+    requires { ⌜ (length (now result) ≡ results) × (length (now ever) ≡ lines) ⌝ }
     ensures { λ r. ⌜ r ≡ codeBytes (now (result .entry)) (now (ever .entry)) ⌝ }
 {
     let mut codes = [0u8; CODE_BYTES];
@@ -360,7 +361,7 @@ fn meanings(class: &[u8; REGISTERS]) -> [u8; CODES]
 
 // The results, by what each code says. Most lines have the code 0 only, and stay as they are.
 fn put_results(part: &[u8], meanings: &[u8; CODES], result: &mut [Mask; RESULTS])
-    requires { ⌜ (recordBytes ≤ length (now part)) × (getD (now meanings) 0 0 ≡ 0) × (now result ≡ replicate firstFormatResults 0) ⌝ }
+    requires { ⌜ (recordBytes ≤ length (now part)) × (getD (now meanings) 0 0 ≡ 0) × (now result ≡ replicate results 0) ⌝ }
     ensures { λ _. ⌜ now (result .exit) ≡ resultsMeant (now (meanings .entry)) (codesAt (now (part .entry))) ⌝ }
 {
     let mut j: usize = 0;

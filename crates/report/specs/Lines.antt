@@ -119,7 +119,8 @@ startLines register r (value ∷ values) = line (startWord ∷ register r ∷ bl
 -- "`row` with function, two arguments, result", the second argument 0 for a function of one, as in the packed bytes.
 unfoldable pub rowLine : (ℕ → List ℕ) → Header → Row → List ℕ
 rowLine function h r =
-    line (rowWord ∷ function (r .function) ∷ blankWord ∷ numeral (r .first) ∷ blankWord ∷ numeral (secondWritten h r) ∷ blankWord ∷ numeral (r .result) ∷ [])
+    let second = secondWritten h (r .function) (r .second) in
+    line (rowWord ∷ function (r .function) ∷ blankWord ∷ numeral (r .first) ∷ blankWord ∷ numeral second ∷ blankWord ∷ numeral (r .result) ∷ [])
 
 -- "`verdict` and pass, fail or incoherent. `pairs` and how many".
 unfoldable pub verdictLines : List ℕ → ℕ → List ℕ

@@ -16,11 +16,9 @@ ghost use mathlib.Core.List.{[], _∷_, _++_, map};
 ghost use Prim.Native.Nat.{_+_, _<_};
 ghost use lib.ListN.{getD, drop};
 ghost use Rattle.letters.specs.Editions.{firstEdition};
-ghost use Rattle.base.specs.Choice.{pick};
-ghost use Rattle.base.specs.Masks.{has};
 ghost use Rattle.letters.specs.declared.Letter.the-variants.{Apply};
 ghost use Rattle.semantics.specs.TablesRead.{unitsIn, rowFrom, readTables};
-ghost use Rattle.semantics.specs.PackedTables.{rowBytes, wordBytes};
+ghost use Rattle.semantics.specs.PackedTables.{rowBytes, wordBytes, secondWritten};
 ghost use Rattle.text.specs.Appending.{Appended, PlaceInRange};
 ghost use Rattle.text.specs.Numerals.{numeral};
 ghost use Rattle.text.specs.Names.{nameText};
@@ -224,7 +222,7 @@ fn put_starts(
 
 // A row's second argument as it is printed: 0 for a function of one argument.
 fn second_printed(h: Header, function: u8, second: u64) -> u64
-    ensures { λ r. ⌜ r ≡ pick (has (h .binary) function) (λ _. second) (λ _. 0) ⌝ }
+    ensures { λ r. ⌜ r ≡ secondWritten h function second ⌝ }
 {
     if takes_two(h, function) {
         return second;

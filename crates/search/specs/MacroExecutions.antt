@@ -19,7 +19,8 @@ use Rattle.syntax.specs.declared.MacroRead.{MacroRead}
 use Rattle.syntax.specs.declared.CompiledMacro as struct
 use Rattle.grammar.specs.Limits.{mostPoints}
 use Rattle.refusals.specs.Accepted.{Accepted}
-use Rattle.exploration.specs.Moves.{moveOf, noPoint}
+use Rattle.blocks.specs.Held.{unusedPoint}
+use Rattle.exploration.specs.Moves.{moveOf}
 use Rattle.exploration.specs.HeldPoints.{meant}
 
 -- The number of a branch in the code, 0 the first.
@@ -30,7 +31,7 @@ branchNumber second = 1
 module _ (program : struct.CompiledMacro) where
   -- The branches of point k of the table, as `choose` takes them. At the end, number `count`, there are none.
   abbrev pub branchesAt : ℕ → Branch → Move ℕ
-  branchesAt k b = pick (ltb k (program .count)) (λ _. meant (moveOf (getD (program .points) (k % mostPoints) noPoint) (branchNumber b))) λ _. no-move
+  branchesAt k b = pick (ltb k (program .count)) (λ _. meant (moveOf (getD (program .points) (k % mostPoints) unusedPoint) (branchNumber b))) λ _. no-move
 
   -- The letters w are performed from point 0 on, and lead to the place l.
   abbrev pub Performed : List Letter → Place ℕ → Type 0

@@ -1,5 +1,5 @@
 -- The packed trace of an execution, written from its last letter back, since the table leads from a pair to its parent.
-use Prim.Native.Nat.{ℕ, _+_, _-_, _*_, _/_, _%_, _<_}
+use Prim.Native.Nat.{ℕ, _+_, _-_, _*_, _<_}
 use mathlib.Core.List.{List, [], _∷_, map}
 use Rattle.letters.specs.Capacity.{mostPairs}
 use Rattle.letters.specs.declared.Header.{Header}
@@ -7,6 +7,7 @@ use Rattle.letters.specs.declared.Letter.{Letter}
 use Rattle.letters.specs.Answers.{Answer, value, refusal}
 use Rattle.letters.specs.Editions.{firstEdition, mostLetters}
 use Rattle.letters.specs.Encoding.{encodeHeader, encodeLetter}
+use Rattle.traces.specs.Traces.{bytesOf}
 use Rattle.table.specs.Table.{parentAt}
 
 -- The bytes of the longest trace: a header, and as many letters as the whole-trace engine takes.
@@ -30,14 +31,9 @@ abbrev pub wordOrZero : Answer ℕ → ℕ
 wordOrZero (value w) = w
 wordOrZero (refusal number place) = 0
 
--- The bytes of words, two a word.
-unfoldable pub bytesOfWords : List ℕ → List ℕ
-bytesOfWords [] = []
-bytesOfWords (w ∷ ws) = w / 256 ∷ w % 256 ∷ bytesOfWords ws
-
 abbrev pub letterWords : Header → List Letter → List ℕ
 letterWords h ls = map (λ a. wordOrZero (encodeLetter firstEdition h a)) ls
 
 -- The bytes of a trace.
 unfoldable pub traced : Header → List Letter → List ℕ
-traced h ls = bytesOfWords (wordOrZero (encodeHeader firstEdition h) ∷ letterWords h ls)
+traced h ls = bytesOf firstEdition (wordOrZero (encodeHeader firstEdition h) ∷ letterWords h ls)

@@ -7,8 +7,7 @@ use lib.ListN.{length, getD}
 use Rattle.semantics.specs.Terms.{_∈_, Term, con, app, State}
 use Rattle.semantics.specs.Closure.{Closure}
 use Rattle.semantics.specs.Models.{Model, Satisfies}
-use Rattle.semantics.specs.Tables.{Row, Tables, Describes, rowOf, sameCall}
-use Rattle.semantics.specs.Firsts.{NoRepeats}
+use Rattle.semantics.specs.Tables.{Row, Tables, Describes, rowOf}
 
 -- The values of the terms l are exactly the numbers 1 to c.
 abbrev pub Filled : (Term → ℕ) → List Term → ℕ → Type 0
@@ -30,7 +29,8 @@ pub record RowListing (U : List Term) (value : Term → ℕ) (rows : List Row) :
   pub computed : (r : Row) → r ∈ rows → (f : ℕ) × (s : Term) × (t : Term) × (app f s t ∈ U) × (r ≡ rowOf value f s t)
   pub complete : (f : ℕ) (s t : Term) → app f s t ∈ U → rowOf value f s t ∈ rows
   -- no row has the function and the arguments of one before it
-  pub distinct : NoRepeats sameCall rows
+  pub distinct : (earlier later : List Row) (r : Row) → rows ≡ earlier ++ r ∷ later → (q : Row) → q ∈ earlier
+      → ¬ ((q .function ≡ r .function) × (q .first ≡ r .first) × (q .second ≡ r .second))
   -- a row is that of an application before which only applications of earlier rows are computed
   pub ordered : (earlier later : List Row) (r : Row) → rows ≡ earlier ++ r ∷ later
       → (before : List Term) × (after : List Term) × (f : ℕ) × (s : Term) × (t : Term) × (U ≡ before ++ app f s t ∷ after) × (r ≡ rowOf value f s t)

@@ -23,12 +23,15 @@ abbrev pub wordBytes : ℕ
 wordBytes = 2
 
 -- The second argument as it is written: 0 for a function of one argument, whose row has its argument twice.
-unfoldable pub secondWritten : Header → Row → ℕ
-secondWritten h r = pick (has (h .binary) (r .function)) (λ _. r .second) λ _. 0
+unfoldable pub secondWritten : Header → ℕ → ℕ → ℕ
+secondWritten h f b = pick (has (h .binary) f) (λ _. b) λ _. 0
+
+abbrev pub rowFields : Header → Row → List ℕ
+rowFields h r = r .function ∷ r .first ∷ secondWritten h (r .function) (r .second) ∷ r .result ∷ 0 ∷ []
 
 -- A row as one number.
 unfoldable pub packedRow : Edition → Header → Row → ℕ
-packedRow w h r = join (rowWidths w) (r .function ∷ r .first ∷ secondWritten h r ∷ r .result ∷ 0 ∷ [])
+packedRow w h r = join (rowWidths w) (rowFields h r)
 
 -- The tables as bytes.
 unfoldable pub packTables : Edition → Header → Tables → List ℕ

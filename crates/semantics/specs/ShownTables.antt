@@ -1,7 +1,8 @@
 -- The tables that are shown (document 01, "The shown model"), computed: for the computed terms U, the oldest first, and the equal tests E.
 use mathlib.Core.List.{reverse, List, [], _∷_}
 use Rattle.semantics.specs.Terms.{State, Term, con, app}
-use Rattle.semantics.specs.Tables.{Tables, Row, rowOf, sameCall}
+use mathlib.Core.Bool.{Bool}
+use Rattle.semantics.specs.Tables.{Tables, Row, lists, rowOf}
 use Prim.Native.Nat.{ℕ, zero, suc}
 use Rattle.semantics.specs.Decide.{alike}
 use Rattle.semantics.specs.Firsts.{firstsAfter, firstPlace}
@@ -20,6 +21,10 @@ unfoldable pub applications : (Term → ℕ) → List Term → List Row
 applications v [] = []
 applications v (con r ∷ ts) = applications v ts
 applications v (app f s t ∷ ts) = rowOf v f s t ∷ applications v ts
+
+-- The two rows have one function and one pair of arguments.
+abbrev pub sameCall : Row → Row → Bool
+sameCall r s = lists (r .function) (r .first) (r .second) s
 
 -- "One row for each distinct application, in order of first computation."
 unfoldable pub rowsOf : List Term → List (Term × Term) → List Row

@@ -41,7 +41,3 @@ pub record Describes (t : Tables) (M : Model) : Type 0 where
 -- The row of an application, by the values of its terms.
 abbrev pub rowOf : (Term → ℕ) → ℕ → Term → Term → Row
 rowOf v f s t = record { function = f; first = v s; second = v t; result = v (app f s t) }
-
--- The two rows have one function and one pair of arguments.
-abbrev pub sameCall : Row → Row → Bool
-sameCall r s = lists (r .function) (r .first) (r .second) s

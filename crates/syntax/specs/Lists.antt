@@ -1,16 +1,11 @@
 -- The lists of names as arrays hold them while they are read.
 use mathlib.Core.Path.{_≡_}
 use Prim.Native.Nat.{ℕ, _≤_}
-use mathlib.Core.Bool.{Bool}
 use mathlib.Core.List.{List}
-use lib.Dec.{ltb}
 use lib.ListN.{length, take}
-use Rattle.grammar.specs.Reading.{Got, indexOf}
+use Rattle.grammar.specs.Reading.{Got}
 use Rattle.phrases.specs.declared.GotNumber as number
 use Rattle.syntax.specs.Answer.{padded}
-
-abbrev pub taken : ℕ → List ℕ → Bool
-taken k l = ltb (indexOf k l) (length l)
 
 -- the first `count` of n entries are names, and 0 stands behind them
 pub record NamesPadded (n : ℕ) (names : List ℕ) (count : ℕ) : Type 0 where

@@ -22,12 +22,12 @@ ghost use lib.Dec.{eqb};
 ghost use lib.ListN.{take, length};
 ghost use Rattle.letters.specs.Editions.{mostRegisters, mostFunctions};
 ghost use Rattle.grammar.specs.Grammar.{binaryOf};
-ghost use Rattle.grammar.specs.Reading.{Got, listedT, registerNames as registersAt, functionEntries as functionsAt, functionsT, arityOf};
+ghost use Rattle.grammar.specs.Reading.{Got, isDeclared, listedT, registerNames as registersAt, functionEntries as functionsAt, functionsT, arityOf};
 ghost use Rattle.tokens.specs.Tokens.{tokenAt};
 ghost use Rattle.phrases.specs.Codes.{plain};
 ghost use Rattle.blocks.specs.Held.{heldBy};
 ghost use Rattle.syntax.specs.Answer.{noMacro, heldReading, heldRegisters, heldFunctions, refusedTokenNumber, bodyFrom, functionsFrom};
-ghost use Rattle.syntax.specs.Lists.{taken, NamesPadded, refusedBy};
+ghost use Rattle.syntax.specs.Lists.{NamesPadded, refusedBy};
 ghost use Rattle.syntax.specs.Reads.{Reads};
 ghost use Rattle.syntax.specs.Top.{RegistersPadded, FunctionsPadded, Finishes, headed, readerStart, arityFlag};
 
@@ -135,7 +135,7 @@ fn no_functions(number: u8, place: usize) -> Functions
 // Whether no register of this name can be declared any more.
 fn is_register_taken(names: [u64; MOST_REGISTERS], count: usize, k: u64) -> bool
     requires { ⌜ NamesPadded mostRegisters names count ⌝ }
-    ensures { λ r. ⌜ r ≡ (eqb count mostRegisters || taken k (take count names)) ⌝ }
+    ensures { λ r. ⌜ r ≡ (eqb count mostRegisters || isDeclared k (take count names)) ⌝ }
 {
     if count == MOST_REGISTERS {
         return true;
@@ -189,7 +189,7 @@ fn read_registers(text: &[u8], from: usize) -> Registers
 // Whether no function of this name can be declared any more.
 fn is_function_taken(regs: &[u64], names: [u64; MOST_FUNCTIONS], count: usize, k: u64) -> bool
     requires { ⌜ (length (now regs) ≤ mostRegisters) × NamesPadded mostFunctions names count ⌝ }
-    ensures { λ r. ⌜ r ≡ (eqb count mostFunctions || (taken k (now (regs .entry)) || taken k (take count names))) ⌝ }
+    ensures { λ r. ⌜ r ≡ (eqb count mostFunctions || (isDeclared k (now (regs .entry)) || isDeclared k (take count names))) ⌝ }
 {
     if count == MOST_FUNCTIONS {
         return true;

@@ -4,10 +4,10 @@ use mathlib.Core.List.{List, [], _∷_}
 use lib.Dec.{eqb}
 use Rattle.base.specs.Choice.{pick}
 use Rattle.base.specs.Recursion.{fixed}
-use Rattle.tokens.specs.Bytes.{keyBase}
+use Rattle.base.specs.Bytes.{byteValues}
 
 abbrev pub nameStep : (ℕ → List ℕ) → ℕ → List ℕ
-nameStep f w = pick (eqb w 0) (λ _. []) λ _. w % keyBase ∷ f (w / keyBase)
+nameStep f w = pick (eqb w 0) (λ _. []) λ _. w % byteValues ∷ f (w / byteValues)
 
 -- The bytes of a name.
 unfoldable pub nameText : ℕ → List ℕ

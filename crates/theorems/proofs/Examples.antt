@@ -1,16 +1,29 @@
--- The definitions that the claims about models rest on hold of something and not of everything.
-use mathlib.Core.Path.{refl}
+-- The definitions that the claims rest on hold of something and not of everything: those of models, of the values of registers (Definition 3) and of
+-- the stricter condition on equal tests.
+use mathlib.Core.Path.{_≡_, refl}
 use mathlib.Core.Logic.{_≢_}
 use mathlib.Core.List.{List·Memᴰ·head}
+use Prim.Native.Nat.{ℕ}
+use native.Mathlib.Omega.{arith}
+use lib.Dec.{lit<}
+use Rattle.letters.specs.Coding.{fitsTest, applyTest}
 use Rattle.letters.specs.declared.Header.{Header}
-use Rattle.letters.specs.declared.Letter.the-variants.{Unequal}
-use Rattle.semantics.specs.Terms.{Trace, begin, _▸_, state}
+use Rattle.letters.specs.declared.Letter.the-variants.{Apply, Equal, Unequal}
+use Rattle.semantics.specs.Terms.{Term, con, Trace, begin, _▸_, state}
 use Rattle.semantics.specs.Facts.{WellFormed}
 use Rattle.semantics.specs.Models.{Model, Feasible}
 use Rattle.semantics.specs.Tables.{Tables, Describes}
 use Rattle.semantics.specs.Numbering.{ShownModel}
 use Rattle.semantics.specs.ShownTables.{tablesOf}
+use Rattle.semantics.proofs.Theory.Facts.{state-valid}
+use Rattle.semantics.proofs.Theory.Judge.{coherent-is, formed-e}
+use Rattle.semantics.proofs.Theory.PaperLaws.{constants-computed}
+use Rattle.semantics.proofs.Theory.Examples.{one}
+use Rattle.semantics.proofs.Theory.Witnesses.{early-slip, early-by-definition-5, early-by-document-01}
 use Rattle.verdict_theory.proofs.Theory.AnswerPacking.{shown-tables}
+use Rattle.theorems.specs.Definition3.{Definition3}
+use Rattle.theorems.specs.Stricter.{Stricter}
+use Rattle.theorems.proofs.Steps.Traces.{early-is, coherent-exactly}
 
 -- Two registers and no function.
 abbrev two : Header
@@ -27,3 +40,26 @@ infeasible-trace-has-none t m = m .satisfies .unequal-hold _ _ (List·Memᴰ·he
 -- Tables describe no model with another count of values.
 pub another-count-is-not-described : (t : Tables) (M : Model) → M .count ≢ t .count → ¬ Describes t M
 another-count-is-not-described t M n d = n (d .count)
+
+-- Registers that keep their first constants do not have the values of Definition 3, for `x := y` copies nothing then.
+pub constants-are-not-the-values : Definition3 (λ ρ r. con r) → ⊥
+constants-are-not-the-values d =
+    let e : _≡_ {A = Term} (con 1) (con 0) = d .copied (begin two) 1 0 in
+    let z : _≡_ {A = ℕ} 1 0 = cc in omega arith
+
+-- z:=f(x), x=y meets the stricter condition: the argument x of the application above x is held. Registers x y z are 0 1 2.
+abbrev argument-held : Trace
+argument-held = one 3 ▸ Apply 2 0 0 0 ▸ Equal 0 1
+
+pub a-held-argument-is-enough : Stricter argument-held
+unfolding fitsTest applyTest
+a-held-argument-is-enough =
+    let w = formed-e argument-held tt in
+    coherent-exactly argument-held w .0 (coherent-is argument-held w .0 tt) .1
+
+-- u:=f(y,w), v:=f(z,w), w:=y, y=z does not: no register holds the argument w that both applications had. Definition 5 lets the test through.
+pub a-lost-argument-is-not : ¬ Stricter (early-slip ▸ Equal 3 4)
+unfolding fitsTest applyTest
+a-lost-argument-is-not (p, held) =
+    let v = state-valid early-slip (formed-e early-slip tt) in
+    early-by-document-01 (early-is (state early-slip) v (constants-computed early-slip) 3 4 (lit< tt) (lit< tt) .1 (early-by-definition-5, held))

@@ -1,10 +1,11 @@
 -- The bytes of a macro's text (document 01, "Macro text").
-use Prim.Native.Nat.{ℕ, suc, _+_, _*_}
+use Prim.Native.Nat.{ℕ, suc}
 use mathlib.Core.Bool.{Bool, true, false, not, _&&_, _||_}
 use mathlib.Core.List.{List, [], _∷_}
 use lib.Dec.{leb, eqb}
 use lib.ListN.{getD}
 use Rattle.base.specs.Choice.{pick}
+use Rattle.base.specs.Bytes.{littleEndian}
 
 -- space, tab, CR, LF
 abbrev pub blank : ℕ → Bool
@@ -52,10 +53,6 @@ width (b ∷ s) =
     λ _. pick (mark b) (λ _. pick (eqb (getD s 0 0) 61) (λ _. 2) λ _. 0)
     λ _. pick (symbol b) (λ _. 1) λ _. 0
 
--- A token is held as a number: its bytes as digits to this base, the first byte lowest.
-abbrev pub keyBase : ℕ
-keyBase = 256
-
+-- A token is held as a number.
 abbrev pub key : List ℕ → ℕ
-key [] = 0
-key (b ∷ s) = b + keyBase * key s
+key = littleEndian

@@ -4,7 +4,8 @@ use Prim.Native.Nat.{ℕ, _%_}
 use mathlib.Core.Bool.{Bool, not, _&&_, _||_}
 use mathlib.Core.List.{[], _∷_}
 use lib.Dec.{eqb}
-use Rattle.tokens.specs.Bytes.{lower, keyBase, key}
+use Rattle.base.specs.Bytes.{byteValues}
+use Rattle.tokens.specs.Bytes.{lower, key}
 
 -- What stands in a token's place: at the end of the text, and for what is no token. Every token is greater.
 abbrev pub end : ℕ
@@ -80,7 +81,7 @@ slashKey = key (47 ∷ [])
 
 -- A token is a name if it begins with a lower-case letter and is none of the words; a token that begins so goes on as a name does.
 abbrev pub isName : ℕ → Bool
-isName k = lower (k % keyBase) && not (keyword k)
+isName k = lower (k % byteValues) && not (keyword k)
 
 -- When two names are the same.
 abbrev pub sameName : ℕ → ℕ → Bool

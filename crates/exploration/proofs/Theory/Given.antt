@@ -16,12 +16,12 @@ use Rattle.macros.proofs.Theory.Fitting.{FitsMove, points-fit}
 use Rattle.macros.specs.Order.{Branch}
 use Rattle.grammar.specs.Grammar.{headerOf}
 use Rattle.blocks.specs.declared.PointEntry.{PointEntry}
-use Rattle.blocks.specs.Held.{heldPoint, pointTable}
+use Rattle.blocks.specs.Held.{unusedPoint, heldPoint, pointTable}
 use Rattle.verdict_theory.proofs.Theory.Pairs.{Setting}
 use Rattle.window.specs.declared.Window.{Window}
 use Rattle.window.specs.Perform.{freshOf}
 use Rattle.window.specs.Step.{IsWindow}
-use Rattle.exploration.specs.Moves.{moveOf, noPoint}
+use Rattle.exploration.specs.Moves.{moveOf}
 use Rattle.exploration.proofs.Theory.Store.{branchNumbered}
 use Rattle.exploration.specs.HeldPoints.{meant}
 use Rattle.exploration.proofs.Theory.HeldPoints.{branch-meant, held-at}
@@ -70,11 +70,11 @@ module _ (given : Given) where
   }
 
   -- the branches that are held are the macro's
-  pub branch-held : (k b : ℕ) → k < end → meant (moveOf (getD held (k % mostPoints) noPoint) b) ≡ moves-at (points.points body) k (branchNumbered b)
+  pub branch-held : (k b : ℕ) → k < end → meant (moveOf (getD held (k % mostPoints) unusedPoint) b) ≡ moves-at (points.points body) k (branchNumbered b)
   branch-held k b l =
       let (x, e) = within-list (points.points body) k (omega (arith, compileBlock-length body 0 end)) in
       let f : k % mostPoints ≡ k = omega (arith, given .few) in
-      ap (λ y. meant (moveOf y b)) (ap (λ z. getD held z noPoint) f
+      ap (λ y. meant (moveOf y b)) (ap (λ z. getD held z unusedPoint) f
       ∙ held-at (points.points body) (mostPoints - length (map heldPoint (points.points body))) k x e)
       ∙ branch-meant x b ∙ ap (λ o. moved o (branchNumbered b)) (sym e)
 

@@ -18,7 +18,7 @@ use Rattle.window.specs.Perform.{WithinPacking}
 use Rattle.window.proofs.Theory.Step.{fits-within}
 use Rattle.exploration.specs.declared.PointMove as enum
 use Rattle.exploration.specs.declared.PointMove.the-variants.{Nothing, Goes, Fails}
-use Rattle.exploration.specs.Moves.{oppositeOf, moveOf, letterOf, noPoint}
+use Rattle.exploration.specs.Moves.{oppositeOf, moveOf, letterOf}
 use Rattle.exploration.specs.LetterBounds.{AllWithin}
 use Rattle.exploration.proofs.Theory.Store.{branchNumbered}
 use Rattle.exploration.specs.HeldPoints.{meant}
@@ -38,24 +38,24 @@ branch-meant (points.fork c i j) zero = refl
 branch-meant (points.fork c i j) (suc b) = rw (ne-eqb (suc b) 0 λ e. omega arith) (ap (λ a. move a (at j)) (opposite-is c))
 
 -- ── the points in the table ──
-unused-at : (n k : ℕ) → getD (replicate n unusedPoint) k noPoint ≡ noPoint
+unused-at : (n k : ℕ) → getD (replicate n unusedPoint) k unusedPoint ≡ unusedPoint
 unused-at zero k = refl
 unused-at (suc n) zero = refl
 unused-at (suc n) (suc k) = unused-at n k
 
 pub held-at : (ps : List points.Point) (n k : ℕ) (x : points.Point) → getElem? ps k ≡ some x
-    → getD (map heldPoint ps ++ replicate n unusedPoint) k noPoint ≡ heldPoint x
+    → getD (map heldPoint ps ++ replicate n unusedPoint) k unusedPoint ≡ heldPoint x
 held-at [] n k x e = absurd (let z : _≡_ {A = ℕ} 0 1 = cc in omega arith)
 held-at (y ∷ ps) n zero x e = let f : y ≡ x = cc in ap heldPoint f
 held-at (y ∷ ps) n (suc k) x e = held-at ps n k x e
 
-held-past : (ps : List points.Point) (n k : ℕ) → getElem? ps k ≡ none → getD (map heldPoint ps ++ replicate n unusedPoint) k noPoint ≡ noPoint
+held-past : (ps : List points.Point) (n k : ℕ) → getElem? ps k ≡ none → getD (map heldPoint ps ++ replicate n unusedPoint) k unusedPoint ≡ unusedPoint
 held-past [] n k e = unused-at n k
 held-past (y ∷ ps) n zero e = absurd (let z : _≡_ {A = ℕ} 0 1 = cc in omega arith)
 held-past (y ∷ ps) n (suc k) e = held-past ps n k e
 
 -- ── their letters lie within the packing ──
-copy-within : (b : ℕ) → WithinPacking (letterOf (moveOf noPoint b))
+copy-within : (b : ℕ) → WithinPacking (letterOf (moveOf unusedPoint b))
 unfolding moveOf
 copy-within zero = (omega arith, omega arith)
 copy-within (suc b) = rw (ne-eqb (suc b) 0 λ e. omega arith) (omega arith, omega arith)
@@ -70,7 +70,7 @@ module _ (h : Header) (registers : h .registers ≤ 8) (functions : h .functions
   all-within m p n k b = go (getElem? (points.points m) k) refl
     where
       go : (o : Option points.Point) → getElem? (points.points m) k ≡ o
-          → WithinPacking (letterOf (moveOf (getD (map heldPoint (points.points m) ++ replicate n unusedPoint) k noPoint) b))
+          → WithinPacking (letterOf (moveOf (getD (map heldPoint (points.points m) ++ replicate n unusedPoint) k unusedPoint) b))
       go none e = subst (λ x. WithinPacking (letterOf (moveOf x b))) (sym (held-past (points.points m) n k e)) (copy-within b)
       go (some x) e =
           let f : FitsMove h (moves-at (points.points m) k (branchNumbered b)) = points-fit h m p k (branchNumbered b) in

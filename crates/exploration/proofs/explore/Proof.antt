@@ -7,7 +7,7 @@ use Rattle.grammar.specs.Limits.{mostPoints}
 use Rattle.records.specs.Records.{recordBytes}
 use Rattle.index.specs.Index.{IndexedPairs}
 use Rattle.index.proofs.Theory.IndexLaws.{index-begins}
-use Rattle.exploration.specs.Moves.{noPoint}
+use Rattle.blocks.specs.Held.{unusedPoint}
 use Rattle.exploration.specs.Exploring.{exploreFrom, exploreOf}
 use Rattle.exploration.proofs.Theory.ExploringLaws.{on-within, goes-on, ends-full, ends-breaking, ends-failing, ends-pass}
 use Rattle.exploration.specs.Keeping.{Carried}
@@ -90,8 +90,8 @@ loop-again c = let a = (c .before .before .before .before .before .before .befor
     let m = (c .before .before .before .before .before .one-move) in let e = (c .before .turn .given .1) in
     let w = on-within (a .t1) (a .end) (a .n) (l .count) (l .d) (l .table) (omega arith)
     (c .before .before .before .before .before .before .before .before .before .before .before .before .before .before .loop-test .taken)
-    (getD (a .t1) ((c .before .before .before .before .before .before .before .before .before .before .point-at .result) % mostPoints) noPoint) (m .result)
-    (m .last .1 .1 .1 .0) (ap (λ k. getD (a .t1) (k % mostPoints) noPoint)
+    (getD (a .t1) ((c .before .before .before .before .before .before .before .before .before .before .point-at .result) % mostPoints) unusedPoint) (m .result)
+    (m .last .1 .1 .1 .0) (ap (λ k. getD (a .t1) (k % mostPoints) unusedPoint)
     (c .before .before .before .before .before .before .before .before .before .before .point-at .ensures)) (m .ensures .0) (m .ensures .1)
     (c .before .turn .given .0 .0) e in (
       omega (arith, w .0),
@@ -102,8 +102,8 @@ loop-again c = let a = (c .before .before .before .before .before .before .befor
       search needs,
       sym (goes-on (a .t1) (a .end) (a .n) (l .count) (l .d) (l .table) (omega arith)
           (c .before .before .before .before .before .before .before .before .before .before .before .before .before .before .loop-test .taken)
-          (getD (a .t1) ((c .before .before .before .before .before .before .before .before .before .before .point-at .result) % mostPoints) noPoint)
-          (m .result) (m .last .1 .1 .1 .0) (ap (λ k. getD (a .t1) (k % mostPoints) noPoint)
+          (getD (a .t1) ((c .before .before .before .before .before .before .before .before .before .before .point-at .result) % mostPoints) unusedPoint)
+          (m .result) (m .last .1 .1 .1 .0) (ap (λ k. getD (a .t1) (k % mostPoints) unusedPoint)
           (c .before .before .before .before .before .before .before .before .before .before .point-at .ensures)) (m .ensures .0) (m .ensures .1)
           (c .before .turn .given .0 .0) e)
           ∙ l .inv .6,
@@ -131,8 +131,8 @@ returns c =
     let a = (at-args .args) in let l = (at-loop .loop) in
     let m = (at-one-move .one-move) in
     let q = sym (l .inv .6) ∙ ends-full (a .t1) (a .end) (a .n) (l .count) (l .d) (l .table) (omega arith) (at-loop-test .loop-test .taken)
-    (getD (a .t1) ((at-point-at .point-at .result) % mostPoints) noPoint) (m .result)
-    (m .last .1 .1 .1 .0) (ap (λ k. getD (a .t1) (k % mostPoints) noPoint) (at-point-at .point-at .ensures)) (m .ensures .0) (m .ensures .1)
+    (getD (a .t1) ((at-point-at .point-at .result) % mostPoints) unusedPoint) (m .result)
+    (m .last .1 .1 .1 .0) (ap (λ k. getD (a .t1) (k % mostPoints) unusedPoint) (at-point-at .point-at .ensures)) (m .ensures .0) (m .ensures .1)
     (c .enum-told .given .1) in (sym (ap (λ z. z .0) q), sym (ap (λ z. z .1) q))
 
 enum-told-2 : tie.Need-enum-told-2 Inv-loop μ-loop
@@ -151,8 +151,8 @@ returns-2 c =
     let a = (at-args .args) in let l = (at-loop .loop) in
     let m = (at-one-move .one-move) in
     let q = sym (l .inv .6) ∙ ends-breaking (a .t1) (a .end) (a .n) (l .count) (l .d) (l .table) (omega arith) (at-loop-test .loop-test .taken)
-    (getD (a .t1) ((at-point-at .point-at .result) % mostPoints) noPoint) (m .result)
-    (m .last .1 .1 .1 .0) (ap (λ k. getD (a .t1) (k % mostPoints) noPoint) (at-point-at .point-at .ensures)) (m .ensures .0) (m .ensures .1)
+    (getD (a .t1) ((at-point-at .point-at .result) % mostPoints) unusedPoint) (m .result)
+    (m .last .1 .1 .1 .0) (ap (λ k. getD (a .t1) (k % mostPoints) unusedPoint) (at-point-at .point-at .ensures)) (m .ensures .0) (m .ensures .1)
     (c .enum-told2 .given .1) in (sym (ap (λ z. z .0) q), sym (ap (λ z. z .1) q))
 
 enum-told-3 : tie.Need-enum-told-3 Inv-loop μ-loop
@@ -171,8 +171,8 @@ returns-3 c =
     let a = (at-args .args) in let l = (at-loop .loop) in
     let m = (at-one-move .one-move) in
     let q = sym (l .inv .6) ∙ ends-failing (a .t1) (a .end) (a .n) (l .count) (l .d) (l .table) (omega arith) (at-loop-test .loop-test .taken)
-    (getD (a .t1) ((at-point-at .point-at .result) % mostPoints) noPoint) (m .result)
-    (m .last .1 .1 .1 .0) (ap (λ k. getD (a .t1) (k % mostPoints) noPoint) (at-point-at .point-at .ensures)) (m .ensures .0) (m .ensures .1)
+    (getD (a .t1) ((at-point-at .point-at .result) % mostPoints) unusedPoint) (m .result)
+    (m .last .1 .1 .1 .0) (ap (λ k. getD (a .t1) (k % mostPoints) unusedPoint) (at-point-at .point-at .ensures)) (m .ensures .0) (m .ensures .1)
     (c .enum-told3 .given .1) in (sym (ap (λ z. z .0) q), sym (ap (λ z. z .1) q))
 
 same-length-4 : tie.Need-same-length-4 Inv-loop μ-loop

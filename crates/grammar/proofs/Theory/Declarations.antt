@@ -22,7 +22,7 @@ use Rattle.grammar.proofs.Theory.Sound.{index-at, onward-got, expect-so
 use Rattle.grammar.proofs.Theory.Complete.{index-below, spells-key, spells-rest, spells-end, spells-split, expect-complete}
 
 -- one name more
-declared-more : (rs : List ℕ) (k : ℕ) → Declared rs → isName k ≡ true → ltb (indexOf k rs) (length rs) ≡ false → Declared (rs ++ k ∷ [])
+declared-more : (rs : List ℕ) (k : ℕ) → Declared rs → isName k ≡ true → isDeclared k rs ≡ false → Declared (rs ++ k ∷ [])
 declared-more rs k D n f = record { names = names; once = once }
   where
     size : length (rs ++ k ∷ []) ≡ length rs + 1
@@ -54,7 +54,7 @@ declared-more rs k D n f = record { names = names; once = once }
 -- a name declared later is not known yet
 unknown : (rs ks : List ℕ) (k : ℕ) → Declared (rs ++ k ∷ ks) → length rs ≤ indexOf k rs
 unknown rs ks k D =
-    byTest (ltb (indexOf k rs) (length rs))
+    byTest (isDeclared k rs)
     (λ t.
     let l = ltb-true (indexOf k rs) (length rs) t in
     let size = length-append rs (k ∷ ks) in
@@ -93,7 +93,7 @@ module _ (s : List ℕ) where
       ([], sym q ∙ sym (append-nil rs), subst Declared q D, subst (λ r. 1 ≤ length r) q n, omega arith, p)
   registers-sound (suc room) rs at r e D h =
       pick-case (isName (tokenAt s at .key)) _ _ _ h
-      (λ t g. pick-case (isDeclared s (tokenAt s at .key) rs) _ _ _ g (λ u f. absurd (not-refused f))
+      (λ t g. pick-case (isDeclared (tokenAt s at .key) rs) _ _ _ g (λ u f. absurd (not-refused f))
       λ u f.
       let k = tokenAt s at .key in
       let (ks, q, D′, n, l, p) = registers-sound room (rs ++ k ∷ []) (tokenAt s at .end) r e (declared-more rs k D t u) f in
@@ -116,7 +116,7 @@ module _ (s : List ℕ) where
       let size : length rs < length (rs ++ k ∷ ks) = omega (arith, length-append rs (k ∷ ks)) in
       let last : getD (rs ++ k ∷ ks) (length rs) 0 ≡ k = getD-append-seam rs k ks 0 in
       let real : isName (tokenAt s at .key) ≡ true = ap isName (j ∙ sym last) ∙ D .names (length rs) size in
-      let fresh : isDeclared s (tokenAt s at .key) rs ≡ false = le-ltb _ _ (subst (λ x. length rs ≤ indexOf x rs) (sym j) (unknown rs ks k D)) in
+      let fresh : isDeclared (tokenAt s at .key) rs ≡ false = le-ltb _ _ (subst (λ x. length rs ≤ indexOf x rs) (sym j) (unknown rs ks k D)) in
       let q = append-assoc rs (k ∷ []) ks in
       rw (real, fresh, j) (registers-complete ks (rs ++ k ∷ []) room (tokenAt s at .end) e (subst Declared (sym q) D) (subst (λ r. 1 ≤ length r) (sym q) n)
       (omega arith) (spells-rest s p) ∙ ap (λ r. got r e) q)
@@ -127,7 +127,7 @@ or-false : (a b : Bool) → a || b ≡ false → (a ≡ false) × (b ≡ false)
 or-false true b h = let z : _≡_ {A = ℕ} 0 1 = cc in absurd (omega arith)
 or-false false b h = (refl, h)
 
-apart-more : (rs fs : List ℕ) (k : ℕ) → Disjoint rs fs → ltb (indexOf k rs) (length rs) ≡ false → Disjoint rs (fs ++ k ∷ [])
+apart-more : (rs fs : List ℕ) (k : ℕ) → Disjoint rs fs → isDeclared k rs ≡ false → Disjoint rs (fs ++ k ∷ [])
 unfolding Disjoint
 apart-more rs fs k P f i j h g e =
     byTest (ltb j (length fs)) (λ t. let l = ltb-true j (length fs) t in P i j h l (e ∙ List·getD-append fs (k ∷ []) 0 j l))
@@ -175,10 +175,10 @@ module _ (s rs : List ℕ) where
       pick-case (isName (tokenAt s at .key)) _ _ _ h (λ t g. absurd (not-refused g)) λ t g. ended-list zero fs ns at r e D P g
   functions-sound (suc room) fs ns at r e D P h =
       pick-case (isName (tokenAt s at .key)) _ _ _ h
-      (λ t g. pick-case (isDeclared s (tokenAt s at .key) rs || isDeclared s (tokenAt s at .key) fs) _ _ _ g (λ u f. absurd (not-refused f))
+      (λ t g. pick-case (isDeclared (tokenAt s at .key) rs || isDeclared (tokenAt s at .key) fs) _ _ _ g (λ u f. absurd (not-refused f))
       λ u f.
       let k = tokenAt s at .key in
-      let (x, y) = or-false (isDeclared s k rs) (isDeclared s k fs) u in
+      let (x, y) = or-false (isDeclared k rs) (isDeclared k fs) u in
       let (n, b, g₂, h₂) = onward-got (arityOf s (tokenAt s at .end)) _ r e f in
       let (w, p₂) = arity-sound (tokenAt s at .end) n b g₂ in
       let (ks, ls, q, q′, D′, P′, A, m, l, p) =
@@ -202,9 +202,9 @@ module _ (s rs : List ℕ) where
       arity k n ks ls (inr q) A = subst (λ n. Arities (k ∷ ks) (n ∷ ls)) (sym q) (Arities.two A)
 
   -- entries that are spelled are read
-  foreign : (fs ks : List ℕ) (k : ℕ) → Disjoint rs (fs ++ k ∷ ks) → isDeclared s k rs ≡ false
+  foreign : (fs ks : List ℕ) (k : ℕ) → Disjoint rs (fs ++ k ∷ ks) → isDeclared k rs ≡ false
   unfolding Disjoint
-  foreign fs ks k P = byTest (isDeclared s k rs)
+  foreign fs ks k P = byTest (isDeclared k rs)
       (λ t. let l = ltb-true (indexOf k rs) (length rs) t in let size = length-append fs (k ∷ ks) in
       absurd (P (indexOf k rs) (length fs) l (omega arith) (sym (index-at k rs l) ∙ sym (getD-append-seam fs k ks 0))))
       λ t. t
@@ -237,8 +237,8 @@ module _ (s rs : List ℕ) where
   entry-complete k n ks ls fs ns room at b e D P j g h =
       let size : length fs < length (fs ++ k ∷ ks) = omega (arith, length-append fs (k ∷ ks)) in
       let real : isName (tokenAt s at .key) ≡ true = ap isName (j ∙ sym (getD-append-seam fs k ks 0)) ∙ D .names (length fs) size in
-      let far : isDeclared s (tokenAt s at .key) rs ≡ false = ap (λ k. isDeclared s k rs) j ∙ foreign fs ks k P in
-      let fresh : isDeclared s (tokenAt s at .key) fs ≡ false = le-ltb _ _ (subst (λ x. length fs ≤ indexOf x fs) (sym j) (unknown fs ks k D)) in
+      let far : isDeclared (tokenAt s at .key) rs ≡ false = ap (λ k. isDeclared k rs) j ∙ foreign fs ks k P in
+      let fresh : isDeclared (tokenAt s at .key) fs ≡ false = le-ltb _ _ (subst (λ x. length fs ≤ indexOf x fs) (sym j) (unknown fs ks k D)) in
       rw (real, far, fresh, g, j) (h ∙ λ i. got (append-assoc fs (k ∷ []) ks i, append-assoc ns (n ∷ []) ls i) e)
 
   pub functions-complete : (ks ls : List ℕ) → Arities ks ls → (fs ns : List ℕ) (room at e : ℕ) → Declared (fs ++ ks) → Disjoint rs (fs ++ ks)

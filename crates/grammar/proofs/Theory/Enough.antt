@@ -15,7 +15,7 @@ use Rattle.tokens.specs.Tokens.{tokenAt}
 use Rattle.tokens.proofs.Theory.TokensLaws.{token-advance, token-before-end}
 use Rattle.tokens.specs.Words.{isName}
 use Rattle.tokens.specs.Words as word
-use Rattle.grammar.specs.Reading.{Got, got, exhausted, andThen, indexOf, useT, signT, expect, ended, condition, argumentsT, rightHandSide, assignment}
+use Rattle.grammar.specs.Reading.{Got, got, exhausted, andThen, useT, signT, expect, ended, condition, argumentsT, rightHandSide, assignment}
 use Rattle.grammar.specs.Reading.{endedCondition, bracesT, elseT, statementT, block, statement, closing, listedT, isDeclared, registerNames, arityOf}
 use Rattle.grammar.specs.Reading.{functionEntries, functionsT}
 use Rattle.grammar.proofs.Theory.Reading.{readText, readMacro}
@@ -47,7 +47,7 @@ module _ (s : List ℕ) where
   use-answers : (rs : List ℕ) (at : ℕ) → IsAnswer (useT rs (tokenAt s at))
   use-answers rs at h =
       pick-case (isName (tokenAt s at .key)) _ _ _ h
-      (λ _ g. pick-case (ltb (indexOf (tokenAt s at .key) rs) (length rs)) _ _ _ g (λ _ f. got-answers f) λ _ f. refused-answers f)
+      (λ _ g. pick-case (isDeclared (tokenAt s at .key) rs) _ _ _ g (λ _ f. got-answers f) λ _ f. refused-answers f)
       λ _ g. refused-answers g
 
   sign-answers : (at : ℕ) → IsAnswer (signT (tokenAt s at))
@@ -165,7 +165,7 @@ module _ (s : List ℕ) where
   registers-answers zero rs at h = pick-case (isName (tokenAt s at .key)) _ _ _ h (λ _ g. refused-answers g) λ _. listed-answers (length rs) rs at
   registers-answers (suc room) rs at h =
       pick-case (isName (tokenAt s at .key)) _ _ _ h
-      (λ _ g. pick-case (isDeclared s (tokenAt s at .key) rs) _ _ _ g (λ _ f. refused-answers f) λ _. registers-answers room (rs ++ tokenAt s at .key ∷ [])
+      (λ _ g. pick-case (isDeclared (tokenAt s at .key) rs) _ _ _ g (λ _ f. refused-answers f) λ _. registers-answers room (rs ++ tokenAt s at .key ∷ [])
       (tokenAt s at .end))
       λ _. listed-answers (length rs) rs at
 
@@ -181,7 +181,7 @@ module _ (s : List ℕ) where
   functions-answers rs zero fs ns at h = pick-case (isName (tokenAt s at .key)) _ _ _ h (λ _ g. refused-answers g) λ _. listed-answers (length fs) (fs, ns) at
   functions-answers rs (suc room) fs ns at h =
       pick-case (isName (tokenAt s at .key)) _ _ _ h
-      (λ _ g. pick-case (isDeclared s (tokenAt s at .key) rs || isDeclared s (tokenAt s at .key) fs) _ _ _ g (λ _ f. refused-answers f)
+      (λ _ g. pick-case (isDeclared (tokenAt s at .key) rs || isDeclared (tokenAt s at .key) fs) _ _ _ g (λ _ f. refused-answers f)
       λ _. onward-answers (arityOf s (tokenAt s at .end)) _ (arity-answers (tokenAt s at .end)) λ n e _. functions-answers rs room
       (fs ++ tokenAt s at .key ∷ []) (ns ++ n ∷ []) e)
       λ _. listed-answers (length fs) (fs, ns) at

@@ -21,7 +21,7 @@ use Rattle.grammar.specs.Grammar.{header, conditionTokens, letterTokens,
 use Rattle.grammar.specs.Grammar.{NestsBlock}
 use Rattle.grammar.proofs.Theory.HeaderLaws.{arity-two}
 use Rattle.grammar.specs.Reading.{Got, got, exhausted, andThen, indexOf, useT, signT, compared, expect, ended, condition, argumentsT, rightHandSide}
-use Rattle.grammar.specs.Reading.{assignment, endedCondition, bracesT, elseT, statementT, block, statement, closing}
+use Rattle.grammar.specs.Reading.{isDeclared, assignment, endedCondition, bracesT, elseT, statementT, block, statement, closing}
 use Rattle.grammar.specs.Spelled.{Spells, Arities}
 
 -- ---- inversions
@@ -80,7 +80,7 @@ module _ (s : List ℕ) where
   use-sound rs at i e h =
       let k = tokenAt s at .key in
       pick-case (isName (tokenAt s at .key)) _ _ _ h
-      (λ n f. pick-case (ltb (indexOf (tokenAt s at .key) rs) (length rs)) _ _ _ f
+      (λ n f. pick-case (isDeclared (tokenAt s at .key) rs) _ _ _ f
       (λ t g.
       let l : indexOf (tokenAt s at .key) rs < length rs = ltb-true (indexOf (tokenAt s at .key) rs) (length rs) t in
       let j : indexOf (tokenAt s at .key) rs ≡ i = got-value g in

@@ -18,7 +18,7 @@ use Rattle.semantics.proofs.Theory.PackedTablesLaws.{units-length}
 use Rattle.model_writer.specs.Inserted.{inserted}
 use Rattle.model_writer.proofs.Theory.Inserted.{inserted-none, inserted-more, inserted-length}
 use Rattle.model_writer.specs.Bytes.{countsBytes, modelLength, valueRange, joinedOf}
-use Rattle.model_writer.specs.Bytes.{putFive, written, rowFor, wordFor, wordsFor, RowIn, StartsFit, RowsFit, tablesIn, Writable}
+use Rattle.model_writer.specs.Bytes.{putFive, rowFor, wordFor, wordsFor, RowIn, StartsFit, RowsFit, tablesIn, Writable}
 
 pub units-append : (k : ℕ) (ns ms : List ℕ) → units k (ns ++ ms) ≡ units k ns ++ units k ms
 unfolding units
@@ -88,9 +88,9 @@ units-turn k at i v ns out now next h l e q g =
     long : length (units k (take i ns)) ≡ k * i
     long = units-length k (take i ns) ∙ ap (λ n. k * n) (length-take-le i ns (omega arith))
 
-pub word-is : (h : Header) (values function first second : List ℕ) (i s : ℕ) → s ≡ written h (getD function i 0) (getD values (getD second i 0) 0)
+pub word-is : (h : Header) (values function first second : List ℕ) (i s : ℕ) → s ≡ secondWritten h (getD function i 0) (getD values (getD second i 0) 0)
     → joinedOf (getD function i 0) (getD values (getD first i 0) 0) s (getD values i 0) ≡ wordFor h values function first second i
-unfolding written wordFor rowFor packedRow secondWritten
+unfolding wordFor rowFor packedRow secondWritten
 word-is h values function first second i s e = rw (← e) (omega arith)
 
 map-take-at : (f : ℕ → ℕ) (l : List ℕ) (r k : ℕ) → k < r → k < length l → getD (map f (take r l)) k 0 ≡ f (getD l k 0)
@@ -139,21 +139,21 @@ module _ {k at : ℕ} {ns out : List ℕ} where
   units-all {now} {i} u h = u .so-far ∙ ap (λ l. inserted at (units k l) out) (take-all i ns h)
 
 -- ---- as `row_word` uses them
-written-small : (h : Header) (f b : ℕ) → b < valueRange → written h f b < valueRange
-unfolding written
-written-small h f b l = byTest (has (h .binary) f) (λ t. rw t l) (λ t. rw t (omega arith))
+second-small : (h : Header) (f b : ℕ) → b < valueRange → secondWritten h f b < valueRange
+unfolding secondWritten
+second-small h f b l = byTest (has (h .binary) f) (λ t. rw t l) (λ t. rw t (omega arith))
 
 module _ (h : Header) (values function first second : List ℕ) (i a b f A s S C : ℕ) (ea : a ≡ getD first i 0) (eb : b ≡ getD second i 0)
     (ef : f ≡ getD function i 0) (eA : A ≡ getD values a 0)
-    (es : s ≡ written h (getD function i 0) (getD values b 0)) (eS : S ≡ s) (eC : C ≡ getD values i 0) where
+    (es : s ≡ secondWritten h (getD function i 0) (getD values b 0)) (eS : S ≡ s) (eC : C ≡ getD values i 0) where
   pub word-of : joinedOf f A S C ≡ wordFor h values function first second i
-  word-of = rw (ef, eA, ea, eS, eC) (word-is h values function first second i s (es ∙ ap (λ k. written h (getD function i 0) (getD values k 0)) eb))
+  word-of = rw (ef, eA, ea, eS, eC) (word-is h values function first second i s (es ∙ ap (λ k. secondWritten h (getD function i 0) (getD values k 0)) eb))
 
   pub fields-small : RowIn values function first second i → (f < mostFunctions) × (A < valueRange) × (S < valueRange) × (C < valueRange)
   fields-small r = (
     rw ef (r .function-below),
     rw (eA, ea) (r .first-below),
-    rw (eS, es, eb) (written-small h (getD function i 0) (getD values (getD second i 0) 0) (r .second-below)),
+    rw (eS, es, eb) (second-small h (getD function i 0) (getD values (getD second i 0) 0) (r .second-below)),
     rw eC (r .result-below),
   )
 

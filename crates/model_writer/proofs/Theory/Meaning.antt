@@ -1,19 +1,18 @@
 -- What follows from the definitions of specs/Meaning.antt.
 use mathlib.Core.Path.{_≡_, refl, sym, _∙_, ap, subst}
 use mathlib.Core.Logic.{inl, inr, _≢_}
-use mathlib.Core.Bool.{Bool, _&&_}
+use mathlib.Core.Bool.{Bool}
 use mathlib.Core.List.{List, [], _∷_, _++_, map, map-append, reverse, reverse-cons, append-assoc, List·Memᴰ·head, List·Memᴰ·not-nil, List·Memᴰ·cases-cons}
 use mathlib.Core.List.{List·Memᴰ·append-cases, Memᴰ·append-left, Memᴰ·append-right}
 use Prim.Native.Nat.{ℕ, zero, suc, _+_, _≤_, _<_}
 use native.Mathlib.Omega.{arith}
 use native.Mathlib.Numerals.{add-one}
-use lib.Dec.{T, eqb, ltb, eqb→eq}
+use lib.Dec.{T, eqb, ltb}
 use lib.ListN.{length, getD, set, take, length-append}
 use lib.Seq.{take-suc-set, take-set-le}
-use borrow.Author.Tests.{eqb-true, eqb-false, eq-eqb, ltb-true, ltb-false}
+use borrow.Author.Tests.{eqb-true, eqb-false, ltb-true, ltb-false}
 use Rattle.base.proofs.Theory.Choice.{byTest}
 use Rattle.semantics.specs.Terms.{_∈_, Term, con, app, State}
-use Rattle.semantics.proofs.Theory.Booleans.{and-l, and-r}
 use Rattle.semantics.specs.Lists.{any}
 use Rattle.semantics.proofs.Theory.Lists.{any-e, any-i}
 use Rattle.semantics.proofs.Theory.TermEquality.{eqt→eq, eq→eqt, eqt-refl}
@@ -23,9 +22,10 @@ use Rattle.semantics.proofs.Theory.Decide.{alike-i, alike-e}
 use Rattle.semantics.specs.Firsts.{firstsAfter}
 use Rattle.semantics.proofs.Theory.FirstsLaws.{firsts-append, firsts-seen, firsts-new, firsts-any-i, firsts-any-e}
 use Rattle.semantics.proofs.Theory.FirstsLaws.{firsts-in}
-use Rattle.semantics.specs.Tables.{Row, sameCall, rowOf}
-use Rattle.semantics.specs.ShownTables.{applications, classesOf, rowsOf}
+use Rattle.semantics.specs.Tables.{Row, rowOf}
+use Rattle.semantics.specs.ShownTables.{sameCall, applications, classesOf, rowsOf}
 use Rattle.semantics.proofs.Theory.NumberingLaws as laws
+use Rattle.semantics.proofs.Theory.NumberingLaws.{call-i, call-e}
 use Rattle.semantics.specs.ShownTables.{shownValue}
 use Rattle.semantics.proofs.Theory.Shown.{number-i, number-e, reversed, back}
 use Rattle.closure.specs.Numbering.{nth}
@@ -81,17 +81,6 @@ applications-append v (con r ∷ l) m = applications-append v l m
 applications-append v (app f s t ∷ l) m = ap (λ r. rowOf v f s t ∷ r) (applications-append v l m)
 
 -- ---- two rows of one call
-call-i : (r s : Row) → r .function ≡ s .function → r .first ≡ s .first → r .second ≡ s .second → T (sameCall r s)
-call-i r s e u v = rw (eq-eqb (r .function) (s .function) e, eq-eqb (r .first) (s .first) u, eq-eqb (r .second) (s .second) v) tt
-
-call-e : (r s : Row) → T (sameCall r s) → (r .function ≡ s .function) × (r .first ≡ s .first) × (r .second ≡ s .second)
-call-e r s t =
-    let a = eqb (r .function) (s .function) in
-    let b = eqb (r .first) (s .first) in
-    let c = eqb (r .second) (s .second) in
-    let u = and-r a (b && c) t in
-    (eqb→eq (r .function) (s .function) (and-l a (b && c) t), eqb→eq (r .first) (s .first) (and-l b c u), eqb→eq (r .second) (s .second) (and-r b c u))
-
 call-refl : (r : Row) → T (sameCall r r)
 call-refl r = call-i r r refl refl refl
 

@@ -1,12 +1,12 @@
 use Prim.Native.Nat.{_-_}
 use mathlib.Core.Path.{sym, _∙_}
 use borrow.Author.Needs.{needs}
-use Rattle.model_writer.specs.Bytes.{written}
+use Rattle.semantics.specs.PackedTables.{secondWritten}
 use Rattle.model_writer.proofs.second_written.Statement.{statement}
 use Rattle.model_writer.proofs.second_written.Tie as tie
 
 pub second-written-spec : {M : Type 1} → statement M
-unfolding written
+unfolding secondWritten
 second-written-spec =
     tie.close
     (tie.spec

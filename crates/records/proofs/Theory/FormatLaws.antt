@@ -17,8 +17,7 @@ use Rattle.base.specs.Masks.{bit}
 use Rattle.base.specs.LeastAndSize.{leastIn}
 use Rattle.semantics.specs.PackedTables.{units}
 use Rattle.semantics.specs.TablesRead.{unitsIn}
-use Rattle.window.specs.Places.{line-entry, along-entry}
-use Rattle.window.proofs.Theory.Places.{entry-below}
+use Rattle.window.proofs.Theory.Places.{line-entry, along-entry, entry-below}
 use Rattle.window.proofs.Theory.Table.{table-at, table-length, table-is}
 use Rattle.window.specs.declared.Window.{Window}
 use Rattle.records.specs.Codes.{codeOf, codeAt, classOfCode, computedOf, assembled, gathered, scattered}

@@ -57,10 +57,10 @@ not-misused n (Misused.more-arguments I c t e) = n _ _ _ I
 not-misused n (Misused.fewer-arguments I c t e) = n _ _ _ I
 
 module _ (s : List ℕ) where
-  known-among : (k : ℕ) (l : List ℕ) → isDeclared s k l ≡ true → Among k l
+  known-among : (k : ℕ) (l : List ℕ) → isDeclared k l ≡ true → Among k l
   known-among k l t = let b = ltb-true (indexOf k l) (length l) t in (indexOf k l, b, sym (index-at k l b))
 
-  unknown-among : (k : ℕ) (l : List ℕ) → isDeclared s k l ≡ false → Among k l → ⊥
+  unknown-among : (k : ℕ) (l : List ℕ) → isDeclared k l ≡ false → Among k l → ⊥
   unknown-among k l t (i, b, e) = let x = index-below k l i b (sym e) in let y = ltb-false (indexOf k l) (length l) t in omega arith
 
   -- one token k that is due
@@ -110,7 +110,7 @@ module _ (s : List ℕ) where
       λ t. names-ended rs i at A I t
   registers-judged (suc room) rs i at n A I =
       judged-pick (isName (keyAt s at)) _ _
-      (λ t. let h : take (names (not (eqb (length rs) 0))) (keyAt s at) ≡ took (names true) = rw t in judged-pick (isDeclared s (keyAt s at) rs) _ _
+      (λ t. let h : take (names (not (eqb (length rs) 0))) (keyAt s at) ≡ took (names true) = rw t in judged-pick (isDeclared (keyAt s at) rs) _ _
       (λ u. redeclared-judged s A h t (Redeclared.register I t (inl (known-among (keyAt s at) rs u))))
       λ u. let l = name-real (keyAt s at) t in
       let B = advance s A (names true) l h
@@ -184,9 +184,9 @@ module _ (s : List ℕ) where
         judged-pick (isName (keyAt s at)) _ _
         (λ t. let k = keyAt s at in
         let h : take (entries (not (eqb (length fs) 0))) (keyAt s at) ≡ took (token word.slashKey (digit (entries true))) = rw t in
-        judged-pick (isDeclared s (keyAt s at) rs || isDeclared s (keyAt s at) fs) _ _
-        (λ u. redeclared-judged s A h t (Redeclared.function I t (inl (again (or-case (isDeclared s (keyAt s at) rs) (isDeclared s (keyAt s at) fs) u)))))
-        λ u. let (x, y) = or-false (isDeclared s (keyAt s at) rs) (isDeclared s (keyAt s at) fs) u in
+        judged-pick (isDeclared (keyAt s at) rs || isDeclared (keyAt s at) fs) _ _
+        (λ u. redeclared-judged s A h t (Redeclared.function I t (inl (again (or-case (isDeclared (keyAt s at) rs) (isDeclared (keyAt s at) fs) u)))))
+        λ u. let (x, y) = or-false (isDeclared (keyAt s at) rs) (isDeclared (keyAt s at) fs) u in
         let l = name-real (keyAt s at) t in
         let B = advance s A (token word.slashKey (digit (entries true))) l h
         (none-here s A h l (fresh-function I (unknown-among (keyAt s at) rs x) (unknown-among (keyAt s at) fs y) (omega arith))
@@ -203,7 +203,7 @@ module _ (s : List ℕ) where
         }))
         λ t. entries-ended fs ns i at A I t
       where
-        again : (isDeclared s (keyAt s at) rs ≡ true) ⊎ (isDeclared s (keyAt s at) fs ≡ true) → Among (keyAt s at) rs ⊎ Among (keyAt s at) fs
+        again : (isDeclared (keyAt s at) rs ≡ true) ⊎ (isDeclared (keyAt s at) fs ≡ true) → Among (keyAt s at) rs ⊎ Among (keyAt s at) fs
         again (inl u) = inl (known-among (keyAt s at) rs u)
         again (inr u) = inr (known-among (keyAt s at) fs u)
 

@@ -16,7 +16,7 @@ use Rattle.tokens.specs.Tokens.{tokenAt}
 use Rattle.tokens.specs.Words.{isName}
 use Rattle.tokens.specs.Words as word
 use Rattle.tokens.proofs.Theory.WordsLaws.{name-real, not-word}
-use Rattle.grammar.specs.Reading.{indexOf, useT, signT, expect, ended, condition, argumentsT, rightHandSide, assignment, endedCondition}
+use Rattle.grammar.specs.Reading.{indexOf, isDeclared, useT, signT, expect, ended, condition, argumentsT, rightHandSide, assignment, endedCondition}
 use Rattle.grammar.proofs.Theory.Sound.{index-at}
 use Rattle.grammar.proofs.Theory.Complete.{index-below}
 use Rattle.grammar.specs.Spelled.{Declared, Arities, Spells}
@@ -109,7 +109,7 @@ module _ (s rs fs ns : List ℕ) where
       → JudgedReading s ℕ (NameUsed xs i d at q) (useT xs (tokenAt s at))
   use-judged xs {i} {d} {at} {x} {r} q I fit other wrong right =
       judged-pick (isName (keyAt s at)) _ _
-      (λ t. let l = name-real (keyAt s at) t in judged-pick (ltb (indexOf (keyAt s at) xs) (length xs)) _ _
+      (λ t. let l = name-real (keyAt s at) t in judged-pick (isDeclared (keyAt s at) xs) _ _
       (λ u. let b = ltb-true (indexOf (keyAt s at) xs) (length xs) u in let e = index-at (keyAt s at) xs b in
       fine (
         refl,

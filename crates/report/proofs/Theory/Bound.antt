@@ -7,7 +7,6 @@ use mathlib.Core.List.{List, [], _∷_, _++_, map}
 use lib.ListN.{length, getD, drop, length-append}
 use lib.Seq.{getD-drop}
 use Rattle.letters.specs.Editions.{firstEdition}
-use Rattle.base.specs.Choice.{pick}
 use Rattle.base.proofs.Theory.Choice.{byTest}
 use Rattle.base.specs.Masks.{has}
 use Rattle.letters.specs.declared.Header.{Header}
@@ -67,7 +66,8 @@ module _ (names : Names) (reg : (r : ℕ) → length (names .register r) ≤ 8) 
   letter-length (Equal x y) = simp length-append (omega (arith, reg x, reg y))
   letter-length (Unequal x y) = simp length-append (omega (arith, reg x, reg y))
 
-  second-small : (f b : ℕ) → b < 2048 → pick (has (h .binary) f) (λ _. b) (λ _. 0) < 2048
+  second-small : (f b : ℕ) → b < 2048 → secondWritten h f b < 2048
+  unfolding secondWritten
   second-small f b l = byTest (has (h .binary) f) (λ e. rw e l) (λ e. rw e (omega arith))
 
   module _ (n : ℕ) where
@@ -75,9 +75,9 @@ module _ (names : Names) (reg : (r : ℕ) → length (names .register r) ≤ 8) 
     unfolding rowFrom
     first-small = omega arith
 
-    second-written : secondWritten h (rowFrom firstEdition h n) < 2048
+    second-written : secondWritten h (rowFrom firstEdition h n .function) (rowFrom firstEdition h n .second) < 2048
     unfolding rowFrom
-    second-written = rw (second-read h (n / 274877906944 % 4) (n / 134217728 % 2048) (n / 65536 % 2048) (n / 32 % 2048))
+    second-written = rw (second-read h (n / 274877906944 % 4) (n / 134217728 % 2048) (n / 65536 % 2048))
         (second-small (n / 274877906944 % 4) (n / 65536 % 2048) (omega arith))
 
     result-small : rowFrom firstEdition h n .result < 2048
@@ -92,7 +92,7 @@ module _ (names : Names) (reg : (r : ℕ) → length (names .register r) ≤ 8) 
           arith,
           fun (r .function),
           value-number (r .first) first-small,
-          value-number (secondWritten h r) second-written,
+          value-number (secondWritten h (r .function) (r .second)) second-written,
           value-number
               (r .result) result-small,
         ))

@@ -5,8 +5,8 @@ use Prim.Native.Nat.{ℕ, _/_, _%_}
 use mathlib.Core.List.{List, [], _∷_}
 use lib.ListN.{getD}
 use Rattle.letters.specs.Editions.{firstEdition}
-use Rattle.base.specs.Choice.{pick}
 use Rattle.base.specs.Masks.{has}
+use Rattle.semantics.specs.PackedTables.{secondWritten}
 use Rattle.letters.specs.declared.Header.{Header}
 use Rattle.letters.specs.declared.Letter.the-variants.{Copy, Apply, Equal, Unequal}
 use Rattle.semantics.specs.TablesRead.{rowFrom}
@@ -53,11 +53,11 @@ module _ (registers functions : List ℕ) (h : Header) where
 
 -- "row 0 5 6 7", of a row that is packed in a number
 pub row-form : (functions : List ℕ) (h : Header) (n : ℕ) {a b : ℕ} → a ≡ getD functions (n / 274877906944 % 4) 0
-    → b ≡ pick (has (h .binary) (n / 274877906944 % 4)) (λ _. n / 65536 % 2048) (λ _. 0)
+    → b ≡ secondWritten h (n / 274877906944 % 4) (n / 65536 % 2048)
     → rowLine (λ f. nameText (getD functions f 0)) h (rowFrom firstEdition h n) ≡ filledIn (114 ∷ 111 ∷ 119 ∷ 32 ∷ 48 ∷ 32 ∷ 53 ∷ 32 ∷ 54 ∷ 32 ∷ 55 ∷ 10 ∷ [])
     (a ∷ n / 134217728 % 2048 ∷ b ∷ n / 32 % 2048 ∷ [])
 unfolding rowLine rowFrom line filledIn part
-row-form functions h n p q = rw (p, q, second-read h (n / 274877906944 % 4) (n / 134217728 % 2048) (n / 65536 % 2048) (n / 32 % 2048))
+row-form functions h n p q = rw (p, q, second-read h (n / 274877906944 % 4) (n / 134217728 % 2048) (n / 65536 % 2048))
 
 -- "start 0 5"
 pub start-form : (registers : List ℕ) (r : ℕ) {a b v : ℕ} → a ≡ getD registers r 0 → b ≡ v

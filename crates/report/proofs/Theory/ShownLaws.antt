@@ -8,7 +8,6 @@ use mathlib.Core.List.{List, [], _∷_, _++_, map}
 use lib.ListN.{length, getD, take, drop, replicate}
 use lib.Seq.{drop-drop, getD-drop}
 use Rattle.letters.specs.Editions.{firstEdition}
-use Rattle.base.specs.Choice.{pick}
 use Rattle.base.proofs.Theory.Choice.{byTest}
 use Rattle.base.specs.Masks.{has}
 use Rattle.letters.specs.declared.Header.{Header}
@@ -107,10 +106,9 @@ row-words s at p q r =
 
 -- ── the model's parts, as they are read ──
 -- The second argument of a row that was read is written as it stood, and as 0 for a function of one argument.
-pub second-read : (h : Header) (f a b c : ℕ)
-    → secondWritten h (record { function = f; first = a; second = secondMeant h f a b; result = c }) ≡ pick (has (h .binary) f) (λ _. b) λ _. 0
+pub second-read : (h : Header) (f a b : ℕ) → secondWritten h f (secondMeant h f a b) ≡ secondWritten h f b
 unfolding secondWritten secondMeant
-second-read h f a b c = byTest (has (h .binary) f) (λ e. rw e) (λ e. rw e)
+second-read h f a b = byTest (has (h .binary) f) (λ e. rw e) (λ e. rw e)
 
 -- ── the lines of what is read, one after the other ──
 module _ (F : Letter → List ℕ) (h : Header) (s : List ℕ) (n : ℕ) where

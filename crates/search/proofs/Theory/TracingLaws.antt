@@ -2,20 +2,54 @@
 use mathlib.Core.Path.{_≡_, refl, sym, ap, _∙_}
 use Prim.Native.Nat.{ℕ, zero, suc, _+_, _-_, _/_, _%_, _≤_, _<_}
 use native.Mathlib.Omega.{arith}
-use mathlib.Core.List.{List, [], _∷_}
+use native.Mathlib.Nat.{div-one}
+use mathlib.Core.Bool.{_&&_}
+use Rattle.base.proofs.Theory.Choice.{byTest}
+use mathlib.Core.List.{List, [], _∷_, _++_}
 use lib.ListN.{length, getD, drop, set, length-set, drop-of-length-le}
 use lib.Seq.{drop-cons, drop-set-lt, getD-set-same, getD-set-other}
 use Rattle.letters.specs.declared.Header.{Header}
 use Rattle.letters.specs.declared.Letter.{Letter}
 use Rattle.letters.specs.Editions.{firstEdition}
+use Rattle.letters.specs.Packing.{split}
+use Rattle.letters.proofs.Theory.Packing.{join-lt}
+use Rattle.letters.specs.Coding.{headerTest, fitsTest}
+use Rattle.letters.specs.Words.{headerFields, letterFields, headerWord, letterWord}
+use Rattle.letters.proofs.Theory.WordLaws.{and-true, header-test, fits-test, first-roomy}
 use Rattle.letters.specs.Encoding.{encodeHeader, encodeLetter}
 use Rattle.letters.specs.Putting.{putWord}
+use Rattle.traces.specs.Traces.{units, bytesOf}
 use Rattle.grammar.specs.Limits.{mostPoints}
 use Rattle.blocks.specs.declared.PointEntry.{PointEntry}
 use Rattle.table.specs.Table.{pointAt, parentAt, branchAt}
-use Rattle.exploration.specs.Moves.{moveOf, letterOf, noPoint}
+use Rattle.blocks.specs.Held.{unusedPoint}
+use Rattle.exploration.specs.Moves.{moveOf, letterOf}
 use Rattle.search.specs.Trails.{letterOfBranch, trailTo, trailOf}
-use Rattle.search.specs.Tracing.{Older, wordOrZero, bytesOfWords, letterWords, traced, traceBytes, lastLetter}
+use Rattle.search.specs.Tracing.{Older, wordOrZero, letterWords, traced, traceBytes, lastLetter}
+
+-- the bytes of a word
+unit-bytes : (w : ℕ) → w < 65536 → split (8 ∷ 8 ∷ []) w ≡ w / 256 ∷ w % 256 ∷ []
+unit-bytes w l = λ i. high i ∷ low i ∷ []
+  where
+    high : w / 256 % 256 ≡ w / 256
+    high = omega arith
+
+    low : w / 1 % 256 ≡ w % 256
+    low = rw (div-one w) refl
+
+-- the words of a header and of a letter have two bytes
+header-small : (h : Header) → wordOrZero (encodeHeader firstEdition h) < 65536
+unfolding encodeHeader headerWord
+header-small h = byTest (headerTest firstEdition h)
+    (λ t. rw t (join-lt (firstEdition .header) (headerFields firstEdition h) (first-roomy .header-sized h (header-test firstEdition h .0 t))))
+    (λ t. rw t (omega arith))
+
+letter-small : (h : Header) (a : Letter) → wordOrZero (encodeLetter firstEdition h a) < 65536
+unfolding encodeLetter letterWord
+letter-small h a = byTest (headerTest firstEdition h && fitsTest h a)
+    (λ t. let (v, f) = and-true (headerTest firstEdition h) (fitsTest h a) t in
+    rw t (join-lt (firstEdition .letter) (letterFields h a) (first-roomy .letter-sized h a (header-test firstEdition h .0 v) (fits-test h a .0 f))))
+    (λ t. rw t (omega arith))
 
 -- a word in front of what stands behind it
 pub put-drop : (b : List ℕ) (at w : ℕ) → at + 1 < length b → drop at (putWord b at w) ≡ w / 256 ∷ w % 256 ∷ drop (at + 2) b
@@ -40,14 +74,17 @@ put-drop b at w l =
     rest = drop-cons (set (set b at (w / 256)) (at + 1) (w % 256)) (suc at) 0 (simp length-set (omega arith)) ∙ (λ i. second i ∷ behind i)
 
 -- a letter more in front
-module _ (h : Header) (b : List ℕ) (at : ℕ) (rest : List Letter) (e : drop (at + 2) b ≡ bytesOfWords (letterWords h rest)) (l : at + 1 < length b) where
-  pub letter-before : (a : Letter) (w : ℕ) → w ≡ wordOrZero (encodeLetter firstEdition h a) → drop at (putWord b at w) ≡ bytesOfWords (letterWords h (a ∷ rest))
-  unfolding bytesOfWords
+module _ (h : Header) (b : List ℕ) (at : ℕ) (rest : List Letter) (e : drop (at + 2) b ≡ bytesOf firstEdition (letterWords h rest)) (l : at + 1 < length b) where
+  pub letter-before : (a : Letter) (w : ℕ) → w ≡ wordOrZero (encodeLetter firstEdition h a)
+      → drop at (putWord b at w) ≡ bytesOf firstEdition (letterWords h (a ∷ rest))
+  unfolding units
   letter-before a w f = put-drop b at w l ∙ (λ i. f i / 256 ∷ f i % 256 ∷ e i)
+      ∙ ap (λ s. s ++ bytesOf firstEdition (letterWords h rest)) (sym (unit-bytes _ (letter-small h a)))
 
   pub header-before : (w : ℕ) → w ≡ wordOrZero (encodeHeader firstEdition h) → drop at (putWord b at w) ≡ traced h rest
-  unfolding bytesOfWords traced
+  unfolding units traced
   header-before w f = put-drop b at w l ∙ (λ i. f i / 256 ∷ f i % 256 ∷ e i)
+      ∙ ap (λ s. s ++ bytesOf firstEdition (letterWords h rest)) (sym (unit-bytes _ (header-small h)))
 
 -- the letters up to a pair, with any number of calls that suffices
 trail-same : (sp : List PointEntry) (t : List ℕ) (n : ℕ) → Older t n → (f g j : ℕ) (rest : List Letter) → j < n → j ≤ f → j ≤ g
@@ -80,32 +117,32 @@ trail-end sp t rest zero e = refl
 trail-end sp t rest (suc j) e = absurd (omega arith)
 
 -- the letter of a branch of the point of pair i
-pub letter-is : (sp : List PointEntry) (t : List ℕ) (i b k : ℕ) (a : Letter) → k ≡ pointAt t i → a ≡ letterOf (moveOf (getD sp (k % mostPoints) noPoint) b)
+pub letter-is : (sp : List PointEntry) (t : List ℕ) (i b k : ℕ) (a : Letter) → k ≡ pointAt t i → a ≡ letterOf (moveOf (getD sp (k % mostPoints) unusedPoint) b)
     → a ≡ letterOfBranch sp t i b
 unfolding letterOfBranch
-letter-is sp t i b k a e f = f ∙ ap (λ n. letterOf (moveOf (getD sp (n % mostPoints) noPoint) b)) e
+letter-is sp t i b k a e f = f ∙ ap (λ n. letterOf (moveOf (getD sp (n % mostPoints) unusedPoint) b)) e
 
 -- ── as the loop stores them ──
 module _ (h : Header) (b : List ℕ) (w : ℕ) where
   -- the last letter
   pub first-stored : length b ≡ traceBytes → (a : Letter) → w ≡ wordOrZero (encodeLetter firstEdition h a)
-      → drop lastLetter (set (set b lastLetter (w / 256)) (lastLetter + 1) (w % 256)) ≡ bytesOfWords (letterWords h (a ∷ []))
-  unfolding bytesOfWords
+      → drop lastLetter (set (set b lastLetter (w / 256)) (lastLetter + 1) (w % 256)) ≡ bytesOf firstEdition (letterWords h (a ∷ []))
+  unfolding units
   first-stored l a f = letter-before h b lastLetter [] (drop-of-length-le b {i = traceBytes} (omega arith)) (omega arith) a w f
 
   -- a letter, or the header, before what stands from `at` on
-  module _ (at : ℕ) (rest : List Letter) (e : drop at b ≡ bytesOfWords (letterWords h rest)) (p : 2 ≤ at) (q : at ≤ length b) where
+  module _ (at : ℕ) (rest : List Letter) (e : drop at b ≡ bytesOf firstEdition (letterWords h rest)) (p : 2 ≤ at) (q : at ≤ length b) where
     abbrev place : ℕ
     place = at - 2
 
-    behind : drop (place + 2) b ≡ bytesOfWords (letterWords h rest)
+    behind : drop (place + 2) b ≡ bytesOf firstEdition (letterWords h rest)
     behind = ap (λ n. drop n b) (let z : at - 2 + 2 ≡ at = omega arith in z) ∙ e
 
     same-store : set (set b (at - 2) (w / 256)) (at - 1) (w % 256) ≡ putWord b place w
     same-store = ap (λ n. set (set b (at - 2) (w / 256)) n (w % 256)) (let z : at - 1 ≡ at - 2 + 1 = omega arith in z)
 
     pub letter-stored : (a : Letter) → w ≡ wordOrZero (encodeLetter firstEdition h a)
-        → drop (at - 2) (set (set b (at - 2) (w / 256)) (at - 1) (w % 256)) ≡ bytesOfWords (letterWords h (a ∷ rest))
+        → drop (at - 2) (set (set b (at - 2) (w / 256)) (at - 1) (w % 256)) ≡ bytesOf firstEdition (letterWords h (a ∷ rest))
     letter-stored a f = ap (drop (at - 2)) same-store ∙ letter-before h b place rest behind (omega arith) a w f
 
     pub header-stored : w ≡ wordOrZero (encodeHeader firstEdition h) → drop (at - 2) (set (set b (at - 2) (w / 256)) (at - 1) (w % 256)) ≡ traced h rest

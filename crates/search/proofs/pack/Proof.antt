@@ -4,9 +4,11 @@ use native.Mathlib.Omega.{arith}
 use mathlib.Core.List.{List, [], _∷_}
 use lib.ListN.{length, drop, replicate, length-replicate}
 use Rattle.letters.specs.declared.Letter.{Letter}
+use Rattle.letters.specs.Editions.{firstEdition}
+use Rattle.traces.specs.Traces.{bytesOf}
 use Rattle.records.specs.Records.{recordBytes}
 use Rattle.search.specs.Trails.{trailTo, trailOf}
-use Rattle.search.specs.Tracing.{Older, bytesOfWords, letterWords, traced, lastLetter, mostMoves, traceBytes}
+use Rattle.search.specs.Tracing.{Older, letterWords, traced, lastLetter, mostMoves, traceBytes}
 use Rattle.search.proofs.Theory.TracingLaws.{letter-is, first-stored, letter-stored, header-stored, trail-first, trail-turn, trail-whole}
 use borrow.Author.Needs.{needs}
 use Rattle.search.proofs.pack.Statement.{statement}
@@ -24,7 +26,7 @@ abbrev Inv-loop : tie.InvT-loop
 Inv-loop header table d points bytes₀ k word at₀ j₀ bytes at j =
     (j ≤ d / 2) × (2 * j + 2 ≤ at) × (at ≤ lastLetter) × (d < mostMoves) × (recordBytes * (d / 2) + recordBytes ≤ length table) × (length bytes ≡ traceBytes)
     × Older table (d / 2 + 1)
-    × ((rest : List Letter) × (drop at bytes ≡ bytesOfWords (letterWords header rest)) × (trailTo points table j j rest ≡ trailOf points table d))
+    × ((rest : List Letter) × (drop at bytes ≡ bytesOf firstEdition (letterWords header rest)) × (trailTo points table j j rest ≡ trailOf points table d))
 
 abbrev μ-loop : tie.MeasureT-loop
 μ-loop header table d points bytes₀ k word at₀ j₀ bytes at j = j

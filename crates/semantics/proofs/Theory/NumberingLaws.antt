@@ -6,11 +6,12 @@ use mathlib.Core.List.{List, [], _∷_, _++_, append-nil, append-assoc, List·Me
 use mathlib.Core.List.{Memᴰ·append-left, Memᴰ·append-right, Memᴰ·cast}
 use Prim.Native.Nat.{ℕ, zero, suc, _-_, _≤_, _<_}
 use native.Mathlib.Omega.{arith}
-use lib.Dec.{T, eqb, eqb→eq, eqb-refl}
+use lib.Dec.{T, eqb, eqb→eq}
 use lib.ListN.{length}
+use borrow.Author.Tests.{eq-eqb}
 use Rattle.base.proofs.Theory.Choice.{byTest}
 use Rattle.semantics.specs.Terms.{_∈_, Term, con, app}
-use Rattle.semantics.proofs.Theory.Booleans.{and-l, and-r, and-i, of-true, of-false}
+use Rattle.semantics.proofs.Theory.Booleans.{and-l, and-r, of-true, of-false}
 use Rattle.semantics.specs.Lists.{any}
 use Rattle.semantics.proofs.Theory.Lists.{any-e, any-i, end-split, split-at, two-splits}
 use Rattle.semantics.specs.TermEquality.{eqt}
@@ -18,11 +19,11 @@ use Rattle.semantics.proofs.Theory.TermEquality.{eqt→eq, eqt-refl, eq
 use Rattle.semantics.specs.Closure.{Closure, symmetric}
 use Rattle.semantics.specs.Decide.{find, merges, alike}
 use Rattle.semantics.proofs.Theory.Decide.{alike-i, alike-e}
-use Rattle.semantics.specs.Firsts.{firstsAfter, firstPlace}
+use Rattle.semantics.specs.Firsts.{NoRepeats, firstsAfter, firstPlace}
 use Rattle.semantics.proofs.Theory.FirstsLaws.{place-first, place-in, place-both, firsts-append, firsts-seen, firsts-new, firsts-extends, firsts-all}
 use Rattle.semantics.proofs.Theory.FirstsLaws.{firsts-distinct, none-repeats, no-repeats-more, firsts-in, place-below}
-use Rattle.semantics.specs.Tables.{Row, rowOf, sameCall}
-use Rattle.semantics.specs.ShownTables.{applications, classesOf, classValue}
+use Rattle.semantics.specs.Tables.{Row, rowOf}
+use Rattle.semantics.specs.ShownTables.{sameCall, applications, classesOf, classValue}
 use Rattle.semantics.specs.Numbering.{Filled, Numbering, RowListing}
 
 module _ (U : List Term) (E : List (Term × Term)) where
@@ -177,7 +178,10 @@ module _ (U : List Term) (E : List (Term × Term)) where
           (a, same-count v w U c d a (h .all) (g .all))
 
 -- ── the rows ──
-call-e : (r s : Row) → T (sameCall r s) → (r .function ≡ s .function) × (r .first ≡ s .first) × (r .second ≡ s .second)
+pub call-i : (r s : Row) → r .function ≡ s .function → r .first ≡ s .first → r .second ≡ s .second → T (sameCall r s)
+call-i r s e u v = rw (eq-eqb (r .function) (s .function) e, eq-eqb (r .first) (s .first) u, eq-eqb (r .second) (s .second) v) tt
+
+pub call-e : (r s : Row) → T (sameCall r s) → (r .function ≡ s .function) × (r .first ≡ s .first) × (r .second ≡ s .second)
 call-e r s y =
     let a = eqb (r .first) (s .first) in
     let b = eqb (r .second) (s .second) in
@@ -187,6 +191,13 @@ call-e r s y =
       eqb→eq (r .first) (s .first) (and-l a b z),
       eqb→eq (r .second) (s .second) (and-r a b z),
     )
+
+-- no row has the function and the arguments of one before it, by the test
+no-repeats : (v : Term → ℕ) {U : List Term} {rows : List Row} → RowListing U v rows → NoRepeats sameCall rows
+no-repeats v {rows = rows} h earlier later r e y =
+    let (q, m, z) = any-e (sameCall r) earlier y in
+    let (f, a, b) = call-e r q z in
+    h .distinct earlier later r e q m (sym f, sym a, sym b)
 
 row-path : {f g a b c d p q : ℕ} → f ≡ g → a ≡ c → b ≡ d → p ≡ q
     → _≡_ {A = Row} (record { function = f; first = a; second = b; result = p }) (record { function = g; first = c; second = d; result = q })
@@ -228,7 +239,8 @@ module _ (v : Term → ℕ) where
         | inr o ↦ absurd (List·Memᴰ·not-nil o)
       ]
     ];
-    distinct = no-repeats-more sameCall rows (rowOf v f s t) (h .distinct) n;
+    distinct = λ earlier later r e q m (g, a, b). no-repeats-more sameCall rows (rowOf v f s t) (no-repeats v h) n earlier later r e
+        (any-i (sameCall r) m (call-i r q (sym g) (sym a) (sym b)));
     ordered = λ earlier later r e. elim (end-split rows earlier later (rowOf v f s t) r e) [
       | inl k ↦
           let (b, a, g, u, w, q, p, o) = h .ordered earlier (k .0) r (k .1) in
@@ -292,7 +304,7 @@ module _ (v : Term → ℕ) where
     listing = listing-from [] U [] refl (record {
       computed = λ r m. absurd (List·Memᴰ·not-nil m);
       complete = λ f s t m. absurd (List·Memᴰ·not-nil m);
-      distinct = none-repeats sameCall;
+      distinct = λ earlier later r e q m s. nil-split earlier later r e;
       ordered = λ earlier later r e. absurd (nil-split earlier later r e);
     })
       where
@@ -301,15 +313,10 @@ module _ (v : Term → ℕ) where
         nil-split (x ∷ pre) post r e = let z : _≡_ {A = ℕ} 0 1 = cc in omega arith
 
 -- ── and there are no other rows ──
-call-refl : (r : Row) → T (sameCall r r)
-call-refl r =
-    and-i (eqb (r .function) (r .function)) (eqb (r .first) (r .first) && eqb (r .second) (r .second)) (eqb-refl (r .function))
-    (and-i (eqb (r .first) (r .first)) (eqb (r .second) (r .second)) (eqb-refl (r .first)) (eqb-refl (r .second)))
-
 module _ (U : List Term) (v : Term → ℕ) where
   -- a row is not among those before it
   not-before : {rows : List Row} → RowListing U v rows → (earlier later : List Row) (r : Row) → rows ≡ earlier ++ r ∷ later → ¬ (r ∈ earlier)
-  not-before h earlier later r e m = h .distinct earlier later r e (any-i (sameCall r) m (call-refl r))
+  not-before h earlier later r e m = h .distinct earlier later r e r m (refl, refl, refl)
 
   -- rows that go on where others end are not rows
   no-more : {rows more : List Row} → RowListing U v rows → RowListing U v more → (later : List Row) (r : Row) → more ≡ rows ++ r ∷ later → ⊥

@@ -17,7 +17,7 @@ use Rattle.traces.proofs.Theory.TraceLaws.{octets-total, octets-length}
 pub use Rattle.traces.proofs.Theory.TraceLaws.{units-length}
 use Rattle.semantics.specs.Terms.{_∈_}
 use Rattle.semantics.specs.Tables.{Row, Tables}
-use Rattle.semantics.specs.PackedTables.{units, rowWidths, rowBytes, wordBytes, secondWritten, packedRow, packTables}
+use Rattle.semantics.specs.PackedTables.{units, rowWidths, rowBytes, wordBytes, secondWritten, rowFields, packedRow, packTables}
 use Rattle.semantics.specs.TablesRead.{unitsIn, secondMeant, rowFrom, readTables, Packable}
 use Rattle.semantics.proofs.Theory.Lists.{take-front, drop-front}
 
@@ -43,12 +43,12 @@ units-back k (n ∷ ns) rest h =
 -- ── rows ──
 module _ (w : Edition) (h : Header) where
   second-back : (r : Row) → (arity h (r .function) ≡ 1 → r .second ≡ r .first)
-      → secondMeant h (r .function) (r .first) (secondWritten h r) ≡ r .second
+      → secondMeant h (r .function) (r .first) (secondWritten h (r .function) (r .second)) ≡ r .second
   unfolding secondMeant secondWritten
   second-back r one = byTest (has (h .binary) (r .function)) (λ e. rw e) (λ e. rw e (sym (one (rw e))))
 
   sized : (r : Row) → r .function < 2 ^ w .rowFunction → r .first < 2 ^ w .rowValue → r .second < 2 ^ w .rowValue → r .result < 2 ^ w .rowValue
-      → Sized (rowWidths w) (r .function ∷ r .first ∷ secondWritten h r ∷ r .result ∷ 0 ∷ [])
+      → Sized (rowWidths w) (rowFields h r)
   unfolding secondWritten
   sized r f a b c = (f, (a, (byTest (has (h .binary) (r .function)) (λ e. rw e b) (λ e. rw e (pow-pos (w .rowValue))), (c, (pow-pos (w .rowSpare), tt)))))
 
@@ -62,7 +62,7 @@ module _ (w : Edition) (h : Header) where
         second = secondMeant h (getD l 0 0) (getD l 1 0) (getD l 2 0);
         result = getD l 3 0;
       })
-      (split-join (rowWidths w) (r .function ∷ r .first ∷ secondWritten h r ∷ r .result ∷ 0 ∷ []) (sized r f a b c))
+      (split-join (rowWidths w) (rowFields h r) (sized r f a b c))
       ∙ ap (λ (k : ℕ). record { function = r .function; first = r .first; second = k; result = r .result }) (second-back r one)
 
   rows-back : (rows : List Row) → ((r : Row) → r ∈ rows → rowFrom w h (packedRow w h r) ≡ r) → map (rowFrom w h) (map (packedRow w h) rows) ≡ rows
@@ -81,7 +81,7 @@ module _ (w : Edition) (h : Header) where
       → packedRow w h r < 2 ^ (8 * rowBytes)
   unfolding packedRow
   row-fits r e f a b c =
-      subst (λ j. packedRow w h r < 2 ^ j) e (join-lt (rowWidths w) (r .function ∷ r .first ∷ secondWritten h r ∷ r .result ∷ 0 ∷ []) (sized r f a b c))
+      subst (λ j. packedRow w h r < 2 ^ j) e (join-lt (rowWidths w) (rowFields h r) (sized r f a b c))
 
   -- The length of packed tables.
   pub packed-length : (t : Tables) → length (packTables w h t) ≡ wordBytes * (2 + length (t .starts)) + rowBytes * length (t .rows)

@@ -16,9 +16,9 @@ use Rattle.semantics.specs.Closure.{Closure, reflexive, symmetric, trans
 use Rattle.semantics.proofs.Theory.ClosureLaws.{weaken}
 use Rattle.semantics.specs.Facts.{Valid}
 use Rattle.semantics.specs.Models.{Model, eval, Satisfies, Feasible}
-use Rattle.semantics.specs.Tables.{Row, lists, resultIn, rowOf, sameCall}
+use Rattle.semantics.specs.Tables.{Row, lists, resultIn, rowOf}
 use Rattle.semantics.proofs.Theory.Tables.{modelOf, InRange}
-use Rattle.semantics.specs.ShownTables.{classesOf, classValue, rowsOf, startsFrom, shownTables, shownValue, applications}
+use Rattle.semantics.specs.ShownTables.{sameCall, classesOf, classValue, rowsOf, startsFrom, shownTables, shownValue, applications}
 use Rattle.semantics.specs.Numbering.{Numbering, RowListing}
 use Rattle.semantics.proofs.Theory.NumberingLaws as laws
 use Rattle.semantics.proofs.Theory.FirstsLaws.{firsts-in}

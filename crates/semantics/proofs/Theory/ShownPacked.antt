@@ -18,8 +18,8 @@ use Rattle.semantics.specs.Decide.{alike}
 use Rattle.semantics.specs.Facts.{Valid}
 use Rattle.semantics.proofs.Theory.Facts.{constants-app}
 use Rattle.semantics.specs.Firsts.{firstsAfter}
-use Rattle.semantics.specs.Tables.{Row, sameCall}
-use Rattle.semantics.specs.ShownTables.{applications, rowsOf, classesOf, classValue, startsFrom, shownTables}
+use Rattle.semantics.specs.Tables.{Row}
+use Rattle.semantics.specs.ShownTables.{sameCall, applications, rowsOf, classesOf, classValue, startsFrom, shownTables}
 use Rattle.semantics.specs.Numbering.{RowListing}
 use Rattle.semantics.proofs.Theory.NumberingLaws as laws
 use Rattle.semantics.specs.ShownTables.{tablesOf, shownValue}

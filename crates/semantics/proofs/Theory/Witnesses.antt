@@ -267,7 +267,7 @@ is-shown-no s = let c = s .count in omega arith
 
 -- ── the first slip: Definition 5 with two arguments ──
 -- u:=f(x,w), v:=f(y,w), w:=x, x=y. Registers u v w x y are 0 1 2 3 4.
-abbrev early-slip : Trace
+abbrev pub early-slip : Trace
 early-slip = two 5 ▸ Apply 0 0 3 2 ▸ Apply 1 0 4 2 ▸ Copy 2 3
 
 results-held : Term → Bool

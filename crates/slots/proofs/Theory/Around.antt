@@ -14,7 +14,8 @@ use Rattle.base.specs.Masks.{has}
 use Rattle.base.proofs.Theory.MaskLaws.{bits-same}
 use Rattle.semantics.proofs.Theory.Booleans.{and-l, and-r, and-i}
 use Rattle.semantics.proofs.Theory.Of.{same-test}
-use Rattle.window.specs.Places.{place, first-place, second-place, place-is, function-place, line-entry, along-entry}
+use Rattle.window.specs.Places.{place}
+use Rattle.window.proofs.Theory.Places.{first-place, second-place, place-is, function-place, line-entry, along-entry}
 use Rattle.window.proofs.Theory.Places.{place-below, function-below, first-below, second-below, entry-below}
 use Rattle.window.specs.Places.{placeFunction, placeFirst, placeSecond}
 use Rattle.window.specs.Table.{table}

@@ -16,8 +16,8 @@ use Rattle.base.proofs.Theory.MaskLaws.{bits-same}
 use Rattle.semantics.proofs.Theory.Booleans.{and-l, and-r, and-i}
 use Rattle.semantics.proofs.Theory.Of.{same-test}
 use Rattle.window.proofs.Theory.Bits.{truth, no-truth, none-small, none-in, or-is, or-small, same-iff, eq-or}
-use Rattle.window.specs.Places.{place, placeFunction, placeFirst, placeSecond, entry-is, place-is}
-use Rattle.window.proofs.Theory.Places.{some, line-below, function-below, first-below, second-below}
+use Rattle.window.specs.Places.{place, placeFunction, placeFirst, placeSecond}
+use Rattle.window.proofs.Theory.Places.{entry-is, place-is, some, line-below, function-below, first-below, second-below}
 use Rattle.window.proofs.Theory.Table.{table-is}
 use Rattle.window.specs.Adding.{partOf}
 use Rattle.window.specs.Viewing.{view, Masks}

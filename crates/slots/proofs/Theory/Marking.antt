@@ -12,8 +12,8 @@ use Rattle.base.specs.LeastAndSize.{sizeOf}
 use Rattle.base.proofs.Theory.MaskLaws.{bits-same}
 use Rattle.semantics.proofs.Theory.Booleans.{and-l, and-r}
 use Rattle.semantics.proofs.Theory.Of.{same-test}
-use Rattle.window.specs.Places.{place, placeFunction, placeFirst, placeSecond, place-is, first-place, second-place}
-use Rattle.window.proofs.Theory.Places.{place-below, function-below, first-below, second-below}
+use Rattle.window.specs.Places.{place, placeFunction, placeFirst, placeSecond}
+use Rattle.window.proofs.Theory.Places.{place-is, first-place, second-place, place-below, function-below, first-below, second-below}
 use Rattle.window.proofs.Theory.Bits.{or-is, single-is, pow-small, eq-or}
 use Rattle.window.proofs.Theory.Size.{alone, other}
 use Rattle.window.specs.Marks.{lostOf}

@@ -15,8 +15,8 @@ use Rattle.base.specs.Choice.{pick}
 use Rattle.base.specs.Masks.{has}
 use Rattle.semantics.proofs.Theory.Booleans.{and-l, and-r, and-i}
 use Rattle.window.proofs.Theory.Bits.{truth, no-truth, none-in, none-small, or-is, or-small, pow-small, single-is, has-and, same-iff, eq-or, less-or}
-use Rattle.window.specs.Places.{place, function-place, first-place, second-place, line-entry, along-entry}
-use Rattle.window.proofs.Theory.Places.{place-below, entry-below}
+use Rattle.window.specs.Places.{place}
+use Rattle.window.proofs.Theory.Places.{function-place, first-place, second-place, line-entry, along-entry, place-below, entry-below}
 use Rattle.window.specs.Table.{table}
 use Rattle.window.proofs.Theory.Table.{table-at, table-out, table-length}
 use Rattle.window.specs.Adding.{partOf}

@@ -13,8 +13,8 @@ use borrow.Author.Tests.{eq-eqb, ne-eqb, eqb-true, ltb-true, ltb-false}
 use Rattle.base.proofs.Theory.Choice.{byTest}
 use Rattle.base.specs.Masks.{has}
 use Rattle.semantics.proofs.Theory.Booleans.{or-e, or-l, or-r}
-use Rattle.window.specs.Places.{place, function-place, first-place, second-place, line-entry, along-entry}
-use Rattle.window.proofs.Theory.Places.{place-below, entry-below}
+use Rattle.window.specs.Places.{place}
+use Rattle.window.proofs.Theory.Places.{function-place, first-place, second-place, line-entry, along-entry, place-below, entry-below}
 use Rattle.window.specs.Bits.{maskMoved}
 use Rattle.window.proofs.Theory.Bits.{none-in, or-is, single-is, same-iff, eq-or, truth, no-truth}
 use Rattle.window.specs.Lines.{columns, rows, cleared, clearedAt}

@@ -18,8 +18,8 @@ use Rattle.semantics.specs.View.{Tracks}
 use Rattle.semantics.specs.Facts.{Valid}
 use Rattle.window.specs.declared.Window.{Window}
 use Rattle.window.proofs.Theory.Bits.{none-small}
-use Rattle.window.specs.Places.{placeFunction, placeFirst, placeSecond, place-is, entry-is}
-use Rattle.window.proofs.Theory.Places.{function-below, first-below, second-below}
+use Rattle.window.specs.Places.{placeFunction, placeFirst, placeSecond}
+use Rattle.window.proofs.Theory.Places.{place-is, entry-is, function-below, first-below, second-below}
 use Rattle.window.specs.Viewing.{view, Shaped}
 use Rattle.window.specs.Stepping as stepping
 use Rattle.window.specs.Step.{IsWindow}

@@ -15,14 +15,15 @@ use Rattle.tokens.specs.Tokens.{tokenAt}
 use Rattle.tokens.specs.declared.Token.{Token}
 use Rattle.tokens.specs.Words.{isName}
 use Rattle.tokens.specs.Words as word
-use Rattle.grammar.specs.Reading.{Got, got, exhausted, andThen, refusedToken, listedT, expect, arityT, arityOf, registerNames, functionEntries, functionsT}
+use Rattle.grammar.specs.Reading.{Got, got, exhausted, andThen, isDeclared, refusedToken, listedT, expect, arityT, arityOf}
+use Rattle.grammar.specs.Reading.{registerNames, functionEntries, functionsT}
 use Rattle.phrases.specs.Codes.{plain, withoutValue}
 use Rattle.phrases.proofs.Theory.Answers.{coded-at}
 use Rattle.phrases.specs.declared.GotNumber as number
 use Rattle.syntax.specs.Answer.{padded, heldRegisters, noFunctions, heldFunctions, refusedTokenNumber}
 use Rattle.syntax.specs.declared.Registers.{Registers}
 use Rattle.syntax.specs.declared.Functions.{Functions}
-use Rattle.syntax.specs.Lists.{taken, NamesPadded, refusedBy}
+use Rattle.syntax.specs.Lists.{NamesPadded, refusedBy}
 
 -- the array is long enough
 pub kept-within : (n : ℕ) (names : List ℕ) (count : ℕ) → NamesPadded n names count → count ≤ length names
@@ -79,15 +80,15 @@ kept-four = record { few = omega arith; pad = refl; size = refl }
 or-left : (a b : Bool) → a ≡ true → (a || b) ≡ true
 or-left a b h = rw h
 
-pub taken-full : (count n k : ℕ) (l : List ℕ) → count ≡ n → true ≡ (eqb count n || taken k l)
+pub taken-full : (count n k : ℕ) (l : List ℕ) → count ≡ n → true ≡ (eqb count n || isDeclared k l)
 taken-full count n k l h = rw (eq-eqb count n h)
 
-pub taken-known : (count n k : ℕ) (l : List ℕ) (b : Bool) → (count ≡ n → ⊥) → b ≡ taken k l → b ≡ (eqb count n || taken k l)
+pub taken-known : (count n k : ℕ) (l : List ℕ) (b : Bool) → (count ≡ n → ⊥) → b ≡ isDeclared k l → b ≡ (eqb count n || isDeclared k l)
 taken-known count n k l b h e = rw (ne-eqb count n h) e
 
-pub not-full : (count n k : ℕ) (l : List ℕ) (b : Bool) → b ≡ (eqb count n || taken k l) → b ≡ false → count ≤ n → count < n
+pub not-full : (count n k : ℕ) (l : List ℕ) (b : Bool) → b ≡ (eqb count n || isDeclared k l) → b ≡ false → count ≤ n → count < n
 not-full count n k l b e f h = byTest (eqb count n)
-    (λ t. let z : true ≡ false = sym (or-left (eqb count n) (taken k l) t) ∙ sym e ∙ f in let y : _≡_ {A = ℕ} 0 1 = cc in absurd (omega arith))
+    (λ t. let z : true ≡ false = sym (or-left (eqb count n) (isDeclared k l) t) ∙ sym e ∙ f in let y : _≡_ {A = ℕ} 0 1 = cc in absurd (omega arith))
     λ t. let g = eqb-false count n t in byTest (ltb count n) (λ u. ltb-true count n u) λ u. absurd (g (let v = ltb-false count n u in omega arith))
 
 listed-end : (s : List ℕ) {A : Type 0} (n : ℕ) (a : A) (t : Token) → t .key ≡ word.semicolonKey → (n ≡ 0 → ⊥) → listedT s n a t ≡ got a (t .end)
@@ -146,7 +147,7 @@ module _ (s : List ℕ) (from : ℕ) (names : List ℕ) (count at : ℕ) (K : Na
       go zero = rw (← e, ← i, h)
       go (suc room) = rw (← e, ← i, h)
 
-  module _ (b : Bool) (i : b ≡ isName (t .key)) (j : b ≡ true) (x : Bool) (y : x ≡ (eqb count mostRegisters || taken (t .key) (take count names))) where
+  module _ (b : Bool) (i : b ≡ isName (t .key)) (j : b ≡ true) (x : Bool) (y : x ≡ (eqb count mostRegisters || isDeclared (t .key) (take count names))) where
     pub registers-taken : x ≡ true → (r : Registers) → r ≡ heldRegisters (Got.refused declarationWrong (t .start))
         → r ≡ heldRegisters (registerNames s mostRegisters [] from)
     unfolding registerNames
@@ -155,7 +156,7 @@ module _ (s : List ℕ) (from : ℕ) (names : List ℕ) (count at : ℕ) (K : Na
         ap (λ m. registerNames s m (take count names) at) z ∙ rw (← e, ← i, j))
         λ u.
         let v = eqb-false count mostRegisters u in
-        let w : taken (t .key) (take count names) ≡ true = sym (ap (λ b. b || taken (t .key) (take count names)) u) ∙ sym y ∙ h in
+        let w : isDeclared (t .key) (take count names) ≡ true = sym (ap (λ b. b || isDeclared (t .key) (take count names)) u) ∙ sym y ∙ h in
         let z : mostRegisters - count ≡ suc (mostRegisters - 1 - count) = (let f = K .few in let k = below count v f in omega arith) in
         ap (λ m. registerNames s m (take count names) at) z ∙ rw (← e, ← i, j, w)))
       where
@@ -168,8 +169,8 @@ module _ (s : List ℕ) (from : ℕ) (names : List ℕ) (count at : ℕ) (K : Na
     registers-turn h =
         let l = not-full count mostRegisters (t .key) (take count names) x y h (K .few) in
         let z : mostRegisters - count ≡ suc (mostRegisters - (count + 1)) = omega arith in
-        let w : taken (t .key) (take count names) ≡ false =
-        sym (ap (λ b. b || taken (t .key) (take count names)) (ne-eqb count mostRegisters λ q. omega arith)) ∙ sym y ∙ h in (
+        let w : isDeclared (t .key) (take count names) ≡ false =
+        sym (ap (λ b. b || isDeclared (t .key) (take count names)) (ne-eqb count mostRegisters λ q. omega arith)) ∙ sym y ∙ h in (
           omega arith,
           kept-more mostRegisters names count (t .key) K l,
           L ∙ ap (λ m. registerNames s m (take count names) at) z
@@ -179,15 +180,15 @@ module _ (s : List ℕ) (from : ℕ) (names : List ℕ) (count at : ℕ) (K : Na
 
 -- ---- functions
 
-pub taken-both : (count k : ℕ) (rs l : List ℕ) → (count ≡ mostFunctions → ⊥) → (b : Bool) → b ≡ taken k rs → b ≡ true
-    → true ≡ (eqb count mostFunctions || (taken k rs || taken k l))
+pub taken-both : (count k : ℕ) (rs l : List ℕ) → (count ≡ mostFunctions → ⊥) → (b : Bool) → b ≡ isDeclared k rs → b ≡ true
+    → true ≡ (eqb count mostFunctions || (isDeclared k rs || isDeclared k l))
 taken-both count k rs l h b e f = rw (ne-eqb count mostFunctions h, ← e, f)
 
-pub taken-last : (count k : ℕ) (rs l : List ℕ) → (count ≡ mostFunctions → ⊥) → (b : Bool) → b ≡ taken k rs → b ≡ false → (c : Bool) → c ≡ taken k l
-    → c ≡ (eqb count mostFunctions || (taken k rs || taken k l))
+pub taken-last : (count k : ℕ) (rs l : List ℕ) → (count ≡ mostFunctions → ⊥) → (b : Bool) → b ≡ isDeclared k rs → b ≡ false → (c : Bool) → c ≡ isDeclared k l
+    → c ≡ (eqb count mostFunctions || (isDeclared k rs || isDeclared k l))
 taken-last count k rs l h b e f c g = rw (ne-eqb count mostFunctions h, ← e, f) g
 
-pub taken-all : (count k : ℕ) (rs l : List ℕ) → count ≡ mostFunctions → true ≡ (eqb count mostFunctions || (taken k rs || taken k l))
+pub taken-all : (count k : ℕ) (rs l : List ℕ) → count ≡ mostFunctions → true ≡ (eqb count mostFunctions || (isDeclared k rs || isDeclared k l))
 taken-all count k rs l h = rw (eq-eqb count mostFunctions h)
 
 pub refused-by : {A : Type 0} {B : Type 0} (held : Got A → B) (g : number.GotNumber) (n p : ℕ) (r : B) → g ≡ number.the-variants.Refused n p
@@ -258,7 +259,7 @@ module _ (s rs : List ℕ) (from : ℕ) (names arities : List ℕ) (count at : �
       go (suc room) = rw (← e, ← i, h)
 
   module _ (b : Bool) (i : b ≡ isName (t .key)) (j : b ≡ true) (x : Bool)
-      (y : x ≡ (eqb count mostFunctions || (taken (t .key) rs || taken (t .key) (take count names)))) where
+      (y : x ≡ (eqb count mostFunctions || (isDeclared (t .key) rs || isDeclared (t .key) (take count names)))) where
     pub functions-taken : x ≡ true → (r : Functions) → r ≡ heldFunctions (Got.refused declarationWrong (t .start))
         → r ≡ heldFunctions (functionEntries s rs mostFunctions [] [] from)
     unfolding functionEntries
@@ -267,8 +268,8 @@ module _ (s rs : List ℕ) (from : ℕ) (names arities : List ℕ) (count at : �
         ap (λ m. functionEntries s rs m (take count names) (take count arities) at) z ∙ rw (← e, ← i, j))
         λ u.
         let v = eqb-false count mostFunctions u in
-        let w : (taken (t .key) rs || taken (t .key) (take count names)) ≡ true =
-        sym (ap (λ b. b || (taken (t .key) rs || taken (t .key) (take count names))) u) ∙ sym y ∙ h in
+        let w : (isDeclared (t .key) rs || isDeclared (t .key) (take count names)) ≡ true =
+        sym (ap (λ b. b || (isDeclared (t .key) rs || isDeclared (t .key) (take count names))) u) ∙ sym y ∙ h in
         let z : mostFunctions - count ≡ suc (mostFunctions - 1 - count) = (let f = K .few in let k = below count v f in omega arith) in
         ap (λ m. functionEntries s rs m (take count names) (take count arities) at) z ∙ rw (← e, ← i, j, w)))
       where
@@ -278,15 +279,16 @@ module _ (s rs : List ℕ) (from : ℕ) (names arities : List ℕ) (count at : �
     module _ (h : x ≡ false) (g : number.GotNumber) (a : g ≡ plain (arityOf s (t .end))) where
       pub functions-room : count < mostFunctions
       functions-room = byTest (eqb count mostFunctions)
-          (λ u. let z : true ≡ false = sym (or-left (eqb count mostFunctions) (taken (t .key) rs || taken (t .key) (take count names)) u) ∙ sym y ∙ h in
+          (λ u. let known = isDeclared (t .key) rs || isDeclared (t .key) (take count names) in
+          let z : true ≡ false = sym (or-left (eqb count mostFunctions) known u) ∙ sym y ∙ h in
           let q : _≡_ {A = ℕ} 0 1 = cc in absurd (omega arith))
           λ u. let v = eqb-false count mostFunctions u in
           byTest (ltb count mostFunctions) (λ w. ltb-true count mostFunctions w)
           λ w. absurd (v (let f = K .few in let k = ltb-false count mostFunctions w in omega arith))
 
-      unknown : (taken (t .key) rs || taken (t .key) (take count names)) ≡ false
+      unknown : (isDeclared (t .key) rs || isDeclared (t .key) (take count names)) ≡ false
       unknown =
-          sym (ap (λ b. b || (taken (t .key) rs || taken (t .key) (take count names)))
+          sym (ap (λ b. b || (isDeclared (t .key) rs || isDeclared (t .key) (take count names)))
           (ne-eqb count mostFunctions λ q. let f = functions-room in omega arith)) ∙ sym y ∙ h
 
       entered : functionEntries s rs mostFunctions [] [] from ≡ andThen (arityOf s (t .end)) λ n e. functionEntries s rs (mostFunctions - (count + 1))

@@ -93,7 +93,7 @@ module _ (σ : State) (v : Valid σ) (computed : (r : ℕ) → r < σ .header .r
       → (f : ℕ) (a b : Term) → app f a b ∈ σ .terms → Above (σ .terms) (σ .equals) (σ .value r) a b → Held σ (app f a b)
   result r rb g f a b m k = held-is σ v m .0 (g (app f a b) m (superterm-is σ v computed (v .values r rb) m .1 (superterm m k)))
 
-  early-is : (x y : ℕ) → x < σ .header .registers → y < σ .header .registers → Early σ x y ↔ (EarlyModulo σ x y × ArgumentsHeld σ (Equal x y))
+  pub early-is : (x y : ℕ) → x < σ .header .registers → y < σ .header .registers → Early σ x y ↔ (EarlyModulo σ x y × ArgumentsHeld σ (Equal x y))
   early-is x y xb yb = (
     λ e. (
       early-stricter σ v computed x y xb yb e,

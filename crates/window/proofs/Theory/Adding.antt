@@ -12,7 +12,7 @@ use lib.Seq.{getD-set-same, getD-set-other}
 use borrow.Author.Tests.{eq-eqb, ne-eqb, eqb-true, eqb-false, lt-ltb, le-ltb, ltb-true, ltb-false}
 use Rattle.base.proofs.Theory.Choice.{byTest}
 use Rattle.base.specs.Masks.{has}
-use Rattle.window.specs.Places.{entry-is, line-entry, along-entry}
+use Rattle.window.proofs.Theory.Places.{entry-is, line-entry, along-entry}
 use Rattle.window.proofs.Theory.Table.{table-length, table-at, table-is}
 use Rattle.window.specs.Lines.{columns, rows, cleared}
 use Rattle.window.specs.Through.{bitsMoved}

@@ -18,8 +18,8 @@ use Rattle.semantics.specs.View.{View}
 use Rattle.semantics.proofs.Theory.Steps.{target, freshened, Renamed, Bared′, Over′, at′, above′, Still′}
 use Rattle.window.proofs.Theory.Bits.{single-is, truth, no-truth, none-in, or-is, same-iff, eq-or, moved-in, moved-out, or-small, none-small}
 use Rattle.window.specs.Bits.{maskMoved}
-use Rattle.window.specs.Places.{place, placeFunction, placeFirst, placeSecond, function-place, first-place, second-place, line-entry, along-entry}
-use Rattle.window.proofs.Theory.Places.{place-below, entry-below}
+use Rattle.window.specs.Places.{place, placeFunction, placeFirst, placeSecond}
+use Rattle.window.proofs.Theory.Places.{function-place, first-place, second-place, line-entry, along-entry, place-below, entry-below}
 use Rattle.window.specs.Lines.{columns, rows, cleared, clearedAt}
 use Rattle.window.proofs.Theory.Lines.{cleared-at, cleared-length}
 use Rattle.window.specs.Through.{bitsMoved}

@@ -16,8 +16,8 @@ use Rattle.semantics.proofs.Theory.Booleans.{and-l, and-r, or-e, or-l, or-r}
 use Rattle.semantics.proofs.Theory.Steps.{copied, Renamed, Bared′, Over′, at′, above′, Still′}
 use Rattle.semantics.specs.View.{View}
 use Rattle.window.proofs.Theory.Places as places
-use Rattle.window.specs.Places.{place, placeFunction, placeFirst, placeSecond, place-is, first-place, second-place}
-use Rattle.window.proofs.Theory.Places.{place-below, function-below, entry-below}
+use Rattle.window.specs.Places.{place, placeFunction, placeFirst, placeSecond}
+use Rattle.window.proofs.Theory.Places.{place-is, first-place, second-place, place-below, function-below, entry-below}
 use Rattle.window.proofs.Theory.Table.{table-at, table-length}
 use Rattle.window.proofs.Theory.Bits.{no-truth, none-zero, none-small, none-in, same-iff, eq-or}
 use Rattle.window.proofs.Theory.Marks.{Beneath, extra, direct, beneath, lost-beneath}

@@ -14,7 +14,8 @@ use borrow.Author.Tests.{eqb-true, eqb-false}
 use Rattle.base.proofs.Theory.Choice.{byTest}
 use Rattle.base.specs.Masks.{has}
 use Rattle.semantics.proofs.Theory.Booleans.{and-l, and-r, and-i}
-use Rattle.window.specs.Places.{place, placeFunction, placeFirst, placeSecond, place-sum, place-is, first-place, second-place}
+use Rattle.window.specs.Places.{place, placeFunction, placeFirst, placeSecond}
+use Rattle.window.proofs.Theory.Places.{place-sum, place-is, first-place, second-place}
 use Rattle.window.proofs.Theory.Places.{place-below, function-below, first-below, second-below, entry-below}
 use Rattle.window.proofs.Theory.Table.{table-at}
 use Rattle.window.specs.Bits.{nonempty}

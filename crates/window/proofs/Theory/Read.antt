@@ -11,12 +11,12 @@ use Rattle.base.specs.Masks.{has}
 use Rattle.semantics.proofs.Theory.Booleans.{or-not}
 use Rattle.semantics.proofs.Theory.Steps.{copied}
 use borrow.Author.Tests.{eq-eqb, ne-eqb}
-use Rattle.window.specs.Places.{place, place-sum, line-entry, along-entry}
-use Rattle.window.proofs.Theory.Places.{place-below}
+use Rattle.window.specs.Places.{place}
+use Rattle.window.proofs.Theory.Places.{place-sum, line-entry, along-entry, place-below}
 use Rattle.window.specs.Bits.{maskMoved}
 use Rattle.window.proofs.Theory.Bits.{moved-in, moved-out, or-is, single-is, same-iff, or-small, pow-small, eq-or}
 use Rattle.window.specs.Lines.{TableLines, columns, rows, unitedAt, united}
-use Rattle.window.proofs.Theory.Lines.{united-at, united-length}
+use Rattle.window.proofs.Theory.Lines.{Partition, columns-partition, rows-partition, united-at, united-length}
 use Rattle.window.proofs.Theory.Through.{moved-at}
 use Rattle.window.specs.Through.{masksThrough, resultsThrough}
 
@@ -52,22 +52,22 @@ module _ (ρ φ a b to : ℕ) (ab : a < ρ) (bb : b < ρ) where
       (or-not (has to c))
 
   -- along the lines of a table
-  pub line-is : (L : TableLines ρ) (l : List ℕ) (j r s : ℕ) → r < ρ
+  pub line-is : (L : TableLines ρ) (partition : Partition L) (l : List ℕ) (j r s : ℕ) → r < ρ
       → T (has (unitedAt L (has to) a b l (L .entry j r)) s) ↔ ((z : ℕ) × Pick r z × T (has (getD l (L .entry j z) 0) s))
   unfolding unitedAt
-  line-is L l j r s rb = ⊎-elim
-      (λ t. let t′ : has to (L .along (L .entry j r)) ≡ true = ap (has to) (L .along-entry j r rb) ∙ true-of (has to r) t in
+  line-is L partition l j r s rb = ⊎-elim
+      (λ t. let t′ : has to (L .along (L .entry j r)) ≡ true = ap (has to) (partition .along-entry j r rb) ∙ true-of (has to r) t in
       let x = getD l (L .entry j a) 0 in
       let y = getD l (L .entry j b) 0 in
       Iff·trans (same-iff (ap (λ m. has m s)
       (ap (λ v. cond v (bitOr (getD l (L .entry (L .line (L .entry j r)) a) 0) (getD l (L .entry (L .line (L .entry j r)) b) 0)) (getD l (L .entry j r) 0))
       t′
-      ∙ ap (λ k. bitOr (getD l (L .entry k a) 0) (getD l (L .entry k b) 0)) (L .line-entry j r rb)))) (Iff·trans (or-is x y s) (
+      ∙ ap (λ k. bitOr (getD l (L .entry k a) 0) (getD l (L .entry k b) 0)) (partition .line-entry j r rb)))) (Iff·trans (or-is x y s) (
         (λ k. ⊎-elim (λ u. (a, inl (t, inl refl), u)) (λ u. (b, inl (t, inr refl), u)) k),
         (λ (z, p, q). ⊎-elim (λ (_, h). ⊎-elim (λ e. inl (subst (λ k. T (has (getD l (L .entry j k) 0) s)) e q))
             (λ e. inr (subst (λ k. T (has (getD l (L .entry j k) 0) s)) e q)) h) (λ (n, _). absurd (n t)) p),
       )))
-      (λ n. let t′ : has to (L .along (L .entry j r)) ≡ false = ap (has to) (L .along-entry j r rb) ∙ false-of (has to r) n in
+      (λ n. let t′ : has to (L .along (L .entry j r)) ≡ false = ap (has to) (partition .along-entry j r rb) ∙ false-of (has to r) n in
       Iff·trans (same-iff (ap (λ m. has m s)
       (ap (λ v. cond v (bitOr (getD l (L .entry (L .line (L .entry j r)) a) 0) (getD l (L .entry (L .line (L .entry j r)) b) 0)) (getD l (L .entry j r) 0))
       t′))) (
@@ -93,8 +93,8 @@ module _ (ρ φ a b to : ℕ) (ab : a < ρ) (bb : b < ρ) where
       let e = moved-at (bitOr (2 ^ a) (2 ^ b)) to u (ρ * j + r) (rw (united-length (columns ρ) (has to) a b l) h)
       ∙ ap (λ m. maskMoved m (bitOr (2 ^ a) (2 ^ b)) to) (united-at (columns ρ) (has to) a b l (ρ * j + r) h) in
       Iff·trans (same-iff (ap (λ m. has m s) e)) (Iff·trans (mask-is (unitedAt (columns ρ) (has to) a b l (ρ * j + r)) s) (
-        (λ (y, p, t). let (z, q, k) = line-is (columns ρ) l j r y rb .0 t in (z, y, q, p, k)),
-        (λ (z, y, q, p, k). (y, p, line-is (columns ρ) l j r y rb .1 (z, q, k))),
+        (λ (y, p, t). let (z, q, k) = line-is (columns ρ) (columns-partition ρ) l j r y rb .0 t in (z, y, q, p, k)),
+        (λ (z, y, q, p, k). (y, p, line-is (columns ρ) (columns-partition ρ) l j r y rb .1 (z, q, k))),
       ))
 
   at-row : (f r s : ℕ) → s < ρ → place ρ f r s ≡ (rows ρ) .entry (ρ * f + s) r
@@ -114,12 +114,12 @@ module _ (ρ φ a b to : ℕ) (ab : a < ρ) (bb : b < ρ) where
       ∙ ap (λ m. maskMoved m (bitOr (2 ^ a) (2 ^ b)) to)
       (united-at (rows ρ) (has to) a b C (place ρ f r s) hC ∙ ap (unitedAt (rows ρ) (has to) a b C) (at-row f r s sb)) in
       Iff·trans (same-iff (ap (λ m. has m c) e)) (Iff·trans (mask-is (unitedAt (rows ρ) (has to) a b C ((rows ρ) .entry (ρ * f + s) r)) c) (
-        (λ (d, o, t). let (z, p, k) = line-is (rows ρ) C (ρ * f + s) r d rb .0 t in
+        (λ (d, o, t). let (z, p, k) = line-is (rows ρ) (rows-partition ρ) C (ρ * f + s) r d rb .0 t in
             let (y, q, m) = column z d (pick-below r z rb p) .0 (subst (λ i. T (has (getD C i 0) d)) (sym (at-row f z s sb)) k) in (z, y, d, p, q, o, m)),
         (λ (z, y, d, p, q, o, m). (
           d,
           o,
-          line-is (rows ρ) C (ρ * f + s) r d rb .1
+          line-is (rows ρ) (rows-partition ρ) C (ρ * f + s) r d rb .1
               (z, p, subst (λ i. T (has (getD C i 0) d)) (at-row f z s sb) (column z d (pick-below r z rb p) .1 (y, q, m))),
         )),
       ))
@@ -128,7 +128,7 @@ module _ (ρ φ a b to : ℕ) (ab : a < ρ) (bb : b < ρ) where
           ↔ ((y : ℕ) × Pick s y × T (has (getD l (place ρ f z y) 0) d))
       column z d zb = Iff·trans (same-iff
           (ap (λ m. has m d) (united-at (columns ρ) (has to) a b l (place ρ f z s)
-          (subst (λ k. place ρ f z s < k) (sym len) (place-below ρ f z s zb sb φ fb))))) (line-is (columns ρ) l (ρ * f + z) s d sb)
+          (subst (λ k. place ρ f z s < k) (sym len) (place-below ρ f z s zb sb φ fb))))) (line-is (columns ρ) (columns-partition ρ) l (ρ * f + z) s d sb)
 
 -- ---- a copy: one register is read as another
 

@@ -10,11 +10,10 @@ use lib.Bits.{bitOr, or-self}
 use lib.ListN.{length, getD, set}
 use borrow.Author.Tests.{lt-ltb}
 use Rattle.base.specs.Masks.{has}
-use Rattle.window.proofs.Theory.Places.{some, entry-below, line-below, place-below, function-below, second-below}
-use Rattle.window.specs.Places.{entry-is, line-entry, place-sum}
+use Rattle.window.proofs.Theory.Places.{some, entry-below, line-below, place-below, function-below, second-below, entry-is, line-entry, place-sum}
 use Rattle.window.proofs.Theory.Table.{table-length, table-at, Swept, swept-more}
 use Rattle.window.specs.Lines.{TableLines, columns, rows, united}
-use Rattle.window.proofs.Theory.Lines.{Spans, united-length, united-turn, united-none, united-same, united-twice}
+use Rattle.window.proofs.Theory.Lines.{Partition, Spans, united-length, united-turn, united-none, united-same, united-twice}
 use Rattle.window.specs.Bits.{maskMoved}
 use Rattle.window.proofs.Theory.Bits.{single-test, until, until-none, until-more, until-skip}
 use Rattle.window.specs.Through.{bitsMoved, masksThrough, resultsThrough}
@@ -95,24 +94,24 @@ results-copied ρ x y l m n k from to e f p q d = rw (d, p, q, f, e, or-self (2 
 
 -- ---- a merge: each register of `to` is read as a and as b
 
-module _ {ρ : ℕ} (L : TableLines ρ) (n : ℕ) (to a : ℕ) (ab : a < ρ) where
+module _ {ρ : ℕ} (L : TableLines ρ) (partition : Partition L) (n : ℕ) (to a : ℕ) (ab : a < ρ) where
   pub spread-none : (old : List ℕ) → old ≡ united L (until to 0) a a old
   spread-none old = united-none L a a old (until to 0) (until-none to)
 
   pub spread-more : (old l m : List ℕ) (r : ℕ) → Spans L n old → l ≡ united L (until to r) a a old → has to r ≡ true → m ≡ united L (λ s. eqb s r) a a l
       → m ≡ united L (until to (r + 1)) a a old
-  spread-more old l m r sp e t d = rw (d, e) (united-turn L n old sp a ab (until to r) (until to (r + 1)) r (λ s. until-more to r s t))
+  spread-more old l m r sp e t d = rw (d, e) (united-turn L partition n old sp a ab (until to r) (until to (r + 1)) r (λ s. until-more to r s t))
 
   pub spread-skip : (old l : List ℕ) (r : ℕ) → l ≡ united L (until to r) a a old → has to r ≡ false → l ≡ united L (until to (r + 1)) a a old
   spread-skip old l r e t = e ∙ ap (λ P. united L P a a old) (fun-ext λ s. sym (until-skip to r s t))
 
   pub spread-all : (old l : List ℕ) (r : ℕ) → l ≡ united L (until to r) a a old → ρ ≤ r → l ≡ united L (has to) a a old
-  spread-all old l r e h = e ∙ united-same L (until to r) (has to) a a old (omega arith) (λ s b. rw (lt-ltb s r (omega arith)))
+  spread-all old l r e h = e ∙ united-same L partition (until to r) (has to) a a old (omega arith) (λ s b. rw (lt-ltb s r (omega arith)))
 
   -- a gets the union of its entry and that of b, and then each register of `to` gets the entry of a
   pub merged-twice : (old l m : List ℕ) (b : ℕ) → Spans L n old → has to a ≡ true → l ≡ united L (λ s. eqb s a) a b old → m ≡ united L (has to) a a l
       → m ≡ united L (has to) a b old
-  merged-twice old l m b sp t e d = rw (d, e) (united-twice L n old sp a ab (has to) b t)
+  merged-twice old l m b sp t e d = rw (d, e) (united-twice L partition n old sp a ab (has to) b t)
 
 pub masks-merged : (ρ a b to : ℕ) (l m k : List ℕ) (from : ℕ) → m ≡ united (columns ρ) (has to) a b l → from ≡ bitOr (2 ^ a) (2 ^ b) → k ≡ bitsMoved from to m
     → k ≡ masksThrough ρ a b to l

@@ -15,8 +15,8 @@ use Rattle.base.specs.Masks.{bit, has}
 use Rattle.base.proofs.Theory.MaskLaws.{bits-same}
 use Rattle.semantics.proofs.Theory.Of.{same-test}
 use Rattle.semantics.specs.Terms.{State}
-use Rattle.window.specs.Places.{placeFunction, placeFirst, placeSecond, entry-is, place-is}
-use Rattle.window.proofs.Theory.Places.{some, line-below, function-below, first-below, second-below}
+use Rattle.window.specs.Places.{placeFunction, placeFirst, placeSecond}
+use Rattle.window.proofs.Theory.Places.{entry-is, place-is, some, line-below, function-below, first-below, second-below}
 use Rattle.window.proofs.Theory.Bits.{less-or}
 use Rattle.window.specs.Viewing.{view, Masks}
 use Rattle.window.specs.Stepping.{IsWindowInLayout}

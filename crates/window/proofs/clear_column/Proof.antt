@@ -5,7 +5,7 @@ use native.Mathlib.Omega.{arith}
 use borrow.Author.Needs.{needs}
 use Rattle.window.specs.Layout.{registers}
 use Rattle.window.specs.Lines.{columns, clearedAt}
-use Rattle.window.proofs.Theory.Lines.{Gone, gone-none, clear-more, cleared-all}
+use Rattle.window.proofs.Theory.Lines.{columns-partition, Gone, gone-none, clear-more, cleared-all}
 use Rattle.window.proofs.Theory.Through.{columns-span}
 use Rattle.window.proofs.clear_column.Statement.{statement}
 use Rattle.window.proofs.clear_column.Tie as tie
@@ -29,7 +29,7 @@ clear-column-spec = tie.close (tie.spec
     (λ c. let k = c .before in let l = c .loop-test .taken in (
       k .loop .inv .0,
       omega arith,
-      clear-more (columns registers) _ _ _ _ _ (columns-span registers _ _ (k .before .pre .1) (k .loop .inv .0))
+      clear-more (columns registers) (columns-partition registers) _ _ _ _ _ (columns-span registers _ _ (k .before .pre .1) (k .loop .inv .0))
           (k .before .pre .0) l (k .loop .inv .2),
     ))
     (λ c. c .before .loop .inv .2 .long)

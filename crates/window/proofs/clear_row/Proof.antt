@@ -5,7 +5,7 @@ use native.Mathlib.Omega.{arith}
 use borrow.Author.Needs.{needs}
 use Rattle.window.specs.Layout.{registers}
 use Rattle.window.specs.Lines.{rows, clearedAt}
-use Rattle.window.proofs.Theory.Lines.{Gone, gone-none, clear-more, cleared-all}
+use Rattle.window.proofs.Theory.Lines.{rows-partition, Gone, gone-none, clear-more, cleared-all}
 use Rattle.window.proofs.Theory.Through.{rows-whole}
 use Rattle.window.proofs.clear_row.Statement.{statement}
 use Rattle.window.proofs.clear_row.Tie as tie
@@ -31,7 +31,7 @@ clear-row-spec = tie.close (tie.spec
     (λ c. let k = c .before in let l = c .loop-test .taken in (
       k .loop .inv .0,
       omega arith,
-      clear-more (rows registers) _ _ _ _ _ (rows-whole registers (search needs) _ _ (k .before .pre .1) (k .loop .inv .0))
+      clear-more (rows registers) (rows-partition registers) _ _ _ _ _ (rows-whole registers (search needs) _ _ (k .before .pre .1) (k .loop .inv .0))
           (k .before .pre .0) l (k .loop .inv .2),
     ))
     (λ c. c .before .loop .inv .2 .long)

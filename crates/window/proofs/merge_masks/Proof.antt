@@ -3,6 +3,7 @@ use mathlib.Core.Path.{refl, ap₂}
 use lib.Bits.{bitOr}
 use Rattle.window.specs.Layout.{registers}
 use Rattle.window.specs.Lines.{columns}
+use Rattle.window.proofs.Theory.Lines.{columns-partition}
 use Rattle.window.proofs.Theory.Through.{columns-span, merged-twice, masks-merged}
 use Rattle.window.proofs.merge_masks.Statement.{statement}
 use Rattle.window.proofs.merge_masks.Tie as tie
@@ -24,6 +25,7 @@ merge-masks-spec = tie.close (tie.spec
     let k = at-before .before in
     let p = k .before .before .before .pre in
     masks-merged registers _ _ _ _ _ _ _
-    (merged-twice (columns registers) _ _ _ (p .0) _ _ _ _ (columns-span registers _ _ (p .3) refl) (p .2) (k .unite-column .ensures)
+    (merged-twice (columns registers) (columns-partition registers) _ _ _ (p .0) _ _ _ _
+    (columns-span registers _ _ (p .3) refl) (p .2) (k .unite-column .ensures)
     (at-spread-column .spread-column .ensures)) (ap₂ bitOr (at-single .single .ensures) (at-single2 .single2 .ensures))
     (at-move-bits .move-bits .ensures)))

@@ -4,7 +4,7 @@ use lib.Bits.{bitOr}
 use lib.ListN.{length}
 use Rattle.window.specs.Layout.{registers, functions, lines}
 use Rattle.window.specs.Lines.{columns, rows}
-use Rattle.window.proofs.Theory.Lines.{united-length}
+use Rattle.window.proofs.Theory.Lines.{columns-partition, rows-partition, united-length}
 use Rattle.window.proofs.Theory.Through.{columns-span, rows-span, merged-twice, results-merged, whole}
 use Rattle.window.proofs.merge_results.Statement.{statement}
 use Rattle.window.proofs.merge_results.Tie as tie
@@ -29,11 +29,12 @@ merge-results-spec = tie.close (tie.spec
     let at-before = at-spread-column .before .before .before in
     let k = at-before .before in
     let p = k .before .before .before .pre in
-    let m = merged-twice (columns registers) _ _ _ (p .0) _ _ _ _
+    let m = merged-twice (columns registers) (columns-partition registers) _ _ _ (p .0) _ _ _ _
     (columns-span registers _ _ (whole registers lines (k .before .before .before .args .t .now) (p .3)) refl) (p .2) (k .unite-column .ensures)
     (at-spread-column .spread-column .ensures) in
     results-merged registers _ _ _ _ _ _ _ _
     m
-    (merged-twice (rows registers) _ _ _ (p .0) _ _ _ _ (rows-span registers functions _ (ap length m ∙ united-length (columns registers) _ _ _ _ ∙ p .3))
+    (merged-twice (rows registers) (rows-partition registers) _ _ _ (p .0) _ _ _ _
+    (rows-span registers functions _ (ap length m ∙ united-length (columns registers) _ _ _ _ ∙ p .3))
     (p .2) (at-unite-row .unite-row .ensures) (at-spread-row .spread-row .ensures))
     (ap₂ bitOr (at-single .single .ensures) (at-single2 .single2 .ensures)) (at-move-bits .move-bits .ensures)))

@@ -7,7 +7,7 @@ use borrow.Author.Needs.{needs}
 use Rattle.window.specs.Layout.{registers}
 use Rattle.window.proofs.Theory.Bits.{until}
 use Rattle.window.specs.Lines.{columns, united}
-use Rattle.window.proofs.Theory.Lines.{united-length}
+use Rattle.window.proofs.Theory.Lines.{columns-partition, united-length}
 use Rattle.window.proofs.Theory.Through.{columns-span, spread-none, spread-more, spread-skip, spread-all}
 use Rattle.window.proofs.spread_column.Statement.{statement}
 use Rattle.window.proofs.spread_column.Tie as tie
@@ -27,16 +27,17 @@ loop-again c =
       let p = at-pre .pre in
           let l = at-loop .loop .inv .1 in
           ⊎-elim
-          (λ (i, _, u, _, _, e). e ∙ spread-more (columns registers) _ _ _ (p .0) _ _ _ _ (columns-span registers _ _ (p .1) refl) l
-          (sym (c .before .holds .ensures) ∙ i .taken) (u .ensures))
-          (λ (i, e). e ∙ spread-skip (columns registers) 0 _ _ (p .0) _ _ _ l (sym (c .before .holds .ensures) ∙ i .left)) (c .if1 .came),
+          (λ (i, _, u, _, _, e). e ∙ spread-more (columns registers) (columns-partition registers) _ _ _ (p .0) _ _ _ _
+          (columns-span registers _ _ (p .1) refl) l (sym (c .before .holds .ensures) ∙ i .taken) (u .ensures))
+          (λ (i, e). e ∙ spread-skip (columns registers) (columns-partition registers) 0 _ _ (p .0) _ _ _ l
+          (sym (c .before .holds .ensures) ∙ i .left)) (c .if1 .came),
     )
 
 pub spread-column-spec : {M : Type 1} → statement M
 spread-column-spec = tie.close (tie.spec
     Inv-loop
     μ-loop
-    (λ c. (search needs, spread-none (columns registers) 0 _ _ (c .before .pre .0) _))
+    (λ c. (search needs, spread-none (columns registers) (columns-partition registers) 0 _ _ (c .before .pre .0) _))
     (λ c κs. search needs)
     (λ c κs. let k = c .before .before .before .before in let e = ap length (k .loop .inv .1) ∙ united-length (columns registers) _ _ _ _ in
     (search needs, search needs, search needs, omega (arith, e, k .before .before .pre .1)))
@@ -44,4 +45,5 @@ spread-column-spec = tie.close (tie.spec
     (λ c. search needs)
     loop-again
     (λ c. ap length (c .before .loop .inv .1) ∙ united-length (columns registers) _ _ _ _)
-    (λ c. spread-all (columns registers) 0 _ _ (c .before .before .before .pre .0) _ _ _ (c .before .loop .inv .1) (c .loop-test .left)))
+    (λ c. spread-all (columns registers) (columns-partition registers) 0 _ _ (c .before .before .before .pre .0) _ _ _
+    (c .before .loop .inv .1) (c .loop-test .left)))

@@ -6,7 +6,7 @@ use native.Mathlib.Omega.{arith}
 use borrow.Author.Needs.{needs}
 use Rattle.window.specs.Layout.{registers}
 use Rattle.window.specs.Lines.{columns, unitedAt}
-use Rattle.window.proofs.Theory.Lines.{Gone, gone-none, unite-more, united-all}
+use Rattle.window.proofs.Theory.Lines.{columns-partition, Gone, gone-none, unite-more, united-all}
 use Rattle.window.proofs.Theory.Through.{columns-span}
 use Rattle.window.proofs.unite_column.Statement.{statement}
 use Rattle.window.proofs.unite_column.Tie as tie
@@ -36,7 +36,7 @@ unite-column-spec = tie.close (tie.spec
     (λ c. let k = c .before .before .before in let l = c .before .before .loop-test .taken in (
       k .loop .inv .0,
       omega arith,
-      unite-more (columns registers) _ _ _ _ _ _ _ (columns-span registers _ _ (k .before .pre .3) (k .loop .inv .0))
+      unite-more (columns registers) (columns-partition registers) _ _ _ _ _ _ _ (columns-span registers _ _ (k .before .pre .3) (k .loop .inv .0))
           (k .before .pre .0) (k .before .pre .1) (k .before .pre .2) l (k .loop .inv .2),
     ))
     (λ c. c .before .loop .inv .2 .long)

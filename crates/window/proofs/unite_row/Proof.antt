@@ -6,7 +6,7 @@ use native.Mathlib.Omega.{arith}
 use borrow.Author.Needs.{needs}
 use Rattle.window.specs.Layout.{registers}
 use Rattle.window.specs.Lines.{rows, unitedAt}
-use Rattle.window.proofs.Theory.Lines.{Gone, gone-none, unite-more, united-all}
+use Rattle.window.proofs.Theory.Lines.{rows-partition, Gone, gone-none, unite-more, united-all}
 use Rattle.window.proofs.Theory.Through.{rows-whole}
 use Rattle.window.proofs.unite_row.Statement.{statement}
 use Rattle.window.proofs.unite_row.Tie as tie
@@ -40,7 +40,7 @@ unite-row-spec = tie.close (tie.spec
     (λ c. let k = c .before .before .before in let l = c .before .before .loop-test .taken in (
       k .loop .inv .0,
       omega arith,
-      unite-more (rows registers) _ _ _ _ _ _ _ (rows-whole registers (search needs) _ _ (k .before .pre .3) (k .loop .inv .0))
+      unite-more (rows registers) (rows-partition registers) _ _ _ _ _ _ _ (rows-whole registers (search needs) _ _ (k .before .pre .3) (k .loop .inv .0))
           (k .before .pre .0) (k .before .pre .1) (k .before .pre .2) l (k .loop .inv .2),
     ))
     (λ c. c .before .loop .inv .2 .long)
