@@ -1,4 +1,4 @@
--- How the code holds the points of a macro.
+-- How the code holds the points of a macro (SPEC 9.3).
 use Prim.Native.Nat.{ℕ, _+_, _-_}
 use mathlib.Core.Path.{_≡_}
 use mathlib.Core.Bool.{Bool}

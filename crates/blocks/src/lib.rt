@@ -1,4 +1,4 @@
-// Statements and blocks of a macro, and the table of its points (document 01, "Macro text").
+// Statements and blocks of a macro, and the table of its points (SPEC 8.3, 9.3).
 use letters::Letter;
 use letters::refusal_numbers::NESTING_TOO_DEEP;
 use phrases::GotLetter;

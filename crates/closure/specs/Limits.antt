@@ -1,4 +1,4 @@
--- The limits of the whole-trace engine (document 01, "The work": "Registers: 1 to 8. Functions: 0 to 4"; "The whole-trace engine takes at most 1,024 letters").
+-- The limits of the whole-trace engine (SPEC 1.3; document 01: "Registers: 1 to 8. Functions: 0 to 4"; "The whole-trace engine takes at most 1,024 letters").
 use Prim.Native.Nat.{ℕ, _+_, _*_}
 use Rattle.letters.specs.Editions.{mostLetters, mostRegisters, mostFunctions}
 

@@ -1,4 +1,4 @@
--- The moves of the search, as its code performs them: how it ends, and the table afterwards. The order is that of document 01, "shorter first, then
+-- The moves of the search, as its code performs them: how it ends, and the table afterwards. The order is that of SPEC 10.1, "shorter first, then
 -- by branch": the pairs as they were listed, and at each the first branch before the second. So move number d is branch d % 2 of pair d / 2.
 use Prim.Native.Nat.{ℕ, zero, suc, _+_, _*_, _/_, _%_}
 use mathlib.Core.List.{List}

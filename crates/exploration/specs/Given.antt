@@ -5,7 +5,7 @@ use Rattle.macros.specs.Points.{sizeBlock}
 use Rattle.grammar.specs.Grammar.{Macro}
 use Rattle.grammar.specs.Spelled.{InOrder}
 
--- A macro in order, of no more points than document 01 allows.
+-- A macro in order, of no more points than SPEC 1.3 allows.
 pub record Given : Type 0 where
   pub macro : Macro
   pub in-order : InOrder macro

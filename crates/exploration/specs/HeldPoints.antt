@@ -1,4 +1,4 @@
--- The branches of a point as the reader holds it, as moves.
+-- The branches of a point as the reader holds it, as moves (SPEC 9.4).
 use Prim.Native.Nat.{ℕ}
 use Rattle.macros.specs.Walk.{at, failure, Move, no-move, move}
 use Rattle.exploration.specs.declared.PointMove as enum

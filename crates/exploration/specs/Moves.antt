@@ -1,4 +1,4 @@
--- The branches of a point as the reader stores it. Document 01: "At a branch the condition as written comes first; at an assert, the failing letter."
+-- The branches of a point as the reader stores it. SPEC 9.4; document 01: "At a branch the condition as written comes first; at an assert, the failing letter."
 use Prim.Native.Nat.{ℕ}
 use lib.Dec.{eqb}
 use Rattle.base.specs.Choice.{pick}

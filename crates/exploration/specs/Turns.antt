@@ -1,4 +1,4 @@
--- One move of the search (document 01, "The search for a verdict"), as its code performs it: what it comes to, and the table afterwards.
+-- One move of the search (SPEC 10.2, 10.3, 10.6; document 01), as its code performs it: what it comes to, and the table afterwards.
 use Prim.Native.Nat.{ℕ, _+_, _*_, _/_, _%_, _≤_, _<_}
 use mathlib.Core.List.{List}
 use lib.Dec.{eqb, leb}
@@ -22,7 +22,7 @@ pub record Room (n count d size : ℕ) : Type 0 where
   pub listed : count ≤ n
   pub due : d < 2 * count
 
--- Point k is reached with the window w: a pair, unless k is the end. Of the count of pairs: "full is given exactly when it passes N".
+-- Point k is reached with the window w: a pair, unless k is the end. Of the count of pairs: "full is given exactly when it passes N" (SPEC 10.6).
 unfoldable pub reachTurn : ℕ → Window → ℕ → ℕ → ℕ → List ℕ → Turn
 reachTurn k w end n count t = pick (leb end k) (λ _. On count) λ _. pick (isListed t count (encoded k w)) (λ _. On count) λ _. pick (eqb count n) (λ _. Full)
     λ _. On (count + 1)
@@ -32,11 +32,11 @@ reachTable k w end n count d t =
     pick (leb end k) (λ _. t) λ _. pick (isListed t count (encoded k w)) (λ _. t) λ _. pick (eqb count n) (λ _. t) λ _. putAt t count
     (recordOf (encoded k w) (d / 2) (d % 2))
 
--- An assertion fails with the window w. "Infeasible executions are followed too", and are no event.
+-- An assertion fails with the window w. "Infeasible executions are followed too" (SPEC 10.3), and are no event.
 unfoldable pub failTurn : Window → ℕ → Turn
 failTurn w count = pick (w .infeasible) (λ _. On count) λ _. Failing
 
--- A branch is taken with the window w. "A failing letter that is itself incoherent counts as incoherent."
+-- A branch is taken with the window w. "A failing letter that is itself incoherent counts as incoherent." (SPEC 10.3)
 unfoldable pub takenTurn : PointMove → Window → ℕ → ℕ → ℕ → List ℕ → Turn
 takenTurn Nothing w end n count t = On count
 takenTurn (Goes a k) w end n count t = pick (judgeOf w a) (λ _. reachTurn k (performOf w a) end n count t) λ _. Breaking

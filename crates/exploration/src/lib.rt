@@ -1,4 +1,4 @@
-// The exploration of the pairs of a macro, breadth first from pair to pair (document 01, "The search for a verdict").
+// The exploration of the pairs of a macro, breadth first from pair to pair (SPEC 10).
 use blocks::CHECK;
 use blocks::MOST_POINTS;
 use blocks::PointEntry;

@@ -1,4 +1,4 @@
--- The verdict on a macro as numbers in a lent slice: refusal, place, verdict, pairs, letters of the first event's execution.
+-- The verdict on a macro as numbers in a lent slice: refusal, place, verdict, pairs, letters of the first event's execution (SPEC 10.7).
 -- Document 01: "Where an answer is an enum, a definition gives this paper's number and values for each of its cases."
 use mathlib.Core.Path.{_≡_}
 use Prim.Native.Nat.{ℕ, _≤_, _<_}

@@ -37,7 +37,7 @@ monitorKind = 1
 abbrev pub streamKind : ℕ
 streamKind = 2
 
--- Document 01 has no number for a state that is too short or of another kind.
+-- SPEC 11 has no number for a state that is too short or of another kind.
 abbrev pub noState : ℕ
 noState = 255
 
@@ -65,7 +65,7 @@ monitorNumbers number m = number ∷ 0 ∷ flag (m .running) ∷ flag (m .window
 unfoldable pub steppedNumbers : Stepped → List ℕ
 steppedNumbers r = monitorNumbers (outcomeNumber (r .outcome)) (r .monitor)
 
--- the state after a call that gave r; "its window unchanged" where it is refused
+-- the state after a call that gave r; "its window unchanged" where it is refused (SPEC 6.2)
 unfoldable pub keptOver : Stepped → List ℕ → List ℕ
 keptOver r s = onAnswer (outcomeAnswer (r .outcome)) (λ _. monitorThen monitorKind (r .monitor) (drop monitorSize s)) λ _ _. s
 
@@ -94,7 +94,7 @@ pub record StartsMonitor (word : ℕ) (entry answer exit answer′ : List ℕ) :
   pub holds : stepCount ≤ length answer → monitorSize ≤ length entry → (h : Header) → HeaderFits firstEdition h
       → headerWord firstEdition h ≡ word
       → HoldsMonitor (begin h) exit × (answer′ ≡ monitorNumbers 0 (monitorIn exit) ++ drop stepCount answer)
-  -- "it refuses a header by 3": no header has that word
+  -- "it refuses a header by 3" (SPEC 6.1): no header has that word
   pub refused : stepCount ≤ length answer → monitorSize ≤ length entry → ((h : Header) → HeaderFits firstEdition h → headerWord firstEdition h ≡ word → ⊥)
       → (exit ≡ entry) × (answer′ ≡ refusedStart ++ drop stepCount answer)
 
@@ -108,7 +108,7 @@ pub record StepsMonitor (word : ℕ) (entry answer exit answer′ : List ℕ) : 
   pub holds : stepCount ≤ length answer → monitorSize ≤ length entry → (ρ : Trace) → HoldsMonitor ρ entry → (a : Letter) → Fits (state ρ .header) a
       → letterWord firstEdition (state ρ .header) a ≡ word
       → HoldsMonitor (ρ ▸ a) exit × (answer′ ≡ monitorNumbers 0 (monitorIn exit) ++ drop stepCount answer)
-  -- "it refuses a letter by 4, place 0, its window unchanged": no letter has that word
+  -- "it refuses a letter by 4, place 0, its window unchanged" (SPEC 6.2): no letter has that word
   pub refused : stepCount ≤ length answer → monitorSize ≤ length entry → (ρ : Trace) → HoldsMonitor ρ entry
       → ((a : Letter) → Fits (state ρ .header) a → letterWord firstEdition (state ρ .header) a ≡ word → ⊥)
       → (exit ≡ entry) × (answer′ ≡ monitorNumbers letterMalformed (monitorIn entry) ++ drop stepCount answer)
@@ -139,9 +139,9 @@ pub record FinishesStream (entry answer answer′ : List ℕ) : Type 0 where
   pub none : runCount ≤ length answer → holdsState streamKind streamSize entry ≡ false → answer′ ≡ noStateNumbers ++ drop runCount answer
   pub finished : runCount ≤ length answer → holdsState streamKind streamSize entry ≡ true
       → answer′ ≡ runNumbers (runAnswer (finishedOf (streamIn entry))) ++ drop runCount answer
-  -- demand 2 for all the bytes together
+  -- demand 2 for all the bytes together (SPEC 6.4)
   pub meets : (bytes : List ℕ) → HoldsStream bytes entry → letterCount firstEdition bytes ≤ last
       → Demand2 bytes (runAnswer (finishedOf (streamIn entry)))
-  -- of more letters than 64 bits can number, those have the last number
+  -- of more letters than 64 bits can number, those have the last number (SPEC 6.5)
   pub beyond : (bytes : List ℕ) → HoldsStream bytes entry → (exact : Answer (ℕ × ℕ)) → Demand2 bytes exact
       → runAnswer (finishedOf (streamIn entry)) ≡ cappedAnswer exact

@@ -27,7 +27,7 @@ const MONITOR: u8 = 1;
 
 const STREAM: u8 = 2;
 
-// What is answered for a state that is too short or of another kind; document 01 has no such number.
+// What is answered for a state that is too short or of another kind; SPEC 11 has no such number.
 const NO_STATE: u64 = 255;
 
 // How many numbers a call of the monitor answers.

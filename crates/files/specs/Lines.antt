@@ -19,7 +19,7 @@ known (Ended n) buffer = bytes (take n buffer)
 known Full buffer = bytes buffer
 known (Failed n) buffer = unread
 
--- The lines of the bytes are in a lent buffer, by `Prints`; or there is nothing to judge: no line is written, and the buffer stays as it was lent.
+-- The lines of the bytes are in a lent buffer, by `Prints`; or there is nothing to judge: no line is written, and the buffer stays as it was lent (SPEC 12.5).
 abbrev pub Answers : (List ℕ → List ℕ → ℕ → List ℕ → Type 0) → Known → List ℕ → files.Lines → List ℕ → Type 0
 Answers Prints (bytes s) entry (Written size) exit = Prints s entry size exit
 Answers Prints (bytes s) entry Unread exit = ⊥

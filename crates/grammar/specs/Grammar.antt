@@ -1,4 +1,4 @@
--- Macros with their names, and their sentences: the tokens that spell a macro (document 01, "Macro text").
+-- Macros with their names, and their sentences: the tokens that spell a macro (SPEC 8.3 to 8.5; document 01).
 use Prim.Native.Nat.{ℕ, zero, suc, _+_, _*_}
 use mathlib.Core.List.{List, [], _∷_, _++_}
 use mathlib.Core.Bool.{Bool}
@@ -11,14 +11,14 @@ use Rattle.letters.specs.declared.Letter.the-variants.{Copy, Apply, Equal, Uneq
 use Rattle.macros.specs.Tree.{Condition, equal, unequal, Statement, skip, perform, assert, if, while, Else, absent, present, Block, empty, _then_}
 use Rattle.tokens.specs.Words as word
 
--- A macro: the names of its registers, the names of its functions and how many arguments each takes, and its statements.
+-- A macro: the names of its registers, the names of its functions and how many arguments each takes, and its statements (SPEC 8).
 pub record Macro : Type 0 where
   pub registers : List ℕ
   pub functions : List ℕ
   pub arities : List ℕ
   pub body : Block
 
--- The functions of two arguments as a mask, function 0 lowest.
+-- The functions of two arguments as a mask, function 0 lowest (SPEC 2.6, 8.4).
 abbrev pub binaryOf : List ℕ → ℕ
 binaryOf [] = 0
 binaryOf (n ∷ ns) = pick (eqb n 2) (λ _. 1) (λ _. 0) + 2 * binaryOf ns
@@ -41,7 +41,7 @@ module _ (rs fs ns : List ℕ) where
   abbrev pub takesTwo : ℕ → Bool
   takesTwo f = eqb (getD ns f 0) 2
 
-  -- "C is `a = b` or `a != b`."
+  -- "C is `a = b` or `a != b`." (SPEC 8.3)
   abbrev pub conditionTokens : Condition → List ℕ
   conditionTokens (equal x y) = register x ∷ word.equalKey ∷ register y ∷ []
   conditionTokens (unequal x y) = register x ∷ word.unequalKey ∷ register y ∷ []
@@ -74,18 +74,18 @@ module _ (rs fs ns : List ℕ) where
     blockTokens empty = []
     blockTokens (s then b) = statementTokens s ++ blockTokens b
 
--- "entries such as `cap/1`": the digits 1 and 2 are the bytes 49 and 50
+-- "entries such as `cap/1`": the digits 1 and 2 are the bytes 49 and 50 (SPEC 8.3)
 unfoldable pub entryTokens : List ℕ → List ℕ → List ℕ
 entryTokens [] ns = []
 entryTokens (f ∷ fs) [] = []
 entryTokens (f ∷ fs) (n ∷ ns) = f ∷ word.slashKey ∷ (48 + n) ∷ entryTokens fs ns
 
--- "then perhaps `funs` entries and `;` (at least one in each list)"
+-- "then perhaps `funs` entries and `;` (at least one in each list)" (SPEC 8.3)
 unfoldable pub functionTokens : List ℕ → List ℕ → List ℕ
 functionTokens [] ns = []
 functionTokens (f ∷ fs) ns = word.funsKey ∷ (entryTokens (f ∷ fs) ns ++ word.semicolonKey ∷ [])
 
--- "A macro is `vars` names `;`, then perhaps `funs` .., then statements, perhaps none."
+-- "A macro is `vars` names `;`, then perhaps `funs` .., then statements, perhaps none." (SPEC 8.3)
 unfoldable pub sentence : Macro → List ℕ
 sentence m =
     word.varsKey ∷ (m .registers ++ word.semicolonKey ∷
@@ -98,7 +98,7 @@ abbrev pub OneDeeper : (ℕ → Type 0) → ℕ → Type 0
 OneDeeper P zero = ⊥
 OneDeeper P (suc d) = P d
 
--- "Braces nest at most 16 deep": at most d deep.
+-- "Braces nest at most 16 deep": at most d deep (SPEC 8.5).
 abbrev mutual
   pub Nests : Statement → ℕ → Type 0
   Nests skip d = Unit {0}

@@ -1,4 +1,4 @@
--- What reading a text gives: a macro, or the number of a refusal and its place (document 01, "The questions", 7 to 13).
+-- What reading a text gives: a macro, or the number of a refusal and its place (SPEC 11.3, 11.4; document 01, questions 7 to 13).
 -- Each reader starts at a place and gives what it read with the place after it.
 use Prim.Native.Nat.{ℕ, zero, suc}
 use mathlib.Core.Bool.{Bool, true, false, not, _&&_, _||_}
@@ -88,7 +88,7 @@ module _ (s : List ℕ) where
         λ _. refusedToken t
 
   module _ (rs fs ns : List ℕ) where
-    -- behind `x :=`: "a name is a function if the next token is `(`, else a register"
+    -- behind `x :=`: "a name is a function if the next token is `(`, else a register" (SPEC 8.4, 11.4)
     unfoldable pub rightHandSide : ℕ → ℕ → Got Letter
     rightHandSide x at =
         pick (eqb (tokenAt s (tokenAt s at .end) .key) word.lparenKey)
@@ -178,6 +178,6 @@ module _ (s : List ℕ) where
   abbrev pub finishT : Macro → Token → Got Macro
   finishT m t = pick (eqb (t .key) word.end) (λ _. got m (t .end)) λ _. refusedToken t
 
-  -- "Then: at most 256 points? 13."
+  -- "Then: at most 256 points? 13." (SPEC 11.3)
   abbrev pub countT : Macro → ℕ → Got Macro
   countT m e = pick (ltb mostPoints (sizeBlock (m .body))) (λ _. Got.refused pointsTooMany 0) λ _. got m e

@@ -1,4 +1,4 @@
--- When the tokens of a text are the sentence of a macro, and when the declarations of a macro are in order.
+-- When the tokens of a text are the sentence of a macro, and when the declarations of a macro are in order (SPEC 8.3 to 8.5).
 use mathlib.Core.Path.{_≡_}
 use Prim.Native.Nat.{ℕ, _≤_, _<_}
 use mathlib.Core.Bool.{true}
@@ -17,28 +17,28 @@ pub data Spells (s : List ℕ) : ℕ → List ℕ → ℕ → Type 0 where
   none : {at : ℕ} → Spells s at [] at
   more : {at k e : ℕ} {ks : List ℕ} → tokenAt s at .key ≡ k → word.wrong < k → Spells s (tokenAt s at .end) ks e → Spells s at (k ∷ ks) e
 
--- The tokens of the whole text are the sentence of the macro.
+-- The tokens of the whole text are the sentence of the macro (SPEC 8.3).
 pub record Spelled (s : List ℕ) (m : Macro) : Type 0 where
   pub place : ℕ
   pub tokens : Spells s 0 (sentence m) place
   pub ended : tokenAt s place .key ≡ word.end
 
--- Each is a name, and no two are the same.
+-- Each is a name, and no two are the same (SPEC 8.4).
 pub record Declared (rs : List ℕ) : Type 0 where
   pub names : (i : ℕ) → i < length rs → isName (getD rs i 0) ≡ true
   pub once : (i j : ℕ) → i < length rs → j < length rs → getD rs i 0 ≡ getD rs j 0 → i ≡ j
 
--- No name of one list is in the other.
+-- No name of one list is in the other (SPEC 8.4).
 unfoldable pub Disjoint : List ℕ → List ℕ → Type 0
 Disjoint rs fs = (i j : ℕ) → i < length rs → j < length fs → getD rs i 0 ≡ getD fs j 0 → ⊥
 
--- As many as the functions, each 1 or 2.
+-- As many as the functions, each 1 or 2 (SPEC 8.4).
 pub data Arities : List ℕ → List ℕ → Type 0 where
   none : Arities [] []
   one : {f : ℕ} {fs ns : List ℕ} → Arities fs ns → Arities (f ∷ fs) (1 ∷ ns)
   two : {f : ℕ} {fs ns : List ℕ} → Arities fs ns → Arities (f ∷ fs) (2 ∷ ns)
 
--- Declarations, uses and depth are in order (questions 10 to 12).
+-- Declarations, uses and depth are in order (SPEC 8.4, 8.5; questions 10 to 12).
 pub record InOrder (m : Macro) : Type 0 where
   pub registers : Declared (m .registers)
   pub some : 1 ≤ length (m .registers)

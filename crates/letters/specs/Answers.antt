@@ -1,4 +1,4 @@
--- What a call answers: a value, or a refusal (document 01, "The questions": "A refusal is a number and a place (0 unless said)").
+-- What a call answers: a value, or a refusal (SPEC 1.2, 11.1; document 01: "A refusal is a number and a place (0 unless said)").
 use Prim.Native.Nat.{ℕ}
 
 pub data Answer (A : Type 0) : Type 0 where

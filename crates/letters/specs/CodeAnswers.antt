@@ -11,12 +11,12 @@ use Rattle.letters.specs.declared.Encoded.{Encoded}
 use Rattle.letters.specs.declared.Encoded.the-variants as encoded
 use Rattle.letters.specs.RefusalNumbers.{headerMalformed, letterMalformed}
 
--- "Header as above? 3."
+-- "Header as above? 3." (SPEC 11.2)
 abbrev pub headerAnswer : DecodedHeader → Answer Header
 headerAnswer (decoded-header.Header h) = value h
 headerAnswer decoded-header.Malformed = refusal headerMalformed 0
 
--- "Each letter well formed?" 4, here with place 0: whoever reads a trace numbers its letters.
+-- "Each letter well formed?" 4, here with place 0: whoever reads a trace numbers its letters (SPEC 11.2).
 abbrev pub letterAnswer : DecodedLetter → Answer Letter
 letterAnswer (decoded-letter.Letter l) = value l
 letterAnswer decoded-letter.Malformed = refusal letterMalformed 0

@@ -1,4 +1,4 @@
--- Words of headers and letters, read (document 01, "Letters and their packing").
+-- Words of headers and letters, read (SPEC 2.2, 2.3).
 use Prim.Native.Nat.{ℕ, _+_, _*_, _^_}
 use mathlib.Core.List.{List, [], _∷_}
 use mathlib.Core.Bool.{Bool, _&&_, _||_}
@@ -35,7 +35,7 @@ fitsTest h (Apply x f y z) = applyTest h x f y z
 fitsTest h (Equal x y) = ltb x (h .registers) && ltb y (h .registers)
 fitsTest h (Unequal x y) = ltb x (h .registers) && ltb y (h .registers)
 
--- ---- decoding: the header or letter that the fields of a word name, if it is well formed and packs to that word
+-- ---- decoding: the header or letter that the fields of a word name, if it is well formed and packs to that word (SPEC 2.2, 2.3)
 
 -- the header that these fields name
 unfoldable pub namedHeader : Edition → List ℕ → Header

@@ -1,5 +1,5 @@
--- The widths and limits of an edition of packed traces, models and pairs (document 01, "The work", "Letters and their packing", "The shown model",
--- "The search for a verdict"). The widths of fields and the most registers and functions stand here alone.
+-- The widths and limits of an edition of packed traces, models and pairs (SPEC 1.3, 2.2, 2.3, 7.4, 10.6; document 01).
+-- The widths of fields and the most registers and functions stand here alone.
 use Prim.Native.Nat.{ℕ}
 use mathlib.Core.List.{List, [], _∷_}
 
@@ -22,9 +22,9 @@ pub record Edition : Type 0 where
   -- the bytes of a pair in a lent table
   pub pairBytes : ℕ
 
--- "Registers: 1 to 8. Functions: 0 to 4."
--- "Header, 16 bits: registers 4, functions 3, arity 4, spare 5. Letter, 16 bits: kind 2, function 2, target 3, first 3, second 3, spare 3."
--- "Rows of 40 bits: function 2, argument 11, argument 11 (0 for one argument), result 11, spare 5." "Pair number k lies in bytes 192 times k onward."
+-- "Registers: 1 to 8. Functions: 0 to 4." (SPEC 1.3) "Pair number k lies in bytes 192 times k onward." (SPEC 10.6)
+-- "Header, 16 bits: registers 4, functions 3, arity 4, spare 5. Letter, 16 bits: kind 2, function 2, target 3, first 3, second 3, spare 3." (SPEC 2.2, 2.3)
+-- "Rows of 40 bits: function 2, argument 11, argument 11 (0 for one argument), result 11, spare 5." (SPEC 7.4)
 abbrev pub firstEdition : Edition
 firstEdition = record {
   registers = 8;
@@ -39,11 +39,11 @@ firstEdition = record {
   pairBytes = 192;
 }
 
--- "The whole-trace engine takes at most 1,024 letters; the monitor has no limit."
+-- "The whole-trace engine takes at most 1,024 letters; the monitor has no limit." (SPEC 1.3)
 abbrev pub mostLetters : ℕ
 mostLetters = 1024
 
--- "Registers: 1 to 8. Functions: 0 to 4." Those of the edition, by name.
+-- "Registers: 1 to 8. Functions: 0 to 4." (SPEC 1.3) Those of the edition, by name.
 abbrev pub mostRegisters : ℕ
 mostRegisters = firstEdition .registers
 

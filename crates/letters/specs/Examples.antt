@@ -1,4 +1,4 @@
--- Worked words: document 01's own, a trap, and what is not well formed, by computation.
+-- Worked words (SPEC 2.5): document 01's own, a trap, and what is not well formed, by computation.
 use mathlib.Core.Path.{_≡_, refl}
 use Prim.Native.Nat.{ℕ, _+_, _*_}
 use native.Mathlib.Omega.{arith}
@@ -12,24 +12,24 @@ use Rattle.letters.specs.Letters.{HeaderFits}
 use Rattle.letters.specs.Coding.{headerTest, letterBy, namedLetter, applyTest, fitsTest, decodeLetter}
 use Rattle.letters.specs.Words.{headerWord, letterWord}
 
--- "Three registers and one one-argument function"
+-- "Three registers and one one-argument function" (SPEC 2.5)
 abbrev pub unary : Header
 unary = record { registers = 3; functions = 1; binary = 0 }
 
 unary-fits : HeaderFits firstEdition unary
 unary-fits = record { some = omega arith; registers = omega arith; functions = omega arith; binary = omega arith }
 
--- "give hexadecimal 32 00."
+-- "give hexadecimal 32 00." (SPEC 2.5)
 unary-word : headerWord firstEdition unary ≡ 0x32 * 256 + 0x00
 unfolding headerWord
 unary-word = refl
 
--- "Then register 2 := f(register 0) is 44 00,"
+-- "Then register 2 := f(register 0) is 44 00," (SPEC 2.5)
 application-word : letterWord firstEdition unary (Apply 2 0 0 0) ≡ 0x44 * 256 + 0x00
 unfolding letterWord
 application-word = refl
 
--- "and the test register 0 = register 1 is 80 08."
+-- "and the test register 0 = register 1 is 80 08." (SPEC 2.5)
 test-word : letterWord firstEdition unary (Equal 0 1) ≡ 0x80 * 256 + 0x08
 unfolding letterWord
 test-word = refl

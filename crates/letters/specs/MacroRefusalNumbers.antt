@@ -1,34 +1,34 @@
--- The numbers of the refusals of a macro (document 01, "The questions"), each with its question. 6 is that of a trace too: RefusalNumbers.
+-- The numbers of the refusals of a macro (SPEC 11.3, 11.4; document 01), each with its question. 6 is that of a trace too: RefusalNumbers.
 use Prim.Native.Nat.{ℕ}
 
--- Of a macro. "At most 4,096 bytes? 7."
+-- Of a macro. "At most 4,096 bytes? 7." (SPEC 11.3)
 abbrev pub textTooLong : ℕ
 textTooLong = 7
 
--- "a token, and no name over eight bytes? 8."
+-- "a token, and no name over eight bytes? 8." (SPEC 11.4)
 abbrev pub tokenMalformed : ℕ
 tokenMalformed = 8
 
--- "Fits the grammar? 9 (at the text's length if it ends early)."
+-- "Fits the grammar? 9 (at the text's length if it ends early)." (SPEC 11.4)
 abbrev pub grammarViolated : ℕ
 grammarViolated = 9
 
--- "Within eight registers and four functions, each name declared once? 10."
+-- "Within eight registers and four functions, each name declared once? 10." (SPEC 11.4)
 abbrev pub declarationWrong : ℕ
 declarationWrong = 10
 
--- "A use declared, of the right sort? 11."
+-- "A use declared, of the right sort? 11." (SPEC 11.4)
 abbrev pub useWrong : ℕ
 useWrong = 11
 
--- "Braces at most 16 deep? 12."
+-- "Braces at most 16 deep? 12." (SPEC 11.4)
 abbrev pub nestingTooDeep : ℕ
 nestingTooDeep = 12
 
--- "Then: at most 256 points? 13."
+-- "Then: at most 256 points? 13." (SPEC 11.3)
 abbrev pub pointsTooMany : ℕ
 pointsTooMany = 13
 
--- "Table suffices? 14."
+-- "Table suffices? 14." (SPEC 11.3)
 abbrev pub tableTooSmall : ℕ
 tableTooSmall = 14

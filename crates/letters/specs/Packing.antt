@@ -1,4 +1,4 @@
--- Fields packed into a number, most significant bit first, over any widths (document 01: "Fields are packed most significant bit first").
+-- Fields packed into a number, most significant bit first, over any widths (SPEC 2.1; document 01: "Fields are packed most significant bit first").
 use Prim.Native.Nat.{ℕ, _+_, _*_, _/_, _%_, _^_, _<_}
 use mathlib.Core.List.{List, [], _∷_}
 
@@ -14,7 +14,7 @@ Sized [] (v ∷ values) = ⊥
 Sized (k ∷ widths) [] = ⊥
 Sized (k ∷ widths) (v ∷ values) = (v < 2 ^ k) × Sized widths values
 
--- the number that values of these widths make, the first value in the most significant bits
+-- the number that values of these widths make, the first value in the most significant bits (SPEC 2.1)
 abbrev pub join : List ℕ → List ℕ → ℕ
 join [] values = 0
 join (k ∷ widths) [] = 0

@@ -3,6 +3,6 @@ use Prim.Native.Nat.{ℕ, _+_, _/_, _%_}
 use mathlib.Core.List.{List}
 use lib.ListN.{set}
 
--- a word of two bytes at a place
+-- a word of two bytes at a place (SPEC 2.1)
 abbrev pub putWord : List ℕ → ℕ → ℕ → List ℕ
 putWord out at w = set (set out at (w / 256)) (at + 1) (w % 256)

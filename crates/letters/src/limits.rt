@@ -1,4 +1,4 @@
-// The limits of the first edition (document 01, "The work" and "Letters and their packing"): specs/Editions.antt.
+// The limits of the first edition (SPEC 1.3, 2.1; document 01): specs/Editions.antt.
 
 /// "Registers: 1 to 8."
 pub const MOST_REGISTERS: usize = 8;

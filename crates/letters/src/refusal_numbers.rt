@@ -1,4 +1,4 @@
-// The numbers of the refusals (document 01, "The questions").
+// The numbers of the refusals (SPEC 11.2 to 11.4; document 01).
 
 /// Of a trace. "At least two bytes? 1."
 pub const TRACE_TOO_SHORT: u8 = 1;

@@ -1,4 +1,4 @@
--- The executions of a macro (source document 000, Definition 2; document 01, "Executions are Definition 2's").
+-- The executions of a macro (SPEC 9.2; source document 000, Definition 2; document 01: "Executions are Definition 2's").
 use mathlib.Core.Path.{_≡_}
 use Rattle.letters.specs.declared.Letter.{Letter}
 use Rattle.semantics.specs.Terms.{Trace, _▸_}
@@ -10,7 +10,7 @@ pub data Outcome : Type 0 where
   done failed : Outcome
 
 -- Definition 2: π is ρ, and after it the letters of an execution of the statement, of an else, of a block.
--- "`assert C` is an if on C's opposite whose first branch ends the execution at a failure."
+-- "`assert C` is an if on C's opposite whose first branch ends the execution at a failure." (SPEC 9.2)
 -- After a failure nothing is executed. An absent else is an empty one.
 mutual
   pub data Exec : Statement → Trace → Trace → Outcome → Type 0 where
@@ -33,14 +33,14 @@ mutual
     both : {s : Statement} {b : Block} {ρ π τ : Trace} {o : Outcome} → Exec s ρ π done → ExecBlock b π τ o → ExecBlock (s then b) ρ τ o
     ends : {s : Statement} {b : Block} {ρ π : Trace} → Exec s ρ π failed → ExecBlock (s then b) ρ π failed
 
--- The executions of a macro from a start: `begin h` for a macro with the header h. Whole ones, and those that end at a failure.
+-- The executions of a macro from a start: `begin h` for a macro with the header h. Whole ones, and those that end at a failure (SPEC 9.2).
 abbrev pub Complete : Trace → Block → Trace → Type 0
 Complete start m ρ = ExecBlock m start ρ done
 
 abbrev pub Failing : Trace → Block → Trace → Type 0
 Failing start m ρ = ExecBlock m start ρ failed
 
--- "A partial execution is any beginning of one, empty or whole included." The empty one is the start.
+-- "A partial execution is any beginning of one, empty or whole included." (SPEC 9.2) The empty one is the start.
 pub record Partial (start : Trace) (m : Block) (ρ : Trace) : Type 0 where
   pub execution : Trace
   pub outcome : Outcome

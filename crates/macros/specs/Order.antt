@@ -1,9 +1,9 @@
--- Branches and the order of executions (document 01: "shorter first, then by branch").
+-- Branches and the order of executions (SPEC 9.4, 10.1; document 01: "shorter first, then by branch").
 use mathlib.Core.Path.{_≡_}
 use mathlib.Core.Logic.{_⊎_}
 use Prim.Native.Nat.{ℕ, suc, _<_}
 
--- At a point with one letter, that letter is the first branch.
+-- At a point with one letter, that letter is the first branch (SPEC 9.4).
 pub data Branch : Type 0 where
   first : Branch
   second : Branch
@@ -30,6 +30,6 @@ LexicallyBefore root q = ⊥
 LexicallyBefore (p ▹ b) root = ⊥
 LexicallyBefore (p ▹ b) (q ▹ c) = LexicallyBefore p q ⊎ ((p ≡ q) × BranchBefore b c)
 
--- Shorter first, then by branch.
+-- Shorter first, then by branch (SPEC 10.1).
 abbrev pub Before : Path → Path → Type 0
 Before p q = (steps p < steps q) ⊎ ((steps p ≡ steps q) × LexicallyBefore p q)

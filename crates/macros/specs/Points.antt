@@ -1,4 +1,4 @@
--- The points of a macro (document 01: "A point is an assignment, assume, assert, if or while").
+-- The points of a macro (SPEC 9.3, 9.4; document 01: "A point is an assignment, assume, assert, if or while").
 -- They are numbered from 0 in the order of the text. The number after the last one stands for the end.
 use mathlib.Core.List.{List, [], _∷_, _++_}
 use mathlib.Core.Option.{Option, none, some}
@@ -57,14 +57,14 @@ unfoldable mutual
   compileBlock empty b follow = []
   compileBlock (s then t) b follow = compile s b (entry (sizeBlock t) (b + sizeStatement s) follow) ++ compileBlock t (b + sizeStatement s) follow
 
--- The points of a whole macro, and the first point to be performed.
+-- The points of a whole macro, and the first point to be performed (SPEC 9.3).
 abbrev pub points : Block → List Point
 points m = compileBlock m 0 (sizeBlock m)
 
 abbrev pub entrance : Block → ℕ
 entrance m = entry (sizeBlock m) 0 (sizeBlock m)
 
--- The branches of a point, the condition as written first; at an assert, the failing letter.
+-- The branches of a point, the condition as written first; at an assert, the failing letter (SPEC 9.4).
 abbrev pub moves : Point → Branch → Move ℕ
 moves (step a n) first = move a (at n)
 moves (step a n) second = no-move
@@ -77,10 +77,10 @@ abbrev pub moved : Option Point → Branch → Move ℕ
 moved none b = no-move
 moved (some x) b = moves x b
 
--- The branches of point k of a table. There are none past its end.
+-- The branches of point k of a table. There are none past its end (SPEC 9.4).
 abbrev pub moves-at : List Point → ℕ → Branch → Move ℕ
 moves-at ps k b = moved (getElem? ps k) b
 
--- The walk through the points of a macro from a start along a path.
+-- The walk through the points of a macro from a start along a path (SPEC 9.4).
 abbrev pub run : Trace → Block → Path → Stand ℕ
 run start m p = walk (moves-at (points m)) (entrance m) start p

@@ -1,15 +1,15 @@
--- Macros as trees (document 01, "Macro text"). Registers and functions are numbered by their places in the declarations.
+-- Macros as trees (SPEC 8.3, 8.4, 9.1; document 01). Registers and functions are numbered by their places in the declarations.
 use Prim.Native.Nat.{ℕ}
 use Rattle.letters.specs.declared.Header.{Header}
 use Rattle.letters.specs.declared.Letter.{Letter}
 use Rattle.letters.specs.declared.Letter.the-variants.{Equal, Unequal}
 use Rattle.letters.specs.Letters.{Fits}
 
--- "C is `a = b` or `a != b`."
+-- "C is `a = b` or `a != b`." (SPEC 8.3, 9.1)
 pub data Condition : Type 0 where
   equal unequal : ℕ → ℕ → Condition
 
--- The letter that tests a condition, and the letter that tests its opposite. The operands keep their order.
+-- The letter that tests a condition, and the letter that tests its opposite. The operands keep their order (SPEC 9.1).
 abbrev pub test : Condition → Letter
 test (equal x y) = Equal x y
 test (unequal x y) = Unequal x y
@@ -18,7 +18,7 @@ abbrev pub opposite : Condition → Letter
 opposite (equal x y) = Unequal x y
 opposite (unequal x y) = Equal x y
 
--- "A block holds statements, and a statement may hold blocks, empty ones too."
+-- "A block holds statements, and a statement may hold blocks, empty ones too." (SPEC 8.3)
 mutual
   -- An assignment and an assume are the letter that they perform.
   pub data Statement : Type 0 where
@@ -28,7 +28,7 @@ mutual
     if : Condition → Block → Else → Statement
     while : Condition → Block → Statement
 
-  -- "an optional `else { .. }`"
+  -- "an optional `else { .. }`" (SPEC 8.3)
   pub data Else : Type 0 where
     absent : Else
     present : Block → Else
@@ -39,7 +39,7 @@ mutual
     _then_ : Statement → Block → Block
 
 -- The letters of a macro fit its header: what is used is declared, and the application of a one-argument function has its argument twice. That the
--- text gives a function the declared number of arguments is the reader's question 11.
+-- text gives a function the declared number of arguments is the reader's question 11 (SPEC 8.4, 11.4).
 abbrev mutual
   pub Proper : Statement → Header → Type 0
   Proper skip h = Unit {0}

@@ -1,4 +1,4 @@
--- Walks, letter by letter: places, the branches at each place, and where a path leads.
+-- Walks, letter by letter: places, the branches at each place, and where a path leads (SPEC 9.4).
 use Rattle.letters.specs.declared.Letter.{Letter}
 use Rattle.semantics.specs.Terms.{Trace, _▸_}
 use Rattle.macros.specs.Order.{Branch, Path, root, _▹_}

@@ -1,11 +1,11 @@
--- Definition 2 as the source document writes it, over words of letters. Its executions are those of Executions.
+-- Definition 2 as the source document writes it, over words of letters. Its executions are those of Executions (SPEC 9.2).
 use mathlib.Core.Path.{_≡_}
 use mathlib.Core.List.{List, [], _∷_, _++_}
 use Rattle.letters.specs.declared.Letter.{Letter}
 use Rattle.macros.specs.Tree.{Condition, test, opposite, Statement, skip, perform, assert, if, while, Else, absent, present, Block, empty, _then_}
 use Rattle.macros.specs.Executions.{Outcome, done, failed}
 
--- "Exec(s)", the words of a statement: an equation with the word where Definition 2 joins words.
+-- "Exec(s)", the words of a statement: an equation with the word where Definition 2 joins words (SPEC 9.2).
 mutual
   pub data Word : Statement → List Letter → Outcome → Type 0 where
     nothing : Word skip [] done

@@ -1,4 +1,4 @@
--- What the model program makes of a file.
+-- What the model program makes of a file (SPEC 12.4, 12.5).
 use mathlib.Core.Path.{_≡_}
 use mathlib.Core.List.{List}
 use Prim.Native.Nat.{ℕ, _+_, _-_, _*_, _%_}

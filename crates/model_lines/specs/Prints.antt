@@ -1,5 +1,5 @@
--- The line of the model program for the bytes of a trace: a refusal, the first infeasible letter, or the shown model (document 01, "The
--- shown model") in hexadecimal.
+-- The line of the model program for the bytes of a trace: a refusal, the first infeasible letter, or the shown model in
+-- hexadecimal (SPEC 12.4; document 01).
 use mathlib.Core.List.{List, [], _∷_, _++_}
 use Prim.Native.Nat.{ℕ, _/_, _%_, _≤_}
 use lib.Dec.{eqb}
@@ -43,13 +43,13 @@ infeasibleLine letter = line (infeasibleWord ∷ numeral letter ∷ [])
 unfoldable pub refusedLine : ℕ → ℕ → List ℕ
 refusedLine number place = line (refusedWord ∷ numeral number ∷ atWord ∷ numeral place ∷ [])
 
--- "An infeasible trace gets the first letter at which it is so, and no output. For a feasible trace, coherent or not:" the model.
+-- "An infeasible trace gets the first letter at which it is so, and no output. For a feasible trace, coherent or not:" the model (SPEC 7.1).
 unfoldable pub readLine : TraceReading → List ℕ
 readLine (TraceReading.refused number place) = refusedLine number place
 readLine (trace h ls) =
     pick (eqb (firstInfeasible (traceOf h ls)) 0) (λ _. modelLine (modelBytes (state (traceOf h ls)))) λ _. infeasibleLine (firstInfeasible (traceOf h ls))
 
--- The line for the bytes of a trace. Every model fits, so that there is no refusal by 6.
+-- The line for the bytes of a trace. Every model fits, so that there is no refusal by 6 (SPEC 12.4).
 abbrev pub lineFor : List ℕ → List ℕ
 lineFor s = readLine (readingWithin mostLetters firstEdition s)
 

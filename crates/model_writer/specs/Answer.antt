@@ -1,4 +1,4 @@
--- What the whole-trace engine answers (document 01, "The shown model" and "The questions": 1, 2, 3, 5, 4, then 6 where a due model does not fit).
+-- What the whole-trace engine answers (SPEC 7.1; document 01; questions of SPEC 11.2: 1, 2, 3, 5, 4, then 6 where a due model does not fit).
 use mathlib.Core.Path.{_≡_}
 use mathlib.Core.List.{List, _++_, reverse}
 use Prim.Native.Nat.{ℕ, _≤_, _<_}
@@ -41,15 +41,15 @@ shownAnswer (shown.Refused number place) = ModelAnswer.refusal number place
 unfoldable pub modelBytes : State → List ℕ
 modelBytes σ = packTables firstEdition (σ .header) (tablesOf σ)
 
--- "Does a due model fit the output? 6." An exact fit is one.
+-- "Does a due model fit the output? 6." An exact fit is one (SPEC 11.2).
 abbrev pub fitted : List ℕ → ℕ → ModelAnswer
 fitted bytes room = pick (leb (length bytes) room) (λ _. ModelAnswer.model (length bytes)) λ _. ModelAnswer.refusal outputTooSmall 0
 
--- "Refused calls write no output; bytes past a written answer stay."
+-- "Refused calls write no output; bytes past a written answer stay." (SPEC 11.5)
 abbrev pub laidIn : List ℕ → List ℕ → List ℕ
 laidIn bytes out = pick (leb (length bytes) (length out)) (λ _. bytes ++ drop (length bytes) out) λ _. out
 
--- "An infeasible trace gets the first letter at which it is so, and no output. For a feasible trace, coherent or not:" the model, where it fits.
+-- "An infeasible trace gets the first letter at which it is so, and no output. For a feasible trace, coherent or not:" the model, where it fits (SPEC 7.1).
 unfoldable pub answerTo : TraceReading → ℕ → ModelAnswer
 answerTo (TraceReading.refused number place) room = ModelAnswer.refusal number place
 answerTo (trace h ls) room = pick (eqb (firstInfeasible (traceOf h ls)) 0) (λ _. fitted (modelBytes (state (traceOf h ls))) room) λ _. ModelAnswer.infeasible
@@ -68,7 +68,7 @@ pub record IsTrace (s : List ℕ) (h : Header) (letters : List Letter) : Type 0 
   pub header : HeaderFits firstEdition h
   pub formed : WellFormed (traceOf h letters)
 
--- The tables are those that document 01 asks for; there are no others (`tables-unique`).
+-- The tables are those that SPEC 7 asks for; there are no others (`tables-unique`).
 abbrev pub ShownFor : Header → List Letter → Tables → Type 0
 ShownFor h letters t = IsShown (h .registers) (reverse (state (traceOf h letters) .terms)) (state (traceOf h letters) .equals) t
 
@@ -79,7 +79,7 @@ pub record ModelIn (bytes : List ℕ) (h : Header) (letters : List Letter) : Typ
   pub described : Describes (readTables firstEdition h bytes) model
   pub satisfies : Satisfies model (state (traceOf h letters) .equals) (state (traceOf h letters) .unequals)
 
--- A model is answered: it stands in the first n bytes of the output, and the bytes behind it stay.
+-- A model is answered: it stands in the first n bytes of the output, and the bytes behind it stay (SPEC 7.1, 11.5).
 pub record ModelShown (s out : List ℕ) (n : ℕ) (out′ : List ℕ) : Type 0 where
   pub header : Header
   pub letters : List Letter
@@ -88,7 +88,7 @@ pub record ModelShown (s out : List ℕ) (n : ℕ) (out′ : List ℕ) : Type 0 
   pub holds : ModelIn (take n out′) header letters
   pub behind : drop n out′ ≡ drop n out
 
--- A letter is answered: it is the first at which the trace is infeasible, and no model satisfies all tests of the trace.
+-- A letter is answered: it is the first at which the trace is infeasible, and no model satisfies all tests of the trace (SPEC 3.7, 7.1).
 pub record LetterNamed (s out : List ℕ) (k : ℕ) (out′ : List ℕ) : Type 0 where
   pub header : Header
   pub letters : List Letter
@@ -97,13 +97,13 @@ pub record LetterNamed (s out : List ℕ) (k : ℕ) (out′ : List ℕ) : Type 0
   pub none : ¬ Feasible (state (traceOf header letters))
   pub kept : out′ ≡ out
 
--- A refusal: the bytes are no such trace, by questions 1 to 5; or the model that is due does not fit the output.
+-- A refusal: the bytes are no such trace, by questions 1 to 5; or the model that is due does not fit the output (SPEC 11.2).
 pub data RefusedFor (s out : List ℕ) : ℕ → ℕ → Type 0 where
   unread : {number place : ℕ} → readingWithin mostLetters firstEdition s ≡ TraceReading.refused number place → RefusedFor s out number place
   unfit : {h : Header} {letters : List Letter} {t : Tables} → IsTrace s h letters → Feasible (state (traceOf h letters)) → ShownFor h letters t
       → length out < length (packTables firstEdition h t) → RefusedFor s out outputTooSmall 0
 
--- What an answer means, with the output out before and out′ after.
+-- What an answer means, with the output out before and out′ after (SPEC 7.1).
 abbrev pub Means : (s out : List ℕ) → ModelAnswer → (out′ : List ℕ) → Type 0
 Means s out (ModelAnswer.model n) out′ = ModelShown s out n out′
 Means s out (ModelAnswer.infeasible k) out′ = LetterNamed s out k out′

@@ -10,7 +10,7 @@ use Rattle.semantics.specs.PackedTables.{rowBytes, wordBytes, packedRow}
 use Rattle.closure.specs.Limits.{mostTerms}
 
 -- ---- sizes, in bytes: those of a row and of the other numbers are `rowBytes` and `wordBytes` of crate `semantics`
--- "count of values 16 bits, count of rows 16"
+-- "count of values 16 bits, count of rows 16" (SPEC 7.4)
 abbrev pub countsBytes : ℕ
 countsBytes = 2 * wordBytes
 

@@ -1,4 +1,4 @@
-// The shown model of a trace (document 01, "The shown model"): the values of the classes, the rows, and their bytes.
+// The shown model of a trace (SPEC 7): the values of the classes, the rows, and their bytes.
 ghost use mathlib.Core.Path.{_≡_};
 ghost use Prim.Native.Nat.{ℕ, suc, _+_, _*_, _<_, _≤_};
 ghost use lib.ListN.{length, getD, take};
@@ -414,7 +414,7 @@ fn show_trace(header: Header, trace: &[u8], letters: usize, out: &mut [u8]) -> S
 }
 
 /// Judges a packed trace of at most 1,024 letters: writes its shown model to the front of the output if it is feasible, else names
-/// the first infeasible letter. The written bytes read back to the tables that document 01 asks for, in which all tests hold; where a letter
+/// the first infeasible letter. The written bytes read back to the tables that SPEC 7 asks for, in which all tests hold; where a letter
 /// is named, no model satisfies all tests (`specs/Answer.antt`, `Means`).
 pub fn show(trace: &[u8], out: &mut [u8]) -> Shown
     ensures { λ r. ⌜ Showed (now (trace .entry)) (now (out .entry)) r (now (out .exit)) ⌝ }

@@ -1,4 +1,4 @@
--- The lines of a trace of each kind, and of a refusal.
+-- The lines of a trace of each kind, and of a refusal (SPEC 12.1, 12.3).
 use mathlib.Core.Path.{_≡_, refl}
 use mathlib.Core.List.{List, [], _∷_, _++_}
 use Prim.Native.Nat.{ℕ}

@@ -1,5 +1,5 @@
 -- The lines of the monitor program for an answer of the run over a trace: a refusal, or the first incoherent letter and the first
--- infeasible one.
+-- infeasible one (SPEC 12.3).
 use mathlib.Core.List.{List, [], _∷_, _++_}
 use Prim.Native.Nat.{ℕ, _≤_}
 use lib.Dec.{eqb}
@@ -38,7 +38,7 @@ abbrev pub feasibilityLine : ℕ → List ℕ
 feasibilityLine = orNone (line (feasibleWord ∷ [])) infeasibleLine
 
 -- "the trace run numbers the letters": a line for the first incoherent letter and one for the first infeasible letter before it, or the
--- line of a refusal.
+-- line of a refusal (SPEC 6.3, 12.3).
 unfoldable pub answerLines : Answer (ℕ × ℕ) → List ℕ
 answerLines (value (incoherent, infeasible)) = coherenceLine incoherent ++ feasibilityLine infeasible
 answerLines (refusal number place) = refusedLine number place

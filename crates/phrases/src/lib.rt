@@ -1,4 +1,4 @@
-// The phrases of a statement: uses, conditions and assignments (document 01, "Macro text").
+// The phrases of a statement: uses, conditions and assignments (SPEC 8.3, 8.4).
 use letters::Letter;
 use letters::refusal_numbers::GRAMMAR_VIOLATED;
 use letters::refusal_numbers::TOKEN_MALFORMED;

@@ -1,5 +1,5 @@
 -- One code for each entry of the table of results: 0 if the application was never computed, 1 if it was and no register holds its result,
--- and else 2 + the name of the class that holds it. "A class is named by its lowest-numbered register" (document 01).
+-- and else 2 + the name of the class that holds it. "A class is named by its lowest-numbered register" (SPEC 5.1; document 01).
 use Prim.Native.Nat.{ℕ, zero, suc, _+_, _*_, _/_, _%_}
 use mathlib.Core.List.{List, [], _∷_, _++_}
 use lib.Dec.{eqb}

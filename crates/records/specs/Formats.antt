@@ -1,4 +1,4 @@
--- Pairs as bytes: a point still to be performed and a window (document 01, "The search for a verdict"), over any format of a record.
+-- Pairs as bytes: a point still to be performed and a window (SPEC 10.2), over any format of a record.
 -- A record has the number of the pair from which it was reached, the branch taken there, a fingerprint, so that pairs that differ mostly do so at the start,
 -- and what stands for the point and the window; all numbers with the most significant byte first, and 0 beyond them.
 use mathlib.Core.Path.{_≡_}

@@ -1,4 +1,4 @@
--- Pairs and records as bytes in the first edition's format. A record has 192 bytes (document 01, "The search for a verdict").
+-- Pairs and records as bytes in the first edition's format. A record has 192 bytes (SPEC 10.6).
 use Prim.Native.Nat.{ℕ, _+_, _-_, _^_}
 use mathlib.Core.Bool.{Bool, false}
 use mathlib.Core.List.{List, [], _∷_, _++_}

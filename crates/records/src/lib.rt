@@ -1,4 +1,4 @@
-// Pairs of the verdict's search as bytes (document 01, "The search for a verdict"): a point still to be performed and a window, and back.
+// Pairs of the verdict's search as bytes (SPEC 10.2, 10.6): a point still to be performed and a window, and back.
 use window::LINES;
 use window::Mask;
 use window::REGISTERS;

@@ -1,4 +1,4 @@
--- What a text is (document 01, "Macro text" and the macro part of "The questions"): the text of one macro, or refused by one number at one place.
+-- What a text is (SPEC 8, 11.3): the text of one macro, or refused by one number at one place.
 -- Neither is said through the reader: `Accepted` here and `Refusal` (Order) are all that a claim about a text needs.
 use Prim.Native.Nat.{ℕ, _≤_}
 use mathlib.Core.List.{List}
@@ -8,7 +8,7 @@ use Rattle.grammar.specs.Limits.{longestText, mostPoints}
 use Rattle.grammar.specs.Grammar.{Macro}
 use Rattle.grammar.specs.Spelled.{Spelled, InOrder}
 
--- The text is that of the macro m: its tokens are the sentence of m, and length, declarations, uses, depth and points are in order.
+-- The text is that of the macro m: its tokens are the sentence of m, and length, declarations, uses, depth and points are in order (SPEC 8, 11.3).
 pub record Accepted (text : List ℕ) (m : Macro) : Type 0 where
   pub short : length text ≤ longestText
   pub spelled : Spelled text m

@@ -1,4 +1,4 @@
--- The first no of a text (document 01: "Then token by token, the lowest number at one token, place its first byte from 0").
+-- The first no of a text (SPEC 11.4; document 01: "Then token by token, the lowest number at one token, place its first byte from 0").
 use mathlib.Core.Path.{_≡_}
 use Prim.Native.Nat.{ℕ, zero, suc, _<_}
 use mathlib.Core.List.{List, [], _∷_, _++_}
@@ -27,7 +27,7 @@ module _ (s : List ℕ) where
   abbrev pub Reached : ℕ → Type 0
   Reached i = (j : ℕ) → j < i → keyOf j ≡ word.end → ⊥
 
-  -- n is the lowest number with a no at the first token with a no, and p is its first byte (the text's length, if it is the end).
+  -- n is the lowest number with a no at the first token with a no, and p is its first byte (the text's length, if it is the end; SPEC 11.4).
   pub record FirstNo (n p : ℕ) : Type 0 where
     pub index : ℕ
     pub reached : Reached index

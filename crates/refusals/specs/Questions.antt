@@ -1,5 +1,5 @@
 -- Questions 8 to 12, each as a predicate on the tokens before a token and the token itself: when its answer is no. Question 11 looks at the next token too.
--- A token is its number; `word.end` stands for the end of the text, and `word.wrong` for what is no token.
+-- A token is its number; `word.end` stands for the end of the text, and `word.wrong` for what is no token (SPEC 11.4).
 use mathlib.Core.Path.{_≡_}
 use mathlib.Core.Logic.{_⊎_}
 use Prim.Native.Nat.{ℕ, _+_, _≤_, _<_}
@@ -17,7 +17,7 @@ use Rattle.grammar.specs.Grammar.{entryTokens, functionTokens}
 use Rattle.grammar.specs.Spelled.{Arities}
 use Rattle.refusals.specs.Sentences.{Sentence, Viable}
 
--- "Fits the grammar? 9 (at the text's length if it ends early)."
+-- "Fits the grammar? 9 (at the text's length if it ends early)." (SPEC 11.4)
 pub data Unfit (before : List ℕ) (k : ℕ) : Type 0 where
   early : k ≡ word.end → (Sentence before → ⊥) → Unfit before k
   misplaced : (k ≡ word.end → ⊥) → (Viable (before ++ k ∷ []) → ⊥) → Unfit before k
@@ -54,7 +54,7 @@ pub record InStatements (before rs fs ns : List ℕ) : Type 0 where
 abbrev pub Among : ℕ → List ℕ → Type 0
 Among k ks = (i : ℕ) × (i < length ks) × (getD ks i 0 ≡ k)
 
--- "Within eight registers and four functions, each name declared once? 10."
+-- "Within eight registers and four functions, each name declared once? 10." (SPEC 11.4)
 pub data Redeclared (before : List ℕ) (k : ℕ) : Type 0 where
   register : {rs : List ℕ} → InRegisters before rs → isName k ≡ true → Among k rs ⊎ (mostRegisters ≤ length rs) → Redeclared before k
   function : {rs fs ns : List ℕ} → InFunctions before rs fs ns → isName k ≡ true → (Among k rs ⊎ Among k fs) ⊎ (mostFunctions ≤ length fs) → Redeclared before k
@@ -65,7 +65,7 @@ pub data Redeclared (before : List ℕ) (k : ℕ) : Type 0 where
 abbrev pub Behind : List ℕ → ℕ → Type 0
 Behind before k = (ws : List ℕ) × (before ≡ ws ++ k ∷ [])
 
--- "after `:=` a name is a function if the next token is `(`, else a register"
+-- "after `:=` a name is a function if the next token is `(`, else a register" (SPEC 8.4, 11.4)
 abbrev pub FunctionDue : List ℕ → ℕ → Type 0
 FunctionDue before next = Behind before word.becomesKey × (next ≡ word.lparenKey)
 
@@ -77,7 +77,7 @@ Called before f = (ws : List ℕ) × (b : ℕ) × (before ≡ ws ++ f ∷ word.l
 abbrev pub TakesArguments : List ℕ → List ℕ → ℕ → ℕ → Type 0
 TakesArguments fs ns f n = (i : ℕ) × (i < length fs) × (getD fs i 0 ≡ f) × (getD ns i 0 ≡ n)
 
--- "A use declared, of the right sort? 11 (..; a wrong argument count stands at the `,` or `)`)."
+-- "A use declared, of the right sort? 11 (..; a wrong argument count stands at the `,` or `)`)." (SPEC 11.4)
 pub data Misused (before : List ℕ) (k next : ℕ) : Type 0 where
   register : {rs fs ns : List ℕ} → InStatements before rs fs ns → isName k ≡ true → (FunctionDue before next → ⊥) → (Among k rs → ⊥) → Misused before k next
   function : {rs fs ns : List ℕ} → InStatements before rs fs ns → isName k ≡ true → FunctionDue before next → (Among k fs → ⊥) → Misused before k next
@@ -93,15 +93,15 @@ abbrev pub occurrences : ℕ → List ℕ → ℕ
 occurrences k [] = 0
 occurrences k (j ∷ js) = pick (eqb j k) (λ _. 1) (λ _. 0) + occurrences k js
 
--- "Braces at most 16 deep? 12."
+-- "Braces at most 16 deep? 12." (SPEC 11.4)
 pub record TooDeep (before : List ℕ) (k : ℕ) : Type 0 where
   pub brace : k ≡ word.lbraceKey
   pub deep : deepestNesting + occurrences word.rbraceKey before ≤ occurrences word.lbraceKey before
 
--- ---- the questions by their numbers
+-- ---- the questions by their numbers (SPEC 11.4)
 
 pub data No : ℕ → List ℕ → ℕ → ℕ → Type 0 where
-  -- "a token, and no name over eight bytes? 8"
+  -- "a token, and no name over eight bytes? 8" (SPEC 11.4)
   no-token : {before : List ℕ} {k next : ℕ} → k ≡ word.wrong → No tokenMalformed before k next
   unfit : {before : List ℕ} {k next : ℕ} → Unfit before k → No grammarViolated before k next
   redeclared : {before : List ℕ} {k next : ℕ} → Redeclared before k → No declarationWrong before k next

@@ -1,4 +1,4 @@
--- The sentences of the grammar alone (document 01, "Macro text"). Any name may stand where a name is due, declared or not, of either sort and as often
+-- The sentences of the grammar alone (SPEC 8.3; document 01). Any name may stand where a name is due, declared or not, of either sort and as often
 -- as one likes, there may be any number of declarations, and blocks may nest to any depth: those are questions 10 to 12.
 use mathlib.Core.Path.{_≡_}
 use Prim.Native.Nat.{ℕ}
@@ -12,11 +12,11 @@ pub record Name : Type 0 where
   pub key : ℕ
   pub real : isName key ≡ true
 
--- "C is `a = b` or `a != b`."
+-- "C is `a = b` or `a != b`." (SPEC 8.3)
 pub data NamedCondition : Type 0 where
   equal unequal : Name → Name → NamedCondition
 
--- "Statements: `skip;` `a := b;` `a := f(b);` `a := f(b,c);` `assume C;` `assert C;` `if C { .. }` with an optional `else { .. }`, `while C { .. }`."
+-- SPEC 8.3: "Statements: `skip;` `a := b;` `a := f(b);` `a := f(b,c);` `assume C;` `assert C;` `if C { .. }` with an optional `else { .. }`, `while C { .. }`."
 mutual
   pub data NamedStatement : Type 0 where
     skip : NamedStatement
@@ -31,17 +31,17 @@ mutual
     absent : NamedElse
     present : NamedBlock → NamedElse
 
-  -- "A block holds statements, and a statement may hold blocks, empty ones too."
+  -- "A block holds statements, and a statement may hold blocks, empty ones too." (SPEC 8.3)
   infixr 30 _followedBy_
   pub data NamedBlock : Type 0 where
     empty : NamedBlock
     _followedBy_ : NamedStatement → NamedBlock → NamedBlock
 
--- "entries such as `cap/1`": of a function of one argument, or of two
+-- "entries such as `cap/1`": of a function of one argument, or of two (SPEC 8.3)
 pub data Entry : Type 0 where
   one two : Name → Entry
 
--- "A macro is `vars` names `;`, then perhaps `funs` entries .. and `;` (at least one in each list), then statements, perhaps none."
+-- "A macro is `vars` names `;`, then perhaps `funs` entries .. and `;` (at least one in each list), then statements, perhaps none." (SPEC 8.3)
 pub record NamedMacro : Type 0 where
   pub first : Name
   pub others : List Name
@@ -95,12 +95,12 @@ namedSentence m = word.varsKey ∷ m .first .key ∷ namesThen (m .others) (word
 
 -- ---- sentences, and what begins one
 
--- The tokens are a sentence.
+-- The tokens are a sentence (SPEC 8.3).
 pub record Sentence (ws : List ℕ) : Type 0 where
   pub macro : NamedMacro
   pub spelled : namedSentence macro ≡ ws
 
--- "Fits the grammar?": some sentence begins with the tokens.
+-- "Fits the grammar?": some sentence begins with the tokens (SPEC 11.4).
 pub record Viable (ws : List ℕ) : Type 0 where
   pub macro : NamedMacro
   pub further : List ℕ

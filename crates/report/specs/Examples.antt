@@ -1,4 +1,4 @@
--- Document 01's worked example ("The verdict program"), byte for byte, and a refusal.
+-- Document 01's worked example (SPEC 12.2), byte for byte, and a refusal.
 use mathlib.Core.Path.{_≡_, refl}
 use Prim.Native.Nat.{ℕ}
 use mathlib.Core.List.{List, [], _∷_, _++_}

@@ -1,4 +1,4 @@
--- The lines of the verdict program (document 01, "The verdict program"), from names, a header and a verdict to bytes. Bytes are ASCII codes.
+-- The lines of the verdict program (SPEC 12.2; document 01), from names, a header and a verdict to bytes. Bytes are ASCII codes.
 use Prim.Native.Nat.{ℕ, _+_}
 use mathlib.Core.List.{List, [], _∷_, _++_}
 use lib.ListN.{length}
@@ -16,7 +16,7 @@ pub record Names : Type 0 where
   pub register : ℕ → List ℕ
   pub function : ℕ → List ℕ
 
--- What is printed: a verdict with its number of pairs and what it shows, or a refusal, its number and its place.
+-- What is printed: a verdict with its number of pairs and what it shows, or a refusal, its number and its place (SPEC 12.2).
 pub data Printed : Type 0 where
   pass : ℕ → Printed
   incoherent : ℕ → List Letter → Printed
@@ -101,7 +101,7 @@ abbrev pub closingWord : List ℕ
 closingWord = 41 ∷ []
 
 -- ── lines ──
--- A line: its pieces, and a line feed.
+-- A line: its pieces, and a line feed (SPEC 12.1).
 unfoldable pub line : List (List ℕ) → List ℕ
 line [] = 10 ∷ []
 line (piece ∷ pieces) = piece ++ line pieces
@@ -111,23 +111,23 @@ unfoldable pub linesOf : {A : Type 0} → (A → List ℕ) → List A → List �
 linesOf f [] = []
 linesOf f (x ∷ l) = f x ++ linesOf f l
 
--- "`start` with register and value", for register r and those behind it, by their names.
+-- "`start` with register and value", for register r and those behind it, by their names (SPEC 12.2).
 unfoldable pub startLines : (ℕ → List ℕ) → ℕ → List ℕ → List ℕ
 startLines register r [] = []
 startLines register r (value ∷ values) = line (startWord ∷ register r ∷ blankWord ∷ numeral value ∷ []) ++ startLines register (r + 1) values
 
--- "`row` with function, two arguments, result", the second argument 0 for a function of one, as in the packed bytes.
+-- "`row` with function, two arguments, result", the second argument 0 for a function of one, as in the packed bytes (SPEC 12.2).
 unfoldable pub rowLine : (ℕ → List ℕ) → Header → Row → List ℕ
 rowLine function h r =
     let second = secondWritten h (r .function) (r .second) in
     line (rowWord ∷ function (r .function) ∷ blankWord ∷ numeral (r .first) ∷ blankWord ∷ numeral second ∷ blankWord ∷ numeral (r .result) ∷ [])
 
--- "`verdict` and pass, fail or incoherent. `pairs` and how many".
+-- "`verdict` and pass, fail or incoherent. `pairs` and how many" (SPEC 12.2).
 unfoldable pub verdictLines : List ℕ → ℕ → List ℕ
 verdictLines word pairs = line (verdictWord ∷ word ∷ []) ++ line (pairsWord ∷ numeral pairs ∷ [])
 
 module _ (names : Names) (h : Header) where
-  -- "each letter as its statement without `;`, a test after `assume`": `a := b`, `a := f(b)`, `a := f(b,c)`, `assume a = b`, `assume a != b`.
+  -- "each letter as its statement without `;`, a test after `assume`": `a := b`, `a := f(b)`, `a := f(b,c)`, `assume a = b`, `assume a != b` (SPEC 12.2).
   unfoldable pub letterLine : Letter → List ℕ
   letterLine (Copy x y) = line (names .register x ∷ becomesWord ∷ names .register y ∷ [])
   letterLine (Apply x f y z) =
@@ -137,15 +137,15 @@ module _ (names : Names) (h : Header) where
   letterLine (Equal x y) = line (assumeWord ∷ names .register x ∷ equalsWord ∷ names .register y ∷ [])
   letterLine (Unequal x y) = line (assumeWord ∷ names .register x ∷ differsWord ∷ names .register y ∷ [])
 
-  -- "`letters`, their count, each letter".
+  -- "`letters`, their count, each letter" (SPEC 12.2).
   unfoldable pub letterLines : List Letter → List ℕ
   letterLines letters = line (lettersWord ∷ numeral (length letters) ∷ []) ++ linesOf letterLine letters
 
-  -- "`values` and their count", the start lines and the rows.
+  -- "`values` and their count", the start lines and the rows (SPEC 12.2).
   unfoldable pub modelLines : Tables → List ℕ
   modelLines t = line (valuesWord ∷ numeral (t .count) ∷ []) ++ (startLines (names .register) 0 (t .starts) ++ linesOf (rowLine (names .function) h) (t .rows))
 
-  -- The whole report.
+  -- The whole report (SPEC 12.2).
   unfoldable pub report : Printed → List ℕ
   report (Printed.pass pairs) = verdictLines passWord pairs
   report (Printed.incoherent pairs letters) = verdictLines incoherentWord pairs ++ letterLines letters

@@ -1,4 +1,4 @@
--- What a verdict shows, read from the bytes of its answer: the execution as a packed trace, on fail its model directly behind it.
+-- What a verdict shows, read from the bytes of its answer: the execution as a packed trace, on fail its model directly behind it (SPEC 10.7).
 use mathlib.Core.Path.{_≡_}
 use Prim.Native.Nat.{ℕ, zero, suc, _+_, _*_}
 use mathlib.Core.List.{List, [], _∷_, _++_}

@@ -1,4 +1,4 @@
-// The lines of the verdict program (document 01, "The verdict program"), written into a lent buffer.
+// The lines of the verdict program (SPEC 12.2), written into a lent buffer.
 
 mod answer;
 mod lines;

@@ -1,4 +1,4 @@
--- The answer for an event, as the code gives it (document 01, "The search for a verdict"; question 6: "Answer fits the output?").
+-- The answer for an event, as the code gives it (SPEC 10.7, 11.3; document 01, question 6: "Answer fits the output?").
 use mathlib.Core.Path.{_≡_}
 use mathlib.Core.List.{List}
 use Prim.Native.Nat.{ℕ, _≤_}

@@ -1,4 +1,4 @@
--- Demand 2, its half about macros: "Macros are read by document 01's grammar and have exactly the executions of Definition 2."
+-- Demand 2, its half about macros: "Macros are read by document 01's grammar and have exactly the executions of Definition 2." (SPEC 8, 9.2)
 -- It is one claim about a text and what `syntax::read` answers for it. The words are those of the source document.
 use mathlib.Core.Path.{_≡_}
 use mathlib.Core.Logic.{_↔_}
@@ -37,18 +37,18 @@ module _ (program : struct.CompiledMacro) where
   abbrev pub Performed : List Letter → Place ℕ → Type 0
   Performed w l = (p : Path) × (walk branchesAt 0 (begin (program .header)) p ≡ stand l (traceOf (program .header) w))
 
--- The letters that are performed are exactly Definition 2's words of the body.
+-- The letters that are performed are exactly Definition 2's words of the body (SPEC 9.2).
 pub record HasExecutions (program : struct.CompiledMacro) (body : Block) : Type 0 where
-  -- "Complete executions": those that come to the end
+  -- "Complete executions": those that come to the end (SPEC 9.2)
   pub complete : (w : List Letter) → Performed program w (at (program .count)) ↔ WordBlock body w done
-  -- "`assert C` is an if on C's opposite whose first branch ends the execution at a failure"
+  -- "`assert C` is an if on C's opposite whose first branch ends the execution at a failure" (SPEC 9.2)
   pub failing : (w : List Letter) → Performed program w failure ↔ WordBlock body w failed
-  -- "A partial execution is any beginning of one, empty or whole included."
+  -- "A partial execution is any beginning of one, empty or whole included." (SPEC 9.2)
   pub partial : (w : List Letter) → ((l : Place ℕ) × Performed program w l) ↔ ((v : List Letter) × (o : Outcome) × WordBlock body (w ++ v) o)
 
 pub record Demand2Macros (text : List ℕ) (answer : MacroRead) : Type 0 where
-  -- a text of the grammar is read, and no other one
+  -- a text of the grammar is read, and no other one (SPEC 8, 11.3)
   pub reads : (m : Macro) → Accepted text m → answer .refusal ≡ 0
   pub grammatical : answer .refusal ≡ 0 → (m : Macro) × Accepted text m
-  -- and what was read has the executions of the macro
+  -- and what was read has the executions of the macro (SPEC 9.2)
   pub executes : (m : Macro) → Accepted text m → HasExecutions (answer .program) (m .body)

@@ -1,5 +1,5 @@
 -- Data models over any type of values whatever, finite or not (source document 000, 2.3.3): the type may lie in any universe, `Type ℓ`.
--- "Infinite models change nothing" (document 01).
+-- "Infinite models change nothing" (SPEC 3.6; document 01).
 use mathlib.Core.Path.{_≡_}
 use mathlib.Core.List.{List}
 use Prim.Native.Nat.{ℕ}

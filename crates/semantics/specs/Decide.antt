@@ -1,4 +1,4 @@
--- The closure computed, by a list of merges.
+-- The closure computed, by a list of merges (SPEC 3.5).
 use mathlib.Core.Bool.{Bool, true, false, not, _&&_}
 use mathlib.Core.List.{List, [], _∷_}
 use mathlib.Core.Option.{none, some}

@@ -3,7 +3,7 @@ use Prim.Native.Nat.{ℕ, _<_}
 use Rattle.semantics.specs.Terms.{_∈_, Term, con, app, State, constants, Trace, begin, _▸_, state}
 use Rattle.letters.specs.Letters.{Fits}
 
--- Every letter fits the header.
+-- Every letter fits the header (SPEC 2.3).
 abbrev pub WellFormed : Trace → Type 0
 WellFormed (begin h) = Unit {0}
 WellFormed (ρ ▸ a) = WellFormed ρ × Fits (state ρ .header) a

@@ -1,4 +1,4 @@
--- The first of each kind in a list, in order, and the place of an element: how values and rows of the shown model are given out.
+-- The first of each kind in a list, in order, and the place of an element: how values and rows of the shown model are given out (SPEC 7.2, 7.3).
 use mathlib.Core.Path.{_≡_}
 use mathlib.Core.Bool.{Bool}
 use mathlib.Core.List.{List, [], _∷_, _++_}

@@ -1,4 +1,4 @@
--- Coherence and feasibility of a trace, computed.
+-- Coherence and feasibility of a trace, computed (SPEC 3.6, 4).
 use mathlib.Core.Bool.{Bool, true, false, not, _&&_, _||_}
 use mathlib.Core.List.{List, [], _∷_}
 use mathlib.Core.Option.{none, some}

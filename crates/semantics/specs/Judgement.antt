@@ -1,4 +1,4 @@
--- The letters that a run over a trace names: the first incoherent one, and the first infeasible one before it (document 01:
+-- The letters that a run over a trace names: the first incoherent one, and the first infeasible one before it (SPEC 6.2, 6.3; document 01:
 -- "An incoherent letter only stops the monitor: it and all later letters move neither window nor infeasible mark").
 use mathlib.Core.Path.{_≡_}
 use mathlib.Core.Logic.{_⊎_}
@@ -23,14 +23,14 @@ abbrev pub FirstFailure : (Trace → Type 0) → Trace → ℕ → Type 0
 FirstFailure P ρ zero = P ρ
 FirstFailure P ρ (suc k) = FailsAt P ρ (suc k)
 
--- The longest coherent beginning of a trace.
+-- The longest coherent beginning of a trace (SPEC 6.3).
 pub record Longest (ρ π : Trace) : Type 0 where
   pub beginning : Begins π ρ
   pub coherent : Coherent π
   pub longest : (κ : Trace) → Begins κ ρ → Coherent κ → size κ ≤ size π
 
 -- The letters of a run, 0 for none: the first at which coherence fails, and the first at which the longest coherent beginning becomes
--- infeasible. So no letter is named infeasible at or after the incoherent one.
+-- infeasible. So no letter is named infeasible at or after the incoherent one (SPEC 6.3).
 pub record Judgement (ρ : Trace) (incoherent infeasible : ℕ) : Type 0 where
   pub coherence : FirstFailure Coherent ρ incoherent
   pub part : Trace

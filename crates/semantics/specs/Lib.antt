@@ -1,4 +1,4 @@
--- Definitions, in the order of document 01.
+-- Definitions (SPEC 3 to 7), in the order of document 01.
 pub mod Terms
 pub mod Closure
 pub mod Models

@@ -1,4 +1,4 @@
--- Tables as bytes (document 01, "The shown model"): "count of values 16 bits, count of rows 16, each initial value 16, then rows of 40 bits:
+-- Tables as bytes (SPEC 7.4; document 01): "count of values 16 bits, count of rows 16, each initial value 16, then rows of 40 bits:
 -- function 2, argument 11, argument 11 (0 for one argument), result 11, spare 5".
 use mathlib.Core.List.{List, [], _∷_, _++_, map}
 use Prim.Native.Nat.{ℕ}
@@ -33,6 +33,6 @@ rowFields h r = r .function ∷ r .first ∷ secondWritten h (r .function) (r .s
 unfoldable pub packedRow : Edition → Header → Row → ℕ
 packedRow w h r = join (rowWidths w) (rowFields h r)
 
--- The tables as bytes.
+-- The tables as bytes (SPEC 7.4).
 unfoldable pub packTables : Edition → Header → Tables → List ℕ
 packTables w h t = units wordBytes (t .count ∷ length (t .rows) ∷ t .starts) ++ units rowBytes (map (packedRow w h) (t .rows))

@@ -1,4 +1,4 @@
--- Source document 000's own relations, over all terms, computed or not (section 3 and Definition 5).
+-- Source document 000's own relations, over all terms, computed or not (section 3 and Definition 5). SPEC 1.4 lists the differences.
 use mathlib.Core.Logic.{_⊎_}
 use mathlib.Core.List.{List}
 use Prim.Native.Nat.{ℕ, _<_}

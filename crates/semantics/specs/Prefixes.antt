@@ -1,4 +1,4 @@
--- Beginnings of traces.
+-- Beginnings of traces (SPEC 1.2).
 use Rattle.letters.specs.declared.Letter.{Letter}
 use Rattle.semantics.specs.Terms.{Trace, _▸_}
 

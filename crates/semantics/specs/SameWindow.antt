@@ -1,4 +1,4 @@
--- When two states have the same window: they agree on each of its six parts, for the registers of the header.
+-- When two states have the same window: they agree on each of its six parts, for the registers of the header (SPEC 5.5).
 -- Nothing here depends on how a window is kept.
 use mathlib.Core.Path.{_≡_}
 use mathlib.Core.Logic.{_↔_}
@@ -8,7 +8,7 @@ use Rattle.semantics.specs.Models.{Feasible}
 use Rattle.semantics.specs.Window.{Same, Apart, Result, EverComputed, Marked}
 
 -- "The classes, the known-unequal pairs of held classes, the held results, which applications to held classes were ever computed,
--- which held classes have above them a computed application with an argument or result that no register holds, and whether the trace is infeasible."
+-- which held classes have above them a computed application with an argument or result that no register holds, and whether the trace is infeasible." (SPEC 5.2)
 pub record SameWindow (σ τ : State) : Type 0 where
   pub registers : σ .header .registers ≡ τ .header .registers
   pub same : (r s : ℕ) → r < σ .header .registers → s < σ .header .registers → Same σ r s ↔ Same τ r s

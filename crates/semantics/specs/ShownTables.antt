@@ -1,4 +1,4 @@
--- The tables that are shown (document 01, "The shown model"), computed: for the computed terms U, the oldest first, and the equal tests E.
+-- The tables that are shown (SPEC 7.2, 7.3; document 01), computed: for the computed terms U, the oldest first, and the equal tests E.
 use mathlib.Core.List.{reverse, List, [], _∷_}
 use Rattle.semantics.specs.Terms.{State, Term, con, app}
 use mathlib.Core.Bool.{Bool}
@@ -12,7 +12,7 @@ use lib.ListN.{length}
 unfoldable pub classesOf : List Term → List (Term × Term) → List Term
 classesOf U E = firstsAfter (alike U E) [] U
 
--- "Classes of computed terms get values 1, 2, .. by first computed term (initial constants in register order, then letter by letter)."
+-- "Classes of computed terms get values 1, 2, .. by first computed term (initial constants in register order, then letter by letter)." (SPEC 7.2)
 unfoldable pub classValue : List Term → List (Term × Term) → Term → ℕ
 classValue U E t = firstPlace (alike U E t) 1 (classesOf U E)
 
@@ -26,7 +26,7 @@ applications v (app f s t ∷ ts) = rowOf v f s t ∷ applications v ts
 abbrev pub sameCall : Row → Row → Bool
 sameCall r s = lists (r .function) (r .first) (r .second) s
 
--- "One row for each distinct application, in order of first computation."
+-- "One row for each distinct application, in order of first computation." (SPEC 7.3)
 unfoldable pub rowsOf : List Term → List (Term × Term) → List Row
 rowsOf U E = firstsAfter sameCall [] (applications (classValue U E) U)
 

@@ -1,4 +1,4 @@
--- A data model written down as tables (document 01, "The shown model").
+-- A data model written down as tables (SPEC 7; document 01).
 use mathlib.Core.Path.{_≡_}
 use mathlib.Core.Bool.{Bool, _&&_}
 use mathlib.Core.List.{List, [], _∷_}
@@ -9,14 +9,14 @@ use Rattle.base.specs.Choice.{pick}
 use Rattle.semantics.specs.Terms.{Term, app}
 use Rattle.semantics.specs.Models.{Model}
 
--- A row: a function, two arguments and the result. The row of a function of one argument has that argument twice, as its terms do.
+-- A row: a function, two arguments and the result (SPEC 7.3). The row of a function of one argument has that argument twice, as its terms do.
 pub record Row : Type 0 where
   pub function : ℕ
   pub first : ℕ
   pub second : ℕ
   pub result : ℕ
 
--- The count of values, the initial value of each register, and the rows.
+-- The count of values, the initial value of each register, and the rows (SPEC 7).
 pub record Tables : Type 0 where
   pub count : ℕ
   pub starts : List ℕ
@@ -27,12 +27,12 @@ pub record Tables : Type 0 where
 abbrev pub lists : ℕ → ℕ → ℕ → Row → Bool
 lists f a b r = eqb f (r .function) && (eqb a (r .first) && eqb b (r .second))
 
--- The result of f at a and b. "Value 0 is the result for every argument not listed."
+-- The result of f at a and b. "Value 0 is the result for every argument not listed." (SPEC 7.3)
 unfoldable pub resultIn : List Row → ℕ → ℕ → ℕ → ℕ
 resultIn [] f a b = 0
 resultIn (r ∷ rs) f a b = pick (lists f a b r) (λ _. r .result) λ _. resultIn rs f a b
 
--- The model is the one that the tables describe.
+-- The model is the one that the tables describe (SPEC 7.3).
 pub record Describes (t : Tables) (M : Model) : Type 0 where
   pub count : M .count ≡ t .count
   pub start : (r : ℕ) → M .start r ≡ getD (t .starts) r 0

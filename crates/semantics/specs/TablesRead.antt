@@ -1,4 +1,4 @@
--- Tables read from bytes (document 01, "The shown model"), and when packing keeps all of them.
+-- Tables read from bytes (SPEC 7.4), and when packing keeps all of them.
 use mathlib.Core.List.{List, [], _∷_, map}
 use Prim.Native.Nat.{ℕ, zero, suc, _+_, _*_, _^_, _<_}
 use lib.ListN.{take, drop, replicate, getD, length}

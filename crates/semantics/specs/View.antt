@@ -16,7 +16,7 @@ pub record View : Type 0 where
   pub marked : ℕ → Bool
   pub infeasible : Bool
 
--- The view is that of the state. "Once infeasible, it has no unequal pairs."
+-- The view is that of the state. "Once infeasible, it has no unequal pairs." (SPEC 5.2)
 pub record Tracks (σ : State) (w : View) : Type 0 where
   pub same : (r s : ℕ) → r < σ .header .registers → s < σ .header .registers → T (w .same r s) ↔ Same σ r s
   pub apart : (r s : ℕ) → r < σ .header .registers → s < σ .header .registers → T (w .apart r s) ↔ (Feasible σ × Apart σ r s)

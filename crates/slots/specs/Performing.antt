@@ -1,5 +1,5 @@
 -- Slots after a letter, whether the letter is coherent, and the window of slots, for every layout of ρ registers and φ functions and all slots:
--- what the code computes.
+-- what the code computes (SPEC 5.6).
 use mathlib.Core.Bool.{Bool, true, false, not, cond, _&&_, _||_}
 use mathlib.Core.List.{List}
 use Prim.Native.Nat.{ℕ, zero, suc, _+_, _*_, _/_, _%_, _^_}
@@ -51,7 +51,7 @@ clashSlots unequal (suc k) = clashSlots unequal k || has (getD unequal k 0) k
 unfoldable pub apartSlots : List ℕ → ℕ → ℕ → List ℕ
 apartSlots l a b = let next = set l a (bitOr (getD l a 0) (2 ^ b)) in set next b (bitOr (getD next b 0) (2 ^ a))
 
--- "Early": neither side has a mark
+-- "Early": neither side has a mark (SPEC 5.6)
 unfoldable pub earlySlots : List Bool → ℕ → ℕ → Bool
 earlySlots mark x y = not (getD mark x false || getD mark y false)
 
@@ -148,7 +148,7 @@ module _ (ρ : ℕ) where
   findSlots slot regs result i (suc k) =
       pick (manyOf (entryOf slot regs result i)) (λ _. pulledOf regs (entryOf slot regs result i) ρ) λ _. findSlots slot regs result (suc i) k
 
-  -- "Memoizing": a slot holds the value, or it was never computed
+  -- "Memoizing": a slot holds the value, or it was never computed (SPEC 5.6)
   unfoldable pub memoizingSlots : List ℕ → List ℕ → List ℕ → ℕ → ℕ → ℕ → Bool
   memoizingSlots slot result ever f y z =
       pick (has (getD ever (ρ * f + slotOf slot y) 0) (slotOf slot z)) (λ _. nonempty ρ (getD result (place ρ f (slotOf slot y) (slotOf slot z)) 0)) λ _. true
@@ -231,7 +231,7 @@ module _ (ρ φ : ℕ) where
       let two = leastIn ρ (minus entry (getD (w .regs) (slotOf (w .slot) one) 0)) in
       pick (ltb one ρ) (λ _. pick (ltb two ρ) (λ _. closedSlots n (mergedSlots w (slotOf (w .slot) one) (slotOf (w .slot) two))) λ _. w) λ _. w) λ _. w
 
-  -- "Once infeasible, it has no unequal pairs."
+  -- "Once infeasible, it has no unequal pairs." (SPEC 5.2, 5.6)
   unfoldable pub settledSlots : Slots → Bool → Slots
   settledSlots w bad = pick (w .infeasible || bad) (λ _. slotsWithUnequal w (replicate ρ 0) true) λ _. w
 

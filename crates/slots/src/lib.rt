@@ -1,4 +1,4 @@
-// A window in slots (document 01, "Terms, models, coherence"): each class lies in one slot, and the tables are of slots. A register that comes to
+// A window in slots (SPEC 5): each class lies in one slot, and the tables are of slots. A register that comes to
 // hold what another holds goes to the other's slot, and no table moves: for runs over many letters.
 use letters::Letter;
 use window::LINES;

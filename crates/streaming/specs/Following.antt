@@ -1,4 +1,4 @@
--- When a monitor, and a run over a trace, is that of a trace.
+-- When a monitor, and a run over a trace, is that of a trace (SPEC 6.2, 6.3).
 use mathlib.Core.Path.{_≡_}
 use Rattle.semantics.specs.Terms.{Trace, state}
 use Rattle.semantics.specs.Facts.{WellFormed}
@@ -18,7 +18,7 @@ pub record Follows (ρ : Trace) (m : Monitor) : Type 0 where
   pub running : m .running ≡ coherent ρ
   pub holds : IsWindow (state (coherentPart ρ)) (m .window)
 
--- The run after a trace: the monitor follows it, and the letters are counted and named, up to the last number of 64 bits.
+-- The run after a trace: the monitor follows it, and the letters are counted and named, up to the last number of 64 bits (SPEC 6.3, 6.5).
 pub record RunFollows (ρ : Trace) (r : Run) : Type 0 where
   pub monitor : Follows ρ (r .monitor)
   pub letters : r .letters ≡ capped (size ρ)

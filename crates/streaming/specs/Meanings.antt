@@ -1,4 +1,4 @@
--- What each call of the monitor means for the trace taken so far, and each call of the stream for the bytes taken so far: what the contracts promise.
+-- What each call of the monitor means for the trace taken so far, and each call of the stream for the bytes taken so far: what the contracts promise (SPEC 6).
 use mathlib.Core.Path.{_≡_}
 use mathlib.Core.Logic.{_↔_}
 use Prim.Native.Nat.{ℕ, suc, _≤_}
@@ -42,14 +42,14 @@ pub record Monitors (ρ : Trace) (m : Monitor) : Type 0 where
   pub follows : Follows ρ m
   -- it runs exactly if the trace is coherent
   pub running : T (m .running) ↔ Coherent ρ
-  -- "An incoherent letter only stops the monitor": its mark is that of the longest coherent beginning
+  -- "An incoherent letter only stops the monitor": its mark is that of the longest coherent beginning (SPEC 6.2)
   pub infeasible : (π : Trace) → Longest ρ π → T (m .window .infeasible) ↔ (¬ Feasible (state π))
 
 -- a monitor that refuses every letter
 abbrev pub RefusesAll : Monitor → Type 0
 RefusesAll m = (letter : ℕ) → advance m letter ≡ stepped (outcome.Refused letterMalformed) m
 
--- What a start leaves: "it refuses a header by 3".
+-- What a start leaves: "it refuses a header by 3" (SPEC 6.1).
 pub record Starts (word : ℕ) (r : Stepped) : Type 0 where
   pub computed : r ≡ startOf word
   pub taken : (h : Header) → HeaderFits firstEdition h → headerWord firstEdition h ≡ word
@@ -58,7 +58,7 @@ pub record Starts (word : ℕ) (r : Stepped) : Type 0 where
   pub refused : ((h : Header) → HeaderFits firstEdition h → headerWord firstEdition h ≡ word → ⊥)
       → (outcomeAnswer (r .outcome) ≡ refusal headerMalformed 0) × RefusesAll (r .monitor)
 
--- What a step leaves: "it refuses a letter by 4, place 0, its window unchanged".
+-- What a step leaves: "it refuses a letter by 4, place 0, its window unchanged" (SPEC 6.2).
 pub record Advances (m : Monitor) (word : ℕ) (r : Stepped) : Type 0 where
   pub computed : r ≡ advance m word
   pub taken : (ρ : Trace) → Monitors ρ m → (a : Letter) → Fits (state ρ .header) a → letterWord firstEdition (state ρ .header) a ≡ word
@@ -74,7 +74,7 @@ pub record RunBegins (word : ℕ) (r : Run) : Type 0 where
   pub taken : (h : Header) → HeaderFits firstEdition h → headerWord firstEdition h ≡ word → RunFollows (begin h) r
   pub refused : ((h : Header) → HeaderFits firstEdition h → headerWord firstEdition h ≡ word → ⊥) → runAnswer (r .verdict) ≡ refusal headerMalformed 0
 
--- What the next letter's word leaves: "A letter that is not well formed ends the reading with 4 and its number, from 1."
+-- What the next letter's word leaves: "A letter that is not well formed ends the reading with 4 and its number, from 1." (SPEC 6.3, 11.2)
 pub record RunTakes (run : Run) (word : ℕ) (r : Run) : Type 0 where
   pub computed : r ≡ takenRun run word
   pub taken : (ρ : Trace) → HeaderFits firstEdition (state ρ .header) → RunFollows ρ run → (a : Letter) → Fits (state ρ .header) a
@@ -100,9 +100,9 @@ pub record StreamPushes (s : Stream) (bytes : List ℕ) (r : Stream) : Type 0 wh
   pub computed : r ≡ pushedAll s bytes
   pub streams : (earlier : List ℕ) → Streams earlier s → Streams (earlier ++ bytes) r
 
--- What the answer is: demand 2 for all the bytes together.
+-- What the answer is: demand 2 for all the bytes together (SPEC 6.4).
 pub record StreamFinishes (s : Stream) (r : RunAnswer) : Type 0 where
   pub computed : r ≡ finishedOf s
   pub meets : (bytes : List ℕ) → Streams bytes s → letterCount firstEdition bytes ≤ last → Demand2 bytes (runAnswer r)
-  -- of more letters than 64 bits can number, those have the last number
+  -- of more letters than 64 bits can number, those have the last number (SPEC 6.5)
   pub beyond : (bytes : List ℕ) → Streams bytes s → (exact : Answer (ℕ × ℕ)) → Demand2 bytes exact → runAnswer r ≡ cappedAnswer exact

@@ -1,4 +1,4 @@
--- The run over a trace's words: the letters are numbered, and the first incoherent and the first infeasible one are named. What the code computes.
+-- The run over a trace's words: the letters are numbered, and the first incoherent and the first infeasible one are named. What the code computes (SPEC 6.3).
 use Prim.Native.Nat.{ℕ, _+_}
 use mathlib.Core.Bool.{Bool, not}
 use lib.Dec.{ltb, eqb}
@@ -15,12 +15,12 @@ use Rattle.streaming.specs.declared.RunAnswer.{RunAnswer}
 use Rattle.streaming.specs.declared.RunAnswer.the-variants.{Judged, Refused}
 
 -- "The trace run numbers the letters": the first incoherent letter and the first infeasible one before it, 0 for none; or a refusal, its
--- number and place.
+-- number and place (SPEC 6.3).
 abbrev pub runAnswer : RunAnswer → Answer (ℕ × ℕ)
 runAnswer (Judged incoherent infeasible) = value (incoherent, infeasible)
 runAnswer (Refused number place) = refusal number place
 
--- The last number of 64 bits. It stands for itself and for all greater numbers.
+-- The last number of 64 bits. It stands for itself and for all greater numbers (SPEC 6.5).
 unfoldable pub last : ℕ
 last = 18446744073709551615
 

@@ -1,4 +1,4 @@
--- The run over a trace's bytes, one by one. What the code computes.
+-- The run over a trace's bytes, one by one. What the code computes (SPEC 6.4).
 use Prim.Native.Nat.{ℕ, _+_, _*_}
 use mathlib.Core.Bool.{Bool, true, false}
 use mathlib.Core.List.{List, [], _∷_}
@@ -29,7 +29,7 @@ pushedIn Odd s byte = streamWith Even 0 (takenRun (s .run) (s .high * 256 + byte
 unfoldable pub pushedOf : Stream → ℕ → Stream
 pushedOf s byte = pushedIn (s .phase) s byte
 
--- "At least two bytes? 1. Even length? 2." Both come before what the words say.
+-- "At least two bytes? 1. Even length? 2." (SPEC 6.4, 11.2) Both come before what the words say.
 abbrev pub finishedIn : Phase → Stream → RunAnswer
 finishedIn Empty s = Refused traceTooShort 0
 finishedIn One s = Refused traceTooShort 0

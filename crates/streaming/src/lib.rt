@@ -1,4 +1,4 @@
-// The monitor of a trace: one letter a call, a whole trace, and a trace byte by byte (document 01, "Terms, models, coherence" and "The questions").
+// The monitor of a trace: one letter a call, a whole trace, and a trace byte by byte (SPEC 6).
 use letters::Header;
 use window::Window;
 

@@ -1,4 +1,4 @@
--- The reader's contract (document 01, "Macro text" and the macro part of "The questions").
+-- The reader's contract (SPEC 8, 11.3).
 use mathlib.Core.Path.{_≡_}
 use mathlib.Core.Logic.{_≢_}
 use Prim.Native.Nat.{ℕ}

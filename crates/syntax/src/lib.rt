@@ -1,4 +1,4 @@
-// The macro reader: from bytes to a macro (document 01, "Macro text" and "The questions").
+// The macro reader: from bytes to a macro (SPEC 8, 11.3, 11.4).
 use blocks::Codes;
 use blocks::POINT_SPACE;
 use blocks::PointEntry;

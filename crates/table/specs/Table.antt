@@ -1,4 +1,4 @@
--- The table of pairs: "Pair number k lies in bytes 192 times k onward, k from 0" (document 01, "The search for a verdict").
+-- The table of pairs: "Pair number k lies in bytes 192 times k onward, k from 0" (SPEC 10.6; document 01).
 use Prim.Native.Nat.{ℕ, zero, suc, _*_}
 use mathlib.Core.Bool.{Bool, true, false}
 use mathlib.Core.List.{List, _++_}

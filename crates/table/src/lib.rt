@@ -1,4 +1,4 @@
-// The table of pairs in a lent slice (document 01, "The search for a verdict"): pair number k lies in bytes 192 times k onward, k from 0.
+// The table of pairs in a lent slice (SPEC 10.6): pair number k lies in bytes 192 times k onward, k from 0.
 use records::ENCODED_BYTES;
 use records::RECORD_BYTES;
 use records::same_pair;

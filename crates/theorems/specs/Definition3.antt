@@ -1,4 +1,4 @@
--- The paper's Definition 3: the term that is the value of a register after a trace.
+-- The paper's Definition 3: the term that is the value of a register after a trace (SPEC 3.2).
 use mathlib.Core.Path.{_≡_}
 use mathlib.Core.Logic.{_≢_}
 use Prim.Native.Nat.{ℕ}

@@ -1,4 +1,4 @@
--- What document 01 asks of a coherent trace beyond the paper's Definition 5.
+-- What SPEC 4.3 asks of a coherent trace beyond the paper's Definition 5 (SPEC 4.4).
 use mathlib.Core.Logic.{_⊎_}
 use Prim.Native.Nat.{ℕ}
 use Rattle.letters.specs.declared.Letter.{Letter}
@@ -8,7 +8,7 @@ use Rattle.semantics.specs.Closure.{Held}
 use Rattle.semantics.specs.Coherence.{Above}
 
 -- At an equal test each computed application above a side has its arguments held: "its result and all its arguments equal to present values
--- of registers". Definition 5 asks it of the result alone.
+-- of registers". Definition 5 asks it of the result alone (SPEC 4.3, 4.4).
 abbrev pub ArgumentsHeld : State → Letter → Type 0
 ArgumentsHeld σ (Copy x y) = Unit {0}
 ArgumentsHeld σ (Apply x f y z) = Unit {0}

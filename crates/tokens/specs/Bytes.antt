@@ -1,4 +1,4 @@
--- The bytes of a macro's text (document 01, "Macro text").
+-- The bytes of a macro's text (SPEC 8.1, 8.2; document 01).
 use Prim.Native.Nat.{ℕ, suc}
 use mathlib.Core.Bool.{Bool, true, false, not, _&&_, _||_}
 use mathlib.Core.List.{List, [], _∷_}
@@ -7,7 +7,7 @@ use lib.ListN.{getD}
 use Rattle.base.specs.Choice.{pick}
 use Rattle.base.specs.Bytes.{littleEndian}
 
--- space, tab, CR, LF
+-- space, tab, CR, LF (SPEC 8.1)
 abbrev pub blank : ℕ → Bool
 blank b = eqb b 32 || eqb b 9 || eqb b 13 || eqb b 10
 
@@ -30,7 +30,7 @@ symbol b = eqb b 49 || eqb b 50 || eqb b 61 || eqb b 59 || eqb b 44 || eqb b 40 
 abbrev pub mark : ℕ → Bool
 mark b = eqb b 58 || eqb b 33
 
--- how many bytes of blanks and comments stand in front; the flag says that a comment has begun, which runs to an LF
+-- how many bytes of blanks and comments stand in front; the flag says that a comment has begun, which runs to an LF (SPEC 8.1)
 unfoldable pub gap : Bool → List ℕ → ℕ
 gap c [] = 0
 gap true (b ∷ s) = suc (gap (not (eqb b 10)) s)
@@ -41,11 +41,11 @@ unfoldable pub nameLength : List ℕ → ℕ
 nameLength [] = 0
 nameLength (b ∷ s) = pick (inner b) (λ _. suc (nameLength s)) λ _. 0
 
--- "A name is a lower-case letter and up to seven more lower-case letters, digits or `_`."
+-- "A name is a lower-case letter and up to seven more lower-case letters, digits or `_`." (SPEC 1.3, 8.2)
 abbrev pub longestName : ℕ
 longestName = 8
 
--- how many bytes the token in front has; 0 where there is none, or a name of more than eight bytes
+-- how many bytes the token in front has; 0 where there is none, or a name of more than eight bytes (SPEC 8.2)
 unfoldable pub width : List ℕ → ℕ
 width [] = 0
 width (b ∷ s) =

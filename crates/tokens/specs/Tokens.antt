@@ -1,4 +1,4 @@
--- The tokens of a text.
+-- The tokens of a text (SPEC 8.2).
 use Prim.Native.Nat.{ℕ, _+_}
 use mathlib.Core.Bool.{false}
 use mathlib.Core.List.{List}
@@ -17,8 +17,8 @@ skipBlanks s at = at + gap false (drop at s)
 abbrev pub token : ℕ → ℕ → ℕ → Token
 token k p e = record { key = k; start = p; end = e }
 
--- The token at or after a place: its number, its first byte and the byte after it.
--- The end of the text stands at the text's length.
+-- The token at or after a place: its number, its first byte and the byte after it (SPEC 8.2).
+-- The end of the text stands at the text's length (SPEC 11.4).
 unfoldable pub tokenAt : List ℕ → ℕ → Token
 tokenAt s at =
     let p = skipBlanks s at in

@@ -1,4 +1,4 @@
--- The tokens that have a meaning of their own, and names (document 01, "Macro text"). Every comparison of names that is computed goes through
+-- The tokens that have a meaning of their own, and names (SPEC 8.2; document 01). Every comparison of names that is computed goes through
 -- `sameName`, which holds exactly if their bytes are the same (`same-token`, Keys).
 use Prim.Native.Nat.{ℕ, _%_}
 use mathlib.Core.Bool.{Bool, not, _&&_, _||_}
@@ -14,7 +14,7 @@ end = 0
 abbrev pub wrong : ℕ
 wrong = 1
 
--- "Words that are not names: vars funs skip assume assert if else while."
+-- "Words that are not names: vars funs skip assume assert if else while." (SPEC 8.2)
 abbrev pub varsKey : ℕ
 varsKey = key (118 ∷ 97 ∷ 114 ∷ 115 ∷ [])
 
@@ -42,7 +42,7 @@ whileKey = key (119 ∷ 104 ∷ 105 ∷ 108 ∷ 101 ∷ [])
 abbrev pub keyword : ℕ → Bool
 keyword k = eqb k varsKey || eqb k funsKey || eqb k skipKey || eqb k assumeKey || eqb k assertKey || eqb k ifKey || eqb k elseKey || eqb k whileKey
 
--- "Tokens: names, `1`, `2`, `:=`, `=`, `!=`, `;`, `,`, `(`, `)`, `{`, `}`, `/`."
+-- "Tokens: names, `1`, `2`, `:=`, `=`, `!=`, `;`, `,`, `(`, `)`, `{`, `}`, `/`." (SPEC 8.2)
 abbrev pub oneKey : ℕ
 oneKey = key (49 ∷ [])
 
@@ -79,10 +79,10 @@ rbraceKey = key (125 ∷ [])
 abbrev pub slashKey : ℕ
 slashKey = key (47 ∷ [])
 
--- A token is a name if it begins with a lower-case letter and is none of the words; a token that begins so goes on as a name does.
+-- A token is a name if it begins with a lower-case letter and is none of the words; a token that begins so goes on as a name does (SPEC 8.2).
 abbrev pub isName : ℕ → Bool
 isName k = lower (k % byteValues) && not (keyword k)
 
--- When two names are the same.
+-- When two names are the same (SPEC 8.4).
 abbrev pub sameName : ℕ → ℕ → Bool
 sameName k l = eqb k l

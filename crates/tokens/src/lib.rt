@@ -1,4 +1,4 @@
-// The tokens of a macro's text (document 01, "Macro text").
+// The tokens of a macro's text (SPEC 8.1, 8.2).
 ghost use mathlib.Core.Path.{_≡_};
 ghost use mathlib.Core.Bool.{true, false};
 ghost use Prim.Native.Nat.{_+_, _≤_, _<_};

@@ -1,4 +1,4 @@
--- Worked traces, one for each refusal, all by computation.
+-- Worked traces, one for each refusal, all by computation (SPEC 2.4, 2.6, 11.2).
 use mathlib.Core.Path.{_≡_, refl}
 use mathlib.Core.List.{[], _∷_}
 use Rattle.letters.specs.declared.Letter.the-variants.{Apply, Equal}

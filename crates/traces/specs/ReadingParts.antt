@@ -11,7 +11,7 @@ use Rattle.letters.specs.declared.Letter.{Letter}
 use Rattle.base.specs.Choice.{pick}
 use Rattle.letters.specs.RefusalNumbers.{letterMalformed}
 
--- "For the whole-trace engine, at most 1,024 letters? 5."
+-- "For the whole-trace engine, at most 1,024 letters? 5." (SPEC 11.2)
 abbrev pub readingWithin : ℕ → Edition → List ℕ → TraceReading
 readingWithin limit e s = readingWhere (ltb limit) e s
 

@@ -1,4 +1,4 @@
--- Whole traces as bytes: packed (document 01, "Letters and their packing").
+-- Whole traces as bytes: packed (SPEC 2.4).
 use Prim.Native.Nat.{ℕ, _<_}
 use mathlib.Core.List.{List, [], _∷_, _++_, map}
 use lib.ListN.{replicate, getD}
@@ -14,7 +14,7 @@ abbrev pub AllFit : Header → List Letter → Type 0
 AllFit h [] = Unit {0}
 AllFit h (l ∷ ls) = Fits h l × AllFit h ls
 
--- numbers of k bytes each, the most significant byte first
+-- numbers of k bytes each, the most significant byte first (SPEC 2.1, 7.4)
 unfoldable pub units : ℕ → List ℕ → List ℕ
 units k [] = []
 units k (n ∷ ns) = split (replicate k 8) n ++ units k ns
@@ -25,7 +25,7 @@ bytesOf e words = units (e .bytes) words
 
 -- ---- packing
 
--- The bytes of a trace: the header's unit, then each letter's.
+-- The bytes of a trace: the header's unit, then each letter's (SPEC 2.4).
 unfoldable pub packing : Edition → Header → List Letter → List ℕ
 packing e h ls = bytesOf e (headerWord e h ∷ map (letterWord e h) ls)
 

@@ -1,4 +1,4 @@
--- A trace read into its unpacked letters: the reader's side of the writer, with the same questions to the output.
+-- A trace read into its unpacked letters: the reader's side of the writer, with the same questions to the output (SPEC 2.6, 11.2).
 use mathlib.Core.Path.{_≡_}
 use Prim.Native.Nat.{ℕ, _-_, _/_}
 use mathlib.Core.List.{List, _++_}
@@ -28,7 +28,7 @@ unfoldable pub unpackedCount : ℕ → TraceReading → Answer (Header × ℕ)
 unpackedCount room (trace h ls) = pick (leb (length (unpackedBytes h ls)) room) (λ _. value (h, length ls)) λ _. refusal outputTooSmall 0
 unpackedCount room (TraceReading.refused number place) = refusal number place
 
--- "Refused calls write no output; bytes past a written answer stay."
+-- "Refused calls write no output; bytes past a written answer stay." (SPEC 11.5)
 unfoldable pub unpackedOver : List ℕ → TraceReading → List ℕ
 unpackedOver out (trace h ls) =
     pick (leb (length (unpackedBytes h ls)) (length out)) (λ _. unpackedBytes h ls ++ drop (length (unpackedBytes h ls)) out) λ _. out

@@ -1,4 +1,4 @@
--- Traces written from unpacked letters (document 01: "The writer puts 3 to its header, 4 to each letter, then 6 to its output").
+-- Traces written from unpacked letters (SPEC 2.6, 11.2; document 01: "The writer puts 3 to its header, 4 to each letter, then 6 to its output").
 use mathlib.Core.Path.{_≡_}
 use Prim.Native.Nat.{ℕ, _+_, _/_}
 use mathlib.Core.Bool.{Bool, false, _&&_, _||_}
@@ -18,7 +18,7 @@ use Rattle.traces.specs.Traces.{packing}
 use Rattle.letters.specs.RefusalNumbers.{letterMalformed, headerMalformed, outputTooSmall}
 
 -- An unpacked letter has five bytes, the fields of its word without the spare one: kind, function, target, first, second. "Unused fields are 0, the
--- second argument of a one-argument function included."
+-- second argument of a one-argument function included." (SPEC 2.3, 2.6)
 abbrev pub plainFields : Header → Letter → List ℕ
 plainFields h l = take 5 (letterFields h l)
 
@@ -41,20 +41,20 @@ plainLetter h kind f x y z =
 unfoldable pub unpackLetter : Header → List ℕ → Answer Letter
 unpackLetter h s = pick (eqb (length s) 5) (λ _. plainLetter h (getD s 0 0) (getD s 1 0) (getD s 2 0) (getD s 3 0) (getD s 4 0)) λ _. refusal letterMalformed 0
 
--- the bytes of each letter; the last ones may be fewer than five
+-- the bytes of each letter; the last ones may be fewer than five (SPEC 2.6)
 unfoldable pub unpackedParts : List ℕ → List (List ℕ)
 unpackedParts s = chunks 5 ((length s + 4) / 5) s
 
--- the trace of a header and unpacked letters, or the refusal: 3, then 4 with the letter's number
+-- the trace of a header and unpacked letters, or the refusal: 3, then 4 with the letter's number (SPEC 11.2)
 unfoldable pub unpacking : Edition → Header → List ℕ → TraceReading
 unpacking e h s = pick (headerTest e h) (λ _. lettersFrom (unpackLetter h) h 1 (unpackedParts s)) λ _. TraceReading.refused headerMalformed 0
 
--- "then 6 to its output"
+-- "then 6 to its output" (SPEC 11.2)
 unfoldable pub writtenLength : Edition → ℕ → TraceReading → Answer ℕ
 writtenLength e room (trace h ls) = pick (leb (length (packing e h ls)) room) (λ _. value (length (packing e h ls))) λ _. refusal outputTooSmall 0
 writtenLength e room (TraceReading.refused number place) = refusal number place
 
--- "Refused calls write no output; bytes past a written answer stay."
+-- "Refused calls write no output; bytes past a written answer stay." (SPEC 11.5)
 unfoldable pub writtenOver : Edition → List ℕ → TraceReading → List ℕ
 writtenOver e out (trace h ls) = pick (leb (length (packing e h ls)) (length out)) (λ _. packing e h ls ++ drop (length (packing e h ls)) out) λ _. out
 writtenOver e out (TraceReading.refused number place) = out

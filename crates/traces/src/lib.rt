@@ -1,4 +1,4 @@
-// Whole traces: the reader (document 01, "The questions"), and the types of what reading and writing answer.
+// Whole traces: the reader (SPEC 2.6, 11.2), and the types of what reading and writing answer.
 use letters::DecodedHeader;
 use letters::DecodedLetter;
 use letters::Header;

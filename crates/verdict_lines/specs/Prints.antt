@@ -1,4 +1,4 @@
--- What the verdict program prints for a text (document 01, "The verdict program"): "It reads a macro from standard input, with a table of
+-- What the verdict program prints for a text (SPEC 12.2; document 01): "It reads a macro from standard input, with a table of
 -- 65,536 bytes (N = 341), and prints lines." The lines are those of `report` (Rattle.report.specs.Lines).
 use mathlib.Core.Path.{_≡_}
 use mathlib.Core.List.{List, [], _∷_, _++_}
@@ -20,11 +20,11 @@ use Rattle.text.specs.Numerals.{numeral}
 use Rattle.report.specs.Lines.{Names, Printed, line, refusedWord, atWord, report}
 use Rattle.report.specs.Shown.{namesOf}
 
--- "with a table of 65,536 bytes"
+-- "with a table of 65,536 bytes" (SPEC 12.2)
 abbrev pub tableBytes : ℕ
 tableBytes = 65536
 
--- "N = 341"
+-- "N = 341" (SPEC 1.3, 12.2)
 abbrev pub tablePairs : ℕ
 tablePairs = 341
 
@@ -38,7 +38,7 @@ declaredNames m = namesOf (m .registers) (m .functions)
 
 -- What is printed of a macro: the verdict over all its executions, or `tableTooSmall` where there are more than N pairs.
 -- `outputTooSmall` is not among the answers.
--- "`pairs` and how many have first executions before the event, or exist. Unless pass: `letters` [..] On fail also `values`".
+-- "`pairs` and how many have first executions before the event, or exist. Unless pass: `letters` [..] On fail also `values`" (SPEC 12.2).
 unfoldable pub Told : Macro → Printed → Type 0
 Told m (Printed.pass k) =
     PairCount Feasible (begin (headerOf m)) (m .body) k × (k ≤ tablePairs)
@@ -48,9 +48,9 @@ Told m (Printed.fail k ls tables) =
     Shows Feasible (begin (headerOf m)) (m .body) failing k ls × (k ≤ tablePairs) × ShownModel (state (extend (begin (headerOf m)) ls)) tables
 Told m (Printed.refused number place) = (number ≡ tableTooSmall) × (place ≡ 0) × PairsPass Feasible (begin (headerOf m)) (m .body) tablePairs
 
--- The lines for a text.
+-- The lines for a text (SPEC 12.2).
 pub record Says (text lines : List ℕ) : Type 0 where
-  -- "A refusal is one line, `refused 9 at 17`."
+  -- "A refusal is one line, `refused 9 at 17`." (SPEC 12.1)
   pub unread : (number place : ℕ) → Refusal text number place → lines ≡ line (refusedWord ∷ numeral number ∷ atWord ∷ numeral place ∷ [])
   pub verdict : (m : Macro) → Accepted text m → (told : Printed) × Told m told × (lines ≡ report (declaredNames m) (headerOf m) told)
 
@@ -58,7 +58,7 @@ pub record Says (text lines : List ℕ) : Type 0 where
 abbrev pub mostVerdictLineBytes : ℕ
 mostVerdictLineBytes = 32768
 
--- A lent buffer holds `entry` and then `exit`, and `size` is given: the lines stand in front and the bytes behind them stay; or, in a buffer
+-- A lent buffer holds `entry` and then `exit`, and `size` is given: the lines (SPEC 12.2) stand in front and the bytes behind them stay; or, in a buffer
 -- that is too small, which one of `mostVerdictLineBytes` never is, all bytes stay, and 0 is given.
 pub record PrintsVerdictLines (text entry : List ℕ) (size : ℕ) (exit : List ℕ) : Type 0 where
   pub lines : List ℕ

@@ -1,4 +1,4 @@
-// The lines that the verdict program prints for the text of a macro (document 01, "The verdict program").
+// The lines that the verdict program prints for the text of a macro (SPEC 12.2).
 use files::Input;
 use files::Lines;
 use report::ReportWritten;

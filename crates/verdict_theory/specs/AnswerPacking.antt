@@ -1,4 +1,4 @@
--- The bytes of an answer, computed: "the execution as a packed trace, on fail its model after it" (document 01, "The questions").
+-- The bytes of an answer, computed: "the execution as a packed trace, on fail its model after it" (SPEC 10.7; document 01).
 use mathlib.Core.List.{List, _++_}
 use Prim.Native.Nat.{ℕ}
 use Rattle.letters.specs.declared.Letter.{Letter}

@@ -1,4 +1,4 @@
--- The window after a letter, and whether the letter is coherent, in the first edition's layout.
+-- The window after a letter, and whether the letter is coherent, in the first edition's layout (SPEC 5.6).
 use Prim.Native.Nat.{ℕ}
 use mathlib.Core.Bool.{Bool}
 use Rattle.letters.specs.declared.Letter.{Letter}
@@ -6,7 +6,7 @@ use Rattle.window.specs.Layout.{registers, functions}
 use Rattle.window.specs.Performing as performing
 use Rattle.window.specs.declared.Window.{Window}
 
--- the window of a header with n registers alone
+-- the window of a header with n registers alone (SPEC 5.3)
 abbrev pub freshOf : ℕ → Window
 freshOf = performing.freshInLayout registers functions
 

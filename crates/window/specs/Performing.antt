@@ -1,5 +1,5 @@
 -- The window after a letter, and whether the letter is coherent, for every layout of ρ registers and φ functions and every window
--- value: what the code computes.
+-- value: what the code computes (SPEC 5.6).
 use mathlib.Core.Bool.{Bool, true, false, not, cond, _||_}
 use mathlib.Core.List.{List}
 use Prim.Native.Nat.{ℕ, zero, suc, _+_, _*_, _^_, _<_}
@@ -38,7 +38,7 @@ argumentsOf x y z one two = cond (eqb y x || eqb z x) (bitOr one two) 0
 unfoldable pub ownOf : ℕ → ℕ → ℕ
 ownOf n r = cond (ltb r n) (2 ^ r) 0
 
--- "Early": neither side has a mark
+-- "Early": neither side has a mark (SPEC 5.6)
 unfoldable pub earlyOf : Window → ℕ → ℕ → Bool
 earlyOf w x y = not (getD (w .mark) x false || getD (w .mark) y false)
 
@@ -93,7 +93,7 @@ module _ (ρ φ : ℕ) where
   clashOf class unequal zero = false
   clashOf class unequal (suc k) = clashOf class unequal k || apartOf unequal k (getD class k 0)
 
-  -- "Once infeasible, it has no unequal pairs."
+  -- "Once infeasible, it has no unequal pairs." (SPEC 5.2, 5.6)
   unfoldable pub settledOf : Window → Bool → Window
   settledOf w bad = pick (w .infeasible || bad) (λ _. withUnequal w (replicate ρ 0) true) λ _. w
 
@@ -125,7 +125,7 @@ module _ (ρ φ : ℕ) where
   unfoldable pub applyOf : Window → ℕ → ℕ → ℕ → ℕ → Window
   applyOf w x f y z = let r = leastIn ρ (getD (w .result) (place ρ f y z) 0) in pick (ltb r ρ) (λ _. copiedOf w x r) λ _. appliedOf w x f y z
 
-  -- ---- the header alone
+  -- ---- the header alone (SPEC 5.3)
 
   abbrev pub freshInLayout : ℕ → Window
   freshInLayout n = record {
@@ -147,7 +147,7 @@ module _ (ρ φ : ℕ) where
   WithinLayout (Equal x y) = (x < ρ) × (y < ρ)
   WithinLayout (Unequal x y) = (x < ρ) × (y < ρ)
 
-  -- "Memoizing": a register holds the value, or it was never computed
+  -- "Memoizing": a register holds the value, or it was never computed (SPEC 5.6)
   unfoldable pub memoizingOf : Window → ℕ → ℕ → ℕ → Bool
   memoizingOf w f y z = cond (has (getD (w .ever) (ρ * f + y) 0) z) (nonempty ρ (getD (w .result) (place ρ f y z) 0)) true
 

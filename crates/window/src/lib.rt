@@ -1,4 +1,4 @@
-// The window of a trace (document 01, "Terms, models, coherence"): whether a letter is coherent, and the window after it.
+// The window of a trace (SPEC 5): whether a letter is coherent, and the window after it.
 use letters::Letter;
 use letters::limits::MOST_FUNCTIONS;
 use letters::limits::MOST_REGISTERS;

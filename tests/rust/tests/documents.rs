@@ -1,6 +1,7 @@
-//! The documents against the tree: the files and names that they cite are there.
+//! The documents against the tree: the files and names that they cite are there, and so are the sections of the
+//! specification that comments cite.
 //!
-//! What is cited stands between backquotes, or is the target of a link, in one line of a page of `pages`.
+//! What a document cites stands between backquotes, or is the target of a link, in one line of a page of `pages`.
 //!
 //! - *Links.* The target is a file or a folder, relative to the page.
 //! - *Paths.* A text of letters, digits and `_.+-/` that has a `/` in it or ends as one of `ENDINGS` is a path: of a
@@ -12,8 +13,12 @@
 //!   `, ` or ` and `. Names between two paths belong to the second one if they are joined to it. Of `Demand3 text`
 //!   the first word is the name, and of `Demand3.verdict` both parts are names. A path of code (`search::pack`) is none.
 //! - *Lines.* Behind a name, `crates/FILE.antt:LINE` is the line that declares it.
+//! - *Sections.* In a comment of definitions, proofs or code `SPEC 3`, `SPEC 3.1, 3.5` and `SPEC 3.1 to 3.4` are
+//!   sections of `docs/SPEC.md`. Where a line of a table has a name and its line, the file cites each section that the
+//!   second cell has.
 
 use std::fs;
+use std::ops::RangeInclusive;
 use std::path::{Path, PathBuf};
 
 /// How the name of a file ends.
@@ -24,6 +29,9 @@ const IN_A_CRATE: [&str; 5] = ["specs", "proofs", "src", "must-fail", "data"];
 
 /// Parts of a path that stand for any name.
 const STAND_INS: [&str; 7] = ["CRATE", "F", "FILE", "FLaws", "FOLDER", "FUNCTION", "NAME"];
+
+/// The folders of a crate whose comments may cite the specification.
+const COMMENTED: [&str; 3] = ["specs", "proofs", "src"];
 
 /// What joins a name to the path behind it.
 const TO_PATH: [&str; 2] = [" of ", " ("];
@@ -236,6 +244,93 @@ fn wrong_lines(line: &Line, count: &mut usize) -> Vec<String> {
     wrong
 }
 
+/// The numbers of the sections of the specification, in their order.
+fn sections() -> Vec<String> {
+    let text = fs::read_to_string(root().join("docs/SPEC.md")).expect("the specification");
+    let headings = text.lines().filter(|line| line.starts_with("## ") || line.starts_with("### "));
+    headings.filter_map(|line| line.split_whitespace().nth(1)).map(str::to_string).collect()
+}
+
+/// The number of a section that the text begins with, `3` or `3.1`, and what stands behind it.
+fn section(text: &str) -> Option<(&str, &str)> {
+    let digits = |text: &str| text.len() - text.trim_start_matches(|c: char| c.is_ascii_digit()).len();
+    let chapter = digits(text);
+    let part = text[chapter..].strip_prefix('.').map_or(0, digits);
+    (chapter > 0).then(|| text.split_at(if part > 0 { chapter + 1 + part } else { chapter }))
+}
+
+/// The sections that the text begins with, each with the last one of its range: `3, 4.1 to 4.3` has two.
+fn ranges(text: &str) -> Vec<(&str, &str)> {
+    let mut ranges = Vec::new();
+    let mut next = section(text);
+    while let Some((first, rest)) = next {
+        let (last, rest) = rest.strip_prefix(" to ").and_then(section).unwrap_or((first, rest));
+        ranges.push((first, last));
+        next = rest.strip_prefix(", ").and_then(section);
+    }
+    ranges
+}
+
+/// Where the sections of a range stand among all, if there are such.
+fn places(sections: &[String], (first, last): (&str, &str)) -> Option<RangeInclusive<usize>> {
+    let place = |number: &str| sections.iter().position(|section| section == number);
+    let (from, to) = (place(first)?, place(last)?);
+    (from <= to).then_some(from..=to)
+}
+
+/// The comment of a line of definitions or of code.
+fn comment<'a>(file: &Path, line: &'a str) -> &'a str {
+    let mark = if ends(file, "rt") { "//" } else { "--" };
+    line.find(mark).map_or("", |start| &line[start..])
+}
+
+/// The sections that a comment cites, each with the last one of its range.
+fn cited(comment: &str) -> Vec<(&str, &str)> {
+    comment.split("SPEC ").skip(1).flat_map(ranges).collect()
+}
+
+/// The definitions, proofs and code below a folder.
+fn sources(folder: &Path) -> Vec<PathBuf> {
+    let (folders, files): (Vec<_>, Vec<_>) = entries(folder).into_iter().partition(|path| path.is_dir());
+    let here = files.into_iter().filter(|path| ends(path, "antt") || ends(path, "rt"));
+    here.chain(folders.iter().flat_map(|folder| sources(folder))).collect()
+}
+
+/// The sections that the comments of a file cite and that are none; counts what is cited.
+fn wrong_comments(sections: &[String], file: &Path, count: &mut usize) -> Vec<String> {
+    let text = fs::read_to_string(file).expect("a file");
+    let mut wrong = Vec::new();
+    for (line, number) in text.lines().zip(1..) {
+        for (first, last) in cited(comment(file, line)) {
+            *count += 1;
+            if places(sections, (first, last)).is_none() {
+                wrong.push(format!("{}:{number}: no SPEC {first} to {last}", file.display()));
+            }
+        }
+    }
+    wrong
+}
+
+/// The sections of a line of a table that the file of its definition does not cite; counts the lines.
+fn wrong_sections(line: &Line, count: &mut usize) -> Vec<String> {
+    let cell = line.text.split('|').nth(2).map_or("", str::trim);
+    let file = line.quotes.last().and_then(|quote| quote.text.split_once(".antt:"));
+    let Some((path, _)) = file else { return Vec::new() };
+    *count += 1;
+    let sections = sections();
+    let file = root().join(format!("{path}.antt"));
+    let text = fs::read_to_string(&file).unwrap_or_default();
+    let all = text.lines().flat_map(|line| cited(comment(&file, line)));
+    let there: Vec<usize> = all.filter_map(|range| places(&sections, range)).flatten().collect();
+    let asked: Vec<_> = ranges(cell).into_iter().map(|range| places(&sections, range)).collect();
+    if asked.is_empty() || asked.contains(&None) {
+        return vec![format!("{}: no sections {cell}", line.place())];
+    }
+    let missing = asked.into_iter().flatten().flatten().filter(|place| !there.contains(place));
+    let missing = missing.map(|place| &sections[place]);
+    missing.map(|section| format!("{}: {path}.antt does not cite SPEC {section}", line.place())).collect()
+}
+
 /// Puts the question to every line of every page: nothing is wrong, and there is enough to ask about.
 fn check(question: fn(&Line, &mut usize) -> Vec<String>, least: usize) {
     let mut count = 0;
@@ -265,4 +360,23 @@ fn cited_names_are_declared() {
 #[test]
 fn cited_lines_declare() {
     check(wrong_lines, 70);
+}
+
+/// Sections that are cited in comments are sections of the specification.
+#[test]
+fn cited_sections_exist() {
+    let sections = sections();
+    let crates = entries(&root().join("crates"));
+    let folders = crates.iter().flat_map(|path| COMMENTED.map(|name| path.join(name)));
+    let files = folders.filter(|folder| folder.is_dir()).flat_map(|folder| sources(&folder));
+    let mut count = 0;
+    let wrong: Vec<String> = files.flat_map(|file| wrong_comments(&sections, &file, &mut count)).collect();
+    assert!(wrong.is_empty(), "\n{}", wrong.join("\n"));
+    assert!(count >= 400, "{count}");
+}
+
+/// Definitions that are cited with a line stand in files that cite the sections beside them.
+#[test]
+fn cited_definitions_cite_their_sections() {
+    check(wrong_sections, 70);
 }

@@ -1,4 +1,4 @@
--- The starred bench examples of document 01, as one table that is proved through the definitions by one theorem.
+-- The starred bench examples of document 01 (SPEC 13.1), as one table that is proved through the definitions by one theorem.
 use mathlib.Core.Path.{_≡_, refl, subst}
 use mathlib.Core.Bool.{Bool, _&&_}
 use mathlib.Core.List.{List, [], _∷_}
@@ -112,7 +112,7 @@ pub header-alone : (h : Header) → Judgement (begin h) 0 0
 unfolding incoherentLetter infeasibleLetter coherentPart
 header-alone h = judgement-is (begin h) tt
 
--- The tables that document 01 prints. Registers raster corner sum duty are 0 to 3, functions cap add 0 and 1.
+-- The tables that document 01 prints (SPEC 7.5). Registers raster corner sum duty are 0 to 3, functions cap add 0 and 1.
 unfoldable pub printed : Trace
 printed = begin (record { registers = 4; functions = 2; binary = 2 }) ▸ Apply 2 1 0 1 ▸ Apply 3 0 0 0 ▸ Apply 3 1 3 1 ▸ Apply 2 0 2 2 ▸ Unequal 3 2
 

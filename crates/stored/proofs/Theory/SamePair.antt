@@ -1,4 +1,4 @@
--- Equal records are the same pair (document 01, "The search for a verdict": "A pair is a point still to be performed and a window"): the bytes of two pairs
+-- Equal records are the same pair (SPEC 10.2; document 01: "A pair is a point still to be performed and a window"): the bytes of two pairs
 -- are equal exactly if the points are, and the two states agree on the window's six parts. So the count of pairs does not depend on how a pair is stored.
 use mathlib.Core.Path.{_≡_, sym, subst}
 use mathlib.Core.Logic.{inl, inr, _↔_}
