@@ -34,6 +34,9 @@ int main(void) {
     static const uint8_t letters[] = {1, 0, 2, 0, 0, 2, 0, 0, 0, 1};
     static const uint8_t twice[] = {1, 0, 2, 1, 1};
     uint8_t state[FADZGIME_STREAM_STATE];
+    /* A trace with the largest model: 1,024 times r0 := f(r0), under eight registers. */
+    static uint8_t longest[2 + 2 * 1024];
+    static uint8_t largest[FADZGIME_MODEL_OUTPUT];
 
     fadzgime_write(3, 1, 0, letters, sizeof letters, out, sizeof out, answer, 3);
     show("write", answer, 3);
@@ -73,6 +76,14 @@ int main(void) {
     fadzgime_model(trace, sizeof trace, out, sizeof out, answer, 4);
     show("model", answer, 4);
     show_bytes(out, (size_t)answer[3]);
+    longest[0] = 0x82;
+    for (size_t i = 1; i <= 1024; i++) {
+        longest[2 * i] = 0x40;
+    }
+    fadzgime_model(longest, sizeof longest, largest, sizeof largest, answer, 4);
+    show("model", answer, 4);
+    fadzgime_model(longest, sizeof longest, largest, sizeof largest - 1, answer, 4);
+    show("model", answer, 4);
 
     fadzgime_read(text, strlen(macro), answer, 5);
     show("read", answer, 5);
