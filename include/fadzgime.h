@@ -8,6 +8,8 @@
  * tells you so. An answer that held zeros then reads as accepted, coherent, pass: use
  * the lengths FADZGIME_.._ANSWER below.
  *
+ * Of a slice of length 0 no element is read or written.
+ *
  * A refusal is a number (0: none) and a place (0 unless said): docs/SPEC.md, 11. A
  * refused call writes no output, and the numbers behind the place are 0 unless said.
  * The bits of a word and of a packed model: docs/SPEC.md, 2 and 7.4. Registers and
