@@ -8,6 +8,8 @@
  * tells you so. An answer that held zeros then reads as accepted, coherent, pass: use
  * the lengths FADZGIME_.._ANSWER below.
  *
+ * Of a slice of length 0 no element is read or written.
+ *
  * A refusal is a number (0: none) and a place (0 unless said): docs/SPEC.md, 11. A
  * refused call writes no output, and the numbers behind the place are 0 unless said.
  * The bits of a word and of a packed model: docs/SPEC.md, 2 and 7.4. Registers and
@@ -35,6 +37,20 @@ extern "C" {
 #define FADZGIME_MODEL_ANSWER 4
 #define FADZGIME_READ_ANSWER 5
 #define FADZGIME_VERDICT_ANSWER 5
+
+/*
+ * Bytes of `out` in which every answer of fadzgime_model and of fadzgime_verdict fits:
+ * with so many there is no refusal 6.
+ *
+ * A model has two bytes for the count of values, two for the count of rows, two a
+ * register and five a row. There are at most 8 registers and, for 1,024 letters, 1,024
+ * rows: 4 + 2 * 8 + 5 * 1024. Under eight registers x := f(x), 1,024 times, needs all.
+ *
+ * A verdict shows at most 1,024 letters: 2 + 2 * 1024 bytes, and then their model. No
+ * macro needs quite so many, since a run that fails ends with a test, which has no row.
+ */
+#define FADZGIME_MODEL_OUTPUT 5140
+#define FADZGIME_VERDICT_OUTPUT 7190
 
 /*
  * Judges a packed trace of any length.
@@ -147,8 +163,9 @@ void fadzgime_stream_finish(const uint8_t *state, size_t state_length,
 /*
  * Shows a data model of a packed trace of at most 1,024 letters, coherent or not.
  * answer[0] refusal (1, 2, 3, 5, 4, 6), [1] place, [2] first infeasible letter
- * (0: feasible), [3] bytes of the packed model written to `out`. An `out` of 5,180
- * bytes is always enough.
+ * (0: feasible), [3] bytes of the packed model written to `out`: 4 + 2 * registers +
+ * 5 * rows of them; the bytes behind stay. 6: `out` is too short for that, which one of
+ * FADZGIME_MODEL_OUTPUT bytes never is.
  */
 void fadzgime_model(const uint8_t *trace, size_t trace_length,
                     uint8_t *out, size_t out_length,
@@ -175,8 +192,10 @@ void fadzgime_read(const uint8_t *text, size_t text_length,
  *
  * `out` gets the execution as a packed trace of 2 + 2 * answer[4] bytes, and on fail
  * its packed model after it, of 4 + 2 * registers + 5 * rows bytes; the bytes behind
- * stay. 6: `out` is too short for that; 7,230 bytes are always enough. Pass and a
- * refusal leave it untouched.
+ * stay. Pass and a refusal leave it untouched. 6: `out` is too short for the answer,
+ * which one of FADZGIME_VERDICT_OUTPUT bytes never is. The execution has at most as
+ * many letters as answer[3] says pairs, so with a table of N pairs 22 + 7 * N bytes are
+ * enough. A longer one comes behind more pairs than the table holds: that is 14, not 6.
  */
 void fadzgime_verdict(const uint8_t *text, size_t text_length,
                       uint8_t *table, size_t table_length,

@@ -1,4 +1,4 @@
-/* Calls each function of the library once or twice and prints what it answers. */
+/* Calls each function of the library, also with NULL for slices of length 0, and prints what it answers. */
 #include <inttypes.h>
 #include <stdio.h>
 #include <string.h>
@@ -34,6 +34,9 @@ int main(void) {
     static const uint8_t letters[] = {1, 0, 2, 0, 0, 2, 0, 0, 0, 1};
     static const uint8_t twice[] = {1, 0, 2, 1, 1};
     uint8_t state[FADZGIME_STREAM_STATE];
+    /* A trace with the largest model: 1,024 times r0 := f(r0), under eight registers. */
+    static uint8_t longest[2 + 2 * 1024];
+    static uint8_t largest[FADZGIME_MODEL_OUTPUT];
 
     fadzgime_write(3, 1, 0, letters, sizeof letters, out, sizeof out, answer, 3);
     show("write", answer, 3);
@@ -73,6 +76,14 @@ int main(void) {
     fadzgime_model(trace, sizeof trace, out, sizeof out, answer, 4);
     show("model", answer, 4);
     show_bytes(out, (size_t)answer[3]);
+    longest[0] = 0x82;
+    for (size_t i = 1; i <= 1024; i++) {
+        longest[2 * i] = 0x40;
+    }
+    fadzgime_model(longest, sizeof longest, largest, sizeof largest, answer, 4);
+    show("model", answer, 4);
+    fadzgime_model(longest, sizeof longest, largest, sizeof largest - 1, answer, 4);
+    show("model", answer, 4);
 
     fadzgime_read(text, strlen(macro), answer, 5);
     show("read", answer, 5);
@@ -87,6 +98,50 @@ int main(void) {
     fadzgime_verdict(passing, strlen(loop), table, sizeof table, out, 0, answer, 5);
     show("verdict", answer, 5);
     fadzgime_verdict(passing, strlen(loop), table, sizeof table - 1, out, 0, answer, 5);
+    show("verdict", answer, 5);
+
+    /* NULL for each slice of length 0, one after the other. */
+    fadzgime_monitor(NULL, 0, answer, 4);
+    show("monitor", answer, 4);
+    fadzgime_write(3, 1, 0, NULL, 0, out, sizeof out, answer, 3);
+    show("write", answer, 3);
+    fadzgime_write(3, 1, 0, letters, sizeof letters, NULL, 0, answer, 3);
+    show("write", answer, 3);
+    fadzgime_read_trace(NULL, 0, out, sizeof out, answer, 6);
+    show("read_trace", answer, 6);
+    fadzgime_read_trace(trace, 2, NULL, 0, answer, 6);
+    show("read_trace", answer, 6);
+    fadzgime_monitor_start(0x3200, NULL, 0, answer, 4);
+    show("monitor_start", answer, 4);
+    fadzgime_monitor_step(0x4400, NULL, 0, answer, 4);
+    show("monitor_step", answer, 4);
+    fadzgime_stream_start(NULL, 0, answer, 1);
+    show("stream_start", answer, 1);
+    fadzgime_stream_push(trace, sizeof trace, NULL, 0, answer, 1);
+    show("stream_push", answer, 1);
+    fadzgime_stream_finish(NULL, 0, answer, 4);
+    show("stream", answer, 4);
+    fadzgime_stream_start(state, sizeof state, answer, 1);
+    fadzgime_stream_push(NULL, 0, state, sizeof state, answer, 1);
+    fadzgime_stream_finish(state, sizeof state, answer, 4);
+    show("stream", answer, 4);
+    fadzgime_model(NULL, 0, out, sizeof out, answer, 4);
+    show("model", answer, 4);
+    fadzgime_model(trace, sizeof trace, NULL, 0, answer, 4);
+    show("model", answer, 4);
+    fadzgime_read(NULL, 0, answer, 5);
+    show("read", answer, 5);
+    fadzgime_verdict(NULL, 0, table, sizeof table, out, sizeof out, answer, 5);
+    show("verdict", answer, 5);
+    fadzgime_verdict(text, strlen(macro), NULL, 0, out, sizeof out, answer, 5);
+    show("verdict", answer, 5);
+    fadzgime_verdict(text, strlen(macro), table, sizeof table, NULL, 0, answer, 5);
+    show("verdict", answer, 5);
+    fadzgime_verdict(passing, strlen(loop), table, sizeof table, NULL, 0, answer, 5);
+    show("verdict", answer, 5);
+    /* Nothing is done, and what was answered before stays. */
+    fadzgime_monitor(trace, 5, NULL, 0);
+    fadzgime_verdict(text, strlen(macro), table, sizeof table, out, sizeof out, NULL, 0);
     show("verdict", answer, 5);
     return 0;
 }

@@ -17,7 +17,7 @@ ArgumentsHeld σ (Equal x y) =
     → Above (σ .terms) (σ .equals) (σ .value x) a b ⊎ Above (σ .terms) (σ .equals) (σ .value y) a b → Held σ a × Held σ b
 ArgumentsHeld σ (Unequal x y) = Unit {0}
 
--- So at every letter.
+-- So at every letter (SPEC 4.6).
 abbrev pub Stricter : Trace → Type 0
 Stricter (begin h) = Unit {0}
 Stricter (ρ ▸ a) = Stricter ρ × ArgumentsHeld (state ρ) a

@@ -16,6 +16,11 @@ pub const READ_ANSWER: usize = 5;
 /// incoherent), pairs, letters of the execution that shows it.
 pub const VERDICT_ANSWER: usize = 5;
 
+/// Bytes in which every answer of [`model`] fits.
+pub const MODEL_OUTPUT: usize = 5_140;
+/// Bytes in which every answer of [`verdict`] fits.
+pub const VERDICT_OUTPUT: usize = 7_190;
+
 /// Numbers in the answer of [`write`]: refusal, place, bytes of the trace.
 pub const WRITE_ANSWER: usize = 3;
 /// Numbers in the answer of [`read_trace`]: refusal, place, registers, functions, mask

@@ -2,8 +2,10 @@
 
 use fadzgime_tests::generators::random::{Random, cases};
 use fadzgime_tests::generators::traces::{Profile, any_trace, damage_trace, random_header, random_trace};
+use fadzgime_tests::oracle::letter::{Header, Letter};
 use fadzgime_tests::oracle::model::{Shown, show_model};
-use fadzgime_tests::proved::library::{self, MODEL_ANSWER};
+use fadzgime_tests::oracle::trace::Trace;
+use fadzgime_tests::proved::library::{self, MODEL_ANSWER, MODEL_OUTPUT};
 
 use crate::lent::Lent;
 
@@ -86,15 +88,22 @@ fn longest_traces() {
         let profile = Profile { weights: [1, 6, 1, 0], incoherent: 1, infeasible: 1000 };
         let length = 1020 + random.below(5);
         let mut trace = random_trace(random, header, profile, length);
-        check(&trace.pack(), 6000);
+        check(&trace.pack(), MODEL_OUTPUT);
         trace.letters.resize(1024, trace.letters[0]);
-        check(&trace.pack(), 6000);
+        check(&trace.pack(), MODEL_OUTPUT);
         trace.letters.push(trace.letters[0]);
-        check(&trace.pack(), 6000);
+        check(&trace.pack(), MODEL_OUTPUT);
         let mut bytes = trace.pack();
         bytes[3] |= 1;
-        check(&bytes, 6000);
+        check(&bytes, MODEL_OUTPUT);
     }
+    // The largest model: as many registers as there may be, and a new row at each letter.
+    let header = Header::new(8, &[1]);
+    let letters = vec![Letter::Apply { target: 0, function: 0, first: 0, second: None }; 1024];
+    let bytes = Trace { header, letters }.pack();
+    assert_eq!(length_of_model(&bytes), MODEL_OUTPUT);
+    check(&bytes, MODEL_OUTPUT);
+    check(&bytes, MODEL_OUTPUT - 1);
 }
 
 /// Where the answer is too short, nothing is done: every lent byte stays.

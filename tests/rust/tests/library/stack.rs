@@ -10,8 +10,9 @@ use fadzgime_tests::oracle::reader::read_macro;
 use fadzgime_tests::oracle::trace::Trace;
 use fadzgime_tests::oracle::verdict::{MAX_PAIRS, PAIR_BYTES};
 use fadzgime_tests::proved::library::{
-    self, MODEL_ANSWER, MONITOR_ANSWER, MONITOR_STATE, PUSH_ANSWER, READ_ANSWER, READ_TRACE_ANSWER,
-    STEP_ANSWER, STREAM_STATE, UNPACKED_BYTES, VERDICT_ANSWER, WRITE_ANSWER,
+    self, MODEL_ANSWER, MODEL_OUTPUT, MONITOR_ANSWER, MONITOR_STATE, PUSH_ANSWER, READ_ANSWER,
+    READ_TRACE_ANSWER, STEP_ANSWER, STREAM_STATE, UNPACKED_BYTES, VERDICT_ANSWER, VERDICT_OUTPUT,
+    WRITE_ANSWER,
 };
 
 /// The stack of the thread, of which the thread itself takes some.
@@ -79,7 +80,7 @@ fn call_read() {
 #[ignore = "called in a process of its own"]
 fn call_verdict() {
     let answers = texts().into_iter().map(|text| {
-        let (mut table, mut out) = (vec![0; MAX_PAIRS * PAIR_BYTES], vec![0; 65_536]);
+        let (mut table, mut out) = (vec![0; MAX_PAIRS * PAIR_BYTES], vec![0; VERDICT_OUTPUT]);
         on_a_small_stack(move || {
             let mut answer = [0; VERDICT_ANSWER];
             library::verdict(&text, &mut table, &mut out, &mut answer);
@@ -96,7 +97,7 @@ fn call_verdict() {
 #[ignore = "called in a process of its own"]
 fn call_model() {
     let trace = long_trace();
-    let (mut out, mut answer) = (vec![0; 65_536], vec![0; MODEL_ANSWER]);
+    let (mut out, mut answer) = (vec![0; MODEL_OUTPUT], vec![0; MODEL_ANSWER]);
     on_a_small_stack(move || library::model(&trace, &mut out, &mut answer));
 }
 

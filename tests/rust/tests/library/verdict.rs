@@ -10,7 +10,7 @@ use fadzgime_tests::oracle::enumeration::{Enumerated, enumerate};
 use fadzgime_tests::oracle::reader::read_macro;
 use fadzgime_tests::oracle::refusal::Refusal;
 use fadzgime_tests::oracle::verdict::{Answer, Event, MAX_PAIRS, PAIR_BYTES, verdict};
-use fadzgime_tests::proved::library::{self, VERDICT_ANSWER};
+use fadzgime_tests::proved::library::{self, VERDICT_ANSWER, VERDICT_OUTPUT};
 
 use crate::lent::Lent;
 
@@ -166,7 +166,8 @@ fn enumerated_executions() {
             }
             Enumerated::Bounded { length, pairs } => {
                 bounded += 1;
-                let (mut table, mut out, mut answer) = (vec![0; MOST], vec![0; 6_000], [0; VERDICT_ANSWER]);
+                let (mut table, mut out) = (vec![0; MOST], vec![0; VERDICT_OUTPUT]);
+                let mut answer = [0; VERDICT_ANSWER];
                 library::verdict(&text, &mut table, &mut out, &mut answer);
                 let [refusal, _, word, found, letters] = answer;
                 assert!(refusal == 14 || refusal == 0 && found >= pairs as u64, "{read:?}");
@@ -282,7 +283,7 @@ fn counter(digits: usize) -> Vec<u8> {
 fn many_turns() {
     for digits in 2..=6 {
         let text = counter(digits);
-        let [refusal, _, word, _, letters] = check(&text, MOST, 4_096);
+        let [refusal, _, word, _, letters] = check(&text, MOST, VERDICT_OUTPUT);
         println!("{digits} digits: refusal {refusal}, verdict {word}, {letters} letters");
         assert!(refusal == 14 || word == 1 && letters > 3 << (digits - 1));
     }
