@@ -9,7 +9,7 @@ use Rattle.base.specs.Choice.{pick}
 use Rattle.letters.specs.Editions.{firstEdition}
 use Rattle.semantics.specs.PackedTables.{units}
 use Rattle.window.specs.Table.{table}
-use Rattle.window.specs.Layout.{registers, functions}
+use Rattle.window.specs.Layout.{registers, functions, results}
 use Rattle.window.specs.declared.Window.{Window}
 use Rattle.records.specs.Formats as formats
 use Rattle.records.specs.Formats.{Format, numberBytes, contentPlace}
@@ -72,7 +72,7 @@ meaningsOf class = 0 ∷ 0 ∷ class ++ replicate (codeRange - (2 + registers)) 
 
 -- The results that these codes mean.
 unfoldable pub resultsMeant : List ℕ → List ℕ → List ℕ
-resultsMeant meanings codes = table (λ i. getD meanings (getD codes i 0) 0) firstFormatResults
+resultsMeant meanings codes = table (λ i. getD meanings (getD codes i 0) 0) results
 
 abbrev pub everIn : List ℕ → List ℕ
 everIn = formats.everInFormat firstFormat
