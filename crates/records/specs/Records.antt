@@ -39,7 +39,7 @@ contentBytes = formats.contentBytesOfFormat firstFormat
 
 -- A line of results that holds nothing, and of which nothing was ever computed.
 unfoldable pub emptyLine : List ℕ → ℕ → Bool
-emptyLine results line = pick (eqb line 0) (λ _. eqb (littleEndian results) 0) λ _. false
+emptyLine entries line = pick (eqb line 0) (λ _. eqb (littleEndian entries) 0) λ _. false
 
 -- The codes of all entries.
 abbrev pub codeBytes : List ℕ → List ℕ → List ℕ
