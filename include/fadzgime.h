@@ -195,7 +195,8 @@ void fadzgime_read(const uint8_t *text, size_t text_length,
  * stay. Pass and a refusal leave it untouched. 6: `out` is too short for the answer,
  * which one of FADZGIME_VERDICT_OUTPUT bytes never is. The execution has at most as
  * many letters as answer[3] says pairs, so with a table of N pairs 22 + 7 * N bytes are
- * enough. A longer one comes behind more pairs than the table holds: that is 14, not 6.
+ * enough. An execution of more than N letters comes behind more than N pairs: that is
+ * 14, not 6.
  */
 void fadzgime_verdict(const uint8_t *text, size_t text_length,
                       uint8_t *table, size_t table_length,

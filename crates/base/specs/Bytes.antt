@@ -6,7 +6,7 @@ use mathlib.Core.List.{List, [], _∷_}
 abbrev pub byteValues : ℕ
 byteValues = 256
 
--- the number whose digits to this base are the bytes, the lowest first
+-- the number whose digits to base 256 are the bytes, the first one lowest
 abbrev pub littleEndian : List ℕ → ℕ
 littleEndian [] = 0
 littleEndian (b ∷ s) = b + byteValues * littleEndian s

@@ -32,7 +32,7 @@ pub record Declared (rs : List ℕ) : Type 0 where
 unfoldable pub Disjoint : List ℕ → List ℕ → Type 0
 Disjoint rs fs = (i j : ℕ) → i < length rs → j < length fs → getD rs i 0 ≡ getD fs j 0 → ⊥
 
--- As many as the functions, each 1 or 2 (SPEC 8.4).
+-- As many as the functions, each 1 or 2 (SPEC 8.3, 8.4).
 pub data Arities : List ℕ → List ℕ → Type 0 where
   none : Arities [] []
   one : {f : ℕ} {fs ns : List ℕ} → Arities fs ns → Arities (f ∷ fs) (1 ∷ ns)

@@ -1,4 +1,4 @@
--- Bytes read as one number, the least significant first.
+-- Words of eight bytes, and the bytes of a number, the least significant first.
 use Prim.Native.Nat.{ℕ, zero, suc, _/_, _%_}
 use mathlib.Core.List.{List, [], _∷_}
 use lib.ListN.{take, drop}

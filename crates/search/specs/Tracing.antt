@@ -1,6 +1,6 @@
 -- The packed trace of an execution, written from its last letter back, since the table leads from a pair to its parent.
 use Prim.Native.Nat.{ℕ, _+_, _-_, _*_, _<_}
-use mathlib.Core.List.{List, [], _∷_, map}
+use mathlib.Core.List.{List, _∷_, map}
 use Rattle.letters.specs.Capacity.{mostPairs}
 use Rattle.letters.specs.declared.Header.{Header}
 use Rattle.letters.specs.declared.Letter.{Letter}
@@ -34,6 +34,6 @@ wordOrZero (refusal number place) = 0
 abbrev pub letterWords : Header → List Letter → List ℕ
 letterWords h ls = map (λ a. wordOrZero (encodeLetter firstEdition h a)) ls
 
--- The bytes of a trace.
+-- The bytes of a trace (SPEC 2.4).
 unfoldable pub traced : Header → List Letter → List ℕ
 traced h ls = bytesOf firstEdition (wordOrZero (encodeHeader firstEdition h) ∷ letterWords h ls)

@@ -1,9 +1,7 @@
 -- The first of each kind in a list, in order, and the place of an element: how values and rows of the shown model are given out (SPEC 7.2, 7.3).
-use mathlib.Core.Path.{_≡_}
 use mathlib.Core.Bool.{Bool}
 use mathlib.Core.List.{List, [], _∷_, _++_}
 use Prim.Native.Nat.{ℕ, suc}
-use lib.Dec.{T}
 use Rattle.base.specs.Choice.{pick}
 use Rattle.semantics.specs.Lists.{any}
 
@@ -17,7 +15,3 @@ module _ {A : Type 0} where
   unfoldable pub firstPlace : (A → Bool) → ℕ → List A → ℕ
   firstPlace p k [] = 0
   firstPlace p k (x ∷ xs) = pick (p x) (λ _. k) λ _. firstPlace p (suc k) xs
-
-  -- No element is the same as one before it.
-  abbrev pub NoRepeats : (A → A → Bool) → List A → Type 0
-  NoRepeats same l = (pre post : List A) (x : A) → l ≡ pre ++ x ∷ post → ¬ T (any (same x) pre)

@@ -26,6 +26,7 @@ wordBytes = 2
 unfoldable pub secondWritten : Header → ℕ → ℕ → ℕ
 secondWritten h f b = pick (has (h .binary) f) (λ _. b) λ _. 0
 
+-- The fields of a row, the spare one 0 (SPEC 7.4).
 abbrev pub rowFields : Header → Row → List ℕ
 rowFields h r = r .function ∷ r .first ∷ secondWritten h (r .function) (r .second) ∷ r .result ∷ 0 ∷ []
 

@@ -40,7 +40,7 @@ MemoizingModulo σ f y z =
     (s : Term) → s ∈ σ .terms → Congruent (σ .equals) s (app f (σ .value y) (σ .value z)) → HeldModulo σ (app f (σ .value y) (σ .value z))
 
 -- Definition 5, Early Assumes: "If there is a term t′ ∈ Terms(σ) such that t′ is either a superterm of t_x or of t_y modulo ≅,
--- then there must exist a variable z such that Comp(σ, z) ≅ t′." It asks nothing of the arguments of t′, as SPEC 4.3 does (SPEC 4.4).
+-- then there must exist a variable z such that Comp(σ, z) ≅ t′." It asks nothing of the arguments of t′; SPEC 4.3 does (SPEC 4.4).
 abbrev pub EarlyModulo : State → ℕ → ℕ → Type 0
 EarlyModulo σ x y =
     (s : Term) → s ∈ σ .terms → SupertermModulo (σ .equals) (σ .value x) s ⊎ SupertermModulo (σ .equals) (σ .value y) s → HeldModulo σ s

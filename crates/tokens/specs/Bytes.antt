@@ -53,6 +53,6 @@ width (b ∷ s) =
     λ _. pick (mark b) (λ _. pick (eqb (getD s 0 0) 61) (λ _. 2) λ _. 0)
     λ _. pick (symbol b) (λ _. 1) λ _. 0
 
--- A token is held as a number.
+-- A token is held as a number: its bytes, the first one lowest.
 abbrev pub key : List ℕ → ℕ
 key = littleEndian

@@ -6,7 +6,7 @@ use Rattle.window.specs.Viewing.{view, Inside, Shaped}
 use Rattle.window.specs.declared.Window.{Window}
 
 module _ (ρ φ : ℕ) where
-  -- w is the window of the state: all six parts are, and it says nothing of registers beyond the header's count (SPEC 5.2)
+  -- w is the window of the state: all six parts are, and it says nothing of registers beyond the header's count (SPEC 5.2, 5.5)
   pub record IsWindowInLayout (σ : State) (w : Window) : Type 0 where
     pub tracks : Tracks σ (view ρ φ w)
     pub inside : Inside ρ (σ .header .registers) (view ρ φ w)

@@ -17,6 +17,8 @@ use Rattle.semantics.specs.Tables.{Row}
 use Rattle.semantics.specs.TablesRead.{unitsIn, secondMeant, rowFrom, readTables}
 use Rattle.semantics.specs.PackedTables.{secondWritten}
 use Rattle.text.specs.Numerals.{numeral}
+use Rattle.text.specs.Appending.{PlaceInRange, Appended}
+use Rattle.text.proofs.Theory.Appending.{room-same, room-first, room-then, appended-same, appended-then}
 use Rattle.report.specs.Lines.{Names, linesOf, line, letterLine, letterLines, modelLines, startLines, rowLine, startWord, lettersWord, valuesWord}
 use Rattle.report.specs.Lines.{blankWord}
 use Rattle.report.specs.Shown.{letterOrCopy, lettersIn}
@@ -177,10 +179,44 @@ module _ (names : Names) (h : Header) (s : List ℕ) where
         further : (o n : ℕ) → o + 2 * (2 + n) ≡ o + 4 + 2 * n
         further o n = omega arith
 
-    pub model-parts : modelLines names h (readTables firstEdition h (drop o s))
-        ≡ line (valuesWord ∷ numeral (wordAt s o) ∷ []) ++ (startLines (names .register) 0 (unitsIn 2 (h .registers) (drop (o + 4) s))
-        ++ linesOf (rowLine (names .function) h) (map (rowFrom firstEdition h) (unitsIn 5 (wordAt s (o + 2)) (drop (o + 4 + 2 * h .registers) s))))
+    abbrev pub valuesPart : List ℕ
+    valuesPart = line (valuesWord ∷ numeral (wordAt s o) ∷ [])
+
+    abbrev pub startsPart : List ℕ
+    startsPart = startLines (names .register) 0 (unitsIn 2 (h .registers) (drop (o + 4) s))
+
+    -- n rows
+    abbrev pub rowsPart : ℕ → List ℕ
+    rowsPart n = linesOf (rowLine (names .function) h) (map (rowFrom firstEdition h) (unitsIn 5 n (drop (o + 4 + 2 * h .registers) s)))
+
+    pub model-parts : modelLines names h (readTables firstEdition h (drop o s)) ≡ valuesPart ++ (startsPart ++ rowsPart (wordAt s (o + 2)))
     unfolding modelLines readTables
     model-parts = λ i. line (valuesWord ∷ numeral (getD (words i) 0 0) ∷ [])
         ++ (startLines (names .register) 0 (drop 2 (words i)) ++ linesOf (rowLine (names .function) h)
         (map (rowFrom firstEdition h) (unitsIn 5 (getD (words i) 1 0) (behind i))))
+
+    -- ── one part after the other ──
+    abbrev rowsBehind : List ℕ
+    rowsBehind = rowsPart (wordAt s (o + 2))
+
+    abbrev wholeModel : List ℕ
+    wholeModel = modelLines names h (readTables firstEdition h (drop o s))
+
+    module _ {at : ℕ} (room : PlaceInRange at wholeModel) where
+      pub values-room : PlaceInRange at valuesPart
+      values-room = room-first valuesPart (startsPart ++ rowsBehind) (room-same model-parts room)
+
+      module _ {entry middle : List ℕ} {k : ℕ} (values : Appended entry at valuesPart middle k) where
+        behind-values : PlaceInRange k (startsPart ++ rowsBehind)
+        behind-values = room-then valuesPart (startsPart ++ rowsBehind) (room-same model-parts room) values
+
+        pub starts-room : PlaceInRange k startsPart
+        starts-room = room-first startsPart rowsBehind behind-values
+
+        pub rows-room : {last : List ℕ} {next : ℕ} → Appended middle k startsPart last next → PlaceInRange next rowsBehind
+        rows-room starts = room-then startsPart rowsBehind behind-values starts
+
+    pub model-done : {entry middle last exit : List ℕ} {at k next end : ℕ} → Appended entry at valuesPart middle k → Appended middle k startsPart last next
+        → Appended last next rowsBehind exit end → Appended entry at wholeModel exit end
+    model-done values starts rows =
+        appended-same (sym model-parts) (appended-then valuesPart (startsPart ++ rowsBehind) values (appended-then startsPart rowsBehind starts rows))

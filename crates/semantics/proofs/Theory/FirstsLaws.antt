@@ -13,9 +13,13 @@ use Rattle.semantics.specs.Terms.{_∈_}
 use Rattle.semantics.proofs.Theory.Booleans.{or-e, or-l, or-r, of-true, of-false, is-true, is-false}
 use Rattle.semantics.specs.Lists.{any}
 use Rattle.semantics.proofs.Theory.Lists.{any-e, any-i, end-split, any-left, any-right}
-use Rattle.semantics.specs.Firsts.{firstsAfter, firstPlace, NoRepeats}
+use Rattle.semantics.specs.Firsts.{firstsAfter, firstPlace}
 
 module _ {A : Type 0} where
+  -- No element is the same as one before it.
+  abbrev pub NoRepeats : (A → A → Bool) → List A → Type 0
+  NoRepeats same l = (pre post : List A) (x : A) → l ≡ pre ++ x ∷ post → ¬ T (any (same x) pre)
+
   pub place-below : (p : A → Bool) (k : ℕ) (l : List A) → 0 < k → firstPlace p k l < k + length l
   unfolding firstPlace
   place-below p k [] h = omega arith

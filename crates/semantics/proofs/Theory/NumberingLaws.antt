@@ -19,9 +19,9 @@ use Rattle.semantics.proofs.Theory.TermEquality.{eqt→eq, eqt-refl, eq
 use Rattle.semantics.specs.Closure.{Closure, symmetric}
 use Rattle.semantics.specs.Decide.{find, merges, alike}
 use Rattle.semantics.proofs.Theory.Decide.{alike-i, alike-e}
-use Rattle.semantics.specs.Firsts.{NoRepeats, firstsAfter, firstPlace}
+use Rattle.semantics.specs.Firsts.{firstsAfter, firstPlace}
 use Rattle.semantics.proofs.Theory.FirstsLaws.{place-first, place-in, place-both, firsts-append, firsts-seen, firsts-new, firsts-extends, firsts-all}
-use Rattle.semantics.proofs.Theory.FirstsLaws.{firsts-distinct, none-repeats, no-repeats-more, firsts-in, place-below}
+use Rattle.semantics.proofs.Theory.FirstsLaws.{NoRepeats, firsts-distinct, none-repeats, no-repeats-more, firsts-in, place-below}
 use Rattle.semantics.specs.Tables.{Row, rowOf}
 use Rattle.semantics.specs.ShownTables.{sameCall, applications, classesOf, classValue}
 use Rattle.semantics.specs.Numbering.{Filled, Numbering, RowListing}
