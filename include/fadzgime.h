@@ -8,7 +8,7 @@
  * tells you so. An answer that held zeros then reads as accepted, coherent, pass: use
  * the lengths FADZGIME_.._ANSWER below.
  *
- * Of a slice of length 0 no element is read or written.
+ * Of a slice of length 0 no element is read or written; its pointer may be NULL.
  *
  * A refusal is a number (0: none) and a place (0 unless said): docs/SPEC.md, 11. A
  * refused call writes no output, and the numbers behind the place are 0 unless said.
