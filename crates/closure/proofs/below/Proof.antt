@@ -22,12 +22,17 @@ below-spec =
     (λ c. search needs)
     (λ c. search needs)
     (λ c κs. search needs)
-    (λ c. link-less _ _ _ _ (c .before .before .before .before .pre .0) (c .before .before .before .before .pre .2) (c .before .before .loop-test .taken)
-    (c .wide .ensures))
-    (λ c. (
-      let l = link-less _ _ _ _ (c .before .before .before .before .pre .0) (c .before .before .before .before .pre .2)
-          (c .before .before .loop-test .taken) (c .wide .ensures) in let h = (c .before .before .before .loop .inv .0) in
+    (λ c.
+    let at-loop-test = c .before .before in
+    let at-pre = at-loop-test .before .before in
+    link-less _ _ _ _ (at-pre .pre .0) (at-pre .pre .2) (at-loop-test .loop-test .taken) (c .wide .ensures))
+    (λ c.
+    let at-loop-test = c .before .before in
+    let at-loop = at-loop-test .before in
+    let at-pre = at-loop .before in (
+      let l = link-less _ _ _ _ (at-pre .pre .0) (at-pre .pre .2) (at-loop-test .loop-test .taken) (c .wide .ensures) in
+          let h = at-loop .loop .inv .0 in
           omega arith,
-      cutting-turn _ _ _ _ _ (c .before .before .before .loop .inv .1) (c .before .before .loop-test .taken) (c .wide .ensures),
+      cutting-turn _ _ _ _ _ (at-loop .loop .inv .1) (at-loop-test .loop-test .taken) (c .wide .ensures),
     ))
     (λ c. cutting-end _ _ _ _ (c .before .loop .inv .1) (c .loop-test .left)))

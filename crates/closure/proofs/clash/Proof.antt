@@ -22,8 +22,18 @@ clash-spec =
     (λ c. let h = (c .before .before .pre .1) in let k = (c .loop-test .taken) in omega arith)
     (λ c. let h = (c .before .before .pre .1) in let k = (c .loop-test .taken) in omega arith)
     (λ c κs. search needs)
-    (λ c. let h = (c .before .before .before .before .pre .1) in let k = (c .before .before .loop-test .taken) in omega arith)
-    (λ c. let h = (c .before .before .before .before .pre .1) in let k = (c .before .before .loop-test .taken) in omega arith)
+    (λ c.
+    let at-loop-test = c .before .before in
+    let at-pre = at-loop-test .before .before in
+    let h = at-pre .pre .1 in
+    let k = at-loop-test .loop-test .taken in
+    omega arith)
+    (λ c.
+    let at-loop-test = c .before .before in
+    let at-pre = at-loop-test .before .before in
+    let h = at-pre .pre .1 in
+    let k = at-loop-test .loop-test .taken in
+    omega arith)
     (λ c κs. search needs)
     (λ c.
     let at-wide = c .before .before in
@@ -38,15 +48,17 @@ clash-spec =
     let h = below-use mostTerms _ _ _ _ (at-pre .pre .2) (at-loop-test .loop-test .taken)
     (at-wide .wide .ensures) in omega arith)
     (λ c.
-    let at-loop-test = c .before .before .before .before .before in
+    let at-wide = c .before .before .before in
+    let at-loop-test = at-wide .before .before in
     let at-pre = at-loop-test .before .before in
-    let h = below-use mostTerms _ _ _ _ (at-pre .pre .3)
-    (at-loop-test .loop-test .taken) (c .before .wide2 .ensures) in omega arith)
+    let h = below-use mostTerms _ _ _ _ (at-pre .pre .3) (at-loop-test .loop-test .taken) (c .before .wide2 .ensures) in
+    omega arith)
     (λ c.
-    let at-loop-test = c .before .before .before .before .before in
+    let at-wide = c .before .before .before in
+    let at-loop-test = at-wide .before .before in
     let at-pre = at-loop-test .before .before in
-    let h = below-use mostTerms _ _ _ _ (at-pre .pre .3)
-    (at-loop-test .loop-test .taken) (c .before .wide2 .ensures) in omega arith)
+    let h = below-use mostTerms _ _ _ _ (at-pre .pre .3) (at-loop-test .loop-test .taken) (c .before .wide2 .ensures) in
+    omega arith)
     (λ c.
     let at-wide2 = c .before .before .before in
     let at-wide = at-wide2 .before .before in

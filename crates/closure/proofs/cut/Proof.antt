@@ -21,15 +21,19 @@ cut-spec =
     (λ c. search needs)
     (λ c. search needs)
     (λ c κs. search needs)
-    (λ c κs. (
-      (c .before .before .before .before .pre .0 .links),
-      cutting-below _ _ _ (c .before .before .before .before .pre .0)
-          (c .before .before .before .before .pre .1) _ _ _ (c .before .before .before .loop .inv) (c .wide .ensures),
-      (c .before .before .before .before .pre .1),
+    (λ c κs.
+    let at-loop = c .before .before .before in
+    let at-pre = at-loop .before in (
+      (at-pre .pre .0 .links),
+      cutting-below _ _ _ (at-pre .pre .0) (at-pre .pre .1) _ _ _ (at-loop .loop .inv) (c .wide .ensures),
+      (at-pre .pre .1),
     ))
     (λ c.
-    let at-pre = c .before .before .before .before .before in
-    let h = (c .below .ensures .below) in let b = (at-pre .pre .2) in omega arith)
+    let at-loop-test = c .before .before .before in
+    let at-pre = at-loop-test .before .before in
+    let h = c .below .ensures .below in
+    let b = at-pre .pre .2 in
+    omega arith)
     (λ c. search needs)
     (λ c. search needs)
     (λ c. let h = (c .before .before .before .loop-test .taken) in omega arith)

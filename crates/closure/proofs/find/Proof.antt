@@ -23,11 +23,22 @@ find-spec =
     (λ c κs. readable-at _ (c .before .before .pre .0) (c .before .loop .inv .0))
     (λ c. finding-hit _ _ _ _ _ _ _ _ (c .before .before .before .loop .inv .1) (c .before .before .before .loop .inv .0) (c .before .before .loop-test .taken)
     (c .before .signature-at .ensures) (c .if1 .taken))
-    (λ c. let h = (c .before .before .before .loop .inv .0) in let w = (c .before .before .before .before .pre .0 .within) in omega arith)
-    (λ c. let h = (c .before .before .before .loop .inv .0) in let w = (c .before .before .before .before .pre .0 .within) in omega arith)
+    (λ c.
+    let at-loop = c .before .before .before in
+    let at-pre = at-loop .before in
+    let h = at-loop .loop .inv .0 in
+    let w = at-pre .pre .0 .within in
+    omega arith)
+    (λ c.
+    let at-loop = c .before .before .before in
+    let at-pre = at-loop .before in
+    let h = at-loop .loop .inv .0 in
+    let w = at-pre .pre .0 .within in
+    omega arith)
     (λ c κs. search needs)
     (λ c.
-    let at-loop-test = c .before .before .before .before in
+    let at-if1 = c .before .before in
+    let at-loop-test = at-if1 .before .before in
     let at-pre = at-loop-test .before .before in
     link-less _ _ _ _ (at-pre .pre .2) (at-pre .pre .0 .some)
     (at-loop-test .loop-test .taken) (c .wide .ensures))

@@ -33,7 +33,8 @@ relabel-spec =
     (λ c. search needs)
     (λ c κs. search needs)
     (λ c.
-    let at-pre = c .before .before .before .before .before in
+    let at-loop-test = c .before .before in
+    let at-pre = at-loop-test .before .before .before in
     fall-most _ _ _ _ _ (at-pre .pre .2) refl (c .fall .ensures))
     (λ c. search needs)
     (λ c. search needs)

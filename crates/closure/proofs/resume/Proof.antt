@@ -25,7 +25,8 @@ resume-spec =
       q,
     ))
     (λ c.
-    let at-later = c .before .before .before .before in
+    let at-if2 = c .before .before in
+    let at-later = at-if2 .before .before in
     let at-wide = at-later .before in
     let at-pre = at-wide .before in
     resumed-cut _ _ _ _ _ _ _ _ _ _ _ (at-pre .pre .0)
@@ -37,7 +38,8 @@ resume-spec =
     cut-ready _ _ _ _ _ _ _ _ _ _ _ (at-pre .pre .0) (at-pre .pre .1)
     (at-pre .pre .3) (at-wide .wide .ensures) (at-later .later .ensures))
     (λ c.
-    let at-later = c .before .before .before .before in
+    let at-if2 = c .before .before in
+    let at-later = at-if2 .before .before in
     let at-wide = at-later .before in
     let at-pre = at-wide .before in
     resumed-cut _ _ _ _ _ _ _ _ _ _ _ (at-pre .pre .0)

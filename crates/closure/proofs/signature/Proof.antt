@@ -15,15 +15,20 @@ signature-spec =
     (λ c. search needs)
     (λ c. search needs)
     (λ c κs. search needs)
-    (λ c. let p = class-use _ _ _ _ (c .before .before .before .before .pre .1) (c .before .before .before .wide .ensures) (c .wide3 .ensures) in omega arith)
+    (λ c.
+    let at-wide = c .before .before .before in
+    let at-pre = at-wide .before in
+    let p = class-use _ _ _ _ (at-pre .pre .1) (at-wide .wide .ensures) (c .wide3 .ensures) in
+    omega arith)
     (λ c. search needs)
     (λ c. search needs)
     (λ c κs. search needs)
     (λ c.
-    let at-wide2 = c .before .before .before .before in
+    let at-wide3 = c .before .before in
+    let at-wide2 = at-wide3 .before .before in
     let at-pre = at-wide2 .before .before in
-    let q = class-use _ _ _ _ (at-pre .pre .2) (at-wide2 .wide2 .ensures)
-    (c .wide4 .ensures) in omega arith)
+    let q = class-use _ _ _ _ (at-pre .pre .2) (at-wide2 .wide2 .ensures) (c .wide4 .ensures) in
+    omega arith)
     (λ c.
     let at-wide3 = c .before .before in
     let at-wide2 = at-wide3 .before .before in

@@ -25,14 +25,30 @@ undo-spec =
     (λ c κs. readable-at _ (c .before .before .pre .0) (let h = (c .before .loop .inv .0) in let t = (c .loop-test .taken) in omega arith))
     (λ c. search needs)
     (λ c. search needs)
-    (λ c. let h = (c .before .before .before .loop .inv .0) in let t = (c .before .before .loop-test .taken) in
-    let w = (c .before .before .before .before .pre .0 .within) in omega arith)
-    (λ c. let h = (c .before .before .before .loop .inv .0) in let t = (c .before .before .loop-test .taken) in
-    let w = (c .before .before .before .before .pre .0 .within) in omega arith)
+    (λ c.
+    let at-loop-test = c .before .before in
+    let at-loop = at-loop-test .before in
+    let at-pre = at-loop .before in
+    let h = at-loop .loop .inv .0 in
+    let t = at-loop-test .loop-test .taken in
+    let w = at-pre .pre .0 .within in
+    omega arith)
+    (λ c.
+    let at-loop-test = c .before .before in
+    let at-loop = at-loop-test .before in
+    let at-pre = at-loop .before in
+    let h = at-loop .loop .inv .0 in
+    let t = at-loop-test .loop-test .taken in
+    let w = at-pre .pre .0 .within in
+    omega arith)
     (λ c κs. search needs)
     (λ c. search needs)
     (λ c. search needs)
-    (λ c. let t = (c .before .before .before .before .loop-test .taken) in omega arith)
+    (λ c.
+    let at-signature-at = c .before .before .before in
+    let at-loop-test = at-signature-at .before in
+    let t = at-loop-test .loop-test .taken in
+    omega arith)
     (λ c.
     let at-signature-at = c .before .before .before in
     let at-loop-test = at-signature-at .before in

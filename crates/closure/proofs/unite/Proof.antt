@@ -19,10 +19,10 @@ unite-spec =
     (λ c. search needs)
     (λ c κs. search needs)
     (λ c κs.
-    let at-lower = c .before .before .before .before in
+    let at-higher = c .before in
+    let at-lower = at-higher .before .before .before in
     let at-pre = at-lower .before .before .before in
-    let (p, q) = names-ready _ _ _ _ _ _ (at-pre .pre .3)
-    (at-pre .pre .1) (at-pre .pre .2) (at-lower .lower .ensures) (c .before .higher .ensures) in
+    let (p, q) = names-ready _ _ _ _ _ _ (at-pre .pre .3) (at-pre .pre .1) (at-pre .pre .2) (at-lower .lower .ensures) (at-higher .higher .ensures) in
     ((at-pre .pre .0), p, q, (at-pre .pre .3)))
     (λ c.
     let at-higher = c .before .before in

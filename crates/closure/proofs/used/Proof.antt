@@ -64,20 +64,27 @@ used-spec =
     let (h, k) = use-below _ _ _ _ 0 (at-pre .pre) _ _ _
     (at-loop-test .loop-test .taken) (at-wide2 .wide2 .ensures) (at-wide3 .wide3 .ensures) in omega arith)
     (λ c.
-    let at-wide3 = c .before .before .before .before in
+    let at-if22 = c .before in
+    let at-wide3 = at-if22 .before .before .before in
     let at-wide2 = at-wide3 .before .before in
     let at-loop-test = at-wide2 .before .before in
     let at-pre = at-loop-test .before .before .before in
     use-second _ _ _ _ _ (at-pre .pre) _ _ _
     (at-loop-test .loop-test .taken) (at-wide2 .wide2 .ensures) (at-wide3 .wide3 .ensures) (c .if2 .taken))
     (λ c.
-    let at-loop-test = c .before .before .before .before .before .before .before .before in
+    let at-if12 = c .before .before .before in
+    let at-wide2 = at-if12 .before .before .before in
+    let at-loop-test = at-wide2 .before .before in
     let at-pre = at-loop-test .before .before .before in
-    let h = (at-loop-test .loop-test .taken) in
-    let w = (at-pre .pre .within) in omega arith)
+    let h = at-loop-test .loop-test .taken in
+    let w = at-pre .pre .within in
+    omega arith)
     (λ c.
-    let at-loop-test = c .before .before .before .before .before .before .before .before in
-    let h = (at-loop-test .loop-test .taken) in omega arith)
+    let at-if12 = c .before .before .before in
+    let at-wide2 = at-if12 .before .before .before in
+    let at-loop-test = at-wide2 .before .before in
+    let h = at-loop-test .loop-test .taken in
+    omega arith)
     (λ c.
     let at-if1 = c .before .before in
     let at-wide3 = at-if1 .before .before in
