@@ -30,10 +30,11 @@ codes-spec =
       search needs,
       search needs,
       search needs,
-      codes-past (c .before .before .before .before .before .before .before .args .result .now)
-          (c .before .before .before .before .before .before .before .args .ever .now) (c .before .before .before .before .loop .codes)
-          (c .before .before .before .before .loop .j) _ _ (omega arith) (search needs) refl (c .before .is-blank .ensures) (c .if1 .taken)
-          (c .before .before .before .before .loop .inv .3),
+      let at-is-blank = c .before in
+          let at-loop = at-is-blank .before .before .before in
+          let at-args = at-loop .before .before .before in
+          codes-past (at-args .args .result .now) (at-args .args .ever .now) (at-loop .loop .codes) (at-loop .loop .j) _ _ (omega arith) (search needs) refl
+          (at-is-blank .is-blank .ensures) (c .if1 .taken) (at-loop .loop .inv .3),
     ))
     (λ c. search needs)
     (λ c. search needs)
@@ -71,15 +72,19 @@ codes-spec =
       search needs,
       search needs,
       search needs,
-      codes-turn
-          (c .before .before .before .before .before .before .before .before .before .before .before .before .before .before .before .before .before .before
-          .before .args .result .now) (c .before .before .before .before .before .before .before .before .before .before .before .before .before .before .before
-          .before .before .before .before .args .ever .now)
-          (c .before .before .before .before .before .before .before .before .before .before .before .before .before .before .before .before .loop .codes)
-          (c .before .before .before .before .before .before .before .before .before .before .before .before .before .before .before .before .loop .j) _ _ _ _ _
-          (omega arith) refl (c .before .before .before .before .before .before .before .before .before .code-byte .ensures)
-          (c .before .before .before .before .before .before .code-byte2 .ensures) (c .before .before .before .code-byte3 .ensures) (c .code-byte4 .ensures)
-          (c .before .before .before .before .before .before .before .before .before .before .before .before .before .before .before .before .loop .inv .3),
+      let at-code-byte3 = c .before .before .before in
+          let at-code-byte2 = at-code-byte3 .before .before .before in
+          let at-code-byte = at-code-byte2 .before .before .before in
+          let at-if1 = at-code-byte .before .before .before in
+          let at-is-blank = at-if1 .before in
+          let at-loop = at-is-blank .before .before .before in
+          let at-args = at-loop .before .before .before in
+          codes-turn (at-args .args .result .now) (at-args .args .ever .now) (at-loop .loop .codes) (at-loop .loop .j) _ _ _ _ _ (omega arith) refl
+          (at-code-byte .code-byte .ensures) (at-code-byte2 .code-byte2 .ensures) (at-code-byte3 .code-byte3 .ensures) (c .code-byte4 .ensures)
+          (at-loop .loop .inv .3),
     ))
-    (λ c. swept-zeros _ 128 (4 * (c .before .loop .j)) (c .before .loop .codes) (c .before .loop .inv .3) (omega arith)
-    ∙ sym (code-bytes (c .before .before .before .before .args .result .now) (c .before .before .before .before .args .ever .now))))
+    (λ c.
+    let at-loop = c .before in
+    let at-args = at-loop .before .before .before in
+    swept-zeros _ 128 (4 * (at-loop .loop .j)) (at-loop .loop .codes) (at-loop .loop .inv .3) (omega arith)
+    ∙ sym (code-bytes (at-args .args .result .now) (at-args .args .ever .now))))

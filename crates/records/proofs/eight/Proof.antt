@@ -9,6 +9,8 @@ pub eight-spec : {M : Type 1} → statement M
 eight-spec =
     tie.close
     (tie.spec (λ c. search needs) (λ c. search needs) (λ c. search needs) (λ c. search needs) (λ c. search needs) (λ c κs. search needs)
-    (λ c. copied _ (c .before .before .before .before .before .args .part .now) _ (c .before .before .before .before .before .args .at) 8
-    ((c .before .before .before .before .before .args .at) + 8 - (c .before .before .before .before .before .args .at)) (omega arith) (search needs)
+    (λ c.
+    let at-bytes = c .before .before .before in
+    let at-args = at-bytes .before .before in
+    copied _ (at-args .args .part .now) _ (at-args .args .at) 8 ((at-args .args .at) + 8 - (at-args .args .at)) (omega arith) (search needs)
     (search needs) (c .before .lay .ensures .0)))

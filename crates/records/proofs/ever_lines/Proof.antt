@@ -31,9 +31,10 @@ ever-lines-spec =
     (λ c. (
       search needs,
       search needs,
-      ever-past (c .before .before .before .before .before .args .part .now) (search needs)
-          (c .before .before .before .loop .ever) (c .before .before .before .loop .j) _ (omega arith) (c .before .half-in .ensures .0)
-          (c .if1 .taken) (c .before .before .before .loop .inv .2),
+      let at-loop = c .before .before .before in
+          let at-args = at-loop .before .before in
+          ever-past (at-args .args .part .now) (search needs) (at-loop .loop .ever) (at-loop .loop .j) _ (omega arith) (c .before .half-in .ensures .0)
+          (c .if1 .taken) (at-loop .loop .inv .2),
     ))
     (λ c. search needs)
     (λ c κs. search needs)
@@ -58,13 +59,14 @@ ever-lines-spec =
     (λ c. (
       search needs,
       search needs,
-      swept-more _ 0 (replicate 32 0)
-          (c .before .before .before .before .before .before .before .before .before .before .before .loop .j)
-          (c .before .before .before .before .before .before .before .before .before .before .before .loop .ever) _
-          (c .before .before .before .before .before .before .before .before .before .before .before .loop .inv .2) (omega arith)
-          (ever-is (c .before .before .before .before .before .before .before .before .before .before .before .before .before .args .part .now)
-          (search needs) (c .before .before .before .before .before .before .before .before .before .before .before .loop .j) _ _ _ _ (omega arith)
-          (c .before .before .before .before .before .before .computed .ensures .0) (c .before .before .before .before .computed2 .ensures .0)
-          (c .before .before .computed3 .ensures .0) (c .computed4 .ensures .0)),
+      let at-computed3 = c .before .before in
+          let at-computed2 = at-computed3 .before .before in
+          let at-computed = at-computed2 .before .before in
+          let at-if1 = at-computed .before .before in
+          let at-loop = at-if1 .before .before .before in
+          let at-args = at-loop .before .before in
+          swept-more _ 0 (replicate 32 0) (at-loop .loop .j) (at-loop .loop .ever) _ (at-loop .loop .inv .2) (omega arith) (ever-is (at-args .args .part .now)
+          (search needs) (at-loop .loop .j) _ _ _ _ (omega arith) (at-computed .computed .ensures .0) (at-computed2 .computed2 .ensures .0)
+          (at-computed3 .computed3 .ensures .0) (c .computed4 .ensures .0)),
     ))
     (λ c. swept-zeros _ 32 (c .before .loop .j) (c .before .loop .ever) (c .before .loop .inv .2) (omega arith)))

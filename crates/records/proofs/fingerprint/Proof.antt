@@ -31,8 +31,9 @@ fingerprint-spec =
     (λ c. (
       search needs,
       search needs,
-      mix-turn (c .before .before .before .before .args .content .now) (c .before .before .loop .mixed)
-          (c .before .before .loop .i) _ (omega arith) (c .word-in .ensures .0) ∙ (c .before .before .loop .inv .2),
+      let at-loop = c .before .before in
+          let at-args = at-loop .before .before in
+          mix-turn (at-args .args .content .now) (at-loop .loop .mixed) (at-loop .loop .i) _ (omega arith) (c .word-in .ensures .0) ∙ (at-loop .loop .inv .2),
     ))
     (λ c. search needs)
     (λ c. search needs)

@@ -24,8 +24,11 @@ half-in-spec =
     (λ c. search needs)
     (λ c. search needs)
     (λ c. search needs)
-    (λ c. half-made (c .before .before .before .before .before .before .before .before .before .args .bytes .now)
-    (c .before .before .before .before .before .before .before .before .before .args .at) _ _ _ _ (search needs)
-    (c .before .before .before .before .before .before .wide .ensures .0) (c .before .before .before .before .wide2 .ensures .0)
-    (c .before .before .wide3 .ensures .0) (c .wide4 .ensures .0) (c .before .before .before .before .before .before .wide .ensures .1)
-    (c .before .before .before .before .wide2 .ensures .1) (c .before .before .wide3 .ensures .1) (c .wide4 .ensures .1)))
+    (λ c.
+    let at-wide3 = c .before .before in
+    let at-wide2 = at-wide3 .before .before in
+    let at-wide = at-wide2 .before .before in
+    let at-args = at-wide .before .before .before in
+    half-made (at-args .args .bytes .now) (at-args .args .at) _ _ _ _ (search needs) (at-wide .wide .ensures .0) (at-wide2 .wide2 .ensures .0)
+    (at-wide3 .wide3 .ensures .0) (c .wide4 .ensures .0) (at-wide .wide .ensures .1) (at-wide2 .wide2 .ensures .1) (at-wide3 .wide3 .ensures .1)
+    (c .wide4 .ensures .1)))

@@ -16,5 +16,7 @@ point-in-spec =
     (λ c. search needs)
     (λ c κs. search needs)
     (λ c. search needs)
-    (λ c. number-made (c .before .before .before .before .before .args .part .now) 5 _ _ (search needs) (c .before .before .wide .ensures .0)
-    (c .wide2 .ensures .0)))
+    (λ c.
+    let at-wide = c .before .before in
+    let at-args = at-wide .before .before .before in
+    number-made (at-args .args .part .now) 5 _ _ (search needs) (at-wide .wide .ensures .0) (c .wide2 .ensures .0)))

@@ -34,10 +34,10 @@ put-results-spec =
       search needs,
       search needs,
       search needs,
-      results-past (c .before .before .before .before .before .args .part .now) (search needs)
-          (c .before .before .before .before .before .args .meanings .now) (c .before .before .before .loop .result)
-          (c .before .before .before .loop .j) _ (omega arith) (search needs) (c .before .half-in .ensures .0) (c .if1 .taken)
-          (c .before .before .before .loop .inv .3),
+      let at-loop = c .before .before .before in
+          let at-args = at-loop .before .before in
+          results-past (at-args .args .part .now) (search needs) (at-args .args .meanings .now) (at-loop .loop .result) (at-loop .loop .j) _ (omega arith)
+          (search needs) (c .before .half-in .ensures .0) (c .if1 .taken) (at-loop .loop .inv .3),
     ))
     (λ c. search needs)
     (λ c κs. search needs)
@@ -79,23 +79,17 @@ put-results-spec =
       search needs,
       search needs,
       search needs,
-      results-turn
-          (c .before .before .before .before .before .before .before .before .before .before .before .before .before .before .before .before .before .before
-          .before .before .before .args .part .now) (search needs)
-          (c .before .before .before .before .before .before .before .before .before .before .before .before .before .before .before .before .before .before
-          .before .before .before .args .meanings .now)
-          (c .before .before .before .before .before .before .before .before .before .before .before .before .before .before .before .before .before .before
-          .before .loop .result) (c .before .before .before .before .before .before .before .before .before .before .before .before .before .before .before
-          .before .before .before .before .loop .j) _ _ _ _ (omega arith)
-          (c .before .before .before .before .before .before .before .before .before .before .before .before .before .before .wide .ensures .0)
-          (c .before .before .before .before .before .before .before .before .before .before .before .before .wide2 .ensures .0)
-          (c .before .before .before .before .before .before .before .before .before .before .wide3 .ensures .0)
-          (c .before .before .before .before .before .before .before .before .wide4 .ensures .0)
-          (c .before .before .before .before .before .before .before .before .before .before .before .before .before .before .wide .ensures .1)
-          (c .before .before .before .before .before .before .before .before .before .before .before .before .wide2 .ensures .1)
-          (c .before .before .before .before .before .before .before .before .before .before .wide3 .ensures .1)
-          (c .before .before .before .before .before .before .before .before .wide4 .ensures .1)
-          (c .before .before .before .before .before .before .before .before .before .before .before .before .before .before .before .before .before .before
-          .before .loop .inv .3),
+      let at-result6 = c .before .before in
+          let at-result3 = at-result6 .before .before .before in
+          let at-wide4 = at-result3 .before .before .before in
+          let at-wide3 = at-wide4 .before .before in
+          let at-wide2 = at-wide3 .before .before in
+          let at-wide = at-wide2 .before .before in
+          let at-if1 = at-wide .before .before in
+          let at-loop = at-if1 .before .before .before in
+          let at-args = at-loop .before .before in
+          results-turn (at-args .args .part .now) (search needs) (at-args .args .meanings .now) (at-loop .loop .result) (at-loop .loop .j) _ _ _ _
+          (omega arith) (at-wide .wide .ensures .0) (at-wide2 .wide2 .ensures .0) (at-wide3 .wide3 .ensures .0) (at-wide4 .wide4 .ensures .0)
+          (at-wide .wide .ensures .1) (at-wide2 .wide2 .ensures .1) (at-wide3 .wide3 .ensures .1) (at-wide4 .wide4 .ensures .1) (at-loop .loop .inv .3),
     ))
     (λ c. swept-zeros _ 256 (8 * (c .before .loop .j)) (c .before .loop .result) (c .before .loop .inv .3) (omega arith)))

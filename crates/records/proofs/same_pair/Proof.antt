@@ -38,11 +38,11 @@ same-pair-spec =
       search needs,
       search needs,
       search needs,
-      same-next (c .before .before .before .before .before .before .before .args .pair .now)
-          (c .before .before .before .before .before .before .before .args .part .now) 8 (c .before .before .before .before .before .loop .at)
-          (3 + (c .before .before .before .before .before .loop .at)) _ _ (3 + ((c .before .before .before .before .before .loop .at) + 8)) (omega arith)
-          (c .before .before .before .word-in .ensures .1) (c .before .word-in2 .ensures .1) (c .if1 .left)
-          ∙ (c .before .before .before .before .before .loop .inv .3),
+      let at-word-in = c .before .before .before in
+          let at-loop = at-word-in .before .before in
+          let at-args = at-loop .before .before in
+          same-next (at-args .args .pair .now) (at-args .args .part .now) 8 (at-loop .loop .at) (3 + (at-loop .loop .at)) _ _ (3 + ((at-loop .loop .at) + 8))
+          (omega arith) (at-word-in .word-in .ensures .1) (c .before .word-in2 .ensures .1) (c .if1 .left) ∙ (at-loop .loop .inv .3),
     ))
     (λ c. search needs)
     (λ c κs. search needs)
@@ -59,10 +59,15 @@ same-pair-spec =
     (λ c. search needs)
     (λ c. search needs)
     (λ c. search needs)
-    (λ c. let p = (c .before .before .before .before .before .before .before .before .before .args .pair .now) in let l =
-    (c .before .before .before .before .before .before .before .before .before .args .part .now) in let e :
-    (c .before .before .before .before .before .before .before .loop .at) ≡ 152 = omega arith in let i = subst
-    (λ (n : ℕ). sameFront (drop n p) (drop (3 + n) l) ≡ samePair p l) e
-    (c .before .before .before .before .before .before .before .loop .inv .3) in same-last p l 156 159 (search needs) (omega arith)
-    ∙ same-next p l 4 152 155 _ _ 159 refl (c .before .before .before .before .before .half-in .ensures .1 .0)
-    (c .before .before .before .half-in2 .ensures .1 .0) (c .before .before .if2 .left) ∙ i))
+    (λ c.
+    let at-if2 = c .before .before in
+    let at-half-in2 = at-if2 .before in
+    let at-half-in = at-half-in2 .before .before in
+    let at-loop = at-half-in .before .before in
+    let at-args = at-loop .before .before in
+    let p = at-args .args .pair .now in
+    let l = at-args .args .part .now in
+    let e : (at-loop .loop .at) ≡ 152 = omega arith in
+    let i = subst (λ (n : ℕ). sameFront (drop n p) (drop (3 + n) l) ≡ samePair p l) e (at-loop .loop .inv .3) in
+    same-last p l 156 159 (search needs) (omega arith) ∙ same-next p l 4 152 155 _ _ 159 refl (at-half-in .half-in .ensures .1 .0)
+    (at-half-in2 .half-in2 .ensures .1 .0) (at-if2 .if2 .left) ∙ i))

@@ -15,5 +15,7 @@ whole-spec =
     (λ c. search needs)
     (λ c. search needs)
     (λ c κs. search needs)
-    (λ c. record-made (c .before .before .before .before .args .pair .now) _ (c .before .before .before .before .args .parent)
-    (c .before .before .before .before .args .branch) (search needs) (c .before .lay .ensures .0)))
+    (λ c.
+    let at-lay = c .before in
+    let at-args = at-lay .before .before .before in
+    record-made (at-args .args .pair .now) _ (at-args .args .parent) (at-args .args .branch) (search needs) (at-lay .lay .ensures .0)))

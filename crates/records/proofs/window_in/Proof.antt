@@ -18,10 +18,14 @@ window-in-spec =
     (λ c κs. search needs)
     (λ c κs. search needs)
     (λ c. search needs)
-    (λ c. window-made (c .before .before .before .before .before .before .before .before .before .before .before .before .args .part .now)
-    (c .before .before .before .before .before .before .before .before .before .before .eight .result) _ _ _ _ _ _ _ (search needs) (search needs)
-    (c .before .before .before .before .before .before .before .before .before .before .eight .ensures)
-    (c .before .before .before .before .before .before .before .before .before .eight2 .ensures)
-    (c .before .before .before .before .before .before .before .before .eight3 .ensures)
-    (c .before .before .before .before .before .before .before .marks .ensures) (c .before .before .before .before .before .meanings .ensures)
-    (c .before .before .put-results .ensures) (c .before .ever-lines .ensures) refl))
+    (λ c.
+    let at-put-results = c .before .before in
+    let at-meanings = at-put-results .before .before .before in
+    let at-marks = at-meanings .before .before in
+    let at-eight3 = at-marks .before in
+    let at-eight2 = at-eight3 .before in
+    let at-eight = at-eight2 .before in
+    let at-args = at-eight .before .before in
+    window-made (at-args .args .part .now) (at-eight .eight .result) _ _ _ _ _ _ _ (search needs) (search needs) (at-eight .eight .ensures)
+    (at-eight2 .eight2 .ensures) (at-eight3 .eight3 .ensures) (at-marks .marks .ensures) (at-meanings .meanings .ensures)
+    (at-put-results .put-results .ensures) (c .before .ever-lines .ensures) refl))
