@@ -20,12 +20,13 @@ write-report-spec =
     (λ c κs. search needs)
     (λ c. search needs)
     (λ c κs.
-    let a = c .before .before .before .before .args in
+    let at-shared-slice-known = c .before .before .before in
+    let a = at-shared-slice-known .before .args in
     let reg : (r : ℕ) → Fits w64 (getD (a .registers) r 0) = λ r. search needs in
     let fun : (f : ℕ) → Fits w64 (getD (a .functions) f 0) = λ f. search needs in
     let few : Fits w8 (a .h .registers) = search needs in
     report-room (a .registers) (a .functions) (λ r. reg r .fits) (λ f. fun f .fits) (a .h) (a .answer .now)
-    (λ i. omega (arith, c .before .before .before .shared-slice-known .given i)) (c .before .limited .result) (c .before .limited .ensures .1) (few .fits))
+    (λ i. omega (arith, at-shared-slice-known .shared-slice-known .given i)) (c .before .limited .result) (c .before .limited .ensures .1) (few .fits))
     (λ c.
     let at-put-report = c .before .before in
     let at-limited = at-put-report .before .before in

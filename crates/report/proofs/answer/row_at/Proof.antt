@@ -17,5 +17,6 @@ row-at-spec =
     (λ c κs. search needs)
     (λ c. search needs)
     (λ c.
-    let a = c .before .before .before .before .args in
-    row-words (a .bytes .now) (a .at) (c .before .before .word-at .ensures .0) (c .before .word-at2 .ensures .0) (c .byte-at .ensures .0)))
+    let at-word-at = c .before .before in
+    let a = at-word-at .before .before .args in
+    row-words (a .bytes .now) (a .at) (at-word-at .word-at .ensures .0) (c .before .word-at2 .ensures .0) (c .byte-at .ensures .0)))

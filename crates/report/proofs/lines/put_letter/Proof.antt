@@ -11,9 +11,9 @@ use Rattle.report.proofs.lines.put_letter.Tie as tie
 returns-4 : tie.Need-returns-4
 returns-4 c =
     let at-put-two3 = c .before .before in
-    let at-letter4 = at-put-two3 .before .before .before .before in
-    let at-args = at-letter4 .before .before .before in
-    let a = at-args .args in
+    let at-put-two-arg6 = at-put-two3 .before in
+    let at-letter4 = at-put-two-arg6 .before .before .before in
+    let a = at-letter4 .before .before .before .args in
     appended-same (sym (ap (letterLine (namesOf (a .registers) (a .functions)) (a .h))
     (at-letter4 .letter4 .given .1) ∙ unequal-form (a .registers) (a .functions) (a .h) _ _)) (at-put-two3 .put-two3 .ensures)
 
@@ -53,9 +53,9 @@ put-letter-spec =
     (λ c. appended-length (c .before .before .put-two .ensures))
     (λ c.
     let at-put-two = c .before .before in
-    let at-letter = at-put-two .before .before .before .before in
-    let at-args = at-letter .before .before .before in
-    let a = at-args .args in
+    let at-put-two-arg2 = at-put-two .before in
+    let at-letter = at-put-two-arg2 .before .before .before in
+    let a = at-letter .before .before .before .args in
     appended-same (sym (ap (letterLine (namesOf (a .registers) (a .functions)) (a .h)) (at-letter .letter .given .1)
     ∙ copy-form (a .registers) (a .functions) (a .h) _ _)) (at-put-two .put-two .ensures))
     (λ c. appended-length (c .before .before .put-application .ensures))
@@ -69,9 +69,9 @@ put-letter-spec =
     (λ c. appended-length (c .before .before .put-two2 .ensures))
     (λ c.
     let at-put-two2 = c .before .before in
-    let at-letter3 = at-put-two2 .before .before .before .before in
-    let at-args = at-letter3 .before .before .before in
-    let a = at-args .args in
+    let at-put-two-arg4 = at-put-two2 .before in
+    let at-letter3 = at-put-two-arg4 .before .before .before in
+    let a = at-letter3 .before .before .before .args in
     appended-same (sym (ap (letterLine (namesOf (a .registers) (a .functions)) (a .h))
     (at-letter3 .letter3 .given .1) ∙ equal-form (a .registers) (a .functions) (a .h) _ _)) (at-put-two2 .put-two2 .ensures))
     (λ c. appended-length (c .before .before .put-two3 .ensures))

@@ -52,6 +52,8 @@ put-letters-spec =
     (appended-same (ap (letterLine (namesOf (a .registers) (a .functions)) (a .h)) (at-letter-of .letter-of .ensures))
     (at-put-letter .put-letter .ensures)))
     (λ c. left-length (c .before .loop .inv))
-    (λ c. let a = c .before .before .before .before .args in
+    (λ c.
+    let at-loop = c .before in
+    let a = at-loop .before .before .before .args in
     left-none (left-same (letter-lines-none (letterLine (namesOf (a .registers) (a .functions)) (a .h)) (a .h) (a .answer .now) (a .count)
-    (c .before .loop .k) (c .loop-test .left)) (c .before .loop .inv))))
+    (at-loop .loop .k) (c .loop-test .left)) (at-loop .loop .inv))))

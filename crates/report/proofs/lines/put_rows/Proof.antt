@@ -30,9 +30,18 @@ put-rows-spec =
     μ-loop
     (λ c. let a = c .before .before .args in
     left-same (row-lines-start (rowLine (λ f. nameText (getD (a .functions) f 0)) (a .h)) (a .h) (a .answer .now) (a .start) (a .count)) (left-all _ _ _))
-    (λ c. record { fits = omega (arith, c .before .before .before .before .pre .1, c .loop-test .taken) })
-    (λ c. record { fits = omega (arith, c .before .before .before .before .pre .1, c .loop-test .taken) })
-    (λ c κs. omega (arith, c .before .before .before .before .pre .1, c .loop-test .taken))
+    (λ c.
+    let at-loop = c .before in
+    let at-pre = at-loop .before .before .before in
+    record { fits = omega (arith, at-pre .pre .1, c .loop-test .taken) })
+    (λ c.
+    let at-loop = c .before in
+    let at-pre = at-loop .before .before .before in
+    record { fits = omega (arith, at-pre .pre .1, c .loop-test .taken) })
+    (λ c κs.
+    let at-loop = c .before in
+    let at-pre = at-loop .before .before .before in
+    omega (arith, at-pre .pre .1, c .loop-test .taken))
     (λ c κs.
     let at-loop-test = c .before .before in
     let at-loop = at-loop-test .before in
@@ -63,6 +72,8 @@ put-rows-spec =
     (appended-same (ap (λ (n : ℕ). rowLine (λ f. nameText (getD (a .functions) f 0)) (a .h) (rowFrom firstEdition (a .h) n))
     (at-row-at .row-at .ensures)) (at-put-row .put-row .ensures)))
     (λ c. left-length (c .before .loop .inv))
-    (λ c. let a = c .before .before .before .before .args in
+    (λ c.
+    let at-loop = c .before in
+    let a = at-loop .before .before .before .args in
     left-none (left-same (row-lines-none (rowLine (λ f. nameText (getD (a .functions) f 0)) (a .h)) (a .h) (a .answer .now) (a .start) (a .count)
-    (c .before .loop .k) (c .loop-test .left)) (c .before .loop .inv))))
+    (at-loop .loop .k) (c .loop-test .left)) (at-loop .loop .inv))))

@@ -69,6 +69,8 @@ put-starts-spec =
     (appended-same (sym (start-form (a .registers) (l .register) (at-register-name .register-name .ensures)
     (at-word-at .word-at .ensures .0))) (at-put-line .put-line .ensures)))
     (λ c. left-length (c .before .loop .inv))
-    (λ c. let a = c .before .before .before .before .args in
-    left-none (left-same (start-lines-none (λ r. nameText (getD (a .registers) r 0)) (a .answer .now) (a .start) (a .count) (c .before .loop .register)
-    (c .loop-test .left)) (c .before .loop .inv))))
+    (λ c.
+    let at-loop = c .before in
+    let a = at-loop .before .before .before .args in
+    left-none (left-same (start-lines-none (λ r. nameText (getD (a .registers) r 0)) (a .answer .now) (a .start) (a .count) (at-loop .loop .register)
+    (c .loop-test .left)) (at-loop .loop .inv))))

@@ -12,9 +12,10 @@ put-two-spec =
     (λ c κs. search needs)
     (λ c κs. search needs)
     (λ c κs.
-    let a = c .before .before .before .before .before in
-    room-same (λ i. filledIn (a .args .template .now)
-    (sym (c .before .before .register-name .ensures) i ∷ sym (c .before .register-name2 .ensures) i ∷ 0 ∷ 0 ∷ [])) (a .pre))
+    let at-register-name = c .before .before in
+    let at-start = at-register-name .before .before .before in
+    room-same (λ i. filledIn (at-start .args .template .now) (sym (at-register-name .register-name .ensures) i
+    ∷ sym (c .before .register-name2 .ensures) i ∷ 0 ∷ 0 ∷ [])) (at-start .pre))
     (λ c. appended-length (c .before .before .put-line .ensures))
     (λ c.
     let at-put-line = c .before .before in

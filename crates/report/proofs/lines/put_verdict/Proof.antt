@@ -16,20 +16,24 @@ put-verdict-spec =
     room-first (filledIn (a .verdict .now) (0 ∷ 0 ∷ 0 ∷ 0 ∷ [])) (line (pairsWord ∷ numeral (a .pairs) ∷ [])) (c .before .before .before .pre))
     (λ c. search needs)
     (λ c κs.
-    let at-put-line = c .before .before .before .before in
-    let at-args = at-put-line .before .before .before .before in
-    let a = at-args .args in
+    let at-out = c .before .before .before in
+    let at-put-line = at-out .before in
+    let at-put-line-arg = at-put-line .before in
+    let at-start = at-put-line-arg .before .before .before in
+    let a = at-start .args in
     room-same (pairs-form (a .pairs)) (room-then (filledIn (a .verdict .now) (0 ∷ 0 ∷ 0 ∷ 0 ∷ [])) (line (pairsWord ∷ numeral (a .pairs) ∷ []))
-    (at-args .pre) (at-put-line .put-line .ensures)))
+    (at-start .pre) (at-put-line .put-line .ensures)))
     (λ c.
     let at-put-line2 = c .before .before in
-    let at-put-line = at-put-line2 .before .before .before .before .before in
+    let at-put-line-arg2 = at-put-line2 .before .before in
+    let at-put-line = at-put-line-arg2 .before .before .before in
     appended-length (at-put-line2 .put-line2 .ensures)
     ∙ appended-length (at-put-line .put-line .ensures))
     (λ c.
     let at-put-line2 = c .before .before in
-    let at-put-line = at-put-line2 .before .before .before .before .before in
-    let at-args = at-put-line .before .before .before .before in
-    let a = at-args .args in
+    let at-put-line-arg2 = at-put-line2 .before .before in
+    let at-put-line = at-put-line-arg2 .before .before .before in
+    let at-put-line-arg = at-put-line .before in
+    let a = at-put-line-arg .before .before .before .args in
     appended-then (filledIn (a .verdict .now) (0 ∷ 0 ∷ 0 ∷ 0 ∷ [])) (line (pairsWord ∷ numeral (a .pairs) ∷ [])) (at-put-line .put-line .ensures)
     (appended-same (sym (pairs-form (a .pairs))) (at-put-line2 .put-line2 .ensures))))
