@@ -15,7 +15,9 @@ apply-spec =
       argument _ (c .before .pre .formed) (c .before .pre .second-term),
     ))
     (λ c κs.
-    let at-pre = c .before .before .before .before .before .before .before .before in (
+    let at-enter-arg3 = c .before .before .before in
+    let at-signature = at-enter-arg3 .before .before .before in
+    let at-pre = at-signature .before .before in (
       readable _ (at-pre .pre .formed) (at-pre .pre .formed .more) (omega arith),
       (at-pre .pre .room),
       (at-pre .pre .indexed .chains),
@@ -31,7 +33,9 @@ apply-spec =
     (λ c. search needs)
     (λ c.
     let at-enter = c .before .before in
-    let at-signature = at-enter .before .before .before .before .before .before .before in
+    let at-enter-arg6 = at-enter .before in
+    let at-enter-arg3 = at-enter-arg6 .before .before .before in
+    let at-signature = at-enter-arg3 .before .before .before in
     let at-pre = at-signature .before .before in
     applied _ _ _ _ _ _ _ _ _ _ _ (at-pre .pre) _ _ _ _
     (at-signature .signature .ensures) (at-enter .enter .ensures) _ (c .name .ensures)))

@@ -11,7 +11,9 @@ compute-spec =
     (λ c. search needs)
     (λ c. search needs)
     (λ c κs.
-    let at-pre = c .before .before .before .before .before .before .before .before in
+    let at-apply-arg3 = c .before .before .before in
+    let at-y = at-apply-arg3 .before .before .before in
+    let at-pre = at-y .before .before in
     (at-pre .pre .appliable))
     (λ c. search needs)
     (λ c. search needs)

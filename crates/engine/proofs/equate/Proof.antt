@@ -24,13 +24,16 @@ equate-spec =
     equated-same _ _ _ _ _ _ _ _ _ _ _ (at-pre .pre) _ _
     (at-wide .wide .ensures) (at-wide2 .wide2 .ensures) (c .if1 .taken))
     (λ c κs.
-    let at-wide2 = c .before .before .before .before .before .before in
+    let at-if1 = c .before .before .before in
+    let at-wide2 = at-if1 .before .before .before in
     let at-wide = at-wide2 .before .before in
     let at-pre = at-wide .before .before in
     equate-ready _ _ _ _ _ _ _ _ _ _ _ (at-pre .pre) _ _
     (at-wide .wide .ensures) (at-wide2 .wide2 .ensures))
     (λ c.
-    let at-wide2 = c .before .before .before .before .before .before .before in
+    let at-merge-arg3 = c .before in
+    let at-if1 = at-merge-arg3 .before .before .before in
+    let at-wide2 = at-if1 .before .before .before in
     let at-wide = at-wide2 .before .before in
     let at-pre = at-wide .before .before in
     equated-merged _ _ _ _ _ _ _ _ _ _ _ (at-pre .pre) _ _

@@ -20,8 +20,17 @@ first-malformed-spec =
     (λ c. following-start _ _ _ (c .before .pre) _)
     (λ c. let h = (c .loop-test .taken) in let l = (c .before .before .before .pre .few) in omega arith)
     (λ c. let h = (c .loop-test .taken) in let l = (c .before .before .before .pre .few) in omega arith)
-    (λ c. let h = bytes-there _ _ _ (c .before .before .before .before .pre) _ (c .before .loop-test .taken) in omega arith)
-    (λ c. let h = (c .before .loop-test .taken) in let l = (c .before .before .before .before .pre .few) in omega arith)
+    (λ c.
+    let at-loop-test = c .before in
+    let at-pre = at-loop-test .before .before .before in
+    let h = bytes-there _ _ _ (at-pre .pre) _ (at-loop-test .loop-test .taken) in
+    omega arith)
+    (λ c.
+    let at-loop-test = c .before in
+    let at-pre = at-loop-test .before .before .before in
+    let h = at-loop-test .loop-test .taken in
+    let l = at-pre .pre .few in
+    omega arith)
     (λ c.
     let at-loop-test = c .before .before in
     let at-pre = at-loop-test .before .before .before in
@@ -31,10 +40,12 @@ first-malformed-spec =
     (λ c. search needs)
     (λ c. search needs)
     (λ c.
-    let at-loop-test = c .before .before .before .before .before .before in
+    let at-word = c .before .before .before in
+    let at-loop-test = at-word .before .before .before in
     let at-pre = at-loop-test .before .before .before in
-    let h = (at-loop-test .loop-test .taken) in
-    let l = (at-pre .pre .few) in omega arith)
+    let h = at-loop-test .loop-test .taken in
+    let l = at-pre .pre .few in
+    omega arith)
     (λ c.
     let at-decode-letter = c .before .before in
     let at-word = at-decode-letter .before in
@@ -45,13 +56,19 @@ first-malformed-spec =
     (at-loop .loop .inv) (at-loop-test .loop-test .taken) _ (decoded-at _ _ _ (at-pre .pre) _ _ (at-decode-letter .decode-letter .result)
     (at-loop-test .loop-test .taken) (at-word .word .ensures) (at-decode-letter .decode-letter .ensures)) (c .enum-told .given .1))
     (λ c.
-    let at-loop-test = c .before .before .before .before .before .before .before in
+    let at-decoded = c .before in
+    let at-word = at-decoded .before .before .before in
+    let at-loop-test = at-word .before .before .before in
     let at-pre = at-loop-test .before .before .before in
-    let h = (at-loop-test .loop-test .taken) in
-    let l = (at-pre .pre .few) in omega arith)
+    let h = at-loop-test .loop-test .taken in
+    let l = at-pre .pre .few in
+    omega arith)
     (λ c.
-    let at-loop-test = c .before .before .before .before .before .before .before in
-    let h = (at-loop-test .loop-test .taken) in omega arith)
+    let at-decoded = c .before in
+    let at-word = at-decoded .before .before .before in
+    let at-loop-test = at-word .before .before .before in
+    let h = at-loop-test .loop-test .taken in
+    omega arith)
     (λ c.
     let at-decode-letter = c .before .before .before in
     let at-word = at-decode-letter .before in

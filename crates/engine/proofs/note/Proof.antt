@@ -14,17 +14,31 @@ note-spec =
     (λ c. (copy-below _ _ (c .before .before .before .pre) (c .before .letter .given .1)) .1)
     (λ c. search needs)
     (λ c. search needs)
-    (λ c. (copy-below _ _ (c .before .before .before .before .pre) (c .before .before .letter .given .1)) .0)
+    (λ c.
+    let at-letter = c .before .before in
+    let at-pre = at-letter .before .before in
+    (copy-below _ _ (at-pre .pre) (at-letter .letter .given .1)) .0)
     (λ c. noted-copy _ _ _ _ _ (c .before .before .letter .given .1))
     (λ c. search needs)
     (λ c. search needs)
     (λ c. search needs)
     (λ c. (unequal-below _ _ (c .before .before .before .pre) (c .before .letter2 .given .1)) .0)
-    (λ c. let h = unequal-below _ _ (c .before .before .before .before .pre) (c .before .before .letter2 .given .1) in let l = h .2 in omega arith)
-    (λ c. (unequal-below _ _ (c .before .before .before .before .pre) (c .before .before .letter2 .given .1)) .2)
+    (λ c.
+    let at-letter2 = c .before .before in
+    let at-pre = at-letter2 .before .before in
+    let h = unequal-below _ _ (at-pre .pre) (at-letter2 .letter2 .given .1) in
+    let l = h .2 in
+    omega arith)
+    (λ c.
+    let at-letter2 = c .before .before in
+    let at-pre = at-letter2 .before .before in
+    (unequal-below _ _ (at-pre .pre) (at-letter2 .letter2 .given .1)) .2)
     (λ c. search needs)
     (λ c. search needs)
-    (λ c. (unequal-below _ _ (c .before .before .before .before .pre) (c .before .before .letter2 .given .1)) .1)
+    (λ c.
+    let at-letter2 = c .before .before in
+    let at-pre = at-letter2 .before .before in
+    (unequal-below _ _ (at-pre .pre) (at-letter2 .letter2 .given .1)) .1)
     (λ c.
     let at-letter2 = c .before .before .before in
     let at-pre = at-letter2 .before .before in

@@ -29,8 +29,10 @@ perform-spec =
     (λ c. search needs)
     (λ c.
     let at-loop-test = c .before .before .before in
-    let at-pre = at-loop-test .before .before .before .before in
-    let h = (at-loop-test .loop-test .taken) in let l = (at-pre .pre .0 .few) in
+    let at-loop = at-loop-test .before in
+    let at-pre = at-loop .before .before .before in
+    let h = at-loop-test .loop-test .taken in
+    let l = at-pre .pre .0 .few in
     omega arith)
     (λ c.
     let at-letter-at = c .before .before in
@@ -40,7 +42,10 @@ perform-spec =
     malformed-at _ _ _ (at-pre .pre .0) _ _ _ _ _ _ _ _ _ _ _ _
     (at-loop-test .loop-test .taken) (at-loop .loop .inv .0) _ (at-letter-at .letter-at .ensures) (c .enum-told .given .1))
     (λ c κs.
-    let at-decoded = c .before .before .before .before .before .before .before .before .before .before in
+    let at-step-arg8 = c .before in
+    let at-step-arg5 = at-step-arg8 .before .before .before in
+    let at-step-arg2 = at-step-arg5 .before .before .before in
+    let at-decoded = at-step-arg2 .before .before .before in
     let at-letter-at = at-decoded .before .before in
     let at-loop-test = at-letter-at .before in
     let at-loop = at-loop-test .before in
@@ -49,52 +54,83 @@ perform-spec =
     (at-loop-test .loop-test .taken) (at-loop .loop .inv .0) _ (at-letter-at .letter-at .ensures) _ (at-decoded .decoded .given .1))
     (λ c κs.
     let at-step = c .before .before .before in
-    let at-decoded = at-step .before .before .before .before .before .before .before .before .before .before .before in
+    let at-step-arg8 = at-step .before .before in
+    let at-step-arg5 = at-step-arg8 .before .before .before in
+    let at-step-arg2 = at-step-arg5 .before .before .before in
+    let at-decoded = at-step-arg2 .before .before .before in
     let at-letter-at = at-decoded .before .before in
     let at-loop-test = at-letter-at .before in
     let at-loop = at-loop-test .before in
     let at-pre = at-loop .before .before .before in
-    clash-ready _ _ _ (at-pre .pre .0) _ _ _ _ _ _ _ _ _ _ _ _
-    (at-loop-test .loop-test .taken) (at-loop .loop .inv .0) _ (at-letter-at .letter-at .ensures) _ (at-decoded
-    .decoded .given .1) _ _ _ _ _ _ _ _ _ _ (at-step .step .ensures))
+    clash-ready _ _ _ (at-pre .pre .0) _ _ _ _ _ _ _ _ _ _ _ _ (at-loop-test .loop-test .taken) (at-loop .loop .inv .0) _
+    (at-letter-at .letter-at .ensures) _ (at-decoded .decoded .given .1) _ _ _ _ _ _ _ _ _ _ (at-step .step .ensures))
     (λ c.
-    let at-loop-test = c .before .before .before .before .before .before .before .before .before .before .before .before .before .before .before
-    .before .before .before .before in
-    let at-pre = at-loop-test .before .before .before .before in
-    let h = (at-loop-test .loop-test .taken) in
-    let l = (at-pre .pre .0 .few) in omega arith)
+    let at-clash = c .before in
+    let at-clash-arg = at-clash .before .before .before in
+    let at-step-arg8 = at-clash-arg .before .before .before in
+    let at-step-arg5 = at-step-arg8 .before .before .before in
+    let at-step-arg2 = at-step-arg5 .before .before .before in
+    let at-decoded = at-step-arg2 .before .before .before in
+    let at-loop-test = at-decoded .before .before .before in
+    let at-loop = at-loop-test .before in
+    let at-pre = at-loop .before .before .before in
+    let h = at-loop-test .loop-test .taken in
+    let l = at-pre .pre .0 .few in
+    omega arith)
     (λ c.
-    let at-step = c .before .before .before .before .before in
-    let at-decoded = at-step .before .before .before .before .before .before .before .before .before .before .before in
+    let at-clash-arg3 = c .before .before in
+    let at-step = at-clash-arg3 .before .before .before in
+    let at-step-arg8 = at-step .before .before in
+    let at-step-arg5 = at-step-arg8 .before .before .before in
+    let at-step-arg2 = at-step-arg5 .before .before .before in
+    let at-decoded = at-step-arg2 .before .before .before in
     let at-letter-at = at-decoded .before .before in
     let at-loop-test = at-letter-at .before in
     let at-loop = at-loop-test .before in
     let at-pre = at-loop .before .before .before in
-    stops _ _ _ (at-pre .pre .0) _ _ _ _ _ _ _ _ _ _ _ _
-    (at-loop-test .loop-test .taken) (at-loop .loop .inv .0) _ (at-letter-at
-    .letter-at .ensures) _ (at-decoded .decoded .given .1) _ _ _ _ _ _ _ _ _ _ (at-step .step .ensures) _ (c .before .clash .ensures) (c .if1 .taken))
+    stops _ _ _ (at-pre .pre .0) _ _ _ _ _ _ _ _ _ _ _ _ (at-loop-test .loop-test .taken) (at-loop .loop .inv .0) _ (at-letter-at .letter-at .ensures) _
+    (at-decoded .decoded .given .1) _ _ _ _ _ _ _ _ _ _ (at-step .step .ensures) _ (c .before .clash .ensures) (c .if1 .taken))
     (λ c.
-    let at-loop-test = c .before .before .before .before .before .before .before .before .before .before .before .before .before .before .before
-    .before .before .before .before in
-    let at-pre = at-loop-test .before .before .before .before in
-    let h = (at-loop-test .loop-test .taken) in
-    let l = (at-pre .pre .0 .few) in omega arith)
+    let at-clash = c .before in
+    let at-clash-arg = at-clash .before .before .before in
+    let at-step-arg8 = at-clash-arg .before .before .before in
+    let at-step-arg5 = at-step-arg8 .before .before .before in
+    let at-step-arg2 = at-step-arg5 .before .before .before in
+    let at-decoded = at-step-arg2 .before .before .before in
+    let at-loop-test = at-decoded .before .before .before in
+    let at-loop = at-loop-test .before in
+    let at-pre = at-loop .before .before .before in
+    let h = at-loop-test .loop-test .taken in
+    let l = at-pre .pre .0 .few in
+    omega arith)
     (λ c.
-    let at-loop-test = c .before .before .before .before .before .before .before .before .before .before .before .before .before .before .before
-    .before .before .before .before in
-    let h = (at-loop-test .loop-test .taken) in omega arith)
+    let at-clash = c .before in
+    let at-clash-arg = at-clash .before .before .before in
+    let at-step-arg8 = at-clash-arg .before .before .before in
+    let at-step-arg5 = at-step-arg8 .before .before .before in
+    let at-step-arg2 = at-step-arg5 .before .before .before in
+    let at-decoded = at-step-arg2 .before .before .before in
+    let at-loop-test = at-decoded .before .before .before in
+    let h = at-loop-test .loop-test .taken in
+    omega arith)
     (λ c.
-    let at-step = c .before .before .before .before .before in
-    let at-decoded = at-step .before .before .before .before .before .before .before .before .before .before .before in
+    let at-clash-arg3 = c .before .before in
+    let at-step = at-clash-arg3 .before .before .before in
+    let at-step-arg8 = at-step .before .before in
+    let at-step-arg5 = at-step-arg8 .before .before .before in
+    let at-step-arg2 = at-step-arg5 .before .before .before in
+    let at-decoded = at-step-arg2 .before .before .before in
     let at-letter-at = at-decoded .before .before in
     let at-loop-test = at-letter-at .before in
     let at-loop = at-loop-test .before in
     let at-pre = at-loop .before .before .before in (
-      goes-on _ _ _ (at-pre .pre .0) _ _ _ _ _ _ _ _ _ _ _ _ (at-loop-test .loop-test .taken) (at-loop .loop .inv .0) _ (at-letter-at
-          .letter-at .ensures) _ (at-decoded .decoded .given .1) _ _ _ _ _ _ _ _ _ _ (at-step .step .ensures) _ (c .before .clash .ensures)
-          (c .if1 .left),
+      goes-on _ _ _ (at-pre .pre .0) _ _ _ _ _ _ _ _ _ _ _ _ (at-loop-test .loop-test .taken) (at-loop .loop .inv .0) _
+          (at-letter-at .letter-at .ensures) _ (at-decoded .decoded .given .1) _ _ _ _ _ _ _ _ _ _ (at-step .step .ensures) _
+          (c .before .clash .ensures) (c .if1 .left),
       (at-loop .loop .inv .1),
-      (let h = (at-loop-test .loop-test .taken) in omega arith),
+      (let h = at-loop-test .loop-test .taken in omega arith),
     ))
-    (λ c. ends _ _ _ (c .before .before .before .before .pre .0) _ _ _ _ _ _ _ _ _ _ _ _ (c .loop-test .left) (c .before .loop .inv .1)
-    (c .before .loop .inv .0)))
+    (λ c.
+    let at-loop = c .before in
+    let at-pre = at-loop .before .before .before in
+    ends _ _ _ (at-pre .pre .0) _ _ _ _ _ _ _ _ _ _ _ _ (c .loop-test .left) (at-loop .loop .inv .1) (at-loop .loop .inv .0)))
