@@ -16,17 +16,22 @@ apply-slots-spec = tie.close (tie.spec
     (λ c. search needs)
     (λ c κs. search needs)
     (λ c κs.
-    let at-if1 = c .before .before .before .before .before .before .before in
-    let at-pre = at-if1 .before .before .before .before .before .before .before .before in
+    let at-copy-slots-arg6 = c .before in
+    let at-copy-slots-arg3 = at-copy-slots-arg6 .before .before .before in
+    let at-if1 = at-copy-slots-arg3 .before .before .before in
+    let at-register-in-arg = at-if1 .before .before .before in
+    let at-slot-of = at-register-in-arg .before .before .before in
+    let at-pre = at-slot-of .before .before in
     let p = at-pre .pre in
     (p .0, at-if1 .if1 .taken, p .4, p .5))
     (λ c.
-    let at-if1 = c .before .before .before .before .before .before .before .before in
+    let at-copy-slots-arg6 = c .before .before in
+    let at-copy-slots-arg3 = at-copy-slots-arg6 .before .before .before in
+    let at-if1 = at-copy-slots-arg3 .before .before .before in
     let at-register-in = at-if1 .before in
     let at-slot-of2 = at-register-in .before .before .before in
     let at-slot-of = at-slot-of2 .before .before in
-    let at-args = at-slot-of .before .before in
-    let a = at-args .args in
+    let a = at-slot-of .before .before .args in
     let e = c .copy-slots .ensures in (
       (λ i. apply-known registers functions (slotsOf (a .slot .now) (a .regs .now) (a .unequal .now) (a .result .now) (a .ever .now)
           (a .mark .now) i) _ _ _ _ _ _ _ _ (at-slot-of .slot-of .ensures .0) (at-slot-of2 .slot-of2 .ensures .0)
@@ -34,7 +39,10 @@ apply-slots-spec = tie.close (tie.spec
       e .1,
     ))
     (λ c κs.
-    let at-slot-of2 = c .before .before .before .before .before .before .before .before .before .before .before in
+    let at-new-value-arg5 = c .before .before in
+    let at-new-value-arg2 = at-new-value-arg5 .before .before .before in
+    let at-register-in = at-new-value-arg2 .before .before .before in
+    let at-slot-of2 = at-register-in .before .before .before in
     let at-slot-of = at-slot-of2 .before .before in
     let at-pre = at-slot-of .before .before in
     let p = at-pre .pre in (
@@ -46,12 +54,13 @@ apply-slots-spec = tie.close (tie.spec
       p .5,
     ))
     (λ c.
-    let at-if1 = c .before .before .before .before .before .before .before .before in
+    let at-new-value-arg6 = c .before .before in
+    let at-new-value-arg3 = at-new-value-arg6 .before .before .before in
+    let at-if1 = at-new-value-arg3 .before .before .before in
     let at-register-in = at-if1 .before in
     let at-slot-of2 = at-register-in .before .before .before in
     let at-slot-of = at-slot-of2 .before .before in
-    let at-args = at-slot-of .before .before in
-    let a = at-args .args in
+    let a = at-slot-of .before .before .args in
     let e = c .new-value .ensures in (
       (λ i. apply-new registers functions (slotsOf (a .slot .now) (a .regs .now) (a .unequal .now) (a .result .now) (a .ever .now)
           (a .mark .now) i) _ _ _ _ _ _ _ _ (at-slot-of .slot-of .ensures .0) (at-slot-of2 .slot-of2 .ensures .0)

@@ -21,13 +21,17 @@ copy-slots-spec = tie.close (tie.spec
     (λ c. search needs)
     (λ c κs. search needs)
     (λ c κs.
-    let at-slot-of2 = c .before .before .before .before .before in
-    let at-pre = at-slot-of2 .before .before .before .before in
+    let at-single = c .before .before in
+    let at-slot-of2 = at-single .before .before .before in
+    let at-slot-of = at-slot-of2 .before .before in
+    let at-pre = at-slot-of .before .before in
     let p = at-pre .pre in
     (p .0, at-slot-of2 .slot-of2 .ensures .1, p .2 .low, p .2 .regs-long))
     (λ c κs.
-    let at-move-register = c .before .before .before .before .before .before in
-    let at-slot-of2 = at-move-register .before .before .before .before .before .before in
+    let at-leave-slot-arg3 = c .before .before .before in
+    let at-move-register = at-leave-slot-arg3 .before .before .before in
+    let at-single = at-move-register .before .before .before in
+    let at-slot-of2 = at-single .before .before .before in
     let at-slot-of = at-slot-of2 .before .before in
     let at-pre = at-slot-of .before .before in
     let p = at-pre .pre in
@@ -41,16 +45,17 @@ copy-slots-spec = tie.close (tie.spec
     (λ c. search needs)
     (λ c. search needs)
     (λ c.
-    let at-move-register = c .before .before .before .before .before .before .before .before in
+    let at-leave-slot-arg6 = c .before .before in
+    let at-leave-slot-arg3 = at-leave-slot-arg6 .before .before .before in
+    let at-move-register = at-leave-slot-arg3 .before .before .before in
     let at-single = at-move-register .before .before .before in
     let at-if1 = at-single .before .before in
     let at-slot-of2 = at-if1 .before in
     let at-slot-of = at-slot-of2 .before .before in
-    let at-args = at-slot-of .before .before in
-    let a = at-args .args in
-    let p = at-args .pre in
-    let s = at-slot-of .slot-of .ensures
-    in
+    let at-start = at-slot-of .before .before in
+    let a = at-start .args in
+    let p = at-start .pre in
+    let s = at-slot-of .slot-of .ensures in
     let t = at-slot-of2 .slot-of2 .ensures in
     let m = at-move-register .move-register .ensures in
     let n = c .before .leave-slot .ensures in (

@@ -13,7 +13,10 @@ drop-results-spec = tie.close (tie.spec
     (λ c. search needs)
     (λ c.
     let at-clear-row = c .before .before in
-    let at-before = at-clear-row .before .before .before in
-    let k = at-before .before in
-    results-dropped registers _ _ _ _ _ _ (k .before .before .before .before .before .single .ensures) (k .before .before .before .before .move-bits .ensures)
-    (k .clear-column .ensures) (at-clear-row .clear-row .ensures)))
+    let at-t2 = at-clear-row .before .before .before in
+    let at-clear-column = at-t2 .before in
+    let at-t = at-clear-column .before .before .before in
+    let at-move-bits = at-t .before in
+    let at-single = at-move-bits .before in
+    results-dropped registers _ _ _ _ _ _ (at-single .single .ensures) (at-move-bits .move-bits .ensures) (at-clear-column .clear-column .ensures)
+    (at-clear-row .clear-row .ensures)))

@@ -15,32 +15,43 @@ drop-slot-spec = tie.close (tie.spec
     (λ c κs. search needs)
     (λ c κs. (c .before .before .before .pre .1, c .before .before .before .pre .3))
     (λ c κs.
-    let at-pre = c .before .before .before .before .before in (
-      at-pre .pre .0,
-      whole registers 1 (at-pre .args .unequal .now) (at-pre .pre .2 .unequal-long),
+    let at-lost-slots = c .before .before in
+    let at-start = at-lost-slots .before .before .before in (
+      at-start .pre .0,
+      whole registers 1 (at-start .args .unequal .now) (at-start .pre .2 .unequal-long),
     ))
     (λ c κs.
-    let at-pre = c .before .before .before .before .before .before .before in
+    let at-forget-masks = c .before in
+    let at-lost-slots = at-forget-masks .before .before .before in
+    let at-pre = at-lost-slots .before .before .before in
     let p = at-pre .pre in (p .0, omega (arith, p .2 .result-long)))
     (λ c κs.
-    let at-before = c .before .before .before .before .before .before in
-    let k = at-before .before in
-    (k .before .before .pre .0, whole registers functions (k .before .before .args .ever .now) (k .before .before .pre .2 .ever-long)))
+    let at-forget-masks = c .before .before .before in
+    let at-lost-slots = at-forget-masks .before .before .before in
+    let at-start = at-lost-slots .before .before .before in
+    (at-start .pre .0, whole registers functions (at-start .args .ever .now) (at-start .pre .2 .ever-long)))
     (λ c κs.
-    let at-pre = c .before .before .before .before .before .before .before .before .before .before .before in
+    let at-drop-results = c .before .before .before in
+    let at-forget-masks = at-drop-results .before .before in
+    let at-lost-slots = at-forget-masks .before .before .before in
+    let at-pre = at-lost-slots .before .before .before in
     let p = at-pre .pre in (p .0, omega (arith, p .4 .long)))
-    (λ c. let h = c .before .before in
-    let k = h .before .before .before .before .before .before .before in
-    let a = k .before .before .before .args in
-    let p = k .before .before .before .pre in
-    let m = h .before .before .before .before .before .before .mark-slots .ensures in
-    let u = h .before .before .before .before .forget-masks .ensures in
-    let d = h .before .before .drop-results .ensures in
-    let v = h .forget-masks2 .ensures in
+    (λ c.
+    let at-forget-masks2 = c .before .before in
+    let at-drop-results = at-forget-masks2 .before .before in
+    let at-forget-masks = at-drop-results .before .before in
+    let at-mark-slots = at-forget-masks .before .before in
+    let at-lost-slots = at-mark-slots .before in
+    let at-start = at-lost-slots .before .before .before in
+    let a = at-start .args in
+    let p = at-start .pre in
+    let m = at-mark-slots .mark-slots .ensures in
+    let u = at-forget-masks .forget-masks .ensures in
+    let d = at-drop-results .drop-results .ensures in
+    let v = at-forget-masks2 .forget-masks2 .ensures in
     let t = c .drop-results2 .ensures in (
-      (λ g i. dropped-is registers functions (a .slot .now) g _ _ _ _ _ _ _ _ i (a .s) (a .more) _
-          (h .before .before .before .before .before .before .before .lost-slots .ensures
-          ∙ lost-around registers functions _ _ (p .4) _ _ (p .0) (search needs)) m u d v),
+      (λ g i. dropped-is registers functions (a .slot .now) g _ _ _ _ _ _ _ _ i (a .s) (a .more) _ (at-lost-slots .lost-slots .ensures ∙ lost-around
+          registers functions _ _ (p .4) _ _ (p .0) (search needs)) m u d v),
       (
         (
           tabled-same registers functions _ _ _ _ _ _ u d v (tabled-dropped registers functions (a .s) _ _ _ (p .2)),

@@ -17,7 +17,9 @@ equal-slots-spec = tie.close (tie.spec
       ((p .2, p .3, p .4), p .5),
     ))
     (λ c κs.
-    let at-slot-of2 = c .before .before .before .before .before .before .before in
+    let at-merge-slots-arg3 = c .before .before .before in
+    let at-if1 = at-merge-slots-arg3 .before .before .before in
+    let at-slot-of2 = at-if1 .before in
     let at-slot-of = at-slot-of2 .before .before in
     let at-pre = at-slot-of .before .before in
     let p = at-pre .pre in (
@@ -29,19 +31,23 @@ equal-slots-spec = tie.close (tie.spec
       p .5,
     ))
     (λ c κs.
-    let at-merge-slots = c .before .before .before .before .before .before in
+    let at-close-slots-arg3 = c .before .before .before in
+    let at-merge-slots = at-close-slots-arg3 .before .before .before in
     let e = at-merge-slots .merge-slots .ensures .1 in (e .0 .0, e .0 .1, e .0 .2, e .1))
     (λ c κs. search needs)
     (λ c κs. search needs)
     (λ c.
     let at-clash = c .before .before in
     let at-close-slots = at-clash .before .before in
-    let at-merge-slots = at-close-slots .before .before .before .before .before .before .before in
-    let at-if1 = at-merge-slots .before .before .before .before .before .before .before in
+    let at-close-slots-arg6 = at-close-slots .before in
+    let at-close-slots-arg3 = at-close-slots-arg6 .before .before .before in
+    let at-merge-slots = at-close-slots-arg3 .before .before .before in
+    let at-merge-slots-arg6 = at-merge-slots .before in
+    let at-merge-slots-arg3 = at-merge-slots-arg6 .before .before .before in
+    let at-if1 = at-merge-slots-arg3 .before .before .before in
     let at-slot-of2 = at-if1 .before in
     let at-slot-of = at-slot-of2 .before .before in
-    let at-args = at-slot-of .before .before in
-    let a = at-args .args in
+    let a = at-slot-of .before .before .args in
     let i = a .infeasible in
     let e = at-close-slots .close-slots .ensures in
     let s = c .settle .ensures in

@@ -32,10 +32,12 @@ find-spec = tie.close (tie.spec
     ∙ at-loop .loop .inv .1)
     (λ c. search needs)
     (λ c. search needs)
-    (λ c. (
-      omega (arith, c .before .before .before .loop-test .taken),
-      sym (find-more registers _ _ _ results _ _ _
-          (c .before .before .before .loop-test .taken) (c .before .before .entry .ensures) (c .before .many .ensures) (c .if1 .left))
-          ∙ c .before .before .before .before .loop .inv .1,
+    (λ c.
+    let at-entry = c .before .before in
+    let at-loop-test = at-entry .before in
+    let at-loop = at-loop-test .before in (
+      omega (arith, at-loop-test .loop-test .taken),
+      sym (find-more registers _ _ _ results _ _ _ (at-loop-test .loop-test .taken) (at-entry .entry .ensures) (c .before .many .ensures)
+          (c .if1 .left)) ∙ at-loop .loop .inv .1,
     ))
     (λ c. sym (find-none registers _ _ _ results _ (c .loop-test .left)) ∙ c .before .loop .inv .1))

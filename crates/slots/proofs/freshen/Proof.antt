@@ -17,18 +17,20 @@ freshen-spec = tie.close (tie.spec
     let at-pre = at-if1 .before .before .before in
     let p = at-pre .pre in (p .0, at-if1 .if1 .taken, p .4, p .5))
     (λ c κs.
-    let at-if1 = c .before .before .before .before .before .before in
+    let at-move-register = c .before .before .before in
+    let at-if1 = at-move-register .before .before .before in
     let at-pre = at-if1 .before .before .before in
     let p = at-pre .pre in
     (p .1, p .2, p .3, at-if1 .if1 .taken, p .6, p .7, p .9 .long))
     (λ c. search needs)
     (λ c.
-    let at-move-register = c .before .before .before .before in
+    let at-hold-result-arg3 = c .before in
+    let at-move-register = at-hold-result-arg3 .before .before .before in
     let at-if1 = at-move-register .before .before .before in
     let at-free-slot = at-if1 .before in
-    let at-args = at-free-slot .before .before in
-    let a = at-args .args in
-    let p = at-args .pre in
+    let at-start = at-free-slot .before .before in
+    let a = at-start .args in
+    let p = at-start .pre in
     let m = at-move-register .move-register .ensures in
     let l = at-if1 .if1 .taken in
     let n = c .hold-result .ensures in (

@@ -31,12 +31,16 @@ hold-result-spec = tie.close (tie.spec
     (λ c. search needs)
     (λ c κs. search needs)
     (λ c. search needs)
-    (λ c. let k = c .before .before .before .before in
-    let a = k .before .before .before .before .before .args in
-    let t = k .before .before .before .before .if1 .left in (
-      result-recorded registers (a .f) (a .a) (a .b) (a .n) _ t _ (k .before .before .single .ensures),
+    (λ c.
+    let at-single3 = c .before .before in
+    let at-single2 = at-single3 .before .before in
+    let at-single = at-single2 .before .before in
+    let at-if1 = at-single .before .before in
+    let a = at-if1 .before .args in
+    let t = at-if1 .if1 .left in (
+      result-recorded registers (a .f) (a .a) (a .b) (a .n) _ t _ (at-single .single .ensures),
       (
-        ever-recorded registers (a .f) (a .a) (a .b) (a .n) _ t _ (k .single2 .ensures),
-        pair-recorded registers (a .a) (a .b) (a .n) _ t _ _ (c .before .before .single3 .ensures) (c .single4 .ensures),
+        ever-recorded registers (a .f) (a .a) (a .b) (a .n) _ t _ (at-single2 .single2 .ensures),
+        pair-recorded registers (a .a) (a .b) (a .n) _ t _ _ (at-single3 .single3 .ensures) (c .single4 .ensures),
       ),
     )))

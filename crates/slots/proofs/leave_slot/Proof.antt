@@ -9,9 +9,9 @@ pub leave-slot-spec : {M : Type 1} → statement M
 leave-slot-spec = tie.close (tie.spec
     (λ c κs. search needs)
     (λ c.
-    let at-if1 = c .before .before .before .before .before .before in
-    let at-args = at-if1 .before in
-    let a = at-args .args in (
+    let at-drop-slot-arg3 = c .before .before .before in
+    let at-if1 = at-drop-slot-arg3 .before .before .before in
+    let a = at-if1 .before .args in (
       (λ g i. left-dropped registers functions (slotsOf (a .slot .now) g (a .unequal .now) (a .result .now) (a .ever .now) (a .mark .now) i) _
           (a .s) _ (at-if1 .if1 .taken) (c .drop-slot .ensures .0 g i)),
       c .drop-slot .ensures .1,

@@ -10,5 +10,8 @@ lost-slots-spec = tie.close (tie.spec
     (λ c κs. search needs)
     (λ c κs. search needs)
     (λ c κs. search needs)
-    (λ c. lost-more registers _ _ _ _ _ _ _ (c .before .before .before .before .above .ensures) (c .before .before .before .single .ensures)
-    (c .before .before .beside .ensures) (c .raised .ensures)))
+    (λ c.
+    let at-beside = c .before .before in
+    let at-single = at-beside .before in
+    let at-above = at-single .before in
+    lost-more registers _ _ _ _ _ _ _ (at-above .above .ensures) (at-single .single .ensures) (at-beside .beside .ensures) (c .raised .ensures)))

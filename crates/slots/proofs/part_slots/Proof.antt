@@ -11,5 +11,7 @@ part-slots-spec = tie.close (tie.spec
     (λ c. search needs)
     (λ c κs. search needs)
     (λ c. search needs)
-    (λ c. let a = c .before .before .before .before .args in
-    parted-is (a .unequal .now) (a .a) (a .b) _ _ (c .before .before .single .ensures) (c .single2 .ensures)))
+    (λ c.
+    let at-single = c .before .before in
+    let a = at-single .before .before .args in
+    parted-is (a .unequal .now) (a .a) (a .b) _ _ (at-single .single .ensures) (c .single2 .ensures)))

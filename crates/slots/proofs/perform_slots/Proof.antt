@@ -13,7 +13,9 @@ perform-slots-spec = tie.close (tie.spec
     (λ c. search needs)
     (λ c. search needs)
     (λ c κs.
-    let at-letter = c .before .before .before .before .before .before .before .before in
+    let at-copy-slots-arg5 = c .before .before in
+    let at-copy-slots-arg2 = at-copy-slots-arg5 .before .before .before in
+    let at-letter = at-copy-slots-arg2 .before .before .before in
     let at-pre = at-letter .before .before in
     let p = subst WithinPacking (at-letter .letter .given .1)
     (at-pre .pre .0) in (
@@ -28,7 +30,9 @@ perform-slots-spec = tie.close (tie.spec
     (λ c. search needs)
     (λ c. search needs)
     (λ c κs.
-    let at-letter2 = c .before .before .before .before .before .before .before .before in
+    let at-apply-slots-arg5 = c .before .before in
+    let at-apply-slots-arg2 = at-apply-slots-arg5 .before .before .before in
+    let at-letter2 = at-apply-slots-arg2 .before .before .before in
     let at-pre = at-letter2 .before .before in
     let p = subst WithinPacking (at-letter2 .letter2 .given .1)
     (at-pre .pre .0) in (
@@ -43,7 +47,9 @@ perform-slots-spec = tie.close (tie.spec
     (λ c. search needs)
     (λ c. search needs)
     (λ c κs.
-    let at-letter3 = c .before .before .before .before .before .before .before in
+    let at-equal-slots-arg5 = c .before in
+    let at-equal-slots-arg2 = at-equal-slots-arg5 .before .before .before in
+    let at-letter3 = at-equal-slots-arg2 .before .before .before in
     let at-pre = at-letter3 .before .before in
     let p = subst WithinPacking (at-letter3 .letter3 .given .1)
     (at-pre .pre .0) in
@@ -59,9 +65,10 @@ perform-slots-spec = tie.close (tie.spec
     let l = at-pre .pre .1 in
     (p .0, p .1, l .low, l .tables .unequal-long))
     (λ c.
-    let at-letter = c .before .before .before .before .before .before .before .before .before in
-    let at-args = at-letter .before .before in
-    let a = at-args .args in
+    let at-copy-slots-arg5 = c .before .before .before in
+    let at-copy-slots-arg2 = at-copy-slots-arg5 .before .before .before in
+    let at-letter = at-copy-slots-arg2 .before .before .before in
+    let a = at-letter .before .before .args in
     let e = c .copy-slots .ensures in (
       performed registers functions _
           (slotsOf (a .slot .now) (a .regs .now) (a .unequal .now) (a .result .now) (a .ever .now) (a .mark .now) (a .infeasible)) _ _
@@ -69,9 +76,10 @@ perform-slots-spec = tie.close (tie.spec
       e .1,
     ))
     (λ c.
-    let at-letter2 = c .before .before .before .before .before .before .before .before .before in
-    let at-args = at-letter2 .before .before in
-    let a = at-args .args in
+    let at-apply-slots-arg5 = c .before .before .before in
+    let at-apply-slots-arg2 = at-apply-slots-arg5 .before .before .before in
+    let at-letter2 = at-apply-slots-arg2 .before .before .before in
+    let a = at-letter2 .before .before .args in
     let e = c .apply-slots .ensures in (
       performed registers functions _
           (slotsOf (a .slot .now) (a .regs .now) (a .unequal .now) (a .result .now) (a .ever .now) (a .mark .now) (a .infeasible)) _ _
@@ -79,9 +87,11 @@ perform-slots-spec = tie.close (tie.spec
       e .1,
     ))
     (λ c.
-    let at-letter3 = c .before .before .before .before .before .before .before .before in
-    let at-args = at-letter3 .before .before in
-    let a = at-args .args in
+    let at-equal-slots-arg5 = c .before .before in
+    let at-equal-slots-arg2 = at-equal-slots-arg5 .before .before .before in
+    let at-letter3 = at-equal-slots-arg2 .before .before .before in
+    let at-start = at-letter3 .before .before in
+    let a = at-start .args in
     let e = c .equal-slots .ensures in (
       performed registers functions _
           (slotsOf (a .slot .now) (a .regs .now) (a .unequal .now) (a .result .now) (a .ever .now) (a .mark .now) (a .infeasible)) _ _
@@ -92,17 +102,18 @@ perform-slots-spec = tie.close (tie.spec
           regs-long = e .1 .0 .1;
           tables = e .1 .0 .2;
           mark-long =
-              at-args .pre .1 .mark-long;
+              at-start .pre .1 .mark-long;
         },
         e .1 .1,
       ),
     ))
     (λ c.
-    let at-letter4 = c .before .before .before .before in
-    let at-args = at-letter4 .before .before in
-    let a = at-args .args in
+    let at-unequal-slots-arg2 = c .before in
+    let at-letter4 = at-unequal-slots-arg2 .before .before .before in
+    let at-start = at-letter4 .before .before in
+    let a = at-start .args in
     let e = c .unequal-slots .ensures in
-    let l = at-args .pre .1 in
+    let l = at-start .pre .1 in
     let t = l .tables in (
       performed registers functions _
           (slotsOf (a .slot .now) (a .regs .now) (a .unequal .now) (a .result .now) (a .ever .now) (a .mark .now) (a .infeasible)) _ _
@@ -114,6 +125,6 @@ perform-slots-spec = tie.close (tie.spec
           tables = record { unequal-long = e .1; result-long = t .result-long; ever-long = t .ever-long };
           mark-long = l .mark-long;
         },
-        at-args .pre .2,
+        at-start .pre .2,
       ),
     )))

@@ -22,12 +22,18 @@ pull-masks-spec = tie.close (tie.spec
     Inv-loop
     μ-loop
     (λ c. written-none _ _ _ _ (c .before .before .pre .0))
-    (λ c κs. let p = c .before .before .before .before .pre in (omega (arith, c .loop-test .taken, c .before .loop .inv .long), p .1, p .2))
+    (λ c κs.
+    let at-loop = c .before in
+    let at-pre = at-loop .before .before .before in
+    let p = at-pre .pre in (omega (arith, c .loop-test .taken, at-loop .loop .inv .long), p .1, p .2))
     (λ c. c .before .loop-test .taken)
     (λ c. search needs)
     (λ c. omega (arith, c .before .loop-test .taken, c .before .before .loop .inv .long))
     (λ c. let k = c .before .before in
     written-more _ _ _ _ _ _ (k .loop .inv)
     (omega (arith, c .before .loop-test .taken, k .loop .inv .long)) (c .pulled-entry .ensures))
-    (λ c. c .before .loop .inv .long ∙ sym (c .before .before .before .before .pre .0))
+    (λ c.
+    let at-loop = c .before in
+    let at-pre = at-loop .before .before .before in
+    at-loop .loop .inv .long ∙ sym (at-pre .pre .0))
     (λ c. written-all _ _ _ _ _ (c .before .loop .inv) (omega (arith, c .loop-test .left, c .before .loop .inv .long))))

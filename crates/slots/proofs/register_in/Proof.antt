@@ -9,6 +9,9 @@ register-in-spec = tie.close (tie.spec
     (λ c κs. search needs)
     (λ c. search needs)
     (λ c κs. search needs)
-    (λ c. let a = c .before .before .before .before .args in
-    register-some registers (a .regs .now) (a .slots) _ _ (c .before .before .before .name .ensures) (c .before .before .if1 .taken) (c .name2 .ensures))
+    (λ c.
+    let at-if1 = c .before .before in
+    let at-name = at-if1 .before in
+    let a = at-name .before .args in
+    register-some registers (a .regs .now) (a .slots) _ _ (at-name .name .ensures) (at-if1 .if1 .taken) (c .name2 .ensures))
     (λ c. let a = c .before .before .args in register-none registers (a .regs .now) (a .slots) _ (c .before .name .ensures) (c .if1 .left)))

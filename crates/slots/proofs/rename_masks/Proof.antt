@@ -15,9 +15,12 @@ rename-masks-spec = tie.close (tie.spec
     (λ c. search needs)
     (λ c.
     let at-forget-masks = c .before .before in
-    let at-before = at-forget-masks .before .before .before .before in
-    let at-single3 = at-before .before in
-    let k = at-before .before in
-    masks-renamed registers _ _ _ _ _ _ _ _ _ (k .before .before .before .before .before .before .unite-column .ensures)
-    (k .before .before .single .ensures) (k .before .single2 .ensures) (at-single3 .single3 .ensures)
-    (at-before .move-bits .ensures) (at-forget-masks .forget-masks .ensures)))
+    let at-t2 = at-forget-masks .before .before .before in
+    let at-move-bits = at-t2 .before in
+    let at-single3 = at-move-bits .before in
+    let at-single2 = at-single3 .before in
+    let at-single = at-single2 .before in
+    let at-t = at-single .before .before .before in
+    let at-unite-column = at-t .before in
+    masks-renamed registers _ _ _ _ _ _ _ _ _ (at-unite-column .unite-column .ensures) (at-single .single .ensures) (at-single2 .single2 .ensures)
+    (at-single3 .single3 .ensures) (at-move-bits .move-bits .ensures) (at-forget-masks .forget-masks .ensures)))

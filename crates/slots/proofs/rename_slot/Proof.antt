@@ -25,10 +25,14 @@ rename-slot-spec = tie.close (tie.spec
     (λ c. search needs)
     (λ c. search needs)
     (λ c. search needs)
-    (λ c. let l = c .before .before .before .loop in (
+    (λ c.
+    let at-loop-test = c .before .before in
+    let at-loop = at-loop-test .before in
+    let at-pre = at-loop .before in
+    let l = at-loop .loop in (
       l .inv .0,
       l .inv .1,
-      renamed-more registers _ _ _ (c .before .before .before .before .pre .2) _ _ _ _ _ (l .inv .0) (l .inv .1) (l .inv .2)
-          (c .before .before .loop-test .taken) (c .renamed .ensures),
+      renamed-more registers _ _ _ (at-pre .pre .2) _ _ _ _ _ (l .inv .0) (l .inv .1) (l .inv .2) (at-loop-test .loop-test .taken)
+          (c .renamed .ensures),
     ))
     (λ c. let l = c .before .loop in renamed-all registers _ _ _ (c .before .before .pre .2) _ _ (l .inv .2) (c .loop-test .left)))

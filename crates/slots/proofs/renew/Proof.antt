@@ -14,13 +14,16 @@ renew-spec = tie.close (tie.spec
     (λ c κs. search needs)
     (λ c κs. search needs)
     (λ c κs.
-    let at-slot-of = c .before .before .before .before .before .before in
+    let at-drop-slot-arg2 = c .before .before .before in
+    let at-slot-of = at-drop-slot-arg2 .before .before .before in
     let at-pre = at-slot-of .before in
     let p = at-pre .pre in
     (at-slot-of .slot-of .ensures .1, p .4, p .5, p .6, p .7))
     (λ c κs.
     let at-drop-slot = c .before .before .before in
-    let at-slot-of = at-drop-slot .before .before .before .before .before .before .before in
+    let at-drop-slot-arg3 = at-drop-slot .before .before .before in
+    let at-arguments = at-drop-slot-arg3 .before .before .before in
+    let at-slot-of = at-arguments .before in
     let at-pre = at-slot-of .before in
     let p = at-pre .pre in
     let d = at-drop-slot .drop-slot .ensures in (
@@ -34,12 +37,14 @@ renew-spec = tie.close (tie.spec
     ))
     (λ c. search needs)
     (λ c.
-    let at-drop-slot = c .before .before .before .before in
-    let at-arguments = at-drop-slot .before .before .before .before .before .before in
+    let at-hold-result-arg3 = c .before in
+    let at-drop-slot = at-hold-result-arg3 .before .before .before in
+    let at-drop-slot-arg3 = at-drop-slot .before .before .before in
+    let at-arguments = at-drop-slot-arg3 .before .before .before in
     let at-slot-of = at-arguments .before in
-    let at-args = at-slot-of .before in
-    let a = at-args .args in
-    let p = at-args .pre in
+    let at-start = at-slot-of .before in
+    let a = at-start .args in
+    let p = at-start .pre in
     let d = at-drop-slot .drop-slot .ensures in
     let n = c .hold-result .ensures in (
       (λ g i. renewed-is registers functions (slotsOf (a .slot .now) g (a .unequal .now) (a .result .now) (a .ever .now) (a .mark .now) i)

@@ -21,7 +21,11 @@ Copied = lts.After-other-mark
     reads.Pre reads.Post
 
 abbrev start : Copied → Start
-start k = k .before .before .before .before .before .before .before .before .before .before
+start at-other-mark =
+    let at-other-unequal = at-other-mark .before .before .before in
+    let at-mark = at-other-unequal .before .before in
+    let at-result = at-mark .before .before in
+    at-result .before .before .before
 
 -- the lengths that the types say
 long : (k : Start) → Long registers functions (k .args .v) × Long registers functions (k .args .w)
@@ -37,25 +41,45 @@ same-window-spec = tie.close (tie.spec
     (λ c κs. let (v, w) = long (start (c .before .before)) in w .class ∙ sym (v .class))
     (λ c. search needs)
     (λ c. search needs)
-    (λ c κs. let (v, w) = long (start (c .before .before .before .before .before)) in w .unequal ∙ sym (v .unequal))
+    (λ c κs.
+    let at-same-masks = c .before .before in
+    let at-other-mark = at-same-masks .before .before .before in
+    let (v, w) = long (start at-other-mark) in
+    w .unequal ∙ sym (v .unequal))
     (λ c. search needs)
     (λ c. search needs)
     (λ c κs.
-    let at-before = c .before .before .before .before .before .before .before in
-    let (v, w) = long (start (at-before .before)) in w .result ∙ sym (v .result))
+    let at-same-masks2 = c .before .before in
+    let at-same-masks = at-same-masks2 .before .before .before in
+    let at-other-mark = at-same-masks .before .before .before in
+    let (v, w) = long (start at-other-mark) in
+    w .result ∙ sym (v .result))
     (λ c. search needs)
     (λ c.
-    let at-before = c .before .before .before .before .before .before .before .before .before .before in
-    sym (long (start (at-before .before)) .1 .ever))
+    let at-same-masks3 = c .before .before in
+    let at-same-masks2 = at-same-masks3 .before .before .before in
+    let at-same-masks = at-same-masks2 .before .before .before in
+    let at-other-mark = at-same-masks .before .before .before in
+    sym (long (start at-other-mark) .1 .ever))
     (λ c κs.
-    let at-before = c .before .before .before .before .before .before .before .before .before .before in
-    let (v, w) = long (start (at-before .before)) in w .ever ∙ sym (v .ever))
+    let at-same-masks3 = c .before .before in
+    let at-same-masks2 = at-same-masks3 .before .before .before in
+    let at-same-masks = at-same-masks2 .before .before .before in
+    let at-other-mark = at-same-masks .before .before .before in
+    let (v, w) = long (start at-other-mark) in
+    w .ever ∙ sym (v .ever))
     (λ c κs. search needs)
     (λ c κs. search needs)
-    (λ c. let p = c .before .before .before .before in let q = p .before .before .before .before .before .before in
-    let k = start (q .before .before .before .before .before .before) in let a = k .args in
+    (λ c.
+    let at-same-marks = c .before in
+    let at-same-masks4 = at-same-marks .before .before .before in
+    let at-same-masks3 = at-same-masks4 .before .before .before in
+    let at-same-masks2 = at-same-masks3 .before .before .before in
+    let at-same-masks = at-same-masks2 .before .before .before in
+    let at-other-mark = at-same-masks .before .before .before in
+    let k = start at-other-mark in
+    let a = k .args in
     let (v, w) = long k in
-    let e = window-compared registers functions (a .v) (a .w) _ _ _ _ _ _ v (q .before .before .before .same-masks .ensures)
-    (q .same-masks2 .ensures) (p .before .before .before .same-masks3 .ensures) (p .same-masks4 .ensures)
-    (c .before .same-marks .ensures) (c .alike .ensures) in
+    let e = window-compared registers functions (a .v) (a .w) _ _ _ _ _ _ v (at-same-masks .same-masks .ensures) (at-same-masks2 .same-masks2 .ensures)
+    (at-same-masks3 .same-masks3 .ensures) (at-same-masks4 .same-masks4 .ensures) (at-same-marks .same-marks .ensures) (c .alike .ensures) in
     (e, λ t. same-window registers functions (a .v) (a .w) v w (sym e ∙ t))))

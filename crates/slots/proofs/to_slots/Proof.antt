@@ -15,13 +15,15 @@ to-slots-spec = tie.close (tie.spec
     (λ c.
     let at-keep3 = c .before .before in
     let at-keep2 = at-keep3 .before .before in
-    let at-before = at-keep2 .before in
-    let k = at-before .before in let g = k .before .before in
-    let t = g .before .before .before .before .before .pre .2 in (
-      g .before .before .name-slots .ensures,
-      g .group .ensures,
+    let at-keep = at-keep2 .before .before in
+    let at-group = at-keep .before .before in
+    let at-name-slots = at-group .before .before in
+    let at-pre = at-name-slots .before .before .before in
+    let t = at-pre .pre .2 in (
+      at-name-slots .name-slots .ensures,
+      at-group .group .ensures,
       record {
-        unequal-long = k .keep .ensures ∙ t .unequal-long;
+        unequal-long = at-keep .keep .ensures ∙ t .unequal-long;
         result-long = at-keep3 .keep3 .ensures ∙ at-keep2 .keep2 .ensures ∙ t .result-long;
         ever-long = c .keep4 .ensures ∙ t .ever-long;
       },
