@@ -1,5 +1,5 @@
 use Prim.Native.Nat.{_-_, _≤_}
-use mathlib.Core.Path.{_≡_, refl, _∙_}
+use mathlib.Core.Path.{_∙_}
 use native.Mathlib.Omega.{arith}
 use lib.ListN.{length, drop}
 use borrow.Author.Needs.{needs}
@@ -41,8 +41,11 @@ take-from-spec = tie.close (tie.spec
     (λ c. search needs)
     (λ c. search needs)
     (λ c κs.
-    let at-before = c .before .before .before .before .before .before .before .before .before .before .before .before .before in
-    let at-loop = at-before .before in
+    let at-result = c .before .before in
+    let at-slot = at-result .before .before .before in
+    let at-next-number = at-slot .before .before .before in
+    let at-shared-slice-known3 = at-next-number .before .before .before in
+    let at-loop = at-shared-slice-known3 .before .before .before in
     let at-start = at-loop .before .before .before in
     let l = at-loop .loop in
     let a = at-start .args in
@@ -50,43 +53,49 @@ take-from-spec = tie.close (tie.spec
     l .inv .1 _ begun .represents .mirrors .laid .low)
     (λ c κs. search needs)
     (λ c.
-    let at-before = c .before .before .before .before .before .before .before in
-    let at-told = at-before .before in
-    let at-number = at-told .before .before in
-    let at-decode = at-number .before in
-    let at-word = at-decode .before in
-    let at-test = at-word .before .before .before in
-    let at-loop = at-test .before in
+    let at-mark2 = c .before .before in
+    let at-unequal = at-mark2 .before .before .before in
+    let at-enum-told = at-unequal .before .before .before in
+    let at-next-number = at-enum-told .before .before in
+    let at-decode-letter = at-next-number .before in
+    let at-word = at-decode-letter .before in
+    let at-loop-test = at-word .before .before .before in
+    let at-loop = at-loop-test .before in
     let at-start = at-loop .before .before .before in
     let l = at-loop .loop in
     let a = at-start .args in
     let begun = standing-start (a .header) (a .window) _ (a .fine) (a .count) (a .one) (a .two) (drop (a .start) (a .bytes .now)) (at-start .pre .1) in
-    c .run-of .ensures
-    ∙ standing-malformed (a .header) (slotsOf (l .slot) (l .regs) (l .unequal) (l .result) (l .ever) (l .mark) (l .bad)) (l .fine) (l .count) (l .one) (l .two)
-    (a .bytes .now) (l .i) _ (l .inv .1 _ begun) _ _ _ _ (c .before .to-window .ensures) (at-test .loop-test .taken)
-    (at-word .word .ensures) (at-decode .decode-letter .ensures) (at-number .next-number .ensures) (at-told .enum-told .given .1))
+    c .run-of .ensures ∙ standing-malformed (a .header) (slotsOf (l .slot) (l .regs) (l .unequal) (l .result) (l .ever) (l .mark) (l .bad)) (l .fine)
+    (l .count) (l .one) (l .two) (a .bytes .now) (l .i) _ (l .inv .1 _ begun) _ _ _ _ (c .before .to-window .ensures) (at-loop-test .loop-test .taken)
+    (at-word .word .ensures) (at-decode-letter .decode-letter .ensures) (at-next-number .next-number .ensures) (at-enum-told .enum-told .given .1))
     (λ c κs.
-    let at-decoded = c .before .before .before .before .before in
-    let at-decode = at-decoded .before .before .before in
-    let at-loop = at-decode .before .before .before .before .before in
+    let at-result2 = c .before .before in
+    let at-decoded = at-result2 .before .before .before in
+    let at-decode-letter = at-decoded .before .before .before in
+    let at-shared-slice-known3 = at-decode-letter .before .before in
+    let at-loop = at-shared-slice-known3 .before .before .before in
     let at-start = at-loop .before .before .before in
     let l = at-loop .loop in
     let a = at-start .args in
     let begun = standing-start (a .header) (a .window) _ (a .fine) (a .count) (a .one) (a .two) (drop (a .start) (a .bytes .now)) (at-start .pre .1) in (
-      step-within (record { header = a .header; window = a .window; running = a .fine }) _ _ (at-decode .decode-letter .ensures) _
+      step-within (record { header = a .header; window = a .window; running = a .fine }) _ _ (at-decode-letter .decode-letter .ensures) _
           (at-decoded .decoded .given .1),
       l .inv .1 _ begun .represents .mirrors .laid .low,
     ))
     (λ c κs.
-    let at-before = c .before .before .before .before .before .before .before .before .before .before .before .before in
-    let at-decoded = at-before .before in
-    let at-decode = at-decoded .before .before .before in
-    let at-loop = at-decode .before .before .before .before .before in
+    let at-around = c .before in
+    let at-unequal2 = at-around .before .before .before in
+    let at-judge-slots = at-unequal2 .before .before .before in
+    let at-result2 = at-judge-slots .before .before .before in
+    let at-decoded = at-result2 .before .before .before in
+    let at-decode-letter = at-decoded .before .before .before in
+    let at-shared-slice-known3 = at-decode-letter .before .before in
+    let at-loop = at-shared-slice-known3 .before .before .before in
     let at-start = at-loop .before .before .before in
     let l = at-loop .loop in
     let a = at-start .args in
     let begun = standing-start (a .header) (a .window) _ (a .fine) (a .count) (a .one) (a .two) (drop (a .start) (a .bytes .now)) (at-start .pre .1) in (
-      step-within (record { header = a .header; window = a .window; running = a .fine }) _ _ (at-decode .decode-letter .ensures) _
+      step-within (record { header = a .header; window = a .window; running = a .fine }) _ _ (at-decode-letter .decode-letter .ensures) _
           (at-decoded .decoded .given .1),
       l .inv .1 _ begun .represents .mirrors .laid,
       l .inv .2,
@@ -94,38 +103,52 @@ take-from-spec = tie.close (tie.spec
     (λ c κs. search needs)
     (λ c κs. search needs)
     (λ c.
-    let at-before = c .before .before .before .before .before .before .before .before .before .before .before in
-    let middle = at-before .before in
-    omega (arith, middle .before .before .before .before .before .before .before .before .before .before .before))
-    (λ c.
-    let at-before = c .before .before .before .before .before .before .before .before .before .before .before in
-    let middle = at-before .before in
-    omega (arith, middle .before .before .before .before .before .before .before .before .before .before .before .loop-test .taken))
+    let at-performed = c .before .before in
+    let at-ever3 = at-performed .before .before .before in
+    let at-regs2 = at-ever3 .before .before .before in
+    let at-mark3 = at-regs2 .before .before .before in
+    let at-slot2 = at-mark3 .before .before .before in
+    let at-match = at-slot2 .before .before .before in
+    let at-word = at-match .before .before .before in
+    let at-loop-test = at-word .before .before .before in
+    omega (arith, at-loop-test))
     (λ c.
     let at-performed = c .before .before in
-    let at-judged = at-performed .before .before .before .before .before .before .before .before in
-    let at-decoded = at-judged .before .before .before .before .before .before in
-    let at-number = at-decoded .before .before in
-    let at-decode = at-number .before in
-    let at-word = at-decode .before in
-    let at-test = at-word .before .before .before in
-    let at-loop = at-test .before in
-    let at-start = at-loop .before .before .before in
+    let at-ever3 = at-performed .before .before .before in
+    let at-regs2 = at-ever3 .before .before .before in
+    let at-mark3 = at-regs2 .before .before .before in
+    let at-slot2 = at-mark3 .before .before .before in
+    let at-match = at-slot2 .before .before .before in
+    let at-word = at-match .before .before .before in
+    let at-loop-test = at-word .before .before .before in
+    omega (arith, at-loop-test .loop-test .taken))
+    (λ c.
+    let at-performed = c .before .before in
+    let at-around = at-performed .before .before in
+    let at-unequal2 = at-around .before .before .before in
+    let at-judge-slots = at-unequal2 .before .before .before in
+    let at-result2 = at-judge-slots .before .before .before in
+    let at-decoded = at-result2 .before .before .before in
+    let at-next-number = at-decoded .before .before in
+    let at-decode-letter = at-next-number .before in
+    let at-word = at-decode-letter .before in
+    let at-loop-test = at-word .before .before .before in
+    let at-loop = at-loop-test .before in
+    let a = at-loop .before .before .before .args in
     let l = at-loop .loop in
-    let a = at-start .args in
-    let t = at-test .loop-test .taken in (
+    let t = at-loop-test .loop-test .taken in (
       omega (arith, t, l .inv .0),
-      (λ whole begun.
-          standing-more (a .header) (slotsOf (l .slot) (l .regs) (l .unequal) (l .result) (l .ever) (l .mark) (l .bad)) (l .fine) (l .count) (l .one) (l .two)
-          (a .bytes .now) (l .i) whole (l .inv .1 whole begun) _ _ _ _ _ _ _ _ t
-          (at-word .word .ensures) (at-decode .decode-letter .ensures) (at-number .next-number .ensures) (at-decoded .decoded .given .1)
-          (at-judged .judge-slots .ensures (l .regs) (l .unequal) (l .bad)) (at-performed .performed .ensures .0)
-          (c .before .first .ensures) (c .first2 .ensures)),
+      (λ whole begun. standing-more (a .header) (slotsOf (l .slot) (l .regs) (l .unequal) (l .result) (l .ever) (l .mark) (l .bad)) (l .fine) (l .count)
+          (l .one) (l .two) (a .bytes .now) (l .i) whole (l .inv .1 whole begun) _ _ _ _ _ _ _ _ t (at-word .word .ensures)
+          (at-decode-letter .decode-letter .ensures) (at-next-number .next-number .ensures) (at-decoded .decoded .given .1)
+          (at-judge-slots .judge-slots .ensures (l .regs) (l .unequal) (l .bad)) (at-performed .performed .ensures .0) (c .before .first .ensures)
+          (c .first2 .ensures)),
       at-performed .performed .ensures .1 .1,
     ))
     (λ c κs.
-    let at-before = c .before .before .before .before .before .before in
-    let at-loop = at-before .before in
+    let at-ever4 = c .before in
+    let at-regs3 = at-ever4 .before .before .before in
+    let at-loop = at-regs3 .before .before .before in
     let at-start = at-loop .before .before .before in
     let l = at-loop .loop in
     let a = at-start .args in
@@ -133,13 +156,13 @@ take-from-spec = tie.close (tie.spec
     l .inv .1 _ begun .represents .mirrors .laid .low)
     (λ c κs. search needs)
     (λ c.
-    let at-before = c .before .before .before .before .before .before .before in
-    let at-test = at-before .before in
-    let at-loop = at-test .before in
+    let at-mark5 = c .before .before in
+    let at-unequal3 = at-mark5 .before .before .before in
+    let at-loop-test = at-unequal3 .before .before .before in
+    let at-loop = at-loop-test .before in
     let at-start = at-loop .before .before .before in
     let l = at-loop .loop in
     let a = at-start .args in
     let begun = standing-start (a .header) (a .window) _ (a .fine) (a .count) (a .one) (a .two) (drop (a .start) (a .bytes .now)) (at-start .pre .1) in
-    c .run-of2 .ensures
-    ∙ standing-done (a .header) (slotsOf (l .slot) (l .regs) (l .unequal) (l .result) (l .ever) (l .mark) (l .bad)) (l .fine) (l .count) (l .one) (l .two)
-    (a .bytes .now) (l .i) _ (l .inv .1 _ begun) _ (c .before .to-window2 .ensures) (at-test .loop-test .left)))
+    c .run-of2 .ensures ∙ standing-done (a .header) (slotsOf (l .slot) (l .regs) (l .unequal) (l .result) (l .ever) (l .mark) (l .bad)) (l .fine)
+    (l .count) (l .one) (l .two) (a .bytes .now) (l .i) _ (l .inv .1 _ begun) _ (c .before .to-window2 .ensures) (at-loop-test .loop-test .left)))

@@ -11,14 +11,20 @@ take-slots-spec = tie.close (tie.spec
     (λ c κs. search needs)
     (λ c κs. search needs)
     (λ c κs.
-    let at-represents = c .before .before .before in
-    let at-test = c .before .before in
-    let slots = at-represents .before .before .before .before .before .before .before .before .to-slots .ensures in
-    let at-start = at-represents .before .before .before .before .before .before .before .before .before .before .before .before .before .before .before .before
-    .before .before .before .before .before in (
-      at-start .pre,
-      represented _ _ _ (slots .0 .long) (slots .1) (slots .2) refl _
-          (at-represents .represents .ensures .0) (at-test .if1 .taken) (at-represents .represents .ensures .1 (at-test .if1 .taken)),
+    let at-if1 = c .before .before in
+    let at-represents = at-if1 .before in
+    let at-ever3 = at-represents .before .before in
+    let at-regs2 = at-ever3 .before .before .before in
+    let at-to-slots = at-regs2 .before .before .before in
+    let at-ever2 = at-to-slots .before in
+    let at-regs = at-ever2 .before .before .before in
+    let at-mark = at-regs .before .before .before in
+    let at-unequal = at-mark .before .before .before in
+    let at-pre = at-unequal .before .before .before in
+    let slots = at-to-slots .to-slots .ensures in (
+      at-pre .pre,
+      represented _ _ _ (slots .0 .long) (slots .1) (slots .2) refl _ (at-represents .represents .ensures .0) (at-if1 .if1 .taken)
+          (at-represents .represents .ensures .1 (at-if1 .if1 .taken)),
       c .make-around .ensures .1,
     ))
     (λ c. search needs)

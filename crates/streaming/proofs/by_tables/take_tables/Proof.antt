@@ -42,81 +42,100 @@ take-tables-spec = tie.close (tie.spec
     (λ c κs. search needs)
     (λ c κs. search needs)
     (λ c.
-    let at-told = c .before .before in
-    let at-number = at-told .before .before in
-    let at-decode = at-number .before in
-    let at-word = at-decode .before in
-    let at-test = at-word .before .before .before in
-    let at-loop = at-test .before in
-    let at-start = at-loop .before .before .before .before .before .before .before in
+    let at-enum-told = c .before .before in
+    let at-next-number = at-enum-told .before .before in
+    let at-decode-letter = at-next-number .before in
+    let at-word = at-decode-letter .before in
+    let at-loop-test = at-word .before .before .before in
+    let at-loop = at-loop-test .before in
+    let at-mark = at-loop .before in
+    let at-unequal = at-mark .before .before .before in
+    let a = at-unequal .before .before .before .args in
     let l = at-loop .loop in
-    let a = at-start .args in
-    c .run-of .ensures
-    ∙ ap (λ w. runOf (a .header) w (l .fine) (l .count) (Refused letterMalformed (at-number .next-number .result))) (c .before .window-of .ensures)
-    ∙ taken-malformed (a .header) (windowOfParts (l .class) (l .unequal) (l .result) (l .ever) (l .mark) (l .bad)) (l .fine) (l .count) (l .one) (l .two)
-    (a .bytes .now) (l .i) _ (l .inv .2) _ _ _ (at-test .loop-test .taken)
-    (at-word .word .ensures) (at-decode .decode-letter .ensures) (at-number .next-number .ensures) (at-told .enum-told .given .1))
+    c .run-of .ensures ∙ ap (λ w. runOf (a .header) w (l .fine) (l .count) (Refused letterMalformed (at-next-number .next-number .result)))
+    (c .before .window-of .ensures) ∙ taken-malformed (a .header) (windowOfParts (l .class) (l .unequal) (l .result) (l .ever) (l .mark) (l .bad))
+    (l .fine) (l .count) (l .one) (l .two) (a .bytes .now) (l .i) _ (l .inv .2) _ _ _ (at-loop-test .loop-test .taken) (at-word .word .ensures)
+    (at-decode-letter .decode-letter .ensures) (at-next-number .next-number .ensures) (at-enum-told .enum-told .given .1))
     (λ c κs.
-    let at-decoded = c .before .before .before .before in
-    let at-decode = at-decoded .before .before .before in
-    let at-loop = at-decode .before .before .before .before .before in
-    let at-start = at-loop .before .before .before .before .before .before .before in
+    let at-ever2 = c .before in
+    let at-decoded = at-ever2 .before .before .before in
+    let at-decode-letter = at-decoded .before .before .before in
+    let at-shared-slice-known3 = at-decode-letter .before .before in
+    let at-loop = at-shared-slice-known3 .before .before .before in
+    let at-mark = at-loop .before in
+    let at-unequal = at-mark .before .before .before in
+    let a = at-unequal .before .before .before .args in
     let l = at-loop .loop in
-    let a = at-start .args in
-    step-within (record { header = a .header; window = a .window; running = a .running }) _ _ (at-decode .decode-letter .ensures) _
+    step-within (record { header = a .header; window = a .window; running = a .running }) _ _ (at-decode-letter .decode-letter .ensures) _
     (at-decoded .decoded .given .1))
     (λ c κs.
-    let at-before = c .before .before .before .before .before .before .before .before .before in
-    let at-decoded = at-before .before in
-    let at-decode = at-decoded .before .before .before in
-    let at-loop = at-decode .before .before .before .before .before in
-    let at-start = at-loop .before .before .before .before .before .before .before in
-    let l = at-loop .loop in
-    let a = at-start .args in (
-      step-within (record { header = a .header; window = a .window; running = a .running }) _ _ (at-decode .decode-letter .ensures) _
+    let at-ever3 = c .before in
+    let at-class2 = at-ever3 .before .before .before in
+    let at-ever2 = at-class2 .before .before .before in
+    let at-decoded = at-ever2 .before .before .before in
+    let at-decode-letter = at-decoded .before .before .before in
+    let at-shared-slice-known3 = at-decode-letter .before .before in
+    let at-loop = at-shared-slice-known3 .before .before .before in
+    let at-mark = at-loop .before in
+    let at-unequal = at-mark .before .before .before in
+    let a = at-unequal .before .before .before .args in
+    let l = at-loop .loop in (
+      step-within (record { header = a .header; window = a .window; running = a .running }) _ _ (at-decode-letter .decode-letter .ensures) _
           (at-decoded .decoded .given .1),
       l .inv .1,
     ))
     (λ c κs. search needs)
     (λ c κs. search needs)
     (λ c.
-    let at-before = c .before .before .before .before .before .before .before .before .before in
-    let middle = at-before .before in
-    omega (arith, middle .before .before .before .before .before .before .before .before .before .before))
-    (λ c.
-    let at-before = c .before .before .before .before .before .before .before .before .before in
-    let middle = at-before .before in
-    omega (arith, middle .before .before .before .before .before .before .before .before .before .before .loop-test .taken))
+    let at-performed = c .before .before in
+    let at-result3 = at-performed .before .before .before in
+    let at-judge-in = at-result3 .before .before .before in
+    let at-result2 = at-judge-in .before .before .before in
+    let at-match = at-result2 .before .before .before in
+    let at-word = at-match .before .before .before in
+    let at-loop-test = at-word .before .before .before in
+    omega (arith, at-loop-test))
     (λ c.
     let at-performed = c .before .before in
-    let at-judged = at-performed .before .before .before .before .before .before in
-    let at-decoded = at-judged .before .before .before .before .before in
-    let at-number = at-decoded .before .before in
-    let at-decode = at-number .before in
-    let at-word = at-decode .before in
-    let at-test = at-word .before .before .before in
-    let at-loop = at-test .before in
-    let at-start = at-loop .before .before .before .before .before .before .before in
+    let at-result3 = at-performed .before .before .before in
+    let at-judge-in = at-result3 .before .before .before in
+    let at-result2 = at-judge-in .before .before .before in
+    let at-match = at-result2 .before .before .before in
+    let at-word = at-match .before .before .before in
+    let at-loop-test = at-word .before .before .before in
+    omega (arith, at-loop-test .loop-test .taken))
+    (λ c.
+    let at-performed = c .before .before in
+    let at-result3 = at-performed .before .before .before in
+    let at-judge-in = at-result3 .before .before .before in
+    let at-ever2 = at-judge-in .before .before in
+    let at-decoded = at-ever2 .before .before .before in
+    let at-next-number = at-decoded .before .before in
+    let at-decode-letter = at-next-number .before in
+    let at-word = at-decode-letter .before in
+    let at-loop-test = at-word .before .before .before in
+    let at-loop = at-loop-test .before in
+    let at-mark = at-loop .before in
+    let at-unequal = at-mark .before .before .before in
+    let a = at-unequal .before .before .before .args in
     let l = at-loop .loop in
-    let a = at-start .args in
-    let t = at-test .loop-test .taken in (
+    let t = at-loop-test .loop-test .taken in (
       omega (arith, t, l .inv .0),
       at-performed .performed .ensures .1,
       taken-more (a .header) (windowOfParts (l .class) (l .unequal) (l .result) (l .ever) (l .mark) (l .bad)) (l .fine) (l .count) (l .one) (l .two)
-          (a .bytes .now) (l .i) _ (l .inv .2) _ _ _ _ _ _ _ _ t
-          (at-word .word .ensures) (at-decode .decode-letter .ensures) (at-number .next-number .ensures) (at-decoded .decoded .given .1)
-          (at-judged .judge-in .ensures (l .class) (l .unequal) (l .bad)) (at-performed .performed .ensures .0)
-          (c .before .first .ensures) (c .first2 .ensures),
+          (a .bytes .now) (l .i) _ (l .inv .2) _ _ _ _ _ _ _ _ t (at-word .word .ensures) (at-decode-letter .decode-letter .ensures)
+          (at-next-number .next-number .ensures) (at-decoded .decoded .given .1) (at-judge-in .judge-in .ensures (l .class) (l .unequal) (l .bad))
+          (at-performed .performed .ensures .0) (c .before .first .ensures) (c .first2 .ensures),
     ))
     (λ c κs. search needs)
     (λ c κs. search needs)
     (λ c.
-    let at-test = c .before .before in
-    let at-loop = at-test .before in
-    let at-start = at-loop .before .before .before .before .before .before .before in
+    let at-loop-test = c .before .before in
+    let at-loop = at-loop-test .before in
+    let at-mark = at-loop .before in
+    let at-unequal = at-mark .before .before .before in
+    let a = at-unequal .before .before .before .args in
     let l = at-loop .loop in
-    let a = at-start .args in
-    c .run-of2 .ensures
-    ∙ ap (λ w. runOf (a .header) w (l .fine) (l .count) (Judged (l .one) (l .two))) (c .before .window-of2 .ensures)
-    ∙ taken-done (a .header) (windowOfParts (l .class) (l .unequal) (l .result) (l .ever) (l .mark) (l .bad)) (l .fine) (l .count) (l .one) (l .two)
-    (a .bytes .now) (l .i) _ (l .inv .2) (at-test .loop-test .left)))
+    c .run-of2 .ensures ∙ ap (λ w. runOf (a .header) w (l .fine) (l .count) (Judged (l .one) (l .two))) (c .before .window-of2 .ensures) ∙ taken-done
+    (a .header) (windowOfParts (l .class) (l .unequal) (l .result) (l .ever) (l .mark) (l .bad)) (l .fine) (l .count) (l .one) (l .two) (a .bytes .now)
+    (l .i) _ (l .inv .2) (at-loop-test .loop-test .left)))

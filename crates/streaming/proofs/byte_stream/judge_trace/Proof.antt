@@ -17,10 +17,11 @@ finish-requires c κs = search needs
 returns : tie.Need-returns
 unfolding judgedBytes
 returns c =
-    let e = c .finish .ensures .computed
-    ∙ ap finishedOf (c .before .push-all .ensures .computed
-    ∙ ap (λ s. pushedAll s (c .before .before .before .before .args .bytes .now)) (c .before .before .start .ensures .computed)) in
-    (e, run-meets (c .before .before .before .before .args .bytes .now) _ (search needs) e)
+    let at-start = c .before .before in
+    let at-args = at-start .before .before in
+    let e = c .finish .ensures .computed ∙ ap finishedOf (c .before .push-all .ensures .computed ∙ ap (λ s. pushedAll s (at-args .args .bytes .now))
+    (at-start .start .ensures .computed)) in
+    (e, run-meets (at-args .args .bytes .now) _ (search needs) e)
 
 pub judge-trace-spec : {M : Type 1} → statement M
 judge-trace-spec = tie.close (tie.spec start-requires push-all-requires finish-requires returns)

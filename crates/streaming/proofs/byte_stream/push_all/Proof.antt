@@ -24,7 +24,10 @@ push-letters-requires : tie.Need-push-letters-requires Inv-loop μ-loop
 push-letters-requires c κs = (sym (c .before .at-letter .ensures) ∙ c .if1 .taken, c .before .before .loop-test .taken)
 
 returns : tie.Need-returns Inv-loop μ-loop
-returns c = pushes _ _ _ (c .push-letters .ensures ∙ c .before .before .before .before .loop .inv .1)
+returns c =
+    let at-if1 = c .before in
+    let at-loop = at-if1 .before .before .before in
+    pushes _ _ _ (c .push-letters .ensures ∙ at-loop .loop .inv .1)
 
 shared-slice-read-push : tie.Need-shared-slice-read-push Inv-loop μ-loop
 shared-slice-read-push c = search needs
@@ -41,8 +44,10 @@ loop-less c = search needs
 loop-again : tie.Need-loop-again Inv-loop μ-loop
 loop-again c = (
   search needs,
-  pushed-more _ _ _ _ _ (c .before .before .before .before .loop-test .taken)
-      (c .before .before .before .before .before .loop .inv .1) (pushes-one _ _ _ (c .push .ensures)),
+  let at-if1 = c .before .before in
+      let at-loop-test = at-if1 .before .before in
+      let at-loop = at-loop-test .before in
+      pushed-more _ _ _ _ _ (at-loop-test .loop-test .taken) (at-loop .loop .inv .1) (pushes-one _ _ _ (c .push .ensures)),
 )
 
 returns-2 : tie.Need-returns-2 Inv-loop μ-loop

@@ -29,8 +29,11 @@ returns c =
     (at-if1 .if1 .taken) (pushes-one _ _ _ (c .push .ensures))
 
 returns-2 : tie.Need-returns-2
-returns-2 c = let s = c .before .before .before .before in
-    letters-even (s .args .s) (s .args .bytes .now) (s .args .start) _ (s .pre .0) (s .pre .1) (c .before .take-all .ensures) (c .if1 .left)
+returns-2 c =
+    let at-take-all = c .before in
+    let at-start = at-take-all .before .before .before in
+    letters-even (at-start .args .s) (at-start .args .bytes .now) (at-start .args .start) _ (at-start .pre .0) (at-start .pre .1)
+    (at-take-all .take-all .ensures) (c .if1 .left)
 
 pub push-letters-spec : {M : Type 1} → statement M
 push-letters-spec =

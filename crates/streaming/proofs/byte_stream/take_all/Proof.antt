@@ -12,11 +12,13 @@ take-all-spec = tie.close (tie.spec
     (λ c. search needs)
     (λ c κs. search needs)
     (λ c.
-    let at-before = c .before .before .before .before .before in
-    let at-verdict = at-before .before in
-    c .take-tables .ensures ∙ taken-parts (at-verdict .before .before .before .args .run) _ _ _ (at-verdict .verdict .given .1))
+    let at-header = c .before .before .before in
+    let at-verdict = at-header .before .before .before in
+    let at-args = at-verdict .before .before .before in
+    c .take-tables .ensures ∙ taken-parts (at-args .args .run) _ _ _ (at-verdict .verdict .given .1))
     (λ c κs. search needs)
     (λ c.
-    let at-before = c .before .before .before .before .before in
-    let at-verdict = at-before .before in
-    c .take-slots .ensures ∙ taken-parts (at-verdict .before .before .before .args .run) _ _ _ (at-verdict .verdict .given .1)))
+    let at-header = c .before .before .before in
+    let at-verdict = at-header .before .before .before in
+    let at-args = at-verdict .before .before .before in
+    c .take-slots .ensures ∙ taken-parts (at-args .args .run) _ _ _ (at-verdict .verdict .given .1)))

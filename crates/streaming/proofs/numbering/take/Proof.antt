@@ -30,7 +30,8 @@ enum-known-outcome c = search needs
 
 returns-2 : tie.Need-returns-2
 returns-2 c =
-    let at-step = c .before .before .before .before in
+    let at-match2 = c .before .before in
+    let at-step = at-match2 .before .before in
     let at-next-number = at-step .before .before in
     let at-verdict = at-next-number .before .before in
     let at-args = at-verdict .before .before in
@@ -39,12 +40,13 @@ returns-2 c =
 
 returns-3 : tie.Need-returns-3
 returns-3 c =
-    let at-step = c .before .before .before .before in
+    let at-outcome = c .before in
+    let at-step = at-outcome .before .before .before in
     let at-next-number = at-step .before .before in
     let at-verdict = at-next-number .before .before in
     let at-args = at-verdict .before .before in
-    run-takes _ _ _ (take-refused (at-args .args .run) _ _ _ (at-verdict .verdict .given .1) _
-    (at-next-number .next-number .ensures) _ (at-step .step .ensures .computed) _ (c .before .outcome .given .1))
+    run-takes _ _ _ (take-refused (at-args .args .run) _ _ _ (at-verdict .verdict .given .1) _ (at-next-number .next-number .ensures) _
+    (at-step .step .ensures .computed) _ (at-outcome .outcome .given .1))
 
 pub take-spec : {M : Type 1} → statement M
 take-spec =

@@ -23,8 +23,10 @@ fresh-requires : tie.Need-fresh-requires
 fresh-requires c κs = search needs
 
 returns-2 : tie.Need-returns-2
-returns-2 c = starts _ _ (start-taken _ _ (c .before .before .before .before .decode-header .ensures) _ _ (c .before .before .decoded .given .1)
-    (c .fresh .ensures))
+returns-2 c =
+    let at-decoded = c .before .before in
+    let at-decode-header = at-decoded .before .before in
+    starts _ _ (start-taken _ _ (at-decode-header .decode-header .ensures) _ _ (at-decoded .decoded .given .1) (c .fresh .ensures))
 
 pub start-spec : {M : Type 1} → statement M
 start-spec =

@@ -11,11 +11,16 @@ perform-requires : tie.Need-perform-requires
 perform-requires c κs = search needs
 
 returns : tie.Need-returns
-returns c = moved-performed _ _ (c .before .before .before .before .before .if1 .taken) (sym (c .before .before .judge .ensures) ∙ c .before .if2 .taken) _
-    (c .perform .ensures)
+returns c =
+    let at-judge = c .before .before in
+    let at-if1 = at-judge .before .before .before in
+    moved-performed _ _ (at-if1 .if1 .taken) (sym (at-judge .judge .ensures) ∙ c .before .if2 .taken) _ (c .perform .ensures)
 
 returns-2 : tie.Need-returns-2
-returns-2 c = sym (moved-incoherent _ _ (c .before .before .before .before .if1 .taken) (sym (c .before .judge .ensures) ∙ c .if2 .left))
+returns-2 c =
+    let at-judge = c .before in
+    let at-if1 = at-judge .before .before .before in
+    sym (moved-incoherent _ _ (at-if1 .if1 .taken) (sym (at-judge .judge .ensures) ∙ c .if2 .left))
 
 returns-3 : tie.Need-returns-3
 returns-3 c = sym (moved-stopped _ _ (c .if1 .left))

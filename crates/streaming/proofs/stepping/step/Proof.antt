@@ -14,7 +14,10 @@ enum-told : tie.Need-enum-told
 enum-told c = search needs
 
 returns : tie.Need-returns
-returns c = advances _ _ _ (step-refused (c .before .before .before .before .args .m) _ _ (c .before .before .decode-letter .ensures) (c .enum-told .given .1))
+returns c =
+    let at-decode-letter = c .before .before in
+    let at-args = at-decode-letter .before .before in
+    advances _ _ _ (step-refused (at-args .args .m) _ _ (at-decode-letter .decode-letter .ensures) (c .enum-told .given .1))
 
 moved-requires : tie.Need-moved-requires
 moved-requires c κs =
