@@ -21,10 +21,25 @@ list-spec =
     (λ c κs. search needs)
     (λ c κs. search needs)
     (λ c. listed-start _ _ _ (c .before .before .pre) (c .before .no-heads .ensures .0) (c .before .no-heads .ensures .1) (c .zeros .ensures))
-    (λ c. let h = (c .loop-test .taken) in let w = (c .before .before .before .before .pre .formed .within) in omega arith)
-    (λ c. let h = (c .loop-test .taken) in let w = (c .before .before .before .before .pre .formed .within) in let f = (c .before .loop .inv .few) in
+    (λ c.
+    let at-loop = c .before in
+    let at-pre = at-loop .before .before .before in
+    let h = c .loop-test .taken in
+    let w = at-pre .pre .formed .within in
     omega arith)
-    (λ c. let h = (c .loop-test .taken) in let w = (c .before .before .before .before .pre .formed .within) in let f = (c .before .loop .inv .few) in
+    (λ c.
+    let at-loop = c .before in
+    let at-pre = at-loop .before .before .before in
+    let h = c .loop-test .taken in
+    let w = at-pre .pre .formed .within in
+    let f = at-loop .loop .inv .few in
+    omega arith)
+    (λ c.
+    let at-loop = c .before in
+    let at-pre = at-loop .before .before .before in
+    let h = c .loop-test .taken in
+    let w = at-pre .pre .formed .within in
+    let f = at-loop .loop .inv .few in
     omega arith)
     (λ c κs.
     let at-loop-test = c .before .before in
@@ -43,8 +58,10 @@ list-spec =
     let f = (at-loop .loop .inv .few) in let b = new-le _ _ _ _ _ _ _ (c .new-row .ensures .is) in omega arith)
     (λ c.
     let at-loop-test = c .before .before .before in
-    let at-pre = at-loop-test .before .before .before .before in
-    let h = (at-loop-test .loop-test .taken) in let w = (at-pre .pre .formed .within) in
+    let at-loop = at-loop-test .before in
+    let at-pre = at-loop .before .before .before in
+    let h = at-loop-test .loop-test .taken in
+    let w = at-pre .pre .formed .within in
     omega arith)
     (λ c. let h = (c .before .before .before .loop-test .taken) in omega arith)
     (λ c.

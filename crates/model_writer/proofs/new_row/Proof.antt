@@ -15,12 +15,14 @@ new-row-spec =
       (c .before .before .before .pre .2 .chains),
     ))
     (λ c.
-    let at-signature-at = c .before .before .before .before in
+    let at-enter = c .before in
+    let at-signature-at = at-enter .before .before .before in
     let at-pre = at-signature-at .before in
-    new-hit _ _ _ _ _ _ (at-pre .pre .0) (at-pre .pre .1) _ _
-    (at-pre .pre .2) _ _ (at-signature-at .signature-at .ensures) _ _ (c .before .enter .ensures) (c .if1 .taken))
+    new-hit _ _ _ _ _ _ (at-pre .pre .0) (at-pre .pre .1) _ _ (at-pre .pre .2) _ _ (at-signature-at .signature-at .ensures) _ _
+    (at-enter .enter .ensures) (c .if1 .taken))
     (λ c.
-    let at-signature-at = c .before .before .before .before in
+    let at-enter = c .before in
+    let at-signature-at = at-enter .before .before .before in
     let at-pre = at-signature-at .before in
-    new-miss _ _ _ _ _ _ (at-pre .pre .0) (at-pre .pre .1) _ _
-    (at-pre .pre .2) _ _ (at-signature-at .signature-at .ensures) _ _ (c .before .enter .ensures) (c .if1 .left)))
+    new-miss _ _ _ _ _ _ (at-pre .pre .0) (at-pre .pre .1) _ _ (at-pre .pre .2) _ _ (at-signature-at .signature-at .ensures) _ _
+    (at-enter .enter .ensures) (c .if1 .left)))

@@ -24,9 +24,24 @@ number-spec =
     (λ c. (search needs, written-none _ _ _ _ (c .pre .room), classes-none _))
     (λ c κs. let h = (c .before .loop-test .taken) in let w = (c .before .before .before .pre .within) in
     let l = (c .before .before .before .pre .lowest) _ h in (omega arith, omega arith))
-    (λ c. let h = (c .before .before .loop-test .taken) in let w = (c .before .before .before .before .pre .within) in omega arith)
-    (λ c. let h = (c .before .before .loop-test .taken) in let w = (c .before .before .before .before .pre .within) in omega arith)
-    (λ c κs. let h = (c .before .before .loop-test .taken) in let w = (c .before .before .before .before .pre .within) in omega arith)
+    (λ c.
+    let at-loop-test = c .before .before in
+    let at-pre = at-loop-test .before .before in
+    let h = at-loop-test .loop-test .taken in
+    let w = at-pre .pre .within in
+    omega arith)
+    (λ c.
+    let at-loop-test = c .before .before in
+    let at-pre = at-loop-test .before .before in
+    let h = at-loop-test .loop-test .taken in
+    let w = at-pre .pre .within in
+    omega arith)
+    (λ c κs.
+    let at-loop-test = c .before .before in
+    let at-pre = at-loop-test .before .before in
+    let h = at-loop-test .loop-test .taken in
+    let w = at-pre .pre .within in
+    omega arith)
     (λ c.
     let at-loop-test = c .before .before .before in
     let at-loop = at-loop-test .before in

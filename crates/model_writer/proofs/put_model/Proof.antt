@@ -14,6 +14,12 @@ put-model-spec =
     (λ c. search needs)
     (λ c. search needs)
     (λ c. too-large (c .if1 .taken))
-    (λ c κs. (c .before .before .before .before .pre .writable) (c .before .if1 .left))
+    (λ c κs.
+    let at-if1 = c .before in
+    let at-pre = at-if1 .before .before .before in
+    (at-pre .pre .writable) (at-if1 .if1 .left))
     (λ c. search needs)
-    (λ c. fitting (c .before .before .before .before .if1 .left) (c .before .before .write .ensures)))
+    (λ c.
+    let at-write = c .before .before in
+    let at-if1 = at-write .before .before in
+    fitting (at-if1 .if1 .left) (at-write .write .ensures)))

@@ -12,7 +12,10 @@ show-spec =
     (λ c. search needs)
     (λ c. search needs)
     (λ c. let h = bytes-enough _ _ (c .before .before .before .read-beginning .ensures) [] (c .before .begun2 .given .1) in omega arith)
-    (λ c. showed-long _ _ (c .before .before .before .before .read-beginning .ensures) _ (c .before .before .begun2 .given .1) (c .if1 .taken))
+    (λ c.
+    let at-begun2 = c .before .before in
+    let at-read-beginning = at-begun2 .before .before in
+    showed-long _ _ (at-read-beginning .read-beginning .ensures) _ (at-begun2 .begun2 .given .1) (c .if1 .taken))
     (λ c κs.
     let at-begun2 = c .before .before .before in
     let at-read-beginning = at-begun2 .before .before in

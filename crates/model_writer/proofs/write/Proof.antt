@@ -18,10 +18,14 @@ write-spec =
     (λ c. search needs)
     (λ c.
     let at-write-rows = c .before .before in
-    let at-write-starts = at-write-rows .before .before .before .before in
-    let at-put-word2 = at-write-starts .before .before .before .before in
-    let at-put-word = at-put-word2 .before .before .before .before in
-    let at-pre = at-put-word .before .before .before .before in
+    let at-out3 = at-write-rows .before .before .before in
+    let at-write-starts = at-out3 .before in
+    let at-out2 = at-write-starts .before .before .before in
+    let at-put-word2 = at-out2 .before in
+    let at-out = at-put-word2 .before .before .before in
+    let at-put-word = at-out .before in
+    let at-put-word-arg = at-put-word .before in
+    let at-pre = at-put-word-arg .before .before .before in
     whole _ _ _ _ _ _ _ _ _ _ _ _ _
     (at-pre .pre) (at-put-word .put-word .ensures) (at-put-word2 .put-word2 .ensures)
     (at-write-starts .write-starts .ensures) (at-write-rows .write-rows .ensures)))

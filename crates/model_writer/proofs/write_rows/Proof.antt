@@ -30,29 +30,41 @@ write-rows-spec =
     let at-pre = at-loop-test .before .before .before in
     subst (RowIn _ _ _ _) (sym (c .wide .ensures)) ((at-pre .pre .each) _ (at-loop-test .loop-test .taken)))
     (λ c.
-    let at-loop-test = c .before .before .before .before in
+    let at-row-word = c .before in
+    let at-loop-test = at-row-word .before .before .before in
     let at-pre = at-loop-test .before .before .before in
-    let h = (at-loop-test .loop-test .taken) in let f = (at-pre .pre .few) in
+    let h = at-loop-test .loop-test .taken in
+    let f = at-pre .pre .few in
     omega arith)
     (λ c.
-    let at-loop-test = c .before .before .before .before in
+    let at-row-word = c .before in
+    let at-loop-test = at-row-word .before .before .before in
     let at-pre = at-loop-test .before .before .before in
-    let h = (at-loop-test .loop-test .taken) in let f = (at-pre .pre .few) in
-    let p = (at-pre .pre .place) in omega arith)
+    let h = at-loop-test .loop-test .taken in
+    let f = at-pre .pre .few in
+    let p = at-pre .pre .place in
+    omega arith)
     (λ c κs.
-    let at-loop-test = c .before .before .before .before in
+    let at-row-word = c .before in
+    let at-loop-test = at-row-word .before .before .before in
     let at-loop = at-loop-test .before in
     let at-pre = at-loop .before .before in
     rows-room _ _ _ _ _ _ _ _ _ (at-pre .pre) _ _
     (at-loop .loop .inv .1) (at-loop-test .loop-test .taken))
     (λ c.
-    let at-loop-test = c .before .before .before .before .before .before .before in
+    let at-out = c .before in
+    let at-row-word = at-out .before .before .before in
+    let at-loop-test = at-row-word .before .before .before in
     let at-pre = at-loop-test .before .before .before in
-    let h = (at-loop-test .loop-test .taken) in
-    let f = (at-pre .pre .few) in omega arith)
+    let h = at-loop-test .loop-test .taken in
+    let f = at-pre .pre .few in
+    omega arith)
     (λ c.
-    let at-loop-test = c .before .before .before .before .before .before .before in
-    let h = (at-loop-test .loop-test .taken) in omega arith)
+    let at-out = c .before in
+    let at-row-word = at-out .before .before .before in
+    let at-loop-test = at-row-word .before .before .before in
+    let h = at-loop-test .loop-test .taken in
+    omega arith)
     (λ c.
     let at-put-five = c .before .before in
     let at-row-word = at-put-five .before .before in

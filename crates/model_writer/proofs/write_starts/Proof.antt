@@ -19,11 +19,31 @@ write-starts-spec =
     Inv-loop
     μ-loop
     (λ c. (search needs, units-none))
-    (λ c. let h = (c .before .loop-test .taken) in let f = (c .before .before .before .before .pre .few) in omega arith)
-    (λ c. let h = (c .before .loop-test .taken) in let f = (c .before .before .before .before .pre .few) in
-    let p = (c .before .before .before .before .pre .place) in omega arith)
-    (λ c. let h = (c .before .loop-test .taken) in let f = (c .before .before .before .before .pre .few) in omega arith)
-    (λ c. let h = (c .before .loop-test .taken) in let f = (c .before .before .before .before .pre .few) in omega arith)
+    (λ c.
+    let at-loop-test = c .before in
+    let at-pre = at-loop-test .before .before .before in
+    let h = at-loop-test .loop-test .taken in
+    let f = at-pre .pre .few in
+    omega arith)
+    (λ c.
+    let at-loop-test = c .before in
+    let at-pre = at-loop-test .before .before .before in
+    let h = at-loop-test .loop-test .taken in
+    let f = at-pre .pre .few in
+    let p = at-pre .pre .place in
+    omega arith)
+    (λ c.
+    let at-loop-test = c .before in
+    let at-pre = at-loop-test .before .before .before in
+    let h = at-loop-test .loop-test .taken in
+    let f = at-pre .pre .few in
+    omega arith)
+    (λ c.
+    let at-loop-test = c .before in
+    let at-pre = at-loop-test .before .before .before in
+    let h = at-loop-test .loop-test .taken in
+    let f = at-pre .pre .few in
+    omega arith)
     (λ c κs.
     let at-loop-test = c .before .before in
     let at-loop = at-loop-test .before in
@@ -31,13 +51,17 @@ write-starts-spec =
     starts-room _ _ _ _ (at-pre .pre) _ _ (at-loop .loop .inv .1)
     (at-loop-test .loop-test .taken))
     (λ c.
-    let at-loop-test = c .before .before .before .before .before in
+    let at-put-word = c .before .before in
+    let at-loop-test = at-put-word .before .before .before in
     let at-pre = at-loop-test .before .before .before in
-    let h = (at-loop-test .loop-test .taken) in
-    let f = (at-pre .pre .few) in omega arith)
+    let h = at-loop-test .loop-test .taken in
+    let f = at-pre .pre .few in
+    omega arith)
     (λ c.
-    let at-loop-test = c .before .before .before .before .before in
-    let h = (at-loop-test .loop-test .taken) in omega arith)
+    let at-put-word = c .before .before in
+    let at-loop-test = at-put-word .before .before .before in
+    let h = at-loop-test .loop-test .taken in
+    omega arith)
     (λ c.
     let at-put-word = c .before .before in
     let at-loop-test = at-put-word .before .before .before in
