@@ -15,7 +15,7 @@ put-spec =
     tie.close (tie.spec (λ c. search needs) (λ c. search needs) (λ c. search needs) (λ c. search needs) (λ c κs. search needs) (λ c. search needs)
     (λ c.
     let at-write = c .before .before in
-    let at-args = at-write .before .before .before .before in
-    let a = at-args .args in let r = recordOf (a .t3) (a .parent) (a .branch) in tail-back
-    (recordBytes * a .k) (a .table .now) (at-write .write .last .0) ∙ ap (λ (l : List ℕ). take (recordBytes * a .k) (a .table .now) ++ l)
+    let a = at-write .before .before .before .before .args in
+    let r = recordOf (a .t3) (a .parent) (a .branch) in
+    tail-back (recordBytes * a .k) (a .table .now) (at-write .write .last .0) ∙ ap (λ (l : List ℕ). take (recordBytes * a .k) (a .table .now) ++ l)
     (at-write .write .ensures ∙ ap (λ (l : List ℕ). r ++ drop recordBytes l) (tail-lent (recordBytes * a .k) (a .table .now)))))
