@@ -5,7 +5,6 @@ use Rattle.index.specs.Index.{chainOf, pairChains}
 use borrow.Author.Needs.{needs}
 use Rattle.index.proofs.chain_of.Statement.{statement}
 use Rattle.index.proofs.chain_of.Tie as tie
-use Rattle.index.proofs.number.Reads as number-reads
 
 pub chain-of-spec : {M : Type 1} → statement M
 unfolding chainOf

@@ -2,7 +2,6 @@ use lib.ListN.{getD, set}
 use borrow.Author.Needs.{needs}
 use Rattle.index.proofs.enter.Statement.{statement}
 use Rattle.index.proofs.enter.Tie as tie
-use Rattle.index.proofs.chain_of.Reads as chain-of-reads
 
 pub enter-spec : {M : Type 1} → statement M
 enter-spec =

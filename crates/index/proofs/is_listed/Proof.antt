@@ -5,9 +5,6 @@ use Rattle.index.proofs.Theory.IndexLaws.{Looking, looking-start, looki
 use borrow.Author.Needs.{needs}
 use Rattle.index.proofs.is_listed.Statement.{statement}
 use Rattle.index.proofs.is_listed.Tie as tie
-use Rattle.index.proofs.chain_of.Reads as chain-of-reads
-use Rattle.index.proofs.wide.Reads as wide-reads
-use Rattle.table.proofs.is_at.Reads as is-at-reads
 
 abbrev Inv-loop : tie.InvT-loop
 Inv-loop table head link count pair chain k₀ k = Looking table link count pair k
@@ -24,11 +21,14 @@ is-listed-spec =
     (λ c. search needs)
     (λ c. search needs)
     (λ c κs. search needs)
-    (λ c. looking-start _ _ _ _ _ _ (c .before .before .before .before .pre .0) (c .before .before .before .before .pre .3)
-    ((c .wide .ensures) ∙ ap (λ b. getD (c .before .before .before .before .args .head .now) b 0) (c .before .before .chain-of .ensures .0)))
+    (λ c.
+    let at-chain-of = c .before .before in
+    let at-start = at-chain-of .before .before in
+    looking-start _ _ _ _ _ _ (at-start .pre .0) (at-start .pre .3) ((c .wide .ensures) ∙ ap (λ b. getD (at-start .args .head .now) b 0)
+    (at-chain-of .chain-of .ensures .0)))
     (λ c κs.
     let at-pre = c .before .before .before .before .before .before in
-    let h = (c .before .loop .inv .below) in (omega arith, (at-pre .pre .3)))
+    let h = c .before .loop .inv .below in (omega arith, (at-pre .pre .3)))
     (λ c. looking-hit _ _ _ _ _ (c .before .before .before .loop .inv) (sym (c .before .is-at .ensures) ∙ (c .if1 .taken)))
     (λ c. let h = (c .before .before .before .loop .inv .below) in search needs)
     (λ c. let h = (c .before .before .before .loop .inv .below) in omega arith)
@@ -36,8 +36,9 @@ is-listed-spec =
     (λ c.
     let at-loop = c .before .before .before .before .before in
     let at-pre = at-loop .before .before .before .before .before in
-    let h = (at-pre .pre .0 .links)
-    (at-loop .loop .k) (omega arith) in let e = (c .wide2 .ensures) in omega arith)
+    let h = (at-pre .pre .0 .links) (at-loop .loop .k) (omega arith) in
+    let e = c .wide2 .ensures in
+    omega arith)
     (λ c.
     let at-if1 = c .before .before in
     let at-is-at = at-if1 .before in
@@ -47,5 +48,5 @@ is-listed-spec =
     (at-loop .loop .inv) (omega arith) (sym (at-is-at .is-at .ensures) ∙ (at-if1 .if1 .left)) (c .wide2 .ensures))
     (λ c κs.
     let at-pre = c .before .before .before .before .before .before in
-    let h = (c .before .loop .inv .below) in (omega arith, (at-pre .pre .3)))
+    let h = c .before .loop .inv .below in (omega arith, (at-pre .pre .3)))
     (λ c. (c .is-at2 .ensures) ∙ looking-end _ _ _ _ _ (c .before .before .loop .inv) (omega arith)))
