@@ -3,9 +3,6 @@ use Rattle.exploration.specs.Moves.{moveOf}
 use borrow.Author.Needs.{needs}
 use Rattle.exploration.proofs.choose.Statement.{statement}
 use Rattle.exploration.proofs.choose.Tie as tie
-use Rattle.exploration.proofs.choose.Reads as reads
-use Rattle.exploration.proofs.choose.Lts as lts
-use Rattle.exploration.proofs.opposite.Reads as opposite-reads
 
 cast-t6 : tie.Need-cast-t6
 cast-t6 c = search needs

@@ -1,9 +1,6 @@
 use borrow.Author.Needs.{needs}
 use Rattle.exploration.proofs.current.Statement.{statement}
 use Rattle.exploration.proofs.current.Tie as tie
-use Rattle.exploration.proofs.current.Reads as reads
-use Rattle.exploration.proofs.current.Lts as lts
-use Rattle.table.proofs.window_at.Reads as window-at-reads
 
 window-at-requires : tie.Need-window-at-requires
 window-at-requires c κs = search needs

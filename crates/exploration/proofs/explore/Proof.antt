@@ -15,12 +15,6 @@ use Rattle.exploration.proofs.Theory.Keeping.{carried-none, carried-on}
 use borrow.Author.Needs.{needs}
 use Rattle.exploration.proofs.explore.Statement.{statement}
 use Rattle.exploration.proofs.explore.Tie as tie
-use Rattle.exploration.proofs.explore.Reads as reads
-use Rattle.exploration.proofs.explore.Lts as lts
-use Rattle.exploration.proofs.current.Reads as current-reads
-use Rattle.exploration.proofs.one_move.Reads as one-move-reads
-use Rattle.table.proofs.point_at.Reads as point-at-reads
-use Rattle.window.proofs.fresh.Reads as fresh-reads
 
 abbrev Inv-loop : tie.InvT-loop
 Inv-loop end table₀ n points head₀ link₀ w₀ count₀ d₀ table head link w count d =
@@ -64,7 +58,8 @@ array-copy-out-point c = search needs
 
 one-move-requires : tie.Need-one-move-requires Inv-loop μ-loop
 one-move-requires c κs =
-    let at-point-at = c .before .before .before .before in
+    let at-head = c .before in
+    let at-point-at = at-head .before .before .before in
     let at-current = at-point-at .before .before in
     let at-loop = at-current .before .before .before in
     let at-pre = at-loop .before .before .before in (
@@ -84,34 +79,32 @@ loop-less : tie.Need-loop-less Inv-loop μ-loop
 loop-less c = search needs
 
 loop-again : tie.Need-loop-again Inv-loop μ-loop
-loop-again c = let a = (c .before .before .before .before .before .before .before .before .before .before .before .before .before .before .before .before
-    .before .before .args) in let l =
-    (c .before .before .before .before .before .before .before .before .before .before .before .before .before .before .before .loop) in
-    let m = (c .before .before .before .before .before .one-move) in let e = (c .before .turn .given .1) in
-    let w = on-within (a .t1) (a .end) (a .n) (l .count) (l .d) (l .table) (omega arith)
-    (c .before .before .before .before .before .before .before .before .before .before .before .before .before .before .loop-test .taken)
-    (getD (a .t1) ((c .before .before .before .before .before .before .before .before .before .before .point-at .result) % mostPoints) unusedPoint) (m .result)
-    (m .last .1 .1 .1 .0) (ap (λ k. getD (a .t1) (k % mostPoints) unusedPoint)
-    (c .before .before .before .before .before .before .before .before .before .before .point-at .ensures)) (m .ensures .0) (m .ensures .1)
-    (c .before .turn .given .0 .0) e in (
+loop-again c =
+    let at-match = c .before .before in
+    let at-one-move = at-match .before .before .before in
+    let at-head = at-one-move .before .before in
+    let at-point-at = at-head .before .before .before in
+    let at-current = at-point-at .before .before in
+    let at-loop-test = at-current .before .before in
+    let at-loop = at-loop-test .before in
+    let a = at-loop .before .before .before .args in
+    let l = at-loop .loop in
+    let m = at-one-move .one-move in
+    let e = c .before .turn .given .1 in
+    let point = getD (a .t1) ((at-point-at .point-at .result) % mostPoints) unusedPoint in
+    let read = ap (λ k. getD (a .t1) (k % mostPoints) unusedPoint) (at-point-at .point-at .ensures) in
+    let w = on-within (a .t1) (a .end) (a .n) (l .count) (l .d) (l .table) (omega arith) (at-loop-test .loop-test .taken) point (m .result)
+    (m .last .1 .1 .1 .0) read (m .ensures .0) (m .ensures .1) (c .before .turn .given .0 .0) e in (
       omega (arith, w .0),
       omega (arith, w .1),
       omega (arith, w .0, l .inv .2),
       search needs,
       search needs,
       search needs,
-      sym (goes-on (a .t1) (a .end) (a .n) (l .count) (l .d) (l .table) (omega arith)
-          (c .before .before .before .before .before .before .before .before .before .before .before .before .before .before .loop-test .taken)
-          (getD (a .t1) ((c .before .before .before .before .before .before .before .before .before .before .point-at .result) % mostPoints) unusedPoint)
-          (m .result) (m .last .1 .1 .1 .0) (ap (λ k. getD (a .t1) (k % mostPoints) unusedPoint)
-          (c .before .before .before .before .before .before .before .before .before .before .point-at .ensures)) (m .ensures .0) (m .ensures .1)
-          (c .before .turn .given .0 .0) e)
-          ∙ l .inv .6,
-      carried-on (c .before .before .before .before .before .before .before .before .before .before .before .before .current .result) (l .d)
-          (l .count) (l .table) (m .result) (m .last .1 .1 .1 .0) _ _
-          (c .before .before .before .before .before .before .before .before .before .before .before .before .current .ensures)
-          (c .before .before .before .before .before .before .before .before .before .before .before .before .before .before .loop-test .taken)
-          (m .ensures .2),
+      sym (goes-on (a .t1) (a .end) (a .n) (l .count) (l .d) (l .table) (omega arith) (at-loop-test .loop-test .taken) point (m .result)
+          (m .last .1 .1 .1 .0) read (m .ensures .0) (m .ensures .1) (c .before .turn .given .0 .0) e) ∙ l .inv .6,
+      carried-on (at-current .current .result) (l .d) (l .count) (l .table) (m .result) (m .last .1 .1 .1 .0) _ _ (at-current .current .ensures)
+          (at-loop-test .loop-test .taken) (m .ensures .2),
       m .ensures .2 .indexed (c .before .turn .given .0 .0) e,
     )
 
@@ -123,13 +116,16 @@ same-length c = search needs
 
 returns : tie.Need-returns Inv-loop μ-loop
 returns c =
-    let at-one-move = c .before .before .before .before in
-    let at-point-at = at-one-move .before .before .before .before .before in
-    let at-loop-test = at-point-at .before .before .before .before in
+    let at-match = c .before in
+    let at-one-move = at-match .before .before .before in
+    let at-head = at-one-move .before .before in
+    let at-point-at = at-head .before .before .before in
+    let at-current = at-point-at .before .before in
+    let at-loop-test = at-current .before .before in
     let at-loop = at-loop-test .before in
-    let at-args = at-loop .before .before .before in
-    let a = (at-args .args) in let l = (at-loop .loop) in
-    let m = (at-one-move .one-move) in
+    let a = at-loop .before .before .before .args in
+    let l = at-loop .loop in
+    let m = at-one-move .one-move in
     let q = sym (l .inv .6) ∙ ends-full (a .t1) (a .end) (a .n) (l .count) (l .d) (l .table) (omega arith) (at-loop-test .loop-test .taken)
     (getD (a .t1) ((at-point-at .point-at .result) % mostPoints) unusedPoint) (m .result)
     (m .last .1 .1 .1 .0) (ap (λ k. getD (a .t1) (k % mostPoints) unusedPoint) (at-point-at .point-at .ensures)) (m .ensures .0) (m .ensures .1)
@@ -143,13 +139,16 @@ same-length-2 c = search needs
 
 returns-2 : tie.Need-returns-2 Inv-loop μ-loop
 returns-2 c =
-    let at-one-move = c .before .before .before .before in
-    let at-point-at = at-one-move .before .before .before .before .before in
-    let at-loop-test = at-point-at .before .before .before .before in
+    let at-match = c .before in
+    let at-one-move = at-match .before .before .before in
+    let at-head = at-one-move .before .before in
+    let at-point-at = at-head .before .before .before in
+    let at-current = at-point-at .before .before in
+    let at-loop-test = at-current .before .before in
     let at-loop = at-loop-test .before in
-    let at-args = at-loop .before .before .before in
-    let a = (at-args .args) in let l = (at-loop .loop) in
-    let m = (at-one-move .one-move) in
+    let a = at-loop .before .before .before .args in
+    let l = at-loop .loop in
+    let m = at-one-move .one-move in
     let q = sym (l .inv .6) ∙ ends-breaking (a .t1) (a .end) (a .n) (l .count) (l .d) (l .table) (omega arith) (at-loop-test .loop-test .taken)
     (getD (a .t1) ((at-point-at .point-at .result) % mostPoints) unusedPoint) (m .result)
     (m .last .1 .1 .1 .0) (ap (λ k. getD (a .t1) (k % mostPoints) unusedPoint) (at-point-at .point-at .ensures)) (m .ensures .0) (m .ensures .1)
@@ -163,13 +162,16 @@ same-length-3 c = search needs
 
 returns-3 : tie.Need-returns-3 Inv-loop μ-loop
 returns-3 c =
-    let at-one-move = c .before .before .before .before in
-    let at-point-at = at-one-move .before .before .before .before .before in
-    let at-loop-test = at-point-at .before .before .before .before in
+    let at-match = c .before in
+    let at-one-move = at-match .before .before .before in
+    let at-head = at-one-move .before .before in
+    let at-point-at = at-head .before .before .before in
+    let at-current = at-point-at .before .before in
+    let at-loop-test = at-current .before .before in
     let at-loop = at-loop-test .before in
-    let at-args = at-loop .before .before .before in
-    let a = (at-args .args) in let l = (at-loop .loop) in
-    let m = (at-one-move .one-move) in
+    let a = at-loop .before .before .before .args in
+    let l = at-loop .loop in
+    let m = at-one-move .one-move in
     let q = sym (l .inv .6) ∙ ends-failing (a .t1) (a .end) (a .n) (l .count) (l .d) (l .table) (omega arith) (at-loop-test .loop-test .taken)
     (getD (a .t1) ((at-point-at .point-at .result) % mostPoints) unusedPoint) (m .result)
     (m .last .1 .1 .1 .0) (ap (λ k. getD (a .t1) (k % mostPoints) unusedPoint) (at-point-at .point-at .ensures)) (m .ensures .0) (m .ensures .1)
@@ -179,7 +181,10 @@ same-length-4 : tie.Need-same-length-4 Inv-loop μ-loop
 same-length-4 c = search needs
 
 returns-4 : tie.Need-returns-4 Inv-loop μ-loop
-returns-4 c = let a = (c .before .before .before .before .args) in let l = (c .before .loop) in
+returns-4 c =
+    let at-loop = c .before in
+    let a = at-loop .before .before .before .args in
+    let l = at-loop .loop in
     let q = sym (l .inv .6) ∙ ends-pass (a .t1) (a .end) (a .n) (l .count) (l .d) (l .table) (omega arith) in (sym (ap (λ z. z .0) q), sym (ap (λ z. z .1) q))
 
 pub explore-spec : {M : Type 1} → statement M

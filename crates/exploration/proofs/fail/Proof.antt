@@ -2,8 +2,6 @@ use Rattle.base.proofs.Theory.Choice.{decide}
 use Rattle.exploration.specs.Turns.{failTurn}
 use Rattle.exploration.proofs.fail.Statement.{statement}
 use Rattle.exploration.proofs.fail.Tie as tie
-use Rattle.exploration.proofs.fail.Reads as reads
-use Rattle.exploration.proofs.fail.Lts as lts
 
 returns : tie.Need-returns
 unfolding failTurn

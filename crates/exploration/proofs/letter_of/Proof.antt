@@ -3,9 +3,6 @@ use Rattle.exploration.specs.Moves.{letterOf}
 use borrow.Author.Needs.{needs}
 use Rattle.exploration.proofs.letter_of.Statement.{statement}
 use Rattle.exploration.proofs.letter_of.Tie as tie
-use Rattle.exploration.proofs.letter_of.Reads as reads
-use Rattle.exploration.proofs.letter_of.Lts as lts
-use Rattle.exploration.proofs.choose.Reads as choose-reads
 
 choose-requires : tie.Need-choose-requires
 choose-requires c κs = search needs

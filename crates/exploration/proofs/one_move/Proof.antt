@@ -5,13 +5,6 @@ use Rattle.exploration.proofs.Theory.Keeping.{keeps-on, keeps-breaking,
 use borrow.Author.Needs.{needs}
 use Rattle.exploration.proofs.one_move.Statement.{statement}
 use Rattle.exploration.proofs.one_move.Tie as tie
-use Rattle.exploration.proofs.one_move.Reads as reads
-use Rattle.exploration.proofs.one_move.Lts as lts
-use Rattle.exploration.proofs.choose.Reads as choose-reads
-use Rattle.exploration.proofs.fail.Reads as fail-reads
-use Rattle.exploration.proofs.reach.Reads as reach-reads
-use Rattle.window.proofs.judge.Reads as judge-reads
-use Rattle.window.proofs.perform.Reads as perform-reads
 
 choose-requires : tie.Need-choose-requires
 choose-requires c κs = search needs
@@ -20,9 +13,12 @@ enum-told : tie.Need-enum-told
 enum-told c = search needs
 
 returns : tie.Need-returns
-returns c = let a = (c .before .before .before .before .args) in
-    let q = turn-nothing (a .point) (a .end) (a .n) (a .count) (a .d) (a .table .now) (c .before .before .choose .result)
-    (c .before .before .choose .ensures) (c .enum-told .given .1) in (q .0, q .1, keeps-on _ _ _ _ (c .before .before .before .before .pre .3))
+returns c =
+    let at-choose = c .before .before in
+    let at-start = at-choose .before .before in
+    let a = at-start .args in
+    let q = turn-nothing (a .point) (a .end) (a .n) (a .count) (a .d) (a .table .now) (at-choose .choose .result) (at-choose .choose .ensures)
+    (c .enum-told .given .1) in (q .0, q .1, keeps-on _ _ _ _ (at-start .pre .3))
 
 enum-known-chosen : tie.Need-enum-known-chosen
 enum-known-chosen c = search needs
@@ -52,18 +48,19 @@ same-length c = search needs
 returns-2 : tie.Need-returns-2
 returns-2 c =
     let at-reach = c .before .before in
-    let at-perform = at-reach .before .before .before .before in
+    let at-reach-arg3 = at-reach .before in
+    let at-perform = at-reach-arg3 .before .before .before in
     let at-if1 = at-perform .before in
     let at-judge = at-if1 .before in
     let at-chosen = at-judge .before .before in
     let at-choose = at-chosen .before .before in
-    let at-args = at-choose .before .before in
-    let a = (at-args .args) in
-    let r = (at-reach .reach) in
+    let at-start = at-choose .before .before in
+    let a = at-start .args in
+    let r = at-reach .reach in
     let q = turn-goes (a .point) (a .end) (a .n) (a .count) (a .d) (a .table .now) (at-choose .choose .result) (at-choose .choose .ensures)
-    (at-chosen .chosen .given .0 .0) (a .w) (at-args .pre .2) (at-judge .judge .result) (at-judge .judge .ensures) (at-chosen .chosen .given .0 .1 .0)
-    (at-chosen .chosen .given .1) (at-if1 .if1 .taken) (at-perform .perform .result)
-    (at-perform .perform .ensures) (r .result) (r .last .1 .1 .1 .0) (r .ensures .0) (r .ensures .1) in
+    (at-chosen .chosen .given .0 .0) (a .w) (at-start .pre .2) (at-judge .judge .result) (at-judge .judge .ensures) (at-chosen .chosen .given .0 .1 .0)
+    (at-chosen .chosen .given .1) (at-if1 .if1 .taken) (at-perform .perform .result) (at-perform .perform .ensures) (r .result) (r .last .1 .1 .1 .0)
+    (r .ensures .0) (r .ensures .1) in
     (q .0, q .1, r .ensures .2)
 
 returns-3 : tie.Need-returns-3

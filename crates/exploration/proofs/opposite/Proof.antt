@@ -3,8 +3,6 @@ use Rattle.exploration.specs.Moves.{oppositeOf}
 use borrow.Author.Needs.{needs}
 use Rattle.exploration.proofs.opposite.Statement.{statement}
 use Rattle.exploration.proofs.opposite.Tie as tie
-use Rattle.exploration.proofs.opposite.Reads as reads
-use Rattle.exploration.proofs.opposite.Lts as lts
 
 enum-known-letter : tie.Need-enum-known-letter
 enum-known-letter c = search needs

@@ -4,12 +4,6 @@ use Rattle.exploration.proofs.Theory.ExploringLaws.{search-goes}
 use borrow.Author.Needs.{needs}
 use Rattle.exploration.proofs.search_pairs.Statement.{statement}
 use Rattle.exploration.proofs.search_pairs.Tie as tie
-use Rattle.exploration.proofs.search_pairs.Reads as reads
-use Rattle.exploration.proofs.search_pairs.Lts as lts
-use Rattle.records.proofs.encode.Reads as encode-reads
-use Rattle.exploration.proofs.explore.Reads as explore-reads
-use Rattle.table.proofs.put.Reads as put-reads
-use Rattle.window.proofs.fresh.Reads as fresh-reads
 
 returns : tie.Need-returns
 unfolding searchOf
@@ -35,16 +29,18 @@ same-length : tie.Need-same-length
 same-length c = search needs
 
 returns-3 : tie.Need-returns-3
-returns-3 c = let a = c .before .before .before .before .before .before .before .before .before .before .before .before .before .args in
-    search-goes (a .header) (a .points) (a .end) (a .n) (a .table .now)
-    (c .before .before .before .before .before .before .before .before .before .before .before .if1 .left)
-    (c .before .before .before .before .before .before .before .before .before .before .if2 .left)
-    (c .before .before .before .before .before .before .before .before .before .fresh .result)
-    (c .before .before .before .before .before .before .before .before .encode .result) (c .before .before .before .before .before .before .put .last .0)
-    (c .before .before .before .before .before .before .before .before .before .fresh .ensures)
-    (c .before .before .before .before .before .before .before .before .encode .ensures) (c .before .before .before .before .before .before .put .ensures)
-    (c .before .before .explore .result) (c .before .before .explore .last .1 .1 .0) (c .before .before .explore .ensures .0)
-    (c .before .before .explore .ensures .1)
+returns-3 c =
+    let at-explore = c .before .before in
+    let at-table = at-explore .before .before .before in
+    let at-put = at-table .before in
+    let at-encode = at-put .before .before in
+    let at-fresh = at-encode .before in
+    let at-if2 = at-fresh .before in
+    let at-if1 = at-if2 .before in
+    let a = at-if1 .before .before .args in
+    search-goes (a .header) (a .points) (a .end) (a .n) (a .table .now) (at-if1 .if1 .left) (at-if2 .if2 .left) (at-fresh .fresh .result)
+    (at-encode .encode .result) (at-put .put .last .0) (at-fresh .fresh .ensures) (at-encode .encode .ensures) (at-put .put .ensures)
+    (at-explore .explore .result) (at-explore .explore .last .1 .1 .0) (at-explore .explore .ensures .0) (at-explore .explore .ensures .1)
 
 pub search-pairs-spec : {M : Type 1} → statement M
 search-pairs-spec =
