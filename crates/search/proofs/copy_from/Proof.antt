@@ -8,8 +8,6 @@ use Rattle.search.specs.Tracing.{traceBytes}
 use Rattle.base.proofs.Theory.Laid.{laid, laid-none, laid-more, laid-all}
 use Rattle.search.proofs.copy_from.Statement.{statement}
 use Rattle.search.proofs.copy_from.Tie as tie
-use Rattle.search.proofs.copy_from.Reads as reads
-use Rattle.search.proofs.copy_from.Lts as lts
 
 abbrev Inv-loop : tie.InvT-loop
 Inv-loop start output₀ bytes n i₀ output i =

@@ -5,10 +5,6 @@ use Rattle.search.proofs.Theory.Answering.{failing-refused, failing-sho
 use borrow.Author.Needs.{needs}
 use Rattle.search.proofs.deliver_failing.Statement.{statement}
 use Rattle.search.proofs.deliver_failing.Tie as tie
-use Rattle.search.proofs.deliver_failing.Reads as reads
-use Rattle.search.proofs.deliver_failing.Lts as lts
-use Rattle.search.proofs.show_model.Reads as show-model-reads
-use Rattle.search.proofs.write_trace.Reads as write-trace-reads
 
 sub-n : tie.Need-sub-n
 sub-n c = search needs

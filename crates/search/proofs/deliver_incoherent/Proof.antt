@@ -2,9 +2,6 @@ use Rattle.search.proofs.Theory.Answering.{breaking-refused, breaking-s
 use borrow.Author.Needs.{needs}
 use Rattle.search.proofs.deliver_incoherent.Statement.{statement}
 use Rattle.search.proofs.deliver_incoherent.Tie as tie
-use Rattle.search.proofs.deliver_incoherent.Reads as reads
-use Rattle.search.proofs.deliver_incoherent.Lts as lts
-use Rattle.search.proofs.write_trace.Reads as write-trace-reads
 
 sub-n : tie.Need-sub-n
 sub-n c = search needs

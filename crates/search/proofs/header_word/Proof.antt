@@ -4,9 +4,6 @@ use Rattle.search.specs.Tracing.{wordOrZero}
 use borrow.Author.Needs.{needs}
 use Rattle.search.proofs.header_word.Statement.{statement}
 use Rattle.search.proofs.header_word.Tie as tie
-use Rattle.search.proofs.header_word.Reads as reads
-use Rattle.search.proofs.header_word.Lts as lts
-use Rattle.letters.proofs.words.encode_header.Reads as encode-header-reads
 
 encode-header-requires : tie.Need-encode-header-requires
 encode-header-requires c κs = search needs

@@ -4,11 +4,6 @@ use Rattle.search.proofs.Theory.Judged.{readable, judged-refused, judge
 use borrow.Author.Needs.{needs}
 use Rattle.search.proofs.judge_macro.Statement.{statement}
 use Rattle.search.proofs.judge_macro.Tie as tie
-use Rattle.search.proofs.judge_macro.Reads as reads
-use Rattle.search.proofs.judge_macro.Lts as lts
-use Rattle.search.proofs.search_macro.Reads as search-macro-reads
-use Rattle.syntax.proofs.read.Reads as read-reads
-use Rattle.table.proofs.clear.Reads as clear-reads
 
 read-requires : tie.Need-read-requires
 read-requires c κs = search needs
@@ -16,8 +11,7 @@ read-requires c κs = search needs
 returns : tie.Need-returns
 returns c =
     let at-read = c .before .before in
-    let at-args = at-read .before .before .before .before in
-    let a = at-args .args in
+    let a = at-read .before .before .before .before .args in
     let r = at-read .read in
     judged-refused (a .text .now) (r .result) (r .ensures) (a .table .now) (a .output .now) (c .if1 .taken)
 
@@ -40,14 +34,17 @@ same-length-2 c = search needs
 
 returns-2 : tie.Need-returns-2
 returns-2 c =
-    let a = c .before .before .before .before .before .before .before .before .before .before .before .before .before .before .before .before .before .args in
-    let r = c .before .before .before .before .before .before .before .before .before .before .before .before .before .read in
-    let s = c .before .before .before .before .before .before .before .before .search-macro in
-    let z = c .before .before .clear in
+    let at-clear = c .before .before in
+    let at-search-macro = at-clear .before .before .before .before .before .before in
+    let at-if1 = at-search-macro .before .before .before in
+    let at-read = at-if1 .before .before in
+    let a = at-read .before .before .before .before .args in
+    let r = at-read .read in
+    let s = at-search-macro .search-macro in
+    let z = at-clear .clear in
     let l : length (s .last .1 .0) ≡ length (a .table .now) = search needs in
-    judged-macro (a .text .now) (r .result) (r .ensures) (a .table .now) (a .output .now)
-    (c .before .before .before .before .before .before .before .before .before .before .before .if1 .left)
-    (s .result) (z .last .0) (s .last .1 .1 .0) (s .ensures) (z .ensures ∙ ap (λ n. replicate n 0) l)
+    judged-macro (a .text .now) (r .result) (r .ensures) (a .table .now) (a .output .now) (at-if1 .if1 .left) (s .result) (z .last .0)
+    (s .last .1 .1 .0) (s .ensures) (z .ensures ∙ ap (λ n. replicate n 0) l)
 
 pub judge-macro-spec : {M : Type 1} → statement M
 judge-macro-spec =

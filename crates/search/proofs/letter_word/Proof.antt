@@ -4,9 +4,6 @@ use Rattle.search.specs.Tracing.{wordOrZero}
 use borrow.Author.Needs.{needs}
 use Rattle.search.proofs.letter_word.Statement.{statement}
 use Rattle.search.proofs.letter_word.Tie as tie
-use Rattle.search.proofs.letter_word.Reads as reads
-use Rattle.search.proofs.letter_word.Lts as lts
-use Rattle.letters.proofs.words.encode_letter.Reads as encode-letter-reads
 
 encode-letter-requires : tie.Need-encode-letter-requires
 encode-letter-requires c κs = search needs

@@ -13,14 +13,6 @@ use Rattle.search.proofs.Theory.TracingLaws.{letter-is, first-stored, l
 use borrow.Author.Needs.{needs}
 use Rattle.search.proofs.pack.Statement.{statement}
 use Rattle.search.proofs.pack.Tie as tie
-use Rattle.search.proofs.pack.Reads as reads
-use Rattle.search.proofs.pack.Lts as lts
-use Rattle.search.proofs.header_word.Reads as header-word-reads
-use Rattle.exploration.proofs.letter_of.Reads as letter-of-reads
-use Rattle.search.proofs.letter_word.Reads as letter-word-reads
-use Rattle.table.proofs.branch_at.Reads as branch-at-reads
-use Rattle.table.proofs.parent_at.Reads as parent-at-reads
-use Rattle.table.proofs.point_at.Reads as point-at-reads
 
 abbrev Inv-loop : tie.InvT-loop
 Inv-loop header table d points bytes₀ k word at₀ j₀ bytes at j =
@@ -59,22 +51,25 @@ array-write-bytes-2 : tie.Need-array-write-bytes-2 Inv-loop μ-loop
 array-write-bytes-2 c = search needs
 
 loop-holds : tie.Need-loop-holds Inv-loop μ-loop
-loop-holds c = let a = (c .before .before .before .before .before .args) in let r = (c .before .letter-of .result) in (
-  search needs,
-  search needs,
-  search needs,
-  search needs,
-  search needs,
-  search needs,
-  (c .before .before .before .before .before .pre .2),
-  (
-    r ∷ [],
-    first-stored (a .header) (replicate traceBytes 0) (c .letter-word .result) (length-replicate {A = ℕ} traceBytes 0) r (c .letter-word .ensures),
-    trail-first (a .t2) (a .table .now) (a .d) r
-        (letter-is (a .t2) (a .table .now) (a .d / 2) (a .d % 2) (c .before .before .before .point-at .result) r
-        (c .before .before .before .point-at .ensures) (c .before .letter-of .ensures)),
-  ),
-)
+loop-holds c =
+    let at-point-at = c .before .before .before in
+    let at-start = at-point-at .before .before in
+    let a = at-start .args in
+    let r = c .before .letter-of .result in (
+      search needs,
+      search needs,
+      search needs,
+      search needs,
+      search needs,
+      search needs,
+      (at-start .pre .2),
+      (
+        r ∷ [],
+        first-stored (a .header) (replicate traceBytes 0) (c .letter-word .result) (length-replicate {A = ℕ} traceBytes 0) r (c .letter-word .ensures),
+        trail-first (a .t2) (a .table .now) (a .d) r (letter-is (a .t2) (a .table .now) (a .d / 2) (a .d % 2) (at-point-at .point-at .result) r
+            (at-point-at .point-at .ensures) (c .before .letter-of .ensures)),
+      ),
+    )
 
 parent-at-requires : tie.Need-parent-at-requires Inv-loop μ-loop
 parent-at-requires c κs = search needs
@@ -122,14 +117,21 @@ sub-at c = search needs
 loop-less : tie.Need-loop-less Inv-loop μ-loop
 loop-less c =
     let at-parent-at = c .before .before .before .before .before in
-    let at-loop = at-parent-at .before .before in
-    let l = (at-loop .loop) in let o = l .inv .6 (l .j) (omega arith) (omega arith) in
+    let l = at-parent-at .before .before .loop in
+    let o = l .inv .6 (l .j) (omega arith) (omega arith) in
     omega (arith, o, (at-parent-at .parent-at .ensures))
 
 loop-again : tie.Need-loop-again Inv-loop μ-loop
-loop-again c = let a = (c .before .before .before .before .before .before .before .before .before .before .before .before .before .args) in
-    let l = (c .before .before .before .before .before .before .before .loop) in let o = l .inv .6 (l .j) (omega arith) (omega arith) in
-    let pe = (c .before .before .before .before .before .parent-at .ensures) in let r = (c .before .letter-of2 .result) in (
+loop-again c =
+    let at-point-at2 = c .before .before .before in
+    let at-branch-at = at-point-at2 .before in
+    let at-parent-at = at-branch-at .before in
+    let at-loop = at-parent-at .before .before in
+    let a = at-loop .before .before .before .before .before .before .args in
+    let l = at-loop .loop in
+    let o = l .inv .6 (l .j) (omega arith) (omega arith) in
+    let pe = at-parent-at .parent-at .ensures in
+    let r = c .before .letter-of2 .result in (
       omega (arith, o, pe),
       omega (arith, o, pe),
       omega arith,
@@ -141,12 +143,11 @@ loop-again c = let a = (c .before .before .before .before .before .before .befor
         r ∷ l .inv .7 .0,
         letter-stored (a .header) (l .bytes) (c .letter-word2 .result) (l .at) (l .inv .7 .0) (l .inv .7 .1) (omega arith) (omega arith) r
             (c .letter-word2 .ensures),
-        let i = (c .before .before .before .before .before .parent-at .result) in
-            let b = (c .before .before .before .before .branch-at .result) in
-            trail-turn (a .t2) (a .table .now) (a .d / 2 + 1) (l .inv .6) (l .j) i b r (l .inv .7 .0) (trailOf (a .t2) (a .table .now) (a .d)) (omega arith)
-            (omega arith) pe (c .before .before .before .before .branch-at .ensures)
-            (letter-is (a .t2) (a .table .now) i b (c .before .before .before .point-at2 .result) r (c .before .before .before .point-at2 .ensures)
-            (c .before .letter-of2 .ensures)) (l .inv .7 .2),
+        let i = at-parent-at .parent-at .result in
+            let b = at-branch-at .branch-at .result in
+            trail-turn (a .t2) (a .table .now) (a .d / 2 + 1) (l .inv .6) (l .j) i b r (l .inv .7 .0) (trailOf (a .t2) (a .table .now) (a .d))
+            (omega arith) (omega arith) pe (at-branch-at .branch-at .ensures) (letter-is (a .t2) (a .table .now) i b (at-point-at2 .point-at2 .result) r
+            (at-point-at2 .point-at2 .ensures) (c .before .letter-of2 .ensures)) (l .inv .7 .2),
       ),
     )
 
@@ -175,14 +176,16 @@ sub-t21 : tie.Need-sub-t21 Inv-loop μ-loop
 sub-t21 c = search needs
 
 returns : tie.Need-returns Inv-loop μ-loop
-returns c = let a = (c .before .before .before .before .before .before .before .before .args) in let l = (c .before .before .loop) in (
-  header-stored (a .header) (l .bytes) (c .header-word .result) (l .at) (l .inv .7 .0) (l .inv .7 .1) (omega arith) (omega arith)
-      (c .header-word .ensures) ∙ ap (traced (a .header))
-      (trail-whole (a .t2) (a .table .now) (l .j) (l .inv .7 .0) (trailOf (a .t2) (a .table .now) (a .d)) (omega arith) (l .inv .7 .2)),
-  search needs,
-  omega
-      arith,
-)
+returns c =
+    let at-loop = c .before .before in
+    let a = at-loop .before .before .before .before .before .before .args in
+    let l = at-loop .loop in (
+      header-stored (a .header) (l .bytes) (c .header-word .result) (l .at) (l .inv .7 .0) (l .inv .7 .1) (omega arith) (omega arith)
+          (c .header-word .ensures) ∙ ap (traced (a .header))
+          (trail-whole (a .t2) (a .table .now) (l .j) (l .inv .7 .0) (trailOf (a .t2) (a .table .now) (a .d)) (omega arith) (l .inv .7 .2)),
+      search needs,
+      omega arith,
+    )
 
 pub pack-spec : {M : Type 1} → statement M
 pack-spec =

@@ -4,9 +4,6 @@ use Rattle.search.proofs.Theory.Modelling.{modelled-yes, modelled-infea
 use borrow.Author.Needs.{needs}
 use Rattle.search.proofs.show_model.Statement.{statement}
 use Rattle.search.proofs.show_model.Tie as tie
-use Rattle.search.proofs.show_model.Reads as reads
-use Rattle.search.proofs.show_model.Lts as lts
-use Rattle.model_writer.proofs.show.Reads as show-reads
 
 sub-n : tie.Need-sub-n
 sub-n c = search needs
@@ -39,10 +36,11 @@ same-length : tie.Need-same-length
 same-length c = search needs
 
 returns : tie.Need-returns
-returns c = let a = c .before .before .before .before .before .before .before .before .before .before .args in
-    modelled-yes (a .t1) (a .start) (a .output .now) (c .before .before .before .before .before .show .result)
-    (c .before .before .before .before .before .show .last .1 .0) (search needs) (omega arith) (c .before .before .before .before .before .show .ensures) _ refl
-    (c .before .shown .given .0 .0) (c .before .shown .given .1)
+returns c =
+    let at-show = c .before .before .before .before .before in
+    let a = at-show .before .before .before .before .before .args in
+    modelled-yes (a .t1) (a .start) (a .output .now) (at-show .show .result) (at-show .show .last .1 .0) (search needs) (omega arith)
+    (at-show .show .ensures) _ refl (c .before .shown .given .0 .0) (c .before .shown .given .1)
 
 enum-known-shown-2 : tie.Need-enum-known-shown-2
 enum-known-shown-2 c = search needs
@@ -51,10 +49,11 @@ same-length-2 : tie.Need-same-length-2
 same-length-2 c = search needs
 
 returns-2 : tie.Need-returns-2
-returns-2 c = let a = c .before .before .before .before .before .before .before .before .before .before .args in
-    modelled-infeasible (a .t1) (a .start) (a .output .now) (c .before .before .before .before .before .show .result)
-    (c .before .before .before .before .before .show .last .1 .0) (search needs) (omega arith) (c .before .before .before .before .before .show .ensures) _ refl
-    (c .before .shown2 .given .0 .0) (c .before .shown2 .given .1)
+returns-2 c =
+    let at-show = c .before .before .before .before .before in
+    let a = at-show .before .before .before .before .before .args in
+    modelled-infeasible (a .t1) (a .start) (a .output .now) (at-show .show .result) (at-show .show .last .1 .0) (search needs) (omega arith)
+    (at-show .show .ensures) _ refl (c .before .shown2 .given .0 .0) (c .before .shown2 .given .1)
 
 enum-known-shown-3 : tie.Need-enum-known-shown-3
 enum-known-shown-3 c = search needs
@@ -63,10 +62,11 @@ same-length-3 : tie.Need-same-length-3
 same-length-3 c = search needs
 
 returns-3 : tie.Need-returns-3
-returns-3 c = let a = c .before .before .before .before .before .before .before .before .before .before .args in
-    modelled-refused (a .t1) (a .start) (a .output .now) (c .before .before .before .before .before .show .result)
-    (c .before .before .before .before .before .show .last .1 .0) (search needs) (omega arith) (c .before .before .before .before .before .show .ensures) _ refl
-    (c .before .shown3 .given .0 .0) (c .before .shown3 .given .0 .1 .0) (c .before .shown3 .given .1)
+returns-3 c =
+    let at-show = c .before .before .before .before .before in
+    let a = at-show .before .before .before .before .before .args in
+    modelled-refused (a .t1) (a .start) (a .output .now) (at-show .show .result) (at-show .show .last .1 .0) (search needs) (omega arith)
+    (at-show .show .ensures) _ refl (c .before .shown3 .given .0 .0) (c .before .shown3 .given .0 .1 .0) (c .before .shown3 .given .1)
 
 pub show-model-spec : {M : Type 1} → statement M
 show-model-spec =
