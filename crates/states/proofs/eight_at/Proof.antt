@@ -24,7 +24,9 @@ lay-requires : tie.Need-lay-requires
 lay-requires c κs = search needs
 
 returns : tie.Need-returns
-returns c = let a = c .before .before .before .before .before .args in
+returns c =
+    let at-bytes = c .before .before .before in
+    let a = at-bytes .before .before .args in
     copied (c .before .lay .last .0) (a .state .now) _ (a .at) 8 (a .at + 8 - a .at) (omega arith) (search needs) (search needs) (c .before .lay .ensures .0)
 
 pub eight-at-spec : {M : Type 1} → statement M

@@ -94,17 +94,24 @@ add-result : tie.Need-add-result
 add-result c = search needs
 
 returns : tie.Need-returns
-returns c = rw (
-  c .before .before .before .before .before .before .before .wide .ensures .0,
-  c .before .before .before .before .before .before .wide2 .ensures .0,
-  c .before .before .before .before .before .wide3 .ensures .0,
-  c .before .before .before .before .wide4 .ensures .0,
-  c .before .before .before .wide5 .ensures .0,
-  c .before .before .wide6 .ensures .0,
-  c .before .wide7 .ensures .0,
-  c .wide8 .ensures .0,
-)
-    (eight-joined (c .before .before .before .before .before .before .before .before .args .t1) (search needs))
+returns c =
+    let at-wide6 = c .before .before in
+    let at-wide5 = at-wide6 .before in
+    let at-wide4 = at-wide5 .before in
+    let at-wide3 = at-wide4 .before in
+    let at-wide2 = at-wide3 .before in
+    let at-wide = at-wide2 .before in
+    let at-args = at-wide .before in
+    rw (
+      at-wide .wide .ensures .0,
+      at-wide2 .wide2 .ensures .0,
+      at-wide3 .wide3 .ensures .0,
+      at-wide4 .wide4 .ensures .0,
+      at-wide5 .wide5 .ensures .0,
+      at-wide6 .wide6 .ensures .0,
+      c .before .wide7 .ensures .0,
+      c .wide8 .ensures .0,
+    ) (eight-joined (at-args .args .t1) (search needs))
 
 pub number-spec : {M : Type 1} → statement M
 number-spec =

@@ -20,8 +20,9 @@ returns c =
     let at-put-parts = c .before .before in
     let at-head = at-put-parts .before .before in
     let at-flags = at-head .before in
-    let at-args = at-flags .before .before .before .before .before .before .before .before in
-    let a = at-args .args in
+    let at-ever = at-flags .before .before in
+    let at-class = at-ever .before .before .before in
+    let a = at-class .before .before .before .args in
     keeps-monitor (a .kind) (a .m) (a .state .now) _ _ _ (at-head .head .ensures)
     (at-flags .flags .ensures) (at-put-parts .put-parts .ensures .1) (at-put-parts .put-parts .ensures .0)
 

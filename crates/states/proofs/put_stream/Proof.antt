@@ -49,10 +49,10 @@ returns c =
     let at-first-number = at-octets2 .before in
     let at-octets = at-first-number .before in
     let at-put-monitor = at-octets .before .before .before in
-    let at-args = at-put-monitor .before .before .before .before .before in
-    let a = at-args .args in keeps-stream (a .kind) (a .s) (a .state .now) _ _
-    (at-phase-code .phase-code .result ∷ a .s .high ∷ at-verdict-code .verdict-code .result ∷
-    at-refusal-number .refusal-number .result ∷ []) _ _ _ (at-put-monitor .put-monitor .ensures) (rw (
+    let at-monitor = at-put-monitor .before .before in
+    let a = at-monitor .before .before .before .args in
+    keeps-stream (a .kind) (a .s) (a .state .now) _ _ (at-phase-code .phase-code .result ∷ a .s .high ∷ at-verdict-code .verdict-code .result
+    ∷ at-refusal-number .refusal-number .result ∷ []) _ _ _ (at-put-monitor .put-monitor .ensures) (rw (
       at-phase-code .phase-code .ensures,
       at-verdict-code .verdict-code .ensures,
       at-refusal-number .refusal-number .ensures,

@@ -30,15 +30,27 @@ lay-requires-4 c κs = search needs
 same-length : tie.Need-same-length
 same-length c = search needs
 
+-- the steps before the end, each from the one after it
+abbrev at-lay4 : tie.After-slice-known5 → tie.After-lay4
+at-lay4 c = c .before .before
+
+abbrev at-lay3 : tie.After-slice-known5 → tie.After-lay3
+at-lay3 c = let at-slice-known4 = at-lay4 c .before .before .before in at-slice-known4 .before .before
+
+abbrev at-lay2 : tie.After-slice-known5 → tie.After-lay2
+at-lay2 c = let at-slice-known3 = at-lay3 c .before .before .before in at-slice-known3 .before .before
+
+abbrev at-lay : tie.After-slice-known5 → tie.After-lay
+at-lay c = let at-slice-known2 = at-lay2 c .before .before .before in at-slice-known2 .before .before
+
+abbrev at-start : tie.After-slice-known5 → tie.Start
+at-start c = let at-tail = at-lay c .before in at-tail .before .before .before
+
 returns : tie.Need-returns
-returns c = let a = c .before .before .before .before .before .before .before .before .before .before .before .before .before .before .before .before .before
-    .before .before .before .before .args in
-    four-laid (a .t1) (a .t2) (a .t3) (a .t4) (a .state .now) _ _ _ _
-    (c .before .before .before .before .before .before .before .before .before .before .before .before .before .before .before .before .before .before .before
-    .before .before .pre) (search needs) (search needs) (search needs) (search needs)
-    (c .before .before .before .before .before .before .before .before .before .before .before .before .before .before .before .before .before .lay .ensures .0)
-    (c .before .before .before .before .before .before .before .before .before .before .before .before .lay2 .ensures .0)
-    (c .before .before .before .before .before .before .before .lay3 .ensures .0) (c .before .before .lay4 .ensures .0)
+returns c =
+    let a = at-start c .args in
+    four-laid (a .t1) (a .t2) (a .t3) (a .t4) (a .state .now) _ _ _ _ (at-start c .pre) (search needs) (search needs) (search needs) (search needs)
+    (at-lay c .lay .ensures .0) (at-lay2 c .lay2 .ensures .0) (at-lay3 c .lay3 .ensures .0) (at-lay4 c .lay4 .ensures .0)
 
 pub put-tail-spec : {M : Type 1} → statement M
 put-tail-spec =

@@ -53,17 +53,22 @@ shared-slice-read-infeasible c = search needs
 
 returns : tie.Need-returns
 unfolding monitorWindowIn isSet
-returns c = let s = c .before .before .before .before .before .before .before .before .before .before .before .before .before .before .args .state .now in
+returns c =
+    let at-lay2 = c .before .before in
+    let at-result = at-lay2 .before .before in
+    let at-lay = at-result .before .before in
+    let at-marks = at-lay .before .before .before in
+    let at-eight-at3 = at-marks .before in
+    let at-eight-at2 = at-eight-at3 .before in
+    let at-eight-at = at-eight-at2 .before in
+    let s = at-eight-at .before .before .args .state .now in
     rw (
-      c .before .before .before .before .before .before .before .before .before .before .before .before .eight-at .ensures,
-      c .before .before .before .before .before .before .before .before .before .before .before .eight-at2 .ensures,
-      c .before .before .before .before .before .before .before .before .before .marks .ensures,
-      c .before .before .before .before .before .before .before .before .before .before .eight-at3 .ensures,
-      copied
-          (c .before .before .before .before .before .before .lay .last .0) s _ 30 32 _ refl (search needs) (search needs)
-          (c .before .before .before .before .before .before .lay .ensures .0),
-      copied (c .before .before .lay2 .last .0) s _ 62 256 _ refl (search needs)
-          (search needs) (c .before .before .lay2 .ensures .0),
+      at-eight-at .eight-at .ensures,
+      at-eight-at2 .eight-at2 .ensures,
+      at-marks .marks .ensures,
+      at-eight-at3 .eight-at3 .ensures,
+      copied (at-lay .lay .last .0) s _ 30 32 _ refl (search needs) (search needs) (at-lay .lay .ensures .0),
+      copied (at-lay2 .lay2 .last .0) s _ 62 256 _ refl (search needs) (search needs) (at-lay2 .lay2 .ensures .0),
     )
 
 pub window-in-spec : {M : Type 1} → statement M
