@@ -14,13 +14,17 @@ answer-spec =
     (λ c κs. search needs)
     (λ c. search needs)
     (λ c.
-    let read = c .before .before .before .before .before .before .before .read in
+    let at-answer-to = c .before .before in
+    let at-rest-of = at-answer-to .before .before .before in
+    let at-read = at-rest-of .before .before in
+    let at-trace-space = at-read .before .before in
+    let read = at-read .read in
     record {
-      space = c .before .before .before .before .before .before .before .before .before .trace-space .result;
+      space = at-trace-space .trace-space .result;
       room = search needs;
       input = read .result;
-      behind = c .before .before .before .before .before .rest-of .result;
+      behind = at-rest-of .rest-of .result;
       buffer = read .last .1 .0;
       received = read .ensures;
-      answers = c .before .before .answer-to .ensures;
+      answers = at-answer-to .answer-to .ensures;
     }))

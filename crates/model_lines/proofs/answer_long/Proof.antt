@@ -15,7 +15,8 @@ answer-long-spec =
     (λ c. search needs)
     (λ c κs. search needs)
     (λ c.
-    let at-args = c .before .before .before .before .before .before in
+    let at-match = c .before .before .before in
+    let at-args = at-match .before .before .before in
     least-length oddRead (c .before .least .result) (at-args .args .trace .now) (c .before .least .ensures))
     (λ c κs. search needs)
     (λ c. search needs)
@@ -23,8 +24,8 @@ answer-long-spec =
     (λ c.
     let at-write-line = c .before .before in
     let at-enum-told = at-write-line .before .before in
-    let at-args = at-enum-told .before .before .before .before in
-    let a = at-args .args in
+    let at-match = at-enum-told .before in
+    let a = at-match .before .before .before .args in
     let wrote = at-write-line .write-line in
     answers-bytes PrintsModelLine (knownLong (a .rest) (a .trace .now)) (a .trace .now) (a .line .now) (wrote .last .1 .0) (wrote .result)
     (ap (λ (r : Rest). knownLong r (a .trace .now)) (at-enum-told .enum-told .given .1)) (wrote .ensures))
@@ -33,13 +34,14 @@ answer-long-spec =
     let at-write-line2 = c .before .before in
     let at-least = at-write-line2 .before .before .before in
     let at-enum-told2 = at-least .before in
-    let at-args = at-enum-told2 .before .before .before .before in
-    let a = at-args .args in
+    let at-match = at-enum-told2 .before in
+    let a = at-match .before .before .before .args in
     let wrote = at-write-line2 .write-line2 in
     let end = at-least .least in
     answers-first PrintsModelLine (knownLong (a .rest) (a .trace .now)) (a .trace .now) (a .line .now) (wrote .last .1 .0) oddRead (end .result) (wrote .result)
     (ap (λ (r : Rest). knownLong r (a .trace .now)) (at-enum-told2 .enum-told2 .given .1)) (end .ensures) (wrote .ensures))
     (λ c.
-    let a = c .before .before .before .before .args in
+    let at-match = c .before in
+    let a = at-match .before .before .before .args in
     answers-unread PrintsModelLine (knownLong (a .rest) (a .trace .now)) (a .line .now) (a .line .now)
     (ap (λ (r : Rest). knownLong r (a .trace .now)) (c .enum-told3 .given .1)) refl))

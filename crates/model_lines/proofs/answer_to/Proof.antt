@@ -15,8 +15,8 @@ answer-to-spec =
     (λ c κs. search needs)
     (λ c.
     let at-input = c .before .before .before in
-    let at-args = at-input .before .before .before .before in
-    let a = at-args .args in
+    let at-match = at-input .before in
+    let a = at-match .before .before .before .args in
     least-length (at-input .input .given .0 .0) (c .before .least .result) (a .trace .now) (c .before .least .ensures))
     (λ c κs. search needs)
     (λ c. search needs)
@@ -27,8 +27,8 @@ answer-to-spec =
     let at-write-line = c .before .before in
     let at-least = at-write-line .before .before .before in
     let at-input = at-least .before .before in
-    let at-args = at-input .before .before .before .before in
-    let a = at-args .args in
+    let at-match = at-input .before in
+    let a = at-match .before .before .before .args in
     let n = at-input .input .given in
     let wrote = at-write-line .write-line in
     let end = at-least .least in
@@ -38,12 +38,13 @@ answer-to-spec =
     (λ c.
     let at-answer-long = c .before .before in
     let at-enum-told = at-answer-long .before .before in
-    let at-args = at-enum-told .before .before .before .before in
-    let a = at-args .args in
+    let at-match = at-enum-told .before in
+    let a = at-match .before .before .before .args in
     let long = at-answer-long .answer-long in
     subst (λ (k : Known). Answers PrintsModelLine k (a .line .now) (long .result) (long .last .1 .1 .0))
     (ap (λ (i : Input). knownTrace i (a .rest) (a .trace .now)) (sym (at-enum-told .enum-told .given .1))) (long .ensures))
     (λ c.
-    let a = c .before .before .before .before .args in
+    let at-match = c .before in
+    let a = at-match .before .before .before .args in
     answers-unread PrintsModelLine (knownTrace (a .input) (a .rest) (a .trace .now)) (a .line .now) (a .line .now)
     (ap (λ (i : Input). knownTrace i (a .rest) (a .trace .now)) (c .enum-told2 .given .1)) refl))

@@ -46,27 +46,36 @@ put-answer-spec =
     (λ c. appended-length (c .before .before .put-model .ensures))
     (λ c.
     let at-put-model = c .before .before in
-    let at-answer = at-put-model .before .before .before .before in
-    let at-before = at-answer .before .before .before in
-    let start = at-before .before in
+    let at-put-model-arg2 = at-put-model .before in
+    let at-answer = at-put-model-arg2 .before .before .before in
+    let at-match = at-answer .before in
+    let at-start = at-match .before .before .before in
     let n = at-answer .answer .given in
     let put = at-put-model .put-model in
-    wrote-model (start .args .out .now) (start .args .model .now) (put .last .0) (start .args .answer) (put .result) (n .0 .0) (n .1) (start .pre)
-    (put .ensures))
+    wrote-model (at-start .args .out .now) (at-start .args .model .now) (put .last .0) (at-start .args .answer) (put .result) (n .0 .0) (n .1)
+    (at-start .pre) (put .ensures))
     (λ c. appended-length (c .before .before .put-line .ensures))
     (λ c.
-    let start = c .before .before .before .before .before .before .before .before .before .before in
-    let k = c .before .before .before .before .before .before .answer2 .given in
-    let put = c .before .before .put-line in
+    let at-put-line = c .before .before in
+    let at-put-line-arg2 = at-put-line .before in
+    let at-answer2 = at-put-line-arg2 .before .before .before in
+    let k = at-answer2 .answer2 .given in
     let f : Fits w64 (k .0 .0) = search needs in
-    wrote-infeasible (start .args .out .now) (start .args .model .now) (put .last .0) (start .args .answer) (put .result) (k .0 .0) (k .1) (f .fits)
-    (appended-same (sym (infeasible-form (k .0 .0))) (put .ensures)))
+    let at-match = at-answer2 .before in
+    let at-args = at-match .before .before .before in
+    let put = at-put-line .put-line in
+    wrote-infeasible (at-args .args .out .now) (at-args .args .model .now) (put .last .0) (at-args .args .answer) (put .result) (k .0 .0) (k .1)
+    (f .fits) (appended-same (sym (infeasible-form (k .0 .0))) (put .ensures)))
     (λ c. appended-length (c .before .before .put-line2 .ensures))
     (λ c.
-    let start = c .before .before .before .before .before .before .before .before .before .before in
-    let v = c .before .before .before .before .before .before .answer3 .given in
-    let put = c .before .before .put-line2 in
+    let at-put-line2 = c .before .before in
+    let at-put-line-arg4 = at-put-line2 .before in
+    let at-answer3 = at-put-line-arg4 .before .before .before in
+    let v = at-answer3 .answer3 .given in
     let f : Fits w8 (v .0 .0) = search needs in
     let g : Fits w64 (v .0 .1 .0) = search needs in
-    wrote-refused (start .args .out .now) (start .args .model .now) (put .last .0) (start .args .answer) (put .result) (v .0 .0) (v .0 .1 .0) (v .1)
-    (omega (arith, f .fits)) (g .fits) (appended-same (sym (refused-form (v .0 .0) (v .0 .1 .0))) (put .ensures))))
+    let at-match = at-answer3 .before in
+    let at-args = at-match .before .before .before in
+    let put = at-put-line2 .put-line2 in
+    wrote-refused (at-args .args .out .now) (at-args .args .model .now) (put .last .0) (at-args .args .answer) (put .result) (v .0 .0) (v .0 .1 .0)
+    (v .1) (omega (arith, f .fits)) (g .fits) (appended-same (sym (refused-form (v .0 .0) (v .0 .1 .0))) (put .ensures))))

@@ -41,5 +41,6 @@ put-hex-spec =
     (left-same (hex-next (a .args .bytes .now) (l .i) (at-loop-test .loop-test .taken)) (l .inv)) (at-put-octet .put-octet .ensures))
     (λ c. left-length (c .before .loop .inv))
     (λ c.
-    let a = c .before .before .before .before in
-    left-none (left-same (hex-none (a .args .bytes .now) (c .before .loop .i) (c .loop-test .left)) (c .before .loop .inv))))
+    let at-loop = c .before in
+    let at-args = at-loop .before .before .before in
+    left-none (left-same (hex-none (at-args .args .bytes .now) (at-loop .loop .i) (c .loop-test .left)) (at-loop .loop .inv))))

@@ -29,34 +29,43 @@ pub put-model-spec : {M : Type 1} → statement M
 put-model-spec =
     tie.close (tie.spec
     (λ c. search needs)
-    (λ c κs. let s = c .before .before .before .before in room-same model-form
-    (room-first modelWord (rest (s .args .bytes .now) (s .pre)) (whole (s .args .bytes .now) (s .pre))))
+    (λ c κs.
+    let at-put-line-arg = c .before in
+    let at-start = at-put-line-arg .before .before .before in
+    room-same model-form (room-first modelWord (rest (at-start .args .bytes .now) (at-start .pre)) (whole (at-start .args .bytes .now)
+    (at-start .pre))))
     (λ c κs.
     let at-put-line = c .before .before .before in
-    let at-before = at-put-line .before .before .before .before in
-    let s = at-before .before in
-    room-first (hexText (s .args .bytes .now)) (10 ∷ []) (behind (s .args .bytes .now) (s .pre) (at-put-line .put-line .ensures)))
+    let at-put-line-arg = at-put-line .before .before in
+    let at-start = at-put-line-arg .before .before .before in
+    room-first (hexText (at-start .args .bytes .now)) (10 ∷ []) (behind (at-start .args .bytes .now) (at-start .pre) (at-put-line .put-line .ensures)))
     (λ c. search needs)
     (λ c κs.
-    let at-put-hex = c .before .before .before .before in
-    let at-put-line = at-put-hex .before .before .before .before in
-    let at-before = at-put-line .before .before .before .before in
-    let s = at-before .before in
-    room-same feed-form (room-then (hexText (s .args .bytes .now)) (10 ∷ []) (behind (s .args .bytes .now) (s .pre) (at-put-line .put-line .ensures))
-    (at-put-hex .put-hex .ensures)))
+    let at-out2 = c .before .before .before in
+    let at-put-hex = at-out2 .before in
+    let at-out = at-put-hex .before .before .before in
+    let at-put-line = at-out .before in
+    let at-put-line-arg = at-put-line .before .before in
+    let at-start = at-put-line-arg .before .before .before in
+    room-same feed-form (room-then (hexText (at-start .args .bytes .now)) (10 ∷ []) (behind (at-start .args .bytes .now) (at-start .pre)
+    (at-put-line .put-line .ensures)) (at-put-hex .put-hex .ensures)))
     (λ c.
     let at-put-line2 = c .before .before in
-    let at-put-hex = at-put-line2 .before .before .before .before .before in
-    let at-put-line = at-put-hex .before .before .before .before in
+    let at-put-line-arg3 = at-put-line2 .before .before in
+    let at-put-hex = at-put-line-arg3 .before .before .before in
+    let at-out = at-put-hex .before .before .before in
+    let at-put-line = at-out .before in
     appended-length (at-put-line2 .put-line2 .ensures) ∙ appended-length (at-put-hex .put-hex .ensures)
     ∙ appended-length (at-put-line .put-line .ensures))
     (λ c.
     let at-put-line2 = c .before .before in
-    let at-put-hex = at-put-line2 .before .before .before .before .before in
-    let at-put-line = at-put-hex .before .before .before .before in
-    let at-before = at-put-line .before .before .before .before in
-    let s = at-before .before in
-    let bytes = s .args .bytes .now in
+    let at-put-line-arg3 = at-put-line2 .before .before in
+    let at-put-hex = at-put-line-arg3 .before .before .before in
+    let at-out = at-put-hex .before .before .before in
+    let at-put-line = at-out .before in
+    let at-put-line-arg = at-put-line .before .before in
+    let at-start = at-put-line-arg .before .before .before in
+    let bytes = at-start .args .bytes .now in
     appended-same (sym (model-parts bytes)) (appended-then modelWord (hexText bytes ++ (10 ∷ []))
-    (word bytes (s .pre) (at-put-line .put-line .ensures)) (appended-then (hexText bytes) (10 ∷ []) (at-put-hex .put-hex .ensures)
+    (word bytes (at-start .pre) (at-put-line .put-line .ensures)) (appended-then (hexText bytes) (10 ∷ []) (at-put-hex .put-hex .ensures)
     (appended-same (sym feed-form) (at-put-line2 .put-line2 .ensures))))))
