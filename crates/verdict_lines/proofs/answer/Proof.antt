@@ -13,12 +13,15 @@ answer-spec =
     (λ c κs. search needs)
     (λ c. search needs)
     (λ c.
-    let read = c .before .before .before .before .before .before .read in
+    let at-answer-to = c .before .before in
+    let at-read = at-answer-to .before .before .before .before in
+    let at-text-space = at-read .before .before in
+    let read = at-read .read in
     record {
-      space = c .before .before .before .before .before .before .before .before .text-space .result;
+      space = at-text-space .text-space .result;
       room = search needs;
       input = read .result;
       text = read .last .1 .0;
       received = read .ensures;
-      answers = c .before .before .answer-to .ensures;
+      answers = at-answer-to .answer-to .ensures;
     }))

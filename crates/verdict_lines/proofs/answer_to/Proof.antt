@@ -14,8 +14,7 @@ answer-to-spec =
     (λ c κs. search needs)
     (λ c.
     let at-input = c .before .before .before in
-    let at-args = at-input .before .before .before .before in
-    let a = at-args .args in
+    let a = at-input .before .before .before .before .args in
     least-length (at-input .input .given .0 .0) (c .before .least .result) (a .text .now) (c .before .least .ensures))
     (λ c κs. search needs)
     (λ c. search needs)
@@ -26,8 +25,7 @@ answer-to-spec =
     let at-write-lines = c .before .before in
     let at-least = at-write-lines .before .before .before in
     let at-input = at-least .before .before in
-    let at-args = at-input .before .before .before .before in
-    let a = at-args .args in
+    let a = at-input .before .before .before .before .args in
     let n = at-input .input .given in
     let wrote = at-write-lines .write-lines in
     let end = at-least .least in
@@ -37,8 +35,7 @@ answer-to-spec =
     (λ c.
     let at-write-lines2 = c .before .before in
     let at-enum-told = at-write-lines2 .before .before in
-    let at-args = at-enum-told .before .before .before .before in
-    let a = at-args .args in
+    let a = at-enum-told .before .before .before .before .args in
     let wrote = at-write-lines2 .write-lines2 in
     answers-bytes PrintsVerdictLines (known (a .input) (a .text .now)) (a .text .now) (a .lines .now) (wrote .last .1 .0) (wrote .result)
     (ap (λ (i : Input). known i (a .text .now)) (at-enum-told .enum-told .given .1)) (wrote .ensures))

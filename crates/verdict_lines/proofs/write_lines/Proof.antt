@@ -16,10 +16,14 @@ write-lines-spec =
     (λ c κs. search needs)
     (λ c. search needs)
     (λ c.
-    let a = c .before .before .before .before .before .before .before .before .before .before .before .before .before .before .args in
-    let table = c .before .before .before .before .before .before .before .before .before .before .before .table-space in
-    let answer = c .before .before .before .before .before .before .before .before .before .before .answer-space in
-    let judged = c .before .before .before .before .before .before .before .judge-macro in
-    let written = c .before .before .write-verdict in
+    let at-write-verdict = c .before .before in
+    let at-judge-macro = at-write-verdict .before .before .before .before .before in
+    let at-answer-space = at-judge-macro .before .before .before in
+    let at-table-space = at-answer-space .before in
+    let a = at-table-space .before .before .before .args in
+    let table = at-table-space .table-space in
+    let answer = at-answer-space .answer-space in
+    let judged = at-judge-macro .judge-macro in
+    let written = at-write-verdict .write-verdict in
     prints (a .text .now) (table .result) (answer .result) (search needs) (search needs) (judged .result) (judged .last .1 .0) (judged .last .1 .1 .0)
     (judged .ensures) (a .lines .now) (written .result) (written .last .1 .1 .1 .0) (written .ensures)))
