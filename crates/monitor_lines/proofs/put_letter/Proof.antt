@@ -11,9 +11,15 @@ put-letter-spec =
     let at-pre = c .before .before .before .before .before in
     room-same (none-text _ _ _ (c .before .if1 .taken)) (at-pre .pre))
     (λ c. appended-length (c .before .before .put-line .ensures))
-    (λ c. appended-same (sym (none-text _ _ _ (c .before .before .before .before .if1 .taken))) (c .before .before .put-line .ensures))
+    (λ c.
+    let at-put-line = c .before .before in
+    let at-if1 = at-put-line .before .before in
+    appended-same (sym (none-text _ _ _ (at-if1 .if1 .taken))) (at-put-line .put-line .ensures))
     (λ c κs.
     let at-pre = c .before .before .before .before .before in
     room-same (some-text _ _ _ (c .before .if1 .left)) (at-pre .pre))
     (λ c. appended-length (c .before .before .put-line2 .ensures))
-    (λ c. appended-same (sym (some-text _ _ _ (c .before .before .before .before .if1 .left))) (c .before .before .put-line2 .ensures)))
+    (λ c.
+    let at-put-line2 = c .before .before in
+    let at-if1 = at-put-line2 .before .before in
+    appended-same (sym (some-text _ _ _ (at-if1 .if1 .left))) (at-put-line2 .put-line2 .ensures)))

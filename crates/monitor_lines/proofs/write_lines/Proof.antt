@@ -10,6 +10,10 @@ use Rattle.monitor_lines.proofs.Theory.PrintsLaws.{judged-prints, refus
 use Rattle.monitor_lines.proofs.write_lines.Statement.{statement}
 use Rattle.monitor_lines.proofs.write_lines.Tie as tie
 
+-- the first letter is put before the second one
+abbrev at-put-letter : tie.After-slice-known3 → tie.After-put-letter
+at-put-letter c = let at-put-letter2 = c .before .before in at-put-letter2 .before .before .before .before .before .before
+
 pub write-lines-spec : {M : Type 1} → statement M
 write-lines-spec =
     tie.close (tie.spec
@@ -17,15 +21,18 @@ write-lines-spec =
     (λ c. search needs)
     (λ c. search needs)
     (λ c κs.
-    let v = c .before .before .before .before .verdict .given .0 in
+    let at-verdict = c .before .before .before .before in
+    let v = at-verdict .verdict .given .0 in
     let f : Fits w64 (v .0) = search needs in
     let g : Fits w64 (v .1 .0) = search needs in
     room-same (coherence-form (v .0)) (coherence-room (v .0) (v .1 .0) (f .fits) (g .fits)))
     (λ c. search needs)
     (λ c. search needs)
     (λ c κs.
-    let v = c .before .before .before .before .before .before .before .before .before .before .verdict .given .0 in
-    let put = c .before .before .before .before .before .put-letter in
+    let at-put-letter = c .before .before .before .before .before in
+    let at-verdict = at-put-letter .before .before .before .before .before in
+    let v = at-verdict .verdict .given .0 in
+    let put = at-put-letter .put-letter in
     let f : Fits w64 (v .0) = search needs in
     let g : Fits w64 (v .1 .0) = search needs in
     room-same (feasibility-form (v .1 .0))
@@ -39,22 +46,21 @@ write-lines-spec =
     let g : Fits w64 (v .1 .0) = search needs in
     room-same (refused-form (v .0) (v .1 .0)) (refused-room (v .0) (v .1 .0) (omega (arith, f .fits)) (g .fits)))
     (λ c.
-    let at-put-letter2 = c .before .before in
-    let at-put-letter = at-put-letter2 .before .before .before .before .before .before in
-    appended-length (at-put-letter2 .put-letter2 .ensures)
-    ∙ appended-length (at-put-letter .put-letter .ensures))
+    appended-length (c .before .before .put-letter2 .ensures) ∙ appended-length (at-put-letter c .put-letter .ensures))
     (λ c.
-    let v = c .before .before .before .before .before .before .before .before .before .before .before .before .before .verdict .given in
-    let first = c .before .before .before .before .before .before .before .before .put-letter in
-    let second = c .before .before .put-letter2 in
+    let v = at-put-letter c .before .before .before .before .before .verdict .given in
     let f : Fits w64 (v .0 .0) = search needs in
     let g : Fits w64 (v .0 .1 .0) = search needs in
+    let first = at-put-letter c .put-letter in
+    let second = c .before .before .put-letter2 in
     judged-prints (v .0 .0) (v .0 .1 .0) (f .fits) (g .fits) (appended-same (sym (coherence-form (v .0 .0))) (first .ensures)) _ (v .1)
     (appended-same (sym (feasibility-form (v .0 .1 .0))) (second .ensures)))
     (λ c. appended-length (c .before .before .put-line .ensures))
     (λ c.
-    let v = c .before .before .before .before .before .before .verdict2 .given in
+    let at-put-line = c .before .before in
+    let at-verdict2 = at-put-line .before .before .before .before in
+    let v = at-verdict2 .verdict2 .given in
     let f : Fits w8 (v .0 .0) = search needs in
     let g : Fits w64 (v .0 .1 .0) = search needs in
-    refused-prints (v .0 .0) (v .0 .1 .0) (omega (arith, f .fits)) (g .fits) _ (v .1)
-    (appended-same (sym (refused-form (v .0 .0) (v .0 .1 .0))) (c .before .before .put-line .ensures))))
+    refused-prints (v .0 .0) (v .0 .1 .0) (omega (arith, f .fits)) (g .fits) _ (v .1) (appended-same (sym (refused-form (v .0 .0) (v .0 .1 .0)))
+    (at-put-line .put-line .ensures))))
