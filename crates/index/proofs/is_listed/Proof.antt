@@ -27,15 +27,18 @@ is-listed-spec =
     looking-start _ _ _ _ _ _ (at-start .pre .0) (at-start .pre .3) ((c .wide .ensures) ∙ ap (λ b. getD (at-start .args .head .now) b 0)
     (at-chain-of .chain-of .ensures .0)))
     (λ c κs.
-    let at-pre = c .before .before .before .before .before .before in
+    let at-wide-arg = c .before .before .before in
+    let at-pre = at-wide-arg .before .before .before in
     let h = c .before .loop .inv .below in (omega arith, (at-pre .pre .3)))
     (λ c. looking-hit _ _ _ _ _ (c .before .before .before .loop .inv) (sym (c .before .is-at .ensures) ∙ (c .if1 .taken)))
     (λ c. let h = (c .before .before .before .loop .inv .below) in search needs)
     (λ c. let h = (c .before .before .before .loop .inv .below) in omega arith)
     (λ c κs. search needs)
     (λ c.
-    let at-loop = c .before .before .before .before .before in
-    let at-pre = at-loop .before .before .before .before .before in
+    let at-if1 = c .before .before in
+    let at-loop = at-if1 .before .before .before in
+    let at-chain-of = at-loop .before .before .before in
+    let at-pre = at-chain-of .before .before in
     let h = (at-pre .pre .0 .links) (at-loop .loop .k) (omega arith) in
     let e = c .wide2 .ensures in
     omega arith)
@@ -43,10 +46,12 @@ is-listed-spec =
     let at-if1 = c .before .before in
     let at-is-at = at-if1 .before in
     let at-loop = at-is-at .before .before in
-    let at-pre = at-loop .before .before .before .before .before in
+    let at-chain-of = at-loop .before .before .before in
+    let at-pre = at-chain-of .before .before in
     looking-turn _ _ _ _ _ _ _ (at-pre .pre .0)
     (at-loop .loop .inv) (omega arith) (sym (at-is-at .is-at .ensures) ∙ (at-if1 .if1 .left)) (c .wide2 .ensures))
     (λ c κs.
-    let at-pre = c .before .before .before .before .before .before in
+    let at-wide-arg = c .before .before .before in
+    let at-pre = at-wide-arg .before .before .before in
     let h = c .before .loop .inv .below in (omega arith, (at-pre .pre .3)))
     (λ c. (c .is-at2 .ensures) ∙ looking-end _ _ _ _ _ (c .before .before .loop .inv) (omega arith)))
