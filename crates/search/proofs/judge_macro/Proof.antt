@@ -11,7 +11,8 @@ read-requires c κs = search needs
 returns : tie.Need-returns
 returns c =
     let at-read = c .before .before in
-    let a = at-read .before .before .before .before .args in
+    let at-slice-known2 = at-read .before in
+    let a = at-slice-known2 .before .before .before .args in
     let r = at-read .read in
     judged-refused (a .text .now) (r .result) (r .ensures) (a .table .now) (a .output .now) (c .if1 .taken)
 
@@ -19,7 +20,8 @@ search-macro-requires : tie.Need-search-macro-requires
 search-macro-requires c κs =
     let at-if1 = c .before .before in
     let at-read = at-if1 .before .before in
-    let at-args = at-read .before .before .before .before in
+    let at-slice-known2 = at-read .before in
+    let at-args = at-slice-known2 .before .before .before in
     let r = at-read .read in
     readable (at-args .args .text .now) (r .result) (r .ensures) (at-if1 .if1 .left)
 
@@ -35,10 +37,12 @@ same-length-2 c = search needs
 returns-2 : tie.Need-returns-2
 returns-2 c =
     let at-clear = c .before .before in
-    let at-search-macro = at-clear .before .before .before .before .before .before in
+    let at-output = at-clear .before .before .before in
+    let at-search-macro = at-output .before .before .before in
     let at-if1 = at-search-macro .before .before .before in
     let at-read = at-if1 .before .before in
-    let a = at-read .before .before .before .before .args in
+    let at-slice-known2 = at-read .before in
+    let a = at-slice-known2 .before .before .before .args in
     let r = at-read .read in
     let s = at-search-macro .search-macro in
     let z = at-clear .clear in

@@ -116,7 +116,8 @@ sub-at c = search needs
 
 loop-less : tie.Need-loop-less Inv-loop μ-loop
 loop-less c =
-    let at-parent-at = c .before .before .before .before .before in
+    let at-performed = c .before .before in
+    let at-parent-at = at-performed .before .before .before in
     let l = at-parent-at .before .before .loop in
     let o = l .inv .6 (l .j) (omega arith) (omega arith) in
     omega (arith, o, (at-parent-at .parent-at .ensures))
@@ -127,7 +128,8 @@ loop-again c =
     let at-branch-at = at-point-at2 .before in
     let at-parent-at = at-branch-at .before in
     let at-loop = at-parent-at .before .before in
-    let a = at-loop .before .before .before .before .before .before .args in
+    let at-point = at-loop .before .before .before in
+    let a = at-point .before .before .before .args in
     let l = at-loop .loop in
     let o = l .inv .6 (l .j) (omega arith) (omega arith) in
     let pe = at-parent-at .parent-at .ensures in
@@ -178,7 +180,8 @@ sub-t21 c = search needs
 returns : tie.Need-returns Inv-loop μ-loop
 returns c =
     let at-loop = c .before .before in
-    let a = at-loop .before .before .before .before .before .before .args in
+    let at-point = at-loop .before .before .before in
+    let a = at-point .before .before .before .args in
     let l = at-loop .loop in (
       header-stored (a .header) (l .bytes) (c .header-word .result) (l .at) (l .inv .7 .0) (l .inv .7 .1) (omega arith) (omega arith)
           (c .header-word .ensures) ∙ ap (traced (a .header))

@@ -16,7 +16,8 @@ cast-end c = search needs
 
 search-pairs-requires : tie.Need-search-pairs-requires
 search-pairs-requires c κs =
-    let at-capacity = c .before .before .before .before in
+    let at-points = c .before .before in
+    let at-capacity = at-points .before .before in
     let at-start = at-capacity .before .before .before in
     let p = at-start .pre in
     let z = at-capacity .capacity .ensures in
@@ -32,8 +33,10 @@ same-length c = search needs
 
 returns : tie.Need-returns
 returns c =
-    let at-search-pairs = c .before .before .before .before in
-    let at-capacity = at-search-pairs .before .before .before .before .before in
+    let at-match = c .before in
+    let at-search-pairs = at-match .before .before .before in
+    let at-points = at-search-pairs .before .before .before in
+    let at-capacity = at-points .before .before in
     let a = at-capacity .before .before .before .args in
     let s = at-search-pairs .search-pairs in
     let n = at-capacity .capacity in
@@ -48,8 +51,10 @@ same-length-2 c = search needs
 
 returns-2 : tie.Need-returns-2
 returns-2 c =
-    let at-search-pairs = c .before .before .before .before .before in
-    let at-capacity = at-search-pairs .before .before .before .before .before in
+    let at-match = c .before .before in
+    let at-search-pairs = at-match .before .before .before in
+    let at-points = at-search-pairs .before .before .before in
+    let at-capacity = at-points .before .before in
     let a = at-capacity .before .before .before .args in
     let s = at-search-pairs .search-pairs in
     let n = at-capacity .capacity in
@@ -62,8 +67,10 @@ enum-known-found-2 c = search needs
 pack-requires : tie.Need-pack-requires
 pack-requires c κs =
     let at-found2 = c .before .before in
-    let at-search-pairs = at-found2 .before .before .before .before in
-    let at-capacity = at-search-pairs .before .before .before .before .before in
+    let at-match = at-found2 .before in
+    let at-search-pairs = at-match .before .before .before in
+    let at-points = at-search-pairs .before .before .before in
+    let at-capacity = at-points .before .before in
     let at-start = at-capacity .before .before .before in
     let a = at-start .args in
     let s = at-search-pairs .search-pairs in
@@ -85,8 +92,10 @@ returns-3 c =
     let at-deliver-incoherent = c .before .before in
     let at-pack = at-deliver-incoherent .before .before in
     let at-found2 = at-pack .before .before .before in
-    let at-search-pairs = at-found2 .before .before .before .before in
-    let at-capacity = at-search-pairs .before .before .before .before .before in
+    let at-match = at-found2 .before in
+    let at-search-pairs = at-match .before .before .before in
+    let at-points = at-search-pairs .before .before .before in
+    let at-capacity = at-points .before .before in
     let at-start = at-capacity .before .before .before in
     let a = at-start .args in
     let s = at-search-pairs .search-pairs in
@@ -103,8 +112,10 @@ enum-known-found-3 c = search needs
 pack-requires-2 : tie.Need-pack-requires-2
 pack-requires-2 c κs =
     let at-found3 = c .before .before in
-    let at-search-pairs = at-found3 .before .before .before .before in
-    let at-capacity = at-search-pairs .before .before .before .before .before in
+    let at-match = at-found3 .before in
+    let at-search-pairs = at-match .before .before .before in
+    let at-points = at-search-pairs .before .before .before in
+    let at-capacity = at-points .before .before in
     let at-start = at-capacity .before .before .before in
     let a = at-start .args in
     let s = at-search-pairs .search-pairs in
@@ -126,8 +137,10 @@ returns-4 c =
     let at-deliver-failing = c .before .before in
     let at-pack2 = at-deliver-failing .before .before in
     let at-found3 = at-pack2 .before .before .before in
-    let at-search-pairs = at-found3 .before .before .before .before in
-    let at-capacity = at-search-pairs .before .before .before .before .before in
+    let at-match = at-found3 .before in
+    let at-search-pairs = at-match .before .before .before in
+    let at-points = at-search-pairs .before .before .before in
+    let at-capacity = at-points .before .before in
     let at-start = at-capacity .before .before .before in
     let a = at-start .args in
     let s = at-search-pairs .search-pairs in

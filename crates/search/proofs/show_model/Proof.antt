@@ -37,8 +37,10 @@ same-length c = search needs
 
 returns : tie.Need-returns
 returns c =
-    let at-show = c .before .before .before .before .before in
-    let a = at-show .before .before .before .before .before .args in
+    let at-match = c .before .before in
+    let at-show = at-match .before .before .before in
+    let at-bytes = at-show .before .before .before in
+    let a = at-bytes .before .before .args in
     modelled-yes (a .t1) (a .start) (a .output .now) (at-show .show .result) (at-show .show .last .1 .0) (search needs) (omega arith)
     (at-show .show .ensures) _ refl (c .before .shown .given .0 .0) (c .before .shown .given .1)
 
@@ -50,8 +52,10 @@ same-length-2 c = search needs
 
 returns-2 : tie.Need-returns-2
 returns-2 c =
-    let at-show = c .before .before .before .before .before in
-    let a = at-show .before .before .before .before .before .args in
+    let at-match = c .before .before in
+    let at-show = at-match .before .before .before in
+    let at-bytes = at-show .before .before .before in
+    let a = at-bytes .before .before .args in
     modelled-infeasible (a .t1) (a .start) (a .output .now) (at-show .show .result) (at-show .show .last .1 .0) (search needs) (omega arith)
     (at-show .show .ensures) _ refl (c .before .shown2 .given .0 .0) (c .before .shown2 .given .1)
 
@@ -63,8 +67,10 @@ same-length-3 c = search needs
 
 returns-3 : tie.Need-returns-3
 returns-3 c =
-    let at-show = c .before .before .before .before .before in
-    let a = at-show .before .before .before .before .before .args in
+    let at-match = c .before .before in
+    let at-show = at-match .before .before .before in
+    let at-bytes = at-show .before .before .before in
+    let a = at-bytes .before .before .args in
     modelled-refused (a .t1) (a .start) (a .output .now) (at-show .show .result) (at-show .show .last .1 .0) (search needs) (omega arith)
     (at-show .show .ensures) _ refl (c .before .shown3 .given .0 .0) (c .before .shown3 .given .0 .1 .0) (c .before .shown3 .given .1)
 
