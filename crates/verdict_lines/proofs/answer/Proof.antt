@@ -14,7 +14,8 @@ answer-spec =
     (λ c. search needs)
     (λ c.
     let at-answer-to = c .before .before in
-    let at-read = at-answer-to .before .before .before .before in
+    let at-text3 = at-answer-to .before .before in
+    let at-read = at-text3 .before .before in
     let at-text-space = at-read .before .before in
     let read = at-read .read in
     record {

@@ -14,7 +14,8 @@ answer-to-spec =
     (λ c κs. search needs)
     (λ c.
     let at-input = c .before .before .before in
-    let a = at-input .before .before .before .before .args in
+    let at-match = at-input .before in
+    let a = at-match .before .before .before .args in
     least-length (at-input .input .given .0 .0) (c .before .least .result) (a .text .now) (c .before .least .ensures))
     (λ c κs. search needs)
     (λ c. search needs)
@@ -25,7 +26,8 @@ answer-to-spec =
     let at-write-lines = c .before .before in
     let at-least = at-write-lines .before .before .before in
     let at-input = at-least .before .before in
-    let a = at-input .before .before .before .before .args in
+    let at-match = at-input .before in
+    let a = at-match .before .before .before .args in
     let n = at-input .input .given in
     let wrote = at-write-lines .write-lines in
     let end = at-least .least in
@@ -35,11 +37,13 @@ answer-to-spec =
     (λ c.
     let at-write-lines2 = c .before .before in
     let at-enum-told = at-write-lines2 .before .before in
-    let a = at-enum-told .before .before .before .before .args in
+    let at-match = at-enum-told .before in
+    let a = at-match .before .before .before .args in
     let wrote = at-write-lines2 .write-lines2 in
     answers-bytes PrintsVerdictLines (known (a .input) (a .text .now)) (a .text .now) (a .lines .now) (wrote .last .1 .0) (wrote .result)
     (ap (λ (i : Input). known i (a .text .now)) (at-enum-told .enum-told .given .1)) (wrote .ensures))
     (λ c.
-    let a = c .before .before .before .before .args in
+    let at-match = c .before in
+    let a = at-match .before .before .before .args in
     answers-unread PrintsVerdictLines (known (a .input) (a .text .now)) (a .lines .now) (a .lines .now)
     (ap (λ (i : Input). known i (a .text .now)) (c .enum-told2 .given .1)) refl))

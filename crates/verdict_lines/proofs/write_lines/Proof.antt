@@ -17,7 +17,8 @@ write-lines-spec =
     (λ c. search needs)
     (λ c.
     let at-write-verdict = c .before .before in
-    let at-judge-macro = at-write-verdict .before .before .before .before .before in
+    let at-answer3 = at-write-verdict .before .before in
+    let at-judge-macro = at-answer3 .before .before .before in
     let at-answer-space = at-judge-macro .before .before .before in
     let at-table-space = at-answer-space .before in
     let a = at-table-space .before .before .before .args in

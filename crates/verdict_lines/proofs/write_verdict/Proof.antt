@@ -16,7 +16,7 @@ abbrev at-reported : tie.After-size → tie.After-reported
 at-reported c = at-write-report c .before .before
 
 abbrev at-read : tie.After-size → tie.After-read
-at-read c = at-reported c .before .before .before .before .before
+at-read c = let at-registers = at-reported c .before .before .before in at-registers .before .before
 
 pub write-verdict-spec : {M : Type 1} → statement M
 write-verdict-spec =
