@@ -8,7 +8,8 @@ pub put-letter-spec : {M : Type 1} → statement M
 put-letter-spec =
     tie.close (tie.spec
     (λ c κs.
-    let at-pre = c .before .before .before .before .before in
+    let at-shared-slice-known2 = c .before .before in
+    let at-pre = at-shared-slice-known2 .before .before .before in
     room-same (none-text _ _ _ (c .before .if1 .taken)) (at-pre .pre))
     (λ c. appended-length (c .before .before .put-line .ensures))
     (λ c.
@@ -16,7 +17,8 @@ put-letter-spec =
     let at-if1 = at-put-line .before .before in
     appended-same (sym (none-text _ _ _ (at-if1 .if1 .taken))) (at-put-line .put-line .ensures))
     (λ c κs.
-    let at-pre = c .before .before .before .before .before in
+    let at-shared-slice-known2 = c .before .before in
+    let at-pre = at-shared-slice-known2 .before .before .before in
     room-same (some-text _ _ _ (c .before .if1 .left)) (at-pre .pre))
     (λ c. appended-length (c .before .before .put-line2 .ensures))
     (λ c.

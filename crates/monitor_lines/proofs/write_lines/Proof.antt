@@ -10,9 +10,15 @@ use Rattle.monitor_lines.proofs.Theory.PrintsLaws.{judged-prints, refus
 use Rattle.monitor_lines.proofs.write_lines.Statement.{statement}
 use Rattle.monitor_lines.proofs.write_lines.Tie as tie
 
--- the first letter is put before the second one
-abbrev at-put-letter : tie.After-slice-known3 → tie.After-put-letter
-at-put-letter c = let at-put-letter2 = c .before .before in at-put-letter2 .before .before .before .before .before .before
+-- the steps before the second letter is put, each from the one after it
+abbrev at-put-letter : tie.After-put-letter-arg6 → tie.After-put-letter
+at-put-letter c = let at-put-letter-arg4 = c .before .before in at-put-letter-arg4 .before .before .before
+
+abbrev at-verdict : tie.After-put-letter-arg6 → tie.After-verdict
+at-verdict c = let at-put-letter-arg = at-put-letter c .before .before .before in at-put-letter-arg .before .before
+
+abbrev at-put-letter-arg6 : tie.After-slice-known3 → tie.After-put-letter-arg6
+at-put-letter-arg6 c = c .before .before .before
 
 pub write-lines-spec : {M : Type 1} → statement M
 write-lines-spec =
@@ -21,7 +27,8 @@ write-lines-spec =
     (λ c. search needs)
     (λ c. search needs)
     (λ c κs.
-    let at-verdict = c .before .before .before .before in
+    let at-put-letter-arg = c .before .before in
+    let at-verdict = at-put-letter-arg .before .before in
     let v = at-verdict .verdict .given .0 in
     let f : Fits w64 (v .0) = search needs in
     let g : Fits w64 (v .1 .0) = search needs in
@@ -29,10 +36,8 @@ write-lines-spec =
     (λ c. search needs)
     (λ c. search needs)
     (λ c κs.
-    let at-put-letter = c .before .before .before .before .before in
-    let at-verdict = at-put-letter .before .before .before .before .before in
-    let v = at-verdict .verdict .given .0 in
-    let put = at-put-letter .put-letter in
+    let v = at-verdict c .verdict .given .0 in
+    let put = at-put-letter c .put-letter in
     let f : Fits w64 (v .0) = search needs in
     let g : Fits w64 (v .1 .0) = search needs in
     room-same (feasibility-form (v .1 .0))
@@ -46,19 +51,20 @@ write-lines-spec =
     let g : Fits w64 (v .1 .0) = search needs in
     room-same (refused-form (v .0) (v .1 .0)) (refused-room (v .0) (v .1 .0) (omega (arith, f .fits)) (g .fits)))
     (λ c.
-    appended-length (c .before .before .put-letter2 .ensures) ∙ appended-length (at-put-letter c .put-letter .ensures))
+    appended-length (c .before .before .put-letter2 .ensures) ∙ appended-length (at-put-letter (at-put-letter-arg6 c) .put-letter .ensures))
     (λ c.
-    let v = at-put-letter c .before .before .before .before .before .verdict .given in
+    let v = at-verdict (at-put-letter-arg6 c) .verdict .given in
     let f : Fits w64 (v .0 .0) = search needs in
     let g : Fits w64 (v .0 .1 .0) = search needs in
-    let first = at-put-letter c .put-letter in
+    let first = at-put-letter (at-put-letter-arg6 c) .put-letter in
     let second = c .before .before .put-letter2 in
     judged-prints (v .0 .0) (v .0 .1 .0) (f .fits) (g .fits) (appended-same (sym (coherence-form (v .0 .0))) (first .ensures)) _ (v .1)
     (appended-same (sym (feasibility-form (v .0 .1 .0))) (second .ensures)))
     (λ c. appended-length (c .before .before .put-line .ensures))
     (λ c.
     let at-put-line = c .before .before in
-    let at-verdict2 = at-put-line .before .before .before .before in
+    let at-put-line-arg2 = at-put-line .before in
+    let at-verdict2 = at-put-line-arg2 .before .before .before in
     let v = at-verdict2 .verdict2 .given in
     let f : Fits w8 (v .0 .0) = search needs in
     let g : Fits w64 (v .0 .1 .0) = search needs in
