@@ -2,13 +2,6 @@ use Rattle.phrases.proofs.Theory.PhraseLaws.{application-open, applicat
 use borrow.Author.Needs.{needs}
 use Rattle.phrases.proofs.application.Statement.{statement}
 use Rattle.phrases.proofs.application.Tie as tie
-use Rattle.phrases.proofs.application.Reads as reads
-use Rattle.phrases.proofs.application.Lts as lts
-use Rattle.phrases.proofs.arguments.Reads as arguments-reads
-use Rattle.phrases.proofs.expect.Reads as expect-reads
-use Rattle.phrases.proofs.refusal.Reads as refusal-reads
-use Rattle.phrases.proofs.use_of.Reads as use-of-reads
-use Rattle.tokens.proofs.next.Reads as next-reads
 
 expect-requires : tie.Need-expect-requires
 expect-requires c κs = search needs

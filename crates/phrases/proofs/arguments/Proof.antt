@@ -2,12 +2,6 @@ use Rattle.phrases.proofs.Theory.PhraseLaws.{arguments-more, arguments-
 use borrow.Author.Needs.{needs}
 use Rattle.phrases.proofs.arguments.Statement.{statement}
 use Rattle.phrases.proofs.arguments.Tie as tie
-use Rattle.phrases.proofs.arguments.Reads as reads
-use Rattle.phrases.proofs.arguments.Lts as lts
-use Rattle.phrases.proofs.refusal.Reads as refusal-reads
-use Rattle.phrases.proofs.second_argument.Reads as second-argument-reads
-use Rattle.phrases.proofs.unfitting.Reads as unfitting-reads
-use Rattle.tokens.proofs.next.Reads as next-reads
 
 next-requires : tie.Need-next-requires
 next-requires c κs = search needs
@@ -16,8 +10,10 @@ second-argument-requires : tie.Need-second-argument-requires
 second-argument-requires c κs = search needs
 
 returns : tie.Need-returns
-returns c = arguments-two _ _ _ _ _ _ _ _ (c .before .before .before .before .next .ensures) (c .before .before .if1 .taken) (c .before .if2 .taken) _
-    (c .second-argument .ensures)
+returns c =
+    let at-if1 = c .before .before in
+    let at-next = at-if1 .before .before in
+    arguments-two _ _ _ _ _ _ _ _ (at-next .next .ensures) (at-if1 .if1 .taken) (c .before .if2 .taken) _ (c .second-argument .ensures)
 
 returns-2 : tie.Need-returns-2
 returns-2 c = arguments-more _ _ _ _ _ _ _ _ (c .before .before .before .next .ensures) (c .before .if1 .taken) (c .if2 .left)

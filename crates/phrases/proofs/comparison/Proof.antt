@@ -1,8 +1,6 @@
 use Rattle.base.proofs.Theory.Choice.{decide}
 use Rattle.phrases.proofs.comparison.Statement.{statement}
 use Rattle.phrases.proofs.comparison.Tie as tie
-use Rattle.phrases.proofs.comparison.Reads as reads
-use Rattle.phrases.proofs.comparison.Lts as lts
 
 returns : tie.Need-returns
 returns c = search (decide)

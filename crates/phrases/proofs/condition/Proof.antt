@@ -2,13 +2,6 @@ use Rattle.phrases.proofs.Theory.PhraseLaws.{condition-left, condition-
 use borrow.Author.Needs.{needs}
 use Rattle.phrases.proofs.condition.Statement.{statement}
 use Rattle.phrases.proofs.condition.Tie as tie
-use Rattle.phrases.proofs.condition.Reads as reads
-use Rattle.phrases.proofs.condition.Lts as lts
-use Rattle.phrases.proofs.comparison.Reads as comparison-reads
-use Rattle.phrases.proofs.refusal.Reads as refusal-reads
-use Rattle.phrases.proofs.sign_of.Reads as sign-of-reads
-use Rattle.phrases.proofs.use_of.Reads as use-of-reads
-use Rattle.tokens.proofs.next.Reads as next-reads
 
 next-requires : tie.Need-next-requires
 next-requires c κs = search needs
@@ -26,8 +19,10 @@ refusal-requires : tie.Need-refusal-requires
 refusal-requires c κs = search needs
 
 returns : tie.Need-returns
-returns c = condition-left _ _ _ _ (c .before .before .before .before .next .ensures) _ (c .before .before .before .use-of .ensures) _ _
-    ((c .before .enum-told .given) .1) _ (c .refusal .ensures)
+returns c =
+    let at-use-of = c .before .before .before in
+    let at-next = at-use-of .before in
+    condition-left _ _ _ _ (at-next .next .ensures) _ (at-use-of .use-of .ensures) _ _ ((c .before .enum-told .given) .1) _ (c .refusal .ensures)
 
 next-requires-2 : tie.Need-next-requires-2
 next-requires-2 c κs = search needs

@@ -2,10 +2,6 @@ use Rattle.base.proofs.Theory.Choice.{decide}
 use borrow.Author.Needs.{needs}
 use Rattle.phrases.proofs.expect.Statement.{statement}
 use Rattle.phrases.proofs.expect.Tie as tie
-use Rattle.phrases.proofs.expect.Reads as reads
-use Rattle.phrases.proofs.expect.Lts as lts
-use Rattle.phrases.proofs.unfitting.Reads as unfitting-reads
-use Rattle.tokens.proofs.next.Reads as next-reads
 
 next-requires : tie.Need-next-requires
 next-requires c κs = search needs

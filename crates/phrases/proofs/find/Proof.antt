@@ -5,9 +5,6 @@ use Rattle.phrases.proofs.Theory.Answers.{Sought, sought-ended, sought-
 use borrow.Author.Needs.{needs}
 use Rattle.phrases.proofs.find.Statement.{statement}
 use Rattle.phrases.proofs.find.Tie as tie
-use Rattle.phrases.proofs.find.Reads as reads
-use Rattle.phrases.proofs.find.Lts as lts
-use Rattle.tokens.proofs.same_name.Reads as same-name-reads
 
 abbrev Inv-loop : tie.InvT-loop
 Inv-loop list k i₀ i = (length list ≤ mostRegisters) × (i ≤ length list) × Sought list k i
@@ -34,8 +31,10 @@ same-name-requires : tie.Need-same-name-requires Inv-loop μ-loop
 same-name-requires c κs = search needs
 
 returns : tie.Need-returns Inv-loop μ-loop
-returns c = sought-hit _ _ _ _ (c .before .same-name .ensures) (c .before .before .before .loop-test .taken) (c .if1 .taken)
-    ((c .before .before .before .before .loop .inv) .2)
+returns c =
+    let at-loop-test = c .before .before .before in
+    let at-loop = at-loop-test .before in
+    sought-hit _ _ _ _ (c .before .same-name .ensures) (at-loop-test .loop-test .taken) (c .if1 .taken) ((at-loop .loop .inv) .2)
 
 add-i : tie.Need-add-i Inv-loop μ-loop
 add-i c = search needs
@@ -45,10 +44,13 @@ loop-less c = search needs
 
 loop-again : tie.Need-loop-again Inv-loop μ-loop
 loop-again c = (
-  (c .before .before .before .before .loop .inv) .0,
+  let at-same-name = c .before in
+      let at-loop = at-same-name .before .before .before in
+      (at-loop .loop .inv) .0,
   search needs,
-  sought-turn _ _ _ _ (c .before .same-name .ensures)
-      (c .before .before .before .loop-test .taken) (c .if1 .left) ((c .before .before .before .before .loop .inv) .2),
+  let at-loop-test = c .before .before .before in
+      let at-loop = at-loop-test .before in
+      sought-turn _ _ _ _ (c .before .same-name .ensures) (at-loop-test .loop-test .taken) (c .if1 .left) ((at-loop .loop .inv) .2),
 )
 
 returns-2 : tie.Need-returns-2 Inv-loop μ-loop

@@ -2,9 +2,6 @@ use Rattle.base.proofs.Theory.Choice.{decide}
 use borrow.Author.Needs.{needs}
 use Rattle.phrases.proofs.is_known.Statement.{statement}
 use Rattle.phrases.proofs.is_known.Tie as tie
-use Rattle.phrases.proofs.is_known.Reads as reads
-use Rattle.phrases.proofs.is_known.Lts as lts
-use Rattle.phrases.proofs.find.Reads as find-reads
 
 find-requires : tie.Need-find-requires
 find-requires c κs = search needs

@@ -2,8 +2,6 @@ use Rattle.phrases.proofs.Theory.Answers.{carried-refused}
 use borrow.Author.Needs.{needs}
 use Rattle.phrases.proofs.refusal.Statement.{statement}
 use Rattle.phrases.proofs.refusal.Tie as tie
-use Rattle.phrases.proofs.refusal.Reads as reads
-use Rattle.phrases.proofs.refusal.Lts as lts
 
 enum-told : tie.Need-enum-told
 enum-told c = search needs

@@ -2,12 +2,6 @@ use Rattle.phrases.proofs.Theory.PhraseLaws.{second-refused, second-end
 use borrow.Author.Needs.{needs}
 use Rattle.phrases.proofs.second_argument.Statement.{statement}
 use Rattle.phrases.proofs.second_argument.Tie as tie
-use Rattle.phrases.proofs.second_argument.Reads as reads
-use Rattle.phrases.proofs.second_argument.Lts as lts
-use Rattle.phrases.proofs.expect.Reads as expect-reads
-use Rattle.phrases.proofs.refusal.Reads as refusal-reads
-use Rattle.phrases.proofs.use_of.Reads as use-of-reads
-use Rattle.tokens.proofs.next.Reads as next-reads
 
 next-requires : tie.Need-next-requires
 next-requires c κs = search needs
@@ -25,8 +19,10 @@ refusal-requires : tie.Need-refusal-requires
 refusal-requires c κs = search needs
 
 returns : tie.Need-returns
-returns c = second-refused _ _ _ _ _ _ _ (c .before .before .before .before .next .ensures) _ (c .before .before .before .use-of .ensures) _ _
-    ((c .before .enum-told .given) .1) _ (c .refusal .ensures)
+returns c =
+    let at-use-of = c .before .before .before in
+    let at-next = at-use-of .before in
+    second-refused _ _ _ _ _ _ _ (at-next .next .ensures) _ (at-use-of .use-of .ensures) _ _ ((c .before .enum-told .given) .1) _ (c .refusal .ensures)
 
 expect-requires : tie.Need-expect-requires
 expect-requires c κs = search needs

@@ -2,9 +2,6 @@ use Rattle.base.proofs.Theory.Choice.{decide}
 use borrow.Author.Needs.{needs}
 use Rattle.phrases.proofs.sign_of.Statement.{statement}
 use Rattle.phrases.proofs.sign_of.Tie as tie
-use Rattle.phrases.proofs.sign_of.Reads as reads
-use Rattle.phrases.proofs.sign_of.Lts as lts
-use Rattle.phrases.proofs.unfitting.Reads as unfitting-reads
 
 returns : tie.Need-returns
 returns c = search (decide)

@@ -2,11 +2,6 @@ use Rattle.phrases.proofs.Theory.PhraseLaws.{tested-refused, tested-end
 use borrow.Author.Needs.{needs}
 use Rattle.phrases.proofs.tested.Statement.{statement}
 use Rattle.phrases.proofs.tested.Tie as tie
-use Rattle.phrases.proofs.tested.Reads as reads
-use Rattle.phrases.proofs.tested.Lts as lts
-use Rattle.phrases.proofs.condition.Reads as condition-reads
-use Rattle.phrases.proofs.expect.Reads as expect-reads
-use Rattle.phrases.proofs.refusal.Reads as refusal-reads
 
 condition-requires : tie.Need-condition-requires
 condition-requires c κs = search needs

@@ -1,8 +1,6 @@
 use Rattle.base.proofs.Theory.Choice.{decide}
 use Rattle.phrases.proofs.unfitting.Statement.{statement}
 use Rattle.phrases.proofs.unfitting.Tie as tie
-use Rattle.phrases.proofs.unfitting.Reads as reads
-use Rattle.phrases.proofs.unfitting.Lts as lts
 
 returns : tie.Need-returns
 returns c = search (decide)

@@ -2,11 +2,6 @@ use Rattle.base.proofs.Theory.Choice.{decide}
 use borrow.Author.Needs.{needs}
 use Rattle.phrases.proofs.use_of.Statement.{statement}
 use Rattle.phrases.proofs.use_of.Tie as tie
-use Rattle.phrases.proofs.use_of.Reads as reads
-use Rattle.phrases.proofs.use_of.Lts as lts
-use Rattle.phrases.proofs.find.Reads as find-reads
-use Rattle.phrases.proofs.unfitting.Reads as unfitting-reads
-use Rattle.tokens.proofs.is_name.Reads as is-name-reads
 
 is-name-requires : tie.Need-is-name-requires
 is-name-requires c κs = search needs

@@ -5,12 +5,6 @@ use Rattle.phrases.proofs.Theory.PhraseLaws.{value-refused, value-copy,
 use borrow.Author.Needs.{needs}
 use Rattle.phrases.proofs.value.Statement.{statement}
 use Rattle.phrases.proofs.value.Tie as tie
-use Rattle.phrases.proofs.value.Reads as reads
-use Rattle.phrases.proofs.value.Lts as lts
-use Rattle.phrases.proofs.application.Reads as application-reads
-use Rattle.phrases.proofs.refusal.Reads as refusal-reads
-use Rattle.phrases.proofs.use_of.Reads as use-of-reads
-use Rattle.tokens.proofs.next.Reads as next-reads
 
 next-requires : tie.Need-next-requires
 next-requires c κs = search needs
@@ -46,12 +40,12 @@ shared-slice-read-n : tie.Need-shared-slice-read-n
 shared-slice-read-n c =
     let at-called = c .before .before in
     let at-use-of = at-called .before .before in
-    let at-next = at-use-of .before .before .before .before in
-    let at-args = at-next .before .before .before .before .before in
-    let h =
-    use-below (at-args .args .funs .now)
-    (at-next .next .result) _ _ _ (at-use-of .use-of .ensures) ((at-called .called .given) .1) in
-    omega (arith, (at-args .pre .arities))
+    let at-if1 = at-use-of .before in
+    let at-next = at-if1 .before .before .before in
+    let at-shared-slice-known3 = at-next .before .before in
+    let at-start = at-shared-slice-known3 .before .before .before in
+    let h = use-below (at-start .args .funs .now) (at-next .next .result) _ _ _ (at-use-of .use-of .ensures) ((at-called .called .given) .1) in
+    omega (arith, (at-start .pre .arities))
 
 application-requires : tie.Need-application-requires
 application-requires c κs = search needs
