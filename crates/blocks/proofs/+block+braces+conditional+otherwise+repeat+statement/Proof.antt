@@ -118,9 +118,13 @@ pub +block+braces+conditional+otherwise+repeat+statement-spec : {M : Type 1} →
     block.Post
     block-Inv-loop
     block-μ-loop
-    (λ c κs. c .before .before .before .before .pre .1 .counted)
+    (λ c κs.
+    let at-shared-slice-known3 = c .before in
+    let at-pre = at-shared-slice-known3 .before .before .before in
+    at-pre .pre .1 .counted)
     (λ c.
-    let at-pre = c .before .before .before .before .before in
+    let at-shared-slice-known3 = c .before .before in
+    let at-pre = at-shared-slice-known3 .before .before .before in
     law.reached-start _ _ _ _ _ _ _ (at-pre .pre .1 .counted) (c .moved .ensures _))
     (λ c κs. search needs)
     (λ c.
@@ -132,45 +136,57 @@ pub +block+braces+conditional+otherwise+repeat+statement-spec : {M : Type 1} →
     law.block-brace _ _ _ _ _ _ _ _ (at-loop .loop .inv) _ (at-next .next .ensures) _
     (past .before .before .pre .1 .counted) (at-moved .moved .ensures _) (c .if1 .taken))
     (λ c.
-    let at-next = c .before .before .before .before in
+    let at-if1 = c .before .before in
+    let at-next = at-if1 .before .before in
     let at-loop = at-next .before in
-    let at-before = at-loop .before in
-    let past = at-before .before in
-    law.block-end _ _ _ _ _ _ _ _ (at-loop .loop .inv) _ (at-next .next .ensures) _
-    (past .before .before .before .before .pre .1 .counted) (at-before .moved .ensures _) (c .if2 .taken))
+    let at-moved = at-loop .before in
+    let at-shared-slice-known3 = at-moved .before .before in
+    let at-pre = at-shared-slice-known3 .before .before .before in
+    law.block-end _ _ _ _ _ _ _ _ (at-loop .loop .inv) _ (at-next .next .ensures) _ (at-pre .pre .1 .counted) (at-moved .moved .ensures _)
+    (c .if2 .taken))
     (λ c κs.
-    let at-before = c .before .before .before .before .before .before in
-    let past = at-before .before in
-    let far = past .before .before .before .before .before .before .before in
-    let on = past .before .loop .inv .on in
-    let start = past .before .before .moved .ensures [] .at in
-    let pre = far .pre in
-    (omega (arith, pre .0), law.ready (pre .1) (past .before .loop .inv .counted)))
+    let at-if2 = c .before .before .before in
+    let at-if1 = at-if2 .before .before in
+    let at-loop = at-if1 .before .before .before in
+    let at-moved = at-loop .before in
+    let at-shared-slice-known3 = at-moved .before .before in
+    let at-pre = at-shared-slice-known3 .before .before .before in
+    let on = at-loop .loop .inv .on in
+    let start = at-moved .moved .ensures [] .at in
+    let pre = at-pre .pre in
+    (omega (arith, pre .0), law.ready (pre .1) (at-loop .loop .inv .counted)))
     (λ c κs. search needs)
     (λ c.
     let at-if3 = c .before .before .before in
     let at-statement = at-if3 .before in
-    let at-before = at-statement .before .before in
-    let past = at-before .before in
-    law.reached-turn _ _ _ _ _ _ _ _ (past .before .before .before .before .before .before .loop .inv) _
-    (past .before .before .before .before .before .next .ensures) _ (at-statement .statement .ensures)
-    (past .before .before .before .if1 .left) (past .before .if2 .left) (at-if3 .if3 .taken) _
-    (points-joined (at-statement .statement .result) _ _ _ _ _ _ _ (c .join .ensures .0) (c .join .ensures .1)) .0)
+    let at-statement-arg3 = at-statement .before in
+    let at-if2 = at-statement-arg3 .before .before .before in
+    let at-if1 = at-if2 .before .before in
+    let at-next = at-if1 .before .before in
+    let at-loop = at-next .before in
+    law.reached-turn _ _ _ _ _ _ _ _ (at-loop .loop .inv) _ (at-next .next .ensures) _ (at-statement .statement .ensures) (at-if1 .if1 .left)
+    (at-if2 .if2 .left) (at-if3 .if3 .taken) _ (points-joined (at-statement .statement .result) _ _ _ _ _ _ _ (c .join .ensures .0)
+    (c .join .ensures .1)) .0)
     (λ c.
     let at-if3 = c .before .before .before in
     let at-statement = at-if3 .before in
-    let at-before = at-statement .before .before in
-    let past = at-before .before in
-    law.reached-turn _ _ _ _ _ _ _ _ (past .before .before .before .before .before .before .loop .inv) _
-    (past .before .before .before .before .before .next .ensures) _ (at-statement .statement .ensures)
-    (past .before .before .before .if1 .left) (past .before .if2 .left) (at-if3 .if3 .taken) _
-    (points-joined (at-statement .statement .result) _ _ _ _ _ _ _ (c .join .ensures .0) (c .join .ensures .1)) .1)
+    let at-statement-arg3 = at-statement .before in
+    let at-if2 = at-statement-arg3 .before .before .before in
+    let at-if1 = at-if2 .before .before in
+    let at-next = at-if1 .before .before in
+    let at-loop = at-next .before in
+    law.reached-turn _ _ _ _ _ _ _ _ (at-loop .loop .inv) _ (at-next .next .ensures) _ (at-statement .statement .ensures) (at-if1 .if1 .left)
+    (at-if2 .if2 .left) (at-if3 .if3 .taken) _ (points-joined (at-statement .statement .result) _ _ _ _ _ _ _ (c .join .ensures .0)
+    (c .join .ensures .1)) .1)
     (λ c.
-    let at-if2 = c .before .before .before .before .before in
-    let at-before = at-if2 .before in
-    let past = at-before .before in
-    law.block-refused _ _ _ _ _ _ _ _ (past .before .before .before .loop .inv) _ (past .before .before .next .ensures) _
-    (c .before .statement .ensures) (past .if1 .left) (at-if2 .if2 .left) _ (past .before .before .before .before .moved .ensures _) (c .if3 .left)))
+    let at-statement-arg3 = c .before .before in
+    let at-if2 = at-statement-arg3 .before .before .before in
+    let at-if1 = at-if2 .before .before in
+    let at-next = at-if1 .before .before in
+    let at-loop = at-next .before in
+    let at-moved = at-loop .before in
+    law.block-refused _ _ _ _ _ _ _ _ (at-loop .loop .inv) _ (at-next .next .ensures) _ (c .before .statement .ensures) (at-if1 .if1 .left)
+    (at-if2 .if2 .left) _ (at-moved .moved .ensures _) (c .if3 .left)))
     (λ t. braces-lts.spec (
       next-reads.Asked,
       next-reads.Learnt,
@@ -191,8 +207,9 @@ pub +block+braces+conditional+otherwise+repeat+statement-spec : {M : Type 1} →
     (λ c κs. search needs)
     (λ c κs. search needs)
     (λ c.
-    law.braces-deep _ _ _ _ _ _ _ (c .before .before .before .before .next .ensures) _ (c .before .before .if1 .taken) (c .before .if2 .taken)
-    (c .stopped .ensures _))
+    let at-if1 = c .before .before in
+    let at-next = at-if1 .before .before in
+    law.braces-deep _ _ _ _ _ _ _ (at-next .next .ensures) _ (at-if1 .if1 .taken) (c .before .if2 .taken) (c .stopped .ensures _))
     (λ c κs.
     let at-before = c .before .before .before .before .before .before in
     let past = at-before .before in
@@ -201,36 +218,46 @@ pub +block+braces+conditional+otherwise+repeat+statement-spec : {M : Type 1} →
     (λ c κs.
     let at-moved = c .before .before .before in
     let at-if1 = at-moved .before .before in
-    let at-before = at-if1 .before in
-    let past = at-before .before in
-    let (x, y) = law.token-on (past .before .before .before .before .before .args .text .now) _ _ (past .next .ensures)
-    (omega (arith, at-if1 .if1 .taken)) in
+    let at-next = at-if1 .before .before in
+    let at-shared-slice-known3 = at-next .before .before in
+    let at-start = at-shared-slice-known3 .before .before .before in
+    let (x, y) = law.token-on (at-start .args .text .now) _ _ (at-next .next .ensures) (omega (arith, at-if1 .if1 .taken)) in
     let z = at-moved .moved .ensures [] .at in
-    let pre = past .before .before .before .before .before .pre in
+    let pre = at-start .pre in
     (omega (arith, pre .0), law.ready (pre .1) (fine-count (at-moved .moved .ensures []))))
     (λ c κs. search needs)
     (λ c κs.
     let at-block = c .before .before in
-    let at-before = at-block .before .before .before .before in
-    let past = at-before .before in
-    let far = past .before .before .before .before .before .before .before in
-    law.block-count _ _ _ _ _ _ _ (past .before .before .before .next .ensures) (past .before .if1 .taken) (past .if2 .left)
-    (far .before .pre .1 .counted) _ _ (at-before .moved .ensures _) (at-block .block .ensures) (c .before .if3 .taken))
+    let at-block-arg3 = at-block .before in
+    let at-moved = at-block-arg3 .before .before .before in
+    let at-if2 = at-moved .before in
+    let at-if1 = at-if2 .before in
+    let at-next = at-if1 .before .before in
+    let at-shared-slice-known3 = at-next .before .before in
+    let at-pre = at-shared-slice-known3 .before .before .before in
+    law.block-count _ _ _ _ _ _ _ (at-next .next .ensures) (at-if1 .if1 .taken) (at-if2 .if2 .left) (at-pre .pre .1 .counted) _ _
+    (at-moved .moved .ensures _) (at-block .block .ensures) (c .before .if3 .taken))
     (λ c.
     let at-if3 = c .before .before in
     let at-block = at-if3 .before in
-    let at-before = at-block .before .before .before in
-    let past = at-before .before in
-    let far = past .before .before .before .before .before .before .before in
-    law.braces-read _ _ _ _ _ _ _ (past .before .before .before .before .next .ensures) (past .before .before .if1 .taken) (past .before .if2 .left)
-    (far .before .before .pre .1 .counted) _ _ (past .moved .ensures _) (at-block .block .ensures) (at-if3 .if3 .taken) _
-    _ (c .before .expect .ensures) (c .passed .ensures _))
+    let at-block-arg3 = at-block .before in
+    let at-moved = at-block-arg3 .before .before .before in
+    let at-if2 = at-moved .before in
+    let at-if1 = at-if2 .before in
+    let at-next = at-if1 .before .before in
+    let at-shared-slice-known3 = at-next .before .before in
+    let at-pre = at-shared-slice-known3 .before .before .before in
+    law.braces-read _ _ _ _ _ _ _ (at-next .next .ensures) (at-if1 .if1 .taken) (at-if2 .if2 .left) (at-pre .pre .1 .counted) _ _
+    (at-moved .moved .ensures _) (at-block .block .ensures) (at-if3 .if3 .taken) _ _ (c .before .expect .ensures) (c .passed .ensures _))
     (λ c.
-    let at-moved = c .before .before .before .before .before in
-    let at-before = at-moved .before in
-    let past = at-before .before in
-    let far = past .before .before .before .before .before .before .before in
-    law.braces-refused _ _ _ _ _ _ _ (past .before .before .next .ensures) (past .if1 .taken) (at-before .if2 .left) (far .pre .1 .counted) _ _
+    let at-block-arg3 = c .before .before in
+    let at-moved = at-block-arg3 .before .before .before in
+    let at-if2 = at-moved .before in
+    let at-if1 = at-if2 .before in
+    let at-next = at-if1 .before .before in
+    let at-shared-slice-known3 = at-next .before .before in
+    let at-pre = at-shared-slice-known3 .before .before .before in
+    law.braces-refused _ _ _ _ _ _ _ (at-next .next .ensures) (at-if1 .if1 .taken) (at-if2 .if2 .left) (at-pre .pre .1 .counted) _ _
     (at-moved .moved .ensures _) (c .before .block .ensures) (c .if3 .left))
     (λ c κs. search needs)
     (λ c κs.
@@ -238,8 +265,9 @@ pub +block+braces+conditional+otherwise+repeat+statement-spec : {M : Type 1} →
     let past = at-before .before in
     past .before .pre .1 .counted)
     (λ c.
-    law.braces-unfit _ _ _ _ _ _ _ (c .before .before .before .before .next .ensures) _ _ (c .before .before .if1 .left)
-    (c .before .unfitting .ensures) (c .passed2 .ensures _)))
+    let at-if1 = c .before .before in
+    let at-next = at-if1 .before .before in
+    law.braces-unfit _ _ _ _ _ _ _ (at-next .next .ensures) _ _ (at-if1 .if1 .left) (c .before .unfitting .ensures) (c .passed2 .ensures _)))
     (λ t. conditional-lts.spec (
       condition-reads.Asked,
       condition-reads.Learnt,
@@ -253,15 +281,20 @@ pub +block+braces+conditional+otherwise+repeat+statement-spec : {M : Type 1} →
       branch-reads.Learnt,
     ) (conditional-at t)
     conditional.Post
-    (λ c κs. c .before .before .before .before .pre .1 .few .registers)
+    (λ c κs.
+    let at-shared-slice-known3 = c .before in
+    let at-pre = at-shared-slice-known3 .before .before .before in
+    at-pre .pre .1 .few .registers)
     (λ c κs. search needs)
     (λ c κs.
     let at-if1 = c .before .before .before in
     let at-settled = at-if1 .before in
-    let at-before = at-settled .before .before in
-    let past = at-before .before in
-    let (x, y, z) = law.condition-at _ _ _ _ _ (past .before .condition .ensures) (at-settled .settled .ensures) (at-if1 .if1 .taken) in
-    (omega (arith, past .before .before .before .before .before .before .pre .0), law.ready (past .before .before .before .before .before .before .pre .1) z))
+    let at-settled-arg3 = at-settled .before in
+    let at-condition = at-settled-arg3 .before .before .before in
+    let at-shared-slice-known3 = at-condition .before .before in
+    let at-pre = at-shared-slice-known3 .before .before .before in
+    let (x, y, z) = law.condition-at _ _ _ _ _ (at-condition .condition .ensures) (at-settled .settled .ensures) (at-if1 .if1 .taken) in
+    (omega (arith, at-pre .pre .0), law.ready (at-pre .pre .1) z))
     (λ c κs.
     let at-if2 = c .before .before .before in
     let at-braces = at-if2 .before in
@@ -276,28 +309,39 @@ pub +block+braces+conditional+otherwise+repeat+statement-spec : {M : Type 1} →
     (λ c.
     let at-if3 = c .before .before .before in
     let at-otherwise = at-if3 .before in
-    let at-before = at-otherwise .before .before in
-    let past = at-before .before in
-    let far = past .before .before .before .before .before .before .before in
-    law.conditional-read _ _ _ _ _ (far .before .before .before .before .condition .ensures) (far .settled .ensures) _ _ _
-    (past .before .before .before .before .before .before .if1 .taken) _ (past .before .before .braces .ensures) (past .before .if2 .taken) _
-    (at-otherwise .otherwise .ensures) (at-if3 .if3 .taken) _
+    let at-otherwise-arg3 = at-otherwise .before in
+    let at-if2 = at-otherwise-arg3 .before .before .before in
+    let at-braces = at-if2 .before in
+    let at-braces-arg3 = at-braces .before in
+    let at-if1 = at-braces-arg3 .before .before .before in
+    let at-settled = at-if1 .before in
+    let at-settled-arg3 = at-settled .before in
+    let at-condition = at-settled-arg3 .before .before .before in
+    law.conditional-read _ _ _ _ _ (at-condition .condition .ensures) (at-settled .settled .ensures) _ _ _ (at-if1 .if1 .taken) _
+    (at-braces .braces .ensures) (at-if2 .if2 .taken) _ (at-otherwise .otherwise .ensures) (at-if3 .if3 .taken) _
     (points-branched (at-otherwise .otherwise .result) _ _ _ _ _ _ _ (c .branch .ensures .0) (c .branch .ensures .1)))
     (λ c.
-    let at-if2 = c .before .before .before .before .before in
-    let at-before = at-if2 .before in
-    let past = at-before .before in
-    let far = past .before .before .before .before .before .before .before in
-    law.conditional-else _ _ _ _ _ (far .before .condition .ensures) (past .before .before .before .before .settled .ensures) _ _ _
-    (past .before .before .before .if1 .taken) _ (at-before .braces .ensures) (at-if2 .if2 .taken) _ (c .before .otherwise .ensures) (c .if3 .left))
+    let at-otherwise-arg3 = c .before .before in
+    let at-if2 = at-otherwise-arg3 .before .before .before in
+    let at-braces = at-if2 .before in
+    let at-braces-arg3 = at-braces .before in
+    let at-if1 = at-braces-arg3 .before .before .before in
+    let at-settled = at-if1 .before in
+    let at-settled-arg3 = at-settled .before in
+    let at-condition = at-settled-arg3 .before .before .before in
+    law.conditional-else _ _ _ _ _ (at-condition .condition .ensures) (at-settled .settled .ensures) _ _ _ (at-if1 .if1 .taken) _
+    (at-braces .braces .ensures) (at-if2 .if2 .taken) _ (c .before .otherwise .ensures) (c .if3 .left))
     (λ c.
-    let at-if1 = c .before .before .before .before .before in
-    let at-before = at-if1 .before in
-    let past = at-before .before in
-    law.conditional-braces _ _ _ _ _ (past .before .before .before .condition .ensures) (at-before .settled .ensures) _ _ _ (at-if1 .if1 .taken) _
+    let at-braces-arg3 = c .before .before in
+    let at-if1 = at-braces-arg3 .before .before .before in
+    let at-settled = at-if1 .before in
+    let at-settled-arg3 = at-settled .before in
+    let at-condition = at-settled-arg3 .before .before .before in
+    law.conditional-braces _ _ _ _ _ (at-condition .condition .ensures) (at-settled .settled .ensures) _ _ _ (at-if1 .if1 .taken) _
     (c .before .braces .ensures) (c .if2 .left))
     (λ c.
-    let at-condition = c .before .before .before .before .before in
+    let at-settled-arg3 = c .before .before in
+    let at-condition = at-settled-arg3 .before .before .before in
     law.conditional-refused _ _ _ _ _ (at-condition .condition .ensures) (c .before .settled .ensures) _ _ _
     (c .if1 .left)))
     (λ t. otherwise-lts.spec (
@@ -311,9 +355,10 @@ pub +block+braces+conditional+otherwise+repeat+statement-spec : {M : Type 1} →
     otherwise.Post
     (λ c κs. search needs)
     (λ c κs.
-    let at-before = c .before .before .before .before .before .before in
-    let past = at-before .before in
-    past .pre .1 .counted)
+    let at-next = c .before .before in
+    let at-shared-slice-known3 = at-next .before .before in
+    let at-pre = at-shared-slice-known3 .before .before .before in
+    at-pre .pre .1 .counted)
     (λ c κs.
     let at-moved = c .before .before .before in
     let at-if1 = at-moved .before in
@@ -325,16 +370,19 @@ pub +block+braces+conditional+otherwise+repeat+statement-spec : {M : Type 1} →
     let pre = past .before .before .before .before .pre in
     (omega (arith, pre .0), law.ready (pre .1) (fine-count (at-moved .moved .ensures []))))
     (λ c.
-    let at-moved = c .before .before .before .before in
+    let at-braces-arg3 = c .before in
+    let at-moved = at-braces-arg3 .before .before .before in
     let at-if1 = at-moved .before in
-    let at-before = at-if1 .before in
-    let past = at-before .before in
-    law.else-present _ _ _ _ _ _ _ (past .next .ensures) _ _ (at-if1 .if1 .taken)
-    (past .before .before .before .before .before .pre .1 .counted) (at-moved .moved .ensures _) (c .braces .ensures))
+    let at-next = at-if1 .before .before in
+    let at-shared-slice-known3 = at-next .before .before in
+    let at-pre = at-shared-slice-known3 .before .before .before in
+    law.else-present _ _ _ _ _ _ _ (at-next .next .ensures) _ _ (at-if1 .if1 .taken) (at-pre .pre .1 .counted) (at-moved .moved .ensures _)
+    (c .braces .ensures))
     (λ c κs.
-    let at-before = c .before .before .before .before .before .before in
-    let past = at-before .before in
-    past .pre .1 .counted)
+    let at-next = c .before .before in
+    let at-shared-slice-known3 = at-next .before .before in
+    let at-pre = at-shared-slice-known3 .before .before .before in
+    at-pre .pre .1 .counted)
     (λ c. law.else-absent _ _ _ _ _ _ _ (c .before .before .before .next .ensures) _ (c .before .if1 .left) (c .moved2 .ensures _)))
     (λ t. repeat-lts.spec (
       condition-reads.Asked,
@@ -347,32 +395,43 @@ pub +block+braces+conditional+otherwise+repeat+statement-spec : {M : Type 1} →
       repeat-from-reads.Learnt,
     ) (repeat-at t)
     repeat.Post
-    (λ c κs. c .before .before .before .before .pre .1 .few .registers)
+    (λ c κs.
+    let at-shared-slice-known3 = c .before in
+    let at-pre = at-shared-slice-known3 .before .before .before in
+    at-pre .pre .1 .few .registers)
     (λ c κs. search needs)
     (λ c κs.
     let at-if1 = c .before .before .before in
     let at-settled = at-if1 .before in
-    let at-before = at-settled .before .before in
-    let past = at-before .before in
-    let (x, y, z) = law.condition-at _ _ _ _ _ (past .before .condition .ensures) (at-settled .settled .ensures) (at-if1 .if1 .taken) in
-    (omega (arith, past .before .before .before .before .before .before .pre .0), law.ready (past .before .before .before .before .before .before .pre .1) z))
+    let at-settled-arg3 = at-settled .before in
+    let at-condition = at-settled-arg3 .before .before .before in
+    let at-shared-slice-known3 = at-condition .before .before in
+    let at-pre = at-shared-slice-known3 .before .before .before in
+    let (x, y, z) = law.condition-at _ _ _ _ _ (at-condition .condition .ensures) (at-settled .settled .ensures) (at-if1 .if1 .taken) in
+    (omega (arith, at-pre .pre .0), law.ready (at-pre .pre .1) z))
     (λ c κs. search needs)
     (λ c.
     let at-if2 = c .before .before .before in
     let at-braces = at-if2 .before in
-    let at-before = at-braces .before .before in
-    let past = at-before .before in
-    law.repeat-read _ _ _ _ _ (past .before .before .before .before .before .before .condition .ensures) (past .before .before .settled .ensures) _ _
-    _ (past .before .if1 .taken) _ (at-braces .braces .ensures) (at-if2 .if2 .taken) _
-    (points-looped (at-braces .braces .result) _ _ _ _ _ _ (c .repeat-from .ensures .0) (c .repeat-from .ensures .1)))
+    let at-braces-arg3 = at-braces .before in
+    let at-if1 = at-braces-arg3 .before .before .before in
+    let at-settled = at-if1 .before in
+    let at-settled-arg3 = at-settled .before in
+    let at-condition = at-settled-arg3 .before .before .before in
+    law.repeat-read _ _ _ _ _ (at-condition .condition .ensures) (at-settled .settled .ensures) _ _ _ (at-if1 .if1 .taken) _
+    (at-braces .braces .ensures) (at-if2 .if2 .taken) _ (points-looped (at-braces .braces .result) _ _ _ _ _ _ (c .repeat-from .ensures .0)
+    (c .repeat-from .ensures .1)))
     (λ c.
-    let at-if1 = c .before .before .before .before .before in
-    let at-before = at-if1 .before in
-    let past = at-before .before in
-    law.repeat-braces _ _ _ _ _ (past .before .before .before .condition .ensures) (at-before .settled .ensures) _ _ _ (at-if1 .if1 .taken) _
+    let at-braces-arg3 = c .before .before in
+    let at-if1 = at-braces-arg3 .before .before .before in
+    let at-settled = at-if1 .before in
+    let at-settled-arg3 = at-settled .before in
+    let at-condition = at-settled-arg3 .before .before .before in
+    law.repeat-braces _ _ _ _ _ (at-condition .condition .ensures) (at-settled .settled .ensures) _ _ _ (at-if1 .if1 .taken) _
     (c .before .braces .ensures) (c .if2 .left))
     (λ c.
-    let at-condition = c .before .before .before .before .before in
+    let at-settled-arg3 = c .before .before in
+    let at-condition = at-settled-arg3 .before .before .before in
     law.repeat-refused _ _ _ _ _ (at-condition .condition .ensures) (c .before .settled .ensures) _ _ _ (c .if1 .left)))
     λ t. statement-lts.spec (
       next-reads.Asked,
@@ -389,9 +448,10 @@ pub +block+braces+conditional+otherwise+repeat+statement-spec : {M : Type 1} →
     statement′.Post
     (λ c κs. search needs)
     (λ c κs.
-    let at-before = c .before .before .before .before .before .before in
-    let past = at-before .before in
-    past .pre .1 .counted)
+    let at-next = c .before .before in
+    let at-shared-slice-known3 = at-next .before .before in
+    let at-pre = at-shared-slice-known3 .before .before .before in
+    at-pre .pre .1 .counted)
     (λ c κs.
     let at-moved = c .before .before .before in
     let at-if1 = at-moved .before in
@@ -403,12 +463,14 @@ pub +block+braces+conditional+otherwise+repeat+statement-spec : {M : Type 1} →
     let pre = past .before .before .before .before .pre in
     (omega (arith, pre .0), law.ready (pre .1) (fine-count (at-moved .moved .ensures []))))
     (λ c.
-    let at-moved = c .before .before .before .before in
+    let at-conditional-arg3 = c .before in
+    let at-moved = at-conditional-arg3 .before .before .before in
     let at-if1 = at-moved .before in
-    let at-before = at-if1 .before in
-    let past = at-before .before in
-    law.statement-if _ _ _ _ _ _ _ (past .next .ensures) (past .before .before .before .before .before .pre .1 .counted) _ _
-    (at-moved .moved .ensures _) (at-if1 .if1 .taken) (c .conditional .ensures))
+    let at-next = at-if1 .before .before in
+    let at-shared-slice-known3 = at-next .before .before in
+    let at-pre = at-shared-slice-known3 .before .before .before in
+    law.statement-if _ _ _ _ _ _ _ (at-next .next .ensures) (at-pre .pre .1 .counted) _ _ (at-moved .moved .ensures _) (at-if1 .if1 .taken)
+    (c .conditional .ensures))
     (λ c κs.
     let at-before = c .before .before .before .before .before .before in
     let past = at-before .before in
@@ -416,27 +478,31 @@ pub +block+braces+conditional+otherwise+repeat+statement-spec : {M : Type 1} →
     (λ c κs.
     let at-moved2 = c .before .before .before in
     let at-if2 = at-moved2 .before in
-    let at-before = at-if2 .before .before in
-    let past = at-before .before in
-    let (x, y) = law.token-on (past .before .before .before .before .before .before .args .text .now) _ _ (past .before .next .ensures)
-    (omega (arith, at-if2 .if2 .taken)) in
+    let at-if1 = at-if2 .before .before in
+    let at-next = at-if1 .before .before in
+    let at-shared-slice-known3 = at-next .before .before in
+    let at-start = at-shared-slice-known3 .before .before .before in
+    let (x, y) = law.token-on (at-start .args .text .now) _ _ (at-next .next .ensures) (omega (arith, at-if2 .if2 .taken)) in
     let z = at-moved2 .moved2 .ensures [] .at in
-    let pre = past .before .before .before .before .before .before .pre in
+    let pre = at-start .pre in
     (omega (arith, pre .0), law.ready (pre .1) (fine-count (at-moved2 .moved2 .ensures []))))
     (λ c.
-    let at-moved2 = c .before .before .before .before in
+    let at-repeat-arg3 = c .before in
+    let at-moved2 = at-repeat-arg3 .before .before .before in
     let at-if2 = at-moved2 .before in
-    let at-before = at-if2 .before in
-    let past = at-before .before in
-    let far = past .before .before .before .before .before .before .before in
-    law.statement-while _ _ _ _ _ _ _ (past .before .before .next .ensures) (far .pre .1 .counted) _ _
-    (at-moved2 .moved2 .ensures _) (at-if2 .if2 .taken) (c .repeat .ensures))
+    let at-if1 = at-if2 .before .before in
+    let at-next = at-if1 .before .before in
+    let at-shared-slice-known3 = at-next .before .before in
+    let at-pre = at-shared-slice-known3 .before .before .before in
+    law.statement-while _ _ _ _ _ _ _ (at-next .next .ensures) (at-pre .pre .1 .counted) _ _ (at-moved2 .moved2 .ensures _) (at-if2 .if2 .taken)
+    (c .repeat .ensures))
     (λ c κs.
     let at-before = c .before .before .before .before .before .before in
     let past = at-before .before in
     past .before .before .before .before .before .pre .1)
     (λ c.
-    let at-if2 = c .before .before .before .before in
-    let at-before = at-if2 .before .before in
-    let past = at-before .before in
-    c .plain .ensures .read _ (past .before .next .ensures) (at-before .if1 .left) (at-if2 .if2 .left))
+    let at-plain-arg3 = c .before in
+    let at-if2 = at-plain-arg3 .before .before .before in
+    let at-if1 = at-if2 .before .before in
+    let at-next = at-if1 .before .before in
+    c .plain .ensures .read _ (at-next .next .ensures) (at-if1 .if1 .left) (at-if2 .if2 .left))

@@ -1,8 +1,6 @@
 use Rattle.base.proofs.Theory.Choice.{decide}
 use Rattle.blocks.proofs.begin.Statement.{statement}
 use Rattle.blocks.proofs.begin.Tie as tie
-use Rattle.blocks.proofs.begin.Reads as reads
-use Rattle.blocks.proofs.begin.Lts as lts
 
 returns : tie.Need-returns
 returns c = search (decide)

@@ -19,9 +19,11 @@ branch-spec =
     (λ c. search needs)
     (λ c. search needs)
     (λ c.
-    let args = c .before .before .before .before .args in
-    let few = c .before .before .before .if1 .left in
-    let some = c .before .before .if2 .left in (
+    let at-if2 = c .before .before in
+    let at-if1 = at-if2 .before in
+    let args = at-if1 .before .args in
+    let few = at-if1 .if1 .left in
+    let some = at-if2 .if2 .left in (
       change-some _ _ _ _ few some _ (ap (set (args .first .now) (args .base)) (c .before .begin .ensures)),
       change-some _ _ _ _ few some _ (ap (set (args .second .now) (args .base)) (c .begin2 .ensures)),
     )))

@@ -1,8 +1,6 @@
 use Rattle.base.proofs.Theory.Choice.{decide}
 use Rattle.blocks.proofs.follow.Statement.{statement}
 use Rattle.blocks.proofs.follow.Tie as tie
-use Rattle.blocks.proofs.follow.Reads as reads
-use Rattle.blocks.proofs.follow.Lts as lts
 
 returns : tie.Need-returns
 returns c = search (decide)

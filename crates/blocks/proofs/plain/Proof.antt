@@ -8,46 +8,57 @@ plain-spec =
     tie.close (tie.spec
     (λ c κs. search needs)
     (λ c κs.
-    let at-pre = c .before .before .before .before .before .before in
+    let at-shared-slice-known3 = c .before .before .before in
+    let at-pre = at-shared-slice-known3 .before .before .before in
     at-pre .pre .counted)
     (λ c. law.plain-skip _ _ _ _ _ _ _ _ (c .before .before .if1 .taken) (c .before .expect .ensures) (c .passed .ensures _))
     (λ c κs.
-    let at-pre = c .before .before .before .before .before .before in
+    let at-shared-slice-known3 = c .before .before .before in
+    let at-pre = at-shared-slice-known3 .before .before .before in
     at-pre .pre .few .registers)
     (λ c κs. search needs)
     (λ c.
-    let at-tested = c .before .before .before .before in
+    let at-settled-arg3 = c .before in
+    let at-tested = at-settled-arg3 .before .before .before in
     let at-if2 = at-tested .before in
     law.plain-assume _ _ _ _ _ _ _ _ (at-if2 .if2 .taken) (at-tested .tested .ensures)
     (c .settled .ensures))
     (λ c κs.
-    let at-before = c .before .before .before .before .before .before in
-    let past = at-before .before in
-    past .pre .few .registers)
+    let at-if2 = c .before in
+    let at-shared-slice-known3 = at-if2 .before .before .before in
+    let at-pre = at-shared-slice-known3 .before .before .before in
+    at-pre .pre .few .registers)
     (λ c κs. search needs)
     (λ c.
-    let at-tested2 = c .before .before .before .before in
+    let at-settled-arg6 = c .before in
+    let at-tested2 = at-settled-arg6 .before .before .before in
     let at-if3 = at-tested2 .before in
     law.plain-assert _ _ _ _ _ _ _ _ (at-if3 .if3 .taken) (at-tested2 .tested2 .ensures)
     (c .settled2 .ensures))
     (λ c κs. search needs)
     (λ c κs.
-    let at-before = c .before .before .before .before .before .before in
-    let past = at-before .before in
-    past .before .before .pre .few)
+    let at-if2 = c .before .before .before in
+    let at-shared-slice-known3 = at-if2 .before .before .before in
+    let at-pre = at-shared-slice-known3 .before .before .before in
+    at-pre .pre .few)
     (λ c κs. search needs)
     (λ c.
-    let at-assignment = c .before .before .before .before in
+    let at-settled-arg9 = c .before in
+    let at-assignment = at-settled-arg9 .before .before .before in
     let at-if4 = at-assignment .before in
-    let at-before = at-if4 .before in
-    let past = at-before .before in
-    law.plain-assign _ _ _ _ _ _ (past .before .before .if1 .left) (past .before .if2 .left) (past .if3 .left) _
-    (at-before .is-name .ensures) _ _ (at-if4 .if4 .taken) (at-assignment .assignment .ensures) (c .settled3 .ensures))
+    let at-is-name = at-if4 .before in
+    let at-if3 = at-is-name .before in
+    let at-if2 = at-if3 .before in
+    let at-if1 = at-if2 .before in
+    law.plain-assign _ _ _ _ _ _ (at-if1 .if1 .left) (at-if2 .if2 .left) (at-if3 .if3 .left) _ (at-is-name .is-name .ensures) _ _ (at-if4 .if4 .taken)
+    (at-assignment .assignment .ensures) (c .settled3 .ensures))
     (λ c κs. search needs)
     (λ c κs.
-    let at-before = c .before .before .before .before .before .before in
-    let past = at-before .before in
-    past .before .before .before .pre .counted)
+    let at-if4 = c .before in
+    let at-if2 = at-if4 .before .before .before in
+    let at-shared-slice-known3 = at-if2 .before .before .before in
+    let at-pre = at-shared-slice-known3 .before .before .before in
+    at-pre .pre .counted)
     (λ c.
     let at-if4 = c .before .before in
     let at-is-name = at-if4 .before in

@@ -34,7 +34,9 @@ points-of-spec =
     (λ c. search needs)
     (λ c. search needs)
     (λ c.
-    let here = c .before .before .before .before in
-    let (low, filled) = here .before .loop .inv in
-    (omega (arith, here .loop-test .taken), each-turn _ _ _ _ unusedPoint _ filled (c .point-at .ensures)))
+    let at-point-at-arg3 = c .before in
+    let at-loop-test = at-point-at-arg3 .before .before .before in
+    let at-loop = at-loop-test .before in
+    let (low, filled) = at-loop .loop .inv in
+    (omega (arith, at-loop-test .loop-test .taken), each-turn _ _ _ _ unusedPoint _ filled (c .point-at .ensures)))
     (λ c. let (low, filled) = c .before .loop .inv in ended _ _ _ _ _ filled (omega (arith, low, c .loop-test .left))))

@@ -36,11 +36,13 @@ redirect-range-spec =
     (λ c. search needs)
     (λ c. search needs)
     (λ c.
-    let here = c .before .before .before .before in
-    let (low, one, two) = here .before .loop .inv in (
+    let at-follow = c .before .before in
+    let at-loop-test = at-follow .before .before in
+    let at-loop = at-loop-test .before in
+    let (low, one, two) = at-loop .loop .inv in (
       omega arith,
-      each-turn _ _ _ _ 0 _ one (range-turn _ _ _ _ _ _ low (here .loop-test .taken) (c .before .before .follow .ensures)),
-      each-turn _ _ _ _ 0 _ two (range-turn _ _ _ _ _ _ low (here .loop-test .taken) (c .follow2 .ensures)),
+      each-turn _ _ _ _ 0 _ one (range-turn _ _ _ _ _ _ low (at-loop-test .loop-test .taken) (at-follow .follow .ensures)),
+      each-turn _ _ _ _ 0 _ two (range-turn _ _ _ _ _ _ low (at-loop-test .loop-test .taken) (c .follow2 .ensures)),
     ))
     (λ c.
     let (low, one, two) = c .before .loop .inv in

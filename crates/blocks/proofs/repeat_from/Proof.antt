@@ -18,13 +18,13 @@ repeat-from-spec =
     (λ c. search needs)
     (λ c. search needs)
     (λ c.
-    let at-if2 = c .before .before .before .before in
+    let at-redirect-range = c .before in
+    let at-if2 = at-redirect-range .before .before .before in
     let at-if1 = at-if2 .before in
-    let at-args = at-if1 .before in
-    let args = at-args .args in
+    let args = at-if1 .before .args in
     let few = at-if1 .if1 .left in
     let some = at-if2 .if2 .left in
-    let ranges = c .before .redirect-range .ensures in (
+    let ranges = at-redirect-range .redirect-range .ensures in (
       change-some _ _ _ _ few some _ (λ i. set (ranges .0 i) (args .base) (c .begin .ensures i)),
       change-some _ _ _ _ few some _ (λ i. set (ranges .1 i) (args .base) 256),
     )))
