@@ -2,11 +2,6 @@ use Rattle.syntax.proofs.Theory.Lists as law
 use borrow.Author.Needs.{needs}
 use Rattle.syntax.proofs.arity.Statement.{statement}
 use Rattle.syntax.proofs.arity.Tie as tie
-use Rattle.syntax.proofs.arity.Reads as reads
-use Rattle.syntax.proofs.arity.Lts as lts
-use Rattle.phrases.proofs.expect.Reads as expect-reads
-use Rattle.phrases.proofs.unfitting.Reads as unfitting-reads
-use Rattle.tokens.proofs.next.Reads as next-reads
 
 expect-requires : tie.Need-expect-requires
 expect-requires c κs = search needs

@@ -2,9 +2,6 @@ use Rattle.syntax.proofs.Theory.Top as law
 use borrow.Author.Needs.{needs}
 use Rattle.syntax.proofs.binary_of.Statement.{statement}
 use Rattle.syntax.proofs.binary_of.Tie as tie
-use Rattle.syntax.proofs.binary_of.Reads as reads
-use Rattle.syntax.proofs.binary_of.Lts as lts
-use Rattle.syntax.proofs.flag.Reads as flag-reads
 
 array-read-flag : tie.Need-array-read-flag
 array-read-flag c = search needs
@@ -49,8 +46,12 @@ add-result-3 : tie.Need-add-result-3
 add-result-3 c = search needs
 
 returns : tie.Need-returns
-returns c = law.four (c .before .before .before .before .args .t1) _ _ _ _ (search needs) ((c .before .before .before .flag .ensures) .0)
-    ((c .before .before .flag2 .ensures) .0) ((c .before .flag3 .ensures) .0) ((c .flag4 .ensures) .0)
+returns c =
+    let at-flag2 = c .before .before in
+    let at-flag = at-flag2 .before in
+    let at-args = at-flag .before in
+    law.four (at-args .args .t1) _ _ _ _ (search needs) ((at-flag .flag .ensures) .0) ((at-flag2 .flag2 .ensures) .0) ((c .before .flag3 .ensures) .0)
+    ((c .flag4 .ensures) .0)
 
 pub binary-of-spec : {M : Type 1} → statement M
 binary-of-spec =

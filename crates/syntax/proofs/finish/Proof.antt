@@ -9,25 +9,28 @@ finish-spec =
     (λ c κs. search needs)
     (λ c κs. search needs)
     (λ c.
-    law.finish-long _ _ _ _ _ (c .before .before .before .before .next .ensures) (c .before .before .if1 .taken) (c .before .if2 .taken) _
-    (c .refused-answer .ensures))
+    let at-if1 = c .before .before in
+    let at-next = at-if1 .before .before in
+    law.finish-long _ _ _ _ _ (at-next .next .ensures) (at-if1 .if1 .taken) (c .before .if2 .taken) _ (c .refused-answer .ensures))
     (λ c κs. search needs)
     (λ c κs. search needs)
     (λ c κs. search needs)
     (λ c.
     let at-header-of = c .before .before in
     let at-points-of = at-header-of .before in
-    let at-before = at-points-of .before .before .before in
-    let past = at-before .before in
-    let far = past .before .before .before .before .before .before .before in
-    let args = far .args in
-    let whole = law.points-whole (args .body) _ _ _ _ _ _ (at-before .redirect-range .ensures .0)
-    (at-before .redirect-range .ensures .1) (at-points-of .points-of .ensures) in
-    law.finish-read (args .text .now) (args .rs) (args .fs) _ _ (past .before .before .before .before .before .next .ensures)
-    (past .before .before .before .if1 .taken) (far .pre .0) (far .pre .1) (past .before .before .if2 .left) _ (at-header-of .header-of .ensures)
-    _ whole)
+    let at-redirect-range = at-points-of .before .before .before in
+    let at-if2 = at-redirect-range .before .before .before in
+    let at-if1 = at-if2 .before in
+    let at-next = at-if1 .before .before in
+    let at-start = at-next .before .before in
+    let args = at-start .args in
+    let whole = law.points-whole (args .body) _ _ _ _ _ _ (at-redirect-range .redirect-range .ensures .0)
+    (at-redirect-range .redirect-range .ensures .1) (at-points-of .points-of .ensures) in
+    law.finish-read (args .text .now) (args .rs) (args .fs) _ _ (at-next .next .ensures) (at-if1 .if1 .taken) (at-start .pre .0) (at-start .pre .1)
+    (at-if2 .if2 .left) _ (at-header-of .header-of .ensures) _ whole)
     (λ c κs. search needs)
     (λ c κs. search needs)
     (λ c.
-    law.finish-unfit _ _ _ _ _ (c .before .before .before .before .next .ensures) (c .before .before .if1 .left) _ (c .before .unfit-number .ensures)
-    _ (c .refused-answer2 .ensures)))
+    let at-if1 = c .before .before in
+    let at-next = at-if1 .before .before in
+    law.finish-unfit _ _ _ _ _ (at-next .next .ensures) (at-if1 .if1 .left) _ (c .before .unfit-number .ensures) _ (c .refused-answer2 .ensures)))

@@ -1,8 +1,6 @@
 use Rattle.syntax.proofs.Theory.Top as law
 use Rattle.syntax.proofs.flag.Statement.{statement}
 use Rattle.syntax.proofs.flag.Tie as tie
-use Rattle.syntax.proofs.flag.Reads as reads
-use Rattle.syntax.proofs.flag.Lts as lts
 
 returns : tie.Need-returns
 returns c = law.flag-one _ (c .if1 .taken)

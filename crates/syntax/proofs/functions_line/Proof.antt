@@ -2,10 +2,6 @@ use Rattle.syntax.proofs.Theory.Lists as law
 use borrow.Author.Needs.{needs}
 use Rattle.syntax.proofs.functions_line.Statement.{statement}
 use Rattle.syntax.proofs.functions_line.Tie as tie
-use Rattle.syntax.proofs.functions_line.Reads as reads
-use Rattle.syntax.proofs.functions_line.Lts as lts
-use Rattle.syntax.proofs.read_functions.Reads as read-functions-reads
-use Rattle.tokens.proofs.next.Reads as next-reads
 
 next-requires : tie.Need-next-requires
 next-requires c κs = search needs

@@ -10,4 +10,7 @@ header-of-spec =
     (λ c. search needs)
     (λ c. search needs)
     (λ c κs. search needs)
-    (λ c. law.head-held (c .before .before .before .before .args .rs) (c .before .before .before .before .args .fs) _ (c .binary-of .ensures)))
+    (λ c.
+    let at-arities = c .before .before .before in
+    let at-args = at-arities .before in
+    law.head-held (at-args .args .rs) (at-args .args .fs) _ (c .binary-of .ensures)))

@@ -4,9 +4,6 @@ use Rattle.syntax.proofs.Theory.Lists as law
 use borrow.Author.Needs.{needs}
 use Rattle.syntax.proofs.is_function_taken.Statement.{statement}
 use Rattle.syntax.proofs.is_function_taken.Tie as tie
-use Rattle.syntax.proofs.is_function_taken.Reads as reads
-use Rattle.syntax.proofs.is_function_taken.Lts as lts
-use Rattle.phrases.proofs.is_known.Reads as is-known-reads
 
 returns : tie.Need-returns
 returns c = law.taken-all _ _ _ _ (c .if1 .taken)
@@ -22,17 +19,22 @@ array-share-prefix-names c = search needs
 
 slice-aggregate-is-known : tie.Need-slice-aggregate-is-known
 slice-aggregate-is-known c =
-    let at-pre = c .before .before .before .before .before in
+    let at-if1 = c .before .before .before in
+    let at-pre = at-if1 .before .before in
     sym ((at-pre .pre) .1 .size)
 
 is-known-requires-2 : tie.Need-is-known-requires-2
 is-known-requires-2 c κs =
-    let at-pre = c .before .before .before .before .before in
+    let at-if1 = c .before .before .before in
+    let at-pre = at-if1 .before .before in
     omega (arith, (at-pre .pre) .1 .size, (at-pre .pre) .1 .few)
 
 returns-3 : tie.Need-returns-3
-returns-3 c = law.taken-last _ _ _ _ (c .before .before .before .before .if1 .left) _ (c .before .before .before .is-known .ensures)
-    (c .before .before .if2 .left) _ (c .is-known2 .ensures)
+returns-3 c =
+    let at-if2 = c .before .before in
+    let at-is-known = at-if2 .before in
+    let at-if1 = at-is-known .before in
+    law.taken-last _ _ _ _ (at-if1 .if1 .left) _ (at-is-known .is-known .ensures) (at-if2 .if2 .left) _ (c .is-known2 .ensures)
 
 pub is-function-taken-spec : {M : Type 1} → statement M
 is-function-taken-spec =

@@ -4,9 +4,6 @@ use Rattle.syntax.proofs.Theory.Lists.{taken-full, taken-known}
 use borrow.Author.Needs.{needs}
 use Rattle.syntax.proofs.is_register_taken.Statement.{statement}
 use Rattle.syntax.proofs.is_register_taken.Tie as tie
-use Rattle.syntax.proofs.is_register_taken.Reads as reads
-use Rattle.syntax.proofs.is_register_taken.Lts as lts
-use Rattle.phrases.proofs.is_known.Reads as is-known-reads
 
 returns : tie.Need-returns
 returns c = taken-full _ _ _ _ (c .if1 .taken)

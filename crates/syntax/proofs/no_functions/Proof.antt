@@ -1,8 +1,6 @@
 use Rattle.syntax.proofs.Theory.Lists as law
 use Rattle.syntax.proofs.no_functions.Statement.{statement}
 use Rattle.syntax.proofs.no_functions.Tie as tie
-use Rattle.syntax.proofs.no_functions.Reads as reads
-use Rattle.syntax.proofs.no_functions.Lts as lts
 
 returns : tie.Need-returns
 returns c = law.no-functions-held _ _

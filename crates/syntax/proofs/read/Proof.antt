@@ -3,13 +3,6 @@ use Rattle.syntax.proofs.Theory.Top as law
 use borrow.Author.Needs.{needs}
 use Rattle.syntax.proofs.read.Statement.{statement}
 use Rattle.syntax.proofs.read.Tie as tie
-use Rattle.syntax.proofs.read.Reads as reads
-use Rattle.syntax.proofs.read.Lts as lts
-use Rattle.phrases.proofs.expect.Reads as expect-reads
-use Rattle.syntax.proofs.read_registers.Reads as read-registers-reads
-use Rattle.syntax.proofs.read_rest.Reads as read-rest-reads
-use Rattle.syntax.proofs.refused_answer.Reads as refused-answer-reads
-use Rattle.syntax.proofs.refused_text.Reads as refused-text-reads
 
 refused-answer-requires : tie.Need-refused-answer-requires
 refused-answer-requires c κs = search needs
@@ -30,8 +23,10 @@ refused-text-requires : tie.Need-refused-text-requires
 refused-text-requires c κs = search needs
 
 returns-2 : tie.Need-returns-2
-returns-2 c = reads _ _ (law.read-vars _ (c .before .before .before .before .if1 .left) _ (c .before .before .before .expect .ensures) _ _
-    ((c .before .enum-told .given) .1) _ (c .refused-text .ensures))
+returns-2 c =
+    let at-expect = c .before .before .before in
+    let at-if1 = at-expect .before in
+    reads _ _ (law.read-vars _ (at-if1 .if1 .left) _ (at-expect .expect .ensures) _ _ ((c .before .enum-told .given) .1) _ (c .refused-text .ensures))
 
 read-registers-requires : tie.Need-read-registers-requires
 read-registers-requires c κs = search needs

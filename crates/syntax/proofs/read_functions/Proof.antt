@@ -7,15 +7,6 @@ use Rattle.syntax.proofs.Theory.Lists as law
 use borrow.Author.Needs.{needs}
 use Rattle.syntax.proofs.read_functions.Statement.{statement}
 use Rattle.syntax.proofs.read_functions.Tie as tie
-use Rattle.syntax.proofs.read_functions.Reads as reads
-use Rattle.syntax.proofs.read_functions.Lts as lts
-use Rattle.syntax.proofs.arity.Reads as arity-reads
-use Rattle.syntax.proofs.functions_end.Reads as functions-end-reads
-use Rattle.syntax.proofs.is_function_taken.Reads as is-function-taken-reads
-use Rattle.syntax.proofs.no_functions.Reads as no-functions-reads
-use Rattle.syntax.proofs.refused_functions.Reads as refused-functions-reads
-use Rattle.tokens.proofs.is_name.Reads as is-name-reads
-use Rattle.tokens.proofs.next.Reads as next-reads
 
 abbrev Inv-loop : tie.InvT-loop
 Inv-loop text regs from names₀ arities₀ count₀ at₀ names arities count at =
@@ -142,9 +133,12 @@ functions-end-requires : tie.Need-functions-end-requires Inv-loop μ-loop
 functions-end-requires c κs = ((c .before .before .before .loop .inv) .0, (c .before .before .before .loop .inv) .1)
 
 returns-3 : tie.Need-returns-3 Inv-loop μ-loop
-returns-3 c = law.functions-last _ _ _ _ _ _ _ ((c .before .before .before .before .loop .inv) .0) ((c .before .before .before .before .loop .inv) .1)
-    ((c .before .before .before .before .loop .inv) .2) _ (c .before .before .before .next .ensures) _ (c .before .before .is-name .ensures)
-    (c .before .if1 .left) _ (c .functions-end .ensures)
+returns-3 c =
+    let at-is-name = c .before .before in
+    let at-next = at-is-name .before in
+    let at-loop = at-next .before in
+    law.functions-last _ _ _ _ _ _ _ ((at-loop .loop .inv) .0) ((at-loop .loop .inv) .1) ((at-loop .loop .inv) .2) _ (at-next .next .ensures) _
+    (at-is-name .is-name .ensures) (c .before .if1 .left) _ (c .functions-end .ensures)
 
 pub read-functions-spec : {M : Type 1} → statement M
 read-functions-spec =

@@ -7,13 +7,6 @@ use Rattle.syntax.proofs.Theory.Lists as law
 use borrow.Author.Needs.{needs}
 use Rattle.syntax.proofs.read_registers.Statement.{statement}
 use Rattle.syntax.proofs.read_registers.Tie as tie
-use Rattle.syntax.proofs.read_registers.Reads as reads
-use Rattle.syntax.proofs.read_registers.Lts as lts
-use Rattle.syntax.proofs.is_register_taken.Reads as is-register-taken-reads
-use Rattle.syntax.proofs.no_registers.Reads as no-registers-reads
-use Rattle.syntax.proofs.registers_end.Reads as registers-end-reads
-use Rattle.tokens.proofs.is_name.Reads as is-name-reads
-use Rattle.tokens.proofs.next.Reads as next-reads
 
 abbrev Inv-loop : tie.InvT-loop
 Inv-loop text from names₀ count₀ at₀ names count at = NamesPadded 8 names count × RegistersLeft text from names count at
@@ -52,8 +45,10 @@ mul-names c = search needs
 
 array-write-names : tie.Need-array-write-names Inv-loop μ-loop
 array-write-names c =
-    let at-loop = c .before .before .before .before .before in
-    let h = law.not-full _ 8 _ _ _ (c .before .is-register-taken .ensures) (c .if2 .left) ((at-loop .loop .inv) .0 .few) in omega arith
+    let at-if1 = c .before .before in
+    let at-loop = at-if1 .before .before .before in
+    let h = law.not-full _ 8 _ _ _ (c .before .is-register-taken .ensures) (c .if2 .left) ((at-loop .loop .inv) .0 .few) in
+    omega arith
 
 add-count : tie.Need-add-count Inv-loop μ-loop
 add-count c = search needs
@@ -80,8 +75,12 @@ registers-end-requires : tie.Need-registers-end-requires Inv-loop μ-loop
 registers-end-requires c κs = (c .before .before .before .loop .inv) .0
 
 returns-2 : tie.Need-returns-2 Inv-loop μ-loop
-returns-2 c = law.registers-last _ _ _ _ _ ((c .before .before .before .before .loop .inv) .0) ((c .before .before .before .before .loop .inv) .1) _
-    (c .before .before .before .next .ensures) _ (c .before .before .is-name .ensures) (c .before .if1 .left) _ (c .registers-end .ensures)
+returns-2 c =
+    let at-is-name = c .before .before in
+    let at-next = at-is-name .before in
+    let at-loop = at-next .before in
+    law.registers-last _ _ _ _ _ ((at-loop .loop .inv) .0) ((at-loop .loop .inv) .1) _ (at-next .next .ensures) _ (at-is-name .is-name .ensures)
+    (c .before .if1 .left) _ (c .registers-end .ensures)
 
 pub read-registers-spec : {M : Type 1} → statement M
 read-registers-spec =

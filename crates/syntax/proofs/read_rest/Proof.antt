@@ -3,11 +3,6 @@ use Rattle.syntax.proofs.Theory.Top as law
 use borrow.Author.Needs.{needs}
 use Rattle.syntax.proofs.read_rest.Statement.{statement}
 use Rattle.syntax.proofs.read_rest.Tie as tie
-use Rattle.syntax.proofs.read_rest.Reads as reads
-use Rattle.syntax.proofs.read_rest.Lts as lts
-use Rattle.syntax.proofs.functions_line.Reads as functions-line-reads
-use Rattle.syntax.proofs.read_body.Reads as read-body-reads
-use Rattle.syntax.proofs.refused_answer.Reads as refused-answer-reads
 
 array-share-prefix-regs : tie.Need-array-share-prefix-regs
 array-share-prefix-regs c = kept-within _ _ _ (c .before .before .pre)
@@ -20,14 +15,16 @@ functions-line-requires c κs = search needs
 
 read-body-requires : tie.Need-read-body-requires
 read-body-requires c κs =
-    let at-args = c .before .before .before .before .before in
+    let at-regs2 = c .before .before in
+    let at-start = at-regs2 .before .before .before in
     let x =
-    law.line-kept (at-args .args .text .now) (at-args .args .rs) _ (c .before .functions-line .ensures) (c .if1 .taken) in ((at-args .pre), x)
+    law.line-kept (at-start .args .text .now) (at-start .args .rs) _ (c .before .functions-line .ensures) (c .if1 .taken) in ((at-start .pre), x)
 
 returns : tie.Need-returns
 returns c =
     let at-functions-line = c .before .before in
-    let at-args = at-functions-line .before .before .before .before in
+    let at-regs2 = at-functions-line .before in
+    let at-args = at-regs2 .before .before .before in
     law.rest-read (at-args .args .text .now) (at-args .args .rs) _
     (at-functions-line .functions-line .ensures) (c .before .if1 .taken) _ (c .read-body .ensures)
 
@@ -37,7 +34,8 @@ refused-answer-requires c κs = search needs
 returns-2 : tie.Need-returns-2
 returns-2 c =
     let at-functions-line = c .before .before in
-    let at-args = at-functions-line .before .before .before .before in
+    let at-regs2 = at-functions-line .before in
+    let at-args = at-regs2 .before .before .before in
     law.rest-refused (at-args .args .text .now) (at-args .args .rs) _ (at-functions-line .functions-line .ensures) (c .before .if1 .left) _
     (c .refused-answer .ensures)
 

@@ -2,9 +2,6 @@ use Rattle.syntax.proofs.Theory.Top as law
 use borrow.Author.Needs.{needs}
 use Rattle.syntax.proofs.refused_answer.Statement.{statement}
 use Rattle.syntax.proofs.refused_answer.Tie as tie
-use Rattle.syntax.proofs.refused_answer.Reads as reads
-use Rattle.syntax.proofs.refused_answer.Lts as lts
-use Rattle.syntax.proofs.no_macro.Reads as no-macro-reads
 
 no-macro-requires : tie.Need-no-macro-requires
 no-macro-requires c κs = search needs

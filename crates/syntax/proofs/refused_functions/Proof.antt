@@ -3,9 +3,6 @@ use Rattle.syntax.proofs.Theory.Lists as law
 use borrow.Author.Needs.{needs}
 use Rattle.syntax.proofs.refused_functions.Statement.{statement}
 use Rattle.syntax.proofs.refused_functions.Tie as tie
-use Rattle.syntax.proofs.refused_functions.Reads as reads
-use Rattle.syntax.proofs.refused_functions.Lts as lts
-use Rattle.syntax.proofs.no_functions.Reads as no-functions-reads
 
 enum-told : tie.Need-enum-told
 enum-told c = search needs

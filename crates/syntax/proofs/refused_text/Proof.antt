@@ -3,9 +3,6 @@ use Rattle.syntax.proofs.Theory.Lists as law
 use borrow.Author.Needs.{needs}
 use Rattle.syntax.proofs.refused_text.Statement.{statement}
 use Rattle.syntax.proofs.refused_text.Tie as tie
-use Rattle.syntax.proofs.refused_text.Reads as reads
-use Rattle.syntax.proofs.refused_text.Lts as lts
-use Rattle.syntax.proofs.refused_answer.Reads as refused-answer-reads
 
 enum-told : tie.Need-enum-told
 enum-told c = search needs

@@ -1,8 +1,6 @@
 use Rattle.base.proofs.Theory.Choice.{decide}
 use Rattle.syntax.proofs.unfit_number.Statement.{statement}
 use Rattle.syntax.proofs.unfit_number.Tie as tie
-use Rattle.syntax.proofs.unfit_number.Reads as reads
-use Rattle.syntax.proofs.unfit_number.Lts as lts
 
 returns : tie.Need-returns
 returns c = search (decide)
