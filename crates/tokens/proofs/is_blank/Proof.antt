@@ -1,8 +1,6 @@
 use Rattle.base.proofs.Theory.Choice.{decide}
 use Rattle.tokens.proofs.is_blank.Statement.{statement}
 use Rattle.tokens.proofs.is_blank.Tie as tie
-use Rattle.tokens.proofs.is_blank.Reads as reads
-use Rattle.tokens.proofs.is_blank.Lts as lts
 
 -- src/lib.rt:21:9
 returns : tie.Need-returns

@@ -1,8 +1,6 @@
 use Rattle.base.proofs.Theory.Choice.{decide}
 use Rattle.tokens.proofs.is_digit.Statement.{statement}
 use Rattle.tokens.proofs.is_digit.Tie as tie
-use Rattle.tokens.proofs.is_digit.Reads as reads
-use Rattle.tokens.proofs.is_digit.Lts as lts
 
 -- src/lib.rt:45:9
 returns : tie.Need-returns

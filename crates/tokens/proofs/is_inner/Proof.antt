@@ -1,10 +1,6 @@
 use borrow.Author.Needs.{needs}
 use Rattle.tokens.proofs.is_inner.Statement.{statement}
 use Rattle.tokens.proofs.is_inner.Tie as tie
-use Rattle.tokens.proofs.is_inner.Reads as reads
-use Rattle.tokens.proofs.is_inner.Lts as lts
-use Rattle.tokens.proofs.is_digit.Reads as is-digit-reads
-use Rattle.tokens.proofs.is_lower.Reads as is-lower-reads
 
 -- src/lib.rt:53:8
 is-lower-requires : tie.Need-is-lower-requires

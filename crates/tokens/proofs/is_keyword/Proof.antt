@@ -1,8 +1,6 @@
 use Rattle.base.proofs.Theory.Choice.{decide}
 use Rattle.tokens.proofs.is_keyword.Statement.{statement}
 use Rattle.tokens.proofs.is_keyword.Tie as tie
-use Rattle.tokens.proofs.is_keyword.Reads as reads
-use Rattle.tokens.proofs.is_keyword.Lts as lts
 
 returns : tie.Need-returns
 returns c = search (decide)

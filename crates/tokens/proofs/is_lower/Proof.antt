@@ -1,8 +1,6 @@
 use Rattle.base.proofs.Theory.Choice.{decide}
 use Rattle.tokens.proofs.is_lower.Statement.{statement}
 use Rattle.tokens.proofs.is_lower.Tie as tie
-use Rattle.tokens.proofs.is_lower.Reads as reads
-use Rattle.tokens.proofs.is_lower.Lts as lts
 
 -- src/lib.rt:36:9
 returns : tie.Need-returns

@@ -1,8 +1,6 @@
 use Rattle.base.proofs.Theory.Choice.{decide}
 use Rattle.tokens.proofs.is_mark.Statement.{statement}
 use Rattle.tokens.proofs.is_mark.Tie as tie
-use Rattle.tokens.proofs.is_mark.Reads as reads
-use Rattle.tokens.proofs.is_mark.Lts as lts
 
 -- src/lib.rt:21:9
 returns : tie.Need-returns

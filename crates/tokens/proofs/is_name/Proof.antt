@@ -2,9 +2,6 @@ use Rattle.tokens.proofs.Theory.WordsLaws.{name-below, name-above, name
 use borrow.Author.Needs.{needs}
 use Rattle.tokens.proofs.is_name.Statement.{statement}
 use Rattle.tokens.proofs.is_name.Tie as tie
-use Rattle.tokens.proofs.is_name.Reads as reads
-use Rattle.tokens.proofs.is_name.Lts as lts
-use Rattle.tokens.proofs.is_keyword.Reads as is-keyword-reads
 
 returns : tie.Need-returns
 returns c = name-below _ (c .if1 .taken)

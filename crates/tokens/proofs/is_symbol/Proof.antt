@@ -1,8 +1,6 @@
 use Rattle.base.proofs.Theory.Choice.{decide}
 use Rattle.tokens.proofs.is_symbol.Statement.{statement}
 use Rattle.tokens.proofs.is_symbol.Tie as tie
-use Rattle.tokens.proofs.is_symbol.Reads as reads
-use Rattle.tokens.proofs.is_symbol.Lts as lts
 
 -- src/lib.rt:66:9
 returns : tie.Need-returns

@@ -4,9 +4,6 @@ use borrow.Author.Needs.{needs}
 use Rattle.tokens.proofs.Theory.BytesLaws.{Keyed, key-none, key-fits, key-turn, key-done}
 use Rattle.tokens.proofs.key_of.Statement.{statement}
 use Rattle.tokens.proofs.key_of.Tie as tie
-use Rattle.tokens.proofs.key_of.Reads as reads
-use Rattle.tokens.proofs.key_of.Lts as lts
-use Rattle.tokens.proofs.wide.Reads as wide-reads
 
 abbrev Inv-loop : tie.InvT-loop
 Inv-loop text start end v₀ at₀ v at = Keyed text start end at v

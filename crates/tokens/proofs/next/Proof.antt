@@ -3,11 +3,6 @@ use Rattle.tokens.proofs.Theory.TokensLaws.{token-end, token-wrong, tok
 use borrow.Author.Needs.{needs}
 use Rattle.tokens.proofs.next.Statement.{statement}
 use Rattle.tokens.proofs.next.Tie as tie
-use Rattle.tokens.proofs.next.Reads as reads
-use Rattle.tokens.proofs.next.Lts as lts
-use Rattle.tokens.proofs.key_of.Reads as key-of-reads
-use Rattle.tokens.proofs.skip_gap.Reads as skip-gap-reads
-use Rattle.tokens.proofs.width_at.Reads as width-at-reads
 
 skip-gap-requires : tie.Need-skip-gap-requires
 skip-gap-requires c κs = search needs
@@ -28,8 +23,12 @@ key-of-requires : tie.Need-key-of-requires
 key-of-requires c κs = let h = token-within _ _ _ (c .before .width-at .ensures) (c .before .before .if1 .left) in (omega arith, h .0, omega arith)
 
 returns-3 : tie.Need-returns-3
-returns-3 c = token-read _ _ _ _ (c .before .before .before .before .skip-gap .ensures) (c .before .before .before .if1 .left)
-    (c .before .before .width-at .ensures) (c .before .if2 .left) _ (c .key-of .ensures)
+returns-3 c =
+    let at-width-at = c .before .before in
+    let at-if1 = at-width-at .before in
+    let at-skip-gap = at-if1 .before in
+    token-read _ _ _ _ (at-skip-gap .skip-gap .ensures) (at-if1 .if1 .left) (at-width-at .width-at .ensures) (c .before .if2 .left) _
+    (c .key-of .ensures)
 
 pub next-spec : {M : Type 1} → statement M
 next-spec =

@@ -7,9 +7,6 @@ use Rattle.tokens.specs.Bytes.{nameLength}
 use Rattle.tokens.proofs.Theory.BytesLaws.{run-ended, run-halted, run-turn}
 use Rattle.tokens.proofs.run_end.Statement.{statement}
 use Rattle.tokens.proofs.run_end.Tie as tie
-use Rattle.tokens.proofs.run_end.Reads as reads
-use Rattle.tokens.proofs.run_end.Lts as lts
-use Rattle.tokens.proofs.is_inner.Reads as is-inner-reads
 
 abbrev Inv-loop : tie.InvT-loop
 Inv-loop text from at₀ at = from + nameLength (drop from text) ≡ at + nameLength (drop at text)
@@ -27,8 +24,10 @@ is-inner-requires : tie.Need-is-inner-requires Inv-loop μ-loop
 is-inner-requires c κs = search needs
 
 returns : tie.Need-returns Inv-loop μ-loop
-returns c = run-halted _ _ _ _ (c .before .before .before .loop-test .taken) (c .before .is-inner .ensures) (c .if1 .left)
-    (c .before .before .before .before .loop .inv)
+returns c =
+    let at-loop-test = c .before .before .before in
+    let at-loop = at-loop-test .before in
+    run-halted _ _ _ _ (at-loop-test .loop-test .taken) (c .before .is-inner .ensures) (c .if1 .left) (at-loop .loop .inv)
 
 add-at : tie.Need-add-at Inv-loop μ-loop
 add-at c = search needs
@@ -37,8 +36,10 @@ loop-less : tie.Need-loop-less Inv-loop μ-loop
 loop-less c = search needs
 
 loop-again : tie.Need-loop-again Inv-loop μ-loop
-loop-again c = run-turn _ _ _ _ (c .before .before .before .loop-test .taken) (c .before .is-inner .ensures) (c .if1 .taken)
-    (c .before .before .before .before .loop .inv)
+loop-again c =
+    let at-loop-test = c .before .before .before in
+    let at-loop = at-loop-test .before in
+    run-turn _ _ _ _ (at-loop-test .loop-test .taken) (c .before .is-inner .ensures) (c .if1 .taken) (at-loop .loop .inv)
 
 returns-2 : tie.Need-returns-2 Inv-loop μ-loop
 returns-2 c = run-ended _ _ _ (c .loop-test .left) (c .before .loop .inv)

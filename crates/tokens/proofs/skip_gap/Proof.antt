@@ -4,9 +4,6 @@ use borrow.Author.Needs.{needs}
 use Rattle.tokens.proofs.Theory.BytesLaws.{Gap, gap-ended, gap-halted, gap-turn, gap-turn-hash, gap-turn-in}
 use Rattle.tokens.proofs.skip_gap.Statement.{statement}
 use Rattle.tokens.proofs.skip_gap.Tie as tie
-use Rattle.tokens.proofs.skip_gap.Reads as reads
-use Rattle.tokens.proofs.skip_gap.Lts as lts
-use Rattle.tokens.proofs.is_blank.Reads as is-blank-reads
 
 abbrev Inv-loop : tie.InvT-loop
 Inv-loop text from at₀ comment₀ at comment = Gap text from at comment
@@ -44,8 +41,10 @@ loop-less-2 c = search needs
 
 -- src/lib.rt:107:5
 loop-again-2 : tie.Need-loop-again-2 Inv-loop μ-loop
-loop-again-2 c = gap-turn-hash _ _ _ _ (c .before .before .before .loop-test .taken) (c .before .if1 .left) (c .if2 .taken)
-    (c .before .before .before .before .loop .inv)
+loop-again-2 c =
+    let at-loop-test = c .before .before .before in
+    let at-loop = at-loop-test .before in
+    gap-turn-hash _ _ _ _ (at-loop-test .loop-test .taken) (c .before .if1 .left) (c .if2 .taken) (at-loop .loop .inv)
 
 -- src/lib.rt:119:13
 is-blank-requires : tie.Need-is-blank-requires Inv-loop μ-loop

@@ -2,12 +2,6 @@ use Rattle.tokens.proofs.Theory.BytesLaws.{width-name, width-long, widt
 use borrow.Author.Needs.{needs}
 use Rattle.tokens.proofs.width_at.Statement.{statement}
 use Rattle.tokens.proofs.width_at.Tie as tie
-use Rattle.tokens.proofs.width_at.Reads as reads
-use Rattle.tokens.proofs.width_at.Lts as lts
-use Rattle.tokens.proofs.is_lower.Reads as is-lower-reads
-use Rattle.tokens.proofs.is_mark.Reads as is-mark-reads
-use Rattle.tokens.proofs.is_symbol.Reads as is-symbol-reads
-use Rattle.tokens.proofs.run_end.Reads as run-end-reads
 
 shared-slice-read-b : tie.Need-shared-slice-read-b
 shared-slice-read-b c = search needs
