@@ -17,10 +17,13 @@ decode-header-spec =
     (λ c κs. search needs)
     (λ c. search needs)
     (λ c. search needs)
-    (λ c. let x = c .before .before .before .named-header .result in
-    rw (← c .before .before .before .named-header .ensures)
-    (reread-none (headerTest firstEdition x) x (headerWord firstEdition x) (c .before .before .before .before .args .word) 3
-    (sym (c .before .before .encode-header .ensures) ∙ ap headerWordAnswer (c .enum-told .given .1))))
+    (λ c.
+    let at-encode-header = c .before .before in
+    let at-named-header = at-encode-header .before in
+    let at-args = at-named-header .before in
+    let x = at-named-header .named-header .result in
+    rw (← at-named-header .named-header .ensures) (reread-none (headerTest firstEdition x) x (headerWord firstEdition x) (at-args .args .word) 3
+    (sym (at-encode-header .encode-header .ensures) ∙ ap headerWordAnswer (c .enum-told .given .1))))
     (λ c.
     let at-encoded = c .before .before in
     let at-encode-header = at-encoded .before .before in

@@ -15,36 +15,72 @@ decode-letter-spec = tie.close (tie.spec
     (λ c κs. search needs)
     (λ c. let a = c .before .before .args in misfitting (a .h) (a .word) (omega arith) _ (c .before .header-fits .ensures) (c .if1 .taken))
     (λ c.
-    let at-args = c .before .before .before .before .before .before in
-    let a = at-args .args in uncounted (a .h) (a .word) (omega arith) (c .if2 .taken))
-    (λ c. let e = c .before .before .before in let f = e .before .before .before .before in let a = f .before .before .args in
-    refuse (a .h) (a .word) (omega arith) λ p. omega (arith, p .function (c .before .before .if3 .taken)))
+    let at-struct-known = c .before .before .before in
+    let a = at-struct-known .before .before .before .args in
+    uncounted (a .h) (a .word) (omega arith) (c .if2 .taken))
+    (λ c.
+    let at-if3 = c .before .before in
+    let at-if2 = at-if3 .before in
+    let at-struct-known = at-if2 .before .before .before in
+    let a = at-struct-known .before .before .before .args in
+    refuse (a .h) (a .word) (omega arith) λ p. omega (arith, p .function (at-if3 .if3 .taken)))
     (λ c κs. search needs)
-    (λ c. let e = c .before .before .before .before .before in let f = e .before .before .before .before in let a = f .before .before .args in
-    unused (a .h) (a .word) (omega arith) (c .before .before .before .before .if3 .taken) _ (c .before .takes-two .ensures) (c .if5 .taken))
+    (λ c.
+    let at-takes-two = c .before in
+    let at-if3 = at-takes-two .before .before .before in
+    let at-if2 = at-if3 .before in
+    let at-struct-known = at-if2 .before .before .before in
+    let a = at-struct-known .before .before .before .args in
+    unused (a .h) (a .word) (omega arith) (at-if3 .if3 .taken) _ (at-takes-two .takes-two .ensures) (c .if5 .taken))
     (λ c κs. search needs)
     (λ c κs. search needs)
     (λ c.
     let at-if5 = c .before .before in
     let at-takes-two = at-if5 .before in
-    let at-before = at-takes-two .before .before .before in
-    let e = at-before .before in let f = e .before .before .before .before in let a = f .before .before .args in
-    c .application .ensures ∙ read-application (a .h) (a .word) (omega arith)
-    (counted (a .h) (a .word) (omega arith) _ (f .before .header-fits .ensures) (f .if1 .left) (e .if2 .left))
-    (at-before .if3 .taken) (omega arith) _ (at-takes-two .takes-two .ensures) (at-if5 .if5 .left) _ (c .before .by-arity .ensures))
-    (λ c. let e = c .before .before in let f = e .before .before .before .before in let a = f .before .before .args in
+    let at-if3 = at-takes-two .before .before .before in
+    let at-if2 = at-if3 .before in
+    let at-struct-known3 = at-if2 .before in
+    let at-if1 = at-struct-known3 .before .before .before in
+    let at-header-fits = at-if1 .before in
+    let a = at-header-fits .before .args in
+    c .application .ensures ∙ read-application (a .h) (a .word) (omega arith) (counted (a .h) (a .word) (omega arith) _
+    (at-header-fits .header-fits .ensures) (at-if1 .if1 .left) (at-if2 .if2 .left)) (at-if3 .if3 .taken) (omega arith) _
+    (at-takes-two .takes-two .ensures) (at-if5 .if5 .left) _ (c .before .by-arity .ensures))
+    (λ c.
+    let at-if2 = c .before .before in
+    let at-struct-known = at-if2 .before .before .before in
+    let a = at-struct-known .before .before .before .args in
     refuse (a .h) (a .word) (omega arith) λ p. omega (arith, p .plain (c .before .if3 .left)))
-    (λ c. let e = c .before .before .before .before in let f = e .before .before .before .before in let a = f .before .before .args in
-    refuse (a .h) (a .word) (omega arith) λ p. omega (arith, p .copied (c .before .if7 .taken)))
+    (λ c.
+    let at-if7 = c .before in
+    let at-if2 = at-if7 .before .before .before in
+    let at-struct-known = at-if2 .before .before .before in
+    let a = at-struct-known .before .before .before .args in
+    refuse (a .h) (a .word) (omega arith) λ p. omega (arith, p .copied (at-if7 .if7 .taken)))
     (λ c κs. search needs)
-    (λ c. let e = c .before .before .before .before .before in let f = e .before .before .before .before in let a = f .before .before .args in
-    c .copy .ensures ∙ read-copy (a .h) (a .word) (omega arith)
-    (counted (a .h) (a .word) (omega arith) _ (f .before .header-fits .ensures) (f .if1 .left) (e .if2 .left))
-    (omega arith) (omega arith) (omega arith))
-    (λ c. let e = c .before .before .before .before in let f = e .before .before .before .before in let a = f .before .before .args in
-    refuse (a .h) (a .word) (omega arith) λ p. omega (arith, p .tested (c .before .if7 .left) (c .before .before .before .if3 .left)))
+    (λ c.
+    let at-if7 = c .before .before in
+    let at-if2 = at-if7 .before .before .before in
+    let at-struct-known3 = at-if2 .before in
+    let at-if1 = at-struct-known3 .before .before .before in
+    let at-header-fits = at-if1 .before in
+    let a = at-header-fits .before .args in
+    c .copy .ensures ∙ read-copy (a .h) (a .word) (omega arith) (counted (a .h) (a .word) (omega arith) _ (at-header-fits .header-fits .ensures)
+    (at-if1 .if1 .left) (at-if2 .if2 .left)) (omega arith) (omega arith) (omega arith))
+    (λ c.
+    let at-if3 = c .before .before .before in
+    let at-if2 = at-if3 .before in
+    let at-struct-known = at-if2 .before .before .before in
+    let a = at-struct-known .before .before .before .args in
+    refuse (a .h) (a .word) (omega arith) λ p. omega (arith, p .tested (c .before .if7 .left) (at-if3 .if3 .left)))
     (λ c κs. search needs)
-    (λ c. let e = c .before .before .before .before .before in let f = e .before .before .before .before in let a = f .before .before .args in
-    c .test .ensures ∙ read-test (a .h) (a .word) (omega arith)
-    (counted (a .h) (a .word) (omega arith) _ (f .before .header-fits .ensures) (f .if1 .left) (e .if2 .left))
-    (c .before .before .before .before .if3 .left) (c .before .before .if7 .left) (omega arith) (omega arith)))
+    (λ c.
+    let at-if7 = c .before .before in
+    let at-if3 = at-if7 .before .before in
+    let at-if2 = at-if3 .before in
+    let at-struct-known3 = at-if2 .before in
+    let at-if1 = at-struct-known3 .before .before .before in
+    let at-header-fits = at-if1 .before in
+    let a = at-header-fits .before .args in
+    c .test .ensures ∙ read-test (a .h) (a .word) (omega arith) (counted (a .h) (a .word) (omega arith) _ (at-header-fits .header-fits .ensures)
+    (at-if1 .if1 .left) (at-if2 .if2 .left)) (at-if3 .if3 .left) (at-if7 .if7 .left) (omega arith) (omega arith)))

@@ -16,9 +16,10 @@ letter-word-spec =
     (c .before .before .before .pre))
     (λ c. search needs)
     (λ c κs. search needs)
-    (λ c κs. rw (c .by-arity .ensures)
-    (subst (λ l. Sized (firstEdition .letter) (letterFields (c .before .before .before .before .args .h) l)) (c .before .before .l2 .given .1)
-    (c .before .before .before .before .pre)))
+    (λ c κs.
+    let at-l2 = c .before .before in
+    let at-start = at-l2 .before .before in
+    rw (c .by-arity .ensures) (subst (λ l. Sized (firstEdition .letter) (letterFields (at-start .args .h) l)) (at-l2 .l2 .given .1) (at-start .pre)))
     (λ c. search needs)
     (λ c κs. subst (λ l. Sized (firstEdition .letter) (letterFields (c .before .before .before .args .h) l)) (c .before .l3 .given .1)
     (c .before .before .before .pre))
