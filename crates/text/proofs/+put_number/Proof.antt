@@ -30,11 +30,13 @@ put-number-below t =
 put-number-returns-2 : (t : ℕ) → put-number-lts.Need-returns-2 (put-byte-reads.Asked, put-byte-reads.Learnt, put-number-below t, put-number.Post)
     (put-number-at t) put-number.Post
 put-number-returns-2 t c =
-    let a = c .before .before .before .before .before .before .before .before .before .before in
-    let n : ℕ = a .args .number in
-    appended-same (sym (numeral-more n (c .before .before .before .before .before .before .before .before .if1 .left)))
-    (appended-then (numeral (n / 10)) (digitByte (n % 10) ∷ []) (c .before .before .before .before .before .before .put-number .ensures)
-    (c .before .before .put-byte2 .ensures))
+    let at-put-byte2 = c .before .before in
+    let at-put-number = at-put-byte2 .before .before .before .before in
+    let at-if1 = at-put-number .before .before in
+    let at-args = at-if1 .before .before in
+    let n : ℕ = at-args .args .number in
+    appended-same (sym (numeral-more n (at-if1 .if1 .left))) (appended-then (numeral (n / 10)) (digitByte (n % 10) ∷ [])
+    (at-put-number .put-number .ensures) (at-put-byte2 .put-byte2 .ensures))
 
 pub +put-number-spec : {M : Type 1} → statement M
 +put-number-spec = close μ-put-number λ t. put-number-lts.spec (

@@ -42,5 +42,6 @@ put-line-spec =
     (at-put-part .put-part .ensures))
     (λ c. left-length (c .before .loop .inv))
     (λ c.
-    let a = c .before .before .before .before in
-    left-none (left-same (filled-none (a .args .template .now) (a .args .fields) (c .before .loop .i) (c .loop-test .left)) (c .before .loop .inv))))
+    let at-loop = c .before in
+    let at-args = at-loop .before .before .before in
+    left-none (left-same (filled-none (at-args .args .template .now) (at-args .args .fields) (at-loop .loop .i) (c .loop-test .left)) (at-loop .loop .inv))))

@@ -21,9 +21,10 @@ put-name-spec =
     (λ c. left-all _ _ _)
     (λ c. search needs)
     (λ c κs.
-    let l = c .before .before .loop in
-    left-room (l .rest % 256 ∷ []) (nameText (l .rest / 256)) (c .before .before .before .before .pre)
-    (left-same (name-next (l .rest) (c .before .loop-test .taken)) (l .inv)))
+    let at-loop = c .before .before in
+    let at-pre = at-loop .before .before in
+    let l = at-loop .loop in
+    left-room (l .rest % 256 ∷ []) (nameText (l .rest / 256)) (at-pre .pre) (left-same (name-next (l .rest) (c .before .loop-test .taken)) (l .inv)))
     (λ c. search needs)
     (λ c.
     let at-put-byte = c .before .before in

@@ -22,8 +22,9 @@ put-part-spec =
     (λ c. search needs)
     (λ c. search needs)
     (λ c κs.
-    let a = c .before .before .before .before in
-    room-same (part-name (a .args .byte) (a .args .t4) (c .before .before .if1 .left) (c .before .if2 .taken)) (a .pre))
+    let at-if1 = c .before .before in
+    let at-start = at-if1 .before .before in
+    room-same (part-name (at-start .args .byte) (at-start .args .t4) (at-if1 .if1 .left) (c .before .if2 .taken)) (at-start .pre))
     (λ c. appended-length (c .before .before .put-name .ensures))
     (λ c.
     let at-put-name = c .before .before in
@@ -36,8 +37,9 @@ put-part-spec =
     (λ c. search needs)
     (λ c. search needs)
     (λ c κs.
-    let a = c .before .before .before .before .before in
-    room-same (part-number (a .args .byte) (a .args .t4) (c .before .before .if2 .left) (c .before .if3 .taken)) (a .pre))
+    let at-if2 = c .before .before in
+    let at-start = at-if2 .before .before .before in
+    room-same (part-number (at-start .args .byte) (at-start .args .t4) (at-if2 .if2 .left) (c .before .if3 .taken)) (at-start .pre))
     (λ c. appended-length (c .before .before .put-number .ensures))
     (λ c.
     let at-put-number = c .before .before in
@@ -47,8 +49,9 @@ put-part-spec =
     let a = at-before .before in
     appended-same (sym (part-number (a .args .byte) (a .args .t4) (at-if2 .if2 .left) (at-if3 .if3 .taken))) (at-put-number .put-number .ensures))
     (λ c κs.
-    let a = c .before .before .before .before .before in
-    room-same (part-high (a .args .byte) (a .args .t4) (c .before .if3 .left)) (a .pre))
+    let at-if2 = c .before .before in
+    let at-start = at-if2 .before .before .before in
+    room-same (part-high (at-start .args .byte) (at-start .args .t4) (c .before .if3 .left)) (at-start .pre))
     (λ c. appended-length (c .before .before .put-byte2 .ensures))
     (λ c.
     let at-put-byte2 = c .before .before in
