@@ -24,8 +24,9 @@ letter-at-spec =
     (λ c κs. search needs)
     (λ c κs. search needs)
     (λ c.
-    let at-args = c .before .before .before .before .before .before .before in
-    let a = at-args .args in let m : 2 * (a .k + 1) ≡ 2 * a .k + 2 = omega arith in
-    rw (le-leb (2 * (a .k + 2)) (length (a .bytes .now)) (omega arith), m)
-    (unit-decoded (a .h) (a .bytes .now) (2 * a .k + 2) (c .before .word .result) (c .decode-letter .result) (omega arith) (c .before .word .ensures)
-    (c .decode-letter .ensures))))
+    let at-word = c .before in
+    let at-if2 = at-word .before .before .before in
+    let a = at-if2 .before .before .before .args in
+    let m : 2 * (a .k + 1) ≡ 2 * a .k + 2 = omega arith in
+    rw (le-leb (2 * (a .k + 2)) (length (a .bytes .now)) (omega arith), m) (unit-decoded (a .h) (a .bytes .now) (2 * a .k + 2) (at-word .word .result)
+    (c .decode-letter .result) (omega arith) (at-word .word .ensures) (c .decode-letter .ensures))))

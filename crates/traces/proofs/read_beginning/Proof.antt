@@ -24,8 +24,8 @@ read-beginning-spec =
     (λ c.
     let at-decode-header = c .before .before in
     let at-word = at-decode-header .before in
-    let at-args = at-word .before .before .before .before .before .before in
-    let s = at-args .args .bytes .now in
+    let at-if2 = at-word .before .before .before in
+    let s = at-if2 .before .before .before .args .bytes .now in
     rw (
       le-ltb (length s) 2 (omega arith),
       eq-eqb (length s % 2) 0 (omega arith),
@@ -37,8 +37,8 @@ read-beginning-spec =
     (λ c.
     let at-decode-header = c .before .before .before in
     let at-word = at-decode-header .before in
-    let at-args = at-word .before .before .before .before .before .before in
-    let s = at-args .args .bytes .now in
+    let at-if2 = at-word .before .before .before in
+    let s = at-if2 .before .before .before .args .bytes .now in
     rw (
       le-ltb (length s) 2 (omega arith),
       eq-eqb (length s % 2) 0 (omega arith),

@@ -41,9 +41,9 @@ read-letters-spec =
     (λ c.
     let at-decode-letter = c .before .before in
     let at-word = at-decode-letter .before in
-    let at-loop = at-word .before .before .before .before in
-    let at-args = at-loop .before .before in
-    let a = at-args .args in
+    let at-loop-test = at-word .before .before .before in
+    let at-loop = at-loop-test .before in
+    let a = at-loop .before .before .args in
     let l = at-loop .loop in
     sym (count-bad (letterIn firstEdition (a .h)) (a .h) 2 (length (a .bytes .now) / 2 - 1) (a .bytes .now) (l .n) (l .at) 4 0 (omega arith)
     (unit-bad (a .h) (a .bytes .now) (l .at) (at-word .word .result) (at-decode-letter .decode-letter .result) (omega arith)
@@ -54,9 +54,9 @@ read-letters-spec =
     (λ c.
     let at-decode-letter = c .before .before .before in
     let at-word = at-decode-letter .before in
-    let at-loop = at-word .before .before .before .before in
-    let at-args = at-loop .before .before in
-    let a = at-args .args in
+    let at-loop-test = at-word .before .before .before in
+    let at-loop = at-loop-test .before in
+    let a = at-loop .before .before .args in
     let l = at-loop .loop in (
       search needs,
       search needs,

@@ -47,9 +47,9 @@ put-unpacked-spec =
     (λ c.
     let at-decode-letter = c .before .before in
     let at-word = at-decode-letter .before in
-    let at-loop = at-word .before .before .before .before in
-    let at-args = at-loop .before .before .before in
-    let a = at-args .args in
+    let at-loop-test = at-word .before .before .before in
+    let at-loop = at-loop-test .before in
+    let a = at-loop .before .before .before .args in
     let l = at-loop .loop in
     sym (put-bad (putPlain (a .h)) 5 2 (letterIn firstEdition (a .h)) (length (a .bytes .now) / 2 - 1) (a .bytes .now) (l .to / 5) (l .at) (l .to) 4 0
     (l .out) (omega arith) (unit-bad (a .h) (a .bytes .now) (l .at) (at-word .word .result) (at-decode-letter .decode-letter .result)
@@ -63,9 +63,9 @@ put-unpacked-spec =
     let at-decoded = at-put-fields .before .before .before in
     let at-decode-letter = at-decoded .before .before in
     let at-word = at-decode-letter .before in
-    let at-loop = at-word .before .before .before .before in
-    let at-args = at-loop .before .before .before in
-    let a = at-args .args in
+    let at-loop-test = at-word .before .before .before in
+    let at-loop = at-loop-test .before in
+    let a = at-loop .before .before .before .args in
     let l = at-loop .loop in (
       search needs,
       search needs,
@@ -80,6 +80,9 @@ put-unpacked-spec =
           (at-decode-letter .decode-letter .ensures) _ (at-decoded .decoded .given .1)) (at-put-fields .put-fields .ensures)) ∙ l .inv .5,
     ))
     (λ c. search needs)
-    (λ c. let a = c .before .before .before .before .args in let l = c .before .loop in
+    (λ c.
+    let at-loop = c .before in
+    let a = at-loop .before .before .before .args in
+    let l = at-loop .loop in
     sym (put-ends (putPlain (a .h)) 5 2 (letterIn firstEdition (a .h)) (length (a .bytes .now) / 2 - 1) (a .bytes .now) (l .to / 5) (l .at) (l .to) (l .out)
     (omega arith)) ∙ l .inv .5))

@@ -11,17 +11,25 @@ letter-of-spec =
     (λ c κs. search needs)
     (λ c κs. search needs)
     (λ c κs. search needs)
-    (λ c. rw (
-      ← c .before .before .before .before .unused-are-zero .ensures,
-      c .before .before .before .if1 .taken,
-      ← c .before .before .letter-by .ensures,
+    (λ c.
+    let at-letter-by = c .before .before in
+    let at-if1 = at-letter-by .before in
+    let at-unused-are-zero = at-if1 .before in
+    rw (
+      ← at-unused-are-zero .unused-are-zero .ensures,
+      at-if1 .if1 .taken,
+      ← at-letter-by .letter-by .ensures,
       ← c .before .letter-fits .ensures,
       c .if2 .taken,
     ))
-    (λ c. rw (
-      ← c .before .before .before .before .unused-are-zero .ensures,
-      c .before .before .before .if1 .taken,
-      ← c .before .before .letter-by .ensures,
+    (λ c.
+    let at-letter-by = c .before .before in
+    let at-if1 = at-letter-by .before in
+    let at-unused-are-zero = at-if1 .before in
+    rw (
+      ← at-unused-are-zero .unused-are-zero .ensures,
+      at-if1 .if1 .taken,
+      ← at-letter-by .letter-by .ensures,
       ← c .before .letter-fits .ensures,
       c .if2 .left,
     ))

@@ -48,11 +48,11 @@ put-letters-spec =
     (omega arith) (sym (at-word-at .word-at .ensures) ∙ ap letterWordAnswer (c .enum-told .given .1))) ∙ l .inv .4)
     (λ c κs. search needs)
     (λ c.
-    let at-encoded = c .before .before .before .before .before in
+    let at-put-word = c .before .before in
+    let at-encoded = at-put-word .before .before .before in
     let at-word-at = at-encoded .before .before in
     let at-loop = at-word-at .before .before in
-    let at-args = at-loop .before .before .before in
-    let a = at-args .args in
+    let a = at-loop .before .before .before .args in
     let l = at-loop .loop in
     omega (
       arith,
@@ -83,6 +83,9 @@ put-letters-spec =
           ∙ ap letterWordAnswer (at-encoded .encoded .given .1)) (at-put-word .put-word .ensures)) ∙ l .inv .4,
     ))
     (λ c. search needs)
-    (λ c. let a = c .before .before .before .before .args in let l = c .before .loop in
+    (λ c.
+    let at-loop = c .before in
+    let a = at-loop .before .before .before .args in
+    let l = at-loop .loop in
     sym (put-ends putWord 2 5 (wordIn firstEdition (a .h)) ((length (a .fields .now) + 4) / 5) (a .fields .now) (l .at / 5) (l .at) (l .to) (l .out)
     (omega arith)) ∙ l .inv .4))

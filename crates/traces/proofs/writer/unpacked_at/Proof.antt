@@ -21,6 +21,7 @@ unpacked-at-spec =
     (λ c. search needs)
     (λ c κs. search needs)
     (λ c.
-    let at-args = c .before .before .before .before .before .before .before .before in
-    let a = at-args .args in
+    let at-shared-slice-known4 = c .before .before .before in
+    let at-if1 = at-shared-slice-known4 .before .before .before in
+    let a = at-if1 .before .before .args in
     c .letter-of .ensures ∙ five-at (a .h) (a .fields .now) (a .at) (omega arith)))

@@ -13,4 +13,7 @@ word-at-spec =
     (λ c. search needs)
     (λ c. rw (← c .before .before .unpacked-at .ensures, c .enum-told .given .1))
     (λ c κs. search needs)
-    (λ c. rw (← c .before .before .before .before .unpacked-at .ensures, c .before .before .decoded .given .1) (c .encode-letter .ensures)))
+    (λ c.
+    let at-decoded = c .before .before in
+    let at-unpacked-at = at-decoded .before .before in
+    rw (← at-unpacked-at .unpacked-at .ensures, at-decoded .decoded .given .1) (c .encode-letter .ensures)))

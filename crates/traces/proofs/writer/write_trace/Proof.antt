@@ -22,16 +22,18 @@ write-trace-spec =
     (λ c. search needs)
     (λ c.
     let at-check-letters = c .before .before .before in
-    let at-args = at-check-letters .before .before .before .before .before .before .before in
-    let a = at-args .args in
+    let at-encoded = at-check-letters .before .before in
+    let at-encode-header = at-encoded .before .before in
+    let a = at-encode-header .before .before .before .args in
     omega (
       arith,
       counted-size (a .h) _ (a .fields .now) _ (sym (at-check-letters .check-letters .ensures) ∙ ap traceAnswer (c .before .checked .given .1)),
     ))
     (λ c.
     let at-check-letters = c .before .before .before in
-    let at-args = at-check-letters .before .before .before .before .before .before .before in
-    let a = at-args .args in
+    let at-encoded = at-check-letters .before .before in
+    let at-encode-header = at-encoded .before .before in
+    let a = at-encode-header .before .before .before .args in
     omega (
       arith,
       counted-size (a .h) _ (a .fields .now) _ (sym (at-check-letters .check-letters .ensures) ∙ ap traceAnswer (c .before .checked .given .1)),
@@ -49,8 +51,9 @@ write-trace-spec =
     (λ c κs.
     let at-checked = c .before .before .before in
     let at-check-letters = at-checked .before .before in
-    let at-args = at-check-letters .before .before .before .before .before .before .before in
-    let a = at-args .args in
+    let at-encoded = at-check-letters .before .before in
+    let at-encode-header = at-encoded .before .before in
+    let a = at-encode-header .before .before .before .args in
     omega (
       arith,
       counted-size (a .h) _ (a .fields .now) _ (sym (at-check-letters .check-letters .ensures) ∙ ap traceAnswer (at-checked .checked .given .1)),
