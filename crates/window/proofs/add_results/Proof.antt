@@ -36,8 +36,12 @@ add-results-spec = tie.close (tie.spec
     (λ c κs. search needs)
     (λ c. search needs)
     (λ c. search needs)
-    (λ c κs. let k = c .before .before .before .before in let e = ap length (k .loop .inv .1) ∙ added-length registers _ _ _ _ _ in
-    omega (arith, e, k .before .before .pre, c .before .before .before .loop-test .taken))
+    (λ c κs.
+    let at-loop-test = c .before .before .before in
+    let at-loop = at-loop-test .before in
+    let at-pre = at-loop .before .before in
+    let e = ap length (at-loop .loop .inv .1) ∙ added-length registers _ _ _ _ _ in
+    omega (arith, e, at-pre .pre, at-loop-test .loop-test .taken))
     (λ c. search needs)
     (λ c. search needs)
     loop-again

@@ -28,9 +28,10 @@ beside-spec = tie.close (tie.spec
     (λ c κs. search needs)
     (λ c. search needs)
     (λ c. search needs)
-    (λ c. (
-      omega (arith, c .before .before .before .loop-test .taken),
-      beside-more registers _ _ _ _ _ (c .before .before .before .before .loop .inv .1)
-          (c .flag .ensures),
+    (λ c.
+    let at-loop-test = c .before .before .before in
+    let at-loop = at-loop-test .before in (
+      omega (arith, at-loop-test .loop-test .taken),
+      beside-more registers _ _ _ _ _ (at-loop .loop .inv .1) (c .flag .ensures),
     ))
     (λ c. beside-all registers _ _ _ _ (c .before .loop .inv .0) (c .loop-test .left) (c .before .loop .inv .1)))

@@ -30,27 +30,37 @@ close-in-spec = tie.close (tie.spec
     (λ c κs. search needs)
     (λ c κs. search needs)
     (λ c κs.
-    let at-if2 = c .before .before .before .before in
+    let at-merge-in-arg3 = c .before in
+    let at-if2 = at-merge-in-arg3 .before .before .before in
     let at-if1 = at-if2 .before in
-    let at-loop = at-if1 .before .before .before .before .before .before .before .before .before in
-    let loop = at-loop .loop in
+    let at-rest-arg = at-if1 .before .before .before in
+    let at-find-arg2 = at-rest-arg .before .before .before in
+    let loop = at-find-arg2 .before .before .before .loop in
     (at-if1 .if1 .taken, at-if2 .if2 .taken, loop .inv .0))
     (λ c.
-    let at-loop-test = c .before .before .before .before .before .before .before .before .before .before .before .before .before .before in
+    let at-merge-in-arg3 = c .before .before in
+    let at-if2 = at-merge-in-arg3 .before .before .before in
+    let at-rest = at-if2 .before .before .before in
+    let at-find = at-rest .before .before .before in
+    let at-loop-test = at-find .before .before .before in
     omega (arith, at-loop-test .loop-test .taken))
     (λ c.
-    let at-loop-test = c .before .before .before .before .before .before .before .before .before .before .before .before .before .before in
+    let at-merge-in-arg3 = c .before .before in
+    let at-if2 = at-merge-in-arg3 .before .before .before in
+    let at-rest = at-if2 .before .before .before in
+    let at-find = at-rest .before .before .before in
+    let at-loop-test = at-find .before .before .before in
     omega (arith, at-loop-test .loop-test .taken))
     (λ c.
-    let at-if2 = c .before .before .before .before .before in
+    let at-merge-in-arg3 = c .before .before in
+    let at-if2 = at-merge-in-arg3 .before .before .before in
     let at-if1 = at-if2 .before in
     let at-name2 = at-if1 .before in
     let at-rest = at-name2 .before in
     let at-name = at-rest .before .before in
     let at-find = at-name .before in
     let at-loop-test = at-find .before .before .before in
-    let at-loop = at-loop-test .before in
-    let loop = at-loop .loop in
+    let loop = at-loop-test .before .loop in
     let loop-test = at-loop-test .loop-test in (
       c .merge-in .ensures .1,
       λ m i. sym (closed-more registers functions _ _ _ _ _ (windowOfParts (loop .class) (loop .unequal) (loop .result) (loop .ever) m i)

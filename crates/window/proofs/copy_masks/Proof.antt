@@ -11,6 +11,11 @@ copy-masks-spec = tie.close (tie.spec
     (λ c κs. search needs)
     (λ c κs. search needs)
     (λ c. search needs)
-    (λ c. let k = c .before .before .before in
-    masks-copied registers _ _ _ _ _ _ _ (k .before .before .before .before .before .unite-column .ensures) (k .before .single .ensures) (k .single2 .ensures)
-    (c .before .before .move-bits .ensures)))
+    (λ c.
+    let at-move-bits = c .before .before in
+    let at-single2 = at-move-bits .before in
+    let at-single = at-single2 .before in
+    let at-t = at-single .before .before .before in
+    let at-unite-column = at-t .before in
+    masks-copied registers _ _ _ _ _ _ _ (at-unite-column .unite-column .ensures) (at-single .single .ensures) (at-single2 .single2 .ensures)
+    (at-move-bits .move-bits .ensures)))

@@ -16,8 +16,10 @@ copy-results-spec = tie.close (tie.spec
     let at-move-bits = c .before .before in
     let at-single2 = at-move-bits .before in
     let at-single = at-single2 .before in
-    let at-unite-row = at-single .before .before .before .before in
-    let at-unite-column = at-unite-row .before .before .before .before in
+    let at-t2 = at-single .before .before .before in
+    let at-unite-row = at-t2 .before in
+    let at-t = at-unite-row .before .before .before in
+    let at-unite-column = at-t .before in
     results-copied registers _ _ _ _ _ _ _ _
     (at-unite-column .unite-column .ensures) (at-unite-row .unite-row .ensures) (at-single .single .ensures)
     (at-single2 .single2 .ensures) (at-move-bits .move-bits .ensures)))

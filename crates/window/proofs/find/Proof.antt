@@ -34,9 +34,12 @@ find-spec = tie.close (tie.spec
     ∙ k .loop .inv .1)
     (λ c. search needs)
     (λ c. search needs)
-    (λ c. let k = c .before .before .before .before .before in (
-      omega (arith, c .before .before .before .before .loop-test .taken),
-      sym (find-more registers functions _ _ _ (c .before .before .before .before .loop-test .taken)
-          (sym (c .before .inhabited .ensures ∙ ap (nonempty registers) (c .before .before .rest .ensures)) ∙ c .if1 .left)) ∙ k .loop .inv .1,
+    (λ c.
+    let at-rest = c .before .before in
+    let at-loop-test = at-rest .before .before in
+    let at-loop = at-loop-test .before in (
+      omega (arith, at-loop-test .loop-test .taken),
+      sym (find-more registers functions _ _ _ (at-loop-test .loop-test .taken) (sym (c .before .inhabited .ensures ∙ ap (nonempty registers)
+          (at-rest .rest .ensures)) ∙ c .if1 .left)) ∙ at-loop .loop .inv .1,
     ))
     (λ c. sym (find-none registers functions _ _ _ (c .loop-test .left)) ∙ c .before .loop .inv .1))

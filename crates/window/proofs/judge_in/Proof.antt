@@ -22,13 +22,16 @@ judge-in-spec = tie.close (tie.spec
     (λ c k u i. subst (λ l. true ≡ judgeOf
     (windowOfParts k u (c .before .before .args .result .now) (c .before .before .args .ever .now) (c .before .before .args
     .mark .now) i) l) (sym (c .enum-told .given .1)) refl)
-    (λ c k u i. subst (λ l. c .memoizing .result ≡ judgeOf (windowOfParts k u (c .before .before .before .before .args .result .now) (c .before .before .before
-    .before .args .ever .now) (c .before .before .before .before .args .mark .now) i) l) (sym (c .before .before .letter .given .1)) (c .memoizing
-    .ensures k u (c .before .before .before .before .args .mark .now) i))
-    (λ c k u i. subst (λ l. c .early .result ≡ judgeOf
-    (windowOfParts k u (c .before .before .before .before .args .result .now) (c .before .before .before .before
-    .args .ever .now) (c .before .before .before .before .args .mark .now) i) l) (sym (c .before .before .letter2 .given .1)) (c .early .ensures k u (c
-    .before .before .before .before .args .result .now) (c .before .before .before .before .args .ever .now) i))
+    (λ c k u i.
+    let at-letter = c .before .before in
+    let at-args = at-letter .before .before in
+    subst (λ l. c .memoizing .result ≡ judgeOf (windowOfParts k u (at-args .args .result .now) (at-args .args .ever .now) (at-args .args .mark .now) i)
+    l) (sym (at-letter .letter .given .1)) (c .memoizing .ensures k u (at-args .args .mark .now) i))
+    (λ c k u i.
+    let at-letter2 = c .before .before in
+    let at-args = at-letter2 .before .before in
+    subst (λ l. c .early .result ≡ judgeOf (windowOfParts k u (at-args .args .result .now) (at-args .args .ever .now) (at-args .args .mark .now) i) l)
+    (sym (at-letter2 .letter2 .given .1)) (c .early .ensures k u (at-args .args .result .now) (at-args .args .ever .now) i))
     (λ c k u i. subst (λ l. true ≡ judgeOf
     (windowOfParts k u (c .before .before .args .result .now) (c .before .before .args .ever .now) (c .before .before .args
     .mark .now) i) l) (sym (c .enum-told2 .given .1)) refl))

@@ -30,10 +30,12 @@ mark-in-spec = tie.close (tie.spec
     (λ c. search needs)
     (λ c. search needs)
     (λ c.
-    let args = c .before .before .before .before .args in
-    let loop = c .before .before .before .loop in
-    swept-more _ _ _ _ _ _ (loop .inv) (omega (arith, c .before .before .before .before .pre)) (mark-is (loop .mark) (args .s) (loop .i) _ (c .holds
-    .ensures) ∙ ap (λ v. v || has (args .s) (loop .i)) (loop .inv .ahead _ (omega arith))))
+    let at-loop = c .before .before .before in
+    let at-start = at-loop .before in
+    let args = at-start .args in
+    let loop = at-loop .loop in
+    swept-more _ _ _ _ _ _ (loop .inv) (omega (arith, at-start .pre)) (mark-is (loop .mark) (args .s) (loop .i) _ (c .holds .ensures)
+    ∙ ap (λ v. v || has (args .s) (loop .i)) (loop .inv .ahead _ (omega arith))))
     (λ c.
     let pre-of = c .before .before .pre in
     (rw (← pre-of) (swept-all _ _ _ _ _ (c .before .loop .inv) (omega (arith, pre-of))), c .before .loop .inv .long ∙ pre-of)))

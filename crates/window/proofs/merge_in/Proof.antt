@@ -14,11 +14,13 @@ merge-in-spec = tie.close (tie.spec
     (λ c. search needs)
     (λ c κs. search needs)
     (λ c κs.
-    let args = c .before .before .before .before .args in (
+    let at-single = c .before in
+    let at-start = at-single .before .before .before in
+    let args = at-start .args in (
       search needs,
       search needs,
-      (let a = args in both-has (getD (a .class .now) (a .a) 0) (getD (a .class .now) (a .b) 0) (a .a) _ (c .before .single .ensures)),
-      whole registers 1 (args .class .now) (c .before .before .before .before .pre .2 .class),
+      (let a = args in both-has (getD (a .class .now) (a .a) 0) (getD (a .class .now) (a .b) 0) (a .a) _ (at-single .single .ensures)),
+      whole registers 1 (args .class .now) (at-start .pre .2 .class),
     ))
     (λ c κs.
     let at-single = c .before .before .before in
@@ -30,22 +32,24 @@ merge-in-spec = tie.close (tie.spec
       whole registers 1 (args .unequal .now) (at-args .pre .2 .unequal),
     ))
     (λ c κs.
-    let at-single = c .before .before .before .before .before in
-    let at-args = at-single .before .before .before in (
+    let at-merge-masks = c .before .before .before in
+    let at-single = at-merge-masks .before .before in
+    let a = at-single .before .before .before .args in (
       search needs,
       search needs,
-      (let a = at-args .args in both-has (getD (a .class .now) (a .a)
-          0) (getD (a .class .now) (a .b) 0) (a .a) _ (at-single .single .ensures)),
+      (both-has (getD (a .class .now) (a .a) 0) (getD (a .class .now) (a .b) 0) (a .a) _ (at-single .single .ensures)),
       search needs,
     ))
     (λ c κs.
-    let at-single = c .before .before .before .before .before .before .before in
-    let at-args = at-single .before .before .before in
-    let args = at-args .args in (
+    let at-merge-masks2 = c .before .before .before in
+    let at-merge-masks = at-merge-masks2 .before .before in
+    let at-single = at-merge-masks .before .before in
+    let at-start = at-single .before .before .before in
+    let args = at-start .args in (
       search needs,
       search needs,
       (let a = args in both-has (getD (a .class .now) (a .a) 0) (getD (a .class .now) (a .b) 0) (a .a) _ (at-single .single .ensures)),
-      whole registers functions (args .ever .now) (at-args .pre .2 .ever),
+      whole registers functions (args .ever .now) (at-start .pre .2 .ever),
     ))
     (λ c.
     let at-merge-results = c .before .before in

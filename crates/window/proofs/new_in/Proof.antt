@@ -35,24 +35,23 @@ new-in-spec = tie.close (tie.spec
     let at-mark-in = at-forget-masks .before .before in
     let at-fallen = at-mark-in .before in
     let at-arguments = at-fallen .before in
-    let at-args = at-arguments .before .before .before .before .before .before in (
+    let at-own = at-arguments .before .before .before in
+    let at-start = at-own .before .before .before in (
       (λ i.
-          let a = at-args .args in applied-is registers functions
-          (windowOfParts (a .class .now) (a .unequal .now) (a .result .now) (a .ever .now) (a .mark .now) i)
-          (a .x) (a .f) (a .y) (a .z) _ _ _ _ _ _ _ _ _
-          (at-arguments .arguments .ensures) (at-fallen .fallen .ensures) (at-mark-in .mark-in .ensures .0) (at-single .single
-          .ensures) (at-forget-masks .forget-masks .ensures) (at-forget-masks2 .forget-masks2 .ensures) (at-renew-results .renew-results .ensures)
-          (c .forget-masks3 .ensures ∙ ap
-          (masksForgotten registers (a .x)) (at-add-line .add-line .ensures)) refl),
-      let a = at-args .args in record {
-        class = simp length-set (ap length (at-forget-masks .forget-masks .ensures) ∙
-            forgotten-length registers functions (a .x) (a .class .now) ∙ at-args .pre .4 .class);
-        unequal = ap length (at-forget-masks2 .forget-masks2 .ensures) ∙ forgotten-length registers functions (a .x) (a
-            .unequal .now) ∙ at-args .pre .4 .unequal;
-        result = ap length (at-renew-results .renew-results .ensures) ∙ renewed-length registers functions (a .x) (a .f) _ _ (a .result
-            .now) ∙ at-args .pre .4 .result;
-        ever = ap length (c .forget-masks3 .ensures) ∙ forgotten-length registers functions (a .x) _ ∙ ap length (at-add-line .add-line .ensures) ∙
-            line-length registers (a .f) _ _ (a .ever .now) ∙ at-args .pre .4 .ever;
+          let a = at-start .args in applied-is registers functions (windowOfParts (a .class .now) (a .unequal .now) (a .result .now) (a .ever .now)
+          (a .mark .now) i) (a .x) (a .f) (a .y) (a .z) _ _ _ _ _ _ _ _ _ (at-arguments .arguments .ensures) (at-fallen .fallen .ensures)
+          (at-mark-in .mark-in .ensures .0) (at-single .single .ensures) (at-forget-masks .forget-masks .ensures)
+          (at-forget-masks2 .forget-masks2 .ensures) (at-renew-results .renew-results .ensures)
+          (c .forget-masks3 .ensures ∙ ap (masksForgotten registers (a .x)) (at-add-line .add-line .ensures)) refl),
+      let a = at-start .args in record {
+        class = simp length-set (ap length (at-forget-masks .forget-masks .ensures) ∙ forgotten-length registers functions (a .x) (a .class .now)
+            ∙ at-start .pre .4 .class);
+        unequal = ap length (at-forget-masks2 .forget-masks2 .ensures) ∙ forgotten-length registers functions (a .x) (a .unequal .now)
+            ∙ at-start .pre .4 .unequal;
+        result = ap length (at-renew-results .renew-results .ensures) ∙ renewed-length registers functions (a .x) (a .f) _ _ (a .result .now)
+            ∙ at-start .pre .4 .result;
+        ever = ap length (c .forget-masks3 .ensures) ∙ forgotten-length registers functions (a .x) _ ∙ ap length (at-add-line .add-line .ensures)
+            ∙ line-length registers (a .f) _ _ (a .ever .now) ∙ at-start .pre .4 .ever;
         mark = simp length-set (at-mark-in .mark-in .ensures .1);
       },
     )))

@@ -12,7 +12,8 @@ perform-in-spec = tie.close (tie.spec
     (λ c. search needs)
     (λ c. search needs)
     (λ c κs.
-    let at-letter = c .before .before .before .before .before .before in
+    let at-copy-in-arg2 = c .before .before .before in
+    let at-letter = at-copy-in-arg2 .before .before .before in
     let at-pre = at-letter .before .before in
     let pre-of = at-pre .pre in
     let p = subst WithinPacking (at-letter .letter .given .1) (pre-of .0) in (p .0, p .1, (pre-of .1)))
@@ -22,7 +23,8 @@ perform-in-spec = tie.close (tie.spec
     (λ c. search needs)
     (λ c. search needs)
     (λ c κs.
-    let at-letter2 = c .before .before .before .before .before .before in
+    let at-apply-in-arg2 = c .before .before .before in
+    let at-letter2 = at-apply-in-arg2 .before .before .before in
     let at-pre = at-letter2 .before .before in
     let pre-of = at-pre .pre in
     let p = subst WithinPacking (at-letter2 .letter2 .given .1) (pre-of .0) in (p .0, p .1, p .2, p .3, (pre-of .1)))
@@ -30,10 +32,12 @@ perform-in-spec = tie.close (tie.spec
     (λ c. search needs)
     (λ c. search needs)
     (λ c κs.
-    let at-letter3 = c .before .before .before .before .before in
+    let at-equal-in-arg2 = c .before .before in
+    let at-letter3 = at-equal-in-arg2 .before .before .before in
     let at-pre = at-letter3 .before .before in
     let pre-of = at-pre .pre in
-    let p = subst WithinPacking (at-letter3 .letter3 .given .1) (pre-of .0) in let s = pre-of .1 in (
+    let p = subst WithinPacking (at-letter3 .letter3 .given .1) (pre-of .0) in
+    let s = pre-of .1 in (
       p .0,
       p .1,
       record {
@@ -53,25 +57,28 @@ perform-in-spec = tie.close (tie.spec
     let pre-of = at-pre .pre in
     let p = subst WithinPacking (at-letter4 .letter4 .given .1) (pre-of .0) in (p .0, p .1, pre-of .1 .unequal))
     (λ c.
-    let at-letter = c .before .before .before .before .before .before .before in
-    let at-args = at-letter .before .before in (
-      let a = at-args .args in
-          told _ (windowOfParts (a .class .now) (a .unequal .now) (a .result
-          .now) (a .ever .now) (a .mark .now) (a .infeasible)) _ _ (at-letter .letter .given .1) (c .copy-in .ensures .0 (a .infeasible)),
+    let at-copy-in-arg5 = c .before in
+    let at-copy-in-arg2 = at-copy-in-arg5 .before .before .before in
+    let at-letter = at-copy-in-arg2 .before .before .before in
+    let a = at-letter .before .before .args in (
+      told _ (windowOfParts (a .class .now) (a .unequal .now) (a .result .now) (a .ever .now) (a .mark .now) (a .infeasible)) _ _
+          (at-letter .letter .given .1) (c .copy-in .ensures .0 (a .infeasible)),
       c .copy-in .ensures .1,
     ))
     (λ c.
-    let at-letter2 = c .before .before .before .before .before .before .before in
-    let at-args = at-letter2 .before .before in (
-      let a = at-args .args in
-          told _ (windowOfParts (a .class .now) (a .unequal .now) (a .result
-          .now) (a .ever .now) (a .mark .now) (a .infeasible)) _ _ (at-letter2 .letter2 .given .1) (c .apply-in .ensures .0 (a .infeasible)),
+    let at-apply-in-arg5 = c .before in
+    let at-apply-in-arg2 = at-apply-in-arg5 .before .before .before in
+    let at-letter2 = at-apply-in-arg2 .before .before .before in
+    let a = at-letter2 .before .before .args in (
+      told _ (windowOfParts (a .class .now) (a .unequal .now) (a .result .now) (a .ever .now) (a .mark .now) (a .infeasible)) _ _
+          (at-letter2 .letter2 .given .1) (c .apply-in .ensures .0 (a .infeasible)),
       c .apply-in .ensures .1,
     ))
     (λ c.
-    let at-letter3 = c .before .before .before .before .before .before in
-    let at-args = at-letter3 .before .before in (
-      let a = at-args .args in
+    let at-equal-in-arg2 = c .before .before .before in
+    let at-letter3 = at-equal-in-arg2 .before .before .before in
+    let at-start = at-letter3 .before .before in (
+      let a = at-start .args in
           told _ (windowOfParts (a .class .now) (a .unequal .now) (a .result .now)
           (a .ever .now) (a .mark .now) (a .infeasible)) _ _ (at-letter3 .letter3 .given .1) (c .equal-in .ensures .0 (a .mark .now)),
       let l = c .equal-in .ensures .1 in record {
@@ -79,16 +86,17 @@ perform-in-spec = tie.close (tie.spec
         unequal = l .unequal;
         result = l .result;
         ever = l .ever;
-        mark = at-args .pre .1 .mark;
+        mark = at-start .pre .1 .mark;
       },
     ))
     (λ c.
-    let at-letter4 = c .before .before .before .before in
-    let at-args = at-letter4 .before .before in (
-      let a = at-args .args in
+    let at-unequal-in-arg2 = c .before in
+    let at-letter4 = at-unequal-in-arg2 .before .before .before in
+    let at-start = at-letter4 .before .before in (
+      let a = at-start .args in
           told _ (windowOfParts (a .class .now) (a .unequal .now) (a .result .now) (a .ever .now) (a
           .mark .now) (a .infeasible)) _ _ (at-letter4 .letter4 .given .1) (c .unequal-in .ensures .0 (a .result .now) (a .ever .now) (a .mark .now)),
-      let s = at-args .pre .1 in record {
+      let s = at-start .pre .1 in record {
         class = s .class;
         unequal = c .unequal-in .ensures .1;
         result = s .result;

@@ -39,8 +39,12 @@ spread-row-spec = tie.close (tie.spec
     μ-loop
     (λ c. (search needs, spread-none (rows registers) (rows-partition registers) 0 _ _ (c .before .pre .0) _))
     (λ c κs. search needs)
-    (λ c κs. let k = c .before .before .before .before in let e = ap length (k .loop .inv .1) ∙ united-length (rows registers) _ _ _ _ in
-    (search needs, search needs, search needs, omega (arith, e, k .before .before .pre .1)))
+    (λ c κs.
+    let at-if1 = c .before in
+    let at-loop = at-if1 .before .before .before in
+    let at-pre = at-loop .before .before in
+    let e = ap length (at-loop .loop .inv .1) ∙ united-length (rows registers) _ _ _ _ in
+    (search needs, search needs, search needs, omega (arith, e, at-pre .pre .1)))
     (λ c. search needs)
     (λ c. search needs)
     loop-again
