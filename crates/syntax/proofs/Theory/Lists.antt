@@ -135,48 +135,66 @@ module _ (s : List ℕ) (names : List ℕ) (count : ℕ) (K : NamesPadded mostRe
 abbrev pub RegistersLeft : List ℕ → ℕ → List ℕ → ℕ → ℕ → Type 0
 RegistersLeft s from names count at = registerNames s mostRegisters [] from ≡ registerNames s (mostRegisters - count) (take count names) at
 
-module _ (s : List ℕ) (from : ℕ) (names : List ℕ) (count at : ℕ) (K : NamesPadded mostRegisters names count) (L : RegistersLeft s from names count at)
-    (t : Token)
-    (e : t ≡ tokenAt s at) where
-  pub registers-last : (b : Bool) → b ≡ isName (t .key) → b ≡ false → (r : Registers)
+-- the registers that are read so far
+pub record RegistersSoFar (s : List ℕ) (from : ℕ) (names : List ℕ) (count at : ℕ) : Type 0 where
+  pub names-padded : NamesPadded mostRegisters names count
+  pub left : RegistersLeft s from names count at
+
+-- behind them stands a name; whether it is taken
+pub record NameOfRegister (s : List ℕ) (from : ℕ) (names : List ℕ) (count : ℕ) (t : Token) (taken : Bool) : Type 0 where
+  pub at : ℕ
+  pub so-far : RegistersSoFar s from names count at
+  pub token : t ≡ tokenAt s at
+  pub name : isName (t .key) ≡ true
+  pub tells : taken ≡ (eqb count mostRegisters || isDeclared (t .key) (take count names))
+
+module _ {s : List ℕ} {from : ℕ} {names : List ℕ} {count at : ℕ} (S : RegistersSoFar s from names count at) {t : Token} (e : t ≡ tokenAt s at) where
+  pub registers-last : {b : Bool} → b ≡ isName (t .key) → b ≡ false → {r : Registers}
       → r ≡ heldRegisters (listedT s (length (take count names)) (take count names) t) → r ≡ heldRegisters (registerNames s mostRegisters [] from)
   unfolding registerNames
-  registers-last b i h r g = g ∙ ap heldRegisters (sym (L ∙ go (mostRegisters - count)))
+  registers-last i h g = g ∙ ap heldRegisters (sym (S .left ∙ go (mostRegisters - count)))
     where
       go : (room : ℕ) → registerNames s room (take count names) at ≡ listedT s (length (take count names)) (take count names) t
       go zero = rw (← e, ← i, h)
       go (suc room) = rw (← e, ← i, h)
 
-  module _ (b : Bool) (i : b ≡ isName (t .key)) (j : b ≡ true) (x : Bool) (y : x ≡ (eqb count mostRegisters || isDeclared (t .key) (take count names))) where
-    pub registers-taken : x ≡ true → (r : Registers) → r ≡ heldRegisters (Got.refused declarationWrong (t .start))
-        → r ≡ heldRegisters (registerNames s mostRegisters [] from)
-    unfolding registerNames
-    registers-taken h r g = g ∙ ap heldRegisters (sym (L ∙ byTest (eqb count mostRegisters)
-        (λ u. let z : mostRegisters - count ≡ 0 = (let v = eqb-true count mostRegisters u in omega arith) in
-        ap (λ m. registerNames s m (take count names) at) z ∙ rw (← e, ← i, j))
-        λ u.
-        let v = eqb-false count mostRegisters u in
-        let w : isDeclared (t .key) (take count names) ≡ true = sym (ap (λ b. b || isDeclared (t .key) (take count names)) u) ∙ sym y ∙ h in
-        let z : mostRegisters - count ≡ suc (mostRegisters - 1 - count) = (let f = K .few in let k = below count v f in omega arith) in
-        ap (λ m. registerNames s m (take count names) at) z ∙ rw (← e, ← i, j, w)))
-      where
-        below : (c : ℕ) → (c ≡ mostRegisters → ⊥) → c ≤ mostRegisters → c < mostRegisters
-        below c v f = byTest (ltb c mostRegisters) (λ t. ltb-true c mostRegisters t) λ t. absurd (v (let g = ltb-false c mostRegisters t in omega arith))
+module _ {s : List ℕ} {from : ℕ} {names : List ℕ} {count : ℕ} {t : Token} {taken : Bool} (N : NameOfRegister s from names count t taken) where
+  abbrev K : NamesPadded mostRegisters names count
+  K = N .so-far .names-padded
 
-    pub registers-turn : x ≡ false → (mostRegisters - (count + 1) < mostRegisters - count)
-        × NamesPadded mostRegisters (set names count (t .key)) (count + 1) × RegistersLeft s from (set names count (t .key)) (count + 1) (t .end)
-    unfolding registerNames
-    registers-turn h =
-        let l = not-full count mostRegisters (t .key) (take count names) x y h (K .few) in
-        let z : mostRegisters - count ≡ suc (mostRegisters - (count + 1)) = omega arith in
-        let w : isDeclared (t .key) (take count names) ≡ false =
-        sym (ap (λ b. b || isDeclared (t .key) (take count names)) (ne-eqb count mostRegisters λ q. omega arith)) ∙ sym y ∙ h in (
-          omega arith,
-          kept-more mostRegisters names count (t .key) K l,
-          L ∙ ap (λ m. registerNames s m (take count names) at) z
-              ∙ rw (← e, ← i, j, w) (ap (λ l. registerNames s (mostRegisters - (count + 1)) l (t .end))
-              (sym (kept-take mostRegisters names count (t .key) K l))),
-        )
+  pub registers-taken : taken ≡ true → {r : Registers} → r ≡ heldRegisters (Got.refused declarationWrong (t .start))
+      → r ≡ heldRegisters (registerNames s mostRegisters [] from)
+  unfolding registerNames
+  registers-taken h g = g ∙ ap heldRegisters (sym (N .so-far .left ∙ byTest (eqb count mostRegisters)
+      (λ u. let z : mostRegisters - count ≡ 0 = (let v = eqb-true count mostRegisters u in omega arith) in
+      ap (λ m. registerNames s m (take count names) (N .at)) z ∙ rw (← N .token, N .name))
+      λ u.
+      let v = eqb-false count mostRegisters u in
+      let w : isDeclared (t .key) (take count names) ≡ true = sym (ap (λ b. b || isDeclared (t .key) (take count names)) u) ∙ sym (N .tells) ∙ h in
+      let z : mostRegisters - count ≡ suc (mostRegisters - 1 - count) = (let f = K .few in let k = below count v f in omega arith) in
+      ap (λ m. registerNames s m (take count names) (N .at)) z ∙ rw (← N .token, N .name, w)))
+    where
+      below : (c : ℕ) → (c ≡ mostRegisters → ⊥) → c ≤ mostRegisters → c < mostRegisters
+      below c v f = byTest (ltb c mostRegisters) (λ t. ltb-true c mostRegisters t) λ t. absurd (v (let g = ltb-false c mostRegisters t in omega arith))
+
+  registers-room : taken ≡ false → count < mostRegisters
+  registers-room h = not-full count mostRegisters (t .key) (take count names) taken (N .tells) h (K .few)
+
+  pub registers-turn : taken ≡ false → (count < mostRegisters) × RegistersSoFar s from (set names count (t .key)) (count + 1) (t .end)
+  unfolding registerNames
+  registers-turn h =
+      let l = registers-room h in
+      let z : mostRegisters - count ≡ suc (mostRegisters - (count + 1)) = omega arith in
+      let w : isDeclared (t .key) (take count names) ≡ false =
+      sym (ap (λ b. b || isDeclared (t .key) (take count names)) (ne-eqb count mostRegisters λ q. omega arith)) ∙ sym (N .tells) ∙ h in (
+        l,
+        record {
+          names-padded = kept-more mostRegisters names count (t .key) K l;
+          left = N .so-far .left ∙ ap (λ m. registerNames s m (take count names) (N .at)) z
+              ∙ rw (← N .token, N .name, w) (ap (λ l. registerNames s (mostRegisters - (count + 1)) l (t .end))
+              (sym (kept-take mostRegisters names count (t .key) K l)));
+        },
+      )
 
 -- ---- functions
 
@@ -199,29 +217,29 @@ pub refused-at : {A : Type 0} {B : Type 0} (held : Got A → B) (g : number.GotN
     → r ≡ held (Got.refused 0 0) → r ≡ held (refusedBy g)
 refused-at held g v p r h e = e ∙ rw h
 
-module _ (s : List ℕ) (at : ℕ) (g : number.GotNumber) (i : g ≡ withoutValue (expect s word.slashKey at)) where
-  pub arity-slash : (n p : ℕ) → g ≡ number.the-variants.Refused n p → g ≡ plain (arityOf s at)
+module _ (s : List ℕ) (at : ℕ) {g : number.GotNumber} (i : g ≡ withoutValue (expect s word.slashKey at)) where
+  pub arity-slash : {n p : ℕ} → g ≡ number.the-variants.Refused n p → g ≡ plain (arityOf s at)
   unfolding arityOf
-  arity-slash n p h = go (expect s word.slashKey at) i
+  arity-slash h = go (expect s word.slashKey at) i
     where
       go : (x : Got (Unit {0})) → g ≡ withoutValue x → g ≡ plain (andThen x λ _ a. arityT s (tokenAt s a))
       go (got u e) i = let z : _≡_ {A = ℕ} 0 1 = cc in absurd (omega arith)
       go (Got.refused n p) i = i
       go exhausted i = i
 
-  module _ (v a : ℕ) (h : g ≡ number.the-variants.At v a) (t : Token) (e : t ≡ tokenAt s a) where
-    behind : arityOf s at ≡ arityT s t
-    unfolding arityOf
-    behind = let (u, x, y) = coded-at (λ _. 0) (expect s word.slashKey at) g v a i h in rw (x, e)
+  pub arity-behind : {v a : ℕ} → g ≡ number.the-variants.At v a → {t : Token} → t ≡ tokenAt s a → arityOf s at ≡ arityT s t
+  unfolding arityOf
+  arity-behind {v} {a} h e = let (u, x, y) = coded-at (λ _. 0) (expect s word.slashKey at) g v a i h in rw (x, e)
 
-    pub arity-one : t .key ≡ word.oneKey → number.the-variants.At 1 (t .end) ≡ plain (arityOf s at)
-    arity-one k = rw (behind, eq-eqb (t .key) word.oneKey k)
+module _ (s : List ℕ) (at : ℕ) (t : Token) (behind : arityOf s at ≡ arityT s t) where
+  pub arity-one : t .key ≡ word.oneKey → number.the-variants.At 1 (t .end) ≡ plain (arityOf s at)
+  arity-one k = rw (behind, eq-eqb (t .key) word.oneKey k)
 
-    pub arity-two : (t .key ≡ word.oneKey → ⊥) → t .key ≡ word.twoKey → number.the-variants.At 2 (t .end) ≡ plain (arityOf s at)
-    arity-two n k = rw (behind, ne-eqb (t .key) word.oneKey n, eq-eqb (t .key) word.twoKey k)
+  pub arity-two : (t .key ≡ word.oneKey → ⊥) → t .key ≡ word.twoKey → number.the-variants.At 2 (t .end) ≡ plain (arityOf s at)
+  arity-two n k = rw (behind, ne-eqb (t .key) word.oneKey n, eq-eqb (t .key) word.twoKey k)
 
-    pub arity-unfit : (t .key ≡ word.oneKey → ⊥) → (t .key ≡ word.twoKey → ⊥) → (r : number.GotNumber) → r ≡ plain (refusedToken t) → r ≡ plain (arityOf s at)
-    arity-unfit n m r k = rw (behind, ne-eqb (t .key) word.oneKey n, ne-eqb (t .key) word.twoKey m) k
+  pub arity-unfit : (t .key ≡ word.oneKey → ⊥) → (t .key ≡ word.twoKey → ⊥) → {r : number.GotNumber} → r ≡ plain (refusedToken t) → r ≡ plain (arityOf s at)
+  arity-unfit n m k = rw (behind, ne-eqb (t .key) word.oneKey n, ne-eqb (t .key) word.twoKey m) k
 
 module _ (s : List ℕ) (names arities : List ℕ) (count : ℕ) (K : NamesPadded mostFunctions names count) (A : NamesPadded mostFunctions arities count)
     (t : Token) where
@@ -244,88 +262,108 @@ abbrev pub FunctionsLeft : List ℕ → List ℕ → ℕ → List ℕ → List �
 FunctionsLeft s rs from names arities count at =
     functionEntries s rs mostFunctions [] [] from ≡ functionEntries s rs (mostFunctions - count) (take count names) (take count arities) at
 
-module _ (s rs : List ℕ) (from : ℕ) (names arities : List ℕ) (count at : ℕ) (K : NamesPadded mostFunctions names count)
-    (A : NamesPadded mostFunctions arities count)
-    (L : FunctionsLeft s rs from names arities count at) (t : Token) (e : t ≡ tokenAt s at) where
-  pub functions-last : (b : Bool) → b ≡ isName (t .key) → b ≡ false → (r : Functions)
+-- the functions that are read so far
+pub record FunctionsSoFar (s rs : List ℕ) (from : ℕ) (names arities : List ℕ) (count at : ℕ) : Type 0 where
+  pub names-padded : NamesPadded mostFunctions names count
+  pub arities-padded : NamesPadded mostFunctions arities count
+  pub left : FunctionsLeft s rs from names arities count at
+
+-- behind them stands a name; whether it is taken
+pub record NameOfFunction (s rs : List ℕ) (from : ℕ) (names arities : List ℕ) (count : ℕ) (t : Token) (taken : Bool) : Type 0 where
+  pub at : ℕ
+  pub so-far : FunctionsSoFar s rs from names arities count at
+  pub token : t ≡ tokenAt s at
+  pub name : isName (t .key) ≡ true
+  pub tells : taken ≡ (eqb count mostFunctions || (isDeclared (t .key) rs || isDeclared (t .key) (take count names)))
+
+-- the name is not taken; what is read as its arity
+pub record NewFunction {s rs : List ℕ} {from : ℕ} {names arities : List ℕ} {count : ℕ} {t : Token} {taken : Bool}
+    (N : NameOfFunction s rs from names arities count t taken) (g : number.GotNumber) : Type 0 where
+  pub not-taken : taken ≡ false
+  pub arity : g ≡ plain (arityOf s (t .end))
+
+module _ {s rs : List ℕ} {from : ℕ} {names arities : List ℕ} {count at : ℕ} (S : FunctionsSoFar s rs from names arities count at)
+    {t : Token} (e : t ≡ tokenAt s at) where
+  pub functions-last : {b : Bool} → b ≡ isName (t .key) → b ≡ false → {r : Functions}
       → r ≡ heldFunctions (listedT s (length (take count names)) (take count names, take count arities) t)
       → r ≡ heldFunctions (functionEntries s rs mostFunctions [] [] from)
   unfolding functionEntries
-  functions-last b i h r g = g ∙ ap heldFunctions (sym (L ∙ go (mostFunctions - count)))
+  functions-last i h g = g ∙ ap heldFunctions (sym (S .left ∙ go (mostFunctions - count)))
     where
       go : (room : ℕ) → functionEntries s rs room (take count names) (take count arities) at ≡ listedT s (length (take count names))
           (take count names, take count arities) t
       go zero = rw (← e, ← i, h)
       go (suc room) = rw (← e, ← i, h)
 
-  module _ (b : Bool) (i : b ≡ isName (t .key)) (j : b ≡ true) (x : Bool)
-      (y : x ≡ (eqb count mostFunctions || (isDeclared (t .key) rs || isDeclared (t .key) (take count names)))) where
-    pub functions-taken : x ≡ true → (r : Functions) → r ≡ heldFunctions (Got.refused declarationWrong (t .start))
-        → r ≡ heldFunctions (functionEntries s rs mostFunctions [] [] from)
-    unfolding functionEntries
-    functions-taken h r g = g ∙ ap heldFunctions (sym (L ∙ byTest (eqb count mostFunctions)
-        (λ u. let z : mostFunctions - count ≡ 0 = (let v = eqb-true count mostFunctions u in omega arith) in
-        ap (λ m. functionEntries s rs m (take count names) (take count arities) at) z ∙ rw (← e, ← i, j))
-        λ u.
-        let v = eqb-false count mostFunctions u in
-        let w : (isDeclared (t .key) rs || isDeclared (t .key) (take count names)) ≡ true =
-        sym (ap (λ b. b || (isDeclared (t .key) rs || isDeclared (t .key) (take count names))) u) ∙ sym y ∙ h in
-        let z : mostFunctions - count ≡ suc (mostFunctions - 1 - count) = (let f = K .few in let k = below count v f in omega arith) in
-        ap (λ m. functionEntries s rs m (take count names) (take count arities) at) z ∙ rw (← e, ← i, j, w)))
-      where
-        below : (c : ℕ) → (c ≡ mostFunctions → ⊥) → c ≤ mostFunctions → c < mostFunctions
-        below c v f = byTest (ltb c mostFunctions) (λ t. ltb-true c mostFunctions t) λ t. absurd (v (let g = ltb-false c mostFunctions t in omega arith))
+module _ {s rs : List ℕ} {from : ℕ} {names arities : List ℕ} {count : ℕ} {t : Token} {taken : Bool}
+    (N : NameOfFunction s rs from names arities count t taken) where
+  pub functions-taken : taken ≡ true → {r : Functions} → r ≡ heldFunctions (Got.refused declarationWrong (t .start))
+      → r ≡ heldFunctions (functionEntries s rs mostFunctions [] [] from)
+  unfolding functionEntries
+  functions-taken h g = g ∙ ap heldFunctions (sym (N .so-far .left ∙ byTest (eqb count mostFunctions)
+      (λ u. let z : mostFunctions - count ≡ 0 = (let v = eqb-true count mostFunctions u in omega arith) in
+      ap (λ m. functionEntries s rs m (take count names) (take count arities) (N .at)) z ∙ rw (← N .token, N .name))
+      λ u.
+      let v = eqb-false count mostFunctions u in
+      let w : (isDeclared (t .key) rs || isDeclared (t .key) (take count names)) ≡ true =
+      sym (ap (λ b. b || (isDeclared (t .key) rs || isDeclared (t .key) (take count names))) u) ∙ sym (N .tells) ∙ h in
+      let z : mostFunctions - count ≡ suc (mostFunctions - 1 - count) = (let f = N .so-far .names-padded .few in let k = below count v f in omega arith) in
+      ap (λ m. functionEntries s rs m (take count names) (take count arities) (N .at)) z ∙ rw (← N .token, N .name, w)))
+    where
+      below : (c : ℕ) → (c ≡ mostFunctions → ⊥) → c ≤ mostFunctions → c < mostFunctions
+      below c v f = byTest (ltb c mostFunctions) (λ t. ltb-true c mostFunctions t) λ t. absurd (v (let g = ltb-false c mostFunctions t in omega arith))
 
-    module _ (h : x ≡ false) (g : number.GotNumber) (a : g ≡ plain (arityOf s (t .end))) where
-      pub functions-room : count < mostFunctions
-      functions-room = byTest (eqb count mostFunctions)
-          (λ u. let known = isDeclared (t .key) rs || isDeclared (t .key) (take count names) in
-          let z : true ≡ false = sym (or-left (eqb count mostFunctions) known u) ∙ sym y ∙ h in
-          let q : _≡_ {A = ℕ} 0 1 = cc in absurd (omega arith))
-          λ u. let v = eqb-false count mostFunctions u in
-          byTest (ltb count mostFunctions) (λ w. ltb-true count mostFunctions w)
-          λ w. absurd (v (let f = K .few in let k = ltb-false count mostFunctions w in omega arith))
+module _ {s rs : List ℕ} {from : ℕ} {names arities : List ℕ} {count : ℕ} {t : Token} {taken : Bool}
+    {N : NameOfFunction s rs from names arities count t taken} {g : number.GotNumber} (F : NewFunction N g) where
+  abbrev so-far : FunctionsSoFar s rs from names arities count (N .at)
+  so-far = N .so-far
 
-      unknown : (isDeclared (t .key) rs || isDeclared (t .key) (take count names)) ≡ false
-      unknown =
-          sym (ap (λ b. b || (isDeclared (t .key) rs || isDeclared (t .key) (take count names)))
-          (ne-eqb count mostFunctions λ q. let f = functions-room in omega arith)) ∙ sym y ∙ h
+  pub functions-room : count < mostFunctions
+  functions-room = byTest (eqb count mostFunctions)
+      (λ u. let known = isDeclared (t .key) rs || isDeclared (t .key) (take count names) in
+      let z : true ≡ false = sym (or-left (eqb count mostFunctions) known u) ∙ sym (N .tells) ∙ F .not-taken in
+      let q : _≡_ {A = ℕ} 0 1 = cc in absurd (omega arith))
+      λ u. let v = eqb-false count mostFunctions u in
+      byTest (ltb count mostFunctions) (λ w. ltb-true count mostFunctions w)
+      λ w. absurd (v (let f = so-far .names-padded .few in let k = ltb-false count mostFunctions w in omega arith))
 
-      entered : functionEntries s rs mostFunctions [] [] from ≡ andThen (arityOf s (t .end)) λ n e. functionEntries s rs (mostFunctions - (count + 1))
-          (take count names ++ t .key ∷ []) (take count arities ++ n ∷ []) e
-      unfolding functionEntries
-      entered =
-          let f = functions-room in
-          let z : mostFunctions - count ≡ suc (mostFunctions - (count + 1)) = omega arith in
-          L ∙ ap (λ m. functionEntries s rs m (take count names) (take count arities) at) z ∙ rw (← e, ← i, j, unknown)
+  unknown : (isDeclared (t .key) rs || isDeclared (t .key) (take count names)) ≡ false
+  unknown =
+      sym (ap (λ b. b || (isDeclared (t .key) rs || isDeclared (t .key) (take count names)))
+      (ne-eqb count mostFunctions λ q. let f = functions-room in omega arith)) ∙ sym (N .tells) ∙ F .not-taken
 
-      pub functions-refused : (n p : ℕ) → g ≡ number.the-variants.Refused n p → (r : Functions) → r ≡ heldFunctions (refusedBy g)
-          → r ≡ heldFunctions (functionEntries s rs mostFunctions [] [] from)
-      unfolding heldFunctions
-      functions-refused n p k r q = q ∙ go (arityOf s (t .end)) a ∙ ap heldFunctions (sym entered)
-        where
-          go : (x : Got ℕ) → g ≡ plain x → heldFunctions (refusedBy g) ≡ heldFunctions
-              (andThen x λ n e. functionEntries s rs (mostFunctions - (count + 1)) (take count names ++ t .key ∷ []) (take count arities ++ n ∷ []) e)
-          go (got u e) i = let z : _≡_ {A = ℕ} 0 1 = cc in absurd (omega arith)
-          go (Got.refused n p) i = rw i
-          go exhausted i = rw i
+  entered : functionEntries s rs mostFunctions [] [] from ≡ andThen (arityOf s (t .end)) λ n e. functionEntries s rs (mostFunctions - (count + 1))
+      (take count names ++ t .key ∷ []) (take count arities ++ n ∷ []) e
+  unfolding functionEntries
+  entered =
+      let f = functions-room in
+      let z : mostFunctions - count ≡ suc (mostFunctions - (count + 1)) = omega arith in
+      so-far .left ∙ ap (λ m. functionEntries s rs m (take count names) (take count arities) (N .at)) z
+      ∙ rw (← N .token, N .name, unknown)
 
-      pub functions-turn : (n b′ : ℕ) → g ≡ number.the-variants.At n b′
-          → (mostFunctions - (count + 1) < mostFunctions - count) × NamesPadded mostFunctions (set names count (t .key)) (count + 1)
-          × NamesPadded mostFunctions (set arities count n) (count + 1)
-          × FunctionsLeft s rs from (set names count (t .key)) (set arities count n) (count + 1) b′
-      functions-turn n b′ k =
-          let l = functions-room in
-          let (m, q, u) = coded-at (λ n. n) (arityOf s (t .end)) g n b′ a k in (
-            omega arith,
-            kept-more mostFunctions names count (t .key) K l,
-            kept-more mostFunctions arities count n A l,
-            entered
-                ∙ ap (λ x. andThen x λ n e. functionEntries s rs (mostFunctions - (count + 1)) (take count names ++ t .key ∷ [])
-                (take count arities ++ n ∷ []) e) q
-                ∙ (λ i. functionEntries s rs (mostFunctions - (count + 1)) (sym (kept-take mostFunctions names count (t .key) K l) i)
-                ((ap (λ n. take count arities ++ n ∷ []) (sym u) ∙ sym (kept-take mostFunctions arities count n A l)) i) b′),
-          )
+  pub functions-refused : {n p : ℕ} → g ≡ number.the-variants.Refused n p → {r : Functions} → r ≡ heldFunctions (refusedBy g)
+      → r ≡ heldFunctions (functionEntries s rs mostFunctions [] [] from)
+  unfolding heldFunctions
+  functions-refused k q = q ∙ go (arityOf s (t .end)) (F .arity) ∙ ap heldFunctions (sym entered)
+    where
+      go : (x : Got ℕ) → g ≡ plain x → heldFunctions (refusedBy g) ≡ heldFunctions
+          (andThen x λ n e. functionEntries s rs (mostFunctions - (count + 1)) (take count names ++ t .key ∷ []) (take count arities ++ n ∷ []) e)
+      go (got u e) i = let z : _≡_ {A = ℕ} 0 1 = cc in absurd (omega arith)
+      go (Got.refused n p) i = rw i
+      go exhausted i = rw i
+
+  pub functions-turn : {n b′ : ℕ} → g ≡ number.the-variants.At n b′ → FunctionsSoFar s rs from (set names count (t .key)) (set arities count n) (count + 1) b′
+  functions-turn {n} {b′} k =
+      let l = functions-room in
+      let (m, q, u) = coded-at (λ n. n) (arityOf s (t .end)) g n b′ (F .arity) k in record {
+        names-padded = kept-more mostFunctions names count (t .key) (so-far .names-padded) l;
+        arities-padded = kept-more mostFunctions arities count n (so-far .arities-padded) l;
+        left = entered
+            ∙ ap (λ x. andThen x λ n e. functionEntries s rs (mostFunctions - (count + 1)) (take count names ++ t .key ∷ [])
+            (take count arities ++ n ∷ []) e) q
+            ∙ (λ i. functionEntries s rs (mostFunctions - (count + 1)) (sym (kept-take mostFunctions names count (t .key) (so-far .names-padded) l) i)
+            ((ap (λ n. take count arities ++ n ∷ []) (sym u) ∙ sym (kept-take mostFunctions arities count n (so-far .arities-padded) l)) i) b′);
+      }
 
 -- perhaps a line of functions
 module _ (s rs : List ℕ) (at : ℕ) (t : Token) (e : t ≡ tokenAt s at) where

@@ -347,57 +347,57 @@ steps s h =
     assoc (functionsT s rs b (tokenAt s b)) _ (countT s) _ λ r c.
     assoc (block s rs (r .0) (r .1) (2 * length s + 1) deepestNesting c) _ (countT s) _ λ body e. refl)
 
-module _ (s : List ℕ) (l : length s ≤ longestText) (g : number.GotNumber) (i : g ≡ withoutValue (expect s word.varsKey 0)) where
-  pub read-vars : (n p : ℕ) → g ≡ number.the-variants.Refused n p → (r : MacroRead) → r ≡ heldReading (refusedBy g) → r ≡ heldReading (readMacro s)
+module _ (s : List ℕ) (l : length s ≤ longestText) {g : number.GotNumber} (i : g ≡ withoutValue (expect s word.varsKey 0)) where
+  pub read-vars : {n p : ℕ} → g ≡ number.the-variants.Refused n p → {r : MacroRead} → r ≡ heldReading (refusedBy g) → r ≡ heldReading (readMacro s)
   unfolding heldReading
-  read-vars n p h r e = e ∙ go (expect s word.varsKey 0) i ∙ ap heldReading (sym (steps s l))
+  read-vars h e = e ∙ go (expect s word.varsKey 0) i ∙ ap heldReading (sym (steps s l))
     where
       go : (x : Got (Unit {0})) → g ≡ withoutValue x → heldReading (refusedBy g) ≡ heldReading (andThen x λ _ a. registersFrom s a)
       go (got u e) i = let z : _≡_ {A = ℕ} 0 1 = cc in absurd (omega arith)
       go (Got.refused n p) i = rw i
       go exhausted i = rw i
 
-  module _ (v a : ℕ) (h : g ≡ number.the-variants.At v a) (rs : Registers) (e : rs ≡ heldRegisters (registerNames s mostRegisters [] a)) where
-    begun : readMacro s ≡ registersFrom s a
-    begun = let (u, x, y) = coded-at (λ _. 0) (expect s word.varsKey 0) g v a i h in steps s l ∙ ap (λ x. andThen x λ _ a. registersFrom s a) x
+  pub begun : {v a : ℕ} → g ≡ number.the-variants.At v a → readMacro s ≡ registersFrom s a
+  begun {v} {a} h = let (u, x, y) = coded-at (λ _. 0) (expect s word.varsKey 0) g v a i h in steps s l ∙ ap (λ x. andThen x λ _ a. registersFrom s a) x
 
-    names-ok : rs .ok ≡ true → (l : List ℕ) × (b : ℕ) × (registerNames s mostRegisters [] a ≡ got l b) × (rs .at ≡ b) × (listOf rs ≡ l) × RegistersPadded rs
-    unfolding heldRegisters
-    names-ok k = go (registerNames s mostRegisters [] a) refl e
-      where
-        go : (x : Got (List ℕ)) → registerNames s mostRegisters [] a ≡ x → rs ≡ heldRegisters x
-            → (l : List ℕ) × (b : ℕ) × (registerNames s mostRegisters [] a ≡ got l b) × (rs .at ≡ b) × (listOf rs ≡ l) × RegistersPadded rs
-        go (got l b) w e =
-            let (ks, q, D, m, z, p) = registers-sound s mostRegisters [] a l b none-declared w in
-            let (a₁, k₁) = kept-list mostRegisters l (subst (λ l. length l ≤ mostRegisters) (sym q) z) in
-            let ec : rs .count ≡ length l = ap (λ f. f .count) e in
-            let en : rs .names ≡ padded mostRegisters l = ap (λ f. f .names) e in (
-              l,
-              b,
-              w,
-              ap (λ f. f .at) e,
-              (λ i. take (ec i) (en i)) ∙ a₁,
-              subst (λ c. NamesPadded mostRegisters (rs .names) c) (sym ec) (subst (λ x. NamesPadded mostRegisters x (length l)) (sym en) k₁),
-            )
-        go (Got.refused n p) w e = let z = ap (λ f. f .ok) e in let y : _≡_ {A = ℕ} 0 1 = cc in absurd (omega arith)
-        go exhausted w e = let z = ap (λ f. f .ok) e in let y : _≡_ {A = ℕ} 0 1 = cc in absurd (omega arith)
+module _ (s : List ℕ) (a : ℕ) {rs : Registers} (e : rs ≡ heldRegisters (registerNames s mostRegisters [] a)) where
+  names-ok : rs .ok ≡ true → (l : List ℕ) × (b : ℕ) × (registerNames s mostRegisters [] a ≡ got l b) × (rs .at ≡ b) × (listOf rs ≡ l) × RegistersPadded rs
+  unfolding heldRegisters
+  names-ok k = go (registerNames s mostRegisters [] a) refl e
+    where
+      go : (x : Got (List ℕ)) → registerNames s mostRegisters [] a ≡ x → rs ≡ heldRegisters x
+          → (l : List ℕ) × (b : ℕ) × (registerNames s mostRegisters [] a ≡ got l b) × (rs .at ≡ b) × (listOf rs ≡ l) × RegistersPadded rs
+      go (got l b) w e =
+          let (ks, q, D, m, z, p) = registers-sound s mostRegisters [] a l b none-declared w in
+          let (a₁, k₁) = kept-list mostRegisters l (subst (λ l. length l ≤ mostRegisters) (sym q) z) in
+          let ec : rs .count ≡ length l = ap (λ f. f .count) e in
+          let en : rs .names ≡ padded mostRegisters l = ap (λ f. f .names) e in (
+            l,
+            b,
+            w,
+            ap (λ f. f .at) e,
+            (λ i. take (ec i) (en i)) ∙ a₁,
+            subst (λ c. NamesPadded mostRegisters (rs .names) c) (sym ec) (subst (λ x. NamesPadded mostRegisters x (length l)) (sym en) k₁),
+          )
+      go (Got.refused n p) w e = let z = ap (λ f. f .ok) e in let y : _≡_ {A = ℕ} 0 1 = cc in absurd (omega arith)
+      go exhausted w e = let z = ap (λ f. f .ok) e in let y : _≡_ {A = ℕ} 0 1 = cc in absurd (omega arith)
 
-    pub names-kept : rs .ok ≡ true → RegistersPadded rs
-    names-kept k = let (l, b, w, x, y, K) = names-ok k in K
+  pub names-kept : rs .ok ≡ true → RegistersPadded rs
+  names-kept k = let (l, b, w, x, y, K) = names-ok k in K
 
-    pub read-rest : rs .ok ≡ true → (r : MacroRead) → r ≡ heldReading (functionsFrom s (listOf rs) (rs .at)) → r ≡ heldReading (readMacro s)
-    unfolding registersFrom
-    read-rest k r g =
-        let (l, b, w, x, y, K) = names-ok k in
-        g ∙ (λ i. heldReading (functionsFrom s (y i) (x i))) ∙ ap (λ x. heldReading (andThen x λ rs b. functionsFrom s rs b)) (sym w)
-        ∙ ap heldReading (sym begun)
+  pub read-rest : readMacro s ≡ registersFrom s a → rs .ok ≡ true → {r : MacroRead} → r ≡ heldReading (functionsFrom s (listOf rs) (rs .at)) → r ≡ heldReading (readMacro s)
+  unfolding registersFrom
+  read-rest f k g =
+      let (l, b, w, x, y, K) = names-ok k in
+      g ∙ (λ i. heldReading (functionsFrom s (y i) (x i))) ∙ ap (λ x. heldReading (andThen x λ rs b. functionsFrom s rs b)) (sym w)
+      ∙ ap heldReading (sym f)
 
-    pub read-refused : rs .ok ≡ false → (r : MacroRead) → r ≡ heldReading (Got.refused (rs .number) (rs .place)) → r ≡ heldReading (readMacro s)
-    unfolding registersFrom heldRegisters heldReading
-    read-refused k r g = g ∙ go (registerNames s mostRegisters [] a) e ∙ ap heldReading (sym begun)
-      where
-        go : (x : Got (List ℕ)) → rs ≡ heldRegisters x
-            → heldReading (Got.refused (rs .number) (rs .place)) ≡ heldReading (andThen x λ rs b. functionsFrom s rs b)
-        go (got l b) e = let z = ap (λ f. f .ok) e in let y : _≡_ {A = ℕ} 0 1 = cc in absurd (omega arith)
-        go (Got.refused n p) e = λ i. heldReading (Got.refused (e i .number) (e i .place))
-        go exhausted e = λ i. heldReading (Got.refused (e i .number) (e i .place))
+  pub read-refused : readMacro s ≡ registersFrom s a → rs .ok ≡ false → {r : MacroRead} → r ≡ heldReading (Got.refused (rs .number) (rs .place)) → r ≡ heldReading (readMacro s)
+  unfolding registersFrom heldRegisters heldReading
+  read-refused f k g = g ∙ go (registerNames s mostRegisters [] a) e ∙ ap heldReading (sym f)
+    where
+      go : (x : Got (List ℕ)) → rs ≡ heldRegisters x
+          → heldReading (Got.refused (rs .number) (rs .place)) ≡ heldReading (andThen x λ rs b. functionsFrom s rs b)
+      go (got l b) e = let z = ap (λ f. f .ok) e in let y : _≡_ {A = ℕ} 0 1 = cc in absurd (omega arith)
+      go (Got.refused n p) e = λ i. heldReading (Got.refused (e i .number) (e i .place))
+      go exhausted e = λ i. heldReading (Got.refused (e i .number) (e i .place))

@@ -1,7 +1,14 @@
 use Rattle.syntax.proofs.Theory.Lists as law
 use borrow.Author.Needs.{needs}
+use mathlib.Core.Path.{_≡_}
+use Rattle.grammar.specs.Reading.{arityOf, arityT}
 use Rattle.syntax.proofs.arity.Statement.{statement}
 use Rattle.syntax.proofs.arity.Tie as tie
+
+-- behind the slash
+behind : (c : tie.After-next) → let a = c .before .before .before .before .before .before .args in
+    arityOf (a .text .now) (a .at) ≡ arityT (a .text .now) (c .next .result)
+behind c = law.arity-behind _ _ (c .before .before .before .before .expect .ensures) (c .before .before .slash .given .1) (c .next .ensures)
 
 expect-requires : tie.Need-expect-requires
 expect-requires c κs = search needs
@@ -13,25 +20,16 @@ enum-told : tie.Need-enum-told
 enum-told c = search needs
 
 returns : tie.Need-returns
-returns c = law.arity-slash _ _ _ (c .before .before .expect .ensures) _ _ ((c .enum-told .given) .1)
+returns c = law.arity-slash _ _ (c .before .before .expect .ensures) (c .enum-told .given .1)
 
 next-requires : tie.Need-next-requires
 next-requires c κs = search needs
 
 returns-2 : tie.Need-returns-2
-returns-2 c =
-    let at-next = c .before .before in
-    let at-slash = at-next .before .before in
-    let at-expect = at-slash .before .before in
-    law.arity-one _ _ _ (at-expect .expect .ensures) _ _ ((at-slash .slash .given) .1) _ (at-next .next .ensures) (c .if1 .taken)
+returns-2 c = law.arity-one _ _ _ (behind (c .before .before)) (c .if1 .taken)
 
 returns-3 : tie.Need-returns-3
-returns-3 c =
-    let at-if1 = c .before .before in
-    let at-next = at-if1 .before .before in
-    let at-slash = at-next .before .before in
-    let at-expect = at-slash .before .before in
-    law.arity-two _ _ _ (at-expect .expect .ensures) _ _ ((at-slash .slash .given) .1) _ (at-next .next .ensures) (at-if1 .if1 .left) (c .if2 .taken)
+returns-3 c = law.arity-two _ _ _ (behind (c .before .before .before .before)) (c .before .before .if1 .left) (c .if2 .taken)
 
 unfitting-requires : tie.Need-unfitting-requires
 unfitting-requires c κs = search needs
@@ -39,11 +37,7 @@ unfitting-requires c κs = search needs
 returns-4 : tie.Need-returns-4
 returns-4 c =
     let at-if1 = c .before .before .before in
-    let at-next = at-if1 .before .before in
-    let at-slash = at-next .before .before in
-    let at-expect = at-slash .before .before in
-    law.arity-unfit _ _ _ (at-expect .expect .ensures) _ _ ((at-slash .slash .given) .1) _ (at-next .next .ensures)
-    (at-if1 .if1 .left) (c .before .if2 .left) _ (c .unfitting .ensures)
+    law.arity-unfit _ _ _ (behind (at-if1 .before .before)) (at-if1 .if1 .left) (c .before .if2 .left) (c .unfitting .ensures)
 
 pub arity-spec : {M : Type 1} → statement M
 arity-spec =

@@ -9,15 +9,15 @@ no-functions-requires c κs = search needs
 
 returns : tie.Need-returns
 returns c =
-    let at-if1 = c .before .before in
-    let at-start = at-if1 .before .before in
-    law.functions-unlisted [] _ _ _ ((at-start .pre) .0) ((at-start .pre) .1) (at-start .args .t) 9 (law.semicolon-unfit (at-start .args .t)
-    (at-if1 .if1 .taken)) (law.unlisted-none (at-start .args .t) (at-start .args .count) (at-if1 .if1 .taken) (c .before .if2 .taken)) _
-    (c .no-functions .ensures)
+    let start = c .before .before .before .before in
+    let t = start .args .t in
+    law.functions-unlisted [] _ _ _ (start .pre .0) (start .pre .1) t 9 (law.semicolon-unfit t (c .before .before .if1 .taken))
+    (law.unlisted-none t (start .args .count) (c .before .before .if1 .taken) (c .before .if2 .taken)) _ (c .no-functions .ensures)
 
 returns-2 : tie.Need-returns-2
-returns-2 c = law.functions-listed [] _ _ _ ((c .before .before .before .pre) .0) ((c .before .before .before .pre) .1) (c .before .before .before .args .t)
-    (c .before .if1 .taken) (c .if2 .left)
+returns-2 c =
+    let start = c .before .before .before in
+    law.functions-listed [] _ _ _ (start .pre .0) (start .pre .1) (start .args .t) (c .before .if1 .taken) (c .if2 .left)
 
 unfit-number-requires : tie.Need-unfit-number-requires
 unfit-number-requires c κs = search needs
@@ -27,10 +27,10 @@ no-functions-requires-2 c κs = search needs
 
 returns-3 : tie.Need-returns-3
 returns-3 c =
-    let at-if1 = c .before .before in
-    let at-start = at-if1 .before .before in
-    law.functions-unlisted [] _ _ _ ((at-start .pre) .0) ((at-start .pre) .1) (at-start .args .t) _ (c .before .unfit-number .ensures)
-    (law.unlisted-token (at-start .args .t) (at-start .args .count) (at-if1 .if1 .left)) _ (c .no-functions2 .ensures)
+    let start = c .before .before .before .before in
+    let t = start .args .t in
+    law.functions-unlisted [] _ _ _ (start .pre .0) (start .pre .1) t _ (c .before .unfit-number .ensures) (law.unlisted-token t (start .args .count) (c .before .before .if1 .left)) _
+    (c .no-functions2 .ensures)
 
 pub functions-end-spec : {M : Type 1} → statement M
 functions-end-spec =

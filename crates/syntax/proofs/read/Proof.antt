@@ -1,8 +1,15 @@
 use Rattle.syntax.proofs.Theory.Reads.{reads}
 use Rattle.syntax.proofs.Theory.Top as law
 use borrow.Author.Needs.{needs}
+use mathlib.Core.Path.{_≡_}
+use Rattle.grammar.proofs.Theory.Reading.{readMacro}
+use Rattle.syntax.proofs.Theory.Answer.{registersFrom}
 use Rattle.syntax.proofs.read.Statement.{statement}
 use Rattle.syntax.proofs.read.Tie as tie
+
+-- behind the word that begins a macro
+begun : (c : tie.After-g) → let text = c .before .before .before .before .before .args .text .now in readMacro text ≡ registersFrom text (c .g .given .0 .1 .0)
+begun c = law.begun _ (c .before .before .before .if1 .left) (c .before .before .expect .ensures) (c .g .given .1)
 
 refused-answer-requires : tie.Need-refused-answer-requires
 refused-answer-requires c κs = search needs
@@ -25,28 +32,19 @@ refused-text-requires c κs = search needs
 returns-2 : tie.Need-returns-2
 returns-2 c =
     let at-expect = c .before .before .before in
-    let at-if1 = at-expect .before in
-    reads _ _ (law.read-vars _ (at-if1 .if1 .left) _ (at-expect .expect .ensures) _ _ ((c .before .enum-told .given) .1) _ (c .refused-text .ensures))
+    reads _ _ (law.read-vars _ (at-expect .before .if1 .left) (at-expect .expect .ensures) (c .before .enum-told .given .1) (c .refused-text .ensures))
 
 read-registers-requires : tie.Need-read-registers-requires
 read-registers-requires c κs = search needs
 
 read-rest-requires : tie.Need-read-rest-requires
-read-rest-requires c κs =
-    let at-g = c .before .before .before in
-    let at-expect = at-g .before .before in
-    let at-if1 = at-expect .before in
-    law.names-kept _ (at-if1 .if1 .left) _ (at-expect .expect .ensures) _ _ ((at-g .g .given) .1) _ (c .before .read-registers .ensures)
-    (c .if2 .taken)
+read-rest-requires c κs = law.names-kept _ _ (c .before .read-registers .ensures) (c .if2 .taken)
 
 returns-3 : tie.Need-returns-3
 returns-3 c =
     let at-read-registers = c .before .before in
-    let at-g = at-read-registers .before .before in
-    let at-expect = at-g .before .before in
-    let at-if1 = at-expect .before in
-    reads _ _ (law.read-rest _ (at-if1 .if1 .left) _ (at-expect .expect .ensures) _ _ ((at-g .g .given) .1) _
-    (at-read-registers .read-registers .ensures) (c .before .if2 .taken) _ (c .read-rest .ensures))
+    reads _ _ (law.read-rest _ _ (at-read-registers .read-registers .ensures) (begun (at-read-registers .before .before)) (c .before .if2 .taken)
+    (c .read-rest .ensures))
 
 refused-answer-requires-2 : tie.Need-refused-answer-requires-2
 refused-answer-requires-2 c κs = search needs
@@ -54,11 +52,8 @@ refused-answer-requires-2 c κs = search needs
 returns-4 : tie.Need-returns-4
 returns-4 c =
     let at-read-registers = c .before .before in
-    let at-g = at-read-registers .before .before in
-    let at-expect = at-g .before .before in
-    let at-if1 = at-expect .before in
-    reads _ _ (law.read-refused _ (at-if1 .if1 .left) _ (at-expect .expect .ensures) _ _ ((at-g .g .given) .1) _
-    (at-read-registers .read-registers .ensures) (c .before .if2 .left) _ (c .refused-answer2 .ensures))
+    reads _ _ (law.read-refused _ _ (at-read-registers .read-registers .ensures) (begun (at-read-registers .before .before)) (c .before .if2 .left)
+    (c .refused-answer2 .ensures))
 
 pub read-spec : {M : Type 1} → statement M
 read-spec =

@@ -9,13 +9,15 @@ no-registers-requires c κs = search needs
 
 returns : tie.Need-returns
 returns c =
-    let at-if1 = c .before .before in
-    let at-start = at-if1 .before .before in
-    law.registers-unlisted [] _ _ (at-start .pre) (at-start .args .t) 9 (law.semicolon-unfit (at-start .args .t) (at-if1 .if1 .taken))
-    (law.unlisted-none (at-start .args .t) (at-start .args .count) (at-if1 .if1 .taken) (c .before .if2 .taken)) _ (c .no-registers .ensures)
+    let start = c .before .before .before .before in
+    let t = start .args .t in
+    law.registers-unlisted [] _ _ (start .pre) t 9 (law.semicolon-unfit t (c .before .before .if1 .taken))
+    (law.unlisted-none t (start .args .count) (c .before .before .if1 .taken) (c .before .if2 .taken)) _ (c .no-registers .ensures)
 
 returns-2 : tie.Need-returns-2
-returns-2 c = law.registers-listed [] _ _ (c .before .before .before .pre) (c .before .before .before .args .t) (c .before .if1 .taken) (c .if2 .left)
+returns-2 c =
+    let start = c .before .before .before in
+    law.registers-listed [] _ _ (start .pre) (start .args .t) (c .before .if1 .taken) (c .if2 .left)
 
 unfit-number-requires : tie.Need-unfit-number-requires
 unfit-number-requires c κs = search needs
@@ -25,10 +27,10 @@ no-registers-requires-2 c κs = search needs
 
 returns-3 : tie.Need-returns-3
 returns-3 c =
-    let at-if1 = c .before .before in
-    let at-start = at-if1 .before .before in
-    law.registers-unlisted [] _ _ (at-start .pre) (at-start .args .t) _ (c .before .unfit-number .ensures) (law.unlisted-token (at-start .args .t)
-    (at-start .args .count) (at-if1 .if1 .left)) _ (c .no-registers2 .ensures)
+    let start = c .before .before .before .before in
+    let t = start .args .t in
+    law.registers-unlisted [] _ _ (start .pre) t _ (c .before .unfit-number .ensures) (law.unlisted-token t (start .args .count) (c .before .before .if1 .left)) _
+    (c .no-registers2 .ensures)
 
 pub registers-end-spec : {M : Type 1} → statement M
 registers-end-spec =
