@@ -1,6 +1,6 @@
 -- Each line as a template with its fields.
-use mathlib.Core.Path.{_≡_, refl}
-use mathlib.Core.Bool.{true, false}
+use mathlib.Core.Path.{_≡_, refl, sym, _∙_}
+use mathlib.Core.Bool.{Bool, true, false}
 use Prim.Native.Nat.{ℕ, _/_, _%_}
 use mathlib.Core.List.{List, [], _∷_}
 use lib.ListN.{getD}
@@ -8,6 +8,7 @@ use Rattle.letters.specs.Editions.{firstEdition}
 use Rattle.base.specs.Masks.{has}
 use Rattle.semantics.specs.PackedTables.{secondWritten}
 use Rattle.letters.specs.declared.Header.{Header}
+use Rattle.letters.specs.declared.Letter.{Letter}
 use Rattle.letters.specs.declared.Letter.the-variants.{Copy, Apply, Equal, Unequal}
 use Rattle.semantics.specs.TablesRead.{rowFrom}
 use Rattle.text.specs.Numerals.{numeral}
@@ -20,36 +21,43 @@ use Rattle.report.proofs.Theory.ShownLaws.{second-read}
 
 module _ (registers functions : List ℕ) (h : Header) where
   -- "0 := 1"
-  pub copy-form : (x y : ℕ) → letterLine (namesOf registers functions) h (Copy x y) ≡ filledIn (48 ∷ 32 ∷ 58 ∷ 61 ∷ 32 ∷ 49 ∷ 10 ∷ [])
+  pub copy-form : {l : Letter} {x y : ℕ} → l ≡ Copy x y → letterLine (namesOf registers functions) h l ≡ filledIn (48 ∷ 32 ∷ 58 ∷ 61 ∷ 32 ∷ 49 ∷ 10 ∷ [])
       (getD registers x 0 ∷ getD registers y 0 ∷ 0 ∷ 0 ∷ [])
   unfolding letterLine rowLine line filledIn part
-  copy-form x y = refl
+  copy-form e = rw e
 
   -- "assume 0 = 1"
-  pub equal-form : (x y : ℕ) → letterLine (namesOf registers functions) h (Equal x y) ≡ filledIn
+  pub equal-form : {l : Letter} {x y : ℕ} → l ≡ Equal x y → letterLine (namesOf registers functions) h l ≡ filledIn
       (97 ∷ 115 ∷ 115 ∷ 117 ∷ 109 ∷ 101 ∷ 32 ∷ 48 ∷ 32 ∷ 61 ∷ 32 ∷ 49 ∷ 10 ∷ []) (getD registers x 0 ∷ getD registers y 0 ∷ 0 ∷ 0 ∷ [])
   unfolding letterLine rowLine line filledIn part
-  equal-form x y = refl
+  equal-form e = rw e
 
   -- "assume 0 != 1"
-  pub unequal-form : (x y : ℕ) → letterLine (namesOf registers functions) h (Unequal x y) ≡ filledIn
+  pub unequal-form : {l : Letter} {x y : ℕ} → l ≡ Unequal x y → letterLine (namesOf registers functions) h l ≡ filledIn
       (97 ∷ 115 ∷ 115 ∷ 117 ∷ 109 ∷ 101 ∷ 32 ∷ 48 ∷ 32 ∷ 33 ∷ 61 ∷ 32 ∷ 49 ∷ 10 ∷ []) (getD registers x 0 ∷ getD registers y 0 ∷ 0 ∷ 0 ∷ [])
   unfolding letterLine rowLine line filledIn part
-  unequal-form x y = refl
+  unequal-form e = rw e
 
-  module _ (x f y z : ℕ) {a b c d : ℕ} (p : a ≡ getD registers x 0) (q : b ≡ getD functions f 0) (r : c ≡ getD registers y 0) (t : d ≡ getD registers z 0) where
-    -- "0 := 1(2,3)"
-    pub two-form : has (h .binary) f ≡ true
-        → letterLine (namesOf registers functions) h (Apply x f y z) ≡ filledIn (48 ∷ 32 ∷ 58 ∷ 61 ∷ 32 ∷ 49 ∷ 40 ∷ 50 ∷ 44 ∷ 51 ∷ 41 ∷ 10 ∷ [])
-        (a ∷ b ∷ c ∷ d ∷ [])
-    unfolding letterLine line filledIn part
-    two-form e = rw (e, p, q, r, t)
+-- the names of an application's registers and of its function
+pub record ApplicationNames (registers functions : List ℕ) (x f y z a b c d : ℕ) : Type 0 where
+  pub target : a ≡ getD registers x 0
+  pub function : b ≡ getD functions f 0
+  pub first : c ≡ getD registers y 0
+  pub second : d ≡ getD registers z 0
 
-    -- "0 := 1(2)"
-    pub one-form : has (h .binary) f ≡ false
-        → letterLine (namesOf registers functions) h (Apply x f y z) ≡ filledIn (48 ∷ 32 ∷ 58 ∷ 61 ∷ 32 ∷ 49 ∷ 40 ∷ 50 ∷ 41 ∷ 10 ∷ []) (a ∷ b ∷ c ∷ d ∷ [])
-    unfolding letterLine line filledIn part
-    one-form e = rw (e, p, q, r)
+module _ {registers functions : List ℕ} (h : Header) {x f y z a b c d : ℕ} (names : ApplicationNames registers functions x f y z a b c d)
+    {takes-two : Bool} (said : takes-two ≡ has (h .binary) f) where
+  -- "0 := 1(2,3)"
+  pub two-form : takes-two ≡ true
+      → letterLine (namesOf registers functions) h (Apply x f y z) ≡ filledIn (48 ∷ 32 ∷ 58 ∷ 61 ∷ 32 ∷ 49 ∷ 40 ∷ 50 ∷ 44 ∷ 51 ∷ 41 ∷ 10 ∷ []) (a ∷ b ∷ c ∷ d ∷ [])
+  unfolding letterLine line filledIn part
+  two-form e = rw (sym said ∙ e, names .target, names .function, names .first, names .second)
+
+  -- "0 := 1(2)"
+  pub one-form : takes-two ≡ false
+      → letterLine (namesOf registers functions) h (Apply x f y z) ≡ filledIn (48 ∷ 32 ∷ 58 ∷ 61 ∷ 32 ∷ 49 ∷ 40 ∷ 50 ∷ 41 ∷ 10 ∷ []) (a ∷ b ∷ c ∷ d ∷ [])
+  unfolding letterLine line filledIn part
+  one-form e = rw (sym said ∙ e, names .target, names .function, names .first)
 
 -- "row 0 5 6 7", of a row that is packed in a number
 pub row-form : (functions : List ℕ) (h : Header) (n : ℕ) {a b : ℕ} → a ≡ getD functions (n / 274877906944 % 4) 0

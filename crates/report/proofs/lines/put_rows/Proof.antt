@@ -1,10 +1,11 @@
 use borrow.Author.Needs.{needs}
 use mathlib.Core.Path.{sym, ap}
-use mathlib.Core.List.{map}
+use mathlib.Core.List.{List, map, _++_}
 use Prim.Native.Nat.{ℕ, _+_, _*_, _-_}
 use native.Mathlib.Omega.{arith}
 use lib.ListN.{getD, drop}
 use Rattle.letters.specs.Editions.{firstEdition}
+use Rattle.semantics.specs.Tables.{Row}
 use Rattle.semantics.specs.TablesRead.{unitsIn, rowFrom}
 use Rattle.text.specs.Names.{nameText}
 use Rattle.report.specs.Lines.{linesOf, rowLine}
@@ -23,57 +24,53 @@ Inv-loop out₀ at h functions answer start count next₀ k₀ out next k =
 abbrev μ-loop : tie.MeasureT-loop
 μ-loop out₀ at h functions answer start count next₀ k₀ out next k = count - k
 
+-- the lines of a row, and of the rows of a number of units from a place on
+abbrev row-line : tie.Start Inv-loop μ-loop → Row → List ℕ
+row-line c = rowLine (λ f. nameText (getD (c .args .functions) f 0)) (c .args .h)
+
+abbrev packed-line : tie.Start Inv-loop μ-loop → ℕ → List ℕ
+packed-line c n = row-line c (rowFrom firstEdition (c .args .h) n)
+
+abbrev row-lines : tie.Start Inv-loop μ-loop → ℕ → ℕ → List ℕ
+row-lines c n i = linesOf (row-line c) (map (rowFrom firstEdition (c .args .h)) (unitsIn 5 n (drop i (c .args .answer .now))))
+
+abbrev start : tie.In-loop Inv-loop μ-loop → tie.Start Inv-loop μ-loop
+start c = c .before .before .before .before
+
+-- in a turn there are left the line of the row at k and the lines behind it
+left : (c : tie.In-loop Inv-loop μ-loop) → let s = start c in let a = s .args in let l = c .before .loop in
+    LeftToAppend (a .out .now) (a .at) (row-lines s (a .count) (a .start))
+    (packed-line s (rowIn (a .answer .now) (a .start + 5 * l .k)) ++ row-lines s (a .count - (l .k + 1)) (a .start + 5 * (l .k + 1))) (l .out) (l .next)
+left c =
+    let a = start c .args in
+    let l = c .before .loop in
+    left-same (row-lines-next (row-line (start c)) (a .h) (a .answer .now) (a .start) (a .count) (l .k) (c .loop-test .taken)) (l .inv)
+
 pub put-rows-spec : {M : Type 1} → statement M
 put-rows-spec =
     tie.close (tie.spec
     Inv-loop
     μ-loop
-    (λ c. let a = c .before .before .args in
-    left-same (row-lines-start (rowLine (λ f. nameText (getD (a .functions) f 0)) (a .h)) (a .h) (a .answer .now) (a .start) (a .count)) (left-all _ _ _))
     (λ c.
-    let at-loop = c .before in
-    let at-pre = at-loop .before .before .before in
-    record { fits = omega (arith, at-pre .pre .1, c .loop-test .taken) })
-    (λ c.
-    let at-loop = c .before in
-    let at-pre = at-loop .before .before .before in
-    record { fits = omega (arith, at-pre .pre .1, c .loop-test .taken) })
+    let s = c .before .before in
+    left-same (row-lines-start (row-line s) (s .args .h) (s .args .answer .now) (s .args .start) (s .args .count)) (left-all _ _ _))
+    (λ c. record { fits = omega (arith, start c .pre .1, c .loop-test .taken) })
+    (λ c. record { fits = omega (arith, start c .pre .1, c .loop-test .taken) })
+    (λ c κs. omega (arith, start c .pre .1, c .loop-test .taken))
     (λ c κs.
-    let at-loop = c .before in
-    let at-pre = at-loop .before .before .before in
-    omega (arith, at-pre .pre .1, c .loop-test .taken))
-    (λ c κs.
-    let at-loop-test = c .before .before in
-    let at-loop = at-loop-test .before in
-    let at-args = at-loop .before .before .before in
-    let a = at-args .args in
-    let l = at-loop .loop in
-    room-same (ap (λ (n : ℕ). rowLine (λ f. nameText (getD (a .functions) f 0)) (a .h) (rowFrom firstEdition (a .h) n)) (sym (c .before .row-at .ensures)))
-    (left-room (rowLine (λ f. nameText (getD (a .functions) f 0)) (a .h) (rowFrom firstEdition (a .h) (rowIn (a .answer .now) (a .start + 5 * l .k))))
-    (linesOf (rowLine (λ f. nameText (getD (a .functions) f 0)) (a .h))
-    (map (rowFrom firstEdition (a .h)) (unitsIn 5 (a .count - (l .k + 1)) (drop (a .start + 5 * (l .k + 1)) (a .answer .now))))) (at-args .pre .0)
-    (left-same (row-lines-next (rowLine (λ f. nameText (getD (a .functions) f 0)) (a .h)) (a .h) (a .answer .now) (a .start) (a .count) (l .k)
-    (at-loop-test .loop-test .taken)) (l .inv))))
+    let turn = c .before .before in
+    room-same (ap (packed-line (start turn)) (sym (c .before .row-at .ensures)))
+    (left-room _ _ (start turn .pre .0) (left turn)))
     (λ c. search needs)
     (λ c. search needs)
     (λ c.
     let at-put-row = c .before .before in
     let at-row-at = at-put-row .before .before in
-    let at-loop-test = at-row-at .before in
-    let at-loop = at-loop-test .before in
-    let at-args = at-loop .before .before .before in
-    let a = at-args .args in
-    let l = at-loop .loop in
-    left-next (rowLine (λ f. nameText (getD (a .functions) f 0)) (a .h) (rowFrom firstEdition (a .h) (rowIn (a .answer .now) (a .start + 5 * l .k))))
-    (linesOf (rowLine (λ f. nameText (getD (a .functions) f 0)) (a .h))
-    (map (rowFrom firstEdition (a .h)) (unitsIn 5 (a .count - (l .k + 1)) (drop (a .start + 5 * (l .k + 1)) (a .answer .now)))))
-    (left-same (row-lines-next (rowLine (λ f. nameText (getD (a .functions) f 0)) (a .h)) (a .h) (a .answer .now) (a .start) (a .count) (l .k)
-    (at-loop-test .loop-test .taken)) (l .inv))
-    (appended-same (ap (λ (n : ℕ). rowLine (λ f. nameText (getD (a .functions) f 0)) (a .h) (rowFrom firstEdition (a .h) n))
-    (at-row-at .row-at .ensures)) (at-put-row .put-row .ensures)))
+    let turn = at-row-at .before in
+    left-next _ _ (left turn)
+    (appended-same (ap (packed-line (start turn)) (at-row-at .row-at .ensures)) (at-put-row .put-row .ensures)))
     (λ c. left-length (c .before .loop .inv))
     (λ c.
-    let at-loop = c .before in
-    let a = at-loop .before .before .before .args in
-    left-none (left-same (row-lines-none (rowLine (λ f. nameText (getD (a .functions) f 0)) (a .h)) (a .h) (a .answer .now) (a .start) (a .count)
-    (at-loop .loop .k) (c .loop-test .left)) (at-loop .loop .inv))))
+    let a = c .before .before .before .before .args in
+    left-none (left-same (row-lines-none (row-line (c .before .before .before .before)) (a .h) (a .answer .now) (a .start) (a .count)
+    (c .before .loop .k) (c .loop-test .left)) (c .before .loop .inv))))
