@@ -35,29 +35,37 @@ module _ (representative first second : List ℕ) (n d : ℕ) (w : Lowest repres
   pub no-use-start : (i : ℕ) → i ≡ d → NoUse representative first second n d i
   no-use-start i e = record { none = λ k h l. let (p, q) = w .firsts k l in let (r, s) = w .seconds k l in ((λ z. omega arith), (λ z. omega arith)) }
 
-  module _ (i a b : ℕ) (h : i < n) (ea : a ≡ getD first i 0) (eb : b ≡ getD second i 0) where
-    pub use-below : (a < mostTerms) × (b < mostTerms)
-    use-below = let (p, q) = w .firsts i h in let (r, s) = w .seconds i h in let l = w .within in (omega arith, omega arith)
-
-    pub use-first : getD representative a 0 ≡ d → UsedAsArgument representative first second n d true
-    use-first e = used i h (inl (ap (λ v. getD representative v 0) (sym ea) ∙ e))
-
-    pub use-second : getD representative b 0 ≡ d → UsedAsArgument representative first second n d true
-    use-second e = used i h (inr (ap (λ v. getD representative v 0) (sym eb) ∙ e))
-
-    pub no-use-more : NoUse representative first second n d i → getD representative a 0 ≢ d → getD representative b 0 ≢ d
-        → NoUse representative first second n d (i + 1)
-    no-use-more u x y = record {
-      none = λ k l m. byTest (eqb k i)
-          (λ t. let e = eqb-true k i t in (
-            (λ z. x (ap (λ v. getD representative v 0) (ea ∙ ap (λ k. getD first k 0) (sym e)) ∙ z)),
-            (λ z. y (ap (λ v. getD representative v 0) (eb ∙ ap (λ k. getD second k 0) (sym e)) ∙ z)),
-          ))
-          (λ t. let c : k ≢ i = eqb-false k i t in u .none k (omega arith) m);
-    }
-
   pub no-use-end : (i : ℕ) → NoUse representative first second n d i → n ≤ i → UsedAsArgument representative first second n d false
   no-use-end i u h = unused (λ k l. u .none k (omega arith) l)
+
+-- in a turn: the term i and its two arguments
+pub record TermAt (first second : List ℕ) (n i a b : ℕ) : Type 0 where
+  pub below : i < n
+  pub first-is : a ≡ getD first i 0
+  pub second-is : b ≡ getD second i 0
+
+pub use-below : {representative first second : List ℕ} {n : ℕ} → Lowest representative first second n → {i a b : ℕ} → TermAt first second n i a b
+    → (a < mostTerms) × (b < mostTerms)
+use-below w {i} t = let (p, q) = w .firsts i (t .below) in let (r, s) = w .seconds i (t .below) in let l = w .within in
+    (omega (arith, t .first-is), omega (arith, t .second-is))
+
+module _ (representative : List ℕ) (d : ℕ) {first second : List ℕ} {n i a b : ℕ} (t : TermAt first second n i a b) where
+  pub use-first : getD representative a 0 ≡ d → UsedAsArgument representative first second n d true
+  use-first e = used _ (t .below) (inl (ap (λ v. getD representative v 0) (sym (t .first-is)) ∙ e))
+
+  pub use-second : getD representative b 0 ≡ d → UsedAsArgument representative first second n d true
+  use-second e = used _ (t .below) (inr (ap (λ v. getD representative v 0) (sym (t .second-is)) ∙ e))
+
+  pub no-use-more : NoUse representative first second n d i → getD representative a 0 ≢ d → getD representative b 0 ≢ d
+      → NoUse representative first second n d (i + 1)
+  no-use-more u x y = record {
+    none = λ k l m. byTest (eqb k i)
+        (λ here. let e = eqb-true k i here in (
+          (λ z. x (ap (λ v. getD representative v 0) (t .first-is ∙ ap (λ k. getD first k 0) (sym e)) ∙ z)),
+          (λ z. y (ap (λ v. getD representative v 0) (t .second-is ∙ ap (λ k. getD second k 0) (sym e)) ∙ z)),
+        ))
+        (λ away. let c : k ≢ i = eqb-false k i away in u .none k (omega arith) m);
+  }
 
 true-false : true ≡ false → ⊥
 true-false e = let z : _≡_ {A = ℕ} 0 1 = cc in omega arith

@@ -1,7 +1,7 @@
 use Prim.Native.Nat.{_-_}
 use native.Mathlib.Omega.{arith}
 use borrow.Author.Needs.{needs}
-use Rattle.closure.proofs.Theory.Uses.{NoUse, no-use-start, no-use-more, no-use-end, use-below, use-first, use-second}
+use Rattle.closure.proofs.Theory.Uses.{NoUse, TermAt, no-use-start, no-use-more, no-use-end, use-below, use-first, use-second}
 use Rattle.closure.proofs.used.Statement.{statement}
 use Rattle.closure.proofs.used.Tie as tie
 
@@ -11,6 +11,17 @@ Inv-loop representative first second count d i₀ i = NoUse representative first
 abbrev μ-loop : tie.MeasureT-loop
 μ-loop representative first second count d i₀ i = count - i
 
+-- in a turn: the term i and its arguments
+abbrev start : tie.In-loop Inv-loop μ-loop → tie.Start Inv-loop μ-loop
+start c = c .before .before .before
+
+abbrev turn : tie.After-wide3 Inv-loop μ-loop → tie.In-loop Inv-loop μ-loop
+turn c = c .before .before .before .before
+
+term : (c : tie.After-wide3 Inv-loop μ-loop) → let a = start (turn c) .args in
+    TermAt (a .first .now) (a .second .now) (a .count) (turn c .before .loop .i) (c .before .before .wide2 .result) (c .wide3 .result)
+term c = record { below = turn c .loop-test .taken; first-is = c .before .before .wide2 .ensures; second-is = c .wide3 .ensures }
+
 pub used-spec : {M : Type 1} → statement M
 used-spec =
     tie.close (tie.spec
@@ -18,80 +29,21 @@ used-spec =
     μ-loop
     (λ c κs. search needs)
     (λ c. no-use-start _ _ _ _ _ (c .before .pre) _ (c .wide .ensures))
-    (λ c. let h = (c .loop-test .taken) in let w = (c .before .before .before .pre .within) in omega arith)
-    (λ c. let h = (c .loop-test .taken) in let w = (c .before .before .before .pre .within) in omega arith)
+    (λ c. omega (arith, c .loop-test .taken, start c .pre .within))
+    (λ c. omega (arith, c .loop-test .taken, start c .pre .within))
     (λ c κs. search needs)
-    (λ c.
-    let at-loop-test = c .before .before in
-    let at-pre = at-loop-test .before .before .before in
-    let h = (at-loop-test .loop-test .taken) in let w = (at-pre .pre .within) in omega arith)
-    (λ c.
-    let at-loop-test = c .before .before in
-    let at-pre = at-loop-test .before .before .before in
-    let h = (at-loop-test .loop-test .taken) in let w = (at-pre .pre .within) in omega arith)
+    (λ c. let t = c .before .before in omega (arith, t .loop-test .taken, start t .pre .within))
+    (λ c. let t = c .before .before in omega (arith, t .loop-test .taken, start t .pre .within))
     (λ c κs. search needs)
+    (λ c. omega (arith, use-below (start (turn c) .pre) (term c)))
+    (λ c. omega (arith, use-below (start (turn c) .pre) (term c)))
+    (λ c. use-first _ _ (term (c .before .before)) (c .if1 .taken))
+    (λ c. let at-wide3 = c .before .before in omega (arith, use-below (start (turn at-wide3) .pre) (term at-wide3)))
+    (λ c. let at-wide3 = c .before .before in omega (arith, use-below (start (turn at-wide3) .pre) (term at-wide3)))
+    (λ c. use-second _ _ (term (c .before .before .before .before)) (c .if2 .taken))
+    (λ c. let t = turn (c .before .before .before .before) in omega (arith, t .loop-test .taken, start t .pre .within))
+    (λ c. omega (arith, turn (c .before .before .before .before) .loop-test .taken))
     (λ c.
-    let at-wide2 = c .before .before in
-    let at-loop-test = at-wide2 .before .before in
-    let at-pre = at-loop-test .before .before .before in
-    let (h, k) = use-below _ _ _ _ 0 (at-pre .pre) _ _ _
-    (at-loop-test .loop-test .taken) (at-wide2 .wide2 .ensures) (c .wide3 .ensures) in omega arith)
-    (λ c.
-    let at-wide2 = c .before .before in
-    let at-loop-test = at-wide2 .before .before in
-    let at-pre = at-loop-test .before .before .before in
-    let (h, k) = use-below _ _ _ _ 0 (at-pre .pre) _ _ _
-    (at-loop-test .loop-test .taken) (at-wide2 .wide2 .ensures) (c .wide3 .ensures) in omega arith)
-    (λ c.
-    let at-wide3 = c .before .before in
-    let at-wide2 = at-wide3 .before .before in
-    let at-loop-test = at-wide2 .before .before in
-    let at-pre = at-loop-test .before .before .before in
-    use-first _ _ _ _ _ (at-pre .pre) _ _ _
-    (at-loop-test .loop-test .taken) (at-wide2 .wide2 .ensures) (at-wide3 .wide3 .ensures) (c .if1 .taken))
-    (λ c.
-    let at-wide3 = c .before .before in
-    let at-wide2 = at-wide3 .before .before in
-    let at-loop-test = at-wide2 .before .before in
-    let at-pre = at-loop-test .before .before .before in
-    let (h, k) = use-below _ _ _ _ 0 (at-pre .pre) _ _ _
-    (at-loop-test .loop-test .taken) (at-wide2 .wide2 .ensures) (at-wide3 .wide3 .ensures) in omega arith)
-    (λ c.
-    let at-wide3 = c .before .before in
-    let at-wide2 = at-wide3 .before .before in
-    let at-loop-test = at-wide2 .before .before in
-    let at-pre = at-loop-test .before .before .before in
-    let (h, k) = use-below _ _ _ _ 0 (at-pre .pre) _ _ _
-    (at-loop-test .loop-test .taken) (at-wide2 .wide2 .ensures) (at-wide3 .wide3 .ensures) in omega arith)
-    (λ c.
-    let at-if22 = c .before in
-    let at-wide3 = at-if22 .before .before .before in
-    let at-wide2 = at-wide3 .before .before in
-    let at-loop-test = at-wide2 .before .before in
-    let at-pre = at-loop-test .before .before .before in
-    use-second _ _ _ _ _ (at-pre .pre) _ _ _
-    (at-loop-test .loop-test .taken) (at-wide2 .wide2 .ensures) (at-wide3 .wide3 .ensures) (c .if2 .taken))
-    (λ c.
-    let at-if12 = c .before .before .before in
-    let at-wide2 = at-if12 .before .before .before in
-    let at-loop-test = at-wide2 .before .before in
-    let at-pre = at-loop-test .before .before .before in
-    let h = at-loop-test .loop-test .taken in
-    let w = at-pre .pre .within in
-    omega arith)
-    (λ c.
-    let at-if12 = c .before .before .before in
-    let at-wide2 = at-if12 .before .before .before in
-    let at-loop-test = at-wide2 .before .before in
-    let h = at-loop-test .loop-test .taken in
-    omega arith)
-    (λ c.
-    let at-if1 = c .before .before in
-    let at-wide3 = at-if1 .before .before in
-    let at-wide2 = at-wide3 .before .before in
-    let at-loop-test = at-wide2 .before .before in
-    let at-loop = at-loop-test .before in
-    let at-pre = at-loop .before .before in
-    no-use-more _ _ _ _ _ (at-pre .pre) _ _ _
-    (at-loop-test .loop-test .taken) (at-wide2 .wide2 .ensures) (at-wide3 .wide3 .ensures) (at-loop .loop .inv) (at-if1 .if1 .left) (c .if2 .left))
+    let at-wide3 = c .before .before .before .before in
+    no-use-more _ _ (term at-wide3) (turn at-wide3 .before .loop .inv) (c .before .before .if1 .left) (c .if2 .left))
     (λ c. no-use-end _ _ _ _ _ (c .before .before .before .pre) _ (c .before .loop .inv) (c .loop-test .left)))
