@@ -5,6 +5,7 @@ use Prim.Native.Nat.{_+_}
 use native.Mathlib.Omega.{arith}
 use borrow.Author.Needs.{needs}
 use Rattle.window.specs.Layout.{registers, functions, registerPairs}
+use Rattle.window.specs.declared.Window.{Window}
 use Rattle.window.specs.Parts.{windowOfParts, TableLengths}
 use Rattle.window.specs.Performing.{closedOf}
 use Rattle.window.proofs.Theory.Performing.{closed-more, closed-one, closed-none, closed-end}
@@ -19,6 +20,16 @@ Inv-loop class₀ unequal₀ result₀ ever₀ fuel₀ class unequal result ever
 abbrev μ-loop : tie.MeasureT-loop
 μ-loop class₀ unequal₀ result₀ ever₀ fuel₀ class unequal result ever fuel = fuel
 
+-- the window at the loop's head, with marks and infeasibility of its own; from where both names are known, the steps of the turn
+abbrev window : tie.At-loop Inv-loop μ-loop → List Bool → Bool → Window
+window c = let l = c .loop in windowOfParts (l .class) (l .unequal) (l .result) (l .ever)
+
+abbrev found : tie.After-name2 Inv-loop μ-loop → tie.After-find Inv-loop μ-loop
+found c = c .before .before .before .before
+
+abbrev turn : tie.After-name2 Inv-loop μ-loop → tie.In-loop Inv-loop μ-loop
+turn c = found c .before .before .before
+
 pub close-in-spec : {M : Type 1} → statement M
 close-in-spec = tie.close (tie.spec
     Inv-loop
@@ -30,71 +41,35 @@ close-in-spec = tie.close (tie.spec
     (λ c κs. search needs)
     (λ c κs. search needs)
     (λ c κs.
-    let at-merge-in-arg3 = c .before in
-    let at-if2 = at-merge-in-arg3 .before .before .before in
+    let at-if2 = c .before .before .before .before in
+    let at-if1 = at-if2 .before in (at-if1 .if1 .taken, at-if2 .if2 .taken, turn (at-if1 .before) .before .loop .inv .0))
+    (λ c. omega (arith, turn (c .before .before .before .before .before .before .before) .loop-test .taken))
+    (λ c. omega (arith, turn (c .before .before .before .before .before .before .before) .loop-test .taken))
+    (λ c.
+    let at-if2 = c .before .before .before .before .before in
     let at-if1 = at-if2 .before in
-    let at-rest-arg = at-if1 .before .before .before in
-    let at-find-arg2 = at-rest-arg .before .before .before in
-    let loop = at-find-arg2 .before .before .before .loop in
-    (at-if1 .if1 .taken, at-if2 .if2 .taken, loop .inv .0))
-    (λ c.
-    let at-merge-in-arg3 = c .before .before in
-    let at-if2 = at-merge-in-arg3 .before .before .before in
-    let at-rest = at-if2 .before .before .before in
-    let at-find = at-rest .before .before .before in
-    let at-loop-test = at-find .before .before .before in
-    omega (arith, at-loop-test .loop-test .taken))
-    (λ c.
-    let at-merge-in-arg3 = c .before .before in
-    let at-if2 = at-merge-in-arg3 .before .before .before in
-    let at-rest = at-if2 .before .before .before in
-    let at-find = at-rest .before .before .before in
-    let at-loop-test = at-find .before .before .before in
-    omega (arith, at-loop-test .loop-test .taken))
-    (λ c.
-    let at-merge-in-arg3 = c .before .before in
-    let at-if2 = at-merge-in-arg3 .before .before .before in
-    let at-if1 = at-if2 .before in
-    let at-name2 = at-if1 .before in
-    let at-rest = at-name2 .before in
-    let at-name = at-rest .before .before in
-    let at-find = at-name .before in
-    let at-loop-test = at-find .before .before .before in
-    let loop = at-loop-test .before .loop in
-    let loop-test = at-loop-test .loop-test in (
+    let names = at-if1 .before in
+    let head = turn names .before in (
       c .merge-in .ensures .1,
-      λ m i. sym (closed-more registers functions _ _ _ _ _ (windowOfParts (loop .class) (loop .unequal) (loop .result) (loop .ever) m i)
-          (at-find .find .ensures) (at-name .name .ensures) (at-rest .rest .ensures) (at-name2 .name2 .ensures) (loop-test .taken) _ (at-if1 .if1 .taken)
-          (at-if2 .if2 .taken) (c .merge-in .ensures .0 m i)) ∙ loop .inv .1 m i,
+      λ m i. sym (closed-more registers functions _ _ _ _ _ (window head m i) (found names .find .ensures) (names .before .before .before .name .ensures)
+          (names .before .rest .ensures) (names .name2 .ensures) (turn names .loop-test .taken) _ (at-if1 .if1 .taken) (at-if2 .if2 .taken)
+          (c .merge-in .ensures .0 m i)) ∙ head .loop .inv .1 m i,
     ))
     (λ c.
-    let at-name2 = c .before .before in
-    let at-rest = at-name2 .before in
-    let at-name = at-rest .before .before in
-    let at-find = at-name .before in
-    let at-loop-test = at-find .before .before .before in
-    let at-loop = at-loop-test .before in
-    let loop = at-loop .loop in (
-      (λ m i. sym (closed-one registers functions _ _ _ _ _ (windowOfParts (loop .class) (loop .unequal) (loop .result) (loop .ever) m i)
-          (at-find .find .ensures) (at-name .name .ensures) (at-rest .rest .ensures)
-          (at-name2 .name2 .ensures) (at-loop-test .loop-test .taken) (c .before .if1 .taken) (c .if2 .left)) ∙ loop .inv .1 m i),
-      loop .inv .0,
+    let names = c .before .before in
+    let head = turn names .before in (
+      (λ m i. sym (closed-one registers functions _ _ _ _ _ (window head m i) (found names .find .ensures) (names .before .before .before .name .ensures)
+          (names .before .rest .ensures) (names .name2 .ensures) (turn names .loop-test .taken) (c .before .if1 .taken) (c .if2 .left))
+          ∙ head .loop .inv .1 m i),
+      head .loop .inv .0,
     ))
     (λ c.
-    let at-rest = c .before .before in
-    let at-name = at-rest .before .before in
-    let at-find = at-name .before in
-    let at-loop-test = at-find .before .before .before in
-    let at-loop = at-loop-test .before in
-    let loop = at-loop .loop in (
-      (λ m i. sym (closed-none registers functions _ _ _ _ _ (windowOfParts (loop .class) (loop .unequal) (loop .result) (loop .ever) m i)
-          (at-find .find .ensures) (at-name .name .ensures) (at-rest .rest .ensures) (c .before .name2
-          .ensures) (at-loop-test .loop-test .taken) (c .if1 .left)) ∙ loop .inv .1 m i),
-      loop .inv .0,
+    let names = c .before in
+    let head = turn names .before in (
+      (λ m i. sym (closed-none registers functions _ _ _ _ _ (window head m i) (found names .find .ensures) (names .before .before .before .name .ensures)
+          (names .before .rest .ensures) (names .name2 .ensures) (turn names .loop-test .taken) (c .if1 .left)) ∙ head .loop .inv .1 m i),
+      head .loop .inv .0,
     ))
-    (λ c. (
-      (λ m i. sym (closed-end registers functions _
-          (windowOfParts (c .before .loop .class) (c .before .loop .unequal) (c .before .loop .result) (c .before .loop
-          .ever) m i) (c .loop-test .left)) ∙ c .before .loop .inv .1 m i),
-      c .before .loop .inv .0,
-    )))
+    (λ c.
+    let head = c .before in
+    ((λ m i. sym (closed-end registers functions _ (window head m i) (c .loop-test .left)) ∙ head .loop .inv .1 m i), head .loop .inv .0)))
