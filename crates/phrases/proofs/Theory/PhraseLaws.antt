@@ -158,41 +158,44 @@ module _ (s rs fs ns : List ℕ) (x at : ℕ) (t : Token) (e₁ : t ≡ tokenAt 
 
 -- ---- an assignment
 
-module _ (s rs fs ns : List ℕ) (at : ℕ) (t : Token) (e₁ : t ≡ tokenAt s at) (r : GotNumber) (g₁ : r ≡ plain (reading.useT rs t)) where
+-- what is read, where a reader's answer is a place
+pub use-read : (rs : List ℕ) (t : Token) {r : GotNumber} {x a : ℕ} → r ≡ plain (reading.useT rs t) → r ≡ At x a → reading.useT rs t ≡ reading.got x a
+use-read rs t {r} {x} {a} g i = let (y, e, h) = coded-at (λ n. n) (reading.useT rs t) r x a g i in rw h e
+
+pub token-read : (s : List ℕ) (k a : ℕ) {r : GotNumber} {z b : ℕ} → r ≡ withoutValue (reading.expect s k a) → r ≡ At z b
+    → reading.expect s k a ≡ reading.got tt b
+token-read s k a {r} {z} {b} g i = coded-at (λ _. 0) (reading.expect s k a) r z b g i .1
+
+pub letter-read : (g : reading.Got Letter) {r : GotLetter} {l : Letter} {c : ℕ} → r ≡ lettered sameLetter g → r ≡ letter.At l c → g ≡ reading.got l c
+letter-read g {r} {l} {c} h i = let (m, e, k) = lettered-at sameLetter g r l c h i in rw k e
+
+module _ (s rs fs ns : List ℕ) (at : ℕ) where
   abbrev Assignment : GotLetter
   Assignment = lettered sameLetter (reading.assignment s rs fs ns at)
 
-  pub assignment-target : (n p : ℕ) → r ≡ Refused n p → (w : GotLetter) → w ≡ carried r → w ≡ Assignment
+  pub assignment-target : {t : Token} → t ≡ tokenAt s at → {r : GotNumber} → r ≡ plain (reading.useT rs t) → {n p : ℕ} → r ≡ Refused n p → {w : GotLetter}
+      → w ≡ carried r → w ≡ Assignment
   unfolding reading.assignment
-  assignment-target n p i w c = rw (← e₁) (coded-refused (λ n. n) sameLetter (reading.useT rs t) _ r n p w g₁ i c)
+  assignment-target {t} e g i c = rw (← e) (coded-refused (λ n. n) sameLetter (reading.useT rs t) _ _ _ _ _ g i c)
 
-  module _ (x a : ℕ) (i : r ≡ At x a) (o : GotNumber) (g₂ : o ≡ withoutValue (reading.expect s word.becomesKey a)) where
-    target : reading.useT rs t ≡ reading.got x a
-    target = let (y, g, h) = coded-at (λ n. n) (reading.useT rs t) r x a g₁ i in rw h g
-
-    pub assignment-becomes : (n p : ℕ) → o ≡ Refused n p → (w : GotLetter) → w ≡ carried o → w ≡ Assignment
+  module _ (x a : ℕ) (target : reading.useT rs (tokenAt s at) ≡ reading.got x a) where
+    pub assignment-becomes : {r : GotNumber} → r ≡ withoutValue (reading.expect s word.becomesKey a) → {n p : ℕ} → r ≡ Refused n p → {w : GotLetter}
+        → w ≡ carried r → w ≡ Assignment
     unfolding reading.assignment
-    assignment-becomes n p j w c = rw (← e₁, target) (coded-refused (λ _. 0) sameLetter (reading.expect s word.becomesKey a) _ o n p w g₂ j c)
+    assignment-becomes g i c = rw target (coded-refused (λ _. 0) sameLetter (reading.expect s word.becomesKey a) _ _ _ _ _ g i c)
 
-    module _ (z b : ℕ) (j : o ≡ At z b) (q : GotLetter) (g₃ : q ≡ lettered sameLetter (reading.rightHandSide s rs fs ns x b)) where
-      pub assignment-value : (n p : ℕ) → q ≡ letter.Refused n p → q ≡ Assignment
+    module _ (b : ℕ) (sign : reading.expect s word.becomesKey a ≡ reading.got tt b) where
+      pub assignment-value : {r : GotLetter} → r ≡ lettered sameLetter (reading.rightHandSide s rs fs ns x b) → {n p : ℕ} → r ≡ letter.Refused n p
+          → r ≡ Assignment
       unfolding reading.assignment
-      assignment-value n p k =
-          let (x₂, v₂, w₂) = coded-at (λ _. 0) (reading.expect s word.becomesKey a) o z b g₂ j in
-          rw (← e₁, target, v₂) (lettered-refused sameLetter sameLetter (reading.rightHandSide s rs fs ns x b) _ q n p g₃ k)
+      assignment-value g i = rw (target, sign) (lettered-refused sameLetter sameLetter (reading.rightHandSide s rs fs ns x b) _ _ _ _ g i)
 
-      module _ (l : Letter) (c : ℕ) (k : q ≡ letter.At l c) (d : GotNumber) (g₄ : d ≡ withoutValue (reading.expect s word.semicolonKey c)) where
-        pub assignment-semicolon : (n p : ℕ) → d ≡ Refused n p → (w : GotLetter) → w ≡ carried d → w ≡ Assignment
+      module _ (l : Letter) (c : ℕ) (right : reading.rightHandSide s rs fs ns x b ≡ reading.got l c) where
+        pub assignment-semicolon : {r : GotNumber} → r ≡ withoutValue (reading.expect s word.semicolonKey c) → {n p : ℕ} → r ≡ Refused n p → {w : GotLetter}
+            → w ≡ carried r → w ≡ Assignment
         unfolding reading.assignment
-        assignment-semicolon n p m w y =
-            let (x₂, v₂, w₂) = coded-at (λ _. 0) (reading.expect s word.becomesKey a) o z b g₂ j in
-            let (x₃, v₃, w₃) = lettered-at sameLetter (reading.rightHandSide s rs fs ns x b) q l c g₃ k in
-            rw (← e₁, target, v₂, v₃) (coded-refused (λ _. 0) sameLetter (reading.expect s word.semicolonKey c) _ d n p w g₄ m y)
+        assignment-semicolon g i k = rw (target, sign, right) (coded-refused (λ _. 0) sameLetter (reading.expect s word.semicolonKey c) _ _ _ _ _ g i k)
 
-        pub assignment-read : (y e : ℕ) → d ≡ At y e → letter.At l e ≡ Assignment
+        pub assignment-read : (e : ℕ) → reading.expect s word.semicolonKey c ≡ reading.got tt e → letter.At l e ≡ Assignment
         unfolding reading.assignment
-        assignment-read y e m =
-            let (x₂, v₂, w₂) = coded-at (λ _. 0) (reading.expect s word.becomesKey a) o z b g₂ j in
-            let (x₃, v₃, w₃) = lettered-at sameLetter (reading.rightHandSide s rs fs ns x b) q l c g₃ k in
-            let (x₄, v₄, w₄) = coded-at (λ _. 0) (reading.expect s word.semicolonKey c) d y e g₄ m in
-            rw (← e₁, target, v₂, v₃, v₄) (ap (λ l. letter.At l e) w₃)
+        assignment-read e last = rw (target, sign, right, last)

@@ -1,7 +1,34 @@
+use mathlib.Core.Path.{_≡_}
+use Rattle.tokens.specs.Tokens.{tokenAt}
+use Rattle.tokens.specs.Words as word
+use Rattle.grammar.specs.Reading as reading
+use Rattle.phrases.proofs.Theory.PhraseLaws.{use-read, token-read, letter-read}
 use Rattle.phrases.proofs.Theory.PhraseLaws.{assignment-target, assignment-becomes, assignment-value, assignment-semicolon, assignment-read}
 use borrow.Author.Needs.{needs}
 use Rattle.phrases.proofs.assignment.Statement.{statement}
 use Rattle.phrases.proofs.assignment.Tie as tie
+
+-- the phrases that have been read
+abbrev start : tie.After-target → tie.Start
+start c = c .before .before .before .before .before .before .before .before
+
+target : (c : tie.After-target) → let a = start c .args in
+    reading.useT (a .regs .now) (tokenAt (a .text .now) (a .at)) ≡ reading.got (c .target .given .0 .0) (c .target .given .0 .1 .0)
+target c =
+    let at-use-of = c .before .before in
+    rw (← at-use-of .before .next .ensures)
+    (use-read (start c .args .regs .now) (at-use-of .before .next .result) (at-use-of .use-of .ensures) (c .target .given .1))
+
+sign : (c : tie.After-sign) → let t = c .before .before .before .before in
+    reading.expect (start t .args .text .now) word.becomesKey (t .target .given .0 .1 .0) ≡ reading.got tt (c .sign .given .0 .1 .0)
+sign c = token-read _ _ _ (c .before .before .expect .ensures) (c .sign .given .1)
+
+right : (c : tie.After-right) → let g = c .before .before .before .before in
+    let t = g .before .before .before .before in
+    let a = start t .args in
+    reading.rightHandSide (a .text .now) (a .regs .now) (a .funs .now) (a .arities .now) (t .target .given .0 .0) (g .sign .given .0 .1 .0)
+    ≡ reading.got (c .right .given .0 .0) (c .right .given .0 .1 .0)
+right c = letter-read _ (c .before .before .value .ensures) (c .right .given .1)
 
 next-requires : tie.Need-next-requires
 next-requires c κs = search needs
@@ -21,8 +48,7 @@ refusal-requires c κs = search needs
 returns : tie.Need-returns
 returns c =
     let at-use-of = c .before .before .before in
-    let at-next = at-use-of .before in
-    assignment-target _ _ _ _ _ _ (at-next .next .ensures) _ (at-use-of .use-of .ensures) _ _ ((c .before .enum-told .given) .1) _ (c .refusal .ensures)
+    assignment-target _ _ _ _ _ (at-use-of .before .next .ensures) (at-use-of .use-of .ensures) (c .before .enum-told .given .1) (c .refusal .ensures)
 
 expect-requires : tie.Need-expect-requires
 expect-requires c κs = search needs
@@ -39,11 +65,7 @@ refusal-requires-2 c κs = search needs
 returns-2 : tie.Need-returns-2
 returns-2 c =
     let at-expect = c .before .before .before in
-    let at-target = at-expect .before .before in
-    let at-use-of = at-target .before .before in
-    let at-next = at-use-of .before in
-    assignment-becomes _ _ _ _ _ _ (at-next .next .ensures) _ (at-use-of .use-of .ensures) _ _ ((at-target .target .given) .1) _
-    (at-expect .expect .ensures) _ _ ((c .before .enum-told2 .given) .1) _ (c .refusal2 .ensures)
+    assignment-becomes _ _ _ _ _ _ _ (target (at-expect .before .before)) (at-expect .expect .ensures) (c .before .enum-told2 .given .1) (c .refusal2 .ensures)
 
 value-requires : tie.Need-value-requires
 value-requires c κs = search needs
@@ -58,12 +80,7 @@ returns-3 : tie.Need-returns-3
 returns-3 c =
     let at-value = c .before .before in
     let at-sign = at-value .before .before in
-    let at-expect = at-sign .before .before in
-    let at-target = at-expect .before .before in
-    let at-use-of = at-target .before .before in
-    let at-next = at-use-of .before in
-    assignment-value _ _ _ _ _ _ (at-next .next .ensures) _ (at-use-of .use-of .ensures) _ _ ((at-target .target .given) .1) _
-    (at-expect .expect .ensures) _ _ ((at-sign .sign .given) .1) _ (at-value .value .ensures) _ _ ((c .enum-told3 .given) .1)
+    assignment-value _ _ _ _ _ _ _ (target (at-sign .before .before .before .before)) _ (sign at-sign) (at-value .value .ensures) (c .enum-told3 .given .1)
 
 expect-requires-2 : tie.Need-expect-requires-2
 expect-requires-2 c κs = search needs
@@ -81,29 +98,17 @@ returns-4 : tie.Need-returns-4
 returns-4 c =
     let at-expect2 = c .before .before .before in
     let at-right = at-expect2 .before .before in
-    let at-value = at-right .before .before in
-    let at-sign = at-value .before .before in
-    let at-expect = at-sign .before .before in
-    let at-target = at-expect .before .before in
-    let at-use-of = at-target .before .before in
-    let at-next = at-use-of .before in
-    assignment-semicolon _ _ _ _ _ _ (at-next .next .ensures) _ (at-use-of .use-of .ensures) _ _ ((at-target .target .given) .1) _
-    (at-expect .expect .ensures) _ _ ((at-sign .sign .given) .1) _ (at-value .value .ensures) _ _ ((at-right .right .given) .1) _
-    (at-expect2 .expect2 .ensures) _ _ ((c .before .enum-told4 .given) .1) _ (c .refusal3 .ensures)
+    let at-sign = at-right .before .before .before .before in
+    assignment-semicolon _ _ _ _ _ _ _ (target (at-sign .before .before .before .before)) _ (sign at-sign) _ _ (right at-right)
+    (at-expect2 .expect2 .ensures) (c .before .enum-told4 .given .1) (c .refusal3 .ensures)
 
 returns-5 : tie.Need-returns-5
 returns-5 c =
     let at-expect2 = c .before .before .before in
     let at-right = at-expect2 .before .before in
-    let at-value = at-right .before .before in
-    let at-sign = at-value .before .before in
-    let at-expect = at-sign .before .before in
-    let at-target = at-expect .before .before in
-    let at-use-of = at-target .before .before in
-    let at-next = at-use-of .before in
-    assignment-read _ _ _ _ _ _ (at-next .next .ensures) _ (at-use-of .use-of .ensures) _ _ ((at-target .target .given) .1) _
-    (at-expect .expect .ensures) _ _ ((at-sign .sign .given) .1) _ (at-value .value .ensures) _ _ ((at-right .right .given) .1) _
-    (at-expect2 .expect2 .ensures) _ _ ((c .before .last .given) .1)
+    let at-sign = at-right .before .before .before .before in
+    assignment-read _ _ _ _ _ _ _ (target (at-sign .before .before .before .before)) _ (sign at-sign) _ _ (right at-right) _
+    (token-read _ _ _ (at-expect2 .expect2 .ensures) (c .before .last .given .1))
 
 pub assignment-spec : {M : Type 1} → statement M
 assignment-spec =
