@@ -385,14 +385,16 @@ module _ (s : List ℕ) (a : ℕ) {rs : Registers} (e : rs ≡ heldRegisters (re
   pub names-kept : rs .ok ≡ true → RegistersPadded rs
   names-kept k = let (l, b, w, x, y, K) = names-ok k in K
 
-  pub read-rest : readMacro s ≡ registersFrom s a → rs .ok ≡ true → {r : MacroRead} → r ≡ heldReading (functionsFrom s (listOf rs) (rs .at)) → r ≡ heldReading (readMacro s)
+  pub read-rest : readMacro s ≡ registersFrom s a → rs .ok ≡ true → {r : MacroRead}
+      → r ≡ heldReading (functionsFrom s (listOf rs) (rs .at)) → r ≡ heldReading (readMacro s)
   unfolding registersFrom
   read-rest f k g =
       let (l, b, w, x, y, K) = names-ok k in
       g ∙ (λ i. heldReading (functionsFrom s (y i) (x i))) ∙ ap (λ x. heldReading (andThen x λ rs b. functionsFrom s rs b)) (sym w)
       ∙ ap heldReading (sym f)
 
-  pub read-refused : readMacro s ≡ registersFrom s a → rs .ok ≡ false → {r : MacroRead} → r ≡ heldReading (Got.refused (rs .number) (rs .place)) → r ≡ heldReading (readMacro s)
+  pub read-refused : readMacro s ≡ registersFrom s a → rs .ok ≡ false → {r : MacroRead}
+      → r ≡ heldReading (Got.refused (rs .number) (rs .place)) → r ≡ heldReading (readMacro s)
   unfolding registersFrom heldRegisters heldReading
   read-refused f k g = g ∙ go (registerNames s mostRegisters [] a) e ∙ ap heldReading (sym f)
     where

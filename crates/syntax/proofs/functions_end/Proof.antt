@@ -29,8 +29,8 @@ returns-3 : tie.Need-returns-3
 returns-3 c =
     let start = c .before .before .before .before in
     let t = start .args .t in
-    law.functions-unlisted [] _ _ _ (start .pre .0) (start .pre .1) t _ (c .before .unfit-number .ensures) (law.unlisted-token t (start .args .count) (c .before .before .if1 .left)) _
-    (c .no-functions2 .ensures)
+    law.functions-unlisted [] _ _ _ (start .pre .0) (start .pre .1) t _ (c .before .unfit-number .ensures)
+    (law.unlisted-token t (start .args .count) (c .before .before .if1 .left)) _ (c .no-functions2 .ensures)
 
 pub functions-end-spec : {M : Type 1} → statement M
 functions-end-spec =

@@ -29,8 +29,8 @@ returns-3 : tie.Need-returns-3
 returns-3 c =
     let start = c .before .before .before .before in
     let t = start .args .t in
-    law.registers-unlisted [] _ _ (start .pre) t _ (c .before .unfit-number .ensures) (law.unlisted-token t (start .args .count) (c .before .before .if1 .left)) _
-    (c .no-registers2 .ensures)
+    law.registers-unlisted [] _ _ (start .pre) t _ (c .before .unfit-number .ensures)
+    (law.unlisted-token t (start .args .count) (c .before .before .if1 .left)) _ (c .no-registers2 .ensures)
 
 pub registers-end-spec : {M : Type 1} → statement M
 registers-end-spec =
