@@ -49,7 +49,8 @@ module _ {registers functions : List ℕ} (h : Header) {x f y z a b c d : ℕ} (
     {takes-two : Bool} (said : takes-two ≡ has (h .binary) f) where
   -- "0 := 1(2,3)"
   pub two-form : takes-two ≡ true
-      → letterLine (namesOf registers functions) h (Apply x f y z) ≡ filledIn (48 ∷ 32 ∷ 58 ∷ 61 ∷ 32 ∷ 49 ∷ 40 ∷ 50 ∷ 44 ∷ 51 ∷ 41 ∷ 10 ∷ []) (a ∷ b ∷ c ∷ d ∷ [])
+      → letterLine (namesOf registers functions) h (Apply x f y z)
+      ≡ filledIn (48 ∷ 32 ∷ 58 ∷ 61 ∷ 32 ∷ 49 ∷ 40 ∷ 50 ∷ 44 ∷ 51 ∷ 41 ∷ 10 ∷ []) (a ∷ b ∷ c ∷ d ∷ [])
   unfolding letterLine line filledIn part
   two-form e = rw (sym said ∙ e, names .target, names .function, names .first, names .second)
 

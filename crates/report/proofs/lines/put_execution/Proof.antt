@@ -11,7 +11,8 @@ use Rattle.report.proofs.lines.put_execution.Statement.{statement}
 use Rattle.report.proofs.lines.put_execution.Tie as tie
 
 -- the line with the number of letters, and the letters' lines
-parts : (c : tie.Start) → let a = c .args in let names = namesOf (a .registers) (a .functions) in let letters = lettersIn (a .h) (a .answer .now) 0 (a .count) in
+parts : (c : tie.Start) → let a = c .args in let names = namesOf (a .registers) (a .functions) in
+    let letters = lettersIn (a .h) (a .answer .now) 0 (a .count) in
     letterLines names (a .h) letters ≡ line (lettersWord ∷ numeral (a .count) ∷ []) ++ linesOf (letterLine names (a .h)) letters
 parts c = let a = c .args in execution-parts (namesOf (a .registers) (a .functions)) (a .h) (a .answer .now) (a .count)
 

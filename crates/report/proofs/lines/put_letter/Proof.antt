@@ -49,7 +49,8 @@ put-letter-spec =
     (λ c.
     let at-letter = c .before .before .before .before .before in
     let a = at-letter .before .before .before .args in
-    appended-same (sym (ap (letterLine (namesOf (a .registers) (a .functions)) (a .h)) (at-letter .letter2 .given .1))) (c .before .before .put-application .ensures))
+    appended-same (sym (ap (letterLine (namesOf (a .registers) (a .functions)) (a .h)) (at-letter .letter2 .given .1)))
+    (c .before .before .put-application .ensures))
     (λ c. appended-length (c .before .before .put-two2 .ensures))
     (λ c.
     let at-letter = c .before .before .before .before .before .before in
