@@ -1,9 +1,16 @@
-use mathlib.Core.Path.{refl}
 use native.Mathlib.Omega.{arith}
-use Rattle.search.proofs.Theory.Modelling.{modelled-yes, modelled-infeasible, modelled-refused}
+use lib.ListN.{drop}
+use Rattle.search.proofs.Theory.Modelling.{ShownBehind, outputWith, shown-behind, modelled-yes, modelled-infeasible, modelled-refused}
 use borrow.Author.Needs.{needs}
 use Rattle.search.proofs.show_model.Statement.{statement}
 use Rattle.search.proofs.show_model.Tie as tie
+
+-- where the call has returned
+behind : (c : tie.After-show) → let a = c .before .before .before .before .before .args in
+    ShownBehind (drop (a .start) (a .t1)) (a .output .now) (c .show .result) (outputWith (a .start) (a .output .now) (c .show .last .1 .0))
+behind c =
+    let a = c .before .before .before .before .before .args in
+    shown-behind (a .t1) (a .start) (a .output .now) (c .show .result) (c .show .last .1 .0) (search needs) (omega arith) (c .show .ensures)
 
 sub-n : tie.Need-sub-n
 sub-n c = search needs
@@ -36,13 +43,7 @@ same-length : tie.Need-same-length
 same-length c = search needs
 
 returns : tie.Need-returns
-returns c =
-    let at-match = c .before .before in
-    let at-show = at-match .before .before .before in
-    let at-bytes = at-show .before .before .before in
-    let a = at-bytes .before .before .args in
-    modelled-yes (a .t1) (a .start) (a .output .now) (at-show .show .result) (at-show .show .last .1 .0) (search needs) (omega arith)
-    (at-show .show .ensures) _ refl (c .before .shown .given .0 .0) (c .before .shown .given .1)
+returns c = modelled-yes (behind (c .before .before .before .before .before)) (c .before .shown .given .1)
 
 enum-known-shown-2 : tie.Need-enum-known-shown-2
 enum-known-shown-2 c = search needs
@@ -51,13 +52,7 @@ same-length-2 : tie.Need-same-length-2
 same-length-2 c = search needs
 
 returns-2 : tie.Need-returns-2
-returns-2 c =
-    let at-match = c .before .before in
-    let at-show = at-match .before .before .before in
-    let at-bytes = at-show .before .before .before in
-    let a = at-bytes .before .before .args in
-    modelled-infeasible (a .t1) (a .start) (a .output .now) (at-show .show .result) (at-show .show .last .1 .0) (search needs) (omega arith)
-    (at-show .show .ensures) _ refl (c .before .shown2 .given .0 .0) (c .before .shown2 .given .1)
+returns-2 c = modelled-infeasible (behind (c .before .before .before .before .before)) (c .before .shown2 .given .1)
 
 enum-known-shown-3 : tie.Need-enum-known-shown-3
 enum-known-shown-3 c = search needs
@@ -66,13 +61,7 @@ same-length-3 : tie.Need-same-length-3
 same-length-3 c = search needs
 
 returns-3 : tie.Need-returns-3
-returns-3 c =
-    let at-match = c .before .before in
-    let at-show = at-match .before .before .before in
-    let at-bytes = at-show .before .before .before in
-    let a = at-bytes .before .before .args in
-    modelled-refused (a .t1) (a .start) (a .output .now) (at-show .show .result) (at-show .show .last .1 .0) (search needs) (omega arith)
-    (at-show .show .ensures) _ refl (c .before .shown3 .given .0 .0) (c .before .shown3 .given .0 .1 .0) (c .before .shown3 .given .1)
+returns-3 c = modelled-refused (behind (c .before .before .before .before .before)) (c .before .shown3 .given .1)
 
 pub show-model-spec : {M : Type 1} → statement M
 show-model-spec =
