@@ -20,24 +20,11 @@ merge-masks-spec = tie.close (tie.spec
     let at-move-bits = c .before .before in
     let at-single2 = at-move-bits .before in
     let at-single = at-single2 .before in
-<<<<<<< HEAD
     let at-spread-column = at-single .before .before .before .before in
-    let at-before = at-spread-column .before .before .before in
-    let k = at-before .before in
-    let p = k .before .before .before .pre in
-    masks-merged registers _ _ _ _ _ _ _
-    (merged-twice (columns registers) (columns-partition registers) _ _ _ (p .0) _ _ _ _
-    (columns-span registers _ _ (p .3) refl) (p .2) (k .unite-column .ensures)
-    (at-spread-column .spread-column .ensures)) (ap₂ bitOr (at-single .single .ensures) (at-single2 .single2 .ensures))
-    (at-move-bits .move-bits .ensures)))
-=======
-    let at-t2 = at-single .before .before .before in
-    let at-spread-column = at-t2 .before in
-    let at-t = at-spread-column .before .before .before in
-    let at-unite-column = at-t .before in
+    let at-unite-column = at-spread-column .before .before .before .before in
     let at-pre = at-unite-column .before .before .before in
     let p = at-pre .pre in
-    masks-merged registers _ _ _ _ _ _ _ (merged-twice (columns registers) _ _ _ (p .0) _ _ _ _ (columns-span registers _ _ (p .3) refl) (p .2)
-    (at-unite-column .unite-column .ensures) (at-spread-column .spread-column .ensures)) (ap₂ bitOr (at-single .single .ensures)
-    (at-single2 .single2 .ensures)) (at-move-bits .move-bits .ensures)))
->>>>>>> 22cc174 (Window: steps of the proofs by name)
+    masks-merged registers _ _ _ _ _ _ _
+    (merged-twice (columns registers) (columns-partition registers) _ _ _ (p .0) _ _ _ _ (columns-span registers _ _ (p .3) refl) (p .2)
+    (at-unite-column .unite-column .ensures) (at-spread-column .spread-column .ensures))
+    (ap₂ bitOr (at-single .single .ensures) (at-single2 .single2 .ensures)) (at-move-bits .move-bits .ensures)))

@@ -23,30 +23,15 @@ merge-results-spec = tie.close (tie.spec
     let at-move-bits = c .before .before in
     let at-single2 = at-move-bits .before in
     let at-single = at-single2 .before in
-<<<<<<< HEAD
     let at-spread-row = at-single .before .before .before .before in
     let at-unite-row = at-spread-row .before .before .before .before in
     let at-spread-column = at-unite-row .before .before .before .before in
-    let at-before = at-spread-column .before .before .before in
-    let k = at-before .before in
-    let p = k .before .before .before .pre in
-    let m = merged-twice (columns registers) (columns-partition registers) _ _ _ (p .0) _ _ _ _
-    (columns-span registers _ _ (whole registers lines (k .before .before .before .args .t .now) (p .3)) refl) (p .2) (k .unite-column .ensures)
-    (at-spread-column .spread-column .ensures) in
-=======
-    let at-t4 = at-single .before .before .before in
-    let at-spread-row = at-t4 .before in
-    let at-t3 = at-spread-row .before .before .before in
-    let at-unite-row = at-t3 .before in
-    let at-t2 = at-unite-row .before .before .before in
-    let at-spread-column = at-t2 .before in
-    let at-t = at-spread-column .before .before .before in
-    let at-unite-column = at-t .before in
+    let at-unite-column = at-spread-column .before .before .before .before in
     let at-start = at-unite-column .before .before .before in
     let p = at-start .pre in
-    let m = merged-twice (columns registers) _ _ _ (p .0) _ _ _ _ (columns-span registers _ _ (whole registers lines (at-start .args .t .now) (p .3))
-    refl) (p .2) (at-unite-column .unite-column .ensures) (at-spread-column .spread-column .ensures) in
->>>>>>> 22cc174 (Window: steps of the proofs by name)
+    let m = merged-twice (columns registers) (columns-partition registers) _ _ _ (p .0) _ _ _ _
+    (columns-span registers _ _ (whole registers lines (at-start .args .t .now) (p .3)) refl) (p .2) (at-unite-column .unite-column .ensures)
+    (at-spread-column .spread-column .ensures) in
     results-merged registers _ _ _ _ _ _ _ _
     m
     (merged-twice (rows registers) (rows-partition registers) _ _ _ (p .0) _ _ _ _
