@@ -162,9 +162,9 @@ module _ (s rs fs ns : List ℕ) (x at : ℕ) (t : Token) (e₁ : t ≡ tokenAt 
 pub use-read : (rs : List ℕ) (t : Token) {r : GotNumber} {x a : ℕ} → r ≡ plain (reading.useT rs t) → r ≡ At x a → reading.useT rs t ≡ reading.got x a
 use-read rs t {r} {x} {a} g i = let (y, e, h) = coded-at (λ n. n) (reading.useT rs t) r x a g i in rw h e
 
-pub token-read : (s : List ℕ) (k a : ℕ) {r : GotNumber} {z b : ℕ} → r ≡ withoutValue (reading.expect s k a) → r ≡ At z b
+pub expect-read : (s : List ℕ) (k a : ℕ) {r : GotNumber} {z b : ℕ} → r ≡ withoutValue (reading.expect s k a) → r ≡ At z b
     → reading.expect s k a ≡ reading.got tt b
-token-read s k a {r} {z} {b} g i = coded-at (λ _. 0) (reading.expect s k a) r z b g i .1
+expect-read s k a {r} {z} {b} g i = coded-at (λ _. 0) (reading.expect s k a) r z b g i .1
 
 pub letter-read : (g : reading.Got Letter) {r : GotLetter} {l : Letter} {c : ℕ} → r ≡ lettered sameLetter g → r ≡ letter.At l c → g ≡ reading.got l c
 letter-read g {r} {l} {c} h i = let (m, e, k) = lettered-at sameLetter g r l c h i in rw k e

@@ -2,7 +2,7 @@ use mathlib.Core.Path.{_≡_}
 use Rattle.tokens.specs.Tokens.{tokenAt}
 use Rattle.tokens.specs.Words as word
 use Rattle.grammar.specs.Reading as reading
-use Rattle.phrases.proofs.Theory.PhraseLaws.{use-read, token-read, letter-read}
+use Rattle.phrases.proofs.Theory.PhraseLaws.{use-read, expect-read, letter-read}
 use Rattle.phrases.proofs.Theory.PhraseLaws.{assignment-target, assignment-becomes, assignment-value, assignment-semicolon, assignment-read}
 use borrow.Author.Needs.{needs}
 use Rattle.phrases.proofs.assignment.Statement.{statement}
@@ -21,7 +21,7 @@ target c =
 
 sign : (c : tie.After-sign) → let t = c .before .before .before .before in
     reading.expect (start t .args .text .now) word.becomesKey (t .target .given .0 .1 .0) ≡ reading.got tt (c .sign .given .0 .1 .0)
-sign c = token-read _ _ _ (c .before .before .expect .ensures) (c .sign .given .1)
+sign c = expect-read _ _ _ (c .before .before .expect .ensures) (c .sign .given .1)
 
 right : (c : tie.After-right) → let g = c .before .before .before .before in
     let t = g .before .before .before .before in
@@ -108,7 +108,7 @@ returns-5 c =
     let at-right = at-expect2 .before .before in
     let at-sign = at-right .before .before .before .before in
     assignment-read _ _ _ _ _ _ _ (target (at-sign .before .before .before .before)) _ (sign at-sign) _ _ (right at-right) _
-    (token-read _ _ _ (at-expect2 .expect2 .ensures) (c .before .last .given .1))
+    (expect-read _ _ _ (at-expect2 .expect2 .ensures) (c .before .last .given .1))
 
 pub assignment-spec : {M : Type 1} → statement M
 assignment-spec =

@@ -357,8 +357,8 @@ module _ (s : List ℕ) (l : length s ≤ longestText) {g : number.GotNumber} (i
       go (Got.refused n p) i = rw i
       go exhausted i = rw i
 
-  pub begun : {v a : ℕ} → g ≡ number.the-variants.At v a → readMacro s ≡ registersFrom s a
-  begun {v} {a} h = let (u, x, y) = coded-at (λ _. 0) (expect s word.varsKey 0) g v a i h in steps s l ∙ ap (λ x. andThen x λ _ a. registersFrom s a) x
+  pub macro-begun : {v a : ℕ} → g ≡ number.the-variants.At v a → readMacro s ≡ registersFrom s a
+  macro-begun {v} {a} h = let (u, x, y) = coded-at (λ _. 0) (expect s word.varsKey 0) g v a i h in steps s l ∙ ap (λ x. andThen x λ _ a. registersFrom s a) x
 
 module _ (s : List ℕ) (a : ℕ) {rs : Registers} (e : rs ≡ heldRegisters (registerNames s mostRegisters [] a)) where
   names-ok : rs .ok ≡ true → (l : List ℕ) × (b : ℕ) × (registerNames s mostRegisters [] a ≡ got l b) × (rs .at ≡ b) × (listOf rs ≡ l) × RegistersPadded rs

@@ -9,7 +9,7 @@ use Rattle.syntax.proofs.read.Tie as tie
 
 -- behind the word that begins a macro
 begun : (c : tie.After-g) → let text = c .before .before .before .before .before .args .text .now in readMacro text ≡ registersFrom text (c .g .given .0 .1 .0)
-begun c = law.begun _ (c .before .before .before .if1 .left) (c .before .before .expect .ensures) (c .g .given .1)
+begun c = law.macro-begun _ (c .before .before .before .if1 .left) (c .before .before .expect .ensures) (c .g .given .1)
 
 refused-answer-requires : tie.Need-refused-answer-requires
 refused-answer-requires c κs = search needs
