@@ -131,10 +131,10 @@ pub +block+braces+conditional+otherwise+repeat+statement-spec : {M : Type 1} →
     let at-next = c .before .before in
     let at-loop = at-next .before in
     let at-moved = at-loop .before in
-    let at-before = at-moved .before .before in
-    let past = at-before .before in
+    let at-shared-slice-known3 = at-moved .before .before in
+    let at-pre = at-shared-slice-known3 .before .before .before in
     law.block-brace _ _ _ _ _ _ _ _ (at-loop .loop .inv) _ (at-next .next .ensures) _
-    (past .before .before .pre .1 .counted) (at-moved .moved .ensures _) (c .if1 .taken))
+    (at-pre .pre .1 .counted) (at-moved .moved .ensures _) (c .if1 .taken))
     (λ c.
     let at-if1 = c .before .before in
     let at-next = at-if1 .before .before in
@@ -211,9 +211,10 @@ pub +block+braces+conditional+otherwise+repeat+statement-spec : {M : Type 1} →
     let at-next = at-if1 .before .before in
     law.braces-deep _ _ _ _ _ _ _ (at-next .next .ensures) _ (at-if1 .if1 .taken) (c .before .if2 .taken) (c .stopped .ensures _))
     (λ c κs.
-    let at-before = c .before .before .before .before .before .before in
-    let past = at-before .before in
-    past .before .pre .1 .counted)
+    let at-next = c .before .before .before in
+    let at-shared-slice-known3 = at-next .before .before in
+    let at-pre = at-shared-slice-known3 .before .before .before in
+    at-pre .pre .1 .counted)
     (λ c. omega (arith, c .before .if2 .left))
     (λ c κs.
     let at-moved = c .before .before .before in
@@ -261,9 +262,10 @@ pub +block+braces+conditional+otherwise+repeat+statement-spec : {M : Type 1} →
     (at-moved .moved .ensures _) (c .before .block .ensures) (c .if3 .left))
     (λ c κs. search needs)
     (λ c κs.
-    let at-before = c .before .before .before .before .before .before in
-    let past = at-before .before in
-    past .before .pre .1 .counted)
+    let at-next = c .before .before .before in
+    let at-shared-slice-known3 = at-next .before .before in
+    let at-pre = at-shared-slice-known3 .before .before .before in
+    at-pre .pre .1 .counted)
     (λ c.
     let at-if1 = c .before .before in
     let at-next = at-if1 .before .before in
@@ -298,13 +300,15 @@ pub +block+braces+conditional+otherwise+repeat+statement-spec : {M : Type 1} →
     (λ c κs.
     let at-if2 = c .before .before .before in
     let at-braces = at-if2 .before in
-    let at-before = at-braces .before .before in
-    let past = at-before .before in
-    let far = past .before .before .before .before .before .before .before in
-    let (x, y, z) = law.condition-at _ _ _ _ _ (past .before .before .before .before .before .before .condition .ensures)
-    (past .before .before .settled .ensures) (past .before .if1 .taken) in
+    let at-if1 = at-braces .before .before .before .before in
+    let at-settled = at-if1 .before in
+    let at-settled-arg3 = at-settled .before in
+    let at-condition = at-settled-arg3 .before .before .before in
+    let at-shared-slice-known3 = at-condition .before .before in
+    let at-pre = at-shared-slice-known3 .before .before .before in
+    let (x, y, z) = law.condition-at _ _ _ _ _ (at-condition .condition .ensures) (at-settled .settled .ensures) (at-if1 .if1 .taken) in
     let (v, w) = law.braces-at _ _ _ _ _ _ _ (at-braces .braces .ensures) (at-if2 .if2 .taken) in
-    (omega (arith, far .before .before .before .before .pre .0), law.ready (far .before .before .before .before .pre .1) w))
+    (omega (arith, at-pre .pre .0), law.ready (at-pre .pre .1) w))
     (λ c κs. search needs)
     (λ c.
     let at-if3 = c .before .before .before in
@@ -362,12 +366,12 @@ pub +block+braces+conditional+otherwise+repeat+statement-spec : {M : Type 1} →
     (λ c κs.
     let at-moved = c .before .before .before in
     let at-if1 = at-moved .before in
-    let at-before = at-if1 .before .before in
-    let past = at-before .before in
-    let (x, y) = law.token-on (past .before .before .before .before .args .text .now) _ _
-    (at-before .next .ensures) (omega (arith, at-if1 .if1 .taken)) in
+    let at-next = at-if1 .before .before in
+    let at-shared-slice-known3 = at-next .before .before in
+    let at-start = at-shared-slice-known3 .before .before .before in
+    let (x, y) = law.token-on (at-start .args .text .now) _ _ (at-next .next .ensures) (omega (arith, at-if1 .if1 .taken)) in
     let z = at-moved .moved .ensures [] .at in
-    let pre = past .before .before .before .before .pre in
+    let pre = at-start .pre in
     (omega (arith, pre .0), law.ready (pre .1) (fine-count (at-moved .moved .ensures []))))
     (λ c.
     let at-braces-arg3 = c .before in
@@ -455,12 +459,12 @@ pub +block+braces+conditional+otherwise+repeat+statement-spec : {M : Type 1} →
     (λ c κs.
     let at-moved = c .before .before .before in
     let at-if1 = at-moved .before in
-    let at-before = at-if1 .before .before in
-    let past = at-before .before in
-    let (x, y) = law.token-on (past .before .before .before .before .args .text .now) _ _
-    (at-before .next .ensures) (omega (arith, at-if1 .if1 .taken)) in
+    let at-next = at-if1 .before .before in
+    let at-shared-slice-known3 = at-next .before .before in
+    let at-start = at-shared-slice-known3 .before .before .before in
+    let (x, y) = law.token-on (at-start .args .text .now) _ _ (at-next .next .ensures) (omega (arith, at-if1 .if1 .taken)) in
     let z = at-moved .moved .ensures [] .at in
-    let pre = past .before .before .before .before .pre in
+    let pre = at-start .pre in
     (omega (arith, pre .0), law.ready (pre .1) (fine-count (at-moved .moved .ensures []))))
     (λ c.
     let at-conditional-arg3 = c .before in
@@ -472,9 +476,11 @@ pub +block+braces+conditional+otherwise+repeat+statement-spec : {M : Type 1} →
     law.statement-if _ _ _ _ _ _ _ (at-next .next .ensures) (at-pre .pre .1 .counted) _ _ (at-moved .moved .ensures _) (at-if1 .if1 .taken)
     (c .conditional .ensures))
     (λ c κs.
-    let at-before = c .before .before .before .before .before .before in
-    let past = at-before .before in
-    past .before .before .pre .1 .counted)
+    let at-if1 = c .before .before in
+    let at-next = at-if1 .before .before in
+    let at-shared-slice-known3 = at-next .before .before in
+    let at-pre = at-shared-slice-known3 .before .before .before in
+    at-pre .pre .1 .counted)
     (λ c κs.
     let at-moved2 = c .before .before .before in
     let at-if2 = at-moved2 .before in
@@ -497,9 +503,12 @@ pub +block+braces+conditional+otherwise+repeat+statement-spec : {M : Type 1} →
     law.statement-while _ _ _ _ _ _ _ (at-next .next .ensures) (at-pre .pre .1 .counted) _ _ (at-moved2 .moved2 .ensures _) (at-if2 .if2 .taken)
     (c .repeat .ensures))
     (λ c κs.
-    let at-before = c .before .before .before .before .before .before in
-    let past = at-before .before in
-    past .before .before .before .before .before .pre .1)
+    let at-if2 = c .before .before .before in
+    let at-if1 = at-if2 .before .before in
+    let at-next = at-if1 .before .before in
+    let at-shared-slice-known3 = at-next .before .before in
+    let at-pre = at-shared-slice-known3 .before .before .before in
+    at-pre .pre .1)
     (λ c.
     let at-plain-arg3 = c .before in
     let at-if2 = at-plain-arg3 .before .before .before in

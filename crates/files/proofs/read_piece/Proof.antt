@@ -14,6 +14,5 @@ read-piece-spec =
     (λ c κs. search needs)
     (λ c. search needs)
     (λ c.
-    let at-before = c .before .before .before .before .before in
-    let start = at-before .before in
+    let start = c .before .before .before .before .before .before in
     gave _ (start .args .most) (c .outcome .result) (c .outcome .ensures) (start .pre .0)))

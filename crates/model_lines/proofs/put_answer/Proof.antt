@@ -17,15 +17,13 @@ put-answer-spec =
     (λ c. search needs)
     (λ c.
     let at-answer = c .before .before .before in
-    let at-before = at-answer .before .before .before in
-    let start = at-before .before in
+    let start = at-answer .before .before .before .before in
     let n = at-answer .answer .given in
     sym (length-take-le (n .0 .0) (start .args .model .now)
     (model-held (start .args .answer) (n .0 .0) (length (start .args .model .now)) (n .1) (start .pre) .0)))
     (λ c κs.
     let at-answer = c .before .before .before in
-    let at-before = at-answer .before .before .before in
-    let start = at-before .before in
+    let start = at-answer .before .before .before .before in
     let n = at-answer .answer .given in
     let h = model-held (start .args .answer) (n .0 .0) (length (start .args .model .now)) (n .1) (start .pre) in
     model-room (n .0 .0) (start .args .model .now) (h .0) (h .1))

@@ -23,8 +23,7 @@ put-hex-spec =
     (λ c κs.
     let at-loop-test = c .before .before in
     let at-loop = at-loop-test .before in
-    let at-before = at-loop .before .before in
-    let a = at-before .before in
+    let a = at-loop .before .before .before in
     let l = at-loop .loop in
     left-room (octetText (getD (a .args .bytes .now) (l .i) 0)) (hexText (drop (l .i + 1) (a .args .bytes .now)))
     (a .pre) (left-same (hex-next (a .args .bytes .now) (l .i) (at-loop-test .loop-test .taken)) (l .inv)))
@@ -34,8 +33,7 @@ put-hex-spec =
     let at-put-octet = c .before .before in
     let at-loop-test = at-put-octet .before .before .before in
     let at-loop = at-loop-test .before in
-    let at-before = at-loop .before .before in
-    let a = at-before .before in
+    let a = at-loop .before .before .before in
     let l = at-loop .loop in
     left-next (octetText (getD (a .args .bytes .now) (l .i) 0)) (hexText (drop (l .i + 1) (a .args .bytes .now)))
     (left-same (hex-next (a .args .bytes .now) (l .i) (at-loop-test .loop-test .taken)) (l .inv)) (at-put-octet .put-octet .ensures))

@@ -30,8 +30,7 @@ returns-2 c =
     let at-if2 = at-write-trace .before .before in
     let at-show-model = at-if2 .before .before .before in
     let at-if1 = at-show-model .before .before .before in
-    let at-before = at-if1 .before .before in
-    let x = at-before .before in
+    let x = at-if1 .before .before .before in
     let a = x .args in
     let m = at-show-model .show-model in
     failing-shown (a .packed) (a .count) (a .output .now) (x .pre) (at-if1 .if1 .left) (m .last .1 .1 .0)
@@ -45,8 +44,7 @@ returns-3 : tie.Need-returns-3
 returns-3 c =
     let at-show-model = c .before .before .before in
     let at-if1 = at-show-model .before .before .before in
-    let at-before = at-if1 .before .before in
-    let x = at-before .before in
+    let x = at-if1 .before .before .before in
     let a = x .args in
     let m = at-show-model .show-model in
     failing-unfit (a .packed) (a .count) (a .output .now) (x .pre) (at-if1 .if1 .left) (m .last .1 .1 .0)

@@ -22,8 +22,7 @@ returns-2 : tie.Need-returns-2
 returns-2 c =
     let at-write-trace = c .before .before in
     let at-if1 = at-write-trace .before .before in
-    let at-before = at-if1 .before .before in
-    let x = at-before .before in let a = x .args in
+    let x = at-if1 .before .before .before in let a = x .args in
     breaking-shown (a .packed) (a .count) (a .output .now) (x .pre) (at-if1 .if1 .left) (at-write-trace .write-trace .last .1 .0)
     (at-write-trace .write-trace .ensures)
 

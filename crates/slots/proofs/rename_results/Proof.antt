@@ -18,9 +18,7 @@ rename-results-spec = tie.close (tie.spec
     let at-single3 = at-move-bits .before in
     let at-single2 = at-single3 .before in
     let at-single = at-single2 .before in
-    let at-before = at-single .before in
-    let at-unite-row = at-before .before in
-    let k = at-before .before in
-    results-renamed registers _ _ _ _ _ _ _ _ _ _ (k .before .before .unite-column .ensures)
+    let at-unite-row = at-single .before .before in
+    results-renamed registers _ _ _ _ _ _ _ _ _ _ (at-unite-row .before .before .unite-column .ensures)
     (at-unite-row .unite-row .ensures) (at-single .single .ensures)
     (at-single2 .single2 .ensures) (at-single3 .single3 .ensures) (at-move-bits .move-bits .ensures) (c .drop-results .ensures)))

@@ -55,8 +55,7 @@ pub +put-number-spec : {M : Type 1} → statement M
     (λ c.
     let at-put-byte = c .before .before in
     let at-if1 = at-put-byte .before .before in
-    let at-before = at-if1 .before in
-    let a = at-before .before in
+    let a = at-if1 .before .before in
     appended-same (sym (numeral-one (a .args .number) (at-if1 .if1 .taken))) (at-put-byte .put-byte .ensures))
     (λ c κs.
     let a = c .before .before .before in
@@ -67,8 +66,7 @@ pub +put-number-spec : {M : Type 1} → statement M
     (λ c κs.
     let at-put-number = c .before .before .before in
     let at-if1 = at-put-number .before .before in
-    let at-before = at-if1 .before in
-    let a = at-before .before in
+    let a = at-if1 .before .before in
     let n : ℕ = a .args .number in
     room-then (numeral (n / 10)) (digitByte (n % 10) ∷ []) (room-same (numeral-more n (at-if1 .if1 .left)) (a .pre .1))
     (at-put-number .put-number .ensures))

@@ -23,8 +23,7 @@ put-line-spec =
     (λ c κs.
     let at-loop-test = c .before .before in
     let at-loop = at-loop-test .before in
-    let at-before = at-loop .before .before in
-    let a = at-before .before in
+    let a = at-loop .before .before .before in
     let l = at-loop .loop in
     left-room (part (getD (a .args .template .now) (l .i) 0) (a .args .fields)) (filledIn (drop (l .i + 1) (a .args .template .now)) (a .args .fields))
     (a .pre) (left-same (filled-next (a .args .template .now) (a .args .fields) (l .i) (at-loop-test .loop-test .taken)) (l .inv)))
@@ -34,8 +33,7 @@ put-line-spec =
     let at-put-part = c .before .before in
     let at-loop-test = at-put-part .before .before .before in
     let at-loop = at-loop-test .before in
-    let at-before = at-loop .before .before in
-    let a = at-before .before in
+    let a = at-loop .before .before .before in
     let l = at-loop .loop in
     left-next (part (getD (a .args .template .now) (l .i) 0) (a .args .fields)) (filledIn (drop (l .i + 1) (a .args .template .now)) (a .args .fields))
     (left-same (filled-next (a .args .template .now) (a .args .fields) (l .i) (at-loop-test .loop-test .taken)) (l .inv))

@@ -15,8 +15,7 @@ put-part-spec =
     (λ c.
     let at-put-byte = c .before .before in
     let at-if1 = at-put-byte .before .before in
-    let at-before = at-if1 .before in
-    let a = at-before .before in
+    let a = at-if1 .before .before in
     appended-same (sym (part-low (a .args .byte) (a .args .t4) (at-if1 .if1 .taken))) (at-put-byte .put-byte .ensures))
     (λ c. search needs)
     (λ c. search needs)
@@ -30,8 +29,7 @@ put-part-spec =
     let at-put-name = c .before .before in
     let at-if2 = at-put-name .before .before in
     let at-if1 = at-if2 .before in
-    let at-before = at-if1 .before in
-    let a = at-before .before in
+    let a = at-if1 .before .before in
     appended-same (sym (part-name (a .args .byte) (a .args .t4) (at-if1 .if1 .left) (at-if2 .if2 .taken))) (at-put-name .put-name .ensures))
     (λ c. search needs)
     (λ c. search needs)
@@ -45,8 +43,7 @@ put-part-spec =
     let at-put-number = c .before .before in
     let at-if3 = at-put-number .before .before in
     let at-if2 = at-if3 .before in
-    let at-before = at-if2 .before .before in
-    let a = at-before .before in
+    let a = at-if2 .before .before .before in
     appended-same (sym (part-number (a .args .byte) (a .args .t4) (at-if2 .if2 .left) (at-if3 .if3 .taken))) (at-put-number .put-number .ensures))
     (λ c κs.
     let at-if2 = c .before .before in
@@ -56,6 +53,5 @@ put-part-spec =
     (λ c.
     let at-put-byte2 = c .before .before in
     let at-if3 = at-put-byte2 .before .before in
-    let at-before = at-if3 .before .before .before in
-    let a = at-before .before in
+    let a = at-if3 .before .before .before .before in
     appended-same (sym (part-high (a .args .byte) (a .args .t4) (at-if3 .if3 .left))) (at-put-byte2 .put-byte2 .ensures)))

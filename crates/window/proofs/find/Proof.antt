@@ -27,9 +27,8 @@ find-spec = tie.close (tie.spec
     (λ c.
     let at-inhabited = c .before .before in
     let at-rest = at-inhabited .before in
-    let at-before = at-rest .before .before in
-    let k = at-before .before in
-    sym (find-here registers functions _ _ _ (at-before .loop-test .taken)
+    let k = at-rest .before .before .before in
+    sym (find-here registers functions _ _ _ (at-rest .before .before .loop-test .taken)
     (sym (at-inhabited .inhabited .ensures ∙ ap (nonempty registers) (at-rest .rest .ensures)) ∙ c .before .if1 .taken))
     ∙ k .loop .inv .1)
     (λ c. search needs)

@@ -12,6 +12,5 @@ forget-masks-spec = tie.close (tie.spec
     (λ c. search needs)
     (λ c.
     let at-clear-column = c .before .before in
-    let at-before = at-clear-column .before .before .before in
-    let k = at-before .before in
+    let k = at-clear-column .before .before .before .before in
     forgotten-is registers _ _ _ _ _ (k .before .single .ensures) (k .move-bits .ensures) (at-clear-column .clear-column .ensures)))

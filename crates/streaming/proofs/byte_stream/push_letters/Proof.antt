@@ -23,8 +23,7 @@ returns : tie.Need-returns
 returns c =
     let at-if1 = c .before .before in
     let at-take-all = at-if1 .before in
-    let at-before = at-take-all .before .before in
-    let s = at-before .before in
+    let s = at-take-all .before .before .before in
     letters-odd (s .args .s) (s .args .bytes .now) (s .args .start) _ (s .pre .0) (s .pre .1) (at-take-all .take-all .ensures) _
     (at-if1 .if1 .taken) (pushes-one _ _ _ (c .push .ensures))
 
