@@ -6,12 +6,21 @@
  * overlap, and puts its answer as numbers into the slice `answer`. Where that slice
  * is too short for them, nothing is done: every slice stays as it was, and nothing
  * tells you so. An answer that held zeros then reads as accepted, coherent, pass: use
- * the lengths FADZGIME_.._ANSWER below.
+ * the lengths FADZGIME_.._ANSWER below. In a longer one the numbers behind stay.
  *
  * Of a slice of length 0 no element is read or written; its pointer may be NULL.
  *
  * A refusal is a number (0: none) and a place (0 unless said): docs/SPEC.md, 11. A
  * refused call writes no output, and the numbers behind the place are 0 unless said.
+ * Each call lists its own, in the order in which they are asked:
+ *    1 less than two bytes    2 an odd number of bytes    3 no header
+ *    4 a letter that is not well formed; place: its number from 1, but 0 in
+ *      fadzgime_monitor_step
+ *    5 more than 1,024 letters    6 `out` is too short
+ *    7 a text of more than 4,096 bytes    8 no token    9 not the grammar
+ *   10 a wrong declaration    11 a wrong use of a name    12 braces more than 16 deep;
+ *      place of 8 to 12: the byte of the text, from 0
+ *   13 more than 256 points    14 more pairs than `table` has room for
  * The bits of a word and of a packed model: docs/SPEC.md, 2 and 7.4. Registers and
  * functions of a macro are numbered from 0 in the order of their declarations.
  *
@@ -179,14 +188,21 @@ void fadzgime_model(const uint8_t *trace, size_t trace_length,
 void fadzgime_read(const uint8_t *text, size_t text_length,
                    uint64_t *answer, size_t answer_length);
 
+/* The verdicts, and the bytes of a table. */
+#define FADZGIME_PASS 0
+#define FADZGIME_FAIL 1
+#define FADZGIME_INCOHERENT 2
+#define FADZGIME_PAIR_BYTES 192
+#define FADZGIME_MOST_PAIRS 1024
+
 /*
  * The verdict on a macro: can an assertion fail, in some data model, in some
  * execution?
- * answer[0] refusal (7 to 13, 14, 6), [1] place, [2] verdict (0 pass, 1 fail,
- * 2 incoherent), [3] pairs, [4] letters of the execution that shows it (0 on pass).
+ * answer[0] refusal (7 to 13, 14, 6), [1] place, [2] verdict (FADZGIME_PASS, _FAIL or
+ * _INCOHERENT), [3] pairs, [4] letters of the execution that shows it (0 on pass).
  *
- * `table` is room for the search, 192 bytes a pair, at most 1,024 pairs; more bytes
- * are not needed, fewer may give 14. What it holds before does not matter. After a
+ * `table` is room for the search, FADZGIME_PAIR_BYTES a pair, at most
+ * FADZGIME_MOST_PAIRS of them; more bytes are not needed, fewer may give 14. What it holds before does not matter. After a
  * search, whatever it finds, every byte of it is zero; a refusal 7 to 13 leaves it
  * untouched.
  *

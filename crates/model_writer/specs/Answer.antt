@@ -16,13 +16,12 @@ use Rattle.semantics.specs.Facts.{WellFormed}
 use Rattle.semantics.specs.Judgement.{FailsAt}
 use Rattle.semantics.specs.Models.{Model, Satisfies, Feasible}
 use Rattle.semantics.specs.Tables.{Tables, Describes}
-use Rattle.letters.specs.RefusalNumbers.{letterMalformed, outputTooSmall}
+use Rattle.letters.specs.RefusalNumbers.{outputTooSmall}
 use Rattle.semantics.specs.Numbering.{IsShown}
 use Rattle.semantics.specs.ShownTables.{tablesOf}
 use Rattle.semantics.specs.PackedTables.{packTables}
 use Rattle.semantics.specs.TablesRead.{readTables}
 use Rattle.semantics.specs.FirstLetters.{firstInfeasible}
-use Rattle.engine.specs.Engine.{Computed}
 use Rattle.model_writer.specs.declared.Shown.{Shown}
 use Rattle.model_writer.specs.declared.Shown.the-variants as shown
 
@@ -114,20 +113,3 @@ pub record Showed (s out : List ℕ) (r : Shown) (out′ : List ℕ) : Type 0 wh
   pub answer : shownAnswer r ≡ answerTo (readingWithin mostLetters firstEdition s) (length out)
   pub output : out′ ≡ outputAfter (readingWithin mostLetters firstEdition s) out
   pub means : Means s out (shownAnswer r) out′
-
--- The arrays hold the computed terms and classes of some state with this header.
-pub record SomeStateComputed (h : Header) (function first second representative : List ℕ) (n : ℕ) : Type 0 where
-  pub state : State
-  pub header : state .header ≡ h
-  pub computed : Computed state function first second representative (h .registers) n
-
--- The model of any state that they hold is answered.
-unfoldable pub Modelled : (h : Header) (function first second representative : List ℕ) (n : ℕ) (out : List ℕ) (r : Shown) (out′ : List ℕ) → Type 0
-Modelled h function first second representative n out r out′ =
-    (σ : State) → σ .header ≡ h → Computed σ function first second representative (h .registers) n
-    → (shownAnswer r ≡ fitted (modelBytes σ) (length out)) × (out′ ≡ laidIn (modelBytes σ) out)
-
--- What is answered where letter k is the first infeasible one and the letters after it are read as x.
-pub data Stopped (h : Header) (x : TraceReading) (k : ℕ) : Shown → Type 0 where
-  well : (ls : List Letter) → x ≡ trace h ls → Stopped h x k (shown.Infeasible k)
-  ill : (p : ℕ) → x ≡ TraceReading.refused letterMalformed p → Stopped h x k (shown.Refused letterMalformed p)

@@ -6,3 +6,4 @@ pub mod Meaning
 pub mod Listing
 pub mod Fitting
 pub mod Answer
+pub mod Stages

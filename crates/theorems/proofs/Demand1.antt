@@ -1,10 +1,14 @@
 -- Demand 1, sentence by sentence. Demand2.antt and Demand3.antt are read next. A comment has a sentence of the demand, and the theorem under it says it.
+-- What document 01 is: docs/TRUST.md.
 --
 -- "No input, trace or macro, makes the checker index outside a buffer, lose bits or run on without end."
 -- There is no theorem for this sentence: it is what `rt` accepts a function for. Of each function of each crate it is proved, before its contract
 -- is, that it indexes inside its buffers, that no arithmetic loses bits, and that every loop and recursion ends, for all values that it may be given.
 --
 -- "Nothing malformed is judged: it is refused under document 01's number and place, and the output buffer stays as lent."
+-- Below it is said of the verdict on a text, of the run over a trace and of the shown model. Of the macro reader alone `Reads` says it
+-- (syntax/specs/Reads.antt), of the trace writer and reader `Writes` and `ReadsTrace` (exports/specs/TraceCalls.antt), of a monitor's start and letter
+-- `StartsMonitor` and `StepsMonitor` (exports/specs/MonitorCalls.antt).
 use mathlib.Core.Path.{_≡_, refl, ap, _∙_, subst}
 use mathlib.Core.Logic.{_⊎_, inl, inr}
 use mathlib.Core.List.{List}

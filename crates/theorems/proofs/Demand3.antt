@@ -23,7 +23,8 @@ use Rattle.verdict_theory.specs.Verdict.{VerdictAnswer, pass, full, unfit, IsPa
 use Rattle.verdict_theory.specs.Verdict.{Event, FirstEvent, EventAt, PairCount, PairsPass, Shows}
 use Rattle.verdict_theory.specs.Demand3.{pairsIn, Demand3}
 use Rattle.verdict_theory.proofs.Theory.Counting.{one-count, more-is}
-use Rattle.verdict_theory.proofs.Theory.CountedPairs.{LeavesAny, counted-any}
+use Rattle.verdict_theory.specs.AnyPairs.{LeavesAny}
+use Rattle.verdict_theory.proofs.Theory.CountedPairs.{counted-any}
 use Rattle.verdict_theory.proofs.Theory.Readings.{anywhere, passes-anywhere}
 use Rattle.verdict_theory.proofs.Theory.Settled.{one-way}
 use Rattle.verdict_theory.proofs.Theory.Shortest.{first-shortest}
@@ -31,7 +32,8 @@ use Rattle.search.proofs.Theory.Answerable.{answerable}
 use Rattle.verdict_lines.specs.Prints.{mostVerdictLineBytes, Says, PrintsVerdictLines}
 use Rattle.verdict_lines.proofs.Theory.Answers.{event-model}
 use Rattle.verdict_lines.proofs.Theory.PrintsLaws.{one-said, prints-all}
-use Rattle.verdict_lines.proofs.Theory.ReadBack.{ReadsBack, read-back}
+use Rattle.verdict_lines.specs.ReadsBack.{ReadsBack}
+use Rattle.verdict_lines.proofs.Theory.ReadBack.{read-back}
 use Rattle.theorems.proofs.Steps.Events.{one-shown, event-delivered, shown-counted, unfit-exactly}
 use Rattle.theorems.proofs.Steps.Lines.{some-lines}
 

@@ -1,3 +1,4 @@
 pub mod Prints
 pub mod Reported
 pub mod Answered
+pub mod ReadsBack

@@ -1,4 +1,5 @@
 pub mod Count
 pub mod Verdict
+pub mod AnyPairs
 pub mod AnswerPacking
 pub mod Demand3

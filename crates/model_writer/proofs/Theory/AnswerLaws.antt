@@ -50,8 +50,8 @@ use Rattle.model_writer.specs.Inserted.{inserted}
 use Rattle.model_writer.specs.Bytes.{rowFor, RowIn, Writable, tablesIn, valueRange, modelLength}
 use Rattle.model_writer.proofs.Theory.Bytes.{map-length}
 use Rattle.model_writer.specs.Fitting.{Puttable, Put, too-large, fitting}
-use Rattle.model_writer.specs.Answer.{ModelAnswer, shownAnswer, modelBytes, answerTo, outputAfter, Means, Showed, SomeStateComputed, Modelled, Stopped}
-use Rattle.model_writer.specs.Answer.{well, ill}
+use Rattle.model_writer.specs.Answer.{ModelAnswer, shownAnswer, modelBytes, answerTo, outputAfter, Means, Showed}
+use Rattle.model_writer.specs.Stages.{SomeStateComputed, Modelled, Stopped, well, ill}
 use Rattle.model_writer.proofs.Theory.Means.{showed}
 
 starts-are : (v : Term → ℕ) (k m : ℕ) (l : List ℕ) → m ≤ length l → ((i : ℕ) → i < m → getD l i 0 ≡ v (con (k + i))) → take m l ≡ startsFrom v k m

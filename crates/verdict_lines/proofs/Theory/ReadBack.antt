@@ -14,7 +14,7 @@ use Rattle.letters.proofs.Theory.WordLaws.{first-roomy}
 use Rattle.traces.specs.Reading.{trace, reading}
 use Rattle.traces.specs.Traces.{packing}
 use Rattle.traces.proofs.Theory.TraceLaws.{reading-packing}
-use Rattle.semantics.specs.Terms.{Trace, begin, extend, state}
+use Rattle.semantics.specs.Terms.{begin, extend, state}
 use Rattle.semantics.specs.Models.{Feasible}
 use Rattle.semantics.specs.Judgement.{size}
 use Rattle.semantics.specs.Tables.{Tables}
@@ -24,7 +24,7 @@ use Rattle.semantics.specs.ShownTables.{tablesOf}
 use Rattle.grammar.specs.Grammar.{Macro, headerOf}
 use Rattle.refusals.specs.Accepted.{Accepted}
 use Rattle.refusals.proofs.Theory.Accepted.{Acceptance, Becomes, an-acceptance}
-use Rattle.verdict_theory.specs.Verdict.{Kind, breaking, failing, showing, fail, incoherent, Delivered, Event, Shows, IsVerdict}
+use Rattle.verdict_theory.specs.Verdict.{Kind, breaking, failing, showing, fail, incoherent, Delivered, Shows, IsVerdict}
 use Rattle.verdict_theory.specs.AnswerPacking.{packed}
 use Rattle.verdict_theory.specs.Demand3.{pairsIn, Demand3}
 use Rattle.verdict_theory.proofs.Theory.Shortest.{shown-shortest}
@@ -33,20 +33,7 @@ use Rattle.report.specs.Shown.{modelStart}
 use Rattle.report.proofs.Theory.Packed.{packed-tables}
 use Rattle.verdict_lines.proofs.Theory.Answers.{shown-event, showing-same, showing-refused, showing-not-full, showing-not-pass}
 use Rattle.verdict_lines.proofs.Theory.Answers.{letters-fit, packable, trace-size, answer-short}
-
--- An answer that shows an event of the macro m, with so many pairs and letters, and the output afterwards.
-pub record ReadsBack (m : Macro) (kind : Kind) (pairs letters : ℕ) (output′ : List ℕ) : Type 0 where
-  -- the first event's execution, with the count of pairs
-  pub execution : List Letter
-  pub shows : Shows Feasible (begin (headerOf m)) (m .body) kind pairs execution
-  pub count : length execution ≡ letters
-  -- "shorter first": every event has at least as many letters
-  pub shortest : (π : Trace) → Event Feasible (begin (headerOf m)) (m .body) π → letters ≤ size π
-  -- the front is read as that execution, under the macro's header
-  pub trace-back : reading firstEdition (take (modelStart letters) output′) ≡ trace (headerOf m) execution
-  -- on fail the bytes behind it are read as the tables of the shown model of that execution
-  pub model-back : kind ≡ failing
-      → readTables firstEdition (headerOf m) (drop (modelStart letters) output′) ≡ tablesOf (state (extend (begin (headerOf m)) execution))
+use Rattle.verdict_lines.specs.ReadsBack.{ReadsBack}
 
 module _ (m : Macro) (ls : List Letter) where
   abbrev front : List ℕ

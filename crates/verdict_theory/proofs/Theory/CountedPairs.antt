@@ -1,7 +1,7 @@
 -- Pairs that are counted are those of all partial executions, coherent or not: what stands behind an incoherent letter comes after an event.
 use mathlib.Core.Path.{_≡_, refl, sym, subst}
 use mathlib.Core.Logic.{_⊎_, inl, inr, _↔_}
-use Prim.Native.Nat.{ℕ, _<_}
+use Prim.Native.Nat.{ℕ}
 use native.Mathlib.Omega.{arith}
 use lib.Dec.{T}
 use Rattle.base.proofs.Theory.Choice.{byTest}
@@ -17,19 +17,13 @@ use Rattle.macros.specs.Order.{Path, Before}
 use Rattle.macros.proofs.Theory.Order.{AtOrBefore, till-before, before-till, till-not}
 use Rattle.macros.specs.Walk.{Place, at, stand}
 use Rattle.macros.proofs.Theory.Walk.{last, walk-begins}
-use Rattle.macros.specs.Points.{sizeBlock, points, entrance, moves-at, run}
+use Rattle.macros.specs.Points.{points, entrance, moves-at, run}
 use Rattle.macros.proofs.Theory.Runs.{partial-is}
 use Rattle.macros.proofs.Theory.Fitting.{run-formed}
 use Rattle.verdict_theory.specs.Count.{BeforeEvents, Counted}
 use Rattle.verdict_theory.specs.Verdict.{Leaves, SamePair, EventAt}
 use Rattle.verdict_theory.specs.Verdict
-
--- A pair as any partial execution leaves it, coherent or not.
-pub record LeavesAny (start : Trace) (m : Block) (p : Path) : Type 0 where
-  pub point : ℕ
-  pub trace : Trace
-  pub stands : run start m p ≡ stand (at point) trace
-  pub due : point < sizeBlock m
+use Rattle.verdict_theory.specs.AnyPairs.{LeavesAny}
 
 module _ {ℓ} (Possible : State → Type ℓ) (h : Header) (m : Block) (proper : ProperBlock m h) where
   abbrev start : Trace
