@@ -175,7 +175,7 @@ pub fn points_of(
     requires { ⌜ count ≤ mostPoints ⌝ }
     ensures { λ r. ⌜ r ≡ tableOfCodes (now (code .entry)) (now (first .entry)) (now (second .entry)) count ⌝ }
 {
-    let mut points = [no_point(); POINT_SPACE];
+    let mut points = [unused_point(); POINT_SPACE];
     let mut i: usize = 0;
     while i < count as usize {
         points[i] = point_at(code[i], first[i], second[i]);
@@ -185,7 +185,7 @@ pub fn points_of(
 }
 
 /// What stands in a table where there is no point.
-pub fn no_point() -> PointEntry
+pub fn unused_point() -> PointEntry
     ensures { λ r. ⌜ r ≡ unusedPoint ⌝ }
 {
     PointEntry {

@@ -135,7 +135,7 @@ pub fn lay(bytes: &mut [u8], at: usize, part: &[u8])
 fn code(mask: Mask, ever: Mask, b: usize) -> u8
     requires { ⌜ b < registers ⌝ }
     ensures { λ r. ⌜ r ≡ codeOf registers mask (bit ever b) ⌝ }
-    ensures small { λ r. ⌜ r ≤ 10 ⌝ }
+    ensures small { λ r. ⌜ r ≤ 2 + registers ⌝ }
 {
     if mask == 0 {
         return (ever >> b) % 2;

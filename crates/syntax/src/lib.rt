@@ -315,7 +315,7 @@ fn no_macro() -> CompiledMacro
         },
         registers: [0; MOST_REGISTERS],
         functions: [0; MOST_FUNCTIONS],
-        points: [blocks::no_point(); POINT_SPACE],
+        points: [blocks::unused_point(); POINT_SPACE],
         count: 0,
     }
 }

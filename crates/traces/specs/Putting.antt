@@ -3,7 +3,7 @@
 use Prim.Native.Nat.{ℕ, _+_}
 use mathlib.Core.List.{List, [], _∷_}
 use Rattle.letters.specs.declared.Header.{Header}
-use Rattle.letters.specs.Editions.{Edition}
+use Rattle.letters.specs.Editions.{Edition, firstEdition}
 use Rattle.letters.specs.Answers.{Answer, refusal, onAnswer}
 use Rattle.letters.specs.Encoding.{encodeLetter}
 use Rattle.letters.specs.Putting.{putWord}
@@ -21,4 +21,4 @@ putEach put n decode out to (x ∷ codes) = onAnswer (decode x) (λ b. putEach p
 
 -- the words of these codes
 abbrev pub putWords : {A : Type 0} → (A → Answer ℕ) → List ℕ → ℕ → List A → List ℕ
-putWords word out to codes = putEach putWord 2 word out to codes
+putWords word out to codes = putEach putWord (firstEdition .bytes) word out to codes

@@ -11,7 +11,7 @@ use Rattle.letters.specs.declared.Letter.{Letter}
 use Rattle.letters.specs.Editions.{firstEdition}
 use Rattle.letters.specs.Answers.{Answer, value, refusal}
 use Rattle.traces.specs.Reading.{TraceReading, trace, chunks, letterIn}
-use Rattle.traces.specs.Writing.{plainFields, unpackedBytes}
+use Rattle.traces.specs.Writing.{unpackedLetterBytes, plainFields, unpackedBytes}
 use Rattle.traces.specs.Putting.{putEach}
 use Rattle.letters.specs.RefusalNumbers.{outputTooSmall}
 
@@ -21,7 +21,9 @@ putPlain h out to l = sets out to (plainFields h l)
 
 -- the letters behind the header, up to the first that is not well formed, five bytes each
 abbrev pub putUnpacked : Header → List ℕ → List ℕ → List ℕ
-putUnpacked h out s = putEach (putPlain h) 5 (letterIn firstEdition h) out 0 (chunks 2 (length s / 2 - 1) (drop 2 s))
+putUnpacked h out s =
+    let unit = firstEdition .bytes in
+    putEach (putPlain h) unpackedLetterBytes (letterIn firstEdition h) out 0 (chunks unit (length s / unit - 1) (drop unit s))
 
 -- The header and the number of letters, or a refusal: the reading's, or 6 if the output is too short.
 unfoldable pub unpackedCount : ℕ → TraceReading → Answer (Header × ℕ)

@@ -1,6 +1,6 @@
 -- Traces written from unpacked letters (SPEC 2.6, 11.2; document 01: "The writer puts 3 to its header, 4 to each letter, then 6 to its output").
 use mathlib.Core.Path.{_≡_}
-use Prim.Native.Nat.{ℕ, _+_, _/_}
+use Prim.Native.Nat.{ℕ, _+_, _-_, _/_}
 use mathlib.Core.Bool.{Bool, false, _&&_, _||_}
 use mathlib.Core.List.{List, [], _∷_, _++_}
 use lib.Dec.{leb, ltb, eqb}
@@ -17,10 +17,13 @@ use Rattle.traces.specs.Reading.{TraceReading, trace, lettersFrom, chunk
 use Rattle.traces.specs.Traces.{packing}
 use Rattle.letters.specs.RefusalNumbers.{letterMalformed, headerMalformed, outputTooSmall}
 
--- An unpacked letter has five bytes, the fields of its word without the spare one: kind, function, target, first, second. "Unused fields are 0, the
--- second argument of a one-argument function included." (SPEC 2.3, 2.6)
+-- The bytes of an unpacked letter (SPEC 2.6): the fields of its word without the spare one, kind, function, target, first, second.
+abbrev pub unpackedLetterBytes : ℕ
+unpackedLetterBytes = 5
+
+-- "Unused fields are 0, the second argument of a one-argument function included." (SPEC 2.3, 2.6)
 abbrev pub plainFields : Header → Letter → List ℕ
-plainFields h l = take 5 (letterFields h l)
+plainFields h l = take unpackedLetterBytes (letterFields h l)
 
 abbrev pub unpackedBytes : Header → List Letter → List ℕ
 unpackedBytes h [] = []
@@ -39,11 +42,17 @@ plainLetter h kind f x y z =
 
 -- the well-formed letter with these bytes, if there is one; fewer than five bytes are none
 unfoldable pub unpackLetter : Header → List ℕ → Answer Letter
-unpackLetter h s = pick (eqb (length s) 5) (λ _. plainLetter h (getD s 0 0) (getD s 1 0) (getD s 2 0) (getD s 3 0) (getD s 4 0)) λ _. refusal letterMalformed 0
+unpackLetter h s =
+    pick (eqb (length s) unpackedLetterBytes) (λ _. plainLetter h (getD s 0 0) (getD s 1 0) (getD s 2 0) (getD s 3 0) (getD s 4 0))
+    λ _. refusal letterMalformed 0
+
+-- how many letters the bytes are, an incomplete one counted
+abbrev pub partsOfLetters : List ℕ → ℕ
+partsOfLetters s = (length s + (unpackedLetterBytes - 1)) / unpackedLetterBytes
 
 -- the bytes of each letter; the last ones may be fewer than five (SPEC 2.6)
 unfoldable pub unpackedParts : List ℕ → List (List ℕ)
-unpackedParts s = chunks 5 ((length s + 4) / 5) s
+unpackedParts s = chunks unpackedLetterBytes (partsOfLetters s) s
 
 -- the trace of a header and unpacked letters, or the refusal: 3, then 4 with the letter's number (SPEC 11.2)
 unfoldable pub unpacking : Edition → Header → List ℕ → TraceReading

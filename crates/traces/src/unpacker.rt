@@ -16,7 +16,7 @@ ghost use lib.ListN.{length};
 ghost use Rattle.letters.specs.Editions.{firstEdition};
 ghost use Rattle.traces.specs.Answers.{traceAnswer};
 ghost use Rattle.traces.specs.Reading.{reading};
-ghost use Rattle.traces.specs.Writing.{plainFields};
+ghost use Rattle.traces.specs.Writing.{unpackedLetterBytes, plainFields};
 ghost use Rattle.traces.specs.Unpacking.{putPlain, putUnpacked, Unpacked};
 
 /// The kind, function, target, first and second of a letter, unused ones 0.
@@ -41,7 +41,7 @@ pub fn fields_of(h: Header, l: Letter) -> [u8; UNPACKED_BYTES]
 
 // Stores the five bytes of a letter from `to` on.
 fn put_fields(h: Header, l: Letter, out: &mut [u8], to: usize)
-    requires { ⌜ to + 5 ≤ length (now out) ⌝ }
+    requires { ⌜ to + unpackedLetterBytes ≤ length (now out) ⌝ }
     ensures { λ _. ⌜ now (out .exit) ≡ putPlain h (now (out .entry)) to l ⌝ }
 {
     let fields = fields_of(h, l);
@@ -54,7 +54,7 @@ fn put_fields(h: Header, l: Letter, out: &mut [u8], to: usize)
 
 // Unpacks the letters behind the header, up to the first that is not well formed.
 fn put_unpacked(h: Header, bytes: &[u8], out: &mut [u8])
-    requires { ⌜ (firstEdition .bytes ≤ length (now bytes)) × (5 * (length (now bytes) / 2 - 1) ≤ length (now out)) ⌝ }
+    requires { ⌜ (firstEdition .bytes ≤ length (now bytes)) × (unpackedLetterBytes * (length (now bytes) / firstEdition .bytes - 1) ≤ length (now out)) ⌝ }
     ensures { λ _. ⌜ now (out .exit) ≡ putUnpacked h (now (out .entry)) (now (bytes .entry)) ⌝ }
 {
     let mut at: usize = UNIT_BYTES;

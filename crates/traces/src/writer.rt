@@ -19,7 +19,7 @@ use letters::words::put_word;
 use letters::words::takes_two;
 ghost use mathlib.Core.Path.{_≡_};
 ghost use mathlib.Core.Bool.{_&&_};
-ghost use Prim.Native.Nat.{_+_, _*_, _/_, _≤_};
+ghost use Prim.Native.Nat.{_+_, _*_, _≤_};
 ghost use lib.Dec.{eqb};
 ghost use lib.ListN.{length, take, drop};
 ghost use Rattle.letters.specs.Editions.{firstEdition};
@@ -27,7 +27,7 @@ ghost use Rattle.letters.specs.CodeAnswers.{letterAnswer, letterWordAnswer};
 ghost use Rattle.traces.specs.Answers.{traceAnswer, writtenAnswer};
 ghost use Rattle.traces.specs.ReadingParts.{counted};
 ghost use Rattle.traces.specs.Reading.{lettersFrom};
-ghost use Rattle.traces.specs.Writing.{plainTest, plainLetter, unpackLetter, unpacking, unpackedParts, WroteTrace};
+ghost use Rattle.traces.specs.Writing.{unpackedLetterBytes, plainTest, plainLetter, unpackLetter, partsOfLetters, unpacking, unpackedParts, WroteTrace};
 ghost use Rattle.letters.specs.Putting.{putWord};
 ghost use Rattle.traces.specs.Putting.{wordIn, putWords};
 
@@ -72,7 +72,7 @@ fn letter_of(h: Header, kind: u8, function: u8, target: u8, first: u8, second: u
 // The letter whose bytes start at `at`.
 fn unpacked_at(h: Header, fields: &[u8], at: usize) -> DecodedLetter
     requires { ⌜ at ≤ length (now fields) ⌝ }
-    ensures { λ r. ⌜ letterAnswer r ≡ unpackLetter h (take 5 (drop at (now (fields .entry)))) ⌝ }
+    ensures { λ r. ⌜ letterAnswer r ≡ unpackLetter h (take unpackedLetterBytes (drop at (now (fields .entry)))) ⌝ }
 {
     if fields.len() - at < UNPACKED_BYTES {
         return DecodedLetter::Malformed;
@@ -107,7 +107,7 @@ fn check_letters(h: Header, fields: &[u8]) -> TraceRead
 // The word of the letter whose bytes start at `at`.
 fn word_at(h: Header, fields: &[u8], at: usize) -> Encoded
     requires { ⌜ at ≤ length (now fields) ⌝ }
-    ensures { λ r. ⌜ letterWordAnswer r ≡ wordIn firstEdition h (take 5 (drop at (now (fields .entry)))) ⌝ }
+    ensures { λ r. ⌜ letterWordAnswer r ≡ wordIn firstEdition h (take unpackedLetterBytes (drop at (now (fields .entry)))) ⌝ }
 {
     let decoded = unpacked_at(h, fields, at);
     let DecodedLetter::Letter(letter) = decoded else {
@@ -118,8 +118,8 @@ fn word_at(h: Header, fields: &[u8], at: usize) -> Encoded
 
 // Writes the letters behind the header, two bytes each.
 fn put_letters(h: Header, fields: &[u8], out: &mut [u8])
-    requires { ⌜ 2 * ((length (now fields) + 4) / 5) + 2 ≤ length (now out) ⌝ }
-    ensures { λ _. ⌜ now (out .exit) ≡ putWords (wordIn firstEdition h) (now (out .entry)) 2 (unpackedParts (now (fields .entry))) ⌝ }
+    requires { ⌜ firstEdition .bytes * partsOfLetters (now fields) + firstEdition .bytes ≤ length (now out) ⌝ }
+    ensures { λ _. ⌜ now (out .exit) ≡ putWords (wordIn firstEdition h) (now (out .entry)) (firstEdition .bytes) (unpackedParts (now (fields .entry))) ⌝ }
 {
     let mut at: usize = 0;
     let mut to: usize = UNIT_BYTES;
@@ -136,8 +136,9 @@ fn put_letters(h: Header, fields: &[u8], out: &mut [u8])
 
 // Writes the header's word and then the letters.
 fn put_trace(h: Header, first: u16, fields: &[u8], out: &mut [u8])
-    requires { ⌜ 2 * ((length (now fields) + 4) / 5) + 2 ≤ length (now out) ⌝ }
-    ensures { λ _. ⌜ now (out .exit) ≡ putWords (wordIn firstEdition h) (putWord (now (out .entry)) 0 first) 2 (unpackedParts (now (fields .entry))) ⌝ }
+    requires { ⌜ firstEdition .bytes * partsOfLetters (now fields) + firstEdition .bytes ≤ length (now out) ⌝ }
+    ensures { λ _. ⌜ now (out .exit) ≡ putWords (wordIn firstEdition h) (putWord (now (out .entry)) 0 first) (firstEdition .bytes)
+        (unpackedParts (now (fields .entry))) ⌝ }
 {
     put_word(out, 0, first);
     put_letters(h, fields, out);

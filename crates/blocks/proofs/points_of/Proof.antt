@@ -21,7 +21,7 @@ points-of-spec =
     Inv-loop
     μ-loop
     (λ c κs. search needs)
-    (λ c. (omega arith, ap (replicate 256) (c .no-point .ensures) ∙ each-none _ (replicate 256 unusedPoint)))
+    (λ c. (omega arith, ap (replicate 256) (c .unused-point .ensures) ∙ each-none _ (replicate 256 unusedPoint)))
     (λ c. search needs)
     (λ c. search needs)
     (λ c. search needs)
