@@ -3,15 +3,15 @@ use mathlib.Core.Path.{_≡_, refl, sym, ap, _∙_}
 use Prim.Native.Nat.{ℕ, suc, _+_, _-_, _*_, _≤_, _<_}
 use native.Mathlib.Omega.{arith}
 use native.Mathlib.Nat.{add-zero, zero-add, sub-zero}
-use native.Mathlib.Numerals.{add-one}
 use mathlib.Core.List.{List, [], _∷_}
 use lib.ListN.{length, getD, take, drop, length-take, length-drop}
-use lib.Seq.{drop-cons, drop-drop, getD-take, getD-drop}
+use lib.Seq.{drop-drop, getD-take, getD-drop}
 use lib.Dec.{ltb}
 use mathlib.Core.Bool.{Bool, true, false}
 use borrow.Author.Tests.{ltb-false, eq-eqb, ne-eqb}
 use Rattle.base.specs.Choice.{pick}
 use Rattle.base.proofs.Theory.Choice.{byTest}
+use Rattle.traces.proofs.Theory.Units.{unit-at}
 use Rattle.traces.specs.declared.HeaderRead.{HeaderRead}
 use Rattle.traces.specs.declared.HeaderRead.the-variants as begun-as
 use Rattle.traces.specs.Writing.{plainLetter, unpackLetter}
@@ -19,7 +19,6 @@ use Rattle.letters.specs.declared.Header.{Header}
 use Rattle.letters.specs.declared.Letter.{Letter}
 use Rattle.letters.specs.declared.DecodedLetter.{DecodedLetter}
 use Rattle.letters.specs.declared.DecodedLetter.the-variants as decoded-letter
-use Rattle.letters.specs.Packing.{join}
 use Rattle.letters.specs.Editions.{firstEdition}
 use Rattle.letters.specs.Answers.{Answer, value, refusal, onAnswer}
 use Rattle.letters.specs.CodeAnswers.{letterAnswer}
@@ -78,17 +77,6 @@ module _ (decode : List ℕ → Answer Letter) (h : Header) (b k : ℕ) (s : Lis
   pub count-ends : (n at : ℕ) → k ≤ n → countFrom decode h n (chunks b (k - n) (drop at s)) ≡ value (h, n)
   unfolding countFrom chunks
   count-ends n at l = let m : k - n ≡ 0 = omega arith in rw m
-
--- a word's two bytes
-pub unit-at : (s : List ℕ) (at : ℕ) → at + 1 < length s → join (8 ∷ 8 ∷ []) (take 2 (drop at s)) ≡ getD s at 0 * 256 + getD s (at + 1) 0
-unit-at s at l =
-    let a : at < length s = omega arith in
-    let b : suc at < length s = omega arith in
-    rw (add-one at, drop-cons s at 0 a, drop-cons s (suc at) 0 b) (two (getD s at 0) (getD s (suc at) 0) (drop (suc (suc at)) s))
-  where
-    two : (x y : ℕ) (s : List ℕ) → join (8 ∷ 8 ∷ []) (take 2 (x ∷ y ∷ s)) ≡ x * 256 + y
-    two x y [] = omega arith
-    two x y (z ∷ s) = omega arith
 
 -- what the code learns of the unit at a place
 module _ (h : Header) (s : List ℕ) (at w : ℕ) (decoded : DecodedLetter) (l : at + 1 < length s) (e : w ≡ getD s at 0 * 256 + getD s (at + 1) 0)

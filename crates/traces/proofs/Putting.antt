@@ -12,19 +12,18 @@ use borrow.Author.Tests.{le-leb, lt-leb}
 use Rattle.base.proofs.Theory.Choice.{byTest}
 use Rattle.letters.specs.declared.Header.{Header}
 use Rattle.letters.specs.declared.Letter.{Letter}
-use Rattle.letters.specs.Letters.{Fits}
 use Rattle.letters.specs.Packing.{split}
-use Rattle.letters.proofs.Theory.Packing.{join-lt}
 use Rattle.letters.specs.Editions.{firstEdition}
 use Rattle.letters.specs.Answers.{Answer, value, refusal, onAnswer}
 use Rattle.letters.specs.Letters.{HeaderFits}
-use Rattle.letters.specs.Words.{headerFields, letterFields, headerWord, letterWord}
+use Rattle.letters.specs.Words.{headerWord, letterWord}
 use Rattle.letters.specs.Coding.{headerTest}
 use Rattle.letters.specs.Encoding.{encodeHeader, encodeLetter}
 use Rattle.letters.proofs.Theory.WordLaws.{chosen, header-test, fits-test, first-roomy}
 use Rattle.traces.specs.Reading.{TraceReading, trace, chunks, lettersFrom}
 use Rattle.traces.specs.ReadingParts.{counted}
 use Rattle.traces.specs.Traces.{units, bytesOf, packing}
+use Rattle.traces.proofs.Theory.Units.{unit-bytes, header-word-below, letter-word-below}
 use Rattle.traces.proofs.Theory.TraceLaws.{Decoded, letters-decoded, decoded-length, parts-length, bytes-length}
 use Rattle.traces.specs.Writing.{unpackLetter, unpackedParts, unpacking, writtenLength, writtenOver, WroteTrace}
 use Rattle.traces.proofs.Theory.WritingLaws.{unpack-letter, unpack-whole}
@@ -78,17 +77,8 @@ module _ {B : Type 0} (put : List ℕ → ℕ → B → List ℕ) (n b : ℕ) (d
 -- the stores of a word below 65536 are its bytes
 stores : (out : List ℕ) (to w : ℕ) (rest : List ℕ) → w < 65536 → sets (putWord out to w) (to + 2) rest ≡ sets out to (split (8 ∷ 8 ∷ []) w ++ rest)
 stores out to w rest l =
-    let a : w / 256 % 256 ≡ w / 256 = omega arith in
-    let b : w / 1 % 256 ≡ w % 256 = omega arith in
-    rw (add-two to, add-one to, a, b)
-
-header-lt : (h : Header) → HeaderFits firstEdition h → headerWord firstEdition h < 65536
-unfolding headerWord
-header-lt h v = join-lt (firstEdition .header) (headerFields firstEdition h) (first-roomy .header-sized h v)
-
-letter-lt : (h : Header) (l : Letter) → HeaderFits firstEdition h → Fits h l → letterWord firstEdition h l < 65536
-unfolding letterWord
-letter-lt h l v f = join-lt (firstEdition .letter) (letterFields h l) (first-roomy .letter-sized h l v f)
+    let e : sets (putWord out to w) (to + 2) rest ≡ sets out to (w / 256 ∷ w % 256 ∷ rest) = rw (add-two to, add-one to) in
+    e ∙ ap (λ s. sets out to (s ++ rest)) (sym (unit-bytes w l))
 
 put-decoded : (h : Header) (out : List ℕ) (to : ℕ) (codes : List (List ℕ)) (ls : List Letter) → HeaderFits firstEdition h → Decoded (unpackLetter h) codes ls
     → putWords (wordIn firstEdition h) out to codes ≡ sets out to (bytesOf firstEdition (map (letterWord firstEdition h) ls))
@@ -99,7 +89,7 @@ put-decoded h out to (x ∷ codes) [] v d = absurd d
 put-decoded h out to (x ∷ codes) (l ∷ ls) v d =
     let w = letterWord firstEdition h l in
     rw (word-in h x l v (d .0)) (put-decoded h (putWord out to w) (to + 2) codes ls v (d .1)
-    ∙ stores out to w (bytesOf firstEdition (map (letterWord firstEdition h) ls)) (letter-lt h l v (unpack-letter h x l .0 (d .0) .1)))
+    ∙ stores out to w (bytesOf firstEdition (map (letterWord firstEdition h) ls)) (letter-word-below h v l (unpack-letter h x l .0 (d .0) .1)))
 
 pub counted-trace : (r : TraceReading) (g : Header) (n : ℕ) → counted r ≡ value (g, n) → (ls : List Letter) × (r ≡ trace g ls) × (length ls ≡ n)
 counted-trace (trace h ls) g n q =
@@ -174,7 +164,7 @@ module _ (h : Header) (s out : List ℕ) (w : ℕ) (q : encodeHeader firstEditio
     laid l =
         let v = header-test firstEdition h .0 (good .0) in
         let rest = bytesOf firstEdition (map (letterWord firstEdition h) letters) in
-        let below : w < 65536 = subst (λ (w : ℕ). w < 65536) (good .1) (header-lt h v) in
+        let below : w < 65536 = subst (λ (w : ℕ). w < 65536) (good .1) (header-word-below h v) in
         let room : 0 + length (packing firstEdition h letters) ≤ length out = omega (arith, size) in
         put-decoded h (putWord out 0 w) 2 (unpackedParts s) letters v (decoded .1)
         ∙ stores out 0 w rest below

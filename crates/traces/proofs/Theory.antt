@@ -1,2 +1,3 @@
+pub mod Units
 pub mod TraceLaws
 pub mod WritingLaws

@@ -3,7 +3,7 @@ use mathlib.Core.Path.{_≡_, refl, sym, ap, _∙_}
 use Prim.Native.Nat.{ℕ, zero, suc, _+_, _≤_, _<_}
 use native.Mathlib.Omega.{arith}
 use mathlib.Core.List.{List, [], _∷_, _++_, map, append-assoc}
-use lib.ListN.{length}
+use lib.ListN.{length, length-map}
 use Rattle.grammar.specs.Limits.{mostPoints}
 use Rattle.blocks.specs.Held.{unknown}
 use borrow.Author.Tests.{ne-eqb}
@@ -15,7 +15,7 @@ use Rattle.macros.proofs.Theory.Points as points-laws
 use Rattle.blocks.specs.Held.{point, heldPoint, backpatched}
 use Rattle.blocks.proofs.Theory.Held.{redirected}
 use Rattle.blocks.specs.Outcome.{statementCode, elseCode, blockCode}
-use Rattle.blocks.proofs.Theory.TableLaws.{length-map, map-append}
+use Rattle.blocks.proofs.Theory.TableLaws.{map-append}
 use Rattle.blocks.specs.declared.PointEntry.{PointEntry}
 
 -- the points as the code holds them, with any number for what follows
@@ -79,15 +79,15 @@ mutual
 
 pub statement-length : (c : Statement) (base : ℕ) → length (statementCode c base) ≡ sizeStatement c
 unfolding statementCode
-statement-length c base = length-map heldPoint (compile c base unknown) ∙ compile-length c base unknown
+statement-length c base = length-map (compile c base unknown) heldPoint ∙ compile-length c base unknown
 
 pub else-length : (o : Else) (base : ℕ) → length (elseCode o base) ≡ sizeElse o
 unfolding elseCode
-else-length o base = length-map heldPoint (compileElse o base unknown) ∙ compileElse-length o base unknown
+else-length o base = length-map (compileElse o base unknown) heldPoint ∙ compileElse-length o base unknown
 
 pub block-length : (b : Block) (base : ℕ) → length (blockCode b base) ≡ sizeBlock b
 unfolding blockCode
-block-length b base = length-map heldPoint (compileBlock b base unknown) ∙ compileBlock-length b base unknown
+block-length b base = length-map (compileBlock b base unknown) heldPoint ∙ compileBlock-length b base unknown
 
 -- ---- statements one behind the other
 

@@ -4,7 +4,7 @@ use Prim.Native.Nat.{ℕ, zero, suc, _+_, _-_, _≤_, _<_}
 use native.Mathlib.Omega.{arith}
 use mathlib.Core.List.{List, [], _∷_, _++_, map, append-assoc}
 use lib.Dec.{ltb}
-use lib.ListN.{length, getD, set, take, drop, replicate, length-append, length-replicate}
+use lib.ListN.{length, getD, set, take, drop, replicate, length-append, length-replicate, length-map}
 use borrow.Author.Tests.{lt-ltb, le-ltb}
 use Rattle.base.proofs.Theory.Choice.{byTest}
 use Rattle.base.specs.Each.{each, eachFrom}
@@ -17,10 +17,6 @@ use Rattle.blocks.proofs.Theory.Held.{redirected}
 use Rattle.blocks.specs.Outcome.{backpatchedIn}
 use Rattle.blocks.proofs.Theory.Outcome.{within, forked}
 use Rattle.blocks.specs.declared.PointEntry.{PointEntry}
-
-pub length-map : {A B : Type 0} (f : A → B) (l : List A) → length (map f l) ≡ length l
-length-map f [] = refl
-length-map f (x ∷ l) = ap suc (length-map f l)
 
 pub map-append : {A B : Type 0} (f : A → B) (l m : List A) → map f (l ++ m) ≡ map f l ++ map f m
 map-append f [] m = refl
@@ -98,7 +94,7 @@ pub over-range : (old ds ps qs : List PointEntry) (from to f : ℕ) → length d
 over-range old ds ps qs from to f h g =
     let a = length-append ds (ps ++ qs) in let b = length-append ps qs in
     let ts = map (redirected f) ps in
-    let c = length-append ds (ts ++ qs) in let d = length-append ts qs in let m = length-map (redirected f) ps in
+    let c = length-append ds (ts ++ qs) in let d = length-append ts qs in let m = length-map ps (redirected f) in
     let e : length (ds ++ (ps ++ qs)) ≡ length (ds ++ (ts ++ qs)) = omega arith in
     let rest = drop (length (ds ++ (ts ++ qs))) old in
     each-from (within from to f) unusedPoint (pointsOver old (ds ++ (ps ++ qs)))

@@ -15,6 +15,7 @@ use Rattle.letters.specs.declared.Letter.{Letter}
 use Rattle.letters.specs.declared.Letter.the-variants.{Copy, Apply, Equal, Unequal}
 use Rattle.letters.specs.Letters.{Fits}
 use Rattle.letters.specs.Editions.{mostLetters, mostRegisters, mostFunctions}
+use Rattle.closure.proofs.Theory.Clashing.{below-widen}
 use Rattle.closure.specs.Limits.{mostTerms}
 use Rattle.semantics.specs.Terms.{State, after}
 use Rattle.closure.proofs.Theory.Represents.{represents-copy, represents-unequal, sides-unequal, sides-apply}
@@ -49,10 +50,6 @@ before-set : (l : List ℕ) (n v : ℕ) → n < length l → v ≤ n → ((k : �
 before-set l n v h p g k q = byTest (eqb k n)
     (λ t. let e = eqb-true k n t in subst (λ w. w ≤ k) (sym (ap (λ k. getD (set l n v) k 0) e ∙ put l n v h)) (omega arith))
     (λ t. let d : k ≢ n = eqb-false k n t in subst (λ w. w ≤ k) (sym (kept l n v k d)) (g k (omega arith)))
-
-below-widen : (b c n : ℕ) (l : List ℕ) → b ≤ c → Below b n l → Below c n l
-unfolding Below
-below-widen b c n l h g i k = let x = g i k in omega arith
 
 -- the class that was looked up is that of a term, or the new one
 module _ (representative function first second : List ℕ) (registers n f a b name : ℕ) (fm : Formed representative function first second registers n) where

@@ -3,10 +3,9 @@ use mathlib.Core.Path.{_≡_, refl, sym, _∙_, ap}
 use mathlib.Core.List.{List, [], _∷_, _++_, append-assoc}
 use Prim.Native.Nat.{ℕ, suc, _+_, _-_, _*_, _%_, _≤_, _<_}
 use native.Mathlib.Omega.{arith}
-use native.Mathlib.Numerals.{add-one}
 use lib.Dec.{ltb, eqb}
 use lib.ListN.{length, getD, take, drop}
-use lib.Seq.{drop-cons, drop-drop}
+use lib.Seq.{drop-drop}
 use borrow.Author.Tests.{le-ltb, le-leb, ltb-false, eqb-true}
 use Rattle.base.proofs.Theory.Choice.{byTest}
 use Rattle.letters.specs.declared.Header.{Header}
@@ -21,6 +20,7 @@ use Rattle.letters.specs.CodeAnswers.{letterAnswer}
 use Rattle.letters.specs.Letters.{HeaderFits}
 use Rattle.letters.specs.Coding.{decodeLetter}
 use Rattle.letters.proofs.Theory.WordLaws.{first-roomy, decode-header, decode-letter}
+use Rattle.traces.proofs.Theory.Units.{unit-at}
 use Rattle.traces.specs.Reading.{TraceReading, trace, prependLetter, octets, reading, readingWhere, beginning, lettersFrom, lettersOf, letterIn, letterCount}
 use Rattle.traces.specs.Reading.{chunks}
 use Rattle.traces.specs.ReadingParts.{readingWithin, letterAt}
@@ -49,17 +49,6 @@ headed s h = byTest (ltb (length s) 2)
           decode-header first-roomy (join (octets firstEdition) (take 2 s)) h .0 q .0;
     })
     λ u. rw u λ q. absurd (not-value q))
-
--- a word's two bytes
-unit-at : (s : List ℕ) (at : ℕ) → at + 1 < length s → join (8 ∷ 8 ∷ []) (take 2 (drop at s)) ≡ getD s at 0 * 256 + getD s (at + 1) 0
-unit-at s at l =
-    let a : at < length s = omega arith in
-    let b : suc at < length s = omega arith in
-    rw (add-one at, drop-cons s at 0 a, drop-cons s (suc at) 0 b) (two (getD s at 0) (getD s (suc at) 0) (drop (suc (suc at)) s))
-  where
-    two : (x y : ℕ) (s : List ℕ) → join (8 ∷ 8 ∷ []) (take 2 (x ∷ y ∷ s)) ≡ x * 256 + y
-    two x y [] = omega arith
-    two x y (z ∷ s) = omega arith
 
 -- ---- some letters, and then what is read
 pub behind-none : (x : TraceReading) → behind [] x ≡ x

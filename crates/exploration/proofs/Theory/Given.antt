@@ -1,13 +1,13 @@
 -- What follows from the definitions of specs/Given.antt.
 use mathlib.Core.Path.{_≡_, refl, sym, ap, _∙_}
-use mathlib.Core.List.{List, [], _∷_, map}
-use mathlib.Core.Option.{some}
-use Prim.Native.Nat.{ℕ, zero, suc, _-_, _%_, _<_}
+use mathlib.Core.List.{List, map}
+use Prim.Native.Nat.{ℕ, _-_, _%_, _<_}
 use native.Mathlib.Omega.{arith}
-use lib.ListN.{length, getD, getElem?}
+use lib.ListN.{length, getD}
 use Rattle.letters.specs.declared.Header.{Header}
 use Rattle.grammar.specs.Limits.{mostPoints}
 use Rattle.semantics.specs.Terms.{begin}
+use Rattle.macros.proofs.Theory.Runs.{within-list}
 use Rattle.macros.specs.Tree.{Block}
 use Rattle.macros.specs.Points as points
 use Rattle.macros.specs.Points.{sizeBlock, moved, moves-at}
@@ -29,11 +29,6 @@ use Rattle.exploration.proofs.Theory.Watching.{performing, infeasibleIn
 use Rattle.exploration.specs.Given.{Given}
 
 -- a place within a list
-within-list : {A : Type 0} (l : List A) (n : ℕ) → n < length l → (x : A) × (getElem? l n ≡ some x)
-within-list [] n h = absurd (omega arith)
-within-list (x ∷ l) zero h = (x, refl)
-within-list (x ∷ l) (suc n) h = within-list l n (omega arith)
-
 module _ (given : Given) where
   abbrev pub header : Header
   header = headerOf (given .macro)

@@ -123,7 +123,7 @@ module _ (s : List ℕ) where
 
 -- ---- functions
 
-or-false : (a b : Bool) → a || b ≡ false → (a ≡ false) × (b ≡ false)
+pub or-false : (a b : Bool) → a || b ≡ false → (a ≡ false) × (b ≡ false)
 or-false true b h = let z : _≡_ {A = ℕ} 0 1 = cc in absurd (omega arith)
 or-false false b h = (refl, h)
 

@@ -23,6 +23,11 @@ use Rattle.macros.specs.Points.{moves, moved, moves-at, run}
 use Rattle.macros.proofs.Theory.Points.{entry-then, compile-length, compileBlock-length, every-moves, LeadsWithin, entry-within, points-lead}
 
 -- ── a part of a list, from number b on ──
+pub within-list : {A : Type 0} (l : List A) (n : ℕ) → n < length l → (x : A) × (getElem? l n ≡ some x)
+within-list [] n h = absurd (omega arith)
+within-list (x ∷ l) zero h = (x, refl)
+within-list (x ∷ l) (suc n) h = within-list l n (omega arith)
+
 module _ {A : Type 0} where
   abbrev Segment : List A → ℕ → List A → Type 0
   Segment ps b [] = Unit {0}
@@ -251,11 +256,6 @@ module _ (m : Block) where
       ap (λ k. walk branches k start p) (sym rest-entrance) ∙ same-walk (rest m) (moves-at (points m)) branches point-branches (entrance m) start p
 
   -- only at the end nothing is left
-  within : {A : Type 0} (l : List A) (n : ℕ) → n < length l → (x : A) × (getElem? l n ≡ some x)
-  within [] n h = absurd (omega arith)
-  within (x ∷ l) zero h = (x, refl)
-  within (x ∷ l) (suc n) h = within l n (omega arith)
-
   first-move : (x : Point) → moves x first ≢ no-move
   first-move (step a n) e = let z : _≡_ {A = ℕ} 0 1 = cc in omega arith
   first-move (check c n) e = let z : _≡_ {A = ℕ} 0 1 = cc in omega arith
@@ -270,7 +270,7 @@ module _ (m : Block) where
     where
       go : n < sizeBlock m → ⊥
       go l =
-          let (x, f) = within (points m) n (omega (arith, compileBlock-length m 0 (sizeBlock m))) in
+          let (x, f) = within-list (points m) n (omega (arith, compileBlock-length m 0 (sizeBlock m))) in
           let g : moves-at (points m) n first ≡ no-move =
           no-move-back (moves-at (points m) n first) (ap (λ k. branches k first) (sym e) ∙ point-branches n first) in
           first-move x (ap (λ z. moved z first) (sym f) ∙ g)

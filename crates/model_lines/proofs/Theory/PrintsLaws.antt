@@ -22,8 +22,7 @@ use Rattle.semantics.specs.ShownTables.{shownTables}
 use Rattle.semantics.proofs.Theory.ShownPacked.{rows-length, starts-length}
 use Rattle.semantics.proofs.Theory.PackedTablesLaws.{packed-length}
 use Rattle.semantics.specs.FirstLetters.{firstInfeasible}
-use Rattle.text.specs.Numerals.{numeral}
-use Rattle.text.proofs.Theory.Numerals.{numeral-length}
+use Rattle.text.proofs.Theory.Numerals.{long-number}
 use Rattle.text.specs.Names.{nameText}
 use Rattle.text.proofs.Theory.Names.{name-back}
 use Rattle.text.specs.Templates.{part, filledIn}
@@ -98,9 +97,6 @@ hex-length [] = refl
 hex-length (b ∷ bytes) = let i = hex-length bytes in omega arith
 
 -- ── lengths ──
-long-number : (n : ℕ) → n < 2 ^ 64 → length (numeral n) ≤ 20
-long-number n h = numeral-length 19 n (omega arith)
-
 pub model-few : (bytes : List ℕ) → length bytes ≤ mostModel → length (modelLine bytes) ≤ mostModelLineBytes
 unfolding modelLine line
 model-few bytes h = simp length-append (omega (arith, hex-length bytes))

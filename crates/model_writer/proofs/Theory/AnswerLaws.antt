@@ -2,10 +2,10 @@
 use mathlib.Core.Path.{_≡_, refl, sym, _∙_, ap, subst}
 use mathlib.Core.Logic.{_≢_}
 use mathlib.Core.List.{List, [], _∷_, _++_, map, reverse}
-use Prim.Native.Nat.{ℕ, zero, suc, _+_, _*_, _≤_, _<_}
+use Prim.Native.Nat.{ℕ, zero, suc, _+_, _≤_, _<_}
 use native.Mathlib.Omega.{arith}
 use native.Mathlib.Nat.{zero-add}
-use lib.ListN.{length, getD, take, drop}
+use lib.ListN.{length, getD, take, drop, length-map}
 use lib.Seq.{length-take-le}
 use borrow.Author.Tests.{eq-eqb, ne-eqb, le-leb, lt-leb, lt-ltb}
 use Rattle.letters.specs.declared.Header.{Header}
@@ -48,7 +48,6 @@ use Rattle.model_writer.specs.Meaning.{rowAt}
 use Rattle.model_writer.specs.Listing.{ListedAll}
 use Rattle.model_writer.specs.Inserted.{inserted}
 use Rattle.model_writer.specs.Bytes.{rowFor, RowIn, Writable, tablesIn, valueRange, modelLength}
-use Rattle.model_writer.proofs.Theory.Bytes.{map-length}
 use Rattle.model_writer.specs.Fitting.{Puttable, Put, too-large, fitting}
 use Rattle.model_writer.specs.Answer.{ModelAnswer, shownAnswer, modelBytes, answerTo, outputAfter, Means, Showed}
 use Rattle.model_writer.specs.Stages.{SomeStateComputed, Modelled, Stopped, well, ill}
@@ -156,7 +155,7 @@ module _ (h : Header) (function first second representative : List ℕ) (n : ℕ
       unfolding tablesIn
       bytes-long = ap length (sym bytes-are) ∙ packed-length firstEdition h (tablesIn h values function first second rows c r)
           ∙ (let a = length-take-le (h .registers) values (let a = v .long in let b = w .registers-few in omega arith) in
-          let b = map-length (rowFor values function first second) (take r rows)
+          let b = length-map (take r rows) (rowFor values function first second)
           ∙ length-take-le r rows (let a = l .room in let b = rows-few .0 in omega arith) in omega arith)
 
     too-long : (out : List ℕ) → length out < modelLength h r → Modelled h function first second representative n out (shown.Refused outputTooSmall 0) out

@@ -4,7 +4,7 @@ use mathlib.Core.List.{List, [], _∷_, _++_, map, append-nil, append-assoc}
 use Prim.Native.Nat.{ℕ, zero, suc, _+_, _*_, _/_, _%_, _≤_, _<_}
 use native.Mathlib.Omega.{arith}
 use native.Mathlib.Numerals.{add-one}
-use lib.ListN.{length, getD, take, drop, set, replicate, length-append, length-set}
+use lib.ListN.{length, getD, take, drop, set, replicate, length-append, length-set, length-map}
 use lib.Seq.{sets-eq, take-suc, take-all, length-take-le, getD-take}
 use native.Mathlib.Nat.{mul-le-mul-left, mul-suc}
 use Rattle.letters.specs.Editions.{firstEdition, mostFunctions}
@@ -13,6 +13,7 @@ use Rattle.letters.specs.Packing.{split}
 use Rattle.letters.specs.Putting.{putWord}
 use Rattle.base.proofs.Theory.Choice.{byTest}
 use Rattle.base.specs.Masks.{has}
+use Rattle.traces.proofs.Theory.Units.{unit-bytes}
 use Rattle.semantics.specs.PackedTables.{units, packedRow, secondWritten, packTables, rowBytes, wordBytes}
 use Rattle.semantics.proofs.Theory.PackedTablesLaws.{units-length}
 use Rattle.model_writer.specs.Inserted.{inserted}
@@ -36,16 +37,7 @@ unfolding inserted
 word-inserted out at w b h =
     ap (λ k. set (set out at (w / 256)) k (w % 256)) (add-one at) ∙ sets-eq (w / 256 ∷ w % 256 ∷ []) out at (omega arith)
     ∙ append-assoc (take at out) (w / 256 ∷ w % 256 ∷ []) (drop (at + 2) out)
-    ∙ ap (λ (v : List ℕ). take at out ++ (v ++ drop (at + length v) out)) (bytes ∙ sym (units-one wordBytes w))
-  where
-    high : w / 256 ≡ w / 256 % 256
-    high = omega arith
-
-    low : w % 256 ≡ w / 1 % 256
-    low = omega arith
-
-    bytes : w / 256 ∷ w % 256 ∷ [] ≡ split (8 ∷ 8 ∷ []) w
-    bytes = λ k. high k ∷ low k ∷ []
+    ∙ ap (λ (v : List ℕ). take at out ++ (v ++ drop (at + length v) out)) (sym (unit-bytes w b) ∙ sym (units-one wordBytes w))
 
 pub five-inserted : (out : List ℕ) (at w : ℕ) → at + 4 < length out → putFive out at w ≡ inserted at (units rowBytes (w ∷ [])) out
 unfolding inserted
@@ -99,10 +91,6 @@ map-take-at f (x ∷ l) zero k h g = absurd (omega arith)
 map-take-at f (x ∷ l) (suc r) zero h g = refl
 map-take-at f (x ∷ l) (suc r) (suc k) h g = map-take-at f l r k (omega arith) (omega arith)
 
-pub map-length : {A B : Type 0} (f : A → B) (l : List A) → length (map f l) ≡ length l
-map-length f [] = refl
-map-length f (x ∷ l) = ap suc (map-length f l)
-
 map-twice : {A B C : Type 0} (g : B → C) (f : A → B) (l : List A) → map g (map f l) ≡ map (λ x. g (f x)) l
 map-twice g f [] = refl
 map-twice g f (x ∷ l) = ap (λ r. g (f x) ∷ r) (map-twice g f l)
@@ -111,7 +99,7 @@ map-twice g f (x ∷ l) = ap (λ r. g (f x) ∷ r) (map-twice g f l)
 module _ (h : Header) (values function first second rows : List ℕ) (r : ℕ) where
   pub words-length : r ≤ length rows → length (wordsFor h values function first second (take r rows)) ≡ r
   unfolding wordsFor
-  words-length l = map-length (wordFor h values function first second) (take r rows) ∙ length-take-le r rows l
+  words-length l = length-map (take r rows) (wordFor h values function first second) ∙ length-take-le r rows l
 
   pub word-at : (k i w : ℕ) → k < r → k < length rows → i ≡ getD rows k 0 → w ≡ wordFor h values function first second i
       → w ≡ getD (wordsFor h values function first second (take r rows)) k 0
@@ -257,7 +245,7 @@ whole h values function first second rows count r out o₁ o₂ o₃ o₄ w e₁
         (let b = l₃ in let c = lW in let d = fits in omega arith)
 
     count-is : r ≡ length (map (rowFor values function first second) (take r rows))
-    count-is = sym (map-length (rowFor values function first second) (take r rows)
+    count-is = sym (length-map (take r rows) (rowFor values function first second)
         ∙ length-take-le r rows (let a = w .rows-long in let b = w .rows-few in omega arith))
 
     head : A₂ ++ S ≡ units wordBytes (count ∷ length (map (rowFor values function first second) (take r rows)) ∷ take (h .registers) values)

@@ -9,8 +9,7 @@ use lib.Seq.{length-take-le}
 use borrow.Author.Tests.{ne-eqb}
 use Rattle.base.proofs.Theory.Choice.{byTest}
 use Rattle.letters.specs.Answers.{Answer}
-use Rattle.text.specs.Numerals.{numeral}
-use Rattle.text.proofs.Theory.Numerals.{numeral-length}
+use Rattle.text.proofs.Theory.Numerals.{long-number}
 use Rattle.text.specs.Templates.{part, filledIn}
 use Rattle.text.specs.Appending.{Appended, PlaceInRange}
 use Rattle.text.proofs.Theory.Appending.{appended-then, appended-length, room-first, room-then}
@@ -45,9 +44,6 @@ unfolding orNone infeasibleLine line filledIn part
 feasibility-form n = refl
 
 -- ── lengths ──
-long-number : (n : ℕ) → n < 2 ^ 64 → length (numeral n) ≤ 20
-long-number n h = numeral-length 19 n (omega arith)
-
 coherence-few : (n : ℕ) → n < 2 ^ 64 → length (coherenceLine n) ≤ 32
 unfolding orNone incoherentLine line
 coherence-few n h = byTest (eqb n 0) (λ t. rw t (omega arith)) λ t. rw t (simp length-append (omega (arith, long-number n h)))

@@ -1,15 +1,11 @@
 -- Lists that are given entry by entry: a mapped list, and one list within another.
-use mathlib.Core.Path.{_≡_, refl, ap, _∙_}
+use mathlib.Core.Path.{_≡_, refl, _∙_}
 use Prim.Native.Nat.{ℕ, zero, suc, _<_}
 use native.Mathlib.Omega.{arith}
 use mathlib.Core.List.{List, [], _∷_, map}
-use lib.ListN.{length, getD}
+use lib.ListN.{length, getD, length-map}
 use Rattle.window.specs.Table.{table}
 use Rattle.window.proofs.Theory.Table.{table-is}
-
-pub length-map : {A B : Type 0} (f : A → B) (l : List A) → length (map f l) ≡ length l
-length-map f [] = refl
-length-map f (x ∷ l) = ap suc (length-map f l)
 
 pub map-at : {A B : Type 0} (f : A → B) (l : List A) (i : ℕ) (d : A) (e : B) → i < length l → getD (map f l) i e ≡ f (getD l i d)
 map-at f [] i d e h = absurd (omega arith)
@@ -17,4 +13,4 @@ map-at f (x ∷ l) zero d e h = refl
 map-at f (x ∷ l) (suc i) d e h = map-at f l i d e (omega arith)
 
 pub map-table : {A B : Type 0} (f : A → B) (l : List A) (n : ℕ) (d : A) → length l ≡ n → map f l ≡ table (λ i. f (getD l i d)) n
-map-table f l n d h = table-is (λ i. f (getD l i d)) n (map f l) (f d) (length-map f l ∙ h) (λ i b. map-at f l i d (f d) (omega arith))
+map-table f l n d h = table-is (λ i. f (getD l i d)) n (map f l) (f d) (length-map l f ∙ h) (λ i b. map-at f l i d (f d) (omega arith))

@@ -27,14 +27,6 @@ pub or-case : (a b : Bool) → a || b ≡ true → (a ≡ true) ⊎ (b ≡ true)
 or-case true b h = inl refl
 or-case false b h = inr h
 
-pub or-false : (a b : Bool) → a || b ≡ false → (a ≡ false) × (b ≡ false)
-or-false true b h = absurd (clash refl h)
-or-false false b h = (refl, h)
-
-pub and-true : (a b : Bool) → a && b ≡ true → (a ≡ true) × (b ≡ true)
-and-true true b h = (refl, h)
-and-true false b h = absurd (clash h refl)
-
 pub and-false : (a : Bool) → a && false ≡ false
 and-false true = refl
 and-false false = refl

@@ -18,7 +18,9 @@ use Rattle.grammar.specs.Reading.{indexOf, expect, listedT, isDeclared, registe
 use Rattle.grammar.proofs.Theory.Sound.{index-at}
 use Rattle.grammar.proofs.Theory.Complete.{index-below}
 use Rattle.grammar.specs.Spelled.{Arities, Spells}
-use Rattle.refusals.proofs.Theory.Basics.{clash, or-case, or-false, and-true, and-false, not-true}
+use Rattle.grammar.proofs.Theory.Declarations.{or-false}
+use Rattle.letters.proofs.Theory.WordLaws.{and-true}
+use Rattle.refusals.proofs.Theory.Basics.{clash, or-case, and-false, not-true}
 use Rattle.refusals.proofs.Theory.Rests.{Rest, token, digit, names, entries, line, outside, took, stuck, take, complete}
 use Rattle.refusals.specs.Questions.{AllNames, InRegisters, InFunctions, InStatements, Among, Behind, Redeclared, Misused, occurrences}
 use Rattle.refusals.specs.FirstNo.{tokensBefore}

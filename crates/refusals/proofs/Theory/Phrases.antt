@@ -20,7 +20,8 @@ use Rattle.grammar.specs.Reading.{indexOf, isDeclared, useT, signT, expect, end
 use Rattle.grammar.proofs.Theory.Sound.{index-at}
 use Rattle.grammar.proofs.Theory.Complete.{index-below}
 use Rattle.grammar.specs.Spelled.{Declared, Arities, Spells}
-use Rattle.refusals.proofs.Theory.Basics.{clash, and-true, not-true, nor}
+use Rattle.letters.proofs.Theory.WordLaws.{and-true}
+use Rattle.refusals.proofs.Theory.Basics.{clash, not-true, nor}
 use Rattle.refusals.proofs.Theory.Rests.{Rest, token, name, sign, arguments, took, take}
 use Rattle.refusals.proofs.Theory.Rests as rest
 use Rattle.refusals.specs.Questions.{InStatements, Among, Behind, FunctionDue, Called, TakesArguments, Redeclared, Misused, occurrences, TooDeep}

@@ -13,7 +13,8 @@ use Rattle.tokens.specs.Words.{isName}
 use Rattle.tokens.specs.Words as word
 use Rattle.tokens.proofs.Theory.WordsLaws.{not-word}
 use Rattle.grammar.proofs.Theory.Sound.{pick-case}
-use Rattle.refusals.proofs.Theory.Basics.{head-same, tail-same, not-nil, clash, or-case, and-true}
+use Rattle.letters.proofs.Theory.WordLaws.{and-true}
+use Rattle.refusals.proofs.Theory.Basics.{head-same, tail-same, not-nil, clash, or-case}
 use Rattle.refusals.specs.Sentences.{Name, NamedCondition, NamedStatement, NamedElse, NamedBlock, _followedBy_, Entry, NamedMacro, conditionThen}
 use Rattle.refusals.specs.Sentences.{statementThen, elseThen, blockThen, namesThen, entryThen, entriesThen, functionsThen, namedSentence, Sentence}
 use Rattle.refusals.specs.Sentences.{Viable}

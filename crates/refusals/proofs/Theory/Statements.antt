@@ -13,7 +13,8 @@ use Rattle.tokens.specs.Words.{isName}
 use Rattle.tokens.specs.Words as word
 use Rattle.grammar.specs.Reading.{Got, expect, ended, condition, assignment, endedCondition, bracesT, elseT, statementT, block, statement, closing}
 use Rattle.grammar.specs.Spelled.{Declared, Arities}
-use Rattle.refusals.proofs.Theory.Basics.{clash, or-false, and-false}
+use Rattle.grammar.proofs.Theory.Declarations.{or-false}
+use Rattle.refusals.proofs.Theory.Basics.{clash, and-false}
 use Rattle.refusals.proofs.Theory.Rests.{Rest, token, name, sign, inside, outside, Took, took, stuck, begin, take, complete}
 use Rattle.refusals.specs.Questions.{Misused, Redeclared, occurrences}
 use Rattle.refusals.specs.FirstNo.{tokensBefore}

@@ -15,7 +15,7 @@ use Rattle.letters.specs.declared.Letter.the-variants.{Copy, Apply, Equal, Uneq
 use Rattle.semantics.specs.TablesRead.{unitsIn, rowFrom, readTables}
 use Rattle.semantics.specs.PackedTables.{secondWritten}
 use Rattle.text.specs.Numerals.{numeral}
-use Rattle.text.proofs.Theory.Numerals.{numeral-length}
+use Rattle.text.proofs.Theory.Numerals.{numeral-length, long-number}
 use Rattle.text.proofs.Theory.Names.{name-length}
 use Rattle.text.specs.Appending.{PlaceInRange}
 use Rattle.report.specs.declared.ReportedVerdict.{ReportedVerdict}
@@ -31,9 +31,6 @@ abbrev pub bound : Header → ReportedVerdict → List ℕ → ℕ
 bound h v s = 67 + 40 * letterNumber v + 21 * h .registers + 28 * rowNumber v s
 
 -- ── numbers ──
-long-number : (n : ℕ) → n < 2 ^ 64 → length (numeral n) ≤ 20
-long-number n h = numeral-length 19 n (omega arith)
-
 word-number : (n : ℕ) → n < 65536 → length (numeral n) ≤ 5
 word-number n h = numeral-length 4 n (omega arith)
 

@@ -2,7 +2,6 @@
 use mathlib.Core.Path.{_≡_, refl, sym, ap, _∙_}
 use Prim.Native.Nat.{ℕ, zero, suc, _+_, _-_, _/_, _%_, _≤_, _<_}
 use native.Mathlib.Omega.{arith}
-use native.Mathlib.Nat.{div-one}
 use mathlib.Core.Bool.{_&&_}
 use Rattle.base.proofs.Theory.Choice.{byTest}
 use mathlib.Core.List.{List, [], _∷_, _++_}
@@ -11,14 +10,12 @@ use lib.Seq.{drop-cons, drop-set-lt, getD-set-same, getD-set-other}
 use Rattle.letters.specs.declared.Header.{Header}
 use Rattle.letters.specs.declared.Letter.{Letter}
 use Rattle.letters.specs.Editions.{firstEdition}
-use Rattle.letters.specs.Packing.{split}
-use Rattle.letters.proofs.Theory.Packing.{join-lt}
 use Rattle.letters.specs.Coding.{headerTest, fitsTest}
-use Rattle.letters.specs.Words.{headerFields, letterFields, headerWord, letterWord}
-use Rattle.letters.proofs.Theory.WordLaws.{and-true, header-test, fits-test, first-roomy}
+use Rattle.letters.proofs.Theory.WordLaws.{and-true, header-test, fits-test}
 use Rattle.letters.specs.Encoding.{encodeHeader, encodeLetter}
 use Rattle.letters.specs.Putting.{putWord}
 use Rattle.traces.specs.Traces.{units, bytesOf}
+use Rattle.traces.proofs.Theory.Units.{unit-bytes, header-word-below, letter-word-below}
 use Rattle.grammar.specs.Limits.{mostPoints}
 use Rattle.blocks.specs.declared.PointEntry.{PointEntry}
 use Rattle.table.specs.Table.{pointAt, parentAt, branchAt}
@@ -27,28 +24,18 @@ use Rattle.exploration.specs.Moves.{moveOf, letterOf}
 use Rattle.search.specs.Trails.{letterOfBranch, trailTo, trailOf}
 use Rattle.search.specs.Tracing.{Older, wordOrZero, letterWords, traced, traceBytes, lastLetter}
 
--- the bytes of a word
-unit-bytes : (w : ℕ) → w < 65536 → split (8 ∷ 8 ∷ []) w ≡ w / 256 ∷ w % 256 ∷ []
-unit-bytes w l = λ i. high i ∷ low i ∷ []
-  where
-    high : w / 256 % 256 ≡ w / 256
-    high = omega arith
-
-    low : w / 1 % 256 ≡ w % 256
-    low = rw (div-one w) refl
-
 -- the words of a header and of a letter have two bytes
 header-small : (h : Header) → wordOrZero (encodeHeader firstEdition h) < 65536
-unfolding encodeHeader headerWord
+unfolding encodeHeader
 header-small h = byTest (headerTest firstEdition h)
-    (λ t. rw t (join-lt (firstEdition .header) (headerFields firstEdition h) (first-roomy .header-sized h (header-test firstEdition h .0 t))))
+    (λ t. rw t (header-word-below h (header-test firstEdition h .0 t)))
     (λ t. rw t (omega arith))
 
 letter-small : (h : Header) (a : Letter) → wordOrZero (encodeLetter firstEdition h a) < 65536
-unfolding encodeLetter letterWord
+unfolding encodeLetter
 letter-small h a = byTest (headerTest firstEdition h && fitsTest h a)
     (λ t. let (v, f) = and-true (headerTest firstEdition h) (fitsTest h a) t in
-    rw t (join-lt (firstEdition .letter) (letterFields h a) (first-roomy .letter-sized h a (header-test firstEdition h .0 v) (fits-test h a .0 f))))
+    rw t (letter-word-below h (header-test firstEdition h .0 v) a (fits-test h a .0 f)))
     (λ t. rw t (omega arith))
 
 -- a word in front of what stands behind it

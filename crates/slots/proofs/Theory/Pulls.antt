@@ -10,6 +10,7 @@ use lib.Bits.{bitOr}
 use lib.ListN.{length, getD, set, length-set}
 use lib.Seq.{getD-set-same, getD-set-other, ext-getD}
 use borrow.Author.Tests.{eqb-true, eqb-false, lt-ltb, le-ltb}
+use Rattle.letters.proofs.Theory.WordLaws.{and-true}
 use Rattle.base.specs.Choice.{pick}
 use Rattle.base.proofs.Theory.Choice.{byTest}
 use Rattle.base.specs.Masks.{has}
@@ -160,15 +161,11 @@ module _ (ρ φ : ℕ) where
 
 -- ---- windows that are the same
 
-both : (a b : Bool) → (a && b) ≡ true → (a ≡ true) × (b ≡ true)
-both true b e = (refl, e)
-both false b e = (e, cc)
-
 module _ (ρ : ℕ) where
   same-at : (l m : List ℕ) (k : ℕ) → sameMasks ρ l m k ≡ true → (i : ℕ) → i < k → getD l i 0 ≡ getD m i 0
   unfolding sameMasks
   same-at l m zero e i h = absurd (omega arith)
-  same-at l m (suc k) e i h = let (a, b) = both (sameMasks ρ l m k) (eqb (getD l k 0) (getD m k 0)) e in byTest (eqb i k)
+  same-at l m (suc k) e i h = let (a, b) = and-true (sameMasks ρ l m k) (eqb (getD l k 0) (getD m k 0)) e in byTest (eqb i k)
       (λ t. rw (eqb-true i k t) (eqb-true (getD l k 0) (getD m k 0) b))
       (λ t. let n : i ≡ k → ⊥ = eqb-false i k t in same-at l m k a i (omega arith))
 
@@ -184,7 +181,7 @@ module _ (ρ : ℕ) where
   marks-at : (l m : List Bool) (k : ℕ) → sameMarks ρ l m k ≡ true → (i : ℕ) → i < k → getD l i false ≡ getD m i false
   unfolding sameMarks
   marks-at l m zero e i h = absurd (omega arith)
-  marks-at l m (suc k) e i h = let (a, b) = both (sameMarks ρ l m k) (alikeOf ρ (getD l k false) (getD m k false)) e in byTest (eqb i k)
+  marks-at l m (suc k) e i h = let (a, b) = and-true (sameMarks ρ l m k) (alikeOf ρ (getD l k false) (getD m k false)) e in byTest (eqb i k)
       (λ t. rw (eqb-true i k t) (alike-same (getD l k false) (getD m k false) b))
       (λ t. let n : i ≡ k → ⊥ = eqb-false i k t in marks-at l m k a i (omega arith))
 
@@ -203,11 +200,11 @@ module _ (ρ φ : ℕ) where
   pub same-window : (v w : Window) → Long v → Long w → sameWindow ρ φ v w ≡ true → v ≡ w
   unfolding sameWindow
   same-window v w f g e =
-      let (rest, i) = both _ (alikeOf ρ (v .infeasible) (w .infeasible)) e in
-      let (tables, m) = both _ (sameMarks ρ (v .mark) (w .mark) ρ) rest in
-      let (three, t) = both _ (sameMasks ρ (v .ever) (w .ever) (φ * ρ)) tables in
-      let (two, r) = both _ (sameMasks ρ (v .result) (w .result) (φ * ρ * ρ)) three in
-      let (c, u) = both (sameMasks ρ (v .class) (w .class) ρ) (sameMasks ρ (v .unequal) (w .unequal) ρ) two in
+      let (rest, i) = and-true _ (alikeOf ρ (v .infeasible) (w .infeasible)) e in
+      let (tables, m) = and-true _ (sameMarks ρ (v .mark) (w .mark) ρ) rest in
+      let (three, t) = and-true _ (sameMasks ρ (v .ever) (w .ever) (φ * ρ)) tables in
+      let (two, r) = and-true _ (sameMasks ρ (v .result) (w .result) (φ * ρ * ρ)) three in
+      let (c, u) = and-true (sameMasks ρ (v .class) (w .class) ρ) (sameMasks ρ (v .unequal) (w .unequal) ρ) two in
       let ce = masks-same ρ (v .class) (w .class) ρ (f .class) (g .class) c in
       let ue = masks-same ρ (v .unequal) (w .unequal) ρ (f .unequal) (g .unequal) u in
       let re = masks-same ρ (v .result) (w .result) (φ * ρ * ρ) (f .result) (g .result) r in

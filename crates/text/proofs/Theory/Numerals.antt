@@ -96,6 +96,10 @@ numeral-length (suc k) n h = byTest (ltb n 10)
     tenth : (n p : ℕ) → n < p * 10 → n / 10 < p
     tenth n p h = omega arith
 
+-- a number of 64 bits has at most 20 digits
+pub long-number : (n : ℕ) → n < 2 ^ 64 → length (numeral n) ≤ 20
+long-number n h = numeral-length 19 n (omega arith)
+
 -- Two of them.
 pub numeral-zero : numeral 0 ≡ 48 ∷ []
 unfolding numeral fixed withinCalls

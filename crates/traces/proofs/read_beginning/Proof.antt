@@ -1,5 +1,5 @@
 use Rattle.traces.specs.Reading.{beginning}
-use Rattle.traces.proofs.Counting.{unit-at}
+use Rattle.traces.proofs.Theory.Units.{unit-at}
 use borrow.Author.Tests.{le-ltb, eq-eqb}
 use lib.ListN.{length}
 use Prim.Native.Nat.{_%_}
