@@ -1,14 +1,18 @@
--- The definitions that the claims rest on hold of something and not of everything: those of models, of the values of registers (Definition 3) and of
--- the stricter condition on equal tests.
-use mathlib.Core.Path.{_≡_, refl}
+-- The definitions that the claims rest on hold of something and not of everything: those of models, of the values of registers (Definition 3), of
+-- the stricter condition on equal tests, of pairs and of what reads back.
+use mathlib.Core.Path.{_≡_, refl, sym, ap, _∙_}
 use mathlib.Core.Logic.{_≢_}
-use mathlib.Core.List.{List·Memᴰ·head}
-use Prim.Native.Nat.{ℕ}
+use mathlib.Core.List.{List, [], List·Memᴰ·head}
+use Prim.Native.Nat.{ℕ, zero, suc}
 use native.Mathlib.Omega.{arith}
 use lib.Dec.{lit<}
+use lib.ListN.{take}
 use Rattle.letters.specs.Coding.{fitsTest, applyTest}
 use Rattle.letters.specs.declared.Header.{Header}
-use Rattle.letters.specs.declared.Letter.the-variants.{Apply, Equal, Unequal}
+use Rattle.letters.specs.declared.Letter.{Letter}
+use Rattle.letters.specs.declared.Letter.the-variants.{Copy, Apply, Equal, Unequal}
+use Rattle.letters.specs.Editions.{firstEdition}
+use Rattle.traces.specs.Reading.{trace, beginning, readingWhere, reading}
 use Rattle.semantics.specs.Terms.{Term, con, Trace, begin, _▸_, state}
 use Rattle.semantics.specs.Facts.{WellFormed}
 use Rattle.semantics.specs.Models.{Model, Feasible}
@@ -20,7 +24,15 @@ use Rattle.semantics.proofs.Theory.Judge.{coherent-is, formed-e}
 use Rattle.semantics.proofs.Theory.PaperLaws.{constants-computed}
 use Rattle.semantics.proofs.Theory.Examples.{one}
 use Rattle.semantics.proofs.Theory.Witnesses.{early-slip, early-by-definition-5, early-by-document-01}
+use Rattle.macros.specs.Tree.{Block, empty, _then_, perform}
+use Rattle.macros.specs.Order.{Path, root}
+use Rattle.macros.specs.Points.{sizeBlock, sizeStatement, entry}
+use Rattle.grammar.specs.Grammar.{Macro, headerOf}
+use Rattle.report.specs.Shown.{modelStart}
+use Rattle.verdict_theory.specs.Verdict.{Kind}
+use Rattle.verdict_theory.specs.AnyPairs.{LeavesAny}
 use Rattle.verdict_theory.proofs.Theory.AnswerPacking.{shown-tables}
+use Rattle.verdict_lines.specs.ReadsBack.{ReadsBack}
 use Rattle.theorems.specs.Definition3.{Definition3}
 use Rattle.theorems.specs.Stricter.{Stricter}
 use Rattle.theorems.proofs.Steps.Traces.{early-is, coherent-exactly}
@@ -63,3 +75,24 @@ unfolding fitsTest applyTest
 a-lost-argument-is-not (p, held) =
     let v = state-valid early-slip (formed-e early-slip tt) in
     early-by-document-01 (early-is (state early-slip) v (constants-computed early-slip) 3 4 (lit< tt) (lit< tt) .1 (early-by-definition-5, held))
+
+-- A macro of one copy leaves a pair before its first letter: its point, and the start.
+pub a-point-leaves-a-pair : LeavesAny (begin two) (perform (Copy 0 1) then empty) root
+unfolding sizeBlock sizeStatement entry
+a-point-leaves-a-pair = record { point = 0; trace = begin two; stands = refl; due = omega arith }
+
+-- A macro without points leaves none.
+pub no-points-leave-no-pair : (p : Path) → LeavesAny (begin two) empty p → ⊥
+unfolding sizeBlock
+no-points-leave-no-pair p x = omega (arith, x .due)
+
+-- What is shown reads back (`what-is-shown-reads-back` of Demand3.antt); from no bytes nothing does.
+pub nothing-reads-back-from-no-bytes : (m : Macro) (kind : Kind) (pairs letters : ℕ) → ReadsBack m kind pairs letters [] → ⊥
+unfolding beginning readingWhere
+nothing-reads-back-from-no-bytes m kind pairs letters x =
+    let e : reading firstEdition [] ≡ trace (headerOf m) (x .execution) = sym (ap (reading firstEdition) (none (modelStart letters))) ∙ x .trace-back in
+    let z : _≡_ {A = ℕ} 0 1 = cc in omega arith
+  where
+    none : (n : ℕ) → _≡_ {A = List ℕ} (take n []) []
+    none zero = refl
+    none (suc n) = refl

@@ -6,7 +6,7 @@ use native.Mathlib.Nat.{zero-add}
 use mathlib.Core.Bool.{true, false}
 use mathlib.Core.List.{List, [], _∷_, _++_, map, append-nil}
 use lib.Dec.{leb}
-use lib.ListN.{length, getD, take, drop, replicate, length-append}
+use lib.ListN.{length, getD, take, drop, replicate, length-append, length-map}
 use lib.Seq.{take-append-seam}
 use borrow.Author.Tests.{eq-eqb, ne-eqb, le-ltb, lt-ltb, leb-true, leb-false}
 use Rattle.base.proofs.Theory.Choice.{byTest}
@@ -36,7 +36,7 @@ use Rattle.blocks.proofs.Theory.CodeLaws.{table-filled}
 use Rattle.blocks.specs.Outcome.{ReadAs, backpatchedIn, blockCode, BlockRead, ReaderReady}
 use Rattle.blocks.proofs.Theory.Outcome.{within}
 use Rattle.blocks.proofs.Theory.OutcomeLaws.{outcome-fine}
-use Rattle.blocks.proofs.Theory.TableLaws.{over-range, points-range, points-none, length-map}
+use Rattle.blocks.proofs.Theory.TableLaws.{over-range, points-range, points-none}
 use Rattle.blocks.proofs.Theory.Redirect.{block-length, redirect-block}
 use Rattle.blocks.specs.declared.PointEntry.{PointEntry}
 use Rattle.blocks.specs.declared.ReaderState.{ReaderState}
@@ -184,7 +184,7 @@ module _ (body : ReaderState) (cs xs ys xs′ ys′ : List ℕ) (ps : List Point
       let n = body .count in
       let held = blockCode b 0 in
       let ts = map (redirected n) held in
-      let size : length ts ≡ n = length-map (redirected n) held ∙ sym (H .count) in
+      let size : length ts ≡ n = length-map held (redirected n) ∙ sym (H .count) in
       let all : pointsOf cs xs′ ys′ ≡ pointsOver emptyTable ts =
       (λ i. pointsOf cs (e i) (f i))
       ∙ points-range cs xs ys 0 n n
