@@ -12,9 +12,12 @@ use Rattle.macros.specs.Tree.{Condition, equal, unequal, Statement, skip, perfo
 use Rattle.tokens.specs.Words as word
 
 -- A macro: the names of its registers, the names of its functions and how many arguments each takes, and its statements (SPEC 8).
+-- A name is known by its number in lower case; beside it stands its number as it is spelled where it is declared (SPEC 8.4).
 pub record Macro : Type 0 where
   pub registers : List ℕ
+  pub registerSpellings : List ℕ
   pub functions : List ℕ
+  pub functionSpellings : List ℕ
   pub arities : List ℕ
   pub body : Block
 

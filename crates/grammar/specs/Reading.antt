@@ -18,6 +18,7 @@ use Rattle.tokens.specs.Tokens.{tokenAt}
 use Rattle.tokens.specs.declared.Token.{Token}
 use Rattle.grammar.specs.Limits.{mostPoints}
 use Rattle.grammar.specs.Grammar.{Macro}
+use Rattle.grammar.specs.Spelled.{spelledRegisters, spelledFunctions}
 
 -- `exhausted`: the bound on the calls was too small. It never is (Enough.antt).
 pub data Got (A : Type 0) : Type 0 where
@@ -173,6 +174,17 @@ module _ (s : List ℕ) where
   -- perhaps a line of functions
   abbrev pub functionsT : List ℕ → ℕ → Token → Got (List ℕ × List ℕ)
   functionsT rs at t = pick (eqb (t .key) word.funsKey) (λ _. functionEntries rs mostFunctions [] [] (t .end)) λ _. got ([], []) at
+
+  -- what was read: the declared names with their spellings, and the statements
+  abbrev pub macroRead : List ℕ → List ℕ → List ℕ → Block → Macro
+  macroRead rs fs ns body = record {
+    registers = rs;
+    registerSpellings = spelledRegisters s (length rs);
+    functions = fs;
+    functionSpellings = spelledFunctions s (length rs) (length fs);
+    arities = ns;
+    body = body;
+  }
 
   -- the end of the text
   abbrev pub finishT : Macro → Token → Got Macro

@@ -1,27 +1,55 @@
 -- When the tokens of a text are the sentence of a macro, and when the declarations of a macro are in order (SPEC 8.3 to 8.5).
 use mathlib.Core.Path.{_≡_}
-use Prim.Native.Nat.{ℕ, _≤_, _<_}
+use Prim.Native.Nat.{ℕ, _+_, _≤_, _<_}
 use mathlib.Core.Bool.{true}
 use mathlib.Core.List.{List, [], _∷_}
 use lib.ListN.{length, getD}
 use Rattle.letters.specs.Editions.{mostRegisters, mostFunctions}
 use Rattle.macros.specs.Tree.{ProperBlock}
-use Rattle.tokens.specs.Tokens.{tokenAt}
+use Rattle.tokens.specs.Tokens.{tokenAt, placeOf, spellings}
 use Rattle.tokens.specs.Words.{isName}
 use Rattle.tokens.specs.Words as word
 use Rattle.grammar.specs.Limits.{deepestNesting}
 use Rattle.grammar.specs.Grammar.{Macro, headerOf, sentence, NestsBlock}
 
--- The tokens of the text s from one place to another are the listed ones.
+-- The tokens of the text s from one place to another are the listed ones, by their keys (SPEC 8.2, 8.3).
 pub data Spells (s : List ℕ) : ℕ → List ℕ → ℕ → Type 0 where
   none : {at : ℕ} → Spells s at [] at
   more : {at k e : ℕ} {ks : List ℕ} → tokenAt s at .key ≡ k → word.wrong < k → Spells s (tokenAt s at .end) ks e → Spells s at (k ∷ ks) e
 
--- The tokens of the whole text are the sentence of the macro (SPEC 8.3).
+-- The tokens that declare names, numbered from 0 (SPEC 8.3, 8.4). "`vars` names `;`": the first register is token 1.
+abbrev pub firstRegister : ℕ
+firstRegister = 1
+
+-- "names": each is one token
+abbrev pub registerLength : ℕ
+registerLength = 1
+
+-- "then perhaps `funs` entries": beside the registers `vars`, `;` and `funs` stand before the first function.
+abbrev pub beforeFunctions : ℕ
+beforeFunctions = 3
+
+abbrev pub firstFunction : ℕ → ℕ
+firstFunction n = n + beforeFunctions
+
+-- "entries such as `cap/1`": each is three tokens
+abbrev pub entryLength : ℕ
+entryLength = 3
+
+-- The names of n registers, and of m functions behind them, as the tokens that declare them are spelled (SPEC 8.4).
+abbrev pub spelledRegisters : List ℕ → ℕ → List ℕ
+spelledRegisters s n = spellings s (placeOf s firstRegister) registerLength n
+
+abbrev pub spelledFunctions : List ℕ → ℕ → ℕ → List ℕ
+spelledFunctions s n m = spellings s (placeOf s (firstFunction n)) entryLength m
+
+-- The tokens of the whole text are the sentence of the macro, and its names are spelled as they are declared (SPEC 8.3, 8.4).
 pub record Spelled (s : List ℕ) (m : Macro) : Type 0 where
   pub place : ℕ
   pub tokens : Spells s 0 (sentence m) place
   pub ended : tokenAt s place .key ≡ word.end
+  pub registerSpellings : m .registerSpellings ≡ spelledRegisters s (length (m .registers))
+  pub functionSpellings : m .functionSpellings ≡ spelledFunctions s (length (m .registers)) (length (m .functions))
 
 -- Each is a name, and no two are the same (SPEC 8.4).
 pub record Declared (rs : List ℕ) : Type 0 where

@@ -3,7 +3,7 @@ use files::Input;
 use files::Lines;
 use model_writer::Shown;
 use text::put_line;
-use tokens::KEY_BASE;
+use tokens::BYTE_VALUES;
 ghost use mathlib.Core.Path.{_≡_};
 ghost use Prim.Native.Nat.{_<_};
 ghost use lib.ListN.{length};
@@ -59,7 +59,7 @@ fn put_octet(out: &mut [u8], at: usize, byte: u8) -> usize
     let value = tokens::wide(byte);
     let high = digit(value / 16);
     let low = digit(value % 16);
-    put_line(out, at, b"0", [high + KEY_BASE * low, 0, 0, 0])
+    put_line(out, at, b"0", [high + BYTE_VALUES * low, 0, 0, 0])
 }
 
 // Appends the digits of each byte.

@@ -1,6 +1,7 @@
 pub mod FirstNo
 pub mod Order
 pub mod Accepted
+pub mod Declared
 pub mod Numbers
 pub mod Wider
 pub mod Basics

@@ -3,17 +3,13 @@ use mathlib.Core.Path.{_≡_}
 use Prim.Native.Nat.{ℕ, zero, suc, _<_}
 use mathlib.Core.List.{List, [], _∷_, _++_}
 use Rattle.tokens.specs.Words as word
-use Rattle.tokens.specs.Tokens.{tokenAt}
+use Rattle.tokens.specs.Tokens.{tokenAt, placeOf}
 use Rattle.refusals.specs.Questions.{No}
 
 module _ (s : List ℕ) where
-  -- The tokens of the text, one after the other, numbered from 0: where token i is looked for, its number, and the tokens before it.
-  abbrev pub placeOf : ℕ → ℕ
-  placeOf zero = 0
-  placeOf (suc i) = tokenAt s (placeOf i) .end
-
+  -- The tokens of the text, one after the other, numbered from 0: the number by which token i is known, and the tokens before it.
   abbrev pub keyOf : ℕ → ℕ
-  keyOf i = tokenAt s (placeOf i) .key
+  keyOf i = tokenAt s (placeOf s i) .key
 
   abbrev pub tokensBefore : ℕ → List ℕ
   tokensBefore zero = []
@@ -31,7 +27,7 @@ module _ (s : List ℕ) where
   pub record FirstNo (n p : ℕ) : Type 0 where
     pub index : ℕ
     pub reached : Reached index
-    pub place : p ≡ tokenAt s (placeOf index) .start
+    pub place : p ≡ tokenAt s (placeOf s index) .start
     pub no : NoAt n index
     pub lowest : (m : ℕ) → m < n → NoAt m index → ⊥
     pub first : (m j : ℕ) → j < index → NoAt m j → ⊥

@@ -46,7 +46,7 @@ fn limited(verdict: ReportedVerdict) -> ReportedVerdict
     }
 }
 
-/// Writes the report of a verdict. A name is held as a number, its bytes the digits to base `tokens::KEY_BASE` and the first byte the lowest.
+/// Writes the report of a verdict. A name is held as a number, its bytes the digits to base `tokens::BYTE_VALUES` and the first byte the lowest.
 /// `answer` holds the execution as a packed trace, on fail its model directly behind it; what lies behind these is not read.
 pub fn write_report(
     registers: [u64; MOST_REGISTERS],

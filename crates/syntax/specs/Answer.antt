@@ -13,7 +13,7 @@ use Rattle.tokens.specs.Tokens.{tokenAt}
 use Rattle.tokens.specs.declared.Token.{Token}
 use Rattle.grammar.specs.Limits.{deepestNesting}
 use Rattle.grammar.specs.Grammar.{Macro, headerOf}
-use Rattle.grammar.specs.Reading.{Got, got, exhausted, andThen, block, functionsT, finishT, countT}
+use Rattle.grammar.specs.Reading.{Got, got, exhausted, andThen, block, functionsT, macroRead, finishT, countT}
 use Rattle.blocks.specs.Held.{pointTable, heldPoint}
 use Rattle.syntax.specs.declared.CompiledMacro as held
 use Rattle.syntax.specs.declared.MacroRead.{MacroRead}
@@ -24,12 +24,12 @@ use Rattle.syntax.specs.declared.Functions.{Functions}
 abbrev pub padded : ℕ → List ℕ → List ℕ
 padded n l = l ++ replicate (n - length l) 0
 
--- A macro as the struct holds it: its header, its names and its points.
+-- A macro as the struct holds it: its header, its names as they are declared, and its points.
 unfoldable pub heldMacro : Macro → held.CompiledMacro
 heldMacro m = record {
   header = headerOf m;
-  registers = padded mostRegisters (m .registers);
-  functions = padded mostFunctions (m .functions);
+  registers = padded mostRegisters (m .registerSpellings);
+  functions = padded mostFunctions (m .functionSpellings);
   points = pointTable (map heldPoint (points (m .body)));
   count = sizeBlock (m .body);
 }
@@ -89,7 +89,7 @@ module _ (s : List ℕ) where
   unfoldable pub bodyFrom : List ℕ → List ℕ → List ℕ → ℕ → Got Macro
   bodyFrom rs fs ns c =
       andThen (block s rs fs ns (2 * length s + 1) deepestNesting c) λ body e.
-      endFrom (record { registers = rs; functions = fs; arities = ns; body = body }) e
+      endFrom (macroRead s rs fs ns body) e
 
   -- behind the registers
   unfoldable pub functionsFrom : List ℕ → ℕ → Got Macro

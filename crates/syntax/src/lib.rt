@@ -29,7 +29,7 @@ ghost use Rattle.blocks.specs.Held.{heldBy};
 ghost use Rattle.syntax.specs.Answer.{noMacro, heldReading, heldRegisters, heldFunctions, refusedTokenNumber, bodyFrom, functionsFrom};
 ghost use Rattle.syntax.specs.Lists.{NamesPadded, refusedBy};
 ghost use Rattle.syntax.specs.Reads.{Reads};
-ghost use Rattle.syntax.specs.Top.{RegistersPadded, FunctionsPadded, Finishes, headed, readerStart, arityFlag};
+ghost use Rattle.syntax.specs.Top.{RegistersPadded, FunctionsPadded, paddedRegisters, paddedFunctions, Finishes, headed, readerStart, arityFlag};
 
 /// The most bytes that a macro's text has.
 pub const LONGEST_TEXT: usize = 4096;
@@ -37,7 +37,20 @@ pub const LONGEST_TEXT: usize = 4096;
 // How deep braces may nest.
 const DEEPEST_NESTING: usize = 16;
 
-/// A macro. A name is held as one number, its bytes as digits to base `tokens::KEY_BASE`, the first byte lowest; 0 stands behind the last name.
+// The number of the token that declares the first register: it stands behind `vars`.
+const FIRST_REGISTER: usize = 1;
+
+// The tokens of a register's declaration: its name.
+const REGISTER_LENGTH: usize = 1;
+
+// The tokens before that of the first function, beside the registers: `vars`, `;` and `funs`.
+const BEFORE_FUNCTIONS: usize = 3;
+
+// The tokens of a function's entry: its name, `/` and how many arguments.
+const ENTRY_LENGTH: usize = 3;
+
+/// A macro. A name is held as one number, its bytes as they are declared as digits to base `tokens::BYTE_VALUES`, the first byte lowest; 0 stands
+/// behind the last name.
 pub struct CompiledMacro {
     /// How many registers and functions it has, and the functions' arities.
     pub header: Header,
@@ -73,7 +86,7 @@ pub struct Registers {
     pub at: usize,
     /// How many there are.
     pub count: usize,
-    /// Their names; 0 behind the last.
+    /// Their names in lower case; 0 behind the last.
     pub names: [u64; MOST_REGISTERS],
 }
 
@@ -89,7 +102,7 @@ pub struct Functions {
     pub at: usize,
     /// How many there are.
     pub count: usize,
-    /// Their names; 0 behind the last.
+    /// Their names in lower case; 0 behind the last.
     pub names: [u64; MOST_FUNCTIONS],
     /// Their arities, 1 or 2; 0 behind the last.
     pub arities: [u8; MOST_FUNCTIONS],
@@ -370,6 +383,28 @@ fn header_of(rs: Registers, fs: Functions) -> Header
     }
 }
 
+// The names of the registers as they are declared.
+fn register_spellings(text: &[u8], count: usize) -> [u64; MOST_REGISTERS]
+    requires { ⌜ count ≤ mostRegisters ⌝ }
+    ensures { λ r. ⌜ r ≡ paddedRegisters (now (text .entry)) count ⌝ }
+{
+    let mut names = [0u64; MOST_REGISTERS];
+    let from = tokens::skip_tokens(text, 0, FIRST_REGISTER);
+    tokens::put_spellings(text, from, REGISTER_LENGTH, &mut names[..count]);
+    names
+}
+
+// The names of the functions as they are declared, behind so many registers.
+fn function_spellings(text: &[u8], registers: usize, count: usize) -> [u64; MOST_FUNCTIONS]
+    requires { ⌜ (registers ≤ mostRegisters) × (count ≤ mostFunctions) ⌝ }
+    ensures { λ r. ⌜ r ≡ paddedFunctions (now (text .entry)) registers count ⌝ }
+{
+    let mut names = [0u64; MOST_FUNCTIONS];
+    let from = tokens::skip_tokens(text, 0, registers + BEFORE_FUNCTIONS);
+    tokens::put_spellings(text, from, ENTRY_LENGTH, &mut names[..count]);
+    names
+}
+
 // Where reading the statements begins.
 fn start(at: usize) -> ReaderState
     ensures { λ r. ⌜ r ≡ readerStart at ⌝ }
@@ -405,8 +440,8 @@ fn finish(
         blocks::redirect_range(first, second, 0, n, n);
         let points = blocks::points_of(code, first, second, n);
         let header = header_of(rs, fs);
-        let registers = rs.names;
-        let functions = fs.names;
+        let registers = register_spellings(text, rs.count);
+        let functions = function_spellings(text, rs.count, fs.count);
         return MacroRead {
             refusal: 0,
             place: 0,

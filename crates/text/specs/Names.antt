@@ -1,4 +1,4 @@
--- Names held as numbers, their keys, and printed as bytes again (SPEC 12.2).
+-- Names held as numbers, as they are spelled, and printed as bytes again (SPEC 12.2).
 use Prim.Native.Nat.{ℕ, _/_, _%_}
 use mathlib.Core.List.{List, [], _∷_}
 use lib.Dec.{eqb}

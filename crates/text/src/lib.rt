@@ -1,5 +1,5 @@
 // Text appended to a lent buffer: bytes, names, numerals, and lines with fields.
-use tokens::KEY_BASE;
+use tokens::BYTE_VALUES;
 ghost use mathlib.Core.List.{[], _∷_};
 ghost use Prim.Native.Nat.{_+_};
 ghost use Rattle.text.specs.Appending.{Appended, PlaceInRange};
@@ -29,8 +29,8 @@ fn put_name(out: &mut [u8], at: usize, name: u64) -> usize
     let mut next = at;
     let mut rest = name;
     while rest != 0 {
-        next = put_byte(out, next, (rest % KEY_BASE) as u8);
-        rest = rest / KEY_BASE;
+        next = put_byte(out, next, (rest % BYTE_VALUES) as u8);
+        rest = rest / BYTE_VALUES;
     }
     next
 }

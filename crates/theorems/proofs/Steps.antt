@@ -2,3 +2,10 @@
 pub mod Traces
 pub mod Events
 pub mod Lines
+pub mod LowerCaseTokens
+pub mod LowerCase
+pub mod LowerCaseLines
+pub mod DeclaredBytes
+pub mod WithoutCapitals
+pub mod ByTokens
+pub mod DeclaresBoth

@@ -1,2 +1,4 @@
 pub mod Definition3
 pub mod Stricter
+pub mod LowerCase
+pub mod Original

@@ -1,7 +1,7 @@
 -- The bytes of a macro's text (SPEC 8.1, 8.2; document 01).
-use Prim.Native.Nat.{ℕ, suc}
+use Prim.Native.Nat.{ℕ, suc, _+_}
 use mathlib.Core.Bool.{Bool, true, false, not, _&&_, _||_}
-use mathlib.Core.List.{List, [], _∷_}
+use mathlib.Core.List.{List, [], _∷_, map}
 use lib.Dec.{leb, eqb}
 use lib.ListN.{getD}
 use Rattle.base.specs.Choice.{pick}
@@ -11,16 +11,32 @@ use Rattle.base.specs.Bytes.{littleEndian}
 abbrev pub blank : ℕ → Bool
 blank b = eqb b 32 || eqb b 9 || eqb b 13 || eqb b 10
 
--- a lower-case letter
+-- a lower-case letter (SPEC 8.2)
 abbrev pub lower : ℕ → Bool
 lower b = leb 97 b && leb b 122
+
+-- a capital letter (SPEC 8.2)
+abbrev pub capital : ℕ → Bool
+capital b = leb 65 b && leb b 90
+
+-- a byte in lower case: `A` to `Z` become `a` to `z`, and no other byte changes (SPEC 8.2)
+abbrev pub lowered : ℕ → ℕ
+lowered b = pick (capital b) (λ _. b + 32) λ _. b
+
+-- bytes in lower case (SPEC 8.2)
+abbrev pub lowerCase : List ℕ → List ℕ
+lowerCase = map lowered
+
+-- a letter: `a` to `z` or `A` to `Z` (SPEC 8.2)
+abbrev pub letter : ℕ → Bool
+letter b = lower (lowered b)
 
 abbrev pub digit : ℕ → Bool
 digit b = leb 48 b && leb b 57
 
 -- a letter, a digit or _: what a name goes on with
 abbrev pub inner : ℕ → Bool
-inner b = lower b || digit b || eqb b 95
+inner b = letter b || digit b || eqb b 95
 
 -- 1 2 = ; , ( ) { } /
 abbrev pub symbol : ℕ → Bool
@@ -41,7 +57,7 @@ unfoldable pub nameLength : List ℕ → ℕ
 nameLength [] = 0
 nameLength (b ∷ s) = pick (inner b) (λ _. suc (nameLength s)) λ _. 0
 
--- "A name is a lower-case letter and up to seven more lower-case letters, digits or `_`." (SPEC 1.3, 8.2)
+-- A name is a letter and "up to seven more" letters, digits or `_` (SPEC 1.3, 8.2).
 abbrev pub longestName : ℕ
 longestName = 8
 
@@ -49,10 +65,15 @@ longestName = 8
 unfoldable pub width : List ℕ → ℕ
 width [] = 0
 width (b ∷ s) =
-    pick (lower b) (λ _. pick (leb (nameLength (b ∷ s)) longestName) (λ _. nameLength (b ∷ s)) λ _. 0)
+    pick (letter b) (λ _. pick (leb (nameLength (b ∷ s)) longestName) (λ _. nameLength (b ∷ s)) λ _. 0)
     λ _. pick (mark b) (λ _. pick (eqb (getD s 0 0) 61) (λ _. 2) λ _. 0)
     λ _. pick (symbol b) (λ _. 1) λ _. 0
 
--- A token is held as a number: its bytes, the first one lowest.
+-- "Names and words are equal whatever the case of their letters" (SPEC 8.2, 8.4): a token is known by the number of its bytes in lower case,
+-- the first one lowest. All that looks up a name or a word compares this number.
 abbrev pub key : List ℕ → ℕ
-key = littleEndian
+key s = littleEndian (lowerCase s)
+
+-- "Lines print a name as it was declared" (SPEC 8.4, 12.2): the number of its bytes as they stand.
+abbrev pub spelling : List ℕ → ℕ
+spelling = littleEndian

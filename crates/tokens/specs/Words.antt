@@ -1,5 +1,5 @@
 -- The tokens that have a meaning of their own, and names (SPEC 8.2; document 01). Every comparison of names that is computed goes through
--- `sameName`, which holds exactly if their bytes are the same (`same-token`, Keys).
+-- `sameName`, which holds exactly if their bytes are the same in lower case (`same-token`, Keys).
 use Prim.Native.Nat.{ℕ, _%_}
 use mathlib.Core.Bool.{Bool, not, _&&_, _||_}
 use mathlib.Core.List.{[], _∷_}
@@ -79,7 +79,8 @@ rbraceKey = key (125 ∷ [])
 abbrev pub slashKey : ℕ
 slashKey = key (47 ∷ [])
 
--- A token is a name if it begins with a lower-case letter and is none of the words; a token that begins so goes on as a name does (SPEC 8.2).
+-- A token is a name if it begins with a letter and is none of the words; a token that begins so goes on as a name does (SPEC 8.2).
+-- Its number is that of its bytes in lower case.
 abbrev pub isName : ℕ → Bool
 isName k = lower (k % byteValues) && not (keyword k)
 

@@ -4,15 +4,18 @@ ghost use mathlib.Core.Bool.{true, false};
 ghost use Prim.Native.Nat.{_+_, _≤_, _<_};
 ghost use lib.ListN.{length, drop};
 ghost use lib.Seq.{slice};
-ghost use Rattle.tokens.specs.Bytes.{blank, lower, digit, inner, symbol, mark, gap, nameLength, longestName, width, key};
-ghost use Rattle.tokens.specs.Tokens.{tokenAt};
+ghost use Rattle.tokens.specs.Bytes.{blank, lower, lowered, letter, digit, inner, symbol, mark, gap, nameLength, longestName, width};
+ghost use Rattle.tokens.specs.Tokens.{tokenAt, NumbersOf, placeBehind, spellings};
 ghost use Rattle.tokens.specs.Words.{keyword, isName, sameName};
 
 /// The most bytes that a name has.
 pub const LONGEST_NAME: usize = 8;
 
-/// A token is held as a number: its bytes as digits to this base, the first byte lowest.
-pub const KEY_BASE: u64 = 256;
+/// Bytes are held as one number: they are its digits to this base, the first byte lowest.
+pub const BYTE_VALUES: u64 = 256;
+
+// How far a letter in lower case is behind its capital.
+const CASE_DISTANCE: u8 = 32;
 
 // Words and signs, as the numbers of their bytes.
 
@@ -84,12 +87,23 @@ pub const SLASH: u64 = 0x2f;
 
 /// A token.
 pub struct Token {
-    /// Its bytes as one number, digits to base `KEY_BASE`, the first byte lowest; `END` at the end of the text, `WRONG` for what is no token.
+    /// Its bytes in lower case as one number, digits to base `BYTE_VALUES`, the first byte lowest; `END` at the end of the text, `WRONG` for what is
+    /// no token. Two names or words are the same exactly if these are equal.
     pub key: u64,
+    /// Its bytes as they are spelled, as one number of the same form; `END` at the end of the text, `WRONG` for what is no token.
+    pub spelling: u64,
     /// The place of its first byte.
     pub start: usize,
     /// The place behind it.
     pub end: usize,
+}
+
+// The two numbers of a token.
+struct TokenNumbers {
+    // of its bytes in lower case
+    key: u64,
+    // of its bytes as they stand
+    spelling: u64,
 }
 
 fn is_blank(b: u8) -> bool
@@ -116,6 +130,25 @@ fn is_lower(b: u8) -> bool
     b <= b'z'
 }
 
+// The byte in lower case.
+fn lowered(b: u8) -> u8
+    ensures { λ r. ⌜ r ≡ lowered b ⌝ }
+{
+    if b < b'A' {
+        return b;
+    }
+    if b'Z' < b {
+        return b;
+    }
+    b + CASE_DISTANCE
+}
+
+fn is_letter(b: u8) -> bool
+    ensures { λ r. ⌜ r ≡ letter b ⌝ }
+{
+    is_lower(lowered(b))
+}
+
 fn is_digit(b: u8) -> bool
     ensures { λ r. ⌜ r ≡ digit b ⌝ }
 {
@@ -128,7 +161,7 @@ fn is_digit(b: u8) -> bool
 fn is_inner(b: u8) -> bool
     ensures { λ r. ⌜ r ≡ inner b ⌝ }
 {
-    if is_lower(b) {
+    if is_letter(b) {
         return true;
     }
     if is_digit(b) {
@@ -228,18 +261,24 @@ fn run_end(text: &[u8], from: usize) -> usize
     at
 }
 
-// The bytes from `start` to `end` as one number.
-fn key_of(text: &[u8], start: usize, end: usize) -> u64
+// The bytes from `start` to `end` as numbers.
+fn numbers_of(text: &[u8], start: usize, end: usize) -> TokenNumbers
     requires { ⌜ (start ≤ end) × (end ≤ length (now text)) × (end ≤ start + longestName) ⌝ }
-    ensures { λ r. ⌜ r ≡ key (slice start end (now (text .entry))) ⌝ }
+    ensures { λ r. ⌜ NumbersOf (slice start end (now (text .entry))) r ⌝ }
 {
-    let mut v: u64 = 0;
+    let mut key: u64 = 0;
+    let mut spelling: u64 = 0;
     let mut at = end;
     while start < at {
         at -= 1;
-        v = v * KEY_BASE + wide(text[at]);
+        let b = text[at];
+        key = key * BYTE_VALUES + wide(lowered(b));
+        spelling = spelling * BYTE_VALUES + wide(b);
     }
-    v
+    TokenNumbers {
+        key: key,
+        spelling: spelling,
+    }
 }
 
 // How many bytes the token at `at` has; 0 where there is none.
@@ -248,7 +287,7 @@ fn width_at(text: &[u8], at: usize) -> usize
     ensures { λ r. ⌜ r ≡ width (drop at (now (text .entry))) ⌝ }
 {
     let b = text[at];
-    if is_lower(b) {
+    if is_letter(b) {
         let n = run_end(text, at) - at;
         if n <= LONGEST_NAME {
             return n;
@@ -277,6 +316,7 @@ pub fn next(text: &[u8], from: usize) -> Token
     if text.len() <= at {
         return Token {
             key: END,
+            spelling: END,
             start: text.len(),
             end: text.len(),
         };
@@ -285,16 +325,46 @@ pub fn next(text: &[u8], from: usize) -> Token
     if w == 0 {
         return Token {
             key: WRONG,
+            spelling: WRONG,
             start: at,
             end: at,
         };
     }
     let end = at + w;
-    let k = key_of(text, at, end);
+    let numbers = numbers_of(text, at, end);
     Token {
-        key: k,
+        key: numbers.key,
+        spelling: numbers.spelling,
         start: at,
         end: end,
+    }
+}
+
+/// The place behind `count` tokens from `from` on.
+pub fn skip_tokens(text: &[u8], from: usize, count: usize) -> usize
+    ensures { λ r. ⌜ r ≡ placeBehind (now (text .entry)) from count ⌝ }
+{
+    let mut at = from;
+    let mut i: usize = 0;
+    while i < count {
+        let t = next(text, at);
+        at = t.end;
+        i += 1;
+    }
+    at
+}
+
+/// Stores the spellings of tokens, as many as `out` has entries: of the one at or after `from`, and of each `step`-th behind the one before.
+pub fn put_spellings(text: &[u8], from: usize, step: usize, out: &mut [u64])
+    ensures { λ _. ⌜ now (out .exit) ≡ spellings (now (text .entry)) from step (length (now (out .entry))) ⌝ }
+{
+    let mut at = from;
+    let mut i: usize = 0;
+    while i < out.len() {
+        let t = next(text, at);
+        out[i] = t.spelling;
+        at = skip_tokens(text, at, step);
+        i += 1;
     }
 }
 
@@ -330,7 +400,7 @@ pub fn is_keyword(k: u64) -> bool
 pub fn is_name(k: u64) -> bool
     ensures { λ r. ⌜ r ≡ isName k ⌝ }
 {
-    let b = k % KEY_BASE;
+    let b = k % BYTE_VALUES;
     if b < 97 {
         return false;
     }

@@ -2,8 +2,8 @@
 -- 65,536 bytes (N = 341), and prints lines." The lines are those of `report` (Rattle.report.specs.Lines).
 use mathlib.Core.Path.{_≡_}
 use mathlib.Core.List.{List, [], _∷_, _++_}
-use Prim.Native.Nat.{ℕ, _≤_}
-use lib.Dec.{leb}
+use Prim.Native.Nat.{ℕ, _+_, _*_, _≤_}
+use lib.Dec.{leb, ltb}
 use lib.ListN.{length, drop}
 use Rattle.base.specs.Choice.{pick}
 use Rattle.letters.specs.MacroRefusalNumbers.{tableTooSmall}
@@ -12,13 +12,14 @@ use Rattle.semantics.specs.Models.{Feasible}
 use Rattle.semantics.specs.Coherence.{Coherent}
 use Rattle.semantics.specs.Numbering.{ShownModel}
 use Rattle.macros.specs.Executions.{Partial, Failing}
+use Rattle.tokens.specs.Tokens.{bytesAt, placeOf}
 use Rattle.grammar.specs.Grammar.{Macro, headerOf}
+use Rattle.grammar.specs.Spelled.{firstRegister, firstFunction, entryLength}
 use Rattle.refusals.specs.Order.{Refusal}
 use Rattle.refusals.specs.Accepted.{Accepted}
 use Rattle.verdict_theory.specs.Verdict.{breaking, failing, PairCount, PairsPass, Shows}
 use Rattle.text.specs.Numerals.{numeral}
 use Rattle.report.specs.Lines.{Names, Printed, line, refusedWord, atWord, report}
-use Rattle.report.specs.Shown.{namesOf}
 
 -- "with a table of 65,536 bytes" (SPEC 12.2)
 abbrev pub tableBytes : ℕ
@@ -32,9 +33,22 @@ tablePairs = 341
 abbrev pub answerBytes : ℕ
 answerBytes = 4096
 
--- The names as they are declared.
-abbrev pub declaredNames : Macro → Names
-declaredNames m = namesOf (m .registers) (m .functions)
+-- The token that declares a register, and a function behind n registers (SPEC 8.3, 8.4).
+abbrev pub registerToken : ℕ → ℕ
+registerToken r = firstRegister + r
+
+abbrev pub functionToken : ℕ → ℕ → ℕ
+functionToken n f = firstFunction n + entryLength * f
+
+-- "Lines print a name as it was declared" (SPEC 8.4, 12.2): of n names, name i is the bytes of the token of the text that declares it. There are no others.
+abbrev pub nameDeclared : List ℕ → ℕ → (ℕ → ℕ) → ℕ → List ℕ
+nameDeclared text n declaring i = pick (ltb i n) (λ _. bytesAt text (placeOf text (declaring i))) λ _. []
+
+abbrev pub declaredNames : List ℕ → Macro → Names
+declaredNames text m = record {
+  register = nameDeclared text (length (m .registers)) registerToken;
+  function = nameDeclared text (length (m .functions)) (functionToken (length (m .registers)));
+}
 
 -- What is printed of a macro: the verdict over all its executions, or `tableTooSmall` where there are more than N pairs.
 -- `outputTooSmall` is not among the answers.
@@ -52,7 +66,7 @@ Told m (Printed.refused number place) = (number ≡ tableTooSmall) × (place ≡
 pub record Says (text lines : List ℕ) : Type 0 where
   -- "A refusal is one line, `refused 9 at 17`." (SPEC 12.1)
   pub unread : (number place : ℕ) → Refusal text number place → lines ≡ line (refusedWord ∷ numeral number ∷ atWord ∷ numeral place ∷ [])
-  pub verdict : (m : Macro) → Accepted text m → (told : Printed) × Told m told × (lines ≡ report (declaredNames m) (headerOf m) told)
+  pub verdict : (m : Macro) → Accepted text m → (told : Printed) × Told m told × (lines ≡ report (declaredNames text m) (headerOf m) told)
 
 -- The lines are never longer.
 abbrev pub mostVerdictLineBytes : ℕ

@@ -10,7 +10,7 @@ use Rattle.tokens.specs.Words as word
 use Rattle.tokens.specs.Tokens.{tokenAt}
 use Rattle.grammar.specs.Limits.{longestText, deepestNesting}
 use Rattle.grammar.specs.Grammar.{Macro}
-use Rattle.grammar.specs.Reading.{Got, andThen, expect, block, registerNames, functionsT, finishT, countT}
+use Rattle.grammar.specs.Reading.{Got, andThen, expect, block, registerNames, functionsT, macroRead, finishT, countT}
 
 module _ (s : List ℕ) where
   -- Questions 7 to 12: the text.
@@ -19,7 +19,7 @@ module _ (s : List ℕ) where
       pick (ltb longestText (length s)) (λ _. Got.refused textTooLong 0)
       λ _. andThen (expect s word.varsKey 0) λ _ a. andThen (registerNames s mostRegisters [] a) λ rs b.
       andThen (functionsT s rs b (tokenAt s b)) λ (fs, ns) c. andThen (block s rs fs ns (2 * length s + 1) deepestNesting c) λ body e.
-      finishT s (record { registers = rs; functions = fs; arities = ns; body = body }) (tokenAt s e)
+      finishT s (macroRead s rs fs ns body) (tokenAt s e)
 
   unfoldable pub readMacro : Got Macro
   readMacro = andThen readText (countT s)

@@ -1,5 +1,5 @@
 -- The whole text: a macro that is read is spelled by the text, and is in order; and a macro in order that the text spells is read.
-use mathlib.Core.Path.{_≡_, sym, ap, subst, _∙_}
+use mathlib.Core.Path.{_≡_, refl, sym, ap, subst, _∙_}
 use Prim.Native.Nat.{ℕ, _+_, _*_, _-_, _≤_, _<_}
 use native.Mathlib.Omega.{arith}
 use mathlib.Core.Bool.{false}
@@ -72,7 +72,6 @@ text-sound s m e h =
     let (ks, q, D, n, l, p₂) = registers-sound s mostRegisters [] a rs b none-declared g₂ in
     let (F, P, A, l′, p₃) = functions-line s rs b r c g₃ in
     let (o, i, p₄) = block-sound s rs (r .0) (r .1) (2 * length s + 1) deepestNesting c body f g₄ in
-    let M : Macro = record { registers = rs; functions = r .0; arities = r .1; body = body } in
     pick-case (eqb (tokenAt s f .key) 0) _ _ _ h₄
     (λ x w. subst (λ m. (length s ≤ longestText) × Spelled s m × InOrder m) (got-value w) (
       ltb-false 4096 (length s) t,
@@ -81,8 +80,9 @@ text-sound s m e h =
         tokens = spells-then s p₁
             (regroup rs (functionTokens (r .0) (r .1)) (blockTokens rs (r .0) (r .1) body)
             (spells-then s (subst (λ x. Spells s a (x ++ word.semicolonKey ∷ []) b) (sym q) p₂) (spells-then s p₃ p₄)));
-        ended =
-            eqb-true (tokenAt s f .key) 0 x;
+        ended = eqb-true (tokenAt s f .key) 0 x;
+        registerSpellings = refl;
+        functionSpellings = refl;
       },
       record {
         registers = D;
@@ -179,7 +179,15 @@ text-complete s m l S O =
         block-complete s rs fs ns (O .registers) (O .functions) (2 * length s + 1) (m .body) deepestNesting c (S .place) (omega arith) (O .uses) (O .depth) p₄
             (ap (λ k. closing s rs fs ns k) (S .ended)),
         eq-eqb (tokenAt s (S .place) .key) 0 (S .ended),
-      ),
+      )
+          (λ i. got (record {
+            registers = rs;
+            registerSpellings = sym (S .registerSpellings) i;
+            functions = fs;
+            functionSpellings = sym (S .functionSpellings) i;
+            arities = ns;
+            body = m .body;
+          }) (tokenAt s (S .place) .end)),
     )
 
 pub read-complete : (s : List ℕ) (m : Macro) → length s ≤ longestText → Spelled s m → InOrder m → sizeBlock (m .body) ≤ mostPoints

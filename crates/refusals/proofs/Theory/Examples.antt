@@ -6,7 +6,7 @@ use Rattle.letters.specs.declared.Letter.the-variants.{Apply}
 use Rattle.macros.specs.Tree.{equal, unequal, perform, assert, while, empty, _then_}
 use Rattle.macros.specs.Points.{sizeStatement}
 use Rattle.tokens.specs.Bytes.{gap, nameLength, width}
-use Rattle.tokens.specs.Tokens.{tokenAt}
+use Rattle.tokens.specs.Tokens.{tokenAt, spellings}
 use Rattle.grammar.specs.Grammar.{Macro}
 use Rattle.grammar.specs.Reading.{got, Got, indexOf, condition, endedCondition, argumentsT, rightHandSide, assignment, block, registerNames, arityOf}
 use Rattle.grammar.specs.Reading.{functionEntries}
@@ -24,15 +24,17 @@ loop = 118 ∷ 97 ∷ 114 ∷ 115 ∷ 32 ∷ 120 ∷ 32 ∷ 121 ∷ 59 ∷ 32 �
 unfoldable pub searched : Macro
 searched = record {
   registers = 120 ∷ 121 ∷ [];
+  registerSpellings = 120 ∷ 121 ∷ [];
   functions = 110 ∷ [];
+  functionSpellings = 110 ∷ [];
   arities = 1 ∷ [];
   body =
       while (unequal 0 1) (perform (Apply 0 0 0 0) then empty) then assert (equal 0 1) then empty;
 }
 
 pub loop-read : readMacro loop ≡ got searched 61
-unfolding loop searched readMacro readText tokenAt gap width nameLength registerNames indexOf functionEntries arityOf block condition endedCondition assignment
-    rightHandSide argumentsT sizeStatement
+unfolding loop searched readMacro readText tokenAt gap width nameLength spellings registerNames indexOf functionEntries arityOf block condition
+    endedCondition assignment rightHandSide argumentsT sizeStatement
 loop-read = refl
 
 -- so this text spells that macro, and it is in order

@@ -6,10 +6,10 @@ use mathlib.Core.List.{List}
 use lib.Dec.{ltb}
 use borrow.Author.Tests.{ltb-true, ltb-false}
 use Rattle.base.proofs.Theory.Choice.{byTest}
-use Rattle.tokens.specs.Tokens.{tokenAt}
+use Rattle.tokens.specs.Tokens.{tokenAt, placeOf}
 use Rattle.grammar.specs.Spelled.{Spells, Arities}
 use Rattle.grammar.proofs.Theory.Sound.{spells-then, spells-one}
-use Rattle.refusals.specs.FirstNo.{placeOf, keyOf, tokensBefore, NoAt, Reached, FirstNo}
+use Rattle.refusals.specs.FirstNo.{keyOf, tokensBefore, NoAt, Reached, FirstNo}
 
 module _ (s : List ℕ) where
   -- While they are tokens, they are those that the text spells (crate `grammar`).

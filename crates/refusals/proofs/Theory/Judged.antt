@@ -9,7 +9,7 @@ use borrow.Author.Tests.{eqb-true, eqb-false, ltb-true, ltb-false}
 use Rattle.base.specs.Choice.{pick}
 use Rattle.base.proofs.Theory.Choice.{byTest}
 use Rattle.letters.specs.MacroRefusalNumbers.{declarationWrong, grammarViolated, nestingTooDeep, tokenMalformed, useWrong}
-use Rattle.tokens.specs.Tokens.{tokenAt}
+use Rattle.tokens.specs.Tokens.{tokenAt, placeOf}
 use Rattle.tokens.specs.Words.{isName}
 use Rattle.tokens.specs.Words as word
 use Rattle.tokens.proofs.Theory.WordsLaws.{name-real}
@@ -18,7 +18,7 @@ use Rattle.grammar.specs.Reading as reading
 use Rattle.refusals.proofs.Theory.Basics.{clash, not-true, nor}
 use Rattle.refusals.proofs.Theory.Rests.{Rest, took, stuck, take, start, complete, onTook, run, run-more, run-viable, viable-run, sentence-run}
 use Rattle.refusals.specs.Questions.{Unfit, Redeclared, Misused, TooDeep, No}
-use Rattle.refusals.specs.FirstNo.{placeOf, keyOf, tokensBefore, NoAt, Reached, FirstNo}
+use Rattle.refusals.specs.FirstNo.{keyOf, tokensBefore, NoAt, Reached, FirstNo}
 
 pub data JudgedReading (s : List ℕ) (A : Type 0) (P : A → ℕ → Type 0) : Got A → Type 0 where
   fine : {a : A} {e : ℕ} → P a e → JudgedReading s A P (got a e)

@@ -11,6 +11,7 @@ use borrow.Author.Tests.{leb-false, eqb-true, eqb-false}
 use Rattle.base.proofs.Theory.Choice.{byTest}
 use Rattle.tokens.specs.Bytes.{gap, width, key}
 use Rattle.tokens.specs.Tokens.{tokenAt}
+use Rattle.tokens.proofs.Theory.BytesLaws.{lowered-above}
 use Rattle.tokens.proofs.Theory.TokensLaws.{token-within}
 
 -- a byte that a token begins with
@@ -25,7 +26,8 @@ key-real : (s : List ℕ) (p : ℕ) → p < length s → (width (drop p s) ≡ 0
 key-real s p h n =
     let b = first-byte (getD s p 0) (drop (suc p) s) (λ z. n (ap width (drop-cons s p 0 h) ∙ z)) in
     let (w, x) = token-within s p (width (drop p s)) refl h in
-    let e = ap key (slice-cons p (p + width (drop p s)) s 0 (some (width (drop p s)) n) w) in omega arith
+    let e = ap key (slice-cons p (p + width (drop p s)) s 0 (some (width (drop p s)) n) w) in
+    omega (arith, lowered-above (getD s p 0))
   where
     some : (w : ℕ) → (w ≡ 0 → ⊥) → p < p + w
     some zero n = absurd (n refl)

@@ -9,7 +9,7 @@ use lib.ListN.{getD}
 use Rattle.tokens.specs.Words.{isName}
 use Rattle.tokens.specs.Words as word
 use Rattle.tokens.specs.Bytes.{gap, nameLength, width}
-use Rattle.tokens.specs.Tokens.{tokenAt}
+use Rattle.tokens.specs.Tokens.{tokenAt, spellings}
 use Rattle.grammar.specs.Grammar.{entryTokens, functionTokens}
 use Rattle.grammar.specs.Reading.{got, Got, indexOf, condition, endedCondition, argumentsT, rightHandSide, assignment, block, registerNames, arityOf}
 use Rattle.grammar.specs.Reading.{functionEntries}
@@ -234,7 +234,7 @@ deeper-first = refused-first deeper (omega arith) 12 176 deeper-read
 
 -- the bench example of Examples.antt has no no
 loop-text : readText loop ≡ got searched 61
-unfolding loop searched readText tokenAt gap width nameLength registerNames indexOf functionEntries arityOf block condition endedCondition assignment
+unfolding loop searched readText tokenAt gap width nameLength spellings registerNames indexOf functionEntries arityOf block condition endedCondition assignment
     rightHandSide argumentsT
 loop-text = refl
 

@@ -5,13 +5,14 @@ use native.Mathlib.Omega.{arith}
 use mathlib.Core.Bool.{Bool, true, false, not, _&&_, _||_}
 use mathlib.Core.List.{List, [], _∷_, _++_, append-assoc}
 use lib.Dec.{eqb, ltb}
-use lib.ListN.{length, take, set, replicate, length-append}
-use lib.Seq.{set-append-seam}
+use lib.ListN.{length, take, drop, set, replicate, length-append, length-replicate}
+use lib.Seq.{set-append-seam, length-take-le}
 use borrow.Author.Tests.{eq-eqb, ne-eqb, eqb-true, eqb-false, ltb-true, ltb-false}
 use Rattle.base.proofs.Theory.Choice.{byTest}
 use Rattle.letters.specs.Editions.{mostFunctions, mostRegisters}
 use Rattle.letters.specs.MacroRefusalNumbers.{declarationWrong}
-use Rattle.tokens.specs.Tokens.{tokenAt}
+use Rattle.tokens.specs.Tokens.{tokenAt, spellings}
+use Rattle.tokens.proofs.Theory.TokensLaws.{spellings-length}
 use Rattle.tokens.specs.declared.Token.{Token}
 use Rattle.tokens.specs.Words.{isName}
 use Rattle.tokens.specs.Words as word
@@ -74,6 +75,28 @@ kept-eight = record { few = omega arith; pad = refl; size = refl }
 
 pub kept-four : NamesPadded mostFunctions (replicate mostFunctions 0) 0
 kept-four = record { few = omega arith; pad = refl; size = refl }
+
+-- ---- spellings, with 0 behind them
+
+abbrev pub zeros : ℕ → List ℕ
+zeros n = replicate n 0
+
+drop-zeros : (n i : ℕ) → drop i (zeros n) ≡ zeros (n - i)
+drop-zeros n zero = ap zeros (let e : n ≡ n - 0 = omega arith in e)
+drop-zeros zero (suc i) = ap zeros (let e : 0 ≡ 0 - suc i = omega arith in e)
+drop-zeros (suc n) (suc i) = drop-zeros n i ∙ ap zeros (let e : n - i ≡ suc n - suc i = omega arith in e)
+
+module _ (n count : ℕ) (h : count ≤ n) where
+  -- so many entries of an array of zeros are lent
+  pub lent-zeros : count ≡ length (take count (zeros n))
+  lent-zeros = sym (length-take-le count (zeros n) (omega (arith, length-replicate {A = ℕ} n 0)))
+
+  -- and hold the spellings afterwards
+  pub spellings-padded : (s : List ℕ) (from step : ℕ) (out : List ℕ) → out ≡ spellings s from step (length (take count (zeros n)))
+      → out ++ drop count (zeros n) ≡ padded n (spellings s from step count)
+  spellings-padded s from step out e =
+      (λ i. (e ∙ ap (spellings s from step) (sym lent-zeros)) i ++ drop-zeros n count i)
+      ∙ ap (λ k. spellings s from step count ++ zeros (n - k)) (sym (spellings-length s from step count))
 
 -- ---- registers
 

@@ -49,7 +49,8 @@ use Rattle.syntax.specs.declared.CompiledMacro as held
 use Rattle.syntax.specs.declared.MacroRead.{MacroRead}
 use Rattle.syntax.specs.declared.Registers.{Registers}
 use Rattle.syntax.specs.declared.Functions.{Functions}
-use Rattle.syntax.specs.Top.{RegistersPadded, FunctionsPadded, macroOf, emptyTable, BlockEnded, Finishes, readerStart, arityFlag, headed}
+use Rattle.syntax.specs.Top.{RegistersPadded, FunctionsPadded, paddedRegisters, paddedFunctions, macroOf, emptyTable, BlockEnded, Finishes}
+use Rattle.syntax.specs.Top.{readerStart, arityFlag, headed}
 
 -- the lists that the arrays hold
 abbrev pub listOf : Registers → List ℕ
@@ -109,14 +110,14 @@ pub head-held : (rs : Registers) (fs : Functions) (n : ℕ) → n ≡ binaryOf (
 head-held rs fs n e = λ i. record { registers = rs .count; functions = fs .count; binary = e i }
 
 -- the answer of a text that was read
-abbrev read : Registers → Functions → Header → List PointEntry → ℕ → MacroRead
-read rs fs h ps n = record {
+abbrev read : List ℕ → List ℕ → Header → List PointEntry → ℕ → MacroRead
+read registers functions h ps n = record {
   refusal = 0;
   place = 0;
   program = record {
     header = h;
-    registers = rs .names;
-    functions = fs .names;
+    registers = registers;
+    functions = functions;
     points = ps;
     count = n;
   };
@@ -152,9 +153,10 @@ module _ (s : List ℕ) (rs : Registers) (fs : Functions) (body : Progress) (t :
         → (head : Header) → head ≡ headed rs fs
         → (ps : List PointEntry) → ((b : Block) → sizeBlock b ≤ mostPoints → HoldsPoints emptyTable body (blockCode b 0)
         → ps ≡ pointTable (map heldPoint (points b)))
-        → Finishes s rs fs body (read rs fs head ps (body .count))
+        → (registers functions : List ℕ) → registers ≡ paddedRegisters s (rs .count) → functions ≡ paddedFunctions s (rs .count) (fs .count)
+        → Finishes s rs fs body (read registers functions head ps (body .count))
     unfolding Finishes heldReading heldMacro
-    finish-read R (F, A) h head i ps p b E =
+    finish-read R (F, A) h head i ps p registers functions x y b E =
         let l : sizeBlock b ≤ mostPoints = byTest (leb (sizeBlock b) mostPoints) (λ u. leb-true (sizeBlock b) mostPoints u)
         (λ u. let c = E .high (leb-false (sizeBlock b) mostPoints u) in absurd (omega arith)) in
         let H = E .low l in
@@ -167,8 +169,8 @@ module _ (s : List ℕ) (rs : Registers) (fs : Functions) (body : Progress) (t :
           place = 0;
           program = record {
             header = (i ∙ λ j. record { registers = sym (R .size) j; functions = sym (F .size) j; binary = binary j }) j;
-            registers = R .pad j;
-            functions = F .pad j;
+            registers = (x ∙ λ j. paddedRegisters s (sym (R .size) j)) j;
+            functions = (y ∙ λ j. paddedFunctions s (sym (R .size) j) (sym (F .size) j)) j;
             points = p b l H j;
             count = n j;
           };
@@ -227,7 +229,7 @@ module _ (s : List ℕ) (rs : Registers) (fs : Functions) (body st : Progress) (
   body-refused h r g = g ∙ go Body outcome
     where
       go : (x : Got Block) → ReadAs blockCode (startWith (fs .at)) body x
-          → heldReading (Got.refused (body .number) (body .place)) ≡ heldReading (andThen x λ b e. endFrom s (macroOf rs fs b) e)
+          → heldReading (Got.refused (body .number) (body .place)) ≡ heldReading (andThen x λ b e. endFrom s (macroOf s rs fs b) e)
       go (got b e) o = let k = o .ok in let z : _≡_ {A = ℕ} 0 1 = cc in absurd (omega arith)
       go (Got.refused n p) o = λ m. heldReading (Got.refused (o .number m) (o .place m))
       go exhausted o = absurd o
@@ -240,7 +242,7 @@ module _ (s : List ℕ) (rs : Registers) (fs : Functions) (body st : Progress) (
       let n = block-length b 0 in
       let begun : HoldsPoints emptyTable (startWith (fs .at)) [] = record { size = refl; count = refl; points = refl } in
       let E : BlockEnded body b = record { low = λ l. F .laid emptyTable [] begun (omega arith); high = λ l. F .high (omega arith) } in
-      g b E ∙ ap (λ e. heldReading (endFrom s (macroOf rs fs b) e)) (F .at) ∙ ap (λ x. heldReading (andThen x λ b e. endFrom s (macroOf rs fs b) e)) (sym w)
+      g b E ∙ ap (λ e. heldReading (endFrom s (macroOf s rs fs b) e)) (F .at) ∙ ap (λ x. heldReading (andThen x λ b e. endFrom s (macroOf s rs fs b) e)) (sym w)
 
 -- arrays of zeros, where reading begins
 pub start-with : (st : ReaderState) (at : ℕ) → st ≡ readerStart at

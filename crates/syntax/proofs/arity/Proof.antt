@@ -26,10 +26,12 @@ next-requires : tie.Need-next-requires
 next-requires c κs = search needs
 
 returns-2 : tie.Need-returns-2
-returns-2 c = law.arity-one _ _ _ (behind (c .before .before)) (c .if1 .taken)
+returns-2 c = law.arity-one _ _ (c .before .before .next .result) (behind (c .before .before)) (c .if1 .taken)
 
 returns-3 : tie.Need-returns-3
-returns-3 c = law.arity-two _ _ _ (behind (c .before .before .before .before)) (c .before .before .if1 .left) (c .if2 .taken)
+returns-3 c =
+    let at-if1 = c .before .before in
+    law.arity-two _ _ (at-if1 .before .before .next .result) (behind (at-if1 .before .before)) (at-if1 .if1 .left) (c .if2 .taken)
 
 unfitting-requires : tie.Need-unfitting-requires
 unfitting-requires c κs = search needs
@@ -37,7 +39,8 @@ unfitting-requires c κs = search needs
 returns-4 : tie.Need-returns-4
 returns-4 c =
     let at-if1 = c .before .before .before in
-    law.arity-unfit _ _ _ (behind (at-if1 .before .before)) (at-if1 .if1 .left) (c .before .if2 .left) (c .unfitting .ensures)
+    let at-next = at-if1 .before .before in
+    law.arity-unfit _ _ (at-next .next .result) (behind at-next) (at-if1 .if1 .left) (c .before .if2 .left) (c .unfitting .ensures)
 
 pub arity-spec : {M : Type 1} → statement M
 arity-spec =

@@ -3,6 +3,13 @@ use borrow.Author.Needs.{needs}
 use Rattle.syntax.proofs.finish.Statement.{statement}
 use Rattle.syntax.proofs.finish.Tie as tie
 
+-- what was given, behind the header
+abbrev given : tie.After-header-of → tie.Start
+given c =
+    let at-redirect-range = c .before .before .before .before in
+    let at-if1 = at-redirect-range .before .before .before .before in
+    at-if1 .before .before .before .before
+
 pub finish-spec : {M : Type 1} → statement M
 finish-spec =
     tie.close (tie.spec
@@ -15,6 +22,8 @@ finish-spec =
     (λ c κs. search needs)
     (λ c κs. search needs)
     (λ c κs. search needs)
+    (λ c κs. given c .pre .0 .few)
+    (λ c κs. (given (c .before) .pre .0 .few, given (c .before) .pre .1 .0 .few))
     (λ c.
     let at-header-of = c .before .before in
     let at-points-of = at-header-of .before in
@@ -27,7 +36,7 @@ finish-spec =
     let whole = law.points-whole (args .body) _ _ _ _ _ _ (at-redirect-range .redirect-range .ensures .0)
     (at-redirect-range .redirect-range .ensures .1) (at-points-of .points-of .ensures) in
     law.finish-read (args .text .now) (args .rs) (args .fs) _ _ (at-next .next .ensures) (at-if1 .if1 .taken) (at-start .pre .0) (at-start .pre .1)
-    (at-if2 .if2 .left) _ (at-header-of .header-of .ensures) _ whole)
+    (at-if2 .if2 .left) _ (at-header-of .header-of .ensures) _ whole _ _ (c .before .register-spellings .ensures) (c .function-spellings .ensures))
     (λ c κs. search needs)
     (λ c κs. search needs)
     (λ c.

@@ -10,7 +10,7 @@ use borrow.Author.Tests.{eqb-false, ne-eqb}
 use Rattle.base.specs.Choice.{pick}
 use Rattle.base.proofs.Theory.Choice.{byTest}
 use Rattle.base.proofs.Theory.Recursion.{fixed-law}
-use Rattle.tokens.specs.Bytes.{key}
+use Rattle.tokens.specs.Bytes.{spelling}
 use Rattle.tokens.proofs.Theory.Keys.{TokenBytes}
 use Rattle.text.specs.Names.{nameStep, nameText}
 
@@ -27,11 +27,11 @@ name-next w h = name-law w ∙ rw (ne-eqb w 0 h)
 pub name-none : (w : ℕ) → w ≡ 0 → nameText w ≡ []
 name-none w e = rw e (name-law 0)
 
--- A name that is held as its key is printed as it is.
-pub name-back : (s : List ℕ) → TokenBytes s → nameText (key s) ≡ s
+-- A name that is held as it is spelled is printed as it is.
+pub name-back : (s : List ℕ) → TokenBytes s → nameText (spelling s) ≡ s
 name-back [] h = name-law 0
 name-back (b ∷ s) h =
-    let n = key s in
+    let n = spelling s in
     let some : (b + 256 * n ≡ 0) → ⊥ = λ e. positive b n (h .0) e in
     rw (name-law (b + 256 * n), ne-eqb (b + 256 * n) 0 some, low b n (h .1), high b n (h .1)) (ap (λ l. b ∷ l) (name-back s (h .2)))
   where

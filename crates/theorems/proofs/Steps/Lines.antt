@@ -76,11 +76,11 @@ lines-with text table output size room = let (r, k) = an-acceptance text in go r
         let pairs : pairsIn firstEdition table ≡ tablePairs = ap (capacityOf firstEdition) size in
         let v = subst (λ n. IsVerdict Feasible (begin (headerOf m)) (m .body) firstEdition n output answer output′) pairs (d .verdict m r) in
         let (t, x) = told m (r .in-order) (r .few) output room answer output′ v in (
-          report (declaredNames m) (headerOf m) t,
+          report (declaredNames text m) (headerOf m) t,
           record {
             unread = λ k q s. absurd (never-both text r s);
             verdict = λ k s.
-                subst (λ z. (told : Printed) × Told z told × (report (declaredNames m) (headerOf m) t ≡ report (declaredNames z) (headerOf z) told))
+                subst (λ z. (told : Printed) × Told z told × (report (declaredNames text m) (headerOf m) t ≡ report (declaredNames text z) (headerOf z) told))
                 (accepted-once text r s) (t, x, refl);
           },
         )

@@ -1,5 +1,5 @@
 -- The laws of gaps, runs and keys, at a place of a text.
-use mathlib.Core.Path.{_≡_, sym, ap, _∙_}
+use mathlib.Core.Path.{_≡_, refl, sym, ap, _∙_}
 use Prim.Native.Nat.{ℕ, zero, suc, _+_, _*_, _-_, _≤_, _<_}
 use native.Mathlib.Omega.{arith}
 use native.Mathlib.Numerals.{add-one}
@@ -7,12 +7,13 @@ use native.Mathlib.Nat.{sub-self}
 use mathlib.Core.Bool.{Bool, true, false, not}
 use mathlib.Core.List.{List, [], _∷_}
 use lib.Dec.{leb, eqb}
-use lib.ListN.{length, getD, drop, drop-of-length-le, List·getD-eq-default}
+use lib.ListN.{length, getD, take, drop, drop-of-length-le, List·getD-eq-default}
 use lib.Seq.{drop-cons, getD-drop, slice, slice-cons, slice-empty}
 use borrow.Author.Tests.{eq-eqb, ne-eqb, le-leb, lt-leb, leb-true, eqb-true}
 use Rattle.base.specs.Choice.{pick}
 use Rattle.base.proofs.Theory.Choice.{byTest}
-use Rattle.tokens.specs.Bytes.{blank, inner, lower, symbol, mark, gap, nameLength, width, key}
+use Rattle.base.specs.Bytes.{littleEndian}
+use Rattle.tokens.specs.Bytes.{blank, inner, capital, lowered, lowerCase, letter, symbol, mark, gap, nameLength, width, key}
 
 module _ (s : List ℕ) (at : ℕ) where
   pub gap-out : (c : Bool) → length s ≤ at → gap c (drop at s) ≡ 0
@@ -105,11 +106,11 @@ small (suc (suc (suc (suc (suc (suc zero)))))) h = omega arith
 small (suc (suc (suc (suc (suc (suc (suc zero))))))) h = omega arith
 small (suc (suc (suc (suc (suc (suc (suc (suc n)))))))) h = absurd (omega arith)
 
--- v is the number of the bytes from `at` to `end`
+-- v is the number of the bytes from `at` to `end`; of a text in lower case it is their key
 pub record Keyed (s : List ℕ) (start end at v : ℕ) : Type 0 where
   pub low : start ≤ at
   pub high : at ≤ end
-  pub keyed : v ≡ key (slice at end s)
+  pub keyed : v ≡ littleEndian (slice at end s)
   pub less : v < bound (end - at)
 
 pub key-none : (s : List ℕ) (start end : ℕ) → start ≤ end → Keyed s start end end 0
@@ -128,12 +129,40 @@ key-turn s start end at v b h l m e k =
     record {
       low = omega arith;
       high = omega arith;
-      keyed = let f = ap key (slice-cons (at - 1) end s 0 (omega arith) h ∙ ap (λ n. getD s (at - 1) 0 ∷ slice n end s) j) in omega (arith, k .keyed);
+      keyed = let f = ap littleEndian (slice-cons (at - 1) end s 0 (omega arith) h ∙ ap (λ n. getD s (at - 1) 0 ∷ slice n end s) j) in omega (arith, k .keyed);
       less = rw d (omega arith);
     }
 
-pub key-done : (s : List ℕ) (start end at v : ℕ) → at ≤ start → Keyed s start end at v → v ≡ key (slice start end s)
+pub key-done : (s : List ℕ) (start end at v : ℕ) → at ≤ start → Keyed s start end at v → v ≡ littleEndian (slice start end s)
 key-done s start end at v h k = let e : at ≡ start = omega arith in rw e at (k .keyed)
+
+-- ---- lower case
+
+pub lowered-above : (b : ℕ) → b ≤ lowered b
+lowered-above b = byTest (capital b) (λ t. rw t (omega arith)) λ t. rw t (omega arith)
+
+pub lowered-at : (s : List ℕ) (i : ℕ) → getD (lowerCase s) i 0 ≡ lowered (getD s i 0)
+lowered-at [] i = refl
+lowered-at (b ∷ s) zero = refl
+lowered-at (b ∷ s) (suc i) = lowered-at s i
+
+pub lower-drop : (i : ℕ) (s : List ℕ) → drop i (lowerCase s) ≡ lowerCase (drop i s)
+lower-drop zero s = refl
+lower-drop (suc i) [] = refl
+lower-drop (suc i) (b ∷ s) = lower-drop i s
+
+pub lower-take : (i : ℕ) (s : List ℕ) → take i (lowerCase s) ≡ lowerCase (take i s)
+lower-take zero [] = refl
+lower-take zero (b ∷ s) = refl
+lower-take (suc i) [] = refl
+lower-take (suc i) (b ∷ s) = ap (λ l. lowered b ∷ l) (lower-take i s)
+
+pub lower-slice : (i j : ℕ) (s : List ℕ) → slice i j (lowerCase s) ≡ lowerCase (slice i j s)
+lower-slice i j s = ap (drop i) (lower-take j s) ∙ lower-drop i (take j s)
+
+-- so the key of bytes in the middle is the number of those in the middle of the text in lower case
+pub key-slice : (s : List ℕ) (start end v : ℕ) → v ≡ littleEndian (slice start end (lowerCase s)) → v ≡ key (slice start end s)
+key-slice s start end v e = e ∙ ap littleEndian (lower-slice start end s)
 
 -- ---- the width of a token
 
@@ -142,13 +171,13 @@ module _ (s : List ℕ) (at : ℕ) (h : at < length s) where
   second = let e : suc at + 0 ≡ at + 1 = omega arith in getD-drop (suc at) s 0 0 ∙ ap (λ n. getD s n 0) e
 
   width-law : width (drop at s) ≡
-      pick (lower (getD s at 0)) (λ _. pick (leb (nameLength (drop at s)) 8) (λ _. nameLength (drop at s)) λ _. 0)
+      pick (letter (getD s at 0)) (λ _. pick (leb (nameLength (drop at s)) 8) (λ _. nameLength (drop at s)) λ _. 0)
       λ _. pick (mark (getD s at 0)) (λ _. pick (eqb (getD s (at + 1) 0) 61) (λ _. 2) λ _. 0)
       λ _. pick (symbol (getD s at 0)) (λ _. 1) λ _. 0
   unfolding width
   width-law = rw (drop-cons s at 0 h, second)
 
-  module _ (l : Bool) (e : l ≡ lower (getD s at 0)) where
+  module _ (l : Bool) (e : l ≡ letter (getD s at 0)) where
     pub width-name : (n : ℕ) → l ≡ true → n ≡ at + nameLength (drop at s) → n - at ≤ 8 → n - at ≡ width (drop at s)
     width-name n t f g = let k : nameLength (drop at s) ≡ n - at = omega arith in rw (width-law, ← e, t, k, le-leb (n - at) 8 g)
 
@@ -181,7 +210,7 @@ pub width-le : (s : List ℕ) → (width s ≤ length s) × (width s ≤ 8)
 unfolding width
 width-le [] = (omega arith, omega arith)
 width-le (b ∷ s) =
-    byTest (lower b) (λ t. rw t (byTest (leb (nameLength (b ∷ s)) 8) (λ u. rw u (omega (arith, run-le (b ∷ s)), leb-true _ _ u)) λ u. rw u
+    byTest (letter b) (λ t. rw t (byTest (leb (nameLength (b ∷ s)) 8) (λ u. rw u (omega (arith, run-le (b ∷ s)), leb-true _ _ u)) λ u. rw u
     (omega arith, omega arith)))
     λ t. rw t (byTest (mark b) (λ u. rw u (byTest (eqb (getD s 0 0) 61) (λ v. rw v (pair s (eqb-true _ _ v))) λ v. rw v (omega arith, omega arith)))
     λ u. rw u (byTest (symbol b) (λ v. rw v (omega arith, omega arith)) λ v. rw v (omega arith, omega arith)))

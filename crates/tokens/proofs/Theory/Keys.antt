@@ -1,7 +1,7 @@
--- Names are held and compared by their keys: two tokens have the same key exactly if they have the same bytes.
+-- Names are held and compared by their keys: two tokens have the same key exactly if they have the same bytes in lower case.
 use mathlib.Core.Path.{_≡_, refl, sym, ap, _∙_, subst}
 use mathlib.Core.Logic.{_↔_}
-use mathlib.Core.Bool.{Bool, true, false}
+use mathlib.Core.Bool.{Bool, true, false, _&&_}
 use mathlib.Core.List.{List, [], _∷_}
 use Prim.Native.Nat.{ℕ, zero, suc, _+_, _≤_, _<_}
 use native.Mathlib.Omega.{arith}
@@ -9,10 +9,11 @@ use native.Mathlib.Decide.{decLt}
 use lib.Dec.{leb, eqb}
 use lib.ListN.{length, getD, take, drop}
 use lib.Seq.{slice}
-use borrow.Author.Tests.{eqb-true, eq-eqb, ne-eqb, le-leb, lt-leb}
+use borrow.Author.Tests.{eqb-true, eq-eqb, ne-eqb, le-leb, lt-leb, leb-true}
 use Rattle.base.proofs.Theory.Choice.{byTest}
-use Rattle.tokens.specs.Bytes.{lower, inner, mark, symbol, gap, nameLength, width, key}
-use Rattle.tokens.specs.Tokens.{tokenAt}
+use Rattle.base.specs.Bytes.{littleEndian}
+use Rattle.tokens.specs.Bytes.{capital, lowered, lowerCase, letter, inner, mark, symbol, gap, nameLength, width, key, spelling}
+use Rattle.tokens.specs.Tokens.{tokenAt, bytesAt}
 use Rattle.tokens.specs.Words.{sameName}
 
 -- Bytes that a token can have: none is 0.
@@ -20,23 +21,32 @@ abbrev pub TokenBytes : List ℕ → Type 0
 TokenBytes [] = Unit {0}
 TokenBytes (b ∷ s) = (0 < b) × (b < 256) × TokenBytes s
 
--- The bytes of the token at or after a place.
-abbrev pub bytesAt : List ℕ → ℕ → List ℕ
-bytesAt s at = slice (tokenAt s at .start) (tokenAt s at .end) s
-
 -- ── laws ──
-key-injective : (s r : List ℕ) → TokenBytes s → TokenBytes r → key s ≡ key r → s ≡ r
-key-injective [] [] p q e = refl
-key-injective [] (b ∷ r) p (l, m, q) e = absurd (omega arith)
-key-injective (b ∷ s) [] (l, m, p) q e = absurd (omega arith)
-key-injective (b ∷ s) (c ∷ r) (l, m, p) (l′, m′, q) e =
+number-injective : (s r : List ℕ) → TokenBytes s → TokenBytes r → littleEndian s ≡ littleEndian r → s ≡ r
+number-injective [] [] p q e = refl
+number-injective [] (b ∷ r) p (l, m, q) e = absurd (omega arith)
+number-injective (b ∷ s) [] (l, m, p) q e = absurd (omega arith)
+number-injective (b ∷ s) (c ∷ r) (l, m, p) (l′, m′, q) e =
     let h : b ≡ c = omega arith in
-    let g : key s ≡ key r = omega arith in
-    λ i. h i ∷ key-injective s r p q g i
+    let g : littleEndian s ≡ littleEndian r = omega arith in
+    λ i. h i ∷ number-injective s r p q g i
 
--- The same key exactly if the same bytes.
-pub same-key : (s r : List ℕ) → TokenBytes s → TokenBytes r → (key s ≡ key r) ↔ (s ≡ r)
-same-key s r p q = (key-injective s r p q, ap key)
+-- A byte in lower case is a byte.
+lowered-byte : (b : ℕ) → 0 < b → b < 256 → (0 < lowered b) × (lowered b < 256)
+lowered-byte b l m = byTest (capital b) (λ t. rw t (omega arith, let z = leb-true b 90 (and-right (leb 65 b) (leb b 90) t) in omega arith)) λ t. rw t (l, m)
+  where
+    and-right : (x y : Bool) → x && y ≡ true → y ≡ true
+    and-right true y h = h
+    and-right false true h = refl
+    and-right false false h = h
+
+pub lower-bytes : (s : List ℕ) → TokenBytes s → TokenBytes (lowerCase s)
+lower-bytes [] p = tt
+lower-bytes (b ∷ s) (l, m, p) = let (i, j) = lowered-byte b l m in (i, j, lower-bytes s p)
+
+-- The same key exactly if the same bytes in lower case.
+pub same-key : (s r : List ℕ) → TokenBytes s → TokenBytes r → (key s ≡ key r) ↔ (lowerCase s ≡ lowerCase r)
+same-key s r p q = (number-injective (lowerCase s) (lowerCase r) (lower-bytes s p) (lower-bytes r q), ap littleEndian)
 
 -- ── the bytes of a token ──
 byte-by : (f : ℕ → Bool) → f 0 ≡ false → ((b : ℕ) → 256 ≤ b → f b ≡ false) → (b : ℕ) → f b ≡ true → (0 < b) × (b < 256)
@@ -59,7 +69,15 @@ inner-byte = byte-by inner refl high
   where
     high : (b : ℕ) → 256 ≤ b → inner b ≡ false
     high b l =
-        rw (le-leb 97 b (omega arith), lt-leb b 122 (omega arith), le-leb 48 b (omega arith), lt-leb b 57 (omega arith), other b 95 l (omega arith)) refl
+        rw (
+          le-leb 65 b (omega arith),
+          lt-leb b 90 (omega arith),
+          le-leb 97 b (omega arith),
+          lt-leb b 122 (omega arith),
+          le-leb 48 b (omega arith),
+          lt-leb b 57 (omega arith),
+          other b 95 l (omega arith),
+        ) refl
 
 mark-byte : (b : ℕ) → mark b ≡ true → (0 < b) × (b < 256)
 mark-byte = byte-by mark refl high
@@ -97,7 +115,7 @@ run-bytes (b ∷ l) (suc w) = byTest (inner b)
 width-bytes : (l : List ℕ) → TokenBytes (take (width l) l)
 unfolding width
 width-bytes [] = tt
-width-bytes (b ∷ s) = byTest (lower b)
+width-bytes (b ∷ s) = byTest (letter b)
     (λ t. rw t (byTest (leb (nameLength (b ∷ s)) 8) (λ u. rw u (run-bytes (b ∷ s) (nameLength (b ∷ s)) (omega arith))) (λ u. rw u tt)))
     λ t. rw t (byTest (mark b)
     (λ u. rw u (byTest (eqb (getD s 0 0) 61) (λ v. rw v (pair s v (mark-byte b u))) (λ v. rw v tt)))
@@ -119,21 +137,31 @@ slice-take (suc p) w s = ap (λ n. drop (suc p) (take n s)) (let e : suc p + w �
     go [] ih = nothing w
     go (x ∷ s) ih = ih s
 
--- A token is held as the key of its bytes.
-pub token-key : (s : List ℕ) (at : ℕ) → 2 ≤ tokenAt s at .key → (tokenAt s at .key ≡ key (bytesAt s at)) × TokenBytes (bytesAt s at)
+-- A token is held as the key and the spelling of its bytes.
+pub record TokenHeld (s : List ℕ) (at : ℕ) : Type 0 where
+  pub key-is : tokenAt s at .key ≡ key (bytesAt s at)
+  pub spelling-is : tokenAt s at .spelling ≡ spelling (bytesAt s at)
+  pub bytes : TokenBytes (bytesAt s at)
+
+held : (s : List ℕ) (at : ℕ) → 2 ≤ tokenAt s at .key
+    → (tokenAt s at .key ≡ key (bytesAt s at)) × (tokenAt s at .spelling ≡ spelling (bytesAt s at)) × TokenBytes (bytesAt s at)
 unfolding tokenAt
-token-key s at =
+held s at =
     let p = at + gap false (drop at s) in
     byTest (leb (length s) p) (λ t. rw t λ h. absurd (omega arith))
     λ t. rw t (byTest (eqb (width (drop p s)) 0) (λ u. rw u λ h. absurd (omega arith))
-    λ u. rw u λ h. (refl, subst TokenBytes (sym (slice-take p (width (drop p s)) s)) (width-bytes (drop p s))))
+    λ u. rw u λ h. (refl, refl, subst TokenBytes (sym (slice-take p (width (drop p s)) s)) (width-bytes (drop p s))))
 
--- Two tokens, of one text or of two, are taken for the same exactly if their bytes are.
+pub token-held : (s : List ℕ) (at : ℕ) → 2 ≤ tokenAt s at .key → TokenHeld s at
+token-held s at h = let (e, f, p) = held s at h in record { key-is = e; spelling-is = f; bytes = p }
+
+-- Two tokens, of one text or of two, are taken for the same exactly if their bytes are the same in lower case.
 pub same-token : (s r : List ℕ) (at there : ℕ) → 2 ≤ tokenAt s at .key → 2 ≤ tokenAt r there .key
-    → (sameName (tokenAt s at .key) (tokenAt r there .key) ≡ true) ↔ (bytesAt s at ≡ bytesAt r there)
+    → (sameName (tokenAt s at .key) (tokenAt r there .key) ≡ true) ↔ (lowerCase (bytesAt s at) ≡ lowerCase (bytesAt r there))
 same-token s r at there h g =
-    let (e, p) = token-key s at h in
-    let (f, q) = token-key r there g in (
-      λ t. same-key (bytesAt s at) (bytesAt r there) p q .0 (sym e ∙ eqb-true (tokenAt s at .key) (tokenAt r there .key) t ∙ f),
-      λ same. eq-eqb (tokenAt s at .key) (tokenAt r there .key) (e ∙ ap key same ∙ sym f),
+    let S = token-held s at h in
+    let R = token-held r there g in (
+      λ t. same-key (bytesAt s at) (bytesAt r there) (S .bytes) (R .bytes) .0
+          (sym (S .key-is) ∙ eqb-true (tokenAt s at .key) (tokenAt r there .key) t ∙ R .key-is),
+      λ same. eq-eqb (tokenAt s at .key) (tokenAt r there .key) (S .key-is ∙ ap littleEndian same ∙ sym (R .key-is)),
     )

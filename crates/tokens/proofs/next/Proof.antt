@@ -19,8 +19,8 @@ returns-2 c = token-wrong _ _ _ _ (c .before .before .before .skip-gap .ensures)
 add-end : tie.Need-add-end
 add-end c = let h = token-within _ _ _ (c .before .width-at .ensures) (c .before .before .if1 .left) in omega arith
 
-key-of-requires : tie.Need-key-of-requires
-key-of-requires c κs = let h = token-within _ _ _ (c .before .width-at .ensures) (c .before .before .if1 .left) in (omega arith, h .0, omega arith)
+numbers-of-requires : tie.Need-numbers-of-requires
+numbers-of-requires c κs = let h = token-within _ _ _ (c .before .width-at .ensures) (c .before .before .if1 .left) in (omega arith, h .0, omega arith)
 
 returns-3 : tie.Need-returns-3
 returns-3 c =
@@ -28,7 +28,7 @@ returns-3 c =
     let at-if1 = at-width-at .before in
     let at-skip-gap = at-if1 .before in
     token-read _ _ _ _ (at-skip-gap .skip-gap .ensures) (at-if1 .if1 .left) (at-width-at .width-at .ensures) (c .before .if2 .left) _
-    (c .key-of .ensures)
+    (c .numbers-of .ensures)
 
 pub next-spec : {M : Type 1} → statement M
 next-spec =
@@ -39,5 +39,5 @@ next-spec =
     width-at-requires
     returns-2
     add-end
-    key-of-requires
+    numbers-of-requires
     returns-3)

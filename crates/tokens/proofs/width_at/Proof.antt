@@ -6,8 +6,8 @@ use Rattle.tokens.proofs.width_at.Tie as tie
 shared-slice-read-b : tie.Need-shared-slice-read-b
 shared-slice-read-b c = search needs
 
-is-lower-requires : tie.Need-is-lower-requires
-is-lower-requires c κs = search needs
+is-letter-requires : tie.Need-is-letter-requires
+is-letter-requires c κs = search needs
 
 run-end-requires : tie.Need-run-end-requires
 run-end-requires c κs = search needs
@@ -18,16 +18,16 @@ sub-n c = search needs
 returns : tie.Need-returns
 returns c =
     let at-if1 = c .before .before in
-    let at-is-lower = at-if1 .before in
-    let at-pre = at-is-lower .before .before .before in
-    width-name _ _ (at-pre .pre) _ (at-is-lower .is-lower .ensures) _ (at-if1 .if1 .taken) (c .before .run-end .ensures) (c .if2 .taken)
+    let at-is-letter = at-if1 .before in
+    let at-pre = at-is-letter .before .before .before in
+    width-name _ _ (at-pre .pre) _ (at-is-letter .is-letter .ensures) _ (at-if1 .if1 .taken) (c .before .run-end .ensures) (c .if2 .taken)
 
 returns-2 : tie.Need-returns-2
 returns-2 c =
     let at-if1 = c .before .before in
-    let at-is-lower = at-if1 .before in
-    let at-pre = at-is-lower .before .before .before in
-    width-long _ _ (at-pre .pre) _ (at-is-lower .is-lower .ensures) _ (at-if1 .if1 .taken) (c .before .run-end .ensures) (c .if2 .left)
+    let at-is-letter = at-if1 .before in
+    let at-pre = at-is-letter .before .before .before in
+    width-long _ _ (at-pre .pre) _ (at-is-letter .is-letter .ensures) _ (at-if1 .if1 .taken) (c .before .run-end .ensures) (c .if2 .left)
 
 is-mark-requires : tie.Need-is-mark-requires
 is-mark-requires c κs = search needs
@@ -46,9 +46,9 @@ returns-3 c =
     let at-if3 = c .before .before .before in
     let at-is-mark = at-if3 .before in
     let at-if1 = at-is-mark .before in
-    let at-is-lower = at-if1 .before in
-    let at-pre = at-is-lower .before .before .before in
-    width-pair _ _ (at-pre .pre) _ (at-is-lower .is-lower .ensures) (at-if1 .if1 .left) _
+    let at-is-letter = at-if1 .before in
+    let at-pre = at-is-letter .before .before .before in
+    width-pair _ _ (at-pre .pre) _ (at-is-letter .is-letter .ensures) (at-if1 .if1 .left) _
     (at-is-mark .is-mark .ensures) (at-if3 .if3 .taken) (c .if5 .taken)
 
 returns-4 : tie.Need-returns-4
@@ -56,18 +56,18 @@ returns-4 c =
     let at-if3 = c .before .before .before in
     let at-is-mark = at-if3 .before in
     let at-if1 = at-is-mark .before in
-    let at-is-lower = at-if1 .before in
-    let at-pre = at-is-lower .before .before .before in
-    width-half _ _ (at-pre .pre) _ (at-is-lower .is-lower .ensures) (at-if1 .if1 .left) _
+    let at-is-letter = at-if1 .before in
+    let at-pre = at-is-letter .before .before .before in
+    width-half _ _ (at-pre .pre) _ (at-is-letter .is-letter .ensures) (at-if1 .if1 .left) _
     (at-is-mark .is-mark .ensures) (at-if3 .if3 .taken) (c .if5 .left)
 
 returns-5 : tie.Need-returns-5
 returns-5 c =
     let at-is-mark = c .before .before in
     let at-if1 = at-is-mark .before in
-    let at-is-lower = at-if1 .before in
-    let at-pre = at-is-lower .before .before .before in
-    width-last _ _ (at-pre .pre) _ (at-is-lower .is-lower .ensures)
+    let at-is-letter = at-if1 .before in
+    let at-pre = at-is-letter .before .before .before in
+    width-last _ _ (at-pre .pre) _ (at-is-letter .is-letter .ensures)
     (at-if1 .if1 .left) _ (at-is-mark .is-mark .ensures) (c .before .if3 .taken) (c .if4 .left)
 
 is-symbol-requires : tie.Need-is-symbol-requires
@@ -78,9 +78,9 @@ returns-6 c =
     let at-if3 = c .before .before in
     let at-is-mark = at-if3 .before in
     let at-if1 = at-is-mark .before in
-    let at-is-lower = at-if1 .before in
-    let at-pre = at-is-lower .before .before .before in
-    width-symbol _ _ (at-pre .pre) _ (at-is-lower .is-lower .ensures) (at-if1 .if1 .left) _
+    let at-is-letter = at-if1 .before in
+    let at-pre = at-is-letter .before .before .before in
+    width-symbol _ _ (at-pre .pre) _ (at-is-letter .is-letter .ensures) (at-if1 .if1 .left) _
     (at-is-mark .is-mark .ensures) _ (at-if3 .if3 .left) (c .before .is-symbol .ensures) (c .if6 .taken)
 
 returns-7 : tie.Need-returns-7
@@ -88,16 +88,16 @@ returns-7 c =
     let at-if3 = c .before .before in
     let at-is-mark = at-if3 .before in
     let at-if1 = at-is-mark .before in
-    let at-is-lower = at-if1 .before in
-    let at-pre = at-is-lower .before .before .before in
-    width-none _ _ (at-pre .pre) _ (at-is-lower .is-lower .ensures) (at-if1 .if1 .left) _
+    let at-is-letter = at-if1 .before in
+    let at-pre = at-is-letter .before .before .before in
+    width-none _ _ (at-pre .pre) _ (at-is-letter .is-letter .ensures) (at-if1 .if1 .left) _
     (at-is-mark .is-mark .ensures) _ (at-if3 .if3 .left) (c .before .is-symbol .ensures) (c .if6 .left)
 
 pub width-at-spec : {M : Type 1} → statement M
 width-at-spec =
     tie.close (tie.spec
     shared-slice-read-b
-    is-lower-requires
+    is-letter-requires
     run-end-requires
     sub-n
     returns

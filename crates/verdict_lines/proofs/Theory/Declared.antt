@@ -1,104 +1,102 @@
--- The names that are printed are those of the text: each is printed as the bytes of the token that declares it.
-use mathlib.Core.Path.{_≡_, refl, sym, ap, _∙_}
-use mathlib.Core.List.{List, [], _∷_, _++_}
-use Prim.Native.Nat.{ℕ, zero, suc, _≤_, _<_}
+-- The names that are printed are those of the text: each is printed as the bytes of the token that declares it, and no two of them alike, whatever
+-- the case of their letters.
+use mathlib.Core.Path.{_≡_, sym, ap, _∙_}
+use mathlib.Core.List.{List}
+use Prim.Native.Nat.{ℕ, _≤_, _<_}
 use native.Mathlib.Omega.{arith}
-use lib.ListN.{length, getD}
-use borrow.Author.Tests.{eqb-true}
-use Rattle.tokens.specs.Tokens.{tokenAt}
-use Rattle.tokens.proofs.Theory.Keys.{bytesAt, token-key, same-token}
-use Rattle.tokens.specs.Words as word
-use Rattle.grammar.specs.Grammar.{Macro, entryTokens, functionTokens, blockTokens, sentence}
-use Rattle.grammar.specs.Spelled.{Spells, Declared, Arities}
-use Rattle.grammar.specs.Spelled
+use lib.Dec.{ltb}
+use lib.ListN.{length, getD, List·getD-eq-default}
+use borrow.Author.Tests.{ltb-true, ltb-false, lt-ltb, eqb-true}
+use Rattle.base.proofs.Theory.Choice.{byTest}
+use Rattle.tokens.specs.Bytes.{lowerCase}
+use Rattle.tokens.specs.Words.{isName}
+use Rattle.tokens.specs.Tokens.{tokenAt, bytesAt, placeOf}
+use Rattle.tokens.proofs.Theory.Keys.{token-held, same-token}
+use Rattle.tokens.proofs.Theory.TokensLaws.{spellings-length}
+use Rattle.tokens.proofs.Theory.WordsLaws.{name-real}
+use Rattle.grammar.specs.Grammar.{Macro}
+use Rattle.grammar.specs.Spelled.{Declared, Disjoint, firstRegister, firstFunction, entryLength}
 use Rattle.refusals.specs.Accepted.{Accepted}
+use Rattle.refusals.proofs.Theory.Declared.{register-declared, register-spelled, function-declared, function-spelled}
 use Rattle.text.specs.Names.{nameText}
-use Rattle.text.proofs.Theory.Names.{name-back}
+use Rattle.text.proofs.Theory.Names.{name-back, name-none}
+use Rattle.report.specs.Shown.{namesOf}
+use Rattle.verdict_lines.specs.Prints.{registerToken, functionToken, nameDeclared, declaredNames}
 
--- A token is printed as the bytes that it has in the text.
-token-text : (s : List ℕ) (at : ℕ) → 2 ≤ tokenAt s at .key → nameText (tokenAt s at .key) ≡ bytesAt s at
-token-text s at h = let (e, b) = token-key s at h in ap nameText e ∙ name-back (bytesAt s at) b
+-- ── names of one sort: their keys, how they are spelled, and the tokens that declare them ──
+record Declaring (text keys spelled : List ℕ) (declaring : ℕ → ℕ) : Type 0 where
+  names : Declared keys
+  size : length spelled ≡ length keys
+  key-is : (i : ℕ) → i < length keys → tokenAt text (placeOf text (declaring i)) .key ≡ getD keys i 0
+  spelling-is : (i : ℕ) → i < length keys → tokenAt text (placeOf text (declaring i)) .spelling ≡ getD spelled i 0
 
--- ── the names are tokens of the sentence ──
-record Has (x : ℕ) (ks : List ℕ) : Type 0 where
-  place : ℕ
-  within : place < length ks
-  is : getD ks place 0 ≡ x
+module _ (text keys spelled : List ℕ) (declaring : ℕ → ℕ) (D : Declaring text keys spelled declaring) where
+  real : (i : ℕ) → i < length keys → 2 ≤ tokenAt text (placeOf text (declaring i)) .key
+  real i h = name-real _ (ap isName (D .key-is i h) ∙ D .names .names i h)
 
-has-later : {x k : ℕ} {ks : List ℕ} → Has x ks → Has x (k ∷ ks)
-has-later h = record { place = suc (h .place); within = let l = h .within in omega arith; is = h .is }
+  printed : (i : ℕ) → nameText (getD spelled i 0) ≡ nameDeclared text (length keys) declaring i
+  printed i = byTest (ltb i (length keys))
+      (λ t.
+      let h = ltb-true i (length keys) t in
+      let T = token-held text (placeOf text (declaring i)) (real i h) in
+      ap nameText (sym (D .spelling-is i h) ∙ T .spelling-is) ∙ name-back (bytesAt text (placeOf text (declaring i))) (T .bytes) ∙ rw t)
+      λ t. let h = ltb-false i (length keys) t in name-none _ (List·getD-eq-default spelled 0 (omega (arith, D .size))) ∙ rw t
 
-has-left : {x : ℕ} (ks js : List ℕ) (i : ℕ) → i < length ks → getD ks i 0 ≡ x → Has x (ks ++ js)
-has-left [] js i l e = absurd (omega arith)
-has-left (k ∷ ks) js zero l e = record { place = 0; within = omega arith; is = e }
-has-left (k ∷ ks) js (suc i) l e = has-later (has-left ks js i (omega arith) e)
+-- names that are printed alike have one key
+module _ (text keys spelled : List ℕ) (declaring : ℕ → ℕ) (D : Declaring text keys spelled declaring)
+    (others respelled : List ℕ) (redeclaring : ℕ → ℕ) (E : Declaring text others respelled redeclaring) where
+  one-key : (i j : ℕ) → i < length keys → j < length others
+      → lowerCase (nameDeclared text (length keys) declaring i) ≡ lowerCase (nameDeclared text (length others) redeclaring j)
+      → getD keys i 0 ≡ getD others j 0
+  one-key i j h k =
+      rw (lt-ltb i (length keys) h, lt-ltb j (length others) k) λ e.
+      let p = placeOf text (declaring i) in
+      let q = placeOf text (redeclaring j) in
+      let t = same-token text text p q (real text keys spelled declaring D i h) (real text others respelled redeclaring E j k) .1 e in
+      sym (D .key-is i h) ∙ eqb-true (tokenAt text p .key) (tokenAt text q .key) t ∙ E .key-is j k
 
-has-right : {x : ℕ} (ks : List ℕ) {js : List ℕ} → Has x js → Has x (ks ++ js)
-has-right [] h = h
-has-right (k ∷ ks) h = has-later (has-right ks h)
+-- ── the names of a macro ──
+module _ (text : List ℕ) (m : Macro) (a : Accepted text m) where
+  registers : Declaring text (m .registers) (m .registerSpellings) registerToken
+  registers = record {
+    names = a .in-order .registers;
+    size = ap length (a .spelled .registerSpellings) ∙ spellings-length text (placeOf text firstRegister) 1 (length (m .registers));
+    key-is = register-declared text m (a .spelled);
+    spelling-is = register-spelled text m (a .spelled);
+  }
 
-entry-has : {fs ns : List ℕ} → Arities fs ns → (f : ℕ) → f < length fs → Has (getD fs f 0) (entryTokens fs ns)
-unfolding entryTokens
-entry-has Arities.none f l = absurd (omega arith)
-entry-has (Arities.one a) zero l = record { place = 0; within = omega arith; is = refl }
-entry-has (Arities.one a) (suc f) l = has-later (has-later (has-later (entry-has a f (omega arith))))
-entry-has (Arities.two a) zero l = record { place = 0; within = omega arith; is = refl }
-entry-has (Arities.two a) (suc f) l = has-later (has-later (has-later (entry-has a f (omega arith))))
+  functions : Declaring text (m .functions) (m .functionSpellings) (functionToken (length (m .registers)))
+  functions = record {
+    names = a .in-order .functions;
+    size = ap length (a .spelled .functionSpellings)
+        ∙ spellings-length text (placeOf text (firstFunction (length (m .registers)))) entryLength (length (m .functions));
+    key-is = function-declared text m (a .spelled) (a .in-order .arities);
+    spelling-is = function-spelled text m (a .spelled);
+  }
 
-function-has : (fs ns : List ℕ) → Arities fs ns → (f : ℕ) → f < length fs → Has (getD fs f 0) (functionTokens fs ns)
-unfolding functionTokens
-function-has [] ns a f l = absurd (omega arith)
-function-has (g ∷ fs) ns a f l = let h = entry-has a f l in
-    has-later (has-left (entryTokens (g ∷ fs) ns) (word.semicolonKey ∷ []) (h .place) (h .within) (h .is))
+  pub names-declared : namesOf (m .registerSpellings) (m .functionSpellings) ≡ declaredNames text m
+  names-declared = λ i. record {
+    register = λ r. printed text (m .registers) (m .registerSpellings) registerToken registers r i;
+    function = λ f. printed text (m .functions) (m .functionSpellings) (functionToken (length (m .registers))) functions f i;
+  }
 
-spells-at : {s ks : List ℕ} {at e : ℕ} → Spells s at ks e → (i : ℕ) → i < length ks → (at′ : ℕ) × (tokenAt s at′ .key ≡ getD ks i 0) × (2 ≤ getD ks i 0)
-spells-at Spelled.none i l = absurd (omega arith)
-spells-at (Spelled.more {at = at} a b t) zero l = (at, a, b)
-spells-at (Spelled.more a b t) (suc i) l = spells-at t i (omega arith)
+  pub registers-differ : (i j : ℕ) → i < length (m .registers) → j < length (m .registers)
+      → lowerCase (declaredNames text m .register i) ≡ lowerCase (declaredNames text m .register j) → i ≡ j
+  registers-differ i j h k e =
+      let D = one-key text (m .registers) (m .registerSpellings) registerToken registers in
+      a .in-order .registers .once i j h k (D (m .registers) (m .registerSpellings) registerToken registers i j h k e)
 
--- No two of the names are printed alike.
-abbrev pub Differ : List ℕ → Type 0
-Differ names = (i j : ℕ) → i < length names → j < length names → nameText (getD names i 0) ≡ nameText (getD names j 0) → i ≡ j
+  pub functions-differ : (i j : ℕ) → i < length (m .functions) → j < length (m .functions)
+      → lowerCase (declaredNames text m .function i) ≡ lowerCase (declaredNames text m .function j) → i ≡ j
+  functions-differ i j h k e =
+      let declaring = functionToken (length (m .registers)) in
+      let D = one-key text (m .functions) (m .functionSpellings) declaring functions in
+      a .in-order .functions .once i j h k (D (m .functions) (m .functionSpellings) declaring functions i j h k e)
 
-module _ (text : List ℕ) (m : Macro) (read : Accepted text m) where
-  -- x is printed as a token of the text
-  abbrev pub Stands : ℕ → Type 0
-  Stands x = (at : ℕ) × (tokenAt text at .key ≡ x) × (2 ≤ x) × (nameText x ≡ bytesAt text at)
-
-  stands : (x : ℕ) → Has x (sentence m) → Stands x
-  stands x h =
-      let (at, e, b) = spells-at (read .spelled .tokens) (h .place) (h .within) in
-      let f : tokenAt text at .key ≡ x = e ∙ h .is in
-      (at, f, omega (arith, e), ap nameText (sym f) ∙ token-text text at (omega (arith, e)))
-
-  -- what is printed alike is one name
-  pub printed-once : (x y : ℕ) → Stands x → Stands y → nameText x ≡ nameText y → x ≡ y
-  printed-once x y (i, e, h, p) (j, f, k, q) same =
-      let t = same-token text text i j (omega (arith, e)) (omega (arith, f)) .1 (sym p ∙ same ∙ q) in
-      sym e ∙ eqb-true (tokenAt text i .key) (tokenAt text j .key) t ∙ f
-
-  pub register-stands : (r : ℕ) → r < length (m .registers) → Stands (getD (m .registers) r 0)
-  unfolding sentence
-  register-stands r l =
-      let behind : List ℕ = word.semicolonKey ∷
-      (functionTokens (m .functions) (m .arities) ++ blockTokens (m .registers) (m .functions) (m .arities) (m .body)) in
-      stands (getD (m .registers) r 0) (has-later (has-left (m .registers) behind r l refl))
-
-  pub function-stands : (f : ℕ) → f < length (m .functions) → Stands (getD (m .functions) f 0)
-  unfolding sentence
-  function-stands f l =
-      let h = function-has (m .functions) (m .arities) (read .in-order .arities) f l in
-      stands (getD (m .functions) f 0)
-      (has-later (has-right (m .registers)
-      (has-later (has-left (functionTokens (m .functions) (m .arities)) (blockTokens (m .registers) (m .functions) (m .arities) (m .body)) (h .place)
-      (h .within) (h .is)))))
-
-  -- so no two registers are printed alike, and no two functions
-  once : (names : List ℕ) → Declared names → ((i : ℕ) → i < length names → Stands (getD names i 0)) → Differ names
-  once names d stand i j h k e = d .once i j h k (printed-once (getD names i 0) (getD names j 0) (stand i h) (stand j k) e)
-
-  pub registers-differ : Differ (m .registers)
-  registers-differ = once (m .registers) (read .in-order .registers) register-stands
-
-  pub functions-differ : Differ (m .functions)
-  functions-differ = once (m .functions) (read .in-order .functions) function-stands
+  pub sorts-differ : (i j : ℕ) → i < length (m .registers) → j < length (m .functions)
+      → lowerCase (declaredNames text m .register i) ≡ lowerCase (declaredNames text m .function j) → ⊥
+  unfolding Disjoint
+  sorts-differ i j h k e =
+      let D = one-key text (m .registers) (m .registerSpellings) registerToken registers in
+      let E = D (m .functions) (m .functionSpellings) (functionToken (length (m .registers))) functions in
+      a .in-order .apart i j h k (E i j h k e)

@@ -13,7 +13,7 @@ use Rattle.macros.specs.Order.{Path, root}
 use Rattle.macros.specs.Points.{sizeStatement, sizeBlock}
 use Rattle.tokens.specs.Bytes.{gap, width}
 use Rattle.tokens.specs.Bytes
-use Rattle.tokens.specs.Tokens.{tokenAt}
+use Rattle.tokens.specs.Tokens.{tokenAt, spellings}
 use Rattle.grammar.specs.Grammar.{Macro, headerOf}
 use Rattle.grammar.specs.Reading.{got, indexOf, block, statement, registerNames}
 use Rattle.grammar.proofs.Theory.Reading.{readText, readMacro}
@@ -33,10 +33,10 @@ abbrev still-text : List ℕ
 still-text = 118 ∷ 97 ∷ 114 ∷ 115 ∷ 32 ∷ 120 ∷ 59 ∷ 115 ∷ 107 ∷ 105 ∷ 112 ∷ 59 ∷ []
 
 abbrev still : Macro
-still = record { registers = 120 ∷ []; functions = []; arities = []; body = skip then empty }
+still = record { registers = 120 ∷ []; registerSpellings = 120 ∷ []; functions = []; functionSpellings = []; arities = []; body = skip then empty }
 
 still-read : readMacro still-text ≡ got still 12
-unfolding readMacro readText tokenAt gap width Bytes.nameLength registerNames block statement indexOf sizeBlock sizeStatement
+unfolding readMacro readText tokenAt gap width Bytes.nameLength spellings registerNames block statement indexOf sizeBlock sizeStatement
 still-read = refl
 
 still-accepted : Accepted still-text still

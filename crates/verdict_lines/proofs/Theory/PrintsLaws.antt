@@ -98,7 +98,7 @@ one-said text a b x y = let (o, k) = an-acceptance text in go o k
     go (Acceptance.accepted m) r =
         let (s, t, u) = x .verdict m r in
         let (s′, t′, u′) = y .verdict m r in
-        u ∙ ap (report (declaredNames m) (headerOf m)) (one-told m (r .in-order) s s′ t t′) ∙ sym u′
+        u ∙ ap (report (declaredNames text m) (headerOf m)) (one-told m (r .in-order) s s′ t t′) ∙ sym u′
 
 module _ {text entry exit : List ℕ} {size : ℕ} (x : PrintsVerdictLines text entry size exit) where
   -- So many bytes are there.

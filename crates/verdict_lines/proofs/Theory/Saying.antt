@@ -45,9 +45,10 @@ use Rattle.report.specs.Shown.{namesOf, printedOf, reportOf}
 use Rattle.report.specs.Bound.{letterNumber, rowNumber}
 use Rattle.report.specs.Shown.{wordValues}
 use Rattle.report.proofs.Theory.Packed.{incoherent-report, packed-rows, fail-report}
-use Rattle.verdict_lines.specs.Prints.{tableBytes, tablePairs, answerBytes, declaredNames, Told, Says, PrintsVerdictLines}
+use Rattle.verdict_lines.specs.Prints.{tableBytes, tablePairs, answerBytes, Told, Says, PrintsVerdictLines}
 use Rattle.search.proofs.Theory.MacroSearch.{header-fits}
 use Rattle.verdict_lines.proofs.Theory.Answers.{event-model, showing-refused, letters-fit, rows-few, packable, count-few, event-shown}
+use Rattle.verdict_lines.proofs.Theory.Declared.{names-declared}
 use Rattle.verdict_lines.specs.Reported.{reported, reportFor, Reports, mostRows}
 
 -- ── names with 0 behind them ──
@@ -61,17 +62,21 @@ name-at [] n r = none-at n r
 name-at (x ∷ l) n zero = refl
 name-at (x ∷ l) n (suc r) = name-at l n r
 
-names-held : (m : Macro) → namesOf (padded mostRegisters (m .registers)) (padded mostFunctions (m .functions)) ≡ declaredNames m
+-- The names as the reader's struct holds them.
+abbrev heldNames : Macro → Names
+heldNames m = namesOf (m .registerSpellings) (m .functionSpellings)
+
+names-held : (m : Macro) → namesOf (padded mostRegisters (m .registerSpellings)) (padded mostFunctions (m .functionSpellings)) ≡ heldNames m
 names-held m = λ i. record {
-  register = λ r. nameText (name-at (m .registers) (mostRegisters - length (m .registers)) r i);
-  function = λ f. nameText (name-at (m .functions) (mostFunctions - length (m .functions)) f i);
+  register = λ r. nameText (name-at (m .registerSpellings) (mostRegisters - length (m .registerSpellings)) r i);
+  function = λ f. nameText (name-at (m .functionSpellings) (mostFunctions - length (m .functionSpellings)) f i);
 }
 
 -- ── what is told, and that it is short ──
 record Right (m : Macro) (v : search.Verdict) (s : List ℕ) : Type 0 where
   told : Printed
   is-told : Told m told
-  lines : reportOf (m .registers) (m .functions) (headerOf m) (reported v) s ≡ report (declaredNames m) (headerOf m) told
+  lines : reportOf (m .registerSpellings) (m .functionSpellings) (headerOf m) (reported v) s ≡ report (heldNames m) (headerOf m) told
   letters : letterNumber (reported v) ≤ tablePairs
   rows : rowNumber (reported v) s ≤ mostRows
 
@@ -105,8 +110,9 @@ module _ (m : Macro) (o : InOrder m) (points : sizeBlock (m .body) ≤ mostPoint
     incoherent-right s c b = record {
       told = printed.incoherent pairs ls;
       is-told = (s, c);
-      lines = (λ i. reportOf (m .registers) (m .functions) (headerOf m) (report.Incoherent (e i) (same i)) (b i))
-          ∙ incoherent-report (headerOf m) ls (header-fits m o) (letters-fit m o breaking ls (s .of-kind)) rest (m .registers) (m .functions) pairs;
+      lines = (λ i. reportOf (m .registerSpellings) (m .functionSpellings) (headerOf m) (report.Incoherent (e i) (same i)) (b i))
+          ∙ incoherent-report (headerOf m) ls (header-fits m o) (letters-fit m o breaking ls (s .of-kind)) rest
+          (m .registerSpellings) (m .functionSpellings) pairs;
       letters = omega arith;
       rows = omega arith;
     }
@@ -120,8 +126,9 @@ module _ (m : Macro) (o : InOrder m) (points : sizeBlock (m .body) ≤ mostPoint
     fail-right s c b = record {
       told = printed.fail pairs ls tables;
       is-told = (s, c, event-model m o pairs ls s);
-      lines = (λ i. reportOf (m .registers) (m .functions) (headerOf m) (report.Fail (e i) (same i)) (stands i))
-          ∙ fail-report (headerOf m) ls tables rest (header-fits m o) (letters-fit m o failing ls (s .of-kind)) fits (m .registers) (m .functions) pairs;
+      lines = (λ i. reportOf (m .registerSpellings) (m .functionSpellings) (headerOf m) (report.Fail (e i) (same i)) (stands i))
+          ∙ fail-report (headerOf m) ls tables rest (header-fits m o) (letters-fit m o failing ls (s .of-kind)) fits
+          (m .registerSpellings) (m .functionSpellings) pairs;
       letters = omega arith;
       rows = let z = counted in let y = rows-few m o failing ls (s .of-kind) in omega arith;
     }
@@ -196,7 +203,7 @@ module _ (m : Macro) (o : InOrder m) (points : sizeBlock (m .body) ≤ mostPoint
 -- ── a text, and what the reader answers ──
 module _ (text : List ℕ) (read : syntax.MacroRead) (reads : Reads text read) where
   report-is : (m : Macro) (v : search.Verdict) (s : List ℕ) → Accepted text m
-      → reportFor (read .program) v s ≡ reportOf (m .registers) (m .functions) (headerOf m) (reported v) s
+      → reportFor (read .program) v s ≡ reportOf (m .registerSpellings) (m .functionSpellings) (headerOf m) (reported v) s
   unfolding reportFor reportOf heldMacro
   report-is m v s a =
       ap (λ (p : held.CompiledMacro). reportOf (p .registers) (p .functions) (p .header) (reported v) s) (reads .accepts m a .2)
@@ -247,7 +254,10 @@ module _ (text table output : List ℕ) (size : length table ≡ tableBytes) (ro
     says : Says text (reportFor (read .program) v output′)
     says = record {
       unread = λ number place r. refused-report text read reads number place output′ r v (demand .unread number place r .0);
-      verdict = λ m a. let r = judged m a in (r .told, r .is-told, report-is text read reads m v output′ a ∙ r .lines);
+      verdict = λ m a.
+          let r = judged m a in
+          let named = ap (λ (n : Names). report n (headerOf m) (r .told)) (names-declared text m a) in
+          (r .told, r .is-told, report-is text read reads m v output′ a ∙ r .lines ∙ named);
     }
 
     brief : Brief text read reads v output′

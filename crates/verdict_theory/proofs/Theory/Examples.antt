@@ -26,7 +26,7 @@ use Rattle.macros.specs.Order.{Path, root}
 use Rattle.macros.specs.Points.{sizeStatement, sizeBlock}
 use Rattle.tokens.specs.Bytes.{gap, width}
 use Rattle.tokens.specs.Bytes
-use Rattle.tokens.specs.Tokens.{tokenAt}
+use Rattle.tokens.specs.Tokens.{tokenAt, spellings}
 use Rattle.grammar.specs.Reading.{got, indexOf, condition, endedCondition, block, statement, registerNames}
 use Rattle.grammar.proofs.Theory.Reading.{readText, readMacro}
 use Rattle.grammar.specs.Reading
@@ -216,10 +216,10 @@ abbrev still-text : List ℕ
 still-text = 118 ∷ 97 ∷ 114 ∷ 115 ∷ 32 ∷ 120 ∷ 59 ∷ 115 ∷ 107 ∷ 105 ∷ 112 ∷ 59 ∷ []
 
 abbrev still-macro : Macro
-still-macro = record { registers = 120 ∷ []; functions = []; arities = []; body = skip then empty }
+still-macro = record { registers = 120 ∷ []; registerSpellings = 120 ∷ []; functions = []; functionSpellings = []; arities = []; body = skip then empty }
 
 still-read : readMacro still-text ≡ got still-macro 12
-unfolding readMacro readText tokenAt gap width Bytes.nameLength registerNames block statement indexOf sizeBlock sizeStatement
+unfolding readMacro readText tokenAt gap width Bytes.nameLength spellings registerNames block statement indexOf sizeBlock sizeStatement
 still-read = refl
 
 still-accepted : Accepted still-text still-macro
@@ -230,10 +230,17 @@ abbrev pub claim-text : List ℕ
 claim-text = 118 ∷ 97 ∷ 114 ∷ 115 ∷ 32 ∷ 120 ∷ 32 ∷ 121 ∷ 59 ∷ 97 ∷ 115 ∷ 115 ∷ 101 ∷ 114 ∷ 116 ∷ 32 ∷ 120 ∷ 61 ∷ 121 ∷ 59 ∷ []
 
 abbrev pub claim-macro : Macro
-claim-macro = record { registers = 120 ∷ 121 ∷ []; functions = []; arities = []; body = assert (equal 0 1) then empty }
+claim-macro = record {
+  registers = 120 ∷ 121 ∷ [];
+  registerSpellings = 120 ∷ 121 ∷ [];
+  functions = [];
+  functionSpellings = [];
+  arities = [];
+  body = assert (equal 0 1) then empty;
+}
 
 claim-read : readMacro claim-text ≡ got claim-macro 20
-unfolding readMacro readText tokenAt gap width Bytes.nameLength registerNames block statement endedCondition condition indexOf sizeBlock sizeStatement
+unfolding readMacro readText tokenAt gap width Bytes.nameLength spellings registerNames block statement endedCondition condition indexOf sizeBlock sizeStatement
 claim-read = refl
 
 pub claim-accepted : Accepted claim-text claim-macro

@@ -1,0 +1,107 @@
+-- A text and the same text in lower case are refused alike, or are read as the same macro but for the spellings of its names.
+use mathlib.Core.Path.{_≡_, sym, ap, subst, _∙_}
+use Prim.Native.Nat.{ℕ, suc, _+_, _*_, _≤_}
+use native.Mathlib.Omega.{arith}
+use mathlib.Core.List.{List}
+use lib.ListN.{length, length-map}
+use Rattle.tokens.specs.Bytes.{lowered, lowerCase}
+use Rattle.tokens.specs.Tokens.{tokenAt, placeOf}
+use Rattle.grammar.specs.Grammar.{Macro, sentence}
+use Rattle.grammar.specs.Limits.{longestText}
+use Rattle.grammar.specs.Spelled.{Spells, Spelled, InOrder, firstRegister, firstFunction, entryLength}
+use Rattle.refusals.specs.FirstNo.{NoAt, FirstNo}
+use Rattle.refusals.specs.Questions.{No}
+use Rattle.refusals.specs.Order.{Refusal}
+use Rattle.refusals.specs.Accepted.{Accepted}
+use Rattle.refusals.proofs.Theory.Declared.{register-declared, function-declared}
+use Rattle.refusals.proofs.Theory.Accepted.{Acceptance, Becomes, an-acceptance, accepted-once, refused-once, never-both}
+use Rattle.theorems.specs.LowerCase.{spelledAs, inLowerCase}
+use Rattle.theorems.proofs.Steps.LowerCaseTokens.{key-lower, start-lower, end-lower, behind-lower, keyOf-lower, before-lower, spellings-lower}
+
+-- no question of order looks at spellings
+pub order-respelled : (rs fs : List ℕ) (m : Macro) → InOrder m → InOrder (spelledAs rs fs m)
+order-respelled rs fs m O = record {
+  registers = O .registers;
+  some = O .some;
+  few = O .few;
+  functions = O .functions;
+  apart = O .apart;
+  arities = O .arities;
+  fewer = O .fewer;
+  uses = O .uses;
+  depth = O .depth;
+}
+
+module _ (s : List ℕ) where
+  length-lower : length (lowerCase s) ≡ length s
+  length-lower = length-map s lowered
+
+  short-lower : length s ≤ longestText → length (lowerCase s) ≤ longestText
+  short-lower h = omega (arith, length-lower)
+
+  -- ---- a macro
+
+  spells-lower : {at e : ℕ} {ks : List ℕ} → Spells s at ks e → Spells (lowerCase s) at ks e
+  spells-lower Spells.none = Spells.none
+  spells-lower (Spells.more {at} {e = e} {ks = ks} h l p) =
+      Spells.more (key-lower s at ∙ h) l (subst (λ n. Spells (lowerCase s) n ks e) (sym (end-lower s at)) (spells-lower p))
+
+  spelled-lower : (m : Macro) → InOrder m → Spelled s m → Spelled (lowerCase s) (inLowerCase m)
+  unfolding sentence
+  spelled-lower m O S = record {
+    place = S .place;
+    tokens = spells-lower (S .tokens);
+    ended = key-lower s (S .place) ∙ S .ended;
+    registerSpellings = sym (spellings-lower s firstRegister 1 (m .registers) λ r h.
+        rw (let e : firstRegister + 1 * r ≡ firstRegister + r = omega arith in e) (register-declared s m S r h));
+    functionSpellings = sym (spellings-lower s (firstFunction (length (m .registers))) entryLength (m .functions) (function-declared s m S (O .arities)));
+  }
+
+  pub accepted-lower : {m : Macro} → Accepted s m → Accepted (lowerCase s) (inLowerCase m)
+  accepted-lower {m} A = record {
+    short = short-lower (A .short);
+    spelled = spelled-lower m (A .in-order) (A .spelled);
+    in-order = order-respelled (m .registers) (m .functions) m (A .in-order);
+    few = A .few;
+  }
+
+  -- ---- a refusal
+
+  -- a question looks at keys alone
+  no-lower : (n i : ℕ) → NoAt (lowerCase s) n i ≡ NoAt s n i
+  no-lower n i = λ j. No n (before-lower s i j) (keyOf-lower s i j) (keyOf-lower s (suc i) j)
+
+  no-raised : (n i : ℕ) → NoAt (lowerCase s) n i → NoAt s n i
+  no-raised n i = subst (λ X. X) (no-lower n i)
+
+  first-lower : {n p : ℕ} → FirstNo s n p → FirstNo (lowerCase s) n p
+  first-lower {n} F = record {
+    index = F .index;
+    reached = λ j l e. F .reached j l (sym (keyOf-lower s j) ∙ e);
+    place = F .place ∙ ap (λ k. tokenAt s k .start) (sym (behind-lower s 0 (F .index))) ∙ sym (start-lower s (placeOf (lowerCase s) (F .index)));
+    no = subst (λ X. X) (sym (no-lower n (F .index))) (F .no);
+    lowest = λ m l x. F .lowest m l (no-raised m (F .index) x);
+    first = λ m j l x. F .first m j l (no-raised m j x);
+  }
+
+  pub refusal-lower : {n p : ℕ} → Refusal s n p → Refusal (lowerCase s) n p
+  refusal-lower (Refusal.long h) = Refusal.long (omega (arith, length-lower))
+  refusal-lower (Refusal.token h F) = Refusal.token (short-lower h) (first-lower F)
+  refusal-lower (Refusal.points m h S O k) =
+      Refusal.points (inLowerCase m) (short-lower h) (spelled-lower m O S) (order-respelled (m .registers) (m .functions) m O) k
+
+  -- ---- and back, since a text has one answer
+
+  pub accepted-lifted : {k : Macro} → Accepted (lowerCase s) k → (m : Macro) × Accepted s m × (k ≡ inLowerCase m)
+  accepted-lifted {k} B = let (o, x) = an-acceptance s in go o x
+    where
+      go : (o : Acceptance) → Becomes s o → (m : Macro) × Accepted s m × (k ≡ inLowerCase m)
+      go (Acceptance.accepted m) A = (m, A, accepted-once (lowerCase s) B (accepted-lower A))
+      go (Acceptance.refused n p) R = absurd (never-both (lowerCase s) B (refusal-lower R))
+
+  pub refusal-lifted : {n p : ℕ} → Refusal (lowerCase s) n p → Refusal s n p
+  refusal-lifted {n} {p} B = let (o, x) = an-acceptance s in go o x
+    where
+      go : (o : Acceptance) → Becomes s o → Refusal s n p
+      go (Acceptance.accepted m) A = absurd (never-both (lowerCase s) (accepted-lower A) B)
+      go (Acceptance.refused k q) R = let (e, f) = refused-once (lowerCase s) (refusal-lower R) B in subst (λ n. Refusal s n p) e (subst (Refusal s k) f R)
