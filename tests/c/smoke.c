@@ -27,6 +27,10 @@ int main(void) {
     static const uint8_t *const text = (const uint8_t *)macro;
     static const char loop[] = "vars x y; funs n/1; while x != y { x := n(x); } assert x = y;";
     static const uint8_t *const passing = (const uint8_t *)loop;
+    /* A macro typed in capitals and small letters, and a name declared in two spellings. */
+    static const char capitals[] = "VARS Cap y; Assert cAP != Y;";
+    static const uint8_t *const typed = (const uint8_t *)capitals;
+    static const char repeated[] = "vars cap CAP;";
     uint8_t table[576];
     uint8_t out[64];
     uint64_t answer[6];
@@ -89,8 +93,15 @@ int main(void) {
     show("read", answer, 5);
     fadzgime_read(text, 6, answer, 5);
     show("read", answer, 5);
+    fadzgime_read(typed, strlen(capitals), answer, 5);
+    show("read", answer, 5);
+    fadzgime_read((const uint8_t *)repeated, strlen(repeated), answer, 5);
+    show("read", answer, 5);
 
     fadzgime_verdict(text, strlen(macro), table, sizeof table, out, sizeof out, answer, 5);
+    show("verdict", answer, 5);
+    show_bytes(out, 12);
+    fadzgime_verdict(typed, strlen(capitals), table, sizeof table, out, sizeof out, answer, 5);
     show("verdict", answer, 5);
     show_bytes(out, 12);
     fadzgime_verdict(text, strlen(macro), table, sizeof table, out, 11, answer, 5);

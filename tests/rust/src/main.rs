@@ -1,12 +1,14 @@
-//! `oracle monitor|model|read|verdict`: reads a packed trace or a macro from
-//! standard input and prints what the program of that name prints.
+//! `oracle monitor|model|read|points|verdict`: reads a packed trace or a macro from
+//! standard input and prints what the program of that name prints; `points` prints what
+//! `reader_runs` prints behind an input's name.
 
 use std::io::{Read, Write};
 use std::process::ExitCode;
 
+use fadzgime_tests::oracle::listing::print_points;
 use fadzgime_tests::oracle::report::{print_model, print_monitor, print_read, print_verdict};
 
-const USAGE: &str = "usage: oracle monitor|model|read|verdict < input";
+const USAGE: &str = "usage: oracle monitor|model|read|points|verdict < input";
 
 fn main() -> ExitCode {
     let command = std::env::args().nth(1).unwrap_or_default();
@@ -14,6 +16,7 @@ fn main() -> ExitCode {
         "monitor" => print_monitor,
         "model" => print_model,
         "read" => print_read,
+        "points" => print_points,
         "verdict" => print_verdict,
         _ => {
             eprintln!("{USAGE}");

@@ -2,10 +2,14 @@
 //! switches these tests on; the environment's `FADZGIME_PROGRAMS` names the folder
 //! that holds the programs, and one that is not there is a failure.
 
+#[cfg(feature = "verdict")]
+use std::fs;
 use std::io::Write;
 use std::path::Path;
 use std::process::{Command, Stdio};
 
+#[cfg(feature = "verdict")]
+use fadzgime_tests::answers::CAPITALS;
 #[cfg(feature = "verdict")]
 use fadzgime_tests::examples::example_macros;
 use fadzgime_tests::fast::monitor::fast_monitor;
@@ -14,6 +18,8 @@ use fadzgime_tests::generators::damaged_macros::damaged_text;
 #[cfg(feature = "verdict")]
 use fadzgime_tests::generators::macros::{macro_text, random_macro};
 use fadzgime_tests::generators::random::Random;
+#[cfg(feature = "verdict")]
+use fadzgime_tests::generators::spread::Spread;
 use fadzgime_tests::generators::traces::{any_trace, damage_trace, random_header, random_letter};
 #[cfg(feature = "verdict")]
 use fadzgime_tests::oracle::report::print_verdict;
@@ -63,10 +69,78 @@ fn some_trace(seed: u64) -> Vec<u8> {
     if random.once_in(3) { damage_trace(random, &trace) } else { trace.pack() }
 }
 
+/// The outcome that lines begin with: `verdict fail`, `refused 9`.
+#[cfg(feature = "verdict")]
+fn outcome(lines: &str) -> String {
+    lines.split_whitespace().take(2).collect::<Vec<_>>().join(" ")
+}
+
 #[cfg(feature = "verdict")]
 #[test]
 fn verdict() {
+    let mut spread = Spread::default();
+    for text in (0..3_000).map(some_macro) {
+        spread.add(&outcome(&print_verdict(&text)), &text);
+    }
+    println!("verdict: {spread:?}");
+    let verdicts = ["verdict pass", "verdict fail", "verdict incoherent"];
+    assert!(verdicts.iter().all(|word| spread.is_often(word, 100)), "{spread:?}");
+    assert!((7..=13).all(|number| spread.is_often(&format!("refused {number}"), 20)), "{spread:?}");
     check("verdict", (0..3_000).map(some_macro), print_verdict);
+}
+
+/// Texts with capitals, against the lines that were settled for them.
+#[cfg(feature = "verdict")]
+#[test]
+fn verdict_on_capitals() {
+    let path = program("verdict");
+    for (text, lines) in CAPITALS {
+        assert_eq!(printed(&path, text.as_bytes()), lines, "{text}");
+    }
+}
+
+/// The tables of a page of `docs/`: the cells of each line.
+#[cfg(feature = "verdict")]
+fn table_lines(page: &str) -> Vec<Vec<String>> {
+    let path = Path::new(env!("CARGO_MANIFEST_DIR")).join("../../docs").join(page);
+    let text = fs::read_to_string(path).expect("the page");
+    let lines = text.lines().filter_map(|line| line.strip_prefix("| ")?.strip_suffix(" |"));
+    lines.map(|line| line.split(" | ").map(str::to_string).collect()).collect()
+}
+
+/// What stands in back quotes.
+#[cfg(feature = "verdict")]
+fn quoted(cell: &str) -> Option<&str> {
+    cell.strip_prefix('`')?.strip_suffix('`')
+}
+
+/// A text with a `^` at the place of its refusal, and the line that the number beside it makes.
+#[cfg(feature = "verdict")]
+fn marked(text: &str, number: &str) -> Option<(String, String)> {
+    let place = text.find('^')?;
+    let number: u32 = number.parse().ok()?;
+    Some((text.replacen('^', "", 1), format!("refused {number} at {place}\n")))
+}
+
+/// The refusals that the tables of `docs/SPEC.md` (11.6) and `docs/MACROS.md` show.
+#[cfg(feature = "verdict")]
+#[test]
+fn verdict_on_documents() {
+    let by_place = table_lines("SPEC.md").into_iter().flat_map(|cells| {
+        let pairs = cells.chunks_exact(2).map(|pair| marked(quoted(&pair[0])?, &pair[1]));
+        pairs.flatten().collect::<Vec<_>>()
+    });
+    let by_line = table_lines("MACROS.md").into_iter().filter_map(|cells| {
+        let (text, line) = (quoted(&cells[0])?, quoted(cells.get(1)?)?);
+        line.starts_with("refused ").then(|| (text.to_string(), format!("{line}\n")))
+    });
+    let (by_place, by_line) = (by_place.collect::<Vec<_>>(), by_line.collect::<Vec<_>>());
+    assert!(by_place.len() >= 24 && by_line.len() >= 28, "{} and {}", by_place.len(), by_line.len());
+    let path = program("verdict");
+    for (text, line) in by_place.iter().chain(&by_line) {
+        assert_eq!(printed(&path, text.as_bytes()), *line, "{text}");
+        assert_eq!(print_verdict(text.as_bytes()), *line, "{text}");
+    }
 }
 
 /// The macros of `examples/`, also against the lines stored beside them.

@@ -1,10 +1,11 @@
 //! Macro texts with one thing wrong, for every refusal of the reader.
 
+use super::capitals::Habit;
 use super::macros::{DEEPEST, lay_out, macro_text, nested_macro, random_macro, random_name, tokens};
 use super::random::Random;
 
 /// Tokens to put where they do not belong, and some that are none.
-const STRAY: [&str; 34] = [
+const STRAY: [&str; 48] = [
     "vars",
     "funs",
     "skip",
@@ -39,10 +40,28 @@ const STRAY: [&str; 34] = [
     "assertion",
     "<",
     "\u{e9}",
+    "VARS",
+    "If",
+    "eLSE",
+    "WHILE",
+    "Zz",
+    "abcdefgHi",
+    "ASSERTION",
+    "[",
+    "]",
+    "@",
+    "`",
+    "\x11",
+    "\x12",
+    "\x1d",
 ];
 
 /// Bytes to put where they do not belong.
-const BYTES: &[u8] = b"abz019_AZ:=!;,(){}/# \t\r\n\x00\x0b\x0c\x7f\x80\xff+-*<>\"'&|.";
+const BYTES: &[u8] =
+    b"abz019_ABZ:=!;,(){}/# \t\r\n\x00\x0b\x0c\x11\x12\x1d\x7f\x80\xc1\xff+-*<>\"'&|.[]@`\\^";
+
+/// The bit that parts capitals from small letters, and `[` from `{`, byte 17 from `1`.
+const CASE_BIT: u8 = 0x20;
 
 /// A text that is refused for the most part, of a macro with few points.
 pub fn damaged_text(random: &mut Random) -> Vec<u8> {
@@ -56,21 +75,25 @@ pub fn damaged_text(random: &mut Random) -> Vec<u8> {
     }
 }
 
-/// One or two tokens taken away, put in, doubled, replaced or swapped.
+/// One or two tokens taken away, put in, doubled, replaced, swapped or lengthened.
 fn damaged_tokens(random: &mut Random) -> Vec<u8> {
     let read = random_macro(random, 8);
     let mut tokens = tokens(random, &read);
     for _ in 0..1 + random.below(2) {
         let place = random.below(tokens.len());
-        match random.below(6) {
+        match random.below(7) {
             0 => drop(tokens.remove(place)),
             1 => tokens.insert(place, random.pick(&STRAY).to_string()),
-            2 => tokens.insert(place, tokens[place].clone()),
+            2 => {
+                let twice = Habit::some(random).typed(random, &tokens[place]);
+                tokens.insert(place, twice);
+            }
             3 => tokens[place] = random.pick(&STRAY).to_string(),
             4 => {
                 let other = random.below(tokens.len());
                 tokens.swap(place, other);
             }
+            5 => lengthen_name(random, &mut tokens),
             _ => replace_name(random, &mut tokens),
         }
         if tokens.is_empty() {
@@ -80,16 +103,35 @@ fn damaged_tokens(random: &mut Random) -> Vec<u8> {
     lay_out(random, &tokens)
 }
 
-/// A name replaced by another one of the text, or by a new one.
+/// The places of names and words.
+fn places_of_names(tokens: &[String]) -> Vec<usize> {
+    let is_name = |token: &String| token.bytes().next().is_some_and(|byte| byte.is_ascii_alphabetic());
+    (0..tokens.len()).filter(|&place| is_name(&tokens[place])).collect()
+}
+
+/// A name replaced by another one of the text, perhaps in another spelling, or by a new one.
 fn replace_name(random: &mut Random, tokens: &mut [String]) {
-    let is_name = |token: &String| token.bytes().next().is_some_and(|byte| byte.is_ascii_lowercase());
-    let names: Vec<usize> = (0..tokens.len()).filter(|&place| is_name(&tokens[place])).collect();
+    let names = places_of_names(tokens);
     if names.is_empty() {
         return;
     }
     let place = *random.pick(&names);
     let other = *random.pick(&names);
-    tokens[place] = if random.once_in(3) { random_name(random) } else { tokens[other].clone() };
+    let name = if random.once_in(3) { random_name(random) } else { tokens[other].clone() };
+    tokens[place] = Habit::some(random).typed(random, &name);
+}
+
+/// A name that goes on to eight bytes or more.
+fn lengthen_name(random: &mut Random, tokens: &mut [String]) {
+    let names = places_of_names(tokens);
+    if names.is_empty() {
+        return;
+    }
+    let place = *random.pick(&names);
+    let length = 8 + random.below(4);
+    while tokens[place].len() < length {
+        tokens[place].push(char::from(*random.pick(b"azAZ09_")));
+    }
 }
 
 /// A few bytes changed, put in or taken away, or the end cut off.
@@ -101,24 +143,35 @@ fn damaged_bytes(random: &mut Random) -> Vec<u8> {
             break;
         }
         let place = random.below(text.len());
-        match random.below(5) {
+        match random.below(6) {
             0 => text[place] = *random.pick(BYTES),
             1 => text.insert(place, *random.pick(BYTES)),
             2 => drop(text.remove(place)),
             3 => text[place] = random.bits() as u8,
+            4 => flip_bit(random, &mut text),
             _ => text.truncate(place),
         }
     }
     text
 }
 
-/// Nearly too many registers or functions, or a name declared twice.
+/// A byte becomes its neighbour by one bit, a sign most often, since the case of a letter means nothing.
+fn flip_bit(random: &mut Random, text: &mut [u8]) {
+    let is_sign = |byte: u8| byte.is_ascii_graphic() && !byte.is_ascii_alphabetic();
+    let signs: Vec<usize> = (0..text.len()).filter(|&place| is_sign(text[place])).collect();
+    let any = signs.is_empty() || random.once_in(4);
+    let place = if any { random.below(text.len()) } else { *random.pick(&signs) };
+    text[place] ^= if random.once_in(4) { 1 << random.below(8) } else { CASE_BIT };
+}
+
+/// Nearly too many registers or functions, or a name declared twice, perhaps in two spellings.
 fn many_names(random: &mut Random) -> Vec<u8> {
     let registers = 6 + random.below(4);
     let functions = 2 + random.below(4);
+    let habit = Habit::some(random);
     let mut name = |kind: &str, number: usize| match random.once_in(12) {
-        true => "v1".to_string(),
-        false => format!("{kind}{number}"),
+        true => Habit::some(random).typed(random, "v1"),
+        false => habit.typed(random, &format!("{kind}{number}")),
     };
     let registers: Vec<String> = (0..registers).map(|number| name("v", number)).collect();
     let functions: Vec<String> = (0..functions).map(|number| name("f", number)).collect();
@@ -127,7 +180,7 @@ fn many_names(random: &mut Random) -> Vec<u8> {
         let entries: Vec<String> = functions.iter().map(|f| format!("{f}/{}", 1 + random.below(2))).collect();
         text += &format!("funs {};", entries.join(" "));
     }
-    text += "v0 := f0(v1); assert v0 = v1;";
+    text += &Habit::some(random).typed(random, "v0 := f0(v1); assert v0 = v1;");
     text.into_bytes()
 }
 
@@ -155,6 +208,7 @@ fn deep(random: &mut Random) -> Vec<u8> {
     for end in close.iter().rev() {
         text.extend(*end);
     }
+    Habit::some(random).type_text(random, &mut text);
     text
 }
 
@@ -175,6 +229,7 @@ fn many_points(random: &mut Random) -> Vec<u8> {
     if random.once_in(4) {
         text.push(*random.pick(BYTES));
     }
+    Habit::some(random).type_text(random, &mut text);
     text
 }
 

@@ -1,5 +1,6 @@
-//! Random macros that are well formed, and their text in a random layout.
+//! Random macros that are well formed, and their text in a random layout and spelling.
 
+use super::capitals::Habit;
 use super::random::Random;
 use crate::oracle::letter::Letter;
 use crate::oracle::syntax::{Condition, Macro, Statement};
@@ -41,7 +42,7 @@ struct Maker<'a> {
     points: usize,
 }
 
-/// A name of one to eight bytes.
+/// A name of one to eight bytes, without capitals.
 pub fn random_name(random: &mut Random) -> String {
     if random.once_in(6) {
         return random.pick(&ODD_NAMES).to_string();
@@ -53,7 +54,7 @@ pub fn random_name(random: &mut Random) -> String {
         .collect()
 }
 
-/// So many different names, none of them a word.
+/// So many different names, none of them a word, typed by some habit.
 fn distinct_names(random: &mut Random, count: usize) -> Vec<String> {
     let mut names: Vec<String> = Vec::new();
     while names.len() < count {
@@ -62,7 +63,8 @@ fn distinct_names(random: &mut Random, count: usize) -> Vec<String> {
             names.push(name);
         }
     }
-    names
+    let habit = Habit::some(random);
+    names.iter().map(|name| habit.typed(random, name)).collect()
 }
 
 fn is_word(name: &str) -> bool {
@@ -205,92 +207,120 @@ fn with(known: &[Condition], condition: Condition) -> Vec<Condition> {
     more
 }
 
-/// The tokens of a macro as they are spelt; an empty else is written now and then.
+/// The tokens of a macro: its names as declared in the two lists, words and uses of names by some habit each. An empty
+/// else is written now and then.
 pub fn tokens(random: &mut Random, read: &Macro) -> Vec<String> {
-    let mut out = vec!["vars".to_string()];
-    out.extend(read.registers.iter().cloned());
-    out.push(";".to_string());
-    if !read.functions.is_empty() {
-        out.push("funs".to_string());
-        for (name, binary) in &read.functions {
-            out.extend([name.clone(), "/".to_string(), if *binary { "2" } else { "1" }.to_string()]);
-        }
-        out.push(";".to_string());
-    }
-    Speller { random, read, out: &mut out }.statements(&read.statements);
-    out
+    let as_declared = random.once_in(2);
+    let mut habit = || if as_declared { Habit::AsIs } else { Habit::any(random) };
+    let (words, uses) = (habit(), habit());
+    let mut speller = Speller { random, read, words, uses, out: vec![] };
+    speller.declarations();
+    speller.statements(&read.statements);
+    speller.out
 }
 
-/// Spells the statements of a macro.
+/// Spells a macro.
 struct Speller<'a> {
     random: &'a mut Random,
     read: &'a Macro,
-    out: &'a mut Vec<String>,
+    words: Habit,
+    uses: Habit,
+    out: Vec<String>,
 }
 
 impl Speller<'_> {
-    fn spell(&mut self, tokens: &[&str]) {
-        self.out.extend(tokens.iter().map(ToString::to_string));
+    fn word(&mut self, word: &str) {
+        let typed = self.words.typed(self.random, word);
+        self.out.push(typed);
+    }
+
+    fn sign(&mut self, sign: &str) {
+        self.out.push(sign.to_string());
+    }
+
+    /// A use of a name.
+    fn name(&mut self, name: &str) {
+        let typed = self.uses.typed(self.random, name);
+        self.out.push(typed);
     }
 
     fn register(&mut self, register: u8) {
-        self.out.push(self.read.registers[usize::from(register)].clone());
+        self.name(&self.read.registers[usize::from(register)]);
+    }
+
+    fn declarations(&mut self) {
+        self.word("vars");
+        self.out.extend(self.read.registers.iter().cloned());
+        self.sign(";");
+        if self.read.functions.is_empty() {
+            return;
+        }
+        self.word("funs");
+        for (name, binary) in &self.read.functions {
+            let arity = if *binary { "2" } else { "1" };
+            self.out.extend([name, "/", arity].map(ToString::to_string));
+        }
+        self.sign(";");
     }
 
     fn condition(&mut self, word: &str, condition: &Condition) {
-        self.spell(&[word]);
+        self.word(word);
         self.register(condition.first);
-        self.spell(&[if condition.equal { "=" } else { "!=" }]);
+        self.sign(if condition.equal { "=" } else { "!=" });
         self.register(condition.second);
     }
 
     fn block(&mut self, statements: &[Statement]) {
-        self.spell(&["{"]);
+        self.sign("{");
         self.statements(statements);
-        self.spell(&["}"]);
+        self.sign("}");
     }
 
     fn assignment(&mut self, letter: &Letter) {
         match *letter {
             Letter::Copy { target, source } => {
                 self.register(target);
-                self.spell(&[":="]);
+                self.sign(":=");
                 self.register(source);
             }
             Letter::Apply { target, function, first, second } => {
                 self.register(target);
-                let function = self.read.functions[usize::from(function)].0.clone();
-                self.spell(&[":=", &function, "("]);
+                self.sign(":=");
+                self.name(&self.read.functions[usize::from(function)].0);
+                self.sign("(");
                 self.register(first);
                 if let Some(second) = second {
-                    self.spell(&[","]);
+                    self.sign(",");
                     self.register(second);
                 }
-                self.spell(&[")"]);
+                self.sign(")");
             }
             Letter::Equal { .. } | Letter::Unequal { .. } => unreachable!("no assignment"),
         }
-        self.spell(&[";"]);
+        self.sign(";");
     }
 
     fn statements(&mut self, statements: &[Statement]) {
         for statement in statements {
             match statement {
-                Statement::Skip => self.spell(&["skip", ";"]),
+                Statement::Skip => {
+                    self.word("skip");
+                    self.sign(";");
+                }
                 Statement::Assign(letter) => self.assignment(letter),
                 Statement::Assume(condition) => {
                     self.condition("assume", condition);
-                    self.spell(&[";"]);
+                    self.sign(";");
                 }
                 Statement::Assert(condition) => {
                     self.condition("assert", condition);
-                    self.spell(&[";"]);
+                    self.sign(";");
                 }
                 Statement::If(condition, yes, no) => {
                     self.condition("if", condition);
                     self.block(yes);
                     if !no.is_empty() || self.random.once_in(4) {
-                        self.spell(&["else"]);
+                        self.word("else");
                         self.block(no);
                     }
                 }
@@ -308,7 +338,7 @@ impl Speller<'_> {
 pub fn lay_out(random: &mut Random, tokens: &[String]) -> Vec<u8> {
     let mut text: Vec<u8> = Vec::new();
     for token in tokens {
-        let runs_on = |byte: u8| byte.is_ascii_lowercase() || byte.is_ascii_digit() || byte == b'_';
+        let runs_on = |byte: u8| byte.is_ascii_alphanumeric() || byte == b'_';
         let name_before = text.last().is_some_and(|&byte| runs_on(byte));
         let together = name_before && token.bytes().next().is_some_and(runs_on);
         if together || random.once_in(3) {
@@ -345,7 +375,7 @@ fn random_comment(random: &mut Random) -> Vec<u8> {
     comment
 }
 
-/// The text of a macro in a random layout.
+/// The text of a macro in a random layout and spelling.
 pub fn macro_text(random: &mut Random, read: &Macro) -> Vec<u8> {
     let tokens = tokens(random, read);
     lay_out(random, &tokens)

@@ -1,8 +1,10 @@
 //! Inputs for the tests and benchmarks: random and damaged traces and macros from a seed,
 //! and traces that reach all windows.
 
+pub mod capitals;
 pub mod damaged_macros;
 pub mod macros;
 pub mod random;
+pub mod spread;
 pub mod traces;
 pub mod windows;

@@ -1,11 +1,12 @@
-//! The oracle: traces, windows, models, macros and verdicts, written from document 01 and
-//! the paper's definitions alone, plainly and slowly, to test the proved code against. It
+//! The oracle: traces, windows, models, macros and verdicts, written from documents 01 and 02
+//! and the paper's definitions alone, plainly and slowly, to test the proved code against. It
 //! uses nothing outside this folder.
 
 pub mod closure;
 pub mod enumeration;
 pub mod execution;
 pub mod letter;
+pub mod listing;
 pub mod model;
 pub mod monitor;
 pub mod reader;

@@ -4,7 +4,7 @@
 use super::letter::{Letter, MAX_FUNCTIONS, MAX_REGISTERS};
 use super::refusal::Refusal;
 use super::syntax::{Condition, Macro, Statement};
-use super::token::{Placed, Token, Word, token_at};
+use super::token::{Placed, Token, Word, is_same_name, token_at};
 
 /// "A macro has at most 4,096 bytes and 256 points."
 pub const MAX_TEXT: usize = 4096;
@@ -13,7 +13,7 @@ pub const MAX_POINTS: usize = 256;
 /// "Braces nest at most 16 deep."
 pub const MAX_DEPTH: usize = 16;
 
-/// The text, how far it is read, and the names declared so far.
+/// The text, how far it is read, and the names declared so far, as they were declared.
 struct Reader<'a> {
     text: &'a [u8],
     at: usize,
@@ -74,8 +74,7 @@ impl Reader<'_> {
     }
 
     fn is_declared(&self, name: &str) -> bool {
-        self.registers.iter().any(|known| known == name)
-            || self.functions.iter().any(|(known, _)| known == name)
+        self.find_register(name).is_some() || self.find_function(name).is_some()
     }
 
     /// Names of registers, at least one, up to the `;`.
@@ -194,11 +193,11 @@ impl Reader<'_> {
     }
 
     fn find_register(&self, name: &str) -> Option<u8> {
-        self.registers.iter().position(|known| known == name).map(|index| index as u8)
+        self.registers.iter().position(|known| is_same_name(known, name)).map(|index| index as u8)
     }
 
     fn find_function(&self, name: &str) -> Option<u8> {
-        self.functions.iter().position(|(known, _)| known == name).map(|index| index as u8)
+        self.functions.iter().position(|(known, _)| is_same_name(known, name)).map(|index| index as u8)
     }
 
     /// A copy or an application: "after `:=` a name is a function if the next

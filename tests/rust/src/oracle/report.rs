@@ -1,4 +1,4 @@
-//! The lines that the programs print.
+//! The lines that the programs print. "Lines print a name as it was declared" (document 02).
 
 use std::fmt::Write;
 
@@ -8,7 +8,7 @@ use super::monitor::{Judgement, monitor};
 use super::reader::read_macro;
 use super::refusal::Refusal;
 use super::syntax::Macro;
-use super::verdict::{Answer, Event, verdict};
+use super::verdict::{Answer, verdict};
 
 /// The verdict program has "a table of 65,536 bytes".
 pub const PROGRAM_TABLE: usize = 65_536;
@@ -35,12 +35,7 @@ pub fn letter_text(read: &Macro, letter: &Letter) -> String {
 
 /// The lines of a verdict (document 01, "The verdict program").
 pub fn verdict_lines(answer: &Answer) -> String {
-    let word = match &answer.verdict.event {
-        None => "pass",
-        Some(Event::Fail(_)) => "fail",
-        Some(Event::Incoherent(_)) => "incoherent",
-    };
-    let mut out = format!("verdict {word}\npairs {}\n", answer.verdict.pairs);
+    let mut out = format!("verdict {}\npairs {}\n", answer.verdict.word(), answer.verdict.pairs);
     if let Some(event) = &answer.verdict.event {
         out += &format!("letters {}\n", event.letters().len());
         for letter in event.letters() {

@@ -47,9 +47,9 @@ pub enum Statement {
 /// A macro: its declarations and statements.
 #[derive(Clone, Debug, PartialEq, Eq)]
 pub struct Macro {
-    /// The names of the registers.
+    /// The names of the registers, as they were declared.
     pub registers: Vec<String>,
-    /// The names of the functions and whether they take two arguments.
+    /// The names of the functions, as they were declared, and whether they take two arguments.
     pub functions: Vec<(String, bool)>,
     /// The statements.
     pub statements: Vec<Statement>,

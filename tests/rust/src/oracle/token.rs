@@ -1,4 +1,5 @@
-//! The tokens of macro text (document 01, "Macro text", and question 8).
+//! The tokens of macro text (document 01, "Macro text", and question 8; document 02,
+//! "Capitals in names").
 
 use super::refusal::Refusal;
 
@@ -29,7 +30,7 @@ pub enum Word {
 /// A token, or the end of the text.
 #[derive(Clone, Debug, PartialEq, Eq, Hash)]
 pub enum Token {
-    /// A lower-case letter and up to seven more letters, digits or `_`.
+    /// A letter and up to seven more letters, digits or `_`, as it is spelt.
     Name(String),
     /// A word that is not a name.
     Word(Word),
@@ -83,6 +84,11 @@ const WORDS: [(&str, Word); 8] = [
     ("while", Word::While),
 ];
 
+/// "Names and words are equal whatever the case of their letters."
+pub fn is_same_name(left: &str, right: &str) -> bool {
+    left.eq_ignore_ascii_case(right)
+}
+
 /// The first byte at or behind `from` that is neither blank nor in a comment.
 fn skip_blanks(text: &[u8], from: usize) -> usize {
     let mut at = from;
@@ -107,7 +113,7 @@ pub fn token_at(text: &[u8], from: usize) -> Result<Placed, Refusal> {
     };
     let followed = text.get(start + 1) == Some(&b'=');
     let (token, length) = match byte {
-        b'a'..=b'z' => word_or_name(&text[start..]).ok_or(Refusal::at(8, start))?,
+        b'A'..=b'Z' | b'a'..=b'z' => word_or_name(&text[start..]).ok_or(Refusal::at(8, start))?,
         b'1' => (Token::One, 1),
         b'2' => (Token::Two, 1),
         b':' if followed => (Token::Becomes, 2),
@@ -128,12 +134,12 @@ pub fn token_at(text: &[u8], from: usize) -> Result<Placed, Refusal> {
 /// The word or name that the text begins with, and its length; none if the run
 /// of letters, digits and `_` is longer than a name.
 fn word_or_name(text: &[u8]) -> Option<(Token, usize)> {
-    let in_name = |byte: &&u8| byte.is_ascii_lowercase() || byte.is_ascii_digit() || **byte == b'_';
+    let in_name = |byte: &&u8| byte.is_ascii_alphanumeric() || **byte == b'_';
     let run: String = text.iter().take_while(in_name).map(|&byte| char::from(byte)).collect();
     let length = run.len();
     if length > MAX_NAME {
         return None;
     }
-    let word = WORDS.iter().find(|(spelling, _)| *spelling == run);
+    let word = WORDS.iter().find(|(spelling, _)| is_same_name(spelling, &run));
     Some((word.map_or(Token::Name(run), |(_, word)| Token::Word(*word)), length))
 }

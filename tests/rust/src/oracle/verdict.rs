@@ -45,6 +45,17 @@ pub struct Verdict {
     pub pairs: usize,
 }
 
+impl Verdict {
+    /// The verdict's word: pass, fail or incoherent.
+    pub fn word(&self) -> &'static str {
+        match self.event {
+            None => "pass",
+            Some(Event::Fail(_)) => "fail",
+            Some(Event::Incoherent(_)) => "incoherent",
+        }
+    }
+}
+
 /// The verdict with what the answer holds besides.
 #[derive(Clone, Debug, PartialEq, Eq)]
 pub struct Answer {

@@ -1,5 +1,6 @@
 //! `fadzgime_read`.
 
+use fadzgime_tests::answers::CAPITALS;
 use fadzgime_tests::generators::damaged_macros::damaged_text;
 use fadzgime_tests::generators::macros::{macro_text, random_macro};
 use fadzgime_tests::generators::random::{Random, cases};
@@ -46,20 +47,33 @@ fn damaged() {
     }
 }
 
-/// Every beginning of a macro, and every byte of it replaced by every byte.
+/// Every beginning of a macro, and every byte of it replaced by every byte: without capitals and with them.
 #[test]
 fn beginnings_and_bytes() {
-    let text =
+    let plain =
         b"vars a b;funs f/1 g/2;if a=b{a:=f(b);}else{b:=g(a,b);}while a!=b{assume a=b;}assert b=a;skip;#e";
-    for length in 0..=text.len() {
-        check(&text[..length]);
-    }
-    for place in 0..text.len() {
-        for byte in 0..=u8::MAX {
-            let mut changed = text.to_vec();
-            changed[place] = byte;
-            check(&changed);
+    let capitals =
+        b"VARS Aa b;Funs F/1 gG/2;IF aA=B{AA:=f(b);}Else{b:=GG(aa,B);}whilE AA!=b{ASSUME aA=b;}asserT b=AA;sKIP;#E";
+    for text in [plain.as_slice(), capitals] {
+        assert!(read_macro(text).is_ok());
+        for length in 0..=text.len() {
+            check(&text[..length]);
         }
+        for place in 0..text.len() {
+            for byte in 0..=u8::MAX {
+                let mut changed = text.to_vec();
+                changed[place] = byte;
+                check(&changed);
+            }
+        }
+    }
+}
+
+/// Texts with capitals whose answers are settled.
+#[test]
+fn capitals() {
+    for (text, _) in CAPITALS {
+        check(text.as_bytes());
     }
 }
 

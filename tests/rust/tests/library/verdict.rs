@@ -1,11 +1,11 @@
 //! `fadzgime_verdict`.
 
-use std::collections::BTreeMap;
-
+use fadzgime_tests::answers::CAPITALS;
 use fadzgime_tests::examples::example_macros;
 use fadzgime_tests::generators::damaged_macros::damaged_text;
 use fadzgime_tests::generators::macros::{macro_text, random_macro};
 use fadzgime_tests::generators::random::{Random, cases};
+use fadzgime_tests::generators::spread::Spread;
 use fadzgime_tests::oracle::enumeration::{Enumerated, enumerate};
 use fadzgime_tests::oracle::reader::read_macro;
 use fadzgime_tests::oracle::refusal::Refusal;
@@ -121,31 +121,43 @@ fn random_text(random: &mut Random, points: usize) -> Vec<u8> {
 
 #[test]
 fn random_macros() {
-    let mut spread: BTreeMap<String, usize> = BTreeMap::new();
+    let mut spread = Spread::default();
     for seed in 0..cases(20_000) {
         let random = &mut Random::new(seed);
         let points = *random.pick(&[8, 24, 60]);
         let text = random_text(random, points);
-        *spread.entry(outcome(check_with_sizes(random, &text))).or_default() += 1;
+        spread.add(&outcome(check_with_sizes(random, &text)), &text);
     }
     println!("random macros: {spread:?}");
     let wanted = ["pass", "fail", "incoherent", "refused 6", "refused 14"];
-    let often = |word: &&str| spread.get(*word).is_some_and(|&count| count >= 200);
+    let often = |word: &&str| spread.is_often(word, 200);
     assert!(wanted.iter().all(often) || cases(10) < 10, "{spread:?}");
 }
 
 #[test]
 fn damaged_macros() {
-    let mut spread: BTreeMap<String, usize> = BTreeMap::new();
+    let mut spread = Spread::default();
     for seed in 0..cases(10_000) {
         let random = &mut Random::new(seed);
         let text = damaged_text(random);
         let table = *random.pick(&[0, 191, 192, 2_000]);
-        *spread.entry(outcome(check(&text, table, 100))).or_default() += 1;
+        spread.add(&outcome(check(&text, table, 100)), &text);
     }
     println!("damaged macros: {spread:?}");
-    let often = |number: u8| spread.get(&format!("refused {number}")).is_some_and(|&count| count >= 50);
+    let often = |number: u8| spread.is_often(&format!("refused {number}"), 100);
     assert!((7..=14).all(often) || cases(10) < 10, "{spread:?}");
+}
+
+/// Texts with capitals whose answers are settled, with every table of up to two pairs and every output that is short.
+#[test]
+fn capitals() {
+    for (text, _) in CAPITALS {
+        for table in [0, 191, 192, 383, 384, 65_536] {
+            for room in 0..40 {
+                check(text.as_bytes(), table, room);
+            }
+        }
+    }
 }
 
 /// Plain enumeration of executions, no two of them merged, up to a bound.

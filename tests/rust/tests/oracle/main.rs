@@ -1,13 +1,16 @@
 //! Tests of the oracle itself: document 01's examples, its settled readings, and
 //! one definition against another.
 
+mod capitals;
 mod examples;
 mod fast;
+mod grammar;
 mod models;
 mod packing;
 mod reader;
 mod search;
 mod spread;
+mod stored;
 mod windows;
 
 use fadzgime_tests::oracle::reader::read_macro;

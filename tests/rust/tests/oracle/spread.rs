@@ -5,12 +5,15 @@ use std::collections::BTreeMap;
 use fadzgime_tests::generators::damaged_macros::damaged_text;
 use fadzgime_tests::generators::macros::{DEEPEST, macro_text, random_macro};
 use fadzgime_tests::generators::random::Random;
+use fadzgime_tests::generators::spread::Spread;
 use fadzgime_tests::generators::traces::{any_trace, damage_trace};
 use fadzgime_tests::oracle::model::show_model;
 use fadzgime_tests::oracle::monitor::judge;
 use fadzgime_tests::oracle::reader::read_macro;
-use fadzgime_tests::oracle::syntax::Statement;
-use fadzgime_tests::oracle::verdict::{Event, verdict};
+use fadzgime_tests::oracle::refusal::Refusal;
+use fadzgime_tests::oracle::syntax::{Macro, Statement};
+use fadzgime_tests::oracle::token::{Placed, Token, is_same_name, token_at};
+use fadzgime_tests::oracle::verdict::verdict;
 
 #[test]
 fn traces() {
@@ -42,43 +45,86 @@ fn nesting(statements: &[Statement]) -> usize {
     statements.iter().map(inner).max().unwrap_or(0)
 }
 
+/// The names in a text, one after the other, up to its end or to what is no token.
+fn names(text: &[u8]) -> Vec<String> {
+    let mut names = Vec::new();
+    let mut at = 0;
+    while let Ok(Placed { token, end, .. }) = token_at(text, at) {
+        match token {
+            Token::End => break,
+            Token::Name(name) => names.push(name),
+            _ => {}
+        }
+        at = end;
+    }
+    names
+}
+
+/// Is a name used in another spelling than it was declared in?
+fn is_respelt(text: &[u8], read: &Macro) -> bool {
+    let functions = read.functions.iter().map(|(name, _)| name);
+    let declared: Vec<&String> = read.registers.iter().chain(functions).collect();
+    names(text).iter().any(|name| !declared.contains(&name))
+}
+
 #[test]
 fn macros() {
-    let mut counts: BTreeMap<&str, usize> = BTreeMap::new();
-    let (mut pairs, mut deep, mut deepest) = (0, 0, 0);
+    let mut spread = Spread::default();
+    let (mut pairs, mut deep, mut deepest, mut respelt) = (0, 0, 0, 0);
     for seed in 0..1_000 {
         let random = &mut Random::new(seed);
         let read = random_macro(random, 60);
         deep += usize::from(nesting(&read.statements) > 8);
         deepest = deepest.max(nesting(&read.statements));
         let text = macro_text(random, &read);
+        respelt += usize::from(is_respelt(&text, &read));
         let table = *random.pick(&[1_000, 4_000, 65_536]);
         let word = match verdict(&text, table, usize::MAX) {
             Err(_) => "full",
             Ok(answer) => {
                 pairs += answer.verdict.pairs;
-                match answer.verdict.event {
-                    None => "pass",
-                    Some(Event::Fail(_)) => "fail",
-                    Some(Event::Incoherent(_)) => "incoherent",
-                }
+                answer.verdict.word()
             }
         };
-        *counts.entry(word).or_default() += 1;
+        spread.add(word, &text);
     }
-    println!("{counts:?} {pairs} pairs; {deep} nested more than 8 deep, at most {deepest}");
-    assert!(counts.len() == 4 && counts.values().all(|&count| count > 10));
-    assert!(deep > 20 && deepest == DEEPEST);
+    println!(
+        "{spread:?} {pairs} pairs; {deep} nested more than 8 deep, at most {deepest}; {respelt} with uses respelt"
+    );
+    assert!(["pass", "fail", "incoherent", "full"].iter().all(|word| spread.is_often(word, 50)));
+    assert!(deep > 20 && deepest == DEEPEST && respelt > 200);
+}
+
+/// What a refusal has to do with capitals, if it has.
+fn about_capitals(text: &[u8], refusal: &Refusal) -> Option<&'static str> {
+    let rest = &text[refusal.place..];
+    let in_name = |byte: &u8| byte.is_ascii_alphanumeric() || *byte == b'_';
+    let run: String = rest.iter().copied().take_while(in_name).map(char::from).collect();
+    let capital = run.contains(|letter: char| letter.is_ascii_uppercase());
+    let before = names(&text[..refusal.place]);
+    let declared = before.iter().any(|known| is_same_name(known, &run));
+    match refusal.number {
+        8 if b"[]@`\x11\x12\x1d".contains(&rest[0]) => Some("a neighbour by one bit"),
+        8 if capital => Some("a long run with a capital"),
+        9 if capital => Some("a word or name with a capital that does not fit"),
+        10 if declared && !before.contains(&run) => Some("declared in two spellings"),
+        _ => None,
+    }
 }
 
 #[test]
 fn damaged_macros() {
-    let mut counts: BTreeMap<u8, usize> = BTreeMap::new();
+    let mut spread = Spread::default();
+    let mut about: BTreeMap<&str, usize> = BTreeMap::new();
     for seed in 0..5_000 {
         let text = damaged_text(&mut Random::new(seed));
-        let number = read_macro(&text).map_or_else(|refusal| refusal.number, |_| 0);
-        *counts.entry(number).or_default() += 1;
+        let read = read_macro(&text);
+        spread.add(&read.as_ref().map_or_else(|refusal| refusal.number, |_| 0).to_string(), &text);
+        if let Some(kind) = read.err().and_then(|refusal| about_capitals(&text, &refusal)) {
+            *about.entry(kind).or_default() += 1;
+        }
     }
-    println!("{counts:?}");
-    assert!([0, 7, 8, 9, 10, 11, 12, 13].iter().all(|number| counts.get(number).is_some_and(|&c| c > 20)));
+    println!("{spread:?}; {about:?}");
+    assert!(["0", "7", "8", "9", "10", "11", "12", "13"].iter().all(|number| spread.is_often(number, 40)));
+    assert!(about.len() == 4 && about.values().all(|&count| count > 30));
 }

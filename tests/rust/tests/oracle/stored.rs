@@ -1,0 +1,37 @@
+//! The stored runs of `verdict_runs` and `reader_runs`: each expected output is the oracle's.
+
+use std::fs;
+use std::path::{Path, PathBuf};
+
+use fadzgime_tests::oracle::listing::print_points;
+use fadzgime_tests::oracle::report::print_verdict;
+
+/// The inputs of a program by name, in the order in which it is given them.
+fn inputs(folder: &Path) -> Vec<(String, Vec<u8>)> {
+    let names = fs::read_to_string(folder.join("args")).expect("the arguments");
+    let input = |name: &str| fs::read(folder.join("data").join(name)).expect("an input");
+    names.lines().map(|name| (name.to_string(), input(name))).collect()
+}
+
+/// Compares what is stored for a program with what it has to print for each of its inputs, all of which it is given.
+fn check(program: &str, printed: fn(&str, &[u8]) -> String) {
+    let folder: PathBuf = Path::new(env!("CARGO_MANIFEST_DIR")).join("../../crates").join(program);
+    let inputs = inputs(&folder);
+    assert_eq!(fs::read_dir(folder.join("data")).expect("the inputs").count(), inputs.len());
+    let expected: String = inputs.iter().map(|(name, input)| printed(name, input)).collect();
+    let stored = fs::read_to_string(folder.join("stdout")).expect("the stored output");
+    for (stored, expected) in stored.lines().zip(expected.lines()) {
+        assert_eq!(stored, expected, "{program}");
+    }
+    assert_eq!(stored, expected, "{program}");
+}
+
+#[test]
+fn verdict_runs() {
+    check("verdict_runs", |name, input| format!("{name}:\n{}", print_verdict(input)));
+}
+
+#[test]
+fn reader_runs() {
+    check("reader_runs", |name, input| format!("{name}: {}", print_points(input)));
+}
