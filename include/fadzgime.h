@@ -18,13 +18,15 @@
  *      fadzgime_monitor_step
  *    5 more than 1,024 letters    6 `out` is too short
  *    7 a text of more than 4,096 bytes    8 no token    9 not the grammar
- *   10 a wrong declaration    11 a wrong use of a name    12 braces more than 16 deep;
+ *   10 a wrong declaration: too many names, or one name twice, in whatever case
+ *   11 a wrong use of a name    12 braces more than 16 deep;
  *      place of 8 to 12: the byte of the text, from 0
  *   13 more than 256 points    14 more pairs than `table` has room for
  * The bits of a word and of a packed model: docs/SPEC.md, 2 and 7.4. Registers and
- * functions of a macro are numbered from 0 in the order of their declarations.
+ * functions of a macro are numbered from 0 in the order of their declarations. Answers
+ * hold no names, so that the case of letters never shows in them.
  *
- * Stack: at most 33 KB a call (fadzgime_verdict; read 22 KB, model 17 KB, the others
+ * Stack: at most 35 KB a call (fadzgime_verdict; read 25 KB, model 17 KB, the others
  * at most 7 KB), whatever the input; tested on a thread of 128 KB. Nothing is allocated
  * or kept between calls, so calls on several threads do not disturb each other.
  */
@@ -181,7 +183,8 @@ void fadzgime_model(const uint8_t *trace, size_t trace_length,
                     uint64_t *answer, size_t answer_length);
 
 /*
- * Reads a macro.
+ * Reads a macro: docs/SPEC.md, 8. Names and words are equal whatever the case of their
+ * letters.
  * answer[0] refusal (7 to 13), [1] place, [2] registers, [3] functions,
  * [4] points.
  */
@@ -202,9 +205,9 @@ void fadzgime_read(const uint8_t *text, size_t text_length,
  * _INCOHERENT), [3] pairs, [4] letters of the execution that shows it (0 on pass).
  *
  * `table` is room for the search, FADZGIME_PAIR_BYTES a pair, at most
- * FADZGIME_MOST_PAIRS of them; more bytes are not needed, fewer may give 14. What it holds before does not matter. After a
- * search, whatever it finds, every byte of it is zero; a refusal 7 to 13 leaves it
- * untouched.
+ * FADZGIME_MOST_PAIRS of them; more bytes are not needed, fewer may give 14. What it
+ * holds before does not matter. After a search, whatever it finds, every byte of it is
+ * zero; a refusal 7 to 13 leaves it untouched.
  *
  * `out` gets the execution as a packed trace of 2 + 2 * answer[4] bytes, and on fail
  * its packed model after it, of 4 + 2 * registers + 5 * rows bytes; the bytes behind
