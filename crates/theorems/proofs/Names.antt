@@ -31,7 +31,7 @@ use Rattle.theorems.proofs.Steps.LowerCaseTokens.{other-alone}
 use Rattle.theorems.proofs.Steps.LowerCase.{accepted-lower, accepted-lifted, refusal-lower, refusal-lifted}
 use Rattle.theorems.proofs.Steps.DeclaredBytes.{register-by, function-by}
 use Rattle.theorems.proofs.Steps.LowerCaseLines.{verdict-lower, verdict-lifted, said-lower}
-use Rattle.theorems.proofs.Steps.WithoutCapitals.{original-token}
+use Rattle.theorems.proofs.Steps.WithoutCapitals.{no-capitals, original-token}
 use Rattle.theorems.proofs.Steps.ByTokens.{refused-before, refused-still, accepted-before, accepted-still}
 use Rattle.theorems.proofs.Steps.DeclaresBoth.{refused-by-8-before}
 
@@ -118,6 +118,11 @@ pub printed-as-Xx : bytesAt usedOtherwise (placeOf usedOtherwise (registerToken 
 unfolding usedOtherwise tokenAt width nameLength gap
 printed-as-Xx = refl
 
+pub not-printed-as-used : (known spelled : ℕ) → DeclaredBy usedOtherwise (registerToken 0) known spelled (120 ∷ 88 ∷ []) → ⊥
+not-printed-as-used known spelled D =
+    let used : _≡_ {A = List ℕ} (120 ∷ 88 ∷ []) (88 ∷ 120 ∷ []) = D .printed-is ∙ printed-as-Xx in
+    let z : _≡_ {A = ℕ} 120 88 = cc in omega arith
+
 -- "Everything that looks up a name reads the new rule,"
 -- A text is refused as the same text in lower case is, by the same number and at the same place;
 pub refused-in-lower-case : (s : List ℕ) (n p : ℕ) → Refusal s n p ↔ Refusal (lowerCase s) n p
@@ -150,7 +155,15 @@ unfolding readMacro readText tokenAt gap width nameLength registerNames indexOf 
     argumentsT sizeStatement
 IF-is-a-word = refused-refusal _ grammarViolated 5 refl
 
--- A text without capitals is read as before. It has the tokens that document 01 alone gives it,
+-- A text without capitals, as `vars x;` is and `vars cap CAP;` is not,
+pub small-letters : WithoutCapitals (118 ∷ 97 ∷ 114 ∷ 115 ∷ 32 ∷ 120 ∷ 59 ∷ [])
+small-letters = no-capitals (118 ∷ 97 ∷ 114 ∷ 115 ∷ 32 ∷ 120 ∷ 59 ∷ []) refl
+
+pub capitals-too : WithoutCapitals declaresBoth → ⊥
+unfolding declaresBoth
+capitals-too h = let e : true ≡ false = h 9 (omega arith) in let z : _≡_ {A = ℕ} 0 1 = cc in omega arith
+
+-- is read as before. It has the tokens that document 01 alone gives it,
 pub tokens-without-capitals : (s : List ℕ) → WithoutCapitals s → (at : ℕ) → tokenAt s at ≡ originalTokenAt s at
 tokens-without-capitals = original-token
 

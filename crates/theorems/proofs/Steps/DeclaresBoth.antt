@@ -1,24 +1,21 @@
 -- `vars cap CAP;` before request 1: its tokens, one after the other, are those of `vars cap @@@;`, which has no capitals.
 use mathlib.Core.Path.{_≡_, refl, sym, ap, _∙_}
-use Prim.Native.Nat.{ℕ, zero, suc, _+_}
+use Prim.Native.Nat.{ℕ, zero, suc}
 use native.Mathlib.Omega.{arith}
-use mathlib.Core.Bool.{false}
 use mathlib.Core.List.{List, [], _∷_}
-use lib.ListN.{length, getD}
-use Rattle.base.proofs.Theory.Choice.{byTest}
+use lib.ListN.{length}
 use Rattle.letters.specs.MacroRefusalNumbers.{tokenMalformed}
 use Rattle.macros.specs.Points.{sizeStatement}
-use Rattle.tokens.specs.Bytes.{capital, lowered, lowerCase, gap, nameLength, width}
+use Rattle.tokens.specs.Bytes.{gap, nameLength, width}
 use Rattle.tokens.specs.Words as word
 use Rattle.tokens.specs.Tokens.{token, tokenAt}
 use Rattle.tokens.specs.declared.Token.{Token}
-use Rattle.tokens.proofs.Theory.BytesLaws.{lowered-at}
 use Rattle.grammar.specs.Reading.{indexOf, condition, endedCondition, argumentsT, rightHandSide, assignment, block, registerNames, arityOf, functionEntries}
 use Rattle.grammar.proofs.Theory.Reading.{readText, readMacro}
 use Rattle.refusals.specs.Order.{Refusal}
 use Rattle.refusals.proofs.Theory.Order.{refused-refusal}
-use Rattle.theorems.specs.LowerCase.{WithoutCapitals}
 use Rattle.theorems.specs.Original.{originalNameLength, originalWidth, originalTokenAt, placeBy, FirstNoBy, RefusalBy, OriginalRefusal}
+use Rattle.theorems.proofs.Steps.WithoutCapitals.{no-capitals}
 use Rattle.theorems.proofs.Steps.ByTokens.{refused-before, first-same}
 
 abbrev pub declaresBoth : List ℕ
@@ -26,12 +23,6 @@ declaresBoth = 118 ∷ 97 ∷ 114 ∷ 115 ∷ 32 ∷ 99 ∷ 97 ∷ 112 ∷ 32 �
 
 abbrev plain : List ℕ
 plain = 118 ∷ 97 ∷ 114 ∷ 115 ∷ 32 ∷ 99 ∷ 97 ∷ 112 ∷ 32 ∷ 64 ∷ 64 ∷ 64 ∷ 59 ∷ []
-
--- a text that is in lower case has no capitals
-no-capitals : (s : List ℕ) → lowerCase s ≡ s → WithoutCapitals s
-no-capitals s e i l =
-    let same : lowered (getD s i 0) ≡ getD s i 0 = sym (lowered-at s i) ∙ ap (λ t. getD t i 0) e in
-    byTest (capital (getD s i 0)) (λ t. let more : lowered (getD s i 0) ≡ getD s i 0 + 32 = rw t in absurd (omega (arith, same, more))) λ t. t
 
 plain-refused : Refusal plain tokenMalformed 9
 unfolding readMacro readText tokenAt gap width nameLength registerNames indexOf functionEntries arityOf block condition endedCondition assignment rightHandSide

@@ -8,9 +8,10 @@ use lib.Dec.{leb, eqb}
 use lib.ListN.{getD, drop}
 use lib.Seq.{slice}
 use Rattle.base.specs.Choice.{pick}
-use Rattle.tokens.specs.Bytes.{lower, lowered, lowerCase, digit, symbol, mark, gap, nameLength, longestName, width}
+use Rattle.base.proofs.Theory.Choice.{byTest}
+use Rattle.tokens.specs.Bytes.{lower, capital, lowered, lowerCase, digit, symbol, mark, gap, nameLength, longestName, width}
 use Rattle.tokens.specs.Tokens.{tokenAt}
-use Rattle.tokens.proofs.Theory.BytesLaws.{lower-drop, lower-slice}
+use Rattle.tokens.proofs.Theory.BytesLaws.{lowered-at, lower-drop, lower-slice}
 use Rattle.grammar.specs.Grammar.{Macro}
 use Rattle.refusals.specs.Accepted.{Accepted}
 use Rattle.refusals.proofs.Theory.Accepted.{accepted-once}
@@ -25,6 +26,12 @@ without-capitals (b ∷ s) h = λ i. plain i ∷ without-capitals s (λ j l. h (
   where
     plain : lowered b ≡ b
     plain = rw (h 0 (omega arith))
+
+-- And a text that is in lower case has no capitals.
+pub no-capitals : (s : List ℕ) → lowerCase s ≡ s → WithoutCapitals s
+no-capitals s e i l =
+    let same : lowered (getD s i 0) ≡ getD s i 0 = sym (lowered-at s i) ∙ ap (λ t. getD t i 0) e in
+    byTest (capital (getD s i 0)) (λ t. let more : lowered (getD s i 0) ≡ getD s i 0 + 32 = rw t in absurd (omega (arith, same, more))) λ t. t
 
 original-run : (s : List ℕ) → lowerCase s ≡ s → nameLength s ≡ originalNameLength s
 unfolding nameLength originalNameLength
