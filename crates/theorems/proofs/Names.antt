@@ -31,8 +31,7 @@ use Rattle.theorems.proofs.Steps.LowerCaseTokens.{other-alone}
 use Rattle.theorems.proofs.Steps.LowerCase.{accepted-lower, accepted-lifted, refusal-lower, refusal-lifted}
 use Rattle.theorems.proofs.Steps.DeclaredBytes.{register-by, function-by}
 use Rattle.theorems.proofs.Steps.LowerCaseLines.{verdict-lower, verdict-lifted, said-lower}
-use Rattle.theorems.proofs.Steps.WithoutCapitals.{no-capitals, original-token}
-use Rattle.theorems.proofs.Steps.ByTokens.{refused-before, refused-still, accepted-before, accepted-still}
+use Rattle.theorems.proofs.Steps.WithoutCapitals.{no-capitals, original-token, refused-before, refused-still, accepted-before, accepted-still}
 use Rattle.theorems.proofs.Steps.DeclaresBoth.{refused-by-8-before}
 
 -- "Names and words are equal whatever the case of their letters,"

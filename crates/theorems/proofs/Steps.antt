@@ -2,10 +2,10 @@
 pub mod Traces
 pub mod Events
 pub mod Lines
+pub mod ByTokens
 pub mod LowerCaseTokens
 pub mod LowerCase
 pub mod LowerCaseLines
 pub mod DeclaredBytes
 pub mod WithoutCapitals
-pub mod ByTokens
 pub mod DeclaresBoth

@@ -1,4 +1,4 @@
--- What a text is refused by, or accepted as, is settled by its length and its tokens. So a text without capitals is read as before request 1.
+-- What a text is refused by, or accepted as, is settled by its length and its tokens.
 use mathlib.Core.Path.{_≡_, refl, sym, ap, subst, _∙_}
 use Prim.Native.Nat.{ℕ, zero, suc}
 use mathlib.Core.List.{List, [], _∷_, _++_}
@@ -11,20 +11,31 @@ use Rattle.refusals.specs.FirstNo.{keyOf, tokensBefore, NoAt, FirstNo}
 use Rattle.refusals.specs.Questions.{No}
 use Rattle.refusals.specs.Order.{Refusal}
 use Rattle.refusals.specs.Accepted.{Accepted}
-use Rattle.theorems.specs.LowerCase.{spelledAs, inLowerCase, WithoutCapitals}
-use Rattle.theorems.specs.Original.{originalTokenAt, placeBy, keyBy, tokensBy, NoBy, FirstNoBy, SpellsBy, SpelledBy, RefusalBy, AcceptedBy}
-use Rattle.theorems.specs.Original.{OriginalRefusal, OriginalAccepted}
-use Rattle.theorems.proofs.Steps.LowerCase.{order-respelled}
-use Rattle.theorems.proofs.Steps.WithoutCapitals.{original-token, original-spellings}
+use Rattle.theorems.specs.LowerCase.{spelledAs}
+use Rattle.theorems.specs.Original.{placeBy, keyBy, tokensBy, NoBy, FirstNoBy, SpellsBy, SpelledBy, RefusalBy, AcceptedBy}
+
+-- no question of order looks at spellings
+pub order-respelled : (rs fs : List ℕ) (m : Macro) → InOrder m → InOrder (spelledAs rs fs m)
+order-respelled rs fs m O = record {
+  registers = O .registers;
+  some = O .some;
+  few = O .few;
+  functions = O .functions;
+  apart = O .apart;
+  arities = O .arities;
+  fewer = O .fewer;
+  uses = O .uses;
+  depth = O .depth;
+}
 
 -- ---- the reading of a text, by its tokens
 
 module _ (s : List ℕ) where
-  place-by : (i : ℕ) → placeOf s i ≡ placeBy (length s) (tokenAt s) i
+  pub place-by : (i : ℕ) → placeOf s i ≡ placeBy (length s) (tokenAt s) i
   place-by zero = refl
   place-by (suc i) = ap (λ p. tokenAt s p .end) (place-by i)
 
-  key-by : (i : ℕ) → keyOf s i ≡ keyBy (length s) (tokenAt s) i
+  pub key-by : (i : ℕ) → keyOf s i ≡ keyBy (length s) (tokenAt s) i
   key-by i = ap (λ p. tokenAt s p .key) (place-by i)
 
   before-by : (i : ℕ) → tokensBefore s i ≡ tokensBy (length s) (tokenAt s) i
@@ -40,7 +51,7 @@ module _ (s : List ℕ) where
   from-no : (n i : ℕ) → NoBy (length s) (tokenAt s) n i → NoAt s n i
   from-no n i = subst (λ X. X) (sym (no-by n i))
 
-  first-by : {n p : ℕ} → FirstNo s n p → FirstNoBy (length s) (tokenAt s) n p
+  pub first-by : {n p : ℕ} → FirstNo s n p → FirstNoBy (length s) (tokenAt s) n p
   first-by {n} F = record {
     index = F .index;
     reached = λ j l e. F .reached j l (key-by j ∙ e);
@@ -50,7 +61,7 @@ module _ (s : List ℕ) where
     first = λ m j l x. F .first m j l (from-no m j x);
   }
 
-  by-first : {n p : ℕ} → FirstNoBy (length s) (tokenAt s) n p → FirstNo s n p
+  pub by-first : {n p : ℕ} → FirstNoBy (length s) (tokenAt s) n p → FirstNo s n p
   by-first {n} F = record {
     index = F .index;
     reached = λ j l e. F .reached j l (sym (key-by j) ∙ e);
@@ -88,20 +99,20 @@ module _ (s : List ℕ) where
     functionSpellings = refl;
   }
 
-  refusal-by : {n p : ℕ} → Refusal s n p → RefusalBy (length s) (tokenAt s) n p
+  pub refusal-by : {n p : ℕ} → Refusal s n p → RefusalBy (length s) (tokenAt s) n p
   refusal-by (Refusal.long h) = RefusalBy.long h
   refusal-by (Refusal.token h F) = RefusalBy.atToken h (first-by F)
   refusal-by (Refusal.points m h S O k) = RefusalBy.points m h (spelled-by S) O k
 
-  by-refusal : {n p : ℕ} → RefusalBy (length s) (tokenAt s) n p → Refusal s n p
+  pub by-refusal : {n p : ℕ} → RefusalBy (length s) (tokenAt s) n p → Refusal s n p
   by-refusal (RefusalBy.long h) = Refusal.long h
   by-refusal (RefusalBy.atToken h F) = Refusal.token h (by-first F)
   by-refusal (RefusalBy.points m h S O k) = Refusal.points (respelled m) h (by-spelled m S) (order m O) k
 
-  accepted-by : {m : Macro} → Accepted s m → AcceptedBy (length s) (tokenAt s) m
+  pub accepted-by : {m : Macro} → Accepted s m → AcceptedBy (length s) (tokenAt s) m
   accepted-by A = record { short = A .short; spelled = spelled-by (A .spelled); in-order = A .in-order; few = A .few }
 
-  by-accepted : {m : Macro} → AcceptedBy (length s) (tokenAt s) m → Accepted s (respelled m)
+  pub by-accepted : {m : Macro} → AcceptedBy (length s) (tokenAt s) m → Accepted s (respelled m)
   by-accepted {m} A = record {
     short = A .short;
     spelled = by-spelled m (A .spelled);
@@ -109,41 +120,22 @@ module _ (s : List ℕ) where
     few = A .few;
   }
 
--- ---- a text without capitals
+-- ---- texts whose tokens are known by the same numbers and begin at the same places, one after the other
 
-module _ (s : List ℕ) (h : WithoutCapitals s) where
-  same-tokens : tokenAt s ≡ originalTokenAt s
-  same-tokens = λ i at. original-token s h at i
-
-  pub refused-before : {n p : ℕ} → Refusal s n p → OriginalRefusal s n p
-  refused-before {n} {p} R = subst (λ t. RefusalBy (length s) t n p) same-tokens (refusal-by s R)
-
-  pub refused-still : {n p : ℕ} → OriginalRefusal s n p → Refusal s n p
-  refused-still {n} {p} R = by-refusal s (subst (λ t. RefusalBy (length s) t n p) (sym same-tokens) R)
-
-  pub accepted-before : {m : Macro} → Accepted s m → OriginalAccepted s m × (m ≡ inLowerCase m)
-  accepted-before {m} A = (subst (λ t. AcceptedBy (length s) t m) same-tokens (accepted-by s A), original-spellings s h A)
-
-  pub accepted-still : {m : Macro} → OriginalAccepted s m → m ≡ inLowerCase m → Accepted s m
-  accepted-still {m} A e =
-      let B = by-accepted s (subst (λ t. AcceptedBy (length s) t m) (sym same-tokens) A) in
-      subst (Accepted s) (original-spellings s h B ∙ sym e) B
-
--- ---- texts whose tokens are the same, one after the other
-
-module _ (size : ℕ) (next other : ℕ → Token) (same : (i : ℕ) → next (placeBy size next i) ≡ other (placeBy size other i)) where
-  tokens-same : (i : ℕ) → tokensBy size next i ≡ tokensBy size other i
+module _ (size size′ : ℕ) (next next′ : ℕ → Token) (keys : (i : ℕ) → keyBy size next i ≡ keyBy size′ next′ i)
+    (starts : (i : ℕ) → next (placeBy size next i) .start ≡ next′ (placeBy size′ next′ i) .start) where
+  tokens-same : (i : ℕ) → tokensBy size next i ≡ tokensBy size′ next′ i
   tokens-same zero = refl
-  tokens-same (suc i) = λ j. tokens-same i j ++ same i j .key ∷ []
+  tokens-same (suc i) = λ j. tokens-same i j ++ keys i j ∷ []
 
-  no-same : (n i : ℕ) → NoBy size next n i ≡ NoBy size other n i
-  no-same n i = λ j. No n (tokens-same i j) (same i j .key) (same (suc i) j .key)
+  no-same : (n i : ℕ) → NoBy size next n i ≡ NoBy size′ next′ n i
+  no-same n i = λ j. No n (tokens-same i j) (keys i j) (keys (suc i) j)
 
-  pub first-same : {n p : ℕ} → FirstNoBy size next n p → FirstNoBy size other n p
+  pub first-same : {n p : ℕ} → FirstNoBy size next n p → FirstNoBy size′ next′ n p
   first-same {n} F = record {
     index = F .index;
-    reached = λ j l e. F .reached j l (ap (λ t. t .key) (same j) ∙ e);
-    place = F .place ∙ ap (λ t. t .start) (same (F .index));
+    reached = λ j l e. F .reached j l (keys j ∙ e);
+    place = F .place ∙ starts (F .index);
     no = subst (λ X. X) (no-same n (F .index)) (F .no);
     lowest = λ m l x. F .lowest m l (subst (λ X. X) (sym (no-same m (F .index))) x);
     first = λ m j l x. F .first m j l (subst (λ X. X) (sym (no-same m j)) x);

@@ -3,20 +3,18 @@ use mathlib.Core.Path.{_≡_, refl, sym, ap, _∙_}
 use Prim.Native.Nat.{ℕ, zero, suc}
 use native.Mathlib.Omega.{arith}
 use mathlib.Core.List.{List, [], _∷_}
-use lib.ListN.{length}
 use Rattle.letters.specs.MacroRefusalNumbers.{tokenMalformed}
 use Rattle.macros.specs.Points.{sizeStatement}
 use Rattle.tokens.specs.Bytes.{gap, nameLength, width}
-use Rattle.tokens.specs.Words as word
-use Rattle.tokens.specs.Tokens.{token, tokenAt}
+use Rattle.tokens.specs.Tokens.{tokenAt}
 use Rattle.tokens.specs.declared.Token.{Token}
 use Rattle.grammar.specs.Reading.{indexOf, condition, endedCondition, argumentsT, rightHandSide, assignment, block, registerNames, arityOf, functionEntries}
 use Rattle.grammar.proofs.Theory.Reading.{readText, readMacro}
 use Rattle.refusals.specs.Order.{Refusal}
 use Rattle.refusals.proofs.Theory.Order.{refused-refusal}
 use Rattle.theorems.specs.Original.{originalNameLength, originalWidth, originalTokenAt, placeBy, FirstNoBy, RefusalBy, OriginalRefusal}
-use Rattle.theorems.proofs.Steps.WithoutCapitals.{no-capitals}
-use Rattle.theorems.proofs.Steps.ByTokens.{refused-before, first-same}
+use Rattle.theorems.proofs.Steps.WithoutCapitals.{no-capitals, refused-before}
+use Rattle.theorems.proofs.Steps.ByTokens.{first-same}
 
 abbrev pub declaresBoth : List ℕ
 declaresBoth = 118 ∷ 97 ∷ 114 ∷ 115 ∷ 32 ∷ 99 ∷ 97 ∷ 112 ∷ 32 ∷ 67 ∷ 65 ∷ 80 ∷ 59 ∷ []
@@ -52,4 +50,5 @@ same (suc (suc (suc i))) =
 pub refused-by-8-before : OriginalRefusal declaresBoth tokenMalformed 9
 refused-by-8-before =
     let R = refused-before plain (no-capitals plain refl) plain-refused in
-    RefusalBy.atToken (omega arith) (first-same 13 (originalTokenAt plain) (originalTokenAt declaresBoth) same (first-of R refl))
+    let first = first-same 13 13 (originalTokenAt plain) (originalTokenAt declaresBoth) (λ i. ap (λ t. t .key) (same i)) λ i. ap (λ t. t .start) (same i) in
+    RefusalBy.atToken (omega arith) (first (first-of R refl))

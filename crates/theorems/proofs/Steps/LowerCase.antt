@@ -1,6 +1,6 @@
 -- A text and the same text in lower case are refused alike, or are read as the same macro but for the spellings of its names.
 use mathlib.Core.Path.{_≡_, sym, ap, subst, _∙_}
-use Prim.Native.Nat.{ℕ, suc, _+_, _*_, _≤_}
+use Prim.Native.Nat.{ℕ, _+_, _*_, _≤_}
 use native.Mathlib.Omega.{arith}
 use mathlib.Core.List.{List}
 use lib.ListN.{length, length-map}
@@ -9,28 +9,14 @@ use Rattle.tokens.specs.Tokens.{tokenAt, placeOf}
 use Rattle.grammar.specs.Grammar.{Macro, sentence}
 use Rattle.grammar.specs.Limits.{longestText}
 use Rattle.grammar.specs.Spelled.{Spells, Spelled, InOrder, firstRegister, firstFunction, entryLength}
-use Rattle.refusals.specs.FirstNo.{NoAt, FirstNo}
-use Rattle.refusals.specs.Questions.{No}
+use Rattle.refusals.specs.FirstNo.{FirstNo}
 use Rattle.refusals.specs.Order.{Refusal}
 use Rattle.refusals.specs.Accepted.{Accepted}
 use Rattle.refusals.proofs.Theory.Declared.{register-declared, function-declared}
 use Rattle.refusals.proofs.Theory.Accepted.{Acceptance, Becomes, an-acceptance, accepted-once, refused-once, never-both}
-use Rattle.theorems.specs.LowerCase.{spelledAs, inLowerCase}
-use Rattle.theorems.proofs.Steps.LowerCaseTokens.{key-lower, start-lower, end-lower, behind-lower, keyOf-lower, before-lower, spellings-lower}
-
--- no question of order looks at spellings
-pub order-respelled : (rs fs : List ℕ) (m : Macro) → InOrder m → InOrder (spelledAs rs fs m)
-order-respelled rs fs m O = record {
-  registers = O .registers;
-  some = O .some;
-  few = O .few;
-  functions = O .functions;
-  apart = O .apart;
-  arities = O .arities;
-  fewer = O .fewer;
-  uses = O .uses;
-  depth = O .depth;
-}
+use Rattle.theorems.specs.LowerCase.{inLowerCase}
+use Rattle.theorems.proofs.Steps.LowerCaseTokens.{key-lower, start-lower, end-lower, behind-lower, keyOf-lower, spellings-lower}
+use Rattle.theorems.proofs.Steps.ByTokens.{order-respelled, place-by, key-by, first-by, by-first, first-same}
 
 module _ (s : List ℕ) where
   length-lower : length (lowerCase s) ≡ length s
@@ -67,22 +53,17 @@ module _ (s : List ℕ) where
 
   -- ---- a refusal
 
+  start-of-lower : (i : ℕ) → tokenAt (lowerCase s) (placeOf (lowerCase s) i) .start ≡ tokenAt s (placeOf s i) .start
+  start-of-lower i = start-lower s (placeOf (lowerCase s) i) ∙ ap (λ k. tokenAt s k .start) (behind-lower s 0 i)
+
   -- a question looks at keys alone
-  no-lower : (n i : ℕ) → NoAt (lowerCase s) n i ≡ NoAt s n i
-  no-lower n i = λ j. No n (before-lower s i j) (keyOf-lower s i j) (keyOf-lower s (suc i) j)
-
-  no-raised : (n i : ℕ) → NoAt (lowerCase s) n i → NoAt s n i
-  no-raised n i = subst (λ X. X) (no-lower n i)
-
   first-lower : {n p : ℕ} → FirstNo s n p → FirstNo (lowerCase s) n p
-  first-lower {n} F = record {
-    index = F .index;
-    reached = λ j l e. F .reached j l (sym (keyOf-lower s j) ∙ e);
-    place = F .place ∙ ap (λ k. tokenAt s k .start) (sym (behind-lower s 0 (F .index))) ∙ sym (start-lower s (placeOf (lowerCase s) (F .index)));
-    no = subst (λ X. X) (sym (no-lower n (F .index))) (F .no);
-    lowest = λ m l x. F .lowest m l (no-raised m (F .index) x);
-    first = λ m j l x. F .first m j l (no-raised m j x);
-  }
+  first-lower F =
+      let r = lowerCase s in
+      by-first r (first-same (length s) (length r) (tokenAt s) (tokenAt r)
+      (λ i. sym (key-by s i) ∙ sym (keyOf-lower s i) ∙ key-by r i)
+      (λ i. sym (ap (λ p. tokenAt s p .start) (place-by s i)) ∙ sym (start-of-lower i) ∙ ap (λ p. tokenAt r p .start) (place-by r i))
+      (first-by s F))
 
   pub refusal-lower : {n p : ℕ} → Refusal s n p → Refusal (lowerCase s) n p
   refusal-lower (Refusal.long h) = Refusal.long (omega (arith, length-lower))

@@ -1,6 +1,6 @@
 -- The verdict on a text in lower case is that on the text, and its lines are those of the text in lower case.
 use mathlib.Core.Path.{_≡_, refl, sym, ap, subst, _∙_}
-use Prim.Native.Nat.{ℕ, _+_, _≤_}
+use Prim.Native.Nat.{ℕ, _+_}
 use native.Mathlib.Omega.{arith}
 use mathlib.Core.List.{List, [], _∷_, _++_, map, map-append}
 use lib.Dec.{ltb}
@@ -19,7 +19,6 @@ use Rattle.tokens.specs.Bytes.{lowered, lowerCase}
 use Rattle.tokens.specs.Tokens.{tokenAt, bytesAt, placeOf}
 use Rattle.tokens.proofs.Theory.BytesLaws.{lower-slice}
 use Rattle.grammar.specs.Grammar.{Macro, headerOf}
-use Rattle.refusals.specs.Accepted.{Accepted}
 use Rattle.refusals.proofs.Theory.Accepted.{Acceptance, Becomes, an-acceptance}
 use Rattle.verdict_theory.specs.Verdict.{VerdictAnswer, IsVerdict}
 use Rattle.verdict_theory.specs.Demand3.{editionOf, pairsIn, Demand3}

@@ -3,7 +3,7 @@ use mathlib.Core.Path.{_≡_, refl, sym, ap, _∙_}
 use Prim.Native.Nat.{ℕ, zero, suc, _+_, _*_, _≤_, _<_}
 use native.Mathlib.Omega.{arith}
 use mathlib.Core.Bool.{Bool, true, false, not, _||_}
-use mathlib.Core.List.{List, [], _∷_, _++_}
+use mathlib.Core.List.{List, [], _∷_}
 use lib.Dec.{leb, eqb}
 use lib.ListN.{length, getD, drop, length-map}
 use lib.Seq.{slice, ext-getD}
@@ -16,7 +16,7 @@ use Rattle.tokens.specs.Tokens.{token, tokenAt, placeBehind, placeOf, spellings
 use Rattle.tokens.specs.declared.Token.{Token}
 use Rattle.tokens.proofs.Theory.BytesLaws.{lowered-at, lower-drop, lower-slice}
 use Rattle.tokens.proofs.Theory.TokensLaws.{behind-both, spelling-at, spellings-length}
-use Rattle.refusals.specs.FirstNo.{keyOf, tokensBefore}
+use Rattle.refusals.specs.FirstNo.{keyOf}
 
 -- ---- a byte in lower case
 
@@ -140,10 +140,6 @@ module _ (s : List ℕ) where
 
   pub keyOf-lower : (i : ℕ) → keyOf (lowerCase s) i ≡ keyOf s i
   keyOf-lower i = key-lower (placeOf (lowerCase s) i) ∙ ap (λ k. tokenAt s k .key) (behind-lower 0 i)
-
-  pub before-lower : (i : ℕ) → tokensBefore (lowerCase s) i ≡ tokensBefore s i
-  before-lower zero = refl
-  before-lower (suc i) = λ j. before-lower i j ++ keyOf-lower i j ∷ []
 
   -- names that are declared from token `first` on, each the `step`-th behind the one before, are spelled in lower case as their keys
   pub spellings-lower : (first step : ℕ) (names : List ℕ)

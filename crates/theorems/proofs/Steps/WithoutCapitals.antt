@@ -5,7 +5,7 @@ use native.Mathlib.Omega.{arith}
 use mathlib.Core.Bool.{false, _||_}
 use mathlib.Core.List.{List, [], _∷_}
 use lib.Dec.{leb, eqb}
-use lib.ListN.{getD, drop}
+use lib.ListN.{length, getD, drop}
 use lib.Seq.{slice}
 use Rattle.base.specs.Choice.{pick}
 use Rattle.base.proofs.Theory.Choice.{byTest}
@@ -13,10 +13,12 @@ use Rattle.tokens.specs.Bytes.{lower, capital, lowered, lowerCase, digit, symbo
 use Rattle.tokens.specs.Tokens.{tokenAt}
 use Rattle.tokens.proofs.Theory.BytesLaws.{lowered-at, lower-drop, lower-slice}
 use Rattle.grammar.specs.Grammar.{Macro}
+use Rattle.refusals.specs.Order.{Refusal}
 use Rattle.refusals.specs.Accepted.{Accepted}
 use Rattle.refusals.proofs.Theory.Accepted.{accepted-once}
 use Rattle.theorems.specs.LowerCase.{inLowerCase, WithoutCapitals}
-use Rattle.theorems.specs.Original.{originalNameLength, originalWidth, originalTokenAt}
+use Rattle.theorems.specs.Original.{originalNameLength, originalWidth, originalTokenAt, RefusalBy, AcceptedBy, OriginalRefusal, OriginalAccepted}
+use Rattle.theorems.proofs.Steps.ByTokens.{refusal-by, by-refusal, accepted-by, by-accepted}
 use Rattle.theorems.proofs.Steps.LowerCase.{accepted-lower}
 
 -- It is in lower case.
@@ -64,3 +66,23 @@ original-token s h at =
 -- so its lines print the names' keys
 pub original-spellings : (s : List ℕ) → WithoutCapitals s → {m : Macro} → Accepted s m → m ≡ inLowerCase m
 original-spellings s h {m} A = accepted-once s A (subst (λ r. Accepted r (inLowerCase m)) (without-capitals s h) (accepted-lower s A))
+
+-- ---- so it is read as before request 1
+
+module _ (s : List ℕ) (h : WithoutCapitals s) where
+  same-tokens : tokenAt s ≡ originalTokenAt s
+  same-tokens = λ i at. original-token s h at i
+
+  pub refused-before : {n p : ℕ} → Refusal s n p → OriginalRefusal s n p
+  refused-before {n} {p} R = subst (λ t. RefusalBy (length s) t n p) same-tokens (refusal-by s R)
+
+  pub refused-still : {n p : ℕ} → OriginalRefusal s n p → Refusal s n p
+  refused-still {n} {p} R = by-refusal s (subst (λ t. RefusalBy (length s) t n p) (sym same-tokens) R)
+
+  pub accepted-before : {m : Macro} → Accepted s m → OriginalAccepted s m × (m ≡ inLowerCase m)
+  accepted-before {m} A = (subst (λ t. AcceptedBy (length s) t m) same-tokens (accepted-by s A), original-spellings s h A)
+
+  pub accepted-still : {m : Macro} → OriginalAccepted s m → m ≡ inLowerCase m → Accepted s m
+  accepted-still {m} A e =
+      let B = by-accepted s (subst (λ t. AcceptedBy (length s) t m) (sym same-tokens) A) in
+      subst (Accepted s) (original-spellings s h B ∙ sym e) B
