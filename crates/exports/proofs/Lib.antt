@@ -2,3 +2,4 @@ pub mod Theory
 -- What the proofs of several functions use.
 mod Laws
 mod CallLaws
+mod LayoutLaws

@@ -19,6 +19,8 @@ ghost use Rattle.exports.specs.Judging.{verdictNumbers, Judging};
 
 /// Traces written and read.
 pub mod packing;
+/// The house layout of a macro.
+pub mod layouts;
 /// The monitor, a letter a call, and the run over a trace in parts.
 pub mod calls;
 

@@ -10,8 +10,8 @@ ghost use Rattle.text.specs.Templates.{part, filledIn};
 /// The fields of a template.
 pub const FIELDS: usize = 4;
 
-// Appends a byte at `at`, and answers the place behind it. Past the buffer's end nothing is stored; the place moves all the same.
-fn put_byte(out: &mut [u8], at: usize, byte: u8) -> usize
+/// Appends a byte at `at`, and answers the place behind it. Past the buffer's end nothing is stored; the place moves all the same.
+pub fn put_byte(out: &mut [u8], at: usize, byte: u8) -> usize
     requires { ⌜ PlaceInRange at (byte ∷ []) ⌝ }
     ensures { λ r. ⌜ Appended (now (out .entry)) at (byte ∷ []) (now (out .exit)) r ⌝ }
 {
@@ -21,8 +21,8 @@ fn put_byte(out: &mut [u8], at: usize, byte: u8) -> usize
     at + 1
 }
 
-// Appends a name.
-fn put_name(out: &mut [u8], at: usize, name: u64) -> usize
+/// Appends a name, or another token, that is held as the number of its bytes.
+pub fn put_name(out: &mut [u8], at: usize, name: u64) -> usize
     requires { ⌜ PlaceInRange at (nameText name) ⌝ }
     ensures { λ r. ⌜ Appended (now (out .entry)) at (nameText name) (now (out .exit)) r ⌝ }
 {

@@ -9,3 +9,7 @@ pub mod LowerCaseLines
 pub mod DeclaredBytes
 pub mod WithoutCapitals
 pub mod DeclaresBoth
+pub mod SamePoints
+pub mod LayoutVerdict
+pub mod PrintedTwice
+pub mod EmptyElses

@@ -1,4 +1,5 @@
 pub mod Definition3
 pub mod Stricter
 pub mod LowerCase
+pub mod EmptyElses
 pub mod Original

@@ -143,13 +143,15 @@ fn lowered(b: u8) -> u8
     b + CASE_DISTANCE
 }
 
-fn is_letter(b: u8) -> bool
+/// Whether a byte is a letter.
+pub fn is_letter(b: u8) -> bool
     ensures { λ r. ⌜ r ≡ letter b ⌝ }
 {
     is_lower(lowered(b))
 }
 
-fn is_digit(b: u8) -> bool
+/// Whether a byte is a digit.
+pub fn is_digit(b: u8) -> bool
     ensures { λ r. ⌜ r ≡ digit b ⌝ }
 {
     if b < b'0' {

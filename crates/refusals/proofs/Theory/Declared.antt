@@ -13,9 +13,9 @@ use Rattle.grammar.specs.Spelled.{Spells, Spelled, Arities, firstRegister, firs
 
 -- ---- element i of a list
 
-record Holds (ks : List ℕ) (i k : ℕ) : Type 0 where
-  within : i < length ks
-  element : getD ks i 0 ≡ k
+pub record Holds (ks : List ℕ) (i k : ℕ) : Type 0 where
+  pub within : i < length ks
+  pub element : getD ks i 0 ≡ k
 
 held-before : (ks ls : List ℕ) (i k : ℕ) → Holds ks i k → Holds (ks ++ ls) i k
 held-before ks ls i k H = record { within = omega (arith, length-append ks ls); element = List·getD-append ks ls 0 i (H .within) ∙ H .element }
@@ -26,7 +26,7 @@ held-behind ks ls i k H = record { within = omega (arith, length-append ks ls); 
 held-cons : (j : ℕ) {ks : List ℕ} {i k : ℕ} → Holds ks i k → Holds (j ∷ ks) (suc i) k
 held-cons j H = record { within = omega arith; element = H .element }
 
-three-more : (f : ℕ) → entryLength * suc f ≡ suc (suc (suc (entryLength * f)))
+pub three-more : (f : ℕ) → entryLength * suc f ≡ suc (suc (suc (entryLength * f)))
 three-more f = omega (arith, mul-suc entryLength f)
 
 -- an entry is three tokens, the first of them the function's name
@@ -49,12 +49,12 @@ line-held (g ∷ fs) {ns} others a f h =
 -- ---- the sentence of a macro
 
 module _ (m : Macro) where
-  register-held : (r : ℕ) → r < length (m .registers) → Holds (sentence m) (firstRegister + r) (getD (m .registers) r 0)
+  pub register-held : (r : ℕ) → r < length (m .registers) → Holds (sentence m) (firstRegister + r) (getD (m .registers) r 0)
   unfolding sentence
   register-held r h = rw (let e : 1 + r ≡ suc r = omega arith in e)
       (held-cons _ (held-before (m .registers) _ r _ (record { within = h; element = refl })))
 
-  function-held : Arities (m .functions) (m .arities) → (f : ℕ) → f < length (m .functions)
+  pub function-held : Arities (m .functions) (m .arities) → (f : ℕ) → f < length (m .functions)
       → Holds (sentence m) (firstFunction (length (m .registers)) + entryLength * f) (getD (m .functions) f 0)
   unfolding sentence
   function-held a f h =
@@ -63,7 +63,7 @@ module _ (m : Macro) where
 
 -- ---- token i of a text
 
-spells-at : (s : List ℕ) {at e : ℕ} {ks : List ℕ} → Spells s at ks e → (i k : ℕ) → Holds ks i k → tokenAt s (placeBehind s at i) .key ≡ k
+pub spells-at : (s : List ℕ) {at e : ℕ} {ks : List ℕ} → Spells s at ks e → (i k : ℕ) → Holds ks i k → tokenAt s (placeBehind s at i) .key ≡ k
 spells-at s Spells.none i k H = absurd (let z = H .within in omega arith)
 spells-at s (Spells.more e l p) zero k H = e ∙ H .element
 spells-at s (Spells.more {at} e l p) (suc i) k H =

@@ -125,7 +125,8 @@ width-bytes (b ∷ s) = byTest (letter b)
     pair [] v h = absurd (let z = eqb-true 0 61 v in omega arith)
     pair (c ∷ s) v h = let z = eqb-true c 61 v in (h .0, h .1, (omega arith, omega arith, tt))
 
-slice-take : (p w : ℕ) (s : List ℕ) → slice p (p + w) s ≡ take w (drop p s)
+-- a part of a text is the front of what is left where the part begins
+pub slice-take : (p w : ℕ) (s : List ℕ) → slice p (p + w) s ≡ take w (drop p s)
 slice-take zero w s = ap (λ n. take n s) (let e : 0 + w ≡ w = omega arith in e)
 slice-take (suc p) w s = ap (λ n. drop (suc p) (take n s)) (let e : suc p + w ≡ suc (p + w) = omega arith in e) ∙ go s (λ s. slice-take p w s)
   where

@@ -1,0 +1,3 @@
+pub mod PrintsLaws
+pub mod Answered
+pub mod Examples

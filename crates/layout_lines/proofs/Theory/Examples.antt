@@ -1,0 +1,73 @@
+-- Examples: what is printed for the text of a macro and for a text that is refused; other lines are wrong.
+use mathlib.Core.Path.{_≡_, refl, sym, ap, _∙_}
+use mathlib.Core.List.{List, [], _∷_, _++_}
+use Prim.Native.Nat.{ℕ}
+use native.Mathlib.Omega.{arith}
+use Rattle.base.specs.Recursion.{withinCalls, fixed}
+use Rattle.letters.specs.MacroRefusalNumbers.{grammarViolated}
+use Rattle.macros.specs.Tree.{empty}
+use Rattle.macros.specs.Points.{sizeStatement, sizeBlock}
+use Rattle.tokens.specs.Bytes.{gap, width}
+use Rattle.tokens.specs.Bytes
+use Rattle.tokens.specs.Tokens.{tokenAt, spellings}
+use Rattle.text.specs.Numerals.{numeral}
+use Rattle.text.specs.Names.{nameText}
+use Rattle.grammar.specs.Grammar.{Macro, sentence, functionTokens, blockTokens}
+use Rattle.grammar.specs.Reading.{got, indexOf, block, statement, registerNames}
+use Rattle.grammar.proofs.Theory.Reading.{readText, readMacro}
+use Rattle.grammar.specs.Reading
+use Rattle.refusals.specs.Order.{Refusal}
+use Rattle.refusals.proofs.Theory.Order.{refused-refusal}
+use Rattle.refusals.specs.Accepted.{Accepted}
+use Rattle.refusals.proofs.Theory.Accepted.{read-accepted, accepted-once, refused-once, never-both}
+use Rattle.report.specs.Lines.{line}
+use Rattle.layout_theory.specs.Layout.{houseLayout, spaced}
+use Rattle.layout_lines.specs.Prints.{refusalLine, SaysLayout}
+use Rattle.layout_lines.proofs.Theory.PrintsLaws.{printLines, one-layout-said}
+
+-- vars x;
+abbrev register-text : List ℕ
+register-text = 118 ∷ 97 ∷ 114 ∷ 115 ∷ 32 ∷ 120 ∷ 59 ∷ []
+
+abbrev register-macro : Macro
+register-macro = record { registers = 120 ∷ []; registerSpellings = 120 ∷ []; functions = []; functionSpellings = []; arities = []; body = empty }
+
+register-read : readMacro register-text ≡ got register-macro 7
+unfolding readMacro readText tokenAt gap width Bytes.nameLength spellings registerNames block statement indexOf sizeBlock sizeStatement
+register-read = refl
+
+register-accepted : Accepted register-text register-macro
+register-accepted = read-accepted register-text register-macro 7 register-read
+
+register-printed : printLines register-macro ≡ register-text ++ (10 ∷ [])
+unfolding houseLayout spaced sentence functionTokens blockTokens nameText fixed withinCalls
+register-printed = refl
+
+-- the same with an LF
+pub register-said : SaysLayout register-text (register-text ++ (10 ∷ []))
+register-said = record {
+  unread = λ n p r. absurd (never-both register-text register-accepted r);
+  print = λ m a. sym register-printed ∙ ap printLines (accepted-once register-text register-accepted a);
+}
+
+-- without it the print is wrong
+pub register-not-bare : ¬ SaysLayout register-text register-text
+register-not-bare x =
+    let e = one-layout-said register-text (register-text ++ (10 ∷ [])) register-text register-said x in
+    let z : _≡_ {A = ℕ} 8 7 = cc in
+    omega arith
+
+-- no text: refused 9 at 0
+nothing-read : readMacro [] ≡ Reading.refused grammarViolated 0
+unfolding readMacro readText tokenAt gap
+nothing-read = refl
+
+nothing-refused : Refusal [] grammarViolated 0
+nothing-refused = refused-refusal [] grammarViolated 0 nothing-read
+
+pub nothing-said : SaysLayout [] (114 ∷ 101 ∷ 102 ∷ 117 ∷ 115 ∷ 101 ∷ 100 ∷ 32 ∷ 57 ∷ 32 ∷ 97 ∷ 116 ∷ 32 ∷ 48 ∷ 10 ∷ [])
+unfolding line numeral fixed withinCalls
+nothing-said = record {
+  unread = λ n p r. let (i, j) = refused-once [] nothing-refused r in λ k. refusalLine (i k) (j k);
+  print = λ m a. absurd (never-both [] a nothing-refused);
+}

@@ -1,0 +1,40 @@
+// Prints the macro in each file that an argument names: the file's name, and the lines of the program `layout`.
+use files::Lines;
+
+// Prints the name of a file and its lines.
+fn report(name: &[u8], lines: &[u8]) {
+    files::print(name);
+    files::print(b":\n");
+    files::print(lines);
+}
+
+fn lay_out(fd: i32, name: &[u8]) {
+    let mut lines = layout_lines::line_space();
+    let answer = layout_lines::answer(fd, &mut lines);
+    match answer {
+        Lines::Written(n) => report(name, &lines[..n]),
+        Lines::Unread => os::fail(name),
+    }
+}
+
+fn run_one(i: usize) {
+    let mut name = io::buffer();
+    let opened = files::open_argument(i, &mut name);
+    let fd = opened.fd;
+    if fd < 0 {
+        return;
+    }
+    let size = opened.size;
+    lay_out(fd, &name[..size]);
+    libc::close(fd);
+}
+
+// The first argument is the program's name.
+fn main() {
+    let count = os::arg_count();
+    let mut i: usize = 1;
+    while i < count {
+        run_one(i);
+        i = i + 1;
+    }
+}

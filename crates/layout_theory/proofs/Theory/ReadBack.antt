@@ -1,0 +1,216 @@
+-- The print of a macro is read as that macro without its empty elses (SPEC 8.6).
+use mathlib.Core.Path.{_≡_, refl, sym, ap, _∙_, subst}
+use Prim.Native.Nat.{ℕ, zero, suc, _+_, _*_, _≤_, _<_}
+use native.Mathlib.Omega.{arith}
+use mathlib.Core.Bool.{Bool, true, false, _&&_}
+use mathlib.Core.List.{List, [], _∷_}
+use lib.Dec.{ltb, leb, eqb}
+use lib.ListN.{length, getD, take, drop}
+use lib.Seq.{getD-take, length-take-le, ext-getD}
+use borrow.Author.Tests.{eqb-true, ltb-true, leb-false}
+use Rattle.base.specs.Recursion.{withinCalls, fixed}
+use Rattle.base.proofs.Theory.Choice.{byTest}
+use Rattle.letters.proofs.Theory.WordLaws.{and-true}
+use Rattle.tokens.specs.Bytes.{letter, inner, symbol, mark, gap, nameLength, longestName, width, key, spelling}
+use Rattle.tokens.specs.Words.{isName}
+use Rattle.tokens.specs.Words as word
+use Rattle.tokens.specs.Tokens.{tokenAt, bytesAt, placeBehind, placeOf, spellings}
+use Rattle.tokens.proofs.Theory.BytesLaws.{width-le}
+use Rattle.tokens.proofs.Theory.Keys.{slice-take, token-held}
+use Rattle.tokens.proofs.Theory.TokensLaws.{behind-both, spelling-at, spellings-length}
+use Rattle.tokens.proofs.Theory.WordsLaws.{name-real}
+use Rattle.text.specs.Names.{nameText}
+use Rattle.text.proofs.Theory.Names.{name-back}
+use Rattle.grammar.specs.Grammar.{Macro, sentence}
+use Rattle.grammar.specs.Spelled.{Spelled, InOrder, Arities, firstRegister, registerLength, firstFunction, entryLength, spelledRegisters, spelledFunctions}
+use Rattle.refusals.specs.Accepted.{Accepted}
+use Rattle.refusals.specs.Order.{Refusal}
+use Rattle.refusals.proofs.Theory.Accepted.{never-both}
+use Rattle.refusals.proofs.Theory.Declared.{Holds, register-held, function-held, register-declared, register-spelled, function-declared, function-spelled}
+use Rattle.layout_theory.specs.Layout.{withoutEmptyElses, asDeclared, spaced, printTokens, houseLayout, longestPrint}
+use Rattle.layout_theory.proofs.Theory.Pairs.{fixedTokens, isFixedToken, pass-among, Pairwise, sentence-pairs}
+use Rattle.layout_theory.proofs.Theory.Dropping.{order-short, size-short, macro-short-twice}
+use Rattle.layout_theory.proofs.Theory.Spaced.{OneToken, HeldAs, SpellsAs, SpelledWhole}
+use Rattle.layout_theory.proofs.Theory.Spaced.{false-true, spells-keys, all-printed, spaced-spelled}
+
+-- ---- words and signs
+
+-- one computed test for each of them
+abbrev fixedTest : ℕ → Bool
+fixedTest k =
+    (ltb 0 (length (nameText k)) && eqb (width (nameText k)) (length (nameText k)))
+    && (eqb (spelling (nameText k)) k && (eqb (key (nameText k)) k && ltb word.wrong (key (nameText k))))
+
+tested : (k : ℕ) → fixedTest k ≡ true → HeldAs k k
+tested k t =
+    let b = nameText k in
+    let (one, rest) = and-true (ltb 0 (length b) && eqb (width b) (length b)) (eqb (spelling b) k && (eqb (key b) k && ltb word.wrong (key b))) t in
+    let (some, whole) = and-true (ltb 0 (length b)) (eqb (width b) (length b)) one in
+    let (back, numbers) = and-true (eqb (spelling b) k) (eqb (key b) k && ltb word.wrong (key b)) rest in
+    let (known, real) = and-true (eqb (key b) k) (ltb word.wrong (key b)) numbers in
+    record {
+      printed = record {
+        one = record { some = ltb-true 0 (length b) some; whole = eqb-true (width b) (length b) whole };
+        back = eqb-true (spelling b) k back;
+        real = ltb-true word.wrong (key b) real;
+      };
+      known = eqb-true (key b) k known;
+    }
+
+-- a word or a sign is printed as itself
+fixed-printed : (k : ℕ) → isFixedToken k ≡ true → HeldAs k k
+unfolding nameText fixed withinCalls width nameLength
+fixed-printed k t = tested k (pass-among fixedTest fixedTokens refl k t)
+
+-- ---- the tokens of a text
+
+run-take : (r : List ℕ) → nameLength (take (nameLength r) r) ≡ nameLength r
+unfolding nameLength
+run-take [] = refl
+run-take (b ∷ r) = byTest (inner b) (λ t. rw t (rw t (ap suc (run-take r)))) λ t. rw t
+
+name-take : (b : ℕ) (r : List ℕ) → letter b ≡ true → leb (nameLength (b ∷ r)) longestName ≡ true
+    → width (take (nameLength (b ∷ r)) (b ∷ r)) ≡ nameLength (b ∷ r)
+unfolding width nameLength
+name-take b r t = rw t λ u. rw (t, run-take r, u)
+
+-- the bytes of a token are a token by themselves
+width-take : (r : List ℕ) → width (take (width r) r) ≡ width r
+unfolding width
+width-take [] = refl
+width-take (b ∷ r) = byTest (letter b)
+    (λ t. rw t (byTest (leb (nameLength (b ∷ r)) longestName) (λ u. rw u (name-take b r t u)) λ u. rw u))
+    λ t. rw t (byTest (mark b)
+    (λ u. rw u (byTest (eqb (getD r 0 0) 61) (λ v. rw (v, t, u) (rw (getD-take 1 r 0 0 (omega arith), v))) λ v. rw v))
+    λ u. rw u (byTest (symbol b) (λ v. rw (v, t, u, v)) λ v. rw v))
+
+token-one : (s : List ℕ) (at : ℕ) → word.wrong < tokenAt s at .key → OneToken (bytesAt s at)
+unfolding tokenAt
+token-one s at =
+    let p = at + gap false (drop at s) in
+    byTest (leb (length s) p) (λ t. rw t λ h. absurd (omega arith))
+    λ t. rw t (byTest (eqb (width (drop p s)) 0) (λ u. rw u λ h. absurd (omega arith))
+    λ u. rw u λ h.
+    let r = drop p s in
+    let bytes = slice-take p (width r) s in
+    let size : length (take (width r) r) ≡ width r = length-take-le (width r) r (width-le r .0) in
+    subst OneToken (sym bytes) (record { some = subst (λ n. 0 < n) (sym size) (positive (width r) u); whole = width-take r ∙ sym size }))
+  where
+    positive : (w : ℕ) → eqb w 0 ≡ false → 0 < w
+    positive zero e = false-true (sym e)
+    positive (suc w) e = omega arith
+
+-- a token that declares a name is printed as it is spelled, and known by the same key
+declared-printed : (s : List ℕ) (at k w : ℕ) → tokenAt s at .key ≡ k → tokenAt s at .spelling ≡ w → isName k ≡ true → HeldAs k w
+declared-printed s at k w e f n =
+    let h : word.wrong < tokenAt s at .key = rw e (name-real k n) in
+    let T = token-held s at h in
+    let bytes : nameText w ≡ bytesAt s at = ap nameText (sym f ∙ T .spelling-is) ∙ name-back (bytesAt s at) (T .bytes) in
+    let known : key (nameText w) ≡ k = ap key bytes ∙ sym (T .key-is) ∙ e in
+    record {
+      printed = record {
+        one = subst OneToken (sym bytes) (token-one s at h);
+        back = ap spelling bytes ∙ sym (T .spelling-is) ∙ f;
+        real = subst (λ j. word.wrong < j) (sym known) (name-real k n);
+      };
+      known = known;
+    }
+
+-- ---- the print's tokens by their indexes
+
+module _ (s : List ℕ) where
+  held-spelling : {at e : ℕ} {ws : List ℕ} → SpellsAs s at ws e → (i w : ℕ) → Holds ws i w → tokenAt s (placeBehind s at i) .spelling ≡ w
+  held-spelling SpellsAs.none i w H = absurd (let z = H .within in omega arith)
+  held-spelling (SpellsAs.more e f l p) zero w H = e ∙ H .element
+  held-spelling (SpellsAs.more {at} e f l p) (suc i) w H =
+      ap (λ n. tokenAt s n .spelling) (ap (placeBehind s at) (let z : suc i ≡ 1 + i = omega arith in z) ∙ sym (behind-both s at 1 i))
+      ∙ held-spelling p i w (record { within = let z = H .within in omega arith; element = H .element })
+
+  -- names that stand from token `first` on, each the `step`-th behind the one before
+  held-spellings : {e : ℕ} {ws : List ℕ} → SpellsAs s 0 ws e → (first step : ℕ) (names : List ℕ)
+      → ((k : ℕ) → k < length names → Holds ws (first + step * k) (getD names k 0)) → names ≡ spellings s (placeOf s first) step (length names)
+  held-spellings S first step names H =
+      let at = placeOf s first in
+      sym (ext-getD 0 (spellings s at step (length names)) names (spellings-length s at step (length names)) λ k l.
+      let h : k < length names = omega (arith, spellings-length s at step (length names)) in
+      spelling-at s at step (length names) k h
+      ∙ ap (λ e. tokenAt s e .spelling) (behind-both s 0 first (step * k))
+      ∙ held-spelling S (first + step * k) (getD names k 0) (H k h))
+
+-- the arguments of functions that are spelled otherwise
+arities-kept : {fs ns : List ℕ} (gs : List ℕ) → length gs ≡ length fs → Arities fs ns → Arities gs ns
+arities-kept [] e Arities.none = Arities.none
+arities-kept (g ∷ gs) e Arities.none = absurd (omega arith)
+arities-kept [] e (Arities.one a) = absurd (omega arith)
+arities-kept (g ∷ gs) e (Arities.one a) = Arities.one (arities-kept gs (omega arith) a)
+arities-kept [] e (Arities.two a) = absurd (omega arith)
+arities-kept (g ∷ gs) e (Arities.two a) = Arities.two (arities-kept gs (omega arith) a)
+
+-- ---- the print of an accepted text
+
+module _ (text : List ℕ) (m : Macro) (a : Accepted text m) where
+  pub registers-spelled : length (m .registerSpellings) ≡ length (m .registers)
+  registers-spelled = ap length (a .spelled .registerSpellings) ∙ spellings-length text (placeOf text firstRegister) registerLength (length (m .registers))
+
+  pub functions-spelled : length (m .functionSpellings) ≡ length (m .functions)
+  functions-spelled = ap length (a .spelled .functionSpellings)
+      ∙ spellings-length text (placeOf text (firstFunction (length (m .registers)))) entryLength (length (m .functions))
+
+  register-printed : (x : ℕ) → x < length (m .registers) → HeldAs (getD (m .registers) x 0) (getD (m .registerSpellings) x 0)
+  register-printed x h = declared-printed text (placeOf text (firstRegister + x)) _ _
+      (register-declared text m (a .spelled) x h) (register-spelled text m (a .spelled) x h) (a .in-order .registers .names x h)
+
+  function-printed : (f : ℕ) → f < length (m .functions) → HeldAs (getD (m .functions) f 0) (getD (m .functionSpellings) f 0)
+  function-printed f h = declared-printed text (placeOf text (firstFunction (length (m .registers)) + entryLength * f)) _ _
+      (function-declared text m (a .spelled) (a .in-order .arities) f h) (function-spelled text m (a .spelled) f h) (a .in-order .functions .names f h)
+
+  short-order : InOrder (withoutEmptyElses m)
+  short-order = order-short m (a .in-order)
+
+  print-pairs : Pairwise HeldAs (sentence (withoutEmptyElses m)) (printTokens m)
+  print-pairs = sentence-pairs HeldAs fixed-printed (withoutEmptyElses m) short-order registers-spelled functions-spelled register-printed function-printed
+
+  pub print-whole : SpelledWhole (houseLayout m) 0 (printTokens m)
+  unfolding houseLayout
+  print-whole = spaced-spelled (printTokens m) (all-printed print-pairs)
+
+  print-registers : m .registerSpellings ≡ spelledRegisters (houseLayout m) (length (m .registers))
+  print-registers =
+      held-spellings (houseLayout m) (print-whole .tokens) firstRegister registerLength (m .registerSpellings)
+      (λ k h. rw (let e : 1 + 1 * k ≡ 1 + k = omega arith in e) (register-held (asDeclared (withoutEmptyElses m)) k h))
+      ∙ ap (spelledRegisters (houseLayout m)) registers-spelled
+
+  print-functions : m .functionSpellings ≡ spelledFunctions (houseLayout m) (length (m .registers)) (length (m .functions))
+  print-functions =
+      held-spellings (houseLayout m) (print-whole .tokens) (firstFunction (length (m .registerSpellings))) entryLength (m .functionSpellings)
+      (function-held (asDeclared (withoutEmptyElses m)) (arities-kept (m .functionSpellings) functions-spelled (a .in-order .arities)))
+      ∙ λ i. spelledFunctions (houseLayout m) (registers-spelled i) (functions-spelled i)
+
+  -- the tokens of the print are the sentence of the macro without its empty elses, with the names as declared
+  pub print-spelled : Spelled (houseLayout m) (withoutEmptyElses m)
+  print-spelled = record {
+    place = print-whole .place;
+    tokens = spells-keys (houseLayout m) print-pairs (print-whole .tokens);
+    ended = print-whole .ended;
+    registerSpellings = print-registers;
+    functionSpellings = print-functions;
+  }
+
+-- ---- what becomes of a print
+
+pub print-accepted : (text : List ℕ) (m : Macro) → Accepted text m → length (houseLayout m) ≤ longestPrint → Accepted (houseLayout m) (withoutEmptyElses m)
+print-accepted text m a h = record {
+  short = h;
+  spelled = print-spelled text m a;
+  in-order = order-short m (a .in-order);
+  few = rw (size-short (m .body)) (a .few);
+}
+
+pub print-not-refused : (text : List ℕ) (m : Macro) → Accepted text m → length (houseLayout m) ≤ longestPrint
+    → (n p : ℕ) → Refusal (houseLayout m) n p → ⊥
+print-not-refused text m a h n p r = never-both (houseLayout m) (print-accepted text m a h) r
+
+-- printing what is read back changes nothing
+pub print-of-print : (m : Macro) → houseLayout (withoutEmptyElses m) ≡ houseLayout m
+unfolding houseLayout
+print-of-print m = ap (λ n. spaced false (sentence (asDeclared n))) (macro-short-twice m)

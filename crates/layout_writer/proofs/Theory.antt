@@ -1,0 +1,5 @@
+pub mod Spacing
+pub mod Finding
+pub mod Declaring
+pub mod Printing
+pub mod Answering

@@ -1,0 +1,8 @@
+-- The answer of the layout writer, as the code holds it (SPEC 8.6, 11.1).
+use Rattle.layout_theory.specs.Writing.{LayoutAnswer, printed, refused}
+use Rattle.layout_writer.specs.declared.LayoutWritten.{LayoutWritten}
+use Rattle.layout_writer.specs.declared.LayoutWritten.the-variants.{Printed, Refused}
+
+abbrev pub writtenAnswer : LayoutWritten → LayoutAnswer
+writtenAnswer (Printed bytes) = printed bytes
+writtenAnswer (Refused number place) = refused number place
