@@ -1,6 +1,6 @@
 /*
- * The proved trace reader and writer, trace monitor, whole-trace engine, macro reader
- * and verdict on a macro.
+ * The proved trace reader and writer, trace monitor, whole-trace engine, macro reader,
+ * house layout of a macro and verdict on a macro.
  *
  * Every function takes lent slices, each as a pointer and a length, which must not
  * overlap, and puts its answer as numbers into the slice `answer`. Where that slice
@@ -22,13 +22,15 @@
  *   11 a wrong use of a name    12 braces more than 16 deep;
  *      place of 8 to 12: the byte of the text, from 0
  *   13 more than 256 points    14 more pairs than `table` has room for
+ *   15 a print that is longer than `out`, or than 4,096 bytes
  * The bits of a word and of a packed model: docs/SPEC.md, 2 and 7.4. Registers and
  * functions of a macro are numbered from 0 in the order of their declarations. Answers
- * hold no names, so that the case of letters never shows in them.
+ * hold no names, so that the case of letters never shows in them; only the print of
+ * fadzgime_layout has names, as they are declared.
  *
- * Stack: at most 35 KB a call (fadzgime_verdict; read 25 KB, model 17 KB, the others
- * at most 7 KB), whatever the input; tested on a thread of 128 KB. Nothing is allocated
- * or kept between calls, so calls on several threads do not disturb each other.
+ * Stack: at most 35 KB a call (fadzgime_verdict; read and layout 25 KB, model 17 KB, the
+ * others at most 7 KB), whatever the input; tested on a thread of 128 KB. Nothing is
+ * allocated or kept between calls, so calls on several threads do not disturb each other.
  */
 #ifndef FADZGIME_H
 #define FADZGIME_H
@@ -47,6 +49,7 @@ extern "C" {
 #define FADZGIME_STREAM_ANSWER 1
 #define FADZGIME_MODEL_ANSWER 4
 #define FADZGIME_READ_ANSWER 5
+#define FADZGIME_LAYOUT_ANSWER 3
 #define FADZGIME_VERDICT_ANSWER 5
 
 /*
@@ -62,6 +65,12 @@ extern "C" {
  */
 #define FADZGIME_MODEL_OUTPUT 5140
 #define FADZGIME_VERDICT_OUTPUT 7190
+
+/*
+ * Bytes of `out` that suffice for every print that fadzgime_layout writes. A longer print
+ * is refused, however many are lent.
+ */
+#define FADZGIME_LAYOUT_OUTPUT 4096
 
 /*
  * Judges a packed trace of any length.
@@ -190,6 +199,32 @@ void fadzgime_model(const uint8_t *trace, size_t trace_length,
  */
 void fadzgime_read(const uint8_t *text, size_t text_length,
                    uint64_t *answer, size_t answer_length);
+
+/*
+ * Prints a macro in the house layout: docs/SPEC.md, 8.6. Names stand as they are
+ * declared and words in lower case. One blank stands between two words or names (`1` and
+ * `2` are words here), none elsewhere, and an LF after each `;`, `{` and `}`. Comments
+ * are dropped, and so is an else without statements.
+ * answer[0] refusal (7 to 13, as fadzgime_read gives them, then 15), [1] place,
+ * [2] bytes of the print written to `out`, with no zero byte at their end; the bytes
+ * behind stay. 15, at place 0: the print is longer than `out`, or than
+ * FADZGIME_LAYOUT_OUTPUT bytes even if `out` is longer; a print that just fits is
+ * written. On a refusal every byte of `out` stays, and [2] is 0.
+ *
+ *     uint8_t print[FADZGIME_LAYOUT_OUTPUT];
+ *     uint64_t answer[FADZGIME_LAYOUT_ANSWER];
+ *     fadzgime_layout(text, text_length, print, sizeof print, answer, FADZGIME_LAYOUT_ANSWER);
+ *     if (answer[0] == 0) {
+ *         fwrite(print, 1, (size_t)answer[2], file);
+ *     }
+ *
+ * The print is the text of the same macro, but for the elses that were dropped, and its
+ * print is the same bytes. It may be longer than the text, at most twice as long, and so
+ * `out` may not be `text`.
+ */
+void fadzgime_layout(const uint8_t *text, size_t text_length,
+                     uint8_t *out, size_t out_length,
+                     uint64_t *answer, size_t answer_length);
 
 /* The verdicts, and the bytes of a table. */
 #define FADZGIME_PASS 0

@@ -7,6 +7,8 @@ mod engine;
 #[cfg(feature = "model")]
 mod engine_traces;
 mod instructions;
+#[cfg(feature = "layout")]
+mod layout;
 #[cfg(feature = "monitor")]
 mod lively;
 mod measure;
@@ -53,6 +55,8 @@ fn print_tables(count: bool) {
         engine::table(count),
         #[cfg(feature = "verdict")]
         verdict::table(count),
+        #[cfg(feature = "layout")]
+        layout::table(count),
     ];
     if count {
         println!("note: callgrind counts `rep stosb`, which clears a table, as one instruction a byte");
@@ -77,6 +81,8 @@ fn sides<'a>(call: &Call<'a>) -> Box<dyn Sides + 'a> {
         engine::NAME => Box::new(engine::Run::new(call.input)),
         #[cfg(feature = "verdict")]
         verdict::NAME => Box::new(verdict::Run::new(call.input, call.table)),
+        #[cfg(feature = "layout")]
+        layout::NAME => Box::new(layout::Run::new(call.input)),
         other => panic!("no call is named {other}"),
     }
 }

@@ -31,6 +31,12 @@ int main(void) {
     static const char capitals[] = "VARS Cap y; Assert cAP != Y;";
     static const uint8_t *const typed = (const uint8_t *)capitals;
     static const char repeated[] = "vars cap CAP;";
+    /* A macro that the layout changes, one that it prints as it stands with an LF, and one that is refused. */
+    static const char loose[] = "VARS a B;If A=b{}Else{}";
+    static const uint8_t *const untidy = (const uint8_t *)loose;
+    static const char line[] = "vars x;";
+    static const uint8_t *const tidy = (const uint8_t *)line;
+    static const char unknown[] = "vars x; x := y;";
     uint8_t table[576];
     uint8_t out[64];
     uint64_t answer[6];
@@ -98,6 +104,17 @@ int main(void) {
     fadzgime_read((const uint8_t *)repeated, strlen(repeated), answer, 5);
     show("read", answer, 5);
 
+    fadzgime_layout(untidy, strlen(loose), out, sizeof out, answer, 3);
+    show("layout", answer, 3);
+    fwrite(out, 1, (size_t)answer[2], stdout);
+    fadzgime_layout(tidy, strlen(line), out, 8, answer, 3);
+    show("layout", answer, 3);
+    fwrite(out, 1, (size_t)answer[2], stdout);
+    fadzgime_layout(tidy, strlen(line), out, 7, answer, 3);
+    show("layout", answer, 3);
+    fadzgime_layout((const uint8_t *)unknown, strlen(unknown), out, 0, answer, 3);
+    show("layout", answer, 3);
+
     fadzgime_verdict(text, strlen(macro), table, sizeof table, out, sizeof out, answer, 5);
     show("verdict", answer, 5);
     show_bytes(out, 12);
@@ -142,6 +159,10 @@ int main(void) {
     show("model", answer, 4);
     fadzgime_read(NULL, 0, answer, 5);
     show("read", answer, 5);
+    fadzgime_layout(NULL, 0, out, sizeof out, answer, 3);
+    show("layout", answer, 3);
+    fadzgime_layout(tidy, strlen(line), NULL, 0, answer, 3);
+    show("layout", answer, 3);
     fadzgime_verdict(NULL, 0, table, sizeof table, out, sizeof out, answer, 5);
     show("verdict", answer, 5);
     fadzgime_verdict(text, strlen(macro), NULL, 0, out, sizeof out, answer, 5);

@@ -1,4 +1,4 @@
-//! `oracle monitor|model|read|points|verdict`: reads a packed trace or a macro from
+//! `oracle monitor|model|read|points|layout|verdict`: reads a packed trace or a macro from
 //! standard input and prints what the program of that name prints; `points` prints what
 //! `reader_runs` prints behind an input's name.
 
@@ -6,9 +6,9 @@ use std::io::{Read, Write};
 use std::process::ExitCode;
 
 use fadzgime_tests::oracle::listing::print_points;
-use fadzgime_tests::oracle::report::{print_model, print_monitor, print_read, print_verdict};
+use fadzgime_tests::oracle::report::{print_layout, print_model, print_monitor, print_read, print_verdict};
 
-const USAGE: &str = "usage: oracle monitor|model|read|points|verdict < input";
+const USAGE: &str = "usage: oracle monitor|model|read|points|layout|verdict < input";
 
 fn main() -> ExitCode {
     let command = std::env::args().nth(1).unwrap_or_default();
@@ -17,6 +17,7 @@ fn main() -> ExitCode {
         "model" => print_model,
         "read" => print_read,
         "points" => print_points,
+        "layout" => print_layout,
         "verdict" => print_verdict,
         _ => {
             eprintln!("{USAGE}");

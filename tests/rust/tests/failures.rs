@@ -12,14 +12,15 @@ use std::time::Duration;
 use fadzgime_tests::proved::programs::program;
 
 /// Each program, and the first bytes of an input, which are an input by themselves that is judged well.
-const BEGINNINGS: [(&str, &[u8]); 3] = [
+const BEGINNINGS: [(&str, &[u8]); 4] = [
     ("verdict", b"vars x y; x := y;"),
     ("monitor", &[0x32, 0x00, 0x44, 0x00]),
     ("model", &[0x32, 0x00, 0x44, 0x00]),
+    ("layout", b"vars x y; x := y;"),
 ];
 
 /// The words by which a line of an answer begins.
-const ANSWERS: [&str; 6] = ["verdict", "refused", "coherent", "incoherent", "infeasible", "model"];
+const ANSWERS: [&str; 7] = ["verdict", "refused", "coherent", "incoherent", "infeasible", "model", "vars"];
 
 fn run(command: &mut Command, input: Stdio) -> Output {
     let child = command.stdin(input).stdout(Stdio::piped()).stderr(Stdio::piped()).spawn();
@@ -61,13 +62,24 @@ fn stream(bytes: &[u8]) -> (UnixStream, UnixStream) {
     (reader, writer)
 }
 
+/// An input that ends behind these bytes.
+fn ended(bytes: &[u8]) -> Stdio {
+    let (reader, writer) = stream(bytes);
+    drop(writer);
+    OwnedFd::from(reader).into()
+}
+
+/// Runs on these bytes, with another output.
+fn run_into(command: &mut Command, bytes: &[u8], output: Stdio) -> Output {
+    let child = command.stdin(ended(bytes)).stdout(output).stderr(Stdio::piped()).spawn();
+    child.expect("the program starts").wait_with_output().expect("the program ends")
+}
+
 /// The beginnings are judged where the input ends behind them.
 #[test]
 fn beginnings() {
     for (name, beginning) in BEGINNINGS {
-        let (reader, writer) = stream(beginning);
-        drop(writer);
-        assert_answered(&run(&mut Command::new(program(name)), OwnedFd::from(reader).into()));
+        assert_answered(&run(&mut Command::new(program(name)), ended(beginning)));
     }
 }
 
@@ -85,9 +97,7 @@ fn slow_input() {
         });
         let slow = run(&mut Command::new(program(name)), OwnedFd::from(reader).into());
         feed.join().expect("all is written");
-        let (reader, writer) = stream(beginning);
-        drop(writer);
-        let at_once = run(&mut Command::new(program(name)), OwnedFd::from(reader).into());
+        let at_once = run(&mut Command::new(program(name)), ended(beginning));
         assert_answered(&slow);
         assert_eq!(slow.stdout, at_once.stdout);
     }
@@ -96,9 +106,12 @@ fn slow_input() {
 /// No bytes at all are an input, which is refused.
 #[test]
 fn empty_input() {
-    for (name, line) in
-        [("verdict", "refused 9 at 0\n"), ("monitor", "refused 1 at 0\n"), ("model", "refused 1 at 0\n")]
-    {
+    for (name, line) in [
+        ("verdict", "refused 9 at 0\n"),
+        ("monitor", "refused 1 at 0\n"),
+        ("model", "refused 1 at 0\n"),
+        ("layout", "refused 9 at 0\n"),
+    ] {
         let output = run(&mut Command::new(program(name)), Stdio::null());
         assert_eq!(text(&output.stdout), line);
         assert_eq!(text(&output.stderr), "");
@@ -135,7 +148,7 @@ fn broken_input() {
 fn stalled_long_input() {
     for (name, _) in BEGINNINGS {
         for length in [2_052, 4_000, 70_000] {
-            if name == "verdict" && length > 4_096 {
+            if ["verdict", "layout"].contains(&name) && length > 4_096 {
                 continue;
             }
             let (reader, mut writer) = UnixStream::pair().expect("a stream");
@@ -161,20 +174,19 @@ fn closed_input() {
     }
 }
 
-/// A device without room, a closed output, and a pipe that nobody reads.
+/// A device without room, a closed output, and a pipe that nobody reads: for an answer, and for a refusal.
 #[test]
 fn full_output() {
-    for (name, _) in BEGINNINGS {
-        let full = OpenOptions::new().write(true).open("/dev/full").expect("there is such a device");
-        let mut command = Command::new(program(name));
-        let child = command.stdin(Stdio::null()).stdout(full).stderr(Stdio::piped()).spawn();
-        assert_told(&child.expect("it starts").wait_with_output().expect("it ends"), "write");
-        assert_told(&run(&mut shell("exec \"$0\" >&-", &program(name)), Stdio::null()), "write");
-        let (ours, theirs) = UnixStream::pair().expect("a stream");
-        drop(ours);
-        let mut command = shell("trap '' PIPE; exec \"$0\"", &program(name));
-        let child = command.stdin(Stdio::null()).stdout(OwnedFd::from(theirs)).stderr(Stdio::piped()).spawn();
-        assert_told(&child.expect("it starts").wait_with_output().expect("it ends"), "write");
+    for (name, beginning) in BEGINNINGS {
+        for bytes in [beginning, &[]] {
+            let full = OpenOptions::new().write(true).open("/dev/full").expect("there is such a device");
+            assert_told(&run_into(&mut Command::new(program(name)), bytes, full.into()), "write");
+            assert_told(&run(&mut shell("exec \"$0\" >&-", &program(name)), ended(bytes)), "write");
+            let (ours, theirs) = UnixStream::pair().expect("a stream");
+            drop(ours);
+            let mut command = shell("trap '' PIPE; exec \"$0\"", &program(name));
+            assert_told(&run_into(&mut command, bytes, OwnedFd::from(theirs).into()), "write");
+        }
     }
 }
 
@@ -183,6 +195,7 @@ fn full_output() {
 fn unreadable_files() {
     for (name, beginning) in [
         ("verdict_runs", BEGINNINGS[0].1),
+        ("layout_runs", BEGINNINGS[0].1),
         ("reader_runs", BEGINNINGS[0].1),
         ("monitor_runs", BEGINNINGS[1].1),
         ("model_runs", BEGINNINGS[2].1),

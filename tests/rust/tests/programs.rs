@@ -100,7 +100,7 @@ fn verdict_on_capitals() {
 }
 
 /// The tables of a page of `docs/`: the cells of each line.
-#[cfg(feature = "verdict")]
+#[cfg(any(feature = "verdict", feature = "layout"))]
 fn table_lines(page: &str) -> Vec<Vec<String>> {
     let path = Path::new(env!("CARGO_MANIFEST_DIR")).join("../../docs").join(page);
     let text = fs::read_to_string(path).expect("the page");
@@ -109,7 +109,7 @@ fn table_lines(page: &str) -> Vec<Vec<String>> {
 }
 
 /// What stands in back quotes.
-#[cfg(feature = "verdict")]
+#[cfg(any(feature = "verdict", feature = "layout"))]
 fn quoted(cell: &str) -> Option<&str> {
     cell.strip_prefix('`')?.strip_suffix('`')
 }
@@ -164,6 +164,102 @@ fn verdict_on_long_inputs() {
     let lengths = [4_095, 4_096, 4_097, 5_000, 100_000];
     let others = [vec![], vec![0xff; 3], b"vars x;".to_vec()];
     check("verdict", lengths.into_iter().map(padded).chain(others), print_verdict);
+}
+
+/// The program `layout`, also against the program `verdict`.
+#[cfg(feature = "layout")]
+mod layout {
+    use fadzgime_tests::answers::layouts;
+    use fadzgime_tests::examples::example_macros;
+    use fadzgime_tests::generators::damaged_macros::damaged_text;
+    use fadzgime_tests::generators::layouts::text_to_lay_out;
+    use fadzgime_tests::generators::random::Random;
+    use fadzgime_tests::oracle::layout::layout;
+    use fadzgime_tests::oracle::report::{PROGRAM_PRINT, print_layout, print_verdict};
+    use fadzgime_tests::proved::programs::program;
+
+    use super::{check, printed, quoted, table_lines};
+
+    /// A macro, well formed two times in three.
+    fn some_text(seed: u64) -> Vec<u8> {
+        let random = &mut Random::new(seed);
+        if random.once_in(3) { damaged_text(random) } else { text_to_lay_out(random).1 }
+    }
+
+    /// The layout of a text that has one is its own layout, and has the verdict of the text.
+    fn check_print(text: &[u8]) {
+        if layout(text, PROGRAM_PRINT).is_ok() {
+            let print = printed(&program("layout"), text);
+            assert_eq!(printed(&program("layout"), print.as_bytes()), print);
+            let path = program("verdict");
+            assert_eq!(printed(&path, print.as_bytes()), printed(&path, text), "{print}");
+        }
+    }
+
+    #[test]
+    fn on_random_texts() {
+        check("layout", (0..3_000).map(some_text), print_layout);
+    }
+
+    #[test]
+    fn on_its_prints() {
+        (3_000..4_000).map(some_text).for_each(|text| check_print(&text));
+    }
+
+    /// Texts whose layouts are settled, where the bytes are lent that the program lends.
+    #[test]
+    fn on_settled_texts() {
+        let path = program("layout");
+        for settled in layouts() {
+            let text = settled.text.as_bytes();
+            let lines = settled.layout.unwrap_or_else(|refusal| format!("{refusal}\n"));
+            let found = printed(&path, text);
+            assert!(settled.lent != PROGRAM_PRINT || found == lines, "{found} for {}", settled.text);
+            assert_eq!(found, print_layout(text), "{}", settled.text);
+            check_print(text);
+        }
+    }
+
+    /// The prints that the table of `docs/SPEC.md` (8.6) shows.
+    #[test]
+    fn on_documents() {
+        let rows = table_lines("SPEC.md").into_iter().filter_map(|cells| {
+            let (text, print) = (quoted(&cells[0])?, quoted(cells.get(1)?)?);
+            print.starts_with("vars ").then(|| (text.to_string(), print.replace("\\n", "\n")))
+        });
+        let rows = rows.collect::<Vec<_>>();
+        assert!(rows.len() >= 6, "{}", rows.len());
+        for (text, print) in rows {
+            assert_eq!(printed(&program("layout"), text.as_bytes()), print, "{text}");
+        }
+    }
+
+    /// The macros of `examples/`; the verdict on a print is also the one that is stored.
+    #[test]
+    fn on_examples() {
+        let examples = example_macros();
+        assert!(examples.len() > 10);
+        for example in &examples {
+            check_print(example.text.as_bytes());
+            let print = printed(&program("layout"), example.text.as_bytes());
+            assert_eq!(printed(&program("verdict"), print.as_bytes()), example.printed, "{}", example.name);
+            assert_eq!(print_verdict(print.as_bytes()), example.printed, "{}", example.name);
+        }
+        check("layout", examples.into_iter().map(|example| example.text.into_bytes()), print_layout);
+    }
+
+    /// Inputs about as long as a macro may be, and longer; prints about as long as they may be; none; bytes that are
+    /// no text.
+    #[test]
+    fn on_long_inputs() {
+        let padded = |length: usize| [b"vars x y;Assert X=y;".as_slice(), &vec![b' '; length - 20]].concat();
+        let skips = |count: usize| format!("vars xyz;{}", "skip;".repeat(count)).into_bytes();
+        let lengths = [4_095, 4_096, 4_097, 5_000, 100_000];
+        let counts = [680, 681, 682, 817, 818];
+        let others = [vec![], vec![0xff; 3], b"vars x;".to_vec()];
+        let inputs = lengths.into_iter().map(padded).chain(counts.into_iter().map(skips)).chain(others);
+        check("layout", inputs, print_layout);
+    }
 }
 
 /// A trace of so many letters, and all of it but the last byte.

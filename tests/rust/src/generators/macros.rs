@@ -336,20 +336,31 @@ impl Speller<'_> {
 /// Joins tokens by blanks and comments, which are left out now and then where no
 /// two tokens would run together.
 pub fn lay_out(random: &mut Random, tokens: &[String]) -> Vec<u8> {
+    join(random, tokens, 3)
+}
+
+/// Joins tokens by blanks and comments, once in so many times where they need not be parted.
+fn join(random: &mut Random, tokens: &[String], rarity: usize) -> Vec<u8> {
     let mut text: Vec<u8> = Vec::new();
+    let mut before = "";
     for token in tokens {
-        let runs_on = |byte: u8| byte.is_ascii_alphanumeric() || byte == b'_';
-        let name_before = text.last().is_some_and(|&byte| runs_on(byte));
-        let together = name_before && token.bytes().next().is_some_and(runs_on);
-        if together || random.once_in(3) {
+        if run_together(before, token) || random.once_in(rarity) {
             text.extend(random_blank(random));
         }
         text.extend(token.bytes());
+        before = token;
     }
     if random.once_in(3) {
         text.extend(random_blank(random));
     }
     text
+}
+
+/// Would these be other tokens without a blank between them? `1` and `2` end where they are.
+fn run_together(before: &str, token: &str) -> bool {
+    let runs_on = |byte: u8| byte.is_ascii_alphanumeric() || byte == b'_';
+    let open = before.bytes().last().is_some_and(runs_on) && !["1", "2"].contains(&before);
+    open && token.bytes().next().is_some_and(runs_on)
 }
 
 /// One separator.
@@ -379,4 +390,10 @@ fn random_comment(random: &mut Random) -> Vec<u8> {
 pub fn macro_text(random: &mut Random, read: &Macro) -> Vec<u8> {
     let tokens = tokens(random, read);
     lay_out(random, &tokens)
+}
+
+/// The text of a macro in a random spelling, with few blanks and comments.
+pub fn dense_text(random: &mut Random, read: &Macro) -> Vec<u8> {
+    let tokens = tokens(random, read);
+    join(random, &tokens, 60)
 }

@@ -3,6 +3,7 @@
 
 pub mod capitals;
 pub mod damaged_macros;
+pub mod layouts;
 pub mod macros;
 pub mod random;
 pub mod spread;

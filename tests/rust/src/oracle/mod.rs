@@ -5,6 +5,7 @@
 pub mod closure;
 pub mod enumeration;
 pub mod execution;
+pub mod layout;
 pub mod letter;
 pub mod listing;
 pub mod model;

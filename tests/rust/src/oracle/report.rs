@@ -2,6 +2,7 @@
 
 use std::fmt::Write;
 
+use super::layout::layout;
 use super::letter::Letter;
 use super::model::{Model, Shown, show_model};
 use super::monitor::{Judgement, monitor};
@@ -12,6 +13,9 @@ use super::verdict::{Answer, verdict};
 
 /// The verdict program has "a table of 65,536 bytes".
 pub const PROGRAM_TABLE: usize = 65_536;
+
+/// Bytes that the layout program lends for the print.
+pub const PROGRAM_PRINT: usize = 4_096;
 
 /// Lines, or the one line of a refusal.
 fn lines(result: Result<String, Refusal>) -> String {
@@ -64,6 +68,11 @@ fn model_lines(read: &Macro, model: &Model) -> String {
 /// What the verdict program prints for a macro.
 pub fn print_verdict(text: &[u8]) -> String {
     lines(verdict(text, PROGRAM_TABLE, usize::MAX).map(|answer| verdict_lines(&answer)))
+}
+
+/// What the layout program prints for a macro.
+pub fn print_layout(text: &[u8]) -> String {
+    lines(layout(text, PROGRAM_PRINT))
 }
 
 /// What the reading of a macro finds: a refusal, or how much there is of each.

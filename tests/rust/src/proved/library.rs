@@ -16,10 +16,15 @@ pub const READ_ANSWER: usize = 5;
 /// incoherent), pairs, letters of the execution that shows it.
 pub const VERDICT_ANSWER: usize = 5;
 
+/// Numbers in the answer of [`layout`]: refusal, place, bytes of the print.
+pub const LAYOUT_ANSWER: usize = 3;
+
 /// Bytes in which every answer of [`model`] fits.
 pub const MODEL_OUTPUT: usize = 5_140;
 /// Bytes in which every answer of [`verdict`] fits.
 pub const VERDICT_OUTPUT: usize = 7_190;
+/// Bytes of the longest print of [`layout`].
+pub const LAYOUT_OUTPUT: usize = 4_096;
 
 /// Numbers in the answer of [`write`]: refusal, place, bytes of the trace.
 pub const WRITE_ANSWER: usize = 3;
@@ -41,7 +46,13 @@ pub const MONITOR_STATE: usize = 318;
 pub const STREAM_STATE: usize = 346;
 
 mod foreign {
-    #[cfg(any(feature = "monitor", feature = "model", feature = "read", feature = "verdict"))]
+    #[cfg(any(
+        feature = "monitor",
+        feature = "model",
+        feature = "read",
+        feature = "verdict",
+        feature = "layout"
+    ))]
     unsafe extern "C" {
         #[cfg(feature = "monitor")]
         pub fn fadzgime_monitor(
@@ -137,6 +148,16 @@ mod foreign {
             text_length: usize,
             table: *mut u8,
             table_length: usize,
+            out: *mut u8,
+            out_length: usize,
+            answer: *mut u64,
+            answer_length: usize,
+        );
+
+        #[cfg(feature = "layout")]
+        pub fn fadzgime_layout(
+            text: *const u8,
+            text_length: usize,
             out: *mut u8,
             out_length: usize,
             answer: *mut u64,
@@ -283,6 +304,24 @@ pub fn verdict(text: &[u8], table: &mut [u8], out: &mut [u8], answer: &mut [u64]
             table.len(),
             out.as_mut_ptr(),
             out.len(),
+            answer.as_mut_ptr(),
+            answer.len(),
+        );
+    }
+}
+
+/// The house layout of a macro.
+#[cfg(feature = "layout")]
+pub fn layout(text: &[u8], out: &mut [u8], answer: &mut [u64]) {
+    let (pointer, length) = (out.as_mut_ptr(), out.len());
+    // SAFETY: the pointers and lengths are those of slices that live through the call
+    // and do not overlap.
+    unsafe {
+        foreign::fadzgime_layout(
+            text.as_ptr(),
+            text.len(),
+            pointer,
+            length,
             answer.as_mut_ptr(),
             answer.len(),
         );

@@ -1,19 +1,41 @@
 //! The proved library against the oracle: answers, and every lent byte afterwards.
-//! The features `monitor`, `model`, `read` and `verdict` switch the tests on.
+//! The features `monitor`, `model`, `read`, `verdict` and `layout` switch the tests on.
 
 #[cfg(feature = "monitor")]
 mod calls;
-#[cfg(any(feature = "monitor", feature = "model", feature = "read", feature = "verdict"))]
+#[cfg(feature = "layout")]
+mod layout;
+#[cfg(any(
+    feature = "monitor",
+    feature = "model",
+    feature = "read",
+    feature = "verdict",
+    feature = "layout"
+))]
 mod lent;
 #[cfg(feature = "model")]
 mod model;
 #[cfg(feature = "monitor")]
 mod monitor;
+#[cfg(all(feature = "read", feature = "verdict", feature = "layout"))]
+mod prints;
 #[cfg(feature = "read")]
 mod read;
-#[cfg(all(feature = "monitor", feature = "model", feature = "read", feature = "verdict"))]
+#[cfg(all(
+    feature = "monitor",
+    feature = "model",
+    feature = "read",
+    feature = "verdict",
+    feature = "layout"
+))]
 mod smoke;
-#[cfg(all(feature = "monitor", feature = "model", feature = "read", feature = "verdict"))]
+#[cfg(all(
+    feature = "monitor",
+    feature = "model",
+    feature = "read",
+    feature = "verdict",
+    feature = "layout"
+))]
 mod stack;
 #[cfg(feature = "monitor")]
 mod traces;

@@ -10,9 +10,9 @@ use fadzgime_tests::oracle::reader::read_macro;
 use fadzgime_tests::oracle::trace::Trace;
 use fadzgime_tests::oracle::verdict::{MAX_PAIRS, PAIR_BYTES};
 use fadzgime_tests::proved::library::{
-    self, MODEL_ANSWER, MODEL_OUTPUT, MONITOR_ANSWER, MONITOR_STATE, PUSH_ANSWER, READ_ANSWER,
-    READ_TRACE_ANSWER, STEP_ANSWER, STREAM_STATE, UNPACKED_BYTES, VERDICT_ANSWER, VERDICT_OUTPUT,
-    WRITE_ANSWER,
+    self, LAYOUT_ANSWER, LAYOUT_OUTPUT, MODEL_ANSWER, MODEL_OUTPUT, MONITOR_ANSWER, MONITOR_STATE,
+    PUSH_ANSWER, READ_ANSWER, READ_TRACE_ANSWER, STEP_ANSWER, STREAM_STATE, UNPACKED_BYTES, VERDICT_ANSWER,
+    VERDICT_OUTPUT, WRITE_ANSWER,
 };
 
 /// The stack of the thread, of which the thread itself takes some.
@@ -95,6 +95,15 @@ fn call_verdict() {
 
 #[test]
 #[ignore = "called in a process of its own"]
+fn call_layout() {
+    for text in texts() {
+        let mut out = vec![0; LAYOUT_OUTPUT];
+        on_a_small_stack(move || library::layout(&text, &mut out, &mut [0; LAYOUT_ANSWER]));
+    }
+}
+
+#[test]
+#[ignore = "called in a process of its own"]
 fn call_model() {
     let trace = long_trace();
     let (mut out, mut answer) = (vec![0; MODEL_OUTPUT], vec![0; MODEL_ANSWER]);
@@ -173,6 +182,11 @@ fn read() {
 #[test]
 fn verdict() {
     in_a_process("call_verdict");
+}
+
+#[test]
+fn layout() {
+    in_a_process("call_layout");
 }
 
 #[test]

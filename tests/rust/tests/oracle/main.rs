@@ -5,6 +5,7 @@ mod capitals;
 mod examples;
 mod fast;
 mod grammar;
+mod layout;
 mod models;
 mod packing;
 mod reader;

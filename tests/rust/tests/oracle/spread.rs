@@ -3,16 +3,18 @@
 use std::collections::BTreeMap;
 
 use fadzgime_tests::generators::damaged_macros::damaged_text;
+use fadzgime_tests::generators::layouts::text_to_lay_out;
 use fadzgime_tests::generators::macros::{DEEPEST, macro_text, random_macro};
 use fadzgime_tests::generators::random::Random;
 use fadzgime_tests::generators::spread::Spread;
 use fadzgime_tests::generators::traces::{any_trace, damage_trace};
+use fadzgime_tests::oracle::layout::print_macro;
 use fadzgime_tests::oracle::model::show_model;
 use fadzgime_tests::oracle::monitor::judge;
 use fadzgime_tests::oracle::reader::read_macro;
 use fadzgime_tests::oracle::refusal::Refusal;
 use fadzgime_tests::oracle::syntax::{Macro, Statement};
-use fadzgime_tests::oracle::token::{Placed, Token, is_same_name, token_at};
+use fadzgime_tests::oracle::token::{Placed, Token, Word, is_same_name, token_at};
 use fadzgime_tests::oracle::verdict::verdict;
 
 #[test]
@@ -45,19 +47,23 @@ fn nesting(statements: &[Statement]) -> usize {
     statements.iter().map(inner).max().unwrap_or(0)
 }
 
-/// The names in a text, one after the other, up to its end or to what is no token.
-fn names(text: &[u8]) -> Vec<String> {
-    let mut names = Vec::new();
+/// The tokens of a text, one after the other, up to its end or to what is none.
+fn tokens(text: &[u8]) -> Vec<Placed> {
+    let mut tokens = Vec::new();
     let mut at = 0;
-    while let Ok(Placed { token, end, .. }) = token_at(text, at) {
-        match token {
-            Token::End => break,
-            Token::Name(name) => names.push(name),
-            _ => {}
-        }
-        at = end;
+    while let Ok(placed) = token_at(text, at)
+        && placed.token != Token::End
+    {
+        at = placed.end;
+        tokens.push(placed);
     }
-    names
+    tokens
+}
+
+/// The names among the tokens of a text.
+fn names(text: &[u8]) -> Vec<String> {
+    let name = |placed: Placed| if let Token::Name(name) = placed.token { Some(name) } else { None };
+    tokens(text).into_iter().filter_map(name).collect()
 }
 
 /// Is a name used in another spelling than it was declared in?
@@ -127,4 +133,68 @@ fn damaged_macros() {
     println!("{spread:?}; {about:?}");
     assert!(["0", "7", "8", "9", "10", "11", "12", "13"].iter().all(|number| spread.is_often(number, 40)));
     assert!(about.len() == 4 && about.values().all(|&count| count > 30));
+}
+
+/// The elses of some statements, absent ones too.
+fn elses(statements: &[Statement]) -> Vec<&[Statement]> {
+    let mut found: Vec<&[Statement]> = Vec::new();
+    for statement in statements {
+        match statement {
+            Statement::If(_, yes, no) => {
+                found.push(no);
+                found.extend(elses(yes).into_iter().chain(elses(no)));
+            }
+            Statement::While(_, body) => found.extend(elses(body)),
+            _ => {}
+        }
+    }
+    found
+}
+
+/// What there is in a text that the layout has to deal with.
+fn about_layout(text: &[u8], read: &Macro) -> Vec<&'static str> {
+    let placed = tokens(text);
+    let kinds: Vec<&Token> = placed.iter().map(|placed| &placed.token).collect();
+    let is_empty = |part: &[&Token]| part == [&Token::OpenBrace, &Token::CloseBrace];
+    let is_empty_else = |part: &[&Token]| *part[0] == Token::Word(Word::Else) && is_empty(&part[1..3]);
+    let touches = |pair: &[Placed]| {
+        matches!(pair[0].token, Token::One | Token::Two)
+            && matches!(pair[1].token, Token::Name(_))
+            && pair[0].end == pair[1].start
+    };
+    let names = names(text);
+    let used_once = |name: &String| names.iter().filter(|other| is_same_name(other, name)).count() == 1;
+    let elses = elses(&read.statements);
+    let length = print_macro(read).len();
+    let found = [
+        ("an empty block", kinds.windows(2).any(is_empty)),
+        ("an empty else", kinds.windows(3).any(is_empty_else)),
+        (
+            "an empty else in a block",
+            kinds.windows(4).any(|part| is_empty_else(part) && *part[3] == Token::CloseBrace),
+        ),
+        ("an else of skip", elses.contains(&[Statement::Skip].as_slice())),
+        ("an else of an if", elses.iter().any(|no| matches!(no, [Statement::If(..)]))),
+        ("a number that touches a name", placed.windows(2).any(touches)),
+        ("a register that is never used", read.registers.iter().any(used_once)),
+        ("a function that is never used", read.functions.iter().any(|(name, _)| used_once(name))),
+        ("a use that is respelt", is_respelt(text, read)),
+        ("a comment", text.contains(&b'#')),
+        ("a tab", text.contains(&b'\t')),
+        ("a CR", text.contains(&b'\r')),
+        ("a print of just about 4,096 bytes", (4_092..=4_096).contains(&length)),
+        ("a print of more", length > 4_096),
+    ];
+    found.into_iter().filter_map(|(kind, there)| there.then_some(kind)).collect()
+}
+
+#[test]
+fn layouts() {
+    let mut about: BTreeMap<&str, usize> = BTreeMap::new();
+    for seed in 0..2_000 {
+        let (read, text) = text_to_lay_out(&mut Random::new(seed));
+        about_layout(&text, &read).into_iter().for_each(|kind| *about.entry(kind).or_default() += 1);
+    }
+    println!("{about:?}");
+    assert!(about.len() == 14 && about.values().all(|&count| count > 50), "{about:?}");
 }

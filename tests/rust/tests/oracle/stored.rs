@@ -1,10 +1,10 @@
-//! The stored runs of `verdict_runs` and `reader_runs`: each expected output is the oracle's.
+//! The stored runs of `verdict_runs`, `layout_runs` and `reader_runs`: each expected output is the oracle's.
 
 use std::fs;
 use std::path::{Path, PathBuf};
 
 use fadzgime_tests::oracle::listing::print_points;
-use fadzgime_tests::oracle::report::print_verdict;
+use fadzgime_tests::oracle::report::{print_layout, print_verdict};
 
 /// The inputs of a program by name, in the order in which it is given them.
 fn inputs(folder: &Path) -> Vec<(String, Vec<u8>)> {
@@ -29,6 +29,11 @@ fn check(program: &str, printed: fn(&str, &[u8]) -> String) {
 #[test]
 fn verdict_runs() {
     check("verdict_runs", |name, input| format!("{name}:\n{}", print_verdict(input)));
+}
+
+#[test]
+fn layout_runs() {
+    check("layout_runs", |name, input| format!("{name}:\n{}", print_layout(input)));
 }
 
 #[test]
