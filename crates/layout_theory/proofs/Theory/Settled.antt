@@ -8,25 +8,19 @@ use mathlib.Core.List.{List, _++_}
 use lib.Dec.{leb}
 use lib.ListN.{length, drop}
 use borrow.Author.Tests.{leb-true, leb-false, lt-leb}
-use Rattle.base.specs.Choice.{pick}
 use Rattle.base.proofs.Theory.Choice.{byTest}
 use Rattle.letters.specs.MacroRefusalNumbers.{printTooLong}
 use Rattle.letters.proofs.Theory.WordLaws.{and-true}
 use Rattle.grammar.specs.Grammar.{Macro}
 use Rattle.refusals.specs.Order.{Refusal}
 use Rattle.refusals.specs.Accepted.{Accepted}
+use Rattle.refusals.proofs.Theory.Basics.{and-false}
 use Rattle.refusals.proofs.Theory.Order.{refusal-number}
 use Rattle.refusals.proofs.Theory.Accepted.{Acceptance, Becomes, an-acceptance, accepted-once, never-both, refused-once}
 use Rattle.layout_theory.specs.Layout.{houseLayout, longestPrint}
-use Rattle.layout_theory.specs.Writing.{LayoutAnswer, printed, refused, printFits, WritesLayout}
+use Rattle.layout_theory.specs.Writing.{LayoutAnswer, printed, refused, printFits, answerFor, bufferFor, WritesLayout}
 
 -- ---- one way to meet it, and one at least
-
-abbrev settledAnswer : Bool → List ℕ → LayoutAnswer
-settledAnswer fits print = pick fits (λ _. printed (length print)) λ _. refused printTooLong 0
-
-abbrev settledBuffer : Bool → List ℕ → List ℕ → List ℕ
-settledBuffer fits print entry = pick fits (λ _. print ++ drop (length print) entry) λ _. entry
 
 pub written-somehow : (text entry : List ℕ) → (answer : LayoutAnswer) × (exit : List ℕ) × WritesLayout text entry answer exit
 written-somehow text entry = let (o, x) = an-acceptance text in go o x
@@ -42,12 +36,12 @@ written-somehow text entry = let (o, x) = an-acceptance text in go o x
       },
     )
     go (Acceptance.accepted m) a = (
-      settledAnswer (printFits (houseLayout m) entry) (houseLayout m),
-      settledBuffer (printFits (houseLayout m) entry) (houseLayout m) entry,
+      answerFor m entry,
+      bufferFor m entry,
       record {
         unread = λ k q s. absurd (never-both text a s);
-        answered = λ k b. ap (λ (n : Macro). settledAnswer (printFits (houseLayout n) entry) (houseLayout n)) (accepted-once text a b);
-        bytes = λ k b. ap (λ (n : Macro). settledBuffer (printFits (houseLayout n) entry) (houseLayout n) entry) (accepted-once text a b);
+        answered = λ k b. ap (λ (n : Macro). answerFor n entry) (accepted-once text a b);
+        bytes = λ k b. ap (λ (n : Macro). bufferFor n entry) (accepted-once text a b);
       },
     )
 
@@ -59,65 +53,79 @@ written-once text entry a b exit other x y = let (o, k) = an-acceptance text in 
     go (Acceptance.refused n p) r = let (e, f) = x .unread n p r in let (g, h) = y .unread n p r in (e ∙ sym g, f ∙ sym h)
     go (Acceptance.accepted m) r = (x .answered m r ∙ sym (y .answered m r), x .bytes m r ∙ sym (y .bytes m r))
 
--- ---- the numbers
+-- ---- a print that passes the lent buffer or the limit
+
+abbrev pub PrintPasses : List ℕ → List ℕ → Type 0
+PrintPasses print entry = (length entry < length print) ⊎ (longestPrint < length print)
+
+pub unfit-passes : (print entry : List ℕ) → printFits print entry ≡ false → PrintPasses print entry
+unfit-passes print entry = byTest (leb (length print) (length entry)) (λ t. rw t λ f. inr (leb-false (length print) longestPrint f))
+    λ t _. inl (leb-false (length print) (length entry) t)
+
+pub passes-unfit : (print entry : List ℕ) → PrintPasses print entry → printFits print entry ≡ false
+passes-unfit print entry (inl l) = rw (lt-leb (length print) (length entry) l)
+passes-unfit print entry (inr l) = rw (lt-leb (length print) longestPrint l) (and-false (leb (length print) (length entry)))
+
+-- ---- the ways to answer
+
+-- A text is refused as it is read; or its print passes, or it stands in the buffer.
+pub data WayWritten (text entry : List ℕ) (answer : LayoutAnswer) (exit : List ℕ) : Type 0 where
+  unread : (n p : ℕ) → Refusal text n p → answer ≡ refused n p → exit ≡ entry → WayWritten text entry answer exit
+  passing : (m : Macro) → Accepted text m → PrintPasses (houseLayout m) entry → answer ≡ refused printTooLong 0 → exit ≡ entry
+      → WayWritten text entry answer exit
+  standing : (m : Macro) → Accepted text m → length (houseLayout m) ≤ length entry → length (houseLayout m) ≤ longestPrint
+      → answer ≡ printed (length (houseLayout m)) → exit ≡ houseLayout m ++ drop (length (houseLayout m)) entry → WayWritten text entry answer exit
 
 -- an answer is a print or a refusal
-not-printed : (n : ℕ) {k p : ℕ} → printed n ≡ refused k p → ⊥
-not-printed n e = let z : _≡_ {A = ℕ} 0 1 = cc in omega arith
+pub not-printed : {answer : LayoutAnswer} {n k p : ℕ} → answer ≡ printed n → answer ≡ refused k p → ⊥
+not-printed e f = let z : _≡_ {A = ℕ} 0 1 = cc in omega arith
 
 module _ {text entry exit : List ℕ} {answer : LayoutAnswer} (x : WritesLayout text entry answer exit) where
-  abbrev Passes : Macro → Type 0
-  Passes m = (length entry < length (houseLayout m)) ⊎ (longestPrint < length (houseLayout m))
-
-  unfit-passes : (m : Macro) → printFits (houseLayout m) entry ≡ false → Passes m
-  unfit-passes m = byTest (leb (length (houseLayout m)) (length entry))
-      (λ t. rw t λ f. inr (leb-false (length (houseLayout m)) longestPrint f))
-      λ t _. inl (leb-false (length (houseLayout m)) (length entry) t)
-
-  passes-unfit : (m : Macro) → Passes m → printFits (houseLayout m) entry ≡ false
-  passes-unfit m (inl l) = rw (lt-leb (length (houseLayout m)) (length entry) l)
-  passes-unfit m (inr l) = byTest (leb (length (houseLayout m)) (length entry))
-      (λ t. rw (t, lt-leb (length (houseLayout m)) longestPrint l)) λ t. rw t
-
-  pub too-long-passes : answer ≡ refused printTooLong 0 → (m : Macro) × Accepted text m × Passes m
-  too-long-passes e = let (o, k) = an-acceptance text in go o k
+  pub way-written : WayWritten text entry answer exit
+  way-written = let (o, k) = an-acceptance text in go o k
     where
-      go : (o : Acceptance) → Becomes text o → (m : Macro) × Accepted text m × Passes m
-      go (Acceptance.refused n p) r =
-          let z : refused printTooLong 0 ≡ refused n p = sym e ∙ x .unread n p r .0 in
-          absurd (let y : printTooLong ≡ n = cc in omega (arith, refusal-number n p r .1))
-      go (Acceptance.accepted m) a = (
-        m,
-        a,
-        unfit-passes m (byTest (printFits (houseLayout m) entry)
-            (λ t. absurd (not-printed (length (houseLayout m)) (sym (x .answered m a ∙ rw t refl) ∙ e))) λ t. t),
-      )
+      go : (o : Acceptance) → Becomes text o → WayWritten text entry answer exit
+      go (Acceptance.refused n p) r = let (e, f) = x .unread n p r in WayWritten.unread n p r e f
+      go (Acceptance.accepted m) a = byTest (printFits (houseLayout m) entry)
+          (λ t.
+          let (w, s) = and-true (leb (length (houseLayout m)) (length entry)) (leb (length (houseLayout m)) longestPrint) t in
+          standing m a (leb-true (length (houseLayout m)) (length entry) w) (leb-true (length (houseLayout m)) longestPrint s)
+          (x .answered m a ∙ rw t refl) (x .bytes m a ∙ rw t refl))
+          λ t. passing m a (unfit-passes (houseLayout m) entry t) (x .answered m a ∙ rw t refl) (x .bytes m a ∙ rw t refl)
 
-  pub passes-too-long : (m : Macro) → Accepted text m → Passes m → answer ≡ refused printTooLong 0
-  passes-too-long m a p = x .answered m a ∙ rw (passes-unfit m p) refl
+  -- ---- the numbers
+
+  pub too-long-passes : answer ≡ refused printTooLong 0 → (m : Macro) × Accepted text m × PrintPasses (houseLayout m) entry
+  too-long-passes e = go way-written
+    where
+      go : WayWritten text entry answer exit → (m : Macro) × Accepted text m × PrintPasses (houseLayout m) entry
+      go (WayWritten.unread n p r f g) = absurd (let z : printTooLong ≡ n = cc in omega (arith, refusal-number n p r .1))
+      go (passing m a p f g) = (m, a, p)
+      go (standing m a w s f g) = absurd (not-printed f e)
+
+  pub passes-too-long : (m : Macro) → Accepted text m → PrintPasses (houseLayout m) entry → answer ≡ refused printTooLong 0
+  passes-too-long m a p = x .answered m a ∙ rw (passes-unfit (houseLayout m) entry p) refl
 
   pub low-as-read : (n p : ℕ) → answer ≡ refused n p → n < printTooLong → Refusal text n p
-  low-as-read n p e l = let (o, k) = an-acceptance text in go o k
+  low-as-read n p e l = go way-written
     where
-      go : (o : Acceptance) → Becomes text o → Refusal text n p
-      go (Acceptance.refused k q) r =
-          let z : refused n p ≡ refused k q = sym e ∙ x .unread k q r .0 in
-          let u : n ≡ k = cc in
-          let v : p ≡ q = cc in
-          subst (λ i. Refusal text i p) (sym u) (subst (Refusal text k) (sym v) r)
-      go (Acceptance.accepted m) a = byTest (printFits (houseLayout m) entry)
-          (λ t. absurd (not-printed (length (houseLayout m)) (sym (x .answered m a ∙ rw t refl) ∙ e)))
-          λ t. absurd (let z : refused printTooLong 0 ≡ refused n p = sym (x .answered m a ∙ rw t refl) ∙ e in let u : printTooLong ≡ n = cc in omega arith)
+      go : WayWritten text entry answer exit → Refusal text n p
+      go (WayWritten.unread k q r f g) =
+          let u : k ≡ n = cc in
+          let v : q ≡ p = cc in
+          subst (λ i. Refusal text i p) u (subst (Refusal text k) v r)
+      go (passing m a _ f g) = absurd (let z : printTooLong ≡ n = cc in omega arith)
+      go (standing m a w s f g) = absurd (not-printed f e)
 
   -- ---- the buffer
 
   pub refused-kept : (n p : ℕ) → answer ≡ refused n p → exit ≡ entry
-  refused-kept n p e = let (o, k) = an-acceptance text in go o k
+  refused-kept n p e = go way-written
     where
-      go : (o : Acceptance) → Becomes text o → exit ≡ entry
-      go (Acceptance.refused k q) r = x .unread k q r .1
-      go (Acceptance.accepted m) a = byTest (printFits (houseLayout m) entry)
-          (λ t. absurd (not-printed (length (houseLayout m)) (sym (x .answered m a ∙ rw t refl) ∙ e))) λ t. x .bytes m a ∙ rw t refl
+      go : WayWritten text entry answer exit → exit ≡ entry
+      go (WayWritten.unread k q r f g) = g
+      go (passing m a _ f g) = g
+      go (standing m a w s f g) = absurd (not-printed f e)
 
   pub record PrintWritten (n : ℕ) : Type 0 where
     pub macro : Macro
@@ -128,21 +136,18 @@ module _ {text entry exit : List ℕ} {answer : LayoutAnswer} (x : WritesLayout 
     pub stands : exit ≡ houseLayout macro ++ drop n entry
 
   pub printed-is : (n : ℕ) → answer ≡ printed n → PrintWritten n
-  printed-is n e = let (o, k) = an-acceptance text in go o k
+  printed-is n e = go way-written
     where
-      go : (o : Acceptance) → Becomes text o → PrintWritten n
-      go (Acceptance.refused k q) r = absurd (not-printed n (sym e ∙ x .unread k q r .0))
-      go (Acceptance.accepted m) a = byTest (printFits (houseLayout m) entry)
-          (λ t.
-          let (w, s) = and-true (leb (length (houseLayout m)) (length entry)) (leb (length (houseLayout m)) longestPrint) t in
-          let z : printed n ≡ printed (length (houseLayout m)) = sym e ∙ x .answered m a ∙ rw t refl in
+      go : WayWritten text entry answer exit → PrintWritten n
+      go (WayWritten.unread k q r f g) = absurd (not-printed e f)
+      go (passing m a _ f g) = absurd (not-printed e f)
+      go (standing m a w s f g) =
           let size : n ≡ length (houseLayout m) = cc in
           record {
             macro = m;
             accepted = a;
             size = size;
-            within = omega (arith, size, leb-true (length (houseLayout m)) (length entry) w);
-            short = omega (arith, size, leb-true (length (houseLayout m)) longestPrint s);
-            stands = x .bytes m a ∙ rw t refl ∙ ap (λ k. houseLayout m ++ drop k entry) (sym size);
-          })
-          λ t. let z : printed n ≡ refused printTooLong 0 = sym e ∙ x .answered m a ∙ rw t refl in absurd (not-printed n z)
+            within = omega arith;
+            short = omega arith;
+            stands = g ∙ ap (λ k. houseLayout m ++ drop k entry) (sym size);
+          }
