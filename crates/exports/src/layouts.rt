@@ -2,7 +2,7 @@
 use super::store;
 use layout_writer::LayoutWritten;
 ghost use mathlib.Core.Path.{_≡_};
-ghost use Rattle.layout_writer.specs.Answer.{writtenAnswer};
+ghost use Rattle.layout_writer.specs.Answer.{layoutAnswer};
 ghost use Rattle.exports.specs.LayoutCalls.{layoutNumbers, LaysOutMacro};
 
 // How many numbers the call answers.
@@ -10,7 +10,7 @@ const LAYOUT_NUMBERS: usize = 3;
 
 // The numbers of what printing a macro gives.
 fn layout_numbers(written: LayoutWritten) -> [u64; LAYOUT_NUMBERS]
-    ensures { λ r. ⌜ r ≡ layoutNumbers (writtenAnswer written) ⌝ }
+    ensures { λ r. ⌜ r ≡ layoutNumbers (layoutAnswer written) ⌝ }
 {
     match written {
         LayoutWritten::Printed(bytes) => [0, 0, bytes as u64],

@@ -3,6 +3,6 @@ use Rattle.layout_theory.specs.Writing.{LayoutAnswer, printed, refused}
 use Rattle.layout_writer.specs.declared.LayoutWritten.{LayoutWritten}
 use Rattle.layout_writer.specs.declared.LayoutWritten.the-variants.{Printed, Refused}
 
-abbrev pub writtenAnswer : LayoutWritten → LayoutAnswer
-writtenAnswer (Printed bytes) = printed bytes
-writtenAnswer (Refused number place) = refused number place
+abbrev pub layoutAnswer : LayoutWritten → LayoutAnswer
+layoutAnswer (Printed bytes) = printed bytes
+layoutAnswer (Refused number place) = refused number place

@@ -15,7 +15,7 @@ ghost use Rattle.text.specs.Names.{nameText};
 ghost use Rattle.grammar.specs.Limits.{longestText};
 ghost use Rattle.layout_theory.specs.Layout.{isWord, endsLine, blankBefore, lineEnd};
 ghost use Rattle.layout_theory.specs.Writing.{WritesLayout};
-ghost use Rattle.layout_writer.specs.Answer.{writtenAnswer};
+ghost use Rattle.layout_writer.specs.Answer.{layoutAnswer};
 ghost use Rattle.layout_writer.specs.Tokens.{FirstSpelled, PrintedAs, emptyBlockAt, LaysOut};
 
 /// No longer print is written.
@@ -176,7 +176,7 @@ fn put_tokens(text: &[u8], out: &mut [u8]) -> usize
 /// Prints the macro of a text in the house layout into the front of a lent buffer. Nothing is written on a refusal: by 7 to 13 as the reader
 /// gives them, or by 15 where the print is longer than the buffer or than `LONGEST_PRINT`. The bytes behind the print stay.
 pub fn write_layout(text: &[u8], out: &mut [u8]) -> LayoutWritten
-    ensures { λ r. ⌜ WritesLayout (now (text .entry)) (now (out .entry)) (writtenAnswer r) (now (out .exit)) ⌝ }
+    ensures { λ r. ⌜ WritesLayout (now (text .entry)) (now (out .entry)) (layoutAnswer r) (now (out .exit)) ⌝ }
 {
     let read = syntax::read(text);
     let refusal = read.refusal;

@@ -28,7 +28,7 @@ use Rattle.layout_theory.specs.Layout.{houseLayout, longestPrint}
 use Rattle.layout_theory.specs.Writing.{LayoutAnswer, printed, printFits, WritesLayout}
 use Rattle.layout_writer.specs.declared.LayoutWritten.{LayoutWritten}
 use Rattle.layout_writer.specs.declared.LayoutWritten.the-variants.{Printed, Refused}
-use Rattle.layout_writer.specs.Answer.{writtenAnswer}
+use Rattle.layout_writer.specs.Answer.{layoutAnswer}
 use Rattle.layout_lines.specs.Prints.{refusalLine, SaysLayout, mostLayoutLineBytes, PrintsLayoutLines}
 
 -- ── one way at most ──
@@ -138,12 +138,12 @@ module _ (text : List ℕ) where
         none true = refl
         none false = refl
 
-    module _ (answer : LayoutWritten) (n : ℕ) (is : answer ≡ Printed n) (exit : List ℕ) (wrote : WritesLayout text entry (writtenAnswer answer) exit) where
+    module _ (answer : LayoutWritten) (n : ℕ) (is : answer ≡ Printed n) (exit : List ℕ) (wrote : WritesLayout text entry (layoutAnswer answer) exit) where
       pub print-printed : PrintsLayoutLines text entry n exit
       print-printed = let (o, k) = an-acceptance text in go o k
         where
           w : WritesLayout text entry (printed n) exit
-          w = subst (λ (x : LayoutWritten). WritesLayout text entry (writtenAnswer x) exit) is wrote
+          w = subst (λ (x : LayoutWritten). WritesLayout text entry (layoutAnswer x) exit) is wrote
 
           accepted : (m : Macro) → Accepted text m → PrintsLayoutLines text entry n exit
           accepted m a =
@@ -164,9 +164,9 @@ module _ (text : List ℕ) where
           go (Acceptance.accepted m) a = accepted m a
 
     module _ (answer : LayoutWritten) (number place : ℕ) (is : answer ≡ Refused number place) (middle : List ℕ)
-        (wrote : WritesLayout text entry (writtenAnswer answer) middle) where
+        (wrote : WritesLayout text entry (layoutAnswer answer) middle) where
       w : WritesLayout text entry (LayoutAnswer.refused number place) middle
-      w = subst (λ (x : LayoutWritten). WritesLayout text entry (writtenAnswer x) middle) is wrote
+      w = subst (λ (x : LayoutWritten). WritesLayout text entry (layoutAnswer x) middle) is wrote
 
       -- that line is the text's, and nothing was written
       refusal-left : Said text (refusalLine number place) × (middle ≡ entry)

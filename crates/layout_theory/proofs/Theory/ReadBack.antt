@@ -7,7 +7,7 @@ use mathlib.Core.List.{List, [], _∷_}
 use lib.Dec.{ltb, leb, eqb}
 use lib.ListN.{length, getD, take, drop}
 use lib.Seq.{getD-take, length-take-le, ext-getD}
-use borrow.Author.Tests.{eqb-true, ltb-true, leb-false}
+use borrow.Author.Tests.{eqb-true, ltb-true}
 use Rattle.base.specs.Recursion.{withinCalls, fixed}
 use Rattle.base.proofs.Theory.Choice.{byTest}
 use Rattle.letters.proofs.Theory.WordLaws.{and-true}
@@ -25,13 +25,14 @@ use Rattle.grammar.specs.Grammar.{Macro, sentence}
 use Rattle.grammar.specs.Spelled.{Spelled, InOrder, Arities, firstRegister, registerLength, firstFunction, entryLength, spelledRegisters, spelledFunctions}
 use Rattle.refusals.specs.Accepted.{Accepted}
 use Rattle.refusals.specs.Order.{Refusal}
+use Rattle.refusals.proofs.Theory.Basics.{clash}
 use Rattle.refusals.proofs.Theory.Accepted.{never-both}
 use Rattle.refusals.proofs.Theory.Declared.{Holds, register-held, function-held, register-declared, register-spelled, function-declared, function-spelled}
 use Rattle.layout_theory.specs.Layout.{withoutEmptyElses, asDeclared, spaced, printTokens, houseLayout, longestPrint}
 use Rattle.layout_theory.proofs.Theory.Pairs.{fixedTokens, isFixedToken, pass-among, Pairwise, sentence-pairs}
 use Rattle.layout_theory.proofs.Theory.Dropping.{order-short, size-short, macro-short-twice}
 use Rattle.layout_theory.proofs.Theory.Spaced.{OneToken, HeldAs, SpellsAs, SpelledWhole}
-use Rattle.layout_theory.proofs.Theory.Spaced.{false-true, spells-keys, all-printed, spaced-spelled}
+use Rattle.layout_theory.proofs.Theory.Spaced.{spells-keys, all-printed, spaced-spelled}
 
 -- ---- words and signs
 
@@ -97,7 +98,7 @@ token-one s at =
     subst OneToken (sym bytes) (record { some = subst (λ n. 0 < n) (sym size) (positive (width r) u); whole = width-take r ∙ sym size }))
   where
     positive : (w : ℕ) → eqb w 0 ≡ false → 0 < w
-    positive zero e = false-true (sym e)
+    positive zero e = absurd (clash refl e)
     positive (suc w) e = omega arith
 
 -- a token that declares a name is printed as it is spelled, and known by the same key

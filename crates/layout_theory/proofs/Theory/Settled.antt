@@ -3,11 +3,11 @@ use mathlib.Core.Path.{_≡_, refl, sym, ap, subst, _∙_}
 use mathlib.Core.Logic.{_⊎_, inl, inr}
 use Prim.Native.Nat.{ℕ, _≤_, _<_}
 use native.Mathlib.Omega.{arith}
-use mathlib.Core.Bool.{Bool, false}
+use mathlib.Core.Bool.{true, false}
 use mathlib.Core.List.{List, _++_}
 use lib.Dec.{leb}
 use lib.ListN.{length, drop}
-use borrow.Author.Tests.{leb-true, leb-false, lt-leb}
+use borrow.Author.Tests.{leb-true, leb-false, le-leb, lt-leb}
 use Rattle.base.proofs.Theory.Choice.{byTest}
 use Rattle.letters.specs.MacroRefusalNumbers.{printTooLong}
 use Rattle.letters.proofs.Theory.WordLaws.{and-true}
@@ -65,6 +65,9 @@ unfit-passes print entry = byTest (leb (length print) (length entry)) (λ t. rw 
 pub passes-unfit : (print entry : List ℕ) → PrintPasses print entry → printFits print entry ≡ false
 passes-unfit print entry (inl l) = rw (lt-leb (length print) (length entry) l)
 passes-unfit print entry (inr l) = rw (lt-leb (length print) longestPrint l) (and-false (leb (length print) (length entry)))
+
+pub short-fits : (print entry : List ℕ) → length print ≤ length entry → length print ≤ longestPrint → printFits print entry ≡ true
+short-fits print entry w s = rw (le-leb (length print) (length entry) w, le-leb (length print) longestPrint s)
 
 -- ---- the ways to answer
 

@@ -1,6 +1,6 @@
 -- The tokens of a spaced list of tokens are that list (SPEC 8.2, 8.6).
 use mathlib.Core.Path.{_≡_, refl, sym, ap, _∙_, subst}
-use Prim.Native.Nat.{ℕ, suc, _+_, _≤_, _<_}
+use Prim.Native.Nat.{ℕ, suc, _+_, _<_}
 use native.Mathlib.Omega.{arith}
 use mathlib.Core.Bool.{Bool, true, false, _&&_, _||_}
 use mathlib.Core.List.{List, [], _∷_, _++_, append-assoc}
@@ -18,12 +18,9 @@ use Rattle.tokens.proofs.Theory.TokensLaws.{token-end, token-read}
 use Rattle.text.specs.Names.{nameText}
 use Rattle.text.proofs.Theory.Names.{name-law}
 use Rattle.grammar.specs.Spelled.{Spells}
+use Rattle.refusals.proofs.Theory.Basics.{clash}
 use Rattle.layout_theory.specs.Layout.{firstByte, isWord, endsLine, space, lineFeed, blankBefore, lineEnd, spaced}
 use Rattle.layout_theory.proofs.Theory.Pairs.{Pairwise}
-
--- what follows from a test that is both
-pub false-true : {A : Type 0} → false ≡ true → A
-false-true e = let z : _≡_ {A = ℕ} 0 1 = cc in absurd (omega arith)
 
 -- ---- tokens as bytes
 
@@ -112,7 +109,7 @@ line-end-sign : (w : ℕ) → isWord w ≡ true → lineEnd w ≡ []
 line-end-sign w h = rw (other word.semicolonKey refl, other word.lbraceKey refl, other word.rbraceKey refl)
   where
     other : (c : ℕ) → isWord c ≡ false → eqb w c ≡ false
-    other c f = ne-eqb w c λ e. false-true (sym f ∙ ap isWord (sym e) ∙ h)
+    other c f = ne-eqb w c λ e. clash (ap isWord (sym e) ∙ h) f
 
 -- ---- behind a word
 
@@ -170,7 +167,7 @@ word-ends w ws P = record {
   where
     or-left : (p q : Bool) → p ≡ true → p || q ≡ true
     or-left true q e = refl
-    or-left false q e = false-true e
+    or-left false q e = absurd (clash e refl)
 
 width-kept : (b rest : List ℕ) → OneToken b → EndsThere b rest → width (b ++ rest) ≡ length b
 width-kept [] rest o f = absurd (let z = o .some in omega arith)

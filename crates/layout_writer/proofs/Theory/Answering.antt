@@ -1,13 +1,11 @@
 -- The writer's answer: a refusal of the reader, the number of a print that is too long, or the print.
 use mathlib.Core.Path.{_≡_, refl, ap, _∙_, subst}
+use mathlib.Core.Logic.{inl, inr}
 use Prim.Native.Nat.{ℕ, _+_, _≤_, _<_}
 use native.Mathlib.Omega.{arith}
-use mathlib.Core.Bool.{Bool, true, false, _&&_}
+use mathlib.Core.Bool.{true}
 use mathlib.Core.List.{List, [], _∷_, _++_}
-use lib.Dec.{leb}
 use lib.ListN.{length, drop}
-use borrow.Author.Tests.{le-leb, lt-leb}
-use Rattle.base.specs.Choice.{pick}
 use Rattle.letters.specs.MacroRefusalNumbers.{printTooLong}
 use Rattle.text.specs.Appending.{Appended}
 use Rattle.text.proofs.Theory.Appending.{stored-between, appended-length}
@@ -18,22 +16,13 @@ use Rattle.refusals.proofs.Theory.Accepted.{never-both}
 use Rattle.syntax.specs.Reads.{Reads}
 use Rattle.syntax.specs.declared.MacroRead.{MacroRead}
 use Rattle.layout_theory.specs.Layout.{houseLayout, longestPrint}
-use Rattle.layout_theory.specs.Writing.{LayoutAnswer, printed, refused, printFits, WritesLayout}
+use Rattle.layout_theory.specs.Writing.{LayoutAnswer, printed, refused, printFits, answerFor, bufferFor, WritesLayout}
+use Rattle.layout_theory.proofs.Theory.Settled.{PrintPasses, passes-unfit, short-fits}
 use Rattle.layout_writer.specs.Tokens.{LaysOut}
 
 no-length : (l : List ℕ) → length l ≡ 0 → l ≡ []
 no-length [] e = refl
 no-length (x ∷ l) e = absurd (omega arith)
-
-both-fit : {a b : Bool} → a ≡ true → b ≡ true → (a && b) ≡ true
-both-fit e f = rw (e, f)
-
-first-unfit : {a : Bool} (b : Bool) → a ≡ false → (a && b) ≡ false
-first-unfit b e = rw e
-
-second-unfit : (a : Bool) {b : Bool} → b ≡ false → (a && b) ≡ false
-second-unfit true e = e
-second-unfit false e = refl
 
 module _ (s entry : List ℕ) (read : MacroRead) (R : Reads s read) where
   pub refusal-answered : (read .refusal ≡ 0 → ⊥) → WritesLayout s entry (refused (read .refusal) (read .place)) entry
@@ -58,22 +47,19 @@ module _ (s entry : List ℕ) (read : MacroRead) (R : Reads s read) where
       measured m A = omega (arith, L .print m A .place)
 
       answer : (r : LayoutAnswer) (exit : List ℕ)
-          → ((m : Macro) → Accepted s m → r ≡ pick (printFits (houseLayout m) entry) (λ _. printed (length (houseLayout m))) λ _. refused printTooLong 0)
-          → ((m : Macro) → Accepted s m → exit ≡ pick (printFits (houseLayout m) entry) (λ _. houseLayout m ++ drop (length (houseLayout m)) entry) λ _. entry)
+          → ((m : Macro) → Accepted s m → r ≡ answerFor m entry) → ((m : Macro) → Accepted s m → exit ≡ bufferFor m entry)
           → WritesLayout s entry r exit
       answer r exit a b = record { unread = λ n p q. absurd (never-both s (R .accepted h .1) q); answered = a; bytes = b }
 
-      unfit : ((m : Macro) → Accepted s m → printFits (houseLayout m) entry ≡ false) → WritesLayout s entry (refused printTooLong 0) (none ++ entry)
-      unfit f = answer (refused printTooLong 0) (none ++ entry) (λ m A. rw (f m A)) λ m A. buffer-kept ∙ rw (f m A)
+      passes : ((m : Macro) → Accepted s m → PrintPasses (houseLayout m) entry) → WritesLayout s entry (refused printTooLong 0) (none ++ entry)
+      passes f = answer (refused printTooLong 0) (none ++ entry) (λ m A. rw (passes-unfit (houseLayout m) entry (f m A)))
+          λ m A. buffer-kept ∙ rw (passes-unfit (houseLayout m) entry (f m A))
 
       pub passes-limit : longestPrint < size → WritesLayout s entry (refused printTooLong 0) (none ++ entry)
-      passes-limit l = unfit λ m A.
-          second-unfit (leb (length (houseLayout m)) (length entry)) (lt-leb (length (houseLayout m)) longestPrint (omega (arith, measured m A)))
+      passes-limit l = passes λ m A. inr (omega (arith, measured m A))
 
       pub passes-buffer : length (none ++ entry) < size → WritesLayout s entry (refused printTooLong 0) (none ++ entry)
-      passes-buffer l = unfit λ m A.
-          first-unfit (leb (length (houseLayout m)) longestPrint)
-          (lt-leb (length (houseLayout m)) (length entry) (omega (arith, measured m A, ap (λ l. length l) buffer-kept)))
+      passes-buffer l = passes λ m A. inl (omega (arith, measured m A, ap (λ l. length l) buffer-kept))
 
       pub print-answered : size ≤ longestPrint → size ≤ length (none ++ entry) → (next : ℕ) (exit : List ℕ) → LaysOut s (none ++ entry) next exit
           → WritesLayout s entry (printed next) exit
@@ -82,8 +68,7 @@ module _ (s entry : List ℕ) (read : MacroRead) (R : Reads s read) where
           λ m A. rw (fits m A) (stands m A)
         where
           fits : (m : Macro) → Accepted s m → printFits (houseLayout m) entry ≡ true
-          fits m A = both-fit (le-leb (length (houseLayout m)) (length entry) (omega (arith, measured m A, ap (λ l. length l) buffer-kept)))
-              (le-leb (length (houseLayout m)) longestPrint (omega (arith, measured m A)))
+          fits m A = short-fits (houseLayout m) entry (omega (arith, measured m A, ap (λ l. length l) buffer-kept)) (omega (arith, measured m A))
 
           stands : (m : Macro) → Accepted s m → exit ≡ houseLayout m ++ drop (length (houseLayout m)) entry
           stands m A =

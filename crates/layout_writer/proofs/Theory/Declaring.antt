@@ -7,31 +7,27 @@ use mathlib.Core.List.{List, [], _∷_, _++_}
 use lib.ListN.{length, getD, length-append, List·getD-append}
 use Rattle.tokens.specs.Words.{isName}
 use Rattle.tokens.specs.Words as word
-use Rattle.tokens.specs.Tokens.{tokenAt, placeBehind, placeOf}
+use Rattle.tokens.specs.Tokens.{tokenAt, placeOf}
 use Rattle.tokens.proofs.Theory.TokensLaws.{behind-both}
 use Rattle.grammar.specs.Grammar.{Macro, sentence, entryTokens, functionTokens, blockTokens}
 use Rattle.grammar.specs.Spelled.{Spells, Declared, Disjoint, Arities, InOrder, firstRegister, firstFunction, entryLength}
 use Rattle.refusals.specs.Accepted.{Accepted}
+use Rattle.refusals.proofs.Theory.Basics.{clash, not-true}
 use Rattle.refusals.proofs.Theory.Declared.{three-more, spells-at, register-spelled, function-spelled}
 use Rattle.layout_theory.specs.Layout.{withoutEmptyElses, printTokens}
 use Rattle.layout_theory.proofs.Theory.Pairs.{fixedTokens, isFixedToken, pass-among, Pairwise, sentence-pairs}
 use Rattle.layout_theory.proofs.Theory.Dropping.{order-short}
-use Rattle.layout_theory.proofs.Theory.Spaced.{false-true}
 use Rattle.layout_theory.proofs.Theory.ReadBack.{registers-spelled, functions-spelled}
 use Rattle.layout_writer.specs.Tokens.{tokenBehind, IsFirst, PrintedAs}
 
 -- ---- names, and what is none
 
 no-name : {j k : ℕ} → isName j ≡ false → isName k ≡ true → j ≡ k → ⊥
-no-name n t e = false-true (sym (sym t ∙ ap isName (sym e) ∙ n))
+no-name n t e = clash t (ap isName (sym e) ∙ n)
 
 -- a word or a sign is no name
 fixed-no-name : (k : ℕ) → isFixedToken k ≡ true → isName k ≡ false
-fixed-no-name k t = opposite (isName k) (pass-among (λ w. not (isName w)) fixedTokens refl k t)
-  where
-    opposite : (b : Bool) → not b ≡ true → b ≡ false
-    opposite true e = sym e
-    opposite false e = refl
+fixed-no-name k t = not-true (isName k) (pass-among (λ w. not (isName w)) fixedTokens refl k t)
 
 -- ---- the first entry of a list that is k
 

@@ -15,7 +15,7 @@ use Rattle.tokens.specs.Bytes.{gap}
 use Rattle.tokens.specs.Tokens.{token, tokenAt, placeBehind}
 use Rattle.tokens.specs.declared.Token.{Token}
 use Rattle.tokens.proofs.Theory.TokensLaws.{token-advance, token-end}
-use Rattle.layout_theory.proofs.Theory.Spaced.{false-true}
+use Rattle.refusals.proofs.Theory.Basics.{clash}
 use Rattle.layout_writer.specs.Tokens.{tokenBehind, IsFirst, FirstSpelled, PrintedAs, emptyBlockAt}
 
 module _ (s : List ℕ) (at : ℕ) (t : Token) where
@@ -101,7 +101,7 @@ goes-further s at t e l =
 
 module _ (s : List ℕ) (from k : ℕ) (r : Bool) (e : r ≡ isName k) where
   pub name-printed : (w : ℕ) → r ≡ true → FirstSpelled s from k w → PrintedAs s from k w
-  name-printed w t F = record { name = λ _. F; other = λ f. false-true (sym (sym t ∙ e ∙ f)) }
+  name-printed w t F = record { name = λ _. F; other = λ f. absurd (clash t (e ∙ f)) }
 
   pub other-printed : r ≡ false → PrintedAs s from k k
-  other-printed f = record { name = λ t. false-true (sym (sym t ∙ sym e ∙ f)); other = λ _. refl }
+  other-printed f = record { name = λ t. absurd (clash t (sym e ∙ f)); other = λ _. refl }

@@ -22,9 +22,9 @@ use Rattle.grammar.specs.Limits.{longestText}
 use Rattle.grammar.specs.Grammar.{Macro, sentence}
 use Rattle.grammar.specs.Spelled.{Spells}
 use Rattle.refusals.specs.Accepted.{Accepted}
+use Rattle.refusals.proofs.Theory.Basics.{clash}
 use Rattle.layout_theory.specs.Layout.{withoutEmptyElses, isWord, endsLine, space, lineFeed, blankBefore, lineEnd, spaced, printTokens, houseLayout}
 use Rattle.layout_theory.proofs.Theory.Pairs.{Pairwise}
-use Rattle.layout_theory.proofs.Theory.Spaced.{false-true}
 use Rattle.layout_theory.proofs.Theory.Dropping.{Shortened, sentence-shortened}
 use Rattle.layout_writer.specs.Tokens.{PrintedAs, emptyBlockAt}
 use Rattle.layout_writer.proofs.Theory.Finding.{text-ended, goes-further}
@@ -166,8 +166,7 @@ module _ (s all entry : List ℕ) (at : ℕ) (follows : Bool) (now : List ℕ) (
           go : {place : ℕ} {ks vs ws : List ℕ} → Spells s at ks place → tokenAt s place .key ≡ word.end → Shortened ks vs → Pairwise (OnlyPrintedAs s) vs ws
               → LeftToAppend entry 0 all (spaced follows ws) now size → LeftToPrint s all entry (t .end) word-put exit next
           go Spells.none ended S Q left = absurd (omega (arith, ended, key-is))
-          go (Spells.more a l (Spells.more b m (Spells.more c k p))) ended (Shortened.dropped S) Q left =
-              false-true (sym (sym (empty-else a b c) ∙ f))
+          go (Spells.more a l (Spells.more b m (Spells.more c k p))) ended (Shortened.dropped S) Q left = absurd (clash (empty-else a b c) f)
           go (Spells.more a l p) ended (Shortened.filled n S) (Pairwise.more o Q) left = goes-on ended p S Q (only a o) left
           go (Spells.more a l p) ended (Shortened.other n S) (Pairwise.more o Q) left = goes-on ended p S Q (only a o) left
 
