@@ -17,13 +17,17 @@ use Rattle.layout_theory.specs.Layout.{houseLayout, longestPrint}
 abbrev pub refusalLine : ℕ → ℕ → List ℕ
 refusalLine number place = line (refusedWord ∷ numeral number ∷ atWord ∷ numeral place ∷ [])
 
+-- What is printed of the macro of an accepted text: "Writers want a macro printed back"; or "15, given last, when the print passes [..] 4,096 bytes", which
+-- are lent (SPEC 8.6, 11.3, 12.6).
+abbrev pub printLines : Macro → List ℕ
+printLines m = pick (leb (length (houseLayout m)) longestPrint) (λ _. houseLayout m) λ _. refusalLine printTooLong 0
+
 -- The lines for a text (SPEC 12.6).
 pub record SaysLayout (text lines : List ℕ) : Type 0 where
   -- a text that is refused, by 7 to 13 (SPEC 11.3)
   pub unread : (number place : ℕ) → Refusal text number place → lines ≡ refusalLine number place
-  -- "Writers want a macro printed back"; or "15, given last, when the print passes [..] 4,096 bytes", which are lent (SPEC 8.6, 11.3, 12.6)
-  pub print : (m : Macro) → Accepted text m
-      → lines ≡ pick (leb (length (houseLayout m)) longestPrint) (λ _. houseLayout m) λ _. refusalLine printTooLong 0
+  -- a text that is that of the macro m (SPEC 8.6)
+  pub print : (m : Macro) → Accepted text m → lines ≡ printLines m
 
 -- The lines are never longer: a refusal line is far shorter than the longest print.
 abbrev pub mostLayoutLineBytes : ℕ

@@ -22,8 +22,8 @@ use Rattle.refusals.specs.Accepted.{Accepted}
 use Rattle.refusals.proofs.Theory.Accepted.{read-accepted, accepted-once, refused-once, never-both}
 use Rattle.report.specs.Lines.{line}
 use Rattle.layout_theory.specs.Layout.{houseLayout, spaced}
-use Rattle.layout_lines.specs.Prints.{refusalLine, SaysLayout}
-use Rattle.layout_lines.proofs.Theory.PrintsLaws.{printLines, one-layout-said}
+use Rattle.layout_lines.specs.Prints.{refusalLine, printLines, SaysLayout}
+use Rattle.layout_lines.proofs.Theory.PrintsLaws.{one-layout-said}
 
 -- vars x;
 abbrev register-text : List ℕ

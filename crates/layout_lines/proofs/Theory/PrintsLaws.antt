@@ -1,6 +1,6 @@
 -- What is printed for a text is settled, and never longer than `mostLayoutLineBytes`; and what the layout writer leaves becomes the program's lines.
 use mathlib.Core.Path.{_≡_, refl, sym, ap, _∙_, subst}
-use mathlib.Core.Bool.{Bool, true, false, _&&_}
+use mathlib.Core.Logic.{⊎-elim}
 use mathlib.Core.List.{List, _++_}
 use Prim.Native.Nat.{ℕ, _+_, _^_, _≤_, _<_}
 use native.Mathlib.Omega.{arith}
@@ -10,7 +10,7 @@ use lib.Seq.{length-take-le}
 use borrow.Author.Tests.{leb-true, leb-false, le-leb, lt-leb}
 use Rattle.base.specs.Choice.{pick}
 use Rattle.base.proofs.Theory.Choice.{byTest}
-use Rattle.letters.specs.MacroRefusalNumbers.{printTooLong, pointsTooMany}
+use Rattle.letters.specs.MacroRefusalNumbers.{printTooLong}
 use Rattle.tokens.specs.Bytes.{width}
 use Rattle.tokens.specs.Tokens.{tokenAt, skipBlanks, placeOf}
 use Rattle.text.specs.Appending.{Appended}
@@ -18,18 +18,19 @@ use Rattle.text.proofs.Theory.Appending.{stored-between}
 use Rattle.text.proofs.Theory.Numerals.{long-number}
 use Rattle.grammar.specs.Limits.{longestText}
 use Rattle.grammar.specs.Grammar.{Macro}
-use Rattle.refusals.specs.Questions.{No}
 use Rattle.refusals.specs.Order.{Refusal}
 use Rattle.refusals.specs.Accepted.{Accepted}
+use Rattle.refusals.proofs.Theory.Order.{refusal-number}
 use Rattle.refusals.proofs.Theory.Accepted.{Acceptance, Becomes, an-acceptance, accepted-once, refused-once, never-both}
 use Rattle.refusals.proofs.Theory.Accepted as acceptance
 use Rattle.report.specs.Lines.{line}
 use Rattle.layout_theory.specs.Layout.{houseLayout, longestPrint}
-use Rattle.layout_theory.specs.Writing.{LayoutAnswer, printed, printFits, WritesLayout}
+use Rattle.layout_theory.specs.Writing.{LayoutAnswer, WritesLayout}
+use Rattle.layout_theory.proofs.Theory.Settled.{WayWritten, passing, standing, way-written, not-printed, refused-kept, printed-is}
 use Rattle.layout_writer.specs.declared.LayoutWritten.{LayoutWritten}
 use Rattle.layout_writer.specs.declared.LayoutWritten.the-variants.{Printed, Refused}
 use Rattle.layout_writer.specs.Answer.{layoutAnswer}
-use Rattle.layout_lines.specs.Prints.{refusalLine, SaysLayout, mostLayoutLineBytes, PrintsLayoutLines}
+use Rattle.layout_lines.specs.Prints.{refusalLine, printLines, SaysLayout, mostLayoutLineBytes, PrintsLayoutLines}
 
 -- ── one way at most ──
 
@@ -64,28 +65,25 @@ start-within s at =
     let l = leb-false (length s) p t in
     rw t (byTest (eqb (width (drop p s)) 0) (λ u. rw u (omega (arith, l))) λ u. rw u (omega (arith, l)))
 
-asked-few : {n : ℕ} {before : List ℕ} {k next : ℕ} → No n before k next → n ≤ pointsTooMany
-asked-few (No.no-token e) = omega arith
-asked-few (No.unfit e) = omega arith
-asked-few (No.redeclared e) = omega arith
-asked-few (No.misused e) = omega arith
-asked-few (No.too-deep e) = omega arith
-
-refusal-small : (text : List ℕ) {n p : ℕ} → Refusal text n p → (n ≤ pointsTooMany) × (p ≤ longestText)
-refusal-small text (Refusal.long l) = (omega arith, omega arith)
-refusal-small text (Refusal.token l f) = (asked-few (f .no), omega (arith, l, f .place, start-within text (placeOf text (f .index))))
-refusal-small text (Refusal.points m l s o k) = (omega arith, omega arith)
+refusal-place : (text : List ℕ) {n p : ℕ} → Refusal text n p → p ≤ longestText
+refusal-place text (Refusal.long l) = omega arith
+refusal-place text (Refusal.token l f) = omega (arith, l, f .place, start-within text (placeOf text (f .index)))
+refusal-place text (Refusal.points m l s o k) = omega arith
 
 -- ── what is said of a text ──
-
--- What is printed of a macro.
-abbrev pub printLines : Macro → List ℕ
-printLines m = pick (leb (length (houseLayout m)) longestPrint) (λ _. houseLayout m) λ _. refusalLine printTooLong 0
 
 -- Lines that a text has, and that are few.
 record Said (text lines : List ℕ) : Type 0 where
   says : SaysLayout text lines
   few : length lines ≤ mostLayoutLineBytes
+
+-- two answers that are one have one line
+same-line : {text : List ℕ} {number place : ℕ} (n p : ℕ) → LayoutAnswer.refused n p ≡ LayoutAnswer.refused number place → Said text (refusalLine n p)
+    → Said text (refusalLine number place)
+same-line {text} {number} {place} n p e s =
+    let i : n ≡ number = cc in
+    let j : p ≡ place = cc in
+    subst (Said text) (λ k. refusalLine (i k) (j k)) s
 
 module _ (text : List ℕ) where
   refusal-said : (n p : ℕ) → Refusal text n p → Said text (refusalLine n p)
@@ -94,7 +92,7 @@ module _ (text : List ℕ) where
       unread = λ k q x. let (e, f) = refused-once text r x in λ i. refusalLine (e i) (f i);
       print = λ m a. absurd (never-both text a r);
     };
-    few = let (l, h) = refusal-small text r in refusal-few n p (omega (arith, l)) (omega (arith, h));
+    few = refusal-few n p (omega (arith, refusal-number n p r .1)) (omega (arith, refusal-place text r));
   }
 
   print-said : (m : Macro) → Accepted text m → Said text (printLines m)
@@ -128,77 +126,31 @@ module _ (text : List ℕ) where
         let t = le-leb mostLayoutLineBytes (length entry) room in
         record { lines = lines; says = x .says; few = x .few; given = rw t e; bytes = rw t f }
 
-    -- the buffer is no bound of its own
-    fits : (m : Macro) → printFits (houseLayout m) entry ≡ leb (length (houseLayout m)) longestPrint
-    fits m = byTest (leb (length (houseLayout m)) longestPrint)
-        (λ t. rw (t, le-leb (length (houseLayout m)) (length entry) (omega (arith, leb-true (length (houseLayout m)) longestPrint t))))
-        λ t. rw t (none (leb (length (houseLayout m)) (length entry)))
-      where
-        none : (b : Bool) → (b && false) ≡ false
-        none true = refl
-        none false = refl
-
     module _ (answer : LayoutWritten) (n : ℕ) (is : answer ≡ Printed n) (exit : List ℕ) (wrote : WritesLayout text entry (layoutAnswer answer) exit) where
       pub print-printed : PrintsLayoutLines text entry n exit
-      print-printed = let (o, k) = an-acceptance text in go o k
-        where
-          w : WritesLayout text entry (printed n) exit
-          w = subst (λ (x : LayoutWritten). WritesLayout text entry (layoutAnswer x) exit) is wrote
-
-          accepted : (m : Macro) → Accepted text m → PrintsLayoutLines text entry n exit
-          accepted m a =
-              let said = print-said m a in
-              let told = w .answered m a in
-              let bytes = w .bytes m a in
-              byTest (leb (length (houseLayout m)) longestPrint)
-              (λ t.
-              let e : printed n ≡ printed (length (houseLayout m)) = told ∙ rw (fits m, t) refl in
-              let f : exit ≡ houseLayout m ++ drop (length (houseLayout m)) entry = bytes ∙ rw (fits m, t) refl in
-              let s : Said text (houseLayout m) = rw t at said in
-              prints (houseLayout m) n exit s (cc) f)
-              λ t. let e : printed n ≡ LayoutAnswer.refused printTooLong 0 = told ∙ rw (fits m, t) refl in absurd (let z : _≡_ {A = ℕ} 0 1 = cc in omega arith)
-
-          go : (o : Acceptance) → Becomes text o → PrintsLayoutLines text entry n exit
-          go (acceptance.refused k p) r =
-              let e : printed n ≡ LayoutAnswer.refused k p = w .unread k p r .0 in absurd (let z : _≡_ {A = ℕ} 0 1 = cc in omega arith)
-          go (Acceptance.accepted m) a = accepted m a
+      print-printed =
+          let x = printed-is wrote n (ap layoutAnswer is) in
+          let print = houseLayout (x .macro) in
+          let s : Said text print = rw (le-leb (length print) longestPrint (omega arith)) at (print-said (x .macro) (x .accepted)) in
+          prints print n exit s (x .size) (x .stands ∙ ap (λ k. print ++ drop k entry) (x .size))
 
     module _ (answer : LayoutWritten) (number place : ℕ) (is : answer ≡ Refused number place) (middle : List ℕ)
         (wrote : WritesLayout text entry (layoutAnswer answer) middle) where
-      w : WritesLayout text entry (LayoutAnswer.refused number place) middle
-      w = subst (λ (x : LayoutWritten). WritesLayout text entry (layoutAnswer x) middle) is wrote
+      told : layoutAnswer answer ≡ LayoutAnswer.refused number place
+      told = ap layoutAnswer is
 
-      -- that line is the text's, and nothing was written
-      refusal-left : Said text (refusalLine number place) × (middle ≡ entry)
-      refusal-left = let (o, k) = an-acceptance text in go o k
-        where
-          accepted : (m : Macro) → Accepted text m → Said text (refusalLine number place) × (middle ≡ entry)
-          accepted m a =
-              let said = print-said m a in
-              let told = w .answered m a in
-              let bytes = w .bytes m a in
-              byTest (leb (length (houseLayout m)) longestPrint)
-              (λ t.
-              let e : LayoutAnswer.refused number place ≡ printed (length (houseLayout m)) = told ∙ rw (fits m, t) refl in
-              absurd (let z : _≡_ {A = ℕ} 0 1 = cc in omega arith))
-              λ t.
-              let e : LayoutAnswer.refused number place ≡ LayoutAnswer.refused printTooLong 0 = told ∙ rw (fits m, t) refl in
-              let i : printTooLong ≡ number = cc in
-              let j : 0 ≡ place = cc in
-              let s : Said text (refusalLine printTooLong 0) = rw t at said in
-              (subst (Said text) (λ k. refusalLine (i k) (j k)) s, bytes ∙ rw (fits m, t) refl)
-
-          go : (o : Acceptance) → Becomes text o → Said text (refusalLine number place) × (middle ≡ entry)
-          go (acceptance.refused n p) r =
-              let (e, f) = w .unread n p r in
-              let i : n ≡ number = cc in
-              let j : p ≡ place = cc in
-              (subst (Said text) (λ k. refusalLine (i k) (j k)) (refusal-said n p r), f)
-          go (Acceptance.accepted m) a = accepted m a
+      -- that line is the text's
+      line-said : WayWritten text entry (layoutAnswer answer) middle → Said text (refusalLine number place)
+      line-said (WayWritten.unread n p r e _) = same-line n p (sym e ∙ told) (refusal-said n p r)
+      line-said (passing m a p e _) =
+          let l : longestPrint < length (houseLayout m) = ⊎-elim (λ h. omega arith) (λ h. h) p in
+          same-line printTooLong 0 (sym e ∙ told) (rw (lt-leb (length (houseLayout m)) longestPrint l) at (print-said m a))
+      line-said (standing m a _ _ e _) = absurd (not-printed e told)
 
       pub refusal-printed : (size : ℕ) (exit : List ℕ) → Appended middle 0 (refusalLine number place) exit size → PrintsLayoutLines text entry size exit
       refusal-printed size exit b =
-          let (s, e) = refusal-left in
+          let s = line-said (way-written wrote) in
+          let e = refused-kept wrote number place told in
           let l = refusalLine number place in
           let a : Appended entry 0 l exit size = subst (λ (x : List ℕ). Appended x 0 l exit size) e b in
           let f : exit ≡ l ++ drop (0 + length l) entry = a .bytes ∙ stored-between entry 0 l (omega (arith, s .few)) in

@@ -1,6 +1,6 @@
 use borrow.Author.Needs.{needs}
 use mathlib.Core.Path.{refl}
-use Prim.Native.Nat.{_-_}
+use Prim.Native.Nat.{_-_, _<_}
 use native.Mathlib.Omega.{arith}
 use lib.ListN.{length}
 use Rattle.grammar.specs.Grammar.{Macro}
@@ -44,27 +44,32 @@ is-empty-else-requires c κs = search needs
 skip-tokens-requires-2 : tie.Need-skip-tokens-requires-2 Inv-loop μ-loop
 skip-tokens-requires-2 c κs = search needs
 
+-- the turn that drops an else: its start, its token, and what holds behind the else
+abbrev turn : tie.After-next Inv-loop μ-loop → tie.At-loop Inv-loop μ-loop
+turn c = c .before .before
+
+abbrev next : tie.After-is-empty-else Inv-loop μ-loop → tie.After-next Inv-loop μ-loop
+next c = c .before .before .before
+
+dropped : (c : tie.After-skip-tokens2 Inv-loop μ-loop) → let at-loop = turn (next (c .before .before)) in let a = at-loop .before .before .before .before .args in
+    (at-loop .loop .at < c .skip-tokens2 .result)
+    × WithinBounds (a .text .now) (a .out .now) (c .skip-tokens2 .result) (at-loop .loop .size) (at-loop .loop .out)
+dropped c =
+    let at-else = c .before .before in
+    let at-next = next at-else in
+    drop-within _ _ _ _ _ (turn at-next .loop .inv .1) _ (at-next .next .ensures) (at-else .before .if1 .left) _ (at-else .is-empty-else .ensures)
+    (c .before .if2 .taken) _ (c .skip-tokens2 .ensures)
+
 loop-less : tie.Need-loop-less Inv-loop μ-loop
-loop-less c =
-    let at-is-empty-else = c .before .before in
-    let at-if1 = at-is-empty-else .before in
-    let at-next = at-if1 .before .before in
-    let at-loop = at-next .before .before in
-    let (past, B) = drop-within _ _ _ _ _ (at-loop .loop .inv .1) _ (at-next .next .ensures) (at-if1 .if1 .left) _ (at-is-empty-else .is-empty-else .ensures)
-    (c .before .if2 .taken) _ (c .skip-tokens2 .ensures) in
-    omega (arith, past, B .place)
+loop-less c = let (past, B) = dropped c in omega (arith, past, B .place)
 
 loop-again : tie.Need-loop-again Inv-loop μ-loop
 loop-again c =
-    let at-is-empty-else = c .before .before in
-    let at-if1 = at-is-empty-else .before in
-    let at-next = at-if1 .before .before in
-    let at-loop = at-next .before .before in
-    let (past, B) = drop-within _ _ _ _ _ (at-loop .loop .inv .1) _ (at-next .next .ensures) (at-if1 .if1 .left) _ (at-is-empty-else .is-empty-else .ensures)
-    (c .before .if2 .taken) _ (c .skip-tokens2 .ensures) in (
-      λ m A. print-dropped _ _ _ _ _ _ _ _ (at-next .next .ensures) (at-if1 .if1 .left) _ (at-is-empty-else .is-empty-else .ensures) _
-          (c .skip-tokens2 .ensures) (c .before .if2 .taken) (at-loop .loop .inv .0 m A),
-      B,
+    let at-else = c .before .before in
+    let at-next = next at-else in (
+      λ m A. print-dropped _ _ _ _ _ _ _ _ (at-next .next .ensures) (at-else .before .if1 .left) _ (at-else .is-empty-else .ensures) _
+          (c .skip-tokens2 .ensures) (c .before .if2 .taken) (turn at-next .loop .inv .0 m A),
+      dropped c .1,
     )
 
 printed-token-requires : tie.Need-printed-token-requires Inv-loop μ-loop
