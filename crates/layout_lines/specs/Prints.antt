@@ -1,6 +1,6 @@
 -- What the program `layout` prints for a text (SPEC 12.6; document 02, request 2): the macro in the house layout (SPEC 8.6), or one refusal line.
 use mathlib.Core.Path.{_≡_}
-use mathlib.Core.List.{List, [], _∷_, _++_}
+use mathlib.Core.List.{List, _++_}
 use Prim.Native.Nat.{ℕ, _≤_}
 use lib.Dec.{leb}
 use lib.ListN.{length, drop}
@@ -9,23 +9,18 @@ use Rattle.letters.specs.MacroRefusalNumbers.{printTooLong}
 use Rattle.grammar.specs.Grammar.{Macro}
 use Rattle.refusals.specs.Order.{Refusal}
 use Rattle.refusals.specs.Accepted.{Accepted}
-use Rattle.text.specs.Numerals.{numeral}
-use Rattle.report.specs.Lines.{line, refusedWord, atWord}
+use Rattle.report.specs.Lines.{refusedLine}
 use Rattle.layout_theory.specs.Layout.{houseLayout, longestPrint}
-
--- "A refusal is one line, `refused 9 at 17`." (SPEC 12.1)
-abbrev pub refusalLine : ℕ → ℕ → List ℕ
-refusalLine number place = line (refusedWord ∷ numeral number ∷ atWord ∷ numeral place ∷ [])
 
 -- What is printed of the macro of an accepted text: "Writers want a macro printed back"; or "15, given last, when the print passes [..] 4,096 bytes", which
 -- are lent (SPEC 8.6, 11.3, 12.6).
 abbrev pub printLines : Macro → List ℕ
-printLines m = pick (leb (length (houseLayout m)) longestPrint) (λ _. houseLayout m) λ _. refusalLine printTooLong 0
+printLines m = pick (leb (length (houseLayout m)) longestPrint) (λ _. houseLayout m) λ _. refusedLine printTooLong 0
 
 -- The lines for a text (SPEC 12.6).
 pub record SaysLayout (text lines : List ℕ) : Type 0 where
   -- a text that is refused, by 7 to 13 (SPEC 11.3)
-  pub unread : (number place : ℕ) → Refusal text number place → lines ≡ refusalLine number place
+  pub unread : (number place : ℕ) → Refusal text number place → lines ≡ refusedLine number place
   -- a text that is that of the macro m (SPEC 8.6)
   pub print : (m : Macro) → Accepted text m → lines ≡ printLines m
 

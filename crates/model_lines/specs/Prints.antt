@@ -13,7 +13,7 @@ use Rattle.semantics.specs.Terms.{state, traceOf}
 use Rattle.semantics.specs.FirstLetters.{firstInfeasible}
 use Rattle.text.specs.Numerals.{numeral}
 use Rattle.text.specs.Appending.{Appended}
-use Rattle.report.specs.Lines.{line, refusedWord, atWord}
+use Rattle.report.specs.Lines.{line, refusedLine}
 use Rattle.model_writer.specs.declared.Shown.{Shown}
 use Rattle.model_writer.specs.declared.Shown.the-variants.{Model, Infeasible, Refused}
 use Rattle.model_writer.specs.Answer.{modelBytes}
@@ -39,9 +39,6 @@ modelLine bytes = line (modelWord ∷ hexText bytes ∷ [])
 
 unfoldable pub infeasibleLine : ℕ → List ℕ
 infeasibleLine letter = line (infeasibleWord ∷ numeral letter ∷ [])
-
-unfoldable pub refusedLine : ℕ → ℕ → List ℕ
-refusedLine number place = line (refusedWord ∷ numeral number ∷ atWord ∷ numeral place ∷ [])
 
 -- "An infeasible trace gets the first letter at which it is so, and no output. For a feasible trace, coherent or not:" the model (SPEC 7.1).
 unfoldable pub readLine : TraceReading → List ℕ

@@ -7,7 +7,7 @@ use Rattle.letters.specs.Answers.{value, refusal}
 use Rattle.letters.specs.RefusalNumbers.{letterMalformed}
 use Rattle.text.specs.Numerals.{numeral}
 use Rattle.report.specs.Lines.{line}
-use Rattle.model_lines.specs.Prints.{infeasibleLine, refusedLine}
+use Rattle.model_lines.specs.Prints.{infeasibleLine}
 use Rattle.monitor_lines.specs.Prints.{incoherentLine, orNone, answerLines}
 
 -- coherent
@@ -29,5 +29,5 @@ both-letters = refl
 -- refused 4 at 12
 pub malformed-letter : answerLines (refusal letterMalformed 12) ≡
     114 ∷ 101 ∷ 102 ∷ 117 ∷ 115 ∷ 101 ∷ 100 ∷ 32 ∷ 52 ∷ 32 ∷ 97 ∷ 116 ∷ 32 ∷ 49 ∷ 50 ∷ 10 ∷ []
-unfolding answerLines refusedLine line numeral fixed withinCalls
+unfolding answerLines line numeral fixed withinCalls
 malformed-letter = refl

@@ -8,8 +8,8 @@ use Rattle.base.specs.Choice.{pick}
 use Rattle.letters.specs.Answers.{Answer, value, refusal}
 use Rattle.text.specs.Numerals.{numeral}
 use Rattle.text.specs.Appending.{Appended}
-use Rattle.report.specs.Lines.{line, incoherentWord, blankWord}
-use Rattle.model_lines.specs.Prints.{infeasibleLine, refusedLine}
+use Rattle.report.specs.Lines.{line, refusedLine, incoherentWord, blankWord}
+use Rattle.model_lines.specs.Prints.{infeasibleLine}
 use Rattle.text.specs.Templates.{filledIn}
 
 -- "coherent"

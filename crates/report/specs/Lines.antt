@@ -106,6 +106,10 @@ unfoldable pub line : List (List ℕ) → List ℕ
 line [] = 10 ∷ []
 line (piece ∷ pieces) = piece ++ line pieces
 
+-- "A refusal is one line, `refused 9 at 17`." (SPEC 12.1)
+abbrev pub refusedLine : ℕ → ℕ → List ℕ
+refusedLine number place = line (refusedWord ∷ numeral number ∷ atWord ∷ numeral place ∷ [])
+
 -- The lines of each entry of a list, one after the other.
 unfoldable pub linesOf : {A : Type 0} → (A → List ℕ) → List A → List ℕ
 linesOf f [] = []
@@ -150,4 +154,4 @@ module _ (names : Names) (h : Header) where
   report (Printed.pass pairs) = verdictLines passWord pairs
   report (Printed.incoherent pairs letters) = verdictLines incoherentWord pairs ++ letterLines letters
   report (Printed.fail pairs letters tables) = verdictLines failWord pairs ++ (letterLines letters ++ modelLines tables)
-  report (Printed.refused number place) = line (refusedWord ∷ numeral number ∷ atWord ∷ numeral place ∷ [])
+  report (Printed.refused number place) = refusedLine number place

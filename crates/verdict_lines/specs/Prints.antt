@@ -1,7 +1,7 @@
 -- What the verdict program prints for a text (SPEC 12.2; document 01): "It reads a macro from standard input, with a table of
 -- 65,536 bytes (N = 341), and prints lines." The lines are those of `report` (Rattle.report.specs.Lines).
 use mathlib.Core.Path.{_≡_}
-use mathlib.Core.List.{List, [], _∷_, _++_}
+use mathlib.Core.List.{List, [], _++_}
 use Prim.Native.Nat.{ℕ, _+_, _*_, _≤_}
 use lib.Dec.{leb, ltb}
 use lib.ListN.{length, drop}
@@ -18,8 +18,7 @@ use Rattle.grammar.specs.Spelled.{firstRegister, firstFunction, entryLength}
 use Rattle.refusals.specs.Order.{Refusal}
 use Rattle.refusals.specs.Accepted.{Accepted}
 use Rattle.verdict_theory.specs.Verdict.{breaking, failing, PairCount, PairsPass, Shows}
-use Rattle.text.specs.Numerals.{numeral}
-use Rattle.report.specs.Lines.{Names, Printed, line, refusedWord, atWord, report}
+use Rattle.report.specs.Lines.{Names, Printed, refusedLine, report}
 
 -- "with a table of 65,536 bytes" (SPEC 12.2)
 abbrev pub tableBytes : ℕ
@@ -65,7 +64,7 @@ Told m (Printed.refused number place) = (number ≡ tableTooSmall) × (place ≡
 -- The lines for a text (SPEC 12.2).
 pub record Says (text lines : List ℕ) : Type 0 where
   -- "A refusal is one line, `refused 9 at 17`." (SPEC 12.1)
-  pub unread : (number place : ℕ) → Refusal text number place → lines ≡ line (refusedWord ∷ numeral number ∷ atWord ∷ numeral place ∷ [])
+  pub unread : (number place : ℕ) → Refusal text number place → lines ≡ refusedLine number place
   pub verdict : (m : Macro) → Accepted text m → (told : Printed) × Told m told × (lines ≡ report (declaredNames text m) (headerOf m) told)
 
 -- The lines are never longer.

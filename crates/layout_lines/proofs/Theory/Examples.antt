@@ -20,9 +20,9 @@ use Rattle.refusals.specs.Order.{Refusal}
 use Rattle.refusals.proofs.Theory.Order.{refused-refusal}
 use Rattle.refusals.specs.Accepted.{Accepted}
 use Rattle.refusals.proofs.Theory.Accepted.{read-accepted, accepted-once, refused-once, never-both}
-use Rattle.report.specs.Lines.{line}
+use Rattle.report.specs.Lines.{line, refusedLine}
 use Rattle.layout_theory.specs.Layout.{houseLayout, spaced}
-use Rattle.layout_lines.specs.Prints.{refusalLine, printLines, SaysLayout}
+use Rattle.layout_lines.specs.Prints.{printLines, SaysLayout}
 use Rattle.layout_lines.proofs.Theory.PrintsLaws.{one-layout-said}
 
 -- vars x;
@@ -68,6 +68,6 @@ nothing-refused = refused-refusal [] grammarViolated 0 nothing-read
 pub nothing-said : SaysLayout [] (114 ∷ 101 ∷ 102 ∷ 117 ∷ 115 ∷ 101 ∷ 100 ∷ 32 ∷ 57 ∷ 32 ∷ 97 ∷ 116 ∷ 32 ∷ 48 ∷ 10 ∷ [])
 unfolding line numeral fixed withinCalls
 nothing-said = record {
-  unread = λ n p r. let (i, j) = refused-once [] nothing-refused r in λ k. refusalLine (i k) (j k);
+  unread = λ n p r. let (i, j) = refused-once [] nothing-refused r in λ k. refusedLine (i k) (j k);
   print = λ m a. absurd (never-both [] a nothing-refused);
 }

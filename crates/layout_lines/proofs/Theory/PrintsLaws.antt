@@ -23,14 +23,14 @@ use Rattle.refusals.specs.Accepted.{Accepted}
 use Rattle.refusals.proofs.Theory.Order.{refusal-number}
 use Rattle.refusals.proofs.Theory.Accepted.{Acceptance, Becomes, an-acceptance, accepted-once, refused-once, never-both}
 use Rattle.refusals.proofs.Theory.Accepted as acceptance
-use Rattle.report.specs.Lines.{line}
+use Rattle.report.specs.Lines.{line, refusedLine}
 use Rattle.layout_theory.specs.Layout.{houseLayout, longestPrint}
 use Rattle.layout_theory.specs.Writing.{LayoutAnswer, WritesLayout}
 use Rattle.layout_theory.proofs.Theory.Settled.{WayWritten, passing, standing, way-written, not-printed, refused-kept, printed-is}
 use Rattle.layout_writer.specs.declared.LayoutWritten.{LayoutWritten}
 use Rattle.layout_writer.specs.declared.LayoutWritten.the-variants.{Printed, Refused}
 use Rattle.layout_writer.specs.Answer.{layoutAnswer}
-use Rattle.layout_lines.specs.Prints.{refusalLine, printLines, SaysLayout, mostLayoutLineBytes, PrintsLayoutLines}
+use Rattle.layout_lines.specs.Prints.{printLines, SaysLayout, mostLayoutLineBytes, PrintsLayoutLines}
 
 -- ── one way at most ──
 
@@ -51,7 +51,7 @@ one-layout-printed text entry n k a b x y =
 
 -- ── a refusal line is short ──
 
-refusal-few : (number place : ℕ) → number < 2 ^ 64 → place < 2 ^ 64 → length (refusalLine number place) ≤ mostLayoutLineBytes
+refusal-few : (number place : ℕ) → number < 2 ^ 64 → place < 2 ^ 64 → length (refusedLine number place) ≤ mostLayoutLineBytes
 unfolding line
 refusal-few number place h l = simp length-append (omega (arith, long-number number h, long-number place l))
 
@@ -78,18 +78,18 @@ record Said (text lines : List ℕ) : Type 0 where
   few : length lines ≤ mostLayoutLineBytes
 
 -- two answers that are one have one line
-same-line : {text : List ℕ} {number place : ℕ} (n p : ℕ) → LayoutAnswer.refused n p ≡ LayoutAnswer.refused number place → Said text (refusalLine n p)
-    → Said text (refusalLine number place)
+same-line : {text : List ℕ} {number place : ℕ} (n p : ℕ) → LayoutAnswer.refused n p ≡ LayoutAnswer.refused number place → Said text (refusedLine n p)
+    → Said text (refusedLine number place)
 same-line {text} {number} {place} n p e s =
     let i : n ≡ number = cc in
     let j : p ≡ place = cc in
-    subst (Said text) (λ k. refusalLine (i k) (j k)) s
+    subst (Said text) (λ k. refusedLine (i k) (j k)) s
 
 module _ (text : List ℕ) where
-  refusal-said : (n p : ℕ) → Refusal text n p → Said text (refusalLine n p)
+  refusal-said : (n p : ℕ) → Refusal text n p → Said text (refusedLine n p)
   refusal-said n p r = record {
     says = record {
-      unread = λ k q x. let (e, f) = refused-once text r x in λ i. refusalLine (e i) (f i);
+      unread = λ k q x. let (e, f) = refused-once text r x in λ i. refusedLine (e i) (f i);
       print = λ m a. absurd (never-both text a r);
     };
     few = refusal-few n p (omega (arith, refusal-number n p r .1)) (omega (arith, refusal-place text r));
@@ -106,7 +106,7 @@ module _ (text : List ℕ) where
   some-said = let (o, k) = an-acceptance text in go o k
     where
       go : (o : Acceptance) → Becomes text o → (lines : List ℕ) × Said text lines
-      go (acceptance.refused n p) r = (refusalLine n p, refusal-said n p r)
+      go (acceptance.refused n p) r = (refusedLine n p, refusal-said n p r)
       go (Acceptance.accepted m) a = (printLines m, print-said m a)
 
   -- ── a buffer that is too small ──
@@ -140,18 +140,18 @@ module _ (text : List ℕ) where
       told = ap layoutAnswer is
 
       -- that line is the text's
-      line-said : WayWritten text entry (layoutAnswer answer) middle → Said text (refusalLine number place)
+      line-said : WayWritten text entry (layoutAnswer answer) middle → Said text (refusedLine number place)
       line-said (WayWritten.unread n p r e _) = same-line n p (sym e ∙ told) (refusal-said n p r)
       line-said (passing m a p e _) =
           let l : longestPrint < length (houseLayout m) = ⊎-elim (λ h. omega arith) (λ h. h) p in
           same-line printTooLong 0 (sym e ∙ told) (rw (lt-leb (length (houseLayout m)) longestPrint l) at (print-said m a))
       line-said (standing m a _ _ e _) = absurd (not-printed e told)
 
-      pub refusal-printed : (size : ℕ) (exit : List ℕ) → Appended middle 0 (refusalLine number place) exit size → PrintsLayoutLines text entry size exit
+      pub refusal-printed : (size : ℕ) (exit : List ℕ) → Appended middle 0 (refusedLine number place) exit size → PrintsLayoutLines text entry size exit
       refusal-printed size exit b =
           let s = line-said (way-written wrote) in
           let e = refused-kept wrote number place told in
-          let l = refusalLine number place in
+          let l = refusedLine number place in
           let a : Appended entry 0 l exit size = subst (λ (x : List ℕ). Appended x 0 l exit size) e b in
           let f : exit ≡ l ++ drop (0 + length l) entry = a .bytes ∙ stored-between entry 0 l (omega (arith, s .few)) in
           let n : 0 + length l ≡ length l = omega arith in

@@ -51,7 +51,8 @@ turn c = c .before .before
 abbrev next : tie.After-is-empty-else Inv-loop μ-loop → tie.After-next Inv-loop μ-loop
 next c = c .before .before .before
 
-dropped : (c : tie.After-skip-tokens2 Inv-loop μ-loop) → let at-loop = turn (next (c .before .before)) in let a = at-loop .before .before .before .before .args in
+dropped : (c : tie.After-skip-tokens2 Inv-loop μ-loop) → let at-loop = turn (next (c .before .before)) in
+    let a = at-loop .before .before .before .before .args in
     (at-loop .loop .at < c .skip-tokens2 .result)
     × WithinBounds (a .text .now) (a .out .now) (c .skip-tokens2 .result) (at-loop .loop .size) (at-loop .loop .out)
 dropped c =

@@ -27,14 +27,14 @@ use Rattle.text.specs.Names.{nameText}
 use Rattle.text.proofs.Theory.Names.{name-back}
 use Rattle.text.specs.Templates.{part, filledIn}
 use Rattle.text.specs.Appending.{Appended, PlaceInRange}
-use Rattle.report.specs.Lines.{line}
+use Rattle.report.specs.Lines.{line, refusedLine}
 use Rattle.model_writer.specs.declared.Shown.{Shown}
 use Rattle.model_writer.specs.declared.Shown.the-variants.{Model, Infeasible, Refused}
 use Rattle.model_writer.specs.Answer as answer
 use Rattle.model_writer.specs.Answer.{shownAnswer, modelBytes, answerTo, outputAfter, Showed}
 use Rattle.model_writer.proofs.Theory.AnswerLaws.{model-within}
 use Rattle.model_writer.proofs.Theory.Means.{is-trace}
-use Rattle.model_lines.specs.Prints.{octetText, hexText, modelWord, modelLine, infeasibleLine, refusedLine, readLine, lineFor, lineOf, mostModelLineBytes}
+use Rattle.model_lines.specs.Prints.{octetText, hexText, modelWord, modelLine, infeasibleLine, readLine, lineFor, lineOf, mostModelLineBytes}
 use Rattle.model_lines.specs.Prints.{PrintsModelLine}
 use Rattle.model_lines.specs.Written.{mostModel, ModelWithin, WroteLine}
 
@@ -61,12 +61,6 @@ octet-form byte value e h =
 pub infeasible-form : (n : ℕ) → infeasibleLine n ≡ filledIn (105 ∷ 110 ∷ 102 ∷ 101 ∷ 97 ∷ 115 ∷ 105 ∷ 98 ∷ 108 ∷ 101 ∷ 32 ∷ 52 ∷ 10 ∷ []) (n ∷ 0 ∷ 0 ∷ 0 ∷ [])
 unfolding infeasibleLine line filledIn part
 infeasible-form n = refl
-
--- "refused 4 at 5"
-pub refused-form : (m n : ℕ) → refusedLine m n ≡ filledIn (114 ∷ 101 ∷ 102 ∷ 117 ∷ 115 ∷ 101 ∷ 100 ∷ 32 ∷ 52 ∷ 32 ∷ 97 ∷ 116 ∷ 32 ∷ 53 ∷ 10 ∷ [])
-    (m ∷ n ∷ 0 ∷ 0 ∷ [])
-unfolding refusedLine line filledIn part
-refused-form m n = refl
 
 -- "model "
 pub model-form : modelWord ≡ filledIn modelWord (0 ∷ 0 ∷ 0 ∷ 0 ∷ [])
@@ -106,7 +100,7 @@ unfolding infeasibleLine line
 infeasible-few n h = simp length-append (omega (arith, long-number n h))
 
 pub refused-few : (m n : ℕ) → m < 2 ^ 64 → n < 2 ^ 64 → length (refusedLine m n) ≤ mostModelLineBytes
-unfolding refusedLine line
+unfolding line
 refused-few m n h l = simp length-append (omega (arith, long-number m h, long-number n l))
 
 pub few-room : {text : List ℕ} → length text ≤ mostModelLineBytes → PlaceInRange 0 text

@@ -6,7 +6,8 @@ use lib.Seq.{length-take-le}
 use mir.Syntax.{w8, w64}
 use mir.Val.{Fits}
 use Rattle.text.proofs.Theory.Appending.{room-same, appended-same, appended-length}
-use Rattle.model_lines.proofs.Theory.PrintsLaws.{infeasible-form, refused-form, infeasible-few, refused-few, few-room}
+use Rattle.report.proofs.Theory.Forms.{refused-form}
+use Rattle.model_lines.proofs.Theory.PrintsLaws.{infeasible-form, infeasible-few, refused-few, few-room}
 use Rattle.model_lines.proofs.Theory.PrintsLaws.{model-held, model-room, wrote-model, wrote-infeasible, wrote-refused}
 use Rattle.model_lines.proofs.put_answer.Statement.{statement}
 use Rattle.model_lines.proofs.put_answer.Tie as tie

@@ -13,8 +13,8 @@ use Rattle.text.proofs.Theory.Numerals.{long-number}
 use Rattle.text.specs.Templates.{part, filledIn}
 use Rattle.text.specs.Appending.{Appended, PlaceInRange}
 use Rattle.text.proofs.Theory.Appending.{appended-then, appended-length, room-first, room-then}
-use Rattle.report.specs.Lines.{line}
-use Rattle.model_lines.specs.Prints.{infeasibleLine, refusedLine}
+use Rattle.report.specs.Lines.{line, refusedLine}
+use Rattle.model_lines.specs.Prints.{infeasibleLine}
 use Rattle.streaming.specs.Run.{runAnswer}
 use Rattle.streaming.specs.declared.RunAnswer.{RunAnswer}
 use Rattle.streaming.specs.declared.RunAnswer.the-variants.{Judged, Refused}
@@ -56,7 +56,7 @@ judged-few : (k n : ℕ) → k < 2 ^ 64 → n < 2 ^ 64 → length (coherenceLine
 judged-few k n h l = omega (arith, coherence-few k h, feasibility-few n l, length-append (coherenceLine k) (feasibilityLine n))
 
 refused-few : (number place : ℕ) → number < 2 ^ 64 → place < 2 ^ 64 → length (refusedLine number place) ≤ mostMonitorLineBytes
-unfolding refusedLine line
+unfolding line
 refused-few m n h l = simp length-append (omega (arith, long-number m h, long-number n l))
 
 few-room : {text : List ℕ} → length text ≤ mostMonitorLineBytes → PlaceInRange 0 text

@@ -4,7 +4,7 @@ use mathlib.Core.Path.{sym, _∙_}
 use mir.Syntax.{w8, w64}
 use mir.Val.{Fits}
 use Rattle.text.proofs.Theory.Appending.{room-same, appended-same, appended-length}
-use Rattle.model_lines.proofs.Theory.PrintsLaws.{refused-form}
+use Rattle.report.proofs.Theory.Forms.{refused-form}
 use Rattle.monitor_lines.proofs.Theory.PrintsLaws.{coherence-form, feasibility-form, coherence-room, feasibility-room}
 use Rattle.monitor_lines.proofs.Theory.PrintsLaws.{judged-prints, refused-room, refused-prints}
 use Rattle.monitor_lines.proofs.write_lines.Statement.{statement}
