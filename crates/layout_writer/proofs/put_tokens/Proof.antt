@@ -19,6 +19,13 @@ Inv-loop text out₀ names at₀ size₀ follows₀ out at size follows =
 abbrev μ-loop : tie.MeasureT-loop
 μ-loop text out₀ names at₀ size₀ follows₀ out at size follows = length text - at
 
+-- a turn's start and its token
+abbrev turn : tie.After-next Inv-loop μ-loop → tie.At-loop Inv-loop μ-loop
+turn c = c .before .before
+
+abbrev next : tie.After-is-empty-else Inv-loop μ-loop → tie.After-next Inv-loop μ-loop
+next c = c .before .before .before
+
 skip-tokens-requires : tie.Need-skip-tokens-requires Inv-loop μ-loop
 skip-tokens-requires c κs = search needs
 
@@ -35,8 +42,7 @@ next-requires c κs = search needs
 returns : tie.Need-returns Inv-loop μ-loop
 returns c =
     let at-next = c .before .before in
-    let at-loop = at-next .before .before in
-    record { print = λ m A. print-done _ _ _ _ _ _ _ (small _ _ _ (at-next .next .ensures) (c .if1 .taken)) (at-loop .loop .inv .0 m A) }
+    record { print = λ m A. print-done _ _ _ _ _ _ _ (small _ _ _ (at-next .next .ensures) (c .if1 .taken)) (turn at-next .loop .inv .0 m A) }
 
 is-empty-else-requires : tie.Need-is-empty-else-requires Inv-loop μ-loop
 is-empty-else-requires c κs = search needs
@@ -44,13 +50,7 @@ is-empty-else-requires c κs = search needs
 skip-tokens-requires-2 : tie.Need-skip-tokens-requires-2 Inv-loop μ-loop
 skip-tokens-requires-2 c κs = search needs
 
--- the turn that drops an else: its start, its token, and what holds behind the else
-abbrev turn : tie.After-next Inv-loop μ-loop → tie.At-loop Inv-loop μ-loop
-turn c = c .before .before
-
-abbrev next : tie.After-is-empty-else Inv-loop μ-loop → tie.After-next Inv-loop μ-loop
-next c = c .before .before .before
-
+-- what holds behind an else that is dropped
 dropped : (c : tie.After-skip-tokens2 Inv-loop μ-loop) → let at-loop = turn (next (c .before .before)) in
     let a = at-loop .before .before .before .before .args in
     (at-loop .loop .at < c .skip-tokens2 .result)
@@ -78,7 +78,7 @@ printed-token-requires c κs = search needs
 
 put-token-requires : tie.Need-put-token-requires Inv-loop μ-loop
 put-token-requires c κs =
-    let at-loop = c .before .before .before .before .before .before .before .before in
+    let at-loop = turn (next (c .before .before .before)) in
     put-room _ _ _ _ _ (at-loop .loop .inv .1) (at-loop .loop .follows) (c .before .printed-token .result) (search needs)
 
 is-word-requires : tie.Need-is-word-requires Inv-loop μ-loop
@@ -86,9 +86,9 @@ is-word-requires c κs = search needs
 
 loop-less-2 : tie.Need-loop-less-2 Inv-loop μ-loop
 loop-less-2 c =
-    let at-if1 = c .before .before .before .before .before .before .before .before in
-    let at-next = at-if1 .before .before in
-    let (past, within) = goes-further _ _ _ (at-next .next .ensures) (at-if1 .if1 .left) in
+    let at-put-token = c .before .before .before in
+    let at-else = at-put-token .before .before .before .before in
+    let (past, within) = goes-further _ _ _ (next at-else .next .ensures) (at-else .before .if1 .left) in
     omega (arith, past, within)
 
 loop-again-2 : tie.Need-loop-again-2 Inv-loop μ-loop
@@ -96,13 +96,13 @@ loop-again-2 c =
     let at-put-token = c .before .before .before in
     let at-printed-token = at-put-token .before .before in
     let at-if2 = at-printed-token .before in
-    let at-is-empty-else = at-if2 .before in
-    let at-if1 = at-is-empty-else .before in
-    let at-next = at-if1 .before .before in
-    let at-loop = at-next .before .before in
+    let at-else = at-if2 .before in
+    let at-if1 = at-else .before in
+    let at-next = next at-else in
+    let at-loop = turn at-next in
     let at-skip-tokens = at-loop .before in
     let token = at-printed-token .printed-token .result in (
-      λ m A. print-put _ _ _ _ _ _ _ _ (at-next .next .ensures) (at-if1 .if1 .left) _ (at-is-empty-else .is-empty-else .ensures) (at-if2 .if2 .left) _
+      λ m A. print-put _ _ _ _ _ _ _ _ (at-next .next .ensures) (at-if1 .if1 .left) _ (at-else .is-empty-else .ensures) (at-if2 .if2 .left) _
           (at-skip-tokens .skip-tokens .ensures) token (at-printed-token .printed-token .ensures) _ _ (at-put-token .put-token .ensures) _ (c .is-word .ensures)
           (at-loop .loop .inv .0 m A),
       put-within _ _ _ _ _ (at-loop .loop .inv .1) _ (at-next .next .ensures) (at-if1 .if1 .left) (at-loop .loop .follows) token (search needs) _ _
