@@ -1,30 +1,37 @@
 -- Texts, and their prints (SPEC 8.6). Bytes are ASCII codes.
-use mathlib.Core.Path.{_≡_, refl, _∙_}
+use mathlib.Core.Path.{_≡_, refl, subst, _∙_}
+use mathlib.Core.Bool.{Bool, true, false}
 use mathlib.Core.List.{List, [], _∷_}
 use Prim.Native.Nat.{ℕ}
 use native.Mathlib.Omega.{arith}
 use lib.ListN.{replicate}
+use Rattle.base.specs.Choice.{pick}
 use Rattle.base.specs.Recursion.{withinCalls, fixed}
-use Rattle.letters.specs.MacroRefusalNumbers.{printTooLong}
+use Rattle.letters.specs.MacroRefusalNumbers.{useWrong, printTooLong}
 use Rattle.macros.specs.Tree.{absent, present, skip, if, equal, empty, _then_}
 use Rattle.macros.specs.Points.{sizeStatement}
 use Rattle.tokens.specs.Bytes.{key, spelling, gap, nameLength, width}
 use Rattle.tokens.specs.Tokens.{tokenAt, spellings}
+use Rattle.tokens.specs.Words as word
 use Rattle.text.specs.Names.{nameText}
 use Rattle.grammar.specs.Grammar.{Macro, sentence, functionTokens, entryTokens, statementTokens}
 use Rattle.grammar.specs.Reading.{indexOf, condition, endedCondition, argumentsT, rightHandSide, assignment, block, registerNames, arityOf, functionEntries}
 use Rattle.grammar.proofs.Theory.Reading.{readText, readMacro}
+use Rattle.refusals.specs.Order.{Refusal}
+use Rattle.refusals.proofs.Theory.Order.{refused-refusal}
 use Rattle.refusals.specs.Accepted.{Accepted}
-use Rattle.refusals.proofs.Theory.Accepted.{read-accepted}
-use Rattle.layout_theory.specs.Layout.{houseLayout, spaced, shortElse}
+use Rattle.refusals.proofs.Theory.Accepted.{read-accepted, refused-once, never-both}
+use Rattle.layout_theory.specs.Layout.{isWord, endsLine, houseLayout, spaced, shortElse}
 use Rattle.layout_theory.specs.Writing.{LayoutAnswer, printed, refused, WritesLayout}
+use Rattle.layout_theory.proofs.Theory.Pairs.{fixedTokens}
+use Rattle.layout_theory.proofs.Theory.Settled.{written-somehow}
 
 -- ---- `vars x;`
 
-unfoldable oneRegisterText : List ℕ
+unfoldable pub oneRegisterText : List ℕ
 oneRegisterText = 118 ∷ 97 ∷ 114 ∷ 115 ∷ 32 ∷ 120 ∷ 59 ∷ []
 
-unfoldable oneRegister : Macro
+unfoldable pub oneRegister : Macro
 oneRegister = record {
   registers = key (120 ∷ []) ∷ [];
   registerSpellings = spelling (120 ∷ []) ∷ [];
@@ -34,16 +41,16 @@ oneRegister = record {
   body = empty;
 }
 
-one-register-accepted : Accepted oneRegisterText oneRegister
+pub one-register-accepted : Accepted oneRegisterText oneRegister
 unfolding oneRegisterText oneRegister readMacro readText tokenAt gap width nameLength spellings registerNames indexOf functionEntries arityOf block condition
     endedCondition assignment rightHandSide argumentsT sizeStatement
 one-register-accepted = read-accepted _ _ _ refl
 
 -- the text and an LF
-unfoldable oneRegisterPrint : List ℕ
+unfoldable pub oneRegisterPrint : List ℕ
 oneRegisterPrint = 118 ∷ 97 ∷ 114 ∷ 115 ∷ 32 ∷ 120 ∷ 59 ∷ 10 ∷ []
 
-one-register-printed : houseLayout oneRegister ≡ oneRegisterPrint
+pub one-register-printed : houseLayout oneRegister ≡ oneRegisterPrint
 unfolding oneRegister oneRegisterPrint houseLayout spaced sentence functionTokens statementTokens nameText fixed withinCalls
 one-register-printed = refl
 
@@ -67,6 +74,48 @@ passes-seven answer exit w = (
 -- So the promise is not met by every answer.
 not-seven : (exit : List ℕ) → WritesLayout oneRegisterText (replicate 8 0) (printed 7) exit → ⊥
 not-seven exit w = let z : printed 7 ≡ printed 8 = fills-eight (printed 7) exit w .0 in let y : _≡_ {A = ℕ} 7 8 = cc in omega arith
+
+-- It is met by the print.
+pub eight-written : WritesLayout oneRegisterText (replicate 8 0) (printed 8) oneRegisterPrint
+eight-written =
+    let (answer, exit, w) = written-somehow oneRegisterText (replicate 8 0) in
+    let (e, f) = fills-eight answer exit w in
+    subst (λ (x : LayoutAnswer). WritesLayout oneRegisterText (replicate 8 0) x oneRegisterPrint) e
+    (subst (WritesLayout oneRegisterText (replicate 8 0) answer) f w)
+
+-- ---- `vars x; x := y;`
+
+unfoldable undeclaredText : List ℕ
+undeclaredText = 118 ∷ 97 ∷ 114 ∷ 115 ∷ 32 ∷ 120 ∷ 59 ∷ 32 ∷ 120 ∷ 32 ∷ 58 ∷ 61 ∷ 32 ∷ 121 ∷ 59 ∷ []
+
+undeclared-refused : Refusal undeclaredText useWrong 13
+unfolding undeclaredText readMacro readText tokenAt gap width nameLength spellings registerNames indexOf functionEntries arityOf block condition endedCondition
+    assignment rightHandSide argumentsT sizeStatement
+undeclared-refused = refused-refusal _ _ _ refl
+
+module _ (entry : List ℕ) where
+  -- The reader's refusal is answered, and the lent bytes stay,
+  undeclared-met : WritesLayout undeclaredText entry (refused useWrong 13) entry
+  undeclared-met = record {
+    unread = λ number place r.
+        let (i, j) = refused-once undeclaredText undeclared-refused r in (λ k. refused (i k) (j k), refl);
+    answered = λ m a. absurd (never-both undeclaredText a undeclared-refused);
+    bytes = λ m a. absurd (never-both undeclaredText a undeclared-refused);
+  }
+
+  -- and nothing else does it:
+  undeclared-kept : (answer : LayoutAnswer) (exit : List ℕ) → WritesLayout undeclaredText entry answer exit → (answer ≡ refused useWrong 13) × (exit ≡ entry)
+  undeclared-kept answer exit w = w .unread useWrong 13 undeclared-refused
+
+  -- no print, and no other number.
+  undeclared-unprinted : (bytes : ℕ) (exit : List ℕ) → WritesLayout undeclaredText entry (printed bytes) exit → ⊥
+  undeclared-unprinted bytes exit w =
+      let z : printed bytes ≡ refused useWrong 13 = undeclared-kept (printed bytes) exit w .0 in let y : _≡_ {A = ℕ} 0 1 = cc in omega arith
+
+  undeclared-not-too-long : (exit : List ℕ) → WritesLayout undeclaredText entry (refused printTooLong 0) exit → ⊥
+  undeclared-not-too-long exit w =
+      let z : refused printTooLong 0 ≡ refused useWrong 13 = undeclared-kept (refused printTooLong 0) exit w .0 in
+      let y : printTooLong ≡ useWrong = cc in omega arith
 
 -- ---- `VARS a B;If A=b{}Else{}`
 
@@ -133,3 +182,48 @@ skip-else-stays = refl
 -- an `if` in an else: it loses its own empty else, and the else that holds it stays
 inner-else-dropped : shortElse (present (if (equal 0 0) empty (present empty) then empty)) ≡ present (if (equal 0 0) empty absent then empty)
 inner-else-dropped = refl
+
+-- ---- words, blanks and lines
+
+-- those of a list that pass a test
+abbrev passing : (ℕ → Bool) → List ℕ → List ℕ
+passing f [] = []
+passing f (w ∷ ws) = pick (f w) (λ _. w ∷ passing f ws) λ _. passing f ws
+
+-- "`1` and `2` count as words": the words among the tokens that are no names are the keywords and these, and no sign
+words-only : passing isWord fixedTokens ≡
+    word.varsKey ∷ word.funsKey ∷ word.skipKey ∷ word.assumeKey ∷ word.assertKey ∷ word.ifKey ∷ word.elseKey ∷ word.whileKey ∷ word.oneKey ∷ word.twoKey ∷ []
+words-only = refl
+
+-- "an LF after each `;`, `{` and `}`", and after no other
+line-ends-only : passing endsLine fixedTokens ≡ word.semicolonKey ∷ word.lbraceKey ∷ word.rbraceKey ∷ []
+line-ends-only = refl
+
+-- the names `x`, `Zz_9` and `IF1`
+names-words : passing isWord (spelling (120 ∷ []) ∷ spelling (90 ∷ 122 ∷ 95 ∷ 57 ∷ []) ∷ spelling (73 ∷ 70 ∷ 49 ∷ []) ∷ []) ≡
+    spelling (120 ∷ []) ∷ spelling (90 ∷ 122 ∷ 95 ∷ 57 ∷ []) ∷ spelling (73 ∷ 70 ∷ 49 ∷ []) ∷ []
+names-words = refl
+
+-- no name ends a line
+names-no-line-ends : passing endsLine (spelling (120 ∷ []) ∷ spelling (90 ∷ 122 ∷ 95 ∷ 57 ∷ []) ∷ spelling (73 ∷ 70 ∷ 49 ∷ []) ∷ []) ≡ []
+names-no-line-ends = refl
+
+-- `if` and `x`: one blank
+two-words : spaced false (word.ifKey ∷ spelling (120 ∷ []) ∷ []) ≡ 105 ∷ 102 ∷ 32 ∷ 120 ∷ []
+unfolding spaced nameText fixed withinCalls
+two-words = refl
+
+-- `x`, `=` and `y`: none
+word-and-sign : spaced false (spelling (120 ∷ []) ∷ word.equalKey ∷ spelling (121 ∷ []) ∷ []) ≡ 120 ∷ 61 ∷ 121 ∷ []
+unfolding spaced nameText fixed withinCalls
+word-and-sign = refl
+
+-- `)` and `;`: an LF behind the second, and no blank
+two-signs : spaced false (word.rparenKey ∷ word.semicolonKey ∷ []) ≡ 41 ∷ 59 ∷ 10 ∷ []
+unfolding spaced nameText fixed withinCalls
+two-signs = refl
+
+-- `x` behind a word
+behind-word : spaced true (spelling (120 ∷ []) ∷ []) ≡ 32 ∷ 120 ∷ []
+unfolding spaced nameText fixed withinCalls
+behind-word = refl
