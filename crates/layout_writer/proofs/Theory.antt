@@ -3,3 +3,4 @@ pub mod Finding
 pub mod Declaring
 pub mod Printing
 pub mod Answering
+pub mod Examples

@@ -1,8 +1,10 @@
 -- Examples: what is printed for the text of a macro and for a text that is refused; other lines are wrong.
 use mathlib.Core.Path.{_≡_, refl, sym, ap, _∙_}
 use mathlib.Core.List.{List, [], _∷_, _++_}
-use Prim.Native.Nat.{ℕ}
+use Prim.Native.Nat.{ℕ, _≤_}
 use native.Mathlib.Omega.{arith}
+use lib.ListN.{length, replicate, drop, length-replicate}
+use borrow.Author.Tests.{le-leb}
 use Rattle.base.specs.Recursion.{withinCalls, fixed}
 use Rattle.letters.specs.MacroRefusalNumbers.{grammarViolated}
 use Rattle.macros.specs.Tree.{empty}
@@ -22,8 +24,8 @@ use Rattle.refusals.specs.Accepted.{Accepted}
 use Rattle.refusals.proofs.Theory.Accepted.{read-accepted, accepted-once, refused-once, never-both}
 use Rattle.report.specs.Lines.{line, refusedLine}
 use Rattle.layout_theory.specs.Layout.{houseLayout, spaced}
-use Rattle.layout_lines.specs.Prints.{printLines, SaysLayout}
-use Rattle.layout_lines.proofs.Theory.PrintsLaws.{one-layout-said}
+use Rattle.layout_lines.specs.Prints.{printLines, SaysLayout, mostLayoutLineBytes, PrintsLayoutLines}
+use Rattle.layout_lines.proofs.Theory.PrintsLaws.{one-layout-said, one-layout-printed, small-kept}
 
 -- vars x;
 abbrev register-text : List ℕ
@@ -71,3 +73,28 @@ nothing-said = record {
   unread = λ n p r. let (i, j) = refused-once [] nothing-refused r in λ k. refusedLine (i k) (j k);
   print = λ m a. absurd (never-both [] a nothing-refused);
 }
+
+-- ── in a buffer ──
+
+-- none is lent: 0 is given, and 1 is wrong
+pub empty-buffer-kept : PrintsLayoutLines register-text [] 0 []
+empty-buffer-kept = small-kept register-text [] (omega arith)
+
+pub empty-buffer-not-one : (exit : List ℕ) → ¬ PrintsLayoutLines register-text [] 1 exit
+empty-buffer-not-one exit x = let (e, f) = one-layout-printed register-text [] 1 0 exit [] x empty-buffer-kept in omega (arith, e)
+
+module _ (entry : List ℕ) (room : mostLayoutLineBytes ≤ length entry) where
+  -- the lines stand in front, and the bytes behind them stay
+  pub register-put : PrintsLayoutLines register-text entry 8 ((register-text ++ (10 ∷ [])) ++ drop 8 entry)
+  register-put =
+      let t = le-leb mostLayoutLineBytes (length entry) room in
+      record { lines = register-text ++ (10 ∷ []); says = register-said; few = omega arith; given = rw t refl; bytes = rw t refl }
+
+  -- so 0 is wrong here
+  pub register-not-kept : (exit : List ℕ) → ¬ PrintsLayoutLines register-text entry 0 exit
+  register-not-kept exit x = let (e, f) = one-layout-printed register-text entry 0 8 exit _ x register-put in omega (arith, e)
+
+-- the least such buffer
+pub register-put-least : PrintsLayoutLines register-text (replicate mostLayoutLineBytes 0) 8
+    ((register-text ++ (10 ∷ [])) ++ drop 8 (replicate mostLayoutLineBytes 0))
+register-put-least = register-put (replicate mostLayoutLineBytes 0) (omega (arith, length-replicate mostLayoutLineBytes 0))
