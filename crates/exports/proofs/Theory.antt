@@ -1,3 +1,4 @@
 pub mod Held
 pub mod Judging
 pub mod LayoutCalls
+pub mod LayoutExamples

@@ -97,4 +97,4 @@ module _ (entry : List ℕ) (room : mostLayoutLineBytes ≤ length entry) where
 -- the least such buffer
 pub register-put-least : PrintsLayoutLines register-text (replicate mostLayoutLineBytes 0) 8
     ((register-text ++ (10 ∷ [])) ++ drop 8 (replicate mostLayoutLineBytes 0))
-register-put-least = register-put (replicate mostLayoutLineBytes 0) (omega (arith, length-replicate mostLayoutLineBytes 0))
+register-put-least = register-put (replicate mostLayoutLineBytes 0) (omega (arith, length-replicate {A = ℕ} mostLayoutLineBytes 0))
