@@ -88,24 +88,24 @@ eight-written =
 unfoldable undeclaredText : List ℕ
 undeclaredText = 118 ∷ 97 ∷ 114 ∷ 115 ∷ 32 ∷ 120 ∷ 59 ∷ 32 ∷ 120 ∷ 32 ∷ 58 ∷ 61 ∷ 32 ∷ 121 ∷ 59 ∷ []
 
-undeclared-refused : Refusal undeclaredText useWrong 13
+undeclared-is-refused : Refusal undeclaredText useWrong 13
 unfolding undeclaredText readMacro readText tokenAt gap width nameLength spellings registerNames indexOf functionEntries arityOf block condition endedCondition
     assignment rightHandSide argumentsT sizeStatement
-undeclared-refused = refused-refusal _ _ _ refl
+undeclared-is-refused = refused-refusal _ _ _ refl
 
 module _ (entry : List ℕ) where
   -- The reader's refusal is answered, and the lent bytes stay,
   undeclared-met : WritesLayout undeclaredText entry (refused useWrong 13) entry
   undeclared-met = record {
     unread = λ number place r.
-        let (i, j) = refused-once undeclaredText undeclared-refused r in (λ k. refused (i k) (j k), refl);
-    answered = λ m a. absurd (never-both undeclaredText a undeclared-refused);
-    bytes = λ m a. absurd (never-both undeclaredText a undeclared-refused);
+        let (i, j) = refused-once undeclaredText undeclared-is-refused r in (λ k. refused (i k) (j k), refl);
+    answered = λ m a. absurd (never-both undeclaredText a undeclared-is-refused);
+    bytes = λ m a. absurd (never-both undeclaredText a undeclared-is-refused);
   }
 
   -- and nothing else does it:
   undeclared-kept : (answer : LayoutAnswer) (exit : List ℕ) → WritesLayout undeclaredText entry answer exit → (answer ≡ refused useWrong 13) × (exit ≡ entry)
-  undeclared-kept answer exit w = w .unread useWrong 13 undeclared-refused
+  undeclared-kept answer exit w = w .unread useWrong 13 undeclared-is-refused
 
   -- no print, and no other number.
   undeclared-unprinted : (bytes : ℕ) (exit : List ℕ) → WritesLayout undeclaredText entry (printed bytes) exit → ⊥
@@ -200,12 +200,14 @@ line-ends-only : passing endsLine fixedTokens ≡ word.semicolonKey ∷ word.lbr
 line-ends-only = refl
 
 -- the names `x`, `Zz_9` and `IF1`
-names-words : passing isWord (spelling (120 ∷ []) ∷ spelling (90 ∷ 122 ∷ 95 ∷ 57 ∷ []) ∷ spelling (73 ∷ 70 ∷ 49 ∷ []) ∷ []) ≡
-    spelling (120 ∷ []) ∷ spelling (90 ∷ 122 ∷ 95 ∷ 57 ∷ []) ∷ spelling (73 ∷ 70 ∷ 49 ∷ []) ∷ []
+abbrev someNames : List ℕ
+someNames = spelling (120 ∷ []) ∷ spelling (90 ∷ 122 ∷ 95 ∷ 57 ∷ []) ∷ spelling (73 ∷ 70 ∷ 49 ∷ []) ∷ []
+
+-- all are words, and none ends a line
+names-words : passing isWord someNames ≡ someNames
 names-words = refl
 
--- no name ends a line
-names-no-line-ends : passing endsLine (spelling (120 ∷ []) ∷ spelling (90 ∷ 122 ∷ 95 ∷ 57 ∷ []) ∷ spelling (73 ∷ 70 ∷ 49 ∷ []) ∷ []) ≡ []
+names-no-line-ends : passing endsLine someNames ≡ []
 names-no-line-ends = refl
 
 -- `if` and `x`: one blank
@@ -224,6 +226,6 @@ unfolding spaced nameText fixed withinCalls
 two-signs = refl
 
 -- `x` behind a word
-behind-word : spaced true (spelling (120 ∷ []) ∷ []) ≡ 32 ∷ 120 ∷ []
+blank-behind-word : spaced true (spelling (120 ∷ []) ∷ []) ≡ 32 ∷ 120 ∷ []
 unfolding spaced nameText fixed withinCalls
-behind-word = refl
+blank-behind-word = refl

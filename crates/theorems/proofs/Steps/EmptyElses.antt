@@ -1,6 +1,7 @@
 -- An absent else counting as an empty one: what is alike by the congruence is what has the same short form, and no more (SPEC 8.6).
 use mathlib.Core.Path.{_≡_, refl, sym, _∙_, subst}
 use mathlib.Core.Logic.{_↔_}
+use mathlib.Core.List.{[], _∷_}
 use Prim.Native.Nat.{ℕ}
 use native.Mathlib.Omega.{arith}
 use Rattle.macros.specs.Tree.{equal, Statement, skip, perform, assert, if, while, Else, absent, present, Block, empty, _then_}
@@ -92,3 +93,33 @@ empty-else-alike = in-block (in-if same-block absent-or-empty) same-block
 -- `skip;` and nothing
 pub skip-not-alike : AlikeBlock (skip then empty) empty → ⊥
 skip-not-alike p = let e = block-shorts p in let z : _≡_ {A = ℕ} 0 1 = cc in omega arith
+
+-- `vars NAME; if NAME = NAME { }` and an else; names are one byte
+abbrev testedMacro : ℕ → Else → Macro
+testedMacro name e = record {
+  registers = name ∷ [];
+  registerSpellings = name ∷ [];
+  functions = [];
+  functionSpellings = [];
+  arities = [];
+  body = if (equal 0 0) empty e then empty;
+}
+
+-- without an else, and with `else { }`
+pub empty-else-alike-macros : AlikeMacros (testedMacro 120 absent) (testedMacro 120 (present empty))
+empty-else-alike-macros = record {
+  same-registers = refl;
+  same-register-spellings = refl;
+  same-functions = refl;
+  same-function-spellings = refl;
+  same-arities = refl;
+  alike-bodies = empty-else-alike;
+}
+
+-- without an else, and with `else { skip; }`
+pub skip-else-not-alike : AlikeMacros (testedMacro 120 absent) (testedMacro 120 (present (skip then empty))) → ⊥
+skip-else-not-alike p = let e = block-shorts (p .alike-bodies) in let z : _≡_ {A = ℕ} 0 1 = cc in omega arith
+
+-- `x` and `y`
+pub other-name-not-alike : (d e : Else) → AlikeMacros (testedMacro 120 d) (testedMacro 121 e) → ⊥
+other-name-not-alike d e p = let r = p .same-registers in let z : _≡_ {A = ℕ} 120 121 = cc in omega arith
