@@ -1,18 +1,20 @@
 -- Request 2, a house layout for macros, sentence by sentence.
-use mathlib.Core.Path.{_≡_, refl, sym, ap, _∙_}
+use mathlib.Core.Path.{_≡_, refl, sym, ap, _∙_, subst}
 use mathlib.Core.Logic.{_⊎_, _↔_}
 use mathlib.Core.List.{List, _++_}
 use Prim.Native.Nat.{ℕ, _≤_, _<_}
-use lib.ListN.{length, take, drop}
-use Rattle.letters.specs.MacroRefusalNumbers.{printTooLong}
+use lib.ListN.{length, getD, take, drop}
+use Rattle.letters.specs.MacroRefusalNumbers.{textTooLong, printTooLong}
 use Rattle.semantics.specs.Terms.{Trace, begin}
 use Rattle.semantics.specs.Models.{Feasible}
 use Rattle.macros.specs.Executions.{Complete, Partial, Failing}
 use Rattle.macros.specs.Points.{points}
+use Rattle.tokens.specs.Words as word
+use Rattle.tokens.specs.Tokens.{tokenAt, placeOf}
 use Rattle.grammar.specs.Grammar.{Macro, headerOf}
 use Rattle.refusals.specs.Order.{Refusal}
 use Rattle.refusals.specs.Accepted.{Accepted}
-use Rattle.refusals.proofs.Theory.Accepted.{accepted-once}
+use Rattle.refusals.proofs.Theory.Accepted.{accepted-once, refused-once}
 use Rattle.verdict_theory.specs.Verdict.{VerdictAnswer}
 use Rattle.verdict_theory.specs.Demand3.{Demand3}
 use Rattle.verdict_lines.specs.Prints.{declaredNames, Says}
@@ -20,9 +22,10 @@ use Rattle.verdict_lines.proofs.Theory.Declared.{names-declared}
 use Rattle.layout_theory.specs.Layout.{withoutEmptyElses, printTokens, houseLayout, longestPrint}
 use Rattle.layout_theory.specs.Writing.{LayoutAnswer, printed, refused, WritesLayout}
 use Rattle.layout_theory.proofs.Theory.Dropping.{size-short, points-short, macro-short-twice}
-use Rattle.layout_theory.proofs.Theory.Spaced.{SpelledWhole}
-use Rattle.layout_theory.proofs.Theory.ReadBack.{print-whole, print-accepted, print-not-refused, print-of-print}
+use Rattle.layout_theory.proofs.Theory.ReadBack.{print-token, print-ended, print-accepted, print-not-refused, print-of-print}
 use Rattle.layout_theory.proofs.Theory.Settled.{written-somehow, written-once, too-long-passes, passes-too-long, low-as-read, refused-kept, printed-is}
+use Rattle.layout_lines.specs.Prints.{SaysLayout, mostLayoutLineBytes, PrintsLayoutLines}
+use Rattle.layout_lines.proofs.Theory.PrintsLaws.{some-layout-lines, one-layout-said, prints-all}
 use Rattle.theorems.specs.EmptyElses.{AlikeMacros}
 use Rattle.theorems.proofs.Steps.EmptyElses.{macros-alike-exactly}
 use Rattle.theorems.proofs.Steps.SamePoints.{complete-both, partial-both, failing-both}
@@ -44,9 +47,13 @@ one-answer-is-written = written-once
 module _ (text : List ℕ) (m : Macro) (accepted : Accepted text m) where
   -- "names as declared, keywords in lower case, one blank only between two words (`1` and `2` count as words), no blank elsewhere, an LF after each `;`,
   -- `{` and `}`, comments dropped, an empty else dropped." That is the definition (`printTokens`, `spaced`). As the reader reads the print, its tokens
-  -- are those, spelled so, and nothing stands behind them.
-  pub tokens-of-the-print : SpelledWhole (houseLayout m) 0 (printTokens m)
-  tokens-of-the-print = print-whole text m accepted
+  -- are those, spelled so,
+  pub tokens-of-the-print : (i : ℕ) → i < length (printTokens m) → tokenAt (houseLayout m) (placeOf (houseLayout m) i) .spelling ≡ getD (printTokens m) i 0
+  tokens-of-the-print = print-token text m accepted
+
+  -- and no token stands behind them.
+  pub no-more-tokens : tokenAt (houseLayout m) (placeOf (houseLayout m) (length (printTokens m))) .key ≡ word.end
+  no-more-tokens = print-ended text m accepted
 
   -- "Reading the print yields the macro that was printed, an absent else counting as an empty one,"
   module _ (short : length (houseLayout m) ≤ longestPrint) where
@@ -77,6 +84,14 @@ module _ (text : List ℕ) (m : Macro) (accepted : Accepted text m) where
     lines-on-the-print =
         said-both text (houseLayout m) m (withoutEmptyElses m) accepted print-is-read refl (points-short (m .body)) (size-short (m .body)) print-declares-alike
 
+  -- A longer print is no text of a macro, for its length and for nothing else; it is never written (`print-stands-in-front`).
+  pub longer-print-is-refused : longestPrint < length (houseLayout m) → (number place : ℕ)
+      → Refusal (houseLayout m) number place ↔ ((number ≡ textTooLong) × (place ≡ 0))
+  longer-print-is-refused l number place = (
+    λ r. refused-once (houseLayout m) r (Refusal.long l),
+    λ x. subst (λ n. Refusal (houseLayout m) n place) (sym (x .0)) (subst (Refusal (houseLayout m) textTooLong) (sym (x .1)) (Refusal.long l)),
+  )
+
   -- What was dropped was no point, and the points that are there keep their numbers;
   pub points-are-kept : points (withoutEmptyElses m .body) ≡ points (m .body)
   points-are-kept = points-short (m .body)
@@ -96,6 +111,10 @@ module _ (text : List ℕ) (m : Macro) (accepted : Accepted text m) where
   pub printed-alike : (k : Macro) → Accepted (houseLayout m) k → houseLayout k ≡ houseLayout m
   printed-alike k a =
       ap (λ (n : Macro). houseLayout n) (accepted-once (houseLayout m) a (print-accepted text m accepted (a .short))) ∙ print-of-print m
+
+-- of macros that are the same, an absent else counting as an empty one,
+pub alike-macros-print-alike : (m n : Macro) → AlikeMacros m n → houseLayout m ≡ houseLayout n
+alike-macros-print-alike m n x = sym (print-of-print m) ∙ ap (λ (k : Macro). houseLayout k) (macros-alike-exactly m n .0 x) ∙ print-of-print n
 
 -- and of what stands in the buffer: it is the text of that macro,
 pub written-is-read : (text entry exit : List ℕ) (n : ℕ) → WritesLayout text entry (printed n) exit → (m : Macro) → Accepted text m
@@ -123,5 +142,18 @@ module _ (text entry : List ℕ) (answer : LayoutAnswer) (exit : List ℕ) (writ
 
   -- else the print stands in front, and the bytes behind it stay.
   pub print-stands-in-front : (n : ℕ) → answer ≡ printed n
-      → (m : Macro) × Accepted text m × (n ≡ length (houseLayout m)) × (n ≤ longestPrint) × (exit ≡ houseLayout m ++ drop n entry)
-  print-stands-in-front n e = let x = printed-is written n e in (x .macro, x .accepted, x .size, x .short, x .stands)
+      → (m : Macro) × Accepted text m × (n ≡ length (houseLayout m)) × (n ≤ length entry) × (n ≤ longestPrint) × (exit ≡ houseLayout m ++ drop n entry)
+  print-stands-in-front n e = let x = printed-is written n e in (x .macro, x .accepted, x .size, x .within, x .short, x .stands)
+
+-- The program: `layout_lines::write_lines` ensures `PrintsLayoutLines`, whose lines are those that `SaysLayout` asks for. Every text has such lines,
+pub some-layout-is-printed : (text : List ℕ) → (lines : List ℕ) × SaysLayout text lines
+some-layout-is-printed = some-layout-lines
+
+-- one way only to say it,
+pub one-layout-is-printed : (text a b : List ℕ) → SaysLayout text a → SaysLayout text b → a ≡ b
+one-layout-is-printed = one-layout-said
+
+-- and all of them are in a buffer as long as the program's.
+pub whole-layout-is-printed : (text entry : List ℕ) (size : ℕ) (exit : List ℕ) → (x : PrintsLayoutLines text entry size exit)
+    → mostLayoutLineBytes ≤ length entry → (size ≡ length (x .lines)) × (exit ≡ x .lines ++ drop size entry)
+whole-layout-is-printed text entry size exit x = prints-all x

@@ -109,6 +109,9 @@ module _ (text : List ℕ) where
       go (acceptance.refused n p) r = (refusedLine n p, refusal-said n p r)
       go (Acceptance.accepted m) a = (printLines m, print-said m a)
 
+  pub some-layout-lines : (lines : List ℕ) × SaysLayout text lines
+  some-layout-lines = let (lines, x) = some-said in (lines, x .says)
+
   -- ── a buffer that is too small ──
 
   pub small-kept : (entry : List ℕ) → length entry < mostLayoutLineBytes → PrintsLayoutLines text entry 0 entry

@@ -127,6 +127,11 @@ module _ (s : List ℕ) where
       ap (λ n. tokenAt s n .spelling) (ap (placeBehind s at) (let z : suc i ≡ 1 + i = omega arith in z) ∙ sym (behind-both s at 1 i))
       ∙ held-spelling p i w (record { within = let z = H .within in omega arith; element = H .element })
 
+  spelled-end : {at e : ℕ} {ws : List ℕ} → SpellsAs s at ws e → placeBehind s at (length ws) ≡ e
+  spelled-end SpellsAs.none = refl
+  spelled-end (SpellsAs.more {at} {ws = ws} e f l p) =
+      ap (placeBehind s at) (let z : suc (length ws) ≡ 1 + length ws = omega arith in z) ∙ sym (behind-both s at 1 (length ws)) ∙ spelled-end p
+
   -- names that stand from token `first` on, each the `step`-th behind the one before
   held-spellings : {e : ℕ} {ws : List ℕ} → SpellsAs s 0 ws e → (first step : ℕ) (names : List ℕ)
       → ((k : ℕ) → k < length names → Holds ws (first + step * k) (getD names k 0)) → names ≡ spellings s (placeOf s first) step (length names)
@@ -171,9 +176,17 @@ module _ (text : List ℕ) (m : Macro) (a : Accepted text m) where
   print-pairs : Pairwise HeldAs (sentence (withoutEmptyElses m)) (printTokens m)
   print-pairs = sentence-pairs HeldAs fixed-printed (withoutEmptyElses m) short-order registers-spelled functions-spelled register-printed function-printed
 
-  pub print-whole : SpelledWhole (houseLayout m) 0 (printTokens m)
+  print-whole : SpelledWhole (houseLayout m) 0 (printTokens m)
   unfolding houseLayout
   print-whole = spaced-spelled (printTokens m) (all-printed print-pairs)
+
+  -- Token i of the print is the i-th that is to be printed,
+  pub print-token : (i : ℕ) → i < length (printTokens m) → tokenAt (houseLayout m) (placeOf (houseLayout m) i) .spelling ≡ getD (printTokens m) i 0
+  print-token i h = held-spelling (houseLayout m) (print-whole .tokens) i _ (record { within = h; element = refl })
+
+  -- and no token stands behind them.
+  pub print-ended : tokenAt (houseLayout m) (placeOf (houseLayout m) (length (printTokens m))) .key ≡ word.end
+  print-ended = ap (λ n. tokenAt (houseLayout m) n .key) (spelled-end (houseLayout m) (print-whole .tokens)) ∙ print-whole .ended
 
   print-registers : m .registerSpellings ≡ spelledRegisters (houseLayout m) (length (m .registers))
   print-registers =

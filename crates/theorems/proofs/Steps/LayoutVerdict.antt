@@ -2,68 +2,27 @@
 use mathlib.Core.Path.{_≡_, sym, subst, _∙_}
 use mathlib.Core.Logic.{_↔_}
 use mathlib.Core.List.{List}
-use Prim.Native.Nat.{ℕ, _≤_}
-use Rattle.letters.specs.declared.Header.{Header}
+use Prim.Native.Nat.{ℕ}
 use Rattle.letters.specs.Editions.{firstEdition}
-use Rattle.letters.specs.MacroRefusalNumbers.{tableTooSmall}
-use Rattle.semantics.specs.Terms.{Trace, begin, extend, state}
+use Rattle.semantics.specs.Terms.{Trace, begin}
 use Rattle.semantics.specs.Models.{Feasible}
-use Rattle.semantics.specs.Coherence.{Coherent}
-use Rattle.semantics.specs.Numbering.{ShownModel}
-use Rattle.macros.specs.Tree.{Block}
-use Rattle.macros.specs.Executions.{Partial, Failing}
 use Rattle.macros.specs.Points.{sizeBlock, points}
 use Rattle.grammar.specs.Grammar.{Macro, headerOf}
 use Rattle.refusals.specs.Accepted.{Accepted}
 use Rattle.refusals.proofs.Theory.Accepted.{accepted-once, never-both}
-use Rattle.verdict_theory.specs.Verdict.{VerdictAnswer, breaking, failing, PairCount, PairsPass, Shows, IsVerdict}
+use Rattle.verdict_theory.specs.Verdict.{VerdictAnswer, breaking, failing, IsVerdict}
 use Rattle.verdict_theory.specs.Demand3.{editionOf, pairsIn, Demand3}
 use Rattle.report.specs.Lines.{Printed, report}
 use Rattle.verdict_lines.specs.Prints.{tablePairs, declaredNames, Told, Says}
 use Rattle.theorems.proofs.Steps.SamePoints.{failing-same, partial-same, count-same, passing-same, shows-same, verdict-same}
 
--- ---- what is told of a block after a start
-
--- `Told` with its parts of a macro: the header and the body.
-abbrev ToldOf : Header → Block → Printed → Type 0
-ToldOf h b (Printed.pass k) =
-    PairCount Feasible (begin h) b k × (k ≤ tablePairs)
-    × ((ρ : Trace) → Partial (begin h) b ρ → Coherent ρ) × ((ρ : Trace) → Failing (begin h) b ρ → ¬ Feasible (state ρ))
-ToldOf h b (Printed.incoherent k ls) = Shows Feasible (begin h) b breaking k ls × (k ≤ tablePairs)
-ToldOf h b (Printed.fail k ls tables) =
-    Shows Feasible (begin h) b failing k ls × (k ≤ tablePairs) × ShownModel (state (extend (begin h) ls)) tables
-ToldOf h b (Printed.refused number place) = (number ≡ tableTooSmall) × (place ≡ 0) × PairsPass Feasible (begin h) b tablePairs
-
-told-parts : (m : Macro) (t : Printed) → Told m t → ToldOf (headerOf m) (m .body) t
-unfolding Told
-told-parts m (Printed.pass k) x = x
-told-parts m (Printed.incoherent k ls) x = x
-told-parts m (Printed.fail k ls t) x = x
-told-parts m (Printed.refused n p) x = x
-
-parts-told : (m : Macro) (t : Printed) → ToldOf (headerOf m) (m .body) t → Told m t
-unfolding Told
-parts-told m (Printed.pass k) x = x
-parts-told m (Printed.incoherent k ls) x = x
-parts-told m (Printed.fail k ls t) x = x
-parts-told m (Printed.refused n p) x = x
-
-module _ (h : Header) (b b′ : Block) (same-points : points b′ ≡ points b) (same-size : sizeBlock b′ ≡ sizeBlock b) where
-  told-over : (t : Printed) → ToldOf h b t → ToldOf h b′ t
-  told-over (Printed.pass k) (c, few, coherent, infeasible) = (
-    count-same (begin h) b b′ same-points same-size Feasible k c,
-    few,
-    λ ρ y. coherent ρ (partial-same (begin h) b′ b (sym same-points) (sym same-size) ρ y),
-    λ ρ y. infeasible ρ (failing-same (begin h) b′ b (sym same-points) (sym same-size) ρ y),
-  )
-  told-over (Printed.incoherent k ls) (x, few) = (shows-same (begin h) b b′ same-points same-size Feasible breaking k ls x, few)
-  told-over (Printed.fail k ls t) (x, few, shown) = (shows-same (begin h) b b′ same-points same-size Feasible failing k ls x, few, shown)
-  told-over (Printed.refused n p) (u, v, x) = (u, v, passing-same (begin h) b b′ same-points same-size Feasible tablePairs x)
-
 -- ---- two texts
 
 module _ (text text′ : List ℕ) (m m′ : Macro) (a : Accepted text m) (a′ : Accepted text′ m′) (same-header : headerOf m′ ≡ headerOf m)
     (same-points : points (m′ .body) ≡ points (m .body)) (same-size : sizeBlock (m′ .body) ≡ sizeBlock (m .body)) where
+  abbrev start : Trace
+  start = begin (headerOf m)
+
   verdict-of : (table output : List ℕ) (answer : VerdictAnswer) (table′ output′ : List ℕ) → Demand3 Feasible text table output answer table′ output′
       → IsVerdict Feasible (begin (headerOf m′)) (m′ .body) firstEdition (pairsIn firstEdition table) output answer output′
   verdict-of table output answer table′ output′ d =
@@ -83,8 +42,18 @@ module _ (text text′ : List ℕ) (m m′ : Macro) (a : Accepted text m) (a′ 
   }
 
   told-same : (t : Printed) → Told m t → Told m′ t
-  told-same t x = parts-told m′ t (subst (λ h. ToldOf h (m′ .body) t) (sym same-header)
-      (told-over (headerOf m) (m .body) (m′ .body) same-points same-size t (told-parts m t x)))
+  unfolding Told
+  told-same (Printed.pass k) (c, few, coherent, infeasible) = rw same-header (
+    count-same start (m .body) (m′ .body) same-points same-size Feasible k c,
+    few,
+    λ ρ y. coherent ρ (partial-same start (m′ .body) (m .body) (sym same-points) (sym same-size) ρ y),
+    λ ρ y. infeasible ρ (failing-same start (m′ .body) (m .body) (sym same-points) (sym same-size) ρ y),
+  )
+  told-same (Printed.incoherent k ls) (x, few) =
+      rw same-header (shows-same start (m .body) (m′ .body) same-points same-size Feasible breaking k ls x, few)
+  told-same (Printed.fail k ls t) (x, few, shown) =
+      rw same-header (shows-same start (m .body) (m′ .body) same-points same-size Feasible failing k ls x, few, shown)
+  told-same (Printed.refused n p) (u, v, x) = (u, v, rw same-header (passing-same start (m .body) (m′ .body) same-points same-size Feasible tablePairs x))
 
   -- if the names are printed alike too
   said-same : declaredNames text′ m′ ≡ declaredNames text m → (lines : List ℕ) → Says text lines → Says text′ lines
