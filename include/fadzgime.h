@@ -219,8 +219,10 @@ void fadzgime_read(const uint8_t *text, size_t text_length,
  *     }
  *
  * The print is the text of the same macro, but for the elses that were dropped, and its
- * print is the same bytes. It may be longer than the text, at most twice as long, and so
- * `out` may not be `text`.
+ * print is the same bytes. It has at least 8 bytes, so that 0 in [2] is never a print. It
+ * may be longer than the text, at most twice as long; `out` may not overlap `text`, also
+ * where the print is shorter. The zero byte behind a C string is no part of a text: with
+ * it the text is refused by 8.
  */
 void fadzgime_layout(const uint8_t *text, size_t text_length,
                      uint8_t *out, size_t out_length,

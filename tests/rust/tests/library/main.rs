@@ -1,5 +1,5 @@
 //! The proved library against the oracle: answers, and every lent byte afterwards.
-//! The features `monitor`, `model`, `read`, `verdict` and `layout` switch the tests on.
+//! The features `monitor`, `model`, `read`, `verdict` and `layout` switch the tests on; `library` is all of them.
 
 #[cfg(feature = "monitor")]
 mod calls;
@@ -21,21 +21,9 @@ mod monitor;
 mod prints;
 #[cfg(feature = "read")]
 mod read;
-#[cfg(all(
-    feature = "monitor",
-    feature = "model",
-    feature = "read",
-    feature = "verdict",
-    feature = "layout"
-))]
+#[cfg(feature = "library")]
 mod smoke;
-#[cfg(all(
-    feature = "monitor",
-    feature = "model",
-    feature = "read",
-    feature = "verdict",
-    feature = "layout"
-))]
+#[cfg(feature = "library")]
 mod stack;
 #[cfg(feature = "monitor")]
 mod traces;

@@ -1,5 +1,5 @@
 //! What holds of the prints of `fadzgime_layout`, by the proved library alone: they are read as the texts are, they are
-//! their own layout, and they have the verdicts of the texts.
+//! their own layout, they have the verdicts of the texts, and they are hardly longer.
 
 use fadzgime_tests::examples::example_macros;
 use fadzgime_tests::generators::damaged_macros::damaged_text;
@@ -34,10 +34,17 @@ fn judged(text: &[u8], table: usize, room: usize) -> ([u64; VERDICT_ANSWER], Vec
     (answer, table.look().to_vec(), out.look().to_vec())
 }
 
+/// How many bytes the print may have beyond those of its text: the LFs, and the blanks behind `1` and `2`.
+fn most_added(print: &[u8]) -> usize {
+    let blank = |pair: &&[u8]| matches!(pair, [b'1' | b'2', b' ']);
+    print.iter().filter(|byte| **byte == b'\n').count() + print.windows(2).filter(blank).count()
+}
+
 /// Checks the print of a text, if it has one; gives whether it has.
 fn check(random: &mut Random, text: &[u8]) -> bool {
     let shown = String::from_utf8_lossy(text);
     let Ok(print) = laid_out(text) else { return false };
+    assert!(print.len() <= text.len() + most_added(&print).min(text.len()), "{shown}");
     assert_eq!(read(text)[..2], [0, 0], "{shown}");
     assert_eq!(read(&print), read(text), "{shown}");
     assert_eq!(laid_out(&print).as_ref(), Ok(&print), "{shown}");
@@ -54,30 +61,27 @@ fn check_refusal(text: &[u8]) {
     }
 }
 
-#[test]
-fn prints_of_random_macros() {
+/// Checks so many texts; at least `few` of them have a print.
+fn check_texts(count: u64, few: usize, some_text: fn(&mut Random) -> Vec<u8>) {
     let mut printed = 0;
-    for seed in 0..cases(10_000) {
+    for seed in 0..cases(count) {
         let random = &mut Random::new(seed + 1_000_000);
-        let (_, text) = text_to_lay_out(random);
+        let text = some_text(random);
         check_refusal(&text);
         printed += usize::from(check(random, &text));
     }
     println!("{printed} prints");
-    assert!(printed > 9_000 || cases(10) < 10);
+    assert!(printed > few || cases(10) < 10);
+}
+
+#[test]
+fn prints_of_random_macros() {
+    check_texts(10_000, 9_000, |random| text_to_lay_out(random).1);
 }
 
 #[test]
 fn prints_of_damaged_macros() {
-    let mut printed = 0;
-    for seed in 0..cases(40_000) {
-        let random = &mut Random::new(seed + 1_000_000);
-        let text = damaged_text(random);
-        check_refusal(&text);
-        printed += usize::from(check(random, &text));
-    }
-    println!("{printed} prints");
-    assert!(printed > 4_000 || cases(10) < 10);
+    check_texts(40_000, 4_000, damaged_text);
 }
 
 #[test]

@@ -3,8 +3,14 @@
 use std::fs;
 use std::path::{Path, PathBuf};
 
+use fadzgime_tests::examples::example_macros;
 use fadzgime_tests::oracle::listing::print_points;
 use fadzgime_tests::oracle::report::{print_layout, print_verdict};
+
+/// The folder of a program.
+fn folder(program: &str) -> PathBuf {
+    Path::new(env!("CARGO_MANIFEST_DIR")).join("../../crates").join(program)
+}
 
 /// The inputs of a program by name, in the order in which it is given them.
 fn inputs(folder: &Path) -> Vec<(String, Vec<u8>)> {
@@ -15,7 +21,7 @@ fn inputs(folder: &Path) -> Vec<(String, Vec<u8>)> {
 
 /// Compares what is stored for a program with what it has to print for each of its inputs, all of which it is given.
 fn check(program: &str, printed: fn(&str, &[u8]) -> String) {
-    let folder: PathBuf = Path::new(env!("CARGO_MANIFEST_DIR")).join("../../crates").join(program);
+    let folder = folder(program);
     let inputs = inputs(&folder);
     assert_eq!(fs::read_dir(folder.join("data")).expect("the inputs").count(), inputs.len());
     let expected: String = inputs.iter().map(|(name, input)| printed(name, input)).collect();
@@ -34,6 +40,17 @@ fn verdict_runs() {
 #[test]
 fn layout_runs() {
     check("layout_runs", |name, input| format!("{name}:\n{}", print_layout(input)));
+}
+
+/// Every macro of `examples/` is among the inputs of `layout_runs`, as it stands there.
+#[test]
+fn layout_runs_have_the_examples() {
+    let stored: Vec<_> =
+        inputs(&folder("layout_runs")).into_iter().filter(|(name, _)| name.starts_with("example_")).collect();
+    let macros = example_macros()
+        .into_iter()
+        .map(|example| (format!("example_{}", example.name), example.text.into_bytes()));
+    assert_eq!(stored, macros.collect::<Vec<_>>());
 }
 
 #[test]
