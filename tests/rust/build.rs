@@ -6,8 +6,7 @@ use std::path::PathBuf;
 
 fn main() {
     println!("cargo::rerun-if-env-changed=FADZGIME_LIBRARY");
-    let called = |feature: &str| env::var_os(format!("CARGO_FEATURE_{feature}")).is_some();
-    if !["MONITOR", "MODEL", "READ", "VERDICT", "LAYOUT"].iter().any(|feature| called(feature)) {
+    if env::var_os("CARGO_FEATURE_LINKED").is_none() {
         return;
     }
     let manifest = PathBuf::from(env::var_os("CARGO_MANIFEST_DIR").expect("set by cargo"));

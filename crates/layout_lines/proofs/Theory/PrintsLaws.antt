@@ -2,7 +2,7 @@
 use mathlib.Core.Path.{_≡_, refl, sym, ap, _∙_, subst}
 use mathlib.Core.Logic.{⊎-elim}
 use mathlib.Core.List.{List, _++_}
-use Prim.Native.Nat.{ℕ, _+_, _^_, _≤_, _<_}
+use Prim.Native.Nat.{ℕ, _+_, _≤_, _<_}
 use native.Mathlib.Omega.{arith}
 use lib.Dec.{leb, eqb}
 use lib.ListN.{length, take, drop, length-append}
@@ -15,7 +15,6 @@ use Rattle.tokens.specs.Bytes.{width}
 use Rattle.tokens.specs.Tokens.{tokenAt, skipBlanks, placeOf}
 use Rattle.text.specs.Appending.{Appended}
 use Rattle.text.proofs.Theory.Appending.{stored-between}
-use Rattle.text.proofs.Theory.Numerals.{long-number}
 use Rattle.grammar.specs.Limits.{longestText}
 use Rattle.grammar.specs.Grammar.{Macro}
 use Rattle.refusals.specs.Order.{Refusal}
@@ -23,7 +22,8 @@ use Rattle.refusals.specs.Accepted.{Accepted}
 use Rattle.refusals.proofs.Theory.Order.{refusal-number}
 use Rattle.refusals.proofs.Theory.Accepted.{Acceptance, Becomes, an-acceptance, accepted-once, refused-once, never-both}
 use Rattle.refusals.proofs.Theory.Accepted as acceptance
-use Rattle.report.specs.Lines.{line, refusedLine}
+use Rattle.report.specs.Lines.{refusedLine}
+use Rattle.report.proofs.Theory.Bound.{refused-few}
 use Rattle.layout_theory.specs.Layout.{houseLayout, longestPrint}
 use Rattle.layout_theory.specs.Writing.{LayoutAnswer, WritesLayout}
 use Rattle.layout_theory.proofs.Theory.Settled.{WayWritten, passing, standing, way-written, not-printed, refused-kept, printed-is}
@@ -49,11 +49,7 @@ one-layout-printed text entry n k a b x y =
       x .bytes ∙ ap (λ (l : List ℕ). pick (leb mostLayoutLineBytes (length entry)) (λ _. l ++ drop (length l) entry) λ _. entry) e ∙ sym (y .bytes),
     )
 
--- ── a refusal line is short ──
-
-refusal-few : (number place : ℕ) → number < 2 ^ 64 → place < 2 ^ 64 → length (refusedLine number place) ≤ mostLayoutLineBytes
-unfolding line
-refusal-few number place h l = simp length-append (omega (arith, long-number number h, long-number place l))
+-- ── the place of a refusal is small ──
 
 -- a token begins within the text, or at its end
 start-within : (s : List ℕ) (at : ℕ) → tokenAt s at .start ≤ length s
@@ -92,14 +88,14 @@ module _ (text : List ℕ) where
       unread = λ k q x. let (e, f) = refused-once text r x in λ i. refusedLine (e i) (f i);
       print = λ m a. absurd (never-both text a r);
     };
-    few = refusal-few n p (omega (arith, refusal-number n p r .1)) (omega (arith, refusal-place text r));
+    few = refused-few (omega arith) n p (omega (arith, refusal-number n p r .1)) (omega (arith, refusal-place text r));
   }
 
   print-said : (m : Macro) → Accepted text m → Said text (printLines m)
   print-said m a = record {
     says = record { unread = λ n p r. absurd (never-both text a r); print = λ k b. ap printLines (accepted-once text a b) };
     few = byTest (leb (length (houseLayout m)) longestPrint) (λ t. rw t (leb-true (length (houseLayout m)) longestPrint t))
-        λ t. rw t (refusal-few printTooLong 0 (omega arith) (omega arith));
+        λ t. rw t (refused-few (omega arith) printTooLong 0 (omega arith) (omega arith));
   }
 
   some-said : (lines : List ℕ) × Said text lines

@@ -28,6 +28,7 @@ use Rattle.text.proofs.Theory.Names.{name-back}
 use Rattle.text.specs.Templates.{part, filledIn}
 use Rattle.text.specs.Appending.{Appended, PlaceInRange}
 use Rattle.report.specs.Lines.{line, refusedLine}
+use Rattle.report.proofs.Theory.Bound.{refused-few}
 use Rattle.model_writer.specs.declared.Shown.{Shown}
 use Rattle.model_writer.specs.declared.Shown.the-variants.{Model, Infeasible, Refused}
 use Rattle.model_writer.specs.Answer as answer
@@ -99,10 +100,6 @@ pub infeasible-few : (n : ℕ) → n < 2 ^ 64 → length (infeasibleLine n) ≤ 
 unfolding infeasibleLine line
 infeasible-few n h = simp length-append (omega (arith, long-number n h))
 
-pub refused-few : (m n : ℕ) → m < 2 ^ 64 → n < 2 ^ 64 → length (refusedLine m n) ≤ mostModelLineBytes
-unfolding line
-refused-few m n h l = simp length-append (omega (arith, long-number m h, long-number n l))
-
 pub few-room : {text : List ℕ} → length text ≤ mostModelLineBytes → PlaceInRange 0 text
 few-room h = record { fits = omega (arith, h) }
 
@@ -121,7 +118,7 @@ module _ (entry out exit : List ℕ) (r : Shown) (size : ℕ) where
 
   pub wrote-refused : (m n : ℕ) → r ≡ Refused m n → m < 2 ^ 64 → n < 2 ^ 64 → Appended entry 0 (refusedLine m n) exit size → WroteLine entry r out size exit
   unfolding lineOf
-  wrote-refused m n e h l a = subst (λ (q : Shown). WroteLine entry q out size exit) (sym e) record { few = refused-few m n h l; appended = a }
+  wrote-refused m n e h l a = subst (λ (q : Shown). WroteLine entry q out size exit) (sym e) record { few = refused-few (omega arith) m n h l; appended = a }
 
 pub model-held : (r : Shown) (n room : ℕ) → r ≡ Model n → ModelWithin r room → (n ≤ room) × (room ≤ mostModel)
 model-held r n room e h = subst (λ (q : Shown). ModelWithin q room) e h

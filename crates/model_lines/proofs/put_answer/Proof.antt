@@ -7,7 +7,8 @@ use mir.Syntax.{w8, w64}
 use mir.Val.{Fits}
 use Rattle.text.proofs.Theory.Appending.{room-same, appended-same, appended-length}
 use Rattle.report.proofs.Theory.Forms.{refused-form}
-use Rattle.model_lines.proofs.Theory.PrintsLaws.{infeasible-form, infeasible-few, refused-few, few-room}
+use Rattle.report.proofs.Theory.Bound.{refused-few}
+use Rattle.model_lines.proofs.Theory.PrintsLaws.{infeasible-form, infeasible-few, few-room}
 use Rattle.model_lines.proofs.Theory.PrintsLaws.{model-held, model-room, wrote-model, wrote-infeasible, wrote-refused}
 use Rattle.model_lines.proofs.put_answer.Statement.{statement}
 use Rattle.model_lines.proofs.put_answer.Tie as tie
@@ -41,7 +42,7 @@ put-answer-spec =
     let v = c .before .before .before .answer3 .given .0 in
     let f : Fits w8 (v .0) = search needs in
     let g : Fits w64 (v .1 .0) = search needs in
-    room-same (refused-form (v .0) (v .1 .0)) (few-room (refused-few (v .0) (v .1 .0) (omega (arith, f .fits)) (g .fits))))
+    room-same (refused-form (v .0) (v .1 .0)) (few-room (refused-few (omega arith) (v .0) (v .1 .0) (omega (arith, f .fits)) (g .fits))))
     (λ c. appended-length (c .before .before .put-model .ensures))
     (λ c.
     let at-put-model = c .before .before in

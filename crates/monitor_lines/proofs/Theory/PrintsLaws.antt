@@ -14,6 +14,7 @@ use Rattle.text.specs.Templates.{part, filledIn}
 use Rattle.text.specs.Appending.{Appended, PlaceInRange}
 use Rattle.text.proofs.Theory.Appending.{appended-then, appended-length, room-first, room-then}
 use Rattle.report.specs.Lines.{line, refusedLine}
+use Rattle.report.proofs.Theory.Bound.{refused-few}
 use Rattle.model_lines.specs.Prints.{infeasibleLine}
 use Rattle.streaming.specs.Run.{runAnswer}
 use Rattle.streaming.specs.declared.RunAnswer.{RunAnswer}
@@ -55,10 +56,6 @@ feasibility-few n h = byTest (eqb n 0) (λ t. rw t (omega arith)) λ t. rw t (si
 judged-few : (k n : ℕ) → k < 2 ^ 64 → n < 2 ^ 64 → length (coherenceLine k ++ feasibilityLine n) ≤ mostMonitorLineBytes
 judged-few k n h l = omega (arith, coherence-few k h, feasibility-few n l, length-append (coherenceLine k) (feasibilityLine n))
 
-refused-few : (number place : ℕ) → number < 2 ^ 64 → place < 2 ^ 64 → length (refusedLine number place) ≤ mostMonitorLineBytes
-unfolding line
-refused-few m n h l = simp length-append (omega (arith, long-number m h, long-number n l))
-
 few-room : {text : List ℕ} → length text ≤ mostMonitorLineBytes → PlaceInRange 0 text
 few-room h = record { fits = omega (arith, h) }
 
@@ -80,13 +77,13 @@ module _ (k n : ℕ) (h : k < 2 ^ 64) (l : n < 2 ^ 64) where
 -- ── the line of a refusal ──
 module _ (number place : ℕ) (h : number < 2 ^ 64) (l : place < 2 ^ 64) where
   pub refused-room : PlaceInRange 0 (refusedLine number place)
-  refused-room = few-room (refused-few number place h l)
+  refused-room = few-room (refused-few (omega arith) number place h l)
 
   pub refused-prints : (v : RunAnswer) {entry exit : List ℕ} {size : ℕ} → v ≡ Refused number place → Appended entry 0 (refusedLine number place) exit size
       → PrintsMonitorLines (runAnswer v) entry size exit
   unfolding answerLines
   refused-prints v {entry} {exit} {size} e a = subst (λ (w : RunAnswer). PrintsMonitorLines (runAnswer w) entry size exit)
-      (sym e) record { few = refused-few number place h l; appended = a }
+      (sym e) record { few = refused-few (omega arith) number place h l; appended = a }
 
 -- ── in a buffer that is large enough, all lines are there ──
 module _ {answer : Answer (ℕ × ℕ)} {entry exit : List ℕ} {size : ℕ} (p : PrintsMonitorLines answer entry size exit)

@@ -20,8 +20,8 @@ use Rattle.text.proofs.Theory.Names.{name-length}
 use Rattle.text.specs.Appending.{PlaceInRange}
 use Rattle.report.specs.declared.ReportedVerdict.{ReportedVerdict}
 use Rattle.report.specs.declared.ReportedVerdict.the-variants.{Pass, Incoherent, Fail, Refused}
-use Rattle.report.specs.Lines.{Names, valuesWord, refusedWord, atWord, passWord, incoherentWord, failWord, line, linesOf, letterLine, startLines, rowLine}
-use Rattle.report.specs.Lines.{verdictLines, letterLines, modelLines, report}
+use Rattle.report.specs.Lines.{Names, valuesWord, passWord, incoherentWord, failWord, line, linesOf, letterLine, startLines, rowLine}
+use Rattle.report.specs.Lines.{verdictLines, letterLines, modelLines, refusedLine, report}
 use Rattle.report.specs.Shown.{namesOf, lettersIn, modelStart, printedOf, reportOf}
 use Rattle.report.proofs.Theory.ShownLaws.{units-count, second-read, letters-length, word-bytes, execution-parts, model-parts}
 use Rattle.report.specs.Shown.{wordAt}
@@ -139,7 +139,7 @@ module _ (names : Names) (reg : (r : ℕ) → length (names .register r) ≤ 8) 
           units-count 5 (wordAt s (o + 2)) (drop (o + 4 + 2 * h .registers) s),
         )))
 
-    refusal-length : (number place : ℕ) → number < 256 → place < 2 ^ 64 → length (line (refusedWord ∷ numeral number ∷ atWord ∷ numeral place ∷ [])) ≤ 36
+    refusal-length : (number place : ℕ) → number < 256 → place < 2 ^ 64 → length (refusedLine number place) ≤ 36
     unfolding line
     refusal-length number place a c = simp length-append (omega (arith, byte-number number a, long-number place c))
 
@@ -150,6 +150,17 @@ module _ (names : Names) (reg : (r : ℕ) → length (names .register r) ≤ 8) 
     shown-length (Fail pairs n) l =
         simp length-append (omega (arith, verdict-length failWord pairs (l .0), execution-length n (l .1), model-length (modelStart n)))
     shown-length (Refused number place) l = omega (arith, refusal-length number place (l .0) (l .1))
+
+-- ── the line of a refusal by itself ──
+
+-- "refused ", " at ", an LF and two numerals of 64 bits
+abbrev pub mostRefusedLineBytes : ℕ
+mostRefusedLineBytes = 53
+
+pub refused-few : {most : ℕ} → mostRefusedLineBytes ≤ most → (number place : ℕ) → number < 2 ^ 64 → place < 2 ^ 64
+    → length (refusedLine number place) ≤ most
+unfolding line
+refused-few w number place h l = simp length-append (omega (arith, w, long-number number h, long-number place l))
 
 -- ── the bound ──
 module _ (registers functions : List ℕ) (reg : (r : ℕ) → getD registers r 0 < 2 ^ 64) (fun : (f : ℕ) → getD functions f 0 < 2 ^ 64) (h : Header) (s : List ℕ)

@@ -46,13 +46,7 @@ pub const MONITOR_STATE: usize = 318;
 pub const STREAM_STATE: usize = 346;
 
 mod foreign {
-    #[cfg(any(
-        feature = "monitor",
-        feature = "model",
-        feature = "read",
-        feature = "verdict",
-        feature = "layout"
-    ))]
+    #[cfg(feature = "linked")]
     unsafe extern "C" {
         #[cfg(feature = "monitor")]
         pub fn fadzgime_monitor(

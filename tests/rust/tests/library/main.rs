@@ -5,13 +5,7 @@
 mod calls;
 #[cfg(feature = "layout")]
 mod layout;
-#[cfg(any(
-    feature = "monitor",
-    feature = "model",
-    feature = "read",
-    feature = "verdict",
-    feature = "layout"
-))]
+#[cfg(feature = "linked")]
 mod lent;
 #[cfg(feature = "model")]
 mod model;
