@@ -34,6 +34,7 @@ pub mod Steps
 pub mod JudgeView
 pub mod Redundant
 pub mod Carries
+pub mod StrictLaws
 -- Examples.
 pub mod Examples
 pub mod Witnesses

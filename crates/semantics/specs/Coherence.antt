@@ -1,4 +1,5 @@
--- Coherence of traces (SPEC 4; document 01; source document 000, Definition 5, with the stricter early rule).
+-- Coherence of traces (SPEC 4; document 01; source document 000, Definition 5, with the stricter early rule of document 01 and the milder one of
+-- request 3 for sides that are equal already).
 use mathlib.Core.Logic.{_⊎_}
 use mathlib.Core.List.{List}
 use Prim.Native.Nat.{ℕ, _<_}
@@ -21,8 +22,8 @@ module _ (U : List Term) (E : List (Term × Term)) where
 abbrev pub Kept : State → Term → Type 0
 Kept σ t = (f : ℕ) (a b : Term) → app f a b ∈ σ .terms → Above (σ .terms) (σ .equals) t a b → Held σ (app f a b) × Held σ a × Held σ b
 
--- The condition on equal tests: "At every equal test, each computed application above either side must have its result and
--- all its arguments equal to present values of registers." It applies to sides that are equal already, too (SPEC 4.3).
+-- The condition on equal tests: "each computed application above either side must have its result and all its arguments equal to present values
+-- of registers" (SPEC 4.3).
 abbrev pub Early : State → ℕ → ℕ → Type 0
 Early σ x y = Kept σ (σ .value x) × Kept σ (σ .value y)
 
@@ -33,11 +34,12 @@ Memoizing σ x f y z =
     (s : Term) → s ∈ σ .terms → Equivalent (after σ (Apply x f y z)) (app f (σ .value y) (σ .value z)) s
     → (r : ℕ) × (r < σ .header .registers) × Equivalent (after σ (Apply x f y z)) (app f (σ .value y) (σ .value z)) (σ .value r)
 
--- The letter is coherent in the state. "Unequal tests never affect coherence", and copies do not (SPEC 4.2, 4.3, 4.5).
+-- The letter is coherent in the state. "An equal test whose two sides are equal in the closure before it is always coherent" (document 02, request 3);
+-- any other has to be early. "Unequal tests never affect coherence", and copies do not (SPEC 4.2, 4.3, 4.5).
 abbrev pub CoherentLetter : State → Letter → Type 0
 CoherentLetter σ (Copy x y) = Unit {0}
 CoherentLetter σ (Apply x f y z) = Memoizing σ x f y z
-CoherentLetter σ (Equal x y) = Early σ x y
+CoherentLetter σ (Equal x y) = Equivalent σ (σ .value x) (σ .value y) ⊎ Early σ x y
 CoherentLetter σ (Unequal x y) = Unit {0}
 
 -- Every letter is coherent. Feasibility plays no part: "Coherence is judged on infeasible traces too." (SPEC 4.5, 4.6)

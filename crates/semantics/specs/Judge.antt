@@ -51,7 +51,7 @@ abbrev pub kept : List (Term × Term) → State → List Term → Term → Bool
 kept ms σ R (con r) = true
 kept ms σ R (app f a b) = not (touch ms R a || touch ms R b) || (held ms σ (app f a b) && (held ms σ a && held ms σ b))
 
--- the condition on equal tests
+-- the condition on equal tests of sides that are not equal already
 abbrev pub early : State → ℕ → ℕ → Bool
 early σ x y = all (kept (mergesOf σ) σ (above σ (σ .value x))) (σ .terms) && all (kept (mergesOf σ) σ (above σ (σ .value y))) (σ .terms)
 
@@ -66,7 +66,7 @@ memoizing σ x f y z =
 abbrev pub coherentLetter : State → Letter → Bool
 coherentLetter σ (Copy x y) = true
 coherentLetter σ (Apply x f y z) = memoizing σ x f y z
-coherentLetter σ (Equal x y) = early σ x y
+coherentLetter σ (Equal x y) = agree (mergesOf σ) (σ .value x) (σ .value y) || early σ x y
 coherentLetter σ (Unequal x y) = true
 
 abbrev pub coherent : Trace → Bool

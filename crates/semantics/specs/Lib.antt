@@ -13,6 +13,7 @@ pub mod Tables
 pub mod Numbering
 pub mod PackedTables
 pub mod Paper
+pub mod Strict
 pub mod Lists
 pub mod TermEquality
 -- Terms, closure and models.

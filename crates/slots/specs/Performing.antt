@@ -51,9 +51,9 @@ clashSlots unequal (suc k) = clashSlots unequal k || has (getD unequal k 0) k
 unfoldable pub apartSlots : List ℕ → ℕ → ℕ → List ℕ
 apartSlots l a b = let next = set l a (bitOr (getD l a 0) (2 ^ b)) in set next b (bitOr (getD next b 0) (2 ^ a))
 
--- "Early": neither side has a mark (SPEC 5.6)
-unfoldable pub earlySlots : List Bool → ℕ → ℕ → Bool
-earlySlots mark x y = not (getD mark x false || getD mark y false)
+-- "Early": neither side has a mark; or the sides are of one class, whatever their marks (SPEC 5.6)
+unfoldable pub earlySlots : List ℕ → List Bool → ℕ → ℕ → Bool
+earlySlots slot mark x y = pick (getD mark x false || getD mark y false) (λ _. eqb (slotOf slot x) (slotOf slot y)) λ _. true
 
 abbrev pub withMark : Slots → List Bool → Slots
 withMark w mark = record { slot = w .slot; regs = w .regs; unequal = w .unequal; result = w .result; ever = w .ever; mark = mark; infeasible = w .infeasible }
@@ -248,7 +248,7 @@ module _ (ρ φ : ℕ) where
   abbrev pub judgeSlots : Slots → Letter → Bool
   judgeSlots w (Copy x y) = true
   judgeSlots w (Apply x f y z) = memoizingSlots ρ (w .slot) (w .result) (w .ever) f y z
-  judgeSlots w (Equal x y) = earlySlots (w .mark) x y
+  judgeSlots w (Equal x y) = earlySlots (w .slot) (w .mark) x y
   judgeSlots w (Unequal x y) = true
 
   -- the slots after it

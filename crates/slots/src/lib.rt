@@ -770,13 +770,13 @@ fn memoizing(
     true
 }
 
-// Whether the test x = y is coherent: nothing above either side is lost ("early").
-fn early(mark: &[bool; REGISTERS], x: usize, y: usize) -> bool
-    requires { ⌜ (x < registers) × (y < registers) ⌝ }
-    ensures { λ v. ⌜ v ≡ earlySlots (now (mark .entry)) x y ⌝ }
+// Whether the test x = y is coherent: nothing above either side is lost ("early"), or the sides are equal already.
+fn early(slot: &[u8; REGISTERS], mark: &[bool; REGISTERS], x: usize, y: usize) -> bool
+    requires { ⌜ (x < registers) × (y < registers) × Low registers (now slot) ⌝ }
+    ensures { λ v. ⌜ v ≡ earlySlots (now (slot .entry)) (now (mark .entry)) x y ⌝ }
 {
     if mark[x] | mark[y] {
-        return false;
+        return slot_of(slot, x) == slot_of(slot, y);
     }
     true
 }
@@ -811,7 +811,7 @@ pub fn judge_slots(
             first as usize,
             second as usize,
         ),
-        Letter::Equal { first, second } => early(mark, first as usize, second as usize),
+        Letter::Equal { first, second } => early(slot, mark, first as usize, second as usize),
         Letter::Unequal {
             first: _,
             second: _,

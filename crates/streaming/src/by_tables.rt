@@ -132,7 +132,7 @@ pub fn take_tables(
                 RunAnswer::Refused(LETTER_MALFORMED, number),
             );
         };
-        let coherent = fine & judge_in(&result, &ever, &mark, letter);
+        let coherent = fine & judge_in(&class, &result, &ever, &mark, letter);
         bad = performed(
             &mut class,
             &mut unequal,

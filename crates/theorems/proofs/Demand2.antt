@@ -5,26 +5,30 @@ use mathlib.Core.List.{List, _++_}
 use Prim.Native.Nat.{ℕ, suc, _≤_}
 use Rattle.letters.specs.declared.Header.{Header}
 use Rattle.letters.specs.declared.Letter.{Letter}
+use Rattle.letters.specs.declared.Letter.the-variants.{Equal}
 use Rattle.letters.specs.Answers.{Answer, value}
 use Rattle.letters.specs.Editions.{firstEdition}
-use Rattle.letters.specs.Letters.{HeaderFits}
+use Rattle.letters.specs.Letters.{HeaderFits, arity}
 use Rattle.letters.proofs.Theory.WordLaws.{first-roomy}
 use Rattle.traces.specs.Reading.{trace, reading, letterCount}
 use Rattle.traces.specs.Traces.{AllFit, packing, Bytes}
 use Rattle.traces.proofs.Theory.TraceLaws.{reading-packing, packing-reading}
-use Rattle.semantics.specs.Terms.{_∈_, Term, Trace, state, traceOf}
+use Rattle.semantics.specs.Terms.{_∈_, Term, Trace, _▸_, state, traceOf}
 use Rattle.semantics.specs.Facts.{WellFormed}
 use Rattle.semantics.specs.Closure.{Equivalent}
 use Rattle.semantics.specs.Models.{Feasible}
 use Rattle.semantics.specs.AnyModel.{FeasibleInSomeModel}
 use Rattle.semantics.specs.Coherence.{Coherent}
+use Rattle.semantics.specs.Strict.{StrictlyCoherent}
 use Rattle.semantics.specs.Prefixes.{Begins}
 use Rattle.semantics.specs.Judgement.{size, Judgement}
 use Rattle.semantics.specs.FirstLetters.{incoherentLetter, infeasibleLetter}
 use Rattle.semantics.specs.Paper.{Congruent, CoherentModulo}
 use Rattle.semantics.proofs.Theory.Facts.{state-valid}
 use Rattle.semantics.proofs.Theory.JudgementLaws.{coherent-closed, judgement-is, judgement-unique}
-use Rattle.semantics.proofs.Theory.PaperLaws.{feasible-anywhere, congruent-is, corollary-2-is}
+use Rattle.semantics.proofs.Theory.PaperLaws.{feasible-anywhere, congruent-is, corollary-2-is, coherent-stricter, coherent-one}
+use Rattle.semantics.proofs.Theory.Examples.{repeated}
+use Rattle.semantics.proofs.Theory.Witnesses.{early-slip, slip-stricter, repeated-coherent, repeated-by-definition-5}
 use Rattle.streaming.specs.Demand2.{Demand2}
 use Rattle.streaming.specs.Run.{last, cappedAnswer, runAnswer}
 use Rattle.streaming.specs.Stream.{emptyStream, finishedOf, pushedAll, judgedBytes}
@@ -39,7 +43,9 @@ use Rattle.search.specs.MacroExecutions.{Demand2Macros}
 use Rattle.search.proofs.Theory.MacroExecutions.{macros-have-executions}
 use Rattle.theorems.specs.Definition3.{Definition3}
 use Rattle.theorems.specs.Stricter.{Stricter}
-use Rattle.theorems.proofs.Steps.Traces.{definition-3, first-exactly, infeasible-exactly, feasible-throughout, infeasible-before, coherent-exactly}
+use Rattle.theorems.specs.Milder.{Definition5Changed}
+use Rattle.theorems.proofs.Steps.Traces.{definition-3, first-exactly, infeasible-exactly, feasible-throughout, infeasible-before}
+use Rattle.theorems.proofs.Steps.Traces.{coherent-exactly, coherent-changed}
 
 -- "For every trace the monitor names the first letter at which it stops being coherent, and before then the first at which it becomes infeasible,"
 -- `Demand2 bytes answer` says this of the bytes of a trace: an answer that meets it has the two letters of the trace that is read, from 1, and 0 for none.
@@ -118,8 +124,25 @@ pub closure-is-the-congruence : (ρ : Trace) → WellFormed ρ → (s t : Term) 
 closure-is-the-congruence ρ w s t i j = congruent-is (state ρ) (state-valid ρ w) i j
 
 -- "with document 01's stricter condition on equal tests." `CoherentModulo` is Definition 5; `Stricter` (specs/Stricter.antt) is the condition.
-pub coherence-is-definition-5-and-stricter : (ρ : Trace) → WellFormed ρ → Coherent ρ ↔ (CoherentModulo ρ × Stricter ρ)
+-- Together they are document 01's own rule, before request 3.
+pub coherence-is-definition-5-and-stricter : (ρ : Trace) → WellFormed ρ → StrictlyCoherent ρ ↔ (CoherentModulo ρ × Stricter ρ)
 coherence-is-definition-5-and-stricter = coherent-exactly
+
+-- With request 3 an equal test of sides that are equal already is left out of both, letter by letter (specs/Milder.antt).
+pub coherence-is-definition-5-changed : (ρ : Trace) → WellFormed ρ → Coherent ρ ↔ Definition5Changed ρ
+coherence-is-definition-5-changed = coherent-changed
+
+-- Neither rule is within the other. Stricter: u:=f(x,w), v:=f(y,w), w:=x, x=y is coherent by Definition 5 and not here. Registers u v w x y are 0 to 4.
+pub stricter-than-definition-5 : CoherentModulo (early-slip ▸ Equal 3 4) × ¬ Coherent (early-slip ▸ Equal 3 4)
+stricter-than-definition-5 = slip-stricter
+
+-- Milder: z:=f(x), z:=x, x=x is coherent here and not by Definition 5. Registers x y z are 0 1 2.
+pub milder-than-definition-5 : Coherent (repeated ▸ Equal 0 0) × ¬ CoherentModulo (repeated ▸ Equal 0 0)
+milder-than-definition-5 = (repeated-coherent, repeated-by-definition-5)
+
+-- Where all functions take one argument, Definition 5 is document 01's own rule, so that request 3 alone makes a difference.
+pub one-argument-is-definition-5 : (ρ : Trace) → WellFormed ρ → ((f : ℕ) → arity (state ρ .header) f ≡ 1) → StrictlyCoherent ρ ↔ CoherentModulo ρ
+one-argument-is-definition-5 ρ w one = (coherent-stricter ρ w, coherent-one ρ w one)
 
 -- "Macros are read by document 01's grammar and have exactly the executions of Definition 2."
 -- `syntax::read` ensures `Reads`. What it answers is read by the grammar, and has as complete, failing and partial executions Definition 2's words.

@@ -1,5 +1,5 @@
 -- The definitions that the claims rest on hold of something and not of everything: those of models, of the values of registers (Definition 3), of
--- the stricter condition on equal tests, of pairs and of what reads back.
+-- the stricter condition on equal tests and the milder one, of pairs and of what reads back.
 use mathlib.Core.Path.{_≡_, refl, sym, ap, _∙_}
 use mathlib.Core.Logic.{_≢_}
 use mathlib.Core.List.{List, [], List·Memᴰ·head}
@@ -20,10 +20,10 @@ use Rattle.semantics.specs.Tables.{Tables, Describes}
 use Rattle.semantics.specs.Numbering.{ShownModel}
 use Rattle.semantics.specs.ShownTables.{tablesOf}
 use Rattle.semantics.proofs.Theory.Facts.{state-valid}
-use Rattle.semantics.proofs.Theory.Judge.{coherent-is, formed-e}
+use Rattle.semantics.proofs.Theory.Judge.{early-computed, coherent-is, formed-e}
 use Rattle.semantics.proofs.Theory.PaperLaws.{constants-computed}
-use Rattle.semantics.proofs.Theory.Examples.{one}
-use Rattle.semantics.proofs.Theory.Witnesses.{early-slip, early-by-definition-5, early-by-document-01}
+use Rattle.semantics.proofs.Theory.Examples.{one, repeated}
+use Rattle.semantics.proofs.Theory.Witnesses.{early-slip, early-by-definition-5, early-by-document-01, repeated-coherent}
 use Rattle.macros.specs.Tree.{Block, empty, _then_, perform}
 use Rattle.macros.specs.Order.{Path, root}
 use Rattle.macros.specs.Points.{sizeBlock, sizeStatement, entry}
@@ -35,7 +35,8 @@ use Rattle.verdict_theory.proofs.Theory.AnswerPacking.{shown-tables}
 use Rattle.verdict_lines.specs.ReadsBack.{ReadsBack}
 use Rattle.theorems.specs.Definition3.{Definition3}
 use Rattle.theorems.specs.Stricter.{Stricter}
-use Rattle.theorems.proofs.Steps.Traces.{early-is, coherent-exactly}
+use Rattle.theorems.specs.Milder.{Definition5Changed}
+use Rattle.theorems.proofs.Steps.Traces.{early-is, coherent-exactly, coherent-changed}
 
 -- Two registers and no function.
 abbrev two : Header
@@ -60,14 +61,18 @@ constants-are-not-the-values d =
     let z : _≡_ {A = ℕ} 1 0 = cc in omega arith
 
 -- z:=f(x), x=y meets the stricter condition: the argument x of the application above x is held. Registers x y z are 0 1 2.
+abbrev lone : Trace
+lone = one 3 ▸ Apply 2 0 0 0
+
 abbrev argument-held : Trace
-argument-held = one 3 ▸ Apply 2 0 0 0 ▸ Equal 0 1
+argument-held = lone ▸ Equal 0 1
 
 pub a-held-argument-is-enough : Stricter argument-held
 unfolding fitsTest applyTest
 a-held-argument-is-enough =
     let w = formed-e argument-held tt in
-    coherent-exactly argument-held w .0 (coherent-is argument-held w .0 tt) .1
+    let early = early-computed (state lone) 0 1 (state-valid lone (w .0)) (lit< tt) (lit< tt) .0 tt in
+    coherent-exactly argument-held w .0 (coherent-is lone (w .0) .0 tt, early) .1
 
 -- u:=f(y,w), v:=f(z,w), w:=y, y=z does not: no register holds the argument w that both applications had. Definition 5 lets the test through.
 pub a-lost-argument-is-not : ¬ Stricter (early-slip ▸ Equal 3 4)
@@ -75,6 +80,17 @@ unfolding fitsTest applyTest
 a-lost-argument-is-not (p, held) =
     let v = state-valid early-slip (formed-e early-slip tt) in
     early-by-document-01 (early-is (state early-slip) v (constants-computed early-slip) 3 4 (lit< tt) (lit< tt) .1 (early-by-definition-5, held))
+
+-- z:=f(x), z:=x, x=x meets Definition 5 as it is changed: the congruence joins x with itself. Registers x y z are 0 1 2.
+pub joined-sides-are-enough : Definition5Changed (repeated ▸ Equal 0 0)
+unfolding fitsTest applyTest
+joined-sides-are-enough = coherent-changed (repeated ▸ Equal 0 0) (formed-e (repeated ▸ Equal 0 0) tt) .0 repeated-coherent
+
+-- The test x=y in the place of x=x does not: f(x) is lost, and nothing joins x and y.
+pub lost-and-not-joined : ¬ Definition5Changed (repeated ▸ Equal 0 1)
+unfolding fitsTest applyTest
+lost-and-not-joined c =
+    let w = formed-e (repeated ▸ Equal 0 1) tt in coherent-is (repeated ▸ Equal 0 1) w .1 (coherent-changed (repeated ▸ Equal 0 1) w .1 c)
 
 -- A macro of one copy leaves a pair before its first letter: its point, and the start.
 pub a-point-leaves-a-pair : LeavesAny (begin two) (perform (Copy 0 1) then empty) root

@@ -1,4 +1,4 @@
--- What SPEC 4.3 asks of a coherent trace beyond the paper's Definition 5 (SPEC 4.4).
+-- What SPEC 4.3 asks beyond the paper's Definition 5, of equal tests of sides that are not equal already (SPEC 4.4).
 use mathlib.Core.Logic.{_⊎_}
 use Prim.Native.Nat.{ℕ}
 use Rattle.letters.specs.declared.Letter.{Letter}

@@ -1,6 +1,6 @@
 -- The window after a letter, and whether the letter is coherent, for every layout of ρ registers and φ functions and every window
 -- value: what the code computes (SPEC 5.6).
-use mathlib.Core.Bool.{Bool, true, false, not, cond, _||_}
+use mathlib.Core.Bool.{Bool, true, false, cond, _||_}
 use mathlib.Core.List.{List}
 use Prim.Native.Nat.{ℕ, zero, suc, _+_, _*_, _^_, _<_}
 use lib.Dec.{eqb, ltb}
@@ -38,9 +38,9 @@ argumentsOf x y z one two = cond (eqb y x || eqb z x) (bitOr one two) 0
 unfoldable pub ownOf : ℕ → ℕ → ℕ
 ownOf n r = cond (ltb r n) (2 ^ r) 0
 
--- "Early": neither side has a mark (SPEC 5.6)
+-- "Early": neither side has a mark; or the sides are of one class, whatever their marks (SPEC 5.6)
 unfoldable pub earlyOf : Window → ℕ → ℕ → Bool
-earlyOf w x y = not (getD (w .mark) x false || getD (w .mark) y false)
+earlyOf w x y = pick (getD (w .mark) x false || getD (w .mark) y false) (λ _. has (getD (w .class) x 0) y) λ _. true
 
 module _ (ρ φ : ℕ) where
   -- ---- a register loses its value

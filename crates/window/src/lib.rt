@@ -733,13 +733,13 @@ fn memoizing(result: &[Mask; RESULTS], ever: &[Mask; LINES], f: usize, y: usize,
     true
 }
 
-// Whether the test x = y is coherent: nothing above either side is lost ("early").
-fn early(mark: &[bool; REGISTERS], x: usize, y: usize) -> bool
+// Whether the test x = y is coherent: nothing above either side is lost ("early"), or the sides are equal already.
+fn early(class: &[Mask; REGISTERS], mark: &[bool; REGISTERS], x: usize, y: usize) -> bool
     requires { ⌜ (x < registers) × (y < registers) ⌝ }
-    ensures { λ v. ⌜ ((c u r e : List ℕ) (i : Bool) → v ≡ earlyOf (windowOfParts c u r e (now (mark .entry)) i) x y) ⌝ }
+    ensures { λ v. ⌜ ((u r e : List ℕ) (i : Bool) → v ≡ earlyOf (windowOfParts (now (class .entry)) u r e (now (mark .entry)) i) x y) ⌝ }
 {
     if mark[x] | mark[y] {
-        return false;
+        return holds(class[x], y);
     }
     true
 }
@@ -747,13 +747,15 @@ fn early(mark: &[bool; REGISTERS], x: usize, y: usize) -> bool
 /// On lent tables: whether the letter is coherent after a trace with this window. Its registers lie below REGISTERS and its function below FUNCTIONS,
 /// as packed ones do.
 pub fn judge_in(
+    class: &[Mask; REGISTERS],
     result: &[Mask; RESULTS],
     ever: &[Mask; LINES],
     mark: &[bool; REGISTERS],
     letter: Letter,
 ) -> bool
     requires { ⌜ WithinPacking letter ⌝ }
-    ensures { λ v. ⌜ ((c u : List ℕ) (i : Bool) → v ≡ judgeOf (windowOfParts c u (now (result .entry)) (now (ever .entry)) (now (mark .entry)) i) letter) ⌝ }
+    ensures { λ v. ⌜ ((u : List ℕ) (i : Bool) → v
+        ≡ judgeOf (windowOfParts (now (class .entry)) u (now (result .entry)) (now (ever .entry)) (now (mark .entry)) i) letter) ⌝ }
 {
     match letter {
         Letter::Copy {
@@ -772,7 +774,7 @@ pub fn judge_in(
             first as usize,
             second as usize,
         ),
-        Letter::Equal { first, second } => early(mark, first as usize, second as usize),
+        Letter::Equal { first, second } => early(class, mark, first as usize, second as usize),
         Letter::Unequal {
             first: _,
             second: _,
@@ -785,10 +787,11 @@ pub fn judge(w: Window, letter: Letter) -> bool
     requires { ⌜ WithinPacking letter ⌝ }
     ensures { λ r. ⌜ r ≡ judgeOf w letter ⌝ }
 {
+    let class = w.class;
     let result = w.result;
     let ever = w.ever;
     let mark = w.mark;
-    judge_in(&result, &ever, &mark, letter)
+    judge_in(&class, &result, &ever, &mark, letter)
 }
 
 // On lent tables: x := f(y, z).

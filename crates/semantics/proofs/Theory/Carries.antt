@@ -18,11 +18,12 @@ use Rattle.semantics.proofs.Theory.Prefixes.{begins-extend, begins-has}
 use Rattle.semantics.proofs.Theory.JudgementLaws.{coherent-closed}
 use Rattle.semantics.specs.View.{View, Tracks}
 use Rattle.semantics.specs.SameWindow.{SameWindow}
-use Rattle.semantics.proofs.Theory.SameWindow.{agree-is, view-unique, tracks-same}
+use Rattle.semantics.proofs.Theory.SameWindow.{same-window-sym, agree-is, view-unique, tracks-same}
 use Rattle.semantics.proofs.Theory.Of.{viewOf, tracks-of}
 use Rattle.semantics.proofs.Theory.Steps.{Equated, Separated, Renamed, equated-is, separated-is, renamed-is, fresh-is, known-is, tracks-copy}
 use Rattle.semantics.proofs.Theory.Steps.{tracks-equal, tracks-unequal, tracks-apply-new, tracks-apply-known, fine-apply, copied, copied-below}
-use Rattle.semantics.proofs.Theory.Steps.{freshened, target}
+use Rattle.semantics.proofs.Theory.Steps.{freshened, target, fine-equal}
+use Rattle.semantics.proofs.Theory.Redundant.{redundant-test, tracks-redundant}
 use Rattle.semantics.proofs.Theory.JudgeView.{coherentIn, coherent-in}
 
 module _ (σ τ : State) (v : Valid σ) (u : Valid τ) (same : SameWindow σ τ) where
@@ -46,9 +47,11 @@ module _ (σ τ : State) (v : Valid σ) (u : Valid τ) (same : SameWindow σ τ)
   tracks-both (Copy x y) (xb, yb) (xc, yc) c w′ t =
       tracks-copy τ u x y yc w w′ at-τ
       (subst (λ n. Renamed n w (copied x y) n w′) (same .registers) (renamed-is σ v w at-σ (σ .header .registers) (copied x y) (copied-below x yb) w′ t))
-  tracks-both (Equal x y) (xb, yb) (xc, yc) c w′ t =
-      tracks-equal τ u x y xc yc (coherent-same (Equal x y) (xb, yb) (xc, yc) .0 c) w w′ at-τ
-      (subst (λ n. Equated n w x y w′) (same .registers) (equated-is σ v x y xb yb c w w′ at-σ t))
+  tracks-both (Equal x y) (xb, yb) (xc, yc) (inl s) w′ t =
+      tracks-redundant τ x y (same .same x y xb yb .0 s) w′ (tracks-same same (tracks-same (same-window-sym (redundant-test σ x y s)) t))
+  tracks-both (Equal x y) (xb, yb) (xc, yc) (inr e) w′ t =
+      tracks-equal τ u x y xc yc (fine-equal τ u x y xc yc w at-τ .1 (fine-equal σ v x y xb yb w at-σ .0 e)) w w′ at-τ
+      (subst (λ n. Equated n w x y w′) (same .registers) (equated-is σ v x y xb yb e w w′ at-σ t))
   tracks-both (Unequal x y) (xb, yb) (xc, yc) c w′ t =
       tracks-unequal τ u x y xc yc w w′ at-τ (subst (λ n. Separated n w x y w′) (same .registers) (separated-is σ v x y xb yb w w′ at-σ t))
   tracks-both (Apply x f y z) (xb, fb, yb, zb, one) (xc, fc, yc, zc, two) c w′ t = elim (or-not (w .ever f y z)) [

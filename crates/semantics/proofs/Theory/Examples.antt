@@ -1,4 +1,4 @@
--- The starred bench examples of document 01 (SPEC 13.1), as one table that is proved through the definitions by one theorem.
+-- The starred bench examples of document 01 and those of request 3 (SPEC 13.1), as one table that is proved through the definitions by one theorem.
 use mathlib.Core.Path.{_≡_, refl, subst}
 use mathlib.Core.Bool.{Bool, _&&_}
 use mathlib.Core.List.{List, [], _∷_}
@@ -38,6 +38,10 @@ one n = begin (record { registers = n; functions = 1; binary = 0 })
 abbrev pub two : ℕ → Trace
 two n = begin (record { registers = n; functions = 1; binary = 1 })
 
+-- z:=f(x), z:=x: f(x) is lost, so x and z are marked. Registers x y z are 0 1 2
+abbrev pub repeated : Trace
+repeated = one 3 ▸ Apply 2 0 0 0 ▸ Copy 2 0
+
 pub table : List Example
 table =
     -- header alone: coherent, feasible
@@ -65,10 +69,27 @@ table =
       infeasible = 9;
       whole = 9;
     }
-    -- z:=f(x), z:=x, x=x: incoherent at 3. Registers x z are 0 1
-    ∷ record { trace = one 2 ▸ Apply 1 0 0 0 ▸ Copy 1 0 ▸ Equal 0 0; incoherent = 3; infeasible = 0; whole = 0 }
+    -- z:=f(x), z:=x, x=x: coherent, feasible, by request 3; document 01 has it incoherent at 3. Registers x z are 0 1
+    ∷ record { trace = one 2 ▸ Apply 1 0 0 0 ▸ Copy 1 0 ▸ Equal 0 0; incoherent = 0; infeasible = 0; whole = 0 }
     -- x!=x: infeasible at 1. Register x is 0
     ∷ record { trace = one 1 ▸ Unequal 0 0; incoherent = 0; infeasible = 1; whole = 1 }
+    -- request 3: z:=f(x), z:=x, y:=x, x=y: equal by a copy. Registers x y z are 0 1 2, here and below
+    ∷ record { trace = repeated ▸ Copy 1 0 ▸ Equal 0 1; incoherent = 0; infeasible = 0; whole = 0 }
+    -- z:=f(x), z:=x, x=y: the sides are not equal before
+    ∷ record { trace = repeated ▸ Equal 0 1; incoherent = 3; infeasible = 0; whole = 0 }
+    -- z:=f(x), z:=x, x=x, x=y: the mark stays
+    ∷ record { trace = repeated ▸ Equal 0 0 ▸ Equal 0 1; incoherent = 4; infeasible = 0; whole = 0 }
+    -- z:=f(x), z:=x, x=x, z:=f(x): memoizing stays
+    ∷ record { trace = repeated ▸ Equal 0 0 ▸ Apply 2 0 0 0; incoherent = 4; infeasible = 0; whole = 0 }
+    -- z:=f(x), z:=x, x=x, y:=x, y!=x: feasibility goes on
+    ∷ record { trace = repeated ▸ Equal 0 0 ▸ Copy 1 0 ▸ Unequal 1 0; incoherent = 0; infeasible = 5; whole = 5 }
+    -- u:=f(x), v:=f(y), x=y, w:=g(u), w:=x, u=v: equal by congruence. Registers x y u v w are 0 1 2 3 4, functions f g are 0 1
+    ∷ record {
+      trace = begin (record { registers = 5; functions = 2; binary = 0 }) ▸ Apply 2 0 0 0 ▸ Apply 3 0 1 1 ▸ Equal 0 1 ▸ Apply 4 1 2 2 ▸ Copy 4 0 ▸ Equal 2 3;
+      incoherent = 0;
+      infeasible = 0;
+      whole = 0;
+    }
     ∷ []
 
 -- What the table says of an example: a run over it names these letters, and the whole-trace engine, which knows no coherence, names its own.

@@ -30,9 +30,9 @@ use Rattle.semantics.specs.Models.{Feasible}
 use Rattle.semantics.proofs.Theory.Shown.{Clash, corollary-2}
 use Rattle.semantics.specs.Window.{Exposed}
 use Rattle.semantics.proofs.Theory.Climb.{Reaches, from, up, reaches-equal, above-climbs, climbs-above}
-use Rattle.semantics.specs.Coherence.{Kept, Memoizing, CoherentLetter, Coherent}
+use Rattle.semantics.specs.Coherence.{Kept, Early, Memoizing, CoherentLetter, Coherent}
 use Rattle.semantics.specs.Judgement.{size, FirstFailure}
-use Rattle.semantics.specs.Judge.{touch, isNewAbove, grow, mergesOf, above, upto, held, kept, coherentLetter, coherent, feasible, firstFailing}
+use Rattle.semantics.specs.Judge.{touch, isNewAbove, grow, mergesOf, above, upto, held, kept, early, coherentLetter, coherent, feasible, firstFailing}
 
 module _ (U : List Term) (ms : List (Term × Term)) where
   -- nothing is left to add
@@ -274,15 +274,23 @@ memo-is σ x f y z v w = (out, into)
           or-r (not old) now (any-i (λ r. agree ms t (σ .value r)) (upto-i b) (alike-i (app f (σ .value y) (σ .value z) ∷ σ .terms) (σ .equals) c))
     ]
 
-pub fine-is : (σ : State) (a : Letter) → Valid σ → Fits (σ .header) a → T (coherentLetter σ a) ↔ CoherentLetter σ a
-fine-is σ (Copy x y) v w = (λ t. tt, λ t. tt)
-fine-is σ (Apply x f y z) v w = memo-is σ x f y z v w
-fine-is σ (Equal x y) v w =
-    let p = kept-is σ v (σ .value x) (v .values x (w .0)) in
-    let q = kept-is σ v (σ .value y) (v .values y (w .1)) in
+pub early-computed : (σ : State) (x y : ℕ) → Valid σ → x < σ .header .registers → y < σ .header .registers → T (early σ x y) ↔ Early σ x y
+early-computed σ x y v xb yb =
+    let p = kept-is σ v (σ .value x) (v .values x xb) in
+    let q = kept-is σ v (σ .value y) (v .values y yb) in
     let c = all (kept (mergesOf σ) σ (above σ (σ .value x))) (σ .terms) in
     let d = all (kept (mergesOf σ) σ (above σ (σ .value y))) (σ .terms) in
     (λ t. (p .0 (and-l c d t), q .0 (and-r c d t)), λ h. and-i c d (p .1 (h .0)) (q .1 (h .1)))
+
+pub fine-is : (σ : State) (a : Letter) → Valid σ → Fits (σ .header) a → T (coherentLetter σ a) ↔ CoherentLetter σ a
+fine-is σ (Copy x y) v w = (λ t. tt, λ t. tt)
+fine-is σ (Apply x f y z) v w = memo-is σ x f y z v w
+fine-is σ (Equal x y) v (xb, yb) =
+    let a = agree (mergesOf σ) (σ .value x) (σ .value y) in
+    let (p, q) = early-computed σ x y v xb yb in (
+      λ t. elim (or-e a (early σ x y) t) [ inl k ↦ inl (agree-e σ v (v .values x xb) (v .values y yb) k) | inr k ↦ inr (p k) ],
+      λ h. elim h [ inl c ↦ or-l a (early σ x y) (alike-i (σ .terms) (σ .equals) c) | inr k ↦ or-r a (early σ x y) (q k) ],
+    )
 fine-is σ (Unequal x y) v w = (λ t. tt, λ t. tt)
 
 pub coherent-is : (ρ : Trace) → WellFormed ρ → T (coherent ρ) ↔ Coherent ρ

@@ -17,7 +17,7 @@ use Rattle.semantics.specs.Judge.{upto}
 use Rattle.semantics.proofs.Theory.Judge.{upto-i, upto-e}
 use Rattle.semantics.proofs.Theory.Steps.{fine-apply, fine-equal}
 
--- The condition on equal tests: neither side is marked.
+-- The condition on equal tests of sides that are not equal already: neither is marked.
 abbrev pub earlyIn : View → ℕ → ℕ → Bool
 earlyIn w x y = not (w .marked x) && not (w .marked y)
 
@@ -29,7 +29,7 @@ memoizingIn n w f y z = not (w .ever f y z) || any (w .result f y z) (upto n)
 abbrev pub coherentIn : ℕ → View → Letter → Bool
 coherentIn n w (Copy x y) = true
 coherentIn n w (Apply x f y z) = memoizingIn n w f y z
-coherentIn n w (Equal x y) = earlyIn w x y
+coherentIn n w (Equal x y) = w .same x y || earlyIn w x y
 coherentIn n w (Unequal x y) = true
 
 -- It does so exactly for the coherent letters.
@@ -37,7 +37,16 @@ pub coherent-in : (σ : State) → Valid σ → (a : Letter) → Fits (σ .heade
     → T (coherentIn (σ .header .registers) w a) ↔ CoherentLetter σ a
 coherent-in σ v (Copy x y) f w t = (λ k. k, λ k. k)
 coherent-in σ v (Unequal x y) f w t = (λ k. k, λ k. k)
-coherent-in σ v (Equal x y) (xb, yb) w t = Iff·trans (out, into) (Iff·symm (fine-equal σ v x y xb yb w t))
+coherent-in σ v (Equal x y) (xb, yb) w t = (
+  λ k. elim (or-e (w .same x y) (earlyIn w x y) k) [
+    | inl s ↦ inl (t .same x y xb yb .0 s)
+    | inr e ↦ inr (fine-equal σ v x y xb yb w t .1 (out e))
+  ],
+  λ c. elim c [
+    | inl s ↦ or-l (w .same x y) (earlyIn w x y) (t .same x y xb yb .1 s)
+    | inr e ↦ or-r (w .same x y) (earlyIn w x y) (into (fine-equal σ v x y xb yb w t .0 e))
+  ],
+)
   where
     out : T (earlyIn w x y) → (¬ T (w .marked x)) × (¬ T (w .marked y))
     out k =

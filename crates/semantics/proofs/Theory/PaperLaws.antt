@@ -28,7 +28,8 @@ use Rattle.semantics.proofs.Theory.ShownPacked.{starts-length, applicat
 use Rattle.semantics.specs.Tables.{Row, lists, resultIn, rowOf}
 use Rattle.semantics.proofs.Theory.Tables.{modelOf}
 use Rattle.semantics.specs.ShownTables.{rowsOf, startsFrom, shownTables}
-use Rattle.semantics.specs.Coherence.{Superterm, once, again, Above, Kept, Early, Memoizing, Coherent}
+use Rattle.semantics.specs.Coherence.{Superterm, once, again, Above, Kept, Early, Memoizing}
+use Rattle.semantics.specs.Strict.{StrictlyCoherent}
 use Rattle.semantics.specs.Paper.{Congruent, same, member, turned, joined, applied, ProperSubterm, SupertermModulo, HeldModulo, MemoizingModulo}
 use Rattle.semantics.specs.Paper.{EarlyModulo, CoherentModulo}
 
@@ -323,8 +324,8 @@ constants-computed (ρ ▸ Apply x f y z) r b = List·Memᴰ·tail (constants-co
 constants-computed (ρ ▸ Equal x y) r b = constants-computed ρ r b
 constants-computed (ρ ▸ Unequal x y) r b = constants-computed ρ r b
 
--- A trace that is coherent here is coherent by Definition 5.
-pub coherent-stricter : (ρ : Trace) → WellFormed ρ → Coherent ρ → CoherentModulo ρ
+-- A trace that is coherent by document 01's own rule is coherent by Definition 5.
+pub coherent-stricter : (ρ : Trace) → WellFormed ρ → StrictlyCoherent ρ → CoherentModulo ρ
 coherent-stricter (begin h) w c = tt
 coherent-stricter (ρ ▸ Copy x y) w c = (coherent-stricter ρ (w .0) (c .0), tt)
 coherent-stricter (ρ ▸ Apply x f y z) w c =
@@ -334,7 +335,7 @@ coherent-stricter (ρ ▸ Equal x y) w c =
 coherent-stricter (ρ ▸ Unequal x y) w c = (coherent-stricter ρ (w .0) (c .0), tt)
 
 -- Where all functions take one argument, the two are the same.
-pub coherent-one : (ρ : Trace) → WellFormed ρ → ((f : ℕ) → arity (state ρ .header) f ≡ 1) → CoherentModulo ρ → Coherent ρ
+pub coherent-one : (ρ : Trace) → WellFormed ρ → ((f : ℕ) → arity (state ρ .header) f ≡ 1) → CoherentModulo ρ → StrictlyCoherent ρ
 coherent-one (begin h) w one c = tt
 coherent-one (ρ ▸ Copy x y) w one c = (coherent-one ρ (w .0) one (c .0), tt)
 coherent-one (ρ ▸ Apply x f y z) w one c =

@@ -1,6 +1,6 @@
 -- Nothing here is vacuous. Something that satisfies each of these and something that does not: WellFormed, Held, Superterm, Early, Memoizing,
 -- Coherent, Feasible, Same, Apart, Result, EverComputed, Marked, Tracks, SameWindow, Longest, Judgement, InRange, Packable, Numbering, Listing,
--- IsShown. And the two slips of source document 000 that document 01 mends, each shown by its example.
+-- IsShown, StrictlyCoherent, WithoutRedundant. And the two slips of source document 000 that document 01 mends, each shown by its example.
 use mathlib.Core.Path.{_≡_, refl, subst}
 use mathlib.Core.Bool.{Bool, true, false}
 use mathlib.Core.Logic.{inl, inr}
@@ -28,7 +28,7 @@ use Rattle.semantics.proofs.Theory.Climb.{climbs}
 use Rattle.semantics.specs.Window.{Same, Apart, Result, EverComputed, Marked}
 use Rattle.semantics.specs.View.{View, Tracks}
 use Rattle.semantics.specs.Judge.{mergesOf, held}
-use Rattle.semantics.proofs.Theory.Judge.{held-i, held-e, above-i, fine-is, coherent-is, feasible-is, formed-e}
+use Rattle.semantics.proofs.Theory.Judge.{held-i, held-e, above-i, early-computed, fine-is, coherent-is, feasible-is, formed-e}
 use Rattle.semantics.proofs.Theory.Of.{viewOf, tracks-of}
 use Rattle.semantics.specs.Prefixes.{whole}
 use Rattle.semantics.specs.Judgement.{Longest, Judgement}
@@ -40,12 +40,14 @@ use Rattle.semantics.specs.SameWindow.{SameWindow}
 use Rattle.semantics.proofs.Theory.Tables.{InRange}
 use Rattle.semantics.specs.ShownTables.{classesOf, rowsOf}
 use Rattle.semantics.specs.Numbering.{Numbering, RowListing, IsShown}
-use Rattle.semantics.specs.Paper.{EarlyModulo}
-use Rattle.semantics.proofs.Theory.PaperLaws.{no-model, constants-computed, early-results}
+use Rattle.semantics.specs.Paper.{EarlyModulo, CoherentModulo}
+use Rattle.semantics.proofs.Theory.PaperLaws.{no-model, constants-computed, held-is, superterm-is, early-results, coherent-stricter}
+use Rattle.semantics.specs.Strict.{StrictlyCoherent, WithoutRedundant, no-letters, left-out}
+use Rattle.semantics.proofs.Theory.StrictLaws.{without-strict}
 use Rattle.semantics.specs.ShownTables.{tablesOf, shownValue}
 use Rattle.semantics.proofs.Theory.Shown.{in-range}
 use Rattle.semantics.proofs.Theory.Shown.{shown-numbering, shown-listing}
-use Rattle.semantics.proofs.Theory.Examples.{one, two, printed}
+use Rattle.semantics.proofs.Theory.Examples.{one, two, printed, repeated}
 use Rattle.semantics.specs.PackedTables.{packTables}
 use Rattle.semantics.specs.TablesRead.{readTables, Packable}
 use Rattle.semantics.proofs.Theory.PackedTablesLaws.{read-packed}
@@ -88,10 +90,10 @@ pub superterm-no : ¬ Superterm (σ .terms) (σ .equals) (con 1) fx
 superterm-no h = above-i σ valid (climbs (inr h))
 
 pub early-yes : Early σ 1 1
-early-yes = fine-is σ (Equal 1 1) valid (lit< tt, lit< tt) .0 tt
+early-yes = early-computed σ 1 1 valid (lit< tt) (lit< tt) .0 tt
 
 pub early-no : ¬ Early σ 0 1
-early-no h = fine-is σ (Equal 0 1) valid (lit< tt, lit< tt) .1 h
+early-no h = early-computed σ 0 1 valid (lit< tt) (lit< tt) .1 h
 
 -- the target may be the register that holds an equal term: y:=f(x), y:=f(x)
 pub memoizing-yes : Memoizing (state (one 2 ▸ Apply 1 0 0 0)) 1 0 0 0
@@ -173,9 +175,9 @@ unfolding fitsTest applyTest
 no-model-at-all M = no-model (state absurdity) (state-valid absurdity (formed-e absurdity tt)) feasible-no M
 
 -- ── the letters of a run ──
--- x!=x, z:=f(x), z:=x, x=x: infeasible at 1, and still judged incoherent at 4. Registers x z are 0 1.
+-- x!=x, z:=f(x), z:=x, x=y: infeasible at 1, and still judged incoherent at 4. Registers x y z are 0 1 2.
 abbrev late : Trace
-late = one 2 ▸ Unequal 0 0 ▸ Apply 1 0 0 0 ▸ Copy 1 0 ▸ Equal 0 0
+late = one 3 ▸ Unequal 0 0 ▸ Apply 2 0 0 0 ▸ Copy 2 0 ▸ Equal 0 1
 
 pub both-letters : Judgement late 4 1
 unfolding incoherentLetter infeasibleLetter coherentPart fitsTest applyTest
@@ -289,7 +291,15 @@ early-by-definition-5 =
 -- document 01 does not, for no register holds the old w,
 pub early-by-document-01 : ¬ Early (state early-slip) 3 4
 unfolding fitsTest applyTest
-early-by-document-01 h = fine-is (state early-slip) (Equal 3 4) (state-valid early-slip (formed-e early-slip tt)) (lit< tt, lit< tt) .1 h
+early-by-document-01 h = early-computed (state early-slip) 3 4 (state-valid early-slip (formed-e early-slip tt)) (lit< tt) (lit< tt) .1 h
+
+-- So the whole trace is coherent by Definition 5, and not here,
+pub slip-stricter : CoherentModulo (early-slip ▸ Equal 3 4) × ¬ Coherent (early-slip ▸ Equal 3 4)
+unfolding fitsTest applyTest
+slip-stricter = (
+  (coherent-stricter early-slip (formed-e early-slip tt) (coherent-is early-slip (formed-e early-slip tt) .0 tt), early-by-definition-5),
+  coherent-is (early-slip ▸ Equal 3 4) (formed-e (early-slip ▸ Equal 3 4) tt) .1,
+)
 
 second-is-w : Term → Bool
 second-is-w (con r) = true
@@ -319,3 +329,42 @@ pub result-of-class : Result (state formula-slip) 0 1 1 0
 unfolding fitsTest applyTest
 result-of-class =
     tracks-of (state formula-slip) (state-valid formula-slip (formed-e formula-slip tt)) .result 0 1 1 0 (lit< tt) (lit< tt) (lit< tt) .0 tt
+
+-- ── request 3: z:=f(x), z:=x, x=x. Registers x y z are 0 1 2 ──
+repeated-formed : WellFormed repeated
+unfolding fitsTest applyTest
+repeated-formed = formed-e repeated tt
+
+repeated-valid : Valid (state repeated)
+repeated-valid = state-valid repeated repeated-formed
+
+-- The test is coherent, for its sides are equal,
+pub repeated-coherent : Coherent (repeated ▸ Equal 0 0)
+unfolding fitsTest applyTest
+repeated-coherent = coherent-is (repeated ▸ Equal 0 0) (formed-e (repeated ▸ Equal 0 0) tt) .0 tt
+
+-- and not by document 01's own rule, for what is above them is lost,
+pub repeated-strictly : ¬ StrictlyCoherent (repeated ▸ Equal 0 0)
+repeated-strictly (c, e) = early-computed (state repeated) 0 0 repeated-valid (lit< tt) (lit< tt) .1 e
+
+-- nor by Definition 5.
+pub repeated-by-definition-5 : ¬ CoherentModulo (repeated ▸ Equal 0 0)
+repeated-by-definition-5 (c, e) =
+    let i = constants-computed repeated 0 (lit< tt) in
+    let m : fx ∈ state repeated .terms = List·Memᴰ·head refl in
+    let above = superterm-is (state repeated) repeated-valid (constants-computed repeated) i m .1 (once m (inl (reflexive i)) (reflexive m)) in
+    held-i (state repeated) repeated-valid (held-is (state repeated) repeated-valid m .0 (e fx m (inl above)))
+
+-- Without the test it is z:=f(x), z:=x, which is coherent by either rule.
+unchanged : WithoutRedundant repeated repeated
+unchanged = WithoutRedundant.kept (WithoutRedundant.kept no-letters (λ k. k)) (λ k. k)
+
+pub without-yes : WithoutRedundant (repeated ▸ Equal 0 0) repeated
+without-yes = left-out unchanged (reflexive (constants-computed repeated 0 (lit< tt)))
+
+pub strictly-yes : StrictlyCoherent repeated
+strictly-yes = without-strict unchanged repeated-formed (repeated-coherent .0) .0
+
+-- A test of sides that are not equal is not left out.
+pub without-no : ¬ WithoutRedundant (one 2 ▸ Equal 0 1) (one 2)
+without-no (left-out p r) = same-window-no (redundant-test (state (one 2)) 0 1 r)

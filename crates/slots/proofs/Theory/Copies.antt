@@ -12,7 +12,7 @@ use borrow.Author.Tests.{eqb-true, eqb-false}
 use Rattle.base.proofs.Theory.Choice.{byTest}
 use Rattle.base.specs.Masks.{has}
 use Rattle.base.specs.LeastAndSize.{sizeOf}
-use Rattle.semantics.proofs.Theory.Booleans.{or-e, or-l, or-r, is-true, is-false}
+use Rattle.semantics.proofs.Theory.Booleans.{or-e, or-l, or-r}
 use Rattle.semantics.specs.View.{View}
 use Rattle.semantics.proofs.Theory.Steps.{copied}
 use Rattle.window.proofs.Theory.Bits.{none-small, none-in, same-iff, eq-or}
@@ -33,7 +33,7 @@ use Rattle.slots.proofs.Theory.Laying.{laid-placed, laid-left, LaidIn}
 use Rattle.slots.specs.Represents.{Used, Single, slotView, Mirrors, RepresentsWindow}
 use Rattle.slots.proofs.Theory.Pulling.{laws-pulled, pulled-copied, alike-same, alike-dropped, clean-dropped, clean-kept, single-dropped, Dropped}
 use Rattle.slots.proofs.Theory.Tables.{dropped}
-use Rattle.slots.proofs.Theory.Marking.{one-more, up, low, only, alone-is, lost-is}
+use Rattle.slots.proofs.Theory.Marking.{one-more, up, low, one-slot, only, alone-is, lost-is}
 use Rattle.slots.proofs.Theory.Moving.{at-same, keep, grouped-moved, keep-all}
 
 pub marks-at : (ρ : ℕ) (slot : List ℕ) (mark : List Bool) (lost q : ℕ) → q < ρ
@@ -205,9 +205,8 @@ unfolding copiedSlots leftSlots windows.copiedOf
 copied-represents ρ φ n s w h x y xb yb =
     let m = h .mirrors in
     byTest (eqb (slotOf (s .slot) x) (slotOf (s .slot) y))
-    (λ t. let e = is-true (has (getD (w .class) x 0) y) (m .pulled .same x y xb yb .1 (eqb-true (slotOf (s .slot) x) (slotOf (s .slot) y) t)) in rw (t, e) h)
+    (λ t. rw (t, one-slot ρ φ n s w m x y xb yb ∙ t) h)
     (λ t. let d = eqb-false (slotOf (s .slot) x) (slotOf (s .slot) y) t in
-    let e = is-false (has (getD (w .class) x 0) y) (λ k. d (m .pulled .same x y xb yb .0 k)) in
-    rw (t, e) (byTest (eqb (getD (s .regs) (slotOf (s .slot) x) 0) (2 ^ x))
+    rw (t, one-slot ρ φ n s w m x y xb yb ∙ t) (byTest (eqb (getD (s .regs) (slotOf (s .slot) x) 0) (2 ^ x))
     (λ u. rw u (emptied ρ φ n s w m (h .single) x y xb yb d (eqb-true (getD (s .regs) (slotOf (s .slot) x) 0) (2 ^ x) u)))
     (λ u. rw u (shared ρ φ n s w m (h .single) x y xb yb d (eqb-false (getD (s .regs) (slotOf (s .slot) x) 0) (2 ^ x) u)))))

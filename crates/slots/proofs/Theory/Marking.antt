@@ -3,18 +3,18 @@ use mathlib.Core.Path.{_≡_, refl, sym, ap, _∙_, subst}
 use mathlib.Core.Logic.{_⊎_, inl, inr, _↔_, _≢_, ⊎-elim, Iff·trans, Iff·symm}
 use Prim.Native.Nat.{ℕ, _*_, _^_, _<_}
 use native.Mathlib.Omega.{arith}
-use lib.Dec.{ltb, T, ltb→lt}
+use lib.Dec.{eqb, ltb, T, ltb→lt}
 use lib.Bits.{bitOr}
 use lib.ListN.{getD}
-use borrow.Author.Tests.{lt-ltb}
+use borrow.Author.Tests.{eqb-true, eq-eqb, lt-ltb}
 use Rattle.base.specs.Masks.{has}
 use Rattle.base.specs.LeastAndSize.{sizeOf}
 use Rattle.base.proofs.Theory.MaskLaws.{bits-same}
-use Rattle.semantics.proofs.Theory.Booleans.{and-l, and-r}
+use Rattle.semantics.proofs.Theory.Booleans.{is-true, and-l, and-r}
 use Rattle.semantics.proofs.Theory.Of.{same-test}
 use Rattle.window.specs.Places.{place, placeFunction, placeFirst, placeSecond}
 use Rattle.window.proofs.Theory.Places.{place-is, first-place, second-place, place-below, function-below, first-below, second-below}
-use Rattle.window.proofs.Theory.Bits.{or-is, single-is, pow-small, eq-or}
+use Rattle.window.proofs.Theory.Bits.{truth, or-is, single-is, pow-small, eq-or}
 use Rattle.window.proofs.Theory.Size.{alone, other}
 use Rattle.window.specs.Marks.{lostOf}
 use Rattle.window.proofs.Theory.Marks.{Beneath, extra, direct, beneath, lost-beneath}
@@ -38,6 +38,13 @@ module _ (ρ φ n : ℕ) (s : Slots) (w : Window) (m : Mirrors ρ φ n s w) wher
 
   pub low : (r : ℕ) → r < n → slotOf (s .slot) r < ρ
   low r b = m .laid .low .below r (up r b)
+
+  -- registers are of one class exactly if they have one slot
+  pub one-slot : (x y : ℕ) → x < n → y < n → has (getD (w .class) x 0) y ≡ eqb (slotOf (s .slot) x) (slotOf (s .slot) y)
+  one-slot x y xb yb = same-test (has (getD (w .class) x 0) y) (eqb (g x) (g y)) (
+    (λ t. truth (eqb (g x) (g y)) (eq-eqb (g x) (g y) (m .pulled .same x y xb yb .0 t))),
+    (λ t. m .pulled .same x y xb yb .1 (eqb-true (g x) (g y) (is-true (eqb (g x) (g y)) t))),
+  )
 
   pub class-is : (x : ℕ) → x < n → getD (w .class) x 0 ≡ getD (s .regs) (slotOf (s .slot) x) 0
   class-is x xb = bits-same ρ A B (m .shaped .class-bytes x) (m .grouped .bytes (g x)) (λ i ib. bit-same A B i (same-test (has A i) (has B i) (

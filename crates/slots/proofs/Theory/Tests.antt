@@ -1,19 +1,20 @@
 -- Tests on slots are tests on the window, and a letter is coherent for the one exactly if it is for the other.
 use mathlib.Core.Path.{_≡_, refl, sym, ap, ap₂, _∙_, subst}
 use mathlib.Core.Logic.{_⊎_, inl, inr, _↔_, ⊎-elim, Iff·trans}
-use mathlib.Core.Bool.{Bool, true, false, not, _||_}
+use mathlib.Core.Bool.{Bool, true, false, _||_}
 use mathlib.Core.List.{List}
 use Prim.Native.Nat.{ℕ, zero, suc, _+_, _*_, _^_, _<_}
 use native.Mathlib.Omega.{arith}
 use lib.Dec.{eqb, ltb, T, lt→ltb}
 use lib.Bits.{bitOr}
 use lib.ListN.{getD, set, length-set, replicate, length-replicate}
-use borrow.Author.Tests.{eqb-true, eqb-false, eq-eqb}
+use borrow.Author.Tests.{eqb-false}
+use Rattle.base.specs.Choice.{pick}
 use Rattle.base.proofs.Theory.Choice.{byTest}
 use Rattle.base.specs.Masks.{has}
-use Rattle.semantics.proofs.Theory.Booleans.{or-e, or-l, or-r, and-r, and-i, is-true, is-false}
+use Rattle.semantics.proofs.Theory.Booleans.{or-e, or-l, or-r, and-r, and-i}
 use Rattle.semantics.proofs.Theory.Of.{same-test}
-use Rattle.window.proofs.Theory.Bits.{truth, none-in, none-small, nonempty-is, or-is, or-small, same-iff, eq-or, less-or}
+use Rattle.window.proofs.Theory.Bits.{none-in, none-small, nonempty-is, or-is, or-small, same-iff, eq-or, less-or}
 use Rattle.window.specs.Bits.{nonempty}
 use Rattle.window.specs.Places.{place}
 use Rattle.window.proofs.Theory.Table.{table-at, table-out, table-length}
@@ -29,7 +30,7 @@ use Rattle.slots.proofs.Theory.Laying.{apart-length}
 use Rattle.slots.specs.Represents.{slotView, Mirrors, RepresentsWindow}
 use Rattle.slots.proofs.Theory.Pulling.{laws-pulled, move2}
 use Rattle.slots.proofs.Theory.Tables.{added}
-use Rattle.slots.proofs.Theory.Marking.{up, low}
+use Rattle.slots.proofs.Theory.Marking.{up, low, one-slot}
 use Rattle.slots.proofs.Theory.Merges.{merged-mirrors}
 use Rattle.slots.proofs.Theory.Entries.{part-is}
 use Rattle.slots.proofs.Theory.Closings.{closed-mirrors, single-stable}
@@ -136,17 +137,16 @@ pub equal-represents : (ρ φ n : ℕ) (s : Slots) (w : Window) → RepresentsWi
     → RepresentsWindow ρ φ n (equalSlots ρ φ s x y) (windows.equalOf ρ φ w x y)
 unfolding equalSlots windows.equalOf
 equal-represents ρ φ n s w h x y xb yb = byTest (eqb (slotOf (s .slot) x) (slotOf (s .slot) y))
-    (λ t. let e = is-true (has (getD (w .class) x 0) y) (h .mirrors .pulled .same x y xb yb .1 (eqb-true (slotOf (s .slot) x) (slotOf (s .slot) y) t)) in
-    rw (t, e) h)
+    (λ t. rw (t, one-slot ρ φ n s w (h .mirrors) x y xb yb ∙ t) h)
     (λ t. let d = eqb-false (slotOf (s .slot) x) (slotOf (s .slot) y) t in
-    let e = is-false (has (getD (w .class) x 0) y) (λ k. d (h .mirrors .pulled .same x y xb yb .0 k)) in
     let k = closed-mirrors ρ φ n (ρ * ρ + 1) (mergedSlots ρ φ s (slotOf (s .slot) x) (slotOf (s .slot) y)) (windows.mergedOf ρ φ w x y)
     (merged-mirrors ρ φ n s w (h .mirrors) x y xb yb d) in
     let laws = laws-pulled n (slotOf (s .slot)) (view ρ φ w) (slotView ρ φ (s .unequal) (s .result) (s .ever)) (h .mirrors .pulled) in
     let st = steady ρ φ w (h .mirrors .shaped) n laws (h .mirrors .inside) x y xb yb in
     let s₁ = closedSlots ρ φ (ρ * ρ + 1) (mergedSlots ρ φ s (slotOf (s .slot) x) (slotOf (s .slot) y)) in
     let w₁ = windows.closedOf ρ φ (ρ * ρ + 1) (windows.mergedOf ρ φ w x y) in
-    rw (t, e) (settled-represents ρ φ n s₁ w₁ (record { mirrors = k; single = single-stable ρ φ n s₁ w₁ k st }) (clashSlots (s₁ .unequal) ρ)
+    rw (t, one-slot ρ φ n s w (h .mirrors) x y xb yb ∙ t)
+    (settled-represents ρ φ n s₁ w₁ (record { mirrors = k; single = single-stable ρ φ n s₁ w₁ k st }) (clashSlots (s₁ .unequal) ρ)
     (windows.clashOf ρ φ (w₁ .class) (w₁ .unequal) ρ) (clash-same ρ φ n s₁ w₁ k)))
 
 -- ---- an unequal test
@@ -274,10 +274,8 @@ module _ (ρ φ n : ℕ) (s : Slots) (w : Window) (h : RepresentsWindow ρ φ n 
 
   pub unequal-represents : RepresentsWindow ρ φ n (unequalSlots ρ φ s x y) (windows.unequalOf ρ φ w x y)
   unfolding unequalSlots windows.unequalOf
-  unequal-represents = settled-represents ρ φ n s′ w′ separated (eqb a b) (has (getD (w .class) x 0) y) (same-test (has (getD (w .class) x 0) y) (eqb a b) (
-    (λ t. truth (eqb a b) (eq-eqb a b (h .mirrors .pulled .same x y xb yb .0 t))),
-    (λ t. h .mirrors .pulled .same x y xb yb .1 (eqb-true a b (is-true (eqb a b) t))),
-  ))
+  unequal-represents = settled-represents ρ φ n s′ w′ separated (eqb a b) (has (getD (w .class) x 0) y)
+      (one-slot ρ φ n s w (h .mirrors) x y xb yb)
 
 -- ---- whether a letter is coherent
 
@@ -310,9 +308,10 @@ module _ (ρ φ n : ℕ) (s : Slots) (w : Window) (h : RepresentsWindow ρ φ n 
             (λ t. and-r (ltb f φ) A (h .mirrors .pulled .ever f y z yb zb .0 (and-i (ltb f φ) B (lt→ltb f φ fb) t))),
           )
 
-  pub early-same : (x y : ℕ) → x < n → y < n → earlySlots (s .mark) x y ≡ windows.earlyOf w x y
+  pub early-same : (x y : ℕ) → x < n → y < n → earlySlots (s .slot) (s .mark) x y ≡ windows.earlyOf w x y
   unfolding earlySlots windows.earlyOf
-  early-same x y xb yb = ap not (ap₂ _||_ (mark-same x xb) (mark-same y yb))
+  early-same x y xb yb = ap₂ (λ marked equal. pick marked (λ _. equal) λ _. true) (ap₂ _||_ (mark-same x xb) (mark-same y yb))
+      (sym (one-slot ρ φ n s w (h .mirrors) x y xb yb))
     where
       mark-same : (r : ℕ) → r < n → getD (s .mark) r false ≡ getD (w .mark) r false
       mark-same r rb = same-test (getD (s .mark) r false) (getD (w .mark) r false) ((λ t. h .mirrors .marked r rb .1 t), (λ t. h .mirrors .marked r rb .0 t))

@@ -1,3 +1,5 @@
+use mathlib.Core.Path.{ap₂}
+use lib.Dec.{eqb}
 use borrow.Author.Needs.{needs}
 use Rattle.slots.specs.Performing.{earlySlots}
 use Rattle.slots.proofs.early.Statement.{statement}
@@ -8,5 +10,7 @@ unfolding earlySlots
 early-spec = tie.close (tie.spec
     (λ c. search needs)
     (λ c. search needs)
-    (λ c. rw (c .if1 .taken))
+    (λ c κs. let p = c .before .before .before .pre in (p .0, p .2))
+    (λ c κs. let p = c .before .before .before .before .pre in (p .1, p .2))
+    (λ c. rw (c .before .before .if1 .taken) (ap₂ eqb (c .before .slot-of .ensures .0) (c .slot-of2 .ensures .0)))
     (λ c. rw (c .if1 .left)))

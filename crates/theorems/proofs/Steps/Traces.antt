@@ -1,28 +1,33 @@
 -- Values are those of Definition 3; the letters that a run names are the first ones, and the infeasible one comes before the incoherent one;
--- coherence is Definition 5's and one condition more.
-use mathlib.Core.Path.{_≡_, refl, ap, _∙_}
-use mathlib.Core.Logic.{inl, inr, _↔_}
+-- coherence is Definition 5's with one condition more and one exception.
+use mathlib.Core.Path.{_≡_, refl, ap, _∙_, subst}
+use mathlib.Core.Logic.{inl, inr, _↔_, Iff·symm}
 use mathlib.Core.Bool.{true, false, cond}
 use Prim.Native.Nat.{ℕ, zero, suc, _≤_, _<_}
 use native.Mathlib.Omega.{arith}
 use borrow.Author.Tests.{eq-eqb, ne-eqb}
+use Rattle.letters.specs.declared.Letter.{Letter}
 use Rattle.letters.specs.declared.Letter.the-variants.{Copy, Apply, Equal, Unequal}
+use Rattle.letters.specs.Letters.{Fits}
 use Rattle.semantics.specs.Terms.{_∈_, Term, con, app, State, Trace, begin, _▸_, state}
 use Rattle.semantics.specs.Facts.{WellFormed, Valid}
 use Rattle.semantics.specs.Closure.{reflexive, Held}
 use Rattle.semantics.specs.Models.{Feasible}
 use Rattle.semantics.specs.Coherence.{Superterm, once, again, Above, Early, Coherent}
+use Rattle.semantics.specs.Strict.{StrictLetter, StrictlyCoherent, RedundantTest}
 use Rattle.semantics.specs.Prefixes.{Begins, whole, before, PrefixClosed}
-use Rattle.semantics.specs.Judgement.{size, FailsAt, Longest, Judgement}
+use Rattle.semantics.specs.Judgement.{size, FailsAt, FirstFailure, Longest, Judgement}
 use Rattle.semantics.specs.FirstLetters.{coherentPart}
-use Rattle.semantics.specs.Paper.{SupertermModulo, HeldModulo, EarlyModulo, CoherentModulo}
+use Rattle.semantics.specs.Paper.{SupertermModulo, HeldModulo, EarlyModulo, CoherentLetterModulo, CoherentModulo}
 use Rattle.semantics.proofs.Theory.Facts.{state-valid}
 use Rattle.semantics.proofs.Theory.Prefixes.{begins-size, begins-has}
-use Rattle.semantics.proofs.Theory.JudgementLaws.{longest-is, longest-unique, part-size, failed, fails-size, feasible-closed}
+use Rattle.semantics.proofs.Theory.JudgementLaws.{longest-is, longest-unique, part-size, failed, fails-size, feasible-closed, coherent-closed}
 use Rattle.macros.proofs.Theory.Numbers.{less-or}
-use Rattle.semantics.proofs.Theory.PaperLaws.{held-is, superterm-is, memoizing-is, early-stricter, constants-computed}
+use Rattle.semantics.proofs.Theory.PaperLaws.{congruent-is, held-is, superterm-is, memoizing-is, early-stricter, constants-computed}
+use Rattle.semantics.proofs.Theory.StrictLaws.{strict-coherent, redundant-or-strict}
 use Rattle.theorems.specs.Definition3.{Definition3}
 use Rattle.theorems.specs.Stricter.{ArgumentsHeld, Stricter}
+use Rattle.theorems.specs.Milder.{SidesJoined, Definition5Changed}
 
 pub definition-3 : Definition3 (λ ρ. state ρ .value)
 definition-3 = record {
@@ -105,19 +110,54 @@ module _ (σ : State) (v : Valid σ) (computed : (r : ℕ) → r < σ .header .r
     ),
   )
 
-pub coherent-exactly : (ρ : Trace) → WellFormed ρ → Coherent ρ ↔ (CoherentModulo ρ × Stricter ρ)
+-- A letter is coherent by document 01's own rule exactly if it is so by Definition 5 and its arguments are held;
+letter-exactly : (ρ : Trace) → WellFormed ρ → (a : Letter) → Fits (state ρ .header) a
+    → StrictLetter (state ρ) a ↔ (CoherentLetterModulo (state ρ) a × ArgumentsHeld (state ρ) a)
+letter-exactly ρ w (Copy x y) f = (λ c. (tt, tt), λ c. tt)
+letter-exactly ρ w (Apply x h y z) f =
+    let (i, j) = memoizing-is (state ρ) (state-valid ρ w) (constants-computed ρ) x h y z f in (λ c. (i c, tt), λ (c, k). j c)
+letter-exactly ρ w (Equal x y) (xb, yb) = early-is (state ρ) (state-valid ρ w) (constants-computed ρ) x y xb yb
+letter-exactly ρ w (Unequal x y) f = (λ c. (tt, tt), λ c. tt)
+
+-- and is a test of equal sides exactly if the congruence joins them.
+sides-joined : (ρ : Trace) → WellFormed ρ → (a : Letter) → Fits (state ρ .header) a → RedundantTest (state ρ) a ↔ SidesJoined (state ρ) a
+sides-joined ρ w (Copy x y) f = (λ k. k, λ k. k)
+sides-joined ρ w (Apply x h y z) f = (λ k. k, λ k. k)
+sides-joined ρ w (Equal x y) (xb, yb) = let v = state-valid ρ w in Iff·symm (congruent-is (state ρ) v (v .values x xb) (v .values y yb))
+sides-joined ρ w (Unequal x y) f = (λ k. k, λ k. k)
+
+pub coherent-exactly : (ρ : Trace) → WellFormed ρ → StrictlyCoherent ρ ↔ (CoherentModulo ρ × Stricter ρ)
 coherent-exactly (begin h) w = (λ c. (tt, tt), λ c. tt)
-coherent-exactly (ρ ▸ Copy x y) w =
-    let (f, g) = coherent-exactly ρ (w .0) in
-    (λ (c, l). let (p, q) = f c in ((p, tt), (q, tt)), λ ((p, l), (q, k)). (g (p, q), tt))
-coherent-exactly (ρ ▸ Apply x h y z) w =
-    let (f, g) = coherent-exactly ρ (w .0) in
-    let (i, j) = memoizing-is (state ρ) (state-valid ρ (w .0)) (constants-computed ρ) x h y z (w .1) in
-    (λ (c, l). let (p, q) = f c in ((p, i l), (q, tt)), λ ((p, l), (q, k)). (g (p, q), j l))
-coherent-exactly (ρ ▸ Equal x y) w =
-    let (f, g) = coherent-exactly ρ (w .0) in
-    let (i, j) = early-is (state ρ) (state-valid ρ (w .0)) (constants-computed ρ) x y (w .1 .0) (w .1 .1) in
+coherent-exactly (ρ ▸ a) (w, b) =
+    let (f, g) = coherent-exactly ρ w in
+    let (i, j) = letter-exactly ρ w a b in
     (λ (c, l). let (p, q) = f c in let (s, t) = i l in ((p, s), (q, t)), λ ((p, l), (q, k)). (g (p, q), j (l, k)))
-coherent-exactly (ρ ▸ Unequal x y) w =
-    let (f, g) = coherent-exactly ρ (w .0) in
-    (λ (c, l). let (p, q) = f c in ((p, tt), (q, tt)), λ ((p, l), (q, k)). (g (p, q), tt))
+
+pub coherent-changed : (ρ : Trace) → WellFormed ρ → Coherent ρ ↔ Definition5Changed ρ
+coherent-changed (begin h) w = (λ c. tt, λ c. tt)
+coherent-changed (ρ ▸ a) (w, b) =
+    let (f, g) = coherent-changed ρ w in
+    let (p, q) = redundant-or-strict (state ρ) a in
+    let (i, j) = letter-exactly ρ w a b in
+    let (k, l) = sides-joined ρ w a b in (
+      λ (c, d). (f c, elim (p d) [ inl r ↦ inl (k r) | inr s ↦ inr (i s) ]),
+      λ (c, d). (g c, q (elim d [ inl r ↦ inl (l r) | inr s ↦ inr (j s) ])),
+    )
+
+-- ── the rule of request 3 ──
+-- What is named now is never named before the strict rule would have named a letter.
+pub not-before-strict : (ρ : Trace) (k i : ℕ) → FailsAt Coherent ρ k → FirstFailure StrictlyCoherent ρ i → (1 ≤ i) × (i ≤ k)
+not-before-strict (begin h) k i f s = absurd f
+not-before-strict (ρ ▸ a) k zero f s = absurd (failed Coherent coherent-closed (ρ ▸ a) k f (strict-coherent (ρ ▸ a) s))
+not-before-strict (ρ ▸ a) k (suc i) (inl f) (inl s) = not-before-strict ρ k (suc i) f s
+not-before-strict (ρ ▸ a) k (suc i) (inl f) (inr (e, p, n)) = absurd (failed Coherent coherent-closed ρ k f (strict-coherent ρ p))
+not-before-strict (ρ ▸ a) k (suc i) (inr (e, p, n)) (inl s) =
+    let b = fails-size StrictlyCoherent (λ π b c. c .0) ρ (suc i) s .1 in (omega arith, omega arith)
+not-before-strict (ρ ▸ a) k (suc i) (inr (e, p, n)) (inr (d, q, m)) = (omega arith, omega arith)
+
+-- A coherent trace is its own longest coherent beginning, so that the infeasible letter of a run is the first of the whole trace.
+pub coherent-feasibility : (ρ : Trace) (i k : ℕ) → Coherent ρ → Judgement ρ i k → (i ≡ 0) × FirstFailure (λ π. Feasible (state π)) ρ k
+coherent-feasibility ρ (suc i) k c j = absurd (failed Coherent coherent-closed ρ (suc i) (j .coherence) c)
+coherent-feasibility ρ zero k c j =
+    let itself : Longest ρ ρ = record { beginning = whole; coherent = c; longest = λ κ b d. begins-size b } in
+    (refl, subst (λ π. FirstFailure (λ κ. Feasible (state κ)) π k) (longest-unique ρ (j .part) ρ (j .longest) itself) (j .feasibility))

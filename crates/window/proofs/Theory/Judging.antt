@@ -12,52 +12,19 @@ use borrow.Author.Tests.{eqb-true, eqb-false}
 use Rattle.base.proofs.Theory.Choice.{byTest}
 use Rattle.base.specs.Masks.{has}
 use Rattle.semantics.proofs.Theory.Booleans.{and-l, and-r, and-i, or-e, or-l, or-r}
-use Rattle.semantics.specs.View.{View}
-use Rattle.semantics.proofs.Theory.Steps.{Joined, alike, test, turn′, join′, lift′, Equated, Separated}
+use Rattle.semantics.proofs.Theory.Steps.{Joined, alike, test, turn′, join′, Equated, Separated}
 use Rattle.window.specs.Places.{place}
 use Rattle.window.proofs.Theory.Table.{table-at}
 use Rattle.window.proofs.Theory.Bits.{truth, no-truth, none-zero, none-in, has-and, or-is, same-iff, nonempty-is}
 use Rattle.window.specs.Adding.{partOf}
 use Rattle.window.specs.Performing.{mergedOf, closedOf, apartOf, clashOf, settledOf, partedOf, withUnequal}
 use Rattle.window.specs.Viewing.{view, Inside, Shaped}
-use Rattle.window.proofs.Theory.Laws.{Laws, Sound}
+use Rattle.window.proofs.Theory.Laws.{Laws}
 use Rattle.window.proofs.Theory.Merge.{joining-none, joining-more, same-joined, result-joined, ever-joined, apart-joined}
 use Rattle.window.proofs.Theory.Merging.{merged, inside-merged}
 use Rattle.window.proofs.Theory.Shape.{shaped-merged}
 use Rattle.window.proofs.Theory.Closing.{Way, Stable, closed-way}
 use Rattle.window.specs.declared.Window.{Window}
-
--- an equal test within a class moves nothing
-module _ (n : ℕ) (w : View) (g : Laws n w) (s : Sound n w) (infeasible : (r q : ℕ) → r < n → q < n → T (w .apart r q) → ¬ T (w .infeasible)) (x y : ℕ)
-    (xb : x < n) (yb : y < n) (e : T (w .same x y)) where
-  same-joined′ : {r q : ℕ} → Joined n w x y r q → (r < n) × (q < n) × T (w .same r q)
-  same-joined′ (alike rb qb t) = (rb, qb, t)
-  same-joined′ test = (xb, yb, e)
-  same-joined′ {r} {q} (turn′ j) = let (p, o, t) = same-joined′ j in (o, p, g .turned q r p o t)
-  same-joined′ {r} {q} (join′ {s = o} j k) = let (p, p′, t) = same-joined′ j in let (q′, q″, u) = same-joined′ k in (p, q″, g .joined r o q p p′ q″ t u)
-  same-joined′ {r} {q} (lift′ f {a} {b} {c} {d} rb qb h k i j) =
-      let (ab, cb, t) = same-joined′ i in
-      let (bb, db, u) = same-joined′ j in
-      (rb, qb, s .one f c d r q cb db rb qb (g .result f a b r c d r ab bb rb cb db rb h t u (g .self r rb)) k)
-
-  pub equated-within : Equated n w x y w
-  equated-within = record {
-    same = λ r q rb qb. ((λ t. alike rb qb t), (λ j. same-joined′ j .2));
-    result = λ f a b c ab bb cb. (
-      (λ t. (a, b, c, ab, bb, cb, t, alike ab ab (g .self a ab), alike bb bb (g .self b bb), alike cb cb (g .self c cb))),
-      (λ (p, q, d, pb, qb, db, t, i, j, k). g .result f p q d a b c pb qb db ab bb cb t (same-joined′ i .2) (same-joined′ j .2) (same-joined′ k .2)),
-    );
-    ever = λ f a b ab bb. (
-      (λ t. (a, b, ab, bb, t, alike ab ab (g .self a ab), alike bb bb (g .self b bb))),
-      (λ (p, q, pb, qb, t, i, j). g .ever f p q a b pb qb ab bb t (same-joined′ i .2) (same-joined′ j .2)),
-    );
-    marked = λ r rb. ((λ t. t), (λ t. t));
-    infeasible = (inl, λ k. ⊎-elim (λ t. t) (λ (p, q, pb, qb, t, j). absurd (s .distinct p q pb qb t (same-joined′ j .2))) k);
-    apart = λ r q rb qb. (
-      (λ t. (infeasible r q rb qb t, (r, q, rb, qb, t, alike rb rb (g .self r rb), alike qb qb (g .self q qb)))),
-      (λ (_, (p, o, pb, ob, t, i, j)). g .apart p o r q pb ob rb qb t (same-joined′ i .2) (same-joined′ j .2)),
-    );
-  }
 
 part-has : (one two k s : ℕ) → T (has (partOf one two k) s) ↔ (T (has one k) × T (has two s))
 unfolding partOf

@@ -1,12 +1,13 @@
 -- What follows from the definitions of specs/Stepping.antt.
 use mathlib.Core.Path.{_≡_, subst}
-use mathlib.Core.Logic.{_↔_, _≢_, Iff·trans, Iff·symm}
-use mathlib.Core.Bool.{Bool, true, false, cond, not, _||_}
+use mathlib.Core.Logic.{_⊎_, inl, inr, _↔_, _≢_, Iff·trans, Iff·symm}
+use mathlib.Core.Bool.{Bool, true, false, cond, _||_}
 use Prim.Native.Nat.{ℕ, _+_, _*_, _≤_, _<_}
 use native.Mathlib.Omega.{arith}
 use lib.Dec.{T, ltb, lt→ltb}
 use lib.ListN.{getD}
 use borrow.Author.Tests.{ltb-true, ltb-false}
+use Rattle.base.specs.Choice.{pick}
 use Rattle.base.proofs.Theory.Choice.{byTest}
 use Rattle.base.specs.Masks.{has}
 use Rattle.base.specs.LeastAndSize.{leastIn}
@@ -17,10 +18,11 @@ use Rattle.letters.specs.declared.Letter.the-variants.{Copy, Apply, Equal, Uneq
 use Rattle.letters.specs.Letters.{Fits}
 use Rattle.semantics.proofs.Theory.Booleans.{and-r, and-i}
 use Rattle.semantics.specs.Terms.{State, start, after}
-use Rattle.semantics.specs.Coherence.{CoherentLetter}
+use Rattle.semantics.specs.Coherence.{Early, CoherentLetter}
 use Rattle.semantics.specs.Facts.{Valid}
 use Rattle.semantics.proofs.Theory.Steps.{copied, Renamed, tracks-copy, tracks-unequal, tracks-equal, tracks-apply-known, tracks-apply-new, fine-apply}
 use Rattle.semantics.proofs.Theory.Steps.{fine-equal}
+use Rattle.semantics.proofs.Theory.Redundant.{tracks-redundant}
 use Rattle.window.specs.Places.{place}
 use Rattle.window.proofs.Theory.Bits.{truth, no-truth, nonempty-is}
 use Rattle.window.specs.Bits.{nonempty}
@@ -30,7 +32,7 @@ use Rattle.window.specs.Viewing.{view, Inside}
 use Rattle.window.proofs.Theory.Laws.{Laws, laws-of, Sound, sound-of}
 use Rattle.window.proofs.Theory.Shape.{shaped-copied, shaped-performed, shaped-fresh}
 use Rattle.window.proofs.Theory.Copying.{renamed-copied, inside-copied, renamed-within}
-use Rattle.window.proofs.Theory.Judging.{equated, inside-equated, equated-within, separated, inside-separated}
+use Rattle.window.proofs.Theory.Judging.{equated, inside-equated, separated, inside-separated}
 use Rattle.window.proofs.Theory.Applying.{renamed-applied, inside-applied}
 use Rattle.window.proofs.Theory.Starting.{tracks-fresh, inside-fresh}
 use Rattle.window.specs.declared.Window.{Window}
@@ -89,10 +91,9 @@ module _ (ρ φ : ℕ) where
     unfolding equalOf
     equal-holds x y xb yb c = record {
       tracks = byTest (has (getD (w .class) x 0) y)
-          (λ t. rw t (tracks-equal σ v x y xb yb c (view ρ φ w) (view ρ φ w) (h .tracks)
-          (equated-within (σ .header .registers) (view ρ φ w) laws sound
-          (λ r q rb qb m i. h .tracks .infeasible .0 i (h .tracks .apart r q rb qb .0 m .0)) x y xb yb (truth (view ρ φ w .same x y) t))))
-          (λ t. rw t (tracks-equal σ v x y xb yb c (view ρ φ w) _ (h .tracks) (equated ρ φ w (h .shaped) (σ .header .registers) laws (h .inside) x y xb yb)));
+          (λ t. rw t (tracks-redundant σ x y (h .tracks .same x y xb yb .0 (truth (view ρ φ w .same x y) t)) (view ρ φ w) (h .tracks)))
+          (λ t. let early = elim c as (λ _. Early σ x y) [ inl s ↦ absurd (no-truth (view ρ φ w .same x y) t (h .tracks .same x y xb yb .1 s)) | inr e ↦ e ] in
+          rw t (tracks-equal σ v x y xb yb early (view ρ φ w) _ (h .tracks) (equated ρ φ w (h .shaped) (σ .header .registers) laws (h .inside) x y xb yb)));
       inside = byTest (has (getD (w .class) x 0) y) (λ t. rw t (h .inside))
           (λ t. rw t (inside-equated ρ φ w (h .shaped) (σ .header .registers) laws (h .inside) x y xb yb));
       shaped = shaped-performed ρ φ w (Equal x y) (low x xb, low y yb) (h .shaped);
@@ -126,12 +127,18 @@ module _ (ρ φ : ℕ) where
 
     early-is : (x y : ℕ) → x < σ .header .registers → y < σ .header .registers → T (earlyOf w x y) ↔ CoherentLetter σ (Equal x y)
     unfolding earlyOf
-    early-is x y xb yb = Iff·trans (neither (view ρ φ w .marked x) (view ρ φ w .marked y)) (Iff·symm (fine-equal σ v x y xb yb (view ρ φ w) (h .tracks)))
+    early-is x y xb yb = Iff·trans (either (view ρ φ w .marked x) (view ρ φ w .marked y) (view ρ φ w .same x y)) (
+      (λ k. elim k [ inl s ↦ inl (h .tracks .same x y xb yb .0 s) | inr n ↦ inr (unmarked .1 n) ]),
+      (λ c. elim c [ inl s ↦ inl (h .tracks .same x y xb yb .1 s) | inr e ↦ inr (unmarked .0 e) ]),
+    )
       where
-        neither : (a b : Bool) → T (not (a || b)) ↔ ((¬ T a) × (¬ T b))
-        neither true b = ((λ t. absurd t), (λ (p, _). absurd (p tt)))
-        neither false true = ((λ t. absurd t), (λ (_, q). absurd (q tt)))
-        neither false false = ((λ _. ((λ t. t), (λ t. t))), (λ _. tt))
+        unmarked : Early σ x y ↔ ((¬ T (view ρ φ w .marked x)) × (¬ T (view ρ φ w .marked y)))
+        unmarked = fine-equal σ v x y xb yb (view ρ φ w) (h .tracks)
+
+        either : (a b s : Bool) → T (pick (a || b) (λ _. s) λ _. true) ↔ (T s ⊎ ((¬ T a) × (¬ T b)))
+        either true b s = (inl, (λ k. elim k [ inl t ↦ t | inr (p, _) ↦ absurd (p tt) ]))
+        either false true s = (inl, (λ k. elim k [ inl t ↦ t | inr (_, q) ↦ absurd (q tt) ]))
+        either false false s = ((λ _. inr ((λ t. t), (λ t. t))), (λ _. tt))
 
     -- the letter is coherent exactly if the window says so
     pub judged : (l : Letter) → WithinLayout ρ φ l → Fits (σ .header) l → T (judgeInLayout ρ φ w l) ↔ CoherentLetter σ l

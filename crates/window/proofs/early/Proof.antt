@@ -8,5 +8,6 @@ unfolding earlyOf
 early-spec = tie.close (tie.spec
     (λ c. search needs)
     (λ c. search needs)
-    (λ c κ u r e i. rw (c .if1 .taken))
-    (λ c κ u r e i. rw (c .if1 .left)))
+    (λ c. search needs) (λ c κs. search needs)
+    (λ c u r e i. rw (c .before .before .if1 .taken) (c .holds .ensures))
+    (λ c u r e i. rw (c .if1 .left)))

@@ -32,9 +32,7 @@ perform-in-spec = tie.close (tie.spec
     let at-letter = c .before .before .before .before .before .before in
     let start = at-letter .before .before in
     let p = within start (at-letter .letter2 .given .1) in (p .0, p .1, p .2, p .3, start .pre .1))
-    (λ c. search needs)
-    (λ c. search needs)
-    (λ c. search needs)
+    (λ c. search needs) (λ c. search needs) (λ c. search needs)
     (λ c κs.
     let at-letter = c .before .before .before .before .before in
     let start = at-letter .before .before in

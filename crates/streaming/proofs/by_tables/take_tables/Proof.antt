@@ -58,7 +58,8 @@ take-tables-spec = tie.close (tie.spec
     (at-decode-letter .decode-letter .ensures) (at-next-number .next-number .ensures) (at-enum-told .enum-told .given .1))
     (λ c κs.
     let at-ever2 = c .before in
-    let at-decoded = at-ever2 .before .before .before in
+    let at-class2 = at-ever2 .before .before in
+    let at-decoded = at-class2 .before .before in
     let at-decode-letter = at-decoded .before .before .before in
     let at-shared-slice-known3 = at-decode-letter .before .before in
     let at-loop = at-shared-slice-known3 .before .before .before in
@@ -70,9 +71,10 @@ take-tables-spec = tie.close (tie.spec
     (at-decoded .decoded .given .1))
     (λ c κs.
     let at-ever3 = c .before in
-    let at-class2 = at-ever3 .before .before .before in
-    let at-ever2 = at-class2 .before .before .before in
-    let at-decoded = at-ever2 .before .before .before in
+    let at-class3 = at-ever3 .before .before .before in
+    let at-ever2 = at-class3 .before .before .before in
+    let at-class2 = at-ever2 .before .before in
+    let at-decoded = at-class2 .before .before in
     let at-decode-letter = at-decoded .before .before .before in
     let at-shared-slice-known3 = at-decode-letter .before .before in
     let at-loop = at-shared-slice-known3 .before .before .before in
@@ -90,8 +92,9 @@ take-tables-spec = tie.close (tie.spec
     let at-performed = c .before .before in
     let at-result3 = at-performed .before .before .before in
     let at-judge-in = at-result3 .before .before .before in
-    let at-result2 = at-judge-in .before .before .before in
-    let at-match = at-result2 .before .before .before in
+    let at-ever2 = at-judge-in .before .before in
+    let at-class2 = at-ever2 .before .before in
+    let at-match = at-class2 .before .before .before in
     let at-word = at-match .before .before .before in
     let at-loop-test = at-word .before .before .before in
     omega (arith, at-loop-test))
@@ -99,8 +102,9 @@ take-tables-spec = tie.close (tie.spec
     let at-performed = c .before .before in
     let at-result3 = at-performed .before .before .before in
     let at-judge-in = at-result3 .before .before .before in
-    let at-result2 = at-judge-in .before .before .before in
-    let at-match = at-result2 .before .before .before in
+    let at-ever2 = at-judge-in .before .before in
+    let at-class2 = at-ever2 .before .before in
+    let at-match = at-class2 .before .before .before in
     let at-word = at-match .before .before .before in
     let at-loop-test = at-word .before .before .before in
     omega (arith, at-loop-test .loop-test .taken))
@@ -109,7 +113,8 @@ take-tables-spec = tie.close (tie.spec
     let at-result3 = at-performed .before .before .before in
     let at-judge-in = at-result3 .before .before .before in
     let at-ever2 = at-judge-in .before .before in
-    let at-decoded = at-ever2 .before .before .before in
+    let at-class2 = at-ever2 .before .before in
+    let at-decoded = at-class2 .before .before in
     let at-next-number = at-decoded .before .before in
     let at-decode-letter = at-next-number .before in
     let at-word = at-decode-letter .before in
@@ -124,7 +129,7 @@ take-tables-spec = tie.close (tie.spec
       at-performed .performed .ensures .1,
       taken-more (a .header) (windowOfParts (l .class) (l .unequal) (l .result) (l .ever) (l .mark) (l .bad)) (l .fine) (l .count) (l .one) (l .two)
           (a .bytes .now) (l .i) _ (l .inv .2) _ _ _ _ _ _ _ _ t (at-word .word .ensures) (at-decode-letter .decode-letter .ensures)
-          (at-next-number .next-number .ensures) (at-decoded .decoded .given .1) (at-judge-in .judge-in .ensures (l .class) (l .unequal) (l .bad))
+          (at-next-number .next-number .ensures) (at-decoded .decoded .given .1) (at-judge-in .judge-in .ensures (l .unequal) (l .bad))
           (at-performed .performed .ensures .0) (c .before .first .ensures) (c .first2 .ensures),
     ))
     (λ c κs. search needs)
