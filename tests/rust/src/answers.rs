@@ -1,4 +1,4 @@
-//! Texts whose answers were settled beforehand: what the verdict program prints for each, and their layouts.
+//! Inputs whose answers were settled beforehand: what the programs print for macros and traces, and layouts of texts.
 
 use crate::oracle::refusal::Refusal;
 
@@ -21,6 +21,118 @@ pub const CAPITALS: [(&str, &str); 13] = [
         "vars Xx Y; funs Cap/1; xX := CAP(y); ASSERT XX = y;",
         "verdict fail\npairs 2\nletters 2\nXx := Cap(Y)\nassume Xx != Y\nvalues 4\nstart Xx 1\nstart Y 2\n\
          row Cap 2 0 3\n",
+    ),
+];
+
+/// A packed trace whose judgement is settled.
+pub struct Judged {
+    /// Its letters.
+    pub letters: &'static str,
+    /// The words of its header and its letters.
+    pub words: &'static [u16],
+    /// What the monitor program prints.
+    pub lines: &'static str,
+}
+
+impl Judged {
+    const fn new(letters: &'static str, words: &'static [u16], lines: &'static str) -> Judged {
+        Judged { letters, words, lines }
+    }
+
+    /// The bytes of the trace.
+    pub fn bytes(&self) -> Vec<u8> {
+        self.words.iter().flat_map(|word| word.to_be_bytes()).collect()
+    }
+
+    /// The numbers of its first incoherent and its first infeasible letter, 0 for none, as the lines have them.
+    pub fn numbers(&self) -> [usize; 2] {
+        let mut numbers = self.lines.lines().map(|line| line.split(' ').nth(1).map_or(Ok(0), str::parse));
+        [(); 2].map(|()| numbers.next().expect("two lines").expect("a number"))
+    }
+}
+
+/// A test of what is already equal (document 02): "an equal test whose two sides are equal in the closure before it is
+/// always coherent". Equal as one register, by a copy, by congruence and by an earlier test; what the test leaves as it was.
+pub const EQUAL_SIDES_TRACES: [Judged; 12] = [
+    Judged::new("z:=f(x), z:=x, x=x", &[0x3200, 0x4400, 0x0400, 0x8000], "coherent\nfeasible\n"),
+    Judged::new(
+        "z:=f(x), z:=x, y:=x, x=y",
+        &[0x3200, 0x4400, 0x0400, 0x0200, 0x8008],
+        "coherent\nfeasible\n",
+    ),
+    Judged::new("z:=f(x), z:=x, x=y", &[0x3200, 0x4400, 0x0400, 0x8008], "incoherent 3\nfeasible\n"),
+    Judged::new(
+        "u:=f(x), v:=f(y), x=y, w:=g(u), w:=x, u=v",
+        &[0x5400, 0x4400, 0x4640, 0x8008, 0x5880, 0x0800, 0x8098],
+        "coherent\nfeasible\n",
+    ),
+    Judged::new(
+        "z:=f(x), z:=x, x=x, z:=f(x)",
+        &[0x3200, 0x4400, 0x0400, 0x8000, 0x4400],
+        "incoherent 4\nfeasible\n",
+    ),
+    Judged::new(
+        "z:=f(x), z:=x, x=x, y:=x, y!=x",
+        &[0x3200, 0x4400, 0x0400, 0x8000, 0x0200, 0xc040],
+        "coherent\ninfeasible 5\n",
+    ),
+    // The marks stay.
+    Judged::new(
+        "z:=f(x), z:=x, x=x, x=y",
+        &[0x3200, 0x4400, 0x0400, 0x8000, 0x8008],
+        "incoherent 4\nfeasible\n",
+    ),
+    // It is not enough that one side has no mark, whichever it is.
+    Judged::new("z:=f(x), z:=x, y=x", &[0x3200, 0x4400, 0x0400, 0x8040], "incoherent 3\nfeasible\n"),
+    // An argument is lost, and the test of letter 3 is repeated.
+    Judged::new(
+        "u:=f(x,w), v:=f(y,w), x=y, w:=x, x=y",
+        &[0x5300, 0x4420, 0x4660, 0x8008, 0x0800, 0x8008],
+        "coherent\nfeasible\n",
+    ),
+    // Equal only by the test itself: f(x) is lost, f(y) is held.
+    Judged::new(
+        "u:=f(x), v:=f(y), u:=v, x=y",
+        &[0x4200, 0x4400, 0x4640, 0x04c0, 0x8008],
+        "incoherent 4\nfeasible\n",
+    ),
+    // An infeasible trace is judged alike.
+    Judged::new(
+        "x!=x, z:=f(x), z:=x, x=x",
+        &[0x3200, 0xc000, 0x4400, 0x0400, 0x8000],
+        "coherent\ninfeasible 1\n",
+    ),
+    Judged::new(
+        "x!=x, z:=f(x), z:=x, x=y",
+        &[0x3200, 0xc000, 0x4400, 0x0400, 0x8008],
+        "incoherent 4\ninfeasible 1\n",
+    ),
+];
+
+/// Macros that test what is already equal, with what the verdict program prints.
+pub const EQUAL_SIDES_MACROS: [(&str, &str); 6] = [
+    ("vars x z; funs f/1; z := f(x); z := x; assume x = z; assert x = z;", "verdict pass\npairs 4\n"),
+    ("vars x y; funs n/1; y := n(x); y := x; while x = y { }", "verdict pass\npairs 3\n"),
+    // The marks stay.
+    (
+        "vars x y z; funs f/1; z := f(x); z := x; assert x = z; assume x = y;",
+        "verdict incoherent\npairs 4\nletters 4\nz := f(x)\nz := x\nassume x = z\nassume x = y\n",
+    ),
+    // The failing letter is the equal test.
+    (
+        "vars x z; funs f/1; z := f(x); z := x; assert x != z;",
+        "verdict fail\npairs 3\nletters 3\nz := f(x)\nz := x\nassume x = z\nvalues 4\nstart x 1\nstart z 2\n\
+         row f 1 0 3\n",
+    ),
+    // Each turn asks again what is known.
+    (
+        "vars x y z; funs f/1; assume x = y; z := f(x); z := x; while x = y { z := y; } assert x = z;",
+        "verdict pass\npairs 6\n",
+    ),
+    // The second turn may ask again, but not compute again.
+    (
+        "vars x y z; funs f/1; while x = y { z := f(x); z := x; }",
+        "verdict incoherent\npairs 5\nletters 5\nassume x = y\nz := f(x)\nz := x\nassume x = y\nz := f(x)\n",
     ),
 ];
 

@@ -8,8 +8,9 @@ use std::io::Write;
 use std::path::Path;
 use std::process::{Command, Stdio};
 
+use fadzgime_tests::answers::EQUAL_SIDES_TRACES;
 #[cfg(feature = "verdict")]
-use fadzgime_tests::answers::CAPITALS;
+use fadzgime_tests::answers::{CAPITALS, EQUAL_SIDES_MACROS};
 #[cfg(feature = "verdict")]
 use fadzgime_tests::examples::example_macros;
 use fadzgime_tests::fast::monitor::fast_monitor;
@@ -89,13 +90,13 @@ fn verdict() {
     check("verdict", (0..3_000).map(some_macro), print_verdict);
 }
 
-/// Texts with capitals, against the lines that were settled for them.
+/// Texts with capitals and macros that test what is already equal, against the lines that were settled for them.
 #[cfg(feature = "verdict")]
 #[test]
-fn verdict_on_capitals() {
+fn verdict_on_settled_texts() {
     let path = program("verdict");
-    for (text, lines) in CAPITALS {
-        assert_eq!(printed(&path, text.as_bytes()), lines, "{text}");
+    for (text, lines) in CAPITALS.iter().chain(&EQUAL_SIDES_MACROS) {
+        assert_eq!(printed(&path, text.as_bytes()), *lines, "{text}");
     }
 }
 
@@ -286,6 +287,15 @@ fn monitor_on_long_inputs() {
     let lengths = [32_766, 32_767, 32_768, 100_000];
     let traces = (0..4).flat_map(|seed| lengths.into_iter().flat_map(move |length| long_trace(seed, length)));
     check("monitor", traces.chain([vec![], vec![0x32]]), |bytes| judgement_lines(fast_monitor(bytes)));
+}
+
+/// Traces that test what is already equal, against the lines that were settled for them.
+#[test]
+fn monitor_on_settled_traces() {
+    let path = program("monitor");
+    for judged in &EQUAL_SIDES_TRACES {
+        assert_eq!(printed(&path, &judged.bytes()), judged.lines, "{}", judged.letters);
+    }
 }
 
 #[test]

@@ -127,9 +127,7 @@ impl FastMonitor {
                 let f = usize::from(function & 3);
                 self.computed[f][a] & (1 << b) == 0 || self.result[f][a][b] != LOST
             }
-            Letter::Equal { first, second } => {
-                self.marked & (1 << self.slot_of(first) | 1 << self.slot_of(second)) == 0
-            }
+            Letter::Equal { first, second } => self.may_equate(self.slot_of(first), self.slot_of(second)),
         }
     }
 
@@ -260,10 +258,15 @@ impl FastMonitor {
         self.unequal = [0; STRIDE];
     }
 
-    /// Performs an equal test; false if it is not early.
+    /// Is an equal test of these classes coherent? One class may be tested against itself whatever lies above it.
+    fn may_equate(&self, a: usize, b: usize) -> bool {
+        a == b || self.marked & (1 << a | 1 << b) == 0
+    }
+
+    /// Performs an equal test; false if it is incoherent.
     fn equate(&mut self, first: u8, second: u8) -> bool {
         let (a, b) = (self.slot_of(first), self.slot_of(second));
-        if self.marked & (1 << a | 1 << b) != 0 {
+        if !self.may_equate(a, b) {
             return false;
         }
         if a != b {

@@ -5,6 +5,7 @@ use std::collections::HashSet;
 
 use super::execution::{Onward, Rest};
 use super::letter::Letter;
+use super::monitor::is_coherent;
 use super::state::State;
 use super::syntax::{Macro, Statement};
 use super::verdict::{Event, Verdict, event_at};
@@ -74,7 +75,7 @@ fn next_level<'a>(pairs: &mut Pairs, level: &[Partial<'a>]) -> Result<Vec<Partia
             let state = partial.state.after(&letter);
             let mut letters = partial.letters.clone();
             letters.push(letter);
-            if let Some(event) = event_at(&partial.state, &letters, &state, &onward) {
+            if let Some(event) = event_at(is_coherent, [&partial.state, &state], &letters, &onward) {
                 return Err(event);
             }
             if let Onward::To(rest) = onward {

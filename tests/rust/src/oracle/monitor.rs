@@ -1,5 +1,6 @@
 //! Coherence and feasibility letter by letter, always from the whole beginning
-//! of the trace (document 01, "Terms, models, coherence").
+//! of the trace (document 01, "Terms, models, coherence"; document 02, "A test of what
+//! is already equal").
 
 use super::letter::Letter;
 use super::refusal::Refusal;
@@ -15,8 +16,26 @@ pub struct Judgement {
     pub infeasible: Option<usize>,
 }
 
-/// Is this letter, which takes one state to the other, coherent?
+/// A rule by which a letter that takes one state to the other is coherent or not.
+pub type Rule = fn(&State, &Letter, &State) -> bool;
+
+/// Is this letter, which takes one state to the other, coherent? Document 02: "an equal test whose two sides are equal in
+/// the closure before it is always coherent"; all else is judged by document 01's rule.
 pub fn is_coherent(before: &State, letter: &Letter, after: &State) -> bool {
+    tests_equal_sides(before, letter) || is_strictly_coherent(before, letter, after)
+}
+
+/// Is this an equal test whose sides are equal in the closure of this state, which is the one before it?
+pub fn tests_equal_sides(before: &State, letter: &Letter) -> bool {
+    match *letter {
+        Letter::Equal { first, second } => before.closure.equal(before.value(first), before.value(second)),
+        _ => false,
+    }
+}
+
+/// Document 01's rule, which asks of every equal test that it be early. Only a test that sets both rules side by side
+/// takes it by itself.
+pub fn is_strictly_coherent(before: &State, letter: &Letter, after: &State) -> bool {
     match *letter {
         Letter::Copy { .. } | Letter::Unequal { .. } => true,
         Letter::Apply { target, .. } => is_memoizing(before, target, after),
@@ -38,11 +57,16 @@ fn is_memoizing(before: &State, target: u8, after: &State) -> bool {
 
 /// Judges a trace up to its first incoherent letter.
 pub fn judge(trace: &Trace) -> Judgement {
+    judge_by(is_coherent, trace)
+}
+
+/// Judges a trace up to its first letter that is incoherent by this rule.
+pub fn judge_by(rule: Rule, trace: &Trace) -> Judgement {
     let mut judgement = Judgement::default();
     let mut state = State::start(trace.header);
     for (index, letter) in trace.letters.iter().enumerate() {
         let after = state.after(letter);
-        if !is_coherent(&state, letter, &after) {
+        if !rule(&state, letter, &after) {
             judgement.incoherent = Some(index + 1);
             return judgement;
         }

@@ -5,7 +5,7 @@ use std::collections::{HashSet, VecDeque};
 use super::execution::{Onward, Points};
 use super::letter::Letter;
 use super::model::Model;
-use super::monitor::is_coherent;
+use super::monitor::{Rule, is_coherent};
 use super::reader::read_macro;
 use super::refusal::Refusal;
 use super::state::State;
@@ -79,10 +79,15 @@ struct Partial {
     state: State,
 }
 
-/// Is this letter an event, given the states around it and where it leads?
-pub fn event_at<T>(before: &State, letters: &[Letter], after: &State, onward: &Onward<T>) -> Option<Event> {
+/// Is the last of these letters an event by this rule, given the states around it and where it leads?
+pub fn event_at<T>(
+    rule: Rule,
+    [before, after]: [&State; 2],
+    letters: &[Letter],
+    onward: &Onward<T>,
+) -> Option<Event> {
     let last = letters.last()?;
-    if !is_coherent(before, last, after) {
+    if !rule(before, last, after) {
         return Some(Event::Incoherent(letters.to_vec()));
     }
     let failed = matches!(onward, Onward::Failure) && after.is_feasible();
@@ -109,6 +114,11 @@ impl Search {
 /// Searches breadth first, extending the first execution of each pair; refuses by
 /// 14 when there are more than this many pairs before the first event.
 pub fn search(read: &Macro, most: usize) -> Result<Verdict, Refusal> {
+    search_by(is_coherent, read, most)
+}
+
+/// The search where letters are judged by this rule.
+pub fn search_by(rule: Rule, read: &Macro, most: usize) -> Result<Verdict, Refusal> {
     let points = Points::of(&read.statements);
     let mut search = Search { seen: HashSet::new(), queue: VecDeque::new(), most };
     if let Some(point) = points.first {
@@ -119,7 +129,7 @@ pub fn search(read: &Macro, most: usize) -> Result<Verdict, Refusal> {
             let state = partial.state.after(&letter);
             let mut letters = partial.letters.clone();
             letters.push(letter);
-            if let Some(event) = event_at(&partial.state, &letters, &state, &onward) {
+            if let Some(event) = event_at(rule, [&partial.state, &state], &letters, &onward) {
                 return Ok(Verdict { event: Some(event), pairs: search.seen.len() });
             }
             if let Onward::To(Some(point)) = onward {

@@ -1,5 +1,6 @@
 //! The monitor a letter a call, and the run over a trace in parts.
 
+use fadzgime_tests::answers::EQUAL_SIDES_TRACES;
 use fadzgime_tests::generators::random::{Random, cases};
 use fadzgime_tests::generators::traces::{any_trace, damage_trace, random_header, random_letter};
 use fadzgime_tests::oracle::letter::{Header, Letter};
@@ -69,6 +70,16 @@ fn words(bytes: &[u8]) -> impl Iterator<Item = u16> + '_ {
 fn a_letter_a_call() {
     for seed in 0..cases(20_000) {
         check_words(words(&any_trace(&mut Random::new(seed), 40).pack()));
+    }
+}
+
+/// Traces that test what is already equal; a word that is refused changes nothing between any two letters.
+#[test]
+fn equal_sides() {
+    for judged in &EQUAL_SIDES_TRACES {
+        check_words(judged.words.iter().copied());
+        check_words(judged.words.iter().flat_map(|&word| [word, 0xffff]));
+        check_parts(&mut Random::new(1), &judged.bytes(), 4);
     }
 }
 

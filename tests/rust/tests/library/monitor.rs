@@ -1,5 +1,6 @@
 //! `fadzgime_monitor`.
 
+use fadzgime_tests::answers::EQUAL_SIDES_TRACES;
 use fadzgime_tests::fast::monitor::{FastMonitor, fast_monitor};
 use fadzgime_tests::generators::random::{Random, cases};
 use fadzgime_tests::generators::traces::{any_trace, damage_trace, random_header, random_letter};
@@ -91,6 +92,20 @@ fn letters_on_slots() {
         check_against(&bytes, numbers(fast_monitor(&bytes)));
         let damaged = damage_trace(random, &long);
         check_against(&damaged, numbers(fast_monitor(&damaged)));
+    }
+}
+
+/// Traces that test what is already equal, against what was settled: as they stand, and behind so many letters that
+/// change nothing that the classes lie in slots.
+#[test]
+fn equal_sides() {
+    for judged in &EQUAL_SIDES_TRACES {
+        let bytes = judged.bytes();
+        for idle in [0, 512] {
+            let long = [&bytes[..2], &vec![0; 2 * idle], &bytes[2..]].concat();
+            let numbers = judged.numbers().map(|number| if number == 0 { 0 } else { (number + idle) as u64 });
+            check_against(&long, [0, 0, numbers[0], numbers[1]]);
+        }
     }
 }
 

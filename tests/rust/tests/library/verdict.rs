@@ -1,6 +1,6 @@
 //! `fadzgime_verdict`.
 
-use fadzgime_tests::answers::CAPITALS;
+use fadzgime_tests::answers::{CAPITALS, EQUAL_SIDES_MACROS};
 use fadzgime_tests::examples::example_macros;
 use fadzgime_tests::generators::damaged_macros::damaged_text;
 use fadzgime_tests::generators::macros::{macro_text, random_macro};
@@ -153,6 +153,27 @@ fn damaged_macros() {
 fn capitals() {
     for (text, _) in CAPITALS {
         for table in [0, 191, 192, 383, 384, 65_536] {
+            for room in 0..40 {
+                check(text.as_bytes(), table, room);
+            }
+        }
+    }
+}
+
+/// The numbers of the lines of a verdict: its word, pairs and letters.
+fn numbers(lines: &str) -> [u64; VERDICT_ANSWER] {
+    let number = |line: Option<&str>| line.map_or(0, |line| line.parse().expect("a number"));
+    let behind = |begin: &str| lines.lines().find_map(|line| line.strip_prefix(begin));
+    let word = ["pass", "fail", "incoherent"].iter().position(|word| behind("verdict ") == Some(word));
+    [0, 0, word.expect("a verdict") as u64, number(behind("pairs ")), number(behind("letters "))]
+}
+
+/// Macros that test what is already equal, against what was settled, and with every table and output that is short.
+#[test]
+fn equal_sides() {
+    for (text, lines) in EQUAL_SIDES_MACROS {
+        assert_eq!(check(text.as_bytes(), 65_536, 4_096), numbers(lines), "{text}");
+        for table in (0..=7 * PAIR_BYTES).step_by(PAIR_BYTES / 2) {
             for room in 0..40 {
                 check(text.as_bytes(), table, room);
             }

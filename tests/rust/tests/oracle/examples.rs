@@ -37,7 +37,7 @@ fn starred_examples() {
         infeasible(4)
     );
     assert_eq!(found("vars x y; funs f/1; y:=f(x); assume x=y; x:=f(x); assume x!=y;"), infeasible(4));
-    assert_eq!(found("vars x y z; funs f/1; z:=f(x); z:=x; assume x=x;"), incoherent(3));
+    assert_eq!(found("vars x y z; funs f/1; z:=f(x); z:=x; assume x=x;"), good);
     assert_eq!(found("vars x; assume x!=x;"), infeasible(1));
 }
 
@@ -135,6 +135,23 @@ fn target_counts_as_holder() {
 fn early_before_the_test() {
     let text = "vars x y u v; funs f/1; u:=f(x); v:=f(y); u:=v; assume x=y;";
     assert_eq!(found(text), incoherent(4));
+}
+
+/// An equal test of sides that are equal before it is coherent whatever lies above them, and changes nothing.
+#[test]
+fn tests_of_what_is_equal() {
+    let good = Judgement::default();
+    assert_eq!(found("vars x z; funs f/1; z:=f(x); z:=x; assume x=z;"), good);
+    assert_eq!(found("vars x y z; funs f/1; z:=f(x); z:=x; assume x=x; assume x=y;"), incoherent(4));
+    assert_eq!(found("vars x y z; funs f/1; z:=f(x); z:=x; assume y=x;"), incoherent(3));
+    assert_eq!(found("vars x z; funs f/1; z:=f(x); z:=x; assume x=x; z:=f(x);"), incoherent(4));
+    let lost_argument = "vars a b w z; funs f/2; z:=f(a,w); assume a=b; w:=a; z:=a;";
+    assert_eq!(found(&format!("{lost_argument} assume a=b;")), good);
+    assert_eq!(found(&format!("{lost_argument} assume b=w; assume a!=z;")), infeasible(6));
+    // The two f are equal by congruence, and g of one of them has lost an argument.
+    let congruent = "vars x y u v w t; funs f/1 g/2; u:=f(x); v:=f(y); assume x=y; t:=g(u,w); w:=x;";
+    assert_eq!(found(&format!("{congruent} assume u=v;")), good);
+    assert_eq!(found(&format!("{congruent} assume u=v; assume v=t;")), incoherent(7));
 }
 
 #[test]

@@ -2,6 +2,7 @@
 //! one definition against another.
 
 mod capitals;
+mod equal_sides;
 mod examples;
 mod fast;
 mod grammar;

@@ -1,11 +1,14 @@
-//! The stored runs of `verdict_runs`, `layout_runs` and `reader_runs`: each expected output is the oracle's.
+//! The stored runs of `monitor_runs`, `model_runs`, `verdict_runs`, `layout_runs` and `reader_runs`: each expected output
+//! is the oracle's.
 
 use std::fs;
 use std::path::{Path, PathBuf};
 
 use fadzgime_tests::examples::example_macros;
+use fadzgime_tests::fast::monitor::fast_monitor;
 use fadzgime_tests::oracle::listing::print_points;
-use fadzgime_tests::oracle::report::{print_layout, print_verdict};
+use fadzgime_tests::oracle::monitor::monitor;
+use fadzgime_tests::oracle::report::{print_layout, print_model, print_verdict};
 
 /// The folder of a program.
 fn folder(program: &str) -> PathBuf {
@@ -30,6 +33,30 @@ fn check(program: &str, printed: fn(&str, &[u8]) -> String) {
         assert_eq!(stored, expected, "{program}");
     }
     assert_eq!(stored, expected, "{program}");
+}
+
+/// The line that `monitor_runs` prints for a trace; of a long one by the fast monitor, which other tests hold to the
+/// definitions.
+fn judged(name: &str, bytes: &[u8]) -> String {
+    let found = if bytes.len() > 4_096 { fast_monitor(bytes) } else { monitor(bytes) };
+    match found {
+        Ok(found) => {
+            let [incoherent, infeasible] =
+                [found.incoherent, found.infeasible].map(|number| number.unwrap_or(0));
+            format!("{name} judged {incoherent} {infeasible}\n")
+        }
+        Err(refusal) => format!("{name} refused {} {}\n", refusal.number, refusal.place),
+    }
+}
+
+#[test]
+fn monitor_runs() {
+    check("monitor_runs", judged);
+}
+
+#[test]
+fn model_runs() {
+    check("model_runs", |name, input| format!("{name}: {}", print_model(input)));
 }
 
 #[test]

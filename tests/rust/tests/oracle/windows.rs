@@ -101,9 +101,11 @@ fn window_carries_everything() {
     assert!(repeated > 100 || cases(1) == 0);
 }
 
-/// The early rule is exactly that neither side is marked.
+/// An equal test is coherent exactly if its sides are of one class or neither is marked; of one class, it leaves the
+/// window as it is.
 #[test]
-fn early_is_unmarked() {
+fn equal_tests_by_classes_and_marks() {
+    let mut equal_and_marked = 0;
     for seed in 0..cases(1_000) {
         let random = &mut Random::new(seed);
         let header = random_header(random);
@@ -114,12 +116,17 @@ fn early_is_unmarked() {
             let coherent = is_coherent(&state, &letter, &after);
             if let Letter::Equal { first, second } = letter {
                 let window = Window::of(&state);
-                let marked = |register: u8| window.marks.contains(&window.names[usize::from(register)]);
-                assert_eq!(coherent, !marked(first) && !marked(second));
+                let name = |register: u8| window.names[usize::from(register)];
+                let marked = |register: u8| window.marks.contains(&name(register));
+                let equal = name(first) == name(second);
+                assert_eq!(coherent, equal || !marked(first) && !marked(second));
+                assert!(!equal || Window::of(&after) == window);
+                equal_and_marked += usize::from(equal && marked(first));
             }
             if coherent {
                 state = after;
             }
         }
     }
+    assert!(equal_and_marked > 100 || cases(10) < 10, "{equal_and_marked}");
 }
