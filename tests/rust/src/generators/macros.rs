@@ -2,7 +2,8 @@
 
 use super::capitals::Habit;
 use super::random::Random;
-use crate::oracle::letter::Letter;
+use super::repeats::random_repeat;
+use crate::oracle::letter::{Header, Letter};
 use crate::oracle::syntax::{Condition, Macro, Statement};
 
 /// Names that are easily confused with words.
@@ -20,6 +21,8 @@ struct Choices {
     steep: bool,
     /// An assert takes a condition that was met on the way, but once in so many times.
     fresh_assert: usize,
+    /// Statements that lead to a test of what is already equal are begun once in so many times.
+    repeats: usize,
 }
 
 const WEIGHTS: [[usize; 7]; 7] = [
@@ -87,8 +90,13 @@ pub fn nested_macro(random: &mut Random, points: usize, depth: usize, steep: boo
     let functions = random.mostly_below(3, 5);
     let names = distinct_names(random, registers + functions);
     let arities: Vec<bool> = (0..functions).map(|_| random.once_in(2)).collect();
-    let choices =
-        Choices { weights: *random.pick(&WEIGHTS), depth, steep, fresh_assert: *random.pick(&[2, 6, 40]) };
+    let choices = Choices {
+        weights: *random.pick(&WEIGHTS),
+        depth,
+        steep,
+        fresh_assert: *random.pick(&[2, 6, 40]),
+        repeats: *random.pick(&[5, 12, 1000]),
+    };
     let points = random.below(points + 1);
     let late = random.once_in(3);
     let mut maker = Maker { random, choices, registers: registers as u8, arities: arities.clone(), points };
@@ -121,9 +129,38 @@ impl Maker<'_> {
             statements.push(if branches { self.branch(depth, known) } else { self.repeat(depth, known) });
         }
         while self.points > 0 && (whole || !self.random.once_in(3)) {
-            let statement = self.statement(depth, known);
-            statements.push(statement);
+            if self.random.once_in(self.choices.repeats) {
+                statements.extend(self.repeated_test(depth, known));
+            } else {
+                let statement = self.statement(depth, known);
+                statements.push(statement);
+            }
         }
+        statements
+    }
+
+    /// Statements that lead to a test of what is already equal, the test and what follows it.
+    fn repeated_test(&mut self, depth: usize, known: &mut Vec<Condition>) -> Vec<Statement> {
+        let arities: Vec<u8> = self.arities.iter().map(|&binary| 1 + u8::from(binary)).collect();
+        let repeat = random_repeat(self.random, &Header::new(self.registers, &arities));
+        let mut statements: Vec<Statement> =
+            repeat.before.iter().map(|letter| performed(letter, known)).collect();
+        let [first, second] = repeat.sides;
+        let equal = Condition { equal: true, first, second };
+        let branches = depth < self.choices.depth;
+        statements.push(match self.random.below(if branches { 8 } else { 4 }) {
+            0 if self.choices.weights[4] > 0 => Statement::Assert(equal.opposite()),
+            1 | 2 if self.choices.weights[4] > 0 => Statement::Assert(equal),
+            0..=3 => Statement::Assume(equal),
+            4 => {
+                Statement::If(equal.opposite(), vec![], self.block(depth + 1, &mut with(known, equal), false))
+            }
+            5 => Statement::While(equal.opposite(), self.block(depth + 1, &mut vec![], false)),
+            6 => Statement::While(equal, self.block(depth + 1, &mut with(known, equal), false)),
+            _ => Statement::If(equal, self.block(depth + 1, &mut with(known, equal), false), vec![]),
+        });
+        statements.extend(repeat.behind.iter().map(|letter| performed(letter, known)));
+        self.points = self.points.saturating_sub(statements.len());
         statements
     }
 
@@ -150,9 +187,7 @@ impl Maker<'_> {
 
     fn copy(&mut self, known: &mut Vec<Condition>) -> Statement {
         let (target, source) = (self.register(), self.register());
-        forget(known, target);
-        known.push(Condition { equal: true, first: target, second: source });
-        Statement::Assign(Letter::Copy { target, source })
+        performed(&Letter::Copy { target, source }, known)
     }
 
     fn application(&mut self, known: &mut Vec<Condition>) -> Statement {
@@ -160,8 +195,7 @@ impl Maker<'_> {
         let function = self.random.below(self.arities.len());
         let first = self.register();
         let second = if self.arities[function] { Some(self.register()) } else { None };
-        forget(known, target);
-        Statement::Assign(Letter::Apply { target, function: function as u8, first, second })
+        performed(&Letter::Apply { target, function: function as u8, first, second }, known)
     }
 
     fn assume(&mut self, known: &mut Vec<Condition>) -> Statement {
@@ -195,6 +229,27 @@ impl Maker<'_> {
         known.push(condition.opposite());
         Statement::While(condition, body)
     }
+}
+
+/// The statement that performs a letter; what is known before it becomes what is known behind it.
+fn performed(letter: &Letter, known: &mut Vec<Condition>) -> Statement {
+    let (condition, statement) = match *letter {
+        Letter::Copy { target, source } => {
+            forget(known, target);
+            let condition = Condition { equal: true, first: target, second: source };
+            (Some(condition), Statement::Assign(*letter))
+        }
+        Letter::Apply { target, .. } => {
+            forget(known, target);
+            (None, Statement::Assign(*letter))
+        }
+        Letter::Equal { first, second } | Letter::Unequal { first, second } => {
+            let condition = Condition { equal: matches!(letter, Letter::Equal { .. }), first, second };
+            (Some(condition), Statement::Assume(condition))
+        }
+    };
+    known.extend(condition);
+    statement
 }
 
 fn forget(known: &mut Vec<Condition>, register: u8) {

@@ -6,6 +6,7 @@ pub mod damaged_macros;
 pub mod layouts;
 pub mod macros;
 pub mod random;
+pub mod repeats;
 pub mod spread;
 pub mod traces;
 pub mod windows;

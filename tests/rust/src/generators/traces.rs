@@ -1,6 +1,9 @@
 //! Random traces: coherent for long, infeasible, incoherent, and damaged.
 
+use std::collections::VecDeque;
+
 use super::random::Random;
+use super::repeats::{Repeat, random_repeat};
 use crate::oracle::letter::{Header, Letter, MAX_FUNCTIONS, MAX_REGISTERS};
 use crate::oracle::monitor::is_coherent;
 use crate::oracle::state::State;
@@ -15,6 +18,8 @@ pub struct Profile {
     pub incoherent: usize,
     /// A letter that makes the trace infeasible is kept once in so many times.
     pub infeasible: usize,
+    /// Letters that lead to a test of what is already equal are begun once in so many times.
+    pub repeats: usize,
 }
 
 const WEIGHTS: [[usize; 4]; 5] = [[1, 1, 1, 1], [6, 2, 2, 1], [1, 6, 2, 1], [1, 2, 6, 1], [1, 3, 3, 3]];
@@ -26,6 +31,7 @@ impl Profile {
             weights: *random.pick(&WEIGHTS),
             incoherent: *random.pick(&[1, 4, 30, 1000]),
             infeasible: *random.pick(&[1, 10, 100, 1000]),
+            repeats: *random.pick(&[6, 15, 1000]),
         }
     }
 }
@@ -62,22 +68,41 @@ pub fn random_trace(random: &mut Random, header: Header, profile: Profile, lengt
     let mut state = State::start(header);
     let mut coherent = true;
     let mut letters = Vec::with_capacity(length);
+    let mut planned = VecDeque::new();
     for _ in 0..length {
+        if planned.is_empty() && random.once_in(profile.repeats) {
+            planned.extend(repeat_letters(random, &header));
+        }
         if !coherent {
-            letters.push(random_letter(random, &header, profile.weights));
+            let next = planned.pop_front();
+            letters.push(next.unwrap_or_else(|| random_letter(random, &header, profile.weights)));
             continue;
         }
-        let (letter, stays, after) = choose(random, &state, profile);
+        let (letter, stays, after) = choose(random, &state, profile, &mut planned);
         letters.push(letter);
         (state, coherent) = (after, stays);
     }
     Trace { header, letters }
 }
 
-/// A letter for this state, whether it is coherent, and the state after it.
-fn choose(random: &mut Random, state: &State, profile: Profile) -> (Letter, bool, State) {
+/// Letters that lead to a test of what is already equal, the test and what follows it.
+fn repeat_letters(random: &mut Random, header: &Header) -> Vec<Letter> {
+    let Repeat { mut before, sides: [first, second], behind } = random_repeat(random, header);
+    before.push(Letter::Equal { first, second });
+    before.extend(behind);
+    before
+}
+
+/// A letter for this state, a planned one if there is one, whether it is coherent, and the state after it.
+fn choose(
+    random: &mut Random,
+    state: &State,
+    profile: Profile,
+    planned: &mut VecDeque<Letter>,
+) -> (Letter, bool, State) {
     for _ in 0..6 {
-        let letter = random_letter(random, &state.header, profile.weights);
+        let next = planned.pop_front();
+        let letter = next.unwrap_or_else(|| random_letter(random, &state.header, profile.weights));
         let after = state.after(&letter);
         let coherent = is_coherent(state, &letter, &after);
         let feasible = after.is_feasible() || !state.is_feasible();

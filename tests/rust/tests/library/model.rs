@@ -64,7 +64,7 @@ fn incoherent_traces() {
         let random = &mut Random::new(seed);
         let header = random_header(random);
         let length = random.below(60);
-        let profile = Profile { weights: [1, 4, 2, 1], incoherent: 1, infeasible: 50 };
+        let profile = Profile { weights: [1, 4, 2, 1], incoherent: 1, infeasible: 50, repeats: 20 };
         let bytes = random_trace(random, header, profile, length).pack();
         check_with_rooms(random, &bytes);
     }
@@ -85,7 +85,7 @@ fn longest_traces() {
     for seed in 0..cases(12) {
         let random = &mut Random::new(seed);
         let header = random_header(random);
-        let profile = Profile { weights: [1, 6, 1, 0], incoherent: 1, infeasible: 1000 };
+        let profile = Profile { weights: [1, 6, 1, 0], incoherent: 1, infeasible: 1000, repeats: 1000 };
         let length = 1020 + random.below(5);
         let mut trace = random_trace(random, header, profile, length);
         check(&trace.pack(), MODEL_OUTPUT);

@@ -33,7 +33,7 @@ fn monitors_agree_on_long_traces() {
     for seed in 0..cases(60) {
         let random = &mut Random::new(seed);
         let header = random_header(random);
-        let profile = Profile { weights: [3, 4, 3, 1], incoherent: 100_000, infeasible: 1000 };
+        let profile = Profile { weights: [3, 4, 3, 1], incoherent: 100_000, infeasible: 1000, repeats: 10 };
         let trace = random_trace(random, header, profile, 300);
         let bytes = trace.pack();
         assert_eq!(fast_monitor(&bytes), monitor(&bytes), "{trace:?}");
@@ -47,7 +47,7 @@ fn new_applications_agree() {
         let random = &mut Random::new(seed);
         let header =
             Header::new(1 + random.byte_below(3), &[[1, 2], [2, 1]][random.below(2)][..random.below(3)]);
-        let profile = Profile { weights: [1, 4, 2, 1], incoherent: 100_000, infeasible: 1 };
+        let profile = Profile { weights: [1, 4, 2, 1], incoherent: 100_000, infeasible: 1, repeats: 10 };
         let letters = random_trace(random, header, profile, 30).letters;
         let mut fast = FastMonitor::start(header);
         assert!(letters.iter().all(|letter| fast.perform(letter)), "{letters:?}");
@@ -64,7 +64,7 @@ fn closures_agree() {
     for seed in 0..cases(20_000) {
         let random = &mut Random::new(seed);
         let header = random_header(random);
-        let profile = Profile { weights: [1, 4, 2, 1], incoherent: 1, infeasible: 30 };
+        let profile = Profile { weights: [1, 4, 2, 1], incoherent: 1, infeasible: 30, repeats: 20 };
         let length = random.below(60);
         let bytes = random_trace(random, header, profile, length).pack();
         let room = 50 + random.below(200);

@@ -61,7 +61,7 @@ fn is_satisfiable(trace: &Trace, count: usize) -> bool {
 #[test]
 fn feasible_exactly_without_clash() {
     let headers = [Header::new(2, &[1]), Header::new(2, &[2]), Header::new(3, &[1]), Header::new(2, &[1, 1])];
-    let profile = Profile { weights: [1, 3, 3, 2], incoherent: 1, infeasible: 1 };
+    let profile = Profile { weights: [1, 3, 3, 2], incoherent: 1, infeasible: 1, repeats: 20 };
     let (mut feasible, mut infeasible) = (0, 0);
     for seed in 0..cases(3_000) {
         let random = &mut Random::new(seed);

@@ -1,20 +1,25 @@
 //! The generators reach what they are for.
 
-use std::collections::BTreeMap;
+use std::collections::{BTreeMap, BTreeSet};
 
 use fadzgime_tests::generators::damaged_macros::damaged_text;
 use fadzgime_tests::generators::layouts::text_to_lay_out;
 use fadzgime_tests::generators::macros::{DEEPEST, macro_text, random_macro};
 use fadzgime_tests::generators::random::Random;
+use fadzgime_tests::generators::repeats::Way;
 use fadzgime_tests::generators::spread::Spread;
 use fadzgime_tests::generators::traces::{any_trace, damage_trace};
+use fadzgime_tests::oracle::closure::TermId;
 use fadzgime_tests::oracle::layout::print_macro;
+use fadzgime_tests::oracle::letter::Letter;
 use fadzgime_tests::oracle::model::show_model;
-use fadzgime_tests::oracle::monitor::judge;
+use fadzgime_tests::oracle::monitor::{judge, tests_equal_sides};
 use fadzgime_tests::oracle::reader::read_macro;
 use fadzgime_tests::oracle::refusal::Refusal;
+use fadzgime_tests::oracle::state::State;
 use fadzgime_tests::oracle::syntax::{Macro, Statement};
 use fadzgime_tests::oracle::token::{Placed, Token, Word, is_same_name, token_at};
+use fadzgime_tests::oracle::trace::{Trace, read_trace};
 use fadzgime_tests::oracle::verdict::verdict;
 
 #[test]
@@ -35,6 +40,60 @@ fn traces() {
     assert!(counts.len() == 4 && counts.values().all(|&count| count > 50));
     assert!(long > 500);
     assert!([1, 2, 3, 4, 6].iter().all(|number| refused.contains_key(number)));
+}
+
+/// What a trace has to do with tests of what is already equal while something above it is lost: how the sides are equal,
+/// and what comes behind such a test, up to the first incoherent letter.
+fn about_equal_sides(trace: &Trace) -> BTreeSet<&'static str> {
+    let mut about = BTreeSet::new();
+    let stopped = judge(trace).incoherent;
+    let mut state = State::start(trace.header);
+    let mut tested: Vec<TermId> = Vec::new();
+    for letter in &trace.letters[..stopped.unwrap_or(trace.letters.len())] {
+        let is_tested =
+            |register: u8| tested.iter().any(|&term| state.closure.equal(term, state.value(register)));
+        let equal = tests_equal_sides(&state, letter);
+        match *letter {
+            Letter::Equal { first, second } if equal && !state.all_above_held(state.value(first)) => {
+                about.extend(["any", Way::of(&state, first, second).name()]);
+                tested.push(state.value(first));
+            }
+            Letter::Equal { first, second } if !equal && (is_tested(first) || is_tested(second)) => {
+                about.insert("then tested against another");
+            }
+            Letter::Apply { first, second, .. } if is_tested(first) || second.is_some_and(is_tested) => {
+                about.insert("then applied");
+            }
+            Letter::Unequal { first, second } if is_tested(first) || is_tested(second) => {
+                about.insert("then an unequal test");
+            }
+            _ => {}
+        }
+        state = state.after(letter);
+    }
+    if stopped.is_some() && !tested.is_empty() {
+        about.insert("then incoherent");
+    }
+    if !state.is_feasible() && !tested.is_empty() {
+        about.insert("infeasible");
+    }
+    about
+}
+
+#[test]
+fn tests_of_what_is_equal() {
+    let mut whole: BTreeMap<&str, usize> = BTreeMap::new();
+    let mut damaged = 0;
+    for seed in 0..3_000 {
+        let random = &mut Random::new(seed);
+        let trace = any_trace(random, 40);
+        about_equal_sides(&trace).into_iter().for_each(|kind| *whole.entry(kind).or_default() += 1);
+        let read = read_trace(&damage_trace(random, &trace), None);
+        damaged += usize::from(read.is_ok_and(|trace| !about_equal_sides(&trace).is_empty()));
+    }
+    println!("{whole:?}; {damaged} damaged ones");
+    assert!(whole.len() == 10 && whole.values().all(|&count| count > 50), "{whole:?}");
+    assert!(damaged > 50, "{damaged}");
 }
 
 /// How deep blocks are nested.
