@@ -126,7 +126,11 @@ impl Maker<'_> {
         if self.choices.steep && depth < self.choices.depth && self.points > 0 {
             self.points -= 1;
             let branches = self.random.once_in(2);
-            statements.push(if branches { self.branch(depth, known) } else { self.repeat(depth, known) });
+            let condition = self.condition();
+            statements.push(match branches {
+                true => self.branch(condition, depth, known),
+                false => self.repeat(condition, depth, known),
+            });
         }
         while self.points > 0 && (whole || !self.random.once_in(3)) {
             if self.random.once_in(self.choices.repeats) {
@@ -147,21 +151,24 @@ impl Maker<'_> {
             repeat.before.iter().map(|letter| performed(letter, known)).collect();
         let [first, second] = repeat.sides;
         let equal = Condition { equal: true, first, second };
-        let branches = depth < self.choices.depth;
-        statements.push(match self.random.below(if branches { 8 } else { 4 }) {
-            0 if self.choices.weights[4] > 0 => Statement::Assert(equal.opposite()),
-            1 | 2 if self.choices.weights[4] > 0 => Statement::Assert(equal),
-            0..=3 => Statement::Assume(equal),
-            4 => {
-                Statement::If(equal.opposite(), vec![], self.block(depth + 1, &mut with(known, equal), false))
-            }
-            5 => Statement::While(equal.opposite(), self.block(depth + 1, &mut vec![], false)),
-            6 => Statement::While(equal, self.block(depth + 1, &mut with(known, equal), false)),
-            _ => Statement::If(equal, self.block(depth + 1, &mut with(known, equal), false), vec![]),
-        });
+        statements.push(self.test(equal, depth, known));
         statements.extend(repeat.behind.iter().map(|letter| performed(letter, known)));
         self.points = self.points.saturating_sub(statements.len());
         statements
+    }
+
+    /// A statement that has this condition's letter among its letters.
+    fn test(&mut self, condition: Condition, depth: usize, known: &mut Vec<Condition>) -> Statement {
+        let asserts = self.choices.weights[4] > 0;
+        match self.random.below(if depth < self.choices.depth { 8 } else { 4 }) {
+            0 if asserts => Statement::Assert(condition.opposite()),
+            1 | 2 if asserts => Statement::Assert(condition),
+            0..=3 => Statement::Assume(condition),
+            4 => self.branch(condition, depth, known),
+            5 => self.branch(condition.opposite(), depth, known),
+            6 => self.repeat(condition, depth, known),
+            _ => self.repeat(condition.opposite(), depth, known),
+        }
     }
 
     fn statement(&mut self, depth: usize, known: &mut Vec<Condition>) -> Statement {
@@ -180,8 +187,14 @@ impl Maker<'_> {
             2 => self.application(known),
             3 => self.assume(known),
             4 => self.assert(known),
-            5 => self.branch(depth, known),
-            _ => self.repeat(depth, known),
+            5 => {
+                let condition = self.condition();
+                self.branch(condition, depth, known)
+            }
+            _ => {
+                let condition = self.condition();
+                self.repeat(condition, depth, known)
+            }
         }
     }
 
@@ -211,8 +224,7 @@ impl Maker<'_> {
         Statement::Assert(condition)
     }
 
-    fn branch(&mut self, depth: usize, known: &mut Vec<Condition>) -> Statement {
-        let condition = self.condition();
+    fn branch(&mut self, condition: Condition, depth: usize, known: &mut Vec<Condition>) -> Statement {
         let yes = self.block(depth + 1, &mut with(known, condition), false);
         let no = match self.random.once_in(2) {
             true => self.block(depth + 1, &mut with(known, condition.opposite()), false),
@@ -222,8 +234,7 @@ impl Maker<'_> {
         Statement::If(condition, yes, no)
     }
 
-    fn repeat(&mut self, depth: usize, known: &mut Vec<Condition>) -> Statement {
-        let condition = self.condition();
+    fn repeat(&mut self, condition: Condition, depth: usize, known: &mut Vec<Condition>) -> Statement {
         let body = self.block(depth + 1, &mut vec![condition], false);
         known.clear();
         known.push(condition.opposite());
