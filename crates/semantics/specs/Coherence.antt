@@ -22,8 +22,8 @@ module _ (U : List Term) (E : List (Term × Term)) where
 abbrev pub Kept : State → Term → Type 0
 Kept σ t = (f : ℕ) (a b : Term) → app f a b ∈ σ .terms → Above (σ .terms) (σ .equals) t a b → Held σ (app f a b) × Held σ a × Held σ b
 
--- The condition on equal tests: "each computed application above either side must have its result and all its arguments equal to present values
--- of registers" (SPEC 4.3).
+-- The condition on equal tests of sides that are not equal already: "each computed application above either side must have its result and all its
+-- arguments equal to present values of registers" (SPEC 4.3).
 abbrev pub Early : State → ℕ → ℕ → Type 0
 Early σ x y = Kept σ (σ .value x) × Kept σ (σ .value y)
 

@@ -29,6 +29,6 @@ RedundantTest σ (Unequal x y) = ⊥
 
 -- The second trace is the first without its redundant tests.
 pub data WithoutRedundant : Trace → Trace → Type 0 where
-  no-letters : {h : Header} → WithoutRedundant (begin h) (begin h)
+  without-letters : {h : Header} → WithoutRedundant (begin h) (begin h)
   left-out : {ρ π : Trace} {a : Letter} → WithoutRedundant ρ π → RedundantTest (state ρ) a → WithoutRedundant (ρ ▸ a) π
-  kept : {ρ π : Trace} {a : Letter} → WithoutRedundant ρ π → ¬ RedundantTest (state ρ) a → WithoutRedundant (ρ ▸ a) (π ▸ a)
+  left-in : {ρ π : Trace} {a : Letter} → WithoutRedundant ρ π → ¬ RedundantTest (state ρ) a → WithoutRedundant (ρ ▸ a) (π ▸ a)

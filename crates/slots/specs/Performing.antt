@@ -51,7 +51,7 @@ clashSlots unequal (suc k) = clashSlots unequal k || has (getD unequal k 0) k
 unfoldable pub apartSlots : List ℕ → ℕ → ℕ → List ℕ
 apartSlots l a b = let next = set l a (bitOr (getD l a 0) (2 ^ b)) in set next b (bitOr (getD next b 0) (2 ^ a))
 
--- "Early": neither side has a mark; or the sides are of one class, whatever their marks (SPEC 5.6)
+-- an equal test is coherent: it is "early", neither side having a mark, or its sides are of one class, whatever their marks (SPEC 5.6)
 unfoldable pub earlySlots : List ℕ → List Bool → ℕ → ℕ → Bool
 earlySlots slot mark x y = pick (getD mark x false || getD mark y false) (λ _. eqb (slotOf slot x) (slotOf slot y)) λ _. true
 

@@ -26,7 +26,7 @@ use Rattle.semantics.specs.FirstLetters.{incoherentLetter, infeasibleLetter}
 use Rattle.semantics.specs.Paper.{Congruent, CoherentModulo}
 use Rattle.semantics.proofs.Theory.Facts.{state-valid}
 use Rattle.semantics.proofs.Theory.JudgementLaws.{coherent-closed, judgement-is, judgement-unique}
-use Rattle.semantics.proofs.Theory.PaperLaws.{feasible-anywhere, congruent-is, corollary-2-is, coherent-stricter, coherent-one}
+use Rattle.semantics.proofs.Theory.PaperLaws.{feasible-anywhere, congruent-is, corollary-2-is, coherent-stricter, strict-one}
 use Rattle.semantics.proofs.Theory.Examples.{repeated}
 use Rattle.semantics.proofs.Theory.Witnesses.{early-slip, slip-stricter, repeated-coherent, repeated-by-definition-5}
 use Rattle.streaming.specs.Demand2.{Demand2}
@@ -45,7 +45,7 @@ use Rattle.theorems.specs.Definition3.{Definition3}
 use Rattle.theorems.specs.Stricter.{Stricter}
 use Rattle.theorems.specs.Milder.{Definition5Changed}
 use Rattle.theorems.proofs.Steps.Traces.{definition-3, first-exactly, infeasible-exactly, feasible-throughout, infeasible-before}
-use Rattle.theorems.proofs.Steps.Traces.{coherent-exactly, coherent-changed}
+use Rattle.theorems.proofs.Steps.Traces.{strict-exactly, coherent-changed}
 
 -- "For every trace the monitor names the first letter at which it stops being coherent, and before then the first at which it becomes infeasible,"
 -- `Demand2 bytes answer` says this of the bytes of a trace: an answer that meets it has the two letters of the trace that is read, from 1, and 0 for none.
@@ -125,10 +125,10 @@ closure-is-the-congruence ρ w s t i j = congruent-is (state ρ) (state-valid ρ
 
 -- "with document 01's stricter condition on equal tests." `CoherentModulo` is Definition 5; `Stricter` (specs/Stricter.antt) is the condition.
 -- Together they are document 01's own rule, before request 3.
-pub coherence-is-definition-5-and-stricter : (ρ : Trace) → WellFormed ρ → StrictlyCoherent ρ ↔ (CoherentModulo ρ × Stricter ρ)
-coherence-is-definition-5-and-stricter = coherent-exactly
+pub strict-coherence-is-definition-5-and-stricter : (ρ : Trace) → WellFormed ρ → StrictlyCoherent ρ ↔ (CoherentModulo ρ × Stricter ρ)
+strict-coherence-is-definition-5-and-stricter = strict-exactly
 
--- With request 3 an equal test of sides that are equal already is left out of both, letter by letter (specs/Milder.antt).
+-- With request 3 both are asked, letter by letter, unless the letter is an equal test of sides that are equal already (specs/Milder.antt).
 pub coherence-is-definition-5-changed : (ρ : Trace) → WellFormed ρ → Coherent ρ ↔ Definition5Changed ρ
 coherence-is-definition-5-changed = coherent-changed
 
@@ -142,7 +142,7 @@ milder-than-definition-5 = (repeated-coherent, repeated-by-definition-5)
 
 -- Where all functions take one argument, Definition 5 is document 01's own rule, so that request 3 alone makes a difference.
 pub one-argument-is-definition-5 : (ρ : Trace) → WellFormed ρ → ((f : ℕ) → arity (state ρ .header) f ≡ 1) → StrictlyCoherent ρ ↔ CoherentModulo ρ
-one-argument-is-definition-5 ρ w one = (coherent-stricter ρ w, coherent-one ρ w one)
+one-argument-is-definition-5 ρ w one = (coherent-stricter ρ w, strict-one ρ w one)
 
 -- "Macros are read by document 01's grammar and have exactly the executions of Definition 2."
 -- `syntax::read` ensures `Reads`. What it answers is read by the grammar, and has as complete, failing and partial executions Definition 2's words.

@@ -36,7 +36,7 @@ use Rattle.verdict_lines.specs.ReadsBack.{ReadsBack}
 use Rattle.theorems.specs.Definition3.{Definition3}
 use Rattle.theorems.specs.Stricter.{Stricter}
 use Rattle.theorems.specs.Milder.{Definition5Changed}
-use Rattle.theorems.proofs.Steps.Traces.{early-is, coherent-exactly, coherent-changed}
+use Rattle.theorems.proofs.Steps.Traces.{early-is, strict-exactly, coherent-changed}
 
 -- Two registers and no function.
 abbrev two : Header
@@ -72,7 +72,7 @@ unfolding fitsTest applyTest
 a-held-argument-is-enough =
     let w = formed-e argument-held tt in
     let early = early-computed (state lone) 0 1 (state-valid lone (w .0)) (lit< tt) (lit< tt) .0 tt in
-    coherent-exactly argument-held w .0 (coherent-is lone (w .0) .0 tt, early) .1
+    strict-exactly argument-held w .0 (coherent-is lone (w .0) .0 tt, early) .1
 
 -- u:=f(y,w), v:=f(z,w), w:=y, y=z does not: no register holds the argument w that both applications had. Definition 5 lets the test through.
 pub a-lost-argument-is-not : ¬ Stricter (early-slip ▸ Equal 3 4)

@@ -1,4 +1,4 @@
--- What the paper's Definition 5 asks of a trace and SPEC 4.3 does not (SPEC 4.4; document 02, request 3), and Definition 5 with both changes.
+-- The equal tests of which SPEC 4.3 asks nothing, though Definition 5 does (SPEC 4.4; document 02, request 3), and Definition 5 with both changes.
 use mathlib.Core.Logic.{_⊎_}
 use Rattle.letters.specs.declared.Letter.{Letter}
 use Rattle.letters.specs.declared.Letter.the-variants.{Copy, Apply, Equal, Unequal}

@@ -1,4 +1,5 @@
--- What SPEC 4.3 asks beyond the paper's Definition 5, of equal tests of sides that are not equal already (SPEC 4.4).
+-- What document 01's own rule asks of every equal test beyond the paper's Definition 5 (SPEC 4.4). Of sides that are equal already SPEC 4.3 asks nothing
+-- any more: Milder.antt.
 use mathlib.Core.Logic.{_⊎_}
 use Prim.Native.Nat.{ℕ}
 use Rattle.letters.specs.declared.Letter.{Letter}

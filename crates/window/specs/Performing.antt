@@ -38,7 +38,7 @@ argumentsOf x y z one two = cond (eqb y x || eqb z x) (bitOr one two) 0
 unfoldable pub ownOf : ℕ → ℕ → ℕ
 ownOf n r = cond (ltb r n) (2 ^ r) 0
 
--- "Early": neither side has a mark; or the sides are of one class, whatever their marks (SPEC 5.6)
+-- an equal test is coherent: it is "early", neither side having a mark, or its sides are of one class, whatever their marks (SPEC 5.6)
 unfoldable pub earlyOf : Window → ℕ → ℕ → Bool
 earlyOf w x y = pick (getD (w .mark) x false || getD (w .mark) y false) (λ _. has (getD (w .class) x 0) y) λ _. true
 

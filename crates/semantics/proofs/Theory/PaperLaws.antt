@@ -335,14 +335,14 @@ coherent-stricter (ρ ▸ Equal x y) w c =
 coherent-stricter (ρ ▸ Unequal x y) w c = (coherent-stricter ρ (w .0) (c .0), tt)
 
 -- Where all functions take one argument, the two are the same.
-pub coherent-one : (ρ : Trace) → WellFormed ρ → ((f : ℕ) → arity (state ρ .header) f ≡ 1) → CoherentModulo ρ → StrictlyCoherent ρ
-coherent-one (begin h) w one c = tt
-coherent-one (ρ ▸ Copy x y) w one c = (coherent-one ρ (w .0) one (c .0), tt)
-coherent-one (ρ ▸ Apply x f y z) w one c =
-    (coherent-one ρ (w .0) one (c .0), memoizing-is (state ρ) (state-valid ρ (w .0)) (constants-computed ρ) x f y z (w .1) .1 (c .1))
-coherent-one (ρ ▸ Equal x y) w one c = (
-  coherent-one ρ (w .0) one (c .0),
+pub strict-one : (ρ : Trace) → WellFormed ρ → ((f : ℕ) → arity (state ρ .header) f ≡ 1) → CoherentModulo ρ → StrictlyCoherent ρ
+strict-one (begin h) w one c = tt
+strict-one (ρ ▸ Copy x y) w one c = (strict-one ρ (w .0) one (c .0), tt)
+strict-one (ρ ▸ Apply x f y z) w one c =
+    (strict-one ρ (w .0) one (c .0), memoizing-is (state ρ) (state-valid ρ (w .0)) (constants-computed ρ) x f y z (w .1) .1 (c .1))
+strict-one (ρ ▸ Equal x y) w one c = (
+  strict-one ρ (w .0) one (c .0),
   early-one (state ρ) (state-valid ρ (w .0)) (constants-computed ρ) (λ f s t m. (applications-fit ρ (w .0) f s t m) .1 (one f)) x y (w .1 .0)
       (w .1 .1) (c .1),
 )
-coherent-one (ρ ▸ Unequal x y) w one c = (coherent-one ρ (w .0) one (c .0), tt)
+strict-one (ρ ▸ Unequal x y) w one c = (strict-one ρ (w .0) one (c .0), tt)

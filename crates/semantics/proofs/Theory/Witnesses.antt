@@ -42,7 +42,7 @@ use Rattle.semantics.specs.ShownTables.{classesOf, rowsOf}
 use Rattle.semantics.specs.Numbering.{Numbering, RowListing, IsShown}
 use Rattle.semantics.specs.Paper.{EarlyModulo, CoherentModulo}
 use Rattle.semantics.proofs.Theory.PaperLaws.{no-model, constants-computed, held-is, superterm-is, early-results, coherent-stricter}
-use Rattle.semantics.specs.Strict.{StrictlyCoherent, WithoutRedundant, no-letters, left-out}
+use Rattle.semantics.specs.Strict.{StrictlyCoherent, WithoutRedundant, without-letters, left-out, left-in}
 use Rattle.semantics.proofs.Theory.StrictLaws.{without-strict}
 use Rattle.semantics.specs.ShownTables.{tablesOf, shownValue}
 use Rattle.semantics.proofs.Theory.Shown.{in-range}
@@ -357,7 +357,7 @@ repeated-by-definition-5 (c, e) =
 
 -- Without the test it is z:=f(x), z:=x, which is coherent by either rule.
 unchanged : WithoutRedundant repeated repeated
-unchanged = WithoutRedundant.kept (WithoutRedundant.kept no-letters (λ k. k)) (λ k. k)
+unchanged = left-in (left-in without-letters (λ k. k)) (λ k. k)
 
 pub without-yes : WithoutRedundant (repeated ▸ Equal 0 0) repeated
 without-yes = left-out unchanged (reflexive (constants-computed repeated 0 (lit< tt)))

@@ -21,7 +21,7 @@ use Rattle.semantics.specs.FirstLetters.{coherentPart}
 use Rattle.semantics.specs.Paper.{SupertermModulo, HeldModulo, EarlyModulo, CoherentLetterModulo, CoherentModulo}
 use Rattle.semantics.proofs.Theory.Facts.{state-valid}
 use Rattle.semantics.proofs.Theory.Prefixes.{begins-size, begins-has}
-use Rattle.semantics.proofs.Theory.JudgementLaws.{longest-is, longest-unique, part-size, failed, fails-size, feasible-closed, coherent-closed}
+use Rattle.semantics.proofs.Theory.JudgementLaws.{longest-is, longest-unique, part-size, failed, fails-size, feasible-closed, coherent-closed, judged-unique}
 use Rattle.macros.proofs.Theory.Numbers.{less-or}
 use Rattle.semantics.proofs.Theory.PaperLaws.{congruent-is, held-is, superterm-is, memoizing-is, early-stricter, constants-computed}
 use Rattle.semantics.proofs.Theory.StrictLaws.{strict-coherent, redundant-or-strict}
@@ -126,10 +126,10 @@ sides-joined ρ w (Apply x h y z) f = (λ k. k, λ k. k)
 sides-joined ρ w (Equal x y) (xb, yb) = let v = state-valid ρ w in Iff·symm (congruent-is (state ρ) v (v .values x xb) (v .values y yb))
 sides-joined ρ w (Unequal x y) f = (λ k. k, λ k. k)
 
-pub coherent-exactly : (ρ : Trace) → WellFormed ρ → StrictlyCoherent ρ ↔ (CoherentModulo ρ × Stricter ρ)
-coherent-exactly (begin h) w = (λ c. (tt, tt), λ c. tt)
-coherent-exactly (ρ ▸ a) (w, b) =
-    let (f, g) = coherent-exactly ρ w in
+pub strict-exactly : (ρ : Trace) → WellFormed ρ → StrictlyCoherent ρ ↔ (CoherentModulo ρ × Stricter ρ)
+strict-exactly (begin h) w = (λ c. (tt, tt), λ c. tt)
+strict-exactly (ρ ▸ a) (w, b) =
+    let (f, g) = strict-exactly ρ w in
     let (i, j) = letter-exactly ρ w a b in
     (λ (c, l). let (p, q) = f c in let (s, t) = i l in ((p, s), (q, t)), λ ((p, l), (q, k)). (g (p, q), j (l, k)))
 
@@ -154,6 +154,16 @@ not-before-strict (ρ ▸ a) k (suc i) (inl f) (inr (e, p, n)) = absurd (failed 
 not-before-strict (ρ ▸ a) k (suc i) (inr (e, p, n)) (inl s) =
     let b = fails-size StrictlyCoherent (λ π b c. c .0) ρ (suc i) s .1 in (omega arith, omega arith)
 not-before-strict (ρ ▸ a) k (suc i) (inr (e, p, n)) (inr (d, q, m)) = (omega arith, omega arith)
+
+fails-longer : (P : Trace → Type 0) {π κ : Trace} (k : ℕ) → Begins π κ → FailsAt P π k → FailsAt P κ k
+fails-longer P k whole f = f
+fails-longer P k (before b) f = inl (fails-longer P k b f)
+
+-- The infeasible letter that a strict run named is the one that is named.
+pub infeasible-stays : (ρ π : Trace) (i j k : ℕ) → Begins π ρ → StrictlyCoherent π → FailsAt (λ κ. Feasible (state κ)) π (suc k) → Judgement ρ i j → j ≡ suc k
+infeasible-stays ρ π i j k b s f x =
+    judged-unique (λ κ. Feasible (state κ)) feasible-closed (x .part) j (suc k) (x .feasibility)
+    (fails-longer (λ κ. Feasible (state κ)) (suc k) (coherent-within ρ π (x .part) (x .longest) b (strict-coherent π s)) f)
 
 -- A coherent trace is its own longest coherent beginning, so that the infeasible letter of a run is the first of the whole trace.
 pub coherent-feasibility : (ρ : Trace) (i k : ℕ) → Coherent ρ → Judgement ρ i k → (i ≡ 0) × FirstFailure (λ π. Feasible (state π)) ρ k

@@ -3,11 +3,10 @@ use mathlib.Core.Logic.{_⊎_, inl, inr, ⊎-elim}
 use Prim.Native.Nat.{ℕ, _<_}
 use lib.Dec.{T}
 use Rattle.semantics.specs.Terms.{Term, State}
-use Rattle.semantics.specs.Closure.{Equivalent, reflexive, symmetric, transitive, congruence}
+use Rattle.semantics.specs.Closure.{Equivalent, reflexive, symmetric, transitive}
 use Rattle.semantics.specs.View.{View, Tracks}
 use Rattle.semantics.specs.Facts.{Valid}
 use Rattle.semantics.proofs.Theory.Climb.{Climb, from, up, above-climbs, climbs-above}
-use Rattle.semantics.proofs.Theory.Shown.{corollary-2}
 
 pub record Laws (n : ℕ) (w : View) : Type 0 where
   pub self : (r : ℕ) → r < n → T (w .same r r)
@@ -60,20 +59,17 @@ laws-of σ v w t = record {
       );
 }
 
--- what is true of the window of a state, and not of every window that obeys the laws: a class has one mark, an application
--- one result, and no class is unequal to itself
+-- what is true of the window of a state, and not of every window that obeys the laws: a class has one mark
 pub record Sound (n : ℕ) (w : View) : Type 0 where
   pub marked : (r s : ℕ) → r < n → s < n → T (w .marked r) → T (w .same r s) → T (w .marked s)
-  pub one : (f a b c d : ℕ) → a < n → b < n → c < n → d < n → T (w .result f a b c) → T (w .result f a b d) → T (w .same c d)
-  pub distinct : (r s : ℕ) → r < n → s < n → T (w .apart r s) → T (w .same r s) → ⊥
 
 -- what lies above a term lies above an equal one
 climb-same : (σ : State) {s t u : Term} → Equivalent σ s t → Climb (σ .terms) (σ .equals) s u → Climb (σ .terms) (σ .equals) t u
 climb-same σ e (from c) = from (transitive (symmetric e) c)
 climb-same σ e (up k l h c) = up (climb-same σ e k) l h c
 
-pub sound-of : (σ : State) → Valid σ → (w : View) → Tracks σ w → Sound (σ .header .registers) w
-sound-of σ v w t = record {
+pub sound-of : (σ : State) (w : View) → Tracks σ w → Sound (σ .header .registers) w
+sound-of σ w t = record {
   marked = λ r s rb sb m i.
       let e = t .marked r rb .0 m in
       let q = t .same r s rb sb .0 i in
@@ -85,15 +81,4 @@ sound-of σ v w t = record {
         above = climbs-above (⊎-elim (λ k. inl (climb-same σ q k)) (λ k. inr (climb-same σ q k)) (above-climbs (e .above)));
         unheld = e .unheld;
       });
-  one = λ f a b c d ab bb cb db m k.
-      let e = t .result f a b c ab bb cb .0 m in
-      let g = t .result f a b d ab bb db .0 k in
-      t .same c d cb db .1 (transitive (symmetric (e .gives))
-      (transitive (congruence (e .listed) (g .listed) (transitive (e .at-first) (symmetric (g .at-first)))
-      (transitive (e .at-second) (symmetric (g .at-second)))) (g .gives)));
-  distinct = λ r s rb sb m i.
-      let (g, e) = t .apart r s rb sb .0 m in
-      let j = t .same r s rb sb .0 i in
-      let c = transitive (e .at-left) (transitive j (symmetric (e .at-right))) in
-      corollary-2 σ v .0 g (⊎-elim (λ k. (e .left, e .right, k, c)) (λ k. (e .right, e .left, k, symmetric c)) (e .tested));
 }

@@ -51,7 +51,7 @@ module _ (ρ φ : ℕ) where
     laws = laws-of σ v (view ρ φ w) (h .tracks)
 
     sound : Sound (σ .header .registers) (view ρ φ w)
-    sound = sound-of σ v (view ρ φ w) (h .tracks)
+    sound = sound-of σ (view ρ φ w) (h .tracks)
 
     low : (r : ℕ) → r < σ .header .registers → r < ρ
     low r b = omega (arith, h .inside .fits)
@@ -136,7 +136,8 @@ module _ (ρ φ : ℕ) where
         unmarked = fine-equal σ v x y xb yb (view ρ φ w) (h .tracks)
 
         either : (a b s : Bool) → T (pick (a || b) (λ _. s) λ _. true) ↔ (T s ⊎ ((¬ T a) × (¬ T b)))
-        either true b s = (inl, (λ k. elim k [ inl t ↦ t | inr (p, _) ↦ absurd (p tt) ]))
+        either true true s = (inl, (λ k. elim k [ inl t ↦ t | inr (p, _) ↦ absurd (p tt) ]))
+        either true false s = (inl, (λ k. elim k [ inl t ↦ t | inr (p, _) ↦ absurd (p tt) ]))
         either false true s = (inl, (λ k. elim k [ inl t ↦ t | inr (_, q) ↦ absurd (q tt) ]))
         either false false s = ((λ _. inr ((λ t. t), (λ t. t))), (λ _. tt))
 
