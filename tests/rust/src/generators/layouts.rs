@@ -72,7 +72,7 @@ pub fn macro_of_print(random: &mut Random, length: usize) -> Macro {
     while print_macro(&read).len() > UNFILLED {
         read.statements.pop();
     }
-    let test = |equal: bool| Statement::Assume(Condition { equal, first: 0, second: 0 });
+    let test = |equal: bool| Statement::Assume(Condition::compare(equal, 0, 0));
     let equal_tests = Macro { statements: vec![test(true); TESTS], ..read.clone() };
     let declarations = Macro { statements: vec![], ..read.clone() };
     let tests = print_macro(&equal_tests).len() - print_macro(&declarations).len();

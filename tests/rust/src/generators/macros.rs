@@ -71,7 +71,8 @@ fn distinct_names(random: &mut Random, count: usize) -> Vec<String> {
 }
 
 fn is_word(name: &str) -> bool {
-    ["vars", "funs", "skip", "assume", "assert", "if", "else", "while"].contains(&name)
+    ["vars", "funs", "skip", "assume", "assert", "if", "else", "while", "tests", "result", "truth"]
+        .contains(&name)
 }
 
 /// The deepest nesting that is taken.
@@ -108,7 +109,7 @@ pub fn nested_macro(random: &mut Random, points: usize, depth: usize, steep: boo
         statements.push(Statement::Assert(maker.condition()));
     }
     let functions = names[registers..].iter().cloned().zip(arities).collect();
-    Macro { registers: names[..registers].to_vec(), functions, statements }
+    Macro { registers: names[..registers].to_vec(), functions, tests: vec![], statements }
 }
 
 impl Maker<'_> {
@@ -117,7 +118,7 @@ impl Maker<'_> {
     }
 
     fn condition(&mut self) -> Condition {
-        Condition { equal: self.random.once_in(2), first: self.register(), second: self.register() }
+        Condition::compare(self.random.once_in(2), self.register(), self.register())
     }
 
     /// Statements; `known` are conditions that probably hold before them.
@@ -150,8 +151,7 @@ impl Maker<'_> {
         let mut statements: Vec<Statement> =
             repeat.before.iter().map(|letter| performed(letter, known)).collect();
         let [first, second] = repeat.sides;
-        let equal = Condition { equal: true, first, second };
-        statements.push(self.test(equal, depth, known));
+        statements.push(self.test(Condition::compare(true, first, second), depth, known));
         statements.extend(repeat.behind.iter().map(|letter| performed(letter, known)));
         self.points = self.points.saturating_sub(statements.len());
         statements
@@ -247,15 +247,14 @@ fn performed(letter: &Letter, known: &mut Vec<Condition>) -> Statement {
     let (condition, statement) = match *letter {
         Letter::Copy { target, source } => {
             forget(known, target);
-            let condition = Condition { equal: true, first: target, second: source };
-            (Some(condition), Statement::Assign(*letter))
+            (Some(Condition::compare(true, target, source)), Statement::Assign(*letter))
         }
         Letter::Apply { target, .. } => {
             forget(known, target);
             (None, Statement::Assign(*letter))
         }
         Letter::Equal { first, second } | Letter::Unequal { first, second } => {
-            let condition = Condition { equal: matches!(letter, Letter::Equal { .. }), first, second };
+            let condition = Condition::compare(matches!(letter, Letter::Equal { .. }), first, second);
             (Some(condition), Statement::Assume(condition))
         }
     };

@@ -32,8 +32,8 @@ pub enum Enumerated {
     },
 }
 
-/// The pairs left so far. A point is told apart by its place in the tree.
-type Pairs = HashSet<(*const Statement, Window)>;
+/// The pairs left so far. A point is told apart by its place in the tree, and by whether its test is applied already.
+type Pairs = HashSet<(*const Statement, bool, Window)>;
 
 /// Looks at all partial executions, shorter first and then by branch, until there
 /// is an event, there are no more, or more than `most` were looked at.
@@ -62,8 +62,8 @@ pub fn enumerate(read: &Macro, most: usize) -> Enumerated {
 }
 
 fn leave(pairs: &mut Pairs, partial: &Partial<'_>) {
-    if let Some(point) = partial.rest.point() {
-        pairs.insert((std::ptr::from_ref(point), Window::of(&partial.state)));
+    if let Some((statement, applied)) = partial.rest.point() {
+        pairs.insert((std::ptr::from_ref(statement), applied, Window::of(&partial.state)));
     }
 }
 

@@ -1,5 +1,6 @@
 //! Executions of a macro (the paper's Definition 2), letter by letter, twice: over
-//! what is left of the statements, and over a table of points.
+//! what is left of the statements, and over a table of points. A test with a name is its
+//! application and then its comparison (document 02).
 
 use super::letter::Letter;
 use super::syntax::{Condition, Statement};
@@ -9,6 +10,8 @@ use super::syntax::{Condition, Statement};
 #[derive(Clone, Debug, PartialEq, Eq)]
 pub struct Rest<'a> {
     left: Vec<&'a Statement>,
+    /// Whether the test with a name that comes next is applied already, and still to be compared.
+    applied: bool,
 }
 
 /// Where a letter leads.
@@ -23,7 +26,7 @@ pub enum Onward<T> {
 impl<'a> Rest<'a> {
     /// All statements of a macro.
     pub fn all(statements: &'a [Statement]) -> Rest<'a> {
-        Rest { left: vec![] }.before(statements)
+        Rest { left: vec![], applied: false }.before(statements)
     }
 
     /// Is there no point still to be performed?
@@ -31,9 +34,9 @@ impl<'a> Rest<'a> {
         self.left.is_empty()
     }
 
-    /// The point still to be performed.
-    pub fn point(&self) -> Option<&'a Statement> {
-        self.left.last().copied()
+    /// The point still to be performed: its statement, and whether the test of that is applied already.
+    pub fn point(&self) -> Option<(&'a Statement, bool)> {
+        self.left.last().map(|statement| (*statement, self.applied))
     }
 
     /// These statements, then what is left; skips at the front performed.
@@ -47,8 +50,12 @@ impl<'a> Rest<'a> {
 
     /// The letters that may come next, in branch order, and what each leaves.
     pub fn branches(&self) -> Vec<(Letter, Onward<Rest<'a>>)> {
-        let Some(statement) = self.point() else { return vec![] };
-        let mut behind = self.clone();
+        let Some((statement, applied)) = self.point() else { return vec![] };
+        if let Some(letter) = statement.applied().filter(|_| !applied) {
+            return vec![(letter, Onward::To(Rest { applied: true, ..self.clone() }))];
+        }
+        let whole = Rest { applied: false, ..self.clone() };
+        let mut behind = whole.clone();
         behind.left.pop();
         let then = |statements: &'a [Statement]| Onward::To(behind.clone().before(statements));
         match statement {
@@ -62,7 +69,8 @@ impl<'a> Rest<'a> {
                 vec![(condition.letter(), then(yes)), (condition.opposite().letter(), then(no))]
             }
             Statement::While(condition, body) => {
-                let again = Onward::To(self.clone().before(body));
+                // "A while returning to the first" of its two points.
+                let again = Onward::To(whole.before(body));
                 vec![(condition.letter(), again), (condition.opposite().letter(), then(&[]))]
             }
         }
@@ -72,7 +80,7 @@ impl<'a> Rest<'a> {
 /// A point of the table; a target is a point's number, or none for the end.
 #[derive(Clone, Copy, Debug, PartialEq, Eq)]
 pub enum Point {
-    /// An assignment or an assume.
+    /// An assignment, an assume, or the application of a test with a name.
     Step(Letter, Option<usize>),
     /// An assert.
     Assert(Condition, Option<usize>),
@@ -111,16 +119,29 @@ impl Points {
             Statement::If(condition, yes, no) => {
                 Point::Branch(*condition, self.list(yes, next), self.list(no, next))
             }
-            Statement::While(condition, body) => {
-                let place = self.table.len();
-                self.table.push(Point::Branch(*condition, None, next));
-                let begin = self.list(body, Some(place));
-                self.table[place] = Point::Branch(*condition, begin, next);
-                return Some(place);
-            }
+            Statement::While(condition, body) => return Some(self.enter_loop(condition, body, next)),
         };
+        let place = self.push(point);
+        Some(self.apply_before(statement.applied(), place))
+    }
+
+    /// Lists a while; its body leads to the first of its points again.
+    fn enter_loop(&mut self, condition: &Condition, body: &[Statement], next: Option<usize>) -> usize {
+        let place = self.push(Point::Branch(*condition, None, next));
+        let first = self.apply_before(condition.applied, place);
+        let begin = self.list(body, Some(first));
+        self.table[place] = Point::Branch(*condition, begin, next);
+        first
+    }
+
+    /// Lists the application that comes before the point at a place, if there is one; gives the first of the two.
+    fn apply_before(&mut self, applied: Option<Letter>, place: usize) -> usize {
+        applied.map_or(place, |letter| self.push(Point::Step(letter, Some(place))))
+    }
+
+    fn push(&mut self, point: Point) -> usize {
         self.table.push(point);
-        Some(self.table.len() - 1)
+        self.table.len() - 1
     }
 
     /// The letters of a point in branch order, and where each leads.

@@ -39,7 +39,7 @@ impl<'a> Printer<'a> {
         parts.iter().for_each(|part| self.out.push_str(part));
     }
 
-    /// The lines `vars a b;` and `funs f/1 g/2;`; no functions have no line.
+    /// The lines `vars a b;`, `funs f/1 g/2;` and `tests hot/1;`; no functions and no tests have no line.
     fn declarations(&mut self) {
         let read = self.read;
         self.put(&["vars"]);
@@ -47,14 +47,16 @@ impl<'a> Printer<'a> {
             self.put(&[" ", name]);
         }
         self.put(&[";\n"]);
-        if read.functions.is_empty() {
-            return;
+        for (word, entries) in [("funs", &read.functions), ("tests", &read.tests)] {
+            if entries.is_empty() {
+                continue;
+            }
+            self.put(&[word]);
+            for (name, binary) in entries {
+                self.put(&[" ", name, if *binary { "/2" } else { "/1" }]);
+            }
+            self.put(&[";\n"]);
         }
-        self.put(&["funs"]);
-        for (name, binary) in &read.functions {
-            self.put(&[" ", name, if *binary { "/2" } else { "/1" }]);
-        }
-        self.put(&[";\n"]);
     }
 
     fn statements(&mut self, statements: &[Statement]) {
@@ -62,10 +64,10 @@ impl<'a> Printer<'a> {
             match statement {
                 Statement::Skip => self.put(&["skip;\n"]),
                 Statement::Assign(letter) => self.assignment(letter),
-                Statement::Assume(condition) => self.test("assume ", condition, ";\n"),
-                Statement::Assert(condition) => self.test("assert ", condition, ";\n"),
+                Statement::Assume(condition) => self.condition("assume", condition, ";\n"),
+                Statement::Assert(condition) => self.condition("assert", condition, ";\n"),
                 Statement::If(condition, yes, no) => {
-                    self.test("if ", condition, "{\n");
+                    self.condition("if", condition, "{\n");
                     self.statements(yes);
                     // "An empty else dropped."
                     if !no.is_empty() {
@@ -75,7 +77,7 @@ impl<'a> Printer<'a> {
                     self.put(&["}\n"]);
                 }
                 Statement::While(condition, body) => {
-                    self.test("while ", condition, "{\n");
+                    self.condition("while", condition, "{\n");
                     self.statements(body);
                     self.put(&["}\n"]);
                 }
@@ -83,11 +85,28 @@ impl<'a> Printer<'a> {
         }
     }
 
-    /// A condition, with what stands in front of it and behind it.
-    fn test(&mut self, front: &str, condition: &Condition, behind: &str) {
+    /// A condition, with the word in front of it and what stands behind it. `!` is no word, so no blank stands before it.
+    fn condition(&mut self, word: &str, condition: &Condition, behind: &str) {
+        if let Some(Letter::Apply { function, first, second, .. }) = condition.applied {
+            self.put(&[word, if condition.equal { " " } else { "!" }]);
+            self.application(function, first, second);
+            self.put(&[behind]);
+            return;
+        }
         let sign = if condition.equal { "=" } else { "!=" };
         let (first, second) = (self.register(condition.first), self.register(condition.second));
-        self.put(&[front, first, sign, second, behind]);
+        self.put(&[word, " ", first, sign, second, behind]);
+    }
+
+    /// `cap(a)` or `add(a,b)`, of a function or a test.
+    fn application(&mut self, function: u8, first: u8, second: Option<u8>) {
+        let read = self.read;
+        let (name, _) = read.all_functions().nth(usize::from(function)).expect("a function or a test");
+        self.put(&[name, "(", self.register(first)]);
+        if let Some(second) = second {
+            self.put(&[",", self.register(second)]);
+        }
+        self.put(&[")"]);
     }
 
     fn assignment(&mut self, letter: &Letter) {
@@ -96,12 +115,9 @@ impl<'a> Printer<'a> {
                 self.put(&[self.register(target), ":=", self.register(source), ";\n"]);
             }
             Letter::Apply { target, function, first, second } => {
-                let function = &self.read.functions[usize::from(function)].0;
-                self.put(&[self.register(target), ":=", function, "(", self.register(first)]);
-                if let Some(second) = second {
-                    self.put(&[",", self.register(second)]);
-                }
-                self.put(&[");\n"]);
+                self.put(&[self.register(target), ":="]);
+                self.application(function, first, second);
+                self.put(&[";\n"]);
             }
             Letter::Equal { .. } | Letter::Unequal { .. } => unreachable!("no assignment"),
         }

@@ -7,7 +7,7 @@ use super::syntax::{Condition, Macro, Statement, count_points};
 /// The points are printed if there are no more.
 const FEW_POINTS: usize = 12;
 
-/// An assignment or an assume.
+/// An assignment, an assume, or the application of a test with a name.
 const STEP: u8 = 0;
 /// An assert.
 const ASSERT: u8 = 1;
@@ -23,8 +23,8 @@ pub fn print_points(text: &[u8]) -> String {
 }
 
 fn listing(read: &Macro) -> String {
-    let binary = read.functions.iter().enumerate().map(|(place, (_, binary))| u8::from(*binary) << place);
-    let (registers, functions) = (read.registers.len(), read.functions.len());
+    let binary = read.all_functions().enumerate().map(|(place, (_, binary))| u8::from(*binary) << place);
+    let (registers, functions) = (read.all_registers().count(), read.all_functions().count());
     let mut out = format!("{registers} {functions} {} {}", binary.sum::<u8>(), read.points());
     if read.points() <= FEW_POINTS {
         let mut points = Vec::new();
@@ -41,19 +41,21 @@ fn list(points: &mut Vec<String>, statements: &[Statement], behind: usize) {
         let here = points.len();
         let after = here + count_points(&statements[place..=place]);
         let next = first_of(&statements[place + 1..], after, behind);
+        points.extend(statement.applied().map(|letter| entry(STEP, &letter, here + 1, 0)));
+        let inside = points.len() + 1;
         match statement {
             Statement::Skip => {}
             Statement::Assign(letter) => points.push(entry(STEP, letter, next, 0)),
             Statement::Assume(condition) => points.push(entry(STEP, &condition.letter(), next, 0)),
             Statement::Assert(condition) => points.push(entry(ASSERT, &condition.letter(), next, 0)),
             Statement::If(condition, yes, no) => {
-                let second = here + 1 + count_points(yes);
-                points.push(branch(condition, first_of(yes, here + 1, next), first_of(no, second, next)));
+                let second = inside + count_points(yes);
+                points.push(branch(condition, first_of(yes, inside, next), first_of(no, second, next)));
                 list(points, yes, next);
                 list(points, no, next);
             }
             Statement::While(condition, body) => {
-                points.push(branch(condition, first_of(body, here + 1, here), next));
+                points.push(branch(condition, first_of(body, inside, here), next));
                 list(points, body, here);
             }
         }

@@ -1,9 +1,9 @@
 //! The macro reader: from text to a tree, or the first refusal
-//! (document 01, "The questions", Macro).
+//! (document 01, "The questions", Macro; document 02, "Tests with names").
 
 use super::letter::{Letter, MAX_FUNCTIONS, MAX_REGISTERS};
 use super::refusal::Refusal;
-use super::syntax::{Condition, Macro, Statement};
+use super::syntax::{Condition, MAX_REGISTERS_BESIDE_TESTS, Macro, Statement};
 use super::token::{Placed, Token, Word, is_same_name, token_at};
 
 /// "A macro has at most 4,096 bytes and 256 points."
@@ -19,6 +19,7 @@ struct Reader<'a> {
     at: usize,
     registers: Vec<String>,
     functions: Vec<(String, bool)>,
+    tests: Vec<(String, bool)>,
 }
 
 type Read<T> = Result<T, Refusal>;
@@ -28,16 +29,12 @@ pub fn read_macro(text: &[u8]) -> Read<Macro> {
     if text.len() > MAX_TEXT {
         return Err(Refusal::plain(7));
     }
-    let mut reader = Reader { text, at: 0, registers: vec![], functions: vec![] };
-    reader.word(Word::Vars)?;
-    reader.register_list()?;
-    if reader.peek()?.token == Token::Word(Word::Funs) {
-        reader.take()?;
-        reader.function_list()?;
-    }
+    let mut reader = Reader { text, at: 0, registers: vec![], functions: vec![], tests: vec![] };
+    reader.declarations()?;
     let statements = reader.statements(0)?;
     reader.expect(Token::End)?;
-    let read = Macro { registers: reader.registers, functions: reader.functions, statements };
+    let Reader { registers, functions, tests, .. } = reader;
+    let read = Macro { registers, functions, tests, statements };
     if read.points() > MAX_POINTS { Err(Refusal::plain(13)) } else { Ok(read) }
 }
 
@@ -74,7 +71,34 @@ impl Reader<'_> {
     }
 
     fn is_declared(&self, name: &str) -> bool {
-        self.find_register(name).is_some() || self.find_function(name).is_some()
+        self.find_register(name).or(self.find_function(name)).or(self.find_test(name)).is_some()
+    }
+
+    /// Reads this word if it is next; gives its place.
+    fn perhaps(&mut self, word: Word) -> Read<Option<usize>> {
+        let placed = self.peek()?;
+        if placed.token != Token::Word(word) {
+            return Ok(None);
+        }
+        self.at = placed.end;
+        Ok(Some(placed.start))
+    }
+
+    /// The registers, and perhaps functions and tests; "16, at the word `tests`, when more than six registers were
+    /// declared, after 9 at that token".
+    fn declarations(&mut self) -> Read<()> {
+        self.word(Word::Vars)?;
+        self.register_list()?;
+        if self.perhaps(Word::Funs)?.is_some() {
+            self.functions = self.entries()?;
+        }
+        if let Some(place) = self.perhaps(Word::Tests)? {
+            if self.registers.len() > MAX_REGISTERS_BESIDE_TESTS {
+                return Err(Refusal::at(16, place));
+            }
+            self.tests = self.entries()?;
+        }
+        Ok(())
     }
 
     /// Names of registers, at least one, up to the `;`.
@@ -91,22 +115,25 @@ impl Reader<'_> {
         }
     }
 
-    /// Entries such as `cap/1`, at least one, up to the `;`.
-    fn function_list(&mut self) -> Read<()> {
+    /// Entries such as `cap/1`, at least one, up to the `;`. "Functions and tests together are at most four."
+    fn entries(&mut self) -> Read<Vec<(String, bool)>> {
+        let mut entries: Vec<(String, bool)> = Vec::new();
         loop {
             let (name, place) = self.name()?;
-            if self.functions.len() == usize::from(MAX_FUNCTIONS) || self.is_declared(&name) {
+            let count = self.functions.len() + entries.len();
+            let repeated = entries.iter().any(|(known, _)| is_same_name(known, &name));
+            if count == usize::from(MAX_FUNCTIONS) || repeated || self.is_declared(&name) {
                 return Err(Refusal::at(10, place));
             }
             self.expect(Token::Slash)?;
             let arity = self.take()?;
             match arity.token {
-                Token::One => self.functions.push((name, false)),
-                Token::Two => self.functions.push((name, true)),
+                Token::One => entries.push((name, false)),
+                Token::Two => entries.push((name, true)),
                 _ => return Err(Refusal::at(9, arity.start)),
             }
             if self.list_ends()? {
-                return Ok(());
+                return Ok(entries);
             }
         }
     }
@@ -156,7 +183,9 @@ impl Reader<'_> {
                 let condition = self.condition()?;
                 return Ok(Statement::While(condition, self.block(depth)?));
             }
-            Word::Vars | Word::Funs | Word::Else => return Err(Refusal::at(9, place)),
+            Word::Vars | Word::Funs | Word::Tests | Word::Else | Word::Result | Word::Truth => {
+                return Err(Refusal::at(9, place));
+            }
         };
         self.expect(Token::Semicolon)?;
         Ok(statement)
@@ -167,15 +196,32 @@ impl Reader<'_> {
         let condition = self.condition()?;
         let yes = self.block(depth)?;
         let mut no = Vec::new();
-        if self.peek()?.token == Token::Word(Word::Else) {
-            self.take()?;
+        if self.perhaps(Word::Else)?.is_some() {
             no = self.block(depth)?;
         }
         Ok(Statement::If(condition, yes, no))
     }
 
+    /// A comparison or a test with a name: "In a condition the first name must be a test before `(` or after `!`".
     fn condition(&mut self) -> Read<Condition> {
-        let first = self.register()?;
+        let denied = self.peek()?.token == Token::Not;
+        if denied {
+            self.take()?;
+        }
+        let (name, place) = self.name()?;
+        if denied || self.is_applied() {
+            let test = self.find_test(&name).ok_or(Refusal::at(11, place))?;
+            let binary = self.tests[usize::from(test)].1;
+            let arguments = self.arguments(binary)?;
+            let function = self.functions.len() as u8 + test;
+            return Ok(Condition::named(self.registers.len(), !denied, function, arguments));
+        }
+        let first = self.find_register(&name).ok_or(Refusal::at(11, place))?;
+        self.comparison(first)
+    }
+
+    /// A comparison behind its first register.
+    fn comparison(&mut self, first: u8) -> Read<Condition> {
         let test = self.take()?;
         let equal = match test.token {
             Token::Equal => true,
@@ -183,7 +229,7 @@ impl Reader<'_> {
             _ => return Err(Refusal::at(9, test.start)),
         };
         let second = self.register()?;
-        Ok(Condition { equal, first, second })
+        Ok(Condition::compare(equal, first, second))
     }
 
     /// A register's name; 9 for another token, 11 for another name.
@@ -197,7 +243,16 @@ impl Reader<'_> {
     }
 
     fn find_function(&self, name: &str) -> Option<u8> {
-        self.functions.iter().position(|(known, _)| is_same_name(known, name)).map(|index| index as u8)
+        find_entry(&self.functions, name)
+    }
+
+    fn find_test(&self, name: &str) -> Option<u8> {
+        find_entry(&self.tests, name)
+    }
+
+    /// Is the next token a `(`?
+    fn is_applied(&self) -> bool {
+        self.peek().is_ok_and(|next| next.token == Token::Open)
     }
 
     /// A copy or an application: "after `:=` a name is a function if the next
@@ -206,10 +261,9 @@ impl Reader<'_> {
         let target = self.register()?;
         self.expect(Token::Becomes)?;
         let (name, place) = self.name()?;
-        let applied = self.peek().is_ok_and(|next| next.token == Token::Open);
-        let letter = if applied {
+        let letter = if self.is_applied() {
             let function = self.find_function(&name).ok_or(Refusal::at(11, place))?;
-            let (first, second) = self.arguments(function)?;
+            let (first, second) = self.arguments(self.functions[usize::from(function)].1)?;
             Letter::Apply { target, function, first, second }
         } else {
             let source = self.find_register(&name).ok_or(Refusal::at(11, place))?;
@@ -219,10 +273,9 @@ impl Reader<'_> {
         Ok(Statement::Assign(letter))
     }
 
-    /// The arguments of a function in parentheses; "a wrong argument count stands
+    /// The arguments of a function or test in parentheses; "a wrong argument count stands
     /// at the `,` or `)`".
-    fn arguments(&mut self, function: u8) -> Read<(u8, Option<u8>)> {
-        let binary = self.functions[usize::from(function)].1;
+    fn arguments(&mut self, binary: bool) -> Read<(u8, Option<u8>)> {
         self.expect(Token::Open)?;
         let first = self.register()?;
         let behind = self.take()?;
@@ -237,4 +290,9 @@ impl Reader<'_> {
             _ => Err(Refusal::at(9, behind.start)),
         }
     }
+}
+
+/// The number of a name in a list of functions or tests.
+fn find_entry(entries: &[(String, bool)], name: &str) -> Option<u8> {
+    entries.iter().position(|(known, _)| is_same_name(known, name)).map(|index| index as u8)
 }

@@ -24,17 +24,22 @@ fn lines(result: Result<String, Refusal>) -> String {
 
 /// A letter as its statement without `;`, a test after `assume`.
 pub fn letter_text(read: &Macro, letter: &Letter) -> String {
-    let name = |register: u8| &read.registers[usize::from(register)];
+    let name = |register: u8| read.all_registers().nth(usize::from(register)).expect("a register");
     match *letter {
         Letter::Copy { target, source } => format!("{} := {}", name(target), name(source)),
         Letter::Apply { target, function, first, second } => {
-            let function = &read.functions[usize::from(function)].0;
+            let function = function_name(read, function);
             let second = second.map_or(String::new(), |second| format!(",{}", name(second)));
             format!("{} := {function}({}{second})", name(target), name(first))
         }
         Letter::Equal { first, second } => format!("assume {} = {}", name(first), name(second)),
         Letter::Unequal { first, second } => format!("assume {} != {}", name(first), name(second)),
     }
+}
+
+/// The name of a function or a test, as it was declared.
+fn function_name(read: &Macro, function: u8) -> &str {
+    &read.all_functions().nth(usize::from(function)).expect("a function or a test").0
 }
 
 /// The lines of a verdict (document 01, "The verdict program").
@@ -55,11 +60,11 @@ pub fn verdict_lines(answer: &Answer) -> String {
 /// The lines of a model: `values`, `start` and `row`.
 fn model_lines(read: &Macro, model: &Model) -> String {
     let mut out = format!("values {}\n", model.values);
-    for (name, start) in read.registers.iter().zip(&model.starts) {
+    for (name, start) in read.all_registers().zip(&model.starts) {
         out += &format!("start {name} {start}\n");
     }
     for row in &model.rows {
-        let function = &read.functions[usize::from(row.function)].0;
+        let function = function_name(read, row.function);
         out += &format!("row {function} {} {} {}\n", row.first, row.second.unwrap_or(0), row.result);
     }
     out
@@ -75,10 +80,10 @@ pub fn print_layout(text: &[u8]) -> String {
     lines(layout(text, PROGRAM_PRINT))
 }
 
-/// What the reading of a macro finds: a refusal, or how much there is of each.
+/// What the reading of a macro finds: a refusal, or how much there is of each, hidden registers and tests included.
 pub fn print_read(text: &[u8]) -> String {
     lines(read_macro(text).map(|read| {
-        let (registers, functions) = (read.registers.len(), read.functions.len());
+        let (registers, functions) = (read.all_registers().count(), read.all_functions().count());
         format!("registers {registers} functions {functions} points {}\n", read.points())
     }))
 }

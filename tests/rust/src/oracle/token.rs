@@ -1,10 +1,15 @@
 //! The tokens of macro text (document 01, "Macro text", and question 8; document 02,
-//! "Capitals in names").
+//! "Capitals in names" and "Tests with names").
 
 use super::refusal::Refusal;
 
 /// A name has at most this many bytes.
 pub const MAX_NAME: usize = 8;
+
+/// The hidden register that holds what a test with a name has applied.
+pub const RESULT: &str = "result";
+/// The hidden register with which it is compared.
+pub const TRUTH: &str = "truth";
 
 /// Words that are not names.
 #[derive(Clone, Copy, Debug, PartialEq, Eq, Hash)]
@@ -25,6 +30,12 @@ pub enum Word {
     Else,
     /// `while`
     While,
+    /// `tests`
+    Tests,
+    /// `result`, the hidden register
+    Result,
+    /// `truth`, the hidden register
+    Truth,
 }
 
 /// A token, or the end of the text.
@@ -44,6 +55,8 @@ pub enum Token {
     Equal,
     /// `!=`
     Unequal,
+    /// `!`, where no `=` follows directly
+    Not,
     /// `;`
     Semicolon,
     /// `,`
@@ -73,7 +86,7 @@ pub struct Placed {
     pub end: usize,
 }
 
-const WORDS: [(&str, Word); 8] = [
+const WORDS: [(&str, Word); 11] = [
     ("vars", Word::Vars),
     ("funs", Word::Funs),
     ("skip", Word::Skip),
@@ -82,6 +95,9 @@ const WORDS: [(&str, Word); 8] = [
     ("if", Word::If),
     ("else", Word::Else),
     ("while", Word::While),
+    ("tests", Word::Tests),
+    (RESULT, Word::Result),
+    (TRUTH, Word::Truth),
 ];
 
 /// "Names and words are equal whatever the case of their letters."
@@ -118,6 +134,7 @@ pub fn token_at(text: &[u8], from: usize) -> Result<Placed, Refusal> {
         b'2' => (Token::Two, 1),
         b':' if followed => (Token::Becomes, 2),
         b'!' if followed => (Token::Unequal, 2),
+        b'!' => (Token::Not, 1),
         b'=' => (Token::Equal, 1),
         b';' => (Token::Semicolon, 1),
         b',' => (Token::Comma, 1),

@@ -14,9 +14,8 @@ fn expected(text: &[u8]) -> [u64; READ_ANSWER] {
     match read_macro(text) {
         Err(refusal) => [u64::from(refusal.number), refusal.place as u64, 0, 0, 0],
         Ok(read) => {
-            let counts =
-                [read.registers.len(), read.functions.len(), read.points()].map(|count| count as u64);
-            [0, 0, counts[0], counts[1], counts[2]]
+            let (registers, functions) = (read.all_registers().count(), read.all_functions().count());
+            [0, 0, registers as u64, functions as u64, read.points() as u64]
         }
     }
 }

@@ -27,7 +27,9 @@ fn words() {
         "VARS x; FUNS f/1; SKIP; ASSUME x = x; ASSERT x = x; IF x = x { } ELSE { } WHILE x = x { } x := F(X);",
     );
     accepted("vArS x; iF x = x { } eLsE { wHiLe x != x { sKiP; } }");
-    for word in ["VARS", "Funs", "sKIP", "AssumE", "aSSert", "iF", "Else", "whilE"] {
+    for word in
+        ["VARS", "Funs", "sKIP", "AssumE", "aSSert", "iF", "Else", "whilE", "Tests", "RESULT", "trutH"]
+    {
         refused(9, &format!("vars ^{word};"));
         refused(9, &format!("vars x; x := ^{word};"));
         refused(9, &format!("vars x; funs f/1; x := f(^{word});"));
@@ -85,7 +87,7 @@ fn every_byte() {
             b' ' | b'\t' | b'\r' | b'\n' => assert_eq!(behind, Ok(vec!["x".to_string()])),
             b'#' => assert_eq!(behind, Err(Refusal::at(9, 8))),
             _ => {
-                let number = if b"=;,(){}/".contains(&byte) { 9 } else { 8 };
+                let number = if b"=!;,(){}/".contains(&byte) { 9 } else { 8 };
                 assert_eq!(alone, Err(Refusal::at(number, 5)), "{byte}");
                 assert_eq!(behind, Err(Refusal::at(number, if byte == b';' { 7 } else { 6 })), "{byte}");
             }
@@ -101,7 +103,7 @@ fn neighbours_by_one_bit() {
     refused(8, "vars x; funs f/^\x11;");
     refused(8, "vars x; funs f/^\x12;");
     refused(8, "vars x; assume x ^\x1d x;");
-    refused(8, "vars x; assume x ^!\x1d x;");
+    refused(9, "vars x; assume x ^!\x1d x;");
     refused(8, "vars x; assume x ^\x01= x;");
     refused(8, "vars x; x ^:\x1d x;");
     refused(8, "vars x; x ^\x1a= x;");
@@ -156,10 +158,10 @@ fn names_in(line: &str) -> Vec<&str> {
     }
 }
 
-/// Every name in the lines of a macro is spelt as one that is declared.
+/// Every name in the lines of a macro is spelt as one that is declared, or is that of a hidden register.
 fn check_declared(read: &Macro, printed: &str) {
-    let functions = read.functions.iter().map(|(name, _)| name.as_str());
-    let declared: Vec<&str> = read.registers.iter().map(String::as_str).chain(functions).collect();
+    let functions = read.all_functions().map(|(name, _)| name.as_str());
+    let declared: Vec<&str> = read.all_registers().chain(functions).collect();
     let undeclared = |name: &&str| !declared.contains(name);
     let wrong: Vec<&str> = printed.lines().flat_map(names_in).filter(undeclared).collect();
     assert!(wrong.is_empty(), "{wrong:?} of {declared:?}: {printed}");

@@ -11,10 +11,11 @@ const LETTERS: &[u8; 52] = b"ABCDEFGHIJKLMNOPQRSTUVWXYZabcdefghijklmnopqrstuvwxy
 /// What else a name may hold behind its first byte.
 const INNER: &[u8; 11] = b"0123456789_";
 
-const WORDS: [&str; 8] = ["vars", "funs", "skip", "assume", "assert", "if", "else", "while"];
+const WORDS: [&str; 11] =
+    ["vars", "funs", "tests", "skip", "assume", "assert", "if", "else", "while", "result", "truth"];
 
-/// Tokens that are neither names nor words.
-const SIGNS: [&str; 12] = ["1", "2", ":=", "=", "!=", ";", ",", "(", ")", "{", "}", "/"];
+/// Tokens that are neither names nor words; `!=` is looked for before `!`.
+const SIGNS: [&str; 13] = ["1", "2", ":=", "=", "!=", "!", ";", ",", "(", ")", "{", "}", "/"];
 
 /// A token in one spelling, `name` for a name and `end` for the end of the text, with its
 /// first byte and the byte behind it.
@@ -67,12 +68,13 @@ enum Due {
     MoreNames,
     MoreEntries,
     Arity,
-    PerhapsFunctions,
+    Perhaps(&'static str),
     Statements { inner: bool },
     Value,
     AfterValue,
     MoreArguments,
-    Test,
+    Condition,
+    AfterName,
     PerhapsElse,
     End,
 }
@@ -80,10 +82,8 @@ enum Due {
 /// What is due in place of the top of the stack if this token comes, and whether
 /// the token is used up; none if it does not fit.
 fn fits(due: Due, token: &str) -> Option<(Vec<Due>, bool)> {
-    use Due::{AfterValue, Statements, Test, Value};
-    use Due::{
-        Arity, End, Exactly, MoreArguments, MoreEntries, MoreNames, Name, PerhapsElse, PerhapsFunctions,
-    };
+    use Due::{AfterName, AfterValue, Condition, Statements, Value};
+    use Due::{Arity, End, Exactly, MoreArguments, MoreEntries, MoreNames, Name, Perhaps, PerhapsElse};
     let used = |dues: Vec<Due>| Some((dues, true));
     match (due, token) {
         (Exactly(spelt), _) if spelt == token => used(vec![]),
@@ -92,17 +92,15 @@ fn fits(due: Due, token: &str) -> Option<(Vec<Due>, bool)> {
         (MoreNames | MoreEntries, ";") => used(vec![]),
         (MoreEntries, "name") => used(vec![Exactly("/"), Arity, MoreEntries]),
         (Arity, "1" | "2") => used(vec![]),
-        (PerhapsFunctions, "funs") => used(vec![Name, Exactly("/"), Arity, MoreEntries]),
-        (PerhapsFunctions | PerhapsElse, _) if token != "else" || due == PerhapsFunctions => {
-            Some((vec![], false))
-        }
+        (Perhaps(word), _) if word == token => used(vec![Name, Exactly("/"), Arity, MoreEntries]),
         (PerhapsElse, "else") => used(vec![Exactly("{"), Statements { inner: true }, Exactly("}")]),
+        (Perhaps(_) | PerhapsElse, _) => Some((vec![], false)),
         (Statements { inner: true }, "}") | (Statements { inner: false }, "end") => Some((vec![], false)),
         (Statements { .. }, "skip") => used(vec![Exactly(";"), due]),
         (Statements { .. }, "name") => used(vec![Exactly(":="), Value, due]),
-        (Statements { .. }, "assume" | "assert") => used(vec![Name, Test, Name, Exactly(";"), due]),
+        (Statements { .. }, "assume" | "assert") => used(vec![Condition, Exactly(";"), due]),
         (Statements { .. }, "if" | "while") => {
-            let mut dues = vec![Name, Test, Name, Exactly("{"), Statements { inner: true }, Exactly("}")];
+            let mut dues = vec![Condition, Exactly("{"), Statements { inner: true }, Exactly("}")];
             dues.extend((token == "if").then_some(PerhapsElse));
             dues.push(due);
             used(dues)
@@ -112,7 +110,10 @@ fn fits(due: Due, token: &str) -> Option<(Vec<Due>, bool)> {
         (AfterValue, "(") => used(vec![Name, MoreArguments, Exactly(";")]),
         (MoreArguments, ")") => used(vec![]),
         (MoreArguments, ",") => used(vec![Name, Exactly(")")]),
-        (Test, "=" | "!=") => used(vec![]),
+        (Condition, "name") => used(vec![AfterName]),
+        (Condition, "!") => used(vec![Name, Exactly("("), Name, MoreArguments]),
+        (AfterName, "=" | "!=") => used(vec![Name]),
+        (AfterName, "(") => used(vec![Name, MoreArguments]),
         (End, "end") => used(vec![]),
         _ => None,
     }
@@ -120,9 +121,10 @@ fn fits(due: Due, token: &str) -> Option<(Vec<Due>, bool)> {
 
 /// The first 8 or 9 of a text, by the stack.
 fn first_misfit(text: &[u8]) -> Option<Refusal> {
-    use Due::{End, Exactly, MoreNames, Name, PerhapsFunctions, Statements};
+    use Due::{End, Exactly, MoreNames, Name, Perhaps, Statements};
+    let (functions, tests) = (Perhaps("funs"), Perhaps("tests"));
     let mut stack =
-        vec![End, Statements { inner: false }, PerhapsFunctions, MoreNames, Name, Exactly("vars")];
+        vec![End, Statements { inner: false }, tests, functions, MoreNames, Name, Exactly("vars")];
     let mut at = 0;
     while !stack.is_empty() {
         let (token, start, end) = match next_token(text, at) {
@@ -142,7 +144,7 @@ fn first_misfit(text: &[u8]) -> Option<Refusal> {
     None
 }
 
-/// The reader's 8 or 9 is the first misfit of the grammar; 10 to 12 stand no later
+/// The reader's 8 or 9 is the first misfit of the grammar; 10 to 12 and 16 stand no later
 /// than it, and never at one place with it; 13 needs that there is none.
 #[test]
 fn refusals_against_the_grammar() {

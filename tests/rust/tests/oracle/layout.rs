@@ -68,8 +68,7 @@ fn refusals_come_before_the_length() {
 
 /// The tokens of a text as they are printed: words in lower case, names as declared.
 fn printed_tokens(text: &[u8], read: &Macro) -> Vec<String> {
-    let functions = read.functions.iter().map(|(name, _)| name);
-    let declared: Vec<&String> = read.registers.iter().chain(functions).collect();
+    let declared: Vec<&String> = read.declared().collect();
     let mut tokens = Vec::new();
     let mut at = 0;
     loop {

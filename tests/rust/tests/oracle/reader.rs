@@ -29,7 +29,7 @@ fn tokens() {
     refused(8, "vars x; ^assertion x = x;");
     accepted("vars ifs if1 vars_ skips;");
     refused(8, "vars x; x ^: = x;");
-    refused(8, "vars x; assume x ^! = x;");
+    refused(9, "vars x; assume x ^! = x;");
     refused(9, "vars x; assume x =^= x;");
     refused(8, "vars ^_x;");
     refused(8, "vars ^0;");

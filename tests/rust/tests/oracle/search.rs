@@ -11,7 +11,7 @@ use fadzgime_tests::oracle::model::Model;
 use fadzgime_tests::oracle::monitor::{first_infeasible, judge};
 use fadzgime_tests::oracle::reader::read_macro;
 use fadzgime_tests::oracle::refusal::Refusal;
-use fadzgime_tests::oracle::syntax::{Macro, Statement};
+use fadzgime_tests::oracle::syntax::{Condition, Macro, Statement};
 use fadzgime_tests::oracle::trace::Trace;
 use fadzgime_tests::oracle::verdict::{Event, search, verdict};
 
@@ -27,6 +27,12 @@ fn word(letter: Letter) -> Words {
     Words::from([vec![letter.pack()]])
 }
 
+/// A condition that is found to hold; a test with a name is applied first.
+fn asked(condition: &Condition) -> Words {
+    let letters = condition.applied.into_iter().chain([condition.letter()]);
+    Words::from([letters.map(|letter| letter.pack()).collect()])
+}
+
 /// Exec of Definition 2 without asserts: the whole executions of up to so many letters.
 fn executions(statements: &[Statement], most: usize) -> Words {
     let empty = Words::from([vec![]]);
@@ -34,14 +40,14 @@ fn executions(statements: &[Statement], most: usize) -> Words {
         let these = match statement {
             Statement::Skip => empty.clone(),
             Statement::Assign(letter) => word(*letter),
-            Statement::Assume(condition) | Statement::Assert(condition) => word(condition.letter()),
+            Statement::Assume(condition) | Statement::Assert(condition) => asked(condition),
             Statement::If(condition, yes, no) => {
-                let mut both = concatenate(&word(condition.letter()), &executions(yes, most), most);
-                both.extend(concatenate(&word(condition.opposite().letter()), &executions(no, most), most));
+                let mut both = concatenate(&asked(condition), &executions(yes, most), most);
+                both.extend(concatenate(&asked(&condition.opposite()), &executions(no, most), most));
                 both
             }
             Statement::While(condition, body) => {
-                let round = concatenate(&word(condition.letter()), &executions(body, most), most);
+                let round = concatenate(&asked(condition), &executions(body, most), most);
                 let mut rounds = empty.clone();
                 loop {
                     let more: Words = rounds.union(&concatenate(&rounds, &round, most)).cloned().collect();
@@ -50,7 +56,7 @@ fn executions(statements: &[Statement], most: usize) -> Words {
                     }
                     rounds = more;
                 }
-                concatenate(&rounds, &word(condition.opposite().letter()), most)
+                concatenate(&rounds, &asked(&condition.opposite()), most)
             }
         };
         concatenate(&before, &these, most)

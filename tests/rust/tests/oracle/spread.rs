@@ -127,8 +127,7 @@ fn names(text: &[u8]) -> Vec<String> {
 
 /// Is a name used in another spelling than it was declared in?
 fn is_respelt(text: &[u8], read: &Macro) -> bool {
-    let functions = read.functions.iter().map(|(name, _)| name);
-    let declared: Vec<&String> = read.registers.iter().chain(functions).collect();
+    let declared: Vec<&String> = read.declared().collect();
     names(text).iter().any(|name| !declared.contains(&name))
 }
 
