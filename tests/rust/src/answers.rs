@@ -136,6 +136,56 @@ pub const EQUAL_SIDES_MACROS: [(&str, &str); 6] = [
     ),
 ];
 
+/// Tests with names (document 02), with what the verdict program prints: "the three words leave the names, and `!` becomes
+/// a token"; what refuses a line of tests and a use of a test; what a test with a name performs.
+const NAMED_TESTS: [(&str, &str); 22] = [
+    ("vars result;", "refused 9 at 5\n"),
+    ("vars x Truth;", "refused 9 at 7\n"),
+    ("vars x; tests hot/1; funs f/1;", "refused 9 at 21\n"),
+    ("vars a b c d e f; tests hot/1;", "verdict pass\npairs 0\n"),
+    ("vars a b c d e f g; tests ;", "refused 16 at 20\n"),
+    ("vars a b c d e f g; skip; tests hot/1;", "refused 9 at 26\n"),
+    ("vars x; funs a/1 b/1 c/1; tests hot/1 warm/2;", "refused 10 at 38\n"),
+    ("vars x; tests X/1;", "refused 10 at 14\n"),
+    ("vars x; if x(x) {}", "refused 11 at 11\n"),
+    ("vars x; assume x ! = x;", "refused 9 at 17\n"),
+    ("vars x; tests hot/1; if !x = x {}", "refused 11 at 25\n"),
+    ("vars x; tests hot/1; if !hot = x {}", "refused 9 at 29\n"),
+    ("vars x; tests hot/1; if hot = x {}", "refused 11 at 24\n"),
+    ("vars x; tests hot/1; if x = hot(x) {}", "refused 11 at 28\n"),
+    ("vars x; tests hot/1; if hot(x) = x {}", "refused 9 at 31\n"),
+    ("vars x; tests hot/1; if hot(x,x) {}", "refused 11 at 29\n"),
+    ("vars x; tests hot/1; x := hot(x);", "refused 11 at 26\n"),
+    ("vars x; tests hot/1; hot(x);", "refused 11 at 21\n"),
+    (
+        "vars x; tests hot/1; assert hot(x);",
+        "verdict fail\npairs 2\nletters 2\nresult := hot(x)\nassume result != truth\nvalues 5\nstart x 1\n\
+         start result 2\nstart truth 3\nrow hot 1 0 4\n",
+    ),
+    (
+        "vars x; tests hot/1; assert !Hot(x);",
+        "verdict fail\npairs 2\nletters 2\nresult := hot(x)\nassume result = truth\nvalues 4\nstart x 1\n\
+         start result 2\nstart truth 3\nrow hot 1 0 3\n",
+    ),
+    (
+        "vars x y; tests hot/1; assert x = y;",
+        "verdict fail\npairs 1\nletters 1\nassume x != y\nvalues 5\nstart x 1\nstart y 2\nstart result 3\n\
+         start truth 4\n",
+    ),
+    ("vars x; tests hot/1; while hot(x) { }", "verdict pass\npairs 4\n"),
+];
+
+/// Tests with names: all texts whose answers were settled, with what the verdict program prints. "Each named test is two
+/// points", so that 129 of them are more points than there may be.
+pub fn named_tests() -> Vec<(String, &'static str)> {
+    let assumes = |count: usize| format!("vars x;tests h/1;{}", "assume h(x);".repeat(count));
+    let mut answers: Vec<(String, &str)> =
+        NAMED_TESTS.into_iter().map(|(text, lines)| (text.to_string(), lines)).collect();
+    answers.push((assumes(129), "refused 13 at 0\n"));
+    answers.push((assumes(128), "verdict pass\npairs 256\n"));
+    answers
+}
+
 /// A text that is laid out.
 pub struct Settled {
     /// The text.
@@ -147,7 +197,7 @@ pub struct Settled {
 }
 
 /// Texts and their prints where 4,096 bytes are lent.
-const PRINTS: [(&str, &str); 6] = [
+const PRINTS: [(&str, &str); 7] = [
     ("vars x;", "vars x;\n"),
     ("vars x;funs f/1g/2;", "vars x;\nfuns f/1 g/2;\n"),
     ("VARS a B;If A=b{}Else{}", "vars a B;\nif a=B{\n}\n"),
@@ -156,6 +206,10 @@ const PRINTS: [(&str, &str); 6] = [
     (
         "vars a b;funs F/2;A:=f ( a , B ) ;assume a\t!=\r\nb;assert b=a;",
         "vars a b;\nfuns F/2;\na:=F(a,b);\nassume a!=b;\nassert b=a;\n",
+    ),
+    (
+        "Vars X; Tests Hot/1 Warm/2; If ! HOT(x) { } While warm(X,x) { assume !hot(x) ; }",
+        "vars X;\ntests Hot/1 Warm/2;\nif!Hot(X){\n}\nwhile Warm(X,X){\nassume!Hot(X);\n}\n",
     ),
 ];
 

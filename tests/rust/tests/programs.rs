@@ -10,7 +10,7 @@ use std::process::{Command, Stdio};
 
 use fadzgime_tests::answers::EQUAL_SIDES_TRACES;
 #[cfg(feature = "verdict")]
-use fadzgime_tests::answers::{CAPITALS, EQUAL_SIDES_MACROS};
+use fadzgime_tests::answers::{CAPITALS, EQUAL_SIDES_MACROS, named_tests};
 #[cfg(feature = "verdict")]
 use fadzgime_tests::examples::example_macros;
 use fadzgime_tests::fast::monitor::fast_monitor;
@@ -90,13 +90,15 @@ fn verdict() {
     check("verdict", (0..3_000).map(some_macro), print_verdict);
 }
 
-/// Texts with capitals and macros that test what is already equal, against the lines that were settled for them.
+/// Texts with capitals, macros that test what is already equal and tests with names, against the lines that were
+/// settled for them.
 #[cfg(feature = "verdict")]
 #[test]
 fn verdict_on_settled_texts() {
     let path = program("verdict");
-    for (text, lines) in CAPITALS.iter().chain(&EQUAL_SIDES_MACROS) {
-        assert_eq!(printed(&path, text.as_bytes()), *lines, "{text}");
+    let settled = CAPITALS.iter().chain(&EQUAL_SIDES_MACROS).map(|(text, lines)| (text.to_string(), *lines));
+    for (text, lines) in settled.chain(named_tests()) {
+        assert_eq!(printed(&path, text.as_bytes()), lines, "{text}");
     }
 }
 

@@ -1,6 +1,6 @@
 //! `fadzgime_read`.
 
-use fadzgime_tests::answers::CAPITALS;
+use fadzgime_tests::answers::{CAPITALS, named_tests};
 use fadzgime_tests::generators::damaged_macros::damaged_text;
 use fadzgime_tests::generators::macros::{macro_text, random_macro};
 use fadzgime_tests::generators::random::{Random, cases};
@@ -46,14 +46,16 @@ fn damaged() {
     }
 }
 
-/// Every beginning of a macro, and every byte of it replaced by every byte: without capitals and with them.
+/// Every beginning of a macro, and every byte of it replaced by every byte: without capitals, with them, with tests.
 #[test]
 fn beginnings_and_bytes() {
     let plain =
         b"vars a b;funs f/1 g/2;if a=b{a:=f(b);}else{b:=g(a,b);}while a!=b{assume a=b;}assert b=a;skip;#e";
     let capitals =
         b"VARS Aa b;Funs F/1 gG/2;IF aA=B{AA:=f(b);}Else{b:=GG(aa,B);}whilE AA!=b{ASSUME aA=b;}asserT b=AA;sKIP;#E";
-    for text in [plain.as_slice(), capitals] {
+    let named =
+        b"vars a b;funs f/1;Tests t/1 U/2;if t(a){assume!u(a,B);}else{b:=f(a);}while !T(b){assert u(b,a);}assert!t(A);";
+    for text in [plain.as_slice(), capitals, named] {
         assert!(read_macro(text).is_ok());
         for length in 0..=text.len() {
             check(&text[..length]);
@@ -68,12 +70,12 @@ fn beginnings_and_bytes() {
     }
 }
 
-/// Texts with capitals whose answers are settled.
+/// Texts with capitals and with tests whose answers are settled.
 #[test]
-fn capitals() {
-    for (text, _) in CAPITALS {
-        check(text.as_bytes());
-    }
+fn settled_texts() {
+    let capitals = CAPITALS.iter().map(|(text, _)| text.to_string());
+    let named = named_tests().into_iter().map(|(text, _)| text);
+    capitals.chain(named).for_each(|text| check(text.as_bytes()));
 }
 
 /// Where the answer is too short, nothing is done: every lent byte stays.

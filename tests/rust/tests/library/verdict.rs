@@ -1,6 +1,6 @@
 //! `fadzgime_verdict`.
 
-use fadzgime_tests::answers::{CAPITALS, EQUAL_SIDES_MACROS};
+use fadzgime_tests::answers::{CAPITALS, EQUAL_SIDES_MACROS, named_tests};
 use fadzgime_tests::examples::example_macros;
 use fadzgime_tests::generators::damaged_macros::damaged_text;
 use fadzgime_tests::generators::macros::{macro_text, random_macro};
@@ -174,6 +174,26 @@ fn equal_sides() {
     for (text, lines) in EQUAL_SIDES_MACROS {
         assert_eq!(check(text.as_bytes(), 65_536, 4_096), numbers(lines), "{text}");
         for table in (0..=7 * PAIR_BYTES).step_by(PAIR_BYTES / 2) {
+            for room in 0..40 {
+                check(text.as_bytes(), table, room);
+            }
+        }
+    }
+}
+
+/// The numbers of the line of a refusal: its number and its place.
+fn refusal(line: &str) -> Option<[u64; VERDICT_ANSWER]> {
+    let (number, place) = line.trim_end().strip_prefix("refused ")?.split_once(" at ")?;
+    Some([number.parse().ok()?, place.parse().ok()?, 0, 0, 0])
+}
+
+/// Tests with names, against what was settled, and with every table and output that is short.
+#[test]
+fn tests_with_names() {
+    for (text, lines) in named_tests() {
+        let expected = refusal(lines).unwrap_or_else(|| numbers(lines));
+        assert_eq!(check(text.as_bytes(), MOST, VERDICT_OUTPUT), expected, "{text}");
+        for table in (0..=5 * PAIR_BYTES).step_by(PAIR_BYTES / 2) {
             for room in 0..40 {
                 check(text.as_bytes(), table, room);
             }

@@ -8,6 +8,7 @@ mod fast;
 mod grammar;
 mod layout;
 mod models;
+mod named_tests;
 mod packing;
 mod reader;
 mod search;
