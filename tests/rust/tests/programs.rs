@@ -86,7 +86,9 @@ fn verdict() {
     println!("verdict: {spread:?}");
     let verdicts = ["verdict pass", "verdict fail", "verdict incoherent"];
     assert!(verdicts.iter().all(|word| spread.is_often(word, 100)), "{spread:?}");
-    assert!((7..=13).all(|number| spread.is_often(&format!("refused {number}"), 20)), "{spread:?}");
+    let often =
+        |number: u8| spread.is_often(&format!("refused {number}"), if number == 16 { 10 } else { 20 });
+    assert!((7..=13).chain([16]).all(often), "{spread:?}");
     check("verdict", (0..3_000).map(some_macro), print_verdict);
 }
 

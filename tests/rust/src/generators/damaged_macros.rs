@@ -1,11 +1,12 @@
 //! Macro texts with one thing wrong, for every refusal of the reader.
 
 use super::capitals::Habit;
+use super::damaged_tests::damaged_tests;
 use super::macros::{DEEPEST, lay_out, macro_text, nested_macro, random_macro, random_name, tokens};
 use super::random::Random;
 
 /// Tokens to put where they do not belong, and some that are none.
-const STRAY: [&str; 48] = [
+const STRAY: [&str; 54] = [
     "vars",
     "funs",
     "skip",
@@ -54,6 +55,12 @@ const STRAY: [&str; 48] = [
     "\x11",
     "\x12",
     "\x1d",
+    "tests",
+    "result",
+    "truth",
+    "TESTS",
+    "Result",
+    "tRUTH",
 ];
 
 /// Bytes to put where they do not belong.
@@ -65,12 +72,13 @@ const CASE_BIT: u8 = 0x20;
 
 /// A text that is refused for the most part, of a macro with few points.
 pub fn damaged_text(random: &mut Random) -> Vec<u8> {
-    match random.below(12) {
+    match random.below(15) {
         0..=4 => damaged_tokens(random),
         5..=7 => damaged_bytes(random),
-        8 => many_names(random),
-        9 => deep(random),
-        10 => many_points(random),
+        8..=10 => damaged_tests(random),
+        11 => many_names(random),
+        12 => deep(random),
+        13 => many_points(random),
         _ => long_text(random),
     }
 }
@@ -164,7 +172,7 @@ fn flip_bit(random: &mut Random, text: &mut [u8]) {
     text[place] ^= if random.once_in(4) { 1 << random.below(8) } else { CASE_BIT };
 }
 
-/// Nearly too many registers or functions, or a name declared twice, perhaps in two spellings.
+/// Nearly too many registers, functions or tests, or a name declared twice, perhaps in two spellings.
 fn many_names(random: &mut Random) -> Vec<u8> {
     let registers = 6 + random.below(4);
     let functions = 2 + random.below(4);
@@ -176,9 +184,12 @@ fn many_names(random: &mut Random) -> Vec<u8> {
     let registers: Vec<String> = (0..registers).map(|number| name("v", number)).collect();
     let functions: Vec<String> = (0..functions).map(|number| name("f", number)).collect();
     let mut text = format!("vars {};", registers.join(" "));
-    if random.once_in(2) {
-        let entries: Vec<String> = functions.iter().map(|f| format!("{f}/{}", 1 + random.below(2))).collect();
-        text += &format!("funs {};", entries.join(" "));
+    let entries: Vec<String> = functions.iter().map(|f| format!("{f}/{}", 1 + random.below(2))).collect();
+    let (functions, tests) = entries.split_at(random.below(entries.len() + 1));
+    for (word, entries) in [("funs", functions), ("tests", tests)] {
+        if !entries.is_empty() && random.once_in(2) {
+            text += &format!("{word} {};", entries.join(" "));
+        }
     }
     text += &Habit::some(random).typed(random, "v0 := f0(v1); assert v0 = v1;");
     text.into_bytes()
@@ -191,13 +202,19 @@ fn deep(random: &mut Random) -> Vec<u8> {
         let read = nested_macro(random, 60, depth, true);
         return macro_text(random, &read);
     }
+    let named = random.once_in(2);
     let mut text = b"vars x y;".to_vec();
+    if named {
+        text.extend(b"tests hot/2;");
+    }
     let mut close = Vec::new();
     for _ in 0..depth {
-        let (open, end): (&[u8], &[u8]) = match random.below(3) {
+        let (open, end): (&[u8], &[u8]) = match random.below(if named { 5 } else { 3 }) {
             0 => (b"while x = y {", b"}"),
             1 => (b"if x != y { x := y; ", b"} else { skip; }"),
-            _ => (b"if x = y {} else {", b"}"),
+            2 => (b"if x = y {} else {", b"}"),
+            3 => (b"while !hot(x,y) {", b"}"),
+            _ => (b"if hot(y,y) {", b"} else { }"),
         };
         text.extend(open);
         close.push(end);
@@ -214,17 +231,21 @@ fn deep(random: &mut Random) -> Vec<u8> {
 
 /// About as many points as there may be.
 fn many_points(random: &mut Random) -> Vec<u8> {
-    let points = 250 + random.below(14);
-    let mut text = b"vars x y;".to_vec();
-    for point in 0..points {
-        let statement: &[u8] = match (random.below(24), point % 2) {
-            (0, _) => b"skip;x:=y;",
-            (1, _) => b"if x=y{}",
-            (2, _) => b"while x=y{}",
-            (_, 0) => b"x:=y;",
-            _ => b"assume x=x;",
+    let mut points = 250 + random.below(14);
+    let named = random.once_in(2);
+    let mut text = if named { b"vars x y;tests t/1;".to_vec() } else { b"vars x y;".to_vec() };
+    while points > 0 {
+        let (statement, count): (&[u8], usize) = match (random.below(24), points % 2) {
+            (0, _) => (b"skip;x:=y;", 1),
+            (1, _) => (b"if x=y{}", 1),
+            (2, _) => (b"while x=y{}", 1),
+            (3, _) if named => (b"if t(x){}", 2),
+            (4, _) if named => (b"while!t(y){}", 2),
+            (_, 0) => (b"x:=y;", 1),
+            _ => (b"assume x=x;", 1),
         };
         text.extend(statement);
+        points = points.saturating_sub(count);
     }
     if random.once_in(4) {
         text.push(*random.pick(BYTES));

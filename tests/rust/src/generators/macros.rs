@@ -3,12 +3,14 @@
 use super::capitals::Habit;
 use super::random::Random;
 use super::repeats::random_repeat;
-use crate::oracle::letter::{Header, Letter};
-use crate::oracle::syntax::{Condition, Macro, Statement};
+use crate::oracle::letter::{Header, Letter, MAX_FUNCTIONS, MAX_REGISTERS};
+use crate::oracle::syntax::{Condition, MAX_REGISTERS_BESIDE_TESTS, Macro, Statement};
 
 /// Names that are easily confused with words.
-const ODD_NAMES: [&str; 12] =
-    ["ifs", "if1", "vars_", "whil", "while_", "elseif", "asserts", "skip2", "funs1", "v", "a_______", "i"];
+const ODD_NAMES: [&str; 16] = [
+    "ifs", "if1", "vars_", "whil", "while_", "elseif", "asserts", "skip2", "funs1", "v", "a_______", "i",
+    "test", "tests1", "results", "truth_",
+];
 
 /// How macros are chosen.
 #[derive(Clone, Copy, Debug)]
@@ -23,6 +25,8 @@ struct Choices {
     fresh_assert: usize,
     /// Statements that lead to a test of what is already equal are begun once in so many times.
     repeats: usize,
+    /// A condition is a test with a name once in so many times, if there are tests.
+    named: usize,
 }
 
 const WEIGHTS: [[usize; 7]; 7] = [
@@ -42,6 +46,7 @@ struct Maker<'a> {
     choices: Choices,
     registers: u8,
     arities: Vec<bool>,
+    tests: Vec<bool>,
     points: usize,
 }
 
@@ -87,20 +92,21 @@ pub fn random_macro(random: &mut Random, points: usize) -> Macro {
 /// A random macro with at most about this many points, nested at most so deep; where it is `steep`, just so deep if
 /// it has the points. In one of three the only assert is the last statement, so that failures are long.
 pub fn nested_macro(random: &mut Random, points: usize, depth: usize, steep: bool) -> Macro {
-    let registers = 1 + random.mostly_below(4, 8);
-    let functions = random.mostly_below(3, 5);
-    let names = distinct_names(random, registers + functions);
-    let arities: Vec<bool> = (0..functions).map(|_| random.once_in(2)).collect();
+    let declared = random_declarations(random);
     let choices = Choices {
         weights: *random.pick(&WEIGHTS),
         depth,
         steep,
         fresh_assert: *random.pick(&[2, 6, 40]),
         repeats: *random.pick(&[5, 12, 1000]),
+        named: *random.pick(&[1, 2, 4, 1000]),
     };
     let points = random.below(points + 1);
     let late = random.once_in(3);
-    let mut maker = Maker { random, choices, registers: registers as u8, arities: arities.clone(), points };
+    let arities = |entries: &[(String, bool)]| entries.iter().map(|(_, binary)| *binary).collect();
+    let (functions, tests) = (arities(&declared.functions), arities(&declared.tests));
+    let registers = declared.registers.len() as u8;
+    let mut maker = Maker { random, choices, registers, arities: functions, tests, points };
     if late {
         maker.choices.weights[4] = 0;
     }
@@ -108,8 +114,31 @@ pub fn nested_macro(random: &mut Random, points: usize, depth: usize, steep: boo
     if late {
         statements.push(Statement::Assert(maker.condition()));
     }
-    let functions = names[registers..].iter().cloned().zip(arities).collect();
-    Macro { registers: names[..registers].to_vec(), functions, tests: vec![], statements }
+    Macro { statements, ..declared }
+}
+
+/// A random macro with a line of tests.
+pub fn macro_with_tests(random: &mut Random, points: usize) -> Macro {
+    loop {
+        let read = random_macro(random, points);
+        if !read.tests.is_empty() {
+            return read;
+        }
+    }
+}
+
+/// A macro without statements. One in three has tests, and then two registers fewer, and with its functions at most four.
+fn random_declarations(random: &mut Random) -> Macro {
+    let most = usize::from(MAX_FUNCTIONS);
+    let tests = if random.once_in(3) { 1 + random.mostly_below(2, most) } else { 0 };
+    let room = if tests > 0 { MAX_REGISTERS_BESIDE_TESTS } else { usize::from(MAX_REGISTERS) };
+    let registers = 1 + random.mostly_below(4, room);
+    let functions = random.mostly_below(3, most + 1).min(most - tests);
+    let mut names = distinct_names(random, registers + functions + tests);
+    let mut entries = names.split_off(registers).into_iter().map(|name| (name, random.once_in(2)));
+    let functions = entries.by_ref().take(functions).collect();
+    let tests = entries.collect();
+    Macro { registers: names, functions, tests, statements: vec![] }
 }
 
 impl Maker<'_> {
@@ -118,7 +147,24 @@ impl Maker<'_> {
     }
 
     fn condition(&mut self) -> Condition {
+        if !self.tests.is_empty() && self.random.once_in(self.choices.named) {
+            return self.named();
+        }
         Condition::compare(self.random.once_in(2), self.register(), self.register())
+    }
+
+    /// A test with a name.
+    fn named(&mut self) -> Condition {
+        let test = self.random.below(self.tests.len());
+        let first = self.register();
+        let second = if self.tests[test] { Some(self.register()) } else { None };
+        let function = (self.arities.len() + test) as u8;
+        Condition::named(usize::from(self.registers), self.random.once_in(2), function, (first, second))
+    }
+
+    /// Takes off the second point of a test with a name.
+    fn spend(&mut self, condition: &Condition) {
+        self.points = self.points.saturating_sub(condition.points() - 1);
     }
 
     /// Statements; `known` are conditions that probably hold before them.
@@ -213,6 +259,7 @@ impl Maker<'_> {
 
     fn assume(&mut self, known: &mut Vec<Condition>) -> Statement {
         let condition = self.condition();
+        self.spend(&condition);
         known.push(condition);
         Statement::Assume(condition)
     }
@@ -220,11 +267,13 @@ impl Maker<'_> {
     fn assert(&mut self, known: &mut Vec<Condition>) -> Statement {
         let fresh = known.is_empty() || self.random.once_in(self.choices.fresh_assert);
         let condition = if fresh { self.condition() } else { *self.random.pick(known) };
+        self.spend(&condition);
         known.push(condition);
         Statement::Assert(condition)
     }
 
     fn branch(&mut self, condition: Condition, depth: usize, known: &mut Vec<Condition>) -> Statement {
+        self.spend(&condition);
         let yes = self.block(depth + 1, &mut with(known, condition), false);
         let no = match self.random.once_in(2) {
             true => self.block(depth + 1, &mut with(known, condition.opposite()), false),
@@ -235,6 +284,7 @@ impl Maker<'_> {
     }
 
     fn repeat(&mut self, condition: Condition, depth: usize, known: &mut Vec<Condition>) -> Statement {
+        self.spend(&condition);
         let body = self.block(depth + 1, &mut vec![condition], false);
         known.clear();
         known.push(condition.opposite());
@@ -263,7 +313,11 @@ fn performed(letter: &Letter, known: &mut Vec<Condition>) -> Statement {
 }
 
 fn forget(known: &mut Vec<Condition>, register: u8) {
-    known.retain(|condition| condition.first != register && condition.second != register);
+    let is_argument = |condition: &Condition| match condition.applied {
+        Some(Letter::Apply { first, second, .. }) => first == register || second == Some(register),
+        _ => condition.first == register || condition.second == register,
+    };
+    known.retain(|condition| !is_argument(condition));
 }
 
 fn with(known: &[Condition], condition: Condition) -> Vec<Condition> {
@@ -272,7 +326,7 @@ fn with(known: &[Condition], condition: Condition) -> Vec<Condition> {
     more
 }
 
-/// The tokens of a macro: its names as declared in the two lists, words and uses of names by some habit each. An empty
+/// The tokens of a macro: its names as declared in their lists, words and uses of names by some habit each. An empty
 /// else is written now and then.
 pub fn tokens(random: &mut Random, read: &Macro) -> Vec<String> {
     let as_declared = random.once_in(2);
@@ -317,11 +371,17 @@ impl Speller<'_> {
         self.word("vars");
         self.out.extend(self.read.registers.iter().cloned());
         self.sign(";");
-        if self.read.functions.is_empty() {
+        self.entries("funs", &self.read.functions);
+        self.entries("tests", &self.read.tests);
+    }
+
+    /// A line of functions or tests; none without entries.
+    fn entries(&mut self, word: &str, entries: &[(String, bool)]) {
+        if entries.is_empty() {
             return;
         }
-        self.word("funs");
-        for (name, binary) in &self.read.functions {
+        self.word(word);
+        for (name, binary) in entries {
             let arity = if *binary { "2" } else { "1" };
             self.out.extend([name, "/", arity].map(ToString::to_string));
         }
@@ -330,6 +390,13 @@ impl Speller<'_> {
 
     fn condition(&mut self, word: &str, condition: &Condition) {
         self.word(word);
+        if let Some(Letter::Apply { function, first, second, .. }) = condition.applied {
+            if !condition.equal {
+                self.sign("!");
+            }
+            self.application(function, first, second);
+            return;
+        }
         self.register(condition.first);
         self.sign(if condition.equal { "=" } else { "!=" });
         self.register(condition.second);
@@ -339,6 +406,19 @@ impl Speller<'_> {
         self.sign("{");
         self.statements(statements);
         self.sign("}");
+    }
+
+    /// A function or a test with its arguments.
+    fn application(&mut self, function: u8, first: u8, second: Option<u8>) {
+        let (name, _) = self.read.all_functions().nth(usize::from(function)).expect("a function or a test");
+        self.name(name);
+        self.sign("(");
+        self.register(first);
+        if let Some(second) = second {
+            self.sign(",");
+            self.register(second);
+        }
+        self.sign(")");
     }
 
     fn assignment(&mut self, letter: &Letter) {
@@ -351,14 +431,7 @@ impl Speller<'_> {
             Letter::Apply { target, function, first, second } => {
                 self.register(target);
                 self.sign(":=");
-                self.name(&self.read.functions[usize::from(function)].0);
-                self.sign("(");
-                self.register(first);
-                if let Some(second) = second {
-                    self.sign(",");
-                    self.register(second);
-                }
-                self.sign(")");
+                self.application(function, first, second);
             }
             Letter::Equal { .. } | Letter::Unequal { .. } => unreachable!("no assignment"),
         }
@@ -421,11 +494,11 @@ fn join(random: &mut Random, tokens: &[String], rarity: usize) -> Vec<u8> {
     text
 }
 
-/// Would these be other tokens without a blank between them? `1` and `2` end where they are.
+/// Would these be other tokens without a blank between them? `1` and `2` end where they are; `!` takes a `=`.
 fn run_together(before: &str, token: &str) -> bool {
     let runs_on = |byte: u8| byte.is_ascii_alphanumeric() || byte == b'_';
     let open = before.bytes().last().is_some_and(runs_on) && !["1", "2"].contains(&before);
-    open && token.bytes().next().is_some_and(runs_on)
+    open && token.bytes().next().is_some_and(runs_on) || before == "!" && token.starts_with('=')
 }
 
 /// One separator.

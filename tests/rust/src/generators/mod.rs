@@ -3,6 +3,7 @@
 
 pub mod capitals;
 pub mod damaged_macros;
+pub mod damaged_tests;
 pub mod layouts;
 pub mod macros;
 pub mod random;
@@ -10,3 +11,4 @@ pub mod repeats;
 pub mod spread;
 pub mod traces;
 pub mod windows;
+pub mod written_out;

@@ -23,3 +23,5 @@ mod stack;
 mod traces;
 #[cfg(feature = "verdict")]
 mod verdict;
+#[cfg(all(feature = "read", feature = "verdict"))]
+mod written_out;

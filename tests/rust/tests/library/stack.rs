@@ -44,7 +44,19 @@ fn long_macro(blocks: &str, last: &str) -> Vec<u8> {
     let front = format!("{NAMES}{blocks}");
     let steps = ["a:=i(a);", "b:=j(b,c);", "c:=k(c);", "d:=l(d,e);"];
     let points = 255 - read_macro(front.as_bytes()).expect("it reads").points();
-    let text = front + &steps.iter().copied().cycle().take(points).collect::<String>() + last;
+    padded(front + &steps.iter().copied().cycle().take(points).collect::<String>() + last)
+}
+
+/// A text of 4,096 bytes with 256 points and the deepest blocks, on tests with names.
+fn named_macro() -> Vec<u8> {
+    let blocks = "if k(a){while!l(b,c){".repeat(8) + &"}}".repeat(8);
+    let front = format!("vars a b c d e f;funs i/1 j/2;tests k/1 l/2;{blocks}");
+    let points = 254 - read_macro(front.as_bytes()).expect("it reads").points();
+    padded(front + &"a:=i(a);".repeat(points) + "assert!k(a);")
+}
+
+/// A text of 256 points with blanks up to 4,096 bytes.
+fn padded(text: String) -> Vec<u8> {
     let padding = " ".repeat(TEXT - text.len());
     let text = (text + &padding).into_bytes();
     assert_eq!(read_macro(&text).expect("it reads").points(), 256);
@@ -57,7 +69,8 @@ fn texts() -> Vec<Vec<u8>> {
     let open = |depth: usize| ("vars a b;".to_string() + &"if a=b{".repeat(depth)).into_bytes();
     let deep = long_macro(&blocks, "assert a=b;");
     let too_long = [deep.as_slice(), b" "].concat();
-    vec![long_macro("", "assert a=b;"), deep, long_macro(&blocks, "a:=a;"), open(16), open(17), too_long]
+    let (longest, passing) = (long_macro("", "assert a=b;"), long_macro(&blocks, "a:=a;"));
+    vec![longest, deep, passing, named_macro(), open(16), open(17), too_long]
 }
 
 /// A trace of 1,024 letters under the largest header.

@@ -145,7 +145,7 @@ fn damaged_macros() {
     }
     println!("damaged macros: {spread:?}");
     let often = |number: u8| spread.is_often(&format!("refused {number}"), 100);
-    assert!((7..=14).all(often) || cases(10) < 10, "{spread:?}");
+    assert!((7..=14).chain([16]).all(often) || cases(10) < 10, "{spread:?}");
 }
 
 /// Texts with capitals whose answers are settled, with every table of up to two pairs and every output that is short.
@@ -236,7 +236,9 @@ fn enumerated_executions() {
 /// one byte more than is needed.
 #[test]
 fn every_size() {
-    let texts: [&[u8]; 4] = [
+    let texts: [&[u8]; 6] = [
+        b"vars x; tests t/1; assert !t(x);",
+        b"vars x; tests t/2; assert t(x,x); assert t(x,x);",
         b"vars x y; funs n/1; while x != y { x := n(x); } assert x = y;",
         b"vars x y z; funs f/2; z := f(x,y); assert x = z;",
         b"vars x y z; funs f/1; z := f(x); z := f(z); assume x = y;",

@@ -13,8 +13,10 @@ mod packing;
 mod reader;
 mod search;
 mod spread;
+mod spread_of_tests;
 mod stored;
 mod windows;
+mod written_out;
 
 use fadzgime_tests::oracle::reader::read_macro;
 use fadzgime_tests::oracle::trace::Trace;

@@ -15,7 +15,7 @@ use fadzgime_tests::oracle::syntax::{Condition, Macro, Statement};
 use fadzgime_tests::oracle::trace::Trace;
 use fadzgime_tests::oracle::verdict::{Event, search, verdict};
 
-type Words = BTreeSet<Vec<u16>>;
+pub type Words = BTreeSet<Vec<u16>>;
 
 /// The words of these letters followed by words of the others, up to a length.
 fn concatenate(left: &Words, right: &Words, most: usize) -> Words {
@@ -34,7 +34,7 @@ fn asked(condition: &Condition) -> Words {
 }
 
 /// Exec of Definition 2 without asserts: the whole executions of up to so many letters.
-fn executions(statements: &[Statement], most: usize) -> Words {
+pub fn executions(statements: &[Statement], most: usize) -> Words {
     let empty = Words::from([vec![]]);
     statements.iter().fold(empty.clone(), |before, statement| {
         let these = match statement {
@@ -64,7 +64,7 @@ fn executions(statements: &[Statement], most: usize) -> Words {
 }
 
 /// The whole executions of up to so many letters by walking, not ended at a failure.
-fn walked(read: &Macro, most: usize) -> Words {
+pub fn walked(read: &Macro, most: usize) -> Words {
     let mut whole = Words::new();
     let mut level = vec![(vec![], Rest::all(&read.statements))];
     for _ in 0..=most {
