@@ -86,8 +86,7 @@ fn verdict() {
     println!("verdict: {spread:?}");
     let verdicts = ["verdict pass", "verdict fail", "verdict incoherent"];
     assert!(verdicts.iter().all(|word| spread.is_often(word, 100)), "{spread:?}");
-    let often =
-        |number: u8| spread.is_often(&format!("refused {number}"), if number == 16 { 10 } else { 20 });
+    let often = |number: u8| spread.is_often(&format!("refused {number}"), 12);
     assert!((7..=13).chain([16]).all(often), "{spread:?}");
     check("verdict", (0..3_000).map(some_macro), print_verdict);
 }
