@@ -5,7 +5,7 @@ use std::ops::Range;
 use super::capitals::Habit;
 use super::macros::{lay_out, macro_with_tests, random_name, tokens};
 use super::random::Random;
-use crate::oracle::syntax::Macro;
+use crate::oracle::syntax::{MAX_REGISTERS_BESIDE_TESTS, Macro};
 use crate::oracle::token::is_same_name;
 
 /// The words that tests took from the names.
@@ -65,7 +65,7 @@ impl Text<'_> {
         (!places.is_empty()).then(|| *self.random.pick(places))
     }
 
-    /// A name that is declared, of any sort alike, or another one, in some spelling.
+    /// A declared name, that of a test most often, or an unknown one, in some spelling.
     fn some_name(&mut self) -> String {
         let (registers, functions, tests) = (&self.read.registers, &self.read.functions, &self.read.tests);
         let entry = |entries: &[(String, bool)], random: &mut Random| random.pick(entries).0.clone();
@@ -109,7 +109,7 @@ impl Text<'_> {
 
     /// About as many registers as there may be beside tests, or a few more.
     fn add_registers(&mut self) {
-        let count = 6 + self.random.below(4);
+        let count = MAX_REGISTERS_BESIDE_TESTS + self.random.below(4);
         let more = (self.read.registers.len()..count).map(|number| format!("r{number}_"));
         let names: Vec<String> =
             more.map(|name| Habit::some(self.random).typed(self.random, &name)).collect();

@@ -115,18 +115,10 @@ fn conditions() {
     let front = "vars x y; funs f/1 g/2; tests hot/1 warm/2;";
     for (word, behind) in [("assume", ";"), ("assert", ";"), ("if", "{ }"), ("while", "{ }")] {
         let put = |condition: &str| format!("{front} {word} {condition} {behind}");
-        [
-            "x = y",
-            "x != y",
-            "hot(x)",
-            "warm(x,y)",
-            "!hot(x)",
-            "!warm(y,y)",
-            "! HOT ( Y )",
-            "!#\nhot#\n(#\nx)",
-        ]
-        .iter()
-        .for_each(|condition| accepted(&put(condition)));
+        for right in ["x = y", "x != y", "hot(x)", "warm(x,y)", "!hot(x)", "!warm(y,y)", "! HOT ( Y )"] {
+            accepted(&put(right));
+        }
+        accepted(&put("!#\nhot#\n(#\nx)"));
         for wrong in ["^x(x)", "^x (x)", "^f(x)", "^z(x)", "^g(x,y)", "!^x(x)", "!^f(x)", "!^z(x)"] {
             refused(11, &put(wrong));
         }

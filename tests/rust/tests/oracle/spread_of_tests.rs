@@ -7,7 +7,7 @@ use fadzgime_tests::generators::damaged_macros::damaged_text;
 use fadzgime_tests::generators::layouts::text_to_lay_out;
 use fadzgime_tests::generators::macros::random_macro;
 use fadzgime_tests::generators::random::Random;
-use fadzgime_tests::oracle::letter::Letter;
+use fadzgime_tests::oracle::letter::{Letter, MAX_FUNCTIONS, MAX_REGISTERS};
 use fadzgime_tests::oracle::reader::read_macro;
 use fadzgime_tests::oracle::refusal::Refusal;
 use fadzgime_tests::oracle::syntax::{Macro, Statement};
@@ -44,8 +44,8 @@ fn about_macro(read: &Macro) -> BTreeSet<String> {
         ("none of them used", about.is_empty()),
         ("with functions", !read.functions.is_empty()),
         ("without functions", read.functions.is_empty()),
-        ("eight registers in all", read.all_registers().count() == 8),
-        ("four functions and tests", read.all_functions().count() == 4),
+        ("eight registers in all", read.header().registers == MAX_REGISTERS),
+        ("four functions and tests", read.header().functions == MAX_FUNCTIONS),
     ];
     about.extend(kinds.iter().filter(|(_, there)| *there).map(|(kind, _)| kind.to_string()));
     about
