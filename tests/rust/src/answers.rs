@@ -138,7 +138,7 @@ pub const EQUAL_SIDES_MACROS: [(&str, &str); 6] = [
 
 /// Tests with names (document 02), with what the verdict program prints: "the three words leave the names, and `!` becomes
 /// a token"; what refuses a line of tests and a use of a test; what a test with a name performs.
-const NAMED_TESTS: [(&str, &str); 22] = [
+const NAMED_TESTS: [(&str, &str); 23] = [
     ("vars result;", "refused 9 at 5\n"),
     ("vars x Truth;", "refused 9 at 7\n"),
     ("vars x; tests hot/1; funs f/1;", "refused 9 at 21\n"),
@@ -173,6 +173,8 @@ const NAMED_TESTS: [(&str, &str); 22] = [
          start truth 4\n",
     ),
     ("vars x; tests hot/1; while hot(x) { }", "verdict pass\npairs 4\n"),
+    // "A while returning to the first": what is known behind the body was known before the loop.
+    ("vars x; tests hot/1; assume hot(x); while hot(x) { }", "verdict pass\npairs 4\n"),
 ];
 
 /// Tests with names: all texts whose answers were settled, with what the verdict program prints. "Each named test is two

@@ -108,7 +108,7 @@ fn settled_macros() {
         assert!(check(&read, MAX_PAIRS).is_some(), "{read:?}");
         checked += usize::from(!read.tests.is_empty());
     }
-    assert!(checked >= 6, "{checked}");
+    assert!(checked >= 8, "{checked}");
 }
 
 /// "A while returning to the first": behind the body comes the application of before. Written out it is another point,
