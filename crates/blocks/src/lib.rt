@@ -1,6 +1,7 @@
 // Statements and blocks of a macro, and the table of its points (SPEC 8.3, 9.3).
 use letters::Letter;
 use letters::refusal_numbers::NESTING_TOO_DEEP;
+use phrases::GotCondition;
 use phrases::GotLetter;
 use phrases::GotNumber;
 use tokens::Token;
@@ -11,8 +12,9 @@ ghost use lib.ListN.{set};
 ghost use Rattle.base.specs.Each.{each};
 ghost use Rattle.letters.specs.Packing.{split};
 ghost use Rattle.grammar.specs.Limits.{mostPoints};
-ghost use Rattle.blocks.specs.Held.{fields, pointOfCode, tableOfCodes, Coded, progressOf, heldBy, unknown, backpatched, tooMany, unusedPoint};
-ghost use Rattle.blocks.specs.Outcome.{backpatchedIn, begins, changedTo, waiting, Fine, RefusedAt, Settled, Passed, ReaderReady};
+ghost use Rattle.blocks.specs.Held.{fields, point, pointOfCode, tableOfCodes, Coded, progressOf, heldBy, unknown, backpatched, tooMany};
+ghost use Rattle.blocks.specs.Held.{unusedPoint};
+ghost use Rattle.blocks.specs.Outcome.{backpatchedIn, begins, changedTo, Fine, RefusedAt, Settled, Weighed, Passed, ReaderReady};
 ghost use Rattle.blocks.specs.Outcome.{PlainRead, BlockRead, StatementRead, BracesRead, ElseRead, ConditionalRead, RepeatRead};
 
 /// A point of a macro.
@@ -225,23 +227,24 @@ fn moved(st: ReaderState, at: usize) -> ReaderState
     }
 }
 
-// On to a place, with one point more.
+// On to a place, with one point more, which `next` follows.
 fn pushed(
     st: ReaderState,
     kind: u8,
     letter: Letter,
+    next: u16,
     at: usize,
     code: &mut Codes,
     first: &mut Successors,
     second: &mut Successors,
 ) -> ReaderState
     ensures { λ r. ⌜ Fine (heldBy st (now (code .entry)) (now (first .entry)) (now (second .entry)))
-        (heldBy r (now (code .exit)) (now (first .exit)) (now (second .exit))) (waiting kind letter ∷ []) at ⌝ }
+        (heldBy r (now (code .exit)) (now (first .exit)) (now (second .exit))) (point kind letter next 0 ∷ []) at ⌝ }
 {
     let n = st.count;
     if n < MOST_POINTS {
         code[n as usize] = code_of(kind, letter);
-        first[n as usize] = UNKNOWN;
+        first[n as usize] = next;
         second[n as usize] = 0;
         return ReaderState {
             ok: true,
@@ -263,18 +266,40 @@ fn pushed(
 // On behind a letter that was read, with a point more that performs it, or the refusal.
 fn settled(
     st: ReaderState,
-    kind: u8,
     g: GotLetter,
     code: &mut Codes,
     first: &mut Successors,
     second: &mut Successors,
 ) -> ReaderState
-    ensures { λ r. ⌜ Settled kind (heldBy st (now (code .entry)) (now (first .entry)) (now (second .entry)))
+    ensures { λ r. ⌜ Settled (heldBy st (now (code .entry)) (now (first .entry)) (now (second .entry)))
         (heldBy r (now (code .exit)) (now (first .exit)) (now (second .exit))) g ⌝ }
 {
     match g {
-        GotLetter::At(l, e) => pushed(st, kind, l, e, code, first, second),
+        GotLetter::At(l, e) => pushed(st, STEP, l, UNKNOWN, e, code, first, second),
         GotLetter::Refused(n, p) => stopped(n, p),
+    }
+}
+
+// On behind a condition that was read, with its test's point more, and before that, of a named test, the point that applies it; or the refusal.
+fn weighed(
+    st: ReaderState,
+    kind: u8,
+    g: GotCondition,
+    code: &mut Codes,
+    first: &mut Successors,
+    second: &mut Successors,
+) -> ReaderState
+    requires { ⌜ st .count ≤ tooMany ⌝ }
+    ensures { λ r. ⌜ Weighed kind (heldBy st (now (code .entry)) (now (first .entry)) (now (second .entry)))
+        (heldBy r (now (code .exit)) (now (first .exit)) (now (second .exit))) g ⌝ }
+{
+    match g {
+        GotCondition::Compared(l, e) => pushed(st, kind, l, UNKNOWN, e, code, first, second),
+        GotCondition::Named(a, l, e) => {
+            let applied = pushed(st, STEP, a, st.count + 1, e, code, first, second);
+            pushed(applied, kind, l, UNKNOWN, e, code, first, second)
+        }
+        GotCondition::Refused(n, p) => stopped(n, p),
     }
 }
 
@@ -336,58 +361,59 @@ fn join(count: u16, from: u16, to: u16, first: &mut Successors, second: &mut Suc
     redirect_range(first, second, from, to, to);
 }
 
-// After the two blocks of an if, of which `base` is the number: the second block's points are numbered from `mid` to `count`.
-fn branch(count: u16, base: u16, mid: u16, first: &mut Successors, second: &mut Successors)
-    ensures { λ _. ⌜ now (first .exit) ≡ changedTo count base (set (now (first .entry)) base (begins (base + 1) mid unknown)) (now (first .entry)) ⌝ }
-    ensures other { λ _. ⌜ now (second .exit) ≡ changedTo count base (set (now (second .entry)) base (begins mid count unknown)) (now (second .entry)) ⌝ }
+// After the two blocks of an if, of which `test` is the number of the test's point: the second block's points are numbered from `mid` to `count`.
+fn branch(count: u16, test: u16, mid: u16, first: &mut Successors, second: &mut Successors)
+    ensures { λ _. ⌜ now (first .exit) ≡ changedTo count test (set (now (first .entry)) test (begins (test + 1) mid unknown)) (now (first .entry)) ⌝ }
+    ensures other { λ _. ⌜ now (second .exit) ≡ changedTo count test (set (now (second .entry)) test (begins mid count unknown)) (now (second .entry)) ⌝ }
 {
     if MOST_POINTS < count {
         return;
     }
-    if count <= base {
+    if count <= test {
         return;
     }
-    let holds = begin(base + 1, mid, UNKNOWN);
+    let holds = begin(test + 1, mid, UNKNOWN);
     let fails = begin(mid, count, UNKNOWN);
-    first[base as usize] = holds;
-    second[base as usize] = fails;
+    first[test as usize] = holds;
+    second[test as usize] = fails;
 }
 
-// After the block of a while, of which `base` is the number, up to the point `count`: the while follows its block.
-fn repeat_from(count: u16, base: u16, first: &mut Successors, second: &mut Successors)
+// After the block of a while, up to the point `count`: `test` is the number of the test's point, and `back`, the while's first point, follows the block.
+fn repeat_from(count: u16, test: u16, back: u16, first: &mut Successors, second: &mut Successors)
     ensures { λ _. ⌜ now (first .exit)
-        ≡ changedTo count base (set (each (backpatchedIn (base + 1) count base) (now (first .entry))) base (begins (base + 1) count base))
+        ≡ changedTo count test (set (each (backpatchedIn (test + 1) count back) (now (first .entry))) test (begins (test + 1) count back))
         (now (first .entry)) ⌝ }
     ensures other { λ _. ⌜ now (second .exit)
-        ≡ changedTo count base (set (each (backpatchedIn (base + 1) count base) (now (second .entry))) base unknown) (now (second .entry)) ⌝ }
+        ≡ changedTo count test (set (each (backpatchedIn (test + 1) count back) (now (second .entry))) test unknown) (now (second .entry)) ⌝ }
 {
     if MOST_POINTS < count {
         return;
     }
-    if count <= base {
+    if count <= test {
         return;
     }
-    redirect_range(first, second, base + 1, count, base);
-    let body = begin(base + 1, count, base);
-    first[base as usize] = body;
-    second[base as usize] = UNKNOWN;
+    redirect_range(first, second, test + 1, count, back);
+    let body = begin(test + 1, count, back);
+    first[test as usize] = body;
+    second[test as usize] = UNKNOWN;
 }
 
 /// Statements up to the block's end: `}` or the end of the text. Blocks in it lie at most `depth` deep.
-/// Their points go into the arrays behind those that `st` counts.
+/// Their points go into the arrays behind those that `st` counts. The functions from number `first_test` on are tests.
 pub fn block(
     text: &[u8],
     regs: &[u64],
     funs: &[u64],
     arities: &[u8],
+    first_test: u8,
     st: ReaderState,
     depth: usize,
     code: &mut Codes,
     first: &mut Successors,
     second: &mut Successors,
 ) -> ReaderState
-    requires { ⌜ ReaderReady (now regs) (now funs) (now arities) (st .count) ⌝ }
-    ensures { λ r. ⌜ BlockRead (now (text .entry)) (now (regs .entry)) (now (funs .entry)) (now (arities .entry)) depth
+    requires { ⌜ ReaderReady (now regs) (now funs) (now arities) «first_test» (st .count) ⌝ }
+    ensures { λ r. ⌜ BlockRead (now (text .entry)) (now (regs .entry)) (now (funs .entry)) (now (arities .entry)) «first_test» depth
         (heldBy st (now (code .entry)) (now (first .entry)) (now (second .entry)))
         (heldBy r (now (code .exit)) (now (first .exit)) (now (second .exit))) ⌝ }
 {
@@ -403,7 +429,18 @@ pub fn block(
             return cur;
         }
         let to = cur.count;
-        let one = statement(text, regs, funs, arities, cur, depth, code, first, second);
+        let one = statement(
+            text,
+            regs,
+            funs,
+            arities,
+            first_test,
+            cur,
+            depth,
+            code,
+            first,
+            second,
+        );
         if one.ok {
             join(one.count, from, to, first, second);
             cur = one;
@@ -419,27 +456,61 @@ fn statement(
     regs: &[u64],
     funs: &[u64],
     arities: &[u8],
+    first_test: u8,
     st: ReaderState,
     depth: usize,
     code: &mut Codes,
     first: &mut Successors,
     second: &mut Successors,
 ) -> ReaderState
-    requires { ⌜ ReaderReady (now regs) (now funs) (now arities) (st .count) ⌝ }
-    ensures { λ r. ⌜ StatementRead (now (text .entry)) (now (regs .entry)) (now (funs .entry)) (now (arities .entry)) depth
+    requires { ⌜ ReaderReady (now regs) (now funs) (now arities) «first_test» (st .count) ⌝ }
+    ensures { λ r. ⌜ StatementRead (now (text .entry)) (now (regs .entry)) (now (funs .entry)) (now (arities .entry)) «first_test» depth
         (heldBy st (now (code .entry)) (now (first .entry)) (now (second .entry)))
         (heldBy r (now (code .exit)) (now (first .exit)) (now (second .exit))) ⌝ }
 {
     let t = tokens::next(text, st.at);
     if t.key == tokens::IF {
         let p = moved(st, t.end);
-        return conditional(text, regs, funs, arities, p, depth, code, first, second);
+        return conditional(
+            text,
+            regs,
+            funs,
+            arities,
+            first_test,
+            p,
+            depth,
+            code,
+            first,
+            second,
+        );
     }
     if t.key == tokens::WHILE {
         let p = moved(st, t.end);
-        return repeat(text, regs, funs, arities, p, depth, code, first, second);
+        return repeat(
+            text,
+            regs,
+            funs,
+            arities,
+            first_test,
+            p,
+            depth,
+            code,
+            first,
+            second,
+        );
     }
-    plain(text, regs, funs, arities, st, t, code, first, second)
+    plain(
+        text,
+        regs,
+        funs,
+        arities,
+        first_test,
+        st,
+        t,
+        code,
+        first,
+        second,
+    )
 }
 
 // A statement with no block in it, of which t is the first token.
@@ -448,14 +519,15 @@ fn plain(
     regs: &[u64],
     funs: &[u64],
     arities: &[u8],
+    first_test: u8,
     st: ReaderState,
     t: Token,
     code: &mut Codes,
     first: &mut Successors,
     second: &mut Successors,
 ) -> ReaderState
-    requires { ⌜ ReaderReady (now regs) (now funs) (now arities) (st .count) ⌝ }
-    ensures { λ r. ⌜ PlainRead (now (text .entry)) (now (regs .entry)) (now (funs .entry)) (now (arities .entry)) t
+    requires { ⌜ ReaderReady (now regs) (now funs) (now arities) «first_test» (st .count) ⌝ }
+    ensures { λ r. ⌜ PlainRead (now (text .entry)) (now (regs .entry)) (now (funs .entry)) (now (arities .entry)) «first_test» t
         (heldBy st (now (code .entry)) (now (first .entry)) (now (second .entry)))
         (heldBy r (now (code .exit)) (now (first .exit)) (now (second .exit))) ⌝ }
 {
@@ -464,16 +536,16 @@ fn plain(
         return passed(st, phrases::expect(text, tokens::SEMICOLON, t.end));
     }
     if k == tokens::ASSUME {
-        let g = phrases::tested(text, regs, t.end);
-        return settled(st, STEP, g, code, first, second);
+        let g = phrases::tested(text, regs, funs, arities, first_test, t.end);
+        return weighed(st, STEP, g, code, first, second);
     }
     if k == tokens::ASSERT {
-        let g = phrases::tested(text, regs, t.end);
-        return settled(st, CHECK, g, code, first, second);
+        let g = phrases::tested(text, regs, funs, arities, first_test, t.end);
+        return weighed(st, CHECK, g, code, first, second);
     }
     if tokens::is_name(k) {
-        let g = phrases::assignment(text, regs, funs, arities, st.at);
-        return settled(st, STEP, g, code, first, second);
+        let g = phrases::assignment(text, regs, funs, arities, first_test, st.at);
+        return settled(st, g, code, first, second);
     }
     passed(st, phrases::unfitting(t))
 }
@@ -484,25 +556,49 @@ fn conditional(
     regs: &[u64],
     funs: &[u64],
     arities: &[u8],
+    first_test: u8,
     st: ReaderState,
     depth: usize,
     code: &mut Codes,
     first: &mut Successors,
     second: &mut Successors,
 ) -> ReaderState
-    requires { ⌜ ReaderReady (now regs) (now funs) (now arities) (st .count) ⌝ }
-    ensures { λ r. ⌜ ConditionalRead (now (text .entry)) (now (regs .entry)) (now (funs .entry)) (now (arities .entry)) depth
+    requires { ⌜ ReaderReady (now regs) (now funs) (now arities) «first_test» (st .count) ⌝ }
+    ensures { λ r. ⌜ ConditionalRead (now (text .entry)) (now (regs .entry)) (now (funs .entry)) (now (arities .entry)) «first_test» depth
         (heldBy st (now (code .entry)) (now (first .entry)) (now (second .entry)))
         (heldBy r (now (code .exit)) (now (first .exit)) (now (second .exit))) ⌝ }
 {
-    let g = phrases::condition(text, regs, st.at);
-    let p = settled(st, FORK, g, code, first, second);
+    let g = phrases::condition(text, regs, funs, arities, first_test, st.at);
+    let p = weighed(st, FORK, g, code, first, second);
     if p.ok {
-        let one = braces(text, regs, funs, arities, p, depth, code, first, second);
+        let one = braces(
+            text,
+            regs,
+            funs,
+            arities,
+            first_test,
+            p,
+            depth,
+            code,
+            first,
+            second,
+        );
         if one.ok {
-            let two = otherwise(text, regs, funs, arities, one, depth, code, first, second);
+            let two = otherwise(
+                text,
+                regs,
+                funs,
+                arities,
+                first_test,
+                one,
+                depth,
+                code,
+                first,
+                second,
+            );
             if two.ok {
-                branch(two.count, st.count, one.count, first, second);
+                let test = p.count - 1;
+                branch(two.count, test, one.count, first, second);
                 return two;
             }
             return two;
@@ -518,14 +614,15 @@ fn otherwise(
     regs: &[u64],
     funs: &[u64],
     arities: &[u8],
+    first_test: u8,
     st: ReaderState,
     depth: usize,
     code: &mut Codes,
     first: &mut Successors,
     second: &mut Successors,
 ) -> ReaderState
-    requires { ⌜ ReaderReady (now regs) (now funs) (now arities) (st .count) ⌝ }
-    ensures { λ r. ⌜ ElseRead (now (text .entry)) (now (regs .entry)) (now (funs .entry)) (now (arities .entry)) depth
+    requires { ⌜ ReaderReady (now regs) (now funs) (now arities) «first_test» (st .count) ⌝ }
+    ensures { λ r. ⌜ ElseRead (now (text .entry)) (now (regs .entry)) (now (funs .entry)) (now (arities .entry)) «first_test» depth
         (heldBy st (now (code .entry)) (now (first .entry)) (now (second .entry)))
         (heldBy r (now (code .exit)) (now (first .exit)) (now (second .exit))) ⌝ }
 {
@@ -533,7 +630,18 @@ fn otherwise(
     let t = tokens::next(text, at);
     if t.key == tokens::ELSE {
         let p = moved(st, t.end);
-        return braces(text, regs, funs, arities, p, depth, code, first, second);
+        return braces(
+            text,
+            regs,
+            funs,
+            arities,
+            first_test,
+            p,
+            depth,
+            code,
+            first,
+            second,
+        );
     }
     moved(st, at)
 }
@@ -544,23 +652,36 @@ fn repeat(
     regs: &[u64],
     funs: &[u64],
     arities: &[u8],
+    first_test: u8,
     st: ReaderState,
     depth: usize,
     code: &mut Codes,
     first: &mut Successors,
     second: &mut Successors,
 ) -> ReaderState
-    requires { ⌜ ReaderReady (now regs) (now funs) (now arities) (st .count) ⌝ }
-    ensures { λ r. ⌜ RepeatRead (now (text .entry)) (now (regs .entry)) (now (funs .entry)) (now (arities .entry)) depth
+    requires { ⌜ ReaderReady (now regs) (now funs) (now arities) «first_test» (st .count) ⌝ }
+    ensures { λ r. ⌜ RepeatRead (now (text .entry)) (now (regs .entry)) (now (funs .entry)) (now (arities .entry)) «first_test» depth
         (heldBy st (now (code .entry)) (now (first .entry)) (now (second .entry)))
         (heldBy r (now (code .exit)) (now (first .exit)) (now (second .exit))) ⌝ }
 {
-    let g = phrases::condition(text, regs, st.at);
-    let p = settled(st, FORK, g, code, first, second);
+    let g = phrases::condition(text, regs, funs, arities, first_test, st.at);
+    let p = weighed(st, FORK, g, code, first, second);
     if p.ok {
-        let body = braces(text, regs, funs, arities, p, depth, code, first, second);
+        let body = braces(
+            text,
+            regs,
+            funs,
+            arities,
+            first_test,
+            p,
+            depth,
+            code,
+            first,
+            second,
+        );
         if body.ok {
-            repeat_from(body.count, st.count, first, second);
+            let test = p.count - 1;
+            repeat_from(body.count, test, st.count, first, second);
             return body;
         }
         return body;
@@ -574,14 +695,15 @@ fn braces(
     regs: &[u64],
     funs: &[u64],
     arities: &[u8],
+    first_test: u8,
     st: ReaderState,
     depth: usize,
     code: &mut Codes,
     first: &mut Successors,
     second: &mut Successors,
 ) -> ReaderState
-    requires { ⌜ ReaderReady (now regs) (now funs) (now arities) (st .count) ⌝ }
-    ensures { λ r. ⌜ BracesRead (now (text .entry)) (now (regs .entry)) (now (funs .entry)) (now (arities .entry)) depth
+    requires { ⌜ ReaderReady (now regs) (now funs) (now arities) «first_test» (st .count) ⌝ }
+    ensures { λ r. ⌜ BracesRead (now (text .entry)) (now (regs .entry)) (now (funs .entry)) (now (arities .entry)) «first_test» depth
         (heldBy st (now (code .entry)) (now (first .entry)) (now (second .entry)))
         (heldBy r (now (code .exit)) (now (first .exit)) (now (second .exit))) ⌝ }
 {
@@ -592,7 +714,18 @@ fn braces(
             return stopped(NESTING_TOO_DEEP, t.start);
         }
         let p = moved(st, t.end);
-        let b = block(text, regs, funs, arities, p, depth - 1, code, first, second);
+        let b = block(
+            text,
+            regs,
+            funs,
+            arities,
+            first_test,
+            p,
+            depth - 1,
+            code,
+            first,
+            second,
+        );
         if b.ok {
             let end = b.at;
             return passed(b, phrases::expect(text, tokens::RBRACE, end));

@@ -14,7 +14,7 @@ use Rattle.streaming.specs.Run.{runAnswer}
 use Rattle.streaming.specs.Stream.{judgedBytes}
 use Rattle.model_writer.specs.Answer.{answerTo, outputAfter, Means}
 use Rattle.model_writer.specs.Answer as shown
-use Rattle.grammar.specs.Grammar.{Macro}
+use Rattle.grammar.specs.Grammar.{Macro, headerOf, expanded}
 use Rattle.refusals.specs.Order.{Refusal}
 use Rattle.refusals.specs.Accepted.{Accepted}
 
@@ -65,10 +65,10 @@ modelOutput trace out answer = pick (ltb (length answer) modelCount) (λ _. out)
 abbrev pub ModelMeans : (trace out out′ : List ℕ) → Type 0
 ModelMeans trace out out′ = Means trace out (answerTo (readingWithin mostLetters firstEdition trace) (length out)) out′
 
--- ---- The reader: refusal, place, registers, functions, points.
+-- ---- The reader: refusal, place, registers (hidden ones too), functions (tests too), points.
 
 unfoldable pub acceptedNumbers : Macro → List ℕ
-acceptedNumbers m = 0 ∷ 0 ∷ length (m .registers) ∷ length (m .functions) ∷ sizeBlock (m .body) ∷ []
+acceptedNumbers m = 0 ∷ 0 ∷ headerOf m .registers ∷ headerOf m .functions ∷ sizeBlock (expanded m) ∷ []
 
 unfoldable pub refusedNumbers : (number place : ℕ) → List ℕ
 refusedNumbers number place = number ∷ place ∷ 0 ∷ 0 ∷ 0 ∷ []

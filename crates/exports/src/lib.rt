@@ -113,7 +113,7 @@ fn macro_numbers(read: MacroRead) -> [u64; MACRO_NUMBERS]
     ]
 }
 
-/// Reads a macro: the refusal and its place, 0 for none; the counts of its registers, functions and points, 0 on a refusal.
+/// Reads a macro: the refusal and its place, 0 for none; the counts of its registers (hidden ones too), functions (tests too) and points, 0 on a refusal.
 #[no_mangle]
 pub extern "C" fn fadzgime_read(text: &[u8], answer: &mut [u64])
     ensures { λ _. ⌜ ReadsMacro (now (text .entry)) (now (answer .entry)) (now (answer .exit)) ⌝ }

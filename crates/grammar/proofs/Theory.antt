@@ -1,8 +1,11 @@
 pub mod Reading
 pub mod HeaderLaws
+pub mod Expanded
 pub mod Sound
 pub mod Complete
 pub mod Declarations
+pub mod Parts
 pub mod Advance
 pub mod Whole
 pub mod Enough
+pub mod Hidden

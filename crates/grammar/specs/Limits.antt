@@ -11,3 +11,7 @@ mostPoints = 256
 -- "Braces nest at most 16 deep." (SPEC 1.3, 8.5)
 abbrev pub deepestNesting : ℕ
 deepestNesting = 16
+
+-- "the hidden register `result`", "the hidden register `truth`" (document 02, request 4): so many follow the declared ones where tests are declared.
+abbrev pub hiddenRegisters : ℕ
+hiddenRegisters = 2

@@ -1,16 +1,18 @@
 -- When the tokens of a text are the sentence of a macro, and when the declarations of a macro are in order (SPEC 8.3 to 8.5).
 use mathlib.Core.Path.{_≡_}
-use Prim.Native.Nat.{ℕ, _+_, _≤_, _<_}
+use Prim.Native.Nat.{ℕ, _+_, _*_, _-_, _≤_, _<_}
 use mathlib.Core.Bool.{true}
-use mathlib.Core.List.{List, [], _∷_}
+use mathlib.Core.List.{List, [], _∷_, _++_}
+use lib.Dec.{eqb, ltb}
 use lib.ListN.{length, getD}
+use Rattle.base.specs.Choice.{pick}
 use Rattle.letters.specs.Editions.{mostRegisters, mostFunctions}
-use Rattle.macros.specs.Tree.{ProperBlock}
 use Rattle.tokens.specs.Tokens.{tokenAt, placeOf, spellings}
 use Rattle.tokens.specs.Words.{isName}
 use Rattle.tokens.specs.Words as word
-use Rattle.grammar.specs.Limits.{deepestNesting}
-use Rattle.grammar.specs.Grammar.{Macro, headerOf, sentence, NestsBlock}
+use Rattle.grammar.specs.Limits.{deepestNesting, hiddenRegisters}
+use Rattle.grammar.specs.Tree.{ProperBlock}
+use Rattle.grammar.specs.Grammar.{Macro, header, sentence, NestsBlock}
 
 -- The tokens of the text s from one place to another are the listed ones, by their keys (SPEC 8.2, 8.3).
 pub data Spells (s : List ℕ) : ℕ → List ℕ → ℕ → Type 0 where
@@ -36,12 +38,29 @@ firstFunction n = n + beforeFunctions
 abbrev pub entryLength : ℕ
 entryLength = 3
 
--- The names of n registers, and of m functions behind them, as the tokens that declare them are spelled (SPEC 8.4).
+-- a line of m entries: its word, the entries and `;`, where there are some
+abbrev pub besideEntries : ℕ
+besideEntries = 2
+
+abbrev pub lineLength : ℕ → ℕ
+lineLength m = pick (eqb m 0) (λ _. 0) λ _. entryLength * m + besideEntries
+
+-- "A line `tests hot/1;` may follow the `vars` line, or the `funs` line where there is one" (document 02, request 4): `tests` stands where `funs` would
+-- stand, or behind the line of the m functions
+abbrev pub firstTest : ℕ → ℕ → ℕ
+firstTest n m = firstFunction n + lineLength m
+
+-- The token that declares function f, behind n registers, where functions from number m on are tests.
+abbrev pub functionToken : ℕ → ℕ → ℕ → ℕ
+functionToken n m f = pick (ltb f m) (λ _. firstFunction n + entryLength * f) λ _. firstTest n m + entryLength * (f - m)
+
+-- The names of n registers, and of k functions behind them, of which those from number m on are tests, as the tokens that declare them are spelled
+-- (SPEC 8.4).
 abbrev pub spelledRegisters : List ℕ → ℕ → List ℕ
 spelledRegisters s n = spellings s (placeOf s firstRegister) registerLength n
 
-abbrev pub spelledFunctions : List ℕ → ℕ → ℕ → List ℕ
-spelledFunctions s n m = spellings s (placeOf s (firstFunction n)) entryLength m
+abbrev pub spelledFunctions : List ℕ → ℕ → ℕ → ℕ → List ℕ
+spelledFunctions s n m k = spellings s (placeOf s (firstFunction n)) entryLength m ++ spellings s (placeOf s (firstTest n m)) entryLength (k - m)
 
 -- The tokens of the whole text are the sentence of the macro, and its names are spelled as they are declared (SPEC 8.3, 8.4).
 pub record Spelled (s : List ℕ) (m : Macro) : Type 0 where
@@ -49,7 +68,7 @@ pub record Spelled (s : List ℕ) (m : Macro) : Type 0 where
   pub tokens : Spells s 0 (sentence m) place
   pub ended : tokenAt s place .key ≡ word.end
   pub registerSpellings : m .registerSpellings ≡ spelledRegisters s (length (m .registers))
-  pub functionSpellings : m .functionSpellings ≡ spelledFunctions s (length (m .registers)) (length (m .functions))
+  pub functionSpellings : m .functionSpellings ≡ spelledFunctions s (length (m .registers)) (m .firstTest) (length (m .functions))
 
 -- Each is a name, and no two are the same (SPEC 8.4).
 pub record Declared (rs : List ℕ) : Type 0 where
@@ -66,7 +85,7 @@ pub data Arities : List ℕ → List ℕ → Type 0 where
   one : {f : ℕ} {fs ns : List ℕ} → Arities fs ns → Arities (f ∷ fs) (1 ∷ ns)
   two : {f : ℕ} {fs ns : List ℕ} → Arities fs ns → Arities (f ∷ fs) (2 ∷ ns)
 
--- Declarations, uses and depth are in order (SPEC 8.4, 8.5; questions 10 to 12).
+-- Declarations, uses and depth are in order (SPEC 8.4, 8.5; questions 10 to 12 and 16).
 pub record InOrder (m : Macro) : Type 0 where
   pub registers : Declared (m .registers)
   pub some : 1 ≤ length (m .registers)
@@ -75,5 +94,7 @@ pub record InOrder (m : Macro) : Type 0 where
   pub apart : Disjoint (m .registers) (m .functions)
   pub arities : Arities (m .functions) (m .arities)
   pub fewer : length (m .functions) ≤ mostFunctions
-  pub uses : ProperBlock (m .body) (headerOf m)
+  pub tests : m .firstTest ≤ length (m .functions)
+  pub room : m .firstTest < length (m .functions) → length (m .registers) + hiddenRegisters ≤ mostRegisters
+  pub uses : ProperBlock (m .body) (header (m .registers) (m .functions) (m .arities)) (m .firstTest)
   pub depth : NestsBlock (m .body) deepestNesting

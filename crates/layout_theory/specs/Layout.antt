@@ -6,10 +6,10 @@ use mathlib.Core.List.{List, [], _∷_, _++_}
 use lib.Dec.{eqb}
 use Rattle.base.specs.Choice.{pick}
 use Rattle.base.specs.Bytes.{byteValues}
-use Rattle.macros.specs.Tree.{Statement, skip, perform, assert, if, while, Else, absent, present, Block, empty, _then_}
 use Rattle.tokens.specs.Bytes.{letter, digit}
 use Rattle.tokens.specs.Words as word
 use Rattle.text.specs.Names.{nameText}
+use Rattle.grammar.specs.Tree.{Statement, skip, assign, assume, assert, if, while, Else, absent, present, Block, empty, _then_}
 use Rattle.grammar.specs.Grammar.{Macro, sentence}
 use Rattle.grammar.specs.Limits.{longestText}
 
@@ -24,7 +24,8 @@ elseOf (s then b) = present (s then b)
 abbrev mutual
   pub shortStatement : Statement → Statement
   shortStatement skip = skip
-  shortStatement (perform a) = perform a
+  shortStatement (assign a) = assign a
+  shortStatement (assume c) = assume c
   shortStatement (assert c) = assert c
   shortStatement (if c b e) = if c (shortBlock b) (shortElse e)
   shortStatement (while c b) = while c (shortBlock b)
@@ -44,6 +45,7 @@ withoutEmptyElses m = record {
   functions = m .functions;
   functionSpellings = m .functionSpellings;
   arities = m .arities;
+  firstTest = m .firstTest;
   body = shortBlock (m .body);
 }
 
@@ -57,6 +59,7 @@ asDeclared m = record {
   functions = m .functionSpellings;
   functionSpellings = m .functionSpellings;
   arities = m .arities;
+  firstTest = m .firstTest;
   body = m .body;
 }
 

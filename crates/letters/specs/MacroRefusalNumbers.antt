@@ -1,4 +1,5 @@
--- The numbers of the refusals of a macro (SPEC 11.3, 11.4; document 01, and 15 document 02), each with its question. 6 is that of a trace too: RefusalNumbers.
+-- The numbers of the refusals of a macro (SPEC 11.3, 11.4; document 01, and 15 and 16 document 02), each with its question. 6 is that of a trace too:
+-- RefusalNumbers.
 use Prim.Native.Nat.{ℕ}
 
 -- Of a macro. "At most 4,096 bytes? 7." (SPEC 11.3)
@@ -36,3 +37,7 @@ tableTooSmall = 14
 -- Of the house layout: "15, given last, when the print passes the lent buffer or 4,096 bytes" (SPEC 11.3; document 02, request 2)
 abbrev pub printTooLong : ℕ
 printTooLong = 15
+
+-- "16, at the word `tests`, when more than six registers were declared" (SPEC 11.4; document 02, request 4)
+abbrev pub noRoomForTests : ℕ
+noRoomForTests = 16

@@ -1,4 +1,4 @@
-// The numbers of the refusals (SPEC 11.2 to 11.4; document 01, and 15 document 02).
+// The numbers of the refusals (SPEC 11.2 to 11.4; document 01, and 15 and 16 document 02).
 
 /// Of a trace. "At least two bytes? 1."
 pub const TRACE_TOO_SHORT: u8 = 1;
@@ -44,3 +44,6 @@ pub const TABLE_TOO_SMALL: u8 = 14;
 
 /// Of the house layout: "15, given last, when the print passes the lent buffer or 4,096 bytes".
 pub const PRINT_TOO_LONG: u8 = 15;
+
+/// "16, at the word `tests`, when more than six registers were declared".
+pub const NO_ROOM_FOR_TESTS: u8 = 16;

@@ -3,6 +3,7 @@ pub mod Numbers
 pub mod Order
 pub mod Walk
 pub mod Branches
+pub mod WrittenOut
 pub mod Points
 pub mod Runs
 pub mod Fitting

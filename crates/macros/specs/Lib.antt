@@ -1,4 +1,6 @@
+pub mod Plain
 pub mod Tree
+pub mod WrittenOut
 pub mod Executions
 pub mod Words
 pub mod Order

@@ -8,7 +8,8 @@ use Rattle.letters.specs.declared.Letter.{Letter}
 use Rattle.semantics.specs.Terms.{Trace}
 use Rattle.macros.specs.Order.{Branch, first, second, Path}
 use Rattle.macros.specs.Walk.{at, failure, Move, no-move, move, Stand, walk}
-use Rattle.macros.specs.Tree.{Condition, test, opposite, Statement, skip, perform, assert, if, while, Else, absent, present, Block, empty, _then_}
+use Rattle.macros.specs.Tree.{Condition, test, opposite, Statement, skip, perform, assert, if, while, whileAfter, Else, absent, present, Block, empty}
+use Rattle.macros.specs.Tree.{_then_}
 
 -- A point, with the numbers of the points that follow it.
 pub data Point : Type 0 where
@@ -24,6 +25,7 @@ unfoldable mutual
   sizeStatement (assert c) = 1
   sizeStatement (if c b e) = suc (sizeBlock b + sizeElse e)
   sizeStatement (while c b) = suc (sizeBlock b)
+  sizeStatement (whileAfter a c b) = suc (suc (sizeBlock b))
 
   pub sizeElse : Else → ℕ
   sizeElse absent = 0
@@ -38,7 +40,8 @@ unfoldable pub entry : ℕ → ℕ → ℕ → ℕ
 entry zero b follow = follow
 entry (suc n) b follow = b
 
--- The points of a part, numbered from b on. After it, `follow` comes. After the body of a while, the while comes again.
+-- The points of a part, numbered from b on. After it, `follow` comes. After the body of a while, the while comes again, from its first point on:
+-- "Each named test is two points, a while returning to the first" (document 02, request 4).
 unfoldable mutual
   pub compile : Statement → ℕ → ℕ → List Point
   compile skip b follow = []
@@ -48,6 +51,7 @@ unfoldable mutual
       fork c (entry (sizeBlock t) (b + 1) follow) (entry (sizeElse e) (b + 1 + sizeBlock t) follow) ∷
       (compileBlock t (b + 1) follow ++ compileElse e (b + 1 + sizeBlock t) follow)
   compile (while c t) b follow = fork c (entry (sizeBlock t) (b + 1) b) follow ∷ compileBlock t (b + 1) b
+  compile (whileAfter a c t) b follow = step a (b + 1) ∷ fork c (entry (sizeBlock t) (b + 2) b) follow ∷ compileBlock t (b + 2) b
 
   pub compileElse : Else → ℕ → ℕ → List Point
   compileElse absent b follow = []

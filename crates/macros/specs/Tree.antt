@@ -1,22 +1,10 @@
--- Macros as trees (SPEC 8.3, 8.4, 9.1; document 01). Registers and functions are numbered by their places in the declarations.
+-- Macros as trees, of which their points are made (SPEC 8.3, 8.4, 9.1, 9.3; document 01). Registers and functions are numbered by their places in the
+-- declarations. What a text spells is a wider tree, `Rattle.grammar.specs.Tree`; `expanded` there makes this one of it.
 use Prim.Native.Nat.{ℕ}
 use Rattle.letters.specs.declared.Header.{Header}
 use Rattle.letters.specs.declared.Letter.{Letter}
-use Rattle.letters.specs.declared.Letter.the-variants.{Equal, Unequal}
 use Rattle.letters.specs.Letters.{Fits}
-
--- "C is `a = b` or `a != b`." (SPEC 8.3, 9.1)
-pub data Condition : Type 0 where
-  equal unequal : ℕ → ℕ → Condition
-
--- The letter that tests a condition, and the letter that tests its opposite. The operands keep their order (SPEC 9.1).
-abbrev pub test : Condition → Letter
-test (equal x y) = Equal x y
-test (unequal x y) = Unequal x y
-
-abbrev pub opposite : Condition → Letter
-opposite (equal x y) = Unequal x y
-opposite (unequal x y) = Equal x y
+pub use Rattle.macros.specs.Plain.{Condition, equal, unequal, test, opposite}
 
 -- "A block holds statements, and a statement may hold blocks, empty ones too." (SPEC 8.3)
 mutual
@@ -27,6 +15,8 @@ mutual
     assert : Condition → Statement
     if : Condition → Block → Else → Statement
     while : Condition → Block → Statement
+    -- a while that performs a letter before each of its tests (SPEC 9.1; document 02, request 4: "a while returning to the first")
+    whileAfter : Letter → Condition → Block → Statement
 
   -- "an optional `else { .. }`" (SPEC 8.3)
   pub data Else : Type 0 where
@@ -47,6 +37,7 @@ abbrev mutual
   Proper (assert c) h = Fits h (test c)
   Proper (if c b e) h = Fits h (test c) × ProperBlock b h × ProperElse e h
   Proper (while c b) h = Fits h (test c) × ProperBlock b h
+  Proper (whileAfter a c b) h = Fits h a × Fits h (test c) × ProperBlock b h
 
   pub ProperElse : Else → Header → Type 0
   ProperElse absent h = Unit {0}

@@ -2,7 +2,7 @@
 use mathlib.Core.Path.{_≡_}
 use mathlib.Core.List.{List, [], _∷_, _++_}
 use Rattle.letters.specs.declared.Letter.{Letter}
-use Rattle.macros.specs.Tree.{Condition, test, opposite, Statement, skip, perform, assert, if, while, Else, absent, present, Block, empty, _then_}
+use Rattle.macros.specs.Plain.{Condition, test, opposite, Statement, skip, perform, assert, if, while, Else, absent, present, Block, empty, _then_}
 use Rattle.macros.specs.Executions.{Outcome, done, failed}
 
 -- "Exec(s)", the words of a statement: an equation with the word where Definition 2 joins words (SPEC 9.2).

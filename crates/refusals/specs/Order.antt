@@ -5,7 +5,7 @@ use lib.ListN.{length}
 use Rattle.letters.specs.MacroRefusalNumbers.{textTooLong, pointsTooMany}
 use Rattle.macros.specs.Points.{sizeBlock}
 use Rattle.grammar.specs.Limits.{longestText, mostPoints}
-use Rattle.grammar.specs.Grammar.{Macro}
+use Rattle.grammar.specs.Grammar.{Macro, expanded}
 use Rattle.grammar.specs.Spelled.{Spelled, InOrder}
 use Rattle.refusals.specs.FirstNo.{FirstNo}
 
@@ -16,4 +16,4 @@ pub data Refusal (s : List ℕ) : ℕ → ℕ → Type 0 where
   -- "Then token by token, the lowest number at one token": 8 to 12 (SPEC 11.4)
   token : {n p : ℕ} → length s ≤ longestText → FirstNo s n p → Refusal s n p
   -- "Then: at most 256 points? 13." (SPEC 11.3)
-  points : (m : Macro) → length s ≤ longestText → Spelled s m → InOrder m → mostPoints < sizeBlock (m .body) → Refusal s pointsTooMany 0
+  points : (m : Macro) → length s ≤ longestText → Spelled s m → InOrder m → mostPoints < sizeBlock (expanded m) → Refusal s pointsTooMany 0

@@ -12,9 +12,11 @@ pub record Name : Type 0 where
   pub key : ℕ
   pub real : isName key ≡ true
 
--- "C is `a = b` or `a != b`." (SPEC 8.3)
+-- "C is `a = b`, `a != b`, `t(a)`, `t(a,b)`, `!t(a)` or `!t(a,b)`." (SPEC 8.3)
 pub data NamedCondition : Type 0 where
   equal unequal : Name → Name → NamedCondition
+  holds fails : Name → Name → NamedCondition
+  holds-two fails-two : Name → Name → Name → NamedCondition
 
 -- SPEC 8.3: "Statements: `skip;` `a := b;` `a := f(b);` `a := f(b,c);` `assume C;` `assert C;` `if C { .. }` with an optional `else { .. }`, `while C { .. }`."
 mutual
@@ -37,15 +39,17 @@ mutual
     empty : NamedBlock
     _followedBy_ : NamedStatement → NamedBlock → NamedBlock
 
--- "entries such as `cap/1`": of a function of one argument, or of two (SPEC 8.3)
+-- "entries such as `cap/1`": of a function or a test of one argument, or of two (SPEC 8.3)
 pub data Entry : Type 0 where
   one two : Name → Entry
 
--- "A macro is `vars` names `;`, then perhaps `funs` entries .. and `;` (at least one in each list), then statements, perhaps none." (SPEC 8.3)
+-- "A macro is `vars` names `;`, then perhaps `funs` entries .. and `;` (at least one in each list), then perhaps `tests` entries and `;`, then statements,
+-- perhaps none." (SPEC 8.3)
 pub record NamedMacro : Type 0 where
   pub first : Name
   pub others : List Name
-  pub entries : List Entry
+  pub functions : List Entry
+  pub tests : List Entry
   pub body : NamedBlock
 
 -- ---- the tokens of each, and then the tokens ws
@@ -53,6 +57,10 @@ pub record NamedMacro : Type 0 where
 abbrev pub conditionThen : NamedCondition → List ℕ → List ℕ
 conditionThen (NamedCondition.equal a b) ws = a .key ∷ word.equalKey ∷ b .key ∷ ws
 conditionThen (NamedCondition.unequal a b) ws = a .key ∷ word.unequalKey ∷ b .key ∷ ws
+conditionThen (NamedCondition.holds t a) ws = t .key ∷ word.lparenKey ∷ a .key ∷ word.rparenKey ∷ ws
+conditionThen (NamedCondition.fails t a) ws = word.notKey ∷ t .key ∷ word.lparenKey ∷ a .key ∷ word.rparenKey ∷ ws
+conditionThen (NamedCondition.holds-two t a b) ws = t .key ∷ word.lparenKey ∷ a .key ∷ word.commaKey ∷ b .key ∷ word.rparenKey ∷ ws
+conditionThen (NamedCondition.fails-two t a b) ws = word.notKey ∷ t .key ∷ word.lparenKey ∷ a .key ∷ word.commaKey ∷ b .key ∷ word.rparenKey ∷ ws
 
 abbrev mutual
   pub statementThen : NamedStatement → List ℕ → List ℕ
@@ -86,12 +94,15 @@ abbrev pub entriesThen : List Entry → List ℕ → List ℕ
 entriesThen [] ws = ws
 entriesThen (f ∷ fs) ws = entryThen f (entriesThen fs ws)
 
-abbrev pub functionsThen : List Entry → List ℕ → List ℕ
-functionsThen [] ws = ws
-functionsThen (f ∷ fs) ws = word.funsKey ∷ entriesThen (f ∷ fs) (word.semicolonKey ∷ ws)
+-- a line that begins with the word k, or none
+abbrev pub lineThen : ℕ → List Entry → List ℕ → List ℕ
+lineThen k [] ws = ws
+lineThen k (f ∷ fs) ws = k ∷ entriesThen (f ∷ fs) (word.semicolonKey ∷ ws)
 
 abbrev pub namedSentence : NamedMacro → List ℕ
-namedSentence m = word.varsKey ∷ m .first .key ∷ namesThen (m .others) (word.semicolonKey ∷ functionsThen (m .entries) (blockThen (m .body) []))
+namedSentence m =
+    word.varsKey ∷ m .first .key ∷ namesThen (m .others)
+    (word.semicolonKey ∷ lineThen word.funsKey (m .functions) (lineThen word.testsKey (m .tests) (blockThen (m .body) [])))
 
 -- ---- sentences, and what begins one
 

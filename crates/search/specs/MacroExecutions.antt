@@ -9,12 +9,13 @@ use lib.ListN.{getD}
 use Rattle.base.specs.Choice.{pick}
 use Rattle.letters.specs.declared.Letter.{Letter}
 use Rattle.semantics.specs.Terms.{begin, traceOf}
-use Rattle.macros.specs.Tree.{Block}
+use Rattle.macros.specs.Plain.{Block}
+use Rattle.macros.specs.WrittenOut.{writtenOut}
 use Rattle.macros.specs.Executions.{Outcome, done, failed}
 use Rattle.macros.specs.Words.{WordBlock}
 use Rattle.macros.specs.Order.{Branch, first, second, Path}
 use Rattle.macros.specs.Walk.{Place, at, failure, Move, no-move, stand, walk}
-use Rattle.grammar.specs.Grammar.{Macro}
+use Rattle.grammar.specs.Grammar.{Macro, expanded}
 use Rattle.syntax.specs.declared.MacroRead.{MacroRead}
 use Rattle.syntax.specs.declared.CompiledMacro as struct
 use Rattle.grammar.specs.Limits.{mostPoints}
@@ -50,5 +51,5 @@ pub record Demand2Macros (text : List ℕ) (answer : MacroRead) : Type 0 where
   -- a text of the grammar is read, and no other one (SPEC 8, 11.3)
   pub reads : (m : Macro) → Accepted text m → answer .refusal ≡ 0
   pub grammatical : answer .refusal ≡ 0 → (m : Macro) × Accepted text m
-  -- and what was read has the executions of the macro (SPEC 9.2)
-  pub executes : (m : Macro) → Accepted text m → HasExecutions (answer .program) (m .body)
+  -- and what was read has the executions of the macro, named tests written out (SPEC 9.1, 9.2)
+  pub executes : (m : Macro) → Accepted text m → HasExecutions (answer .program) (writtenOut (expanded m))

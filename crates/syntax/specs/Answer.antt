@@ -12,8 +12,8 @@ use Rattle.tokens.specs.Words as word
 use Rattle.tokens.specs.Tokens.{tokenAt}
 use Rattle.tokens.specs.declared.Token.{Token}
 use Rattle.grammar.specs.Limits.{deepestNesting}
-use Rattle.grammar.specs.Grammar.{Macro, headerOf}
-use Rattle.grammar.specs.Reading.{Got, got, exhausted, andThen, block, functionsT, macroRead, finishT, countT}
+use Rattle.grammar.specs.Grammar.{Macro, headerOf, shownRegisters, expanded}
+use Rattle.grammar.specs.Reading.{Got, got, exhausted, andThen, block, functionsT, testsT, macroRead, finishT, countT}
 use Rattle.blocks.specs.Held.{pointTable, heldPoint}
 use Rattle.syntax.specs.declared.CompiledMacro as held
 use Rattle.syntax.specs.declared.MacroRead.{MacroRead}
@@ -24,14 +24,15 @@ use Rattle.syntax.specs.declared.Functions.{Functions}
 abbrev pub padded : ℕ → List ℕ → List ℕ
 padded n l = l ++ replicate (n - length l) 0
 
--- A macro as the struct holds it: its header, its names as they are declared, and its points.
+-- A macro as the struct holds it: its header, its names as they are declared, the words of the hidden registers behind those of the registers, and its
+-- points.
 unfoldable pub heldMacro : Macro → held.CompiledMacro
 heldMacro m = record {
   header = headerOf m;
-  registers = padded mostRegisters (m .registerSpellings);
+  registers = padded mostRegisters (shownRegisters m);
   functions = padded mostFunctions (m .functionSpellings);
-  points = pointTable (map heldPoint (points (m .body)));
-  count = sizeBlock (m .body);
+  points = pointTable (map heldPoint (points (expanded m)));
+  count = sizeBlock (expanded m);
 }
 
 -- what the struct holds beside a refusal
@@ -85,12 +86,16 @@ module _ (s : List ℕ) where
   abbrev pub endFrom : Macro → ℕ → Got Macro
   endFrom m e = andThen (finishT s m (tokenAt s e)) (countT s)
 
-  -- behind the declarations
-  unfoldable pub bodyFrom : List ℕ → List ℕ → List ℕ → ℕ → Got Macro
-  bodyFrom rs fs ns c =
-      andThen (block s rs fs ns (2 * length s + 1) deepestNesting c) λ body e.
-      endFrom (macroRead s rs fs ns body) e
+  -- behind the declarations: the functions fs, from number m on tests
+  unfoldable pub bodyFrom : List ℕ → List ℕ → List ℕ → ℕ → ℕ → Got Macro
+  bodyFrom rs fs ns m c =
+      andThen (block s rs fs ns m (2 * length s + 1) deepestNesting c) λ body e.
+      endFrom (macroRead s rs fs ns m body) e
+
+  -- behind the functions
+  unfoldable pub testsFrom : List ℕ → List ℕ → List ℕ → ℕ → Got Macro
+  testsFrom rs fs ns c = andThen (testsT s rs fs ns c (tokenAt s c)) λ r d. bodyFrom rs (r .0) (r .1) (length fs) d
 
   -- behind the registers
   unfoldable pub functionsFrom : List ℕ → ℕ → Got Macro
-  functionsFrom rs b = andThen (functionsT s rs b (tokenAt s b)) λ r c. bodyFrom rs (r .0) (r .1) c
+  functionsFrom rs b = andThen (functionsT s rs b (tokenAt s b)) λ r c. testsFrom rs (r .0) (r .1) c

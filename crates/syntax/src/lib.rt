@@ -9,6 +9,7 @@ use letters::limits::MOST_FUNCTIONS;
 use letters::limits::MOST_REGISTERS;
 use letters::refusal_numbers::DECLARATION_WRONG;
 use letters::refusal_numbers::GRAMMAR_VIOLATED;
+use letters::refusal_numbers::NO_ROOM_FOR_TESTS;
 use letters::refusal_numbers::POINTS_TOO_MANY;
 use letters::refusal_numbers::TEXT_TOO_LONG;
 use letters::refusal_numbers::TOKEN_MALFORMED;
@@ -17,19 +18,22 @@ use tokens::Token;
 ghost use mathlib.Core.Path.{_≡_};
 ghost use mathlib.Core.Bool.{_||_};
 ghost use mathlib.Core.List.{[]};
-ghost use Prim.Native.Nat.{_≤_};
+ghost use Prim.Native.Nat.{_+_, _-_, _≤_, _<_};
 ghost use lib.Dec.{eqb};
 ghost use lib.ListN.{take, length};
 ghost use Rattle.letters.specs.Editions.{mostRegisters, mostFunctions};
+ghost use Rattle.grammar.specs.Limits.{hiddenRegisters};
+ghost use Rattle.grammar.specs.Spelled.{lineLength};
 ghost use Rattle.grammar.specs.Grammar.{binaryOf};
-ghost use Rattle.grammar.specs.Reading.{Got, isDeclared, listedT, registerNames as registersAt, functionEntries as functionsAt, functionsT, arityOf};
+ghost use Rattle.grammar.specs.Reading.{Got, isDeclared, listedT, registerNames as registersAt, lineFrom, functionsT, testsT, arityOf};
 ghost use Rattle.tokens.specs.Tokens.{tokenAt};
 ghost use Rattle.phrases.specs.Codes.{plain};
 ghost use Rattle.blocks.specs.Held.{heldBy};
-ghost use Rattle.syntax.specs.Answer.{noMacro, heldReading, heldRegisters, heldFunctions, refusedTokenNumber, bodyFrom, functionsFrom};
+ghost use Rattle.syntax.specs.Answer.{noMacro, heldReading, heldRegisters, heldFunctions, refusedTokenNumber, bodyFrom, testsFrom, functionsFrom};
 ghost use Rattle.syntax.specs.Lists.{NamesPadded, refusedBy};
 ghost use Rattle.syntax.specs.Reads.{Reads};
 ghost use Rattle.syntax.specs.Top.{RegistersPadded, FunctionsPadded, paddedRegisters, paddedFunctions, Finishes, headed, readerStart, arityFlag};
+ghost use Rattle.syntax.specs.Top.{hiddenCount, RoomForHidden, spelledBehind};
 
 /// The most bytes that a macro's text has.
 pub const LONGEST_TEXT: usize = 4096;
@@ -49,14 +53,20 @@ const BEFORE_FUNCTIONS: usize = 3;
 // The tokens of a function's entry: its name, `/` and how many arguments.
 const ENTRY_LENGTH: usize = 3;
 
+// The tokens of a line beside its entries: its word and `;`.
+const BESIDE_ENTRIES: usize = 2;
+
+// The registers that are hidden behind the declared ones where tests are declared: `result` and `truth`.
+const HIDDEN_REGISTERS: usize = 2;
+
 /// A macro. A name is held as one number, its bytes as they are declared as digits to base `tokens::BYTE_VALUES`, the first byte lowest; 0 stands
 /// behind the last name.
 pub struct CompiledMacro {
     /// How many registers and functions it has, and the functions' arities.
     pub header: Header,
-    /// The names of its registers, as declared.
+    /// The names of its registers, as declared; behind them, where tests are declared, `result` and `truth`.
     pub registers: [u64; MOST_REGISTERS],
-    /// The names of its functions, as declared.
+    /// The names of its functions, as declared, and behind them those of its tests.
     pub functions: [u64; MOST_FUNCTIONS],
     /// Its points.
     pub points: [PointEntry; POINT_SPACE],
@@ -90,7 +100,7 @@ pub struct Registers {
     pub names: [u64; MOST_REGISTERS],
 }
 
-/// The functions that were read, with their arities, or a refusal.
+/// The functions that were read, tests behind the others, with their arities, or a refusal.
 pub struct Functions {
     /// Whether nothing was refused.
     pub ok: bool,
@@ -241,18 +251,19 @@ fn refused_functions(g: GotNumber) -> Functions
     }
 }
 
-// Behind the last function.
+// Behind the last entry of a line, of which entry number `first` was the first.
 fn functions_end(
     names: [u64; MOST_FUNCTIONS],
     arities: [u8; MOST_FUNCTIONS],
     count: usize,
+    first: usize,
     t: Token,
 ) -> Functions
-    requires { ⌜ NamesPadded mostFunctions names count × NamesPadded mostFunctions arities count ⌝ }
-    ensures { λ r. ⌜ r ≡ heldFunctions (listedT [] (length (take count names)) (take count names, take count arities) t) ⌝ }
+    requires { ⌜ NamesPadded mostFunctions names count × NamesPadded mostFunctions arities count × (first ≤ count) ⌝ }
+    ensures { λ r. ⌜ r ≡ heldFunctions (listedT [] (length (take count names) - first) (take count names, take count arities) t) ⌝ }
 {
     if t.key == tokens::SEMICOLON {
-        if count == 0 {
+        if count == first {
             return no_functions(GRAMMAR_VIOLATED, t.start);
         }
         return Functions {
@@ -268,14 +279,21 @@ fn functions_end(
     no_functions(unfit_number(t), t.start)
 }
 
-// The entries of functions, and `;`.
-fn read_functions(text: &[u8], regs: &[u64], from: usize) -> Functions
-    requires { ⌜ length (now regs) ≤ mostRegisters ⌝ }
-    ensures { λ r. ⌜ r ≡ heldFunctions (functionsAt (now (text .entry)) (now (regs .entry)) mostFunctions [] [] from) ⌝ }
+// The entries of a line behind the functions that were read, and `;`.
+fn read_line(
+    text: &[u8],
+    regs: &[u64],
+    known: [u64; MOST_FUNCTIONS],
+    taking: [u8; MOST_FUNCTIONS],
+    first: usize,
+    from: usize,
+) -> Functions
+    requires { ⌜ (length (now regs) ≤ mostRegisters) × NamesPadded mostFunctions known first × NamesPadded mostFunctions taking first ⌝ }
+    ensures { λ r. ⌜ r ≡ heldFunctions (lineFrom (now (text .entry)) (now (regs .entry)) (take first known) (take first taking) from) ⌝ }
 {
-    let mut names = [0u64; MOST_FUNCTIONS];
-    let mut arities = [0u8; MOST_FUNCTIONS];
-    let mut count: usize = 0;
+    let mut names = known;
+    let mut arities = taking;
+    let mut count: usize = first;
     let mut at = from;
     loop {
         let t = tokens::next(text, at);
@@ -292,7 +310,7 @@ fn read_functions(text: &[u8], regs: &[u64], from: usize) -> Functions
             count += 1;
             at = e;
         } else {
-            return functions_end(names, arities, count, t);
+            return functions_end(names, arities, count, first, t);
         }
     }
 }
@@ -304,7 +322,14 @@ fn functions_line(text: &[u8], regs: &[u64], at: usize) -> Functions
 {
     let t = tokens::next(text, at);
     if t.key == tokens::FUNS {
-        return read_functions(text, regs, t.end);
+        return read_line(
+            text,
+            regs,
+            [0; MOST_FUNCTIONS],
+            [0; MOST_FUNCTIONS],
+            0,
+            t.end,
+        );
     }
     Functions {
         ok: true,
@@ -314,6 +339,33 @@ fn functions_line(text: &[u8], regs: &[u64], at: usize) -> Functions
         count: 0,
         names: [0; MOST_FUNCTIONS],
         arities: [0; MOST_FUNCTIONS],
+    }
+}
+
+// Perhaps a line of tests, behind the functions.
+fn tests_line(text: &[u8], regs: &[u64], fs: Functions) -> Functions
+    requires { ⌜ (length (now regs) ≤ mostRegisters) × FunctionsPadded fs ⌝ }
+    ensures { λ r. ⌜ r ≡ heldFunctions (testsT (now (text .entry)) (now (regs .entry)) (take (fs .count) (fs .names)) (take (fs .count) (fs .arities)) (fs .at)
+        (tokenAt (now (text .entry)) (fs .at))) ⌝ }
+{
+    let names = fs.names;
+    let arities = fs.arities;
+    let at = fs.at;
+    let t = tokens::next(text, at);
+    if t.key == tokens::TESTS {
+        if MOST_REGISTERS < regs.len() + HIDDEN_REGISTERS {
+            return no_functions(NO_ROOM_FOR_TESTS, t.start);
+        }
+        return read_line(text, regs, names, arities, fs.count, t.end);
+    }
+    Functions {
+        ok: true,
+        number: 0,
+        place: 0,
+        at: at,
+        count: fs.count,
+        names: names,
+        arities: arities,
     }
 }
 
@@ -371,38 +423,92 @@ fn binary_of(arities: [u8; MOST_FUNCTIONS]) -> u8
     flag(arities[0]) + 2 * flag(arities[1]) + 4 * flag(arities[2]) + 8 * flag(arities[3])
 }
 
-fn header_of(rs: Registers, fs: Functions) -> Header
-    requires { ⌜ RegistersPadded rs × FunctionsPadded fs ⌝ }
-    ensures { λ r. ⌜ r ≡ headed rs fs ⌝ }
+// How many registers are hidden, where there are `count` functions, from number `first_test` on tests.
+fn hidden_count(first_test: usize, count: usize) -> usize
+    ensures { λ r. ⌜ r ≡ hiddenCount «first_test» count ⌝ }
+{
+    if first_test < count {
+        return HIDDEN_REGISTERS;
+    }
+    0
+}
+
+fn header_of(rs: Registers, fs: Functions, first_test: usize) -> Header
+    requires { ⌜ RegistersPadded rs × FunctionsPadded fs × RoomForHidden rs fs «first_test» ⌝ }
+    ensures { λ r. ⌜ r ≡ headed rs fs «first_test» ⌝ }
 {
     let arities = fs.arities;
+    let hidden = hidden_count(first_test, fs.count);
     Header {
-        registers: rs.count as u8,
+        registers: (rs.count + hidden) as u8,
         functions: fs.count as u8,
         binary: binary_of(arities),
     }
 }
 
-// The names of the registers as they are declared.
-fn register_spellings(text: &[u8], count: usize) -> [u64; MOST_REGISTERS]
-    requires { ⌜ count ≤ mostRegisters ⌝ }
-    ensures { λ r. ⌜ r ≡ paddedRegisters (now (text .entry)) count ⌝ }
+// The names of the registers as they are declared, and the hidden ones behind them.
+fn register_spellings(
+    text: &[u8],
+    count: usize,
+    first_test: usize,
+    functions: usize,
+) -> [u64; MOST_REGISTERS]
+    requires { ⌜ (count ≤ mostRegisters) × («first_test» < functions → count + hiddenRegisters ≤ mostRegisters) ⌝ }
+    ensures { λ r. ⌜ r ≡ paddedRegisters (now (text .entry)) count «first_test» functions ⌝ }
 {
     let mut names = [0u64; MOST_REGISTERS];
     let from = tokens::skip_tokens(text, 0, FIRST_REGISTER);
     tokens::put_spellings(text, from, REGISTER_LENGTH, &mut names[..count]);
+    if first_test < functions {
+        names[count] = tokens::RESULT;
+        names[count + 1] = tokens::TRUTH;
+    }
     names
 }
 
-// The names of the functions as they are declared, behind so many registers.
-fn function_spellings(text: &[u8], registers: usize, count: usize) -> [u64; MOST_FUNCTIONS]
-    requires { ⌜ (registers ≤ mostRegisters) × (count ≤ mostFunctions) ⌝ }
-    ensures { λ r. ⌜ r ≡ paddedFunctions (now (text .entry)) registers count ⌝ }
+// The tokens of a line of so many entries.
+fn line_length(entries: usize) -> usize
+    requires { ⌜ entries ≤ mostFunctions ⌝ }
+    ensures { λ r. ⌜ r ≡ lineLength entries ⌝ }
+{
+    if entries == 0 {
+        return 0;
+    }
+    ENTRY_LENGTH * entries + BESIDE_ENTRIES
+}
+
+// The names with those of tests behind the first ones, as the entries from a place on spell them.
+fn test_spellings(
+    text: &[u8],
+    functions: [u64; MOST_FUNCTIONS],
+    from: usize,
+    first: usize,
+    count: usize,
+) -> [u64; MOST_FUNCTIONS]
+    requires { ⌜ (first ≤ count) × (count ≤ mostFunctions) ⌝ }
+    ensures { λ r. ⌜ r ≡ spelledBehind (now (text .entry)) from first count functions ⌝ }
+{
+    let mut names = functions;
+    tokens::put_spellings(text, from, ENTRY_LENGTH, &mut names[first..count]);
+    names
+}
+
+// The names of the functions as they are declared, behind so many registers; from number `first_test` on tests.
+fn function_spellings(
+    text: &[u8],
+    registers: usize,
+    first_test: usize,
+    count: usize,
+) -> [u64; MOST_FUNCTIONS]
+    requires { ⌜ (registers ≤ mostRegisters) × («first_test» ≤ count) × (count ≤ mostFunctions) ⌝ }
+    ensures { λ r. ⌜ r ≡ paddedFunctions (now (text .entry)) registers «first_test» count ⌝ }
 {
     let mut names = [0u64; MOST_FUNCTIONS];
-    let from = tokens::skip_tokens(text, 0, registers + BEFORE_FUNCTIONS);
-    tokens::put_spellings(text, from, ENTRY_LENGTH, &mut names[..count]);
-    names
+    let functions = registers + BEFORE_FUNCTIONS;
+    let from = tokens::skip_tokens(text, 0, functions);
+    tokens::put_spellings(text, from, ENTRY_LENGTH, &mut names[..first_test]);
+    let tests = tokens::skip_tokens(text, 0, functions + line_length(first_test));
+    test_spellings(text, names, tests, first_test, count)
 }
 
 // Where reading the statements begins.
@@ -423,13 +529,14 @@ fn finish(
     text: &[u8],
     rs: Registers,
     fs: Functions,
+    first_test: usize,
     body: ReaderState,
     code: &Codes,
     first: &mut Successors,
     second: &mut Successors,
 ) -> MacroRead
-    requires { ⌜ RegistersPadded rs × FunctionsPadded fs ⌝ }
-    ensures { λ r. ⌜ Finishes (now (text .entry)) rs fs (heldBy body (now (code .entry)) (now (first .entry)) (now (second .entry))) r ⌝ }
+    requires { ⌜ RegistersPadded rs × FunctionsPadded fs × («first_test» ≤ fs .count) × RoomForHidden rs fs «first_test» ⌝ }
+    ensures { λ r. ⌜ Finishes (now (text .entry)) rs fs «first_test» (heldBy body (now (code .entry)) (now (first .entry)) (now (second .entry))) r ⌝ }
 {
     let t = tokens::next(text, body.at);
     if t.key == tokens::END {
@@ -439,9 +546,9 @@ fn finish(
         }
         blocks::redirect_range(first, second, 0, n, n);
         let points = blocks::points_of(code, first, second, n);
-        let header = header_of(rs, fs);
-        let registers = register_spellings(text, rs.count);
-        let functions = function_spellings(text, rs.count, fs.count);
+        let header = header_of(rs, fs, first_test);
+        let registers = register_spellings(text, rs.count, first_test, fs.count);
+        let functions = function_spellings(text, rs.count, first_test, fs.count);
         return MacroRead {
             refusal: 0,
             place: 0,
@@ -458,10 +565,10 @@ fn finish(
 }
 
 // Behind the declarations.
-fn read_body(text: &[u8], rs: Registers, fs: Functions) -> MacroRead
-    requires { ⌜ RegistersPadded rs × FunctionsPadded fs ⌝ }
+fn read_body(text: &[u8], rs: Registers, fs: Functions, first_test: usize) -> MacroRead
+    requires { ⌜ RegistersPadded rs × FunctionsPadded fs × («first_test» ≤ fs .count) × RoomForHidden rs fs «first_test» ⌝ }
     ensures { λ r. ⌜ r ≡ heldReading
-        (bodyFrom (now (text .entry)) (take (rs .count) (rs .names)) (take (fs .count) (fs .names)) (take (fs .count) (fs .arities)) (fs .at)) ⌝ }
+        (bodyFrom (now (text .entry)) (take (rs .count) (rs .names)) (take (fs .count) (fs .names)) (take (fs .count) (fs .arities)) «first_test» (fs .at)) ⌝ }
 {
     let regs = rs.names;
     let n = rs.count;
@@ -477,6 +584,7 @@ fn read_body(text: &[u8], rs: Registers, fs: Functions) -> MacroRead
         &regs[..n],
         &funs[..m],
         &arities[..m],
+        first_test as u8,
         st,
         DEEPEST_NESTING,
         &mut code,
@@ -484,9 +592,34 @@ fn read_body(text: &[u8], rs: Registers, fs: Functions) -> MacroRead
         &mut second,
     );
     if body.ok {
-        return finish(text, rs, fs, body, &code, &mut first, &mut second);
+        return finish(
+            text,
+            rs,
+            fs,
+            first_test,
+            body,
+            &code,
+            &mut first,
+            &mut second,
+        );
     }
     refused_answer(body.number, body.place)
+}
+
+// Behind the functions.
+fn read_tests(text: &[u8], rs: Registers, fs: Functions) -> MacroRead
+    requires { ⌜ RegistersPadded rs × FunctionsPadded fs ⌝ }
+    ensures { λ r. ⌜ r ≡ heldReading
+        (testsFrom (now (text .entry)) (take (rs .count) (rs .names)) (take (fs .count) (fs .names)) (take (fs .count) (fs .arities)) (fs .at)) ⌝ }
+{
+    let regs = rs.names;
+    let n = rs.count;
+    let first_test = fs.count;
+    let all = tests_line(text, &regs[..n], fs);
+    if all.ok {
+        return read_body(text, rs, all, first_test);
+    }
+    refused_answer(all.number, all.place)
 }
 
 // Behind the registers.
@@ -499,12 +632,12 @@ fn read_rest(text: &[u8], rs: Registers) -> MacroRead
     let at = rs.at;
     let fs = functions_line(text, &regs[..n], at);
     if fs.ok {
-        return read_body(text, rs, fs);
+        return read_tests(text, rs, fs);
     }
     refused_answer(fs.number, fs.place)
 }
 
-/// Reads a macro: question 7, then the text token by token (8 to 12), then the count of points (13).
+/// Reads a macro: question 7, then the text token by token (8 to 12, and 16), then the count of points (13).
 pub fn read(text: &[u8]) -> MacroRead
     ensures { λ r. ⌜ Reads (now (text .entry)) r ⌝ }
 {

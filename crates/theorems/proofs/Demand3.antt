@@ -16,7 +16,8 @@ use Rattle.semantics.specs.ShownTables.{tablesOf}
 use Rattle.macros.specs.Executions.{Partial, Failing}
 use Rattle.macros.specs.Order.{Path, Before}
 use Rattle.macros.proofs.Theory.Order.{before-not}
-use Rattle.grammar.specs.Grammar.{Macro, headerOf}
+use Rattle.grammar.specs.Grammar.{Macro, headerOf, expanded}
+use Rattle.grammar.proofs.Theory.Expanded.{expanded-fits}
 use Rattle.refusals.specs.Accepted.{Accepted}
 use Rattle.verdict_theory.specs.Count.{Counted}
 use Rattle.verdict_theory.specs.Verdict.{VerdictAnswer, pass, full, unfit, IsPass, Kind, failing, showing, AnswerBytes, Delivered, Leaves, SamePair}
@@ -62,40 +63,40 @@ module _ (text : List ℕ) (m : Macro) (accepted : Accepted text m) where
 
   module _ (table output : List ℕ) (answer : VerdictAnswer) (table′ output′ : List ℕ) (met : Demand3 Feasible text table output answer table′ output′) where
     -- "full exactly when the count of pairs passes the table;" `pairsIn firstEdition table` is document 01's N.
-    pub full-exactly : (answer ≡ full) ↔ PairsPass Feasible start (m .body) (pairsIn firstEdition table)
+    pub full-exactly : (answer ≡ full) ↔ PairsPass Feasible start (expanded m) (pairsIn firstEdition table)
     full-exactly = met .verdict m accepted .full-exactly
 
     -- "else pass exactly when every execution, broken off anywhere, after any number of turns, is coherent and no data model reaches a false assertion;"
     pub else-pass-exactly : answer ≢ full
-        → IsPass answer ↔ (((ρ : Trace) → Partial start (m .body) ρ → Coherent ρ) × ((ρ : Trace) → Failing start (m .body) ρ → ¬ Feasible (state ρ)))
+        → IsPass answer ↔ (((ρ : Trace) → Partial start (expanded m) ρ → Coherent ρ) × ((ρ : Trace) → Failing start (expanded m) ρ → ¬ Feasible (state ρ)))
     else-pass-exactly = met .verdict m accepted .pass-exactly
 
     -- "else the first event, with its execution and model, or 6 exactly where that does not fit;" There is a first event, it is answered, and its
     -- bytes stand in front of the output (`Delivered`);
     pub else-first-event : answer ≢ full → ¬ IsPass answer
-        → (kind : Kind) × (k : ℕ) × (ls : List Letter) × (bytes : List ℕ) × Shows Feasible start (m .body) kind k ls
+        → (kind : Kind) × (k : ℕ) × (ls : List Letter) × (bytes : List ℕ) × Shows Feasible start (expanded m) kind k ls
         × AnswerBytes firstEdition start kind ls bytes × Delivered bytes (showing kind k (length ls)) output answer output′
     else-first-event = met .verdict m accepted .otherwise
 
     -- conversely, where there is a first event and the count of pairs does not pass the table, it is what is answered,
-    pub first-event-is-answered : ¬ PairsPass Feasible start (m .body) (pairsIn firstEdition table) → (kind : Kind) (k : ℕ) (ls : List Letter)
-        (bytes : List ℕ) → Shows Feasible start (m .body) kind k ls → AnswerBytes firstEdition start kind ls bytes
+    pub first-event-is-answered : ¬ PairsPass Feasible start (expanded m) (pairsIn firstEdition table) → (kind : Kind) (k : ℕ) (ls : List Letter)
+        (bytes : List ℕ) → Shows Feasible start (expanded m) kind k ls → AnswerBytes firstEdition start kind ls bytes
         → Delivered bytes (showing kind k (length ls)) output answer output′
     first-event-is-answered = event-delivered text m accepted table output answer table′ output′ met
 
     -- and 6 is answered exactly where its bytes do not fit.
-    pub six-exactly : ¬ PairsPass Feasible start (m .body) (pairsIn firstEdition table) → (kind : Kind) (k : ℕ) (ls : List Letter) (bytes : List ℕ)
-        → Shows Feasible start (m .body) kind k ls → AnswerBytes firstEdition start kind ls bytes → (answer ≡ unfit) ↔ (length output < length bytes)
+    pub six-exactly : ¬ PairsPass Feasible start (expanded m) (pairsIn firstEdition table) → (kind : Kind) (k : ℕ) (ls : List Letter) (bytes : List ℕ)
+        → Shows Feasible start (expanded m) kind k ls → AnswerBytes firstEdition start kind ls bytes → (answer ≡ unfit) ↔ (length output < length bytes)
     six-exactly few kind k ls bytes s q =
         unfit-exactly bytes output output′ kind k (length ls) answer (first-event-is-answered few kind k ls bytes s q)
 
     -- "and the count of pairs is document 01's." On pass,
-    pub pass-counts-pairs : (k : ℕ) → answer ≡ pass k → PairCount Feasible start (m .body) k × (output′ ≡ output)
+    pub pass-counts-pairs : (k : ℕ) → answer ≡ pass k → PairCount Feasible start (expanded m) k × (output′ ≡ output)
     pass-counts-pairs = met .verdict m accepted .pass-count
 
     -- and on fail and incoherent, with the number of letters of the first event (`Shows` has the count).
     pub event-counts-pairs : (kind : Kind) (k l : ℕ) → answer ≡ showing kind k l
-        → (ls : List Letter) × Shows Feasible start (m .body) kind k ls × (length ls ≡ l)
+        → (ls : List Letter) × Shows Feasible start (expanded m) kind k ls × (length ls ≡ l)
     event-counts-pairs = shown-counted text m accepted table output answer table′ output′ met
 
     -- After a search the table is zero.
@@ -104,33 +105,33 @@ module _ (text : List ℕ) (m : Macro) (accepted : Accepted text m) where
 
   -- On pass no data model of whatever values reaches a false assertion.
   pub pass-holds-in-every-model {ℓ} : (table output : List ℕ) (k : ℕ) (table′ output′ : List ℕ) → Demand3 Feasible text table output (pass k) table′ output′
-      → (ρ : Trace) → Failing start (m .body) ρ → (M : AnyModel {ℓ}) → ¬ SatisfiesIn M (state ρ .equals) (state ρ .unequals)
+      → (ρ : Trace) → Failing start (expanded m) ρ → (M : AnyModel {ℓ}) → ¬ SatisfiesIn M (state ρ .equals) (state ρ .unequals)
   pass-holds-in-every-model table output k table′ output′ met = passes-anywhere text table output k table′ output′ met m accepted
 
   -- There is one first event at most, of one kind and with one count; and it is a shortest.
-  pub first-event-is-one : (i j : Kind) (k l : ℕ) (ks ls : List Letter) → Shows Feasible start (m .body) i k ks → Shows Feasible start (m .body) j l ls
+  pub first-event-is-one : (i j : Kind) (k l : ℕ) (ks ls : List Letter) → Shows Feasible start (expanded m) i k ks → Shows Feasible start (expanded m) j l ls
       → (i ≡ j) × (k ≡ l) × (ks ≡ ls)
   first-event-is-one = one-shown text m accepted
 
-  pub first-event-is-shortest : (ρ : Trace) → FirstEvent Feasible start (m .body) ρ → (π : Trace) → Event Feasible start (m .body) π → size ρ ≤ size π
-  first-event-is-shortest = first-shortest Feasible start (m .body)
+  pub first-event-is-shortest : (ρ : Trace) → FirstEvent Feasible start (expanded m) ρ → (π : Trace) → Event Feasible start (expanded m) π → size ρ ≤ size π
+  first-event-is-shortest = first-shortest Feasible start (expanded m)
 
   -- On fail all tests of the execution hold in the model that its tables describe (`ShownModel`).
-  pub model-satisfies-the-execution : (k : ℕ) (ls : List Letter) → Shows Feasible start (m .body) failing k ls
+  pub model-satisfies-the-execution : (k : ℕ) (ls : List Letter) → Shows Feasible start (expanded m) failing k ls
       → ShownModel (state (extend start ls)) (tablesOf (state (extend start ls)))
   model-satisfies-the-execution = event-model m (accepted .in-order)
 
   -- There is one count at most, and where there is one, it passes n if it is greater;
-  pub count-is-one : (k l : ℕ) → PairCount Feasible start (m .body) k → PairCount Feasible start (m .body) l → k ≡ l
-  count-is-one = one-count Before (Leaves start (m .body)) (SamePair start (m .body)) (EventAt Feasible start (m .body)) before-not
+  pub count-is-one : (k l : ℕ) → PairCount Feasible start (expanded m) k → PairCount Feasible start (expanded m) l → k ≡ l
+  count-is-one = one-count Before (Leaves start (expanded m)) (SamePair start (expanded m)) (EventAt Feasible start (expanded m)) before-not
 
-  pub count-passes-exactly : (k n : ℕ) → PairCount Feasible start (m .body) k → PairsPass Feasible start (m .body) n ↔ (n < k)
-  count-passes-exactly = more-is Before (Leaves start (m .body)) (SamePair start (m .body)) (EventAt Feasible start (m .body)) before-not
+  pub count-passes-exactly : (k n : ℕ) → PairCount Feasible start (expanded m) k → PairsPass Feasible start (expanded m) n ↔ (n < k)
+  count-passes-exactly = more-is Before (Leaves start (expanded m)) (SamePair start (expanded m)) (EventAt Feasible start (expanded m)) before-not
 
   -- it is of the pairs that any partial executions leave, coherent or not.
-  pub count-is-of-all-executions : (p : Path) → Counted Before (Leaves start (m .body)) (SamePair start (m .body)) (EventAt Feasible start (m .body)) p
-      ↔ Counted Before (LeavesAny start (m .body)) (SamePair start (m .body)) (EventAt Feasible start (m .body)) p
-  count-is-of-all-executions = counted-any Feasible (headerOf m) (m .body) (accepted .in-order .uses)
+  pub count-is-of-all-executions : (p : Path) → Counted Before (Leaves start (expanded m)) (SamePair start (expanded m)) (EventAt Feasible start (expanded m)) p
+      ↔ Counted Before (LeavesAny start (expanded m)) (SamePair start (expanded m)) (EventAt Feasible start (expanded m)) p
+  count-is-of-all-executions = counted-any Feasible (headerOf m) (expanded m) (expanded-fits m (accepted .in-order))
 
 -- What is shown reads back from the output: the first event's execution and, on fail, the tables of its model (`ReadsBack`).
 pub what-is-shown-reads-back : (text table output table′ output′ : List ℕ) (kind : Kind) (pairs letters : ℕ)

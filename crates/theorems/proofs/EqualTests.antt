@@ -29,7 +29,8 @@ use Rattle.streaming.specs.Demand2.{Demand2}
 use Rattle.macros.specs.Tree.{Block}
 use Rattle.macros.specs.Executions.{Partial, Failing}
 use Rattle.macros.proofs.Theory.Fitting.{partial-formed}
-use Rattle.grammar.specs.Grammar.{Macro, headerOf}
+use Rattle.grammar.specs.Grammar.{Macro, headerOf, expanded}
+use Rattle.grammar.proofs.Theory.Expanded.{expanded-fits}
 use Rattle.refusals.specs.Accepted.{Accepted}
 use Rattle.verdict_theory.specs.Verdict.{VerdictAnswer, full, IsPass, breaking, OfKind}
 use Rattle.verdict_theory.specs.Demand3.{Demand3}
@@ -102,16 +103,16 @@ one-trace-is-without-them ρ π κ p q = without-one p q
 -- So where the table suffices a macro passes exactly if each of its partial executions was coherent without these tests, and no failing one is feasible;
 pub a-macro-passes-exactly : (text : List ℕ) (m : Macro) → Accepted text m → (table output : List ℕ) (answer : VerdictAnswer) (table′ output′ : List ℕ)
     → Demand3 Feasible text table output answer table′ output′ → answer ≢ full
-    → IsPass answer ↔ (((ρ π : Trace) → Partial (begin (headerOf m)) (m .body) ρ → WithoutRedundant ρ π → StrictlyCoherent π)
-    × ((ρ : Trace) → Failing (begin (headerOf m)) (m .body) ρ → ¬ Feasible (state ρ)))
+    → IsPass answer ↔ (((ρ π : Trace) → Partial (begin (headerOf m)) (expanded m) ρ → WithoutRedundant ρ π → StrictlyCoherent π)
+    × ((ρ : Trace) → Failing (begin (headerOf m)) (expanded m) ρ → ¬ Feasible (state ρ)))
 a-macro-passes-exactly text m accepted table output answer table′ output′ met n =
     let (f, g) = met .verdict m accepted .pass-exactly n in (
       λ p. let (c, s) = f p in (λ ρ π x r. coherent-exactly-without-them ρ π (formed ρ x) r .0 (c ρ x), s),
       λ (c, s). g (λ ρ x. let (π, r) = without-some ρ (formed ρ x) in coherent-exactly-without-them ρ π (formed ρ x) r .1 (c ρ π x r), s),
     )
   where
-    formed : (ρ : Trace) → Partial (begin (headerOf m)) (m .body) ρ → WellFormed ρ
-    formed ρ x = partial-formed (headerOf m) (begin (headerOf m)) (m .body) ρ (tt, refl) (accepted .in-order .uses) x .0
+    formed : (ρ : Trace) → Partial (begin (headerOf m)) (expanded m) ρ → WellFormed ρ
+    formed ρ x = partial-formed (headerOf m) (begin (headerOf m)) (expanded m) ρ (tt, refl) (expanded-fits m (accepted .in-order)) x .0
 
 -- and an execution that is shown as incoherent was so before.
 pub what-is-incoherent-was : (start : Trace) (body : Block) (ρ : Trace) → OfKind start body breaking ρ → ¬ StrictlyCoherent ρ

@@ -1,6 +1,6 @@
 -- Request 2, a house layout for macros, sentence by sentence.
 use mathlib.Core.Path.{_≡_, refl, sym, ap, _∙_, subst}
-use mathlib.Core.Logic.{_⊎_, _↔_}
+use mathlib.Core.Logic.{_⊎_, _↔_, _≢_}
 use mathlib.Core.List.{List, _++_}
 use Prim.Native.Nat.{ℕ, _≤_, _<_}
 use lib.ListN.{length, getD, take, drop}
@@ -11,7 +11,7 @@ use Rattle.macros.specs.Executions.{Complete, Partial, Failing}
 use Rattle.macros.specs.Points.{points}
 use Rattle.tokens.specs.Words as word
 use Rattle.tokens.specs.Tokens.{tokenAt, placeOf}
-use Rattle.grammar.specs.Grammar.{Macro, headerOf}
+use Rattle.grammar.specs.Grammar.{Macro, headerOf, expanded}
 use Rattle.refusals.specs.Order.{Refusal}
 use Rattle.refusals.specs.Accepted.{Accepted}
 use Rattle.refusals.proofs.Theory.Accepted.{accepted-once, refused-once}
@@ -23,7 +23,7 @@ use Rattle.layout_theory.specs.Layout.{withoutEmptyElses, printTokens, houseLay
 use Rattle.layout_theory.specs.Writing.{LayoutAnswer, printed, refused, WritesLayout}
 use Rattle.layout_theory.proofs.Theory.Dropping.{size-short, points-short, macro-short-twice}
 use Rattle.layout_theory.proofs.Theory.ReadBack.{print-token, print-ended, print-accepted, print-not-refused, print-of-print}
-use Rattle.layout_theory.proofs.Theory.Settled.{written-somehow, written-once, too-long-passes, passes-too-long, low-as-read, refused-kept, printed-is}
+use Rattle.layout_theory.proofs.Theory.Settled.{written-somehow, written-once, too-long-passes, passes-too-long, other-as-read, refused-kept, printed-is}
 use Rattle.layout_lines.specs.Prints.{SaysLayout, mostLayoutLineBytes, PrintsLayoutLines}
 use Rattle.layout_lines.proofs.Theory.PrintsLaws.{some-layout-lines, one-layout-said, prints-all}
 use Rattle.theorems.specs.EmptyElses.{AlikeMacros}
@@ -77,12 +77,12 @@ module _ (text : List ℕ) (m : Macro) (accepted : Accepted text m) where
     pub verdict-on-the-print : (table output : List ℕ) (answer : VerdictAnswer) (table′ output′ : List ℕ)
         → Demand3 Feasible text table output answer table′ output′ ↔ Demand3 Feasible (houseLayout m) table output answer table′ output′
     verdict-on-the-print =
-        demand-both text (houseLayout m) m (withoutEmptyElses m) accepted print-is-read refl (points-short (m .body)) (size-short (m .body))
+        demand-both text (houseLayout m) m (withoutEmptyElses m) accepted print-is-read refl (points-short m) (size-short m)
 
     -- and so are the lines that the verdict program prints for it.
     pub lines-on-the-print : (lines : List ℕ) → Says text lines ↔ Says (houseLayout m) lines
     lines-on-the-print =
-        said-both text (houseLayout m) m (withoutEmptyElses m) accepted print-is-read refl (points-short (m .body)) (size-short (m .body)) print-declares-alike
+        said-both text (houseLayout m) m (withoutEmptyElses m) accepted print-is-read refl (points-short m) (size-short m) print-declares-alike
 
   -- A longer print is no text of a macro, for its length and for nothing else; it is never written (`print-stands-in-front`).
   pub longer-print-is-refused : longestPrint < length (houseLayout m) → (number place : ℕ)
@@ -93,19 +93,19 @@ module _ (text : List ℕ) (m : Macro) (accepted : Accepted text m) where
   )
 
   -- What was dropped was no point, and the points that are there keep their numbers;
-  pub points-are-kept : points (withoutEmptyElses m .body) ≡ points (m .body)
-  points-are-kept = points-short (m .body)
+  pub points-are-kept : points (expanded (withoutEmptyElses m)) ≡ points (expanded m)
+  points-are-kept = points-short m
 
   -- so the executions are the same, whole, broken off anywhere, or ending at a failure.
   module _ (ρ : Trace) where
-    pub complete-alike : Complete (begin (headerOf m)) (m .body) ρ ↔ Complete (begin (headerOf m)) (withoutEmptyElses m .body) ρ
-    complete-alike = complete-both (begin (headerOf m)) (m .body) (withoutEmptyElses m .body) (points-short (m .body)) (size-short (m .body)) ρ
+    pub complete-alike : Complete (begin (headerOf m)) (expanded m) ρ ↔ Complete (begin (headerOf m)) (expanded (withoutEmptyElses m)) ρ
+    complete-alike = complete-both (begin (headerOf m)) (expanded m) (expanded (withoutEmptyElses m)) (points-short m) (size-short m) ρ
 
-    pub partial-alike : Partial (begin (headerOf m)) (m .body) ρ ↔ Partial (begin (headerOf m)) (withoutEmptyElses m .body) ρ
-    partial-alike = partial-both (begin (headerOf m)) (m .body) (withoutEmptyElses m .body) (points-short (m .body)) (size-short (m .body)) ρ
+    pub partial-alike : Partial (begin (headerOf m)) (expanded m) ρ ↔ Partial (begin (headerOf m)) (expanded (withoutEmptyElses m)) ρ
+    partial-alike = partial-both (begin (headerOf m)) (expanded m) (expanded (withoutEmptyElses m)) (points-short m) (size-short m) ρ
 
-    pub failing-alike : Failing (begin (headerOf m)) (m .body) ρ ↔ Failing (begin (headerOf m)) (withoutEmptyElses m .body) ρ
-    failing-alike = failing-both (begin (headerOf m)) (m .body) (withoutEmptyElses m .body) (points-short (m .body)) (size-short (m .body)) ρ
+    pub failing-alike : Failing (begin (headerOf m)) (expanded m) ρ ↔ Failing (begin (headerOf m)) (expanded (withoutEmptyElses m)) ρ
+    failing-alike = failing-both (begin (headerOf m)) (expanded m) (expanded (withoutEmptyElses m)) (points-short m) (size-short m) ρ
 
   -- "and printing that yields the same bytes." Of the macro that is read,
   pub printed-alike : (k : Macro) → Accepted (houseLayout m) k → houseLayout k ≡ houseLayout m
@@ -132,9 +132,9 @@ module _ (text entry : List ℕ) (answer : LayoutAnswer) (exit : List ℕ) (writ
       ↔ ((m : Macro) × Accepted text m × ((length entry < length (houseLayout m)) ⊎ (longestPrint < length (houseLayout m))))
   fifteen-exactly = (too-long-passes written, λ x. passes-too-long written (x .0) (x .1) (x .2))
 
-  -- Lower numbers are given exactly as the reader gives them.
-  pub lower-as-read : (number place : ℕ) → number < printTooLong → (answer ≡ refused number place) ↔ Refusal text number place
-  lower-as-read number place l = (λ e. low-as-read written number place e l, λ r. written .unread number place r .0)
+  -- Every other number is given exactly as the reader gives it.
+  pub others-as-read : (number place : ℕ) → number ≢ printTooLong → (answer ≡ refused number place) ↔ Refusal text number place
+  others-as-read number place other = (λ e. other-as-read written number place e other, λ r. written .unread number place r .0)
 
   -- On a refusal every lent byte is as it was;
   pub refusal-leaves-the-buffer : (number place : ℕ) → answer ≡ refused number place → exit ≡ entry

@@ -4,5 +4,7 @@ pub mod Demand3
 pub mod Names
 pub mod HouseLayout
 pub mod EqualTests
+pub mod NamedTests
+pub mod RelationExamples
 pub mod Steps
 pub mod Examples

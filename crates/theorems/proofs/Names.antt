@@ -15,7 +15,8 @@ use Rattle.tokens.specs.Words as word
 use Rattle.tokens.specs.Tokens.{token, tokenAt, bytesAt, placeOf}
 use Rattle.tokens.proofs.Theory.Keys.{same-token}
 use Rattle.grammar.specs.Grammar.{Macro}
-use Rattle.grammar.specs.Reading.{indexOf, condition, endedCondition, argumentsT, rightHandSide, assignment, block, registerNames, arityOf, functionEntries}
+use Rattle.grammar.specs.Spelled.{functionToken}
+use Rattle.grammar.specs.Reading.{indexOf, condition, endedCondition, argumentsT, rightHandSide, assignment, block, registerNames, arityOf, entries}
 use Rattle.grammar.proofs.Theory.Reading.{readText, readMacro}
 use Rattle.refusals.specs.Order.{Refusal}
 use Rattle.refusals.specs.Accepted.{Accepted}
@@ -23,7 +24,7 @@ use Rattle.refusals.proofs.Theory.Order.{refused-refusal}
 use Rattle.semantics.specs.Models.{Feasible}
 use Rattle.verdict_theory.specs.Verdict.{VerdictAnswer}
 use Rattle.verdict_theory.specs.Demand3.{Demand3}
-use Rattle.verdict_lines.specs.Prints.{registerToken, functionToken, declaredNames, Says}
+use Rattle.verdict_lines.specs.Prints.{registerToken, declaredNames, Says}
 use Rattle.verdict_lines.proofs.Theory.Declared.{registers-differ, functions-differ, sorts-differ}
 use Rattle.theorems.specs.LowerCase.{EqualNames, inLowerCase, DeclaredBy, WithoutCapitals}
 use Rattle.theorems.specs.Original.{originalNameLength, originalWidth, originalTokenAt, OriginalRefusal, OriginalAccepted}
@@ -67,7 +68,7 @@ unfoldable pub declaresBoth : List ℕ
 declaresBoth = 118 ∷ 97 ∷ 114 ∷ 115 ∷ 32 ∷ 99 ∷ 97 ∷ 112 ∷ 32 ∷ 67 ∷ 65 ∷ 80 ∷ 59 ∷ []
 
 pub both-refused-by-10 : Refusal declaresBoth declarationWrong 9
-unfolding declaresBoth readMacro readText tokenAt gap width nameLength registerNames indexOf functionEntries arityOf block condition endedCondition assignment
+unfolding declaresBoth readMacro readText tokenAt gap width nameLength registerNames indexOf entries arityOf block condition endedCondition assignment
     rightHandSide argumentsT sizeStatement
 both-refused-by-10 = refused-refusal declaresBoth declarationWrong 9 refl
 
@@ -81,7 +82,7 @@ unfoldable pub declaresTwice : List ℕ
 declaresTwice = 118 ∷ 97 ∷ 114 ∷ 115 ∷ 32 ∷ 120 ∷ 59 ∷ 32 ∷ 102 ∷ 117 ∷ 110 ∷ 115 ∷ 32 ∷ 88 ∷ 47 ∷ 49 ∷ 59 ∷ []
 
 pub register-and-function-refused-by-10 : Refusal declaresTwice declarationWrong 13
-unfolding declaresTwice readMacro readText tokenAt gap width nameLength registerNames indexOf functionEntries arityOf block condition endedCondition assignment
+unfolding declaresTwice readMacro readText tokenAt gap width nameLength registerNames indexOf entries arityOf block condition endedCondition assignment
     rightHandSide argumentsT sizeStatement
 register-and-function-refused-by-10 = refused-refusal declaresTwice declarationWrong 13 refl
 
@@ -92,7 +93,7 @@ pub register-is-printed-as-declared : (text : List ℕ) (m : Macro) → Accepted
 register-is-printed-as-declared = register-by
 
 pub function-is-printed-as-declared : (text : List ℕ) (m : Macro) → Accepted text m → (f : ℕ) → f < length (m .functions)
-    → DeclaredBy text (functionToken (length (m .registers)) f) (getD (m .functions) f 0) (getD (m .functionSpellings) f 0)
+    → DeclaredBy text (functionToken (length (m .registers)) (m .firstTest) f) (getD (m .functions) f 0) (getD (m .functionSpellings) f 0)
     (declaredNames text m .function f)
 function-is-printed-as-declared = function-by
 
@@ -150,7 +151,7 @@ words-in-any-case a b e = (ap (λ s. keyword (littleEndian s)) e, ap (λ s. isNa
 
 -- `vars IF;`
 pub IF-is-a-word : Refusal (118 ∷ 97 ∷ 114 ∷ 115 ∷ 32 ∷ 73 ∷ 70 ∷ 59 ∷ []) grammarViolated 5
-unfolding readMacro readText tokenAt gap width nameLength registerNames indexOf functionEntries arityOf block condition endedCondition assignment rightHandSide
+unfolding readMacro readText tokenAt gap width nameLength registerNames indexOf entries arityOf block condition endedCondition assignment rightHandSide
     argumentsT sizeStatement
 IF-is-a-word = refused-refusal _ grammarViolated 5 refl
 

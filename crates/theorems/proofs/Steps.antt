@@ -13,3 +13,5 @@ pub mod SamePoints
 pub mod LayoutVerdict
 pub mod PrintedTwice
 pub mod EmptyElses
+pub mod RelationalModels
+pub mod ExpandedSorts

@@ -1,7 +1,7 @@
 -- "Reading the print yields the macro that was printed, an absent else counting as an empty one" (SPEC 8.6; document 02, request 2): what counts as the
 -- same macro, said without computing anything.
 use mathlib.Core.Path.{_≡_}
-use Rattle.macros.specs.Tree.{Condition, Statement, if, while, Else, absent, present, Block, empty, _then_}
+use Rattle.grammar.specs.Tree.{Condition, Statement, if, while, Else, absent, present, Block, empty, _then_}
 use Rattle.grammar.specs.Grammar.{Macro}
 
 -- The least congruence that equates an absent else with one whose block is empty.
@@ -34,4 +34,5 @@ pub record AlikeMacros (m n : Macro) : Type 0 where
   pub same-functions : m .functions ≡ n .functions
   pub same-function-spellings : m .functionSpellings ≡ n .functionSpellings
   pub same-arities : m .arities ≡ n .arities
+  pub same-first-test : m .firstTest ≡ n .firstTest
   pub alike-bodies : AlikeBlock (m .body) (n .body)

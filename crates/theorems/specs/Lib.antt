@@ -4,3 +4,4 @@ pub mod Milder
 pub mod LowerCase
 pub mod EmptyElses
 pub mod Original
+pub mod Relations

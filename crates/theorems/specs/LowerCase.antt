@@ -20,6 +20,7 @@ spelledAs rs fs m = record {
   functions = m .functions;
   functionSpellings = fs;
   arities = m .arities;
+  firstTest = m .firstTest;
   body = m .body;
 }
 

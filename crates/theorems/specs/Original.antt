@@ -1,5 +1,5 @@
--- Document 01's own reading of a text, before request 1. A name has no capital letters, and a token is known by its bytes as they stand; blanks, digits,
--- signs and the length of a name are as now (SPEC 8.1, 8.2). What is refused and what is read is said of any tokens, as `Refusal` and `Accepted` say it of
+-- The reading of a text without request 1. A name has no capital letters, and a token is known by its bytes as they stand; blanks, digits, signs and the
+-- length of a name are as now, with the later requests (SPEC 8.1, 8.2). What is refused and what is read is said of any tokens, as `Refusal` and `Accepted` say it of
 -- those of a text.
 use mathlib.Core.Path.{_≡_}
 use Prim.Native.Nat.{ℕ, zero, suc, _+_, _≤_, _<_}
@@ -12,12 +12,12 @@ use Rattle.base.specs.Choice.{pick}
 use Rattle.base.specs.Bytes.{littleEndian}
 use Rattle.letters.specs.MacroRefusalNumbers.{textTooLong, pointsTooMany}
 use Rattle.macros.specs.Points.{sizeBlock}
-use Rattle.tokens.specs.Bytes.{lower, digit, symbol, mark, longestName}
+use Rattle.tokens.specs.Bytes.{lower, digit, symbol, negation, mark, longestName}
 use Rattle.tokens.specs.Words as word
 use Rattle.tokens.specs.Tokens.{skipBlanks, token}
 use Rattle.tokens.specs.declared.Token.{Token}
 use Rattle.grammar.specs.Limits.{longestText, mostPoints}
-use Rattle.grammar.specs.Grammar.{Macro, sentence}
+use Rattle.grammar.specs.Grammar.{Macro, sentence, expanded}
 use Rattle.grammar.specs.Spelled.{InOrder}
 use Rattle.refusals.specs.Questions.{No}
 
@@ -37,7 +37,7 @@ unfoldable pub originalWidth : List ℕ → ℕ
 originalWidth [] = 0
 originalWidth (b ∷ s) =
     pick (lower b) (λ _. pick (leb (originalNameLength (b ∷ s)) longestName) (λ _. originalNameLength (b ∷ s)) λ _. 0)
-    λ _. pick (mark b) (λ _. pick (eqb (getD s 0 0) 61) (λ _. 2) λ _. 0)
+    λ _. pick (mark b) (λ _. pick (eqb (getD s 0 0) 61) (λ _. 2) λ _. pick (negation b) (λ _. 1) λ _. 0)
     λ _. pick (symbol b) (λ _. 1) λ _. 0
 
 -- The token at or after a place, known by the number of its bytes as they stand.
@@ -89,14 +89,14 @@ module _ (size : ℕ) (next : ℕ → Token) where
   pub data RefusalBy : ℕ → ℕ → Type 0 where
     long : longestText < size → RefusalBy textTooLong 0
     atToken : {n p : ℕ} → size ≤ longestText → FirstNoBy n p → RefusalBy n p
-    points : (m : Macro) → size ≤ longestText → SpelledBy m → InOrder m → mostPoints < sizeBlock (m .body) → RefusalBy pointsTooMany 0
+    points : (m : Macro) → size ≤ longestText → SpelledBy m → InOrder m → mostPoints < sizeBlock (expanded m) → RefusalBy pointsTooMany 0
 
   -- or accepted as a macro (SPEC 8, 11.3), whatever the spellings of its names.
   pub record AcceptedBy (m : Macro) : Type 0 where
     pub short : size ≤ longestText
     pub spelled : SpelledBy m
     pub in-order : InOrder m
-    pub few : sizeBlock (m .body) ≤ mostPoints
+    pub few : sizeBlock (expanded m) ≤ mostPoints
 
 -- ---- with document 01's own tokens
 

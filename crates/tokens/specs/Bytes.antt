@@ -42,9 +42,13 @@ inner b = letter b || digit b || eqb b 95
 abbrev pub symbol : ℕ → Bool
 symbol b = eqb b 49 || eqb b 50 || eqb b 61 || eqb b 59 || eqb b 44 || eqb b 40 || eqb b 41 || eqb b 123 || eqb b 125 || eqb b 47
 
--- : and !, which only go before =
+-- `!`, which is a token by itself where no `=` follows (SPEC 8.2)
+abbrev pub negation : ℕ → Bool
+negation b = eqb b 33
+
+-- `:` and `!`, which are one token with a `=` behind them (SPEC 8.2)
 abbrev pub mark : ℕ → Bool
-mark b = eqb b 58 || eqb b 33
+mark b = eqb b 58 || negation b
 
 -- how many bytes of blanks and comments stand in front; the flag says that a comment has begun, which runs to an LF (SPEC 8.1)
 unfoldable pub gap : Bool → List ℕ → ℕ
@@ -66,7 +70,7 @@ unfoldable pub width : List ℕ → ℕ
 width [] = 0
 width (b ∷ s) =
     pick (letter b) (λ _. pick (leb (nameLength (b ∷ s)) longestName) (λ _. nameLength (b ∷ s)) λ _. 0)
-    λ _. pick (mark b) (λ _. pick (eqb (getD s 0 0) 61) (λ _. 2) λ _. 0)
+    λ _. pick (mark b) (λ _. pick (eqb (getD s 0 0) 61) (λ _. 2) λ _. pick (negation b) (λ _. 1) λ _. 0)
     λ _. pick (symbol b) (λ _. 1) λ _. 0
 
 -- "Names and words are equal whatever the case of their letters" (SPEC 8.2, 8.4): a token is known by the number of its bytes in lower case,

@@ -14,12 +14,16 @@ end = 0
 abbrev pub wrong : ℕ
 wrong = 1
 
--- "Words that are not names: vars funs skip assume assert if else while." (SPEC 8.2)
+-- "Words that are not names: vars funs tests skip assume assert if else while result truth." (SPEC 8.2; document 02, request 4: "the three words
+-- leave the names")
 abbrev pub varsKey : ℕ
 varsKey = key (118 ∷ 97 ∷ 114 ∷ 115 ∷ [])
 
 abbrev pub funsKey : ℕ
 funsKey = key (102 ∷ 117 ∷ 110 ∷ 115 ∷ [])
+
+abbrev pub testsKey : ℕ
+testsKey = key (116 ∷ 101 ∷ 115 ∷ 116 ∷ 115 ∷ [])
 
 abbrev pub skipKey : ℕ
 skipKey = key (115 ∷ 107 ∷ 105 ∷ 112 ∷ [])
@@ -39,10 +43,18 @@ elseKey = key (101 ∷ 108 ∷ 115 ∷ 101 ∷ [])
 abbrev pub whileKey : ℕ
 whileKey = key (119 ∷ 104 ∷ 105 ∷ 108 ∷ 101 ∷ [])
 
-abbrev pub keyword : ℕ → Bool
-keyword k = eqb k varsKey || eqb k funsKey || eqb k skipKey || eqb k assumeKey || eqb k assertKey || eqb k ifKey || eqb k elseKey || eqb k whileKey
+abbrev pub resultKey : ℕ
+resultKey = key (114 ∷ 101 ∷ 115 ∷ 117 ∷ 108 ∷ 116 ∷ [])
 
--- "Tokens: names, `1`, `2`, `:=`, `=`, `!=`, `;`, `,`, `(`, `)`, `{`, `}`, `/`." (SPEC 8.2)
+abbrev pub truthKey : ℕ
+truthKey = key (116 ∷ 114 ∷ 117 ∷ 116 ∷ 104 ∷ [])
+
+abbrev pub keyword : ℕ → Bool
+keyword k =
+    eqb k varsKey || eqb k funsKey || eqb k testsKey || eqb k skipKey || eqb k assumeKey || eqb k assertKey || eqb k ifKey || eqb k elseKey || eqb k whileKey
+    || eqb k resultKey || eqb k truthKey
+
+-- "Tokens: names, `1`, `2`, `:=`, `=`, `!=`, `!`, `;`, `,`, `(`, `)`, `{`, `}`, `/`." (SPEC 8.2; document 02, request 4: "`!` becomes a token")
 abbrev pub oneKey : ℕ
 oneKey = key (49 ∷ [])
 
@@ -57,6 +69,9 @@ equalKey = key (61 ∷ [])
 
 abbrev pub unequalKey : ℕ
 unequalKey = key (33 ∷ 61 ∷ [])
+
+abbrev pub notKey : ℕ
+notKey = key (33 ∷ [])
 
 abbrev pub semicolonKey : ℕ
 semicolonKey = key (59 ∷ [])

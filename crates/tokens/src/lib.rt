@@ -4,7 +4,7 @@ ghost use mathlib.Core.Bool.{true, false};
 ghost use Prim.Native.Nat.{_+_, _≤_, _<_};
 ghost use lib.ListN.{length, drop};
 ghost use lib.Seq.{slice};
-ghost use Rattle.tokens.specs.Bytes.{blank, lower, lowered, letter, digit, inner, symbol, mark, gap, nameLength, longestName, width};
+ghost use Rattle.tokens.specs.Bytes.{blank, lower, lowered, letter, digit, inner, symbol, negation, mark, gap, nameLength, longestName, width};
 ghost use Rattle.tokens.specs.Tokens.{tokenAt, NumbersOf, placeBehind, spellings};
 ghost use Rattle.tokens.specs.Words.{keyword, isName, sameName};
 
@@ -31,6 +31,9 @@ pub const VARS: u64 = 0x73726176;
 /// The word `funs`.
 pub const FUNS: u64 = 0x736e7566;
 
+/// The word `tests`.
+pub const TESTS: u64 = 0x7374736574;
+
 /// The word `skip`.
 pub const SKIP: u64 = 0x70696b73;
 
@@ -49,6 +52,12 @@ pub const ELSE: u64 = 0x65736c65;
 /// The word `while`.
 pub const WHILE: u64 = 0x656c696877;
 
+/// The word `result`, the name of a hidden register.
+pub const RESULT: u64 = 0x746c75736572;
+
+/// The word `truth`, the name of a hidden register.
+pub const TRUTH: u64 = 0x6874757274;
+
 /// The sign `1`.
 pub const ONE: u64 = 0x31;
 
@@ -63,6 +72,9 @@ pub const EQUAL: u64 = 0x3d;
 
 /// The sign `!=`.
 pub const UNEQUAL: u64 = 0x3d21;
+
+/// The sign `!`.
+pub const NOT: u64 = 0x21;
 
 /// The sign `;`.
 pub const SEMICOLON: u64 = 0x3b;
@@ -205,13 +217,19 @@ fn is_symbol(b: u8) -> bool
     b == b'/'
 }
 
+fn is_negation(b: u8) -> bool
+    ensures { λ r. ⌜ r ≡ negation b ⌝ }
+{
+    b == b'!'
+}
+
 fn is_mark(b: u8) -> bool
     ensures { λ r. ⌜ r ≡ mark b ⌝ }
 {
     if b == b':' {
         return true;
     }
-    b == b'!'
+    is_negation(b)
 }
 
 /// A byte as a number of 64 bits.
@@ -302,6 +320,9 @@ fn width_at(text: &[u8], at: usize) -> usize
                 return 2;
             }
         }
+        if is_negation(b) {
+            return 1;
+        }
         return 0;
     }
     if is_symbol(b) {
@@ -380,6 +401,9 @@ pub fn is_keyword(k: u64) -> bool
     if k == FUNS {
         return true;
     }
+    if k == TESTS {
+        return true;
+    }
     if k == SKIP {
         return true;
     }
@@ -395,7 +419,13 @@ pub fn is_keyword(k: u64) -> bool
     if k == ELSE {
         return true;
     }
-    k == WHILE
+    if k == WHILE {
+        return true;
+    }
+    if k == RESULT {
+        return true;
+    }
+    k == TRUTH
 }
 
 /// Whether a token is a name.

@@ -11,7 +11,7 @@ use Rattle.semantics.specs.Models.{Feasible}
 use Rattle.semantics.specs.Judgement.{size}
 use Rattle.semantics.specs.TablesRead.{readTables}
 use Rattle.semantics.specs.ShownTables.{tablesOf}
-use Rattle.grammar.specs.Grammar.{Macro, headerOf}
+use Rattle.grammar.specs.Grammar.{Macro, headerOf, expanded}
 use Rattle.verdict_theory.specs.Verdict.{Kind, failing, Event, Shows}
 use Rattle.report.specs.Shown.{modelStart}
 
@@ -19,10 +19,10 @@ use Rattle.report.specs.Shown.{modelStart}
 pub record ReadsBack (m : Macro) (kind : Kind) (pairs letters : ℕ) (output′ : List ℕ) : Type 0 where
   -- the first event's execution, with the count of pairs
   pub execution : List Letter
-  pub shows : Shows Feasible (begin (headerOf m)) (m .body) kind pairs execution
+  pub shows : Shows Feasible (begin (headerOf m)) (expanded m) kind pairs execution
   pub count : length execution ≡ letters
   -- "shorter first": every event has at least as many letters
-  pub shortest : (π : Trace) → Event Feasible (begin (headerOf m)) (m .body) π → letters ≤ size π
+  pub shortest : (π : Trace) → Event Feasible (begin (headerOf m)) (expanded m) π → letters ≤ size π
   -- the front is read as that execution, under the macro's header
   pub trace-back : reading firstEdition (take (modelStart letters) output′) ≡ trace (headerOf m) execution
   -- on fail the bytes behind it are read as the tables of the shown model of that execution

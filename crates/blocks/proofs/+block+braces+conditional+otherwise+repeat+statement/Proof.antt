@@ -32,7 +32,7 @@ use Rattle.blocks.proofs.moved.Reads as moved-reads
 use Rattle.blocks.proofs.passed.Reads as passed-reads
 use Rattle.blocks.proofs.plain.Reads as plain-reads
 use Rattle.blocks.proofs.repeat_from.Reads as repeat-from-reads
-use Rattle.blocks.proofs.settled.Reads as settled-reads
+use Rattle.blocks.proofs.weighed.Reads as weighed-reads
 use Rattle.blocks.proofs.stopped.Reads as stopped-reads
 use Rattle.phrases.proofs.condition.Reads as condition-reads
 use Rattle.phrases.proofs.expect.Reads as expect-reads
@@ -42,22 +42,22 @@ use Rattle.blocks.proofs.+block+braces+conditional+otherwise+repeat+sta
 use Rattle.blocks.proofs.+block+braces+conditional+otherwise+repeat+statement.Tie.{close}
 
 abbrev μ-block : Measures 7 block-kinds.ps ℕ
-μ-block κs a = 2 * (length (a .0 .now) - a .1 .1 .1 .1 .0 .at) + 1
+μ-block κs a = 2 * (length (a .0 .now) - a .1 .1 .1 .1 .1 .0 .at) + 1
 
 abbrev μ-braces : Measures 7 braces-kinds.ps ℕ
-μ-braces κs a = 2 * (length (a .0 .now) - a .1 .1 .1 .1 .0 .at)
+μ-braces κs a = 2 * (length (a .0 .now) - a .1 .1 .1 .1 .1 .0 .at)
 
 abbrev μ-conditional : Measures 7 conditional-kinds.ps ℕ
-μ-conditional κs a = 2 * (length (a .0 .now) - a .1 .1 .1 .1 .0 .at)
+μ-conditional κs a = 2 * (length (a .0 .now) - a .1 .1 .1 .1 .1 .0 .at)
 
 abbrev μ-otherwise : Measures 7 otherwise-kinds.ps ℕ
-μ-otherwise κs a = 2 * (length (a .0 .now) - a .1 .1 .1 .1 .0 .at)
+μ-otherwise κs a = 2 * (length (a .0 .now) - a .1 .1 .1 .1 .1 .0 .at)
 
 abbrev μ-repeat : Measures 7 repeat-kinds.ps ℕ
-μ-repeat κs a = 2 * (length (a .0 .now) - a .1 .1 .1 .1 .0 .at)
+μ-repeat κs a = 2 * (length (a .0 .now) - a .1 .1 .1 .1 .1 .0 .at)
 
 abbrev μ-statement : Measures 7 statement-kinds.ps ℕ
-μ-statement κs a = 2 * (length (a .0 .now) - a .1 .1 .1 .1 .0 .at)
+μ-statement κs a = 2 * (length (a .0 .now) - a .1 .1 .1 .1 .1 .0 .at)
 
 abbrev block-at : ℕ → In 7 block-kinds.ps
 block-at t = and 7 block-kinds.ps (is 7 block-kinds.ps μ-block t) block.Pre
@@ -96,11 +96,11 @@ abbrev statement-below : ℕ → In 7 statement-kinds.ps
 statement-below t = and 7 statement-kinds.ps (falls 7 statement-kinds.ps _<_ μ-statement t) statement′.Pre
 
 abbrev block-Inv-loop : block-lts.InvT-loop
-block-Inv-loop text regs funs arities depth code₀ first₀ second₀ from start cur₀ code first second cur =
-    law.BlockReached text regs funs arities depth from (heldBy cur₀ code₀ first₀ second₀) (heldBy cur code first second)
+block-Inv-loop text regs funs arities first-test depth code₀ first₀ second₀ from start cur₀ code first second cur =
+    law.BlockReached text regs funs arities first-test depth from (heldBy cur₀ code₀ first₀ second₀) (heldBy cur code first second)
 
 abbrev block-μ-loop : block-lts.MeasureT-loop
-block-μ-loop text regs funs arities depth code₀ first₀ second₀ from start cur₀ code first second cur = length text - cur .at
+block-μ-loop text regs funs arities first-test depth code₀ first₀ second₀ from start cur₀ code first second cur = length text - cur .at
 
 pub +block+braces+conditional+otherwise+repeat+statement-spec : {M : Type 1} → statement M
 +block+braces+conditional+otherwise+repeat+statement-spec =
@@ -125,7 +125,7 @@ pub +block+braces+conditional+otherwise+repeat+statement-spec : {M : Type 1} →
     (λ c.
     let at-shared-slice-known3 = c .before .before in
     let at-pre = at-shared-slice-known3 .before .before .before in
-    law.reached-start _ _ _ _ _ _ _ (at-pre .pre .1 .counted) (c .moved .ensures _))
+    law.reached-start _ _ _ _ _ _ _ _ (at-pre .pre .1 .counted) (c .moved .ensures _))
     (λ c κs. search needs)
     (λ c.
     let at-next = c .before .before in
@@ -133,7 +133,7 @@ pub +block+braces+conditional+otherwise+repeat+statement-spec : {M : Type 1} →
     let at-moved = at-loop .before in
     let at-shared-slice-known3 = at-moved .before .before in
     let at-pre = at-shared-slice-known3 .before .before .before in
-    law.block-brace _ _ _ _ _ _ _ _ (at-loop .loop .inv) _ (at-next .next .ensures) _
+    law.block-brace _ _ _ _ _ _ _ _ _ (at-loop .loop .inv) _ (at-next .next .ensures) _
     (at-pre .pre .1 .counted) (at-moved .moved .ensures _) (c .if1 .taken))
     (λ c.
     let at-if1 = c .before .before in
@@ -142,7 +142,7 @@ pub +block+braces+conditional+otherwise+repeat+statement-spec : {M : Type 1} →
     let at-moved = at-loop .before in
     let at-shared-slice-known3 = at-moved .before .before in
     let at-pre = at-shared-slice-known3 .before .before .before in
-    law.block-end _ _ _ _ _ _ _ _ (at-loop .loop .inv) _ (at-next .next .ensures) _ (at-pre .pre .1 .counted) (at-moved .moved .ensures _)
+    law.block-end _ _ _ _ _ _ _ _ _ (at-loop .loop .inv) _ (at-next .next .ensures) _ (at-pre .pre .1 .counted) (at-moved .moved .ensures _)
     (c .if2 .taken))
     (λ c κs.
     let at-if2 = c .before .before .before in
@@ -164,7 +164,7 @@ pub +block+braces+conditional+otherwise+repeat+statement-spec : {M : Type 1} →
     let at-if1 = at-if2 .before .before in
     let at-next = at-if1 .before .before in
     let at-loop = at-next .before in
-    law.reached-turn _ _ _ _ _ _ _ _ (at-loop .loop .inv) _ (at-next .next .ensures) _ (at-statement .statement .ensures) (at-if1 .if1 .left)
+    law.reached-turn _ _ _ _ _ _ _ _ _ (at-loop .loop .inv) _ (at-next .next .ensures) _ (at-statement .statement .ensures) (at-if1 .if1 .left)
     (at-if2 .if2 .left) (at-if3 .if3 .taken) _ (points-joined (at-statement .statement .result) _ _ _ _ _ _ _ (c .join .ensures .0)
     (c .join .ensures .1)) .0)
     (λ c.
@@ -175,7 +175,7 @@ pub +block+braces+conditional+otherwise+repeat+statement-spec : {M : Type 1} →
     let at-if1 = at-if2 .before .before in
     let at-next = at-if1 .before .before in
     let at-loop = at-next .before in
-    law.reached-turn _ _ _ _ _ _ _ _ (at-loop .loop .inv) _ (at-next .next .ensures) _ (at-statement .statement .ensures) (at-if1 .if1 .left)
+    law.reached-turn _ _ _ _ _ _ _ _ _ (at-loop .loop .inv) _ (at-next .next .ensures) _ (at-statement .statement .ensures) (at-if1 .if1 .left)
     (at-if2 .if2 .left) (at-if3 .if3 .taken) _ (points-joined (at-statement .statement .result) _ _ _ _ _ _ _ (c .join .ensures .0)
     (c .join .ensures .1)) .1)
     (λ c.
@@ -185,7 +185,7 @@ pub +block+braces+conditional+otherwise+repeat+statement-spec : {M : Type 1} →
     let at-next = at-if1 .before .before in
     let at-loop = at-next .before in
     let at-moved = at-loop .before in
-    law.block-refused _ _ _ _ _ _ _ _ (at-loop .loop .inv) _ (at-next .next .ensures) _ (c .before .statement .ensures) (at-if1 .if1 .left)
+    law.block-refused _ _ _ _ _ _ _ _ _ (at-loop .loop .inv) _ (at-next .next .ensures) _ (c .before .statement .ensures) (at-if1 .if1 .left)
     (at-if2 .if2 .left) _ (at-moved .moved .ensures _) (c .if3 .left)))
     (λ t. braces-lts.spec (
       next-reads.Asked,
@@ -209,7 +209,7 @@ pub +block+braces+conditional+otherwise+repeat+statement-spec : {M : Type 1} →
     (λ c.
     let at-if1 = c .before .before in
     let at-next = at-if1 .before .before in
-    law.braces-deep _ _ _ _ _ _ _ (at-next .next .ensures) _ (at-if1 .if1 .taken) (c .before .if2 .taken) (c .stopped .ensures _))
+    law.braces-deep _ _ _ _ _ _ _ _ (at-next .next .ensures) _ (at-if1 .if1 .taken) (c .before .if2 .taken) (c .stopped .ensures _))
     (λ c κs.
     let at-next = c .before .before .before in
     let at-shared-slice-known3 = at-next .before .before in
@@ -236,7 +236,7 @@ pub +block+braces+conditional+otherwise+repeat+statement-spec : {M : Type 1} →
     let at-next = at-if1 .before .before in
     let at-shared-slice-known3 = at-next .before .before in
     let at-pre = at-shared-slice-known3 .before .before .before in
-    law.block-count _ _ _ _ _ _ _ (at-next .next .ensures) (at-if1 .if1 .taken) (at-if2 .if2 .left) (at-pre .pre .1 .counted) _ _
+    law.block-count _ _ _ _ _ _ _ _ (at-next .next .ensures) (at-if1 .if1 .taken) (at-if2 .if2 .left) (at-pre .pre .1 .counted) _ _
     (at-moved .moved .ensures _) (at-block .block .ensures) (c .before .if3 .taken))
     (λ c.
     let at-if3 = c .before .before in
@@ -248,7 +248,7 @@ pub +block+braces+conditional+otherwise+repeat+statement-spec : {M : Type 1} →
     let at-next = at-if1 .before .before in
     let at-shared-slice-known3 = at-next .before .before in
     let at-pre = at-shared-slice-known3 .before .before .before in
-    law.braces-read _ _ _ _ _ _ _ (at-next .next .ensures) (at-if1 .if1 .taken) (at-if2 .if2 .left) (at-pre .pre .1 .counted) _ _
+    law.braces-read _ _ _ _ _ _ _ _ (at-next .next .ensures) (at-if1 .if1 .taken) (at-if2 .if2 .left) (at-pre .pre .1 .counted) _ _
     (at-moved .moved .ensures _) (at-block .block .ensures) (at-if3 .if3 .taken) _ _ (c .before .expect .ensures) (c .passed .ensures _))
     (λ c.
     let at-block-arg3 = c .before .before in
@@ -258,7 +258,7 @@ pub +block+braces+conditional+otherwise+repeat+statement-spec : {M : Type 1} →
     let at-next = at-if1 .before .before in
     let at-shared-slice-known3 = at-next .before .before in
     let at-pre = at-shared-slice-known3 .before .before .before in
-    law.braces-refused _ _ _ _ _ _ _ (at-next .next .ensures) (at-if1 .if1 .taken) (at-if2 .if2 .left) (at-pre .pre .1 .counted) _ _
+    law.braces-refused _ _ _ _ _ _ _ _ (at-next .next .ensures) (at-if1 .if1 .taken) (at-if2 .if2 .left) (at-pre .pre .1 .counted) _ _
     (at-moved .moved .ensures _) (c .before .block .ensures) (c .if3 .left))
     (λ c κs. search needs)
     (λ c κs.
@@ -269,12 +269,12 @@ pub +block+braces+conditional+otherwise+repeat+statement-spec : {M : Type 1} →
     (λ c.
     let at-if1 = c .before .before in
     let at-next = at-if1 .before .before in
-    law.braces-unfit _ _ _ _ _ _ _ (at-next .next .ensures) _ _ (at-if1 .if1 .left) (c .before .unfitting .ensures) (c .passed2 .ensures _)))
+    law.braces-unfit _ _ _ _ _ _ _ _ (at-next .next .ensures) _ _ (at-if1 .if1 .left) (c .before .unfitting .ensures) (c .passed2 .ensures _)))
     (λ t. conditional-lts.spec (
       condition-reads.Asked,
       condition-reads.Learnt,
-      settled-reads.Asked,
-      settled-reads.Learnt,
+      weighed-reads.Asked,
+      weighed-reads.Learnt,
       braces-below t,
       braces.Post,
       otherwise-below t,
@@ -286,42 +286,56 @@ pub +block+braces+conditional+otherwise+repeat+statement-spec : {M : Type 1} →
     (λ c κs.
     let at-shared-slice-known3 = c .before in
     let at-pre = at-shared-slice-known3 .before .before .before in
-    at-pre .pre .1 .few .registers)
-    (λ c κs. search needs)
+    at-pre .pre .1 .few)
     (λ c κs.
-    let at-if1 = c .before .before .before in
-    let at-settled = at-if1 .before in
-    let at-settled-arg3 = at-settled .before in
-    let at-condition = at-settled-arg3 .before .before .before in
+    let at-condition = c .before .before .before in
     let at-shared-slice-known3 = at-condition .before .before in
     let at-pre = at-shared-slice-known3 .before .before .before in
-    let (x, y, z) = law.condition-at _ _ _ _ _ (at-condition .condition .ensures) (at-settled .settled .ensures) (at-if1 .if1 .taken) in
+    at-pre .pre .1 .counted)
+    (λ c κs.
+    let at-if1 = c .before .before .before in
+    let at-weighed = at-if1 .before in
+    let at-weighed-arg3 = at-weighed .before in
+    let at-condition = at-weighed-arg3 .before .before .before in
+    let at-shared-slice-known3 = at-condition .before .before in
+    let at-pre = at-shared-slice-known3 .before .before .before in
+    let (x, y, z, u) = law.condition-at _ _ _ _ _ _ _ _ (at-condition .condition .ensures) (at-weighed .weighed .ensures) (at-if1 .if1 .taken) in
     (omega (arith, at-pre .pre .0), law.ready (at-pre .pre .1) z))
     (λ c κs.
     let at-if2 = c .before .before .before in
     let at-braces = at-if2 .before in
     let at-if1 = at-braces .before .before .before .before in
-    let at-settled = at-if1 .before in
-    let at-settled-arg3 = at-settled .before in
-    let at-condition = at-settled-arg3 .before .before .before in
+    let at-weighed = at-if1 .before in
+    let at-weighed-arg3 = at-weighed .before in
+    let at-condition = at-weighed-arg3 .before .before .before in
     let at-shared-slice-known3 = at-condition .before .before in
     let at-pre = at-shared-slice-known3 .before .before .before in
-    let (x, y, z) = law.condition-at _ _ _ _ _ (at-condition .condition .ensures) (at-settled .settled .ensures) (at-if1 .if1 .taken) in
-    let (v, w) = law.braces-at _ _ _ _ _ _ _ (at-braces .braces .ensures) (at-if2 .if2 .taken) in
+    let (x, y, z, u) = law.condition-at _ _ _ _ _ _ _ _ (at-condition .condition .ensures) (at-weighed .weighed .ensures) (at-if1 .if1 .taken) in
+    let (v, w) = law.braces-at _ _ _ _ _ _ _ _ (at-braces .braces .ensures) (at-if2 .if2 .taken) in
     (omega (arith, at-pre .pre .0), law.ready (at-pre .pre .1) w))
+    (λ c.
+    let at-otherwise-arg3 = c .before .before .before in
+    let at-if2 = at-otherwise-arg3 .before .before .before in
+    let at-braces-arg3 = at-if2 .before .before in
+    let at-if1 = at-braces-arg3 .before .before .before in
+    let at-weighed = at-if1 .before in
+    let at-weighed-arg3 = at-weighed .before in
+    let at-condition = at-weighed-arg3 .before .before .before in
+    let (x, y, z, u) = law.condition-at _ _ _ _ _ _ _ _ (at-condition .condition .ensures) (at-weighed .weighed .ensures) (at-if1 .if1 .taken) in
+    omega (arith, u))
     (λ c κs. search needs)
     (λ c.
-    let at-if3 = c .before .before .before in
+    let at-if3 = c .before .before .before .before in
     let at-otherwise = at-if3 .before in
     let at-otherwise-arg3 = at-otherwise .before in
     let at-if2 = at-otherwise-arg3 .before .before .before in
     let at-braces = at-if2 .before in
     let at-braces-arg3 = at-braces .before in
     let at-if1 = at-braces-arg3 .before .before .before in
-    let at-settled = at-if1 .before in
-    let at-settled-arg3 = at-settled .before in
-    let at-condition = at-settled-arg3 .before .before .before in
-    law.conditional-read _ _ _ _ _ (at-condition .condition .ensures) (at-settled .settled .ensures) _ _ _ (at-if1 .if1 .taken) _
+    let at-weighed = at-if1 .before in
+    let at-weighed-arg3 = at-weighed .before in
+    let at-condition = at-weighed-arg3 .before .before .before in
+    law.conditional-read _ _ _ _ _ _ _ _ (at-condition .condition .ensures) (at-weighed .weighed .ensures) _ (at-if1 .if1 .taken) _
     (at-braces .braces .ensures) (at-if2 .if2 .taken) _ (at-otherwise .otherwise .ensures) (at-if3 .if3 .taken) _
     (points-branched (at-otherwise .otherwise .result) _ _ _ _ _ _ _ (c .branch .ensures .0) (c .branch .ensures .1)))
     (λ c.
@@ -330,23 +344,23 @@ pub +block+braces+conditional+otherwise+repeat+statement-spec : {M : Type 1} →
     let at-braces = at-if2 .before in
     let at-braces-arg3 = at-braces .before in
     let at-if1 = at-braces-arg3 .before .before .before in
-    let at-settled = at-if1 .before in
-    let at-settled-arg3 = at-settled .before in
-    let at-condition = at-settled-arg3 .before .before .before in
-    law.conditional-else _ _ _ _ _ (at-condition .condition .ensures) (at-settled .settled .ensures) _ _ _ (at-if1 .if1 .taken) _
+    let at-weighed = at-if1 .before in
+    let at-weighed-arg3 = at-weighed .before in
+    let at-condition = at-weighed-arg3 .before .before .before in
+    law.conditional-else _ _ _ _ _ _ _ _ (at-condition .condition .ensures) (at-weighed .weighed .ensures) _ (at-if1 .if1 .taken) _
     (at-braces .braces .ensures) (at-if2 .if2 .taken) _ (c .before .otherwise .ensures) (c .if3 .left))
     (λ c.
     let at-braces-arg3 = c .before .before in
     let at-if1 = at-braces-arg3 .before .before .before in
-    let at-settled = at-if1 .before in
-    let at-settled-arg3 = at-settled .before in
-    let at-condition = at-settled-arg3 .before .before .before in
-    law.conditional-braces _ _ _ _ _ (at-condition .condition .ensures) (at-settled .settled .ensures) _ _ _ (at-if1 .if1 .taken) _
+    let at-weighed = at-if1 .before in
+    let at-weighed-arg3 = at-weighed .before in
+    let at-condition = at-weighed-arg3 .before .before .before in
+    law.conditional-braces _ _ _ _ _ _ _ _ (at-condition .condition .ensures) (at-weighed .weighed .ensures) _ (at-if1 .if1 .taken) _
     (c .before .braces .ensures) (c .if2 .left))
     (λ c.
-    let at-settled-arg3 = c .before .before in
-    let at-condition = at-settled-arg3 .before .before .before in
-    law.conditional-refused _ _ _ _ _ (at-condition .condition .ensures) (c .before .settled .ensures) _ _ _
+    let at-weighed-arg3 = c .before .before in
+    let at-condition = at-weighed-arg3 .before .before .before in
+    law.conditional-refused _ _ _ _ _ _ _ _ (at-condition .condition .ensures) (c .before .weighed .ensures) _
     (c .if1 .left)))
     (λ t. otherwise-lts.spec (
       next-reads.Asked,
@@ -380,19 +394,19 @@ pub +block+braces+conditional+otherwise+repeat+statement-spec : {M : Type 1} →
     let at-next = at-if1 .before .before in
     let at-shared-slice-known3 = at-next .before .before in
     let at-pre = at-shared-slice-known3 .before .before .before in
-    law.else-present _ _ _ _ _ _ _ (at-next .next .ensures) _ _ (at-if1 .if1 .taken) (at-pre .pre .1 .counted) (at-moved .moved .ensures _)
+    law.else-present _ _ _ _ _ _ _ _ (at-next .next .ensures) _ _ (at-if1 .if1 .taken) (at-pre .pre .1 .counted) (at-moved .moved .ensures _)
     (c .braces .ensures))
     (λ c κs.
     let at-next = c .before .before in
     let at-shared-slice-known3 = at-next .before .before in
     let at-pre = at-shared-slice-known3 .before .before .before in
     at-pre .pre .1 .counted)
-    (λ c. law.else-absent _ _ _ _ _ _ _ (c .before .before .before .next .ensures) _ (c .before .if1 .left) (c .moved2 .ensures _)))
+    (λ c. law.else-absent _ _ _ _ _ _ _ _ (c .before .before .before .next .ensures) _ (c .before .if1 .left) (c .moved2 .ensures _)))
     (λ t. repeat-lts.spec (
       condition-reads.Asked,
       condition-reads.Learnt,
-      settled-reads.Asked,
-      settled-reads.Learnt,
+      weighed-reads.Asked,
+      weighed-reads.Learnt,
       braces-below t,
       braces.Post,
       repeat-from-reads.Asked,
@@ -402,41 +416,53 @@ pub +block+braces+conditional+otherwise+repeat+statement-spec : {M : Type 1} →
     (λ c κs.
     let at-shared-slice-known3 = c .before in
     let at-pre = at-shared-slice-known3 .before .before .before in
-    at-pre .pre .1 .few .registers)
-    (λ c κs. search needs)
+    at-pre .pre .1 .few)
     (λ c κs.
-    let at-if1 = c .before .before .before in
-    let at-settled = at-if1 .before in
-    let at-settled-arg3 = at-settled .before in
-    let at-condition = at-settled-arg3 .before .before .before in
+    let at-condition = c .before .before .before in
     let at-shared-slice-known3 = at-condition .before .before in
     let at-pre = at-shared-slice-known3 .before .before .before in
-    let (x, y, z) = law.condition-at _ _ _ _ _ (at-condition .condition .ensures) (at-settled .settled .ensures) (at-if1 .if1 .taken) in
+    at-pre .pre .1 .counted)
+    (λ c κs.
+    let at-if1 = c .before .before .before in
+    let at-weighed = at-if1 .before in
+    let at-weighed-arg3 = at-weighed .before in
+    let at-condition = at-weighed-arg3 .before .before .before in
+    let at-shared-slice-known3 = at-condition .before .before in
+    let at-pre = at-shared-slice-known3 .before .before .before in
+    let (x, y, z, u) = law.condition-at _ _ _ _ _ _ _ _ (at-condition .condition .ensures) (at-weighed .weighed .ensures) (at-if1 .if1 .taken) in
     (omega (arith, at-pre .pre .0), law.ready (at-pre .pre .1) z))
+    (λ c.
+    let at-braces-arg3 = c .before .before .before in
+    let at-if1 = at-braces-arg3 .before .before .before in
+    let at-weighed = at-if1 .before in
+    let at-weighed-arg3 = at-weighed .before in
+    let at-condition = at-weighed-arg3 .before .before .before in
+    let (x, y, z, u) = law.condition-at _ _ _ _ _ _ _ _ (at-condition .condition .ensures) (at-weighed .weighed .ensures) (at-if1 .if1 .taken) in
+    omega (arith, u))
     (λ c κs. search needs)
     (λ c.
-    let at-if2 = c .before .before .before in
+    let at-if2 = c .before .before .before .before in
     let at-braces = at-if2 .before in
     let at-braces-arg3 = at-braces .before in
     let at-if1 = at-braces-arg3 .before .before .before in
-    let at-settled = at-if1 .before in
-    let at-settled-arg3 = at-settled .before in
-    let at-condition = at-settled-arg3 .before .before .before in
-    law.repeat-read _ _ _ _ _ (at-condition .condition .ensures) (at-settled .settled .ensures) _ _ _ (at-if1 .if1 .taken) _
-    (at-braces .braces .ensures) (at-if2 .if2 .taken) _ (points-looped (at-braces .braces .result) _ _ _ _ _ _ (c .repeat-from .ensures .0)
+    let at-weighed = at-if1 .before in
+    let at-weighed-arg3 = at-weighed .before in
+    let at-condition = at-weighed-arg3 .before .before .before in
+    law.repeat-read _ _ _ _ _ _ _ _ (at-condition .condition .ensures) (at-weighed .weighed .ensures) _ (at-if1 .if1 .taken) _
+    (at-braces .braces .ensures) (at-if2 .if2 .taken) _ (points-looped (at-braces .braces .result) _ _ _ _ _ _ _ (c .repeat-from .ensures .0)
     (c .repeat-from .ensures .1)))
     (λ c.
     let at-braces-arg3 = c .before .before in
     let at-if1 = at-braces-arg3 .before .before .before in
-    let at-settled = at-if1 .before in
-    let at-settled-arg3 = at-settled .before in
-    let at-condition = at-settled-arg3 .before .before .before in
-    law.repeat-braces _ _ _ _ _ (at-condition .condition .ensures) (at-settled .settled .ensures) _ _ _ (at-if1 .if1 .taken) _
+    let at-weighed = at-if1 .before in
+    let at-weighed-arg3 = at-weighed .before in
+    let at-condition = at-weighed-arg3 .before .before .before in
+    law.repeat-braces _ _ _ _ _ _ _ _ (at-condition .condition .ensures) (at-weighed .weighed .ensures) _ (at-if1 .if1 .taken) _
     (c .before .braces .ensures) (c .if2 .left))
     (λ c.
-    let at-settled-arg3 = c .before .before in
-    let at-condition = at-settled-arg3 .before .before .before in
-    law.repeat-refused _ _ _ _ _ (at-condition .condition .ensures) (c .before .settled .ensures) _ _ _ (c .if1 .left)))
+    let at-weighed-arg3 = c .before .before in
+    let at-condition = at-weighed-arg3 .before .before .before in
+    law.repeat-refused _ _ _ _ _ _ _ _ (at-condition .condition .ensures) (c .before .weighed .ensures) _ (c .if1 .left)))
     λ t. statement-lts.spec (
       next-reads.Asked,
       next-reads.Learnt,
@@ -473,7 +499,7 @@ pub +block+braces+conditional+otherwise+repeat+statement-spec : {M : Type 1} →
     let at-next = at-if1 .before .before in
     let at-shared-slice-known3 = at-next .before .before in
     let at-pre = at-shared-slice-known3 .before .before .before in
-    law.statement-if _ _ _ _ _ _ _ (at-next .next .ensures) (at-pre .pre .1 .counted) _ _ (at-moved .moved .ensures _) (at-if1 .if1 .taken)
+    law.statement-if _ _ _ _ _ _ _ _ (at-next .next .ensures) (at-pre .pre .1 .counted) _ _ (at-moved .moved .ensures _) (at-if1 .if1 .taken)
     (c .conditional .ensures))
     (λ c κs.
     let at-if1 = c .before .before in
@@ -500,7 +526,7 @@ pub +block+braces+conditional+otherwise+repeat+statement-spec : {M : Type 1} →
     let at-next = at-if1 .before .before in
     let at-shared-slice-known3 = at-next .before .before in
     let at-pre = at-shared-slice-known3 .before .before .before in
-    law.statement-while _ _ _ _ _ _ _ (at-next .next .ensures) (at-pre .pre .1 .counted) _ _ (at-moved2 .moved2 .ensures _) (at-if2 .if2 .taken)
+    law.statement-while _ _ _ _ _ _ _ _ (at-next .next .ensures) (at-pre .pre .1 .counted) _ _ (at-moved2 .moved2 .ensures _) (at-if2 .if2 .taken)
     (c .repeat .ensures))
     (λ c κs.
     let at-if2 = c .before .before .before in

@@ -11,13 +11,14 @@ use borrow.Author.Tests.{leb-true, leb-false, le-ltb, lt-leb, le-leb}
 use Rattle.base.proofs.Theory.Choice.{byTest}
 use Rattle.base.specs.Each.{each}
 use Rattle.grammar.specs.Limits.{mostPoints}
-use Rattle.blocks.specs.Held.{unknown, tooMany}
+use Rattle.blocks.specs.Held.{stepKind, unknown, tooMany}
 use Rattle.letters.specs.declared.Letter.{Letter}
 use Rattle.grammar.specs.Reading.{Got, got, exhausted, andThen}
 use Rattle.phrases.specs.declared.GotNumber as number
 use Rattle.phrases.specs.declared.GotLetter as letter
-use Rattle.blocks.specs.Held.{Coded, pointsOf, Progress, progressOf, heldBy, HoldsPoints}
-use Rattle.blocks.specs.Outcome.{Fine, RefusedAt, ReadAs, Settled, Passed, waiting, backpatchedIn, begins}
+use Rattle.phrases.specs.declared.GotCondition as held
+use Rattle.blocks.specs.Held.{point, Coded, pointsOf, Progress, progressOf, heldBy, HoldsPoints}
+use Rattle.blocks.specs.Outcome.{Fine, RefusedAt, ReadAs, Settled, Weighed, Passed, waiting, applying, backpatchedIn, begins}
 use Rattle.blocks.specs.Outcome.{changedTo}
 use Rattle.blocks.proofs.Theory.Outcome.{withPoints, changed, forked, joined, branched, looped}
 use Rattle.blocks.proofs.Theory.TableLaws.{over-push, points-set, points-forked, points-range}
@@ -41,10 +42,10 @@ fine-moved st at h ps = record {
       (record { size = H .size; count = H .count; points = H .points });
 }
 
-pub fine-pushed : (st : ReaderState) (k : ℕ) (w : Letter) (at : ℕ) (cs xs ys : List ℕ) (c : ℕ) → Coded k w c → st .count < mostPoints
-    → Fine (heldBy st cs xs ys) (heldBy (on at (st .count + 1)) (set cs (st .count) c) (set xs (st .count) unknown) (set ys (st .count) 0))
-    (waiting k w ∷ []) at
-fine-pushed st k w at cs xs ys c e h = record {
+pub fine-pushed : (st : ReaderState) (k : ℕ) (w : Letter) (next at : ℕ) (cs xs ys : List ℕ) (c : ℕ) → Coded k w c → st .count < mostPoints
+    → Fine (heldBy st cs xs ys) (heldBy (on at (st .count + 1)) (set cs (st .count) c) (set xs (st .count) next) (set ys (st .count) 0))
+    (point k w next 0 ∷ []) at
+fine-pushed st k w next at cs xs ys c e h = record {
   ok = refl;
   number = refl;
   place = refl;
@@ -53,18 +54,18 @@ fine-pushed st k w at cs xs ys c e h = record {
   high = λ l. absurd (omega arith);
   laid = λ old ds H l. record {
     size = H .size;
-    count = let n = H .count in let m = length-append ds (waiting k w ∷ []) in omega arith;
+    count = let n = H .count in let m = length-append ds (point k w next 0 ∷ []) in omega arith;
     points =
-        points-set cs xs ys (st .count) c unknown 0
-        ∙ ap (λ p. set (pointsOf cs xs ys) (st .count) p) (e unknown 0)
-        ∙ (λ i. set (H .points i) (H .count i) (waiting k w))
-        ∙ over-push old ds (waiting k w) (let n = H .count in let m = H .size in omega arith);
+        points-set cs xs ys (st .count) c next 0
+        ∙ ap (λ p. set (pointsOf cs xs ys) (st .count) p) (e next 0)
+        ∙ (λ i. set (H .points i) (H .count i) (point k w next 0))
+        ∙ over-push old ds (point k w next 0) (let n = H .count in let m = H .size in omega arith);
   };
 }
 
-pub fine-full : (st : ReaderState) (k : ℕ) (w : Letter) (at : ℕ) (ps : List PointEntry) → mostPoints ≤ st .count
-    → Fine (progressOf st ps) (progressOf (on at tooMany) ps) (waiting k w ∷ []) at
-fine-full st k w at ps h = record {
+pub fine-full : (st : ReaderState) (k : ℕ) (w : Letter) (next at : ℕ) (ps : List PointEntry) → mostPoints ≤ st .count
+    → Fine (progressOf st ps) (progressOf (on at tooMany) ps) (point k w next 0 ∷ []) at
+fine-full st k w next at ps h = record {
   ok = refl;
   number = refl;
   place = refl;
@@ -76,6 +77,12 @@ fine-full st k w at ps h = record {
 
 pub fine-count : {st r : Progress} {ps : List PointEntry} {e : ℕ} → Fine st r ps e → r .count ≤ tooMany
 fine-count {st} {r} {ps} f = byTest (leb (st .count + length ps) mostPoints)
+    (λ t. let l = leb-true (st .count + length ps) mostPoints t in omega (arith, f .low l))
+    λ t. omega (arith, f .high (leb-false (st .count + length ps) mostPoints t))
+
+-- some point was read
+pub fine-some : {st r : Progress} {ps : List PointEntry} {e : ℕ} → Fine st r ps e → 0 < length ps → 0 < r .count
+fine-some {st} {r} {ps} f h = byTest (leb (st .count + length ps) mostPoints)
     (λ t. let l = leb-true (st .count + length ps) mostPoints t in omega (arith, f .low l))
     λ t. omega (arith, f .high (leb-false (st .count + length ps) mostPoints t))
 
@@ -102,12 +109,23 @@ fine-then {st} {q} {r} {ps} {qs} f g = record {
 
 -- ---- answers as code holds them
 
-pub settled-at : (k e : ℕ) (l : Letter) (st r : Progress) (g : letter.GotLetter) → g ≡ letter.the-variants.At l e → Fine st r (waiting k l ∷ []) e
-    → Settled k st r g
-settled-at k e l st r g h f = rw h f
+pub settled-at : (e : ℕ) (l : Letter) (st r : Progress) (g : letter.GotLetter) → g ≡ letter.the-variants.At l e → Fine st r (waiting stepKind l ∷ []) e
+    → Settled st r g
+settled-at e l st r g h f = rw h f
 
-pub settled-refused : (k n p : ℕ) (st r : Progress) (g : letter.GotLetter) → g ≡ letter.the-variants.Refused n p → RefusedAt r n p → Settled k st r g
-settled-refused k n p st r g h f = rw h f
+pub settled-refused : (n p : ℕ) (st r : Progress) (g : letter.GotLetter) → g ≡ letter.the-variants.Refused n p → RefusedAt r n p → Settled st r g
+settled-refused n p st r g h f = rw h f
+
+pub weighed-compared : (k e : ℕ) (l : Letter) (st r : Progress) (g : held.GotCondition) → g ≡ held.the-variants.Compared l e → Fine st r (waiting k l ∷ []) e
+    → Weighed k st r g
+weighed-compared k e l st r g h f = rw h f
+
+pub weighed-named : (k e : ℕ) (a l : Letter) (st q r : Progress) (g : held.GotCondition) → g ≡ held.the-variants.Named a l e
+    → Fine st q (applying a (st .count) ∷ []) e → Fine q r (waiting k l ∷ []) e → Weighed k st r g
+weighed-named k e a l st q r g h f i = rw h (fine-then f i)
+
+pub weighed-refused : (k n p : ℕ) (st r : Progress) (g : held.GotCondition) → g ≡ held.the-variants.Refused n p → RefusedAt r n p → Weighed k st r g
+weighed-refused k n p st r g h f = rw h f
 
 pub passed-at : (v e : ℕ) (st r : Progress) (g : number.GotNumber) → g ≡ number.the-variants.At v e → Fine st r [] e → Passed st r g
 passed-at v e st r g h f = rw h f
@@ -168,22 +186,22 @@ module _ (q : ReaderState) (cs xs ys xs′ ys′ : List ℕ) where
   points-joined from to e f =
       (λ i. heldBy q cs (e i) (f i)) ∙ ap (progressOf q) (points-changed (q .count) to cs xs ys _ _ _ (points-range cs xs ys from to to))
 
-  pub points-branched : (base mid : ℕ) → xs′ ≡ changedTo (q .count) base (set xs base (begins (base + 1) mid unknown)) xs
-      → ys′ ≡ changedTo (q .count) base (set ys base (begins mid (q .count) unknown)) ys → heldBy q cs xs′ ys′ ≡ branched (heldBy q cs xs ys) base mid
+  pub points-branched : (test mid : ℕ) → xs′ ≡ changedTo (q .count) test (set xs test (begins (test + 1) mid unknown)) xs
+      → ys′ ≡ changedTo (q .count) test (set ys test (begins mid (q .count) unknown)) ys → heldBy q cs xs′ ys′ ≡ branched (heldBy q cs xs ys) test mid
   unfolding branched
-  points-branched base mid e f =
-      (λ i. heldBy q cs (e i) (f i)) ∙ ap (progressOf q) (points-changed (q .count) base cs xs ys _ _ _ (points-forked cs xs ys base _ _))
+  points-branched test mid e f =
+      (λ i. heldBy q cs (e i) (f i)) ∙ ap (progressOf q) (points-changed (q .count) test cs xs ys _ _ _ (points-forked cs xs ys test _ _))
 
-  pub points-looped : (base : ℕ)
-      → xs′ ≡ changedTo (q .count) base (set (each (backpatchedIn (base + 1) (q .count) base) xs) base (begins (base + 1) (q .count) base)) xs
-      → ys′ ≡ changedTo (q .count) base (set (each (backpatchedIn (base + 1) (q .count) base) ys) base unknown) ys
-      → heldBy q cs xs′ ys′ ≡ looped (heldBy q cs xs ys) base
+  pub points-looped : (test back : ℕ)
+      → xs′ ≡ changedTo (q .count) test (set (each (backpatchedIn (test + 1) (q .count) back) xs) test (begins (test + 1) (q .count) back)) xs
+      → ys′ ≡ changedTo (q .count) test (set (each (backpatchedIn (test + 1) (q .count) back) ys) test unknown) ys
+      → heldBy q cs xs′ ys′ ≡ looped (heldBy q cs xs ys) test back
   unfolding looped
-  points-looped base e f =
+  points-looped test back e f =
       (λ i. heldBy q cs (e i) (f i))
-      ∙ ap (progressOf q) (points-changed (q .count) base cs xs ys _ _ _
-      (points-forked cs _ _ base _ _ ∙ ap (λ ps. forked ps base (begins (base + 1) (q .count) base) unknown)
-      (points-range cs xs ys (base + 1) (q .count) base)))
+      ∙ ap (progressOf q) (points-changed (q .count) test cs xs ys _ _ _
+      (points-forked cs _ _ test _ _ ∙ ap (λ ps. forked ps test (begins (test + 1) (q .count) back) unknown)
+      (points-range cs xs ys (test + 1) (q .count) back)))
 
 -- ---- what the arrays hold, whatever stood in them
 

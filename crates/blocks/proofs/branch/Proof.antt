@@ -24,6 +24,6 @@ branch-spec =
     let args = at-if1 .before .args in
     let few = at-if1 .if1 .left in
     let some = at-if2 .if2 .left in (
-      change-some _ _ _ _ few some _ (ap (set (args .first .now) (args .base)) (c .before .begin .ensures)),
-      change-some _ _ _ _ few some _ (ap (set (args .second .now) (args .base)) (c .begin2 .ensures)),
+      change-some _ _ _ _ few some _ (ap (set (args .first .now) (args .test)) (c .before .begin .ensures)),
+      change-some _ _ _ _ few some _ (ap (set (args .second .now) (args .test)) (c .begin2 .ensures)),
     )))

@@ -18,5 +18,5 @@ pushed-spec =
     (λ c. search needs)
     (λ c. search needs)
     (λ c. search needs)
-    (λ c. fine-pushed (c .before .before .args .st) _ _ _ _ _ _ _ (c .code-of .ensures) (c .before .if1 .taken))
-    (λ c. fine-full (c .before .args .st) _ _ _ _ (c .if1 .left)))
+    (λ c. fine-pushed (c .before .before .args .st) _ _ _ _ _ _ _ _ (c .code-of .ensures) (c .before .if1 .taken))
+    (λ c. fine-full (c .before .args .st) _ _ _ _ _ (c .if1 .left)))

@@ -25,6 +25,6 @@ repeat-from-spec =
     let few = at-if1 .if1 .left in
     let some = at-if2 .if2 .left in
     let ranges = at-redirect-range .redirect-range .ensures in (
-      change-some _ _ _ _ few some _ (λ i. set (ranges .0 i) (args .base) (c .begin .ensures i)),
-      change-some _ _ _ _ few some _ (λ i. set (ranges .1 i) (args .base) 256),
+      change-some _ _ _ _ few some _ (λ i. set (ranges .0 i) (args .test) (c .begin .ensures i)),
+      change-some _ _ _ _ few some _ (λ i. set (ranges .1 i) (args .test) 256),
     )))

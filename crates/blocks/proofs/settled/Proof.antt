@@ -13,5 +13,5 @@ settled-spec =
     (λ c.
     let at-pushed-arg2 = c .before .before in
     let at-g = at-pushed-arg2 .before .before .before in
-    settled-at _ _ _ _ _ _ (at-g .g .given .1) (c .pushed .ensures))
-    (λ c. settled-refused _ _ _ _ _ _ (c .before .before .g2 .given .1) (c .stopped .ensures _)))
+    settled-at _ _ _ _ _ (at-g .g .given .1) (c .pushed .ensures))
+    (λ c. settled-refused _ _ _ _ _ (c .before .before .g2 .given .1) (c .stopped .ensures _)))

@@ -14,7 +14,9 @@ use Rattle.macros.specs.Points.{sizeBlock, moved, moves-at}
 use Rattle.macros.proofs.Theory.Points.{compileBlock-length}
 use Rattle.macros.proofs.Theory.Fitting.{FitsMove, points-fit}
 use Rattle.macros.specs.Order.{Branch}
-use Rattle.grammar.specs.Grammar.{headerOf}
+use Rattle.grammar.specs.Grammar.{headerOf, expanded}
+use Rattle.grammar.proofs.Theory.Expanded.{expanded-fits}
+use Rattle.grammar.proofs.Theory.Hidden.{registers-within}
 use Rattle.blocks.specs.declared.PointEntry.{PointEntry}
 use Rattle.blocks.specs.Held.{unusedPoint, heldPoint, pointTable}
 use Rattle.verdict_theory.proofs.Theory.Pairs.{Setting}
@@ -34,19 +36,19 @@ module _ (given : Given) where
   header = headerOf (given .macro)
 
   abbrev pub body : Block
-  body = given .macro .body
+  body = expanded (given .macro)
 
   -- the number of the end: that of the points
   abbrev pub end : ℕ
-  end = sizeBlock (given .macro .body)
+  end = sizeBlock (expanded (given .macro))
 
   -- the points as the reader holds them
   abbrev pub held : List PointEntry
-  held = pointTable (map heldPoint (points.points (given .macro .body)))
+  held = pointTable (map heldPoint (points.points (expanded (given .macro))))
 
   -- the window at the start
   abbrev pub fresh : Window
-  fresh = freshOf (length (given .macro .registers))
+  fresh = freshOf (headerOf (given .macro) .registers)
 
   abbrev pub setting : Setting
   setting = record {
@@ -54,14 +56,14 @@ module _ (given : Given) where
     start = begin (headerOf (given .macro));
     formed = (tt, refl);
     coherent = tt;
-    body = given .macro .body;
-    proper = given .in-order .uses;
+    body = expanded (given .macro);
+    proper = expanded-fits (given .macro) (given .in-order);
     Window = Window;
     Tracks = IsWindow;
-    fresh = freshOf (length (given .macro .registers));
+    fresh = freshOf (headerOf (given .macro) .registers);
     perform = performing;
     infeasible = infeasibleIn;
-    monitor = watches (headerOf (given .macro)) (given .in-order .few) (given .in-order .fewer);
+    monitor = watches (headerOf (given .macro)) (registers-within (given .macro) (given .in-order)) (given .in-order .fewer);
   }
 
   -- the branches that are held are the macro's
@@ -74,5 +76,5 @@ module _ (given : Given) where
       ∙ branch-meant x b ∙ ap (λ o. moved o (branchNumbered b)) (sym e)
 
   -- their letters fit
-  pub moves-fit : (k : ℕ) (b : Branch) → FitsMove (headerOf (given .macro)) (moves-at (points.points (given .macro .body)) k b)
-  moves-fit = points-fit header body (given .in-order .uses)
+  pub moves-fit : (k : ℕ) (b : Branch) → FitsMove (headerOf (given .macro)) (moves-at (points.points (expanded (given .macro))) k b)
+  moves-fit = points-fit header body (expanded-fits (given .macro) (given .in-order))

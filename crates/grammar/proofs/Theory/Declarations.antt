@@ -15,7 +15,7 @@ use Rattle.tokens.specs.Words.{isName}
 use Rattle.tokens.specs.Words as word
 use Rattle.tokens.proofs.Theory.WordsLaws.{name-real}
 use Rattle.grammar.specs.Grammar.{entryTokens}
-use Rattle.grammar.specs.Reading.{got, expect, indexOf, listedT, isDeclared, registerNames, arityOf, functionEntries}
+use Rattle.grammar.specs.Reading.{got, expect, indexOf, listedT, isDeclared, registerNames, arityOf, entries}
 use Rattle.grammar.specs.Spelled.{Spells, Declared, Disjoint, Arities}
 use Rattle.grammar.specs.Spelled as spelled
 use Rattle.grammar.proofs.Theory.Sound.{index-at, onward-got, expect-sound, spells-one, spells-then, pick-case, not-refused, got-value, got-place}
@@ -121,7 +121,7 @@ module _ (s : List ℕ) where
       rw (real, fresh, j) (registers-complete ks (rs ++ k ∷ []) room (tokenAt s at .end) e (subst Declared (sym q) D) (subst (λ r. 1 ≤ length r) (sym q) n)
       (omega arith) (spells-rest s p) ∙ ap (λ r. got r e) q)
 
--- ---- functions
+-- ---- functions and tests
 
 pub or-false : (a b : Bool) → a || b ≡ false → (a ≡ false) × (b ≡ false)
 or-false true b h = let z : _≡_ {A = ℕ} 0 1 = cc in absurd (omega arith)
@@ -156,24 +156,25 @@ module _ (s rs : List ℕ) where
       ))
       λ u f. absurd (not-refused f)
 
-  -- what reading the entries has to show
-  abbrev Found : ℕ → List ℕ → List ℕ → ℕ → List ℕ → List ℕ → ℕ → Type 0
-  Found room fs ns at gs ms e = (ks : List ℕ) × (ls : List ℕ) × (gs ≡ fs ++ ks) × (ms ≡ ns ++ ls) × Declared gs × Disjoint rs gs × Arities ks ls
-      × (1 ≤ length gs) × (length ks ≤ room) × Spells s at (entryTokens ks ls ++ word.semicolonKey ∷ []) e
+  -- what reading the entries of a line has to show, behind the functions up to number `first`
+  abbrev Found : ℕ → ℕ → List ℕ → List ℕ → ℕ → List ℕ → List ℕ → ℕ → Type 0
+  Found first room fs ns at gs ms e = (ks : List ℕ) × (ls : List ℕ) × (gs ≡ fs ++ ks) × (ms ≡ ns ++ ls) × Declared gs × Disjoint rs gs × Arities ks ls
+      × (first < length gs) × (length ks ≤ room) × Spells s at (entryTokens ks ls ++ word.semicolonKey ∷ []) e
 
-  ended-list : (room : ℕ) (fs ns : List ℕ) (at : ℕ) (r : List ℕ × List ℕ) (e : ℕ) → Declared fs → Disjoint rs fs
-      → listedT s (length fs) (fs, ns) (tokenAt s at) ≡ got r e → Found room fs ns at (r .0) (r .1) e
+  ended-list : (first room : ℕ) (fs ns : List ℕ) (at : ℕ) (r : List ℕ × List ℕ) (e : ℕ) → Declared fs → Disjoint rs fs
+      → listedT s (length fs - first) (fs, ns) (tokenAt s at) ≡ got r e → Found first room fs ns at (r .0) (r .1) e
   unfolding entryTokens
-  ended-list room fs ns at r e D P g =
-      let (q, n, p) = listed-sound s (length fs) at (fs, ns) r e g in
-      subst (λ r. Found room fs ns at (r .0) (r .1) e) q ([], [], sym (append-nil fs), sym (append-nil ns), D, P, Arities.none, n, omega arith, p)
+  ended-list first room fs ns at r e D P g =
+      let (q, n, p) = listed-sound s (length fs - first) at (fs, ns) r e g in
+      subst (λ r. Found first room fs ns at (r .0) (r .1) e) q
+      ([], [], sym (append-nil fs), sym (append-nil ns), D, P, Arities.none, omega arith, omega arith, p)
 
-  pub functions-sound : (room : ℕ) (fs ns : List ℕ) (at : ℕ) (r : List ℕ × List ℕ) (e : ℕ) → Declared fs → Disjoint rs fs
-      → functionEntries s rs room fs ns at ≡ got r e → Found room fs ns at (r .0) (r .1) e
-  unfolding functionEntries entryTokens
-  functions-sound zero fs ns at r e D P h =
-      pick-case (isName (tokenAt s at .key)) _ _ _ h (λ t g. absurd (not-refused g)) λ t g. ended-list zero fs ns at r e D P g
-  functions-sound (suc room) fs ns at r e D P h =
+  pub entries-sound : (first room : ℕ) (fs ns : List ℕ) (at : ℕ) (r : List ℕ × List ℕ) (e : ℕ) → Declared fs → Disjoint rs fs
+      → entries s rs first room fs ns at ≡ got r e → Found first room fs ns at (r .0) (r .1) e
+  unfolding entries entryTokens
+  entries-sound first zero fs ns at r e D P h =
+      pick-case (isName (tokenAt s at .key)) _ _ _ h (λ t g. absurd (not-refused g)) λ t g. ended-list first zero fs ns at r e D P g
+  entries-sound first (suc room) fs ns at r e D P h =
       pick-case (isName (tokenAt s at .key)) _ _ _ h
       (λ t g. pick-case (isDeclared (tokenAt s at .key) rs || isDeclared (tokenAt s at .key) fs) _ _ _ g (λ u f. absurd (not-refused f))
       λ u f.
@@ -182,7 +183,7 @@ module _ (s rs : List ℕ) where
       let (n, b, g₂, h₂) = onward-got (arityOf s (tokenAt s at .end)) _ r e f in
       let (w, p₂) = arity-sound (tokenAt s at .end) n b g₂ in
       let (ks, ls, q, q′, D′, P′, A, m, l, p) =
-      functions-sound room (fs ++ k ∷ []) (ns ++ n ∷ []) b r e (declared-more fs k D t y) (apart-more rs fs k P x) h₂ in (
+      entries-sound first room (fs ++ k ∷ []) (ns ++ n ∷ []) b r e (declared-more fs k D t y) (apart-more rs fs k P x) h₂ in (
         k ∷ ks,
         n ∷ ls,
         q ∙ append-assoc fs (k ∷ []) ks,
@@ -195,7 +196,7 @@ module _ (s rs : List ℕ) where
         omega arith,
         Spells.more refl (name-real k t) (spells-then s p₂ p),
       ))
-      λ t g. ended-list (suc room) fs ns at r e D P g
+      λ t g. ended-list first (suc room) fs ns at r e D P g
     where
       arity : (k n : ℕ) (ks ls : List ℕ) → (n ≡ 1) ⊎ (n ≡ 2) → Arities ks ls → Arities (k ∷ ks) (n ∷ ls)
       arity k n ks ls (inl q) A = subst (λ n. Arities (k ∷ ks) (n ∷ ls)) (sym q) (Arities.one A)
@@ -220,43 +221,43 @@ module _ (s rs : List ℕ) where
       let (m, p₁, q) = spells-split s (word.slashKey ∷ []) p in
       rw (expect-complete s p₁, ap (λ k. eqb k 49) (spells-key s q), eq-eqb (tokenAt s m .key) 50 (spells-key s q)) (ap (got 2) (spells-end s q))
 
-  list-end : (room : ℕ) (fs ns : List ℕ) (at e : ℕ) → 1 ≤ length (fs ++ []) → Spells s at (word.semicolonKey ∷ []) e
-      → functionEntries s rs room fs ns at ≡ got (fs ++ [], ns ++ []) e
-  unfolding functionEntries
-  list-end zero fs ns at e m p = rw (ap isName (spells-key s p), append-nil fs, append-nil ns)
-      (listed-complete s (length fs) at (fs, ns) (rw append-nil at m) p)
-  list-end (suc room) fs ns at e m p =
-      rw (ap isName (spells-key s p), append-nil fs, append-nil ns) (listed-complete s (length fs) at (fs, ns) (rw append-nil at m) p)
+  list-end : (first room : ℕ) (fs ns : List ℕ) (at e : ℕ) → first < length (fs ++ []) → Spells s at (word.semicolonKey ∷ []) e
+      → entries s rs first room fs ns at ≡ got (fs ++ [], ns ++ []) e
+  unfolding entries
+  list-end first zero fs ns at e m p = let n : first < length fs = rw append-nil at m in
+      rw (ap isName (spells-key s p), append-nil fs, append-nil ns) (listed-complete s (length fs - first) at (fs, ns) (omega arith) p)
+  list-end first (suc room) fs ns at e m p = let n : first < length fs = rw append-nil at m in
+      rw (ap isName (spells-key s p), append-nil fs, append-nil ns) (listed-complete s (length fs - first) at (fs, ns) (omega arith) p)
 
   -- one entry, and the others
-  entry-complete : (k n : ℕ) (ks ls fs ns : List ℕ) (room at b e : ℕ) → Declared (fs ++ k ∷ ks) → Disjoint rs (fs ++ k ∷ ks) → tokenAt s at .key ≡ k
+  entry-complete : (first k n : ℕ) (ks ls fs ns : List ℕ) (room at b e : ℕ) → Declared (fs ++ k ∷ ks) → Disjoint rs (fs ++ k ∷ ks) → tokenAt s at .key ≡ k
       → arityOf s (tokenAt s at .end) ≡ got n b
-      → functionEntries s rs room (fs ++ k ∷ []) (ns ++ n ∷ []) b ≡ got ((fs ++ k ∷ []) ++ ks, (ns ++ n ∷ []) ++ ls) e
-      → functionEntries s rs (suc room) fs ns at ≡ got (fs ++ k ∷ ks, ns ++ n ∷ ls) e
-  unfolding functionEntries
-  entry-complete k n ks ls fs ns room at b e D P j g h =
+      → entries s rs first room (fs ++ k ∷ []) (ns ++ n ∷ []) b ≡ got ((fs ++ k ∷ []) ++ ks, (ns ++ n ∷ []) ++ ls) e
+      → entries s rs first (suc room) fs ns at ≡ got (fs ++ k ∷ ks, ns ++ n ∷ ls) e
+  unfolding entries
+  entry-complete first k n ks ls fs ns room at b e D P j g h =
       let size : length fs < length (fs ++ k ∷ ks) = omega (arith, length-append fs (k ∷ ks)) in
       let real : isName (tokenAt s at .key) ≡ true = ap isName (j ∙ sym (getD-append-seam fs k ks 0)) ∙ D .names (length fs) size in
       let far : isDeclared (tokenAt s at .key) rs ≡ false = ap (λ k. isDeclared k rs) j ∙ foreign fs ks k P in
       let fresh : isDeclared (tokenAt s at .key) fs ≡ false = le-ltb _ _ (subst (λ x. length fs ≤ indexOf x fs) (sym j) (unknown fs ks k D)) in
       rw (real, far, fresh, g, j) (h ∙ λ i. got (append-assoc fs (k ∷ []) ks i, append-assoc ns (n ∷ []) ls i) e)
 
-  pub functions-complete : (ks ls : List ℕ) → Arities ks ls → (fs ns : List ℕ) (room at e : ℕ) → Declared (fs ++ ks) → Disjoint rs (fs ++ ks)
-      → 1 ≤ length (fs ++ ks) → length ks ≤ room → Spells s at (entryTokens ks ls ++ word.semicolonKey ∷ []) e
-      → functionEntries s rs room fs ns at ≡ got (fs ++ ks, ns ++ ls) e
+  pub entries-complete : (first : ℕ) (ks ls : List ℕ) → Arities ks ls → (fs ns : List ℕ) (room at e : ℕ) → Declared (fs ++ ks) → Disjoint rs (fs ++ ks)
+      → first < length (fs ++ ks) → length ks ≤ room → Spells s at (entryTokens ks ls ++ word.semicolonKey ∷ []) e
+      → entries s rs first room fs ns at ≡ got (fs ++ ks, ns ++ ls) e
   unfolding entryTokens
-  functions-complete ks ls Arities.none fs ns room at e D P m l p = list-end room fs ns at e m p
-  functions-complete ks ls (Arities.one {f} {fs = gs} {ns = ms} A) fs ns zero at e D P m l p = absurd (omega arith)
-  functions-complete ks ls (Arities.one {f} {fs = gs} {ns = ms} A) fs ns (suc room) at e D P m l p =
+  entries-complete first ks ls Arities.none fs ns room at e D P m l p = list-end first room fs ns at e m p
+  entries-complete first ks ls (Arities.one {f} {fs = gs} {ns = ms} A) fs ns zero at e D P m l p = absurd (omega arith)
+  entries-complete first ks ls (Arities.one {f} {fs = gs} {ns = ms} A) fs ns (suc room) at e D P m l p =
       let (b, p₂, p₃) = spells-split s (word.slashKey ∷ word.oneKey ∷ []) (spells-rest s p) in
       let y = append-assoc fs (f ∷ []) gs in
-      entry-complete f 1 gs ms fs ns room at b e D P (spells-key s p) (arity-one p₂)
-      (functions-complete gs ms A (fs ++ f ∷ []) (ns ++ 1 ∷ []) room b e (subst Declared (sym y) D) (subst (Disjoint rs) (sym y) P)
-      (subst (λ x. 1 ≤ length x) (sym y) m) (omega arith) p₃)
-  functions-complete ks ls (Arities.two {f} {fs = gs} {ns = ms} A) fs ns zero at e D P m l p = absurd (omega arith)
-  functions-complete ks ls (Arities.two {f} {fs = gs} {ns = ms} A) fs ns (suc room) at e D P m l p =
+      entry-complete first f 1 gs ms fs ns room at b e D P (spells-key s p) (arity-one p₂)
+      (entries-complete first gs ms A (fs ++ f ∷ []) (ns ++ 1 ∷ []) room b e (subst Declared (sym y) D) (subst (Disjoint rs) (sym y) P)
+      (subst (λ x. first < length x) (sym y) m) (omega arith) p₃)
+  entries-complete first ks ls (Arities.two {f} {fs = gs} {ns = ms} A) fs ns zero at e D P m l p = absurd (omega arith)
+  entries-complete first ks ls (Arities.two {f} {fs = gs} {ns = ms} A) fs ns (suc room) at e D P m l p =
       let (b, p₂, p₃) = spells-split s (word.slashKey ∷ word.twoKey ∷ []) (spells-rest s p) in
       let y = append-assoc fs (f ∷ []) gs in
-      entry-complete f 2 gs ms fs ns room at b e D P (spells-key s p) (arity-two p₂)
-      (functions-complete gs ms A (fs ++ f ∷ []) (ns ++ 2 ∷ []) room b e (subst Declared (sym y) D) (subst (Disjoint rs) (sym y) P)
-      (subst (λ x. 1 ≤ length x) (sym y) m) (omega arith) p₃)
+      entry-complete first f 2 gs ms fs ns room at b e D P (spells-key s p) (arity-two p₂)
+      (entries-complete first gs ms A (fs ++ f ∷ []) (ns ++ 2 ∷ []) room b e (subst Declared (sym y) D) (subst (Disjoint rs) (sym y) P)
+      (subst (λ x. first < length x) (sym y) m) (omega arith) p₃)

@@ -7,14 +7,15 @@ use lib.ListN.{length, replicate, drop, length-replicate}
 use borrow.Author.Tests.{le-leb}
 use Rattle.base.specs.Recursion.{withinCalls, fixed}
 use Rattle.letters.specs.MacroRefusalNumbers.{grammarViolated}
-use Rattle.macros.specs.Tree.{empty}
 use Rattle.macros.specs.Points.{sizeStatement, sizeBlock}
 use Rattle.tokens.specs.Bytes.{gap, width}
 use Rattle.tokens.specs.Bytes
 use Rattle.tokens.specs.Tokens.{tokenAt, spellings}
 use Rattle.text.specs.Numerals.{numeral}
 use Rattle.text.specs.Names.{nameText}
-use Rattle.grammar.specs.Grammar.{Macro, sentence, functionTokens, blockTokens}
+use Rattle.grammar.specs.Tree.{empty}
+use Rattle.grammar.specs.Expanded.{expandedBlock}
+use Rattle.grammar.specs.Grammar.{Macro, sentence, lineTokens, blockTokens}
 use Rattle.grammar.specs.Reading.{got, indexOf, block, statement, registerNames}
 use Rattle.grammar.proofs.Theory.Reading.{readText, readMacro}
 use Rattle.grammar.specs.Reading
@@ -32,17 +33,25 @@ abbrev register-text : List ℕ
 register-text = 118 ∷ 97 ∷ 114 ∷ 115 ∷ 32 ∷ 120 ∷ 59 ∷ []
 
 abbrev register-macro : Macro
-register-macro = record { registers = 120 ∷ []; registerSpellings = 120 ∷ []; functions = []; functionSpellings = []; arities = []; body = empty }
+register-macro = record {
+  registers = 120 ∷ [];
+  registerSpellings = 120 ∷ [];
+  functions = [];
+  functionSpellings = [];
+  arities = [];
+  firstTest = 0;
+  body = empty;
+}
 
 register-read : readMacro register-text ≡ got register-macro 7
-unfolding readMacro readText tokenAt gap width Bytes.nameLength spellings registerNames block statement indexOf sizeBlock sizeStatement
+unfolding readMacro readText tokenAt gap width Bytes.nameLength spellings registerNames block statement indexOf expandedBlock sizeBlock sizeStatement
 register-read = refl
 
 register-accepted : Accepted register-text register-macro
 register-accepted = read-accepted register-text register-macro 7 register-read
 
 register-printed : printLines register-macro ≡ register-text ++ (10 ∷ [])
-unfolding houseLayout spaced sentence functionTokens blockTokens nameText fixed withinCalls
+unfolding houseLayout spaced sentence lineTokens blockTokens nameText fixed withinCalls
 register-printed = refl
 
 -- the same with an LF

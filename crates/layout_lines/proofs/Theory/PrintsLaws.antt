@@ -19,7 +19,7 @@ use Rattle.grammar.specs.Limits.{longestText}
 use Rattle.grammar.specs.Grammar.{Macro}
 use Rattle.refusals.specs.Order.{Refusal}
 use Rattle.refusals.specs.Accepted.{Accepted}
-use Rattle.refusals.proofs.Theory.Order.{refusal-number}
+use Rattle.refusals.proofs.Theory.Order.{refusal-at-most}
 use Rattle.refusals.proofs.Theory.Accepted.{Acceptance, Becomes, an-acceptance, accepted-once, refused-once, never-both}
 use Rattle.refusals.proofs.Theory.Accepted as acceptance
 use Rattle.report.specs.Lines.{refusedLine}
@@ -88,7 +88,7 @@ module _ (text : List ℕ) where
       unread = λ k q x. let (e, f) = refused-once text r x in λ i. refusedLine (e i) (f i);
       print = λ m a. absurd (never-both text a r);
     };
-    few = refused-few (omega arith) n p (omega (arith, refusal-number n p r .1)) (omega (arith, refusal-place text r));
+    few = refused-few (omega arith) n p (omega (arith, refusal-at-most n p r)) (omega (arith, refusal-place text r));
   }
 
   print-said : (m : Macro) → Accepted text m → Said text (printLines m)

@@ -1,27 +1,28 @@
 -- A macro without its empty elses: which tokens its sentence no longer has, and what stays as it is (SPEC 8.6, 9.3).
-use mathlib.Core.Path.{_≡_, refl, ap, _∙_}
+use mathlib.Core.Path.{_≡_, refl, ap, _∙_, subst}
 use Prim.Native.Nat.{ℕ, zero, suc, _+_, _<_}
-use native.Mathlib.Omega.{arith}
 use mathlib.Core.Bool.{true, false}
 use mathlib.Core.List.{List, [], _∷_, _++_}
+use mathlib.Core.Option.{Option}
 use lib.Dec.{eqb}
 use lib.ListN.{length, getD}
 use borrow.Author.Tests.{eqb-false}
-use Rattle.base.proofs.Theory.Choice.{byTest}
-use Rattle.letters.specs.Letters.{Fits}
 use Rattle.letters.specs.declared.Header.{Header}
 use Rattle.letters.specs.declared.Letter.{Letter}
-use Rattle.letters.specs.declared.Letter.the-variants.{Copy, Apply, Equal, Unequal}
-use Rattle.macros.specs.Tree.{Condition, equal, unequal, test, Statement, skip, perform, assert, if, while, Else, absent, present, Block, empty, _then_, Proper}
-use Rattle.macros.specs.Tree.{ProperElse, ProperBlock}
-use Rattle.macros.specs.Points.{sizeStatement, sizeElse, sizeBlock, entry, compile, compileElse, compileBlock, points}
+use Rattle.macros.specs.Tree as macro
+use Rattle.macros.specs.Points.{Point, sizeStatement, sizeElse, sizeBlock, compile, compileElse, compileBlock, points}
 use Rattle.tokens.specs.Words.{isName}
 use Rattle.tokens.specs.Words as word
 use Rattle.tokens.proofs.Theory.WordsLaws.{not-word}
-use Rattle.grammar.specs.Grammar.{Macro, header, sentence, takesTwo, conditionTokens, argumentTokens, letterTokens, statementTokens, elseTokens, blockTokens}
-use Rattle.grammar.specs.Grammar.{entryTokens, functionTokens, OneDeeper, Nests, NestsElse, NestsBlock}
-use Rattle.grammar.specs.Spelled.{Arities, Declared, InOrder}
+use Rattle.grammar.specs.Tree.{Condition, ProperCondition, copy, apply, letterOf, Statement, skip, assign, assume, assert, if, while, Else, absent, present}
+use Rattle.grammar.specs.Tree.{Block, empty, _then_, Proper, ProperElse, ProperBlock}
+use Rattle.grammar.specs.Expanded.{_before_, application, comparison, after, loop, expandedStatement, expandedElse, expandedBlock}
+use Rattle.grammar.specs.Grammar.{Macro, expanded, header, sentence, conditionTokens, statementTokens, elseTokens, blockTokens, OneDeeper, Nests, NestsElse}
+use Rattle.grammar.specs.Grammar.{NestsBlock}
+use Rattle.grammar.specs.Spelled.{Declared, InOrder}
 use Rattle.layout_theory.specs.Layout.{elseOf, shortStatement, shortElse, shortBlock, withoutEmptyElses}
+use Rattle.layout_theory.proofs.Theory.Pairs.{plain-token, BeginsOther, begins-append, pairs-each, Tokenwise, names-tokenwise, declarations-tokenwise}
+use Rattle.layout_theory.proofs.Theory.Pairs.{condition-tokenwise, assignment-tokenwise}
 
 -- ---- tokens
 
@@ -43,100 +44,71 @@ shortened-append (Shortened.other h p) q = Shortened.other h (shortened-append p
 token-kept : (k : ℕ) → eqb k word.elseKey ≡ false → {ks ws : List ℕ} → Shortened ks ws → Shortened (k ∷ ks) (k ∷ ws)
 token-kept k n p = Shortened.other (eqb-false k word.elseKey n) p
 
--- Some token stands in front, and it is not `}`.
-abbrev Unclosed : List ℕ → Type 0
-Unclosed [] = ⊥
-Unclosed (k ∷ ks) = k ≡ word.rbraceKey → ⊥
-
-unclosed-append : (ks us : List ℕ) → Unclosed ks → Unclosed (ks ++ us)
-unclosed-append [] us h = absurd h
-unclosed-append (k ∷ ks) us h = h
-
-filled-else : (ks : List ℕ) {ws : List ℕ} → Unclosed ks → Shortened (word.lbraceKey ∷ ks) ws
+filled-else : (ks : List ℕ) {ws : List ℕ} → BeginsOther word.rbraceKey ks → Shortened (word.lbraceKey ∷ ks) ws
     → Shortened (word.elseKey ∷ word.lbraceKey ∷ ks) (word.elseKey ∷ ws)
 filled-else [] h p = absurd h
 filled-else (k ∷ ks) h p = Shortened.filled h p
 
--- ---- declarations
+-- A name that stands for itself.
+record NameKept (k w : ℕ) : Type 0 where
+  real : isName k ≡ true
+  same : k ≡ w
 
-registers-kept : (ks : List ℕ) → ((i : ℕ) → i < length ks → isName (getD ks i 0) ≡ true) → Shortened ks ks
-registers-kept [] n = Shortened.none
-registers-kept (k ∷ ks) n = token-kept k (not-word k word.elseKey refl (n 0 (omega arith))) (registers-kept ks λ i l. n (suc i) (omega arith))
+-- Other tokens than `else` stay as they are.
+kept-tokenwise : Tokenwise NameKept Shortened
+kept-tokenwise = record {
+  none = Shortened.none;
+  append = shortened-append;
+  plain = λ k t. token-kept k (plain-token k t .2);
+  name = name-kept;
+  negated = λ r p. token-kept word.notKey refl p;
+}
+  where
+    name-kept : {k w : ℕ} → NameKept k w → {ks ws : List ℕ} → Shortened ks ws → Shortened (k ∷ ks) (w ∷ ws)
+    name-kept {k} r {ks} {ws} p = subst (λ j. Shortened (k ∷ ks) (j ∷ ws)) (r .same) (token-kept k (not-word k word.elseKey refl (r .real)) p)
 
-entries-kept : {fs ns : List ℕ} → Arities fs ns → ((f : ℕ) → f < length fs → isName (getD fs f 0) ≡ true) → Shortened (entryTokens fs ns) (entryTokens fs ns)
-unfolding entryTokens
-entries-kept Arities.none n = Shortened.none
-entries-kept (Arities.one {f} a) n =
-    token-kept f (not-word f word.elseKey refl (n 0 (omega arith))) (token-kept word.slashKey refl (token-kept word.oneKey refl
-    (entries-kept a λ g l. n (suc g) (omega arith))))
-entries-kept (Arities.two {f} a) n =
-    token-kept f (not-word f word.elseKey refl (n 0 (omega arith))) (token-kept word.slashKey refl (token-kept word.twoKey refl
-    (entries-kept a λ g l. n (suc g) (omega arith))))
-
-functions-kept : (fs : List ℕ) {ns : List ℕ} → Arities fs ns → ((f : ℕ) → f < length fs → isName (getD fs f 0) ≡ true)
-    → Shortened (functionTokens fs ns) (functionTokens fs ns)
-unfolding functionTokens
-functions-kept [] a n = Shortened.none
-functions-kept (f ∷ fs) a n = token-kept word.funsKey refl (shortened-append (entries-kept a n) (token-kept word.semicolonKey refl Shortened.none))
+declared-kept : {ks : List ℕ} → Declared ks → (i : ℕ) → i < length ks → NameKept (getD ks i 0) (getD ks i 0)
+declared-kept D i l = record { real = D .names i l; same = refl }
 
 -- ---- statements
 
-module _ (rs fs ns : List ℕ) (R : Declared rs) (F : Declared fs) where
-  register-kept : (x : ℕ) → x < length rs → {ks ws : List ℕ} → Shortened ks ws → Shortened (getD rs x 0 ∷ ks) (getD rs x 0 ∷ ws)
-  register-kept x l = token-kept (getD rs x 0) (not-word (getD rs x 0) word.elseKey refl (R .names x l))
-
-  function-kept : (f : ℕ) → f < length fs → {ks ws : List ℕ} → Shortened ks ws → Shortened (getD fs f 0 ∷ ks) (getD fs f 0 ∷ ws)
-  function-kept f l = token-kept (getD fs f 0) (not-word (getD fs f 0) word.elseKey refl (F .names f l))
-
+module _ (rs fs ns : List ℕ) (R : Declared rs) (F : Declared fs) (t : ℕ) where
   semicolon-kept : Shortened (word.semicolonKey ∷ []) (word.semicolonKey ∷ [])
   semicolon-kept = token-kept word.semicolonKey refl Shortened.none
 
-  condition-kept : (c : Condition) → Fits (header rs fs ns) (test c) → Shortened (conditionTokens rs fs ns c) (conditionTokens rs fs ns c)
-  condition-kept (equal x y) (l, r) = register-kept x l (token-kept word.equalKey refl (register-kept y r Shortened.none))
-  condition-kept (unequal x y) (l, r) = register-kept x l (token-kept word.unequalKey refl (register-kept y r Shortened.none))
-
-  argument-kept : (f z : ℕ) → z < length rs → Shortened (argumentTokens rs fs ns f z) (argumentTokens rs fs ns f z)
-  argument-kept f z l = byTest (takesTwo rs fs ns f)
-      (λ t. rw t (token-kept word.commaKey refl (register-kept z l (token-kept word.rparenKey refl Shortened.none))))
-      λ t. rw t (token-kept word.rparenKey refl Shortened.none)
-
-  letter-kept : (a : Letter) → Fits (header rs fs ns) a → Shortened (letterTokens rs fs ns a) (letterTokens rs fs ns a)
-  letter-kept (Copy x y) (l, r) = register-kept x l (token-kept word.becomesKey refl (register-kept y r semicolon-kept))
-  letter-kept (Apply x f y z) (lx, lf, ly, lz, u) =
-      register-kept x lx (token-kept word.becomesKey refl (function-kept f lf (token-kept word.lparenKey refl (register-kept y ly
-      (shortened-append (argument-kept f z lz) semicolon-kept)))))
-  letter-kept (Equal x y) o = token-kept word.assumeKey refl (shortened-append (condition-kept (equal x y) o) semicolon-kept)
-  letter-kept (Unequal x y) o = token-kept word.assumeKey refl (shortened-append (condition-kept (unequal x y) o) semicolon-kept)
+  condition-kept : (c : Condition) → ProperCondition c (header rs fs ns) t → Shortened (conditionTokens rs fs ns c) (conditionTokens rs fs ns c)
+  condition-kept = condition-tokenwise kept-tokenwise rs rs fs fs ns (declared-kept R) (declared-kept F) t
 
   -- a statement does not begin with `}`
-  statement-unclosed : (s : Statement) → Proper s (header rs fs ns) → Unclosed (statementTokens rs fs ns s)
+  statement-unclosed : (s : Statement) → Proper s (header rs fs ns) t → BeginsOther word.rbraceKey (statementTokens rs fs ns s)
   unfolding statementTokens
   statement-unclosed skip o = eqb-false word.skipKey word.rbraceKey refl
-  statement-unclosed (perform (Copy x y)) o = eqb-false (getD rs x 0) word.rbraceKey (not-word (getD rs x 0) word.rbraceKey refl (R .names x (o .0)))
-  statement-unclosed (perform (Apply x f y z)) o = eqb-false (getD rs x 0) word.rbraceKey (not-word (getD rs x 0) word.rbraceKey refl (R .names x (o .0)))
-  statement-unclosed (perform (Equal x y)) o = eqb-false word.assumeKey word.rbraceKey refl
-  statement-unclosed (perform (Unequal x y)) o = eqb-false word.assumeKey word.rbraceKey refl
+  statement-unclosed (assign (copy x y)) (l, r) = eqb-false (getD rs x 0) word.rbraceKey (not-word (getD rs x 0) word.rbraceKey refl (R .names x l))
+  statement-unclosed (assign (apply x f y z)) ((l, _, _, _, _), _) =
+      eqb-false (getD rs x 0) word.rbraceKey (not-word (getD rs x 0) word.rbraceKey refl (R .names x l))
+  statement-unclosed (assume c) o = eqb-false word.assumeKey word.rbraceKey refl
   statement-unclosed (assert c) o = eqb-false word.assertKey word.rbraceKey refl
   statement-unclosed (if c b e) o = eqb-false word.ifKey word.rbraceKey refl
   statement-unclosed (while c b) o = eqb-false word.whileKey word.rbraceKey refl
 
   -- an else, given its block: with no statement it is dropped
-  present-shortened : (b : Block) → ProperBlock b (header rs fs ns) → Shortened (blockTokens rs fs ns b) (blockTokens rs fs ns (shortBlock b))
+  present-shortened : (b : Block) → ProperBlock b (header rs fs ns) t → Shortened (blockTokens rs fs ns b) (blockTokens rs fs ns (shortBlock b))
       → Shortened (elseTokens rs fs ns (present b)) (elseTokens rs fs ns (elseOf (shortBlock b)))
   unfolding elseTokens blockTokens
   present-shortened empty o p = Shortened.dropped Shortened.none
   present-shortened (s then b) (o, u) p =
       filled-else (blockTokens rs fs ns (s then b) ++ word.rbraceKey ∷ [])
-      (unclosed-append (blockTokens rs fs ns (s then b)) (word.rbraceKey ∷ [])
-      (unclosed-append (statementTokens rs fs ns s) (blockTokens rs fs ns b) (statement-unclosed s o)))
+      (begins-append word.rbraceKey (blockTokens rs fs ns (s then b)) (word.rbraceKey ∷ [])
+      (begins-append word.rbraceKey (statementTokens rs fs ns s) (blockTokens rs fs ns b) (statement-unclosed s o)))
       (token-kept word.lbraceKey refl (shortened-append p (token-kept word.rbraceKey refl Shortened.none)))
 
   mutual
     unfolding statementTokens elseTokens blockTokens
 
-    statement-shortened : (s : Statement) → Proper s (header rs fs ns) → Shortened (statementTokens rs fs ns s) (statementTokens rs fs ns (shortStatement s))
+    statement-shortened : (s : Statement) → Proper s (header rs fs ns) t → Shortened (statementTokens rs fs ns s) (statementTokens rs fs ns (shortStatement s))
     statement-shortened skip o = token-kept word.skipKey refl semicolon-kept
-    statement-shortened (perform a) o = letter-kept a o
+    statement-shortened (assign a) o = assignment-tokenwise kept-tokenwise rs rs fs fs ns (declared-kept R) (declared-kept F) t a o
+    statement-shortened (assume c) o = token-kept word.assumeKey refl (shortened-append (condition-kept c o) semicolon-kept)
     statement-shortened (assert c) o = token-kept word.assertKey refl (shortened-append (condition-kept c o) semicolon-kept)
     statement-shortened (if c b e) (o, p, q) =
         token-kept word.ifKey refl (shortened-append (condition-kept c o) (token-kept word.lbraceKey refl
@@ -145,11 +117,11 @@ module _ (rs fs ns : List ℕ) (R : Declared rs) (F : Declared fs) where
         token-kept word.whileKey refl (shortened-append (condition-kept c o) (token-kept word.lbraceKey refl
         (shortened-append (block-shortened b p) (token-kept word.rbraceKey refl Shortened.none))))
 
-    else-shortened : (e : Else) → ProperElse e (header rs fs ns) → Shortened (elseTokens rs fs ns e) (elseTokens rs fs ns (shortElse e))
+    else-shortened : (e : Else) → ProperElse e (header rs fs ns) t → Shortened (elseTokens rs fs ns e) (elseTokens rs fs ns (shortElse e))
     else-shortened absent o = Shortened.none
     else-shortened (present b) o = present-shortened b o (block-shortened b o)
 
-    pub block-shortened : (b : Block) → ProperBlock b (header rs fs ns) → Shortened (blockTokens rs fs ns b) (blockTokens rs fs ns (shortBlock b))
+    pub block-shortened : (b : Block) → ProperBlock b (header rs fs ns) t → Shortened (blockTokens rs fs ns b) (blockTokens rs fs ns (shortBlock b))
     block-shortened empty o = Shortened.none
     block-shortened (s then b) (o, p) = shortened-append (statement-shortened s o) (block-shortened b p)
 
@@ -157,30 +129,33 @@ module _ (rs fs ns : List ℕ) (R : Declared rs) (F : Declared fs) where
 pub sentence-shortened : (m : Macro) → InOrder m → Shortened (sentence m) (sentence (withoutEmptyElses m))
 unfolding sentence
 sentence-shortened m O =
-    token-kept word.varsKey refl (shortened-append (registers-kept (m .registers) (O .registers .names)) (token-kept word.semicolonKey refl
-    (shortened-append (functions-kept (m .functions) (O .arities) (O .functions .names))
-    (block-shortened (m .registers) (m .functions) (m .arities) (O .registers) (O .functions) (m .body) (O .uses)))))
+    let X = pairs-each NameKept (m .registers) (m .registers) refl (declared-kept (O .registers)) in
+    let F = pairs-each NameKept (m .functions) (m .functions) refl (declared-kept (O .functions)) in
+    token-kept word.varsKey refl (shortened-append (names-tokenwise kept-tokenwise X) (token-kept word.semicolonKey refl
+    (shortened-append (declarations-tokenwise kept-tokenwise (m .functions) (m .functions) (m .arities) (m .firstTest) (O .arities) F)
+    (block-shortened (m .registers) (m .functions) (m .arities) (O .registers) (O .functions) (m .firstTest) (m .body) (O .uses)))))
 
 -- ---- order
 
-module _ (h : Header) where
-  proper-else-of : (b : Block) → ProperBlock b h → ProperElse (elseOf b) h
+module _ (h : Header) (t : ℕ) where
+  proper-else-of : (b : Block) → ProperBlock b h t → ProperElse (elseOf b) h t
   proper-else-of empty o = tt
   proper-else-of (s then b) o = o
 
   mutual
-    proper-statement : (s : Statement) → Proper s h → Proper (shortStatement s) h
+    proper-statement : (s : Statement) → Proper s h t → Proper (shortStatement s) h t
     proper-statement skip o = o
-    proper-statement (perform a) o = o
+    proper-statement (assign a) o = o
+    proper-statement (assume c) o = o
     proper-statement (assert c) o = o
     proper-statement (if c b e) (o, p, q) = (o, proper-short b p, proper-else e q)
     proper-statement (while c b) (o, p) = (o, proper-short b p)
 
-    proper-else : (e : Else) → ProperElse e h → ProperElse (shortElse e) h
+    proper-else : (e : Else) → ProperElse e h t → ProperElse (shortElse e) h t
     proper-else absent o = o
     proper-else (present b) o = proper-else-of (shortBlock b) (proper-short b o)
 
-    pub proper-short : (b : Block) → ProperBlock b h → ProperBlock (shortBlock b) h
+    pub proper-short : (b : Block) → ProperBlock b h t → ProperBlock (shortBlock b) h t
     proper-short empty o = o
     proper-short (s then b) (o, p) = (proper-statement s o, proper-short b p)
 
@@ -195,7 +170,8 @@ nests-else-of (s then b) d o = o
 mutual
   nests-statement : (s : Statement) (d : ℕ) → Nests s d → Nests (shortStatement s) d
   nests-statement skip d o = o
-  nests-statement (perform a) d o = o
+  nests-statement (assign a) d o = o
+  nests-statement (assume c) d o = o
   nests-statement (assert c) d o = o
   nests-statement (if c b e) d (o, p) =
       (one-deeper (λ n. NestsBlock b n) (λ n. NestsBlock (shortBlock b) n) (λ n q. nests-short b n q) d o, nests-else e d p)
@@ -220,68 +196,86 @@ order-short m O = record {
   apart = O .apart;
   arities = O .arities;
   fewer = O .fewer;
-  uses = proper-short _ (m .body) (O .uses);
+  tests = O .tests;
+  room = O .room;
+  uses = proper-short _ _ (m .body) (O .uses);
   depth = nests-short (m .body) _ (O .depth);
 }
 
 -- ---- points
 
-size-else-of : (b : Block) → sizeElse (elseOf b) ≡ sizeBlock b
-unfolding sizeElse sizeBlock
-size-else-of empty = refl
-size-else-of (s then b) = refl
+-- Two parts have the same points, wherever they begin and whatever follows.
+record SameCode (A : Type 0) (size : A → ℕ) (code : A → ℕ → ℕ → List Point) (x y : A) : Type 0 where
+  sizes : size x ≡ size y
+  codes : (at follow : ℕ) → code x at follow ≡ code y at follow
 
-mutual
-  unfolding sizeStatement sizeElse sizeBlock
+abbrev SameStatements : macro.Statement → macro.Statement → Type 0
+SameStatements = SameCode macro.Statement sizeStatement compile
 
-  size-statement : (s : Statement) → sizeStatement (shortStatement s) ≡ sizeStatement s
-  size-statement skip = refl
-  size-statement (perform a) = refl
-  size-statement (assert c) = refl
-  size-statement (if c b e) = rw (size-short b, size-else e)
-  size-statement (while c b) = rw (size-short b)
+abbrev SameElses : macro.Else → macro.Else → Type 0
+SameElses = SameCode macro.Else sizeElse compileElse
 
-  size-else : (e : Else) → sizeElse (shortElse e) ≡ sizeElse e
-  size-else absent = refl
-  size-else (present b) = size-else-of (shortBlock b) ∙ size-short b
+abbrev SameBlocks : macro.Block → macro.Block → Type 0
+SameBlocks = SameCode macro.Block sizeBlock compileBlock
 
-  pub size-short : (b : Block) → sizeBlock (shortBlock b) ≡ sizeBlock b
-  size-short empty = refl
-  size-short (s then b) = rw (size-statement s, size-short b)
+same-itself : {A : Type 0} (size : A → ℕ) (code : A → ℕ → ℕ → List Point) (x : A) → SameCode A size code x x
+same-itself size code x = record { sizes = refl; codes = λ at follow. refl }
 
--- An else with no statement has no point, as an absent one.
-compile-else-of : (b : Block) (n follow : ℕ) → compileElse (elseOf b) n follow ≡ compileBlock b n follow
-unfolding compileElse compileBlock
-compile-else-of empty n follow = refl
-compile-else-of (s then b) n follow = refl
+same-then : {s s′ : macro.Statement} {b b′ : macro.Block} → SameStatements s s′ → SameBlocks b b′ → SameBlocks (macro._then_ s b) (macro._then_ s′ b′)
+unfolding sizeBlock compileBlock
+same-then S B = record { sizes = rw (S .sizes, B .sizes); codes = λ at follow. rw (S .sizes, B .sizes, S .codes _ _, B .codes _ _) }
 
-mutual
-  unfolding compile compileElse compileBlock
+same-if : (c : macro.Condition) {b b′ : macro.Block} {e e′ : macro.Else} → SameBlocks b b′ → SameElses e e′ → SameStatements (macro.if c b e) (macro.if c b′ e′)
+unfolding sizeStatement compile
+same-if c B E = record { sizes = rw (B .sizes, E .sizes); codes = λ at follow. rw (B .sizes, E .sizes, B .codes _ _, E .codes _ _) }
 
-  compile-statement : (s : Statement) (n follow : ℕ) → compile (shortStatement s) n follow ≡ compile s n follow
-  compile-statement skip n follow = refl
-  compile-statement (perform a) n follow = refl
-  compile-statement (assert c) n follow = refl
-  compile-statement (if c b e) n follow =
-      rw (size-short b, size-else e, compile-short b (n + 1) follow, compile-else e (n + 1 + sizeBlock b) follow)
-  compile-statement (while c b) n follow = rw (size-short b, compile-short b (n + 1) n)
+same-loop : (n : ℕ) (a : Option Letter) (c : macro.Condition) {b b′ : macro.Block} → SameBlocks b b′ → SameStatements (loop n a c b) (loop n a c b′)
+unfolding sizeStatement compile
+same-loop n Option.none c B = record { sizes = rw (B .sizes); codes = λ at follow. rw (B .sizes, B .codes _ _) }
+same-loop n (Option.some a) c B = record { sizes = rw (B .sizes); codes = λ at follow. rw (B .sizes, B .codes _ _) }
 
-  compile-else : (e : Else) (n follow : ℕ) → compileElse (shortElse e) n follow ≡ compileElse e n follow
-  compile-else absent n follow = refl
-  compile-else (present b) n follow = compile-else-of (shortBlock b) n follow ∙ compile-short b n follow
+-- perhaps a letter, then a statement, and then others
+same-after : (n : ℕ) (a : Option Letter) {s s′ : macro.Statement} {b b′ : macro.Block} → SameStatements s s′ → SameBlocks b b′
+    → SameBlocks (after n a s before b) (after n a s′ before b′)
+same-after n Option.none S B = same-then S B
+same-after n (Option.some a) S B = same-then (same-itself sizeStatement compile (macro.perform a)) (same-then S B)
 
-  pub compile-short : (b : Block) (n follow : ℕ) → compileBlock (shortBlock b) n follow ≡ compileBlock b n follow
-  compile-short empty n follow = refl
-  compile-short (s then b) n follow =
-      rw (
-        size-statement s,
-        size-short b,
-        compile-statement s n (entry (sizeBlock b) (n + sizeStatement s) follow),
-        compile-short b (n + sizeStatement s) follow,
-      )
+module _ (n : ℕ) where
+  -- An else with no statement has no point, as an absent one.
+  else-of-same : (b : Block) (k : macro.Block) → SameBlocks (expandedBlock n b) k → SameElses (expandedElse n (elseOf b)) (macro.present k)
+  unfolding expandedElse expandedBlock sizeElse sizeBlock compileElse compileBlock
+  else-of-same empty k B = record { sizes = B .sizes; codes = B .codes }
+  else-of-same (s then b) k B = record { sizes = B .sizes; codes = B .codes }
 
-pub points-short : (b : Block) → points (shortBlock b) ≡ points b
-points-short b = ap (compileBlock (shortBlock b) 0) (size-short b) ∙ compile-short b 0 (sizeBlock b)
+  mutual
+    unfolding expandedStatement expandedElse expandedBlock
+
+    statement-same : (s : Statement) {b b′ : macro.Block} → SameBlocks b b′
+        → SameBlocks (expandedStatement n (shortStatement s) before b) (expandedStatement n s before b′)
+    statement-same skip B = same-then (same-itself sizeStatement compile macro.skip) B
+    statement-same (assign a) B = same-then (same-itself sizeStatement compile (macro.perform (letterOf a))) B
+    statement-same (assume c) B = same-after n (application n c) (same-itself sizeStatement compile (macro.perform (macro.test (comparison n c)))) B
+    statement-same (assert c) B = same-after n (application n c) (same-itself sizeStatement compile (macro.assert (comparison n c))) B
+    statement-same (if c b e) B = same-after n (application n c) (same-if (comparison n c) (block-same b) (else-same e)) B
+    statement-same (while c b) B = same-then (same-loop n (application n c) (comparison n c) (block-same b)) B
+
+    else-same : (e : Else) → SameElses (expandedElse n (shortElse e)) (expandedElse n e)
+    else-same absent = same-itself sizeElse compileElse macro.absent
+    else-same (present b) = else-of-same (shortBlock b) (expandedBlock n b) (block-same b)
+
+    block-same : (b : Block) → SameBlocks (expandedBlock n (shortBlock b)) (expandedBlock n b)
+    block-same empty = same-itself sizeBlock compileBlock macro.empty
+    block-same (s then b) = statement-same s (block-same b)
+
+module _ (m : Macro) where
+  expanded-same : SameBlocks (expanded (withoutEmptyElses m)) (expanded m)
+  expanded-same = block-same (length (m .registers)) (m .body)
+
+  pub size-short : sizeBlock (expanded (withoutEmptyElses m)) ≡ sizeBlock (expanded m)
+  size-short = expanded-same .sizes
+
+  pub points-short : points (expanded (withoutEmptyElses m)) ≡ points (expanded m)
+  points-short = ap (compileBlock (expanded (withoutEmptyElses m)) 0) size-short ∙ expanded-same .codes 0 (sizeBlock (expanded m))
 
 -- ---- again
 
@@ -292,7 +286,8 @@ else-of-again (s then b) e = ap present e
 mutual
   statement-twice : (s : Statement) → shortStatement (shortStatement s) ≡ shortStatement s
   statement-twice skip = refl
-  statement-twice (perform a) = refl
+  statement-twice (assign a) = refl
+  statement-twice (assume c) = refl
   statement-twice (assert c) = refl
   statement-twice (if c b e) = λ i. if c (short-twice b i) (else-twice e i)
   statement-twice (while c b) = λ i. while c (short-twice b i)
@@ -313,5 +308,6 @@ macro-short-twice m = λ i. record {
   functions = m .functions;
   functionSpellings = m .functionSpellings;
   arities = m .arities;
+  firstTest = m .firstTest;
   body = short-twice (m .body) i;
 }

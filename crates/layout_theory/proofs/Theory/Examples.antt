@@ -8,14 +8,16 @@ use lib.ListN.{replicate}
 use Rattle.base.specs.Choice.{pick}
 use Rattle.base.specs.Recursion.{withinCalls, fixed}
 use Rattle.letters.specs.MacroRefusalNumbers.{useWrong, printTooLong}
-use Rattle.macros.specs.Tree.{absent, present, skip, if, equal, empty, _then_}
 use Rattle.macros.specs.Points.{sizeStatement}
 use Rattle.tokens.specs.Bytes.{key, spelling, gap, nameLength, width}
 use Rattle.tokens.specs.Tokens.{tokenAt, spellings}
 use Rattle.tokens.specs.Words as word
 use Rattle.text.specs.Names.{nameText}
-use Rattle.grammar.specs.Grammar.{Macro, sentence, functionTokens, entryTokens, statementTokens}
-use Rattle.grammar.specs.Reading.{indexOf, condition, endedCondition, argumentsT, rightHandSide, assignment, block, registerNames, arityOf, functionEntries}
+use Rattle.grammar.specs.Tree.{equal, holds, fails, skip, assume, if, while, absent, present, empty, _then_}
+use Rattle.grammar.specs.Expanded.{expandedStatement}
+use Rattle.grammar.specs.Grammar.{Macro, sentence, lineTokens, entryTokens, statementTokens}
+use Rattle.grammar.specs.Reading.{indexOf, comparison, argumentsT, applied, namedTest, condition, endedCondition, rightHandSide, assignment, block}
+use Rattle.grammar.specs.Reading.{registerNames, arityOf, entries}
 use Rattle.grammar.proofs.Theory.Reading.{readText, readMacro}
 use Rattle.refusals.specs.Order.{Refusal}
 use Rattle.refusals.proofs.Theory.Order.{refused-refusal}
@@ -38,12 +40,13 @@ oneRegister = record {
   functions = [];
   functionSpellings = [];
   arities = [];
+  firstTest = 0;
   body = empty;
 }
 
 pub one-register-accepted : Accepted oneRegisterText oneRegister
-unfolding oneRegisterText oneRegister readMacro readText tokenAt gap width nameLength spellings registerNames indexOf functionEntries arityOf block condition
-    endedCondition assignment rightHandSide argumentsT sizeStatement
+unfolding oneRegisterText oneRegister readMacro readText tokenAt gap width nameLength spellings registerNames indexOf entries arityOf block condition
+    comparison namedTest applied argumentsT endedCondition assignment rightHandSide expandedStatement sizeStatement
 one-register-accepted = read-accepted _ _ _ refl
 
 -- the text and an LF
@@ -51,7 +54,7 @@ unfoldable pub oneRegisterPrint : List ℕ
 oneRegisterPrint = 118 ∷ 97 ∷ 114 ∷ 115 ∷ 32 ∷ 120 ∷ 59 ∷ 10 ∷ []
 
 pub one-register-printed : houseLayout oneRegister ≡ oneRegisterPrint
-unfolding oneRegister oneRegisterPrint houseLayout spaced sentence functionTokens statementTokens nameText fixed withinCalls
+unfolding oneRegister oneRegisterPrint houseLayout spaced sentence lineTokens statementTokens nameText fixed withinCalls
 one-register-printed = refl
 
 -- It fills eight bytes, and passes seven, which stay.
@@ -89,8 +92,8 @@ unfoldable undeclaredText : List ℕ
 undeclaredText = 118 ∷ 97 ∷ 114 ∷ 115 ∷ 32 ∷ 120 ∷ 59 ∷ 32 ∷ 120 ∷ 32 ∷ 58 ∷ 61 ∷ 32 ∷ 121 ∷ 59 ∷ []
 
 undeclared-is-refused : Refusal undeclaredText useWrong 13
-unfolding undeclaredText readMacro readText tokenAt gap width nameLength spellings registerNames indexOf functionEntries arityOf block condition endedCondition
-    assignment rightHandSide argumentsT sizeStatement
+unfolding undeclaredText readMacro readText tokenAt gap width nameLength spellings registerNames indexOf entries arityOf block condition
+    comparison namedTest applied argumentsT endedCondition assignment rightHandSide expandedStatement sizeStatement
 undeclared-is-refused = refused-refusal _ _ _ refl
 
 module _ (entry : List ℕ) where
@@ -130,18 +133,19 @@ capitals = record {
   functions = [];
   functionSpellings = [];
   arities = [];
+  firstTest = 0;
   body = if (equal 0 1) empty (present empty) then empty;
 }
 
 capitals-accepted : Accepted capitalsText capitals
-unfolding capitalsText capitals readMacro readText tokenAt gap width nameLength spellings registerNames indexOf functionEntries arityOf block condition
-    endedCondition assignment rightHandSide argumentsT sizeStatement
+unfolding capitalsText capitals readMacro readText tokenAt gap width nameLength spellings registerNames indexOf entries arityOf block condition
+    comparison namedTest applied argumentsT endedCondition assignment rightHandSide expandedStatement sizeStatement
 capitals-accepted = read-accepted _ _ _ refl
 
 -- names as declared, words in lower case, the empty else dropped
 capitals-printed : houseLayout capitals ≡
     118 ∷ 97 ∷ 114 ∷ 115 ∷ 32 ∷ 97 ∷ 32 ∷ 66 ∷ 59 ∷ 10 ∷ 105 ∷ 102 ∷ 32 ∷ 97 ∷ 61 ∷ 66 ∷ 123 ∷ 10 ∷ 125 ∷ 10 ∷ []
-unfolding capitals houseLayout spaced sentence functionTokens statementTokens nameText fixed withinCalls
+unfolding capitals houseLayout spaced sentence lineTokens statementTokens nameText fixed withinCalls
 capitals-printed = refl
 
 -- ---- `vars x;funs f/1g/2;`
@@ -149,26 +153,59 @@ capitals-printed = refl
 unfoldable entriesText : List ℕ
 entriesText = 118 ∷ 97 ∷ 114 ∷ 115 ∷ 32 ∷ 120 ∷ 59 ∷ 102 ∷ 117 ∷ 110 ∷ 115 ∷ 32 ∷ 102 ∷ 47 ∷ 49 ∷ 103 ∷ 47 ∷ 50 ∷ 59 ∷ []
 
-unfoldable entries : Macro
-entries = record {
+unfoldable twoFunctions : Macro
+twoFunctions = record {
   registers = key (120 ∷ []) ∷ [];
   registerSpellings = spelling (120 ∷ []) ∷ [];
   functions = key (102 ∷ []) ∷ key (103 ∷ []) ∷ [];
   functionSpellings = spelling (102 ∷ []) ∷ spelling (103 ∷ []) ∷ [];
   arities = 1 ∷ 2 ∷ [];
+  firstTest = 2;
   body = empty;
 }
 
-entries-accepted : Accepted entriesText entries
-unfolding entriesText entries readMacro readText tokenAt gap width nameLength spellings registerNames indexOf functionEntries arityOf block condition
-    endedCondition assignment rightHandSide argumentsT sizeStatement
+entries-accepted : Accepted entriesText twoFunctions
+unfolding entriesText twoFunctions readMacro readText tokenAt gap width nameLength spellings registerNames indexOf entries arityOf block condition
+    comparison namedTest applied argumentsT endedCondition assignment rightHandSide expandedStatement sizeStatement
 entries-accepted = read-accepted _ _ _ refl
 
 -- `1` and the name behind it are words
-entries-printed : houseLayout entries ≡
+entries-printed : houseLayout twoFunctions ≡
     118 ∷ 97 ∷ 114 ∷ 115 ∷ 32 ∷ 120 ∷ 59 ∷ 10 ∷ 102 ∷ 117 ∷ 110 ∷ 115 ∷ 32 ∷ 102 ∷ 47 ∷ 49 ∷ 32 ∷ 103 ∷ 47 ∷ 50 ∷ 59 ∷ 10 ∷ []
-unfolding entries houseLayout spaced sentence functionTokens entryTokens statementTokens nameText fixed withinCalls
+unfolding twoFunctions houseLayout spaced sentence lineTokens entryTokens statementTokens nameText fixed withinCalls
 entries-printed = refl
+
+-- ---- `Vars X; Tests Hot/1 Warm/2; If ! HOT(x) { } While warm(X,x) { assume !hot(x) ; }`
+
+unfoldable testsText : List ℕ
+testsText =
+    86 ∷ 97 ∷ 114 ∷ 115 ∷ 32 ∷ 88 ∷ 59 ∷ 32 ∷ 84 ∷ 101 ∷ 115 ∷ 116 ∷ 115 ∷ 32 ∷ 72 ∷ 111 ∷ 116 ∷ 47 ∷ 49 ∷ 32 ∷ 87 ∷ 97 ∷ 114 ∷ 109 ∷ 47 ∷ 50 ∷ 59 ∷ 32 ∷
+    73 ∷ 102 ∷ 32 ∷ 33 ∷ 32 ∷ 72 ∷ 79 ∷ 84 ∷ 40 ∷ 120 ∷ 41 ∷ 32 ∷ 123 ∷ 32 ∷ 125 ∷ 32 ∷ 87 ∷ 104 ∷ 105 ∷ 108 ∷ 101 ∷ 32 ∷ 119 ∷ 97 ∷ 114 ∷ 109 ∷ 40 ∷ 88 ∷
+    44 ∷ 120 ∷ 41 ∷ 32 ∷ 123 ∷ 32 ∷ 97 ∷ 115 ∷ 115 ∷ 117 ∷ 109 ∷ 101 ∷ 32 ∷ 33 ∷ 104 ∷ 111 ∷ 116 ∷ 40 ∷ 120 ∷ 41 ∷ 32 ∷ 59 ∷ 32 ∷ 125 ∷ []
+
+unfoldable twoTests : Macro
+twoTests = record {
+  registers = key (120 ∷ []) ∷ [];
+  registerSpellings = spelling (88 ∷ []) ∷ [];
+  functions = key (104 ∷ 111 ∷ 116 ∷ []) ∷ key (119 ∷ 97 ∷ 114 ∷ 109 ∷ []) ∷ [];
+  functionSpellings = spelling (72 ∷ 111 ∷ 116 ∷ []) ∷ spelling (87 ∷ 97 ∷ 114 ∷ 109 ∷ []) ∷ [];
+  arities = 1 ∷ 2 ∷ [];
+  firstTest = 0;
+  body = if (fails 0 0 0) empty absent then while (holds 1 0 0) (assume (fails 0 0 0) then empty) then empty;
+}
+
+tests-accepted : Accepted testsText twoTests
+unfolding testsText twoTests readMacro readText tokenAt gap width nameLength spellings registerNames indexOf entries arityOf block condition
+    comparison namedTest applied argumentsT endedCondition assignment rightHandSide expandedStatement sizeStatement
+tests-accepted = read-accepted _ _ _ refl
+
+-- `tests` in its own line, and no blank before `!`, which is no word
+tests-printed : houseLayout twoTests ≡
+    118 ∷ 97 ∷ 114 ∷ 115 ∷ 32 ∷ 88 ∷ 59 ∷ 10 ∷ 116 ∷ 101 ∷ 115 ∷ 116 ∷ 115 ∷ 32 ∷ 72 ∷ 111 ∷ 116 ∷ 47 ∷ 49 ∷ 32 ∷ 87 ∷ 97 ∷ 114 ∷ 109 ∷ 47 ∷ 50 ∷ 59 ∷ 10 ∷
+    105 ∷ 102 ∷ 33 ∷ 72 ∷ 111 ∷ 116 ∷ 40 ∷ 88 ∷ 41 ∷ 123 ∷ 10 ∷ 125 ∷ 10 ∷ 119 ∷ 104 ∷ 105 ∷ 108 ∷ 101 ∷ 32 ∷ 87 ∷ 97 ∷ 114 ∷ 109 ∷ 40 ∷ 88 ∷ 44 ∷ 88 ∷
+    41 ∷ 123 ∷ 10 ∷ 97 ∷ 115 ∷ 115 ∷ 117 ∷ 109 ∷ 101 ∷ 33 ∷ 72 ∷ 111 ∷ 116 ∷ 40 ∷ 88 ∷ 41 ∷ 59 ∷ 10 ∷ 125 ∷ 10 ∷ []
+unfolding twoTests houseLayout spaced sentence lineTokens entryTokens statementTokens nameText fixed withinCalls
+tests-printed = refl
 
 -- ---- "an empty else dropped"
 
@@ -192,7 +229,8 @@ passing f (w ∷ ws) = pick (f w) (λ _. w ∷ passing f ws) λ _. passing f ws
 
 -- "`1` and `2` count as words": the words among the tokens that are no names are the keywords and these, and no sign
 words-only : passing isWord fixedTokens ≡
-    word.varsKey ∷ word.funsKey ∷ word.skipKey ∷ word.assumeKey ∷ word.assertKey ∷ word.ifKey ∷ word.elseKey ∷ word.whileKey ∷ word.oneKey ∷ word.twoKey ∷ []
+    word.varsKey ∷ word.funsKey ∷ word.testsKey ∷ word.skipKey ∷ word.assumeKey ∷ word.assertKey ∷ word.ifKey ∷ word.elseKey ∷ word.whileKey
+    ∷ word.resultKey ∷ word.truthKey ∷ word.oneKey ∷ word.twoKey ∷ []
 words-only = refl
 
 -- "an LF after each `;`, `{` and `}`", and after no other

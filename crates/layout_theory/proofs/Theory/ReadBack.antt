@@ -1,17 +1,17 @@
 -- The print of a macro is read as that macro without its empty elses (SPEC 8.6).
 use mathlib.Core.Path.{_≡_, refl, sym, ap, _∙_, subst}
-use Prim.Native.Nat.{ℕ, zero, suc, _+_, _*_, _≤_, _<_}
+use Prim.Native.Nat.{ℕ, zero, suc, _+_, _*_, _-_, _≤_, _<_}
 use native.Mathlib.Omega.{arith}
 use mathlib.Core.Bool.{Bool, true, false, _&&_}
-use mathlib.Core.List.{List, [], _∷_}
+use mathlib.Core.List.{List, [], _∷_, _++_}
 use lib.Dec.{ltb, leb, eqb}
-use lib.ListN.{length, getD, take, drop}
-use lib.Seq.{getD-take, length-take-le, ext-getD}
-use borrow.Author.Tests.{eqb-true, ltb-true}
+use lib.ListN.{length, getD, take, drop, length-append, length-drop, take-append-drop}
+use lib.Seq.{getD-take, getD-drop, length-take-le, ext-getD}
+use borrow.Author.Tests.{eqb-true, eqb-false, ltb-true, lt-ltb, le-ltb}
 use Rattle.base.specs.Recursion.{withinCalls, fixed}
 use Rattle.base.proofs.Theory.Choice.{byTest}
 use Rattle.letters.proofs.Theory.WordLaws.{and-true}
-use Rattle.tokens.specs.Bytes.{letter, inner, symbol, mark, gap, nameLength, longestName, width, key, spelling}
+use Rattle.tokens.specs.Bytes.{letter, inner, symbol, negation, mark, gap, nameLength, longestName, width, key, spelling}
 use Rattle.tokens.specs.Words.{isName}
 use Rattle.tokens.specs.Words as word
 use Rattle.tokens.specs.Tokens.{tokenAt, bytesAt, placeBehind, placeOf, spellings}
@@ -22,16 +22,18 @@ use Rattle.tokens.proofs.Theory.WordsLaws.{name-real}
 use Rattle.text.specs.Names.{nameText}
 use Rattle.text.proofs.Theory.Names.{name-back}
 use Rattle.grammar.specs.Grammar.{Macro, sentence}
-use Rattle.grammar.specs.Spelled.{Spelled, InOrder, Arities, firstRegister, registerLength, firstFunction, entryLength, spelledRegisters, spelledFunctions}
+use Rattle.grammar.specs.Spelled.{Spelled, InOrder, Arities, firstRegister, registerLength, firstFunction, firstTest, entryLength, spelledRegisters}
+use Rattle.grammar.specs.Spelled.{spelledFunctions}
 use Rattle.refusals.specs.Accepted.{Accepted}
 use Rattle.refusals.specs.Order.{Refusal}
 use Rattle.refusals.proofs.Theory.Basics.{clash}
 use Rattle.refusals.proofs.Theory.Accepted.{never-both}
 use Rattle.refusals.proofs.Theory.Declared.{Holds, register-held, function-held, register-declared, register-spelled, function-declared, function-spelled}
 use Rattle.layout_theory.specs.Layout.{withoutEmptyElses, asDeclared, spaced, printTokens, houseLayout, longestPrint}
-use Rattle.layout_theory.proofs.Theory.Pairs.{fixedTokens, isFixedToken, pass-among, Pairwise, sentence-pairs}
+use Rattle.layout_theory.proofs.Theory.Pairs.{fixedTokens, isFixedToken, plain-token, pass-among, begins-append, Pairwise, Tokenwise}
+use Rattle.layout_theory.proofs.Theory.Pairs.{sentence-tokenwise, sentence-pairs}
 use Rattle.layout_theory.proofs.Theory.Dropping.{order-short, size-short, macro-short-twice}
-use Rattle.layout_theory.proofs.Theory.Spaced.{OneToken, HeldAs, SpellsAs, SpelledWhole}
+use Rattle.layout_theory.proofs.Theory.Spaced.{OneToken, HeldAs, Unjoined, SpellsAs, SpelledWhole}
 use Rattle.layout_theory.proofs.Theory.Spaced.{spells-keys, all-printed, spaced-spelled}
 
 -- ---- words and signs
@@ -63,6 +65,31 @@ fixed-printed : (k : ℕ) → isFixedToken k ≡ true → HeldAs k k
 unfolding nameText fixed withinCalls width nameLength
 fixed-printed k t = tested k (pass-among fixedTest fixedTokens refl k t)
 
+-- ---- `!`
+
+-- A name that is held as the number w: this is neither `!` nor `=`.
+record NameHeld (k w : ℕ) : Type 0 where
+  real : isName k ≡ true
+  held : HeldAs k w
+
+name-no-sign : {k w : ℕ} → NameHeld k w → (j : ℕ) → isName (key (nameText j)) ≡ false → w ≡ j → ⊥
+name-no-sign r j f e = clash (r .real) (ap isName (sym (r .held .known) ∙ ap (λ i. key (nameText i)) e) ∙ f)
+
+unjoined-append : (ws vs : List ℕ) → Unjoined ws → Unjoined vs → Unjoined (ws ++ vs)
+unjoined-append [] vs U W = W
+unjoined-append (w ∷ ws) vs (u, U) W = (λ e. begins-append word.equalKey ws vs (u e), unjoined-append ws vs U W)
+
+-- Behind `!` stands a name.
+unjoined-tokenwise : Tokenwise NameHeld (λ ks ws. Unjoined ws)
+unfolding nameText fixed withinCalls
+unjoined-tokenwise = record {
+  none = tt;
+  append = λ {ks} {ws} {us} {vs} U W. unjoined-append ws vs U W;
+  plain = λ k t U. (λ e. absurd (eqb-false k word.notKey (plain-token k t .1) e), U);
+  name = λ r U. (λ e. absurd (name-no-sign r word.notKey refl e), U);
+  negated = λ r U. (λ e. name-no-sign r word.equalKey refl, U);
+}
+
 -- ---- the tokens of a text
 
 run-take : (r : List ℕ) → nameLength (take (nameLength r) r) ≡ nameLength r
@@ -82,7 +109,8 @@ width-take [] = refl
 width-take (b ∷ r) = byTest (letter b)
     (λ t. rw t (byTest (leb (nameLength (b ∷ r)) longestName) (λ u. rw u (name-take b r t u)) λ u. rw u))
     λ t. rw t (byTest (mark b)
-    (λ u. rw u (byTest (eqb (getD r 0 0) 61) (λ v. rw (v, t, u) (rw (getD-take 1 r 0 0 (omega arith), v))) λ v. rw v))
+    (λ u. rw u (byTest (eqb (getD r 0 0) 61) (λ v. rw (v, t, u) (rw (getD-take 1 r 0 0 (omega arith), v)))
+    λ v. rw v (byTest (negation b) (λ w. rw (w, t, u, w)) λ w. rw w)))
     λ u. rw u (byTest (symbol b) (λ v. rw (v, t, u, v)) λ v. rw v))
 
 token-one : (s : List ℕ) (at : ℕ) → word.wrong < tokenAt s at .key → OneToken (bytesAt s at)
@@ -159,15 +187,26 @@ module _ (text : List ℕ) (m : Macro) (a : Accepted text m) where
   registers-spelled = ap length (a .spelled .registerSpellings) ∙ spellings-length text (placeOf text firstRegister) registerLength (length (m .registers))
 
   pub functions-spelled : length (m .functionSpellings) ≡ length (m .functions)
-  functions-spelled = ap length (a .spelled .functionSpellings)
-      ∙ spellings-length text (placeOf text (firstFunction (length (m .registers)))) entryLength (length (m .functions))
+  functions-spelled =
+      let n = length (m .registers) in
+      let t = m .firstTest in
+      let fs = spellings text (placeOf text (firstFunction n)) entryLength t in
+      let ts = spellings text (placeOf text (firstTest n t)) entryLength (length (m .functions) - t) in
+      ap length (a .spelled .functionSpellings)
+      ∙ omega (
+        arith,
+        length-append fs ts,
+        spellings-length text (placeOf text (firstFunction n)) entryLength t,
+        spellings-length text (placeOf text (firstTest n t)) entryLength (length (m .functions) - t),
+        a .in-order .tests,
+      )
 
   register-printed : (x : ℕ) → x < length (m .registers) → HeldAs (getD (m .registers) x 0) (getD (m .registerSpellings) x 0)
   register-printed x h = declared-printed text (placeOf text (firstRegister + x)) _ _
       (register-declared text m (a .spelled) x h) (register-spelled text m (a .spelled) x h) (a .in-order .registers .names x h)
 
   function-printed : (f : ℕ) → f < length (m .functions) → HeldAs (getD (m .functions) f 0) (getD (m .functionSpellings) f 0)
-  function-printed f h = declared-printed text (placeOf text (firstFunction (length (m .registers)) + entryLength * f)) _ _
+  function-printed f h = declared-printed text _ _ _
       (function-declared text m (a .spelled) (a .in-order .arities) f h) (function-spelled text m (a .spelled) f h) (a .in-order .functions .names f h)
 
   short-order : InOrder (withoutEmptyElses m)
@@ -176,9 +215,15 @@ module _ (text : List ℕ) (m : Macro) (a : Accepted text m) where
   print-pairs : Pairwise HeldAs (sentence (withoutEmptyElses m)) (printTokens m)
   print-pairs = sentence-pairs HeldAs fixed-printed (withoutEmptyElses m) short-order registers-spelled functions-spelled register-printed function-printed
 
+  print-unjoined : Unjoined (printTokens m)
+  print-unjoined =
+      sentence-tokenwise unjoined-tokenwise (λ ks ws U. (λ e. absurd (omega arith), U)) (withoutEmptyElses m) short-order registers-spelled functions-spelled
+      (λ x h. record { real = a .in-order .registers .names x h; held = register-printed x h })
+      λ f h. record { real = a .in-order .functions .names f h; held = function-printed f h }
+
   print-whole : SpelledWhole (houseLayout m) 0 (printTokens m)
   unfolding houseLayout
-  print-whole = spaced-spelled (printTokens m) (all-printed print-pairs)
+  print-whole = spaced-spelled (printTokens m) (all-printed print-pairs) print-unjoined
 
   -- Token i of the print is the i-th that is to be printed,
   pub print-token : (i : ℕ) → i < length (printTokens m) → tokenAt (houseLayout m) (placeOf (houseLayout m) i) .spelling ≡ getD (printTokens m) i 0
@@ -194,11 +239,46 @@ module _ (text : List ℕ) (m : Macro) (a : Accepted text m) where
       (λ k h. rw (let e : 1 + 1 * k ≡ 1 + k = omega arith in e) (register-held (asDeclared (withoutEmptyElses m)) k h))
       ∙ ap (spelledRegisters (houseLayout m)) registers-spelled
 
-  print-functions : m .functionSpellings ≡ spelledFunctions (houseLayout m) (length (m .registers)) (length (m .functions))
+  spelled-arities : Arities (m .functionSpellings) (m .arities)
+  spelled-arities = arities-kept (m .functionSpellings) functions-spelled (a .in-order .arities)
+
+  tests-within : m .firstTest ≤ length (m .functionSpellings)
+  tests-within = let l = a .in-order .tests in omega (arith, functions-spelled)
+
+  -- the names in the line of functions, and those in the line of tests
+  functions-in-print : take (m .firstTest) (m .functionSpellings)
+      ≡ spellings (houseLayout m) (placeOf (houseLayout m) (firstFunction (length (m .registerSpellings)))) entryLength (m .firstTest)
+  functions-in-print =
+      let t = m .firstTest in
+      let gs = m .functionSpellings in
+      let first = firstFunction (length (m .registerSpellings)) in
+      let size = length-take-le t gs tests-within in
+      held-spellings (houseLayout m) (print-whole .tokens) first entryLength (take t gs)
+      (λ k h.
+      let l : k < t = omega arith in
+      subst (Holds (printTokens m) (first + entryLength * k)) (sym (getD-take t gs k 0 l))
+      (rw (lt-ltb k t l) at (function-held (asDeclared (withoutEmptyElses m)) spelled-arities k (let w = tests-within in omega arith))))
+      ∙ ap (spellings (houseLayout m) (placeOf (houseLayout m) first) entryLength) size
+
+  tests-in-print : drop (m .firstTest) (m .functionSpellings)
+      ≡ spellings (houseLayout m) (placeOf (houseLayout m) (firstTest (length (m .registerSpellings)) (m .firstTest))) entryLength
+      (length (m .functionSpellings) - m .firstTest)
+  tests-in-print =
+      let t = m .firstTest in
+      let gs = m .functionSpellings in
+      let first = firstTest (length (m .registerSpellings)) t in
+      let size = length-drop t gs in
+      held-spellings (houseLayout m) (print-whole .tokens) first entryLength (drop t gs)
+      (λ k h.
+      let back : t + k - t ≡ k = omega arith in
+      subst (Holds (printTokens m) (first + entryLength * k)) (sym (getD-drop t gs k 0))
+      (rw (le-ltb (t + k) t (omega arith), back) at (function-held (asDeclared (withoutEmptyElses m)) spelled-arities (t + k) (omega arith))))
+      ∙ ap (spellings (houseLayout m) (placeOf (houseLayout m) first) entryLength) size
+
+  print-functions : m .functionSpellings ≡ spelledFunctions (houseLayout m) (length (m .registers)) (m .firstTest) (length (m .functions))
   print-functions =
-      held-spellings (houseLayout m) (print-whole .tokens) (firstFunction (length (m .registerSpellings))) entryLength (m .functionSpellings)
-      (function-held (asDeclared (withoutEmptyElses m)) (arities-kept (m .functionSpellings) functions-spelled (a .in-order .arities)))
-      ∙ λ i. spelledFunctions (houseLayout m) (registers-spelled i) (functions-spelled i)
+      sym (take-append-drop (m .firstTest) (m .functionSpellings)) ∙ (λ i. functions-in-print i ++ tests-in-print i)
+      ∙ λ i. spelledFunctions (houseLayout m) (registers-spelled i) (m .firstTest) (functions-spelled i)
 
   -- the tokens of the print are the sentence of the macro without its empty elses, with the names as declared
   pub print-spelled : Spelled (houseLayout m) (withoutEmptyElses m)
@@ -217,7 +297,7 @@ print-accepted text m a h = record {
   short = h;
   spelled = print-spelled text m a;
   in-order = order-short m (a .in-order);
-  few = rw (size-short (m .body)) (a .few);
+  few = rw (size-short m) (a .few);
 }
 
 pub print-not-refused : (text : List ℕ) (m : Macro) → Accepted text m → length (houseLayout m) ≤ longestPrint

@@ -1,4 +1,4 @@
--- What the writer of the house layout promises is settled, and 15 is its last number.
+-- What the writer of the house layout promises is settled, and 15 is given last.
 use mathlib.Core.Path.{_≡_, refl, sym, ap, subst, _∙_}
 use mathlib.Core.Logic.{_⊎_, inl, inr}
 use Prim.Native.Nat.{ℕ, _≤_, _<_}
@@ -15,7 +15,7 @@ use Rattle.grammar.specs.Grammar.{Macro}
 use Rattle.refusals.specs.Order.{Refusal}
 use Rattle.refusals.specs.Accepted.{Accepted}
 use Rattle.refusals.proofs.Theory.Basics.{and-false}
-use Rattle.refusals.proofs.Theory.Order.{refusal-number}
+use Rattle.refusals.proofs.Theory.Order.{refusal-of-text}
 use Rattle.refusals.proofs.Theory.Accepted.{Acceptance, Becomes, an-acceptance, accepted-once, never-both, refused-once}
 use Rattle.layout_theory.specs.Layout.{houseLayout, longestPrint}
 use Rattle.layout_theory.specs.Writing.{LayoutAnswer, printed, refused, printFits, answerFor, bufferFor, WritesLayout}
@@ -102,22 +102,22 @@ module _ {text entry exit : List ℕ} {answer : LayoutAnswer} (x : WritesLayout 
   too-long-passes e = go way-written
     where
       go : WayWritten text entry answer exit → (m : Macro) × Accepted text m × PrintPasses (houseLayout m) entry
-      go (WayWritten.unread n p r f g) = absurd (let z : printTooLong ≡ n = cc in omega (arith, refusal-number n p r .1))
+      go (WayWritten.unread n p r f g) = absurd (refusal-of-text n p r .1 (let z : n ≡ printTooLong = cc in z))
       go (passing m a p f g) = (m, a, p)
       go (standing m a w s f g) = absurd (not-printed f e)
 
   pub passes-too-long : (m : Macro) → Accepted text m → PrintPasses (houseLayout m) entry → answer ≡ refused printTooLong 0
   passes-too-long m a p = x .answered m a ∙ rw (passes-unfit (houseLayout m) entry p) refl
 
-  pub low-as-read : (n p : ℕ) → answer ≡ refused n p → n < printTooLong → Refusal text n p
-  low-as-read n p e l = go way-written
+  pub other-as-read : (n p : ℕ) → answer ≡ refused n p → (n ≡ printTooLong → ⊥) → Refusal text n p
+  other-as-read n p e l = go way-written
     where
       go : WayWritten text entry answer exit → Refusal text n p
       go (WayWritten.unread k q r f g) =
           let u : k ≡ n = cc in
           let v : q ≡ p = cc in
           subst (λ i. Refusal text i p) u (subst (Refusal text k) v r)
-      go (passing m a _ f g) = absurd (let z : printTooLong ≡ n = cc in omega arith)
+      go (passing m a _ f g) = absurd (l (let z : n ≡ printTooLong = cc in z))
       go (standing m a w s f g) = absurd (not-printed f e)
 
   -- ---- the buffer

@@ -10,7 +10,7 @@ use lib.Seq.{drop-drop, drop-append-seam, take-append-seam}
 use borrow.Author.Tests.{eqb-true, ne-eqb}
 use Rattle.base.specs.Choice.{pick}
 use Rattle.base.proofs.Theory.Choice.{byTest}
-use Rattle.tokens.specs.Bytes.{blank, letter, digit, inner, symbol, mark, gap, nameLength, longestName, width, key, spelling}
+use Rattle.tokens.specs.Bytes.{blank, letter, digit, inner, symbol, negation, mark, gap, nameLength, longestName, width, key, spelling}
 use Rattle.tokens.specs.Words as word
 use Rattle.tokens.specs.Tokens.{token, tokenAt}
 use Rattle.tokens.proofs.Theory.Keys.{slice-take}
@@ -20,7 +20,7 @@ use Rattle.text.proofs.Theory.Names.{name-law}
 use Rattle.grammar.specs.Spelled.{Spells}
 use Rattle.refusals.proofs.Theory.Basics.{clash}
 use Rattle.layout_theory.specs.Layout.{firstByte, isWord, endsLine, space, lineFeed, blankBefore, lineEnd, spaced}
-use Rattle.layout_theory.proofs.Theory.Pairs.{Pairwise}
+use Rattle.layout_theory.proofs.Theory.Pairs.{BeginsOther, Pairwise}
 
 -- ---- tokens as bytes
 
@@ -45,6 +45,11 @@ abbrev pub AllPrinted : List ℕ → Type 0
 AllPrinted [] = Unit {0}
 AllPrinted (w ∷ ws) = PrintedToken w × AllPrinted ws
 
+-- Behind each `!` stands a token that is not `=`: they would be one token (SPEC 8.2).
+abbrev pub Unjoined : List ℕ → Type 0
+Unjoined [] = Unit {0}
+Unjoined (w ∷ ws) = (w ≡ word.notKey → BeginsOther word.equalKey ws) × Unjoined ws
+
 -- ---- what stands behind a token
 
 -- letters, digits and _ go on to what is none of them
@@ -57,21 +62,23 @@ run-append (x ∷ b) rest = byTest (inner x)
     λ t. rw t λ e f. absurd (omega arith)
 
 module _ (x : ℕ) (b rest : List ℕ) where
-  -- the token ends where it did, if no byte behind it can go on with a name
-  width-append : width (x ∷ b) ≡ suc (length b) → (letter x ≡ true → inner (getD rest 0 0) ≡ false) → width (x ∷ (b ++ rest)) ≡ suc (length b)
+  -- the token ends where it did, if no byte behind it can go on with a name, and no `=` with a `!`
+  width-append : width (x ∷ b) ≡ suc (length b) → (letter x ≡ true → inner (getD rest 0 0) ≡ false)
+      → (x ∷ b ≡ word.notKey ∷ [] → eqb (getD rest 0 0) 61 ≡ false) → width (x ∷ (b ++ rest)) ≡ suc (length b)
   unfolding width
   width-append = byTest (letter x)
       (λ t. rw t (byTest (leb (nameLength (x ∷ b)) longestName)
-      (λ u. rw u λ e f. let n = run-append (x ∷ b) rest e (f refl) in rw (n, ← e, u))
-      λ u. rw u λ e f. absurd (omega arith)))
+      (λ u. rw u λ e f g. let n = run-append (x ∷ b) rest e (f refl) in rw (n, ← e, u))
+      λ u. rw u λ e f g. absurd (omega arith)))
       λ t. rw t (byTest (mark x)
-      (λ u. rw u (sign b))
-      λ u. rw u (byTest (symbol x) (λ v. rw v λ e f. e) λ v. rw v λ e f. absurd (omega arith)))
+      (λ u. rw u λ e f. sign b e)
+      λ u. rw u (byTest (symbol x) (λ v. rw v λ e f g. e) λ v. rw v λ e f g. absurd (omega arith)))
     where
-      sign : (b : List ℕ) → pick (eqb (getD b 0 0) 61) (λ _. 2) (λ _. 0) ≡ suc (length b) → (false ≡ true → inner (getD rest 0 0) ≡ false)
-          → pick (eqb (getD (b ++ rest) 0 0) 61) (λ _. 2) (λ _. 0) ≡ suc (length b)
-      sign [] e f = absurd (omega arith)
-      sign (y ∷ b) e f = e
+      sign : (b : List ℕ) → pick (eqb (getD b 0 0) 61) (λ _. 2) (λ _. pick (negation x) (λ _. 1) λ _. 0) ≡ suc (length b)
+          → (x ∷ b ≡ word.notKey ∷ [] → eqb (getD rest 0 0) 61 ≡ false)
+          → pick (eqb (getD (b ++ rest) 0 0) 61) (λ _. 2) (λ _. pick (negation x) (λ _. 1) λ _. 0) ≡ suc (length b)
+      sign [] = byTest (negation x) (λ t e g. rw (g (ap (λ y. y ∷ []) (eqb-true x word.notKey t))) e) λ t. rw t λ e g. absurd (omega arith)
+      sign (y ∷ b) = λ e g. e
 
 -- ---- the first byte of a token
 
@@ -125,6 +132,30 @@ behind-word (w ∷ ws) (p, P) = byTest (isWord w) (λ t. rw t) λ t. rw t (sign 
         let z : width (x ∷ b) ≡ suc (length b) = rw e at (p .one .whole) in
         begins-apart x b z (ap (λ y. letter y || digit y) (ap (λ l. getD l 0 0) (sym e) ∙ first-byte w) ∙ f)
 
+-- ---- behind `!`
+
+-- a token that begins with `=` is that sign
+equal-alone : (x : ℕ) (b : List ℕ) → width (x ∷ b) ≡ suc (length b) → eqb x 61 ≡ true → x ∷ b ≡ word.equalKey ∷ []
+unfolding width
+equal-alone x b e t = alone b (ap (λ y. width (y ∷ b)) (sym (eqb-true x 61 t)) ∙ e)
+  where
+    alone : (b : List ℕ) → width (word.equalKey ∷ b) ≡ suc (length b) → x ∷ b ≡ word.equalKey ∷ []
+    alone [] f = ap (λ y. y ∷ []) (eqb-true x 61 t)
+    alone (y ∷ b) f = absurd (omega arith)
+
+-- So no byte `=` stands behind `!`.
+behind-negation : (ws : List ℕ) → AllPrinted ws → BeginsOther word.equalKey ws → eqb (getD (spaced false ws) 0 0) 61 ≡ false
+unfolding spaced
+behind-negation [] P h = refl
+behind-negation (w ∷ ws) (p, P) h = byTest (eqb (getD (nameText w ++ (lineEnd w ++ spaced (isWord w) ws)) 0 0) 61)
+    (λ t. absurd (h (equal-sign (lineEnd w ++ spaced (isWord w) ws) (nameText w) refl t))) λ t. t
+  where
+    equal-sign : (rest b : List ℕ) → nameText w ≡ b → eqb (getD (b ++ rest) 0 0) 61 ≡ true → w ≡ word.equalKey
+    equal-sign rest [] e t = absurd (let z = p .one .some in let y = ap length e in omega arith)
+    equal-sign rest (x ∷ b) e t =
+        let z : width (x ∷ b) ≡ suc (length b) = rw e at (p .one .whole) in
+        sym (p .back) ∙ ap spelling (e ∙ equal-alone x b z t)
+
 -- ---- the token at a place
 
 -- Bytes before a token that are no part of it; none begins a comment.
@@ -152,17 +183,22 @@ unfolding gap
 gap-token [] rest o = absurd (let z = o .some in omega arith)
 gap-token (x ∷ b) rest o = rw (begins-no-comment x b (o .whole), begins-no-blank x b (o .whole))
 
--- what may stand behind the bytes of a token: if it begins with a letter, no byte that goes on with a name
+-- what may stand behind the bytes of a token: if it begins with a letter, no byte that goes on with a name; if it is `!`, no `=`
 record EndsThere (b rest : List ℕ) : Type 0 where
   apart : letter (getD b 0 0) ≡ true → inner (getD rest 0 0) ≡ false
+  unequal : b ≡ word.notKey ∷ [] → eqb (getD rest 0 0) 61 ≡ false
 
-word-ends : (w : ℕ) (ws : List ℕ) → AllPrinted ws → EndsThere (nameText w) (lineEnd w ++ spaced (isWord w) ws)
-word-ends w ws P = record {
+token-ends : (w : ℕ) (ws : List ℕ) → PrintedToken w → AllPrinted ws → (w ≡ word.notKey → BeginsOther word.equalKey ws)
+    → EndsThere (nameText w) (lineEnd w ++ spaced (isWord w) ws)
+token-ends w ws p P u = record {
   apart = λ t.
       let h = or-left (letter (firstByte w)) (digit (firstByte w)) (ap letter (sym (first-byte w)) ∙ t) in
       ap (λ l. inner (getD (l ++ spaced (isWord w) ws) 0 0)) (line-end-sign w h)
       ∙ ap (λ follows. inner (getD (spaced follows ws) 0 0)) h
       ∙ behind-word ws P;
+  unequal = λ e.
+      let h = sym (p .back) ∙ ap spelling e in
+      ap (λ k. eqb (getD (lineEnd k ++ spaced (isWord k) ws) 0 0) 61) h ∙ behind-negation ws P (u h);
 }
   where
     or-left : (p q : Bool) → p ≡ true → p || q ≡ true
@@ -171,7 +207,7 @@ word-ends w ws P = record {
 
 width-kept : (b rest : List ℕ) → OneToken b → EndsThere b rest → width (b ++ rest) ≡ length b
 width-kept [] rest o f = absurd (let z = o .some in omega arith)
-width-kept (x ∷ b) rest o f = width-append x b rest (o .whole) (f .apart)
+width-kept (x ∷ b) rest o f = width-append x b rest (o .whole) (f .apart) (f .unequal)
 
 -- The token behind blanks: its two numbers, where it begins and ends, and what is left behind it.
 module _ (s : List ℕ) (at : ℕ) (g b rest : List ℕ) (e : drop at s ≡ g ++ (b ++ rest)) (a : AllBlank g) (o : OneToken b) (f : EndsThere b rest) where
@@ -219,9 +255,10 @@ pub record SpelledWhole (s : List ℕ) (at : ℕ) (ws : List ℕ) : Type 0 where
 
 module _ (s : List ℕ) where
   -- What is left of the text is blanks, or the end of a line, and then the spaced tokens.
-  spaced-from : (at : ℕ) (g : List ℕ) (follows : Bool) (ws : List ℕ) → AllPrinted ws → AllBlank g → drop at s ≡ g ++ spaced follows ws → SpelledWhole s at ws
+  spaced-from : (at : ℕ) (g : List ℕ) (follows : Bool) (ws : List ℕ) → AllPrinted ws → Unjoined ws → AllBlank g → drop at s ≡ g ++ spaced follows ws
+      → SpelledWhole s at ws
   unfolding spaced gap
-  spaced-from at g follows [] P a e = record {
+  spaced-from at g follows [] P U a e = record {
     place = at;
     tokens = SpellsAs.none;
     ended =
@@ -229,15 +266,15 @@ module _ (s : List ℕ) where
         let n = ap length e in
         ap (λ t. t .key) (sym (token-end s at (at + length g) p (omega (arith, length-append g [], length-drop at s))));
   }
-  spaced-from at g follows (w ∷ ws) (p, P) a e =
+  spaced-from at g follows (w ∷ ws) (p, P) (u, U) a e =
       let before = g ++ blankBefore follows w in
       let rest = lineEnd w ++ spaced (isWord w) ws in
       let split : drop at s ≡ before ++ (nameText w ++ rest) = e ∙ sym (append-assoc g (blankBefore follows w) (nameText w ++ rest)) in
       let blanks = blank-both g (blankBefore follows w) a (blank-before follows w) in
-      let E = word-ends w ws P in
+      let E = token-ends w ws p P u in
       let there = token-there s at before (nameText w) rest split blanks (p .one) E in
       let behind = token-behind s at before (nameText w) rest split blanks (p .one) E in
-      let R = spaced-from (tokenAt s at .end) (lineEnd w) (isWord w) ws P (blank-line-end w) (ap (λ t. drop (t .end) s) there ∙ behind) in
+      let R = spaced-from (tokenAt s at .end) (lineEnd w) (isWord w) ws P U (blank-line-end w) (ap (λ t. drop (t .end) s) there ∙ behind) in
       record {
         place = R .place;
         tokens = SpellsAs.more (ap (λ t. t .spelling) there ∙ p .back) (ap (λ t. t .key) there) (p .real) (R .tokens);
@@ -245,5 +282,5 @@ module _ (s : List ℕ) where
       }
 
 -- The tokens of a spaced list of tokens are that list.
-pub spaced-spelled : (ws : List ℕ) → AllPrinted ws → SpelledWhole (spaced false ws) 0 ws
-spaced-spelled ws P = spaced-from (spaced false ws) 0 [] false ws P tt refl
+pub spaced-spelled : (ws : List ℕ) → AllPrinted ws → Unjoined ws → SpelledWhole (spaced false ws) 0 ws
+spaced-spelled ws P U = spaced-from (spaced false ws) 0 [] false ws P U tt refl

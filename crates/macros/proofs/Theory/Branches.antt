@@ -1,9 +1,11 @@
--- A macro performed letter by letter, and the theorem that this gives Definition 2's executions.
+-- A program performed letter by letter, and the theorem that this gives Definition 2's executions; a macro's are those of the macro written out.
 -- "At a branch the condition as written comes first; at an assert, the failing letter."
 use mathlib.Core.Path.{_≡_, refl, sym, ap, _∙_, subst}
 use mathlib.Core.Logic.{_↔_}
 use Rattle.semantics.specs.Terms.{Trace, _▸_}
-use Rattle.macros.specs.Tree.{Condition, test, opposite, Statement, skip, perform, assert, if, while, Else, absent, present, Block, empty, _then_}
+use Rattle.macros.specs.Plain.{Condition, test, opposite, Statement, skip, perform, assert, if, while, Else, absent, present, Block, empty, _then_}
+use Rattle.macros.specs.Tree as tree
+use Rattle.macros.specs.WrittenOut.{writtenOut}
 use Rattle.macros.specs.Executions.{Outcome, done, failed, Exec, ExecElse, ExecBlock, Partial, Complete, Failing, Begins}
 use Rattle.macros.proofs.Theory.Executions.{completesBlock, block-begins}
 use Rattle.macros.specs.Executions
@@ -44,7 +46,7 @@ branches (if c b e then k) second = move (opposite c) (at (due (elseBlock e befo
 branches (while c b then k) first = move (test c) (at (due (b before (while c b then k))))
 branches (while c b then k) second = move (opposite c) (at (due k))
 
--- The macro performed from a start along a path.
+-- The program performed from a start along a path.
 abbrev pub perform-along : Trace → Block → Path → Stand Block
 perform-along start m p = walk branches (due m) start p
 
@@ -136,7 +138,7 @@ before-empty empty = refl
 before-empty (s then b) = ap (λ k. s then k) (before-empty b)
 
 module _ (start : Trace) (m : Block) where
-  -- where a walk stands, the macro is executed but for what is left
+  -- where a walk stands, the program is executed but for what is left
   abbrev Executed : Stand Block → Type 0
   Executed nowhere = Unit {0}
   Executed (stand (at k) ρ) = (π : Trace) (o : Outcome) → ExecBlock k ρ π o → ExecBlock m start π o
@@ -160,31 +162,34 @@ module _ (start : Trace) (m : Block) where
   arrived : {o : Outcome} {ρ : Trace} → ExecBlock m start ρ o → Arrives start m o empty ρ
   arrived x = block-walk start m x empty root (ap (λ k. stand (at (due k)) start) (sym (before-empty m)))
 
--- ── Definition 2's executions are the walks ──
-module _ (start : Trace) (m : Block) (ρ : Trace) where
+-- ── the executions of a macro are the walks through the macro written out ──
+module _ (start : Trace) (m : tree.Block) (ρ : Trace) where
+  abbrev expansion : Block
+  expansion = writtenOut m
+
   -- those that run through the whole macro: nothing is left
-  pub complete-walk : Complete start m ρ ↔ ((p : Path) × (perform-along start m p ≡ stand (at empty) ρ))
-  complete-walk = (λ x. arrived start m x, λ (p, e). subst (Executed start m) e (executed start m p) ρ done Executions.stop)
+  pub complete-walk : Complete start m ρ ↔ ((p : Path) × (perform-along start (writtenOut m) p ≡ stand (at empty) ρ))
+  complete-walk = (λ x. arrived start expansion x, λ (p, e). subst (Executed start expansion) e (executed start expansion p) ρ done Executions.stop)
 
   -- those that end at a failure
-  pub failing-walk : Failing start m ρ ↔ ((p : Path) × (perform-along start m p ≡ stand failure ρ))
-  failing-walk = (λ x. arrived start m x, λ (p, e). subst (Executed start m) e (executed start m p))
+  pub failing-walk : Failing start m ρ ↔ ((p : Path) × (perform-along start (writtenOut m) p ≡ stand failure ρ))
+  failing-walk = (λ x. arrived start expansion x, λ (p, e). subst (Executed start expansion) e (executed start expansion p))
 
   -- and the partial ones
-  pub partial-walk : Partial start m ρ ↔ ((p : Path) × (l : Place Block) × (perform-along start m p ≡ stand l ρ))
+  pub partial-walk : Partial start m ρ ↔ ((p : Path) × (l : Place Block) × (perform-along start (writtenOut m) p ≡ stand l ρ))
   partial-walk = (λ x. into (x .outcome) (x .execution) (x .runs) (x .from-start) (x .begins), λ (p, l, e). onto p l e)
     where
-      into : (o : Outcome) (π : Trace) → ExecBlock m start π o → Begins start ρ → Begins ρ π
-          → (p : Path) × (l : Place Block) × (perform-along start m p ≡ stand l ρ)
-      into done π x s b = let (p, i) = arrived start m x in shorter branches (due m) start b s p (at empty) i
-      into failed π x s b = let (p, i) = arrived start m x in shorter branches (due m) start b s p failure i
+      into : (o : Outcome) (π : Trace) → ExecBlock expansion start π o → Begins start ρ → Begins ρ π
+          → (p : Path) × (l : Place Block) × (perform-along start expansion p ≡ stand l ρ)
+      into done π x s b = let (p, i) = arrived start expansion x in shorter branches (due expansion) start b s p (at empty) i
+      into failed π x s b = let (p, i) = arrived start expansion x in shorter branches (due expansion) start b s p failure i
 
-      onto : (p : Path) (l : Place Block) → perform-along start m p ≡ stand l ρ → Partial start m ρ
+      onto : (p : Path) (l : Place Block) → perform-along start expansion p ≡ stand l ρ → Partial start m ρ
       onto p failure e = record {
         execution = ρ;
         outcome = failed;
-        runs = subst (Executed start m) e (executed start m p);
-        from-start = walk-begins branches (due m) start p failure ρ e;
+        runs = subst (Executed start expansion) e (executed start expansion p);
+        from-start = walk-begins branches (due expansion) start p failure ρ e;
         begins = Executions.whole;
       }
       onto p (at k) e =
@@ -192,7 +197,7 @@ module _ (start : Trace) (m : Block) (ρ : Trace) where
           record {
             execution = π;
             outcome = done;
-            runs = subst (Executed start m) e (executed start m p) π done x;
-            from-start = walk-begins branches (due m) start p (at k) ρ e;
+            runs = subst (Executed start expansion) e (executed start expansion p) π done x;
+            from-start = walk-begins branches (due expansion) start p (at k) ρ e;
             begins = block-begins x;
           }

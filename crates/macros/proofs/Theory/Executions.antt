@@ -1,7 +1,7 @@
 -- What follows from the definitions of specs/Executions.antt.
 use mathlib.Core.Path.{refl}
 use Rattle.semantics.specs.Terms.{Trace, _▸_}
-use Rattle.macros.specs.Tree.{test, opposite, Statement, skip, perform, assert, if, while, Else, absent, present, Block, empty, _then_}
+use Rattle.macros.specs.Plain.{test, opposite, Statement, skip, perform, assert, if, while, Else, absent, present, Block, empty, _then_}
 use Rattle.macros.specs.Executions.{done, Exec, ExecElse, ExecBlock, Outcome}
 use Rattle.semantics.specs.Prefixes.{Begins, whole, before}
 use Rattle.semantics.proofs.Theory.Prefixes.{begins-join}

@@ -5,8 +5,8 @@ use Rattle.letters.specs.declared.Header.{Header}
 use Rattle.letters.specs.Letters.{Fits}
 use Rattle.semantics.specs.Terms.{Trace, state}
 use Rattle.semantics.specs.Facts.{WellFormed}
-use Rattle.macros.specs.Tree.{Condition, equal, unequal, test, opposite, Statement, skip, perform, assert, if, while, Else, absent, present, Block, empty}
-use Rattle.macros.specs.Tree.{_then_, Proper, ProperElse, ProperBlock}
+use Rattle.macros.specs.Tree.{Condition, equal, unequal, test, opposite, Statement, skip, perform, assert, if, while, whileAfter, Else, absent, present}
+use Rattle.macros.specs.Tree.{Block, empty, _then_, Proper, ProperElse, ProperBlock}
 use Rattle.macros.specs.Executions.{Partial}
 use Rattle.macros.specs.Order.{Branch, first, second, Path}
 use Rattle.macros.specs.Walk.{Place, Move, no-move, move, Stand, nowhere, stand, take-move, walk}
@@ -57,6 +57,7 @@ module _ (h : Header) where
           (fit-else e (b + 1 + sizeBlock t) n (p .2)),
     )
     fit-compile (while c t) b n p = (p .0, fit-block t (b + 1) b (p .1))
+    fit-compile (whileAfter a c t) b n p = (p .0, (p .1, fit-block t (b + 2) _ (p .2)))
 
     fit-else : (e : Else) (b n : ℕ) → ProperElse e h → Every (FitsPoint h) (compileElse e b n)
     fit-else absent b n p = tt

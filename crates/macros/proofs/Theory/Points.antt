@@ -9,7 +9,7 @@ use borrow.Author.Tests.{ne-eqb}
 use Rattle.base.specs.Choice.{pick}
 use Rattle.macros.specs.Order.{Branch}
 use Rattle.macros.specs.Walk.{Move, no-move}
-use Rattle.macros.specs.Tree.{Statement, skip, perform, assert, if, while, Else, absent, present, Block, empty, _then_}
+use Rattle.macros.specs.Tree.{Statement, skip, perform, assert, if, while, whileAfter, Else, absent, present, Block, empty, _then_}
 use Rattle.macros.specs.Points.{Point, step, check, fork, sizeStatement, sizeElse, sizeBlock, entry, compile, compileElse, compileBlock, points, moves}
 use Rattle.macros.specs.Points.{moves-at}
 
@@ -44,6 +44,7 @@ mutual
       let j = compileElse-length e (b + 1 + sizeBlock t) follow in
       simp (length-append) (omega arith)
   compile-length (while c t) b follow = ap suc (compileBlock-length t (b + 1) _)
+  compile-length (whileAfter a c t) b follow = ap (λ n. suc (suc n)) (compileBlock-length t (b + 2) _)
 
   pub compileElse-length : (e : Else) (b follow : ℕ) → length (compileElse e b follow) ≡ sizeElse e
   compileElse-length absent b follow = refl
@@ -99,6 +100,8 @@ mutual
   )
   leads (while c t) b follow n u v =
       ((entry-within (sizeBlock t) (b + 1) b n (omega arith) (omega arith), v), leadsBlock t (b + 1) b n (omega arith) (omega arith))
+  leads (whileAfter a c t) b follow n u v =
+      (omega arith, ((entry-within (sizeBlock t) (b + 2) _ n (omega arith) (omega arith), v), leadsBlock t (b + 2) _ n (omega arith) (omega arith)))
 
   leadsElse : (e : Else) (b follow n : ℕ) → b + sizeElse e ≤ n → follow ≤ n → Every (LeadsWithin n) (compileElse e b follow)
   leadsElse absent b follow n u v = tt

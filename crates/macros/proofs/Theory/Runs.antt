@@ -1,4 +1,4 @@
--- The walk through the points of a macro is the walk through its tree: a point fixes what is left to perform.
+-- The walk through the points of a macro is the walk through the macro written out: a point fixes what is left to perform.
 use mathlib.Core.Path.{_≡_, refl, sym, ap, _∙_, subst}
 use mathlib.Core.Logic.{inl, inr, _↔_, _≢_}
 use mathlib.Core.List.{List, [], _∷_, _++_}
@@ -11,13 +11,17 @@ use Rattle.letters.specs.declared.Letter.{Letter}
 use Rattle.semantics.specs.Terms.{Trace}
 use Rattle.semantics.specs.Judgement.{size as letters}
 use Rattle.macros.proofs.Theory.Numbers.{less-or}
-use Rattle.macros.specs.Tree.{Condition, equal, unequal, test, opposite, Statement, skip, perform, assert, if, while, Else, absent, present, Block, empty}
-use Rattle.macros.specs.Tree.{_then_}
+use Rattle.macros.specs.Tree.{Condition, equal, unequal, test, opposite, Statement, Else, Block}
+use Rattle.macros.specs.Tree as tree
+use Rattle.macros.specs.Plain.{perform, assert, if, while, empty, _then_}
+use Rattle.macros.specs.Plain as plain
+use Rattle.macros.specs.WrittenOut.{statementBefore, writtenElse, blockBefore, writtenOut}
 use Rattle.macros.specs.Executions.{Partial, Complete, Failing}
 use Rattle.macros.specs.Order.{Branch, first, second, Path, steps}
 use Rattle.macros.specs.Walk.{Place, at, failure, Move, no-move, move, Stand, nowhere, stand, take-move, walk}
 use Rattle.macros.proofs.Theory.Walk.{walk-keeps, walk-begins, walk-steps, walk-once, on-place, on-move, on-stand, on-stand-back, same-walk}
-use Rattle.macros.proofs.Theory.Branches.{_before_, elseBlock, due, branches, perform-along, before-empty, complete-walk, failing-walk, partial-walk}
+use Rattle.macros.proofs.Theory.Branches.{_before_, elseBlock, due, branches, perform-along, complete-walk, failing-walk, partial-walk}
+use Rattle.macros.proofs.Theory.WrittenOut.{block-before, elseBefore, else-before}
 use Rattle.macros.specs.Points.{Point, step, check, fork, sizeStatement, sizeElse, sizeBlock, entry, compile, compileElse, compileBlock, points, entrance}
 use Rattle.macros.specs.Points.{moves, moved, moves-at, run}
 use Rattle.macros.proofs.Theory.Points.{entry-then, compile-length, compileBlock-length, every-moves, LeadsWithin, entry-within, points-lead}
@@ -58,116 +62,134 @@ module _ {A : Type 0} where
   past (x ∷ l) (suc k) h = past l k (omega arith)
 
 -- ── what is left to perform at each point, where k follows the part ──
+-- a while, from its test on: without a letter before the test, and with the letter a
+abbrev loopLeft : Condition → Block → plain.Block → plain.Block
+loopLeft c b k = while c (blockBefore b empty) then k
+
+abbrev loopAfterLeft : Letter → Condition → Block → plain.Block → plain.Block
+loopAfterLeft a c b k = while c (blockBefore b (perform a then empty)) then k
+
 abbrev mutual
-  remains : Statement → Block → List Block
-  remains skip k = []
-  remains (perform a) k = (perform a then k) ∷ []
-  remains (assert c) k = (assert c then k) ∷ []
-  remains (if c b e) k = (if c b e then k) ∷ (remainsBlock b k ++ remainsElse e k)
-  remains (while c b) k = (while c b then k) ∷ remainsBlock b (while c b then k)
+  remains : Statement → plain.Block → List plain.Block
+  remains tree.skip k = []
+  remains (tree.perform a) k = (perform a then k) ∷ []
+  remains (tree.assert c) k = (assert c then k) ∷ []
+  remains (tree.if c b e) k = (if c (blockBefore b empty) (writtenElse e) then k) ∷ (remainsBlock b k ++ remainsElse e k)
+  remains (tree.while c b) k = loopLeft c b k ∷ remainsBlock b (loopLeft c b k)
+  remains (tree.whileAfter a c b) k = (perform a then loopAfterLeft a c b k) ∷ loopAfterLeft a c b k ∷ remainsBlock b (perform a then loopAfterLeft a c b k)
 
-  remainsElse : Else → Block → List Block
-  remainsElse absent k = []
-  remainsElse (present b) k = remainsBlock b k
+  remainsElse : Else → plain.Block → List plain.Block
+  remainsElse tree.absent k = []
+  remainsElse (tree.present b) k = remainsBlock b k
 
-  remainsBlock : Block → Block → List Block
-  remainsBlock empty k = []
-  remainsBlock (s then b) k = remains s (b before k) ++ remainsBlock b k
+  remainsBlock : Block → plain.Block → List plain.Block
+  remainsBlock tree.empty k = []
+  remainsBlock (tree._then_ s b) k = remains s (blockBefore b k) ++ remainsBlock b k
 
 mutual
   unfolding sizeStatement
 
-  remains-length : (s : Statement) (k : Block) → length (remains s k) ≡ sizeStatement s
-  remains-length skip k = refl
-  remains-length (perform a) k = refl
-  remains-length (assert c) k = refl
-  remains-length (if c b e) k =
+  remains-length : (s : Statement) (k : plain.Block) → length (remains s k) ≡ sizeStatement s
+  remains-length tree.skip k = refl
+  remains-length (tree.perform a) k = refl
+  remains-length (tree.assert c) k = refl
+  remains-length (tree.if c b e) k =
       let i = remainsBlock-length b k in
       let j = remainsElse-length e k in
       simp (length-append) (omega arith)
-  remains-length (while c b) k = let i = remainsBlock-length b (while c b then k) in omega arith
+  remains-length (tree.while c b) k = let i = remainsBlock-length b (loopLeft c b k) in omega arith
+  remains-length (tree.whileAfter a c b) k = let i = remainsBlock-length b (perform a then loopAfterLeft a c b k) in omega arith
 
-  remainsElse-length : (e : Else) (k : Block) → length (remainsElse e k) ≡ sizeElse e
-  remainsElse-length absent k = refl
-  remainsElse-length (present b) k = remainsBlock-length b k
+  remainsElse-length : (e : Else) (k : plain.Block) → length (remainsElse e k) ≡ sizeElse e
+  remainsElse-length tree.absent k = refl
+  remainsElse-length (tree.present b) k = remainsBlock-length b k
 
-  remainsBlock-length : (b k : Block) → length (remainsBlock b k) ≡ sizeBlock b
-  remainsBlock-length empty k = refl
-  remainsBlock-length (s then b) k =
-      let i = remains-length s (b before k) in
+  remainsBlock-length : (b : Block) (k : plain.Block) → length (remainsBlock b k) ≡ sizeBlock b
+  remainsBlock-length tree.empty k = refl
+  remainsBlock-length (tree._then_ s b) k =
+      let i = remains-length s (blockBefore b k) in
       let j = remainsBlock-length b k in
       simp (length-append) (omega arith)
 
-abbrev remaining : Option Block → Block
+abbrev remaining : Option plain.Block → plain.Block
 remaining none = empty
 remaining (some b) = b
 
 -- What is left to perform at point n: nothing at the end.
-abbrev pub rest : Block → ℕ → Block
+abbrev pub rest : Block → ℕ → plain.Block
 rest m n = remaining (getElem? (remainsBlock m empty) n)
 
 module _ (m : Block) where
-  abbrev Rests : ℕ → List Block → Type 0
+  abbrev Rests : ℕ → List plain.Block → Type 0
   Rests b l = Segment (remainsBlock m empty) b l
 
   abbrev Stands : ℕ → List Point → Type 0
   Stands b l = Segment (points m) b l
 
-  rest-is : (n : ℕ) (k : Block) → getElem? (remainsBlock m empty) n ≡ some k → rest m n ≡ k
+  rest-is : (n : ℕ) (k : plain.Block) → getElem? (remainsBlock m empty) n ≡ some k → rest m n ≡ k
   rest-is n k e = ap remaining e
 
-  rests-then : (s : Statement) (t k : Block) (b : ℕ) → Rests b (remainsBlock (s then t) k)
-      → Rests b (remains s (t before k)) × Rests (b + sizeStatement s) (remainsBlock t k)
+  rests-then : (s : Statement) (t : Block) (k : plain.Block) (b : ℕ) → Rests b (remainsBlock (tree._then_ s t) k)
+      → Rests b (remains s (blockBefore t k)) × Rests (b + sizeStatement s) (remainsBlock t k)
   rests-then s t k b g = (
-    segment-left (remainsBlock m empty) b (remains s (t before k)) (remainsBlock t k) g,
-    segment-right (remainsBlock m empty) b (remains s (t before k)) (remainsBlock t k) (sizeStatement s) (remains-length s (t before k)) g,
+    segment-left (remainsBlock m empty) b (remains s (blockBefore t k)) (remainsBlock t k) g,
+    segment-right (remainsBlock m empty) b (remains s (blockBefore t k)) (remainsBlock t k) (sizeStatement s) (remains-length s (blockBefore t k)) g,
   )
 
   -- at the entry of a part, the part is left to perform
   mutual
-    unfolding sizeStatement entry
+    unfolding sizeStatement entry statementBefore
 
-    enters : (s : Statement) (b n : ℕ) (k : Block) → Rests b (remains s k) → rest m n ≡ due k → rest m (entry (sizeStatement s) b n) ≡ due (s then k)
-    enters skip b n k g e = e
-    enters (perform a) b n k g e = rest-is b (perform a then k) (g .0)
-    enters (assert c) b n k g e = rest-is b (assert c then k) (g .0)
-    enters (if c t f) b n k g e = rest-is b (if c t f then k) (g .0)
-    enters (while c t) b n k g e = rest-is b (while c t then k) (g .0)
+    enters : (s : Statement) (b n : ℕ) (k : plain.Block) → Rests b (remains s k) → rest m n ≡ due k
+        → rest m (entry (sizeStatement s) b n) ≡ due (statementBefore s k)
+    enters tree.skip b n k g e = e
+    enters (tree.perform a) b n k g e = rest-is b (perform a then k) (g .0)
+    enters (tree.assert c) b n k g e = rest-is b (assert c then k) (g .0)
+    enters (tree.if c t f) b n k g e = rest-is b (if c (blockBefore t empty) (writtenElse f) then k) (g .0)
+    enters (tree.while c t) b n k g e = rest-is b (loopLeft c t k) (g .0)
+    enters (tree.whileAfter a c t) b n k g e = rest-is b (perform a then loopAfterLeft a c t k) (g .0)
 
-    entersElse : (f : Else) (b n : ℕ) (k : Block) → Rests b (remainsElse f k) → rest m n ≡ due k → rest m (entry (sizeElse f) b n) ≡ due (elseBlock f before k)
-    entersElse absent b n k g e = e
-    entersElse (present t) b n k g e = entersBlock t b n k g e
+    entersElse : (f : Else) (b n : ℕ) (k : plain.Block) → Rests b (remainsElse f k) → rest m n ≡ due k → rest m (entry (sizeElse f) b n) ≡ due (elseBefore f k)
+    entersElse tree.absent b n k g e = e
+    entersElse (tree.present t) b n k g e = entersBlock t b n k g e
 
-    entersBlock : (t : Block) (b n : ℕ) (k : Block) → Rests b (remainsBlock t k) → rest m n ≡ due k → rest m (entry (sizeBlock t) b n) ≡ due (t before k)
-    entersBlock empty b n k g e = e
-    entersBlock (s then t) b n k g e =
+    entersBlock : (t : Block) (b n : ℕ) (k : plain.Block) → Rests b (remainsBlock t k) → rest m n ≡ due k
+        → rest m (entry (sizeBlock t) b n) ≡ due (blockBefore t k)
+    entersBlock tree.empty b n k g e = e
+    entersBlock (tree._then_ s t) b n k g e =
         let (u, v) = rests-then s t k b g in
         ap (rest m) (entry-then (sizeStatement s) (sizeBlock t) b n)
-        ∙ enters s b (entry (sizeBlock t) (b + sizeStatement s) n) (t before k) u (entersBlock t (b + sizeStatement s) n k v e)
+        ∙ enters s b (entry (sizeBlock t) (b + sizeStatement s) n) (blockBefore t k) u (entersBlock t (b + sizeStatement s) n k v e)
+
+  -- and where the part is written out before j and k comes after that
+  enters-before : (t : Block) (b n : ℕ) (j k : plain.Block) → Rests b (remainsBlock t (j before k)) → rest m n ≡ due (j before k)
+      → rest m (entry (sizeBlock t) b n) ≡ due (blockBefore t j before k)
+  enters-before t b n j k g e = entersBlock t b n (j before k) g e ∙ ap due (sym (block-before t j k))
 
   -- point n has the branches of what is left there
   abbrev Alike : ℕ → Branch → Type 0
   Alike n d = branches (rest m n) d ≡ on-move (rest m) (moves-at (points m) n d)
 
   -- the branches d of a point x where k is left
-  alike-at : (n : ℕ) (x : Point) (k : Block) (d : Branch) → getElem? (points m) n ≡ some x → getElem? (remainsBlock m empty) n ≡ some k
+  alike-at : (n : ℕ) (x : Point) (k : plain.Block) (d : Branch) → getElem? (points m) n ≡ some x → getElem? (remainsBlock m empty) n ≡ some k
       → branches k d ≡ on-move (rest m) (moves x d) → Alike n d
   alike-at n x k d p r e = ap (λ z. branches z d) (rest-is n k r) ∙ e ∙ ap (λ z. on-move (rest m) (moved z d)) (sym p)
 
-  alike-step : (a : Letter) (n : ℕ) (k : Block) → rest m n ≡ due k → (d : Branch) → branches (perform a then k) d ≡ on-move (rest m) (moves (step a n) d)
+  alike-step : (a : Letter) (n : ℕ) (k : plain.Block) → rest m n ≡ due k → (d : Branch) → branches (perform a then k) d ≡ on-move (rest m) (moves (step a n) d)
   alike-step a n k e first = ap (λ z. move a (at z)) (sym e)
   alike-step a n k e second = refl
 
-  alike-check : (c : Condition) (n : ℕ) (k : Block) → rest m n ≡ due k → (d : Branch) → branches (assert c then k) d ≡ on-move (rest m) (moves (check c n) d)
+  alike-check : (c : Condition) (n : ℕ) (k : plain.Block) → rest m n ≡ due k → (d : Branch)
+      → branches (assert c then k) d ≡ on-move (rest m) (moves (check c n) d)
   alike-check c n k e first = refl
   alike-check c n k e second = ap (λ z. move (test c) (at z)) (sym e)
 
-  alike-if : (c : Condition) (t : Block) (f : Else) (i j : ℕ) (k : Block) → rest m i ≡ due (t before k) → rest m j ≡ due (elseBlock f before k)
-      → (d : Branch) → branches (if c t f then k) d ≡ on-move (rest m) (moves (fork c i j) d)
+  alike-if : (c : Condition) (t : plain.Block) (f : plain.Else) (i j : ℕ) (k : plain.Block) → rest m i ≡ due (t before k)
+      → rest m j ≡ due (elseBlock f before k) → (d : Branch) → branches (if c t f then k) d ≡ on-move (rest m) (moves (fork c i j) d)
   alike-if c t f i j k u v first = ap (λ z. move (test c) (at z)) (sym u)
   alike-if c t f i j k u v second = ap (λ z. move (opposite c) (at z)) (sym v)
 
-  alike-while : (c : Condition) (t : Block) (i j : ℕ) (k : Block) → rest m i ≡ due (t before (while c t then k)) → rest m j ≡ due k
+  alike-while : (c : Condition) (t : plain.Block) (i j : ℕ) (k : plain.Block) → rest m i ≡ due (t before (while c t then k)) → rest m j ≡ due k
       → (d : Branch) → branches (while c t then k) d ≡ on-move (rest m) (moves (fork c i j) d)
   alike-while c t i j k u v first = ap (λ z. move (test c) (at z)) (sym u)
   alike-while c t i j k u v second = ap (λ z. move (opposite c) (at z)) (sym v)
@@ -179,14 +201,14 @@ module _ (m : Block) where
   mutual
     unfolding sizeStatement compile
 
-    alike : (s : Statement) (b n : ℕ) (k : Block) → Stands b (compile s b n) → Rests b (remains s k) → rest m n ≡ due k
+    alike : (s : Statement) (b n : ℕ) (k : plain.Block) → Stands b (compile s b n) → Rests b (remains s k) → rest m n ≡ due k
         → (i : ℕ) → b ≤ i → i < b + sizeStatement s → (d : Branch) → Alike i d
-    alike skip b n k p r e i l h d = absurd (omega arith)
-    alike (perform a) b n k p r e i l h d =
+    alike tree.skip b n k p r e i l h d = absurd (omega arith)
+    alike (tree.perform a) b n k p r e i l h d =
         first-or-later b i d l (alike-at b (step a n) (perform a then k) d (p .0) (r .0) (alike-step a n k e d)) (λ u. absurd (omega arith))
-    alike (assert c) b n k p r e i l h d =
+    alike (tree.assert c) b n k p r e i l h d =
         first-or-later b i d l (alike-at b (check c n) (assert c then k) d (p .0) (r .0) (alike-check c n k e d)) (λ u. absurd (omega arith))
-    alike (if c t f) b n k p r e i l h d =
+    alike (tree.if c t f) b n k p r e i l h d =
         let rt : Rests (b + 1) (remainsBlock t k) = segment-left (remainsBlock m empty) (b + 1) (remainsBlock t k) (remainsElse f k) (r .1) in
         let rf : Rests (b + 1 + sizeBlock t) (remainsElse f k) =
         segment-right (remainsBlock m empty) (b + 1) (remainsBlock t k) (remainsElse f k) (sizeBlock t) (remainsBlock-length t k) (r .1) in
@@ -196,29 +218,45 @@ module _ (m : Block) where
         segment-right (points m) (b + 1) (compileBlock t (b + 1) n) (compileElse f (b + 1 + sizeBlock t) n) (sizeBlock t) (compileBlock-length t (b + 1) n)
         (p .1) in
         first-or-later b i d l
-        (alike-at b (fork c (entry (sizeBlock t) (b + 1) n) (entry (sizeElse f) (b + 1 + sizeBlock t) n)) (if c t f then k) d (p .0) (r .0)
-        (alike-if c t f (entry (sizeBlock t) (b + 1) n) (entry (sizeElse f) (b + 1 + sizeBlock t) n) k
-        (entersBlock t (b + 1) n k rt e) (entersElse f (b + 1 + sizeBlock t) n k rf e) d))
+        (alike-at b (fork c (entry (sizeBlock t) (b + 1) n) (entry (sizeElse f) (b + 1 + sizeBlock t) n))
+        (if c (blockBefore t empty) (writtenElse f) then k) d (p .0) (r .0)
+        (alike-if c (blockBefore t empty) (writtenElse f) (entry (sizeBlock t) (b + 1) n) (entry (sizeElse f) (b + 1 + sizeBlock t) n) k
+        (enters-before t (b + 1) n empty k rt e) (entersElse f (b + 1 + sizeBlock t) n k rf e ∙ ap due (sym (else-before f k))) d))
         (λ u. elim (less-or i (b + 1 + sizeBlock t)) [
           | inl v ↦ alikeBlock t (b + 1) n k pt rt e i u v d
           | inr v ↦ alikeElse f (b + 1 + sizeBlock t) n k pf rf e i v (omega arith) d
         ])
-    alike (while c t) b n k p r e i l h d =
-        let w : rest m b ≡ while c t then k = rest-is b (while c t then k) (r .0) in
+    alike (tree.while c t) b n k p r e i l h d =
+        let w : rest m b ≡ loopLeft c t k = rest-is b (loopLeft c t k) (r .0) in
         first-or-later b i d l
-        (alike-at b (fork c (entry (sizeBlock t) (b + 1) b) n) (while c t then k) d (p .0) (r .0)
-        (alike-while c t (entry (sizeBlock t) (b + 1) b) n k (entersBlock t (b + 1) b (while c t then k) (r .1) w) e d))
-        (λ u. alikeBlock t (b + 1) b (while c t then k) (p .1) (r .1) w i u (omega arith) d)
+        (alike-at b (fork c (entry (sizeBlock t) (b + 1) b) n) (loopLeft c t k) d (p .0) (r .0)
+        (alike-while c (blockBefore t empty) (entry (sizeBlock t) (b + 1) b) n k (enters-before t (b + 1) b empty (loopLeft c t k) (r .1) w) e d))
+        (λ u. alikeBlock t (b + 1) b (loopLeft c t k) (p .1) (r .1) w i u (omega arith) d)
+    alike (tree.whileAfter a c t) b n k p r e i l h d =
+        let body-leads : ℕ = b in
+        let w : rest m body-leads ≡ perform a then loopAfterLeft a c t k = rest-is body-leads (perform a then loopAfterLeft a c t k) (r .0) in
+        let two : b + 1 + 1 ≡ b + 2 = omega arith in
+        let pt : Stands (b + 2) (compileBlock t (b + 2) body-leads) = subst (λ z. Stands z (compileBlock t (b + 2) body-leads)) two (p .1 .1) in
+        let rt : Rests (b + 2) (remainsBlock t (perform a then loopAfterLeft a c t k)) =
+        subst (λ z. Rests z (remainsBlock t (perform a then loopAfterLeft a c t k))) two (r .1 .1) in
+        first-or-later b i d l
+        (alike-at b (step a (b + 1)) (perform a then loopAfterLeft a c t k) d (p .0) (r .0)
+        (alike-step a (b + 1) (loopAfterLeft a c t k) (rest-is (b + 1) (loopAfterLeft a c t k) (r .1 .0)) d))
+        (λ u. first-or-later (b + 1) i d u
+        (alike-at (b + 1) (fork c (entry (sizeBlock t) (b + 2) body-leads) n) (loopAfterLeft a c t k) d (p .1 .0) (r .1 .0)
+        (alike-while c (blockBefore t (perform a then empty)) (entry (sizeBlock t) (b + 2) body-leads) n k
+        (enters-before t (b + 2) body-leads (perform a then empty) (loopAfterLeft a c t k) rt w) e d))
+        (λ v. alikeBlock t (b + 2) body-leads (perform a then loopAfterLeft a c t k) pt rt w i (omega arith) (omega arith) d))
 
-    alikeElse : (f : Else) (b n : ℕ) (k : Block) → Stands b (compileElse f b n) → Rests b (remainsElse f k) → rest m n ≡ due k
+    alikeElse : (f : Else) (b n : ℕ) (k : plain.Block) → Stands b (compileElse f b n) → Rests b (remainsElse f k) → rest m n ≡ due k
         → (i : ℕ) → b ≤ i → i < b + sizeElse f → (d : Branch) → Alike i d
-    alikeElse absent b n k p r e i l h d = absurd (omega arith)
-    alikeElse (present t) b n k p r e i l h d = alikeBlock t b n k p r e i l h d
+    alikeElse tree.absent b n k p r e i l h d = absurd (omega arith)
+    alikeElse (tree.present t) b n k p r e i l h d = alikeBlock t b n k p r e i l h d
 
-    alikeBlock : (t : Block) (b n : ℕ) (k : Block) → Stands b (compileBlock t b n) → Rests b (remainsBlock t k) → rest m n ≡ due k
+    alikeBlock : (t : Block) (b n : ℕ) (k : plain.Block) → Stands b (compileBlock t b n) → Rests b (remainsBlock t k) → rest m n ≡ due k
         → (i : ℕ) → b ≤ i → i < b + sizeBlock t → (d : Branch) → Alike i d
-    alikeBlock empty b n k p r e i l h d = absurd (omega arith)
-    alikeBlock (s then t) b n k p r e i l h d =
+    alikeBlock tree.empty b n k p r e i l h d = absurd (omega arith)
+    alikeBlock (tree._then_ s t) b n k p r e i l h d =
         let (rs, rt) = rests-then s t k b r in
         let ps : Stands b (compile s b (entry (sizeBlock t) (b + sizeStatement s) n)) =
         segment-left (points m) b (compile s b (entry (sizeBlock t) (b + sizeStatement s) n)) (compileBlock t (b + sizeStatement s) n) p in
@@ -226,7 +264,7 @@ module _ (m : Block) where
         segment-right (points m) b (compile s b (entry (sizeBlock t) (b + sizeStatement s) n)) (compileBlock t (b + sizeStatement s) n) (sizeStatement s)
         (compile-length s b (entry (sizeBlock t) (b + sizeStatement s) n)) p in
         elim (less-or i (b + sizeStatement s)) [
-          | inl v ↦ alike s b (entry (sizeBlock t) (b + sizeStatement s) n) (t before k) ps rs (entersBlock t (b + sizeStatement s) n k rt e) i l v d
+          | inl v ↦ alike s b (entry (sizeBlock t) (b + sizeStatement s) n) (blockBefore t k) ps rs (entersBlock t (b + sizeStatement s) n k rt e) i l v d
           | inr v ↦ alikeBlock t (b + sizeStatement s) n k pt rt e i v (omega arith) d
         ]
 
@@ -239,8 +277,8 @@ module _ (m : Block) where
   past-points n d l = ap (λ z. moved z d) (past (points m) n (omega (arith, compileBlock-length m 0 (sizeBlock m))))
 
   -- at the entrance all is left
-  pub rest-entrance : rest m (entrance m) ≡ due m
-  rest-entrance = entersBlock m 0 (sizeBlock m) empty (segment-whole (remainsBlock m empty)) (rest-end (sizeBlock m) (omega arith)) ∙ ap due (before-empty m)
+  pub rest-entrance : rest m (entrance m) ≡ due (writtenOut m)
+  rest-entrance = entersBlock m 0 (sizeBlock m) empty (segment-whole (remainsBlock m empty)) (rest-end (sizeBlock m) (omega arith))
 
   -- each point has the branches of what is left there
   pub point-branches : (n : ℕ) (d : Branch) → branches (rest m n) d ≡ on-move (rest m) (moves-at (points m) n d)
@@ -250,8 +288,8 @@ module _ (m : Block) where
     | inr l ↦ ap (λ k. branches k d) (rest-end n l) ∙ sym (ap (on-move (rest m)) (past-points n d l))
   ]
 
-  -- The walk through the points, each taken for what is left there, is the walk through the tree.
-  pub run-is : (start : Trace) (p : Path) → perform-along start m p ≡ on-stand (rest m) (run start m p)
+  -- The walk through the points, each taken for what is left there, is the walk through the macro written out.
+  pub run-is : (start : Trace) (p : Path) → perform-along start (writtenOut m) p ≡ on-stand (rest m) (run start m p)
   run-is start p =
       ap (λ k. walk branches k start p) (sym rest-entrance) ∙ same-walk (rest m) (moves-at (points m)) branches point-branches (entrance m) start p
 
@@ -277,10 +315,11 @@ module _ (m : Block) where
 
 -- ── Definition 2's executions are the walks through the points ──
 module _ (start : Trace) (m : Block) (ρ : Trace) where
-  run-back : (p : Path) (l : Place Block) → perform-along start m p ≡ stand l ρ → (k : Place ℕ) × (run start m p ≡ stand k ρ) × (on-place (rest m) k ≡ l)
+  run-back : (p : Path) (l : Place plain.Block) → perform-along start (writtenOut m) p ≡ stand l ρ
+      → (k : Place ℕ) × (run start m p ≡ stand k ρ) × (on-place (rest m) k ≡ l)
   run-back p l e = on-stand-back (rest m) (run start m p) l ρ (sym (run-is m start p) ∙ e)
 
-  run-there : (p : Path) (k : Place ℕ) → run start m p ≡ stand k ρ → perform-along start m p ≡ stand (on-place (rest m) k) ρ
+  run-there : (p : Path) (k : Place ℕ) → run start m p ≡ stand k ρ → perform-along start (writtenOut m) p ≡ stand (on-place (rest m) k) ρ
   run-there p k e = run-is m start p ∙ ap (on-stand (rest m)) e
 
   -- those that run through the whole macro come to the end

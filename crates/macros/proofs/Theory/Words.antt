@@ -5,7 +5,7 @@ use mathlib.Core.List.{List, [], _∷_, _++_}
 use Rattle.letters.specs.declared.Letter.{Letter}
 use Rattle.semantics.specs.Terms.{Trace, _▸_, extend}
 use Rattle.semantics.proofs.Theory.TraceLaws.{extend-append}
-use Rattle.macros.specs.Tree.{test, opposite, Statement, assert, if, while, Else, Block, _then_}
+use Rattle.macros.specs.Plain.{test, opposite, Statement, assert, if, while, Else, Block, _then_}
 use Rattle.macros.specs.Executions.{Outcome, done, failed, Exec, ExecElse, ExecBlock}
 use Rattle.macros.specs.Executions
 use Rattle.macros.specs.Words.{Word, WordElse, WordBlock}
@@ -63,6 +63,7 @@ mutual
       (u ++ v, WordBlock.both z t refl, q ∙ ap (λ π. extend π v) p ∙ sym (extend-append ρ u v))
   block-word (Executions.ends x) = let (w, y, p) = exec-word x in (w, WordBlock.ends y, p)
 
--- An execution of a macro from a start has the letters of a word of Definition 2 after the start, and each such word gives one.
+-- An execution of a program from a start has the letters of a word of Definition 2 after the start, and each such word gives one. Those of a macro m are
+-- the ones of `writtenOut m`.
 pub exec-is : (m : Block) (start π : Trace) (o : Outcome) → ExecBlock m start π o ↔ ((w : List Letter) × WordBlock m w o × (π ≡ extend start w))
 exec-is m start π o = (λ x. block-word x, λ (w, x, p). subst (λ τ. ExecBlock m start τ o) (sym p) (block-exec x start))

@@ -2,8 +2,8 @@ use mathlib.Core.Path.{_≡_}
 use Rattle.tokens.specs.Tokens.{tokenAt}
 use Rattle.tokens.specs.Words as word
 use Rattle.grammar.specs.Reading as reading
-use Rattle.phrases.proofs.Theory.PhraseLaws.{use-read, expect-read, letter-read}
-use Rattle.phrases.proofs.Theory.PhraseLaws.{assignment-target, assignment-becomes, assignment-value, assignment-semicolon, assignment-read}
+use Rattle.phrases.proofs.Theory.PhraseLaws.{use-read, expect-read}
+use Rattle.phrases.proofs.Theory.PhraseLaws.{assignment-target, assignment-becomes, assignment-value, assignment-read}
 use borrow.Author.Needs.{needs}
 use Rattle.phrases.proofs.assignment.Statement.{statement}
 use Rattle.phrases.proofs.assignment.Tie as tie
@@ -23,13 +23,6 @@ sign : (c : tie.After-sign) → let t = c .before .before .before .before in
     reading.expect (start t .args .text .now) word.becomesKey (t .target .given .0 .1 .0) ≡ reading.got tt (c .sign .given .0 .1 .0)
 sign c = expect-read _ _ _ (c .before .before .expect .ensures) (c .sign .given .1)
 
-right : (c : tie.After-right) → let g = c .before .before .before .before in
-    let t = g .before .before .before .before in
-    let a = start t .args in
-    reading.rightHandSide (a .text .now) (a .regs .now) (a .funs .now) (a .arities .now) (t .target .given .0 .0) (g .sign .given .0 .1 .0)
-    ≡ reading.got (c .right .given .0 .0) (c .right .given .0 .1 .0)
-right c = letter-read _ (c .before .before .value .ensures) (c .right .given .1)
-
 next-requires : tie.Need-next-requires
 next-requires c κs = search needs
 
@@ -48,7 +41,7 @@ refusal-requires c κs = search needs
 returns : tie.Need-returns
 returns c =
     let at-use-of = c .before .before .before in
-    assignment-target _ _ _ _ _ (at-use-of .before .next .ensures) (at-use-of .use-of .ensures) (c .before .enum-told .given .1) (c .refusal .ensures)
+    assignment-target _ _ _ _ _ _ (at-use-of .before .next .ensures) (at-use-of .use-of .ensures) (c .before .enum-told .given .1) (c .refusal .ensures)
 
 expect-requires : tie.Need-expect-requires
 expect-requires c κs = search needs
@@ -65,7 +58,8 @@ refusal-requires-2 c κs = search needs
 returns-2 : tie.Need-returns-2
 returns-2 c =
     let at-expect = c .before .before .before in
-    assignment-becomes _ _ _ _ _ _ _ (target (at-expect .before .before)) (at-expect .expect .ensures) (c .before .enum-told2 .given .1) (c .refusal2 .ensures)
+    assignment-becomes _ _ _ _ _ _ _ _ (target (at-expect .before .before)) (at-expect .expect .ensures) (c .before .enum-told2 .given .1)
+    (c .refusal2 .ensures)
 
 value-requires : tie.Need-value-requires
 value-requires c κs = search needs
@@ -80,39 +74,26 @@ returns-3 : tie.Need-returns-3
 returns-3 c =
     let at-value = c .before .before in
     let at-sign = at-value .before .before in
-    assignment-value _ _ _ _ _ _ _ (target (at-sign .before .before .before .before)) _ (sign at-sign) (at-value .value .ensures) (c .enum-told3 .given .1)
+    assignment-value _ _ _ _ _ _ _ _ (target (at-sign .before .before .before .before)) _ (sign at-sign) (at-value .value .ensures) (c .enum-told3 .given .1)
 
 expect-requires-2 : tie.Need-expect-requires-2
 expect-requires-2 c κs = search needs
 
-enum-known-last : tie.Need-enum-known-last
-enum-known-last c = search needs
-
-enum-told-4 : tie.Need-enum-told-4
-enum-told-4 c = search needs
-
-refusal-requires-3 : tie.Need-refusal-requires-3
-refusal-requires-3 c κs = search needs
+letter-then-requires : tie.Need-letter-then-requires
+letter-then-requires c κs = search needs
 
 returns-4 : tie.Need-returns-4
 returns-4 c =
-    let at-expect2 = c .before .before .before in
-    let at-right = at-expect2 .before .before in
-    let at-sign = at-right .before .before .before .before in
-    assignment-semicolon _ _ _ _ _ _ _ (target (at-sign .before .before .before .before)) _ (sign at-sign) _ _ (right at-right)
-    (at-expect2 .expect2 .ensures) (c .before .enum-told4 .given .1) (c .refusal3 .ensures)
-
-returns-5 : tie.Need-returns-5
-returns-5 c =
-    let at-expect2 = c .before .before .before in
-    let at-right = at-expect2 .before .before in
-    let at-sign = at-right .before .before .before .before in
-    assignment-read _ _ _ _ _ _ _ (target (at-sign .before .before .before .before)) _ (sign at-sign) _ _ (right at-right) _
-    (expect-read _ _ _ (at-expect2 .expect2 .ensures) (c .before .last .given .1))
+    let at-right = c .before .before .before in
+    let at-value = at-right .before .before in
+    let at-sign = at-value .before .before in
+    assignment-read _ _ _ _ _ _ _ _ (target (at-sign .before .before .before .before)) _ (sign at-sign) (at-value .value .ensures) (at-right .right .given .1)
+    (c .before .expect2 .ensures) (c .letter-then .ensures)
 
 pub assignment-spec : {M : Type 1} → statement M
 assignment-spec =
-    tie.close (tie.spec
+    tie.close
+    (tie.spec
     next-requires
     use-of-requires
     enum-known-target
@@ -129,8 +110,5 @@ assignment-spec =
     enum-told-3
     returns-3
     expect-requires-2
-    enum-known-last
-    enum-told-4
-    refusal-requires-3
-    returns-4
-    returns-5)
+    letter-then-requires
+    returns-4)

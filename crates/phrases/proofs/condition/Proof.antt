@@ -1,4 +1,4 @@
-use Rattle.phrases.proofs.Theory.PhraseLaws.{condition-left, condition-sign, condition-right, condition-read}
+use Rattle.phrases.proofs.Theory.PhraseLaws.{condition-fails, condition-holds, condition-compared}
 use borrow.Author.Needs.{needs}
 use Rattle.phrases.proofs.condition.Statement.{statement}
 use Rattle.phrases.proofs.condition.Tie as tie
@@ -6,116 +6,49 @@ use Rattle.phrases.proofs.condition.Tie as tie
 next-requires : tie.Need-next-requires
 next-requires c κs = search needs
 
-use-of-requires : tie.Need-use-of-requires
-use-of-requires c κs = search needs
-
-enum-known-left : tie.Need-enum-known-left
-enum-known-left c = search needs
-
-enum-told : tie.Need-enum-told
-enum-told c = search needs
-
-refusal-requires : tie.Need-refusal-requires
-refusal-requires c κs = search needs
+named-test-requires : tie.Need-named-test-requires
+named-test-requires c κs = search needs
 
 returns : tie.Need-returns
-returns c =
-    let at-use-of = c .before .before .before in
-    let at-next = at-use-of .before in
-    condition-left _ _ _ _ (at-next .next .ensures) _ (at-use-of .use-of .ensures) _ _ ((c .before .enum-told .given) .1) _ (c .refusal .ensures)
+returns c = condition-fails _ _ _ _ _ _ _ _ (c .before .before .before .next .ensures) (c .before .if1 .taken) _ (c .named-test .ensures)
 
 next-requires-2 : tie.Need-next-requires-2
 next-requires-2 c κs = search needs
 
-sign-of-requires : tie.Need-sign-of-requires
-sign-of-requires c κs = search needs
-
-enum-known-sign : tie.Need-enum-known-sign
-enum-known-sign c = search needs
-
-enum-told-2 : tie.Need-enum-told-2
-enum-told-2 c = search needs
-
-refusal-requires-2 : tie.Need-refusal-requires-2
-refusal-requires-2 c κs = search needs
+named-test-requires-2 : tie.Need-named-test-requires-2
+named-test-requires-2 c κs = search needs
 
 returns-2 : tie.Need-returns-2
 returns-2 c =
-    let at-sign-of = c .before .before .before in
-    let at-next2 = at-sign-of .before in
-    let at-left = at-next2 .before .before in
-    let at-use-of = at-left .before .before in
-    let at-next = at-use-of .before in
-    condition-sign _ _ _ _ (at-next .next .ensures) _ (at-use-of .use-of .ensures) _ _ ((at-left .left .given) .1) _ (at-next2 .next2 .ensures) _
-    (at-sign-of .sign-of .ensures) _ _ ((c .before .enum-told2 .given) .1) _ (c .refusal2 .ensures)
-
-next-requires-3 : tie.Need-next-requires-3
-next-requires-3 c κs = search needs
-
-use-of-requires-2 : tie.Need-use-of-requires-2
-use-of-requires-2 c κs = search needs
-
-enum-known-right : tie.Need-enum-known-right
-enum-known-right c = search needs
-
-enum-told-3 : tie.Need-enum-told-3
-enum-told-3 c = search needs
-
-refusal-requires-3 : tie.Need-refusal-requires-3
-refusal-requires-3 c κs = search needs
-
-returns-3 : tie.Need-returns-3
-returns-3 c =
-    let at-use-of2 = c .before .before .before in
-    let at-next3 = at-use-of2 .before in
-    let at-sign = at-next3 .before .before in
-    let at-sign-of = at-sign .before .before in
-    let at-next2 = at-sign-of .before in
-    let at-left = at-next2 .before .before in
-    let at-use-of = at-left .before .before in
-    let at-next = at-use-of .before in
-    condition-right _ _ _ _ (at-next .next .ensures) _ (at-use-of .use-of .ensures) _ _ ((at-left .left .given) .1) _ (at-next2 .next2 .ensures) _
-    (at-sign-of .sign-of .ensures) _ _ ((at-sign .sign .given) .1) _ (at-next3 .next3 .ensures) _
-    (at-use-of2 .use-of2 .ensures) _ _ ((c .before .enum-told3 .given) .1) _ (c .refusal3 .ensures)
+    let at-next2 = c .before .before .before in
+    let at-if1 = at-next2 .before in
+    condition-holds _ _ _ _ _ _ _ _ (at-if1 .before .before .next .ensures) (at-if1 .if1 .left) _ (at-next2 .next2 .ensures) (c .before .if2 .taken) _
+    (c .named-test2 .ensures)
 
 comparison-requires : tie.Need-comparison-requires
 comparison-requires c κs = search needs
 
-returns-4 : tie.Need-returns-4
-returns-4 c =
-    let at-right = c .before .before in
-    let at-use-of2 = at-right .before .before in
-    let at-next3 = at-use-of2 .before in
-    let at-sign = at-next3 .before .before in
-    let at-sign-of = at-sign .before .before in
-    let at-next2 = at-sign-of .before in
-    let at-left = at-next2 .before .before in
-    let at-use-of = at-left .before .before in
-    let at-next = at-use-of .before in
-    condition-read _ _ _ _ (at-next .next .ensures) _ (at-use-of .use-of .ensures) _ _ ((at-left .left .given) .1) _ (at-next2 .next2 .ensures) _
-    (at-sign-of .sign-of .ensures) _ _ ((at-sign .sign .given) .1) _ (at-next3 .next3 .ensures) _
-    (at-use-of2 .use-of2 .ensures) _ _ ((at-right .right .given) .1) _ (c .comparison .ensures)
+compared-requires : tie.Need-compared-requires
+compared-requires c κs = search needs
+
+returns-3 : tie.Need-returns-3
+returns-3 c =
+    let at-if2 = c .before .before in
+    let at-next2 = at-if2 .before .before in
+    let at-if1 = at-next2 .before in
+    condition-compared _ _ _ _ _ _ _ _ (at-if1 .before .before .next .ensures) (at-if1 .if1 .left) _ (at-next2 .next2 .ensures) (at-if2 .if2 .left) _
+    (c .before .comparison .ensures) _ (c .compared .ensures)
 
 pub condition-spec : {M : Type 1} → statement M
 condition-spec =
-    tie.close (tie.spec
+    tie.close
+    (tie.spec
     next-requires
-    use-of-requires
-    enum-known-left
-    enum-told
-    refusal-requires
+    named-test-requires
     returns
     next-requires-2
-    sign-of-requires
-    enum-known-sign
-    enum-told-2
-    refusal-requires-2
+    named-test-requires-2
     returns-2
-    next-requires-3
-    use-of-requires-2
-    enum-known-right
-    enum-told-3
-    refusal-requires-3
-    returns-3
     comparison-requires
-    returns-4)
+    compared-requires
+    returns-3)

@@ -1,37 +1,20 @@
-use Rattle.base.proofs.Theory.Choice.{decide}
+use mathlib.Core.Path.{ap, _∙_}
+use Rattle.phrases.specs.Codes.{plain}
+use Rattle.phrases.proofs.Theory.Answers.{use-whole}
 use borrow.Author.Needs.{needs}
 use Rattle.phrases.proofs.use_of.Statement.{statement}
 use Rattle.phrases.proofs.use_of.Tie as tie
 
-is-name-requires : tie.Need-is-name-requires
-is-name-requires c κs = search needs
+cast-use-between : tie.Need-cast-use-between
+cast-use-between c = search needs
 
-find-requires : tie.Need-find-requires
-find-requires c κs = search needs
-
-cast-if2 : tie.Need-cast-if2
-cast-if2 c = search needs
+use-between-requires : tie.Need-use-between-requires
+use-between-requires c κs = search needs
 
 returns : tie.Need-returns
-returns c = search (decide, (c .before .before .if1 .taken), ← (c .before .before .before .is-name .ensures), ← (c .before .find .ensures))
-
-returns-2 : tie.Need-returns-2
-returns-2 c = search (decide, (c .before .before .if1 .taken), ← (c .before .before .before .is-name .ensures), ← (c .before .find .ensures))
-
-unfitting-requires : tie.Need-unfitting-requires
-unfitting-requires c κs = search needs
-
-returns-3 : tie.Need-returns-3
-returns-3 c = search (decide, (c .before .if1 .left), ← (c .before .before .is-name .ensures), (c .unfitting .ensures))
+returns c =
+    let at-start = c .before .before in
+    c .use-between .ensures ∙ ap plain (use-whole (at-start .args .list .now) (at-start .args .t))
 
 pub use-of-spec : {M : Type 1} → statement M
-use-of-spec =
-    tie.close
-    (tie.spec
-    is-name-requires
-    find-requires
-    cast-if2
-    returns
-    returns-2
-    unfitting-requires
-    returns-3)
+use-of-spec = tie.close (tie.spec cast-use-between use-between-requires returns)

@@ -1,15 +1,21 @@
 -- The tokens that declare a macro's names: which tokens of the text they are, and that they have the names' keys and spellings (SPEC 8.3, 8.4).
 use mathlib.Core.Path.{_≡_, refl, sym, ap, _∙_}
-use Prim.Native.Nat.{ℕ, zero, suc, _+_, _*_, _<_}
+use Prim.Native.Nat.{ℕ, zero, suc, _+_, _*_, _-_, _≤_, _<_}
 use native.Mathlib.Omega.{arith}
 use native.Mathlib.Nat.{mul-suc}
 use mathlib.Core.List.{List, [], _∷_, _++_}
-use lib.ListN.{length, getD, length-append, List·getD-append}
-use lib.Seq.{getD-append-add}
+use mathlib.Core.Bool.{false}
+use lib.Dec.{eqb, ltb}
+use lib.ListN.{length, getD, take, drop, length-append, length-drop, List·getD-append}
+use lib.Seq.{length-take-le, getD-take, getD-drop, getD-append-add}
+use borrow.Author.Tests.{ltb-true, ltb-false, ne-eqb}
+use Rattle.base.proofs.Theory.Choice.{byTest}
 use Rattle.tokens.specs.Tokens.{tokenAt, placeBehind, placeOf, spellings}
-use Rattle.tokens.proofs.Theory.TokensLaws.{behind-both, spelling-at}
-use Rattle.grammar.specs.Grammar.{Macro, sentence, entryTokens, functionTokens}
-use Rattle.grammar.specs.Spelled.{Spells, Spelled, Arities, firstRegister, firstFunction, entryLength}
+use Rattle.tokens.proofs.Theory.TokensLaws.{behind-both, spellings-length, spelling-at}
+use Rattle.grammar.specs.Grammar.{Macro, sentence, entryTokens, lineTokens}
+use Rattle.grammar.specs.Spelled.{Spells, Spelled, Arities, firstRegister, firstFunction, firstTest, entryLength, lineLength, functionToken}
+use Rattle.grammar.proofs.Theory.Parts.{arities-take, arities-drop}
+use Rattle.tokens.specs.Words as word
 
 -- ---- element i of a list
 
@@ -38,13 +44,25 @@ entry-held (Arities.one a) (suc f) h = rw (three-more f) (held-cons _ (held-cons
 entry-held (Arities.two a) zero h = record { within = omega arith; element = refl }
 entry-held (Arities.two a) (suc f) h = rw (three-more f) (held-cons _ (held-cons _ (held-cons _ (entry-held a f (omega arith)))))
 
--- behind the word `funs`
-line-held : (fs : List ℕ) {ns : List ℕ} (others : List ℕ) → Arities fs ns → (f : ℕ) → f < length fs
-    → Holds (functionTokens fs ns ++ others) (suc (entryLength * f)) (getD fs f 0)
-unfolding functionTokens
-line-held [] others a f h = absurd (omega arith)
-line-held (g ∷ fs) {ns} others a f h =
-    held-cons _ (held-before (entryTokens (g ∷ fs) ns ++ _) others _ _ (held-before (entryTokens (g ∷ fs) ns) _ _ _ (entry-held a f h)))
+entries-length : {fs ns : List ℕ} → Arities fs ns → length (entryTokens fs ns) ≡ entryLength * length fs
+unfolding entryTokens
+entries-length Arities.none = refl
+entries-length (Arities.one {fs = fs} a) = omega (arith, entries-length a, three-more (length fs))
+entries-length (Arities.two {fs = fs} a) = omega (arith, entries-length a, three-more (length fs))
+
+-- behind the word that a line begins with
+line-held : (j : ℕ) (fs : List ℕ) {ns : List ℕ} → Arities fs ns → (f : ℕ) → f < length fs → Holds (lineTokens j fs ns) (suc (entryLength * f)) (getD fs f 0)
+unfolding lineTokens
+line-held j [] a f h = absurd (omega arith)
+line-held j (g ∷ fs) {ns} a f h = held-cons _ (held-before (entryTokens (g ∷ fs) ns) _ _ _ (entry-held a f h))
+
+pub line-length : (j : ℕ) (fs : List ℕ) {ns : List ℕ} → Arities fs ns → length (lineTokens j fs ns) ≡ lineLength (length fs)
+unfolding lineTokens
+line-length j [] a = refl
+line-length j (g ∷ fs) {ns} a =
+    let n = length-append (entryTokens (g ∷ fs) ns) (word.semicolonKey ∷ []) in
+    let e : eqb (suc (length fs)) 0 ≡ false = ne-eqb (suc (length fs)) 0 (λ z. omega arith) in
+    rw e (omega (arith, entries-length a))
 
 -- ---- the sentence of a macro
 
@@ -54,12 +72,45 @@ module _ (m : Macro) where
   register-held r h = rw (let e : 1 + r ≡ suc r = omega arith in e)
       (held-cons _ (held-before (m .registers) _ r _ (record { within = h; element = refl })))
 
-  pub function-held : Arities (m .functions) (m .arities) → (f : ℕ) → f < length (m .functions)
+  -- a function below number `firstTest` stands in the line of functions, the others in that of tests
+  function-before : Arities (m .functions) (m .arities) → (f : ℕ) → f < length (m .functions) → f < m .firstTest
       → Holds (sentence m) (firstFunction (length (m .registers)) + entryLength * f) (getD (m .functions) f 0)
   unfolding sentence
+  function-before a f h l =
+      let t = m .firstTest in
+      rw (
+        let e : length (m .registers) + 3 + 3 * f ≡ suc (length (m .registers) + suc (suc (3 * f))) = omega arith in e,
+        ← getD-take t (m .functions) f 0 l,
+      )
+      (held-cons _ (held-behind (m .registers) _ (suc (suc (3 * f))) _ (held-cons _ (held-before _ _ _ _ (held-before _ _ _ _
+      (line-held word.funsKey (take t (m .functions)) (arities-take t a) f (taken t (m .functions) f l h)))))))
+    where
+      taken : (t : ℕ) (fs : List ℕ) (f : ℕ) → f < t → f < length fs → f < length (take t fs)
+      taken zero fs f l h = absurd (omega arith)
+      taken (suc t) [] f l h = absurd (omega arith)
+      taken (suc t) (g ∷ fs) zero l h = omega arith
+      taken (suc t) (g ∷ fs) (suc f) l h = omega (arith, taken t fs f (omega arith) (omega arith))
+
+  test-behind : Arities (m .functions) (m .arities) → (f : ℕ) → f < length (m .functions) → m .firstTest ≤ f
+      → Holds (sentence m) (firstTest (length (m .registers)) (m .firstTest) + entryLength * (f - m .firstTest)) (getD (m .functions) f 0)
+  unfolding sentence
+  test-behind a f h l =
+      let t = m .firstTest in
+      let L = lineTokens word.funsKey (take t (m .functions)) (take t (m .arities)) in
+      let n : length L ≡ lineLength t = line-length word.funsKey (take t (m .functions)) (arities-take t a)
+      ∙ ap lineLength (length-take-le t (m .functions) (omega arith)) in
+      let d = length-drop t (m .functions) in
+      let g : getD (drop t (m .functions)) (f - t) 0 ≡ getD (m .functions) f 0 =
+      getD-drop t (m .functions) (f - t) 0 ∙ ap (λ f. getD (m .functions) f 0) (let e : t + (f - t) ≡ f = omega arith in e) in
+      rw (let e : firstTest (length (m .registers)) t + 3 * (f - t) ≡ suc (length (m .registers) + suc (length L + suc (3 * (f - t)))) = omega arith in e, ← g)
+      (held-cons _ (held-behind (m .registers) _ (suc (length L + suc (3 * (f - t)))) _ (held-cons _ (held-before _ _ _ _ (held-behind L _ _ _
+      (line-held word.testsKey (drop t (m .functions)) (arities-drop t a) (f - t) (omega arith)))))))
+
+  pub function-held : Arities (m .functions) (m .arities) → (f : ℕ) → f < length (m .functions)
+      → Holds (sentence m) (functionToken (length (m .registers)) (m .firstTest) f) (getD (m .functions) f 0)
   function-held a f h =
-      rw (let e : length (m .registers) + 3 + 3 * f ≡ suc (length (m .registers) + suc (suc (3 * f))) = omega arith in e)
-      (held-cons _ (held-behind (m .registers) _ (suc (suc (3 * f))) _ (held-cons _ (line-held (m .functions) _ a f h))))
+      byTest (ltb f (m .firstTest)) (λ t. rw t (function-before a f h (ltb-true f (m .firstTest) t)))
+      λ t. rw t (test-behind a f h (ltb-false f (m .firstTest) t))
 
 -- ---- token i of a text
 
@@ -89,11 +140,24 @@ module _ (text : List ℕ) (m : Macro) (S : Spelled text m) where
   register-spelled r h = rw (let e : firstRegister + r ≡ firstRegister + 1 * r = omega arith in e)
       (spelled-at text firstRegister 1 (length (m .registers)) (S .registerSpellings) r h)
 
-  -- function f is declared by the first token of entry f
+  -- and function f by the first token of its entry
   pub function-declared : Arities (m .functions) (m .arities) → (f : ℕ) → f < length (m .functions)
-      → tokenAt text (placeOf text (firstFunction (length (m .registers)) + entryLength * f)) .key ≡ getD (m .functions) f 0
-  function-declared a f h = spells-at text (S .tokens) (firstFunction (length (m .registers)) + entryLength * f) _ (function-held m a f h)
+      → tokenAt text (placeOf text (functionToken (length (m .registers)) (m .firstTest) f)) .key ≡ getD (m .functions) f 0
+  function-declared a f h = spells-at text (S .tokens) (functionToken (length (m .registers)) (m .firstTest) f) _ (function-held m a f h)
 
   pub function-spelled : (f : ℕ) → f < length (m .functions)
-      → tokenAt text (placeOf text (firstFunction (length (m .registers)) + entryLength * f)) .spelling ≡ getD (m .functionSpellings) f 0
-  function-spelled = spelled-at text (firstFunction (length (m .registers))) entryLength (length (m .functions)) (S .functionSpellings)
+      → tokenAt text (placeOf text (functionToken (length (m .registers)) (m .firstTest) f)) .spelling ≡ getD (m .functionSpellings) f 0
+  function-spelled f h =
+      let n = length (m .registers) in
+      let t = m .firstTest in
+      let A = spellings text (placeOf text (firstFunction n)) entryLength t in
+      let B = spellings text (placeOf text (firstTest n t)) entryLength (length (m .functions) - t) in
+      let a : length A ≡ t = spellings-length text (placeOf text (firstFunction n)) entryLength t in
+      byTest (ltb f t)
+      (λ u. let l = ltb-true f t u in
+      rw u (spelled-at text (firstFunction n) entryLength t {names = A} refl f l ∙ sym (List·getD-append A B 0 f (omega arith))
+      ∙ ap (λ l. getD l f 0) (sym (S .functionSpellings))))
+      λ u. let l = ltb-false f t u in
+      let e : f ≡ length A + (f - t) = omega arith in
+      rw u (spelled-at text (firstTest n t) entryLength (length (m .functions) - t) {names = B} refl (f - t) (omega arith)
+      ∙ sym (getD-append-add A B (f - t) 0) ∙ ap (λ g. getD (A ++ B) g 0) (sym e) ∙ ap (λ l. getD l f 0) (sym (S .functionSpellings)))

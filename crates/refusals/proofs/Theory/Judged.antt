@@ -8,7 +8,7 @@ use lib.Dec.{eqb, ltb}
 use borrow.Author.Tests.{eqb-true, eqb-false, ltb-true, ltb-false}
 use Rattle.base.specs.Choice.{pick}
 use Rattle.base.proofs.Theory.Choice.{byTest}
-use Rattle.letters.specs.MacroRefusalNumbers.{declarationWrong, grammarViolated, nestingTooDeep, tokenMalformed, useWrong}
+use Rattle.letters.specs.MacroRefusalNumbers.{declarationWrong, grammarViolated, nestingTooDeep, noRoomForTests, tokenMalformed, useWrong}
 use Rattle.tokens.specs.Tokens.{tokenAt, placeOf}
 use Rattle.tokens.specs.Words.{isName}
 use Rattle.tokens.specs.Words as word
@@ -17,7 +17,7 @@ use Rattle.grammar.specs.Reading.{Got, got, exhausted, andThen}
 use Rattle.grammar.specs.Reading as reading
 use Rattle.refusals.proofs.Theory.Basics.{clash, not-true, nor}
 use Rattle.refusals.proofs.Theory.Rests.{Rest, took, stuck, take, start, complete, onTook, run, run-more, run-viable, viable-run, sentence-run}
-use Rattle.refusals.specs.Questions.{Unfit, Redeclared, Misused, TooDeep, No}
+use Rattle.refusals.specs.Questions.{Unfit, Redeclared, Misused, TooDeep, NoRoom, No}
 use Rattle.refusals.specs.FirstNo.{keyOf, tokensBefore, NoAt, Reached, FirstNo}
 
 pub data JudgedReading (s : List ℕ) (A : Type 0) (P : A → ℕ → Type 0) : Got A → Type 0 where
@@ -48,19 +48,20 @@ judged-first n p (first h) = h
 pub judged-fine : {s : List ℕ} {A : Type 0} {P : A → ℕ → Type 0} (a : A) (e : ℕ) → JudgedReading s A P (got a e) → P a e
 judged-fine a e (fine p) = p
 
--- a no is one of the five
+-- a no is one of the six
 pub lower : {before : List ℕ} {k next : ℕ} (n m : ℕ) → m < n → (tokenMalformed < n → k ≡ 1 → ⊥) → (grammarViolated < n → Unfit before k → ⊥)
     → (declarationWrong < n → Redeclared before k → ⊥) → (useWrong < n → Misused before k next → ⊥) → (nestingTooDeep < n → TooDeep before k → ⊥)
-    → No m before k next → ⊥
-lower n m l a b c d e (No.no-token h) = a l h
-lower n m l a b c d e (No.unfit h) = b l h
-lower n m l a b c d e (No.redeclared h) = c l h
-lower n m l a b c d e (No.misused h) = d l h
-lower n m l a b c d e (No.too-deep h) = e l h
+    → (noRoomForTests < n → NoRoom before k → ⊥) → No m before k next → ⊥
+lower n m l a b c d e f (No.no-token h) = a l h
+lower n m l a b c d e f (No.unfit h) = b l h
+lower n m l a b c d e f (No.redeclared h) = c l h
+lower n m l a b c d e f (No.misused h) = d l h
+lower n m l a b c d e f (No.too-deep h) = e l h
+lower n m l a b c d e f (No.no-room h) = f l h
 
--- tokens that questions 10 to 12 do not concern: no name, `,`, `)` or `{`
+-- tokens that questions 10 to 12 and 16 do not concern: no name, `,`, `)`, `{` or `tests`
 abbrev pub plain : ℕ → Bool
-plain k = not (isName k || (eqb k word.commaKey || (eqb k word.rparenKey || (eqb k word.lbraceKey || (eqb k 0 || eqb k 1)))))
+plain k = not (isName k || (eqb k word.commaKey || (eqb k word.rparenKey || (eqb k word.lbraceKey || (eqb k word.testsKey || (eqb k 0 || eqb k 1))))))
 
 -- a token is two or more
 pub real : (k : ℕ) → (k ≡ 0 → ⊥) → (k ≡ 1 → ⊥) → 2 ≤ k
@@ -68,36 +69,53 @@ real zero h g = absurd (h refl)
 real (suc zero) h g = absurd (g refl)
 real (suc (suc k)) h g = omega arith
 
+-- tokens that questions 10 and 11 do not concern: no name, `,` or `)`
+module _ (k : ℕ) (n : isName k ≡ false) where
+  pub unnamed-redeclared : {before : List ℕ} → Redeclared before k → ⊥
+  unnamed-redeclared (Redeclared.register I t x) = clash t n
+  unnamed-redeclared (Redeclared.function I t x) = clash t n
+  unnamed-redeclared (Redeclared.test I t x) = clash t n
+
+  pub unnamed-misused : {before : List ℕ} {next : ℕ} → eqb k word.commaKey ≡ false → eqb k word.rparenKey ≡ false → Misused before k next → ⊥
+  unnamed-misused x y (Misused.register I t d f u) = clash t n
+  unnamed-misused x y (Misused.function I t d u) = clash t n
+  unnamed-misused x y (Misused.test I t d u) = clash t n
+  unnamed-misused x y (Misused.more-arguments I c t e) = eqb-false k word.commaKey x e
+  unnamed-misused x y (Misused.fewer-arguments I c t e) = eqb-false k word.rparenKey y e
+
 module _ (k : ℕ) (h : plain k ≡ true) where
   -- the tests one after the other
-  plain-tests : (isName k ≡ false) × (eqb k word.commaKey ≡ false) × (eqb k word.rparenKey ≡ false) × (eqb k word.lbraceKey ≡ false) × (eqb k 0 ≡ false)
-      × (eqb k 1 ≡ false)
+  plain-tests : (isName k ≡ false) × (eqb k word.commaKey ≡ false) × (eqb k word.rparenKey ≡ false) × (eqb k word.lbraceKey ≡ false)
+      × (eqb k word.testsKey ≡ false) × (eqb k 0 ≡ false) × (eqb k 1 ≡ false)
   plain-tests =
       let (a, x) = nor (isName k) _ h in
       let (b, y) = nor (eqb k word.commaKey) _ x in
       let (c, z) = nor (eqb k word.rparenKey) _ y in
       let (d, w) = nor (eqb k word.lbraceKey) _ z in
-      let (e, v) = nor (eqb k 0) _ w in
-      (a, b, c, d, e, not-true (eqb k 1) v)
+      let (e, v) = nor (eqb k word.testsKey) _ w in
+      let (f, u) = nor (eqb k 0) _ v in
+      (a, b, c, d, e, f, not-true (eqb k 1) u)
 
   pub plain-brace : eqb k word.lbraceKey ≡ false
   plain-brace = plain-tests .3
 
+  pub plain-tests-word : eqb k word.testsKey ≡ false
+  plain-tests-word = plain-tests .4
+
   pub plain-real : 2 ≤ k
-  plain-real = real k (eqb-false k 0 (plain-tests .4)) (eqb-false k 1 (plain-tests .5))
+  plain-real = real k (eqb-false k 0 (plain-tests .5)) (eqb-false k 1 (plain-tests .6))
 
   pub plain-redeclared : {before : List ℕ} → Redeclared before k → ⊥
-  plain-redeclared (Redeclared.register I t x) = clash t (plain-tests .0)
-  plain-redeclared (Redeclared.function I t x) = clash t (plain-tests .0)
+  plain-redeclared = unnamed-redeclared k (plain-tests .0)
 
   pub plain-misused : {before : List ℕ} {next : ℕ} → Misused before k next → ⊥
-  plain-misused (Misused.register I t x y) = clash t (plain-tests .0)
-  plain-misused (Misused.function I t x y) = clash t (plain-tests .0)
-  plain-misused (Misused.more-arguments I c t e) = eqb-false k word.commaKey (plain-tests .1) e
-  plain-misused (Misused.fewer-arguments I c t e) = eqb-false k word.rparenKey (plain-tests .2) e
+  plain-misused = unnamed-misused k (plain-tests .0) (plain-tests .1) (plain-tests .2)
 
   pub plain-deep : {before : List ℕ} → TooDeep before k → ⊥
   plain-deep D = eqb-false k word.lbraceKey (plain-tests .3) (D .brace)
+
+  pub plain-room : {before : List ℕ} → NoRoom before k → ⊥
+  plain-room N = eqb-false k word.testsKey (plain-tests .4) (N .begins)
 
 -- The token k does not fit where r is to come.
 pub record Stuck (r : Rest) (k : ℕ) : Type 0 where
@@ -162,13 +180,15 @@ module _ (s : List ℕ) where
   fits {i} {at} {r} {q} A h l (Unfit.misplaced e n) = n (run-viable (tokensBefore s i ++ keyAt at ∷ []) q (run-next A ∙ h))
 
   pub none-here : {i at : ℕ} {r q : Rest} → At i at r → take r (keyAt at) ≡ took q → 2 ≤ keyAt at → (Redeclared (tokensBefore s i) (keyAt at) → ⊥)
-      → (Misused (tokensBefore s i) (keyAt at) (nextAt at) → ⊥) → (TooDeep (tokensBefore s i) (keyAt at) → ⊥) → (m : ℕ) → NoHere i at m → ⊥
-  none-here A h l x y z m n = lower (suc m) m (omega arith) (λ _ e. omega arith) (λ _ u. fits A h l u) (λ _. x) (λ _. y) (λ _. z) n
+      → (Misused (tokensBefore s i) (keyAt at) (nextAt at) → ⊥) → (TooDeep (tokensBefore s i) (keyAt at) → ⊥)
+      → (NoRoom (tokensBefore s i) (keyAt at) → ⊥) → (m : ℕ) → NoHere i at m → ⊥
+  none-here A h l x y z w m n = lower (suc m) m (omega arith) (λ _ e. omega arith) (λ _ u. fits A h l u) (λ _. x) (λ _. y) (λ _. z) (λ _. w) n
 
-  -- a token that questions 10 to 12 do not concern
+  -- a token that questions 10 to 12 and 16 do not concern
   pub plain-on : {i at : ℕ} {r : Rest} → At i at r → (q : Rest) → plain (keyAt at) ≡ true → take r (keyAt at) ≡ took q → At (suc i) (tokenAt s at .end) q
   plain-on {i} {at} A q p h = advance A q (plain-real (keyAt at) p) h
-      (none-here A h (plain-real (keyAt at) p) (plain-redeclared (keyAt at) p) (plain-misused (keyAt at) p) (plain-deep (keyAt at) p))
+      (none-here A h (plain-real (keyAt at) p) (plain-redeclared (keyAt at) p) (plain-misused (keyAt at) p) (plain-deep (keyAt at) p)
+      (plain-room (keyAt at) p))
 
   -- ---- refusals
 
@@ -189,10 +209,9 @@ module _ (s : List ℕ) where
   unfit-judged {i = i} {at} {r} A S =
       byTest (eqb (keyAt at) 1)
       (λ t. rw t (first (first-here A tokenMalformed (No.no-token (eqb-true (keyAt at) 1 t)) λ m l. lower tokenMalformed m l (λ x. absurd (omega arith))
-      (λ x. absurd (omega arith)) (λ x. absurd (omega arith)) (λ x. absurd (omega arith)) λ x. absurd (omega arith))))
+      (λ x. absurd (omega arith)) (λ x. absurd (omega arith)) (λ x. absurd (omega arith)) (λ x. absurd (omega arith)) λ x. absurd (omega arith))))
       λ t. rw t (first (first-here A grammarViolated (No.unfit wrong) λ m l. lower grammarViolated m l (λ _. eqb-false (keyAt at) 1 t)
-      (λ x. absurd (omega arith))
-      (λ x. absurd (omega arith)) (λ x. absurd (omega arith)) λ x. absurd (omega arith)))
+      (λ x. absurd (omega arith)) (λ x. absurd (omega arith)) (λ x. absurd (omega arith)) (λ x. absurd (omega arith)) λ x. absurd (omega arith)))
     where
       not-took : (q : Rest) → stuck ≡ took q → ⊥
       not-took q h = let z : _≡_ {A = ℕ} 0 1 = cc in omega arith
@@ -208,30 +227,30 @@ module _ (s : List ℕ) where
   redeclared-judged {at = at} A h t x =
       let l = name-real (keyAt at) t in
       first (first-here A declarationWrong (No.redeclared x) λ m g. lower declarationWrong m g (λ _ e. omega arith) (λ _. fits A h l)
-      (λ y. absurd (omega arith))
-      (λ y. absurd (omega arith)) λ y. absurd (omega arith))
+      (λ y. absurd (omega arith)) (λ y. absurd (omega arith)) (λ y. absurd (omega arith)) λ y. absurd (omega arith))
 
   pub misused-judged : {A : Type 0} {P : A → ℕ → Type 0} {i at : ℕ} {r q : Rest} → At i at r → take r (keyAt at) ≡ took q → 2 ≤ keyAt at
       → (Redeclared (tokensBefore s i) (keyAt at) → ⊥) → Misused (tokensBefore s i) (keyAt at) (nextAt at)
       → JudgedReading s A P (Got.refused useWrong (tokenAt s at .start))
   misused-judged A h l d x =
       first (first-here A useWrong (No.misused x) λ m g. lower useWrong m g (λ _ e. omega arith) (λ _. fits A h l) (λ _. d) (λ y. absurd (omega arith))
-      λ y. absurd (omega arith))
+      (λ y. absurd (omega arith)) λ y. absurd (omega arith))
 
   pub deep-judged : {A : Type 0} {P : A → ℕ → Type 0} {i at : ℕ} {r q : Rest} → At i at r → take r (keyAt at) ≡ took q → TooDeep (tokensBefore s i) (keyAt at)
       → JudgedReading s A P (Got.refused nestingTooDeep (tokenAt s at .start))
   deep-judged {i = i} {at} A h x =
       let k : keyAt at ≡ word.lbraceKey = x .brace in
       first (first-here A nestingTooDeep (No.too-deep x) λ m g. lower nestingTooDeep m g (λ _ e. omega arith) (λ _. fits A h (omega arith))
-      (λ _. subst (λ k. Redeclared (tokensBefore s i) k → ⊥) (sym k) brace-redeclared)
-      (λ _. subst (λ k. Misused (tokensBefore s i) k (nextAt at) → ⊥) (sym k) brace-misused) λ y. absurd (omega arith))
-    where
-      brace-redeclared : Redeclared (tokensBefore s i) word.lbraceKey → ⊥
-      brace-redeclared (Redeclared.register I t y) = clash t refl
-      brace-redeclared (Redeclared.function I t y) = clash t refl
+      (λ _. unnamed-redeclared (keyAt at) (ap isName k))
+      (λ _. unnamed-misused (keyAt at) (ap isName k) (ap (λ k. eqb k word.commaKey) k) (ap (λ k. eqb k word.rparenKey) k))
+      (λ y. absurd (omega arith)) λ y. absurd (omega arith))
 
-      brace-misused : Misused (tokensBefore s i) word.lbraceKey (nextAt at) → ⊥
-      brace-misused (Misused.register I t y z) = clash t refl
-      brace-misused (Misused.function I t y z) = clash t refl
-      brace-misused (Misused.more-arguments I c t e) = omega arith
-      brace-misused (Misused.fewer-arguments I c t e) = omega arith
+  -- by 16, at the word `tests`
+  pub no-room-judged : {A : Type 0} {P : A → ℕ → Type 0} {i at : ℕ} {r q : Rest} → At i at r → take r (keyAt at) ≡ took q → NoRoom (tokensBefore s i) (keyAt at)
+      → JudgedReading s A P (Got.refused noRoomForTests (tokenAt s at .start))
+  no-room-judged {i = i} {at} A h x =
+      let k : keyAt at ≡ word.testsKey = x .begins in
+      first (first-here A noRoomForTests (No.no-room x) λ m g. lower noRoomForTests m g (λ _ e. omega arith) (λ _. fits A h (omega arith))
+      (λ _. unnamed-redeclared (keyAt at) (ap isName k))
+      (λ _. unnamed-misused (keyAt at) (ap isName k) (ap (λ k. eqb k word.commaKey) k) (ap (λ k. eqb k word.rparenKey) k))
+      (λ _ D. let z : word.lbraceKey ≡ word.testsKey = sym (D .brace) ∙ k in omega arith) λ y. absurd (omega arith))

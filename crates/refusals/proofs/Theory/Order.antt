@@ -1,6 +1,6 @@
 -- What follows from the definitions of specs/Order.antt.
 use mathlib.Core.Path.{_≡_, refl, ap, subst, _∙_}
-use mathlib.Core.Logic.{⊎-elim}
+use mathlib.Core.Logic.{_⊎_, inl, inr, ⊎-elim}
 use Prim.Native.Nat.{ℕ, zero, suc, _≤_, _<_}
 use native.Mathlib.Omega.{arith}
 use mathlib.Core.List.{List}
@@ -9,9 +9,9 @@ use lib.ListN.{length}
 use borrow.Author.Tests.{ltb-true, ltb-false, lt-ltb}
 use Rattle.base.proofs.Theory.Choice.{byTest}
 use Rattle.grammar.specs.Limits.{longestText, mostPoints}
-use Rattle.letters.specs.MacroRefusalNumbers.{pointsTooMany, textTooLong}
+use Rattle.letters.specs.MacroRefusalNumbers.{noRoomForTests, pointsTooMany, printTooLong, tableTooSmall, textTooLong}
 use Rattle.macros.specs.Points.{sizeBlock}
-use Rattle.grammar.specs.Grammar.{Macro}
+use Rattle.grammar.specs.Grammar.{Macro, expanded}
 use Rattle.grammar.specs.Reading.{Got, got, exhausted, andThen, countT}
 use Rattle.grammar.proofs.Theory.Reading.{readText, readMacro}
 use Rattle.grammar.proofs.Theory.Sound.{pick-case}
@@ -71,9 +71,9 @@ module _ (s : List ℕ) where
   unfolding readMacro
   refused-refusal n p h =
       onward-case (readText s) (countT s) n p h (text-refusal n p)
-      λ m e g k. pick-case (ltb mostPoints (sizeBlock (m .body))) _ _ _ k
+      λ m e g k. pick-case (ltb mostPoints (sizeBlock (expanded m))) _ _ _ k
       (λ t f. let (l, S, O) = text-sound s m e g in subst (λ n. Refusal s n p) (refused-number f)
-      (subst (Refusal s pointsTooMany) (refused-place f) (Refusal.points m l S O (ltb-true mostPoints (sizeBlock (m .body)) t))))
+      (subst (Refusal s pointsTooMany) (refused-place f) (Refusal.points m l S O (ltb-true mostPoints (sizeBlock (expanded m)) t))))
       λ _ f. absurd (not-got f)
 
   -- and whenever they do.
@@ -83,18 +83,29 @@ module _ (s : List ℕ) where
   refusal-refused n p (Refusal.token l F) = ap (λ g. andThen g (countT s)) (first-refused l n p F)
   refusal-refused n p (Refusal.points m l S O c) = read-long s m l S O c
 
--- A refusal of a text has a number from 7 to 13.
-pub refusal-number : {s : List ℕ} (n p : ℕ) → Refusal s n p → (7 ≤ n) × (n ≤ 13)
-refusal-number n p (Refusal.long l) = (omega arith, omega arith)
+-- A refusal of a text has a number from 7 to 13, or 16.
+pub refusal-number : {s : List ℕ} (n p : ℕ) → Refusal s n p → (7 ≤ n) × ((n ≤ 13) ⊎ (n ≡ 16))
+refusal-number n p (Refusal.long l) = (omega arith, inl (omega arith))
 refusal-number {s} n p (Refusal.token l F) = question (F .no)
   where
-    question : {m : ℕ} {before : List ℕ} {k next : ℕ} → No m before k next → (7 ≤ m) × (m ≤ 13)
-    question (No.no-token h) = (omega arith, omega arith)
-    question (No.unfit h) = (omega arith, omega arith)
-    question (No.redeclared h) = (omega arith, omega arith)
-    question (No.misused h) = (omega arith, omega arith)
-    question (No.too-deep h) = (omega arith, omega arith)
-refusal-number n p (Refusal.points m l S O c) = (omega arith, omega arith)
+    question : {m : ℕ} {before : List ℕ} {k next : ℕ} → No m before k next → (7 ≤ m) × ((m ≤ 13) ⊎ (m ≡ 16))
+    question (No.no-token h) = (omega arith, inl (omega arith))
+    question (No.unfit h) = (omega arith, inl (omega arith))
+    question (No.redeclared h) = (omega arith, inl (omega arith))
+    question (No.misused h) = (omega arith, inl (omega arith))
+    question (No.too-deep h) = (omega arith, inl (omega arith))
+    question (No.no-room h) = (omega arith, inr refl)
+refusal-number n p (Refusal.points m l S O c) = (omega arith, inl (omega arith))
+
+-- So it is at most 16, and neither that of the table nor that of the layout.
+pub refusal-at-most : {s : List ℕ} (n p : ℕ) → Refusal s n p → n ≤ noRoomForTests
+refusal-at-most n p r = ⊎-elim (λ l. omega arith) (λ e. omega arith) (refusal-number n p r .1)
+
+pub refusal-of-text : {s : List ℕ} (n p : ℕ) → Refusal s n p → (n ≡ tableTooSmall → ⊥) × (n ≡ printTooLong → ⊥)
+refusal-of-text n p r = (
+  λ f. ⊎-elim (λ l. omega arith) (λ e. omega arith) (refusal-number n p r .1),
+  λ f. ⊎-elim (λ l. omega arith) (λ e. omega arith) (refusal-number n p r .1),
+)
 
 -- The tokens before the first no begin a sentence.
 pub first-viable : {s : List ℕ} {n p : ℕ} (F : FirstNo s n p) → Viable (tokensBefore s (F .index))

@@ -1,18 +1,18 @@
--- Tokens with a no and tokens without, for each question. The names are a, b, f and g: 97, 98, 102 and 103.
+-- Tokens with a no and tokens without, for each question. The names are a, b, f, g and t: 97, 98, 102, 103 and 116.
 use mathlib.Core.Path.{_≡_, refl, ap, _∙_}
 use mathlib.Core.Logic.{inl, inr}
 use Prim.Native.Nat.{ℕ, zero, suc}
 use native.Mathlib.Omega.{arith}
 use mathlib.Core.Bool.{true, false}
 use mathlib.Core.List.{List, [], _∷_, _++_}
-use lib.ListN.{getD}
+use lib.ListN.{getD, length}
 use Rattle.tokens.specs.Words.{isName}
 use Rattle.tokens.specs.Words as word
 use Rattle.tokens.specs.Bytes.{gap, nameLength, width}
 use Rattle.tokens.specs.Tokens.{tokenAt, spellings}
-use Rattle.grammar.specs.Grammar.{entryTokens, functionTokens}
-use Rattle.grammar.specs.Reading.{got, Got, indexOf, condition, endedCondition, argumentsT, rightHandSide, assignment, block, registerNames, arityOf}
-use Rattle.grammar.specs.Reading.{functionEntries}
+use Rattle.grammar.specs.Grammar.{entryTokens, lineTokens}
+use Rattle.grammar.specs.Reading.{got, Got, indexOf, comparison, argumentsT, applied, condition, endedCondition, rightHandSide, assignment, block}
+use Rattle.grammar.specs.Reading.{registerNames, arityOf, entries}
 use Rattle.grammar.proofs.Theory.Reading.{readText}
 use Rattle.grammar.specs.Spelled.{Spells, Arities}
 use Rattle.refusals.proofs.Theory.Basics.{clash}
@@ -20,12 +20,13 @@ use Rattle.refusals.specs.Sentences.{Sentence, Viable}
 use Rattle.refusals.specs.Sentences as alone
 use Rattle.refusals.proofs.Theory.Rests.{Rest, took, stuck, viable-run, sentence-run, run-viable}
 use Rattle.refusals.proofs.Theory.Rests as rest
-use Rattle.refusals.specs.Questions.{AllNames, InRegisters, InFunctions, InStatements, Among, Unfit, Redeclared, Misused, TooDeep}
+use Rattle.refusals.specs.Questions.{AllNames, InRegisters, InFunctions, InTests, InStatements, Among, Behind, ConditionDue, TestDue, Unfit}
+use Rattle.refusals.specs.Questions.{Redeclared, Misused, TooDeep, NoRoom}
 use Rattle.refusals.specs.FirstNo.{FirstNo}
 use Rattle.refusals.proofs.Theory.FirstNo.{AllYes}
-use Rattle.refusals.proofs.Theory.Lines.{names-more, fresh-register, fresh-function}
-use Rattle.refusals.proofs.Theory.Phrases.{register-right, function-right}
-use Rattle.refusals.proofs.Theory.Parts.{statements-same}
+use Rattle.refusals.proofs.Theory.Lines.{names-more, fresh-register, fresh-function, fresh-test}
+use Rattle.refusals.proofs.Theory.Phrases.{register-right, function-right, test-right}
+use Rattle.refusals.proofs.Theory.Parts.{behind-same, registers-tests, statements-same, room-same}
 use Rattle.refusals.proofs.Theory.Order.{refused-first, read-all-yes}
 use Rattle.refusals.proofs.Theory.Examples.{loop, searched}
 
@@ -33,7 +34,7 @@ use Rattle.refusals.proofs.Theory.Examples.{loop, searched}
 
 -- `vars a;` is a sentence, and `vars a` begins one
 short : Sentence (word.varsKey ∷ 97 ∷ word.semicolonKey ∷ [])
-short = record { macro = record { first = record { key = 97; real = refl }; others = []; entries = []; body = alone.empty }; spelled = refl }
+short = record { macro = record { first = record { key = 97; real = refl }; others = []; functions = []; tests = []; body = alone.empty }; spelled = refl }
 
 begun : Viable (word.varsKey ∷ 97 ∷ [])
 unfolding short
@@ -102,22 +103,60 @@ as-register = Redeclared.function in-functions refl (inl (inl (0, omega arith, r
 fresh-name : Redeclared (word.varsKey ∷ 97 ∷ word.semicolonKey ∷ word.funsKey ∷ 102 ∷ word.slashKey ∷ word.oneKey ∷ []) 103 → ⊥
 fresh-name = fresh-function [] (97 ∷ []) in-functions (other 103 97 λ e. omega arith) (other 103 102 λ e. omega arith) (omega arith)
 
+-- behind `vars a; funs f/1; tests t/1`, where t is the test: all three are declared again and g is not
+abbrev testing : List ℕ
+testing = word.varsKey ∷ 97 ∷ word.semicolonKey ∷ word.funsKey ∷ 102 ∷ word.slashKey ∷ word.oneKey ∷ word.semicolonKey ∷ word.testsKey ∷ 116 ∷ word.slashKey ∷
+    word.oneKey ∷ []
+
+in-tests : InTests testing (97 ∷ []) (102 ∷ 116 ∷ []) (1 ∷ 1 ∷ []) 1
+unfolding lineTokens entryTokens
+in-tests = record {
+  registers = named 97 refl;
+  functions = names-more (102 ∷ []) 116 (named 102 refl) refl;
+  arities = Arities.one (Arities.one Arities.none);
+  within = omega arith;
+  split = refl;
+}
+
+-- but not behind `vars a`
+not-in-tests : (rs fs ns : List ℕ) (t : ℕ) → InTests (word.varsKey ∷ 97 ∷ []) rs fs ns t → ⊥
+not-in-tests rs fs ns t I = registers-tests in-registers I
+
+test-again : Redeclared testing 116
+test-again = Redeclared.test in-tests refl (inl (inr (1, omega arith, refl)))
+
+test-as-function : Redeclared testing 102
+test-as-function = Redeclared.test in-tests refl (inl (inr (0, omega arith, refl)))
+
+test-as-register : Redeclared testing 97
+test-as-register = Redeclared.test in-tests refl (inl (inl (0, omega arith, refl)))
+
+neither : (k i j : ℕ) → (i ≡ k → ⊥) → (j ≡ k → ⊥) → Among k (i ∷ j ∷ []) → ⊥
+neither k i j n m (zero, l, e) = n e
+neither k i j n m (suc zero, l, e) = m e
+neither k i j n m (suc (suc h), l, e) = omega arith
+
+fresh-test-name : Redeclared testing 103 → ⊥
+fresh-test-name = fresh-test [] (97 ∷ []) in-tests (other 103 97 λ e. omega arith) (neither 103 102 116 (λ e. omega arith) λ e. omega arith) (omega arith)
+
 -- ---- 11
 
 -- behind `vars a; funs f/1; a :=`
 abbrev assigning : List ℕ
 assigning = word.varsKey ∷ 97 ∷ word.semicolonKey ∷ word.funsKey ∷ 102 ∷ word.slashKey ∷ word.oneKey ∷ word.semicolonKey ∷ 97 ∷ word.becomesKey ∷ []
 
-in-statements : InStatements assigning (97 ∷ []) (102 ∷ []) (1 ∷ [])
-unfolding functionTokens entryTokens
+in-statements : InStatements assigning (97 ∷ []) (102 ∷ []) (1 ∷ []) 1
+unfolding lineTokens entryTokens
 in-statements = record {
   registers = named 97 refl;
   functions = named 102 refl;
   arities = Arities.one Arities.none;
+  within = omega arith;
   body = 97 ∷ word.becomesKey ∷ [];
   split =
       refl;
-  begun = λ e. omega arith;
+  functions-begun = λ e. omega arith;
+  tests-begun = λ e. omega arith;
 }
 
 abbrev declared-lines : List ℕ
@@ -125,39 +164,50 @@ declared-lines = word.varsKey ∷ 97 ∷ word.semicolonKey ∷ word.funsKey ∷ 
 
 -- f is a function before `(`, and a wrong use before `;`; a the other way round
 right-function : Misused assigning 102 word.lparenKey → ⊥
-right-function = function-right [] (97 ∷ []) (102 ∷ []) (1 ∷ []) in-statements ((declared-lines, refl), refl) refl (0, omega arith, refl)
+right-function = function-right [] (97 ∷ []) (102 ∷ []) (1 ∷ []) 1 in-statements ((declared-lines, refl), refl) refl (0, omega arith, refl)
 
 wrong-function : Misused assigning 97 word.lparenKey
 wrong-function = Misused.function in-statements refl ((declared-lines, refl), refl) (other 97 102 λ e. omega arith)
 
+-- no test is due behind `:=`
+no-test-due : {next : ℕ} → TestDue assigning next → ⊥
+no-test-due (inl b) = let z = behind-same b (declared-lines, refl) in omega arith
+no-test-due (inr (inl (inl b), e)) = let z = behind-same b (declared-lines, refl) in omega arith
+no-test-due (inr (inl (inr b), e)) = let z = behind-same b (declared-lines, refl) in omega arith
+no-test-due (inr (inr (inl b), e)) = let z = behind-same b (declared-lines, refl) in omega arith
+no-test-due (inr (inr (inr b), e)) = let z = behind-same b (declared-lines, refl) in omega arith
+
 right-register : Misused assigning 97 word.semicolonKey → ⊥
-right-register = register-right [] (97 ∷ []) (102 ∷ []) (1 ∷ []) in-statements (λ (b, e). omega arith) refl (0, omega arith, refl)
+right-register = register-right [] (97 ∷ []) (102 ∷ []) (1 ∷ []) 1 in-statements (λ (b, e). omega arith) no-test-due refl (0, omega arith, refl)
 
 wrong-register : Misused assigning 102 word.semicolonKey
-wrong-register = Misused.register in-statements refl (λ (b, e). omega arith) (other 102 97 λ e. omega arith)
+wrong-register = Misused.register in-statements refl (λ (b, e). omega arith) no-test-due (other 102 97 λ e. omega arith)
 
 -- behind `f(a`, where f takes one argument, `,` is wrong and `)` is right
 abbrev calling : List ℕ
 calling = assigning ++ 102 ∷ word.lparenKey ∷ 97 ∷ []
 
-in-call : InStatements calling (97 ∷ []) (102 ∷ []) (1 ∷ [])
-unfolding functionTokens entryTokens
+in-call : InStatements calling (97 ∷ []) (102 ∷ []) (1 ∷ []) 1
+unfolding lineTokens entryTokens
 in-call = record {
   registers = named 97 refl;
   functions = named 102 refl;
   arities = Arities.one Arities.none;
+  within = omega arith;
   body =
       97 ∷ word.becomesKey ∷ 102 ∷ word.lparenKey ∷ 97 ∷ [];
   split = refl;
-  begun = λ e. omega arith;
+  functions-begun = λ e. omega arith;
+  tests-begun = λ e. omega arith;
 }
 
 too-many : Misused calling word.commaKey 97
 too-many = Misused.more-arguments in-call (assigning, 97, refl) (0, omega arith, refl, refl) refl
 
 enough : Misused calling word.rparenKey word.semicolonKey → ⊥
-enough (Misused.register J t x y) = clash t refl
+enough (Misused.register J t x y z) = clash t refl
 enough (Misused.function J t x y) = clash t refl
+enough (Misused.test J t x y) = clash t refl
 enough (Misused.more-arguments J c t e) = omega arith
 enough (Misused.fewer-arguments J c (i, l, e, n) k) = two-at i (ap (λ l. getD l i 0) (statements-same in-call J .2) ∙ n)
   where
@@ -170,22 +220,100 @@ abbrev calling-two : List ℕ
 calling-two = word.varsKey ∷ 97 ∷ word.semicolonKey ∷ word.funsKey ∷ 103 ∷ word.slashKey ∷ word.twoKey ∷ word.semicolonKey ∷ 97 ∷ word.becomesKey ∷ 103 ∷
     word.lparenKey ∷ 97 ∷ []
 
-in-call-of-two : InStatements calling-two (97 ∷ []) (103 ∷ []) (2 ∷ [])
-unfolding functionTokens entryTokens
+in-call-of-two : InStatements calling-two (97 ∷ []) (103 ∷ []) (2 ∷ []) 1
+unfolding lineTokens entryTokens
 in-call-of-two = record {
   registers = named 97 refl;
   functions = named 103 refl;
   arities = Arities.two Arities.none;
+  within = omega arith;
   body =
       97 ∷ word.becomesKey ∷ 103 ∷ word.lparenKey ∷ 97 ∷ [];
   split = refl;
-  begun = λ e. omega arith;
+  functions-begun = λ e. omega arith;
+  tests-begun = λ e. omega arith;
 }
 
 too-few : Misused calling-two word.rparenKey word.semicolonKey
 too-few = Misused.fewer-arguments in-call-of-two
     (word.varsKey ∷ 97 ∷ word.semicolonKey ∷ word.funsKey ∷ 103 ∷ word.slashKey ∷ word.twoKey ∷ word.semicolonKey ∷ 97 ∷ word.becomesKey ∷ [], 97, refl)
     (0, omega arith, refl, refl) refl
+
+-- behind `vars a; tests t/1; if`
+abbrev lines-of-tests : List ℕ
+lines-of-tests = word.varsKey ∷ 97 ∷ word.semicolonKey ∷ word.testsKey ∷ 116 ∷ word.slashKey ∷ word.oneKey ∷ word.semicolonKey ∷ []
+
+abbrev choosing : List ℕ
+choosing = lines-of-tests ++ word.ifKey ∷ []
+
+in-choice : InStatements choosing (97 ∷ []) (116 ∷ []) (1 ∷ []) 0
+unfolding lineTokens entryTokens
+in-choice = record {
+  registers = named 97 refl;
+  functions = named 116 refl;
+  arities = Arities.one Arities.none;
+  within = omega arith;
+  body = word.ifKey ∷ [];
+  split = refl;
+  functions-begun = λ e. omega arith;
+  tests-begun = λ e. omega arith;
+}
+
+behind-if : Behind choosing word.ifKey
+behind-if = (lines-of-tests, refl)
+
+-- a condition is due there, and not behind `:=`; a test is due if `(` follows, and else not
+due-there : ConditionDue choosing
+due-there = inr (inl behind-if)
+
+not-due-there : ConditionDue assigning → ⊥
+not-due-there d = no-test-due {next = word.lparenKey} (inr (d, refl))
+
+test-due : TestDue choosing word.lparenKey
+test-due = inr (due-there, refl)
+
+no-test-before : TestDue choosing word.equalKey → ⊥
+no-test-before (inl b) = let z = behind-same b behind-if in omega arith
+no-test-before (inr (d, e)) = omega arith
+
+-- behind `!` one is due whatever follows
+test-due-behind : TestDue (choosing ++ word.notKey ∷ []) word.equalKey
+test-due-behind = inl (choosing, refl)
+
+-- t is a test before `(`, and a wrong use before `=`; a the other way round
+right-test : Misused choosing 116 word.lparenKey → ⊥
+right-test = test-right [] (97 ∷ []) (116 ∷ []) (1 ∷ []) 0 in-choice test-due refl (0, omega arith, refl)
+
+wrong-test : Misused choosing 97 word.lparenKey
+wrong-test = Misused.test in-choice refl test-due (other 97 116 λ e. omega arith)
+
+compared-test : Misused choosing 116 word.equalKey
+compared-test = Misused.register in-choice refl (λ (b, e). let z = behind-same b behind-if in omega arith) no-test-before (other 116 97 λ e. omega arith)
+
+compared-register : Misused choosing 97 word.equalKey → ⊥
+compared-register =
+    register-right [] (97 ∷ []) (116 ∷ []) (1 ∷ []) 0 in-choice (λ (b, e). let z = behind-same b behind-if in omega arith) no-test-before refl
+    (0, omega arith, refl)
+
+-- no test may stand behind `:=`, before `(` or not
+abbrev choosing-value : List ℕ
+choosing-value = lines-of-tests ++ 97 ∷ word.becomesKey ∷ []
+
+in-value : InStatements choosing-value (97 ∷ []) (116 ∷ []) (1 ∷ []) 0
+unfolding lineTokens entryTokens
+in-value = record {
+  registers = named 97 refl;
+  functions = named 116 refl;
+  arities = Arities.one Arities.none;
+  within = omega arith;
+  body = 97 ∷ word.becomesKey ∷ [];
+  split = refl;
+  functions-begun = λ e. omega arith;
+  tests-begun = λ e. omega arith;
+}
+
+test-as-value : Misused choosing-value 116 word.lparenKey
+test-as-value = Misused.function in-value refl ((lines-of-tests ++ 97 ∷ [], refl), refl) λ (i, l, e). absurd (omega arith)
 
 -- ---- 12
 
@@ -203,6 +331,37 @@ sixteenth D = let d = D .deep in omega arith
 closed : TooDeep (word.lbraceKey ∷ word.rbraceKey ∷ braces 15) word.lbraceKey → ⊥
 closed D = let d = D .deep in omega arith
 
+-- ---- 16
+
+-- seven names, and the first six of them
+abbrev six : List ℕ
+six = 97 ∷ 98 ∷ 99 ∷ 100 ∷ 101 ∷ 102 ∷ []
+
+six-names : AllNames six
+six-names =
+    names-more (97 ∷ 98 ∷ 99 ∷ 100 ∷ 101 ∷ []) 102 (names-more (97 ∷ 98 ∷ 99 ∷ 100 ∷ []) 101 (names-more (97 ∷ 98 ∷ 99 ∷ []) 100
+    (names-more (97 ∷ 98 ∷ []) 99 (names-more (97 ∷ []) 98 (named 97 refl) refl) refl) refl) refl) refl
+
+-- behind the line of seven registers there is no room for tests; behind that of six there is, and another word needs none
+no-room : NoRoom (word.varsKey ∷ (six ++ 103 ∷ []) ++ word.semicolonKey ∷ []) word.testsKey
+no-room = record {
+  registers = six ++ 103 ∷ [];
+  names = names-more six 103 six-names refl;
+  further = [];
+  split = refl;
+  begins = refl;
+  many = omega arith;
+}
+
+some-room : NoRoom (word.varsKey ∷ six ++ word.semicolonKey ∷ []) word.testsKey → ⊥
+some-room N =
+    let e : length (N .registers) ≡ 6 = ap length (room-same six [] six-names refl N) in
+    let m = N .many in
+    omega arith
+
+other-word : NoRoom (word.varsKey ∷ (six ++ 103 ∷ []) ++ word.semicolonKey ∷ []) word.skipKey → ⊥
+other-word N = let e = N .begins in omega arith
+
 -- ---- texts
 
 -- `vars a b a;`: the first no is 10, at the second a
@@ -210,7 +369,8 @@ abbrev twice : List ℕ
 twice = 118 ∷ 97 ∷ 114 ∷ 115 ∷ 32 ∷ 97 ∷ 32 ∷ 98 ∷ 32 ∷ 97 ∷ 59 ∷ []
 
 twice-read : readText twice ≡ Got.refused 10 9
-unfolding readText tokenAt gap width nameLength registerNames indexOf functionEntries arityOf block condition endedCondition assignment rightHandSide argumentsT
+unfolding readText tokenAt gap width nameLength registerNames indexOf entries arityOf block condition comparison applied endedCondition assignment rightHandSide
+    argumentsT
 twice-read = refl
 
 pub twice-first : FirstNo twice 10 9
@@ -226,7 +386,8 @@ abbrev deeper : List ℕ
 deeper = 118 ∷ 97 ∷ 114 ∷ 115 ∷ 32 ∷ 97 ∷ 59 ∷ nested 17
 
 deeper-read : readText deeper ≡ Got.refused 12 176
-unfolding readText tokenAt gap width nameLength registerNames indexOf functionEntries arityOf block condition endedCondition assignment rightHandSide argumentsT
+unfolding readText tokenAt gap width nameLength registerNames indexOf entries arityOf block condition comparison applied endedCondition assignment rightHandSide
+    argumentsT
 deeper-read = refl
 
 pub deeper-first : FirstNo deeper 12 176
@@ -234,8 +395,8 @@ deeper-first = refused-first deeper (omega arith) 12 176 deeper-read
 
 -- the bench example of Examples.antt has no no
 loop-text : readText loop ≡ got searched 61
-unfolding loop searched readText tokenAt gap width nameLength spellings registerNames indexOf functionEntries arityOf block condition endedCondition assignment
-    rightHandSide argumentsT
+unfolding loop searched readText tokenAt gap width nameLength spellings registerNames indexOf entries arityOf block condition comparison applied endedCondition
+    assignment rightHandSide argumentsT
 loop-text = refl
 
 pub loop-all-yes : AllYes loop

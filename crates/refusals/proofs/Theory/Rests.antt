@@ -16,21 +16,25 @@ use Rattle.grammar.proofs.Theory.Sound.{pick-case}
 use Rattle.letters.proofs.Theory.WordLaws.{and-true}
 use Rattle.refusals.proofs.Theory.Basics.{head-same, tail-same, not-nil, clash, or-case}
 use Rattle.refusals.specs.Sentences.{Name, NamedCondition, NamedStatement, NamedElse, NamedBlock, _followedBy_, Entry, NamedMacro, conditionThen}
-use Rattle.refusals.specs.Sentences.{statementThen, elseThen, blockThen, namesThen, entryThen, entriesThen, functionsThen, namedSentence, Sentence}
+use Rattle.refusals.specs.Sentences.{statementThen, elseThen, blockThen, namesThen, entryThen, entriesThen, lineThen, namedSentence, Sentence}
 use Rattle.refusals.specs.Sentences.{Viable}
 
 -- What is still to come.
 pub data Rest : Type 0 where
   -- one token, and the rest
   token : ℕ → Rest → Rest
-  -- a name; `=` or `!=`; `1` or `2`; and the rest
-  name sign digit : Rest → Rest
-  -- behind `a := b`, and behind `a := f(b`
+  -- a name; `1` or `2`; and the rest
+  name digit : Rest → Rest
+  -- a condition; what is behind its first name where that has no `!`; and the rest
+  condition tested : Rest → Rest
+  -- behind `a := b`, and all to `;`; behind `f(b`, and all to `)`; and the rest
   value arguments : Rest → Rest
-  -- the names, or the entries, of a line, and all that follows; whether there is one already
-  names entries : Bool → Rest
-  -- behind the line of registers
-  line : Rest
+  -- the names of a line, and all that follows; whether there is one already
+  names : Bool → Rest
+  -- the entries of a line, and the rest; whether there is one already
+  entries : Bool → Rest → Rest
+  -- behind the line of registers, and behind the line of functions
+  line last-line : Rest
   -- statements and `}`, and the rest; statements to the end of the text. Whether an `else` may stand in front.
   inside : Bool → Rest → Rest
   outside : Bool → Rest
@@ -45,24 +49,35 @@ abbrev pub begin : Bool → ℕ → Rest → Rest → Took
 begin e k r q =
     pick (isName k) (λ _. took (token word.becomesKey (name (value r))))
     λ _. pick (eqb k word.skipKey) (λ _. took (token word.semicolonKey r))
-    λ _. pick (eqb k word.assumeKey || eqb k word.assertKey) (λ _. took (name (sign (name (token word.semicolonKey r)))))
-    λ _. pick (eqb k word.ifKey) (λ _. took (name (sign (name (token word.lbraceKey (inside false q))))))
-    λ _. pick (eqb k word.whileKey) (λ _. took (name (sign (name (token word.lbraceKey (inside false r))))))
+    λ _. pick (eqb k word.assumeKey || eqb k word.assertKey) (λ _. took (condition (token word.semicolonKey r)))
+    λ _. pick (eqb k word.ifKey) (λ _. took (condition (token word.lbraceKey (inside false q))))
+    λ _. pick (eqb k word.whileKey) (λ _. took (condition (token word.lbraceKey (inside false r))))
     λ _. pick (eqb k word.elseKey && e) (λ _. took (token word.lbraceKey (inside false r))) λ _. stuck
+
+-- k as the first token behind the line of functions
+abbrev pub begin-last : ℕ → Took
+begin-last k = pick (eqb k word.testsKey) (λ _. took (entries false (outside false))) λ _. begin false k (outside false) (outside true)
 
 abbrev pub take : Rest → ℕ → Took
 take (token j r) k = pick (eqb k j) (λ _. took r) λ _. stuck
 take (name r) k = pick (isName k) (λ _. took r) λ _. stuck
-take (sign r) k = pick (eqb k word.equalKey || eqb k word.unequalKey) (λ _. took r) λ _. stuck
 take (digit r) k = pick (eqb k word.oneKey || eqb k word.twoKey) (λ _. took r) λ _. stuck
-take (value r) k = pick (eqb k word.semicolonKey) (λ _. took r) λ _. pick (eqb k word.lparenKey) (λ _. took (name (arguments r))) λ _. stuck
+take (condition r) k =
+    pick (isName k) (λ _. took (tested r))
+    λ _. pick (eqb k word.notKey) (λ _. took (name (token word.lparenKey (name (arguments r))))) λ _. stuck
+take (tested r) k =
+    pick (eqb k word.equalKey || eqb k word.unequalKey) (λ _. took (name r))
+    λ _. pick (eqb k word.lparenKey) (λ _. took (name (arguments r))) λ _. stuck
+take (value r) k =
+    pick (eqb k word.semicolonKey) (λ _. took r)
+    λ _. pick (eqb k word.lparenKey) (λ _. took (name (arguments (token word.semicolonKey r)))) λ _. stuck
 take (arguments r) k =
-    pick (eqb k word.rparenKey) (λ _. took (token word.semicolonKey r))
-    λ _. pick (eqb k word.commaKey) (λ _. took (name (token word.rparenKey (token word.semicolonKey r)))) λ _. stuck
+    pick (eqb k word.rparenKey) (λ _. took r) λ _. pick (eqb k word.commaKey) (λ _. took (name (token word.rparenKey r))) λ _. stuck
 take (names e) k = pick (isName k) (λ _. took (names true)) λ _. pick (eqb k word.semicolonKey && e) (λ _. took line) λ _. stuck
-take (entries e) k = pick (isName k) (λ _. took (token word.slashKey (digit (entries true)))) λ _. pick (eqb k word.semicolonKey && e)
-    (λ _. took (outside false)) λ _. stuck
-take line k = pick (eqb k word.funsKey) (λ _. took (entries false)) λ _. begin false k (outside false) (outside true)
+take (entries e r) k =
+    pick (isName k) (λ _. took (token word.slashKey (digit (entries true r)))) λ _. pick (eqb k word.semicolonKey && e) (λ _. took r) λ _. stuck
+take line k = pick (eqb k word.funsKey) (λ _. took (entries false last-line)) λ _. begin-last k
+take last-line k = begin-last k
 take (inside e r) k = pick (eqb k word.rbraceKey) (λ _. took r) λ _. begin e k (inside false r) (inside true r)
 take (outside e) k = begin e k (outside false) (outside true)
 
@@ -73,13 +88,15 @@ start = token word.varsKey (names false)
 abbrev pub complete : Rest → Bool
 complete (token j r) = false
 complete (name r) = false
-complete (sign r) = false
 complete (digit r) = false
+complete (condition r) = false
+complete (tested r) = false
 complete (value r) = false
 complete (arguments r) = false
 complete (names e) = false
-complete (entries e) = false
+complete (entries e r) = false
 complete line = true
+complete last-line = true
 complete (inside e r) = false
 complete (outside e) = true
 
@@ -93,17 +110,26 @@ data Value : Type 0 where
   register : Value
   applied : Name → Arguments → Value
 
+-- `= b`, `!= b`, or `(b` and all to `)`
+data Tested : Type 0 where
+  against : Bool → Name → Tested
+  called : Name → Arguments → Tested
+
 abbrev argumentsThen : Arguments → List ℕ → List ℕ
-argumentsThen last ws = word.rparenKey ∷ word.semicolonKey ∷ ws
-argumentsThen (second c) ws = word.commaKey ∷ c .key ∷ word.rparenKey ∷ word.semicolonKey ∷ ws
+argumentsThen last ws = word.rparenKey ∷ ws
+argumentsThen (second c) ws = word.commaKey ∷ c .key ∷ word.rparenKey ∷ ws
 
 abbrev valueThen : Value → List ℕ → List ℕ
 valueThen register ws = word.semicolonKey ∷ ws
-valueThen (applied b v) ws = word.lparenKey ∷ b .key ∷ argumentsThen v ws
+valueThen (applied b v) ws = word.lparenKey ∷ b .key ∷ argumentsThen v (word.semicolonKey ∷ ws)
 
 abbrev signToken : Bool → ℕ
 signToken true = word.equalKey
 signToken false = word.unequalKey
+
+abbrev testedThen : Tested → List ℕ → List ℕ
+testedThen (against q b) ws = signToken q ∷ b .key ∷ ws
+testedThen (called b v) ws = word.lparenKey ∷ b .key ∷ argumentsThen v ws
 
 abbrev digitToken : Bool → ℕ
 digitToken true = word.oneKey
@@ -128,19 +154,24 @@ Body e T ws = (o : NamedElse) × (b : NamedBlock) × (vs : List ℕ) × Allowed 
 abbrev Nothing : List ℕ → Type 0
 Nothing ws = ws ≡ []
 
+abbrev LastLine : List ℕ → Type 0
+LastLine ws = (fs : List Entry) × (vs : List ℕ) × (ws ≡ lineThen word.testsKey fs vs) × Body false Nothing vs
+
 abbrev Line : List ℕ → Type 0
-Line ws = (fs : List Entry) × (vs : List ℕ) × (ws ≡ functionsThen fs vs) × Body false Nothing vs
+Line ws = (fs : List Entry) × (vs : List ℕ) × (ws ≡ lineThen word.funsKey fs vs) × LastLine vs
 
 abbrev Means : Rest → List ℕ → Type 0
 Means (token j r) ws = (vs : List ℕ) × (ws ≡ j ∷ vs) × Means r vs
 Means (name r) ws = (a : Name) × (vs : List ℕ) × (ws ≡ a .key ∷ vs) × Means r vs
-Means (sign r) ws = (q : Bool) × (vs : List ℕ) × (ws ≡ signToken q ∷ vs) × Means r vs
 Means (digit r) ws = (q : Bool) × (vs : List ℕ) × (ws ≡ digitToken q ∷ vs) × Means r vs
+Means (condition r) ws = (c : NamedCondition) × (vs : List ℕ) × (ws ≡ conditionThen c vs) × Means r vs
+Means (tested r) ws = (v : Tested) × (vs : List ℕ) × (ws ≡ testedThen v vs) × Means r vs
 Means (value r) ws = (v : Value) × (vs : List ℕ) × (ws ≡ valueThen v vs) × Means r vs
 Means (arguments r) ws = (v : Arguments) × (vs : List ℕ) × (ws ≡ argumentsThen v vs) × Means r vs
 Means (names e) ws = (ks : List Name) × (vs : List ℕ) × Some e ks × (ws ≡ namesThen ks (word.semicolonKey ∷ vs)) × Line vs
-Means (entries e) ws = (fs : List Entry) × (vs : List ℕ) × Some e fs × (ws ≡ entriesThen fs (word.semicolonKey ∷ vs)) × Body false Nothing vs
+Means (entries e r) ws = (fs : List Entry) × (vs : List ℕ) × Some e fs × (ws ≡ entriesThen fs (word.semicolonKey ∷ vs)) × Means r vs
 Means line ws = Line ws
+Means last-line ws = LastLine ws
 Means (inside e r) ws = Body e (λ vs. (us : List ℕ) × (vs ≡ word.rbraceKey ∷ us) × Means r us) ws
 Means (outside e) ws = Body e Nothing ws
 
@@ -169,16 +200,26 @@ plainly T ws (NamedElse.present x, b, vs, a, h, t) = absurd a
 prefixed : (T : List ℕ → Type 0) (e : Bool) (c : NamedStatement) (ws vs : List ℕ) → ws ≡ statementThen c vs → Body false T vs → Body e T ws
 prefixed T e c ws vs h m = let (b, us, g, t) = plainly T vs m in (NamedElse.absent, c followedBy b, us, allowed-absent e, h ∙ ap (statementThen c) g, t)
 
-abbrev compare : Bool → Name → Name → NamedCondition
-compare true a b = NamedCondition.equal a b
-compare false a b = NamedCondition.unequal a b
+abbrev test-of : Name → Tested → NamedCondition
+test-of a (against true b) = NamedCondition.equal a b
+test-of a (against false b) = NamedCondition.unequal a b
+test-of t (called a last) = NamedCondition.holds t a
+test-of t (called a (second b)) = NamedCondition.holds-two t a b
 
-compare-tokens : (q : Bool) (a b : Name) (ws : List ℕ) → conditionThen (compare q a b) ws ≡ a .key ∷ signToken q ∷ b .key ∷ ws
-compare-tokens true a b ws = refl
-compare-tokens false a b ws = refl
+test-tokens : (a : Name) (v : Tested) (ws : List ℕ) → conditionThen (test-of a v) ws ≡ a .key ∷ testedThen v ws
+test-tokens a (against true b) ws = refl
+test-tokens a (against false b) ws = refl
+test-tokens t (called a last) ws = refl
+test-tokens t (called a (second b)) ws = refl
 
-condition-of : (r : Rest) (ws : List ℕ) → Means (name (sign (name r))) ws → (c : NamedCondition) × (vs : List ℕ) × (ws ≡ conditionThen c vs) × Means r vs
-condition-of r ws (a, x, h, (q, y, g, (b, z, f, m))) = (compare q a b, z, rw (h, g, f) (sym (compare-tokens q a b z)), m)
+abbrev negation-of : Name → Name → Arguments → NamedCondition
+negation-of t a last = NamedCondition.fails t a
+negation-of t a (second b) = NamedCondition.fails-two t a b
+
+negation-tokens : (t a : Name) (v : Arguments) (ws : List ℕ)
+    → conditionThen (negation-of t a v) ws ≡ word.notKey ∷ t .key ∷ word.lparenKey ∷ a .key ∷ argumentsThen v ws
+negation-tokens t a last ws = refl
+negation-tokens t a (second b) ws = refl
 
 abbrev assigned : Name → Name → Value → NamedStatement
 assigned a b register = NamedStatement.copy a b
@@ -229,12 +270,12 @@ module _ (T : List ℕ → Type 0) (r q : Rest) (into : (ws : List ℕ) → Mean
       λ _ h. pick-case (eqb k word.skipKey) _ _ _ h (λ t g. skip-put ws (eqb-true k word.skipKey t) (left ws g m))
       λ _ h. pick-case (eqb k word.assumeKey || eqb k word.assertKey) _ _ _ h
       (λ t g. tested-put ws (assume-or-assert (or-case (eqb k word.assumeKey) (eqb k word.assertKey) t))
-      (condition-of (token word.semicolonKey r) ws (left ws g m)))
+      (left ws g m))
       λ _ h. pick-case (eqb k word.ifKey) _ _ _ h
-      (λ t g. let (c, x, i, n) = condition-of (token word.lbraceKey (inside false q)) ws (left ws g m) in
+      (λ t g. let (c, x, i, n) = left ws g m in
       let (b, y, j, w) = braced q x n in if-put ws c b x y (eqb-true k word.ifKey t) i j (into-else y w))
       λ _ h. pick-case (eqb k word.whileKey) _ _ _ h
-      (λ t g. let (c, x, i, n) = condition-of (token word.lbraceKey (inside false r)) ws (left ws g m) in
+      (λ t g. let (c, x, i, n) = left ws g m in
       let (b, y, j, w) = braced r x n in
       prefixed T e (NamedStatement.while c b) (k ∷ ws) y (spelled-while c b ws x y (eqb-true k word.whileKey t) i j) (into y w))
       λ _ h. pick-case (eqb k word.elseKey && e) _ _ _ h
@@ -281,57 +322,77 @@ entry-tokens true f ws = refl
 entry-tokens false f ws = refl
 
 -- each with its token in front of what is left
-value-put : (k : ℕ) (r : Rest) (ws : List ℕ) → k ≡ word.lparenKey → Means (name (arguments r)) ws → Means (value r) (k ∷ ws)
-value-put k r ws t (b, x, h, (v, y, g, m)) = (applied b v, y, rw (t, h, g), m)
+named-put : (k : ℕ) (r : Rest) (ws : List ℕ) → isName k ≡ true → Means (tested r) ws → Means (condition r) (k ∷ ws)
+named-put k r ws t (v, x, h, m) = let a : Name = record { key = k; real = t } in (test-of a v, x, rw h (sym (test-tokens a v x)), m)
 
-second-put : (k : ℕ) (r : Rest) (ws : List ℕ) → k ≡ word.commaKey → Means (name (token word.rparenKey (token word.semicolonKey r))) ws
-    → Means (arguments r) (k ∷ ws)
-second-put k r ws t (c, x, h, (y, g, (z, f, m))) = (second c, z, rw (t, h, g, f), m)
+negated-put : (k : ℕ) (r : Rest) (ws : List ℕ) → k ≡ word.notKey → Means (name (token word.lparenKey (name (arguments r)))) ws → Means (condition r) (k ∷ ws)
+negated-put k r ws t (a, x, h, (y, g, (b, z, f, (v, u, e, m)))) = (negation-of a b v, u, rw (t, h, g, f, e) (sym (negation-tokens a b v u)), m)
 
-last-put : (k : ℕ) (r : Rest) (ws : List ℕ) → k ≡ word.rparenKey → Means (token word.semicolonKey r) ws → Means (arguments r) (k ∷ ws)
-last-put k r ws t (x, h, m) = (last, x, rw (t, h), m)
+against-put : (k : ℕ) (r : Rest) (ws : List ℕ) → (q : Bool) × (k ≡ signToken q) → Means (name r) ws → Means (tested r) (k ∷ ws)
+against-put k r ws (q, t) (b, x, h, m) = (against q b, x, rw (t, h), m)
+
+called-put : (k : ℕ) (r : Rest) (ws : List ℕ) → k ≡ word.lparenKey → Means (name (arguments r)) ws → Means (tested r) (k ∷ ws)
+called-put k r ws t (b, x, h, (v, y, g, m)) = (called b v, y, rw (t, h, g), m)
+
+value-put : (k : ℕ) (r : Rest) (ws : List ℕ) → k ≡ word.lparenKey → Means (name (arguments (token word.semicolonKey r))) ws → Means (value r) (k ∷ ws)
+value-put k r ws t (b, x, h, (v, y, g, (z, f, m))) = (applied b v, z, rw (t, h, g, f), m)
+
+second-put : (k : ℕ) (r : Rest) (ws : List ℕ) → k ≡ word.commaKey → Means (name (token word.rparenKey r)) ws → Means (arguments r) (k ∷ ws)
+second-put k r ws t (c, x, h, (y, g, m)) = (second c, y, rw (t, h, g), m)
 
 names-put : (e : Bool) (k : ℕ) (ws : List ℕ) → isName k ≡ true → Means (names true) ws → Means (names e) (k ∷ ws)
 names-put e k ws t (ks, x, o, h, m) = let a : Name = record { key = k; real = t } in (a ∷ ks, x, some-one e a ks, ap (λ l. k ∷ l) h, m)
 
-entries-put : (e : Bool) (k : ℕ) (ws : List ℕ) → isName k ≡ true → Means (token word.slashKey (digit (entries true))) ws → Means (entries e) (k ∷ ws)
-entries-put e k ws t (x, h, (q, y, g, (fs, z, o, f, m))) =
+entries-put : (e : Bool) (k : ℕ) (r : Rest) (ws : List ℕ) → isName k ≡ true → Means (token word.slashKey (digit (entries true r))) ws
+    → Means (entries e r) (k ∷ ws)
+entries-put e k r ws t (x, h, (q, y, g, (fs, z, o, f, m))) =
     let a : Name = record { key = k; real = t } in
     (entryOf q a ∷ fs, z, some-one e (entryOf q a) fs, rw (h, g, f) (sym (entry-tokens q a (entriesThen fs (word.semicolonKey ∷ z)))), m)
 
-line-put : (k : ℕ) (ws : List ℕ) → k ≡ word.funsKey → Means (entries false) ws → Line (k ∷ ws)
-line-put k ws t ([], x, o, h, m) = absurd o
-line-put k ws t (f ∷ fs, x, o, h, m) = (f ∷ fs, x, rw (t, h), m)
+-- a line that begins with the word j
+line-put : (j k : ℕ) (r : Rest) (ws : List ℕ) → k ≡ j → Means (entries false r) ws
+    → (fs : List Entry) × (vs : List ℕ) × (k ∷ ws ≡ lineThen j fs vs) × Means r vs
+line-put j k r ws t ([], x, o, h, m) = absurd o
+line-put j k r ws t (f ∷ fs, x, o, h, m) = (f ∷ fs, x, rw (t, h), m)
+
+last-line-put : (k : ℕ) (l : Rest) (ws : List ℕ) → begin-last k ≡ took l → Means l ws → LastLine (k ∷ ws)
+last-line-put k l ws h m =
+    pick-case (eqb k word.testsKey) _ _ _ h (λ t g. line-put word.testsKey k (outside false) ws (eqb-true k word.testsKey t) (left ws g m))
+    λ _ g. ([], k ∷ ws, refl, begun Nothing (outside false) (outside true) (λ _ n. n) (λ _ n. n) false k l ws g m)
 
 -- The token that was taken, in front of what is left, is what was to come.
 take-put : (r : Rest) (k : ℕ) (l : Rest) (ws : List ℕ) → take r k ≡ took l → Means l ws → Means r (k ∷ ws)
 take-put (token j r) k l ws h m = pick-case (eqb k j) _ _ _ h (λ t g. (ws, ap (λ k. k ∷ ws) (eqb-true k j t), left ws g m)) λ _ g. absurd (not-took g)
 take-put (name r) k l ws h m = pick-case (isName k) _ _ _ h (λ t g. (record { key = k; real = t }, ws, refl, left ws g m)) λ _ g. absurd (not-took g)
-take-put (sign r) k l ws h m =
-    pick-case (eqb k word.equalKey || eqb k word.unequalKey) _ _ _ h (λ t g. let (q, i) = sign-of k t in (q, ws, ap (λ k. k ∷ ws) i, left ws g m))
-    λ _ g. absurd (not-took g)
 take-put (digit r) k l ws h m =
     pick-case (eqb k word.oneKey || eqb k word.twoKey) _ _ _ h (λ t g. let (q, i) = digit-of k t in (q, ws, ap (λ k. k ∷ ws) i, left ws g m))
     λ _ g. absurd (not-took g)
+take-put (condition r) k l ws h m =
+    pick-case (isName k) _ _ _ h (λ t g. named-put k r ws t (left ws g m))
+    λ _ h. pick-case (eqb k word.notKey) _ _ _ h (λ t g. negated-put k r ws (eqb-true k word.notKey t) (left ws g m)) λ _ g. absurd (not-took g)
+take-put (tested r) k l ws h m =
+    pick-case (eqb k word.equalKey || eqb k word.unequalKey) _ _ _ h (λ t g. against-put k r ws (sign-of k t) (left ws g m))
+    λ _ h. pick-case (eqb k word.lparenKey) _ _ _ h (λ t g. called-put k r ws (eqb-true k word.lparenKey t) (left ws g m)) λ _ g. absurd (not-took g)
 take-put (value r) k l ws h m =
     pick-case (eqb k word.semicolonKey) _ _ _ h (λ t g. (register, ws, ap (λ k. k ∷ ws) (eqb-true k word.semicolonKey t), left ws g m))
     λ _ h. pick-case (eqb k word.lparenKey) _ _ _ h (λ t g. value-put k r ws (eqb-true k word.lparenKey t) (left ws g m)) λ _ g. absurd (not-took g)
 take-put (arguments r) k l ws h m =
-    pick-case (eqb k word.rparenKey) _ _ _ h (λ t g. last-put k r ws (eqb-true k word.rparenKey t) (left ws g m))
+    pick-case (eqb k word.rparenKey) _ _ _ h (λ t g. (last, ws, ap (λ k. k ∷ ws) (eqb-true k word.rparenKey t), left ws g m))
     λ _ h. pick-case (eqb k word.commaKey) _ _ _ h (λ t g. second-put k r ws (eqb-true k word.commaKey t) (left ws g m)) λ _ g. absurd (not-took g)
 take-put (names e) k l ws h m =
     pick-case (isName k) _ _ _ h (λ t g. names-put e k ws t (left ws g m))
     λ _ h. pick-case (eqb k word.semicolonKey && e) _ _ _ h
     (λ t g. let (f, u) = and-true (eqb k word.semicolonKey) e t in ([], ws, some-true e [] u, ap (λ k. k ∷ ws) (eqb-true k word.semicolonKey f), left ws g m))
     λ _ g. absurd (not-took g)
-take-put (entries e) k l ws h m =
-    pick-case (isName k) _ _ _ h (λ t g. entries-put e k ws t (left ws g m))
+take-put (entries e r) k l ws h m =
+    pick-case (isName k) _ _ _ h (λ t g. entries-put e k r ws t (left ws g m))
     λ _ h. pick-case (eqb k word.semicolonKey && e) _ _ _ h
     (λ t g. let (f, u) = and-true (eqb k word.semicolonKey) e t in ([], ws, some-true e [] u, ap (λ k. k ∷ ws) (eqb-true k word.semicolonKey f), left ws g m))
     λ _ g. absurd (not-took g)
 take-put line k l ws h m =
-    pick-case (eqb k word.funsKey) _ _ _ h (λ t g. line-put k ws (eqb-true k word.funsKey t) (left ws g m))
-    λ _ g. ([], k ∷ ws, refl, begun Nothing (outside false) (outside true) (λ _ n. n) (λ _ n. n) false k l ws g m)
+    pick-case (eqb k word.funsKey) _ _ _ h (λ t g. line-put word.funsKey k last-line ws (eqb-true k word.funsKey t) (left ws g m))
+    λ _ g. ([], k ∷ ws, refl, last-line-put k l ws g m)
+take-put last-line k l ws h m = last-line-put k l ws h m
 take-put (inside e r) k l ws h m =
     pick-case (eqb k word.rbraceKey) _ _ _ h
     (λ t g. (NamedElse.absent, NamedBlock.empty, k ∷ ws, allowed-absent e, refl, (ws, ap (λ k. k ∷ ws) (eqb-true k word.rbraceKey t), left ws g m)))
@@ -346,25 +407,24 @@ Taken t ws = (r : Rest) × (t ≡ took r) × Means r ws
 shift : (f : ℕ → Took) (k j : ℕ) (ws us : List ℕ) → k ∷ ws ≡ j ∷ us → Taken (f j) us → Taken (f k) ws
 shift f k j ws us h d = subst (λ j. Taken (f j) ws) (sym (head-same h)) (subst (λ us. Taken (f j) us) (sym (tail-same h)) d)
 
-compared : (c : NamedCondition) (r : Rest) (ws : List ℕ) → Means r ws → Means (name (sign (name r))) (conditionThen c ws)
-compared (NamedCondition.equal a b) r ws m = (a, _, refl, (true, _, refl, (b, ws, refl, m)))
-compared (NamedCondition.unequal a b) r ws m = (a, _, refl, (false, _, refl, (b, ws, refl, m)))
-
 -- f takes the first token of a body: as begin does, or stops as T says
 module _ (T : List ℕ → Type 0) (r q : Rest) (out : (ws : List ℕ) → Body false T ws → Means r ws) (out-else : (ws : List ℕ) → Body true T ws → Means q ws)
     (f : ℕ → Took)
     (stop : (k : ℕ) (ws : List ℕ) → T (k ∷ ws) → Taken (f k) ws) where
   abbrev Agrees : Bool → Type 0
-  Agrees e = (j : ℕ) → eqb j word.rbraceKey ≡ false → eqb j word.funsKey ≡ false → f j ≡ begin e j r q
+  Agrees e = (j : ℕ) → eqb j word.rbraceKey ≡ false → eqb j word.funsKey ≡ false → eqb j word.testsKey ≡ false → f j ≡ begin e j r q
 
   name-taken : (e : Bool) → Agrees e → (x : Name) → f (x .key) ≡ took (token word.becomesKey (name (value r)))
-  name-taken e agree x = agree (x .key) (not-word (x .key) word.rbraceKey refl (x .real)) (not-word (x .key) word.funsKey refl (x .real)) ∙ rw (x .real)
+  name-taken e agree x =
+      agree (x .key) (not-word (x .key) word.rbraceKey refl (x .real)) (not-word (x .key) word.funsKey refl (x .real))
+      (not-word (x .key) word.testsKey refl (x .real))
+      ∙ rw (x .real)
 
   body-taken : (e : Bool) → Agrees e → (o : NamedElse) (b : NamedBlock) (k : ℕ) (ws vs : List ℕ)
       → Allowed e o → k ∷ ws ≡ elseThen o (blockThen b vs) → T vs → Taken (f k) ws
   body-taken e agree NamedElse.absent NamedBlock.empty k ws vs a h t = stop k ws (subst T (sym h) t)
   body-taken e agree NamedElse.absent (NamedStatement.skip followedBy b) k ws vs a h t =
-      shift f k word.skipKey ws _ h (token word.semicolonKey r, agree word.skipKey refl refl, (_, refl, out _ (NamedElse.absent, b, vs, tt, refl, t)))
+      shift f k word.skipKey ws _ h (token word.semicolonKey r, agree word.skipKey refl refl refl, (_, refl, out _ (NamedElse.absent, b, vs, tt, refl, t)))
   body-taken e agree NamedElse.absent (NamedStatement.copy x y followedBy b) k ws vs a h t =
       shift f k (x .key) ws _ h (
         token word.becomesKey (name (value r)),
@@ -385,36 +445,32 @@ module _ (T : List ℕ → Type 0) (r q : Rest) (out : (ws : List ℕ) → Body 
       )
   body-taken e agree NamedElse.absent (NamedStatement.assume c followedBy b) k ws vs a h t =
       shift f k word.assumeKey ws _ h (
-        name (sign (name (token word.semicolonKey r))),
-        agree word.assumeKey refl refl,
-        compared c (token word.semicolonKey r) _
-            (_, refl, out _ (NamedElse.absent, b, vs, tt, refl, t)),
+        condition (token word.semicolonKey r),
+        agree word.assumeKey refl refl refl,
+        (c, _, refl, (_, refl, out _ (NamedElse.absent, b, vs, tt, refl, t))),
       )
   body-taken e agree NamedElse.absent (NamedStatement.assert c followedBy b) k ws vs a h t =
       shift f k word.assertKey ws _ h (
-        name (sign (name (token word.semicolonKey r))),
-        agree word.assertKey refl refl,
-        compared c (token word.semicolonKey r) _
-            (_, refl, out _ (NamedElse.absent, b, vs, tt, refl, t)),
+        condition (token word.semicolonKey r),
+        agree word.assertKey refl refl refl,
+        (c, _, refl, (_, refl, out _ (NamedElse.absent, b, vs, tt, refl, t))),
       )
   body-taken e agree NamedElse.absent (NamedStatement.if c x o followedBy b) k ws vs a h t =
       shift f k word.ifKey ws _ h (
-        name (sign (name (token word.lbraceKey (inside false q)))),
-        agree word.ifKey refl refl,
-        compared c
-            (token word.lbraceKey (inside false q)) _ (_, refl, (NamedElse.absent, x, _, tt, refl, (_, refl, out-else _ (o, b, vs, tt, refl, t)))),
+        condition (token word.lbraceKey (inside false q)),
+        agree word.ifKey refl refl refl,
+        (c, _, refl, (_, refl, (NamedElse.absent, x, _, tt, refl, (_, refl, out-else _ (o, b, vs, tt, refl, t))))),
       )
   body-taken e agree NamedElse.absent (NamedStatement.while c x followedBy b) k ws vs a h t =
       shift f k word.whileKey ws _ h (
-        name (sign (name (token word.lbraceKey (inside false r)))),
-        agree word.whileKey refl refl,
-        compared c
-            (token word.lbraceKey (inside false r)) _ (_, refl, (NamedElse.absent, x, _, tt, refl, (_, refl, out _ (NamedElse.absent, b, vs, tt, refl, t)))),
+        condition (token word.lbraceKey (inside false r)),
+        agree word.whileKey refl refl refl,
+        (c, _, refl, (_, refl, (NamedElse.absent, x, _, tt, refl, (_, refl, out _ (NamedElse.absent, b, vs, tt, refl, t))))),
       )
   body-taken true agree (NamedElse.present x) b k ws vs a h t =
       shift f k word.elseKey ws _ h (
         token word.lbraceKey (inside false r),
-        agree word.elseKey refl refl,
+        agree word.elseKey refl refl refl,
         (_, refl, (NamedElse.absent, x, _, tt, refl, (_, refl, out _ (NamedElse.absent, b, vs, tt, refl, t)))),
       )
   body-taken false agree (NamedElse.present x) b k ws vs a h t = absurd a
@@ -422,45 +478,75 @@ module _ (T : List ℕ → Type 0) (r q : Rest) (out : (ws : List ℕ) → Body 
 outer-taken : (e : Bool) (k : ℕ) (ws : List ℕ) → Body e Nothing (k ∷ ws) → Taken (take (outside e) k) ws
 outer-taken e k ws (o, b, vs, a, h, t) =
     body-taken Nothing (outside false) (outside true) (λ _ m. m) (λ _ m. m) (take (outside e)) (λ k ws n. absurd (not-nil n)) e
-    (λ j x y. refl) o b k ws vs a h t
+    (λ j x y z. refl) o b k ws vs a h t
 
 inner-taken : (e : Bool) (r : Rest) (k : ℕ) (ws : List ℕ) → Means (inside e r) (k ∷ ws) → Taken (take (inside e r) k) ws
 inner-taken e r k ws (o, b, vs, a, h, t) =
     body-taken (λ vs. (us : List ℕ) × (vs ≡ word.rbraceKey ∷ us) × Means r us) (inside false r) (inside true r) (λ _ m. m) (λ _ m. m) (take (inside e r))
-    (λ k ws (us, n, m). shift (take (inside e r)) k word.rbraceKey ws us n (r, refl, m)) e (λ j x y. rw x) o b k ws vs a h t
+    (λ k ws (us, n, m). shift (take (inside e r)) k word.rbraceKey ws us n (r, refl, m)) e (λ j x y z. rw x) o b k ws vs a h t
 
-entry-taken : (e : Bool) (f : Entry) (fs : List Entry) (vs : List ℕ) → Body false Nothing vs → (k : ℕ) (ws : List ℕ)
-    → k ∷ ws ≡ entriesThen (f ∷ fs) (word.semicolonKey ∷ vs) → Taken (take (entries e) k) ws
-entry-taken e (Entry.one f) fs vs m k ws h =
-    shift (take (entries e)) k (f .key) ws _ h (token word.slashKey (digit (entries true)), rw (f .real), (_, refl, (true, _, refl, (fs, vs, tt, refl, m))))
-entry-taken e (Entry.two f) fs vs m k ws h =
-    shift (take (entries e)) k (f .key) ws _ h (token word.slashKey (digit (entries true)), rw (f .real), (_, refl, (false, _, refl, (fs, vs, tt, refl, m))))
+entry-taken : (e : Bool) (r : Rest) (f : Entry) (fs : List Entry) (vs : List ℕ) → Means r vs → (k : ℕ) (ws : List ℕ)
+    → k ∷ ws ≡ entriesThen (f ∷ fs) (word.semicolonKey ∷ vs) → Taken (take (entries e r) k) ws
+entry-taken e r (Entry.one f) fs vs m k ws h =
+    shift (take (entries e r)) k (f .key) ws _ h
+    (token word.slashKey (digit (entries true r)), rw (f .real), (_, refl, (true, _, refl, (fs, vs, tt, refl, m))))
+entry-taken e r (Entry.two f) fs vs m k ws h =
+    shift (take (entries e r)) k (f .key) ws _ h
+    (token word.slashKey (digit (entries true r)), rw (f .real), (_, refl, (false, _, refl, (fs, vs, tt, refl, m))))
+
+-- f takes the first token behind the line of functions
+module _ (f : ℕ → Took) (agree : (j : ℕ) → eqb j word.funsKey ≡ false → f j ≡ begin-last j) where
+  last-line-taken : (k : ℕ) (ws : List ℕ) → LastLine (k ∷ ws) → Taken (f k) ws
+  last-line-taken k ws ([], xs, g, (o, b, vs, a, h, t)) =
+      body-taken Nothing (outside false) (outside true) (λ _ m. m) (λ _ m. m) f (λ k ws n. absurd (not-nil n)) false (λ j x y z. agree j y ∙ rw z) o b k ws vs a
+      (g ∙ h) t
+  last-line-taken k ws (e ∷ es, vs, h, m) =
+      shift f k word.testsKey ws _ h (entries false (outside false), agree word.testsKey refl, (e ∷ es, vs, tt, refl, m))
 
 line-taken : (k : ℕ) (ws : List ℕ) → Line (k ∷ ws) → Taken (take line k) ws
-line-taken k ws ([], xs, g, (o, b, vs, a, h, t)) =
-    body-taken Nothing (outside false) (outside true) (λ _ m. m) (λ _ m. m) (take line) (λ k ws n. absurd (not-nil n)) false (λ j x y. rw y) o b k ws vs a
-    (g ∙ h) t
-line-taken k ws (f ∷ fs, vs, h, m) = shift (take line) k word.funsKey ws _ h (entries false, refl, (f ∷ fs, vs, tt, refl, m))
+line-taken k ws ([], xs, g, m) = last-line-taken (take line) (λ j x. rw x) k ws (subst LastLine (sym g) m)
+line-taken k ws (f ∷ fs, vs, h, m) = shift (take line) k word.funsKey ws _ h (entries false last-line, refl, (f ∷ fs, vs, tt, refl, m))
+
+condition-taken : (c : NamedCondition) (r : Rest) (vs : List ℕ) → Means r vs → (k : ℕ) (ws : List ℕ) → k ∷ ws ≡ conditionThen c vs
+    → Taken (take (condition r) k) ws
+condition-taken (NamedCondition.equal a b) r vs m k ws h =
+    shift (take (condition r)) k (a .key) ws _ h (tested r, rw (a .real), (against true b, vs, refl, m))
+condition-taken (NamedCondition.unequal a b) r vs m k ws h =
+    shift (take (condition r)) k (a .key) ws _ h (tested r, rw (a .real), (against false b, vs, refl, m))
+condition-taken (NamedCondition.holds t a) r vs m k ws h =
+    shift (take (condition r)) k (t .key) ws _ h (tested r, rw (t .real), (called a last, vs, refl, m))
+condition-taken (NamedCondition.holds-two t a b) r vs m k ws h =
+    shift (take (condition r)) k (t .key) ws _ h (tested r, rw (t .real), (called a (second b), vs, refl, m))
+condition-taken (NamedCondition.fails t a) r vs m k ws h =
+    shift (take (condition r)) k word.notKey ws _ h
+    (name (token word.lparenKey (name (arguments r))), refl, (t, _, refl, (_, refl, (a, _, refl, (last, vs, refl, m)))))
+condition-taken (NamedCondition.fails-two t a b) r vs m k ws h =
+    shift (take (condition r)) k word.notKey ws _ h
+    (name (token word.lparenKey (name (arguments r))), refl, (t, _, refl, (_, refl, (a, _, refl, (second b, vs, refl, m)))))
 
 token-taken : (r : Rest) (k : ℕ) (ws : List ℕ) → Means r (k ∷ ws) → Taken (take r k) ws
 token-taken (token j r) k ws (vs, h, m) = shift (take (token j r)) k j ws vs h (r, rw (eq-eqb j j refl), m)
 token-taken (name r) k ws (a, vs, h, m) = shift (take (name r)) k (a .key) ws vs h (r, rw (a .real), m)
-token-taken (sign r) k ws (true, vs, h, m) = shift (take (sign r)) k word.equalKey ws vs h (r, refl, m)
-token-taken (sign r) k ws (false, vs, h, m) = shift (take (sign r)) k word.unequalKey ws vs h (r, refl, m)
 token-taken (digit r) k ws (true, vs, h, m) = shift (take (digit r)) k word.oneKey ws vs h (r, refl, m)
 token-taken (digit r) k ws (false, vs, h, m) = shift (take (digit r)) k word.twoKey ws vs h (r, refl, m)
+token-taken (condition r) k ws (c, vs, h, m) = condition-taken c r vs m k ws h
+token-taken (tested r) k ws (against true b, vs, h, m) = shift (take (tested r)) k word.equalKey ws _ h (name r, refl, (b, vs, refl, m))
+token-taken (tested r) k ws (against false b, vs, h, m) = shift (take (tested r)) k word.unequalKey ws _ h (name r, refl, (b, vs, refl, m))
+token-taken (tested r) k ws (called b v, vs, h, m) = shift (take (tested r)) k word.lparenKey ws _ h (name (arguments r), refl, (b, _, refl, (v, vs, refl, m)))
 token-taken (value r) k ws (register, vs, h, m) = shift (take (value r)) k word.semicolonKey ws vs h (r, refl, m)
-token-taken (value r) k ws (applied b v, vs, h, m) = shift (take (value r)) k word.lparenKey ws _ h (name (arguments r), refl, (b, _, refl, (v, vs, refl, m)))
-token-taken (arguments r) k ws (last, vs, h, m) = shift (take (arguments r)) k word.rparenKey ws _ h (token word.semicolonKey r, refl, (vs, refl, m))
+token-taken (value r) k ws (applied b v, vs, h, m) =
+    shift (take (value r)) k word.lparenKey ws _ h (name (arguments (token word.semicolonKey r)), refl, (b, _, refl, (v, _, refl, (vs, refl, m))))
+token-taken (arguments r) k ws (last, vs, h, m) = shift (take (arguments r)) k word.rparenKey ws vs h (r, refl, m)
 token-taken (arguments r) k ws (second c, vs, h, m) =
-    shift (take (arguments r)) k word.commaKey ws _ h (name (token word.rparenKey (token word.semicolonKey r)), refl, (c, _, refl, (_, refl, (vs, refl, m))))
+    shift (take (arguments r)) k word.commaKey ws _ h (name (token word.rparenKey r), refl, (c, _, refl, (vs, refl, m)))
 token-taken (names true) k ws ([], vs, o, h, m) = shift (take (names true)) k word.semicolonKey ws vs h (line, refl, m)
 token-taken (names false) k ws ([], vs, o, h, m) = absurd o
 token-taken (names e) k ws (a ∷ ks, vs, o, h, m) = shift (take (names e)) k (a .key) ws _ h (names true, rw (a .real), (ks, vs, tt, refl, m))
-token-taken (entries true) k ws ([], vs, o, h, m) = shift (take (entries true)) k word.semicolonKey ws vs h (outside false, refl, m)
-token-taken (entries false) k ws ([], vs, o, h, m) = absurd o
-token-taken (entries e) k ws (f ∷ fs, vs, o, h, m) = entry-taken e f fs vs m k ws h
+token-taken (entries true r) k ws ([], vs, o, h, m) = shift (take (entries true r)) k word.semicolonKey ws vs h (r, refl, m)
+token-taken (entries false r) k ws ([], vs, o, h, m) = absurd o
+token-taken (entries e r) k ws (f ∷ fs, vs, o, h, m) = entry-taken e r f fs vs m k ws h
 token-taken line k ws m = line-taken k ws m
+token-taken last-line k ws m = last-line-taken (take last-line) (λ j x. refl) k ws m
 token-taken (inside e r) k ws m = inner-taken e r k ws m
 token-taken (outside e) k ws m = outer-taken e k ws m
 
@@ -485,6 +571,18 @@ arguments-some : (v : Arguments) (ws : List ℕ) → [] ≡ argumentsThen v ws �
 arguments-some last ws h = not-nil (sym h)
 arguments-some (second c) ws h = not-nil (sym h)
 
+tested-some : (v : Tested) (ws : List ℕ) → [] ≡ testedThen v ws → ⊥
+tested-some (against q b) ws h = not-nil (sym h)
+tested-some (called b v) ws h = not-nil (sym h)
+
+condition-some : (c : NamedCondition) (ws : List ℕ) → [] ≡ conditionThen c ws → ⊥
+condition-some (NamedCondition.equal a b) ws h = not-nil (sym h)
+condition-some (NamedCondition.unequal a b) ws h = not-nil (sym h)
+condition-some (NamedCondition.holds t a) ws h = not-nil (sym h)
+condition-some (NamedCondition.fails t a) ws h = not-nil (sym h)
+condition-some (NamedCondition.holds-two t a b) ws h = not-nil (sym h)
+condition-some (NamedCondition.fails-two t a b) ws h = not-nil (sym h)
+
 value-some : (v : Value) (ws : List ℕ) → [] ≡ valueThen v ws → ⊥
 value-some register ws h = not-nil (sym h)
 value-some (applied b v) ws h = not-nil (sym h)
@@ -501,26 +599,30 @@ entries-some (Entry.two f ∷ fs) ws h = not-nil (sym h)
 ended-complete : (r : Rest) → Means r [] → complete r ≡ true
 ended-complete (token j r) (vs, h, m) = absurd (not-nil (sym h))
 ended-complete (name r) (a, vs, h, m) = absurd (not-nil (sym h))
-ended-complete (sign r) (q, vs, h, m) = absurd (not-nil (sym h))
 ended-complete (digit r) (q, vs, h, m) = absurd (not-nil (sym h))
+ended-complete (condition r) (c, vs, h, m) = absurd (condition-some c vs h)
+ended-complete (tested r) (v, vs, h, m) = absurd (tested-some v vs h)
 ended-complete (value r) (v, vs, h, m) = absurd (value-some v vs h)
 ended-complete (arguments r) (v, vs, h, m) = absurd (arguments-some v vs h)
 ended-complete (names e) (ks, vs, o, h, m) = absurd (names-some ks vs h)
-ended-complete (entries e) (fs, vs, o, h, m) = absurd (entries-some fs vs h)
+ended-complete (entries e r) (fs, vs, o, h, m) = absurd (entries-some fs vs h)
 ended-complete line m = refl
+ended-complete last-line m = refl
 ended-complete (inside e r) (o, b, vs, a, h, (us, g, m)) = absurd (inside-some o b vs us h g)
 ended-complete (outside e) m = refl
 
 complete-ended : (r : Rest) → complete r ≡ true → Means r []
 complete-ended (token j r) h = absurd (clash h refl)
 complete-ended (name r) h = absurd (clash h refl)
-complete-ended (sign r) h = absurd (clash h refl)
 complete-ended (digit r) h = absurd (clash h refl)
+complete-ended (condition r) h = absurd (clash h refl)
+complete-ended (tested r) h = absurd (clash h refl)
 complete-ended (value r) h = absurd (clash h refl)
 complete-ended (arguments r) h = absurd (clash h refl)
 complete-ended (names e) h = absurd (clash h refl)
-complete-ended (entries e) h = absurd (clash h refl)
-complete-ended line h = ([], [], refl, (NamedElse.absent, NamedBlock.empty, [], tt, refl, refl))
+complete-ended (entries e r) h = absurd (clash h refl)
+complete-ended line h = ([], [], refl, ([], [], refl, (NamedElse.absent, NamedBlock.empty, [], tt, refl, refl)))
+complete-ended last-line h = ([], [], refl, (NamedElse.absent, NamedBlock.empty, [], tt, refl, refl))
 complete-ended (inside e r) h = absurd (clash h refl)
 complete-ended (outside e) h = (NamedElse.absent, NamedBlock.empty, [], allowed-absent e, refl, refl)
 
@@ -539,15 +641,16 @@ some-entries false = (Entry.one letter-a ∷ [], tt)
 finished : (r : Rest) → (ws : List ℕ) × Means r ws
 finished (token j r) = let (ws, m) = finished r in (j ∷ ws, (ws, refl, m))
 finished (name r) = let (ws, m) = finished r in (97 ∷ ws, (letter-a, ws, refl, m))
-finished (sign r) = let (ws, m) = finished r in (word.equalKey ∷ ws, (true, ws, refl, m))
 finished (digit r) = let (ws, m) = finished r in (word.oneKey ∷ ws, (true, ws, refl, m))
+finished (condition r) = let (ws, m) = finished r in (97 ∷ word.equalKey ∷ 97 ∷ ws, (NamedCondition.equal letter-a letter-a, ws, refl, m))
+finished (tested r) = let (ws, m) = finished r in (word.equalKey ∷ 97 ∷ ws, (against true letter-a, ws, refl, m))
 finished (value r) = let (ws, m) = finished r in (word.semicolonKey ∷ ws, (register, ws, refl, m))
-finished (arguments r) = let (ws, m) = finished r in (word.rparenKey ∷ word.semicolonKey ∷ ws, (last, ws, refl, m))
+finished (arguments r) = let (ws, m) = finished r in (word.rparenKey ∷ ws, (last, ws, refl, m))
 finished (names e) = let (ks, o) = some-names e in
-    (namesThen ks (word.semicolonKey ∷ []), (ks, [], o, refl, ([], [], refl, (NamedElse.absent, NamedBlock.empty, [], tt, refl, refl))))
-finished (entries e) = let (fs, o) = some-entries e in
-    (entriesThen fs (word.semicolonKey ∷ []), (fs, [], o, refl, (NamedElse.absent, NamedBlock.empty, [], tt, refl, refl)))
-finished line = ([], ([], [], refl, (NamedElse.absent, NamedBlock.empty, [], tt, refl, refl)))
+    (namesThen ks (word.semicolonKey ∷ []), (ks, [], o, refl, ([], [], refl, ([], [], refl, (NamedElse.absent, NamedBlock.empty, [], tt, refl, refl)))))
+finished (entries e r) = let (ws, m) = finished r in let (fs, o) = some-entries e in (entriesThen fs (word.semicolonKey ∷ ws), (fs, ws, o, refl, m))
+finished line = ([], ([], [], refl, ([], [], refl, (NamedElse.absent, NamedBlock.empty, [], tt, refl, refl))))
+finished last-line = ([], ([], [], refl, (NamedElse.absent, NamedBlock.empty, [], tt, refl, refl)))
 finished (inside e r) = let (ws, m) = finished r in (word.rbraceKey ∷ ws, (NamedElse.absent, NamedBlock.empty, _, allowed-absent e, refl, (ws, refl, m)))
 finished (outside e) = ([], (NamedElse.absent, NamedBlock.empty, [], allowed-absent e, refl, refl))
 
@@ -593,12 +696,16 @@ run-taken (k ∷ ks) r ws m = let (q, h, n) = token-taken r k (ks ++ ws) m in le
 
 start-sentence : (ws : List ℕ) → Means start ws → Sentence ws
 start-sentence ws (x, h, ([], y, o, g, m)) = absurd o
-start-sentence ws (x, h, (a ∷ ks, y, o, g, (fs, z, f, (NamedElse.absent, b, us, p, i, j)))) =
-    record { macro = record { first = a; others = ks; entries = fs; body = b }; spelled = rw (h, g, f, i, j) }
-start-sentence ws (x, h, (a ∷ ks, y, o, g, (fs, z, f, (NamedElse.present c, b, us, p, i, j)))) = absurd p
+start-sentence ws (x, h, (a ∷ ks, y, o, g, (fs, z, f, (gs, v, d, (NamedElse.absent, b, us, p, i, j))))) =
+    record { macro = record { first = a; others = ks; functions = fs; tests = gs; body = b }; spelled = rw (h, g, f, d, i, j) }
+start-sentence ws (x, h, (a ∷ ks, y, o, g, (fs, z, f, (gs, v, d, (NamedElse.present c, b, us, p, i, j))))) = absurd p
 
 sentence-start : (m : NamedMacro) → Means start (namedSentence m)
-sentence-start m = (_, refl, (m .first ∷ m .others, _, tt, refl, (m .entries, _, refl, (NamedElse.absent, m .body, [], tt, refl, refl))))
+sentence-start m = (
+  _,
+  refl,
+  (m .first ∷ m .others, _, tt, refl, (m .functions, _, refl, (m .tests, _, refl, (NamedElse.absent, m .body, [], tt, refl, refl)))),
+)
 
 -- What can be taken begins a sentence, and what begins one can be taken.
 pub run-viable : (ks : List ℕ) (r : Rest) → run start ks ≡ took r → Viable ks

@@ -3,24 +3,23 @@ use mathlib.Core.Path.{_≡_, refl, sym, ap, _∙_}
 use Prim.Native.Nat.{ℕ, suc, _≤_, _<_}
 use native.Mathlib.Omega.{arith}
 use mathlib.Core.List.{List, [], _∷_, _++_, append-assoc, append-nil}
-use lib.ListN.{length, getD}
+use lib.ListN.{length, getD, take, drop}
 use Rattle.base.proofs.Theory.Choice.{byTest}
-use Rattle.letters.specs.Letters.{Fits}
-use Rattle.letters.specs.declared.Letter.{Letter}
-use Rattle.letters.specs.declared.Letter.the-variants.{Copy, Apply, Equal, Unequal}
-use Rattle.macros.specs.Tree.{Condition, test, Statement, skip, perform, assert, if, while, Else, absent, present, Block, empty, _then_, Proper, ProperElse}
-use Rattle.macros.specs.Tree.{ProperBlock}
-use Rattle.macros.specs.Tree as tree
 use Rattle.tokens.specs.Words as word
-use Rattle.grammar.specs.Grammar.{Macro, header, takesTwo, conditionTokens, letterTokens, statementTokens, elseTokens, blockTokens, entryTokens, functionTokens}
-use Rattle.grammar.specs.Grammar.{sentence}
+use Rattle.grammar.specs.Tree.{Condition, Assignment, Statement, skip, assign, assume, assert, if, while, Else, absent, present, Block, empty, _then_}
+use Rattle.grammar.specs.Tree.{ProperAssignment, ProperCondition, Proper, ProperElse, ProperBlock}
+use Rattle.grammar.specs.Tree as tree
+use Rattle.grammar.specs.Grammar.{Macro, header, takesTwo, conditionTokens, assignmentTokens, statementTokens, elseTokens, blockTokens, entryTokens, lineTokens}
+use Rattle.grammar.specs.Grammar.{declarationTokens, sentence}
 use Rattle.grammar.specs.Spelled.{Arities, Spells, InOrder}
+use Rattle.grammar.proofs.Theory.Parts.{arities-take, arities-drop}
 use Rattle.refusals.specs.Sentences.{Name, NamedCondition, NamedStatement, conditionThen, statementThen, elseThen, blockThen, Entry, namesThen}
-use Rattle.refusals.specs.Sentences.{entriesThen, functionsThen, Sentence}
+use Rattle.refusals.specs.Sentences.{entriesThen, lineThen, Sentence}
 use Rattle.refusals.specs.Sentences as alone
 use Rattle.refusals.specs.Questions.{AllNames}
+use Rattle.refusals.proofs.Theory.Parts.{names-take, names-drop}
 
-module _ (rs fs ns : List ℕ) (R : AllNames rs) (F : AllNames fs) where
+module _ (rs fs ns : List ℕ) (t : ℕ) (R : AllNames rs) (F : AllNames fs) where
   registered : (x : ℕ) → x < length rs → Name
   registered x l = record { key = getD rs x 0; real = R x l }
 
@@ -30,27 +29,39 @@ module _ (rs fs ns : List ℕ) (R : AllNames rs) (F : AllNames fs) where
   abbrev SameStatement : List ℕ → Type 0
   SameStatement us = (d : alone.NamedStatement) × ((ws : List ℕ) → us ++ ws ≡ statementThen d ws)
 
-  condition-same : (c : Condition) → Fits (header rs fs ns) (test c) → SameCondition c
+  condition-same : (c : Condition) → ProperCondition c (header rs fs ns) t → SameCondition c
   unfolding registered
   condition-same (tree.equal x y) (l, r) = (NamedCondition.equal (registered x l) (registered y r), λ ws. refl)
   condition-same (tree.unequal x y) (l, r) = (NamedCondition.unequal (registered x l) (registered y r), λ ws. refl)
+  condition-same (tree.holds f y z) ((l, h, r, q, n), o) =
+      let g : Name = record { key = getD fs f 0; real = F f h } in
+      byTest (takesTwo rs fs ns f) (λ t. (NamedCondition.holds-two g (registered y r) (registered z q), λ ws. rw t)) λ t.
+      (NamedCondition.holds g (registered y r), λ ws. rw t)
+  condition-same (tree.fails f y z) ((l, h, r, q, n), o) =
+      let g : Name = record { key = getD fs f 0; real = F f h } in
+      byTest (takesTwo rs fs ns f) (λ t. (NamedCondition.fails-two g (registered y r) (registered z q), λ ws. rw t)) λ t.
+      (NamedCondition.fails g (registered y r), λ ws. rw t)
 
-  letter-same : (a : Letter) → Fits (header rs fs ns) a → SameStatement (letterTokens rs fs ns a)
+  assignment-same : (a : Assignment) → ProperAssignment a (header rs fs ns) t → SameStatement (assignmentTokens rs fs ns a)
   unfolding registered
-  letter-same (Copy x y) (l, r) = (NamedStatement.copy (registered x l) (registered y r), λ ws. refl)
-  letter-same (Apply x f y z) (l, h, r, q, n) =
+  assignment-same (tree.copy x y) (l, r) = (NamedStatement.copy (registered x l) (registered y r), λ ws. refl)
+  assignment-same (tree.apply x f y z) ((l, h, r, q, n), o) =
       let g : Name = record { key = getD fs f 0; real = F f h } in
       byTest (takesTwo rs fs ns f) (λ t. (NamedStatement.apply-two (registered x l) g (registered y r) (registered z q), λ ws. rw t)) λ t.
       (NamedStatement.apply (registered x l) g (registered y r), λ ws. rw t)
-  letter-same (Equal x y) (l, r) = (NamedStatement.assume (NamedCondition.equal (registered x l) (registered y r)), λ ws. refl)
-  letter-same (Unequal x y) (l, r) = (NamedStatement.assume (NamedCondition.unequal (registered x l) (registered y r)), λ ws. refl)
 
   mutual
     unfolding statementTokens
 
-    statement-same : (c : Statement) → Proper c (header rs fs ns) → SameStatement (statementTokens rs fs ns c)
+    statement-same : (c : Statement) → Proper c (header rs fs ns) t → SameStatement (statementTokens rs fs ns c)
     statement-same skip p = (alone.skip, λ ws. refl)
-    statement-same (perform a) p = letter-same a p
+    statement-same (assign a) p = assignment-same a p
+    statement-same (assume c) p =
+        let (d, h) = condition-same c p in (
+          alone.assume d,
+          λ ws. ap (λ l. word.assumeKey ∷ l)
+              (append-assoc (conditionTokens rs fs ns c) (word.semicolonKey ∷ []) ws ∙ h (word.semicolonKey ∷ ws)),
+        )
     statement-same (assert c) p =
         let (d, h) = condition-same c p in (
           alone.assert d,
@@ -79,7 +90,7 @@ module _ (rs fs ns : List ℕ) (R : AllNames rs) (F : AllNames fs) where
               ∙ ap (λ l. conditionThen d (word.lbraceKey ∷ l)) (append-assoc (blockTokens rs fs ns b) (word.rbraceKey ∷ []) ws ∙ g (word.rbraceKey ∷ ws))),
         )
 
-    else-same : (e : Else) → ProperElse e (header rs fs ns) → (d : alone.NamedElse) × ((ws : List ℕ) → elseTokens rs fs ns e ++ ws ≡ elseThen d ws)
+    else-same : (e : Else) → ProperElse e (header rs fs ns) t → (d : alone.NamedElse) × ((ws : List ℕ) → elseTokens rs fs ns e ++ ws ≡ elseThen d ws)
     else-same absent p = (alone.absent, λ ws. refl)
     else-same (present b) p = let (x, g) = block-same b p in (
       alone.present x,
@@ -87,7 +98,7 @@ module _ (rs fs ns : List ℕ) (R : AllNames rs) (F : AllNames fs) where
           (append-assoc (blockTokens rs fs ns b) (word.rbraceKey ∷ []) ws ∙ g (word.rbraceKey ∷ ws)),
     )
 
-    block-same : (b : Block) → ProperBlock b (header rs fs ns) → (d : alone.NamedBlock) × ((ws : List ℕ) → blockTokens rs fs ns b ++ ws ≡ blockThen d ws)
+    block-same : (b : Block) → ProperBlock b (header rs fs ns) t → (d : alone.NamedBlock) × ((ws : List ℕ) → blockTokens rs fs ns b ++ ws ≡ blockThen d ws)
     block-same empty p = (alone.empty, λ ws. refl)
     block-same (c then b) (p, q) =
         let (x, h) = statement-same c p in
@@ -110,39 +121,53 @@ entries-same fs ns (Arities.one {f} {fs = gs} {ns = ms} a) n = let (es, h) = ent
 entries-same fs ns (Arities.two {f} {fs = gs} {ns = ms} a) n = let (es, h) = entries-same gs ms a (λ i l. n (suc i) (omega arith)) in
     (alone.two (record { key = f; real = n 0 (omega arith) }) ∷ es, λ ws. ap (λ l. f ∷ word.slashKey ∷ word.twoKey ∷ l) (h ws))
 
-line-same : (fs ns : List ℕ) → Arities fs ns → AllNames fs → (es : List Entry) × ((ws : List ℕ) → functionTokens fs ns ++ ws ≡ functionsThen es ws)
-unfolding functionTokens entryTokens
-line-same fs ns Arities.none n = ([], λ ws. refl)
-line-same fs ns (Arities.one {f} {fs = gs} {ns = ms} a) n =
+-- a line that begins with the word j
+line-same : (j : ℕ) (fs ns : List ℕ) → Arities fs ns → AllNames fs → (es : List Entry) × ((ws : List ℕ) → lineTokens j fs ns ++ ws ≡ lineThen j es ws)
+unfolding lineTokens entryTokens
+line-same j fs ns Arities.none n = ([], λ ws. refl)
+line-same j fs ns (Arities.one {f} {fs = gs} {ns = ms} a) n =
     let (es, h) = entries-same gs ms a (λ i l. n (suc i) (omega arith)) in (
       alone.one (record { key = f; real = n 0 (omega arith) }) ∷ es,
-      λ ws. ap (λ l. word.funsKey ∷ f ∷ word.slashKey ∷ word.oneKey ∷ l)
+      λ ws. ap (λ l. j ∷ f ∷ word.slashKey ∷ word.oneKey ∷ l)
           (append-assoc (entryTokens gs ms) (word.semicolonKey ∷ []) ws ∙ h (word.semicolonKey ∷ ws)),
     )
-line-same fs ns (Arities.two {f} {fs = gs} {ns = ms} a) n =
+line-same j fs ns (Arities.two {f} {fs = gs} {ns = ms} a) n =
     let (es, h) = entries-same gs ms a (λ i l. n (suc i) (omega arith)) in (
       alone.two (record { key = f; real = n 0 (omega arith) }) ∷ es,
-      λ ws. ap (λ l. word.funsKey ∷ f ∷ word.slashKey ∷ word.twoKey ∷ l)
+      λ ws. ap (λ l. j ∷ f ∷ word.slashKey ∷ word.twoKey ∷ l)
           (append-assoc (entryTokens gs ms) (word.semicolonKey ∷ []) ws ∙ h (word.semicolonKey ∷ ws)),
     )
 
-macro-same : (rs fs ns : List ℕ) (b : Block) → AllNames rs → 1 ≤ length rs → AllNames fs → Arities fs ns → ProperBlock b (header rs fs ns)
-    → Sentence (word.varsKey ∷ (rs ++ word.semicolonKey ∷ (functionTokens fs ns ++ blockTokens rs fs ns b)))
-macro-same [] fs ns b R n F A p = absurd (omega arith)
-macro-same (r ∷ rs) fs ns b R n F A p =
-    let t = blockTokens (r ∷ rs) fs ns b in
-    let (x, g) = block-same (r ∷ rs) fs ns R F b p in
-    let (es, f) = line-same fs ns A F in
+-- both lines
+lines-same : (fs ns : List ℕ) (t : ℕ) → Arities fs ns → AllNames fs → t ≤ length fs
+    → (es ds : List Entry) × ((ws : List ℕ) → declarationTokens fs ns t ++ ws ≡ lineThen word.funsKey es (lineThen word.testsKey ds ws))
+lines-same fs ns t a n w =
+    let L = lineTokens word.funsKey (take t fs) (take t ns) in
+    let T = lineTokens word.testsKey (drop t fs) (drop t ns) in
+    let (es, h) = line-same word.funsKey (take t fs) (take t ns) (arities-take t a) (names-take t fs w n) in
+    let (ds, g) = line-same word.testsKey (drop t fs) (drop t ns) (arities-drop t a) (names-drop t fs w n) in
+    (es, ds, λ ws. append-assoc L T ws ∙ h (T ++ ws) ∙ ap (lineThen word.funsKey es) (g ws))
+
+macro-same : (rs fs ns : List ℕ) (t : ℕ) (b : Block) → AllNames rs → 1 ≤ length rs → AllNames fs → Arities fs ns → t ≤ length fs
+    → ProperBlock b (header rs fs ns) t
+    → Sentence (word.varsKey ∷ (rs ++ word.semicolonKey ∷ (declarationTokens fs ns t ++ blockTokens rs fs ns b)))
+macro-same [] fs ns t b R n F A w p = absurd (omega arith)
+macro-same (r ∷ rs) fs ns t b R n F A w p =
+    let B = blockTokens (r ∷ rs) fs ns b in
+    let (x, g) = block-same (r ∷ rs) fs ns t R F b p in
+    let (es, ds, f) = lines-same fs ns t A F w in
     let (xs, h) = names-same rs (λ i l. R (suc i) (omega arith)) in
     record {
-      macro = record { first = record { key = r; real = R 0 (omega arith) }; others = xs; entries = es; body = x };
+      macro = record { first = record { key = r; real = R 0 (omega arith) }; others = xs; functions = es; tests = ds; body = x };
       spelled = sym (ap (λ l. word.varsKey ∷ r ∷ l)
-          (h (word.semicolonKey ∷ (functionTokens fs ns ++ t))
-          ∙ ap (λ l. namesThen xs (word.semicolonKey ∷ l)) (f t ∙ ap (functionsThen es) (sym (append-nil t) ∙ g []))));
+          (h (word.semicolonKey ∷ (declarationTokens fs ns t ++ B))
+          ∙ ap (λ l. namesThen xs (word.semicolonKey ∷ l)) (f B
+          ∙ ap (λ l. lineThen word.funsKey es (lineThen word.testsKey ds l)) (sym (append-nil B) ∙ g []))));
     }
 
 -- The sentence of a macro in order is a sentence.
 pub in-order-sentence : (m : Macro) → InOrder m → Sentence (sentence m)
 unfolding sentence
-in-order-sentence m O = macro-same (m .registers) (m .functions) (m .arities) (m .body) (O .registers .names) (O .some) (O .functions .names) (O .arities)
+in-order-sentence m O =
+    macro-same (m .registers) (m .functions) (m .arities) (m .firstTest) (m .body) (O .registers .names) (O .some) (O .functions .names) (O .arities) (O .tests)
     (O .uses)

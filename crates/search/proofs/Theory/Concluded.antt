@@ -10,6 +10,7 @@ use Rattle.letters.specs.Editions.{Edition, mostLetters}
 use Rattle.semantics.specs.Terms.{Trace, begin, _▸_, extend, state}
 use Rattle.semantics.specs.Facts.{WellFormed}
 use Rattle.semantics.specs.Models.{Feasible}
+use Rattle.grammar.proofs.Theory.Expanded.{expanded-fits}
 use Rattle.macros.specs.Order.{Branch, Path, _▹_}
 use Rattle.macros.specs.Walk.{Place, Move, no-move, move, stand}
 use Rattle.macros.specs.Points.{points, entry, moves-at, run}
@@ -95,7 +96,7 @@ module _ (given : Given) (n : ℕ) (kind : Kind) (k d : ℕ) (t : List ℕ) (met
   here = subst (Searching (starts given) (step given) (listed t k)) (sym (turn-of d)) (met .going .searching)
 
   pub event-formed : WellFormed (extend (begin (header given)) (trailOf (held given) t d))
-  event-formed = run-formed (header given) start (body given) (tt, refl) (given .in-order .uses) way (came .0) execution (came .1) .0
+  event-formed = run-formed (header given) start (body given) (tt, refl) (expanded-fits (given .macro) (given .in-order)) way (came .0) execution (came .1) .0
 
   pub event-few : length (trailOf (held given) t d) ≤ mostLetters
   event-few =

@@ -12,6 +12,7 @@ use Rattle.semantics.proofs.Theory.TraceLaws.{extend-append}
 use Rattle.semantics.specs.Prefixes.{Begins}
 use Rattle.semantics.proofs.Theory.Prefixes.{begins-extend}
 use Rattle.macros.specs.Tree.{Block}
+use Rattle.macros.specs.WrittenOut.{writtenOut}
 use Rattle.macros.specs.Executions.{Outcome, done, failed, ExecBlock, Partial}
 use Rattle.macros.specs.Words.{WordBlock}
 use Rattle.macros.proofs.Theory.Words.{exec-is}
@@ -19,6 +20,7 @@ use Rattle.macros.specs.Order.{Branch, first, second, Path}
 use Rattle.macros.specs.Walk.{walk}
 use Rattle.macros.specs.Points.{sizeBlock, entry, points, entrance, moves-at, run}
 use Rattle.macros.proofs.Theory.Runs.{complete-end, failing-is, partial-is, past-points}
+use Rattle.grammar.specs.Grammar.{expanded}
 use Rattle.syntax.specs.declared.MacroRead.{MacroRead}
 use Rattle.syntax.specs.Answer.{heldMacro}
 use Rattle.syntax.specs.Reads.{Reads}
@@ -48,7 +50,7 @@ numbered-back second = refl
 
 module _ (given : Given) where
   abbrev body : Block
-  body = given .macro .body
+  body = expanded (given .macro)
 
   branch-is : (k : ℕ) (b : Branch) → branchesAt (program given) k b ≡ moves-at (points body) k b
   unfolding heldMacro
@@ -65,28 +67,28 @@ module _ (given : Given) where
 
   module _ (w : List Letter) where
     -- the words of an outcome, and the executions that have their letters
-    words : (o : Outcome) → ExecBlock body origin (extend origin w) o ↔ WordBlock body w o
+    words : (o : Outcome) → ExecBlock (writtenOut body) origin (extend origin w) o ↔ WordBlock (writtenOut body) w o
     words o = (
-      λ x. let (v, y, e) = exec-is body origin (extend origin w) o .0 x in subst (λ u. WordBlock body u o) (sym (since-once origin w v e)) y,
-      λ y. exec-is body origin (extend origin w) o .1 (w, y, refl),
+      λ x. let (v, y, e) = exec-is (writtenOut body) origin (extend origin w) o .0 x in subst (λ u. WordBlock (writtenOut body) u o) (sym (since-once origin w v e)) y,
+      λ y. exec-is (writtenOut body) origin (extend origin w) o .1 (w, y, refl),
     )
 
-    beginnings : Partial origin body (extend origin w) ↔ ((v : List Letter) × (o : Outcome) × WordBlock body (w ++ v) o)
+    beginnings : Partial origin body (extend origin w) ↔ ((v : List Letter) × (o : Outcome) × WordBlock (writtenOut body) (w ++ v) o)
     beginnings = (
-      λ x. let (u, y, e) = exec-is body origin (x .execution) (x .outcome) .0 (x .runs) in
+      λ x. let (u, y, e) = exec-is (writtenOut body) origin (x .execution) (x .outcome) .0 (x .runs) in
           let (v, f) = since (x .begins) in
           let same : u ≡ w ++ v = since-once origin u (w ++ v) (sym e ∙ f ∙ sym (extend-append origin w v)) in
-          (v, x .outcome, subst (λ u. WordBlock body u (x .outcome)) same y),
+          (v, x .outcome, subst (λ u. WordBlock (writtenOut body) u (x .outcome)) same y),
       λ (v, o, y). record {
         execution = extend origin (w ++ v);
         outcome = o;
-        runs = exec-is body origin (extend origin (w ++ v)) o .1 (w ++ v, y, refl);
+        runs = exec-is (writtenOut body) origin (extend origin (w ++ v)) o .1 (w ++ v, y, refl);
         from-start = begins-extend origin w;
         begins = subst (Begins (extend origin w)) (sym (extend-append origin w v)) (begins-extend (extend origin w) v);
       },
     )
 
-  pub has-executions : HasExecutions (program given) body
+  pub has-executions : HasExecutions (program given) (writtenOut body)
   unfolding heldMacro
   has-executions = record {
     complete = λ w. (
@@ -110,5 +112,5 @@ macros-have-executions text answer x = record {
   grammatical = λ e. let (m, a, f) = x .accepted e in (m, a);
   executes = λ m a.
       let given : Given = record { macro = m; in-order = a .in-order; few = a .few } in
-      subst (λ program. HasExecutions program (m .body)) (sym (x .accepts m a .2)) (has-executions given);
+      subst (λ program. HasExecutions program (writtenOut (expanded m))) (sym (x .accepts m a .2)) (has-executions given);
 }

@@ -6,10 +6,13 @@ use Prim.Native.Nat.{ℕ}
 use native.Mathlib.Omega.{arith}
 use Rattle.letters.specs.declared.Letter.{Letter}
 use Rattle.letters.specs.declared.Letter.the-variants.{Apply, Equal, Unequal}
-use Rattle.macros.specs.Tree.{Condition, test, opposite, while, Block}
+use Rattle.macros.specs.Plain.{Condition, test, opposite, while, Block}
+use Rattle.macros.specs.WrittenOut.{statementBefore, writtenOut}
 use Rattle.macros.specs.Executions.{Outcome}
 use Rattle.macros.specs.Words.{Word, WordBlock}
 use Rattle.macros.specs.Walk.{Place, at, failure}
+use Rattle.grammar.specs.Expanded.{expandedStatement}
+use Rattle.grammar.specs.Grammar.{expanded}
 use Rattle.grammar.proofs.Theory.Whole.{read-sound}
 use Rattle.refusals.proofs.Theory.Examples.{loop, searched, loop-read}
 use Rattle.syntax.specs.declared.MacroRead.{MacroRead}
@@ -28,11 +31,11 @@ opens (Word.turns {u} {v} x y e) = (u ++ v, inl e)
 opens (Word.breaks {v} x e) = (v, inl e)
 
 module _ (answer : MacroRead) (read : Reads loop answer) where
-  executions : HasExecutions (answer .program) (searched .body)
+  executions : HasExecutions (answer .program) (writtenOut (expanded searched))
   executions = macros-have-executions loop answer read .executes searched loop-accepted
 
   two-turns : Performed (answer .program) (Unequal 0 1 ∷ Apply 0 0 0 0 ∷ Unequal 0 1 ∷ Apply 0 0 0 0 ∷ Equal 0 1 ∷ Equal 0 1 ∷ []) (at (answer .program .count))
-  unfolding searched
+  unfolding searched statementBefore expandedStatement
   two-turns = executions .complete _ .1
       (WordBlock.both (Word.turns (WordBlock.both Word.letter WordBlock.stop refl)
       (Word.turns (WordBlock.both Word.letter WordBlock.stop refl) (Word.leaves refl) refl) refl)
@@ -40,18 +43,18 @@ module _ (answer : MacroRead) (read : Reads loop answer) where
 
   -- the assertion fails where the loop is left at once
   fails-at-once : Performed (answer .program) (Equal 0 1 ∷ Unequal 0 1 ∷ []) failure
-  unfolding searched
+  unfolding searched statementBefore expandedStatement
   fails-at-once = executions .failing _ .1 (WordBlock.both (Word.leaves refl) (WordBlock.ends (Word.fails refl)) refl)
 
   not-the-body : (l : Place ℕ) → ¬ Performed (answer .program) (Apply 0 0 0 0 ∷ []) l
-  unfolding searched
+  unfolding searched statementBefore expandedStatement
   not-the-body l p = let (v, o, w) = executions .partial (Apply 0 0 0 0 ∷ []) .0 (l, p) in none w
     where
       begins : {v u : List Letter} → ¬ ((u ≡ Apply 0 0 0 0 ∷ v) × (w : List Letter) × ((u ≡ Unequal 0 1 ∷ w) ⊎ (u ≡ Equal 0 1 ∷ w)))
       begins (e, w, inl f) = let z : _≡_ {A = ℕ} 0 1 = cc in omega arith
       begins (e, w, inr f) = let z : _≡_ {A = ℕ} 0 1 = cc in omega arith
 
-      none : {v : List Letter} {o : Outcome} → ¬ WordBlock (searched .body) (Apply 0 0 0 0 ∷ v) o
+      none : {v : List Letter} {o : Outcome} → ¬ WordBlock (writtenOut (expanded searched)) (Apply 0 0 0 0 ∷ v) o
       none (WordBlock.both {v = v} x y e) = let (w, z) = opens x in
           begins (sym e, w ++ v, elim z [ inl f ↦ inl (ap (λ k. k ++ v) f) | inr f ↦ inr (ap (λ k. k ++ v) f) ])
       none (WordBlock.ends x) = let (w, z) = opens x in begins (refl, w, z)

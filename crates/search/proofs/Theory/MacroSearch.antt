@@ -18,6 +18,8 @@ use Rattle.semantics.specs.Models.{Feasible}
 use Rattle.macros.specs.Points.{points}
 use Rattle.grammar.specs.Grammar.{Macro, headerOf, binaryOf}
 use Rattle.grammar.specs.Spelled.{InOrder, Arities, Spells}
+use Rattle.grammar.proofs.Theory.Expanded.{expanded-fits}
+use Rattle.grammar.proofs.Theory.Hidden.{registers-within, registers-some}
 use Rattle.blocks.specs.Held.{heldPoint}
 use Rattle.syntax.specs.declared.CompiledMacro as struct
 use Rattle.syntax.specs.Answer.{heldMacro}
@@ -68,7 +70,7 @@ binary-below (Arities.one {f = f} {fs = fs} a) = let l = binary-below a in omega
 binary-below (Arities.two {f = f} {fs = fs} a) = let l = binary-below a in omega (arith, two-pow-succ (length fs))
 
 pub header-fits : (m : Macro) → InOrder m → HeaderFits firstEdition (headerOf m)
-header-fits m o = record { some = o .some; registers = o .few; functions = o .fewer; binary = binary-below (o .arities) }
+header-fits m o = record { some = registers-some m o; registers = registers-within m o; functions = o .fewer; binary = binary-below (o .arities) }
 
 -- ── an event of the search ──
 module _ (given : Given) (n : ℕ) (t : List ℕ) (most : n ≤ mostPairs) (room : recordBytes * n ≤ length t) where
@@ -119,7 +121,8 @@ module _ (program : struct.CompiledMacro) (given : Given) (holds : heldMacro (gi
   pub points-within : AllWithin (program .points)
   unfolding heldMacro
   points-within = subst (λ p. AllWithin (p .points)) holds
-      (all-within (header given) (given .in-order .few) (given .in-order .fewer) (body given) (given .in-order .uses)
+      (all-within (header given) (registers-within (given .macro) (given .in-order)) (given .in-order .fewer) (body given)
+      (expanded-fits (given .macro) (given .in-order))
       (mostPoints - length (map heldPoint (points (body given)))))
 
   module _ (t : List ℕ) where

@@ -18,12 +18,12 @@ finish-spec =
     (λ c.
     let at-if1 = c .before .before in
     let at-next = at-if1 .before .before in
-    law.finish-long _ _ _ _ _ (at-next .next .ensures) (at-if1 .if1 .taken) (c .before .if2 .taken) _ (c .refused-answer .ensures))
+    law.finish-long _ _ _ _ _ _ (at-next .next .ensures) (at-next .before .before .pre .0) (at-if1 .if1 .taken) (c .before .if2 .taken) _ (c .refused-answer .ensures))
     (λ c κs. search needs)
     (λ c κs. search needs)
     (λ c κs. search needs)
-    (λ c κs. given c .pre .0 .few)
-    (λ c κs. (given (c .before) .pre .0 .few, given (c .before) .pre .1 .0 .few))
+    (λ c κs. let pre = given c .pre in (pre .0 .few, pre .3))
+    (λ c κs. let pre = given (c .before) .pre in (pre .0 .few, pre .2, pre .1 .0 .few))
     (λ c.
     let at-header-of = c .before .before in
     let at-points-of = at-header-of .before in
@@ -34,12 +34,12 @@ finish-spec =
     let at-start = at-next .before .before in
     let args = at-start .args in
     let whole = law.points-whole (args .body) _ _ _ _ _ _ (at-redirect-range .redirect-range .ensures .0)
-    (at-redirect-range .redirect-range .ensures .1) (at-points-of .points-of .ensures) in
-    law.finish-read (args .text .now) (args .rs) (args .fs) _ _ (at-next .next .ensures) (at-if1 .if1 .taken) (at-start .pre .0) (at-start .pre .1)
+    (at-redirect-range .redirect-range .ensures .1) (at-points-of .points-of .ensures) (args .rs .count) in
+    law.finish-read (args .text .now) (args .rs) (args .fs) _ _ _ (at-next .next .ensures) (at-start .pre .0) (at-if1 .if1 .taken) (at-start .pre .1)
     (at-if2 .if2 .left) _ (at-header-of .header-of .ensures) _ whole _ _ (c .before .register-spellings .ensures) (c .function-spellings .ensures))
     (λ c κs. search needs)
     (λ c κs. search needs)
     (λ c.
     let at-if1 = c .before .before in
     let at-next = at-if1 .before .before in
-    law.finish-unfit _ _ _ _ _ (at-next .next .ensures) (at-if1 .if1 .left) _ (c .before .unfit-number .ensures) _ (c .refused-answer2 .ensures)))
+    law.finish-unfit _ _ _ _ _ _ (at-next .next .ensures) (at-if1 .if1 .left) _ (c .before .unfit-number .ensures) _ (c .refused-answer2 .ensures)))

@@ -1,3 +1,4 @@
+use native.Mathlib.Omega.{arith}
 use Rattle.syntax.proofs.Theory.Lists.{kept-within}
 use Rattle.syntax.proofs.Theory.Top as law
 use borrow.Author.Needs.{needs}
@@ -24,12 +25,18 @@ read-body-spec =
     let at-pre = at-funs .before .before .before in
     kept-within _ _ _ (at-pre .pre .1 .1))
     (λ c. search needs)
+    (λ c.
+    let at-start = c .before .before .before in
+    let pre = at-start .before .before .before .before .before .pre in
+    let few = pre .1 .0 .few in
+    let below = pre .2 in
+    omega arith)
     (λ c κs.
     let at-arities2 = c .before .before .before in
     let at-start = at-arities2 .before .before .before in
     let at-funs = at-start .before .before in
     let at-entry = at-funs .before .before .before in
-    law.start-ready (at-entry .args .rs) (at-entry .args .fs) _ (at-start .start .ensures) (at-entry .pre .0) (at-entry .pre .1))
+    law.start-ready (at-entry .args .rs) (at-entry .args .fs) _ _ (at-start .start .ensures) (at-entry .pre .0) (at-entry .pre .1) (at-entry .pre .2))
     (λ c κs. search needs)
     (λ c.
     let at-second2 = c .before in
@@ -39,8 +46,9 @@ read-body-spec =
     let at-arities2 = at-second .before .before .before in
     let at-start = at-arities2 .before .before .before in
     let at-funs = at-start .before .before in
-    let args = at-funs .before .before .before .args in
-    law.body-read (args .text .now) (args .rs) (args .fs) _ _ (law.start-with _ _ (at-start .start .ensures)) (at-block .block .ensures)
+    let at-entry = at-funs .before .before .before in
+    let args = at-entry .args in
+    law.body-read (args .text .now) (args .rs) (args .fs) _ _ _ (law.start-with _ _ (at-start .start .ensures)) (at-entry .pre .0) (at-block .block .ensures)
     (at-if1 .if1 .taken) _ (c .finish .ensures))
     (λ c κs. search needs)
     (λ c.
@@ -49,6 +57,7 @@ read-body-spec =
     let at-arities2 = at-second .before .before .before in
     let at-start = at-arities2 .before .before .before in
     let at-funs = at-start .before .before in
-    let args = at-funs .before .before .before .args in
-    law.body-refused (args .text .now) (args .rs) (args .fs) _ _ (law.start-with _ _ (at-start .start .ensures)) (at-block .block .ensures)
+    let at-entry = at-funs .before .before .before in
+    let args = at-entry .args in
+    law.body-refused (args .text .now) (args .rs) (args .fs) _ _ _ (law.start-with _ _ (at-start .start .ensures)) (at-entry .pre .0) (at-block .block .ensures)
     (c .before .if1 .left) _ (c .refused-answer .ensures)))

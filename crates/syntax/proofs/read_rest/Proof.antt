@@ -13,8 +13,8 @@ slice-aggregate-functions-line c = search needs
 functions-line-requires : tie.Need-functions-line-requires
 functions-line-requires c κs = search needs
 
-read-body-requires : tie.Need-read-body-requires
-read-body-requires c κs =
+read-tests-requires : tie.Need-read-tests-requires
+read-tests-requires c κs =
     let at-regs2 = c .before .before in
     let at-start = at-regs2 .before .before .before in
     let x =
@@ -26,7 +26,7 @@ returns c =
     let at-regs2 = at-functions-line .before in
     let at-args = at-regs2 .before .before .before in
     law.rest-read (at-args .args .text .now) (at-args .args .rs) _
-    (at-functions-line .functions-line .ensures) (c .before .if1 .taken) _ (c .read-body .ensures)
+    (at-functions-line .functions-line .ensures) (c .before .if1 .taken) _ (c .read-tests .ensures)
 
 refused-answer-requires : tie.Need-refused-answer-requires
 refused-answer-requires c κs = search needs
@@ -45,7 +45,7 @@ read-rest-spec =
     array-share-prefix-regs
     slice-aggregate-functions-line
     functions-line-requires
-    read-body-requires
+    read-tests-requires
     returns
     refused-answer-requires
     returns-2)

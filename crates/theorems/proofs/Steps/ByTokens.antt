@@ -24,6 +24,8 @@ order-respelled rs fs m O = record {
   apart = O .apart;
   arities = O .arities;
   fewer = O .fewer;
+  tests = O .tests;
+  room = O .room;
   uses = O .uses;
   depth = O .depth;
 }
@@ -84,7 +86,8 @@ module _ (s : List ℕ) where
 
   -- the macro with its names spelled as the text has them
   abbrev respelled : Macro → Macro
-  respelled m = spelledAs (spelledRegisters s (length (m .registers))) (spelledFunctions s (length (m .registers)) (length (m .functions))) m
+  respelled m =
+      spelledAs (spelledRegisters s (length (m .registers))) (spelledFunctions s (length (m .registers)) (m .firstTest) (length (m .functions))) m
 
   order : (m : Macro) → InOrder m → InOrder (respelled m)
   order m = order-respelled (respelled m .registerSpellings) (respelled m .functionSpellings) m

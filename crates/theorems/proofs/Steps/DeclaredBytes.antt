@@ -10,9 +10,10 @@ use Rattle.tokens.specs.Tokens.{tokenAt, bytesAt, placeOf}
 use Rattle.tokens.proofs.Theory.WordsLaws.{name-real}
 use Rattle.tokens.proofs.Theory.Keys.{token-held}
 use Rattle.grammar.specs.Grammar.{Macro}
+use Rattle.grammar.specs.Spelled.{functionToken}
 use Rattle.refusals.specs.Accepted.{Accepted}
 use Rattle.refusals.proofs.Theory.Declared.{register-declared, register-spelled, function-declared, function-spelled}
-use Rattle.verdict_lines.specs.Prints.{registerToken, functionToken, declaredNames}
+use Rattle.verdict_lines.specs.Prints.{registerToken, declaredNames}
 use Rattle.theorems.specs.LowerCase.{DeclaredBy}
 
 declared-by : (text : List ℕ) (i : ℕ) {known spelled : ℕ} {printed : List ℕ} → isName known ≡ true → tokenAt text (placeOf text i) .key ≡ known
@@ -28,8 +29,8 @@ module _ (text : List ℕ) (m : Macro) (A : Accepted text m) where
       (register-spelled text m (A .spelled) r h) (rw (lt-ltb r (length (m .registers)) h))
 
   pub function-by : (f : ℕ) → f < length (m .functions)
-      → DeclaredBy text (functionToken (length (m .registers)) f) (getD (m .functions) f 0) (getD (m .functionSpellings) f 0)
+      → DeclaredBy text (functionToken (length (m .registers)) (m .firstTest) f) (getD (m .functions) f 0) (getD (m .functionSpellings) f 0)
       (declaredNames text m .function f)
-  function-by f h = declared-by text (functionToken (length (m .registers)) f) (A .in-order .functions .names f h)
+  function-by f h = declared-by text (functionToken (length (m .registers)) (m .firstTest) f) (A .in-order .functions .names f h)
       (function-declared text m (A .spelled) (A .in-order .arities) f h) (function-spelled text m (A .spelled) f h)
       (rw (lt-ltb f (length (m .functions)) h))

@@ -8,7 +8,7 @@ use Rattle.macros.specs.Points.{sizeStatement}
 use Rattle.tokens.specs.Bytes.{gap, nameLength, width}
 use Rattle.tokens.specs.Tokens.{tokenAt}
 use Rattle.tokens.specs.declared.Token.{Token}
-use Rattle.grammar.specs.Reading.{indexOf, condition, endedCondition, argumentsT, rightHandSide, assignment, block, registerNames, arityOf, functionEntries}
+use Rattle.grammar.specs.Reading.{indexOf, condition, endedCondition, argumentsT, rightHandSide, assignment, block, registerNames, arityOf, entries}
 use Rattle.grammar.proofs.Theory.Reading.{readText, readMacro}
 use Rattle.refusals.specs.Order.{Refusal}
 use Rattle.refusals.proofs.Theory.Order.{refused-refusal}
@@ -23,7 +23,7 @@ abbrev plain : List ℕ
 plain = 118 ∷ 97 ∷ 114 ∷ 115 ∷ 32 ∷ 99 ∷ 97 ∷ 112 ∷ 32 ∷ 64 ∷ 64 ∷ 64 ∷ 59 ∷ []
 
 plain-refused : Refusal plain tokenMalformed 9
-unfolding readMacro readText tokenAt gap width nameLength registerNames indexOf functionEntries arityOf block condition endedCondition assignment rightHandSide
+unfolding readMacro readText tokenAt gap width nameLength registerNames indexOf entries arityOf block condition endedCondition assignment rightHandSide
     argumentsT sizeStatement
 plain-refused = refused-refusal plain tokenMalformed 9 refl
 

@@ -4,7 +4,7 @@ use mathlib.Core.Logic.{_↔_}
 use mathlib.Core.List.{[], _∷_}
 use Prim.Native.Nat.{ℕ}
 use native.Mathlib.Omega.{arith}
-use Rattle.macros.specs.Tree.{equal, Statement, skip, perform, assert, if, while, Else, absent, present, Block, empty, _then_}
+use Rattle.grammar.specs.Tree.{equal, Statement, skip, assign, assume, assert, if, while, Else, absent, present, Block, empty, _then_}
 use Rattle.grammar.specs.Grammar.{Macro}
 use Rattle.layout_theory.specs.Layout.{elseOf, shortStatement, shortElse, shortBlock, withoutEmptyElses}
 use Rattle.theorems.specs.EmptyElses.{AlikeStatement, same-statement, turned-statement, chained-statement, in-if, in-while}
@@ -43,7 +43,8 @@ else-of-alike (s then b) = same-else
 mutual
   statement-alike : (s : Statement) → AlikeStatement s (shortStatement s)
   statement-alike skip = same-statement
-  statement-alike (perform a) = same-statement
+  statement-alike (assign a) = same-statement
+  statement-alike (assume c) = same-statement
   statement-alike (assert c) = same-statement
   statement-alike (if c b e) = in-if (block-alike b) (else-alike e)
   statement-alike (while c b) = in-while (block-alike b)
@@ -72,6 +73,7 @@ macros-alike-exactly m n = (
     functions = p .same-functions i;
     functionSpellings = p .same-function-spellings i;
     arities = p .same-arities i;
+    firstTest = p .same-first-test i;
     body = block-shorts (p .alike-bodies) i;
   },
   λ e. record {
@@ -80,6 +82,7 @@ macros-alike-exactly m n = (
     same-functions = λ i. e i .functions;
     same-function-spellings = λ i. e i .functionSpellings;
     same-arities = λ i. e i .arities;
+    same-first-test = λ i. e i .firstTest;
     alike-bodies = same-shorts-alike (m .body) (n .body) λ i. e i .body;
   },
 )
@@ -102,6 +105,7 @@ testedMacro name e = record {
   functions = [];
   functionSpellings = [];
   arities = [];
+  firstTest = 0;
   body = if (equal 0 0) empty e then empty;
 }
 
@@ -113,6 +117,7 @@ empty-else-alike-macros = record {
   same-functions = refl;
   same-function-spellings = refl;
   same-arities = refl;
+  same-first-test = refl;
   alike-bodies = empty-else-alike;
 }
 

@@ -16,7 +16,8 @@ use Rattle.semantics.specs.Coherence.{Coherent}
 use Rattle.macros.specs.Executions.{Failing}
 use Rattle.macros.specs.Order.{Before}
 use Rattle.macros.proofs.Theory.Order.{before-not}
-use Rattle.grammar.specs.Grammar.{Macro, headerOf}
+use Rattle.grammar.specs.Grammar.{Macro, headerOf, expanded}
+use Rattle.grammar.proofs.Theory.Expanded.{expanded-fits}
 use Rattle.refusals.specs.Accepted.{Accepted}
 use Rattle.refusals.proofs.Theory.Accepted.{Acceptance, Becomes, an-acceptance}
 use Rattle.verdict_theory.specs.Verdict.{VerdictAnswer, refused, IsPass, full, unfit, Kind, breaking, failing, showing, AnswerBytes}
@@ -44,26 +45,26 @@ module _ (text : List ℕ) (m : Macro) (a : Accepted text m) where
   start = begin (headerOf m)
 
   abbrev ShownAs : Kind → ℕ → List Letter → Type 0
-  ShownAs kind k ls = Shows Feasible start (m .body) kind k ls
+  ShownAs kind k ls = Shows Feasible start (expanded m) kind k ls
 
-  one-kind : (i j : Kind) (ρ : Trace) → OfKind start (m .body) i ρ → OfKind start (m .body) j ρ → i ≡ j
+  one-kind : (i j : Kind) (ρ : Trace) → OfKind start (expanded m) i ρ → OfKind start (expanded m) j ρ → i ≡ j
   one-kind breaking breaking ρ x y = refl
   one-kind failing failing ρ x y = refl
   one-kind breaking failing ρ x y = absurd (breaks-not ρ (x .1) (y .1))
   one-kind failing breaking ρ x y = absurd (breaks-not ρ (y .1) (x .1))
 
   -- one first event, of one kind, with one count of pairs
-  pub one-shown : (i j : Kind) (k l : ℕ) (ks ls : List Letter) → Shows Feasible (begin (headerOf m)) (m .body) i k ks
-      → Shows Feasible (begin (headerOf m)) (m .body) j l ls → (i ≡ j) × (k ≡ l) × (ks ≡ ls)
+  pub one-shown : (i j : Kind) (k l : ℕ) (ks ls : List Letter) → Shows Feasible (begin (headerOf m)) (expanded m) i k ks
+      → Shows Feasible (begin (headerOf m)) (expanded m) j l ls → (i ≡ j) × (k ≡ l) × (ks ≡ ls)
   one-shown i j k l ks ls x y =
-      let w : ks ≡ ls = since-once start ks ls (one-event Feasible start (m .body) (extend start ks) (extend start ls) (x .first-event) (y .first-event)) in (
-        one-kind i j (extend start ls) (subst (λ u. OfKind start (m .body) i (extend start u)) w (x .of-kind)) (y .of-kind),
-        one-count Before (Leaves start (m .body)) (SamePair start (m .body)) (EventAt Feasible start (m .body)) before-not k l (x .count) (y .count),
+      let w : ks ≡ ls = since-once start ks ls (one-event Feasible start (expanded m) (extend start ks) (extend start ls) (x .first-event) (y .first-event)) in (
+        one-kind i j (extend start ls) (subst (λ u. OfKind start (expanded m) i (extend start u)) w (x .of-kind)) (y .of-kind),
+        one-count Before (Leaves start (expanded m)) (SamePair start (expanded m)) (EventAt Feasible start (expanded m)) before-not k l (x .count) (y .count),
         w,
       )
 
-  event-not-pass : (ρ : Trace) → Event Feasible start (m .body) ρ → (answer : VerdictAnswer) (n : ℕ) (output output′ : List ℕ)
-      → IsVerdict Feasible start (m .body) firstEdition n output answer output′ → answer ≢ full → ¬ IsPass answer
+  event-not-pass : (ρ : Trace) → Event Feasible start (expanded m) ρ → (answer : VerdictAnswer) (n : ℕ) (output output′ : List ℕ)
+      → IsVerdict Feasible start (expanded m) firstEdition n output answer output′ → answer ≢ full → ¬ IsPass answer
   event-not-pass ρ (breaks x b) answer n o o′ v u p = breaks-not ρ b (v .pass-exactly u .0 p .0 ρ x)
   event-not-pass ρ (fails x f) answer n o o′ v u p = v .pass-exactly u .0 p .1 ρ x f
 
@@ -72,8 +73,8 @@ module _ (text : List ℕ) (m : Macro) (a : Accepted text m) where
     n = pairsIn firstEdition table
 
     -- the first event is what is answered, unless the count of pairs passes the table
-    pub event-delivered : ¬ PairsPass Feasible (begin (headerOf m)) (m .body) (pairsIn firstEdition table) → (kind : Kind) (k : ℕ) (ls : List Letter)
-        (bytes : List ℕ) → Shows Feasible (begin (headerOf m)) (m .body) kind k ls → AnswerBytes firstEdition (begin (headerOf m)) kind ls bytes
+    pub event-delivered : ¬ PairsPass Feasible (begin (headerOf m)) (expanded m) (pairsIn firstEdition table) → (kind : Kind) (k : ℕ) (ls : List Letter)
+        (bytes : List ℕ) → Shows Feasible (begin (headerOf m)) (expanded m) kind k ls → AnswerBytes firstEdition (begin (headerOf m)) kind ls bytes
         → Delivered bytes (showing kind k (length ls)) output answer output′
     event-delivered few kind k ls bytes s q =
         let v = x .verdict m a in
@@ -81,20 +82,20 @@ module _ (text : List ℕ) (m : Macro) (a : Accepted text m) where
         let w : ¬ IsPass answer = event-not-pass (extend start ls) (s .first-event .event) answer n output output′ v u in
         let (kind′, k′, ls′, s′, d) = shown-event m (a .in-order) n output answer output′ v u w in
         let (e, f, g) = one-shown kind′ kind k′ k ls′ ls s′ s in
-        let formed = failing-formed (headerOf m) start (m .body) (tt, refl) (a .in-order .uses) (extend start ls) in
+        let formed = failing-formed (headerOf m) start (expanded m) (tt, refl) (expanded-fits m (a .in-order)) (extend start ls) in
         let same = bytes-are firstEdition start ls kind bytes (λ h. formed (failed kind ls h (s .of-kind))) q in
         subst (λ b. Delivered b (showing kind k (length ls)) output answer output′) (sym same)
         (subst (λ (z : List Letter). Delivered (packed firstEdition start kind z) (showing kind k (length z)) output answer output′) g
         (subst (λ i. Delivered (packed firstEdition start kind ls′) (showing kind i (length ls′)) output answer output′) f
         (subst (λ j. Delivered (packed firstEdition start j ls′) (showing j k′ (length ls′)) output answer output′) e d)))
       where
-        failed : (kind : Kind) (ls : List Letter) → kind ≡ failing → OfKind start (m .body) kind (extend start ls) → Failing start (m .body) (extend start ls)
+        failed : (kind : Kind) (ls : List Letter) → kind ≡ failing → OfKind start (expanded m) kind (extend start ls) → Failing start (expanded m) (extend start ls)
         failed breaking ls h o = absurd (let z : _≡_ {A = ℕ} 0 1 = cc in omega arith)
         failed failing ls h o = o .0
 
     -- what an answer that shows an event says
     pub shown-counted : (kind : Kind) (k l : ℕ) → answer ≡ showing kind k l
-        → (ls : List Letter) × Shows Feasible (begin (headerOf m)) (m .body) kind k ls × (length ls ≡ l)
+        → (ls : List Letter) × Shows Feasible (begin (headerOf m)) (expanded m) kind k ls × (length ls ≡ l)
     shown-counted kind k l e =
         let (kind′, k′, ls, s, d) = shown-event m (a .in-order) n output answer output′ (x .verdict m a)
         (λ f. showing-not-full kind k l (sym e ∙ f)) (subst (λ b. ¬ IsPass b) (sym e) (showing-not-pass kind k l)) in

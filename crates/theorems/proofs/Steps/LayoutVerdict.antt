@@ -7,7 +7,7 @@ use Rattle.letters.specs.Editions.{firstEdition}
 use Rattle.semantics.specs.Terms.{Trace, begin}
 use Rattle.semantics.specs.Models.{Feasible}
 use Rattle.macros.specs.Points.{sizeBlock, points}
-use Rattle.grammar.specs.Grammar.{Macro, headerOf}
+use Rattle.grammar.specs.Grammar.{Macro, headerOf, expanded}
 use Rattle.refusals.specs.Accepted.{Accepted}
 use Rattle.refusals.proofs.Theory.Accepted.{accepted-once, never-both}
 use Rattle.verdict_theory.specs.Verdict.{VerdictAnswer, breaking, failing, IsVerdict}
@@ -19,15 +19,15 @@ use Rattle.theorems.proofs.Steps.SamePoints.{failing-same, partial-same
 -- ---- two texts
 
 module _ (text text′ : List ℕ) (m m′ : Macro) (a : Accepted text m) (a′ : Accepted text′ m′) (same-header : headerOf m′ ≡ headerOf m)
-    (same-points : points (m′ .body) ≡ points (m .body)) (same-size : sizeBlock (m′ .body) ≡ sizeBlock (m .body)) where
+    (same-points : points (expanded m′) ≡ points (expanded m)) (same-size : sizeBlock (expanded m′) ≡ sizeBlock (expanded m)) where
   abbrev start : Trace
   start = begin (headerOf m)
 
   verdict-of : (table output : List ℕ) (answer : VerdictAnswer) (table′ output′ : List ℕ) → Demand3 Feasible text table output answer table′ output′
-      → IsVerdict Feasible (begin (headerOf m′)) (m′ .body) firstEdition (pairsIn firstEdition table) output answer output′
+      → IsVerdict Feasible (begin (headerOf m′)) (expanded m′) firstEdition (pairsIn firstEdition table) output answer output′
   verdict-of table output answer table′ output′ d =
-      subst (λ h. IsVerdict Feasible (begin h) (m′ .body) firstEdition (pairsIn firstEdition table) output answer output′) (sym same-header)
-      (verdict-same (begin (headerOf m)) (m .body) (m′ .body) same-points same-size Feasible firstEdition (pairsIn firstEdition table) output answer output′
+      subst (λ h. IsVerdict Feasible (begin h) (expanded m′) firstEdition (pairsIn firstEdition table) output answer output′) (sym same-header)
+      (verdict-same (begin (headerOf m)) (expanded m) (expanded m′) same-points same-size Feasible firstEdition (pairsIn firstEdition table) output answer output′
       (d .verdict m a))
 
   -- the second text is not refused, and its macro is m′ and no other
@@ -36,7 +36,7 @@ module _ (text text′ : List ℕ) (m m′ : Macro) (a : Accepted text m) (a′ 
   demand-same table output answer table′ output′ d = record {
     unread = λ n p r. absurd (never-both text′ a′ r);
     verdict = λ k c.
-        subst (λ z. IsVerdict Feasible (begin (headerOf z)) (z .body) (editionOf z) (pairsIn (editionOf z) table) output answer output′)
+        subst (λ z. IsVerdict Feasible (begin (headerOf z)) (expanded z) (editionOf z) (pairsIn (editionOf z) table) output answer output′)
         (accepted-once text′ a′ c) (verdict-of table output answer table′ output′ d);
     zeroed = λ k c. d .zeroed m a;
   }
@@ -44,16 +44,16 @@ module _ (text text′ : List ℕ) (m m′ : Macro) (a : Accepted text m) (a′ 
   told-same : (t : Printed) → Told m t → Told m′ t
   unfolding Told
   told-same (Printed.pass k) (c, few, coherent, infeasible) = rw same-header (
-    count-same start (m .body) (m′ .body) same-points same-size Feasible k c,
+    count-same start (expanded m) (expanded m′) same-points same-size Feasible k c,
     few,
-    λ ρ y. coherent ρ (partial-same start (m′ .body) (m .body) (sym same-points) (sym same-size) ρ y),
-    λ ρ y. infeasible ρ (failing-same start (m′ .body) (m .body) (sym same-points) (sym same-size) ρ y),
+    λ ρ y. coherent ρ (partial-same start (expanded m′) (expanded m) (sym same-points) (sym same-size) ρ y),
+    λ ρ y. infeasible ρ (failing-same start (expanded m′) (expanded m) (sym same-points) (sym same-size) ρ y),
   )
   told-same (Printed.incoherent k ls) (x, few) =
-      rw same-header (shows-same start (m .body) (m′ .body) same-points same-size Feasible breaking k ls x, few)
+      rw same-header (shows-same start (expanded m) (expanded m′) same-points same-size Feasible breaking k ls x, few)
   told-same (Printed.fail k ls t) (x, few, shown) =
-      rw same-header (shows-same start (m .body) (m′ .body) same-points same-size Feasible failing k ls x, few, shown)
-  told-same (Printed.refused n p) (u, v, x) = (u, v, rw same-header (passing-same start (m .body) (m′ .body) same-points same-size Feasible tablePairs x))
+      rw same-header (shows-same start (expanded m) (expanded m′) same-points same-size Feasible failing k ls x, few, shown)
+  told-same (Printed.refused n p) (u, v, x) = (u, v, rw same-header (passing-same start (expanded m) (expanded m′) same-points same-size Feasible tablePairs x))
 
   -- if the names are printed alike too
   said-same : declaredNames text′ m′ ≡ declaredNames text m → (lines : List ℕ) → Says text lines → Says text′ lines
@@ -68,7 +68,7 @@ module _ (text text′ : List ℕ) (m m′ : Macro) (a : Accepted text m) (a′ 
 -- ---- both ways
 
 module _ (text text′ : List ℕ) (m m′ : Macro) (a : Accepted text m) (a′ : Accepted text′ m′) (same-header : headerOf m′ ≡ headerOf m)
-    (same-points : points (m′ .body) ≡ points (m .body)) (same-size : sizeBlock (m′ .body) ≡ sizeBlock (m .body)) where
+    (same-points : points (expanded m′) ≡ points (expanded m)) (same-size : sizeBlock (expanded m′) ≡ sizeBlock (expanded m)) where
   pub demand-both : (table output : List ℕ) (answer : VerdictAnswer) (table′ output′ : List ℕ)
       → Demand3 Feasible text table output answer table′ output′ ↔ Demand3 Feasible text′ table output answer table′ output′
   demand-both table output answer table′ output′ = (

@@ -12,7 +12,7 @@ use Rattle.letters.specs.MacroRefusalNumbers.{tableTooSmall}
 use Rattle.semantics.specs.Terms.{Trace, begin, state, extend}
 use Rattle.semantics.specs.Models.{Feasible}
 use Rattle.semantics.specs.ShownTables.{tablesOf}
-use Rattle.grammar.specs.Grammar.{Macro, headerOf}
+use Rattle.grammar.specs.Grammar.{Macro, headerOf, expanded}
 use Rattle.refusals.proofs.Theory.Accepted.{Acceptance, Becomes, an-acceptance, accepted-once, refused-once, never-both}
 use Rattle.verdict_theory.specs.Verdict.{VerdictAnswer, pass, fail, incoherent, refused, IsPass, full, Kind, breaking, failing}
 use Rattle.verdict_theory.specs.Verdict.{Shows, IsVerdict}
@@ -28,14 +28,14 @@ use Rattle.macros.specs.Points.{sizeBlock}
 use Rattle.theorems.proofs.Steps.Events.{refused-or}
 
 -- an answer as it is printed, where the table holds 341 pairs
-module _ (m : Macro) (a : InOrder m) (points : sizeBlock (m .body) ≤ mostPoints) (output : List ℕ) (room : length output ≡ answerBytes) where
+module _ (m : Macro) (a : InOrder m) (points : sizeBlock (expanded m) ≤ mostPoints) (output : List ℕ) (room : length output ≡ answerBytes) where
   abbrev start : Trace
   start = begin (headerOf m)
 
   abbrev Right : VerdictAnswer → List ℕ → Type 0
-  Right answer output′ = IsVerdict Feasible start (m .body) firstEdition tablePairs output answer output′
+  Right answer output′ = IsVerdict Feasible start (expanded m) firstEdition tablePairs output answer output′
 
-  told-kind : (kind : Kind) (k : ℕ) (ls : List Letter) → Shows Feasible start (m .body) kind k ls → k ≤ tablePairs → (told : Printed) × Told m told
+  told-kind : (kind : Kind) (k : ℕ) (ls : List Letter) → Shows Feasible start (expanded m) kind k ls → k ≤ tablePairs → (told : Printed) × Told m told
   unfolding Told
   told-kind breaking k ls s l = (Printed.incoherent k ls, (s, l))
   told-kind failing k ls s l = (Printed.fail k ls (tablesOf (state (extend start ls))), (s, l, event-model m a k ls s))
@@ -74,7 +74,7 @@ lines-with text table output size room = let (r, k) = an-acceptance text in go r
     go (Acceptance.accepted m) r =
         let (answer, table′, output′, d) = answerable text table output in
         let pairs : pairsIn firstEdition table ≡ tablePairs = ap (capacityOf firstEdition) size in
-        let v = subst (λ n. IsVerdict Feasible (begin (headerOf m)) (m .body) firstEdition n output answer output′) pairs (d .verdict m r) in
+        let v = subst (λ n. IsVerdict Feasible (begin (headerOf m)) (expanded m) firstEdition n output answer output′) pairs (d .verdict m r) in
         let (t, x) = told m (r .in-order) (r .few) output room answer output′ v in (
           report (declaredNames text m) (headerOf m) t,
           record {

@@ -1,14 +1,16 @@
 -- A text and the same text in lower case are refused alike, or are read as the same macro but for the spellings of its names.
-use mathlib.Core.Path.{_≡_, sym, ap, subst, _∙_}
-use Prim.Native.Nat.{ℕ, _+_, _*_, _≤_}
+use mathlib.Core.Path.{_≡_, refl, sym, ap, subst, _∙_}
+use Prim.Native.Nat.{ℕ, _+_, _*_, _-_, _≤_, _<_}
 use native.Mathlib.Omega.{arith}
-use mathlib.Core.List.{List}
-use lib.ListN.{length, length-map}
+use mathlib.Core.List.{List, _++_}
+use lib.ListN.{length, getD, take, drop, length-map, length-drop, take-append-drop}
+use lib.Seq.{length-take-le, getD-take, getD-drop}
+use borrow.Author.Tests.{lt-ltb, le-ltb}
 use Rattle.tokens.specs.Bytes.{lowered, lowerCase}
-use Rattle.tokens.specs.Tokens.{tokenAt, placeOf}
+use Rattle.tokens.specs.Tokens.{tokenAt, placeOf, spellings}
 use Rattle.grammar.specs.Grammar.{Macro, sentence}
 use Rattle.grammar.specs.Limits.{longestText}
-use Rattle.grammar.specs.Spelled.{Spells, Spelled, InOrder, firstRegister, firstFunction, entryLength}
+use Rattle.grammar.specs.Spelled.{Spells, Spelled, InOrder, firstRegister, firstFunction, firstTest, entryLength, functionToken, spelledFunctions}
 use Rattle.refusals.specs.FirstNo.{FirstNo}
 use Rattle.refusals.specs.Order.{Refusal}
 use Rattle.refusals.specs.Accepted.{Accepted}
@@ -32,6 +34,26 @@ module _ (s : List ℕ) where
   spells-lower (Spells.more {at} {e = e} {ks = ks} h l p) =
       Spells.more (key-lower s at ∙ h) l (subst (λ n. Spells (lowerCase s) n ks e) (sym (end-lower s at)) (spells-lower p))
 
+  early : (n t k : ℕ) → k < t → firstFunction n + entryLength * k ≡ functionToken n t k
+  early n t k l = rw (lt-ltb k t l)
+
+  late : (n t k : ℕ) → firstTest n t + entryLength * k ≡ functionToken n t (t + k)
+  late n t k = rw (le-ltb (t + k) t (omega arith)) (ap (λ j. firstTest n t + entryLength * j) (let e : k ≡ t + k - t = omega arith in e))
+
+  -- the functions and the tests, each by the token that declares it
+  functions-lower : (n t : ℕ) (fs : List ℕ) → t ≤ length fs
+      → ((f : ℕ) → f < length fs → tokenAt s (placeOf s (functionToken n t f)) .key ≡ getD fs f 0) → spelledFunctions (lowerCase s) n t (length fs) ≡ fs
+  functions-lower n t fs l h =
+      let front = length-take-le t fs l in
+      let behind = length-drop t fs in
+      let functions = spellings-lower s (firstFunction n) entryLength (take t fs) λ k g.
+      ap (λ i. tokenAt s (placeOf s i) .key) (early n t k (omega arith)) ∙ h k (omega arith) ∙ sym (getD-take t fs k 0 (omega arith)) in
+      let tests = spellings-lower s (firstTest n t) entryLength (drop t fs) λ k g.
+      ap (λ i. tokenAt s (placeOf s i) .key) (late n t k) ∙ h (t + k) (omega arith) ∙ sym (getD-drop t fs k 0) in
+      (λ i. spellings (lowerCase s) (placeOf (lowerCase s) (firstFunction n)) entryLength (sym front i)
+      ++ spellings (lowerCase s) (placeOf (lowerCase s) (firstTest n t)) entryLength (sym behind i))
+      ∙ (λ i. functions i ++ tests i) ∙ take-append-drop t fs
+
   spelled-lower : (m : Macro) → InOrder m → Spelled s m → Spelled (lowerCase s) (inLowerCase m)
   unfolding sentence
   spelled-lower m O S = record {
@@ -40,7 +62,7 @@ module _ (s : List ℕ) where
     ended = key-lower s (S .place) ∙ S .ended;
     registerSpellings = sym (spellings-lower s firstRegister 1 (m .registers) λ r h.
         rw (let e : firstRegister + 1 * r ≡ firstRegister + r = omega arith in e) (register-declared s m S r h));
-    functionSpellings = sym (spellings-lower s (firstFunction (length (m .registers))) entryLength (m .functions) (function-declared s m S (O .arities)));
+    functionSpellings = sym (functions-lower (length (m .registers)) (m .firstTest) (m .functions) (O .tests) (function-declared s m S (O .arities)));
   }
 
   pub accepted-lower : {m : Macro} → Accepted s m → Accepted (lowerCase s) (inLowerCase m)

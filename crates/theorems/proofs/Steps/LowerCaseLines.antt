@@ -1,10 +1,10 @@
 -- The verdict on a text in lower case is that on the text, and its lines are those of the text in lower case.
 use mathlib.Core.Path.{_≡_, refl, sym, ap, subst, _∙_}
-use Prim.Native.Nat.{ℕ, _+_}
+use Prim.Native.Nat.{ℕ, zero, suc, _+_, _-_}
 use native.Mathlib.Omega.{arith}
 use mathlib.Core.List.{List, [], _∷_, _++_, map, map-append}
 use lib.Dec.{ltb}
-use lib.ListN.{length}
+use lib.ListN.{length, getD}
 use borrow.Author.Tests.{lt-leb}
 use Rattle.base.proofs.Theory.Choice.{byTest}
 use Rattle.base.specs.Masks.{has}
@@ -18,7 +18,8 @@ use Rattle.semantics.specs.Terms.{begin}
 use Rattle.tokens.specs.Bytes.{lowered, lowerCase}
 use Rattle.tokens.specs.Tokens.{tokenAt, bytesAt, placeOf}
 use Rattle.tokens.proofs.Theory.BytesLaws.{lower-slice}
-use Rattle.grammar.specs.Grammar.{Macro, headerOf}
+use Rattle.grammar.specs.Grammar.{Macro, headerOf, expanded}
+use Rattle.grammar.specs.Spelled.{functionToken}
 use Rattle.refusals.proofs.Theory.Accepted.{Acceptance, Becomes, an-acceptance}
 use Rattle.verdict_theory.specs.Verdict.{VerdictAnswer, IsVerdict}
 use Rattle.verdict_theory.specs.Demand3.{editionOf, pairsIn, Demand3}
@@ -26,7 +27,7 @@ use Rattle.text.specs.Numerals.{numeral}
 use Rattle.text.proofs.Theory.Numerals.{Digits, numeral-digits}
 use Rattle.report.specs.Lines.{Names, Printed, line, linesOf, startLines, rowLine, verdictLines, letterLine, letterLines, modelLines, report}
 use Rattle.report.specs.Lines as words
-use Rattle.verdict_lines.specs.Prints.{nameDeclared, registerToken, functionToken, declaredNames, Told, Says}
+use Rattle.verdict_lines.specs.Prints.{nameDeclared, registerToken, resultWord, truthWord, hiddenNames, declaredNames, Told, Says}
 use Rattle.verdict_lines.proofs.Theory.PrintsLaws.{one-told}
 use Rattle.theorems.specs.LowerCase.{inLowerCase}
 use Rattle.theorems.proofs.Steps.LowerCaseTokens.{start-lower, end-lower, behind-lower}
@@ -39,7 +40,7 @@ module _ (text table output : List ℕ) (answer : VerdictAnswer) (table′ outpu
   verdict-lower d = record {
     unread = λ n p r. d .unread n p (refusal-lifted text r);
     verdict = λ k b. let (m, a, e) = accepted-lifted text b in
-        subst (λ z. IsVerdict Feasible (begin (headerOf z)) (z .body) (editionOf z) (pairsIn (editionOf z) table) output answer output′) (sym e)
+        subst (λ z. IsVerdict Feasible (begin (headerOf z)) (expanded z) (editionOf z) (pairsIn (editionOf z) table) output answer output′) (sym e)
         (d .verdict m a);
     zeroed = λ k b. let (m, a, e) = accepted-lifted text b in d .zeroed m a;
   }
@@ -175,6 +176,20 @@ module _ (text : List ℕ) where
   told-lower m (Printed.fail k ls t) x = x
   told-lower m (Printed.refused n p) x = x
 
+  -- the words of the hidden registers are in lower case
+  hidden-lower : (m : Macro) (r : ℕ) → getD (hiddenNames m) r [] ≡ lowerCase (getD (hiddenNames m) r [])
+  hidden-lower m r = byTest (ltb (m .firstTest) (length (m .functions))) (λ t. rw t (words r)) λ t. rw t refl
+    where
+      words : (r : ℕ) → getD (resultWord ∷ truthWord ∷ []) r [] ≡ lowerCase (getD (resultWord ∷ truthWord ∷ []) r [])
+      words zero = refl
+      words (suc zero) = refl
+      words (suc (suc r)) = refl
+
+  register-lower : (m : Macro) (r : ℕ) → declaredNames (lowerCase text) (inLowerCase m) .register r ≡ lowerCase (declaredNames text m .register r)
+  register-lower m r =
+      byTest (ltb r (length (m .registers))) (λ t. rw t (rw t at (name-lower (length (m .registers)) registerToken r)))
+      λ t. rw t (hidden-lower m (r - length (m .registers)))
+
   pub said-lower : (a b : List ℕ) → Says text a → Says (lowerCase text) b → b ≡ lowerCase a
   said-lower a b x y = let (o, k) = an-acceptance text in go o k
     where
@@ -187,6 +202,6 @@ module _ (text : List ℕ) where
           let small = declaredNames (lowerCase text) (inLowerCase m) in
           u′
           ∙ ap (report small (headerOf m)) (one-told m (r .in-order) s′ s (told-lower m s′ t′) t)
-          ∙ report-lower names small (headerOf m) (name-lower (length (m .registers)) registerToken)
-          (name-lower (length (m .functions)) (functionToken (length (m .registers)))) s
+          ∙ report-lower names small (headerOf m) (register-lower m)
+          (name-lower (length (m .functions)) (functionToken (length (m .registers)) (m .firstTest))) s
           ∙ ap lowerCase (sym u)

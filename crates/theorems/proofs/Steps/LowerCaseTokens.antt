@@ -100,7 +100,7 @@ unfolding width
 width-lower [] = refl
 width-lower (b ∷ s) = λ i.
     pick (lower (lowered-twice b i)) (λ _. pick (leb (run-lower (b ∷ s) i) longestName) (λ _. run-lower (b ∷ s) i) λ _. 0)
-    λ _. pick (mark-kept b i) (λ _. pick (equal-sign i) (λ _. 2) λ _. 0)
+    λ _. pick (mark-kept b i) (λ _. pick (equal-sign i) (λ _. 2) λ _. pick (sign-kept 33 refl b i) (λ _. 1) λ _. 0)
     λ _. pick (symbol-kept b i) (λ _. 1) λ _. 0
   where
     equal-sign : eqb (getD (lowerCase s) 0 0) 61 ≡ eqb (getD s 0 0) 61

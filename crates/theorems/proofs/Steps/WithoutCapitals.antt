@@ -9,7 +9,7 @@ use lib.ListN.{length, getD, drop}
 use lib.Seq.{slice}
 use Rattle.base.specs.Choice.{pick}
 use Rattle.base.proofs.Theory.Choice.{byTest}
-use Rattle.tokens.specs.Bytes.{lower, capital, lowered, lowerCase, digit, symbol, mark, gap, nameLength, longestName, width}
+use Rattle.tokens.specs.Bytes.{lower, capital, lowered, lowerCase, digit, symbol, negation, mark, gap, nameLength, longestName, width}
 use Rattle.tokens.specs.Tokens.{tokenAt}
 use Rattle.tokens.proofs.Theory.BytesLaws.{lowered-at, lower-drop, lower-slice}
 use Rattle.grammar.specs.Grammar.{Macro}
@@ -50,7 +50,7 @@ original-width (b ∷ s) h =
     let e : lowered b ≡ b = cc in
     let n = original-run (b ∷ s) h in
     λ i. pick (lower (e i)) (λ _. pick (leb (n i) longestName) (λ _. n i) λ _. 0)
-    λ _. pick (mark b) (λ _. pick (eqb (getD s 0 0) 61) (λ _. 2) λ _. 0)
+    λ _. pick (mark b) (λ _. pick (eqb (getD s 0 0) 61) (λ _. 2) λ _. pick (negation b) (λ _. 1) λ _. 0)
     λ _. pick (symbol b) (λ _. 1) λ _. 0
 
 pub original-token : (s : List ℕ) → WithoutCapitals s → (at : ℕ) → tokenAt s at ≡ originalTokenAt s at

@@ -13,7 +13,7 @@ use borrow.Author.Tests.{eq-eqb, ne-eqb, le-leb, lt-leb, leb-true, eqb-true}
 use Rattle.base.specs.Choice.{pick}
 use Rattle.base.proofs.Theory.Choice.{byTest}
 use Rattle.base.specs.Bytes.{littleEndian}
-use Rattle.tokens.specs.Bytes.{blank, inner, capital, lowered, lowerCase, letter, symbol, mark, gap, nameLength, width, key}
+use Rattle.tokens.specs.Bytes.{blank, inner, capital, lowered, lowerCase, letter, symbol, negation, mark, gap, nameLength, width, key}
 
 module _ (s : List ℕ) (at : ℕ) where
   pub gap-out : (c : Bool) → length s ≤ at → gap c (drop at s) ≡ 0
@@ -166,13 +166,17 @@ key-slice s start end v e = e ∙ ap littleEndian (lower-slice start end s)
 
 -- ---- the width of a token
 
+-- no `=` follows the last byte
+pub last-unpaired : (s : List ℕ) (at : ℕ) → length s ≤ at + 1 → getD s (at + 1) 0 ≡ 61 → ⊥
+last-unpaired s at h e = omega (arith, List·getD-eq-default s 0 h)
+
 module _ (s : List ℕ) (at : ℕ) (h : at < length s) where
   second : getD (drop (suc at) s) 0 0 ≡ getD s (at + 1) 0
   second = let e : suc at + 0 ≡ at + 1 = omega arith in getD-drop (suc at) s 0 0 ∙ ap (λ n. getD s n 0) e
 
   width-law : width (drop at s) ≡
       pick (letter (getD s at 0)) (λ _. pick (leb (nameLength (drop at s)) 8) (λ _. nameLength (drop at s)) λ _. 0)
-      λ _. pick (mark (getD s at 0)) (λ _. pick (eqb (getD s (at + 1) 0) 61) (λ _. 2) λ _. 0)
+      λ _. pick (mark (getD s at 0)) (λ _. pick (eqb (getD s (at + 1) 0) 61) (λ _. 2) λ _. pick (negation (getD s at 0)) (λ _. 1) λ _. 0)
       λ _. pick (symbol (getD s at 0)) (λ _. 1) λ _. 0
   unfolding width
   width-law = rw (drop-cons s at 0 h, second)
@@ -188,11 +192,11 @@ module _ (s : List ℕ) (at : ℕ) (h : at < length s) where
       pub width-pair : m ≡ true → getD s (at + 1) 0 ≡ 61 → 2 ≡ width (drop at s)
       width-pair u g = rw (width-law, ← e, t, ← f, u, g)
 
-      pub width-half : m ≡ true → (getD s (at + 1) 0 ≡ 61 → ⊥) → 0 ≡ width (drop at s)
-      width-half u g = rw (width-law, ← e, t, ← f, u, ne-eqb _ _ g)
+      pub width-alone : (n : Bool) → m ≡ true → (getD s (at + 1) 0 ≡ 61 → ⊥) → n ≡ negation (getD s at 0) → n ≡ true → 1 ≡ width (drop at s)
+      width-alone n u g i v = rw (width-law, ← e, t, ← f, u, ne-eqb _ _ g, ← i, v)
 
-      pub width-last : m ≡ true → length s ≤ at + 1 → 0 ≡ width (drop at s)
-      width-last u g = rw (width-law, ← e, t, ← f, u, List·getD-eq-default s 0 g)
+      pub width-half : (n : Bool) → m ≡ true → (getD s (at + 1) 0 ≡ 61 → ⊥) → n ≡ negation (getD s at 0) → n ≡ false → 0 ≡ width (drop at s)
+      width-half n u g i v = rw (width-law, ← e, t, ← f, u, ne-eqb _ _ g, ← i, v)
 
       pub width-symbol : (y : Bool) → m ≡ false → y ≡ symbol (getD s at 0) → y ≡ true → 1 ≡ width (drop at s)
       width-symbol y u g v = rw (width-law, ← e, t, ← f, u, ← g, v)
@@ -212,7 +216,8 @@ width-le [] = (omega arith, omega arith)
 width-le (b ∷ s) =
     byTest (letter b) (λ t. rw t (byTest (leb (nameLength (b ∷ s)) 8) (λ u. rw u (omega (arith, run-le (b ∷ s)), leb-true _ _ u)) λ u. rw u
     (omega arith, omega arith)))
-    λ t. rw t (byTest (mark b) (λ u. rw u (byTest (eqb (getD s 0 0) 61) (λ v. rw v (pair s (eqb-true _ _ v))) λ v. rw v (omega arith, omega arith)))
+    λ t. rw t (byTest (mark b) (λ u. rw u (byTest (eqb (getD s 0 0) 61) (λ v. rw v (pair s (eqb-true _ _ v)))
+    λ v. rw v (byTest (negation b) (λ x. rw x (omega arith, omega arith)) λ x. rw x (omega arith, omega arith))))
     λ u. rw u (byTest (symbol b) (λ v. rw v (omega arith, omega arith)) λ v. rw v (omega arith, omega arith)))
   where
     pair : (r : List ℕ) → getD r 0 0 ≡ 61 → (2 ≤ suc (length r)) × (2 ≤ 8)

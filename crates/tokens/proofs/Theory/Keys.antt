@@ -12,7 +12,7 @@ use lib.Seq.{slice}
 use borrow.Author.Tests.{eqb-true, eq-eqb, ne-eqb, le-leb, lt-leb, leb-true}
 use Rattle.base.proofs.Theory.Choice.{byTest}
 use Rattle.base.specs.Bytes.{littleEndian}
-use Rattle.tokens.specs.Bytes.{capital, lowered, lowerCase, letter, inner, mark, symbol, gap, nameLength, width, key, spelling}
+use Rattle.tokens.specs.Bytes.{capital, lowered, lowerCase, letter, inner, negation, mark, symbol, gap, nameLength, width, key, spelling}
 use Rattle.tokens.specs.Tokens.{tokenAt, bytesAt}
 use Rattle.tokens.specs.Words.{sameName}
 
@@ -118,7 +118,8 @@ width-bytes [] = tt
 width-bytes (b ∷ s) = byTest (letter b)
     (λ t. rw t (byTest (leb (nameLength (b ∷ s)) 8) (λ u. rw u (run-bytes (b ∷ s) (nameLength (b ∷ s)) (omega arith))) (λ u. rw u tt)))
     λ t. rw t (byTest (mark b)
-    (λ u. rw u (byTest (eqb (getD s 0 0) 61) (λ v. rw v (pair s v (mark-byte b u))) (λ v. rw v tt)))
+    (λ u. rw u (byTest (eqb (getD s 0 0) 61) (λ v. rw v (pair s v (mark-byte b u)))
+    λ v. rw v (byTest (negation b) (λ x. rw x (let (p, q) = mark-byte b u in (p, q, tt))) (λ x. rw x tt))))
     λ u. rw u (byTest (symbol b) (λ v. rw v (let (p, q) = symbol-byte b v in (p, q, tt))) (λ v. rw v tt)))
   where
     pair : (s : List ℕ) → eqb (getD s 0 0) 61 ≡ true → (0 < b) × (b < 256) → TokenBytes (take 2 (b ∷ s))

@@ -26,7 +26,16 @@ returns-7 c = search (decide)
 returns-8 : tie.Need-returns-8
 returns-8 c = search (decide)
 
+returns-9 : tie.Need-returns-9
+returns-9 c = search (decide)
+
+returns-10 : tie.Need-returns-10
+returns-10 c = search (decide)
+
+returns-11 : tie.Need-returns-11
+returns-11 c = search (decide)
+
 pub is-keyword-spec : {M : Type 1} → statement M
 is-keyword-spec =
     tie.close
-    (tie.spec returns returns-2 returns-3 returns-4 returns-5 returns-6 returns-7 returns-8)
+    (tie.spec returns returns-2 returns-3 returns-4 returns-5 returns-6 returns-7 returns-8 returns-9 returns-10 returns-11)

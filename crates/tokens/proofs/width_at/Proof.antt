@@ -1,4 +1,5 @@
-use Rattle.tokens.proofs.Theory.BytesLaws.{width-name, width-long, width-pair, width-half, width-last, width-symbol, width-none}
+use mathlib.Core.Logic.{⊎-elim}
+use Rattle.tokens.proofs.Theory.BytesLaws.{width-name, width-long, width-pair, last-unpaired, width-alone, width-half, width-symbol, width-none}
 use borrow.Author.Needs.{needs}
 use Rattle.tokens.proofs.width_at.Statement.{statement}
 use Rattle.tokens.proofs.width_at.Tie as tie
@@ -51,24 +52,34 @@ returns-3 c =
     width-pair _ _ (at-pre .pre) _ (at-is-letter .is-letter .ensures) (at-if1 .if1 .left) _
     (at-is-mark .is-mark .ensures) (at-if3 .if3 .taken) (c .if5 .taken)
 
+is-negation-requires : tie.Need-is-negation-requires
+is-negation-requires c κs = search needs
+
 returns-4 : tie.Need-returns-4
 returns-4 c =
-    let at-if3 = c .before .before .before in
+    let at-joined = c .before .before in
+    let at-if3 = at-joined .before in
+    let at-is-mark = at-if3 .before in
+    let at-if1 = at-is-mark .before in
+    let at-is-letter = at-if1 .before in
+    let at-pre = at-is-letter .before .before .before in
+    width-alone _ _ (at-pre .pre) _ (at-is-letter .is-letter .ensures) (at-if1 .if1 .left) _
+    (at-is-mark .is-mark .ensures) _ (at-if3 .if3 .taken)
+    (⊎-elim (λ w. w .2 .left) (λ w. last-unpaired (at-pre .args .text .now) _ (w .left)) (at-joined .if4 .came))
+    (c .before .is-negation .ensures) (c .if6 .taken)
+
+returns-5 : tie.Need-returns-5
+returns-5 c =
+    let at-joined = c .before .before in
+    let at-if3 = at-joined .before in
     let at-is-mark = at-if3 .before in
     let at-if1 = at-is-mark .before in
     let at-is-letter = at-if1 .before in
     let at-pre = at-is-letter .before .before .before in
     width-half _ _ (at-pre .pre) _ (at-is-letter .is-letter .ensures) (at-if1 .if1 .left) _
-    (at-is-mark .is-mark .ensures) (at-if3 .if3 .taken) (c .if5 .left)
-
-returns-5 : tie.Need-returns-5
-returns-5 c =
-    let at-is-mark = c .before .before in
-    let at-if1 = at-is-mark .before in
-    let at-is-letter = at-if1 .before in
-    let at-pre = at-is-letter .before .before .before in
-    width-last _ _ (at-pre .pre) _ (at-is-letter .is-letter .ensures)
-    (at-if1 .if1 .left) _ (at-is-mark .is-mark .ensures) (c .before .if3 .taken) (c .if4 .left)
+    (at-is-mark .is-mark .ensures) _ (at-if3 .if3 .taken)
+    (⊎-elim (λ w. w .2 .left) (λ w. last-unpaired (at-pre .args .text .now) _ (w .left)) (at-joined .if4 .came))
+    (c .before .is-negation .ensures) (c .if6 .left)
 
 is-symbol-requires : tie.Need-is-symbol-requires
 is-symbol-requires c κs = search needs
@@ -81,7 +92,7 @@ returns-6 c =
     let at-is-letter = at-if1 .before in
     let at-pre = at-is-letter .before .before .before in
     width-symbol _ _ (at-pre .pre) _ (at-is-letter .is-letter .ensures) (at-if1 .if1 .left) _
-    (at-is-mark .is-mark .ensures) _ (at-if3 .if3 .left) (c .before .is-symbol .ensures) (c .if6 .taken)
+    (at-is-mark .is-mark .ensures) _ (at-if3 .if3 .left) (c .before .is-symbol .ensures) (c .if7 .taken)
 
 returns-7 : tie.Need-returns-7
 returns-7 c =
@@ -91,7 +102,7 @@ returns-7 c =
     let at-is-letter = at-if1 .before in
     let at-pre = at-is-letter .before .before .before in
     width-none _ _ (at-pre .pre) _ (at-is-letter .is-letter .ensures) (at-if1 .if1 .left) _
-    (at-is-mark .is-mark .ensures) _ (at-if3 .if3 .left) (c .before .is-symbol .ensures) (c .if6 .left)
+    (at-is-mark .is-mark .ensures) _ (at-if3 .if3 .left) (c .before .is-symbol .ensures) (c .if7 .left)
 
 pub width-at-spec : {M : Type 1} → statement M
 width-at-spec =
@@ -107,6 +118,7 @@ width-at-spec =
     add-if5
     shared-slice-read-if5
     returns-3
+    is-negation-requires
     returns-4
     returns-5
     is-symbol-requires

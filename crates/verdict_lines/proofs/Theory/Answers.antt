@@ -25,6 +25,7 @@ use Rattle.semantics.specs.ShownTables.{shownTables}
 use Rattle.semantics.specs.ShownTables.{tablesOf, shownValue}
 use Rattle.semantics.proofs.Theory.ShownPacked.{rows-length, starts-length, applications-fit, shown-packable}
 use Rattle.semantics.specs.TablesRead.{Packable}
+use Rattle.semantics.specs.PackedTables.{packTables}
 use Rattle.semantics.proofs.Theory.PackedTablesLaws.{packed-length}
 use Rattle.macros.proofs.Theory.Numbers.{less-or}
 use Rattle.macros.proofs.Theory.Fitting.{FormedUnder, partial-formed, run-formed}
@@ -34,8 +35,10 @@ use Rattle.macros.specs.Order.{Before}
 use Rattle.macros.proofs.Theory.Order.{before-not}
 use Rattle.macros.specs.Points.{sizeBlock}
 use Rattle.grammar.specs.Limits.{mostPoints}
-use Rattle.grammar.specs.Grammar.{Macro, headerOf}
+use Rattle.grammar.specs.Grammar.{Macro, headerOf, expanded}
 use Rattle.grammar.specs.Spelled.{InOrder}
+use Rattle.grammar.proofs.Theory.Expanded.{expanded-fits}
+use Rattle.grammar.proofs.Theory.Hidden.{registers-within}
 use Rattle.exploration.proofs.Theory.Given.{setting}
 use Rattle.search.proofs.Theory.TracedLaws.{formed-fit}
 use Rattle.verdict_theory.specs.Verdict.{VerdictAnswer, refused, full, unfit, IsPass, Kind, breaking, failing, showing, Delivered, OfKind, Leaves, SamePair}
@@ -70,11 +73,11 @@ module _ (m : Macro) (o : InOrder m) where
   start = begin (headerOf m)
 
   -- ── an execution that is shown ──
-  shown-formed : (kind : Kind) (ρ : Trace) → OfKind (begin (headerOf m)) (m .body) kind ρ → FormedUnder (headerOf m) ρ
-  shown-formed breaking ρ x = partial-formed (headerOf m) start (m .body) ρ (tt, refl) (o .uses) (x .0)
-  shown-formed failing ρ x = let (p, e) = failing-is start (m .body) ρ .0 (x .0) in run-formed (headerOf m) start (m .body) (tt, refl) (o .uses) p failure ρ e
+  shown-formed : (kind : Kind) (ρ : Trace) → OfKind (begin (headerOf m)) (expanded m) kind ρ → FormedUnder (headerOf m) ρ
+  shown-formed breaking ρ x = partial-formed (headerOf m) start (expanded m) ρ (tt, refl) (expanded-fits m o) (x .0)
+  shown-formed failing ρ x = let (p, e) = failing-is start (expanded m) ρ .0 (x .0) in run-formed (headerOf m) start (expanded m) (tt, refl) (expanded-fits m o) p failure ρ e
 
-  module _ (kind : Kind) (ls : List Letter) (x : OfKind (begin (headerOf m)) (m .body) kind (extend (begin (headerOf m)) ls)) where
+  module _ (kind : Kind) (ls : List Letter) (x : OfKind (begin (headerOf m)) (expanded m) kind (extend (begin (headerOf m)) ls)) where
     abbrev σ : State
     σ = state (extend start ls)
 
@@ -86,7 +89,7 @@ module _ (m : Macro) (o : InOrder m) where
 
     -- at most one computed term for each register and each letter
     terms-few : length (σ .terms) ≤ mostRegisters + length ls
-    terms-few = omega (arith, terms-length (extend start ls), ap (λ h. h .registers) (extend-header start ls), extend-size start ls, o .few)
+    terms-few = omega (arith, terms-length (extend start ls), ap (λ h. h .registers) (extend-header start ls), extend-size start ls, registers-within m o)
 
     pub rows-few : length (tablesOf (state (extend (begin (headerOf m)) ls)) .rows) ≤ mostRegisters + length ls
     unfolding tablesOf shownTables
@@ -94,7 +97,7 @@ module _ (m : Macro) (o : InOrder m) where
 
     starts-few : length (tablesOf σ .starts) ≤ mostRegisters
     unfolding tablesOf shownTables
-    starts-few = omega (arith, starts-length (shownValue σ) 0 (σ .header .registers), ap (λ h. h .registers) (extend-header start ls), o .few)
+    starts-few = omega (arith, starts-length (shownValue σ) 0 (σ .header .registers), ap (λ h. h .registers) (extend-header start ls), registers-within m o)
 
     -- the model of an execution of no more letters than a table has pairs fits the packed form
     pub packable : length ls ≤ mostPairs → Packable firstEdition (headerOf m) (tablesOf (state (extend (begin (headerOf m)) ls)))
@@ -112,15 +115,24 @@ module _ (m : Macro) (o : InOrder m) where
     packed-few : length ls ≤ tablePairs → (k : Kind) → length (packed firstEdition (begin (headerOf m)) k ls) ≤ answerBytes
     unfolding packed
     packed-few few breaking = omega (arith, trace-size, few)
-    packed-few few failing = simp length-append (omega (arith, trace-size, few, packed-length firstEdition (headerOf m) (tablesOf σ), rows-few, starts-few))
+    packed-few few failing =
+        omega (
+          arith,
+          length-append (packing firstEdition (headerOf m) ls) (packTables firstEdition (headerOf m) (tablesOf σ)),
+          trace-size,
+          few,
+          packed-length firstEdition (headerOf m) (tablesOf σ),
+          rows-few,
+          starts-few,
+        )
 
   -- the model that is shown of a failing execution
-  event-feasible : (ρ : Trace) → Event Feasible (begin (headerOf m)) (m .body) ρ → Coherent ρ → Feasible (state ρ)
+  event-feasible : (ρ : Trace) → Event Feasible (begin (headerOf m)) (expanded m) ρ → Coherent ρ → Feasible (state ρ)
   event-feasible ρ (fails x f) c = f
   event-feasible (begin h) (breaks x b) c = absurd b
   event-feasible (ρ ▸ a) (breaks x b) c = absurd (b .1 c)
 
-  pub event-model : (k : ℕ) (ls : List Letter) → Shows Feasible (begin (headerOf m)) (m .body) failing k ls
+  pub event-model : (k : ℕ) (ls : List Letter) → Shows Feasible (begin (headerOf m)) (expanded m) failing k ls
       → ShownModel (state (extend (begin (headerOf m)) ls)) (tablesOf (state (extend (begin (headerOf m)) ls)))
   event-model k ls s =
       shown-tables (extend start ls) (shown-formed failing (extend start ls) (s .of-kind) .0)
@@ -128,18 +140,18 @@ module _ (m : Macro) (o : InOrder m) where
 
   -- ── the answer ──
   -- a count that does not pass n is at most n
-  pub count-few {ℓ} : {Possible : State → Type ℓ} (n k : ℕ) → PairCount Possible (begin (headerOf m)) (m .body) k
-      → ¬ PairsPass Possible (begin (headerOf m)) (m .body) n → k ≤ n
+  pub count-few {ℓ} : {Possible : State → Type ℓ} (n k : ℕ) → PairCount Possible (begin (headerOf m)) (expanded m) k
+      → ¬ PairsPass Possible (begin (headerOf m)) (expanded m) n → k ≤ n
   count-few {Possible} n k c p = elim (less-or n k) [
-    | inl l ↦ absurd (p (more-is Before (Leaves start (m .body)) (SamePair start (m .body)) (EventAt Possible start (m .body)) before-not k n c .1 l))
+    | inl l ↦ absurd (p (more-is Before (Leaves start (expanded m)) (SamePair start (expanded m)) (EventAt Possible start (expanded m)) before-not k n c .1 l))
     | inr l ↦ l
   ]
 
   -- The event that an answer shows, with its computed bytes.
   pub shown-event : (n : ℕ) (output : List ℕ) (answer : VerdictAnswer) (output′ : List ℕ)
-      → IsVerdict Feasible (begin (headerOf m)) (m .body) firstEdition n output answer output′
+      → IsVerdict Feasible (begin (headerOf m)) (expanded m) firstEdition n output answer output′
       → answer ≢ full → ¬ IsPass answer
-      → (kind : Kind) × (k : ℕ) × (ls : List Letter) × Shows Feasible (begin (headerOf m)) (m .body) kind k ls
+      → (kind : Kind) × (k : ℕ) × (ls : List Letter) × Shows Feasible (begin (headerOf m)) (expanded m) kind k ls
       × Delivered (packed firstEdition (begin (headerOf m)) kind ls) (showing kind k (length ls)) output answer output′
   shown-event n output answer output′ v u w =
       let (kind, k, ls, bytes, s, q, d) = v .otherwise u w in
@@ -147,10 +159,10 @@ module _ (m : Macro) (o : InOrder m) where
       (kind, k, ls, s, subst (λ bs. Delivered bs (showing kind k (length ls)) output answer output′) e d)
 
   -- An answer for a table of n pairs that is neither full nor pass.
-  module _ (points : sizeBlock (m .body) ≤ mostPoints) (n : ℕ) (output : List ℕ) (answer : VerdictAnswer) (output′ : List ℕ)
-      (v : IsVerdict Feasible (begin (headerOf m)) (m .body) firstEdition n output answer output′) (u : answer ≢ full) (w : ¬ IsPass answer) where
+  module _ (points : sizeBlock (expanded m) ≤ mostPoints) (n : ℕ) (output : List ℕ) (answer : VerdictAnswer) (output′ : List ℕ)
+      (v : IsVerdict Feasible (begin (headerOf m)) (expanded m) firstEdition n output answer output′) (u : answer ≢ full) (w : ¬ IsPass answer) where
     -- the event that the search finds: no more letters than pairs, and no more pairs than the table holds
-    found : (kind : Kind) × (k : ℕ) × (ls : List Letter) × OfKind (begin (headerOf m)) (m .body) kind (extend (begin (headerOf m)) ls) × (length ls ≤ k)
+    found : (kind : Kind) × (k : ℕ) × (ls : List Letter) × OfKind (begin (headerOf m)) (expanded m) kind (extend (begin (headerOf m)) ls) × (length ls ≤ k)
         × (k ≤ n)
         × Delivered (packed firstEdition (begin (headerOf m)) kind ls) (showing kind k (length ls)) output answer output′
     found =
@@ -181,14 +193,14 @@ module _ (m : Macro) (o : InOrder m) where
     pub kind : Kind
     pub pairs : ℕ
     pub letters : List Letter
-    pub shows : Shows Feasible (begin (headerOf m)) (m .body) kind pairs letters
+    pub shows : Shows Feasible (begin (headerOf m)) (expanded m) kind pairs letters
     pub pairs-few : pairs ≤ tablePairs
     pub letters-few : length letters ≤ tablePairs
     pub told : answer ≡ showing kind pairs (length letters)
     pub bytes : output′ ≡ packed firstEdition (begin (headerOf m)) kind letters ++ drop (length (packed firstEdition (begin (headerOf m)) kind letters)) output
 
-  pub event-shown : sizeBlock (m .body) ≤ mostPoints → (output : List ℕ) → length output ≡ answerBytes → (answer : VerdictAnswer) (output′ : List ℕ)
-      → IsVerdict Feasible (begin (headerOf m)) (m .body) firstEdition tablePairs output answer output′
+  pub event-shown : sizeBlock (expanded m) ≤ mostPoints → (output : List ℕ) → length output ≡ answerBytes → (answer : VerdictAnswer) (output′ : List ℕ)
+      → IsVerdict Feasible (begin (headerOf m)) (expanded m) firstEdition tablePairs output answer output′
       → answer ≢ full → ¬ IsPass answer → EventShown output answer output′
   event-shown points output room answer output′ v u w =
       let (kind, k, ls, s, d) = shown-event tablePairs output answer output′ v u w in

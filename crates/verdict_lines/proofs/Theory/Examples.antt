@@ -7,14 +7,16 @@ use Rattle.base.specs.Recursion.{withinCalls, fixed}
 use Rattle.semantics.specs.Terms.{Trace, begin, state}
 use Rattle.semantics.specs.Models.{Feasible}
 use Rattle.semantics.specs.Coherence.{Coherent}
-use Rattle.macros.specs.Tree.{skip, empty, _then_}
+use Rattle.macros.specs.WrittenOut.{statementBefore, writtenOut}
 use Rattle.macros.specs.Executions.{Outcome, done, failed, ExecBlock, Partial, Failing, Begins, Exec, whole}
 use Rattle.macros.specs.Order.{Path, root}
 use Rattle.macros.specs.Points.{sizeStatement, sizeBlock}
 use Rattle.tokens.specs.Bytes.{gap, width}
 use Rattle.tokens.specs.Bytes
 use Rattle.tokens.specs.Tokens.{tokenAt, spellings}
-use Rattle.grammar.specs.Grammar.{Macro, headerOf}
+use Rattle.grammar.specs.Tree.{skip, empty, _then_}
+use Rattle.grammar.specs.Expanded.{expandedStatement}
+use Rattle.grammar.specs.Grammar.{Macro, headerOf, expanded}
 use Rattle.grammar.specs.Reading.{got, indexOf, block, statement, registerNames}
 use Rattle.grammar.proofs.Theory.Reading.{readText, readMacro}
 use Rattle.grammar.specs.Reading
@@ -33,10 +35,19 @@ abbrev still-text : List ℕ
 still-text = 118 ∷ 97 ∷ 114 ∷ 115 ∷ 32 ∷ 120 ∷ 59 ∷ 115 ∷ 107 ∷ 105 ∷ 112 ∷ 59 ∷ []
 
 abbrev still : Macro
-still = record { registers = 120 ∷ []; registerSpellings = 120 ∷ []; functions = []; functionSpellings = []; arities = []; body = skip then empty }
+still = record {
+  registers = 120 ∷ [];
+  registerSpellings = 120 ∷ [];
+  functions = [];
+  functionSpellings = [];
+  arities = [];
+  firstTest = 0;
+  body = skip then empty;
+}
 
 still-read : readMacro still-text ≡ got still 12
 unfolding readMacro readText tokenAt gap width Bytes.nameLength spellings registerNames block statement indexOf sizeBlock sizeStatement
+    expandedStatement
 still-read = refl
 
 still-accepted : Accepted still-text still
@@ -47,11 +58,11 @@ still-accepted = read-accepted still-text still 12 still-read
 abbrev still-lines : List ℕ
 still-lines = (118 ∷ 101 ∷ 114 ∷ 100 ∷ 105 ∷ 99 ∷ 116 ∷ 32 ∷ 112 ∷ 97 ∷ 115 ∷ 115 ∷ 10 ∷ []) ++ (112 ∷ 97 ∷ 105 ∷ 114 ∷ 115 ∷ 32 ∷ 48 ∷ 10 ∷ [])
 
-no-pairs : {p : Path} → Leaves (begin (headerOf still)) (still .body) p → ⊥
-unfolding sizeStatement
+no-pairs : {p : Path} → Leaves (begin (headerOf still)) (expanded still) p → ⊥
+unfolding sizeStatement expandedStatement
 no-pairs x = let l = x .due in omega arith
 
-none-counted : PairCount Feasible (begin (headerOf still)) (still .body) 0
+none-counted : PairCount Feasible (begin (headerOf still)) (expanded still) 0
 none-counted = (
   λ i. root,
   record {
@@ -62,16 +73,17 @@ none-counted = (
   },
 )
 
-only-start : {ρ π : Trace} {o : Outcome} → ExecBlock (still .body) ρ π o → (π ≡ ρ) × (o ≡ done)
+only-start : {ρ π : Trace} {o : Outcome} → ExecBlock (writtenOut (expanded still)) ρ π o → (π ≡ ρ) × (o ≡ done)
+unfolding statementBefore expandedStatement
 only-start (ExecBlock.both Exec.nothing ExecBlock.stop) = (refl, refl)
 
 nothing-before : {ρ : Trace} → Begins ρ (begin (headerOf still)) → ρ ≡ begin (headerOf still)
 nothing-before whole = refl
 
-coherent : (ρ : Trace) → Partial (begin (headerOf still)) (still .body) ρ → Coherent ρ
+coherent : (ρ : Trace) → Partial (begin (headerOf still)) (expanded still) ρ → Coherent ρ
 coherent ρ x = subst Coherent (sym (nothing-before (subst (Begins ρ) (only-start (x .runs) .0) (x .begins)))) tt
 
-never-fails : (ρ : Trace) → Failing (begin (headerOf still)) (still .body) ρ → ¬ Feasible (state ρ)
+never-fails : (ρ : Trace) → Failing (begin (headerOf still)) (expanded still) ρ → ¬ Feasible (state ρ)
 never-fails ρ x f = let e : failed ≡ done = only-start x .1 in let z : _≡_ {A = ℕ} 0 1 = cc in omega arith
 
 still-told : Told still (Printed.pass 0)

@@ -21,8 +21,9 @@ use Rattle.semantics.proofs.Theory.ShownUnique.{tables-unique}
 use Rattle.macros.specs.Executions.{Partial, Failing}
 use Rattle.macros.specs.Order.{Before}
 use Rattle.macros.proofs.Theory.Order.{before-not}
-use Rattle.grammar.specs.Grammar.{Macro, headerOf}
+use Rattle.grammar.specs.Grammar.{Macro, headerOf, expanded}
 use Rattle.grammar.specs.Spelled.{InOrder}
+use Rattle.grammar.proofs.Theory.Expanded.{expanded-fits}
 use Rattle.refusals.proofs.Theory.Accepted.{Acceptance, Becomes, an-acceptance}
 use Rattle.refusals.proofs.Theory.Accepted as acceptance
 use Rattle.verdict_theory.proofs.Theory.Counting.{one-count, more-is}
@@ -41,31 +42,31 @@ module _ (m : Macro) (o : InOrder m) where
   abbrev start : Trace
   start = begin (headerOf m)
 
-  counted-once : (k l : ℕ) → PairCount Feasible start (m .body) k → PairCount Feasible start (m .body) l → k ≡ l
-  counted-once = one-count Before (Leaves start (m .body)) (SamePair start (m .body)) (EventAt Feasible start (m .body)) before-not
+  counted-once : (k l : ℕ) → PairCount Feasible start (expanded m) k → PairCount Feasible start (expanded m) l → k ≡ l
+  counted-once = one-count Before (Leaves start (expanded m)) (SamePair start (expanded m)) (EventAt Feasible start (expanded m)) before-not
 
   -- the count does not pass N where it is known to be at most N
-  not-full : (k : ℕ) → PairCount Feasible start (m .body) k → k ≤ tablePairs → ¬ PairsPass Feasible start (m .body) tablePairs
-  not-full k c l p = let z = more-is Before (Leaves start (m .body)) (SamePair start (m .body))
-      (EventAt Feasible start (m .body)) before-not k tablePairs c .0 p in omega arith
+  not-full : (k : ℕ) → PairCount Feasible start (expanded m) k → k ≤ tablePairs → ¬ PairsPass Feasible start (expanded m) tablePairs
+  not-full k c l p = let z = more-is Before (Leaves start (expanded m)) (SamePair start (expanded m))
+      (EventAt Feasible start (expanded m)) before-not k tablePairs c .0 p in omega arith
 
   -- a macro with an event does not pass
-  not-pass : (ρ : Trace) → Event Feasible start (m .body) ρ → ((ρ : Trace) → Partial start (m .body) ρ → Coherent ρ)
-      → ((ρ : Trace) → Failing start (m .body) ρ → ¬ Feasible (state ρ)) → ⊥
+  not-pass : (ρ : Trace) → Event Feasible start (expanded m) ρ → ((ρ : Trace) → Partial start (expanded m) ρ → Coherent ρ)
+      → ((ρ : Trace) → Failing start (expanded m) ρ → ¬ Feasible (state ρ)) → ⊥
   not-pass ρ (breaks x b) c s = breaks-not ρ b (c ρ x)
   not-pass ρ (fails x f) c s = s ρ x f
 
-  one-execution : (i j : Kind) (k l : ℕ) (ks ls : List Letter) → Shows Feasible start (m .body) i k ks → Shows Feasible start (m .body) j l ls → ks ≡ ls
+  one-execution : (i j : Kind) (k l : ℕ) (ks ls : List Letter) → Shows Feasible start (expanded m) i k ks → Shows Feasible start (expanded m) j l ls → ks ≡ ls
   one-execution i j k l ks ls x y =
-      since-once start ks ls (one-event Feasible start (m .body) (extend start ks) (extend start ls) (x .first-event) (y .first-event))
+      since-once start ks ls (one-event Feasible start (expanded m) (extend start ks) (extend start ls) (x .first-event) (y .first-event))
 
-  not-both : (k l : ℕ) (ks ls : List Letter) → Shows Feasible start (m .body) breaking k ks → Shows Feasible start (m .body) failing l ls → ⊥
+  not-both : (k l : ℕ) (ks ls : List Letter) → Shows Feasible start (expanded m) breaking k ks → Shows Feasible start (expanded m) failing l ls → ⊥
   not-both k l ks ls x y =
       breaks-not (extend start ls) (subst (λ w. Breaks (extend start w)) (one-execution breaking failing k l ks ls x y) (x .of-kind .1)) (y .of-kind .1)
 
-  one-model : (ls : List Letter) (t : Tables) → Failing start (m .body) (extend start ls) → ShownModel (state (extend start ls)) t
+  one-model : (ls : List Letter) (t : Tables) → Failing start (expanded m) (extend start ls) → ShownModel (state (extend start ls)) t
       → t ≡ tablesOf (state (extend start ls))
-  one-model ls t x y = tables-unique (extend start ls) (failing-formed (headerOf m) start (m .body) (tt, refl) (o .uses) (extend start ls) x) t (y .tables)
+  one-model ls t x y = tables-unique (extend start ls) (failing-formed (headerOf m) start (expanded m) (tt, refl) (expanded-fits m o) (extend start ls) x) t (y .tables)
 
   pub one-told : (s t : Printed) → Told m s → Told m t → s ≡ t
   unfolding Told

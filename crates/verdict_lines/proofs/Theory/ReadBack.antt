@@ -21,7 +21,7 @@ use Rattle.semantics.specs.Tables.{Tables}
 use Rattle.semantics.specs.PackedTables.{packTables}
 use Rattle.semantics.specs.TablesRead.{readTables}
 use Rattle.semantics.specs.ShownTables.{tablesOf}
-use Rattle.grammar.specs.Grammar.{Macro, headerOf}
+use Rattle.grammar.specs.Grammar.{Macro, headerOf, expanded}
 use Rattle.refusals.specs.Accepted.{Accepted}
 use Rattle.refusals.proofs.Theory.Accepted.{Acceptance, Becomes, an-acceptance}
 use Rattle.verdict_theory.specs.Verdict.{Kind, breaking, failing, showing, fail, incoherent, Delivered, Shows, IsVerdict}
@@ -59,10 +59,10 @@ module _ (text table output : List ℕ) where
     bytesOf j ls = packed firstEdition (begin (headerOf m)) j ls
 
     abbrev ShownWith : Kind → ℕ → List Letter → Type 0
-    ShownWith j k ls = Shows Feasible (begin (headerOf m)) (m .body) j k ls
+    ShownWith j k ls = Shows Feasible (begin (headerOf m)) (expanded m) j k ls
 
     abbrev Judged : Type 0
-    Judged = IsVerdict Feasible (begin (headerOf m)) (m .body) firstEdition (pairsIn firstEdition table) output (showing kind pairs letters) output′
+    Judged = IsVerdict Feasible (begin (headerOf m)) (expanded m) firstEdition (pairsIn firstEdition table) output (showing kind pairs letters) output′
 
     -- the first event, and where it stands in the output
     record ShownEvent : Type 0 where
@@ -123,7 +123,7 @@ module _ (text table output : List ℕ) where
         execution = ls;
         shows = t .shows;
         count = t .count;
-        shortest = λ π y. let z = shown-shortest Feasible (begin (headerOf m)) (m .body) kind pairs ls (t .shows) π y in let c = t .count in omega arith;
+        shortest = λ π y. let z = shown-shortest Feasible (begin (headerOf m)) (expanded m) kind pairs ls (t .shows) π y in let c = t .count in omega arith;
         trace-back = ap (λ o. reading firstEdition (take (modelStart letters) o)) stands
             ∙ ap (reading firstEdition) (take-at (front m ls) (behind m ls kind (t .rest)) (modelStart letters) long)
             ∙ reading-packing firstEdition first-roomy (headerOf m) ls (header-fits m (a .in-order)) (letters-fit m (a .in-order) kind ls (t .shows .of-kind));

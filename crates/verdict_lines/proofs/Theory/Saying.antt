@@ -19,7 +19,8 @@ use Rattle.semantics.specs.ShownTables.{tablesOf}
 use Rattle.macros.proofs.Theory.Numbers.{three}
 use Rattle.macros.specs.Points.{sizeBlock}
 use Rattle.grammar.specs.Limits.{mostPoints}
-use Rattle.grammar.specs.Grammar.{Macro, headerOf}
+use Rattle.grammar.specs.Grammar.{Macro, headerOf, expanded, shownRegisters}
+use Rattle.grammar.proofs.Theory.Hidden.{registers-within}
 use Rattle.grammar.specs.Spelled.{InOrder}
 use Rattle.refusals.specs.Order.{Refusal}
 use Rattle.refusals.specs.Accepted.{Accepted}
@@ -64,11 +65,11 @@ name-at (x ∷ l) n (suc r) = name-at l n r
 
 -- The names as the reader's struct holds them.
 abbrev heldNames : Macro → Names
-heldNames m = namesOf (m .registerSpellings) (m .functionSpellings)
+heldNames m = namesOf (shownRegisters m) (m .functionSpellings)
 
-names-held : (m : Macro) → namesOf (padded mostRegisters (m .registerSpellings)) (padded mostFunctions (m .functionSpellings)) ≡ heldNames m
+names-held : (m : Macro) → namesOf (padded mostRegisters (shownRegisters m)) (padded mostFunctions (m .functionSpellings)) ≡ heldNames m
 names-held m = λ i. record {
-  register = λ r. nameText (name-at (m .registerSpellings) (mostRegisters - length (m .registerSpellings)) r i);
+  register = λ r. nameText (name-at (shownRegisters m) (mostRegisters - length (shownRegisters m)) r i);
   function = λ f. nameText (name-at (m .functionSpellings) (mostFunctions - length (m .functionSpellings)) f i);
 }
 
@@ -76,7 +77,7 @@ names-held m = λ i. record {
 record Right (m : Macro) (v : search.Verdict) (s : List ℕ) : Type 0 where
   told : Printed
   is-told : Told m told
-  lines : reportOf (m .registerSpellings) (m .functionSpellings) (headerOf m) (reported v) s ≡ report (heldNames m) (headerOf m) told
+  lines : reportOf (shownRegisters m) (m .functionSpellings) (headerOf m) (reported v) s ≡ report (heldNames m) (headerOf m) told
   letters : letterNumber (reported v) ≤ tablePairs
   rows : rowNumber (reported v) s ≤ mostRows
 
@@ -91,9 +92,9 @@ full-or n p = go (same-or n tableTooSmall) (same-or p 0)
     go (inl e) (inr f) = inr (λ g. f (cc))
     go (inr e) f = inr (λ g. e (cc))
 
-module _ (m : Macro) (o : InOrder m) (points : sizeBlock (m .body) ≤ mostPoints) (output : List ℕ) (room : length output ≡ answerBytes) (output′ : List ℕ) where
+module _ (m : Macro) (o : InOrder m) (points : sizeBlock (expanded m) ≤ mostPoints) (output : List ℕ) (room : length output ≡ answerBytes) (output′ : List ℕ) where
   abbrev Judged : search.Verdict → Type 0
-  Judged v = IsVerdict Feasible (begin (headerOf m)) (m .body) firstEdition tablePairs output (answerOf v) output′
+  Judged v = IsVerdict Feasible (begin (headerOf m)) (expanded m) firstEdition tablePairs output (answerOf v) output′
 
   -- the event is packed in front of the output
   abbrev Front : Kind → List Letter → Type 0
@@ -104,15 +105,15 @@ module _ (m : Macro) (o : InOrder m) (points : sizeBlock (m .body) ≤ mostPoint
     same = omega arith
 
     -- what is told of an event that is shown
-    incoherent-right : Shows Feasible (begin (headerOf m)) (m .body) breaking pairs ls → pairs ≤ tablePairs
+    incoherent-right : Shows Feasible (begin (headerOf m)) (expanded m) breaking pairs ls → pairs ≤ tablePairs
         → Front breaking ls → Right m (Incoherent k l) output′
     unfolding Told reported packed
     incoherent-right s c b = record {
       told = printed.incoherent pairs ls;
       is-told = (s, c);
-      lines = (λ i. reportOf (m .registerSpellings) (m .functionSpellings) (headerOf m) (report.Incoherent (e i) (same i)) (b i))
+      lines = (λ i. reportOf (shownRegisters m) (m .functionSpellings) (headerOf m) (report.Incoherent (e i) (same i)) (b i))
           ∙ incoherent-report (headerOf m) ls (header-fits m o) (letters-fit m o breaking ls (s .of-kind)) rest
-          (m .registerSpellings) (m .functionSpellings) pairs;
+          (shownRegisters m) (m .functionSpellings) pairs;
       letters = omega arith;
       rows = omega arith;
     }
@@ -120,15 +121,15 @@ module _ (m : Macro) (o : InOrder m) (points : sizeBlock (m .body) ≤ mostPoint
         rest : List ℕ
         rest = drop (length (packing firstEdition (headerOf m) ls)) output
 
-    fail-right : Shows Feasible (begin (headerOf m)) (m .body) failing pairs ls → pairs ≤ tablePairs
+    fail-right : Shows Feasible (begin (headerOf m)) (expanded m) failing pairs ls → pairs ≤ tablePairs
         → Front failing ls → Right m (Fail k l) output′
     unfolding Told reported packed
     fail-right s c b = record {
       told = printed.fail pairs ls tables;
       is-told = (s, c, event-model m o pairs ls s);
-      lines = (λ i. reportOf (m .registerSpellings) (m .functionSpellings) (headerOf m) (report.Fail (e i) (same i)) (stands i))
+      lines = (λ i. reportOf (shownRegisters m) (m .functionSpellings) (headerOf m) (report.Fail (e i) (same i)) (stands i))
           ∙ fail-report (headerOf m) ls tables rest (header-fits m o) (letters-fit m o failing ls (s .of-kind)) fits
-          (m .registerSpellings) (m .functionSpellings) pairs;
+          (shownRegisters m) (m .functionSpellings) pairs;
       letters = omega arith;
       rows = let z = counted in let y = rows-few m o failing ls (s .of-kind) in omega arith;
     }
@@ -152,7 +153,7 @@ module _ (m : Macro) (o : InOrder m) (points : sizeBlock (m .body) ≤ mostPoint
         counted = (λ i. rowNumber (report.Fail (e i) (same i)) (stands i))
             ∙ packed-rows (headerOf m) ls tables rest (header-fits m o) (letters-fit m o failing ls (s .of-kind)) fits
 
-  shown-right : (v : search.Verdict) (kind : Kind) (pairs : ℕ) (ls : List Letter) → Shows Feasible (begin (headerOf m)) (m .body) kind pairs ls
+  shown-right : (v : search.Verdict) (kind : Kind) (pairs : ℕ) (ls : List Letter) → Shows Feasible (begin (headerOf m)) (expanded m) kind pairs ls
       → pairs ≤ tablePairs → length ls ≤ tablePairs
       → answerOf v ≡ showing kind pairs (length ls) → Front kind ls → Right m v output′
   shown-right (Incoherent k l) breaking pairs ls s c few e b = incoherent-right k l pairs ls few (cc) (cc) s c b
@@ -203,7 +204,7 @@ module _ (m : Macro) (o : InOrder m) (points : sizeBlock (m .body) ≤ mostPoint
 -- ── a text, and what the reader answers ──
 module _ (text : List ℕ) (read : syntax.MacroRead) (reads : Reads text read) where
   report-is : (m : Macro) (v : search.Verdict) (s : List ℕ) → Accepted text m
-      → reportFor (read .program) v s ≡ reportOf (m .registerSpellings) (m .functionSpellings) (headerOf m) (reported v) s
+      → reportFor (read .program) v s ≡ reportOf (shownRegisters m) (m .functionSpellings) (headerOf m) (reported v) s
   unfolding reportFor reportOf heldMacro
   report-is m v s a =
       ap (λ (p : held.CompiledMacro). reportOf (p .registers) (p .functions) (p .header) (reported v) s) (reads .accepts m a .2)
@@ -211,7 +212,7 @@ module _ (text : List ℕ) (read : syntax.MacroRead) (reads : Reads text read) w
 
   held-registers : (m : Macro) → Accepted text m → read .program .header .registers ≤ mostRegisters
   unfolding heldMacro
-  held-registers m a = let z = ap (λ (p : held.CompiledMacro). p .header .registers) (reads .accepts m a .2) in let l = a .in-order .few in omega arith
+  held-registers m a = let z = ap (λ (p : held.CompiledMacro). p .header .registers) (reads .accepts m a .2) in let l = registers-within m (a .in-order) in omega arith
 
   -- What a report needs to be short.
   abbrev Brief : search.Verdict → List ℕ → Type 0
@@ -248,7 +249,7 @@ module _ (text table output : List ℕ) (size : length table ≡ tableBytes) (ro
   judged : (m : Macro) → Accepted text m → Right m v output′
   judged m a =
       right m (a .in-order) (a .few) output room output′ v
-      (subst (λ n. IsVerdict Feasible (begin (headerOf m)) (m .body) firstEdition n output (answerOf v) output′) pairs (demand .verdict m a))
+      (subst (λ n. IsVerdict Feasible (begin (headerOf m)) (expanded m) firstEdition n output (answerOf v) output′) pairs (demand .verdict m a))
 
   module _ (read : syntax.MacroRead) (reads : Reads text read) where
     says : Says text (reportFor (read .program) v output′)

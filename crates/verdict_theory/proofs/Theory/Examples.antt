@@ -21,15 +21,18 @@ use Rattle.semantics.specs.Models.{Model, eval, Feasible}
 use Rattle.semantics.specs.AnyModel.{AnyModel, evalIn, FeasibleInSomeModel}
 use Rattle.semantics.specs.Coherence.{Coherent}
 use Rattle.macros.specs.Tree.{equal, unequal, skip, perform, assert, while, Block, empty, _then_}
+use Rattle.macros.specs.WrittenOut.{statementBefore, writtenOut}
 use Rattle.macros.specs.Executions.{Outcome, done, failed, ExecBlock, Partial, Failing, Begins, Exec, whole}
 use Rattle.macros.specs.Order.{Path, root}
 use Rattle.macros.specs.Points.{sizeStatement, sizeBlock}
 use Rattle.tokens.specs.Bytes.{gap, width}
 use Rattle.tokens.specs.Bytes
 use Rattle.tokens.specs.Tokens.{tokenAt, spellings}
-use Rattle.grammar.specs.Reading.{got, indexOf, condition, endedCondition, block, statement, registerNames}
+use Rattle.grammar.specs.Reading.{got, indexOf, comparison, condition, endedCondition, block, statement, registerNames}
 use Rattle.grammar.proofs.Theory.Reading.{readText, readMacro}
 use Rattle.grammar.specs.Reading
+use Rattle.grammar.specs.Tree as written
+use Rattle.grammar.specs.Expanded.{expandedStatement}
 use Rattle.grammar.specs.Grammar.{Macro}
 use Rattle.refusals.specs.Order.{Refusal}
 use Rattle.refusals.proofs.Theory.Order.{refused-refusal}
@@ -49,7 +52,8 @@ module _ (h : Header) (edition : Edition) (n : ℕ) (output : List ℕ) where
   unfolding sizeStatement
   no-pairs x = let l = x .due in omega arith
 
-  only-start : {ρ π : Trace} {o : Outcome} → ExecBlock still ρ π o → (π ≡ ρ) × (o ≡ done)
+  only-start : {ρ π : Trace} {o : Outcome} → ExecBlock (writtenOut still) ρ π o → (π ≡ ρ) × (o ≡ done)
+  unfolding statementBefore
   only-start (ExecBlock.both Exec.nothing ExecBlock.stop) = (refl, refl)
 
   nothing-before : {ρ : Trace} → Begins ρ (begin h) → ρ ≡ begin h
@@ -139,6 +143,7 @@ module _ (h : Header) (edition : Edition) (n : ℕ) (output : List ℕ) where
   -- pass is wrong where the failure is possible
   passes-not {ℓ} : (Possible : State → Type ℓ) → Possible (state failure) → (k : ℕ) (output′ : List ℕ)
       → ¬ IsVerdict Possible (begin h) claim edition n output (pass k) output′
+  unfolding statementBefore
   passes-not Possible f k output′ x =
       let u : pass k ≢ full = λ e. let z : _≡_ {A = ℕ} 0 1 = cc in omega arith in
       x .pass-exactly u .0 tt .1 failure (ExecBlock.ends (Exec.fails refl)) f
@@ -166,10 +171,12 @@ module _ (edition : Edition) (n : ℕ) (output : List ℕ) where
   twice = begin six ▸ Copy 1 0 ▸ Copy 2 0 ▸ Unequal 4 5 ▸ Copy 2 1 ▸ Copy 1 3 ▸ Apply 4 0 4 4 ▸ Unequal 4 5 ▸ Copy 2 1 ▸ Copy 1 3 ▸ Apply 4 0 4 4 ▸ Equal 4 5 ▸
       Unequal 2 0
 
-  turned : (ρ : Trace) → ExecBlock turn ρ (ρ ▸ Copy 2 1 ▸ Copy 1 3 ▸ Apply 4 0 4 4) done
+  turned : (ρ : Trace) → ExecBlock (writtenOut turn) ρ (ρ ▸ Copy 2 1 ▸ Copy 1 3 ▸ Apply 4 0 4 4) done
+  unfolding statementBefore
   turned ρ = ExecBlock.both Exec.letter (ExecBlock.both Exec.letter (ExecBlock.both Exec.letter ExecBlock.stop))
 
   twice-fails : Failing (begin six) later twice
+  unfolding statementBefore
   twice-fails = ExecBlock.both Exec.letter
       (ExecBlock.both Exec.letter (ExecBlock.both (Exec.turns (turned _) (Exec.turns (turned _) (Exec.leaves refl))) (ExecBlock.ends (Exec.fails refl))))
 
@@ -216,10 +223,18 @@ abbrev still-text : List ℕ
 still-text = 118 ∷ 97 ∷ 114 ∷ 115 ∷ 32 ∷ 120 ∷ 59 ∷ 115 ∷ 107 ∷ 105 ∷ 112 ∷ 59 ∷ []
 
 abbrev still-macro : Macro
-still-macro = record { registers = 120 ∷ []; registerSpellings = 120 ∷ []; functions = []; functionSpellings = []; arities = []; body = skip then empty }
+still-macro = record {
+  registers = 120 ∷ [];
+  registerSpellings = 120 ∷ [];
+  functions = [];
+  functionSpellings = [];
+  arities = [];
+  firstTest = 0;
+  body = written._then_ written.skip written.empty;
+}
 
 still-read : readMacro still-text ≡ got still-macro 12
-unfolding readMacro readText tokenAt gap width Bytes.nameLength spellings registerNames block statement indexOf sizeBlock sizeStatement
+unfolding readMacro readText tokenAt gap width Bytes.nameLength spellings registerNames block statement indexOf sizeBlock sizeStatement expandedStatement
 still-read = refl
 
 still-accepted : Accepted still-text still-macro
@@ -236,11 +251,13 @@ claim-macro = record {
   functions = [];
   functionSpellings = [];
   arities = [];
-  body = assert (equal 0 1) then empty;
+  firstTest = 0;
+  body = written._then_ (written.assert (written.equal 0 1)) written.empty;
 }
 
 claim-read : readMacro claim-text ≡ got claim-macro 20
-unfolding readMacro readText tokenAt gap width Bytes.nameLength spellings registerNames block statement endedCondition condition indexOf sizeBlock sizeStatement
+unfolding readMacro readText tokenAt gap width Bytes.nameLength spellings registerNames block statement endedCondition condition comparison
+    indexOf sizeBlock sizeStatement expandedStatement
 claim-read = refl
 
 pub claim-accepted : Accepted claim-text claim-macro
@@ -256,6 +273,7 @@ nothing-refused = refused-refusal [] 9 0 nothing-read
 module _ (table output : List ℕ) where
   -- pass, the table zeroed, the output as it was
   still-met {ℓ} : (Possible : State → Type ℓ) → Demand3 Possible still-text table output (pass 0) (replicate (length table) 0) output
+  unfolding expandedStatement
   still-met Possible =
       read-way Possible still-text table output still-macro still-accepted (pass 0) output
       (still-passes _ firstEdition (pairsIn firstEdition table) output Possible)
@@ -266,6 +284,7 @@ module _ (table output : List ℕ) where
 
   -- pass is wrong, whatever the table and the output hold afterwards
   claim-not-met : (k : ℕ) (table′ output′ : List ℕ) → ¬ Demand3 Feasible claim-text table output (pass k) table′ output′
+  unfolding expandedStatement
   claim-not-met k table′ output′ x = claim-fails _ firstEdition (pairsIn firstEdition table) output k output′ (x .verdict claim-macro claim-accepted)
 
   claim-not-met-anywhere {ℓ} : (k : ℕ) (table′ output′ : List ℕ) → ¬ Demand3 (FeasibleInSomeModel {ℓ}) claim-text table output (pass k) table′ output′

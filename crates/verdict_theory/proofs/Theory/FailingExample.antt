@@ -28,12 +28,14 @@ use Rattle.semantics.specs.ShownTables.{tablesOf}
 use Rattle.semantics.specs.ShownTables.{shownTables, startsFrom, rowsOf, applications, classesOf, classValue}
 use Rattle.semantics.specs.Firsts.{firstsAfter, firstPlace}
 use Rattle.macros.specs.Tree.{equal, assert, Block, empty, _then_}
+use Rattle.macros.specs.WrittenOut.{statementBefore, writtenOut}
 use Rattle.macros.specs.Executions.{Outcome, ExecBlock, Partial, Failing, Begins, Exec, whole, before}
 use Rattle.macros.specs.Order.{Path, root, _▹_, first, second, Before}
 use Rattle.macros.proofs.Theory.Order.{before-not}
 use Rattle.macros.specs.Walk.{at, failure, stand}
 use Rattle.macros.specs.Points.{sizeStatement, entry, compile, run}
 use Rattle.macros.proofs.Theory.Runs.{partial-is, run-once, run-steps}
+use Rattle.grammar.specs.Expanded.{expandedStatement}
 use Rattle.verdict_theory.specs.Count.{Counted}
 use Rattle.verdict_theory.specs.Verdict.{VerdictAnswer, fail, full, IsPass, Kind, breaking, failing, showing, AnswerBytes, Delivered, Shows, IsVerdict}
 use Rattle.verdict_theory.specs.Verdict.{Breaks, Event, EventAt, Leaves, SamePair, PairCount, PairsPass}
@@ -59,11 +61,13 @@ abbrev holds-so : Trace
 holds-so = begin two ▸ Equal 0 1
 
 -- ── its executions ──
-pub executions : {π : Trace} {o : Outcome} → ExecBlock claim start π o → (π ≡ fails-so) ⊎ (π ≡ holds-so)
+pub executions : {π : Trace} {o : Outcome} → ExecBlock (writtenOut claim) start π o → (π ≡ fails-so) ⊎ (π ≡ holds-so)
+unfolding statementBefore
 executions (ExecBlock.both (Exec.holds e) ExecBlock.stop) = inr (ap (λ a. begin two ▸ a) e)
 executions (ExecBlock.ends (Exec.fails e)) = inl (ap (λ a. begin two ▸ a) e)
 
 pub failing-so : {ρ : Trace} → Failing start claim ρ → ρ ≡ fails-so
+unfolding statementBefore
 failing-so (ExecBlock.ends (Exec.fails e)) = ap (λ a. begin two ▸ a) e
 
 one-letter : {ρ : Trace} {a : Letter} → Begins ρ (begin two ▸ a) → (ρ ≡ begin two ▸ a) ⊎ (ρ ≡ begin two)
@@ -153,6 +157,7 @@ module _ {ℓ} (Possible : State → Type ℓ) where
     -- The one answer: fail, with one pair and one letter; or 6, where it does not fit. So 14, pass, incoherent and every other count are wrong.
     pub claim-only : (answer : VerdictAnswer) (output′ : List ℕ) → IsVerdict Possible start claim edition n output answer output′
         → Delivered (packed edition start failing (Unequal 0 1 ∷ [])) (fail 1 1) output answer output′
+    unfolding statementBefore
     claim-only answer output′ x = told (x .otherwise not-full not-pass)
       where
         not-full : answer ≢ full
@@ -197,7 +202,7 @@ possible = feasible-is (state fails-so) (state-valid fails-so (tt, (omega arith,
 pub claim-text-only : (table output : List ℕ) → 192 ≤ length table → 12 ≤ length output → (answer : VerdictAnswer) (table′ output′ : List ℕ)
     → Demand3 Feasible claim-text table output answer table′ output′
     → (answer ≡ fail 1 1) × (table′ ≡ replicate (length table) 0) × (output′ ≡ 32 ∷ 0 ∷ 192 ∷ 8 ∷ 0 ∷ 3 ∷ 0 ∷ 0 ∷ 0 ∷ 1 ∷ 0 ∷ 2 ∷ drop 12 output)
-unfolding capacityOf
+unfolding capacityOf expandedStatement
 claim-text-only table output wide long answer table′ output′ x =
     told (claim-only Feasible possible firstEdition (pairsIn firstEdition table) (omega arith) output answer output′ (x .verdict claim-macro claim-accepted))
   where

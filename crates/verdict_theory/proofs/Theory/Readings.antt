@@ -20,7 +20,8 @@ use Rattle.macros.proofs.Theory.Order.{AtOrBefore, before-join}
 use Rattle.macros.specs.Walk.{failure}
 use Rattle.macros.proofs.Theory.Runs.{failing-is}
 use Rattle.macros.proofs.Theory.Fitting.{FormedUnder, run-formed}
-use Rattle.grammar.specs.Grammar.{Macro, headerOf}
+use Rattle.grammar.specs.Grammar.{Macro, headerOf, expanded}
+use Rattle.grammar.proofs.Theory.Expanded.{expanded-fits}
 use Rattle.refusals.specs.Accepted.{Accepted}
 use Rattle.verdict_theory.proofs.Theory.Counting.{same-lists, same-more}
 use Rattle.verdict_theory.specs.Verdict.{VerdictAnswer, pass, full, Kind, Event, breaks, fails, FirstEvent, EventAt, Leaves, SamePair, PairCount}
@@ -113,10 +114,10 @@ module _ {ℓ} (h : Header) (start : Trace) (m : Block) (formed : FormedUnder h 
 -- Demand 3: a macro that is accepted is proper.
 module _ {ℓ} (text table output : List ℕ) (answer : VerdictAnswer) (table′ output′ : List ℕ) where
   accepted-anywhere : (m : Macro) → Accepted text m
-      → IsVerdict Feasible (begin (headerOf m)) (m .body) firstEdition (pairsIn firstEdition table) output answer output′
-      ↔ IsVerdict (FeasibleInSomeModel {ℓ}) (begin (headerOf m)) (m .body) firstEdition (pairsIn firstEdition table) output answer output′
+      → IsVerdict Feasible (begin (headerOf m)) (expanded m) firstEdition (pairsIn firstEdition table) output answer output′
+      ↔ IsVerdict (FeasibleInSomeModel {ℓ}) (begin (headerOf m)) (expanded m) firstEdition (pairsIn firstEdition table) output answer output′
   accepted-anywhere m a =
-      verdict-anywhere {ℓ} (headerOf m) (begin (headerOf m)) (m .body) (tt, refl) (a .in-order .uses)
+      verdict-anywhere {ℓ} (headerOf m) (begin (headerOf m)) (expanded m) (tt, refl) (expanded-fits m (a .in-order))
       firstEdition (pairsIn firstEdition table) output answer output′
 
   pub anywhere : Demand3 Feasible text table output answer table′ output′ ↔ Demand3 (FeasibleInSomeModel {ℓ}) text table output answer table′ output′
@@ -127,7 +128,7 @@ module _ {ℓ} (text table output : List ℕ) (answer : VerdictAnswer) (table′
 
 -- Where pass is answered, no data model whatever reaches a false assertion.
 pub passes-anywhere {ℓ} : (text table output : List ℕ) (k : ℕ) (table′ output′ : List ℕ) → Demand3 Feasible text table output (pass k) table′ output′
-    → (m : Macro) → Accepted text m → (ρ : Trace) → Failing (begin (headerOf m)) (m .body) ρ
+    → (m : Macro) → Accepted text m → (ρ : Trace) → Failing (begin (headerOf m)) (expanded m) ρ
     → (M : AnyModel {ℓ}) → ¬ SatisfiesIn M (state ρ .equals) (state ρ .unequals)
 passes-anywhere text table output k table′ output′ x m a ρ y M h =
     let u : pass k ≢ full = λ e. let z : _≡_ {A = ℕ} 0 1 = cc in omega arith in

@@ -5,7 +5,8 @@ use Prim.Native.Nat.{ℕ}
 use lib.ListN.{length, replicate}
 use Rattle.letters.specs.Editions.{firstEdition}
 use Rattle.semantics.specs.Terms.{State, begin}
-use Rattle.grammar.specs.Grammar.{Macro, headerOf}
+use Rattle.grammar.specs.Grammar.{Macro, headerOf, expanded}
+use Rattle.grammar.proofs.Theory.Expanded.{expanded-fits}
 use Rattle.refusals.specs.Order.{Refusal}
 use Rattle.refusals.specs.Accepted.{Accepted}
 use Rattle.refusals.proofs.Theory.Accepted.{Acceptance, Becomes, an-acceptance, accepted-once, refused-once, never-both}
@@ -29,8 +30,8 @@ module _ {ℓ} (Possible : State → Type ℓ) (text table output : List ℕ) wh
           let (i′, j′, k′) = y .unread n q r in
           (i ∙ sym i′, j ∙ sym j′, k ∙ sym k′)
       go (Acceptance.accepted m) r =
-          let (i, k) = one-answer Possible (begin (headerOf m)) (m .body) firstEdition
-          (failing-formed (headerOf m) (begin (headerOf m)) (m .body) (tt, refl) (r .in-order .uses)) (pairsIn firstEdition table) output a b o p
+          let (i, k) = one-answer Possible (begin (headerOf m)) (expanded m) firstEdition
+          (failing-formed (headerOf m) (begin (headerOf m)) (expanded m) (tt, refl) (expanded-fits m (r .in-order))) (pairsIn firstEdition table) output a b o p
           (x .verdict m r) (y .verdict m r) in
           (i, x .zeroed m r ∙ sym (y .zeroed m r), k)
 
@@ -44,18 +45,18 @@ module _ {ℓ} (Possible : State → Type ℓ) (text table output : List ℕ) wh
 
   -- A text that is accepted as a macro, with a verdict on it.
   pub read-way : (m : Macro) → Accepted text m → (a : VerdictAnswer) (o : List ℕ)
-      → IsVerdict Possible (begin (headerOf m)) (m .body) firstEdition (pairsIn firstEdition table) output a o
+      → IsVerdict Possible (begin (headerOf m)) (expanded m) firstEdition (pairsIn firstEdition table) output a o
       → Demand3 Possible text table output a (replicate (length table) 0) o
   read-way m r a o w = record {
     unread = λ k l s. absurd (never-both text r s);
     verdict = λ k s.
-        subst (λ z. IsVerdict Possible (begin (headerOf z)) (z .body) firstEdition (pairsIn firstEdition table) output a o) (accepted-once text r s) w;
+        subst (λ z. IsVerdict Possible (begin (headerOf z)) (expanded z) firstEdition (pairsIn firstEdition table) output a o) (accepted-once text r s) w;
     zeroed = λ k s. refl;
   }
 
   -- There is one, if there is a verdict on the macro where one is accepted.
   pub a-way : ((m : Macro) → Accepted text m
-      → (a : VerdictAnswer) × (o : List ℕ) × IsVerdict Possible (begin (headerOf m)) (m .body) firstEdition (pairsIn firstEdition table) output a o)
+      → (a : VerdictAnswer) × (o : List ℕ) × IsVerdict Possible (begin (headerOf m)) (expanded m) firstEdition (pairsIn firstEdition table) output a o)
       → (a : VerdictAnswer) × (table′ : List ℕ) × (output′ : List ℕ) × Demand3 Possible text table output a table′ output′
   a-way v = let (r, k) = an-acceptance text in go r k
     where

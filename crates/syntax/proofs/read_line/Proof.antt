@@ -1,23 +1,26 @@
 use mathlib.Core.Path.{refl, sym, _∙_}
 use Prim.Native.Nat.{_-_}
 use native.Mathlib.Omega.{arith}
+use lib.ListN.{take}
+use Rattle.grammar.specs.Reading.{lineFrom}
 use Rattle.syntax.proofs.Theory.Lists as law
 use borrow.Author.Needs.{needs}
-use Rattle.syntax.proofs.read_functions.Statement.{statement}
-use Rattle.syntax.proofs.read_functions.Tie as tie
+use Rattle.syntax.proofs.read_line.Statement.{statement}
+use Rattle.syntax.proofs.read_line.Tie as tie
 
 abbrev Inv-loop : tie.InvT-loop
-Inv-loop text regs from names₀ arities₀ count₀ at₀ names arities count at = law.FunctionsSoFar text regs from names arities count at
+Inv-loop text regs first from names₀ arities₀ count₀ at₀ names arities count at =
+    law.FunctionsSoFar text regs first (lineFrom text regs (take first names₀) (take first arities₀) from) names arities count at
 
 abbrev μ-loop : tie.MeasureT-loop
-μ-loop text regs from names₀ arities₀ count₀ at₀ names arities count at = 4 - count
+μ-loop text regs first from names₀ arities₀ count₀ at₀ names arities count at = 4 - count
 
 -- in a turn: a name stands behind what is read so far, and may be taken; if it is not, its arity is read
 named : (c : tie.After-is-function-taken Inv-loop μ-loop) → let at-next = c .before .before .before in
     let at-loop = at-next .before in
     let a = at-loop .before .before .before .args in
     let l = at-loop .loop in
-    law.NameOfFunction (a .text .now) (a .regs .now) (a .from) (l .names) (l .arities) (l .count) (at-next .next .result) (c .is-function-taken .result)
+    law.NameOfFunction (a .text .now) (a .regs .now) (a .first) (lineFrom (a .text .now) (a .regs .now) (take (a .first) (a .known)) (take (a .first) (a .taking)) (a .from)) (l .names) (l .arities) (l .count) (at-next .next .result) (c .is-function-taken .result)
 named c =
     let at-is-name = c .before .before in
     let at-next = at-is-name .before in
@@ -33,7 +36,7 @@ new : (c : tie.After-arity Inv-loop μ-loop) → law.NewFunction (named (c .befo
 new c = record { not-taken = c .before .if2 .left; arity = c .arity .ensures }
 
 loop-holds : tie.Need-loop-holds Inv-loop μ-loop
-loop-holds c = record { names-padded = law.kept-four; arities-padded = law.kept-four; left = refl }
+loop-holds c = law.line-begins _ _ _ _ _ _ (c .before .before .pre .1) (c .before .before .pre .2)
 
 next-requires : tie.Need-next-requires Inv-loop μ-loop
 next-requires c κs = search needs
@@ -42,7 +45,7 @@ is-name-requires : tie.Need-is-name-requires Inv-loop μ-loop
 is-name-requires c κs = search needs
 
 is-function-taken-requires : tie.Need-is-function-taken-requires Inv-loop μ-loop
-is-function-taken-requires c κs = let at-loop = c .before .before .before in (at-loop .before .before .before .pre, at-loop .loop .inv .names-padded)
+is-function-taken-requires c κs = let at-loop = c .before .before .before in (at-loop .before .before .before .pre .0, at-loop .loop .inv .names-padded)
 
 no-functions-requires : tie.Need-no-functions-requires Inv-loop μ-loop
 no-functions-requires c κs = search needs
@@ -84,7 +87,7 @@ loop-again : tie.Need-loop-again Inv-loop μ-loop
 loop-again c = law.functions-turn (new (c .before .before .before)) (c .before .g .given .1)
 
 functions-end-requires : tie.Need-functions-end-requires Inv-loop μ-loop
-functions-end-requires c κs = let so-far = c .before .before .before .loop .inv in (so-far .names-padded, so-far .arities-padded)
+functions-end-requires c κs = let so-far = c .before .before .before .loop .inv in (so-far .names-padded, so-far .arities-padded, so-far .begun)
 
 returns-3 : tie.Need-returns-3 Inv-loop μ-loop
 returns-3 c =
@@ -92,8 +95,8 @@ returns-3 c =
     law.functions-last (at-is-name .before .before .loop .inv) (at-is-name .before .next .ensures) (at-is-name .is-name .ensures) (c .before .if1 .left)
     (c .functions-end .ensures)
 
-pub read-functions-spec : {M : Type 1} → statement M
-read-functions-spec =
+pub read-line-spec : {M : Type 1} → statement M
+read-line-spec =
     tie.close (tie.spec
     Inv-loop
     μ-loop
