@@ -194,8 +194,11 @@ void fadzgime_model(const uint8_t *trace, size_t trace_length,
 /*
  * Reads a macro: docs/SPEC.md, 8. Names and words are equal whatever the case of their
  * letters.
- * answer[0] refusal (7 to 13), [1] place, [2] registers, [3] functions,
- * [4] points.
+ * answer[0] refusal (7 to 13, 16), [1] place, [2] registers, [3] functions,
+ * [4] points. These are the counts of the header and of the points as they are
+ * performed: with a line of tests the two hidden registers `result` and `truth` are
+ * counted, tests are counted with the functions, and a statement that asks a test is two
+ * points.
  */
 void fadzgime_read(const uint8_t *text, size_t text_length,
                    uint64_t *answer, size_t answer_length);
@@ -205,7 +208,7 @@ void fadzgime_read(const uint8_t *text, size_t text_length,
  * declared and words in lower case. One blank stands between two words or names (`1` and
  * `2` are words here), none elsewhere, and an LF after each `;`, `{` and `}`. Comments
  * are dropped, and so is an else without statements.
- * answer[0] refusal (7 to 13, as fadzgime_read gives them, then 15), [1] place,
+ * answer[0] refusal (7 to 13 and 16, as fadzgime_read gives them, then 15), [1] place,
  * [2] bytes of the print written to `out`, with no zero byte at their end; the bytes
  * behind stay. 15, at place 0: the print is longer than `out`, or than
  * FADZGIME_LAYOUT_OUTPUT bytes even if `out` is longer; a print that just fits is
@@ -238,20 +241,22 @@ void fadzgime_layout(const uint8_t *text, size_t text_length,
 /*
  * The verdict on a macro: can an assertion fail, in some data model, in some
  * execution?
- * answer[0] refusal (7 to 13, 14, 6), [1] place, [2] verdict (FADZGIME_PASS, _FAIL or
+ * answer[0] refusal (7 to 13, 16, 14, 6), [1] place, [2] verdict (FADZGIME_PASS, _FAIL or
  * _INCOHERENT), [3] pairs, [4] letters of the execution that shows it (0 on pass).
  *
  * `table` is room for the search, FADZGIME_PAIR_BYTES a pair, at most
  * FADZGIME_MOST_PAIRS of them; more bytes are not needed, fewer may give 14. What it
  * holds before does not matter. After a search, whatever it finds, every byte of it is
- * zero; a refusal 7 to 13 leaves it untouched.
+ * zero; a refusal 7 to 13 or 16 leaves it untouched.
  *
  * `out` gets the execution as a packed trace of 2 + 2 * answer[4] bytes, and on fail
  * its packed model after it, of 4 + 2 * registers + 5 * rows bytes; the bytes behind
  * stay. Pass and a refusal leave it untouched. 6: `out` is too short for the answer,
  * which one of FADZGIME_VERDICT_OUTPUT bytes never is. The execution has at most as
  * many letters as answer[3] says pairs, so with a table of N pairs 22 + 7 * N bytes are
- * enough. An execution of more than N letters comes behind more than N pairs: that is
+ * enough. Of a macro with tests the trace has the header that fadzgime_read counts: the
+ * hidden registers behind the declared ones, tests behind the functions, and two letters
+ * for each test that was asked. An execution of more than N letters comes behind more than N pairs: that is
  * 14, not 6.
  */
 void fadzgime_verdict(const uint8_t *text, size_t text_length,

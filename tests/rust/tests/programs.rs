@@ -80,15 +80,15 @@ fn outcome(lines: &str) -> String {
 #[test]
 fn verdict() {
     let mut spread = Spread::default();
-    for text in (0..3_000).map(some_macro) {
+    for text in (0..5_000).map(some_macro) {
         spread.add(&outcome(&print_verdict(&text)), &text);
     }
     println!("verdict: {spread:?}");
     let verdicts = ["verdict pass", "verdict fail", "verdict incoherent"];
     assert!(verdicts.iter().all(|word| spread.is_often(word, 100)), "{spread:?}");
-    let often = |number: u8| spread.is_often(&format!("refused {number}"), 12);
+    let often = |number: u8| spread.is_often(&format!("refused {number}"), 20);
     assert!((7..=13).chain([16]).all(often), "{spread:?}");
-    check("verdict", (0..3_000).map(some_macro), print_verdict);
+    check("verdict", (0..5_000).map(some_macro), print_verdict);
 }
 
 /// Texts with capitals, macros that test what is already equal and tests with names, against the lines that were
