@@ -60,7 +60,8 @@ room-for-hidden-registers text m accepted l = (
 
 -- "With that line the hidden registers follow the declared ones, `result` first, and tests follow the functions." Without it there are none.
 pub hidden-registers-follow : (m : Macro) → m .firstTest < length (m .functions)
-    → (getD (shownRegisters m) (length (m .registerSpellings)) 0 ≡ word.resultKey) × (getD (shownRegisters m) (suc (length (m .registerSpellings))) 0 ≡ word.truthKey)
+    → (getD (shownRegisters m) (length (m .registerSpellings)) 0 ≡ word.resultKey)
+    × (getD (shownRegisters m) (suc (length (m .registerSpellings))) 0 ≡ word.truthKey)
 hidden-registers-follow m l = hidden-named (m .registerSpellings) (m .firstTest) (length (m .functions)) l
 
 pub without-tests-none-are-hidden : (m : Macro) → m .firstTest ≡ length (m .functions) → headerOf m .registers ≡ length (m .registers)
@@ -99,8 +100,8 @@ module _ (n f y z : ℕ) where
   -- A while applies before each of its tests: written out it is the application and a loop whose body ends with the application.
   pub while-applies-before-each-test : (b : Block)
       → writtenOut (expandedStatement n (while (holds f y z) b))
-      ≡ plain._then_ (plain.perform applied) (plain._then_ (plain.while held (blockBefore (expandedBlock n b) (plain._then_ (plain.perform applied) plain.empty)))
-      plain.empty)
+      ≡ plain._then_ (plain.perform applied)
+      (plain._then_ (plain.while held (blockBefore (expandedBlock n b) (plain._then_ (plain.perform applied) plain.empty))) plain.empty)
   unfolding expandedStatement statementBefore
   while-applies-before-each-test b = refl
 

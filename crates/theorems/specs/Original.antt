@@ -1,6 +1,6 @@
 -- The reading of a text without request 1. A name has no capital letters, and a token is known by its bytes as they stand; blanks, digits, signs and the
--- length of a name are as now, with the later requests (SPEC 8.1, 8.2). What is refused and what is read is said of any tokens, as `Refusal` and `Accepted` say it of
--- those of a text.
+-- length of a name are as now, with the later requests (SPEC 8.1, 8.2). What is refused and what is read is said of any tokens, as `Refusal` and `Accepted`
+-- say it of those of a text.
 use mathlib.Core.Path.{_≡_}
 use Prim.Native.Nat.{ℕ, zero, suc, _+_, _≤_, _<_}
 use mathlib.Core.Bool.{Bool, _||_}

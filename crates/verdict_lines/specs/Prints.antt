@@ -69,7 +69,8 @@ declaredNames text m = record {
 unfoldable pub Told : Macro → Printed → Type 0
 Told m (Printed.pass k) =
     PairCount Feasible (begin (headerOf m)) (expanded m) k × (k ≤ tablePairs)
-    × ((ρ : Trace) → Partial (begin (headerOf m)) (expanded m) ρ → Coherent ρ) × ((ρ : Trace) → Failing (begin (headerOf m)) (expanded m) ρ → ¬ Feasible (state ρ))
+    × ((ρ : Trace) → Partial (begin (headerOf m)) (expanded m) ρ → Coherent ρ)
+    × ((ρ : Trace) → Failing (begin (headerOf m)) (expanded m) ρ → ¬ Feasible (state ρ))
 Told m (Printed.incoherent k ls) = Shows Feasible (begin (headerOf m)) (expanded m) breaking k ls × (k ≤ tablePairs)
 Told m (Printed.fail k ls tables) =
     Shows Feasible (begin (headerOf m)) (expanded m) failing k ls × (k ≤ tablePairs) × ShownModel (state (extend (begin (headerOf m)) ls)) tables

@@ -69,7 +69,9 @@ module _ (given : Given) where
     -- the words of an outcome, and the executions that have their letters
     words : (o : Outcome) → ExecBlock (writtenOut body) origin (extend origin w) o ↔ WordBlock (writtenOut body) w o
     words o = (
-      λ x. let (v, y, e) = exec-is (writtenOut body) origin (extend origin w) o .0 x in subst (λ u. WordBlock (writtenOut body) u o) (sym (since-once origin w v e)) y,
+      λ x.
+          let (v, y, e) = exec-is (writtenOut body) origin (extend origin w) o .0 x in
+          subst (λ u. WordBlock (writtenOut body) u o) (sym (since-once origin w v e)) y,
       λ y. exec-is (writtenOut body) origin (extend origin w) o .1 (w, y, refl),
     )
 

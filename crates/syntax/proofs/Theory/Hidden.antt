@@ -71,7 +71,8 @@ module _ (s : List ℕ) (n m k : ℕ) (names : List ℕ) (e : names ≡ padded m
       let a = spelledRegisters s n in
       (λ i. set (set (e i) n word.resultKey) (n + 1) word.truthKey)
       ∙ ap (λ x. set x (n + 1) word.truthKey) (stored-behind mostRegisters a n word.resultKey size (omega arith))
-      ∙ stored-behind mostRegisters (a ++ word.resultKey ∷ []) (n + 1) word.truthKey (length-append a (word.resultKey ∷ []) ∙ ap (λ n. n + 1) size) (omega arith)
+      ∙ stored-behind mostRegisters (a ++ word.resultKey ∷ []) (n + 1) word.truthKey
+      (length-append a (word.resultKey ∷ []) ∙ ap (λ n. n + 1) size) (omega arith)
       ∙ ap (padded mostRegisters) (append-assoc a (word.resultKey ∷ []) (word.truthKey ∷ [])) ∙ rw (lt-ltb m k l)
 
   pub registers-alone : k ≤ m → names ≡ paddedRegisters s n m k

@@ -296,7 +296,8 @@ pub record FunctionsSoFar (s rs : List ℕ) (first : ℕ) (whole : Got (List ℕ
   pub left : whole ≡ entries s rs first (mostFunctions - count) (take count names) (take count arities) at
 
 -- behind them stands a name; whether it is taken
-pub record NameOfFunction (s rs : List ℕ) (first : ℕ) (whole : Got (List ℕ × List ℕ)) (names arities : List ℕ) (count : ℕ) (t : Token) (taken : Bool) : Type 0 where
+pub record NameOfFunction (s rs : List ℕ) (first : ℕ) (whole : Got (List ℕ × List ℕ)) (names arities : List ℕ) (count : ℕ) (t : Token)
+    (taken : Bool) : Type 0 where
   pub at : ℕ
   pub so-far : FunctionsSoFar s rs first whole names arities count at
   pub token : t ≡ tokenAt s at
@@ -309,8 +310,8 @@ pub record NewFunction {s rs : List ℕ} {first : ℕ} {whole : Got (List ℕ ×
   pub not-taken : taken ≡ false
   pub arity : g ≡ plain (arityOf s (t .end))
 
-module _ {s rs : List ℕ} {first : ℕ} {whole : Got (List ℕ × List ℕ)} {names arities : List ℕ} {count at : ℕ} (S : FunctionsSoFar s rs first whole names arities count at)
-    {t : Token} (e : t ≡ tokenAt s at) where
+module _ {s rs : List ℕ} {first : ℕ} {whole : Got (List ℕ × List ℕ)} {names arities : List ℕ} {count at : ℕ}
+    (S : FunctionsSoFar s rs first whole names arities count at) {t : Token} (e : t ≡ tokenAt s at) where
   pub functions-last : {b : Bool} → b ≡ isName (t .key) → b ≡ false → {r : Functions}
       → r ≡ heldFunctions (listedT s (length (take count names) - first) (take count names, take count arities) t)
       → r ≡ heldFunctions (whole)
@@ -379,7 +380,8 @@ module _ {s rs : List ℕ} {first : ℕ} {whole : Got (List ℕ × List ℕ)} {n
       go (Got.refused n p) i = rw i
       go exhausted i = rw i
 
-  pub functions-turn : {n b′ : ℕ} → g ≡ number.the-variants.At n b′ → FunctionsSoFar s rs first whole (set names count (t .key)) (set arities count n) (count + 1) b′
+  pub functions-turn : {n b′ : ℕ} → g ≡ number.the-variants.At n b′
+      → FunctionsSoFar s rs first whole (set names count (t .key)) (set arities count n) (count + 1) b′
   functions-turn {n} {b′} k =
       let l = functions-room in
       let (m, q, u) = coded-at (λ n. n) (arityOf s (t .end)) g n b′ (F .arity) k in record {
@@ -447,7 +449,8 @@ listed-value : (s : List ℕ) {A : Type 0} (n : ℕ) (a : A) (t : Token) (r : A)
 listed-value s n a t r e h = pick-case (eqb (t .key) word.semicolonKey && not (eqb n 0)) _ _ _ h (λ u g. got-value g) λ u g. absurd (not-refused g)
 
 -- a list that ends
-listed-size : (fs ns : List ℕ) (r : List ℕ × List ℕ) (room : ℕ) → length ns ≡ length fs → _≡_ {A = List ℕ × List ℕ} (fs, ns) r → LineSize fs (room + length fs) r
+listed-size : (fs ns : List ℕ) (r : List ℕ × List ℕ) (room : ℕ) → length ns ≡ length fs → _≡_ {A = List ℕ × List ℕ} (fs, ns) r
+    → LineSize fs (room + length fs) r
 listed-size fs ns r room n h = subst (LineSize fs (room + length fs)) h (record { fits = omega arith; both = n; more = omega arith })
 
 entries-size : (s rs : List ℕ) (first room : ℕ) (fs ns : List ℕ) (at : ℕ) (r : List ℕ × List ℕ) (e : ℕ) → length ns ≡ length fs

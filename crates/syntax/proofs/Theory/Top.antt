@@ -170,7 +170,8 @@ module _ (s : List ℕ) (rs : Registers) (fs : Functions) (m : ℕ) (body : Prog
         let arities = take (fs .count) (fs .arities) in
         let binary : binaryOf (fs .arities) ≡ binaryOf arities = ap binaryOf (A .pad) ∙ binary-padded arities (mostFunctions - length arities) in
         let all : rs .count + hiddenCount m (fs .count) ≡ headerOf (macroOf s rs fs m b) .registers =
-        (λ j. sym (R .size) j + hiddenCount m (sym (F .size) j)) ∙ sym (hidden-length (take (rs .count) (rs .names)) m (length (take (fs .count) (fs .names)))) in
+        (λ j. sym (R .size) j + hiddenCount m (sym (F .size) j))
+        ∙ sym (hidden-length (take (rs .count) (rs .names)) m (length (take (fs .count) (fs .names)))) in
         rw (← e, eq-eqb (t .key) 0 z, counted b, le-ltb mostPoints (Size b) l)
         λ j. record {
           refusal = 0;
@@ -329,7 +330,8 @@ module _ (s : List ℕ) (rs : Registers) (fs all : Functions) (R : RegistersPadd
   abbrev Tests : Got (List ℕ × List ℕ)
   Tests = testsT s (listOf rs) (take (fs .count) (fs .names)) (take (fs .count) (fs .arities)) (fs .at) (tokenAt s (fs .at))
 
-  tests-held : all .ok ≡ true → (r : List ℕ × List ℕ) × (c : ℕ) × (Tests ≡ got r c) × LineHeld all r c × (fs .count ≤ all .count) × RoomForHidden rs all (fs .count)
+  tests-held : all .ok ≡ true
+      → (r : List ℕ × List ℕ) × (c : ℕ) × (Tests ≡ got r c) × LineHeld all r c × (fs .count ≤ all .count) × RoomForHidden rs all (fs .count)
   tests-held k =
       let (r, c, w) = line-got all Tests h k in
       let a = F .0 .size in

@@ -18,7 +18,8 @@ finish-spec =
     (λ c.
     let at-if1 = c .before .before in
     let at-next = at-if1 .before .before in
-    law.finish-long _ _ _ _ _ _ (at-next .next .ensures) (at-next .before .before .pre .0) (at-if1 .if1 .taken) (c .before .if2 .taken) _ (c .refused-answer .ensures))
+    law.finish-long _ _ _ _ _ _ (at-next .next .ensures) (at-next .before .before .pre .0) (at-if1 .if1 .taken)
+    (c .before .if2 .taken) _ (c .refused-answer .ensures))
     (λ c κs. search needs)
     (λ c κs. search needs)
     (λ c κs. search needs)

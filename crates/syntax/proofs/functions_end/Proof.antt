@@ -14,7 +14,8 @@ returns c =
     let start = c .before .before .before .before in
     let t = start .args .t in
     law.functions-unlisted [] _ _ _ (start .pre .0) (start .pre .1) _ (start .pre .2) t 9 (law.semicolon-unfit t (c .before .before .if1 .taken))
-    (law.unlisted-none t (start .args .count - start .args .first) (c .before .before .if1 .taken) (let e = c .before .if2 .taken in omega arith)) _ (c .no-functions .ensures)
+    (law.unlisted-none t (start .args .count - start .args .first) (c .before .before .if1 .taken)
+    (let e = c .before .if2 .taken in omega arith)) _ (c .no-functions .ensures)
 
 returns-2 : tie.Need-returns-2
 returns-2 c =

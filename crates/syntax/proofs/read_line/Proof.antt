@@ -20,7 +20,9 @@ named : (c : tie.After-is-function-taken Inv-loop μ-loop) → let at-next = c .
     let at-loop = at-next .before in
     let a = at-loop .before .before .before .args in
     let l = at-loop .loop in
-    law.NameOfFunction (a .text .now) (a .regs .now) (a .first) (lineFrom (a .text .now) (a .regs .now) (take (a .first) (a .known)) (take (a .first) (a .taking)) (a .from)) (l .names) (l .arities) (l .count) (at-next .next .result) (c .is-function-taken .result)
+    law.NameOfFunction (a .text .now) (a .regs .now) (a .first)
+    (lineFrom (a .text .now) (a .regs .now) (take (a .first) (a .known)) (take (a .first) (a .taking)) (a .from))
+    (l .names) (l .arities) (l .count) (at-next .next .result) (c .is-function-taken .result)
 named c =
     let at-is-name = c .before .before in
     let at-next = at-is-name .before in

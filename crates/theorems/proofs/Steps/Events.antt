@@ -57,7 +57,8 @@ module _ (text : List ℕ) (m : Macro) (a : Accepted text m) where
   pub one-shown : (i j : Kind) (k l : ℕ) (ks ls : List Letter) → Shows Feasible (begin (headerOf m)) (expanded m) i k ks
       → Shows Feasible (begin (headerOf m)) (expanded m) j l ls → (i ≡ j) × (k ≡ l) × (ks ≡ ls)
   one-shown i j k l ks ls x y =
-      let w : ks ≡ ls = since-once start ks ls (one-event Feasible start (expanded m) (extend start ks) (extend start ls) (x .first-event) (y .first-event)) in (
+      let w : ks ≡ ls =
+      since-once start ks ls (one-event Feasible start (expanded m) (extend start ks) (extend start ls) (x .first-event) (y .first-event)) in (
         one-kind i j (extend start ls) (subst (λ u. OfKind start (expanded m) i (extend start u)) w (x .of-kind)) (y .of-kind),
         one-count Before (Leaves start (expanded m)) (SamePair start (expanded m)) (EventAt Feasible start (expanded m)) before-not k l (x .count) (y .count),
         w,
@@ -89,7 +90,8 @@ module _ (text : List ℕ) (m : Macro) (a : Accepted text m) where
         (subst (λ i. Delivered (packed firstEdition start kind ls′) (showing kind i (length ls′)) output answer output′) f
         (subst (λ j. Delivered (packed firstEdition start j ls′) (showing j k′ (length ls′)) output answer output′) e d)))
       where
-        failed : (kind : Kind) (ls : List Letter) → kind ≡ failing → OfKind start (expanded m) kind (extend start ls) → Failing start (expanded m) (extend start ls)
+        failed : (kind : Kind) (ls : List Letter) → kind ≡ failing → OfKind start (expanded m) kind (extend start ls)
+            → Failing start (expanded m) (extend start ls)
         failed breaking ls h o = absurd (let z : _≡_ {A = ℕ} 0 1 = cc in omega arith)
         failed failing ls h o = o .0
 

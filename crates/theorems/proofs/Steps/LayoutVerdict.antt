@@ -27,8 +27,8 @@ module _ (text text′ : List ℕ) (m m′ : Macro) (a : Accepted text m) (a′ 
       → IsVerdict Feasible (begin (headerOf m′)) (expanded m′) firstEdition (pairsIn firstEdition table) output answer output′
   verdict-of table output answer table′ output′ d =
       subst (λ h. IsVerdict Feasible (begin h) (expanded m′) firstEdition (pairsIn firstEdition table) output answer output′) (sym same-header)
-      (verdict-same (begin (headerOf m)) (expanded m) (expanded m′) same-points same-size Feasible firstEdition (pairsIn firstEdition table) output answer output′
-      (d .verdict m a))
+      (verdict-same (begin (headerOf m)) (expanded m) (expanded m′) same-points same-size Feasible firstEdition (pairsIn firstEdition table)
+      output answer output′ (d .verdict m a))
 
   -- the second text is not refused, and its macro is m′ and no other
   demand-same : (table output : List ℕ) (answer : VerdictAnswer) (table′ output′ : List ℕ)

@@ -75,7 +75,9 @@ module _ (m : Macro) (o : InOrder m) where
   -- ── an execution that is shown ──
   shown-formed : (kind : Kind) (ρ : Trace) → OfKind (begin (headerOf m)) (expanded m) kind ρ → FormedUnder (headerOf m) ρ
   shown-formed breaking ρ x = partial-formed (headerOf m) start (expanded m) ρ (tt, refl) (expanded-fits m o) (x .0)
-  shown-formed failing ρ x = let (p, e) = failing-is start (expanded m) ρ .0 (x .0) in run-formed (headerOf m) start (expanded m) (tt, refl) (expanded-fits m o) p failure ρ e
+  shown-formed failing ρ x =
+      let (p, e) = failing-is start (expanded m) ρ .0 (x .0) in
+      run-formed (headerOf m) start (expanded m) (tt, refl) (expanded-fits m o) p failure ρ e
 
   module _ (kind : Kind) (ls : List Letter) (x : OfKind (begin (headerOf m)) (expanded m) kind (extend (begin (headerOf m)) ls)) where
     abbrev σ : State

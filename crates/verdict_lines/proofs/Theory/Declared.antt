@@ -5,7 +5,7 @@ use mathlib.Core.List.{List, [], _∷_}
 use Prim.Native.Nat.{ℕ, zero, suc, _+_, _-_, _≤_, _<_}
 use native.Mathlib.Omega.{arith}
 use lib.Dec.{ltb}
-use lib.ListN.{length, getD, List·getD-eq-default, List·getD-append, length-append}
+use lib.ListN.{length, getD, drop, List·getD-eq-default, List·getD-append, length-append}
 use lib.Seq.{getD-append-add}
 use borrow.Author.Tests.{ltb-true, ltb-false, lt-ltb, eqb-true}
 use Rattle.base.proofs.Theory.Choice.{byTest}
@@ -13,7 +13,7 @@ use Rattle.tokens.specs.Bytes.{lowerCase}
 use Rattle.tokens.specs.Words.{isName}
 use Rattle.tokens.specs.Words as word
 use Rattle.tokens.specs.Tokens.{tokenAt, bytesAt, placeOf, spellings}
-use Rattle.tokens.proofs.Theory.Keys.{token-held, same-token}
+use Rattle.tokens.proofs.Theory.Keys.{TokenBytes, token-held, same-token}
 use Rattle.tokens.proofs.Theory.TokensLaws.{spellings-length}
 use Rattle.tokens.proofs.Theory.WordsLaws.{name-real}
 use Rattle.grammar.specs.Grammar.{Macro, hiddenOf, shownRegisters}
@@ -88,8 +88,12 @@ module _ (text : List ℕ) (m : Macro) (a : Accepted text m) where
   hidden-printed r = byTest (ltb (m .firstTest) (length (m .functions))) (λ t. rw t (words r)) λ t. rw t (name-none _ refl)
     where
       words : (r : ℕ) → nameText (getD (word.resultKey ∷ word.truthKey ∷ []) r 0) ≡ getD (resultWord ∷ truthWord ∷ []) r []
-      words zero = name-back resultWord (omega arith, omega arith, (omega arith, omega arith, (omega arith, omega arith, (omega arith, omega arith, (omega arith, omega arith, (omega arith, omega arith, tt))))))
-      words (suc zero) = name-back truthWord (omega arith, omega arith, (omega arith, omega arith, (omega arith, omega arith, (omega arith, omega arith, (omega arith, omega arith, tt)))))
+      words zero =
+          let behind : TokenBytes (drop 1 resultWord) =
+          (omega arith, omega arith, (omega arith, omega arith, (omega arith, omega arith, (omega arith, omega arith, (omega arith, omega arith, tt))))) in
+          name-back resultWord (omega arith, omega arith, behind)
+      words (suc zero) = name-back truthWord
+          (omega arith, omega arith, (omega arith, omega arith, (omega arith, omega arith, (omega arith, omega arith, (omega arith, omega arith, tt)))))
       words (suc (suc r)) = name-none _ refl
 
   register-printed : (r : ℕ) → nameText (getD (shownRegisters m) r 0) ≡ registerName text m r

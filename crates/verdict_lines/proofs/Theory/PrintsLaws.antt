@@ -66,7 +66,8 @@ module _ (m : Macro) (o : InOrder m) where
 
   one-model : (ls : List Letter) (t : Tables) → Failing start (expanded m) (extend start ls) → ShownModel (state (extend start ls)) t
       → t ≡ tablesOf (state (extend start ls))
-  one-model ls t x y = tables-unique (extend start ls) (failing-formed (headerOf m) start (expanded m) (tt, refl) (expanded-fits m o) (extend start ls) x) t (y .tables)
+  one-model ls t x y =
+      tables-unique (extend start ls) (failing-formed (headerOf m) start (expanded m) (tt, refl) (expanded-fits m o) (extend start ls) x) t (y .tables)
 
   pub one-told : (s t : Printed) → Told m s → Told m t → s ≡ t
   unfolding Told

@@ -92,7 +92,8 @@ full-or n p = go (same-or n tableTooSmall) (same-or p 0)
     go (inl e) (inr f) = inr (λ g. f (cc))
     go (inr e) f = inr (λ g. e (cc))
 
-module _ (m : Macro) (o : InOrder m) (points : sizeBlock (expanded m) ≤ mostPoints) (output : List ℕ) (room : length output ≡ answerBytes) (output′ : List ℕ) where
+module _ (m : Macro) (o : InOrder m) (points : sizeBlock (expanded m) ≤ mostPoints) (output : List ℕ)
+    (room : length output ≡ answerBytes) (output′ : List ℕ) where
   abbrev Judged : search.Verdict → Type 0
   Judged v = IsVerdict Feasible (begin (headerOf m)) (expanded m) firstEdition tablePairs output (answerOf v) output′
 
@@ -212,7 +213,10 @@ module _ (text : List ℕ) (read : syntax.MacroRead) (reads : Reads text read) w
 
   held-registers : (m : Macro) → Accepted text m → read .program .header .registers ≤ mostRegisters
   unfolding heldMacro
-  held-registers m a = let z = ap (λ (p : held.CompiledMacro). p .header .registers) (reads .accepts m a .2) in let l = registers-within m (a .in-order) in omega arith
+  held-registers m a =
+      let z = ap (λ (p : held.CompiledMacro). p .header .registers) (reads .accepts m a .2) in
+      let l = registers-within m (a .in-order) in
+      omega arith
 
   -- What a report needs to be short.
   abbrev Brief : search.Verdict → List ℕ → Type 0
