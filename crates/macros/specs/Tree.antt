@@ -1,6 +1,5 @@
 -- Macros as trees, of which their points are made (SPEC 8.3, 8.4, 9.1, 9.3; document 01). Registers and functions are numbered by their places in the
 -- declarations. What a text spells is a wider tree, `Rattle.grammar.specs.Tree`; `expanded` there makes this one of it.
-use Prim.Native.Nat.{ℕ}
 use Rattle.letters.specs.declared.Header.{Header}
 use Rattle.letters.specs.declared.Letter.{Letter}
 use Rattle.letters.specs.Letters.{Fits}

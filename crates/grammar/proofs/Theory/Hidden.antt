@@ -1,5 +1,4 @@
 -- The registers of a macro in order, the hidden ones with them (SPEC 8.4; document 02, request 4).
-use mathlib.Core.Path.{_≡_}
 use Prim.Native.Nat.{ℕ, _+_, _≤_, _<_}
 use native.Mathlib.Omega.{arith}
 use mathlib.Core.List.{List, [], _∷_, _++_}

@@ -1,4 +1,3 @@
-use native.Mathlib.Omega.{arith}
 use borrow.Author.Needs.{needs}
 use Rattle.syntax.proofs.Theory.Hidden as law
 use Rattle.syntax.proofs.test_spellings.Statement.{statement}
