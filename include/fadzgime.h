@@ -19,14 +19,18 @@
  *    5 more than 1,024 letters    6 `out` is too short
  *    7 a text of more than 4,096 bytes    8 no token    9 not the grammar
  *   10 a wrong declaration: too many names, or one name twice, in whatever case
- *   11 a wrong use of a name    12 braces more than 16 deep;
- *      place of 8 to 12: the byte of the text, from 0
+ *   11 a wrong use of a name    12 braces more than 16 deep
+ *   16 the word `tests` behind more than six registers, asked with 8 to 12;
+ *      place of 8 to 12 and of 16: the byte of the text, from 0
  *   13 more than 256 points    14 more pairs than `table` has room for
  *   15 a print that is longer than `out`, or than 4,096 bytes
  * The bits of a word and of a packed model: docs/SPEC.md, 2 and 7.4. Registers and
- * functions of a macro are numbered from 0 in the order of their declarations. Answers
- * hold no names, so that the case of letters never shows in them; only the print of
- * fadzgime_layout has names, as they are declared.
+ * functions of a macro are numbered from 0 in the order of their declarations; tests are
+ * numbered behind the functions, as functions. A macro with a line of tests has two
+ * registers more behind the declared ones, `result` and then `truth`, whether it asks a
+ * test or not: headers, traces, models and counts have them, so keep names for two
+ * registers more than are declared. Answers hold no names, so that the case of letters
+ * never shows in them; only the print of fadzgime_layout has names, as they are declared.
  *
  * Stack: at most 35 KB a call (fadzgime_verdict; read and layout 25 KB, model 17 KB, the
  * others at most 7 KB), whatever the input; tested on a thread of 128 KB. Nothing is
@@ -195,10 +199,8 @@ void fadzgime_model(const uint8_t *trace, size_t trace_length,
  * Reads a macro: docs/SPEC.md, 8. Names and words are equal whatever the case of their
  * letters.
  * answer[0] refusal (7 to 13, 16), [1] place, [2] registers, [3] functions,
- * [4] points. These are the counts of the header and of the points as they are
- * performed: with a line of tests the two hidden registers `result` and `truth` are
- * counted, tests are counted with the functions, and a statement that asks a test is two
- * points.
+ * [4] points. With a line of tests `result` and `truth` count as registers and tests as
+ * functions; a statement that asks a test is two points.
  */
 void fadzgime_read(const uint8_t *text, size_t text_length,
                    uint64_t *answer, size_t answer_length);
@@ -254,10 +256,9 @@ void fadzgime_layout(const uint8_t *text, size_t text_length,
  * stay. Pass and a refusal leave it untouched. 6: `out` is too short for the answer,
  * which one of FADZGIME_VERDICT_OUTPUT bytes never is. The execution has at most as
  * many letters as answer[3] says pairs, so with a table of N pairs 22 + 7 * N bytes are
- * enough. Of a macro with tests the trace has the header that fadzgime_read counts: the
- * hidden registers behind the declared ones, tests behind the functions, and two letters
- * for each test that was asked. An execution of more than N letters comes behind more than N pairs: that is
- * 14, not 6.
+ * enough. An execution of more than N letters comes behind more than N pairs: that is
+ * 14, not 6. The trace has the header that fadzgime_read counts, and two letters for each
+ * test with a name that was asked.
  */
 void fadzgime_verdict(const uint8_t *text, size_t text_length,
                       uint8_t *table, size_t table_length,
