@@ -43,7 +43,7 @@ header rs fs ns = record { registers = length rs; functions = length fs; binary 
 abbrev pub headerOf : Macro → Header
 headerOf m = header (m .registers ++ hiddenOf m) (m .functions) (m .arities)
 
--- The names that lines print: of the registers, the hidden ones behind them, and of the functions (SPEC 8.4, 12.2).
+-- The names of registers that lines print, the hidden ones behind the declared (SPEC 8.4, 12.2).
 abbrev pub shownRegisters : Macro → List ℕ
 shownRegisters m = m .registerSpellings ++ hiddenOf m
 

@@ -1,4 +1,4 @@
--- What reading a text gives: a macro, or the number of a refusal and its place (SPEC 11.3, 11.4; document 01, questions 7 to 13).
+-- What reading a text gives: a macro, or the number of a refusal and its place (SPEC 11.3, 11.4: questions 7 to 13, and 16).
 -- Each reader starts at a place and gives what it read with the place after it.
 use Prim.Native.Nat.{ℕ, zero, suc, _+_, _-_}
 use mathlib.Core.Bool.{Bool, true, false, not, _&&_, _||_}

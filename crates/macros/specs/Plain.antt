@@ -4,7 +4,7 @@ use Prim.Native.Nat.{ℕ}
 use Rattle.letters.specs.declared.Letter.{Letter}
 use Rattle.letters.specs.declared.Letter.the-variants.{Equal, Unequal}
 
--- "C is `a = b` or `a != b`." (SPEC 8.3, 9.1)
+-- "C is `a = b` or `a != b`." (SPEC 9.1; document 01)
 pub data Condition : Type 0 where
   equal unequal : ℕ → ℕ → Condition
 

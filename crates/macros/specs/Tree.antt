@@ -1,5 +1,5 @@
--- Macros as trees, of which their points are made (SPEC 8.3, 8.4, 9.1, 9.3; document 01). Registers and functions are numbered by their places in the
--- declarations. What a text spells is a wider tree, `Rattle.grammar.specs.Tree`; `expanded` there makes this one of it.
+-- Macros as trees, of which their points are made (SPEC 9.1, 9.3; document 01). Registers and functions are numbered by their places in the
+-- declarations. A text spells a tree with named tests, `Rattle.grammar.specs.Tree`; `Rattle.grammar.specs.Expanded` makes one of these of it.
 use Rattle.letters.specs.declared.Header.{Header}
 use Rattle.letters.specs.declared.Letter.{Letter}
 use Rattle.letters.specs.Letters.{Fits}

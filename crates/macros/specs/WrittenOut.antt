@@ -1,6 +1,6 @@
 -- A macro with each letter that a while performs before its tests written out: a tree in which every statement is one of Definition 2's
--- (SPEC 9.1; source document 000, 2.1: "each time we see R(z), we add the assignment statement b := f(z) and replace the occurrence of R(z) by the
--- conditional"). The test of a while is seen before the loop and again at the end of its body.
+-- (SPEC 9.1; source document 000, 2.1: "each time we see R(z), we add the assignment statement b_R := f_R(z) and replace the occurrence of R(z) by
+-- the conditional b_R = T"). The test of a while is seen before the loop and again at the end of its body.
 use Rattle.macros.specs.Tree.{Statement, Else, Block}
 use Rattle.macros.specs.Tree as tree
 use Rattle.macros.specs.Plain.{skip, perform, assert, if, while, absent, present, empty, _then_}

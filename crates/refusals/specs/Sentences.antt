@@ -1,5 +1,5 @@
--- The sentences of the grammar alone (SPEC 8.3; document 01). Any name may stand where a name is due, declared or not, of either sort and as often
--- as one likes, there may be any number of declarations, and blocks may nest to any depth: those are questions 10 to 12.
+-- The sentences of the grammar alone (SPEC 8.3; document 01, and document 02, request 4). Any name may stand where a name is due, declared or not, of any
+-- sort and as often as one likes, there may be any number of declarations, and blocks may nest to any depth: those are questions 10 to 12 and 16.
 use mathlib.Core.Path.{_≡_}
 use Prim.Native.Nat.{ℕ}
 use mathlib.Core.Bool.{true}

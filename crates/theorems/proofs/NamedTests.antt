@@ -42,9 +42,12 @@ use Rattle.theorems.specs.Relations.{RelationalModel, AllHold, FeasibleW
 use Rattle.theorems.proofs.Steps.RelationalModels.{hold-alike, functions-model, relations-model, as-functions, as-relations, feasible-alike}
 use Rattle.theorems.proofs.Steps.ExpandedSorts.{expanded-sorts}
 
--- "the three words leave the names, and `!` becomes a token": it is known by its one byte, and so is no name and no other word.
+-- "the three words leave the names, and `!` becomes a token": it is no name either.
 pub three-words-are-no-names : (isName word.testsKey ≡ false) × (isName word.resultKey ≡ false) × (isName word.truthKey ≡ false)
 three-words-are-no-names = (refl, refl, refl)
+
+pub negation-is-no-name : isName word.notKey ≡ false
+negation-is-no-name = refl
 
 -- "Functions and tests together are at most four." Each name is declared once over all lines, and where a test is declared there is room for the hidden
 -- registers ("16, at the word `tests`, when more than six registers were declared").

@@ -98,7 +98,7 @@ module _ (size : ℕ) (next : ℕ → Token) where
     pub in-order : InOrder m
     pub few : sizeBlock (expanded m) ≤ mostPoints
 
--- ---- with document 01's own tokens
+-- ---- with tokens in which capitals are no letters
 
 abbrev pub OriginalRefusal : List ℕ → ℕ → ℕ → Type 0
 OriginalRefusal s = RefusalBy (length s) (originalTokenAt s)

@@ -124,7 +124,7 @@ module _ (rs qs fs ns : List ℕ) (t : ℕ) (wide : length rs ≤ length qs) (ro
     expanded-proper (written._then_ s b) (u, v) = before-proper (header qs fs ns) (expandedStatement (length rs) s) (expandedBlock (length rs) b)
         (statement-expanded s u) (expanded-proper b v)
 
--- The letters of a expanded macro fit its header: where a test is used, the hidden registers are there.
+-- The letters of an expanded macro fit its header: where a test is used, the hidden registers are there.
 pub expanded-fits : (m : Macro) → InOrder m → macro.ProperBlock (expanded m) (headerOf m)
 expanded-fits m O =
     let size = length-append (m .registers) (hiddenOf m) in

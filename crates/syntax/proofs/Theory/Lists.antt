@@ -75,9 +75,6 @@ module _ (n : ℕ) (names : List ℕ) (count k : ℕ) (K : NamesPadded n names c
 pub kept-eight : NamesPadded mostRegisters (replicate mostRegisters 0) 0
 kept-eight = record { few = omega arith; pad = refl; size = refl }
 
-pub kept-four : NamesPadded mostFunctions (replicate mostFunctions 0) 0
-kept-four = record { few = omega arith; pad = refl; size = refl }
-
 -- ---- spellings, with 0 behind them
 
 abbrev pub zeros : ℕ → List ℕ
