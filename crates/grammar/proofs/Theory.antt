@@ -9,3 +9,4 @@ pub mod Advance
 pub mod Whole
 pub mod Enough
 pub mod Hidden
+pub mod Meanings

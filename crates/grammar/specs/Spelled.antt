@@ -47,12 +47,12 @@ lineLength m = pick (eqb m 0) (λ _. 0) λ _. entryLength * m + besideEntries
 
 -- "A line `tests hot/1;` may follow the `vars` line, or the `funs` line where there is one" (document 02, request 4): `tests` stands where `funs` would
 -- stand, or behind the line of the m functions
-abbrev pub firstTest : ℕ → ℕ → ℕ
-firstTest n m = firstFunction n + lineLength m
+abbrev pub firstTestToken : ℕ → ℕ → ℕ
+firstTestToken n m = firstFunction n + lineLength m
 
 -- The token that declares function f, behind n registers, where functions from number m on are tests.
 abbrev pub functionToken : ℕ → ℕ → ℕ → ℕ
-functionToken n m f = pick (ltb f m) (λ _. firstFunction n + entryLength * f) λ _. firstTest n m + entryLength * (f - m)
+functionToken n m f = pick (ltb f m) (λ _. firstFunction n + entryLength * f) λ _. firstTestToken n m + entryLength * (f - m)
 
 -- The names of n registers, and of k functions behind them, of which those from number m on are tests, as the tokens that declare them are spelled
 -- (SPEC 8.4).
@@ -60,7 +60,7 @@ abbrev pub spelledRegisters : List ℕ → ℕ → List ℕ
 spelledRegisters s n = spellings s (placeOf s firstRegister) registerLength n
 
 abbrev pub spelledFunctions : List ℕ → ℕ → ℕ → ℕ → List ℕ
-spelledFunctions s n m k = spellings s (placeOf s (firstFunction n)) entryLength m ++ spellings s (placeOf s (firstTest n m)) entryLength (k - m)
+spelledFunctions s n m k = spellings s (placeOf s (firstFunction n)) entryLength m ++ spellings s (placeOf s (firstTestToken n m)) entryLength (k - m)
 
 -- The tokens of the whole text are the sentence of the macro, and its names are spelled as they are declared (SPEC 8.3, 8.4).
 pub record Spelled (s : List ℕ) (m : Macro) : Type 0 where

@@ -9,9 +9,10 @@ use native.Mathlib.Omega.{arith}
 use native.Mathlib.Nat.{add-zero}
 use lib.ListN.{length, getD, length-append}
 use borrow.Author.Tests.{lt-ltb, le-ltb}
+use Rattle.letters.specs.declared.Header.{Header}
 use Rattle.letters.specs.declared.Letter.{Letter}
 use Rattle.letters.specs.declared.Letter.the-variants.{Apply}
-use Rattle.letters.specs.Editions.{mostFunctions}
+use Rattle.letters.specs.Editions.{mostRegisters, mostFunctions}
 use Rattle.semantics.specs.Coherence.{Coherent}
 use Rattle.tokens.specs.Words.{isName}
 use Rattle.tokens.specs.Words as word
@@ -32,13 +33,17 @@ use Rattle.semantics.specs.Facts.{WellFormed}
 use Rattle.semantics.specs.Models.{Model, Satisfies, Feasible}
 use Rattle.semantics.specs.AnyModel.{AnyModel, SatisfiesIn}
 use Rattle.semantics.proofs.Theory.PaperLaws.{numbers}
-use Rattle.macros.specs.Executions.{failed, Partial, Failing, whole}
+use Rattle.macros.specs.Executions.{Outcome, failed, ExecBlock, Partial, Failing, whole}
+use Rattle.macros.proofs.Theory.WrittenOut.{inTreeBlock, written-in-tree}
 use Rattle.macros.proofs.Theory.Executions.{block-begins}
 use Rattle.macros.proofs.Theory.Fitting.{partial-formed}
 use Rattle.grammar.specs.Grammar.{Macro, header, headerOf, shownRegisters, expanded}
 use Rattle.grammar.specs.Spelled.{InOrder}
-use Rattle.grammar.proofs.Theory.Expanded.{expanded-fits, hidden-named}
-use Rattle.theorems.specs.Relations.{RelationalModel, AllHold, FeasibleWithRelations, RightSorts, ModelsRelations, asFunctions, asRelations}
+use Rattle.grammar.proofs.Theory.Expanded.{expanded-fits, expanded-plain, hidden-named}
+use Rattle.grammar.specs.Meanings.{Meaning, Values, RunsBlock, ReachesFalseAssertion}
+use Rattle.grammar.specs.MeaningOfTraces.{AllHold}
+use Rattle.grammar.proofs.Theory.Meanings.{runs-exactly}
+use Rattle.theorems.specs.Relations.{FeasibleWithRelations, RightSorts, ModelsRelations, asFunctions, asRelations}
 use Rattle.theorems.proofs.Steps.RelationalModels.{hold-alike, functions-model, relations-model, as-functions, as-relations, feasible-alike}
 use Rattle.theorems.proofs.Steps.ExpandedSorts.{expanded-sorts}
 
@@ -55,9 +60,9 @@ pub four-functions-and-tests : (text : List ℕ) (m : Macro) → Accepted text m
 four-functions-and-tests text m accepted = accepted .in-order .fewer
 
 pub room-for-hidden-registers : (text : List ℕ) (m : Macro) → Accepted text m → m .firstTest < length (m .functions)
-    → (length (m .registers) ≤ 6) × (headerOf m .registers ≡ length (m .registers) + hiddenRegisters)
+    → (length (m .registers) + hiddenRegisters ≤ mostRegisters) × (headerOf m .registers ≡ length (m .registers) + hiddenRegisters)
 room-for-hidden-registers text m accepted l = (
-  let z = accepted .in-order .room l in omega arith,
+  accepted .in-order .room l,
   rw (lt-ltb (m .firstTest) (length (m .functions)) l) (length-append (m .registers) (word.resultKey ∷ word.truthKey ∷ [])),
 )
 
@@ -70,6 +75,12 @@ hidden-registers-follow m l = hidden-named (m .registerSpellings) (m .firstTest)
 pub without-tests-none-are-hidden : (m : Macro) → m .firstTest ≡ length (m .functions) → headerOf m .registers ≡ length (m .registers)
 without-tests-none-are-hidden m e =
     rw (le-ltb (m .firstTest) (length (m .functions)) (omega arith)) (length-append (m .registers) [] ∙ add-zero (length (m .registers)))
+
+-- A macro without them performs what it performed: written out it is the tree of its own statements, to which Definition 2 applies as it stands.
+pub without-tests-its-own-statements : (m : Macro) → InOrder m → m .firstTest ≡ length (m .functions) → inTreeBlock (writtenOut (expanded m)) ≡ expanded m
+without-tests-its-own-statements m in-order e =
+    written-in-tree (expanded m)
+    (expanded-plain (header (m .registers) (m .functions) (m .arities)) (m .firstTest) (omega arith) (m .body) (in-order .uses))
 
 -- "such a test applies a function into the hidden register `result` and compares that with the hidden register `truth`"; `!` asks for the opposite.
 -- A condition c of a macro with n declared registers, and its statement: the application, and then the statement with the comparison.
@@ -115,32 +126,45 @@ module _ (n f y z : ℕ) where
   unfolding expandedStatement compile entry sizeStatement
   while-returns-to-the-first b k follow = refl
 
+  -- and so of the others: two points, and those of the blocks.
+  pub assume-is-two-points : sizeBlock (expandedStatement n (assume (holds f y z))) ≡ 2
+  unfolding expandedStatement sizeStatement
+  assume-is-two-points = refl
+
+  pub assert-is-two-points : sizeBlock (expandedStatement n (assert (holds f y z))) ≡ 2
+  unfolding expandedStatement sizeStatement
+  assert-is-two-points = refl
+
+  pub while-is-two-points : (b : Block) → sizeBlock (expandedStatement n (while (holds f y z) b)) ≡ suc (suc (sizeBlock (expandedBlock n b)))
+  unfolding expandedStatement sizeStatement
+  while-is-two-points b = omega arith
+
   pub if-is-two-points : (b : Block) (e : Else)
       → sizeBlock (expandedStatement n (if (holds f y z) b e)) ≡ suc (suc (sizeBlock (expandedBlock n b) + sizeElse (expandedElse n e)))
   unfolding expandedStatement sizeStatement
   if-is-two-points b e = omega arith
 
 -- "As source document 000 models relations": each meaning of the tests as relations has a data model in which functions stand for them,
-pub a-meaning-has-a-data-model {ℓ} : (n t : ℕ) (R : RelationalModel {ℓ}) → ModelsRelations n t R (asFunctions n t R)
+pub a-meaning-has-a-data-model {ℓ} : (n t : ℕ) (R : Meaning {ℓ}) → ModelsRelations n t R (asFunctions n t R)
 a-meaning-has-a-data-model = functions-model
 
 -- and each data model is that of a meaning (`numbers` puts the finite models among all models).
-pub a-data-model-has-a-meaning : (n t : ℕ) (M : Model) → ModelsRelations n t (asRelations n M) (numbers {0} M)
+pub a-data-model-has-a-meaning {ℓ} : (n t : ℕ) (M : Model) → ModelsRelations n t (asRelations {ℓ} n M) (numbers {ℓ} M)
 a-data-model-has-a-meaning = relations-model
 
 -- Of every trace of letters as macros perform them: whatever models the relations satisfies the tests exactly if they hold with the relations,
 module _ (n t : ℕ) (τ : Trace) (sorts : RightSorts n t τ) where
-  pub tests-hold-exactly {ℓ} : (R : RelationalModel {ℓ}) (A : AnyModel {ℓ}) → ModelsRelations n t R A
+  pub tests-hold-exactly {ℓ} : (R : Meaning {ℓ}) (A : AnyModel {ℓ}) → ModelsRelations n t R A
       → AllHold n R τ ↔ SatisfiesIn A (state τ .equals) (state τ .unequals)
   tests-hold-exactly R A c = hold-alike n t R A c τ sorts
 
   -- so relations as functions, and functions as relations;
-  pub with-relations-exactly-as-functions {ℓ} : (R : RelationalModel {ℓ})
+  pub with-relations-exactly-as-functions {ℓ} : (R : Meaning {ℓ})
       → AllHold n R τ ↔ SatisfiesIn (asFunctions n t R) (state τ .equals) (state τ .unequals)
   with-relations-exactly-as-functions R = as-functions n t τ sorts R
 
-  pub with-functions-exactly-as-relations : (M : Model) → Satisfies M (state τ .equals) (state τ .unequals) ↔ AllHold n (asRelations n M) τ
-  with-functions-exactly-as-relations M = as-relations n t τ sorts M
+  pub with-functions-exactly-as-relations {ℓ} : (M : Model) → Satisfies M (state τ .equals) (state τ .unequals) ↔ AllHold n (asRelations {ℓ} n M) τ
+  with-functions-exactly-as-relations M = as-relations {ℓ} n t τ sorts M
 
   -- and the trace is feasible exactly if its tests hold with some meaning, over whatever values.
   pub feasible-exactly-with-relations {ℓ} : WellFormed τ → Feasible (state τ) ↔ FeasibleWithRelations {ℓ} n τ
@@ -148,6 +172,10 @@ module _ (n t : ℕ) (τ : Trace) (sorts : RightSorts n t τ) where
 
 abbrev pub declaredCount : Macro → ℕ
 declaredCount m = length (m .registers)
+
+-- an execution that ends at a failure, as one that may be broken off
+broken-off : {h : Header} {b : macro.Block} {ρ : Trace} → Failing (begin h) b ρ → Partial (begin h) b ρ
+broken-off {ρ} x = record { execution = ρ; outcome = failed; runs = x; from-start = block-begins x; begins = whole }
 
 -- "A macro's executions are those of this expansion":
 module _ (m : Macro) (in-order : InOrder m) where
@@ -162,14 +190,14 @@ module _ (m : Macro) (in-order : InOrder m) where
       (expanded-fits m in-order) x .0
 
   -- So with each meaning of the tests the macro performs what it performs in the data model of that meaning,
-  pub a-meaning-performs-as-its-data-model {ℓ} : (R : RelationalModel {ℓ}) (ρ : Trace) → Partial (begin (headerOf m)) (expanded m) ρ
+  pub a-meaning-performs-as-its-data-model {ℓ} : (R : Meaning {ℓ}) (ρ : Trace) → Partial (begin (headerOf m)) (expanded m) ρ
       → AllHold (declaredCount m) R ρ ↔ SatisfiesIn (asFunctions (declaredCount m) (m .firstTest) R) (state ρ .equals) (state ρ .unequals)
   a-meaning-performs-as-its-data-model R ρ x = as-functions (declaredCount m) (m .firstTest) ρ (letters-are-of-right-sorts ρ x) R
 
   -- in each data model what it performs with the meaning of that model,
-  pub a-data-model-performs-as-its-meaning : (M : Model) (ρ : Trace) → Partial (begin (headerOf m)) (expanded m) ρ
-      → Satisfies M (state ρ .equals) (state ρ .unequals) ↔ AllHold (declaredCount m) (asRelations (declaredCount m) M) ρ
-  a-data-model-performs-as-its-meaning M ρ x = as-relations (declaredCount m) (m .firstTest) ρ (letters-are-of-right-sorts ρ x) M
+  pub a-data-model-performs-as-its-meaning {ℓ} : (M : Model) (ρ : Trace) → Partial (begin (headerOf m)) (expanded m) ρ
+      → Satisfies M (state ρ .equals) (state ρ .unequals) ↔ AllHold (declaredCount m) (asRelations {ℓ} (declaredCount m) M) ρ
+  a-data-model-performs-as-its-meaning M ρ x = as-relations {ℓ} (declaredCount m) (m .firstTest) ρ (letters-are-of-right-sorts ρ x) M
 
   -- and an execution is feasible exactly if it is one with some meaning;
   pub feasible-exactly-with-some-meaning {ℓ} : (ρ : Trace) → Partial (begin (headerOf m)) (expanded m) ρ
@@ -177,44 +205,41 @@ module _ (m : Macro) (in-order : InOrder m) where
   feasible-exactly-with-some-meaning ρ x =
       feasible-alike {ℓ} (declaredCount m) (m .firstTest) ρ (letters-are-of-right-sorts ρ x) (executions-are-well-formed ρ x)
 
-  -- "so a verdict covers every meaning that a test could have": no data model reaches a false assertion along an execution exactly if no meaning does,
-  pub failing-in-no-data-model-exactly {ℓ} : (ρ : Trace) → Failing (begin (headerOf m)) (expanded m) ρ
-      → (¬ Feasible (state ρ)) ↔ ((R : RelationalModel {ℓ}) → ¬ AllHold (declaredCount m) R ρ)
-  failing-in-no-data-model-exactly ρ x =
-      let (f, g) = feasible-exactly-with-some-meaning {ℓ} ρ (broken-off ρ x) in (λ n R y. n (g (R, y)), λ n y. let (R, z) = f y in n R z)
-    where
-      broken-off : (ρ : Trace) → Failing (begin (headerOf m)) (expanded m) ρ → Partial (begin (headerOf m)) (expanded m) ρ
-      broken-off ρ x = record { execution = ρ; outcome = failed; runs = x; from-start = block-begins x; begins = whole }
+  -- What the macro does as it is written, with a meaning, is what it executes with all tests holding, through the whole and to a false assertion.
+  pub runs-as-executed {ℓ} : (R : Meaning {ℓ}) (o : Outcome) → ((w : Values R) × RunsBlock R (m .body) (R .start) w o)
+      ↔ ((ρ : Trace) × ExecBlock (writtenOut (expanded m)) (begin (headerOf m)) ρ o × AllHold (declaredCount m) R ρ)
+  runs-as-executed R o =
+      runs-exactly (header (m .registers) (m .functions) (m .arities)) (m .firstTest) R (m .body) (in-order .uses) (headerOf m) o
 
-  -- and along all of them: what demand 3 asks of data models for pass (`else-pass-exactly` of Demand3.antt) is what it would ask of meanings.
+  -- "so a verdict covers every meaning that a test could have": no data model reaches a false assertion exactly if no meaning does. The first is what
+  -- demand 3 asks for pass (`else-pass-exactly` of Demand3.antt); the second is said of the macro as it is written.
   pub no-assertion-fails-exactly {ℓ} : ((ρ : Trace) → Failing (begin (headerOf m)) (expanded m) ρ → ¬ Feasible (state ρ))
-      ↔ ((R : RelationalModel {ℓ}) (ρ : Trace) → Failing (begin (headerOf m)) (expanded m) ρ → ¬ AllHold (declaredCount m) R ρ)
+      ↔ ((R : Meaning {ℓ}) → ¬ ReachesFalseAssertion R (m .body))
   no-assertion-fails-exactly = (
-    λ n R ρ x. failing-in-no-data-model-exactly {ℓ} ρ x .0 (n ρ x) R,
-    λ n ρ x. failing-in-no-data-model-exactly {ℓ} ρ x .1 λ R. n R ρ x,
+    λ n R x. let (ρ, e, a) = runs-as-executed R failed .0 x in n ρ e (feasible-exactly-with-some-meaning {ℓ} ρ (broken-off e) .1 (R, a)),
+    λ n ρ e f. let (R, a) = feasible-exactly-with-some-meaning {ℓ} ρ (broken-off e) .0 f in n R (runs-as-executed R failed .1 (ρ, e, a)),
   )
 
--- So of the verdict on a text that is read as m: where the table suffices, pass is answered exactly if every execution is coherent and no meaning of the
--- functions and tests, over whatever values, reaches a false assertion;
+-- So of the verdict on a text that is read as m: where the table suffices, pass is answered exactly if every execution is coherent and with no meaning of
+-- the functions and tests, over whatever values, the macro reaches a false assertion;
 module _ (text : List ℕ) (m : Macro) (accepted : Accepted text m) where
   pub pass-covers-every-meaning {ℓ} : (table output : List ℕ) (answer : VerdictAnswer) (table′ output′ : List ℕ)
       → Demand3 Feasible text table output answer table′ output′ → answer ≢ full
       → IsPass answer ↔ (((ρ : Trace) → Partial (begin (headerOf m)) (expanded m) ρ → Coherent ρ)
-      × ((R : RelationalModel {ℓ}) (ρ : Trace) → Failing (begin (headerOf m)) (expanded m) ρ → ¬ AllHold (declaredCount m) R ρ))
+      × ((R : Meaning {ℓ}) → ¬ ReachesFalseAssertion R (m .body)))
   pass-covers-every-meaning table output answer table′ output′ met u =
       let (f, g) = met .verdict m accepted .pass-exactly u in
       let (i, j) = no-assertion-fails-exactly {ℓ} m (accepted .in-order) in
       (λ p. let (c, n) = f p in (c, i n), λ (c, n). g (c, j n))
 
-  -- and an execution that is shown with a failure has a meaning in which all its tests hold.
+  -- and a failure that is shown has a meaning with which all tests of its execution hold, and the macro reaches a false assertion.
   pub a-shown-failure-has-a-meaning {ℓ} : (k : ℕ) (ls : List Letter) → Shows Feasible (begin (headerOf m)) (expanded m) failing k ls
-      → FeasibleWithRelations {ℓ} (declaredCount m) (extend (begin (headerOf m)) ls)
+      → (R : Meaning {ℓ}) × AllHold (declaredCount m) R (extend (begin (headerOf m)) ls) × ReachesFalseAssertion R (m .body)
   a-shown-failure-has-a-meaning k ls x =
       let ρ = extend (begin (headerOf m)) ls in
       let run = x .of-kind .0 in
-      feasible-exactly-with-some-meaning {ℓ} m (accepted .in-order) ρ
-      (record { execution = ρ; outcome = failed; runs = run; from-start = block-begins run; begins = whole }) .0
-      (possible ρ (x .first-event .event) (x .of-kind .1))
+      let (R, a) = feasible-exactly-with-some-meaning {ℓ} m (accepted .in-order) ρ (broken-off run) .0 (possible ρ (x .first-event .event) (x .of-kind .1)) in
+      (R, a, runs-as-executed m (accepted .in-order) R failed .1 (ρ, run, a))
     where
       possible : (ρ : Trace) → Event Feasible (begin (headerOf m)) (expanded m) ρ → Coherent ρ → Feasible (state ρ)
       possible ρ (verdict.fails y f) c = f

@@ -1,5 +1,5 @@
--- What follows from the definitions of specs/Expanded.antt: the points of one block before another, and that the letters of the expanded macro fit
--- its header, the hidden registers counted.
+-- What follows from the definitions of specs/Expanded.antt: the points of one block before another, that the letters of the expanded macro fit
+-- its header, the hidden registers counted, and that a macro without tests performs its own statements.
 use mathlib.Core.Path.{_≡_, refl, sym, ap, _∙_}
 use mathlib.Core.Option.{Option, none, some}
 use Prim.Native.Nat.{ℕ, suc, _+_, _≤_, _<_}
@@ -12,6 +12,7 @@ use Rattle.letters.specs.declared.Header.{Header}
 use Rattle.letters.specs.Letters.{Fits}
 use Rattle.letters.specs.declared.Letter.{Letter}
 use Rattle.macros.proofs.Theory.Points.{entry-then}
+use Rattle.macros.proofs.Theory.WrittenOut.{IsPlain, IsPlainElse, IsPlainBlock}
 use Rattle.macros.specs.Tree.{test, _then_}
 use Rattle.macros.specs.Tree as macro
 use Rattle.macros.specs.Points.{sizeStatement, sizeBlock, entry, compile, compileBlock}
@@ -131,3 +132,39 @@ expanded-fits m O =
     expanded-proper (m .registers) (m .registers ++ hiddenOf m) (m .functions) (m .arities) (m .firstTest) (omega arith)
     (λ h. let n : length (hiddenOf m) ≡ hiddenRegisters = rw (lt-ltb (m .firstTest) (length (m .functions)) h) in omega arith)
     (m .body) (O .uses)
+
+-- ── macros without tests: what they perform is their own statements ──
+before-plain : (a b : macro.Block) → IsPlainBlock a → IsPlainBlock b → IsPlainBlock (a before b)
+before-plain macro.empty b x y = y
+before-plain (macro._then_ s a) b x y = (x .0, before-plain a b (x .1) y)
+
+module _ (h : Header) (t : ℕ) (none-declared : h .functions ≤ t) where
+  no-application : (c : Condition) → ProperCondition c h t → application (h .registers) c ≡ none
+  no-application (equal x y) u = refl
+  no-application (unequal x y) u = refl
+  no-application (holds f y z) u = let l = u .0 .1 in let k = u .1 in absurd (omega arith)
+  no-application (fails f y z) u = let l = u .0 .1 in let k = u .1 in absurd (omega arith)
+
+  after-plain : (c : Condition) → ProperCondition c h t → (s : macro.Statement) → IsPlain s
+      → IsPlainBlock (after (h .registers) (application (h .registers) c) s)
+  after-plain c u s x = rw (no-application c u) (x, tt)
+
+  mutual
+    unfolding expandedStatement
+
+    statement-plain : (s : Statement) → Proper s h t → IsPlainBlock (expandedStatement (h .registers) s)
+    statement-plain skip u = (tt, tt)
+    statement-plain (assign a) u = (tt, tt)
+    statement-plain (assume c) u = after-plain c u _ tt
+    statement-plain (assert c) u = after-plain c u _ tt
+    statement-plain (if c b e) u = after-plain c (u .0) _ (expanded-plain b (u .1), else-plain e (u .2))
+    statement-plain (while c b) u = rw (no-application c (u .0)) (expanded-plain b (u .1), tt)
+
+    else-plain : (e : Else) → ProperElse e h t → IsPlainElse (expandedElse (h .registers) e)
+    else-plain absent u = tt
+    else-plain (present b) u = expanded-plain b u
+
+    pub expanded-plain : (b : Block) → ProperBlock b h t → IsPlainBlock (expandedBlock (h .registers) b)
+    expanded-plain empty u = tt
+    expanded-plain (written._then_ s b) u =
+        before-plain (expandedStatement (h .registers) s) (expandedBlock (h .registers) b) (statement-plain s (u .0)) (expanded-plain b (u .1))

@@ -22,7 +22,7 @@ use Rattle.tokens.proofs.Theory.WordsLaws.{name-real}
 use Rattle.text.specs.Names.{nameText}
 use Rattle.text.proofs.Theory.Names.{name-back}
 use Rattle.grammar.specs.Grammar.{Macro, sentence}
-use Rattle.grammar.specs.Spelled.{Spelled, InOrder, Arities, firstRegister, registerLength, firstFunction, firstTest, entryLength, spelledRegisters}
+use Rattle.grammar.specs.Spelled.{Spelled, InOrder, Arities, firstRegister, registerLength, firstFunction, firstTestToken, entryLength, spelledRegisters}
 use Rattle.grammar.specs.Spelled.{spelledFunctions}
 use Rattle.refusals.specs.Accepted.{Accepted}
 use Rattle.refusals.specs.Order.{Refusal}
@@ -191,13 +191,13 @@ module _ (text : List ℕ) (m : Macro) (a : Accepted text m) where
       let n = length (m .registers) in
       let t = m .firstTest in
       let fs = spellings text (placeOf text (firstFunction n)) entryLength t in
-      let ts = spellings text (placeOf text (firstTest n t)) entryLength (length (m .functions) - t) in
+      let ts = spellings text (placeOf text (firstTestToken n t)) entryLength (length (m .functions) - t) in
       ap length (a .spelled .functionSpellings)
       ∙ omega (
         arith,
         length-append fs ts,
         spellings-length text (placeOf text (firstFunction n)) entryLength t,
-        spellings-length text (placeOf text (firstTest n t)) entryLength (length (m .functions) - t),
+        spellings-length text (placeOf text (firstTestToken n t)) entryLength (length (m .functions) - t),
         a .in-order .tests,
       )
 
@@ -261,12 +261,12 @@ module _ (text : List ℕ) (m : Macro) (a : Accepted text m) where
       ∙ ap (spellings (houseLayout m) (placeOf (houseLayout m) first) entryLength) size
 
   tests-in-print : drop (m .firstTest) (m .functionSpellings)
-      ≡ spellings (houseLayout m) (placeOf (houseLayout m) (firstTest (length (m .registerSpellings)) (m .firstTest))) entryLength
+      ≡ spellings (houseLayout m) (placeOf (houseLayout m) (firstTestToken (length (m .registerSpellings)) (m .firstTest))) entryLength
       (length (m .functionSpellings) - m .firstTest)
   tests-in-print =
       let t = m .firstTest in
       let gs = m .functionSpellings in
-      let first = firstTest (length (m .registerSpellings)) t in
+      let first = firstTestToken (length (m .registerSpellings)) t in
       let size = length-drop t gs in
       held-spellings (houseLayout m) (print-whole .tokens) first entryLength (drop t gs)
       (λ k h.

@@ -14,7 +14,7 @@ use Rattle.tokens.specs.Words as word
 use Rattle.tokens.specs.Tokens.{tokenAt, placeOf}
 use Rattle.tokens.proofs.Theory.TokensLaws.{behind-both}
 use Rattle.grammar.specs.Grammar.{Macro, sentence, entryTokens, lineTokens, declarationTokens, blockTokens}
-use Rattle.grammar.specs.Spelled.{Spells, Declared, Disjoint, Arities, InOrder, firstRegister, firstFunction, firstTest, entryLength, lineLength}
+use Rattle.grammar.specs.Spelled.{Spells, Declared, Disjoint, Arities, InOrder, firstRegister, firstFunction, firstTestToken, entryLength, lineLength}
 use Rattle.grammar.proofs.Theory.Parts.{arities-take, arities-drop, declared-front}
 use Rattle.refusals.specs.Accepted.{Accepted}
 use Rattle.refusals.proofs.Theory.Basics.{clash, not-true}
@@ -231,7 +231,7 @@ module _ (s : List ℕ) (m : Macro) (A : Accepted s m) where
       from-first _ (firstFunction n + entryLength * f) (first-function m (A .in-order) f h (ltb-true f (m .firstTest) u)) (place n (entryLength * f))
       (rw u at (function-spelled s m (A .spelled) f h)))
       λ u.
-      from-first _ (firstTest n (m .firstTest) + entryLength * (f - m .firstTest)) (first-test m (A .in-order) f h (ltb-false f (m .firstTest) u))
+      from-first _ (firstTestToken n (m .firstTest) + entryLength * (f - m .firstTest)) (first-test m (A .in-order) f h (ltb-false f (m .firstTest) u))
       (later n (lineLength (m .firstTest)) (entryLength * (f - m .firstTest))) (rw u at (function-spelled s m (A .spelled) f h))
     where
       n : ℕ

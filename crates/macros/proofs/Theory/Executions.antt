@@ -40,7 +40,7 @@ mutual
   exec-begins (Exec.turns x y) = begins-join (before whole) (begins-join (block-begins x) (exec-begins y))
   exec-begins (Exec.breaks x) = begins-join (before whole) (block-begins x)
 
-  else-begins : {e : Else} {ρ π : Trace} {o : Outcome} → ExecElse e ρ π o → Begins ρ π
+  pub else-begins : {e : Else} {ρ π : Trace} {o : Outcome} → ExecElse e ρ π o → Begins ρ π
   else-begins ExecElse.none = whole
   else-begins (ExecElse.some x) = block-begins x
 

@@ -13,7 +13,7 @@ use Rattle.base.proofs.Theory.Choice.{byTest}
 use Rattle.tokens.specs.Tokens.{tokenAt, placeBehind, placeOf, spellings}
 use Rattle.tokens.proofs.Theory.TokensLaws.{behind-both, spellings-length, spelling-at}
 use Rattle.grammar.specs.Grammar.{Macro, sentence, entryTokens, lineTokens}
-use Rattle.grammar.specs.Spelled.{Spells, Spelled, Arities, firstRegister, firstFunction, firstTest, entryLength, lineLength, functionToken}
+use Rattle.grammar.specs.Spelled.{Spells, Spelled, Arities, firstRegister, firstFunction, firstTestToken, entryLength, lineLength, functionToken}
 use Rattle.grammar.proofs.Theory.Parts.{arities-take, arities-drop}
 use Rattle.tokens.specs.Words as word
 
@@ -92,7 +92,7 @@ module _ (m : Macro) where
       taken (suc t) (g ∷ fs) (suc f) l h = omega (arith, taken t fs f (omega arith) (omega arith))
 
   test-behind : Arities (m .functions) (m .arities) → (f : ℕ) → f < length (m .functions) → m .firstTest ≤ f
-      → Holds (sentence m) (firstTest (length (m .registers)) (m .firstTest) + entryLength * (f - m .firstTest)) (getD (m .functions) f 0)
+      → Holds (sentence m) (firstTestToken (length (m .registers)) (m .firstTest) + entryLength * (f - m .firstTest)) (getD (m .functions) f 0)
   unfolding sentence
   test-behind a f h l =
       let t = m .firstTest in
@@ -102,7 +102,11 @@ module _ (m : Macro) where
       let d = length-drop t (m .functions) in
       let g : getD (drop t (m .functions)) (f - t) 0 ≡ getD (m .functions) f 0 =
       getD-drop t (m .functions) (f - t) 0 ∙ ap (λ f. getD (m .functions) f 0) (let e : t + (f - t) ≡ f = omega arith in e) in
-      rw (let e : firstTest (length (m .registers)) t + 3 * (f - t) ≡ suc (length (m .registers) + suc (length L + suc (3 * (f - t)))) = omega arith in e, ← g)
+      rw (
+        let e : firstTestToken (length (m .registers)) t + 3 * (f - t)
+            ≡ suc (length (m .registers) + suc (length L + suc (3 * (f - t)))) = omega arith in e,
+        ← g,
+      )
       (held-cons _ (held-behind (m .registers) _ (suc (length L + suc (3 * (f - t)))) _ (held-cons _ (held-before _ _ _ _ (held-behind L _ _ _
       (line-held word.testsKey (drop t (m .functions)) (arities-drop t a) (f - t) (omega arith)))))))
 
@@ -151,7 +155,7 @@ module _ (text : List ℕ) (m : Macro) (S : Spelled text m) where
       let n = length (m .registers) in
       let t = m .firstTest in
       let A = spellings text (placeOf text (firstFunction n)) entryLength t in
-      let B = spellings text (placeOf text (firstTest n t)) entryLength (length (m .functions) - t) in
+      let B = spellings text (placeOf text (firstTestToken n t)) entryLength (length (m .functions) - t) in
       let a : length A ≡ t = spellings-length text (placeOf text (firstFunction n)) entryLength t in
       byTest (ltb f t)
       (λ u. let l = ltb-true f t u in
@@ -159,5 +163,5 @@ module _ (text : List ℕ) (m : Macro) (S : Spelled text m) where
       ∙ ap (λ l. getD l f 0) (sym (S .functionSpellings))))
       λ u. let l = ltb-false f t u in
       let e : f ≡ length A + (f - t) = omega arith in
-      rw u (spelled-at text (firstTest n t) entryLength (length (m .functions) - t) {names = B} refl (f - t) (omega arith)
+      rw u (spelled-at text (firstTestToken n t) entryLength (length (m .functions) - t) {names = B} refl (f - t) (omega arith)
       ∙ sym (getD-append-add A B (f - t) 0) ∙ ap (λ g. getD (A ++ B) g 0) (sym e) ∙ ap (λ l. getD l f 0) (sym (S .functionSpellings)))

@@ -14,7 +14,7 @@ use Rattle.tokens.specs.Words as word
 use Rattle.tokens.proofs.Theory.TokensLaws.{spellings-length}
 use Rattle.grammar.specs.Limits.{hiddenRegisters}
 use Rattle.grammar.specs.Grammar.{binaryOf, hidden}
-use Rattle.grammar.specs.Spelled.{firstRegister, firstFunction, firstTest, lineLength, entryLength, besideEntries, spelledRegisters}
+use Rattle.grammar.specs.Spelled.{firstRegister, firstFunction, firstTestToken, lineLength, entryLength, besideEntries, spelledRegisters}
 use Rattle.syntax.specs.Answer.{padded}
 use Rattle.syntax.specs.Top.{hiddenCount, headed, paddedRegisters, paddedFunctions, spelledBehind}
 use Rattle.syntax.specs.declared.Registers.{Registers}
@@ -94,16 +94,16 @@ module _ (s : List ℕ) (n m k : ℕ) (l : m ≤ k) (h : k ≤ mostFunctions) wh
   OfFunctions = spellings s (placeOf s (firstFunction n)) entryLength m
 
   abbrev OfTests : List ℕ
-  OfTests = spellings s (placeOf s (firstTest n m)) entryLength (k - m)
+  OfTests = spellings s (placeOf s (firstTestToken n m)) entryLength (k - m)
 
   abbrev Behind : List ℕ
   Behind = zeros (mostFunctions - length OfFunctions)
 
-  pub functions-spelled : (names : List ℕ) → names ≡ padded mostFunctions OfFunctions → (from : ℕ) → from ≡ placeOf s (firstTest n m)
+  pub functions-spelled : (names : List ℕ) → names ≡ padded mostFunctions OfFunctions → (from : ℕ) → from ≡ placeOf s (firstTestToken n m)
       → spelledBehind s from m k names ≡ paddedFunctions s n m k
   functions-spelled names e from f =
       let a = spellings-length s (placeOf s (firstFunction n)) entryLength m in
-      let b = spellings-length s (placeOf s (firstTest n m)) entryLength (k - m) in
+      let b = spellings-length s (placeOf s (firstTestToken n m)) entryLength (k - m) in
       let front : take m names ≡ OfFunctions = (λ i. take (sym a i) (e i)) ∙ take-append-seam OfFunctions Behind in
       let rest : drop m names ≡ Behind = (λ i. drop (sym a i) (e i)) ∙ drop-append-seam OfFunctions Behind in
       let last : drop k names ≡ drop (k - m) Behind =

@@ -1,5 +1,5 @@
 -- The letters of every execution of a proper macro are of the right sorts.
-use mathlib.Core.Path.{_≡_, refl, sym, ap, subst}
+use mathlib.Core.Path.{_≡_, refl, sym, subst}
 use mathlib.Core.Logic.{_⊎_, inl, inr}
 use Prim.Native.Nat.{ℕ}
 use Rattle.letters.specs.declared.Header.{Header}
@@ -18,7 +18,7 @@ use Rattle.macros.proofs.Theory.Branches.{_before_, elseBlock, due, branches, p
 use Rattle.grammar.specs.Tree.{Condition as WrittenCondition, holds, fails, copy, apply, ProperCondition, Proper, ProperElse, ProperBlock}
 use Rattle.grammar.specs.Tree as written
 use Rattle.grammar.specs.Expanded.{resultRegister, application, comparison, after, expandedStatement, expandedElse, expandedBlock}
-use Rattle.grammar.specs.Expanded as expansion
+use Rattle.grammar.proofs.Theory.Meanings.{before-written-out}
 use Rattle.theorems.specs.Relations.{TestAsked, OfRightSort, right-copy, right-application, right-asking, right-equal, right-unequal, right-held}
 use Rattle.theorems.specs.Relations.{right-failed, RightSorts}
 
@@ -179,11 +179,6 @@ module _ (n t : ℕ) where
       (tt, right-due ⊥ (writtenOut m) x) p) .0
 
 -- ── what a proper macro performs is right ──
-before-written-out : (a b : macro.Block) (k : Block) → blockBefore (expansion._before_ a b) k ≡ blockBefore a (blockBefore b k)
-unfolding statementBefore
-before-written-out macro.empty b k = refl
-before-written-out (macro._then_ s a) b k = ap (statementBefore s) (before-written-out a b k)
-
 module _ (h : Header) (t : ℕ) where
   abbrev declaredHere : ℕ
   declaredHere = h .registers

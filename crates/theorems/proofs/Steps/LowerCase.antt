@@ -10,7 +10,7 @@ use Rattle.tokens.specs.Bytes.{lowered, lowerCase}
 use Rattle.tokens.specs.Tokens.{tokenAt, placeOf, spellings}
 use Rattle.grammar.specs.Grammar.{Macro, sentence}
 use Rattle.grammar.specs.Limits.{longestText}
-use Rattle.grammar.specs.Spelled.{Spells, Spelled, InOrder, firstRegister, firstFunction, firstTest, entryLength, functionToken, spelledFunctions}
+use Rattle.grammar.specs.Spelled.{Spells, Spelled, InOrder, firstRegister, firstFunction, firstTestToken, entryLength, functionToken, spelledFunctions}
 use Rattle.refusals.specs.FirstNo.{FirstNo}
 use Rattle.refusals.specs.Order.{Refusal}
 use Rattle.refusals.specs.Accepted.{Accepted}
@@ -37,8 +37,8 @@ module _ (s : List ℕ) where
   early : (n t k : ℕ) → k < t → firstFunction n + entryLength * k ≡ functionToken n t k
   early n t k l = rw (lt-ltb k t l)
 
-  late : (n t k : ℕ) → firstTest n t + entryLength * k ≡ functionToken n t (t + k)
-  late n t k = rw (le-ltb (t + k) t (omega arith)) (ap (λ j. firstTest n t + entryLength * j) (let e : k ≡ t + k - t = omega arith in e))
+  late : (n t k : ℕ) → firstTestToken n t + entryLength * k ≡ functionToken n t (t + k)
+  late n t k = rw (le-ltb (t + k) t (omega arith)) (ap (λ j. firstTestToken n t + entryLength * j) (let e : k ≡ t + k - t = omega arith in e))
 
   -- the functions and the tests, each by the token that declares it
   functions-lower : (n t : ℕ) (fs : List ℕ) → t ≤ length fs
@@ -48,10 +48,10 @@ module _ (s : List ℕ) where
       let behind = length-drop t fs in
       let functions = spellings-lower s (firstFunction n) entryLength (take t fs) λ k g.
       ap (λ i. tokenAt s (placeOf s i) .key) (early n t k (omega arith)) ∙ h k (omega arith) ∙ sym (getD-take t fs k 0 (omega arith)) in
-      let tests = spellings-lower s (firstTest n t) entryLength (drop t fs) λ k g.
+      let tests = spellings-lower s (firstTestToken n t) entryLength (drop t fs) λ k g.
       ap (λ i. tokenAt s (placeOf s i) .key) (late n t k) ∙ h (t + k) (omega arith) ∙ sym (getD-drop t fs k 0) in
       (λ i. spellings (lowerCase s) (placeOf (lowerCase s) (firstFunction n)) entryLength (sym front i)
-      ++ spellings (lowerCase s) (placeOf (lowerCase s) (firstTest n t)) entryLength (sym behind i))
+      ++ spellings (lowerCase s) (placeOf (lowerCase s) (firstTestToken n t)) entryLength (sym behind i))
       ∙ (λ i. functions i ++ tests i) ∙ take-append-drop t fs
 
   spelled-lower : (m : Macro) → InOrder m → Spelled s m → Spelled (lowerCase s) (inLowerCase m)

@@ -1,6 +1,6 @@
 -- A data model that models relations satisfies the tests of a trace exactly if they hold with the relations.
 use mathlib.Core.Path.{_≡_, refl, sym, ap, ap₂, _∙_, subst}
-use mathlib.Core.Logic.{_⊎_, inl, inr, _↔_, _≢_, Lift, Iff·symm, Iff·trans, Iff·and}
+use mathlib.Core.Logic.{_⊎_, inl, inr, _↔_, _≢_, Iff·symm, Iff·trans, Iff·and}
 use mathlib.Core.Bool.{Bool, true, false, cond, true≢false}
 use mathlib.Core.List.{List, _∷_, List·Memᴰ·head, List·Memᴰ·tail, List·Memᴰ·cases-cons, List·Memᴰ·not-nil}
 use Prim.Native.Nat.{ℕ, suc, _≤_, _<_}
@@ -16,7 +16,9 @@ use Rattle.semantics.specs.Facts.{WellFormed}
 use Rattle.semantics.proofs.Theory.Facts.{state-valid}
 use Rattle.semantics.proofs.Theory.PaperLaws.{numbers, feasible-anywhere}
 use Rattle.grammar.specs.Expanded.{resultRegister, truthRegister}
-use Rattle.theorems.specs.Relations.{RelationalModel, valueIn, lastHeld, EqualHolds, UnequalHolds, AllHold, FeasibleWithRelations, TestAsked}
+use Rattle.grammar.specs.Meanings.{Meaning}
+use Rattle.grammar.specs.MeaningOfTraces.{valueIn, lastHeld, EqualHolds, UnequalHolds, AllHold}
+use Rattle.theorems.specs.Relations.{FeasibleWithRelations, TestAsked}
 use Rattle.theorems.specs.Relations.{right-copy, right-application, right-asking, right-equal, right-unequal, right-held, right-failed, RightSorts}
 use Rattle.theorems.specs.Relations.{ModelsRelations, asFunctions, asRelations}
 
@@ -65,21 +67,21 @@ module _ (σ : State) (r x : ℕ) (apart : r ≢ x) where
   apply-leaves : (f y z : ℕ) → value-after σ (Apply x f y z) r ≡ σ .value r
   apply-leaves f y z = ap (λ b. elim b [ true ↦ app f (σ .value y) (σ .value z) | false ↦ σ .value r ]) (ne-eqb r x apart)
 
-apply-leaves-here {ℓ} : (R : RelationalModel {ℓ}) (ρ : Trace) (r x f y z : ℕ) → r ≢ x → valueIn R (ρ ▸ Apply x f y z) r ≡ valueIn R ρ r
+apply-leaves-here {ℓ} : (R : Meaning {ℓ}) (ρ : Trace) (r x f y z : ℕ) → r ≢ x → valueIn R (ρ ▸ Apply x f y z) r ≡ valueIn R ρ r
 apply-leaves-here R ρ r x f y z apart = ap (λ b. pick b (λ _. R .table f (valueIn R ρ y) (valueIn R ρ z)) λ _. valueIn R ρ r) (ne-eqb r x apart)
 
 apply-gives : (σ : State) (x f y z : ℕ) → value-after σ (Apply x f y z) x ≡ app f (σ .value y) (σ .value z)
 apply-gives σ x f y z = ap (λ b. elim b [ true ↦ app f (σ .value y) (σ .value z) | false ↦ σ .value x ]) (eq-eqb x x refl)
 
 -- an application into `result` asks a test, and no other does
-module _ {ℓ} (n : ℕ) (R : RelationalModel {ℓ}) (ρ : Trace) (x f y z : ℕ) where
+module _ {ℓ} (n : ℕ) (R : Meaning {ℓ}) (ρ : Trace) (x f y z : ℕ) where
   not-asked : x ≢ n → lastHeld n R (ρ ▸ Apply x f y z) ≡ lastHeld n R ρ
-  not-asked apart = ap (λ b. pick b (λ _. R .test f (valueIn R ρ y) (valueIn R ρ z)) λ _. lastHeld n R ρ) (ne-eqb x n apart)
+  not-asked apart = ap (λ b. pick b (λ _. R .relation f (valueIn R ρ y) (valueIn R ρ z)) λ _. lastHeld n R ρ) (ne-eqb x n apart)
 
-  was-asked : x ≡ n → lastHeld n R (ρ ▸ Apply x f y z) ≡ R .test f (valueIn R ρ y) (valueIn R ρ z)
-  was-asked same = ap (λ b. pick b (λ _. R .test f (valueIn R ρ y) (valueIn R ρ z)) λ _. lastHeld n R ρ) (eq-eqb x n same)
+  was-asked : x ≡ n → lastHeld n R (ρ ▸ Apply x f y z) ≡ R .relation f (valueIn R ρ y) (valueIn R ρ z)
+  was-asked same = ap (λ b. pick b (λ _. R .relation f (valueIn R ρ y) (valueIn R ρ z)) λ _. lastHeld n R ρ) (eq-eqb x n same)
 
-module _ {ℓ} (n t : ℕ) (R : RelationalModel {ℓ}) (A : AnyModel {ℓ}) (c : ModelsRelations n t R A) where
+module _ {ℓ} (n t : ℕ) (R : Meaning {ℓ}) (A : AnyModel {ℓ}) (c : ModelsRelations n t R A) where
   -- a declared register has the value that it has with relations
   declared-value : (τ : Trace) → RightSorts n t τ → (r : ℕ) → r < n → evalIn A (state τ .value r) ≡ c .among (valueIn R τ r)
   declared-value (begin h) s r l = c .starts r l
@@ -202,20 +204,20 @@ module _ {ℓ} (n t : ℕ) (R : RelationalModel {ℓ}) (A : AnyModel {ℓ}) (c :
   hold-alike (ρ ▸ a) (s, right-failed w) = unequal-step ρ (resultRegister n) (truthRegister n) (hold-alike ρ s) (unequal-of-result ρ s w)
 
 -- ── relations as functions ──
-pub functions-model {ℓ} : (n t : ℕ) (R : RelationalModel {ℓ}) → ModelsRelations n t R (asFunctions n t R)
+pub functions-model {ℓ} : (n t : ℕ) (R : Meaning {ℓ}) → ModelsRelations n t R (asFunctions n t R)
 functions-model n t R = record {
   among = inl;
   once = λ a b e. cc;
   starts = λ r l. ap (λ b. pick b (λ _. inl (R .start r)) λ _. inr true) (lt-ltb r n l);
-  functions = λ f a b l. ap (λ d. pick d (λ _. inl (R .table f a b)) λ _. inr (R .test f a b)) (lt-ltb f t l);
+  functions = λ f a b l. ap (λ d. pick d (λ _. inl (R .table f a b)) λ _. inr (R .relation f a b)) (lt-ltb f t l);
   tests = λ f a b l. let e = test-answers f a b l in (λ k. truths (sym e ∙ k ∙ begins-true), λ k. e ∙ ap inr k ∙ sym begins-true);
 }
   where
     begins-true : asFunctions n t R .start (truthRegister n) ≡ inr true
     begins-true = ap (λ b. pick b (λ _. inl (R .start (truthRegister n))) λ _. inr true) (le-ltb (suc n) n (omega arith))
 
-    test-answers : (f : ℕ) (a b : R .Value) → t ≤ f → asFunctions n t R .table f (inl a) (inl b) ≡ inr (R .test f a b)
-    test-answers f a b l = ap (λ d. pick d (λ _. inl (R .table f a b)) λ _. inr (R .test f a b)) (le-ltb f t l)
+    test-answers : (f : ℕ) (a b : R .Value) → t ≤ f → asFunctions n t R .table f (inl a) (inl b) ≡ inr (R .relation f a b)
+    test-answers f a b l = ap (λ d. pick d (λ _. inl (R .table f a b)) λ _. inr (R .relation f a b)) (le-ltb f t l)
 
     truths : {a b : Bool} → _≡_ {A = R .Value ⊎ Bool} (inr a) (inr b) → a ≡ b
     truths e = cc
@@ -238,17 +240,8 @@ satisfies-numbers M E D = (
   },
 )
 
--- the relations of a model, their values lifted to any universe
-abbrev raised {ℓ} : ℕ → Model → RelationalModel {ℓ}
-raised n M = record {
-  Value = Lift {0, ℓ} ℕ;
-  start = numbers {ℓ} M .start;
-  table = numbers {ℓ} M .table;
-  test = λ f a b. asRelations n M .test f (a .lower) (b .lower);
-}
-
-raised-model {ℓ} : (n t : ℕ) (M : Model) → ModelsRelations n t (raised {ℓ} n M) (numbers {ℓ} M)
-raised-model n t M = record {
+pub relations-model {ℓ} : (n t : ℕ) (M : Model) → ModelsRelations n t (asRelations {ℓ} n M) (numbers {ℓ} M)
+relations-model n t M = record {
   among = λ a. a;
   once = λ a b e. e;
   starts = λ r l. refl;
@@ -259,29 +252,17 @@ raised-model n t M = record {
   );
 }
 
-pub relations-model : (n t : ℕ) (M : Model) → ModelsRelations n t (asRelations n M) (numbers {0} M)
-relations-model n t M = record {
-  among = λ a. record { lower = a };
-  once = λ a b e. ap (λ v. v .lower) e;
-  starts = λ r l. refl;
-  functions = λ f a b l. refl;
-  tests = λ f a b l. (λ e. eq-eqb _ _ (ap (λ v. v .lower) e), λ e. λ i. record { lower = eqb-true (M .table f a b) (M .start (truthRegister n)) e i });
-}
-
 module _ (n t : ℕ) (τ : Trace) (s : RightSorts n t τ) where
-  pub as-functions {ℓ} : (R : RelationalModel {ℓ}) → AllHold n R τ ↔ SatisfiesIn (asFunctions n t R) (state τ .equals) (state τ .unequals)
+  pub as-functions {ℓ} : (R : Meaning {ℓ}) → AllHold n R τ ↔ SatisfiesIn (asFunctions n t R) (state τ .equals) (state τ .unequals)
   as-functions R = hold-alike n t R (asFunctions n t R) (functions-model n t R) τ s
 
-  pub as-relations : (M : Model) → Satisfies M (state τ .equals) (state τ .unequals) ↔ AllHold n (asRelations n M) τ
+  pub as-relations {ℓ} : (M : Model) → Satisfies M (state τ .equals) (state τ .unequals) ↔ AllHold n (asRelations {ℓ} n M) τ
   as-relations M =
-      Iff·trans (satisfies-numbers {0} M (state τ .equals) (state τ .unequals))
-      (Iff·symm (hold-alike n t (asRelations n M) (numbers {0} M) (relations-model n t M) τ s))
+      Iff·trans (satisfies-numbers {ℓ} M (state τ .equals) (state τ .unequals))
+      (Iff·symm (hold-alike n t (asRelations {ℓ} n M) (numbers {ℓ} M) (relations-model {ℓ} n t M) τ s))
 
   pub feasible-alike {ℓ} : WellFormed τ → Feasible (state τ) ↔ FeasibleWithRelations {ℓ} n τ
   feasible-alike w = (
-    λ (M, x). (
-      raised {ℓ} n M,
-      hold-alike n t (raised {ℓ} n M) (numbers {ℓ} M) (raised-model {ℓ} n t M) τ s .1 (satisfies-numbers {ℓ} M (state τ .equals) (state τ .unequals) .0 x),
-    ),
+    λ (M, x). (asRelations {ℓ} n M, as-relations {ℓ} M .0 x),
     λ (R, x). feasible-anywhere {ℓ} (state τ) (state-valid τ w) .1 (asFunctions n t R, as-functions R .0 x),
   )

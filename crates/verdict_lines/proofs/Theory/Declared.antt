@@ -17,7 +17,7 @@ use Rattle.tokens.proofs.Theory.Keys.{TokenBytes, token-held, same-token}
 use Rattle.tokens.proofs.Theory.TokensLaws.{spellings-length}
 use Rattle.tokens.proofs.Theory.WordsLaws.{name-real}
 use Rattle.grammar.specs.Grammar.{Macro, hiddenOf, shownRegisters}
-use Rattle.grammar.specs.Spelled.{Declared, Disjoint, firstRegister, firstFunction, firstTest, entryLength, functionToken, spelledFunctions}
+use Rattle.grammar.specs.Spelled.{Declared, Disjoint, firstRegister, firstFunction, firstTestToken, entryLength, functionToken, spelledFunctions}
 use Rattle.refusals.specs.Accepted.{Accepted}
 use Rattle.refusals.proofs.Theory.Declared.{register-declared, register-spelled, function-declared, function-spelled}
 use Rattle.text.specs.Names.{nameText}
@@ -62,8 +62,8 @@ module _ (text keys spelled : List ℕ) (declaring : ℕ → ℕ) (D : Declaring
 spelled-size : (s : List ℕ) (n m k : ℕ) → m ≤ k → length (spelledFunctions s n m k) ≡ k
 spelled-size s n m k l =
     let a = spellings-length s (placeOf s (firstFunction n)) entryLength m in
-    let b = spellings-length s (placeOf s (firstTest n m)) entryLength (k - m) in
-    length-append (spellings s (placeOf s (firstFunction n)) entryLength m) (spellings s (placeOf s (firstTest n m)) entryLength (k - m)) ∙ omega arith
+    let b = spellings-length s (placeOf s (firstTestToken n m)) entryLength (k - m) in
+    length-append (spellings s (placeOf s (firstFunction n)) entryLength m) (spellings s (placeOf s (firstTestToken n m)) entryLength (k - m)) ∙ omega arith
 
 module _ (text : List ℕ) (m : Macro) (a : Accepted text m) where
   registers : Declaring text (m .registers) (m .registerSpellings) registerToken
