@@ -247,13 +247,18 @@ fn about_layout(text: &[u8], read: &Macro) -> Vec<&'static str> {
     found.into_iter().filter_map(|(kind, there)| there.then_some(kind)).collect()
 }
 
-#[test]
-fn layouts() {
-    let mut about: BTreeMap<&str, usize> = BTreeMap::new();
+/// Each of so many kinds, as `about` finds them in a text, is met in the texts to lay out.
+pub fn laid_out_texts_have(kinds: usize, about: fn(&[u8], &Macro) -> Vec<&'static str>) {
+    let mut met: BTreeMap<&str, usize> = BTreeMap::new();
     for seed in 0..2_000 {
         let (read, text) = text_to_lay_out(&mut Random::new(seed));
-        about_layout(&text, &read).into_iter().for_each(|kind| *about.entry(kind).or_default() += 1);
+        about(&text, &read).into_iter().for_each(|kind| *met.entry(kind).or_default() += 1);
     }
-    println!("{about:?}");
-    assert!(about.len() == 14 && about.values().all(|&count| count > 50), "{about:?}");
+    println!("{met:?}");
+    assert!(met.len() == kinds && met.values().all(|&count| count > 50), "{met:?}");
+}
+
+#[test]
+fn layouts() {
+    laid_out_texts_have(14, about_layout);
 }

@@ -4,7 +4,6 @@
 use std::collections::{BTreeMap, BTreeSet};
 
 use fadzgime_tests::generators::damaged_macros::damaged_text;
-use fadzgime_tests::generators::layouts::text_to_lay_out;
 use fadzgime_tests::generators::macros::random_macro;
 use fadzgime_tests::generators::random::Random;
 use fadzgime_tests::oracle::letter::{Letter, MAX_FUNCTIONS, MAX_REGISTERS};
@@ -14,7 +13,7 @@ use fadzgime_tests::oracle::syntax::{Macro, Statement};
 use fadzgime_tests::oracle::token::{Placed, Token, Word, is_same_name, token_at};
 use fadzgime_tests::oracle::verdict::{Verdict, search};
 
-use crate::spread::tokens;
+use crate::spread::{laid_out_texts_have, tokens};
 
 /// The conditions with names among some statements: the statement's word, whether there is a `!`, how many arguments.
 fn named(statements: &[Statement]) -> BTreeSet<String> {
@@ -218,11 +217,5 @@ fn about_layout(text: &[u8], read: &Macro) -> Vec<&'static str> {
 
 #[test]
 fn layouts() {
-    let mut about: BTreeMap<&str, usize> = BTreeMap::new();
-    for seed in 0..2_000 {
-        let (read, text) = text_to_lay_out(&mut Random::new(seed));
-        about_layout(&text, &read).into_iter().for_each(|kind| *about.entry(kind).or_default() += 1);
-    }
-    println!("layouts with tests: {about:?}");
-    assert!(about.len() == 5 && about.values().all(|&count| count > 50), "{about:?}");
+    laid_out_texts_have(5, about_layout);
 }
