@@ -2,7 +2,7 @@
 -- `sameName`, which holds exactly if their bytes are the same in lower case (`same-token`, Keys).
 use Prim.Native.Nat.{ℕ, _%_}
 use mathlib.Core.Bool.{Bool, not, _&&_, _||_}
-use mathlib.Core.List.{[], _∷_}
+use mathlib.Core.List.{List, [], _∷_}
 use lib.Dec.{eqb}
 use Rattle.base.specs.Bytes.{byteValues}
 use Rattle.tokens.specs.Bytes.{lower, key}
@@ -43,11 +43,18 @@ elseKey = key (101 ∷ 108 ∷ 115 ∷ 101 ∷ [])
 abbrev pub whileKey : ℕ
 whileKey = key (119 ∷ 104 ∷ 105 ∷ 108 ∷ 101 ∷ [])
 
+-- the words of the hidden registers, with their bytes, for lines print them
+abbrev pub resultWord : List ℕ
+resultWord = 114 ∷ 101 ∷ 115 ∷ 117 ∷ 108 ∷ 116 ∷ []
+
 abbrev pub resultKey : ℕ
-resultKey = key (114 ∷ 101 ∷ 115 ∷ 117 ∷ 108 ∷ 116 ∷ [])
+resultKey = key resultWord
+
+abbrev pub truthWord : List ℕ
+truthWord = 116 ∷ 114 ∷ 117 ∷ 116 ∷ 104 ∷ []
 
 abbrev pub truthKey : ℕ
-truthKey = key (116 ∷ 114 ∷ 117 ∷ 116 ∷ 104 ∷ [])
+truthKey = key truthWord
 
 abbrev pub keyword : ℕ → Bool
 keyword k =

@@ -12,6 +12,7 @@ use Rattle.semantics.specs.Models.{Feasible}
 use Rattle.semantics.specs.Coherence.{Coherent}
 use Rattle.semantics.specs.Numbering.{ShownModel}
 use Rattle.macros.specs.Executions.{Partial, Failing}
+use Rattle.tokens.specs.Words.{resultWord, truthWord}
 use Rattle.tokens.specs.Tokens.{bytesAt, placeOf}
 use Rattle.grammar.specs.Grammar.{Macro, headerOf, expanded}
 use Rattle.grammar.specs.Spelled.{firstRegister, functionToken}
@@ -41,12 +42,6 @@ abbrev pub nameDeclared : List ℕ → ℕ → (ℕ → ℕ) → ℕ → List �
 nameDeclared text n declaring i = pick (ltb i n) (λ _. bytesAt text (placeOf text (declaring i))) λ _. []
 
 -- The hidden registers, where tests are declared, print as the words `result` and `truth` (SPEC 8.4, 12.2).
-abbrev pub resultWord : List ℕ
-resultWord = 114 ∷ 101 ∷ 115 ∷ 117 ∷ 108 ∷ 116 ∷ []
-
-abbrev pub truthWord : List ℕ
-truthWord = 116 ∷ 114 ∷ 117 ∷ 116 ∷ 104 ∷ []
-
 abbrev pub hiddenNames : Macro → List (List ℕ)
 hiddenNames m = pick (ltb (m .firstTest) (length (m .functions))) (λ _. resultWord ∷ truthWord ∷ []) λ _. []
 

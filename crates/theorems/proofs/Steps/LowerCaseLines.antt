@@ -16,6 +16,7 @@ use Rattle.semantics.specs.Tables.{Row, Tables}
 use Rattle.semantics.specs.PackedTables.{secondWritten}
 use Rattle.semantics.specs.Terms.{begin}
 use Rattle.tokens.specs.Bytes.{lowered, lowerCase}
+use Rattle.tokens.specs.Words.{resultWord, truthWord}
 use Rattle.tokens.specs.Tokens.{tokenAt, bytesAt, placeOf}
 use Rattle.tokens.proofs.Theory.BytesLaws.{lower-slice}
 use Rattle.grammar.specs.Grammar.{Macro, headerOf, expanded}
@@ -27,7 +28,7 @@ use Rattle.text.specs.Numerals.{numeral}
 use Rattle.text.proofs.Theory.Numerals.{Digits, numeral-digits}
 use Rattle.report.specs.Lines.{Names, Printed, line, linesOf, startLines, rowLine, verdictLines, letterLine, letterLines, modelLines, report}
 use Rattle.report.specs.Lines as words
-use Rattle.verdict_lines.specs.Prints.{nameDeclared, registerToken, resultWord, truthWord, hiddenNames, declaredNames, Told, Says}
+use Rattle.verdict_lines.specs.Prints.{nameDeclared, registerToken, hiddenNames, declaredNames, Told, Says}
 use Rattle.verdict_lines.proofs.Theory.PrintsLaws.{one-told}
 use Rattle.theorems.specs.LowerCase.{inLowerCase}
 use Rattle.theorems.proofs.Steps.LowerCaseTokens.{start-lower, end-lower, behind-lower}

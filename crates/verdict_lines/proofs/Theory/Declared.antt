@@ -10,7 +10,7 @@ use lib.Seq.{getD-append-add}
 use borrow.Author.Tests.{ltb-true, ltb-false, lt-ltb, eqb-true}
 use Rattle.base.proofs.Theory.Choice.{byTest}
 use Rattle.tokens.specs.Bytes.{lowerCase}
-use Rattle.tokens.specs.Words.{isName}
+use Rattle.tokens.specs.Words.{isName, resultWord, truthWord}
 use Rattle.tokens.specs.Words as word
 use Rattle.tokens.specs.Tokens.{tokenAt, bytesAt, placeOf, spellings}
 use Rattle.tokens.proofs.Theory.Keys.{TokenBytes, token-held, same-token}
@@ -23,7 +23,7 @@ use Rattle.refusals.proofs.Theory.Declared.{register-declared, register-spelled
 use Rattle.text.specs.Names.{nameText}
 use Rattle.text.proofs.Theory.Names.{name-back, name-none}
 use Rattle.report.specs.Shown.{namesOf}
-use Rattle.verdict_lines.specs.Prints.{registerToken, nameDeclared, resultWord, truthWord, hiddenNames, registerName, declaredNames}
+use Rattle.verdict_lines.specs.Prints.{registerToken, nameDeclared, hiddenNames, registerName, declaredNames}
 
 -- ── names of one sort: their keys, how they are spelled, and the tokens that declare them ──
 record Declaring (text keys spelled : List ℕ) (declaring : ℕ → ℕ) : Type 0 where
