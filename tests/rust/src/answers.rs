@@ -1,4 +1,5 @@
-//! Inputs whose answers were settled beforehand: what the programs print for macros and traces, and layouts of texts.
+//! Inputs whose answers were settled beforehand: what the programs print for macros and traces, unequal pairs of traces, and
+//! layouts of texts.
 
 use crate::oracle::refusal::Refusal;
 
@@ -133,6 +134,65 @@ pub const EQUAL_SIDES_MACROS: [(&str, &str); 6] = [
     (
         "vars x y z; funs f/1; while x = y { z := f(x); z := x; }",
         "verdict incoherent\npairs 5\nletters 5\nassume x = y\nz := f(x)\nz := x\nassume x = y\nz := f(x)\n",
+    ),
+];
+
+/// A trace whose unequal pairs are settled, as words of 64 bits.
+pub struct Paired {
+    /// A macro of its letters.
+    pub text: &'static str,
+    /// The words of its header and its letters.
+    pub words: &'static [u16],
+    /// The unequal pairs after the header alone, and after each letter.
+    pub unequal: &'static [u64],
+}
+
+impl Paired {
+    const fn new(text: &'static str, words: &'static [u16], unequal: &'static [u64]) -> Paired {
+        Paired { text, words, unequal }
+    }
+}
+
+/// Unequal flags by the word (document 02): "its bit 8a+b is set exactly where classes a and b, by name, are known
+/// unequal".
+pub const UNEQUAL_WORDS: [Paired; 9] = [
+    // The name of the class of x moves from register 0 to register 2.
+    Paired::new(
+        "vars x y z; assume x!=y; z:=x; x:=y;",
+        &[0x3000, 0xc008, 0x0400, 0x0040],
+        &[0, 0x102, 0x102, 0x1_0004],
+    ),
+    // A register that names no class has no bits.
+    Paired::new("vars x y z; assume x!=z; y:=x;", &[0x3000, 0xc010, 0x0200], &[0, 0x1_0004, 0x1_0004]),
+    // An equal test takes the pair to the lower name.
+    Paired::new("vars x y z; assume y!=z; assume x=y;", &[0x3000, 0xc050, 0x8008], &[0, 0x2_0400, 0x1_0004]),
+    // So does one that makes results equal.
+    Paired::new(
+        "vars x y u v w; funs f/1; u:=f(x); v:=f(y); assume v!=w; assume x=y;",
+        &[0x5200, 0x4400, 0x4640, 0xc0e0, 0x8008],
+        &[0, 0, 0, 0x8_1000_0000, 0x4_0010_0000],
+    ),
+    // The last registers in both orders.
+    Paired::new("vars a b c d e f g h; assume h!=g;", &[0x8000, 0xc1f0], &[0, 0x4080_0000_0000_0000]),
+    // A pair goes with the last register of a class.
+    Paired::new("vars x y z; assume x!=y; y:=z;", &[0x3000, 0xc008, 0x0280], &[0, 0x102, 0]),
+    // None once infeasible.
+    Paired::new(
+        "vars x y z; assume x!=y; assume x=y; assume x!=z;",
+        &[0x3000, 0xc008, 0x8008, 0xc010],
+        &[0, 0x102, 0, 0],
+    ),
+    // An incoherent letter leaves them, and so does what follows.
+    Paired::new(
+        "vars x y z; funs f/1; assume x!=y; z:=f(x); z:=f(z); assume x=y; assume x!=z;",
+        &[0x3200, 0xc008, 0x4400, 0x4480, 0x8008, 0xc010],
+        &[0, 0x102, 0x102, 0x102, 0x102, 0x102],
+    ),
+    // Also one that would make the trace infeasible.
+    Paired::new(
+        "vars u v x y; funs f/1; u:=f(x); v:=f(y); assume u!=v; assume x!=v; u:=x; assume x=y;",
+        &[0x4200, 0x4080, 0x42c0, 0xc008, 0xc088, 0x0080, 0x8098],
+        &[0, 0, 0, 0x102, 0x2_0502, 0x102, 0x102],
     ),
 ];
 

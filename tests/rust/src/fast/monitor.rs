@@ -94,10 +94,7 @@ impl FastMonitor {
     /// The window by the names of classes, their lowest-numbered registers.
     pub fn key(&self) -> Key {
         let registers = usize::from(self.header.registers);
-        let mut name = [LOST; STRIDE];
-        for register in (0..registers).rev() {
-            name[usize::from(self.slot[register])] = register as u8;
-        }
+        let name = self.names();
         let mut key = [0; 8 + 8 + 256 + 2];
         for register in 0..registers {
             key[register] = name[usize::from(self.slot[register])];
@@ -116,6 +113,27 @@ impl FastMonitor {
         }
         key[273] = u8::from(self.infeasible);
         key
+    }
+
+    /// For each slot with registers the lowest-numbered one, which names its class; else `LOST`.
+    fn names(&self) -> [u8; STRIDE] {
+        let mut name = [LOST; STRIDE];
+        for register in (0..self.header.registers).rev() {
+            name[self.slot_of(register)] = register;
+        }
+        name
+    }
+
+    /// The unequal pairs as one word: bit 8a + b is set if a and b name classes that are unequal.
+    pub fn unequal_word(&self) -> u64 {
+        let name = self.names();
+        let mut word = 0;
+        for a in 0..SLOTS {
+            for b in bits(self.unequal[a]) {
+                word |= 1 << (8 * name[a] + name[b]);
+            }
+        }
+        word
     }
 
     /// Would this letter be coherent?

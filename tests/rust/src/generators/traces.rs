@@ -36,6 +36,9 @@ impl Profile {
     }
 }
 
+/// Weights with many unequal tests.
+const UNEQUAL_WEIGHTS: [[usize; 4]; 4] = [[4, 4, 1, 12], [1, 2, 1, 9], [6, 2, 1, 4], [2, 6, 3, 3]];
+
 /// A random header, all of them possible.
 pub fn random_header(random: &mut Random) -> Header {
     let registers = 1 + random.byte_below(MAX_REGISTERS);
@@ -120,6 +123,20 @@ fn choose(
 pub fn any_trace(random: &mut Random, most: usize) -> Trace {
     let header = random_header(random);
     let profile = Profile::random(random);
+    let length = random.below(most);
+    random_trace(random, header, profile, length)
+}
+
+/// A random trace with many unequal tests and few letters that are incoherent or make it
+/// infeasible, of fewer than `most` letters.
+pub fn unequal_trace(random: &mut Random, most: usize) -> Trace {
+    let header = random_header(random);
+    let profile = Profile {
+        weights: *random.pick(&UNEQUAL_WEIGHTS),
+        incoherent: *random.pick(&[10, 100, 1000]),
+        infeasible: *random.pick(&[10, 100, 1000]),
+        repeats: *random.pick(&[8, 15, 1000]),
+    };
     let length = random.below(most);
     random_trace(random, header, profile, length)
 }

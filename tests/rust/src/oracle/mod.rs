@@ -17,5 +17,6 @@ pub mod state;
 pub mod syntax;
 pub mod token;
 pub mod trace;
+pub mod unequal_word;
 pub mod verdict;
 pub mod window;

@@ -15,6 +15,7 @@ mod search;
 mod spread;
 mod spread_of_tests;
 mod stored;
+mod unequal_word;
 mod windows;
 mod written_out;
 
