@@ -50,6 +50,7 @@ extern "C" {
 #define FADZGIME_MONITOR_ANSWER 4
 #define FADZGIME_WRITE_ANSWER 3
 #define FADZGIME_READ_TRACE_ANSWER 6
+#define FADZGIME_UNEQUAL_ANSWER 2
 #define FADZGIME_STREAM_ANSWER 1
 #define FADZGIME_MODEL_ANSWER 4
 #define FADZGIME_READ_ANSWER 5
@@ -157,6 +158,41 @@ void fadzgime_monitor_start(uint16_t header,
 void fadzgime_monitor_step(uint16_t letter,
                            uint8_t *state, size_t state_length,
                            uint64_t *answer, size_t answer_length);
+
+/*
+ * Which classes of registers a monitor knows to be unequal, as one word of 64 bits.
+ *
+ * Registers whose values are equal after the letters taken are one class: equal by
+ * copies, by equal tests, or because equal arguments give equal results. A class is
+ * named by its lowest register, so a register is a name if no lower one is in its class.
+ * Two classes are known unequal if an unequal test was between values that are equal to
+ * theirs (docs/SPEC.md, 5.1 and 5.2). Nothing is inferred: where f(x) and f(y) are known
+ * unequal, x and y need not be.
+ * answer[0] 0 or FADZGIME_NO_STATE, [1] the word, which is 0 with FADZGIME_NO_STATE. Bit
+ * 8a + b, of value 2^(8a + b), is set exactly if registers a and b are both names and
+ * their classes are known unequal. So bit 8b + a is set with it, the bits 9a are 0, and
+ * registers that are no names, or not below the header's count, have no bits. The word is
+ * 0 once the trace is infeasible. It is that of the longest coherent beginning of the
+ * letters taken: a refused letter leaves it as it was, and so do an incoherent one and
+ * the letters behind that. Asking changes nothing.
+ *
+ *     uint64_t unequal[FADZGIME_UNEQUAL_ANSWER];
+ *     fadzgime_monitor_unequal(state, sizeof state, unequal, FADZGIME_UNEQUAL_ANSWER);
+ *     for (int a = 0; a < 8; a++) {
+ *         for (int b = a + 1; b < 8; b++) {
+ *             if (unequal[1] >> (8 * a + b) & 1) {
+ *                 printf("the classes of %d and %d are unequal\n", a, b);
+ *             }
+ *         }
+ *     }
+ *
+ * With three registers (header 0x3000) and the letters 0 != 1 (0xc008), 2 := 0 (0x0400),
+ * 0 := 1 (0x0040) the words are 0 after the start, then 0x102, 0x102 and 0x10004: the
+ * class of the value that register 0 had first is named by register 2 in the end, and
+ * register 0 names the class of register 1.
+ */
+void fadzgime_monitor_unequal(const uint8_t *state, size_t state_length,
+                              uint64_t *answer, size_t answer_length);
 
 /*
  * The run of fadzgime_monitor over bytes that come in parts of any lengths:

@@ -20,6 +20,19 @@ static void show_bytes(const uint8_t *bytes, size_t count) {
     printf("\n");
 }
 
+/* The unequal pairs of a word, each once. */
+static void show_pairs(uint64_t word) {
+    printf("pairs");
+    for (int a = 0; a < 8; a++) {
+        for (int b = a + 1; b < 8; b++) {
+            if (word >> (8 * a + b) & 1) {
+                printf(" %d-%d", a, b);
+            }
+        }
+    }
+    printf("\n");
+}
+
 int main(void) {
     /* Three registers and one one-argument function: r2 := f(r0), r0 = r1. */
     static const uint8_t trace[] = {0x32, 0x00, 0x44, 0x00, 0x80, 0x08};
@@ -44,6 +57,9 @@ int main(void) {
     static const uint8_t letters[] = {1, 0, 2, 0, 0, 2, 0, 0, 0, 1};
     static const uint8_t twice[] = {1, 0, 2, 1, 1};
     uint8_t state[FADZGIME_STREAM_STATE];
+    /* Three registers: r0 != r1, r2 := r0, r0 := r1, r0 = r2. */
+    static const uint16_t apart[] = {0xc008, 0x0400, 0x0040, 0x8010};
+    uint64_t unequal[FADZGIME_UNEQUAL_ANSWER];
     /* A trace with the largest model: 1,024 times r0 := f(r0), under eight registers. */
     static uint8_t longest[2 + 2 * 1024];
     static uint8_t largest[FADZGIME_MODEL_OUTPUT];
@@ -70,7 +86,21 @@ int main(void) {
     fadzgime_monitor_step(0xc000, state, sizeof state, answer, 4);
     show("monitor_step", answer, 4);
 
+    fadzgime_monitor_unequal(state, 0, unequal, FADZGIME_UNEQUAL_ANSWER);
+    show("monitor_unequal", unequal, FADZGIME_UNEQUAL_ANSWER);
+    fadzgime_monitor_start(0x3000, state, sizeof state, answer, 4);
+    fadzgime_monitor_unequal(state, sizeof state, unequal, FADZGIME_UNEQUAL_ANSWER);
+    show("monitor_unequal", unequal, FADZGIME_UNEQUAL_ANSWER);
+    for (size_t i = 0; i < sizeof apart / sizeof apart[0]; i++) {
+        fadzgime_monitor_step(apart[i], state, sizeof state, answer, 4);
+        fadzgime_monitor_unequal(state, sizeof state, unequal, FADZGIME_UNEQUAL_ANSWER);
+        show("monitor_unequal", unequal, FADZGIME_UNEQUAL_ANSWER);
+        show_pairs(unequal[1]);
+    }
+
     fadzgime_stream_start(state, sizeof state, answer, 1);
+    fadzgime_monitor_unequal(state, sizeof state, unequal, FADZGIME_UNEQUAL_ANSWER);
+    show("monitor_unequal", unequal, FADZGIME_UNEQUAL_ANSWER);
     fadzgime_stream_push(trace, 3, state, sizeof state, answer, 1);
     fadzgime_stream_finish(state, sizeof state, answer, 4);
     show("stream", answer, 4);
@@ -143,6 +173,8 @@ int main(void) {
     show("monitor_start", answer, 4);
     fadzgime_monitor_step(0x4400, NULL, 0, answer, 4);
     show("monitor_step", answer, 4);
+    fadzgime_monitor_unequal(NULL, 0, unequal, FADZGIME_UNEQUAL_ANSWER);
+    show("monitor_unequal", unequal, FADZGIME_UNEQUAL_ANSWER);
     fadzgime_stream_start(NULL, 0, answer, 1);
     show("stream_start", answer, 1);
     fadzgime_stream_push(trace, sizeof trace, NULL, 0, answer, 1);
@@ -173,6 +205,7 @@ int main(void) {
     show("verdict", answer, 5);
     /* Nothing is done, and what was answered before stays. */
     fadzgime_monitor(trace, 5, NULL, 0);
+    fadzgime_monitor_unequal(state, sizeof state, NULL, 0);
     fadzgime_verdict(text, strlen(macro), table, sizeof table, out, sizeof out, NULL, 0);
     show("verdict", answer, 5);
     return 0;

@@ -36,6 +36,8 @@ pub const UNPACKED_BYTES: usize = 5;
 /// Numbers in the answer of [`monitor_start`] and [`monitor_step`]: refusal, place,
 /// whether the monitor runs, whether it is infeasible.
 pub const STEP_ANSWER: usize = 4;
+/// Numbers in the answer of [`monitor_unequal`]: 0 or [`NO_STATE`], the word of unequal pairs.
+pub const UNEQUAL_ANSWER: usize = 2;
 /// Numbers in the answer of [`stream_start`] and [`stream_push`]: 0 or [`NO_STATE`].
 pub const PUSH_ANSWER: usize = 1;
 /// What is answered for a state that is too short or of another kind.
@@ -92,6 +94,14 @@ mod foreign {
         pub fn fadzgime_monitor_step(
             letter: u16,
             state: *mut u8,
+            state_length: usize,
+            answer: *mut u64,
+            answer_length: usize,
+        );
+
+        #[cfg(feature = "monitor")]
+        pub fn fadzgime_monitor_unequal(
+            state: *const u8,
             state_length: usize,
             answer: *mut u64,
             answer_length: usize,
@@ -221,6 +231,16 @@ pub fn monitor_step(letter: u16, state: &mut [u8], answer: &mut [u64]) {
     // SAFETY: the pointers and lengths are those of slices that live through the call
     // and do not overlap.
     unsafe { foreign::fadzgime_monitor_step(letter, pointer, length, answer.as_mut_ptr(), answer.len()) }
+}
+
+/// The unequal pairs of a monitor's window, as one word.
+#[cfg(feature = "monitor")]
+pub fn monitor_unequal(state: &[u8], answer: &mut [u64]) {
+    // SAFETY: the pointers and lengths are those of slices that live through the call
+    // and do not overlap.
+    unsafe {
+        foreign::fadzgime_monitor_unequal(state.as_ptr(), state.len(), answer.as_mut_ptr(), answer.len());
+    }
 }
 
 /// The run over a trace in parts: its start.

@@ -7,11 +7,13 @@ use fadzgime_tests::oracle::letter::{Header, Letter};
 use fadzgime_tests::oracle::monitor::is_coherent;
 use fadzgime_tests::oracle::state::State;
 use fadzgime_tests::oracle::trace::Trace;
+use fadzgime_tests::oracle::unequal_word::unequal_word;
 use fadzgime_tests::proved::library::{
     self, MONITOR_ANSWER, MONITOR_STATE, NO_STATE, PUSH_ANSWER, STEP_ANSWER, STREAM_STATE,
 };
 
 use crate::lent::Lent;
+use crate::unequal::unequal_pairs;
 
 /// The monitor by the definitions: the state of the longest coherent beginning.
 struct Expected {
@@ -35,8 +37,9 @@ impl Expected {
     }
 }
 
-/// Calls the monitor word by word; each answer, and the state where it has to stay.
-fn check_words(words: impl IntoIterator<Item = u16>) {
+/// Calls the monitor word by word; each answer, the unequal pairs after it, and the state where it
+/// has to stay.
+pub fn check_words(words: impl IntoIterator<Item = u16>) {
     let mut words = words.into_iter();
     let header = words.next().expect("a header's word");
     let mut state = Lent::new(MONITOR_STATE + 3);
@@ -49,12 +52,14 @@ fn check_words(words: impl IntoIterator<Item = u16>) {
     };
     answer.assert_begins(&[0, 0, 1, 0]);
     let mut expected = Expected { state: State::start(header), running: true };
+    assert_eq!(unequal_pairs(state.look()), 0, "no letter yet");
     for word in words {
         let before = state.look().to_vec();
         let mut answer = Lent::new(STEP_ANSWER + 2);
         library::monitor_step(word, state.lend(), answer.lend());
         let found = expected.step(word);
         answer.assert_begins(&found);
+        assert_eq!(unequal_pairs(state.look()), unequal_word(&expected.state), "{word:04x}");
         assert_eq!(state.look()[MONITOR_STATE..], before[MONITOR_STATE..], "behind the state");
         if found[0] == 4 {
             assert_eq!(state.look(), before, "a refusal changes nothing");
@@ -62,7 +67,8 @@ fn check_words(words: impl IntoIterator<Item = u16>) {
     }
 }
 
-fn words(bytes: &[u8]) -> impl Iterator<Item = u16> + '_ {
+/// The words of which bytes are made, the header's first.
+pub fn words(bytes: &[u8]) -> impl Iterator<Item = u16> + '_ {
     bytes.chunks_exact(2).map(|pair| u16::from_be_bytes([pair[0], pair[1]]))
 }
 
@@ -83,17 +89,22 @@ fn equal_sides() {
     }
 }
 
+/// The words of a trace with a few of any bits between them, most of which are refused.
+pub fn with_any_words(random: &mut Random, trace: &[u8]) -> Vec<u16> {
+    let mut all: Vec<u16> = words(trace).collect();
+    for _ in 0..random.below(6) {
+        all.insert(1 + random.below(all.len()), random.bits() as u16);
+    }
+    all
+}
+
 /// Words that are refused in between: the monitor goes on behind them.
 #[test]
 fn refused_letters_between() {
     for seed in 0..cases(10_000) {
         let random = &mut Random::new(seed);
         let trace = any_trace(random, 30).pack();
-        let mut all: Vec<u16> = words(&trace).collect();
-        for _ in 0..random.below(6) {
-            all.insert(1 + random.below(all.len()), random.bits() as u16);
-        }
-        check_words(all);
+        check_words(with_any_words(random, &trace));
     }
 }
 

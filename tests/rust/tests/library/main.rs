@@ -21,6 +21,8 @@ mod smoke;
 mod stack;
 #[cfg(feature = "monitor")]
 mod traces;
+#[cfg(feature = "monitor")]
+mod unequal;
 #[cfg(feature = "verdict")]
 mod verdict;
 #[cfg(all(feature = "read", feature = "verdict"))]

@@ -5,14 +5,14 @@ use std::process::Command;
 
 use fadzgime_tests::generators::random::Random;
 use fadzgime_tests::generators::traces::random_letter;
-use fadzgime_tests::oracle::letter::Header;
+use fadzgime_tests::oracle::letter::{Header, Letter};
 use fadzgime_tests::oracle::reader::read_macro;
 use fadzgime_tests::oracle::trace::Trace;
 use fadzgime_tests::oracle::verdict::{MAX_PAIRS, PAIR_BYTES};
 use fadzgime_tests::proved::library::{
     self, LAYOUT_ANSWER, LAYOUT_OUTPUT, MODEL_ANSWER, MODEL_OUTPUT, MONITOR_ANSWER, MONITOR_STATE,
-    PUSH_ANSWER, READ_ANSWER, READ_TRACE_ANSWER, STEP_ANSWER, STREAM_STATE, UNPACKED_BYTES, VERDICT_ANSWER,
-    VERDICT_OUTPUT, WRITE_ANSWER,
+    PUSH_ANSWER, READ_ANSWER, READ_TRACE_ANSWER, STEP_ANSWER, STREAM_STATE, UNEQUAL_ANSWER, UNPACKED_BYTES,
+    VERDICT_ANSWER, VERDICT_OUTPUT, WRITE_ANSWER,
 };
 
 /// The stack of the thread, of which the thread itself takes some.
@@ -168,6 +168,29 @@ fn call_steps() {
     assert!(!refused);
 }
 
+/// The unequal pairs after each letter of the long trace, and those of eight registers that are all unequal.
+#[test]
+#[ignore = "called in a process of its own"]
+fn call_unequal() {
+    let parted = (0..8).flat_map(|second| (0..second).map(move |first| Letter::Unequal { first, second }));
+    let parted = Trace { header: Header::new(8, &[]), letters: parted.collect() }.pack();
+    let last = [long_trace(), parted].map(|trace| {
+        let words: Vec<u16> = trace.chunks(2).map(|pair| u16::from_be_bytes([pair[0], pair[1]])).collect();
+        let (mut state, mut answer) = (vec![0; MONITOR_STATE], vec![0; STEP_ANSWER]);
+        on_a_small_stack(move || {
+            let mut pairs = [u64::MAX; UNEQUAL_ANSWER];
+            library::monitor_start(words[0], &mut state, &mut answer);
+            for &word in &words[1..] {
+                library::monitor_step(word, &mut state, &mut answer);
+                library::monitor_unequal(&state, &mut pairs);
+            }
+            pairs
+        })
+    });
+    // No unequal test is in the long trace.
+    assert_eq!(last, [[0, 0], [0, 0x7fbf_dfef_f7fb_fdfe]]);
+}
+
 /// The long trace in two parts, the first of which ends inside a letter.
 #[test]
 #[ignore = "called in a process of its own"]
@@ -220,6 +243,11 @@ fn traces() {
 #[test]
 fn steps() {
     in_a_process("call_steps");
+}
+
+#[test]
+fn unequal() {
+    in_a_process("call_unequal");
 }
 
 #[test]
