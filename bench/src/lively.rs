@@ -78,6 +78,8 @@ struct Liveliness {
     deriving_tests: usize,
     merges: usize,
     derived_merges: usize,
+    unequal_tests: usize,
+    unequal_pairs: usize,
 }
 
 impl Liveliness {
@@ -92,6 +94,8 @@ impl Liveliness {
             let new_key = monitor.key();
             found.changes += usize::from(new_key != key);
             key = new_key;
+            found.unequal_pairs += monitor.unequal_word().count_ones() as usize / 2;
+            found.unequal_tests += usize::from(matches!(letter, Letter::Unequal { .. }));
             if let Letter::Equal { .. } = letter {
                 found.count_equal_test(classes - monitor.classes());
             }
@@ -115,13 +119,16 @@ pub fn liveliness(trace: &Trace) -> String {
     let letters = trace.letters.len();
     format!(
         "{:.2} % of the letters change the window; {:.2} % are equal tests, of which {:.2} % merge \
-         and {:.2} % derive further merges; {} of {} merges are derived by congruence",
+         and {:.2} % derive further merges; {} of {} merges are derived by congruence; {:.2} % are \
+         unequal tests, and a letter leaves {:.2} unequal pairs on average",
         percent(found.changes, letters),
         percent(found.equal_tests, letters),
         percent(found.merging_tests, found.equal_tests),
         percent(found.deriving_tests, found.equal_tests),
         found.derived_merges,
-        found.merges
+        found.merges,
+        percent(found.unequal_tests, letters),
+        found.unequal_pairs as f64 / letters as f64
     )
 }
 

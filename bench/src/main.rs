@@ -51,6 +51,8 @@ fn print_tables(count: bool) {
     let tables: Vec<Table> = vec![
         #[cfg(feature = "monitor")]
         monitor::table(count),
+        #[cfg(feature = "monitor")]
+        monitor::short_table(count),
         #[cfg(feature = "model")]
         engine::table(count),
         #[cfg(feature = "verdict")]

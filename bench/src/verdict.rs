@@ -1,4 +1,5 @@
-//! The verdict on example macros, and on macros that fill the table.
+//! The verdict on example macros, on macros that fill the table, and on long ones with many unequal
+//! pairs.
 
 use std::hint::black_box;
 use std::time::Duration;
@@ -34,13 +35,45 @@ const CHOICES: &str = "vars a b c d e; funs f/1; while a != b { if c = d { c := 
 const PARTITIONS: &str = "vars a b c d e; if a != b { } if a != c { } if b != c { } if a != d { } if b != d { } \
      if c != d { } if a != e { } if a = b { assert b = a; }";
 
+/// The names of the registers in the macros made here.
+const NAMES: [&str; 8] = ["a", "b", "c", "d", "e", "f", "g", "h"];
+
 /// Tests between so many registers, each of which doubles the windows for a while.
 fn doubling(registers: usize, tests: usize) -> String {
-    let names = &["a", "b", "c", "d", "e", "f", "g", "h"][..registers];
+    let names = &NAMES[..registers];
     let sides = (0..registers).flat_map(|left| (left + 1..registers).map(move |right| (left, right)));
     let tests =
         sides.take(tests).map(|(left, right)| format!("if {} != {} {{ }} ", names[left], names[right]));
     format!("vars {}; {}", names.join(" "), tests.collect::<String>())
+}
+
+/// Corners in a line: each turn leads from one corner to the next, which is unequal to all others
+/// that the registers keep. So many registers take turns, and these statements stand before.
+fn corners_in_a_line(before: &str, registers: usize, turns: usize) -> String {
+    let turn = |i: usize| {
+        let (new, old) = (NAMES[(i + 1) % registers], NAMES[i % registers]);
+        format!("{new} := turn({old}); {}", unequal_to(new, &NAMES))
+    };
+    let turns: String = (0..turns).map(turn).collect();
+    format!("vars {}; funs turn/1; {before}{turns}assert a != b;", NAMES.join(" "))
+}
+
+/// Eight corners, all unequal, that are shifted by one until the first is the last.
+fn corners_shifted() -> String {
+    let turn = |i: usize| {
+        let (new, old) = (NAMES[i], NAMES[i - 1]);
+        format!("{new} := turn({old}); {}", unequal_to(new, &NAMES[..i]))
+    };
+    let first: String = (1..8).map(turn).collect();
+    let shift: String = NAMES.windows(2).map(|two| format!("{} := {}; ", two[0], two[1])).collect();
+    let again = turn(7);
+    format!("vars {}; funs turn/1; {first}while a != h {{ {shift}{again}}} assert a = h;", NAMES.join(" "))
+}
+
+/// Assumes that a register is unequal to each of the others among these.
+fn unequal_to(name: &str, others: &[&str]) -> String {
+    let others = others.iter().filter(|other| **other != name);
+    others.map(|other| format!("assume {other} != {name}; ")).collect()
 }
 
 /// A loop that counts in six binary digits; it can be left only when the last one is set.
@@ -125,6 +158,10 @@ fn macros() -> Vec<(String, String, usize)> {
         ("eight", doubling(8, 12), LARGEST),
         ("six", doubling(6, 13), LARGEST),
         ("counter", COUNTER.to_string(), LARGEST),
+        ("seven", doubling(7, 8), TABLE),
+        ("corners in a line", corners_in_a_line("", 8, 28), TABLE),
+        ("corners in two lines", corners_in_a_line("if g != h { } ", 6, 31), LARGEST),
+        ("corners shifted", corners_shifted(), TABLE),
     ];
     macros.extend(made.map(|(name, text, bytes)| (name.to_string(), text, bytes)));
     macros
