@@ -17,6 +17,10 @@ use Rattle.letters.specs.Words.{headerWord, letterWord}
 use Rattle.traces.specs.Reading.{letterCount}
 use Rattle.letters.specs.RefusalNumbers.{headerMalformed, letterMalformed}
 use Rattle.semantics.specs.Terms.{Trace, begin, _▸_, state}
+use Rattle.semantics.specs.Judgement.{Longest}
+use Rattle.window.specs.Layout.{registers}
+use Rattle.unequal_flags.specs.Flags.{WordOfState}
+use Rattle.unequal_flags.specs.Words.{unequalWord}
 use Rattle.records.specs.Records.{flag}
 use Rattle.streaming.specs.Monitor.{outcomeAnswer, startOf, advance}
 use Rattle.streaming.specs.Run.{last, runAnswer}
@@ -112,6 +116,22 @@ pub record StepsMonitor (word : ℕ) (entry answer exit answer′ : List ℕ) : 
   pub refused : stepCount ≤ length answer → monitorSize ≤ length entry → (ρ : Trace) → HoldsMonitor ρ entry
       → ((a : Letter) → Fits (state ρ .header) a → letterWord firstEdition (state ρ .header) a ≡ word → ⊥)
       → (exit ≡ entry) × (answer′ ≡ monitorNumbers letterMalformed (monitorIn entry) ++ drop stepCount answer)
+
+-- ---- the unequal pairs by the word
+
+-- how many numbers the call answers
+abbrev pub unequalCount : ℕ
+unequalCount = 2
+
+pub record AsksUnequal (entry answer answer′ : List ℕ) : Type 0 where
+  pub short : length answer < unequalCount → answer′ ≡ answer
+  -- no monitor's state
+  pub none : unequalCount ≤ length answer → holdsState monitorKind monitorSize entry ≡ false → answer′ ≡ noState ∷ 0 ∷ drop unequalCount answer
+  pub asked : unequalCount ≤ length answer → holdsState monitorKind monitorSize entry ≡ true
+      → answer′ ≡ 0 ∷ unequalWord registers (monitorIn entry .window) 0 ∷ drop unequalCount answer
+  -- the word is that of the longest coherent beginning of the letters taken (SPEC 5.7, 6.2)
+  pub means : unequalCount ≤ length answer → monitorSize ≤ length entry → (ρ π : Trace) → HoldsMonitor ρ entry → Longest ρ π
+      → (word : ℕ) × (answer′ ≡ 0 ∷ word ∷ drop unequalCount answer) × WordOfState (state π) word
 
 -- ---- bytes in parts of any lengths
 

@@ -15,11 +15,12 @@ use streaming::Stepped;
 use streaming::byte_stream;
 use streaming::starting;
 use streaming::stepping;
+use unequal_flags::unequal_word;
 ghost use mathlib.Core.Path.{_≡_};
 ghost use Prim.Native.Nat.{_≤_};
 ghost use lib.ListN.{length};
 ghost use Rattle.states.specs.States.{monitorSize};
-ghost use Rattle.exports.specs.MonitorCalls.{holdsState, outcomeNumber, steppedNumbers, KeepsStep, StartsMonitor, StepsMonitor};
+ghost use Rattle.exports.specs.MonitorCalls.{holdsState, outcomeNumber, steppedNumbers, KeepsStep, StartsMonitor, StepsMonitor, AsksUnequal};
 ghost use Rattle.exports.specs.MonitorCalls.{StartsStream, PushesStream, FinishesStream};
 
 // The first byte of a state: what it is.
@@ -30,8 +31,10 @@ const STREAM: u8 = 2;
 // What is answered for a state that is too short or of another kind; SPEC 11 has no such number.
 const NO_STATE: u64 = 255;
 
-// How many numbers a call of the monitor answers.
+// How many numbers a call of the monitor answers, and how many the call for its unequal pairs.
 const STEP_NUMBERS: usize = 4;
+
+const UNEQUAL_NUMBERS: usize = 2;
 
 // Whether a state is long enough and of this kind.
 fn holds(kind: u8, size: usize, state: &[u8]) -> bool
@@ -117,6 +120,25 @@ pub extern "C" fn fadzgime_monitor_step(letter: u16, state: &mut [u8], answer: &
         return;
     }
     let none = [NO_STATE, 0, 0, 0];
+    store(&none, answer);
+}
+
+/// The unequal pairs of the longest coherent beginning of the letters taken: 0 or NO_STATE, and a word, whose bit 8 a + b is set exactly where a and b
+/// name classes that are known to be unequal.
+#[no_mangle]
+pub extern "C" fn fadzgime_monitor_unequal(state: &[u8], answer: &mut [u64])
+    ensures { λ _. ⌜ AsksUnequal (now (state .entry)) (now (answer .entry)) (now (answer .exit)) ⌝ }
+{
+    if answer.len() < UNEQUAL_NUMBERS {
+        return;
+    }
+    if holds(MONITOR, MONITOR_SIZE, state) {
+        let monitor = monitor_in(state);
+        let numbers = [0, unequal_word(monitor.window)];
+        store(&numbers, answer);
+        return;
+    }
+    let none = [NO_STATE, 0];
     store(&none, answer);
 }
 

@@ -7,6 +7,7 @@ use window::PAIRS;
 use window::REGISTERS;
 use window::RESULTS;
 use window::Window;
+use window::apart;
 use window::below;
 use window::clear_column;
 use window::clear_row;
@@ -16,9 +17,11 @@ use window::holds;
 use window::inhabited;
 use window::move_bits;
 use window::name;
+use window::names;
 use window::part;
 use window::results_at;
 use window::single;
+use window::single_if;
 use window::size;
 use window::union;
 use window::unite_column;
@@ -26,7 +29,7 @@ use window::unite_row;
 ghost use mathlib.Core.Path.{_≡_};
 ghost use mathlib.Core.Bool.{Bool, true, cond};
 ghost use mathlib.Core.List.{List};
-ghost use Prim.Native.Nat.{ℕ, _+_, _*_, _/_, _%_, _^_, _<_, _≤_};
+ghost use Prim.Native.Nat.{ℕ, _+_, _*_, _/_, _%_, _^_, _<_};
 ghost use lib.Dec.{eqb};
 ghost use lib.ListN.{length, getD, set};
 ghost use Rattle.window.specs.Layout.{registers, functions, registerPairs, lines, results};
@@ -666,7 +669,7 @@ fn clash(unequal: &[Mask; REGISTERS]) -> bool
     let mut bad = false;
     let mut s: usize = 0;
     while s < REGISTERS {
-        bad = bad | holds(unequal[s], s);
+        bad = bad | apart(unequal, s, single(s));
         s = s + 1;
     }
     bad
@@ -1009,25 +1012,6 @@ pub fn to_window(
 
 // What the functions of this part compute is free: `represents` decides whether the slots are those of the window.
 
-// The mask of r alone, if the test holds, else the empty one.
-fn single_if(test: bool, r: usize) -> Mask
-    requires { ⌜ r < registers ⌝ }
-    ensures { λ v. ⌜ v ≡ cond test (2 ^ r) 0 ⌝ }
-{
-    if test { single(r) } else { 0 }
-}
-
-// The registers that are the lowest of their class.
-fn leaders(class: &[Mask; REGISTERS]) -> Mask {
-    let mut m: Mask = 0;
-    let mut r: usize = 0;
-    while r < REGISTERS {
-        m = m | single_if(name(class[r]) == r, r);
-        r = r + 1;
-    }
-    m
-}
-
 // The slot of a class is its lowest register.
 fn name_slots(class: &[Mask; REGISTERS], slot: &mut [u8; REGISTERS])
     requires { ⌜ length (now slot) ≡ registers ⌝ }
@@ -1041,13 +1025,13 @@ fn name_slots(class: &[Mask; REGISTERS], slot: &mut [u8; REGISTERS])
 }
 
 // The registers of each slot.
-fn group(class: &[Mask; REGISTERS], regs: &mut [Mask; REGISTERS], leaders: Mask)
+fn group(class: &[Mask; REGISTERS], regs: &mut [Mask; REGISTERS], lowest: Mask)
     requires { ⌜ length (now regs) ≡ registers ⌝ }
     ensures { λ _. ⌜ length (now (regs .exit)) ≡ registers ⌝ }
 {
     let mut s: usize = 0;
     while s < REGISTERS {
-        regs[s] = part(leaders, class[s], s);
+        regs[s] = part(lowest, class[s], s);
         s = s + 1;
     }
 }
@@ -1087,7 +1071,7 @@ pub fn to_slots(
     ensures { λ _. ⌜ Low registers (now (slot .exit)) × (length (now (regs .exit)) ≡ registers)
         × SlotTableLengths registers functions (now (unequal .exit)) (now (result .exit)) (now (ever .exit)) ⌝ }
 {
-    let lowest = leaders(class);
+    let lowest = names(class);
     name_slots(class, slot);
     group(class, regs, lowest);
     keep(unequal, lowest, 1);

@@ -5,6 +5,7 @@ pub mod Names
 pub mod HouseLayout
 pub mod EqualTests
 pub mod NamedTests
+pub mod UnequalFlags
 pub mod RelationExamples
 pub mod Steps
 pub mod Examples

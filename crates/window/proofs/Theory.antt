@@ -2,6 +2,8 @@ pub mod Places
 pub mod Table
 pub mod Lines
 pub mod Bits
+pub mod Rows
+pub mod Naming
 pub mod Through
 pub mod Adding
 pub mod Marks

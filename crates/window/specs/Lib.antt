@@ -1,6 +1,8 @@
 pub mod Layout
 pub mod Places
 pub mod Table
+pub mod Rows
+pub mod Naming
 pub mod Lines
 pub mod Bits
 pub mod Through

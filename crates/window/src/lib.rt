@@ -5,16 +5,19 @@ use letters::limits::MOST_REGISTERS;
 ghost use mathlib.Core.Path.{_≡_};
 ghost use mathlib.Core.List.{List};
 ghost use Prim.Native.Nat.{ℕ, _+_, _*_, _/_, _%_, _^_, _-_, _<_, _≤_};
-ghost use mathlib.Core.Bool.{Bool, true};
+ghost use mathlib.Core.Bool.{Bool, true, cond};
 ghost use lib.Dec.{eqb};
 ghost use lib.ListN.{length};
-ghost use Rattle.base.specs.Masks.{has};
+ghost use Rattle.base.specs.Masks.{bit, has};
 ghost use Rattle.base.specs.LeastAndSize.{leastIn, sizeOf};
 ghost use Rattle.window.specs.Bits.{nonempty, maskMoved};
 ghost use Rattle.window.specs.Lines.{columns, rows, united, cleared};
 ghost use Rattle.window.specs.Through.{bitsMoved, masksThrough, resultsThrough};
 ghost use Rattle.window.specs.Adding.{partOf, lineAdded, resultsAdded, masksForgotten, resultsForgotten};
 ghost use Rattle.window.specs.Layout.{registers, functions, registerPairs, results};
+ghost use Rattle.window.specs.Table.{table};
+ghost use Rattle.window.specs.Rows.{wordBits, SmallRows, joinedRows, rowOf};
+ghost use Rattle.window.specs.Naming.{namesOf};
 ghost use Rattle.window.specs.Performing.{fallenOf, copiedOf, mergedOf, restOf, findOf, closedOf, clashOf, settledOf, equalOf};
 ghost use Rattle.window.specs.Performing.{partedOf, unequalOf, argumentsOf, appliedOf, ownOf, memoizingOf, earlyOf, applyOf, apartOf};
 ghost use Rattle.window.specs.Parts.{windowOfParts, TableLengths, PartLengths};
@@ -74,6 +77,14 @@ pub fn single(i: usize) -> Mask
     one << i
 }
 
+/// The mask of register i, if the test holds, else the empty one.
+pub fn single_if(test: bool, i: usize) -> Mask
+    requires { ⌜ i < registers ⌝ }
+    ensures { λ r. ⌜ r ≡ cond test (2 ^ i) 0 ⌝ }
+{
+    if test { single(i) } else { 0 }
+}
+
 /// Whether a register is in the mask.
 pub fn inhabited(mask: Mask) -> bool
     ensures { λ r. ⌜ r ≡ nonempty registers mask ⌝ }
@@ -86,6 +97,81 @@ fn moved(m: Mask, from: Mask, to: Mask) -> Mask
     ensures { λ r. ⌜ r ≡ maskMoved m from to ⌝ }
 {
     if m & from == 0 { (m | to) ^ to } else { m | to }
+}
+
+/// The registers that name their class.
+pub fn names(class: &[Mask; REGISTERS]) -> Mask
+    ensures { λ r. ⌜ r ≡ namesOf registers (now (class .entry)) ⌝ }
+{
+    let mut m: Mask = 0;
+    let mut r: usize = 0;
+    while r < REGISTERS {
+        m = m | single_if(name(class[r]) == r, r);
+        r = r + 1;
+    }
+    m
+}
+
+// ---- rows of flags, a mask for each register, as one word
+
+// How many values a row has.
+const ROW_VALUES: u64 = 256;
+
+// Of each row the first flag; the flag of the row's own register; all flags but the last.
+const FIRST_FLAGS: u64 = 0x0101010101010101;
+
+const OWN_FLAGS: u64 = 0x8040201008040201;
+
+const ALL_BUT_LAST_FLAGS: u64 = 0x7f7f7f7f7f7f7f7f;
+
+// From the last flag of a row to its first.
+const TO_FIRST_FLAG: usize = REGISTERS - 1;
+
+// A row as the first one of a word.
+fn wide(row: Mask) -> u64
+    ensures { λ r. ⌜ r ≡ row ⌝ }
+    ensures small { λ r. ⌜ r < 2 ^ registers ⌝ }
+{
+    row as u64
+}
+
+/// The rows as one word: flag b of row a is its bit REGISTERS a + b. It is compiled to one load.
+pub fn joined_rows(rows: &[Mask; REGISTERS]) -> u64
+    ensures { λ r. ⌜ r ≡ joinedRows registers (now (rows .entry)) registers ⌝ }
+    ensures small { λ _. ⌜ SmallRows registers (now (rows .entry)) registers ⌝ }
+{
+    let mut word: u64 = 0;
+    let mut a: usize = 0;
+    while a < REGISTERS {
+        word = word | (wide(rows[a]) << (REGISTERS * a));
+        a = a + 1;
+    }
+    word
+}
+
+// Row a of a word.
+fn row(word: u64, a: usize) -> Mask
+    requires { ⌜ a < registers ⌝ }
+    ensures { λ r. ⌜ r ≡ rowOf registers word a ⌝ }
+{
+    ((word >> (REGISTERS * a)) % ROW_VALUES) as u8
+}
+
+// The first flag of row a, if register a is in the mask. Each row gets the whole mask and keeps its own register's flag; the sum carries it to the row's
+// last flag, and from there it goes to the first.
+fn spread(mask: Mask) -> u64
+    ensures { λ r. ⌜ r ≡ joinedRows registers (table (bit mask) registers) registers ⌝ }
+    ensures fits { λ r. ⌜ ((m : ℕ) → m < 2 ^ registers → r * m < 2 ^ wordBits) ⌝ }
+{
+    let own = (wide(mask) * FIRST_FLAGS) & OWN_FLAGS;
+    ((own + ALL_BUT_LAST_FLAGS) >> TO_FIRST_FLAG) & FIRST_FLAGS
+}
+
+// Row a is `two` if register a is in `one`, else it is empty.
+fn grid(one: Mask, two: Mask) -> u64
+    ensures { λ r. ⌜ r ≡ joinedRows registers (table (partOf one two) registers) registers ⌝ }
+{
+    spread(one) * wide(two)
 }
 
 // ---- tables: lists of masks in lines, one entry for each register
@@ -545,12 +631,12 @@ fn close_in(
     }
 }
 
-// Whether register a is known unequal to one of the others: the one place that reads the unequal pairs.
-fn apart(unequal: &[Mask; REGISTERS], a: usize, others: Mask) -> bool
+/// Whether register a is known unequal to one of the others: the one place that reads the unequal pairs, all of them as one word.
+pub fn apart(unequal: &[Mask; REGISTERS], a: usize, others: Mask) -> bool
     requires { ⌜ a < registers ⌝ }
     ensures { λ r. ⌜ r ≡ apartOf registers functions (now (unequal .entry)) a others ⌝ }
 {
-    inhabited(unequal[a] & others)
+    joined_rows(unequal) & (wide(others) << (REGISTERS * a)) != 0
 }
 
 // Whether two registers of one class are known unequal.
@@ -613,9 +699,10 @@ fn part_in(unequal: &mut [Mask; REGISTERS], one: Mask, two: Mask)
     ensures { λ _. ⌜ now (unequal .exit) ≡ partedOf registers functions (now (unequal .entry)) one two ⌝ }
     ensures long { λ _. ⌜ length (now (unequal .exit)) ≡ registers ⌝ }
 {
+    let flags = (joined_rows(unequal) | grid(one, two)) | grid(two, one);
     let mut i: usize = 0;
     while i < REGISTERS {
-        unequal[i] = (unequal[i] | part(one, two, i)) | part(two, one, i);
+        unequal[i] = row(flags, i);
         i = i + 1;
     }
 }

@@ -6,8 +6,8 @@ use mathlib.Core.List.{List}
 use Prim.Native.Nat.{ℕ, suc, _+_, _*_, _^_, _-_, _≤_, _<_}
 use native.Mathlib.Omega.{arith}
 use native.Mathlib.Numerals.{add-one}
-use lib.Dec.{eqb, ltb}
-use lib.Bits.{bitOr, bitXor}
+use lib.Dec.{eqb, ltb, T}
+use lib.Bits.{bitAnd, bitOr, bitXor}
 use lib.ListN.{length, getD, set, replicate}
 use borrow.Author.Tests.{eq-eqb, ne-eqb, lt-ltb, le-ltb}
 use Rattle.base.specs.Masks.{has}
@@ -17,12 +17,15 @@ use Rattle.window.specs.Places.{place, placeFunction, placeFirst, placeSecond}
 use Rattle.window.specs.Table.{table}
 use Rattle.window.proofs.Theory.Table.{Swept, swept-more, swept-all}
 use Rattle.window.specs.Bits.{nonempty, minus}
-use Rattle.window.proofs.Theory.Bits.{single-test}
+use Rattle.semantics.proofs.Theory.Booleans.{and-l, and-r, and-i}
+use Rattle.semantics.proofs.Theory.Of.{same-test}
+use Rattle.window.proofs.Theory.Bits.{single-test, has-and, nonempty-is}
+use Rattle.window.proofs.Theory.Bits.{single-is as in-single}
 use Rattle.window.specs.Lines.{columns, rows, cleared, united}
 use Rattle.window.specs.Through.{bitsMoved, masksThrough, resultsThrough}
 use Rattle.window.specs.Adding.{partOf, masksForgotten}
 use Rattle.window.specs.Marks.{flagOf, raisedOf, lostOf}
-use Rattle.window.specs.Performing.{argumentsOf}
+use Rattle.window.specs.Performing.{argumentsOf, apartOf}
 use Rattle.slots.specs.Slots.{Slots, slotsOf, slotOf, SlotTableLengths}
 use Rattle.slots.specs.Performing.{hasSlot, regsMoved, freeFrom, pulledOf, manyOf, doubledOf, clashSlots, apartSlots, withMark, slotsWithUnequal}
 use Rattle.slots.specs.Performing.{resultsDropped, masksRenamed, resultsRenamed, slotRenamed, marksIn, registerIn, resultRecorded, everRecorded}
@@ -360,6 +363,19 @@ module _ (ρ φ : ℕ) where
 pub clash-none : (unequal : List ℕ) → false ≡ clashSlots unequal 0
 unfolding clashSlots
 clash-none unequal = refl
+
+-- whether slot s is apart from itself
+pub apart-itself : (ρ φ : ℕ) (unequal : List ℕ) (s own : ℕ) (v : Bool) → s < ρ → own ≡ 2 ^ s → v ≡ apartOf ρ φ unequal s own → v ≡ has (getD unequal s 0) s
+unfolding apartOf
+apart-itself ρ φ unequal s own v h e d = d ∙ ap (λ m. nonempty ρ (bitAnd (getD unequal s 0) m)) e ∙ same-test (nonempty ρ (bitAnd (getD unequal s 0) (2 ^ s)))
+    (has (getD unequal s 0) s) (
+      (λ t. let (c, _, u) = nonempty-is ρ (bitAnd (getD unequal s 0) (2 ^ s)) .0 t in
+          let both = subst T (has-and (getD unequal s 0) (2 ^ s) c) u in
+          subst (λ k. T (has (getD unequal s 0) k)) (in-single s c .0 (and-r (has (getD unequal s 0) c) (has (2 ^ s) c) both))
+          (and-l (has (getD unequal s 0) c) (has (2 ^ s) c) both)),
+      (λ t. nonempty-is ρ (bitAnd (getD unequal s 0) (2 ^ s)) .1
+          (s, h, subst T (sym (has-and (getD unequal s 0) (2 ^ s) s)) (and-i (has (getD unequal s 0) s) (has (2 ^ s) s) t (in-single s s .1 refl)))),
+    )
 
 pub clash-more : (unequal : List ℕ) (i : ℕ) (b v : Bool) → b ≡ clashSlots unequal i → v ≡ has (getD unequal i 0) i → (b || v) ≡ clashSlots unequal (i + 1)
 unfolding clashSlots

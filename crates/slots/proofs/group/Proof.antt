@@ -7,10 +7,10 @@ use Rattle.slots.proofs.group.Statement.{statement}
 use Rattle.slots.proofs.group.Tie as tie
 
 abbrev Inv-loop : tie.InvT-loop
-Inv-loop class regs₀ leaders s₀ regs s = length regs ≡ registers
+Inv-loop class regs₀ lowest s₀ regs s = length regs ≡ registers
 
 abbrev μ-loop : tie.MeasureT-loop
-μ-loop class regs₀ leaders s₀ regs s = registers - s
+μ-loop class regs₀ lowest s₀ regs s = registers - s
 
 pub group-spec : {M : Type 1} → statement M
 group-spec = tie.close (tie.spec

@@ -14,7 +14,7 @@ use Rattle.base.proofs.Theory.MaskLaws.{with-same}
 use Rattle.window.specs.Places.{place}
 use Rattle.window.specs.Bits.{nonempty, minus}
 use Rattle.window.specs.Through.{masksThrough, resultsThrough}
-use Rattle.window.specs.Adding.{partOf, lineAdded, masksForgotten, resultsForgotten}
+use Rattle.window.specs.Adding.{lineAdded, masksForgotten, resultsForgotten}
 use Rattle.window.specs.Marks.{markedWith}
 use Rattle.window.specs.declared.Window.{Window}
 use Rattle.window.specs.Performing.{withTables, withUnequal, argumentsOf, fallenOf, copiedTables, copiedOf, mergedOf, restOf, findOf, closedOf, apartOf}
@@ -22,10 +22,6 @@ use Rattle.window.specs.Performing.{clashOf, settledOf, equalOf, partedO
 
 pub both-has : (m n a s : ℕ) → s ≡ 2 ^ a → has (bitOr (bitOr m n) s) a ≡ true
 both-has m n a s e = rw (e, with-same (bitOr m n) a)
-
-pub parted-is : (l : List ℕ) (one two r p q : ℕ) → p ≡ partOf one two r → q ≡ partOf two one r
-    → bitOr (bitOr (getD l r 0) p) q ≡ bitOr (bitOr (getD l r 0) (partOf one two r)) (partOf two one r)
-parted-is l one two r p q d e = rw (d, e)
 
 module _ (ρ φ : ℕ) where
   -- ---- the loops

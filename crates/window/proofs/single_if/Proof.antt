@@ -1,6 +1,6 @@
 use borrow.Author.Needs.{needs}
-use Rattle.slots.proofs.single_if.Statement.{statement}
-use Rattle.slots.proofs.single_if.Tie as tie
+use Rattle.window.proofs.single_if.Statement.{statement}
+use Rattle.window.proofs.single_if.Tie as tie
 
 pub single-if-spec : {M : Type 1} → statement M
 single-if-spec = tie.close (tie.spec

@@ -1,0 +1,68 @@
+use mathlib.Core.Path.{refl, sym, _∙_}
+use Rattle.exports.proofs.CallLaws.{unequal-short, unequal-none, unequal-done, held-long}
+use borrow.Author.Needs.{needs}
+use Rattle.exports.proofs.calls.fadzgime_monitor_unequal.Statement.{statement}
+use Rattle.exports.proofs.calls.fadzgime_monitor_unequal.Tie as tie
+
+returns : tie.Need-returns
+returns c = unequal-short _ _ (c .if1 .taken)
+
+holds-requires : tie.Need-holds-requires
+holds-requires c κs = search needs
+
+monitor-in-requires : tie.Need-monitor-in-requires
+monitor-in-requires c κs = held-long _ _ _ (sym (c .before .holds .ensures) ∙ c .if2 .taken)
+
+unequal-word-requires : tie.Need-unequal-word-requires
+unequal-word-requires c κs = search needs
+
+slice-aggregate-store : tie.Need-slice-aggregate-store
+slice-aggregate-store c = search needs
+
+store-requires : tie.Need-store-requires
+store-requires c κs = search needs
+
+same-length : tie.Need-same-length
+same-length c = search needs
+
+returns-2 : tie.Need-returns-2
+returns-2 c =
+    let stored = c .before .before in
+    let worded = stored .before .before .before in
+    let monitor = worded .before in
+    let tested = monitor .before in
+    unequal-done _ _ _ _ _ _ (tested .before .before .if1 .left) (sym (tested .before .holds .ensures) ∙ tested .if2 .taken)
+    (monitor .monitor-in .ensures) (worded .unequal-word .ensures .0) (worded .unequal-word .ensures .1) refl refl (stored .store .ensures)
+
+slice-aggregate-store-2 : tie.Need-slice-aggregate-store-2
+slice-aggregate-store-2 c = search needs
+
+store-requires-2 : tie.Need-store-requires-2
+store-requires-2 c κs = search needs
+
+same-length-2 : tie.Need-same-length-2
+same-length-2 c = search needs
+
+returns-3 : tie.Need-returns-3
+returns-3 c =
+    let stored = c .before .before in
+    let tested = stored .before .before .before in
+    unequal-none _ _ _ _ (tested .before .before .if1 .left) (sym (tested .before .holds .ensures) ∙ tested .if2 .left) refl refl
+    (stored .store2 .ensures)
+
+pub fadzgime-monitor-unequal-spec : {M : Type 1} → statement M
+fadzgime-monitor-unequal-spec =
+    tie.close
+    (tie.spec
+    returns
+    holds-requires
+    monitor-in-requires
+    unequal-word-requires
+    slice-aggregate-store
+    store-requires
+    same-length
+    returns-2
+    slice-aggregate-store-2
+    store-requires-2
+    same-length-2
+    returns-3)

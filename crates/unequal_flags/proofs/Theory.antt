@@ -1,0 +1,4 @@
+pub mod Words
+pub mod Exact
+pub mod Properties
+pub mod Witnesses
