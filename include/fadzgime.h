@@ -160,25 +160,34 @@ void fadzgime_monitor_step(uint16_t letter,
                            uint64_t *answer, size_t answer_length);
 
 /*
- * Which classes of registers a monitor knows to be unequal, as one word of 64 bits.
+ * Which classes of registers a monitor knows to be unequal, as one word of 64 bits. Of
+ * the letters taken it is about the longest coherent beginning: a refused letter leaves
+ * the word as it was, and so do an incoherent one and the letters behind that.
  *
- * Registers whose values are equal after the letters taken are one class: equal by
- * copies, by equal tests, or because equal arguments give equal results. A class is
- * named by its lowest register, so a register is a name if no lower one is in its class.
- * Two classes are known unequal if an unequal test was between values that are equal to
- * theirs (docs/SPEC.md, 5.1 and 5.2). Nothing is inferred: where f(x) and f(y) are known
- * unequal, x and y need not be.
- * answer[0] 0 or FADZGIME_NO_STATE, [1] the word, which is 0 with FADZGIME_NO_STATE. Bit
- * 8a + b, of value 2^(8a + b), is set exactly if registers a and b are both names and
- * their classes are known unequal. So bit 8b + a is set with it, the bits 9a are 0, and
- * registers that are no names, or not below the header's count, have no bits. The word is
- * 0 once the trace is infeasible. It is that of the longest coherent beginning of the
- * letters taken: a refused letter leaves it as it was, and so do an incoherent one and
- * the letters behind that. Asking changes nothing.
+ * Registers whose values are equal after these letters are one class: equal by copies,
+ * by equal tests, or because equal arguments give equal results. A class is named by its
+ * lowest register, so a register is a name if no lower one is in its class. Two classes
+ * are known unequal if an unequal test was between values that are equal to theirs now
+ * (docs/SPEC.md, 5.1 and 5.2); a pair goes when no register holds one of its sides any
+ * more. Nothing is inferred: where f(x) and f(y) are known unequal, x and y need not be.
+ *
+ * answer[0] 0 or FADZGIME_NO_STATE (also for the state of a stream), [1] the word, 0 with
+ * FADZGIME_NO_STATE. Bit 8a + b, of value 2^(8a + b), is set exactly if registers a and b
+ * are both names and their classes are known unequal. So bit 8b + a is set with it, bits
+ * 8a + a are 0, and registers that are no names, or not below the header's count, have
+ * no bits. Byte a of the word, word >> 8 * a & 255, is the mask of the classes unequal to
+ * that of a. Once the beginning is infeasible the word is 0.
+ *
+ * 0 alone does not say why: answer[3] of the last start or step says infeasible, and [2]
+ * whether the word is about all letters taken. Nor does the word say which registers are
+ * in a class, and no call does; while the monitor runs and is feasible, a copy of its
+ * state becomes infeasible by the letter a != b exactly if a and b are in one class.
+ * Asking changes nothing. No program prints the word.
  *
  *     uint64_t unequal[FADZGIME_UNEQUAL_ANSWER];
+ *     fadzgime_monitor_step(word, state, sizeof state, answer, FADZGIME_MONITOR_ANSWER);
  *     fadzgime_monitor_unequal(state, sizeof state, unequal, FADZGIME_UNEQUAL_ANSWER);
- *     for (int a = 0; a < 8; a++) {
+ *     for (int a = 0; unequal[0] == 0 && a < 8; a++) {
  *         for (int b = a + 1; b < 8; b++) {
  *             if (unequal[1] >> (8 * a + b) & 1) {
  *                 printf("the classes of %d and %d are unequal\n", a, b);

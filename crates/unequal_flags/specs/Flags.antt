@@ -8,8 +8,7 @@ use Rattle.semantics.specs.Terms.{State}
 use Rattle.semantics.specs.Models.{Feasible}
 use Rattle.semantics.specs.Window.{Apart}
 use Rattle.semantics.specs.ClassNames.{NamedBy}
-use Rattle.window.specs.Layout.{registers}
-use Rattle.window.specs.Rows.{wordBits}
+use Rattle.window.specs.Layout.{registers, wordBits}
 
 -- register a names a class, its own: "A class is named by its lowest-numbered register" (SPEC 5.1)
 pub record NamesClass (σ : State) (a : ℕ) : Type 0 where
@@ -25,6 +24,7 @@ pub record UnequalNames (σ : State) (a b : ℕ) : Type 0 where
 
 -- the words are those of the state, in a layout of ρ registers
 pub record WordsOfState (ρ : ℕ) (σ : State) (word : ℕ → ℕ) : Type 0 where
+  pub within : (k : ℕ) → word k < 2 ^ wordBits
   pub flag : (a b : ℕ) → a < ρ → b < ρ → T (has (word ((ρ * a + b) / wordBits)) ((ρ * a + b) % wordBits)) ↔ UnequalNames σ a b
 
 -- the first edition's one word of 64 bits: bit 8 a + b

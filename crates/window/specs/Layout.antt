@@ -18,3 +18,7 @@ lines = functions * registers
 
 abbrev pub results : ℕ
 results = functions * registers * registers
+
+-- how many bits a word of flags has
+abbrev pub wordBits : ℕ
+wordBits = 64

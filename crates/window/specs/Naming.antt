@@ -9,10 +9,10 @@ use Rattle.base.specs.LeastAndSize.{leastIn}
 
 module _ (ρ : ℕ) where
   -- of the registers below k those that are the lowest of their class
-  unfoldable pub namesBelow : List ℕ → ℕ → ℕ
-  namesBelow class zero = 0
-  namesBelow class (suc k) = bitOr (namesBelow class k) (cond (eqb (leastIn ρ (getD class k 0)) k) (2 ^ k) 0)
+  unfoldable pub namingBelow : List ℕ → ℕ → ℕ
+  namingBelow class zero = 0
+  namingBelow class (suc k) = bitOr (namingBelow class k) (cond (eqb (leastIn ρ (getD class k 0)) k) (2 ^ k) 0)
 
   -- of all registers
-  unfoldable pub namesOf : List ℕ → ℕ
-  namesOf class = namesBelow class ρ
+  unfoldable pub namingRegisters : List ℕ → ℕ
+  namingRegisters class = namingBelow class ρ

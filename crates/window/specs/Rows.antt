@@ -3,13 +3,10 @@
 use Prim.Native.Nat.{ℕ, zero, suc, _+_, _*_, _/_, _%_, _^_, _<_}
 use mathlib.Core.List.{List}
 use lib.ListN.{getD}
-
--- how many bits a word has
-abbrev pub wordBits : ℕ
-wordBits = 64
+use Rattle.window.specs.Layout.{wordBits}
 
 module _ (ρ : ℕ) where
-  -- the first n rows are masks of registers below ρ
+  -- the first n rows are masks of registers below ρ; of a lent table that is known row by row, as they are read
   pub record SmallRows (l : List ℕ) (n : ℕ) : Type 0 where
     pub row : (a : ℕ) → a < n → getD l a 0 < 2 ^ ρ
 
@@ -19,8 +16,8 @@ module _ (ρ : ℕ) where
   joinedRows l (suc k) = getD l k 0 * 2 ^ (ρ * k) + joinedRows l k
 
   -- row a of such a number
-  unfoldable pub rowOf : ℕ → ℕ → ℕ
-  rowOf flags a = flags / 2 ^ (ρ * a) % 2 ^ ρ
+  unfoldable pub flagRow : ℕ → ℕ → ℕ
+  flagRow flags a = flags / 2 ^ (ρ * a) % 2 ^ ρ
 
   -- word k of all rows
   unfoldable pub flagWord : List ℕ → ℕ → ℕ

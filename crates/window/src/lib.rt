@@ -16,8 +16,8 @@ ghost use Rattle.window.specs.Through.{bitsMoved, masksThrough, resultsT
 ghost use Rattle.window.specs.Adding.{partOf, lineAdded, resultsAdded, masksForgotten, resultsForgotten};
 ghost use Rattle.window.specs.Layout.{registers, functions, registerPairs, results};
 ghost use Rattle.window.specs.Table.{table};
-ghost use Rattle.window.specs.Rows.{wordBits, SmallRows, joinedRows, rowOf};
-ghost use Rattle.window.specs.Naming.{namesOf};
+ghost use Rattle.window.specs.Rows.{SmallRows, joinedRows, flagRow};
+ghost use Rattle.window.specs.Naming.{namingRegisters};
 ghost use Rattle.window.specs.Performing.{fallenOf, copiedOf, mergedOf, restOf, findOf, closedOf, clashOf, settledOf, equalOf};
 ghost use Rattle.window.specs.Performing.{partedOf, unequalOf, argumentsOf, appliedOf, ownOf, memoizingOf, earlyOf, applyOf, apartOf};
 ghost use Rattle.window.specs.Parts.{windowOfParts, TableLengths, PartLengths};
@@ -101,7 +101,7 @@ fn moved(m: Mask, from: Mask, to: Mask) -> Mask
 
 /// The registers that name their class.
 pub fn names(class: &[Mask; REGISTERS]) -> Mask
-    ensures { λ r. ⌜ r ≡ namesOf registers (now (class .entry)) ⌝ }
+    ensures { λ r. ⌜ r ≡ namingRegisters registers (now (class .entry)) ⌝ }
 {
     let mut m: Mask = 0;
     let mut r: usize = 0;
@@ -135,7 +135,8 @@ fn wide(row: Mask) -> u64
     row as u64
 }
 
-/// The rows as one word: flag b of row a is its bit REGISTERS a + b. It is compiled to one load.
+/// The rows as one word: flag b of row a is its bit REGISTERS a + b. Of rows in memory that is one load. What the type says of them is promised too, for
+/// a caller that lends them does not see it.
 pub fn joined_rows(rows: &[Mask; REGISTERS]) -> u64
     ensures { λ r. ⌜ r ≡ joinedRows registers (now (rows .entry)) registers ⌝ }
     ensures small { λ _. ⌜ SmallRows registers (now (rows .entry)) registers ⌝ }
@@ -152,16 +153,15 @@ pub fn joined_rows(rows: &[Mask; REGISTERS]) -> u64
 // Row a of a word.
 fn row(word: u64, a: usize) -> Mask
     requires { ⌜ a < registers ⌝ }
-    ensures { λ r. ⌜ r ≡ rowOf registers word a ⌝ }
+    ensures { λ r. ⌜ r ≡ flagRow registers word a ⌝ }
 {
-    ((word >> (REGISTERS * a)) % ROW_VALUES) as u8
+    ((word >> (REGISTERS * a)) % ROW_VALUES) as Mask
 }
 
 // The first flag of row a, if register a is in the mask. Each row gets the whole mask and keeps its own register's flag; the sum carries it to the row's
 // last flag, and from there it goes to the first.
-fn spread(mask: Mask) -> u64
+fn first_flags(mask: Mask) -> u64
     ensures { λ r. ⌜ r ≡ joinedRows registers (table (bit mask) registers) registers ⌝ }
-    ensures fits { λ r. ⌜ ((m : ℕ) → m < 2 ^ registers → r * m < 2 ^ wordBits) ⌝ }
 {
     let own = (wide(mask) * FIRST_FLAGS) & OWN_FLAGS;
     ((own + ALL_BUT_LAST_FLAGS) >> TO_FIRST_FLAG) & FIRST_FLAGS
@@ -171,7 +171,7 @@ fn spread(mask: Mask) -> u64
 fn grid(one: Mask, two: Mask) -> u64
     ensures { λ r. ⌜ r ≡ joinedRows registers (table (partOf one two) registers) registers ⌝ }
 {
-    spread(one) * wide(two)
+    first_flags(one) * wide(two)
 }
 
 // ---- tables: lists of masks in lines, one entry for each register
@@ -631,7 +631,7 @@ fn close_in(
     }
 }
 
-/// Whether register a is known unequal to one of the others: the one place that reads the unequal pairs, all of them as one word.
+/// Whether register a is known unequal to one of the others: the one place where what a letter does depends on unequal pairs. All are read as one word.
 pub fn apart(unequal: &[Mask; REGISTERS], a: usize, others: Mask) -> bool
     requires { ⌜ a < registers ⌝ }
     ensures { λ r. ⌜ r ≡ apartOf registers functions (now (unequal .entry)) a others ⌝ }

@@ -155,7 +155,7 @@ impl Paired {
 
 /// Unequal flags by the word (document 02): "its bit 8a+b is set exactly where classes a and b, by name, are known
 /// unequal".
-pub const UNEQUAL_WORDS: [Paired; 9] = [
+pub const UNEQUAL_WORDS: [Paired; 11] = [
     // The name of the class of x moves from register 0 to register 2.
     Paired::new(
         "vars x y z; assume x!=y; z:=x; x:=y;",
@@ -171,6 +171,18 @@ pub const UNEQUAL_WORDS: [Paired; 9] = [
         "vars x y u v w; funs f/1; u:=f(x); v:=f(y); assume v!=w; assume x=y;",
         &[0x5200, 0x4400, 0x4640, 0xc0e0, 0x8008],
         &[0, 0, 0, 0x8_1000_0000, 0x4_0010_0000],
+    ),
+    // The register of the test is overwritten, and another of its class is left.
+    Paired::new(
+        "vars x y z w; assume x=z; assume x!=y; x:=w;",
+        &[0x4000, 0x8010, 0xc008, 0x00c0],
+        &[0, 0, 0x102, 0x2_0400],
+    ),
+    // An incoherent letter that makes the whole trace infeasible leaves what the letters before it say.
+    Paired::new(
+        "vars x y u v w; funs f/1; u:=f(x); v:=f(y); assume u!=v; assume x!=w; u:=x; assume x=y;",
+        &[0x5200, 0x4400, 0x4640, 0xc098, 0xc020, 0x0400, 0x8008],
+        &[0, 0, 0, 0x408_0000, 0x1_0408_0010, 0x1_0000_0010, 0x1_0000_0010],
     ),
     // The last registers in both orders.
     Paired::new("vars a b c d e f g h; assume h!=g;", &[0x8000, 0xc1f0], &[0, 0x4080_0000_0000_0000]),

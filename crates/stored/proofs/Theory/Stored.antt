@@ -17,7 +17,7 @@ use Rattle.semantics.specs.Closure.{symmetric, transitive, congruence}
 use Rattle.semantics.specs.View.{Tracks}
 use Rattle.semantics.specs.Facts.{Valid}
 use Rattle.window.specs.declared.Window.{Window}
-use Rattle.window.proofs.Theory.Bits.{none-small}
+use Rattle.window.proofs.Theory.Bits.{same-bit, none-small}
 use Rattle.window.specs.Places.{placeFunction, placeFirst, placeSecond}
 use Rattle.window.proofs.Theory.Places.{place-is, entry-is, function-below, first-below, second-below}
 use Rattle.window.specs.Viewing.{view, Shaped}
@@ -42,13 +42,6 @@ lowest ρ m h n = byTest (ltb (leastIn ρ m) ρ) (λ t. ltb-true (leastIn ρ m) 
 
     zero-bit : (i : ℕ) → bit 0 i ≡ 0
     zero-bit i = rw zero-div
-
--- bits that are 1 at the same places
-same-bit : (x y i : ℕ) → (T (has x i) → T (has y i)) → (T (has y i) → T (has x i)) → bit x i ≡ bit y i
-same-bit x y i f g =
-    byTest (has x i) (λ t. eqb-true (bit x i) 1 t ∙ sym (eqb→eq (bit y i) 1 (f (true-T t))))
-    λ t. byTest (has y i) (λ u. eqb→eq (bit x i) 1 (g (true-T u)) ∙ sym (eqb-true (bit y i) 1 u))
-    λ u. let a = eqb-false (bit x i) 1 t in let b = eqb-false (bit y i) 1 u in omega arith
 
 module _ (ϕ : Format) (σ : State) (v : Valid σ) (w : Window) (holds : stepping.IsWindowInLayout (ϕ .registers) (ϕ .functions) σ w) where
   abbrev ρ : ℕ
@@ -90,21 +83,22 @@ module _ (ϕ : Format) (σ : State) (v : Valid σ) (w : Window) (holds : steppin
     held-class c cb h =
         let (an, bn, cn) = within c cb h in
         let e = t .result f a b c an bn cn .0 (entry c h) in
-        bits-same ρ (getD (w .class) c 0) m (y .class-bytes c) (y .result-bytes i) λ r rb. same-bit (getD (w .class) c 0) m r
-        (λ s. let (_, rn) = holds .inside .same c r cb rb s in
-        entry-back r (t .result f a b r an bn rn .1 (record {
-          first = e .first;
-          second = e .second;
-          listed = e .listed;
-          at-first = e .at-first;
-          at-second = e .at-second;
-          gives = transitive (e .gives) (t .same c r cn rn .0 s);
-        })))
-        (λ s. let (_, _, rn) = within r rb s in
-        let g = t .result f a b r an bn rn .0 (entry r s) in
-        t .same c r cn rn .1 (transitive (symmetric (e .gives)) (transitive
-        (congruence (e .listed) (g .listed) (transitive (e .at-first) (symmetric (g .at-first))) (transitive (e .at-second) (symmetric (g .at-second))))
-        (g .gives))))
+        bits-same ρ (getD (w .class) c 0) m (y .class-bytes c) (y .result-bytes i) λ r rb. same-bit (getD (w .class) c 0) m r (
+          (λ s. let (_, rn) = holds .inside .same c r cb rb s in
+              entry-back r (t .result f a b r an bn rn .1 (record {
+                first = e .first;
+                second = e .second;
+                listed = e .listed;
+                at-first = e .at-first;
+                at-second = e .at-second;
+                gives = transitive (e .gives) (t .same c r cn rn .0 s);
+              }))),
+          (λ s. let (_, _, rn) = within r rb s in
+              let g = t .result f a b r an bn rn .0 (entry r s) in
+              t .same c r cn rn .1 (transitive (symmetric (e .gives)) (transitive
+              (congruence (e .listed) (g .listed) (transitive (e .at-first) (symmetric (g .at-first))) (transitive (e .at-second) (symmetric (g .at-second))))
+              (g .gives)))),
+        )
 
     named : (m ≡ 0) ⊎ ((leastIn ρ m < ρ) × (getD (w .class) (leastIn ρ m) 0 ≡ m))
     named = byTest (eqb m 0) (λ u. inl (eqb-true m 0 u))

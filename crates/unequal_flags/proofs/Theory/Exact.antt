@@ -2,7 +2,7 @@
 -- unequal" (document 02, 5).
 use mathlib.Core.Path.{_≡_, subst}
 use mathlib.Core.Logic.{_↔_, ⊎-elim, Iff·trans}
-use Prim.Native.Nat.{ℕ, _+_, _*_, _/_, _%_}
+use Prim.Native.Nat.{ℕ, _+_, _*_, _/_, _%_, _<_}
 use native.Mathlib.Omega.{arith}
 use lib.Dec.{T}
 use lib.ListN.{getD}
@@ -13,25 +13,28 @@ use Rattle.semantics.specs.Terms.{Trace, State, state}
 use Rattle.semantics.specs.Facts.{WellFormed, Valid}
 use Rattle.semantics.specs.FirstLetters.{coherentPart}
 use Rattle.semantics.specs.Judgement.{Longest}
+use Rattle.semantics.specs.Models.{Feasible}
+use Rattle.semantics.specs.Window.{Apart}
 use Rattle.semantics.specs.ClassNames.{NamedBy}
 use Rattle.semantics.proofs.Theory.Facts.{state-valid}
 use Rattle.semantics.proofs.Theory.JudgementLaws.{part-formed, longest-is, longest-unique}
-use Rattle.window.specs.Layout.{registers, functions}
-use Rattle.window.specs.Naming.{namesOf}
-use Rattle.window.specs.Rows.{wordBits}
+use Rattle.window.specs.Layout.{registers, functions, wordBits}
+use Rattle.window.specs.Naming.{namingRegisters}
+use Rattle.window.specs.Rows.{joinedRows}
 use Rattle.window.specs.Step.{IsWindow}
 use Rattle.window.specs.Stepping.{IsWindowInLayout}
 use Rattle.window.specs.declared.Window.{Window}
 use Rattle.window.proofs.Theory.Bits.{truth, same-iff, less-or}
 use Rattle.window.proofs.Theory.Names.{named}
 use Rattle.window.proofs.Theory.Naming.{names-is}
+use Rattle.window.proofs.Theory.Rows.{flag-joined}
 use Rattle.unequal_flags.specs.Flags.{NamesClass, UnequalNames, WordsOfState, WordOfState}
 use Rattle.unequal_flags.specs.Words.{namedRows, unequalWord}
 use Rattle.unequal_flags.proofs.Theory.Words.{flag-in-word, named-small, named-flag, word-within}
 
 module _ (ρ φ : ℕ) (σ : State) (v : Valid σ) (w : Window) (h : IsWindowInLayout ρ φ σ w) where
   -- the registers that the mask has are those that name a class
-  pub names-exact : (a : ℕ) → T (has (namesOf ρ (w .class)) a) ↔ NamesClass σ a
+  pub names-exact : (a : ℕ) → T (has (namingRegisters ρ (w .class)) a) ↔ NamesClass σ a
   names-exact a = (
     (λ t. let (b, e) = names-is ρ (w .class) a .0 t in
         let own = truth (has (getD (w .class) a 0) (leastIn ρ (getD (w .class) a 0))) (least-in ρ (getD (w .class) a 0) (omega arith)) in
@@ -50,6 +53,7 @@ module _ (ρ φ : ℕ) (σ : State) (v : Valid σ) (w : Window) (h : IsWindowInL
   pub words-exact : WordsOfState ρ σ (unequalWord ρ w)
   unfolding unequalWord
   words-exact = record {
+    within = word-within ρ w;
     flag = λ a b ab bb. Iff·trans (same-iff (flag-in-word ρ (namedRows ρ (w .class) (w .unequal)) a b (named-small ρ (w .class) (w .unequal)) ab bb))
         (Iff·trans (named-flag ρ (w .class) (w .unequal) a b ab) (
           (λ (p, q, u).
@@ -64,6 +68,14 @@ module _ (ρ φ : ℕ) (σ : State) (v : Valid σ) (w : Window) (h : IsWindowInL
           )),
         ));
   }
+
+  -- the word of all rows, which `apart` reads: of registers whether they name a class or not
+  pub rows-exact : (a b : ℕ) → a < ρ → b < ρ → T (has (joinedRows ρ (w .unequal) ρ) (ρ * a + b))
+      ↔ ((a < σ .header .registers) × (b < σ .header .registers) × Feasible σ × Apart σ a b)
+  rows-exact a b ab bb = Iff·trans (same-iff (flag-joined ρ (w .unequal) ρ a b (record { row = λ k _. h .shaped .unequal-bytes k }) ab bb)) (
+    (λ u. let (d, e) = h .inside .apart a b ab bb u in let (f, p) = h .tracks .apart a b d e .0 u in (d, e, f, p)),
+    (λ (d, e, f, p). h .tracks .apart a b d e .1 (f, p)),
+  )
 
 -- the first edition's one word
 pub word-exact : (σ : State) → Valid σ → (w : Window) → IsWindow σ w → WordOfState σ (unequalWord registers w 0)

@@ -1,12 +1,9 @@
--- A state has one word. It is symmetric, has no bit 9 a, and is 0 once the trace is infeasible; registers beyond the header have no bits.
-use mathlib.Core.Path.{_≡_, refl, sym, _∙_, subst}
-use mathlib.Core.Logic.{_↔_, inl, inr, ⊎-elim, _≢_, Iff·trans, Iff·symm}
-use Prim.Native.Nat.{ℕ, _+_, _*_, _/_, _%_, _^_, _≤_, _<_}
+-- A state has at most one word. It is symmetric, has no bit 8 a + a and none of registers that name no class, and is 0 once the trace is infeasible.
+use mathlib.Core.Path.{_≡_, refl, sym, subst}
+use mathlib.Core.Logic.{_↔_, _⊎_, inl, inr, ⊎-elim, _≢_, Iff·trans, Iff·symm}
+use Prim.Native.Nat.{ℕ, _+_, _*_, _/_, _%_, _≤_, _<_}
 use native.Mathlib.Omega.{arith}
-use native.Mathlib.Nat.{mod-lt}
 use lib.Dec.{T}
-use borrow.Author.Tests.{eqb-true, eqb-false}
-use Rattle.base.proofs.Theory.Choice.{byTest}
 use Rattle.base.specs.Masks.{bit, has}
 use Rattle.base.proofs.Theory.MaskLaws.{bits-same}
 use Rattle.semantics.specs.Terms.{State}
@@ -15,10 +12,9 @@ use Rattle.semantics.specs.Models.{Feasible}
 use Rattle.semantics.specs.Closure.{Equivalent, symmetric, transitive}
 use Rattle.semantics.specs.Window.{Apart}
 use Rattle.semantics.proofs.Theory.Shown.{corollary-2}
-use Rattle.window.specs.Layout.{registers}
-use Rattle.window.specs.Rows.{wordBits}
-use Rattle.window.proofs.Theory.Bits.{truth, no-truth, true-of, false-of, none-in, none-small}
-use Rattle.unequal_flags.specs.Flags.{UnequalNames, WordOfState}
+use Rattle.window.specs.Layout.{registers, wordBits}
+use Rattle.window.proofs.Theory.Bits.{same-bit, none-in, none-small}
+use Rattle.unequal_flags.specs.Flags.{NamesClass, UnequalNames, WordOfState}
 
 -- ---- of names
 
@@ -43,15 +39,6 @@ names-differ σ v a b u e =
 
 -- ---- of words
 
-same-bit : (u v i : ℕ) → T (has u i) ↔ T (has v i) → bit u i ≡ bit v i
-same-bit u v i e = byTest (has u i)
-    (λ t. eqb-true (bit u i) 1 t ∙ sym (eqb-true (bit v i) 1 (true-of (has v i) (e .0 (truth (has u i) t)))))
-    (λ t. let d = eqb-false (bit u i) 1 t in
-    let f = eqb-false (bit v i) 1 (false-of (has v i) (λ k. no-truth (has u i) t (e .1 k))) in
-    let a : bit u i < 2 = mod-lt (u / 2 ^ i) (omega arith) in
-    let b : bit v i < 2 = mod-lt (v / 2 ^ i) (omega arith) in
-    omega arith)
-
 module _ (σ : State) (word : ℕ) (w : WordOfState σ word) where
   pub word-symmetric : (a b : ℕ) → a < registers → b < registers → T (has word (registers * a + b)) → T (has word (registers * b + a))
   word-symmetric a b ab bb t = w .flag b a bb ab .1 (names-turned σ a b (w .flag a b ab bb .0 t))
@@ -59,8 +46,14 @@ module _ (σ : State) (word : ℕ) (w : WordOfState σ word) where
   pub word-own : Valid σ → (a : ℕ) → a < registers → ¬ T (has word (registers * a + a))
   word-own v a h t = names-differ σ v a a (w .flag a a h h .0 t) refl
 
-  pub word-beyond : (a b : ℕ) → a < registers → b < registers → σ .header .registers ≤ a → ¬ T (has word (registers * a + b))
-  word-beyond a b ab bb h t = let d = w .flag a b ab bb .0 t .first .declared in absurd (omega arith)
+  -- a register that names no class, or is beyond the header, has no bits
+  pub word-unnamed : (a b : ℕ) → a < registers → b < registers → (¬ NamesClass σ a) ⊎ (¬ NamesClass σ b) → ¬ T (has word (registers * a + b))
+  word-unnamed a b ab bb n t = let u = w .flag a b ab bb .0 t in ⊎-elim (λ m. m (u .first)) (λ m. m (u .second)) n
+
+  pub word-beyond : (a b : ℕ) → a < registers → b < registers → (σ .header .registers ≤ a) ⊎ (σ .header .registers ≤ b)
+      → ¬ T (has word (registers * a + b))
+  word-beyond a b ab bb h = word-unnamed a b ab bb (⊎-elim (λ l. inl (λ m. let d = m .declared in absurd (omega arith)))
+      (λ l. inr (λ m. let d = m .declared in absurd (omega arith))) h)
 
 -- every bit of a word is some flag
 flag-at : (σ : State) (word i : ℕ) → WordOfState σ word → i < wordBits → T (has word i) ↔ UnequalNames σ (i / registers) (i % registers)

@@ -13,8 +13,9 @@ use Rattle.base.proofs.Theory.Choice.{byTest}
 use Rattle.base.specs.Masks.{has}
 use Rattle.semantics.proofs.Theory.Booleans.{and-l, and-r, and-i}
 use Rattle.window.specs.Adding.{partOf}
-use Rattle.window.specs.Naming.{namesOf}
-use Rattle.window.specs.Rows.{wordBits, SmallRows, joinedRows, flagWord}
+use Rattle.window.specs.Naming.{namingRegisters}
+use Rattle.window.specs.Layout.{wordBits}
+use Rattle.window.specs.Rows.{SmallRows, joinedRows, flagWord}
 use Rattle.window.specs.declared.Window.{Window}
 use Rattle.window.proofs.Theory.Bits.{has-and, none-in}
 use Rattle.window.proofs.Theory.Naming.{names-small}
@@ -43,26 +44,30 @@ module _ (ρ : ℕ) where
   module _ (class unequal : List ℕ) where
     row-small : (a : ℕ) → a < ρ → namedRow ρ class unequal a < 2 ^ ρ
     unfolding namedRow
-    row-small a h = part-below ρ (namesOf ρ class) (bitAnd (getD unequal a 0) (namesOf ρ class))
-        (omega (arith, and-le-r (getD unequal a 0) (namesOf ρ class), names-small ρ class)) a h
+    row-small a h = part-below ρ (namingRegisters ρ class) (bitAnd (getD unequal a 0) (namingRegisters ρ class))
+        (omega (arith, and-le-r (getD unequal a 0) (namingRegisters ρ class), names-small ρ class)) a h
 
     pub named-small : SmallRows ρ (namedRows ρ class unequal) ρ
     unfolding namedRows
     named-small = record { row = λ a h. subst (λ m. m < 2 ^ ρ) (sym (table-at (namedRow ρ class unequal) ρ a 0 h)) (row-small a h) }
 
     row-flag : (a b : ℕ) → T (has (namedRow ρ class unequal a) b)
-        ↔ (T (has (namesOf ρ class) a) × T (has (namesOf ρ class) b) × T (has (getD unequal a 0) b))
+        ↔ (T (has (namingRegisters ρ class) a) × T (has (namingRegisters ρ class) b) × T (has (getD unequal a 0) b))
     unfolding namedRow partOf
-    row-flag a b = byTest (has (namesOf ρ class) a)
+    row-flag a b = byTest (has (namingRegisters ρ class) a)
         (λ t. rw (t, has-and) (
-          (λ u. (tt, and-r (has (getD unequal a 0) b) (has (namesOf ρ class) b) u, and-l (has (getD unequal a 0) b) (has (namesOf ρ class) b) u)),
-          (λ (_, q, p). and-i (has (getD unequal a 0) b) (has (namesOf ρ class) b) p q),
+          (λ u. (
+            tt,
+            and-r (has (getD unequal a 0) b) (has (namingRegisters ρ class) b) u,
+            and-l (has (getD unequal a 0) b) (has (namingRegisters ρ class) b) u,
+          )),
+          (λ (_, q, p). and-i (has (getD unequal a 0) b) (has (namingRegisters ρ class) b) p q),
         ))
         (λ t. rw t ((λ u. absurd (none-in b u)), (λ (p, _, _). absurd p)))
 
     -- flag b of row a: both name a class, and they are known unequal
     pub named-flag : (a b : ℕ) → a < ρ → T (has (getD (namedRows ρ class unequal) a 0) b)
-        ↔ (T (has (namesOf ρ class) a) × T (has (namesOf ρ class) b) × T (has (getD unequal a 0) b))
+        ↔ (T (has (namingRegisters ρ class) a) × T (has (namingRegisters ρ class) b) × T (has (getD unequal a 0) b))
     unfolding namedRows
     named-flag a b h = rw (table-at (namedRow ρ class unequal) ρ a 0 h) (row-flag a b)
 

@@ -1,5 +1,5 @@
 -- What follows from the definitions of specs/Bits.antt.
-use mathlib.Core.Path.{_≡_, refl, sym, subst}
+use mathlib.Core.Path.{_≡_, refl, sym, _∙_, subst}
 use mathlib.Core.Logic.{_⊎_, inl, inr, _↔_, _≢_, ⊎-elim, Iff·trans}
 use mathlib.Core.Bool.{Bool, true, false, not, _&&_, _||_}
 use Prim.Native.Nat.{ℕ, zero, suc, _+_, _/_, _^_, _≤_, _<_}
@@ -73,6 +73,14 @@ has-xor : (m n i : ℕ) → has (bitXor m n) i ≡ differ (has m i) (has n i)
 has-xor m n i = rw bit-xor (two-cases (λ x. eqb (bitXor x (bit n i)) 1 ≡ differ (eqb x 1) (has n i)) (bit m i) (bit-lt m i)
     (two-cases (λ y. eqb (bitXor 0 y) 1 ≡ differ (eqb 0 1) (eqb y 1)) (bit n i) (bit-lt n i) refl refl)
     (two-cases (λ y. eqb (bitXor 1 y) 1 ≡ differ (eqb 1 1) (eqb y 1)) (bit n i) (bit-lt n i) refl refl))
+
+-- bits that are 1 at the same places
+pub same-bit : (m n i : ℕ) → T (has m i) ↔ T (has n i) → bit m i ≡ bit n i
+same-bit m n i e = byTest (has m i)
+    (λ t. eqb-true (bit m i) 1 t ∙ sym (eqb-true (bit n i) 1 (true-of (has n i) (e .0 (truth (has m i) t)))))
+    (λ t. let d = eqb-false (bit m i) 1 t in
+    let f = eqb-false (bit n i) 1 (false-of (has n i) (λ k. no-truth (has m i) t (e .1 k))) in
+    omega (arith, bit-lt m i, bit-lt n i))
 
 pub or-is : (m n i : ℕ) → T (has (bitOr m n) i) ↔ (T (has m i) ⊎ T (has n i))
 or-is m n i = Iff·trans (same-iff (has-or m n i)) (or-e (has m i) (has n i), ⊎-elim (or-l (has m i) (has n i)) (or-r (has m i) (has n i)))

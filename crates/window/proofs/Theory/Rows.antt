@@ -5,7 +5,7 @@ use mathlib.Core.Bool.{Bool, true, not, _&&_}
 use mathlib.Core.List.{List}
 use Prim.Native.Nat.{ℕ, zero, suc, _+_, _-_, _*_, _/_, _%_, _^_, _≤_, _<_}
 use native.Mathlib.Omega.{arith}
-use native.Mathlib.Nat.{add-zero, mul-suc, mul-comm, mul-assoc, add-mul, zero-mul, one-mul, mul-le-mul-left, mul-le-mul, mod-eq-of-lt, mod-lt}
+use native.Mathlib.Nat.{add-zero, mul-suc, mul-comm, mul-assoc, add-mul, zero-mul, one-mul, mul-le-mul-left, mod-eq-of-lt, mod-lt}
 use native.Mathlib.Nat.{div-lt-iff-lt-mul, eq-or-lt-of-le, zero-div}
 use lib.Dec.{eqb, T, eqb→eq}
 use lib.Bits.{bitAnd, bitOr, and-block, and-mod, and-le-r, and-zero-r, and-self, or-shr, or-mod, or-shifted-r}
@@ -18,7 +18,8 @@ use Rattle.base.specs.Masks.{bit, has}
 use Rattle.semantics.proofs.Theory.Booleans.{and-l, and-r}
 use Rattle.window.specs.Bits.{nonempty}
 use Rattle.window.specs.Adding.{partOf}
-use Rattle.window.specs.Rows.{wordBits, SmallRows, joinedRows, rowOf}
+use Rattle.window.specs.Layout.{wordBits}
+use Rattle.window.specs.Rows.{SmallRows, joinedRows, flagRow}
 use Rattle.window.specs.Table.{table, tableFrom}
 use Rattle.window.proofs.Theory.Bits.{true-of, false-of, none-in, nonempty-is, meets}
 use Rattle.window.proofs.Theory.Table.{table-at}
@@ -45,8 +46,8 @@ module _ (ρ : ℕ) where
   row-ahead a n h = omega (arith, mul-le-mul-left ρ h, mul-suc ρ a)
 
   -- a row of a union is the union of the rows
-  pub row-or : (x y a : ℕ) → rowOf ρ (bitOr x y) a ≡ bitOr (rowOf ρ x a) (rowOf ρ y a)
-  unfolding rowOf
+  pub row-or : (x y a : ℕ) → flagRow ρ (bitOr x y) a ≡ bitOr (flagRow ρ x a) (flagRow ρ y a)
+  unfolding flagRow
   row-or x y a = ap (λ n. n % 2 ^ ρ) (or-shr x y (ρ * a)) ∙ or-mod (x / 2 ^ (ρ * a)) (y / 2 ^ (ρ * a)) ρ
 
   module _ (l : List ℕ) where
@@ -64,8 +65,8 @@ module _ (ρ : ℕ) where
         (subst (λ n. getD l k 0 * 2 ^ (ρ * k) + joinedRows ρ l k < n) (sym (pow-add 2 ρ (ρ * k))) (div-lt-iff-lt-mul (pow-pos (ρ * k)) .0 below))
 
     -- row a is the mask of a
-    pub row-joined : (n a : ℕ) → SmallRows ρ l n → a < n → rowOf ρ (joinedRows ρ l n) a ≡ getD l a 0
-    unfolding rowOf joinedRows
+    pub row-joined : (n a : ℕ) → SmallRows ρ l n → a < n → flagRow ρ (joinedRows ρ l n) a ≡ getD l a 0
+    unfolding flagRow joinedRows
     row-joined zero a s h = absurd (omega arith)
     row-joined (suc n) a s h = ⊎-elim
         (λ e. let same : a ≡ n = omega arith in
@@ -81,7 +82,7 @@ module _ (ρ : ℕ) where
 
     -- flag b of row a is bit ρ a + b
     pub flag-joined : (n a b : ℕ) → SmallRows ρ l n → a < n → b < ρ → has (joinedRows ρ l n) (ρ * a + b) ≡ has (getD l a 0) b
-    unfolding rowOf
+    unfolding flagRow
     flag-joined n a b s ab bb = ap (λ m. eqb (m % 2) 1) (sym (shr-shr (joinedRows ρ l n) (ρ * a) b))
         ∙ ap (λ m. eqb m 1) (sym (bit-mod (joinedRows ρ l n / 2 ^ (ρ * a)) ρ b bb))
         ∙ ap (λ m. has m b) (row-joined n a s ab)
@@ -89,7 +90,7 @@ module _ (ρ : ℕ) where
     -- the flags that a mask has in row a
     pub row-meets : (n a others : ℕ) → SmallRows ρ l n → a < n → others < 2 ^ ρ
         → bitAnd (joinedRows ρ l n) (others * 2 ^ (ρ * a)) ≡ bitAnd (getD l a 0) others * 2 ^ (ρ * a)
-    unfolding rowOf
+    unfolding flagRow
     row-meets n a others s h b =
         let whole = joinedRows ρ l n in
         let upper = whole / 2 ^ (ρ * a) in
@@ -134,13 +135,13 @@ module _ (ρ : ℕ) where
   -- ---- what the union of three words has in its rows
 
   pub row-parted : (l : List ℕ) (F G : ℕ → ℕ) (a : ℕ) → SmallRows ρ l ρ → ((k : ℕ) → k < ρ → F k < 2 ^ ρ) → ((k : ℕ) → k < ρ → G k < 2 ^ ρ) → a < ρ
-      → rowOf ρ (bitOr (bitOr (joinedRows ρ l ρ) (joinedRows ρ (table F ρ) ρ)) (joinedRows ρ (table G ρ) ρ)) a ≡ bitOr (bitOr (getD l a 0) (F a)) (G a)
+      → flagRow ρ (bitOr (bitOr (joinedRows ρ l ρ) (joinedRows ρ (table F ρ) ρ)) (joinedRows ρ (table G ρ) ρ)) a ≡ bitOr (bitOr (getD l a 0) (F a)) (G a)
   row-parted l F G a s f g h =
       row-or (bitOr (joinedRows ρ l ρ) (joinedRows ρ (table F ρ) ρ)) (joinedRows ρ (table G ρ) ρ) a
-      ∙ ap (λ m. bitOr m (rowOf ρ (joinedRows ρ (table G ρ) ρ) a)) (row-or (joinedRows ρ l ρ) (joinedRows ρ (table F ρ) ρ) a)
+      ∙ ap (λ m. bitOr m (flagRow ρ (joinedRows ρ (table G ρ) ρ) a)) (row-or (joinedRows ρ l ρ) (joinedRows ρ (table F ρ) ρ) a)
       ∙ rw (row-joined l ρ a s h, made F f, made G g) refl
     where
-      made : (H : ℕ → ℕ) → ((k : ℕ) → k < ρ → H k < 2 ^ ρ) → rowOf ρ (joinedRows ρ (table H ρ) ρ) a ≡ H a
+      made : (H : ℕ → ℕ) → ((k : ℕ) → k < ρ → H k < 2 ^ ρ) → flagRow ρ (joinedRows ρ (table H ρ) ρ) a ≡ H a
       made H b = row-joined (table H ρ) ρ a (record { row = λ k kb. rw (table-at H ρ k 0 kb) (b k kb) }) h ∙ table-at H ρ a 0 h
 
   -- ---- rows that are multiples
@@ -170,49 +171,48 @@ module _ (ρ : ℕ) where
   unfolding partOf
   part-below one two h k b = byTest (has one k) (λ t. rw t h) (λ t. rw t (pow-pos ρ))
 
+  pub grid-small : (one two : ℕ) → two < 2 ^ ρ → joinedRows ρ (table (bit one) ρ) ρ * two < 2 ^ (ρ * ρ)
+  grid-small one two h = subst (λ n. n < 2 ^ (ρ * ρ)) (sym (grid-scaled one two))
+      (joined-small (table (partOf one two) ρ) ρ (record { row = λ a b. rw (table-at (partOf one two) ρ a 0 b) (part-below one two h a b) }))
+
 -- ---- the first flag of each row, by one product and one sum in eight rows of eight: looked at for each mask
 
-abbrev firstFlags : ℕ
-firstFlags = 72340172838076673
+-- 0x01 in each row; 0x01, 0x02, .. 0x80 in row after row; 0x7f in each row
+abbrev inEachRow : ℕ
+inEachRow = 72340172838076673
 
-abbrev ownFlags : ℕ
-ownFlags = 9241421688590303745
+abbrev ownInEachRow : ℕ
+ownInEachRow = 9241421688590303745
 
-abbrev allButLastFlags : ℕ
-allButLastFlags = 9187201950435737471
+abbrev allButLast : ℕ
+allButLast = 9187201950435737471
 
-abbrev spreadAs : ℕ → ℕ
-spreadAs m = bitAnd ((bitAnd (m * firstFlags) ownFlags + allButLastFlags) / 2 ^ 7) firstFlags
+abbrev computedFlags : ℕ → ℕ
+computedFlags m = bitAnd ((bitAnd (m * inEachRow) ownInEachRow + allButLast) / 2 ^ 7) inEachRow
 
-abbrev firstFlagsOf : ℕ → ℕ
-firstFlagsOf m = joinedRows 8 (table (bit m) 8) 8
+abbrev firstFlags : ℕ → ℕ
+firstFlags m = joinedRows 8 (table (bit m) 8) 8
 
-spreads : ℕ → Bool
-spreads zero = true
-spreads (suc n) = eqb (spreadAs n) (firstFlagsOf n) && spreads n
+agree : ℕ → Bool
+agree zero = true
+agree (suc n) = eqb (computedFlags n) (firstFlags n) && agree n
 
-all-spread : T (spreads 256)
-unfolding joinedRows table tableFrom spreads
-all-spread = tt
+all-agree : T (agree 256)
+unfolding joinedRows table tableFrom agree
+all-agree = tt
 
-spread-found : (n m : ℕ) → m < n → T (spreads n) → spreadAs m ≡ firstFlagsOf m
-unfolding spreads
-spread-found zero m h t = absurd (omega arith)
-spread-found (suc n) m h t = ⊎-elim
+agree-at : (n m : ℕ) → m < n → T (agree n) → computedFlags m ≡ firstFlags m
+unfolding agree
+agree-at zero m h t = absurd (omega arith)
+agree-at (suc n) m h t = ⊎-elim
     (λ e. let same : m ≡ n = omega arith in
-    rw same (eqb→eq (spreadAs n) (firstFlagsOf n) (and-l (eqb (spreadAs n) (firstFlagsOf n)) (spreads n) t)))
-    (λ b. spread-found n m (omega arith) (and-r (eqb (spreadAs n) (firstFlagsOf n)) (spreads n) t))
+    rw same (eqb→eq (computedFlags n) (firstFlags n) (and-l (eqb (computedFlags n) (firstFlags n)) (agree n) t)))
+    (λ b. agree-at n m (omega arith) (and-r (eqb (computedFlags n) (firstFlags n)) (agree n) t))
     (eq-or-lt-of-le h)
 
-pub spread-is : (m : ℕ) → m < 2 ^ 8 → spreadAs m ≡ firstFlagsOf m
-spread-is m h = spread-found 256 m h all-spread
+pub first-flags-is : (m : ℕ) → m < 2 ^ 8 → computedFlags m ≡ firstFlags m
+first-flags-is m h = agree-at 256 m h all-agree
 
--- the sum loses nothing, and neither does a product with a row
-pub spread-sum : (m : ℕ) → bitAnd (m * firstFlags) ownFlags + allButLastFlags < 2 ^ wordBits
-spread-sum m = omega (arith, and-le-r (m * firstFlags) ownFlags)
-
-pub spread-fits : (m t : ℕ) → t < 2 ^ 8 → spreadAs m * t < 2 ^ wordBits
-spread-fits m t h =
-    let least = and-le-r ((bitAnd (m * firstFlags) ownFlags + allButLastFlags) / 2 ^ 7) firstFlags in
-    let most = mul-le-mul {n₁ = spreadAs m} {m₁ = t} {n₂ = firstFlags} {m₂ = 255} least (omega arith) in
-    omega (arith, most)
+-- the sum loses nothing
+pub first-flags-sum : (m : ℕ) → bitAnd (m * inEachRow) ownInEachRow + allButLast < 2 ^ wordBits
+first-flags-sum m = omega (arith, and-le-r (m * inEachRow) ownInEachRow)

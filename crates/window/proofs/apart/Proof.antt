@@ -6,8 +6,7 @@ use lib.Dec.{eqb}
 use lib.Bits.{bitAnd}
 use lib.Pow.{shl-exact}
 use borrow.Author.Needs.{needs}
-use Rattle.window.specs.Layout.{registers}
-use Rattle.window.specs.Rows.{wordBits}
+use Rattle.window.specs.Layout.{registers, wordBits}
 use Rattle.window.specs.Performing.{apartOf}
 use Rattle.window.proofs.Theory.Rows.{apart-word}
 use Rattle.window.proofs.apart.Statement.{statement}

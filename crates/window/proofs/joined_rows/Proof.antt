@@ -2,8 +2,8 @@ use mathlib.Core.Path.{_≡_, subst}
 use Prim.Native.Nat.{_-_, _^_, _≤_, _<_}
 use native.Mathlib.Omega.{arith}
 use borrow.Author.Needs.{needs}
-use Rattle.window.specs.Layout.{registers}
-use Rattle.window.specs.Rows.{wordBits, SmallRows, joinedRows}
+use Rattle.window.specs.Layout.{registers, wordBits}
+use Rattle.window.specs.Rows.{SmallRows, joinedRows}
 use Rattle.window.proofs.Theory.Rows.{joined-none, joined-more, rows-none, rows-more}
 use Rattle.window.proofs.joined_rows.Statement.{statement}
 use Rattle.window.proofs.joined_rows.Tie as tie

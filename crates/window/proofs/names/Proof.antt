@@ -3,13 +3,13 @@ use Prim.Native.Nat.{_-_, _≤_}
 use native.Mathlib.Omega.{arith}
 use borrow.Author.Needs.{needs}
 use Rattle.window.specs.Layout.{registers}
-use Rattle.window.specs.Naming.{namesBelow}
+use Rattle.window.specs.Naming.{namingBelow}
 use Rattle.window.proofs.Theory.Naming.{names-none, names-more, names-all}
 use Rattle.window.proofs.names.Statement.{statement}
 use Rattle.window.proofs.names.Tie as tie
 
 abbrev Inv-loop : tie.InvT-loop
-Inv-loop class m₀ r₀ m r = (r ≤ registers) × (m ≡ namesBelow registers class r)
+Inv-loop class m₀ r₀ m r = (r ≤ registers) × (m ≡ namingBelow registers class r)
 
 abbrev μ-loop : tie.MeasureT-loop
 μ-loop class m₀ r₀ m r = registers - r
