@@ -2,6 +2,8 @@
 //! monitor made for speed.
 
 use std::collections::{BTreeMap, BTreeSet};
+use std::fs;
+use std::path::Path;
 
 use fadzgime_tests::answers::UNEQUAL_WORDS;
 use fadzgime_tests::fast::monitor::FastMonitor;
@@ -11,7 +13,7 @@ use fadzgime_tests::generators::windows::{all_letters, first_traces};
 use fadzgime_tests::oracle::letter::{Header, Letter};
 use fadzgime_tests::oracle::monitor::is_coherent;
 use fadzgime_tests::oracle::state::State;
-use fadzgime_tests::oracle::trace::Trace;
+use fadzgime_tests::oracle::trace::{Trace, read_trace};
 use fadzgime_tests::oracle::unequal_word::{unequal_word, unequal_words};
 use fadzgime_tests::oracle::window::Window;
 
@@ -107,6 +109,38 @@ fn settled_words() {
         assert_eq!(trace.pack(), bytes, "{}", settled.text);
         assert_eq!(words(&trace), settled.unequal, "{}", settled.text);
     }
+}
+
+/// The traces and words that the table of `docs/SPEC.md` (5.7) shows.
+#[test]
+fn specified_words() {
+    let path = Path::new(env!("CARGO_MANIFEST_DIR")).join("../../docs/SPEC.md");
+    let page = fs::read_to_string(path).expect("the page");
+    let rows: Vec<_> = page.lines().filter_map(specified).collect();
+    assert_eq!(rows.len(), 4);
+    for (trace, words) in rows {
+        assert_eq!(unequal_words(&trace), words, "{trace:?}");
+    }
+}
+
+/// A line of that table: its packed trace, and its words as sums of powers of two.
+fn specified(line: &str) -> Option<(Trace, Vec<u64>)> {
+    let cells: Vec<&str> = line.strip_prefix("| ")?.strip_suffix(" |")?.split(" | ").collect();
+    let [_, _, packed, words] = cells[..] else { return None };
+    let digits = packed.strip_prefix('`')?.strip_suffix('`')?;
+    let units = digits.split(' ').map(|unit| u16::from_str_radix(unit, 16).ok());
+    let bytes: Vec<u8> =
+        units.collect::<Option<Vec<u16>>>()?.into_iter().flat_map(u16::to_be_bytes).collect();
+    let words = words.split(", ").map(sum_of_powers).collect::<Option<Vec<u64>>>()?;
+    Some((read_trace(&bytes, None).ok()?, words))
+}
+
+/// `0`, or powers of two with `+` between them.
+fn sum_of_powers(text: &str) -> Option<u64> {
+    if text == "0" {
+        return Some(0);
+    }
+    text.split(" + ").map(|power| Some(1 << power.strip_prefix("2^")?.parse::<u32>().ok()?)).sum()
 }
 
 /// Assignments and assumes, and the unequal pairs after them, the lower register first.
