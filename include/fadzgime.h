@@ -51,6 +51,7 @@ extern "C" {
 #define FADZGIME_WRITE_ANSWER 3
 #define FADZGIME_READ_TRACE_ANSWER 6
 #define FADZGIME_UNEQUAL_ANSWER 2
+#define FADZGIME_CLASSES_ANSWER 2
 #define FADZGIME_STREAM_ANSWER 1
 #define FADZGIME_MODEL_ANSWER 4
 #define FADZGIME_READ_ANSWER 5
@@ -119,12 +120,13 @@ void fadzgime_read_trace(const uint8_t *trace, size_t trace_length,
  * says what it is; the rest is the library's. A start needs no contents before it.
  * Copy a state to go on from it twice.
  */
-#define FADZGIME_MONITOR_STATE 318
-#define FADZGIME_STREAM_STATE 346
+#define FADZGIME_MONITOR_STATE 319
+#define FADZGIME_STREAM_STATE 347
 /*
- * answer[0] if the state is too short, or its first byte is not that of its kind: the
- * state stays, and the other numbers are 0. Other damage is not noticed: the bytes are
- * taken as some state, nothing else is touched, and the answer means nothing.
+ * answer[0] if the state is too short, or, but for a start, its first byte is not that of
+ * its kind: the state stays, and the other numbers are 0; this is asked before a header or
+ * a letter is. Other damage is not noticed: the bytes are taken as some state, nothing else
+ * is touched, and the answer means nothing.
  */
 #define FADZGIME_NO_STATE 255
 
@@ -182,7 +184,7 @@ void fadzgime_monitor_step(uint16_t letter,
  * whether the word is about all letters taken. Nor does the word say which registers are
  * in a class, and no call does; while the monitor runs and is feasible, a copy of its
  * state becomes infeasible by the letter a != b exactly if a and b are in one class.
- * Asking changes nothing. No program prints the word.
+ * Asking changes nothing. The program `display` prints the word after every letter.
  *
  *     uint64_t unequal[FADZGIME_UNEQUAL_ANSWER];
  *     fadzgime_monitor_step(word, state, sizeof state, answer, FADZGIME_MONITOR_ANSWER);
@@ -201,6 +203,33 @@ void fadzgime_monitor_step(uint16_t letter,
  * register 0 names the class of register 1.
  */
 void fadzgime_monitor_unequal(const uint8_t *state, size_t state_length,
+                              uint64_t *answer, size_t answer_length);
+
+/*
+ * How many classes of registers there are, 1 to 8, after the longest coherent beginning
+ * of the letters taken: classes as for fadzgime_monitor_unequal, of the registers below
+ * the header's count. After a start there are as many as registers. A copy or an
+ * application changes the number by one at most, an equal test can lower it by several,
+ * since equal arguments make results equal; an unequal test, a refused letter, an
+ * incoherent one and the letters behind that leave it.
+ *
+ * The number is kept in the state and not counted anew. answer[0] 0 or FADZGIME_NO_STATE
+ * (also for the state of a stream), [1] the number, 0 with FADZGIME_NO_STATE. A refused
+ * start leaves the state as it was, with the number that it had. Of a state that no calls
+ * of this library have made the answer is the stored number, 0 to 255, and means nothing.
+ * Asking changes nothing. The program `display` prints the number after every letter.
+ *
+ *     uint64_t classes[FADZGIME_CLASSES_ANSWER];
+ *     fadzgime_monitor_step(word, state, sizeof state, answer, FADZGIME_MONITOR_ANSWER);
+ *     fadzgime_monitor_classes(state, sizeof state, classes, FADZGIME_CLASSES_ANSWER);
+ *     if (classes[0] == 0) {
+ *         printf("%d classes\n", (int)classes[1]);
+ *     }
+ *
+ * With three registers (header 0x3000) and the letters 0 != 1 (0xc008), 2 := 0 (0x0400),
+ * 0 := 1 (0x0040) the numbers are 3 after the start, then 3, 2 and 2.
+ */
+void fadzgime_monitor_classes(const uint8_t *state, size_t state_length,
                               uint64_t *answer, size_t answer_length);
 
 /*

@@ -26,9 +26,9 @@ use Rattle.semantics.specs.Facts.{Valid}
 use Rattle.semantics.specs.FirstLetters.{coherentPart}
 use Rattle.window.specs.Layout.{registers}
 use Rattle.window.specs.Step.{IsWindow}
-use Rattle.unequal_flags.specs.Flags.{WordOfState}
-use Rattle.unequal_flags.specs.Words.{unequalWord}
-use Rattle.unequal_flags.proofs.Theory.Exact.{word-of-longest}
+use Rattle.window.specs.declared.Window.{Window}
+use Rattle.semantics.proofs.Theory.Facts.{state-valid}
+use Rattle.semantics.proofs.Theory.JudgementLaws.{part-formed, longest-is, longest-unique}
 use Rattle.streaming.specs.Monitor.{outcomeAnswer, idleOf, advance}
 use Rattle.streaming.proofs.Theory.MonitorLaws.{start-refused}
 use Rattle.streaming.specs.Run.{runAnswer}
@@ -46,7 +46,7 @@ use Rattle.exports.specs.Numbers.{runNumbers}
 use Rattle.exports.specs.TraceCalls.{writtenNumbers, readNumbers, Writes, ReadsTrace}
 use Rattle.exports.specs.MonitorCalls.{monitorKind, streamKind, noState, noStateNumbers, holdsState, monitorNumbers}
 use Rattle.exports.specs.MonitorCalls.{steppedNumbers, keptOver}
-use Rattle.exports.specs.MonitorCalls.{KeepsStep, HoldsMonitor, StartsMonitor, StepsMonitor, AsksUnequal}
+use Rattle.exports.specs.MonitorCalls.{KeepsStep, HoldsMonitor, StartsMonitor, StepsMonitor, AsksMonitor}
 use Rattle.exports.specs.MonitorCalls.{HoldsStream, StartsStream, PushesStream, FinishesStream}
 use Rattle.exports.proofs.Laws.{too-short}
 
@@ -229,40 +229,44 @@ module _ (word : ℕ) (entry answer : List ℕ) where
             refused-after r entry exit answer answer′ k numbers letterMalformed 0 _ o (stays ∙ same-monitor);
       }
 
--- ---- the unequal pairs by the word
+-- ---- a number of the monitor's window
 
-module _ (entry answer : List ℕ) where
-  pub unequal-short : length answer < 2 → AsksUnequal entry answer answer
-  unequal-short s = record {
+module _ (number : Window → ℕ) (NumberOf : State → ℕ → Type 0) (entry answer : List ℕ) where
+  pub asked-short : length answer < 2 → AsksMonitor number NumberOf entry answer answer
+  asked-short s = record {
     short = λ _. refl;
     none = λ room. absurd (too-short s room);
     asked = λ room. absurd (too-short s room);
     means = λ room. absurd (too-short s room);
   }
 
-  pub unequal-none : (stored answer′ : List ℕ) → 2 ≤ length answer → holdsState monitorKind monitorSize entry ≡ false → stored ≡ noState ∷ 0 ∷ []
-      → length stored ≡ 2 → answer′ ≡ stored ++ drop (length stored) answer → AsksUnequal entry answer answer′
-  unequal-none stored answer′ room lacks same full e = record {
+  pub asked-none : (stored answer′ : List ℕ) → 2 ≤ length answer → holdsState monitorKind monitorSize entry ≡ false → stored ≡ noState ∷ 0 ∷ []
+      → length stored ≡ 2 → answer′ ≡ stored ++ drop (length stored) answer → AsksMonitor number NumberOf entry answer answer′
+  asked-none stored answer′ room lacks same full e = record {
     short = λ s. absurd (too-short s room);
     none = λ _ _. stored-over 2 _ stored answer answer′ same full e;
     asked = λ _ y. absurd (true-false y lacks);
     means = λ _ long ρ π t. absurd (true-false (held monitorKind monitorSize entry long (t .kind)) lacks);
   }
 
-  pub unequal-done : (stored answer′ : List ℕ) (m : Monitor) (word : ℕ) → 2 ≤ length answer → holdsState monitorKind monitorSize entry ≡ true
-      → m ≡ monitorIn entry → word ≡ unequalWord registers (m .window) 0
-      → ((σ : State) → Valid σ → IsWindow σ (m .window) → WordOfState σ word) → stored ≡ 0 ∷ word ∷ []
-      → length stored ≡ 2 → answer′ ≡ stored ++ drop (length stored) answer → AsksUnequal entry answer answer′
-  unequal-done stored answer′ m word room yes-held same-monitor made means same full e =
-      let numbers : answer′ ≡ 0 ∷ word ∷ drop 2 answer = stored-over 2 _ stored answer answer′ same full e in
+  pub asked-done : (stored answer′ : List ℕ) (m : Monitor) (told : ℕ) → 2 ≤ length answer → holdsState monitorKind monitorSize entry ≡ true
+      → m ≡ monitorIn entry → told ≡ number (m .window)
+      → ((σ : State) → Valid σ → IsWindow σ (m .window) → NumberOf σ told) → stored ≡ 0 ∷ told ∷ []
+      → length stored ≡ 2 → answer′ ≡ stored ++ drop (length stored) answer → AsksMonitor number NumberOf entry answer answer′
+  asked-done stored answer′ m told room yes-held same-monitor made means same full e =
+      let numbers : answer′ ≡ 0 ∷ told ∷ drop 2 answer = stored-over 2 _ stored answer answer′ same full e in
       record {
         short = λ s. absurd (too-short s room);
         none = λ _ lacks. absurd (true-false yes-held lacks);
-        asked = λ _ _. numbers ∙ ap (λ k. 0 ∷ k ∷ drop 2 answer) (made ∙ ap (λ (n : Monitor). unequalWord registers (n .window) 0) same-monitor);
+        asked = λ _ _. numbers ∙ ap (λ k. 0 ∷ k ∷ drop 2 answer) (made ∙ ap (λ (n : Monitor). number (n .window)) same-monitor);
         means = λ _ _ ρ π t l.
             let follows = t .monitors .follows in
-            let window = subst (λ (n : Monitor). IsWindow (state (coherentPart ρ)) (n .window)) (sym same-monitor) (follows .holds) in
-            (word, numbers, word-of-longest ρ π (follows .formed) l (m .window) window word means);
+            let window = subst (λ (n : Monitor). IsWindow (state (coherentPart ρ)) (n .window)) (sym same-monitor) (follows .holds) in (
+              told,
+              numbers,
+              subst (λ κ. NumberOf (state κ) told) (longest-unique ρ (coherentPart ρ) π (longest-is ρ (follows .formed)) l)
+                  (means (state (coherentPart ρ)) (state-valid (coherentPart ρ) (part-formed ρ (follows .formed))) window),
+            );
       }
 
 -- ---- the stream

@@ -16,9 +16,11 @@ use Rattle.letters.specs.Letters.{HeaderFits}
 use Rattle.letters.specs.Words.{headerWord, letterWord}
 use Rattle.traces.specs.Reading.{letterCount}
 use Rattle.letters.specs.RefusalNumbers.{headerMalformed, letterMalformed}
-use Rattle.semantics.specs.Terms.{Trace, begin, _▸_, state}
+use Rattle.semantics.specs.Terms.{Trace, begin, _▸_, State, state}
 use Rattle.semantics.specs.Judgement.{Longest}
 use Rattle.window.specs.Layout.{registers}
+use Rattle.window.specs.Classes.{ClassCount}
+use Rattle.window.specs.declared.Window.{Window}
 use Rattle.unequal_flags.specs.Flags.{WordOfState}
 use Rattle.unequal_flags.specs.Words.{unequalWord}
 use Rattle.records.specs.Records.{flag}
@@ -117,21 +119,30 @@ pub record StepsMonitor (word : ℕ) (entry answer exit answer′ : List ℕ) : 
       → ((a : Letter) → Fits (state ρ .header) a → letterWord firstEdition (state ρ .header) a ≡ word → ⊥)
       → (exit ≡ entry) × (answer′ ≡ monitorNumbers letterMalformed (monitorIn entry) ++ drop stepCount answer)
 
--- ---- the unequal pairs by the word
+-- ---- a number of the monitor's window
 
--- how many numbers the call answers
-abbrev pub unequalCount : ℕ
-unequalCount = 2
+-- how many numbers such a call answers
+abbrev pub askedCount : ℕ
+askedCount = 2
 
-pub record AsksUnequal (entry answer answer′ : List ℕ) : Type 0 where
-  pub short : length answer < unequalCount → answer′ ≡ answer
+-- The number that a window has, and when a number is that of a state.
+pub record AsksMonitor (number : Window → ℕ) (NumberOf : State → ℕ → Type 0) (entry answer answer′ : List ℕ) : Type 0 where
+  pub short : length answer < askedCount → answer′ ≡ answer
   -- no monitor's state
-  pub none : unequalCount ≤ length answer → holdsState monitorKind monitorSize entry ≡ false → answer′ ≡ noState ∷ 0 ∷ drop unequalCount answer
-  pub asked : unequalCount ≤ length answer → holdsState monitorKind monitorSize entry ≡ true
-      → answer′ ≡ 0 ∷ unequalWord registers (monitorIn entry .window) 0 ∷ drop unequalCount answer
-  -- the word is that of the longest coherent beginning of the letters taken (SPEC 5.7, 6.2)
-  pub means : unequalCount ≤ length answer → monitorSize ≤ length entry → (ρ π : Trace) → HoldsMonitor ρ entry → Longest ρ π
-      → (word : ℕ) × (answer′ ≡ 0 ∷ word ∷ drop unequalCount answer) × WordOfState (state π) word
+  pub none : askedCount ≤ length answer → holdsState monitorKind monitorSize entry ≡ false → answer′ ≡ noState ∷ 0 ∷ drop askedCount answer
+  pub asked : askedCount ≤ length answer → holdsState monitorKind monitorSize entry ≡ true
+      → answer′ ≡ 0 ∷ number (monitorIn entry .window) ∷ drop askedCount answer
+  -- the number is that of the longest coherent beginning of the letters taken (SPEC 5.7, 5.8, 6.2)
+  pub means : askedCount ≤ length answer → monitorSize ≤ length entry → (ρ π : Trace) → HoldsMonitor ρ entry → Longest ρ π
+      → (told : ℕ) × (answer′ ≡ 0 ∷ told ∷ drop askedCount answer) × NumberOf (state π) told
+
+-- the unequal pairs by the word
+abbrev pub AsksUnequal : List ℕ → List ℕ → List ℕ → Type 0
+AsksUnequal = AsksMonitor (λ w. unequalWord registers w 0) WordOfState
+
+-- how many classes there are: "with an operation that answers the stored one" (document 02, 6)
+abbrev pub AsksClasses : List ℕ → List ℕ → List ℕ → Type 0
+AsksClasses = AsksMonitor (λ w. w .classes) ClassCount
 
 -- ---- bytes in parts of any lengths
 

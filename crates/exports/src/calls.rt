@@ -16,11 +16,13 @@ use streaming::byte_stream;
 use streaming::starting;
 use streaming::stepping;
 use unequal_flags::unequal_word;
+use window::class_count;
 ghost use mathlib.Core.Path.{_≡_};
 ghost use Prim.Native.Nat.{_≤_};
 ghost use lib.ListN.{length};
 ghost use Rattle.states.specs.States.{monitorSize};
-ghost use Rattle.exports.specs.MonitorCalls.{holdsState, outcomeNumber, steppedNumbers, KeepsStep, StartsMonitor, StepsMonitor, AsksUnequal};
+ghost use Rattle.exports.specs.MonitorCalls.{holdsState, outcomeNumber, steppedNumbers, KeepsStep, StartsMonitor, StepsMonitor};
+ghost use Rattle.exports.specs.MonitorCalls.{AsksUnequal, AsksClasses};
 ghost use Rattle.exports.specs.MonitorCalls.{StartsStream, PushesStream, FinishesStream};
 
 // The first byte of a state: what it is.
@@ -31,10 +33,10 @@ const STREAM: u8 = 2;
 // What is answered for a state that is too short or of another kind; SPEC 11 has no such number.
 const NO_STATE: u64 = 255;
 
-// How many numbers a call of the monitor answers, and how many the call for its unequal pairs.
+// How many numbers a call of the monitor answers, and how many a call that asks it for its unequal pairs or its classes.
 const STEP_NUMBERS: usize = 4;
 
-const UNEQUAL_NUMBERS: usize = 2;
+const ASKED_NUMBERS: usize = 2;
 
 // Whether a state is long enough and of this kind.
 fn holds(kind: u8, size: usize, state: &[u8]) -> bool
@@ -129,12 +131,31 @@ pub extern "C" fn fadzgime_monitor_step(letter: u16, state: &mut [u8], answer: &
 pub extern "C" fn fadzgime_monitor_unequal(state: &[u8], answer: &mut [u64])
     ensures { λ _. ⌜ AsksUnequal (now (state .entry)) (now (answer .entry)) (now (answer .exit)) ⌝ }
 {
-    if answer.len() < UNEQUAL_NUMBERS {
+    if answer.len() < ASKED_NUMBERS {
         return;
     }
     if holds(MONITOR, MONITOR_SIZE, state) {
         let monitor = monitor_in(state);
         let numbers = [0, unequal_word(monitor.window)];
+        store(&numbers, answer);
+        return;
+    }
+    let none = [NO_STATE, 0];
+    store(&none, answer);
+}
+
+/// How many classes the longest coherent beginning of the letters taken has: 0 or NO_STATE, and the number that the state has stored.
+#[no_mangle]
+pub extern "C" fn fadzgime_monitor_classes(state: &[u8], answer: &mut [u64])
+    ensures { λ _. ⌜ AsksClasses (now (state .entry)) (now (answer .entry)) (now (answer .exit)) ⌝ }
+{
+    if answer.len() < ASKED_NUMBERS {
+        return;
+    }
+    if holds(MONITOR, MONITOR_SIZE, state) {
+        let monitor = monitor_in(state);
+        let count = class_count(monitor.window) as u64;
+        let numbers = [0, count];
         store(&numbers, answer);
         return;
     }

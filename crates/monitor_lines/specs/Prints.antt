@@ -8,13 +8,9 @@ use Rattle.base.specs.Choice.{pick}
 use Rattle.letters.specs.Answers.{Answer, value, refusal}
 use Rattle.text.specs.Numerals.{numeral}
 use Rattle.text.specs.Appending.{Appended}
-use Rattle.report.specs.Lines.{line, refusedLine, incoherentWord, blankWord}
+use Rattle.report.specs.Lines.{line, refusedLine, coherentWord, incoherentWord, blankWord}
 use Rattle.model_lines.specs.Prints.{infeasibleLine}
 use Rattle.text.specs.Templates.{filledIn}
-
--- "coherent"
-abbrev pub coherentWord : List ℕ
-coherentWord = 99 ∷ 111 ∷ 104 ∷ 101 ∷ 114 ∷ 101 ∷ 110 ∷ 116 ∷ []
 
 -- "feasible"
 abbrev pub feasibleWord : List ℕ

@@ -24,6 +24,8 @@ use Rattle.base.proofs.Theory.Written.{WrittenUpTo}
 use Rattle.traces.proofs.Theory.TraceLaws.{units-length}
 use Rattle.window.proofs.Theory.Table.{written-all, table-at, table-length, table-is, Swept, swept-none, swept-more, swept-all}
 use Rattle.window.specs.Table.{table}
+use Rattle.window.specs.Layout.{registers}
+use Rattle.window.specs.Counting.{countedClasses}
 use Rattle.window.specs.declared.Window.{Window}
 use Rattle.records.specs.Codes.{codeOf, codeAt, classOfCode, computedOf, assembled, gathered, scattered}
 use Rattle.records.proofs.Theory.Digits.{All<, units-one, bytes-in, gathered-length}
@@ -546,12 +548,15 @@ meaning-held class (suc (suc c)) h =
 same-table : (F G : ℕ → ℕ) (n : ℕ) → ((i : ℕ) → F i ≡ G i) → table F n ≡ table G n
 same-table F G n f = table-is G n (table F n) 0 (table-length F n) (λ i h. table-at F n i 0 h ∙ f i)
 
-pub window-made : (s class unequal flags meanings result ever : List ℕ) (mark : List Bool) (infeasible : Bool) → recordBytes ≤ length s → length class ≡ 8
+pub window-made : (s class unequal flags meanings result ever : List ℕ) (mark : List Bool) (infeasible : Bool) (classes : ℕ) → recordBytes ≤ length s
+    → length class ≡ 8
     → class ≡ take 8 (drop 7 s) → unequal ≡ take 8 (drop 15 s) → flags ≡ take 8 (drop 23 s) → mark ≡ map isSet flags → meanings ≡ meaningsOf class
     → result ≡ resultsMeant meanings (codesAt s) → ever ≡ everIn (codesAt s) → infeasible ≡ isSet (getD s 31 0)
-    → _≡_ {A = Window} (record { class = class; unequal = unequal; result = result; ever = ever; mark = mark; infeasible = infeasible }) (windowIn s)
+    → classes ≡ countedClasses registers class
+    → _≡_ {A = Window} (record { class = class; unequal = unequal; result = result; ever = ever; mark = mark; infeasible = infeasible; classes = classes })
+    (windowIn s)
 unfolding formats.windowInFormat formats.windowFrom formats.resultsInFormat resultsMeant codesAt
-window-made s class unequal flags meanings result ever mark infeasible long count c u f m k r e i =
+window-made s class unequal flags meanings result ever mark infeasible classes long count c u f m k r e i a =
     let pc : unitsIn 1 8 (formats.afterPoint firstFormat (drop contentPlace s)) ≡ class = ap (unitsIn 1 8) (at-class s) ∙ bytes-at s 8 7 (omega arith)
     ∙ sym c in
     let pu : unitsIn 1 8 (formats.afterClass firstFormat (drop contentPlace s)) ≡ unequal = ap (unitsIn 1 8) (at-unequal s) ∙ bytes-at s 8 15 (omega arith)
@@ -562,7 +567,7 @@ window-made s class unequal flags meanings result ever mark infeasible long coun
     ∙ number-one s 31 (omega arith)) ∙ sym i in
     let pr : table (λ n. classOfCode class (getD (codesAt s) n 0)) 256 ≡ result = sym (r
     ∙ rw k (same-table _ _ 256 (λ n. meaning-held class (getD (codesAt s) n 0) count))) in
-    sym (rw (pc, pu, pm, pi, pr, ← e))
+    sym (rw (pc, pu, pm, pi, pr, ← e, ← a))
 
 -- ---- a whole record
 

@@ -12,6 +12,7 @@ use Rattle.base.specs.Choice.{pick}
 use Rattle.semantics.specs.PackedTables.{units}
 use Rattle.semantics.specs.TablesRead.{unitsIn}
 use Rattle.window.specs.Table.{table}
+use Rattle.window.specs.Counting.{countedClasses}
 use Rattle.window.specs.declared.Window.{Window}
 use Rattle.records.specs.Words.{fingerprintWordBytes, wordsIn}
 use Rattle.records.specs.Codes.{codeAt, classOfCode, computedOf, assembled, gathered, scattered}
@@ -181,7 +182,7 @@ module _ (f : Format) where
   unfoldable pub everInFormat : List ℕ → List ℕ
   everInFormat codes = table (everMask codes) (linesOfFormat f)
 
-  -- The window in what stands for a point and a window.
+  -- The window in what stands for a point and a window. The number of classes is no part of a record, since it follows from them (SPEC 5.8).
   unfoldable pub windowFrom : List ℕ → Window
   windowFrom s =
       let class = unitsIn (f .maskBytes) (f .registers) (afterPoint s) in
@@ -193,6 +194,7 @@ module _ (f : Format) where
         ever = everInFormat codes;
         mark = map isSet (unitsIn flagBytes (f .registers) (afterUnequal s));
         infeasible = isSet (numberIn flagBytes (afterMarks s));
+        classes = countedClasses (f .registers) class;
       }
 
   unfoldable pub windowInFormat : List ℕ → Window

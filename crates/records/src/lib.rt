@@ -4,6 +4,7 @@ use window::Mask;
 use window::REGISTERS;
 use window::RESULTS;
 use window::Window;
+use window::counted_classes;
 ghost use mathlib.Core.Path.{_≡_};
 ghost use Prim.Native.Nat.{_+_, _*_, _/_, _%_, _≤_, _<_};
 ghost use mathlib.Core.List.{_++_, map};
@@ -440,6 +441,7 @@ pub fn window_in(part: &[u8]) -> Window
     put_results(part, &meanings, &mut result);
     let ever = ever_lines(part);
     let infeasible = part[INFEASIBLE_PLACE] == 1;
+    let classes = counted_classes(&class);
     Window {
         class,
         unequal,
@@ -447,6 +449,7 @@ pub fn window_in(part: &[u8]) -> Window
         ever,
         mark,
         infeasible,
+        classes,
     }
 }
 

@@ -36,6 +36,10 @@ passWord = 112 ∷ 97 ∷ 115 ∷ 115 ∷ []
 abbrev pub failWord : List ℕ
 failWord = 102 ∷ 97 ∷ 105 ∷ 108 ∷ []
 
+-- "coherent"
+abbrev pub coherentWord : List ℕ
+coherentWord = 99 ∷ 111 ∷ 104 ∷ 101 ∷ 114 ∷ 101 ∷ 110 ∷ 116 ∷ []
+
 -- "incoherent"
 abbrev pub incoherentWord : List ℕ
 incoherentWord = 105 ∷ 110 ∷ 99 ∷ 111 ∷ 104 ∷ 101 ∷ 114 ∷ 101 ∷ 110 ∷ 116 ∷ []

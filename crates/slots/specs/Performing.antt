@@ -19,6 +19,7 @@ use Rattle.window.specs.Through.{bitsMoved, masksThrough, resultsThrough}
 use Rattle.window.specs.Adding.{partOf, masksForgotten}
 use Rattle.window.specs.Marks.{unionOf, flagOf, raisedOf, lostOf}
 use Rattle.window.specs.Performing.{argumentsOf}
+use Rattle.window.specs.Counting.{countedClasses}
 use Rattle.window.specs.declared.Window.{Window}
 use Rattle.slots.specs.Slots.{Slots, slotOf}
 
@@ -324,6 +325,7 @@ module _ (ρ φ : ℕ) where
     ever = pulledMasks ρ (w .slot) (w .regs) (w .ever) (φ * ρ);
     mark = pulledMarks ρ (w .slot) (w .regs) (w .mark);
     infeasible = w .infeasible;
+    classes = countedClasses ρ (pulledClasses ρ (w .slot) (w .regs));
   }
 
   -- each register below n has its slot, a free slot is in no mask and has the empty one, and no result is in two slots
@@ -334,11 +336,12 @@ module _ (ρ φ : ℕ) where
       (φ * ρ * ρ)) && cleanOf ρ used ρ (w .result) (φ * ρ * ρ))
       && not (doubledOf ρ (w .result) (φ * ρ * ρ))
 
+  -- two windows are equal as values, the number of classes included
   unfoldable pub sameWindow : Window → Window → Bool
   sameWindow v w =
-      ((((sameMasks ρ (v .class) (w .class) ρ && sameMasks ρ (v .unequal) (w .unequal) ρ) && sameMasks ρ (v .result) (w .result) (φ * ρ * ρ)) && sameMasks ρ
+      (((((sameMasks ρ (v .class) (w .class) ρ && sameMasks ρ (v .unequal) (w .unequal) ρ) && sameMasks ρ (v .result) (w .result) (φ * ρ * ρ)) && sameMasks ρ
       (v .ever) (w .ever) (φ * ρ)) && sameMarks ρ (v .mark) (w .mark) ρ)
-      && alikeOf ρ (v .infeasible) (w .infeasible)
+      && alikeOf ρ (v .infeasible) (w .infeasible)) && eqb (v .classes) (w .classes)
 
   -- the slots are those of the window v, with n registers
   unfoldable pub representsOf : Window → Slots → ℕ → Bool

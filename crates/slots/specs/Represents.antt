@@ -10,6 +10,7 @@ use Rattle.base.specs.Masks.{has}
 use Rattle.semantics.specs.View.{View}
 use Rattle.window.specs.Places.{place}
 use Rattle.window.specs.Viewing.{view, Inside, Masks, Shaped}
+use Rattle.window.specs.Counting.{countedClasses}
 use Rattle.window.specs.declared.Window.{Window}
 use Rattle.slots.specs.Slots.{Slots, slotOf, Laid}
 
@@ -63,6 +64,7 @@ module _ (ρ φ : ℕ) where
     pub pulled : Pulled n (slotOf (s .slot)) (view ρ φ w) (slotView (s .unequal) (s .result) (s .ever))
     pub marked : (r : ℕ) → r < n → T (view ρ φ w .marked r) ↔ T (getD (s .mark) r false)
     pub infeasible : w .infeasible ≡ s .infeasible
+    pub counted : w .classes ≡ countedClasses ρ (w .class)
 
   pub record RepresentsWindow (n : ℕ) (s : Slots) (w : Window) : Type 0 where
     pub mirrors : Mirrors n s w

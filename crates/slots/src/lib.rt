@@ -11,6 +11,7 @@ use window::apart;
 use window::below;
 use window::clear_column;
 use window::clear_row;
+use window::counted_classes;
 use window::flag;
 use window::forget_masks;
 use window::holds;
@@ -998,6 +999,7 @@ pub fn to_window(
     pull_masks(slot, regs, ever, &mut computed);
     let known = pull_results(slot, regs, result);
     let marks = pull_marks(slot, regs, mark);
+    let classes = counted_classes(&class);
     Window {
         class,
         unequal: apart,
@@ -1005,6 +1007,7 @@ pub fn to_window(
         ever: computed,
         mark: marks,
         infeasible,
+        classes,
     }
 }
 
@@ -1204,6 +1207,7 @@ fn same_marks(a: &[bool; REGISTERS], b: &[bool; REGISTERS]) -> bool
     fine
 }
 
+// Whether two windows are equal as values, the number of classes included.
 fn same_window(v: Window, w: Window) -> bool
     ensures { λ r. ⌜ r ≡ sameWindow registers functions v w ⌝ }
     ensures same { λ r. ⌜ (r ≡ true → v ≡ w) ⌝ }
@@ -1221,7 +1225,8 @@ fn same_window(v: Window, w: Window) -> bool
     let tables = ((same_masks(&class, &other_class) & same_masks(&unequal, &other_unequal))
         & same_masks(&result, &other_result))
         & same_masks(&ever, &other_ever);
-    (tables & same_marks(&mark, &other_mark)) & alike(v.infeasible, w.infeasible)
+    ((tables & same_marks(&mark, &other_mark)) & alike(v.infeasible, w.infeasible))
+        & (v.classes == w.classes)
 }
 
 /// Whether these are the slots of the window, with that count of registers.

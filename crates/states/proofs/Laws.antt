@@ -22,14 +22,14 @@ laid-on : (b b′ done rest part : List ℕ) (at : ℕ) → b ≡ done ++ rest �
 laid-on b b′ done rest part at e l q =
     q ∙ rw (e, take-at done rest at l, ← drop-drop (length part) at (done ++ rest), drop-at done rest at l)
 
-module _ (head class unequal marks ever result : List ℕ) (heads : length head ≡ 6) (z : Sizes class unequal marks ever result) where
+module _ (head class unequal marks ever result : List ℕ) (heads : length head ≡ 7) (z : Sizes class unequal marks ever result) where
   pub six-laid : (b₀ b₁ b₂ b₃ b₄ b₅ b₆ : List ℕ)
       → b₁ ≡ take 0 b₀ ++ head ++ drop (0 + length head) b₀
-      → b₂ ≡ take 6 b₁ ++ class ++ drop (6 + length class) b₁
-      → b₃ ≡ take 14 b₂ ++ unequal ++ drop (14 + length unequal) b₂
-      → b₄ ≡ take 22 b₃ ++ marks ++ drop (22 + length marks) b₃
-      → b₅ ≡ take 30 b₄ ++ ever ++ drop (30 + length ever) b₄
-      → b₆ ≡ take 62 b₅ ++ result ++ drop (62 + length result) b₅
+      → b₂ ≡ take 7 b₁ ++ class ++ drop (7 + length class) b₁
+      → b₃ ≡ take 15 b₂ ++ unequal ++ drop (15 + length unequal) b₂
+      → b₄ ≡ take 23 b₃ ++ marks ++ drop (23 + length marks) b₃
+      → b₅ ≡ take 31 b₄ ++ ever ++ drop (31 + length ever) b₄
+      → b₆ ≡ take 63 b₅ ++ result ++ drop (63 + length result) b₅
       → b₆ ≡ partsThen head class unequal marks ever result (drop monitorSize b₀)
   six-laid b₀ b₁ b₂ b₃ b₄ b₅ b₆ q₁ q₂ q₃ q₄ q₅ q₆ =
       let r₁ = drop (length head) b₀ in
@@ -38,15 +38,15 @@ module _ (head class unequal marks ever result : List ℕ) (heads : length head 
       let r₄ = drop (length marks) r₃ in
       let r₅ = drop (length ever) r₄ in
       let e₁ : b₁ ≡ head ++ r₁ = laid-on b₀ b₁ [] b₀ head 0 refl refl q₁ in
-      let e₂ : b₂ ≡ head ++ class ++ r₂ = laid-on b₁ b₂ head r₁ class 6 e₁ heads q₂ in
-      let l₂ : length (head ++ class) ≡ 14 = simp length-append (omega (arith, z .classes)) in
-      let e₃ : b₃ ≡ head ++ class ++ unequal ++ r₃ = laid-on b₂ b₃ (head ++ class) r₂ unequal 14 e₂ l₂ q₃ in
-      let l₃ : length (head ++ class ++ unequal) ≡ 22 = simp length-append (omega (arith, z .classes, z .unequals)) in
-      let e₄ : b₄ ≡ head ++ class ++ unequal ++ marks ++ r₄ = laid-on b₃ b₄ (head ++ class ++ unequal) r₃ marks 22 e₃ l₃ q₄ in
-      let l₄ : length (head ++ class ++ unequal ++ marks) ≡ 30 = simp length-append (omega (arith, z .classes, z .unequals, z .marked)) in
-      let e₅ : b₅ ≡ head ++ class ++ unequal ++ marks ++ ever ++ r₅ = laid-on b₄ b₅ (head ++ class ++ unequal ++ marks) r₄ ever 30 e₄ l₄ q₅ in
-      let l₅ : length (head ++ class ++ unequal ++ marks ++ ever) ≡ 62 = simp length-append (omega (arith, z .classes, z .unequals, z .marked, z .evers)) in
-      let e₆ = laid-on b₅ b₆ (head ++ class ++ unequal ++ marks ++ ever) r₅ result 62 e₅ l₅ q₆ in
+      let e₂ : b₂ ≡ head ++ class ++ r₂ = laid-on b₁ b₂ head r₁ class 7 e₁ heads q₂ in
+      let l₂ : length (head ++ class) ≡ 15 = simp length-append (omega (arith, z .classes)) in
+      let e₃ : b₃ ≡ head ++ class ++ unequal ++ r₃ = laid-on b₂ b₃ (head ++ class) r₂ unequal 15 e₂ l₂ q₃ in
+      let l₃ : length (head ++ class ++ unequal) ≡ 23 = simp length-append (omega (arith, z .classes, z .unequals)) in
+      let e₄ : b₄ ≡ head ++ class ++ unequal ++ marks ++ r₄ = laid-on b₃ b₄ (head ++ class ++ unequal) r₃ marks 23 e₃ l₃ q₄ in
+      let l₄ : length (head ++ class ++ unequal ++ marks) ≡ 31 = simp length-append (omega (arith, z .classes, z .unequals, z .marked)) in
+      let e₅ : b₅ ≡ head ++ class ++ unequal ++ marks ++ ever ++ r₅ = laid-on b₄ b₅ (head ++ class ++ unequal ++ marks) r₄ ever 31 e₄ l₄ q₅ in
+      let l₅ : length (head ++ class ++ unequal ++ marks ++ ever) ≡ 63 = simp length-append (omega (arith, z .classes, z .unequals, z .marked, z .evers)) in
+      let e₆ = laid-on b₅ b₆ (head ++ class ++ unequal ++ marks ++ ever) r₅ result 63 e₅ l₅ q₆ in
       let d : drop (length result) r₅ ≡ drop monitorSize b₀ = behind in
       e₆ ∙ ap (λ r. head ++ class ++ unequal ++ marks ++ ever ++ result ++ r) d ∙ simp append-assoc
     where
@@ -54,7 +54,7 @@ module _ (head class unequal marks ever result : List ℕ) (heads : length head 
           ≡ drop monitorSize b₀
       behind =
           rw (z .results, z .evers, z .marked, z .unequals, z .classes, heads)
-          (rw (drop-drop 8 6 b₀, drop-drop 8 14 b₀, drop-drop 8 22 b₀, drop-drop 32 30 b₀, drop-drop 256 62 b₀))
+          (rw (drop-drop 8 7 b₀, drop-drop 8 15 b₀, drop-drop 8 23 b₀, drop-drop 32 31 b₀, drop-drop 256 63 b₀))
 
 pub four-laid : (tail letters first second b₀ b₁ b₂ b₃ b₄ : List ℕ) → streamSize ≤ length b₀
     → length tail ≡ 4 → length letters ≡ 8 → length first ≡ 8 → length second ≡ 8

@@ -26,7 +26,7 @@ eightOctets = 8 ∷ 8 ∷ 8 ∷ 8 ∷ 8 ∷ 8 ∷ 8 ∷ 8 ∷ []
 
 -- the head of a state; the tail of a stream, behind its monitor and before its numbers; a number
 abbrev pub headSize : ℕ
-headSize = 6
+headSize = 7
 
 abbrev pub tailSize : ℕ
 tailSize = 4
@@ -68,9 +68,10 @@ streamSize = secondPlace + numberSize
 
 -- ---- monitors
 
--- the first bytes: what the state is, the header, whether the monitor runs, its infeasible mark
+-- the first bytes: what the state is, the header, whether the monitor runs, its infeasible mark, its number of classes
 abbrev pub headOf : ℕ → Monitor → List ℕ
-headOf kind m = kind ∷ m .header .registers ∷ m .header .functions ∷ m .header .binary ∷ flag (m .running) ∷ flag (m .window .infeasible) ∷ []
+headOf kind m = kind ∷ m .header .registers ∷ m .header .functions ∷ m .header .binary ∷ flag (m .running) ∷ flag (m .window .infeasible)
+    ∷ m .window .classes ∷ []
 
 -- six parts one after the other, and then rest
 abbrev pub partsThen : List ℕ → List ℕ → List ℕ → List ℕ → List ℕ → List ℕ → List ℕ → List ℕ
@@ -100,6 +101,7 @@ monitorWindowIn bytes = record {
   ever = take layout.lines (drop everPlace bytes);
   mark = map isSet (take layout.registers (drop markPlace bytes));
   infeasible = isSet (getD bytes 5 0);
+  classes = getD bytes 6 0;
 }
 
 unfoldable pub monitorIn : List ℕ → Monitor

@@ -26,7 +26,7 @@ ghost use Rattle.states.specs.States.{phaseCode, phaseIn, runAnswerCode,
 ghost use Rattle.states.specs.States.{tailThen, streamIn, KeepsStream};
 
 // The bytes of a state's head, of a stream's tail, which is behind its monitor and before its numbers, and of a number.
-const HEAD_SIZE: usize = 6;
+const HEAD_SIZE: usize = 7;
 
 const TAIL_SIZE: usize = 4;
 
@@ -120,6 +120,7 @@ fn head(kind: u8, m: Monitor) -> [u8; HEAD_SIZE]
         header.binary,
         flagged(m.running),
         flagged(window.infeasible),
+        window.classes,
     ]
 }
 
@@ -173,6 +174,7 @@ fn window_in(state: &[u8]) -> Window
     let mut result = [0u8; RESULTS];
     lay(&mut result, 0, &state[RESULT..TAIL]);
     let infeasible = state[5] == 1;
+    let classes = state[6];
     Window {
         class,
         unequal,
@@ -180,6 +182,7 @@ fn window_in(state: &[u8]) -> Window
         ever,
         mark,
         infeasible,
+        classes,
     }
 }
 

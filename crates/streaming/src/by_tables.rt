@@ -57,17 +57,29 @@ fn performed(
     ever: &mut [Mask; LINES],
     mark: &mut [bool; REGISTERS],
     infeasible: bool,
+    classes: &mut u8,
     fine: bool,
     letter: Letter,
 ) -> bool
     requires { ⌜ WithinPacking letter × PartLengths (now class) (now unequal) (now result) (now ever) (now mark) ⌝ }
     ensures { λ v. ⌜ windowOfParts (now (class .exit)) (now (unequal .exit)) (now (result .exit)) (now (ever .exit)) (now (mark .exit)) v
+        (now (classes .exit))
         ≡ performedOf
-        (windowOfParts (now (class .entry)) (now (unequal .entry)) (now (result .entry)) (now (ever .entry)) (now (mark .entry)) infeasible) fine letter ⌝ }
+        (windowOfParts (now (class .entry)) (now (unequal .entry)) (now (result .entry)) (now (ever .entry)) (now (mark .entry)) infeasible
+        (now (classes .entry))) fine letter ⌝ }
     ensures long { λ _. ⌜ PartLengths (now (class .exit)) (now (unequal .exit)) (now (result .exit)) (now (ever .exit)) (now (mark .exit)) ⌝ }
 {
     if fine {
-        return perform_in(class, unequal, result, ever, mark, infeasible, letter);
+        return perform_in(
+            class,
+            unequal,
+            result,
+            ever,
+            mark,
+            infeasible,
+            classes,
+            letter,
+        );
     }
     infeasible
 }
@@ -80,8 +92,9 @@ fn window_of(
     ever: [Mask; LINES],
     mark: [bool; REGISTERS],
     infeasible: bool,
+    classes: u8,
 ) -> Window
-    ensures { λ r. ⌜ r ≡ windowOfParts class unequal result ever mark infeasible ⌝ }
+    ensures { λ r. ⌜ r ≡ windowOfParts class unequal result ever mark infeasible classes ⌝ }
 {
     Window {
         class,
@@ -90,6 +103,7 @@ fn window_of(
         ever,
         mark,
         infeasible,
+        classes,
     }
 }
 
@@ -114,6 +128,7 @@ pub fn take_tables(
     let mut ever = window.ever;
     let mut mark = window.mark;
     let mut bad = window.infeasible;
+    let mut classes = window.classes;
     let mut fine = running;
     let mut count = letters;
     let mut one = incoherent;
@@ -123,7 +138,7 @@ pub fn take_tables(
         let decoded = decode_letter(header, word(bytes[i], bytes[i + 1]));
         let number = next_number(count);
         let DecodedLetter::Letter(letter) = decoded else {
-            let last = window_of(class, unequal, result, ever, mark, bad);
+            let last = window_of(class, unequal, result, ever, mark, bad, classes);
             return run_of(
                 header,
                 last,
@@ -140,6 +155,7 @@ pub fn take_tables(
             &mut ever,
             &mut mark,
             bad,
+            &mut classes,
             coherent,
             letter,
         );
@@ -149,6 +165,6 @@ pub fn take_tables(
         two = first(two, bad, number);
         i = i + UNIT_BYTES;
     }
-    let last = window_of(class, unequal, result, ever, mark, bad);
+    let last = window_of(class, unequal, result, ever, mark, bad, classes);
     run_of(header, last, fine, count, RunAnswer::Judged(one, two))
 }

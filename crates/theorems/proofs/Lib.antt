@@ -6,6 +6,8 @@ pub mod HouseLayout
 pub mod EqualTests
 pub mod NamedTests
 pub mod UnequalFlags
+pub mod ClassCounts
+pub mod ClassCountExamples
 pub mod RelationExamples
 pub mod Steps
 pub mod Examples

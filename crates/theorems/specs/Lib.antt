@@ -5,3 +5,4 @@ pub mod LowerCase
 pub mod EmptyElses
 pub mod Original
 pub mod Relations
+pub mod MonitorWords

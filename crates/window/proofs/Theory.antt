@@ -14,6 +14,10 @@ pub mod Laws
 pub mod Merge
 pub mod Size
 pub mod Total
+pub mod Sizes
+pub mod Counting
+pub mod Counted
+pub mod Exact
 pub mod Read
 pub mod Copying
 pub mod Merging

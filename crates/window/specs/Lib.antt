@@ -8,6 +8,8 @@ pub mod Bits
 pub mod Through
 pub mod Adding
 pub mod Marks
+pub mod Counting
+pub mod Classes
 pub mod Performing
 pub mod Perform
 pub mod Viewing

@@ -17,14 +17,31 @@ use Rattle.window.specs.Bits.{nonempty, minus}
 use Rattle.window.specs.Through.{masksThrough, resultsThrough}
 use Rattle.window.specs.Adding.{partOf, lineAdded, masksForgotten, resultsForgotten}
 use Rattle.window.specs.Marks.{lostOf, markedWith}
+use Rattle.window.specs.Counting.{countAtStart, oneFewer, countLeft, countMade}
 use Rattle.window.specs.declared.Window.{Window}
 
--- the window with other tables and marks
-abbrev pub withTables : Window → List ℕ → List ℕ → List ℕ → List ℕ → List Bool → Window
-withTables w class unequal result ever mark = record { class = class; unequal = unequal; result = result; ever = ever; mark = mark; infeasible = w .infeasible }
+-- the window with other tables and marks, and another number of classes
+abbrev pub withTables : Window → List ℕ → List ℕ → List ℕ → List ℕ → List Bool → ℕ → Window
+withTables w class unequal result ever mark count = record {
+  class = class;
+  unequal = unequal;
+  result = result;
+  ever = ever;
+  mark = mark;
+  infeasible = w .infeasible;
+  classes = count;
+}
 
 abbrev pub withUnequal : Window → List ℕ → Bool → Window
-withUnequal w unequal infeasible = record { class = w .class; unequal = unequal; result = w .result; ever = w .ever; mark = w .mark; infeasible = infeasible }
+withUnequal w unequal infeasible = record {
+  class = w .class;
+  unequal = unequal;
+  result = w .result;
+  ever = w .ever;
+  mark = w .mark;
+  infeasible = infeasible;
+  classes = w .classes;
+}
 
 -- the registers of the classes of a and b
 abbrev pub bothClasses : Window → ℕ → ℕ → ℕ
@@ -54,7 +71,7 @@ module _ (ρ φ : ℕ) where
   copiedTables w x y =
       let marks = markedWith ρ (w .mark) (fallenOf (getD (w .class) x 0) (w .result) x 0) in
       withTables w (masksThrough ρ y y (2 ^ x) (w .class)) (masksThrough ρ y y (2 ^ x) (w .unequal)) (resultsThrough ρ y y (2 ^ x) (w .result))
-      (masksThrough ρ y y (2 ^ x) (w .ever)) (set marks x (getD marks y false))
+      (masksThrough ρ y y (2 ^ x) (w .ever)) (set marks x (getD marks y false)) (countLeft ρ (getD (w .class) x 0) (w .classes))
 
   unfoldable pub copiedOf : Window → ℕ → ℕ → Window
   copiedOf w x y = pick (has (getD (w .class) x 0) y) (λ _. w) λ _. copiedTables w x y
@@ -64,7 +81,7 @@ module _ (ρ φ : ℕ) where
   -- the classes of a and b made one
   unfoldable pub mergedOf : Window → ℕ → ℕ → Window
   mergedOf w a b = withTables w (masksThrough ρ a b (bothClasses w a b) (w .class)) (masksThrough ρ a b (bothClasses w a b) (w .unequal))
-      (resultsThrough ρ a b (bothClasses w a b) (w .result)) (masksThrough ρ a b (bothClasses w a b) (w .ever)) (w .mark)
+      (resultsThrough ρ a b (bothClasses w a b) (w .result)) (masksThrough ρ a b (bothClasses w a b) (w .ever)) (w .mark) (oneFewer (w .classes))
 
   -- the registers of the entry that are not in the class of its lowest register
   unfoldable pub restOf : List ℕ → ℕ → ℕ
@@ -120,6 +137,7 @@ module _ (ρ φ : ℕ) where
       withTables w (set (masksForgotten ρ x (w .class)) x (2 ^ x)) (masksForgotten ρ x (w .unequal)) (resultsForgotten ρ x f one two (w .result))
       (masksForgotten ρ x (lineAdded ρ f one two (w .ever)))
       (set (markedWith ρ (w .mark) (fallenOf (getD (w .class) x 0) (w .result) x (argumentsOf x y z one two))) x false)
+      (countMade ρ (getD (w .class) x 0) (w .classes))
 
   -- x := f(y, z): a value that is known is copied from the register that holds it
   unfoldable pub applyOf : Window → ℕ → ℕ → ℕ → ℕ → Window
@@ -136,6 +154,7 @@ module _ (ρ φ : ℕ) where
     mark =
         replicate ρ false;
     infeasible = false;
+    classes = countAtStart ρ n;
   }
 
   -- ---- a letter

@@ -22,6 +22,11 @@ ghost use Rattle.window.specs.Performing.{fallenOf, copiedOf, mergedOf, 
 ghost use Rattle.window.specs.Performing.{partedOf, unequalOf, argumentsOf, appliedOf, ownOf, memoizingOf, earlyOf, applyOf, apartOf};
 ghost use Rattle.window.specs.Parts.{windowOfParts, TableLengths, PartLengths};
 ghost use Rattle.window.specs.Perform.{freshOf, WithinPacking, judgeOf, performOf};
+ghost use Rattle.window.specs.Counting.{oneFewer, oneMore, countLeft, countMade, countAtStart, countedClasses};
+ghost use Rattle.window.specs.Classes.{ClassCount};
+ghost use Rattle.window.specs.Step.{IsWindow};
+ghost use Rattle.semantics.specs.Terms.{State};
+ghost use Rattle.semantics.specs.Facts.{Valid};
 ghost use Rattle.window.specs.Marks.{foldedOf, unionOf, aboveOf, flagOf, belowOf, besideOf, raisedOf, lostOf, markedWith};
 
 // ---- the layout: what a window has entries for
@@ -496,6 +501,73 @@ pub struct Window {
     pub mark: [bool; REGISTERS],
     /// Whether no data model satisfies all tests.
     pub infeasible: bool,
+    /// How many classes there are, kept by each letter: from a fresh window on it is the number of the classes above.
+    pub classes: u8,
+}
+
+// Two classes became one.
+fn one_fewer(count: u8) -> u8
+    ensures { λ r. ⌜ r ≡ oneFewer count ⌝ }
+{
+    if count > 0 {
+        return count - 1;
+    }
+    0
+}
+
+// There is a class more. It is raised only below the number of registers, so that no sum is too large whatever was stored.
+fn one_more(count: u8) -> u8
+    ensures { λ r. ⌜ r ≡ oneMore registers count ⌝ }
+{
+    if (count as usize) < REGISTERS {
+        return count + 1;
+    }
+    count
+}
+
+// The number of classes after a register has left this class, its own, for another one.
+fn count_left(class: Mask, count: u8) -> u8
+    ensures { λ r. ⌜ r ≡ countLeft registers class count ⌝ }
+{
+    if size(class) == 1 {
+        return one_fewer(count);
+    }
+    count
+}
+
+// The same after it has become a class of its own.
+fn count_made(class: Mask, count: u8) -> u8
+    ensures { λ r. ⌜ r ≡ countMade registers class count ⌝ }
+{
+    if size(class) == 1 {
+        return count;
+    }
+    one_more(count)
+}
+
+// The number of classes at the start: each register is one.
+fn count_at_start(declared: u8) -> u8
+    ensures { λ r. ⌜ r ≡ countAtStart registers declared ⌝ }
+{
+    if (declared as usize) < REGISTERS {
+        return declared;
+    }
+    REGISTERS as u8
+}
+
+/// The number of classes of a table, counted anew: for a window that is made from something else than a letter.
+pub fn counted_classes(class: &[Mask; REGISTERS]) -> u8
+    ensures { λ r. ⌜ r ≡ countedClasses registers (now (class .entry)) ⌝ }
+{
+    size(names(class)) as u8
+}
+
+/// How many classes there are: the number that is stored, whatever window it is. From a fresh window on it is the count of the trace's classes.
+pub fn class_count(w: Window) -> u8
+    ensures { λ r. ⌜ r ≡ w .classes ⌝ }
+    ensures means { λ r. ⌜ ((σ : State) → Valid σ → IsWindow σ w → ClassCount σ r) ⌝ }
+{
+    w.classes
 }
 
 // The registers that get a mark as x, of the given class, loses its value: none if another register holds it too.
@@ -529,21 +601,24 @@ fn copy_in(
     result: &mut [Mask; RESULTS],
     ever: &mut [Mask; LINES],
     mark: &mut [bool; REGISTERS],
+    count: &mut u8,
     x: usize,
     y: usize,
 )
     requires { ⌜ (x < registers) × (y < registers) × PartLengths (now class) (now unequal) (now result) (now ever) (now mark) ⌝ }
     ensures { λ _. ⌜ ((b : Bool) →
-        windowOfParts (now (class .exit)) (now (unequal .exit)) (now (result .exit)) (now (ever .exit)) (now (mark .exit)) b
+        windowOfParts (now (class .exit)) (now (unequal .exit)) (now (result .exit)) (now (ever .exit)) (now (mark .exit)) b (now (count .exit))
         ≡ copiedOf registers functions
-        (windowOfParts (now (class .entry)) (now (unequal .entry)) (now (result .entry)) (now (ever .entry)) (now (mark .entry)) b) x y) ⌝ }
+        (windowOfParts (now (class .entry)) (now (unequal .entry)) (now (result .entry)) (now (ever .entry)) (now (mark .entry)) b (now (count .entry)))
+        x y) ⌝ }
     ensures long { λ _. ⌜ PartLengths (now (class .exit)) (now (unequal .exit)) (now (result .exit)) (now (ever .exit)) (now (mark .exit)) ⌝ }
 {
-    let own = class[x];
-    if holds(own, y) {
+    let left = class[x];
+    if holds(left, y) {
         return;
     }
-    mark_in(mark, fallen(own, result, x, 0));
+    *count = count_left(left, *count);
+    mark_in(mark, fallen(left, result, x, 0));
     let held = mark[y];
     mark[x] = held;
     copy_masks(class, x, y);
@@ -558,15 +633,18 @@ fn merge_in(
     unequal: &mut [Mask; REGISTERS],
     result: &mut [Mask; RESULTS],
     ever: &mut [Mask; LINES],
+    count: &mut u8,
     a: usize,
     b: usize,
 )
     requires { ⌜ (a < registers) × (b < registers) × TableLengths (now class) (now unequal) (now result) (now ever) ⌝ }
     ensures { λ _. ⌜ ((m : List Bool) (i : Bool) →
-        windowOfParts (now (class .exit)) (now (unequal .exit)) (now (result .exit)) (now (ever .exit)) m i
-        ≡ mergedOf registers functions (windowOfParts (now (class .entry)) (now (unequal .entry)) (now (result .entry)) (now (ever .entry)) m i) a b) ⌝ }
+        windowOfParts (now (class .exit)) (now (unequal .exit)) (now (result .exit)) (now (ever .exit)) m i (now (count .exit))
+        ≡ mergedOf registers functions
+        (windowOfParts (now (class .entry)) (now (unequal .entry)) (now (result .entry)) (now (ever .entry)) m i (now (count .entry))) a b) ⌝ }
     ensures long { λ _. ⌜ TableLengths (now (class .exit)) (now (unequal .exit)) (now (result .exit)) (now (ever .exit)) ⌝ }
 {
+    *count = one_fewer(*count);
     let to = (class[a] | class[b]) | single(a);
     merge_masks(class, a, b, to);
     merge_masks(unequal, a, b, to);
@@ -605,12 +683,13 @@ fn close_in(
     unequal: &mut [Mask; REGISTERS],
     result: &mut [Mask; RESULTS],
     ever: &mut [Mask; LINES],
+    count: &mut u8,
 )
     requires { ⌜ TableLengths (now class) (now unequal) (now result) (now ever) ⌝ }
     ensures { λ _. ⌜ ((m : List Bool) (i : Bool) →
-        windowOfParts (now (class .exit)) (now (unequal .exit)) (now (result .exit)) (now (ever .exit)) m i
+        windowOfParts (now (class .exit)) (now (unequal .exit)) (now (result .exit)) (now (ever .exit)) m i (now (count .exit))
         ≡ closedOf registers functions (registerPairs + 1)
-        (windowOfParts (now (class .entry)) (now (unequal .entry)) (now (result .entry)) (now (ever .entry)) m i)) ⌝ }
+        (windowOfParts (now (class .entry)) (now (unequal .entry)) (now (result .entry)) (now (ever .entry)) m i (now (count .entry)))) ⌝ }
     ensures long { λ _. ⌜ TableLengths (now (class .exit)) (now (unequal .exit)) (now (result .exit)) (now (ever .exit)) ⌝ }
 {
     let mut fuel: usize = PAIRS + 1;
@@ -620,7 +699,7 @@ fn close_in(
         let two = name(rest(class, entry));
         if one < REGISTERS {
             if two < REGISTERS {
-                merge_in(class, unequal, result, ever, one, two);
+                merge_in(class, unequal, result, ever, count, one, two);
                 fuel = fuel - 1;
             } else {
                 return;
@@ -654,9 +733,9 @@ fn clash(class: &[Mask; REGISTERS], unequal: &[Mask; REGISTERS]) -> bool
 
 // On lent unequal pairs: the window, made infeasible where it is `bad`; whether it is infeasible. An infeasible window has no unequal pairs.
 fn settle_in(unequal: &mut [Mask; REGISTERS], infeasible: bool, bad: bool) -> bool
-    ensures { λ v. ⌜ ((c r e : List ℕ) (m : List Bool) →
-        windowOfParts c (now (unequal .exit)) r e m v
-        ≡ settledOf registers functions (windowOfParts c (now (unequal .entry)) r e m infeasible) bad) ⌝ }
+    ensures { λ v. ⌜ ((c r e : List ℕ) (m : List Bool) (k : ℕ) →
+        windowOfParts c (now (unequal .exit)) r e m v k
+        ≡ settledOf registers functions (windowOfParts c (now (unequal .entry)) r e m infeasible k) bad) ⌝ }
     ensures long { λ _. ⌜ (length (now (unequal .entry)) ≡ registers → length (now (unequal .exit)) ≡ registers) ⌝ }
 {
     if infeasible | bad {
@@ -673,22 +752,23 @@ fn equal_in(
     result: &mut [Mask; RESULTS],
     ever: &mut [Mask; LINES],
     infeasible: bool,
+    count: &mut u8,
     x: usize,
     y: usize,
 ) -> bool
     requires { ⌜ (x < registers) × (y < registers) × TableLengths (now class) (now unequal) (now result) (now ever) ⌝ }
     ensures { λ v. ⌜ ((m : List Bool) →
-        windowOfParts (now (class .exit)) (now (unequal .exit)) (now (result .exit)) (now (ever .exit)) m v
+        windowOfParts (now (class .exit)) (now (unequal .exit)) (now (result .exit)) (now (ever .exit)) m v (now (count .exit))
         ≡ equalOf registers functions (windowOfParts (now (class .entry)) (now (unequal .entry)) (now (result .entry))
-        (now (ever .entry)) m infeasible) x y) ⌝ }
+        (now (ever .entry)) m infeasible (now (count .entry))) x y) ⌝ }
     ensures long { λ _. ⌜ TableLengths (now (class .exit)) (now (unequal .exit)) (now (result .exit)) (now (ever .exit)) ⌝ }
 {
     let own = class[x];
     if holds(own, y) {
         return infeasible;
     }
-    merge_in(class, unequal, result, ever, x, y);
-    close_in(class, unequal, result, ever);
+    merge_in(class, unequal, result, ever, count, x, y);
+    close_in(class, unequal, result, ever, count);
     let bad = clash(class, unequal);
     settle_in(unequal, infeasible, bad)
 }
@@ -716,9 +796,9 @@ fn unequal_in(
     y: usize,
 ) -> bool
     requires { ⌜ (x < registers) × (y < registers) × (length (now unequal) ≡ registers) ⌝ }
-    ensures { λ v. ⌜ ((r e : List ℕ) (m : List Bool) →
-        windowOfParts (now (class .entry)) (now (unequal .exit)) r e m v
-        ≡ unequalOf registers functions (windowOfParts (now (class .entry)) (now (unequal .entry)) r e m infeasible) x y) ⌝ }
+    ensures { λ v. ⌜ ((r e : List ℕ) (m : List Bool) (k : ℕ) →
+        windowOfParts (now (class .entry)) (now (unequal .exit)) r e m v k
+        ≡ unequalOf registers functions (windowOfParts (now (class .entry)) (now (unequal .entry)) r e m infeasible k) x y) ⌝ }
     ensures long { λ _. ⌜ length (now (unequal .exit)) ≡ registers ⌝ }
 {
     let one = class[x];
@@ -744,6 +824,7 @@ fn new_in(
     result: &mut [Mask; RESULTS],
     ever: &mut [Mask; LINES],
     mark: &mut [bool; REGISTERS],
+    count: &mut u8,
     x: usize,
     f: usize,
     y: usize,
@@ -752,15 +833,17 @@ fn new_in(
     requires { ⌜ (x < registers) × (f < functions) × (y < registers) × (z < registers)
         × PartLengths (now class) (now unequal) (now result) (now ever) (now mark) ⌝ }
     ensures { λ _. ⌜ ((i : Bool) →
-        windowOfParts (now (class .exit)) (now (unequal .exit)) (now (result .exit)) (now (ever .exit)) (now (mark .exit)) i
+        windowOfParts (now (class .exit)) (now (unequal .exit)) (now (result .exit)) (now (ever .exit)) (now (mark .exit)) i (now (count .exit))
         ≡ appliedOf registers functions
-        (windowOfParts (now (class .entry)) (now (unequal .entry)) (now (result .entry)) (now (ever .entry)) (now (mark .entry)) i) x f y z) ⌝ }
+        (windowOfParts (now (class .entry)) (now (unequal .entry)) (now (result .entry)) (now (ever .entry)) (now (mark .entry)) i (now (count .entry)))
+        x f y z) ⌝ }
     ensures long { λ _. ⌜ PartLengths (now (class .exit)) (now (unequal .exit)) (now (result .exit)) (now (ever .exit)) (now (mark .exit)) ⌝ }
 {
     let one = class[y];
     let two = class[z];
-    let own = class[x];
-    mark_in(mark, fallen(own, result, x, arguments(x, y, z, one, two)));
+    let left = class[x];
+    *count = count_made(left, *count);
+    mark_in(mark, fallen(left, result, x, arguments(x, y, z, one, two)));
     mark[x] = false;
     forget_masks(class, x);
     class[x] = single(x);
@@ -796,6 +879,7 @@ pub fn fresh(registers: u8) -> Window
     ensures { λ r. ⌜ r ≡ freshOf registers ⌝ }
 {
     let class = own_classes(registers as usize);
+    let classes = count_at_start(registers);
     Window {
         class,
         unequal: [0; REGISTERS],
@@ -803,14 +887,15 @@ pub fn fresh(registers: u8) -> Window
         ever: [0; LINES],
         mark: [false; REGISTERS],
         infeasible: false,
+        classes,
     }
 }
 
 // Whether x := f(y, z) is coherent: a register holds its value, or it was never computed ("memoizing").
 fn memoizing(result: &[Mask; RESULTS], ever: &[Mask; LINES], f: usize, y: usize, z: usize) -> bool
     requires { ⌜ (f < functions) × (y < registers) × (z < registers) ⌝ }
-    ensures { λ v. ⌜ ((c u : List ℕ) (m : List Bool) (i : Bool) → v
-        ≡ memoizingOf registers functions (windowOfParts c u (now (result .entry)) (now (ever .entry)) m i) f y z) ⌝ }
+    ensures { λ v. ⌜ ((c u : List ℕ) (m : List Bool) (i : Bool) (k : ℕ) → v
+        ≡ memoizingOf registers functions (windowOfParts c u (now (result .entry)) (now (ever .entry)) m i k) f y z) ⌝ }
 {
     let at = REGISTERS * f + y;
     let line = ever[at];
@@ -823,7 +908,7 @@ fn memoizing(result: &[Mask; RESULTS], ever: &[Mask; LINES], f: usize, y: usize,
 // Whether the test x = y is coherent: nothing above either side is lost ("early"), or the sides are equal already.
 fn early(class: &[Mask; REGISTERS], mark: &[bool; REGISTERS], x: usize, y: usize) -> bool
     requires { ⌜ (x < registers) × (y < registers) ⌝ }
-    ensures { λ v. ⌜ ((u r e : List ℕ) (i : Bool) → v ≡ earlyOf (windowOfParts (now (class .entry)) u r e (now (mark .entry)) i) x y) ⌝ }
+    ensures { λ v. ⌜ ((u r e : List ℕ) (i : Bool) (k : ℕ) → v ≡ earlyOf (windowOfParts (now (class .entry)) u r e (now (mark .entry)) i k) x y) ⌝ }
 {
     if mark[x] | mark[y] {
         return holds(class[x], y);
@@ -841,8 +926,8 @@ pub fn judge_in(
     letter: Letter,
 ) -> bool
     requires { ⌜ WithinPacking letter ⌝ }
-    ensures { λ v. ⌜ ((u : List ℕ) (i : Bool) → v
-        ≡ judgeOf (windowOfParts (now (class .entry)) u (now (result .entry)) (now (ever .entry)) (now (mark .entry)) i) letter) ⌝ }
+    ensures { λ v. ⌜ ((u : List ℕ) (i : Bool) (k : ℕ) → v
+        ≡ judgeOf (windowOfParts (now (class .entry)) u (now (result .entry)) (now (ever .entry)) (now (mark .entry)) i k) letter) ⌝ }
 {
     match letter {
         Letter::Copy {
@@ -888,6 +973,7 @@ fn apply_in(
     result: &mut [Mask; RESULTS],
     ever: &mut [Mask; LINES],
     mark: &mut [bool; REGISTERS],
+    count: &mut u8,
     x: usize,
     f: usize,
     y: usize,
@@ -896,18 +982,19 @@ fn apply_in(
     requires { ⌜ (x < registers) × (f < functions) × (y < registers) × (z < registers)
         × PartLengths (now class) (now unequal) (now result) (now ever) (now mark) ⌝ }
     ensures { λ _. ⌜ ((i : Bool) →
-        windowOfParts (now (class .exit)) (now (unequal .exit)) (now (result .exit)) (now (ever .exit)) (now (mark .exit)) i
+        windowOfParts (now (class .exit)) (now (unequal .exit)) (now (result .exit)) (now (ever .exit)) (now (mark .exit)) i (now (count .exit))
         ≡ applyOf registers functions
-        (windowOfParts (now (class .entry)) (now (unequal .entry)) (now (result .entry)) (now (ever .entry)) (now (mark .entry)) i) x f y z) ⌝ }
+        (windowOfParts (now (class .entry)) (now (unequal .entry)) (now (result .entry)) (now (ever .entry)) (now (mark .entry)) i (now (count .entry)))
+        x f y z) ⌝ }
     ensures long { λ _. ⌜ PartLengths (now (class .exit)) (now (unequal .exit)) (now (result .exit)) (now (ever .exit)) (now (mark .exit)) ⌝ }
 {
     let held = result[REGISTERS * (REGISTERS * f + y) + z];
     let r = name(held);
     if r < REGISTERS {
-        copy_in(class, unequal, result, ever, mark, x, r);
+        copy_in(class, unequal, result, ever, mark, count, x, r);
         return;
     }
-    new_in(class, unequal, result, ever, mark, x, f, y, z);
+    new_in(class, unequal, result, ever, mark, count, x, f, y, z);
 }
 
 /// On lent tables: performs a letter that is coherent; whether the trace is infeasible. Its registers lie below REGISTERS and its function below FUNCTIONS.
@@ -918,12 +1005,13 @@ pub fn perform_in(
     ever: &mut [Mask; LINES],
     mark: &mut [bool; REGISTERS],
     infeasible: bool,
+    count: &mut u8,
     letter: Letter,
 ) -> bool
     requires { ⌜ WithinPacking letter × PartLengths (now class) (now unequal) (now result) (now ever) (now mark) ⌝ }
-    ensures { λ v. ⌜ windowOfParts (now (class .exit)) (now (unequal .exit)) (now (result .exit)) (now (ever .exit)) (now (mark .exit)) v
-        ≡ performOf (windowOfParts (now (class .entry)) (now (unequal .entry)) (now (result .entry)) (now (ever .entry)) (now (mark .entry)) infeasible)
-        letter ⌝ }
+    ensures { λ v. ⌜ windowOfParts (now (class .exit)) (now (unequal .exit)) (now (result .exit)) (now (ever .exit)) (now (mark .exit)) v (now (count .exit))
+        ≡ performOf (windowOfParts (now (class .entry)) (now (unequal .entry)) (now (result .entry)) (now (ever .entry)) (now (mark .entry)) infeasible
+        (now (count .entry))) letter ⌝ }
     ensures long { λ _. ⌜ PartLengths (now (class .exit)) (now (unequal .exit)) (now (result .exit)) (now (ever .exit)) (now (mark .exit)) ⌝ }
 {
     match letter {
@@ -934,6 +1022,7 @@ pub fn perform_in(
                 result,
                 ever,
                 mark,
+                count,
                 target as usize,
                 source as usize,
             );
@@ -951,6 +1040,7 @@ pub fn perform_in(
                 result,
                 ever,
                 mark,
+                count,
                 target as usize,
                 function as usize,
                 first as usize,
@@ -965,6 +1055,7 @@ pub fn perform_in(
                 result,
                 ever,
                 infeasible,
+                count,
                 first as usize,
                 second as usize,
             )
@@ -985,6 +1076,7 @@ pub fn perform(w: Window, letter: Letter) -> Window
     let mut result = w.result;
     let mut ever = w.ever;
     let mut mark = w.mark;
+    let mut classes = w.classes;
     let infeasible = perform_in(
         &mut class,
         &mut unequal,
@@ -992,6 +1084,7 @@ pub fn perform(w: Window, letter: Letter) -> Window
         &mut ever,
         &mut mark,
         w.infeasible,
+        &mut classes,
         letter,
     );
     Window {
@@ -1001,5 +1094,6 @@ pub fn perform(w: Window, letter: Letter) -> Window
         ever,
         mark,
         infeasible,
+        classes,
     }
 }

@@ -19,6 +19,7 @@ use Rattle.semantics.specs.PackedTables.{units}
 use Rattle.semantics.specs.TablesRead.{unitsIn}
 use Rattle.window.proofs.Theory.Places.{line-entry, along-entry, entry-below}
 use Rattle.window.proofs.Theory.Table.{table-at, table-length, table-is}
+use Rattle.window.specs.Counting.{countedClasses}
 use Rattle.window.specs.declared.Window.{Window}
 use Rattle.records.specs.Codes.{codeOf, codeAt, classOfCode, computedOf, assembled, gathered, scattered}
 use Rattle.records.specs.Formats.{Format, numberBytes, pairPlace, contentPlace, linesOfFormat, resultsOfFormat, masksBytes, encodedBytesOfFormat}
@@ -113,6 +114,7 @@ module _ (f : Format) where
         ((leastIn (f .registers) (getD (w .result) i 0) < f .registers) ×
         (getD (w .class) (leastIn (f .registers) (getD (w .result) i 0)) 0 ≡ getD (w .result) i 0))
     pub computed : (i : ℕ) → i < resultsOfFormat f → (getD (w .result) i 0 ≡ 0) ⊎ (bit (getD (w .ever) (i / f .registers) 0) (i % f .registers) ≡ 1)
+    pub counted : w .classes ≡ countedClasses (f .registers) (w .class)
 
   module _ (sound : WidthsFit f) (point : ℕ) (w : Window) (s : StorableInFormat w) (rest : List ℕ) where
     -- numbers in their bytes, one part after the other
@@ -260,7 +262,7 @@ module _ (f : Format) where
     -- a window is read back as it was
     content-window : windowFrom f (contentOf f point w ++ rest) ≡ w
     unfolding windowFrom
-    content-window = rw (laid, class-back, unequal-back, codes-back, result-back, ever-back, mark-back, infeasible-back)
+    content-window = rw (laid, class-back, unequal-back, codes-back, result-back, ever-back, mark-back, infeasible-back, ← (s .counted))
 
     -- and so is a point
     content-point : point < 65536 → numberIn numberBytes (contentOf f point w ++ rest) ≡ point

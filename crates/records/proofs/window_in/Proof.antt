@@ -1,4 +1,5 @@
-use mathlib.Core.Path.{refl}
+use mathlib.Core.Path.{_≡_, refl}
+use lib.ListN.{length}
 use Rattle.records.specs.Records.{isSet}
 use Rattle.records.proofs.Turns.{window-made}
 use borrow.Author.Needs.{needs}
@@ -18,14 +19,18 @@ window-in-spec =
     (λ c κs. search needs)
     (λ c κs. search needs)
     (λ c. search needs)
+    (λ c κs. search needs)
     (λ c.
-    let at-put-results = c .before .before in
+    let long : length (c .before .before .before .before .before .before .before .before .before .before .before .before .eight .result) ≡ 8 = search needs in
+    let at-ever-lines = c .before .before .before in
+    let at-put-results = at-ever-lines .before in
     let at-meanings = at-put-results .before .before .before in
     let at-marks = at-meanings .before .before in
     let at-eight3 = at-marks .before in
     let at-eight2 = at-eight3 .before in
     let at-eight = at-eight2 .before in
     let at-args = at-eight .before .before in
-    window-made (at-args .args .part .now) (at-eight .eight .result) _ _ _ _ _ _ _ (search needs) (search needs) (at-eight .eight .ensures)
+    window-made (at-args .args .part .now) (at-eight .eight .result) _ _ _ _ _ _ _ _ (at-args .pre) long (at-eight .eight .ensures)
     (at-eight2 .eight2 .ensures) (at-eight3 .eight3 .ensures) (at-marks .marks .ensures) (at-meanings .meanings .ensures)
-    (at-put-results .put-results .ensures) (c .before .ever-lines .ensures) refl))
+    (at-put-results .put-results .ensures) (at-ever-lines .ever-lines .ensures) refl
+    (c .counted-classes .ensures)))

@@ -16,19 +16,19 @@ use Rattle.exploration.proofs.Theory.Given.{setting}
 
 -- ── whether two windows are equal is decided by their parts ──
 abbrev Parts : Type 0
-Parts = (List ℕ × List ℕ) × ((List ℕ × List ℕ) × (List Bool × Bool))
+Parts = (List ℕ × List ℕ) × ((List ℕ × List ℕ) × (List Bool × (Bool × ℕ)))
 
 abbrev parts : Window → Parts
-parts w = ((w .class, w .unequal), ((w .result, w .ever), (w .mark, w .infeasible)))
+parts w = ((w .class, w .unequal), ((w .result, w .ever), (w .mark, (w .infeasible, w .classes))))
 
 abbrev whole : Parts → Window
-whole ((a, b), ((c, d), (e, f))) = record { class = a; unequal = b; result = c; ever = d; mark = e; infeasible = f }
+whole ((a, b), ((c, d), (e, (f, g)))) = record { class = a; unequal = b; result = c; ever = d; mark = e; infeasible = f; classes = g }
 
 two-lists : Discrete (List ℕ × List ℕ)
 two-lists = ×-discrete (List-discrete ℕ-discrete) (List-discrete ℕ-discrete)
 
 parts-discrete : Discrete Parts
-parts-discrete = ×-discrete two-lists (×-discrete two-lists (×-discrete (List-discrete Bool-discrete) Bool-discrete))
+parts-discrete = ×-discrete two-lists (×-discrete two-lists (×-discrete (List-discrete Bool-discrete) (×-discrete Bool-discrete ℕ-discrete)))
 
 window-discrete : Discrete Window
 window-discrete w v = elim (parts-discrete (parts w) (parts v)) [ yes e ↦ yes (ap whole e) | no n ↦ no (λ e. n (ap parts e)) ]

@@ -31,6 +31,8 @@ use Rattle.window.proofs.Theory.Copying.{fallen-is, marked-at, marked-length}
 use Rattle.window.proofs.Theory.Applying.{renamed-applied, inside-applied}
 use Rattle.window.proofs.Theory.Shape.{shaped-performed}
 use Rattle.window.proofs.Theory.Uniqueness.{bit-same}
+use Rattle.window.specs.Counting.{countedClasses}
+use Rattle.window.proofs.Theory.Counted.{partition-of, counted-applied}
 use Rattle.window.specs.declared.Window.{Window}
 use Rattle.slots.specs.Slots.{Slots, slotOf, SlotTableLengths}
 use Rattle.slots.specs.Performing.{placed, marksIn, freeFrom, registerIn, resultsDropped, resultRecorded, everRecorded, droppedSlots, recordedSlots}
@@ -105,6 +107,9 @@ module _ (ρ φ n : ℕ) (s : Slots) (w : Window) (m : Mirrors ρ φ n s w) (x f
         xu : x < ρ
         xu = up ρ φ n s w m x xb
 
+  counts : w′ .classes ≡ countedClasses ρ (w′ .class)
+  counts = counted-applied ρ φ w (m .shaped) n (partition-of ρ φ n w laws (m .inside)) (m .counted) x f y z xb
+
   kept-infeasible : w′ .infeasible ≡ w .infeasible
   unfolding windows.appliedOf
   kept-infeasible = refl
@@ -175,6 +180,7 @@ module _ (ρ φ n : ℕ) (s : Slots) (w : Window) (m : Mirrors ρ φ n s w) (x f
           marked = marks (marksIn ρ (s .slot) (s .mark) (bitOr (lostOf ρ φ (s .result) (slotOf (s .slot) x) more′) (2 ^ slotOf (s .slot) x)))
               (marks-length ρ (s .slot) (s .mark) lost) at-mark;
           infeasible = kept-infeasible ∙ m .infeasible;
+          counted = counts;
         };
         single = single-renewed ρ f (g y) (g z) (g x) K K₁ o none new;
       }
@@ -238,6 +244,7 @@ module _ (ρ φ n : ℕ) (s : Slots) (w : Window) (m : Mirrors ρ φ n s w) (x f
             (λ k. inl (m .marked q qb .1 k)),
           ));
           infeasible = kept-infeasible ∙ m .infeasible;
+          counted = counts;
         };
         single = single-renewed ρ f (g y) (g z) c K K₂ o none new;
       })

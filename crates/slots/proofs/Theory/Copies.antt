@@ -26,6 +26,8 @@ use Rattle.window.proofs.Theory.Laws.{Laws}
 use Rattle.window.specs.Viewing.{view}
 use Rattle.window.proofs.Theory.Copying.{copied-same, copied-other, fallen-is, marked-copied, renamed-copied, inside-copied}
 use Rattle.window.proofs.Theory.Shape.{shaped-tables}
+use Rattle.window.specs.Counting.{countedClasses}
+use Rattle.window.proofs.Theory.Counted.{partition-of, counted-tables}
 use Rattle.window.specs.declared.Window.{Window}
 use Rattle.slots.specs.Slots.{Slots, slotOf}
 use Rattle.slots.specs.Performing.{placed, withMark, marksIn, resultsDropped, droppedSlots, leftSlots, copiedSlots}
@@ -104,6 +106,9 @@ module _ (ρ φ n : ℕ) (s : Slots) (w : Window) (m : Mirrors ρ φ n s w) (o :
               (λ e. getD-set-other (next .mark) x r (getD (next .mark) y false) false e ∙ ap (λ k. getD (next .mark) k false) (sym (copied-other x y r e)))
               (eq-or r x)
 
+    counts : copiedTables ρ φ w x y .classes ≡ countedClasses ρ (copiedTables ρ φ w x y .class)
+    counts = counted-tables ρ φ w (m .shaped) n (partition-of ρ φ n w laws (m .inside)) (m .counted) x y xb yb (λ t. d (m .pulled .same x y xb yb .0 t))
+
     kept-infeasible : w′ .infeasible ≡ w .infeasible
     unfolding copiedTables
     kept-infeasible = refl
@@ -138,6 +143,7 @@ module _ (ρ φ n : ℕ) (s : Slots) (w : Window) (m : Mirrors ρ φ n s w) (o :
             (alike-dropped ρ n (g x) g′ K Q (λ r rb. (lay .low .below r (up ρ φ n s w m r rb), not-gone r rb)) gone);
         marked = marks E (lay .mark-long) at-mark;
         infeasible = kept-infeasible ∙ m .infeasible;
+        counted = counts;
       };
       single = single-dropped ρ (g x) K Q o gone;
     }
@@ -195,6 +201,7 @@ module _ (ρ φ n : ℕ) (s : Slots) (w : Window) (m : Mirrors ρ φ n s w) (o :
           (λ k. inl (m .marked q qb .1 k)),
         ));
         infeasible = kept-infeasible ∙ m .infeasible;
+        counted = counts;
       };
       single = o;
     }

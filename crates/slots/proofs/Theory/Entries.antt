@@ -23,6 +23,7 @@ use Rattle.window.specs.Adding.{partOf}
 use Rattle.window.specs.Viewing.{view, Masks}
 use Rattle.window.proofs.Theory.Copying.{cell-result, result-cell}
 use Rattle.window.proofs.Theory.Uniqueness.{bit-same}
+use Rattle.window.specs.Counting.{countedClasses}
 use Rattle.window.specs.declared.Window.{Window}
 use Rattle.slots.specs.Slots.{Slots, slotOf, Low}
 use Rattle.slots.specs.Performing.{hasSlot, pulledOf, entryOf, pulledAt, pulledMasks, pulledResults, pulledClasses, pulledMarks, windowOf}
@@ -222,4 +223,5 @@ module _ (ρ φ n : ℕ) (s : Slots) (w : Window) (m : Mirrors ρ φ n s w) wher
     mark =
         marks-pulled k;
     infeasible = m .infeasible k;
+    classes = (m .counted ∙ ap (countedClasses ρ) class-pulled) k;
   })

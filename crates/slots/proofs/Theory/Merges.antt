@@ -16,6 +16,9 @@ use Rattle.window.proofs.Theory.Laws.{Laws}
 use Rattle.window.specs.Viewing.{view}
 use Rattle.window.proofs.Theory.Merging.{merged, inside-merged}
 use Rattle.window.proofs.Theory.Shape.{shaped-merged}
+use Rattle.window.specs.Counting.{countedClasses}
+use Rattle.window.proofs.Theory.Merge.{laws-merged}
+use Rattle.window.proofs.Theory.Counted.{partition-of, counted-merges}
 use Rattle.window.specs.declared.Window.{Window}
 use Rattle.slots.specs.Slots.{Slots, slotOf}
 use Rattle.slots.specs.Performing.{slotRenamed, masksRenamed, resultsRenamed, mergedSlots}
@@ -112,6 +115,13 @@ module _ (ρ φ n : ℕ) (s : Slots) (w : Window) (m : Mirrors ρ φ n s w) (x y
   unfolding windows.mergedOf
   kept-mark = refl
 
+  counts : windows.mergedOf ρ φ w x y .classes ≡ countedClasses ρ (windows.mergedOf ρ φ w x y .class)
+  counts =
+      let mg = merged ρ φ w (m .shaped) n laws (m .inside) x y xb yb in
+      counted-merges ρ φ w (m .shaped) n (partition-of ρ φ n w laws (m .inside)) (m .counted) x y xb yb (λ t. d (m .pulled .same x y xb yb .0 t))
+      (partition-of ρ φ n w′ (laws-merged n (view ρ φ w) x y laws xb yb (view ρ φ w′) mg)
+      (inside-merged ρ φ w (m .shaped) n laws (m .inside) x y xb yb)) (mg .same)
+
   kept-infeasible : w′ .infeasible ≡ w .infeasible
   unfolding windows.mergedOf
   kept-infeasible = refl
@@ -128,6 +138,7 @@ module _ (ρ φ n : ℕ) (s : Slots) (w : Window) (m : Mirrors ρ φ n s w) (x y
         (merged ρ φ w (m .shaped) n laws (m .inside) x y xb yb);
     marked = λ r rb. Iff·trans (same-iff (ap (λ l. getD l r false) kept-mark)) (m .marked r rb);
     infeasible = kept-infeasible ∙ m .infeasible;
+    counted = counts;
   }
     where
       g′ : ℕ → ℕ

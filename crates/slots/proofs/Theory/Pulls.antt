@@ -15,6 +15,7 @@ use Rattle.base.specs.Choice.{pick}
 use Rattle.base.proofs.Theory.Choice.{byTest}
 use Rattle.base.specs.Masks.{has}
 use Rattle.window.specs.Adding.{partOf}
+use Rattle.window.specs.Counting.{countedClasses}
 use Rattle.window.specs.declared.Window.{Window}
 use Rattle.slots.specs.Slots.{Slots, slotsOf, slotOf, Low}
 use Rattle.slots.specs.Performing.{hasSlot, pulledOf, pulledAt, pulledMasks, pulledResults, pulledClasses, pulledMarks, windowOf, doubledOf}
@@ -52,15 +53,16 @@ module _ (ρ : ℕ) where
 
 module _ (ρ φ : ℕ) where
   -- what the code pulls of each table
-  pub window-pulled : (slot regs unequal result ever : List ℕ) (mark : List Bool) (i : Bool) (c u r e : List ℕ) (m : List Bool)
+  pub window-pulled : (slot regs unequal result ever : List ℕ) (mark : List Bool) (i : Bool) (c u r e : List ℕ) (m : List Bool) (n : ℕ)
       → length unequal ≡ ρ → length ever ≡ φ * ρ → c ≡ pulledClasses ρ slot regs → u ≡ pulledMasks ρ slot regs unequal (length unequal)
       → r ≡ pulledResults ρ slot regs result (φ * ρ * ρ) → e ≡ pulledMasks ρ slot regs ever (length ever) → m ≡ pulledMarks ρ slot regs mark
-      → _≡_ {A = Window} (record { class = c; unequal = u; result = r; ever = e; mark = m; infeasible = i })
+      → n ≡ countedClasses ρ c → _≡_ {A = Window} (record { class = c; unequal = u; result = r; ever = e; mark = m; infeasible = i; classes = n })
       (windowOf ρ φ (slotsOf slot regs unequal result ever mark i))
-  window-pulled slot regs unequal result ever mark i c u r e m ul el ce ue re ee me =
+  window-pulled slot regs unequal result ever mark i c u r e m n ul el ce ue re ee me ne =
       let uf = ue ∙ ap (pulledMasks ρ slot regs unequal) ul in
       let ef = ee ∙ ap (pulledMasks ρ slot regs ever) el in
-      λ k. record { class = ce k; unequal = uf k; result = re k; ever = ef k; mark = me k; infeasible = i }
+      let nf = ne ∙ ap (countedClasses ρ) ce in
+      λ k. record { class = ce k; unequal = uf k; result = re k; ever = ef k; mark = me k; infeasible = i; classes = nf k }
 
 -- ---- slots for a window
 
@@ -200,7 +202,8 @@ module _ (ρ φ : ℕ) where
   pub same-window : (v w : Window) → Long v → Long w → sameWindow ρ φ v w ≡ true → v ≡ w
   unfolding sameWindow
   same-window v w f g e =
-      let (rest, i) = and-true _ (alikeOf ρ (v .infeasible) (w .infeasible)) e in
+      let (all, n) = and-true _ (eqb (v .classes) (w .classes)) e in
+      let (rest, i) = and-true _ (alikeOf ρ (v .infeasible) (w .infeasible)) all in
       let (tables, m) = and-true _ (sameMarks ρ (v .mark) (w .mark) ρ) rest in
       let (three, t) = and-true _ (sameMasks ρ (v .ever) (w .ever) (φ * ρ)) tables in
       let (two, r) = and-true _ (sameMasks ρ (v .result) (w .result) (φ * ρ * ρ)) three in
@@ -211,21 +214,22 @@ module _ (ρ φ : ℕ) where
       let ee = masks-same ρ (v .ever) (w .ever) (φ * ρ) (f .ever) (g .ever) t in
       let me = marks-same ρ (v .mark) (w .mark) ρ (f .mark) (g .mark) m in
       let ie = alike-same ρ (v .infeasible) (w .infeasible) i in
-      λ k. record { class = ce k; unequal = ue k; result = re k; ever = ee k; mark = me k; infeasible = ie k }
+      let ne = eqb-true (v .classes) (w .classes) n in
+      λ k. record { class = ce k; unequal = ue k; result = re k; ever = ee k; mark = me k; infeasible = ie k; classes = ne k }
 
   -- what the code finds of each table
-  pub window-compared : (v w : Window) (c u r e m i : Bool) → Long v
+  pub window-compared : (v w : Window) (c u r e m i n : Bool) → Long v
       → c ≡ sameMasks ρ (v .class) (w .class) (length (v .class)) → u ≡ sameMasks ρ (v .unequal) (w .unequal) (length (v .unequal))
       → r ≡ sameMasks ρ (v .result) (w .result) (length (v .result)) → e ≡ sameMasks ρ (v .ever) (w .ever) (length (v .ever))
-      → m ≡ sameMarks ρ (v .mark) (w .mark) ρ → i ≡ alikeOf ρ (v .infeasible) (w .infeasible)
-      → (((((c && u) && r) && e) && m) && i) ≡ sameWindow ρ φ v w
+      → m ≡ sameMarks ρ (v .mark) (w .mark) ρ → i ≡ alikeOf ρ (v .infeasible) (w .infeasible) → n ≡ eqb (v .classes) (w .classes)
+      → ((((((c && u) && r) && e) && m) && i) && n) ≡ sameWindow ρ φ v w
   unfolding sameWindow
-  window-compared v w c u r e m i f ce ue re ee me ie =
+  window-compared v w c u r e m i n f ce ue re ee me ie ne =
       let cf = ce ∙ ap (sameMasks ρ (v .class) (w .class)) (f .class) in
       let uf = ue ∙ ap (sameMasks ρ (v .unequal) (w .unequal)) (f .unequal) in
       let rf = re ∙ ap (sameMasks ρ (v .result) (w .result)) (f .result) in
       let ef = ee ∙ ap (sameMasks ρ (v .ever) (w .ever)) (f .ever) in
-      rw (cf, uf, rf, ef, me, ie)
+      rw (cf, uf, rf, ef, me, ie, ne)
 
   -- the answers of `represents`, one each
   pub never : (v w : Window) → false ≡ true → v ≡ w

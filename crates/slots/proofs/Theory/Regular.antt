@@ -335,6 +335,7 @@ module _ (ρ φ n : ℕ) (s : Slots) (fits : n ≤ ρ) (slot-long : length (s .s
       pulled = pulled;
       marked = λ r rn. Iff·trans (marks-has r (up r rn)) ((λ (_, t). t), (λ t. (rn, t)));
       infeasible = refl;
+      counted = refl;
     };
     single = single;
   }

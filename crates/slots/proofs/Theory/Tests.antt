@@ -88,6 +88,7 @@ module _ (ρ φ n : ℕ) (s : Slots) (w : Window) (h : RepresentsWindow ρ φ n 
       };
       marked = m .marked;
       infeasible = refl;
+      counted = m .counted;
     };
     single = record { one = h .single .one };
   }
@@ -268,6 +269,7 @@ module _ (ρ φ n : ℕ) (s : Slots) (w : Window) (h : RepresentsWindow ρ φ n 
       };
       marked = m .marked;
       infeasible = m .infeasible;
+      counted = m .counted;
     };
     single = record { one = h .single .one };
   }

@@ -1,4 +1,4 @@
-use mathlib.Core.Path.{sym, _∙_}
+use mathlib.Core.Path.{refl, sym, _∙_}
 use borrow.Author.Needs.{needs}
 use Rattle.window.specs.Layout.{registers, functions}
 use Rattle.slots.proofs.Theory.Pulls.{Long, same-window, window-compared}
@@ -71,7 +71,8 @@ same-window-spec = tie.close (tie.spec
     (λ c κs. search needs)
     (λ c κs. search needs)
     (λ c.
-    let at-same-marks = c .before in
+    let at-alike = c .before .before in
+    let at-same-marks = at-alike .before in
     let at-same-masks4 = at-same-marks .before .before .before in
     let at-same-masks3 = at-same-masks4 .before .before .before in
     let at-same-masks2 = at-same-masks3 .before .before .before in
@@ -80,6 +81,6 @@ same-window-spec = tie.close (tie.spec
     let k = start at-other-mark in
     let a = k .args in
     let (v, w) = long k in
-    let e = window-compared registers functions (a .v) (a .w) _ _ _ _ _ _ v (at-same-masks .same-masks .ensures) (at-same-masks2 .same-masks2 .ensures)
-    (at-same-masks3 .same-masks3 .ensures) (at-same-masks4 .same-masks4 .ensures) (at-same-marks .same-marks .ensures) (c .alike .ensures) in
+    let e = window-compared registers functions (a .v) (a .w) _ _ _ _ _ _ _ v (at-same-masks .same-masks .ensures) (at-same-masks2 .same-masks2 .ensures)
+    (at-same-masks3 .same-masks3 .ensures) (at-same-masks4 .same-masks4 .ensures) (at-same-marks .same-marks .ensures) (at-alike .alike .ensures) refl in
     (e, λ t. same-window registers functions (a .v) (a .w) v w (sym e ∙ t))))

@@ -15,10 +15,11 @@ to-window-spec = tie.close (tie.spec
     (λ c κs. search needs)
     (λ c κs. search needs)
     (λ c κs. search needs)
-    (λ c. let m = c .before .before .before in let k = m .before .before .before .before in let p = k .before .before .before in
+    (λ c κs. search needs)
+    (λ c. let q = c .before .before in let m = q .before .before .before in let k = m .before .before .before .before in let p = k .before .before .before in
     let g = p .before .good in let a = p .before .args in
     let ul : length (a .unequal .now) ≡ registers = search needs in
     let el : length (a .ever .now) ≡ lines = search needs in
-    window-pulled registers functions (a .slot .now) (a .regs .now) (a .unequal .now) (a .result .now) (a .ever .now) (a .mark .now) _ _ _ _ _ _
-    ul el (p .pull-classes .ensures) (k .pull-masks .ensures) (c .before .pull-results .ensures) (m .pull-masks2 .ensures)
-    (c .pull-marks .ensures)))
+    window-pulled registers functions (a .slot .now) (a .regs .now) (a .unequal .now) (a .result .now) (a .ever .now) (a .mark .now) _ _ _ _ _ _ _
+    ul el (p .pull-classes .ensures) (k .pull-masks .ensures) (q .before .pull-results .ensures) (m .pull-masks2 .ensures)
+    (q .pull-marks .ensures) (c .counted-classes .ensures)))

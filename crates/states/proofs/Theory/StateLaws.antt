@@ -25,7 +25,7 @@ next s x y a n b e l q = rw (q, ← drop-drop n a s, e) (drop-at x y n l)
 
 -- ---- a monitor's bytes
 
-module _ (head class unequal marks ever result : List ℕ) (heads : length head ≡ 6) (z : Sizes class unequal marks ever result) where
+module _ (head class unequal marks ever result : List ℕ) (heads : length head ≡ 7) (z : Sizes class unequal marks ever result) where
   joined : List ℕ
   joined = head ++ class ++ unequal ++ marks ++ ever ++ result
 
@@ -53,10 +53,10 @@ monitor-back kind m rest z =
     let s = monitorThen kind m rest in
     let u = w .unequal ++ (map flag (w .mark) ++ (w .ever ++ (w .result ++ rest))) in
     let k = map flag (w .mark) ++ (w .ever ++ (w .result ++ rest)) in
-    let d : drop 14 s ≡ u = next s (w .class) u 6 8 14 refl (z .classes) refl in
-    let f : drop 22 s ≡ k = next s (w .unequal) k 14 8 22 d (z .unequals) refl in
-    let g : drop 30 s ≡ w .ever ++ (w .result ++ rest) = next s (map flag (w .mark)) (w .ever ++ (w .result ++ rest)) 22 8 30 f (z .marked) refl in
-    let i : drop 62 s ≡ w .result ++ rest = next s (w .ever) (w .result ++ rest) 30 32 62 g (z .evers) refl in
+    let d : drop 15 s ≡ u = next s (w .class) u 7 8 15 refl (z .classes) refl in
+    let f : drop 23 s ≡ k = next s (w .unequal) k 15 8 23 d (z .unequals) refl in
+    let g : drop 31 s ≡ w .ever ++ (w .result ++ rest) = next s (map flag (w .mark)) (w .ever ++ (w .result ++ rest)) 23 8 31 f (z .marked) refl in
+    let i : drop 63 s ≡ w .result ++ rest = next s (w .ever) (w .result ++ rest) 31 32 63 g (z .evers) refl in
     rw (
       take-at (w .class) u 8 (z .classes),
       d,

@@ -84,11 +84,11 @@ returns : tie.Need-returns
 returns c =
     let g = at-start (at-result c) .good in
     let a = at-start (at-result c) .args in
-    let six : length (a .t1) ≡ 6 = search needs in
+    let heads : length (a .t1) ≡ 7 = search needs in
     let z : Sizes (a .t2) (a .t3) (a .t4) (a .t5) (a .t6) =
     record { classes = search needs; unequals = search needs; marked = search needs; evers = search needs; results = search needs } in
     let r = at-result c in (
-      six-laid (a .t1) (a .t2) (a .t3) (a .t4) (a .t5) (a .t6) six z (a .state .now) _ _ _ _ _ _ (at-lay r .lay .ensures .0) (at-lay2 r .lay2 .ensures .0)
+      six-laid (a .t1) (a .t2) (a .t3) (a .t4) (a .t5) (a .t6) heads z (a .state .now) _ _ _ _ _ _ (at-lay r .lay .ensures .0) (at-lay2 r .lay2 .ensures .0)
           (at-lay3 r .lay3 .ensures .0) (at-lay4 r .lay4 .ensures .0) (at-lay5 r .lay5 .ensures .0) (c .before .before .lay6 .ensures .0),
       z,
     )

@@ -51,10 +51,13 @@ lay-requires-2 c κs = search needs
 shared-slice-read-infeasible : tie.Need-shared-slice-read-infeasible
 shared-slice-read-infeasible c = search needs
 
+shared-slice-read-classes : tie.Need-shared-slice-read-classes
+shared-slice-read-classes c = search needs
+
 returns : tie.Need-returns
 unfolding monitorWindowIn isSet
 returns c =
-    let at-lay2 = c .before .before in
+    let at-lay2 = c .before .before .before in
     let at-result = at-lay2 .before .before in
     let at-lay = at-result .before .before in
     let at-marks = at-lay .before .before .before in
@@ -67,8 +70,8 @@ returns c =
       at-eight-at2 .eight-at2 .ensures,
       at-marks .marks .ensures,
       at-eight-at3 .eight-at3 .ensures,
-      copied (at-lay .lay .last .0) s _ 30 32 _ refl (search needs) (search needs) (at-lay .lay .ensures .0),
-      copied (at-lay2 .lay2 .last .0) s _ 62 256 _ refl (search needs) (search needs) (at-lay2 .lay2 .ensures .0),
+      copied (at-lay .lay .last .0) s _ 31 32 _ refl (search needs) (search needs) (at-lay .lay .ensures .0),
+      copied (at-lay2 .lay2 .last .0) s _ 63 256 _ refl (search needs) (search needs) (at-lay2 .lay2 .ensures .0),
     )
 
 pub window-in-spec : {M : Type 1} → statement M
@@ -90,4 +93,5 @@ window-in-spec =
     part-lay-end-2
     lay-requires-2
     shared-slice-read-infeasible
+    shared-slice-read-classes
     returns)

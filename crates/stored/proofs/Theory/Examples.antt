@@ -9,13 +9,23 @@ use lib.Dec.{ltb}
 use lib.ListN.{getD, replicate, getD-replicate, length-replicate, List·getD-eq-default}
 use borrow.Author.Tests.{ltb-true, ltb-false}
 use Rattle.base.proofs.Theory.Choice.{byTest}
-use Rattle.base.specs.LeastAndSize.{leastIn, leastFrom}
+use Rattle.base.specs.LeastAndSize.{leastIn, leastFrom, sizeOf, sizeFrom}
+use Rattle.window.specs.Naming.{namingRegisters, namingBelow}
+use Rattle.window.specs.Counting.{countedClasses}
 use Rattle.window.specs.declared.Window.{Window}
 use Rattle.records.proofs.Theory.Storable.{Storable}
 
 -- nothing is known
 abbrev blank : Window
-blank = record { class = replicate 8 0; unequal = replicate 8 0; result = replicate 256 0; ever = replicate 32 0; mark = replicate 8 false; infeasible = false }
+blank = record {
+  class = replicate 8 0;
+  unequal = replicate 8 0;
+  result = replicate 256 0;
+  ever = replicate 32 0;
+  mark = replicate 8 false;
+  infeasible = false;
+  classes = 0;
+}
 
 -- every entry is 0, and so a mask
 zeros : (n k : ℕ) → getD (replicate {A = ℕ} n 0) k 0 < 2 ^ 8
@@ -25,6 +35,7 @@ zeros n k =
     (rw (length-replicate {A = ℕ} n 0) (ltb-false k n t)) in omega arith
 
 pub blank-storable : Storable blank
+unfolding countedClasses namingRegisters namingBelow sizeOf sizeFrom leastIn leastFrom
 blank-storable = record {
   classes = refl;
   unequals = refl;
@@ -36,6 +47,7 @@ blank-storable = record {
   lines = zeros 32;
   named = λ i h. inl (getD-replicate 256 i 0 0 h);
   computed = λ i h. inl (getD-replicate 256 i 0 0 h);
+  counted = refl;
 }
 
 -- registers 0 and 1 hold a result, and are in no class
@@ -47,6 +59,7 @@ stray = record {
   ever = 1 ∷ replicate 31 0;
   mark = replicate 8 false;
   infeasible = false;
+  classes = 0;
 }
 
 pub stray-not-storable : ¬ Storable stray

@@ -35,6 +35,7 @@ same-holds σ τ w z x = record {
   inside =
       subst (λ n. InsideInFirstEdition n (viewInFirstEdition w)) (z .registers) (x .inside);
   shaped = x .shaped;
+  counted = x .counted;
 }
 
 module _ (σ τ : State) (u : Valid σ) (v : Valid τ) (w w′ : Window) (x : IsWindow σ w) (y : IsWindow τ w′) where

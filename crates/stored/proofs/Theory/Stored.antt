@@ -129,6 +129,7 @@ module _ (ϕ : Format) (σ : State) (v : Valid σ) (w : Window) (holds : steppin
     lines = y .ever-bytes;
     named = named;
     computed = was-computed;
+    counted = holds .counted;
   }
 
 -- and so in the first edition's

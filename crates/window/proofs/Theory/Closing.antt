@@ -26,6 +26,7 @@ use Rattle.window.proofs.Theory.Merging.{merged, inside-merged}
 use Rattle.window.proofs.Theory.Copying.{cell-result, result-cell}
 use Rattle.window.proofs.Theory.Shape.{shaped-merged}
 use Rattle.window.proofs.Theory.Total.{total, total-most, total-more}
+use Rattle.window.proofs.Theory.Counted.{Counted, partition-of, counted-merges}
 use Rattle.window.specs.declared.Window.{Window}
 
 module _ (ρ φ : ℕ) where
@@ -113,6 +114,7 @@ module _ (ρ φ : ℕ) where
   module _ (n : ℕ) (w₀ : View) (x y : ℕ) (v : Window) (m : Way n w₀ x y v) (k one two : ℕ) (kb : k < φ * ρ * ρ) (ob : one < ρ) (tb : two < ρ)
       (s : T (has (getD (v .result) k 0) one)) (t : T (has (getD (v .result) k 0) two)) (other : ¬ T (has (getD (v .class) one 0) two)) where
     pub way-more : Way n w₀ x y (mergedOf ρ φ v one two) × (suc (total ρ (v .class)) ≤ total ρ (mergedOf ρ φ v one two .class))
+        × (Counted ρ φ v → Counted ρ φ (mergedOf ρ φ v one two))
     way-more =
         let j = m .joining in
         let (ab, bb, on) = m .inside .result (placeFunction ρ k) (placeFirst ρ k) (placeSecond ρ k) one (first-below ρ φ k kb) (second-below ρ φ k kb) ob
@@ -122,10 +124,12 @@ module _ (ρ φ : ℕ) where
         let joined = both-joined n w₀ x y (placeFunction ρ k) (placeFirst ρ k) (placeSecond ρ k) one two
         (j .result-e (placeFunction ρ k) (placeFirst ρ k) (placeSecond ρ k) one ab bb on (cell-result ρ φ v k one kb s))
         (j .result-e (placeFunction ρ k) (placeFirst ρ k) (placeSecond ρ k) two ab bb tn (cell-result ρ φ v k two kb t)) in
-        let mg = merged ρ φ v (m .shaped) n (j .laws) (m .inside) one two on tn in (
+        let mg = merged ρ φ v (m .shaped) n (j .laws) (m .inside) one two on tn in
+        let next = joining-more n w₀ x y (view ρ φ v) j one two on tn joined (view ρ φ (mergedOf ρ φ v one two)) mg in
+        let inside′ = inside-merged ρ φ v (m .shaped) n (j .laws) (m .inside) one two on tn in (
           record {
-            joining = joining-more n w₀ x y (view ρ φ v) j one two on tn joined (view ρ φ (mergedOf ρ φ v one two)) mg;
-            inside = inside-merged ρ φ v (m .shaped) n (j .laws) (m .inside) one two on tn;
+            joining = next;
+            inside = inside′;
             below = m .below;
             tested = mg .same x y (m .below .0) (m .below .1) .1 (inl (m .tested));
             shaped = shaped-merged ρ φ v one two ob (m .shaped);
@@ -133,11 +137,13 @@ module _ (ρ φ : ℕ) where
           total-more ρ (v .class) (mergedOf ρ φ v one two .class) one two
               (λ r q rb qb u. let (rn, qn) = m .inside .same r q rb qb u in mg .same r q rn qn .1 (inl u)) ob tb other
               (mg .same one two on tn .1 (inr (inl (j .laws .self one on), inr (j .laws .self two tn)))),
+          λ c. counted-merges ρ φ v (m .shaped) n (partition-of ρ φ n v (j .laws) (m .inside)) c one two on tn other
+              (partition-of ρ φ n (mergedOf ρ φ v one two) (next .laws) inside′) (mg .same),
         )
 
-  -- with enough merges the closing comes to the end of the way
+  -- with enough merges the closing comes to the end of the way, and the number of classes is kept
   pub closed-way : (n : ℕ) (w₀ : View) (x y fuel : ℕ) (w : Window) → Way n w₀ x y w → ρ * ρ + 1 ≤ fuel + total ρ (w .class)
-      → Way n w₀ x y (closedOf ρ φ fuel w) × Stable n (closedOf ρ φ fuel w)
+      → Way n w₀ x y (closedOf ρ φ fuel w) × Stable n (closedOf ρ φ fuel w) × (Counted ρ φ w → Counted ρ φ (closedOf ρ φ fuel w))
   unfolding closedOf
   closed-way n w₀ x y zero w m h = absurd (omega (arith, total-most ρ (w .class)))
   closed-way n w₀ x y (suc fuel) w m h = ⊎-elim
@@ -145,12 +151,13 @@ module _ (ρ φ : ℕ) where
       let (c, cb, k) = nonempty-is ρ (restOf ρ φ (w .class) entry) .0 u in
       let tb = name-some (restOf ρ φ (w .class) entry) c cb k in
       let (ob, tin, apart) = rest-is (w .class) entry two (name-in (restOf ρ φ (w .class) entry) tb) in
-      let (mw, grow) = way-more n w₀ x y w m j one two (omega arith) ob tb (subst (λ z. T (has z one)) e (name-in entry ob))
+      let (mw, grow, count) = way-more n w₀ x y w m j one two (omega arith) ob tb (subst (λ z. T (has z one)) e (name-in entry ob))
       (subst (λ z. T (has z two)) e tin) apart in
-      rw (lt-ltb one ρ ob, lt-ltb two ρ tb) (closed-way n w₀ x y fuel (mergedOf ρ φ w one two) mw (omega arith)))
+      let (end, quiet, counts) = closed-way n w₀ x y fuel (mergedOf ρ φ w one two) mw (omega arith) in
+      rw (lt-ltb one ρ ob, lt-ltb two ρ tb) (end, quiet, λ c. counts (count c)))
       (λ (e, f).
       let ob : ρ ≤ one = ⊎-elim (λ l. absurd (none-in one (subst (λ z. T (has z one)) e (name-in entry l)))) (λ l. l) (less-or one ρ) in
-      rw (le-ltb one ρ ob) (m, stable w n (λ j b. f j (omega arith) (omega arith)) (m .joining .laws) (m .inside)))
+      rw (le-ltb one ρ ob) (m, stable w n (λ j b. f j (omega arith) (omega arith)) (m .joining .laws) (m .inside), λ c. c))
       (find-is (w .class) (w .result) (φ * ρ * ρ) 0)
     where
       entry : ℕ

@@ -24,6 +24,7 @@ use Rattle.window.proofs.Theory.Merge.{joining-none, joining-more, same
 use Rattle.window.proofs.Theory.Merging.{merged, inside-merged}
 use Rattle.window.proofs.Theory.Shape.{shaped-merged}
 use Rattle.window.proofs.Theory.Closing.{Way, Stable, closed-way}
+use Rattle.window.proofs.Theory.Counted.{Counted, partition-of, counted-merges, counted-settled}
 use Rattle.window.specs.declared.Window.{Window}
 
 part-has : (one two k s : ℕ) → T (has (partOf one two k) s) ↔ (T (has one k) × T (has two s))
@@ -208,6 +209,13 @@ module _ (ρ φ : ℕ) where
 
     pub inside-equated : Inside ρ n (view ρ φ r)
     inside-equated = inside-settled v bad r e n (way .inside)
+
+    -- the number of classes is kept, where the sides were of two classes
+    pub counted-equated : ¬ T (view ρ φ w .same x y) → Counted ρ φ w → Counted ρ φ r
+    counted-equated d c = counted-settled ρ φ v bad
+        (closed-way ρ φ n (view ρ φ w) x y (ρ * ρ + 1) (mergedOf ρ φ w x y) start (omega arith) .2
+        (counted-merges ρ φ w sh n (partition-of ρ φ n w g i) c x y xb yb d
+        (partition-of ρ φ n (mergedOf ρ φ w x y) (start .joining .laws) (start .inside)) (merged ρ φ w sh n g i x y xb yb .same)))
 
   -- ---- an unequal test
 

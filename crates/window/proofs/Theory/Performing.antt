@@ -16,6 +16,7 @@ use Rattle.window.specs.Bits.{nonempty, minus}
 use Rattle.window.specs.Through.{masksThrough, resultsThrough}
 use Rattle.window.specs.Adding.{lineAdded, masksForgotten, resultsForgotten}
 use Rattle.window.specs.Marks.{markedWith}
+use Rattle.window.specs.Counting.{oneFewer, countLeft, countMade}
 use Rattle.window.specs.declared.Window.{Window}
 use Rattle.window.specs.Performing.{withTables, withUnequal, argumentsOf, fallenOf, copiedTables, copiedOf, mergedOf, restOf, findOf, closedOf, apartOf}
 use Rattle.window.specs.Performing.{clashOf, settledOf, equalOf, partedOf, unequalOf, appliedOf, applyOf}
@@ -66,31 +67,31 @@ module _ (ρ φ : ℕ) where
   unfolding copiedOf
   copied-within w x y h = rw h
 
-  pub copied-moved : (w : Window) (x y s : ℕ) (m : List Bool) (c u r e : List ℕ) (v : Window) → has (getD (w .class) x 0) y ≡ false
+  pub copied-moved : (w : Window) (x y s : ℕ) (m : List Bool) (c u r e : List ℕ) (n : ℕ) (v : Window) → has (getD (w .class) x 0) y ≡ false
       → s ≡ fallenOf ρ φ (getD (w .class) x 0) (w .result) x 0 → m ≡ markedWith ρ (w .mark) s
       → c ≡ masksThrough ρ y y (2 ^ x) (w .class) → u ≡ masksThrough ρ y y (2 ^ x) (w .unequal) → r ≡ resultsThrough ρ y y (2 ^ x) (w .result)
-      → e ≡ masksThrough ρ y y (2 ^ x) (w .ever)
-      → v ≡ withTables w c u r e (set m x (getD m y false)) → v ≡ copiedOf ρ φ w x y
+      → e ≡ masksThrough ρ y y (2 ^ x) (w .ever) → n ≡ countLeft ρ (getD (w .class) x 0) (w .classes)
+      → v ≡ withTables w c u r e (set m x (getD m y false)) n → v ≡ copiedOf ρ φ w x y
   unfolding copiedOf copiedTables
-  copied-moved w x y s m c u r e v h p q i j k l d = rw (h, d, i, j, k, l, q, p)
+  copied-moved w x y s m c u r e n v h p q i j k l o d = rw (h, d, i, j, k, l, q, p, o)
 
-  pub merged-is : (w : Window) (a b s : ℕ) (c u r e : List ℕ) (v : Window) → s ≡ 2 ^ a
+  pub merged-is : (w : Window) (a b s : ℕ) (c u r e : List ℕ) (n : ℕ) (v : Window) → s ≡ 2 ^ a
       → c ≡ masksThrough ρ a b (bitOr (bitOr (getD (w .class) a 0) (getD (w .class) b 0)) s) (w .class)
       → u ≡ masksThrough ρ a b (bitOr (bitOr (getD (w .class) a 0) (getD (w .class) b 0)) s) (w .unequal)
       → r ≡ resultsThrough ρ a b (bitOr (bitOr (getD (w .class) a 0) (getD (w .class) b 0)) s) (w .result)
       → e ≡ masksThrough ρ a b (bitOr (bitOr (getD (w .class) a 0) (getD (w .class) b 0)) s) (w .ever)
-      → v ≡ withTables w c u r e (w .mark) → v ≡ mergedOf ρ φ w a b
+      → n ≡ oneFewer (w .classes) → v ≡ withTables w c u r e (w .mark) n → v ≡ mergedOf ρ φ w a b
   unfolding mergedOf
-  merged-is w a b s c u r e v o i j k l d = rw (d, i, j, k, l, o)
+  merged-is w a b s c u r e n v o i j k l f d = rw (d, i, j, k, l, o, f)
 
-  pub applied-is : (w : Window) (x f y z s a o : ℕ) (m : List Bool) (c u r e : List ℕ) (v : Window)
+  pub applied-is : (w : Window) (x f y z s a o : ℕ) (m : List Bool) (c u r e : List ℕ) (t : ℕ) (v : Window)
       → a ≡ argumentsOf x y z (getD (w .class) y 0) (getD (w .class) z 0) → s ≡ fallenOf ρ φ (getD (w .class) x 0) (w .result) x a
       → m ≡ markedWith ρ (w .mark) s → o ≡ 2 ^ x → c ≡ masksForgotten ρ x (w .class) → u ≡ masksForgotten ρ x (w .unequal)
       → r ≡ resultsForgotten ρ x f (getD (w .class) y 0) (getD (w .class) z 0) (w .result)
-      → e ≡ masksForgotten ρ x (lineAdded ρ f (getD (w .class) y 0) (getD (w .class) z 0) (w .ever)) → v ≡ withTables w (set c x o) u r e (set m x false)
-      → v ≡ appliedOf ρ φ w x f y z
+      → e ≡ masksForgotten ρ x (lineAdded ρ f (getD (w .class) y 0) (getD (w .class) z 0) (w .ever)) → t ≡ countMade ρ (getD (w .class) x 0) (w .classes)
+      → v ≡ withTables w (set c x o) u r e (set m x false) t → v ≡ appliedOf ρ φ w x f y z
   unfolding appliedOf
-  applied-is w x f y z s a o m c u r e v p q i j k l n h d = rw (d, k, j, l, n, h, i, q, p)
+  applied-is w x f y z s a o m c u r e t v p q i j k l n h b d = rw (d, k, j, l, n, h, i, q, p, b)
 
   pub apply-known : (w : Window) (x f y z r : ℕ) (v : Window) → r ≡ leastIn ρ (getD (w .result) (place ρ f y z) 0) → r < ρ → v ≡ copiedOf ρ φ w x r
       → v ≡ applyOf ρ φ w x f y z

@@ -1,5 +1,5 @@
 -- The fresh window is that of a header alone.
-use mathlib.Core.Path.{_≡_, sym, _∙_, subst}
+use mathlib.Core.Path.{_≡_, refl, sym, _∙_, subst}
 use mathlib.Core.Logic.{_↔_, Iff·trans}
 use mathlib.Core.Bool.{Bool, false}
 use Prim.Native.Nat.{ℕ, _+_, _*_, _≤_, _<_}
@@ -20,7 +20,12 @@ use Rattle.window.proofs.Theory.Table.{table-at}
 use Rattle.window.proofs.Theory.Bits.{single-is, no-truth, none-zero}
 use Rattle.window.specs.Performing.{ownOf, freshInLayout}
 use Rattle.window.specs.Viewing.{view, Inside}
+use Rattle.window.specs.Naming.{namingRegisters}
+use Rattle.window.specs.Counting.{countedClasses}
 use Rattle.window.specs.declared.Window.{Window}
+use Rattle.window.proofs.Theory.Sizes.{size-first}
+use Rattle.window.proofs.Theory.Counting.{Partition, named-is}
+use Rattle.window.proofs.Theory.Counted.{Counted}
 
 module _ (ρ φ : ℕ) where
   module _ (n : ℕ) (nb : n ≤ ρ) where
@@ -67,6 +72,26 @@ module _ (ρ φ : ℕ) where
       ever = λ f a b ab bb t. absurd (no-ever f a b ab t);
       marked = λ r rb t. absurd (no-mark r rb t);
     }
+
+  -- each of the n registers names a class
+  pub counted-fresh : (n : ℕ) → n ≤ ρ → Counted ρ φ (freshInLayout ρ φ n)
+  unfolding countedClasses
+  counted-fresh n nb = sym (size-first (namingRegisters ρ (freshInLayout ρ φ n .class)) n ρ (λ j jb. Iff·trans (named-is ρ classes j) (
+    (λ (b, _). b),
+    (λ b. (b, λ s h t. let (_, e) = first-has n nb j s jb .0 t in omega arith)),
+  )))
+    where
+      classes : Partition ρ n (freshInLayout ρ φ n .class)
+      classes = record {
+        fits = nb;
+        within = inside-fresh n nb .same;
+        self = λ r b. first-has n nb r r (omega arith) .1 (b, refl);
+        turned = λ r s rb sb t. let (_, e) = first-has n nb r s (omega arith) .0 t in first-has n nb s r (omega arith) .1 (sb, sym e);
+        joined = λ r s q rb sb qb t u.
+            let (_, e) = first-has n nb r s (omega arith) .0 t in
+            let (_, f) = first-has n nb s q (omega arith) .0 u in
+            first-has n nb r q (omega arith) .1 (rb, f ∙ e);
+      }
 
   pub tracks-fresh : (h : Header) → h .registers ≤ ρ → Tracks (start h) (view ρ φ (freshInLayout ρ φ (h .registers)))
   unfolding initial

@@ -32,16 +32,23 @@ use Rattle.window.specs.Viewing.{view, Inside}
 use Rattle.window.proofs.Theory.Laws.{Laws, laws-of, Sound, sound-of}
 use Rattle.window.proofs.Theory.Shape.{shaped-copied, shaped-performed, shaped-fresh}
 use Rattle.window.proofs.Theory.Copying.{renamed-copied, inside-copied, renamed-within}
-use Rattle.window.proofs.Theory.Judging.{equated, inside-equated, separated, inside-separated}
+use Rattle.window.proofs.Theory.Judging.{equated, inside-equated, counted-equated, separated, inside-separated}
 use Rattle.window.proofs.Theory.Applying.{renamed-applied, inside-applied}
-use Rattle.window.proofs.Theory.Starting.{tracks-fresh, inside-fresh}
+use Rattle.window.proofs.Theory.Starting.{tracks-fresh, inside-fresh, counted-fresh}
+use Rattle.window.proofs.Theory.Counting.{Partition}
+use Rattle.window.proofs.Theory.Counted.{partition-of, counted-copied, counted-applied, counted-unequal}
 use Rattle.window.specs.declared.Window.{Window}
 use Rattle.window.specs.Stepping.{IsWindowInLayout}
 
 module _ (ρ φ : ℕ) where
   -- the window of a header alone
   pub holds-fresh : (h : Header) → h .registers ≤ ρ → IsWindowInLayout ρ φ (start h) (freshInLayout ρ φ (h .registers))
-  holds-fresh h b = record { tracks = tracks-fresh ρ φ h b; inside = inside-fresh ρ φ (h .registers) b; shaped = shaped-fresh ρ φ (h .registers) }
+  holds-fresh h b = record {
+    tracks = tracks-fresh ρ φ h b;
+    inside = inside-fresh ρ φ (h .registers) b;
+    shaped = shaped-fresh ρ φ (h .registers);
+    counted = counted-fresh ρ φ (h .registers) b;
+  }
 
   module _ (σ : State) (v : Valid σ) (w : Window) (h : IsWindowInLayout ρ φ σ w) where
     abbrev n : ℕ
@@ -52,6 +59,9 @@ module _ (ρ φ : ℕ) where
 
     sound : Sound (σ .header .registers) (view ρ φ w)
     sound = sound-of σ (view ρ φ w) (h .tracks)
+
+    classes : Partition ρ (σ .header .registers) (w .class)
+    classes = partition-of ρ φ (σ .header .registers) w laws (h .inside)
 
     low : (r : ℕ) → r < σ .header .registers → r < ρ
     low r b = omega (arith, h .inside .fits)
@@ -75,6 +85,7 @@ module _ (ρ φ : ℕ) where
       tracks = tracks-copy σ v x y yb (view ρ φ w) (view ρ φ (copiedOf ρ φ w x y)) (h .tracks) (renamed x y xb yb .0);
       inside = renamed x y xb yb .1;
       shaped = shaped-copied ρ φ w x y (low x xb) (h .shaped);
+      counted = counted-copied ρ φ w (h .shaped) (σ .header .registers) classes (h .counted) x y xb yb;
     }
 
     unequal-holds : (x y : ℕ) → x < σ .header .registers → y < σ .header .registers → IsWindowInLayout ρ φ (after σ (Unequal x y)) (unequalOf ρ φ w x y)
@@ -84,6 +95,7 @@ module _ (ρ φ : ℕ) where
           (separated ρ φ w (σ .header .registers) (h .inside) x y xb yb);
       inside = inside-separated ρ φ w (σ .header .registers) (h .inside) x y xb yb;
       shaped = shaped-performed ρ φ w (Unequal x y) (low x xb, low y yb) (h .shaped);
+      counted = counted-unequal ρ φ w x y (h .counted);
     }
 
     equal-holds : (x y : ℕ) → x < σ .header .registers → y < σ .header .registers → CoherentLetter σ (Equal x y)
@@ -97,6 +109,8 @@ module _ (ρ φ : ℕ) where
       inside = byTest (has (getD (w .class) x 0) y) (λ t. rw t (h .inside))
           (λ t. rw t (inside-equated ρ φ w (h .shaped) (σ .header .registers) laws (h .inside) x y xb yb));
       shaped = shaped-performed ρ φ w (Equal x y) (low x xb, low y yb) (h .shaped);
+      counted = byTest (has (getD (w .class) x 0) y) (λ t. rw t (h .counted))
+          (λ t. rw t (counted-equated ρ φ w (h .shaped) (σ .header .registers) laws (h .inside) x y xb yb (no-truth (view ρ φ w .same x y) t) (h .counted)));
     }
 
     -- the entry of an application, and the register that names its class
@@ -166,6 +180,12 @@ module _ (ρ φ : ℕ) where
           rw t (renamed x r xb rn .1))
           (λ t. rw t (inside-applied ρ φ w (h .shaped) (σ .header .registers) laws (h .inside) x f y z xb fb yb zb));
       shaped = shaped-performed ρ φ w (Apply x f y z) (low x xb, fb, low y yb, low z zb) (h .shaped);
+      counted = byTest (ltb r ρ)
+          (λ t. let rb = ltb-true r ρ t in
+          let m = entry-result f y z fb r (truth (has R r) (least-in ρ R rb)) in
+          let (_, _, rn) = h .inside .result f y z r (low y yb) (low z zb) rb m in
+          rw t (counted-copied ρ φ w (h .shaped) (σ .header .registers) classes (h .counted) x r xb rn))
+          (λ t. rw t (counted-applied ρ φ w (h .shaped) (σ .header .registers) classes (h .counted) x f y z xb));
     }
       where
         R : ℕ

@@ -1,5 +1,5 @@
 -- A state has one window: two windows that hold it are the same value.
-use mathlib.Core.Path.{_≡_, sym, _∙_}
+use mathlib.Core.Path.{_≡_, sym, ap, _∙_}
 use mathlib.Core.Logic.{_⊎_, inl, inr, _↔_, ⊎-elim, Iff·trans, Iff·symm}
 use mathlib.Core.Bool.{Bool, false}
 use mathlib.Core.List.{List}
@@ -19,6 +19,7 @@ use Rattle.window.specs.Places.{placeFunction, placeFirst, placeSecond}
 use Rattle.window.proofs.Theory.Places.{entry-is, place-is, some, line-below, function-below, first-below, second-below}
 use Rattle.window.proofs.Theory.Bits.{less-or}
 use Rattle.window.specs.Viewing.{view, Masks}
+use Rattle.window.specs.Counting.{countedClasses}
 use Rattle.window.specs.Stepping.{IsWindowInLayout}
 use Rattle.window.specs.declared.Window.{Window}
 
@@ -91,6 +92,18 @@ module _ (ρ φ : ℕ) where
         within (r < n) (view ρ φ w .marked r) (view ρ φ w′ .marked r) (⊎-elim inl (λ a. inr (λ b. omega arith)) (less-or r n))
         (λ a. Iff·trans (h .tracks .marked r a) (Iff·symm (h′ .tracks .marked r a))) (h .inside .marked r rb) (h′ .inside .marked r rb))
 
+    -- the number "follows from the classes" (document 02, 6)
+    count-same : w .classes ≡ w′ .classes
+    count-same = h .counted ∙ ap (countedClasses ρ) class-same ∙ sym (h′ .counted)
+
     pub unique : w ≡ w′
     unique = let i = same-test (w .infeasible) (w′ .infeasible) (Iff·trans (h .tracks .infeasible) (Iff·symm (h′ .tracks .infeasible))) in
-        λ k. record { class = class-same k; unequal = unequal-same k; result = result-same k; ever = ever-same k; mark = mark-same k; infeasible = i k }
+        λ k. record {
+          class = class-same k;
+          unequal = unequal-same k;
+          result = result-same k;
+          ever = ever-same k;
+          mark = mark-same k;
+          infeasible = i k;
+          classes = count-same k;
+        }

@@ -13,16 +13,16 @@ use Rattle.window.proofs.close_in.Statement.{statement}
 use Rattle.window.proofs.close_in.Tie as tie
 
 abbrev Inv-loop : tie.InvT-loop
-Inv-loop class₀ unequal₀ result₀ ever₀ fuel₀ class unequal result ever fuel = TableLengths class unequal result ever × ((m : List Bool) (i : Bool) → closedOf
-    registers functions fuel (windowOfParts class unequal result ever m i) ≡ closedOf registers functions (registerPairs + 1)
-    (windowOfParts class₀ unequal₀ result₀ ever₀ m i))
+Inv-loop class₀ unequal₀ result₀ ever₀ count₀ fuel₀ class unequal result ever count fuel = TableLengths class unequal result ever
+    × ((m : List Bool) (i : Bool) → closedOf registers functions fuel (windowOfParts class unequal result ever m i count)
+    ≡ closedOf registers functions (registerPairs + 1) (windowOfParts class₀ unequal₀ result₀ ever₀ m i count₀))
 
 abbrev μ-loop : tie.MeasureT-loop
-μ-loop class₀ unequal₀ result₀ ever₀ fuel₀ class unequal result ever fuel = fuel
+μ-loop class₀ unequal₀ result₀ ever₀ count₀ fuel₀ class unequal result ever count fuel = fuel
 
 -- the window at the loop's head, with marks and infeasibility of its own; from where both names are known, the steps of the turn
 abbrev window : tie.At-loop Inv-loop μ-loop → List Bool → Bool → Window
-window c = let l = c .loop in windowOfParts (l .class) (l .unequal) (l .result) (l .ever)
+window c m i = let l = c .loop in windowOfParts (l .class) (l .unequal) (l .result) (l .ever) m i (l .count)
 
 abbrev found : tie.After-name2 Inv-loop μ-loop → tie.After-find Inv-loop μ-loop
 found c = c .before .before .before .before
@@ -41,12 +41,12 @@ close-in-spec = tie.close (tie.spec
     (λ c κs. search needs)
     (λ c κs. search needs)
     (λ c κs.
-    let at-if2 = c .before .before .before .before in
-    let at-if1 = at-if2 .before in (at-if1 .if1 .taken, at-if2 .if2 .taken, turn (at-if1 .before) .before .loop .inv .0))
-    (λ c. omega (arith, turn (c .before .before .before .before .before .before .before) .loop-test .taken))
-    (λ c. omega (arith, turn (c .before .before .before .before .before .before .before) .loop-test .taken))
-    (λ c.
     let at-if2 = c .before .before .before .before .before in
+    let at-if1 = at-if2 .before in (at-if1 .if1 .taken, at-if2 .if2 .taken, turn (at-if1 .before) .before .loop .inv .0))
+    (λ c. omega (arith, turn (c .before .before .before .before .before .before .before .before) .loop-test .taken))
+    (λ c. omega (arith, turn (c .before .before .before .before .before .before .before .before) .loop-test .taken))
+    (λ c.
+    let at-if2 = c .before .before .before .before .before .before in
     let at-if1 = at-if2 .before in
     let names = at-if1 .before in
     let head = turn names .before in (

@@ -9,5 +9,5 @@ early-spec = tie.close (tie.spec
     (λ c. search needs)
     (λ c. search needs)
     (λ c. search needs) (λ c κs. search needs)
-    (λ c u r e i. rw (c .before .before .if1 .taken) (c .holds .ensures))
-    (λ c u r e i. rw (c .if1 .left)))
+    (λ c u r e i n. rw (c .before .before .if1 .taken) (c .holds .ensures))
+    (λ c u r e i n. rw (c .if1 .left)))

@@ -1,4 +1,4 @@
-use mathlib.Core.Path.{ap}
+use mathlib.Core.Path.{ap₂}
 use mathlib.Core.Bool.{false}
 use lib.ListN.{replicate}
 use borrow.Author.Needs.{needs}
@@ -9,7 +9,8 @@ use Rattle.window.proofs.fresh.Tie as tie
 pub fresh-spec : {M : Type 1} → statement M
 fresh-spec = tie.close (tie.spec
     (λ c κs. search needs)
-    (λ c. ap (λ k. record {
+    (λ c κs. search needs)
+    (λ c. ap₂ (λ k n. record {
       class = k;
       unequal = replicate registers 0;
       result = replicate results 0;
@@ -17,4 +18,5 @@ fresh-spec = tie.close (tie.spec
       mark =
           replicate registers false;
       infeasible = false;
-    }) (c .own-classes .ensures)))
+      classes = n;
+    }) (c .before .own-classes .ensures) (c .count-at-start .ensures)))

@@ -8,4 +8,4 @@ judge-spec = tie.close (tie.spec (λ c κs. search needs)
     let at-mark2 = c .before in
     let at-mark = at-mark2 .before .before .before .before in
     let at-args = at-mark .before .before .before .before in
-    c .judge-in .ensures (at-args .args .w .unequal) (at-args .args .w .infeasible)))
+    c .judge-in .ensures (at-args .args .w .unequal) (at-args .args .w .infeasible) (at-args .args .w .classes)))

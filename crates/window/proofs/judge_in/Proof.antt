@@ -19,17 +19,17 @@ judge-in-spec = tie.close (tie.spec
     (λ c. search needs)
     (λ c κs. subst WithinPacking (c .before .letter2 .given .1) (c .before .before .before .pre))
     (λ c. search needs)
-    (λ c u i. let a = c .before .before .args in
-    subst (λ l. true ≡ judgeOf (windowOfParts (a .class .now) u (a .result .now) (a .ever .now) (a .mark .now) i) l) (sym (c .enum-told .given .1)) refl)
-    (λ c u i.
+    (λ c u i n. let a = c .before .before .args in
+    subst (λ l. true ≡ judgeOf (windowOfParts (a .class .now) u (a .result .now) (a .ever .now) (a .mark .now) i n) l) (sym (c .enum-told .given .1)) refl)
+    (λ c u i n.
     let at-letter = c .before .before in
     let a = at-letter .before .before .args in
-    subst (λ l. c .memoizing .result ≡ judgeOf (windowOfParts (a .class .now) u (a .result .now) (a .ever .now) (a .mark .now) i) l)
-    (sym (at-letter .letter .given .1)) (c .memoizing .ensures (a .class .now) u (a .mark .now) i))
-    (λ c u i.
+    subst (λ l. c .memoizing .result ≡ judgeOf (windowOfParts (a .class .now) u (a .result .now) (a .ever .now) (a .mark .now) i n) l)
+    (sym (at-letter .letter .given .1)) (c .memoizing .ensures (a .class .now) u (a .mark .now) i n))
+    (λ c u i n.
     let at-letter2 = c .before .before in
     let a = at-letter2 .before .before .args in
-    subst (λ l. c .early .result ≡ judgeOf (windowOfParts (a .class .now) u (a .result .now) (a .ever .now) (a .mark .now) i) l)
-    (sym (at-letter2 .letter2 .given .1)) (c .early .ensures u (a .result .now) (a .ever .now) i))
-    (λ c u i. let a = c .before .before .args in
-    subst (λ l. true ≡ judgeOf (windowOfParts (a .class .now) u (a .result .now) (a .ever .now) (a .mark .now) i) l) (sym (c .enum-told2 .given .1)) refl))
+    subst (λ l. c .early .result ≡ judgeOf (windowOfParts (a .class .now) u (a .result .now) (a .ever .now) (a .mark .now) i n) l)
+    (sym (at-letter2 .letter2 .given .1)) (c .early .ensures u (a .result .now) (a .ever .now) i n))
+    (λ c u i n. let a = c .before .before .args in
+    subst (λ l. true ≡ judgeOf (windowOfParts (a .class .now) u (a .result .now) (a .ever .now) (a .mark .now) i n) l) (sym (c .enum-told2 .given .1)) refl))

@@ -15,5 +15,5 @@ memoizing-spec = tie.close (tie.spec
     (λ c. search needs)
     (λ c. search needs)
     (λ c κs. search needs)
-    (λ c k u m i. rw (sym (c .before .before .before .holds .ensures) ∙ c .before .before .if1 .taken) (c .inhabited .ensures))
-    (λ c k u m i. rw (sym (c .before .holds .ensures) ∙ c .if1 .left)))
+    (λ c k u m i n. rw (sym (c .before .before .before .holds .ensures) ∙ c .before .before .if1 .taken) (c .inhabited .ensures))
+    (λ c k u m i n. rw (sym (c .before .holds .ensures) ∙ c .if1 .left)))

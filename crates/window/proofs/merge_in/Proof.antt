@@ -12,7 +12,7 @@ use Rattle.window.proofs.merge_in.Statement.{statement}
 use Rattle.window.proofs.merge_in.Tie as tie
 
 abbrev start : tie.After-single → tie.Start
-start c = c .before .before .before
+start c = c .before .before .before .before .before
 
 -- the first register is in the class of both
 in-both : (c : tie.After-single) → let a = start c .args in
@@ -22,6 +22,7 @@ in-both c =
 
 pub merge-in-spec : {M : Type 1} → statement M
 merge-in-spec = tie.close (tie.spec
+    (λ c κs. search needs)
     (λ c. search needs)
     (λ c. search needs)
     (λ c κs. search needs)
@@ -42,9 +43,10 @@ merge-in-spec = tie.close (tie.spec
     let at-single = at-merge-masks .before .before in
     let a = start at-single .args in
     let lengths = start at-single .pre .2 in (
-      (λ m i. merged-is registers functions (windowOfParts (a .class .now) (a .unequal .now) (a .result .now) (a .ever .now) m i) (a .a)
-          (a .b) _ _ _ _ _ _ (at-single .single .ensures) (at-merge-masks .merge-masks .ensures)
-          (at-merge-masks2 .merge-masks2 .ensures) (at-merge-results .merge-results .ensures) (c .merge-masks3 .ensures) refl),
+      (λ m i. merged-is registers functions (windowOfParts (a .class .now) (a .unequal .now) (a .result .now) (a .ever .now) m i
+          (a .count .now)) (a .a) (a .b) _ _ _ _ _ _ _ (at-single .single .ensures) (at-merge-masks .merge-masks .ensures)
+          (at-merge-masks2 .merge-masks2 .ensures) (at-merge-results .merge-results .ensures) (c .merge-masks3 .ensures)
+          (at-single .before .before .before .one-fewer .ensures) refl),
       record {
         class = ap length (at-merge-masks .merge-masks .ensures) ∙ masks-length registers (a .a) (a .b) _ (a .class .now)
             ∙ lengths .class;

@@ -18,6 +18,7 @@ new-in-spec = tie.close (tie.spec
     (λ c κs. search needs)
     (λ c κs. search needs)
     (λ c κs. search needs)
+    (λ c κs. search needs)
     (λ c. search needs)
     (λ c κs. search needs)
     (λ c κs. search needs)
@@ -35,14 +36,15 @@ new-in-spec = tie.close (tie.spec
     let at-mark-in = at-forget-masks .before .before in
     let at-fallen = at-mark-in .before in
     let at-arguments = at-fallen .before in
-    let at-own = at-arguments .before .before .before in
+    let at-count-made = at-arguments .before .before .before in
+    let at-own = at-count-made .before .before in
     let at-start = at-own .before .before .before in (
       (λ i.
           let a = at-start .args in applied-is registers functions (windowOfParts (a .class .now) (a .unequal .now) (a .result .now) (a .ever .now)
-          (a .mark .now) i) (a .x) (a .f) (a .y) (a .z) _ _ _ _ _ _ _ _ _ (at-arguments .arguments .ensures) (at-fallen .fallen .ensures)
+          (a .mark .now) i (a .count .now)) (a .x) (a .f) (a .y) (a .z) _ _ _ _ _ _ _ _ _ _ (at-arguments .arguments .ensures) (at-fallen .fallen .ensures)
           (at-mark-in .mark-in .ensures .0) (at-single .single .ensures) (at-forget-masks .forget-masks .ensures)
           (at-forget-masks2 .forget-masks2 .ensures) (at-renew-results .renew-results .ensures)
-          (c .forget-masks3 .ensures ∙ ap (masksForgotten registers (a .x)) (at-add-line .add-line .ensures)) refl),
+          (c .forget-masks3 .ensures ∙ ap (masksForgotten registers (a .x)) (at-add-line .add-line .ensures)) (at-count-made .count-made .ensures) refl),
       let a = at-start .args in record {
         class = simp length-set (ap length (at-forget-masks .forget-masks .ensures) ∙ forgotten-length registers functions (a .x) (a .class .now)
             ∙ at-start .pre .4 .class);

@@ -17,7 +17,7 @@ unequal-in-spec = tie.close (tie.spec
     let at-two = at-part-in .before .before in
     let a = at-two .before .before .args in
     let part-in = at-part-in .part-in in (
-      (λ r e m. unequal-is registers functions (windowOfParts (a .class .now) (a .unequal .now) r e m (a .infeasible)) (a .x) (a .y) _ _ _
-          (part-in .ensures .0) (c .before .holds .ensures) (c .settle-in .ensures .0 (a .class .now) r e m)),
+      (λ r e m n. unequal-is registers functions (windowOfParts (a .class .now) (a .unequal .now) r e m (a .infeasible) n) (a .x) (a .y) _ _ _
+          (part-in .ensures .0) (c .before .holds .ensures) (c .settle-in .ensures .0 (a .class .now) r e m n)),
       c .settle-in .ensures .1 (part-in .ensures .1),
     )))

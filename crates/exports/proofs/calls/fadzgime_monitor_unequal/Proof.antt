@@ -1,11 +1,11 @@
 use mathlib.Core.Path.{refl, sym, _∙_}
-use Rattle.exports.proofs.CallLaws.{unequal-short, unequal-none, unequal-done, held-long}
+use Rattle.exports.proofs.CallLaws.{asked-short, asked-none, asked-done, held-long}
 use borrow.Author.Needs.{needs}
 use Rattle.exports.proofs.calls.fadzgime_monitor_unequal.Statement.{statement}
 use Rattle.exports.proofs.calls.fadzgime_monitor_unequal.Tie as tie
 
 returns : tie.Need-returns
-returns c = unequal-short _ _ (c .if1 .taken)
+returns c = asked-short _ _ _ _ (c .if1 .taken)
 
 holds-requires : tie.Need-holds-requires
 holds-requires c κs = search needs
@@ -31,7 +31,7 @@ returns-2 c =
     let worded = stored .before .before .before in
     let monitor = worded .before in
     let tested = monitor .before in
-    unequal-done _ _ _ _ _ _ (tested .before .before .if1 .left) (sym (tested .before .holds .ensures) ∙ tested .if2 .taken)
+    asked-done _ _ _ _ _ _ _ _ (tested .before .before .if1 .left) (sym (tested .before .holds .ensures) ∙ tested .if2 .taken)
     (monitor .monitor-in .ensures) (worded .unequal-word .ensures .0) (worded .unequal-word .ensures .1) refl refl (stored .store .ensures)
 
 slice-aggregate-store-2 : tie.Need-slice-aggregate-store-2
@@ -47,7 +47,7 @@ returns-3 : tie.Need-returns-3
 returns-3 c =
     let stored = c .before .before in
     let tested = stored .before .before .before in
-    unequal-none _ _ _ _ (tested .before .before .if1 .left) (sym (tested .before .holds .ensures) ∙ tested .if2 .left) refl refl
+    asked-none _ _ _ _ _ _ (tested .before .before .if1 .left) (sym (tested .before .holds .ensures) ∙ tested .if2 .left) refl refl
     (stored .store2 .ensures)
 
 pub fadzgime-monitor-unequal-spec : {M : Type 1} → statement M

@@ -1,0 +1,33 @@
+use borrow.Author.Needs.{needs}
+use Rattle.display_lines.proofs.Theory.Answered.{written-within, written-length}
+use Rattle.display.proofs.main.Statement.{statement}
+use Rattle.display.proofs.main.Tie as tie
+
+pub main-spec : {M : Type 1} → statement M
+main-spec =
+    tie.close (tie.spec
+    (λ c κs. search needs)
+    (λ c. search needs)
+    (λ c κs. search needs)
+    (λ c. search needs)
+    (λ c.
+    let at-answer = c .before .before .before .before in
+    let at-line-space = at-answer .before .before in
+    let answer = at-answer .answer in
+    written-within (at-line-space .line-space .result) (answer .last .1 .0) (answer .result) (answer .ensures) (c .before .displayed .given .1))
+    (λ c.
+    let at-displayed = c .before .before in
+    let at-answer = at-displayed .before .before .before in
+    let at-line-space = at-answer .before .before in
+    let answer = at-answer .answer in
+    written-length (at-line-space .line-space .result) (answer .last .1 .0) (answer .result) (answer .ensures) (at-displayed .displayed .given .1))
+    (λ c κs. search needs)
+    (λ c. search needs)
+    (λ c. search needs)
+    (λ c κs. search needs)
+    (λ c. search needs)
+    (λ c. search needs)
+    (λ c κs. search needs)
+    (λ c. search needs)
+    (λ c. search needs)
+    (λ c. search needs))
