@@ -60,6 +60,9 @@ int main(void) {
     /* Three registers: r0 != r1, r2 := r0, r0 := r1, r0 = r2. */
     static const uint16_t apart[] = {0xc008, 0x0400, 0x0040, 0x8010};
     uint64_t unequal[FADZGIME_UNEQUAL_ANSWER];
+    uint64_t classes[FADZGIME_CLASSES_ANSWER];
+    /* Six registers and one function: r2 := f(r0), r3 := f(r1), r4 := f(r2), r5 := f(r3), r0 = r1, r5 := r0, r4 := f(r0). */
+    static const uint16_t merging[] = {0x4400, 0x4640, 0x4880, 0x4ac0, 0x8008, 0x0a00, 0x4800};
     /* A trace with the largest model: 1,024 times r0 := f(r0), under eight registers. */
     static uint8_t longest[2 + 2 * 1024];
     static uint8_t largest[FADZGIME_MODEL_OUTPUT];
@@ -98,9 +101,24 @@ int main(void) {
         show_pairs(unequal[1]);
     }
 
+    fadzgime_monitor_classes(state, 0, classes, FADZGIME_CLASSES_ANSWER);
+    show("monitor_classes", classes, FADZGIME_CLASSES_ANSWER);
+    fadzgime_monitor_classes(state, FADZGIME_MONITOR_STATE - 1, classes, FADZGIME_CLASSES_ANSWER);
+    show("monitor_classes", classes, FADZGIME_CLASSES_ANSWER);
+    fadzgime_monitor_start(0x6200, state, sizeof state, answer, 4);
+    fadzgime_monitor_classes(state, FADZGIME_MONITOR_STATE, classes, FADZGIME_CLASSES_ANSWER);
+    show("monitor_classes", classes, FADZGIME_CLASSES_ANSWER);
+    for (size_t i = 0; i < sizeof merging / sizeof merging[0]; i++) {
+        fadzgime_monitor_step(merging[i], state, sizeof state, answer, 4);
+        fadzgime_monitor_classes(state, sizeof state, classes, FADZGIME_CLASSES_ANSWER);
+        show("monitor_classes", classes, FADZGIME_CLASSES_ANSWER);
+    }
+
     fadzgime_stream_start(state, sizeof state, answer, 1);
     fadzgime_monitor_unequal(state, sizeof state, unequal, FADZGIME_UNEQUAL_ANSWER);
     show("monitor_unequal", unequal, FADZGIME_UNEQUAL_ANSWER);
+    fadzgime_monitor_classes(state, sizeof state, classes, FADZGIME_CLASSES_ANSWER);
+    show("monitor_classes", classes, FADZGIME_CLASSES_ANSWER);
     fadzgime_stream_push(trace, 3, state, sizeof state, answer, 1);
     fadzgime_stream_finish(state, sizeof state, answer, 4);
     show("stream", answer, 4);
@@ -175,6 +193,8 @@ int main(void) {
     show("monitor_step", answer, 4);
     fadzgime_monitor_unequal(NULL, 0, unequal, FADZGIME_UNEQUAL_ANSWER);
     show("monitor_unequal", unequal, FADZGIME_UNEQUAL_ANSWER);
+    fadzgime_monitor_classes(NULL, 0, classes, FADZGIME_CLASSES_ANSWER);
+    show("monitor_classes", classes, FADZGIME_CLASSES_ANSWER);
     fadzgime_stream_start(NULL, 0, answer, 1);
     show("stream_start", answer, 1);
     fadzgime_stream_push(trace, sizeof trace, NULL, 0, answer, 1);
@@ -206,6 +226,7 @@ int main(void) {
     /* Nothing is done, and what was answered before stays. */
     fadzgime_monitor(trace, 5, NULL, 0);
     fadzgime_monitor_unequal(state, sizeof state, NULL, 0);
+    fadzgime_monitor_classes(state, sizeof state, NULL, 0);
     fadzgime_verdict(text, strlen(macro), table, sizeof table, out, sizeof out, NULL, 0);
     show("verdict", answer, 5);
     return 0;

@@ -208,6 +208,181 @@ pub const UNEQUAL_WORDS: [Paired; 11] = [
     ),
 ];
 
+/// A trace whose numbers of classes are settled.
+pub struct Counted {
+    /// A macro of its letters.
+    pub text: &'static str,
+    /// The words of its header and its letters.
+    pub words: &'static [u16],
+    /// The number of classes after the header alone, and after each letter.
+    pub classes: &'static [usize],
+}
+
+impl Counted {
+    const fn new(text: &'static str, words: &'static [u16], classes: &'static [usize]) -> Counted {
+        Counted { text, words, classes }
+    }
+}
+
+/// How many classes are alive (document 02): "it equals the count of classes there and after every letter, refused and
+/// incoherent ones included".
+pub const CLASS_NUMBERS: [Counted; 23] = [
+    // A header alone has as many classes as registers.
+    Counted::new("vars x;", &[0x1000], &[1]),
+    Counted::new("vars a b c d e f g h; funs p/1 q/2;", &[0x8480], &[8]),
+    // A copy into a register that is alone in its class takes that class away.
+    Counted::new("vars x y z; x:=y; z:=y;", &[0x3000, 0x0040, 0x0440], &[3, 2, 1]),
+    // A copy into a register that shares its class leaves the number, also where that register named the class.
+    Counted::new(
+        "vars x y z w; y:=x; y:=z; w:=x; x:=z;",
+        &[0x4000, 0x0200, 0x0280, 0x0600, 0x0080],
+        &[4, 3, 3, 2, 2],
+    ),
+    // A copy within a class changes nothing.
+    Counted::new(
+        "vars x y z; x:=x; y:=x; y:=x; x:=y; y:=y;",
+        &[0x3000, 0x0000, 0x0200, 0x0200, 0x0040, 0x0240],
+        &[3, 3, 2, 2, 2, 2],
+    ),
+    // An application that is new, to a register that is alone, also to its own argument.
+    Counted::new(
+        "vars x y; funs f/1; y:=f(x); x:=f(y); x:=f(x);",
+        &[0x2200, 0x4200, 0x4040, 0x4000],
+        &[2, 2, 2, 2],
+    ),
+    // One that is new, to a register that shares its class.
+    Counted::new(
+        "vars x y z; funs f/1; y:=x; z:=x; y:=f(x); x:=f(y);",
+        &[0x3200, 0x0200, 0x0400, 0x4200, 0x4040],
+        &[3, 2, 1, 2, 3],
+    ),
+    // One whose result is held is a copy: into a lone register, a sharing one, one of the result's class, and an argument.
+    Counted::new(
+        "vars x y z w; funs f/1; y:=f(x); z:=f(x); z:=w; z:=f(x); z:=f(x); x:=f(x);",
+        &[0x4200, 0x4200, 0x4400, 0x04c0, 0x4400, 0x4400, 0x4000],
+        &[4, 4, 3, 3, 3, 3, 2],
+    ),
+    // Two arguments count in their order.
+    Counted::new(
+        "vars x y u v w; funs f/2; u:=f(x,y); v:=f(y,x); w:=f(x,y);",
+        &[0x5300, 0x4408, 0x4640, 0x4808],
+        &[5, 5, 5, 4],
+    ),
+    // An equal test takes one class away.
+    Counted::new("vars x y z; assume x=y; assume z=y;", &[0x3000, 0x8008, 0x8088], &[3, 2, 1]),
+    // Within a class it changes nothing: one register, a copy, an earlier test.
+    Counted::new(
+        "vars x y z; assume x=x; y:=x; assume x=y; assume y=z; assume z=x; assume x=z;",
+        &[0x3000, 0x8000, 0x0200, 0x8008, 0x8050, 0x8080, 0x8010],
+        &[3, 3, 2, 2, 1, 1, 1],
+    ),
+    // One test makes one more pair of results equal.
+    Counted::new(
+        "vars x y u v; funs f/1; u:=f(x); v:=f(y); assume x=y; assume u=v;",
+        &[0x4200, 0x4400, 0x4640, 0x8008, 0x8098],
+        &[4, 4, 4, 2, 2],
+    ),
+    // Two more, one above the other.
+    Counted::new(
+        "vars x y p q r s; funs f/1; p:=f(x); q:=f(y); r:=f(p); s:=f(q); assume y=x;",
+        &[0x6200, 0x4400, 0x4640, 0x4880, 0x4ac0, 0x8040],
+        &[6, 6, 6, 6, 6, 3],
+    ),
+    // Two more, side by side.
+    Counted::new(
+        "vars x y p q r s; funs f/1 g/2; p:=f(x); q:=f(y); r:=g(x,y); s:=g(y,y); assume x=y;",
+        &[0x6480, 0x4400, 0x4640, 0x5808, 0x5a48, 0x8008],
+        &[6, 6, 6, 6, 6, 3],
+    ),
+    // Three more, one above the other.
+    Counted::new(
+        "vars x y p q r s t u; funs f/1; p:=f(x); q:=f(y); r:=f(p); s:=f(q); t:=f(r); u:=f(s); assume x=y;",
+        &[0x8200, 0x4400, 0x4640, 0x4880, 0x4ac0, 0x4d00, 0x4f40, 0x8008],
+        &[8, 8, 8, 8, 8, 8, 8, 4],
+    ),
+    // Three more, of three functions.
+    Counted::new(
+        "vars x y p q r s t u; funs f/1 g/1 h/2; p:=f(x); q:=f(y); r:=g(x); s:=g(y); t:=h(x,p); u:=h(y,q); assume x=y;",
+        &[0x8640, 0x4400, 0x4640, 0x5800, 0x5a40, 0x6c10, 0x6e58, 0x8008],
+        &[8, 8, 8, 8, 8, 8, 8, 4],
+    ),
+    // All that there are.
+    Counted::new(
+        "vars a b c d e f g h; funs n/1; b:=n(a); c:=n(b); d:=n(c); e:=n(d); f:=n(e); g:=n(f); h:=n(g); assume a=b;",
+        &[0x8200, 0x4200, 0x4440, 0x4680, 0x48c0, 0x4b00, 0x4d40, 0x4f80, 0x8008],
+        &[8, 8, 8, 8, 8, 8, 8, 8, 1],
+    ),
+    // A test above whose sides a result is lost is incoherent.
+    Counted::new(
+        "vars x y u v; funs f/1; u:=f(x); v:=f(y); u:=v; assume u=v; assume x=y;",
+        &[0x4200, 0x4400, 0x4640, 0x04c0, 0x8098, 0x8008],
+        &[4, 4, 4, 3, 3, 3],
+    ),
+    // An unequal test changes nothing.
+    Counted::new(
+        "vars x y z; assume x!=y; assume z!=y; x:=y; assume z!=x;",
+        &[0x3000, 0xc008, 0xc088, 0x0040, 0xc080],
+        &[3, 3, 3, 2, 2],
+    ),
+    // An infeasible trace goes on.
+    Counted::new(
+        "vars x y z; funs f/1; assume x!=x; assume x=y; z:=x; assume x!=z; x:=f(x); y:=z; y:=f(z);",
+        &[0x3200, 0xc000, 0x8008, 0x0400, 0xc010, 0x4000, 0x0280, 0x4280],
+        &[3, 3, 2, 1, 1, 2, 2, 2],
+    ),
+    // Infeasible by the merge itself, which counts.
+    Counted::new(
+        "vars x y u v; funs f/1; u:=f(x); v:=f(y); assume u!=v; assume x=y; y:=u;",
+        &[0x4200, 0x4400, 0x4640, 0xc098, 0x8008, 0x0280],
+        &[4, 4, 4, 4, 2, 2],
+    ),
+    // An incoherent letter leaves the number, and so does what follows: a test, an application, letters behind.
+    Counted::new(
+        "vars x y z; funs f/1; z:=f(x); z:=f(z); assume x=y; x:=y; y:=z;",
+        &[0x3200, 0x4400, 0x4480, 0x8008, 0x0040, 0x0280],
+        &[3, 3, 3, 3, 3, 3],
+    ),
+    Counted::new(
+        "vars x y; funs n/1; y:=n(x); y:=n(y); x:=n(x); y:=x; assume x=y;",
+        &[0x2200, 0x4200, 0x4240, 0x4000, 0x0200, 0x8008],
+        &[2, 2, 2, 2, 2, 2],
+    ),
+];
+
+/// A trace that is displayed.
+pub struct Displayed {
+    /// A macro of its letters.
+    pub text: &'static str,
+    /// The words of its header and its letters.
+    pub words: &'static [u16],
+    /// What the display program prints.
+    pub lines: &'static str,
+}
+
+impl Displayed {
+    /// The packed trace.
+    pub fn bytes(&self) -> Vec<u8> {
+        self.words.iter().flat_map(|word| word.to_be_bytes()).collect()
+    }
+}
+
+/// Displays that were settled: before the first letter and after each of them how many letters, what judging said of the
+/// last, the number of classes and the unequal pairs.
+pub const DISPLAYS: [Displayed; 2] = [
+    Displayed {
+        text: "vars x y z; assume x!=y; z:=x; x:=y;",
+        words: &[0x3000, 0xc008, 0x0400, 0x0040],
+        lines: "0 fresh 3 0000000000000000\n1 coherent 3 0000000000000102\n2 coherent 2 0000000000000102\n\
+                3 coherent 2 0000000000010004\n",
+    },
+    Displayed {
+        text: "vars x y z; funs f/1; z:=f(x); z:=x; assume x=y; assume y=z;",
+        words: &[0x3200, 0x4400, 0x0400, 0x8008, 0x8050],
+        lines: "0 fresh 3 0000000000000000\n1 coherent 3 0000000000000000\n2 coherent 2 0000000000000000\n\
+                3 incoherent 2 0000000000000000\n4 incoherent 2 0000000000000000\n",
+    },
+];
+
 /// Tests with names (document 02), with what the verdict program prints: "the three words leave the names, and `!` becomes
 /// a token"; what refuses a line of tests and a use of a test; what a test with a name performs.
 const NAMED_TESTS: [(&str, &str); 23] = [

@@ -9,18 +9,21 @@ use std::path::Path;
 use std::process::{Command, Output, Stdio};
 use std::time::Duration;
 
+use fadzgime_tests::oracle::report::PROGRAM_TRACE;
 use fadzgime_tests::proved::programs::program;
 
 /// Each program, and the first bytes of an input, which are an input by themselves that is judged well.
-const BEGINNINGS: [(&str, &[u8]); 4] = [
+const BEGINNINGS: [(&str, &[u8]); 5] = [
     ("verdict", b"vars x y; x := y;"),
     ("monitor", &[0x32, 0x00, 0x44, 0x00]),
     ("model", &[0x32, 0x00, 0x44, 0x00]),
     ("layout", b"vars x y; x := y;"),
+    ("display", &[0x32, 0x00, 0x44, 0x00]),
 ];
 
 /// The words by which a line of an answer begins.
-const ANSWERS: [&str; 7] = ["verdict", "refused", "coherent", "incoherent", "infeasible", "model", "vars"];
+const ANSWERS: [&str; 8] =
+    ["verdict", "refused", "coherent", "incoherent", "infeasible", "model", "vars", "0 fresh"];
 
 fn run(command: &mut Command, input: Stdio) -> Output {
     let child = command.stdin(input).stdout(Stdio::piped()).stderr(Stdio::piped()).spawn();
@@ -111,6 +114,7 @@ fn empty_input() {
         ("monitor", "refused 1 at 0\n"),
         ("model", "refused 1 at 0\n"),
         ("layout", "refused 9 at 0\n"),
+        ("display", "refused 1 at 0\n"),
     ] {
         let output = run(&mut Command::new(program(name)), Stdio::null());
         assert_eq!(text(&output.stdout), line);
@@ -143,12 +147,21 @@ fn broken_input() {
     }
 }
 
+/// The bytes behind which a program reads no more.
+fn most(name: &str) -> usize {
+    match name {
+        "verdict" | "layout" => 4_096,
+        "display" => PROGRAM_TRACE,
+        _ => usize::MAX,
+    }
+}
+
 /// More bytes than a program takes at a time, or than a macro or a trace for the model may have, and then no more for now.
 #[test]
 fn stalled_long_input() {
     for (name, _) in BEGINNINGS {
-        for length in [2_052, 4_000, 70_000] {
-            if ["verdict", "layout"].contains(&name) && length > 4_096 {
+        for length in [2_052, 4_000, 4_096, PROGRAM_TRACE, 70_000] {
+            if length > most(name) {
                 continue;
             }
             let (reader, mut writer) = UnixStream::pair().expect("a stream");
@@ -199,6 +212,7 @@ fn unreadable_files() {
         ("reader_runs", BEGINNINGS[0].1),
         ("monitor_runs", BEGINNINGS[1].1),
         ("model_runs", BEGINNINGS[2].1),
+        ("display_runs", BEGINNINGS[4].1),
     ] {
         let good = Path::new(env!("CARGO_TARGET_TMPDIR")).join(format!("{name}.input"));
         std::fs::write(&good, beginning).expect("a file");

@@ -6,30 +6,36 @@
 use std::fs;
 use std::io::Write;
 use std::path::Path;
-use std::process::{Command, Stdio};
+use std::process::{Command, Output, Stdio};
 
-use fadzgime_tests::answers::EQUAL_SIDES_TRACES;
 #[cfg(feature = "verdict")]
 use fadzgime_tests::answers::{CAPITALS, EQUAL_SIDES_MACROS, named_tests};
+use fadzgime_tests::answers::{CLASS_NUMBERS, DISPLAYS, EQUAL_SIDES_TRACES, UNEQUAL_WORDS};
 #[cfg(feature = "verdict")]
 use fadzgime_tests::examples::example_macros;
+use fadzgime_tests::fast::display::fast_display;
 use fadzgime_tests::fast::monitor::fast_monitor;
 #[cfg(feature = "verdict")]
 use fadzgime_tests::generators::damaged_macros::damaged_text;
 #[cfg(feature = "verdict")]
 use fadzgime_tests::generators::macros::{macro_text, random_macro};
+use fadzgime_tests::generators::merges::merging_trace;
 use fadzgime_tests::generators::random::Random;
 #[cfg(feature = "verdict")]
 use fadzgime_tests::generators::spread::Spread;
-use fadzgime_tests::generators::traces::{any_trace, damage_trace, random_header, random_letter};
+use fadzgime_tests::generators::traces::{
+    any_trace, damage_trace, random_header, random_letter, unequal_trace,
+};
 #[cfg(feature = "verdict")]
 use fadzgime_tests::oracle::report::print_verdict;
-use fadzgime_tests::oracle::report::{judgement_lines, print_model, print_monitor};
+use fadzgime_tests::oracle::report::{
+    PROGRAM_TRACE, display_lines, judgement_lines, print_display, print_model, print_monitor,
+};
 use fadzgime_tests::oracle::trace::Trace;
 use fadzgime_tests::proved::programs::program;
 
-/// What a program prints for an input; nothing goes to standard error.
-fn printed(path: &Path, input: &[u8]) -> String {
+/// What a program does with an input.
+fn run(path: &Path, input: &[u8]) -> Output {
     let piped = Stdio::piped;
     let mut child = Command::new(path)
         .stdin(piped())
@@ -39,7 +45,12 @@ fn printed(path: &Path, input: &[u8]) -> String {
         .expect("the program starts");
     // A program that has refused may have closed its input.
     let _ = child.stdin.take().expect("an input").write_all(input);
-    let output = child.wait_with_output().expect("the program ends");
+    child.wait_with_output().expect("the program ends")
+}
+
+/// What a program prints for an input; nothing goes to standard error.
+fn printed(path: &Path, input: &[u8]) -> String {
+    let output = run(path, input);
     assert!(output.status.success(), "{}", output.status);
     assert_eq!(String::from_utf8_lossy(&output.stderr), "");
     String::from_utf8_lossy(&output.stdout).to_string()
@@ -309,4 +320,62 @@ fn monitor() {
 #[test]
 fn model() {
     check("model", (0..1_000).map(some_trace), print_model);
+}
+
+/// A trace with many classes that merge or many unequal pairs, well formed two times in three.
+fn displayed_trace(seed: u64) -> Vec<u8> {
+    let random = &mut Random::new(seed);
+    let trace = if random.once_in(2) { merging_trace(random, 40) } else { unequal_trace(random, 40) };
+    if random.once_in(3) { damage_trace(random, &trace) } else { trace.pack() }
+}
+
+#[test]
+fn display() {
+    check("display", (0..1_000).map(some_trace), print_display);
+    check("display", (0..1_000).map(displayed_trace), print_display);
+}
+
+/// Traces whose displays, numbers of classes or unequal pairs were settled.
+#[test]
+fn display_on_settled_traces() {
+    let path = program("display");
+    for settled in &DISPLAYS {
+        assert_eq!(printed(&path, &settled.bytes()), settled.lines, "{}", settled.text);
+    }
+    let numbers = CLASS_NUMBERS.iter().map(|settled| settled.words);
+    let traces = numbers.chain(UNEQUAL_WORDS.iter().map(|settled| settled.words));
+    let bytes = |words: &[u16]| words.iter().flat_map(|word| word.to_be_bytes()).collect();
+    check("display", traces.map(bytes), print_display);
+}
+
+/// Traces up to the longest that is displayed, all well formed or but for the last letter; traces without a last byte;
+/// none; one byte.
+#[test]
+fn display_on_long_inputs() {
+    let most = PROGRAM_TRACE / 2 - 1;
+    let lengths = [1_000, 9_999, 10_000, most - 1, most];
+    let traces = (0..4).flat_map(|seed| lengths.into_iter().flat_map(move |length| long_trace(seed, length)));
+    let refused = lengths
+        .map(|length| [&[0x32, 0x00], [0x02, 0x00].repeat(length - 1).as_slice(), &[0xff; 2]].concat());
+    let others = [vec![], vec![0x32], vec![0xff; PROGRAM_TRACE]];
+    let inputs = traces.chain(refused).chain(others);
+    check("display", inputs, |bytes| display_lines(fast_display(bytes)));
+}
+
+/// An input that is too long, whatever its bytes are: nothing is printed, and a line on standard error says so. That is not
+/// the line of a read that failed.
+#[test]
+fn display_on_too_long_inputs() {
+    let path = program("display");
+    for length in [PROGRAM_TRACE + 1, PROGRAM_TRACE + 2, 100_000] {
+        let [long, _] = long_trace(1, length);
+        for input in [&long[..length], &vec![0xff; length], &vec![0x00; length]] {
+            assert_eq!(print_display(input), "");
+            let output = run(&path, input);
+            assert_eq!(String::from_utf8_lossy(&output.stdout), "", "{length} bytes");
+            let told = String::from_utf8_lossy(&output.stderr).to_string();
+            assert!(told.ends_with('\n') && told.lines().count() == 1, "{told:?}");
+            assert!(!told.starts_with("read: "), "{told:?}");
+        }
+    }
 }

@@ -3,5 +3,6 @@
 //! the oracle hold them to the definitions.
 
 pub mod closure;
+pub mod display;
 pub mod monitor;
 pub mod search;

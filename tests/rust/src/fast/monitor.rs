@@ -25,6 +25,8 @@ pub struct FastMonitor {
     slot: [u8; 8],
     /// The number of registers in each slot's class.
     size: [u8; STRIDE],
+    /// The number of slots with registers.
+    classes: u8,
     /// By function and first argument the second arguments, as a mask, for which
     /// the application was computed. One argument is taken twice.
     computed: [[u16; STRIDE]; 4],
@@ -50,6 +52,7 @@ impl FastMonitor {
             header,
             slot: [0, 1, 2, 3, 4, 5, 6, 7],
             size,
+            classes: header.registers,
             computed: [[0; STRIDE]; 4],
             result: [[[LOST; STRIDE]; STRIDE]; 4],
             below: [0; STRIDE],
@@ -75,8 +78,13 @@ impl FastMonitor {
         self.unequal[self.slot_of(first)] & (1 << self.slot_of(second)) != 0
     }
 
-    /// The number of held classes.
+    /// The number of held classes, which is kept from letter to letter.
     pub fn classes(&self) -> usize {
+        usize::from(self.classes)
+    }
+
+    /// The number of held classes, counted anew.
+    pub fn counted_classes(&self) -> usize {
         self.size.iter().filter(|&&size| size > 0).count()
     }
 
@@ -129,7 +137,10 @@ impl FastMonitor {
         let name = self.names();
         let mut word = 0;
         for a in 0..SLOTS {
-            for b in bits(self.unequal[a]) {
+            let mut others = self.unequal[a];
+            while others != 0 {
+                let b = others.trailing_zeros() as usize & 15;
+                others &= others - 1;
                 word |= 1 << (8 * name[a] + name[b]);
             }
         }
@@ -178,9 +189,11 @@ impl FastMonitor {
             return;
         }
         self.slot[usize::from(register & 7)] = to as u8;
+        self.classes += u8::from(self.size[to] == 0);
         self.size[to] += 1;
         self.size[from] -= 1;
         if self.size[from] == 0 {
+            self.classes -= 1;
             self.drop_class(from);
         }
     }
@@ -315,6 +328,7 @@ impl FastMonitor {
         }
         self.size[to] += self.size[from];
         self.size[from] = 0;
+        self.classes -= 1;
         for mask in [&mut self.below, &mut self.beside, &mut self.unequal] {
             mask[to] |= mask[from];
             mask[from] = 0;

@@ -2,7 +2,9 @@
 //! and the paper's definitions alone, plainly and slowly, to test the proved code against. It
 //! uses nothing outside this folder.
 
+pub mod classes;
 pub mod closure;
+pub mod display;
 pub mod enumeration;
 pub mod execution;
 pub mod layout;

@@ -93,6 +93,14 @@ pub fn first_infeasible(trace: &Trace) -> Option<usize> {
     Some(high)
 }
 
+/// The states of a monitor after each beginning of a trace, the header alone first. Each is that of
+/// the longest coherent beginning of the letters taken.
+pub fn monitor_states(trace: &Trace) -> impl Iterator<Item = State> + '_ {
+    let coherent = judge(trace).incoherent.map_or(trace.letters.len(), |number| number - 1);
+    let state = move |taken: usize| State::after_all(trace.header, &trace.letters[..taken.min(coherent)]);
+    (0..=trace.letters.len()).map(state)
+}
+
 /// The monitor's run over a packed trace.
 pub fn monitor(bytes: &[u8]) -> Result<Judgement, Refusal> {
     read_trace(bytes, None).map(|trace| judge(&trace))

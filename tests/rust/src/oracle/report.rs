@@ -2,6 +2,7 @@
 
 use std::fmt::Write;
 
+use super::display::{Reading, display};
 use super::layout::layout;
 use super::letter::Letter;
 use super::model::{Model, Shown, show_model};
@@ -16,6 +17,9 @@ pub const PROGRAM_TABLE: usize = 65_536;
 
 /// Bytes that the layout program lends for the print.
 pub const PROGRAM_PRINT: usize = 4_096;
+
+/// The longest trace that the display program takes.
+pub const PROGRAM_TRACE: usize = 65_536;
 
 /// Lines, or the one line of a refusal.
 fn lines(result: Result<String, Refusal>) -> String {
@@ -103,6 +107,23 @@ pub fn judgement_lines(found: Result<Judgement, Refusal>) -> String {
         line("coherent", "incoherent", judgement.incoherent)
             + &line("feasible", "infeasible", judgement.infeasible)
     }))
+}
+
+/// What the display program prints for a packed trace; nothing for one that is too long.
+pub fn print_display(bytes: &[u8]) -> String {
+    if bytes.len() > PROGRAM_TRACE {
+        return String::new();
+    }
+    display_lines(display(bytes))
+}
+
+/// The lines of what a display shows: how many letters, what judging said of the last, the number of
+/// classes, and the unequal pairs in hexadecimal.
+pub fn display_lines(shown: Result<Vec<Reading>, Refusal>) -> String {
+    let line = |(letters, Reading { said, classes, unequal }): (usize, Reading)| {
+        format!("{letters} {} {classes} {unequal:016x}\n", said.word())
+    };
+    lines(shown.map(|readings| readings.into_iter().enumerate().map(line).collect()))
 }
 
 /// What the whole-trace engine finds in a packed trace: the model in hexadecimal.

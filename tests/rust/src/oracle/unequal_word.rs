@@ -4,7 +4,7 @@
 
 use super::closure::TermId;
 use super::letter::MAX_REGISTERS;
-use super::monitor::judge;
+use super::monitor::monitor_states;
 use super::state::State;
 use super::trace::Trace;
 
@@ -36,7 +36,5 @@ fn known_unequal(state: &State, a: TermId, b: TermId) -> bool {
 /// The words of a monitor after each beginning of a trace, the header alone first. Each is that
 /// of the longest coherent beginning of the letters taken.
 pub fn unequal_words(trace: &Trace) -> Vec<u64> {
-    let coherent = judge(trace).incoherent.map_or(trace.letters.len(), |number| number - 1);
-    let state = |taken: usize| State::after_all(trace.header, &trace.letters[..taken.min(coherent)]);
-    (0..=trace.letters.len()).map(|taken| unequal_word(&state(taken))).collect()
+    monitor_states(trace).map(|state| unequal_word(&state)).collect()
 }

@@ -39,6 +39,11 @@ impl Window {
         let (results, computed) = held_applications(state);
         Window { names, unequal, results, computed, marks, infeasible }
     }
+
+    /// The number of classes, counted anew: of the registers that name one.
+    pub fn classes(&self) -> usize {
+        (0..).zip(&self.names).filter(|&(register, &name)| register == name).count()
+    }
 }
 
 /// The name of the class that holds a term: the lowest-numbered register in it.

@@ -38,14 +38,18 @@ pub const UNPACKED_BYTES: usize = 5;
 pub const STEP_ANSWER: usize = 4;
 /// Numbers in the answer of [`monitor_unequal`]: 0 or [`NO_STATE`], the word of unequal pairs.
 pub const UNEQUAL_ANSWER: usize = 2;
+/// Numbers in the answer of [`monitor_classes`]: 0 or [`NO_STATE`], the number of classes.
+pub const CLASSES_ANSWER: usize = 2;
 /// Numbers in the answer of [`stream_start`] and [`stream_push`]: 0 or [`NO_STATE`].
 pub const PUSH_ANSWER: usize = 1;
 /// What is answered for a state that is too short or of another kind.
 pub const NO_STATE: u64 = 255;
 /// Bytes of a monitor's state.
-pub const MONITOR_STATE: usize = 318;
+pub const MONITOR_STATE: usize = 319;
 /// Bytes of a stream's state.
-pub const STREAM_STATE: usize = 346;
+pub const STREAM_STATE: usize = 347;
+/// The byte of a state that has the number of classes; only tests of damaged states look at it.
+pub const CLASSES_BYTE: usize = 6;
 
 mod foreign {
     #[cfg(feature = "linked")]
@@ -101,6 +105,14 @@ mod foreign {
 
         #[cfg(feature = "monitor")]
         pub fn fadzgime_monitor_unequal(
+            state: *const u8,
+            state_length: usize,
+            answer: *mut u64,
+            answer_length: usize,
+        );
+
+        #[cfg(feature = "monitor")]
+        pub fn fadzgime_monitor_classes(
             state: *const u8,
             state_length: usize,
             answer: *mut u64,
@@ -240,6 +252,16 @@ pub fn monitor_unequal(state: &[u8], answer: &mut [u64]) {
     // and do not overlap.
     unsafe {
         foreign::fadzgime_monitor_unequal(state.as_ptr(), state.len(), answer.as_mut_ptr(), answer.len());
+    }
+}
+
+/// The number of classes of a monitor's window.
+#[cfg(feature = "monitor")]
+pub fn monitor_classes(state: &[u8], answer: &mut [u64]) {
+    // SAFETY: the pointers and lengths are those of slices that live through the call
+    // and do not overlap.
+    unsafe {
+        foreign::fadzgime_monitor_classes(state.as_ptr(), state.len(), answer.as_mut_ptr(), answer.len());
     }
 }
 

@@ -3,15 +3,17 @@
 use fadzgime_tests::answers::EQUAL_SIDES_TRACES;
 use fadzgime_tests::generators::random::{Random, cases};
 use fadzgime_tests::generators::traces::{any_trace, damage_trace, random_header, random_letter};
+use fadzgime_tests::oracle::classes::class_number;
 use fadzgime_tests::oracle::letter::{Header, Letter};
 use fadzgime_tests::oracle::monitor::is_coherent;
 use fadzgime_tests::oracle::state::State;
 use fadzgime_tests::oracle::trace::Trace;
 use fadzgime_tests::oracle::unequal_word::unequal_word;
 use fadzgime_tests::proved::library::{
-    self, MONITOR_ANSWER, MONITOR_STATE, NO_STATE, PUSH_ANSWER, STEP_ANSWER, STREAM_STATE,
+    self, CLASSES_BYTE, MONITOR_ANSWER, MONITOR_STATE, NO_STATE, PUSH_ANSWER, STEP_ANSWER, STREAM_STATE,
 };
 
+use crate::classes::class_count;
 use crate::lent::Lent;
 use crate::unequal::unequal_pairs;
 
@@ -37,8 +39,8 @@ impl Expected {
     }
 }
 
-/// Calls the monitor word by word; each answer, the unequal pairs after it, and the state where it
-/// has to stay.
+/// Calls the monitor word by word; each answer, the unequal pairs and the number of classes after it,
+/// and the state where it has to stay.
 pub fn check_words(words: impl IntoIterator<Item = u16>) {
     let mut words = words.into_iter();
     let header = words.next().expect("a header's word");
@@ -53,6 +55,7 @@ pub fn check_words(words: impl IntoIterator<Item = u16>) {
     answer.assert_begins(&[0, 0, 1, 0]);
     let mut expected = Expected { state: State::start(header), running: true };
     assert_eq!(unequal_pairs(state.look()), 0, "no letter yet");
+    assert_eq!(class_count(state.look()), usize::from(header.registers), "no letter yet");
     for word in words {
         let before = state.look().to_vec();
         let mut answer = Lent::new(STEP_ANSWER + 2);
@@ -60,6 +63,7 @@ pub fn check_words(words: impl IntoIterator<Item = u16>) {
         let found = expected.step(word);
         answer.assert_begins(&found);
         assert_eq!(unequal_pairs(state.look()), unequal_word(&expected.state), "{word:04x}");
+        assert_eq!(class_count(state.look()), class_number(&expected.state), "{word:04x}");
         assert_eq!(state.look()[MONITOR_STATE..], before[MONITOR_STATE..], "behind the state");
         if found[0] == 4 {
             assert_eq!(state.look(), before, "a refusal changes nothing");
@@ -227,7 +231,7 @@ fn any_state() {
 }
 
 /// Bytes pushed at once lead to the state to which the same bytes lead in small parts, from any state: also from one whose
-/// classes are none, so that no slots stand for its window.
+/// classes are none, so that no slots stand for its window. The number of classes is free where the state is that of no trace.
 #[test]
 fn any_state_at_once_and_in_parts() {
     for seed in 0..cases(2_000) {
@@ -237,7 +241,8 @@ fn any_state_at_once_and_in_parts() {
         let mut answer = [0; PUSH_ANSWER];
         library::stream_start(&mut state, &mut answer);
         library::stream_push(&trace[..2 + 2 * random.below(20)], &mut state, &mut answer);
-        for _ in 0..random.below(4) {
+        let damages = random.below(4);
+        for _ in 0..damages {
             let at = 4 + random.below(STREAM_STATE - 4);
             state[at] = random.bits() as u8;
         }
@@ -245,6 +250,9 @@ fn any_state_at_once_and_in_parts() {
         library::stream_push(&trace[2..], &mut state, &mut answer);
         for part in trace[2..].chunks(1 + random.below(100)) {
             library::stream_push(part, &mut parts, &mut answer);
+        }
+        if damages > 0 {
+            (state[CLASSES_BYTE], parts[CLASSES_BYTE]) = (0, 0);
         }
         assert_eq!(state, parts, "seed {seed}");
     }

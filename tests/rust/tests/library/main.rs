@@ -3,6 +3,8 @@
 
 #[cfg(feature = "monitor")]
 mod calls;
+#[cfg(feature = "monitor")]
+mod classes;
 #[cfg(feature = "layout")]
 mod layout;
 #[cfg(feature = "linked")]

@@ -3,6 +3,7 @@
 
 use std::process::Command;
 
+use fadzgime_tests::fast::display::fast_display;
 use fadzgime_tests::generators::random::Random;
 use fadzgime_tests::generators::traces::random_letter;
 use fadzgime_tests::oracle::letter::{Header, Letter};
@@ -10,9 +11,9 @@ use fadzgime_tests::oracle::reader::read_macro;
 use fadzgime_tests::oracle::trace::Trace;
 use fadzgime_tests::oracle::verdict::{MAX_PAIRS, PAIR_BYTES};
 use fadzgime_tests::proved::library::{
-    self, LAYOUT_ANSWER, LAYOUT_OUTPUT, MODEL_ANSWER, MODEL_OUTPUT, MONITOR_ANSWER, MONITOR_STATE,
-    PUSH_ANSWER, READ_ANSWER, READ_TRACE_ANSWER, STEP_ANSWER, STREAM_STATE, UNEQUAL_ANSWER, UNPACKED_BYTES,
-    VERDICT_ANSWER, VERDICT_OUTPUT, WRITE_ANSWER,
+    self, CLASSES_ANSWER, LAYOUT_ANSWER, LAYOUT_OUTPUT, MODEL_ANSWER, MODEL_OUTPUT, MONITOR_ANSWER,
+    MONITOR_STATE, PUSH_ANSWER, READ_ANSWER, READ_TRACE_ANSWER, STEP_ANSWER, STREAM_STATE, UNEQUAL_ANSWER,
+    UNPACKED_BYTES, VERDICT_ANSWER, VERDICT_OUTPUT, WRITE_ANSWER,
 };
 
 /// The stack of the thread, of which the thread itself takes some.
@@ -191,6 +192,28 @@ fn call_unequal() {
     assert_eq!(last, [[0, 0], [0, 0x7fbf_dfef_f7fb_fdfe]]);
 }
 
+/// The number of classes after each letter of the long trace.
+#[test]
+#[ignore = "called in a process of its own"]
+fn call_classes() {
+    let trace = long_trace();
+    let expected: Vec<[u64; CLASSES_ANSWER]> =
+        fast_display(&trace).expect("well formed").iter().map(|shown| [0, shown.classes as u64]).collect();
+    let words: Vec<u16> = trace.chunks(2).map(|pair| u16::from_be_bytes([pair[0], pair[1]])).collect();
+    let (mut state, mut answer) = (vec![0; MONITOR_STATE], vec![0; STEP_ANSWER]);
+    let mut numbers = vec![[u64::MAX; CLASSES_ANSWER]; words.len()];
+    let numbers = on_a_small_stack(move || {
+        library::monitor_start(words[0], &mut state, &mut answer);
+        library::monitor_classes(&state, &mut numbers[0]);
+        for (&word, number) in words[1..].iter().zip(&mut numbers[1..]) {
+            library::monitor_step(word, &mut state, &mut answer);
+            library::monitor_classes(&state, number);
+        }
+        numbers
+    });
+    assert_eq!(numbers, expected);
+}
+
 /// The long trace in two parts, the first of which ends inside a letter.
 #[test]
 #[ignore = "called in a process of its own"]
@@ -248,6 +271,11 @@ fn steps() {
 #[test]
 fn unequal() {
     in_a_process("call_unequal");
+}
+
+#[test]
+fn classes() {
+    in_a_process("call_classes");
 }
 
 #[test]

@@ -1,14 +1,17 @@
-//! The stored runs of `monitor_runs`, `model_runs`, `verdict_runs`, `layout_runs` and `reader_runs`: each expected output
-//! is the oracle's.
+//! The stored runs of `monitor_runs`, `display_runs`, `model_runs`, `verdict_runs`, `layout_runs` and `reader_runs`: each
+//! expected output is the oracle's.
 
 use std::fs;
 use std::path::{Path, PathBuf};
 
 use fadzgime_tests::examples::example_macros;
+use fadzgime_tests::fast::display::fast_display;
 use fadzgime_tests::fast::monitor::fast_monitor;
 use fadzgime_tests::oracle::listing::print_points;
 use fadzgime_tests::oracle::monitor::monitor;
-use fadzgime_tests::oracle::report::{print_layout, print_model, print_verdict};
+use fadzgime_tests::oracle::report::{
+    PROGRAM_TRACE, display_lines, print_display, print_layout, print_model, print_verdict,
+};
 
 /// The folder of a program.
 fn folder(program: &str) -> PathBuf {
@@ -52,6 +55,20 @@ fn judged(name: &str, bytes: &[u8]) -> String {
 #[test]
 fn monitor_runs() {
     check("monitor_runs", judged);
+}
+
+/// The lines that `display_runs` prints for a trace; of a long one by the fast monitor, and none for one that is too long.
+fn displayed(name: &str, bytes: &[u8]) -> String {
+    match bytes.len() {
+        0..=4_096 => format!("{name}:\n{}", print_display(bytes)),
+        4_097..=PROGRAM_TRACE => format!("{name}:\n{}", display_lines(fast_display(bytes))),
+        _ => String::new(),
+    }
+}
+
+#[test]
+fn display_runs() {
+    check("display_runs", displayed);
 }
 
 #[test]

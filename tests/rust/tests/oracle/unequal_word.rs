@@ -13,11 +13,11 @@ use fadzgime_tests::generators::windows::{all_letters, first_traces};
 use fadzgime_tests::oracle::letter::{Header, Letter};
 use fadzgime_tests::oracle::monitor::is_coherent;
 use fadzgime_tests::oracle::state::State;
-use fadzgime_tests::oracle::trace::{Trace, read_trace};
+use fadzgime_tests::oracle::trace::Trace;
 use fadzgime_tests::oracle::unequal_word::{unequal_word, unequal_words};
 use fadzgime_tests::oracle::window::Window;
 
-use crate::trace;
+use crate::{specified_trace, trace};
 
 /// Is the bit of these registers set?
 fn has(word: u64, a: u8, b: u8) -> bool {
@@ -123,16 +123,10 @@ fn specified_words() {
     }
 }
 
-/// A line of that table: its packed trace, and its words as sums of powers of two.
+/// A line of that table: its trace, and its words as sums of powers of two.
 fn specified(line: &str) -> Option<(Trace, Vec<u64>)> {
-    let cells: Vec<&str> = line.strip_prefix("| ")?.strip_suffix(" |")?.split(" | ").collect();
-    let [_, _, packed, words] = cells[..] else { return None };
-    let digits = packed.strip_prefix('`')?.strip_suffix('`')?;
-    let units = digits.split(' ').map(|unit| u16::from_str_radix(unit, 16).ok());
-    let bytes: Vec<u8> =
-        units.collect::<Option<Vec<u16>>>()?.into_iter().flat_map(u16::to_be_bytes).collect();
-    let words = words.split(", ").map(sum_of_powers).collect::<Option<Vec<u64>>>()?;
-    Some((read_trace(&bytes, None).ok()?, words))
+    let (trace, words) = specified_trace(line)?;
+    Some((trace, words.split(", ").map(sum_of_powers).collect::<Option<Vec<u64>>>()?))
 }
 
 /// `0`, or powers of two with `+` between them.
