@@ -2,6 +2,8 @@
 //! is one input, the proved library beside what else can do it. With `--instructions`
 //! callgrind counts the instructions too.
 
+#[cfg(feature = "monitor")]
+mod display;
 #[cfg(feature = "model")]
 mod engine;
 #[cfg(feature = "model")]
@@ -53,6 +55,8 @@ fn print_tables(count: bool) {
         monitor::table(count),
         #[cfg(feature = "monitor")]
         monitor::short_table(count),
+        #[cfg(feature = "monitor")]
+        display::table(count),
         #[cfg(feature = "model")]
         engine::table(count),
         #[cfg(feature = "verdict")]
@@ -76,6 +80,10 @@ fn make_call(name: &str, side: &str, table: &str) {
 
 /// Both sides of a call.
 fn sides<'a>(call: &Call<'a>) -> Box<dyn Sides + 'a> {
+    #[cfg(feature = "monitor")]
+    if let Some(asked) = display::Asked::named(call.name) {
+        return Box::new(display::Run::new(call.input, asked));
+    }
     match call.name {
         #[cfg(feature = "monitor")]
         monitor::NAME => Box::new(monitor::Run::new(call.input)),

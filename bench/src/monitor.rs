@@ -33,8 +33,11 @@ type Maker = fn(Header, [usize; 4], usize) -> Trace;
 /// The makers, with what they put before the name of a kind.
 const MAKERS: [(&str, Maker); 2] = [("", coherent), ("lively ", lively)];
 
-/// Names and weights of the kinds.
-const KINDS: [(&str, [usize; 4]); 5] = [
+/// The name and the weights of a kind.
+type Kind = (&'static str, [usize; 4]);
+
+/// The kinds.
+const KINDS: [Kind; 5] = [
     ("copy-heavy", [16, 2, 1, 1]),
     ("application-heavy", [2, 16, 1, 1]),
     ("equal-heavy", [4, 4, 12, 1]),
@@ -93,10 +96,19 @@ fn long_traces() -> Vec<(String, Trace)> {
     MAKERS.into_iter().flat_map(of_maker).collect()
 }
 
+/// Lively traces of so many letters by name.
+pub fn lively_traces(letters: usize) -> Vec<(String, Trace)> {
+    lively_of(KINDS.into_iter(), letters)
+}
+
+/// Lively traces of these kinds.
+fn lively_of(kinds: impl Iterator<Item = Kind>, letters: usize) -> Vec<(String, Trace)> {
+    kinds.map(|(kind, weights)| (format!("lively {kind}"), lively(header(), weights, letters))).collect()
+}
+
 /// The short traces by name.
 fn short_traces() -> Vec<(String, Trace)> {
-    let kinds = KINDS.into_iter().filter(|(kind, _)| SHORT_KINDS.contains(kind));
-    kinds.map(|(kind, weights)| (format!("lively {kind}"), lively(header(), weights, FEW_LETTERS))).collect()
+    lively_of(KINDS.into_iter().filter(|(kind, _)| SHORT_KINDS.contains(kind)), FEW_LETTERS)
 }
 
 /// Prints the table of long traces.
