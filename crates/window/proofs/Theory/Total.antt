@@ -11,6 +11,7 @@ use borrow.Author.Tests.{eqb-true, eqb-false}
 use Rattle.base.proofs.Theory.Choice.{byTest}
 use Rattle.base.specs.Masks.{bit, has}
 use Rattle.base.specs.LeastAndSize.{sizeFrom, sizeOf}
+use Rattle.window.proofs.Theory.Sizes.{size-most}
 
 bit-mono : (m n i : ℕ) → (T (has m i) → T (has n i)) → bit m i ≤ bit n i
 bit-mono m n i f = byTest (has m i)
@@ -40,11 +41,6 @@ size-more i (suc k) m n x f a b p q = ⊎-elim
     omega arith)
     (eq-or-lt-of-le a)
 
-size-most : (i k m : ℕ) → sizeFrom i k m ≤ k
-unfolding sizeFrom
-size-most i zero m = omega arith
-size-most i (suc k) m = let r = size-most (suc i) k m in omega arith
-
 sumTo : ℕ → (ℕ → ℕ) → ℕ
 sumTo zero f = 0
 sumTo (suc k) f = f k + sumTo k f
@@ -73,7 +69,7 @@ module _ (ρ : ℕ) where
 
   pub total-most : (l : List ℕ) → total l ≤ ρ * ρ
   unfolding total sizeOf
-  total-most l = sum-most ρ ρ (λ r. sizeOf ρ (getD l r 0)) (λ r h. size-most 0 ρ (getD l r 0))
+  total-most l = sum-most ρ ρ (λ r. sizeOf ρ (getD l r 0)) (λ r h. size-most ρ (getD l r 0))
 
   pub total-more : (l m : List ℕ) (x y : ℕ) → ((r s : ℕ) → r < ρ → s < ρ → T (has (getD l r 0) s) → T (has (getD m r 0) s)) → x < ρ → y < ρ
       → ¬ T (has (getD l x 0) y) → T (has (getD m x 0) y) → suc (total l) ≤ total m
