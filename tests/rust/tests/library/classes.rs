@@ -14,17 +14,11 @@ use fadzgime_tests::proved::library::{
 
 use crate::calls::{check_words, with_any_words};
 use crate::lent::Lent;
-use crate::unequal::{check_windows, started, step};
+use crate::unequal::{asked, check_windows, started, step};
 
-/// What the library answers for the bytes of a state. They stay, and so do the numbers behind.
+/// What the library answers for the bytes of a state.
 fn answer(state: &[u8]) -> [u64; CLASSES_ANSWER] {
-    let mut lent = Lent::holding(state);
-    let mut answer = Lent::new(CLASSES_ANSWER + 2);
-    library::monitor_classes(lent.lend(), answer.lend());
-    lent.assert_as_lent();
-    let numbers = [answer.look()[0], answer.look()[1]];
-    answer.assert_begins(&numbers);
-    numbers
+    asked(library::monitor_classes, state)
 }
 
 /// The number of a monitor's state.

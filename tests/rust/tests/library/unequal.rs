@@ -1,6 +1,8 @@
 //! `fadzgime_monitor_unequal`: the unequal pairs of a monitor's window as one word. The tests of
 //! `calls` ask for it after every letter too.
 
+use std::array;
+
 use fadzgime_tests::answers::UNEQUAL_WORDS;
 use fadzgime_tests::fast::monitor::FastMonitor;
 use fadzgime_tests::generators::random::{Random, cases};
@@ -14,15 +16,20 @@ use fadzgime_tests::proved::library::{
 use crate::calls::{check_words, with_any_words};
 use crate::lent::Lent;
 
-/// What the library answers for the bytes of a state. They stay, and so do the numbers behind.
-fn answer(state: &[u8]) -> [u64; UNEQUAL_ANSWER] {
+/// What a call that asks about a state answers for its bytes. They stay, and so do the numbers behind the answer's.
+pub fn asked<const N: usize>(call: fn(&[u8], &mut [u64]), state: &[u8]) -> [u64; N] {
     let mut lent = Lent::holding(state);
-    let mut answer = Lent::new(UNEQUAL_ANSWER + 2);
-    library::monitor_unequal(lent.lend(), answer.lend());
+    let mut answer = Lent::new(N + 2);
+    call(lent.lend(), answer.lend());
     lent.assert_as_lent();
-    let numbers = [answer.look()[0], answer.look()[1]];
+    let numbers: [u64; N] = array::from_fn(|i| answer.look()[i]);
     answer.assert_begins(&numbers);
     numbers
+}
+
+/// What the library answers for the bytes of a state.
+fn answer(state: &[u8]) -> [u64; UNEQUAL_ANSWER] {
+    asked(library::monitor_unequal, state)
 }
 
 /// The word of a monitor's state.
