@@ -117,8 +117,9 @@ void fadzgime_read_trace(const uint8_t *trace, size_t trace_length,
 /*
  * The monitor, a letter a call, and the same run over a trace whose bytes come in
  * parts. What is kept between calls stands in a state, lent as bytes. Its first byte
- * says what it is; the rest is the library's. A start needs no contents before it.
- * Copy a state to go on from it twice.
+ * says what it is; the rest is the library's, and another version of it may have other
+ * sizes and places. A start needs no contents before it. Copy a state to go on from it
+ * twice.
  */
 #define FADZGIME_MONITOR_STATE 319
 #define FADZGIME_STREAM_STATE 347
