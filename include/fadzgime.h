@@ -12,23 +12,17 @@
  *
  * A refusal is a number (0: none) and a place (0 unless said): docs/SPEC.md, 11. A
  * refused call writes no output, and the numbers behind the place are 0 unless said.
- * Each call lists its own, in the order in which they are asked; 8 to 12, 16 and 17 are
- * asked token by token, at one token in the order 8, 9, 16, 17, 10, 11, 12:
+ * Each call lists its own, in the order in which they are asked:
  *    1 less than two bytes    2 an odd number of bytes    3 no header
  *    4 a letter that is not well formed; place: its number from 1, but 0 in
  *      fadzgime_monitor_step
  *    5 more than 1,024 letters    6 `out` is too short
  *    7 a text of more than 4,096 bytes    8 no token    9 not the grammar
- *   10 a wrong declaration: too many registers or functions and tests, or a name that is
- *      declared already, as a register, function, test or sub, in whatever case
- *   11 a wrong use of a name: not declared, or of another sort than is due; behind `call`
- *      a name of which no sub stands wholly above
- *   12 braces more than 16 deep; the braces of a sub are one deep, a call adds none
- *   16 the word `tests` behind more than six registers    17 the name of a ninth sub
- *      (place of 8 to 12, 16 and 17: the byte of the text, from 0)
- *   13 more than 256 points, each call replaced by its body; a sub that nothing calls
- *      adds none
- *   14 more pairs than `table` has room for
+ *   10 a wrong declaration: too many names, or one name twice, in whatever case
+ *   11 a wrong use of a name    12 braces more than 16 deep
+ *   16 the word `tests` behind more than six registers, asked with 8 to 12;
+ *      place of 8 to 12 and of 16: the byte of the text, from 0
+ *   13 more than 256 points    14 more pairs than `table` has room for
  *   15 a print that is longer than `out`, or than 4,096 bytes
  * The bits of a word and of a packed model: docs/SPEC.md, 2 and 7.4. Registers and
  * functions of a macro are numbered from 0 in the order of their declarations; tests are
@@ -37,9 +31,8 @@
  * test or not: headers, traces, models and counts have them, so keep names for two
  * registers more than are declared. Answers hold no names, so that the case of letters
  * never shows in them; only the print of fadzgime_layout has names, as they are declared.
- * Subs are in no header, trace or model.
  *
- * Stack: at most 98 KB a call (fadzgime_verdict; read and layout 88 KB, model 17 KB, the
+ * Stack: at most 35 KB a call (fadzgime_verdict; read and layout 25 KB, model 17 KB, the
  * others at most 7 KB), whatever the input; tested on a thread of 128 KB. Nothing is
  * allocated or kept between calls, so calls on several threads do not disturb each other.
  */
@@ -279,13 +272,10 @@ void fadzgime_model(const uint8_t *trace, size_t trace_length,
 
 /*
  * Reads a macro: docs/SPEC.md, 8. Names and words are equal whatever the case of their
- * letters. Up to eight subs, `sub name { .. }`, may stand between the declarations and the
- * first statement, each of which may call those above it by `call name;`. `sub` and `call`
- * are words, and so no names.
- * answer[0] refusal (7; 8 to 12, 16, 17; 13), [1] place, [2] registers, [3] functions,
+ * letters.
+ * answer[0] refusal (7 to 13, 16), [1] place, [2] registers, [3] functions,
  * [4] points. With a line of tests `result` and `truth` count as registers and tests as
- * functions; a statement that asks a test is two points. Points are those of the macro
- * with each call replaced by the body of its sub.
+ * functions; a statement that asks a test is two points.
  */
 void fadzgime_read(const uint8_t *text, size_t text_length,
                    uint64_t *answer, size_t answer_length);
@@ -294,9 +284,8 @@ void fadzgime_read(const uint8_t *text, size_t text_length,
  * Prints a macro in the house layout: docs/SPEC.md, 8.6. Names stand as they are
  * declared and words in lower case. One blank stands between two words or names (`1` and
  * `2` are words here), none elsewhere, and an LF after each `;`, `{` and `}`. Comments
- * are dropped, and so is an else without statements. Subs and calls stand as they were
- * written, also a sub that nothing calls.
- * answer[0] refusal (those of fadzgime_read, then 15), [1] place,
+ * are dropped, and so is an else without statements.
+ * answer[0] refusal (7 to 13 and 16, as fadzgime_read gives them, then 15), [1] place,
  * [2] bytes of the print written to `out`, with no zero byte at their end; the bytes
  * behind stay. 15, at place 0: the print is longer than `out`, or than
  * FADZGIME_LAYOUT_OUTPUT bytes even if `out` is longer; a print that just fits is
@@ -329,14 +318,13 @@ void fadzgime_layout(const uint8_t *text, size_t text_length,
 /*
  * The verdict on a macro: can an assertion fail, in some data model, in some
  * execution?
- * answer[0] refusal (those of fadzgime_read, then 14, 6), [1] place, [2] verdict
- * (FADZGIME_PASS, _FAIL or _INCOHERENT), [3] pairs, [4] letters of the execution that
- * shows it (0 on pass).
+ * answer[0] refusal (7 to 13, 16, 14, 6), [1] place, [2] verdict (FADZGIME_PASS, _FAIL or
+ * _INCOHERENT), [3] pairs, [4] letters of the execution that shows it (0 on pass).
  *
  * `table` is room for the search, FADZGIME_PAIR_BYTES a pair, at most
  * FADZGIME_MOST_PAIRS of them; more bytes are not needed, fewer may give 14. What it
  * holds before does not matter. After a search, whatever it finds, every byte of it is
- * zero; a refusal of fadzgime_read leaves it untouched.
+ * zero; a refusal 7 to 13 or 16 leaves it untouched.
  *
  * `out` gets the execution as a packed trace of 2 + 2 * answer[4] bytes, and on fail
  * its packed model after it, of 4 + 2 * registers + 5 * rows bytes; the bytes behind
@@ -344,8 +332,8 @@ void fadzgime_layout(const uint8_t *text, size_t text_length,
  * which one of FADZGIME_VERDICT_OUTPUT bytes never is. The execution has at most as
  * many letters as answer[3] says pairs, so with a table of N pairs 22 + 7 * N bytes are
  * enough. An execution of more than N letters comes behind more than N pairs: that is
- * 14, not 6. The trace has the header that fadzgime_read counts, two letters for each
- * test with a name that was asked, and of a call the letters of the sub's body.
+ * 14, not 6. The trace has the header that fadzgime_read counts, and two letters for each
+ * test with a name that was asked.
  */
 void fadzgime_verdict(const uint8_t *text, size_t text_length,
                       uint8_t *table, size_t table_length,

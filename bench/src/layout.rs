@@ -3,7 +3,6 @@
 use std::hint::black_box;
 use std::time::Duration;
 
-use fadzgime_tests::answers::storeys;
 use fadzgime_tests::examples::example_macros;
 use fadzgime_tests::oracle::layout::layout;
 use fadzgime_tests::oracle::refusal::Refusal;
@@ -64,7 +63,6 @@ fn macros() -> Vec<(String, String)> {
         ("681 skips", format!("vars xyz;{}", "skip;".repeat(681))),
         ("256 assignments", format!("{DECLARATIONS}{steps}")),
         ("16 deep, 5 times", format!("{DECLARATIONS}{}", blocks.repeat(5))),
-        ("eight subs, 490 calls", storeys("", 8, 70)),
         ("a long comment", format!("vars x;#{}", "-".repeat(4_088))),
         ("blanks among names", format!("vars a{}b;{}", " ".repeat(2_700), "b:=b;".repeat(256))),
     ];

@@ -16,8 +16,6 @@ mod lively;
 mod measure;
 #[cfg(feature = "monitor")]
 mod monitor;
-#[cfg(feature = "read")]
-mod reader;
 #[cfg(feature = "model")]
 mod solver;
 mod table;
@@ -61,8 +59,6 @@ fn print_tables(count: bool) {
         display::table(count),
         #[cfg(feature = "model")]
         engine::table(count),
-        #[cfg(feature = "read")]
-        reader::table(count),
         #[cfg(feature = "verdict")]
         verdict::table(count),
         #[cfg(feature = "layout")]
@@ -93,8 +89,6 @@ fn sides<'a>(call: &Call<'a>) -> Box<dyn Sides + 'a> {
         monitor::NAME => Box::new(monitor::Run::new(call.input)),
         #[cfg(feature = "model")]
         engine::NAME => Box::new(engine::Run::new(call.input)),
-        #[cfg(feature = "read")]
-        reader::NAME => Box::new(reader::Run::new(call.input)),
         #[cfg(feature = "verdict")]
         verdict::NAME => Box::new(verdict::Run::new(call.input, call.table)),
         #[cfg(feature = "layout")]

@@ -1,10 +1,9 @@
-//! The verdict on example macros, on macros that fill the table, on long ones with many unequal
-//! pairs, and on one whose points are made by calls.
+//! The verdict on example macros, on macros that fill the table, and on long ones with many unequal
+//! pairs.
 
 use std::hint::black_box;
 use std::time::Duration;
 
-use fadzgime_tests::answers::storeys;
 use fadzgime_tests::examples::example_macros;
 use fadzgime_tests::fast::search::fast_search;
 use fadzgime_tests::oracle::reader::read_macro;
@@ -163,7 +162,6 @@ fn macros() -> Vec<(String, String, usize)> {
         ("corners in a line", corners_in_a_line("", 8, 28), TABLE),
         ("corners in two lines", corners_in_a_line("if g != h { } ", 6, 31), LARGEST),
         ("corners shifted", corners_shifted(), TABLE),
-        ("256 points by calls", storeys("x:=x;", 5, 4), TABLE),
     ];
     macros.extend(made.map(|(name, text, bytes)| (name.to_string(), text, bytes)));
     macros

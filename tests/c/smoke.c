@@ -50,11 +50,6 @@ int main(void) {
     static const char line[] = "vars x;";
     static const uint8_t *const tidy = (const uint8_t *)line;
     static const char unknown[] = "vars x; x := y;";
-    /* A macro with a sub, which is called in two spellings; and a ninth sub, which has the name of the first. */
-    static const char shared[] = "vars x y;Sub Eq{assert x=y;}x:=y;CALL eq;call EQ;";
-    static const uint8_t *const pieces = (const uint8_t *)shared;
-    static const char ninth[] =
-        "vars x;sub a{}sub b{}sub c{}sub d{}sub e{}sub f{}sub g{}sub h{}sub A{}";
     uint8_t table[576];
     uint8_t out[64];
     uint64_t answer[6];
@@ -156,10 +151,6 @@ int main(void) {
     show("read", answer, 5);
     fadzgime_read((const uint8_t *)repeated, strlen(repeated), answer, 5);
     show("read", answer, 5);
-    fadzgime_read(pieces, strlen(shared), answer, 5);
-    show("read", answer, 5);
-    fadzgime_read((const uint8_t *)ninth, strlen(ninth), answer, 5);
-    show("read", answer, 5);
 
     fadzgime_layout(untidy, strlen(loose), out, sizeof out, answer, 3);
     show("layout", answer, 3);
@@ -171,9 +162,6 @@ int main(void) {
     show("layout", answer, 3);
     fadzgime_layout((const uint8_t *)unknown, strlen(unknown), out, 0, answer, 3);
     show("layout", answer, 3);
-    fadzgime_layout(pieces, strlen(shared), out, sizeof out, answer, 3);
-    show("layout", answer, 3);
-    fwrite(out, 1, (size_t)answer[2], stdout);
 
     fadzgime_verdict(text, strlen(macro), table, sizeof table, out, sizeof out, answer, 5);
     show("verdict", answer, 5);
@@ -186,8 +174,6 @@ int main(void) {
     fadzgime_verdict(passing, strlen(loop), table, sizeof table, out, 0, answer, 5);
     show("verdict", answer, 5);
     fadzgime_verdict(passing, strlen(loop), table, sizeof table - 1, out, 0, answer, 5);
-    show("verdict", answer, 5);
-    fadzgime_verdict(pieces, strlen(shared), table, sizeof table, out, sizeof out, answer, 5);
     show("verdict", answer, 5);
 
     /* NULL for each slice of length 0, one after the other. */

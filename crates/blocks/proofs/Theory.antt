@@ -4,5 +4,4 @@ pub mod TableLaws
 pub mod Redirect
 pub mod OutcomeLaws
 pub mod CodeLaws
-pub mod Bodies
 pub mod CycleLaws

@@ -1,16 +1,12 @@
 -- How the code holds the points of a macro (SPEC 9.3).
-use Rattle.std.specs.Prelude.{ℕ, zero, suc, ◌+◌, ◌*◌, ◌-◌, ◌%◌, ◌≤◌, ◌<◌, ◌≡◌, Bool, List, [], ◌∷◌, ◌++◌, map, eqb, ltb, length, get_or, take, drop, replicate}
+use Rattle.std.specs.Prelude.{ℕ, ◌+◌, ◌-◌, ◌≡◌, Bool, List, [], ◌∷◌, ◌++◌, eqb, length, get_or, drop, replicate}
 use Rattle.base.specs.Choice.{pick}
 use Rattle.base.specs.Each.{each_up_to}
 use Rattle.letters.specs.Packing.{split}
 use Rattle.letters.specs.declared.Letter.{Letter}
 use Rattle.letters.specs.declared.Letter.TheVariants.{Copy, Apply, Equal, Unequal}
 use Rattle.macros.specs.Tree.{test}
-use Rattle.macros.specs.Tree as macro
-use Rattle.macros.specs.Points.{size_block, compile_block}
 use Rattle.macros.specs.Points as points
-use Rattle.grammar.specs.Tree.{Block, empty}
-use Rattle.grammar.specs.Expanded.{expanded_block}
 use Rattle.grammar.specs.Limits.{most_points}
 use Rattle.blocks.specs.declared.PointEntry.{PointEntry}
 use Rattle.blocks.specs.declared.ReaderState.{ReaderState}
@@ -124,70 +120,3 @@ backpatched f n = pick (eqb n unknown) (λ _. f) λ _. n
 -- the count of points once there are more than the most
 abbrev pub too_many : ℕ
 too_many = most_points + 1
-
--- ---- the points of the subs that may be called (document 02, request 7)
-
--- A sub's points are held as numbers: their count, and then so many for each: its code, and the two points that follow.
-abbrev pub point_numbers : ℕ
-point_numbers = 3
-
--- where those of a point stand behind the numbers of the points before it, the count among them
-abbrev pub code_place : ℕ
-code_place = 1
-
-abbrev pub first_place : ℕ
-first_place = 2
-
-abbrev pub second_place : ℕ
-second_place = 3
-
--- the numbers of n points, with the count
-abbrev pub numbers_of : ℕ → ℕ
-numbers_of n = 1 + point_numbers * n
-
-abbrev pub sub_space : ℕ
-sub_space = numbers_of most_points
-
-abbrev pub body_point : List ℕ → ℕ → PointEntry
-body_point part i =
-    point_of_code (get_or part (point_numbers * i + code_place) 0) (get_or part (point_numbers * i + first_place) 0) (get_or part (point_numbers * i + second_place) 0)
-
--- the first n of them
-unfoldable pub body_points : List ℕ → ℕ → List PointEntry
-body_points part zero = []
-body_points part (suc n) = body_points part n ++ body_point part n ∷ []
-
--- `part` holds the points of e, numbered from 0 on, where what follows is not yet known; of more than the most it holds that alone
-pub record HoldsBody (e : macro.Block) (part : List ℕ) : Type 0 where
-  pub few : size_block e ≤ most_points → get_or part 0 0 ≡ size_block e
-  pub points : size_block e ≤ most_points → body_points part (size_block e) ≡ map held_point (compile_block e 0 unknown)
-  pub many : most_points < size_block e → get_or part 0 0 ≡ too_many
-
--- the numbers `bodies` hold the points of c subs, one behind the other; their statements, without calls, are bs, behind n declared registers (Expanded.antt)
-pub record HoldsBodies (n : ℕ) (bs : List Block) (bodies : List ℕ) (c : ℕ) : Type 0 where
-  pub size : length bs ≡ c
-  pub held : (i : ℕ) → i < c → HoldsBody (expanded_block n (get_or bs i empty)) (drop (sub_space * i) bodies)
-
--- how many points are stored: of too many none
-abbrev pub stored_points : ℕ → ℕ
-stored_points count = pick (ltb most_points count) (λ _. 0) λ _. count
-
--- The count and the first `count` of the points ps are stored as those of a sub, of too many the count alone; behind these numbers nothing changes. Free is
--- one thing: which of a point's codes stands for it.
-pub record BodyStored (part stored : List ℕ) (ps : List PointEntry) (count : ℕ) : Type 0 where
-  pub size : length stored ≡ length part
-  pub counted : get_or stored 0 0 ≡ count
-  pub points : count ≤ most_points → count ≤ length ps → body_points stored count ≡ take count ps
-  pub beyond : (i : ℕ) → numbers_of (stored_points count) ≤ i → get_or stored i 0 ≡ get_or part i 0
-
--- how many numbers a point that follows may have
-abbrev pub successor_numbers : ℕ
-successor_numbers = 65536
-
--- a point that follows, where the points of a sub stand from `base` on, as the code computes it: of points that fit it is n + base (`shifted-block`)
-unfoldable pub shifted_by : ℕ → ℕ → ℕ
-shifted_by base n = pick (eqb n unknown) (λ _. unknown) λ _. (n % successor_numbers + base) % successor_numbers
-
--- the second one, of a point with the code c: only an if and a while have one
-abbrev pub second_shifted_by : ℕ → ℕ → ℕ → ℕ
-second_shifted_by base c n = pick (eqb (get_or (split fields c) 0 0) fork_kind) (λ _. shifted_by base n) λ _. 0

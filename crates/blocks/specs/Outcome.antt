@@ -1,24 +1,21 @@
 -- What a reader of statements leaves.
-use Rattle.std.specs.Prelude.{◌≡◌, ℕ, suc, ◌+◌, ◌*◌, ◌-◌, ◌≤◌, ◌<◌, true, false, List, [], ◌∷◌, ◌++◌, map, ltb, leb, length, get_or}
+use Rattle.std.specs.Prelude.{◌≡◌, ℕ, suc, ◌+◌, ◌*◌, ◌-◌, ◌≤◌, ◌<◌, true, false, List, [], ◌∷◌, ◌++◌, map, ltb, leb, length}
 use Rattle.base.specs.Choice.{pick}
 use Rattle.letters.specs.declared.Letter.{Letter}
-use Rattle.macros.specs.Tree as macro
 use Rattle.macros.specs.Points.{compile_else, compile_block}
 use Rattle.tokens.specs.declared.Token.{Token}
 use Rattle.tokens.specs.Tokens.{token_at}
 use Rattle.tokens.specs.Words as word
-use Rattle.grammar.specs.Limits.{most_points, most_subs}
-use Rattle.grammar.specs.Tree.{Statement, Else, Block, empty, if, while}
-use Rattle.grammar.specs.Inlined.{inlined_statement, inlined_else, inlined_block}
-use Rattle.grammar.specs.Expanded.{expanded_else, expanded_block}
+use Rattle.grammar.specs.Limits.{most_points}
+use Rattle.grammar.specs.Tree.{Statement, Else, Block, if, while}
+use Rattle.grammar.specs.Expanded.{expanded_statement, expanded_else, expanded_block}
 use Rattle.grammar.specs.Reading.{Got, got, exhausted, and_then, condition, braces_t, else_t, block, statement}
-use Rattle.phrases.specs.Codes.{Few, ended_use}
+use Rattle.phrases.specs.Codes.{Few}
 use Rattle.phrases.specs.declared.GotNumber as number
 use Rattle.phrases.specs.declared.GotLetter as letter
 use Rattle.phrases.specs.declared.GotCondition as held
-use Rattle.blocks.specs.Held.{step_kind, point, held_point, Progress, HoldsPoints, unknown, backpatched, too_many, sub_space, HoldsBody, HoldsBodies}
+use Rattle.blocks.specs.Held.{step_kind, point, held_point, Progress, HoldsPoints, unknown, backpatched, too_many}
 use Rattle.blocks.specs.declared.PointEntry.{PointEntry}
-use Rattle.blocks.specs.declared.ReaderState.{ReaderState}
 
 -- Read, on to the place e, with the points ps more; in front of them and behind them stand the points that were lent.
 -- Free are two things: what the arrays hold once there are more than the most points, of which no macro is made, and which of a point's codes stands for it.
@@ -30,10 +27,6 @@ pub record Fine (st r : Progress) (ps : List PointEntry) (e : ℕ) : Type 0 wher
   pub low : st.count + length ps ≤ most_points → r.count ≡ st.count + length ps
   pub high : most_points < st.count + length ps → r.count ≡ too_many
   pub laid : (old ds : List PointEntry) → HoldsPoints old st ds → length ds + length ps ≤ most_points → HoldsPoints old r (ds ++ ps)
-
--- read, on to a place, with so many points in all
-abbrev pub on : ℕ → ℕ → ReaderState
-on at n = record { ok = true; number = 0; place = 0; at = at; count = n }
 
 -- Refused by a number, at a place. Free is one thing: what the arrays hold, which no one reads beside a refusal.
 pub record RefusedAt (r : Progress) (n p : ℕ) : Type 0 where
@@ -73,19 +66,15 @@ Passed st r (number.TheVariants.Refused n p) = RefusedAt r n p
 
 -- ---- the points of what was read, where what follows is not yet known
 
--- behind n declared registers (Expanded.antt), where the statements of the subs are bs (Inlined.antt)
-unfoldable pub statement_code : ℕ → List Block → Statement → ℕ → List PointEntry
-statement_code n bs c base = map held_point (compile_block (expanded_block n (inlined_statement bs c)) base unknown)
+-- behind n declared registers (Expanded.antt)
+unfoldable pub statement_code : ℕ → Statement → ℕ → List PointEntry
+statement_code n c base = map held_point (compile_block (expanded_statement n c) base unknown)
 
-unfoldable pub else_code : ℕ → List Block → Else → ℕ → List PointEntry
-else_code n bs o base = map held_point (compile_else (expanded_else n (inlined_else bs o)) base unknown)
+unfoldable pub else_code : ℕ → Else → ℕ → List PointEntry
+else_code n o base = map held_point (compile_else (expanded_else n o) base unknown)
 
-unfoldable pub block_code : ℕ → List Block → Block → ℕ → List PointEntry
-block_code n bs b base = map held_point (compile_block (expanded_block n (inlined_block bs b)) base unknown)
-
--- the points of a call of sub number i
-abbrev pub call_code : ℕ → List Block → ℕ → ℕ → List PointEntry
-call_code n bs i base = map held_point (compile_block (expanded_block n (get_or bs i empty)) base unknown)
+unfoldable pub block_code : ℕ → Block → ℕ → List PointEntry
+block_code n b base = map held_point (compile_block (expanded_block n b) base unknown)
 
 -- ---- changes to the table
 
@@ -103,35 +92,18 @@ changed_to count n new old = pick (ltb most_points count) (λ _. old) λ _. pick
 
 -- ---- what each reader of statements asks, and what it ensures
 
--- there is room for the points of the subs cs in the numbers bodies
-pub record CallReady (cs bodies : List ℕ) (count : ℕ) : Type 0 where
-  pub subs : length cs ≤ most_subs
-  pub room : sub_space * length cs ≤ length bodies
+pub record ReaderReady (rs fs ns : List ℕ) (m count : ℕ) : Type 0 where
+  pub few : Few rs fs ns m
   pub counted : count ≤ too_many
 
--- The numbers `bodies` hold the points of the subs cs, whose statements are `above`. Without that nothing is known of the count, nor that a reader moves on.
-pub record ReaderReady (rs fs ns : List ℕ) (m : ℕ) (cs bodies : List ℕ) (count : ℕ) : Type 0 where
-  pub few : Few rs fs ns m
-  pub calls : CallReady cs bodies count
-  pub above : List Block
-  pub held : HoldsBodies (length rs) above bodies (length cs)
-
--- the points that the numbers `part` hold were copied: whatever statements they are the points of
-pub record Copied (part : List ℕ) (at : ℕ) (st r : Progress) : Type 0 where
-  pub copied : (e : macro.Block) → HoldsBody e part → Fine st r (map held_point (compile_block e st.count unknown)) at
-
--- a call, behind the word
-pub record CallRead (s cs : List ℕ) (at : ℕ) (bodies : List ℕ) (st r : Progress) : Type 0 where
-  pub outcome : (n : ℕ) (bs : List Block) → HoldsBodies n bs bodies (length cs) → ReadAs (call_code n bs) st r (ended_use s cs at)
-
-module _ (s rs fs ns : List ℕ) (m : ℕ) (cs : List ℕ) (d : ℕ) where
+module _ (s rs fs ns : List ℕ) (m d : ℕ) where
   -- calls enough for the bytes left
   abbrev pub Enough : ℕ → ℕ → Type 0
   Enough at k = 2 * (length s - at) ≤ k
 
   -- the block reader that a statement calls, with k calls left
   abbrev pub inner_block : ℕ → ℕ → ℕ → Got Block
-  inner_block k e a = block s rs fs ns m cs k e a
+  inner_block k e a = block s rs fs ns m k e a
 
   -- the braces and the else that begin at a place
   abbrev pub braces_at : ℕ → ℕ → Got Block
@@ -147,31 +119,24 @@ module _ (s rs fs ns : List ℕ) (m : ℕ) (cs : List ℕ) (d : ℕ) where
   abbrev pub while_at : ℕ → ℕ → Got Statement
   while_at k at = and_then (condition s rs fs ns m at) λ c a. and_then (braces_at k a) λ b e. got (while c b) e
 
-  -- the statements of the subs are any that the numbers bodies hold
-  module _ (bodies : List ℕ) where
-    abbrev pub BodiesHeld : List Block → Type 0
-    BodiesHeld bs = HoldsBodies (length rs) bs bodies (length cs)
+  pub record BlockRead (st r : Progress) : Type 0 where
+    pub outcome : (k : ℕ) → Enough st.at k → ReadAs (block_code (length rs)) st r (block s rs fs ns m (suc k) d st.at)
 
-    pub record BlockRead (st r : Progress) : Type 0 where
-      pub outcome : (bs : List Block) → BodiesHeld bs → (k : ℕ) → Enough st.at k
-          → ReadAs (block_code (length rs) bs) st r (block s rs fs ns m cs (suc k) d st.at)
+  pub record StatementRead (st r : Progress) : Type 0 where
+    pub outcome : (k : ℕ) → Enough st.at (suc k) → ReadAs (statement_code (length rs)) st r (statement s rs fs ns m (suc k) d st.at)
 
-    pub record StatementRead (st r : Progress) : Type 0 where
-      pub outcome : (bs : List Block) → BodiesHeld bs → (k : ℕ) → Enough st.at (suc k)
-          → ReadAs (statement_code (length rs) bs) st r (statement s rs fs ns m cs (suc k) d st.at)
+  pub record BracesRead (st r : Progress) : Type 0 where
+    pub outcome : (k : ℕ) → Enough st.at k → ReadAs (block_code (length rs)) st r (braces_at k st.at)
 
-    pub record BracesRead (st r : Progress) : Type 0 where
-      pub outcome : (bs : List Block) → BodiesHeld bs → (k : ℕ) → Enough st.at k → ReadAs (block_code (length rs) bs) st r (braces_at k st.at)
+  pub record ElseRead (st r : Progress) : Type 0 where
+    pub outcome : (k : ℕ) → Enough st.at k → ReadAs (else_code (length rs)) st r (else_at k st.at)
 
-    pub record ElseRead (st r : Progress) : Type 0 where
-      pub outcome : (bs : List Block) → BodiesHeld bs → (k : ℕ) → Enough st.at k → ReadAs (else_code (length rs) bs) st r (else_at k st.at)
+  pub record ConditionalRead (st r : Progress) : Type 0 where
+    pub outcome : (k : ℕ) → Enough st.at k → ReadAs (statement_code (length rs)) st r (if_at k st.at)
 
-    pub record ConditionalRead (st r : Progress) : Type 0 where
-      pub outcome : (bs : List Block) → BodiesHeld bs → (k : ℕ) → Enough st.at k → ReadAs (statement_code (length rs) bs) st r (if_at k st.at)
-
-    pub record RepeatRead (st r : Progress) : Type 0 where
-      pub outcome : (bs : List Block) → BodiesHeld bs → (k : ℕ) → Enough st.at k → ReadAs (statement_code (length rs) bs) st r (while_at k st.at)
+  pub record RepeatRead (st r : Progress) : Type 0 where
+    pub outcome : (k : ℕ) → Enough st.at k → ReadAs (statement_code (length rs)) st r (while_at k st.at)
 
 -- the statement at a place whose token t begins no statement with a block in it
-pub record PlainRead (s rs fs ns : List ℕ) (m : ℕ) (cs : List ℕ) (t : Token) (bodies : List ℕ) (st r : Progress) : Type 0 where
-  pub read : (d : ℕ) → t ≡ token_at s st.at → (t.key ≡ word.if_key → ⊥) → (t.key ≡ word.while_key → ⊥) → StatementRead s rs fs ns m cs d bodies st r
+pub record PlainRead (s rs fs ns : List ℕ) (m : ℕ) (t : Token) (st r : Progress) : Type 0 where
+  pub read : (d : ℕ) → t ≡ token_at s st.at → (t.key ≡ word.if_key → ⊥) → (t.key ≡ word.while_key → ⊥) → StatementRead s rs fs ns m d st r

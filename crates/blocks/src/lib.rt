@@ -1,12 +1,11 @@
 // Statements and blocks of a macro, and the table of its points (SPEC 8.3, 9.3).
-ghost use Rattle.std.specs.Prelude.{◌≡◌, List, [], ◌∷◌, ◌+◌, ◌-◌, ◌≤◌, length, set};
+ghost use Rattle.std.specs.Prelude.{◌≡◌, List, [], ◌∷◌, ◌+◌, ◌≤◌, set};
 ghost use Rattle.base.specs.Each.{each};
 ghost use Rattle.letters.specs.Packing.{split};
 ghost use Rattle.grammar.specs.Limits.{most_points};
 ghost use Rattle.blocks.specs.Held.{fields, point, point_of_code, table_of_codes, Coded, progress_of, held_by, unknown, backpatched, too_many};
-ghost use Rattle.blocks.specs.Held.{unused_point, points_of, sub_space, shifted_by, second_shifted_by, BodyStored};
-ghost use Rattle.blocks.specs.Outcome.{on, backpatched_in, begins, changed_to, Fine, RefusedAt, Settled, Weighed, Passed, ReaderReady};
-ghost use Rattle.blocks.specs.Outcome.{Copied, CallReady, CallRead};
+ghost use Rattle.blocks.specs.Held.{unused_point};
+ghost use Rattle.blocks.specs.Outcome.{backpatched_in, begins, changed_to, Fine, RefusedAt, Settled, Weighed, Passed, ReaderReady};
 ghost use Rattle.blocks.specs.Outcome.{PlainRead, BlockRead, StatementRead, BracesRead, ElseRead, ConditionalRead, RepeatRead};
 
 use letters::Letter;
@@ -63,25 +62,6 @@ const TOO_MANY: u16 = MOST_POINTS + 1;
 // While a text is read, what follows and is not yet known: the number of no point.
 const UNKNOWN: u16 = MOST_POINTS;
 
-// The same, where a number of the points of a sub is read.
-const UNKNOWN_IN_BODY: u64 = MOST_POINTS as u64;
-
-// The numbers that hold a point of a sub: its code, and the two points that follow.
-const POINT_NUMBERS: usize = 3;
-
-/// The numbers that hold the points of a sub: their count, `TOO_MANY` for more than `MOST_POINTS`, and then the numbers of each point.
-pub const SUB_SPACE: usize = 1 + POINT_NUMBERS * POINT_SPACE;
-
-// Where the numbers of a point stand behind those of the points before it, the count among them.
-const CODE_PLACE: usize = 1;
-
-const FIRST_PLACE: usize = 2;
-
-const SECOND_PLACE: usize = 3;
-
-// How many numbers a point that follows may have.
-const SUCCESSOR_NUMBERS: u64 = 65536;
-
 /// The kind and the letter of each point as one number, a byte for each field.
 pub type Codes = [u64; POINT_SPACE];
 
@@ -96,9 +76,6 @@ const APPLY: u8 = 1;
 const EQUAL: u8 = 2;
 
 const UNEQUAL: u8 = 3;
-
-// The kind of a point that is an if or a while, as a field of its code.
-const FORK_IN_CODE: u64 = FORK as u64;
 
 // A byte for each field of a code.
 const BYTE: u64 = 256;
@@ -248,49 +225,6 @@ fn moved(st: ReaderState, at: usize) -> ReaderState
     }
 }
 
-// On to a place, where there are more points than the most.
-fn overfull(at: usize) -> ReaderState
-    ensures { result ≡ on at too_many }
-{
-    ReaderState {
-        ok: true,
-        number: 0,
-        place: 0,
-        at: at,
-        count: TOO_MANY,
-    }
-}
-
-// On to a place, with one point more, whose code is `entry`, and which `next` and `other` follow.
-fn appended(
-    st: ReaderState,
-    entry: u64,
-    next: u16,
-    other: u16,
-    at: usize,
-    code: &mut Codes,
-    first: &mut Successors,
-    second: &mut Successors,
-) -> ReaderState
-    ensures { Fine (held_by st code.old first.old second.old)
-        (held_by result code.new first.new second.new) (point_of_code entry next other ∷ []) at }
-{
-    let n = st.count;
-    if n < MOST_POINTS {
-        code[n as usize] = entry;
-        first[n as usize] = next;
-        second[n as usize] = other;
-        return ReaderState {
-            ok: true,
-            number: 0,
-            place: 0,
-            at: at,
-            count: n + 1,
-        };
-    }
-    overfull(at)
-}
-
 // On to a place, with one point more, which `next` follows.
 fn pushed(
     st: ReaderState,
@@ -305,7 +239,26 @@ fn pushed(
     ensures { Fine (held_by st code.old first.old second.old)
         (held_by result code.new first.new second.new) (point kind letter next 0 ∷ []) at }
 {
-    appended(st, code_of(kind, letter), next, 0, at, code, first, second)
+    let n = st.count;
+    if n < MOST_POINTS {
+        code[n as usize] = code_of(kind, letter);
+        first[n as usize] = next;
+        second[n as usize] = 0;
+        return ReaderState {
+            ok: true,
+            number: 0,
+            place: 0,
+            at: at,
+            count: n + 1,
+        };
+    }
+    ReaderState {
+        ok: true,
+        number: 0,
+        place: 0,
+        at: at,
+        count: TOO_MANY,
+    }
 }
 
 // On behind a letter that was read, with a point more that performs it, or the refusal.
@@ -443,128 +396,8 @@ fn repeat_from(count: u16, test: u16, back: u16, first: &mut Successors, second:
     second[test as usize] = UNKNOWN;
 }
 
-// How many points still fit behind so many.
-fn room(count: u16) -> u64
-    ensures { result ≡ most_points - count }
-{
-    if count < MOST_POINTS {
-        return (MOST_POINTS - count) as u64;
-    }
-    0
-}
-
-// The point number n of a sub, where its points stand from number `base` on.
-fn shifted(n: u64, base: u16) -> u16
-    ensures { result ≡ shifted_by base n }
-{
-    if n == UNKNOWN_IN_BODY {
-        return UNKNOWN;
-    }
-    ((n % SUCCESSOR_NUMBERS + base as u64) % SUCCESSOR_NUMBERS) as u16
-}
-
-// The same of the second that follows a point with the code `entry`: only an if and a while have one.
-fn second_shifted(entry: u64, n: u64, base: u16) -> u16
-    ensures { result ≡ second_shifted_by base entry n }
-{
-    if entry / KIND % BYTE == FORK_IN_CODE {
-        return shifted(n, base);
-    }
-    0
-}
-
-// On behind a call, with the points of a sub more. They are copied, each with the numbers that it has here.
-fn called(
-    st: ReaderState,
-    part: &[u64],
-    at: usize,
-    code: &mut Codes,
-    first: &mut Successors,
-    second: &mut Successors,
-) -> ReaderState
-    requires { (sub_space ≤ length part.now) × (st.count ≤ too_many) }
-    ensures { Copied part.now at (held_by st code.old first.old second.old)
-        (held_by result code.new first.new second.new) }
-{
-    let size = part[0];
-    let base = st.count;
-    if room(base) < size {
-        return overfull(at);
-    }
-    let mut cur = moved(st, at);
-    let mut i: usize = 0;
-    while (i as u64) < size {
-        let place = POINT_NUMBERS * i;
-        let entry = part[place + CODE_PLACE];
-        let next = shifted(part[place + FIRST_PLACE], base);
-        let other = second_shifted(entry, part[place + SECOND_PLACE], base);
-        cur = appended(cur, entry, next, other, at, code, first, second);
-        i += 1;
-    }
-    cur
-}
-
-// Behind `call`: a sub by its name, and `;`.
-fn call_sub(
-    text: &[u8],
-    subs: &[u64],
-    bodies: &[u64],
-    st: ReaderState,
-    at: usize,
-    code: &mut Codes,
-    first: &mut Successors,
-    second: &mut Successors,
-) -> ReaderState
-    requires { CallReady subs.now bodies.now st.count }
-    ensures { CallRead text.now subs.now at bodies.now
-        (held_by st code.old first.old second.old)
-        (held_by result code.new first.new second.new) }
-{
-    let g = phrases::ended_use(text, subs, at);
-    match g {
-        GotNumber::At(i, e) => {
-            let from = SUB_SPACE * (i as usize);
-            called(st, &bodies[from..], e, code, first, second)
-        }
-        GotNumber::Refused(n, p) => stopped(n, p),
-    }
-}
-
-// A point that follows, as a number among those of a sub.
-fn wide(n: u16) -> u64
-    ensures { result ≡ n }
-{
-    n as u64
-}
-
-/// Stores the first `count` points that the arrays hold as those of a sub, or that there are more than `MOST_POINTS`.
-pub fn store_body(
-    part: &mut [u64],
-    code: &Codes,
-    first: &Successors,
-    second: &Successors,
-    count: u16,
-)
-    requires { sub_space ≤ length part.old }
-    ensures { BodyStored part.old part.new (points_of code.now first.now second.now) count }
-{
-    part[0] = count as u64;
-    if MOST_POINTS < count {
-        return;
-    }
-    let mut i: usize = 0;
-    while i < count as usize {
-        let place = POINT_NUMBERS * i;
-        part[place + CODE_PLACE] = code[i];
-        part[place + FIRST_PLACE] = wide(first[i]);
-        part[place + SECOND_PLACE] = wide(second[i]);
-        i += 1;
-    }
-}
-
 /// Statements up to the block's end: `}` or the end of the text. Blocks in it lie at most `depth` deep.
 /// Their points go into the arrays behind those that `st` counts. The functions from number `first_test` on are tests.
-/// The names of the subs that may be called are `subs`; `bodies` holds their points, those of sub number i in `SUB_SPACE` numbers from `SUB_SPACE * i` on.
 #[cycle(block_braces_conditional_otherwise_repeat_statement)]
 pub fn block(
     text: &[u8],
@@ -572,17 +405,14 @@ pub fn block(
     funs: &[u64],
     arities: &[u8],
     first_test: u8,
-    subs: &[u64],
-    bodies: &[u64],
     st: ReaderState,
     depth: usize,
     code: &mut Codes,
     first: &mut Successors,
     second: &mut Successors,
 ) -> ReaderState
-    requires { ReaderReady regs.now funs.now arities.now first_test subs.now bodies.now st.count }
-    ensures { BlockRead text.now regs.now funs.now arities.now first_test subs.now depth
-        bodies.now
+    requires { ReaderReady regs.now funs.now arities.now first_test st.count }
+    ensures { BlockRead text.now regs.now funs.now arities.now first_test depth
         (held_by st code.old first.old second.old)
         (held_by result code.new first.new second.new) }
 {
@@ -599,7 +429,7 @@ pub fn block(
         }
         let to = cur.count;
         let one = statement(
-            text, regs, funs, arities, first_test, subs, bodies, cur, depth, code, first, second,
+            text, regs, funs, arities, first_test, cur, depth, code, first, second,
         );
         if one.ok {
             join(one.count, from, to, first, second);
@@ -618,17 +448,14 @@ fn statement(
     funs: &[u64],
     arities: &[u8],
     first_test: u8,
-    subs: &[u64],
-    bodies: &[u64],
     st: ReaderState,
     depth: usize,
     code: &mut Codes,
     first: &mut Successors,
     second: &mut Successors,
 ) -> ReaderState
-    requires { ReaderReady regs.now funs.now arities.now first_test subs.now bodies.now st.count }
-    ensures { StatementRead text.now regs.now funs.now arities.now first_test subs.now depth
-        bodies.now
+    requires { ReaderReady regs.now funs.now arities.now first_test st.count }
+    ensures { StatementRead text.now regs.now funs.now arities.now first_test depth
         (held_by st code.old first.old second.old)
         (held_by result code.new first.new second.new) }
 {
@@ -636,17 +463,17 @@ fn statement(
     if t.key == tokens::IF {
         let p = moved(st, t.end);
         return conditional(
-            text, regs, funs, arities, first_test, subs, bodies, p, depth, code, first, second,
+            text, regs, funs, arities, first_test, p, depth, code, first, second,
         );
     }
     if t.key == tokens::WHILE {
         let p = moved(st, t.end);
         return repeat(
-            text, regs, funs, arities, first_test, subs, bodies, p, depth, code, first, second,
+            text, regs, funs, arities, first_test, p, depth, code, first, second,
         );
     }
     plain(
-        text, regs, funs, arities, first_test, subs, bodies, st, t, code, first, second,
+        text, regs, funs, arities, first_test, st, t, code, first, second,
     )
 }
 
@@ -657,17 +484,14 @@ fn plain(
     funs: &[u64],
     arities: &[u8],
     first_test: u8,
-    subs: &[u64],
-    bodies: &[u64],
     st: ReaderState,
     t: Token,
     code: &mut Codes,
     first: &mut Successors,
     second: &mut Successors,
 ) -> ReaderState
-    requires { ReaderReady regs.now funs.now arities.now first_test subs.now bodies.now st.count }
-    ensures { PlainRead text.now regs.now funs.now arities.now first_test subs.now t
-        bodies.now
+    requires { ReaderReady regs.now funs.now arities.now first_test st.count }
+    ensures { PlainRead text.now regs.now funs.now arities.now first_test t
         (held_by st code.old first.old second.old)
         (held_by result code.new first.new second.new) }
 {
@@ -682,9 +506,6 @@ fn plain(
     if k == tokens::ASSERT {
         let g = phrases::tested(text, regs, funs, arities, first_test, t.end);
         return weighed(st, CHECK, g, code, first, second);
-    }
-    if k == tokens::CALL {
-        return call_sub(text, subs, bodies, st, t.end, code, first, second);
     }
     if tokens::is_name(k) {
         let g = phrases::assignment(text, regs, funs, arities, first_test, st.at);
@@ -701,17 +522,14 @@ fn conditional(
     funs: &[u64],
     arities: &[u8],
     first_test: u8,
-    subs: &[u64],
-    bodies: &[u64],
     st: ReaderState,
     depth: usize,
     code: &mut Codes,
     first: &mut Successors,
     second: &mut Successors,
 ) -> ReaderState
-    requires { ReaderReady regs.now funs.now arities.now first_test subs.now bodies.now st.count }
-    ensures { ConditionalRead text.now regs.now funs.now arities.now first_test subs.now depth
-        bodies.now
+    requires { ReaderReady regs.now funs.now arities.now first_test st.count }
+    ensures { ConditionalRead text.now regs.now funs.now arities.now first_test depth
         (held_by st code.old first.old second.old)
         (held_by result code.new first.new second.new) }
 {
@@ -719,12 +537,11 @@ fn conditional(
     let p = weighed(st, FORK, g, code, first, second);
     if p.ok {
         let one = braces(
-            text, regs, funs, arities, first_test, subs, bodies, p, depth, code, first, second,
+            text, regs, funs, arities, first_test, p, depth, code, first, second,
         );
         if one.ok {
             let two = otherwise(
-                text, regs, funs, arities, first_test, subs, bodies, one, depth, code, first,
-                second,
+                text, regs, funs, arities, first_test, one, depth, code, first, second,
             );
             if two.ok {
                 let test = p.count - 1;
@@ -746,17 +563,14 @@ fn otherwise(
     funs: &[u64],
     arities: &[u8],
     first_test: u8,
-    subs: &[u64],
-    bodies: &[u64],
     st: ReaderState,
     depth: usize,
     code: &mut Codes,
     first: &mut Successors,
     second: &mut Successors,
 ) -> ReaderState
-    requires { ReaderReady regs.now funs.now arities.now first_test subs.now bodies.now st.count }
-    ensures { ElseRead text.now regs.now funs.now arities.now first_test subs.now depth
-        bodies.now
+    requires { ReaderReady regs.now funs.now arities.now first_test st.count }
+    ensures { ElseRead text.now regs.now funs.now arities.now first_test depth
         (held_by st code.old first.old second.old)
         (held_by result code.new first.new second.new) }
 {
@@ -765,7 +579,7 @@ fn otherwise(
     if t.key == tokens::ELSE {
         let p = moved(st, t.end);
         return braces(
-            text, regs, funs, arities, first_test, subs, bodies, p, depth, code, first, second,
+            text, regs, funs, arities, first_test, p, depth, code, first, second,
         );
     }
     moved(st, at)
@@ -779,17 +593,14 @@ fn repeat(
     funs: &[u64],
     arities: &[u8],
     first_test: u8,
-    subs: &[u64],
-    bodies: &[u64],
     st: ReaderState,
     depth: usize,
     code: &mut Codes,
     first: &mut Successors,
     second: &mut Successors,
 ) -> ReaderState
-    requires { ReaderReady regs.now funs.now arities.now first_test subs.now bodies.now st.count }
-    ensures { RepeatRead text.now regs.now funs.now arities.now first_test subs.now depth
-        bodies.now
+    requires { ReaderReady regs.now funs.now arities.now first_test st.count }
+    ensures { RepeatRead text.now regs.now funs.now arities.now first_test depth
         (held_by st code.old first.old second.old)
         (held_by result code.new first.new second.new) }
 {
@@ -797,7 +608,7 @@ fn repeat(
     let p = weighed(st, FORK, g, code, first, second);
     if p.ok {
         let body = braces(
-            text, regs, funs, arities, first_test, subs, bodies, p, depth, code, first, second,
+            text, regs, funs, arities, first_test, p, depth, code, first, second,
         );
         if body.ok {
             let test = p.count - 1;
@@ -809,25 +620,22 @@ fn repeat(
     p
 }
 
-/// A block in braces, one deeper. All else is as `block` has it.
+// A block in braces, one deeper.
 #[cycle(block_braces_conditional_otherwise_repeat_statement)]
-pub fn braces(
+fn braces(
     text: &[u8],
     regs: &[u64],
     funs: &[u64],
     arities: &[u8],
     first_test: u8,
-    subs: &[u64],
-    bodies: &[u64],
     st: ReaderState,
     depth: usize,
     code: &mut Codes,
     first: &mut Successors,
     second: &mut Successors,
 ) -> ReaderState
-    requires { ReaderReady regs.now funs.now arities.now first_test subs.now bodies.now st.count }
-    ensures { BracesRead text.now regs.now funs.now arities.now first_test subs.now depth
-        bodies.now
+    requires { ReaderReady regs.now funs.now arities.now first_test st.count }
+    ensures { BracesRead text.now regs.now funs.now arities.now first_test depth
         (held_by st code.old first.old second.old)
         (held_by result code.new first.new second.new) }
 {
@@ -844,8 +652,6 @@ pub fn braces(
             funs,
             arities,
             first_test,
-            subs,
-            bodies,
             p,
             depth - 1,
             code,

@@ -1,13 +1,11 @@
 pub mod Reading
 pub mod HeaderLaws
-pub mod Inlined
 pub mod Expanded
 pub mod Sound
 pub mod Complete
 pub mod Declarations
 pub mod Parts
 pub mod Advance
-pub mod Subs
 pub mod Whole
 pub mod Enough
 pub mod Hidden

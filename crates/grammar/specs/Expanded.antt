@@ -1,14 +1,13 @@
--- What a macro without calls performs (SPEC 9.1; document 02, request 4): "As source document 000 models relations, such a test applies a function into the
--- hidden register `result` and compares that with the hidden register `truth`". This is a function from tree to tree; executions and points are those of its
--- result.
+-- What a macro performs (SPEC 9.1; document 02, request 4): "As source document 000 models relations, such a test applies a function into the hidden
+-- register `result` and compares that with the hidden register `truth`". This is a function from tree to tree; executions and points are those of its result.
 use Rattle.std.specs.Prelude.{ℕ, suc}
 use Rattle.std.proofs.Math.Option.{Option, none, some}
 use Rattle.letters.specs.declared.Letter.{Letter}
 use Rattle.letters.specs.declared.Letter.TheVariants.{Apply}
 use Rattle.macros.specs.Tree.{perform, test, ◌then◌}
 use Rattle.macros.specs.Tree as macro
-use Rattle.grammar.specs.Tree.{Condition, equal, unequal, holds, fails, letter_of, Statement, skip, assign, assume, assert, if, while, call}
-use Rattle.grammar.specs.Tree.{Else, absent, present, Block, empty}
+use Rattle.grammar.specs.Tree.{Condition, equal, unequal, holds, fails, letter_of, Statement, skip, assign, assume, assert, if, while, Else}
+use Rattle.grammar.specs.Tree.{absent, present, Block, empty}
 use Rattle.grammar.specs.Tree as written
 
 -- one block after another
@@ -57,8 +56,6 @@ module _ (n : ℕ) where
     expanded_statement (assert c) = after (application c) (macro.assert (comparison c))
     expanded_statement (if c b e) = after (application c) (macro.if (comparison c) (expanded_block b) (expanded_else e))
     expanded_statement (while c b) = loop (application c) (comparison c) (expanded_block b) then macro.empty
-    -- calls are replaced before (Inlined.antt), and none is left (`inlined-uses` of proofs/Theory/Inlined.antt)
-    expanded_statement (call i) = macro.empty
 
     pub expanded_else : Else → macro.Else
     expanded_else absent = macro.absent

@@ -1,15 +1,14 @@
--- Macros with their names, and their sentences: the tokens that spell a macro (SPEC 8.3 to 8.5; document 01, and document 02, requests 4 and 7).
-use Rattle.std.specs.Prelude.{ℕ, zero, suc, ◌+◌, ◌*◌, List, [], ◌∷◌, ◌++◌, map, Bool, eqb, ltb, length, get_or, take, drop}
+-- Macros with their names, and their sentences: the tokens that spell a macro (SPEC 8.3 to 8.5; document 01).
+use Rattle.std.specs.Prelude.{ℕ, zero, suc, ◌+◌, ◌*◌, List, [], ◌∷◌, ◌++◌, Bool, eqb, ltb, length, get_or, take, drop}
 use Rattle.base.specs.Choice.{pick}
 use Rattle.letters.specs.declared.Header.{Header}
 use Rattle.macros.specs.Tree as macro
 use Rattle.tokens.specs.Words as word
-use Rattle.grammar.specs.Tree.{Condition, equal, unequal, holds, fails, Assignment, copy, apply, Statement, skip, assign, assume, assert, if, while, call}
-use Rattle.grammar.specs.Tree.{Else, absent, present, Block, empty, ◌then◌, Sub}
-use Rattle.grammar.specs.Inlined.{inlined_block, inlined_bodies}
+use Rattle.grammar.specs.Tree.{Condition, equal, unequal, holds, fails, Assignment, copy, apply, Statement, skip, assign, assume, assert, if, while, Else}
+use Rattle.grammar.specs.Tree.{absent, present, Block, empty, ◌then◌}
 use Rattle.grammar.specs.Expanded.{expanded_block}
 
--- A macro: the names of its registers, the names of its functions and how many arguments each takes, its subs, and its statements (SPEC 8).
+-- A macro: the names of its registers, the names of its functions and how many arguments each takes, and its statements (SPEC 8).
 -- Tests are functions behind the others ("tests follow the functions", document 02, request 4): those from number `first_test` on.
 -- A name is known by its number in lower case; beside it stands its number as it is spelled where it is declared (SPEC 8.4).
 pub record Macro : Type 0 where
@@ -19,15 +18,7 @@ pub record Macro : Type 0 where
   pub function_spellings : List ℕ
   pub arities : List ℕ
   pub first_test : ℕ
-  pub subs : List Sub
   pub body : Block
-
--- the names of subs, and how they are spelled
-abbrev pub sub_names : List Sub → List ℕ
-sub_names = map λ u. u.name
-
-abbrev pub sub_spellings : List Sub → List ℕ
-sub_spellings = map λ u. u.spelling
 
 -- "With that line the hidden registers follow the declared ones, `result` first" (document 02, request 4), where k functions are there, from number t on
 -- tests. They have the words for names (SPEC 8.4, 12.2).
@@ -52,13 +43,9 @@ header_of m = header (m.registers ++ hidden_of m) m.functions m.arities
 abbrev pub shown_registers : Macro → List ℕ
 shown_registers m = m.register_spellings ++ hidden_of m
 
--- The statements of a macro with each call replaced by the body of its sub (document 02, request 7).
-abbrev pub inlined : Macro → Block
-inlined m = inlined_block (inlined_bodies [] m.subs) m.body
-
--- The macro with its calls replaced, and then its tests as letters: its points and executions are those of this tree (SPEC 9.1 to 9.3).
+-- The macro with its tests as letters: its points and executions are those of this tree (SPEC 9.1 to 9.3).
 abbrev pub expanded : Macro → macro.Block
-expanded m = expanded_block (length m.registers) (inlined m)
+expanded m = expanded_block (length m.registers) m.body
 
 -- ---- sentences
 
@@ -92,34 +79,23 @@ module _ (rs fs ns : List ℕ) where
   assignment_tokens (copy x y) = register x ∷ word.becomes_key ∷ register y ∷ word.semicolon_key ∷ []
   assignment_tokens (apply x f y z) = register x ∷ word.becomes_key ∷ (application_tokens f y z ++ word.semicolon_key ∷ [])
 
-  -- and `skip;` `assume C;` `assert C;` `if C { .. }` with an optional `else { .. }`, `while C { .. }`, `call name;`, where cs are the names of the subs
-  module _ (cs : List ℕ) where
-    unfoldable mutual
-      pub statement_tokens : Statement → List ℕ
-      statement_tokens skip = word.skip_key ∷ word.semicolon_key ∷ []
-      statement_tokens (assign a) = assignment_tokens a
-      statement_tokens (assume c) = word.assume_key ∷ (condition_tokens c ++ word.semicolon_key ∷ [])
-      statement_tokens (assert c) = word.assert_key ∷ (condition_tokens c ++ word.semicolon_key ∷ [])
-      statement_tokens (if c b e) = word.if_key ∷ (condition_tokens c ++ word.lbrace_key ∷ (block_tokens b ++ word.rbrace_key ∷ else_tokens e))
-      statement_tokens (while c b) = word.while_key ∷ (condition_tokens c ++ word.lbrace_key ∷ (block_tokens b ++ word.rbrace_key ∷ []))
-      statement_tokens (call i) = word.call_key ∷ get_or cs i 0 ∷ word.semicolon_key ∷ []
+  -- and `skip;` `assume C;` `assert C;` `if C { .. }` with an optional `else { .. }`, `while C { .. }`
+  unfoldable mutual
+    pub statement_tokens : Statement → List ℕ
+    statement_tokens skip = word.skip_key ∷ word.semicolon_key ∷ []
+    statement_tokens (assign a) = assignment_tokens a
+    statement_tokens (assume c) = word.assume_key ∷ (condition_tokens c ++ word.semicolon_key ∷ [])
+    statement_tokens (assert c) = word.assert_key ∷ (condition_tokens c ++ word.semicolon_key ∷ [])
+    statement_tokens (if c b e) = word.if_key ∷ (condition_tokens c ++ word.lbrace_key ∷ (block_tokens b ++ word.rbrace_key ∷ else_tokens e))
+    statement_tokens (while c b) = word.while_key ∷ (condition_tokens c ++ word.lbrace_key ∷ (block_tokens b ++ word.rbrace_key ∷ []))
 
-      pub else_tokens : Else → List ℕ
-      else_tokens absent = []
-      else_tokens (present b) = word.else_key ∷ word.lbrace_key ∷ (block_tokens b ++ word.rbrace_key ∷ [])
+    pub else_tokens : Else → List ℕ
+    else_tokens absent = []
+    else_tokens (present b) = word.else_key ∷ word.lbrace_key ∷ (block_tokens b ++ word.rbrace_key ∷ [])
 
-      pub block_tokens : Block → List ℕ
-      block_tokens empty = []
-      block_tokens (s then b) = statement_tokens s ++ block_tokens b
-
-  -- `sub name { .. }` (document 02, request 7), where cs are the names of the subs above
-  abbrev pub sub_tokens : List ℕ → Sub → List ℕ
-  sub_tokens cs u = word.sub_key ∷ u.name ∷ word.lbrace_key ∷ (block_tokens cs u.body ++ word.rbrace_key ∷ [])
-
-  -- one after the other: "A sub may call only subs above it"
-  unfoldable pub subs_tokens : List ℕ → List Sub → List ℕ
-  subs_tokens cs [] = []
-  subs_tokens cs (u ∷ us) = sub_tokens cs u ++ subs_tokens (cs ++ u.name ∷ []) us
+    pub block_tokens : Block → List ℕ
+    block_tokens empty = []
+    block_tokens (s then b) = statement_tokens s ++ block_tokens b
 
 -- "entries such as `cap/1`": the digits 1 and 2 are the bytes 49 and 50 (SPEC 8.3)
 unfoldable pub entry_tokens : List ℕ → List ℕ → List ℕ
@@ -137,15 +113,11 @@ line_tokens k (f ∷ fs) ns = k ∷ (entry_tokens (f ∷ fs) ns ++ word.semicolo
 abbrev pub declaration_tokens : List ℕ → List ℕ → ℕ → List ℕ
 declaration_tokens fs ns t = line_tokens word.funs_key (take t fs) (take t ns) ++ line_tokens word.tests_key (drop t fs) (drop t ns)
 
--- behind the declarations: the subs us, and then the statements b
-abbrev pub pieces_tokens : List ℕ → List ℕ → List ℕ → List Sub → Block → List ℕ
-pieces_tokens rs fs ns us b = subs_tokens rs fs ns [] us ++ block_tokens rs fs ns (sub_names us) b
-
--- "A macro is `vars` names `;`, then perhaps `funs` .., then perhaps `tests` .., then perhaps subs, then statements, perhaps none." (SPEC 8.3)
+-- "A macro is `vars` names `;`, then perhaps `funs` .., then perhaps `tests` .., then statements, perhaps none." (SPEC 8.3)
 unfoldable pub sentence : Macro → List ℕ
 sentence m =
     word.vars_key ∷ (m.registers ++ word.semicolon_key ∷
-    (declaration_tokens m.functions m.arities m.first_test ++ pieces_tokens m.registers m.functions m.arities m.subs m.body))
+    (declaration_tokens m.functions m.arities m.first_test ++ block_tokens m.registers m.functions m.arities m.body))
 
 -- ---- depth
 
@@ -163,7 +135,6 @@ abbrev mutual
   Nests (assert c) d = Unit {0}
   Nests (if c b e) d = OneDeeper (λ n. NestsBlock b n) d × NestsElse e d
   Nests (while c b) d = OneDeeper (λ n. NestsBlock b n) d
-  Nests (call i) d = Unit {0}
 
   pub NestsElse : Else → ℕ → Type 0
   NestsElse absent d = Unit {0}
@@ -172,8 +143,3 @@ abbrev mutual
   pub NestsBlock : Block → ℕ → Type 0
   NestsBlock empty d = Unit {0}
   NestsBlock (s then b) d = Nests s d × NestsBlock b d
-
--- "braces as the text nests them, a sub's own included" (document 02, request 7)
-abbrev pub NestsSubs : List Sub → ℕ → Type 0
-NestsSubs [] d = Unit {0}
-NestsSubs (u ∷ us) d = OneDeeper (λ n. NestsBlock u.body n) d × NestsSubs us d

@@ -1,6 +1,5 @@
 pub mod Limits
 pub mod Tree
-pub mod Inlined
 pub mod Expanded
 pub mod Meanings
 pub mod MeaningOfTraces

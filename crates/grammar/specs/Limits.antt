@@ -15,7 +15,3 @@ deepest_nesting = 16
 -- "the hidden register `result`", "the hidden register `truth`" (document 02, request 4): so many follow the declared ones where tests are declared.
 abbrev pub hidden_registers : ℕ
 hidden_registers = 2
-
--- "up to eight `sub name { .. }` may stand" (document 02, request 7; SPEC 1.3)
-abbrev pub most_subs : ℕ
-most_subs = 8

@@ -1,19 +1,18 @@
--- What reading a text gives: a macro, or the number of a refusal and its place (SPEC 11.3, 11.4: questions 7 to 13, 16 and 17).
+-- What reading a text gives: a macro, or the number of a refusal and its place (SPEC 11.3, 11.4: questions 7 to 13, and 16).
 -- Each reader starts at a place and gives what it read with the place after it.
-use Rattle.std.specs.Prelude.{ℕ, zero, suc, ◌+◌, ◌*◌, ◌-◌, Bool, true, false, not, ◌&&◌, ◌||◌, List, [], ◌∷◌, ◌++◌, ltb, leb, eqb, length, get_or}
+use Rattle.std.specs.Prelude.{ℕ, zero, suc, ◌+◌, ◌-◌, Bool, true, false, not, ◌&&◌, ◌||◌, List, [], ◌∷◌, ◌++◌, ltb, leb, eqb, length, get_or}
 use Rattle.base.specs.Choice.{pick}
 use Rattle.letters.specs.Editions.{most_registers, most_functions}
 use Rattle.letters.specs.MacroRefusalNumbers.{token_malformed, grammar_violated, declaration_wrong, use_wrong, nesting_too_deep, points_too_many, no_room_for_tests}
-use Rattle.letters.specs.MacroRefusalNumbers.{subs_too_many}
 use Rattle.macros.specs.Points.{size_block}
 use Rattle.tokens.specs.Words.{is_name, same_name}
 use Rattle.tokens.specs.Words as word
 use Rattle.tokens.specs.Tokens.{token_at}
 use Rattle.tokens.specs.declared.Token.{Token}
-use Rattle.grammar.specs.Limits.{most_points, deepest_nesting, hidden_registers}
-use Rattle.grammar.specs.Tree.{Condition, equal, unequal, holds, fails, Assignment, copy, apply, Statement, skip, assign, assume, assert, if, while, call}
-use Rattle.grammar.specs.Tree.{Else, absent, present, Block, empty, ◌then◌, Sub}
-use Rattle.grammar.specs.Grammar.{Macro, sub_names, expanded}
+use Rattle.grammar.specs.Limits.{most_points, hidden_registers}
+use Rattle.grammar.specs.Tree.{Condition, equal, unequal, holds, fails, Assignment, copy, apply, Statement, skip, assign, assume, assert, if, while, Else}
+use Rattle.grammar.specs.Tree.{absent, present, Block, empty, ◌then◌}
+use Rattle.grammar.specs.Grammar.{Macro, expanded}
 use Rattle.grammar.specs.Spelled.{spelled_registers, spelled_functions}
 
 -- `exhausted`: the bound on the calls was too small. It never is (Enough.antt).
@@ -36,10 +35,6 @@ index_of k (x ∷ xs) = pick (same_name k x) (λ _. 0) λ _. suc (index_of k xs)
 -- the name is one of the list
 abbrev pub is_declared : ℕ → List ℕ → Bool
 is_declared k l = ltb (index_of k l) (length l)
-
--- a name that is declared already, as a register, a function, a test or a sub: "a repeated name by 10" (document 02, request 7)
-abbrev pub is_taken : List ℕ → List ℕ → List ℕ → ℕ → Bool
-is_taken rs fs cs k = is_declared k rs || is_declared k fs || is_declared k cs
 
 -- a token that does not fit the grammar, or is none
 abbrev pub refused_token : {A : Type 0} → Token → Got A
@@ -132,67 +127,33 @@ module _ (s : List ℕ) where
     abbrev pub else_t : (ℕ → ℕ → Got Block) → ℕ → ℕ → Token → Got Else
     else_t inner d at t = pick (eqb t.key word.else_key) (λ _. and_then (braces_t inner d (token_at s t.end)) λ b e. got (present b) e) λ _. got absent at
 
+    -- one statement, of which t is the first token; inner reads a block at a depth
+    abbrev pub statement_t : (ℕ → ℕ → Got Block) → ℕ → ℕ → Token → Got Statement
+    statement_t inner d at t =
+        pick (eqb t.key word.skip_key) (λ _. ended word.semicolon_key skip t.end)
+        λ _. pick (eqb t.key word.assume_key) (λ _. and_then (ended_condition t.end) λ c e. got (assume c) e)
+        λ _. pick (eqb t.key word.assert_key) (λ _. and_then (ended_condition t.end) λ c e. got (assert c) e)
+        λ _. pick (eqb t.key word.if_key)
+        (λ _. and_then (condition t.end) λ c a. and_then (braces_t inner d (token_at s a)) λ b e. and_then (else_t inner d e (token_at s e)) λ o f. got
+        (if c b o) f)
+        λ _. pick (eqb t.key word.while_key) (λ _. and_then (condition t.end) λ c a. and_then (braces_t inner d (token_at s a)) λ b e. got (while c b) e)
+        λ _. pick (is_name t.key) (λ _. and_then (assignment at) λ l e. got (assign l) e) λ _. refused_token t
+
     -- a block ends before `}` and at the end of the text
     abbrev pub closing : ℕ → Bool
     closing k = eqb k word.rbrace_key || eqb k word.end
 
-    -- the subs cs may be called
-    module _ (cs : List ℕ) where
-      -- behind `call`: a sub, and `;`
-      unfoldable pub called : ℕ → Got Statement
-      called at = and_then (use_t cs (token_at s at)) λ i e. ended word.semicolon_key (call i) e
+    -- Statements up to the block's end, at most d braces deep. k bounds the calls: 2 for each byte left, and 1, is enough.
+    unfoldable mutual
+      pub block : ℕ → ℕ → ℕ → Got Block
+      block zero d at = exhausted
+      block (suc k) d at =
+          pick (closing (token_at s at).key) (λ _. got empty at)
+          λ _. and_then (statement k d at) λ c a. and_then (block k d a) λ b e. got (c then b) e
 
-      -- one statement, of which t is the first token; inner reads a block at a depth
-      abbrev pub statement_t : (ℕ → ℕ → Got Block) → ℕ → ℕ → Token → Got Statement
-      statement_t inner d at t =
-          pick (eqb t.key word.skip_key) (λ _. ended word.semicolon_key skip t.end)
-          λ _. pick (eqb t.key word.assume_key) (λ _. and_then (ended_condition t.end) λ c e. got (assume c) e)
-          λ _. pick (eqb t.key word.assert_key) (λ _. and_then (ended_condition t.end) λ c e. got (assert c) e)
-          λ _. pick (eqb t.key word.call_key) (λ _. called t.end)
-          λ _. pick (eqb t.key word.if_key)
-          (λ _. and_then (condition t.end) λ c a. and_then (braces_t inner d (token_at s a)) λ b e. and_then (else_t inner d e (token_at s e)) λ o f. got
-          (if c b o) f)
-          λ _. pick (eqb t.key word.while_key) (λ _. and_then (condition t.end) λ c a. and_then (braces_t inner d (token_at s a)) λ b e. got (while c b) e)
-          λ _. pick (is_name t.key) (λ _. and_then (assignment at) λ l e. got (assign l) e) λ _. refused_token t
-
-      -- Statements up to the block's end, at most d braces deep. k bounds the calls: 2 for each byte left, and 1, is enough.
-      unfoldable mutual
-        pub block : ℕ → ℕ → ℕ → Got Block
-        block zero d at = exhausted
-        block (suc k) d at =
-            pick (closing (token_at s at).key) (λ _. got empty at)
-            λ _. and_then (statement k d at) λ c a. and_then (block k d a) λ b e. got (c then b) e
-
-        pub statement : ℕ → ℕ → ℕ → Got Statement
-        statement zero d at = exhausted
-        statement (suc k) d at = statement_t (λ c a. block k c a) d at (token_at s at)
-
-      -- the statements of the text, or of a sub: calls enough for all its bytes
-      abbrev pub whole_block : ℕ → ℕ → Got Block
-      whole_block d at = block (2 * length s + 1) d at
-
-    -- ---- subs
-
-    -- behind `sub`, where the subs us are declared: a name, and its statements in braces
-    unfoldable pub sub_t : List Sub → Token → Got Sub
-    sub_t us t =
-        pick (is_name t.key)
-        (λ _. pick (is_taken rs fs (sub_names us) t.key) (λ _. Got.refused declaration_wrong t.start)
-        λ _. and_then (braces_t (whole_block (sub_names us)) deepest_nesting (token_at s t.end)) λ b e. got
-        (record { name = t.key; spelling = t.spelling; body = b }) e)
-        λ _. refused_token t
-
-    -- perhaps subs: us are declared already, and there is room for more; "17, at the name of a ninth sub, before 10" (document 02, request 7)
-    unfoldable pub subs_from : ℕ → List Sub → ℕ → Got (List Sub)
-    subs_from zero us at =
-        pick (eqb (token_at s at).key word.sub_key)
-        (λ _. let t = token_at s (token_at s at).end in
-        pick (is_name t.key) (λ _. Got.refused subs_too_many t.start) λ _. refused_token t)
-        λ _. got us at
-    subs_from (suc room) us at =
-        pick (eqb (token_at s at).key word.sub_key)
-        (λ _. and_then (sub_t us (token_at s (token_at s at).end)) λ u e. subs_from room (us ++ u ∷ []) e)
-        λ _. got us at
+      pub statement : ℕ → ℕ → ℕ → Got Statement
+      statement zero d at = exhausted
+      statement (suc k) d at = statement_t (λ c a. block k c a) d at (token_at s at)
 
   -- a list that may end here, and `;`
   abbrev pub listed_t : {A : Type 0} → ℕ → A → Token → Got A
@@ -242,16 +203,15 @@ module _ (s : List ℕ) where
       (λ _. pick (ltb most_registers (length rs + hidden_registers)) (λ _. Got.refused no_room_for_tests t.start) λ _. line_from rs fs ns t.end)
       λ _. got (fs, ns) at
 
-  -- what was read: the declared names with their spellings, of the functions those from number m on being tests, the subs, and the statements
-  abbrev pub macro_read : List ℕ → List ℕ → List ℕ → ℕ → List Sub → Block → Macro
-  macro_read rs fs ns m us body = record {
+  -- what was read: the declared names with their spellings, of the functions those from number m on being tests, and the statements
+  abbrev pub macro_read : List ℕ → List ℕ → List ℕ → ℕ → Block → Macro
+  macro_read rs fs ns m body = record {
     registers = rs;
     register_spellings = spelled_registers s (length rs);
     functions = fs;
     function_spellings = spelled_functions s (length rs) m (length fs);
     arities = ns;
     first_test = m;
-    subs = us;
     body = body;
   }
 

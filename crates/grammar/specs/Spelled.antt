@@ -2,12 +2,12 @@
 use Rattle.std.specs.Prelude.{◌≡◌, ℕ, ◌+◌, ◌*◌, ◌-◌, ◌≤◌, ◌<◌, true, List, [], ◌∷◌, ◌++◌, eqb, ltb, length, get_or}
 use Rattle.base.specs.Choice.{pick}
 use Rattle.letters.specs.Editions.{most_registers, most_functions}
-use Rattle.tokens.specs.Tokens.{token_at, place_behind, place_of, spellings}
+use Rattle.tokens.specs.Tokens.{token_at, place_of, spellings}
 use Rattle.tokens.specs.Words.{is_name}
 use Rattle.tokens.specs.Words as word
-use Rattle.grammar.specs.Limits.{deepest_nesting, hidden_registers, most_subs}
-use Rattle.grammar.specs.Tree.{Sub, ProperBlock, ProperSubs}
-use Rattle.grammar.specs.Grammar.{Macro, sub_names, sub_spellings, header, sub_tokens, sentence, NestsBlock, NestsSubs}
+use Rattle.grammar.specs.Limits.{deepest_nesting, hidden_registers}
+use Rattle.grammar.specs.Tree.{ProperBlock}
+use Rattle.grammar.specs.Grammar.{Macro, header, sentence, NestsBlock}
 
 -- The tokens of the text s from one place to another are the listed ones, by their keys (SPEC 8.2, 8.3).
 pub data Spells (s : List ℕ) : ℕ → List ℕ → ℕ → Type 0 where
@@ -57,24 +57,6 @@ spelled_registers s n = spellings s (place_of s first_register) register_length 
 abbrev pub spelled_functions : List ℕ → ℕ → ℕ → ℕ → List ℕ
 spelled_functions s n m k = spellings s (place_of s (first_function n)) entry_length m ++ spellings s (place_of s (first_test_token n m)) entry_length (k - m)
 
--- Behind the lines of n registers and of k functions, of which those from number m on are tests, the subs begin: `vars` and `;` stand beside the registers.
-abbrev pub beside_registers : ℕ
-beside_registers = 2
-
-abbrev pub first_sub_token : ℕ → ℕ → ℕ → ℕ
-first_sub_token n m k = n + beside_registers + line_length m + line_length (k - m)
-
--- The names of the subs us, of which the first begins at or after a place, as the tokens that declare them are spelled: `sub`, and then the name. cs are the
--- names of the subs above.
-abbrev pub before_sub_name : ℕ
-before_sub_name = 1
-
-unfoldable pub spelled_subs : List ℕ → List ℕ → List ℕ → List ℕ → List ℕ → ℕ → List Sub → List ℕ
-spelled_subs s rs fs ns cs at [] = []
-spelled_subs s rs fs ns cs at (u ∷ us) =
-    (token_at s (place_behind s at before_sub_name)).spelling ∷
-    spelled_subs s rs fs ns (cs ++ u.name ∷ []) (place_behind s at (length (sub_tokens rs fs ns cs u))) us
-
 -- The tokens of the whole text are the sentence of the macro, and its names are spelled as they are declared (SPEC 8.3, 8.4).
 pub record Spelled (s : List ℕ) (m : Macro) : Type 0 where
   pub place : ℕ
@@ -82,8 +64,6 @@ pub record Spelled (s : List ℕ) (m : Macro) : Type 0 where
   pub ended : (token_at s place).key ≡ word.end
   pub register_spellings : m.register_spellings ≡ spelled_registers s (length m.registers)
   pub function_spellings : m.function_spellings ≡ spelled_functions s (length m.registers) m.first_test (length m.functions)
-  pub sub_spellings : sub_spellings m.subs ≡ spelled_subs s m.registers m.functions m.arities []
-      (place_of s (first_sub_token (length m.registers) m.first_test (length m.functions))) m.subs
 
 -- Each is a name, and no two are the same (SPEC 8.4).
 pub record Declared (rs : List ℕ) : Type 0 where
@@ -100,7 +80,7 @@ pub data Arities : List ℕ → List ℕ → Type 0 where
   one : {f : ℕ} {fs ns : List ℕ} → Arities fs ns → Arities (f ∷ fs) (1 ∷ ns)
   two : {f : ℕ} {fs ns : List ℕ} → Arities fs ns → Arities (f ∷ fs) (2 ∷ ns)
 
--- Declarations, uses and depth are in order (SPEC 8.4, 8.5; questions 10 to 12, 16 and 17).
+-- Declarations, uses and depth are in order (SPEC 8.4, 8.5; questions 10 to 12 and 16).
 pub record InOrder (m : Macro) : Type 0 where
   pub registers : Declared m.registers
   pub some : 1 ≤ length m.registers
@@ -111,11 +91,5 @@ pub record InOrder (m : Macro) : Type 0 where
   pub fewer : length m.functions ≤ most_functions
   pub tests : m.first_test ≤ length m.functions
   pub room : m.first_test < length m.functions → length m.registers + hidden_registers ≤ most_registers
-  -- "up to eight", "a repeated name by 10", "A sub may call only subs above it" (document 02, request 7)
-  pub subs : Declared (sub_names m.subs)
-  pub subs_apart : Disjoint m.registers (sub_names m.subs) × Disjoint m.functions (sub_names m.subs)
-  pub few_subs : length m.subs ≤ most_subs
-  pub sub_uses : ProperSubs m.subs (header m.registers m.functions m.arities) m.first_test 0
-  pub sub_depth : NestsSubs m.subs deepest_nesting
-  pub uses : ProperBlock m.body (header m.registers m.functions m.arities) m.first_test (length m.subs)
+  pub uses : ProperBlock m.body (header m.registers m.functions m.arities) m.first_test
   pub depth : NestsBlock m.body deepest_nesting

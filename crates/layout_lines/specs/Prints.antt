@@ -15,7 +15,7 @@ print_lines m = pick (leb (length (house_layout m)) longest_print) (λ _. house_
 
 -- The lines for a text (SPEC 12.6).
 pub record SaysLayout (text lines : List ℕ) : Type 0 where
-  -- a text that is refused, by 7 to 13, 16 or 17 (SPEC 11.3)
+  -- a text that is refused, by 7 to 13 or 16 (SPEC 11.3)
   pub unread : (number place : ℕ) → Refusal text number place → lines ≡ refused_line number place
   -- a text that is that of the macro m (SPEC 8.6)
   pub print : (m : Macro) → Accepted text m → lines ≡ print_lines m

@@ -1,5 +1,4 @@
 pub mod Pairs
-pub mod SubTokens
 pub mod Dropping
 pub mod Spaced
 pub mod ReadBack

@@ -1,12 +1,12 @@
 -- The house layout of a macro (SPEC 8.6; document 02, request 2): "names as declared, keywords in lower case, one blank only between two words (`1` and
 -- `2` count as words), no blank elsewhere, an LF after each `;`, `{` and `}`, comments dropped, an empty else dropped."
-use Rattle.std.specs.Prelude.{ℕ, ◌%◌, Bool, false, ◌&&◌, ◌||◌, List, [], ◌∷◌, ◌++◌, map, eqb}
+use Rattle.std.specs.Prelude.{ℕ, ◌%◌, Bool, false, ◌&&◌, ◌||◌, List, [], ◌∷◌, ◌++◌, eqb}
 use Rattle.base.specs.Choice.{pick}
 use Rattle.base.specs.Bytes.{byte_values}
 use Rattle.tokens.specs.Bytes.{letter, digit}
 use Rattle.tokens.specs.Words as word
 use Rattle.text.specs.Names.{name_text}
-use Rattle.grammar.specs.Tree.{Statement, skip, assign, assume, assert, if, while, call, Else, absent, present, Block, empty, ◌then◌, Sub}
+use Rattle.grammar.specs.Tree.{Statement, skip, assign, assume, assert, if, while, Else, absent, present, Block, empty, ◌then◌}
 use Rattle.grammar.specs.Grammar.{Macro, sentence}
 use Rattle.grammar.specs.Limits.{longest_text}
 
@@ -17,7 +17,7 @@ abbrev pub else_of : Block → Else
 else_of empty = absent
 else_of (s then b) = present (s then b)
 
--- Nothing else is dropped: `skip;` is a statement, and so are an `if` with empty blocks and a call of a sub without statements (SPEC 8.6).
+-- Nothing else is dropped: `skip;` is a statement, and so is an `if` with empty blocks (SPEC 8.6).
 abbrev mutual
   pub short_statement : Statement → Statement
   short_statement skip = skip
@@ -26,7 +26,6 @@ abbrev mutual
   short_statement (assert c) = assert c
   short_statement (if c b e) = if c (short_block b) (short_else e)
   short_statement (while c b) = while c (short_block b)
-  short_statement (call i) = call i
 
   pub short_else : Else → Else
   short_else absent = absent
@@ -36,10 +35,6 @@ abbrev mutual
   short_block empty = empty
   short_block (s then b) = short_statement s then short_block b
 
--- "the house layout keeps the subs" (document 02, request 7)
-abbrev pub short_sub : Sub → Sub
-short_sub u = record { name = u.name; spelling = u.spelling; body = short_block u.body }
-
 abbrev pub without_empty_elses : Macro → Macro
 without_empty_elses m = record {
   registers = m.registers;
@@ -48,15 +43,10 @@ without_empty_elses m = record {
   function_spellings = m.function_spellings;
   arities = m.arities;
   first_test = m.first_test;
-  subs = map short_sub m.subs;
   body = short_block m.body;
 }
 
 -- ---- "names as declared, keywords in lower case"
-
--- a sub with its name held as it is spelled where it is declared
-abbrev pub sub_as_declared : Sub → Sub
-sub_as_declared u = record { name = u.spelling; spelling = u.spelling; body = u.body }
 
 -- The same macro with its names held as they are spelled where they are declared (SPEC 8.4). In its sentence words stand in lower case, as everywhere.
 abbrev pub as_declared : Macro → Macro
@@ -67,7 +57,6 @@ as_declared m = record {
   function_spellings = m.function_spellings;
   arities = m.arities;
   first_test = m.first_test;
-  subs = map sub_as_declared m.subs;
   body = m.body;
 }
 

@@ -28,7 +28,7 @@ buffer_for m entry = pick (print_fits (house_layout m) entry) (λ _. house_layou
 -- A lent buffer holds `entry` and then `exit`. (Each text is accepted as one macro or refused by one number at one place: `Accepted.exactly-one` of crate
 -- `refusals`.)
 pub record WritesLayout (text entry : List ℕ) (answer : LayoutAnswer) (exit : List ℕ) : Type 0 where
-  -- A text that is refused, by 7 to 13, 16 or 17: "Refused calls write no output" (SPEC 11.3, 11.5).
+  -- A text that is refused, by 7 to 13 or 16: "Refused calls write no output" (SPEC 11.3, 11.5).
   pub unread : (number place : ℕ) → Refusal text number place → (answer ≡ LayoutAnswer.refused number place) × (exit ≡ entry)
   -- A text that is that of the macro m: it is printed, or it passes the buffer or the limit (SPEC 8.6, 11.5).
   pub answered : (m : Macro) → Accepted text m → answer ≡ answer_for m entry

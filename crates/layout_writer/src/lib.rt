@@ -170,7 +170,7 @@ fn put_tokens(text: &[u8], out: &mut [u8]) -> usize
     size
 }
 
-/// Prints the macro of a text in the house layout into the front of a lent buffer. Nothing is written on a refusal: by 7 to 13, 16 or 17 as the
+/// Prints the macro of a text in the house layout into the front of a lent buffer. Nothing is written on a refusal: by 7 to 13 or 16 as the
 /// reader gives them, or by 15 where the print is longer than the buffer or than `LONGEST_PRINT`. The bytes behind the print stay.
 pub fn write_layout(text: &[u8], out: &mut [u8]) -> LayoutWritten
     ensures { WritesLayout text.now out.old (layout_answer result) out.new }

@@ -1,4 +1,4 @@
--- The numbers of the refusals of a macro (SPEC 11.3, 11.4; document 01, and 15 to 17 document 02), each with its question. 6 is that of a trace too:
+-- The numbers of the refusals of a macro (SPEC 11.3, 11.4; document 01, and 15 and 16 document 02), each with its question. 6 is that of a trace too:
 -- RefusalNumbers.
 use Rattle.std.specs.Prelude.{ℕ}
 
@@ -41,7 +41,3 @@ print_too_long = 15
 -- "16, at the word `tests`, when more than six registers were declared" (SPEC 11.4; document 02, request 4)
 abbrev pub no_room_for_tests : ℕ
 no_room_for_tests = 16
-
--- "17, at the name of a ninth sub, before 10" (SPEC 11.4; document 02, request 7)
-abbrev pub subs_too_many : ℕ
-subs_too_many = 17

@@ -1,4 +1,4 @@
-// The numbers of the refusals (SPEC 11.2 to 11.4; document 01, and 15 to 17 document 02).
+// The numbers of the refusals (SPEC 11.2 to 11.4; document 01, and 15 and 16 document 02).
 
 /// Of a trace. "At least two bytes? 1."
 pub const TRACE_TOO_SHORT: u8 = 1;
@@ -47,6 +47,3 @@ pub const PRINT_TOO_LONG: u8 = 15;
 
 /// "16, at the word `tests`, when more than six registers were declared".
 pub const NO_ROOM_FOR_TESTS: u8 = 16;
-
-/// "17, at the name of a ninth sub, before 10".
-pub const SUBS_TOO_MANY: u8 = 17;

@@ -106,7 +106,3 @@ second_at s rs x f y at = reading.and_then (reading.use_t rs (token_at s at)) λ
 abbrev pub call_at : {A : Type 0} → List ℕ → List ℕ → List ℕ → List ℕ → (ℕ → ℕ → ℕ → A) → ℕ → ℕ → ℕ → reading.Got A
 call_at s rs fs ns make from to at =
     reading.and_then (reading.use_between fs from to (token_at s at)) λ f a. reading.applied s rs (make f) (get_or ns f 0) a
-
--- a name of a list and `;`, as its place in the list: what stands behind `call` (document 02, request 7)
-unfoldable pub ended_use : List ℕ → List ℕ → ℕ → reading.Got ℕ
-ended_use s cs at = reading.and_then (reading.use_t cs (token_at s at)) λ i e. reading.ended s word.semicolon_key i e

@@ -9,7 +9,7 @@ ghost use Rattle.grammar.specs.Reading.{arguments_t, applied, named_test as name
 ghost use Rattle.grammar.specs.Reading.{right_hand_side as value_at, assignment as assignmentAt};
 ghost use Rattle.tokens.specs.Tokens.{token_at};
 ghost use Rattle.phrases.specs.Codes.{coded, plain, without_value, lettered, same_letter, carried, letter_then, kind, comparing, condition_by, Few};
-ghost use Rattle.phrases.specs.Codes.{second_at, call_at, asked, test_of, as_comparison, as_named, ended_use};
+ghost use Rattle.phrases.specs.Codes.{second_at, call_at, asked, test_of, as_comparison, as_named};
 
 use letters::Letter;
 use letters::refusal_numbers::{GRAMMAR_VIOLATED, TOKEN_MALFORMED, USE_WRONG};
@@ -120,22 +120,6 @@ fn use_of(t: Token, list: &[u64]) -> GotNumber
     ensures { result ≡ plain (use_t list.now t) }
 {
     use_between(t, list, 0, list.len() as u8)
-}
-
-/// A name of a list and `;`, as its place in the list. Lists of subs are no longer than those of registers may be.
-pub fn ended_use(text: &[u8], list: &[u64], at: usize) -> GotNumber
-    requires { length list.now ≤ most_registers }
-    ensures { result ≡ plain (ended_use text.now list.now at) }
-{
-    let used = use_of(tokens::next(text, at), list);
-    let GotNumber::At(i, a) = used else {
-        return used;
-    };
-    let last = expect(text, tokens::SEMICOLON, a);
-    let GotNumber::At(_, e) = last else {
-        return last;
-    };
-    GotNumber::At(i, e)
 }
 
 // `=` or `!=`, as a number.

@@ -7,12 +7,10 @@ pub mod Wider
 pub mod Basics
 pub mod Rests
 pub mod Parts
-pub mod SubsAbove
 pub mod Judged
 pub mod Phrases
 pub mod Statements
 pub mod Lines
-pub mod Subs
 pub mod Text
 pub mod Examples
 pub mod QuestionExamples

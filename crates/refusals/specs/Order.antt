@@ -11,7 +11,7 @@ use Rattle.refusals.specs.FirstNo.{FirstNo}
 pub data Refusal (s : List ℕ) : ℕ → ℕ → Type 0 where
   -- "At most 4,096 bytes? 7." (SPEC 11.3)
   long : longest_text < length s → Refusal s text_too_long 0
-  -- "Then token by token": 8, 9, 16, 17, 10, 11 and 12, in this order at one token (SPEC 11.4)
+  -- "Then token by token, the lowest number at one token": 8 to 12 and 16 (SPEC 11.4)
   token : {n p : ℕ} → length s ≤ longest_text → FirstNo s n p → Refusal s n p
   -- "Then: at most 256 points? 13." (SPEC 11.3)
   points : (m : Macro) → length s ≤ longest_text → Spelled s m → InOrder m → most_points < size_block (expanded m) → Refusal s points_too_many 0

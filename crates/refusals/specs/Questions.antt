@@ -1,17 +1,16 @@
--- Questions 8 to 12, 16 and 17, each as a predicate on the tokens before a token and the token itself: when its answer is no. Question 11 looks at the next
+-- Questions 8 to 12 and 16, each as a predicate on the tokens before a token and the token itself: when its answer is no. Question 11 looks at the next
 -- token too.
 -- A token is its number; `word.end` stands for the end of the text, and `word.wrong` for what is no token (SPEC 11.4).
-use Rattle.std.specs.Prelude.{◌≡◌, ◌⊎◌, ℕ, suc, ◌+◌, ◌≤◌, ◌<◌, true, List, [], ◌∷◌, ◌++◌, eqb, length, get_or, take, drop}
+use Rattle.std.specs.Prelude.{◌≡◌, ◌⊎◌, ℕ, ◌+◌, ◌≤◌, ◌<◌, true, List, [], ◌∷◌, ◌++◌, eqb, length, get_or, take, drop}
 use Rattle.base.specs.Choice.{pick}
 use Rattle.letters.specs.Editions.{most_registers, most_functions}
 use Rattle.letters.specs.MacroRefusalNumbers.{token_malformed, grammar_violated, declaration_wrong, use_wrong, nesting_too_deep, no_room_for_tests}
-use Rattle.letters.specs.MacroRefusalNumbers.{subs_too_many}
 use Rattle.tokens.specs.Words.{is_name}
 use Rattle.tokens.specs.Words as word
-use Rattle.grammar.specs.Limits.{deepest_nesting, hidden_registers, most_subs}
+use Rattle.grammar.specs.Limits.{deepest_nesting, hidden_registers}
 use Rattle.grammar.specs.Grammar.{entry_tokens, line_tokens, declaration_tokens}
 use Rattle.grammar.specs.Spelled.{Arities}
-use Rattle.refusals.specs.Sentences.{NamedBlock, block_then, Sentence, Viable}
+use Rattle.refusals.specs.Sentences.{Sentence, Viable}
 
 -- "Fits the grammar? 9 (at the text's length if it ends early)." (SPEC 11.4)
 pub data Unfit (before : List ℕ) (k : ℕ) : Type 0 where
@@ -46,7 +45,7 @@ pub record InTests (before rs fs ns : List ℕ) (t : ℕ) : Type 0 where
   pub split : before ≡ word.vars_key ∷ (rs ++ word.semicolon_key ∷ (line_tokens word.funs_key (take t fs) (take t ns) ++ word.tests_key
       ∷ entry_tokens (drop t fs) (drop t ns)))
 
--- behind the lines, of which only the first must be there, and the tokens `body`, of subs and statements; a line that has begun is neither
+-- behind the lines, of which only the first must be there, and the tokens `body`; a line that has begun is no statement
 pub record InStatements (before rs fs ns : List ℕ) (t : ℕ) : Type 0 where
   pub registers : AllNames rs
   pub functions : AllNames fs
@@ -57,34 +56,24 @@ pub record InStatements (before rs fs ns : List ℕ) (t : ℕ) : Type 0 where
   pub functions_begun : get_or body 0 0 ≡ word.funs_key → ⊥
   pub tests_begun : get_or body 0 0 ≡ word.tests_key → ⊥
 
--- the last token
-abbrev pub Behind : List ℕ → ℕ → Type 0
-Behind before k = (ws : List ℕ) × (before ≡ ws ++ k ∷ [])
-
--- A whole sub of this name stands before: `sub k { .. }`. "A sub may call only subs above it" (document 02, request 7; SPEC 8.4): in a sub those that are
--- whole before it begins, for no sub stands in another; behind the subs all of them.
-pub record SubAbove (before : List ℕ) (k : ℕ) : Type 0 where
-  pub earlier : List ℕ
-  pub body : NamedBlock
-  pub later : List ℕ
-  pub split : before ≡ earlier ++ word.sub_key ∷ k ∷ word.lbrace_key ∷ block_then body (word.rbrace_key ∷ later)
-
 -- ---- 10
 
 abbrev pub Among : ℕ → List ℕ → Type 0
 Among k ks = (i : ℕ) × (i < length ks) × (get_or ks i 0 ≡ k)
 
 -- "Within eight registers and four functions, each name declared once? 10." (SPEC 11.4) "Functions and tests together are at most four." (document 02,
--- request 4) Of subs "a repeated name by 10" (request 7).
+-- request 4)
 pub data Redeclared (before : List ℕ) (k : ℕ) : Type 0 where
   register : {rs : List ℕ} → InRegisters before rs → is_name k ≡ true → Among k rs ⊎ (most_registers ≤ length rs) → Redeclared before k
   function : {rs fs ns : List ℕ} → InFunctions before rs fs ns → is_name k ≡ true → (Among k rs ⊎ Among k fs) ⊎ (most_functions ≤ length fs) → Redeclared before k
   test : {rs fs ns : List ℕ} {t : ℕ} → InTests before rs fs ns t → is_name k ≡ true → (Among k rs ⊎ Among k fs) ⊎ (most_functions ≤ length fs)
       → Redeclared before k
-  sub : {rs fs ns : List ℕ} {t : ℕ} → InStatements before rs fs ns t → is_name k ≡ true → Behind before word.sub_key
-      → (Among k rs ⊎ Among k fs) ⊎ SubAbove before k → Redeclared before k
 
 -- ---- 11
+
+-- the last token
+abbrev pub Behind : List ℕ → ℕ → Type 0
+Behind before k = (ws : List ℕ) × (before ≡ ws ++ k ∷ [])
 
 -- "after `:=` a name is a function if the next token is `(`, else a register" (SPEC 8.4, 11.4)
 abbrev pub FunctionDue : List ℕ → ℕ → Type 0
@@ -109,13 +98,10 @@ TakesArguments fs ns f n = (i : ℕ) × (i < length fs) × (get_or fs i 0 ≡ f)
 -- "A use declared, of the right sort? 11 (..; a wrong argument count stands at the `,` or `)`)." (SPEC 11.4) Of the functions those from number t on are tests.
 pub data Misused (before : List ℕ) (k next : ℕ) : Type 0 where
   register : {rs fs ns : List ℕ} {t : ℕ} → InStatements before rs fs ns t → is_name k ≡ true → (FunctionDue before next → ⊥) → (TestDue before next → ⊥)
-      → (Behind before word.sub_key → ⊥) → (Behind before word.call_key → ⊥) → (Among k rs → ⊥) → Misused before k next
+      → (Among k rs → ⊥) → Misused before k next
   function : {rs fs ns : List ℕ} {t : ℕ} → InStatements before rs fs ns t → is_name k ≡ true → FunctionDue before next → (Among k (take t fs) → ⊥)
       → Misused before k next
   test : {rs fs ns : List ℕ} {t : ℕ} → InStatements before rs fs ns t → is_name k ≡ true → TestDue before next → (Among k (drop t fs) → ⊥)
-      → Misused before k next
-  -- "A sub may call only subs above it; any other call is refused by 11 at the name" (document 02, request 7)
-  sub : {rs fs ns : List ℕ} {t : ℕ} → InStatements before rs fs ns t → is_name k ≡ true → Behind before word.call_key → (SubAbove before k → ⊥)
       → Misused before k next
   more_arguments : {rs fs ns : List ℕ} {t f : ℕ} → InStatements before rs fs ns t → Called before f → TakesArguments fs ns f 1 → k ≡ word.comma_key
       → Misused before k next
@@ -145,14 +131,6 @@ pub record NoRoom (before : List ℕ) (k : ℕ) : Type 0 where
   pub begins : k ≡ word.tests_key
   pub many : most_registers < length registers + hidden_registers
 
--- ---- 17
-
--- "17, at the name of a ninth sub" (document 02, request 7; SPEC 11.4): with the word before it, that word stands more than eight times
-pub record SubsFull (before : List ℕ) (k : ℕ) : Type 0 where
-  pub begins : Behind before word.sub_key
-  pub name : is_name k ≡ true
-  pub many : most_subs < occurrences word.sub_key before
-
 -- ---- the questions by their numbers (SPEC 11.4)
 
 pub data No : ℕ → List ℕ → ℕ → ℕ → Type 0 where
@@ -162,18 +140,5 @@ pub data No : ℕ → List ℕ → ℕ → ℕ → Type 0 where
   redeclared : {before : List ℕ} {k next : ℕ} → Redeclared before k → No declaration_wrong before k next
   misused : {before : List ℕ} {k next : ℕ} → Misused before k next → No use_wrong before k next
   too_deep : {before : List ℕ} {k next : ℕ} → TooDeep before k → No nesting_too_deep before k next
+  -- the number is the greatest, so it comes "after 9 at that token"
   no_room : {before : List ℕ} {k next : ℕ} → NoRoom before k → No no_room_for_tests before k next
-  subs_full : {before : List ℕ} {k next : ℕ} → SubsFull before k → No subs_too_many before k next
-
--- The order in which they are put to one token: "the lowest number at one token" (document 01), but "16 .. after 9 at that token" (document 02, request 4) and
--- "17 .. before 10" (request 7).
-abbrev pub asked : List ℕ
-asked = token_malformed ∷ grammar_violated ∷ no_room_for_tests ∷ subs_too_many ∷ declaration_wrong ∷ use_wrong ∷ nesting_too_deep ∷ []
-
--- the place of a question in this order; the place behind the last for what is not asked
-abbrev pub rank_in : List ℕ → ℕ → ℕ
-rank_in [] n = 0
-rank_in (q ∷ qs) n = pick (eqb n q) (λ _. 0) λ _. suc (rank_in qs n)
-
-abbrev pub rank : ℕ → ℕ
-rank = rank_in asked

@@ -1,5 +1,5 @@
--- The sentences of the grammar alone (SPEC 8.3; document 01, and document 02, requests 4 and 7). Any name may stand where a name is due, declared or not, of
--- any sort and as often as one likes, there may be any number of declarations, and blocks may nest to any depth: those are questions 10 to 12, 16 and 17.
+-- The sentences of the grammar alone (SPEC 8.3; document 01, and document 02, request 4). Any name may stand where a name is due, declared or not, of any
+-- sort and as often as one likes, there may be any number of declarations, and blocks may nest to any depth: those are questions 10 to 12 and 16.
 use Rattle.std.specs.Prelude.{◌≡◌, ℕ, true, List, [], ◌∷◌, ◌++◌}
 use Rattle.tokens.specs.Words.{is_name}
 use Rattle.tokens.specs.Words as word
@@ -15,8 +15,7 @@ pub data NamedCondition : Type 0 where
   holds fails : Name → Name → NamedCondition
   holds_two fails_two : Name → Name → Name → NamedCondition
 
--- SPEC 8.3: "Statements: `skip;` `a := b;` `a := f(b);` `a := f(b,c);` `assume C;` `assert C;` `if C { .. }` with an optional `else { .. }`, `while C { .. }`,
--- `call name;`."
+-- SPEC 8.3: "Statements: `skip;` `a := b;` `a := f(b);` `a := f(b,c);` `assume C;` `assert C;` `if C { .. }` with an optional `else { .. }`, `while C { .. }`."
 mutual
   pub data NamedStatement : Type 0 where
     skip : NamedStatement
@@ -26,7 +25,6 @@ mutual
     assume assert : NamedCondition → NamedStatement
     if : NamedCondition → NamedBlock → NamedElse → NamedStatement
     while : NamedCondition → NamedBlock → NamedStatement
-    call : Name → NamedStatement
 
   pub data NamedElse : Type 0 where
     absent : NamedElse
@@ -42,19 +40,13 @@ mutual
 pub data Entry : Type 0 where
   one two : Name → Entry
 
--- "After the declarations .. `sub name { .. }` may stand" (document 02, request 7; SPEC 8.3)
-pub record NamedSub : Type 0 where
-  pub name : Name
-  pub body : NamedBlock
-
--- "A macro is `vars` names `;`, then perhaps `funs` entries .. and `;` (at least one in each list), then perhaps `tests` entries and `;`, then perhaps subs,
--- then statements, perhaps none." (SPEC 8.3)
+-- "A macro is `vars` names `;`, then perhaps `funs` entries .. and `;` (at least one in each list), then perhaps `tests` entries and `;`, then statements,
+-- perhaps none." (SPEC 8.3)
 pub record NamedMacro : Type 0 where
   pub first : Name
   pub others : List Name
   pub functions : List Entry
   pub tests : List Entry
-  pub subs : List NamedSub
   pub body : NamedBlock
 
 -- ---- the tokens of each, and then the tokens ws
@@ -78,7 +70,6 @@ abbrev mutual
   statement_then (NamedStatement.assert c) ws = word.assert_key ∷ condition_then c (word.semicolon_key ∷ ws)
   statement_then (NamedStatement.if c b e) ws = word.if_key ∷ condition_then c (word.lbrace_key ∷ block_then b (word.rbrace_key ∷ else_then e ws))
   statement_then (NamedStatement.while c b) ws = word.while_key ∷ condition_then c (word.lbrace_key ∷ block_then b (word.rbrace_key ∷ ws))
-  statement_then (NamedStatement.call a) ws = word.call_key ∷ a.key ∷ word.semicolon_key ∷ ws
 
   pub else_then : NamedElse → List ℕ → List ℕ
   else_then NamedElse.absent ws = ws
@@ -105,17 +96,10 @@ abbrev pub line_then : ℕ → List Entry → List ℕ → List ℕ
 line_then k [] ws = ws
 line_then k (f ∷ fs) ws = k ∷ entries_then (f ∷ fs) (word.semicolon_key ∷ ws)
 
-abbrev pub sub_then : NamedSub → List ℕ → List ℕ
-sub_then u ws = word.sub_key ∷ u.name.key ∷ word.lbrace_key ∷ block_then u.body (word.rbrace_key ∷ ws)
-
-abbrev pub subs_then : List NamedSub → List ℕ → List ℕ
-subs_then [] ws = ws
-subs_then (u ∷ us) ws = sub_then u (subs_then us ws)
-
 abbrev pub named_sentence : NamedMacro → List ℕ
 named_sentence m =
     word.vars_key ∷ m.first.key ∷ names_then m.others
-    (word.semicolon_key ∷ line_then word.funs_key m.functions (line_then word.tests_key m.tests (subs_then m.subs (block_then m.body []))))
+    (word.semicolon_key ∷ line_then word.funs_key m.functions (line_then word.tests_key m.tests (block_then m.body [])))
 
 -- ---- sentences, and what begins one
 

@@ -1,5 +1,5 @@
 -- How the code holds what reading a text gives: the macro in a struct, or the refusal.
-use Rattle.std.specs.Prelude.{ℕ, ◌-◌, true, false, List, [], ◌++◌, map, eqb, length, replicate}
+use Rattle.std.specs.Prelude.{ℕ, ◌+◌, ◌*◌, ◌-◌, true, false, List, [], ◌++◌, map, eqb, length, replicate}
 use Rattle.base.specs.Choice.{pick}
 use Rattle.letters.specs.Editions.{most_registers, most_functions}
 use Rattle.letters.specs.MacroRefusalNumbers.{token_malformed, grammar_violated}
@@ -7,10 +7,9 @@ use Rattle.macros.specs.Points.{points, size_block}
 use Rattle.tokens.specs.Words as word
 use Rattle.tokens.specs.Tokens.{token_at}
 use Rattle.tokens.specs.declared.Token.{Token}
-use Rattle.grammar.specs.Limits.{deepest_nesting, most_subs}
-use Rattle.grammar.specs.Tree.{Sub}
-use Rattle.grammar.specs.Grammar.{Macro, sub_names, header_of, shown_registers, expanded}
-use Rattle.grammar.specs.Reading.{Got, got, exhausted, and_then, functions_t, tests_t, subs_from, whole_block, macro_read, finish_t, count_t}
+use Rattle.grammar.specs.Limits.{deepest_nesting}
+use Rattle.grammar.specs.Grammar.{Macro, header_of, shown_registers, expanded}
+use Rattle.grammar.specs.Reading.{Got, got, exhausted, and_then, block, functions_t, tests_t, macro_read, finish_t, count_t}
 use Rattle.blocks.specs.Held.{point_table, held_point}
 use Rattle.syntax.specs.declared.CompiledMacro as held
 use Rattle.syntax.specs.declared.MacroRead.{MacroRead}
@@ -83,15 +82,11 @@ module _ (s : List ℕ) where
   abbrev pub end_from : Macro → ℕ → Got Macro
   end_from m e = and_then (finish_t s m (token_at s e)) (count_t s)
 
-  -- behind the subs us: the functions fs, from number m on tests
-  unfoldable pub statements_from : List ℕ → List ℕ → List ℕ → ℕ → List Sub → ℕ → Got Macro
-  statements_from rs fs ns m us c =
-      and_then (whole_block s rs fs ns m (sub_names us) deepest_nesting c) λ body e.
-      end_from (macro_read s rs fs ns m us body) e
-
-  -- behind the declarations
+  -- behind the declarations: the functions fs, from number m on tests
   unfoldable pub body_from : List ℕ → List ℕ → List ℕ → ℕ → ℕ → Got Macro
-  body_from rs fs ns m c = and_then (subs_from s rs fs ns m most_subs [] c) λ us d. statements_from rs fs ns m us d
+  body_from rs fs ns m c =
+      and_then (block s rs fs ns m (2 * length s + 1) deepest_nesting c) λ body e.
+      end_from (macro_read s rs fs ns m body) e
 
   -- behind the functions
   unfoldable pub tests_from : List ℕ → List ℕ → List ℕ → ℕ → Got Macro

@@ -1,26 +1,25 @@
 // The macro reader: from bytes to a macro (SPEC 8, 11.3, 11.4).
-ghost use Rattle.std.specs.Prelude.{◌≡◌, ◌||◌, [], ◌+◌, ◌*◌, ◌-◌, ◌≤◌, ◌<◌, eqb, take, length};
+ghost use Rattle.std.specs.Prelude.{◌≡◌, ◌||◌, [], ◌+◌, ◌-◌, ◌≤◌, ◌<◌, eqb, take, length};
 ghost use Rattle.letters.specs.Editions.{most_registers, most_functions};
-ghost use Rattle.grammar.specs.Limits.{hidden_registers, most_subs};
+ghost use Rattle.grammar.specs.Limits.{hidden_registers};
 ghost use Rattle.grammar.specs.Spelled.{line_length};
 ghost use Rattle.grammar.specs.Grammar.{binary_of};
-ghost use Rattle.grammar.specs.Reading.{Got, is_declared, listed_t, register_names as registersAt, line_from, functions_t, tests_t, arity_of, is_taken};
+ghost use Rattle.grammar.specs.Reading.{Got, is_declared, listed_t, register_names as registersAt, line_from, functions_t, tests_t, arity_of};
 ghost use Rattle.tokens.specs.Tokens.{token_at};
-ghost use Rattle.phrases.specs.Codes.{plain, Few};
-ghost use Rattle.blocks.specs.Held.{held_by, sub_space};
+ghost use Rattle.phrases.specs.Codes.{plain};
+ghost use Rattle.blocks.specs.Held.{held_by};
 ghost use Rattle.syntax.specs.Answer.{no_macro, held_reading, held_registers, held_functions, refused_token_number, body_from, tests_from, functions_from};
 ghost use Rattle.syntax.specs.Lists.{NamesPadded, refused_by};
 ghost use Rattle.syntax.specs.Reads.{Reads};
 ghost use Rattle.syntax.specs.Top.{RegistersPadded, FunctionsPadded, padded_registers, padded_functions, Finishes, headed, reader_start, arity_flag};
-ghost use Rattle.syntax.specs.Top.{hidden_count, RoomForHidden, spelled_behind, StatementsReady, StatementsAreRead};
-ghost use Rattle.syntax.specs.Subs.{sub_refusal, no_subs, SubsReady, SubBodyRead, SubsAreRead};
+ghost use Rattle.syntax.specs.Top.{hidden_count, RoomForHidden, spelled_behind};
 
 use blocks::{Codes, POINT_SPACE, PointEntry, ReaderState, Successors};
 use letters::Header;
 use letters::limits::{MOST_FUNCTIONS, MOST_REGISTERS};
 use letters::refusal_numbers::{
-    DECLARATION_WRONG, GRAMMAR_VIOLATED, NO_ROOM_FOR_TESTS, POINTS_TOO_MANY, SUBS_TOO_MANY,
-    TEXT_TOO_LONG, TOKEN_MALFORMED,
+    DECLARATION_WRONG, GRAMMAR_VIOLATED, NO_ROOM_FOR_TESTS, POINTS_TOO_MANY, TEXT_TOO_LONG,
+    TOKEN_MALFORMED,
 };
 use phrases::GotNumber;
 use tokens::Token;
@@ -45,12 +44,6 @@ const ENTRY_LENGTH: usize = 3;
 
 // The tokens of a line beside its entries: its word and `;`.
 const BESIDE_ENTRIES: usize = 2;
-
-// The most subs that a macro has.
-const MOST_SUBS: usize = 8;
-
-// The numbers that hold the points of all subs.
-const SUBS_SPACE: usize = blocks::SUB_SPACE * MOST_SUBS;
 
 // The registers that are hidden behind the declared ones where tests are declared: `result` and `truth`.
 const HIDDEN_REGISTERS: usize = 2;
@@ -116,23 +109,6 @@ pub struct Functions {
     pub names: [u64; MOST_FUNCTIONS],
     /// Their arities, 1 or 2; 0 behind the last.
     pub arities: [u8; MOST_FUNCTIONS],
-}
-
-/// The subs that were read, or a refusal. Their points are held beside it.
-#[derive(Drop)]
-pub struct Subs {
-    /// Whether nothing was refused.
-    pub ok: bool,
-    /// The number of the refusal; 0 if there is none.
-    pub number: u8,
-    /// The place of the refusal; 0 if there is none.
-    pub place: usize,
-    /// The place of the next byte; 0 beside a refusal.
-    pub at: usize,
-    /// How many there are; 0 beside a refusal.
-    pub count: usize,
-    /// Their names in lower case; 0 behind the last.
-    pub names: [u64; MOST_SUBS],
 }
 
 // The number by which a token that does not fit the grammar is refused.
@@ -581,25 +557,18 @@ fn finish(
     refused_answer(unfit_number(t), t.start)
 }
 
-// Behind the subs: their names are `subs`, and `bodies` holds their points.
-fn read_statements(
-    text: &[u8],
-    rs: Registers,
-    fs: Functions,
-    first_test: usize,
-    subs: &[u64],
-    bodies: &[u64],
-    at: usize,
-) -> MacroRead
-    requires { StatementsReady rs fs first_test subs.now bodies.now }
-    ensures { StatementsAreRead text.now rs fs first_test subs.now bodies.now at result }
+// Behind the declarations.
+fn read_body(text: &[u8], rs: Registers, fs: Functions, first_test: usize) -> MacroRead
+    requires { RegistersPadded rs × FunctionsPadded fs × (first_test ≤ fs.count) × RoomForHidden rs fs first_test }
+    ensures { result ≡ held_reading
+        (body_from text.now (take rs.count rs.names) (take fs.count fs.names) (take fs.count fs.arities) first_test fs.at) }
 {
     let regs = rs.names;
     let n = rs.count;
     let funs = fs.names;
     let arities = fs.arities;
     let m = fs.count;
-    let st = start(at);
+    let st = start(fs.at);
     let mut code = [0u64; POINT_SPACE];
     let mut first = [0u16; POINT_SPACE];
     let mut second = [0u16; POINT_SPACE];
@@ -609,8 +578,6 @@ fn read_statements(
         &funs[..m],
         &arities[..m],
         first_test as u8,
-        subs,
-        bodies,
         st,
         DEEPEST_NESTING,
         &mut code,
@@ -630,186 +597,6 @@ fn read_statements(
         );
     }
     refused_answer(body.number, body.place)
-}
-
-fn no_subs(number: u8, place: usize) -> Subs
-    ensures { result ≡ no_subs number place }
-{
-    Subs {
-        ok: false,
-        number: number,
-        place: place,
-        at: 0,
-        count: 0,
-        names: [0; MOST_SUBS],
-    }
-}
-
-// Whether a name is declared already.
-fn is_taken(regs: &[u64], funs: &[u64], subs: &[u64], k: u64) -> bool
-    requires { (length regs.now ≤ most_registers) × (length funs.now ≤ most_functions) × (length subs.now ≤ most_subs) }
-    ensures { result ≡ is_taken regs.now funs.now subs.now k }
-{
-    if phrases::is_known(regs, k) {
-        return true;
-    }
-    if phrases::is_known(funs, k) {
-        return true;
-    }
-    phrases::is_known(subs, k)
-}
-
-// The number by which the name of one sub more is refused, which t is to be; 0 if it is not.
-fn sub_refusal(regs: &[u64], funs: &[u64], subs: &[u64], t: Token) -> u8
-    requires { (length regs.now ≤ most_registers) × (length funs.now ≤ most_functions) × (length subs.now ≤ most_subs) }
-    ensures { result ≡ sub_refusal regs.now funs.now subs.now t }
-{
-    let k = t.key;
-    if tokens::is_name(k) {
-        if subs.len() == MOST_SUBS {
-            return SUBS_TOO_MANY;
-        }
-        if is_taken(regs, funs, subs, k) {
-            return DECLARATION_WRONG;
-        }
-        return 0;
-    }
-    unfit_number(t)
-}
-
-// The body of one sub more, in braces; its points are stored behind those of the subs above.
-fn read_sub(
-    text: &[u8],
-    regs: &[u64],
-    funs: &[u64],
-    arities: &[u8],
-    first_test: u8,
-    subs: &[u64],
-    at: usize,
-    bodies: &mut [u64],
-) -> ReaderState
-    requires { SubsReady regs.now funs.now arities.now first_test subs.now bodies.old × (length subs.now < most_subs) }
-    ensures { SubBodyRead text.now regs.now funs.now arities.now first_test subs.now at
-        bodies.old result bodies.new }
-{
-    let st = start(at);
-    let mut code = [0u64; POINT_SPACE];
-    let mut first = [0u16; POINT_SPACE];
-    let mut second = [0u16; POINT_SPACE];
-    let from = blocks::SUB_SPACE * subs.len();
-    let b = blocks::braces(
-        text,
-        regs,
-        funs,
-        arities,
-        first_test,
-        subs,
-        &bodies[..from],
-        st,
-        DEEPEST_NESTING,
-        &mut code,
-        &mut first,
-        &mut second,
-    );
-    if b.ok {
-        blocks::store_body(&mut bodies[from..], &code, &first, &second, b.count);
-        return b;
-    }
-    b
-}
-
-// Perhaps subs, one after the other; their points are stored.
-fn read_subs(
-    text: &[u8],
-    regs: &[u64],
-    funs: &[u64],
-    arities: &[u8],
-    first_test: u8,
-    from: usize,
-    bodies: &mut [u64],
-) -> Subs
-    requires { Few regs.now funs.now arities.now first_test × (length bodies.old ≡ sub_space * most_subs) }
-    ensures { SubsAreRead text.now regs.now funs.now arities.now first_test from result bodies.new }
-{
-    let mut names = [0u64; MOST_SUBS];
-    let mut count: usize = 0;
-    let mut at = from;
-    loop {
-        let t = tokens::next(text, at);
-        if t.key != tokens::SUB {
-            return Subs {
-                ok: true,
-                number: 0,
-                place: 0,
-                at: at,
-                count: count,
-                names: names,
-            };
-        }
-        let name = tokens::next(text, t.end);
-        let refusal = sub_refusal(regs, funs, &names[..count], name);
-        if refusal != 0 {
-            return no_subs(refusal, name.start);
-        }
-        let subs = &names[..count];
-        let body = read_sub(
-            text, regs, funs, arities, first_test, subs, name.end, bodies,
-        );
-        if body.ok {
-            names[count] = name.key;
-            count += 1;
-            at = body.at;
-        } else {
-            return no_subs(body.number, body.place);
-        }
-    }
-}
-
-// Behind the declarations, where subs follow.
-fn read_pieces(text: &[u8], rs: Registers, fs: Functions, first_test: usize) -> MacroRead
-    requires { RegistersPadded rs × FunctionsPadded fs × (first_test ≤ fs.count) × RoomForHidden rs fs first_test }
-    ensures { result ≡ held_reading
-        (body_from text.now (take rs.count rs.names) (take fs.count fs.names) (take fs.count fs.arities) first_test fs.at) }
-{
-    let regs = rs.names;
-    let n = rs.count;
-    let funs = fs.names;
-    let arities = fs.arities;
-    let m = fs.count;
-    let at = fs.at;
-    let mut bodies = [0u64; SUBS_SPACE];
-    let subs = read_subs(
-        text,
-        &regs[..n],
-        &funs[..m],
-        &arities[..m],
-        first_test as u8,
-        at,
-        &mut bodies,
-    );
-    if subs.ok {
-        let names = subs.names;
-        let k = subs.count;
-        let behind = subs.at;
-        return read_statements(text, rs, fs, first_test, &names[..k], &bodies, behind);
-    }
-    refused_answer(subs.number, subs.place)
-}
-
-// Behind the declarations. Without subs the room for their points is not cleared.
-fn read_body(text: &[u8], rs: Registers, fs: Functions, first_test: usize) -> MacroRead
-    requires { RegistersPadded rs × FunctionsPadded fs × (first_test ≤ fs.count) × RoomForHidden rs fs first_test }
-    ensures { result ≡ held_reading
-        (body_from text.now (take rs.count rs.names) (take fs.count fs.names) (take fs.count fs.arities) first_test fs.at) }
-{
-    let at = fs.at;
-    let t = tokens::next(text, at);
-    if t.key == tokens::SUB {
-        return read_pieces(text, rs, fs, first_test);
-    }
-    let names = [0u64; 1];
-    let bodies = [0u64; 1];
-    read_statements(text, rs, fs, first_test, &names[..0], &bodies[..0], at)
 }
 
 // Behind the functions.
@@ -843,7 +630,7 @@ fn read_rest(text: &[u8], rs: Registers) -> MacroRead
     refused_answer(fs.number, fs.place)
 }
 
-/// Reads a macro: question 7, then the text token by token (8 to 12, 16 and 17), then the count of points (13).
+/// Reads a macro: question 7, then the text token by token (8 to 12, and 16), then the count of points (13).
 pub fn read(text: &[u8]) -> MacroRead
     ensures { Reads text.now result }
 {

@@ -60,10 +60,9 @@ accepted_as_one_macro text m k x y = acceptance.accepted_once text x y
 pub refused_once : (text : List ℕ) (n p k q : ℕ) → Refusal text n p → Refusal text k q → (n ≡ k) × (p ≡ q)
 refused_once text n p k q x y = acceptance.refused_once text x y
 
--- and the number is one of document 01's for texts, or document 02's 16 or 17.
-pub refused_by_7_to_13_or_16_or_17 : (text : List ℕ) (number place : ℕ) → Refusal text number place
-    → (7 ≤ number) × ((number ≤ 13) ⊎ ((number ≡ 16) ⊎ (number ≡ 17)))
-refused_by_7_to_13_or_16_or_17 text number place x = refusal_number number place x
+-- and the number is one of document 01's for texts, or document 02's 16.
+pub refused_by_7_to_13_or_16 : (text : List ℕ) (number place : ℕ) → Refusal text number place → (7 ≤ number) × ((number ≤ 13) ⊎ (number ≡ 16))
+refused_by_7_to_13_or_16 text number place x = refusal_number number place x
 
 -- `search::judge_macro` ensures `Demand3`. A text that is refused is answered by that refusal, and table and output stay as lent.
 pub refused_text_is_not_judged : (text table output : List ℕ) (answer : VerdictAnswer) (table' output' : List ℕ)

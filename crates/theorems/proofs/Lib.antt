@@ -5,11 +5,9 @@ pub mod Names
 pub mod HouseLayout
 pub mod EqualTests
 pub mod NamedTests
-pub mod NamedPieces
 pub mod UnequalFlags
 pub mod ClassCounts
 pub mod ClassCountExamples
 pub mod RelationExamples
-pub mod NamedPieceExamples
 pub mod Steps
 pub mod Examples

@@ -37,13 +37,12 @@ use Rattle.macros.specs.Executions.{Outcome, failed, ExecBlock, Partial, Failing
 use Rattle.macros.proofs.Theory.WrittenOut.{in_tree_block, written_in_tree}
 use Rattle.macros.proofs.Theory.Executions.{block_begins}
 use Rattle.macros.proofs.Theory.Fitting.{partial_formed}
-use Rattle.grammar.specs.Grammar.{Macro, header, header_of, shown_registers, inlined, expanded}
+use Rattle.grammar.specs.Grammar.{Macro, header, header_of, shown_registers, expanded}
 use Rattle.grammar.specs.Spelled.{InOrder}
 use Rattle.grammar.proofs.Theory.Expanded.{expanded_fits, expanded_plain, hidden_named}
 use Rattle.grammar.specs.Meanings.{Meaning, Values, RunsBlock, ReachesFalseAssertion}
 use Rattle.grammar.specs.MeaningOfTraces.{AllHold}
-use Rattle.grammar.proofs.Theory.Inlined.{inlined_uses}
-use Rattle.grammar.proofs.Theory.Meanings.{macro_runs_exactly}
+use Rattle.grammar.proofs.Theory.Meanings.{runs_exactly}
 use Rattle.theorems.specs.Relations.{FeasibleWithRelations, RightSorts, ModelsRelations, as_functions, as_relations}
 use Rattle.theorems.proofs.Steps.RelationalModels.{hold_alike, functions_model, relations_model, as-functions, as-relations, feasible_alike}
 use Rattle.theorems.proofs.Steps.ExpandedSorts.{expanded_sorts}
@@ -77,12 +76,11 @@ pub without_tests_none_are_hidden : (m : Macro) → m.first_test ≡ length m.fu
 without_tests_none_are_hidden m e =
     rw (le-ltb m.first_test (length m.functions) (omega arith)) (length-append m.registers [] ∙ add-zero (length m.registers))
 
--- A macro without them performs what it performed: written out it is the tree of its own statements, each call replaced by its body, to which Definition 2
--- applies as it stands.
+-- A macro without them performs what it performed: written out it is the tree of its own statements, to which Definition 2 applies as it stands.
 pub without_tests_its_own_statements : (m : Macro) → InOrder m → m.first_test ≡ length m.functions → in_tree_block (written_out (expanded m)) ≡ expanded m
 without_tests_its_own_statements m in_order e =
     written_in_tree (expanded m)
-    (expanded_plain (header m.registers m.functions m.arities) m.first_test (omega arith) (inlined m) (inlined_uses m in_order))
+    (expanded_plain (header m.registers m.functions m.arities) m.first_test (omega arith) m.body in_order.uses)
 
 -- "such a test applies a function into the hidden register `result` and compares that with the hidden register `truth`"; `!` asks for the opposite.
 -- A condition c of a macro with n declared registers, and its statement: the application, and then the statement with the comparison.
@@ -184,7 +182,7 @@ module _ (m : Macro) (in_order : InOrder m) where
   -- their letters are of the right sorts, and fit the header.
   pub letters_are_of_right_sorts : (ρ : Trace) → Partial (begin (header_of m)) (expanded m) ρ → RightSorts (declared_count m) m.first_test ρ
   letters_are_of_right_sorts =
-      expanded_sorts (header m.registers m.functions m.arities) m.first_test (header_of m) (inlined m) (inlined_uses m in_order)
+      expanded_sorts (header m.registers m.functions m.arities) m.first_test (header_of m) m.body in_order.uses
 
   pub executions_are_well_formed : (ρ : Trace) → Partial (begin (header_of m)) (expanded m) ρ → WellFormed ρ
   executions_are_well_formed ρ x =
@@ -208,14 +206,15 @@ module _ (m : Macro) (in_order : InOrder m) where
       feasible_alike {ℓ} (declared_count m) m.first_test ρ (letters_are_of_right_sorts ρ x) (executions_are_well_formed ρ x)
 
   -- What the macro does as it is written, with a meaning, is what it executes with all tests holding, through the whole and to a false assertion.
-  pub runs_as_executed {ℓ} : (R : Meaning {ℓ}) (o : Outcome) → ((w : Values R) × RunsBlock R m.subs m.body R.start w o)
+  pub runs_as_executed {ℓ} : (R : Meaning {ℓ}) (o : Outcome) → ((w : Values R) × RunsBlock R m.body R.start w o)
       ↔ ((ρ : Trace) × ExecBlock (written_out (expanded m)) (begin (header_of m)) ρ o × AllHold (declared_count m) R ρ)
-  runs_as_executed R o = macro_runs_exactly m in_order R (header_of m) o
+  runs_as_executed R o =
+      runs_exactly (header m.registers m.functions m.arities) m.first_test R m.body in_order.uses (header_of m) o
 
   -- "so a verdict covers every meaning that a test could have": no data model reaches a false assertion exactly if no meaning does. The first is what
   -- demand 3 asks for pass (`else-pass-exactly` of Demand3.antt); the second is said of the macro as it is written.
   pub no_assertion_fails_exactly {ℓ} : ((ρ : Trace) → Failing (begin (header_of m)) (expanded m) ρ → ¬ Feasible (state ρ))
-      ↔ ((R : Meaning {ℓ}) → ¬ ReachesFalseAssertion R m.subs m.body)
+      ↔ ((R : Meaning {ℓ}) → ¬ ReachesFalseAssertion R m.body)
   no_assertion_fails_exactly = (
     λ n R x. let (ρ, e, a) = (runs_as_executed R failed).0 x in n ρ e ((feasible_exactly_with_some_meaning {ℓ} ρ (broken_off e)).1 (R, a)),
     λ n ρ e f. let (R, a) = (feasible_exactly_with_some_meaning {ℓ} ρ (broken_off e)).0 f in n R ((runs_as_executed R failed).1 (ρ, e, a)),
@@ -227,7 +226,7 @@ module _ (text : List ℕ) (m : Macro) (accepted : Accepted text m) where
   pub pass_covers_every_meaning {ℓ} : (table output : List ℕ) (answer : VerdictAnswer) (table' output' : List ℕ)
       → Demand3 Feasible text table output answer table' output' → answer ≢ full
       → IsPass answer ↔ (((ρ : Trace) → Partial (begin (header_of m)) (expanded m) ρ → Coherent ρ)
-      × ((R : Meaning {ℓ}) → ¬ ReachesFalseAssertion R m.subs m.body))
+      × ((R : Meaning {ℓ}) → ¬ ReachesFalseAssertion R m.body))
   pass_covers_every_meaning table output answer table' output' met u =
       let (f, g) = (met.verdict m accepted).pass_exactly u in
       let (i, j) = no_assertion_fails_exactly {ℓ} m accepted.in_order in
@@ -235,7 +234,7 @@ module _ (text : List ℕ) (m : Macro) (accepted : Accepted text m) where
 
   -- and a failure that is shown has a meaning with which all tests of its execution hold, and the macro reaches a false assertion.
   pub a_shown_failure_has_a_meaning {ℓ} : (k : ℕ) (ls : List Letter) → Shows Feasible (begin (header_of m)) (expanded m) failing k ls
-      → (R : Meaning {ℓ}) × AllHold (declared_count m) R (extend (begin (header_of m)) ls) × ReachesFalseAssertion R m.subs m.body
+      → (R : Meaning {ℓ}) × AllHold (declared_count m) R (extend (begin (header_of m)) ls) × ReachesFalseAssertion R m.body
   a_shown_failure_has_a_meaning k ls x =
       let ρ = extend (begin (header_of m)) ls in
       let run = x.of_kind.0 in

@@ -16,8 +16,6 @@ use Rattle.tokens.specs.Tokens.{token, token_at, bytes_at, place_of}
 use Rattle.tokens.proofs.Theory.Keys.{same_token}
 use Rattle.grammar.specs.Grammar.{Macro}
 use Rattle.grammar.specs.Spelled.{function_token}
-use Rattle.grammar.specs.Inlined.{inlined_block, inlined_bodies}
-use Rattle.grammar.specs.Reading.{subs_from, sub_t, called}
 use Rattle.grammar.specs.Reading.{index_of, condition, ended_condition, arguments_t, right_hand_side, assignment, block, register_names, arity_of, entries}
 use Rattle.grammar.proofs.Theory.Reading.{read_text, read_macro}
 use Rattle.refusals.specs.Order.{Refusal}
@@ -70,8 +68,8 @@ unfoldable pub declares_both : List ℕ
 declares_both = 118 ∷ 97 ∷ 114 ∷ 115 ∷ 32 ∷ 99 ∷ 97 ∷ 112 ∷ 32 ∷ 67 ∷ 65 ∷ 80 ∷ 59 ∷ []
 
 pub both_refused_by_10 : Refusal declares_both declaration_wrong 9
-unfolding declares_both read_macro read_text token_at gap width name_length register_names subs_from sub_t called inlined_block inlined_bodies index_of entries arity_of
-    block condition ended_condition assignment right_hand_side arguments_t size_statement
+unfolding declares_both read_macro read_text token_at gap width name_length register_names index_of entries arity_of block condition ended_condition assignment
+    right_hand_side arguments_t size_statement
 both_refused_by_10 = refused_refusal declares_both declaration_wrong 9 refl
 
 -- By document 01 alone it is refused by 8, at the same byte.
@@ -84,8 +82,8 @@ unfoldable pub declares_twice : List ℕ
 declares_twice = 118 ∷ 97 ∷ 114 ∷ 115 ∷ 32 ∷ 120 ∷ 59 ∷ 32 ∷ 102 ∷ 117 ∷ 110 ∷ 115 ∷ 32 ∷ 88 ∷ 47 ∷ 49 ∷ 59 ∷ []
 
 pub register_and_function_refused_by_10 : Refusal declares_twice declaration_wrong 13
-unfolding declares_twice read_macro read_text token_at gap width name_length register_names subs_from sub_t called inlined_block inlined_bodies index_of entries arity_of
-    block condition ended_condition assignment right_hand_side arguments_t size_statement
+unfolding declares_twice read_macro read_text token_at gap width name_length register_names index_of entries arity_of block condition ended_condition assignment
+    right_hand_side arguments_t size_statement
 register_and_function_refused_by_10 = refused_refusal declares_twice declaration_wrong 13 refl
 
 -- "Lines print a name as it was declared." `Says` has the lines with `declared_names`: each name as the bytes of the token that declares it,
@@ -153,8 +151,8 @@ words_in_any_case a b e = (ap (λ s. keyword (little_endian s)) e, ap (λ s. is_
 
 -- `vars IF;`
 pub IF-is-a-word : Refusal (118 ∷ 97 ∷ 114 ∷ 115 ∷ 32 ∷ 73 ∷ 70 ∷ 59 ∷ []) grammar_violated 5
-unfolding read_macro read_text token_at gap width name_length register_names subs_from sub_t called inlined_block inlined_bodies index_of entries arity_of block
-    condition ended_condition assignment right_hand_side arguments_t size_statement
+unfolding read_macro read_text token_at gap width name_length register_names index_of entries arity_of block condition ended_condition assignment right_hand_side
+    arguments_t size_statement
 IF-is-a-word = refused_refusal _ grammar_violated 5 refl
 
 -- A text without capitals, as `vars x;` is and `vars cap CAP;` is not,

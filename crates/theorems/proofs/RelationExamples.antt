@@ -4,7 +4,6 @@ use mathlib.Core.Path.{◌≡◌, refl, sym, ap₂, ◌∙◌}
 use mathlib.Core.Logic.{inl}
 use mathlib.Core.Bool.{Bool, true, false, true≢false, false≢true}
 use mathlib.Core.List.Memᴰ
-use mathlib.Core.List.{[]}
 use Prim.Native.Nat.{ℕ, suc, ◌<◌}
 use native.Mathlib.Omega.{arith}
 use lib.Dec.{lit≤, lit<}
@@ -77,42 +76,42 @@ no_meaning_is_enough (R, x) = a_test_answers_equally R x
 
 -- ── macros as they are written ──
 -- `assert hot(x);` is false with some meaning,
-pub hot_need_not_hold : ReachesFalseAssertion (constantly false) [] (assert (holds 0 0 0) then empty)
+pub hot_need_not_hold : ReachesFalseAssertion (constantly false) (assert (holds 0 0 0) then empty)
 hot_need_not_hold = (λ r. tt, RunsBlock.ends (Runs.violates (IsFalse.test_fails refl)))
 
 -- and `assume hot(x); assert hot(x);` with none.
-pub what_is_assumed_holds {ℓ} : (R : Meaning {ℓ}) → ¬ ReachesFalseAssertion R [] (assume (holds 0 0 0) then assert (holds 0 0 0) then empty)
+pub what_is_assumed_holds {ℓ} : (R : Meaning {ℓ}) → ¬ ReachesFalseAssertion R (assume (holds 0 0 0) then assert (holds 0 0 0) then empty)
 what_is_assumed_holds R (w, x) = refuted x
   where
-    asserted : {v u : Values R} → R.relation 0 (v 0) (v 0) ≡ true → ¬ RunsBlock R [] (assert (holds 0 0 0) then empty) v u failed
+    asserted : {v u : Values R} → R.relation 0 (v 0) (v 0) ≡ true → ¬ RunsBlock R (assert (holds 0 0 0) then empty) v u failed
     asserted e (RunsBlock.ends (Runs.violates (IsFalse.test_fails d))) = true≢false (sym e ∙ d)
 
-    refuted : {v u : Values R} → ¬ RunsBlock R [] (assume (holds 0 0 0) then assert (holds 0 0 0) then empty) v u failed
+    refuted : {v u : Values R} → ¬ RunsBlock R (assume (holds 0 0 0) then assert (holds 0 0 0) then empty) v u failed
     refuted (RunsBlock.both (Runs.assumes (IsTrue.test_holds e)) y) = asserted e y
 
 -- A while asks at every turn: behind `while hot(x) { x := cool(x); }`, where `cool` is function 0 and `hot` test 1, `assert !hot(x);` is never false.
-left_false {ℓ} : (R : Meaning {ℓ}) {c : Condition} {b : Block} {v w : Values R} → Runs R [] (while c b) v w done → IsFalse R w c
+left_false {ℓ} : (R : Meaning {ℓ}) {c : Condition} {b : Block} {v w : Values R} → Runs R (while c b) v w done → IsFalse R w c
 left_false R (Runs.leaves y) = y
 left_false R (Runs.turns y x z) = left_false R z
 
 pub cooled_until_not_hot {ℓ} : (R : Meaning {ℓ})
-    → ¬ ReachesFalseAssertion R [] (while (holds 1 0 0) (assign (apply 0 0 0 0) then empty) then assert (fails 1 0 0) then empty)
+    → ¬ ReachesFalseAssertion R (while (holds 1 0 0) (assign (apply 0 0 0 0) then empty) then assert (fails 1 0 0) then empty)
 cooled_until_not_hot R (w, x) = refuted x
   where
-    cooled : {v u : Values R} {o : Outcome} → RunsBlock R [] (assign (apply 0 0 0 0) then empty) v u o → o ≡ done
+    cooled : {v u : Values R} {o : Outcome} → RunsBlock R (assign (apply 0 0 0 0) then empty) v u o → o ≡ done
     cooled (RunsBlock.both (Runs.assigns e) RunsBlock.stop) = refl
 
-    looped : {v u : Values R} → ¬ Runs R [] (while (holds 1 0 0) (assign (apply 0 0 0 0) then empty)) v u failed
+    looped : {v u : Values R} → ¬ Runs R (while (holds 1 0 0) (assign (apply 0 0 0 0) then empty)) v u failed
     looped (Runs.turns y x z) = looped z
     looped (Runs.breaks y x) = let e = cooled x in absurd (let z : ◌≡◌ {A = ℕ} 0 1 = cc in omega arith)
 
     not_hot : {v : Values R} → IsFalse R v (holds 1 0 0) → R.relation 1 (v 0) (v 0) ≡ false
     not_hot (IsFalse.test_fails e) = e
 
-    asserted : {v u : Values R} → R.relation 1 (v 0) (v 0) ≡ false → ¬ RunsBlock R [] (assert (fails 1 0 0) then empty) v u failed
+    asserted : {v u : Values R} → R.relation 1 (v 0) (v 0) ≡ false → ¬ RunsBlock R (assert (fails 1 0 0) then empty) v u failed
     asserted e (RunsBlock.ends (Runs.violates (IsFalse.test_holds d))) = true≢false (sym d ∙ e)
 
     refuted : {v u : Values R}
-        → ¬ RunsBlock R [] (while (holds 1 0 0) (assign (apply 0 0 0 0) then empty) then assert (fails 1 0 0) then empty) v u failed
+        → ¬ RunsBlock R (while (holds 1 0 0) (assign (apply 0 0 0 0) then empty) then assert (fails 1 0 0) then empty) v u failed
     refuted (RunsBlock.both x y) = asserted (not_hot (left_false R x)) y
     refuted (RunsBlock.ends x) = looped x

@@ -2,7 +2,6 @@
 pub mod Traces
 pub mod Events
 pub mod Lines
-pub mod Respelled
 pub mod ByTokens
 pub mod LowerCaseTokens
 pub mod LowerCase
@@ -16,6 +15,3 @@ pub mod PrintedTwice
 pub mod EmptyElses
 pub mod RelationalModels
 pub mod ExpandedSorts
-pub mod Calls
-pub mod PointCounts
-pub mod SubRefusals

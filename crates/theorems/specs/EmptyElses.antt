@@ -1,7 +1,7 @@
 -- "Reading the print yields the macro that was printed, an absent else counting as an empty one" (SPEC 8.6; document 02, request 2): what counts as the
 -- same macro, said without computing anything.
-use Rattle.std.specs.Prelude.{◌≡◌, List, [], ◌∷◌}
-use Rattle.grammar.specs.Tree.{Condition, Statement, if, while, Else, absent, present, Block, empty, ◌then◌, Sub}
+use Rattle.std.specs.Prelude.{◌≡◌}
+use Rattle.grammar.specs.Tree.{Condition, Statement, if, while, Else, absent, present, Block, empty, ◌then◌}
 use Rattle.grammar.specs.Grammar.{Macro}
 
 -- The least congruence that equates an absent else with one whose block is empty.
@@ -27,13 +27,7 @@ mutual
     chained_block : {a b c : Block} → AlikeBlock a b → AlikeBlock b c → AlikeBlock a c
     in_block : {s t : Statement} {a b : Block} → AlikeStatement s t → AlikeBlock a b → AlikeBlock (s then a) (t then b)
 
--- Subs one after the other, in which nothing but their statements may differ, and they only in that.
-pub data AlikeSubs : List Sub → List Sub → Type 0 where
-  none : AlikeSubs [] []
-  more : {u v : Sub} {us vs : List Sub} → u.name ≡ v.name → u.spelling ≡ v.spelling → AlikeBlock u.body v.body → AlikeSubs us vs
-      → AlikeSubs (u ∷ us) (v ∷ vs)
-
--- The same macro, an absent else counting as an empty one: nothing but its statements may differ, those of its subs too, and they only in that (SPEC 8.6).
+-- The same macro, an absent else counting as an empty one: nothing but its statements may differ, and they only in that (SPEC 8.6).
 pub record AlikeMacros (m n : Macro) : Type 0 where
   pub same_registers : m.registers ≡ n.registers
   pub same_register_spellings : m.register_spellings ≡ n.register_spellings
@@ -41,5 +35,4 @@ pub record AlikeMacros (m n : Macro) : Type 0 where
   pub same_function_spellings : m.function_spellings ≡ n.function_spellings
   pub same_arities : m.arities ≡ n.arities
   pub same_first_test : m.first_test ≡ n.first_test
-  pub alike_subs : AlikeSubs m.subs n.subs
   pub alike_bodies : AlikeBlock m.body n.body

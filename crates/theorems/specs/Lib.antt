@@ -6,6 +6,3 @@ pub mod EmptyElses
 pub mod Original
 pub mod Relations
 pub mod MonitorWords
-pub mod Calls
-pub mod PointCounts
-pub mod NameReached

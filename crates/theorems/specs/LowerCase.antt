@@ -1,34 +1,27 @@
 -- Names and words whatever the case of their letters (request 1).
-use Rattle.std.specs.Prelude.{◌≡◌, ℕ, ◌<◌, false, List, [], ◌∷◌, length, get_or}
+use Rattle.std.specs.Prelude.{◌≡◌, ℕ, ◌<◌, false, List, length, get_or}
 use Rattle.tokens.specs.Bytes.{capital, lower_case, key, spelling}
 use Rattle.tokens.specs.Tokens.{place_of, bytes_at}
-use Rattle.grammar.specs.Tree.{Sub}
-use Rattle.grammar.specs.Grammar.{Macro, sub_names}
+use Rattle.grammar.specs.Grammar.{Macro}
 
 -- "Names and words are equal whatever the case of their letters": their bytes are the same in lower case (SPEC 8.2, 8.4).
 abbrev pub EqualNames : List ℕ → List ℕ → Type 0
 EqualNames a b = lower_case a ≡ lower_case b
 
 -- The same macro with its names spelled otherwise, and in lower case (SPEC 8.4, 12.2).
-abbrev pub subs_spelled_as : List ℕ → List Sub → List Sub
-subs_spelled_as [] us = us
-subs_spelled_as (c ∷ cs) [] = []
-subs_spelled_as (c ∷ cs) (u ∷ us) = record { name = u.name; spelling = c; body = u.body } ∷ subs_spelled_as cs us
-
-abbrev pub spelled_as : List ℕ → List ℕ → List ℕ → Macro → Macro
-spelled_as rs fs cs m = record {
+abbrev pub spelled_as : List ℕ → List ℕ → Macro → Macro
+spelled_as rs fs m = record {
   registers = m.registers;
   register_spellings = rs;
   functions = m.functions;
   function_spellings = fs;
   arities = m.arities;
   first_test = m.first_test;
-  subs = subs_spelled_as cs m.subs;
   body = m.body;
 }
 
 abbrev pub in_lower_case : Macro → Macro
-in_lower_case m = spelled_as m.registers m.functions (sub_names m.subs) m
+in_lower_case m = spelled_as m.registers m.functions m
 
 -- Token i of the text, counted from 0, declares a name: its bytes in lower case are what the name is known by; as they stand the reader keeps them,
 -- as a number, and lines print them (SPEC 8.4, 12.2).

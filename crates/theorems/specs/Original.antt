@@ -1,6 +1,6 @@
--- The reading of a text without request 1. A name has no capital letters, and a token is known by its bytes as they stand; blanks, digits, signs, the
--- words that are no names and the length of a name are as now, with the later requests (SPEC 8.1, 8.2). What is refused and what is read is said of any
--- tokens, as `Refusal` and `Accepted` say it of those of a text.
+-- The reading of a text without request 1. A name has no capital letters, and a token is known by its bytes as they stand; blanks, digits, signs and the
+-- length of a name are as now, with the later requests (SPEC 8.1, 8.2). What is refused and what is read is said of any tokens, as `Refusal` and `Accepted`
+-- say it of those of a text.
 use Rattle.std.specs.Prelude.{◌≡◌, ℕ, zero, suc, ◌+◌, ◌≤◌, ◌<◌, Bool, ◌||◌, List, [], ◌∷◌, ◌++◌, leb, eqb, length, get_or, drop}
 use Rattle.std.proofs.Math.Seq.{slice}
 use Rattle.base.specs.Choice.{pick}
@@ -14,7 +14,7 @@ use Rattle.tokens.specs.declared.Token.{Token}
 use Rattle.grammar.specs.Limits.{longest_text, most_points}
 use Rattle.grammar.specs.Grammar.{Macro, sentence, expanded}
 use Rattle.grammar.specs.Spelled.{InOrder}
-use Rattle.refusals.specs.Questions.{No, rank}
+use Rattle.refusals.specs.Questions.{No}
 
 -- ---- tokens (SPEC 8.2, without request 1)
 
@@ -67,7 +67,7 @@ module _ (size : ℕ) (next : ℕ → Token) where
     pub reached : (j : ℕ) → j < index → key_by j ≡ word.end → ⊥
     pub place : p ≡ (next (place_by index)).start
     pub no : NoBy n index
-    pub earliest : (m : ℕ) → rank m < rank n → NoBy m index → ⊥
+    pub lowest : (m : ℕ) → m < n → NoBy m index → ⊥
     pub first : (m j : ℕ) → j < index → NoBy m j → ⊥
 
   -- The tokens from one place to another are the listed ones, and all tokens are the sentence of a macro (SPEC 8.3).

@@ -11,8 +11,8 @@ end = 0
 abbrev pub wrong : ℕ
 wrong = 1
 
--- "Words that are not names: vars funs tests sub skip assume assert call if else while result truth." (SPEC 8.2; document 02, request 4: "the three
--- words leave the names"; request 7: "`sub` and `call` leave the names")
+-- "Words that are not names: vars funs tests skip assume assert if else while result truth." (SPEC 8.2; document 02, request 4: "the three words
+-- leave the names")
 abbrev pub vars_key : ℕ
 vars_key = key (118 ∷ 97 ∷ 114 ∷ 115 ∷ [])
 
@@ -22,9 +22,6 @@ funs_key = key (102 ∷ 117 ∷ 110 ∷ 115 ∷ [])
 abbrev pub tests_key : ℕ
 tests_key = key (116 ∷ 101 ∷ 115 ∷ 116 ∷ 115 ∷ [])
 
-abbrev pub sub_key : ℕ
-sub_key = key (115 ∷ 117 ∷ 98 ∷ [])
-
 abbrev pub skip_key : ℕ
 skip_key = key (115 ∷ 107 ∷ 105 ∷ 112 ∷ [])
 
@@ -33,9 +30,6 @@ assume_key = key (97 ∷ 115 ∷ 115 ∷ 117 ∷ 109 ∷ 101 ∷ [])
 
 abbrev pub assert_key : ℕ
 assert_key = key (97 ∷ 115 ∷ 115 ∷ 101 ∷ 114 ∷ 116 ∷ [])
-
-abbrev pub call_key : ℕ
-call_key = key (99 ∷ 97 ∷ 108 ∷ 108 ∷ [])
 
 abbrev pub if_key : ℕ
 if_key = key (105 ∷ 102 ∷ [])
@@ -61,8 +55,8 @@ truth_key = key truth_word
 
 abbrev pub keyword : ℕ → Bool
 keyword k =
-    eqb k vars_key || eqb k funs_key || eqb k tests_key || eqb k sub_key || eqb k skip_key || eqb k assume_key || eqb k assert_key || eqb k call_key || eqb k if_key
-    || eqb k else_key || eqb k while_key || eqb k result_key || eqb k truth_key
+    eqb k vars_key || eqb k funs_key || eqb k tests_key || eqb k skip_key || eqb k assume_key || eqb k assert_key || eqb k if_key || eqb k else_key || eqb k while_key
+    || eqb k result_key || eqb k truth_key
 
 -- "Tokens: names, `1`, `2`, `:=`, `=`, `!=`, `!`, `;`, `,`, `(`, `)`, `{`, `}`, `/`." (SPEC 8.2; document 02, request 4: "`!` becomes a token")
 abbrev pub one_key : ℕ

@@ -31,9 +31,6 @@ pub const FUNS: u64 = 0x736e7566;
 /// The word `tests`.
 pub const TESTS: u64 = 0x7374736574;
 
-/// The word `sub`.
-pub const SUB: u64 = 0x627573;
-
 /// The word `skip`.
 pub const SKIP: u64 = 0x70696b73;
 
@@ -42,9 +39,6 @@ pub const ASSUME: u64 = 0x656d75737361;
 
 /// The word `assert`.
 pub const ASSERT: u64 = 0x747265737361;
-
-/// The word `call`.
-pub const CALL: u64 = 0x6c6c6163;
 
 /// The word `if`.
 pub const IF: u64 = 0x6669;
@@ -409,9 +403,6 @@ pub fn is_keyword(k: u64) -> bool
     if k == TESTS {
         return true;
     }
-    if k == SUB {
-        return true;
-    }
     if k == SKIP {
         return true;
     }
@@ -419,9 +410,6 @@ pub fn is_keyword(k: u64) -> bool
         return true;
     }
     if k == ASSERT {
-        return true;
-    }
-    if k == CALL {
         return true;
     }
     if k == IF {

@@ -20,7 +20,7 @@ pairs_in e table = capacity_of e (length table)
 -- `table` and `output` are lent; `table'` and `output'` are what they hold afterwards.
 -- Possible σ: some data model satisfies the tests of the state σ. The models are finite ones, or of any values (Verdict).
 pub record Demand3 {ℓ} (Possible : State → Type ℓ) (text table output : List ℕ) (answer : VerdictAnswer) (table' output' : List ℕ) : Type ℓ where
-  -- A text that is refused, by 7 to 13, 16 or 17: "a refusal before it leaves the table untouched", "Refused calls write no output" (SPEC 10.6, 11.5).
+  -- A text that is refused, by 7 to 13 or 16: "a refusal before it leaves the table untouched", "Refused calls write no output" (SPEC 10.6, 11.5).
   -- (Each text is accepted as one macro or refused by one number at one place: `Accepted.exactly-one` of crate `refusals`.)
   pub unread : (number place : ℕ) → Refusal text number place → (answer ≡ refused number place) × (table' ≡ table) × (output' ≡ output)
   -- A text that is that of the macro m: the verdict on all its executions, or 14, or 6 (SPEC 10.4 to 10.7).

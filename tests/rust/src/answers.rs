@@ -435,107 +435,6 @@ pub fn named_tests() -> Vec<(String, &'static str)> {
     answers
 }
 
-/// Named pieces (document 02), with what the verdict program prints: "`sub` and `call` leave the names"; where a sub may
-/// stand and what may be called; what a call performs.
-const NAMED_PIECES: [(&str, &str); 32] = [
-    ("vars sub;", "refused 9 at 5\n"),
-    ("vars x; sub a { } CALL A;", "verdict pass\npairs 0\n"),
-    ("vars x; sub a { call a; }", "refused 11 at 21\n"),
-    ("vars x; sub a { call b; } sub b { }", "refused 11 at 21\n"),
-    ("vars x; sub a { } call x;", "refused 11 at 23\n"),
-    ("vars x; sub a { } x := a;", "refused 11 at 23\n"),
-    ("vars x; sub a { } sub A { }", "refused 10 at 22\n"),
-    ("vars x; sub X { }", "refused 10 at 12\n"),
-    ("vars x; sub a { } skip; sub b { }", "refused 9 at 24\n"),
-    ("vars x; sub a { sub b { } }", "refused 9 at 16\n"),
-    ("vars x; sub a { };", "refused 9 at 17\n"),
-    ("vars x; sub a { y := x; }", "refused 11 at 16\n"),
-    ("vars x;sub a{}sub b{}sub c{}sub d{}sub e{}sub f{}sub g{}sub h{}sub A{}", "refused 17 at 67\n"),
-    ("vars x;sub a{}sub b{}sub c{}sub d{}sub e{}sub f{}sub g{}sub h{}sub if{}", "refused 9 at 67\n"),
-    ("vars x y; sub eq { assert x = y; } x := y; call eq; y := x; call eq;", "verdict pass\npairs 4\n"),
-    // What is settled up to here was so before the request landed; what follows says the same of more texts.
-    ("vars x; Call a;", "refused 11 at 13\n"),
-    ("vars x; call ;", "refused 9 at 13\n"),
-    ("vars x; sub a { } call a", "refused 9 at 24\n"),
-    ("vars x; sub a { } funs f/1;", "refused 9 at 18\n"),
-    ("vars x; funs f/1; tests t/1; sub F { }", "refused 10 at 33\n"),
-    ("vars x; funs f/1; tests t/1; sub T { }", "refused 10 at 33\n"),
-    ("vars x;sub a{}sub b{}sub c{}sub d{}sub e{}sub f{}sub g{}sub h{}sub i", "refused 17 at 67\n"),
-    ("vars x;sub a{}sub b{}sub c{}sub d{}sub e{}sub f{}sub g{}sub h{}sub abcdefghi", "refused 8 at 67\n"),
-    ("vars x;sub a{}sub b{}sub c{}sub d{}sub e{}sub f{}sub g{}sub h{}call h;", "verdict pass\npairs 0\n"),
-    // A failing assert in a sub ends the execution.
-    (
-        "vars x y; sub eq { assert x = y; y := x; } call eq; assert x != y;",
-        "verdict fail\npairs 1\nletters 1\nassume x != y\nvalues 3\nstart x 1\nstart y 2\n",
-    ),
-    // A body that a loop turns, and one that holds a loop.
-    (
-        "vars x y; funs n/1; sub step { x := n(x); } while x != y { call step; } assert x = y;",
-        "verdict pass\npairs 3\n",
-    ),
-    (
-        "vars x y; funs n/1; sub walk { while x != y { x := n(x); } } call walk; assert x = y;",
-        "verdict pass\npairs 3\n",
-    ),
-    // Behind the first call n(x) is lost, and the second one computes it again.
-    (
-        "vars x y z; funs n/1; sub take { y := n(x); } call take; y := z; call take;",
-        "verdict incoherent\npairs 3\nletters 3\ny := n(x)\ny := z\ny := n(x)\n",
-    ),
-    // "Each call has points of its own": by one copy of the points for both calls the last pair would be the first.
-    ("vars x; sub a { x := x; } call a; call a; call a;", "verdict pass\npairs 3\n"),
-    (
-        "vars x; sub a { x := x; } sub b { call a; call a; } call b; call a; call b;",
-        "verdict pass\npairs 5\n",
-    ),
-    ("vars x; tests hot/1; sub a { assume hot(x); } call a; Call A;", "verdict pass\npairs 4\n"),
-    // A sub that nothing calls adds no point.
-    ("vars x y; sub a { assert x = y; } sub b { call a; } skip;", "verdict pass\npairs 0\n"),
-];
-
-/// So many statements of one kind.
-fn times(count: usize, statement: &str) -> String {
-    statement.repeat(count)
-}
-
-/// Subs that call each other, each so often the one above it, over one with this body; then a call of the last.
-pub fn storeys(ground: &str, subs: usize, count: usize) -> String {
-    let names = &["a", "b", "c", "d", "e", "f", "g", "h"][..subs];
-    let calls = |pair: &[&str]| format!("sub {}{{{}}}", pair[1], times(count, &format!("call {};", pair[0])));
-    let above: String = names.windows(2).map(calls).collect();
-    format!("vars x;sub a{{{ground}}}{above}call {};", names[subs - 1])
-}
-
-/// Named pieces: all texts whose answers were settled, with what the verdict program prints. "Points are counted after
-/// expansion, braces as the text nests them, a sub's own included."
-pub fn named_pieces() -> Vec<(String, &'static str)> {
-    let copies = |count: usize| times(count, "x:=x;");
-    let called = |count: usize| format!("vars x;sub a{{{}}}{}", copies(64), times(count, "call a;"));
-    let nested =
-        |depth: usize| format!("vars x;sub a{{{}{}}}call a;", times(depth, "if x=x{"), times(depth, "}"));
-    let mut answers: Vec<(String, &str)> =
-        NAMED_PIECES.into_iter().map(|(text, lines)| (text.to_string(), lines)).collect();
-    answers.extend([
-        (format!("vars x;sub a{{{}", times(16, "if x=x{")), "refused 12 at 124\n"),
-        (nested(15), "verdict pass\npairs 15\n"),
-        (nested(16), "refused 12 at 124\n"),
-        (format!("vars x;sub a{{{}}}", copies(300)), "verdict pass\npairs 0\n"),
-        (format!("vars x;sub a{{{}}}call a;", copies(300)), "refused 13 at 0\n"),
-        (called(4), "verdict pass\npairs 256\n"),
-        (called(4) + "x:=x;", "refused 13 at 0\n"),
-        (called(5), "refused 13 at 0\n"),
-        (storeys("", 7, 80), "verdict pass\npairs 0\n"),
-        (storeys("skip;", 8, 70), "verdict pass\npairs 0\n"),
-        (storeys("x:=x;", 8, 70), "refused 13 at 0\n"),
-        (storeys("x:=x;", 8, 2), "verdict pass\npairs 128\n"),
-        (storeys("x:=x;", 5, 4), "verdict pass\npairs 256\n"),
-        (storeys("x:=x;", 5, 4) + "call a;", "refused 13 at 0\n"),
-        // What is wrong in the text comes first.
-        (storeys("x:=x;", 8, 70) + "call i;", "refused 11 at 3510\n"),
-    ]);
-    answers
-}
-
 /// A text that is laid out.
 pub struct Settled {
     /// The text.
@@ -547,7 +446,7 @@ pub struct Settled {
 }
 
 /// Texts and their prints where 4,096 bytes are lent.
-const PRINTS: [(&str, &str); 10] = [
+const PRINTS: [(&str, &str); 7] = [
     ("vars x;", "vars x;\n"),
     ("vars x;funs f/1g/2;", "vars x;\nfuns f/1 g/2;\n"),
     ("VARS a B;If A=b{}Else{}", "vars a B;\nif a=B{\n}\n"),
@@ -561,16 +460,6 @@ const PRINTS: [(&str, &str); 10] = [
         "Vars X; Tests Hot/1 Warm/2; If ! HOT(x) { } While warm(X,x) { assume !hot(x) ; }",
         "vars X;\ntests Hot/1 Warm/2;\nif!Hot(X){\n}\nwhile Warm(X,X){\nassume!Hot(X);\n}\n",
     ),
-    (
-        "vars x; SUB Part { Skip; } sub p2 { call PART; } Call p2; if x = x { call part; }",
-        "vars x;\nsub Part{\nskip;\n}\nsub p2{\ncall Part;\n}\ncall p2;\nif x=x{\ncall Part;\n}\n",
-    ),
-    // A sub is kept though nothing calls it, or it has no statement; an empty else is dropped in it.
-    ("vars x;sub a{}", "vars x;\nsub a{\n}\n"),
-    (
-        "vars x; tests T/1; sub A{if t(X){}else{#\n}} sub b{call a;if x=x{call A;}else{}}",
-        "vars x;\ntests T/1;\nsub A{\nif T(x){\n}\n}\nsub b{\ncall A;\nif x=x{\ncall A;\n}\n}\n",
-    ),
 ];
 
 /// The house layout (document 02): "Reading the print yields the macro that was printed", and "15, given last, when
@@ -582,8 +471,6 @@ pub fn layouts() -> Vec<Settled> {
     };
     let skips = |count: usize| format!("vars xyz;{}", "skip;".repeat(count));
     let printed = |count: usize| format!("vars xyz;\n{}", "skip;\n".repeat(count));
-    let printed_storeys =
-        |count: usize| format!("vars x;\nsub a{{\n}}\nsub b{{\n{}}}\ncall b;\n", "call a;\n".repeat(count));
     let mut layouts: Vec<Settled> =
         PRINTS.into_iter().map(|(text, print)| settled(text, 4_096, Ok(print.to_string()))).collect();
     layouts.extend([
@@ -595,11 +482,6 @@ pub fn layouts() -> Vec<Settled> {
         settled(&skips(682), 4_096, Err(Refusal::plain(15))),
         settled(&skips(682), 5_000, Err(Refusal::plain(15))),
         settled(&format!("vars x;{}", "x:=x;".repeat(257)), 0, Err(Refusal::plain(13))),
-        // 13 is of the expansion, 15 of the print.
-        settled(&storeys("x:=x;", 8, 70), 0, Err(Refusal::plain(13))),
-        settled(&storeys("skip;", 8, 70), 0, Err(Refusal::plain(15))),
-        settled(&storeys("", 2, 500), 4_096, Ok(printed_storeys(500))),
-        settled(&storeys("", 2, 508), 4_096, Err(Refusal::plain(15))),
     ]);
     layouts
 }

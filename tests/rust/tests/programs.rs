@@ -9,7 +9,7 @@ use std::path::Path;
 use std::process::{Command, Output, Stdio};
 
 #[cfg(feature = "verdict")]
-use fadzgime_tests::answers::{CAPITALS, EQUAL_SIDES_MACROS, named_pieces, named_tests};
+use fadzgime_tests::answers::{CAPITALS, EQUAL_SIDES_MACROS, named_tests};
 use fadzgime_tests::answers::{CLASS_NUMBERS, DISPLAYS, EQUAL_SIDES_TRACES, UNEQUAL_WORDS};
 #[cfg(feature = "verdict")]
 use fadzgime_tests::examples::example_macros;
@@ -98,18 +98,18 @@ fn verdict() {
     let verdicts = ["verdict pass", "verdict fail", "verdict incoherent"];
     assert!(verdicts.iter().all(|word| spread.is_often(word, 100)), "{spread:?}");
     let often = |number: u8| spread.is_often(&format!("refused {number}"), 20);
-    assert!((7..=13).chain([16, 17]).all(often), "{spread:?}");
+    assert!((7..=13).chain([16]).all(often), "{spread:?}");
     check("verdict", (0..5_000).map(some_macro), print_verdict);
 }
 
-/// Texts with capitals, macros that test what is already equal, tests with names and named pieces, against the lines that
-/// were settled for them.
+/// Texts with capitals, macros that test what is already equal and tests with names, against the lines that were
+/// settled for them.
 #[cfg(feature = "verdict")]
 #[test]
 fn verdict_on_settled_texts() {
     let path = program("verdict");
     let settled = CAPITALS.iter().chain(&EQUAL_SIDES_MACROS).map(|(text, lines)| (text.to_string(), *lines));
-    for (text, lines) in settled.chain(named_tests()).chain(named_pieces()) {
+    for (text, lines) in settled.chain(named_tests()) {
         assert_eq!(printed(&path, text.as_bytes()), lines, "{text}");
     }
 }

@@ -41,66 +41,66 @@ use Rattle.tokens.proofs.next.Reads as next_reads
 use Rattle.blocks.proofs.+block_braces_conditional_otherwise_repeat_statement.{statement}
 use Rattle.blocks.proofs.+block_braces_conditional_otherwise_repeat_statement.Tie.{close}
 
-abbrev μ-block : Measures 9 block_kinds.ps ℕ
-μ-block κs a = 2 * (length a.0.now - a.1.1.1.1.1.1.1.0.at) + 1
+abbrev μ-block : Measures 7 block_kinds.ps ℕ
+μ-block κs a = 2 * (length a.0.now - a.1.1.1.1.1.0.at) + 1
 
-abbrev μ-braces : Measures 9 braces_kinds.ps ℕ
-μ-braces κs a = 2 * (length a.0.now - a.1.1.1.1.1.1.1.0.at)
+abbrev μ-braces : Measures 7 braces_kinds.ps ℕ
+μ-braces κs a = 2 * (length a.0.now - a.1.1.1.1.1.0.at)
 
-abbrev μ-conditional : Measures 9 conditional_kinds.ps ℕ
-μ-conditional κs a = 2 * (length a.0.now - a.1.1.1.1.1.1.1.0.at)
+abbrev μ-conditional : Measures 7 conditional_kinds.ps ℕ
+μ-conditional κs a = 2 * (length a.0.now - a.1.1.1.1.1.0.at)
 
-abbrev μ-otherwise : Measures 9 otherwise_kinds.ps ℕ
-μ-otherwise κs a = 2 * (length a.0.now - a.1.1.1.1.1.1.1.0.at)
+abbrev μ-otherwise : Measures 7 otherwise_kinds.ps ℕ
+μ-otherwise κs a = 2 * (length a.0.now - a.1.1.1.1.1.0.at)
 
-abbrev μ-repeat : Measures 9 repeat_kinds.ps ℕ
-μ-repeat κs a = 2 * (length a.0.now - a.1.1.1.1.1.1.1.0.at)
+abbrev μ-repeat : Measures 7 repeat_kinds.ps ℕ
+μ-repeat κs a = 2 * (length a.0.now - a.1.1.1.1.1.0.at)
 
-abbrev μ-statement : Measures 9 statement_kinds.ps ℕ
-μ-statement κs a = 2 * (length a.0.now - a.1.1.1.1.1.1.1.0.at)
+abbrev μ-statement : Measures 7 statement_kinds.ps ℕ
+μ-statement κs a = 2 * (length a.0.now - a.1.1.1.1.1.0.at)
 
-abbrev block_at : ℕ → In 9 block_kinds.ps
-block_at t = and 9 block_kinds.ps (is 9 block_kinds.ps μ-block t) block.Pre
+abbrev block_at : ℕ → In 7 block_kinds.ps
+block_at t = and 7 block_kinds.ps (is 7 block_kinds.ps μ-block t) block.Pre
 
-abbrev block_below : ℕ → In 9 block_kinds.ps
-block_below t = and 9 block_kinds.ps (falls 9 block_kinds.ps ◌<◌ μ-block t) block.Pre
+abbrev block_below : ℕ → In 7 block_kinds.ps
+block_below t = and 7 block_kinds.ps (falls 7 block_kinds.ps ◌<◌ μ-block t) block.Pre
 
-abbrev braces-at : ℕ → In 9 braces_kinds.ps
-braces-at t = and 9 braces_kinds.ps (is 9 braces_kinds.ps μ-braces t) braces.Pre
+abbrev braces-at : ℕ → In 7 braces_kinds.ps
+braces-at t = and 7 braces_kinds.ps (is 7 braces_kinds.ps μ-braces t) braces.Pre
 
-abbrev braces_below : ℕ → In 9 braces_kinds.ps
-braces_below t = and 9 braces_kinds.ps (falls 9 braces_kinds.ps ◌<◌ μ-braces t) braces.Pre
+abbrev braces_below : ℕ → In 7 braces_kinds.ps
+braces_below t = and 7 braces_kinds.ps (falls 7 braces_kinds.ps ◌<◌ μ-braces t) braces.Pre
 
-abbrev conditional_at : ℕ → In 9 conditional_kinds.ps
-conditional_at t = and 9 conditional_kinds.ps (is 9 conditional_kinds.ps μ-conditional t) conditional.Pre
+abbrev conditional_at : ℕ → In 7 conditional_kinds.ps
+conditional_at t = and 7 conditional_kinds.ps (is 7 conditional_kinds.ps μ-conditional t) conditional.Pre
 
-abbrev conditional_below : ℕ → In 9 conditional_kinds.ps
-conditional_below t = and 9 conditional_kinds.ps (falls 9 conditional_kinds.ps ◌<◌ μ-conditional t) conditional.Pre
+abbrev conditional_below : ℕ → In 7 conditional_kinds.ps
+conditional_below t = and 7 conditional_kinds.ps (falls 7 conditional_kinds.ps ◌<◌ μ-conditional t) conditional.Pre
 
-abbrev otherwise_at : ℕ → In 9 otherwise_kinds.ps
-otherwise_at t = and 9 otherwise_kinds.ps (is 9 otherwise_kinds.ps μ-otherwise t) otherwise.Pre
+abbrev otherwise_at : ℕ → In 7 otherwise_kinds.ps
+otherwise_at t = and 7 otherwise_kinds.ps (is 7 otherwise_kinds.ps μ-otherwise t) otherwise.Pre
 
-abbrev otherwise_below : ℕ → In 9 otherwise_kinds.ps
-otherwise_below t = and 9 otherwise_kinds.ps (falls 9 otherwise_kinds.ps ◌<◌ μ-otherwise t) otherwise.Pre
+abbrev otherwise_below : ℕ → In 7 otherwise_kinds.ps
+otherwise_below t = and 7 otherwise_kinds.ps (falls 7 otherwise_kinds.ps ◌<◌ μ-otherwise t) otherwise.Pre
 
-abbrev repeat_at : ℕ → In 9 repeat_kinds.ps
-repeat_at t = and 9 repeat_kinds.ps (is 9 repeat_kinds.ps μ-repeat t) repeat.Pre
+abbrev repeat_at : ℕ → In 7 repeat_kinds.ps
+repeat_at t = and 7 repeat_kinds.ps (is 7 repeat_kinds.ps μ-repeat t) repeat.Pre
 
-abbrev repeat_below : ℕ → In 9 repeat_kinds.ps
-repeat_below t = and 9 repeat_kinds.ps (falls 9 repeat_kinds.ps ◌<◌ μ-repeat t) repeat.Pre
+abbrev repeat_below : ℕ → In 7 repeat_kinds.ps
+repeat_below t = and 7 repeat_kinds.ps (falls 7 repeat_kinds.ps ◌<◌ μ-repeat t) repeat.Pre
 
-abbrev statement_at : ℕ → In 9 statement_kinds.ps
-statement_at t = and 9 statement_kinds.ps (is 9 statement_kinds.ps μ-statement t) statement'.Pre
+abbrev statement_at : ℕ → In 7 statement_kinds.ps
+statement_at t = and 7 statement_kinds.ps (is 7 statement_kinds.ps μ-statement t) statement'.Pre
 
-abbrev statement_below : ℕ → In 9 statement_kinds.ps
-statement_below t = and 9 statement_kinds.ps (falls 9 statement_kinds.ps ◌<◌ μ-statement t) statement'.Pre
+abbrev statement_below : ℕ → In 7 statement_kinds.ps
+statement_below t = and 7 statement_kinds.ps (falls 7 statement_kinds.ps ◌<◌ μ-statement t) statement'.Pre
 
 abbrev block-Inv_loop : block_lts.invariant_loop
-block-Inv_loop text regs funs arities first-test subs bodies depth code₀ first₀ second₀ from start cur₀ code first second cur =
-    law.BlockReached text regs funs arities first-test subs depth bodies from (held_by cur₀ code₀ first₀ second₀) (held_by cur code first second)
+block-Inv_loop text regs funs arities first-test depth code₀ first₀ second₀ from start cur₀ code first second cur =
+    law.BlockReached text regs funs arities first-test depth from (held_by cur₀ code₀ first₀ second₀) (held_by cur code first second)
 
 abbrev block-μ-loop : block_lts.decreases_loop
-block-μ-loop text regs funs arities first-test subs bodies depth code₀ first₀ second₀ from start cur₀ code first second cur = length text - cur.at
+block-μ-loop text regs funs arities first-test depth code₀ first₀ second₀ from start cur₀ code first second cur = length text - cur.at
 
 pub +block-braces-conditional-otherwise-repeat-statement-spec : {M : Type 1} → statement M
 +block-braces-conditional-otherwise-repeat-statement-spec =
@@ -119,38 +119,38 @@ pub +block-braces-conditional-otherwise-repeat-statement-spec : {M : Type 1} →
     block-Inv_loop
     block-μ-loop
     (λ c κs.
-    let at_shared_slice_known5 = c.before in
-    let at_pre = at_shared_slice_known5.before.before.before.before.before in
-    at_pre.requires.1.calls.counted)
+    let at_shared_slice_known3 = c.before in
+    let at_pre = at_shared_slice_known3.before.before.before in
+    at_pre.requires.1.counted)
     (λ c.
-    let at_shared_slice_known5 = c.before.before in
-    let at_pre = at_shared_slice_known5.before.before.before.before.before in
-    law.reached_start _ _ _ _ _ _ _ _ _ _ at_pre.requires.1.calls.counted (c.moved.ensures _))
+    let at_shared_slice_known3 = c.before.before in
+    let at_pre = at_shared_slice_known3.before.before.before in
+    law.reached_start _ _ _ _ _ _ _ _ at_pre.requires.1.counted (c.moved.ensures _))
     (λ c κs. search rules)
     (λ c.
     let at_next = c.before.before in
     let at_loop = at_next.before in
     let at_moved = at_loop.before in
-    let at_shared_slice_known5 = at_moved.before.before in
-    let at_pre = at_shared_slice_known5.before.before.before.before.before in
-    law.block_brace _ _ _ _ _ _ _ _ _ _ _ at_loop.loop.invariant _ at_next.next.ensures _
-    at_pre.requires.1.calls.counted (at_moved.moved.ensures _) c.if1.true)
+    let at_shared_slice_known3 = at_moved.before.before in
+    let at_pre = at_shared_slice_known3.before.before.before in
+    law.block_brace _ _ _ _ _ _ _ _ _ at_loop.loop.invariant _ at_next.next.ensures _
+    at_pre.requires.1.counted (at_moved.moved.ensures _) c.if1.true)
     (λ c.
     let at_if1 = c.before.before in
     let at_next = at_if1.before.before in
     let at_loop = at_next.before in
     let at_moved = at_loop.before in
-    let at_shared_slice_known5 = at_moved.before.before in
-    let at_pre = at_shared_slice_known5.before.before.before.before.before in
-    law.block_end _ _ _ _ _ _ _ _ _ _ _ at_loop.loop.invariant _ at_next.next.ensures _ at_pre.requires.1.calls.counted (at_moved.moved.ensures _)
+    let at_shared_slice_known3 = at_moved.before.before in
+    let at_pre = at_shared_slice_known3.before.before.before in
+    law.block_end _ _ _ _ _ _ _ _ _ at_loop.loop.invariant _ at_next.next.ensures _ at_pre.requires.1.counted (at_moved.moved.ensures _)
     c.if2.true)
     (λ c κs.
     let at_if2 = c.before.before.before in
     let at_if1 = at_if2.before.before in
     let at_loop = at_if1.before.before.before in
     let at_moved = at_loop.before in
-    let at_shared_slice_known5 = at_moved.before.before in
-    let at_pre = at_shared_slice_known5.before.before.before.before.before in
+    let at_shared_slice_known3 = at_moved.before.before in
+    let at_pre = at_shared_slice_known3.before.before.before in
     let on = at_loop.loop.invariant.on in
     let start = (at_moved.moved.ensures []).at in
     let pre = at_pre.requires in
@@ -164,10 +164,8 @@ pub +block-braces-conditional-otherwise-repeat-statement-spec : {M : Type 1} →
     let at_if1 = at_if2.before.before in
     let at_next = at_if1.before.before in
     let at_loop = at_next.before in
-    let at_shared_slice_known5 = at_loop.before.before.before in
-    let at_pre = at_shared_slice_known5.before.before.before.before.before in
-    (law.reached_turn _ _ _ _ _ _ _ _ _ _ _ at_loop.loop.invariant _ at_next.next.ensures _ at_statement.statement.ensures at_if1.if1.false
-    at_if2.if2.false _ at_pre.requires.1.held at_if3.if3.true _ (points_joined at_statement.statement.result _ _ _ _ _ _ _ c.join.ensures.0
+    (law.reached_turn _ _ _ _ _ _ _ _ _ at_loop.loop.invariant _ at_next.next.ensures _ at_statement.statement.ensures at_if1.if1.false
+    at_if2.if2.false at_if3.if3.true _ (points_joined at_statement.statement.result _ _ _ _ _ _ _ c.join.ensures.0
     c.join.ensures.1)).0)
     (λ c.
     let at_if3 = c.before.before.before in
@@ -177,10 +175,8 @@ pub +block-braces-conditional-otherwise-repeat-statement-spec : {M : Type 1} →
     let at_if1 = at_if2.before.before in
     let at_next = at_if1.before.before in
     let at_loop = at_next.before in
-    let at_shared_slice_known5 = at_loop.before.before.before in
-    let at_pre = at_shared_slice_known5.before.before.before.before.before in
-    (law.reached_turn _ _ _ _ _ _ _ _ _ _ _ at_loop.loop.invariant _ at_next.next.ensures _ at_statement.statement.ensures at_if1.if1.false
-    at_if2.if2.false _ at_pre.requires.1.held at_if3.if3.true _ (points_joined at_statement.statement.result _ _ _ _ _ _ _ c.join.ensures.0
+    (law.reached_turn _ _ _ _ _ _ _ _ _ at_loop.loop.invariant _ at_next.next.ensures _ at_statement.statement.ensures at_if1.if1.false
+    at_if2.if2.false at_if3.if3.true _ (points_joined at_statement.statement.result _ _ _ _ _ _ _ c.join.ensures.0
     c.join.ensures.1)).1)
     (λ c.
     let at_statement_arg3 = c.before.before in
@@ -189,7 +185,7 @@ pub +block-braces-conditional-otherwise-repeat-statement-spec : {M : Type 1} →
     let at_next = at_if1.before.before in
     let at_loop = at_next.before in
     let at_moved = at_loop.before in
-    law.block_refused _ _ _ _ _ _ _ _ _ _ _ at_loop.loop.invariant _ at_next.next.ensures _ c.before.statement.ensures at_if1.if1.false
+    law.block_refused _ _ _ _ _ _ _ _ _ at_loop.loop.invariant _ at_next.next.ensures _ c.before.statement.ensures at_if1.if1.false
     at_if2.if2.false _ (at_moved.moved.ensures _) c.if3.false))
     (λ t. braces_lts.spec (
       next_reads.Asked,
@@ -213,19 +209,19 @@ pub +block-braces-conditional-otherwise-repeat-statement-spec : {M : Type 1} →
     (λ c.
     let at_if1 = c.before.before in
     let at_next = at_if1.before.before in
-    law.braces_deep _ _ _ _ _ _ _ _ _ _ at_next.next.ensures _ at_if1.if1.true c.before.if2.true (c.stopped.ensures _))
+    law.braces_deep _ _ _ _ _ _ _ _ at_next.next.ensures _ at_if1.if1.true c.before.if2.true (c.stopped.ensures _))
     (λ c κs.
     let at_next = c.before.before.before in
-    let at_shared_slice_known5 = at_next.before.before in
-    let at_pre = at_shared_slice_known5.before.before.before.before.before in
-    at_pre.requires.1.calls.counted)
+    let at_shared_slice_known3 = at_next.before.before in
+    let at_pre = at_shared_slice_known3.before.before.before in
+    at_pre.requires.1.counted)
     (λ c. omega (arith, c.before.if2.false))
     (λ c κs.
     let at_moved = c.before.before.before in
     let at_if1 = at_moved.before.before in
     let at_next = at_if1.before.before in
-    let at_shared_slice_known5 = at_next.before.before in
-    let at_start = at_shared_slice_known5.before.before.before.before.before in
+    let at_shared_slice_known3 = at_next.before.before in
+    let at_start = at_shared_slice_known3.before.before.before in
     let (x, y) = law.token_on at_start.args.text.now _ _ at_next.next.ensures (omega (arith, at_if1.if1.true)) in
     let z = (at_moved.moved.ensures []).at in
     let pre = at_start.requires in
@@ -238,10 +234,10 @@ pub +block-braces-conditional-otherwise-repeat-statement-spec : {M : Type 1} →
     let at_if2 = at_moved.before in
     let at_if1 = at_if2.before in
     let at_next = at_if1.before.before in
-    let at_shared_slice_known5 = at_next.before.before in
-    let at_pre = at_shared_slice_known5.before.before.before.before.before in
-    law.block_count _ _ _ _ _ _ _ _ _ _ at_next.next.ensures at_if1.if1.true at_if2.if2.false at_pre.requires.1.calls.counted _ _
-    (at_moved.moved.ensures _) at_block.block.ensures _ at_pre.requires.1.held c.before.if3.true)
+    let at_shared_slice_known3 = at_next.before.before in
+    let at_pre = at_shared_slice_known3.before.before.before in
+    law.block_count _ _ _ _ _ _ _ _ at_next.next.ensures at_if1.if1.true at_if2.if2.false at_pre.requires.1.counted _ _
+    (at_moved.moved.ensures _) at_block.block.ensures c.before.if3.true)
     (λ c.
     let at_if3 = c.before.before in
     let at_block = at_if3.before in
@@ -250,9 +246,9 @@ pub +block-braces-conditional-otherwise-repeat-statement-spec : {M : Type 1} →
     let at_if2 = at_moved.before in
     let at_if1 = at_if2.before in
     let at_next = at_if1.before.before in
-    let at_shared_slice_known5 = at_next.before.before in
-    let at_pre = at_shared_slice_known5.before.before.before.before.before in
-    law.braces_read _ _ _ _ _ _ _ _ _ _ at_next.next.ensures at_if1.if1.true at_if2.if2.false at_pre.requires.1.calls.counted _ _
+    let at_shared_slice_known3 = at_next.before.before in
+    let at_pre = at_shared_slice_known3.before.before.before in
+    law.braces_read _ _ _ _ _ _ _ _ at_next.next.ensures at_if1.if1.true at_if2.if2.false at_pre.requires.1.counted _ _
     (at_moved.moved.ensures _) at_block.block.ensures at_if3.if3.true _ _ c.before.expect.ensures (c.passed.ensures _))
     (λ c.
     let at_block_arg3 = c.before.before in
@@ -260,20 +256,20 @@ pub +block-braces-conditional-otherwise-repeat-statement-spec : {M : Type 1} →
     let at_if2 = at_moved.before in
     let at_if1 = at_if2.before in
     let at_next = at_if1.before.before in
-    let at_shared_slice_known5 = at_next.before.before in
-    let at_pre = at_shared_slice_known5.before.before.before.before.before in
-    law.braces_refused _ _ _ _ _ _ _ _ _ _ at_next.next.ensures at_if1.if1.true at_if2.if2.false at_pre.requires.1.calls.counted _ _
+    let at_shared_slice_known3 = at_next.before.before in
+    let at_pre = at_shared_slice_known3.before.before.before in
+    law.braces_refused _ _ _ _ _ _ _ _ at_next.next.ensures at_if1.if1.true at_if2.if2.false at_pre.requires.1.counted _ _
     (at_moved.moved.ensures _) c.before.block.ensures c.if3.false)
     (λ c κs. search rules)
     (λ c κs.
     let at_next = c.before.before.before in
-    let at_shared_slice_known5 = at_next.before.before in
-    let at_pre = at_shared_slice_known5.before.before.before.before.before in
-    at_pre.requires.1.calls.counted)
+    let at_shared_slice_known3 = at_next.before.before in
+    let at_pre = at_shared_slice_known3.before.before.before in
+    at_pre.requires.1.counted)
     (λ c.
     let at_if1 = c.before.before in
     let at_next = at_if1.before.before in
-    law.braces_unfit _ _ _ _ _ _ _ _ _ _ at_next.next.ensures _ _ at_if1.if1.false c.before.unfitting.ensures (c.passed2.ensures _)))
+    law.braces_unfit _ _ _ _ _ _ _ _ at_next.next.ensures _ _ at_if1.if1.false c.before.unfitting.ensures (c.passed2.ensures _)))
     (λ t. conditional_lts.spec (
       condition_reads.Asked,
       condition_reads.Learnt,
@@ -288,21 +284,21 @@ pub +block-braces-conditional-otherwise-repeat-statement-spec : {M : Type 1} →
     ) (conditional_at t)
     conditional.Post
     (λ c κs.
-    let at_shared_slice_known5 = c.before in
-    let at_pre = at_shared_slice_known5.before.before.before.before.before in
+    let at_shared_slice_known3 = c.before in
+    let at_pre = at_shared_slice_known3.before.before.before in
     at_pre.requires.1.few)
     (λ c κs.
     let at_condition = c.before.before.before in
-    let at_shared_slice_known5 = at_condition.before.before in
-    let at_pre = at_shared_slice_known5.before.before.before.before.before in
-    at_pre.requires.1.calls.counted)
+    let at_shared_slice_known3 = at_condition.before.before in
+    let at_pre = at_shared_slice_known3.before.before.before in
+    at_pre.requires.1.counted)
     (λ c κs.
     let at_if1 = c.before.before.before in
     let at_weighed = at_if1.before in
     let at_weighed_arg3 = at_weighed.before in
     let at_condition = at_weighed_arg3.before.before.before in
-    let at_shared_slice_known5 = at_condition.before.before in
-    let at_pre = at_shared_slice_known5.before.before.before.before.before in
+    let at_shared_slice_known3 = at_condition.before.before in
+    let at_pre = at_shared_slice_known3.before.before.before in
     let (x, y, z, u) = law.condition_at _ _ _ _ _ _ _ _ at_condition.condition.ensures at_weighed.weighed.ensures at_if1.if1.true in
     (omega (arith, at_pre.requires.0), law.ready at_pre.requires.1 z))
     (λ c κs.
@@ -312,10 +308,10 @@ pub +block-braces-conditional-otherwise-repeat-statement-spec : {M : Type 1} →
     let at_weighed = at_if1.before in
     let at_weighed_arg3 = at_weighed.before in
     let at_condition = at_weighed_arg3.before.before.before in
-    let at_shared_slice_known5 = at_condition.before.before in
-    let at_pre = at_shared_slice_known5.before.before.before.before.before in
+    let at_shared_slice_known3 = at_condition.before.before in
+    let at_pre = at_shared_slice_known3.before.before.before in
     let (x, y, z, u) = law.condition_at _ _ _ _ _ _ _ _ at_condition.condition.ensures at_weighed.weighed.ensures at_if1.if1.true in
-    let (v, w) = law.braces-at _ _ _ _ _ _ _ _ _ _ _ at_pre.requires.1.held at_braces.braces.ensures at_if2.if2.true in
+    let (v, w) = law.braces-at _ _ _ _ _ _ _ _ at_braces.braces.ensures at_if2.if2.true in
     (omega (arith, at_pre.requires.0), law.ready at_pre.requires.1 w))
     (λ c.
     let at_otherwise_arg3 = c.before.before.before in
@@ -339,7 +335,7 @@ pub +block-braces-conditional-otherwise-repeat-statement-spec : {M : Type 1} →
     let at_weighed = at_if1.before in
     let at_weighed_arg3 = at_weighed.before in
     let at_condition = at_weighed_arg3.before.before.before in
-    law.conditional_read _ _ _ _ _ _ _ _ at_condition.condition.ensures at_weighed.weighed.ensures _ _ _ at_if1.if1.true _
+    law.conditional_read _ _ _ _ _ _ _ _ at_condition.condition.ensures at_weighed.weighed.ensures _ at_if1.if1.true _
     at_braces.braces.ensures at_if2.if2.true _ at_otherwise.otherwise.ensures at_if3.if3.true _
     (points_branched at_otherwise.otherwise.result _ _ _ _ _ _ _ c.branch.ensures.0 c.branch.ensures.1))
     (λ c.
@@ -351,7 +347,7 @@ pub +block-braces-conditional-otherwise-repeat-statement-spec : {M : Type 1} →
     let at_weighed = at_if1.before in
     let at_weighed_arg3 = at_weighed.before in
     let at_condition = at_weighed_arg3.before.before.before in
-    law.conditional_else _ _ _ _ _ _ _ _ at_condition.condition.ensures at_weighed.weighed.ensures _ _ _ at_if1.if1.true _
+    law.conditional_else _ _ _ _ _ _ _ _ at_condition.condition.ensures at_weighed.weighed.ensures _ at_if1.if1.true _
     at_braces.braces.ensures at_if2.if2.true _ c.before.otherwise.ensures c.if3.false)
     (λ c.
     let at_braces_arg3 = c.before.before in
@@ -359,12 +355,12 @@ pub +block-braces-conditional-otherwise-repeat-statement-spec : {M : Type 1} →
     let at_weighed = at_if1.before in
     let at_weighed_arg3 = at_weighed.before in
     let at_condition = at_weighed_arg3.before.before.before in
-    law.conditional_braces _ _ _ _ _ _ _ _ at_condition.condition.ensures at_weighed.weighed.ensures _ _ _ at_if1.if1.true _
+    law.conditional_braces _ _ _ _ _ _ _ _ at_condition.condition.ensures at_weighed.weighed.ensures _ at_if1.if1.true _
     c.before.braces.ensures c.if2.false)
     (λ c.
     let at_weighed_arg3 = c.before.before in
     let at_condition = at_weighed_arg3.before.before.before in
-    law.conditional_refused _ _ _ _ _ _ _ _ at_condition.condition.ensures c.before.weighed.ensures _ _ _
+    law.conditional_refused _ _ _ _ _ _ _ _ at_condition.condition.ensures c.before.weighed.ensures _
     c.if1.false))
     (λ t. otherwise_lts.spec (
       next_reads.Asked,
@@ -378,15 +374,15 @@ pub +block-braces-conditional-otherwise-repeat-statement-spec : {M : Type 1} →
     (λ c κs. search rules)
     (λ c κs.
     let at_next = c.before.before in
-    let at_shared_slice_known5 = at_next.before.before in
-    let at_pre = at_shared_slice_known5.before.before.before.before.before in
-    at_pre.requires.1.calls.counted)
+    let at_shared_slice_known3 = at_next.before.before in
+    let at_pre = at_shared_slice_known3.before.before.before in
+    at_pre.requires.1.counted)
     (λ c κs.
     let at_moved = c.before.before.before in
     let at_if1 = at_moved.before in
     let at_next = at_if1.before.before in
-    let at_shared_slice_known5 = at_next.before.before in
-    let at_start = at_shared_slice_known5.before.before.before.before.before in
+    let at_shared_slice_known3 = at_next.before.before in
+    let at_start = at_shared_slice_known3.before.before.before in
     let (x, y) = law.token_on at_start.args.text.now _ _ at_next.next.ensures (omega (arith, at_if1.if1.true)) in
     let z = (at_moved.moved.ensures []).at in
     let pre = at_start.requires in
@@ -396,16 +392,16 @@ pub +block-braces-conditional-otherwise-repeat-statement-spec : {M : Type 1} →
     let at_moved = at_braces_arg3.before.before.before in
     let at_if1 = at_moved.before in
     let at_next = at_if1.before.before in
-    let at_shared_slice_known5 = at_next.before.before in
-    let at_pre = at_shared_slice_known5.before.before.before.before.before in
-    law.else_present _ _ _ _ _ _ _ _ _ _ at_next.next.ensures _ _ at_if1.if1.true at_pre.requires.1.calls.counted (at_moved.moved.ensures _)
+    let at_shared_slice_known3 = at_next.before.before in
+    let at_pre = at_shared_slice_known3.before.before.before in
+    law.else_present _ _ _ _ _ _ _ _ at_next.next.ensures _ _ at_if1.if1.true at_pre.requires.1.counted (at_moved.moved.ensures _)
     c.braces.ensures)
     (λ c κs.
     let at_next = c.before.before in
-    let at_shared_slice_known5 = at_next.before.before in
-    let at_pre = at_shared_slice_known5.before.before.before.before.before in
-    at_pre.requires.1.calls.counted)
-    (λ c. law.else_absent _ _ _ _ _ _ _ _ _ _ c.before.before.before.next.ensures _ c.before.if1.false (c.moved2.ensures _)))
+    let at_shared_slice_known3 = at_next.before.before in
+    let at_pre = at_shared_slice_known3.before.before.before in
+    at_pre.requires.1.counted)
+    (λ c. law.else_absent _ _ _ _ _ _ _ _ c.before.before.before.next.ensures _ c.before.if1.false (c.moved2.ensures _)))
     (λ t. repeat_lts.spec (
       condition_reads.Asked,
       condition_reads.Learnt,
@@ -418,21 +414,21 @@ pub +block-braces-conditional-otherwise-repeat-statement-spec : {M : Type 1} →
     ) (repeat_at t)
     repeat.Post
     (λ c κs.
-    let at_shared_slice_known5 = c.before in
-    let at_pre = at_shared_slice_known5.before.before.before.before.before in
+    let at_shared_slice_known3 = c.before in
+    let at_pre = at_shared_slice_known3.before.before.before in
     at_pre.requires.1.few)
     (λ c κs.
     let at_condition = c.before.before.before in
-    let at_shared_slice_known5 = at_condition.before.before in
-    let at_pre = at_shared_slice_known5.before.before.before.before.before in
-    at_pre.requires.1.calls.counted)
+    let at_shared_slice_known3 = at_condition.before.before in
+    let at_pre = at_shared_slice_known3.before.before.before in
+    at_pre.requires.1.counted)
     (λ c κs.
     let at_if1 = c.before.before.before in
     let at_weighed = at_if1.before in
     let at_weighed_arg3 = at_weighed.before in
     let at_condition = at_weighed_arg3.before.before.before in
-    let at_shared_slice_known5 = at_condition.before.before in
-    let at_pre = at_shared_slice_known5.before.before.before.before.before in
+    let at_shared_slice_known3 = at_condition.before.before in
+    let at_pre = at_shared_slice_known3.before.before.before in
     let (x, y, z, u) = law.condition_at _ _ _ _ _ _ _ _ at_condition.condition.ensures at_weighed.weighed.ensures at_if1.if1.true in
     (omega (arith, at_pre.requires.0), law.ready at_pre.requires.1 z))
     (λ c.
@@ -452,7 +448,7 @@ pub +block-braces-conditional-otherwise-repeat-statement-spec : {M : Type 1} →
     let at_weighed = at_if1.before in
     let at_weighed_arg3 = at_weighed.before in
     let at_condition = at_weighed_arg3.before.before.before in
-    law.repeat_read _ _ _ _ _ _ _ _ at_condition.condition.ensures at_weighed.weighed.ensures _ _ _ at_if1.if1.true _
+    law.repeat_read _ _ _ _ _ _ _ _ at_condition.condition.ensures at_weighed.weighed.ensures _ at_if1.if1.true _
     at_braces.braces.ensures at_if2.if2.true _ (points_looped at_braces.braces.result _ _ _ _ _ _ _ c.repeat-from.ensures.0
     c.repeat-from.ensures.1))
     (λ c.
@@ -461,12 +457,12 @@ pub +block-braces-conditional-otherwise-repeat-statement-spec : {M : Type 1} →
     let at_weighed = at_if1.before in
     let at_weighed_arg3 = at_weighed.before in
     let at_condition = at_weighed_arg3.before.before.before in
-    law.repeat_braces _ _ _ _ _ _ _ _ at_condition.condition.ensures at_weighed.weighed.ensures _ _ _ at_if1.if1.true _
+    law.repeat_braces _ _ _ _ _ _ _ _ at_condition.condition.ensures at_weighed.weighed.ensures _ at_if1.if1.true _
     c.before.braces.ensures c.if2.false)
     (λ c.
     let at_weighed_arg3 = c.before.before in
     let at_condition = at_weighed_arg3.before.before.before in
-    law.repeat_refused _ _ _ _ _ _ _ _ at_condition.condition.ensures c.before.weighed.ensures _ _ _ c.if1.false))
+    law.repeat_refused _ _ _ _ _ _ _ _ at_condition.condition.ensures c.before.weighed.ensures _ c.if1.false))
     λ t. statement_lts.spec (
       next_reads.Asked,
       next_reads.Learnt,
@@ -483,15 +479,15 @@ pub +block-braces-conditional-otherwise-repeat-statement-spec : {M : Type 1} →
     (λ c κs. search rules)
     (λ c κs.
     let at_next = c.before.before in
-    let at_shared_slice_known5 = at_next.before.before in
-    let at_pre = at_shared_slice_known5.before.before.before.before.before in
-    at_pre.requires.1.calls.counted)
+    let at_shared_slice_known3 = at_next.before.before in
+    let at_pre = at_shared_slice_known3.before.before.before in
+    at_pre.requires.1.counted)
     (λ c κs.
     let at_moved = c.before.before.before in
     let at_if1 = at_moved.before in
     let at_next = at_if1.before.before in
-    let at_shared_slice_known5 = at_next.before.before in
-    let at_start = at_shared_slice_known5.before.before.before.before.before in
+    let at_shared_slice_known3 = at_next.before.before in
+    let at_start = at_shared_slice_known3.before.before.before in
     let (x, y) = law.token_on at_start.args.text.now _ _ at_next.next.ensures (omega (arith, at_if1.if1.true)) in
     let z = (at_moved.moved.ensures []).at in
     let pre = at_start.requires in
@@ -501,23 +497,23 @@ pub +block-braces-conditional-otherwise-repeat-statement-spec : {M : Type 1} →
     let at_moved = at_conditional_arg3.before.before.before in
     let at_if1 = at_moved.before in
     let at_next = at_if1.before.before in
-    let at_shared_slice_known5 = at_next.before.before in
-    let at_pre = at_shared_slice_known5.before.before.before.before.before in
-    law.statement_if _ _ _ _ _ _ _ _ _ _ at_next.next.ensures at_pre.requires.1.calls.counted _ _ (at_moved.moved.ensures _) at_if1.if1.true
+    let at_shared_slice_known3 = at_next.before.before in
+    let at_pre = at_shared_slice_known3.before.before.before in
+    law.statement_if _ _ _ _ _ _ _ _ at_next.next.ensures at_pre.requires.1.counted _ _ (at_moved.moved.ensures _) at_if1.if1.true
     c.conditional.ensures)
     (λ c κs.
     let at_if1 = c.before.before in
     let at_next = at_if1.before.before in
-    let at_shared_slice_known5 = at_next.before.before in
-    let at_pre = at_shared_slice_known5.before.before.before.before.before in
-    at_pre.requires.1.calls.counted)
+    let at_shared_slice_known3 = at_next.before.before in
+    let at_pre = at_shared_slice_known3.before.before.before in
+    at_pre.requires.1.counted)
     (λ c κs.
     let at_moved2 = c.before.before.before in
     let at_if2 = at_moved2.before in
     let at_if1 = at_if2.before.before in
     let at_next = at_if1.before.before in
-    let at_shared_slice_known5 = at_next.before.before in
-    let at_start = at_shared_slice_known5.before.before.before.before.before in
+    let at_shared_slice_known3 = at_next.before.before in
+    let at_start = at_shared_slice_known3.before.before.before in
     let (x, y) = law.token_on at_start.args.text.now _ _ at_next.next.ensures (omega (arith, at_if2.if2.true)) in
     let z = (at_moved2.moved2.ensures []).at in
     let pre = at_start.requires in
@@ -528,16 +524,16 @@ pub +block-braces-conditional-otherwise-repeat-statement-spec : {M : Type 1} →
     let at_if2 = at_moved2.before in
     let at_if1 = at_if2.before.before in
     let at_next = at_if1.before.before in
-    let at_shared_slice_known5 = at_next.before.before in
-    let at_pre = at_shared_slice_known5.before.before.before.before.before in
-    law.statement_while _ _ _ _ _ _ _ _ _ _ at_next.next.ensures at_pre.requires.1.calls.counted _ _ (at_moved2.moved2.ensures _) at_if2.if2.true
+    let at_shared_slice_known3 = at_next.before.before in
+    let at_pre = at_shared_slice_known3.before.before.before in
+    law.statement_while _ _ _ _ _ _ _ _ at_next.next.ensures at_pre.requires.1.counted _ _ (at_moved2.moved2.ensures _) at_if2.if2.true
     c.repeat.ensures)
     (λ c κs.
     let at_if2 = c.before.before.before in
     let at_if1 = at_if2.before.before in
     let at_next = at_if1.before.before in
-    let at_shared_slice_known5 = at_next.before.before in
-    let at_pre = at_shared_slice_known5.before.before.before.before.before in
+    let at_shared_slice_known3 = at_next.before.before in
+    let at_pre = at_shared_slice_known3.before.before.before in
     at_pre.requires.1)
     (λ c.
     let at_plain_arg3 = c.before in

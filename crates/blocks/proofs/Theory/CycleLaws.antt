@@ -6,16 +6,14 @@ use mathlib.Core.Bool.{Bool, true, false}
 use mathlib.Core.List.{List, [], ◌∷◌, ◌++◌, map, append_assoc, append-nil}
 use mathlib.Core.Option.{Option, none, some}
 use lib.Dec.{eqb, leb}
-use lib.ListN.{length, get_or, take, drop, length-append, length-drop}
+use lib.ListN.{length, length-append}
 use borrow.Author.Tests.{eq-eqb, ne_eqb, leb-true, leb-false, eqb-true, lt-ltb, le-ltb}
 use Rattle.base.proofs.Theory.Choice.{by_test}
 use Rattle.base.specs.Each.{each}
 use Rattle.letters.specs.MacroRefusalNumbers.{nesting_too_deep}
 use Rattle.grammar.specs.Limits.{most_points}
-use Rattle.grammar.specs.Tree.{Condition, letter_of, Statement, skip, assign, assume, assert, call, present, Block, empty, ◌then◌}
-use Rattle.grammar.specs.Inlined.{◌joined◌, inlined_statement, inlined_else, inlined_block}
+use Rattle.grammar.specs.Tree.{Condition, letter_of, Statement, skip, assign, assume, assert, present, Block, empty, ◌then◌}
 use Rattle.grammar.specs.Expanded.{application, expanded_statement, expanded_else, expanded_block}
-use Rattle.grammar.proofs.Theory.Inlined.{joined_empty, joined_assoc}
 use Rattle.letters.specs.declared.Letter.{Letter}
 use Rattle.macros.specs.Tree as macro
 use Rattle.macros.specs.Points.{size_else, size_block, entry, compile, compile_else}
@@ -25,27 +23,21 @@ use Rattle.tokens.proofs.Theory.TokensLaws.{token_advance, token_before_end}
 use Rattle.tokens.specs.Words.{is_name}
 use Rattle.tokens.specs.Words as word
 use Rattle.grammar.specs.Reading.{Got, got, exhausted, and_then, refused_token, expect, ended, condition, ended_condition, assignment, braces_t, block, statement}
-use Rattle.grammar.specs.Reading.{closing, use_t, called}
+use Rattle.grammar.specs.Reading.{closing}
 use Rattle.grammar.proofs.Theory.Advance.{condition_on, statement_on, braces_on}
 use Rattle.grammar.proofs.Theory.Enough.{IsAnswer, expect_answers, condition_answers, tested_answers, assignment_answers}
-use Rattle.phrases.specs.Codes.{plain, without_value, lettered, test_of, posed, asked, ended_use}
-use Rattle.phrases.proofs.Theory.Answers.{coded_at}
-use Rattle.phrases.proofs.Theory.PhraseLaws.{ended_below, ended_answers}
+use Rattle.phrases.specs.Codes.{plain, without_value, lettered, test_of, posed, asked}
 use Rattle.phrases.specs.declared.GotNumber as number
 use Rattle.phrases.specs.declared.GotLetter as letter
 use Rattle.phrases.specs.declared.GotCondition as held
-use Rattle.blocks.specs.Held.{step_kind, check_kind, fork_kind, point, unknown, too_many, Progress, points_over, HoldsPoints, sub_space, HoldsBody}
-use Rattle.blocks.proofs.Theory.Bodies.{lent_behind}
+use Rattle.blocks.specs.Held.{step_kind, check_kind, fork_kind, point, unknown, too_many, Progress, points_over, HoldsPoints}
 use Rattle.blocks.proofs.Theory.Held.{redirected}
 use Rattle.blocks.specs.Outcome.{Fine, RefusedAt, ReadAs, Settled, Weighed, Passed, ReaderReady, Enough, inner_block, braces_at, else_at, if_at, while_at}
-use Rattle.blocks.specs.Outcome.{BodiesHeld, Copied, CallReady, CallRead, call_code}
 use Rattle.blocks.specs.Outcome.{waiting, begins, statement_code, else_code, block_code}
-use Rattle.blocks.proofs.Theory.Outcome.{within, forked, joined_to, branched, looped, lead, condition_code}
+use Rattle.blocks.proofs.Theory.Outcome.{within, forked, joined, branched, looped, lead, condition_code}
 use Rattle.blocks.specs.Outcome.{PlainRead, BlockRead, StatementRead, BracesRead, ElseRead, ConditionalRead, RepeatRead}
-use Rattle.blocks.proofs.Theory.OutcomeLaws.{fine_here, fine_count, fine_some, fine_then, fine_changed, outcome_fine, outcome_refused}
-use Rattle.blocks.proofs.Theory.OutcomeLaws.{changed_none, changed_some}
+use Rattle.blocks.proofs.Theory.OutcomeLaws.{fine_count, fine_some, fine_then, fine_changed, outcome_fine, outcome_refused, changed_none, changed_some}
 use Rattle.blocks.proofs.Theory.TableLaws.{over_forked, over_range}
-use Rattle.blocks.proofs.Theory.Redirect.{performed_statement, performed_else, performed_block}
 use Rattle.blocks.proofs.Theory.Redirect.{else_held, block_held, else_held_length, block_held_length, statement_length, block_length, behind, behind_size}
 use Rattle.blocks.proofs.Theory.Redirect.{code_none, code_some, branch_held, loop_held, assume_code, assert_code, if_code, while_code, turned_code}
 use Rattle.blocks.specs.declared.PointEntry.{PointEntry}
@@ -95,312 +87,270 @@ moved_count {st} {r} h f = by_test (leb (st.count + 0) most_points) (λ t. let l
 
 -- ---- blocks, statement by statement
 
-onward_got : (x : Got Block) → and_then x (λ b e. got (empty joined b) e) ≡ x
+-- a block and then another
+unfoldable pub followed : Block → Block → Block
+followed empty x = x
+followed (c then b) x = c then followed b x
+
+followed_behind : (b : Block) (c : Statement) (x : Block) → followed (behind b c) x ≡ followed b (c then x)
+unfolding followed behind
+followed_behind empty c x = refl
+followed_behind (y then b) c x = ap (λ z. y then z) (followed_behind b c x)
+
+followed_empty : (b : Block) → followed b empty ≡ b
+unfolding followed
+followed_empty empty = refl
+followed_empty (c then b) = ap (λ z. c then z) (followed_empty b)
+
+onward_got : (x : Got Block) → and_then x (λ b e. got (followed empty b) e) ≡ x
+unfolding followed
 onward_got (got b e) = refl
 onward_got (Got.refused n p) = refl
 onward_got exhausted = refl
 
 onward_behind : (x : Got Block) (b : Block) (c : Statement)
-    → and_then (and_then x λ y e. got (c then y) e) (λ y e. got (b joined y) e) ≡ and_then x (λ y e. got (behind b c joined y) e)
-onward_behind (got y e) b c = ap (λ z. got z e) (sym (joined_assoc b (c then empty) y))
+    → and_then (and_then x λ y e. got (c then y) e) (λ y e. got (followed b y) e) ≡ and_then x (λ y e. got (followed (behind b c) y) e)
+onward_behind (got y e) b c = ap (λ z. got z e) (sym (followed_behind b c y))
 onward_behind (Got.refused n p) b c = refl
 onward_behind exhausted b c = refl
 
 -- the table after a statement behind a block
-joined_holds : (i : ℕ) (bs : List Block) (b : Block) (c : Statement) (cur₀ cur one : Progress) (a e : ℕ) → Fine cur₀ cur (block_code i bs b cur₀.count) a
-    → Fine cur one (statement_code i bs c cur.count) e → Fine cur₀ (joined_to one cur₀.count cur.count) (block_code i bs (behind b c) cur₀.count) e
-unfolding joined_to
-joined_holds i bs b c cur₀ cur one a e F G =
+joined_holds : (i : ℕ) (b : Block) (c : Statement) (cur₀ cur one : Progress) (a e : ℕ) → Fine cur₀ cur (block_code i b cur₀.count) a
+    → Fine cur one (statement_code i c cur.count) e → Fine cur₀ (joined one cur₀.count cur.count) (block_code i (behind b c) cur₀.count) e
+unfolding joined
+joined_holds i b c cur₀ cur one a e F G =
     let base = cur₀.count in
-    let pb = block_code i bs b base in
-    let pc = statement_code i bs c cur.count in
+    let pb = block_code i b base in
+    let pc = statement_code i c cur.count in
     let n = length-append pb pc in
-    let m = block_length i bs (behind b c) base in let m₁ = behind_size i bs b c in
-    let m₂ = block_length i bs b base in let m₃ = statement_length i bs c cur.count in
-    fine_changed {ps = pb ++ pc} cur.count (each (within base cur.count cur.count) one.points) (block_code i bs (behind b c) base) (fine_then F G)
+    let m = block_length i (behind b c) base in let m₁ = behind_size i b c in let m₂ = block_length i b base in let m₃ = statement_length i c cur.count in
+    fine_changed {ps = pb ++ pc} cur.count (each (within base cur.count cur.count) one.points) (block_code i (behind b c) base) (fine_then F G)
     (omega arith)
     λ old ds H l Q.
-    let low : cur.count ≡ base + size_block (performed_block i bs b) = F.low (omega arith) ∙ ap (λ n. base + n) m₂ in
+    let low : cur.count ≡ base + size_block (expanded_block i b) = F.low (omega arith) ∙ ap (λ n. base + n) m₂ in
     let all = length-append ds (pb ++ pc) in
     let count = Q.count in let start = H.count in
     let turn = each (within base cur.count cur.count) in
-    by_test (eqb (size_block (performed_statement i bs c)) 0)
+    by_test (eqb (size_block (expanded_statement i c)) 0)
     (λ t.
-    let z : size_block (performed_statement i bs c) ≡ 0 = eqb-true (size_block (performed_statement i bs c)) 0 t in
-    subst (λ x. HoldsPoints old x (ds ++ block_code i bs (behind b c) base)) (changed_none one cur.count (turn one.points) (omega arith) (omega arith))
-    (subst (λ ps. HoldsPoints old one (ds ++ ps)) (sym (code_none i bs b c base z ∙ ap (λ n. pb ++ statement_code i bs c n) (sym low))) Q))
+    let z : size_block (expanded_statement i c) ≡ 0 = eqb-true (size_block (expanded_statement i c)) 0 t in
+    subst (λ x. HoldsPoints old x (ds ++ block_code i (behind b c) base)) (changed_none one cur.count (turn one.points) (omega arith) (omega arith))
+    (subst (λ ps. HoldsPoints old one (ds ++ ps)) (sym (code_none i b c base z ∙ ap (λ n. pb ++ statement_code i c n) (sym low))) Q))
     λ t.
-    let z : 0 < size_block (performed_statement i bs c) = some (size_block (performed_statement i bs c)) t in
-    subst (λ x. HoldsPoints old x (ds ++ block_code i bs (behind b c) base)) (changed_some one cur.count (turn one.points) (omega arith) (omega arith))
+    let z : 0 < size_block (expanded_statement i c) = some (size_block (expanded_statement i c)) t in
+    subst (λ x. HoldsPoints old x (ds ++ block_code i (behind b c) base)) (changed_some one cur.count (turn one.points) (omega arith) (omega arith))
     (record {
       size = H.size;
-      count = let k = length-append ds (block_code i bs (behind b c) base) in omega arith;
+      count = let k = length-append ds (block_code i (behind b c) base) in omega arith;
       points =
           ap turn Q.points
           ∙ over_range old ds pb pc base cur.count cur.count (omega arith) (omega arith)
           ∙ ap (λ n. points_over old (ds ++ (map (redirected n) pb ++ pc))) low
-          ∙ ap (λ n. points_over old (ds ++ (map (redirected (base + size_block (performed_block i bs b))) pb ++ statement_code i bs c n))) low
-          ∙ ap (λ ps. points_over old (ds ++ ps)) (sym (code_some i bs b c base z (omega arith)));
+          ∙ ap (λ n. points_over old (ds ++ (map (redirected (base + size_block (expanded_block i b))) pb ++ statement_code i c n))) low
+          ∙ ap (λ ps. points_over old (ds ++ ps)) (sym (code_some i b c base z (omega arith)));
     })
   where
     some : (n : ℕ) → eqb n 0 ≡ false → 0 < n
     some zero h = let z : ◌≡◌ {A = ℕ} 0 1 = cc in absurd (omega arith)
     some (suc n) h = omega arith
 
--- m₀ is the number of the first test; the subs cs may be called, and the numbers us hold their points
-module _ (s rs fs ns : List ℕ) (m₀ : ℕ) (cs : List ℕ) (d : ℕ) (us : List ℕ) where
+-- m₀ is the number of the first test
+module _ (s rs fs ns : List ℕ) (m₀ d : ℕ) where
   -- with k calls the block that begins at cur₀ is a block b, which cur has read, and then what begins at cur
-  abbrev Begun : List Block → Progress → Progress → ℕ → Type 0
-  Begun bs cur₀ cur k = (b : Block) × (j : ℕ) × Enough s rs fs ns m₀ cs d cur.at j
-      × (block s rs fs ns m₀ cs (suc k) d cur₀.at ≡ and_then (block s rs fs ns m₀ cs (suc j) d cur.at) λ x e. got (b joined x) e)
-      × Fine cur₀ cur (block_code (length rs) bs b cur₀.count) cur.at
+  abbrev Begun : Progress → Progress → ℕ → Type 0
+  Begun cur₀ cur k = (b : Block) × (j : ℕ) × Enough s rs fs ns m₀ d cur.at j
+      × (block s rs fs ns m₀ (suc k) d cur₀.at ≡ and_then (block s rs fs ns m₀ (suc j) d cur.at) λ x e. got (followed b x) e)
+      × Fine cur₀ cur (block_code (length rs) b cur₀.count) cur.at
 
   -- The block from cur₀ on, as far as cur: a beginning of it is read.
   pub record BlockReached (from : ℕ) (cur₀ cur : Progress) : Type 0 where
     pub counted : cur.count ≤ too_many
     pub origin : from ≡ cur₀.count
     pub on : cur₀.at ≤ cur.at
-    pub sofar : (bs : List Block) → BodiesHeld s rs fs ns m₀ cs d us bs → (k : ℕ) → Enough s rs fs ns m₀ cs d cur₀.at k → Begun bs cur₀ cur k
+    pub sofar : (k : ℕ) → Enough s rs fs ns m₀ d cur₀.at k → Begun cur₀ cur k
 
   pub reached_start : (st cur : Progress) → st.count ≤ too_many → Fine st cur [] st.at → BlockReached st.count cur cur
-  unfolding block_code compile expanded_block inlined_block
+  unfolding block_code compile expanded_block
   reached_start st cur h f = record {
     counted = fine_count f;
     origin = sym (moved_count h f);
     on = omega arith;
-    sofar = λ bs H k l. (
-      empty,
-      k,
-      l,
-      sym (onward_got (block s rs fs ns m₀ cs (suc k) d cur.at)),
-      subst (λ n. Fine cur cur [] n) (sym f.at) (fine_here f),
-    );
+    sofar = λ k l. (empty, k, l, sym (onward_got (block s rs fs ns m₀ (suc k) d cur.at)), here);
   }
+    where
+      here : Fine cur cur [] cur.at
+      here = record {
+        ok = f.ok;
+        number = f.number;
+        place = f.place;
+        at = refl;
+        low = λ l. omega arith;
+        high = λ l. let c = fine_count f in omega arith;
+        laid = λ old ds H l. subst (HoldsPoints old cur) (sym (append-nil ds)) H;
+      }
 
   module _ (from : ℕ) (cur₀ cur : Progress) (R : BlockReached from cur₀ cur) (t : Token) (e : t ≡ token_at s cur.at) where
     -- the end of the block
-    block_done : (st : Progress) → st.count ≤ too_many → Fine st cur₀ [] st.at → closing s rs fs ns m₀ t.key ≡ true
-        → BlockRead s rs fs ns m₀ cs d us st cur
+    block_done : (st : Progress) → st.count ≤ too_many → Fine st cur₀ [] st.at → closing s rs fs ns m₀ t.key ≡ true → BlockRead s rs fs ns m₀ d st cur
     unfolding block
     block_done st h f c = record {
-      outcome = λ bs H k l.
-          let (b, j, m, q, F) = R.sofar bs H k (subst (λ n. Enough s rs fs ns m₀ cs d n k) (sym f.at) l) in
+      outcome = λ k l.
+          let (b, j, m, q, F) = R.sofar k (subst (λ n. Enough s rs fs ns m₀ d n k) (sym f.at) l) in
           let n = moved_count h f in
-          let last : block s rs fs ns m₀ cs (suc j) d cur.at ≡ got empty cur.at = rw (ap (λ t. closing s rs fs ns m₀ t.key) (sym e) ∙ c) in
-          let whole : block s rs fs ns m₀ cs (suc k) d st.at ≡ got b cur.at =
-          ap (block s rs fs ns m₀ cs (suc k) d) (sym f.at)
+          let last : block s rs fs ns m₀ (suc j) d cur.at ≡ got empty cur.at = rw (ap (λ t. closing s rs fs ns m₀ t.key) (sym e) ∙ c) in
+          let whole : block s rs fs ns m₀ (suc k) d st.at ≡ got b cur.at =
+          ap (block s rs fs ns m₀ (suc k) d) (sym f.at)
           ∙ q
-          ∙ ap (λ x. and_then x λ x e. got (b joined x) e) last
-          ∙ ap (λ b. got b cur.at) (joined_empty b) in
-          subst (ReadAs (block_code (length rs) bs) st cur) (sym whole) (fine_then f (subst (λ n. Fine cur₀ cur (block_code (length rs) bs b n) cur.at) n F));
+          ∙ ap (λ x. and_then x λ x e. got (followed b x) e) last
+          ∙ ap (λ b. got b cur.at) (followed_empty b) in
+          subst (ReadAs (block_code (length rs)) st cur) (sym whole) (fine_then f (subst (λ n. Fine cur₀ cur (block_code (length rs) b n) cur.at) n F));
     }
 
-    pub block_brace : (st : Progress) → st.count ≤ too_many → Fine st cur₀ [] st.at → t.key ≡ word.rbrace_key → BlockRead s rs fs ns m₀ cs d us st cur
+    pub block_brace : (st : Progress) → st.count ≤ too_many → Fine st cur₀ [] st.at → t.key ≡ word.rbrace_key → BlockRead s rs fs ns m₀ d st cur
     block_brace st h f k = block_done st h f (ap (λ n. closing s rs fs ns m₀ n) k)
 
-    pub block_end : (st : Progress) → st.count ≤ too_many → Fine st cur₀ [] st.at → t.key ≡ 0 → BlockRead s rs fs ns m₀ cs d us st cur
+    pub block_end : (st : Progress) → st.count ≤ too_many → Fine st cur₀ [] st.at → t.key ≡ 0 → BlockRead s rs fs ns m₀ d st cur
     block_end st h f k = block_done st h f (ap (λ n. closing s rs fs ns m₀ n) k)
 
-    module _ (one : Progress) (S : StatementRead s rs fs ns m₀ cs d us cur one) where
+    module _ (one : Progress) (S : StatementRead s rs fs ns m₀ d cur one) where
       -- where a statement that was read ends
-      statement_at : (bs : List Block) → BodiesHeld s rs fs ns m₀ cs d us bs → one.ok ≡ true → (cur.at < one.at) × (cur.at < length s)
-          × (one.count ≤ too_many)
-      statement_at bs H h =
+      statement_at : one.ok ≡ true → (cur.at < one.at) × (cur.at < length s) × (one.count ≤ too_many)
+      statement_at h =
           let k = 2 * (length s - cur.at) in
-          let (c, a, g, f) = outcome_fine (statement_code (length rs) bs) cur one (statement s rs fs ns m₀ cs (suc k) d cur.at)
-          (S.outcome bs H k (omega arith)) h in
-          let (x, y) = statement_on s rs fs ns m₀ cs (suc k) d cur.at c a g in
+          let (c, a, g, f) = outcome_fine (statement_code (length rs)) cur one (statement s rs fs ns m₀ (suc k) d cur.at) (S.outcome k (omega arith)) h in
+          let (x, y) = statement_on s rs fs ns m₀ (suc k) d cur.at c a g in
           (omega (arith, f.at), y, fine_count f)
 
       module _ (no_brace : t.key ≡ word.rbrace_key → ⊥) (no_end : t.key ≡ 0 → ⊥) where
         -- one step of the block
         stepped : ℕ → Got Block
-        stepped k = and_then (statement s rs fs ns m₀ cs k d cur.at) λ c a. and_then (block s rs fs ns m₀ cs k d a) λ b e. got (c then b) e
+        stepped k = and_then (statement s rs fs ns m₀ k d cur.at) λ c a. and_then (block s rs fs ns m₀ k d a) λ b e. got (c then b) e
 
-        opened : (k : ℕ) → block s rs fs ns m₀ cs (suc k) d cur.at ≡ stepped k
+        opened : (k : ℕ) → block s rs fs ns m₀ (suc k) d cur.at ≡ stepped k
         unfolding block stepped
         opened k = rw (ap (λ t. closing s rs fs ns m₀ t.key) (sym e) ∙ not_closed)
           where
             not_closed : closing s rs fs ns m₀ t.key ≡ false
             not_closed = rw (ne_eqb t.key word.rbrace_key no_brace, ne_eqb t.key 0 no_end)
 
-        pub reached_turn : (bs : List Block) → BodiesHeld s rs fs ns m₀ cs d us bs → one.ok ≡ true → (r : Progress) → r ≡ joined_to one from cur.count
+        pub reached_turn : one.ok ≡ true → (r : Progress) → r ≡ joined one from cur.count
             → (length s - r.at < length s - cur.at) × BlockReached from cur₀ r
-        unfolding joined_to stepped
-        reached_turn bs H h r u =
-            let (x, y, z) = statement_at bs H h in
+        unfolding joined stepped
+        reached_turn h r u =
+            let (x, y, z) = statement_at h in
             let ra : r.at ≡ one.at = ap (λ r. r.at) u in
             let rc : r.count ≡ one.count = ap (λ r. r.count) u in
             let n = R.on in
-            (omega arith, record { counted = omega arith; origin = R.origin; on = omega arith; sofar = λ bs H k l. go bs H k ra (R.sofar bs H k l) })
+            (omega arith, record { counted = omega arith; origin = R.origin; on = omega arith; sofar = λ k l. go k ra (R.sofar k l) })
           where
-            go : (bs : List Block) → BodiesHeld s rs fs ns m₀ cs d us bs → (k : ℕ) → r.at ≡ one.at → Begun bs cur₀ cur k → Begun bs cur₀ r k
-            go bs H k ra (b, zero, m, q, F) = let (x, y, z) = statement_at bs H h in absurd (omega arith)
-            go bs H k ra (b, suc j, m, q, F) =
-                let (x, y, z) = statement_at bs H h in
-                let (c, a, g, f) = outcome_fine (statement_code (length rs) bs) cur one (statement s rs fs ns m₀ cs (suc j) d cur.at)
-                (S.outcome bs H j m) h in
+            go : (k : ℕ) → r.at ≡ one.at → Begun cur₀ cur k → Begun cur₀ r k
+            go k ra (b, zero, m, q, F) = let (x, y, z) = statement_at h in absurd (omega arith)
+            go k ra (b, suc j, m, q, F) =
+                let (x, y, z) = statement_at h in
+                let (c, a, g, f) = outcome_fine (statement_code (length rs)) cur one (statement s rs fs ns m₀ (suc j) d cur.at) (S.outcome j m) h in
                 let place : a ≡ r.at = sym (ra ∙ f.at) in
-                let behind_one = joined_holds (length rs) bs b c cur₀ cur one cur.at a F f in (
+                let behind_one = joined_holds (length rs) b c cur₀ cur one cur.at a F f in (
                   behind b c,
                   j,
                   omega (arith, f.at),
                   q
-                      ∙ ap (λ x. and_then x λ x e. got (b joined x) e) (opened (suc j))
-                      ∙ ap (λ x. and_then (and_then x λ c a. and_then (block s rs fs ns m₀ cs (suc j) d a) λ b e. got (c then b) e) λ x e. got (b joined x) e) g
-                      ∙ onward_behind (block s rs fs ns m₀ cs (suc j) d a) b c
-                      ∙ ap (λ n. and_then (block s rs fs ns m₀ cs (suc j) d n) λ x e. got (behind b c joined x) e) place,
-                  subst (λ x. Fine cur₀ x (block_code (length rs) bs (behind b c) cur₀.count) r.at)
-                      (ap (λ n. joined_to one n cur.count) (sym R.origin) ∙ sym u)
-                      (subst (λ n. Fine cur₀ (joined_to one cur₀.count cur.count) (block_code (length rs) bs (behind b c) cur₀.count) n)
-                      place behind_one),
+                      ∙ ap (λ x. and_then x λ x e. got (followed b x) e) (opened (suc j))
+                      ∙ ap (λ x. and_then (and_then x λ c a. and_then (block s rs fs ns m₀ (suc j) d a) λ b e. got (c then b) e) λ x e. got (followed b x) e) g
+                      ∙ onward_behind (block s rs fs ns m₀ (suc j) d a) b c
+                      ∙ ap (λ n. and_then (block s rs fs ns m₀ (suc j) d n) λ x e. got (followed (behind b c) x) e) place,
+                  subst (λ x. Fine cur₀ x (block_code (length rs) (behind b c) cur₀.count) r.at)
+                      (ap (λ n. joined one n cur.count) (sym R.origin) ∙ sym u)
+                      (subst (λ n. Fine cur₀ (joined one cur₀.count cur.count) (block_code (length rs) (behind b c) cur₀.count) n) place behind_one),
                 )
 
-        pub block_refused : (st : Progress) → Fine st cur₀ [] st.at → one.ok ≡ false → BlockRead s rs fs ns m₀ cs d us st one
+        pub block_refused : (st : Progress) → Fine st cur₀ [] st.at → one.ok ≡ false → BlockRead s rs fs ns m₀ d st one
         unfolding stepped
-        block_refused st f h = record { outcome = λ bs H k l. go bs H k (R.sofar bs H k (subst (λ n. Enough s rs fs ns m₀ cs d n k) (sym f.at) l)) }
+        block_refused st f h = record { outcome = λ k l. go k (R.sofar k (subst (λ n. Enough s rs fs ns m₀ d n k) (sym f.at) l)) }
           where
-            go : (bs : List Block) → BodiesHeld s rs fs ns m₀ cs d us bs → (k : ℕ) → Begun bs cur₀ cur k
-                → ReadAs (block_code (length rs) bs) st one (block s rs fs ns m₀ cs (suc k) d st.at)
-            go bs H k (b, zero, m, q, F) = let y = token_before_end s cur.at (λ z. no_end (ap (λ t. t.key) e ∙ z)) in absurd (omega arith)
-            go bs H k (b, suc j, m, q, F) =
-                let whole = ap (block s rs fs ns m₀ cs (suc k) d) (sym f.at) ∙ q ∙ ap (λ x. and_then x λ x e. got (b joined x) e) (opened (suc j)) in
-                subst (ReadAs (block_code (length rs) bs) st one) (sym whole)
-                (outcome_refused (block_code (length rs) bs) (block_code (length rs) bs) st st one (stepped (suc j)) _
-                (outcome_refused (statement_code (length rs) bs) (block_code (length rs) bs) cur st one (statement s rs fs ns m₀ cs (suc j) d cur.at) _
-                (S.outcome bs H j m) h) h)
+            go : (k : ℕ) → Begun cur₀ cur k → ReadAs (block_code (length rs)) st one (block s rs fs ns m₀ (suc k) d st.at)
+            go k (b, zero, m, q, F) = let y = token_before_end s cur.at (λ z. no_end (ap (λ t. t.key) e ∙ z)) in absurd (omega arith)
+            go k (b, suc j, m, q, F) =
+                let whole = ap (block s rs fs ns m₀ (suc k) d) (sym f.at) ∙ q ∙ ap (λ x. and_then x λ x e. got (followed b x) e) (opened (suc j)) in
+                subst (ReadAs (block_code (length rs)) st one) (sym whole)
+                (outcome_refused (block_code (length rs)) (block_code (length rs)) st st one (stepped (suc j)) _
+                (outcome_refused (statement_code (length rs)) (block_code (length rs)) cur st one (statement s rs fs ns m₀ (suc j) d cur.at) _
+                (S.outcome j m) h) h)
 
 -- where a token ends
 pub token_on : (s : List ℕ) (at : ℕ) (t : Token) → t ≡ token_at s at → 2 ≤ t.key → (at < t.end) × (t.end ≤ length s)
 token_on s at t e h = subst (λ t. (2 ≤ t.key) → (at < t.end) × (t.end ≤ length s)) (sym e) (token_advance s at) h
 
--- ---- calls
-
-pub call_ready : {cs us : List ℕ} {count : ℕ} (v : ℕ) → CallReady cs us count → v < length cs
-    → (sub_space ≤ length (take (length us - sub_space * v) (drop (sub_space * v) us))) × (count ≤ too_many)
-call_ready {cs} {us} v r h =
-    (let e = ap length (lent_behind (sub_space * v) us) in let n = length-drop (sub_space * v) us in let m = r.room in omega arith, r.counted)
-
-module _ (s cs : List ℕ) (at : ℕ) (us : List ℕ) (st r : Progress) (g : number.GotNumber) (i : g ≡ plain (ended_use s cs at)) where
-  pub call_copied : (v e : ℕ) → g ≡ number.TheVariants.At v e → Copied (take (length us - sub_space * v) (drop (sub_space * v) us)) e st r
-      → CallRead s cs at us st r
-  call_copied v e h C = record {
-    outcome = λ n bs H.
-        let (x, k, q) = coded_at (λ n. n) (ended_use s cs at) g v e i h in
-        let held = subst (HoldsBody (expanded_block n (get_or bs v empty))) (sym (lent_behind (sub_space * v) us)) (H.held v (ended_below s cs at g v e i h)) in
-        rw k (subst (λ x. Fine st r (call_code n bs x st.count) e) q (C.copied (expanded_block n (get_or bs v empty)) held));
-  }
-
-  pub call_refused : (n p : ℕ) → g ≡ number.TheVariants.Refused n p → RefusedAt r n p → CallRead s cs at us st r
-  call_refused n p h o = record { outcome = λ m bs H. go (call_code m bs) (ended_use s cs at) (ended_answers s cs at) i }
-    where
-      go : (code : ℕ → ℕ → List PointEntry) (x : Got ℕ) → IsAnswer x → g ≡ plain x → ReadAs code st r x
-      go code (got v e) a k = let z : ◌≡◌ {A = ℕ} 0 1 = cc in absurd (omega arith)
-      go code (Got.refused m q) a k = let y : n ≡ m = cc in let z : p ≡ q = cc in subst (λ m. RefusedAt r m q) y (subst (λ q. RefusedAt r n q) z o)
-      go code exhausted a k = absurd (a refl)
-
--- a call is a use, and `;`
-called_use : (s rs fs ns : List ℕ) (m₀ : ℕ) (cs : List ℕ) (at : ℕ) → called s rs fs ns m₀ cs at ≡ and_then (ended_use s cs at) λ i e. got (call i) e
-unfolding called ended_use
-called_use s rs fs ns m₀ cs at = used (use_t cs (token_at s at))
-  where
-    closed : (i : ℕ) (x : Got (Unit {0})) → and_then x (λ _ e. got (call i) e) ≡ and_then (and_then x λ _ e. got i e) λ i e. got (call i) e
-    closed i (got u e) = refl
-    closed i (Got.refused n p) = refl
-    closed i exhausted = refl
-
-    used : (g : Got ℕ) → and_then g (λ i e. ended s word.semicolon_key (call i) e)
-        ≡ and_then (and_then g λ i e. ended s word.semicolon_key i e) λ i e. got (call i) e
-    used (got i e) = closed i (expect s word.semicolon_key e)
-    used (Got.refused n p) = refl
-    used exhausted = refl
-
 -- ---- statements
 
-module _ (s rs fs ns : List ℕ) (m₀ : ℕ) (cs : List ℕ) (t : Token) (us : List ℕ) (st : Progress) where
+module _ (s rs fs ns : List ℕ) (m₀ : ℕ) (t : Token) (st : Progress) where
   pub plain_skip : (h : number.GotNumber) (r : Progress) → t.key ≡ word.skip_key → h ≡ without_value (expect s word.semicolon_key t.end) → Passed st r h
-      → PlainRead s rs fs ns m₀ cs t us st r
-  unfolding statement statement_code compile expanded_statement inlined_statement entry size_block
+      → PlainRead s rs fs ns m₀ t st r
+  unfolding statement statement_code compile expanded_statement entry size_block
   plain_skip h r i p q = record {
     read = λ d e m n. record {
-      outcome = λ bs H k l. rw (← e, eq-eqb _ word.skip_key i)
-          (outcome_map (λ _ _. []) (statement_code (length rs) bs) st r (expect s word.semicolon_key t.end) (λ _. skip) (λ _. refl)
+      outcome = λ k l. rw (← e, eq-eqb _ word.skip_key i)
+          (outcome_map (λ _ _. []) (statement_code (length rs)) st r (expect s word.semicolon_key t.end) (λ _. skip) (λ _. refl)
           (passed_outcome (expect s word.semicolon_key t.end) h st r (expect_answers s word.semicolon_key t.end) p q));
     };
   }
 
   pub plain_assume : (h : held.GotCondition) (r : Progress) → t.key ≡ word.assume_key → h ≡ asked (length rs) (ended_condition s rs fs ns m₀ t.end)
-      → Weighed step_kind st r h → PlainRead s rs fs ns m₀ cs t us st r
+      → Weighed step_kind st r h → PlainRead s rs fs ns m₀ t st r
   unfolding statement
   plain_assume h r i p q = record {
     read = λ d e m n. record {
-      outcome = λ bs H k l. rw (← e, ap (λ k. eqb k word.skip_key) i, eq-eqb _ word.assume_key i)
-          (outcome_map (condition_code step_kind (length rs)) (statement_code (length rs) bs) st r (ended_condition s rs fs ns m₀ t.end) assume
-          (λ c. assume_code (length rs) bs c st.count)
+      outcome = λ k l. rw (← e, ap (λ k. eqb k word.skip_key) i, eq-eqb _ word.assume_key i)
+          (outcome_map (condition_code step_kind (length rs)) (statement_code (length rs)) st r (ended_condition s rs fs ns m₀ t.end) assume
+          (λ c. assume_code (length rs) c st.count)
           (weighed_outcome (length rs) step_kind (ended_condition s rs fs ns m₀ t.end) h st r (tested_answers s rs fs ns m₀ t.end) p q));
     };
   }
 
   pub plain_assert : (h : held.GotCondition) (r : Progress) → t.key ≡ word.assert_key → h ≡ asked (length rs) (ended_condition s rs fs ns m₀ t.end)
-      → Weighed check_kind st r h → PlainRead s rs fs ns m₀ cs t us st r
+      → Weighed check_kind st r h → PlainRead s rs fs ns m₀ t st r
   unfolding statement
   plain_assert h r i p q = record {
     read = λ d e m n. record {
-      outcome = λ bs H k l. rw (← e, ap (λ k. eqb k word.skip_key) i, ap (λ k. eqb k word.assume_key) i, eq-eqb _ word.assert_key i)
-          (outcome_map (condition_code check_kind (length rs)) (statement_code (length rs) bs) st r (ended_condition s rs fs ns m₀ t.end) assert
-          (λ c. assert_code (length rs) bs c st.count)
+      outcome = λ k l. rw (← e, ap (λ k. eqb k word.skip_key) i, ap (λ k. eqb k word.assume_key) i, eq-eqb _ word.assert_key i)
+          (outcome_map (condition_code check_kind (length rs)) (statement_code (length rs)) st r (ended_condition s rs fs ns m₀ t.end) assert
+          (λ c. assert_code (length rs) c st.count)
           (weighed_outcome (length rs) check_kind (ended_condition s rs fs ns m₀ t.end) h st r (tested_answers s rs fs ns m₀ t.end) p q));
     };
   }
 
-  pub plain_call : (r : Progress) → t.key ≡ word.call_key → CallRead s cs t.end us st r → PlainRead s rs fs ns m₀ cs t us st r
-  unfolding statement statement_code inlined_statement
-  plain_call r i C = record {
-    read = λ d e m n. record {
-      outcome = λ bs H k l.
-          rw (← e, ap (λ k. eqb k word.skip_key) i, ap (λ k. eqb k word.assume_key) i, ap (λ k. eqb k word.assert_key) i, eq-eqb _ word.call_key i)
-          (subst (ReadAs (statement_code (length rs) bs) st r) (sym (called_use s rs fs ns m₀ cs t.end))
-          (outcome_map (call_code (length rs) bs) (statement_code (length rs) bs) st r (ended_use s cs t.end) call (λ _. refl)
-          (C.outcome (length rs) bs H)));
-    };
-  }
-
-  module _ (n₁ : t.key ≡ word.skip_key → ⊥) (n₂ : t.key ≡ word.assume_key → ⊥) (n₃ : t.key ≡ word.assert_key → ⊥) (n₀ : t.key ≡ word.call_key → ⊥)
-      (b : Bool) (i : b ≡ is_name t.key) where
+  module _ (n₁ : t.key ≡ word.skip_key → ⊥) (n₂ : t.key ≡ word.assume_key → ⊥) (n₃ : t.key ≡ word.assert_key → ⊥) (b : Bool) (i : b ≡ is_name t.key) where
     pub plain_assign : (h : letter.GotLetter) (r : Progress) → b ≡ true → h ≡ lettered letter_of (assignment s rs fs ns m₀ st.at) → Settled st r h
-        → PlainRead s rs fs ns m₀ cs t us st r
-    unfolding statement statement_code compile expanded_statement inlined_statement entry size_block
+        → PlainRead s rs fs ns m₀ t st r
+    unfolding statement statement_code compile expanded_statement entry size_block
     plain_assign h r j p q = record {
       read = λ d e n₄ n₅. record {
-        outcome = λ bs H k l.
+        outcome = λ k l.
             rw (
               ← e,
               ← i,
               ne_eqb _ word.skip_key n₁,
               ne_eqb _ word.assume_key n₂,
               ne_eqb _ word.assert_key n₃,
-              ne_eqb _ word.call_key n₀,
               ne_eqb _ word.if_key n₄,
               ne_eqb _ word.while_key n₅,
               j,
             )
-            (outcome_map (λ a _. waiting step_kind (letter_of a) ∷ []) (statement_code (length rs) bs) st r (assignment s rs fs ns m₀ st.at) assign (λ _. refl)
+            (outcome_map (λ a _. waiting step_kind (letter_of a) ∷ []) (statement_code (length rs)) st r (assignment s rs fs ns m₀ st.at) assign (λ _. refl)
             (settled_outcome letter_of (assignment s rs fs ns m₀ st.at) h st r (assignment_answers s rs fs ns m₀ st.at) p q));
       };
     }
 
-    pub plain_unfit : (h : number.GotNumber) (r : Progress) → b ≡ false → h ≡ plain (refused_token t) → Passed st r h → PlainRead s rs fs ns m₀ cs t us st r
+    pub plain_unfit : (h : number.GotNumber) (r : Progress) → b ≡ false → h ≡ plain (refused_token t) → Passed st r h → PlainRead s rs fs ns m₀ t st r
     unfolding statement
     plain_unfit h r j p q = record {
       read = λ d e n₄ n₅. record {
-        outcome = λ bs H k l.
+        outcome = λ k l.
             rw (
               ← e,
               ← i,
               ne_eqb _ word.skip_key n₁,
               ne_eqb _ word.assume_key n₂,
               ne_eqb _ word.assert_key n₃,
-              ne_eqb _ word.call_key n₀,
               ne_eqb _ word.if_key n₄,
               ne_eqb _ word.while_key n₅,
               j,
@@ -409,134 +359,122 @@ module _ (s rs fs ns : List ℕ) (m₀ : ℕ) (cs : List ℕ) (t : Token) (us : 
       };
     }
 
-module _ (s rs fs ns : List ℕ) (m₀ : ℕ) (cs : List ℕ) (d : ℕ) (us : List ℕ) (st : Progress) (t : Token) (e : t ≡ token_at s st.at) where
+module _ (s rs fs ns : List ℕ) (m₀ d : ℕ) (st : Progress) (t : Token) (e : t ≡ token_at s st.at) where
   -- the word, and what stands behind it
   module _ (v : st.count ≤ too_many) (p r : Progress) (f : Fine st p [] t.end) where
-    pub statement_if : t.key ≡ word.if_key → ConditionalRead s rs fs ns m₀ cs d us p r → StatementRead s rs fs ns m₀ cs d us st r
+    pub statement_if : t.key ≡ word.if_key → ConditionalRead s rs fs ns m₀ d p r → StatementRead s rs fs ns m₀ d st r
     unfolding statement
     statement_if i C = record {
-      outcome = λ bs H k l.
+      outcome = λ k l.
           let (x, y) = token_on s st.at t e (omega arith) in
-          rw (
-            ← e,
-            ap (λ k. eqb k word.skip_key) i,
-            ap (λ k. eqb k word.assume_key) i,
-            ap (λ k. eqb k word.assert_key) i,
-            ap (λ k. eqb k word.call_key) i,
-            eq-eqb _ word.if_key i,
-          )
-          (outcome_behind (statement_code (length rs) bs) st p r (if_at s rs fs ns m₀ cs d k t.end) t.end (moved_count v f) f
-          (subst (λ n. ReadAs (statement_code (length rs) bs) p r (if_at s rs fs ns m₀ cs d k n)) f.at (C.outcome bs H k (let z = f.at in omega arith))));
+          rw (← e, ap (λ k. eqb k word.skip_key) i, ap (λ k. eqb k word.assume_key) i, ap (λ k. eqb k word.assert_key) i, eq-eqb _ word.if_key i)
+          (outcome_behind (statement_code (length rs)) st p r (if_at s rs fs ns m₀ d k t.end) t.end (moved_count v f) f
+          (subst (λ n. ReadAs (statement_code (length rs)) p r (if_at s rs fs ns m₀ d k n)) f.at (C.outcome k (let z = f.at in omega arith))));
     }
 
-    pub statement_while : t.key ≡ word.while_key → RepeatRead s rs fs ns m₀ cs d us p r → StatementRead s rs fs ns m₀ cs d us st r
+    pub statement_while : t.key ≡ word.while_key → RepeatRead s rs fs ns m₀ d p r → StatementRead s rs fs ns m₀ d st r
     unfolding statement
     statement_while i C = record {
-      outcome = λ bs H k l.
+      outcome = λ k l.
           let (x, y) = token_on s st.at t e (omega arith) in
           rw (
             ← e,
             ap (λ k. eqb k word.skip_key) i,
             ap (λ k. eqb k word.assume_key) i,
             ap (λ k. eqb k word.assert_key) i,
-            ap (λ k. eqb k word.call_key) i,
-            ap (λ k. eqb k word.if_key) i,
+            ap
+                (λ k. eqb k word.if_key) i,
             eq-eqb _ word.while_key i,
           )
-          (outcome_behind (statement_code (length rs) bs) st p r (while_at s rs fs ns m₀ cs d k t.end) t.end (moved_count v f) f
-          (subst (λ n. ReadAs (statement_code (length rs) bs) p r (while_at s rs fs ns m₀ cs d k n)) f.at (C.outcome bs H k (let z = f.at in omega arith))));
+          (outcome_behind (statement_code (length rs)) st p r (while_at s rs fs ns m₀ d k t.end) t.end (moved_count v f) f
+          (subst (λ n. ReadAs (statement_code (length rs)) p r (while_at s rs fs ns m₀ d k n)) f.at (C.outcome k (let z = f.at in omega arith))));
     }
 
   -- ---- braces
 
-  pub braces_deep : (r : Progress) → t.key ≡ word.lbrace_key → d ≡ 0 → RefusedAt r nesting_too_deep t.start → BracesRead s rs fs ns m₀ cs d us st r
-  braces_deep r h z o = record { outcome = λ bs H k l. rw (z, ← e, eq-eqb _ word.lbrace_key h) o }
+  pub braces_deep : (r : Progress) → t.key ≡ word.lbrace_key → d ≡ 0 → RefusedAt r nesting_too_deep t.start → BracesRead s rs fs ns m₀ d st r
+  braces_deep r h z o = record { outcome = λ k l. rw (z, ← e, eq-eqb _ word.lbrace_key h) o }
 
   pub braces_unfit : (h : number.GotNumber) (r : Progress) → (t.key ≡ word.lbrace_key → ⊥) → h ≡ plain (refused_token t) → Passed st r h
-      → BracesRead s rs fs ns m₀ cs d us st r
-  braces_unfit h r n p q = record { outcome = λ bs H k l. go bs k d }
+      → BracesRead s rs fs ns m₀ d st r
+  braces_unfit h r n p q = record { outcome = λ k l. go k d }
     where
-      go : (bs : List Block) (k d : ℕ) → ReadAs (block_code (length rs) bs) st r (braces_t s rs fs ns m₀ (inner_block s rs fs ns m₀ cs d k) d (token_at s st.at))
-      go bs k zero = rw (← e, ne_eqb _ word.lbrace_key n) (rw p at q)
-      go bs k (suc d) = rw (← e, ne_eqb _ word.lbrace_key n) (rw p at q)
+      go : (k d : ℕ) → ReadAs (block_code (length rs)) st r (braces_t s rs fs ns m₀ (inner_block s rs fs ns m₀ d k) d (token_at s st.at))
+      go k zero = rw (← e, ne_eqb _ word.lbrace_key n) (rw p at q)
+      go k (suc d) = rw (← e, ne_eqb _ word.lbrace_key n) (rw p at q)
 
   module _ (h : t.key ≡ word.lbrace_key) (n : d ≡ 0 → ⊥) (v : st.count ≤ too_many) (p q : Progress) (f : Fine st p [] t.end)
-      (B : BlockRead s rs fs ns m₀ cs (d - 1) us p q) where
+      (B : BlockRead s rs fs ns m₀ (d - 1) p q) where
     abbrev brace : (st.at < t.end) × (t.end ≤ length s)
     brace = token_on s st.at t e (subst (λ n. 2 ≤ n) (sym h) (omega arith))
 
     -- the block inside, at the calls that the braces have
-    block_inside : (bs : List Block) → BodiesHeld s rs fs ns m₀ cs d us bs → (k : ℕ) → Enough s rs fs ns m₀ cs d st.at k
-        → ReadAs (block_code (length rs) bs) st q (block s rs fs ns m₀ cs k (d - 1) t.end)
-    block_inside bs H zero l = let (x, y) = brace in absurd (omega arith)
-    block_inside bs H (suc k) l =
+    block_inside : (k : ℕ) → Enough s rs fs ns m₀ d st.at k → ReadAs (block_code (length rs)) st q (block s rs fs ns m₀ k (d - 1) t.end)
+    block_inside zero l = let (x, y) = brace in absurd (omega arith)
+    block_inside (suc k) l =
         let (x, y) = brace in
-        outcome_behind (block_code (length rs) bs) st p q (block s rs fs ns m₀ cs (suc k) (d - 1) t.end) t.end (moved_count v f) f
-        (subst (λ n. ReadAs (block_code (length rs) bs) p q (block s rs fs ns m₀ cs (suc k) (d - 1) n))
-        f.at (B.outcome bs H k (let z = f.at in omega arith)))
+        outcome_behind (block_code (length rs)) st p q (block s rs fs ns m₀ (suc k) (d - 1) t.end) t.end (moved_count v f) f
+        (subst (λ n. ReadAs (block_code (length rs)) p q (block s rs fs ns m₀ (suc k) (d - 1) n)) f.at (B.outcome k (let z = f.at in omega arith)))
 
     opened_brace : (k c : ℕ) → d ≡ suc c
-        → braces_at s rs fs ns m₀ cs d k st.at ≡ and_then (block s rs fs ns m₀ cs k (d - 1) t.end) λ b e. ended s word.rbrace_key b e
+        → braces_at s rs fs ns m₀ d k st.at ≡ and_then (block s rs fs ns m₀ k (d - 1) t.end) λ b e. ended s word.rbrace_key b e
     opened_brace k c z = let y : suc c - 1 ≡ c = omega arith in rw (z, ← e, eq-eqb _ word.lbrace_key h, y)
 
-    pub braces_refused : q.ok ≡ false → BracesRead s rs fs ns m₀ cs d us st q
+    pub braces_refused : q.ok ≡ false → BracesRead s rs fs ns m₀ d st q
     braces_refused i = record {
-      outcome = λ bs H k l.
+      outcome = λ k l.
           let z : d ≡ suc (d - 1) = omega arith in
-          rw (opened_brace k (d - 1) z) (outcome_refused (block_code (length rs) bs) (block_code (length rs) bs) st st q
-          (block s rs fs ns m₀ cs k (d - 1) t.end) _
-          (block_inside bs H k l) i);
+          rw (opened_brace k (d - 1) z) (outcome_refused (block_code (length rs)) (block_code (length rs)) st st q (block s rs fs ns m₀ k (d - 1) t.end) _
+          (block_inside k l) i);
     }
 
     pub braces_read : q.ok ≡ true → (o : number.GotNumber) (r : Progress) → o ≡ without_value (expect s word.rbrace_key q.at) → Passed q r o
-        → BracesRead s rs fs ns m₀ cs d us st r
+        → BracesRead s rs fs ns m₀ d st r
     braces_read i o r g u = record {
-      outcome = λ bs H k l.
+      outcome = λ k l.
           let z : d ≡ suc (d - 1) = omega arith in
-          let (b, m, w, j) = outcome_fine (block_code (length rs) bs) st q (block s rs fs ns m₀ cs k (d - 1) t.end) (block_inside bs H k l) i in
+          let (b, m, w, j) = outcome_fine (block_code (length rs)) st q (block s rs fs ns m₀ k (d - 1) t.end) (block_inside k l) i in
           rw (opened_brace k (d - 1) z, w)
-          (go bs b m j (expect s word.rbrace_key m) (expect_answers s word.rbrace_key m) (g ∙ ap (λ n. without_value (expect s word.rbrace_key n)) j.at));
+          (go b m j (expect s word.rbrace_key m) (expect_answers s word.rbrace_key m) (g ∙ ap (λ n. without_value (expect s word.rbrace_key n)) j.at));
     }
       where
-        go : (bs : List Block) (b : Block) (m : ℕ) → Fine st q (block_code (length rs) bs b st.count) m → (x : Got (Unit {0}))
-            → IsAnswer x → o ≡ without_value x
-            → ReadAs (block_code (length rs) bs) st r (and_then x λ _ e. got b e)
-        go bs b m y (got v e) a g = subst (λ ps. Fine st r ps e) (append-nil (block_code (length rs) bs b st.count)) (fine_then y (rw g at u))
-        go bs b m y (Got.refused n v) a g = rw g at u
-        go bs b m y exhausted a g = absurd (a refl)
+        go : (b : Block) (m : ℕ) → Fine st q (block_code (length rs) b st.count) m → (x : Got (Unit {0})) → IsAnswer x → o ≡ without_value x
+            → ReadAs (block_code (length rs)) st r (and_then x λ _ e. got b e)
+        go b m y (got v e) a g = subst (λ ps. Fine st r ps e) (append-nil (block_code (length rs) b st.count)) (fine_then y (rw g at u))
+        go b m y (Got.refused n v) a g = rw g at u
+        go b m y exhausted a g = absurd (a refl)
 
-    pub block_count : (bs : List Block) → BodiesHeld s rs fs ns m₀ cs d us bs → q.ok ≡ true → q.count ≤ too_many
-    block_count bs H i =
+    pub block_count : q.ok ≡ true → q.count ≤ too_many
+    block_count i =
         let k = 2 * (length s - st.at) in
-        let (b, m, w, j) = outcome_fine (block_code (length rs) bs) st q (block s rs fs ns m₀ cs k (d - 1) t.end) (block_inside bs H k (omega arith)) i in
+        let (b, m, w, j) = outcome_fine (block_code (length rs)) st q (block s rs fs ns m₀ k (d - 1) t.end) (block_inside k (omega arith)) i in
         fine_count j
 
   -- ---- else
 
-  pub else_absent : (r : Progress) → (t.key ≡ word.else_key → ⊥) → Fine st r [] st.at → ElseRead s rs fs ns m₀ cs d us st r
-  unfolding else_code compile_else expanded_else inlined_else
-  else_absent r h f = record { outcome = λ bs H k l. rw (← e, ne_eqb _ word.else_key h) f }
+  pub else_absent : (r : Progress) → (t.key ≡ word.else_key → ⊥) → Fine st r [] st.at → ElseRead s rs fs ns m₀ d st r
+  unfolding else_code compile_else expanded_else
+  else_absent r h f = record { outcome = λ k l. rw (← e, ne_eqb _ word.else_key h) f }
 
-  pub else_present : (p r : Progress) → t.key ≡ word.else_key → st.count ≤ too_many → Fine st p [] t.end → BracesRead s rs fs ns m₀ cs d us p r
-      → ElseRead s rs fs ns m₀ cs d us st r
-  unfolding else_code compile_else block_code expanded_else inlined_else
+  pub else_present : (p r : Progress) → t.key ≡ word.else_key → st.count ≤ too_many → Fine st p [] t.end → BracesRead s rs fs ns m₀ d p r
+      → ElseRead s rs fs ns m₀ d st r
+  unfolding else_code compile_else block_code expanded_else
   else_present p r h v f B = record {
-    outcome = λ bs H k l.
+    outcome = λ k l.
         let (x, y) = token_on s st.at t e (subst (λ n. 2 ≤ n) (sym h) (omega arith)) in
         rw (← e, eq-eqb _ word.else_key h)
-        (outcome_map (block_code (length rs) bs) (else_code (length rs) bs) st r (braces_at s rs fs ns m₀ cs d k t.end) present (λ _. refl)
-        (outcome_behind (block_code (length rs) bs) st p r (braces_at s rs fs ns m₀ cs d k t.end) t.end (moved_count v f) f
-        (subst (λ n. ReadAs (block_code (length rs) bs) p r (braces_at s rs fs ns m₀ cs d k n)) f.at (B.outcome bs H k (let z = f.at in omega arith)))));
+        (outcome_map (block_code (length rs)) (else_code (length rs)) st r (braces_at s rs fs ns m₀ d k t.end) present (λ _. refl)
+        (outcome_behind (block_code (length rs)) st p r (braces_at s rs fs ns m₀ d k t.end) t.end (moved_count v f) f
+        (subst (λ n. ReadAs (block_code (length rs)) p r (braces_at s rs fs ns m₀ d k n)) f.at (B.outcome k (let z = f.at in omega arith)))));
   }
 
 -- where braces that were read end
-pub braces-at : (s rs fs ns : List ℕ) (m₀ : ℕ) (cs : List ℕ) (d : ℕ) (us : List ℕ) (p y : Progress) (bs : List Block) → BodiesHeld s rs fs ns m₀ cs d us bs
-    → BracesRead s rs fs ns m₀ cs d us p y → y.ok ≡ true
+pub braces-at : (s rs fs ns : List ℕ) (m₀ d : ℕ) (p y : Progress) → BracesRead s rs fs ns m₀ d p y → y.ok ≡ true
     → (p.at < y.at) × (y.count ≤ too_many)
-braces-at s rs fs ns m₀ cs d us p y bs H B h =
+braces-at s rs fs ns m₀ d p y B h =
     let k = 2 * (length s - p.at) in
-    let (b, m, g, f) = outcome_fine (block_code (length rs) bs) p y (braces_at s rs fs ns m₀ cs d k p.at) (B.outcome bs H k (omega arith)) h in
-    let (x, z) = braces_on s rs fs ns m₀ cs k d p.at b m g in
+    let (b, m, g, f) = outcome_fine (block_code (length rs)) p y (braces_at s rs fs ns m₀ d k p.at) (B.outcome k (omega arith)) h in
+    let (x, z) = braces_on s rs fs ns m₀ k d p.at b m g in
     (omega (arith, f.at), fine_count f)
 
 -- ---- behind `if` and `while`
@@ -658,83 +596,78 @@ module _ (s rs fs ns : List ℕ) (m₀ : ℕ) (st p : Progress) (g : held.GotCon
       let n = length-append (lead (application (length rs) c) st.count) (waiting fork_kind (test_of (length rs) c) ∷ []) in
       (omega (arith, f.at), y, fine_count f, fine_some f (omega arith))
 
-  module _ (cs : List ℕ) (d : ℕ) (us : List ℕ) where
-    pub conditional_refused : p.ok ≡ false → ConditionalRead s rs fs ns m₀ cs d us st p
+  module _ (d : ℕ) where
+    pub conditional_refused : p.ok ≡ false → ConditionalRead s rs fs ns m₀ d st p
     conditional_refused h = record {
-      outcome = λ bs H k l. outcome_refused (condition_code fork_kind (length rs)) (statement_code (length rs) bs) st st p (condition s rs fs ns m₀ st.at) _
+      outcome = λ k l. outcome_refused (condition_code fork_kind (length rs)) (statement_code (length rs)) st st p (condition s rs fs ns m₀ st.at) _
           tested_outcome h;
     }
 
-    pub repeat_refused : p.ok ≡ false → RepeatRead s rs fs ns m₀ cs d us st p
+    pub repeat_refused : p.ok ≡ false → RepeatRead s rs fs ns m₀ d st p
     repeat_refused h = record {
-      outcome = λ bs H k l. outcome_refused (condition_code fork_kind (length rs)) (statement_code (length rs) bs) st st p (condition s rs fs ns m₀ st.at) _
+      outcome = λ k l. outcome_refused (condition_code fork_kind (length rs)) (statement_code (length rs)) st st p (condition s rs fs ns m₀ st.at) _
           tested_outcome h;
     }
 
-    module _ (ok : p.ok ≡ true) (y : Progress) (B : BracesRead s rs fs ns m₀ cs d us p y) where
+    module _ (ok : p.ok ≡ true) (y : Progress) (B : BracesRead s rs fs ns m₀ d p y) where
       -- the braces, at the place behind the condition
-      braced : (bs : List Block) → BodiesHeld s rs fs ns m₀ cs d us bs → (k a : ℕ) → Enough s rs fs ns m₀ cs d st.at k → p.at ≡ a
-          → ReadAs (block_code (length rs) bs) p y (braces_at s rs fs ns m₀ cs d k a)
-      braced bs H k a h q =
+      braced : (k a : ℕ) → Enough s rs fs ns m₀ d st.at k → p.at ≡ a → ReadAs (block_code (length rs)) p y (braces_at s rs fs ns m₀ d k a)
+      braced k a h q =
           let (x, z, w, v) = condition_at ok in
-          subst (λ n. ReadAs (block_code (length rs) bs) p y (braces_at s rs fs ns m₀ cs d k n)) q (B.outcome bs H k (omega arith))
+          subst (λ n. ReadAs (block_code (length rs)) p y (braces_at s rs fs ns m₀ d k n)) q (B.outcome k (omega arith))
 
-      pub repeat_braces : y.ok ≡ false → RepeatRead s rs fs ns m₀ cs d us st y
+      pub repeat_braces : y.ok ≡ false → RepeatRead s rs fs ns m₀ d st y
       repeat_braces n = record {
-        outcome = λ bs H k h.
+        outcome = λ k h.
             let (c, a, w, F) = told ok in
-            rw w (outcome_refused (block_code (length rs) bs) (statement_code (length rs) bs) p st y (braces_at s rs fs ns m₀ cs d k a) _
-            (braced bs H k a h F.at) n);
+            rw w (outcome_refused (block_code (length rs)) (statement_code (length rs)) p st y (braces_at s rs fs ns m₀ d k a) _ (braced k a h F.at) n);
       }
 
-      pub repeat_read : y.ok ≡ true → (r : Progress) → r ≡ looped y (p.count - 1) st.count → RepeatRead s rs fs ns m₀ cs d us st r
+      pub repeat_read : y.ok ≡ true → (r : Progress) → r ≡ looped y (p.count - 1) st.count → RepeatRead s rs fs ns m₀ d st r
       unfolding block_code
       repeat_read n r q = record {
-        outcome = λ bs H k h.
+        outcome = λ k h.
             let (c, a, w, F) = told ok in
-            let (b, m, v, G) = outcome_fine (block_code (length rs) bs) p y (braces_at s rs fs ns m₀ cs d k a) (braced bs H k a h F.at) n in
+            let (b, m, v, G) = outcome_fine (block_code (length rs)) p y (braces_at s rs fs ns m₀ d k a) (braced k a h F.at) n in
             let ls = lead (application (length rs) c) st.count in
-            rw (w, v, q, while_code (length rs) bs c b st.count)
-            (looped_fine (test_of (length rs) c) ls st p a F (performed_block (length rs) bs b) y m G);
+            rw (w, v, q, while_code (length rs) c b st.count)
+            (looped_fine (test_of (length rs) c) ls st p a F (expanded_block (length rs) b) y m G);
       }
 
-      pub conditional_braces : y.ok ≡ false → ConditionalRead s rs fs ns m₀ cs d us st y
+      pub conditional_braces : y.ok ≡ false → ConditionalRead s rs fs ns m₀ d st y
       conditional_braces n = record {
-        outcome = λ bs H k h.
+        outcome = λ k h.
             let (c, a, w, F) = told ok in
-            rw w (outcome_refused (block_code (length rs) bs) (statement_code (length rs) bs) p st y (braces_at s rs fs ns m₀ cs d k a) _
-            (braced bs H k a h F.at) n);
+            rw w (outcome_refused (block_code (length rs)) (statement_code (length rs)) p st y (braces_at s rs fs ns m₀ d k a) _ (braced k a h F.at) n);
       }
 
-      module _ (n : y.ok ≡ true) (z : Progress) (E : ElseRead s rs fs ns m₀ cs d us y z) where
-        otherwised : (bs : List Block) → BodiesHeld s rs fs ns m₀ cs d us bs → (k m : ℕ) → Enough s rs fs ns m₀ cs d st.at k → y.at ≡ m
-            → ReadAs (else_code (length rs) bs) y z (else_at s rs fs ns m₀ cs d k m)
-        otherwised bs H k m h q =
-            let (x, v) = braces-at s rs fs ns m₀ cs d us p y bs H B n in let (x', v', w', u') = condition_at ok in
-            subst (λ n. ReadAs (else_code (length rs) bs) y z (else_at s rs fs ns m₀ cs d k n)) q (E.outcome bs H k (omega arith))
+      module _ (n : y.ok ≡ true) (z : Progress) (E : ElseRead s rs fs ns m₀ d y z) where
+        otherwised : (k m : ℕ) → Enough s rs fs ns m₀ d st.at k → y.at ≡ m → ReadAs (else_code (length rs)) y z (else_at s rs fs ns m₀ d k m)
+        otherwised k m h q =
+            let (x, v) = braces-at s rs fs ns m₀ d p y B n in let (x', v', w', u') = condition_at ok in
+            subst (λ n. ReadAs (else_code (length rs)) y z (else_at s rs fs ns m₀ d k n)) q (E.outcome k (omega arith))
 
-        pub conditional_else : z.ok ≡ false → ConditionalRead s rs fs ns m₀ cs d us st z
+        pub conditional_else : z.ok ≡ false → ConditionalRead s rs fs ns m₀ d st z
         conditional_else x = record {
-          outcome = λ bs H k h.
+          outcome = λ k h.
               let (c, a, w, F) = told ok in
-              let (b, m, v, G) = outcome_fine (block_code (length rs) bs) p y (braces_at s rs fs ns m₀ cs d k a) (braced bs H k a h F.at) n in
-              rw (w, v) (outcome_refused (else_code (length rs) bs) (statement_code (length rs) bs) y st z (else_at s rs fs ns m₀ cs d k m) _
-              (otherwised bs H k m h G.at) x);
+              let (b, m, v, G) = outcome_fine (block_code (length rs)) p y (braces_at s rs fs ns m₀ d k a) (braced k a h F.at) n in
+              rw (w, v) (outcome_refused (else_code (length rs)) (statement_code (length rs)) y st z (else_at s rs fs ns m₀ d k m) _ (otherwised k m h G.at) x);
         }
 
-        pub conditional_read : z.ok ≡ true → (r : Progress) → r ≡ branched z (p.count - 1) y.count → ConditionalRead s rs fs ns m₀ cs d us st r
+        pub conditional_read : z.ok ≡ true → (r : Progress) → r ≡ branched z (p.count - 1) y.count → ConditionalRead s rs fs ns m₀ d st r
         unfolding block_code else_code
         conditional_read x r q = record {
-          outcome = λ bs H k h.
+          outcome = λ k h.
               let (c, a, w, F) = told ok in
-              let (b, m, v, G) = outcome_fine (block_code (length rs) bs) p y (braces_at s rs fs ns m₀ cs d k a) (braced bs H k a h F.at) n in
-              let (o, f, v', E') = outcome_fine (else_code (length rs) bs) y z (else_at s rs fs ns m₀ cs d k m) (otherwised bs H k m h G.at) x in
+              let (b, m, v, G) = outcome_fine (block_code (length rs)) p y (braces_at s rs fs ns m₀ d k a) (braced k a h F.at) n in
+              let (o, f, v', E') = outcome_fine (else_code (length rs)) y z (else_at s rs fs ns m₀ d k m) (otherwised k m h G.at) x in
               let ls = lead (application (length rs) c) st.count in
-              rw (w, v, v', q, if_code (length rs) bs c b st.count o)
-              (branched_fine (test_of (length rs) c) ls st p a F (performed_block (length rs) bs b) (performed_else (length rs) bs o) y z m f G E');
+              rw (w, v, v', q, if_code (length rs) c b st.count o)
+              (branched_fine (test_of (length rs) c) ls st p a F (expanded_block (length rs) b) (expanded_else (length rs) o) y z m f G E');
         }
 
 -- ---- small facts for the calls
 
-pub ready : {rs fs ns : List ℕ} {m : ℕ} {cs us : List ℕ} {i j : ℕ} → ReaderReady rs fs ns m cs us i → j ≤ too_many → ReaderReady rs fs ns m cs us j
-ready r h = record { few = r.few; calls = record { subs = r.calls.subs; room = r.calls.room; counted = h }; above = r.above; held = r.held }
+pub ready : {rs fs ns : List ℕ} {m i j : ℕ} → ReaderReady rs fs ns m i → j ≤ too_many → ReaderReady rs fs ns m j
+ready r h = record { few = r.few; counted = h }

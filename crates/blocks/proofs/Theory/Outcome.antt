@@ -26,8 +26,8 @@ abbrev pub changed : Progress → ℕ → List PointEntry → Progress
 changed q n ps = with_points q (changed_to q.count n ps q.points)
 
 -- a statement whose points are numbered from `to` on follows the points from `from` on
-unfoldable pub joined_to : Progress → ℕ → ℕ → Progress
-joined_to q from to = changed q to (each (within from to to) q.points)
+unfoldable pub joined : Progress → ℕ → ℕ → Progress
+joined q from to = changed q to (each (within from to to) q.points)
 
 -- point n, followed by a and b
 abbrev pub forked : List PointEntry → ℕ → ℕ → ℕ → List PointEntry

@@ -17,15 +17,18 @@ use Rattle.grammar.specs.Reading.{Got, got, exhausted, and_then}
 use Rattle.phrases.specs.declared.GotNumber as number
 use Rattle.phrases.specs.declared.GotLetter as letter
 use Rattle.phrases.specs.declared.GotCondition as held
-use Rattle.blocks.specs.Held.{point, Coded, point_of_code, points_of, Progress, progress_of, held_by, HoldsPoints}
+use Rattle.blocks.specs.Held.{point, Coded, points_of, Progress, progress_of, held_by, HoldsPoints}
 use Rattle.blocks.specs.Outcome.{Fine, RefusedAt, ReadAs, Settled, Weighed, Passed, waiting, applying, backpatched_in, begins}
-use Rattle.blocks.specs.Outcome.{changed_to, on}
-use Rattle.blocks.proofs.Theory.Outcome.{with_points, changed, forked, joined_to, branched, looped}
+use Rattle.blocks.specs.Outcome.{changed_to}
+use Rattle.blocks.proofs.Theory.Outcome.{with_points, changed, forked, joined, branched, looped}
 use Rattle.blocks.proofs.Theory.TableLaws.{over_push, points_set, points_forked, points_range}
 use Rattle.blocks.specs.declared.PointEntry.{PointEntry}
 use Rattle.blocks.specs.declared.ReaderState.{ReaderState}
 
 -- ---- one step
+
+abbrev pub on : ℕ → ℕ → ReaderState
+on at n = record { ok = true; number = 0; place = 0; at = at; count = n }
 
 pub fine_moved : (st : ReaderState) (at : ℕ) → st.count ≤ too_many → (ps : List PointEntry) → Fine (progress_of st ps) (progress_of (on at st.count) ps) [] at
 fine_moved st at h ps = record {
@@ -39,10 +42,10 @@ fine_moved st at h ps = record {
       (record { size = H.size; count = H.count; points = H.points });
 }
 
-pub fine_appended : (st : ReaderState) (c next other at : ℕ) (cs xs ys : List ℕ) → st.count < most_points
-    → Fine (held_by st cs xs ys) (held_by (on at (st.count + 1)) (set cs st.count c) (set xs st.count next) (set ys st.count other))
-    (point_of_code c next other ∷ []) at
-fine_appended st c next other at cs xs ys h = record {
+pub fine_pushed : (st : ReaderState) (k : ℕ) (w : Letter) (next at : ℕ) (cs xs ys : List ℕ) (c : ℕ) → Coded k w c → st.count < most_points
+    → Fine (held_by st cs xs ys) (held_by (on at (st.count + 1)) (set cs st.count c) (set xs st.count next) (set ys st.count 0))
+    (point k w next 0 ∷ []) at
+fine_pushed st k w next at cs xs ys c e h = record {
   ok = refl;
   number = refl;
   place = refl;
@@ -51,18 +54,18 @@ fine_appended st c next other at cs xs ys h = record {
   high = λ l. absurd (omega arith);
   laid = λ old ds H l. record {
     size = H.size;
-    count = let n = H.count in let m = length-append ds (point_of_code c next other ∷ []) in omega arith;
+    count = let n = H.count in let m = length-append ds (point k w next 0 ∷ []) in omega arith;
     points =
-        points_set cs xs ys st.count c next other
-        ∙ (λ i. set (H.points i) (H.count i) (point_of_code c next other))
-        ∙ over_push old ds (point_of_code c next other) (let n = H.count in let m = H.size in omega arith);
+        points_set cs xs ys st.count c next 0
+        ∙ ap (λ p. set (points_of cs xs ys) st.count p) (e next 0)
+        ∙ (λ i. set (H.points i) (H.count i) (point k w next 0))
+        ∙ over_push old ds (point k w next 0) (let n = H.count in let m = H.size in omega arith);
   };
 }
 
--- more points than the most
-pub fine_overfull : (st : ReaderState) (ps qs : List PointEntry) (at : ℕ) (r : ReaderState) → r ≡ on at too_many → most_points < st.count + length qs
-    → Fine (progress_of st ps) (progress_of r ps) qs at
-fine_overfull st ps qs at r e h = rw e (record {
+pub fine_full : (st : ReaderState) (k : ℕ) (w : Letter) (next at : ℕ) (ps : List PointEntry) → most_points ≤ st.count
+    → Fine (progress_of st ps) (progress_of (on at too_many) ps) (point k w next 0 ∷ []) at
+fine_full st k w next at ps h = record {
   ok = refl;
   number = refl;
   place = refl;
@@ -70,11 +73,7 @@ fine_overfull st ps qs at r e h = rw e (record {
   low = λ l. absurd (omega arith);
   high = λ l. refl;
   laid = λ old ds H l. absurd (let n = H.count in omega arith);
-})
-
-pub fine_pushed : (k : ℕ) (w : Letter) (next at c : ℕ) (st r : Progress) → Coded k w c → Fine st r (point_of_code c next 0 ∷ []) at
-    → Fine st r (point k w next 0 ∷ []) at
-fine_pushed k w next at c st r e f = subst (λ p. Fine st r (p ∷ []) at) (e next 0) f
+}
 
 pub fine_count : {st r : Progress} {ps : List PointEntry} {e : ℕ} → Fine st r ps e → r.count ≤ too_many
 fine_count {st} {r} {ps} f = by_test (leb (st.count + length ps) most_points)
@@ -86,18 +85,6 @@ pub fine_some : {st r : Progress} {ps : List PointEntry} {e : ℕ} → Fine st r
 fine_some {st} {r} {ps} f h = by_test (leb (st.count + length ps) most_points)
     (λ t. let l = leb-true (st.count + length ps) most_points t in omega (arith, f.low l))
     λ t. omega (arith, f.high (leb-false (st.count + length ps) most_points t))
-
--- nothing more was read
-pub fine_here : {st cur : Progress} {e : ℕ} {ps : List PointEntry} → Fine st cur ps e → Fine cur cur [] e
-fine_here {st} {cur} {e} {ps} f = record {
-  ok = f.ok;
-  number = f.number;
-  place = f.place;
-  at = f.at;
-  low = λ l. omega arith;
-  high = λ l. let c = fine_count f in omega arith;
-  laid = λ old ds H l. subst (HoldsPoints old cur) (sym (append-nil ds)) H;
-}
 
 -- one reading behind another: the points of the second are numbered on from those of the first
 pub fine_then : {st q r : Progress} {ps qs : List PointEntry} {a e : ℕ} → Fine st q ps a → Fine q r qs e → Fine st r (ps ++ qs) e
@@ -194,8 +181,8 @@ points_changed count n cs xs ys xs' ys' ps e =
 
 module _ (q : ReaderState) (cs xs ys xs' ys' : List ℕ) where
   pub points_joined : (from to : ℕ) → xs' ≡ changed_to q.count to (each (backpatched_in from to to) xs) xs
-      → ys' ≡ changed_to q.count to (each (backpatched_in from to to) ys) ys → held_by q cs xs' ys' ≡ joined_to (held_by q cs xs ys) from to
-  unfolding joined_to
+      → ys' ≡ changed_to q.count to (each (backpatched_in from to to) ys) ys → held_by q cs xs' ys' ≡ joined (held_by q cs xs ys) from to
+  unfolding joined
   points_joined from to e f =
       (λ i. held_by q cs (e i) (f i)) ∙ ap (progress_of q) (points_changed q.count to cs xs ys _ _ _ (points_range cs xs ys from to to))
 

@@ -1,14 +1,22 @@
 use borrow.Author.Rules.{rules}
-use Rattle.blocks.proofs.Theory.OutcomeLaws.{fine_pushed}
+use Rattle.blocks.proofs.Theory.OutcomeLaws.{fine_pushed, fine_full}
 use Rattle.blocks.proofs.pushed.Statement.{statement}
 use Rattle.blocks.proofs.pushed.Tie as tie
 
 pub pushed_spec : {M : Type 1} → statement M
 pushed_spec =
-    tie.close (tie.spec
+    tie.close
+    (tie.spec
     (λ c κs. search rules)
-    (λ c κs. search rules)
-    (λ c.
-    let at_appended_arg3 = c.before in
-    let at_code_of = at_appended_arg3.before.before.before in
-    fine_pushed _ _ _ _ _ _ _ at_code_of.code_of_lem.ensures c.appended.ensures))
+    (λ c. search rules)
+    (λ c. search rules)
+    (λ c. search rules)
+    (λ c. search rules)
+    (λ c. search rules)
+    (λ c. search rules)
+    (λ c. search rules)
+    (λ c. search rules)
+    (λ c. search rules)
+    (λ c. search rules)
+    (λ c. fine_pushed c.before.before.args.st _ _ _ _ _ _ _ _ c.code_of_lem.ensures c.before.if1.true)
+    (λ c. fine_full c.before.args.st _ _ _ _ _ c.if1.false))

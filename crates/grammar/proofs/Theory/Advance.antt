@@ -12,10 +12,10 @@ use Rattle.tokens.specs.Words.{is_name}
 use Rattle.tokens.specs.Words as word
 use Rattle.tokens.proofs.Theory.TokensLaws.{token_advance}
 use Rattle.tokens.proofs.Theory.WordsLaws.{name_real}
-use Rattle.grammar.specs.Tree.{Condition, equal, unequal, holds, fails, Assignment, apply, Statement, skip, call, Else, Block}
+use Rattle.grammar.specs.Tree.{Condition, equal, unequal, holds, fails, Assignment, apply, Statement, skip, Else, Block}
 use Rattle.grammar.specs.Grammar.{condition_tokens}
 use Rattle.grammar.specs.Reading.{Got, got, expect, index_of, use_between, use_t, condition, ended_condition, right_hand_side, assignment, braces_t, else_t}
-use Rattle.grammar.specs.Reading.{called, statement_t, statement, block, closing}
+use Rattle.grammar.specs.Reading.{statement_t, statement, block, closing}
 use Rattle.grammar.specs.Spelled.{Spells}
 use Rattle.grammar.proofs.Theory.Sound.{onward_got, pick_case, not_refused, not_exhausted, got_place, expect_sound, ended_sound, use_sound}
 use Rattle.grammar.proofs.Theory.Sound.{applied_sound, condition_sound, tested_sound}
@@ -82,100 +82,91 @@ module _ (s : List ℕ) where
     tested_on : (at : ℕ) (c : Condition) (e : ℕ) → ended_condition s rs fs ns m at ≡ got c e → at ≤ e
     tested_on at c e h = spells_mono (tested_sound s rs fs ns m at c e h).1
 
-    -- the subs cs may be called
-    module _ (cs : List ℕ) where
-      -- inner reads blocks, and goes on
-      module _ (inner : ℕ → ℕ → Got Block) (on : (d at : ℕ) (b : Block) (e : ℕ) → inner d at ≡ got b e → at ≤ e) where
-        braces_on_by : (d at : ℕ) (b : Block) (e : ℕ) → braces_t s rs fs ns m inner d (token_at s at) ≡ got b e → (at < e) × (at < length s)
-        braces_on_by zero at b e h = pick_case (eqb (token_at s at).key word.lbrace_key) _ _ _ h (λ _ g. absurd (not_refused g)) λ _ g. absurd (not_refused g)
-        braces_on_by (suc d) at b e h =
-            pick_case (eqb (token_at s at).key word.lbrace_key) _ _ _ h
-            (λ t g.
-            let (c, a, g₁, h₁) = onward_got (inner d (token_at s at).end) _ b e g in
-            let (i, n) = token_on word.lbrace_key at (omega arith) t in
-            let j = on d (token_at s at).end c a g₁ in
-            let k = spells_mono (ended_sound s word.rbrace_key a e c b (omega arith) h₁).1 in
-            (omega arith, n))
-            λ _ g. absurd (not_refused g)
+    -- inner reads blocks, and goes on
+    module _ (inner : ℕ → ℕ → Got Block) (on : (d at : ℕ) (b : Block) (e : ℕ) → inner d at ≡ got b e → at ≤ e) where
+      braces_on_by : (d at : ℕ) (b : Block) (e : ℕ) → braces_t s rs fs ns m inner d (token_at s at) ≡ got b e → (at < e) × (at < length s)
+      braces_on_by zero at b e h = pick_case (eqb (token_at s at).key word.lbrace_key) _ _ _ h (λ _ g. absurd (not_refused g)) λ _ g. absurd (not_refused g)
+      braces_on_by (suc d) at b e h =
+          pick_case (eqb (token_at s at).key word.lbrace_key) _ _ _ h
+          (λ t g.
+          let (c, a, g₁, h₁) = onward_got (inner d (token_at s at).end) _ b e g in
+          let (i, n) = token_on word.lbrace_key at (omega arith) t in
+          let j = on d (token_at s at).end c a g₁ in
+          let k = spells_mono (ended_sound s word.rbrace_key a e c b (omega arith) h₁).1 in
+          (omega arith, n))
+          λ _ g. absurd (not_refused g)
 
-        else_on : (d at : ℕ) (o : Else) (e : ℕ) → else_t s rs fs ns m inner d at (token_at s at) ≡ got o e → at ≤ e
-        else_on d at o e h =
-            pick_case (eqb (token_at s at).key word.else_key) _ _ _ h
-            (λ t g.
-            let (b, a, g₁, h₁) = onward_got (braces_t s rs fs ns m inner d (token_at s (token_at s at).end)) _ o e g in
-            let (i, _) = token_on word.else_key at (omega arith) t in
-            let (j, _) = braces_on_by d (token_at s at).end b a g₁ in
-            let q : a ≡ e = got_place h₁ in omega arith)
-            λ _ g. let q : at ≡ e = got_place g in omega arith
+      else_on : (d at : ℕ) (o : Else) (e : ℕ) → else_t s rs fs ns m inner d at (token_at s at) ≡ got o e → at ≤ e
+      else_on d at o e h =
+          pick_case (eqb (token_at s at).key word.else_key) _ _ _ h
+          (λ t g.
+          let (b, a, g₁, h₁) = onward_got (braces_t s rs fs ns m inner d (token_at s (token_at s at).end)) _ o e g in
+          let (i, _) = token_on word.else_key at (omega arith) t in
+          let (j, _) = braces_on_by d (token_at s at).end b a g₁ in
+          let q : a ≡ e = got_place h₁ in omega arith)
+          λ _ g. let q : at ≡ e = got_place g in omega arith
 
-        statement_on_by : (d at : ℕ) (r : Statement) (e : ℕ) → statement_t s rs fs ns m cs inner d at (token_at s at) ≡ got r e → (at < e) × (at < length s)
-        unfolding called
-        statement_on_by d at r e h =
-            pick_case (eqb (token_at s at).key word.skip_key) _ _ _ h
-            (λ t g.
-            let (i, n) = token_on word.skip_key at (omega arith) t in
-            let j = spells_mono (ended_sound s word.semicolon_key (token_at s at).end e skip r (omega arith) g).1 in (omega arith, n))
-            λ _ h. pick_case (eqb (token_at s at).key word.assume_key) _ _ _ h
-            (λ t g.
-            let (c, a, g₁, h₁) = onward_got (ended_condition s rs fs ns m (token_at s at).end) _ r e g in
-            let (i, n) = token_on word.assume_key at (omega arith) t in
-            let j = tested_on (token_at s at).end c a g₁ in
-            let q : a ≡ e = got_place h₁ in (omega arith, n))
-            λ _ h. pick_case (eqb (token_at s at).key word.assert_key) _ _ _ h
-            (λ t g.
-            let (c, a, g₁, h₁) = onward_got (ended_condition s rs fs ns m (token_at s at).end) _ r e g in
-            let (i, n) = token_on word.assert_key at (omega arith) t in
-            let j = tested_on (token_at s at).end c a g₁ in
-            let q : a ≡ e = got_place h₁ in (omega arith, n))
-            λ _ h. pick_case (eqb (token_at s at).key word.call_key) _ _ _ h
-            (λ t g.
-            let (i, a, g₁, h₁) = onward_got (use_t cs (token_at s (token_at s at).end)) _ r e g in
-            let (j, n) = token_on word.call_key at (omega arith) t in
-            let k = spells_mono (use_sound s cs (token_at s at).end i a g₁).1 in
-            let l = spells_mono (ended_sound s word.semicolon_key a e (call i) r (omega arith) h₁).1 in (omega arith, n))
-            λ _ h. pick_case (eqb (token_at s at).key word.if_key) _ _ _ h
-            (λ t g.
-            let (c, a, g₁, h₁) = onward_got (condition s rs fs ns m (token_at s at).end) _ r e g in
-            let (b, f, g₂, h₂) = onward_got (braces_t s rs fs ns m inner d (token_at s a)) _ r e h₁ in
-            let (o, u, g₃, h₃) = onward_got (else_t s rs fs ns m inner d f (token_at s f)) _ r e h₂ in
-            let (i, n) = token_on word.if_key at (omega arith) t in
-            let (j, _) = condition_on (token_at s at).end c a g₁ in
-            let (k, _) = braces_on_by d a b f g₂ in
-            let l = else_on d f o u g₃ in
-            let q : u ≡ e = got_place h₃ in (omega arith, n))
-            λ _ h. pick_case (eqb (token_at s at).key word.while_key) _ _ _ h
-            (λ t g.
-            let (c, a, g₁, h₁) = onward_got (condition s rs fs ns m (token_at s at).end) _ r e g in
-            let (b, f, g₂, h₂) = onward_got (braces_t s rs fs ns m inner d (token_at s a)) _ r e h₁ in
-            let (i, n) = token_on word.while_key at (omega arith) t in
-            let (j, _) = condition_on (token_at s at).end c a g₁ in
-            let (k, _) = braces_on_by d a b f g₂ in
-            let q : f ≡ e = got_place h₂ in (omega arith, n))
-            λ _ h. pick_case (is_name (token_at s at).key) _ _ _ h
-            (λ _ g.
-            let (l, a, g₁, h₁) = onward_got (assignment s rs fs ns m at) _ r e g in
-            let (i, n) = assignment_on at l a g₁ in
-            let q : a ≡ e = got_place h₁ in (omega arith, n))
-            λ _ g. absurd (not_refused g)
+      statement_on_by : (d at : ℕ) (r : Statement) (e : ℕ) → statement_t s rs fs ns m inner d at (token_at s at) ≡ got r e → (at < e) × (at < length s)
+      statement_on_by d at r e h =
+          pick_case (eqb (token_at s at).key word.skip_key) _ _ _ h
+          (λ t g.
+          let (i, n) = token_on word.skip_key at (omega arith) t in
+          let j = spells_mono (ended_sound s word.semicolon_key (token_at s at).end e skip r (omega arith) g).1 in (omega arith, n))
+          λ _ h. pick_case (eqb (token_at s at).key word.assume_key) _ _ _ h
+          (λ t g.
+          let (c, a, g₁, h₁) = onward_got (ended_condition s rs fs ns m (token_at s at).end) _ r e g in
+          let (i, n) = token_on word.assume_key at (omega arith) t in
+          let j = tested_on (token_at s at).end c a g₁ in
+          let q : a ≡ e = got_place h₁ in (omega arith, n))
+          λ _ h. pick_case (eqb (token_at s at).key word.assert_key) _ _ _ h
+          (λ t g.
+          let (c, a, g₁, h₁) = onward_got (ended_condition s rs fs ns m (token_at s at).end) _ r e g in
+          let (i, n) = token_on word.assert_key at (omega arith) t in
+          let j = tested_on (token_at s at).end c a g₁ in
+          let q : a ≡ e = got_place h₁ in (omega arith, n))
+          λ _ h. pick_case (eqb (token_at s at).key word.if_key) _ _ _ h
+          (λ t g.
+          let (c, a, g₁, h₁) = onward_got (condition s rs fs ns m (token_at s at).end) _ r e g in
+          let (b, f, g₂, h₂) = onward_got (braces_t s rs fs ns m inner d (token_at s a)) _ r e h₁ in
+          let (o, u, g₃, h₃) = onward_got (else_t s rs fs ns m inner d f (token_at s f)) _ r e h₂ in
+          let (i, n) = token_on word.if_key at (omega arith) t in
+          let (j, _) = condition_on (token_at s at).end c a g₁ in
+          let (k, _) = braces_on_by d a b f g₂ in
+          let l = else_on d f o u g₃ in
+          let q : u ≡ e = got_place h₃ in (omega arith, n))
+          λ _ h. pick_case (eqb (token_at s at).key word.while_key) _ _ _ h
+          (λ t g.
+          let (c, a, g₁, h₁) = onward_got (condition s rs fs ns m (token_at s at).end) _ r e g in
+          let (b, f, g₂, h₂) = onward_got (braces_t s rs fs ns m inner d (token_at s a)) _ r e h₁ in
+          let (i, n) = token_on word.while_key at (omega arith) t in
+          let (j, _) = condition_on (token_at s at).end c a g₁ in
+          let (k, _) = braces_on_by d a b f g₂ in
+          let q : f ≡ e = got_place h₂ in (omega arith, n))
+          λ _ h. pick_case (is_name (token_at s at).key) _ _ _ h
+          (λ _ g.
+          let (l, a, g₁, h₁) = onward_got (assignment s rs fs ns m at) _ r e g in
+          let (i, n) = assignment_on at l a g₁ in
+          let q : a ≡ e = got_place h₁ in (omega arith, n))
+          λ _ g. absurd (not_refused g)
 
-      mutual
-        unfolding block
+    mutual
+      unfolding block
 
-        pub block_on : (k d at : ℕ) (b : Block) (e : ℕ) → block s rs fs ns m cs k d at ≡ got b e → at ≤ e
-        block_on zero d at b e h = absurd (not_exhausted h)
-        block_on (suc k) d at b e h =
-            pick_case (closing s rs fs ns m (token_at s at).key) _ _ _ h (λ _ g. let q : at ≡ e = got_place g in omega arith)
-            λ _ g.
-            let (c, a, g₁, h₁) = onward_got (statement s rs fs ns m cs k d at) _ b e g in
-            let (x, f, g₂, h₂) = onward_got (block s rs fs ns m cs k d a) _ b e h₁ in
-            let i = statement_on k d at c a g₁ in
-            let j = block_on k d a x f g₂ in
-            let q : f ≡ e = got_place h₂ in omega arith
+      pub block_on : (k d at : ℕ) (b : Block) (e : ℕ) → block s rs fs ns m k d at ≡ got b e → at ≤ e
+      block_on zero d at b e h = absurd (not_exhausted h)
+      block_on (suc k) d at b e h =
+          pick_case (closing s rs fs ns m (token_at s at).key) _ _ _ h (λ _ g. let q : at ≡ e = got_place g in omega arith)
+          λ _ g.
+          let (c, a, g₁, h₁) = onward_got (statement s rs fs ns m k d at) _ b e g in
+          let (x, f, g₂, h₂) = onward_got (block s rs fs ns m k d a) _ b e h₁ in
+          let i = statement_on k d at c a g₁ in
+          let j = block_on k d a x f g₂ in
+          let q : f ≡ e = got_place h₂ in omega arith
 
-        pub statement_on : (k d at : ℕ) (r : Statement) (e : ℕ) → statement s rs fs ns m cs k d at ≡ got r e → (at < e) × (at < length s)
-        statement_on zero d at r e h = absurd (not_exhausted h)
-        statement_on (suc k) d at r e h = statement_on_by (λ d at. block s rs fs ns m cs k d at) (λ d at b e g. block_on k d at b e g) d at r e h
+      pub statement_on : (k d at : ℕ) (r : Statement) (e : ℕ) → statement s rs fs ns m k d at ≡ got r e → (at < e) × (at < length s)
+      statement_on zero d at r e h = absurd (not_exhausted h)
+      statement_on (suc k) d at r e h = statement_on_by (λ d at. block s rs fs ns m k d at) (λ d at b e g. block_on k d at b e g) d at r e h
 
-      pub braces_on : (k d at : ℕ) (b : Block) (e : ℕ) → braces_t s rs fs ns m (λ c a. block s rs fs ns m cs k c a) d (token_at s at) ≡ got b e
-          → (at < e) × (at < length s)
-      braces_on k d at b e h = braces_on_by (λ c a. block s rs fs ns m cs k c a) (λ d at b e g. block_on k d at b e g) d at b e h
+    pub braces_on : (k d at : ℕ) (b : Block) (e : ℕ) → braces_t s rs fs ns m (λ c a. block s rs fs ns m k c a) d (token_at s at) ≡ got b e
+        → (at < e) × (at < length s)
+    braces_on k d at b e h = braces_on_by (λ c a. block s rs fs ns m k c a) (λ d at b e g. block_on k d at b e g) d at b e h

@@ -14,13 +14,13 @@ use Rattle.tokens.specs.Tokens.{token_at}
 use Rattle.tokens.specs.Words.{is_name}
 use Rattle.tokens.specs.Words as word
 use Rattle.tokens.proofs.Theory.WordsLaws.{not_word}
-use Rattle.grammar.specs.Tree.{Condition, equal, unequal, holds, fails, Assignment, copy, apply, Statement, skip, assign, assume, assert, if, while, call}
-use Rattle.grammar.specs.Tree.{Else, absent, present, Block, empty, ◌then◌, ProperAssignment, ProperCondition, Proper, ProperElse, ProperBlock}
+use Rattle.grammar.specs.Tree.{Condition, equal, unequal, holds, fails, Assignment, copy, apply, Statement, skip, assign, assume, assert, if, while, Else}
+use Rattle.grammar.specs.Tree.{absent, present, Block, empty, ◌then◌, ProperAssignment, ProperCondition, Proper, ProperElse, ProperBlock}
 use Rattle.grammar.specs.Grammar.{header, takes_two, condition_tokens, argument_tokens, application_tokens, assignment_tokens, statement_tokens, else_tokens}
 use Rattle.grammar.specs.Grammar.{block_tokens, OneDeeper, Nests, NestsElse, NestsBlock}
 use Rattle.grammar.proofs.Theory.HeaderLaws.{arity_one}
 use Rattle.grammar.specs.Reading.{Got, got, and_then, index_of, use_between, use_t, sign_t, expect, ended, comparison, arguments_t, applied, named_test}
-use Rattle.grammar.specs.Reading.{condition, right_hand_side, assignment, ended_condition, called, braces_t, else_t, statement_t, block, statement, closing}
+use Rattle.grammar.specs.Reading.{condition, right_hand_side, assignment, ended_condition, braces_t, else_t, statement_t, block, statement, closing}
 use Rattle.grammar.specs.Spelled.{Spells, Arities, Declared}
 use Rattle.grammar.proofs.Theory.Sound.{index_at}
 
@@ -50,7 +50,6 @@ unfoldable mutual
   weight (assert c) = 1
   weight (if c b e) = suc (weight_block b + weight_else e)
   weight (while c b) = suc (weight_block b)
-  weight (call i) = 1
 
   pub weight_else : Else → ℕ
   weight_else absent = 0
@@ -68,7 +67,6 @@ weight_some (assume c) h = omega arith
 weight_some (assert c) h = omega arith
 weight_some (if c b e) h = omega arith
 weight_some (while c b) h = omega arith
-weight_some (call i) h = omega arith
 
 module _ (s : List ℕ) where
   pub spells_split : (ks : List ℕ) {ls : List ℕ} {at e : ℕ} → Spells s at (ks ++ ls) e → (m : ℕ) × Spells s at ks m × Spells s m ls e
@@ -217,183 +215,149 @@ module _ (s : List ℕ) where
 
     -- ---- blocks
 
-    -- the subs cs may be called
-    module _ (cs : List ℕ) (C : Declared cs) where
-      -- where reading of a block may end
-      abbrev pub Ends : ℕ → Type 0
-      Ends e = closing s rs fs ns m (token_at s e).key ≡ true
+    -- where reading of a block may end
+    abbrev pub Ends : ℕ → Type 0
+    Ends e = closing s rs fs ns m (token_at s e).key ≡ true
 
-      -- `else` does not follow
-      abbrev pub NoElse : ℕ → Type 0
-      NoElse e = eqb (token_at s e).key word.else_key ≡ false
+    -- `else` does not follow
+    abbrev pub NoElse : ℕ → Type 0
+    NoElse e = eqb (token_at s e).key word.else_key ≡ false
 
-      module _ (inner : ℕ → ℕ → Got Block) (k : ℕ) where
-        -- inner reads the block b, if it takes no more than k calls
-        abbrev pub Reads : Block → Type 0
-        Reads b = (d at e : ℕ) → weight_block b ≤ k → ProperBlock b (header rs fs ns) m (length cs) → NestsBlock b d → Spells s at (block_tokens rs fs ns cs b) e
-            → Ends e
-            → inner d at ≡ got b e
+    module _ (inner : ℕ → ℕ → Got Block) (k : ℕ) where
+      -- inner reads the block b, if it takes no more than k calls
+      abbrev Reads : Block → Type 0
+      Reads b = (d at e : ℕ) → weight_block b ≤ k → ProperBlock b (header rs fs ns) m → NestsBlock b d → Spells s at (block_tokens rs fs ns b) e → Ends e
+          → inner d at ≡ got b e
 
-        pub braces_complete : (b : Block) → weight_block b ≤ k → Reads b → (d : ℕ) {at e : ℕ} → ProperBlock b (header rs fs ns) m (length cs)
-            → OneDeeper (λ n. NestsBlock b n) d
-            → Spells s at (word.lbrace_key ∷ (block_tokens rs fs ns cs b ++ word.rbrace_key ∷ [])) e
-            → braces_t s rs fs ns m inner d (token_at s at) ≡ got b e
-        braces_complete b w r zero u o p = absurd o
-        braces_complete b w r (suc d) {at} {e} u o p =
-            let (i, p₁, p₂) = spells_split (block_tokens rs fs ns cs b) (spells_rest p) in
-            let closed : Ends i = ap (λ k. closing s rs fs ns m k) (spells_key p₂) in
-            rw (eq-eqb _ word.lbrace_key (spells_key p), r d (token_at s at).end i w u o p₁ closed, ended_complete b p₂)
+      braces_complete : (b : Block) → weight_block b ≤ k → Reads b → (d : ℕ) {at e : ℕ} → ProperBlock b (header rs fs ns) m → OneDeeper (λ n. NestsBlock b n) d
+          → Spells s at (word.lbrace_key ∷ (block_tokens rs fs ns b ++ word.rbrace_key ∷ [])) e
+          → braces_t s rs fs ns m inner d (token_at s at) ≡ got b e
+      braces_complete b w r zero u o p = absurd o
+      braces_complete b w r (suc d) {at} {e} u o p =
+          let (i, p₁, p₂) = spells_split (block_tokens rs fs ns b) (spells_rest p) in
+          let closed : Ends i = ap (λ k. closing s rs fs ns m k) (spells_key p₂) in
+          rw (eq-eqb _ word.lbrace_key (spells_key p), r d (token_at s at).end i w u o p₁ closed, ended_complete b p₂)
 
-        else_complete : (o : Else) → weight_else o ≤ k → ((x : Block) → Reads x) → (d : ℕ) {at e : ℕ} → ProperElse o (header rs fs ns) m (length cs)
-            → NestsElse o d
-            → Spells s at (else_tokens rs fs ns cs o) e → NoElse e
-            → else_t s rs fs ns m inner d at (token_at s at) ≡ got o e
-        unfolding else_tokens weight_else
-        else_complete absent w r d {at} {e} u k p h = rw (ap (λ n. eqb (token_at s n).key word.else_key) (spells_nil p) ∙ h) (ap (got absent) (spells_nil p))
-        else_complete (present x) w r d {at} {e} u k p h = rw (eq-eqb _ word.else_key (spells_key p), braces_complete x w (r x) d u k (spells_rest p))
+      else_complete : (o : Else) → weight_else o ≤ k → ((x : Block) → Reads x) → (d : ℕ) {at e : ℕ} → ProperElse o (header rs fs ns) m → NestsElse o d
+          → Spells s at (else_tokens rs fs ns o) e → NoElse e
+          → else_t s rs fs ns m inner d at (token_at s at) ≡ got o e
+      unfolding else_tokens weight_else
+      else_complete absent w r d {at} {e} u k p h = rw (ap (λ n. eqb (token_at s n).key word.else_key) (spells_nil p) ∙ h) (ap (got absent) (spells_nil p))
+      else_complete (present x) w r d {at} {e} u k p h = rw (eq-eqb _ word.else_key (spells_key p), braces_complete x w (r x) d u k (spells_rest p))
 
-        -- a name at the front of a statement
-        named : (at : ℕ) → is_name (token_at s at).key ≡ true → (d : ℕ)
-            → statement_t s rs fs ns m cs inner d at (token_at s at) ≡ and_then (assignment s rs fs ns m at) λ l e. got (assign l) e
-        named at n d = rw (
-          n,
-          not_word _ word.skip_key refl n,
-          not_word _ word.assume_key refl n,
-          not_word _ word.assert_key refl n,
-          not_word _ word.call_key refl n,
-          not_word _ word.if_key refl n,
-          not_word _ word.while_key refl n,
-        )
-
-        statement_complete_by : (c : Statement) (d : ℕ) {at e : ℕ} → weight c ≤ suc k → ((b : Block) → Reads b) → Proper c (header rs fs ns) m (length cs)
-            → Nests c d
-            → Spells s at (statement_tokens rs fs ns cs c) e → NoElse e
-            → statement_t s rs fs ns m cs inner d at (token_at s at) ≡ got c e
-        unfolding statement_tokens weight called
-        statement_complete_by skip d w r u o p h = rw (eq-eqb _ word.skip_key (spells_key p), ended_complete skip (spells_rest p))
-        statement_complete_by (assign l) d {at} w r u o p h = rw (named at (assignment_named l u p) d, assignment_complete l u p)
-        statement_complete_by (assume c) d w r u o p h =
-            let y = spells_key p in rw (ap (λ k. eqb k word.skip_key) y, eq-eqb _ word.assume_key y, tested_complete c u (spells_rest p))
-        statement_complete_by (assert c) d w r u o p h =
-            let y = spells_key p in
-            rw (ap (λ k. eqb k word.skip_key) y, ap (λ k. eqb k word.assume_key) y, eq-eqb _ word.assert_key y, tested_complete c u (spells_rest p))
-        statement_complete_by (call i) d w r u o p h =
-            let y = spells_key p in
-            let (a, p₁, p₂) = spells_split (get_or cs i 0 ∷ []) (spells_rest p) in
-            rw (
-              ap (λ k. eqb k word.skip_key) y,
-              ap (λ k. eqb k word.assume_key) y,
-              ap (λ k. eqb k word.assert_key) y,
-              eq-eqb _ word.call_key y,
-              use_complete cs C u p₁,
-              ended_complete (call i) p₂,
-            )
-        statement_complete_by (if c b x) d {at} {e} w r (l, u, v) (o, q) p h =
-            let (i, p₁, p₂) = spells_split (condition_tokens rs fs ns c) (spells_rest p) in
-            let (a, p₃, p₄) = spells_split (word.lbrace_key ∷ (block_tokens rs fs ns cs b ++ word.rbrace_key ∷ []))
-            (subst (λ l. Spells s i (word.lbrace_key ∷ l) e)
-            (sym (append_assoc (block_tokens rs fs ns cs b) (word.rbrace_key ∷ []) (else_tokens rs fs ns cs x))) p₂) in
-            let y = spells_key p in
-            rw (
-              ap (λ k. eqb k word.skip_key) y,
-              ap (λ k. eqb k word.assume_key) y,
-              ap (λ k. eqb k word.assert_key) y,
-              ap (λ k. eqb k word.call_key) y,
-              eq-eqb _ word.if_key y,
-              condition_complete c l p₁,
-              braces_complete b (omega arith) (r b) d u o p₃,
-              else_complete x
-                  (omega arith) r d v q p₄ h,
-            )
-        statement_complete_by (while c b) d w r (l, u) o p h =
-            let (i, p₁, p₂) = spells_split (condition_tokens rs fs ns c) (spells_rest p) in
-            let y = spells_key p in
-            rw (
-              ap (λ k. eqb k word.skip_key) y,
-              ap (λ k. eqb k word.assume_key) y,
-              ap (λ k. eqb k word.assert_key) y,
-              ap (λ k. eqb k word.call_key) y,
-              ap (λ k. eqb k word.if_key) y,
-              eq-eqb _ word.while_key y,
-              condition_complete c l p₁,
-              braces_complete b (omega arith) (r b) d u o p₂,
-            )
-
-      -- the first token of a statement ends no block, and is none of the words `else`, `funs`, `tests` and `sub`
-      abbrev Head : ℕ → Type 0
-      Head k = (closing s rs fs ns m k ≡ false) × (eqb k word.else_key ≡ false) × (eqb k word.funs_key ≡ false) × (eqb k word.tests_key ≡ false)
-          × (eqb k word.sub_key ≡ false)
-
-      name_head : (k : ℕ) → is_name k ≡ true → Head k
-      name_head k n = (
-        rw (not_word k word.rbrace_key refl n, not_word k 0 refl n),
-        not_word k word.else_key refl n,
-        not_word k word.funs_key refl n,
-        not_word k word.tests_key refl n,
-        not_word k word.sub_key refl n,
+      -- a name at the front of a statement
+      named : (at : ℕ) → is_name (token_at s at).key ≡ true → (d : ℕ)
+          → statement_t s rs fs ns m inner d at (token_at s at) ≡ and_then (assignment s rs fs ns m at) λ l e. got (assign l) e
+      named at n d = rw (
+        n,
+        not_word _ word.skip_key refl n,
+        not_word _ word.assume_key refl n,
+        not_word _ word.assert_key refl n,
+        not_word _ word.if_key refl n,
+        not_word _ word.while_key refl n,
       )
 
-      head : (c : Statement) {at e : ℕ} → Proper c (header rs fs ns) m (length cs) → Spells s at (statement_tokens rs fs ns cs c) e → Head (token_at s at).key
-      unfolding statement_tokens
-      head skip o p = subst Head (sym (spells_key p)) (refl, refl, refl, refl, refl)
-      head (assign l) {at} o p = name_head (token_at s at).key (assignment_named l o p)
-      head (assume c) o p = subst Head (sym (spells_key p)) (refl, refl, refl, refl, refl)
-      head (assert c) o p = subst Head (sym (spells_key p)) (refl, refl, refl, refl, refl)
-      head (if c b x) o p = subst Head (sym (spells_key p)) (refl, refl, refl, refl, refl)
-      head (while c b) o p = subst Head (sym (spells_key p)) (refl, refl, refl, refl, refl)
-      head (call i) o p = subst Head (sym (spells_key p)) (refl, refl, refl, refl, refl)
+      statement_complete_by : (c : Statement) (d : ℕ) {at e : ℕ} → weight c ≤ suc k → ((b : Block) → Reads b) → Proper c (header rs fs ns) m → Nests c d
+          → Spells s at (statement_tokens rs fs ns c) e → NoElse e
+          → statement_t s rs fs ns m inner d at (token_at s at) ≡ got c e
+      unfolding statement_tokens weight
+      statement_complete_by skip d w r u o p h = rw (eq-eqb _ word.skip_key (spells_key p), ended_complete skip (spells_rest p))
+      statement_complete_by (assign l) d {at} w r u o p h = rw (named at (assignment_named l u p) d, assignment_complete l u p)
+      statement_complete_by (assume c) d w r u o p h =
+          let y = spells_key p in rw (ap (λ k. eqb k word.skip_key) y, eq-eqb _ word.assume_key y, tested_complete c u (spells_rest p))
+      statement_complete_by (assert c) d w r u o p h =
+          let y = spells_key p in
+          rw (ap (λ k. eqb k word.skip_key) y, ap (λ k. eqb k word.assume_key) y, eq-eqb _ word.assert_key y, tested_complete c u (spells_rest p))
+      statement_complete_by (if c b x) d {at} {e} w r (l, u, v) (o, q) p h =
+          let (i, p₁, p₂) = spells_split (condition_tokens rs fs ns c) (spells_rest p) in
+          let (a, p₃, p₄) = spells_split (word.lbrace_key ∷ (block_tokens rs fs ns b ++ word.rbrace_key ∷ []))
+          (subst (λ l. Spells s i (word.lbrace_key ∷ l) e) (sym (append_assoc (block_tokens rs fs ns b) (word.rbrace_key ∷ []) (else_tokens rs fs ns x))) p₂) in
+          let y = spells_key p in
+          rw (
+            ap (λ k. eqb k word.skip_key) y,
+            ap (λ k. eqb k word.assume_key) y,
+            ap
+                (λ k. eqb k word.assert_key) y,
+            eq-eqb _ word.if_key y,
+            condition_complete c l p₁,
+            braces_complete b (omega arith) (r b) d u o p₃,
+            else_complete x
+                (omega arith) r d v q p₄ h,
+          )
+      statement_complete_by (while c b) d w r (l, u) o p h =
+          let (i, p₁, p₂) = spells_split (condition_tokens rs fs ns c) (spells_rest p) in
+          let y = spells_key p in
+          rw (
+            ap (λ k. eqb k word.skip_key) y,
+            ap (λ k. eqb k word.assume_key) y,
+            ap (λ k. eqb k word.assert_key) y,
+            ap
+                (λ k. eqb k word.if_key) y,
+            eq-eqb _ word.while_key y,
+            condition_complete c l p₁,
+            braces_complete b (omega arith) (r b) d u o p₂,
+          )
 
-      ends_no_else : (e : ℕ) → Ends e → NoElse e
-      ends_no_else e h = by_test (eqb (token_at s e).key word.else_key)
-          (λ t. let j : (token_at s e).key ≡ word.else_key = eqb-true (token_at s e).key word.else_key t in
-          let q : closing s rs fs ns m word.else_key ≡ true = sym (ap (λ k. closing s rs fs ns m k) j) ∙ h in let z : ◌≡◌ {A = ℕ} 0 1 = cc in
-          absurd (omega arith))
-          λ t. t
+    -- the first token of a statement ends no block, and is not `else`, `funs` or `tests`
+    abbrev Head : ℕ → Type 0
+    Head k = (closing s rs fs ns m k ≡ false) × (eqb k word.else_key ≡ false) × (eqb k word.funs_key ≡ false) × (eqb k word.tests_key ≡ false)
 
-      block_no_else : (b : Block) {at e : ℕ} → ProperBlock b (header rs fs ns) m (length cs) → Spells s at (block_tokens rs fs ns cs b) e → Ends e → NoElse at
-      unfolding block_tokens
-      block_no_else empty o p h = rw (spells_nil p) (ends_no_else _ h)
-      block_no_else (c then b) (o, q) p h = let (i, p₁, p₂) = spells_split (statement_tokens rs fs ns cs c) p in (head c o p₁).1
+    name_head : (k : ℕ) → is_name k ≡ true → Head k
+    name_head k n = (
+      rw (not_word k word.rbrace_key refl n, not_word k 0 refl n),
+      not_word k word.else_key refl n,
+      not_word k word.funs_key refl n,
+      not_word k word.tests_key refl n,
+    )
 
-      -- `funs` begins no block
-      pub block_no_funs : (b : Block) {at e : ℕ} → ProperBlock b (header rs fs ns) m (length cs) → Spells s at (block_tokens rs fs ns cs b) e → (token_at s e).key
-          ≡ 0
-          → eqb (token_at s at).key word.funs_key ≡ false
-      unfolding block_tokens
-      block_no_funs empty o p z = ap (λ n. eqb (token_at s n).key word.funs_key) (spells_nil p) ∙ ap (λ k. eqb k word.funs_key) z
-      block_no_funs (c then b) (o, q) p z = let (i, p₁, p₂) = spells_split (statement_tokens rs fs ns cs c) p in (head c o p₁).2
+    head : (c : Statement) {at e : ℕ} → Proper c (header rs fs ns) m → Spells s at (statement_tokens rs fs ns c) e → Head (token_at s at).key
+    unfolding statement_tokens
+    head skip o p = subst Head (sym (spells_key p)) (refl, refl, refl, refl)
+    head (assign l) {at} o p = name_head (token_at s at).key (assignment_named l o p)
+    head (assume c) o p = subst Head (sym (spells_key p)) (refl, refl, refl, refl)
+    head (assert c) o p = subst Head (sym (spells_key p)) (refl, refl, refl, refl)
+    head (if c b x) o p = subst Head (sym (spells_key p)) (refl, refl, refl, refl)
+    head (while c b) o p = subst Head (sym (spells_key p)) (refl, refl, refl, refl)
 
-      -- nor `tests`
-      pub block_no_tests : (b : Block) {at e : ℕ} → ProperBlock b (header rs fs ns) m (length cs) → Spells s at (block_tokens rs fs ns cs b) e → (token_at s e).key
-          ≡ 0
-          → eqb (token_at s at).key word.tests_key ≡ false
-      unfolding block_tokens
-      block_no_tests empty o p z = ap (λ n. eqb (token_at s n).key word.tests_key) (spells_nil p) ∙ ap (λ k. eqb k word.tests_key) z
-      block_no_tests (c then b) (o, q) p z = let (a, p₁, p₂) = spells_split (statement_tokens rs fs ns cs c) p in (head c o p₁).3
+    ends_no_else : (e : ℕ) → Ends e → NoElse e
+    ends_no_else e h = by_test (eqb (token_at s e).key word.else_key)
+        (λ t. let j : (token_at s e).key ≡ word.else_key = eqb-true (token_at s e).key word.else_key t in
+        let q : closing s rs fs ns m word.else_key ≡ true = sym (ap (λ k. closing s rs fs ns m k) j) ∙ h in let z : ◌≡◌ {A = ℕ} 0 1 = cc in absurd (omega arith))
+        λ t. t
 
-      -- nor `sub`
-      pub block_no_subs : (b : Block) {at e : ℕ} → ProperBlock b (header rs fs ns) m (length cs) → Spells s at (block_tokens rs fs ns cs b) e → (token_at s e).key
-          ≡ 0
-          → eqb (token_at s at).key word.sub_key ≡ false
-      unfolding block_tokens
-      block_no_subs empty o p z = ap (λ n. eqb (token_at s n).key word.sub_key) (spells_nil p) ∙ ap (λ k. eqb k word.sub_key) z
-      block_no_subs (c then b) (o, q) p z = let (a, p₁, p₂) = spells_split (statement_tokens rs fs ns cs c) p in (head c o p₁).4
+    block_no_else : (b : Block) {at e : ℕ} → ProperBlock b (header rs fs ns) m → Spells s at (block_tokens rs fs ns b) e → Ends e → NoElse at
+    unfolding block_tokens
+    block_no_else empty o p h = rw (spells_nil p) (ends_no_else _ h)
+    block_no_else (c then b) (o, q) p h = let (i, p₁, p₂) = spells_split (statement_tokens rs fs ns c) p in (head c o p₁).1
 
-      mutual
-        unfolding block block_tokens weight_block
+    -- `funs` begins no block
+    pub block_no_funs : (b : Block) {at e : ℕ} → ProperBlock b (header rs fs ns) m → Spells s at (block_tokens rs fs ns b) e → (token_at s e).key ≡ 0
+        → eqb (token_at s at).key word.funs_key ≡ false
+    unfolding block_tokens
+    block_no_funs empty o p z = ap (λ n. eqb (token_at s n).key word.funs_key) (spells_nil p) ∙ ap (λ k. eqb k word.funs_key) z
+    block_no_funs (c then b) (o, q) p z = let (i, p₁, p₂) = spells_split (statement_tokens rs fs ns c) p in (head c o p₁).2
 
-        pub block_complete : (k : ℕ) (b : Block) (d at e : ℕ) → weight_block b ≤ k → ProperBlock b (header rs fs ns) m (length cs) → NestsBlock b d
-            → Spells s at (block_tokens rs fs ns cs b) e → Ends e → block s rs fs ns m cs k d at ≡ got b e
-        block_complete zero empty d at e w u o p h = absurd (omega arith)
-        block_complete zero (c then b) d at e w u o p h = absurd (omega arith)
-        block_complete (suc k) empty d at e w u o p h = rw (ap (λ n. closing s rs fs ns m (token_at s n).key) (spells_nil p) ∙ h)
-            (ap (got empty) (spells_nil p))
-        block_complete (suc k) (c then b) d at e w (u, v) (o, q) p h =
-            let (i, p₁, p₂) = spells_split (statement_tokens rs fs ns cs c) p in
-            rw ((head c u p₁).0, statement_complete k c d at i (omega arith) u o p₁ (block_no_else b v p₂ h), block_complete k b d i e (omega arith) v q p₂ h)
+    -- nor `tests`
+    pub block_no_tests : (b : Block) {at e : ℕ} → ProperBlock b (header rs fs ns) m → Spells s at (block_tokens rs fs ns b) e → (token_at s e).key ≡ 0
+        → eqb (token_at s at).key word.tests_key ≡ false
+    unfolding block_tokens
+    block_no_tests empty o p z = ap (λ n. eqb (token_at s n).key word.tests_key) (spells_nil p) ∙ ap (λ k. eqb k word.tests_key) z
+    block_no_tests (c then b) (o, q) p z = let (a, p₁, p₂) = spells_split (statement_tokens rs fs ns c) p in (head c o p₁).3
 
-        statement_complete : (k : ℕ) (c : Statement) (d at e : ℕ) → weight c ≤ k → Proper c (header rs fs ns) m (length cs) → Nests c d
-            → Spells s at (statement_tokens rs fs ns cs c) e → NoElse e → statement s rs fs ns m cs k d at ≡ got c e
-        statement_complete zero c d at e w u o p h = absurd (weight_some c w)
-        statement_complete (suc k) c d at e w u o p h =
-            statement_complete_by (λ d at. block s rs fs ns m cs k d at) k c d w (λ b d at e w u o p h. block_complete k b d at e w u o p h) u o p h
+    mutual
+      unfolding block block_tokens weight_block
+
+      pub block_complete : (k : ℕ) (b : Block) (d at e : ℕ) → weight_block b ≤ k → ProperBlock b (header rs fs ns) m → NestsBlock b d
+          → Spells s at (block_tokens rs fs ns b) e → Ends e → block s rs fs ns m k d at ≡ got b e
+      block_complete zero empty d at e w u o p h = absurd (omega arith)
+      block_complete zero (c then b) d at e w u o p h = absurd (omega arith)
+      block_complete (suc k) empty d at e w u o p h = rw (ap (λ n. closing s rs fs ns m (token_at s n).key) (spells_nil p) ∙ h) (ap (got empty) (spells_nil p))
+      block_complete (suc k) (c then b) d at e w (u, v) (o, q) p h =
+          let (i, p₁, p₂) = spells_split (statement_tokens rs fs ns c) p in
+          rw ((head c u p₁).0, statement_complete k c d at i (omega arith) u o p₁ (block_no_else b v p₂ h), block_complete k b d i e (omega arith) v q p₂ h)
+
+      statement_complete : (k : ℕ) (c : Statement) (d at e : ℕ) → weight c ≤ k → Proper c (header rs fs ns) m → Nests c d
+          → Spells s at (statement_tokens rs fs ns c) e → NoElse e → statement s rs fs ns m k d at ≡ got c e
+      statement_complete zero c d at e w u o p h = absurd (weight_some c w)
+      statement_complete (suc k) c d at e w u o p h =
+          statement_complete_by (λ d at. block s rs fs ns m k d at) k c d w (λ b d at e w u o p h. block_complete k b d at e w u o p h) u o p h

@@ -22,7 +22,7 @@ use Rattle.grammar.proofs.Theory.Sound.{index_at, onward_got, expect_sound, spel
 use Rattle.grammar.proofs.Theory.Complete.{index_below, spells_key, spells_rest, spells_end, spells_split, expect_complete}
 
 -- one name more
-pub declared_more : (rs : List ℕ) (k : ℕ) → Declared rs → is_name k ≡ true → is_declared k rs ≡ false → Declared (rs ++ k ∷ [])
+declared_more : (rs : List ℕ) (k : ℕ) → Declared rs → is_name k ≡ true → is_declared k rs ≡ false → Declared (rs ++ k ∷ [])
 declared_more rs k D n f = record { names = names; once = once }
   where
     size : length (rs ++ k ∷ []) ≡ length rs + 1
@@ -52,7 +52,7 @@ declared_more rs k D n f = record { names = names; once = once }
         λ u. let b = ltb-false j (length rs) u in omega (arith, size)
 
 -- a name declared later is not known yet
-pub unknown : (rs ks : List ℕ) (k : ℕ) → Declared (rs ++ k ∷ ks) → length rs ≤ index_of k rs
+unknown : (rs ks : List ℕ) (k : ℕ) → Declared (rs ++ k ∷ ks) → length rs ≤ index_of k rs
 unknown rs ks k D =
     by_test (is_declared k rs)
     (λ t.
@@ -127,7 +127,7 @@ pub or_false : (a b : Bool) → a || b ≡ false → (a ≡ false) × (b ≡ fal
 or_false true b h = let z : ◌≡◌ {A = ℕ} 0 1 = cc in absurd (omega arith)
 or_false false b h = (refl, h)
 
-pub apart_more : (rs fs : List ℕ) (k : ℕ) → Disjoint rs fs → is_declared k rs ≡ false → Disjoint rs (fs ++ k ∷ [])
+apart_more : (rs fs : List ℕ) (k : ℕ) → Disjoint rs fs → is_declared k rs ≡ false → Disjoint rs (fs ++ k ∷ [])
 unfolding Disjoint
 apart_more rs fs k P f i j h g e =
     by_test (ltb j (length fs)) (λ t. let l = ltb-true j (length fs) t in P i j h l (e ∙ get_or-append fs (k ∷ []) 0 j l))
@@ -203,7 +203,7 @@ module _ (s rs : List ℕ) where
       arity k n ks ls (inr q) A = subst (λ n. Arities (k ∷ ks) (n ∷ ls)) (sym q) (Arities.two A)
 
   -- entries that are spelled are read
-  pub foreign : (fs ks : List ℕ) (k : ℕ) → Disjoint rs (fs ++ k ∷ ks) → is_declared k rs ≡ false
+  foreign : (fs ks : List ℕ) (k : ℕ) → Disjoint rs (fs ++ k ∷ ks) → is_declared k rs ≡ false
   unfolding Disjoint
   foreign fs ks k P = by_test (is_declared k rs)
       (λ t. let l = ltb-true (index_of k rs) (length rs) t in let size = length-append fs (k ∷ ks) in

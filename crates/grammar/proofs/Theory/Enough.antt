@@ -7,19 +7,18 @@ use mathlib.Core.List.{List, [], ◌∷◌, ◌++◌}
 use lib.Dec.{eqb, ltb, leb}
 use lib.ListN.{length, get_or}
 use Rattle.letters.specs.Editions.{most_registers, most_functions}
-use Rattle.grammar.specs.Limits.{most_points, deepest_nesting, hidden_registers, most_subs}
+use Rattle.grammar.specs.Limits.{most_points, deepest_nesting, hidden_registers}
 use borrow.Author.Tests.{eqb-true}
 use Rattle.macros.specs.Points.{size_block}
 use Rattle.tokens.specs.Tokens.{token_at}
 use Rattle.tokens.proofs.Theory.TokensLaws.{token_advance, token_before_end}
 use Rattle.tokens.specs.Words.{is_name}
 use Rattle.tokens.specs.Words as word
-use Rattle.grammar.specs.Tree.{Condition, apply, skip, call, holds, fails, Block, Sub}
-use Rattle.grammar.specs.Grammar.{sub_names, expanded}
+use Rattle.grammar.specs.Tree.{Condition, apply, skip, holds, fails, Block}
+use Rattle.grammar.specs.Grammar.{expanded}
 use Rattle.grammar.specs.Reading.{Got, got, exhausted, and_then, index_of, use_between, use_t, sign_t, expect, ended, comparison, arguments_t, applied}
-use Rattle.grammar.specs.Reading.{named_test, condition, right_hand_side, assignment, ended_condition, called, braces_t, else_t, statement_t, block}
-use Rattle.grammar.specs.Reading.{statement, closing, is_taken, sub_t, subs_from, whole_block, listed_t, is_declared, register_names, arity_of, entries}
-use Rattle.grammar.specs.Reading.{line_from, functions_t, tests_t}
+use Rattle.grammar.specs.Reading.{named_test, condition, right_hand_side, assignment, ended_condition, braces_t, else_t, statement_t, block, statement, closing}
+use Rattle.grammar.specs.Reading.{listed_t, is_declared, register_names, arity_of, entries, line_from, functions_t, tests_t}
 use Rattle.grammar.proofs.Theory.Reading.{read_text, read_macro}
 use Rattle.grammar.proofs.Theory.Sound.{pick_case}
 use Rattle.grammar.proofs.Theory.Advance.{condition_on, statement_on, braces_on}
@@ -118,112 +117,69 @@ module _ (s : List ℕ) where
     unfolding ended_condition
     tested_answers at = onward_answers (condition s rs fs ns m at) _ (condition_answers at) λ c e _. ended_answers word.semicolon_key c e
 
-    -- the subs cs may be called
-    module _ (cs : List ℕ) where
-      -- inner answers at every place behind `low`
-      module _ (inner : ℕ → ℕ → Got Block) (low : ℕ) (enough : (d at : ℕ) → low < at → IsAnswer (inner d at))
-          (on : (d at : ℕ) (b : Block) (e : ℕ) → braces_t s rs fs ns m inner d (token_at s at) ≡ got b e → at < e) where
-        braces_answers : (d at : ℕ) → low ≤ at → IsAnswer (braces_t s rs fs ns m inner d (token_at s at))
-        braces_answers zero at l h = pick_case (eqb (token_at s at).key word.lbrace_key) _ _ _ h (λ _ g. refused_answers g) λ _ g. refused_answers g
-        braces_answers (suc d) at l h =
-            pick_case (eqb (token_at s at).key word.lbrace_key) _ _ _ h
-            (λ t. let k = eqb-true (token_at s at).key word.lbrace_key t in let a = token_advance s at (omega arith) in
-            onward_answers (inner d (token_at s at).end) _ (enough d (token_at s at).end (omega arith)) λ b e _. ended_answers word.rbrace_key b e)
-            λ _ g. refused_answers g
+    -- inner answers at every place behind `low`
+    module _ (inner : ℕ → ℕ → Got Block) (low : ℕ) (enough : (d at : ℕ) → low < at → IsAnswer (inner d at))
+        (on : (d at : ℕ) (b : Block) (e : ℕ) → braces_t s rs fs ns m inner d (token_at s at) ≡ got b e → at < e) where
+      braces_answers : (d at : ℕ) → low ≤ at → IsAnswer (braces_t s rs fs ns m inner d (token_at s at))
+      braces_answers zero at l h = pick_case (eqb (token_at s at).key word.lbrace_key) _ _ _ h (λ _ g. refused_answers g) λ _ g. refused_answers g
+      braces_answers (suc d) at l h =
+          pick_case (eqb (token_at s at).key word.lbrace_key) _ _ _ h
+          (λ t. let k = eqb-true (token_at s at).key word.lbrace_key t in let a = token_advance s at (omega arith) in
+          onward_answers (inner d (token_at s at).end) _ (enough d (token_at s at).end (omega arith)) λ b e _. ended_answers word.rbrace_key b e)
+          λ _ g. refused_answers g
 
-        else_answers : (d at : ℕ) → low ≤ at → IsAnswer (else_t s rs fs ns m inner d at (token_at s at))
-        else_answers d at l h =
-            pick_case (eqb (token_at s at).key word.else_key) _ _ _ h
-            (λ t. let k = eqb-true (token_at s at).key word.else_key t in let a = token_advance s at (omega arith) in
-            onward_answers (braces_t s rs fs ns m inner d (token_at s (token_at s at).end)) _ (braces_answers d (token_at s at).end (omega arith))
-            λ _ _ _. got_answers)
-            λ _ g. got_answers g
+      else_answers : (d at : ℕ) → low ≤ at → IsAnswer (else_t s rs fs ns m inner d at (token_at s at))
+      else_answers d at l h =
+          pick_case (eqb (token_at s at).key word.else_key) _ _ _ h
+          (λ t. let k = eqb-true (token_at s at).key word.else_key t in let a = token_advance s at (omega arith) in
+          onward_answers (braces_t s rs fs ns m inner d (token_at s (token_at s at).end)) _ (braces_answers d (token_at s at).end (omega arith))
+          λ _ _ _. got_answers)
+          λ _ g. got_answers g
 
-        statement_answers_by : (d at : ℕ) → low ≡ at → IsAnswer (statement_t s rs fs ns m cs inner d at (token_at s at))
-        unfolding called
-        statement_answers_by d at l h =
-            pick_case (eqb (token_at s at).key word.skip_key) _ _ _ h (λ _. ended_answers word.semicolon_key skip (token_at s at).end)
-            λ _ h. pick_case (eqb (token_at s at).key word.assume_key) _ _ _ h
-            (λ _. onward_answers (ended_condition s rs fs ns m (token_at s at).end) _ (tested_answers (token_at s at).end) λ _ _ _. got_answers)
-            λ _ h. pick_case (eqb (token_at s at).key word.assert_key) _ _ _ h
-            (λ _. onward_answers (ended_condition s rs fs ns m (token_at s at).end) _ (tested_answers (token_at s at).end) λ _ _ _. got_answers)
-            λ _ h. pick_case (eqb (token_at s at).key word.call_key) _ _ _ h
-            (λ _. onward_answers (use_t cs (token_at s (token_at s at).end)) _ (use_answers cs (token_at s at).end) λ i e _. ended_answers word.semicolon_key
-            (call i) e)
-            λ _ h. pick_case (eqb (token_at s at).key word.if_key) _ _ _ h
-            (λ t. let k = eqb-true (token_at s at).key word.if_key t in let z = token_advance s at (omega arith) in
-            onward_answers (condition s rs fs ns m (token_at s at).end) _ (condition_answers (token_at s at).end) λ c a g. let y =
-            condition_on s rs fs ns m (token_at s at).end c a g in
-            onward_answers (braces_t s rs fs ns m inner d (token_at s a)) _ (braces_answers d a (omega arith)) λ b e w. let x = on d a b e w in
-            onward_answers (else_t s rs fs ns m inner d e (token_at s e)) _ (else_answers d e (omega arith)) λ _ _ _. got_answers)
-            λ _ h. pick_case (eqb (token_at s at).key word.while_key) _ _ _ h
-            (λ t. let k = eqb-true (token_at s at).key word.while_key t in let z = token_advance s at (omega arith) in
-            onward_answers (condition s rs fs ns m (token_at s at).end) _ (condition_answers (token_at s at).end) λ c a g. let y =
-            condition_on s rs fs ns m (token_at s at).end c a g in
-            onward_answers (braces_t s rs fs ns m inner d (token_at s a)) _ (braces_answers d a (omega arith)) λ _ _ _. got_answers)
-            λ _ h. pick_case (is_name (token_at s at).key) _ _ _ h
-            (λ _. onward_answers (assignment s rs fs ns m at) _ (assignment_answers at) λ _ _ _. got_answers)
-            λ _ g. refused_answers g
+      statement_answers_by : (d at : ℕ) → low ≡ at → IsAnswer (statement_t s rs fs ns m inner d at (token_at s at))
+      statement_answers_by d at l h =
+          pick_case (eqb (token_at s at).key word.skip_key) _ _ _ h (λ _. ended_answers word.semicolon_key skip (token_at s at).end)
+          λ _ h. pick_case (eqb (token_at s at).key word.assume_key) _ _ _ h
+          (λ _. onward_answers (ended_condition s rs fs ns m (token_at s at).end) _ (tested_answers (token_at s at).end) λ _ _ _. got_answers)
+          λ _ h. pick_case (eqb (token_at s at).key word.assert_key) _ _ _ h
+          (λ _. onward_answers (ended_condition s rs fs ns m (token_at s at).end) _ (tested_answers (token_at s at).end) λ _ _ _. got_answers)
+          λ _ h. pick_case (eqb (token_at s at).key word.if_key) _ _ _ h
+          (λ t. let k = eqb-true (token_at s at).key word.if_key t in let z = token_advance s at (omega arith) in
+          onward_answers (condition s rs fs ns m (token_at s at).end) _ (condition_answers (token_at s at).end) λ c a g. let y =
+          condition_on s rs fs ns m (token_at s at).end c a g in
+          onward_answers (braces_t s rs fs ns m inner d (token_at s a)) _ (braces_answers d a (omega arith)) λ b e w. let x = on d a b e w in
+          onward_answers (else_t s rs fs ns m inner d e (token_at s e)) _ (else_answers d e (omega arith)) λ _ _ _. got_answers)
+          λ _ h. pick_case (eqb (token_at s at).key word.while_key) _ _ _ h
+          (λ t. let k = eqb-true (token_at s at).key word.while_key t in let z = token_advance s at (omega arith) in
+          onward_answers (condition s rs fs ns m (token_at s at).end) _ (condition_answers (token_at s at).end) λ c a g. let y =
+          condition_on s rs fs ns m (token_at s at).end c a g in
+          onward_answers (braces_t s rs fs ns m inner d (token_at s a)) _ (braces_answers d a (omega arith)) λ _ _ _. got_answers)
+          λ _ h. pick_case (is_name (token_at s at).key) _ _ _ h
+          (λ _. onward_answers (assignment s rs fs ns m at) _ (assignment_answers at) λ _ _ _. got_answers)
+          λ _ g. refused_answers g
 
-      open_here : (at : ℕ) → closing s rs fs ns m (token_at s at).key ≡ false → at < length s
-      open_here at t = token_before_end s at
-          λ e. let z : true ≡ false = sym (ap (λ k. closing s rs fs ns m k) e) ∙ t in let y : ◌≡◌ {A = ℕ} 0 1 = cc in omega arith
+    open_here : (at : ℕ) → closing s rs fs ns m (token_at s at).key ≡ false → at < length s
+    open_here at t = token_before_end s at
+        λ e. let z : true ≡ false = sym (ap (λ k. closing s rs fs ns m k) e) ∙ t in let y : ◌≡◌ {A = ℕ} 0 1 = cc in omega arith
 
-      mutual
-        unfolding block
+    mutual
+      unfolding block
 
-        pub block_answers : (k d at : ℕ) → 2 * (length s - at) ≤ k → IsAnswer (block s rs fs ns m cs (suc k) d at)
-        block_answers zero d at l h = pick_case (closing s rs fs ns m (token_at s at).key) _ _ _ h (λ _ g. got_answers g) λ t g. let y = open_here at t in
-            omega arith
-        block_answers (suc k) d at l h =
-            pick_case (closing s rs fs ns m (token_at s at).key) _ _ _ h (λ _ g. got_answers g)
-            λ t. let y = open_here at t in
-            onward_answers (statement s rs fs ns m cs (suc k) d at) _ (λ h. statement_answers k d at y l h) λ c a g. let x =
-            statement_on s rs fs ns m cs (suc k) d at c a g in
-            onward_answers (block s rs fs ns m cs (suc k) d a) _ (λ h. block_answers k d a (omega arith) h) λ _ _ _. got_answers
+      pub block_answers : (k d at : ℕ) → 2 * (length s - at) ≤ k → IsAnswer (block s rs fs ns m (suc k) d at)
+      block_answers zero d at l h = pick_case (closing s rs fs ns m (token_at s at).key) _ _ _ h (λ _ g. got_answers g) λ t g. let y = open_here at t in
+          omega arith
+      block_answers (suc k) d at l h =
+          pick_case (closing s rs fs ns m (token_at s at).key) _ _ _ h (λ _ g. got_answers g)
+          λ t. let y = open_here at t in
+          onward_answers (statement s rs fs ns m (suc k) d at) _ (λ h. statement_answers k d at y l h) λ c a g. let x =
+          statement_on s rs fs ns m (suc k) d at c a g in
+          onward_answers (block s rs fs ns m (suc k) d a) _ (λ h. block_answers k d a (omega arith) h) λ _ _ _. got_answers
 
-        statement_answers : (k d at : ℕ) → at < length s → 2 * (length s - at) ≤ suc k → IsAnswer (statement s rs fs ns m cs (suc k) d at)
-        statement_answers zero d at y l h = absurd (omega arith)
-        statement_answers (suc k) d at y l h =
-            statement_answers_by (λ d at. block s rs fs ns m cs (suc k) d at) at (λ d a h g. block_answers k d a (omega arith) g)
-            (λ d a b e g. (braces_on s rs fs ns m cs (suc k) d a b e g).0) d at refl h
-
-    -- calls enough for all bytes of the text
-    whole_answers : (cs : List ℕ) (d at : ℕ) → IsAnswer (whole_block s rs fs ns m cs d at)
-    whole_answers cs d at =
-        subst (λ n. IsAnswer (block s rs fs ns m cs n d at)) (more_one (2 * length s)) (block_answers cs (2 * length s) d at (omega arith))
-      where
-        more_one : (n : ℕ) → suc n ≡ n + 1
-        more_one n = omega arith
-
-    braced_answers : (cs : List ℕ) (d at : ℕ) → IsAnswer (braces_t s rs fs ns m (whole_block s rs fs ns m cs) d (token_at s at))
-    braced_answers cs zero at h = pick_case (eqb (token_at s at).key word.lbrace_key) _ _ _ h (λ _ g. refused_answers g) λ _ g. refused_answers g
-    braced_answers cs (suc d) at h =
-        pick_case (eqb (token_at s at).key word.lbrace_key) _ _ _ h
-        (λ _. onward_answers (whole_block s rs fs ns m cs d (token_at s at).end) _ (whole_answers cs d (token_at s at).end) λ b e _. ended_answers word.rbrace_key
-        b e)
-        λ _ g. refused_answers g
-
-    sub_answers : (us : List Sub) (at : ℕ) → IsAnswer (sub_t s rs fs ns m us (token_at s at))
-    unfolding sub_t
-    sub_answers us at h =
-        pick_case (is_name (token_at s at).key) _ _ _ h
-        (λ _ g. pick_case (is_taken rs fs (sub_names us) (token_at s at).key) _ _ _ g (λ _ f. refused_answers f)
-        λ _. onward_answers (braces_t s rs fs ns m (whole_block s rs fs ns m (sub_names us)) deepest_nesting (token_at s (token_at s at).end)) _
-        (braced_answers (sub_names us) deepest_nesting (token_at s at).end) λ _ _ _. got_answers)
-        λ _ g. refused_answers g
-
-    subs_answers : (room : ℕ) (us : List Sub) (at : ℕ) → IsAnswer (subs_from s rs fs ns m room us at)
-    unfolding subs_from
-    subs_answers zero us at h =
-        pick_case (eqb (token_at s at).key word.sub_key) _ _ _ h
-        (λ _ g. pick_case (is_name (token_at s (token_at s at).end).key) _ _ _ g (λ _ f. refused_answers f) λ _ f. refused_answers f)
-        λ _ g. got_answers g
-    subs_answers (suc room) us at h =
-        pick_case (eqb (token_at s at).key word.sub_key) _ _ _ h
-        (λ _. onward_answers (sub_t s rs fs ns m us (token_at s (token_at s at).end)) _ (sub_answers us (token_at s at).end) λ u e _.
-        subs_answers room (us ++ u ∷ []) e)
-        λ _ g. got_answers g
+      statement_answers : (k d at : ℕ) → at < length s → 2 * (length s - at) ≤ suc k → IsAnswer (statement s rs fs ns m (suc k) d at)
+      statement_answers zero d at y l h = absurd (omega arith)
+      statement_answers (suc k) d at y l h =
+          statement_answers_by (λ d at. block s rs fs ns m (suc k) d at) at (λ d a h g. block_answers k d a (omega arith) g)
+          (λ d a b e g. (braces_on s rs fs ns m (suc k) d a b e g).0) d at refl h
 
   listed_answers : {A : Type 0} (n : ℕ) (a : A) (at : ℕ) → IsAnswer (listed_t s n a (token_at s at))
   listed_answers n a at h = pick_case (eqb (token_at s at).key word.semicolon_key && not (eqb n 0)) _ _ _ h (λ _ g. got_answers g) λ _ g. refused_answers g
@@ -275,10 +231,13 @@ module _ (s : List ℕ) where
       onward_answers (register_names s most_registers [] a) _ (registers_answers most_registers [] a) λ rs b _.
       onward_answers (functions_t s rs b (token_at s b)) _ (functions_answers rs b) λ r c _.
       onward_answers (tests_t s rs r.0 r.1 c (token_at s c)) _ (tests_answers rs r.0 r.1 c) λ t d _.
-      onward_answers (subs_from s rs t.0 t.1 (length r.0) most_subs [] d) _ (subs_answers rs t.0 t.1 (length r.0) most_subs [] d) λ us f _.
-      onward_answers (whole_block s rs t.0 t.1 (length r.0) (sub_names us) deepest_nesting f) _
-      (whole_answers rs t.0 t.1 (length r.0) (sub_names us) deepest_nesting f) λ body e _ g.
+      onward_answers (block s rs t.0 t.1 (length r.0) (2 * length s + 1) deepest_nesting d) _
+      (subst (λ n. IsAnswer (block s rs t.0 t.1 (length r.0) n deepest_nesting d)) (more_one (2 * length s))
+      (block_answers rs t.0 t.1 (length r.0) (2 * length s) deepest_nesting d (omega arith))) λ body e _ g.
       pick_case (eqb (token_at s e).key 0) _ _ _ g (λ _ f. got_answers f) λ _ f. refused_answers f
+    where
+      more_one : (n : ℕ) → suc n ≡ n + 1
+      more_one n = omega arith
 
   -- Every text has an answer.
   pub read_answers : read_macro s ≡ exhausted → ⊥

@@ -1,5 +1,5 @@
 -- What follows from the definitions of specs/Expanded.antt: the points of one block before another, that the letters of the expanded macro fit
--- its header, the hidden registers counted, and that a macro without tests performs its own statements. What is expanded has no calls (Inlined.antt).
+-- its header, the hidden registers counted, and that a macro without tests performs its own statements.
 use mathlib.Core.Path.{◌≡◌, refl, sym, ap, ◌∙◌}
 use mathlib.Core.Option.{Option, none, some}
 use Prim.Native.Nat.{ℕ, suc, ◌+◌, ◌≤◌, ◌<◌}
@@ -19,34 +19,12 @@ use Rattle.macros.specs.Points.{size_statement, size_block, entry, compile, comp
 use Rattle.tokens.specs.Words as word
 use Rattle.grammar.specs.Limits.{hidden_registers}
 use Rattle.grammar.specs.Tree.{Condition, equal, unequal, holds, fails, Assignment, copy, apply, letter_of, Statement, skip, assign, assume, assert, if}
-use Rattle.grammar.specs.Tree.{while, call, Else, absent, present, Block, empty, ProperAssignment, ProperCondition, Proper, ProperElse, ProperBlock}
+use Rattle.grammar.specs.Tree.{while, Else, absent, present, Block, empty, ProperAssignment, ProperCondition, Proper, ProperElse, ProperBlock}
 use Rattle.grammar.specs.Tree as written
 use Rattle.grammar.specs.Expanded.{◌before◌, result_register, truth_register, application, comparison, after, loop, expanded_statement}
 use Rattle.grammar.specs.Expanded.{expanded_else, expanded_block}
-use Rattle.grammar.specs.Inlined.{◌joined◌}
-use Rattle.grammar.specs.Grammar.{Macro, hidden, hidden_of, header, header_of, inlined, expanded}
+use Rattle.grammar.specs.Grammar.{Macro, hidden, hidden_of, header, header_of, expanded}
 use Rattle.grammar.specs.Spelled.{InOrder}
-use Rattle.grammar.proofs.Theory.Inlined.{inlined_uses}
-
--- ---- blocks one behind the other
-
-pub before_empty : (a : macro.Block) → (a before macro.empty) ≡ a
-before_empty macro.empty = refl
-before_empty (s then a) = ap (λ k. s then k) (before_empty a)
-
-pub before_assoc : (a b k : macro.Block) → ((a before b) before k) ≡ (a before (b before k))
-before_assoc macro.empty b k = refl
-before_assoc (s then a) b k = ap (λ j. s then j) (before_assoc a b k)
-
-pub expanded_joined : (n : ℕ) (a b : Block) → expanded_block n (a joined b) ≡ (expanded_block n a before expanded_block n b)
-unfolding expanded_block
-expanded_joined n empty b = refl
-expanded_joined n (written.◌then◌ s a) b =
-    ap (λ k. expanded_statement n s before k) (expanded_joined n a b) ∙ sym (before_assoc (expanded_statement n s) (expanded_block n a) (expanded_block n b))
-
-pub expanded_one : (n : ℕ) (s : Statement) → expanded_block n (written.◌then◌ s empty) ≡ expanded_statement n s
-unfolding expanded_block
-expanded_one n s = before_empty (expanded_statement n s)
 
 -- ---- points
 
@@ -128,7 +106,7 @@ module _ (rs qs fs ns : List ℕ) (t : ℕ) (wide : length rs ≤ length qs) (ro
   mutual
     unfolding expanded_statement
 
-    statement_expanded : (s : Statement) → Proper s (header rs fs ns) t 0 → macro.ProperBlock (expanded_statement (length rs) s) (header qs fs ns)
+    statement_expanded : (s : Statement) → Proper s (header rs fs ns) t → macro.ProperBlock (expanded_statement (length rs) s) (header qs fs ns)
     statement_expanded skip u = (tt, tt)
     statement_expanded (assign l) u = (assignment_fits l u, tt)
     statement_expanded (assume c) u = after_proper (application (length rs) c) _ (application_fits c u) (comparison_fits c u)
@@ -137,13 +115,12 @@ module _ (rs qs fs ns : List ℕ) (t : ℕ) (wide : length rs ≤ length qs) (ro
         after_proper (application (length rs) c) _ (application_fits c u) (comparison_fits c u, expanded_proper b v, else_expanded e w)
     statement_expanded (while c b) (u, v) =
         (loop_proper (application (length rs) c) (comparison (length rs) c) _ (application_fits c u) (comparison_fits c u) (expanded_proper b v), tt)
-    statement_expanded (call i) u = absurd (omega arith)
 
-    else_expanded : (e : Else) → ProperElse e (header rs fs ns) t 0 → macro.ProperElse (expanded_else (length rs) e) (header qs fs ns)
+    else_expanded : (e : Else) → ProperElse e (header rs fs ns) t → macro.ProperElse (expanded_else (length rs) e) (header qs fs ns)
     else_expanded absent u = tt
     else_expanded (present b) u = expanded_proper b u
 
-    pub expanded_proper : (b : Block) → ProperBlock b (header rs fs ns) t 0 → macro.ProperBlock (expanded_block (length rs) b) (header qs fs ns)
+    pub expanded_proper : (b : Block) → ProperBlock b (header rs fs ns) t → macro.ProperBlock (expanded_block (length rs) b) (header qs fs ns)
     expanded_proper empty u = tt
     expanded_proper (written.◌then◌ s b) (u, v) = before_proper (header qs fs ns) (expanded_statement (length rs) s) (expanded_block (length rs) b)
         (statement_expanded s u) (expanded_proper b v)
@@ -154,7 +131,7 @@ expanded_fits m O =
     let size = length-append m.registers (hidden_of m) in
     expanded_proper m.registers (m.registers ++ hidden_of m) m.functions m.arities m.first_test (omega arith)
     (λ h. let n : length (hidden_of m) ≡ hidden_registers = rw (lt-ltb m.first_test (length m.functions) h) in omega arith)
-    (inlined m) (inlined_uses m O)
+    m.body O.uses
 
 -- ── macros without tests: what they perform is their own statements ──
 before_plain : (a b : macro.Block) → IsPlainBlock a → IsPlainBlock b → IsPlainBlock (a before b)
@@ -175,20 +152,19 @@ module _ (h : Header) (t : ℕ) (none_declared : h.functions ≤ t) where
   mutual
     unfolding expanded_statement
 
-    statement_plain : (s : Statement) → Proper s h t 0 → IsPlainBlock (expanded_statement h.registers s)
+    statement_plain : (s : Statement) → Proper s h t → IsPlainBlock (expanded_statement h.registers s)
     statement_plain skip u = (tt, tt)
     statement_plain (assign a) u = (tt, tt)
     statement_plain (assume c) u = after_plain c u _ tt
     statement_plain (assert c) u = after_plain c u _ tt
     statement_plain (if c b e) u = after_plain c u.0 _ (expanded_plain b u.1, else_plain e u.2)
     statement_plain (while c b) u = rw (no_application c u.0) (expanded_plain b u.1, tt)
-    statement_plain (call i) u = absurd (omega arith)
 
-    else_plain : (e : Else) → ProperElse e h t 0 → IsPlainElse (expanded_else h.registers e)
+    else_plain : (e : Else) → ProperElse e h t → IsPlainElse (expanded_else h.registers e)
     else_plain absent u = tt
     else_plain (present b) u = expanded_plain b u
 
-    pub expanded_plain : (b : Block) → ProperBlock b h t 0 → IsPlainBlock (expanded_block h.registers b)
+    pub expanded_plain : (b : Block) → ProperBlock b h t → IsPlainBlock (expanded_block h.registers b)
     expanded_plain empty u = tt
     expanded_plain (written.◌then◌ s b) u =
         before_plain (expanded_statement h.registers s) (expanded_block h.registers b) (statement_plain s u.0) (expanded_plain b u.1)

@@ -1,14 +1,12 @@
 -- A macro does with each meaning of its functions and tests what its expansion does: what is run as it is written is an execution whose tests all hold, and
--- the reverse. Calls come in last: what is run with them is run with their bodies in their place, and the reverse.
+-- the reverse.
 use mathlib.Core.Path.{◌≡◌, refl, sym, ap, ◌∙◌, subst}
 use mathlib.Core.Logic.{◌⊎◌, inl, inr, ◌↔◌, ◌≢◌}
 use mathlib.Core.Bool.{true, false, cond}
 use mathlib.Core.Option.{Option, none, some}
-use Prim.Native.Nat.{ℕ, zero, suc, ◌+◌, ◌≤◌, ◌<◌}
+use Prim.Native.Nat.{ℕ, ◌<◌}
 use native.Mathlib.Omega.{arith}
-use mathlib.Core.List.{List, []}
 use lib.Dec.{eqb}
-use lib.ListN.{length, get_or}
 use borrow.Author.Tests.{ne_eqb, eq-eqb}
 use Rattle.base.specs.Choice.{pick}
 use Rattle.letters.specs.declared.Header.{Header}
@@ -22,16 +20,11 @@ use Rattle.macros.specs.WrittenOut.{statement_before, written_else, block_before
 use Rattle.macros.specs.Executions.{Outcome, done, failed, Exec, ExecElse, ExecBlock, Begins, whole, before}
 use Rattle.macros.proofs.Theory.Executions.{exec_begins, else_begins, block_begins}
 use Rattle.grammar.specs.Tree.{Condition, equal, unequal, holds, fails, Assignment, copy, apply, letter_of, Statement, skip, assign, assume, assert, if}
-use Rattle.grammar.specs.Tree.{while, call, Else, absent, present, Block, empty, ◌then◌, Sub, body_of, ProperAssignment, ProperCondition, Proper}
-use Rattle.grammar.specs.Tree.{ProperElse, ProperBlock, ProperSubs}
-use Rattle.grammar.specs.Inlined.{◌joined◌, inlined_statement, inlined_else, inlined_block, inlined_bodies}
+use Rattle.grammar.specs.Tree.{while, Else, absent, present, Block, empty, ◌then◌, ProperAssignment, ProperCondition, Proper, ProperElse, ProperBlock}
 use Rattle.grammar.specs.Expanded.{application, comparison, after, expanded_statement, expanded_else, expanded_block}
 use Rattle.grammar.specs.Expanded as expansion
 use Rattle.grammar.specs.Meanings.{Meaning, Values, IsTrue, IsFalse, assigned, Runs, RunsElse, RunsBlock}
 use Rattle.grammar.specs.MeaningOfTraces.{value_in, last_held, AllHold}
-use Rattle.grammar.specs.Grammar.{Macro, header, inlined, expanded}
-use Rattle.grammar.specs.Spelled.{InOrder}
-use Rattle.grammar.proofs.Theory.Inlined.{calls_more, body_uses, body_inlined, inlined_uses}
 
 -- ── parts of what is written out ──
 pub before_written_out : (a b : macro.Block) (k : plain.Block) → block_before (expansion.◌before◌ a b) k ≡ block_before a (block_before b k)
@@ -269,10 +262,10 @@ module _ {ℓ} (h : Header) (t : ℕ) (R : Meaning {ℓ}) where
   while_onward done c b k ρ π e = λ τ o x. (while_asked c b k ρ τ o).0 (ExecBlock.both e x)
   while_onward failed c b k ρ π e = (while_asked c b k ρ π failed).0 (ExecBlock.ends e)
 
-  before_onward : (o : Outcome) (a b : macro.Block) (k : plain.Block) (ρ π τ : Trace) → ((j : plain.Block) → Onward done (block_before a j) j ρ π)
+  joined : (o : Outcome) (a b : macro.Block) (k : plain.Block) (ρ π τ : Trace) → ((j : plain.Block) → Onward done (block_before a j) j ρ π)
       → Onward o (block_before b k) k π τ → Onward o (block_before (expansion.◌before◌ a b) k) k ρ τ
-  before_onward done a b k ρ π τ f g = λ u o x. subst (λ j. ExecBlock j ρ u o) (sym (before_written_out a b k)) (f (block_before b k) u o (g u o x))
-  before_onward failed a b k ρ π τ f g = subst (λ j. ExecBlock j ρ τ failed) (sym (before_written_out a b k)) (f (block_before b k) τ failed g)
+  joined done a b k ρ π τ f g = λ u o x. subst (λ j. ExecBlock j ρ u o) (sym (before_written_out a b k)) (f (block_before b k) u o (g u o x))
+  joined failed a b k ρ π τ f g = subst (λ j. ExecBlock j ρ τ failed) (sym (before_written_out a b k)) (f (block_before b k) τ failed g)
 
   -- what running a statement gives: of a while, the execution of the loop behind the first application
   abbrev Looped : Condition → Block → Trace → Values R → Outcome → Type ℓ
@@ -285,7 +278,6 @@ module _ {ℓ} (h : Header) (t : ℕ) (R : Meaning {ℓ}) where
   StatementPerformed (assert c) ρ w o = Performed (block_before (expanded_statement declared (assert c))) ρ w o
   StatementPerformed (if c b e) ρ w o = Performed (block_before (expanded_statement declared (if c b e))) ρ w o
   StatementPerformed (while c b) ρ w o = Looped c b ρ w o
-  StatementPerformed (call i) ρ w o = Performed (block_before (expanded_statement declared (call i))) ρ w o
 
   performed : (s : Statement) {ρ : Trace} {w : Values R} {o : Outcome} → StatementPerformed s ρ w o
       → Performed (block_before (expanded_statement declared s)) ρ w o
@@ -294,13 +286,12 @@ module _ {ℓ} (h : Header) (t : ℕ) (R : Meaning {ℓ}) where
   performed (assume c) r = r
   performed (assert c) r = r
   performed (if c b e) r = r
-  performed (call i) r = r
   performed (while c b) {ρ} {o} (π, i, j, e) = record { to = π; all_hold = i; agrees = j; onward = λ k. while_onward o c b k ρ π e }
 
   mutual
     unfolding statement_before expanded_statement
 
-    run_statement : {s : Statement} {v w : Values R} {o : Outcome} → Proper s h t 0 → Runs R [] s v w o → (ρ : Trace) → Hold ρ → Agrees v ρ
+    run_statement : {s : Statement} {v w : Values R} {o : Outcome} → Proper s h t → Runs R s v w o → (ρ : Trace) → Hold ρ → Agrees v ρ
         → StatementPerformed s ρ w o
     run_statement p Runs.passes ρ a g = record { to = ρ; all_hold = a; agrees = g; onward = λ k τ o x. ExecBlock.both Exec.nothing x }
     run_statement p (Runs.assigns {a = s} {v} e) ρ a g = record {
@@ -358,16 +349,15 @@ module _ {ℓ} (h : Header) (t : ℕ) (R : Meaning {ℓ}) where
     run_statement p (Runs.breaks {c} {v} y x) ρ a g =
         let r = run_block p.1 x (asked ρ c ▸ test (comparison declared c)) ((condition_true c p.0 v ρ g).1 (a, y)) (agrees_true c v ρ g) in
         (r.to, r.all_hold, r.agrees, Exec.breaks (r.onward (again (application declared c))))
-    run_statement p (Runs.performs x) ρ a g = absurd (omega arith)
 
-    run_else : {e : Else} {v w : Values R} {o : Outcome} → ProperElse e h t 0 → RunsElse R [] e v w o → (ρ : Trace) → Hold ρ → Agrees v ρ
+    run_else : {e : Else} {v w : Values R} {o : Outcome} → ProperElse e h t → RunsElse R e v w o → (ρ : Trace) → Hold ρ → Agrees v ρ
         → (π : Trace) × Hold π × Agrees w π × ExecElse (written_else (expanded_else declared e)) ρ π o
     run_else p RunsElse.none ρ a g = (ρ, a, g, ExecElse.none)
     run_else p (RunsElse.some {b} {o} x) ρ a g =
         let r = run_block p x ρ a g in
         (r.to, r.all_hold, r.agrees, ExecElse.some (closed o (block_before (expanded_block declared b)) ρ r.to r.onward))
 
-    run_block : {b : Block} {v w : Values R} {o : Outcome} → ProperBlock b h t 0 → RunsBlock R [] b v w o → (ρ : Trace) → Hold ρ → Agrees v ρ
+    run_block : {b : Block} {v w : Values R} {o : Outcome} → ProperBlock b h t → RunsBlock R b v w o → (ρ : Trace) → Hold ρ → Agrees v ρ
         → Performed (block_before (expanded_block declared b)) ρ w o
     run_block p RunsBlock.stop ρ a g = record { to = ρ; all_hold = a; agrees = g; onward = λ k τ o x. x }
     run_block p (RunsBlock.both {s} {b} {o} x y) ρ a g =
@@ -377,7 +367,7 @@ module _ {ℓ} (h : Header) (t : ℕ) (R : Meaning {ℓ}) where
           to = r.to;
           all_hold = r.all_hold;
           agrees = r.agrees;
-          onward = λ k. before_onward o (expanded_statement declared s) (expanded_block declared b) k ρ q.to r.to q.onward (r.onward k);
+          onward = λ k. joined o (expanded_statement declared s) (expanded_block declared b) k ρ q.to r.to q.onward (r.onward k);
         }
     run_block p (RunsBlock.ends {s} {b} x) ρ a g =
         let q = performed s (run_statement p.0 x ρ a g) in
@@ -409,21 +399,21 @@ module _ {ℓ} (h : Header) (t : ℕ) (R : Meaning {ℓ}) where
   came_closed P (inr ((w, x, g), q)) = (w, subst (P w) (sym q) x, g)
 
   -- of single statements, behind the application of their condition
-  skip_ran : {ρ π : Trace} {o : Outcome} → Exec plain.skip ρ π o → (v : Values R) → Agrees v ρ → Ran (Runs R [] skip v) π o
+  skip_ran : {ρ π : Trace} {o : Outcome} → Exec plain.skip ρ π o → (v : Values R) → Agrees v ρ → Ran (Runs R skip v) π o
   skip_ran Exec.nothing v g = (v, Runs.passes, g)
 
   assign_ran : (s : Assignment) → ProperAssignment s h t → {ρ π : Trace} {o : Outcome} → Exec (plain.perform (letter_of s)) ρ π o
-      → (v : Values R) → Agrees v ρ → Ran (Runs R [] (assign s) v) π o
+      → (v : Values R) → Agrees v ρ → Ran (Runs R (assign s) v) π o
   assign_ran s p {ρ} Exec.letter v g = (assigned R s v, Runs.assigns refl, agrees_assigned s p v ρ g)
 
   module _ (c : Condition) (p : ProperCondition c h t) (ρ : Trace) (v : Values R) (g : Agrees v ρ) where
     assume_ran : {σ π : Trace} {o : Outcome} → Exec (plain.perform (test (comparison declared c))) σ π o → σ ≡ asked ρ c → Hold π
-        → Ran (Runs R [] (assume c) v) π o
+        → Ran (Runs R (assume c) v) π o
     assume_ran Exec.letter s a =
         let y = ((condition_true c p v ρ g).0 (subst (λ u. Hold (u ▸ test (comparison declared c))) s a)).1 in
         (v, Runs.assumes y, subst (λ u. Agrees v (u ▸ test (comparison declared c))) (sym s) (agrees_true c v ρ g))
 
-    assert_ran : {σ π : Trace} {o : Outcome} → Exec (plain.assert (comparison declared c)) σ π o → σ ≡ asked ρ c → Hold π → Ran (Runs R [] (assert c) v) π o
+    assert_ran : {σ π : Trace} {o : Outcome} → Exec (plain.assert (comparison declared c)) σ π o → σ ≡ asked ρ c → Hold π → Ran (Runs R (assert c) v) π o
     assert_ran {σ} (Exec.holds e) s a =
         let y = ((condition_true c p v ρ g).0 (subst (λ u. Hold (u ▸ test (comparison declared c))) s (subst (λ b. Hold (σ ▸ b)) e a))).1 in
         let d = subst (λ u. Agrees v (u ▸ test (comparison declared c))) (sym s) (agrees_true c v ρ g) in
@@ -434,9 +424,9 @@ module _ {ℓ} (h : Header) (t : ℕ) (R : Meaning {ℓ}) where
         (v, Runs.violates y, subst (λ b. Agrees v (σ ▸ b)) (sym e) d)
 
     if_ran : (b : Block) (e : Else) {i : plain.Block} {j : plain.Else} {σ π : Trace} {o : Outcome}
-        → ((ρ : Trace) → ExecBlock i ρ π o → Agrees v ρ → Ran (RunsBlock R [] b v) π o)
-        → ((ρ : Trace) → ExecElse j ρ π o → Agrees v ρ → Ran (RunsElse R [] e v) π o)
-        → Exec (plain.if (comparison declared c) i j) σ π o → σ ≡ asked ρ c → Hold π → Ran (Runs R [] (if c b e) v) π o
+        → ((ρ : Trace) → ExecBlock i ρ π o → Agrees v ρ → Ran (RunsBlock R b v) π o)
+        → ((ρ : Trace) → ExecElse j ρ π o → Agrees v ρ → Ran (RunsElse R e v) π o)
+        → Exec (plain.if (comparison declared c) i j) σ π o → σ ≡ asked ρ c → Hold π → Ran (Runs R (if c b e) v) π o
     if_ran b e {σ} {π} f k (Exec.first x) s a =
         let y = ((condition_true c p v ρ g).0 (subst (λ u. Hold (u ▸ test (comparison declared c))) s (hold_before (block_begins x) a))).1 in
         let i = subst (λ u. Agrees v (u ▸ test (comparison declared c))) (sym s) (agrees_true c v ρ g) in
@@ -448,18 +438,18 @@ module _ {ℓ} (h : Header) (t : ℕ) (R : Meaning {ℓ}) where
         let (w, z, d) = k (σ ▸ opposite (comparison declared c)) x i in
         (w, Runs.second y z, d)
 
-  came_then : (s : Statement) (b : Block) (v w : Values R) → Runs R [] s v w done → (k : plain.Block) (τ : Trace) (o : Outcome)
-      → Came (RunsBlock R [] b w) k τ o → Came (RunsBlock R [] (s then b) v) k τ o
+  came_then : (s : Statement) (b : Block) (v w : Values R) → Runs R s v w done → (k : plain.Block) (τ : Trace) (o : Outcome)
+      → Came (RunsBlock R b w) k τ o → Came (RunsBlock R (s then b) v) k τ o
   came_then s b v w x k τ o (inl (π, (u, y, i), e)) = inl (π, (u, RunsBlock.both x y, i), e)
   came_then s b v w x k τ o (inr ((u, y, i), q)) = inr ((u, RunsBlock.both x y, i), q)
 
   -- of a block behind which k stands
   abbrev BlockCame : Block → plain.Block → Type ℓ
   BlockCame b k = (ρ τ : Trace) (o : Outcome) → ExecBlock (block_before (expanded_block declared b) k) ρ τ o → Hold τ → (v : Values R) → Agrees v ρ
-      → Came (RunsBlock R [] b v) k τ o
+      → Came (RunsBlock R b v) k τ o
 
   loop_ran : (c : Condition) (b : Block) → ProperCondition c h t → BlockCame b (again (application declared c)) → {σ π : Trace} {o : Outcome}
-      → Exec (loop_of c b) σ π o → (ρ : Trace) → σ ≡ asked ρ c → Hold π → (v : Values R) → Agrees v ρ → Ran (Runs R [] (while c b) v) π o
+      → Exec (loop_of c b) σ π o → (ρ : Trace) → σ ≡ asked ρ c → Hold π → (v : Values R) → Agrees v ρ → Ran (Runs R (while c b) v) π o
   loop_ran c b p f {σ} (Exec.leaves e) ρ s a v g =
       let y = ((condition_false c p v ρ g).0 (subst (λ u. Hold (u ▸ opposite (comparison declared c))) s (subst (λ b. Hold (σ ▸ b)) e a))).1 in
       let d = subst (λ u. Agrees v (u ▸ opposite (comparison declared c))) (sym s) (agrees_false c v ρ g) in
@@ -483,37 +473,36 @@ module _ {ℓ} (h : Header) (t : ℕ) (R : Meaning {ℓ}) where
   mutual
     unfolding statement_before expanded_statement
 
-    came_statement : (s : Statement) → Proper s h t 0 → (k : plain.Block) (ρ τ : Trace) (o : Outcome)
-        → ExecBlock (block_before (expanded_statement declared s) k) ρ τ o → Hold τ → (v : Values R) → Agrees v ρ → Came (Runs R [] s v) k τ o
-    came_statement skip p k ρ τ o e a v g = came_from (Runs R [] skip v) plain.skip k (λ π i x b. skip_ran x v g) e a
-    came_statement (assign s) p k ρ τ o e a v g = came_from (Runs R [] (assign s) v) (plain.perform (letter_of s)) k (λ π i x b. assign_ran s p x v g) e a
+    came_statement : (s : Statement) → Proper s h t → (k : plain.Block) (ρ τ : Trace) (o : Outcome)
+        → ExecBlock (block_before (expanded_statement declared s) k) ρ τ o → Hold τ → (v : Values R) → Agrees v ρ → Came (Runs R s v) k τ o
+    came_statement skip p k ρ τ o e a v g = came_from (Runs R skip v) plain.skip k (λ π i x b. skip_ran x v g) e a
+    came_statement (assign s) p k ρ τ o e a v g = came_from (Runs R (assign s) v) (plain.perform (letter_of s)) k (λ π i x b. assign_ran s p x v g) e a
     came_statement (assume c) p k ρ τ o e a v g =
-        came_from (Runs R [] (assume c) v) (plain.perform (test (comparison declared c))) k (λ π i x b. assume_ran c p ρ v g x refl b)
+        came_from (Runs R (assume c) v) (plain.perform (test (comparison declared c))) k (λ π i x b. assume_ran c p ρ v g x refl b)
         ((after_asked c (macro.perform (test (comparison declared c))) k ρ τ o).1 e) a
     came_statement (assert c) p k ρ τ o e a v g =
-        came_from (Runs R [] (assert c) v) (plain.assert (comparison declared c)) k (λ π i x b. assert_ran c p ρ v g x refl b)
+        came_from (Runs R (assert c) v) (plain.assert (comparison declared c)) k (λ π i x b. assert_ran c p ρ v g x refl b)
         ((after_asked c (macro.assert (comparison declared c)) k ρ τ o).1 e) a
     came_statement (if c b d) p k ρ τ o e a v g =
-        came_from (Runs R [] (if c b d) v)
+        came_from (Runs R (if c b d) v)
         (plain.if (comparison declared c) (block_before (expanded_block declared b) plain.empty) (written_else (expanded_else declared d))) k
         (λ π i x y. if_ran c p.0 ρ v g b d
-        (λ σ z j. came_closed (RunsBlock R [] b v) (came_block b p.1 plain.empty σ π i z y v j))
+        (λ σ z j. came_closed (RunsBlock R b v) (came_block b p.1 plain.empty σ π i z y v j))
         (λ σ z j. came_else d p.2 σ π i z y v j) x refl y)
         ((after_asked c (macro.if (comparison declared c) (expanded_block declared b) (expanded_else declared d)) k ρ τ o).1 e) a
     came_statement (while c b) p k ρ τ o e a v g =
-        came_from (Runs R [] (while c b) v) (loop_of c b) k
+        came_from (Runs R (while c b) v) (loop_of c b) k
         (λ π i x y. loop_ran c b p.0 (λ σ θ j z l u q. came_block b p.1 (again (application declared c)) σ θ j z l u q) x ρ refl y v g)
         ((while_asked c b k ρ τ o).1 e) a
-    came_statement (call i) p k ρ τ o e a v g = absurd (omega arith)
 
-    came_else : (d : Else) → ProperElse d h t 0 → (ρ τ : Trace) (o : Outcome) → ExecElse (written_else (expanded_else declared d)) ρ τ o → Hold τ
-        → (v : Values R) → Agrees v ρ → Ran (RunsElse R [] d v) τ o
+    came_else : (d : Else) → ProperElse d h t → (ρ τ : Trace) (o : Outcome) → ExecElse (written_else (expanded_else declared d)) ρ τ o → Hold τ
+        → (v : Values R) → Agrees v ρ → Ran (RunsElse R d v) τ o
     came_else absent p ρ τ o e a v g =
-        let (q, r) = none_executed e in (v, subst (RunsElse R [] absent v v) (sym r) RunsElse.none, subst (Agrees v) (sym q) g)
+        let (q, r) = none_executed e in (v, subst (RunsElse R absent v v) (sym r) RunsElse.none, subst (Agrees v) (sym q) g)
     came_else (present b) p ρ τ o e a v g =
-        let (w, x, i) = came_closed (RunsBlock R [] b v) (came_block b p plain.empty ρ τ o (some_executed e) a v g) in (w, RunsElse.some x, i)
+        let (w, x, i) = came_closed (RunsBlock R b v) (came_block b p plain.empty ρ τ o (some_executed e) a v g) in (w, RunsElse.some x, i)
 
-    came_block : (b : Block) → ProperBlock b h t 0 → (k : plain.Block) → BlockCame b k
+    came_block : (b : Block) → ProperBlock b h t → (k : plain.Block) → BlockCame b k
     came_block empty p k ρ τ o e a v g = inl (ρ, (v, RunsBlock.stop, g), e)
     came_block (s then b) p k ρ τ o e a v g =
         let whole_first = subst (λ j. ExecBlock j ρ τ o) (before_written_out (expanded_statement declared s) (expanded_block declared b) k) e in
@@ -522,166 +511,12 @@ module _ {ℓ} (h : Header) (t : ℕ) (R : Meaning {ℓ}) where
           | inr ((w, x, i), q) ↦ inr ((w, RunsBlock.ends x, i), q)
         ]
 
-  -- What is run as it is written, from the first values, is what is executed with all tests holding, where nothing is called.
-  pub runs_exactly : (b : Block) → ProperBlock b h t 0 → (g : Header) (o : Outcome)
-      → ((w : Values R) × RunsBlock R [] b R.start w o)
-      ↔ ((ρ : Trace) × ExecBlock (written_out (expanded_block declared b)) (begin g) ρ o × AllHold declared R ρ)
+  -- What is run as it is written, from the first values, is what is executed with all tests holding.
+  pub runs_exactly : (b : Block) → ProperBlock b h t → (g : Header) (o : Outcome)
+      → ((w : Values R) × RunsBlock R b R.start w o) ↔ ((ρ : Trace) × ExecBlock (written_out (expanded_block declared b)) (begin g) ρ o × AllHold declared R ρ)
   runs_exactly b p g o = (
     λ (w, x).
         let r = run_block p x (begin g) tt (λ i l. refl) in
         (r.to, closed o (block_before (expanded_block declared b)) (begin g) r.to r.onward, r.all_hold),
-    λ (ρ, e, a). let (w, x, i) = came_closed (RunsBlock R [] b R.start) (came_block b p plain.empty (begin g) ρ o e a R.start λ i l. refl) in (w, x),
+    λ (ρ, e, a). let (w, x, i) = came_closed (RunsBlock R b R.start) (came_block b p plain.empty (begin g) ρ o e a R.start λ i l. refl) in (w, x),
   )
-
--- ── parts of a run: a statement by itself, one block behind another ──
-module _ {ℓ} {R : Meaning {ℓ}} {us : List Sub} where
-  run_alone : (o : Outcome) {s : Statement} {v w : Values R} → Runs R us s v w o → RunsBlock R us (s then empty) v w o
-  run_alone done x = RunsBlock.both x RunsBlock.stop
-  run_alone failed x = RunsBlock.ends x
-
-  alone_run : {s : Statement} {v w : Values R} {o : Outcome} → RunsBlock R us (s then empty) v w o → Runs R us s v w o
-  alone_run (RunsBlock.both x RunsBlock.stop) = x
-  alone_run (RunsBlock.ends x) = x
-
-  run_joined : {a b : Block} {v w u : Values R} {o : Outcome} → RunsBlock R us a v w done → RunsBlock R us b w u o → RunsBlock R us (a joined b) v u o
-  run_joined RunsBlock.stop y = y
-  run_joined (RunsBlock.both x z) y = RunsBlock.both x (run_joined z y)
-
-  run_broken : {a : Block} (b : Block) {v w : Values R} → RunsBlock R us a v w failed → RunsBlock R us (a joined b) v w failed
-  run_broken b (RunsBlock.both x z) = RunsBlock.both x (run_broken b z)
-  run_broken b (RunsBlock.ends x) = RunsBlock.ends x
-
-  run_apart : (a b : Block) {v u : Values R} {o : Outcome} → RunsBlock R us (a joined b) v u o
-      → ((w : Values R) × RunsBlock R us a v w done × RunsBlock R us b w u o) ⊎ (RunsBlock R us a v u failed × (o ≡ failed))
-  run_apart empty b {v} x = inl (v, RunsBlock.stop, x)
-  run_apart (s then a) b (RunsBlock.both x y) = elim (run_apart a b y) [
-    | inl (w, z, q) ↦ inl (w, RunsBlock.both x z, q)
-    | inr (z, e) ↦ inr (RunsBlock.both x z, e)
-  ]
-  run_apart (s then a) b (RunsBlock.ends x) = inr (RunsBlock.ends x, refl)
-
-module _ {ℓ} (h : Header) (t : ℕ) (R : Meaning {ℓ}) (us : List Sub) (uses : ProperSubs us h t 0) where
-  abbrev bodies : List Block
-  bodies = inlined_bodies [] us
-
-  -- ── what is run with calls is run with bodies in their place, by induction on the run ──
-  mutual
-    unfolding inlined_statement
-
-    statement_replaced : {s : Statement} {v w : Values R} {o : Outcome} → Proper s h t (length us) → Runs R us s v w o
-        → RunsBlock R [] (inlined_statement bodies s) v w o
-    statement_replaced p Runs.passes = run_alone done Runs.passes
-    statement_replaced p (Runs.assigns e) = run_alone done (Runs.assigns e)
-    statement_replaced p (Runs.assumes y) = run_alone done (Runs.assumes y)
-    statement_replaced p (Runs.asserts y) = run_alone done (Runs.asserts y)
-    statement_replaced p (Runs.violates y) = run_alone failed (Runs.violates y)
-    statement_replaced p (Runs.first {o} y x) = run_alone o (Runs.first y (block_replaced p.1 x))
-    statement_replaced p (Runs.second {o} y x) = run_alone o (Runs.second y (else_replaced p.2 x))
-    statement_replaced p (Runs.leaves y) = run_alone done (Runs.leaves y)
-    statement_replaced p (Runs.turns {o} y x z) = run_alone o (Runs.turns y (block_replaced p.1 x) (alone_run (statement_replaced p z)))
-    statement_replaced p (Runs.breaks y x) = run_alone failed (Runs.breaks y (block_replaced p.1 x))
-    statement_replaced p (Runs.performs {i} {v} {w} {o} x) =
-        let calls = calls_more h t (body_of us i) (let l : 0 + i ≤ length us = omega arith in l) (body_uses h t us 0 i uses p) in
-        subst (λ b. RunsBlock R [] b v w o) (sym (body_inlined h t us i uses p)) (block_replaced calls x)
-
-    else_replaced : {e : Else} {v w : Values R} {o : Outcome} → ProperElse e h t (length us) → RunsElse R us e v w o
-        → RunsElse R [] (inlined_else bodies e) v w o
-    else_replaced p RunsElse.none = RunsElse.none
-    else_replaced p (RunsElse.some x) = RunsElse.some (block_replaced p x)
-
-    block_replaced : {b : Block} {v w : Values R} {o : Outcome} → ProperBlock b h t (length us) → RunsBlock R us b v w o
-        → RunsBlock R [] (inlined_block bodies b) v w o
-    block_replaced p RunsBlock.stop = RunsBlock.stop
-    block_replaced p (RunsBlock.both x y) = run_joined (statement_replaced p.0 x) (block_replaced p.1 y)
-    block_replaced p (RunsBlock.ends {b} x) = run_broken (inlined_block bodies b) (statement_replaced p.0 x)
-
-  -- ── and the reverse: first where the bodies that may be called, those below c, are known to run as the subs do ──
-  -- what runs without calling runs beside any subs
-  skip_again : {v w : Values R} {o : Outcome} → Runs R [] skip v w o → Runs R us skip v w o
-  skip_again Runs.passes = Runs.passes
-
-  assign_again : {a : Assignment} {v w : Values R} {o : Outcome} → Runs R [] (assign a) v w o → Runs R us (assign a) v w o
-  assign_again (Runs.assigns e) = Runs.assigns e
-
-  assume_again : {q : Condition} {v w : Values R} {o : Outcome} → Runs R [] (assume q) v w o → Runs R us (assume q) v w o
-  assume_again (Runs.assumes y) = Runs.assumes y
-
-  assert_again : {q : Condition} {v w : Values R} {o : Outcome} → Runs R [] (assert q) v w o → Runs R us (assert q) v w o
-  assert_again (Runs.asserts y) = Runs.asserts y
-  assert_again (Runs.violates y) = Runs.violates y
-
-  -- one block runs as another does
-  abbrev RunsAs : Block → Block → Type ℓ
-  RunsAs j b = (v w : Values R) (o : Outcome) → RunsBlock R [] j v w o → RunsBlock R us b v w o
-
-  if_again : {q : Condition} {j b : Block} {d e : Else} {v w : Values R} {o : Outcome} → (RunsBlock R [] j v w o → RunsBlock R us b v w o)
-      → (RunsElse R [] d v w o → RunsElse R us e v w o) → Runs R [] (if q j d) v w o → Runs R us (if q b e) v w o
-  if_again f g (Runs.first y x) = Runs.first y (f x)
-  if_again f g (Runs.second y x) = Runs.second y (g x)
-
-  while_again : {q : Condition} (j b : Block) {v w : Values R} {o : Outcome} → RunsAs j b → Runs R [] (while q j) v w o → Runs R us (while q b) v w o
-  while_again j b f (Runs.leaves y) = Runs.leaves y
-  while_again j b f (Runs.turns {v} {w} y x z) = Runs.turns y (f v w done x) (while_again j b f z)
-  while_again j b f (Runs.breaks {v} {w} y x) = Runs.breaks y (f v w failed x)
-
-  stop_again : {v w : Values R} {o : Outcome} → RunsBlock R [] empty v w o → RunsBlock R us empty v w o
-  stop_again RunsBlock.stop = RunsBlock.stop
-
-  none_again : {v w : Values R} {o : Outcome} → RunsElse R [] absent v w o → RunsElse R us absent v w o
-  none_again RunsElse.none = RunsElse.none
-
-  some_again : {j b : Block} {v w : Values R} {o : Outcome} → (RunsBlock R [] j v w o → RunsBlock R us b v w o)
-      → RunsElse R [] (present j) v w o → RunsElse R us (present b) v w o
-  some_again f (RunsElse.some x) = RunsElse.some (f x)
-
-  module _ (c : ℕ) (called : (i : ℕ) → i < c → RunsAs (get_or bodies i empty) (body_of us i)) where
-    mutual
-      unfolding inlined_statement
-
-      statement_called : (s : Statement) → Proper s h t c → (v w : Values R) (o : Outcome) → RunsBlock R [] (inlined_statement bodies s) v w o
-          → Runs R us s v w o
-      statement_called skip p v w o x = skip_again (alone_run x)
-      statement_called (assign a) p v w o x = assign_again (alone_run x)
-      statement_called (assume q) p v w o x = assume_again (alone_run x)
-      statement_called (assert q) p v w o x = assert_again (alone_run x)
-      statement_called (if q b e) p v w o x = if_again (λ y. block_called b p.1 v w o y) (λ y. else_called e p.2 v w o y) (alone_run x)
-      statement_called (while q b) p v w o x = while_again (inlined_block bodies b) b (λ u z n y. block_called b p.1 u z n y) (alone_run x)
-      statement_called (call i) p v w o x = Runs.performs (called i p v w o x)
-
-      else_called : (e : Else) → ProperElse e h t c → (v w : Values R) (o : Outcome) → RunsElse R [] (inlined_else bodies e) v w o → RunsElse R us e v w o
-      else_called absent p v w o x = none_again x
-      else_called (present b) p v w o x = some_again (λ y. block_called b p v w o y) x
-
-      block_called : (b : Block) → ProperBlock b h t c → RunsAs (inlined_block bodies b) b
-      block_called empty p v w o x = stop_again x
-      block_called (s then b) p v w o x = elim (run_apart (inlined_statement bodies s) (inlined_block bodies b) x) [
-        | inl (u, y, z) ↦ RunsBlock.both (statement_called s p.0 v u done y) (block_called b p.1 u w o z)
-        | inr (y, e) ↦ subst (RunsBlock R us (s then b) v w) (sym e) (RunsBlock.ends (statement_called s p.0 v w failed y))
-      ]
-
-  -- each body by those above it, by induction on how many there are
-  body_called : (n i : ℕ) → i < n → n ≤ length us → RunsAs (get_or bodies i empty) (body_of us i)
-  body_called zero i l k v w o x = absurd (omega arith)
-  body_called (suc n) i l k v w o x =
-      block_called i (λ j m. body_called n j (omega arith) (omega arith)) (body_of us i)
-      (calls_more h t (body_of us i) (let e : 0 + i ≤ i = omega arith in e) (body_uses h t us 0 i uses (omega arith))) v w o
-      (subst (λ b. RunsBlock R [] b v w o) (body_inlined h t us i uses (omega arith)) x)
-
-  -- A block runs with its calls exactly as it runs with their bodies in their place.
-  pub runs_inlined : (b : Block) → ProperBlock b h t (length us) → (v w : Values R) (o : Outcome)
-      → RunsBlock R us b v w o ↔ RunsBlock R [] (inlined_block (inlined_bodies [] us) b) v w o
-  runs_inlined b p v w o = (
-    λ x. block_replaced p x,
-    λ x. block_called (length us) (λ i l. body_called (length us) i l (omega arith)) b p v w o x,
-  )
-
--- What is run as a macro is written, calls and all, from the first values, is what is executed with all tests holding.
-pub macro_runs_exactly {ℓ} : (m : Macro) → InOrder m → (R : Meaning {ℓ}) (g : Header) (o : Outcome)
-    → ((w : Values R) × RunsBlock R m.subs m.body R.start w o)
-    ↔ ((ρ : Trace) × ExecBlock (written_out (expanded m)) (begin g) ρ o × AllHold (length m.registers) R ρ)
-macro_runs_exactly m O R g o =
-    let h : Header = header m.registers m.functions m.arities in
-    let without = runs_exactly h m.first_test R (inlined m) (inlined_uses m O) g o in
-    let alike : (w : Values R) → RunsBlock R m.subs m.body R.start w o ↔ RunsBlock R [] (inlined m) R.start w o =
-    λ w. runs_inlined h m.first_test R m.subs O.sub_uses m.body O.uses R.start w o in
-    (λ (w, x). without.0 (w, (alike w).0 x), λ y. let (w, x) = without.1 y in (w, (alike w).1 x))

@@ -16,14 +16,14 @@ use Rattle.tokens.specs.Tokens.{token_at}
 use Rattle.tokens.specs.Words.{is_name}
 use Rattle.tokens.specs.Words as word
 use Rattle.tokens.proofs.Theory.WordsLaws.{name_real}
-use Rattle.grammar.specs.Tree.{Condition, holds, fails, Assignment, apply, Statement, skip, call, Else, Block, ProperAssignment}
+use Rattle.grammar.specs.Tree.{Condition, holds, fails, Assignment, apply, Statement, skip, Else, Block, ProperAssignment}
 use Rattle.grammar.specs.Tree.{ProperCondition, Proper, ProperElse, ProperBlock}
 use Rattle.grammar.specs.Grammar.{header, argument_tokens, application_tokens, condition_tokens, assignment_tokens, statement_tokens, else_tokens, block_tokens}
 use Rattle.grammar.specs.Grammar.{OneDeeper, Nests, NestsElse, NestsBlock}
 use Rattle.grammar.proofs.Theory.HeaderLaws.{arity_two}
 use Rattle.grammar.specs.Reading.{Got, got, exhausted, and_then, index_of, use_between, use_t, sign_t, compared, expect, ended, comparison, arguments_t}
 use Rattle.grammar.specs.Reading.{applied, named_test, condition, right_hand_side, is_declared, assignment, ended_condition, braces_t, else_t, statement_t, block}
-use Rattle.grammar.specs.Reading.{called, statement, closing}
+use Rattle.grammar.specs.Reading.{statement, closing}
 use Rattle.grammar.specs.Spelled.{Spells, Arities}
 
 -- ---- inversions
@@ -32,13 +32,6 @@ pub onward_got : {A B : Type 0} (g : Got A) (f : A → ℕ → Got B) (b : B) (e
 onward_got (got a m) f b e h = (a, m, refl, h)
 onward_got (Got.refused n p) f b e h = let z : ◌≡◌ {A = ℕ} 0 1 = cc in absurd (omega arith)
 onward_got exhausted f b e h = let z : ◌≡◌ {A = ℕ} 0 1 = cc in absurd (omega arith)
-
--- the same for what is to be shown, so that what was read has a name of its own
-pub onward_case : {A B C : Type 0} (g : Got A) (f : A → ℕ → Got B) (b : B) (e : ℕ) → and_then g f ≡ got b e
-    → ((a : A) (m : ℕ) → g ≡ got a m → f a m ≡ got b e → C) → C
-onward_case (got a m) f b e h k = k a m refl h
-onward_case (Got.refused n p) f b e h k = let z : ◌≡◌ {A = ℕ} 0 1 = cc in absurd (omega arith)
-onward_case exhausted f b e h k = let z : ◌≡◌ {A = ℕ} 0 1 = cc in absurd (omega arith)
 
 -- the two cases of a choice that came out as r
 pub pick_case : {A B : Type 0} (c : Bool) (x y : Unit {0} → A) (r : A) → pick c x y ≡ r → (c ≡ true → x tt ≡ r → B) → (c ≡ false → y tt ≡ r → B) → B
@@ -271,134 +264,125 @@ module _ (s : List ℕ) where
 
     -- ---- blocks
 
-    -- the subs cs may be called
-    module _ (cs : List ℕ) where
-      -- what a reader of statements has to show
-      unfoldable pub ReadStatement : ℕ → ℕ → Statement → ℕ → Type 0
-      ReadStatement d at c e = Proper c (header rs fs ns) m (length cs) × Nests c d × Spells s at (statement_tokens rs fs ns cs c) e
+    -- what a reader of statements has to show
+    unfoldable pub ReadStatement : ℕ → ℕ → Statement → ℕ → Type 0
+    ReadStatement d at c e = Proper c (header rs fs ns) m × Nests c d × Spells s at (statement_tokens rs fs ns c) e
 
-      unfoldable pub ReadBlock : ℕ → ℕ → Block → ℕ → Type 0
-      ReadBlock d at b e = ProperBlock b (header rs fs ns) m (length cs) × NestsBlock b d × Spells s at (block_tokens rs fs ns cs b) e
+    unfoldable pub ReadBlock : ℕ → ℕ → Block → ℕ → Type 0
+    ReadBlock d at b e = ProperBlock b (header rs fs ns) m × NestsBlock b d × Spells s at (block_tokens rs fs ns b) e
 
-      module _ (inner : ℕ → ℕ → Got Block) (sound : (d at : ℕ) (b : Block) (e : ℕ) → inner d at ≡ got b e → ReadBlock d at b e) where
-        abbrev pub ReadBraces : ℕ → ℕ → Block → ℕ → Type 0
-        ReadBraces d at b e = ProperBlock b (header rs fs ns) m (length cs) × OneDeeper (λ n. NestsBlock b n) d
-            × Spells s at (word.lbrace_key ∷ (block_tokens rs fs ns cs b ++ word.rbrace_key ∷ [])) e
+    module _ (inner : ℕ → ℕ → Got Block) (sound : (d at : ℕ) (b : Block) (e : ℕ) → inner d at ≡ got b e → ReadBlock d at b e) where
+      abbrev pub ReadBraces : ℕ → ℕ → Block → ℕ → Type 0
+      ReadBraces d at b e = ProperBlock b (header rs fs ns) m × OneDeeper (λ n. NestsBlock b n) d
+          × Spells s at (word.lbrace_key ∷ (block_tokens rs fs ns b ++ word.rbrace_key ∷ [])) e
 
-        pub braces_sound : (d at : ℕ) (b : Block) (e : ℕ) → braces_t s rs fs ns m inner d (token_at s at) ≡ got b e → ReadBraces d at b e
-        unfolding ReadBlock
-        braces_sound zero at b e h = pick_case (eqb (token_at s at).key word.lbrace_key) _ _ _ h (λ t g. absurd (not_refused g)) λ t g. absurd (not_refused g)
-        braces_sound (suc d) at b e h =
-            pick_case (eqb (token_at s at).key word.lbrace_key) _ _ _ h
-            (λ t g.
-            let (c, w, g₁, h₁) = onward_got (inner d (token_at s at).end) _ b e g in
-            let (u, o, p₁) = sound d (token_at s at).end c w g₁ in
-            let (q, p₂) = ended_sound word.rbrace_key w e c b (omega arith) h₁ in
-            subst (λ b. ReadBraces (suc d) at b e) q (u, o, Spells.more (eqb-true _ word.lbrace_key t) (omega arith) (spells_then p₁ p₂)))
-            λ t g. absurd (not_refused g)
+      pub braces_sound : (d at : ℕ) (b : Block) (e : ℕ) → braces_t s rs fs ns m inner d (token_at s at) ≡ got b e → ReadBraces d at b e
+      unfolding ReadBlock
+      braces_sound zero at b e h = pick_case (eqb (token_at s at).key word.lbrace_key) _ _ _ h (λ t g. absurd (not_refused g)) λ t g. absurd (not_refused g)
+      braces_sound (suc d) at b e h =
+          pick_case (eqb (token_at s at).key word.lbrace_key) _ _ _ h
+          (λ t g.
+          let (c, w, g₁, h₁) = onward_got (inner d (token_at s at).end) _ b e g in
+          let (u, o, p₁) = sound d (token_at s at).end c w g₁ in
+          let (q, p₂) = ended_sound word.rbrace_key w e c b (omega arith) h₁ in
+          subst (λ b. ReadBraces (suc d) at b e) q (u, o, Spells.more (eqb-true _ word.lbrace_key t) (omega arith) (spells_then p₁ p₂)))
+          λ t g. absurd (not_refused g)
 
-        pub else_sound : (d at : ℕ) (o : Else) (e : ℕ) → else_t s rs fs ns m inner d at (token_at s at) ≡ got o e
-            → ProperElse o (header rs fs ns) m (length cs) × NestsElse o d × Spells s at (else_tokens rs fs ns cs o) e
-        unfolding else_tokens
-        else_sound d at o e h =
-            pick_case (eqb (token_at s at).key word.else_key) _ _ _ h
-            (λ t g.
-            let (x, w, g₁, h₁) = onward_got (braces_t s rs fs ns m inner d (token_at s (token_at s at).end)) _ o e g in
-            let (u, i, p₁) = braces_sound d (token_at s at).end x w g₁ in
-            subst (λ o. ProperElse o (header rs fs ns) m (length cs) × NestsElse o d × Spells s at (else_tokens rs fs ns cs o) e) (got_value h₁) (
-              u,
-              i,
-              Spells.more (eqb-true _ word.else_key t) (omega arith)
-                  (subst (λ n. Spells s (token_at s at).end (word.lbrace_key ∷ (block_tokens rs fs ns cs x ++ word.rbrace_key ∷ [])) n) (got_place h₁) p₁),
-            ))
-            λ t g. subst (λ o. ProperElse o (header rs fs ns) m (length cs) × NestsElse o d × Spells s at (else_tokens rs fs ns cs o) e) (got_value g)
-            (tt, tt, subst (λ n. Spells s at [] n) (got_place g) Spells.none)
+      pub else_sound : (d at : ℕ) (o : Else) (e : ℕ) → else_t s rs fs ns m inner d at (token_at s at) ≡ got o e
+          → ProperElse o (header rs fs ns) m × NestsElse o d × Spells s at (else_tokens rs fs ns o) e
+      unfolding else_tokens
+      else_sound d at o e h =
+          pick_case (eqb (token_at s at).key word.else_key) _ _ _ h
+          (λ t g.
+          let (x, w, g₁, h₁) = onward_got (braces_t s rs fs ns m inner d (token_at s (token_at s at).end)) _ o e g in
+          let (u, i, p₁) = braces_sound d (token_at s at).end x w g₁ in
+          subst (λ o. ProperElse o (header rs fs ns) m × NestsElse o d × Spells s at (else_tokens rs fs ns o) e) (got_value h₁) (
+            u,
+            i,
+            Spells.more (eqb-true _ word.else_key t) (omega arith)
+                (subst (λ n. Spells s (token_at s at).end (word.lbrace_key ∷ (block_tokens rs fs ns x ++ word.rbrace_key ∷ [])) n) (got_place h₁) p₁),
+          ))
+          λ t g. subst (λ o. ProperElse o (header rs fs ns) m × NestsElse o d × Spells s at (else_tokens rs fs ns o) e) (got_value g)
+          (tt, tt, subst (λ n. Spells s at [] n) (got_place g) Spells.none)
 
-        statement_sound_by : (d at : ℕ) (r : Statement) (e : ℕ) → statement_t s rs fs ns m cs inner d at (token_at s at) ≡ got r e → ReadStatement d at r e
-        unfolding ReadStatement statement_tokens called
-        statement_sound_by d at r e h =
-            pick_case (eqb (token_at s at).key word.skip_key) _ _ _ h
-            (λ t g. let (q, p) = ended_sound word.semicolon_key (token_at s at).end e skip r (omega arith) g in
-            subst (λ r. ReadStatement d at r e) q (tt, tt, Spells.more (eqb-true _ word.skip_key t) (omega arith) p))
-            λ _ h. pick_case (eqb (token_at s at).key word.assume_key) _ _ _ h
-            (λ t g.
-            let (c, w, g₁, h₁) = onward_got (ended_condition s rs fs ns m (token_at s at).end) _ r e g in
-            let (l, p) = tested_sound rs fs ns m (token_at s at).end c w g₁ in
-            subst (λ r. ReadStatement d at r e) (got_value h₁) (
-              l,
-              tt,
-              Spells.more (eqb-true _ word.assume_key t) (omega arith)
-                  (subst (λ n. Spells s (token_at s at).end (condition_tokens rs fs ns c ++ word.semicolon_key ∷ []) n) (got_place h₁) p),
-            ))
-            λ _ h. pick_case (eqb (token_at s at).key word.assert_key) _ _ _ h
-            (λ t g.
-            let (c, w, g₁, h₁) = onward_got (ended_condition s rs fs ns m (token_at s at).end) _ r e g in
-            let (l, p) = tested_sound rs fs ns m (token_at s at).end c w g₁ in
-            subst (λ r. ReadStatement d at r e) (got_value h₁) (
-              l,
-              tt,
-              Spells.more (eqb-true _ word.assert_key t) (omega arith)
-                  (subst (λ n. Spells s (token_at s at).end (condition_tokens rs fs ns c ++ word.semicolon_key ∷ []) n) (got_place h₁) p),
-            ))
-            λ _ h. pick_case (eqb (token_at s at).key word.call_key) _ _ _ h
-            (λ t g.
-            let (i, a, g₁, h₁) = onward_got (use_t cs (token_at s (token_at s at).end)) _ r e g in
-            let (l, p₁) = use_sound cs (token_at s at).end i a g₁ in
-            let (q, p₂) = ended_sound word.semicolon_key a e (call i) r (omega arith) h₁ in
-            subst (λ r. ReadStatement d at r e) q (l, tt, Spells.more (eqb-true _ word.call_key t) (omega arith) (spells_then p₁ p₂)))
-            λ _ h. pick_case (eqb (token_at s at).key word.if_key) _ _ _ h
-            (λ t g.
-            let (c, a, g₁, h₁) = onward_got (condition s rs fs ns m (token_at s at).end) _ r e g in
-            let (b, w, g₂, h₂) = onward_got (braces_t s rs fs ns m inner d (token_at s a)) _ r e h₁ in
-            let (o, n, g₃, h₃) = onward_got (else_t s rs fs ns m inner d w (token_at s w)) _ r e h₂ in
-            let (l, p₁) = condition_sound rs fs ns m (token_at s at).end c a g₁ in
-            let (u, i, p₂) = braces_sound d a b w g₂ in
-            let (v, j, p₃) = else_sound d w o n g₃ in
-            let p = spells_then p₁ (subst (λ l. Spells s a (word.lbrace_key ∷ l) n)
-            (append_assoc (block_tokens rs fs ns cs b) (word.rbrace_key ∷ []) (else_tokens rs fs ns cs o)) (spells_then p₂ p₃)) in
-            subst (λ r. ReadStatement d at r e) (got_value h₃) (
-              (l, u, v),
-              (i, j),
-              Spells.more (eqb-true _ word.if_key t) (omega arith)
-                  (subst (λ n. Spells s (token_at s at).end
-                  (condition_tokens rs fs ns c ++ word.lbrace_key ∷ (block_tokens rs fs ns cs b ++ word.rbrace_key ∷ else_tokens rs fs ns cs o)) n)
-                  (got_place h₃) p),
-            ))
-            λ _ h. pick_case (eqb (token_at s at).key word.while_key) _ _ _ h
-            (λ t g.
-            let (c, a, g₁, h₁) = onward_got (condition s rs fs ns m (token_at s at).end) _ r e g in
-            let (b, w, g₂, h₂) = onward_got (braces_t s rs fs ns m inner d (token_at s a)) _ r e h₁ in
-            let (l, p₁) = condition_sound rs fs ns m (token_at s at).end c a g₁ in
-            let (u, i, p₂) = braces_sound d a b w g₂ in
-            subst (λ r. ReadStatement d at r e) (got_value h₂) (
-              (l, u),
-              i,
-              Spells.more (eqb-true _ word.while_key t) (omega arith)
-                  (spells_then p₁ (subst (λ n. Spells s a (word.lbrace_key ∷ (block_tokens rs fs ns cs b ++ word.rbrace_key ∷ [])) n) (got_place h₂) p₂)),
-            ))
-            λ _ h. pick_case (is_name (token_at s at).key) _ _ _ h
-            (λ t g.
-            let (l, w, g₁, h₁) = onward_got (assignment s rs fs ns m at) _ r e g in
-            let (o, p) = assignment_sound at l w g₁ in
-            subst (λ r. ReadStatement d at r e) (got_value h₁) (o, tt, subst (λ n. Spells s at (assignment_tokens rs fs ns l) n) (got_place h₁) p))
-            λ t g. absurd (not_refused g)
+      statement_sound_by : (d at : ℕ) (r : Statement) (e : ℕ) → statement_t s rs fs ns m inner d at (token_at s at) ≡ got r e → ReadStatement d at r e
+      unfolding ReadStatement statement_tokens
+      statement_sound_by d at r e h =
+          pick_case (eqb (token_at s at).key word.skip_key) _ _ _ h
+          (λ t g. let (q, p) = ended_sound word.semicolon_key (token_at s at).end e skip r (omega arith) g in
+          subst (λ r. ReadStatement d at r e) q (tt, tt, Spells.more (eqb-true _ word.skip_key t) (omega arith) p))
+          λ _ h. pick_case (eqb (token_at s at).key word.assume_key) _ _ _ h
+          (λ t g.
+          let (c, w, g₁, h₁) = onward_got (ended_condition s rs fs ns m (token_at s at).end) _ r e g in
+          let (l, p) = tested_sound rs fs ns m (token_at s at).end c w g₁ in
+          subst (λ r. ReadStatement d at r e) (got_value h₁) (
+            l,
+            tt,
+            Spells.more (eqb-true _ word.assume_key t) (omega arith)
+                (subst (λ n. Spells s (token_at s at).end (condition_tokens rs fs ns c ++ word.semicolon_key ∷ []) n) (got_place h₁) p),
+          ))
+          λ _ h. pick_case (eqb (token_at s at).key word.assert_key) _ _ _ h
+          (λ t g.
+          let (c, w, g₁, h₁) = onward_got (ended_condition s rs fs ns m (token_at s at).end) _ r e g in
+          let (l, p) = tested_sound rs fs ns m (token_at s at).end c w g₁ in
+          subst (λ r. ReadStatement d at r e) (got_value h₁) (
+            l,
+            tt,
+            Spells.more (eqb-true _ word.assert_key t) (omega arith)
+                (subst (λ n. Spells s (token_at s at).end (condition_tokens rs fs ns c ++ word.semicolon_key ∷ []) n) (got_place h₁) p),
+          ))
+          λ _ h. pick_case (eqb (token_at s at).key word.if_key) _ _ _ h
+          (λ t g.
+          let (c, a, g₁, h₁) = onward_got (condition s rs fs ns m (token_at s at).end) _ r e g in
+          let (b, w, g₂, h₂) = onward_got (braces_t s rs fs ns m inner d (token_at s a)) _ r e h₁ in
+          let (o, n, g₃, h₃) = onward_got (else_t s rs fs ns m inner d w (token_at s w)) _ r e h₂ in
+          let (l, p₁) = condition_sound rs fs ns m (token_at s at).end c a g₁ in
+          let (u, i, p₂) = braces_sound d a b w g₂ in
+          let (v, j, p₃) = else_sound d w o n g₃ in
+          let p = spells_then p₁ (subst (λ l. Spells s a (word.lbrace_key ∷ l) n)
+          (append_assoc (block_tokens rs fs ns b) (word.rbrace_key ∷ []) (else_tokens rs fs ns o)) (spells_then p₂ p₃)) in
+          subst (λ r. ReadStatement d at r e) (got_value h₃) (
+            (l, u, v),
+            (i, j),
+            Spells.more (eqb-true _ word.if_key t) (omega arith)
+                (subst (λ n. Spells s (token_at s at).end
+                (condition_tokens rs fs ns c ++ word.lbrace_key ∷ (block_tokens rs fs ns b ++ word.rbrace_key ∷ else_tokens rs fs ns o)) n) (got_place h₃) p),
+          ))
+          λ _ h. pick_case (eqb (token_at s at).key word.while_key) _ _ _ h
+          (λ t g.
+          let (c, a, g₁, h₁) = onward_got (condition s rs fs ns m (token_at s at).end) _ r e g in
+          let (b, w, g₂, h₂) = onward_got (braces_t s rs fs ns m inner d (token_at s a)) _ r e h₁ in
+          let (l, p₁) = condition_sound rs fs ns m (token_at s at).end c a g₁ in
+          let (u, i, p₂) = braces_sound d a b w g₂ in
+          subst (λ r. ReadStatement d at r e) (got_value h₂) (
+            (l, u),
+            i,
+            Spells.more (eqb-true _ word.while_key t) (omega arith)
+                (spells_then p₁ (subst (λ n. Spells s a (word.lbrace_key ∷ (block_tokens rs fs ns b ++ word.rbrace_key ∷ [])) n) (got_place h₂) p₂)),
+          ))
+          λ _ h. pick_case (is_name (token_at s at).key) _ _ _ h
+          (λ t g.
+          let (l, w, g₁, h₁) = onward_got (assignment s rs fs ns m at) _ r e g in
+          let (o, p) = assignment_sound at l w g₁ in
+          subst (λ r. ReadStatement d at r e) (got_value h₁) (o, tt, subst (λ n. Spells s at (assignment_tokens rs fs ns l) n) (got_place h₁) p))
+          λ t g. absurd (not_refused g)
 
-      mutual
-        unfolding block ReadStatement ReadBlock block_tokens
+    mutual
+      unfolding block ReadStatement ReadBlock block_tokens
 
-        pub block_sound : (k d at : ℕ) (b : Block) (e : ℕ) → block s rs fs ns m cs k d at ≡ got b e → ReadBlock d at b e
-        block_sound zero d at b e h = absurd (not_exhausted h)
-        block_sound (suc k) d at b e h =
-            pick_case (closing s rs fs ns m (token_at s at).key) _ _ _ h
-            (λ t g. subst (λ b. ReadBlock d at b e) (got_value g) (tt, tt, subst (λ n. Spells s at [] n) (got_place g) Spells.none))
-            λ t g.
-            let (c, a, g₁, h₁) = onward_got (statement s rs fs ns m cs k d at) _ b e g in
-            let (x, w, g₂, h₂) = onward_got (block s rs fs ns m cs k d a) _ b e h₁ in
-            let (u₁, o₁, p₁) = statement_sound k d at c a g₁ in
-            let (u₂, o₂, p₂) = block_sound k d a x w g₂ in
-            subst (λ b. ReadBlock d at b e) (got_value h₂)
-            ((u₁, u₂), (o₁, o₂), subst (λ n. Spells s at (statement_tokens rs fs ns cs c ++ block_tokens rs fs ns cs x) n) (got_place h₂) (spells_then p₁ p₂))
+      pub block_sound : (k d at : ℕ) (b : Block) (e : ℕ) → block s rs fs ns m k d at ≡ got b e → ReadBlock d at b e
+      block_sound zero d at b e h = absurd (not_exhausted h)
+      block_sound (suc k) d at b e h =
+          pick_case (closing s rs fs ns m (token_at s at).key) _ _ _ h
+          (λ t g. subst (λ b. ReadBlock d at b e) (got_value g) (tt, tt, subst (λ n. Spells s at [] n) (got_place g) Spells.none))
+          λ t g.
+          let (c, a, g₁, h₁) = onward_got (statement s rs fs ns m k d at) _ b e g in
+          let (x, w, g₂, h₂) = onward_got (block s rs fs ns m k d a) _ b e h₁ in
+          let (u₁, o₁, p₁) = statement_sound k d at c a g₁ in
+          let (u₂, o₂, p₂) = block_sound k d a x w g₂ in
+          subst (λ b. ReadBlock d at b e) (got_value h₂)
+          ((u₁, u₂), (o₁, o₂), subst (λ n. Spells s at (statement_tokens rs fs ns c ++ block_tokens rs fs ns x) n) (got_place h₂) (spells_then p₁ p₂))
 
-        pub statement_sound : (k d at : ℕ) (r : Statement) (e : ℕ) → statement s rs fs ns m cs k d at ≡ got r e → ReadStatement d at r e
-        statement_sound zero d at r e h = absurd (not_exhausted h)
-        statement_sound (suc k) d at r e h = statement_sound_by (λ d at. block s rs fs ns m cs k d at) (λ d at b e g. block_sound k d at b e g) d at r e h
+      pub statement_sound : (k d at : ℕ) (r : Statement) (e : ℕ) → statement s rs fs ns m k d at ≡ got r e → ReadStatement d at r e
+      statement_sound zero d at r e h = absurd (not_exhausted h)
+      statement_sound (suc k) d at r e h = statement_sound_by (λ d at. block s rs fs ns m k d at) (λ d at b e g. block_sound k d at b e g) d at r e h

@@ -14,10 +14,9 @@ use Rattle.tokens.specs.Tokens.{token_at, spellings}
 use Rattle.text.specs.Numerals.{numeral}
 use Rattle.text.specs.Names.{name_text}
 use Rattle.grammar.specs.Tree.{empty}
-use Rattle.grammar.specs.Inlined.{inlined_block, inlined_bodies}
 use Rattle.grammar.specs.Expanded.{expanded_block}
-use Rattle.grammar.specs.Grammar.{Macro, sentence, line_tokens, block_tokens, subs_tokens}
-use Rattle.grammar.specs.Reading.{got, index_of, block, statement, register_names, subs_from}
+use Rattle.grammar.specs.Grammar.{Macro, sentence, line_tokens, block_tokens}
+use Rattle.grammar.specs.Reading.{got, index_of, block, statement, register_names}
 use Rattle.grammar.proofs.Theory.Reading.{read_text, read_macro}
 use Rattle.grammar.specs.Reading
 use Rattle.refusals.specs.Order.{Refusal}
@@ -41,20 +40,18 @@ register_macro = record {
   function_spellings = [];
   arities = [];
   first_test = 0;
-  subs = [];
   body = empty;
 }
 
 register_read : read_macro register_text ≡ got register_macro 7
-unfolding read_macro read_text token_at gap width Bytes.name_length spellings register_names block statement subs_from index_of inlined_block inlined_bodies
-    expanded_block size_block size_statement
+unfolding read_macro read_text token_at gap width Bytes.name_length spellings register_names block statement index_of expanded_block size_block size_statement
 register_read = refl
 
 register_accepted : Accepted register_text register_macro
 register_accepted = read_accepted register_text register_macro 7 register_read
 
 register_printed : print_lines register_macro ≡ register_text ++ (10 ∷ [])
-unfolding house_layout spaced sentence line_tokens block_tokens subs_tokens name_text fixed within_calls
+unfolding house_layout spaced sentence line_tokens block_tokens name_text fixed within_calls
 register_printed = refl
 
 -- the same with an LF

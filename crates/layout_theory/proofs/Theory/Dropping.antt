@@ -1,12 +1,11 @@
 -- A macro without its empty elses: which tokens its sentence no longer has, and what stays as it is (SPEC 8.6, 9.3).
-use mathlib.Core.Path.{◌≡◌, refl, sym, ap, ◌∙◌, subst}
-use Prim.Native.Nat.{ℕ, zero, suc, ◌+◌, ◌<◌}
-use native.Mathlib.Omega.{arith}
+use mathlib.Core.Path.{◌≡◌, refl, ap, ◌∙◌, subst}
+use Prim.Native.Nat.{ℕ, zero, suc, ◌<◌}
 use mathlib.Core.Bool.{true, false}
-use mathlib.Core.List.{List, [], ◌∷◌, ◌++◌, map}
+use mathlib.Core.List.{List, [], ◌∷◌, ◌++◌}
 use mathlib.Core.Option.{Option}
 use lib.Dec.{eqb}
-use lib.ListN.{length, get_or, length-map}
+use lib.ListN.{length, get_or}
 use borrow.Author.Tests.{eqb-false}
 use Rattle.letters.specs.declared.Header.{Header}
 use Rattle.letters.specs.declared.Letter.{Letter}
@@ -15,17 +14,15 @@ use Rattle.macros.specs.Points.{Point, size_statement, size_else, size_block, co
 use Rattle.tokens.specs.Words.{is_name}
 use Rattle.tokens.specs.Words as word
 use Rattle.tokens.proofs.Theory.WordsLaws.{not_word}
-use Rattle.grammar.specs.Tree.{Condition, ProperCondition, copy, apply, Statement, skip, assign, assume, assert, if, while, call, Else, absent}
-use Rattle.grammar.specs.Tree.{present, Block, empty, ◌then◌, Sub, Proper, ProperElse, ProperBlock, ProperSubs}
-use Rattle.grammar.specs.Inlined.{inlined_statement, inlined_else, inlined_block, inlined_bodies}
+use Rattle.grammar.specs.Tree.{Condition, ProperCondition, copy, apply, letter_of, Statement, skip, assign, assume, assert, if, while, Else, absent, present}
+use Rattle.grammar.specs.Tree.{Block, empty, ◌then◌, Proper, ProperElse, ProperBlock}
 use Rattle.grammar.specs.Expanded.{◌before◌, application, comparison, after, loop, expanded_statement, expanded_else, expanded_block}
-use Rattle.grammar.specs.Grammar.{Macro, sub_names, sub_spellings, expanded, header, sentence, condition_tokens, statement_tokens, else_tokens, block_tokens}
-use Rattle.grammar.specs.Grammar.{subs_tokens, OneDeeper, Nests, NestsElse, NestsBlock, NestsSubs}
-use Rattle.grammar.specs.Spelled.{Declared, Disjoint, InOrder}
-use Rattle.grammar.proofs.Theory.Expanded.{expanded_joined, size_before, compile_before}
-use Rattle.layout_theory.specs.Layout.{else_of, short_statement, short_else, short_block, short_sub, without_empty_elses}
-use Rattle.layout_theory.proofs.Theory.Pairs.{plain_token, BeginsOther, begins_append, Pairwise, pairs_append, pairs_each, pairs_at, one_name_more}
-use Rattle.layout_theory.proofs.Theory.Pairs.{Tokenwise, names_tokenwise, declarations_tokenwise, condition_tokenwise, assignment_tokenwise}
+use Rattle.grammar.specs.Grammar.{Macro, expanded, header, sentence, condition_tokens, statement_tokens, else_tokens, block_tokens, OneDeeper, Nests, NestsElse}
+use Rattle.grammar.specs.Grammar.{NestsBlock}
+use Rattle.grammar.specs.Spelled.{Declared, InOrder}
+use Rattle.layout_theory.specs.Layout.{else_of, short_statement, short_else, short_block, without_empty_elses}
+use Rattle.layout_theory.proofs.Theory.Pairs.{plain_token, BeginsOther, begins_append, pairs_each, Tokenwise, names_tokenwise, declarations_tokenwise}
+use Rattle.layout_theory.proofs.Theory.Pairs.{condition_tokenwise, assignment_tokenwise}
 
 -- ---- tokens
 
@@ -82,123 +79,85 @@ module _ (rs fs ns : List ℕ) (R : Declared rs) (F : Declared fs) (t : ℕ) whe
   condition_kept : (c : Condition) → ProperCondition c (header rs fs ns) t → Shortened (condition_tokens rs fs ns c) (condition_tokens rs fs ns c)
   condition_kept = condition_tokenwise kept_tokenwise rs rs fs fs ns (declared_kept R) (declared_kept F) t
 
-  -- the names of the subs that may be called stand for themselves
-  module _ (cs : List ℕ) (C : Pairwise NameKept cs cs) where
-    -- a statement does not begin with `}`
-    statement_unclosed : (s : Statement) → Proper s (header rs fs ns) t (length cs) → BeginsOther word.rbrace_key (statement_tokens rs fs ns cs s)
-    unfolding statement_tokens
-    statement_unclosed skip o = eqb-false word.skip_key word.rbrace_key refl
-    statement_unclosed (assign (copy x y)) (l, r) = eqb-false (get_or rs x 0) word.rbrace_key (not_word (get_or rs x 0) word.rbrace_key refl (R.names x l))
-    statement_unclosed (assign (apply x f y z)) ((l, _, _, _, _), _) =
-        eqb-false (get_or rs x 0) word.rbrace_key (not_word (get_or rs x 0) word.rbrace_key refl (R.names x l))
-    statement_unclosed (assume c) o = eqb-false word.assume_key word.rbrace_key refl
-    statement_unclosed (assert c) o = eqb-false word.assert_key word.rbrace_key refl
-    statement_unclosed (if c b e) o = eqb-false word.if_key word.rbrace_key refl
-    statement_unclosed (while c b) o = eqb-false word.while_key word.rbrace_key refl
-    statement_unclosed (call i) o = eqb-false word.call_key word.rbrace_key refl
+  -- a statement does not begin with `}`
+  statement_unclosed : (s : Statement) → Proper s (header rs fs ns) t → BeginsOther word.rbrace_key (statement_tokens rs fs ns s)
+  unfolding statement_tokens
+  statement_unclosed skip o = eqb-false word.skip_key word.rbrace_key refl
+  statement_unclosed (assign (copy x y)) (l, r) = eqb-false (get_or rs x 0) word.rbrace_key (not_word (get_or rs x 0) word.rbrace_key refl (R.names x l))
+  statement_unclosed (assign (apply x f y z)) ((l, _, _, _, _), _) =
+      eqb-false (get_or rs x 0) word.rbrace_key (not_word (get_or rs x 0) word.rbrace_key refl (R.names x l))
+  statement_unclosed (assume c) o = eqb-false word.assume_key word.rbrace_key refl
+  statement_unclosed (assert c) o = eqb-false word.assert_key word.rbrace_key refl
+  statement_unclosed (if c b e) o = eqb-false word.if_key word.rbrace_key refl
+  statement_unclosed (while c b) o = eqb-false word.while_key word.rbrace_key refl
 
-    -- an else, given its block: with no statement it is dropped
-    present_shortened : (b : Block) → ProperBlock b (header rs fs ns) t (length cs)
-        → Shortened (block_tokens rs fs ns cs b) (block_tokens rs fs ns cs (short_block b))
-        → Shortened (else_tokens rs fs ns cs (present b)) (else_tokens rs fs ns cs (else_of (short_block b)))
-    unfolding else_tokens block_tokens
-    present_shortened empty o p = Shortened.dropped Shortened.none
-    present_shortened (s then b) (o, u) p =
-        filled_else (block_tokens rs fs ns cs (s then b) ++ word.rbrace_key ∷ [])
-        (begins_append word.rbrace_key (block_tokens rs fs ns cs (s then b)) (word.rbrace_key ∷ [])
-        (begins_append word.rbrace_key (statement_tokens rs fs ns cs s) (block_tokens rs fs ns cs b) (statement_unclosed s o)))
-        (token_kept word.lbrace_key refl (shortened_append p (token_kept word.rbrace_key refl Shortened.none)))
+  -- an else, given its block: with no statement it is dropped
+  present_shortened : (b : Block) → ProperBlock b (header rs fs ns) t → Shortened (block_tokens rs fs ns b) (block_tokens rs fs ns (short_block b))
+      → Shortened (else_tokens rs fs ns (present b)) (else_tokens rs fs ns (else_of (short_block b)))
+  unfolding else_tokens block_tokens
+  present_shortened empty o p = Shortened.dropped Shortened.none
+  present_shortened (s then b) (o, u) p =
+      filled_else (block_tokens rs fs ns (s then b) ++ word.rbrace_key ∷ [])
+      (begins_append word.rbrace_key (block_tokens rs fs ns (s then b)) (word.rbrace_key ∷ [])
+      (begins_append word.rbrace_key (statement_tokens rs fs ns s) (block_tokens rs fs ns b) (statement_unclosed s o)))
+      (token_kept word.lbrace_key refl (shortened_append p (token_kept word.rbrace_key refl Shortened.none)))
 
-    mutual
-      unfolding statement_tokens else_tokens block_tokens
+  mutual
+    unfolding statement_tokens else_tokens block_tokens
 
-      statement_shortened : (s : Statement) → Proper s (header rs fs ns) t (length cs)
-          → Shortened (statement_tokens rs fs ns cs s) (statement_tokens rs fs ns cs (short_statement s))
-      statement_shortened skip o = token_kept word.skip_key refl semicolon_kept
-      statement_shortened (assign a) o = assignment_tokenwise kept_tokenwise rs rs fs fs ns (declared_kept R) (declared_kept F) t a o
-      statement_shortened (assume c) o = token_kept word.assume_key refl (shortened_append (condition_kept c o) semicolon_kept)
-      statement_shortened (assert c) o = token_kept word.assert_key refl (shortened_append (condition_kept c o) semicolon_kept)
-      statement_shortened (if c b e) (o, p, q) =
-          token_kept word.if_key refl (shortened_append (condition_kept c o) (token_kept word.lbrace_key refl
-          (shortened_append (block_shortened b p) (token_kept word.rbrace_key refl (else_shortened e q)))))
-      statement_shortened (while c b) (o, p) =
-          token_kept word.while_key refl (shortened_append (condition_kept c o) (token_kept word.lbrace_key refl
-          (shortened_append (block_shortened b p) (token_kept word.rbrace_key refl Shortened.none))))
-      statement_shortened (call i) o = token_kept word.call_key refl (kept_tokenwise.name (pairs_at C i o) semicolon_kept)
+    statement_shortened : (s : Statement) → Proper s (header rs fs ns) t → Shortened (statement_tokens rs fs ns s) (statement_tokens rs fs ns (short_statement s))
+    statement_shortened skip o = token_kept word.skip_key refl semicolon_kept
+    statement_shortened (assign a) o = assignment_tokenwise kept_tokenwise rs rs fs fs ns (declared_kept R) (declared_kept F) t a o
+    statement_shortened (assume c) o = token_kept word.assume_key refl (shortened_append (condition_kept c o) semicolon_kept)
+    statement_shortened (assert c) o = token_kept word.assert_key refl (shortened_append (condition_kept c o) semicolon_kept)
+    statement_shortened (if c b e) (o, p, q) =
+        token_kept word.if_key refl (shortened_append (condition_kept c o) (token_kept word.lbrace_key refl
+        (shortened_append (block_shortened b p) (token_kept word.rbrace_key refl (else_shortened e q)))))
+    statement_shortened (while c b) (o, p) =
+        token_kept word.while_key refl (shortened_append (condition_kept c o) (token_kept word.lbrace_key refl
+        (shortened_append (block_shortened b p) (token_kept word.rbrace_key refl Shortened.none))))
 
-      else_shortened : (e : Else) → ProperElse e (header rs fs ns) t (length cs) → Shortened (else_tokens rs fs ns cs e) (else_tokens rs fs ns cs (short_else e))
-      else_shortened absent o = Shortened.none
-      else_shortened (present b) o = present_shortened b o (block_shortened b o)
+    else_shortened : (e : Else) → ProperElse e (header rs fs ns) t → Shortened (else_tokens rs fs ns e) (else_tokens rs fs ns (short_else e))
+    else_shortened absent o = Shortened.none
+    else_shortened (present b) o = present_shortened b o (block_shortened b o)
 
-      block_shortened : (b : Block) → ProperBlock b (header rs fs ns) t (length cs)
-          → Shortened (block_tokens rs fs ns cs b) (block_tokens rs fs ns cs (short_block b))
-      block_shortened empty o = Shortened.none
-      block_shortened (s then b) (o, p) = shortened_append (statement_shortened s o) (block_shortened b p)
-
-  subs_shortened : (us : List Sub) (cs : List ℕ) → Pairwise NameKept cs cs → Pairwise NameKept (sub_names us) (sub_names us)
-      → ProperSubs us (header rs fs ns) t (length cs) → Shortened (subs_tokens rs fs ns cs us) (subs_tokens rs fs ns cs (map short_sub us))
-  unfolding subs_tokens
-  subs_shortened [] cs C p o = Shortened.none
-  subs_shortened (u ∷ us) cs C (Pairwise.more r p) (o, q) =
-      shortened_append (token_kept word.sub_key refl (kept_tokenwise.name r (token_kept word.lbrace_key refl
-      (shortened_append (block_shortened cs C u.body o) (token_kept word.rbrace_key refl Shortened.none)))))
-      (subs_shortened us (cs ++ u.name ∷ []) (pairs_append C (Pairwise.more r Pairwise.none)) p
-      (subst (ProperSubs us (header rs fs ns) t) (sym (one_name_more cs u.name)) q))
-
--- The names of subs stay, and how they are spelled.
-pub short_names : (us : List Sub) → sub_names (map short_sub us) ≡ sub_names us
-short_names [] = refl
-short_names (u ∷ us) = ap (λ l. u.name ∷ l) (short_names us)
-
-pub short_spellings : (us : List Sub) → sub_spellings (map short_sub us) ≡ sub_spellings us
-short_spellings [] = refl
-short_spellings (u ∷ us) = ap (λ l. u.spelling ∷ l) (short_spellings us)
+    pub block_shortened : (b : Block) → ProperBlock b (header rs fs ns) t → Shortened (block_tokens rs fs ns b) (block_tokens rs fs ns (short_block b))
+    block_shortened empty o = Shortened.none
+    block_shortened (s then b) (o, p) = shortened_append (statement_shortened s o) (block_shortened b p)
 
 -- The sentence of a macro, and its sentence without empty elses.
 pub sentence_shortened : (m : Macro) → InOrder m → Shortened (sentence m) (sentence (without_empty_elses m))
 unfolding sentence
 sentence_shortened m O =
-    let rs = m.registers in let fs = m.functions in let ns = m.arities in let t = m.first_test in let us = m.subs in
-    let X = pairs_each NameKept rs rs refl (declared_kept O.registers) in
-    let F = pairs_each NameKept fs fs refl (declared_kept O.functions) in
-    let C = pairs_each NameKept (sub_names us) (sub_names us) refl (declared_kept O.subs) in
-    let body : Shortened (block_tokens rs fs ns (sub_names us) m.body) (block_tokens rs fs ns (sub_names us) (short_block m.body)) =
-    block_shortened rs fs ns O.registers O.functions t (sub_names us) C m.body
-    (subst (λ n. ProperBlock m.body (header rs fs ns) t n) (sym (length-map us (λ u. u.name))) O.uses) in
+    let X = pairs_each NameKept m.registers m.registers refl (declared_kept O.registers) in
+    let F = pairs_each NameKept m.functions m.functions refl (declared_kept O.functions) in
     token_kept word.vars_key refl (shortened_append (names_tokenwise kept_tokenwise X) (token_kept word.semicolon_key refl
-    (shortened_append (declarations_tokenwise kept_tokenwise fs fs ns t O.arities F)
-    (shortened_append (subs_shortened rs fs ns O.registers O.functions t us [] Pairwise.none C O.sub_uses)
-    (subst (λ cs. Shortened (block_tokens rs fs ns (sub_names us) m.body) (block_tokens rs fs ns cs (short_block m.body))) (sym (short_names us)) body)))))
+    (shortened_append (declarations_tokenwise kept_tokenwise m.functions m.functions m.arities m.first_test O.arities F)
+    (block_shortened m.registers m.functions m.arities O.registers O.functions m.first_test m.body O.uses))))
 
 -- ---- order
 
 module _ (h : Header) (t : ℕ) where
-  module _ (c : ℕ) where
-    proper_else_of : (b : Block) → ProperBlock b h t c → ProperElse (else_of b) h t c
-    proper_else_of empty o = tt
-    proper_else_of (s then b) o = o
+  proper_else_of : (b : Block) → ProperBlock b h t → ProperElse (else_of b) h t
+  proper_else_of empty o = tt
+  proper_else_of (s then b) o = o
 
-    mutual
-      proper_statement : (s : Statement) → Proper s h t c → Proper (short_statement s) h t c
-      proper_statement skip o = o
-      proper_statement (assign a) o = o
-      proper_statement (assume q) o = o
-      proper_statement (assert q) o = o
-      proper_statement (if q b e) (o, p, r) = (o, proper_short b p, proper_else e r)
-      proper_statement (while q b) (o, p) = (o, proper_short b p)
-      proper_statement (call i) o = o
+  mutual
+    proper_statement : (s : Statement) → Proper s h t → Proper (short_statement s) h t
+    proper_statement skip o = o
+    proper_statement (assign a) o = o
+    proper_statement (assume c) o = o
+    proper_statement (assert c) o = o
+    proper_statement (if c b e) (o, p, q) = (o, proper_short b p, proper_else e q)
+    proper_statement (while c b) (o, p) = (o, proper_short b p)
 
-      proper_else : (e : Else) → ProperElse e h t c → ProperElse (short_else e) h t c
-      proper_else absent o = o
-      proper_else (present b) o = proper_else_of (short_block b) (proper_short b o)
+    proper_else : (e : Else) → ProperElse e h t → ProperElse (short_else e) h t
+    proper_else absent o = o
+    proper_else (present b) o = proper_else_of (short_block b) (proper_short b o)
 
-      pub proper_short : (b : Block) → ProperBlock b h t c → ProperBlock (short_block b) h t c
-      proper_short empty o = o
-      proper_short (s then b) (o, p) = (proper_statement s o, proper_short b p)
-
-  proper_subs : (us : List Sub) (c : ℕ) → ProperSubs us h t c → ProperSubs (map short_sub us) h t c
-  proper_subs [] c o = o
-  proper_subs (u ∷ us) c (o, p) = (proper_short c u.body o, proper_subs us (suc c) p)
+    pub proper_short : (b : Block) → ProperBlock b h t → ProperBlock (short_block b) h t
+    proper_short empty o = o
+    proper_short (s then b) (o, p) = (proper_statement s o, proper_short b p)
 
 one_deeper : (P Q : ℕ → Type 0) → ((n : ℕ) → P n → Q n) → (d : ℕ) → OneDeeper P d → OneDeeper Q d
 one_deeper P Q f zero o = o
@@ -217,7 +176,6 @@ mutual
   nests_statement (if c b e) d (o, p) =
       (one_deeper (λ n. NestsBlock b n) (λ n. NestsBlock (short_block b) n) (λ n q. nests_short b n q) d o, nests_else e d p)
   nests_statement (while c b) d o = one_deeper (λ n. NestsBlock b n) (λ n. NestsBlock (short_block b) n) (λ n q. nests_short b n q) d o
-  nests_statement (call i) d o = o
 
   nests_else : (e : Else) (d : ℕ) → NestsElse e d → NestsElse (short_else e) d
   nests_else absent d o = o
@@ -227,13 +185,6 @@ mutual
   pub nests_short : (b : Block) (d : ℕ) → NestsBlock b d → NestsBlock (short_block b) d
   nests_short empty d o = o
   nests_short (s then b) d (o, p) = (nests_statement s d o, nests_short b d p)
-
-nests_subs : (us : List Sub) (d : ℕ) → NestsSubs us d → NestsSubs (map short_sub us) d
-nests_subs [] d o = o
-nests_subs (u ∷ us) d (o, p) = (
-  one_deeper (λ n. NestsBlock u.body n) (λ n. NestsBlock (short_block u.body) n) (λ n q. nests_short u.body n q) d o,
-  nests_subs us d p,
-)
 
 -- Nothing is used anew, and nothing lies deeper.
 pub order_short : (m : Macro) → InOrder m → InOrder (without_empty_elses m)
@@ -247,15 +198,7 @@ order_short m O = record {
   fewer = O.fewer;
   tests = O.tests;
   room = O.room;
-  subs = subst Declared (sym (short_names m.subs)) O.subs;
-  subs_apart = (
-    subst (Disjoint m.registers) (sym (short_names m.subs)) O.subs_apart.0,
-    subst (Disjoint m.functions) (sym (short_names m.subs)) O.subs_apart.1,
-  );
-  few_subs = rw (length-map m.subs short_sub) O.few_subs;
-  sub_uses = proper_subs _ _ m.subs 0 O.sub_uses;
-  sub_depth = nests_subs m.subs _ O.sub_depth;
-  uses = rw (length-map m.subs short_sub) (proper_short _ _ _ m.body O.uses);
+  uses = proper_short _ _ m.body O.uses;
   depth = nests_short m.body _ O.depth;
 }
 
@@ -291,83 +234,42 @@ unfolding size_statement compile
 same_loop n Option.none c B = record { sizes = rw B.sizes; codes = λ at follow. rw (B.sizes, B.codes _ _) }
 same_loop n (Option.some a) c B = record { sizes = rw B.sizes; codes = λ at follow. rw (B.sizes, B.codes _ _) }
 
--- one block after another
-same_before : {a a' b b' : macro.Block} → SameBlocks a a' → SameBlocks b b' → SameBlocks (a before b) (a' before b')
-same_before {a} {a'} {b} {b'} A B = record {
-  sizes = omega (arith, size_before a b, size_before a' b', A.sizes, B.sizes);
-  codes = λ at follow. compile_before a b at follow ∙ rw (A.sizes, B.sizes, A.codes _ _, B.codes _ _) (sym (compile_before a' b' at follow));
-}
+-- perhaps a letter, then a statement, and then others
+same_after : (n : ℕ) (a : Option Letter) {s s' : macro.Statement} {b b' : macro.Block} → SameStatements s s' → SameBlocks b b'
+    → SameBlocks (after n a s before b) (after n a s' before b')
+same_after n Option.none S B = same_then S B
+same_after n (Option.some a) S B = same_then (same_itself size_statement compile (macro.perform a)) (same_then S B)
 
--- perhaps a letter, and then a statement
-same_after : (n : ℕ) (a : Option Letter) {s s' : macro.Statement} → SameStatements s s' → SameBlocks (after n a s) (after n a s')
-same_after n Option.none S = same_then S (same_itself size_block compile_block macro.empty)
-same_after n (Option.some a) S =
-    same_then (same_itself size_statement compile (macro.perform a)) (same_then S (same_itself size_block compile_block macro.empty))
-
--- Calls are replaced before tests are expanded, so a block may lose all its statements in between: `else { call a; }` stays where the sub `a` has none, and
--- is then an empty else. So the two macros are compared by their points, and not as trees.
 module _ (n : ℕ) where
-  -- Bodies that take the places of calls, with the same points each.
-  data SameBodies : List Block → List Block → Type 0 where
-    none : SameBodies [] []
-    more : {a b : Block} {these those : List Block} → SameBlocks (expanded_block n a) (expanded_block n b) → SameBodies these those
-        → SameBodies (a ∷ these) (b ∷ those)
+  -- An else with no statement has no point, as an absent one.
+  else_of_same : (b : Block) (k : macro.Block) → SameBlocks (expanded_block n b) k → SameElses (expanded_else n (else_of b)) (macro.present k)
+  unfolding expanded_else expanded_block size_else size_block compile_else compile_block
+  else_of_same empty k B = record { sizes = B.sizes; codes = B.codes }
+  else_of_same (s then b) k B = record { sizes = B.sizes; codes = B.codes }
 
-  body_at : {these those : List Block} → SameBodies these those → (i : ℕ)
-      → SameBlocks (expanded_block n (get_or these i empty)) (expanded_block n (get_or those i empty))
-  body_at SameBodies.none i = same_itself size_block compile_block (expanded_block n empty)
-  body_at (SameBodies.more B p) zero = B
-  body_at (SameBodies.more B p) (suc i) = body_at p i
+  mutual
+    unfolding expanded_statement expanded_else expanded_block
 
-  one_body_more : {these those : List Block} (a b : Block) → SameBodies these those → SameBlocks (expanded_block n a) (expanded_block n b)
-      → SameBodies (these ++ a ∷ []) (those ++ b ∷ [])
-  one_body_more a b SameBodies.none B = SameBodies.more B SameBodies.none
-  one_body_more a b (SameBodies.more A p) B = SameBodies.more A (one_body_more a b p B)
+    statement_same : (s : Statement) {b b' : macro.Block} → SameBlocks b b'
+        → SameBlocks (expanded_statement n (short_statement s) before b) (expanded_statement n s before b')
+    statement_same skip B = same_then (same_itself size_statement compile macro.skip) B
+    statement_same (assign a) B = same_then (same_itself size_statement compile (macro.perform (letter_of a))) B
+    statement_same (assume c) B = same_after n (application n c) (same_itself size_statement compile (macro.perform (macro.test (comparison n c)))) B
+    statement_same (assert c) B = same_after n (application n c) (same_itself size_statement compile (macro.assert (comparison n c))) B
+    statement_same (if c b e) B = same_after n (application n c) (same_if (comparison n c) (block_same b) (else_same e)) B
+    statement_same (while c b) B = same_then (same_loop n (application n c) (comparison n c) (block_same b)) B
 
-  module _ (these those : List Block) (S : SameBodies these those) where
-    -- An else with no statement has no point, as an absent one.
-    else_of_same : (b : Block) (k : macro.Block) → SameBlocks (expanded_block n (inlined_block these b)) k
-        → SameElses (expanded_else n (inlined_else these (else_of b))) (macro.present k)
-    unfolding inlined_else inlined_block expanded_else expanded_block size_else size_block compile_else compile_block
-    else_of_same empty k B = record { sizes = B.sizes; codes = B.codes }
-    else_of_same (s then b) k B = record { sizes = B.sizes; codes = B.codes }
+    else_same : (e : Else) → SameElses (expanded_else n (short_else e)) (expanded_else n e)
+    else_same absent = same_itself size_else compile_else macro.absent
+    else_same (present b) = else_of_same (short_block b) (expanded_block n b) (block_same b)
 
-    mutual
-      unfolding inlined_statement inlined_else inlined_block expanded_statement expanded_else expanded_block
-
-      statement_same : (s : Statement) → SameBlocks (expanded_block n (inlined_statement these (short_statement s))) (expanded_block n (inlined_statement those s))
-      statement_same skip = same_itself size_block compile_block _
-      statement_same (assign a) = same_itself size_block compile_block _
-      statement_same (assume c) = same_itself size_block compile_block _
-      statement_same (assert c) = same_itself size_block compile_block _
-      statement_same (if c b e) = same_before (same_after n (application n c) (same_if (comparison n c) (block_same b) (else_same e)))
-          (same_itself size_block compile_block macro.empty)
-      statement_same (while c b) = same_then (same_loop n (application n c) (comparison n c) (block_same b)) (same_itself size_block compile_block macro.empty)
-      statement_same (call i) = body_at S i
-
-      else_same : (e : Else) → SameElses (expanded_else n (inlined_else these (short_else e))) (expanded_else n (inlined_else those e))
-      else_same absent = same_itself size_else compile_else macro.absent
-      else_same (present b) = else_of_same (short_block b) (expanded_block n (inlined_block those b)) (block_same b)
-
-      block_same : (b : Block) → SameBlocks (expanded_block n (inlined_block these (short_block b))) (expanded_block n (inlined_block those b))
-      block_same empty = same_itself size_block compile_block macro.empty
-      block_same (s then b) =
-          rw (
-            expanded_joined n (inlined_statement these (short_statement s)) (inlined_block these (short_block b)),
-            expanded_joined n (inlined_statement those s) (inlined_block those b),
-          ) (same_before (statement_same s) (block_same b))
-
-  bodies_same : (us : List Sub) (these those : List Block) → SameBodies these those
-      → SameBodies (inlined_bodies these (map short_sub us)) (inlined_bodies those us)
-  unfolding inlined_bodies
-  bodies_same [] these those S = S
-  bodies_same (u ∷ us) these those S = bodies_same us _ _ (one_body_more _ _ S (block_same these those S u.body))
+    block_same : (b : Block) → SameBlocks (expanded_block n (short_block b)) (expanded_block n b)
+    block_same empty = same_itself size_block compile_block macro.empty
+    block_same (s then b) = statement_same s (block_same b)
 
 module _ (m : Macro) where
   expanded_same : SameBlocks (expanded (without_empty_elses m)) (expanded m)
-  expanded_same =
-      let n = length m.registers in
-      block_same n (inlined_bodies [] (map short_sub m.subs)) (inlined_bodies [] m.subs) (bodies_same n m.subs [] [] SameBodies.none) m.body
+  expanded_same = block_same (length m.registers) m.body
 
   pub size_short : size_block (expanded (without_empty_elses m)) ≡ size_block (expanded m)
   size_short = expanded_same.sizes
@@ -389,7 +291,6 @@ mutual
   statement_twice (assert c) = refl
   statement_twice (if c b e) = λ i. if c (short_twice b i) (else_twice e i)
   statement_twice (while c b) = λ i. while c (short_twice b i)
-  statement_twice (call i) = refl
 
   else_twice : (e : Else) → short_else (short_else e) ≡ short_else e
   else_twice absent = refl
@@ -400,10 +301,6 @@ mutual
   short_twice empty = refl
   short_twice (s then b) = λ i. statement_twice s i then short_twice b i
 
-subs_short_twice : (us : List Sub) → map short_sub (map short_sub us) ≡ map short_sub us
-subs_short_twice [] = refl
-subs_short_twice (u ∷ us) = λ i. record { name = u.name; spelling = u.spelling; body = short_twice u.body i } ∷ subs_short_twice us i
-
 pub macro_short_twice : (m : Macro) → without_empty_elses (without_empty_elses m) ≡ without_empty_elses m
 macro_short_twice m = λ i. record {
   registers = m.registers;
@@ -412,6 +309,5 @@ macro_short_twice m = λ i. record {
   function_spellings = m.function_spellings;
   arities = m.arities;
   first_test = m.first_test;
-  subs = subs_short_twice m.subs i;
   body = short_twice m.body i;
 }

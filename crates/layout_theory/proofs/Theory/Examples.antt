@@ -13,12 +13,11 @@ use Rattle.tokens.specs.Bytes.{key, spelling, gap, name_length, width}
 use Rattle.tokens.specs.Tokens.{token_at, spellings}
 use Rattle.tokens.specs.Words as word
 use Rattle.text.specs.Names.{name_text}
-use Rattle.grammar.specs.Tree.{equal, holds, fails, skip, assume, if, while, call, absent, present, empty, ◌then◌}
-use Rattle.grammar.specs.Inlined.{inlined_statement, inlined_else, inlined_block, inlined_bodies}
+use Rattle.grammar.specs.Tree.{equal, holds, fails, skip, assume, if, while, absent, present, empty, ◌then◌}
 use Rattle.grammar.specs.Expanded.{expanded_statement}
-use Rattle.grammar.specs.Grammar.{Macro, sentence, line_tokens, entry_tokens, statement_tokens, subs_tokens}
+use Rattle.grammar.specs.Grammar.{Macro, sentence, line_tokens, entry_tokens, statement_tokens}
 use Rattle.grammar.specs.Reading.{index_of, comparison, arguments_t, applied, named_test, condition, ended_condition, right_hand_side, assignment, block}
-use Rattle.grammar.specs.Reading.{register_names, arity_of, entries, called, sub_t, subs_from}
+use Rattle.grammar.specs.Reading.{register_names, arity_of, entries}
 use Rattle.grammar.proofs.Theory.Reading.{read_text, read_macro}
 use Rattle.refusals.specs.Order.{Refusal}
 use Rattle.refusals.proofs.Theory.Order.{refused_refusal}
@@ -42,14 +41,12 @@ one_register = record {
   function_spellings = [];
   arities = [];
   first_test = 0;
-  subs = [];
   body = empty;
 }
 
 pub one_register_accepted : Accepted one_register_text one_register
 unfolding one_register_text one_register read_macro read_text token_at gap width name_length spellings register_names index_of entries arity_of block condition
-    comparison named_test applied arguments_t ended_condition assignment right_hand_side called sub_t subs_from inlined_statement inlined_bodies expanded_statement
-    size_statement
+    comparison named_test applied arguments_t ended_condition assignment right_hand_side expanded_statement size_statement
 one_register_accepted = read_accepted _ _ _ refl
 
 -- the text and an LF
@@ -57,7 +54,7 @@ unfoldable pub one_register_print : List ℕ
 one_register_print = 118 ∷ 97 ∷ 114 ∷ 115 ∷ 32 ∷ 120 ∷ 59 ∷ 10 ∷ []
 
 pub one_register_printed : house_layout one_register ≡ one_register_print
-unfolding one_register one_register_print house_layout spaced sentence line_tokens statement_tokens subs_tokens name_text fixed within_calls
+unfolding one_register one_register_print house_layout spaced sentence line_tokens statement_tokens name_text fixed within_calls
 one_register_printed = refl
 
 -- It fills eight bytes, and passes seven, which stay.
@@ -96,8 +93,7 @@ undeclared_text = 118 ∷ 97 ∷ 114 ∷ 115 ∷ 32 ∷ 120 ∷ 59 ∷ 32 ∷ 12
 
 undeclared_is_refused : Refusal undeclared_text use_wrong 13
 unfolding undeclared_text read_macro read_text token_at gap width name_length spellings register_names index_of entries arity_of block condition
-    comparison named_test applied arguments_t ended_condition assignment right_hand_side called sub_t subs_from inlined_statement inlined_bodies expanded_statement
-    size_statement
+    comparison named_test applied arguments_t ended_condition assignment right_hand_side expanded_statement size_statement
 undeclared_is_refused = refused_refusal _ _ _ refl
 
 module _ (entry : List ℕ) where
@@ -138,20 +134,18 @@ capitals = record {
   function_spellings = [];
   arities = [];
   first_test = 0;
-  subs = [];
   body = if (equal 0 1) empty (present empty) then empty;
 }
 
 capitals_accepted : Accepted capitals_text capitals
 unfolding capitals_text capitals read_macro read_text token_at gap width name_length spellings register_names index_of entries arity_of block condition
-    comparison named_test applied arguments_t ended_condition assignment right_hand_side called sub_t subs_from inlined_statement inlined_bodies expanded_statement
-    size_statement
+    comparison named_test applied arguments_t ended_condition assignment right_hand_side expanded_statement size_statement
 capitals_accepted = read_accepted _ _ _ refl
 
 -- names as declared, words in lower case, the empty else dropped
 capitals_printed : house_layout capitals ≡
     118 ∷ 97 ∷ 114 ∷ 115 ∷ 32 ∷ 97 ∷ 32 ∷ 66 ∷ 59 ∷ 10 ∷ 105 ∷ 102 ∷ 32 ∷ 97 ∷ 61 ∷ 66 ∷ 123 ∷ 10 ∷ 125 ∷ 10 ∷ []
-unfolding capitals house_layout spaced sentence line_tokens statement_tokens subs_tokens name_text fixed within_calls
+unfolding capitals house_layout spaced sentence line_tokens statement_tokens name_text fixed within_calls
 capitals_printed = refl
 
 -- ---- `vars x;funs f/1g/2;`
@@ -167,20 +161,18 @@ two_functions = record {
   function_spellings = spelling (102 ∷ []) ∷ spelling (103 ∷ []) ∷ [];
   arities = 1 ∷ 2 ∷ [];
   first_test = 2;
-  subs = [];
   body = empty;
 }
 
 entries_accepted : Accepted entries_text two_functions
 unfolding entries_text two_functions read_macro read_text token_at gap width name_length spellings register_names index_of entries arity_of block condition
-    comparison named_test applied arguments_t ended_condition assignment right_hand_side called sub_t subs_from inlined_statement inlined_bodies expanded_statement
-    size_statement
+    comparison named_test applied arguments_t ended_condition assignment right_hand_side expanded_statement size_statement
 entries_accepted = read_accepted _ _ _ refl
 
 -- `1` and the name behind it are words
 entries_printed : house_layout two_functions ≡
     118 ∷ 97 ∷ 114 ∷ 115 ∷ 32 ∷ 120 ∷ 59 ∷ 10 ∷ 102 ∷ 117 ∷ 110 ∷ 115 ∷ 32 ∷ 102 ∷ 47 ∷ 49 ∷ 32 ∷ 103 ∷ 47 ∷ 50 ∷ 59 ∷ 10 ∷ []
-unfolding two_functions house_layout spaced sentence line_tokens entry_tokens statement_tokens subs_tokens name_text fixed within_calls
+unfolding two_functions house_layout spaced sentence line_tokens entry_tokens statement_tokens name_text fixed within_calls
 entries_printed = refl
 
 -- ---- `Vars X; Tests Hot/1 Warm/2; If ! HOT(x) { } While warm(X,x) { assume !hot(x) ; }`
@@ -199,14 +191,12 @@ two_tests = record {
   function_spellings = spelling (72 ∷ 111 ∷ 116 ∷ []) ∷ spelling (87 ∷ 97 ∷ 114 ∷ 109 ∷ []) ∷ [];
   arities = 1 ∷ 2 ∷ [];
   first_test = 0;
-  subs = [];
   body = if (fails 0 0 0) empty absent then while (holds 1 0 0) (assume (fails 0 0 0) then empty) then empty;
 }
 
 tests_accepted : Accepted tests_text two_tests
 unfolding tests_text two_tests read_macro read_text token_at gap width name_length spellings register_names index_of entries arity_of block condition
-    comparison named_test applied arguments_t ended_condition assignment right_hand_side called sub_t subs_from inlined_statement inlined_bodies expanded_statement
-    size_statement
+    comparison named_test applied arguments_t ended_condition assignment right_hand_side expanded_statement size_statement
 tests_accepted = read_accepted _ _ _ refl
 
 -- `tests` in its own line, and no blank before `!`, which is no word
@@ -214,45 +204,8 @@ tests_printed : house_layout two_tests ≡
     118 ∷ 97 ∷ 114 ∷ 115 ∷ 32 ∷ 88 ∷ 59 ∷ 10 ∷ 116 ∷ 101 ∷ 115 ∷ 116 ∷ 115 ∷ 32 ∷ 72 ∷ 111 ∷ 116 ∷ 47 ∷ 49 ∷ 32 ∷ 87 ∷ 97 ∷ 114 ∷ 109 ∷ 47 ∷ 50 ∷ 59 ∷ 10 ∷
     105 ∷ 102 ∷ 33 ∷ 72 ∷ 111 ∷ 116 ∷ 40 ∷ 88 ∷ 41 ∷ 123 ∷ 10 ∷ 125 ∷ 10 ∷ 119 ∷ 104 ∷ 105 ∷ 108 ∷ 101 ∷ 32 ∷ 87 ∷ 97 ∷ 114 ∷ 109 ∷ 40 ∷ 88 ∷ 44 ∷ 88 ∷
     41 ∷ 123 ∷ 10 ∷ 97 ∷ 115 ∷ 115 ∷ 117 ∷ 109 ∷ 101 ∷ 33 ∷ 72 ∷ 111 ∷ 116 ∷ 40 ∷ 88 ∷ 41 ∷ 59 ∷ 10 ∷ 125 ∷ 10 ∷ []
-unfolding two_tests house_layout spaced sentence line_tokens entry_tokens statement_tokens subs_tokens name_text fixed within_calls
+unfolding two_tests house_layout spaced sentence line_tokens entry_tokens statement_tokens name_text fixed within_calls
 tests_printed = refl
-
--- ---- `vars x; SUB Part { Skip; } sub p2 { call PART; } Call p2; if x = x { call part; }`
-
-unfoldable pub subs_text : List ℕ
-subs_text =
-    118 ∷ 97 ∷ 114 ∷ 115 ∷ 32 ∷ 120 ∷ 59 ∷ 32 ∷ 83 ∷ 85 ∷ 66 ∷ 32 ∷ 80 ∷ 97 ∷ 114 ∷ 116 ∷ 32 ∷ 123 ∷ 32 ∷ 83 ∷ 107 ∷ 105 ∷ 112 ∷ 59 ∷ 32 ∷ 125 ∷ 32 ∷
-    115 ∷ 117 ∷ 98 ∷ 32 ∷ 112 ∷ 50 ∷ 32 ∷ 123 ∷ 32 ∷ 99 ∷ 97 ∷ 108 ∷ 108 ∷ 32 ∷ 80 ∷ 65 ∷ 82 ∷ 84 ∷ 59 ∷ 32 ∷ 125 ∷ 32 ∷ 67 ∷ 97 ∷ 108 ∷ 108 ∷ 32 ∷
-    112 ∷ 50 ∷ 59 ∷ 32 ∷ 105 ∷ 102 ∷ 32 ∷ 120 ∷ 32 ∷ 61 ∷ 32 ∷ 120 ∷ 32 ∷ 123 ∷ 32 ∷ 99 ∷ 97 ∷ 108 ∷ 108 ∷ 32 ∷ 112 ∷ 97 ∷ 114 ∷ 116 ∷ 59 ∷ 32 ∷
-    125 ∷ []
-
-unfoldable pub two_subs : Macro
-two_subs = record {
-  registers = key (120 ∷ []) ∷ [];
-  register_spellings = spelling (120 ∷ []) ∷ [];
-  functions = [];
-  function_spellings = [];
-  arities = [];
-  first_test = 0;
-  subs =
-      record { name = key (112 ∷ 97 ∷ 114 ∷ 116 ∷ []); spelling = spelling (80 ∷ 97 ∷ 114 ∷ 116 ∷ []); body = skip then empty }
-      ∷ record { name = key (112 ∷ 50 ∷ []); spelling = spelling (112 ∷ 50 ∷ []); body = call 0 then empty } ∷ [];
-  body = call 1 then if (equal 0 0) (call 0 then empty) absent then empty;
-}
-
-pub subs_accepted : Accepted subs_text two_subs
-unfolding subs_text two_subs read_macro read_text token_at gap width name_length spellings register_names index_of entries arity_of block condition
-    comparison named_test applied arguments_t ended_condition assignment right_hand_side called sub_t subs_from inlined_statement inlined_bodies expanded_statement
-    size_statement
-subs_accepted = read_accepted _ _ _ refl
-
--- "the house layout keeps the subs" (document 02, request 7): their names as declared, also where they are called
-pub subs_printed : house_layout two_subs ≡
-    118 ∷ 97 ∷ 114 ∷ 115 ∷ 32 ∷ 120 ∷ 59 ∷ 10 ∷ 115 ∷ 117 ∷ 98 ∷ 32 ∷ 80 ∷ 97 ∷ 114 ∷ 116 ∷ 123 ∷ 10 ∷ 115 ∷ 107 ∷ 105 ∷ 112 ∷ 59 ∷ 10 ∷ 125 ∷ 10 ∷
-    115 ∷ 117 ∷ 98 ∷ 32 ∷ 112 ∷ 50 ∷ 123 ∷ 10 ∷ 99 ∷ 97 ∷ 108 ∷ 108 ∷ 32 ∷ 80 ∷ 97 ∷ 114 ∷ 116 ∷ 59 ∷ 10 ∷ 125 ∷ 10 ∷ 99 ∷ 97 ∷ 108 ∷ 108 ∷ 32 ∷
-    112 ∷ 50 ∷ 59 ∷ 10 ∷ 105 ∷ 102 ∷ 32 ∷ 120 ∷ 61 ∷ 120 ∷ 123 ∷ 10 ∷ 99 ∷ 97 ∷ 108 ∷ 108 ∷ 32 ∷ 80 ∷ 97 ∷ 114 ∷ 116 ∷ 59 ∷ 10 ∷ 125 ∷ 10 ∷ []
-unfolding two_subs house_layout spaced sentence line_tokens statement_tokens subs_tokens name_text fixed within_calls
-subs_printed = refl
 
 -- ---- "an empty else dropped"
 
@@ -262,15 +215,6 @@ empty_else_dropped = refl
 -- `skip;` is a statement
 skip_else_stays : short_else (present (skip then empty)) ≡ present (skip then empty)
 skip_else_stays = refl
-
--- and so is a call, though the sub may have none
-call_else_stays : short_else (present (call 0 then empty)) ≡ present (call 0 then empty)
-call_else_stays = refl
-
--- with such a call replaced it is empty: points are compared, and not trees (Dropping.antt)
-call_else_empties : inlined_else (empty ∷ []) (short_else (present (call 0 then empty))) ≡ present empty
-unfolding inlined_else inlined_block inlined_statement
-call_else_empties = refl
 
 -- an `if` in an else: it loses its own empty else, and the else that holds it stays
 inner_else_dropped : short_else (present (if (equal 0 0) empty (present empty) then empty)) ≡ present (if (equal 0 0) empty absent then empty)
@@ -286,7 +230,7 @@ passing f (w ∷ ws) = pick (f w) (λ _. w ∷ passing f ws) λ _. passing f ws
 -- "`1` and `2` count as words": the words among the tokens that are no names are the keywords and these, and no sign
 words_only : passing is_word fixed_tokens ≡
     word.vars_key ∷ word.funs_key ∷ word.tests_key ∷ word.skip_key ∷ word.assume_key ∷ word.assert_key ∷ word.if_key ∷ word.else_key ∷ word.while_key
-    ∷ word.result_key ∷ word.truth_key ∷ word.sub_key ∷ word.call_key ∷ word.one_key ∷ word.two_key ∷ []
+    ∷ word.result_key ∷ word.truth_key ∷ word.one_key ∷ word.two_key ∷ []
 words_only = refl
 
 -- "an LF after each `;`, `{` and `}`", and after no other

@@ -1,31 +1,30 @@
 -- The sentence with the names as they are known, and the sentence with the names as they are declared, token by token (SPEC 8.4, 8.6).
-use mathlib.Core.Path.{◌≡◌, refl, sym, ap, ◌∙◌, subst}
-use Prim.Native.Nat.{ℕ, zero, suc, ◌+◌, ◌<◌}
+use mathlib.Core.Path.{◌≡◌, refl, ap, ◌∙◌, subst}
+use Prim.Native.Nat.{ℕ, zero, suc, ◌<◌}
 use native.Mathlib.Omega.{arith}
 use mathlib.Core.Bool.{Bool, true, false, not, ◌&&◌, ◌||◌}
-use mathlib.Core.List.{List, [], ◌∷◌, ◌++◌, map}
+use mathlib.Core.List.{List, [], ◌∷◌, ◌++◌}
 use lib.Dec.{eqb}
-use lib.ListN.{length, get_or, take, drop, length-append, length-map}
+use lib.ListN.{length, get_or, take, drop}
 use borrow.Author.Tests.{eqb-true}
 use Rattle.base.proofs.Theory.Choice.{by_test}
 use Rattle.letters.proofs.Theory.WordLaws.{and_true}
 use Rattle.tokens.specs.Words as word
 use Rattle.grammar.specs.Tree.{Condition, equal, unequal, holds, fails, ProperCondition, Assignment, copy, apply, ProperAssignment, Statement, skip, assign}
-use Rattle.grammar.specs.Tree.{assume, assert, if, while, call, Else, absent, present, Block, empty, ◌then◌, Sub, Proper, ProperElse, ProperBlock}
-use Rattle.grammar.specs.Tree.{ProperSubs}
+use Rattle.grammar.specs.Tree.{assume, assert, if, while, Else, absent, present, Block, empty, ◌then◌, Proper, ProperElse, ProperBlock}
 use Rattle.grammar.specs.Grammar.{Macro, header, sentence, takes_two, argument_tokens, application_tokens, condition_tokens, assignment_tokens, statement_tokens}
-use Rattle.grammar.specs.Grammar.{else_tokens, block_tokens, sub_tokens, subs_tokens, sub_names, sub_spellings, entry_tokens, line_tokens, declaration_tokens}
+use Rattle.grammar.specs.Grammar.{else_tokens, block_tokens, entry_tokens, line_tokens, declaration_tokens}
 use Rattle.grammar.specs.Spelled.{Arities, InOrder}
 use Rattle.grammar.proofs.Theory.Parts.{arities_take, arities_drop}
 use Rattle.refusals.proofs.Theory.Basics.{not-true, nor}
-use Rattle.layout_theory.specs.Layout.{sub_as_declared, as_declared}
+use Rattle.layout_theory.specs.Layout.{as_declared}
 
 -- The tokens that are no names: the words and the signs (SPEC 8.2).
 abbrev pub fixed_tokens : List ℕ
 fixed_tokens =
     word.vars_key ∷ word.funs_key ∷ word.tests_key ∷ word.skip_key ∷ word.assume_key ∷ word.assert_key ∷ word.if_key ∷ word.else_key ∷ word.while_key
-    ∷ word.result_key ∷ word.truth_key ∷ word.sub_key ∷ word.call_key ∷ word.one_key ∷ word.two_key ∷ word.becomes_key ∷ word.equal_key ∷ word.unequal_key
-    ∷ word.not_key ∷ word.semicolon_key ∷ word.comma_key ∷ word.lparen_key ∷ word.rparen_key ∷ word.lbrace_key ∷ word.rbrace_key ∷ word.slash_key ∷ []
+    ∷ word.result_key ∷ word.truth_key ∷ word.one_key ∷ word.two_key ∷ word.becomes_key ∷ word.equal_key ∷ word.unequal_key ∷ word.not_key ∷ word.semicolon_key
+    ∷ word.comma_key ∷ word.lparen_key ∷ word.rparen_key ∷ word.lbrace_key ∷ word.rbrace_key ∷ word.slash_key ∷ []
 
 abbrev pub is_among : ℕ → List ℕ → Bool
 is_among k [] = false
@@ -90,23 +89,6 @@ pairs_each R [] [] e r = Pairwise.none
 pairs_each R [] (w ∷ ws) e r = absurd (omega arith)
 pairs_each R (k ∷ ks) [] e r = absurd (omega arith)
 pairs_each R (k ∷ ks) (w ∷ ws) e r = Pairwise.more (r 0 (omega arith)) (pairs_each R ks ws (omega arith) λ i l. r (suc i) (omega arith))
-
-pub pairs_at : {R : ℕ → ℕ → Type 0} {ks ws : List ℕ} → Pairwise R ks ws → (i : ℕ) → i < length ks → R (get_or ks i 0) (get_or ws i 0)
-pairs_at Pairwise.none i h = absurd (omega arith)
-pairs_at (Pairwise.more r p) zero h = r
-pairs_at (Pairwise.more r p) (suc i) h = pairs_at p i (omega arith)
-
-pub pairs_length : {R : ℕ → ℕ → Type 0} {ks ws : List ℕ} → Pairwise R ks ws → length ks ≡ length ws
-pairs_length Pairwise.none = refl
-pairs_length (Pairwise.more r p) = ap suc (pairs_length p)
-
-pub one_name_more : (cs : List ℕ) (k : ℕ) → length (cs ++ k ∷ []) ≡ suc (length cs)
-one_name_more cs k = omega (arith, length-append cs (k ∷ []))
-
--- The names of subs that are held as they are declared.
-pub names_declared : (us : List Sub) → sub_names (map sub_as_declared us) ≡ sub_spellings us
-names_declared [] = refl
-names_declared (u ∷ us) = ap (λ l. u.spelling ∷ l) (names_declared us)
 
 -- ---- token by token
 
@@ -175,49 +157,28 @@ module _ {R : ℕ → ℕ → Type 0} {P : List ℕ → List ℕ → Type 0} (T 
 
     -- if `else` may stand before anything
     module _ (E : (ks ws : List ℕ) → P ks ws → P (word.else_key ∷ ks) (word.else_key ∷ ws)) where
-      module _ (cs cs' : List ℕ) (C : Pairwise R cs cs') where
-        mutual
-          unfolding statement_tokens else_tokens block_tokens
+      mutual
+        unfolding statement_tokens else_tokens block_tokens
 
-          statement_tokenwise : (s : Statement) → Proper s (header rs fs ns) t (length cs)
-              → P (statement_tokens rs fs ns cs s) (statement_tokens rs' fs' ns cs' s)
-          statement_tokenwise skip o = T.plain word.skip_key refl semicolon_tokenwise
-          statement_tokenwise (assign a) o = assignment_tokenwise a o
-          statement_tokenwise (assume c) o = T.plain word.assume_key refl (T.append (condition_tokenwise c o) semicolon_tokenwise)
-          statement_tokenwise (assert c) o = T.plain word.assert_key refl (T.append (condition_tokenwise c o) semicolon_tokenwise)
-          statement_tokenwise (if c b e) (o, p, q) =
-              T.plain word.if_key refl (T.append (condition_tokenwise c o) (T.plain word.lbrace_key refl
-              (T.append (block_tokenwise b p) (T.plain word.rbrace_key refl (else_tokenwise e q)))))
-          statement_tokenwise (while c b) (o, p) =
-              T.plain word.while_key refl (T.append (condition_tokenwise c o) (T.plain word.lbrace_key refl
-              (T.append (block_tokenwise b p) (T.plain word.rbrace_key refl T.none))))
-          statement_tokenwise (call i) o = T.plain word.call_key refl (T.name (pairs_at C i o) semicolon_tokenwise)
+        statement_tokenwise : (s : Statement) → Proper s (header rs fs ns) t → P (statement_tokens rs fs ns s) (statement_tokens rs' fs' ns s)
+        statement_tokenwise skip o = T.plain word.skip_key refl semicolon_tokenwise
+        statement_tokenwise (assign a) o = assignment_tokenwise a o
+        statement_tokenwise (assume c) o = T.plain word.assume_key refl (T.append (condition_tokenwise c o) semicolon_tokenwise)
+        statement_tokenwise (assert c) o = T.plain word.assert_key refl (T.append (condition_tokenwise c o) semicolon_tokenwise)
+        statement_tokenwise (if c b e) (o, p, q) =
+            T.plain word.if_key refl (T.append (condition_tokenwise c o) (T.plain word.lbrace_key refl
+            (T.append (block_tokenwise b p) (T.plain word.rbrace_key refl (else_tokenwise e q)))))
+        statement_tokenwise (while c b) (o, p) =
+            T.plain word.while_key refl (T.append (condition_tokenwise c o) (T.plain word.lbrace_key refl
+            (T.append (block_tokenwise b p) (T.plain word.rbrace_key refl T.none))))
 
-          else_tokenwise : (e : Else) → ProperElse e (header rs fs ns) t (length cs) → P (else_tokens rs fs ns cs e) (else_tokens rs' fs' ns cs' e)
-          else_tokenwise absent o = T.none
-          else_tokenwise (present b) o = E _ _ (T.plain word.lbrace_key refl (T.append (block_tokenwise b o) (T.plain word.rbrace_key refl T.none)))
+        else_tokenwise : (e : Else) → ProperElse e (header rs fs ns) t → P (else_tokens rs fs ns e) (else_tokens rs' fs' ns e)
+        else_tokenwise absent o = T.none
+        else_tokenwise (present b) o = E _ _ (T.plain word.lbrace_key refl (T.append (block_tokenwise b o) (T.plain word.rbrace_key refl T.none)))
 
-          block_tokenwise : (b : Block) → ProperBlock b (header rs fs ns) t (length cs) → P (block_tokens rs fs ns cs b) (block_tokens rs' fs' ns cs' b)
-          block_tokenwise empty o = T.none
-          block_tokenwise (s then b) (o, p) = T.append (statement_tokenwise s o) (block_tokenwise b p)
-
-        -- ---- subs
-
-        pub sub_tokenwise : (u : Sub) → R u.name u.spelling → ProperBlock u.body (header rs fs ns) t (length cs)
-            → P (sub_tokens rs fs ns cs u) (sub_tokens rs' fs' ns cs' (sub_as_declared u))
-        sub_tokenwise u r o =
-            T.plain word.sub_key refl (T.name r (T.plain word.lbrace_key refl
-            (T.append (block_tokenwise u.body o) (T.plain word.rbrace_key refl T.none))))
-
-      -- the names of those above stand against their own
-      subs_tokenwise : (us : List Sub) (cs cs' : List ℕ) → Pairwise R cs cs' → Pairwise R (sub_names us) (sub_spellings us)
-          → ProperSubs us (header rs fs ns) t (length cs) → P (subs_tokens rs fs ns cs us) (subs_tokens rs' fs' ns cs' (map sub_as_declared us))
-      unfolding subs_tokens
-      subs_tokenwise [] cs cs' C p o = T.none
-      subs_tokenwise (u ∷ us) cs cs' C (Pairwise.more r p) (o, q) =
-          T.append (sub_tokenwise cs cs' C u r o)
-          (subs_tokenwise us (cs ++ u.name ∷ []) (cs' ++ u.spelling ∷ []) (pairs_append C (Pairwise.more r Pairwise.none)) p
-          (subst (ProperSubs us (header rs fs ns) t) (sym (one_name_more cs u.name)) q))
+        block_tokenwise : (b : Block) → ProperBlock b (header rs fs ns) t → P (block_tokens rs fs ns b) (block_tokens rs' fs' ns b)
+        block_tokenwise empty o = T.none
+        block_tokenwise (s then b) (o, p) = T.append (statement_tokenwise s o) (block_tokenwise b p)
 
   -- ---- a sentence, and that with the names as they are declared
 
@@ -225,20 +186,14 @@ module _ {R : ℕ → ℕ → Type 0} {P : List ℕ → List ℕ → Type 0} (T 
       → (m : Macro) → InOrder m → length m.register_spellings ≡ length m.registers → length m.function_spellings ≡ length m.functions
       → ((x : ℕ) → x < length m.registers → R (get_or m.registers x 0) (get_or m.register_spellings x 0))
       → ((f : ℕ) → f < length m.functions → R (get_or m.functions f 0) (get_or m.function_spellings f 0))
-      → Pairwise R (sub_names m.subs) (sub_spellings m.subs)
       → P (sentence m) (sentence (as_declared m))
   unfolding sentence
-  sentence_tokenwise E m O e e' X F C =
-      let rs = m.registers in let fs = m.functions in let ns = m.arities in let t = m.first_test in let us = m.subs in
-      let rs' = m.register_spellings in let fs' = m.function_spellings in
-      let body : P (block_tokens rs fs ns (sub_names us) m.body) (block_tokens rs' fs' ns (sub_spellings us) m.body) =
-      block_tokenwise rs rs' fs fs' ns X F t E (sub_names us) (sub_spellings us) C m.body
-      (subst (λ n. ProperBlock m.body (header rs fs ns) t n) (sym (length-map us (λ u. u.name))) O.uses) in
-      T.plain word.vars_key refl (T.append (names_tokenwise (pairs_each R rs rs' e X))
+  sentence_tokenwise E m O e e' X F =
+      T.plain word.vars_key refl (T.append (names_tokenwise (pairs_each R m.registers m.register_spellings e X))
       (T.plain word.semicolon_key refl
-      (T.append (declarations_tokenwise fs fs' ns t O.arities (pairs_each R fs fs' e' F))
-      (T.append (subs_tokenwise rs rs' fs fs' ns X F t E us [] [] Pairwise.none C O.sub_uses)
-      (subst (λ cs. P (block_tokens rs fs ns (sub_names us) m.body) (block_tokens rs' fs' ns cs m.body)) (sym (names_declared us)) body)))))
+      (T.append (declarations_tokenwise m.functions m.function_spellings m.arities m.first_test O.arities
+      (pairs_each R m.functions m.function_spellings e' F))
+      (block_tokenwise m.registers m.register_spellings m.functions m.function_spellings m.arities X F m.first_test E m.body O.uses))))
 
 -- Two sentences entry by entry, where the words and the signs are paired with themselves.
 module _ (R : ℕ → ℕ → Type 0) (same : (k : ℕ) → is_fixed_token k ≡ true → R k k) where
@@ -254,6 +209,5 @@ module _ (R : ℕ → ℕ → Type 0) (same : (k : ℕ) → is_fixed_token k ≡
   pub sentence_pairs : (m : Macro) → InOrder m → length m.register_spellings ≡ length m.registers → length m.function_spellings ≡ length m.functions
       → ((x : ℕ) → x < length m.registers → R (get_or m.registers x 0) (get_or m.register_spellings x 0))
       → ((f : ℕ) → f < length m.functions → R (get_or m.functions f 0) (get_or m.function_spellings f 0))
-      → Pairwise R (sub_names m.subs) (sub_spellings m.subs)
       → Pairwise R (sentence m) (sentence (as_declared m))
   sentence_pairs = sentence_tokenwise pairs_tokenwise λ ks ws. Pairwise.more (same word.else_key refl)

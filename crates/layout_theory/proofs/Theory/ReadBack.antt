@@ -3,9 +3,9 @@ use mathlib.Core.Path.{◌≡◌, refl, sym, ap, ◌∙◌, subst}
 use Prim.Native.Nat.{ℕ, zero, suc, ◌+◌, ◌*◌, ◌-◌, ◌≤◌, ◌<◌}
 use native.Mathlib.Omega.{arith}
 use mathlib.Core.Bool.{Bool, true, false, ◌&&◌}
-use mathlib.Core.List.{List, [], ◌∷◌, ◌++◌, map}
+use mathlib.Core.List.{List, [], ◌∷◌, ◌++◌}
 use lib.Dec.{ltb, leb, eqb}
-use lib.ListN.{length, get_or, take, drop, length-append, length-drop, length-map, take-append-drop}
+use lib.ListN.{length, get_or, take, drop, length-append, length-drop, take-append-drop}
 use lib.Seq.{get_or-take, get_or-drop, length-take-le, ext_get_or}
 use borrow.Author.Tests.{eqb-true, eqb-false, ltb-true, lt-ltb, le-ltb}
 use Rattle.base.specs.Recursion.{within_calls, fixed}
@@ -21,20 +21,18 @@ use Rattle.tokens.proofs.Theory.TokensLaws.{behind_both, spelling_at, spellings_
 use Rattle.tokens.proofs.Theory.WordsLaws.{name_real}
 use Rattle.text.specs.Names.{name_text}
 use Rattle.text.proofs.Theory.Names.{name_back}
-use Rattle.grammar.specs.Grammar.{Macro, sub_names, sub_spellings, sentence}
+use Rattle.grammar.specs.Grammar.{Macro, sentence}
 use Rattle.grammar.specs.Spelled.{Spelled, InOrder, Arities, first_register, register_length, first_function, first_test_token, entry_length, spelled_registers}
-use Rattle.grammar.specs.Spelled.{spelled_functions, first_sub_token, spelled_subs}
+use Rattle.grammar.specs.Spelled.{spelled_functions}
 use Rattle.refusals.specs.Accepted.{Accepted}
 use Rattle.refusals.specs.Order.{Refusal}
 use Rattle.refusals.proofs.Theory.Basics.{clash}
 use Rattle.refusals.proofs.Theory.Accepted.{never_both}
 use Rattle.refusals.proofs.Theory.Declared.{Holds, register_held, function_held, register_declared, register_spelled, function_declared, function_spelled}
-use Rattle.layout_theory.specs.Layout.{short_sub, without_empty_elses, sub_as_declared, as_declared, spaced, print_tokens, house_layout, longest_print}
-use Rattle.layout_theory.proofs.Theory.Pairs.{fixed_tokens, is_fixed_token, plain_token, pass_among, begins_append, Pairwise, pairs_each, Tokenwise}
-use Rattle.layout_theory.proofs.Theory.Pairs.{names_declared, sentence_tokenwise, sentence_pairs}
-use Rattle.layout_theory.proofs.Theory.SubTokens.{sub_token, spelled_length, spelled_sub, sub_token_declared, sub_name_token, sub_in_sentence}
-use Rattle.layout_theory.proofs.Theory.SubTokens.{sub_declared, sub_spelled}
-use Rattle.layout_theory.proofs.Theory.Dropping.{short_names, short_spellings, order_short, size_short, macro_short_twice}
+use Rattle.layout_theory.specs.Layout.{without_empty_elses, as_declared, spaced, print_tokens, house_layout, longest_print}
+use Rattle.layout_theory.proofs.Theory.Pairs.{fixed_tokens, is_fixed_token, plain_token, pass_among, begins_append, Pairwise, Tokenwise}
+use Rattle.layout_theory.proofs.Theory.Pairs.{sentence_tokenwise, sentence_pairs}
+use Rattle.layout_theory.proofs.Theory.Dropping.{order_short, size_short, macro_short_twice}
 use Rattle.layout_theory.proofs.Theory.Spaced.{OneToken, HeldAs, Unjoined, SpellsAs, SpelledWhole}
 use Rattle.layout_theory.proofs.Theory.Spaced.{spells_keys, all_printed, spaced_spelled}
 
@@ -211,38 +209,17 @@ module _ (text : List ℕ) (m : Macro) (a : Accepted text m) where
   function_printed f h = declared_printed text _ _ _
       (function_declared text m a.spelled a.in_order.arities f h) (function_spelled text m a.spelled f h) (a.in_order.functions.names f h)
 
-  sub_printed : (j : ℕ) → j < length m.subs → HeldAs (get_or (sub_names m.subs) j 0) (get_or (sub_spellings m.subs) j 0)
-  sub_printed j h =
-      let O = a.in_order in
-      declared_printed text (place_of text (sub_name_token m O.arities O.tests j)) _ _
-      (sub_declared m O.arities O.tests text a.spelled j h) (sub_spelled m O.arities O.tests text a.spelled j h)
-      (O.subs.names j (omega (arith, length-map m.subs (λ u. u.name))))
-
   short_order : InOrder (without_empty_elses m)
   short_order = order_short m a.in_order
 
-  -- the names of subs, each beside how it is printed
-  pub subs_paired : (R : ℕ → ℕ → Type 0) → ((j : ℕ) → j < length m.subs → R (get_or (sub_names m.subs) j 0) (get_or (sub_spellings m.subs) j 0))
-      → Pairwise R (sub_names (map short_sub m.subs)) (sub_spellings (map short_sub m.subs))
-  subs_paired R f =
-      let us = m.subs in
-      let n = length-map us (λ u. u.name) in
-      let w = length-map us (λ u. u.spelling) in
-      subst (λ ks. Pairwise R ks (sub_spellings (map short_sub us))) (sym (short_names us))
-      (subst (Pairwise R (sub_names us)) (sym (short_spellings us))
-      (pairs_each R (sub_names us) (sub_spellings us) (w ∙ sym n) λ j h. f j (omega (arith, n))))
-
   print_pairs : Pairwise HeldAs (sentence (without_empty_elses m)) (print_tokens m)
   print_pairs = sentence_pairs HeldAs fixed_printed (without_empty_elses m) short_order registers_spelled functions_spelled register_printed function_printed
-      (subs_paired HeldAs sub_printed)
 
   print_unjoined : Unjoined (print_tokens m)
   print_unjoined =
       sentence_tokenwise unjoined_tokenwise (λ ks ws U. (λ e. absurd (omega arith), U)) (without_empty_elses m) short_order registers_spelled functions_spelled
       (λ x h. record { real = a.in_order.registers.names x h; held = register_printed x h })
-      (λ f h. record { real = a.in_order.functions.names f h; held = function_printed f h })
-      (subs_paired NameHeld λ j h.
-      record { real = a.in_order.subs.names j (omega (arith, length-map m.subs (λ u. u.name))); held = sub_printed j h })
+      λ f h. record { real = a.in_order.functions.names f h; held = function_printed f h }
 
   print_whole : SpelledWhole (house_layout m) 0 (print_tokens m)
   unfolding house_layout
@@ -303,30 +280,6 @@ module _ (text : List ℕ) (m : Macro) (a : Accepted text m) where
       sym (take-append-drop m.first_test m.function_spellings) ∙ (λ i. functions_in_print i ++ tests_in_print i)
       ∙ λ i. spelled_functions (house_layout m) (registers_spelled i) m.first_test (functions_spelled i)
 
-  print_subs : sub_spellings (map short_sub m.subs) ≡ spelled_subs (house_layout m) m.registers m.functions m.arities []
-      (place_of (house_layout m) (first_sub_token (length m.registers) m.first_test (length m.functions))) (map short_sub m.subs)
-  print_subs =
-      let rs = m.registers in let fs = m.functions in let ns = m.arities in let t = m.first_test in
-      let us = map short_sub m.subs in
-      let print = house_layout m in
-      let first = first_sub_token (length rs) t (length fs) in
-      let declared = as_declared (without_empty_elses m) in
-      let size = spelled_length rs fs ns print us [] (place_of print first) in
-      let w = length-map us (λ u. u.spelling) in
-      sym (ext_get_or 0 (spelled_subs print rs fs ns [] (place_of print first) us) (sub_spellings us) (size ∙ sym w) λ j l.
-      let h : j < length us = omega (arith, size) in
-      let i = sub_token rs fs ns [] us j in
-      let same : sub_name_token declared spelled_arities tests_within j ≡ first + i =
-      (λ x. first_sub_token (registers_spelled x) t (functions_spelled x)
-      + sym (sub_token_declared rs m.register_spellings fs m.function_spellings ns t us short_order.sub_uses j) x) in
-      let held : Holds (print_tokens m) (first + i) (get_or (sub_spellings us) j 0) =
-      subst (λ n. Holds (print_tokens m) n (get_or (sub_spellings us) j 0)) same
-      (subst (λ ks. Holds (print_tokens m) (sub_name_token declared spelled_arities tests_within j) (get_or ks j 0)) (names_declared us)
-      (sub_in_sentence declared spelled_arities tests_within j (omega (arith, length-map us sub_as_declared)))) in
-      spelled_sub rs fs ns print us [] (place_of print first) j h
-      ∙ ap (λ n. (token_at print n).spelling) (behind_both print 0 first i)
-      ∙ held_spelling print print_whole.tokens (first + i) _ held)
-
   -- the tokens of the print are the sentence of the macro without its empty elses, with the names as declared
   pub print_spelled : Spelled (house_layout m) (without_empty_elses m)
   print_spelled = record {
@@ -335,7 +288,6 @@ module _ (text : List ℕ) (m : Macro) (a : Accepted text m) where
     ended = print_whole.ended;
     register_spellings = print_registers;
     function_spellings = print_functions;
-    sub_spellings = print_subs;
   }
 
 -- ---- what becomes of a print

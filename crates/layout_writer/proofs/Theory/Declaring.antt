@@ -3,9 +3,9 @@ use mathlib.Core.Path.{◌≡◌, refl, sym, ap, ◌∙◌, subst}
 use Prim.Native.Nat.{ℕ, zero, suc, ◌+◌, ◌*◌, ◌-◌, ◌≤◌, ◌<◌}
 use native.Mathlib.Omega.{arith}
 use mathlib.Core.Bool.{true, false, not}
-use mathlib.Core.List.{List, [], ◌∷◌, ◌++◌, append_assoc}
+use mathlib.Core.List.{List, [], ◌∷◌, ◌++◌}
 use lib.Dec.{ltb}
-use lib.ListN.{length, get_or, take, drop, length-append, length-drop, length-map, take-append-drop, get_or-append}
+use lib.ListN.{length, get_or, take, drop, length-append, length-drop, take-append-drop, get_or-append}
 use lib.Seq.{get_or-take, get_or-drop, length-take-le}
 use borrow.Author.Tests.{ltb-true, ltb-false}
 use Rattle.base.proofs.Theory.Choice.{by_test}
@@ -13,8 +13,7 @@ use Rattle.tokens.specs.Words.{is_name}
 use Rattle.tokens.specs.Words as word
 use Rattle.tokens.specs.Tokens.{token_at, place_of}
 use Rattle.tokens.proofs.Theory.TokensLaws.{behind_both}
-use Rattle.grammar.specs.Tree.{Sub, ProperSubs}
-use Rattle.grammar.specs.Grammar.{Macro, sub_names, sub_spellings, header, sentence, entry_tokens, line_tokens, declaration_tokens, sub_tokens, subs_tokens}
+use Rattle.grammar.specs.Grammar.{Macro, sentence, entry_tokens, line_tokens, declaration_tokens, block_tokens}
 use Rattle.grammar.specs.Spelled.{Spells, Declared, Disjoint, Arities, InOrder, first_register, first_function, first_test_token, entry_length, line_length}
 use Rattle.grammar.proofs.Theory.Parts.{arities_take, arities_drop, declared_front}
 use Rattle.refusals.specs.Accepted.{Accepted}
@@ -22,10 +21,9 @@ use Rattle.refusals.proofs.Theory.Basics.{clash, not-true}
 use Rattle.refusals.proofs.Theory.Declared.{three_more, line-length, spells_at, register_spelled, function_spelled}
 use Rattle.layout_theory.specs.Layout.{without_empty_elses, print_tokens}
 use Rattle.layout_theory.proofs.Theory.Pairs.{fixed_tokens, is_fixed_token, plain_token, pass_among, Pairwise, pairs_each, Tokenwise, names_tokenwise}
-use Rattle.layout_theory.proofs.Theory.Pairs.{pairs_append, one_name_more, line_tokenwise, declarations_tokenwise, sub_tokenwise, sentence_pairs}
-use Rattle.layout_theory.proofs.Theory.SubTokens.{sub_token, lines_tokens, behind_lines, lines_length, sub_name_token, sub_spelled}
+use Rattle.layout_theory.proofs.Theory.Pairs.{line_tokenwise, sentence_pairs}
 use Rattle.layout_theory.proofs.Theory.Dropping.{order_short}
-use Rattle.layout_theory.proofs.Theory.ReadBack.{registers_spelled, functions_spelled, subs_paired}
+use Rattle.layout_theory.proofs.Theory.ReadBack.{registers_spelled, functions_spelled}
 use Rattle.layout_writer.specs.Tokens.{token_behind, IsFirst, PrintedAs}
 
 -- ---- names, and what is none
@@ -131,27 +129,11 @@ first_line w n [] a D f h = absurd (omega arith)
 first_line w n (g ∷ fs) {ns} a D f h =
     first_cons (no_name n (D.names f h)) (first_front {ks = entry_tokens (g ∷ fs) ns} _ (first_entry a D.names D.once f h))
 
--- Subs, of which one has the name k: before that stand registers, functions and subs with other names.
-module _ (rs fs ns : List ℕ) (t k : ℕ) (n : is_name k ≡ true) (X : (x : ℕ) → x < length rs → get_or rs x 0 ≡ k → ⊥)
-    (F : (f : ℕ) → f < length fs → get_or fs f 0 ≡ k → ⊥) where
-  first_sub : (us : List Sub) (cs : List ℕ) → Pairwise (λ i w. i ≡ k → ⊥) cs cs → ProperSubs us (header rs fs ns) t (length cs) → NoneTwice (sub_names us)
-      → (j : ℕ) → j < length us → get_or (sub_names us) j 0 ≡ k → FirstIn (subs_tokens rs fs ns cs us) k (sub_token rs fs ns cs us j)
-  unfolding subs_tokens NoneTwice
-  first_sub [] cs C o a j h e = absurd (omega arith)
-  first_sub (u ∷ us) cs C o a zero h e =
-      first_cons (no_name refl n) (record { within = omega arith; element = e; others = λ j l. absurd (omega arith) })
-  first_sub (u ∷ us) cs C (o, q) a (suc j) h e =
-      let size = length-map us (λ u. u.name) in
-      let other : u.name ≡ k → ⊥ = λ f. let z = a 0 (suc j) (omega arith) (omega arith) (f ∙ sym e) in omega arith in
-      first_behind (sub_tokens rs fs ns cs u)
-      (sub_tokenwise (absent_tokenwise k n) rs rs fs fs ns X F t (λ ks ws A. (no_name refl n, A)) cs cs C u other o)
-      (first_sub us (cs ++ u.name ∷ []) (pairs_append C (Pairwise.more other Pairwise.none))
-      (subst (ProperSubs us (header rs fs ns) t) (sym (one_name_more cs u.name)) q)
-      (λ i l x y f. let z = a (suc i) (suc l) (omega arith) (omega arith) f in omega arith) j (omega arith) e)
-
 -- The tokens of a macro behind `vars`.
 abbrev behind_vars : Macro → List ℕ
-behind_vars m = m.registers ++ word.semicolon_key ∷ (declaration_tokens m.functions m.arities m.first_test ++ behind_lines m)
+behind_vars m =
+    m.registers ++ word.semicolon_key
+    ∷ (declaration_tokens m.functions m.arities m.first_test ++ block_tokens m.registers m.functions m.arities m.body)
 
 module _ (m : Macro) (O : InOrder m) where
   first-register : (x : ℕ) → x < length m.registers → FirstIn (behind_vars m) (get_or m.registers x 0) x
@@ -197,26 +179,6 @@ module _ (m : Macro) (O : InOrder m) where
       let z = O.functions.once i f (omega arith) h (sym (get_or-take t fs i 0 (omega arith)) ∙ e) in absurd (omega arith)))
       (subst (λ k. FirstIn (line_tokens word.tests_key (drop t fs) (drop t m.arities)) k (suc (entry_length * (f - t)))) name
       (first_line word.tests_key refl (drop t fs) (arities_drop t O.arities) (declared_behind t fs O.tests O.functions) (f - t) (omega arith)))))
-
-  -- behind the lines, whose names are others
-  first_sub_name : (j : ℕ) → j < length m.subs
-      → FirstIn (behind_vars m) (get_or (sub_names m.subs) j 0)
-      (length (lines_tokens m) + sub_token m.registers m.functions m.arities [] m.subs j)
-  unfolding Disjoint NoneTwice
-  first_sub_name j h =
-      let rs = m.registers in let fs = m.functions in let ns = m.arities in let t = m.first_test in let us = m.subs in
-      let k = get_or (sub_names us) j 0 in
-      let i = sub_token rs fs ns [] us j in
-      let l : j < length (sub_names us) = omega (arith, length-map us (λ u. u.name)) in
-      let name = O.subs.names j l in
-      let X : (x : ℕ) → x < length rs → get_or rs x 0 ≡ k → ⊥ = λ x g. O.subs_apart.0 x j g l in
-      let F : (f : ℕ) → f < length fs → get_or fs f 0 ≡ k → ⊥ = λ f g. O.subs_apart.1 f j g l in
-      let T = absent_tokenwise k name in
-      let lines : AbsentFrom k (lines_tokens m) = absent_append k rs _ (names_tokenwise T (pairs_each _ rs rs refl X))
-      (no_name refl name, declarations_tokenwise T fs fs ns t O.arities (pairs_each _ fs fs refl F)) in
-      subst (λ ks. FirstIn ks k (length (lines_tokens m) + i)) (append_assoc rs (word.semicolon_key ∷ declaration_tokens fs ns t) (behind_lines m))
-      (first_behind (lines_tokens m) lines
-      (first_front _ (first_sub rs fs ns t k name X F us [] Pairwise.none O.sub_uses O.subs.once j h refl)))
 
 -- ---- in a text
 
@@ -287,22 +249,8 @@ module _ (s : List ℕ) (m : Macro) (A : Accepted s m) where
       later : (n l k : ℕ) → first_register + (n + suc (l + suc k)) ≡ first_function n + l + k
       later n l k = omega arith
 
-  sub_only : (j : ℕ) → j < length m.subs → OnlyPrintedAs s (get_or (sub_names m.subs) j 0) (get_or (sub_spellings m.subs) j 0)
-  sub_only j h =
-      let O = A.in_order in
-      let i = sub_token m.registers m.functions m.arities [] m.subs j in
-      let place : first_register + (length (lines_tokens m) + i) ≡ sub_name_token m O.arities O.tests j =
-      omega (arith, lines_length m O.arities O.tests) in
-      record {
-        only = λ r P.
-            (P.name (O.subs.names j (omega (arith, length-map m.subs (λ u. u.name))))).first (length (lines_tokens m) + i)
-            (is_first s declaring (first_sub_name m O j h))
-            ∙ spelled_there (length (lines_tokens m) + i) (sub_name_token m O.arities O.tests j) place
-            ∙ sub_spelled m O.arities O.tests s A.spelled j h;
-      }
-
   pub tokens_printed : Pairwise (OnlyPrintedAs s) (sentence (without_empty_elses m)) (print_tokens m)
   tokens_printed = sentence_pairs (OnlyPrintedAs s) (λ k t. record { only = λ r P. P.other (fixed_no_name k t) }) (without_empty_elses m)
       (order_short m A.in_order)
       (registers_spelled s m A) (functions_spelled s m A)
-      register_only function_only (subs_paired s m A (OnlyPrintedAs s) sub_only)
+      register_only function_only

@@ -72,12 +72,6 @@ lettered_refused f h (reading.got a e) k r n p i j = let z : ◌≡◌ {A = ℕ}
 lettered_refused f h (reading.refused m o) k r n p i j = i
 lettered_refused f h reading.exhausted k r n p i j = i
 
-pub answer_refused : {A B : Type 0} (f : A → ℕ) (h : B → ℕ) (g : reading.Got A) (k : A → ℕ → reading.Got B) (r : GotNumber) (n p : ℕ)
-    → r ≡ coded f g → r ≡ Refused n p → r ≡ coded h (reading.and_then g k)
-answer_refused f h (reading.got a e) k r n p i j = let z : ◌≡◌ {A = ℕ} 0 1 = cc in absurd (omega arith)
-answer_refused f h (reading.refused m o) k r n p i j = i
-answer_refused f h reading.exhausted k r n p i j = i
-
 -- a place that is used lies within its bounds
 pub use_below : (l : List ℕ) (from to : ℕ) (t : Token) (r : GotNumber) (i e : ℕ) → r ≡ plain (reading.use_between l from to t) → r ≡ At i e → i < to
 use_below l from to t r i e =

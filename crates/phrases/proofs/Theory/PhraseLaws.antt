@@ -1,8 +1,7 @@
 -- The returns of the readers of phrases, each by a law.
 use mathlib.Core.Path.{◌≡◌, refl, ap, ◌∙◌}
 use mathlib.Core.Bool.{Bool, true, false}
-use Prim.Native.Nat.{ℕ, ◌<◌}
-use native.Mathlib.Omega.{arith}
+use Prim.Native.Nat.{ℕ}
 use mathlib.Core.List.{List}
 use lib.Dec.{eqb}
 use lib.ListN.{length, get_or}
@@ -12,75 +11,21 @@ use Rattle.letters.specs.declared.Letter.{Letter}
 use Rattle.letters.specs.declared.Letter.TheVariants.{Copy, Apply}
 use Rattle.tokens.specs.declared.Token.{Token}
 use Rattle.tokens.specs.Tokens.{token_at}
-use Rattle.tokens.specs.Words.{is_name}
 use Rattle.tokens.specs.Words as word
 use Rattle.grammar.specs.Tree.{letter_of, apply}
 use Rattle.grammar.specs.Tree as written
 use Rattle.grammar.specs.Expanded.{truth_register}
 use Rattle.grammar.specs.Reading as reading
-use Rattle.grammar.proofs.Theory.Sound.{onward_got, pick_case, got_value, use_sound}
-use Rattle.grammar.proofs.Theory.Enough.{IsAnswer, expect_answers}
 use Rattle.phrases.specs.Codes.{coded, plain, without_value, lettered, same_letter, carried, letter_then, kind, comparing, condition_by, second_at, call_at}
-use Rattle.phrases.specs.Codes.{test_of, asked, as_comparison, as_named, unequal_sign, equal_sign, ended_use}
+use Rattle.phrases.specs.Codes.{test_of, asked, as_comparison, as_named, unequal_sign, equal_sign}
 use Rattle.phrases.proofs.Theory.Answers.{coded_at, lettered_at, coded_refused, lettered_refused, compared_test, asked_compared, asked_named}
-use Rattle.phrases.proofs.Theory.Answers.{answer_refused, asked_refused, asked_then_compared, asked_then_named}
+use Rattle.phrases.proofs.Theory.Answers.{asked_refused, asked_then_compared, asked_then_named}
 use Rattle.phrases.specs.declared.GotNumber.{GotNumber}
 use Rattle.phrases.specs.declared.GotNumber.TheVariants.{At, Refused}
 use Rattle.phrases.specs.declared.GotLetter.{GotLetter}
 use Rattle.phrases.specs.declared.GotLetter.TheVariants as letter
 use Rattle.phrases.specs.declared.GotCondition.{GotCondition}
 use Rattle.phrases.specs.declared.GotCondition.TheVariants as condition
-
--- ---- a use and `;`
-
-module _ (s cs : List ℕ) (at : ℕ) (t : Token) (e₁ : t ≡ token_at s at) (r : GotNumber) (g₁ : r ≡ plain (reading.use_t cs t)) where
-  pub ended_unknown : (n p : ℕ) → r ≡ Refused n p → r ≡ plain (ended_use s cs at)
-  unfolding ended_use
-  ended_unknown n p h = rw (← e₁) (answer_refused (λ n. n) (λ n. n) (reading.use_t cs t) _ r n p g₁ h)
-
-  module _ (i a : ℕ) (h₁ : r ≡ At i a) (o : GotNumber) (g₂ : o ≡ without_value (reading.expect s word.semicolon_key a)) where
-    pub ended_open : (n p : ℕ) → o ≡ Refused n p → o ≡ plain (ended_use s cs at)
-    unfolding ended_use
-    ended_open n p h =
-        let (j, g, q) = coded_at (λ n. n) (reading.use_t cs t) r i a g₁ h₁ in
-        rw (← e₁, g) (answer_refused (λ _. 0) (λ n. n) (reading.expect s word.semicolon_key a) _ o n p g₂ h)
-
-    pub ended_read : (v e : ℕ) → o ≡ At v e → At i e ≡ plain (ended_use s cs at)
-    unfolding ended_use
-    ended_read v e h =
-        let (j, g, q) = coded_at (λ n. n) (reading.use_t cs t) r i a g₁ h₁ in
-        let (k, m, l) = coded_at (λ _. 0) (reading.expect s word.semicolon_key a) o v e g₂ h in
-        rw (← e₁, g, m) (ap (λ z. At z e) q)
-
--- such a use is one of the list's
-pub ended_below : (s cs : List ℕ) (at : ℕ) (r : GotNumber) (i e : ℕ) → r ≡ plain (ended_use s cs at) → r ≡ At i e → i < length cs
-unfolding ended_use
-ended_below s cs at r i e g h =
-    let (j, k, q) = coded_at (λ n. n) (ended_use s cs at) r i e g h in
-    let (v, a, u, w) = onward_got (reading.use_t cs (token_at s at)) _ j e k in
-    let (_, _, _, x) = onward_got (reading.expect s word.semicolon_key a) _ j e w in
-    omega (arith, (use_sound s cs at v a u).0, got_value x)
-
-pub ended_answers : (s cs : List ℕ) (at : ℕ) → IsAnswer (ended_use s cs at)
-unfolding ended_use
-ended_answers s cs at = go (reading.use_t cs (token_at s at)) known
-  where
-    known : IsAnswer (reading.use_t cs (token_at s at))
-    known h =
-        pick_case (is_name (token_at s at).key) _ _ _ h
-        (λ _ g. pick_case (reading.is_declared (token_at s at).key cs) _ _ _ g (λ _ f. (let z : ◌≡◌ {A = ℕ} 0 1 = cc in omega arith))
-        λ _ f. (let z : ◌≡◌ {A = ℕ} 0 1 = cc in omega arith))
-        λ _ g. (let z : ◌≡◌ {A = ℕ} 0 1 = cc in omega arith)
-
-    closed : (i : ℕ) (x : reading.Got (Unit {0})) → IsAnswer x → IsAnswer (reading.and_then x λ _ e. reading.got i e)
-    closed i (reading.got u e) a h = let z : ◌≡◌ {A = ℕ} 0 1 = cc in omega arith
-    closed i (reading.refused n p) a h = let z : ◌≡◌ {A = ℕ} 0 1 = cc in omega arith
-    closed i reading.exhausted a h = a refl
-
-    go : (g : reading.Got ℕ) → IsAnswer g → IsAnswer (reading.and_then g λ i e. reading.ended s word.semicolon_key i e)
-    go (reading.got i e) a h = closed i (reading.expect s word.semicolon_key e) (expect_answers s word.semicolon_key e) h
-    go (reading.refused n p) a h = let z : ◌≡◌ {A = ℕ} 0 1 = cc in omega arith
-    go reading.exhausted a h = a refl
 
 -- ---- a comparison
 

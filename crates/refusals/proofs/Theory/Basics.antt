@@ -27,14 +27,6 @@ pub or_case : (a b : Bool) → a || b ≡ true → (a ≡ true) ⊎ (b ≡ true)
 or_case true b h = inl refl
 or_case false b h = inr h
 
-pub or_second : (a b : Bool) → a ≡ false → a || b ≡ true → b ≡ true
-or_second true b h g = absurd (clash refl h)
-or_second false b h g = g
-
-pub or_first : (a b : Bool) → b ≡ false → a || b ≡ true → a ≡ true
-or_first true b h g = refl
-or_first false b h g = absurd (clash g h)
-
 pub and_false : (a : Bool) → a && false ≡ false
 and_false true = refl
 and_false false = refl

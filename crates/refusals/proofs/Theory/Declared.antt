@@ -12,10 +12,8 @@ use borrow.Author.Tests.{ltb-true, ltb-false, ne_eqb}
 use Rattle.base.proofs.Theory.Choice.{by_test}
 use Rattle.tokens.specs.Tokens.{token_at, place_behind, place_of, spellings}
 use Rattle.tokens.proofs.Theory.TokensLaws.{behind_both, spellings_length, spelling_at}
-use Rattle.grammar.specs.Tree.{Sub}
-use Rattle.grammar.specs.Grammar.{Macro, sentence, entry_tokens, line_tokens, sub_names, sub_spellings, sub_tokens, subs_tokens}
+use Rattle.grammar.specs.Grammar.{Macro, sentence, entry_tokens, line_tokens}
 use Rattle.grammar.specs.Spelled.{Spells, Spelled, Arities, first_register, first_function, first_test_token, entry_length, line_length, function_token}
-use Rattle.grammar.specs.Spelled.{before_sub_name, first_sub_token, spelled_subs}
 use Rattle.grammar.proofs.Theory.Parts.{arities_take, arities_drop}
 use Rattle.tokens.specs.Words as word
 
@@ -66,37 +64,7 @@ line-length j (g ∷ fs) {ns} a =
     let e : eqb (suc (length fs)) 0 ≡ false = ne_eqb (suc (length fs)) 0 (λ z. omega arith) in
     rw e (omega (arith, entries_length a))
 
--- ---- subs
-
-module _ (rs fs ns : List ℕ) where
-  -- The token that declares sub i of the subs us, numbered from the first of their tokens; cs are the names of the subs above.
-  unfoldable pub sub_token : List ℕ → List Sub → ℕ → ℕ
-  sub_token cs [] i = 0
-  sub_token cs (u ∷ us) zero = before_sub_name
-  sub_token cs (u ∷ us) (suc i) = length (sub_tokens rs fs ns cs u) + sub_token (cs ++ u.name ∷ []) us i
-
-  pub sub_held : (cs : List ℕ) (us : List Sub) (i : ℕ) → i < length us → Holds (subs_tokens rs fs ns cs us) (sub_token cs us i) (get_or (sub_names us) i 0)
-  unfolding subs_tokens sub_token
-  sub_held cs [] i h = absurd (omega arith)
-  sub_held cs (u ∷ us) zero h = record { within = omega arith; element = refl }
-  sub_held cs (u ∷ us) (suc i) h = held_behind (sub_tokens rs fs ns cs u) _ _ _ (sub_held (cs ++ u.name ∷ []) us i (omega arith))
-
-  pub sub_spelled_at : (s cs : List ℕ) (at : ℕ) (us : List Sub) (i : ℕ) → i < length us
-      → (token_at s (place_behind s at (sub_token cs us i))).spelling ≡ get_or (spelled_subs s rs fs ns cs at us) i 0
-  unfolding spelled_subs sub_token
-  sub_spelled_at s cs at [] i h = absurd (omega arith)
-  sub_spelled_at s cs at (u ∷ us) zero h = refl
-  sub_spelled_at s cs at (u ∷ us) (suc i) h =
-      let n = length (sub_tokens rs fs ns cs u) in
-      ap (λ p. (token_at s p).spelling) (sym (behind_both s at n (sub_token (cs ++ u.name ∷ []) us i)))
-      ∙ sub_spelled_at s (cs ++ u.name ∷ []) (place_behind s at n) us i (omega arith)
-
 -- ---- the sentence of a macro
-
--- the token that declares sub i of a macro
-abbrev pub sub_token_of : Macro → ℕ → ℕ
-sub_token_of m i = first_sub_token (length m.registers) m.first_test (length m.functions)
-    + sub_token m.registers m.functions m.arities [] m.subs i
 
 module _ (m : Macro) where
   pub register_held : (r : ℕ) → r < length m.registers → Holds (sentence m) (first_register + r) (get_or m.registers r 0)
@@ -148,24 +116,6 @@ module _ (m : Macro) where
       by_test (ltb f m.first_test) (λ t. rw t (function_before a f h (ltb-true f m.first_test t)))
       λ t. rw t (test_behind a f h (ltb-false f m.first_test t))
 
-  -- sub i stands behind both lines
-  pub named_sub_held : Arities m.functions m.arities → m.first_test ≤ length m.functions → (i : ℕ) → i < length m.subs
-      → Holds (sentence m) (sub_token_of m i) (get_or (sub_names m.subs) i 0)
-  unfolding sentence
-  named_sub_held a w i h =
-      let t = m.first_test in
-      let L = line_tokens word.funs_key (take t m.functions) (take t m.arities) in
-      let D = line_tokens word.tests_key (drop t m.functions) (drop t m.arities) in
-      let n : length L ≡ line_length t = line-length word.funs_key (take t m.functions) (arities_take t a)
-      ∙ ap line_length (length-take-le t m.functions w) in
-      let k : length D ≡ line_length (length m.functions - t) = line-length word.tests_key (drop t m.functions) (arities_drop t a)
-      ∙ ap line_length (length-drop t m.functions) in
-      let c = length-append L D in
-      let j = sub_token m.registers m.functions m.arities [] m.subs i in
-      rw (let e : sub_token_of m i ≡ suc (length m.registers + suc (length (L ++ D) + j)) = omega arith in e)
-      (held_cons _ (held_behind m.registers _ (suc (length (L ++ D) + j)) _ (held_cons _ (held_behind (L ++ D) _ _ _ (held_before _ _ _ _
-      (sub_held m.registers m.functions m.arities [] m.subs i h))))))
-
 -- ---- token i of a text
 
 pub spells_at : (s : List ℕ) {at e : ℕ} {ks : List ℕ} → Spells s at ks e → (i k : ℕ) → Holds ks i k → (token_at s (place_behind s at i)).key ≡ k
@@ -215,15 +165,3 @@ module _ (text : List ℕ) (m : Macro) (S : Spelled text m) where
       let e : f ≡ length A + (f - t) = omega arith in
       rw u (spelled_at text (first_test_token n t) entry_length (length m.functions - t) {names = B} refl (f - t) (omega arith)
       ∙ sym (get_or-append-add A B (f - t) 0) ∙ ap (λ g. get_or (A ++ B) g 0) (sym e) ∙ ap (λ l. get_or l f 0) (sym S.function_spellings))
-
-  -- and sub i by the token behind its word `sub`
-  pub sub_declared : Arities m.functions m.arities → m.first_test ≤ length m.functions → (i : ℕ) → i < length m.subs
-      → (token_at text (place_of text (sub_token_of m i))).key ≡ get_or (sub_names m.subs) i 0
-  sub_declared a w i h = spells_at text S.tokens (sub_token_of m i) _ (named_sub_held m a w i h)
-
-  pub sub_spelled : (i : ℕ) → i < length m.subs → (token_at text (place_of text (sub_token_of m i))).spelling ≡ get_or (sub_spellings m.subs) i 0
-  sub_spelled i h =
-      let n = first_sub_token (length m.registers) m.first_test (length m.functions) in
-      ap (λ p. (token_at text p).spelling) (sym (behind_both text 0 n (sub_token m.registers m.functions m.arities [] m.subs i)))
-      ∙ sub_spelled_at m.registers m.functions m.arities text [] (place_of text n) m.subs i h
-      ∙ ap (λ l. get_or l i 0) (sym S.sub_spellings)

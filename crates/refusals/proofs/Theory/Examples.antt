@@ -5,12 +5,11 @@ use mathlib.Core.List.{List, [], ◌∷◌}
 use Rattle.macros.specs.Points.{size_statement, size_block}
 use Rattle.tokens.specs.Bytes.{gap, name_length, width}
 use Rattle.tokens.specs.Tokens.{token_at, spellings}
-use Rattle.grammar.specs.Tree.{equal, unequal, holds, fails, copy, apply, assign, assume, assert, while, call, Block, empty, ◌then◌}
-use Rattle.grammar.specs.Inlined.{inlined_block, inlined_bodies}
+use Rattle.grammar.specs.Tree.{equal, unequal, holds, fails, apply, assign, assume, assert, while, Block, empty, ◌then◌}
 use Rattle.grammar.specs.Expanded.{expanded_block}
 use Rattle.grammar.specs.Grammar.{Macro}
 use Rattle.grammar.specs.Reading.{got, Got, index_of, comparison, arguments_t, applied, named_test, condition, ended_condition, right_hand_side, assignment, block}
-use Rattle.grammar.specs.Reading.{called, sub_t, subs_from, register_names, arity_of, entries}
+use Rattle.grammar.specs.Reading.{register_names, arity_of, entries}
 use Rattle.grammar.proofs.Theory.Reading.{read_text, read_macro}
 use Rattle.grammar.specs.Spelled.{Spelled, InOrder}
 use Rattle.grammar.proofs.Theory.Whole.{read_sound}
@@ -30,14 +29,13 @@ searched = record {
   function_spellings = 110 ∷ [];
   arities = 1 ∷ [];
   first_test = 1;
-  subs = [];
   body =
       while (unequal 0 1) (assign (apply 0 0 0 0) then empty) then assert (equal 0 1) then empty;
 }
 
 pub loop_read : read_macro loop ≡ got searched 61
-unfolding loop searched read_macro read_text token_at gap width name_length spellings register_names index_of entries arity_of subs_from sub_t called block condition
-    comparison applied ended_condition assignment right_hand_side arguments_t inlined_block inlined_bodies expanded_block size_statement
+unfolding loop searched read_macro read_text token_at gap width name_length spellings register_names index_of entries arity_of block condition comparison applied
+    ended_condition assignment right_hand_side arguments_t expanded_block size_statement
 loop_read = refl
 
 -- so this text spells that macro, and it is in order
@@ -49,32 +47,32 @@ loop_in_order = (read_sound loop searched _ loop_read).2
 
 -- `vars a b a;`
 pub twice_refused : read_macro (118 ∷ 97 ∷ 114 ∷ 115 ∷ 32 ∷ 97 ∷ 32 ∷ 98 ∷ 32 ∷ 97 ∷ 59 ∷ []) ≡ Got.refused 10 9
-unfolding read_macro read_text token_at gap width name_length register_names index_of entries arity_of subs_from sub_t called block condition named_test comparison
-    applied ended_condition assignment right_hand_side arguments_t
+unfolding read_macro read_text token_at gap width name_length register_names index_of entries arity_of block condition named_test comparison applied ended_condition
+    assignment right_hand_side arguments_t
 twice_refused = refl
 
 -- `vars a; a := b;`
 pub undeclared_refused : read_macro (118 ∷ 97 ∷ 114 ∷ 115 ∷ 32 ∷ 97 ∷ 59 ∷ 32 ∷ 97 ∷ 32 ∷ 58 ∷ 61 ∷ 32 ∷ 98 ∷ 59 ∷ []) ≡ Got.refused 11 13
-unfolding read_macro read_text token_at gap width name_length register_names index_of entries arity_of subs_from sub_t called block condition named_test comparison
-    applied ended_condition assignment right_hand_side arguments_t
+unfolding read_macro read_text token_at gap width name_length register_names index_of entries arity_of block condition named_test comparison applied ended_condition
+    assignment right_hand_side arguments_t
 undeclared_refused = refl
 
 -- `vars a; a == a;`
 pub unfit_refused : read_macro (118 ∷ 97 ∷ 114 ∷ 115 ∷ 32 ∷ 97 ∷ 59 ∷ 32 ∷ 97 ∷ 32 ∷ 61 ∷ 61 ∷ 32 ∷ 97 ∷ 59 ∷ []) ≡ Got.refused 9 10
-unfolding read_macro read_text token_at gap width name_length register_names index_of entries arity_of subs_from sub_t called block condition named_test comparison
-    applied ended_condition assignment right_hand_side arguments_t
+unfolding read_macro read_text token_at gap width name_length register_names index_of entries arity_of block condition named_test comparison applied ended_condition
+    assignment right_hand_side arguments_t
 unfit_refused = refl
 
 -- `vars a; a : = a;`
 pub wrong_refused : read_macro (118 ∷ 97 ∷ 114 ∷ 115 ∷ 32 ∷ 97 ∷ 59 ∷ 32 ∷ 97 ∷ 32 ∷ 58 ∷ 32 ∷ 61 ∷ 32 ∷ 97 ∷ 59 ∷ []) ≡ Got.refused 8 10
-unfolding read_macro read_text token_at gap width name_length register_names index_of entries arity_of subs_from sub_t called block condition named_test comparison
-    applied ended_condition assignment right_hand_side arguments_t
+unfolding read_macro read_text token_at gap width name_length register_names index_of entries arity_of block condition named_test comparison applied ended_condition
+    assignment right_hand_side arguments_t
 wrong_refused = refl
 
 -- `vars a; a :=`
 pub short_refused : read_macro (118 ∷ 97 ∷ 114 ∷ 115 ∷ 32 ∷ 97 ∷ 59 ∷ 32 ∷ 97 ∷ 32 ∷ 58 ∷ 61 ∷ []) ≡ Got.refused 9 12
-unfolding read_macro read_text token_at gap width name_length register_names index_of entries arity_of subs_from sub_t called block condition named_test comparison
-    applied ended_condition assignment right_hand_side arguments_t
+unfolding read_macro read_text token_at gap width name_length register_names index_of entries arity_of block condition named_test comparison applied ended_condition
+    assignment right_hand_side arguments_t
 short_refused = refl
 
 -- ---- tests (document 02, request 4)
@@ -85,148 +83,148 @@ hot_then text = 118 ∷ 97 ∷ 114 ∷ 115 ∷ 32 ∷ 120 ∷ 59 ∷ 32 ∷ 116 
 
 -- `vars result;`
 pub word_for_a_register_refused : read_macro (118 ∷ 97 ∷ 114 ∷ 115 ∷ 32 ∷ 114 ∷ 101 ∷ 115 ∷ 117 ∷ 108 ∷ 116 ∷ 59 ∷ []) ≡ Got.refused 9 5
-unfolding read_macro read_text token_at gap width name_length register_names index_of entries arity_of subs_from sub_t called block condition named_test comparison
-    applied ended_condition assignment right_hand_side arguments_t
+unfolding read_macro read_text token_at gap width name_length register_names index_of entries arity_of block condition named_test comparison applied ended_condition
+    assignment right_hand_side arguments_t
 word_for_a_register_refused = refl
 
 -- `vars x Truth;`
 pub truth_for_a_register_refused : read_macro (118 ∷ 97 ∷ 114 ∷ 115 ∷ 32 ∷ 120 ∷ 32 ∷ 84 ∷ 114 ∷ 117 ∷ 116 ∷ 104 ∷ 59 ∷ []) ≡ Got.refused 9 7
-unfolding read_macro read_text token_at gap width name_length register_names index_of entries arity_of subs_from sub_t called block condition named_test comparison
-    applied ended_condition assignment right_hand_side arguments_t
+unfolding read_macro read_text token_at gap width name_length register_names index_of entries arity_of block condition named_test comparison applied ended_condition
+    assignment right_hand_side arguments_t
 truth_for_a_register_refused = refl
 
 -- `vars x; tests hot/1; funs f/1;`
 pub tests_before_functions_refused : read_macro (hot_then (102 ∷ 117 ∷ 110 ∷ 115 ∷ 32 ∷ 102 ∷ 47 ∷ 49 ∷ 59 ∷ [])) ≡ Got.refused 9 21
-unfolding read_macro read_text token_at gap width name_length register_names index_of entries arity_of subs_from sub_t called block condition named_test comparison
-    applied ended_condition assignment right_hand_side arguments_t
+unfolding read_macro read_text token_at gap width name_length register_names index_of entries arity_of block condition named_test comparison applied ended_condition
+    assignment right_hand_side arguments_t
 tests_before_functions_refused = refl
 
 -- `vars x; tests hot/1; tests warm/1;`
 pub tests_twice_refused : read_macro (hot_then (116 ∷ 101 ∷ 115 ∷ 116 ∷ 115 ∷ 32 ∷ 119 ∷ 97 ∷ 114 ∷ 109 ∷ 47 ∷ 49 ∷ 59 ∷ [])) ≡ Got.refused 9 21
-unfolding read_macro read_text token_at gap width name_length register_names index_of entries arity_of subs_from sub_t called block condition named_test comparison
-    applied ended_condition assignment right_hand_side arguments_t
+unfolding read_macro read_text token_at gap width name_length register_names index_of entries arity_of block condition named_test comparison applied ended_condition
+    assignment right_hand_side arguments_t
 tests_twice_refused = refl
 
 -- 16 is asked at the word, before what is behind it
 -- `vars a b c d e f g; tests ;`
 pub no_room_refused : read_macro (118 ∷ 97 ∷ 114 ∷ 115 ∷ 32 ∷ 97 ∷ 32 ∷ 98 ∷ 32 ∷ 99 ∷ 32 ∷ 100 ∷ 32 ∷ 101 ∷ 32 ∷ 102 ∷ 32 ∷ 103 ∷ 59 ∷ 32 ∷ 116 ∷ 101 ∷ 115 ∷
     116 ∷ 115 ∷ 32 ∷ 59 ∷ []) ≡ Got.refused 16 20
-unfolding read_macro read_text token_at gap width name_length register_names index_of entries arity_of subs_from sub_t called block condition named_test comparison
-    applied ended_condition assignment right_hand_side arguments_t
+unfolding read_macro read_text token_at gap width name_length register_names index_of entries arity_of block condition named_test comparison applied ended_condition
+    assignment right_hand_side arguments_t
 no_room_refused = refl
 
 -- and not where the word does not fit
 -- `vars a b c d e f g; skip; tests hot/1;`
 pub tests_behind_a_statement_refused : read_macro (118 ∷ 97 ∷ 114 ∷ 115 ∷ 32 ∷ 97 ∷ 32 ∷ 98 ∷ 32 ∷ 99 ∷ 32 ∷ 100 ∷ 32 ∷ 101 ∷ 32 ∷ 102 ∷ 32 ∷ 103 ∷ 59 ∷ 32 ∷
     115 ∷ 107 ∷ 105 ∷ 112 ∷ 59 ∷ 32 ∷ 116 ∷ 101 ∷ 115 ∷ 116 ∷ 115 ∷ 32 ∷ 104 ∷ 111 ∷ 116 ∷ 47 ∷ 49 ∷ 59 ∷ []) ≡ Got.refused 9 26
-unfolding read_macro read_text token_at gap width name_length register_names index_of entries arity_of subs_from sub_t called block condition named_test comparison
-    applied ended_condition assignment right_hand_side arguments_t
+unfolding read_macro read_text token_at gap width name_length register_names index_of entries arity_of block condition named_test comparison applied ended_condition
+    assignment right_hand_side arguments_t
 tests_behind_a_statement_refused = refl
 
 -- `vars x; funs a/1 b/1 c/1; tests hot/1 warm/2;`
 pub five_functions_refused : read_macro (118 ∷ 97 ∷ 114 ∷ 115 ∷ 32 ∷ 120 ∷ 59 ∷ 32 ∷ 102 ∷ 117 ∷ 110 ∷ 115 ∷ 32 ∷ 97 ∷ 47 ∷ 49 ∷ 32 ∷ 98 ∷ 47 ∷ 49 ∷ 32 ∷ 99 ∷
     47 ∷ 49 ∷ 59 ∷ 32 ∷ 116 ∷ 101 ∷ 115 ∷ 116 ∷ 115 ∷ 32 ∷ 104 ∷ 111 ∷ 116 ∷ 47 ∷ 49 ∷ 32 ∷ 119 ∷ 97 ∷ 114 ∷ 109 ∷ 47 ∷ 50 ∷ 59 ∷ []) ≡ Got.refused 10 38
-unfolding read_macro read_text token_at gap width name_length register_names index_of entries arity_of subs_from sub_t called block condition named_test comparison
-    applied ended_condition assignment right_hand_side arguments_t
+unfolding read_macro read_text token_at gap width name_length register_names index_of entries arity_of block condition named_test comparison applied ended_condition
+    assignment right_hand_side arguments_t
 five_functions_refused = refl
 
 -- `vars x; tests X/1;`
 pub test_as_a_register_refused : read_macro (118 ∷ 97 ∷ 114 ∷ 115 ∷ 32 ∷ 120 ∷ 59 ∷ 32 ∷ 116 ∷ 101 ∷ 115 ∷ 116 ∷ 115 ∷ 32 ∷ 88 ∷ 47 ∷ 49 ∷ 59 ∷
     []) ≡ Got.refused 10 14
-unfolding read_macro read_text token_at gap width name_length register_names index_of entries arity_of subs_from sub_t called block condition named_test comparison
-    applied ended_condition assignment right_hand_side arguments_t
+unfolding read_macro read_text token_at gap width name_length register_names index_of entries arity_of block condition named_test comparison applied ended_condition
+    assignment right_hand_side arguments_t
 test_as_a_register_refused = refl
 
 -- `vars x; if x(x) {}`
 pub no_test_declared_refused : read_macro (118 ∷ 97 ∷ 114 ∷ 115 ∷ 32 ∷ 120 ∷ 59 ∷ 32 ∷ 105 ∷ 102 ∷ 32 ∷ 120 ∷ 40 ∷ 120 ∷ 41 ∷ 32 ∷ 123 ∷ 125 ∷
     []) ≡ Got.refused 11 11
-unfolding read_macro read_text token_at gap width name_length register_names index_of entries arity_of subs_from sub_t called block condition named_test comparison
-    applied ended_condition assignment right_hand_side arguments_t
+unfolding read_macro read_text token_at gap width name_length register_names index_of entries arity_of block condition named_test comparison applied ended_condition
+    assignment right_hand_side arguments_t
 no_test_declared_refused = refl
 
 -- `vars x; assume x ! = x;`
 pub sign_apart_refused : read_macro (118 ∷ 97 ∷ 114 ∷ 115 ∷ 32 ∷ 120 ∷ 59 ∷ 32 ∷ 97 ∷ 115 ∷ 115 ∷ 117 ∷ 109 ∷ 101 ∷ 32 ∷ 120 ∷ 32 ∷ 33 ∷ 32 ∷ 61 ∷ 32 ∷ 120 ∷
     59 ∷ []) ≡ Got.refused 9 17
-unfolding read_macro read_text token_at gap width name_length register_names index_of entries arity_of subs_from sub_t called block condition named_test comparison
-    applied ended_condition assignment right_hand_side arguments_t
+unfolding read_macro read_text token_at gap width name_length register_names index_of entries arity_of block condition named_test comparison applied ended_condition
+    assignment right_hand_side arguments_t
 sign_apart_refused = refl
 
 -- `vars x; tests hot/1; if !x = x {}`
 pub register_behind_negation_refused : read_macro (hot_then (105 ∷ 102 ∷ 32 ∷ 33 ∷ 120 ∷ 32 ∷ 61 ∷ 32 ∷ 120 ∷ 32 ∷ 123 ∷ 125 ∷ [])) ≡ Got.refused 11 25
-unfolding read_macro read_text token_at gap width name_length register_names index_of entries arity_of subs_from sub_t called block condition named_test comparison
-    applied ended_condition assignment right_hand_side arguments_t
+unfolding read_macro read_text token_at gap width name_length register_names index_of entries arity_of block condition named_test comparison applied ended_condition
+    assignment right_hand_side arguments_t
 register_behind_negation_refused = refl
 
 -- `vars x; tests hot/1; if !hot = x {}`
 pub test_without_arguments_refused : read_macro (hot_then (105 ∷ 102 ∷ 32 ∷ 33 ∷ 104 ∷ 111 ∷ 116 ∷ 32 ∷ 61 ∷ 32 ∷ 120 ∷ 32 ∷ 123 ∷ 125 ∷
     [])) ≡ Got.refused 9 29
-unfolding read_macro read_text token_at gap width name_length register_names index_of entries arity_of subs_from sub_t called block condition named_test comparison
-    applied ended_condition assignment right_hand_side arguments_t
+unfolding read_macro read_text token_at gap width name_length register_names index_of entries arity_of block condition named_test comparison applied ended_condition
+    assignment right_hand_side arguments_t
 test_without_arguments_refused = refl
 
 -- `vars x; tests hot/1; if hot = x {}`
 pub test_compared_refused : read_macro (hot_then (105 ∷ 102 ∷ 32 ∷ 104 ∷ 111 ∷ 116 ∷ 32 ∷ 61 ∷ 32 ∷ 120 ∷ 32 ∷ 123 ∷ 125 ∷ [])) ≡ Got.refused 11 24
-unfolding read_macro read_text token_at gap width name_length register_names index_of entries arity_of subs_from sub_t called block condition named_test comparison
-    applied ended_condition assignment right_hand_side arguments_t
+unfolding read_macro read_text token_at gap width name_length register_names index_of entries arity_of block condition named_test comparison applied ended_condition
+    assignment right_hand_side arguments_t
 test_compared_refused = refl
 
 -- `vars x; tests hot/1; if x = hot(x) {}`
 pub test_on_the_right_refused : read_macro (hot_then (105 ∷ 102 ∷ 32 ∷ 120 ∷ 32 ∷ 61 ∷ 32 ∷ 104 ∷ 111 ∷ 116 ∷ 40 ∷ 120 ∷ 41 ∷ 32 ∷ 123 ∷ 125 ∷
     [])) ≡ Got.refused 11 28
-unfolding read_macro read_text token_at gap width name_length register_names index_of entries arity_of subs_from sub_t called block condition named_test comparison
-    applied ended_condition assignment right_hand_side arguments_t
+unfolding read_macro read_text token_at gap width name_length register_names index_of entries arity_of block condition named_test comparison applied ended_condition
+    assignment right_hand_side arguments_t
 test_on_the_right_refused = refl
 
 -- `vars x; tests hot/1; if hot(x) = x {}`
 pub test_and_comparison_refused : read_macro (hot_then (105 ∷ 102 ∷ 32 ∷ 104 ∷ 111 ∷ 116 ∷ 40 ∷ 120 ∷ 41 ∷ 32 ∷ 61 ∷ 32 ∷ 120 ∷ 32 ∷ 123 ∷ 125 ∷
     [])) ≡ Got.refused 9 31
-unfolding read_macro read_text token_at gap width name_length register_names index_of entries arity_of subs_from sub_t called block condition named_test comparison
-    applied ended_condition assignment right_hand_side arguments_t
+unfolding read_macro read_text token_at gap width name_length register_names index_of entries arity_of block condition named_test comparison applied ended_condition
+    assignment right_hand_side arguments_t
 test_and_comparison_refused = refl
 
 -- `vars x; tests hot/1; if hot(x,x) {}`
 pub test_of_two_refused : read_macro (hot_then (105 ∷ 102 ∷ 32 ∷ 104 ∷ 111 ∷ 116 ∷ 40 ∷ 120 ∷ 44 ∷ 120 ∷ 41 ∷ 32 ∷ 123 ∷ 125 ∷ [])) ≡ Got.refused 11 29
-unfolding read_macro read_text token_at gap width name_length register_names index_of entries arity_of subs_from sub_t called block condition named_test comparison
-    applied ended_condition assignment right_hand_side arguments_t
+unfolding read_macro read_text token_at gap width name_length register_names index_of entries arity_of block condition named_test comparison applied ended_condition
+    assignment right_hand_side arguments_t
 test_of_two_refused = refl
 
 -- `vars x; tests warm/2; if warm(x) {}`
 pub test_of_one_refused : read_macro (118 ∷ 97 ∷ 114 ∷ 115 ∷ 32 ∷ 120 ∷ 59 ∷ 32 ∷ 116 ∷ 101 ∷ 115 ∷ 116 ∷ 115 ∷ 32 ∷ 119 ∷ 97 ∷ 114 ∷ 109 ∷ 47 ∷ 50 ∷ 59 ∷ 32 ∷
     105 ∷ 102 ∷ 32 ∷ 119 ∷ 97 ∷ 114 ∷ 109 ∷ 40 ∷ 120 ∷ 41 ∷ 32 ∷ 123 ∷ 125 ∷ []) ≡ Got.refused 11 31
-unfolding read_macro read_text token_at gap width name_length register_names index_of entries arity_of subs_from sub_t called block condition named_test comparison
-    applied ended_condition assignment right_hand_side arguments_t
+unfolding read_macro read_text token_at gap width name_length register_names index_of entries arity_of block condition named_test comparison applied ended_condition
+    assignment right_hand_side arguments_t
 test_of_one_refused = refl
 
 -- `vars x; tests warm/2; if warm(x,x,x) {}`
 pub third_argument_refused : read_macro (118 ∷ 97 ∷ 114 ∷ 115 ∷ 32 ∷ 120 ∷ 59 ∷ 32 ∷ 116 ∷ 101 ∷ 115 ∷ 116 ∷ 115 ∷ 32 ∷ 119 ∷ 97 ∷ 114 ∷ 109 ∷ 47 ∷ 50 ∷ 59 ∷
     32 ∷ 105 ∷ 102 ∷ 32 ∷ 119 ∷ 97 ∷ 114 ∷ 109 ∷ 40 ∷ 120 ∷ 44 ∷ 120 ∷ 44 ∷ 120 ∷ 41 ∷ 32 ∷ 123 ∷ 125 ∷ []) ≡ Got.refused 9 33
-unfolding read_macro read_text token_at gap width name_length register_names index_of entries arity_of subs_from sub_t called block condition named_test comparison
-    applied ended_condition assignment right_hand_side arguments_t
+unfolding read_macro read_text token_at gap width name_length register_names index_of entries arity_of block condition named_test comparison applied ended_condition
+    assignment right_hand_side arguments_t
 third_argument_refused = refl
 
 -- `vars x; tests hot/1; x := hot(x);`
 pub test_as_a_value_refused : read_macro (hot_then (120 ∷ 32 ∷ 58 ∷ 61 ∷ 32 ∷ 104 ∷ 111 ∷ 116 ∷ 40 ∷ 120 ∷ 41 ∷ 59 ∷ [])) ≡ Got.refused 11 26
-unfolding read_macro read_text token_at gap width name_length register_names index_of entries arity_of subs_from sub_t called block condition named_test comparison
-    applied ended_condition assignment right_hand_side arguments_t
+unfolding read_macro read_text token_at gap width name_length register_names index_of entries arity_of block condition named_test comparison applied ended_condition
+    assignment right_hand_side arguments_t
 test_as_a_value_refused = refl
 
 -- `vars x; tests hot/1; x := hot;`
 pub test_copied_refused : read_macro (hot_then (120 ∷ 32 ∷ 58 ∷ 61 ∷ 32 ∷ 104 ∷ 111 ∷ 116 ∷ 59 ∷ [])) ≡ Got.refused 11 26
-unfolding read_macro read_text token_at gap width name_length register_names index_of entries arity_of subs_from sub_t called block condition named_test comparison
-    applied ended_condition assignment right_hand_side arguments_t
+unfolding read_macro read_text token_at gap width name_length register_names index_of entries arity_of block condition named_test comparison applied ended_condition
+    assignment right_hand_side arguments_t
 test_copied_refused = refl
 
 -- `vars x; tests hot/1; hot(x);`
 pub test_as_a_target_refused : read_macro (hot_then (104 ∷ 111 ∷ 116 ∷ 40 ∷ 120 ∷ 41 ∷ 59 ∷ [])) ≡ Got.refused 11 21
-unfolding read_macro read_text token_at gap width name_length register_names index_of entries arity_of subs_from sub_t called block condition named_test comparison
-    applied ended_condition assignment right_hand_side arguments_t
+unfolding read_macro read_text token_at gap width name_length register_names index_of entries arity_of block condition named_test comparison applied ended_condition
+    assignment right_hand_side arguments_t
 test_as_a_target_refused = refl
 
 -- `vars x; tests hot/1; assert hot(hot);`
 pub test_as_an_argument_refused : read_macro (hot_then (97 ∷ 115 ∷ 115 ∷ 101 ∷ 114 ∷ 116 ∷ 32 ∷ 104 ∷ 111 ∷ 116 ∷ 40 ∷ 104 ∷ 111 ∷ 116 ∷ 41 ∷ 59 ∷
     [])) ≡ Got.refused 11 32
-unfolding read_macro read_text token_at gap width name_length register_names index_of entries arity_of subs_from sub_t called block condition named_test comparison
-    applied ended_condition assignment right_hand_side arguments_t
+unfolding read_macro read_text token_at gap width name_length register_names index_of entries arity_of block condition named_test comparison applied ended_condition
+    assignment right_hand_side arguments_t
 test_as_an_argument_refused = refl
 
 -- `vars x; tests hot/1; assert !Hot(x);`: the test is number 0, behind no function, and is spelled as it is declared
@@ -238,13 +236,12 @@ negated = record {
   function_spellings = 7630696 ∷ [];
   arities = 1 ∷ [];
   first_test = 0;
-  subs = [];
   body = assert (fails 0 0 0) then empty;
 }
 
 pub negated_read : read_macro (hot_then (97 ∷ 115 ∷ 115 ∷ 101 ∷ 114 ∷ 116 ∷ 32 ∷ 33 ∷ 72 ∷ 111 ∷ 116 ∷ 40 ∷ 120 ∷ 41 ∷ 59 ∷ [])) ≡ got negated 36
-unfolding negated read_macro read_text token_at gap width name_length spellings register_names index_of entries arity_of subs_from sub_t called block condition
-    named_test comparison applied ended_condition assignment right_hand_side arguments_t inlined_block inlined_bodies expanded_block size_statement
+unfolding negated read_macro read_text token_at gap width name_length spellings register_names index_of entries arity_of block condition named_test comparison applied
+    ended_condition assignment right_hand_side arguments_t expanded_block size_statement
 negated_read = refl
 
 -- `vars a b c d e f; tests hot/1;`: with six registers there is room
@@ -256,14 +253,12 @@ roomy = record {
   function_spellings = 7630696 ∷ [];
   arities = 1 ∷ [];
   first_test = 0;
-  subs = [];
   body = empty;
 }
 
 pub roomy_read : read_macro (118 ∷ 97 ∷ 114 ∷ 115 ∷ 32 ∷ 97 ∷ 32 ∷ 98 ∷ 32 ∷ 99 ∷ 32 ∷ 100 ∷ 32 ∷ 101 ∷ 32 ∷ 102 ∷ 59 ∷ 32 ∷ 116 ∷ 101 ∷ 115 ∷ 116 ∷ 115 ∷ 32 ∷
     104 ∷ 111 ∷ 116 ∷ 47 ∷ 49 ∷ 59 ∷ []) ≡ got roomy 30
-unfolding roomy read_macro read_text token_at gap width name_length spellings register_names index_of entries arity_of subs_from sub_t called block inlined_block
-    inlined_bodies expanded_block size_statement
+unfolding roomy read_macro read_text token_at gap width name_length spellings register_names index_of entries arity_of block expanded_block size_statement
 roomy_read = refl
 
 -- `assume hot(x);` n times: each is two points, so with 129 there are more than 256; a while is two as well
@@ -278,150 +273,3 @@ two_points = refl
 pub while_points : size_block (expanded_block 1 (while (holds 0 0 0) empty then empty)) ≡ 2
 unfolding expanded_block size_statement
 while_points = refl
-
--- ---- subs (document 02, request 7)
-
--- `vars x; sub ` and a text
-abbrev sub_then : List ℕ → List ℕ
-sub_then text = 118 ∷ 97 ∷ 114 ∷ 115 ∷ 32 ∷ 120 ∷ 59 ∷ 32 ∷ 115 ∷ 117 ∷ 98 ∷ 32 ∷ text
-
--- `vars sub;`
-pub sub_for_a_register_refused : read_macro (118 ∷ 97 ∷ 114 ∷ 115 ∷ 32 ∷ 115 ∷ 117 ∷ 98 ∷ 59 ∷ []) ≡ Got.refused 9 5
-unfolding read_macro read_text token_at gap width name_length register_names index_of entries arity_of subs_from sub_t called block condition named_test comparison
-    applied ended_condition assignment right_hand_side arguments_t
-sub_for_a_register_refused = refl
-
--- a sub may call only those above it
--- `vars x; sub a { call a; }`
-pub sub_calls_itself_refused : read_macro (sub_then (97 ∷ 32 ∷ 123 ∷ 32 ∷ 99 ∷ 97 ∷ 108 ∷ 108 ∷ 32 ∷ 97 ∷ 59 ∷ 32 ∷ 125 ∷ [])) ≡ Got.refused 11 21
-unfolding read_macro read_text token_at gap width name_length register_names index_of entries arity_of subs_from sub_t called block condition named_test comparison
-    applied ended_condition assignment right_hand_side arguments_t
-sub_calls_itself_refused = refl
-
--- `vars x; sub a { call b; } sub b { }`
-pub sub_calls_a_later_one_refused : read_macro (sub_then (97 ∷ 32 ∷ 123 ∷ 32 ∷ 99 ∷ 97 ∷ 108 ∷ 108 ∷ 32 ∷ 98 ∷ 59 ∷ 32 ∷ 125 ∷ 32 ∷ 115 ∷ 117 ∷ 98 ∷ 32 ∷ 98
-    ∷ 32 ∷ 123 ∷ 32 ∷ 125 ∷ [])) ≡ Got.refused 11 21
-unfolding read_macro read_text token_at gap width name_length register_names index_of entries arity_of subs_from sub_t called block condition named_test comparison
-    applied ended_condition assignment right_hand_side arguments_t
-sub_calls_a_later_one_refused = refl
-
--- `vars x; sub a { } call x;`
-pub register_called_refused : read_macro (sub_then (97 ∷ 32 ∷ 123 ∷ 32 ∷ 125 ∷ 32 ∷ 99 ∷ 97 ∷ 108 ∷ 108 ∷ 32 ∷ 120 ∷ 59 ∷ [])) ≡ Got.refused 11 23
-unfolding read_macro read_text token_at gap width name_length register_names index_of entries arity_of subs_from sub_t called block condition named_test comparison
-    applied ended_condition assignment right_hand_side arguments_t
-register_called_refused = refl
-
--- `vars x; sub a { } x := a;`
-pub sub_as_value_refused : read_macro (sub_then (97 ∷ 32 ∷ 123 ∷ 32 ∷ 125 ∷ 32 ∷ 120 ∷ 32 ∷ 58 ∷ 61 ∷ 32 ∷ 97 ∷ 59 ∷ [])) ≡ Got.refused 11 23
-unfolding read_macro read_text token_at gap width name_length register_names index_of entries arity_of subs_from sub_t called block condition named_test comparison
-    applied ended_condition assignment right_hand_side arguments_t
-sub_as_value_refused = refl
-
--- a name is declared once over all lists, in any case of letters
--- `vars x; sub a { } sub A { }`
-pub sub_again_refused : read_macro (sub_then (97 ∷ 32 ∷ 123 ∷ 32 ∷ 125 ∷ 32 ∷ 115 ∷ 117 ∷ 98 ∷ 32 ∷ 65 ∷ 32 ∷ 123 ∷ 32 ∷ 125 ∷ [])) ≡ Got.refused 10 22
-unfolding read_macro read_text token_at gap width name_length register_names index_of entries arity_of subs_from sub_t called block condition named_test comparison
-    applied ended_condition assignment right_hand_side arguments_t
-sub_again_refused = refl
-
--- `vars x; sub X { }`
-pub sub_named_as_register_refused : read_macro (sub_then (88 ∷ 32 ∷ 123 ∷ 32 ∷ 125 ∷ [])) ≡ Got.refused 10 12
-unfolding read_macro read_text token_at gap width name_length register_names index_of entries arity_of subs_from sub_t called block condition named_test comparison
-    applied ended_condition assignment right_hand_side arguments_t
-sub_named_as_register_refused = refl
-
--- subs stand before the statements and not in one another, without `;`
--- `vars x; sub a { } skip; sub b { }`
-pub sub_behind_a_statement_refused : read_macro (sub_then (97 ∷ 32 ∷ 123 ∷ 32 ∷ 125 ∷ 32 ∷ 115 ∷ 107 ∷ 105 ∷ 112 ∷ 59 ∷ 32 ∷ 115 ∷ 117 ∷ 98 ∷ 32 ∷ 98 ∷ 32 ∷
-    123 ∷ 32 ∷ 125 ∷ [])) ≡ Got.refused 9 24
-unfolding read_macro read_text token_at gap width name_length register_names index_of entries arity_of subs_from sub_t called block condition named_test comparison
-    applied ended_condition assignment right_hand_side arguments_t
-sub_behind_a_statement_refused = refl
-
--- `vars x; sub a { sub b { } }`
-pub sub_in_a_sub_refused : read_macro (sub_then (97 ∷ 32 ∷ 123 ∷ 32 ∷ 115 ∷ 117 ∷ 98 ∷ 32 ∷ 98 ∷ 32 ∷ 123 ∷ 32 ∷ 125 ∷ 32 ∷ 125 ∷ [])) ≡ Got.refused 9 16
-unfolding read_macro read_text token_at gap width name_length register_names index_of entries arity_of subs_from sub_t called block condition named_test comparison
-    applied ended_condition assignment right_hand_side arguments_t
-sub_in_a_sub_refused = refl
-
--- `vars x; sub a { };`
-pub sub_with_semicolon_refused : read_macro (sub_then (97 ∷ 32 ∷ 123 ∷ 32 ∷ 125 ∷ 59 ∷ [])) ≡ Got.refused 9 17
-unfolding read_macro read_text token_at gap width name_length register_names index_of entries arity_of subs_from sub_t called block condition named_test comparison
-    applied ended_condition assignment right_hand_side arguments_t
-sub_with_semicolon_refused = refl
-
--- a sub that nothing calls is asked like any other text
--- `vars x; sub a { y := x; }`
-pub use_in_a_sub_refused : read_macro (sub_then (97 ∷ 32 ∷ 123 ∷ 32 ∷ 121 ∷ 32 ∷ 58 ∷ 61 ∷ 32 ∷ 120 ∷ 59 ∷ 32 ∷ 125 ∷ [])) ≡ Got.refused 11 16
-unfolding read_macro read_text token_at gap width name_length register_names index_of entries arity_of subs_from sub_t called block condition named_test comparison
-    applied ended_condition assignment right_hand_side arguments_t
-use_in_a_sub_refused = refl
-
--- `vars x;`, then `sub a{}` to `sub h{}`, and a text
-abbrev eight_then : List ℕ → List ℕ
-eight_then text =
-    118 ∷ 97 ∷ 114 ∷ 115 ∷ 32 ∷ 120 ∷ 59 ∷ 115 ∷ 117 ∷ 98 ∷ 32 ∷ 97 ∷ 123 ∷ 125 ∷ 115 ∷ 117 ∷ 98 ∷ 32 ∷ 98 ∷ 123 ∷ 125 ∷ 115 ∷ 117 ∷ 98 ∷ 32 ∷ 99 ∷ 123 ∷ 125 ∷
-    115 ∷ 117 ∷ 98 ∷ 32 ∷ 100 ∷ 123 ∷ 125 ∷ 115 ∷ 117 ∷ 98 ∷ 32 ∷ 101 ∷ 123 ∷ 125 ∷ 115 ∷ 117 ∷ 98 ∷ 32 ∷ 102 ∷ 123 ∷ 125 ∷ 115 ∷ 117 ∷ 98 ∷ 32 ∷ 103 ∷ 123
-    ∷ 125 ∷ 115 ∷ 117 ∷ 98 ∷ 32 ∷ 104 ∷ 123 ∷ 125 ∷ text
-
--- 17 is asked at the name of a ninth sub before 10,
--- the eight and `sub A{}`
-pub ninth_sub_refused : read_macro (eight_then (115 ∷ 117 ∷ 98 ∷ 32 ∷ 65 ∷ 123 ∷ 125 ∷ [])) ≡ Got.refused 17 67
-unfolding read_macro read_text token_at gap width name_length register_names index_of entries arity_of subs_from sub_t called block condition named_test comparison
-    applied ended_condition assignment right_hand_side arguments_t
-ninth_sub_refused = refl
-
--- and behind 9
--- the eight and `sub if{}`
-pub ninth_sub_unfit_refused : read_macro (eight_then (115 ∷ 117 ∷ 98 ∷ 32 ∷ 105 ∷ 102 ∷ 123 ∷ 125 ∷ [])) ≡ Got.refused 9 67
-unfolding read_macro read_text token_at gap width name_length register_names index_of entries arity_of subs_from sub_t called block condition named_test comparison
-    applied ended_condition assignment right_hand_side arguments_t
-ninth_sub_unfit_refused = refl
-
--- braces count as the text nests them, that of the sub too
--- `if x=x{` n times
-abbrev nested_ifs : ℕ → List ℕ
-nested_ifs zero = []
-nested_ifs (suc n) = 105 ∷ 102 ∷ 32 ∷ 120 ∷ 61 ∷ 120 ∷ 123 ∷ nested_ifs n
-
--- `vars x;sub a{` and 16 of them
-pub deep_sub_refused : read_macro (118 ∷ 97 ∷ 114 ∷ 115 ∷ 32 ∷ 120 ∷ 59 ∷ 115 ∷ 117 ∷ 98 ∷ 32 ∷ 97 ∷ 123 ∷ nested_ifs 16) ≡ Got.refused 12 124
-unfolding read_macro read_text token_at gap width name_length register_names index_of entries arity_of subs_from sub_t called block condition named_test comparison
-    applied ended_condition assignment right_hand_side arguments_t
-deep_sub_refused = refl
-
--- `vars x; sub a { } CALL A;`
-unfoldable pub calling_a_sub : Macro
-calling_a_sub = record {
-  registers = 120 ∷ [];
-  register_spellings = 120 ∷ [];
-  functions = [];
-  function_spellings = [];
-  arities = [];
-  first_test = 0;
-  subs = record { name = 97; spelling = 97; body = empty } ∷ [];
-  body = call 0 then empty;
-}
-
-pub calling_a_sub_read : read_macro (sub_then (97 ∷ 32 ∷ 123 ∷ 32 ∷ 125 ∷ 32 ∷ 67 ∷ 65 ∷ 76 ∷ 76 ∷ 32 ∷ 65 ∷ 59 ∷ [])) ≡ got calling_a_sub 25
-unfolding calling_a_sub read_macro read_text token_at gap width name_length spellings register_names index_of entries arity_of subs_from sub_t called block condition
-    named_test comparison applied ended_condition assignment right_hand_side arguments_t inlined_block inlined_bodies expanded_block size_statement
-calling_a_sub_read = refl
-
--- 13 is asked of the macro with its calls replaced: a sub that nothing calls has no points, and each call has those of its own
-abbrev copied : ℕ → Block
-copied zero = empty
-copied (suc n) = assign (copy 0 0) then copied n
-
-abbrev called_times : ℕ → Block
-called_times zero = empty
-called_times (suc n) = call 0 then called_times n
-
-pub uncalled_points : size_block (expanded_block 1 (inlined_block (inlined_bodies [] (record { name = 97; spelling = 97; body = copied 300 } ∷ [])) empty)) ≡ 0
-unfolding inlined_block inlined_bodies expanded_block size_statement
-uncalled_points = refl
-
-pub called_points :
-    size_block (expanded_block 1 (inlined_block (inlined_bodies [] (record { name = 97; spelling = 97; body = copied 64 } ∷ [])) (called_times 4))) ≡ 256
-unfolding inlined_block inlined_bodies expanded_block size_statement
-called_points = refl

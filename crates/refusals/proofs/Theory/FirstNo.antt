@@ -4,28 +4,12 @@ use Prim.Native.Nat.{ℕ, zero, suc, ◌≤◌, ◌<◌}
 use native.Mathlib.Omega.{arith}
 use mathlib.Core.List.{List}
 use lib.Dec.{ltb}
-use lib.ListN.{get_or}
 use borrow.Author.Tests.{ltb-true, ltb-false}
 use Rattle.base.proofs.Theory.Choice.{by_test}
 use Rattle.tokens.specs.Tokens.{token_at, place_of}
 use Rattle.grammar.specs.Spelled.{Spells, Arities}
 use Rattle.grammar.proofs.Theory.Sound.{spells_then, spells_one}
-use Rattle.refusals.specs.Questions.{No, asked, rank}
 use Rattle.refusals.specs.FirstNo.{key_of, tokens_before, NoAt, Reached, FirstNo}
-
--- The number of a question stands at its rank in the order,
-ranked : {n : ℕ} {before : List ℕ} {k next : ℕ} → No n before k next → get_or asked (rank n) 0 ≡ n
-ranked (No.no_token h) = refl
-ranked (No.unfit h) = refl
-ranked (No.redeclared h) = refl
-ranked (No.misused h) = refl
-ranked (No.too_deep h) = refl
-ranked (No.no_room h) = refl
-ranked (No.subs_full h) = refl
-
--- so two questions of one rank are one.
-pub rank_same : {n m : ℕ} {before after : List ℕ} {k j next behind : ℕ} → No n before k next → No m after j behind → rank n ≡ rank m → n ≡ m
-rank_same x y e = sym (ranked x) ∙ ap (λ i. get_or asked i 0) e ∙ ranked y
 
 module _ (s : List ℕ) where
   -- While they are tokens, they are those that the text spells (crate `grammar`).
@@ -42,8 +26,7 @@ module _ (s : List ℕ) where
   pub first_unique : (n p m q : ℕ) → FirstNo s n p → FirstNo s m q → (n ≡ m) × (p ≡ q)
   first_unique n p m q F G =
       let i : F.index ≡ G.index = same F.index G.index (λ l. G.first n F.index l F.no) (λ l. F.first m G.index l G.no) in (
-        rank_same F.no G.no
-            (same (rank n) (rank m) (λ l. G.earliest n l (subst (NoAt s n) i F.no)) (λ l. F.earliest m l (subst (NoAt s m) (sym i) G.no))),
+        same n m (λ l. G.lowest n l (subst (NoAt s n) i F.no)) (λ l. F.lowest m l (subst (NoAt s m) (sym i) G.no)),
         F.place ∙ ap (λ i. (token_at s (place_of s i)).start) i ∙ sym G.place,
       )
     where

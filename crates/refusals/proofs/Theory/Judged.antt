@@ -8,8 +8,7 @@ use lib.Dec.{eqb, ltb}
 use borrow.Author.Tests.{eqb-true, eqb-false, ltb-true, ltb-false}
 use Rattle.base.specs.Choice.{pick}
 use Rattle.base.proofs.Theory.Choice.{by_test}
-use Rattle.letters.specs.MacroRefusalNumbers.{declaration_wrong, grammar_violated, nesting_too_deep, no_room_for_tests, subs_too_many}
-use Rattle.letters.specs.MacroRefusalNumbers.{token_malformed, use_wrong}
+use Rattle.letters.specs.MacroRefusalNumbers.{declaration_wrong, grammar_violated, nesting_too_deep, no_room_for_tests, token_malformed, use_wrong}
 use Rattle.tokens.specs.Tokens.{token_at, place_of}
 use Rattle.tokens.specs.Words.{is_name}
 use Rattle.tokens.specs.Words as word
@@ -18,7 +17,7 @@ use Rattle.grammar.specs.Reading.{Got, got, exhausted, and_then}
 use Rattle.grammar.specs.Reading as reading
 use Rattle.refusals.proofs.Theory.Basics.{clash, not-true, nor}
 use Rattle.refusals.proofs.Theory.Rests.{Rest, took, stuck, take, start, complete, on_took, run, run_more, run_viable, viable_run, sentence_run}
-use Rattle.refusals.specs.Questions.{Unfit, Redeclared, Misused, TooDeep, NoRoom, SubsFull, No, rank}
+use Rattle.refusals.specs.Questions.{Unfit, Redeclared, Misused, TooDeep, NoRoom, No}
 use Rattle.refusals.specs.FirstNo.{key_of, tokens_before, NoAt, Reached, FirstNo}
 
 pub data JudgedReading (s : List ℕ) (A : Type 0) (P : A → ℕ → Type 0) : Got A → Type 0 where
@@ -49,31 +48,18 @@ judged_first n p (first h) = h
 pub judged_fine : {s : List ℕ} {A : Type 0} {P : A → ℕ → Type 0} (a : A) (e : ℕ) → JudgedReading s A P (got a e) → P a e
 judged_fine a e (fine p) = p
 
--- a no is one of the seven
-pub any_no : {before : List ℕ} {k next : ℕ} (m : ℕ) → (k ≡ 1 → ⊥) → (Unfit before k → ⊥) → (NoRoom before k → ⊥) → (SubsFull before k → ⊥)
-    → (Redeclared before k → ⊥) → (Misused before k next → ⊥) → (TooDeep before k → ⊥) → No m before k next → ⊥
-any_no m a b c d e f g (No.no_token h) = a h
-any_no m a b c d e f g (No.unfit h) = b h
-any_no m a b c d e f g (No.no_room h) = c h
-any_no m a b c d e f g (No.subs_full h) = d h
-any_no m a b c d e f g (No.redeclared h) = e h
-any_no m a b c d e f g (No.misused h) = f h
-any_no m a b c d e f g (No.too_deep h) = g h
+-- a no is one of the six
+pub lower : {before : List ℕ} {k next : ℕ} (n m : ℕ) → m < n → (token_malformed < n → k ≡ 1 → ⊥) → (grammar_violated < n → Unfit before k → ⊥)
+    → (declaration_wrong < n → Redeclared before k → ⊥) → (use_wrong < n → Misused before k next → ⊥) → (nesting_too_deep < n → TooDeep before k → ⊥)
+    → (no_room_for_tests < n → NoRoom before k → ⊥) → No m before k next → ⊥
+lower n m l a b c d e f (No.no_token h) = a l h
+lower n m l a b c d e f (No.unfit h) = b l h
+lower n m l a b c d e f (No.redeclared h) = c l h
+lower n m l a b c d e f (No.misused h) = d l h
+lower n m l a b c d e f (No.too_deep h) = e l h
+lower n m l a b c d e f (No.no_room h) = f l h
 
--- and one that is put before question n
-pub lower : {before : List ℕ} {k next : ℕ} (n m : ℕ) → rank m < rank n → (rank token_malformed < rank n → k ≡ 1 → ⊥)
-    → (rank grammar_violated < rank n → Unfit before k → ⊥) → (rank no_room_for_tests < rank n → NoRoom before k → ⊥)
-    → (rank subs_too_many < rank n → SubsFull before k → ⊥) → (rank declaration_wrong < rank n → Redeclared before k → ⊥)
-    → (rank use_wrong < rank n → Misused before k next → ⊥) → (rank nesting_too_deep < rank n → TooDeep before k → ⊥) → No m before k next → ⊥
-lower n m l a b c d e f g (No.no_token h) = a l h
-lower n m l a b c d e f g (No.unfit h) = b l h
-lower n m l a b c d e f g (No.no_room h) = c l h
-lower n m l a b c d e f g (No.subs_full h) = d l h
-lower n m l a b c d e f g (No.redeclared h) = e l h
-lower n m l a b c d e f g (No.misused h) = f l h
-lower n m l a b c d e f g (No.too_deep h) = g l h
-
--- tokens that questions 10 to 12, 16 and 17 do not concern: no name, `,`, `)`, `{` or `tests`
+-- tokens that questions 10 to 12 and 16 do not concern: no name, `,`, `)`, `{` or `tests`
 abbrev pub plain : ℕ → Bool
 plain k = not (is_name k || (eqb k word.comma_key || (eqb k word.rparen_key || (eqb k word.lbrace_key || (eqb k word.tests_key || (eqb k 0 || eqb k 1))))))
 
@@ -83,22 +69,17 @@ real zero h g = absurd (h refl)
 real (suc zero) h g = absurd (g refl)
 real (suc (suc k)) h g = omega arith
 
--- tokens that questions 10, 11 and 17 do not concern: no name, `,` or `)`
+-- tokens that questions 10 and 11 do not concern: no name, `,` or `)`
 module _ (k : ℕ) (n : is_name k ≡ false) where
   pub unnamed_redeclared : {before : List ℕ} → Redeclared before k → ⊥
   unnamed_redeclared (Redeclared.register I t x) = clash t n
   unnamed_redeclared (Redeclared.function I t x) = clash t n
   unnamed_redeclared (Redeclared.test I t x) = clash t n
-  unnamed_redeclared (Redeclared.sub I t x y) = clash t n
-
-  pub unnamed_full : {before : List ℕ} → SubsFull before k → ⊥
-  unnamed_full U = clash U.name n
 
   pub unnamed_misused : {before : List ℕ} {next : ℕ} → eqb k word.comma_key ≡ false → eqb k word.rparen_key ≡ false → Misused before k next → ⊥
-  unnamed_misused x y (Misused.register I t d f b c u) = clash t n
+  unnamed_misused x y (Misused.register I t d f u) = clash t n
   unnamed_misused x y (Misused.function I t d u) = clash t n
   unnamed_misused x y (Misused.test I t d u) = clash t n
-  unnamed_misused x y (Misused.sub I t d u) = clash t n
   unnamed_misused x y (Misused.more_arguments I c t e) = eqb-false k word.comma_key x e
   unnamed_misused x y (Misused.fewer_arguments I c t e) = eqb-false k word.rparen_key y e
 
@@ -127,9 +108,6 @@ module _ (k : ℕ) (h : plain k ≡ true) where
   pub plain_redeclared : {before : List ℕ} → Redeclared before k → ⊥
   plain_redeclared = unnamed_redeclared k plain_tests.0
 
-  pub plain_full : {before : List ℕ} → SubsFull before k → ⊥
-  plain_full = unnamed_full k plain_tests.0
-
   pub plain_misused : {before : List ℕ} {next : ℕ} → Misused before k next → ⊥
   plain_misused = unnamed_misused k plain_tests.0 plain_tests.1 plain_tests.2
 
@@ -138,10 +116,6 @@ module _ (k : ℕ) (h : plain k ≡ true) where
 
   pub plain_room : {before : List ℕ} → NoRoom before k → ⊥
   plain_room N = eqb-false k word.tests_key plain_tests.4 N.begins
-
--- a name is not `tests`
-pub named_room : {before : List ℕ} (k : ℕ) → is_name k ≡ true → NoRoom before k → ⊥
-named_room k t N = clash t (ap is_name N.begins)
 
 -- The token k does not fit where r is to come.
 pub record Stuck (r : Rest) (k : ℕ) : Type 0 where
@@ -205,27 +179,26 @@ module _ (s : List ℕ) where
   fits A h l (Unfit.early e n) = omega arith
   fits {i} {at} {r} {q} A h l (Unfit.misplaced e n) = n (run_viable (tokens_before s i ++ key_at at ∷ []) q (run_next A ∙ h))
 
-  pub none_here : {i at : ℕ} {r q : Rest} → At i at r → take r (key_at at) ≡ took q → 2 ≤ key_at at → (NoRoom (tokens_before s i) (key_at at) → ⊥)
-      → (SubsFull (tokens_before s i) (key_at at) → ⊥) → (Redeclared (tokens_before s i) (key_at at) → ⊥)
-      → (Misused (tokens_before s i) (key_at at) (next_at at) → ⊥) → (TooDeep (tokens_before s i) (key_at at) → ⊥) → (m : ℕ) → NoHere i at m → ⊥
-  none_here A h l w v x y z m = any_no m (λ e. omega arith) (fits A h l) w v x y z
+  pub none_here : {i at : ℕ} {r q : Rest} → At i at r → take r (key_at at) ≡ took q → 2 ≤ key_at at → (Redeclared (tokens_before s i) (key_at at) → ⊥)
+      → (Misused (tokens_before s i) (key_at at) (next_at at) → ⊥) → (TooDeep (tokens_before s i) (key_at at) → ⊥)
+      → (NoRoom (tokens_before s i) (key_at at) → ⊥) → (m : ℕ) → NoHere i at m → ⊥
+  none_here A h l x y z w m n = lower (suc m) m (omega arith) (λ _ e. omega arith) (λ _ u. fits A h l u) (λ _. x) (λ _. y) (λ _. z) (λ _. w) n
 
-  -- a token that questions 10 to 12, 16 and 17 do not concern
+  -- a token that questions 10 to 12 and 16 do not concern
   pub plain_on : {i at : ℕ} {r : Rest} → At i at r → (q : Rest) → plain (key_at at) ≡ true → take r (key_at at) ≡ took q → At (suc i) (token_at s at).end q
   plain_on {i} {at} A q p h = advance A q (plain_real (key_at at) p) h
-      (none_here A h (plain_real (key_at at) p) (plain_room (key_at at) p) (plain_full (key_at at) p) (plain_redeclared (key_at at) p)
-      (plain_misused (key_at at) p) (plain_deep (key_at at) p))
+      (none_here A h (plain_real (key_at at) p) (plain_redeclared (key_at at) p) (plain_misused (key_at at) p) (plain_deep (key_at at) p)
+      (plain_room (key_at at) p))
 
   -- ---- refusals
 
-  pub first_here : {i at : ℕ} {r : Rest} → At i at r → (n : ℕ) → NoHere i at n → ((m : ℕ) → rank m < rank n → NoHere i at m → ⊥)
-      → FirstNo s n (token_at s at).start
+  pub first_here : {i at : ℕ} {r : Rest} → At i at r → (n : ℕ) → NoHere i at n → ((m : ℕ) → m < n → NoHere i at m → ⊥) → FirstNo s n (token_at s at).start
   first_here {i} A n x y = record {
     index = i;
     reached = A.reached;
     place = sym (ap (λ p. (token_at s p).start) A.place);
     no = there n A x;
-    earliest =
+    lowest =
         λ m l z. y m l (here m A z);
     first = A.none_before;
   }
@@ -235,10 +208,10 @@ module _ (s : List ℕ) where
       → JudgedReading s A P (reading.refused_token (token_at s at))
   unfit_judged {i = i} {at} {r} A S =
       by_test (eqb (key_at at) 1)
-      (λ t. rw t (first (first_here A token_malformed (No.no_token (eqb-true (key_at at) 1 t)) λ m l. absurd (omega arith))))
+      (λ t. rw t (first (first_here A token_malformed (No.no_token (eqb-true (key_at at) 1 t)) λ m l. lower token_malformed m l (λ x. absurd (omega arith))
+      (λ x. absurd (omega arith)) (λ x. absurd (omega arith)) (λ x. absurd (omega arith)) (λ x. absurd (omega arith)) λ x. absurd (omega arith))))
       λ t. rw t (first (first_here A grammar_violated (No.unfit wrong) λ m l. lower grammar_violated m l (λ _. eqb-false (key_at at) 1 t)
-      (λ x. absurd (omega arith)) (λ x. absurd (omega arith)) (λ x. absurd (omega arith)) (λ x. absurd (omega arith)) (λ x. absurd (omega arith))
-      λ x. absurd (omega arith)))
+      (λ x. absurd (omega arith)) (λ x. absurd (omega arith)) (λ x. absurd (omega arith)) (λ x. absurd (omega arith)) λ x. absurd (omega arith)))
     where
       not_took : (q : Rest) → stuck ≡ took q → ⊥
       not_took q h = let z : ◌≡◌ {A = ℕ} 0 1 = cc in omega arith
@@ -249,35 +222,18 @@ module _ (s : List ℕ) where
           λ t. let e = eqb-false (key_at at) 0 t in Unfit.misplaced e λ n. let (q, h) = viable_run (tokens_before s i ++ key_at at ∷ []) n in
           not_took q (sym (S.token e) ∙ sym (run_next A) ∙ h)
 
-  -- by 16, at the word `tests`
-  pub no_room_judged : {A : Type 0} {P : A → ℕ → Type 0} {i at : ℕ} {r q : Rest} → At i at r → take r (key_at at) ≡ took q → NoRoom (tokens_before s i) (key_at at)
-      → JudgedReading s A P (Got.refused no_room_for_tests (token_at s at).start)
-  no_room_judged {i = i} {at} A h x =
-      let k : key_at at ≡ word.tests_key = x.begins in
-      first (first_here A no_room_for_tests (No.no_room x) λ m g. lower no_room_for_tests m g (λ _ e. omega arith) (λ _. fits A h (omega arith))
-      (λ y. absurd (omega arith)) (λ y. absurd (omega arith)) (λ y. absurd (omega arith)) (λ y. absurd (omega arith)) λ y. absurd (omega arith))
-
-  -- by 17, at a name
-  pub full_judged : {A : Type 0} {P : A → ℕ → Type 0} {i at : ℕ} {r q : Rest} → At i at r → take r (key_at at) ≡ took q → SubsFull (tokens_before s i) (key_at at)
-      → JudgedReading s A P (Got.refused subs_too_many (token_at s at).start)
-  full_judged {at = at} A h x =
-      let l = name_real (key_at at) x.name in
-      first (first_here A subs_too_many (No.subs_full x) λ m g. lower subs_too_many m g (λ _ e. omega arith) (λ _. fits A h l)
-      (λ _. named_room (key_at at) x.name) (λ y. absurd (omega arith)) (λ y. absurd (omega arith)) (λ y. absurd (omega arith)) λ y. absurd (omega arith))
-
   pub redeclared_judged : {A : Type 0} {P : A → ℕ → Type 0} {i at : ℕ} {r q : Rest} → At i at r → take r (key_at at) ≡ took q → is_name (key_at at) ≡ true
-      → (SubsFull (tokens_before s i) (key_at at) → ⊥) → Redeclared (tokens_before s i) (key_at at)
-      → JudgedReading s A P (Got.refused declaration_wrong (token_at s at).start)
-  redeclared_judged {at = at} A h t u x =
+      → Redeclared (tokens_before s i) (key_at at) → JudgedReading s A P (Got.refused declaration_wrong (token_at s at).start)
+  redeclared_judged {at = at} A h t x =
       let l = name_real (key_at at) t in
       first (first_here A declaration_wrong (No.redeclared x) λ m g. lower declaration_wrong m g (λ _ e. omega arith) (λ _. fits A h l)
-      (λ _. named_room (key_at at) t) (λ _. u) (λ y. absurd (omega arith)) (λ y. absurd (omega arith)) λ y. absurd (omega arith))
+      (λ y. absurd (omega arith)) (λ y. absurd (omega arith)) (λ y. absurd (omega arith)) λ y. absurd (omega arith))
 
   pub misused_judged : {A : Type 0} {P : A → ℕ → Type 0} {i at : ℕ} {r q : Rest} → At i at r → take r (key_at at) ≡ took q → 2 ≤ key_at at
-      → (NoRoom (tokens_before s i) (key_at at) → ⊥) → (SubsFull (tokens_before s i) (key_at at) → ⊥) → (Redeclared (tokens_before s i) (key_at at) → ⊥)
-      → Misused (tokens_before s i) (key_at at) (next_at at) → JudgedReading s A P (Got.refused use_wrong (token_at s at).start)
-  misused_judged A h l w u d x =
-      first (first_here A use_wrong (No.misused x) λ m g. lower use_wrong m g (λ _ e. omega arith) (λ _. fits A h l) (λ _. w) (λ _. u) (λ _. d)
+      → (Redeclared (tokens_before s i) (key_at at) → ⊥) → Misused (tokens_before s i) (key_at at) (next_at at)
+      → JudgedReading s A P (Got.refused use_wrong (token_at s at).start)
+  misused_judged A h l d x =
+      first (first_here A use_wrong (No.misused x) λ m g. lower use_wrong m g (λ _ e. omega arith) (λ _. fits A h l) (λ _. d) (λ y. absurd (omega arith))
       (λ y. absurd (omega arith)) λ y. absurd (omega arith))
 
   pub deep_judged : {A : Type 0} {P : A → ℕ → Type 0} {i at : ℕ} {r q : Rest} → At i at r → take r (key_at at) ≡ took q → TooDeep (tokens_before s i) (key_at at)
@@ -285,7 +241,16 @@ module _ (s : List ℕ) where
   deep_judged {i = i} {at} A h x =
       let k : key_at at ≡ word.lbrace_key = x.brace in
       first (first_here A nesting_too_deep (No.too_deep x) λ m g. lower nesting_too_deep m g (λ _ e. omega arith) (λ _. fits A h (omega arith))
-      (λ _ N. let z : word.lbrace_key ≡ word.tests_key = sym k ∙ N.begins in omega arith) (λ _. unnamed_full (key_at at) (ap is_name k))
       (λ _. unnamed_redeclared (key_at at) (ap is_name k))
       (λ _. unnamed_misused (key_at at) (ap is_name k) (ap (λ k. eqb k word.comma_key) k) (ap (λ k. eqb k word.rparen_key) k))
-      λ y. absurd (omega arith))
+      (λ y. absurd (omega arith)) λ y. absurd (omega arith))
+
+  -- by 16, at the word `tests`
+  pub no_room_judged : {A : Type 0} {P : A → ℕ → Type 0} {i at : ℕ} {r q : Rest} → At i at r → take r (key_at at) ≡ took q → NoRoom (tokens_before s i) (key_at at)
+      → JudgedReading s A P (Got.refused no_room_for_tests (token_at s at).start)
+  no_room_judged {i = i} {at} A h x =
+      let k : key_at at ≡ word.tests_key = x.begins in
+      first (first_here A no_room_for_tests (No.no_room x) λ m g. lower no_room_for_tests m g (λ _ e. omega arith) (λ _. fits A h (omega arith))
+      (λ _. unnamed_redeclared (key_at at) (ap is_name k))
+      (λ _. unnamed_misused (key_at at) (ap is_name k) (ap (λ k. eqb k word.comma_key) k) (ap (λ k. eqb k word.rparen_key) k))
+      (λ _ D. let z : word.lbrace_key ≡ word.tests_key = sym D.brace ∙ k in omega arith) λ y. absurd (omega arith))

@@ -17,25 +17,24 @@ use Rattle.tokens.specs.Words as word
 use Rattle.tokens.proofs.Theory.WordsLaws.{name_real, not_word}
 use Rattle.grammar.specs.Grammar.{entry_tokens, line_tokens, declaration_tokens}
 use Rattle.grammar.specs.Limits.{hidden_registers}
-use Rattle.grammar.specs.Reading.{expect, listed_t, is_declared, register_names, arity_of, functions_t, tests_t}
+use Rattle.grammar.specs.Reading.{index_of, expect, listed_t, is_declared, register_names, arity_of, functions_t, tests_t}
 use Rattle.grammar.specs.Reading as reading
+use Rattle.grammar.proofs.Theory.Sound.{index_at}
+use Rattle.grammar.proofs.Theory.Complete.{index_below}
 use Rattle.grammar.specs.Spelled.{Arities, Spells}
 use Rattle.grammar.proofs.Theory.Declarations.{or_false}
 use Rattle.grammar.proofs.Theory.Parts.{arities_length, arities_take, arities_drop}
 use Rattle.letters.proofs.Theory.WordLaws.{and_true}
-use Rattle.refusals.proofs.Theory.Basics.{clash, or_case, not-true}
-use Rattle.refusals.proofs.Theory.Rests.{Rest, token, digit, names, entries, line, last_line, subs, took, stuck, take, complete}
-use Rattle.refusals.specs.Questions.{AllNames, InRegisters, InFunctions, InTests, InStatements, Among, Behind, Redeclared, Misused, NoRoom, SubsFull}
-use Rattle.refusals.specs.Questions.{occurrences}
+use Rattle.refusals.proofs.Theory.Basics.{clash, or_case, and_false, not-true}
+use Rattle.refusals.proofs.Theory.Rests.{Rest, token, digit, names, entries, line, last_line, outside, took, stuck, take, complete}
+use Rattle.refusals.specs.Questions.{AllNames, InRegisters, InFunctions, InTests, InStatements, Among, Behind, Redeclared, Misused, NoRoom, occurrences}
 use Rattle.refusals.specs.FirstNo.{tokens_before}
 use Rattle.refusals.proofs.Theory.Parts.{not_name, registers_same, registers_functions, registers_tests, registers_statements, functions_same}
 use Rattle.refusals.proofs.Theory.Parts.{functions_tests, functions_statements, tests_same, tests_statements, room_same, names_take, names_drop}
 use Rattle.refusals.proofs.Theory.Judged.{JudgedReading, fine, judged_on, judged_pick, judged_map, stuck_at, key_at, At, before_next, advance, none_here}
 use Rattle.refusals.proofs.Theory.Judged.{plain_on, plain, unfit_judged, redeclared_judged, no_room_judged}
-use Rattle.refusals.proofs.Theory.Judged.{unnamed_redeclared, unnamed_full, unnamed_misused, named_room}
-use Rattle.refusals.proofs.Theory.SubsAbove.{count_append}
-use Rattle.refusals.proofs.Theory.Phrases.{known_among, unknown_among}
-use Rattle.refusals.proofs.Theory.Statements.{StandsPieces}
+use Rattle.refusals.proofs.Theory.Judged.{unnamed_redeclared, unnamed_misused}
+use Rattle.refusals.proofs.Theory.Statements.{Stands, outermost, stands}
 
 -- ---- one name or entry more
 
@@ -60,75 +59,20 @@ entries_more fs ns k n Arities.none = refl
 entries_more fs ns k n (Arities.one {f} {fs = gs} {ns = ms} a) = ap (λ l. f ∷ word.slash_key ∷ 49 ∷ l) (entries_more gs ms k n a)
 entries_more fs ns k n (Arities.two {f} {fs = gs} {ns = ms} a) = ap (λ l. f ∷ word.slash_key ∷ 50 ∷ l) (entries_more gs ms k n a)
 
--- ---- no braces and no `sub` in the lines
-
-module _ (j : ℕ) (n : is_name j ≡ false)
-    (c : occurrences j (word.vars_key ∷ word.funs_key ∷ word.tests_key ∷ word.semicolon_key ∷ word.slash_key ∷ word.one_key ∷ word.two_key ∷ []) ≡ 0) where
-  count_names : (ks : List ℕ) → AllNames ks → occurrences j ks ≡ 0
-  count_names [] h = refl
-  count_names (k ∷ ks) h = let x = count_names ks (λ i l. h (suc i) (omega arith)) in rw (not_word k j n (h 0 (omega arith))) (omega arith)
-
-  count_entries : (fs ns : List ℕ) → Arities fs ns → AllNames fs → occurrences j (entry_tokens fs ns) ≡ 0
-  unfolding entry_tokens
-  count_entries fs ns Arities.none h = refl
-  count_entries fs ns (Arities.one {f} {fs = gs} {ns = ms} a) h = let x = count_entries gs ms a (λ i l. h (suc i) (omega arith)) in
-      rw (not_word f j n (h 0 (omega arith))) (omega arith)
-  count_entries fs ns (Arities.two {f} {fs = gs} {ns = ms} a) h = let x = count_entries gs ms a (λ i l. h (suc i) (omega arith)) in
-      rw (not_word f j n (h 0 (omega arith))) (omega arith)
-
-  count_line : (k : ℕ) (fs ns : List ℕ) → occurrences j (k ∷ []) ≡ 0 → Arities fs ns → AllNames fs → occurrences j (line_tokens k fs ns) ≡ 0
-  unfolding line_tokens
-  count_line k [] ns e a h = refl
-  count_line k (f ∷ fs) ns e a h =
-      let x = count_entries (f ∷ fs) ns a h in
-      let y = count_append j (entry_tokens (f ∷ fs) ns) (word.semicolon_key ∷ []) in
-      omega arith
-
-  pub count_lines : (rs fs ns : List ℕ) (t : ℕ) → AllNames rs → Arities fs ns → AllNames fs → t ≤ length fs
-      → occurrences j (word.vars_key ∷ (rs ++ word.semicolon_key ∷ declaration_tokens fs ns t)) ≡ 0
-  count_lines rs fs ns t r a h w =
-      let x = count_names rs r in
-      let y = count_append j rs (word.semicolon_key ∷ declaration_tokens fs ns t) in
-      let z = count_append j (line_tokens word.funs_key (list.take t fs) (list.take t ns)) (line_tokens word.tests_key (drop t fs) (drop t ns)) in
-      let u = count_line word.funs_key (list.take t fs) (list.take t ns) (omega arith) (arities_take t a) (names_take t fs w h) in
-      let v = count_line word.tests_key (drop t fs) (drop t ns) (omega arith) (arities_drop t a) (names_drop t fs w h) in
-      omega arith
-
--- where there is no `sub`, there are not too many
-unfull : {before : List ℕ} {k : ℕ} → occurrences word.sub_key before ≡ 0 → SubsFull before k → ⊥
-unfull n U = let m = U.many in omega arith
-
-unfull_registers : {before rs : List ℕ} {k : ℕ} → InRegisters before rs → SubsFull before k → ⊥
-unfull_registers {rs = rs} I = unfull (ap (occurrences word.sub_key) I.split ∙ (let x = count_names word.sub_key refl refl rs I.registers in omega arith))
-
-unfull_functions : {before rs fs ns : List ℕ} {k : ℕ} → InFunctions before rs fs ns → SubsFull before k → ⊥
-unfull_functions {rs = rs} {fs} {ns} I =
-    let x = count_names word.sub_key refl refl rs I.registers in
-    let y = count_entries word.sub_key refl refl fs ns I.arities I.functions in
-    let z = count_append word.sub_key rs (word.semicolon_key ∷ word.funs_key ∷ entry_tokens fs ns) in
-    unfull (ap (occurrences word.sub_key) I.split ∙ omega arith)
-
-unfull_tests : {before rs fs ns : List ℕ} {t k : ℕ} → InTests before rs fs ns t → SubsFull before k → ⊥
-unfull_tests {rs = rs} {fs} {ns} {t} I =
-    let L = line_tokens word.funs_key (list.take t fs) (list.take t ns) in
-    let E = entry_tokens (drop t fs) (drop t ns) in
-    let x = count_names word.sub_key refl refl rs I.registers in
-    let y = count_line word.sub_key refl refl word.funs_key (list.take t fs) (list.take t ns) (omega arith) (arities_take t I.arities)
-    (names_take t fs I.within I.functions) in
-    let z = count_entries word.sub_key refl refl (drop t fs) (drop t ns) (arities_drop t I.arities) (names_drop t fs I.within I.functions) in
-    let u = count_append word.sub_key rs (word.semicolon_key ∷ (L ++ word.tests_key ∷ E)) in
-    let v = count_append word.sub_key L (word.tests_key ∷ E) in
-    unfull (ap (occurrences word.sub_key) I.split ∙ omega arith)
-
 not_misused : {before : List ℕ} {k next : ℕ} → ((rs fs ns : List ℕ) (t : ℕ) → InStatements before rs fs ns t → ⊥) → Misused before k next → ⊥
-not_misused n (Misused.register I t x y b c z) = n _ _ _ _ I
+not_misused n (Misused.register I t x y z) = n _ _ _ _ I
 not_misused n (Misused.function I t x y) = n _ _ _ _ I
 not_misused n (Misused.test I t x y) = n _ _ _ _ I
-not_misused n (Misused.sub I t x y) = n _ _ _ _ I
 not_misused n (Misused.more_arguments I c t e) = n _ _ _ _ I
 not_misused n (Misused.fewer_arguments I c t e) = n _ _ _ _ I
 
 module _ (s : List ℕ) where
+  known_among : (k : ℕ) (l : List ℕ) → is_declared k l ≡ true → Among k l
+  known_among k l t = let b = ltb-true (index_of k l) (length l) t in (index_of k l, b, sym (index_at k l b))
+
+  unknown_among : (k : ℕ) (l : List ℕ) → is_declared k l ≡ false → Among k l → ⊥
+  unknown_among k l t (i, b, e) = let x = index_below k l i b (sym e) in let y = ltb-false (index_of k l) (length l) t in omega arith
+
   -- one token k that is due
   abbrev pub Next : ℕ → ℕ → Rest → ℕ → Type 0
   Next i k q e = At s (suc i) e q × (tokens_before s (suc i) ≡ tokens_before s i ++ k ∷ [])
@@ -168,23 +112,21 @@ module _ (s : List ℕ) where
   fresh_register {rs = rs} I a l (Redeclared.register {rs = us} J t (inr x)) = let e : length rs ≡ length us = ap length (registers_same I J) in omega arith
   fresh_register I a l (Redeclared.function J t x) = registers_functions I J
   fresh_register I a l (Redeclared.test J t x) = registers_tests I J
-  fresh_register I a l (Redeclared.sub J t b x) = registers_statements I J
 
   pub registers_judged : (room : ℕ) (rs : List ℕ) (i at : ℕ) → room + length rs ≡ most_registers → At s i at (names (not (eqb (length rs) 0)))
       → InRegisters (tokens_before s i) rs → JudgedReading s (List ℕ) Registered (register_names s room rs at)
   unfolding register_names
   registers_judged zero rs i at n A I =
-      judged_pick (is_name (key_at s at)) _ _
-      (λ t. redeclared_judged s {q = names true} A (rw t) t (unfull_registers I) (Redeclared.register I t (inr (omega arith))))
+      judged_pick (is_name (key_at s at)) _ _ (λ t. redeclared_judged s {q = names true} A (rw t) t (Redeclared.register I t (inr (omega arith))))
       λ t. names_ended rs i at A I t
   registers_judged (suc room) rs i at n A I =
       judged_pick (is_name (key_at s at)) _ _
       (λ t. let h : take (names (not (eqb (length rs) 0))) (key_at s at) ≡ took (names true) = rw t in judged_pick (is_declared (key_at s at) rs) _ _
-      (λ u. redeclared_judged s A h t (unfull_registers I) (Redeclared.register I t (inl (known_among (key_at s at) rs u))))
+      (λ u. redeclared_judged s A h t (Redeclared.register I t (inl (known_among (key_at s at) rs u))))
       λ u. let l = name_real (key_at s at) t in
       let B = advance s A (names true) l h
-      (none_here s A h l (named_room (key_at s at) t) (unfull_registers I) (fresh_register I (unknown_among (key_at s at) rs u) (omega arith))
-      (not_misused λ _ _ _ _ J. registers_statements I J) λ D. not_name (key_at s at) word.lbrace_key refl t D.brace) in
+      (none_here s A h l (fresh_register I (unknown_among (key_at s at) rs u) (omega arith)) (not_misused λ _ _ _ _ J. registers_statements I J)
+      (λ D. not_name (key_at s at) word.lbrace_key refl t D.brace) λ N. not_name (key_at s at) word.tests_key refl t N.begins) in
       registers_judged room (rs ++ key_at s at ∷ []) (suc i) (token_at s at).end (let z = length-append rs (key_at s at ∷ []) in omega arith)
       (subst (λ e. At s (suc i) (token_at s at).end (names e)) (some_more rs (key_at s at)) B)
       (record { registers = names_more rs (key_at s at) I.registers t; split = before_next s A ∙ ap (λ l. l ++ key_at s at ∷ []) I.split }))
@@ -238,7 +180,6 @@ module _ (s : List ℕ) where
         → (Among k rs ⊎ Among k fs) ⊎ (most_functions ≤ length fs) → Redeclared before k)
         (fresh : (before fs ns : List ℕ) (k : ℕ) → InLine gs ms begins before fs ns → (Among k rs → ⊥) → (Among k fs → ⊥) → length fs < most_functions
         → Redeclared before k → ⊥)
-        (unfilled : (before fs ns : List ℕ) (k : ℕ) → InLine gs ms begins before fs ns → SubsFull before k → ⊥)
         (apart : (before fs ns us hs ls : List ℕ) (t : ℕ) → InLine gs ms begins before fs ns → InStatements before us hs ls t → ⊥) where
       entries_ended : (fs ns : List ℕ) (i at : ℕ) → At s i at (entries (begun (length gs) fs) q) → InLine gs ms begins (tokens_before s i) fs ns
           → is_name (key_at s at) ≡ false
@@ -269,22 +210,20 @@ module _ (s : List ℕ) where
       unfolding reading.entries
       entries_judged zero fs ns i at n A I =
           judged_pick (is_name (key_at s at)) _ _
-          (λ t. redeclared_judged s {q = token word.slash_key (digit (entries true q))} A (rw t) t (unfilled _ _ _ _ I)
-          (again _ _ _ _ I t (inr (omega arith))))
+          (λ t. redeclared_judged s {q = token word.slash_key (digit (entries true q))} A (rw t) t (again _ _ _ _ I t (inr (omega arith))))
           λ t. entries_ended fs ns i at A I t
       entries_judged (suc room) fs ns i at n A I =
           judged_pick (is_name (key_at s at)) _ _
           (λ t. let k = key_at s at in
           let h : take (entries (begun (length gs) fs) q) (key_at s at) ≡ took (token word.slash_key (digit (entries true q))) = rw t in
           judged_pick (is_declared (key_at s at) rs || is_declared (key_at s at) fs) _ _
-          (λ u. redeclared_judged s A h t (unfilled _ _ _ _ I)
-          (again _ _ _ _ I t (inl (declared (or_case (is_declared (key_at s at) rs) (is_declared (key_at s at) fs) u)))))
+          (λ u. redeclared_judged s A h t (again _ _ _ _ I t (inl (declared (or_case (is_declared (key_at s at) rs) (is_declared (key_at s at) fs) u)))))
           λ u. let (x, y) = or_false (is_declared (key_at s at) rs) (is_declared (key_at s at) fs) u in
           let l = name_real (key_at s at) t in
           let B = advance s A (token word.slash_key (digit (entries true q))) l h
-          (none_here s A h l (named_room (key_at s at) t) (unfilled _ _ _ _ I)
-          (fresh _ _ _ _ I (unknown_among (key_at s at) rs x) (unknown_among (key_at s at) fs y) (omega arith))
-          (not_misused λ _ _ _ _ J. apart _ _ _ _ _ _ _ I J) λ D. not_name (key_at s at) word.lbrace_key refl t D.brace) in
+          (none_here s A h l (fresh _ _ _ _ I (unknown_among (key_at s at) rs x) (unknown_among (key_at s at) fs y) (omega arith))
+          (not_misused λ _ _ _ _ J. apart _ _ _ _ _ _ _ I J) (λ D. not_name (key_at s at) word.lbrace_key refl t D.brace)
+          λ N. not_name (key_at s at) word.tests_key refl t N.begins) in
           judged_on (arity_of s (token_at s at).end) _ (arity_judged (entries true q) B) λ m e _ (C, w, c).
           entries_judged room (fs ++ k ∷ []) (ns ++ m ∷ []) (suc (suc (suc i))) e (let z = length-append fs (key_at s at ∷ []) in omega arith)
           (subst (λ f. At s (suc (suc (suc i))) e (entries f q)) (one_more fs k I.within) C)
@@ -335,7 +274,6 @@ module _ (s : List ℕ) where
     fresh_function {fs = fs} I a b l (Redeclared.function {fs = gs} J t (inr x)) = let e : length fs ≡ length gs = ap length (functions_same I J).1 in
         omega arith
     fresh_function I a b l (Redeclared.test J t x) = functions_tests I J
-    fresh_function I a b l (Redeclared.sub J t c x) = functions_statements I J
 
     -- the line of functions is whole, or there is none
     abbrev pub FunctionsRead : List ℕ × List ℕ → ℕ → Type 0
@@ -351,8 +289,7 @@ module _ (s : List ℕ) where
         (λ t. let (B, c) = next_on A word.funs_key (entries false last_line) (eqb-true (key_at s at) word.funs_key t) refl refl in
         judged_map
         (entries_judged [] [] word.funs_key last_line (λ _ _ _ _ I t x. Redeclared.function (functions_in R I) t x)
-        (λ _ _ _ _ I. fresh_function (functions_in R I)) (λ _ _ _ _ I. unfull_functions (functions_in R I))
-        (λ _ _ _ _ _ _ _ I J. functions_statements (functions_in R I) J) most_functions [] []
+        (λ _ _ _ _ I. fresh_function (functions_in R I)) (λ _ _ _ _ _ _ _ I J. functions_statements (functions_in R I) J) most_functions [] []
         (suc i) (token_at s at).end refl B
         (record {
           functions = λ j l. absurd (omega arith);
@@ -386,12 +323,11 @@ module _ (s : List ℕ) where
     fresh_test I a b l (Redeclared.function J t x) = functions_tests J I
     fresh_test {k = k} I a b l (Redeclared.test J t (inl (inl x))) = a (subst (Among k) (sym (tests_same I J).0) x)
     fresh_test {k = k} I a b l (Redeclared.test J t (inl (inr x))) = b (subst (Among k) (sym (tests_same I J).1) x)
-    fresh_test I a b l (Redeclared.sub J t c x) = tests_statements I J
     fresh_test {fs = fs} I a b l (Redeclared.test {fs = gs} J t (inr x)) = let e : length fs ≡ length gs = ap length (tests_same I J).1 in omega arith
 
     -- both lines are whole, with the tests from number t on
     abbrev pub WholeLines : ℕ → List ℕ × List ℕ → ℕ → Type 0
-    WholeLines t r e = (j : ℕ) × (b : Rest) × At s j e b × StandsPieces b (key_at s e) × AllNames r.0 × Arities r.0 r.1 × (t ≤ length r.0)
+    WholeLines t r e = (j : ℕ) × (b : Rest) × At s j e b × Stands outermost b (key_at s e) × AllNames r.0 × Arities r.0 r.1 × (t ≤ length r.0)
         × Behind (tokens_before s j) word.semicolon_key × (tokens_before s j ≡ word.vars_key ∷ (rs ++ word.semicolon_key ∷ declaration_tokens r.0 r.1 t))
 
     without_tests : (fs ns : List ℕ) → Arities fs ns → line_tokens word.funs_key fs ns ≡ declaration_tokens fs ns (length fs)
@@ -415,7 +351,7 @@ module _ (s : List ℕ) where
     tests_judged fs ns at R f (i, b, A, h, c, d, N, Y, B, p) =
         judged_pick (eqb (key_at s at) word.tests_key) _ _
         (λ t. let k = eqb-true (key_at s at) word.tests_key t in
-        let g : take b (key_at s at) ≡ took (entries false subs) = h ∙ ap (λ k. take last_line k) k in
+        let g : take b (key_at s at) ≡ took (entries false (outside false)) = h ∙ ap (λ k. take last_line k) k in
         judged_pick (ltb most_registers (length rs + hidden_registers)) _ _
         (λ u. no_room_judged s A g (record {
           registers = rs;
@@ -426,16 +362,14 @@ module _ (s : List ℕ) where
           many = ltb-true most_registers (length rs + hidden_registers) u;
         }))
         λ u. let l : 2 ≤ key_at s at = subst (λ k. 2 ≤ k) (sym k) (omega arith) in
-        let C = advance s A (entries false subs) l g
-        (none_here s A g l (room i (line_tokens word.funs_key fs ns) R p u) (unnamed_full (key_at s at) (ap is_name k))
-        (unnamed_redeclared (key_at s at) (ap is_name k))
+        let C = advance s A (entries false (outside false)) l g
+        (none_here s A g l (unnamed_redeclared (key_at s at) (ap is_name k))
         (unnamed_misused (key_at s at) (ap is_name k) (ap (λ k. eqb k word.comma_key) k) (ap (λ k. eqb k word.rparen_key) k))
-        λ D. let z : word.tests_key ≡ word.lbrace_key = sym k ∙ D.brace in omega arith) in
+        (λ D. let z : word.tests_key ≡ word.lbrace_key = sym k ∙ D.brace in omega arith) (room i (line_tokens word.funs_key fs ns) R p u)) in
         judged_map
-        (entries_judged fs ns word.tests_key subs (λ _ _ _ _ I t x. Redeclared.test (tests_in R I) t x)
-        (λ _ _ _ _ I. fresh_test (tests_in R I)) (λ _ _ _ _ I. unfull_tests (tests_in R I))
-        (λ _ _ _ _ _ _ _ I J. tests_statements (tests_in R I) J) (most_functions - length fs) fs ns (suc i)
-        (token_at s at).end (omega arith) (subst (λ e. At s (suc i) (token_at s at).end (entries e subs)) (none_begun fs) C)
+        (entries_judged fs ns word.tests_key (outside false) (λ _ _ _ _ I t x. Redeclared.test (tests_in R I) t x)
+        (λ _ _ _ _ I. fresh_test (tests_in R I)) (λ _ _ _ _ _ _ _ I J. tests_statements (tests_in R I) J) (most_functions - length fs) fs ns (suc i)
+        (token_at s at).end (omega arith) (subst (λ e. At s (suc i) (token_at s at).end (entries e (outside false))) (none_begun fs) C)
         (record {
           functions = N;
           arities = Y;
@@ -446,9 +380,9 @@ module _ (s : List ℕ) where
         }))
         λ r e (j, D, M, X, w, x, y, E, q). (
           j,
-          subs,
+          outside false,
           D,
-          record { opens = refl; shuts = refl; ends = refl },
+          stands outermost false (key_at s e) (and_false (eqb (key_at s e) word.else_key)),
           M,
           X,
           w,
@@ -460,7 +394,7 @@ module _ (s : List ℕ) where
           i,
           b,
           A,
-          record { opens = h ∙ rw t; shuts = c; ends = d },
+          record { opens = λ _. h ∙ rw t; shuts = c; ends = d },
           N,
           Y,
           omega arith,
@@ -479,3 +413,41 @@ module _ (s : List ℕ) where
             ap (λ l. word.vars_key ∷ l) (append_assoc rs (word.semicolon_key ∷ line_tokens word.funs_key fs ns) (word.tests_key ∷ []))
             ∙ ap (λ l. word.vars_key ∷ (rs ++ word.semicolon_key ∷ (line_tokens word.funs_key fs ns ++ word.tests_key ∷ l)))
             (ap (λ l. entry_tokens l (drop (length fs) ns)) (sym (drop-length fs)))
+
+-- ---- no braces in the lines
+
+count_append : (j : ℕ) (xs ys : List ℕ) → occurrences j (xs ++ ys) ≡ occurrences j xs + occurrences j ys
+count_append j [] ys = omega arith
+count_append j (x ∷ xs) ys = omega (arith, count_append j xs ys)
+
+module _ (j : ℕ) (n : is_name j ≡ false)
+    (c : occurrences j (word.vars_key ∷ word.funs_key ∷ word.tests_key ∷ word.semicolon_key ∷ word.slash_key ∷ word.one_key ∷ word.two_key ∷ []) ≡ 0) where
+  count_names : (ks : List ℕ) → AllNames ks → occurrences j ks ≡ 0
+  count_names [] h = refl
+  count_names (k ∷ ks) h = let x = count_names ks (λ i l. h (suc i) (omega arith)) in rw (not_word k j n (h 0 (omega arith))) (omega arith)
+
+  count_entries : (fs ns : List ℕ) → Arities fs ns → AllNames fs → occurrences j (entry_tokens fs ns) ≡ 0
+  unfolding entry_tokens
+  count_entries fs ns Arities.none h = refl
+  count_entries fs ns (Arities.one {f} {fs = gs} {ns = ms} a) h = let x = count_entries gs ms a (λ i l. h (suc i) (omega arith)) in
+      rw (not_word f j n (h 0 (omega arith))) (omega arith)
+  count_entries fs ns (Arities.two {f} {fs = gs} {ns = ms} a) h = let x = count_entries gs ms a (λ i l. h (suc i) (omega arith)) in
+      rw (not_word f j n (h 0 (omega arith))) (omega arith)
+
+  count_line : (k : ℕ) (fs ns : List ℕ) → occurrences j (k ∷ []) ≡ 0 → Arities fs ns → AllNames fs → occurrences j (line_tokens k fs ns) ≡ 0
+  unfolding line_tokens
+  count_line k [] ns e a h = refl
+  count_line k (f ∷ fs) ns e a h =
+      let x = count_entries (f ∷ fs) ns a h in
+      let y = count_append j (entry_tokens (f ∷ fs) ns) (word.semicolon_key ∷ []) in
+      omega arith
+
+  pub count_lines : (rs fs ns : List ℕ) (t : ℕ) → AllNames rs → Arities fs ns → AllNames fs → t ≤ length fs
+      → occurrences j (word.vars_key ∷ (rs ++ word.semicolon_key ∷ declaration_tokens fs ns t)) ≡ 0
+  count_lines rs fs ns t r a h w =
+      let x = count_names rs r in
+      let y = count_append j rs (word.semicolon_key ∷ declaration_tokens fs ns t) in
+      let z = count_append j (line_tokens word.funs_key (list.take t fs) (list.take t ns)) (line_tokens word.tests_key (drop t fs) (drop t ns)) in
+      let u = count_line word.funs_key (list.take t fs) (list.take t ns) (omega arith) (arities_take t a) (names_take t fs w h) in
+      let v = count_line word.tests_key (drop t fs) (drop t ns) (omega arith) (arities_drop t a) (names_drop t fs w h) in
+      omega arith

@@ -9,7 +9,7 @@ use lib.ListN.{length}
 use borrow.Author.Tests.{ltb-true, ltb-false, lt-ltb}
 use Rattle.base.proofs.Theory.Choice.{by_test}
 use Rattle.grammar.specs.Limits.{longest_text, most_points}
-use Rattle.letters.specs.MacroRefusalNumbers.{points_too_many, print_too_long, subs_too_many, table_too_small, text_too_long}
+use Rattle.letters.specs.MacroRefusalNumbers.{no_room_for_tests, points_too_many, print_too_long, table_too_small, text_too_long}
 use Rattle.macros.specs.Points.{size_block}
 use Rattle.grammar.specs.Grammar.{Macro, expanded}
 use Rattle.grammar.specs.Reading.{Got, got, exhausted, and_then, count_t}
@@ -83,29 +83,28 @@ module _ (s : List ℕ) where
   refusal_refused n p (Refusal.token l F) = ap (λ g. and_then g (count_t s)) (first_refused l n p F)
   refusal_refused n p (Refusal.points m l S O c) = read_long s m l S O c
 
--- A refusal of a text has a number from 7 to 13, or 16 or 17.
-pub refusal_number : {s : List ℕ} (n p : ℕ) → Refusal s n p → (7 ≤ n) × ((n ≤ 13) ⊎ ((n ≡ 16) ⊎ (n ≡ 17)))
+-- A refusal of a text has a number from 7 to 13, or 16.
+pub refusal_number : {s : List ℕ} (n p : ℕ) → Refusal s n p → (7 ≤ n) × ((n ≤ 13) ⊎ (n ≡ 16))
 refusal_number n p (Refusal.long l) = (omega arith, inl (omega arith))
 refusal_number {s} n p (Refusal.token l F) = question F.no
   where
-    question : {m : ℕ} {before : List ℕ} {k next : ℕ} → No m before k next → (7 ≤ m) × ((m ≤ 13) ⊎ ((m ≡ 16) ⊎ (m ≡ 17)))
+    question : {m : ℕ} {before : List ℕ} {k next : ℕ} → No m before k next → (7 ≤ m) × ((m ≤ 13) ⊎ (m ≡ 16))
     question (No.no_token h) = (omega arith, inl (omega arith))
     question (No.unfit h) = (omega arith, inl (omega arith))
     question (No.redeclared h) = (omega arith, inl (omega arith))
     question (No.misused h) = (omega arith, inl (omega arith))
     question (No.too_deep h) = (omega arith, inl (omega arith))
-    question (No.no_room h) = (omega arith, inr (inl refl))
-    question (No.subs_full h) = (omega arith, inr (inr refl))
+    question (No.no_room h) = (omega arith, inr refl)
 refusal_number n p (Refusal.points m l S O c) = (omega arith, inl (omega arith))
 
--- So it is at most 17, and neither that of the table nor that of the layout.
-pub refusal_at_most : {s : List ℕ} (n p : ℕ) → Refusal s n p → n ≤ subs_too_many
-refusal_at_most n p r = ⊎_elim (λ l. omega arith) (λ e. ⊎_elim (λ e. omega arith) (λ e. omega arith) e) (refusal_number n p r).1
+-- So it is at most 16, and neither that of the table nor that of the layout.
+pub refusal_at_most : {s : List ℕ} (n p : ℕ) → Refusal s n p → n ≤ no_room_for_tests
+refusal_at_most n p r = ⊎_elim (λ l. omega arith) (λ e. omega arith) (refusal_number n p r).1
 
 pub refusal_of_text : {s : List ℕ} (n p : ℕ) → Refusal s n p → (n ≡ table_too_small → ⊥) × (n ≡ print_too_long → ⊥)
 refusal_of_text n p r = (
-  λ f. ⊎_elim (λ l. omega arith) (λ e. ⊎_elim (λ e. omega arith) (λ e. omega arith) e) (refusal_number n p r).1,
-  λ f. ⊎_elim (λ l. omega arith) (λ e. ⊎_elim (λ e. omega arith) (λ e. omega arith) e) (refusal_number n p r).1,
+  λ f. ⊎_elim (λ l. omega arith) (λ e. omega arith) (refusal_number n p r).1,
+  λ f. ⊎_elim (λ l. omega arith) (λ e. omega arith) (refusal_number n p r).1,
 )
 
 -- The tokens before the first no begin a sentence.

@@ -1,4 +1,4 @@
--- Conditions, assignments and calls, judged.
+-- Conditions and assignments, judged.
 use mathlib.Core.Path.{◌≡◌, refl, sym, ap, subst, ◌∙◌}
 use mathlib.Core.Logic.{◌⊎◌, inl, inr}
 use Prim.Native.Nat.{ℕ, zero, suc, ◌+◌, ◌-◌, ◌≤◌, ◌<◌}
@@ -13,14 +13,13 @@ use borrow.Author.Tests.{eqb-true, eqb-false, ltb-true, ltb-false, lt-ltb, le-le
 use Rattle.base.specs.Choice.{pick}
 use Rattle.grammar.specs.Limits.{deepest_nesting}
 use Rattle.letters.specs.MacroRefusalNumbers.{use_wrong}
-use Rattle.grammar.specs.Tree.{Condition, holds, fails, Assignment, apply, Statement, call}
+use Rattle.grammar.specs.Tree.{Condition, holds, fails, Assignment, apply}
 use Rattle.tokens.specs.Tokens.{token_at}
 use Rattle.tokens.specs.Words.{is_name}
 use Rattle.tokens.specs.Words as word
 use Rattle.tokens.proofs.Theory.WordsLaws.{name_real, not_word}
 use Rattle.grammar.specs.Reading.{Got, got, index_of, is_declared, refused_token, use_t, use_between, sign_t, expect, ended, comparison, arguments_t, applied}
 use Rattle.grammar.specs.Reading.{named_test, condition, ended_condition, right_hand_side, assignment}
-use Rattle.grammar.specs.Reading as reading
 use Rattle.grammar.proofs.Theory.Sound.{index_at}
 use Rattle.grammar.proofs.Theory.Complete.{index_below, index_least}
 use Rattle.grammar.specs.Spelled.{Declared, Arities, Spells}
@@ -29,21 +28,19 @@ use Rattle.refusals.proofs.Theory.Basics.{clash, or_case, not-true, nor}
 use Rattle.refusals.proofs.Theory.Rests.{Rest, token, name, tested, arguments, took, take}
 use Rattle.refusals.proofs.Theory.Rests as rest
 use Rattle.refusals.specs.Questions.{InStatements, Among, Behind, FunctionDue, ConditionDue, TestDue, Called, TakesArguments, Redeclared, Misused}
-use Rattle.refusals.specs.Questions.{SubAbove, occurrences, TooDeep, SubsFull}
+use Rattle.refusals.specs.Questions.{occurrences, TooDeep}
 use Rattle.refusals.specs.FirstNo.{tokens_before}
 use Rattle.refusals.proofs.Theory.Parts.{not_name, registers_statements, functions_statements, tests_statements, statements_same}
 use Rattle.refusals.proofs.Theory.Parts.{statements_more, behind_same, called_same, not_called}
 use Rattle.refusals.proofs.Theory.Judged.{JudgedReading, fine, judged_on, judged_pick, judged_map, plain, plain_real, plain_brace, plain_tests_word}
 use Rattle.refusals.proofs.Theory.Judged.{plain_misused, Stuck, stuck_at, key_at, next_at, At, before_next, advance, none_here}
-use Rattle.refusals.proofs.Theory.Judged.{unfit_judged, misused_judged, unnamed_redeclared, unnamed_full, plain_redeclared, plain_full, named_room}
-use Rattle.refusals.proofs.Theory.SubsAbove.{Calls, calls_other}
+use Rattle.refusals.proofs.Theory.Judged.{unfit_judged, misused_judged}
 
--- no token in the statements repeats a declaration, but a name behind `sub`
-pub not_redeclared : {before rs fs ns : List ℕ} {from k : ℕ} → InStatements before rs fs ns from → (Behind before word.sub_key → ⊥) → Redeclared before k → ⊥
-not_redeclared I n (Redeclared.register J t x) = registers_statements J I
-not_redeclared I n (Redeclared.function J t x) = functions_statements J I
-not_redeclared I n (Redeclared.test J t x) = tests_statements J I
-not_redeclared I n (Redeclared.sub J t b x) = n b
+-- no token in the statements repeats a declaration
+pub not_redeclared : {before rs fs ns : List ℕ} {from k : ℕ} → InStatements before rs fs ns from → Redeclared before k → ⊥
+not_redeclared I (Redeclared.register J t x) = registers_statements J I
+not_redeclared I (Redeclared.function J t x) = functions_statements J I
+not_redeclared I (Redeclared.test J t x) = tests_statements J I
 
 pub count_more : (j : ℕ) (ks : List ℕ) (k : ℕ) → occurrences j (ks ++ k ∷ []) ≡ occurrences j ks + pick (eqb k j) (λ _. 1) λ _. 0
 count_more j [] k = omega arith
@@ -56,23 +53,21 @@ count_other j ks k h = count_more j ks k ∙ rw h (omega arith)
 abbrev pub steady : ℕ → Bool
 steady k = plain k && not (eqb k word.rbrace_key || eqb k word.funs_key)
 
--- ---- tokens behind which a function, a test or a sub may be due
+-- ---- tokens behind which a function or a test may be due
 
 -- the words that a condition follows
 abbrev pub conditional : ℕ → Bool
 conditional x = (eqb x word.assume_key || eqb x word.assert_key) || (eqb x word.if_key || eqb x word.while_key)
 
--- none of these, `:=`, `!`, `sub` or `call`
+-- none of these, `:=` or `!`
 abbrev pub free : ℕ → Bool
-free x = not (eqb x word.becomes_key || (eqb x word.not_key || (eqb x word.sub_key || (eqb x word.call_key || conditional x))))
+free x = not (eqb x word.becomes_key || (eqb x word.not_key || conditional x))
 
 pub name_free : (k : ℕ) → is_name k ≡ true → free k ≡ true
 name_free k t =
     rw (
       not_word k word.becomes_key refl t,
       not_word k word.not_key refl t,
-      not_word k word.sub_key refl t,
-      not_word k word.call_key refl t,
       not_word k word.assume_key refl t,
       not_word k word.assert_key refl t,
       not_word k word.if_key refl t,
@@ -109,22 +104,6 @@ due_conditional {before} x b d = go d
     go (inr (inl c)) = is word.if_key refl c
     go (inr (inr c)) = is word.while_key refl c
 
--- what a free token is not
-free_tests : (x : ℕ) → free x ≡ true → (eqb x word.becomes_key ≡ false) × (eqb x word.not_key ≡ false) × (eqb x word.sub_key ≡ false)
-    × (eqb x word.call_key ≡ false) × (conditional x ≡ false)
-free_tests x f =
-    let (a, y) = nor (eqb x word.becomes_key) _ f in
-    let (c, z) = nor (eqb x word.not_key) _ y in
-    let (d, w) = nor (eqb x word.sub_key) _ z in
-    let (e, v) = nor (eqb x word.call_key) _ w in
-    (a, c, d, e, not-true (conditional x) v)
-
-free_sub : {before : List ℕ} (x : ℕ) → Behind before x → free x ≡ true → Behind before word.sub_key → ⊥
-free_sub x b f c = eqb-false x word.sub_key (free_tests x f).2 (behind_same b c)
-
-free_call : {before : List ℕ} (x : ℕ) → Behind before x → free x ≡ true → Behind before word.call_key → ⊥
-free_call x b f c = eqb-false x word.call_key (free_tests x f).3 (behind_same b c)
-
 -- which of the three is due behind which token
 module _ {before : List ℕ} {next : ℕ} (x : ℕ) (b : Behind before x) where
   function_behind : FunctionDue before next → x ≡ word.becomes_key
@@ -135,52 +114,22 @@ module _ {before : List ℕ} {next : ℕ} (x : ℕ) (b : Behind before x) where
   test_behind (inr (d, e)) = inr (due_conditional x b d, e)
 
   free_function : free x ≡ true → FunctionDue before next → ⊥
-  free_function f d = eqb-false x word.becomes_key (free_tests x f).0 (function_behind d)
+  free_function f d = let (a, y) = nor (eqb x word.becomes_key) _ f in eqb-false x word.becomes_key a (function_behind d)
 
   free_test : free x ≡ true → TestDue before next → ⊥
   free_test f d = go (test_behind d)
     where
       go : (x ≡ word.not_key) ⊎ ((conditional x ≡ true) × (next ≡ word.lparen_key)) → ⊥
-      go (inl e) = eqb-false x word.not_key (free_tests x f).1 e
-      go (inr (t, e)) = clash t (free_tests x f).4
-
-  -- behind a token that no condition follows, and that is not `!`, no test is due
-  no_test_behind : eqb x word.not_key ≡ false → conditional x ≡ false → TestDue before next → ⊥
-  no_test_behind n c d = go (test_behind d)
-    where
-      go : (x ≡ word.not_key) ⊎ ((conditional x ≡ true) × (next ≡ word.lparen_key)) → ⊥
-      go (inl e) = eqb-false x word.not_key n e
-      go (inr (t, e)) = clash t c
+      go (inl e) = let (a, y) = nor (eqb x word.becomes_key) _ f in let (c, z) = nor (eqb x word.not_key) _ y in eqb-false x word.not_key c e
+      go (inr (t, e)) = let (a, y) = nor (eqb x word.becomes_key) _ f in let (c, z) = nor (eqb x word.not_key) _ y in clash t (not-true (conditional x) z)
 
 -- no test is due behind `:=`, so not both are
 no_test_value : {before : List ℕ} {next : ℕ} → Behind before word.becomes_key → TestDue before next → ⊥
-no_test_value b = no_test_behind word.becomes_key b refl refl
-
--- neither behind `sub` nor behind `call` a function or a test is due
-module _ {before : List ℕ} {next : ℕ} where
-  pub no_function_sub : Behind before word.sub_key → FunctionDue before next → ⊥
-  no_function_sub b d = let z : word.sub_key ≡ word.becomes_key = function_behind word.sub_key b d in omega arith
-
-  pub no_test_sub : Behind before word.sub_key → TestDue before next → ⊥
-  no_test_sub b = no_test_behind word.sub_key b refl refl
-
-  pub no_function_call : Behind before word.call_key → FunctionDue before next → ⊥
-  no_function_call b d = let z : word.call_key ≡ word.becomes_key = function_behind word.call_key b d in omega arith
-
-  pub no_test_call : Behind before word.call_key → TestDue before next → ⊥
-  no_test_call b = no_test_behind word.call_key b refl refl
-
-pub not_both : {before : List ℕ} → Behind before word.sub_key → Behind before word.call_key → ⊥
-not_both b c = let z : word.sub_key ≡ word.call_key = behind_same b c in omega arith
-
--- a sub, where one is due
-pub sub_right : {before : List ℕ} {k next : ℕ} → Behind before word.call_key → is_name k ≡ true → SubAbove before k → Misused before k next → ⊥
-sub_right b t a (Misused.register J u x y c d z) = d b
-sub_right b t a (Misused.function J u x y) = no_function_call b x
-sub_right b t a (Misused.test J u x y) = no_test_call b x
-sub_right b t a (Misused.sub J u x y) = y a
-sub_right {k = k} b t a (Misused.more_arguments J c x e) = not_name k word.comma_key refl t e
-sub_right {k = k} b t a (Misused.fewer_arguments J c x e) = not_name k word.rparen_key refl t e
+no_test_value {next = next} b d = go (test_behind word.becomes_key b d)
+  where
+    go : (word.becomes_key ≡ word.not_key) ⊎ ((conditional word.becomes_key ≡ true) × (next ≡ word.lparen_key)) → ⊥
+    go (inl h) = omega arith
+    go (inr (t, h)) = clash t refl
 
 -- ---- functions and tests by their numbers
 
@@ -216,13 +165,6 @@ module _ (fs : List ℕ) (from : ℕ) (w : from ≤ length fs) (k : ℕ) where
       let o = F.once (from + i) (index_of k fs) (omega arith) m (g ∙ index_at k fs m) in
       clash (rw (le-leb from (index_of k fs) (omega arith), lt-ltb (index_of k fs) (length fs) m)) h
 
--- a name that is declared, and one that is not
-pub known_among : (k : ℕ) (l : List ℕ) → is_declared k l ≡ true → Among k l
-known_among k l t = let b = ltb-true (index_of k l) (length l) t in (index_of k l, b, sym (index_at k l b))
-
-pub unknown_among : (k : ℕ) (l : List ℕ) → is_declared k l ≡ false → Among k l → ⊥
-unknown_among k l t (i, b, e) = let x = index_below k l i b (sym e) in let y = ltb-false (index_of k l) (length l) t in omega arith
-
 arity_at : (fs ns : List ℕ) → Arities fs ns → (f : ℕ) → f < length fs → (get_or ns f 0 ≡ 1) ⊎ (get_or ns f 0 ≡ 2)
 arity_at fs ns Arities.none f l = absurd (omega arith)
 arity_at fs ns (Arities.one a) zero l = inl refl
@@ -230,42 +172,37 @@ arity_at fs ns (Arities.two a) zero l = inr refl
 arity_at fs ns (Arities.one {fs = gs} {ns = ms} a) (suc f) l = arity_at gs ms a f (omega arith)
 arity_at fs ns (Arities.two {fs = gs} {ns = ms} a) (suc f) l = arity_at gs ms a f (omega arith)
 
-module _ (s rs fs ns : List ℕ) (from : ℕ) (cs : List ℕ) where
-  -- In the subs or statements, behind the token x, with d braces still to open; the whole subs before are cs.
+module _ (s rs fs ns : List ℕ) (from : ℕ) where
+  -- In the statements, behind the token x, with d braces still to open.
   pub record In (i d at x : ℕ) (r : Rest) : Type 0 where
     pub standing : At s i at r
     pub part : InStatements (tokens_before s i) rs fs ns from
     pub behind : Behind (tokens_before s i) x
     pub depth : occurrences word.lbrace_key (tokens_before s i) + d ≡ deepest_nesting + occurrences word.rbrace_key (tokens_before s i)
-    pub calls : Calls cs (tokens_before s i)
 
   -- one token
   pub go_on : {i d at x : ℕ} {r : Rest} → In i d at x r → (q : Rest) (d' : ℕ) → 2 ≤ key_at s at → take r (key_at s at) ≡ took q → (key_at s at ≡ word.funs_key → ⊥)
-      → (key_at s at ≡ word.tests_key → ⊥) → (SubsFull (tokens_before s i) (key_at s at) → ⊥) → (Redeclared (tokens_before s i) (key_at s at) → ⊥)
-      → (Misused (tokens_before s i) (key_at s at) (next_at s at) → ⊥) → (TooDeep (tokens_before s i) (key_at s at) → ⊥)
+      → (key_at s at ≡ word.tests_key → ⊥) → (Misused (tokens_before s i) (key_at s at) (next_at s at) → ⊥) → (TooDeep (tokens_before s i) (key_at s at) → ⊥)
       → occurrences word.lbrace_key (tokens_before s i ++ key_at s at ∷ []) + d' ≡ deepest_nesting + occurrences word.rbrace_key
       (tokens_before s i ++ key_at s at ∷ [])
-      → Calls cs (tokens_before s i ++ key_at s at ∷ []) → In (suc i) d' (token_at s at).end (key_at s at) q
-  go_on {i} {at = at} I q d' l h f g v w u z n c =
+      → In (suc i) d' (token_at s at).end (key_at s at) q
+  go_on {i} {at = at} I q d' l h f g u z n =
       let b = before_next s I.standing in
       record {
-        standing = advance s I.standing q l h (none_here s I.standing h l (λ N. g N.begins) v w u z);
+        standing = advance s I.standing q l h (none_here s I.standing h l (not_redeclared I.part) u z λ N. g N.begins);
         part = subst (λ ws. InStatements ws rs fs ns from) (sym b) (statements_more (key_at s at) f g I.part);
         behind = (tokens_before s i, b);
         depth = subst (λ ws. occurrences word.lbrace_key ws + d' ≡ deepest_nesting + occurrences word.rbrace_key ws) (sym b) n;
-        calls = subst (Calls cs) (sym b) c;
       }
 
   -- one that changes no depth
   pub level_on : {i d at x : ℕ} {r : Rest} → In i d at x r → (q : Rest) → 2 ≤ key_at s at → take r (key_at s at) ≡ took q → (key_at s at ≡ word.funs_key → ⊥)
       → (key_at s at ≡ word.tests_key → ⊥) → eqb (key_at s at) word.lbrace_key ≡ false → eqb (key_at s at) word.rbrace_key ≡ false
-      → (SubsFull (tokens_before s i) (key_at s at) → ⊥) → (Redeclared (tokens_before s i) (key_at s at) → ⊥)
       → (Misused (tokens_before s i) (key_at s at) (next_at s at) → ⊥) → In (suc i) d (token_at s at).end (key_at s at) q
-  level_on {i} {d} {at} I q l h f g x y v w u =
-      go_on I q d l h f g v w u (λ D. eqb-false (key_at s at) word.lbrace_key x D.brace)
+  level_on {i} {d} {at} I q l h f g x y u =
+      go_on I q d l h f g u (λ D. eqb-false (key_at s at) word.lbrace_key x D.brace)
       (let D = I.depth in let a = count_other word.lbrace_key (tokens_before s i) (key_at s at) x in
       let b = count_other word.rbrace_key (tokens_before s i) (key_at s at) y in omega arith)
-      (calls_other (key_at s at) (eqb-false (key_at s at) word.rbrace_key y) I.calls)
 
   -- one that the questions do not concern
   pub steady_on : {i d at x : ℕ} {r : Rest} → In i d at x r → (k : ℕ) (q : Rest) → key_at s at ≡ k → steady k ≡ true → take r (key_at s at) ≡ took q
@@ -275,16 +212,7 @@ module _ (s rs fs ns : List ℕ) (from : ℕ) (cs : List ℕ) where
       let (y, v) = nor (eqb (key_at s at) word.rbrace_key) _ w in
       subst (λ k. In (suc i) d (token_at s at).end k q) e
       (level_on I q (plain_real (key_at s at) p) h (eqb-false (key_at s at) word.funs_key (not-true (eqb (key_at s at) word.funs_key) v))
-      (eqb-false (key_at s at) word.tests_key (plain_tests_word (key_at s at) p)) (plain_brace (key_at s at) p) y (plain_full (key_at s at) p)
-      (plain_redeclared (key_at s at) p) (plain_misused (key_at s at) p))
-
-  -- a name that no question refuses
-  pub name_on : {i d at x : ℕ} {r : Rest} → In i d at x r → (q : Rest) → is_name (key_at s at) ≡ true → take r (key_at s at) ≡ took q
-      → (SubsFull (tokens_before s i) (key_at s at) → ⊥) → (Redeclared (tokens_before s i) (key_at s at) → ⊥)
-      → (Misused (tokens_before s i) (key_at s at) (next_at s at) → ⊥) → In (suc i) d (token_at s at).end (key_at s at) q
-  name_on {at = at} I q t h =
-      level_on I q (name_real (key_at s at) t) h (not_name (key_at s at) word.funs_key refl t) (not_name (key_at s at) word.tests_key refl t)
-      (not_word (key_at s at) word.lbrace_key refl t) (not_word (key_at s at) word.rbrace_key refl t)
+      (eqb-false (key_at s at) word.tests_key (plain_tests_word (key_at s at) p)) (plain_brace (key_at s at) p) y (plain_misused (key_at s at) p))
 
   -- ---- names
 
@@ -295,52 +223,48 @@ module _ (s rs fs ns : List ℕ) (from : ℕ) (cs : List ℕ) where
 
   -- c is the test that the name passes if it is number j of the list xs, and may be used here
   use_judged : (xs : List ℕ) (c : Bool) {i d at x : ℕ} {r : Rest} (q : Rest) → In i d at x r → (is_name (key_at s at) ≡ true → take r (key_at s at) ≡ took q)
-      → (is_name (key_at s at) ≡ false → Stuck r (key_at s at)) → (Behind (tokens_before s i) word.sub_key → ⊥)
-      → (c ≡ true → index_of (key_at s at) xs < length xs)
+      → (is_name (key_at s at) ≡ false → Stuck r (key_at s at)) → (c ≡ true → index_of (key_at s at) xs < length xs)
       → (is_name (key_at s at) ≡ true → c ≡ false → Misused (tokens_before s i) (key_at s at) (next_at s at))
       → (is_name (key_at s at) ≡ true → c ≡ true → Misused (tokens_before s i) (key_at s at) (next_at s at) → ⊥)
       → JudgedReading s ℕ (NameUsed xs i d at q) (pick (is_name (key_at s at))
       (λ _. pick c (λ _. got (index_of (key_at s at) xs) (token_at s at).end) λ _. Got.refused use_wrong (token_at s at).start)
       λ _. refused_token (token_at s at))
-  use_judged xs c {i} {d} {at} {x} {r} q I fit other apart below wrong right =
+  use_judged xs c {i} {d} {at} {x} {r} q I fit other below wrong right =
       judged_pick (is_name (key_at s at)) _ _
-      (λ t. judged_pick c _ _
+      (λ t. let l = name_real (key_at s at) t in judged_pick c _ _
       (λ u. fine (
         refl,
         below u,
         index_at (key_at s at) xs (below u),
         t,
-        name_on I q t (fit t) (λ U. apart U.begins) (not_redeclared I.part apart) (right t u),
+        level_on I q l (fit t) (not_name (key_at s at) word.funs_key refl t) (not_name (key_at s at) word.tests_key refl t)
+            (not_word (key_at s at) word.lbrace_key refl t) (not_word (key_at s at) word.rbrace_key refl t) (right t u),
       ))
-      λ u. misused_judged s I.standing (fit t) (name_real (key_at s at) t) (named_room (key_at s at) t) (λ U. apart U.begins)
-      (not_redeclared I.part apart) (wrong t u))
+      λ u. misused_judged s I.standing (fit t) l (not_redeclared I.part) (wrong t u))
       λ t. unfit_judged s I.standing (other t)
 
-  -- a register, where no function, no test and no sub is due
+  -- a register, where no function and no test is due
   pub register_right : {before : List ℕ} {k next : ℕ} → InStatements before rs fs ns from → (FunctionDue before next → ⊥) → (TestDue before next → ⊥)
-      → (Behind before word.call_key → ⊥) → is_name k ≡ true → Among k rs → Misused before k next → ⊥
-  register_right {k = k} I n m p t a (Misused.register J u x y b c z) = z (subst (Among k) (statements_same I J).0 a)
-  register_right I n m p t a (Misused.function J u x y) = n x
-  register_right I n m p t a (Misused.test J u x y) = m x
-  register_right I n m p t a (Misused.sub J u x y) = p x
-  register_right {k = k} I n m p t a (Misused.more_arguments J c x e) = not_name k word.comma_key refl t e
-  register_right {k = k} I n m p t a (Misused.fewer_arguments J c x e) = not_name k word.rparen_key refl t e
+      → is_name k ≡ true → Among k rs → Misused before k next → ⊥
+  register_right {k = k} I n m t a (Misused.register J u x y z) = z (subst (Among k) (statements_same I J).0 a)
+  register_right I n m t a (Misused.function J u x y) = n x
+  register_right I n m t a (Misused.test J u x y) = m x
+  register_right {k = k} I n m t a (Misused.more_arguments J c x e) = not_name k word.comma_key refl t e
+  register_right {k = k} I n m t a (Misused.fewer_arguments J c x e) = not_name k word.rparen_key refl t e
 
   pub function_right : {before : List ℕ} {k next : ℕ} → InStatements before rs fs ns from → FunctionDue before next → is_name k ≡ true
       → Among k (list.take from fs) → Misused before k next → ⊥
-  function_right I n t a (Misused.register J u x y b c z) = x n
+  function_right I n t a (Misused.register J u x y z) = x n
   function_right {k = k} I n t a (Misused.function J u x y) =
       let (p, q, r, e) = statements_same I J in y (subst (λ l. Among k l) (λ i. list.take (e i) (q i)) a)
   function_right I n t a (Misused.test J u x y) = no_test_value n.0 x
-  function_right I n t a (Misused.sub J u x y) = no_function_call x n
   function_right {k = k} I n t a (Misused.more_arguments J c x e) = not_name k word.comma_key refl t e
   function_right {k = k} I n t a (Misused.fewer_arguments J c x e) = not_name k word.rparen_key refl t e
 
   pub test_right : {before : List ℕ} {k next : ℕ} → InStatements before rs fs ns from → TestDue before next → is_name k ≡ true
       → Among k (list.drop from fs) → Misused before k next → ⊥
-  test_right I n t a (Misused.register J u x y b c z) = y n
+  test_right I n t a (Misused.register J u x y z) = y n
   test_right I n t a (Misused.function J u x y) = no_test_value x.0 n
-  test_right I n t a (Misused.sub J u x y) = no_test_call x n
   test_right {k = k} I n t a (Misused.test J u x y) =
       let (p, q, r, e) = statements_same I J in y (subst (λ l. Among k l) (λ i. list.drop (e i) (q i)) a)
   test_right {k = k} I n t a (Misused.more_arguments J c x e) = not_name k word.comma_key refl t e
@@ -348,20 +272,13 @@ module _ (s rs fs ns : List ℕ) (from : ℕ) (cs : List ℕ) where
 
   pub register_judged : {i d at x : ℕ} {r : Rest} (q : Rest) → In i d at x r → (is_name (key_at s at) ≡ true → take r (key_at s at) ≡ took q)
       → (is_name (key_at s at) ≡ false → Stuck r (key_at s at)) → (FunctionDue (tokens_before s i) (next_at s at) → ⊥)
-      → (TestDue (tokens_before s i) (next_at s at) → ⊥) → (Behind (tokens_before s i) word.sub_key → ⊥) → (Behind (tokens_before s i) word.call_key → ⊥)
-      → JudgedReading s ℕ (NameUsed rs i d at q) (use_t rs (token_at s at))
-  register_judged {at = at} q I fit other n m o p =
-      use_judged rs (is_declared (key_at s at) rs) q I fit other o (ltb-true (index_of (key_at s at) rs) (length rs))
-      (λ t u. Misused.register I.part t n m o p (unknown_among (key_at s at) rs u))
-      λ t u. register_right I.part n m p t (known_among (key_at s at) rs u)
-
-  -- a sub behind `call`
-  pub callee_judged : {i d at : ℕ} {r : Rest} (q : Rest) → In i d at word.call_key r → (is_name (key_at s at) ≡ true → take r (key_at s at) ≡ took q)
-      → (is_name (key_at s at) ≡ false → Stuck r (key_at s at)) → JudgedReading s ℕ (NameUsed cs i d at q) (use_t cs (token_at s at))
-  callee_judged {at = at} q I fit other =
-      use_judged cs (is_declared (key_at s at) cs) q I fit other (λ b. not_both b I.behind) (ltb-true (index_of (key_at s at) cs) (length cs))
-      (λ t u. Misused.sub I.part t I.behind λ S. unknown_among (key_at s at) cs u (I.calls.above (key_at s at) t S))
-      λ t u. sub_right I.behind t (I.calls.whole (key_at s at) (known_among (key_at s at) cs u))
+      → (TestDue (tokens_before s i) (next_at s at) → ⊥) → JudgedReading s ℕ (NameUsed rs i d at q) (use_t rs (token_at s at))
+  register_judged {at = at} q I fit other n m =
+      use_judged rs (is_declared (key_at s at) rs) q I fit other (ltb-true (index_of (key_at s at) rs) (length rs))
+      (λ t u. Misused.register I.part t n m λ (j, b, e). let y = index_below (key_at s at) rs j b (sym e) in
+      let z = ltb-false (index_of (key_at s at) rs) (length rs) u in omega arith)
+      λ t u. let b = ltb-true (index_of (key_at s at) rs) (length rs) u in
+      register_right I.part n m t (index_of (key_at s at) rs, b, sym (index_at (key_at s at) rs b))
 
   -- a function, where one is due
   function_judged : {i d at x : ℕ} {r : Rest} (q : Rest) → In i d at x r → (is_name (key_at s at) ≡ true → take r (key_at s at) ≡ took q)
@@ -370,7 +287,7 @@ module _ (s rs fs ns : List ℕ) (from : ℕ) (cs : List ℕ) where
   function_judged {at = at} q I fit other n =
       let k = key_at s at in
       let w = I.part.within in
-      use_judged fs (leb 0 (index_of k fs) && ltb (index_of k fs) from) q I fit other (λ b. no_function_sub b n)
+      use_judged fs (leb 0 (index_of k fs) && ltb (index_of k fs) from) q I fit other
       (λ u. let l = ltb-true (index_of k fs) from (and_true (leb 0 (index_of k fs)) _ u).1 in omega arith)
       (λ t u. Misused.function I.part t n (no_function_number fs from w k u)) λ t u. function_right I.part n t (is_function fs from w k u)
 
@@ -381,7 +298,7 @@ module _ (s rs fs ns : List ℕ) (from : ℕ) (cs : List ℕ) where
   test_judged F {at = at} q I fit other n =
       let k = key_at s at in
       let w = I.part.within in
-      use_judged fs (leb from (index_of k fs) && ltb (index_of k fs) (length fs)) q I fit other (λ b. no_test_sub b n)
+      use_judged fs (leb from (index_of k fs) && ltb (index_of k fs) (length fs)) q I fit other
       (λ u. ltb-true (index_of k fs) (length fs) (and_true (leb from (index_of k fs)) _ u).1)
       (λ t u. Misused.test I.part t n (no_test_number fs from w k F u)) λ t u. test_right I.part n t (is_test fs from w k u)
 
@@ -397,7 +314,6 @@ module _ (s rs fs ns : List ℕ) (from : ℕ) (cs : List ℕ) where
       → JudgedReading s ℕ (NameUsed rs i d at r) (use_t rs (token_at s at))
   operand_judged {at = at} {x} r I n =
       register_judged r I (named r (key_at s at)) (unnamed r (key_at s at)) (free_function x I.behind n) (free_test x I.behind n)
-      (free_sub x I.behind n) (free_call x I.behind n)
 
   pub ended_judged : {A : Type 0} (a : A) (k : ℕ) {i d at x : ℕ} {r : Rest} (q : Rest) → In i d at x r → steady k ≡ true → take r k ≡ took q
       → (eqb (key_at s at) k ≡ false → Stuck r (key_at s at)) → JudgedReading s A (λ b e. In (suc i) d e k q) (ended s k a at)
@@ -410,15 +326,6 @@ module _ (s rs fs ns : List ℕ) (from : ℕ) (cs : List ℕ) where
   -- a token that is due
   due : (j : ℕ) (r : Rest) (k : ℕ) → eqb k j ≡ false → Stuck (token j r) k
   due j r k t = stuck_at (token j r) k refl (rw t)
-
-  -- behind `call`: a sub and `;`
-  pub called_judged : {i d at : ℕ} (r : Rest) → In i d at word.call_key (name (token word.semicolon_key r))
-      → JudgedReading s Statement (λ _ e. (j : ℕ) × In j d e word.semicolon_key r) (reading.called s rs fs ns from cs at)
-  unfolding reading.called
-  called_judged {i} {at = at} r I =
-      let q = token word.semicolon_key r in
-      judged_on (use_t cs (token_at s at)) _ (callee_judged q I (named q (key_at s at)) (unnamed q (key_at s at))) λ n e _ (h, l, k, t, J).
-      judged_map (ended_judged (call n) word.semicolon_key r J refl refl (due word.semicolon_key r (key_at s e))) λ _ f K. (suc (suc i), K)
 
   -- ---- what is applied
 
@@ -438,41 +345,37 @@ module _ (s rs fs ns : List ℕ) (from : ℕ) (cs : List ℕ) where
 
     comma_right : {i d at x : ℕ} {r : Rest} (g : ℕ) → In i d at x r → Calling i g → key_at s at ≡ word.comma_key → get_or ns g 0 ≡ 2
         → Misused (tokens_before s i) (key_at s at) (next_at s at) → ⊥
-    comma_right g I c k n (Misused.register J t x y v w z) = clash (sym (ap is_name k) ∙ t) refl
+    comma_right g I c k n (Misused.register J t x y z) = clash (sym (ap is_name k) ∙ t) refl
     comma_right g I c k n (Misused.function J t x y) = clash (sym (ap is_name k) ∙ t) refl
     comma_right g I c k n (Misused.test J t x y) = clash (sym (ap is_name k) ∙ t) refl
-    comma_right g I c k n (Misused.sub J t x y) = clash (sym (ap is_name k) ∙ t) refl
     comma_right g I (l, c) k n (Misused.more_arguments J d t e) = let z = takes_same g I.part J l c d t in omega arith
     comma_right g I c k n (Misused.fewer_arguments J d t e) = omega arith
 
     paren_right : {i d at x : ℕ} {r : Rest} (g : ℕ) → In i d at x r → Calling i g → key_at s at ≡ word.rparen_key → get_or ns g 0 ≡ 1
         → Misused (tokens_before s i) (key_at s at) (next_at s at) → ⊥
-    paren_right g I c k n (Misused.register J t x y v w z) = clash (sym (ap is_name k) ∙ t) refl
+    paren_right g I c k n (Misused.register J t x y z) = clash (sym (ap is_name k) ∙ t) refl
     paren_right g I c k n (Misused.function J t x y) = clash (sym (ap is_name k) ∙ t) refl
     paren_right g I c k n (Misused.test J t x y) = clash (sym (ap is_name k) ∙ t) refl
-    paren_right g I c k n (Misused.sub J t x y) = clash (sym (ap is_name k) ∙ t) refl
     paren_right g I c k n (Misused.more_arguments J d t e) = omega arith
     paren_right g I (l, c) k n (Misused.fewer_arguments J d t e) = let z = takes_same g I.part J l c d t in omega arith
 
     -- behind `, c`
     second_right : {i d at x : ℕ} {r : Rest} (b : ℕ) (xs : List ℕ) → In i d at x r → tokens_before s i ≡ xs ++ word.comma_key ∷ b ∷ []
         → key_at s at ≡ word.rparen_key → Misused (tokens_before s i) (key_at s at) (next_at s at) → ⊥
-    second_right b xs I h k (Misused.register J t x y v w z) = clash (sym (ap is_name k) ∙ t) refl
+    second_right b xs I h k (Misused.register J t x y z) = clash (sym (ap is_name k) ∙ t) refl
     second_right b xs I h k (Misused.function J t x y) = clash (sym (ap is_name k) ∙ t) refl
     second_right b xs I h k (Misused.test J t x y) = clash (sym (ap is_name k) ∙ t) refl
-    second_right b xs I h k (Misused.sub J t x y) = clash (sym (ap is_name k) ∙ t) refl
     second_right b xs I h k (Misused.more_arguments J d t e) = omega arith
     second_right b xs I h k (Misused.fewer_arguments J d t e) = not_called b xs h d
 
     -- a `,` or `)` that is right
-    sign_on : {i d at x : ℕ} {r : Rest} → In i d at x r → (k : ℕ) (q : Rest) → key_at s at ≡ k → (2 ≤ k) → is_name k ≡ false → (k ≡ word.funs_key → ⊥)
-        → (k ≡ word.tests_key → ⊥) → eqb k word.lbrace_key ≡ false → eqb k word.rbrace_key ≡ false → take r k ≡ took q
+    sign_on : {i d at x : ℕ} {r : Rest} → In i d at x r → (k : ℕ) (q : Rest) → key_at s at ≡ k → (2 ≤ k) → (k ≡ word.funs_key → ⊥) → (k ≡ word.tests_key → ⊥)
+        → eqb k word.lbrace_key ≡ false → eqb k word.rbrace_key ≡ false → take r k ≡ took q
         → (Misused (tokens_before s i) (key_at s at) (next_at s at) → ⊥) → In (suc i) d (token_at s at).end k q
-    sign_on {i} {d} {at} {x} {r} I k q e l m f g a b h u =
+    sign_on {i} {d} {at} {x} {r} I k q e l f g a b h u =
         subst (λ k. In (suc i) d (token_at s at).end k q) e
         (level_on I q (subst (λ k. 2 ≤ k) (sym e) l) (ap (λ k. take r k) e ∙ h) (λ n. f (sym e ∙ n)) (λ n. g (sym e ∙ n))
-        (ap (λ k. eqb k word.lbrace_key) e ∙ a) (ap (λ k. eqb k word.rbrace_key) e ∙ b) (unnamed_full (key_at s at) (ap is_name e ∙ m))
-        (unnamed_redeclared (key_at s at) (ap is_name e ∙ m)) u)
+        (ap (λ k. eqb k word.lbrace_key) e ∙ a) (ap (λ k. eqb k word.rbrace_key) e ∙ b) u)
 
     -- behind `)`
     abbrev Closed : ℕ → Rest → ℕ → Type 0
@@ -485,7 +388,7 @@ module _ (s rs fs ns : List ℕ) (from : ℕ) (cs : List ℕ) where
         judged_on {P = λ u e. In (suc i) d e word.rparen_key r} (expect s word.rparen_key at) _
         (judged_pick (eqb (key_at s at) word.rparen_key) _ _
         (λ t. let k = eqb-true (key_at s at) word.rparen_key t in
-        fine (sign_on I word.rparen_key r k (omega arith) refl (λ n. absurd (omega arith)) (λ n. absurd (omega arith)) refl refl refl (second_right b xs I h k)))
+        fine (sign_on I word.rparen_key r k (omega arith) (λ n. absurd (omega arith)) (λ n. absurd (omega arith)) refl refl refl (second_right b xs I h k)))
         λ t. unfit_judged s I.standing (due word.rparen_key r (key_at s at) t))
         λ u e _ J. fine (suc i, J)
 
@@ -495,22 +398,20 @@ module _ (s rs fs ns : List ℕ) (from : ℕ) (cs : List ℕ) where
     arguments_judged make g y {i} {d} {at} r I c =
         judged_pick (eqb (key_at s at) word.comma_key) _ _
         (λ t. let k = eqb-true (key_at s at) word.comma_key t in judged_pick (eqb (get_or ns g 0) 2) _ _
-        (λ u. let J = sign_on I word.comma_key (name (token word.rparen_key r)) k (omega arith) refl (λ n. absurd (omega arith)) (λ n. absurd (omega arith)) refl
+        (λ u. let J = sign_on I word.comma_key (name (token word.rparen_key r)) k (omega arith) (λ n. absurd (omega arith)) (λ n. absurd (omega arith)) refl
         refl refl (comma_right g I c k (eqb-true (get_or ns g 0) 2 u)) in
         judged_on (use_t rs (token_at s (token_at s at).end)) _ (operand_judged (token word.rparen_key r) J refl)
         λ w e _ (h, l, m, v, K).
         last_judged _ (key_at s (token_at s at).end) (tokens_before s i) r K (two_before I J k))
-        λ u. misused_judged s I.standing (ap (λ k. take (arguments r) k) k) (subst (λ k. 2 ≤ k) (sym k) (omega arith))
-        (λ N. absurd (omega (arith, N.begins))) (unnamed_full (key_at s at) (ap is_name k)) (unnamed_redeclared (key_at s at) (ap is_name k))
+        λ u. misused_judged s I.standing (ap (λ k. take (arguments r) k) k) (subst (λ k. 2 ≤ k) (sym k) (omega arith)) (not_redeclared I.part)
         (Misused.more_arguments I.part c.1 (g, c.0, refl, unary g c.0 u) k))
         λ t. judged_pick (eqb (key_at s at) word.rparen_key) _ _
         (λ u. let k = eqb-true (key_at s at) word.rparen_key u in judged_pick (eqb (get_or ns g 0) 2) _ _
-        (λ v. misused_judged s I.standing (ap (λ k. take (arguments r) k) k) (subst (λ k. 2 ≤ k) (sym k) (omega arith))
-        (λ N. absurd (omega (arith, N.begins))) (unnamed_full (key_at s at) (ap is_name k)) (unnamed_redeclared (key_at s at) (ap is_name k))
+        (λ v. misused_judged s I.standing (ap (λ k. take (arguments r) k) k) (subst (λ k. 2 ≤ k) (sym k) (omega arith)) (not_redeclared I.part)
         (Misused.fewer_arguments I.part c.1 (g, c.0, refl, eqb-true (get_or ns g 0) 2 v) k))
         λ v. fine (
           suc i,
-          sign_on I word.rparen_key r k (omega arith) refl (λ n. absurd (omega arith)) (λ n. absurd (omega arith)) refl refl refl
+          sign_on I word.rparen_key r k (omega arith) (λ n. absurd (omega arith)) (λ n. absurd (omega arith)) refl refl refl
               (paren_right g I c k (unary g c.0 v)),
         ))
         λ u. unfit_judged s I.standing (stuck_at (arguments r) (key_at s at) refl (rw (u, t)))
@@ -600,8 +501,7 @@ module _ (s rs fs ns : List ℕ) (from : ℕ) (cs : List ℕ) where
         (λ u. named_test_judged holds (tested r) r I (λ v. rw v) (λ v. stuck_at (rest.condition r) (key_at s at) refl (rw (v, t)))
         (inr (condition_due x I.behind n, eqb-true (next_at s at) word.lparen_key u)) refl λ v. absurd (clash u v))
         λ u. judged_on (use_t rs (token_at s at)) _
-        (register_judged (tested r) I (λ v. rw v) (λ v. stuck_at (rest.condition r) (key_at s at) refl (rw (v, t))) no_function (no_test u)
-        (no_word word.sub_key refl) (no_word word.call_key refl))
+        (register_judged (tested r) I (λ v. rw v) (λ v. stuck_at (rest.condition r) (key_at s at) refl (rw (v, t))) no_function (no_test u))
         λ x a _ (h, l, k, v, I₁).
         judged_on (sign_t (token_at s a)) _ (sign_judged r I₁ (ap (λ a. eqb (key_at s a) word.lparen_key) h ∙ u)) λ q b _ (y, m, I₂).
         judged_on (use_t rs (token_at s b)) _ (operand_judged r I₂ m) λ z e _ (h₂, l₂, k₂, t₂, I₃).
@@ -609,9 +509,6 @@ module _ (s rs fs ns : List ℕ) (from : ℕ) (cs : List ℕ) where
       where
         no_function : FunctionDue (tokens_before s i) (next_at s at) → ⊥
         no_function D = clash (sym (ap conditional (function_behind x I.behind D)) ∙ n) refl
-
-        no_word : (k : ℕ) → conditional k ≡ false → Behind (tokens_before s i) k → ⊥
-        no_word k f b = clash n (ap conditional (behind_same I.behind b) ∙ f)
 
         no_test : eqb (next_at s at) word.lparen_key ≡ false → TestDue (tokens_before s i) (next_at s at) → ⊥
         no_test u D = go (test_behind x I.behind D)
@@ -646,9 +543,7 @@ module _ (s rs fs ns : List ℕ) (from : ℕ) (cs : List ℕ) where
         λ v g (j, M). (j, word.rparen_key, token word.semicolon_key r, M, refl, due word.semicolon_key r (key_at s g)))
         λ t. judged_on (use_t rs (token_at s at)) _
         (register_judged (rest.value r) I (named (rest.value r) (key_at s at)) (unnamed (rest.value r) (key_at s at))
-        (λ (b, n). eqb-false (next_at s at) word.lparen_key t n) (no_test_value I.behind)
-        (λ b. let z : word.becomes_key ≡ word.sub_key = behind_same I.behind b in omega arith)
-        λ b. let z : word.becomes_key ≡ word.call_key = behind_same I.behind b in omega arith) λ y e _ (h, l, k, u, J).
+        (λ (b, n). eqb-false (next_at s at) word.lparen_key t n) (no_test_value I.behind)) λ y e _ (h, l, k, u, J).
         fine (suc i, key_at s at, rest.value r, J, refl, λ v. stuck_at (rest.value r) (key_at s e) refl (rw (v, ap (λ p. eqb (key_at s p) word.lparen_key) h ∙ t)))
 
     pub assignment_judged : {i d at x : ℕ} {b : Rest} (r : Rest) → In i d at x b → free x ≡ true → is_name (key_at s at) ≡ true
@@ -658,7 +553,7 @@ module _ (s rs fs ns : List ℕ) (from : ℕ) (cs : List ℕ) where
     assignment_judged {i} {d} {at} {x} r I n t h =
         judged_on (use_t rs (token_at s at)) _
         (register_judged (token word.becomes_key (name (rest.value r))) I (λ _. h) (λ u. absurd (clash t u)) (free_function x I.behind n)
-        (free_test x I.behind n) (free_sub x I.behind n) (free_call x I.behind n)) λ x a _ (e₁, l, k, u, J).
+        (free_test x I.behind n)) λ x a _ (e₁, l, k, u, J).
         judged_on {P = λ v e. In (suc (suc i)) d e word.becomes_key (name (rest.value r))} (expect s word.becomes_key a) _
         (judged_pick (eqb (key_at s a) word.becomes_key) _ _
         (λ v. let p = eqb-true (key_at s a) word.becomes_key v in

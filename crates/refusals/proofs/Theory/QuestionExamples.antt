@@ -1,36 +1,32 @@
 -- Tokens with a no and tokens without, for each question. The names are a, b, f, g and t: 97, 98, 102, 103 and 116.
-use mathlib.Core.Path.{◌≡◌, refl, sym, ap, ◌∙◌}
-use mathlib.Core.Logic.{◌⊎◌, inl, inr}
-use Prim.Native.Nat.{ℕ, zero, suc, ◌<◌}
+use mathlib.Core.Path.{◌≡◌, refl, ap, ◌∙◌}
+use mathlib.Core.Logic.{inl, inr}
+use Prim.Native.Nat.{ℕ, zero, suc}
 use native.Mathlib.Omega.{arith}
 use mathlib.Core.Bool.{true, false}
 use mathlib.Core.List.{List, [], ◌∷◌, ◌++◌}
 use lib.ListN.{get_or, length}
 use Rattle.tokens.specs.Words.{is_name}
 use Rattle.tokens.specs.Words as word
-use Rattle.tokens.proofs.Theory.WordsLaws.{not_word}
 use Rattle.tokens.specs.Bytes.{gap, name_length, width}
 use Rattle.tokens.specs.Tokens.{token_at, spellings}
-use Rattle.letters.specs.MacroRefusalNumbers.{grammar_violated, declaration_wrong, no_room_for_tests, subs_too_many}
 use Rattle.grammar.specs.Grammar.{entry_tokens, line_tokens}
 use Rattle.grammar.specs.Reading.{got, Got, index_of, comparison, arguments_t, applied, condition, ended_condition, right_hand_side, assignment, block}
-use Rattle.grammar.specs.Reading.{called, sub_t, subs_from, register_names, arity_of, entries}
+use Rattle.grammar.specs.Reading.{register_names, arity_of, entries}
 use Rattle.grammar.proofs.Theory.Reading.{read_text}
 use Rattle.grammar.specs.Spelled.{Spells, Arities}
-use Rattle.refusals.proofs.Theory.Basics.{head_same, clash}
-use Rattle.refusals.specs.Sentences.{block_then, Sentence, Viable}
+use Rattle.refusals.proofs.Theory.Basics.{clash}
+use Rattle.refusals.specs.Sentences.{Sentence, Viable}
 use Rattle.refusals.specs.Sentences as alone
 use Rattle.refusals.proofs.Theory.Rests.{Rest, took, stuck, viable_run, sentence_run, run_viable}
 use Rattle.refusals.proofs.Theory.Rests as rest
 use Rattle.refusals.specs.Questions.{AllNames, InRegisters, InFunctions, InTests, InStatements, Among, Behind, ConditionDue, TestDue, Unfit}
-use Rattle.refusals.specs.Questions.{SubAbove, Redeclared, Misused, occurrences, TooDeep, NoRoom, SubsFull, rank}
+use Rattle.refusals.specs.Questions.{Redeclared, Misused, TooDeep, NoRoom}
 use Rattle.refusals.specs.FirstNo.{FirstNo}
 use Rattle.refusals.proofs.Theory.FirstNo.{AllYes}
 use Rattle.refusals.proofs.Theory.Lines.{names_more, fresh_register, fresh_function, fresh_test}
-use Rattle.refusals.proofs.Theory.Phrases.{register_right, function_right, test_right, sub_right}
+use Rattle.refusals.proofs.Theory.Phrases.{register_right, function_right, test_right}
 use Rattle.refusals.proofs.Theory.Parts.{behind_same, registers_tests, statements_same, room_same}
-use Rattle.refusals.proofs.Theory.SubsAbove.{block_piece, block_count, count_append, last_same, above_more, Unclosed, above_last}
-use Rattle.refusals.proofs.Theory.Subs.{fresh_sub}
 use Rattle.refusals.proofs.Theory.Order.{refused_first, read_all_yes}
 use Rattle.refusals.proofs.Theory.Examples.{loop, searched}
 
@@ -38,10 +34,7 @@ use Rattle.refusals.proofs.Theory.Examples.{loop, searched}
 
 -- `vars a;` is a sentence, and `vars a` begins one
 short : Sentence (word.vars_key ∷ 97 ∷ word.semicolon_key ∷ [])
-short = record {
-  macro = record { first = record { key = 97; real = refl }; others = []; functions = []; tests = []; subs = []; body = alone.empty };
-  spelled = refl;
-}
+short = record { macro = record { first = record { key = 97; real = refl }; others = []; functions = []; tests = []; body = alone.empty }; spelled = refl }
 
 begun : Viable (word.vars_key ∷ 97 ∷ [])
 unfolding short
@@ -171,7 +164,7 @@ declared_lines = word.vars_key ∷ 97 ∷ word.semicolon_key ∷ word.funs_key �
 
 -- f is a function before `(`, and a wrong use before `;`; a the other way round
 right_function : Misused assigning 102 word.lparen_key → ⊥
-right_function = function_right [] (97 ∷ []) (102 ∷ []) (1 ∷ []) 1 [] in_statements ((declared_lines, refl), refl) refl (0, omega arith, refl)
+right_function = function_right [] (97 ∷ []) (102 ∷ []) (1 ∷ []) 1 in_statements ((declared_lines, refl), refl) refl (0, omega arith, refl)
 
 wrong_function : Misused assigning 97 word.lparen_key
 wrong_function = Misused.function in_statements refl ((declared_lines, refl), refl) (other 97 102 λ e. omega arith)
@@ -185,13 +178,10 @@ no_test_due (inr (inr (inl b), e)) = let z = behind_same b (declared_lines, refl
 no_test_due (inr (inr (inr b), e)) = let z = behind_same b (declared_lines, refl) in omega arith
 
 right_register : Misused assigning 97 word.semicolon_key → ⊥
-right_register = register_right [] (97 ∷ []) (102 ∷ []) (1 ∷ []) 1 [] in_statements (λ (b, e). omega arith) no_test_due
-    (λ b. let z = behind_same b (declared_lines, refl) in omega arith) refl (0, omega arith, refl)
+right_register = register_right [] (97 ∷ []) (102 ∷ []) (1 ∷ []) 1 in_statements (λ (b, e). omega arith) no_test_due refl (0, omega arith, refl)
 
 wrong_register : Misused assigning 102 word.semicolon_key
-wrong_register = Misused.register in_statements refl (λ (b, e). omega arith) no_test_due
-    (λ b. let z = behind_same b (declared_lines, refl) in omega arith) (λ b. let z = behind_same b (declared_lines, refl) in omega arith)
-    (other 102 97 λ e. omega arith)
+wrong_register = Misused.register in_statements refl (λ (b, e). omega arith) no_test_due (other 102 97 λ e. omega arith)
 
 -- behind `f(a`, where f takes one argument, `,` is wrong and `)` is right
 abbrev calling : List ℕ
@@ -215,10 +205,9 @@ too_many : Misused calling word.comma_key 97
 too_many = Misused.more_arguments in_call (assigning, 97, refl) (0, omega arith, refl, refl) refl
 
 enough : Misused calling word.rparen_key word.semicolon_key → ⊥
-enough (Misused.register J t x y v w z) = clash t refl
+enough (Misused.register J t x y z) = clash t refl
 enough (Misused.function J t x y) = clash t refl
 enough (Misused.test J t x y) = clash t refl
-enough (Misused.sub J t x y) = clash t refl
 enough (Misused.more_arguments J c t e) = omega arith
 enough (Misused.fewer_arguments J c (i, l, e, n) k) = two_at i (ap (λ l. get_or l i 0) (statements_same in_call J).2 ∙ n)
   where
@@ -293,19 +282,18 @@ test_due_behind = inl (choosing, refl)
 
 -- t is a test before `(`, and a wrong use before `=`; a the other way round
 right_test : Misused choosing 116 word.lparen_key → ⊥
-right_test = test_right [] (97 ∷ []) (116 ∷ []) (1 ∷ []) 0 [] in_choice test_due refl (0, omega arith, refl)
+right_test = test_right [] (97 ∷ []) (116 ∷ []) (1 ∷ []) 0 in_choice test_due refl (0, omega arith, refl)
 
 wrong_test : Misused choosing 97 word.lparen_key
 wrong_test = Misused.test in_choice refl test_due (other 97 116 λ e. omega arith)
 
 compared_test : Misused choosing 116 word.equal_key
-compared_test = Misused.register in_choice refl (λ (b, e). let z = behind_same b behind_if in omega arith) no_test_before
-    (λ b. let z = behind_same b behind_if in omega arith) (λ b. let z = behind_same b behind_if in omega arith) (other 116 97 λ e. omega arith)
+compared_test = Misused.register in_choice refl (λ (b, e). let z = behind_same b behind_if in omega arith) no_test_before (other 116 97 λ e. omega arith)
 
 compared_register : Misused choosing 97 word.equal_key → ⊥
 compared_register =
-    register_right [] (97 ∷ []) (116 ∷ []) (1 ∷ []) 0 [] in_choice (λ (b, e). let z = behind_same b behind_if in omega arith) no_test_before
-    (λ b. let z = behind_same b behind_if in omega arith) refl (0, omega arith, refl)
+    register_right [] (97 ∷ []) (116 ∷ []) (1 ∷ []) 0 in_choice (λ (b, e). let z = behind_same b behind_if in omega arith) no_test_before refl
+    (0, omega arith, refl)
 
 -- no test may stand behind `:=`, before `(` or not
 abbrev choosing_value : List ℕ
@@ -326,121 +314,6 @@ in_value = record {
 
 test_as_value : Misused choosing_value 116 word.lparen_key
 test_as_value = Misused.function in_value refl ((lines_of_tests ++ 97 ∷ [], refl), refl) λ (i, l, e). absurd (omega arith)
-
--- ---- subs: 10, 11 and 17
-
--- behind `vars a; sub f {`, and behind its `}`
-abbrev open_sub : List ℕ
-open_sub = word.vars_key ∷ 97 ∷ word.semicolon_key ∷ word.sub_key ∷ 102 ∷ word.lbrace_key ∷ []
-
-abbrev with_sub : List ℕ
-with_sub = open_sub ++ word.rbrace_key ∷ []
-
--- f is whole behind it, and not before
-f_above : SubAbove with_sub 102
-f_above = record { earlier = word.vars_key ∷ 97 ∷ word.semicolon_key ∷ []; body = alone.empty; later = []; split = refl }
-
-none_whole : {before : List ℕ} {k : ℕ} → occurrences word.rbrace_key before ≡ 0 → SubAbove before k → ⊥
-none_whole {k = k} n S =
-    let P = block_piece S.body in
-    let x = ap (occurrences word.rbrace_key) S.split in
-    let y = count_append word.rbrace_key S.earlier (word.sub_key ∷ k ∷ word.lbrace_key ∷ block_then S.body (word.rbrace_key ∷ S.later)) in
-    let z = ap (occurrences word.rbrace_key) (P.front (word.rbrace_key ∷ S.later)) in
-    let w = count_append word.rbrace_key P.tokens (word.rbrace_key ∷ S.later) in
-    omega arith
-
-not_yet : SubAbove open_sub 102 → ⊥
-not_yet = none_whole refl
-
--- no other name is
-only_f : (k : ℕ) → is_name k ≡ true → SubAbove with_sub k → k ≡ 102
-only_f k t S = go (above_last {before = open_sub} word.rbrace_key S)
-  where
-    go : SubAbove open_sub k ⊎ ((word.rbrace_key ≡ word.rbrace_key) × Unclosed open_sub k) → k ≡ 102
-    go (inl R) = absurd (none_whole refl R)
-    go (inr (_, U)) = let n : occurrences word.sub_key (k ∷ word.lbrace_key ∷ block_then U.body []) ≡ 0 =
-        rw (not_word k word.sub_key refl t) (let x = block_count U.body [] in omega arith) in
-        sym (head_same (last_same word.sub_key (word.vars_key ∷ 97 ∷ word.semicolon_key ∷ []) U.earlier (102 ∷ word.lbrace_key ∷ [])
-        (k ∷ word.lbrace_key ∷ block_then U.body []) refl n U.split))
-
--- behind `vars a; sub f { } sub` and behind `vars a; sub f { } call`
-in_pieces : (j : ℕ) → InStatements (with_sub ++ j ∷ []) (97 ∷ []) [] [] 0
-unfolding line_tokens
-in_pieces j = record {
-  registers = named 97 refl;
-  functions = λ i l. absurd (omega arith);
-  arities = Arities.none;
-  within = omega arith;
-  body = word.sub_key ∷ 102 ∷ word.lbrace_key ∷ word.rbrace_key ∷ j ∷ [];
-  split = refl;
-  functions_begun = λ e. omega arith;
-  tests_begun = λ e. omega arith;
-}
-
-still_only_f : (j k : ℕ) → (j ≡ word.rbrace_key → ⊥) → is_name k ≡ true → SubAbove (with_sub ++ j ∷ []) k → k ≡ 102
-still_only_f j k n t S = go (above_last {before = with_sub} j S)
-  where
-    go : SubAbove with_sub k ⊎ ((j ≡ word.rbrace_key) × Unclosed with_sub k) → k ≡ 102
-    go (inl R) = only_f k t R
-    go (inr (e, U)) = absurd (n e)
-
--- a sub may be named neither f nor a, but b
-sub_again : Redeclared (with_sub ++ word.sub_key ∷ []) 102
-sub_again = Redeclared.sub (in_pieces word.sub_key) refl (with_sub, refl) (inr (above_more word.sub_key f_above))
-
-sub_as_register : Redeclared (with_sub ++ word.sub_key ∷ []) 97
-sub_as_register = Redeclared.sub (in_pieces word.sub_key) refl (with_sub, refl) (inl (inl (0, omega arith, refl)))
-
-fresh_sub_name : Redeclared (with_sub ++ word.sub_key ∷ []) 98 → ⊥
-fresh_sub_name = fresh_sub (in_pieces word.sub_key) (other 98 97 λ e. omega arith) (λ (i, l, e). omega arith)
-    λ S. let z = still_only_f word.sub_key 98 (λ e. omega arith) refl S in omega arith
-
--- f may be called, and a may not
-right_call : Misused (with_sub ++ word.call_key ∷ []) 102 word.semicolon_key → ⊥
-right_call = sub_right (with_sub, refl) refl (above_more word.call_key f_above)
-
-wrong_call : Misused (with_sub ++ word.call_key ∷ []) 97 word.semicolon_key
-wrong_call = Misused.sub (in_pieces word.call_key) refl (with_sub, refl)
-    λ S. let z = still_only_f word.call_key 97 (λ e. omega arith) refl S in omega arith
-
--- nor f in its own body
-in_sub : InStatements (open_sub ++ word.call_key ∷ []) (97 ∷ []) [] [] 0
-unfolding line_tokens
-in_sub = record {
-  registers = named 97 refl;
-  functions = λ i l. absurd (omega arith);
-  arities = Arities.none;
-  within = omega arith;
-  body = word.sub_key ∷ 102 ∷ word.lbrace_key ∷ word.call_key ∷ [];
-  split = refl;
-  functions_begun = λ e. omega arith;
-  tests_begun = λ e. omega arith;
-}
-
-calls_itself : Misused (open_sub ++ word.call_key ∷ []) 102 word.semicolon_key
-calls_itself = Misused.sub in_sub refl (open_sub, refl) (none_whole refl)
-
--- `sub f { }` n times
-abbrev some_subs : ℕ → List ℕ
-some_subs zero = []
-some_subs (suc n) = word.sub_key ∷ 102 ∷ word.lbrace_key ∷ word.rbrace_key ∷ some_subs n
-
--- behind eight a name is too many, and behind seven it is not; nor is what is no name
-ninth_sub : SubsFull (some_subs 8 ++ word.sub_key ∷ []) 98
-ninth_sub = record { begins = (some_subs 8, refl); name = refl; many = omega arith }
-
-eighth_sub : SubsFull (some_subs 7 ++ word.sub_key ∷ []) 98 → ⊥
-eighth_sub U = let m = U.many in omega arith
-
-no_sub_name : SubsFull (some_subs 8 ++ word.sub_key ∷ []) word.if_key → ⊥
-no_sub_name U = clash U.name refl
-
--- 17 is asked before 10, and 16 behind 9
-seventeen_before_ten : rank subs_too_many < rank declaration_wrong
-seventeen_before_ten = omega arith
-
-nine_before_sixteen : rank grammar_violated < rank no_room_for_tests
-nine_before_sixteen = omega arith
 
 -- ---- 12
 
@@ -496,8 +369,8 @@ abbrev twice : List ℕ
 twice = 118 ∷ 97 ∷ 114 ∷ 115 ∷ 32 ∷ 97 ∷ 32 ∷ 98 ∷ 32 ∷ 97 ∷ 59 ∷ []
 
 twice_read : read_text twice ≡ Got.refused 10 9
-unfolding read_text token_at gap width name_length register_names index_of entries arity_of subs_from sub_t called block condition comparison applied ended_condition
-    assignment right_hand_side arguments_t
+unfolding read_text token_at gap width name_length register_names index_of entries arity_of block condition comparison applied ended_condition assignment right_hand_side
+    arguments_t
 twice_read = refl
 
 pub twice_first : FirstNo twice 10 9
@@ -513,31 +386,17 @@ abbrev deeper : List ℕ
 deeper = 118 ∷ 97 ∷ 114 ∷ 115 ∷ 32 ∷ 97 ∷ 59 ∷ nested 17
 
 deeper_read : read_text deeper ≡ Got.refused 12 176
-unfolding read_text token_at gap width name_length register_names index_of entries arity_of subs_from sub_t called block condition comparison applied ended_condition
-    assignment right_hand_side arguments_t
+unfolding read_text token_at gap width name_length register_names index_of entries arity_of block condition comparison applied ended_condition assignment right_hand_side
+    arguments_t
 deeper_read = refl
 
 pub deeper_first : FirstNo deeper 12 176
 deeper_first = refused_first deeper (omega arith) 12 176 deeper_read
 
--- `vars x;`, eight subs and `sub A{}`: the first no is 17, at the name, which is also declared twice
-abbrev nine_subs : List ℕ
-nine_subs = 118 ∷ 97 ∷ 114 ∷ 115 ∷ 32 ∷ 120 ∷ 59 ∷ 115 ∷ 117 ∷ 98 ∷ 32 ∷ 97 ∷ 123 ∷ 125 ∷ 115 ∷ 117 ∷ 98 ∷ 32 ∷ 98 ∷ 123 ∷ 125 ∷ 115 ∷ 117 ∷ 98 ∷ 32 ∷ 99 ∷
-    123 ∷ 125 ∷ 115 ∷ 117 ∷ 98 ∷ 32 ∷ 100 ∷ 123 ∷ 125 ∷ 115 ∷ 117 ∷ 98 ∷ 32 ∷ 101 ∷ 123 ∷ 125 ∷ 115 ∷ 117 ∷ 98 ∷ 32 ∷ 102 ∷ 123 ∷ 125 ∷ 115 ∷ 117 ∷ 98 ∷ 32
-    ∷ 103 ∷ 123 ∷ 125 ∷ 115 ∷ 117 ∷ 98 ∷ 32 ∷ 104 ∷ 123 ∷ 125 ∷ 115 ∷ 117 ∷ 98 ∷ 32 ∷ 65 ∷ 123 ∷ 125 ∷ []
-
-nine_subs_read : read_text nine_subs ≡ Got.refused 17 67
-unfolding read_text token_at gap width name_length register_names index_of entries arity_of subs_from sub_t called block condition comparison applied ended_condition
-    assignment right_hand_side arguments_t
-nine_subs_read = refl
-
-pub nine_subs_first : FirstNo nine_subs 17 67
-nine_subs_first = refused_first nine_subs (omega arith) 17 67 nine_subs_read
-
 -- the bench example of Examples.antt has no no
 loop_text : read_text loop ≡ got searched 61
-unfolding loop searched read_text token_at gap width name_length spellings register_names index_of entries arity_of subs_from sub_t called block condition comparison
-    applied ended_condition assignment right_hand_side arguments_t
+unfolding loop searched read_text token_at gap width name_length spellings register_names index_of entries arity_of block condition comparison applied ended_condition
+    assignment right_hand_side arguments_t
 loop_text = refl
 
 pub loop_all_yes : AllYes loop

@@ -15,9 +15,9 @@ use Rattle.tokens.proofs.Theory.WordsLaws.{not_word}
 use Rattle.grammar.proofs.Theory.Sound.{pick_case}
 use Rattle.letters.proofs.Theory.WordLaws.{and_true}
 use Rattle.refusals.proofs.Theory.Basics.{head_same, tail_same, not_nil, clash, or_case}
-use Rattle.refusals.specs.Sentences.{Name, NamedCondition, NamedStatement, NamedElse, NamedBlock, ◌followed_by◌, Entry, NamedSub, NamedMacro}
-use Rattle.refusals.specs.Sentences.{condition_then, statement_then, else_then, block_then, names_then, entry_then, entries_then, line_then, subs_then}
-use Rattle.refusals.specs.Sentences.{named_sentence, Sentence, Viable}
+use Rattle.refusals.specs.Sentences.{Name, NamedCondition, NamedStatement, NamedElse, NamedBlock, ◌followed_by◌, Entry, NamedMacro, condition_then}
+use Rattle.refusals.specs.Sentences.{statement_then, else_then, block_then, names_then, entry_then, entries_then, line_then, named_sentence, Sentence}
+use Rattle.refusals.specs.Sentences.{Viable}
 
 -- What is still to come.
 pub data Rest : Type 0 where
@@ -35,8 +35,6 @@ pub data Rest : Type 0 where
   entries : Bool → Rest → Rest
   -- behind the line of registers, and behind the line of functions
   line last_line : Rest
-  -- behind the lines: subs, and then statements to the end of the text
-  subs : Rest
   -- statements and `}`, and the rest; statements to the end of the text. Whether an `else` may stand in front.
   inside : Bool → Rest → Rest
   outside : Bool → Rest
@@ -54,17 +52,11 @@ begin e k r q =
     λ _. pick (eqb k word.assume_key || eqb k word.assert_key) (λ _. took (condition (token word.semicolon_key r)))
     λ _. pick (eqb k word.if_key) (λ _. took (condition (token word.lbrace_key (inside false q))))
     λ _. pick (eqb k word.while_key) (λ _. took (condition (token word.lbrace_key (inside false r))))
-    λ _. pick (eqb k word.call_key) (λ _. took (name (token word.semicolon_key r)))
     λ _. pick (eqb k word.else_key && e) (λ _. took (token word.lbrace_key (inside false r))) λ _. stuck
-
--- k as the first token behind the lines, and behind a sub
-abbrev pub begin_subs : ℕ → Took
-begin_subs k =
-    pick (eqb k word.sub_key) (λ _. took (name (token word.lbrace_key (inside false subs)))) λ _. begin false k (outside false) (outside true)
 
 -- k as the first token behind the line of functions
 abbrev pub begin_last : ℕ → Took
-begin_last k = pick (eqb k word.tests_key) (λ _. took (entries false subs)) λ _. begin_subs k
+begin_last k = pick (eqb k word.tests_key) (λ _. took (entries false (outside false))) λ _. begin false k (outside false) (outside true)
 
 abbrev pub take : Rest → ℕ → Took
 take (token j r) k = pick (eqb k j) (λ _. took r) λ _. stuck
@@ -86,7 +78,6 @@ take (entries e r) k =
     pick (is_name k) (λ _. took (token word.slash_key (digit (entries true r)))) λ _. pick (eqb k word.semicolon_key && e) (λ _. took r) λ _. stuck
 take line k = pick (eqb k word.funs_key) (λ _. took (entries false last_line)) λ _. begin_last k
 take last_line k = begin_last k
-take subs k = begin_subs k
 take (inside e r) k = pick (eqb k word.rbrace_key) (λ _. took r) λ _. begin e k (inside false r) (inside true r)
 take (outside e) k = begin e k (outside false) (outside true)
 
@@ -106,7 +97,6 @@ complete (names e) = false
 complete (entries e r) = false
 complete line = true
 complete last_line = true
-complete subs = true
 complete (inside e r) = false
 complete (outside e) = true
 
@@ -164,11 +154,8 @@ Body e T ws = (o : NamedElse) × (b : NamedBlock) × (vs : List ℕ) × Allowed 
 abbrev Nothing : List ℕ → Type 0
 Nothing ws = ws ≡ []
 
-abbrev Pieces : List ℕ → Type 0
-Pieces ws = (us : List NamedSub) × (vs : List ℕ) × (ws ≡ subs_then us vs) × Body false Nothing vs
-
 abbrev LastLine : List ℕ → Type 0
-LastLine ws = (fs : List Entry) × (vs : List ℕ) × (ws ≡ line_then word.tests_key fs vs) × Pieces vs
+LastLine ws = (fs : List Entry) × (vs : List ℕ) × (ws ≡ line_then word.tests_key fs vs) × Body false Nothing vs
 
 abbrev Line : List ℕ → Type 0
 Line ws = (fs : List Entry) × (vs : List ℕ) × (ws ≡ line_then word.funs_key fs vs) × LastLine vs
@@ -185,20 +172,19 @@ Means (names e) ws = (ks : List Name) × (vs : List ℕ) × Some e ks × (ws ≡
 Means (entries e r) ws = (fs : List Entry) × (vs : List ℕ) × Some e fs × (ws ≡ entries_then fs (word.semicolon_key ∷ vs)) × Means r vs
 Means line ws = Line ws
 Means last_line ws = LastLine ws
-Means subs ws = Pieces ws
 Means (inside e r) ws = Body e (λ vs. (us : List ℕ) × (vs ≡ word.rbrace_key ∷ us) × Means r us) ws
 Means (outside e) ws = Body e Nothing ws
 
 -- ---- taking a token, backwards: what is left, with the token in front of it
 
-pub took_same : {r q : Rest} → took r ≡ took q → r ≡ q
+took_same : {r q : Rest} → took r ≡ took q → r ≡ q
 took_same h = cc
 
 -- what is left, under its other name
 left : (ws : List ℕ) {r q : Rest} → took r ≡ took q → Means q ws → Means r ws
 left ws h m = subst (λ r. Means r ws) (sym (took_same h)) m
 
-pub not_took : {r : Rest} → stuck ≡ took r → ⊥
+not_took : {r : Rest} → stuck ≡ took r → ⊥
 not_took h = let z : ◌≡◌ {A = ℕ} 0 1 = cc in omega arith
 
 allowed_absent : (e : Bool) → Allowed e NamedElse.absent
@@ -269,9 +255,6 @@ module _ (T : List ℕ → Type 0) (r q : Rest) (into : (ws : List ℕ) → Mean
   tested_put ws (inl t) (c, x, h, (y, g, m)) = prefixed T e (NamedStatement.assume c) (k ∷ ws) y (rw (t, h, g)) (into y m)
   tested_put ws (inr t) (c, x, h, (y, g, m)) = prefixed T e (NamedStatement.assert c) (k ∷ ws) y (rw (t, h, g)) (into y m)
 
-  call_put : (ws : List ℕ) → k ≡ word.call_key → Means (name (token word.semicolon_key r)) ws → Body e T (k ∷ ws)
-  call_put ws t (a, x, h, (y, g, m)) = prefixed T e (NamedStatement.call a) (k ∷ ws) y (rw (t, h, g)) (into y m)
-
   if_put : (ws : List ℕ) (c : NamedCondition) (b : NamedBlock) (x y : List ℕ) → k ≡ word.if_key → ws ≡ condition_then c x
       → x ≡ word.lbrace_key ∷ block_then b (word.rbrace_key ∷ y) → Body true T y → Body e T (k ∷ ws)
   if_put ws c b x y t h g (o, d, z, a, f, m) =
@@ -295,7 +278,6 @@ module _ (T : List ℕ → Type 0) (r q : Rest) (into : (ws : List ℕ) → Mean
       (λ t g. let (c, x, i, n) = left ws g m in
       let (b, y, j, w) = braced r x n in
       prefixed T e (NamedStatement.while c b) (k ∷ ws) y (spelled_while c b ws x y (eqb-true k word.while_key t) i j) (into y w))
-      λ _ h. pick_case (eqb k word.call_key) _ _ _ h (λ t g. call_put ws (eqb-true k word.call_key t) (left ws g m))
       λ _ h. pick_case (eqb k word.else_key && e) _ _ _ h
       (λ t g. let (b, y, j, w) = braced r ws (left ws g m) in
       let (f, u) = and_true (eqb k word.else_key) e t in else_put ws b y (eqb-true k word.else_key f) u j (plainly T y (into y w)))
@@ -373,24 +355,10 @@ line_put : (j k : ℕ) (r : Rest) (ws : List ℕ) → k ≡ j → Means (entries
 line_put j k r ws t ([], x, o, h, m) = absurd o
 line_put j k r ws t (f ∷ fs, x, o, h, m) = (f ∷ fs, x, rw (t, h), m)
 
-sub_put : (k : ℕ) (ws : List ℕ) → k ≡ word.sub_key → Means (name (token word.lbrace_key (inside false subs))) ws → Pieces (k ∷ ws)
-sub_put k ws t (a, x, h, m) = let (b, y, g, (us, vs, f, n)) = braced subs x m in (
-  record { name = a; body = b } ∷ us,
-  vs,
-  (λ i. t i ∷ h i) ∙ ap (λ l. word.sub_key ∷ a.key ∷ l)
-      (g ∙ ap (λ l. word.lbrace_key ∷ block_then b (word.rbrace_key ∷ l)) f),
-  n,
-)
-
-pieces_put : (k : ℕ) (l : Rest) (ws : List ℕ) → begin_subs k ≡ took l → Means l ws → Pieces (k ∷ ws)
-pieces_put k l ws h m =
-    pick_case (eqb k word.sub_key) _ _ _ h (λ t g. sub_put k ws (eqb-true k word.sub_key t) (left ws g m))
-    λ _ g. ([], k ∷ ws, refl, begun Nothing (outside false) (outside true) (λ _ n. n) (λ _ n. n) false k l ws g m)
-
 last_line_put : (k : ℕ) (l : Rest) (ws : List ℕ) → begin_last k ≡ took l → Means l ws → LastLine (k ∷ ws)
 last_line_put k l ws h m =
-    pick_case (eqb k word.tests_key) _ _ _ h (λ t g. line_put word.tests_key k subs ws (eqb-true k word.tests_key t) (left ws g m))
-    λ _ g. ([], k ∷ ws, refl, pieces_put k l ws g m)
+    pick_case (eqb k word.tests_key) _ _ _ h (λ t g. line_put word.tests_key k (outside false) ws (eqb-true k word.tests_key t) (left ws g m))
+    λ _ g. ([], k ∷ ws, refl, begun Nothing (outside false) (outside true) (λ _ n. n) (λ _ n. n) false k l ws g m)
 
 -- The token that was taken, in front of what is left, is what was to come.
 take_put : (r : Rest) (k : ℕ) (l : Rest) (ws : List ℕ) → take r k ≡ took l → Means l ws → Means r (k ∷ ws)
@@ -425,7 +393,6 @@ take_put line k l ws h m =
     pick_case (eqb k word.funs_key) _ _ _ h (λ t g. line_put word.funs_key k last_line ws (eqb-true k word.funs_key t) (left ws g m))
     λ _ g. ([], k ∷ ws, refl, last_line_put k l ws g m)
 take_put last_line k l ws h m = last_line_put k l ws h m
-take_put subs k l ws h m = pieces_put k l ws h m
 take_put (inside e r) k l ws h m =
     pick_case (eqb k word.rbrace_key) _ _ _ h
     (λ t g. (NamedElse.absent, NamedBlock.empty, k ∷ ws, allowed_absent e, refl, (ws, ap (λ k. k ∷ ws) (eqb-true k word.rbrace_key t), left ws g m)))
@@ -445,20 +412,19 @@ module _ (T : List ℕ → Type 0) (r q : Rest) (out : (ws : List ℕ) → Body 
     (f : ℕ → Took)
     (stop : (k : ℕ) (ws : List ℕ) → T (k ∷ ws) → Taken (f k) ws) where
   abbrev Agrees : Bool → Type 0
-  Agrees e = (j : ℕ) → eqb j word.rbrace_key ≡ false → eqb j word.funs_key ≡ false → eqb j word.tests_key ≡ false → eqb j word.sub_key ≡ false
-      → f j ≡ begin e j r q
+  Agrees e = (j : ℕ) → eqb j word.rbrace_key ≡ false → eqb j word.funs_key ≡ false → eqb j word.tests_key ≡ false → f j ≡ begin e j r q
 
   name_taken : (e : Bool) → Agrees e → (x : Name) → f x.key ≡ took (token word.becomes_key (name (value r)))
   name_taken e agree x =
       agree x.key (not_word x.key word.rbrace_key refl x.real) (not_word x.key word.funs_key refl x.real)
-      (not_word x.key word.tests_key refl x.real) (not_word x.key word.sub_key refl x.real)
+      (not_word x.key word.tests_key refl x.real)
       ∙ rw x.real
 
   body_taken : (e : Bool) → Agrees e → (o : NamedElse) (b : NamedBlock) (k : ℕ) (ws vs : List ℕ)
       → Allowed e o → k ∷ ws ≡ else_then o (block_then b vs) → T vs → Taken (f k) ws
   body_taken e agree NamedElse.absent NamedBlock.empty k ws vs a h t = stop k ws (subst T (sym h) t)
   body_taken e agree NamedElse.absent (NamedStatement.skip followed_by b) k ws vs a h t =
-      shift f k word.skip_key ws _ h (token word.semicolon_key r, agree word.skip_key refl refl refl refl, (_, refl, out _ (NamedElse.absent, b, vs, tt, refl, t)))
+      shift f k word.skip_key ws _ h (token word.semicolon_key r, agree word.skip_key refl refl refl, (_, refl, out _ (NamedElse.absent, b, vs, tt, refl, t)))
   body_taken e agree NamedElse.absent (NamedStatement.copy x y followed_by b) k ws vs a h t =
       shift f k x.key ws _ h (
         token word.becomes_key (name (value r)),
@@ -480,37 +446,31 @@ module _ (T : List ℕ → Type 0) (r q : Rest) (out : (ws : List ℕ) → Body 
   body_taken e agree NamedElse.absent (NamedStatement.assume c followed_by b) k ws vs a h t =
       shift f k word.assume_key ws _ h (
         condition (token word.semicolon_key r),
-        agree word.assume_key refl refl refl refl,
+        agree word.assume_key refl refl refl,
         (c, _, refl, (_, refl, out _ (NamedElse.absent, b, vs, tt, refl, t))),
       )
   body_taken e agree NamedElse.absent (NamedStatement.assert c followed_by b) k ws vs a h t =
       shift f k word.assert_key ws _ h (
         condition (token word.semicolon_key r),
-        agree word.assert_key refl refl refl refl,
+        agree word.assert_key refl refl refl,
         (c, _, refl, (_, refl, out _ (NamedElse.absent, b, vs, tt, refl, t))),
       )
   body_taken e agree NamedElse.absent (NamedStatement.if c x o followed_by b) k ws vs a h t =
       shift f k word.if_key ws _ h (
         condition (token word.lbrace_key (inside false q)),
-        agree word.if_key refl refl refl refl,
+        agree word.if_key refl refl refl,
         (c, _, refl, (_, refl, (NamedElse.absent, x, _, tt, refl, (_, refl, out_else _ (o, b, vs, tt, refl, t))))),
       )
   body_taken e agree NamedElse.absent (NamedStatement.while c x followed_by b) k ws vs a h t =
       shift f k word.while_key ws _ h (
         condition (token word.lbrace_key (inside false r)),
-        agree word.while_key refl refl refl refl,
+        agree word.while_key refl refl refl,
         (c, _, refl, (_, refl, (NamedElse.absent, x, _, tt, refl, (_, refl, out _ (NamedElse.absent, b, vs, tt, refl, t))))),
-      )
-  body_taken e agree NamedElse.absent (NamedStatement.call x followed_by b) k ws vs a h t =
-      shift f k word.call_key ws _ h (
-        name (token word.semicolon_key r),
-        agree word.call_key refl refl refl refl,
-        (x, _, refl, (_, refl, out _ (NamedElse.absent, b, vs, tt, refl, t))),
       )
   body_taken true agree (NamedElse.present x) b k ws vs a h t =
       shift f k word.else_key ws _ h (
         token word.lbrace_key (inside false r),
-        agree word.else_key refl refl refl refl,
+        agree word.else_key refl refl refl,
         (_, refl, (NamedElse.absent, x, _, tt, refl, (_, refl, out _ (NamedElse.absent, b, vs, tt, refl, t)))),
       )
   body_taken false agree (NamedElse.present x) b k ws vs a h t = absurd a
@@ -518,12 +478,12 @@ module _ (T : List ℕ → Type 0) (r q : Rest) (out : (ws : List ℕ) → Body 
 outer_taken : (e : Bool) (k : ℕ) (ws : List ℕ) → Body e Nothing (k ∷ ws) → Taken (take (outside e) k) ws
 outer_taken e k ws (o, b, vs, a, h, t) =
     body_taken Nothing (outside false) (outside true) (λ _ m. m) (λ _ m. m) (take (outside e)) (λ k ws n. absurd (not_nil n)) e
-    (λ j x y z w. refl) o b k ws vs a h t
+    (λ j x y z. refl) o b k ws vs a h t
 
 inner_taken : (e : Bool) (r : Rest) (k : ℕ) (ws : List ℕ) → Means (inside e r) (k ∷ ws) → Taken (take (inside e r) k) ws
 inner_taken e r k ws (o, b, vs, a, h, t) =
     body_taken (λ vs. (us : List ℕ) × (vs ≡ word.rbrace_key ∷ us) × Means r us) (inside false r) (inside true r) (λ _ m. m) (λ _ m. m) (take (inside e r))
-    (λ k ws (us, n, m). shift (take (inside e r)) k word.rbrace_key ws us n (r, refl, m)) e (λ j x y z w. rw x) o b k ws vs a h t
+    (λ k ws (us, n, m). shift (take (inside e r)) k word.rbrace_key ws us n (r, refl, m)) e (λ j x y z. rw x) o b k ws vs a h t
 
 entry_taken : (e : Bool) (r : Rest) (f : Entry) (fs : List Entry) (vs : List ℕ) → Means r vs → (k : ℕ) (ws : List ℕ)
     → k ∷ ws ≡ entries_then (f ∷ fs) (word.semicolon_key ∷ vs) → Taken (take (entries e r) k) ws
@@ -534,25 +494,14 @@ entry_taken e r (Entry.two f) fs vs m k ws h =
     shift (take (entries e r)) k f.key ws _ h
     (token word.slash_key (digit (entries true r)), rw f.real, (_, refl, (false, _, refl, (fs, vs, tt, refl, m))))
 
--- f takes the first token behind the lines
-module _ (f : ℕ → Took) (agree : (j : ℕ) → eqb j word.funs_key ≡ false → eqb j word.tests_key ≡ false → f j ≡ begin_subs j) where
-  pieces_taken : (k : ℕ) (ws : List ℕ) → Pieces (k ∷ ws) → Taken (f k) ws
-  pieces_taken k ws ([], xs, g, (o, b, vs, a, h, t)) =
-      body_taken Nothing (outside false) (outside true) (λ _ m. m) (λ _ m. m) f (λ k ws n. absurd (not_nil n)) false (λ j x y z w. agree j y z ∙ rw w) o b k
-      ws vs a (g ∙ h) t
-  pieces_taken k ws (u ∷ us, vs, h, m) =
-      shift f k word.sub_key ws _ h (
-        name (token word.lbrace_key (inside false subs)),
-        agree word.sub_key refl refl,
-        (u.name, _, refl, (_, refl, (NamedElse.absent, u.body, _, tt, refl, (_, refl, (us, vs, refl, m))))),
-      )
-
 -- f takes the first token behind the line of functions
 module _ (f : ℕ → Took) (agree : (j : ℕ) → eqb j word.funs_key ≡ false → f j ≡ begin_last j) where
   last_line_taken : (k : ℕ) (ws : List ℕ) → LastLine (k ∷ ws) → Taken (f k) ws
-  last_line_taken k ws ([], xs, g, m) = pieces_taken f (λ j x y. agree j x ∙ rw y) k ws (subst Pieces (sym g) m)
+  last_line_taken k ws ([], xs, g, (o, b, vs, a, h, t)) =
+      body_taken Nothing (outside false) (outside true) (λ _ m. m) (λ _ m. m) f (λ k ws n. absurd (not_nil n)) false (λ j x y z. agree j y ∙ rw z) o b k ws vs a
+      (g ∙ h) t
   last_line_taken k ws (e ∷ es, vs, h, m) =
-      shift f k word.tests_key ws _ h (entries false subs, agree word.tests_key refl, (e ∷ es, vs, tt, refl, m))
+      shift f k word.tests_key ws _ h (entries false (outside false), agree word.tests_key refl, (e ∷ es, vs, tt, refl, m))
 
 line_taken : (k : ℕ) (ws : List ℕ) → Line (k ∷ ws) → Taken (take line k) ws
 line_taken k ws ([], xs, g, m) = last_line_taken (take line) (λ j x. rw x) k ws (subst LastLine (sym g) m)
@@ -598,7 +547,6 @@ token_taken (entries false r) k ws ([], vs, o, h, m) = absurd o
 token_taken (entries e r) k ws (f ∷ fs, vs, o, h, m) = entry_taken e r f fs vs m k ws h
 token_taken line k ws m = line_taken k ws m
 token_taken last_line k ws m = last_line_taken (take last_line) (λ j x. refl) k ws m
-token_taken subs k ws m = pieces_taken (take subs) (λ j x y. refl) k ws m
 token_taken (inside e r) k ws m = inner_taken e r k ws m
 token_taken (outside e) k ws m = outer_taken e k ws m
 
@@ -613,7 +561,6 @@ statement_some (NamedStatement.assume c) ws h = not_nil (sym h)
 statement_some (NamedStatement.assert c) ws h = not_nil (sym h)
 statement_some (NamedStatement.if c b e) ws h = not_nil (sym h)
 statement_some (NamedStatement.while c b) ws h = not_nil (sym h)
-statement_some (NamedStatement.call a) ws h = not_nil (sym h)
 
 inside_some : (o : NamedElse) (b : NamedBlock) (vs us : List ℕ) → [] ≡ else_then o (block_then b vs) → vs ≡ word.rbrace_key ∷ us → ⊥
 inside_some NamedElse.absent NamedBlock.empty vs us h g = not_nil (sym (h ∙ g))
@@ -661,13 +608,8 @@ ended_complete (names e) (ks, vs, o, h, m) = absurd (names_some ks vs h)
 ended_complete (entries e r) (fs, vs, o, h, m) = absurd (entries_some fs vs h)
 ended_complete line m = refl
 ended_complete last_line m = refl
-ended_complete subs m = refl
 ended_complete (inside e r) (o, b, vs, a, h, (us, g, m)) = absurd (inside_some o b vs us h g)
 ended_complete (outside e) m = refl
-
--- neither subs nor statements
-no_pieces : Pieces []
-no_pieces = ([], [], refl, (NamedElse.absent, NamedBlock.empty, [], tt, refl, refl))
 
 complete_ended : (r : Rest) → complete r ≡ true → Means r []
 complete_ended (token j r) h = absurd (clash h refl)
@@ -679,9 +621,8 @@ complete_ended (value r) h = absurd (clash h refl)
 complete_ended (arguments r) h = absurd (clash h refl)
 complete_ended (names e) h = absurd (clash h refl)
 complete_ended (entries e r) h = absurd (clash h refl)
-complete_ended line h = ([], [], refl, ([], [], refl, no_pieces))
-complete_ended last_line h = ([], [], refl, no_pieces)
-complete_ended subs h = no_pieces
+complete_ended line h = ([], [], refl, ([], [], refl, (NamedElse.absent, NamedBlock.empty, [], tt, refl, refl)))
+complete_ended last_line h = ([], [], refl, (NamedElse.absent, NamedBlock.empty, [], tt, refl, refl))
 complete_ended (inside e r) h = absurd (clash h refl)
 complete_ended (outside e) h = (NamedElse.absent, NamedBlock.empty, [], allowed_absent e, refl, refl)
 
@@ -706,11 +647,10 @@ finished (tested r) = let (ws, m) = finished r in (word.equal_key ∷ 97 ∷ ws,
 finished (value r) = let (ws, m) = finished r in (word.semicolon_key ∷ ws, (register, ws, refl, m))
 finished (arguments r) = let (ws, m) = finished r in (word.rparen_key ∷ ws, (last, ws, refl, m))
 finished (names e) = let (ks, o) = some_names e in
-    (names_then ks (word.semicolon_key ∷ []), (ks, [], o, refl, ([], [], refl, ([], [], refl, no_pieces))))
+    (names_then ks (word.semicolon_key ∷ []), (ks, [], o, refl, ([], [], refl, ([], [], refl, (NamedElse.absent, NamedBlock.empty, [], tt, refl, refl)))))
 finished (entries e r) = let (ws, m) = finished r in let (fs, o) = some_entries e in (entries_then fs (word.semicolon_key ∷ ws), (fs, ws, o, refl, m))
-finished line = ([], ([], [], refl, ([], [], refl, no_pieces)))
-finished last_line = ([], ([], [], refl, no_pieces))
-finished subs = ([], no_pieces)
+finished line = ([], ([], [], refl, ([], [], refl, (NamedElse.absent, NamedBlock.empty, [], tt, refl, refl))))
+finished last_line = ([], ([], [], refl, (NamedElse.absent, NamedBlock.empty, [], tt, refl, refl)))
 finished (inside e r) = let (ws, m) = finished r in (word.rbrace_key ∷ ws, (NamedElse.absent, NamedBlock.empty, _, allowed_absent e, refl, (ws, refl, m)))
 finished (outside e) = ([], (NamedElse.absent, NamedBlock.empty, [], allowed_absent e, refl, refl))
 
@@ -756,15 +696,15 @@ run_taken (k ∷ ks) r ws m = let (q, h, n) = token_taken r k (ks ++ ws) m in le
 
 start_sentence : (ws : List ℕ) → Means start ws → Sentence ws
 start_sentence ws (x, h, ([], y, o, g, m)) = absurd o
-start_sentence ws (x, h, (a ∷ ks, y, o, g, (fs, z, f, (gs, v, d, (ss, n, c, (NamedElse.absent, b, us, p, i, j)))))) =
-    record { macro = record { first = a; others = ks; functions = fs; tests = gs; subs = ss; body = b }; spelled = rw (h, g, f, d, c, i, j) }
-start_sentence ws (x, h, (a ∷ ks, y, o, g, (fs, z, f, (gs, v, d, (ss, n, c, (NamedElse.present t, b, us, p, i, j)))))) = absurd p
+start_sentence ws (x, h, (a ∷ ks, y, o, g, (fs, z, f, (gs, v, d, (NamedElse.absent, b, us, p, i, j))))) =
+    record { macro = record { first = a; others = ks; functions = fs; tests = gs; body = b }; spelled = rw (h, g, f, d, i, j) }
+start_sentence ws (x, h, (a ∷ ks, y, o, g, (fs, z, f, (gs, v, d, (NamedElse.present c, b, us, p, i, j))))) = absurd p
 
 sentence_start : (m : NamedMacro) → Means start (named_sentence m)
 sentence_start m = (
   _,
   refl,
-  (m.first ∷ m.others, _, tt, refl, (m.functions, _, refl, (m.tests, _, refl, (m.subs, _, refl, (NamedElse.absent, m.body, [], tt, refl, refl))))),
+  (m.first ∷ m.others, _, tt, refl, (m.functions, _, refl, (m.tests, _, refl, (NamedElse.absent, m.body, [], tt, refl, refl)))),
 )
 
 -- What can be taken begins a sentence, and what begins one can be taken.

@@ -1,25 +1,23 @@
 -- The grammar alone is the wider one: the sentence of a macro in order (crate `grammar`) is a sentence of it.
-use mathlib.Core.Path.{◌≡◌, refl, sym, ap, subst, ◌∙◌}
+use mathlib.Core.Path.{◌≡◌, refl, sym, ap, ◌∙◌}
 use Prim.Native.Nat.{ℕ, suc, ◌≤◌, ◌<◌}
 use native.Mathlib.Omega.{arith}
 use mathlib.Core.List.{List, [], ◌∷◌, ◌++◌, append_assoc, append-nil}
-use lib.ListN.{length, get_or, take, drop, length-append, length-map}
+use lib.ListN.{length, get_or, take, drop}
 use Rattle.base.proofs.Theory.Choice.{by_test}
 use Rattle.tokens.specs.Words as word
-use Rattle.grammar.specs.Tree.{Condition, Assignment, Statement, skip, assign, assume, assert, if, while, call, Else, absent, present, Block, empty, ◌then◌}
-use Rattle.grammar.specs.Tree.{Sub, ProperSubs}
+use Rattle.grammar.specs.Tree.{Condition, Assignment, Statement, skip, assign, assume, assert, if, while, Else, absent, present, Block, empty, ◌then◌}
 use Rattle.grammar.specs.Tree.{ProperAssignment, ProperCondition, Proper, ProperElse, ProperBlock}
 use Rattle.grammar.specs.Tree as tree
 use Rattle.grammar.specs.Grammar.{Macro, header, takes_two, condition_tokens, assignment_tokens, statement_tokens, else_tokens, block_tokens, entry_tokens, line_tokens}
-use Rattle.grammar.specs.Grammar.{declaration_tokens, sub_tokens, subs_tokens, pieces_tokens, sub_names, sentence}
+use Rattle.grammar.specs.Grammar.{declaration_tokens, sentence}
 use Rattle.grammar.specs.Spelled.{Arities, Spells, InOrder}
 use Rattle.grammar.proofs.Theory.Parts.{arities_take, arities_drop}
 use Rattle.refusals.specs.Sentences.{Name, NamedCondition, NamedStatement, condition_then, statement_then, else_then, block_then, Entry, names_then}
-use Rattle.refusals.specs.Sentences.{entries_then, line_then, NamedSub, subs_then, Sentence}
+use Rattle.refusals.specs.Sentences.{entries_then, line_then, Sentence}
 use Rattle.refusals.specs.Sentences as alone
 use Rattle.refusals.specs.Questions.{AllNames}
 use Rattle.refusals.proofs.Theory.Parts.{names_take, names_drop}
-use Rattle.refusals.proofs.Theory.Lines.{names_more}
 
 module _ (rs fs ns : List ℕ) (t : ℕ) (R : AllNames rs) (F : AllNames fs) where
   registered : (x : ℕ) → x < length rs → Name
@@ -52,88 +50,63 @@ module _ (rs fs ns : List ℕ) (t : ℕ) (R : AllNames rs) (F : AllNames fs) whe
       by_test (takes_two rs fs ns f) (λ t. (NamedStatement.apply_two (registered x l) g (registered y r) (registered z q), λ ws. rw t)) λ t.
       (NamedStatement.apply (registered x l) g (registered y r), λ ws. rw t)
 
-  -- where the subs cs may be called
-  module _ (cs : List ℕ) (C : AllNames cs) where
-    mutual
-      unfolding statement_tokens
+  mutual
+    unfolding statement_tokens
 
-      statement_same : (c : Statement) → Proper c (header rs fs ns) t (length cs) → SameStatement (statement_tokens rs fs ns cs c)
-      statement_same skip p = (alone.skip, λ ws. refl)
-      statement_same (assign a) p = assignment_same a p
-      statement_same (assume c) p =
-          let (d, h) = condition_same c p in (
-            alone.assume d,
-            λ ws. ap (λ l. word.assume_key ∷ l)
-                (append_assoc (condition_tokens rs fs ns c) (word.semicolon_key ∷ []) ws ∙ h (word.semicolon_key ∷ ws)),
-          )
-      statement_same (assert c) p =
-          let (d, h) = condition_same c p in (
-            alone.assert d,
-            λ ws. ap (λ l. word.assert_key ∷ l)
-                (append_assoc (condition_tokens rs fs ns c) (word.semicolon_key ∷ []) ws ∙ h (word.semicolon_key ∷ ws)),
-          )
-      statement_same (if c b e) (p, q, r) =
-          let (d, h) = condition_same c p in
-          let (x, g) = block_same b q in
-          let (y, f) = else_same e r in (
-            alone.if d x y,
-            λ ws. ap (λ l. word.if_key ∷ l) (
-                append_assoc (condition_tokens rs fs ns c) (word.lbrace_key ∷ (block_tokens rs fs ns cs b ++ word.rbrace_key ∷ else_tokens rs fs ns cs e)) ws
-                ∙ h (word.lbrace_key ∷ ((block_tokens rs fs ns cs b ++ word.rbrace_key ∷ else_tokens rs fs ns cs e) ++ ws))
-                ∙ ap (λ l. condition_then d (word.lbrace_key ∷ l))
-                (append_assoc (block_tokens rs fs ns cs b) (word.rbrace_key ∷ else_tokens rs fs ns cs e) ws ∙ g (word.rbrace_key ∷ (else_tokens rs fs ns cs e ++ ws))
-                ∙ ap (λ l. block_then x (word.rbrace_key ∷ l)) (f ws))),
-          )
-      statement_same (while c b) (p, q) =
-          let (d, h) = condition_same c p in
-          let (x, g) = block_same b q in (
-            alone.while d x,
-            λ ws. ap (λ l. word.while_key ∷ l) (
-                append_assoc (condition_tokens rs fs ns c) (word.lbrace_key ∷ (block_tokens rs fs ns cs b ++ word.rbrace_key ∷ [])) ws
-                ∙ h (word.lbrace_key ∷ ((block_tokens rs fs ns cs b ++ word.rbrace_key ∷ []) ++ ws))
-                ∙ ap (λ l. condition_then d (word.lbrace_key ∷ l)) (append_assoc (block_tokens rs fs ns cs b) (word.rbrace_key ∷ []) ws ∙ g (word.rbrace_key ∷ ws))),
-          )
-      statement_same (call i) p = (alone.call (record { key = get_or cs i 0; real = C i p }), λ ws. refl)
+    statement_same : (c : Statement) → Proper c (header rs fs ns) t → SameStatement (statement_tokens rs fs ns c)
+    statement_same skip p = (alone.skip, λ ws. refl)
+    statement_same (assign a) p = assignment_same a p
+    statement_same (assume c) p =
+        let (d, h) = condition_same c p in (
+          alone.assume d,
+          λ ws. ap (λ l. word.assume_key ∷ l)
+              (append_assoc (condition_tokens rs fs ns c) (word.semicolon_key ∷ []) ws ∙ h (word.semicolon_key ∷ ws)),
+        )
+    statement_same (assert c) p =
+        let (d, h) = condition_same c p in (
+          alone.assert d,
+          λ ws. ap (λ l. word.assert_key ∷ l)
+              (append_assoc (condition_tokens rs fs ns c) (word.semicolon_key ∷ []) ws ∙ h (word.semicolon_key ∷ ws)),
+        )
+    statement_same (if c b e) (p, q, r) =
+        let (d, h) = condition_same c p in
+        let (x, g) = block_same b q in
+        let (y, f) = else_same e r in (
+          alone.if d x y,
+          λ ws. ap (λ l. word.if_key ∷ l) (
+              append_assoc (condition_tokens rs fs ns c) (word.lbrace_key ∷ (block_tokens rs fs ns b ++ word.rbrace_key ∷ else_tokens rs fs ns e)) ws
+              ∙ h (word.lbrace_key ∷ ((block_tokens rs fs ns b ++ word.rbrace_key ∷ else_tokens rs fs ns e) ++ ws))
+              ∙ ap (λ l. condition_then d (word.lbrace_key ∷ l))
+              (append_assoc (block_tokens rs fs ns b) (word.rbrace_key ∷ else_tokens rs fs ns e) ws ∙ g (word.rbrace_key ∷ (else_tokens rs fs ns e ++ ws))
+              ∙ ap (λ l. block_then x (word.rbrace_key ∷ l)) (f ws))),
+        )
+    statement_same (while c b) (p, q) =
+        let (d, h) = condition_same c p in
+        let (x, g) = block_same b q in (
+          alone.while d x,
+          λ ws. ap (λ l. word.while_key ∷ l) (
+              append_assoc (condition_tokens rs fs ns c) (word.lbrace_key ∷ (block_tokens rs fs ns b ++ word.rbrace_key ∷ [])) ws
+              ∙ h (word.lbrace_key ∷ ((block_tokens rs fs ns b ++ word.rbrace_key ∷ []) ++ ws))
+              ∙ ap (λ l. condition_then d (word.lbrace_key ∷ l)) (append_assoc (block_tokens rs fs ns b) (word.rbrace_key ∷ []) ws ∙ g (word.rbrace_key ∷ ws))),
+        )
 
-      else_same : (e : Else) → ProperElse e (header rs fs ns) t (length cs)
-          → (d : alone.NamedElse) × ((ws : List ℕ) → else_tokens rs fs ns cs e ++ ws ≡ else_then d ws)
-      else_same absent p = (alone.absent, λ ws. refl)
-      else_same (present b) p = let (x, g) = block_same b p in (
-        alone.present x,
-        λ ws. ap (λ l. word.else_key ∷ word.lbrace_key ∷ l)
-            (append_assoc (block_tokens rs fs ns cs b) (word.rbrace_key ∷ []) ws ∙ g (word.rbrace_key ∷ ws)),
-      )
+    else_same : (e : Else) → ProperElse e (header rs fs ns) t → (d : alone.NamedElse) × ((ws : List ℕ) → else_tokens rs fs ns e ++ ws ≡ else_then d ws)
+    else_same absent p = (alone.absent, λ ws. refl)
+    else_same (present b) p = let (x, g) = block_same b p in (
+      alone.present x,
+      λ ws. ap (λ l. word.else_key ∷ word.lbrace_key ∷ l)
+          (append_assoc (block_tokens rs fs ns b) (word.rbrace_key ∷ []) ws ∙ g (word.rbrace_key ∷ ws)),
+    )
 
-      pub block_same : (b : Block) → ProperBlock b (header rs fs ns) t (length cs)
-          → (d : alone.NamedBlock) × ((ws : List ℕ) → block_tokens rs fs ns cs b ++ ws ≡ block_then d ws)
-      block_same empty p = (alone.empty, λ ws. refl)
-      block_same (c then b) (p, q) =
-          let (x, h) = statement_same c p in
-          let (y, g) = block_same b q in (
-            alone.◌followed_by◌ x y,
-            λ ws. append_assoc (statement_tokens rs fs ns cs c) (block_tokens rs fs ns cs b) ws ∙ h (block_tokens rs fs ns cs b ++ ws)
-                ∙ ap (statement_then x) (g ws),
-          )
-
-  -- subs, where the subs cs stand above
-  subs_same : (cs : List ℕ) (us : List Sub) → AllNames cs → AllNames (sub_names us) → ProperSubs us (header rs fs ns) t (length cs)
-      → (ds : List NamedSub) × ((ws : List ℕ) → subs_tokens rs fs ns cs us ++ ws ≡ subs_then ds ws)
-  unfolding subs_tokens
-  subs_same cs [] C U p = ([], λ ws. refl)
-  subs_same cs (u ∷ us) C U (p, q) =
-      let n = u.name in
-      let B = block_tokens rs fs ns cs u.body in
-      let S = subs_tokens rs fs ns (cs ++ n ∷ []) us in
-      let r = U 0 (omega arith) in
-      let (b, h) = block_same cs C u.body p in
-      let e : suc (length cs) ≡ length (cs ++ n ∷ []) = omega (arith, length-append cs (n ∷ [])) in
-      let (ds, g) = subs_same (cs ++ n ∷ []) us (names_more cs n C r) (λ i l. U (suc i) (omega arith))
-      (subst (λ c. ProperSubs us (header rs fs ns) t c) e q) in (
-        record { name = record { key = n; real = r }; body = b } ∷ ds,
-        λ ws. append_assoc (sub_tokens rs fs ns cs u) S ws
-            ∙ ap (λ l. word.sub_key ∷ n ∷ word.lbrace_key ∷ l)
-            (append_assoc B (word.rbrace_key ∷ []) (S ++ ws) ∙ h (word.rbrace_key ∷ (S ++ ws)) ∙ ap (λ l. block_then b (word.rbrace_key ∷ l)) (g ws)),
-      )
+    block_same : (b : Block) → ProperBlock b (header rs fs ns) t → (d : alone.NamedBlock) × ((ws : List ℕ) → block_tokens rs fs ns b ++ ws ≡ block_then d ws)
+    block_same empty p = (alone.empty, λ ws. refl)
+    block_same (c then b) (p, q) =
+        let (x, h) = statement_same c p in
+        let (y, g) = block_same b q in (
+          alone.◌followed_by◌ x y,
+          λ ws. append_assoc (statement_tokens rs fs ns c) (block_tokens rs fs ns b) ws ∙ h (block_tokens rs fs ns b ++ ws)
+              ∙ ap (statement_then x) (g ws),
+        )
 
 names_same : (ks : List ℕ) → AllNames ks → (xs : List Name) × ((ws : List ℕ) → ks ++ ws ≡ names_then xs ws)
 names_same [] n = ([], λ ws. refl)
@@ -175,29 +148,26 @@ lines_same fs ns t a n w =
     let (ds, g) = line_same word.tests_key (drop t fs) (drop t ns) (arities_drop t a) (names_drop t fs w n) in
     (es, ds, λ ws. append_assoc L T ws ∙ h (T ++ ws) ∙ ap (line_then word.funs_key es) (g ws))
 
-macro_same : (rs fs ns : List ℕ) (t : ℕ) (us : List Sub) (b : Block) → AllNames rs → 1 ≤ length rs → AllNames fs → Arities fs ns → t ≤ length fs
-    → AllNames (sub_names us) → ProperSubs us (header rs fs ns) t 0 → ProperBlock b (header rs fs ns) t (length us)
-    → Sentence (word.vars_key ∷ (rs ++ word.semicolon_key ∷ (declaration_tokens fs ns t ++ pieces_tokens rs fs ns us b)))
-macro_same [] fs ns t us b R n F A w U q p = absurd (omega arith)
-macro_same (r ∷ rs) fs ns t us b R n F A w U q p =
-    let B = block_tokens (r ∷ rs) fs ns (sub_names us) b in
-    let P = pieces_tokens (r ∷ rs) fs ns us b in
-    let (x, g) = block_same (r ∷ rs) fs ns t R F (sub_names us) U b
-    (subst (λ c. ProperBlock b (header (r ∷ rs) fs ns) t c) (sym (length-map us λ u. u.name)) p) in
-    let (ss, k) = subs_same (r ∷ rs) fs ns t R F [] us (λ i l. absurd (omega arith)) U q in
+macro_same : (rs fs ns : List ℕ) (t : ℕ) (b : Block) → AllNames rs → 1 ≤ length rs → AllNames fs → Arities fs ns → t ≤ length fs
+    → ProperBlock b (header rs fs ns) t
+    → Sentence (word.vars_key ∷ (rs ++ word.semicolon_key ∷ (declaration_tokens fs ns t ++ block_tokens rs fs ns b)))
+macro_same [] fs ns t b R n F A w p = absurd (omega arith)
+macro_same (r ∷ rs) fs ns t b R n F A w p =
+    let B = block_tokens (r ∷ rs) fs ns b in
+    let (x, g) = block_same (r ∷ rs) fs ns t R F b p in
     let (es, ds, f) = lines_same fs ns t A F w in
     let (xs, h) = names_same rs (λ i l. R (suc i) (omega arith)) in
     record {
-      macro = record { first = record { key = r; real = R 0 (omega arith) }; others = xs; functions = es; tests = ds; subs = ss; body = x };
+      macro = record { first = record { key = r; real = R 0 (omega arith) }; others = xs; functions = es; tests = ds; body = x };
       spelled = sym (ap (λ l. word.vars_key ∷ r ∷ l)
-          (h (word.semicolon_key ∷ (declaration_tokens fs ns t ++ P))
-          ∙ ap (λ l. names_then xs (word.semicolon_key ∷ l)) (f P
-          ∙ ap (λ l. line_then word.funs_key es (line_then word.tests_key ds l)) (k B ∙ ap (subs_then ss) (sym (append-nil B) ∙ g [])))));
+          (h (word.semicolon_key ∷ (declaration_tokens fs ns t ++ B))
+          ∙ ap (λ l. names_then xs (word.semicolon_key ∷ l)) (f B
+          ∙ ap (λ l. line_then word.funs_key es (line_then word.tests_key ds l)) (sym (append-nil B) ∙ g []))));
     }
 
 -- The sentence of a macro in order is a sentence.
 pub in_order_sentence : (m : Macro) → InOrder m → Sentence (sentence m)
 unfolding sentence
 in_order_sentence m O =
-    macro_same m.registers m.functions m.arities m.first_test m.subs m.body O.registers.names O.some O.functions.names O.arities
-    O.tests O.subs.names O.sub_uses O.uses
+    macro_same m.registers m.functions m.arities m.first_test m.body O.registers.names O.some O.functions.names O.arities O.tests
+    O.uses

@@ -11,7 +11,6 @@ use Rattle.macros.specs.WrittenOut.{statement_before, written_out}
 use Rattle.macros.specs.Executions.{Outcome}
 use Rattle.macros.specs.Words.{Word, WordBlock}
 use Rattle.macros.specs.Walk.{Place, at, failure}
-use Rattle.grammar.specs.Inlined.{inlined_block, inlined_bodies}
 use Rattle.grammar.specs.Expanded.{expanded_statement}
 use Rattle.grammar.specs.Grammar.{expanded}
 use Rattle.grammar.proofs.Theory.Whole.{read_sound}
@@ -36,7 +35,7 @@ module _ (answer : MacroRead) (read : Reads loop answer) where
   executions = (macros_have_executions loop answer read).executes searched loop_accepted
 
   two_turns : Performed answer.program (Unequal 0 1 ∷ Apply 0 0 0 0 ∷ Unequal 0 1 ∷ Apply 0 0 0 0 ∷ Equal 0 1 ∷ Equal 0 1 ∷ []) (at answer.program.count)
-  unfolding searched statement_before inlined_block inlined_bodies expanded_statement
+  unfolding searched statement_before expanded_statement
   two_turns = (executions.complete _).1
       (WordBlock.both (Word.turns (WordBlock.both Word.letter WordBlock.stop refl)
       (Word.turns (WordBlock.both Word.letter WordBlock.stop refl) (Word.leaves refl) refl) refl)
@@ -44,11 +43,11 @@ module _ (answer : MacroRead) (read : Reads loop answer) where
 
   -- the assertion fails where the loop is left at once
   fails_at_once : Performed answer.program (Equal 0 1 ∷ Unequal 0 1 ∷ []) failure
-  unfolding searched statement_before inlined_block inlined_bodies expanded_statement
+  unfolding searched statement_before expanded_statement
   fails_at_once = (executions.failing _).1 (WordBlock.both (Word.leaves refl) (WordBlock.ends (Word.fails refl)) refl)
 
   not_the_body : (l : Place ℕ) → ¬ Performed answer.program (Apply 0 0 0 0 ∷ []) l
-  unfolding searched statement_before inlined_block inlined_bodies expanded_statement
+  unfolding searched statement_before expanded_statement
   not_the_body l p = let (v, o, w) = (executions.partial (Apply 0 0 0 0 ∷ [])).0 (l, p) in none w
     where
       begins : {v u : List Letter} → ¬ ((u ≡ Apply 0 0 0 0 ∷ v) × (w : List Letter) × ((u ≡ Unequal 0 1 ∷ w) ⊎ (u ≡ Equal 0 1 ∷ w)))

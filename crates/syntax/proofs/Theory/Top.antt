@@ -13,19 +13,17 @@ use Rattle.base.proofs.Theory.Choice.{by_test}
 use Rattle.base.specs.Each.{each}
 use Rattle.letters.specs.Editions.{most_registers, most_functions}
 use Rattle.letters.specs.MacroRefusalNumbers.{text_too_long, points_too_many}
-use Rattle.grammar.specs.Limits.{longest_text, most_points, deepest_nesting, most_subs}
+use Rattle.grammar.specs.Limits.{longest_text, most_points, deepest_nesting}
 use Rattle.blocks.specs.Held.{unknown}
 use Rattle.letters.specs.declared.Header.{Header}
 use Rattle.macros.specs.Points.{points, size_block}
 use Rattle.tokens.specs.declared.Token.{Token}
 use Rattle.tokens.specs.Tokens.{token_at}
 use Rattle.tokens.specs.Words as word
-use Rattle.grammar.specs.Tree.{Block, Sub}
-use Rattle.grammar.specs.Inlined.{inlined_block, inlined_bodies}
-use Rattle.macros.specs.Tree as macro
+use Rattle.grammar.specs.Tree.{Block}
 use Rattle.grammar.specs.Expanded.{expanded_block}
-use Rattle.grammar.specs.Grammar.{Macro, sub_names, binary_of, header_of, expanded}
-use Rattle.grammar.specs.Reading.{Got, got, exhausted, and_then, expect, register_names, functions_t, tests_t, subs_from, block, whole_block, count_t}
+use Rattle.grammar.specs.Grammar.{Macro, binary_of, header_of, expanded}
+use Rattle.grammar.specs.Reading.{Got, got, exhausted, and_then, expect, register_names, functions_t, tests_t, block, count_t}
 use Rattle.grammar.proofs.Theory.Reading.{read_text, read_macro}
 use Rattle.grammar.specs.Spelled.{Spells}
 use Rattle.grammar.proofs.Theory.Declarations.{registers_sound}
@@ -34,7 +32,6 @@ use Rattle.phrases.specs.Codes.{without_value, Few}
 use Rattle.phrases.proofs.Theory.Answers.{coded_at}
 use Rattle.phrases.specs.declared.GotNumber as number
 use Rattle.blocks.specs.Held.{point_table, points_over, unused_point, held_point, Progress, progress_of, held_by, points_of, table_of_codes, HoldsPoints}
-use Rattle.blocks.specs.Held.{HoldsBodies}
 use Rattle.blocks.proofs.Theory.Held.{redirected}
 use Rattle.blocks.proofs.Theory.CodeLaws.{table_filled}
 use Rattle.blocks.specs.Outcome.{ReadAs, backpatched_in, block_code, BlockRead, ReaderReady}
@@ -45,7 +42,7 @@ use Rattle.blocks.proofs.Theory.Redirect.{block_length, redirect_block}
 use Rattle.blocks.specs.declared.PointEntry.{PointEntry}
 use Rattle.blocks.specs.declared.ReaderState.{ReaderState}
 use Rattle.syntax.specs.Answer.{padded, held_macro, no_macro, held_reading, held_registers, held_functions, refused_token_number, end_from, body_from}
-use Rattle.syntax.specs.Answer.{statements_from, tests_from, functions_from}
+use Rattle.syntax.specs.Answer.{tests_from, functions_from}
 use Rattle.syntax.proofs.Theory.Answer.{registers_from}
 use Rattle.syntax.specs.Lists.{NamesPadded, refused_by}
 use Rattle.syntax.proofs.Theory.Lists.{kept_list, functions_size, tests_size}
@@ -55,8 +52,7 @@ use Rattle.syntax.specs.declared.MacroRead.{MacroRead}
 use Rattle.syntax.specs.declared.Registers.{Registers}
 use Rattle.syntax.specs.declared.Functions.{Functions}
 use Rattle.syntax.specs.Top.{RegistersPadded, FunctionsPadded, padded_registers, padded_functions, macro_of, empty_table, BlockEnded, Finishes}
-use Rattle.syntax.specs.Top.{hidden_count, RoomForHidden, reader_start, arity_flag, headed, StatementsReady, StatementsAreRead}
-use Rattle.syntax.specs.Subs.{HoldsSubs}
+use Rattle.syntax.specs.Top.{hidden_count, RoomForHidden, reader_start, arity_flag, headed}
 
 -- the lists that the arrays hold
 abbrev pub list_of : Registers → List ℕ
@@ -126,61 +122,57 @@ read registers functions h ps n = record {
 }
 
 -- the points of the whole macro, with the end for what follows
-turned_whole : (n : ℕ) (bs : List Block) (b : Block) → size_block (expanded_block n (inlined_block bs b)) ≤ most_points
-    → map (redirected (size_block (expanded_block n (inlined_block bs b)))) (block_code n bs b 0) ≡ map held_point (points (expanded_block n (inlined_block bs b)))
+turned_whole : (n : ℕ) (b : Block) → size_block (expanded_block n b) ≤ most_points
+    → map (redirected (size_block (expanded_block n b))) (block_code n b 0) ≡ map held_point (points (expanded_block n b))
 unfolding block_code
-turned_whole n bs b l = let a = expanded_block n (inlined_block bs b) in redirect_block (size_block a) unknown a 0 (omega arith)
+turned_whole n b l = redirect_block (size_block (expanded_block n b)) unknown (expanded_block n b) 0 (omega arith)
 
 module _ (s : List ℕ) (rs : Registers) (fs : Functions) (m : ℕ) (body : Progress) (t : Token) (e : t ≡ token_at s body.at) where
-  -- a block with its calls replaced, behind the subs us, and how many points it has
-  abbrev Performed : List Sub → Block → macro.Block
-  Performed us b = expanded_block rs.count (inlined_block (inlined_bodies [] us) b)
-
-  abbrev Size : List Sub → Block → ℕ
-  Size us b = size_block (Performed us b)
+  -- the points of a block
+  abbrev Size : Block → ℕ
+  Size b = size_block (expanded_block rs.count b)
 
   pub finish_unfit : (t.key ≡ 0 → ⊥) → (n : ℕ) → n ≡ refused_token_number t → (r : MacroRead) → r ≡ held_reading (Got.refused n t.start)
       → Finishes s rs fs m body r
   unfolding Finishes
-  finish_unfit h n i r g us b E = rw (← e, ne_eqb t.key 0 h) (g ∙ ap (λ n. held_reading (Got.refused n t.start)) i)
+  finish_unfit h n i r g b E = rw (← e, ne_eqb t.key 0 h) (g ∙ ap (λ n. held_reading (Got.refused n t.start)) i)
 
   module _ (R : NamesPadded most_registers rs.names rs.count) (z : t.key ≡ 0) where
     -- the points that are counted are those behind the registers that were read
-    counted : (us : List Sub) (b : Block) → size_block (expanded (macro_of s rs fs m us b)) ≡ Size us b
-    counted us b = ap (λ n. size_block (expanded_block n (inlined_block (inlined_bodies [] us) b))) R.size
+    counted : (b : Block) → size_block (expanded (macro_of s rs fs m b)) ≡ Size b
+    counted b = ap (λ n. size_block (expanded_block n b)) R.size
 
     pub finish_long : most_points < body.count → (r : MacroRead) → r ≡ held_reading (Got.refused points_too_many 0) → Finishes s rs fs m body r
     unfolding Finishes
-    finish_long h r g us b E =
-        let l : most_points < Size us b = by_test (leb (Size us b) most_points)
+    finish_long h r g b E =
+        let l : most_points < Size b = by_test (leb (Size b) most_points)
         (λ u.
-        let v = leb-true (Size us b) most_points u in
+        let v = leb-true (Size b) most_points u in
         let H = E.low v in
         let c = H.count in
-        let m = block_length rs.count (inlined_bodies [] us) b 0 in absurd (omega arith))
-        (λ u. leb-false (Size us b) most_points u) in
-        rw (← e, eq-eqb t.key 0 z, counted us b, lt-ltb most_points (Size us b) l) g
+        let m = block_length rs.count b 0 in absurd (omega arith))
+        (λ u. leb-false (Size b) most_points u) in
+        rw (← e, eq-eqb t.key 0 z, counted b, lt-ltb most_points (Size b) l) g
 
     pub finish_read : NamesPadded most_functions fs.names fs.count × NamesPadded most_functions fs.arities fs.count
         → body.count ≤ most_points
         → (head : Header) → head ≡ headed rs fs m
-        → (ps : List PointEntry) → ((us : List Sub) (b : Block) → Size us b ≤ most_points
-        → HoldsPoints empty_table body (block_code rs.count (inlined_bodies [] us) b 0) → ps ≡ point_table (map held_point (points (Performed us b))))
+        → (ps : List PointEntry) → ((b : Block) → Size b ≤ most_points → HoldsPoints empty_table body (block_code rs.count b 0)
+        → ps ≡ point_table (map held_point (points (expanded_block rs.count b))))
         → (registers functions : List ℕ) → registers ≡ padded_registers s rs.count m fs.count → functions ≡ padded_functions s rs.count m fs.count
         → Finishes s rs fs m body (read registers functions head ps body.count)
     unfolding Finishes held_reading held_macro
-    finish_read (F, A) h head i ps p registers functions x y us b E =
-        let l : Size us b ≤ most_points = by_test (leb (Size us b) most_points) (λ u. leb-true (Size us b) most_points u)
-        (λ u. let c = E.high (leb-false (Size us b) most_points u) in absurd (omega arith)) in
+    finish_read (F, A) h head i ps p registers functions x y b E =
+        let l : Size b ≤ most_points = by_test (leb (Size b) most_points) (λ u. leb-true (Size b) most_points u)
+        (λ u. let c = E.high (leb-false (Size b) most_points u) in absurd (omega arith)) in
         let H = E.low l in
-        let n : body.count ≡ size_block (expanded (macro_of s rs fs m us b)) = H.count ∙ block_length rs.count (inlined_bodies [] us) b 0
-        ∙ sym (counted us b) in
+        let n : body.count ≡ size_block (expanded (macro_of s rs fs m b)) = H.count ∙ block_length rs.count b 0 ∙ sym (counted b) in
         let arities = take fs.count fs.arities in
         let binary : binary_of fs.arities ≡ binary_of arities = ap binary_of A.pad ∙ binary_padded arities (most_functions - length arities) in
-        let all : rs.count + hidden_count m fs.count ≡ (header_of (macro_of s rs fs m us b)).registers =
+        let all : rs.count + hidden_count m fs.count ≡ (header_of (macro_of s rs fs m b)).registers =
         (λ j. sym R.size j + hidden_count m (sym F.size j))
         ∙ sym (hidden_length (take rs.count rs.names) m (length (take fs.count fs.names))) in
-        rw (← e, eq-eqb t.key 0 z, counted us b, le-ltb most_points (Size us b) l)
+        rw (← e, eq-eqb t.key 0 z, counted b, le-ltb most_points (Size b) l)
         λ j. record {
           refusal = 0;
           place = 0;
@@ -188,7 +180,7 @@ module _ (s : List ℕ) (rs : Registers) (fs : Functions) (m : ℕ) (body : Prog
             header = (i ∙ λ j. record { registers = all j; functions = sym F.size j; binary = binary j }) j;
             registers = (x ∙ λ j. padded_registers s (sym R.size j) m (sym F.size j)) j;
             functions = (y ∙ λ j. padded_functions s (sym R.size j) m (sym F.size j)) j;
-            points = (p us b l H ∙ ap (λ n. point_table (map held_point (points (expanded_block n (inlined_block (inlined_bodies [] us) b))))) (sym R.size)) j;
+            points = (p b l H ∙ ap (λ n. point_table (map held_point (points (expanded_block n b)))) (sym R.size)) j;
             count = n j;
           };
         }
@@ -197,13 +189,11 @@ module _ (s : List ℕ) (rs : Registers) (fs : Functions) (m : ℕ) (body : Prog
 module _ (body : ReaderState) (cs xs ys xs' ys' : List ℕ) (ps : List PointEntry) (e : xs' ≡ each (backpatched_in 0 body.count body.count) xs)
     (f : ys' ≡ each (backpatched_in 0 body.count body.count) ys)
     (g : ps ≡ table_of_codes cs xs' ys' body.count) where
-  pub points_whole : (registers : ℕ) (us : List Sub) (b : Block) → size_block (expanded_block registers (inlined_block (inlined_bodies [] us) b)) ≤ most_points
-      → HoldsPoints empty_table (held_by body cs xs ys) (block_code registers (inlined_bodies [] us) b 0)
-      → ps ≡ point_table (map held_point (points (expanded_block registers (inlined_block (inlined_bodies [] us) b))))
-  points_whole registers us b l H =
-      let bs = inlined_bodies [] us in
+  pub points_whole : (registers : ℕ) (b : Block) → size_block (expanded_block registers b) ≤ most_points
+      → HoldsPoints empty_table (held_by body cs xs ys) (block_code registers b 0) → ps ≡ point_table (map held_point (points (expanded_block registers b)))
+  points_whole registers b l H =
       let n = body.count in
-      let held = block_code registers bs b 0 in
+      let held = block_code registers b 0 in
       let ts = map (redirected n) held in
       let size : length ts ≡ n = length-map held (redirected n) ∙ sym H.count in
       let all : points_of cs xs' ys' ≡ points_over empty_table ts =
@@ -214,67 +204,59 @@ module _ (body : ReaderState) (cs xs ys xs' ys' : List ℕ) (ps : List PointEntr
       ∙ ap (points_over empty_table) (append-nil ts) in
       let more = length-append ts (drop (length ts) empty_table) in
       g
-      ∙ table_filled cs xs' ys' n (let c = H.count in let m = block_length registers bs b 0 in omega arith) (omega (arith, ap length all))
+      ∙ table_filled cs xs' ys' n (let c = H.count in let m = block_length registers b 0 in omega arith) (omega (arith, ap length all))
       ∙ ap (λ l. point_table (take n l)) all
       ∙ ap (λ k. point_table (take k (points_over empty_table ts))) (sym size)
       ∙ ap point_table (take-append_seam ts (drop (length ts) empty_table))
-      ∙ ap (λ k. point_table (map (redirected k) held)) (H.count ∙ block_length registers bs b 0)
-      ∙ ap point_table (turned_whole registers bs b l)
+      ∙ ap (λ k. point_table (map (redirected k) held)) (H.count ∙ block_length registers b 0)
+      ∙ ap point_table (turned_whole registers b l)
 
--- ---- behind the subs
+-- ---- behind the declarations
 
-module _ (s : List ℕ) (rs : Registers) (fs : Functions) (m : ℕ) (cs bodies : List ℕ) (at : ℕ) (body st : Progress) (S : st ≡ start_with at)
+module _ (s : List ℕ) (rs : Registers) (fs : Functions) (m : ℕ) (body st : Progress) (S : st ≡ start_with fs.at)
     (R : NamesPadded most_registers rs.names rs.count)
-    (B : BlockRead s (list_of rs) (take fs.count fs.names) (take fs.count fs.arities) m cs deepest_nesting bodies st body) where
+    (B : BlockRead s (list_of rs) (take fs.count fs.names) (take fs.count fs.arities) m deepest_nesting st body) where
   abbrev Body : Got Block
-  Body = whole_block s (list_of rs) (take fs.count fs.names) (take fs.count fs.arities) m cs deepest_nesting at
+  Body = block s (list_of rs) (take fs.count fs.names) (take fs.count fs.arities) m (2 * length s + 1) deepest_nesting fs.at
 
-  module _ (us : List Sub) (H : HoldsSubs rs.count us cs bodies) where
-    abbrev Code : Block → ℕ → List PointEntry
-    Code = block_code rs.count (inlined_bodies [] us)
+  abbrev Code : Block → ℕ → List PointEntry
+  Code = block_code rs.count
 
-    outcome : ReadAs Code (start_with at) body Body
-    outcome = subst (λ n. ReadAs (block_code n (inlined_bodies [] us)) (start_with at) body Body) R.size
-        (subst (λ k. ReadAs (block_code (length (list_of rs)) (inlined_bodies [] us)) (start_with at) body (called k)) (one_more (2 * length s))
-        (begun.outcome (inlined_bodies [] us) (subst (λ n. HoldsBodies n (inlined_bodies [] us) bodies (length cs)) (sym R.size) H.held) (2 * length s)
-        (omega arith)))
-      where
-        called : ℕ → Got Block
-        called k = block s (list_of rs) (take fs.count fs.names) (take fs.count fs.arities) m cs k deepest_nesting at
+  outcome : ReadAs Code (start_with fs.at) body Body
+  outcome = subst (λ n. ReadAs (block_code n) (start_with fs.at) body Body) R.size
+      (subst (λ k. ReadAs (block_code (length (list_of rs))) (start_with fs.at) body (called k)) (one_more (2 * length s))
+      (begun.outcome (2 * length s) (omega arith)))
+    where
+      called : ℕ → Got Block
+      called k = block s (list_of rs) (take fs.count fs.names) (take fs.count fs.arities) m k deepest_nesting fs.at
 
-        one_more : (n : ℕ) → suc n ≡ n + 1
-        one_more n = omega arith
+      one_more : (n : ℕ) → suc n ≡ n + 1
+      one_more n = omega arith
 
-        begun : BlockRead s (list_of rs) (take fs.count fs.names) (take fs.count fs.arities) m cs deepest_nesting bodies (start_with at) body
-        begun = subst (λ st. BlockRead s (list_of rs) (take fs.count fs.names) (take fs.count fs.arities) m cs deepest_nesting bodies st body) S B
-
-    -- what follows the statements, and that it is the same where the names are those of the subs
-    abbrev After : List ℕ → Got Macro
-    After cs = and_then (whole_block s (list_of rs) (take fs.count fs.names) (take fs.count fs.arities) m cs deepest_nesting at)
-        λ b e. end_from s (macro_of s rs fs m us b) e
+      begun : BlockRead s (list_of rs) (take fs.count fs.names) (take fs.count fs.arities) m deepest_nesting (start_with fs.at) body
+      begun = subst (λ st. BlockRead s (list_of rs) (take fs.count fs.names) (take fs.count fs.arities) m deepest_nesting st body) S B
 
   pub body_refused : body.ok ≡ false → (r : MacroRead) → r ≡ held_reading (Got.refused body.number body.place)
-      → StatementsAreRead s rs fs m cs bodies at r
-  unfolding statements_from
-  body_refused h r g = record { read = λ us H. g ∙ go us Body (outcome us H) ∙ ap (λ cs. held_reading (After us H cs)) H.names }
+      → r ≡ held_reading (body_from s (list_of rs) (take fs.count fs.names) (take fs.count fs.arities) m fs.at)
+  unfolding body_from
+  body_refused h r g = g ∙ go Body outcome
     where
-      go : (us : List Sub) (x : Got Block) → ReadAs (block_code rs.count (inlined_bodies [] us)) (start_with at) body x
-          → held_reading (Got.refused body.number body.place) ≡ held_reading (and_then x λ b e. end_from s (macro_of s rs fs m us b) e)
-      go us (got b e) o = let k = o.ok in let z : ◌≡◌ {A = ℕ} 0 1 = cc in absurd (omega arith)
-      go us (Got.refused n p) o = λ m. held_reading (Got.refused (o.number m) (o.place m))
-      go us exhausted o = absurd o
+      go : (x : Got Block) → ReadAs Code (start_with fs.at) body x
+          → held_reading (Got.refused body.number body.place) ≡ held_reading (and_then x λ b e. end_from s (macro_of s rs fs m b) e)
+      go (got b e) o = let k = o.ok in let z : ◌≡◌ {A = ℕ} 0 1 = cc in absurd (omega arith)
+      go (Got.refused n p) o = λ m. held_reading (Got.refused (o.number m) (o.place m))
+      go exhausted o = absurd o
 
-  pub body_read : body.ok ≡ true → (r : MacroRead) → Finishes s rs fs m body r → StatementsAreRead s rs fs m cs bodies at r
-  unfolding statements_from Finishes
-  body_read h r g = record {
-    read = λ us H.
-        let (b, e, w, F) = outcome_fine (Code us H) (start_with at) body Body (outcome us H) h in
-        let n = block_length rs.count (inlined_bodies [] us) b 0 in
-        let begun : HoldsPoints empty_table (start_with at) [] = record { size = refl; count = refl; points = refl } in
-        let E : BlockEnded rs.count us body b = record { low = λ l. F.laid empty_table [] begun (omega arith); high = λ l. F.high (omega arith) } in
-        g us b E ∙ ap (λ e. held_reading (end_from s (macro_of s rs fs m us b) e)) F.at
-        ∙ ap (λ x. held_reading (and_then x λ b e. end_from s (macro_of s rs fs m us b) e)) (sym w) ∙ ap (λ cs. held_reading (After us H cs)) H.names;
-  }
+  pub body_read : body.ok ≡ true → (r : MacroRead) → Finishes s rs fs m body r
+      → r ≡ held_reading (body_from s (list_of rs) (take fs.count fs.names) (take fs.count fs.arities) m fs.at)
+  unfolding body_from Finishes
+  body_read h r g =
+      let (b, e, w, F) = outcome_fine Code (start_with fs.at) body Body outcome h in
+      let n = block_length rs.count b 0 in
+      let begun : HoldsPoints empty_table (start_with fs.at) [] = record { size = refl; count = refl; points = refl } in
+      let E : BlockEnded rs.count body b = record { low = λ l. F.laid empty_table [] begun (omega arith); high = λ l. F.high (omega arith) } in
+      g b E ∙ ap (λ e. held_reading (end_from s (macro_of s rs fs m b) e)) F.at
+      ∙ ap (λ x. held_reading (and_then x λ b e. end_from s (macro_of s rs fs m b) e)) (sym w)
 
 -- arrays of zeros, where reading begins
 pub start-with : (st : ReaderState) (at : ℕ) → st ≡ reader_start at
@@ -291,15 +273,9 @@ few rs fs m R (F, A) l = record {
   below = let a = F.size in omega arith;
 }
 
-pub start_ready : (rs : Registers) (fs : Functions) (m : ℕ) (cs bodies : List ℕ) (st : ReaderState) (at : ℕ) → st ≡ reader_start at
-    → StatementsReady rs fs m cs bodies
-    → ReaderReady (list_of rs) (take fs.count fs.names) (take fs.count fs.arities) m cs bodies st.count
-start_ready rs fs m cs bodies st at h S = record {
-  few = few rs fs m S.registers S.functions S.tests;
-  calls = record { subs = S.few_subs; room = S.room; counted = let c = ap (λ st. st.count) h in omega arith };
-  above = S.above;
-  held = subst (λ n. HoldsBodies n S.above bodies (length cs)) (sym S.registers.size) S.held;
-}
+pub start_ready : (rs : Registers) (fs : Functions) (m : ℕ) (st : ReaderState) → st ≡ reader_start fs.at → RegistersPadded rs → FunctionsPadded fs
+    → m ≤ fs.count → ReaderReady (list_of rs) (take fs.count fs.names) (take fs.count fs.arities) m st.count
+start_ready rs fs m st h R F l = record { few = few rs fs m R F l; counted = let c = ap (λ st. st.count) h in omega arith }
 
 -- ---- a line of functions or tests that was read
 
@@ -426,15 +402,14 @@ unfolding read_macro read_text
 read_long s h r g = rw (lt-ltb longest_text (length s) h) g
 
 steps : (s : List ℕ) → length s ≤ longest_text → read_macro s ≡ and_then (expect s word.vars_key 0) λ _ a. registers_from s a
-unfolding read_macro read_text registers_from functions_from tests_from body_from statements_from
+unfolding read_macro read_text registers_from functions_from tests_from body_from
 steps s h =
     rw (le-ltb longest_text (length s) h)
     (assoc (expect s word.vars_key 0) _ (count_t s) _ λ _ a.
     assoc (register_names s most_registers [] a) _ (count_t s) _ λ rs b.
     assoc (functions_t s rs b (token_at s b)) _ (count_t s) _ λ r c.
     assoc (tests_t s rs r.0 r.1 c (token_at s c)) _ (count_t s) _ λ q d.
-    assoc (subs_from s rs q.0 q.1 (length r.0) most_subs [] d) _ (count_t s) _ λ us f.
-    assoc (whole_block s rs q.0 q.1 (length r.0) (sub_names us) deepest_nesting f) _ (count_t s) _ λ body e. refl)
+    assoc (block s rs q.0 q.1 (length r.0) (2 * length s + 1) deepest_nesting d) _ (count_t s) _ λ body e. refl)
 
 module _ (s : List ℕ) (l : length s ≤ longest_text) {g : number.GotNumber} (i : g ≡ without_value (expect s word.vars_key 0)) where
   pub read_vars : {n p : ℕ} → g ≡ number.TheVariants.Refused n p → {r : MacroRead} → r ≡ held_reading (refused_by g) → r ≡ held_reading (read_macro s)

@@ -8,8 +8,6 @@ use Rattle.macros.specs.Points.{size_statement}
 use Rattle.tokens.specs.Bytes.{gap, name_length, width}
 use Rattle.tokens.specs.Tokens.{token_at}
 use Rattle.tokens.specs.declared.Token.{Token}
-use Rattle.grammar.specs.Inlined.{inlined_block, inlined_bodies}
-use Rattle.grammar.specs.Reading.{subs_from, sub_t, called}
 use Rattle.grammar.specs.Reading.{index_of, condition, ended_condition, arguments_t, right_hand_side, assignment, block, register_names, arity_of, entries}
 use Rattle.grammar.proofs.Theory.Reading.{read_text, read_macro}
 use Rattle.refusals.specs.Order.{Refusal}
@@ -25,8 +23,8 @@ abbrev plain : List ℕ
 plain = 118 ∷ 97 ∷ 114 ∷ 115 ∷ 32 ∷ 99 ∷ 97 ∷ 112 ∷ 32 ∷ 64 ∷ 64 ∷ 64 ∷ 59 ∷ []
 
 plain_refused : Refusal plain token_malformed 9
-unfolding read_macro read_text token_at gap width name_length register_names subs_from sub_t called inlined_block inlined_bodies index_of entries arity_of block
-    condition ended_condition assignment right_hand_side arguments_t size_statement
+unfolding read_macro read_text token_at gap width name_length register_names index_of entries arity_of block condition ended_condition assignment right_hand_side
+    arguments_t size_statement
 plain_refused = refused_refusal plain token_malformed 9 refl
 
 -- 8 comes from a token

@@ -1,15 +1,15 @@
 -- An absent else counting as an empty one: what is alike by the congruence is what has the same short form, and no more (SPEC 8.6).
 use mathlib.Core.Path.{◌≡◌, refl, sym, ◌∙◌, subst}
 use mathlib.Core.Logic.{◌↔◌}
-use mathlib.Core.List.{List, [], ◌∷◌, map}
+use mathlib.Core.List.{[], ◌∷◌}
 use Prim.Native.Nat.{ℕ}
 use native.Mathlib.Omega.{arith}
-use Rattle.grammar.specs.Tree.{equal, Statement, skip, assign, assume, assert, if, while, call, Else, absent, present, Block, empty, ◌then◌, Sub}
+use Rattle.grammar.specs.Tree.{equal, Statement, skip, assign, assume, assert, if, while, Else, absent, present, Block, empty, ◌then◌}
 use Rattle.grammar.specs.Grammar.{Macro}
-use Rattle.layout_theory.specs.Layout.{else_of, short_statement, short_else, short_block, short_sub, without_empty_elses}
+use Rattle.layout_theory.specs.Layout.{else_of, short_statement, short_else, short_block, without_empty_elses}
 use Rattle.theorems.specs.EmptyElses.{AlikeStatement, same_statement, turned_statement, chained_statement, in_if, in_while}
 use Rattle.theorems.specs.EmptyElses.{AlikeElse, same_else, turned_else, chained_else, in_else, absent_or_empty}
-use Rattle.theorems.specs.EmptyElses.{AlikeBlock, same_block, turned_block, chained_block, in_block, AlikeSubs, AlikeMacros}
+use Rattle.theorems.specs.EmptyElses.{AlikeBlock, same_block, turned_block, chained_block, in_block, AlikeMacros}
 
 -- ---- what is alike has the same short form
 
@@ -48,7 +48,6 @@ mutual
   statement_alike (assert c) = same_statement
   statement_alike (if c b e) = in_if (block_alike b) (else_alike e)
   statement_alike (while c b) = in_while (block_alike b)
-  statement_alike (call i) = same_statement
 
   else_alike : (e : Else) → AlikeElse e (short_else e)
   else_alike absent = same_else
@@ -66,22 +65,6 @@ same_shorts_alike a b e = chained_block (subst (λ (x : Block). AlikeBlock a x) 
 pub alike_exactly : (a b : Block) → AlikeBlock a b ↔ (short_block a ≡ short_block b)
 alike_exactly a b = (λ p. block_shorts p, same_shorts_alike a b)
 
-subs_shorts : {us vs : List Sub} → AlikeSubs us vs → map short_sub us ≡ map short_sub vs
-subs_shorts AlikeSubs.none = refl
-subs_shorts (AlikeSubs.more e f p q) = λ i. record { name = e i; spelling = f i; body = block_shorts p i } ∷ subs_shorts q i
-
-no_sub_alike : (u : Sub) (us : List Sub) → map short_sub (u ∷ us) ≡ [] → ⊥
-no_sub_alike u us e = let z : ◌≡◌ {A = ℕ} 0 1 = cc in omega arith
-
-same_shorts_subs : (us vs : List Sub) → map short_sub us ≡ map short_sub vs → AlikeSubs us vs
-same_shorts_subs [] [] e = AlikeSubs.none
-same_shorts_subs [] (v ∷ vs) e = absurd (no_sub_alike v vs (sym e))
-same_shorts_subs (u ∷ us) [] e = absurd (no_sub_alike u us e)
-same_shorts_subs (u ∷ us) (v ∷ vs) e =
-    let here : short_sub u ≡ short_sub v = cc in
-    let there : map short_sub us ≡ map short_sub vs = cc in
-    AlikeSubs.more (λ i. (here i).name) (λ i. (here i).spelling) (same_shorts_alike u.body v.body λ i. (here i).body) (same_shorts_subs us vs there)
-
 pub macros_alike_exactly : (m n : Macro) → AlikeMacros m n ↔ (without_empty_elses m ≡ without_empty_elses n)
 macros_alike_exactly m n = (
   λ p i. record {
@@ -91,7 +74,6 @@ macros_alike_exactly m n = (
     function_spellings = p.same_function_spellings i;
     arities = p.same_arities i;
     first_test = p.same_first_test i;
-    subs = subs_shorts p.alike_subs i;
     body = block_shorts p.alike_bodies i;
   },
   λ e. record {
@@ -101,7 +83,6 @@ macros_alike_exactly m n = (
     same_function_spellings = λ i. (e i).function_spellings;
     same_arities = λ i. (e i).arities;
     same_first_test = λ i. (e i).first_test;
-    alike_subs = same_shorts_subs m.subs n.subs λ i. (e i).subs;
     alike_bodies = same_shorts_alike m.body n.body λ i. (e i).body;
   },
 )
@@ -125,7 +106,6 @@ tested_macro name e = record {
   function_spellings = [];
   arities = [];
   first_test = 0;
-  subs = [];
   body = if (equal 0 0) empty e then empty;
 }
 
@@ -138,28 +118,12 @@ empty_else_alike_macros = record {
   same_function_spellings = refl;
   same_arities = refl;
   same_first_test = refl;
-  alike_subs = AlikeSubs.none;
   alike_bodies = empty_else_alike;
 }
 
 -- without an else, and with `else { skip; }`
 pub skip_else_not_alike : AlikeMacros (tested_macro 120 absent) (tested_macro 120 (present (skip then empty))) → ⊥
 skip_else_not_alike p = let e = block_shorts p.alike_bodies in let z : ◌≡◌ {A = ℕ} 0 1 = cc in omega arith
-
--- a sub with the same statements
-abbrev tested_sub : ℕ → Else → List Sub
-tested_sub name e = record { name = name; spelling = name; body = if (equal 0 0) empty e then empty } ∷ []
-
--- without an else, and with `else { }`
-pub empty_else_alike_subs : AlikeSubs (tested_sub 97 absent) (tested_sub 97 (present empty))
-empty_else_alike_subs = AlikeSubs.more refl refl empty_else_alike AlikeSubs.none
-
--- `a` and `b`, and one sub and none
-pub other_sub_not_alike : (d e : Else) → AlikeSubs (tested_sub 97 d) (tested_sub 98 e) → ⊥
-other_sub_not_alike d e (AlikeSubs.more n s p q) = omega arith
-
-pub sub_not_dropped : (e : Else) → AlikeSubs (tested_sub 97 e) [] → ⊥
-sub_not_dropped e p = let n = subs_shorts p in let z : ◌≡◌ {A = ℕ} 0 1 = cc in omega arith
 
 -- `x` and `y`
 pub other_name_not_alike : (d e : Else) → AlikeMacros (tested_macro 120 d) (tested_macro 121 e) → ⊥

@@ -1,8 +1,7 @@
--- The letters of every execution of a proper macro, in which the calls are replaced, are of the right sorts.
+-- The letters of every execution of a proper macro are of the right sorts.
 use mathlib.Core.Path.{◌≡◌, refl, sym, subst}
 use mathlib.Core.Logic.{◌⊎◌, inl, inr}
 use Prim.Native.Nat.{ℕ}
-use native.Mathlib.Omega.{arith}
 use Rattle.letters.specs.declared.Header.{Header}
 use Rattle.letters.specs.declared.Letter.{Letter}
 use Rattle.letters.specs.declared.Letter.TheVariants.{Copy, Apply, Equal, Unequal}
@@ -204,7 +203,7 @@ module _ (h : Header) (t : ℕ) where
   mutual
     unfolding statement_before expanded_statement
 
-    right_statement : (P : Type 0) (s : written.Statement) → Proper s h t 0 → (k : Block) → RightBlock declared_here t k P
+    right_statement : (P : Type 0) (s : written.Statement) → Proper s h t → (k : Block) → RightBlock declared_here t k P
         → RightBlock declared_here t (block_before (expanded_statement declared_here s) k) P
     right_statement P written.skip p k r = (tt, r)
     right_statement P (written.assign (copy x y)) p k r = (right_copy p.0 p.1, r)
@@ -226,13 +225,12 @@ module _ (h : Header) (t : ℕ) where
     right_statement P (written.while (fails f y z) b) p k r =
         let body = right_block (Now P) b p.1 (perform (Apply declared_here f y z) then empty) (asking (Now P) f y z p.0, tt) in
         (asking P f y z p.0, ((right_failed (inl refl), body), more_block declared_here t k inr r))
-    right_statement P (written.call i) p k r = absurd (omega arith)
 
-    right_else_part : (P : Type 0) (e : written.Else) → ProperElse e h t 0 → RightElse declared_here t (written_else (expanded_else declared_here e)) P
+    right_else_part : (P : Type 0) (e : written.Else) → ProperElse e h t → RightElse declared_here t (written_else (expanded_else declared_here e)) P
     right_else_part P written.absent p = tt
     right_else_part P (written.present b) p = right_block P b p empty tt
 
-    right_block : (P : Type 0) (b : written.Block) → ProperBlock b h t 0 → (k : Block) → RightBlock declared_here t k P
+    right_block : (P : Type 0) (b : written.Block) → ProperBlock b h t → (k : Block) → RightBlock declared_here t k P
         → RightBlock declared_here t (block_before (expanded_block declared_here b) k) P
     right_block P written.empty p k r = r
     right_block P (written.◌then◌ s b) p k r =
@@ -240,6 +238,6 @@ module _ (h : Header) (t : ℕ) where
         (right_statement P s p.0 (block_before (expanded_block declared_here b) k) (right_block P b p.1 k r))
 
   -- The letters of an execution are of the right sorts.
-  pub expanded_sorts : (g : Header) (b : written.Block) → ProperBlock b h t 0 → (ρ : Trace) → Partial (begin g) (expanded_block declared_here b) ρ
+  pub expanded_sorts : (g : Header) (b : written.Block) → ProperBlock b h t → (ρ : Trace) → Partial (begin g) (expanded_block declared_here b) ρ
       → RightSorts declared_here t ρ
   expanded_sorts g b p = right_executions declared_here t g (expanded_block declared_here b) (right_block ⊥ b p empty tt)

@@ -2,28 +2,23 @@
 use mathlib.Core.Path.{◌≡◌, sym, ap, subst, ◌∙◌}
 use Prim.Native.Nat.{ℕ, ◌+◌, ◌*◌, ◌-◌, ◌≤◌, ◌<◌}
 use native.Mathlib.Omega.{arith}
-use mathlib.Core.List.{List, [], ◌++◌}
+use mathlib.Core.List.{List, ◌++◌}
 use lib.ListN.{length, get_or, take, drop, length-map, length-drop, take-append-drop}
-use lib.Seq.{length-take-le, get_or-take, get_or-drop, ext_get_or}
+use lib.Seq.{length-take-le, get_or-take, get_or-drop}
 use borrow.Author.Tests.{lt-ltb, le-ltb}
 use Rattle.tokens.specs.Bytes.{lowered, lower_case}
-use Rattle.macros.specs.Points.{size_block}
-use Rattle.tokens.specs.Tokens.{token_at, place_behind, place_of, spellings}
-use Rattle.tokens.proofs.Theory.TokensLaws.{behind_both}
-use Rattle.grammar.specs.Grammar.{Macro, sub_names, expanded}
-use Rattle.grammar.specs.Limits.{longest_text, most_points}
+use Rattle.tokens.specs.Tokens.{token_at, place_of, spellings}
+use Rattle.grammar.specs.Grammar.{Macro, sentence}
+use Rattle.grammar.specs.Limits.{longest_text}
 use Rattle.grammar.specs.Spelled.{Spells, Spelled, InOrder, first_register, first_function, first_test_token, entry_length, function_token, spelled_functions}
-use Rattle.grammar.specs.Spelled.{first_sub_token, spelled_subs}
 use Rattle.refusals.specs.FirstNo.{FirstNo}
 use Rattle.refusals.specs.Order.{Refusal}
 use Rattle.refusals.specs.Accepted.{Accepted}
 use Rattle.refusals.proofs.Theory.Declared.{register_declared, function_declared}
 use Rattle.refusals.proofs.Theory.Accepted.{Acceptance, Becomes, an_acceptance, accepted_once, refused_once, never_both}
-use Rattle.layout_theory.proofs.Theory.SubTokens.{sub_token, spelled_length, spelled_sub, sub_declared}
 use Rattle.theorems.specs.LowerCase.{in_lower_case}
-use Rattle.theorems.proofs.Steps.LowerCaseTokens.{key_lower, start_lower, end_lower, spelling_lower, behind_lower, key_of_lower, spellings_lower}
-use Rattle.theorems.proofs.Steps.Respelled.{spellings_respelled, spelled_respelled, sentence_respelled, expanded_respelled, order_respelled}
-use Rattle.theorems.proofs.Steps.ByTokens.{place-by, key-by, first_by, by_first, first_same}
+use Rattle.theorems.proofs.Steps.LowerCaseTokens.{key_lower, start_lower, end_lower, behind_lower, key_of_lower, spellings_lower}
+use Rattle.theorems.proofs.Steps.ByTokens.{order_respelled, place-by, key-by, first_by, by_first, first_same}
 
 module _ (s : List ℕ) where
   length_lower : length (lower_case s) ≡ length s
@@ -59,44 +54,23 @@ module _ (s : List ℕ) where
       ++ spellings (lower_case s) (place_of (lower_case s) (first_test_token n t)) entry_length (sym behind i))
       ∙ (λ i. functions i ++ tests i) ∙ take-append-drop t fs
 
-  -- the subs, each by the token that declares it
-  subs_lower : (m : Macro) → InOrder m → Spelled s m → spelled_subs (lower_case s) m.registers m.functions m.arities []
-      (place_of (lower_case s) (first_sub_token (length m.registers) m.first_test (length m.functions))) m.subs ≡ sub_names m.subs
-  subs_lower m O S =
-      let rs = m.registers in let fs = m.functions in let ns = m.arities in let us = m.subs in
-      let first = first_sub_token (length rs) m.first_test (length fs) in
-      let at = place_of (lower_case s) first in
-      let size = spelled_length rs fs ns (lower_case s) us [] at in
-      ext_get_or 0 (spelled_subs (lower_case s) rs fs ns [] at us) (sub_names us) (size ∙ sym (length-map us (λ u. u.name))) λ j l.
-      let i = sub_token rs fs ns [] us j in
-      spelled_sub rs fs ns (lower_case s) us [] at j (omega (arith, size))
-      ∙ spelling_lower s (place_behind (lower_case s) at i)
-      ∙ ap (λ e. (token_at s e).key) (behind_both (lower_case s) 0 first i ∙ behind_lower s 0 (first + i))
-      ∙ sub_declared m O.arities O.tests s S j (omega (arith, size))
-
   spelled_lower : (m : Macro) → InOrder m → Spelled s m → Spelled (lower_case s) (in_lower_case m)
+  unfolding sentence
   spelled_lower m O S = record {
     place = S.place;
-    tokens = subst (λ ks. Spells (lower_case s) 0 ks S.place) (sym (sentence_respelled m.registers m.functions (sub_names m.subs) m))
-        (spells_lower S.tokens);
+    tokens = spells_lower S.tokens;
     ended = key_lower s S.place ∙ S.ended;
     register_spellings = sym (spellings_lower s first_register 1 m.registers λ r h.
         rw (let e : first_register + 1 * r ≡ first_register + r = omega arith in e) (register_declared s m S r h));
     function_spellings = sym (functions_lower (length m.registers) m.first_test m.functions O.tests (function_declared s m S O.arities));
-    sub_spellings = spellings_respelled (sub_names m.subs) m.subs (length-map m.subs (λ u. u.name))
-        ∙ sym (subs_lower m O S) ∙ sym (spelled_respelled (lower_case s) m.registers m.functions m.arities [] _ (sub_names m.subs) m.subs);
   }
-
-  -- what it performs is the same
-  pub expanded_lower : (m : Macro) → expanded m ≡ expanded (in_lower_case m)
-  expanded_lower m = sym (expanded_respelled m.registers m.functions (sub_names m.subs) m)
 
   pub accepted_lower : {m : Macro} → Accepted s m → Accepted (lower_case s) (in_lower_case m)
   accepted_lower {m} A = record {
     short = short_lower A.short;
     spelled = spelled_lower m A.in_order A.spelled;
-    in_order = order_respelled m.registers m.functions (sub_names m.subs) m A.in_order;
-    few = subst (λ b. size_block b ≤ most_points) (expanded_lower m) A.few;
+    in_order = order_respelled m.registers m.functions m A.in_order;
+    few = A.few;
   }
 
   -- ---- a refusal
@@ -117,8 +91,7 @@ module _ (s : List ℕ) where
   refusal_lower (Refusal.long h) = Refusal.long (omega (arith, length_lower))
   refusal_lower (Refusal.token h F) = Refusal.token (short_lower h) (first_lower F)
   refusal_lower (Refusal.points m h S O k) =
-      Refusal.points (in_lower_case m) (short_lower h) (spelled_lower m O S) (order_respelled m.registers m.functions (sub_names m.subs) m O)
-      (subst (λ b. most_points < size_block b) (expanded_lower m) k)
+      Refusal.points (in_lower_case m) (short_lower h) (spelled_lower m O S) (order_respelled m.registers m.functions m O) k
 
   -- ---- and back, since a text has one answer
 

@@ -19,7 +19,6 @@ use Rattle.tokens.specs.Bytes.{lowered, lower_case}
 use Rattle.tokens.specs.Words.{result_word, truth_word}
 use Rattle.tokens.specs.Tokens.{token_at, bytes_at, place_of}
 use Rattle.tokens.proofs.Theory.BytesLaws.{lower_slice}
-use Rattle.macros.specs.Tree.{Block}
 use Rattle.grammar.specs.Grammar.{Macro, header_of, expanded}
 use Rattle.grammar.specs.Spelled.{function_token}
 use Rattle.refusals.proofs.Theory.Accepted.{Acceptance, Becomes, an_acceptance}
@@ -33,28 +32,24 @@ use Rattle.verdict_lines.specs.Prints.{name_declared, register_token, hidden_nam
 use Rattle.verdict_lines.proofs.Theory.PrintsLaws.{one_told}
 use Rattle.theorems.specs.LowerCase.{in_lower_case}
 use Rattle.theorems.proofs.Steps.LowerCaseTokens.{start_lower, end_lower, behind_lower}
-use Rattle.theorems.proofs.Steps.LowerCase.{expanded_lower, accepted_lower, accepted_lifted, refusal_lower, refusal_lifted}
+use Rattle.theorems.proofs.Steps.LowerCase.{accepted_lower, accepted_lifted, refusal_lower, refusal_lifted}
 
 -- ---- the verdict
 
 module _ (text table output : List ℕ) (answer : VerdictAnswer) (table' output' : List ℕ) where
-  -- what is performed of m is b
-  abbrev Verdict : Macro → Block → Type 0
-  Verdict m b = IsVerdict Feasible (begin (header_of m)) b (edition_of m) (pairs_in (edition_of m) table) output answer output'
-
   pub verdict_lower : Demand3 Feasible text table output answer table' output' → Demand3 Feasible (lower_case text) table output answer table' output'
   verdict_lower d = record {
     unread = λ n p r. d.unread n p (refusal_lifted text r);
     verdict = λ k b. let (m, a, e) = accepted_lifted text b in
         subst (λ z. IsVerdict Feasible (begin (header_of z)) (expanded z) (edition_of z) (pairs_in (edition_of z) table) output answer output') (sym e)
-        (subst (Verdict m) (expanded_lower text m) (d.verdict m a));
+        (d.verdict m a);
     zeroed = λ k b. let (m, a, e) = accepted_lifted text b in d.zeroed m a;
   }
 
   pub verdict_lifted : Demand3 Feasible (lower_case text) table output answer table' output' → Demand3 Feasible text table output answer table' output'
   verdict_lifted d = record {
     unread = λ n p r. d.unread n p (refusal_lower text r);
-    verdict = λ m a. subst (Verdict m) (sym (expanded_lower text m)) (d.verdict (in_lower_case m) (accepted_lower text a));
+    verdict = λ m a. d.verdict (in_lower_case m) (accepted_lower text a);
     zeroed = λ m a. d.zeroed (in_lower_case m) (accepted_lower text a);
   }
 
@@ -177,10 +172,10 @@ module _ (text : List ℕ) where
   -- no verdict looks at spellings
   told_lower : (m : Macro) (t : Printed) → Told (in_lower_case m) t → Told m t
   unfolding Told
-  told_lower m (Printed.pass k) x = rw (expanded_lower text m) x
-  told_lower m (Printed.incoherent k ls) x = rw (expanded_lower text m) x
-  told_lower m (Printed.fail k ls t) x = rw (expanded_lower text m) x
-  told_lower m (Printed.refused n p) x = rw (expanded_lower text m) x
+  told_lower m (Printed.pass k) x = x
+  told_lower m (Printed.incoherent k ls) x = x
+  told_lower m (Printed.fail k ls t) x = x
+  told_lower m (Printed.refused n p) x = x
 
   -- the words of the hidden registers are in lower case
   hidden_lower : (m : Macro) (r : ℕ) → get_or (hidden_names m) r [] ≡ lower_case (get_or (hidden_names m) r [])

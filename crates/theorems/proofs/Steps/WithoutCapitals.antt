@@ -18,7 +18,7 @@ use Rattle.refusals.specs.Accepted.{Accepted}
 use Rattle.refusals.proofs.Theory.Accepted.{accepted_once}
 use Rattle.theorems.specs.LowerCase.{in_lower_case, WithoutCapitals}
 use Rattle.theorems.specs.Original.{original_name_length, original_width, original_token_at, RefusalBy, AcceptedBy, OriginalRefusal, OriginalAccepted}
-use Rattle.theorems.proofs.Steps.ByTokens.{lower_by, refusal_by, by_refusal, accepted_by, by_accepted}
+use Rattle.theorems.proofs.Steps.ByTokens.{refusal_by, by_refusal, accepted_by, by_accepted}
 use Rattle.theorems.proofs.Steps.LowerCase.{accepted_lower}
 
 -- It is in lower case.
@@ -85,4 +85,4 @@ module _ (s : List ℕ) (h : WithoutCapitals s) where
   pub accepted_still : {m : Macro} → OriginalAccepted s m → m ≡ in_lower_case m → Accepted s m
   accepted_still {m} A e =
       let B = by_accepted s (subst (λ t. AcceptedBy (length s) t m) (sym same_tokens) A) in
-      subst (Accepted s) (original_spellings s h B ∙ lower_by s m ∙ sym e) B
+      subst (Accepted s) (original_spellings s h B ∙ sym e) B

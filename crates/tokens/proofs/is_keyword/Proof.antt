@@ -35,13 +35,7 @@ returns_10 c = search (decide)
 returns_11 : tie.Need-returns-11
 returns_11 c = search (decide)
 
-returns_12 : tie.Need-returns-12
-returns_12 c = search (decide)
-
-returns_13 : tie.Need-returns-13
-returns_13 c = search (decide)
-
 pub is_keyword_spec : {M : Type 1} → statement M
 is_keyword_spec =
     tie.close
-    (tie.spec returns returns_2 returns_3 returns_4 returns_5 returns_6 returns_7 returns_8 returns_9 returns_10 returns_11 returns_12 returns_13)
+    (tie.spec returns returns_2 returns_3 returns_4 returns_5 returns_6 returns_7 returns_8 returns_9 returns_10 returns_11)

@@ -17,8 +17,6 @@ use Rattle.tokens.specs.Tokens.{token_at, spellings}
 use Rattle.grammar.specs.Tree.{skip, empty, ◌then◌}
 use Rattle.grammar.specs.Expanded.{expanded_statement}
 use Rattle.grammar.specs.Grammar.{Macro, header_of, expanded}
-use Rattle.grammar.specs.Inlined.{inlined_block, inlined_bodies}
-use Rattle.grammar.specs.Reading.{subs_from, sub_t, called}
 use Rattle.grammar.specs.Reading.{got, index_of, block, statement, register_names}
 use Rattle.grammar.proofs.Theory.Reading.{read_text, read_macro}
 use Rattle.grammar.specs.Reading
@@ -44,13 +42,11 @@ still = record {
   function_spellings = [];
   arities = [];
   first_test = 0;
-  subs = [];
   body = skip then empty;
 }
 
 still_read : read_macro still_text ≡ got still 12
-unfolding read_macro read_text token_at gap width Bytes.name_length spellings register_names subs_from sub_t called inlined_block inlined_bodies block statement
-    index_of size_block size_statement
+unfolding read_macro read_text token_at gap width Bytes.name_length spellings register_names block statement index_of size_block size_statement
     expanded_statement
 still_read = refl
 
@@ -63,7 +59,7 @@ abbrev still_lines : List ℕ
 still_lines = (118 ∷ 101 ∷ 114 ∷ 100 ∷ 105 ∷ 99 ∷ 116 ∷ 32 ∷ 112 ∷ 97 ∷ 115 ∷ 115 ∷ 10 ∷ []) ++ (112 ∷ 97 ∷ 105 ∷ 114 ∷ 115 ∷ 32 ∷ 48 ∷ 10 ∷ [])
 
 no_pairs : {p : Path} → Leaves (begin (header_of still)) (expanded still) p → ⊥
-unfolding inlined_block inlined_bodies size_statement expanded_statement
+unfolding size_statement expanded_statement
 no_pairs x = let l = x.due in omega arith
 
 none_counted : PairCount Feasible (begin (header_of still)) (expanded still) 0
@@ -78,7 +74,7 @@ none_counted = (
 )
 
 only_start : {ρ π : Trace} {o : Outcome} → ExecBlock (written_out (expanded still)) ρ π o → (π ≡ ρ) × (o ≡ done)
-unfolding statement_before inlined_block inlined_bodies expanded_statement
+unfolding statement_before expanded_statement
 only_start (ExecBlock.both Exec.nothing ExecBlock.stop) = (refl, refl)
 
 nothing_before : {ρ : Trace} → Begins ρ (begin (header_of still)) → ρ ≡ begin (header_of still)

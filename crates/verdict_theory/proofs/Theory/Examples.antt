@@ -29,8 +29,6 @@ use Rattle.macros.specs.Points.{size_statement, size_block}
 use Rattle.tokens.specs.Bytes.{gap, width}
 use Rattle.tokens.specs.Bytes
 use Rattle.tokens.specs.Tokens.{token_at, spellings}
-use Rattle.grammar.specs.Inlined.{inlined_block, inlined_bodies}
-use Rattle.grammar.specs.Reading.{subs_from, sub_t, called}
 use Rattle.grammar.specs.Reading.{got, index_of, comparison, condition, ended_condition, block, statement, register_names}
 use Rattle.grammar.proofs.Theory.Reading.{read_text, read_macro}
 use Rattle.grammar.specs.Reading
@@ -233,13 +231,11 @@ still_macro = record {
   function_spellings = [];
   arities = [];
   first_test = 0;
-  subs = [];
   body = written.◌then◌ written.skip written.empty;
 }
 
 still_read : read_macro still_text ≡ got still_macro 12
-unfolding read_macro read_text token_at gap width Bytes.name_length spellings register_names subs_from sub_t called inlined_block inlined_bodies block statement
-    index_of size_block size_statement expanded_statement
+unfolding read_macro read_text token_at gap width Bytes.name_length spellings register_names block statement index_of size_block size_statement expanded_statement
 still_read = refl
 
 still_accepted : Accepted still_text still_macro
@@ -257,13 +253,11 @@ claim_macro = record {
   function_spellings = [];
   arities = [];
   first_test = 0;
-  subs = [];
   body = written.◌then◌ (written.assert (written.equal 0 1)) written.empty;
 }
 
 claim_read : read_macro claim_text ≡ got claim_macro 20
-unfolding read_macro read_text token_at gap width Bytes.name_length spellings register_names subs_from sub_t called inlined_block inlined_bodies block statement
-    ended_condition condition comparison
+unfolding read_macro read_text token_at gap width Bytes.name_length spellings register_names block statement ended_condition condition comparison
     index_of size_block size_statement expanded_statement
 claim_read = refl
 
@@ -280,7 +274,7 @@ nothing_refused = refused_refusal [] 9 0 nothing_read
 module _ (table output : List ℕ) where
   -- pass, the table zeroed, the output as it was
   still_met {ℓ} : (Possible : State → Type ℓ) → Demand3 Possible still_text table output (pass 0) (replicate (length table) 0) output
-  unfolding inlined_block inlined_bodies expanded_statement
+  unfolding expanded_statement
   still_met Possible =
       read_way Possible still_text table output still_macro still_accepted (pass 0) output
       (still_passes _ first_edition (pairs_in first_edition table) output Possible)
@@ -291,7 +285,7 @@ module _ (table output : List ℕ) where
 
   -- pass is wrong, whatever the table and the output hold afterwards
   claim_not_met : (k : ℕ) (table' output' : List ℕ) → ¬ Demand3 Feasible claim_text table output (pass k) table' output'
-  unfolding inlined_block inlined_bodies expanded_statement
+  unfolding expanded_statement
   claim_not_met k table' output' x = claim_fails _ first_edition (pairs_in first_edition table) output k output' (x.verdict claim_macro claim_accepted)
 
   claim_not_met_anywhere {ℓ} : (k : ℕ) (table' output' : List ℕ) → ¬ Demand3 (FeasibleInSomeModel {ℓ}) claim_text table output (pass k) table' output'

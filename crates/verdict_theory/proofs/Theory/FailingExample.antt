@@ -35,7 +35,6 @@ use Rattle.macros.proofs.Theory.Order.{before_not}
 use Rattle.macros.specs.Walk.{at, failure, stand}
 use Rattle.macros.specs.Points.{size_statement, entry, compile, run}
 use Rattle.macros.proofs.Theory.Runs.{partial_is, run_once, run_steps}
-use Rattle.grammar.specs.Inlined.{inlined_block, inlined_bodies}
 use Rattle.grammar.specs.Expanded.{expanded_statement}
 use Rattle.verdict_theory.specs.Count.{Counted}
 use Rattle.verdict_theory.specs.Verdict.{VerdictAnswer, fail, full, IsPass, Kind, breaking, failing, showing, AnswerBytes, Delivered, Shows, IsVerdict}
@@ -203,7 +202,7 @@ possible = (feasible_is (state fails_so) (state_valid fails_so (tt, (omega arith
 pub claim_text_only : (table output : List ℕ) → 192 ≤ length table → 12 ≤ length output → (answer : VerdictAnswer) (table' output' : List ℕ)
     → Demand3 Feasible claim_text table output answer table' output'
     → (answer ≡ fail 1 1) × (table' ≡ replicate (length table) 0) × (output' ≡ 32 ∷ 0 ∷ 192 ∷ 8 ∷ 0 ∷ 3 ∷ 0 ∷ 0 ∷ 0 ∷ 1 ∷ 0 ∷ 2 ∷ drop 12 output)
-unfolding capacity_of inlined_block inlined_bodies expanded_statement
+unfolding capacity_of expanded_statement
 claim_text_only table output wide long answer table' output' x =
     told (claim_only Feasible possible first_edition (pairs_in first_edition table) (omega arith) output answer output' (x.verdict claim_macro claim_accepted))
   where

@@ -49,7 +49,7 @@ impl Pairs {
 
 /// The verdict with at most so many pairs before the first event.
 pub fn fast_search(read: &Macro, most: usize) -> Result<Verdict, Refusal> {
-    let points = Points::of(read);
+    let points = Points::of(&read.statements);
     let mut pairs = Pairs { list: vec![], seen: HashSet::new(), most };
     if let Some(point) = points.first {
         pairs.add(Pair { point, window: FastMonitor::start(read.header()), from: None })?;

@@ -1,13 +1,12 @@
 //! Macro texts with one thing wrong, for every refusal of the reader.
 
 use super::capitals::Habit;
-use super::damaged_subs::damaged_subs;
 use super::damaged_tests::damaged_tests;
 use super::macros::{DEEPEST, lay_out, macro_text, nested_macro, random_macro, random_name, tokens};
 use super::random::Random;
 
 /// Tokens to put where they do not belong, and some that are none.
-const STRAY: [&str; 58] = [
+const STRAY: [&str; 54] = [
     "vars",
     "funs",
     "skip",
@@ -62,10 +61,6 @@ const STRAY: [&str; 58] = [
     "TESTS",
     "Result",
     "tRUTH",
-    "sub",
-    "call",
-    "SUB",
-    "Call",
 ];
 
 /// Bytes to put where they do not belong.
@@ -77,14 +72,13 @@ const CASE_BIT: u8 = 0x20;
 
 /// A text that is refused for the most part, of a macro with few points.
 pub fn damaged_text(random: &mut Random) -> Vec<u8> {
-    match random.below(22) {
+    match random.below(15) {
         0..=4 => damaged_tokens(random),
         5..=7 => damaged_bytes(random),
-        8..=12 => damaged_tests(random),
-        13..=17 => damaged_subs(random),
-        18 => many_names(random),
-        19 => deep(random),
-        20 => many_points(random),
+        8..=10 => damaged_tests(random),
+        11 => many_names(random),
+        12 => deep(random),
+        13 => many_points(random),
         _ => long_text(random),
     }
 }

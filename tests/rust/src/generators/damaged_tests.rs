@@ -26,10 +26,10 @@ pub fn damaged_tests(random: &mut Random) -> Vec<u8> {
     }
     let tokens = tokens(random, &read);
     let mut text = Text { random, read, tokens };
-    match text.random.below(15) {
+    match text.random.below(12) {
         0 => text.move_line(),
         1 => text.repeat_line(),
-        2 | 12 => text.add_registers(),
+        2 => text.add_registers(),
         3 => text.add_entries(),
         4 => text.move_bang(),
         5 | 6 => text.change_arguments(),

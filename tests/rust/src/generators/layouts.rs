@@ -27,38 +27,30 @@ pub fn text_to_lay_out(random: &mut Random) -> (Macro, Vec<u8>) {
     (read, text)
 }
 
-/// A random macro whose elses are absent or empty, or hold `skip;`, an `if`, a call or any other statements.
+/// A random macro whose elses are absent or empty, or hold `skip;`, an `if` or any other statements.
 fn varied_macro(random: &mut Random) -> Macro {
     let points = *random.pick(&[4, 12, 40]);
     let mut read = random_macro(random, points);
-    let points = read.points_of_subs();
-    let mut pointless = Vec::new();
-    for (place, sub) in read.subs.iter_mut().enumerate() {
-        fill_elses(random, &mut sub.statements, 1, &pointless);
-        pointless.extend((points[place] == 0).then_some(place as u8));
-    }
-    fill_elses(random, &mut read.statements, 0, &pointless);
+    fill_elses(random, &mut read.statements, 0);
     read
 }
 
-/// Puts `skip;`, an `if` with empty blocks, or a call of one of these subs, into some of the empty elses of statements inside
-/// this many braces.
-fn fill_elses(random: &mut Random, statements: &mut [Statement], depth: usize, subs: &[u8]) {
+/// Puts `skip;`, or an `if` with empty blocks, into some of the empty elses of statements inside this many braces.
+fn fill_elses(random: &mut Random, statements: &mut [Statement], depth: usize) {
     for statement in statements {
         match statement {
             Statement::If(condition, yes, no) => {
-                match random.below(5) {
+                match random.below(4) {
                     0 if no.is_empty() => no.push(Statement::Skip),
-                    2 if no.is_empty() && !subs.is_empty() => no.push(Statement::Call(*random.pick(subs))),
                     1 if no.is_empty() && depth + 2 <= DEEPEST => {
                         no.push(Statement::If(condition.opposite(), vec![], vec![]));
                     }
                     _ => {}
                 }
-                fill_elses(random, yes, depth + 1, subs);
-                fill_elses(random, no, depth + 1, subs);
+                fill_elses(random, yes, depth + 1);
+                fill_elses(random, no, depth + 1);
             }
-            Statement::While(_, body) => fill_elses(random, body, depth + 1, subs),
+            Statement::While(_, body) => fill_elses(random, body, depth + 1),
             _ => {}
         }
     }

@@ -4,12 +4,12 @@ use super::capitals::Habit;
 use super::random::Random;
 use super::repeats::random_repeat;
 use crate::oracle::letter::{Header, Letter, MAX_FUNCTIONS, MAX_REGISTERS};
-use crate::oracle::syntax::{Condition, MAX_REGISTERS_BESIDE_TESTS, MAX_SUBS, Macro, Statement, Sub};
+use crate::oracle::syntax::{Condition, MAX_REGISTERS_BESIDE_TESTS, Macro, Statement};
 
 /// Names that are easily confused with words.
-const ODD_NAMES: [&str; 20] = [
+const ODD_NAMES: [&str; 16] = [
     "ifs", "if1", "vars_", "whil", "while_", "elseif", "asserts", "skip2", "funs1", "v", "a_______", "i",
-    "test", "tests1", "results", "truth_", "subs", "sub_1", "calls", "cal",
+    "test", "tests1", "results", "truth_",
 ];
 
 /// How macros are chosen.
@@ -27,8 +27,6 @@ struct Choices {
     repeats: usize,
     /// A condition is a test with a name once in so many times, if there are tests.
     named: usize,
-    /// A sub is called in the place of a statement once in so many times, if one may be.
-    calls: usize,
 }
 
 const WEIGHTS: [[usize; 7]; 7] = [
@@ -50,8 +48,6 @@ struct Maker<'a> {
     arities: Vec<bool>,
     tests: Vec<bool>,
     points: usize,
-    /// The points of the subs that may be called.
-    subs: Vec<usize>,
 }
 
 /// A name of one to eight bytes, without capitals.
@@ -80,9 +76,8 @@ fn distinct_names(random: &mut Random, count: usize) -> Vec<String> {
 }
 
 fn is_word(name: &str) -> bool {
-    let words =
-        ["vars", "funs", "skip", "assume", "assert", "if", "else", "while", "tests", "result", "truth"];
-    words.contains(&name) || ["sub", "call"].contains(&name)
+    ["vars", "funs", "skip", "assume", "assert", "if", "else", "while", "tests", "result", "truth"]
+        .contains(&name)
 }
 
 /// The deepest nesting that is taken.
@@ -105,45 +100,21 @@ pub fn nested_macro(random: &mut Random, points: usize, depth: usize, steep: boo
         fresh_assert: *random.pick(&[2, 6, 40]),
         repeats: *random.pick(&[5, 12, 1000]),
         named: *random.pick(&[1, 2, 4, 1000]),
-        calls: *random.pick(&[2, 3, 6, 1000]),
     };
     let points = random.below(points + 1);
     let late = random.once_in(3);
     let arities = |entries: &[(String, bool)]| entries.iter().map(|(_, binary)| *binary).collect();
     let (functions, tests) = (arities(&declared.functions), arities(&declared.tests));
     let registers = declared.registers.len() as u8;
-    let mut maker = Maker { random, choices, registers, arities: functions, tests, points, subs: vec![] };
+    let mut maker = Maker { random, choices, registers, arities: functions, tests, points };
     if late {
         maker.choices.weights[4] = 0;
     }
-    let mut read = declared;
-    for place in 0..read.subs.len() {
-        let statements = maker.sub_body(points, read.subs.len());
-        read.subs[place].statements = statements;
-        maker.subs = read.points_of_subs()[..=place].to_vec();
-    }
-    maker.points = points;
-    read.statements = maker.block(0, &mut Vec::new(), true);
-    // No point is left, so that these are subs without points.
-    while maker.random.once_in(2)
-        && let Some(call) = maker.call()
-    {
-        read.statements.push(call);
-    }
+    let mut statements = maker.block(0, &mut Vec::new(), true);
     if late {
-        read.statements.push(Statement::Assert(maker.condition()));
+        statements.push(Statement::Assert(maker.condition()));
     }
-    read
-}
-
-/// A random macro with subs.
-pub fn macro_with_subs(random: &mut Random, points: usize) -> Macro {
-    loop {
-        let read = random_macro(random, points);
-        if !read.subs.is_empty() {
-            return read;
-        }
-    }
+    Macro { statements, ..declared }
 }
 
 /// A random macro with a line of tests.
@@ -157,21 +128,17 @@ pub fn macro_with_tests(random: &mut Random, points: usize) -> Macro {
 }
 
 /// A macro without statements. One in three has tests, and then two registers fewer, and with its functions at most four.
-/// One in three has subs, still empty.
 fn random_declarations(random: &mut Random) -> Macro {
     let most = usize::from(MAX_FUNCTIONS);
     let tests = if random.once_in(3) { 1 + random.mostly_below(2, most) } else { 0 };
     let room = if tests > 0 { MAX_REGISTERS_BESIDE_TESTS } else { usize::from(MAX_REGISTERS) };
     let registers = 1 + random.mostly_below(4, room);
     let functions = random.mostly_below(3, most + 1).min(most - tests);
-    let subs = if random.once_in(3) { 1 + random.mostly_below(3, MAX_SUBS) } else { 0 };
-    let mut names = distinct_names(random, registers + functions + tests + subs);
-    let subs = names.split_off(registers + functions + tests).into_iter();
-    let subs = subs.map(|name| Sub { name, statements: vec![] }).collect();
+    let mut names = distinct_names(random, registers + functions + tests);
     let mut entries = names.split_off(registers).into_iter().map(|name| (name, random.once_in(2)));
     let functions = entries.by_ref().take(functions).collect();
     let tests = entries.collect();
-    Macro { registers: names, functions, tests, subs, statements: vec![] }
+    Macro { registers: names, functions, tests, statements: vec![] }
 }
 
 impl Maker<'_> {
@@ -200,34 +167,6 @@ impl Maker<'_> {
         self.points = self.points.saturating_sub(condition.points() - 1);
     }
 
-    /// The body of one of so many subs, which together have hardly more points of their own than this. A steep one may
-    /// need many.
-    fn sub_body(&mut self, points: usize, subs: usize) -> Vec<Statement> {
-        let share = if self.random.once_in(subs) { points / 2 } else { (points / (2 * subs)).max(1) };
-        self.points = self.random.below(share + 1);
-        if self.choices.steep && self.random.once_in(2) {
-            self.points = self.choices.depth;
-        }
-        if self.random.once_in(6) {
-            return if self.random.once_in(2) { vec![] } else { vec![Statement::Skip] };
-        }
-        let mut statements = self.block(1, &mut Vec::new(), true);
-        if self.random.once_in(3) {
-            statements.extend(self.call());
-        }
-        statements
-    }
-
-    /// A call of a sub for which there are points.
-    fn call(&mut self) -> Option<Statement> {
-        if self.subs.is_empty() {
-            return None;
-        }
-        let sub = self.random.below(self.subs.len());
-        self.points = self.points.checked_sub(self.subs[sub])?;
-        Some(Statement::Call(sub as u8))
-    }
-
     /// Statements; `known` are conditions that probably hold before them.
     fn block(&mut self, depth: usize, known: &mut Vec<Condition>, whole: bool) -> Vec<Statement> {
         let mut statements = Vec::new();
@@ -241,11 +180,7 @@ impl Maker<'_> {
             });
         }
         while self.points > 0 && (whole || !self.random.once_in(3)) {
-            let called = if self.random.once_in(self.choices.calls) { self.call() } else { None };
-            if let Some(call) = called {
-                statements.push(call);
-                known.clear();
-            } else if self.random.once_in(self.choices.repeats) {
+            if self.random.once_in(self.choices.repeats) {
                 statements.extend(self.repeated_test(depth, known));
             } else {
                 let statement = self.statement(depth, known);
@@ -399,7 +334,6 @@ pub fn tokens(random: &mut Random, read: &Macro) -> Vec<String> {
     let (words, uses) = (habit(), habit());
     let mut speller = Speller { random, read, words, uses, out: vec![] };
     speller.declarations();
-    speller.subs();
     speller.statements(&read.statements);
     speller.out
 }
@@ -452,14 +386,6 @@ impl Speller<'_> {
             self.out.extend([name, "/", arity].map(ToString::to_string));
         }
         self.sign(";");
-    }
-
-    fn subs(&mut self) {
-        for sub in &self.read.subs {
-            self.word("sub");
-            self.out.push(sub.name.clone());
-            self.block(&sub.statements);
-        }
     }
 
     fn condition(&mut self, word: &str, condition: &Condition) {
@@ -531,7 +457,7 @@ impl Speller<'_> {
                 Statement::If(condition, yes, no) => {
                     self.condition("if", condition);
                     self.block(yes);
-                    if !no.is_empty() || self.random.once_in(3) {
+                    if !no.is_empty() || self.random.once_in(4) {
                         self.word("else");
                         self.block(no);
                     }
@@ -539,11 +465,6 @@ impl Speller<'_> {
                 Statement::While(condition, body) => {
                     self.condition("while", condition);
                     self.block(body);
-                }
-                Statement::Call(sub) => {
-                    self.word("call");
-                    self.name(&self.read.subs[usize::from(*sub)].name);
-                    self.sign(";");
                 }
             }
         }

@@ -3,9 +3,7 @@
 
 pub mod capitals;
 pub mod damaged_macros;
-pub mod damaged_subs;
 pub mod damaged_tests;
-pub mod expanded;
 pub mod layouts;
 pub mod macros;
 pub mod merges;

@@ -1,7 +1,7 @@
 //! Tests with names written out by hand, as a writer without them would have to: "such a test applies a function into the
 //! hidden register `result` and compares that with the hidden register `truth`" (document 02).
 
-use crate::oracle::syntax::{Condition, Macro, Statement, Sub};
+use crate::oracle::syntax::{Condition, Macro, Statement};
 use crate::oracle::token::is_same_name;
 
 /// Names for the registers that are hidden no more; no macro of the generators has them.
@@ -18,9 +18,7 @@ pub fn written_out(read: &Macro) -> Macro {
     let mut registers = read.registers.clone();
     registers.extend(WRITTEN_REGISTERS.map(ToString::to_string));
     let functions = read.all_functions().cloned().collect();
-    let sub = |sub: &Sub| Sub { name: sub.name.clone(), statements: block(&sub.statements) };
-    let subs = read.subs.iter().map(sub).collect();
-    Macro { registers, functions, tests: vec![], subs, statements: block(&read.statements) }
+    Macro { registers, functions, tests: vec![], statements: block(&read.statements) }
 }
 
 fn block(statements: &[Statement]) -> Vec<Statement> {
@@ -32,7 +30,7 @@ fn statement(statement: &Statement) -> Vec<Statement> {
     let apply = || statement.applied().map(Statement::Assign);
     let compared = |condition: &Condition| Condition { applied: None, ..*condition };
     let last = match statement {
-        Statement::Skip | Statement::Assign(_) | Statement::Call(_) => statement.clone(),
+        Statement::Skip | Statement::Assign(_) => statement.clone(),
         Statement::Assume(condition) => Statement::Assume(compared(condition)),
         Statement::Assert(condition) => Statement::Assert(compared(condition)),
         Statement::If(condition, yes, no) => Statement::If(compared(condition), block(yes), block(no)),
@@ -45,15 +43,11 @@ fn statement(statement: &Statement) -> Vec<Statement> {
     apply().into_iter().chain([last]).collect()
 }
 
-/// The number of whiles on tests with names, those of a sub as often as it is called.
-pub fn named_loops(read: &Macro) -> usize {
-    loops_among(&read.performed())
-}
-
-fn loops_among(statements: &[Statement]) -> usize {
+/// The number of whiles on tests with names.
+pub fn named_loops(statements: &[Statement]) -> usize {
     let loops = |statement: &Statement| match statement {
-        Statement::If(_, yes, no) => loops_among(yes) + loops_among(no),
-        Statement::While(_, body) => loops_among(body) + usize::from(statement.applied().is_some()),
+        Statement::If(_, yes, no) => named_loops(yes) + named_loops(no),
+        Statement::While(_, body) => named_loops(body) + usize::from(statement.applied().is_some()),
         _ => 0,
     };
     statements.iter().map(loops).sum()

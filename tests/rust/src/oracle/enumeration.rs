@@ -32,15 +32,15 @@ pub enum Enumerated {
     },
 }
 
-/// The pairs left so far. A point is told apart by its place in the tree and the calls that lead there, and by whether its
-/// test is applied already.
-type Pairs = HashSet<(Vec<*const Statement>, bool, Window)>;
+/// The pairs left so far. A point is told apart by its place in the tree, and by whether its test is applied already.
+type Pairs = HashSet<(*const Statement, bool, Window)>;
 
 /// Looks at all partial executions, shorter first and then by branch, until there
 /// is an event, there are no more, or more than `most` were looked at.
 pub fn enumerate(read: &Macro, most: usize) -> Enumerated {
     let mut pairs = Pairs::new();
-    let start = Partial { rest: Rest::all(read), letters: vec![], state: State::start(read.header()) };
+    let start =
+        Partial { rest: Rest::all(&read.statements), letters: vec![], state: State::start(read.header()) };
     leave(&mut pairs, &start);
     let mut level = vec![start];
     let mut looked_at = 0;
@@ -62,8 +62,8 @@ pub fn enumerate(read: &Macro, most: usize) -> Enumerated {
 }
 
 fn leave(pairs: &mut Pairs, partial: &Partial<'_>) {
-    if let Some((place, applied)) = partial.rest.point() {
-        pairs.insert((place, applied, Window::of(&partial.state)));
+    if let Some((statement, applied)) = partial.rest.point() {
+        pairs.insert((std::ptr::from_ref(statement), applied, Window::of(&partial.state)));
     }
 }
 

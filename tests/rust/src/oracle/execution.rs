@@ -1,29 +1,15 @@
 //! Executions of a macro (the paper's Definition 2), letter by letter, twice: over
-//! what is left of the statements, where a call is replaced when it comes, and over a table of
-//! points, which is made of the expansion. A test with a name is its application and then its
-//! comparison (document 02).
-
-use std::rc::Rc;
+//! what is left of the statements, and over a table of points. A test with a name is its
+//! application and then its comparison (document 02).
 
 use super::letter::Letter;
-use super::syntax::{Condition, Macro, Statement};
-
-/// A statement still to be performed.
-#[derive(Clone, Debug, PartialEq, Eq)]
-struct Left<'a> {
-    statement: &'a Statement,
-    /// The calls that it is performed in, outermost first.
-    calls: Vec<*const Statement>,
-}
+use super::syntax::{Condition, Statement};
 
 /// What is left of a macro after a partial execution: the statements still to be
 /// performed, outermost last. It begins with a point or is empty.
 #[derive(Clone, Debug, PartialEq, Eq)]
 pub struct Rest<'a> {
-    read: &'a Macro,
-    /// The number of points of each sub.
-    points: Rc<[usize]>,
-    left: Vec<Left<'a>>,
+    left: Vec<&'a Statement>,
     /// Whether the test with a name that comes next is applied already, and still to be compared.
     applied: bool,
 }
@@ -39,9 +25,8 @@ pub enum Onward<T> {
 
 impl<'a> Rest<'a> {
     /// All statements of a macro.
-    pub fn all(read: &'a Macro) -> Rest<'a> {
-        let points = read.points_of_subs().into();
-        Rest { read, points, left: vec![], applied: false }.before(&[], &read.statements)
+    pub fn all(statements: &'a [Statement]) -> Rest<'a> {
+        Rest { left: vec![], applied: false }.before(statements)
     }
 
     /// Is there no point still to be performed?
@@ -49,48 +34,32 @@ impl<'a> Rest<'a> {
         self.left.is_empty()
     }
 
-    /// The point still to be performed: the calls that it is performed in, its statement behind them, and whether the
-    /// test of that is applied already. "Each call replaced by its body": what two calls perform are different points.
-    pub fn point(&self) -> Option<(Vec<*const Statement>, bool)> {
-        let next = self.left.last()?;
-        let mut place = next.calls.clone();
-        place.push(std::ptr::from_ref(next.statement));
-        Some((place, self.applied))
+    /// The point still to be performed: its statement, and whether the test of that is applied already.
+    pub fn point(&self) -> Option<(&'a Statement, bool)> {
+        self.left.last().map(|statement| (*statement, self.applied))
     }
 
-    /// These statements in these calls, then what is left; skips at the front performed, calls there replaced. A sub without
-    /// points is passed over, for it may call others without end in sight.
-    fn before(mut self, calls: &[*const Statement], statements: &'a [Statement]) -> Rest<'a> {
-        self.enter(calls, statements);
-        while let Some(Statement::Skip | Statement::Call(_)) = self.left.last().map(|next| next.statement) {
-            let Some(Left { statement, mut calls }) = self.left.pop() else { break };
-            if let Statement::Call(sub) = statement
-                && self.points[usize::from(*sub)] > 0
-            {
-                calls.push(std::ptr::from_ref(statement));
-                self.enter(&calls, &self.read.subs[usize::from(*sub)].statements);
-            }
+    /// These statements, then what is left; skips at the front performed.
+    fn before(mut self, statements: &'a [Statement]) -> Rest<'a> {
+        self.left.extend(statements.iter().rev());
+        while self.left.last().is_some_and(|next| **next == Statement::Skip) {
+            self.left.pop();
         }
         self
     }
 
-    fn enter(&mut self, calls: &[*const Statement], statements: &'a [Statement]) {
-        let left = |statement| Left { statement, calls: calls.to_vec() };
-        self.left.extend(statements.iter().rev().map(left));
-    }
-
     /// The letters that may come next, in branch order, and what each leaves.
     pub fn branches(&self) -> Vec<(Letter, Onward<Rest<'a>>)> {
-        let Some(Left { statement, calls }) = self.left.last() else { return vec![] };
-        if let Some(letter) = statement.applied().filter(|_| !self.applied) {
+        let Some((statement, applied)) = self.point() else { return vec![] };
+        if let Some(letter) = statement.applied().filter(|_| !applied) {
             return vec![(letter, Onward::To(Rest { applied: true, ..self.clone() }))];
         }
         let whole = Rest { applied: false, ..self.clone() };
         let mut behind = whole.clone();
         behind.left.pop();
-        let then = |statements: &'a [Statement]| Onward::To(behind.clone().before(calls, statements));
+        let then = |statements: &'a [Statement]| Onward::To(behind.clone().before(statements));
         match statement {
-            Statement::Skip | Statement::Call(_) => unreachable!("these are performed at once"),
+            Statement::Skip => unreachable!("skips are performed at once"),
             Statement::Assign(letter) => vec![(*letter, then(&[]))],
             Statement::Assume(condition) => vec![(condition.letter(), then(&[]))],
             Statement::Assert(condition) => {
@@ -101,7 +70,7 @@ impl<'a> Rest<'a> {
             }
             Statement::While(condition, body) => {
                 // "A while returning to the first" of its two points.
-                let again = Onward::To(whole.before(calls, body));
+                let again = Onward::To(whole.before(body));
                 vec![(condition.letter(), again), (condition.opposite().letter(), then(&[]))]
             }
         }
@@ -129,9 +98,9 @@ pub struct Points {
 
 impl Points {
     /// The table of a macro's points.
-    pub fn of(read: &Macro) -> Points {
+    pub fn of(statements: &[Statement]) -> Points {
         let mut points = Points { table: vec![], first: None };
-        points.first = points.list(&read.performed(), None);
+        points.first = points.list(statements, None);
         points
     }
 
@@ -143,7 +112,7 @@ impl Points {
 
     fn enter(&mut self, statement: &Statement, next: Option<usize>) -> Option<usize> {
         let point = match statement {
-            Statement::Skip | Statement::Call(_) => unreachable!("nothing but points is performed"),
+            Statement::Skip => return next,
             Statement::Assign(letter) => Point::Step(*letter, next),
             Statement::Assume(condition) => Point::Step(condition.letter(), next),
             Statement::Assert(condition) => Point::Assert(*condition, next),

@@ -19,11 +19,6 @@ pub fn layout(text: &[u8], lent: usize) -> Result<String, Refusal> {
 pub fn print_macro(read: &Macro) -> String {
     let mut printer = Printer { read, out: String::new() };
     printer.declarations();
-    for sub in &read.subs {
-        printer.put(&["sub ", &sub.name, "{\n"]);
-        printer.statements(&sub.statements);
-        printer.put(&["}\n"]);
-    }
     printer.statements(&read.statements);
     printer.out
 }
@@ -85,9 +80,6 @@ impl<'a> Printer<'a> {
                     self.condition("while", condition, "{\n");
                     self.statements(body);
                     self.put(&["}\n"]);
-                }
-                Statement::Call(sub) => {
-                    self.put(&["call ", &self.read.subs[usize::from(*sub)].name, ";\n"]);
                 }
             }
         }

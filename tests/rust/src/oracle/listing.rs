@@ -1,4 +1,4 @@
-//! The points of a macro in the order of the text, each call replaced, as the program `reader_runs` prints them.
+//! The points of a macro in the order of the text, as the program `reader_runs` prints them.
 
 use super::letter::Letter;
 use super::reader::read_macro;
@@ -28,7 +28,7 @@ fn listing(read: &Macro) -> String {
     let mut out = format!("{registers} {functions} {} {}", binary.sum::<u8>(), read.points());
     if read.points() <= FEW_POINTS {
         let mut points = Vec::new();
-        list(&mut points, &read.performed(), read.points());
+        list(&mut points, &read.statements, read.points());
         out.extend(points);
     }
     out
@@ -39,17 +39,17 @@ fn listing(read: &Macro) -> String {
 fn list(points: &mut Vec<String>, statements: &[Statement], behind: usize) {
     for (place, statement) in statements.iter().enumerate() {
         let here = points.len();
-        let after = here + count_points(&statements[place..=place], &[]);
+        let after = here + count_points(&statements[place..=place]);
         let next = first_of(&statements[place + 1..], after, behind);
         points.extend(statement.applied().map(|letter| entry(STEP, &letter, here + 1, 0)));
         let inside = points.len() + 1;
         match statement {
-            Statement::Skip | Statement::Call(_) => unreachable!("nothing but points is performed"),
+            Statement::Skip => {}
             Statement::Assign(letter) => points.push(entry(STEP, letter, next, 0)),
             Statement::Assume(condition) => points.push(entry(STEP, &condition.letter(), next, 0)),
             Statement::Assert(condition) => points.push(entry(ASSERT, &condition.letter(), next, 0)),
             Statement::If(condition, yes, no) => {
-                let second = inside + count_points(yes, &[]);
+                let second = inside + count_points(yes);
                 points.push(branch(condition, first_of(yes, inside, next), first_of(no, second, next)));
                 list(points, yes, next);
                 list(points, no, next);
@@ -64,7 +64,7 @@ fn list(points: &mut Vec<String>, statements: &[Statement], behind: usize) {
 
 /// The first point of some statements, listed from a place on; the target behind them if they have none.
 fn first_of(statements: &[Statement], place: usize, behind: usize) -> usize {
-    if count_points(statements, &[]) > 0 { place } else { behind }
+    if count_points(statements) > 0 { place } else { behind }
 }
 
 fn branch(condition: &Condition, yes: usize, no: usize) -> String {

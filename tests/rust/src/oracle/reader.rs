@@ -1,9 +1,9 @@
 //! The macro reader: from text to a tree, or the first refusal
-//! (document 01, "The questions", Macro; document 02, "Tests with names" and "Named pieces").
+//! (document 01, "The questions", Macro; document 02, "Tests with names").
 
 use super::letter::{Letter, MAX_FUNCTIONS, MAX_REGISTERS};
 use super::refusal::Refusal;
-use super::syntax::{Condition, MAX_REGISTERS_BESIDE_TESTS, MAX_SUBS, Macro, Statement, Sub};
+use super::syntax::{Condition, MAX_REGISTERS_BESIDE_TESTS, Macro, Statement};
 use super::token::{Placed, Token, Word, is_same_name, token_at};
 
 /// "A macro has at most 4,096 bytes and 256 points."
@@ -20,8 +20,6 @@ struct Reader<'a> {
     registers: Vec<String>,
     functions: Vec<(String, bool)>,
     tests: Vec<(String, bool)>,
-    /// The subs that were read to their end, and so those that may be called here.
-    subs: Vec<Sub>,
 }
 
 type Read<T> = Result<T, Refusal>;
@@ -31,14 +29,12 @@ pub fn read_macro(text: &[u8]) -> Read<Macro> {
     if text.len() > MAX_TEXT {
         return Err(Refusal::plain(7));
     }
-    let mut reader =
-        Reader { text, at: 0, registers: vec![], functions: vec![], tests: vec![], subs: vec![] };
+    let mut reader = Reader { text, at: 0, registers: vec![], functions: vec![], tests: vec![] };
     reader.declarations()?;
-    reader.sub_list()?;
     let statements = reader.statements(0)?;
     reader.expect(Token::End)?;
-    let Reader { registers, functions, tests, subs, .. } = reader;
-    let read = Macro { registers, functions, tests, subs, statements };
+    let Reader { registers, functions, tests, .. } = reader;
+    let read = Macro { registers, functions, tests, statements };
     if read.points() > MAX_POINTS { Err(Refusal::plain(13)) } else { Ok(read) }
 }
 
@@ -75,8 +71,7 @@ impl Reader<'_> {
     }
 
     fn is_declared(&self, name: &str) -> bool {
-        let entry = self.find_function(name).or(self.find_test(name));
-        self.find_register(name).or(entry).or(self.find_sub(name)).is_some()
+        self.find_register(name).or(self.find_function(name)).or(self.find_test(name)).is_some()
     }
 
     /// Reads this word if it is next; gives its place.
@@ -143,23 +138,6 @@ impl Reader<'_> {
         }
     }
 
-    /// The subs, perhaps none. "17, at the name of a ninth sub, before 10." "A sub may call only subs above it", so that it
-    /// is declared behind its body.
-    fn sub_list(&mut self) -> Read<()> {
-        while self.perhaps(Word::Sub)?.is_some() {
-            let (name, place) = self.name()?;
-            if self.subs.len() == MAX_SUBS {
-                return Err(Refusal::at(17, place));
-            }
-            if self.is_declared(&name) {
-                return Err(Refusal::at(10, place));
-            }
-            let statements = self.block(0)?;
-            self.subs.push(Sub { name, statements });
-        }
-        Ok(())
-    }
-
     /// Reads the `;` that ends a list, if it is next.
     fn list_ends(&mut self) -> Read<bool> {
         let ends = self.peek()?.token == Token::Semicolon;
@@ -205,18 +183,12 @@ impl Reader<'_> {
                 let condition = self.condition()?;
                 return Ok(Statement::While(condition, self.block(depth)?));
             }
-            Word::Call => Statement::Call(self.called()?),
-            Word::Vars | Word::Funs | Word::Tests | Word::Sub => return Err(Refusal::at(9, place)),
-            Word::Else | Word::Result | Word::Truth => return Err(Refusal::at(9, place)),
+            Word::Vars | Word::Funs | Word::Tests | Word::Else | Word::Result | Word::Truth => {
+                return Err(Refusal::at(9, place));
+            }
         };
         self.expect(Token::Semicolon)?;
         Ok(statement)
-    }
-
-    /// The name of a sub that may be called here; 9 for another token, 11 for another name.
-    fn called(&mut self) -> Read<u8> {
-        let (name, place) = self.name()?;
-        self.find_sub(&name).ok_or(Refusal::at(11, place))
     }
 
     /// An if behind its word, with the else that may follow.
@@ -276,10 +248,6 @@ impl Reader<'_> {
 
     fn find_test(&self, name: &str) -> Option<u8> {
         find_entry(&self.tests, name)
-    }
-
-    fn find_sub(&self, name: &str) -> Option<u8> {
-        self.subs.iter().position(|known| is_same_name(&known.name, name)).map(|index| index as u8)
     }
 
     /// Is the next token a `(`?

@@ -1,4 +1,4 @@
-//! The tree of a macro, its points, and the statements that are performed (documents 01 and 02).
+//! The tree of a macro, and its points (documents 01 and 02).
 
 use super::letter::{Header, Letter, MAX_REGISTERS};
 use super::token::{RESULT, TRUTH};
@@ -6,9 +6,6 @@ use super::trace::Trace;
 
 /// "The hidden registers follow the declared ones, `result` first."
 pub const HIDDEN_REGISTERS: [&str; 2] = [RESULT, TRUTH];
-
-/// "Up to eight `sub name { .. }` may stand."
-pub const MAX_SUBS: usize = 8;
 
 /// So many registers may be declared before a line of tests, and the hidden ones still find room.
 pub const MAX_REGISTERS_BESIDE_TESTS: usize = MAX_REGISTERS as usize - HIDDEN_REGISTERS.len();
@@ -73,15 +70,13 @@ pub enum Statement {
     If(Condition, Vec<Statement>, Vec<Statement>),
     /// `while C { .. }`
     While(Condition, Vec<Statement>),
-    /// `call name;`, by the number of the sub.
-    Call(u8),
 }
 
 impl Statement {
     /// The condition of an assume, assert, if or while.
     pub fn condition(&self) -> Option<&Condition> {
         match self {
-            Statement::Skip | Statement::Assign(_) | Statement::Call(_) => None,
+            Statement::Skip | Statement::Assign(_) => None,
             Statement::Assume(condition)
             | Statement::Assert(condition)
             | Statement::If(condition, ..)
@@ -95,15 +90,6 @@ impl Statement {
     }
 }
 
-/// A named piece of a macro: `sub name { .. }`.
-#[derive(Clone, Debug, PartialEq, Eq)]
-pub struct Sub {
-    /// The name, as it was declared.
-    pub name: String,
-    /// The body, which calls none but the subs above.
-    pub statements: Vec<Statement>,
-}
-
 /// A macro: its declarations and statements.
 #[derive(Clone, Debug, PartialEq, Eq)]
 pub struct Macro {
@@ -113,9 +99,7 @@ pub struct Macro {
     pub functions: Vec<(String, bool)>,
     /// The names of the tests, likewise; none where there is no line of them.
     pub tests: Vec<(String, bool)>,
-    /// The subs, each above those that may call it.
-    pub subs: Vec<Sub>,
-    /// The statements behind the subs.
+    /// The statements.
     pub statements: Vec<Statement>,
 }
 
@@ -134,8 +118,7 @@ impl Macro {
 
     /// All names that the macro declares, in the order of its lists.
     pub fn declared(&self) -> impl Iterator<Item = &String> {
-        let entries = self.all_functions().map(|(name, _)| name);
-        self.registers.iter().chain(entries).chain(self.subs.iter().map(|sub| &sub.name))
+        self.registers.iter().chain(self.all_functions().map(|(name, _)| name))
     }
 
     /// The header of the macro's traces.
@@ -145,61 +128,17 @@ impl Macro {
     }
 
     /// The number of points: "an assignment, assume, assert, if or while", and the application of a test with a name.
-    /// "Points are counted after expansion", and here without expanding: a call has as many as its sub.
     pub fn points(&self) -> usize {
-        count_points(&self.statements, &self.points_of_subs())
-    }
-
-    /// The number of points of each sub, its calls included.
-    pub fn points_of_subs(&self) -> Vec<usize> {
-        let mut counts = Vec::new();
-        for sub in &self.subs {
-            let points = count_points(&sub.statements, &counts);
-            counts.push(points);
-        }
-        counts
-    }
-
-    /// "The macro with each call replaced by its body": the statements that are performed. Skips, and calls of subs without
-    /// points, perform nothing and are left out, so that there are not many more statements than points.
-    pub fn performed(&self) -> Vec<Statement> {
-        self.expanded(&self.statements, &self.points_of_subs())
-    }
-
-    /// Some statements with each call replaced, where the subs have so many points.
-    fn expanded(&self, statements: &[Statement], points: &[usize]) -> Vec<Statement> {
-        let block = |statements: &[Statement]| self.expanded(statements, points);
-        let mut performed = Vec::new();
-        for statement in statements {
-            match statement {
-                Statement::Skip => {}
-                Statement::Call(sub) if points[usize::from(*sub)] == 0 => {}
-                Statement::Call(sub) => performed.extend(block(&self.subs[usize::from(*sub)].statements)),
-                Statement::If(condition, yes, no) => {
-                    performed.push(Statement::If(*condition, block(yes), block(no)));
-                }
-                Statement::While(condition, body) => {
-                    performed.push(Statement::While(*condition, block(body)));
-                }
-                Statement::Assign(_) | Statement::Assume(_) | Statement::Assert(_) => {
-                    performed.push(statement.clone());
-                }
-            }
-        }
-        performed
-    }
-
-    /// The macro that is performed: without subs and calls.
-    pub fn expansion(&self) -> Macro {
-        Macro { subs: vec![], statements: self.performed(), ..self.clone() }
+        count_points(&self.statements)
     }
 
     /// The one execution of a macro of assignments and assumes, as a trace; none
     /// if there is a branch.
     pub fn straight_line(&self) -> Option<Trace> {
         let mut letters = Vec::new();
-        for statement in &self.performed() {
+        for statement in &self.statements {
             match statement {
+                Statement::Skip => {}
                 Statement::Assign(letter) => letters.push(*letter),
                 Statement::Assume(condition) => {
                     letters.extend(condition.applied);
@@ -212,18 +151,14 @@ impl Macro {
     }
 }
 
-/// The number of points in a list of statements, where subs have so many. It grows fast with subs that call each other,
-/// and stays at the largest number once that is reached.
-pub fn count_points(statements: &[Statement], subs: &[usize]) -> usize {
+/// The number of points in a list of statements.
+pub fn count_points(statements: &[Statement]) -> usize {
     let points = |statement: &Statement| match statement {
         Statement::Skip => 0,
         Statement::Assign(_) => 1,
         Statement::Assume(condition) | Statement::Assert(condition) => condition.points(),
-        Statement::If(condition, yes, no) => {
-            condition.points().saturating_add(count_points(yes, subs)).saturating_add(count_points(no, subs))
-        }
-        Statement::While(condition, body) => condition.points().saturating_add(count_points(body, subs)),
-        Statement::Call(sub) => subs[usize::from(*sub)],
+        Statement::If(condition, yes, no) => condition.points() + count_points(yes) + count_points(no),
+        Statement::While(condition, body) => condition.points() + count_points(body),
     };
-    statements.iter().map(points).fold(0, usize::saturating_add)
+    statements.iter().map(points).sum()
 }

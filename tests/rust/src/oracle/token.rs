@@ -1,5 +1,5 @@
 //! The tokens of macro text (document 01, "Macro text", and question 8; document 02,
-//! "Capitals in names", "Tests with names" and "Named pieces").
+//! "Capitals in names" and "Tests with names").
 
 use super::refusal::Refusal;
 
@@ -36,10 +36,6 @@ pub enum Word {
     Result,
     /// `truth`, the hidden register
     Truth,
-    /// `sub`
-    Sub,
-    /// `call`
-    Call,
 }
 
 /// A token, or the end of the text.
@@ -90,7 +86,7 @@ pub struct Placed {
     pub end: usize,
 }
 
-const WORDS: [(&str, Word); 13] = [
+const WORDS: [(&str, Word); 11] = [
     ("vars", Word::Vars),
     ("funs", Word::Funs),
     ("skip", Word::Skip),
@@ -102,8 +98,6 @@ const WORDS: [(&str, Word); 13] = [
     ("tests", Word::Tests),
     (RESULT, Word::Result),
     (TRUTH, Word::Truth),
-    ("sub", Word::Sub),
-    ("call", Word::Call),
 ];
 
 /// "Names and words are equal whatever the case of their letters."

@@ -119,7 +119,7 @@ pub fn search(read: &Macro, most: usize) -> Result<Verdict, Refusal> {
 
 /// The search where letters are judged by this rule.
 pub fn search_by(rule: Rule, read: &Macro, most: usize) -> Result<Verdict, Refusal> {
-    let points = Points::of(read);
+    let points = Points::of(&read.statements);
     let mut search = Search { seen: HashSet::new(), queue: VecDeque::new(), most };
     if let Some(point) = points.first {
         search.leave(Partial { point, letters: vec![], state: State::start(read.header()) })?;

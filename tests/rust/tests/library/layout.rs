@@ -97,11 +97,11 @@ fn damaged_macros() {
     }
     println!("damaged macros: {spread:?}");
     let often = |number: u8| spread.is_often(&number.to_string(), 1_000);
-    assert!((7..=13).chain([0, 15, 16, 17]).all(often) || cases(10) < 10, "{spread:?}");
+    assert!((7..=13).chain([0, 15, 16]).all(often) || cases(10) < 10, "{spread:?}");
 }
 
 /// Parts of macros, which are put together at random.
-const PARTS: [&str; 31] = [
+const PARTS: [&str; 26] = [
     "skip;",
     "SKIP ;",
     "x:=Y;",
@@ -125,11 +125,6 @@ const PARTS: [&str; 31] = [
     "assert t(Y,y);",
     "!",
     "tests",
-    "call p;",
-    "Call Q ;",
-    "sub r{",
-    "SUB p{}",
-    "call",
     "#else{}\n",
     "\t",
     "\r\n",
@@ -145,10 +140,9 @@ fn random_bytes() {
         let text = if random.once_in(4) {
             (0..5 * count).map(|_| random.bits() as u8).collect()
         } else {
-            let parts: Vec<&str> = (0..count).map(|_| *random.pick(&PARTS)).collect();
-            let subs = if random.once_in(2) { "Sub P{}sub q{call p;}" } else { "" };
-            let front = ["vars x Y;Funs f/1g/2;Tests h/1t/2;", subs];
-            front.into_iter().chain(parts).collect::<String>().into_bytes()
+            let parts = (0..count).map(|_| *random.pick(&PARTS));
+            let parts: String = std::iter::once("vars x Y;Funs f/1g/2;Tests h/1t/2;").chain(parts).collect();
+            parts.into_bytes()
         };
         let lent = *random.pick(&[40, 200, 4_096]);
         spread.add(&check(&text, lent).to_string(), &text);
@@ -164,8 +158,7 @@ fn beginnings_and_bytes() {
                  whilE AA!=b{ASSUME aA=b;}asserT b=AA;sKIP;#E"
         .as_slice();
     let named = b"vars A b;Tests T/1u/2;if ! t(a){}else{}while U(a,B){assume!T(b);}assert t(A);";
-    let called = b"vars A b;sub P{if a=B{}else{}}Sub q{call p;call P;}sub r{}while A=a{CALL Q;}call R;";
-    for text in [plain, named, called] {
+    for text in [plain, named] {
         assert!(read_macro(text).is_ok());
         for length in 0..=text.len() {
             check(&text[..length], 200);
@@ -187,7 +180,6 @@ fn every_size() {
         "vars x;",
         "vars x Y;funs f/1g/2;x:=F(y);if x=y{}else{}while y=X{if x=x{}else{skip;}}",
         "vars x;tests t/1u/2;if !T(x){}else{}while u(X,x){assume ! t(x);}",
-        "vars x;Sub One{}sub two{call ONE;if x=x{call one;}else{}}CALL two;",
         "vars x",
     ];
     for text in texts {

@@ -5,8 +5,6 @@
 mod calls;
 #[cfg(feature = "monitor")]
 mod classes;
-#[cfg(all(feature = "read", feature = "verdict"))]
-mod expanded;
 #[cfg(feature = "layout")]
 mod layout;
 #[cfg(feature = "linked")]

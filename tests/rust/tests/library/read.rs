@@ -1,11 +1,10 @@
 //! `fadzgime_read`.
 
-use fadzgime_tests::answers::{CAPITALS, named_pieces, named_tests, storeys};
+use fadzgime_tests::answers::{CAPITALS, named_tests};
 use fadzgime_tests::generators::damaged_macros::damaged_text;
 use fadzgime_tests::generators::macros::{macro_text, random_macro};
 use fadzgime_tests::generators::random::{Random, cases};
-use fadzgime_tests::oracle::reader::{MAX_POINTS, MAX_TEXT, read_macro};
-use fadzgime_tests::oracle::syntax::MAX_SUBS;
+use fadzgime_tests::oracle::reader::read_macro;
 use fadzgime_tests::proved::library::{self, READ_ANSWER};
 
 use crate::lent::Lent;
@@ -47,8 +46,7 @@ fn damaged() {
     }
 }
 
-/// Every beginning of a macro, and every byte of it replaced by every byte: without capitals, with them, with tests, with
-/// subs.
+/// Every beginning of a macro, and every byte of it replaced by every byte: without capitals, with them, with tests.
 #[test]
 fn beginnings_and_bytes() {
     let plain =
@@ -57,9 +55,7 @@ fn beginnings_and_bytes() {
         b"VARS Aa b;Funs F/1 gG/2;IF aA=B{AA:=f(b);}Else{b:=GG(aa,B);}whilE AA!=b{ASSUME aA=b;}asserT b=AA;sKIP;#E";
     let named =
         b"vars a b;funs f/1;Tests t/1 U/2;if t(a){assume!u(a,B);}else{b:=f(a);}while !T(b){assert u(b,a);}assert!t(A);";
-    let called =
-        b"vars a b;tests t/1;sub p{a:=b;}Sub q{call P;if t(a){call p;}else{skip;}}sub r{}while a=b{CALL q;}call r;call p;";
-    for text in [plain.as_slice(), capitals, named, called] {
+    for text in [plain.as_slice(), capitals, named] {
         assert!(read_macro(text).is_ok());
         for length in 0..=text.len() {
             check(&text[..length]);
@@ -74,28 +70,12 @@ fn beginnings_and_bytes() {
     }
 }
 
-/// Texts with capitals, with tests and with subs whose answers are settled.
+/// Texts with capitals and with tests whose answers are settled.
 #[test]
 fn settled_texts() {
     let capitals = CAPITALS.iter().map(|(text, _)| text.to_string());
-    let named = named_tests().into_iter().chain(named_pieces()).map(|(text, _)| text);
+    let named = named_tests().into_iter().map(|(text, _)| text);
     capitals.chain(named).for_each(|text| check(text.as_bytes()));
-}
-
-/// Subs that call each other, over one without points and with one, each as often as a text has room for, and so often that
-/// there are about 256 points.
-#[test]
-fn storeys_of_subs() {
-    for subs in 1..=MAX_SUBS {
-        for ground in ["", "skip;", "x:=x;", "x:=x;x:=x;x:=x;", "if x=x{}"] {
-            for count in
-                (1..=MAX_POINTS + 1).take_while(|count| storeys(ground, subs, *count).len() <= MAX_TEXT)
-            {
-                check(storeys(ground, subs, count).as_bytes());
-                check((storeys(ground, subs, count) + "x:=x;").as_bytes());
-            }
-        }
-    }
 }
 
 /// Where the answer is too short, nothing is done: every lent byte stays.

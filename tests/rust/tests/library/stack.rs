@@ -3,7 +3,6 @@
 
 use std::process::Command;
 
-use fadzgime_tests::answers::storeys;
 use fadzgime_tests::fast::display::fast_display;
 use fadzgime_tests::generators::random::Random;
 use fadzgime_tests::generators::traces::random_letter;
@@ -57,18 +56,6 @@ fn named_macro() -> Vec<u8> {
     padded(front + &"a:=i(a);".repeat(points) + "assert!k(a);")
 }
 
-/// A text of 4,096 bytes with 256 points by calls, the deepest blocks in a sub and around calls, and eight subs.
-fn called_macro() -> Vec<u8> {
-    let (open, close) = ("if a=b{while c!=d{".repeat(7), "}}".repeat(7));
-    let front = format!(
-        "{NAMES}sub m{{}}sub n{{{open}if a=b{{call m;}}{close}}}sub o{{{open}if a=b{{call n;}}{close}}}"
-    );
-    let front = front
-        + "sub p{a:=i(a);}sub q{call p;call p;}sub r{call q;call q;}sub s{call o;call r;}sub t{call s;}call t;";
-    let points = 255 - read_macro(front.as_bytes()).expect("it reads").points();
-    padded(front + &"call p;".repeat(points) + "assert a=b;")
-}
-
 /// A text of 256 points with blanks up to 4,096 bytes.
 fn padded(text: String) -> Vec<u8> {
     let padding = " ".repeat(TEXT - text.len());
@@ -77,18 +64,14 @@ fn padded(text: String) -> Vec<u8> {
     text
 }
 
-/// Texts with the deepest blocks, with the longest execution to an event, with the most calls, and refused ones: not ended,
-/// too deep, too long, with far too many points.
+/// Texts with the deepest blocks, with the longest execution to an event, and refused ones: not ended, too deep, too long.
 fn texts() -> Vec<Vec<u8>> {
     let blocks = "if a=b{while c!=d{".repeat(8) + "a:=i(a);" + &"}}".repeat(8);
     let open = |depth: usize| ("vars a b;".to_string() + &"if a=b{".repeat(depth)).into_bytes();
     let deep = long_macro(&blocks, "assert a=b;");
     let too_long = [deep.as_slice(), b" "].concat();
     let (longest, passing) = (long_macro("", "assert a=b;"), long_macro(&blocks, "a:=a;"));
-    let [pointless, many] = ["", "x:=x;"].map(|ground| storeys(ground, 8, 70).into_bytes());
-    let named = [named_macro(), called_macro()];
-    let refused = [open(16), open(17), too_long, many];
-    [longest, deep, passing, pointless].into_iter().chain(named).chain(refused).collect()
+    vec![longest, deep, passing, named_macro(), open(16), open(17), too_long]
 }
 
 /// A trace of 1,024 letters under the largest header.

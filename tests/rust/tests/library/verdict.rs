@@ -1,6 +1,6 @@
 //! `fadzgime_verdict`.
 
-use fadzgime_tests::answers::{CAPITALS, EQUAL_SIDES_MACROS, named_pieces, named_tests, storeys};
+use fadzgime_tests::answers::{CAPITALS, EQUAL_SIDES_MACROS, named_tests};
 use fadzgime_tests::examples::example_macros;
 use fadzgime_tests::generators::damaged_macros::damaged_text;
 use fadzgime_tests::generators::macros::{macro_text, random_macro};
@@ -145,7 +145,7 @@ fn damaged_macros() {
     }
     println!("damaged macros: {spread:?}");
     let often = |number: u8| spread.is_often(&format!("refused {number}"), 100);
-    assert!((7..=14).chain([16, 17]).all(often) || cases(10) < 10, "{spread:?}");
+    assert!((7..=14).chain([16]).all(often) || cases(10) < 10, "{spread:?}");
 }
 
 /// Texts with capitals whose answers are settled, with every table of up to two pairs and every output that is short.
@@ -187,10 +187,10 @@ fn refusal(line: &str) -> Option<[u64; VERDICT_ANSWER]> {
     Some([number.parse().ok()?, place.parse().ok()?, 0, 0, 0])
 }
 
-/// Tests with names and named pieces, against what was settled, and with every table and output that is short.
+/// Tests with names, against what was settled, and with every table and output that is short.
 #[test]
-fn tests_with_names_and_named_pieces() {
-    for (text, lines) in named_tests().into_iter().chain(named_pieces()) {
+fn tests_with_names() {
+    for (text, lines) in named_tests() {
         let expected = refusal(lines).unwrap_or_else(|| numbers(lines));
         assert_eq!(check(text.as_bytes(), MOST, VERDICT_OUTPUT), expected, "{text}");
         for table in (0..=5 * PAIR_BYTES).step_by(PAIR_BYTES / 2) {
@@ -236,9 +236,7 @@ fn enumerated_executions() {
 /// one byte more than is needed.
 #[test]
 fn every_size() {
-    let texts: [&[u8]; 8] = [
-        b"vars x y; sub a { x := y; } sub b { call a; assert x != y; } call b; call b;",
-        b"vars x y; funs n/1; sub a { x := n(x); } sub b { while x != y { call a; } } call b; assert x = y;",
+    let texts: [&[u8]; 6] = [
         b"vars x; tests t/1; assert !t(x);",
         b"vars x; tests t/2; assert t(x,x); assert t(x,x);",
         b"vars x y; funs n/1; while x != y { x := n(x); } assert x = y;",
@@ -313,21 +311,6 @@ fn many_points() {
         for last in ["assert a=b;", "assert a=a;"] {
             let text = format!("vars a b;{}{last}", "a:=a;".repeat(front));
             for room in [2 * front + 11, 2 * front + 12, 2 * front + 13] {
-                check(text.as_bytes(), MOST, room);
-            }
-        }
-    }
-}
-
-/// Up to 256 points by calls, the event at the last.
-#[test]
-fn many_points_by_calls() {
-    for (subs, calls) in [(2, 255), (3, 15), (4, 6), (5, 3), (8, 2)] {
-        for last in ["assert a=b;", "assert a=a;"] {
-            let front = storeys("a:=a;", subs, calls).replace("vars x;", "vars a b;");
-            let text = format!("{front}{last}");
-            let letters = calls.pow(subs as u32 - 1);
-            for room in [2 * letters + 11, 2 * letters + 12, 2 * letters + 13] {
                 check(text.as_bytes(), MOST, room);
             }
         }

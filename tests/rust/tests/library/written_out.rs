@@ -32,7 +32,7 @@ fn counts(text: &[u8]) -> [u64; 3] {
 
 /// Compares a macro with what is written out; gives the verdict and whether a while asks a test, but for full tables.
 fn check(random: &mut Random, read: &Macro) -> Option<(u64, bool)> {
-    let loops = named_loops(read) as u64;
+    let loops = named_loops(&read.statements) as u64;
     let (text, written) = (macro_text(random, read), macro_text(random, &written_out(read)));
     let shown = String::from_utf8_lossy(&text);
     let [registers, functions, points] = counts(&text);

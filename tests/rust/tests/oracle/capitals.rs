@@ -27,10 +27,9 @@ fn words() {
         "VARS x; FUNS f/1; SKIP; ASSUME x = x; ASSERT x = x; IF x = x { } ELSE { } WHILE x = x { } x := F(X);",
     );
     accepted("vArS x; iF x = x { } eLsE { wHiLe x != x { sKiP; } }");
-    for word in [
-        "VARS", "Funs", "sKIP", "AssumE", "aSSert", "iF", "Else", "whilE", "Tests", "RESULT", "trutH", "sUb",
-        "CALL",
-    ] {
+    for word in
+        ["VARS", "Funs", "sKIP", "AssumE", "aSSert", "iF", "Else", "whilE", "Tests", "RESULT", "trutH"]
+    {
         refused(9, &format!("vars ^{word};"));
         refused(9, &format!("vars x; x := ^{word};"));
         refused(9, &format!("vars x; funs f/1; x := f(^{word});"));
@@ -200,7 +199,7 @@ fn lower_case_texts() {
         spread.add(&check_lowered(&text, table), &text);
     }
     println!("{spread:?}");
-    let wanted = ["pass", "fail", "incoherent", "7", "8", "9", "10", "11", "12", "13", "14", "16", "17"];
+    let wanted = ["pass", "fail", "incoherent", "7", "8", "9", "10", "11", "12", "13", "14", "16"];
     assert!(wanted.iter().all(|outcome| spread.is_often(outcome, 60)) || cases(10) < 10, "{spread:?}");
 }
 
@@ -223,8 +222,7 @@ fn retyped_texts() {
         let text = damaged_text(random);
         let mut retyped = text.clone();
         Habit::any(random).type_text(random, &mut retyped);
-        let bodies = |read: &Macro| read.subs.iter().map(|sub| sub.statements.clone()).collect::<Vec<_>>();
-        let statements = |text: &[u8]| read_macro(text).map(|read| (bodies(&read), read.statements));
+        let statements = |text: &[u8]| read_macro(text).map(|read| read.statements);
         assert_eq!(statements(&retyped), statements(&text), "{}", String::from_utf8_lossy(&text));
     }
 }

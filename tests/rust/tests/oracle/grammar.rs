@@ -11,17 +11,15 @@ const LETTERS: &[u8; 52] = b"ABCDEFGHIJKLMNOPQRSTUVWXYZabcdefghijklmnopqrstuvwxy
 /// What else a name may hold behind its first byte.
 const INNER: &[u8; 11] = b"0123456789_";
 
-const WORDS: [&str; 13] = [
-    "vars", "funs", "tests", "skip", "assume", "assert", "if", "else", "while", "result", "truth", "sub",
-    "call",
-];
+const WORDS: [&str; 11] =
+    ["vars", "funs", "tests", "skip", "assume", "assert", "if", "else", "while", "result", "truth"];
 
 /// Tokens that are neither names nor words; `!=` is looked for before `!`.
 const SIGNS: [&str; 13] = ["1", "2", ":=", "=", "!=", "!", ";", ",", "(", ")", "{", "}", "/"];
 
 /// A token in one spelling, `name` for a name and `end` for the end of the text, with its
 /// first byte and the byte behind it.
-pub type Spelt = (&'static str, usize, usize);
+type Spelt = (&'static str, usize, usize);
 
 /// The first byte that is neither blank nor in a comment.
 fn behind_blanks(text: &[u8], from: usize) -> usize {
@@ -34,7 +32,7 @@ fn behind_blanks(text: &[u8], from: usize) -> usize {
 }
 
 /// The next token; 8 if there is none.
-pub fn next_token(text: &[u8], from: usize) -> Result<Spelt, Refusal> {
+fn next_token(text: &[u8], from: usize) -> Result<Spelt, Refusal> {
     let start = behind_blanks(text, from);
     let rest = &text[start..];
     let Some(first) = rest.first() else { return Ok(("end", start, start)) };
@@ -51,18 +49,13 @@ pub fn next_token(text: &[u8], from: usize) -> Result<Spelt, Refusal> {
     Ok((sign, start, start + sign.len()))
 }
 
-/// A run in small letters.
-pub fn lowered(run: &[u8]) -> Vec<u8> {
+/// The word that is spelt so, whatever the case of its letters; else it is a name.
+fn word_or_name(run: &[u8]) -> &'static str {
     let small = |byte: &u8| match LETTERS[..26].iter().position(|capital| capital == byte) {
         Some(place) => LETTERS[26 + place],
         None => *byte,
     };
-    run.iter().map(small).collect()
-}
-
-/// The word that is spelt so, whatever the case of its letters; else it is a name.
-fn word_or_name(run: &[u8]) -> &'static str {
-    let lowered = lowered(run);
+    let lowered: Vec<u8> = run.iter().map(small).collect();
     WORDS.into_iter().find(|word| word.as_bytes() == lowered).unwrap_or("name")
 }
 
@@ -76,7 +69,6 @@ enum Due {
     MoreEntries,
     Arity,
     Perhaps(&'static str),
-    MoreSubs,
     Statements { inner: bool },
     Value,
     AfterValue,
@@ -91,9 +83,7 @@ enum Due {
 /// the token is used up; none if it does not fit.
 fn fits(due: Due, token: &str) -> Option<(Vec<Due>, bool)> {
     use Due::{AfterName, AfterValue, Condition, Statements, Value};
-    use Due::{
-        Arity, End, Exactly, MoreArguments, MoreEntries, MoreNames, MoreSubs, Name, Perhaps, PerhapsElse,
-    };
+    use Due::{Arity, End, Exactly, MoreArguments, MoreEntries, MoreNames, Name, Perhaps, PerhapsElse};
     let used = |dues: Vec<Due>| Some((dues, true));
     match (due, token) {
         (Exactly(spelt), _) if spelt == token => used(vec![]),
@@ -104,13 +94,9 @@ fn fits(due: Due, token: &str) -> Option<(Vec<Due>, bool)> {
         (Arity, "1" | "2") => used(vec![]),
         (Perhaps(word), _) if word == token => used(vec![Name, Exactly("/"), Arity, MoreEntries]),
         (PerhapsElse, "else") => used(vec![Exactly("{"), Statements { inner: true }, Exactly("}")]),
-        (MoreSubs, "sub") => {
-            used(vec![Name, Exactly("{"), Statements { inner: true }, Exactly("}"), MoreSubs])
-        }
-        (Perhaps(_) | PerhapsElse | MoreSubs, _) => Some((vec![], false)),
+        (Perhaps(_) | PerhapsElse, _) => Some((vec![], false)),
         (Statements { inner: true }, "}") | (Statements { inner: false }, "end") => Some((vec![], false)),
         (Statements { .. }, "skip") => used(vec![Exactly(";"), due]),
-        (Statements { .. }, "call") => used(vec![Name, Exactly(";"), due]),
         (Statements { .. }, "name") => used(vec![Exactly(":="), Value, due]),
         (Statements { .. }, "assume" | "assert") => used(vec![Condition, Exactly(";"), due]),
         (Statements { .. }, "if" | "while") => {
@@ -134,11 +120,11 @@ fn fits(due: Due, token: &str) -> Option<(Vec<Due>, bool)> {
 }
 
 /// The first 8 or 9 of a text, by the stack.
-pub fn first_misfit(text: &[u8]) -> Option<Refusal> {
-    use Due::{End, Exactly, MoreNames, MoreSubs, Name, Perhaps, Statements};
+fn first_misfit(text: &[u8]) -> Option<Refusal> {
+    use Due::{End, Exactly, MoreNames, Name, Perhaps, Statements};
     let (functions, tests) = (Perhaps("funs"), Perhaps("tests"));
     let mut stack =
-        vec![End, Statements { inner: false }, MoreSubs, tests, functions, MoreNames, Name, Exactly("vars")];
+        vec![End, Statements { inner: false }, tests, functions, MoreNames, Name, Exactly("vars")];
     let mut at = 0;
     while !stack.is_empty() {
         let (token, start, end) = match next_token(text, at) {
@@ -158,7 +144,7 @@ pub fn first_misfit(text: &[u8]) -> Option<Refusal> {
     None
 }
 
-/// The reader's 8 or 9 is the first misfit of the grammar; 10 to 12, 16 and 17 stand no later
+/// The reader's 8 or 9 is the first misfit of the grammar; 10 to 12 and 16 stand no later
 /// than it, and never at one place with it; 13 needs that there is none.
 #[test]
 fn refusals_against_the_grammar() {

@@ -33,14 +33,8 @@ fn asked(condition: &Condition) -> Words {
     Words::from([letters.map(|letter| letter.pack()).collect()])
 }
 
-/// Exec of Definition 2 without asserts: the whole executions of up to so many letters. Those of a call are those of the
-/// body.
-pub fn executions(read: &Macro, most: usize) -> Words {
-    executions_of(read, &read.statements, most)
-}
-
-fn executions_of(read: &Macro, statements: &[Statement], most: usize) -> Words {
-    let block = |statements: &[Statement]| executions_of(read, statements, most);
+/// Exec of Definition 2 without asserts: the whole executions of up to so many letters.
+pub fn executions(statements: &[Statement], most: usize) -> Words {
     let empty = Words::from([vec![]]);
     statements.iter().fold(empty.clone(), |before, statement| {
         let these = match statement {
@@ -48,12 +42,12 @@ fn executions_of(read: &Macro, statements: &[Statement], most: usize) -> Words {
             Statement::Assign(letter) => word(*letter),
             Statement::Assume(condition) | Statement::Assert(condition) => asked(condition),
             Statement::If(condition, yes, no) => {
-                let mut both = concatenate(&asked(condition), &block(yes), most);
-                both.extend(concatenate(&asked(&condition.opposite()), &block(no), most));
+                let mut both = concatenate(&asked(condition), &executions(yes, most), most);
+                both.extend(concatenate(&asked(&condition.opposite()), &executions(no, most), most));
                 both
             }
             Statement::While(condition, body) => {
-                let round = concatenate(&asked(condition), &block(body), most);
+                let round = concatenate(&asked(condition), &executions(body, most), most);
                 let mut rounds = empty.clone();
                 loop {
                     let more: Words = rounds.union(&concatenate(&rounds, &round, most)).cloned().collect();
@@ -64,7 +58,6 @@ fn executions_of(read: &Macro, statements: &[Statement], most: usize) -> Words {
                 }
                 concatenate(&rounds, &asked(&condition.opposite()), most)
             }
-            Statement::Call(sub) => block(&read.subs[usize::from(*sub)].statements),
         };
         concatenate(&before, &these, most)
     })
@@ -73,7 +66,7 @@ fn executions_of(read: &Macro, statements: &[Statement], most: usize) -> Words {
 /// The whole executions of up to so many letters by walking, not ended at a failure.
 pub fn walked(read: &Macro, most: usize) -> Words {
     let mut whole = Words::new();
-    let mut level = vec![(vec![], Rest::all(read))];
+    let mut level = vec![(vec![], Rest::all(&read.statements))];
     for _ in 0..=most {
         let mut next = Vec::new();
         for (letters, rest) in level {
@@ -98,7 +91,7 @@ pub fn walked(read: &Macro, most: usize) -> Words {
 fn walks_are_executions() {
     for seed in 0..cases(400) {
         let read = random_macro(&mut Random::new(seed), 6);
-        assert_eq!(walked(&read, 8), executions(&read, 8), "{read:?}");
+        assert_eq!(walked(&read, 8), executions(&read.statements, 8), "{read:?}");
     }
 }
 
@@ -108,8 +101,8 @@ fn points_walk_alike() {
     for seed in 0..cases(1_000) {
         let random = &mut Random::new(seed);
         let read = random_macro(random, 12);
-        let points = Points::of(&read);
-        let (mut rest, mut point) = (Rest::all(&read), points.first);
+        let points = Points::of(&read.statements);
+        let (mut rest, mut point) = (Rest::all(&read.statements), points.first);
         for _ in 0..40 {
             assert_eq!(rest.is_empty(), point.is_none());
             let Some(at) = point else { break };

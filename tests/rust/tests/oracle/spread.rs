@@ -97,19 +97,13 @@ fn tests_of_what_is_equal() {
 }
 
 /// How deep blocks are nested.
-pub fn nesting(statements: &[Statement]) -> usize {
+fn nesting(statements: &[Statement]) -> usize {
     let inner = |statement: &Statement| match statement {
         Statement::If(_, yes, no) => 1 + nesting(yes).max(nesting(no)),
         Statement::While(_, body) => 1 + nesting(body),
         _ => 0,
     };
     statements.iter().map(inner).max().unwrap_or(0)
-}
-
-/// How deep the braces of a macro are nested, those of subs counted.
-fn depth(read: &Macro) -> usize {
-    let subs = read.subs.iter().map(|sub| 1 + nesting(&sub.statements));
-    subs.max().unwrap_or(0).max(nesting(&read.statements))
 }
 
 /// The tokens of a text, one after the other, up to its end or to what is none.
@@ -144,8 +138,8 @@ fn macros() {
     for seed in 0..1_000 {
         let random = &mut Random::new(seed);
         let read = random_macro(random, 60);
-        deep += usize::from(depth(&read) > 8);
-        deepest = deepest.max(depth(&read));
+        deep += usize::from(nesting(&read.statements) > 8);
+        deepest = deepest.max(nesting(&read.statements));
         let text = macro_text(random, &read);
         respelt += usize::from(is_respelt(&text, &read));
         let table = *random.pick(&[1_000, 4_000, 65_536]);
@@ -195,13 +189,13 @@ fn damaged_macros() {
         }
     }
     println!("{spread:?}; {about:?}");
-    let numbers = ["0", "7", "8", "9", "10", "11", "12", "13", "16", "17"];
+    let numbers = ["0", "7", "8", "9", "10", "11", "12", "13", "16"];
     assert!(numbers.iter().all(|number| spread.is_often(number, 40)), "{spread:?}");
     assert!(about.len() == 4 && about.values().all(|&count| count > 30));
 }
 
 /// The elses of some statements, absent ones too.
-pub fn elses(statements: &[Statement]) -> Vec<&[Statement]> {
+fn elses(statements: &[Statement]) -> Vec<&[Statement]> {
     let mut found: Vec<&[Statement]> = Vec::new();
     for statement in statements {
         match statement {

@@ -20,7 +20,7 @@ fn named(statements: &[Statement]) -> BTreeSet<String> {
     let mut found = BTreeSet::new();
     for statement in statements {
         let (word, blocks): (&str, Vec<&[Statement]>) = match statement {
-            Statement::Skip | Statement::Assign(_) | Statement::Call(_) => continue,
+            Statement::Skip | Statement::Assign(_) => continue,
             Statement::Assume(_) => ("assume", vec![]),
             Statement::Assert(_) => ("assert", vec![]),
             Statement::If(_, yes, no) => ("if", vec![yes, no]),
@@ -39,7 +39,6 @@ fn named(statements: &[Statement]) -> BTreeSet<String> {
 /// What there is of tests in a macro.
 fn about_macro(read: &Macro) -> BTreeSet<String> {
     let mut about = named(&read.statements);
-    about.extend(read.subs.iter().flat_map(|sub| named(&sub.statements)));
     let kinds = [
         ("none of them used", about.is_empty()),
         ("with functions", !read.functions.is_empty()),
@@ -71,22 +70,22 @@ fn macros() {
     assert!(words.len() == 4 && words.values().all(|&count| count > 50), "{words:?}");
 }
 
-/// The word of the list in which a name was declared, or `sub`, if it was declared in these first tokens of a text.
-pub fn sort(before: &[Placed], name: &str) -> Option<Word> {
+/// The word of the list in which a name was declared, if it was, in these first tokens of a text.
+fn sort(before: &[Placed], name: &str) -> Option<Word> {
     let is_it = |placed: &Placed| matches!(&placed.token, Token::Name(known) if is_same_name(known, name));
     list(&before[..before.iter().position(is_it)?])
 }
 
-/// The word of the last list or sub that these tokens begin.
-pub fn list(before: &[Placed]) -> Option<Word> {
+/// The word of the last list that these tokens begin.
+fn list(before: &[Placed]) -> Option<Word> {
     before.iter().rev().find_map(|placed| match placed.token {
-        Token::Word(word @ (Word::Vars | Word::Funs | Word::Tests | Word::Sub)) => Some(word),
+        Token::Word(word @ (Word::Vars | Word::Funs | Word::Tests)) => Some(word),
         _ => None,
     })
 }
 
 /// Does a statement begin behind these tokens?
-pub fn ends_statement(before: &[Placed]) -> bool {
+fn ends_statement(before: &[Placed]) -> bool {
     let last = before.last().map(|placed| &placed.token);
     last.is_some_and(|last| matches!(last, Token::Semicolon | Token::OpenBrace | Token::CloseBrace))
 }
@@ -129,18 +128,15 @@ fn misused(before: &[Placed], name: &str, applied: bool) -> Option<&'static str>
         (Token::Becomes, true) => Some("11: a test behind `:=`"),
         (Token::Open | Token::Comma, true) => Some("11: a test as an argument"),
         (Token::Equal | Token::Unequal, true) => Some("11: a test on the right side"),
-        (Token::Word(Word::Call), _) => None,
         (Token::Word(_), true) => Some("11: a test alone in a condition"),
         (_, true) if ends_statement(before) => Some("11: a test as a target"),
         (Token::Not, false) => Some(match sort {
             Some(Word::Vars) => "11: a register behind `!`",
-            Some(Word::Sub) => return None,
             Some(_) => "11: a function behind `!`",
             None => "11: an unknown name behind `!`",
         }),
         (Token::Word(_), false) if applied => Some(match sort {
             Some(Word::Vars) => "11: a register before `(`",
-            Some(Word::Sub) => return None,
             Some(_) => "11: a function before `(`",
             None => "11: an unknown name before `(`",
         }),

@@ -45,7 +45,7 @@ fn check_comparison(answer: &Answer) {
 fn check(read: &Macro, most: usize) -> Option<(&'static str, bool)> {
     let written = written_out(read);
     assert_eq!(written.header(), read.header(), "{read:?}");
-    let loops = named_loops(read);
+    let loops = named_loops(&read.statements);
     assert_eq!(written.points(), read.points() + loops, "{read:?}");
     let answer = |read: &Macro| search(read, most).ok().map(|verdict| Answer::of(read.clone(), verdict));
     let (named, plain) = (answer(read)?, answer(&written)?);
@@ -80,9 +80,9 @@ fn whole_executions() {
         let written = written_out(&read);
         let found = walked(&read, 9);
         assert_eq!(found, walked(&written, 9), "{read:?}");
-        assert_eq!(found, executions(&read, 9), "{read:?}");
-        assert_eq!(found, executions(&written, 9), "{read:?}");
-        loops += usize::from(named_loops(&read) > 0);
+        assert_eq!(found, executions(&read.statements, 9), "{read:?}");
+        assert_eq!(found, executions(&written.statements, 9), "{read:?}");
+        loops += usize::from(named_loops(&read.statements) > 0);
     }
     assert!(loops > 40 || cases(10) < 10, "{loops}");
 }
