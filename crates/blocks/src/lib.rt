@@ -1,4 +1,6 @@
 // Statements and blocks of a macro, and the table of its points (SPEC 8.3, 9.3).
+#![tactic(auto)]
+
 ghost use Rattle.std.specs.Prelude.{◌≡◌, List, [], ◌∷◌, ◌+◌, ◌≤◌, set};
 ghost use Rattle.base.specs.Each.{each};
 ghost use Rattle.letters.specs.Packing.{split};
@@ -14,7 +16,7 @@ use phrases::{GotCondition, GotLetter, GotNumber};
 use tokens::Token;
 
 /// A point of a macro.
-#[derive(Drop)]
+#[derive(Clone, Copy)]
 pub struct PointEntry {
     /// `STEP`, `CHECK` or `FORK`.
     pub kind: u8,
@@ -27,7 +29,7 @@ pub struct PointEntry {
 }
 
 /// How far reading has come.
-#[derive(Drop)]
+#[derive(Clone, Copy)]
 pub struct ReaderState {
     /// Whether nothing was refused.
     pub ok: bool,

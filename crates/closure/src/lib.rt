@@ -7,6 +7,8 @@
 // Applications are found by signature: function and classes of the arguments as one number. The index has a chain of
 // applications for each remainder of signatures by their count: `head` has the last that was entered, `link` leads from each to
 // the one entered before it. A number below `registers` ends a chain.
+#![tactic(auto)]
+
 ghost use Rattle.std.specs.Prelude.{◌≡◌, ◌<◌, ◌≤◌, get_or};
 ghost use Rattle.letters.specs.Editions.{most_letters, most_functions};
 ghost use Rattle.closure.specs.Limits.{most_terms};

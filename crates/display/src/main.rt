@@ -1,4 +1,6 @@
 // Reads a packed trace from standard input and prints a line before its first letter and one after each, or says on standard error why it could not.
+#![tactic(auto)]
+
 use display_lines::Displayed;
 use libc::{STDERR_FILENO, STDIN_FILENO};
 

@@ -1,5 +1,7 @@
 // The lines that the program `display` prints for a packed trace: one before the first letter and one after each, `K SAID N WORD`; or `refused N at P`
 // (SPEC 12.7).
+#![tactic(auto)]
+
 ghost use Rattle.std.specs.Prelude.{◌≡◌, ◌+◌, ◌/◌, ◌<◌, ◌≤◌, length, drop};
 ghost use Rattle.io.specs.Digits.{hex_digit_ascii, last_digits};
 ghost use Rattle.tokens.specs.Bytes.{spelling};
@@ -40,7 +42,7 @@ const MOST_LINES: usize = MOST_TRACE_BYTES / UNIT_BYTES;
 pub const MOST_BYTES: usize = MOST_LINES * LONGEST_LINE;
 
 /// What was made of a trace.
-#[derive(Drop)]
+#[derive(Clone, Copy)]
 pub enum Displayed {
     /// So many bytes of its lines were written.
     Written(usize),

@@ -1,4 +1,6 @@
 // Shows the packed trace in each file that an argument names: the file's name, and the lines of the program `display`.
+#![tactic(auto)]
+
 use display_lines::Displayed;
 use libc::STDERR_FILENO;
 

@@ -2,6 +2,8 @@
 //
 // The arrays are those of crate `closure`: the terms, their classes and the index. `value` has the term of each register,
 // `left` and `right` the two sides of each unequal test.
+#![tactic(auto)]
+
 ghost use Rattle.std.specs.Prelude.{◌≡◌, ◌<◌, ◌≤◌};
 ghost use Rattle.letters.specs.Editions.{most_registers};
 ghost use Rattle.closure.specs.Limits.{most_terms};
@@ -13,7 +15,7 @@ use letters::limits::{MOST_LETTERS, UNIT_BYTES};
 use letters::{DecodedLetter, Header, Letter, words};
 
 /// What was counted so far.
-#[derive(Drop)]
+#[derive(Clone, Copy)]
 pub struct Counts {
     /// The computed terms.
     pub terms: usize,
@@ -24,7 +26,7 @@ pub struct Counts {
 }
 
 /// How a run over a trace ends: with the number of computed terms, or at the first letter that is infeasible or not well formed.
-#[derive(Drop)]
+#[derive(Clone, Copy)]
 pub enum EngineOutcome {
     /// All letters are feasible; so many terms were computed.
     Feasible(usize),

@@ -1,4 +1,6 @@
 // The exploration of the pairs of a macro, breadth first from pair to pair (SPEC 10).
+#![tactic(auto)]
+
 ghost use Rattle.std.specs.Prelude.{◌≡◌, ◌+◌, ◌*◌, ◌/◌, ◌%◌, ◌≤◌, length};
 ghost use Rattle.letters.specs.Capacity.{most_pairs};
 ghost use Rattle.exploration.specs.Moves.{opposite_of, move_of, letter_of};
@@ -21,7 +23,7 @@ use window::Window;
 pub const POINTS: usize = MOST_POINTS as usize;
 
 /// What a branch of a point performs.
-#[derive(Drop)]
+#[derive(Clone, Copy)]
 pub enum PointMove {
     /// No letter: the point has no such branch.
     Nothing,
@@ -32,7 +34,7 @@ pub enum PointMove {
 }
 
 /// What a move comes to.
-#[derive(Drop)]
+#[derive(Clone, Copy)]
 pub enum Turn {
     /// The search goes on with this count of pairs.
     On(usize),
@@ -45,7 +47,7 @@ pub enum Turn {
 }
 
 /// How the search ends.
-#[derive(Drop)]
+#[derive(Clone, Copy)]
 pub enum Search {
     /// The pairs pass the table.
     Full,

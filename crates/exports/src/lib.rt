@@ -1,5 +1,7 @@
 // The proved functions for Rust and C: numbers and slices. A slice passes as a pointer and its length.
 // Each function stores its answer as numbers over the front of a lent slice. If the slice is too short for them, nothing is done.
+#![tactic(auto)]
+
 ghost use Rattle.std.specs.Prelude.{◌≡◌, ◌++◌, ◌≤◌, length, drop};
 ghost use Rattle.streaming.specs.Demand2.{Demand2};
 ghost use Rattle.streaming.specs.Run.{run_answer};

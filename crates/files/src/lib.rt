@@ -1,5 +1,7 @@
 // Reads a file into a lent buffer, and prints bytes. A read that fails is told from the end of the input: of an input that was not
 // read to its end nothing can be judged.
+#![tactic(auto)]
+
 ghost use Rattle.std.specs.Prelude.{◌≡◌, ◌+◌, ◌<◌, ◌≤◌, min, length};
 ghost use Rattle.std.proofs.Math.Seq.{paste};
 ghost use Rattle.io.specs.Counts.{IsPrefixLen};
@@ -8,7 +10,7 @@ ghost use Rattle.files.specs.Input.{meaning, given, Gave, following, Stored, Rec
 use libc::STDOUT_FILENO;
 
 /// How reading into a buffer ended. What was read stands in the buffer's front, and the bytes behind it stay as they were lent.
-#[derive(Drop)]
+#[derive(Clone, Copy)]
 pub enum Input {
     /// The input ended, after so many bytes; they are fewer than the buffer's.
     Ended(usize),
@@ -19,7 +21,7 @@ pub enum Input {
 }
 
 /// The lines that were made of an input.
-#[derive(Drop)]
+#[derive(Clone, Copy)]
 pub enum Lines {
     /// So many bytes of them were written.
     Written(usize),
@@ -28,7 +30,7 @@ pub enum Lines {
 }
 
 // What one read gave.
-#[derive(Drop)]
+#[derive(Clone, Copy)]
 enum OneRead {
     Bytes(usize),
     End,
@@ -36,7 +38,7 @@ enum OneRead {
 }
 
 // What follows one read: it gave so many bytes, and reading goes on; or reading is over.
-#[derive(Drop)]
+#[derive(Clone, Copy)]
 enum AfterRead {
     More(usize),
     Over(Input),
@@ -144,7 +146,7 @@ pub fn print(bytes: &[u8]) {
 }
 
 /// A file that is open, and the size of its name; a negative number for one that could not be opened.
-#[derive(Drop)]
+#[derive(Clone, Copy)]
 pub struct Opened {
     /// The file, or a negative number.
     pub fd: i32,

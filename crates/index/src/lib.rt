@@ -2,6 +2,8 @@
 //
 // `head` has the record that was last entered in each chain, `link` leads from each record to the one entered before it. Record 0 ends every chain
 // and needs no entry: an index of it alone is zeros.
+#![tactic(auto)]
+
 ghost use Rattle.std.specs.Prelude.{◌≡◌, ◌*◌, ◌≤◌, ◌<◌, length, get_or, set};
 ghost use Rattle.letters.specs.Capacity.{most_pairs};
 ghost use Rattle.records.specs.Records.{record_bytes, encoded_bytes};

@@ -1,4 +1,6 @@
 // Reads a macro from standard input and prints it in the house layout, or says on standard error why it could not.
+#![tactic(auto)]
+
 use files::Lines;
 use libc::STDIN_FILENO;
 

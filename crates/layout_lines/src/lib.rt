@@ -1,4 +1,6 @@
 // The lines that the program `layout` prints for the text of a macro: its print in the house layout, or `refused N at P` (SPEC 12.6).
+#![tactic(auto)]
+
 ghost use Rattle.std.specs.Prelude.{◌≡◌, length};
 ghost use Rattle.files.specs.Lines.{known, Answers};
 ghost use Rattle.layout_lines.specs.Prints.{most_layout_line_bytes, PrintsLayoutLines};

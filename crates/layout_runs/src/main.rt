@@ -1,4 +1,6 @@
 // Prints the macro in each file that an argument names: the file's name, and the lines of the program `layout`.
+#![tactic(auto)]
+
 use files::Lines;
 
 // Prints the name of a file and its lines.

@@ -1,5 +1,7 @@
 // The house layout of a macro, written into a lent buffer (SPEC 8.6). The print is made from the tokens of a text that was accepted, one after the other:
 // its names are declared before they are used, so that the first token with a name's number is the one that declares it.
+#![tactic(auto)]
+
 ghost use Rattle.std.specs.Prelude.{◌≡◌, ◌&&◌, ◌++◌, ◌≤◌, eqb, length};
 ghost use Rattle.tokens.specs.Words as word;
 ghost use Rattle.text.specs.Appending.{Appended, PlaceInRange};
@@ -28,7 +30,7 @@ const BEFORE_NAMES: usize = 1;
 const EMPTY_BLOCK: usize = 2;
 
 /// What became of a text that was to be printed in the house layout.
-#[derive(Drop)]
+#[derive(Clone, Copy)]
 pub enum LayoutWritten {
     /// So many bytes of the print were written.
     Printed(usize),

@@ -1,1 +1,3 @@
 // Macros and their executions: there is no code here. The definitions are in specs/, the theorems in proofs/Theory/.
+
+#![tactic(auto)]

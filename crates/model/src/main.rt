@@ -1,4 +1,6 @@
 // Reads a packed trace from standard input and answers it by one line, or says on standard error why it could not.
+#![tactic(auto)]
+
 use files::Lines;
 use libc::STDIN_FILENO;
 

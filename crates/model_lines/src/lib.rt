@@ -1,4 +1,6 @@
 // Answers a packed trace by one line: `refused N at P`, `infeasible K`, or `model` and the packed model in hexadecimal.
+#![tactic(auto)]
+
 ghost use Rattle.std.specs.Prelude.{◌≡◌, ◌<◌, length};
 ghost use Rattle.io.specs.Digits.{hex_digit_ascii};
 ghost use Rattle.files.specs.Lines.{Answers};
@@ -109,7 +111,7 @@ pub fn write_line(trace: &[u8], out: &mut [u8]) -> usize
 }
 
 /// What a trace has behind the bytes that fill the buffer.
-#[derive(Drop)]
+#[derive(Clone, Copy)]
 pub enum Rest {
     /// An even number of bytes.
     Even,
@@ -120,7 +122,7 @@ pub enum Rest {
 }
 
 // What a piece of the input says of what is left: there is more, or it is over.
-#[derive(Drop)]
+#[derive(Clone, Copy)]
 enum InputLeft {
     More,
     Over(Rest),

@@ -1,4 +1,6 @@
 // Answers each packed trace that an argument names, a line for each: the name and the answer.
+#![tactic(auto)]
+
 use files::Lines;
 
 // Prints the name of a file and its line.

@@ -1,4 +1,6 @@
 // The shown model of a trace (SPEC 7): the values of the classes, the rows, and their bytes.
+#![tactic(auto)]
+
 ghost use Rattle.std.specs.Prelude.{◌≡◌, ℕ, suc, ◌+◌, ◌*◌, ◌<◌, ◌≤◌, length, get_or, take};
 ghost use Rattle.letters.specs.Editions.{first_edition, most_functions};
 ghost use Rattle.semantics.specs.PackedTables.{units, pack_tables, second_written, row_bytes, word_bytes};
@@ -41,7 +43,7 @@ const ROW_FIRST: u64 = VALUE_RANGE * ROW_SECOND;
 const ROW_FUNCTION: u64 = VALUE_RANGE * ROW_FIRST;
 
 /// What is shown for a trace: a model of so many bytes, the first infeasible letter, or a refusal, its number and place.
-#[derive(Drop)]
+#[derive(Clone, Copy)]
 pub enum Shown {
     /// A model of so many bytes was written to the front of the output.
     Model(usize),

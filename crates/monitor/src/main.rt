@@ -1,11 +1,13 @@
 // Judges a packed trace of any length from standard input: whether it is coherent and feasible, and if not, the first letter at which it is not so.
+#![tactic(auto)]
+
 use files::Input;
 use libc::STDIN_FILENO;
 use streaming::Stream;
 use streaming::byte_stream::{finish, push_all, start};
 
 // The run so far, whether more input may come, and whether a read has failed.
-#[derive(Drop)]
+#[derive(Clone, Copy)]
 struct Fed {
     more: bool,
     failed: bool,

@@ -1,5 +1,7 @@
 // The lines that the monitor program prints for what the run over a trace answers: `refused N at P`; or `coherent` or `incoherent K`, and
 // then `feasible` or `infeasible K`.
+#![tactic(auto)]
+
 ghost use Rattle.std.specs.Prelude.{◌≡◌, length};
 ghost use Rattle.text.specs.Appending.{Appended, PlaceInRange};
 ghost use Rattle.streaming.specs.Run.{run_answer};

@@ -1,5 +1,7 @@
 // Judges the packed trace in each file that an argument names, and prints a line for each: the file's name, and `judged` with the first
 // incoherent and the first infeasible letter, 0 for none, or `refused` with number and place.
+#![tactic(auto)]
+
 use files::Input;
 use libc::{STDERR_FILENO, STDOUT_FILENO};
 use streaming::RunAnswer;

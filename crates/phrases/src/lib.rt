@@ -1,4 +1,6 @@
 // The phrases of a statement: uses, conditions and assignments (SPEC 8.3, 8.4).
+#![tactic(auto)]
+
 ghost use Rattle.std.specs.Prelude.{◌≡◌, ◌≤◌, ◌<◌, length};
 ghost use Rattle.letters.specs.Editions.{most_registers};
 ghost use Rattle.letters.specs.declared.Letter.TheVariants.{Apply};
@@ -22,7 +24,7 @@ const EQUAL_SIGN: u8 = 1;
 const UNEQUAL_SIGN: u8 = 0;
 
 /// What reading a number gives.
-#[derive(Drop)]
+#[derive(Clone, Copy)]
 pub enum GotNumber {
     /// The number, and the place after it.
     At(u8, usize),
@@ -31,7 +33,7 @@ pub enum GotNumber {
 }
 
 /// What reading a letter gives.
-#[derive(Drop)]
+#[derive(Clone, Copy)]
 pub enum GotLetter {
     /// The letter, and the place after it.
     At(Letter, usize),
@@ -40,7 +42,7 @@ pub enum GotLetter {
 }
 
 /// What reading a condition gives.
-#[derive(Drop)]
+#[derive(Clone, Copy)]
 pub enum GotCondition {
     /// A comparison: its test, and the place after it.
     Compared(Letter, usize),

@@ -1,4 +1,6 @@
 // Reads each text that an argument names, and prints what reading it gives: the refusal and its place, or the counts and the points.
+#![tactic(auto)]
+
 use blocks::{POINT_SPACE, PointEntry};
 use files::Input;
 use letters::Letter;

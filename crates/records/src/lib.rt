@@ -1,4 +1,6 @@
 // Pairs of the verdict's search as bytes (SPEC 10.2, 10.6): a point still to be performed and a window, and back.
+#![tactic(auto)]
+
 ghost use Rattle.std.specs.Prelude.{◌≡◌, ◌+◌, ◌*◌, ◌/◌, ◌%◌, ◌≤◌, ◌<◌, ◌++◌, map, length, get_or, take, drop, replicate};
 ghost use Rattle.base.specs.Bytes.{little_endian};
 ghost use Rattle.base.specs.Masks.{bit};

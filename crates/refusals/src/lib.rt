@@ -1,1 +1,3 @@
 // Where a text is refused. There is no code here.
+
+#![tactic(auto)]

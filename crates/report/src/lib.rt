@@ -1,5 +1,7 @@
 // The lines of the verdict program (SPEC 12.2), written into a lent buffer.
 
+#![tactic(auto)]
+
 mod answer;
 mod lines;
 
@@ -15,7 +17,7 @@ use letters::limits::{MOST_FUNCTIONS, MOST_REGISTERS};
 pub const WORD_VALUES: usize = 65536;
 
 /// What is to be printed.
-#[derive(Drop)]
+#[derive(Clone, Copy)]
 pub enum ReportedVerdict {
     /// Pass, with the number of pairs.
     Pass(u64),
@@ -28,7 +30,7 @@ pub enum ReportedVerdict {
 }
 
 /// How the writing went.
-#[derive(Drop)]
+#[derive(Clone, Copy)]
 pub enum ReportWritten {
     /// So many bytes were written.
     Bytes(usize),

@@ -1,4 +1,6 @@
 // The verdict on a macro: what the search over its pairs has found, with the packed trace of an execution and its model.
+#![tactic(auto)]
+
 ghost use Rattle.std.specs.Prelude.{◌≡◌, ◌+◌, ◌*◌, ◌/◌, ◌≤◌, ◌<◌, length, drop, ◌++◌};
 ghost use Rattle.records.specs.Records.{record_bytes};
 ghost use Rattle.letters.specs.Editions.{first_edition};
@@ -32,7 +34,7 @@ const LAST_LETTER: usize = TRACE_BYTES - UNIT_BYTES;
 const LAST_BYTE: usize = TRACE_BYTES - 1;
 
 /// A packed trace, at the end of the bytes, from `start` on.
-#[derive(Drop)]
+#[derive(Clone, Copy)]
 pub struct Packed {
     /// Room for the longest trace.
     pub bytes: [u8; TRACE_BYTES],
@@ -131,7 +133,7 @@ fn copy_from(bytes: [u8; TRACE_BYTES], start: usize, output: &mut [u8])
 // ---- the answer for an event
 
 /// What is answered.
-#[derive(Drop)]
+#[derive(Clone, Copy)]
 pub enum Verdict {
     /// Pass, with the count of pairs.
     Pass(usize),

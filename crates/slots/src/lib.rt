@@ -1,5 +1,7 @@
 // A window in slots (SPEC 5): each class lies in one slot, and the tables are of slots. A register that comes to
 // hold what another holds goes to the other's slot, and no table moves: for runs over many letters.
+#![tactic(auto)]
+
 ghost use Rattle.std.specs.Prelude.{◌≡◌, Bool, true, cond, List, ℕ, ◌+◌, ◌*◌, ◌/◌, ◌%◌, ◌^◌, ◌<◌, eqb, length, get_or, set};
 ghost use Rattle.window.specs.Layout.{registers, functions, register_pairs, lines, results};
 ghost use Rattle.window.specs.Bits.{minus};

@@ -1,4 +1,6 @@
 // Monitors and streams as bytes, so that a caller in C or Rust can keep them between calls: one byte an entry, numbers of 64 bits in eight bytes.
+#![tactic(auto)]
+
 ghost use Rattle.std.specs.Prelude.{◌≡◌, ◌+◌, ◌≤◌, ◌++◌, length, take, drop};
 ghost use Rattle.letters.specs.Packing.{join, split};
 ghost use Rattle.states.specs.States.{number_size, eight_octets, monitor_size, stream_size, head_of, parts_then, Sizes, monitor_window_in, monitor_in};

@@ -1,4 +1,6 @@
 // The monitor of a trace: one letter a call, a whole trace, and a trace byte by byte (SPEC 6).
+#![tactic(auto)]
+
 use letters::Header;
 use window::Window;
 
@@ -15,7 +17,7 @@ mod by_tables;
 pub mod byte_stream;
 
 /// The monitor: a header, the window of the letters taken so far, and whether it still runs. An incoherent letter stops it.
-#[derive(Drop)]
+#[derive(Clone, Copy)]
 pub struct Monitor {
     /// What the trace's header says.
     pub header: Header,
@@ -26,7 +28,7 @@ pub struct Monitor {
 }
 
 /// How a call of the monitor ended.
-#[derive(Drop)]
+#[derive(Clone, Copy)]
 pub enum StepOutcome {
     /// It was taken.
     Taken,
@@ -35,7 +37,7 @@ pub enum StepOutcome {
 }
 
 /// What a call of the monitor answers, and the monitor after it.
-#[derive(Drop)]
+#[derive(Clone, Copy)]
 pub struct Stepped {
     /// How the call ended.
     pub outcome: StepOutcome,
@@ -44,7 +46,7 @@ pub struct Stepped {
 }
 
 /// What the run over a trace answers.
-#[derive(Drop)]
+#[derive(Clone, Copy)]
 pub enum RunAnswer {
     /// The first incoherent letter, and the first infeasible letter before it; 0 for none.
     Judged(u64, u64),
@@ -53,7 +55,7 @@ pub enum RunAnswer {
 }
 
 /// The run over a trace.
-#[derive(Drop)]
+#[derive(Clone, Copy)]
 pub struct Run {
     /// The monitor of the letters taken.
     pub monitor: Monitor,
@@ -64,7 +66,7 @@ pub struct Run {
 }
 
 /// How many bytes of a trace have come.
-#[derive(Drop)]
+#[derive(Clone, Copy)]
 pub enum Phase {
     /// None.
     Empty,
@@ -77,7 +79,7 @@ pub enum Phase {
 }
 
 /// The run over a trace whose bytes come one by one.
-#[derive(Drop)]
+#[derive(Clone, Copy)]
 pub struct Stream {
     /// How many bytes have come.
     pub phase: Phase,

@@ -1,4 +1,6 @@
 // The macro reader: from bytes to a macro (SPEC 8, 11.3, 11.4).
+#![tactic(auto)]
+
 ghost use Rattle.std.specs.Prelude.{◌≡◌, ◌||◌, [], ◌+◌, ◌-◌, ◌≤◌, ◌<◌, eqb, take, length};
 ghost use Rattle.letters.specs.Editions.{most_registers, most_functions};
 ghost use Rattle.grammar.specs.Limits.{hidden_registers};
@@ -50,7 +52,7 @@ const HIDDEN_REGISTERS: usize = 2;
 
 /// A macro. A name is held as one number, its bytes as they are declared as digits to base `tokens::BYTE_VALUES`, the first byte lowest; 0 stands
 /// behind the last name.
-#[derive(Drop)]
+#[derive(Clone, Copy)]
 pub struct CompiledMacro {
     /// How many registers and functions it has, and the functions' arities.
     pub header: Header,
@@ -65,7 +67,7 @@ pub struct CompiledMacro {
 }
 
 /// What reading a text gives.
-#[derive(Drop)]
+#[derive(Clone, Copy)]
 pub struct MacroRead {
     /// The number of the refusal; 0 if there is none.
     pub refusal: u8,
@@ -76,7 +78,7 @@ pub struct MacroRead {
 }
 
 /// The registers that were read, or a refusal.
-#[derive(Drop)]
+#[derive(Clone, Copy)]
 pub struct Registers {
     /// Whether nothing was refused.
     pub ok: bool,
@@ -93,7 +95,7 @@ pub struct Registers {
 }
 
 /// The functions that were read, tests behind the others, with their arities, or a refusal.
-#[derive(Drop)]
+#[derive(Clone, Copy)]
 pub struct Functions {
     /// Whether nothing was refused.
     pub ok: bool,

@@ -1,4 +1,6 @@
 // The table of pairs in a lent slice (SPEC 10.6): pair number k lies in bytes 192 times k onward, k from 0.
+#![tactic(auto)]
+
 ghost use Rattle.std.specs.Prelude.{◌≡◌, ◌+◌, ◌*◌, ◌≤◌, ◌<◌, length, replicate};
 ghost use Rattle.letters.specs.Editions.{first_edition};
 ghost use Rattle.letters.specs.Capacity.{capacity_of};

@@ -1,4 +1,6 @@
 // Text appended to a lent buffer: bytes, names, numerals, and lines with fields.
+#![tactic(auto)]
+
 ghost use Rattle.std.specs.Prelude.{[], ◌∷◌, ◌+◌};
 ghost use Rattle.text.specs.Appending.{Appended, PlaceInRange};
 ghost use Rattle.text.specs.Numerals.{numeral};

@@ -1,4 +1,6 @@
 // The tokens of a macro's text (SPEC 8.1, 8.2).
+#![tactic(auto)]
+
 ghost use Rattle.std.specs.Prelude.{◌≡◌, true, false, ◌+◌, ◌≤◌, ◌<◌, length, drop};
 ghost use Rattle.std.proofs.Math.Seq.{slice};
 ghost use Rattle.tokens.specs.Bytes.{blank, lower, lowered, letter, digit, inner, symbol, negation, mark, gap, name_length, longest_name, width};
@@ -95,7 +97,7 @@ pub const RBRACE: u64 = 0x7d;
 pub const SLASH: u64 = 0x2f;
 
 /// A token.
-#[derive(Drop)]
+#[derive(Clone, Copy)]
 pub struct Token {
     /// Its bytes in lower case as one number, digits to base `BYTE_VALUES`, the first byte lowest; `END` at the end of the text, `WRONG` for what is
     /// no token. Two names or words are the same exactly if these are equal.
@@ -109,7 +111,7 @@ pub struct Token {
 }
 
 // The two numbers of a token.
-#[derive(Drop)]
+#[derive(Clone, Copy)]
 struct TokenNumbers {
     // of its bytes in lower case
     key: u64,

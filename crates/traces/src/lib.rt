@@ -1,4 +1,6 @@
 // Whole traces: the reader (SPEC 2.6, 11.2), and the types of what reading and writing answer.
+#![tactic(auto)]
+
 ghost use Rattle.std.specs.Prelude.{◌≡◌, ◌≤◌, length};
 ghost use Rattle.letters.specs.Editions.{first_edition};
 ghost use Rattle.letters.specs.CodeAnswers.{letter_answer};
@@ -25,7 +27,7 @@ pub const UNPACKED_BYTES: usize = 5;
 const NO_LIMIT: u64 = 18446744073709551615;
 
 /// How the reading of a trace's beginning went.
-#[derive(Drop)]
+#[derive(Clone, Copy)]
 pub enum HeaderRead {
     /// The header that the trace begins with.
     Header(Header),
@@ -34,7 +36,7 @@ pub enum HeaderRead {
 }
 
 /// How the reading of a trace went.
-#[derive(Drop)]
+#[derive(Clone, Copy)]
 pub enum TraceRead {
     /// The trace's header and its number of letters.
     Trace(Header, u64),
@@ -43,7 +45,7 @@ pub enum TraceRead {
 }
 
 /// How the writing of a trace went.
-#[derive(Drop)]
+#[derive(Clone, Copy)]
 pub enum Written {
     /// The number of bytes written.
     Bytes(usize),

@@ -1,4 +1,6 @@
 // The unequal pairs of a window by the names of their classes, as one word of 64 bits (SPEC 5.7).
+#![tactic(auto)]
+
 ghost use Rattle.std.specs.Prelude.{◌≡◌};
 ghost use Rattle.semantics.specs.Terms.{State};
 ghost use Rattle.semantics.specs.Facts.{Valid};

@@ -1,4 +1,6 @@
 // The lines that the verdict program prints for the text of a macro (SPEC 12.2).
+#![tactic(auto)]
+
 ghost use Rattle.std.specs.Prelude.{◌≡◌, length};
 ghost use Rattle.report.specs.Bound.{Limited};
 ghost use Rattle.verdict_lines.specs.Prints.{most_verdict_line_bytes, PrintsVerdictLines};

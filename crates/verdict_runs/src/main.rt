@@ -1,4 +1,6 @@
 // Judges the macro in each file that an argument names: the file's name, and the lines of the verdict program.
+#![tactic(auto)]
+
 use files::Lines;
 
 // Prints the name of a file and its lines.

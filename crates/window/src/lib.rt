@@ -1,4 +1,6 @@
 // The window of a trace (SPEC 5): whether a letter is coherent, and the window after it.
+#![tactic(auto)]
+
 ghost use Rattle.std.specs.Prelude.{◌≡◌, List, ℕ, ◌+◌, ◌*◌, ◌/◌, ◌%◌, ◌^◌, ◌-◌, ◌<◌, ◌≤◌, Bool, true, cond, eqb, length};
 ghost use Rattle.base.specs.Masks.{bit, has};
 ghost use Rattle.base.specs.LeastAndSize.{least_in, size_of};
@@ -483,7 +485,7 @@ fn lost(res: &[Mask; RESULTS], x: usize, more: Mask) -> Mask
 // ---- the window
 
 /// What the next letter needs of a trace. A register from the header's count on is in no mask and has no mark.
-#[derive(Drop)]
+#[derive(Clone, Copy)]
 pub struct Window {
     /// At r, the class of register r: the mask of the registers with an equal value.
     pub class: [Mask; REGISTERS],
