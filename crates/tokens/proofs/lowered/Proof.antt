@@ -3,16 +3,16 @@ use borrow.Author.Rules.{rules}
 use Rattle.tokens.proofs.lowered.Statement.{statement}
 use Rattle.tokens.proofs.lowered.Tie as tie
 
-returns : tie.Need-returns
+returns : tie.Need-returns-then-b-lt65
 returns c = search (decide)
 
-returns_2 : tie.Need-returns-2
+returns_2 : tie.Need-returns-then-b-gt90
 returns_2 c = search (decide)
 
-add_result : tie.Need-overflow-add-result
+add_result : tie.Need-overflow_add-result
 add_result c = search rules
 
-returns_3 : tie.Need-returns-3
+returns_3 : tie.Need-returns
 returns_3 c = search (decide)
 
 pub lowered_spec : {M : Type 1} → statement M

@@ -9,4 +9,4 @@ unfolding apply_test
 application_fits_spec =
     tie.close
     (tie.spec (λ c. search decide) (λ c. search decide) (λ c. search decide) (λ c. search decide) (λ c κs. search rules)
-    (λ c. search (decide, ← c.before.takes_two.ensures, c.if5.true)) (λ c. search (decide, ← c.before.takes_two.ensures, c.if5.false)))
+    (λ c. search (decide, ← c.takes_two.ensures, c.if-takes_two.true)) (λ c. search (decide, ← c.takes_two.ensures, c.if-takes_two.false)))

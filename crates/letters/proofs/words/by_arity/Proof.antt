@@ -4,5 +4,5 @@ use Rattle.letters.proofs.words.by_arity.Statement.{statement}
 use Rattle.letters.proofs.words.by_arity.Tie as tie
 
 pub by_arity_spec : {M : Type 1} → statement M
-by_arity_spec = tie.close (tie.spec (λ c κs. search rules) (λ c. search (decide, ← c.before.takes_two.ensures, c.if1.true))
-    (λ c. search (decide, ← c.before.takes_two.ensures, c.if1.false)))
+by_arity_spec = tie.close (tie.spec (λ c κs. search rules) (λ c. search (decide, ← c.takes_two.ensures, c.if-takes_two.true))
+    (λ c. search (decide, ← c.takes_two.ensures, c.if-takes_two.false)))

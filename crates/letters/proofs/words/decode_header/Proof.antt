@@ -18,25 +18,14 @@ decode_header_spec =
     (λ c. search rules)
     (λ c. search rules)
     (λ c.
-    let at_encode_header = c.before.before in
-    let at_named_header = at_encode_header.before in
-    let at_args = at_named_header.before in
-    let x = at_named_header.named-header.result in
-    rw (← at_named_header.named-header.ensures) (reread_none (header_test first_edition x) x (header_word first_edition x) at_args.args.word 3
-    (sym at_encode_header.encode-header.ensures ∙ ap header_word_answer c.enum_told.given.1)))
+    let x = c.named_header-header.result in
+    rw (← c.named_header-header.ensures) (reread_none (header_test first_edition x) x (header_word first_edition x) c.args.word 3
+    (sym c.encode_header-encoded.ensures ∙ ap header_word_answer c.in_default.is)))
     (λ c.
-    let at_encoded = c.before.before in
-    let at_encode_header = at_encoded.before.before in
-    let at_named_header = at_encode_header.before in
-    let at_args = at_named_header.before in
-    let x = at_named_header.named-header.result in
-    rw (← at_named_header.named-header.ensures) (reread_same (header_test first_edition x) x (header_word first_edition x) at_args.args.word 3 _
-    (sym at_encode_header.encode-header.ensures ∙ ap header_word_answer at_encoded.encoded.given.1) c.if1.true))
+    let x = c.named_header-header.result in
+    rw (← c.named_header-header.ensures) (reread_same (header_test first_edition x) x (header_word first_edition x) c.args.word 3 _
+    (sym c.encode_header-encoded.ensures ∙ ap header_word_answer c.in-Word.is) c.if-packed-word.true))
     (λ c.
-    let at_encoded = c.before.before in
-    let at_encode_header = at_encoded.before.before in
-    let at_named_header = at_encode_header.before in
-    let at_args = at_named_header.before in
-    let x = at_named_header.named-header.result in
-    rw (← at_named_header.named-header.ensures) (reread_other (header_test first_edition x) x (header_word first_edition x) at_args.args.word 3 _
-    (sym at_encode_header.encode-header.ensures ∙ ap header_word_answer at_encoded.encoded.given.1) c.if1.false)))
+    let x = c.named_header-header.result in
+    rw (← c.named_header-header.ensures) (reread_other (header_test first_edition x) x (header_word first_edition x) c.args.word 3 _
+    (sym c.encode_header-encoded.ensures ∙ ap header_word_answer c.in-Word.is) c.if-packed-word.false)))

@@ -9,6 +9,6 @@ pub encode_header_spec : {M : Type 1} → statement M
 unfolding encode_header
 encode_header_spec =
     tie.close (tie.spec (λ c κs. search rules)
-    (λ c κs. first_roomy.header_sized _ ((header-test _ _).0 (sym c.before.header_fits.ensures ∙ c.if1.true)))
-    (λ c. rw (← c.before.before.header_fits.ensures, c.before.if1.true, c.header_word.ensures))
-    (λ c. rw (← c.before.header_fits.ensures, c.if1.false)))
+    (λ c κs. first_roomy.header_sized _ ((header-test _ _).0 (sym c.header_fits.ensures ∙ c.if-header_fits.true)))
+    (λ c. rw (← c.header_fits.ensures, c.if-header_fits.true, c.header_word.ensures))
+    (λ c. rw (← c.header_fits.ensures, c.if-header_fits.false)))

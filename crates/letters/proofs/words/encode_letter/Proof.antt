@@ -13,21 +13,16 @@ encode_letter_spec =
     (λ c κs. search rules)
     (λ c κs. search rules)
     (λ c κs.
-    let at_if1 = c.before.before in
-    let at_header_fits = at_if1.before in
-    let a = at_header_fits.before.args in
-    first_roomy.letter_sized a.h a.l ((header-test _ _).0 (sym at_header_fits.header_fits.ensures ∙ at_if1.if1.true))
-    ((fits-test a.h a.l).0 (sym c.before.letter_fits.ensures ∙ c.if2.true)))
+    let a = c.args in
+    first_roomy.letter_sized a.h a.l ((header-test _ _).0 (sym c.header_fits.ensures ∙ c.if-header_fits.true))
+    ((fits-test a.h a.l).0 (sym c.letter_fits.ensures ∙ c.if-letter_fits.true)))
     (λ c.
-    let at_letter_fits = c.before.before in
-    let at_if1 = at_letter_fits.before in
-    let at_header_fits = at_if1.before in
     rw (
-      ← at_header_fits.header_fits.ensures,
-      at_if1.if1.true,
-      ← at_letter_fits.letter_fits.ensures,
-      c.before.if2.true,
+      ← c.header_fits.ensures,
+      c.if-header_fits.true,
+      ← c.letter_fits.ensures,
+      c.if-letter_fits.true,
       c.letter_word.ensures,
     ))
-    (λ c. rw (← c.before.before.before.header_fits.ensures, c.before.before.if1.true, ← c.before.letter_fits.ensures, c.if2.false))
-    (λ c. rw (← c.before.header_fits.ensures, c.if1.false)))
+    (λ c. rw (← c.header_fits.ensures, c.if-header_fits.true, ← c.letter_fits.ensures, c.if-letter_fits.false))
+    (λ c. rw (← c.header_fits.ensures, c.if-header_fits.false)))

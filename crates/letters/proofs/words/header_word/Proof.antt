@@ -18,4 +18,4 @@ header_word_spec =
     (λ c. search rules)
     (λ c. search rules)
     (λ c. search rules)
-    (λ c. omega (arith, c.before.before.mirrored.ensures)))
+    (λ c. omega (arith, c.mirrored-arity.ensures)))

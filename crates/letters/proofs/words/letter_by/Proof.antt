@@ -11,6 +11,6 @@ letter_by_spec =
     (tie.spec
     (λ c. search decide)
     (λ c κs. search rules)
-    (λ c. search (decide, ← c.by_arity.ensures))
+    (λ c. search (decide, ← c.by_arity-last.ensures))
     (λ c. search decide)
     (λ c. search decide))

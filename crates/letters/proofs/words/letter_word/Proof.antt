@@ -12,21 +12,19 @@ letter_word_spec =
     tie.close
     (tie.spec
     (λ c. search rules)
-    (λ c κs. subst (λ l. Sized first_edition.letter (letter_fields c.before.before.before.args.h l)) c.before.l.given.1
-    c.before.before.before.requires)
+    (λ c κs. subst (λ l. Sized first_edition.letter (letter_fields c.args.h l)) c.in-Copy.is
+    c.requires)
     (λ c. search rules)
     (λ c κs. search rules)
     (λ c κs.
-    let at_l2 = c.before.before in
-    let at_start = at_l2.before.before in
-    rw c.by_arity.ensures (subst (λ l. Sized first_edition.letter (letter_fields at_start.args.h l)) at_l2.l2.given.1 at_start.requires))
+    rw c.by_arity-field.ensures (subst (λ l. Sized first_edition.letter (letter_fields c.args.h l)) c.in-Apply.is c.requires))
     (λ c. search rules)
-    (λ c κs. subst (λ l. Sized first_edition.letter (letter_fields c.before.before.before.args.h l)) c.before.l3.given.1
-    c.before.before.before.requires)
+    (λ c κs. subst (λ l. Sized first_edition.letter (letter_fields c.args.h l)) c.in-Equal.is
+    c.requires)
     (λ c. search rules)
-    (λ c κs. subst (λ l. Sized first_edition.letter (letter_fields c.before.before.before.args.h l)) c.before.l4.given.1
-    c.before.before.before.requires)
-    (λ c. c.packed_fields.ensures ∙ ap (letter_word first_edition _) (sym c.before.before.l.given.1))
-    (λ c. (rw c.before.by_arity.ensures at c.packed_fields2.ensures) ∙ ap (letter_word first_edition _) (sym c.before.before.before.l2.given.1))
-    (λ c. c.packed_fields3.ensures ∙ ap (letter_word first_edition _) (sym c.before.before.l3.given.1))
-    (λ c. c.packed_fields4.ensures ∙ ap (letter_word first_edition _) (sym c.before.before.l4.given.1)))
+    (λ c κs. subst (λ l. Sized first_edition.letter (letter_fields c.args.h l)) c.in-Unequal.is
+    c.requires)
+    (λ c. c.packed_fields.ensures ∙ ap (letter_word first_edition c.args.h) (sym c.in-Copy.is))
+    (λ c. (rw c.by_arity-field.ensures at c.packed_fields-in-Apply.ensures) ∙ ap (letter_word first_edition c.args.h) (sym c.in-Apply.is))
+    (λ c. c.packed_fields-in-Equal.ensures ∙ ap (letter_word first_edition c.args.h) (sym c.in-Equal.is))
+    (λ c. c.packed_fields-in-Unequal.ensures ∙ ap (letter_word first_edition c.args.h) (sym c.in-Unequal.is)))

@@ -9,4 +9,4 @@ pub named_header_spec : {M : Type 1} → statement M
 unfolding named_header
 named_header_spec =
     tie.close (tie.spec (λ c. search rules) (λ c. search rules) (λ c. search rules) (λ c κs. search rules)
-    (λ c. rw (c.mirrored.ensures, mirror (c.before.args.word / 32 % 16))))
+    (λ c. rw (c.mirrored-binary.ensures, mirror (c.args.word / 32 % 16))))

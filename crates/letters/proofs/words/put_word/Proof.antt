@@ -12,4 +12,4 @@ put_word_spec =
     (λ c. search rules)
     (λ c. search rules)
     (λ c. search rules)
-    (λ c. rw (c.before.high.ensures, c.low.ensures)))
+    (λ c. rw (c.high.ensures, c.low.ensures)))

@@ -7,5 +7,5 @@ use Rattle.letters.proofs.words.takes_two.Tie as tie
 
 pub takes_two_spec : {M : Type 1} → statement M
 takes_two_spec = tie.close (tie.spec
-    (λ c. let h : c.before.args.h.binary < 256 = omega arith in no_bit c.before.args.h.binary c.before.args.f h c.if1.true)
+    (λ c. let h : c.args.h.binary < 256 = omega arith in no_bit c.args.h.binary c.args.f h c.if-f-ge-MASK_BITS.true)
     (λ c. search rules) (λ c. search rules))
