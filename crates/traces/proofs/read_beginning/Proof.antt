@@ -22,28 +22,22 @@ read_beginning_spec =
     (λ c. search rules)
     (λ c. search rules)
     (λ c.
-    let at_decode_header = c.before.before in
-    let at_word = at_decode_header.before in
-    let at_if2 = at_word.before.before.before in
-    let s = at_if2.before.before.before.args.bytes.now in
+    let s = c.args.bytes.now in
     rw (
       le-ltb (length s) 2 (omega arith),
       eq-eqb (length s % 2) 0 (omega arith),
       unit_at s 0 (omega arith),
-      ← at_word.word.ensures,
-      ← at_decode_header.decode-header.ensures,
-      c.enum_told.given.1,
+      ← c.word.ensures,
+      ← c.decode_header-decoded.ensures,
+      c.in_default.is,
     ))
     (λ c.
-    let at_decode_header = c.before.before.before in
-    let at_word = at_decode_header.before in
-    let at_if2 = at_word.before.before.before in
-    let s = at_if2.before.before.before.args.bytes.now in
+    let s = c.args.bytes.now in
     rw (
       le-ltb (length s) 2 (omega arith),
       eq-eqb (length s % 2) 0 (omega arith),
       unit_at s 0 (omega arith),
-      ← at_word.word.ensures,
-      ← at_decode_header.decode-header.ensures,
-      c.before.decoded.given.1,
+      ← c.word.ensures,
+      ← c.decode_header-decoded.ensures,
+      c.in-Header.is,
     )))

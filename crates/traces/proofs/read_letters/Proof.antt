@@ -10,11 +10,11 @@ use borrow.Author.Rules.{rules}
 use Rattle.traces.proofs.read_letters.Statement.{statement}
 use Rattle.traces.proofs.read_letters.Tie as tie
 
-abbrev invariant_loop : tie.invariant_loop
+abbrev invariant_loop : tie.invariant-loop-at
 invariant_loop h bytes at₀ n₀ at n = (at ≤ length bytes) × (2 * n + 2 ≡ at)
     × (count_from (letter_in first_edition h) h n (chunks 2 (length bytes / 2 - 1 - n) (drop at bytes)) ≡ counted (letters_of first_edition h bytes))
 
-abbrev decreases_loop : tie.decreases_loop
+abbrev decreases_loop : tie.decreases-loop-at
 decreases_loop h bytes at₀ n₀ at n = length bytes - at
 
 pub read_letters_spec : {M : Type 1} → statement M
@@ -26,8 +26,8 @@ read_letters_spec =
     (λ c. (
       search rules,
       search rules,
-      count_begins (letter_in first_edition c.before.args.h) c.before.args.h 2
-          (length c.before.args.bytes.now / 2 - 1) c.before.args.bytes.now 2,
+      count_begins (letter_in first_edition c.args.h) c.args.h 2
+          (length c.args.bytes.now / 2 - 1) c.args.bytes.now 2,
     ))
     (λ c. search rules)
     (λ c. search rules)
@@ -39,31 +39,23 @@ read_letters_spec =
     (λ c. search rules)
     (λ c. search rules)
     (λ c.
-    let at_decode_letter = c.before.before in
-    let at_word = at_decode_letter.before in
-    let at_loop_test = at_word.before.before.before in
-    let at_loop = at_loop_test.before in
-    let a = at_loop.before.before.args in
-    let l = at_loop.loop in
+    let a = c.args in
+    let l = c.loop-at in
     sym (count_bad (letter_in first_edition a.h) a.h 2 (length a.bytes.now / 2 - 1) a.bytes.now l.n l.at 4 0 (omega arith)
-    (unit_bad a.h a.bytes.now l.at at_word.word.result at_decode_letter.decode-letter.result (omega arith)
-    at_word.word.ensures at_decode_letter.decode-letter.ensures c.enum_told.given.1)) ∙ l.invariant.2)
+    (unit_bad a.h a.bytes.now l.at c.word.result c.decode_letter-decoded.result (omega arith)
+    c.word.ensures c.decode_letter-decoded.ensures c.in_default.is)) ∙ l.invariant.2)
     (λ c. search rules)
     (λ c. search rules)
     (λ c. search rules)
     (λ c.
-    let at_decode_letter = c.before.before.before in
-    let at_word = at_decode_letter.before in
-    let at_loop_test = at_word.before.before.before in
-    let at_loop = at_loop_test.before in
-    let a = at_loop.before.before.args in
-    let l = at_loop.loop in (
+    let a = c.args in
+    let l = c.loop-at in (
       search rules,
       search rules,
       sym (count_good (letter_in first_edition a.h) a.h 2 (length a.bytes.now / 2 - 1) a.bytes.now l.n l.at _ (omega arith)
-          (unit_good a.h a.bytes.now l.at at_word.word.result at_decode_letter.decode-letter.result
-          (omega arith) at_word.word.ensures at_decode_letter.decode-letter.ensures _ c.before.decoded.given.1))
+          (unit_good a.h a.bytes.now l.at c.word.result c.decode_letter-decoded.result
+          (omega arith) c.word.ensures c.decode_letter-decoded.ensures _ c.in-Letter.is))
           ∙ l.invariant.2,
     ))
-    (λ c. let a = c.before.before.before.args in let l = c.before.loop in
+    (λ c. let a = c.args in let l = c.loop-at in
     sym (count_ends (letter_in first_edition a.h) a.h 2 (length a.bytes.now / 2 - 1) a.bytes.now l.n l.at (omega arith)) ∙ l.invariant.2))

@@ -13,6 +13,6 @@ use Rattle.traces.proofs.read_trace.Tie as tie
 
 pub read_trace_spec : {M : Type 1} → statement M
 read_trace_spec = tie.close (tie.spec (λ c κs. search rules)
-    (λ c. let s = c.before.before.args.bytes.now in
+    (λ c. let s = c.args.bytes.now in
     c.read_trace_within.ensures ∙ ap counted
     (same_limit (ltb 18446744073709551615) (λ _. false) s (le-ltb 18446744073709551615 (letter_count first_edition s) (omega arith)))))

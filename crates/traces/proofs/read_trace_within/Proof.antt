@@ -13,39 +13,26 @@ read_trace_within_spec =
     (λ c κs. search rules)
     (λ c. search rules)
     (λ c.
-    let at_read_beginning = c.before.before.before in
-    let at_args = at_read_beginning.before.before in
-    let a = at_args.args in
+    let a = c.args in
     omega (
       arith,
-      begun_long (ltb a.limit) a.bytes.now at_read_beginning.read_beginning.result
-          at_read_beginning.read_beginning.ensures _ c.before.begun.given.1,
+      begun_long (ltb a.limit) a.bytes.now c.read_beginning-begun.result
+          c.read_beginning-begun.ensures _ c.in-Header.is,
     ))
     (λ c.
-    let at_begun = c.before.before in
-    let at_read_beginning = at_begun.before.before in
-    let at_args = at_read_beginning.before.before in
-    let a = at_args.args in
-    begun_over (ltb a.limit) a.bytes.now at_read_beginning.read_beginning.result
-    at_read_beginning.read_beginning.ensures _ at_begun.begun.given.1 (lt-ltb _ _ c.if1.true))
+    let a = c.args in
+    begun_over (ltb a.limit) a.bytes.now c.read_beginning-begun.result
+    c.read_beginning-begun.ensures _ c.in-Header.is (lt-ltb _ _ c.if-limit-letters.true))
     (λ c κs.
-    let at_begun = c.before.before in
-    let at_read_beginning = at_begun.before.before in
-    let at_args = at_read_beginning.before.before in
-    let a = at_args.args in
-    begun_long (ltb a.limit) a.bytes.now at_read_beginning.read_beginning.result
-    at_read_beginning.read_beginning.ensures _ at_begun.begun.given.1)
+    let a = c.args in
+    begun_long (ltb a.limit) a.bytes.now c.read_beginning-begun.result
+    c.read_beginning-begun.ensures _ c.in-Header.is)
     (λ c. search rules)
     (λ c.
-    let at_begun = c.before.before.before in
-    let at_read_beginning = at_begun.before.before in
-    let at_args = at_read_beginning.before.before in
-    let a = at_args.args in
-    c.read_letters.ensures ∙ begun_letters (ltb a.limit) a.bytes.now at_read_beginning.read_beginning.result
-    at_read_beginning.read_beginning.ensures _ at_begun.begun.given.1 (le-ltb _ _ c.before.if1.false))
+    let a = c.args in
+    c.read_letters.ensures ∙ begun_letters (ltb a.limit) a.bytes.now c.read_beginning-begun.result
+    c.read_beginning-begun.ensures _ c.in-Header.is (le-ltb _ _ c.if-limit-letters.false))
     (λ c.
-    let at_read_beginning = c.before.before.before in
-    let at_args = at_read_beginning.before.before in
-    let a = at_args.args in
-    begun_refused (ltb a.limit) a.bytes.now at_read_beginning.read_beginning.result
-    at_read_beginning.read_beginning.ensures _ c.before.begun2.given.1))
+    let a = c.args in
+    begun_refused (ltb a.limit) a.bytes.now c.read_beginning-begun.result
+    c.read_beginning-begun.ensures _ c.in-Refused.is))

@@ -27,5 +27,5 @@ put_fields_spec =
     (λ c. search rules)
     (λ c. simp length-set (omega arith))
     (λ c. search rules)
-    (λ c. let a = c.before.before.args in
-    five_stores a.out.now c.fields_of.result (plain_fields a.h a.l) a.to c.fields_of.ensures (plain_length a.h a.l)))
+    (λ c. let a = c.args in
+    five_stores a.out.now c.fields_of-fields.result (plain_fields a.h a.l) a.to c.fields_of-fields.ensures (plain_length a.h a.l)))

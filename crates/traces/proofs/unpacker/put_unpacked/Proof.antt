@@ -14,12 +14,12 @@ use borrow.Author.Rules.{rules}
 use Rattle.traces.proofs.unpacker.put_unpacked.Statement.{statement}
 use Rattle.traces.proofs.unpacker.put_unpacked.Tie as tie
 
-abbrev invariant_loop : tie.invariant_loop
+abbrev invariant_loop : tie.invariant-loop-at
 invariant_loop h bytes out₀ at₀ to₀ out at to =
     (at ≤ length bytes) × (2 * (to / 5) + 2 ≡ at) × (5 * (to / 5) ≡ to) × (5 * (length bytes / 2 - 1) ≤ length out₀) × (length out ≡ length out₀)
     × (put_each (put_plain h) 5 (letter_in first_edition h) out to (chunks 2 (length bytes / 2 - 1 - to / 5) (drop at bytes)) ≡ put_unpacked h out₀ bytes)
 
-abbrev decreases_loop : tie.decreases_loop
+abbrev decreases_loop : tie.decreases-loop-at
 decreases_loop h bytes out₀ at₀ to₀ out at to = length bytes - at
 
 pub put_unpacked_spec : {M : Type 1} → statement M
@@ -27,11 +27,11 @@ put_unpacked_spec =
     tie.close (tie.spec
     invariant_loop
     decreases_loop
-    (λ c. let a = c.before.before.args in (
+    (λ c. let a = c.args in (
       search rules,
       search rules,
       search rules,
-      c.before.before.requires.1,
+      c.requires.1,
       search rules,
       put_begins (put_plain a.h) 5 2 (letter_in first_edition a.h) (length a.bytes.now / 2 - 1) a.bytes.now 2 0 a.out.now,
     ))
@@ -45,44 +45,33 @@ put_unpacked_spec =
     (λ c. search rules)
     (λ c. search rules)
     (λ c.
-    let at_decode_letter = c.before.before in
-    let at_word = at_decode_letter.before in
-    let at_loop_test = at_word.before.before.before in
-    let at_loop = at_loop_test.before in
-    let a = at_loop.before.before.before.args in
-    let l = at_loop.loop in
+    let a = c.args in
+    let l = c.loop-at in
     sym (put_bad (put_plain a.h) 5 2 (letter_in first_edition a.h) (length a.bytes.now / 2 - 1) a.bytes.now (l.to / 5) l.at l.to 4 0
-    l.out (omega arith) (unit_bad a.h a.bytes.now l.at at_word.word.result at_decode_letter.decode-letter.result
-    (omega arith) at_word.word.ensures at_decode_letter.decode-letter.ensures c.enum_told.given.1)) ∙ l.invariant.5)
+    l.out (omega arith) (unit_bad a.h a.bytes.now l.at c.word.result c.decode_letter-decoded.result
+    (omega arith) c.word.ensures c.decode_letter-decoded.ensures c.in_default.is)) ∙ l.invariant.5)
     (λ c κs. omega arith)
     (λ c. search rules)
     (λ c. search rules)
     (λ c. search rules)
     (λ c.
-    let at_put_fields = c.before.before in
-    let at_decoded = at_put_fields.before.before.before in
-    let at_decode_letter = at_decoded.before.before in
-    let at_word = at_decode_letter.before in
-    let at_loop_test = at_word.before.before.before in
-    let at_loop = at_loop_test.before in
-    let a = at_loop.before.before.before.args in
-    let l = at_loop.loop in (
+    let a = c.args in
+    let l = c.loop-at in (
       search rules,
       search rules,
       search rules,
       l.invariant.3,
-      ap length at_put_fields.put_fields.ensures
+      ap length c.put_fields.ensures
           ∙ simp length-sets l.invariant.4,
       sym
           (put_good (put_plain a.h) 5 2 (letter_in first_edition a.h) (length a.bytes.now / 2 - 1) a.bytes.now (l.to / 5) ((l.to + 5) / 5) l.at
-          l.to _ l.out _ (omega arith) (omega arith) (unit_good a.h a.bytes.now l.at at_word.word.result
-          at_decode_letter.decode-letter.result (omega arith) at_word.word.ensures
-          at_decode_letter.decode-letter.ensures _ at_decoded.decoded.given.1) at_put_fields.put_fields.ensures) ∙ l.invariant.5,
+          l.to _ l.out _ (omega arith) (omega arith) (unit_good a.h a.bytes.now l.at c.word.result
+          c.decode_letter-decoded.result (omega arith) c.word.ensures
+          c.decode_letter-decoded.ensures _ c.in-Letter.is) c.put_fields.ensures) ∙ l.invariant.5,
     ))
     (λ c. search rules)
     (λ c.
-    let at_loop = c.before in
-    let a = at_loop.before.before.before.args in
-    let l = at_loop.loop in
+    let a = c.args in
+    let l = c.loop-at in
     sym (put_ends (put_plain a.h) 5 2 (letter_in first_edition a.h) (length a.bytes.now / 2 - 1) a.bytes.now (l.to / 5) l.at l.to l.out
     (omega arith)) ∙ l.invariant.5))

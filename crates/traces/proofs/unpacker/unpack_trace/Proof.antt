@@ -12,32 +12,19 @@ unpack_trace_spec =
     (λ c κs. search rules)
     (λ c. search rules)
     (λ c.
-    let at_read = c.before.before in
-    let at_read_trace = at_read.before.before in
-    let at_args = at_read_trace.before.before.before in
-    let a = at_args.args in
+    let a = c.args in
     unpack_short a.bytes.now a.out.now _ _
-    (sym at_read_trace.read_trace.ensures ∙ ap trace_answer at_read.read.given.1) c.if1.true)
+    (sym c.read_trace-read.ensures ∙ ap trace_answer c.in-Trace.is) c.if-out-n.true)
     (λ c κs.
-    let at_read = c.before.before.before in
-    let at_read_trace = at_read.before.before in
-    let at_args = at_read_trace.before.before.before in
-    let a = at_args.args in
-    let k = unpack_long a.bytes.now a.out.now _ _ (sym at_read_trace.read_trace.ensures ∙ ap trace_answer at_read.read.given.1) in
+    let a = c.args in
+    let k = unpack_long a.bytes.now a.out.now _ _ (sym c.read_trace-read.ensures ∙ ap trace_answer c.in-Trace.is) in
     (k.0, omega arith))
     (λ c. search rules)
     (λ c. search rules)
     (λ c.
-    let at_put_unpacked = c.before.before in
-    let at_if1 = at_put_unpacked.before.before in
-    let at_read = at_if1.before.before in
-    let at_read_trace = at_read.before.before in
-    let at_args = at_read_trace.before.before.before in
-    let a = at_args.args in
-    unpack_all a.bytes.now a.out.now _ _ (sym at_read_trace.read_trace.ensures
-    ∙ ap trace_answer at_read.read.given.1) _ at_if1.if1.false at_put_unpacked.put_unpacked.ensures)
+    let a = c.args in
+    unpack_all a.bytes.now a.out.now _ _ (sym c.read_trace-read.ensures
+    ∙ ap trace_answer c.in-Trace.is) _ c.if-out-n.false c.put_unpacked.ensures)
     (λ c.
-    let at_read_trace = c.before.before.before in
-    let at_args = at_read_trace.before.before.before in
-    let a = at_args.args in
-    unpack_refused a.bytes.now a.out.now _ _ (sym at_read_trace.read_trace.ensures ∙ ap trace_answer c.before.read2.given.1)))
+    let a = c.args in
+    unpack_refused a.bytes.now a.out.now _ _ (sym c.read_trace-read.ensures ∙ ap trace_answer c.in-Refused.is)))

@@ -12,25 +12,19 @@ letter_of_spec =
     (λ c κs. search rules)
     (λ c κs. search rules)
     (λ c.
-    let at_letter_by = c.before.before in
-    let at_if1 = at_letter_by.before in
-    let at_unused_are_zero = at_if1.before in
     rw (
-      ← at_unused_are_zero.unused_are_zero.ensures,
-      at_if1.if1.true,
-      ← at_letter_by.letter_by.ensures,
-      ← c.before.letter_fits.ensures,
-      c.if2.true,
+      ← c.unused_are_zero.ensures,
+      c.if-unused_are_zero.true,
+      ← c.letter_by-letter.ensures,
+      ← c.letter_fits.ensures,
+      c.if-letter_fits.true,
     ))
     (λ c.
-    let at_letter_by = c.before.before in
-    let at_if1 = at_letter_by.before in
-    let at_unused_are_zero = at_if1.before in
     rw (
-      ← at_unused_are_zero.unused_are_zero.ensures,
-      at_if1.if1.true,
-      ← at_letter_by.letter_by.ensures,
-      ← c.before.letter_fits.ensures,
-      c.if2.false,
+      ← c.unused_are_zero.ensures,
+      c.if-unused_are_zero.true,
+      ← c.letter_by-letter.ensures,
+      ← c.letter_fits.ensures,
+      c.if-letter_fits.false,
     ))
-    (λ c. rw (← c.before.unused_are_zero.ensures, c.if1.false)))
+    (λ c. rw (← c.unused_are_zero.ensures, c.if-unused_are_zero.false)))

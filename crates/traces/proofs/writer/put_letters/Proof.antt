@@ -13,13 +13,13 @@ use borrow.Author.Rules.{rules}
 use Rattle.traces.proofs.writer.put_letters.Statement.{statement}
 use Rattle.traces.proofs.writer.put_letters.Tie as tie
 
-abbrev invariant_loop : tie.invariant_loop
+abbrev invariant_loop : tie.invariant-loop-at
 invariant_loop h fields out₀ at₀ to₀ out at to =
     (at ≤ length fields) × (5 * (at / 5) ≡ at) × (to ≡ 2 * (at / 5) + 2) × (length out ≡ length out₀)
     × (put_words (word_in first_edition h) out to (chunks 5 ((length fields + 4) / 5 - at / 5) (drop at fields)) ≡ put_words (word_in first_edition h) out₀ 2
     (unpacked_parts fields))
 
-abbrev decreases_loop : tie.decreases_loop
+abbrev decreases_loop : tie.decreases-loop-at
 decreases_loop h fields out₀ at₀ to₀ out at to = length fields - at
 
 pub put_letters_spec : {M : Type 1} → statement M
@@ -28,7 +28,7 @@ put_letters_spec =
     tie.close (tie.spec
     invariant_loop
     decreases_loop
-    (λ c. let a = c.before.before.args in (
+    (λ c. let a = c.args in (
       search rules,
       search rules,
       search rules,
@@ -40,52 +40,39 @@ put_letters_spec =
     (λ c. search rules)
     (λ c. search rules)
     (λ c.
-    let at_word_at = c.before.before in
-    let at_loop = at_word_at.before.before in
-    let at_args = at_loop.before.before.before in
-    let a = at_args.args in let l = at_loop.loop in
+    let a = c.args in let l = c.loop-at in
     sym (put_bad put_word 2 5 (word_in first_edition a.h) ((length a.fields.now + 4) / 5) a.fields.now (l.at / 5) l.at l.to 4 0 l.out
-    (omega arith) (sym at_word_at.word-at.ensures ∙ ap letter_word_answer c.enum_told.given.1)) ∙ l.invariant.4)
+    (omega arith) (sym c.word_at-encoded.ensures ∙ ap letter_word_answer c.in_default.is)) ∙ l.invariant.4)
     (λ c κs. search rules)
     (λ c.
-    let at_put_word = c.before.before in
-    let at_encoded = at_put_word.before.before.before in
-    let at_word_at = at_encoded.before.before in
-    let at_loop = at_word_at.before.before in
-    let a = at_loop.before.before.before.args in
-    let l = at_loop.loop in
+    let a = c.args in
+    let l = c.loop-at in
     omega (
       arith,
-      word_whole a.h a.fields.now l.at _ (sym at_word_at.word-at.ensures
-          ∙ ap letter_word_answer at_encoded.encoded.given.1),
+      word_whole a.h a.fields.now l.at _ (sym c.word_at-encoded.ensures
+          ∙ ap letter_word_answer c.in-Word.is),
     ))
     (λ c. search rules)
     (λ c. search rules)
     (λ c.
-    let at_put_word = c.before.before in
-    let at_encoded = at_put_word.before.before.before in
-    let at_word_at = at_encoded.before.before in
-    let at_loop = at_word_at.before.before in
-    let at_args = at_loop.before.before.before in
-    let a = at_args.args in
-    let l = at_loop.loop in (
+    let a = c.args in
+    let l = c.loop-at in (
       omega (
         arith,
-        word_whole a.h a.fields.now l.at _ (sym at_word_at.word-at.ensures
-            ∙ ap letter_word_answer at_encoded.encoded.given.1),
+        word_whole a.h a.fields.now l.at _ (sym c.word_at-encoded.ensures
+            ∙ ap letter_word_answer c.in-Word.is),
       ),
       search rules,
       search rules,
-      ap length at_put_word.put_word.ensures ∙ put_length l.out l.to at_encoded.encoded.given.0.0
+      ap length c.put_word.ensures ∙ put_length l.out l.to c.in-Word.word
           ∙ l.invariant.3,
       sym (put_good put_word 2 5 (word_in first_edition a.h) ((length a.fields.now + 4) / 5) a.fields.now (l.at / 5) ((l.at + 5) / 5)
-          l.at l.to _ l.out _ (omega arith) (omega arith) (sym at_word_at.word-at.ensures
-          ∙ ap letter_word_answer at_encoded.encoded.given.1) at_put_word.put_word.ensures) ∙ l.invariant.4,
+          l.at l.to _ l.out _ (omega arith) (omega arith) (sym c.word_at-encoded.ensures
+          ∙ ap letter_word_answer c.in-Word.is) c.put_word.ensures) ∙ l.invariant.4,
     ))
     (λ c. search rules)
     (λ c.
-    let at_loop = c.before in
-    let a = at_loop.before.before.before.args in
-    let l = at_loop.loop in
+    let a = c.args in
+    let l = c.loop-at in
     sym (put_ends put_word 2 5 (word_in first_edition a.h) ((length a.fields.now + 4) / 5) a.fields.now (l.at / 5) l.at l.to l.out
     (omega arith)) ∙ l.invariant.4))

@@ -11,11 +11,7 @@ use Rattle.traces.proofs.writer.put_trace.Tie as tie
 pub put_trace_spec : {M : Type 1} → statement M
 put_trace_spec = tie.close (tie.spec (λ c κs. search rules) (λ c κs. search rules) (λ c. search rules)
     (λ c.
-    let at_put_letters = c.before.before in
-    let at_out = at_put_letters.before.before.before in
-    let at_put_word = at_out.before in
-    let at_put_word_arg = at_put_word.before in
-    let a = at_put_word_arg.before.before.before.args in
-    at_put_letters.put_letters.ensures
+    let a = c.args in
+    c.put_letters.ensures
     ∙ ap (λ (o : List ℕ). put_words (word_in first_edition a.h) o 2 (unpacked_parts a.fields.now))
-    at_put_word.put_word.ensures))
+    c.put_word.ensures))

@@ -9,7 +9,7 @@ pub unpacked_at_spec : {M : Type 1} → statement M
 unpacked_at_spec =
     tie.close (tie.spec
     (λ c. search rules)
-    (λ c. let a = c.before.before.args in five_short a.h a.fields.now a.at c.if1.true)
+    (λ c. let a = c.args in five_short a.h a.fields.now a.at c.if-fields-at-lt-UNPACKED_BYTES.true)
     (λ c. search rules)
     (λ c. search rules)
     (λ c. search rules)
@@ -21,7 +21,5 @@ unpacked_at_spec =
     (λ c. search rules)
     (λ c κs. search rules)
     (λ c.
-    let at_shared_slice_known4 = c.before.before.before in
-    let at_if1 = at_shared_slice_known4.before.before.before in
-    let a = at_if1.before.before.args in
-    c.letter-of.ensures ∙ five_at a.h a.fields.now a.at (omega arith)))
+    let a = c.args in
+    c.letter_of.ensures ∙ five_at a.h a.fields.now a.at (omega arith)))

@@ -14,5 +14,5 @@ unused_are_zero_spec =
     (λ c κs. search rules)
     (λ c. search (decide, ← c.takes_two.ensures))
     (λ c κs. search rules)
-    (λ c. search (decide, ← c.zeros2.ensures))
+    (λ c. search (decide, ← c.zeros-then-kind-lt4.ensures))
     (λ c. search decide))

@@ -11,9 +11,7 @@ word_at_spec =
     (λ c κs. search rules)
     (λ c. search rules)
     (λ c. search rules)
-    (λ c. rw (← c.before.before.unpacked_at.ensures, c.enum_told.given.1))
+    (λ c. rw (← c.unpacked_at-decoded.ensures, c.in_default.is))
     (λ c κs. search rules)
     (λ c.
-    let at_decoded = c.before.before in
-    let at_unpacked_at = at_decoded.before.before in
-    rw (← at_unpacked_at.unpacked_at.ensures, at_decoded.decoded.given.1) c.encode_letter.ensures))
+    rw (← c.unpacked_at-decoded.ensures, c.in-Letter.is) c.encode_letter.ensures))

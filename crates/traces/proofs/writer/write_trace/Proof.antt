@@ -16,21 +16,21 @@ use Rattle.traces.proofs.writer.write_trace.Statement.{statement}
 use Rattle.traces.proofs.writer.write_trace.Tie as tie
 
 -- the header has a word, the letters have been counted, and how many they are
-abbrev start : tie.After-encoded → tie.Start
-start c = c.before.before.before.before.before
+abbrev start : tie.In-Word → tie.Start
+start c = c.before.before.before.before
 
-encoded : (c : tie.After-encoded) → encode_header first_edition (start c).args.h ≡ value c.encoded.given.0.0
-encoded c = sym c.before.before.encode-header.ensures ∙ ap header_word_answer c.encoded.given.1
+encoded : (c : tie.In-Word) → encode_header first_edition (start c).args.h ≡ value c.in-Word.first
+encoded c = sym c.encode_header-encoded.ensures ∙ ap header_word_answer c.in-Word.is
 
-abbrev header : tie.After-check-letters → tie.After-encoded
-header c = c.before.before
+abbrev header : tie.After-check_letters-checked → tie.In-Word
+header c = c.before
 
-checked : (c : tie.After-checked) → let a = (start (header c.before.before)).args in
-    counted (letters_from (unpack_letter a.h) a.h 1 (unpacked_parts a.fields.now)) ≡ value (c.checked.given.0.0, c.checked.given.0.1.0)
-checked c = sym c.before.before.check_letters.ensures ∙ ap trace_answer c.checked.given.1
+checked : (c : tie.In-Trace) → let a = (start (header c.before)).args in
+    counted (letters_from (unpack_letter a.h) a.h 1 (unpacked_parts a.fields.now)) ≡ value (c.in-Trace.header, c.in-Trace.n)
+checked c = sym c.check_letters-checked.ensures ∙ ap trace_answer c.in-Trace.is
 
-size : (c : tie.After-checked) → c.checked.given.0.1.0 ≡ (length (start (header c.before.before)).args.fields.now + 4) / 5
-size c = let a = (start (header c.before.before)).args in counted_size a.h _ a.fields.now _ (checked c)
+size : (c : tie.In-Trace) → c.in-Trace.n ≡ (length (start (header c.before)).args.fields.now + 4) / 5
+size c = let a = (start (header c.before)).args in counted_size a.h _ a.fields.now _ (checked c)
 
 pub write_trace_spec : {M : Type 1} → statement M
 write_trace_spec =
@@ -39,31 +39,25 @@ write_trace_spec =
     (λ c. search rules)
     (λ c. search rules)
     (λ c.
-    let at_encode_header = c.before.before in
-    let a = at_encode_header.before.before.before.args in
-    wrote_header a.h a.fields.now a.out.now (sym at_encode_header.encode-header.ensures ∙ ap header_word_answer c.enum_told.given.1))
+    let a = c.args in
+    wrote_header a.h a.fields.now a.out.now (sym c.encode_header-encoded.ensures ∙ ap header_word_answer c.in_default.is))
     (λ c κs. search rules)
     (λ c. search rules)
-    (λ c. omega (arith, size c.before))
-    (λ c. omega (arith, size c.before))
+    (λ c. omega (arith, size c))
+    (λ c. omega (arith, size c))
     (λ c.
-    let at_checked = c.before.before in
-    let at_encoded = header at_checked.before.before in
+    let at_encoded = header c.before.before in
     let a = (start at_encoded).args in
-    wrote_short a.h a.fields.now a.out.now _ (encoded at_encoded) _ _ (checked at_checked) c.if1.true)
-    (λ c κs. omega (arith, size c.before.before.before))
+    wrote_short a.h a.fields.now a.out.now _ (encoded at_encoded) _ _ (checked c.before) c.if-out-size.true)
+    (λ c κs. omega (arith, size c.before.before))
     (λ c. search rules)
     (λ c. search rules)
     (λ c.
-    let at_put_trace = c.before.before in
-    let at_if1 = at_put_trace.before.before in
-    let at_checked = at_if1.before.before in
-    let at_encoded = header at_checked.before.before in
+    let at_encoded = header c.before.before.before.before.before.before in
     let a = (start at_encoded).args in
-    wrote_all a.h a.fields.now a.out.now _ (encoded at_encoded) _ _ (checked at_checked) _ at_if1.if1.false at_put_trace.put_trace.ensures)
+    wrote_all a.h a.fields.now a.out.now _ (encoded at_encoded) _ _ (checked c.before.before.before.before.before) _ c.if-out-size.false c.put_trace.ensures)
     (λ c.
-    let at_check_letters = c.before.before.before in
-    let at_encoded = header at_check_letters in
+    let at_encoded = header c.before in
     let a = (start at_encoded).args in
     wrote_refused a.h a.fields.now a.out.now _ (encoded at_encoded) _ _
-    (sym at_check_letters.check_letters.ensures ∙ ap trace_answer c.before.checked2.given.1)))
+    (sym c.check_letters-checked.ensures ∙ ap trace_answer c.in-Refused.is)))
