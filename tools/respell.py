@@ -36,6 +36,8 @@ def respelled(text, names):
 
     def one(found):
         word = found.group()
+        if text.endswith("Memᴰ.", 0, found.start()):
+            return word  # a name of the library
         core = word.strip("◌")
         return word.replace(core, names[core]) if core in names else word
 

@@ -423,7 +423,7 @@ represents_start h function first second representative value c v = record {
   numbered = num;
   closed = st;
   exactly = exact (constants h.registers) [] function first second h.registers h.registers num representative st
-      (λ s t m. absurd (Memᴰ.not_nil m)) (λ s t d. closure_in (start h) ok d)
+      (λ s t m. absurd (Memᴰ.not-nil m)) (λ s t d. closure_in (start h) ok d)
       (λ i j p q e. let l = constants_length h.registers in
       subst (λ k. Closure (constants h.registers) [] (nth (constants h.registers) i) (nth (constants h.registers) k)) (sym (c i p) ∙ e ∙ c j q)
       (reflexive (nth_in (constants h.registers) i (omega arith))));

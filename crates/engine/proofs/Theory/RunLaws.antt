@@ -218,7 +218,7 @@ module _ (s : List ℕ) (h : Header) (n : ℕ) (r : spec.Begun s h n) where
           right_below = λ q l. absurd (omega arith);
           listed = λ q l. absurd (omega arith);
           all =
-              λ u v m. absurd (Memᴰ.not_nil m);
+              λ u v m. absurd (Memᴰ.not-nil m);
         };
         registers_few = within_registers;
         functions_few = fit.functions;
@@ -233,7 +233,7 @@ module _ (s : List ℕ) (h : Header) (n : ℕ) (r : spec.Begun s h n) where
         parts = λ q l. absurd (omega arith);
         parts_few = omega arith;
       };
-      feasible = (corollary_2 (start h) (state_valid (begin h) tt)).1 (λ c. Memᴰ.not_nil c.2);
+      feasible = (corollary_2 (start h) (state_valid (begin h) tt)).1 (λ c. Memᴰ.not-nil c.2);
     }
       where
         within_registers : h.registers ≤ most_registers

@@ -65,10 +65,10 @@ oldest_split U i (suc n) h = by_test (eqb i n)
 
 oldest_e : (U : List Term) (i : ℕ) {t : Term} → t ∈ oldest U i → (k : ℕ) × (k < i) × (nth U k ≡ t)
 unfolding oldest
-oldest_e U zero m = absurd (Memᴰ.not_nil m)
+oldest_e U zero m = absurd (Memᴰ.not-nil m)
 oldest_e U (suc i) m = elim (Memᴰ.append_cases (oldest U i) m) [
   | inl k ↦ let (j, h, e) = oldest_e U i k in (j, omega arith, e)
-  | inr k ↦ elim (Memᴰ.cases_cons k) [ inl e ↦ (i, omega arith, sym e) | inr o ↦ absurd (Memᴰ.not_nil o) ]
+  | inr k ↦ elim (Memᴰ.cases_cons k) [ inl e ↦ (i, omega arith, sym e) | inr o ↦ absurd (Memᴰ.not-nil o) ]
 ]
 
 oldest_i : (U : List Term) (i k : ℕ) → k < i → nth U k ∈ oldest U i
@@ -152,7 +152,7 @@ module _ (σ : State) (function first second representative : List ℕ) (registe
           let (s, m, z) = any_e (alike (reverse σ.terms) σ.equals (nth σ.terms i))
           (firsts_after (alike (reverse σ.terms) σ.equals) [] (oldest σ.terms i)) y in
           let k : s ∈ oldest σ.terms i =
-          elim (firsts_in (alike (reverse σ.terms) σ.equals) [] (oldest σ.terms i) m) [ inl j ↦ absurd (Memᴰ.not_nil j) | inr j ↦ j ] in
+          elim (firsts_in (alike (reverse σ.terms) σ.equals) [] (oldest σ.terms i) m) [ inl j ↦ absurd (Memᴰ.not-nil j) | inr j ↦ j ] in
           let (j, l, e) = oldest_e σ.terms i k in
           first_of_class i (omega arith) o s k
           (symmetric (alike_e (reverse σ.terms) σ.equals sub (in_reverse (term_in i (omega arith)))
@@ -228,13 +228,13 @@ module _ (σ : State) (function first second representative : List ℕ) (registe
   in_rows : (i : ℕ) → i ≤ n → {r : Row} → r ∈ applications (shown_value σ) (oldest σ.terms i)
       → (m : ℕ) × (registers ≤ m) × (m < i) × (r ≡ row_at σ function first second representative registers n w m)
   unfolding oldest applications
-  in_rows zero l k = absurd (Memᴰ.not_nil k)
+  in_rows zero l k = absurd (Memᴰ.not-nil k)
   in_rows (suc i) l {r} k = by_test (ltb i registers)
-      (λ t. let h = ltb-true i registers t in absurd (Memᴰ.not_nil (subst (λ s. r ∈ s) (rows_constant (suc i) (omega arith)) k)))
+      (λ t. let h = ltb-true i registers t in absurd (Memᴰ.not-nil (subst (λ s. r ∈ s) (rows_constant (suc i) (omega arith)) k)))
       (λ t. let h = ltb-false i registers t in
       elim (Memᴰ.append_cases (applications (shown_value σ) (oldest σ.terms i)) (subst (λ s. r ∈ s) (rows_more i h (omega arith)) k)) [
         | inl j ↦ let (m, a, b, e) = in_rows i (omega arith) j in (m, a, omega arith, e)
-        | inr j ↦ elim (Memᴰ.cases_cons j) [ inl e ↦ (i, h, omega arith, e) | inr o ↦ absurd (Memᴰ.not_nil o) ]
+        | inr j ↦ elim (Memᴰ.cases_cons j) [ inl e ↦ (i, h, omega arith, e) | inr o ↦ absurd (Memᴰ.not-nil o) ]
       ])
 
   -- The first r entries of `rows` are the applications that have rows, of the first i terms.

@@ -67,7 +67,7 @@ pairs_i ys (Memᴰ.head {xs} e) n = beside_i (all_pairs xs ys) e n
 pairs_i ys (Memᴰ.tail {x} m) n = beside_skip x ys (pairs_i ys m n)
 
 pub pairs_e : (xs ys : List Term) {p : Term × Term} → p ∈ all_pairs xs ys → (p.0 ∈ xs) × (p.1 ∈ ys)
-pairs_e [] ys m = absurd (Memᴰ.not_nil m)
+pairs_e [] ys m = absurd (Memᴰ.not-nil m)
 pairs_e (x ∷ xs) ys {p} m = go (λ k. pairs_e xs ys k) (beside_e x ys m)
   where
     go : (p ∈ all_pairs xs ys → (p.0 ∈ xs) × (p.1 ∈ ys)) → ((p.0 ≡ x) × (p.1 ∈ ys)) ⊎ (p ∈ all_pairs xs ys) → (p.0 ∈ x ∷ xs) × (p.1 ∈ ys)
@@ -157,7 +157,7 @@ module _ (U : List Term) (E : List (Term × Term)) where
 
   saturate_stable : (n : ℕ) (ms : List (Term × Term)) (l : List Term) → length l ≤ n → ((t : Term) → t ∈ U → find ms t ∈ l) → Stable (saturate U n ms)
   unfolding Stable
-  saturate_stable zero ms [] b h = λ p m y. Memᴰ.not_nil (h p.0 (pairs_e U U m).0)
+  saturate_stable zero ms [] b h = λ p m y. Memᴰ.not-nil (h p.0 (pairs_e U U m).0)
   saturate_stable zero ms (x ∷ l) b h = λ p m y. omega arith
   saturate_stable (suc n) ms l b h = go (λ ks. saturate_stable n ks) (first_is (due ms) (all_pairs U U))
     where

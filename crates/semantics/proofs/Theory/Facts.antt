@@ -29,14 +29,14 @@ constants_i zero r h = absurd (omega arith)
 constants_i (suc n) r h = elim (eq_or r n) [ inl e ↦ Memᴰ.head (ap con e) | inr d ↦ Memᴰ.tail (constants_i n r (omega arith)) ]
 
 constants_below : (n r : ℕ) → con r ∈ constants n → r < n
-constants_below zero r m = absurd (Memᴰ.not_nil m)
+constants_below zero r m = absurd (Memᴰ.not-nil m)
 constants_below (suc n) r m = elim (Memᴰ.cases_cons m) [
   | inl e ↦ let q : r ≡ n = cc in omega arith
   | inr k ↦ omega (arith, constants_below n r k)
 ]
 
 pub constants_app : (n : ℕ) {f : ℕ} {a b : Term} → app f a b ∈ constants n → ⊥
-constants_app zero m = Memᴰ.not_nil m
+constants_app zero m = Memᴰ.not-nil m
 constants_app (suc n) m = elim (Memᴰ.cases_cons m) [ inl e ↦ let z : ◌≡◌ {A = ℕ} 0 1 = cc in omega arith | inr k ↦ constants_app n k ]
 
 pub con_app : {r f : ℕ} {s t : Term} → con r ≡ app f s t → ⊥
@@ -46,8 +46,8 @@ start_valid : (h : Header) → Valid (start h)
 start_valid h = record {
   values = constants_i h.registers;
   arguments = λ f a b m. absurd (constants_app h.registers m);
-  equal_sides = λ s t m. absurd (Memᴰ.not_nil m);
-  unequal_sides = λ s t m. absurd (Memᴰ.not_nil m);
+  equal_sides = λ s t m. absurd (Memᴰ.not-nil m);
+  unequal_sides = λ s t m. absurd (Memᴰ.not-nil m);
   constants = constants_below h.registers;
 }
 

@@ -37,7 +37,7 @@ module _ {A : Type 0} where
         (λ e. elim (firsts_in (kept ++ y ∷ []) l {x = x} (rw e at m)) [
           | inl i ↦ elim (Memᴰ.append_cases kept i) [
             | inl j ↦ inl j
-            | inr j ↦ inr (elim (Memᴰ.cases_cons j) [ inl q ↦ Memᴰ.head q | inr o ↦ absurd (Memᴰ.not_nil o) ])
+            | inr j ↦ inr (elim (Memᴰ.cases_cons j) [ inl q ↦ Memᴰ.head q | inr o ↦ absurd (Memᴰ.not-nil o) ])
           ]
           | inr i ↦ inr (Memᴰ.tail i)
         ])
@@ -122,7 +122,7 @@ module _ {A : Type 0} where
       -- every element is the same as one that is kept
       pub firsts_all : (kept l : List A) {x : A} → x ∈ l → T (any (same x) (firsts_after same kept l))
       unfolding firsts_after
-      firsts_all kept [] m = absurd (Memᴰ.not_nil m)
+      firsts_all kept [] m = absurd (Memᴰ.not-nil m)
       firsts_all kept (y ∷ l) {x} m = by_test (any (same y) kept)
           (λ e. rw e (elim (Memᴰ.cases_cons m) [
             | inl q ↦ let (r, g) = firsts_extends kept l in subst (λ k. T (any (same x) k)) (sym g)
@@ -149,4 +149,4 @@ module _ {A : Type 0} where
     pub firsts_any_e : (l : List A) (x : A) → T (any (same x) (firsts_after same [] l)) → T (any (same x) l)
     firsts_any_e l x t =
         let (y, m, s) = any_e (same x) (firsts_after same [] l) t in
-        any_i (same x) {l = l} (elim (firsts_in same [] l m) [ inl k ↦ absurd (Memᴰ.not_nil k) | inr k ↦ k ]) s
+        any_i (same x) {l = l} (elim (firsts_in same [] l m) [ inl k ↦ absurd (Memᴰ.not-nil k) | inr k ↦ k ]) s

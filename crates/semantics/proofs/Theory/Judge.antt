@@ -46,7 +46,7 @@ module _ (U : List Term) (ms : List (Term × Term)) where
 
   grow_closed : (n : ℕ) (R l : List Term) → length l ≤ n → ((t : Term) → t ∈ U → T (touch ms R t) ⊎ (t ∈ l)) → Closed (grow U ms n R)
   unfolding Closed
-  grow_closed zero R [] b h = λ p m y. elim (h p m) [ inl k ↦ new_not R p y k | inr k ↦ Memᴰ.not_nil k ]
+  grow_closed zero R [] b h = λ p m y. elim (h p m) [ inl k ↦ new_not R p y k | inr k ↦ Memᴰ.not-nil k ]
   grow_closed zero R (x ∷ l) b h = λ p m y. omega arith
   grow_closed (suc n) R l b h = go (λ Q. grow_closed n Q) (first_is (is_new_above ms R) U)
     where
@@ -136,7 +136,7 @@ module _ (σ : State) (v : Valid σ) where
       ))
       (length σ.terms) (t ∷ []) (λ r m. elim (Memᴰ.cases_cons m) [
         | inl e ↦ (Memᴰ.cast e i, from (subst (Equivalent σ t) (sym e) (reflexive i)))
-        | inr k ↦ absurd (Memᴰ.not_nil k)
+        | inr k ↦ absurd (Memᴰ.not-nil k)
       ]) r m in
       reaches_equal h (symmetric (agree_e j k z))
 
@@ -149,7 +149,7 @@ upto_i {r} {n} h = go n h
     go (suc n) h = elim (eq_or r n) [ inl e ↦ Memᴰ.head e | inr d ↦ Memᴰ.tail (go n (omega arith)) ]
 
 pub upto_e : (n : ℕ) {r : ℕ} → r ∈ upto n → r < n
-upto_e zero m = absurd (Memᴰ.not_nil m)
+upto_e zero m = absurd (Memᴰ.not-nil m)
 upto_e (suc n) {r} m = go (λ k. upto_e n k) (Memᴰ.cases_cons m)
   where
     go : (r ∈ upto n → r < n) → (r ≡ n) ⊎ (r ∈ upto n) → r < suc n

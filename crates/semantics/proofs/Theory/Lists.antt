@@ -22,11 +22,11 @@ module _ {A : Type 0} where
       go ih (inl u) = (x, Memᴰ.head refl, u)
       go ih (inr u) = let (a, m, v) = ih u in (a, Memᴰ.tail m, v)
 
-  pub any_i : (p : A → Bool) {l : List A} {a : A} → a ∈ l → T (p a) → T (any p l)
+  pub any_i : (p : A → Bool) {a : A} {l : List A} → a ∈ l → T (p a) → T (any p l)
   any_i p (Memᴰ.head {x} {xs} e) t = or_l (p x) (any p xs) (subst (λ x. T (p x)) e t)
   any_i p (Memᴰ.tail {x} {xs} m) t = or_r (p x) (any p xs) (any_i p m t)
 
-  pub all_e : (p : A → Bool) {l : List A} {a : A} → T (all p l) → a ∈ l → T (p a)
+  pub all_e : (p : A → Bool) {a : A} {l : List A} → T (all p l) → a ∈ l → T (p a)
   all_e p t (Memᴰ.head {x} {xs} e) = subst (λ x. T (p x)) (sym e) (and_l (p x) (all p xs) t)
   all_e p t (Memᴰ.tail {x} {xs} m) = all_e p (and_r (p x) (all p xs) t) m
 
@@ -48,7 +48,7 @@ module _ {A : Type 0} where
     nowhere : ((a : A) → a ∈ l → ¬ T (p a)) → FirstFound p l none
 
   pub first_is : (p : A → Bool) (l : List A) → FirstFound p l (first_passing p l)
-  first_is p [] = nowhere (λ a m. absurd (Memᴰ.not_nil m))
+  first_is p [] = nowhere (λ a m. absurd (Memᴰ.not-nil m))
   first_is p (x ∷ xs) = head (first_is p xs) (p x) refl
     where
       rest : {o : Option A} → p x ≡ false → FirstFound p xs o → FirstFound p (x ∷ xs) o
@@ -110,7 +110,7 @@ module _ {A : Type 0} where
 
 -- ── a list turned round ──
 pub in_reversed : {A : Type 0} (l r : List A) {t : A} → (t ∈ l) ⊎ (t ∈ r) → t ∈ reverse_aux l r
-in_reversed [] r (inl m) = absurd (Memᴰ.not_nil m)
+in_reversed [] r (inl m) = absurd (Memᴰ.not-nil m)
 in_reversed [] r (inr m) = m
 in_reversed (x ∷ l) r (inl m) = elim (Memᴰ.cases_cons m) [
   | inl e ↦ in_reversed l (x ∷ r) (inr (Memᴰ.head e))

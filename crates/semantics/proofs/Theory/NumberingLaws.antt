@@ -75,7 +75,7 @@ module _ (U : List Term) (E : List (Term × Term)) where
           let (pre, x, post, q, n) = split_at C (k - 1) (omega arith) in
           let m : x ∈ C = subst (λ l. x ∈ l) (sym q) (Memᴰ.append_right pre (Memᴰ.head refl)) in (
             x,
-            elim (firsts_in (alike U E) [] before m) [ inl i ↦ absurd (Memᴰ.not_nil i) | inr i ↦ i ],
+            elim (firsts_in (alike U E) [] before m) [ inl i ↦ absurd (Memᴰ.not-nil i) | inr i ↦ i ],
             ap (first_place (alike U E x) 1) (are ∙ ap (λ l. l ++ rest) q ∙ append_assoc pre (x ∷ post) rest)
                 ∙ place_first (alike U E x) 1 pre (post ++ rest) x (firsts_distinct (alike U E) [] before (none_repeats (alike U E)) pre post x q)
                 (alike_refl x) ∙ omega arith,
@@ -104,7 +104,7 @@ module _ (U : List Term) (E : List (Term × Term)) where
         let C = firsts_after (alike U E) [] before in
         let new : ¬ T (any (alike U E t) C) = λ y.
         let (s, m, z) = any_e (alike U E t) C y in
-        let i = elim (firsts_in (alike U E) [] before m) as (λ _. s ∈ before) [ inl k ↦ absurd (Memᴰ.not_nil k) | inr k ↦ k ] in
+        let i = elim (firsts_in (alike U E) [] before m) as (λ _. s ∈ before) [ inl k ↦ absurd (Memᴰ.not-nil k) | inr k ↦ k ] in
         n s i (alike_e U E sub (subst (λ l. s ∈ l) (sym e) (Memᴰ.append_left (t ∷ after) i))
         (subst (λ l. t ∈ l) (sym e) (Memᴰ.append_right before (Memᴰ.head refl)))
         (eq→eqt (name s) (name t) (sym (alike_name t s z)))) in
@@ -159,7 +159,7 @@ module _ (U : List Term) (E : List (Term × Term)) where
               p ∙ ap suc (same_count v w before j k a f r) ∙ sym q
 
       agrees : (before after : List Term) → U ≡ before ++ after → ((s : Term) → s ∈ before → v s ≡ w s) → (s : Term) → s ∈ after → v s ≡ w s
-      agrees before [] e a s m = absurd (Memᴰ.not_nil m)
+      agrees before [] e a s m = absurd (Memᴰ.not-nil m)
       agrees before (t ∷ after) e a s m = elim (Memᴰ.cases_cons m) [
         | inl q ↦ ap v q ∙ one_more before after t e a ∙ sym (ap w q)
         | inr k ↦ agrees (before ++ t ∷ []) after (e ∙ sym (append_assoc before (t ∷ []) after))
@@ -167,14 +167,14 @@ module _ (U : List Term) (E : List (Term × Term)) where
               | inl i ↦ a u i
               | inr i ↦ elim (Memᴰ.cases_cons i) [
                 | inl q ↦ ap v q ∙ one_more before after t e a ∙ sym (ap w q)
-                | inr o ↦ absurd (Memᴰ.not_nil o)
+                | inr o ↦ absurd (Memᴰ.not-nil o)
               ]
             ]) s k
       ]
 
       pub numbering_unique : ((t : Term) → t ∈ U → v t ≡ w t) × (c ≡ d)
       numbering_unique =
-          let a = agrees [] U refl (λ s m. absurd (Memᴰ.not_nil m)) in
+          let a = agrees [] U refl (λ s m. absurd (Memᴰ.not-nil m)) in
           (a, same_count v w U c d a h.all g.all)
 
 -- ── the rows ──
@@ -215,7 +215,7 @@ module _ (v : Term → ℕ) where
     computed = λ r m. let (f, s, t, i, e) = h.computed r m in (f, s, t, Memᴰ.append_left (x ∷ []) i, e);
     complete = λ f s t m. elim (Memᴰ.append_cases before m) [
       | inl i ↦ h.complete f s t i
-      | inr i ↦ elim (Memᴰ.cases_cons i) [ inl e ↦ there f s t e | inr o ↦ absurd (Memᴰ.not_nil o) ]
+      | inr i ↦ elim (Memᴰ.cases_cons i) [ inl e ↦ there f s t e | inr o ↦ absurd (Memᴰ.not-nil o) ]
     ];
     distinct = h.distinct;
     ordered = λ earlier later r e.
@@ -230,13 +230,13 @@ module _ (v : Term → ℕ) where
     computed = λ r m. elim (Memᴰ.append_cases rows m) [
       | inl i ↦ let (g, u, w, j, e) = h.computed r i in (g, u, w, Memᴰ.append_left (app f s t ∷ []) j, e)
       | inr i ↦ elim (Memᴰ.cases_cons i)
-          [ inl e ↦ (f, s, t, Memᴰ.append_right before (Memᴰ.head refl), e) | inr o ↦ absurd (Memᴰ.not_nil o) ]
+          [ inl e ↦ (f, s, t, Memᴰ.append_right before (Memᴰ.head refl), e) | inr o ↦ absurd (Memᴰ.not-nil o) ]
     ];
     complete = λ g u w m. elim (Memᴰ.append_cases before m) [
       | inl i ↦ Memᴰ.append_left (row_of v f s t ∷ []) (h.complete g u w i)
       | inr i ↦ elim (Memᴰ.cases_cons i) [
         | inl e ↦ Memᴰ.append_right rows (Memᴰ.head (same g u w e))
-        | inr o ↦ absurd (Memᴰ.not_nil o)
+        | inr o ↦ absurd (Memᴰ.not-nil o)
       ]
     ];
     distinct = λ earlier later r e q m (g, a, b). no_repeats_more same_call rows (row_of v f s t) (no_repeats v h) n earlier later r e
@@ -302,8 +302,8 @@ module _ (v : Term → ℕ) where
 
     pub listing : RowListing U v (firsts_after same_call [] (applications v U))
     listing = listing_from [] U [] refl (record {
-      computed = λ r m. absurd (Memᴰ.not_nil m);
-      complete = λ f s t m. absurd (Memᴰ.not_nil m);
+      computed = λ r m. absurd (Memᴰ.not-nil m);
+      complete = λ f s t m. absurd (Memᴰ.not-nil m);
       distinct = λ earlier later r e q m s. nil_split earlier later r e;
       ordered = λ earlier later r e. absurd (nil_split earlier later r e);
     })

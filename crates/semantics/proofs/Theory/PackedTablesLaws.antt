@@ -71,7 +71,7 @@ module _ (w : Edition) (h : Header) where
   rows_back (r ∷ rows) e = ap₂ (λ a l. a ∷ l) (e r (Memᴰ.head refl)) (rows_back rows (λ s m. e s (Memᴰ.tail m)))
 
   words_fit : (rows : List Row) (k : ℕ) → ((r : Row) → r ∈ rows → packed_row w h r < k) → (n : ℕ) → n ∈ map (packed_row w h) rows → n < k
-  words_fit [] k e n m = absurd (Memᴰ.not_nil m)
+  words_fit [] k e n m = absurd (Memᴰ.not-nil m)
   words_fit (r ∷ rows) k e n m = elim (Memᴰ.cases_cons m) [
     | inl q ↦ subst (λ j. j < k) (sym q) (e r (Memᴰ.head refl))
     | inr i ↦ words_fit rows k (λ s j. e s (Memᴰ.tail j)) n i

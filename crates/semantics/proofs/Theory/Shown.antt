@@ -32,7 +32,7 @@ starts_below v c h k (suc n) (suc r) = starts_below v c h (suc k) n r
 
 applications_below : (v : Term → ℕ) (c : ℕ) → ((t : Term) → v t < suc c) → (U : List Term) {r : Row} → r ∈ applications v U → r.result < suc c
 unfolding applications
-applications_below v c h [] m = absurd (Memᴰ.not_nil m)
+applications_below v c h [] m = absurd (Memᴰ.not-nil m)
 applications_below v c h (con k ∷ U) m = applications_below v c h U m
 applications_below v c h (app f s t ∷ U) m = elim (Memᴰ.cases_cons m) [
   | inl e ↦ subst (λ (k : Row). k.result < suc c) (sym e) (h (app f s t))
@@ -46,7 +46,7 @@ in_range n U E = record {
   default = omega arith;
   starts = starts_below (class_value U E) (length (classes_of U E)) (laws.number_below U E) 0 n;
   rows = λ r m. elim (firsts_in same_call [] (applications (class_value U E) U) m) [
-    | inl k ↦ absurd (Memᴰ.not_nil k)
+    | inl k ↦ absurd (Memᴰ.not-nil k)
     | inr k ↦ applications_below (class_value U E) (length (classes_of U E)) (laws.number_below U E) U k
   ];
 }
@@ -63,7 +63,7 @@ shown σ = shown_model σ.header.registers (reverse σ.terms) σ.equals
 result_at : (rows : List Row) (f a b : ℕ) (r : Row) → r ∈ rows → T (lists f a b r)
     → (s : Row) × (s ∈ rows) × T (lists f a b s) × (result_in rows f a b ≡ s.result)
 unfolding result_in
-result_at [] f a b r m y = absurd (Memᴰ.not_nil m)
+result_at [] f a b r m y = absurd (Memᴰ.not-nil m)
 result_at (x ∷ rows) f a b r m y = by_test (lists f a b x)
     (λ e. (x, Memᴰ.head refl, of_true e, rw e))
     (λ e. elim (Memᴰ.cases_cons m) [
@@ -155,7 +155,7 @@ module _ (σ : State) (v : Valid σ) where
   to m = in_reversed σ.terms [] (inl m)
 
   pub back : {t : Term} → t ∈ reverse σ.terms → t ∈ σ.terms
-  back m = elim (reversed_in σ.terms [] m) [ inl k ↦ k | inr k ↦ absurd (Memᴰ.not_nil k) ]
+  back m = elim (reversed_in σ.terms [] m) [ inl k ↦ k | inr k ↦ absurd (Memᴰ.not-nil k) ]
 
   sub : (f : ℕ) (a b : Term) → app f a b ∈ U → (a ∈ U) × (b ∈ U)
   sub f a b m = let (i, j) = v.arguments f a b (back m) in (to i, to j)

@@ -57,7 +57,7 @@ starts_length v k (suc n) = ap suc (starts_length v (suc k) n)
 
 starts_below : (v : Term → ℕ) (c : ℕ) → ((t : Term) → v t < c) → (k n : ℕ) {m : ℕ} → m ∈ starts_from v k n → m < c
 unfolding starts_from
-starts_below v c h k zero m = absurd (Memᴰ.not_nil m)
+starts_below v c h k zero m = absurd (Memᴰ.not-nil m)
 starts_below v c h k (suc n) m = elim (Memᴰ.cases_cons m) [
   | inl e ↦ subst (λ j. j < c) (sym e) (h (con k))
   | inr i ↦ starts_below v c h (suc k) n i

@@ -19,7 +19,7 @@ initial = record { same = eqb; apart = λ r s. false; result = λ f a b r. false
 
 closure_start : (n : ℕ) {s t : Term} → Closure (constants n) [] s t → s ≡ t
 closure_start n (reflexive m) = refl
-closure_start n (Closure.test m) = absurd (Memᴰ.not_nil m)
+closure_start n (Closure.test m) = absurd (Memᴰ.not-nil m)
 closure_start n (symmetric c) = sym (closure_start n c)
 closure_start n (transitive c d) = closure_start n c ∙ closure_start n d
 closure_start n (congruence i j p q) = absurd (constants_app n i)
@@ -31,7 +31,7 @@ tracks_start h = record {
     (λ k. subst (λ u. Equivalent (start h) (con r) (con u)) (eqb→eq r s k) (reflexive (v.values r p))),
     (λ c. subst (λ u. T (eqb r u)) (num (closure_start h.registers c)) (eqb_refl r)),
   );
-  apart = λ r s p q. ((λ k. absurd k), (λ (f, m). elim m.tested [ inl k ↦ Memᴰ.not_nil k | inr k ↦ Memᴰ.not_nil k ]));
+  apart = λ r s p q. ((λ k. absurd k), (λ (f, m). elim m.tested [ inl k ↦ Memᴰ.not-nil k | inr k ↦ Memᴰ.not-nil k ]));
   result = λ f a b r ab bb rb. ((λ k. absurd k), (λ m. constants_app h.registers m.listed));
   ever = λ f a b ab bb. ((λ k. absurd k), (λ (s, m). constants_app h.registers m.listed));
   marked = λ r b. ((λ k. absurd k), (λ e. constants_app h.registers e.listed));

@@ -33,7 +33,7 @@ extend_header ρ (a ∷ l) = extend_header (ρ ▸ a) l
 
 -- A trace is well formed exactly if its letters fit the header.
 pub extend_formed : (ρ : Trace) (l : List Letter) → WellFormed (extend ρ l) ↔ (WellFormed ρ × ((a : Letter) → a ∈ l → Fits (state ρ).header a))
-extend_formed ρ [] = (λ w. (w, λ a m. absurd (Memᴰ.not_nil m)), λ (w, h). w)
+extend_formed ρ [] = (λ w. (w, λ a m. absurd (Memᴰ.not-nil m)), λ (w, h). w)
 extend_formed ρ (a ∷ l) = (
   λ w. let ((u, f), h) = (extend_formed (ρ ▸ a) l).0 w in
       (u, λ b m. elim (Memᴰ.cases_cons m) [ inl e ↦ subst (Fits (state ρ).header) (sym e) f | inr k ↦ h b k ]),

@@ -259,7 +259,7 @@ pub listing_yes : RowListing (reverse (state lost).terms) (shown_value (state lo
 listing_yes = shown_listing (state lost) valid
 
 pub listing_no : ¬ RowListing (app 0 (con 0) (con 0) ∷ con 0 ∷ []) (λ t. 1) []
-listing_no h = Memᴰ.not_nil (h.complete 0 (con 0) (con 0) (Memᴰ.head refl))
+listing_no h = Memᴰ.not-nil (h.complete 0 (con 0) (con 0) (Memᴰ.head refl))
 
 pub is_shown_yes : IsShown 3 (reverse (state lost).terms) (state lost).equals (tables_of (state lost))
 is_shown_yes = tables_are lost well_formed
@@ -287,7 +287,7 @@ early_by_definition_5 =
     v = state_valid early_slip (formed_e early_slip tt)
 
     kept : (f : ℕ) (a b : Term) → app f a b ∈ (state early_slip).terms → Held (state early_slip) (app f a b)
-    kept f a b m = held_e (state early_slip) v m (all_e results_held {l = (state early_slip).terms} {a = app f a b} tt m)
+    kept f a b m = held_e (state early_slip) v m (all_e results_held {a = app f a b} {l = (state early_slip).terms} tt m)
 
 -- document 01 does not, for no register holds the old w,
 pub early_by_document_01 : ¬ Early (state early_slip) 3 4
@@ -310,7 +310,7 @@ second_is_w (app f a b) = eqt b (con 2)
 pub unseen : (f a b r : ℕ) → b < 5 → ¬ Result (state early_slip) f a b r
 unfolding second_is_w fits_test apply_test
 unseen f a b r bb m =
-    let w = eqt→eq m.second (con 2) (all_e second_is_w {l = (state early_slip).terms} {a = app f m.first m.second} tt m.listed) in
+    let w = eqt→eq m.second (con 2) (all_e second_is_w {a = app f m.first m.second} {l = (state early_slip).terms} tt m.listed) in
     held_i (state early_slip) (state_valid early_slip (formed_e early_slip tt)) {t = con 2}
     (b, bb, subst (λ u. Equivalent (state early_slip) u ((state early_slip).value b)) w m.at_second)
 

@@ -194,7 +194,7 @@ module _ {ℓ} (n t : ℕ) (R : Meaning {ℓ}) (A : AnyModel {ℓ}) (c : ModelsR
   -- All tests hold with the relations exactly if they hold in the model.
   pub hold_alike : (τ : Trace) → RightSorts n t τ → AllHold n R τ ↔ SatisfiesIn A (state τ).equals (state τ).unequals
   hold_alike (begin h) s = (
-    λ x. record { equal_hold = λ u v m. absurd (Memᴰ.not_nil m); unequal_hold = λ u v m. absurd (Memᴰ.not_nil m) },
+    λ x. record { equal_hold = λ u v m. absurd (Memᴰ.not-nil m); unequal_hold = λ u v m. absurd (Memᴰ.not-nil m) },
     λ x. tt,
   )
   hold_alike (ρ ▸ a) (s, right_copy p q) = hold_alike ρ s

@@ -116,7 +116,7 @@ module _ (h : Header) (edition : Edition) (n : ℕ) (output : List ℕ) where
   reaches = (
     apart,
     record {
-      equal_hold = λ s t m. absurd (Memᴰ.not_nil m);
+      equal_hold = λ s t m. absurd (Memᴰ.not-nil m);
       unequal_hold = λ s t m e. let (f, g) = only_test s t m in differ s t f g e;
     },
   )
@@ -133,7 +133,7 @@ module _ (h : Header) (edition : Edition) (n : ℕ) (output : List ℕ) where
   reaches_anywhere = (
     numbered,
     record {
-      equal_hold = λ s t m. absurd (Memᴰ.not_nil m);
+      equal_hold = λ s t m. absurd (Memᴰ.not-nil m);
       unequal_hold = λ s t m e. let (f, g) = only_test s t m in differ s t f g e;
     },
   )
