@@ -394,7 +394,7 @@ module _ (ρ φ : ℕ) where
           lost = b.lost;
         }
       where
-        over_up : {q s : ℕ} (k c : ℕ) → k < φ * ρ * ρ → c < ρ → T (has (get_or w.result k 0) c) → q < n → (q ≡ place_first ρ k) ⊎ (q ≡ place_second ρ k)
+        over_up : {q : ℕ} (k c : ℕ) {s : ℕ} → k < φ * ρ * ρ → c < ρ → T (has (get_or w.result k 0) c) → q < n → (q ≡ place_first ρ k) ⊎ (q ≡ place_second ρ k)
             → place_first ρ k < n → place_second ρ k < n → c < n
             → Over' (suc n) W (suc c) s → Over' (suc n) W (suc q) s
         over_up {q} k c kb cb t qb v ab bb cc (at' sb d) =

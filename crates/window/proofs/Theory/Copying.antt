@@ -187,7 +187,7 @@ module _ (ρ φ : ℕ) where
             ub (above' f ab bb cb sb o e m d) = up _ sb
 
     -- up by one result
-    over_up : {q s : ℕ} (k c : ℕ) → k < φ * ρ * ρ → c < ρ → T (has (get_or w.result k 0) c) → q < n → (q ≡ place_first ρ k) ⊎ (q ≡ place_second ρ k)
+    over_up : {q : ℕ} (k c : ℕ) {s : ℕ} → k < φ * ρ * ρ → c < ρ → T (has (get_or w.result k 0) c) → q < n → (q ≡ place_first ρ k) ⊎ (q ≡ place_second ρ k)
         → Over' n (view ρ φ w) c s → Over' n (view ρ φ w) q s
     over_up {q} k c kb cb t qb e (at' sb d) =
         let (ab, bb, cc) = first_below k c kb cb t in

@@ -9,10 +9,10 @@ use Rattle.window.specs.Marks.{above_of, union_of}
 use Rattle.window.proofs.above.Statement.{statement}
 use Rattle.window.proofs.above.Tie as tie
 
-abbrev invariant_loop : tie.invariant_loop
+abbrev invariant_loop : tie.invariant-loop-h
 invariant_loop t next₀ h₀ next h = WrittenUpTo (λ k. bit_or (union_of t (registers * k) 1 registers) (union_of t k registers registers)) 0 registers h next
 
-abbrev decreases_loop : tie.decreases_loop
+abbrev decreases_loop : tie.decreases-loop-h
 decreases_loop t next₀ h₀ next h = registers - h
 
 pub above_spec : {M : Type 1} → statement M
@@ -27,6 +27,6 @@ above_spec = tie.close (tie.spec
     (λ c. search rules)
     (λ c. search rules)
     (λ c. search rules)
-    (λ c. written_more _ _ _ _ _ _ c.before.before.before.loop.invariant c.before.before.loop_test.true
-    (ap₂ bit_or c.before.union.ensures c.union2.ensures))
-    (λ c. written_all _ _ _ _ _ c.before.loop.invariant c.loop_test.false))
+    (λ c. written_more _ _ _ _ _ _ c.loop-h.invariant c.loop-h-test.true
+    (ap₂ bit_or c.union.ensures c.union-in-loop-h.ensures))
+    (λ c. written_all _ _ _ _ _ c.loop-h.invariant c.loop-h-test.false))

@@ -6,10 +6,10 @@ use Rattle.window.proofs.Theory.Adding.{Adding, adding_none, adding_more, adding
 use Rattle.window.proofs.add_line.Statement.{statement}
 use Rattle.window.proofs.add_line.Tie as tie
 
-abbrev invariant_loop : tie.invariant_loop
+abbrev invariant_loop : tie.invariant-loop-r
 invariant_loop t₀ j mask what r₀ t r = Adding registers j mask what t₀ r t
 
-abbrev decreases_loop : tie.decreases_loop
+abbrev decreases_loop : tie.decreases-loop-r
 decreases_loop t₀ j mask what r₀ t r = registers - r
 
 pub add_line_spec : {M : Type 1} → statement M
@@ -19,14 +19,13 @@ add_line_spec = tie.close (tie.spec
     (λ c. adding_none registers _ _ _ _)
     (λ c. search rules)
     (λ c. search rules)
-    (λ c. let k = c.before.before in omega (arith, k.loop.invariant.long, c.before.loop_test.true, k.before.before.requires))
+    (λ c. omega (arith, c.loop-r.invariant.long, c.loop-r-test.true, c.requires))
     (λ c κs. search rules)
     (λ c. search rules)
     (λ c. search rules)
-    (λ c. let k = c.before.before.before in omega (arith, k.loop.invariant.long, c.before.before.loop_test.true, k.before.before.requires))
+    (λ c. omega (arith, c.loop-r.invariant.long, c.loop-r-test.true, c.requires))
     (λ c. search rules)
     (λ c. search rules)
-    (λ c. let k = c.before.before.before in
-    adding_more registers _ _ _ _ k.before.before.requires _ _ _ k.loop.invariant c.before.before.loop_test.true c.part.ensures)
-    (λ c. c.before.loop.invariant.long)
-    (λ c. adding_all registers _ _ _ _ (omega arith) _ _ c.before.loop.invariant c.loop_test.false))
+    (λ c. adding_more registers _ _ _ _ c.requires _ _ _ c.loop-r.invariant c.loop-r-test.true c.part.ensures)
+    (λ c. c.loop-r.invariant.long)
+    (λ c. adding_all registers _ _ _ _ (omega arith) _ _ c.loop-r.invariant c.loop-r-test.false))

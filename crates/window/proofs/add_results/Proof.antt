@@ -1,5 +1,4 @@
 use mathlib.Core.Path.{◌≡◌, sym, ap, ◌∙◌}
-use mathlib.Core.Logic.{⊎_elim}
 use Prim.Native.Nat.{◌-◌, ◌≤◌}
 use lib.ListN.{length}
 use native.Mathlib.Omega.{arith}
@@ -9,23 +8,24 @@ use Rattle.window.proofs.Theory.Bits.{until}
 use Rattle.window.specs.Adding.{results_added}
 use Rattle.window.proofs.Theory.Adding.{added_none, added_more, added_skip, added_all, added_length}
 use Rattle.window.proofs.add_results.Statement.{statement}
+use Rattle.window.proofs.add_results.Lts.{then-holds, else-holds}
 use Rattle.window.proofs.add_results.Tie as tie
 
-abbrev invariant_loop : tie.invariant_loop
+abbrev invariant_loop : tie.invariant-loop-a
 invariant_loop t₀ f first second what a₀ t a = (a ≤ registers) × (t ≡ results_added registers (until first a) f second what t₀)
 
-abbrev decreases_loop : tie.decreases_loop
+abbrev decreases_loop : tie.decreases-loop-a
 decreases_loop t₀ f first second what a₀ t a = registers - a
 
-loop_again : tie.Need-loop-preserved invariant_loop decreases_loop
+loop_again : tie.Need-loop-a-preserved invariant_loop decreases_loop
 loop_again c = (
-  omega (arith, c.before.before.loop_test.true),
-  let l = c.before.before.before.loop.invariant.1 in
-      ⊎_elim
-      (λ (i, _, u, _, _, e). e ∙ added_more registers _ _ _ _ _ _ _ _ c.before.before.loop_test.true l (sym c.before.holds.ensures ∙ i.taken)
-      u.ensures)
-      (λ (i, e). e ∙ added_skip registers _ _ _ _ _ _ _ l (sym c.before.holds.ensures ∙ i.left))
-      c.if1.branch,
+  omega (arith, c.loop-a-test.true),
+  let l = c.loop-a.invariant.1 in
+      elim c.if-holds.branch [
+            then-holds w ↦ w.t-is ∙ added_more registers _ _ _ _ _ _ _ _ c.loop-a-test.true l (sym c.holds.ensures ∙ w.if-holds.true)
+      w.add_line.ensures
+          | else-holds w ↦ w.t-is ∙ added_skip registers _ _ _ _ _ _ _ l (sym c.holds.ensures ∙ w.if-holds.false)
+          ],
 )
 
 pub add_results_spec : {M : Type 1} → statement M
@@ -37,13 +37,10 @@ add_results_spec = tie.close (tie.spec
     (λ c. search rules)
     (λ c. search rules)
     (λ c κs.
-    let at_loop_test = c.before.before.before in
-    let at_loop = at_loop_test.before in
-    let at_pre = at_loop.before.before in
-    let e = ap length at_loop.loop.invariant.1 ∙ added_length registers _ _ _ _ _ in
-    omega (arith, e, at_pre.requires, at_loop_test.loop_test.true))
+    let e = ap length c.loop-a.invariant.1 ∙ added_length registers _ _ _ _ _ in
+    omega (arith, e, c.requires, c.loop-a-test.true))
     (λ c. search rules)
     (λ c. search rules)
     loop_again
-    (λ c. ap length c.before.loop.invariant.1 ∙ added_length registers _ _ _ _ _)
-    (λ c. added_all registers _ _ _ _ _ (omega arith) _ _ c.before.loop.invariant.1 c.loop_test.false))
+    (λ c. ap length c.loop-a.invariant.1 ∙ added_length registers _ _ _ _ _)
+    (λ c. added_all registers _ _ _ _ _ (omega arith) _ _ c.loop-a.invariant.1 c.loop-a-test.false))

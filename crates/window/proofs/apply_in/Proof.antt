@@ -15,21 +15,15 @@ apply_in_spec = tie.close (tie.spec
     (λ c κs. search rules)
     (λ c κs. search rules)
     (λ c.
-    let at_copy_in_arg3 = c.before.before.before.before in
-    let at_if1 = at_copy_in_arg3.before.before.before in
-    let at_name = at_if1.before in
-    let a = at_name.before.before.args in (
-      (λ i. apply_known registers functions (window_of_parts a.class.now a.unequal.now a.result.now a.ever.now a.mark.now i
-          a.count.now) a.x a.f a.y a.z _ _ at_name.name.ensures at_if1.if1.true (c.copy_in.ensures.0 i)),
+    let a = c.args in (
+      (λ i. apply_known registers functions (window_of_parts a.class.now a.unequal.now a.res.now a.ever.now a.mark.now i
+          a.count.now) a.x a.f a.y a.z _ _ c.name-r.ensures c.if-r-lt-REGISTERS.true (c.copy_in.ensures.0 i)),
       c.copy_in.ensures.1,
     ))
     (λ c κs. search rules)
     (λ c.
-    let at_new_in_arg3 = c.before.before.before.before in
-    let at_if1 = at_new_in_arg3.before.before.before in
-    let at_name = at_if1.before in
-    let a = at_name.before.before.args in (
-      (λ i. apply_new registers functions (window_of_parts a.class.now a.unequal.now a.result.now a.ever.now a.mark.now i
-          a.count.now) a.x a.f a.y a.z _ _ at_name.name.ensures at_if1.if1.false (c.new_in.ensures.0 i)),
+    let a = c.args in (
+      (λ i. apply_new registers functions (window_of_parts a.class.now a.unequal.now a.res.now a.ever.now a.mark.now i
+          a.count.now) a.x a.f a.y a.z _ _ c.name-r.ensures c.if-r-lt-REGISTERS.false (c.new_in.ensures.0 i)),
       c.new_in.ensures.1,
     )))

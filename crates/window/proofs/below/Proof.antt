@@ -8,10 +8,10 @@ use Rattle.window.proofs.Theory.Marks.{below_more, below_none, below_all}
 use Rattle.window.proofs.below.Statement.{statement}
 use Rattle.window.proofs.below.Tie as tie
 
-abbrev invariant_loop : tie.invariant_loop
+abbrev invariant_loop : tie.invariant-loop-h
 invariant_loop up s m₀ h₀ m h = (h ≤ registers) × (m ≡ below_of registers up s h)
 
-abbrev decreases_loop : tie.decreases_loop
+abbrev decreases_loop : tie.decreases-loop-h
 decreases_loop up s m₀ h₀ m h = registers - h
 
 pub below_spec : {M : Type 1} → statement M
@@ -23,5 +23,5 @@ below_spec = tie.close (tie.spec
     (λ c κs. search rules)
     (λ c. search rules)
     (λ c. search rules)
-    (λ c. (omega (arith, c.before.before.loop_test.true), below_more registers _ _ _ _ _ c.before.before.before.loop.invariant.1 c.flag.ensures))
-    (λ c. below_all registers _ _ _ _ c.before.loop.invariant.0 c.loop_test.false c.before.loop.invariant.1))
+    (λ c. (omega (arith, c.loop-h-test.true), below_more registers _ _ _ _ _ c.loop-h.invariant.1 c.flag-m.ensures))
+    (λ c. below_all registers _ _ _ _ c.loop-h.invariant.0 c.loop-h-test.false c.loop-h.invariant.1))

@@ -8,10 +8,10 @@ use Rattle.window.proofs.Theory.Performing.{clash_none, clash_more, clash_all}
 use Rattle.window.proofs.clash.Statement.{statement}
 use Rattle.window.proofs.clash.Tie as tie
 
-abbrev invariant_loop : tie.invariant_loop
+abbrev invariant_loop : tie.invariant-loop-i
 invariant_loop class unequal bad₀ i₀ bad i = (i ≤ registers) × (bad ≡ clash_of registers functions class unequal i)
 
-abbrev decreases_loop : tie.decreases_loop
+abbrev decreases_loop : tie.decreases-loop-i
 decreases_loop class unequal bad₀ i₀ bad i = registers - i
 
 pub clash_spec : {M : Type 1} → statement M
@@ -24,8 +24,8 @@ clash_spec = tie.close (tie.spec
     (λ c. search rules)
     (λ c. search rules)
     (λ c. (
-      omega (arith, c.before.before.loop_test.true),
-      clash_more registers functions _ _ _ _ _ c.before.before.before.loop.invariant.1
-          c.apart.ensures,
+      omega (arith, c.loop-i-test.true),
+      clash_more registers functions _ _ _ _ _ c.loop-i.invariant.1
+          c.apart-bad.ensures,
     ))
-    (λ c. clash_all registers functions _ _ _ _ c.before.loop.invariant.0 c.loop_test.false c.before.loop.invariant.1))
+    (λ c. clash_all registers functions _ _ _ _ c.loop-i.invariant.0 c.loop-i-test.false c.loop-i.invariant.1))

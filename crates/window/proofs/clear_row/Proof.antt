@@ -10,10 +10,10 @@ use Rattle.window.proofs.Theory.Through.{rows_whole}
 use Rattle.window.proofs.clear_row.Statement.{statement}
 use Rattle.window.proofs.clear_row.Tie as tie
 
-abbrev invariant_loop : tie.invariant_loop
+abbrev invariant_loop : tie.invariant-loop-j
 invariant_loop t₀ x n j₀ t j = (n ≡ length t₀ / registers) × (j ≤ n) × Gone (rows registers) (cleared_at (rows registers) x t₀) x t₀ j t
 
-abbrev decreases_loop : tie.decreases_loop
+abbrev decreases_loop : tie.decreases-loop-j
 decreases_loop t₀ x n j₀ t j = n - j
 
 pub clear_row_spec : {M : Type 1} → statement M
@@ -25,15 +25,15 @@ clear_row_spec = tie.close (tie.spec
     (λ c. search rules)
     (λ c. search rules)
     (λ c. search rules)
-    (λ c. let k = c.before in omega (arith, k.loop.invariant.0, k.loop.invariant.2.long, c.loop_test.true, k.before.requires))
+    (λ c. omega (arith, c.loop-j.invariant.0, c.loop-j.invariant.2.long, c.loop-j-test.true, c.requires))
     (λ c. search rules)
     (λ c. search rules)
-    (λ c. let k = c.before in let l = c.loop_test.true in (
-      k.loop.invariant.0,
+    (λ c. let l = c.loop-j-test.true in (
+      c.loop-j.invariant.0,
       omega arith,
-      clear_more (rows registers) (rows_partition registers) _ _ _ _ _ (rows_whole registers (search rules) _ _ k.before.requires.1 k.loop.invariant.0)
-          k.before.requires.0 l k.loop.invariant.2,
+      clear_more (rows registers) (rows_partition registers) _ _ _ _ _ (rows_whole registers (search rules) _ _ c.requires.1 c.loop-j.invariant.0)
+          c.requires.0 l c.loop-j.invariant.2,
     ))
-    (λ c. c.before.loop.invariant.2.long)
-    (λ c. let k = c.before in cleared_all (rows registers) _ _ _ _ _ (rows_whole registers (search rules) _ _ k.before.requires.1 k.loop.invariant.0)
-    c.loop_test.false k.loop.invariant.2))
+    (λ c. c.loop-j.invariant.2.long)
+    (λ c. cleared_all (rows registers) _ _ _ _ _ (rows_whole registers (search rules) _ _ c.requires.1 c.loop-j.invariant.0)
+    c.loop-j-test.false c.loop-j.invariant.2))

@@ -7,6 +7,6 @@ use Rattle.window.proofs.count_at_start.Tie as tie
 pub count_at_start_spec : {M : Type 1} → statement M
 unfolding count_at_start
 count_at_start_spec = tie.close (tie.spec
-    (λ c. rw (lt-ltb _ _ c.if1.true))
+    (λ c. rw (lt-ltb _ _ c.if-declared-lt-REGISTERS.true))
     (λ c. search rules)
-    (λ c. rw (le-ltb _ _ c.if1.false)))
+    (λ c. rw (le-ltb _ _ c.if-declared-lt-REGISTERS.false)))

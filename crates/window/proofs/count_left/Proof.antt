@@ -10,5 +10,5 @@ unfolding count_left
 count_left_spec = tie.close (tie.spec
     (λ c κs. search rules)
     (λ c κs. search rules)
-    (λ c. rw (eq-eqb _ _ (sym c.before.before.size.ensures ∙ c.before.if1.true)) c.one_fewer.ensures)
-    (λ c. rw (ne_eqb _ _ (λ e. c.if1.false (c.before.size.ensures ∙ e)))))
+    (λ c. rw (eq-eqb _ _ (sym c.size.ensures ∙ c.if-size-eq1.true)) c.one_fewer.ensures)
+    (λ c. rw (ne_eqb _ _ (λ e. c.if-size-eq1.false (c.size.ensures ∙ e)))))

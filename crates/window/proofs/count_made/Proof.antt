@@ -9,6 +9,6 @@ pub count_made_spec : {M : Type 1} → statement M
 unfolding count_made
 count_made_spec = tie.close (tie.spec
     (λ c κs. search rules)
-    (λ c. rw (eq-eqb _ _ (sym c.before.size.ensures ∙ c.if1.true)))
+    (λ c. rw (eq-eqb _ _ (sym c.size.ensures ∙ c.if-size-eq1.true)))
     (λ c κs. search rules)
-    (λ c. rw (ne_eqb _ _ (λ e. c.before.if1.false (c.before.before.size.ensures ∙ e))) c.one_more.ensures))
+    (λ c. rw (ne_eqb _ _ (λ e. c.if-size-eq1.false (c.size.ensures ∙ e))) c.one_more.ensures))

@@ -14,5 +14,5 @@ counted_classes_spec = tie.close (tie.spec
     (λ c κs. search rules)
     (λ c κs. search rules)
     (λ c.
-    record { fits = omega (arith, c.size.ensures, size_most registers c.before.names.result) })
-    (λ c. c.size.ensures ∙ ap (size_of registers) c.before.names.ensures))
+    record { fits = omega (arith, c.size.ensures, size_most registers c.names.result) })
+    (λ c. c.size.ensures ∙ ap (size_of registers) c.names.ensures))

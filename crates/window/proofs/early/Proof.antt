@@ -9,5 +9,5 @@ early_spec = tie.close (tie.spec
     (λ c. search rules)
     (λ c. search rules)
     (λ c. search rules) (λ c κs. search rules)
-    (λ c u r e i n. rw c.before.before.if1.true c.holds.ensures)
-    (λ c u r e i n. rw c.if1.false))
+    (λ c u r e i n. rw c.if-mark-x.true c.holds.ensures)
+    (λ c u r e i n. rw c.if-mark-x.false))

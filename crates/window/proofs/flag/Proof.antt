@@ -9,5 +9,5 @@ unfolding flag_of
 flag_spec = tie.close (tie.spec
     (λ c κs. search rules)
     (λ c κs. search rules)
-    (λ c. rw (sym c.before.before.inhabited.ensures ∙ c.before.if1.true) c.single.ensures)
-    (λ c. rw (sym c.before.inhabited.ensures ∙ c.if1.false)))
+    (λ c. rw (sym c.inhabited.ensures ∙ c.if-inhabited.true) c.single.ensures)
+    (λ c. rw (sym c.inhabited.ensures ∙ c.if-inhabited.false)))

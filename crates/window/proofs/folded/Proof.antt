@@ -7,10 +7,10 @@ use Rattle.window.specs.Marks.{folded_of, union_of}
 use Rattle.window.proofs.folded.Statement.{statement}
 use Rattle.window.proofs.folded.Tie as tie
 
-abbrev invariant_loop : tie.invariant_loop
+abbrev invariant_loop : tie.invariant-loop-i
 invariant_loop result next₀ i₀ next i = WrittenUpTo (λ k. union_of result k register_pairs functions) 0 register_pairs i next
 
-abbrev decreases_loop : tie.decreases_loop
+abbrev decreases_loop : tie.decreases-loop-i
 decreases_loop result next₀ i₀ next i = register_pairs - i
 
 pub folded_spec : {M : Type 1} → statement M
@@ -23,5 +23,5 @@ folded_spec = tie.close (tie.spec
     (λ c. search rules)
     (λ c. search rules)
     (λ c. search rules)
-    (λ c. written_more _ _ _ _ _ _ c.before.before.loop.invariant c.before.loop_test.true c.results_at.ensures)
-    (λ c. written_all _ _ _ _ _ c.before.loop.invariant c.loop_test.false))
+    (λ c. written_more _ _ _ _ _ _ c.loop-i.invariant c.loop-i-test.true c.results_at.ensures)
+    (λ c. written_all _ _ _ _ _ c.loop-i.invariant c.loop-i-test.false))

@@ -11,6 +11,4 @@ forget_masks_spec = tie.close (tie.spec
     (λ c κs. search rules)
     (λ c. search rules)
     (λ c.
-    let at_clear_column = c.before.before in
-    let k = at_clear_column.before.before.before.before in
-    forgotten_is registers _ _ _ _ _ k.before.single.ensures k.move_bits.ensures at_clear_column.clear_column.ensures))
+    forgotten_is registers _ _ _ _ _ c.single.ensures c.move_bits.ensures c.clear_column.ensures))

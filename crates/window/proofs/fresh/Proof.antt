@@ -19,4 +19,4 @@ fresh_spec = tie.close (tie.spec
           replicate registers false;
       infeasible = false;
       classes = n;
-    }) c.before.own_classes.ensures c.count_at_start.ensures))
+    }) c.own_classes-class.ensures c.count_at_start-classes.ensures))

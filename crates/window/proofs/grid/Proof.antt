@@ -7,6 +7,6 @@ use Rattle.window.proofs.grid.Tie as tie
 pub grid_spec : {M : Type 1} → statement M
 grid_spec = tie.close (tie.spec (λ c κs. search rules) (λ c κs. search rules)
     (λ c. record {
-      fits = rw c.before.first_flags.ensures (grid_small registers c.before.before.args.one c.wide.result c.wide.ensures.1);
+      fits = rw c.first_flags.ensures (grid_small registers c.args.one c.wide.result c.wide.ensures.1);
     })
-    (λ c. rw (c.before.first_flags.ensures, c.wide.ensures.0) (grid_scaled registers c.before.before.args.one c.before.before.args.two)))
+    (λ c. rw (c.first_flags.ensures, c.wide.ensures.0) (grid_scaled registers c.args.one c.args.two)))

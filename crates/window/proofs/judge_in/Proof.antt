@@ -13,23 +13,21 @@ judge_in_spec = tie.close (tie.spec
     (λ c. search rules)
     (λ c. search rules)
     (λ c. search rules)
-    (λ c κs. let p = subst WithinPacking c.before.letter.given.1 c.before.before.before.requires in (p.1, p.2, p.3))
+    (λ c κs. let p = subst WithinPacking c.in-Apply.is c.requires in (p.1, p.2, p.3))
     (λ c. search rules)
     (λ c. search rules)
     (λ c. search rules)
-    (λ c κs. subst WithinPacking c.before.letter2.given.1 c.before.before.before.requires)
+    (λ c κs. subst WithinPacking c.in-Equal.is c.requires)
     (λ c. search rules)
-    (λ c u i n. let a = c.before.before.args in
-    subst (λ l. true ≡ judge_of (window_of_parts a.class.now u a.result.now a.ever.now a.mark.now i n) l) (sym c.enum_told.given.1) refl)
+    (λ c u i n. let a = c.args in
+    subst (λ l. true ≡ judge_of (window_of_parts a.class.now u a.res.now a.ever.now a.mark.now i n) l) (sym c.in-Copy.is) refl)
     (λ c u i n.
-    let at_letter = c.before.before in
-    let a = at_letter.before.before.args in
-    subst (λ l. c.memoizing.result ≡ judge_of (window_of_parts a.class.now u a.result.now a.ever.now a.mark.now i n) l)
-    (sym at_letter.letter.given.1) (c.memoizing.ensures a.class.now u a.mark.now i n))
+    let a = c.args in
+    subst (λ l. c.memoizing.result ≡ judge_of (window_of_parts a.class.now u a.res.now a.ever.now a.mark.now i n) l)
+    (sym c.in-Apply.is) (c.memoizing.ensures a.class.now u a.mark.now i n))
     (λ c u i n.
-    let at_letter2 = c.before.before in
-    let a = at_letter2.before.before.args in
-    subst (λ l. c.early.result ≡ judge_of (window_of_parts a.class.now u a.result.now a.ever.now a.mark.now i n) l)
-    (sym at_letter2.letter2.given.1) (c.early.ensures u a.result.now a.ever.now i n))
-    (λ c u i n. let a = c.before.before.args in
-    subst (λ l. true ≡ judge_of (window_of_parts a.class.now u a.result.now a.ever.now a.mark.now i n) l) (sym c.enum_told2.given.1) refl))
+    let a = c.args in
+    subst (λ l. c.early.result ≡ judge_of (window_of_parts a.class.now u a.res.now a.ever.now a.mark.now i n) l)
+    (sym c.in-Equal.is) (c.early.ensures u a.res.now a.ever.now i n))
+    (λ c u i n. let a = c.args in
+    subst (λ l. true ≡ judge_of (window_of_parts a.class.now u a.res.now a.ever.now a.mark.now i n) l) (sym c.in-Unequal.is) refl))

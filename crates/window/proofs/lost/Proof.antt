@@ -15,12 +15,6 @@ lost_spec = tie.close (tie.spec
     (λ c κs. search rules)
     (λ c κs. search rules)
     (λ c.
-    let at_flag = c.before.before in
-    let at_beside = at_flag.before in
-    let at_below = at_beside.before.before in
-    let at_single = at_below.before in
-    let at_above = at_single.before.before in
-    let at_folded = at_above.before.before in
-    lost_is registers functions _ _ _ _ _ _ _ _ _ _ at_folded.folded.ensures
-    at_above.above.ensures at_single.single.ensures at_below.below.ensures at_beside.beside.ensures at_flag.flag.ensures
+    lost_is registers functions _ _ _ _ _ _ _ _ _ _ c.folded-t.ensures
+    c.above-up.ensures c.single.ensures c.below.ensures c.beside.ensures c.flag.ensures
     c.raised.ensures))

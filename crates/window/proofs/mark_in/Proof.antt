@@ -12,10 +12,10 @@ use Rattle.window.proofs.Theory.Marks.{mark_is}
 use Rattle.window.proofs.mark_in.Statement.{statement}
 use Rattle.window.proofs.mark_in.Tie as tie
 
-abbrev invariant_loop : tie.invariant_loop
+abbrev invariant_loop : tie.invariant-loop-i
 invariant_loop mark₀ s i₀ mark i = Swept (λ k. get_or mark₀ k false || has s k) false mark₀ i mark
 
-abbrev decreases_loop : tie.decreases_loop
+abbrev decreases_loop : tie.decreases-loop-i
 decreases_loop mark₀ s i₀ mark i = registers - i
 
 pub mark_in_spec : {M : Type 1} → statement M
@@ -30,12 +30,10 @@ mark_in_spec = tie.close (tie.spec
     (λ c. search rules)
     (λ c. search rules)
     (λ c.
-    let at_loop = c.before.before.before in
-    let at_start = at_loop.before in
-    let args = at_start.args in
-    let loop = at_loop.loop in
-    swept_more _ _ _ _ _ _ loop.invariant (omega (arith, at_start.requires)) (mark_is loop.mark args.s loop.i _ c.holds.ensures
+    let args = c.args in
+    let loop = c.loop-i in
+    swept_more _ _ _ _ _ _ loop.invariant (omega (arith, c.requires)) (mark_is loop.mark args.s loop.i _ c.holds.ensures
     ∙ ap (λ v. v || has args.s loop.i) (loop.invariant.ahead _ (omega arith))))
     (λ c.
-    let pre_of = c.before.before.requires in
-    (rw (← pre_of) (swept_all _ _ _ _ _ c.before.loop.invariant (omega (arith, pre_of))), c.before.loop.invariant.long ∙ pre_of)))
+    let pre_of = c.requires in
+    (rw (← pre_of) (swept_all _ _ _ _ _ c.loop-i.invariant (omega (arith, pre_of))), c.loop-i.invariant.long ∙ pre_of)))

@@ -15,5 +15,5 @@ memoizing_spec = tie.close (tie.spec
     (λ c. search rules)
     (λ c. search rules)
     (λ c κs. search rules)
-    (λ c k u m i n. rw (sym c.before.before.before.holds.ensures ∙ c.before.before.if1.true) c.inhabited.ensures)
-    (λ c k u m i n. rw (sym c.before.holds.ensures ∙ c.if1.false)))
+    (λ c k u m i n. rw (sym c.holds.ensures ∙ c.if-holds.true) c.inhabited.ensures)
+    (λ c k u m i n. rw (sym c.holds.ensures ∙ c.if-holds.false)))

@@ -12,7 +12,7 @@ use Rattle.window.proofs.merge_in.Statement.{statement}
 use Rattle.window.proofs.merge_in.Tie as tie
 
 abbrev start : tie.After-single → tie.Start
-start c = c.before.before.before.before.before
+start c = c.before.before.before.before.before.before
 
 -- the first register is in the class of both
 in_both : (c : tie.After-single) → let a = (start c).args in
@@ -27,31 +27,24 @@ merge_in_spec = tie.close (tie.spec
     (λ c. search rules)
     (λ c κs. search rules)
     (λ c κs.
-    let at_single = c.before in
-    (search rules, search rules, in_both at_single, whole registers 1 (start at_single).args.class.now (start at_single).requires.2.class))
+    (search rules, search rules, in_both c.before, whole registers 1 (start c.before).args.class.now (start c.before).requires.2.class))
     (λ c κs.
-    let at_single = c.before.before.before in
-    (search rules, search rules, in_both at_single, whole registers 1 (start at_single).args.unequal.now (start at_single).requires.2.unequal))
+    (search rules, search rules, in_both c.before.before.before, whole registers 1 (start c.before.before.before).args.unequal.now (start c.before.before.before).requires.2.unequal))
     (λ c κs. (search rules, search rules, in_both c.before.before.before.before.before, search rules))
     (λ c κs.
-    let at_single = c.before.before.before.before.before.before.before in
-    (search rules, search rules, in_both at_single, whole registers functions (start at_single).args.ever.now (start at_single).requires.2.ever))
+    (search rules, search rules, in_both c.before.before.before.before.before.before.before, whole registers functions (start c.before.before.before.before.before.before.before).args.ever.now (start c.before.before.before.before.before.before.before).requires.2.ever))
     (λ c.
-    let at_merge_results = c.before.before in
-    let at_merge_masks2 = at_merge_results.before.before in
-    let at_merge_masks = at_merge_masks2.before.before in
-    let at_single = at_merge_masks.before.before in
-    let a = (start at_single).args in
-    let lengths = (start at_single).requires.2 in (
-      (λ m i. merged_is registers functions (window_of_parts a.class.now a.unequal.now a.result.now a.ever.now m i
-          a.count.now) a.a a.b _ _ _ _ _ _ _ at_single.single.ensures at_merge_masks.merge_masks.ensures
-          at_merge_masks2.merge_masks2.ensures at_merge_results.merge_results.ensures c.merge_masks3.ensures
-          at_single.before.before.before.one_fewer.ensures refl),
+    let a = (start c.before.before.before.before.before.before.before.before).args in
+    let lengths = (start c.before.before.before.before.before.before.before.before).requires.2 in (
+      (λ m i. merged_is registers functions (window_of_parts a.class.now a.unequal.now a.res.now a.ever.now m i
+          a.count.now) a.a a.b _ _ _ _ _ _ _ c.single.ensures c.merge_masks.ensures
+          c.merge_masks-2.ensures c.merge_results.ensures c.merge_masks-3.ensures
+          c.one_fewer.ensures refl),
       record {
-        class = ap length at_merge_masks.merge_masks.ensures ∙ masks_length registers a.a a.b _ a.class.now
+        class = ap length c.merge_masks.ensures ∙ masks_length registers a.a a.b _ a.class.now
             ∙ lengths.class;
-        unequal = ap length at_merge_masks2.merge_masks2.ensures ∙ masks_length registers a.a a.b _ a.unequal.now ∙ lengths.unequal;
-        result = ap length at_merge_results.merge_results.ensures ∙ results_length registers a.a a.b _ a.result.now ∙ lengths.result;
-        ever = ap length c.merge_masks3.ensures ∙ masks_length registers a.a a.b _ a.ever.now ∙ lengths.ever;
+        unequal = ap length c.merge_masks-2.ensures ∙ masks_length registers a.a a.b _ a.unequal.now ∙ lengths.unequal;
+        result = ap length c.merge_results.ensures ∙ results_length registers a.a a.b _ a.res.now ∙ lengths.result;
+        ever = ap length c.merge_masks-3.ensures ∙ masks_length registers a.a a.b _ a.ever.now ∙ lengths.ever;
       },
     )))

@@ -17,14 +17,8 @@ merge_masks_spec = tie.close (tie.spec
     (λ c κs. search rules)
     (λ c. search rules)
     (λ c.
-    let at_move_bits = c.before.before in
-    let at_single2 = at_move_bits.before in
-    let at_single = at_single2.before in
-    let at_spread_column = at_single.before.before.before.before in
-    let at_unite_column = at_spread_column.before.before.before.before in
-    let at_pre = at_unite_column.before.before.before in
-    let p = at_pre.requires in
+    let p = c.requires in
     masks_merged registers _ _ _ _ _ _ _
     (merged_twice (columns registers) (columns_partition registers) _ _ _ p.0 _ _ _ _ (columns_span registers _ _ p.3 refl) p.2
-    at_unite_column.unite_column.ensures at_spread_column.spread_column.ensures)
-    (ap₂ bit_or at_single.single.ensures at_single2.single2.ensures) at_move_bits.move_bits.ensures))
+    c.unite_column.ensures c.spread_column.ensures)
+    (ap₂ bit_or c.single.ensures c.single-2.ensures) c.move_bits.ensures))

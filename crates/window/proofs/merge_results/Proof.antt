@@ -20,21 +20,13 @@ merge_results_spec = tie.close (tie.spec
     (λ c κs. search rules)
     (λ c. search rules)
     (λ c.
-    let at_move_bits = c.before.before in
-    let at_single2 = at_move_bits.before in
-    let at_single = at_single2.before in
-    let at_spread_row = at_single.before.before.before.before in
-    let at_unite_row = at_spread_row.before.before.before.before in
-    let at_spread_column = at_unite_row.before.before.before.before in
-    let at_unite_column = at_spread_column.before.before.before.before in
-    let at_start = at_unite_column.before.before.before in
-    let p = at_start.requires in
+    let p = c.requires in
     let m = merged_twice (columns registers) (columns_partition registers) _ _ _ p.0 _ _ _ _
-    (columns_span registers _ _ (whole registers lines at_start.args.t.now p.3) refl) p.2 at_unite_column.unite_column.ensures
-    at_spread_column.spread_column.ensures in
+    (columns_span registers _ _ (whole registers lines c.args.t.now p.3) refl) p.2 c.unite_column.ensures
+    c.spread_column.ensures in
     results_merged registers _ _ _ _ _ _ _ _
     m
     (merged_twice (rows registers) (rows_partition registers) _ _ _ p.0 _ _ _ _
     (rows_span registers functions _ (ap length m ∙ united_length (columns registers) _ _ _ _ ∙ p.3))
-    p.2 at_unite_row.unite_row.ensures at_spread_row.Spread-row.ensures)
-    (ap₂ bit_or at_single.single.ensures at_single2.single2.ensures) at_move_bits.move_bits.ensures))
+    p.2 c.unite_row.ensures c.spread_row.ensures)
+    (ap₂ bit_or c.single.ensures c.single-2.ensures) c.move_bits.ensures))

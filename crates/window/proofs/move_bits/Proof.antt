@@ -9,10 +9,10 @@ use Rattle.window.proofs.Theory.Table.{Swept, swept_none, swept_all}
 use Rattle.window.proofs.move_bits.Statement.{statement}
 use Rattle.window.proofs.move_bits.Tie as tie
 
-abbrev invariant_loop : tie.invariant_loop
+abbrev invariant_loop : tie.invariant-loop-i
 invariant_loop t₀ from to i₀ t i = Swept (λ k. mask_moved (get_or t₀ k 0) from to) 0 t₀ i t
 
-abbrev decreases_loop : tie.decreases_loop
+abbrev decreases_loop : tie.decreases-loop-i
 decreases_loop t₀ from to i₀ t i = length t₀ - i
 
 pub move_bits_spec : {M : Type 1} → statement M
@@ -25,7 +25,7 @@ move_bits_spec = tie.close (tie.spec
     (λ c κs. search rules)
     (λ c. search rules)
     (λ c. search rules)
-    (λ c. omega (arith, c.before.before.before.loop.invariant.long))
-    (λ c. moved_turn _ _ _ _ _ _ c.before.before.before.loop.invariant c.before.before.loop_test.true c.moved.ensures)
-    (λ c. c.before.loop.invariant.long)
-    (λ c. swept_all _ _ _ _ _ c.before.loop.invariant (omega (arith, c.before.loop.invariant.long, c.loop_test.false))))
+    (λ c. omega (arith, c.loop-i.invariant.long))
+    (λ c. moved_turn _ _ _ _ _ _ c.loop-i.invariant c.loop-i-test.true c.moved.ensures)
+    (λ c. c.loop-i.invariant.long)
+    (λ c. swept_all _ _ _ _ _ c.loop-i.invariant (omega (arith, c.loop-i.invariant.long, c.loop-i-test.false))))

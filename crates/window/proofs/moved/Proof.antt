@@ -5,4 +5,4 @@ use Rattle.window.proofs.moved.Tie as tie
 
 pub moved_spec : {M : Type 1} → statement M
 unfolding mask_moved minus
-moved_spec = tie.close (tie.spec (λ c. rw (eq-eqb _ _ c.if1.true)) (λ c. rw (ne_eqb _ _ c.if1.false)))
+moved_spec = tie.close (tie.spec (λ c. rw (eq-eqb _ _ c.if-m-from-eq0.true)) (λ c. rw (ne_eqb _ _ c.if-m-from-eq0.false)))

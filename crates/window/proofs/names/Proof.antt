@@ -8,10 +8,10 @@ use Rattle.window.proofs.Theory.Naming.{names_none, names_more, names_all}
 use Rattle.window.proofs.names.Statement.{statement}
 use Rattle.window.proofs.names.Tie as tie
 
-abbrev invariant_loop : tie.invariant_loop
+abbrev invariant_loop : tie.invariant-loop-r
 invariant_loop class m₀ r₀ m r = (r ≤ registers) × (m ≡ naming_below registers class r)
 
-abbrev decreases_loop : tie.decreases_loop
+abbrev decreases_loop : tie.decreases-loop-r
 decreases_loop class m₀ r₀ m r = registers - r
 
 pub names_spec : {M : Type 1} → statement M
@@ -25,11 +25,9 @@ names_spec = tie.close (tie.spec
     (λ c. search rules)
     (λ c. search rules)
     (λ c.
-    let at_name = c.before in
-    let at_loop_test = at_name.before.before in
-    let at_loop = at_loop_test.before in (
-      omega (arith, at_loop_test.loop_test.true),
-      names_more registers at_loop.before.args.class.now at_loop.loop.r at_loop.loop.m _ _ at_loop.loop.invariant.1 at_name.name.ensures
-          c.single_if.ensures,
+    (
+      omega (arith, c.loop-r-test.true),
+      names_more registers c.args.class.now c.loop-r.r c.loop-r.m _ _ c.loop-r.invariant.1 c.name.ensures
+          c.single_if-m.ensures,
     ))
-    (λ c. names_all registers _ _ _ c.before.loop.invariant.0 c.loop_test.false c.before.loop.invariant.1))
+    (λ c. names_all registers _ _ _ c.loop-r.invariant.0 c.loop-r-test.false c.loop-r.invariant.1))

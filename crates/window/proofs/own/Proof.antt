@@ -6,4 +6,4 @@ use Rattle.window.proofs.own.Tie as tie
 
 pub own_spec : {M : Type 1} → statement M
 unfolding own_of
-own_spec = tie.close (tie.spec (λ c κs. search rules) (λ c. rw (lt-ltb _ _ c.before.if1.true) c.single.ensures) (λ c. rw (le-ltb _ _ c.if1.false)))
+own_spec = tie.close (tie.spec (λ c κs. search rules) (λ c. rw (lt-ltb _ _ c.if-i-count.true) c.single.ensures) (λ c. rw (le-ltb _ _ c.if-i-count.false)))

@@ -7,10 +7,10 @@ use Rattle.window.specs.Performing.{own_of}
 use Rattle.window.proofs.own_classes.Statement.{statement}
 use Rattle.window.proofs.own_classes.Tie as tie
 
-abbrev invariant_loop : tie.invariant_loop
+abbrev invariant_loop : tie.invariant-loop-i
 invariant_loop count next₀ i₀ next i = WrittenUpTo (own_of count) 0 registers i next
 
-abbrev decreases_loop : tie.decreases_loop
+abbrev decreases_loop : tie.decreases-loop-i
 decreases_loop count next₀ i₀ next i = registers - i
 
 pub own_classes_spec : {M : Type 1} → statement M
@@ -22,5 +22,5 @@ own_classes_spec = tie.close (tie.spec
     (λ c. search rules)
     (λ c. search rules)
     (λ c. search rules)
-    (λ c. written_more _ _ _ _ _ _ c.before.before.loop.invariant c.before.loop_test.true c.own.ensures)
-    (λ c. written_all _ _ _ _ _ c.before.loop.invariant c.loop_test.false))
+    (λ c. written_more _ _ _ _ _ _ c.loop-i.invariant c.loop-i-test.true c.own.ensures)
+    (λ c. written_all _ _ _ _ _ c.loop-i.invariant c.loop-i-test.false))

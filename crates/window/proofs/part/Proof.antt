@@ -8,5 +8,5 @@ pub part_spec : {M : Type 1} → statement M
 unfolding part_of
 part_spec = tie.close (tie.spec
     (λ c κs. search rules)
-    (λ c. rw (sym c.before.holds.ensures ∙ c.if1.true))
-    (λ c. rw (sym c.before.holds.ensures ∙ c.if1.false)))
+    (λ c. rw (sym c.holds.ensures ∙ c.if-holds.true))
+    (λ c. rw (sym c.holds.ensures ∙ c.if-holds.false)))

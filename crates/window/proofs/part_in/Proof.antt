@@ -12,10 +12,10 @@ use Rattle.window.proofs.Theory.Rows.{row_parted, part_below}
 use Rattle.window.proofs.part_in.Statement.{statement}
 use Rattle.window.proofs.part_in.Tie as tie
 
-abbrev invariant_loop : tie.invariant_loop
+abbrev invariant_loop : tie.invariant-loop-i
 invariant_loop unequal₀ one two flags i₀ unequal i = Swept (λ r. bit_or (bit_or (get_or unequal₀ r 0) (part_of one two r)) (part_of two one r)) 0 unequal₀ i unequal
 
-abbrev decreases_loop : tie.decreases_loop
+abbrev decreases_loop : tie.decreases-loop-i
 decreases_loop unequal₀ one two flags i₀ unequal i = registers - i
 
 pub part_in_spec : {M : Type 1} → statement M
@@ -32,21 +32,14 @@ part_in_spec = tie.close (tie.spec
     (λ c. search rules)
     (λ c. search rules)
     (λ c.
-    let at_loop_test = c.before in
-    let at_loop = at_loop_test.before in
-    let at_grid2 = at_loop.before in
-    let at_grid = at_grid2.before in
-    let at_joined = at_grid.before in
-    let at_start = at_joined.before.before in
-    let a = at_start.args in
-    let k = at_loop.loop in
+    let a = c.args in
+    let k = c.loop-i in
     let one : a.one < 2 ^ registers = search rules in
     let two : a.two < 2 ^ registers = search rules in
-    swept_more _ _ _ _ _ _ k.invariant (omega (arith, at_start.requires, at_loop_test.loop_test.true)) (c.row.ensures
-    ∙ rw (at_joined.joined_rows.ensures.0, at_grid.grid.ensures, at_grid2.grid2.ensures)
-    (row_parted registers a.unequal.now (part_of a.one a.two) (part_of a.two a.one) k.i at_joined.joined_rows.ensures.1
-    (part_below registers a.one a.two two) (part_below registers a.two a.one one) at_loop_test.loop_test.true)))
+    swept_more _ _ _ _ _ _ k.invariant (omega (arith, c.requires, c.loop-i-test.true)) (c.row.ensures
+    ∙ rw (c.joined_rows.ensures.0, c.grid.ensures, c.grid-2.ensures)
+    (row_parted registers a.unequal.now (part_of a.one a.two) (part_of a.two a.one) k.i c.joined_rows.ensures.1
+    (part_below registers a.one a.two two) (part_below registers a.two a.one one) c.loop-i-test.true)))
     (λ c.
-    let at_start = c.before.before.before.before.before.before in
-    let pre_of = at_start.requires in
-    (rw (← pre_of) (swept_all _ _ _ _ _ c.before.loop.invariant (omega (arith, pre_of))), c.before.loop.invariant.long ∙ pre_of)))
+    let pre_of = c.requires in
+    (rw (← pre_of) (swept_all _ _ _ _ _ c.loop-i.invariant (omega (arith, pre_of))), c.loop-i.invariant.long ∙ pre_of)))

@@ -9,7 +9,7 @@ use Rattle.window.proofs.perform_in.Statement.{statement}
 use Rattle.window.proofs.perform_in.Tie as tie
 
 abbrev entry : tie.Start → Window
-entry c = let a = c.args in window_of_parts a.class.now a.unequal.now a.result.now a.ever.now a.mark.now a.infeasible
+entry c = let a = c.args in window_of_parts a.class.now a.unequal.now a.res.now a.ever.now a.mark.now a.infeasible
     a.count.now
 
 within : (c : tie.Start) {l : Letter} → c.args.letter ≡ l → WithinPacking l
@@ -21,51 +21,35 @@ perform_in_spec = tie.close (tie.spec
     (λ c. search rules)
     (λ c. search rules)
     (λ c κs.
-    let at_letter = c.before.before.before.before.before.before.before in
-    let start = at_letter.before.before in
-    let p = within start at_letter.letter.given.1 in (p.0, p.1, start.requires.1))
+    let p = within c.before.before.before.before.before.before.before c.in-Copy.is in (p.0, p.1, c.requires.1))
     (λ c. search rules)
     (λ c. search rules)
     (λ c. search rules)
     (λ c. search rules)
     (λ c. search rules)
     (λ c κs.
-    let at_letter = c.before.before.before.before.before.before.before in
-    let start = at_letter.before.before in
-    let p = within start at_letter.letter2.given.1 in (p.0, p.1, p.2, p.3, start.requires.1))
+    let p = within c.before.before.before.before.before.before.before c.in-Apply.is in (p.0, p.1, p.2, p.3, c.requires.1))
     (λ c. search rules) (λ c. search rules) (λ c. search rules)
     (λ c κs.
-    let at_letter = c.before.before.before.before.before.before in
-    let start = at_letter.before.before in
-    let p = within start at_letter.letter3.given.1 in
-    let s = start.requires.1 in (p.0, p.1, record { class = s.class; unequal = s.unequal; result = s.result; ever = s.ever }))
+    let p = within c.before.before.before.before.before.before c.in-Equal.is in
+    let s = c.requires.1 in (p.0, p.1, record { class = s.class; unequal = s.unequal; result = s.result; ever = s.ever }))
     (λ c. search rules)
     (λ c. search rules)
     (λ c. search rules)
     (λ c κs.
-    let at_letter = c.before.before.before in
-    let start = at_letter.before.before in
-    let p = within start at_letter.letter4.given.1 in (p.0, p.1, start.requires.1.unequal))
+    let p = within c.before.before c.in-Unequal.is in (p.0, p.1, c.requires.1.unequal))
     (λ c.
-    let at_letter = c.before.before.before.before.before.before.before.before in
-    let start = at_letter.before.before in
-    (told _ (entry start) _ _ at_letter.letter.given.1 (c.copy_in.ensures.0 start.args.infeasible), c.copy_in.ensures.1))
+    (told _ (entry c.before.before.before.before.before.before.before.before) _ _ c.in-Copy.is (c.copy_in.ensures.0 c.args.infeasible), c.copy_in.ensures.1))
     (λ c.
-    let at_letter = c.before.before.before.before.before.before.before.before in
-    let start = at_letter.before.before in
-    (told _ (entry start) _ _ at_letter.letter2.given.1 (c.apply_in.ensures.0 start.args.infeasible), c.apply_in.ensures.1))
+    (told _ (entry c.before.before.before.before.before.before.before.before) _ _ c.in-Apply.is (c.apply_in.ensures.0 c.args.infeasible), c.apply_in.ensures.1))
     (λ c.
-    let at_letter = c.before.before.before.before.before.before.before in
-    let start = at_letter.before.before in
     let l = c.equal_in.ensures.1 in (
-      told _ (entry start) _ _ at_letter.letter3.given.1 (c.equal_in.ensures.0 start.args.mark.now),
-      record { class = l.class; unequal = l.unequal; result = l.res; ever = l.ever; mark = start.requires.1.mark },
+      told _ (entry c.before.before.before.before.before.before.before) _ _ c.in-Equal.is (c.equal_in.ensures.0 c.args.mark.now),
+      record { class = l.class; unequal = l.unequal; result = l.result; ever = l.ever; mark = c.requires.1.mark },
     ))
     (λ c.
-    let at_letter = c.before.before.before.before in
-    let start = at_letter.before.before in
-    let a = start.args in
-    let s = start.requires.1 in (
-      told _ (entry start) _ _ at_letter.letter4.given.1 (c.unequal_in.ensures.0 a.result.now a.ever.now a.mark.now a.count.now),
+    let a = c.args in
+    let s = c.requires.1 in (
+      told _ (entry c.before.before.before) _ _ c.in-Unequal.is (c.unequal_in.ensures.0 a.res.now a.ever.now a.mark.now a.count.now),
       record { class = s.class; unequal = c.unequal_in.ensures.1; result = s.result; ever = s.ever; mark = s.mark },
     )))

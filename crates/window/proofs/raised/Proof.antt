@@ -6,10 +6,10 @@ use Rattle.window.proofs.Theory.Marks.{Rising, rising_none, rising_more, rising_
 use Rattle.window.proofs.raised.Statement.{statement}
 use Rattle.window.proofs.raised.Tie as tie
 
-abbrev invariant_loop : tie.invariant_loop
+abbrev invariant_loop : tie.invariant-loop-t
 invariant_loop up seed s₀ t₀ s t = Rising registers up seed s t
 
-abbrev decreases_loop : tie.decreases_loop
+abbrev decreases_loop : tie.decreases-loop-t
 decreases_loop up seed s₀ t₀ s t = 2 ^ registers - s
 
 pub raised_spec : {M : Type 1} → statement M
@@ -19,6 +19,6 @@ raised_spec = tie.close (tie.spec
     (λ c κs. search rules)
     (λ c. rising_none registers _ _ _ (search rules) c.below.ensures)
     (λ c κs. search rules)
-    (λ c. let r = c.before.before.loop.invariant in omega (arith, rising_grows registers _ _ _ _ r, c.before.loop_test.true, r.small))
-    (λ c. rising_more registers _ _ _ _ _ c.before.before.loop.invariant c.before.loop_test.true c.below2.ensures)
-    (λ c. rising_all registers _ _ _ _ c.before.loop.invariant c.loop_test.false))
+    (λ c. let r = c.loop-t.invariant in omega (arith, rising_grows registers _ _ _ _ r, c.loop-t-test.true, r.small))
+    (λ c. rising_more registers _ _ _ _ _ c.loop-t.invariant c.loop-t-test.true c.below-in-loop-t.ensures)
+    (λ c. rising_all registers _ _ _ _ c.loop-t.invariant c.loop-t-test.false))

@@ -11,5 +11,5 @@ rest_spec = tie.close (tie.spec
     (λ c κs. search rules)
     (λ c. search rules)
     (λ c. search rules)
-    (λ c. rest_some registers functions _ _ _ c.before.before.before.name.ensures c.before.before.if1.true)
-    (λ c. rest_none registers functions _ _ _ c.before.name.ensures c.if1.false))
+    (λ c. rest_some registers functions _ _ _ c.name-one.ensures c.if-one-lt-REGISTERS.true)
+    (λ c. rest_none registers functions _ _ _ c.name-one.ensures c.if-one-lt-REGISTERS.false))

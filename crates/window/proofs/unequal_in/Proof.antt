@@ -13,11 +13,9 @@ unequal_in_spec = tie.close (tie.spec
     (λ c κs. search rules)
     (λ c κs. search rules)
     (λ c.
-    let at_part_in = c.before.before.before in
-    let at_two = at_part_in.before.before in
-    let a = at_two.before.before.args in
-    let part_in = at_part_in.part_in in (
+    let a = c.args in
+    let part_in = c.part_in in (
       (λ r e m n. unequal_is registers functions (window_of_parts a.class.now a.unequal.now r e m a.infeasible n) a.x a.y _ _ _
-          part_in.ensures.0 c.before.holds.ensures (c.settle_in.ensures.0 a.class.now r e m n)),
+          part_in.ensures.0 c.holds.ensures (c.settle_in.ensures.0 a.class.now r e m n)),
       c.settle_in.ensures.1 part_in.ensures.1,
     )))

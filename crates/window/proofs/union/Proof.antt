@@ -8,10 +8,10 @@ use Rattle.window.proofs.Theory.Marks.{union_more, union_none, union_all, steppe
 use Rattle.window.proofs.union.Statement.{statement}
 use Rattle.window.proofs.union.Tie as tie
 
-abbrev invariant_loop : tie.invariant_loop
+abbrev invariant_loop : tie.invariant-loop-j
 invariant_loop t start step m₀ j₀ m j = (j ≤ registers) × (m ≡ union_of t start step j)
 
-abbrev decreases_loop : tie.decreases_loop
+abbrev decreases_loop : tie.decreases-loop-j
 decreases_loop t start step m₀ j₀ m j = registers - j
 
 pub union_spec : {M : Type 1} → statement M
@@ -19,10 +19,10 @@ union_spec = tie.close (tie.spec
     invariant_loop
     decreases_loop
     (λ c. (search rules, union_none _ _ _))
-    (λ c. let p = c.before.before.requires in let l = stepped registers register_pairs _ _ _ c.loop_test.true p.1 in search rules)
-    (λ c. let p = c.before.before.requires in let l = stepped registers register_pairs _ _ _ c.loop_test.true p.1 in search rules)
-    (λ c. stepped registers register_pairs _ _ _ c.loop_test.true c.before.before.requires.1)
+    (λ c. let p = c.requires in let l = stepped registers register_pairs _ _ _ c.loop-j-test.true p.1 in search rules)
+    (λ c. let p = c.requires in let l = stepped registers register_pairs _ _ _ c.loop-j-test.true p.1 in search rules)
+    (λ c. stepped registers register_pairs _ _ _ c.loop-j-test.true c.requires.1)
     (λ c. search rules)
     (λ c. search rules)
-    (λ c. (omega (arith, c.before.loop_test.true), union_more _ _ _ _ _ c.before.before.loop.invariant.1))
-    (λ c. union_all _ _ _ _ _ _ c.before.loop.invariant.0 c.loop_test.false c.before.loop.invariant.1))
+    (λ c. (omega (arith, c.loop-j-test.true), union_more _ _ _ _ _ c.loop-j.invariant.1))
+    (λ c. union_all _ _ _ _ _ _ c.loop-j.invariant.0 c.loop-j-test.false c.loop-j.invariant.1))

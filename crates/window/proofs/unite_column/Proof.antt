@@ -11,10 +11,10 @@ use Rattle.window.proofs.Theory.Through.{columns_span}
 use Rattle.window.proofs.unite_column.Statement.{statement}
 use Rattle.window.proofs.unite_column.Tie as tie
 
-abbrev invariant_loop : tie.invariant_loop
+abbrev invariant_loop : tie.invariant-loop-j
 invariant_loop t₀ r a b n j₀ t j = (n ≡ length t₀ / registers) × (j ≤ n) × Gone (columns registers) (united_at (columns registers) (λ s. eqb s r) a b t₀) r t₀ j t
 
-abbrev decreases_loop : tie.decreases_loop
+abbrev decreases_loop : tie.decreases-loop-j
 decreases_loop t₀ r a b n j₀ t j = n - j
 
 pub unite_column_spec : {M : Type 1} → statement M
@@ -24,21 +24,21 @@ unite_column_spec = tie.close (tie.spec
     (λ c. (refl, search rules, gone_none _ _ _ _))
     (λ c. search rules)
     (λ c. search rules)
-    (λ c. let k = c.before.before in omega (arith, k.loop.invariant.0, k.loop.invariant.2.long, c.before.loop_test.true, k.before.requires))
+    (λ c. omega (arith, c.loop-j.invariant.0, c.loop-j.invariant.2.long, c.loop-j-test.true, c.requires))
     (λ c. search rules)
     (λ c. search rules)
-    (λ c. let k = c.before.before.before in omega (arith, k.loop.invariant.0, k.loop.invariant.2.long, c.before.before.loop_test.true, k.before.requires))
+    (λ c. omega (arith, c.loop-j.invariant.0, c.loop-j.invariant.2.long, c.loop-j-test.true, c.requires))
     (λ c. search rules)
     (λ c. search rules)
-    (λ c. let k = c.before.before.before in omega (arith, k.loop.invariant.0, k.loop.invariant.2.long, c.before.before.loop_test.true, k.before.requires))
+    (λ c. omega (arith, c.loop-j.invariant.0, c.loop-j.invariant.2.long, c.loop-j-test.true, c.requires))
     (λ c. search rules)
     (λ c. search rules)
-    (λ c. let k = c.before.before.before in let l = c.before.before.loop_test.true in (
-      k.loop.invariant.0,
+    (λ c. let l = c.loop-j-test.true in (
+      c.loop-j.invariant.0,
       omega arith,
-      unite_more (columns registers) (columns_partition registers) _ _ _ _ _ _ _ (columns_span registers _ _ k.before.requires.3 k.loop.invariant.0)
-          k.before.requires.0 k.before.requires.1 k.before.requires.2 l k.loop.invariant.2,
+      unite_more (columns registers) (columns_partition registers) _ _ _ _ _ _ _ (columns_span registers _ _ c.requires.3 c.loop-j.invariant.0)
+          c.requires.0 c.requires.1 c.requires.2 l c.loop-j.invariant.2,
     ))
-    (λ c. c.before.loop.invariant.2.long)
-    (λ c. let k = c.before in united_all (columns registers) _ _ _ _ _ _ _ (columns_span registers _ _ k.before.requires.3 k.loop.invariant.0)
-    c.loop_test.false k.loop.invariant.2))
+    (λ c. c.loop-j.invariant.2.long)
+    (λ c. united_all (columns registers) _ _ _ _ _ _ _ (columns_span registers _ _ c.requires.3 c.loop-j.invariant.0)
+    c.loop-j-test.false c.loop-j.invariant.2))
