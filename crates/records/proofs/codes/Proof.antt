@@ -8,10 +8,10 @@ use borrow.Author.Rules.{rules}
 use Rattle.records.proofs.codes.Statement.{statement}
 use Rattle.records.proofs.codes.Tie as tie
 
-abbrev invariant_loop : tie.invariant_loop
+abbrev invariant_loop : tie.invariant-loop-j
 invariant_loop result ever codes₀ j₀ codes j = (length result ≡ 256) × (length ever ≡ 32) × (j ≤ 32) × Swept (code_byte result ever) 0 (replicate 128 0) (4 * j) codes
 
-abbrev decreases_loop : tie.decreases_loop
+abbrev decreases_loop : tie.decreases-loop-j
 decreases_loop result ever codes₀ j₀ codes j = 32 - j
 
 pub codes_spec : {M : Type 1} → statement M
@@ -30,11 +30,8 @@ codes_spec =
       search rules,
       search rules,
       search rules,
-      let at_is_blank = c.before in
-          let at_loop = at_is_blank.before.before.before in
-          let at_args = at_loop.before.before.before in
-          codes_past at_args.args.res.now at_args.args.ever.now at_loop.loop.codes at_loop.loop.j _ _ (omega arith) (search rules) refl
-          at_is_blank.is_blank.ensures c.if1.true at_loop.loop.invariant.3,
+      codes_past c.args.res.now c.args.ever.now c.loop-j.codes c.loop-j.j _ _ (omega arith) (search rules) refl
+          c.is_blank.ensures c.if-is_blank.true c.loop-j.invariant.3,
     ))
     (λ c. search rules)
     (λ c. search rules)
@@ -72,19 +69,10 @@ codes_spec =
       search rules,
       search rules,
       search rules,
-      let at_code_byte3 = c.before.before.before in
-          let at_code_byte2 = at_code_byte3.before.before.before in
-          let at_code_byte = at_code_byte2.before.before.before in
-          let at_if1 = at_code_byte.before.before.before in
-          let at_is_blank = at_if1.before in
-          let at_loop = at_is_blank.before.before.before in
-          let at_args = at_loop.before.before.before in
-          codes_turn at_args.args.res.now at_args.args.ever.now at_loop.loop.codes at_loop.loop.j _ _ _ _ _ (omega arith) refl
-          at_code_byte.code-byte.ensures at_code_byte2.code_byte2.ensures at_code_byte3.code_byte3.ensures c.code_byte4.ensures
-          at_loop.loop.invariant.3,
+      codes_turn c.args.res.now c.args.ever.now c.loop-j.codes c.loop-j.j _ _ _ _ _ (omega arith) refl
+          c.code_byte.ensures c.code_byte-else-is_blank.ensures c.code_byte-else-is_blank-2.ensures c.code_byte-else-is_blank-3.ensures
+          c.loop-j.invariant.3,
     ))
     (λ c.
-    let at_loop = c.before in
-    let at_args = at_loop.before.before.before in
-    swept_zeros _ 128 (4 * at_loop.loop.j) at_loop.loop.codes at_loop.loop.invariant.3 (omega arith)
-    ∙ sym (code-bytes at_args.args.res.now at_args.args.ever.now)))
+    swept_zeros _ 128 (4 * c.loop-j.j) c.loop-j.codes c.loop-j.invariant.3 (omega arith)
+    ∙ sym (code-bytes c.args.res.now c.args.ever.now)))

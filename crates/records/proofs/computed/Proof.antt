@@ -12,7 +12,7 @@ unfolding computed_of
 computed_spec =
     tie.close
     (tie.spec
-    (λ c. let b = c.before.before.args.both in let e : b / 16 % 16 ≡ b / 16 = omega arith in (search (decide, e), search rules))
-    (λ c. let b = c.before.before.args.both in let e : b / 16 % 16 ≡ b / 16 = omega arith in (search (decide, e), search rules))
-    (λ c. let b = c.before.before.args.both in let e : b / 16 % 16 ≡ b / 16 = omega arith in (search (decide, e), search rules))
-    (λ c. let b = c.before.before.args.both in let e : b / 16 % 16 ≡ b / 16 = omega arith in (search (decide, e), search rules)))
+    (λ c. let b = c.args.both in let e : b / 16 % 16 ≡ b / 16 = omega arith in (search (decide, e), search rules))
+    (λ c. let b = c.args.both in let e : b / 16 % 16 ≡ b / 16 = omega arith in (search (decide, e), search rules))
+    (λ c. let b = c.args.both in let e : b / 16 % 16 ≡ b / 16 = omega arith in (search (decide, e), search rules))
+    (λ c. let b = c.args.both in let e : b / 16 % 16 ≡ b / 16 = omega arith in (search (decide, e), search rules)))

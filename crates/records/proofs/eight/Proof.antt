@@ -10,7 +10,5 @@ eight_spec =
     tie.close
     (tie.spec (λ c. search rules) (λ c. search rules) (λ c. search rules) (λ c. search rules) (λ c. search rules) (λ c κs. search rules)
     (λ c.
-    let at_bytes = c.before.before.before in
-    let at_args = at_bytes.before.before in
-    copied _ at_args.args.part.now _ at_args.args.at 8 (at_args.args.at + 8 - at_args.args.at) (omega arith) (search rules)
-    (search rules) c.before.lay.ensures.0))
+    copied _ c.args.part.now _ c.args.at 8 (c.args.at + 8 - c.args.at) (omega arith) (search rules)
+    (search rules) c.lay.ensures.0))

@@ -9,10 +9,10 @@ use borrow.Author.Rules.{rules}
 use Rattle.records.proofs.fingerprint.Statement.{statement}
 use Rattle.records.proofs.fingerprint.Tie as tie
 
-abbrev invariant_loop : tie.invariant_loop
+abbrev invariant_loop : tie.invariant-loop-i
 invariant_loop content h₀ i₀ h i = (i ≤ 19) × (155 ≤ length content) × (mixed h (words_in (19 - i) (drop (8 * i) content)) ≡ mixed 0 (words_in 19 content))
 
-abbrev decreases_loop : tie.decreases_loop
+abbrev decreases_loop : tie.decreases-loop-i
 decreases_loop content h₀ i₀ h i = 19 - i
 
 pub fingerprint_spec : {M : Type 1} → statement M
@@ -31,11 +31,9 @@ fingerprint_spec =
     (λ c. (
       search rules,
       search rules,
-      let at_loop = c.before.before in
-          let at_args = at_loop.before.before in
-          mix_turn at_args.args.content.now at_loop.loop.mixed at_loop.loop.i _ (omega arith) c.word-in.ensures.0 ∙ at_loop.loop.invariant.2,
+      mix_turn c.args.content.now c.loop-i.mixed c.loop-i.i _ (omega arith) c.word_in.ensures.0 ∙ c.loop-i.invariant.2,
     ))
     (λ c. search rules)
     (λ c. search rules)
-    (λ c. mix_all c.before.before.before.args.content.now c.before.loop.mixed c.before.loop.i (omega arith)
-    c.before.loop.invariant.2))
+    (λ c. mix_all c.args.content.now c.loop-i.mixed c.loop-i.i (omega arith)
+    c.loop-i.invariant.2))

@@ -11,10 +11,10 @@ use borrow.Author.Rules.{rules}
 use Rattle.records.proofs.flags.Statement.{statement}
 use Rattle.records.proofs.flags.Tie as tie
 
-abbrev invariant_loop : tie.invariant_loop
+abbrev invariant_loop : tie.invariant-loop-i
 invariant_loop marks flags₀ i₀ flags i = (length marks ≡ 8) × WrittenUpTo (λ k. flag (get_or marks k false)) 0 8 i flags
 
-abbrev decreases_loop : tie.decreases_loop
+abbrev decreases_loop : tie.decreases-loop-i
 decreases_loop marks flags₀ i₀ flags i = 8 - i
 
 pub flags_spec : {M : Type 1} → statement M
@@ -29,10 +29,10 @@ flags_spec =
     (λ c. search rules)
     (λ c. search rules)
     (λ c. search rules)
-    (λ c. let x = c.before.before in let a = x.before.args in (
+    (λ c. let a = c.args in (
       search rules,
-      written_more (λ k. flag (get_or a.t1 k false)) 0 8 x.loop.i
-          x.loop.flags _ x.loop.invariant.1 (omega arith) c.flagged.ensures,
+      written_more (λ k. flag (get_or a.marks k false)) 0 8 c.loop-i.i
+          c.loop-i.flags _ c.loop-i.invariant.1 (omega arith) c.flagged.ensures,
     ))
-    (λ c. written_all (λ k. flag (get_or c.before.before.args.t1 k false)) 0 8 c.before.loop.i c.before.loop.flags c.before.loop.invariant.1
-    (omega arith) ∙ sym (map_table flag c.before.before.args.t1 8 false (search rules))))
+    (λ c. written_all (λ k. flag (get_or c.args.marks k false)) 0 8 c.loop-i.i c.loop-i.flags c.loop-i.invariant.1
+    (omega arith) ∙ sym (map_table flag c.args.marks 8 false (search rules))))

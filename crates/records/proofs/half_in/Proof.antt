@@ -25,10 +25,6 @@ half_in_spec =
     (λ c. search rules)
     (λ c. search rules)
     (λ c.
-    let at_wide3 = c.before.before in
-    let at_wide2 = at_wide3.before.before in
-    let at_wide = at_wide2.before.before in
-    let at_args = at_wide.before.before.before in
-    half_made at_args.args.bytes.now at_args.args.at _ _ _ _ (search rules) at_wide.wide.ensures.0 at_wide2.wide2.ensures.0
-    at_wide3.wide3.ensures.0 c.wide4.ensures.0 at_wide.wide.ensures.1 at_wide2.wide2.ensures.1 at_wide3.wide3.ensures.1
-    c.wide4.ensures.1))
+    half_made c.args.bytes.now c.args.at _ _ _ _ (search rules) c.wide-a.ensures.0 c.wide-b.ensures.0
+    c.wide-c.ensures.0 c.wide-d.ensures.0 c.wide-a.ensures.1 c.wide-b.ensures.1 c.wide-c.ensures.1
+    c.wide-d.ensures.1))

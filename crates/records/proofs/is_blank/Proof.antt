@@ -6,4 +6,4 @@ use Rattle.records.proofs.is_blank.Tie as tie
 
 pub is_blank_spec : {M : Type 1} → statement M
 unfolding empty_line
-is_blank_spec = tie.close (tie.spec (λ c. search decide) (λ c κs. search rules) (λ c. search (decide, c.word-in.ensures.0)))
+is_blank_spec = tie.close (tie.spec (λ c. search decide) (λ c κs. search rules) (λ c. search (decide, c.word_in.ensures.0)))

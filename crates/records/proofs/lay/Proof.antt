@@ -8,10 +8,10 @@ use borrow.Author.Rules.{rules}
 use Rattle.records.proofs.lay.Statement.{statement}
 use Rattle.records.proofs.lay.Tie as tie
 
-abbrev invariant_loop : tie.invariant_loop
+abbrev invariant_loop : tie.invariant-loop-i
 invariant_loop bytes₀ at part i₀ bytes i = (i ≤ length part) × (at + length part ≤ length bytes₀) × (length bytes ≡ length bytes₀) × (bytes ≡ paste bytes₀ at part i)
 
-abbrev decreases_loop : tie.decreases_loop
+abbrev decreases_loop : tie.decreases-loop-i
 decreases_loop bytes₀ at part i₀ bytes i = length part - i
 
 pub lay_spec : {M : Type 1} → statement M
@@ -26,10 +26,10 @@ lay_spec =
     (λ c. search rules)
     (λ c. search rules)
     (λ c. search rules)
-    (λ c. (search rules, search rules, search rules, lay_turn _ _ _ _ _ (omega arith) c.before.loop_test.true c.before.before.loop.invariant.3))
+    (λ c. (search rules, search rules, search rules, lay_turn _ _ _ _ _ (omega arith) c.loop-i-test.true c.loop-i.invariant.3))
     (λ c. search rules)
-    (λ c. let x = c.before in let a = x.before.args in (
-      lay_end a.bytes.now a.part.now x.loop.bytes a.at x.loop.i (omega arith)
-          x.loop.invariant.3,
+    (λ c. let a = c.args in (
+      lay_end a.bytes.now a.part.now c.loop-i.bytes a.at c.loop-i.i (omega arith)
+          c.loop-i.invariant.3,
       search rules,
     )))

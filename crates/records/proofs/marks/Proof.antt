@@ -11,10 +11,10 @@ use borrow.Author.Rules.{rules}
 use Rattle.records.proofs.marks.Statement.{statement}
 use Rattle.records.proofs.marks.Tie as tie
 
-abbrev invariant_loop : tie.invariant_loop
+abbrev invariant_loop : tie.invariant-loop-i
 invariant_loop flags marks₀ i₀ marks i = (length flags ≡ 8) × WrittenUpTo (λ k. is_set (get_or flags k 0)) false 8 i marks
 
-abbrev decreases_loop : tie.decreases_loop
+abbrev decreases_loop : tie.decreases-loop-i
 decreases_loop flags marks₀ i₀ marks i = 8 - i
 
 pub marks_spec : {M : Type 1} → statement M
@@ -29,10 +29,10 @@ marks_spec =
     (λ c. search rules)
     (λ c. search rules)
     (λ c. search rules)
-    (λ c. let x = c.before in let a = x.before.args in (
+    (λ c. let a = c.args in (
       search rules,
-      written_more (λ k. is_set (get_or a.t1 k 0)) false 8 x.loop.i
-          x.loop.marks _ x.loop.invariant.1 (omega arith) refl,
+      written_more (λ k. is_set (get_or a.flags k 0)) false 8 c.loop-i.i
+          c.loop-i.marks _ c.loop-i.invariant.1 (omega arith) refl,
     ))
-    (λ c. written_all (λ k. is_set (get_or c.before.before.args.t1 k 0)) false 8 c.before.loop.i c.before.loop.marks c.before.loop.invariant.1
-    (omega arith) ∙ sym (map_table is_set c.before.before.args.t1 8 0 (search rules))))
+    (λ c. written_all (λ k. is_set (get_or c.args.flags k 0)) false 8 c.loop-i.i c.loop-i.marks c.loop-i.invariant.1
+    (omega arith) ∙ sym (map_table is_set c.args.flags 8 0 (search rules))))

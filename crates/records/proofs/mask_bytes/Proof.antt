@@ -9,10 +9,10 @@ use borrow.Author.Rules.{rules}
 use Rattle.records.proofs.mask_bytes.Statement.{statement}
 use Rattle.records.proofs.mask_bytes.Tie as tie
 
-abbrev invariant_loop : tie.invariant_loop
+abbrev invariant_loop : tie.invariant-loop-i
 invariant_loop masks bytes₀ i₀ bytes i = (length masks ≡ 8) × WrittenUpTo (λ k. get_or (units 1 masks) k 0) 0 8 i bytes
 
-abbrev decreases_loop : tie.decreases_loop
+abbrev decreases_loop : tie.decreases-loop-i
 decreases_loop masks bytes₀ i₀ bytes i = 8 - i
 
 pub mask_bytes_spec : {M : Type 1} → statement M
@@ -28,10 +28,10 @@ mask_bytes_spec =
     (λ c. search rules)
     (λ c. (
       search rules,
-      written_more (λ k. get_or (units 1 c.before.before.before.args.masks.now) k 0) 0 8 c.before.before.loop.i
-          c.before.before.loop.bytes _ c.before.before.loop.invariant.1 (omega arith)
-          (mask_is c.before.before.before.args.masks.now c.before.before.loop.i (search rules) (omega arith)
-          (omega (arith, c.shared_slice_known.given c.before.before.loop.i))),
+      written_more (λ k. get_or (units 1 c.args.masks.now) k 0) 0 8 c.loop-i.i
+          c.loop-i.bytes _ c.loop-i.invariant.1 (omega arith)
+          (mask_is c.args.masks.now c.loop-i.i (search rules) (omega arith)
+          (omega (arith, c.shared_slice_known-1.given c.loop-i.i))),
     ))
-    (λ c. masks_all c.before.before.args.masks.now c.before.loop.bytes c.before.loop.i (search rules) c.before.loop.invariant.1
+    (λ c. masks_all c.args.masks.now c.loop-i.bytes c.loop-i.i (search rules) c.loop-i.invariant.1
     (omega arith)))

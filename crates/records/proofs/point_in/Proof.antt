@@ -17,6 +17,4 @@ point_in_spec =
     (λ c κs. search rules)
     (λ c. search rules)
     (λ c.
-    let at_wide = c.before.before in
-    let at_args = at_wide.before.before.before in
-    number_made at_args.args.part.now 5 _ _ (search rules) at_wide.wide.ensures.0 c.wide2.ensures.0))
+    number_made c.args.part.now 5 _ _ (search rules) c.wide.ensures.0 c.wide-2.ensures.0))

@@ -16,6 +16,4 @@ whole_spec =
     (λ c. search rules)
     (λ c κs. search rules)
     (λ c.
-    let at_lay = c.before in
-    let at_args = at_lay.before.before.before in
-    record_made at_args.args.pair.now _ at_args.args.parent at_args.args.branch (search rules) at_lay.lay.ensures.0))
+    record_made c.args.pair.now _ c.args.parent c.args.branch (search rules) c.lay.ensures.0))

@@ -21,16 +21,8 @@ window_in_spec =
     (λ c. search rules)
     (λ c κs. search rules)
     (λ c.
-    let long : length c.before.before.before.before.before.before.before.before.before.before.before.before.eight.result ≡ 8 = search rules in
-    let at_ever_lines = c.before.before.before in
-    let at_put_results = at_ever_lines.before in
-    let at_meanings = at_put_results.before.before.before in
-    let at_marks = at_meanings.before.before in
-    let at_eight3 = at_marks.before in
-    let at_eight2 = at_eight3.before in
-    let at_eight = at_eight2.before in
-    let at_args = at_eight.before.before in
-    window_made at_args.args.part.now at_eight.eight.result _ _ _ _ _ _ _ _ at_args.requires long at_eight.eight.ensures
-    at_eight2.eight2.ensures at_eight3.eight3.ensures at_marks.marks.ensures at_meanings.meanings.ensures
-    at_put_results.put_results.ensures at_ever_lines.ever_lines.ensures refl
-    c.counted_classes.ensures))
+    let long : length c.eight-class.result ≡ 8 = search rules in
+    window_made c.args.part.now c.eight-class.result _ _ _ _ _ _ _ _ c.requires long c.eight-class.ensures
+    c.eight-unequal.ensures c.eight.ensures c.marks-mark.ensures c.meanings-meanings.ensures
+    c.put_results.ensures c.ever_lines-ever.ensures refl
+    c.counted_classes-classes.ensures))

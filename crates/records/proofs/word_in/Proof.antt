@@ -7,5 +7,5 @@ pub word_in_spec : {M : Type 1} → statement M
 word_in_spec =
     tie.close
     (tie.spec (λ c κs. search rules) (λ c. search rules) (λ c κs. search rules) (λ c. search rules) (λ c. search rules)
-    (λ c. word_made c.before.before.before.args.bytes.now c.before.before.before.args.at _ _ c.before.half_in.ensures.0
-    c.before.half_in.ensures.1.0 c.half_in2.ensures.0 c.half_in2.ensures.1.0))
+    (λ c. word_made c.args.bytes.now c.args.at _ _ c.half_in.ensures.0
+    c.half_in.ensures.1.0 c.half_in-2.ensures.0 c.half_in-2.ensures.1.0))

@@ -7,8 +7,5 @@ pub write_spec : {M : Type 1} → statement M
 write_spec =
     tie.close (tie.spec (λ c κs. search rules) (λ c. search rules) (λ c κs. search rules) (λ c. search rules)
     (λ c.
-    let at_lay = c.before.before in
-    let at_whole = at_lay.before.before.before in
-    let at_args = at_whole.before.before in
-    write_made at_whole.whole.result _ at_args.args.part.now at_lay.lay.new.0 (search rules) at_whole.whole.ensures
-    at_lay.lay.ensures.0))
+    write_made c.whole-bytes.result _ c.args.part.now c.lay.new.bytes (search rules) c.whole-bytes.ensures
+    c.lay.ensures.0))

@@ -11,10 +11,10 @@ use Rattle.unequal_flags.specs.Words.{named_row, named_rows}
 use Rattle.unequal_flags.proofs.named_rows.Statement.{statement}
 use Rattle.unequal_flags.proofs.named_rows.Tie as tie
 
-abbrev invariant_loop : tie.invariant_loop
+abbrev invariant_loop : tie.invariant-loop-a
 invariant_loop class unequal named rows₀ a₀ rows a = WrittenUpTo (named_row registers class unequal) 0 registers a rows
 
-abbrev decreases_loop : tie.decreases_loop
+abbrev decreases_loop : tie.decreases-loop-a
 decreases_loop class unequal named rows₀ a₀ rows a = registers - a
 
 pub named_rows_spec : {M : Type 1} → statement M
@@ -29,11 +29,8 @@ named_rows_spec = tie.close (tie.spec
     (λ c. search rules)
     (λ c. search rules)
     (λ c.
-    let at_loop_test = c.before.before in
-    let at_loop = at_loop_test.before in
-    let at_Names = at_loop.before in
-    let unequal = at_Names.before.args.unequal.now in
-    let a = at_loop.loop.a in
-    written_more _ _ _ _ _ _ at_loop.loop.invariant at_loop_test.loop_test.true
-    (c.part.ensures ∙ ap (λ m. part_of m (bit_and (get_or unequal a 0) m) a) at_Names.names.ensures))
-    (λ c. written_all _ _ _ _ _ c.before.loop.invariant c.loop_test.false))
+    let unequal = c.args.unequal.now in
+    let a = c.loop-a.a in
+    written_more _ _ _ _ _ _ c.loop-a.invariant c.loop-a-test.true
+    (c.part.ensures ∙ ap (λ m. part_of m (bit_and (get_or unequal a 0) m) a) c.names-named.ensures))
+    (λ c. written_all _ _ _ _ _ c.loop-a.invariant c.loop-a-test.false))

@@ -10,7 +10,6 @@ use Rattle.unequal_flags.proofs.unequal_word.Tie as tie
 
 pub unequal_word_spec : {M : Type 1} → statement M
 unequal_word_spec = tie.close (tie.spec (λ c κs. search rules) (λ c κs. search rules) (λ c.
-    let at_named = c.before.before in
-    let w = at_named.before.before.before.before.before.args.w in
-    let made = word_made registers w _ _ (omega arith) at_named.named_rows.ensures c.joined_rows.ensures.0 in
+    let w = c.args.w in
+    let made = word_made registers w _ _ (omega arith) c.named_rows-rows.ensures c.joined_rows.ensures.0 in
     (made, λ σ v h. subst (WordOfState σ) (sym made) (word_exact σ v w h))))
