@@ -6,10 +6,10 @@ use Rattle.closure.proofs.Theory.Index.{Cutting, cutting_start, cutting_turn, cu
 use Rattle.closure.proofs.below.Statement.{statement}
 use Rattle.closure.proofs.below.Tie as tie
 
-abbrev invariant_loop : tie.invariant_loop
+abbrev invariant_loop : tie.invariant-loop-i
 invariant_loop link start bound i₀ i = (i < most_terms) × Cutting link start bound i
 
-abbrev decreases_loop : tie.decreases_loop
+abbrev decreases_loop : tie.decreases-loop-i
 decreases_loop link start bound i₀ i = i
 
 pub below_spec : {M : Type 1} → statement M
@@ -23,16 +23,11 @@ below_spec =
     (λ c. search rules)
     (λ c κs. search rules)
     (λ c.
-    let at_loop_test = c.before.before in
-    let at_pre = at_loop_test.before.before in
-    link_less _ _ _ _ at_pre.requires.0 at_pre.requires.2 at_loop_test.loop_test.true c.wide.ensures)
-    (λ c.
-    let at_loop_test = c.before.before in
-    let at_loop = at_loop_test.before in
-    let at_pre = at_loop.before in (
-      let l = link_less _ _ _ _ at_pre.requires.0 at_pre.requires.2 at_loop_test.loop_test.true c.wide.ensures in
-          let h = at_loop.loop.invariant.0 in
+    link_less _ _ _ _ c.requires.0 c.requires.2 c.loop-i-test.true c.wide-i.ensures)
+    (λ c. (
+      let l = link_less _ _ _ _ c.requires.0 c.requires.2 c.loop-i-test.true c.wide-i.ensures in
+          let h = c.loop-i.invariant.0 in
           omega arith,
-      cutting_turn _ _ _ _ _ at_loop.loop.invariant.1 at_loop_test.loop_test.true c.wide.ensures,
+      cutting_turn _ _ _ _ _ c.loop-i.invariant.1 c.loop-i-test.true c.wide-i.ensures,
     ))
-    (λ c. cutting_end _ _ _ _ c.before.loop.invariant.1 c.loop_test.false))
+    (λ c. cutting_end _ _ _ _ c.loop-i.invariant.1 c.loop-i-test.false))

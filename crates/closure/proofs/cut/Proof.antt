@@ -6,10 +6,10 @@ use Rattle.closure.proofs.Theory.Index.{CuttingAll, cutting_all_start, cutting_b
 use Rattle.closure.proofs.cut.Statement.{statement}
 use Rattle.closure.proofs.cut.Tie as tie
 
-abbrev invariant_loop : tie.invariant_loop
+abbrev invariant_loop : tie.invariant-loop-i
 invariant_loop head₀ link bound i₀ head i = CuttingAll head₀ link bound head i
 
-abbrev decreases_loop : tie.decreases_loop
+abbrev decreases_loop : tie.decreases-loop-i
 decreases_loop head₀ link bound i₀ head i = signature_chains - i
 
 pub cut_spec : {M : Type 1} → statement M
@@ -21,27 +21,20 @@ cut_spec =
     (λ c. search rules)
     (λ c. search rules)
     (λ c κs. search rules)
-    (λ c κs.
-    let at_loop = c.before.before.before in
-    let at_pre = at_loop.before in (
-      at_pre.requires.0.links,
-      cutting_below _ _ _ at_pre.requires.0 at_pre.requires.1 _ _ _ at_loop.loop.invariant c.wide.ensures,
-      at_pre.requires.1,
+    (λ c κs. (
+      c.requires.0.links,
+      cutting_below _ _ _ c.requires.0 c.requires.1 _ _ _ c.loop-i.invariant c.wide-start.ensures,
+      c.requires.1,
     ))
     (λ c.
-    let at_loop_test = c.before.before.before in
-    let at_pre = at_loop_test.before.before in
-    let h = c.below.ensures.below in
-    let b = at_pre.requires.2 in
+    let h = c.below-rest.ensures.below in
+    let b = c.requires.2 in
     omega arith)
     (λ c. search rules)
     (λ c. search rules)
-    (λ c. let h = c.before.before.before.loop_test.true in omega arith)
-    (λ c. let h = c.before.before.before.loop_test.true in omega arith)
+    (λ c. let h = c.loop-i-test.true in omega arith)
+    (λ c. let h = c.loop-i-test.true in omega arith)
     (λ c.
-    let at_loop_test = c.before.before.before in
-    let at_loop = at_loop_test.before in
-    let at_pre = at_loop.before in
-    cutting_all_turn _ _ _ at_pre.requires.0 at_pre.requires.1 _ _ _ _
-    at_loop.loop.invariant at_loop_test.loop_test.true c.before.wide.ensures c.below.ensures)
-    (λ c. cutting_all_end _ _ _ c.before.before.requires.0 c.before.before.requires.1 _ _ c.before.loop.invariant c.loop_test.false))
+    cutting_all_turn _ _ _ c.requires.0 c.requires.1 _ _ _ _
+    c.loop-i.invariant c.loop-i-test.true c.wide-start.ensures c.below-rest.ensures)
+    (λ c. cutting_all_end _ _ _ c.requires.0 c.requires.1 _ _ c.loop-i.invariant c.loop-i-test.false))

@@ -14,15 +14,13 @@ enter_spec =
     (λ c. search rules)
     (λ c κs. search rules)
     (λ c κs. (
-      c.before.before.before.requires.0,
-      chain_below _ _ _ _ _ c.before.before.before.requires.2 c.before.wide.ensures,
-      c.before.before.before.requires.2.links,
+      c.requires.0,
+      chain_below _ _ _ _ _ c.requires.2 c.wide-start.ensures,
+      c.requires.2.links,
     ))
     (λ c.
-    let at_wide = c.before.before.before in
-    let at_pre = at_wide.before.before in
-    entered_known _ _ _ _ _ _ at_pre.requires.2 at_pre.requires.0.some
-    at_pre.requires.0.more at_pre.requires.1 _ _ at_wide.wide.ensures c.before.find.ensures c.if1.true)
+    entered_known _ _ _ _ _ _ c.requires.2 c.requires.0.some
+    c.requires.0.more c.requires.1 _ _ c.wide-start.ensures c.find-found.ensures c.if-registers-found.true)
     (λ c. search rules)
     (λ c. search rules)
     (λ c. search rules)
@@ -31,9 +29,6 @@ enter_spec =
     (λ c. search rules)
     (λ c. search rules)
     (λ c.
-    let at_find = c.before.before in
-    let at_wide = at_find.before.before in
-    let at_pre = at_wide.before.before in
-    entered_new _ _ _ _ _ _ at_pre.requires.2 at_pre.requires.0.some
-    at_pre.requires.0.more at_pre.requires.1 _ refl
-    (mod-lt _ (omega arith)) _ _ at_wide.wide.ensures at_find.find.ensures c.before.if1.false))
+    entered_new _ _ _ _ _ _ c.requires.2 c.requires.0.some
+    c.requires.0.more c.requires.1 _ refl
+    (mod-lt _ (omega arith)) _ _ c.wide-start.ensures c.find-found.ensures c.if-registers-found.false))

@@ -7,11 +7,11 @@ use Rattle.closure.proofs.Theory.Entering.{readable_at}
 use Rattle.closure.proofs.find.Statement.{statement}
 use Rattle.closure.proofs.find.Tie as tie
 
-abbrev invariant_loop : tie.invariant_loop
+abbrev invariant_loop : tie.invariant-loop-i
 invariant_loop representative function first second link registers count start c i₀ i =
     (i < count) × Finding (signature_at representative function first second) registers link start c i
 
-abbrev decreases_loop : tie.decreases_loop
+abbrev decreases_loop : tie.decreases-loop-i
 decreases_loop representative function first second link registers count start c i₀ i = i
 
 pub find_spec : {M : Type 1} → statement M
@@ -20,38 +20,26 @@ find_spec =
     invariant_loop
     decreases_loop
     (λ c. (c.requires.1, finding_start _ _ _ _ _))
-    (λ c κs. readable_at _ c.before.before.requires.0 c.before.loop.invariant.0)
-    (λ c. finding_hit _ _ _ _ _ _ _ _ c.before.before.before.loop.invariant.1 c.before.before.before.loop.invariant.0 c.before.before.loop_test.true
-    c.before.signature_at.ensures c.if1.true)
+    (λ c κs. readable_at _ c.requires.0 c.loop-i.invariant.0)
+    (λ c. finding_hit _ _ _ _ _ _ _ _ c.loop-i.invariant.1 c.loop-i.invariant.0 c.loop-i-test.true
+    c.signature_at.ensures c.if-signature_at-c.true)
     (λ c.
-    let at_loop = c.before.before.before in
-    let at_pre = at_loop.before in
-    let h = at_loop.loop.invariant.0 in
-    let w = at_pre.requires.0.within in
+    let h = c.loop-i.invariant.0 in
+    let w = c.requires.0.within in
     omega arith)
     (λ c.
-    let at_loop = c.before.before.before in
-    let at_pre = at_loop.before in
-    let h = at_loop.loop.invariant.0 in
-    let w = at_pre.requires.0.within in
+    let h = c.loop-i.invariant.0 in
+    let w = c.requires.0.within in
     omega arith)
     (λ c κs. search rules)
     (λ c.
-    let at_if1 = c.before.before in
-    let at_loop_test = at_if1.before.before in
-    let at_pre = at_loop_test.before.before in
-    link_less _ _ _ _ at_pre.requires.2 at_pre.requires.0.some
-    at_loop_test.loop_test.true c.wide.ensures)
-    (λ c.
-    let at_if1 = c.before.before in
-    let at_signature_at = at_if1.before in
-    let at_loop_test = at_signature_at.before in
-    let at_loop = at_loop_test.before in
-    let at_pre = at_loop.before in (
-      let l = link_less _ _ _ _ at_pre.requires.2 at_pre.requires.0.some
-          at_loop_test.loop_test.true c.wide.ensures in let h = at_loop.loop.invariant.0 in
+    link_less _ _ _ _ c.requires.2 c.requires.0.some
+    c.loop-i-test.true c.wide-i.ensures)
+    (λ c. (
+      let l = link_less _ _ _ _ c.requires.2 c.requires.0.some
+          c.loop-i-test.true c.wide-i.ensures in let h = c.loop-i.invariant.0 in
           omega arith,
-      finding_turn _ _ _ _ _ _ _ _ at_loop.loop.invariant.1 at_loop_test.loop_test.true
-          at_signature_at.signature_at.ensures at_if1.if1.false c.wide.ensures,
+      finding_turn _ _ _ _ _ _ _ _ c.loop-i.invariant.1 c.loop-i-test.true
+          c.signature_at.ensures c.if-signature_at-c.false c.wide-i.ensures,
     ))
-    (λ c. finding_end _ _ _ _ _ _ _ c.before.loop.invariant.1 c.before.loop.invariant.0 c.loop_test.false))
+    (λ c. finding_end _ _ _ _ _ _ _ c.loop-i.invariant.1 c.loop-i.invariant.0 c.loop-i-test.false))

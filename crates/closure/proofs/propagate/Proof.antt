@@ -7,11 +7,11 @@ use Rattle.closure.proofs.Theory.Propagation.{named, found_below, underway_same,
 use Rattle.closure.proofs.propagate.Statement.{statement}
 use Rattle.closure.proofs.propagate.Tie as tie
 
-abbrev invariant_loop : tie.invariant_loop
+abbrev invariant_loop : tie.invariant-loop-i
 invariant_loop representative₀ function first second head₀ link₀ registers count start i₀ representative head link i =
     Underway representative₀ function first second registers count representative head link i
 
-abbrev decreases_loop : tie.decreases_loop
+abbrev decreases_loop : tie.decreases-loop-i
 decreases_loop representative₀ function first second head₀ link₀ registers count start i₀ representative head link i =
     2000 * sum_below count representative + (count - i)
 
@@ -21,166 +21,83 @@ propagate_spec =
     invariant_loop
     decreases_loop
     (λ c. c.requires)
-    (λ c κs. readable_at _ (readable _ c.before.before.loop.invariant.joined.formed c.before.before.loop.invariant.joined.formed.more (omega arith))
-    c.before.loop_test.true)
-    (λ c κs.
-    let at_signature_at = c.before.before.before in
-    let at_loop_test = at_signature_at.before.before in
-    let at_loop = at_loop_test.before in (
-      readable _ at_loop.loop.invariant.joined.formed at_loop.loop.invariant.least at_loop.loop.invariant.most,
-      let h = at_loop_test.loop_test.true in
-          let w = at_loop.loop.invariant.joined.formed.within in
+    (λ c κs. readable_at _ (readable _ c.loop-i.invariant.joined.formed c.loop-i.invariant.joined.formed.more (omega arith))
+    c.loop-i-test.true)
+    (λ c κs. (
+      readable _ c.loop-i.invariant.joined.formed c.loop-i.invariant.least c.loop-i.invariant.most,
+      let h = c.loop-i-test.true in
+          let w = c.loop-i.invariant.joined.formed.within in
           omega arith,
-      at_loop.loop.invariant.chains,
+      c.loop-i.invariant.chains,
     ))
     (λ c.
-    let at_enter_arg3 = c.before in
-    let at_signature_at = at_enter_arg3.before.before.before in
-    let at_loop_test = at_signature_at.before.before in
-    let at_loop = at_loop_test.before in
-    let g = found_below _ _ _ _ _ _ _ _ _ _ at_loop.loop.invariant at_loop_test.loop_test.true _ _ at_signature_at.signature_at.ensures _ _
-    c.enter.ensures in
-    let h = at_loop_test.loop_test.true in
-    let w = at_loop.loop.invariant.joined.formed.within in
+    let g = found_below _ _ _ _ _ _ _ _ _ _ c.loop-i.invariant c.loop-i-test.true _ _ c.signature_at-c.ensures _ _
+    c.enter-o.ensures in
+    let h = c.loop-i-test.true in
+    let w = c.loop-i.invariant.joined.formed.within in
     omega arith)
     (λ c.
-    let at_enter_arg3 = c.before in
-    let at_signature_at = at_enter_arg3.before.before.before in
-    let at_loop_test = at_signature_at.before.before in
-    let at_loop = at_loop_test.before in
-    let g = found_below _ _ _ _ _ _ _ _ _ _ at_loop.loop.invariant at_loop_test.loop_test.true _ _ at_signature_at.signature_at.ensures _ _
-    c.enter.ensures in
-    let h = at_loop_test.loop_test.true in
-    let w = at_loop.loop.invariant.joined.formed.within in
+    let g = found_below _ _ _ _ _ _ _ _ _ _ c.loop-i.invariant c.loop-i-test.true _ _ c.signature_at-c.ensures _ _
+    c.enter-o.ensures in
+    let h = c.loop-i-test.true in
+    let w = c.loop-i.invariant.joined.formed.within in
     omega arith)
     (λ c.
-    let at_enter = c.before in
-    let at_enter_arg = at_enter.before.before.before in
-    let at_loop_test = at_enter_arg.before.before.before in
-    let at_loop = at_loop_test.before in
-    let h = at_loop_test.loop_test.true in
-    let w = at_loop.loop.invariant.joined.formed.within in
+    let h = c.loop-i-test.true in
+    let w = c.loop-i.invariant.joined.formed.within in
     omega arith)
     (λ c.
-    let at_enter = c.before in
-    let at_enter_arg = at_enter.before.before.before in
-    let at_loop_test = at_enter_arg.before.before.before in
-    let at_loop = at_loop_test.before in
-    let h = at_loop_test.loop_test.true in
-    let w = at_loop.loop.invariant.joined.formed.within in
+    let h = c.loop-i-test.true in
+    let w = c.loop-i.invariant.joined.formed.within in
     omega arith)
     (λ c.
-    let at_enter = c.before.before.before in
-    let at_enter_arg = at_enter.before.before.before in
-    let at_loop_test = at_enter_arg.before.before.before in
-    let at_loop = at_loop_test.before in
-    let h = at_loop_test.loop_test.true in
-    let w = at_loop.loop.invariant.joined.formed.within in
+    let h = c.loop-i-test.true in
+    let w = c.loop-i.invariant.joined.formed.within in
     omega arith)
     (λ c.
-    let at_enter = c.before.before.before in
-    let at_enter_arg = at_enter.before.before.before in
-    let at_loop_test = at_enter_arg.before.before.before in
-    let h = at_loop_test.loop_test.true in
+    let h = c.loop-i-test.true in
     omega arith)
     (λ c.
-    let at_enter = c.before.before.before in
-    let at_enter_arg3 = at_enter.before in
-    let at_signature_at = at_enter_arg3.before.before.before in
-    let at_loop_test = at_signature_at.before.before in
-    let at_loop = at_loop_test.before in
-    underway_same _ _ _ _ _ _ _ _ _ _ at_loop.loop.invariant
-    at_loop_test.loop_test.true _ _ at_signature_at.signature_at.ensures _ _ at_enter.enter.ensures c.if1.true)
+    underway_same _ _ _ _ _ _ _ _ _ _ c.loop-i.invariant
+    c.loop-i-test.true _ _ c.signature_at-c.ensures _ _ c.enter-o.ensures c.if-representative-o.true)
     (λ c.
-    let at_enter = c.before.before.before in
-    let at_enter_arg3 = at_enter.before in
-    let at_signature_at = at_enter_arg3.before.before.before in
-    let at_loop_test = at_signature_at.before.before in
-    let at_loop = at_loop_test.before in
-    let g = found_below _ _ _ _ _ _ _ _ _ _ at_loop.loop.invariant
-    at_loop_test.loop_test.true _ _ at_signature_at.signature_at.ensures _ _ at_enter.enter.ensures in
-    let h = at_loop_test.loop_test.true in
-    let w = at_loop.loop.invariant.joined.formed.within in
+    let g = found_below _ _ _ _ _ _ _ _ _ _ c.loop-i.invariant
+    c.loop-i-test.true _ _ c.signature_at-c.ensures _ _ c.enter-o.ensures in
+    let h = c.loop-i-test.true in
+    let w = c.loop-i.invariant.joined.formed.within in
     omega arith)
     (λ c.
-    let at_enter = c.before.before.before in
-    let at_enter_arg3 = at_enter.before in
-    let at_signature_at = at_enter_arg3.before.before.before in
-    let at_loop_test = at_signature_at.before.before in
-    let at_loop = at_loop_test.before in
-    let g = found_below _ _ _ _ _ _ _ _ _ _ at_loop.loop.invariant
-    at_loop_test.loop_test.true _ _ at_signature_at.signature_at.ensures _ _ at_enter.enter.ensures in
-    let h = at_loop_test.loop_test.true in
-    let w = at_loop.loop.invariant.joined.formed.within in
+    let g = found_below _ _ _ _ _ _ _ _ _ _ c.loop-i.invariant
+    c.loop-i-test.true _ _ c.signature_at-c.ensures _ _ c.enter-o.ensures in
+    let h = c.loop-i-test.true in
+    let w = c.loop-i.invariant.joined.formed.within in
     omega arith)
     (λ c.
-    let at_if1 = c.before in
-    let at_enter = at_if1.before.before.before in
-    let at_enter_arg = at_enter.before.before.before in
-    let at_loop_test = at_enter_arg.before.before.before in
-    let at_loop = at_loop_test.before in
-    let h = at_loop_test.loop_test.true in
-    let w = at_loop.loop.invariant.joined.formed.within in
+    let h = c.loop-i-test.true in
+    let w = c.loop-i.invariant.joined.formed.within in
     omega arith)
     (λ c.
-    let at_if1 = c.before in
-    let at_enter = at_if1.before.before.before in
-    let at_enter_arg = at_enter.before.before.before in
-    let at_loop_test = at_enter_arg.before.before.before in
-    let at_loop = at_loop_test.before in
-    let h = at_loop_test.loop_test.true in
-    let w = at_loop.loop.invariant.joined.formed.within in
+    let h = c.loop-i-test.true in
+    let w = c.loop-i.invariant.joined.formed.within in
     omega arith)
     (λ c κs. search rules)
     (λ c κs.
-    let at_higher = c.before.before.before in
-    let at_if1 = at_higher.before.before.before in
-    let at_enter = at_if1.before.before.before in
-    let at_enter_arg3 = at_enter.before in
-    let at_signature_at = at_enter_arg3.before.before.before in
-    let at_loop_test = at_signature_at.before.before in
-    let at_loop = at_loop_test.before in
     resume_ready _ _ _ _ _ _ _ _ _ _
-    at_loop.loop.invariant at_loop_test.loop_test.true _ _ at_signature_at.signature_at.ensures _ _ at_enter.enter.ensures
-    at_if1.if1.false _ at_higher.higher.ensures)
-    (λ c κs.
-    let at_resume_arg3 = c.before.before in
-    let at_higher = at_resume_arg3.before.before.before in
-    let at_if1 = at_higher.before.before.before in
-    let at_enter = at_if1.before.before.before in
-    let at_enter_arg3 = at_enter.before in
-    let at_signature_at = at_enter_arg3.before.before.before in
-    let at_loop_test = at_signature_at.before.before in
-    let at_loop = at_loop_test.before in (
-      at_loop.loop.invariant.joined.formed.within,
-      found_below _ _ _ _ _ _ _ _ _ _ at_loop.loop.invariant at_loop_test.loop_test.true _ _ at_signature_at.signature_at.ensures _ _
-          at_enter.enter.ensures,
-      at_loop_test.loop_test.true,
-      named at_loop.loop.invariant.joined.formed,
+    c.loop-i.invariant c.loop-i-test.true _ _ c.signature_at-c.ensures _ _ c.enter-o.ensures
+    c.if-representative-o.false _ c.higher-d.ensures)
+    (λ c κs. (
+      c.loop-i.invariant.joined.formed.within,
+      found_below _ _ _ _ _ _ _ _ _ _ c.loop-i.invariant c.loop-i-test.true _ _ c.signature_at-c.ensures _ _
+          c.enter-o.ensures,
+      c.loop-i-test.true,
+      named c.loop-i.invariant.joined.formed,
     ))
     (λ c.
-    let at_resume_arg3 = c.before.before.before in
-    let at_higher = at_resume_arg3.before.before.before in
-    let at_if1 = at_higher.before.before.before in
-    let at_enter = at_if1.before.before.before in
-    let at_enter_arg3 = at_enter.before in
-    let at_signature_at = at_enter_arg3.before.before.before in
-    let at_loop_test = at_signature_at.before.before in
-    let at_loop = at_loop_test.before in
     less_union _ _ _ _ _ _ _ _ _ _
-    at_loop.loop.invariant at_loop_test.loop_test.true _ _ at_signature_at.signature_at.ensures _ _ at_enter.enter.ensures
-    at_if1.if1.false _ _ c.unite.ensures)
+    c.loop-i.invariant c.loop-i-test.true _ _ c.signature_at-c.ensures _ _ c.enter-o.ensures
+    c.if-representative-o.false _ _ c.unite.ensures)
     (λ c.
-    let at_resume = c.before.before in
-    let at_resume_arg3 = at_resume.before in
-    let at_higher = at_resume_arg3.before.before.before in
-    let at_if1 = at_higher.before.before.before in
-    let at_enter = at_if1.before.before.before in
-    let at_enter_arg3 = at_enter.before in
-    let at_signature_at = at_enter_arg3.before.before.before in
-    let at_loop_test = at_signature_at.before.before in
-    let at_loop = at_loop_test.before in
     underway_union _ _ _ _ _ _ _ _ _ _
-    at_loop.loop.invariant at_loop_test.loop_test.true _ _ at_signature_at.signature_at.ensures _ _ at_enter.enter.ensures
-    at_if1.if1.false _ _ _ _ c.unite.ensures at_higher.higher.ensures at_resume.resume.ensures)
-    (λ c. underway_end _ _ _ _ _ _ _ _ _ _ c.before.loop.invariant c.loop_test.false))
+    c.loop-i.invariant c.loop-i-test.true _ _ c.signature_at-c.ensures _ _ c.enter-o.ensures
+    c.if-representative-o.false _ _ _ _ c.unite.ensures c.higher-d.ensures c.resume-next.ensures)
+    (λ c. underway_end _ _ _ _ _ _ _ _ _ _ c.loop-i.invariant c.loop-i-test.false))

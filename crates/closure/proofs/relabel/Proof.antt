@@ -10,10 +10,10 @@ use Rattle.closure.proofs.Theory.Propagation.{relabel_starts, fall_most, fall_is
 use Rattle.closure.proofs.relabel.Statement.{statement}
 use Rattle.closure.proofs.relabel.Tie as tie
 
-abbrev invariant_loop : tie.invariant_loop
+abbrev invariant_loop : tie.invariant-loop-i
 invariant_loop representative₀ count from to by i₀ representative i = (i ≤ count) × (representative ≡ each_up_to (λ _ v. relabel_of from to v) i representative₀)
 
-abbrev decreases_loop : tie.decreases_loop
+abbrev decreases_loop : tie.decreases-loop-i
 decreases_loop representative₀ count from to by i₀ representative i = count - i
 
 pub relabel_spec : {M : Type 1} → statement M
@@ -25,27 +25,22 @@ relabel_spec =
     (λ c. search rules)
     (λ c κs. search rules)
     (λ c. (
-      let e = c.wide.ensures in let h = c.before.requires.1 in
+      let e = c.wide-i.ensures in let h = c.requires.1 in
           omega arith,
-      relabel_starts _ _ _ _ _ c.before.requires.3 c.before.requires.1 c.wide.ensures,
+      relabel_starts _ _ _ _ _ c.requires.3 c.requires.1 c.wide-i.ensures,
     ))
     (λ c. search rules)
     (λ c. search rules)
     (λ c κs. search rules)
     (λ c.
-    let at_loop_test = c.before.before in
-    let at_pre = at_loop_test.before.before.before in
-    fall_most _ _ _ _ _ at_pre.requires.2 refl c.fall.ensures)
+    fall_most _ _ _ _ _ c.requires.2 refl c.fall-less.ensures)
     (λ c. search rules)
     (λ c. search rules)
     (λ c. search rules)
     (λ c. search rules)
-    (λ c.
-    let at_loop_test = c.before.before in
-    let at_loop = at_loop_test.before in
-    let at_pre = at_loop.before.before in (
-      let h = at_loop_test.loop_test.true in
+    (λ c. (
+      let h = c.loop-i-test.true in
           omega arith,
-      each_turn _ _ _ _ 0 _ at_loop.loop.invariant.1 (fall_is _ _ _ _ _ at_pre.requires.2 refl c.fall.ensures),
+      each_turn _ _ _ _ 0 _ c.loop-i.invariant.1 (fall_is _ _ _ _ _ c.requires.2 refl c.fall-less.ensures),
     ))
-    (λ c. ended _ _ _ _ _ c.before.loop.invariant.1 (let h = c.before.loop.invariant.0 in let l = c.loop_test.false in omega arith)))
+    (λ c. ended _ _ _ _ _ c.loop-i.invariant.1 (let h = c.loop-i.invariant.0 in let l = c.loop-i-test.false in omega arith)))

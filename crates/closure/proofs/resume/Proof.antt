@@ -8,39 +8,25 @@ resume_spec =
     tie.close (tie.spec
     (λ c κs. search rules)
     (λ c κs. search rules)
-    (λ c. resumed_all _ _ _ _ _ _ _ _ _ _ _ c.before.before.before.requires.0 c.before.before.before.requires.1 c.before.before.before.requires.3
-    c.before.before.wide.ensures c.before.later.ensures c.if1.true)
-    (λ c. let (p, q) = undo_ready _ _ _ _ _ _ _ _ _ _ _ c.before.before.before.requires.0 c.before.before.before.requires.1
-    c.before.before.before.requires.3 c.before.before.wide.ensures c.before.later.ensures in q)
+    (λ c. resumed_all _ _ _ _ _ _ _ _ _ _ _ c.requires.0 c.requires.1 c.requires.3
+    c.wide.ensures c.later-next.ensures c.if-next-i.true)
+    (λ c. let (p, q) = undo_ready _ _ _ _ _ _ _ _ _ _ _ c.requires.0 c.requires.1
+    c.requires.3 c.wide.ensures c.later-next.ensures in q)
     (λ c κs.
-    let at_later = c.before.before.before in
-    let at_wide = at_later.before in
-    let at_pre = at_wide.before in
-    let (p, q) = undo_ready _ _ _ _ _ _ _ _ _ _ _ at_pre.requires.0
-    at_pre.requires.1 at_pre.requires.3 at_wide.wide.ensures at_later.later.ensures in (
-      at_pre.requires.0,
-      at_pre.requires.1,
-      at_pre.requires.2,
+    let (p, q) = undo_ready _ _ _ _ _ _ _ _ _ _ _ c.requires.0
+    c.requires.1 c.requires.3 c.wide.ensures c.later-next.ensures in (
+      c.requires.0,
+      c.requires.1,
+      c.requires.2,
       p,
       q,
     ))
     (λ c.
-    let at_if2 = c.before.before in
-    let at_later = at_if2.before.before in
-    let at_wide = at_later.before in
-    let at_pre = at_wide.before in
-    resumed_cut _ _ _ _ _ _ _ _ _ _ _ at_pre.requires.0
-    at_pre.requires.1 at_pre.requires.3 at_wide.wide.ensures at_later.later.ensures _ c.undo.ensures)
+    resumed_cut _ _ _ _ _ _ _ _ _ _ _ c.requires.0
+    c.requires.1 c.requires.3 c.wide.ensures c.later-next.ensures _ c.undo.ensures)
     (λ c κs.
-    let at_later = c.before.before.before in
-    let at_wide = at_later.before in
-    let at_pre = at_wide.before in
-    cut_ready _ _ _ _ _ _ _ _ _ _ _ at_pre.requires.0 at_pre.requires.1
-    at_pre.requires.3 at_wide.wide.ensures at_later.later.ensures)
+    cut_ready _ _ _ _ _ _ _ _ _ _ _ c.requires.0 c.requires.1
+    c.requires.3 c.wide.ensures c.later-next.ensures)
     (λ c.
-    let at_if2 = c.before.before in
-    let at_later = at_if2.before.before in
-    let at_wide = at_later.before in
-    let at_pre = at_wide.before in
-    resumed_cut _ _ _ _ _ _ _ _ _ _ _ at_pre.requires.0
-    at_pre.requires.1 at_pre.requires.3 at_wide.wide.ensures at_later.later.ensures _ c.cut.ensures))
+    resumed_cut _ _ _ _ _ _ _ _ _ _ _ c.requires.0
+    c.requires.1 c.requires.3 c.wide.ensures c.later-next.ensures _ c.cut.ensures))

@@ -16,45 +16,29 @@ signature_spec =
     (λ c. search rules)
     (λ c κs. search rules)
     (λ c.
-    let at_wide = c.before.before.before in
-    let at_pre = at_wide.before in
-    let p = class_use _ _ _ _ at_pre.requires.1 at_wide.wide.ensures c.wide3.ensures in
+    let p = class_use _ _ _ _ c.requires.1 c.wide-i.ensures c.wide.ensures in
     omega arith)
     (λ c. search rules)
     (λ c. search rules)
     (λ c κs. search rules)
     (λ c.
-    let at_wide3 = c.before.before in
-    let at_wide2 = at_wide3.before.before in
-    let at_pre = at_wide2.before.before in
-    let q = class_use _ _ _ _ at_pre.requires.2 at_wide2.wide2.ensures c.wide4.ensures in
+    let q = class_use _ _ _ _ c.requires.2 c.wide-j.ensures c.wide-2.ensures in
     omega arith)
     (λ c.
-    let at_wide3 = c.before.before in
-    let at_wide2 = at_wide3.before.before in
-    let at_wide = at_wide2.before in
-    let at_pre = at_wide.before in
-    let p = class_use _ _ _ _ at_pre.requires.1 at_wide.wide.ensures
-    at_wide3.wide3.ensures in
-    let q = class_use _ _ _ _ at_pre.requires.2 at_wide2.wide2.ensures c.wide4.ensures in omega arith)
+    let p = class_use _ _ _ _ c.requires.1 c.wide-i.ensures
+    c.wide.ensures in
+    let q = class_use _ _ _ _ c.requires.2 c.wide-j.ensures c.wide-2.ensures in omega arith)
     (λ c κs. search rules)
     (λ c.
-    let at_wide3 = c.before.before.before in
-    let at_wide2 = at_wide3.before.before in
-    let at_wide = at_wide2.before in
-    let at_pre = at_wide.before in
-    let p = class_use _ _ _ _ at_pre.requires.1
-    at_wide.wide.ensures at_wide3.wide3.ensures in
-    let q = class_use _ _ _ _ at_pre.requires.2 at_wide2.wide2.ensures c.before.wide4.ensures in
-    let f = at_pre.requires.0 in let e = c.wide5.ensures in omega arith)
+    let p = class_use _ _ _ _ c.requires.1
+    c.wide-i.ensures c.wide.ensures in
+    let q = class_use _ _ _ _ c.requires.2 c.wide-j.ensures c.wide-2.ensures in
+    let f = c.requires.0 in let e = c.wide-3.ensures in omega arith)
     (λ c.
-    let at_wide3 = c.before.before.before in
-    let at_wide2 = at_wide3.before.before in
-    let at_wide = at_wide2.before in
     search (
-      at_wide.wide.ensures,
-      at_wide2.wide2.ensures,
-      at_wide3.wide3.ensures,
-      c.before.wide4.ensures,
-      c.wide5.ensures,
+      c.wide-i.ensures,
+      c.wide-j.ensures,
+      c.wide.ensures,
+      c.wide-2.ensures,
+      c.wide-3.ensures,
     )))

@@ -19,12 +19,7 @@ unite_spec =
     (λ c. search rules)
     (λ c κs. search rules)
     (λ c κs.
-    let at_higher = c.before in
-    let at_lower = at_higher.before.before.before in
-    let at_pre = at_lower.before.before.before in
-    let (p, q) = names_ready _ _ _ _ _ _ at_pre.requires.3 at_pre.requires.1 at_pre.requires.2 at_lower.lower.ensures at_higher.higher.ensures in
-    (at_pre.requires.0, p, q, at_pre.requires.3))
+    let (p, q) = names_ready _ _ _ _ _ _ c.requires.3 c.requires.1 c.requires.2 c.lower-low.ensures c.higher-high.ensures in
+    (c.requires.0, p, q, c.requires.3))
     (λ c.
-    let at_higher = c.before.before in
-    let at_lower = at_higher.before.before.before in
-    search (c.relabel.ensures, at_higher.higher.ensures, at_lower.lower.ensures)))
+    search (c.relabel.ensures, c.higher-high.ensures, c.lower-low.ensures)))

@@ -11,10 +11,7 @@ compute_spec =
     (λ c. search rules)
     (λ c. search rules)
     (λ c κs.
-    let at_apply_arg3 = c.before.before.before in
-    let at_y = at_apply_arg3.before.before.before in
-    let at_pre = at_y.before.before in
-    at_pre.requires.appliable)
+    c.requires.appliable)
     (λ c. search rules)
     (λ c. search rules)
     (λ c. search rules)

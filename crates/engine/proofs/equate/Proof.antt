@@ -18,23 +18,11 @@ equate_spec =
     (λ c. search rules)
     (λ c. search rules)
     (λ c.
-    let at_wide2 = c.before.before.before in
-    let at_wide = at_wide2.before.before in
-    let at_pre = at_wide.before.before in
-    equated_same _ _ _ _ _ _ _ _ _ _ _ at_pre.requires _ _
-    at_wide.wide.ensures at_wide2.wide2.ensures c.if1.true)
+    equated_same _ _ _ _ _ _ _ _ _ _ _ c.requires _ _
+    c.wide-x.ensures c.wide-y.ensures c.if-representative-x.true)
     (λ c κs.
-    let at_if1 = c.before.before.before in
-    let at_wide2 = at_if1.before.before.before in
-    let at_wide = at_wide2.before.before in
-    let at_pre = at_wide.before.before in
-    equate_ready _ _ _ _ _ _ _ _ _ _ _ at_pre.requires _ _
-    at_wide.wide.ensures at_wide2.wide2.ensures)
+    equate_ready _ _ _ _ _ _ _ _ _ _ _ c.requires _ _
+    c.wide-x.ensures c.wide-y.ensures)
     (λ c.
-    let at_merge_arg3 = c.before in
-    let at_if1 = at_merge_arg3.before.before.before in
-    let at_wide2 = at_if1.before.before.before in
-    let at_wide = at_wide2.before.before in
-    let at_pre = at_wide.before.before in
-    equated_merged _ _ _ _ _ _ _ _ _ _ _ at_pre.requires _ _
-    at_wide.wide.ensures at_wide2.wide2.ensures _ _ _ c.merge.ensures))
+    equated_merged _ _ _ _ _ _ _ _ _ _ _ c.requires _ _
+    c.wide-x.ensures c.wide-y.ensures _ _ _ c.merge.ensures))

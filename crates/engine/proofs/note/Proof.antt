@@ -11,50 +11,36 @@ note_spec =
     (λ c. search rules)
     (λ c. search rules)
     (λ c. search rules)
-    (λ c. (copy_below _ _ c.before.before.before.requires c.before.letter.given.1).1)
+    (λ c. (copy_below _ _ c.requires c.in-Copy.is).1)
     (λ c. search rules)
     (λ c. search rules)
     (λ c.
-    let at_letter = c.before.before in
-    let at_pre = at_letter.before.before in
-    (copy_below _ _ at_pre.requires at_letter.letter.given.1).0)
-    (λ c. noted_copy _ _ _ _ _ c.before.before.letter.given.1)
+    (copy_below _ _ c.requires c.in-Copy.is).0)
+    (λ c. noted_copy _ _ _ _ _ c.in-Copy.is)
     (λ c. search rules)
     (λ c. search rules)
     (λ c. search rules)
-    (λ c. (unequal_below _ _ c.before.before.before.requires c.before.letter2.given.1).0)
+    (λ c. (unequal_below _ _ c.requires c.in-Unequal.is).0)
     (λ c.
-    let at_letter2 = c.before.before in
-    let at_pre = at_letter2.before.before in
-    let h = unequal_below _ _ at_pre.requires at_letter2.letter2.given.1 in
+    let h = unequal_below _ _ c.requires c.in-Unequal.is in
     let l = h.2 in
     omega arith)
     (λ c.
-    let at_letter2 = c.before.before in
-    let at_pre = at_letter2.before.before in
-    (unequal_below _ _ at_pre.requires at_letter2.letter2.given.1).2)
+    (unequal_below _ _ c.requires c.in-Unequal.is).2)
     (λ c. search rules)
     (λ c. search rules)
     (λ c.
-    let at_letter2 = c.before.before in
-    let at_pre = at_letter2.before.before in
-    (unequal_below _ _ at_pre.requires at_letter2.letter2.given.1).1)
+    (unequal_below _ _ c.requires c.in-Unequal.is).1)
     (λ c.
-    let at_letter2 = c.before.before.before in
-    let at_pre = at_letter2.before.before in
-    let h = unequal_below _ _ at_pre.requires at_letter2.letter2.given.1 in let l = h.2 in
+    let h = unequal_below _ _ c.requires c.in-Unequal.is in let l = h.2 in
     omega arith)
     (λ c.
-    let at_letter2 = c.before.before.before in
-    let at_pre = at_letter2.before.before in
-    (unequal_below _ _ at_pre.requires at_letter2.letter2.given.1).2)
+    (unequal_below _ _ c.requires c.in-Unequal.is).2)
     (λ c.
-    let at_letter2 = c.before.before.before in
-    let at_pre = at_letter2.before.before in
-    let h = unequal_below _ _ at_pre.requires at_letter2.letter2.given.1 in let l = h.2 in
+    let h = unequal_below _ _ c.requires c.in-Unequal.is in let l = h.2 in
     omega arith)
-    (λ c. noted_unequal _ _ _ _ _ c.before.before.before.letter2.given.1)
+    (λ c. noted_unequal _ _ _ _ _ c.in-Unequal.is)
     (λ c. search rules)
     (λ c. search rules)
-    (λ c. noted_apply _ _ _ _ _ c.enum_told.given.1)
-    (λ c. noted_equal _ _ _ _ _ c.enum_told2.given.1))
+    (λ c. noted_apply _ _ _ _ _ c.in-Apply.is)
+    (λ c. noted_equal _ _ _ _ _ c.in-Equal.is))

@@ -7,13 +7,13 @@ use Rattle.engine.proofs.Theory.RunLaws.{malformed_at, ready, clash_ready, goes_
 use Rattle.engine.proofs.perform.Statement.{statement}
 use Rattle.engine.proofs.perform.Tie as tie
 
-abbrev invariant_loop : tie.invariant_loop
+abbrev invariant_loop : tie.invariant-loop-k
 invariant_loop header trace letters function₀ first₀ second₀ representative₀ head₀ link₀ value₀ left₀ right₀ registers counts₀ k₀ function first second representative
     head link value left right counts k =
     Running trace header letters function first second representative head link value left right registers counts.terms counts.tests counts.parted k
     × (registers ≡ header.registers) × (k ≤ letters)
 
-abbrev decreases_loop : tie.decreases_loop
+abbrev decreases_loop : tie.decreases-loop-k
 decreases_loop header trace letters function₀ first₀ second₀ representative₀ head₀ link₀ value₀ left₀ right₀ registers counts₀ k₀ function first second representative
     head link value left right counts k = letters - k
 
@@ -23,114 +23,43 @@ perform_spec =
     invariant_loop
     decreases_loop
     (λ c. search rules)
-    (λ c. (c.before.before.requires.1, refl, search rules))
+    (λ c. (c.requires.1, refl, search rules))
     (λ c κs. search rules)
     (λ c. search rules)
     (λ c. search rules)
     (λ c.
-    let at_loop_test = c.before.before.before in
-    let at_loop = at_loop_test.before in
-    let at_pre = at_loop.before.before.before in
-    let h = at_loop_test.loop_test.true in
-    let l = at_pre.requires.0.few in
+    let h = c.loop-k-test.true in
+    let l = c.requires.0.few in
     omega arith)
     (λ c.
-    let at_letter_at = c.before.before in
-    let at_loop_test = at_letter_at.before in
-    let at_loop = at_loop_test.before in
-    let at_pre = at_loop.before.before.before in
-    malformed_at _ _ _ at_pre.requires.0 _ _ _ _ _ _ _ _ _ _ _ _
-    at_loop_test.loop_test.true at_loop.loop.invariant.0 _ at_letter_at.letter_at.ensures c.enum_told.given.1)
+    malformed_at _ _ _ c.requires.0 _ _ _ _ _ _ _ _ _ _ _ _
+    c.loop-k-test.true c.loop-k.invariant.0 _ c.letter_at-decoded.ensures c.in_default.is)
     (λ c κs.
-    let at_step_arg8 = c.before in
-    let at_step_arg5 = at_step_arg8.before.before.before in
-    let at_step_arg2 = at_step_arg5.before.before.before in
-    let at_decoded = at_step_arg2.before.before.before in
-    let at_letter_at = at_decoded.before.before in
-    let at_loop_test = at_letter_at.before in
-    let at_loop = at_loop_test.before in
-    let at_pre = at_loop.before.before.before in
-    ready _ _ _ at_pre.requires.0 _ _ _ _ _ _ _ _ _ _ _ _
-    at_loop_test.loop_test.true at_loop.loop.invariant.0 _ at_letter_at.letter_at.ensures _ at_decoded.decoded.given.1)
+    ready _ _ _ c.requires.0 _ _ _ _ _ _ _ _ _ _ _ _
+    c.loop-k-test.true c.loop-k.invariant.0 _ c.letter_at-decoded.ensures _ c.in-Letter.is)
     (λ c κs.
-    let at_step = c.before.before.before in
-    let at_step_arg8 = at_step.before.before in
-    let at_step_arg5 = at_step_arg8.before.before.before in
-    let at_step_arg2 = at_step_arg5.before.before.before in
-    let at_decoded = at_step_arg2.before.before.before in
-    let at_letter_at = at_decoded.before.before in
-    let at_loop_test = at_letter_at.before in
-    let at_loop = at_loop_test.before in
-    let at_pre = at_loop.before.before.before in
-    clash_ready _ _ _ at_pre.requires.0 _ _ _ _ _ _ _ _ _ _ _ _ at_loop_test.loop_test.true at_loop.loop.invariant.0 _
-    at_letter_at.letter_at.ensures _ at_decoded.decoded.given.1 _ _ _ _ _ _ _ _ _ _ at_step.step.ensures)
+    clash_ready _ _ _ c.requires.0 _ _ _ _ _ _ _ _ _ _ _ _ c.loop-k-test.true c.loop-k.invariant.0 _
+    c.letter_at-decoded.ensures _ c.in-Letter.is _ _ _ _ _ _ _ _ _ _ c.step-counts.ensures)
     (λ c.
-    let at_clash = c.before in
-    let at_clash_arg = at_clash.before.before.before in
-    let at_step_arg8 = at_clash_arg.before.before.before in
-    let at_step_arg5 = at_step_arg8.before.before.before in
-    let at_step_arg2 = at_step_arg5.before.before.before in
-    let at_decoded = at_step_arg2.before.before.before in
-    let at_loop_test = at_decoded.before.before.before in
-    let at_loop = at_loop_test.before in
-    let at_pre = at_loop.before.before.before in
-    let h = at_loop_test.loop_test.true in
-    let l = at_pre.requires.0.few in
+    let h = c.loop-k-test.true in
+    let l = c.requires.0.few in
     omega arith)
     (λ c.
-    let at_clash_arg3 = c.before.before in
-    let at_step = at_clash_arg3.before.before.before in
-    let at_step_arg8 = at_step.before.before in
-    let at_step_arg5 = at_step_arg8.before.before.before in
-    let at_step_arg2 = at_step_arg5.before.before.before in
-    let at_decoded = at_step_arg2.before.before.before in
-    let at_letter_at = at_decoded.before.before in
-    let at_loop_test = at_letter_at.before in
-    let at_loop = at_loop_test.before in
-    let at_pre = at_loop.before.before.before in
-    stops _ _ _ at_pre.requires.0 _ _ _ _ _ _ _ _ _ _ _ _ at_loop_test.loop_test.true at_loop.loop.invariant.0 _ at_letter_at.letter_at.ensures _
-    at_decoded.decoded.given.1 _ _ _ _ _ _ _ _ _ _ at_step.step.ensures _ c.before.clash.ensures c.if1.true)
+    stops _ _ _ c.requires.0 _ _ _ _ _ _ _ _ _ _ _ _ c.loop-k-test.true c.loop-k.invariant.0 _ c.letter_at-decoded.ensures _
+    c.in-Letter.is _ _ _ _ _ _ _ _ _ _ c.step-counts.ensures _ c.clash.ensures c.if-clash.true)
     (λ c.
-    let at_clash = c.before in
-    let at_clash_arg = at_clash.before.before.before in
-    let at_step_arg8 = at_clash_arg.before.before.before in
-    let at_step_arg5 = at_step_arg8.before.before.before in
-    let at_step_arg2 = at_step_arg5.before.before.before in
-    let at_decoded = at_step_arg2.before.before.before in
-    let at_loop_test = at_decoded.before.before.before in
-    let at_loop = at_loop_test.before in
-    let at_pre = at_loop.before.before.before in
-    let h = at_loop_test.loop_test.true in
-    let l = at_pre.requires.0.few in
+    let h = c.loop-k-test.true in
+    let l = c.requires.0.few in
     omega arith)
     (λ c.
-    let at_clash = c.before in
-    let at_clash_arg = at_clash.before.before.before in
-    let at_step_arg8 = at_clash_arg.before.before.before in
-    let at_step_arg5 = at_step_arg8.before.before.before in
-    let at_step_arg2 = at_step_arg5.before.before.before in
-    let at_decoded = at_step_arg2.before.before.before in
-    let at_loop_test = at_decoded.before.before.before in
-    let h = at_loop_test.loop_test.true in
+    let h = c.loop-k-test.true in
     omega arith)
-    (λ c.
-    let at_clash_arg3 = c.before.before in
-    let at_step = at_clash_arg3.before.before.before in
-    let at_step_arg8 = at_step.before.before in
-    let at_step_arg5 = at_step_arg8.before.before.before in
-    let at_step_arg2 = at_step_arg5.before.before.before in
-    let at_decoded = at_step_arg2.before.before.before in
-    let at_letter_at = at_decoded.before.before in
-    let at_loop_test = at_letter_at.before in
-    let at_loop = at_loop_test.before in
-    let at_pre = at_loop.before.before.before in (
-      goes_on _ _ _ at_pre.requires.0 _ _ _ _ _ _ _ _ _ _ _ _ at_loop_test.loop_test.true at_loop.loop.invariant.0 _
-          at_letter_at.letter_at.ensures _ at_decoded.decoded.given.1 _ _ _ _ _ _ _ _ _ _ at_step.step.ensures _
-          c.before.clash.ensures c.if1.false,
-      at_loop.loop.invariant.1,
-      (let h = at_loop_test.loop_test.true in omega arith),
+    (λ c. (
+      goes_on _ _ _ c.requires.0 _ _ _ _ _ _ _ _ _ _ _ _ c.loop-k-test.true c.loop-k.invariant.0 _
+          c.letter_at-decoded.ensures _ c.in-Letter.is _ _ _ _ _ _ _ _ _ _ c.step-counts.ensures _
+          c.clash.ensures c.if-clash.false,
+      c.loop-k.invariant.1,
+      (let h = c.loop-k-test.true in omega arith),
     ))
     (λ c.
-    let at_loop = c.before in
-    let at_pre = at_loop.before.before.before in
-    ends _ _ _ at_pre.requires.0 _ _ _ _ _ _ _ _ _ _ _ _ c.loop_test.false at_loop.loop.invariant.1 at_loop.loop.invariant.0))
+    ends _ _ _ c.requires.0 _ _ _ _ _ _ _ _ _ _ _ _ c.loop-k-test.false c.loop-k.invariant.1 c.loop-k.invariant.0))

@@ -12,18 +12,11 @@ run_spec =
     tie.close (tie.spec
     (λ c. search rules)
     (λ c κs.
-    let at_begin_arg = c.before in
-    let at_pre = at_begin_arg.before.before.before in
-    registers_few _ _ _ at_pre.requires.0)
-    (λ c κs.
-    let at_link = c.before.before.before in
-    let at_perform_arg3 = at_link.before.before.before in
-    let at_begin = at_perform_arg3.before.before.before in
-    let at_begin_arg = at_begin.before.before in
-    let at_pre = at_begin_arg.before.before.before in (
-      at_pre.requires.0,
-      begins _ _ _ at_pre.requires.0 _ _ _ _ _ _ _ _ _ _ _ at_pre.requires.1 at_pre.requires.2 at_pre.requires.3 at_pre.requires.4 (search rules)
+    registers_few _ _ _ c.requires.0)
+    (λ c κs. (
+      c.requires.0,
+      begins _ _ _ c.requires.0 _ _ _ _ _ _ _ _ _ _ _ c.requires.1 c.requires.2 c.requires.3 c.requires.4 (search rules)
           (zeros signature_chains) (record { long = search rules; zero = zeros most_terms }) (search rules) (search rules) (search rules) _ refl
-          at_begin.begin.ensures,
+          c.begin.ensures,
     ))
     (λ c. search rules))

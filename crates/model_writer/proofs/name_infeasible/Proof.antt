@@ -8,5 +8,5 @@ name_infeasible_spec =
     tie.close
     (tie.spec
     (λ c κs. search rules)
-    (λ c. (stopped _ _ _ _ c.before.first_malformed.ensures).0 c.if1.true)
-    (λ c. (stopped _ _ _ _ c.before.first_malformed.ensures).1 c.if1.false))
+    (λ c. (stopped _ _ _ _ c.first_malformed-broken.ensures).0 c.if-broken-eq0.true)
+    (λ c. (stopped _ _ _ _ c.first_malformed-broken.ensures).1 c.if-broken-eq0.false))

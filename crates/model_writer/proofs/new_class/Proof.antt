@@ -11,5 +11,5 @@ new_class_spec =
     (λ c. search rules)
     (λ c. search rules)
     (λ c κs. search rules)
-    (λ c. class_hit _ _ _ c.before.wide.ensures c.if1.true)
-    (λ c. class_miss _ _ _ c.before.wide.ensures c.if1.false))
+    (λ c. class_hit _ _ _ c.wide.ensures c.if-wide-i.true)
+    (λ c. class_miss _ _ _ c.wide.ensures c.if-wide-i.false))

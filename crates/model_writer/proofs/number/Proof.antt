@@ -9,11 +9,11 @@ use Rattle.model_writer.proofs.Theory.Values.{classes_none, classes_le, chosen_i
 use Rattle.model_writer.proofs.number.Statement.{statement}
 use Rattle.model_writer.proofs.number.Tie as tie
 
-abbrev invariant_loop : tie.invariant_loop
+abbrev invariant_loop : tie.invariant-loop-i
 invariant_loop representative count values₀ next₀ i₀ values next i =
     (i ≤ count) × WrittenUpTo (value_at representative) 0 most_terms i values × (next ≡ suc (classes_below representative i))
 
-abbrev decreases_loop : tie.decreases_loop
+abbrev decreases_loop : tie.decreases-loop-i
 decreases_loop representative count values₀ next₀ i₀ values next i = count - i
 
 pub number_spec : {M : Type 1} → statement M
@@ -22,44 +22,32 @@ number_spec =
     invariant_loop
     decreases_loop
     (λ c. (search rules, written_none _ _ _ _ c.requires.room, classes_none _))
-    (λ c κs. let h = c.before.loop_test.true in let w = c.before.before.before.requires.within in
-    let l = c.before.before.before.requires.lowest _ h in (omega arith, omega arith))
+    (λ c κs. let h = c.loop-i-test.true in let w = c.requires.within in
+    let l = c.requires.lowest _ h in (omega arith, omega arith))
     (λ c.
-    let at_loop_test = c.before.before in
-    let at_pre = at_loop_test.before.before in
-    let h = at_loop_test.loop_test.true in
-    let w = at_pre.requires.within in
+    let h = c.loop-i-test.true in
+    let w = c.requires.within in
     omega arith)
     (λ c.
-    let at_loop_test = c.before.before in
-    let at_pre = at_loop_test.before.before in
-    let h = at_loop_test.loop_test.true in
-    let w = at_pre.requires.within in
+    let h = c.loop-i-test.true in
+    let w = c.requires.within in
     omega arith)
     (λ c κs.
-    let at_loop_test = c.before.before in
-    let at_pre = at_loop_test.before.before in
-    let h = at_loop_test.loop_test.true in
-    let w = at_pre.requires.within in
+    let h = c.loop-i-test.true in
+    let w = c.requires.within in
     omega arith)
     (λ c.
-    let at_loop_test = c.before.before.before in
-    let at_loop = at_loop_test.before in
-    let at_pre = at_loop.before in
-    let h = at_loop_test.loop_test.true in let w = at_pre.requires.within in
-    let e = at_loop.loop.invariant.2 in let g = c.new_class.ensures in
-    let a = classes_le at_pre.args.representative.now at_loop.loop.i in
-    let b = new_class_le at_pre.args.representative.now at_loop.loop.i in omega arith)
-    (λ c. let h = c.before.before.before.loop_test.true in omega arith)
-    (λ c. let h = c.before.before.before.loop_test.true in omega arith)
+    let h = c.loop-i-test.true in let w = c.requires.within in
+    let e = c.loop-i.invariant.2 in let g = c.new_class-next.ensures in
+    let a = classes_le c.args.representative.now c.loop-i.i in
+    let b = new_class_le c.args.representative.now c.loop-i.i in omega arith)
+    (λ c. let h = c.loop-i-test.true in omega arith)
+    (λ c. let h = c.loop-i-test.true in omega arith)
     (λ c.
-    let at_loop_test = c.before.before.before in
-    let at_loop = at_loop_test.before in
-    let at_pre = at_loop.before in
-    let h = at_loop_test.loop_test.true in let w = at_pre.requires.within in (
+    let h = c.loop-i-test.true in let w = c.requires.within in (
       omega arith,
-      written_more _ _ _ _ _ _ at_loop.loop.invariant.1 (omega arith) (c.before.value_of_lem.ensures
-          ∙ chosen_is _ _ at_pre.requires.lowest at_pre.requires.own _ _ _ h at_loop.loop.invariant.1 at_loop.loop.invariant.2),
-      next_is _ _ _ _ at_loop.loop.invariant.2 c.new_class.ensures,
+      written_more _ _ _ _ _ _ c.loop-i.invariant.1 (omega arith) (c.value_of-v.ensures
+          ∙ chosen_is _ _ c.requires.lowest c.requires.own _ _ _ h c.loop-i.invariant.1 c.loop-i.invariant.2),
+      next_is _ _ _ _ c.loop-i.invariant.2 c.new_class-next.ensures,
     ))
-    (λ c. valued_end _ _ _ _ _ c.before.loop.invariant.0 c.loop_test.false c.before.loop.invariant.1 c.before.loop.invariant.2))
+    (λ c. valued_end _ _ _ _ _ c.loop-i.invariant.0 c.loop-i-test.false c.loop-i.invariant.1 c.loop-i.invariant.2))

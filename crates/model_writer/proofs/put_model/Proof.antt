@@ -13,13 +13,9 @@ put_model_spec =
     (λ c. search rules)
     (λ c. search rules)
     (λ c. search rules)
-    (λ c. too_large c.if1.true)
+    (λ c. too_large c.if-out-length.true)
     (λ c κs.
-    let at_if1 = c.before in
-    let at_pre = at_if1.before.before.before in
-    at_pre.requires.writable at_if1.if1.false)
+    c.requires.writable c.if-out-length.false)
     (λ c. search rules)
     (λ c.
-    let at_write = c.before.before in
-    let at_if1 = at_write.before.before in
-    fitting at_if1.if1.false at_write.write.ensures))
+    fitting c.if-out-length.false c.write.ensures))

@@ -12,5 +12,5 @@ second_written_spec =
     (tie.spec
     (λ c. search rules)
     (λ c κs. search rules)
-    (λ c. let e = sym c.before.takes_two.ensures ∙ c.if1.true in rw e)
-    (λ c. let e = sym c.before.takes_two.ensures ∙ c.if1.false in rw e))
+    (λ c. let e = sym c.takes_two.ensures ∙ c.if-takes_two.true in rw e)
+    (λ c. let e = sym c.takes_two.ensures ∙ c.if-takes_two.false in rw e))

@@ -11,16 +11,12 @@ show_spec =
     (λ c κs. search rules)
     (λ c. search rules)
     (λ c. search rules)
-    (λ c. let h = bytes_enough _ _ c.before.before.before.read_beginning.ensures [] c.before.begun2.given.1 in omega arith)
+    (λ c. let h = bytes_enough _ _ c.read_beginning-begun.ensures [] c.in-Header.is in omega arith)
     (λ c.
-    let at_begun2 = c.before.before in
-    let at_read_beginning = at_begun2.before.before in
-    showed_long _ _ at_read_beginning.read_beginning.ensures _ at_begun2.begun2.given.1 c.if1.true)
+    showed_long _ _ c.read_beginning-begun.ensures _ c.in-Header.is c.if-letters-gt-MOST_LETTERS.true)
     (λ c κs.
-    let at_begun2 = c.before.before.before in
-    let at_read_beginning = at_begun2.before.before in
-    begun _ _ at_read_beginning.read_beginning.ensures [] at_begun2.begun2.given.1
-    c.before.if1.false)
-    (λ c. showed_refused _ _ c.before.before.before.read_beginning.ensures _ c.before.begun.given.1)
+    begun _ _ c.read_beginning-begun.ensures [] c.in-Header.is
+    c.if-letters-gt-MOST_LETTERS.false)
+    (λ c. showed_refused _ _ c.read_beginning-begun.ensures _ c.in-Refused.is)
     (λ c. search rules)
     (λ c. search rules))

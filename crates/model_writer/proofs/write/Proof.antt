@@ -17,15 +17,6 @@ write_spec =
     (λ c κs. search rules)
     (λ c. search rules)
     (λ c.
-    let at_write_rows = c.before.before in
-    let at_out3 = at_write_rows.before.before.before in
-    let at_write_starts = at_out3.before in
-    let at_out2 = at_write_starts.before.before.before in
-    let at_put_word2 = at_out2.before in
-    let at_out = at_put_word2.before.before.before in
-    let at_put_word = at_out.before in
-    let at_put_word_arg = at_put_word.before in
-    let at_pre = at_put_word_arg.before.before.before in
     whole _ _ _ _ _ _ _ _ _ _ _ _ _
-    at_pre.requires at_put_word.put_word.ensures at_put_word2.put_word2.ensures
-    at_write_starts.write_starts.ensures at_write_rows.write_rows.ensures))
+    c.requires c.put_word.ensures c.put_word-2.ensures
+    c.write_starts.ensures c.write_rows.ensures))
