@@ -34,6 +34,7 @@ before_written_out (macro.◌then◌ s a) b k = ap (statement_before s) (before_
 
 letter_first : {a : Letter} {j : plain.Block} {ρ τ : Trace} {o : Outcome} → ExecBlock (plain.◌then◌ (plain.perform a) j) ρ τ o → ExecBlock j (ρ ▸ a) τ o
 letter_first (ExecBlock.both Exec.letter e) = e
+letter_first (ExecBlock.ends x) = elim x [ ]
 
 -- ── what a condition says ──
 module _ {ℓ} {R : Meaning {ℓ}} {v : Values R} where
@@ -448,27 +449,39 @@ module _ {ℓ} (h : Header) (t : ℕ) (R : Meaning {ℓ}) where
   BlockCame b k = (ρ τ : Trace) (o : Outcome) → ExecBlock (block_before (expanded_block declared b) k) ρ τ o → Hold τ → (v : Values R) → Agrees v ρ
       → Came (RunsBlock R b v) k τ o
 
-  loop_ran : (c : Condition) (b : Block) → ProperCondition c h t → BlockCame b (again (application declared c)) → {σ π : Trace} {o : Outcome}
-      → Exec (loop_of c b) σ π o → (ρ : Trace) → σ ≡ asked ρ c → Hold π → (v : Values R) → Agrees v ρ → Ran (Runs R (while c b) v) π o
-  loop_ran c b p f {σ} (Exec.leaves e) ρ s a v g =
+  abbrev turned : Condition → Block → plain.Block
+  turned c b = block_before (expanded_block declared b) (again (application declared c))
+
+  -- the same of a while whose condition and block are equal to those
+  while_ran : (c : Condition) (b : Block) → ProperCondition c h t → BlockCame b (again (application declared c))
+      → {d : macro.Condition} {j : plain.Block} {σ π : Trace} {o : Outcome} → Exec (plain.while d j) σ π o → d ≡ comparison declared c → j ≡ turned c b
+      → (ρ : Trace) → σ ≡ asked ρ c → Hold π → (v : Values R) → Agrees v ρ → Ran (Runs R (while c b) v) π o
+  while_ran c b p f {d} {j} {σ} (Exec.leaves e₀) m n ρ s a v g =
+      let e = e₀ ∙ ap opposite m in
       let y = ((condition_false c p v ρ g).0 (subst (λ u. Hold (u ▸ opposite (comparison declared c))) s (subst (λ b. Hold (σ ▸ b)) e a))).1 in
       let d = subst (λ u. Agrees v (u ▸ opposite (comparison declared c))) (sym s) (agrees_false c v ρ g) in
       (v, Runs.leaves y, subst (λ b. Agrees v (σ ▸ b)) (sym e) d)
-  loop_ran c b p f {σ} (Exec.turns {π} x z) ρ s a v g =
+  while_ran c b p f {d} {j} {σ} (Exec.turns {π} x₀ z) m n ρ s a v g =
       let here = hold_before (exec_begins z) a in
+      let x = subst (λ u. ExecBlock (turned c b) (σ ▸ test u) π done) m (subst (λ u. ExecBlock u (σ ▸ test d) π done) n x₀) in
       let y = ((condition_true c p v ρ g).0 (subst (λ u. Hold (u ▸ test (comparison declared c))) s (hold_before (block_begins x) here))).1 in
       let d = subst (λ u. Agrees v (u ▸ test (comparison declared c))) (sym s) (agrees_true c v ρ g) in
       elim (f (σ ▸ test (comparison declared c)) π done x here v d) [
-        | inl (π', (w, r, i), q) ↦ let (u, l, j) = loop_ran c b p f z π' (asked_once c q).0 a w i in (u, Runs.turns y r l, j)
+        | inl (π', (w, r, i), q) ↦ let (u, l, j) = while_ran c b p f z m n π' (asked_once c q).0 a w i in (u, Runs.turns y r l, j)
         | inr (r, q) ↦ absurd (done_not_failed q)
       ]
-  loop_ran c b p f {σ} {π} (Exec.breaks x) ρ s a v g =
+  while_ran c b p f {d} {j} {σ} {π} (Exec.breaks x₀) m n ρ s a v g =
+      let x = subst (λ u. ExecBlock (turned c b) (σ ▸ test u) π failed) m (subst (λ u. ExecBlock u (σ ▸ test d) π failed) n x₀) in
       let y = ((condition_true c p v ρ g).0 (subst (λ u. Hold (u ▸ test (comparison declared c))) s (hold_before (block_begins x) a))).1 in
       let d = subst (λ u. Agrees v (u ▸ test (comparison declared c))) (sym s) (agrees_true c v ρ g) in
       elim (f (σ ▸ test (comparison declared c)) π failed x a v d) [
         | inl (π', r, q) ↦ absurd (done_not_failed (sym (asked_once c q).1))
         | inr ((w, r, i), q) ↦ (w, Runs.breaks y r, i)
       ]
+
+  loop_ran : (c : Condition) (b : Block) → ProperCondition c h t → BlockCame b (again (application declared c)) → {σ π : Trace} {o : Outcome}
+      → Exec (loop_of c b) σ π o → (ρ : Trace) → σ ≡ asked ρ c → Hold π → (v : Values R) → Agrees v ρ → Ran (Runs R (while c b) v) π o
+  loop_ran c b p f x ρ s a v g = while_ran c b p f x refl refl ρ s a v g
 
   mutual
     unfolding statement_before expanded_statement

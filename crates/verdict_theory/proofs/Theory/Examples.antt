@@ -56,6 +56,7 @@ module _ (h : Header) (edition : Edition) (n : ℕ) (output : List ℕ) where
   only_start : {ρ π : Trace} {o : Outcome} → ExecBlock (written_out still) ρ π o → (π ≡ ρ) × (o ≡ done)
   unfolding statement_before
   only_start (ExecBlock.both Exec.nothing ExecBlock.stop) = (refl, refl)
+  only_start (ExecBlock.ends x) = elim x [ ]
 
   nothing_before : {ρ : Trace} → Begins ρ (begin h) → ρ ≡ begin h
   nothing_before whole = refl

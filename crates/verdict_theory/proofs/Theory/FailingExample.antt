@@ -68,6 +68,7 @@ executions (ExecBlock.ends (Exec.fails e)) = inl (ap (λ a. begin two ▸ a) e)
 
 pub failing_so : {ρ : Trace} → Failing start claim ρ → ρ ≡ fails_so
 unfolding statement_before
+failing_so (ExecBlock.both _ x) = elim x [ ]
 failing_so (ExecBlock.ends (Exec.fails e)) = ap (λ a. begin two ▸ a) e
 
 one_letter : {ρ : Trace} {a : Letter} → Begins ρ (begin two ▸ a) → (ρ ≡ begin two ▸ a) ⊎ (ρ ≡ begin two)
