@@ -6,53 +6,43 @@ use Rattle.phrases.proofs.second_argument.Tie as tie
 next_requires : tie.Need-next-requires
 next_requires c κs = search rules
 
-use_of_requires : tie.Need-use-of-requires
+use_of_requires : tie.Need-use_of-second-requires
 use_of_requires c κs = search rules
 
-enum_known_second : tie.Need-enum-known-second
+enum_known_second : tie.Need-enum_known-second
 enum_known_second c = search rules
 
-enum_told : tie.Need-enum-told
+enum_told : tie.Need-enum_told-1
 enum_told c = search rules
 
 refusal_requires : tie.Need-refusal-requires
 refusal_requires c κs = search rules
 
-returns : tie.Need-returns
+returns : tie.Need-returns-in_default
 returns c =
-    let at_use_of = c.before.before.before in
-    let at_next = at_use_of.before in
-    second_refused _ _ _ _ _ _ _ at_next.next.ensures _ at_use_of.use_of.ensures _ _ c.before.enum_told.given.1 _ c.refusal.ensures
+    second_refused _ _ _ _ _ _ _ c.next.ensures _ c.use_of-second.ensures _ _ c.in_default.is _ c.refusal.ensures
 
-expect_requires : tie.Need-expect-requires
+expect_requires : tie.Need-expect-last-requires
 expect_requires c κs = search rules
 
-enum_known_last : tie.Need-enum-known-last
+enum_known_last : tie.Need-enum_known-last
 enum_known_last c = search rules
 
-enum_told_2 : tie.Need-enum-told-2
+enum_told_2 : tie.Need-enum_told-in_default-last
 enum_told_2 c = search rules
 
-refusal_requires_2 : tie.Need-refusal-requires-2
+refusal_requires_2 : tie.Need-refusal-requires-in_default-last
 refusal_requires_2 c κs = search rules
 
-returns_2 : tie.Need-returns-2
+returns_2 : tie.Need-returns-in_default-last
 returns_2 c =
-    let at_expect = c.before.before.before in
-    let at_second = at_expect.before.before in
-    let at_use_of = at_second.before.before in
-    let at_next = at_use_of.before in
-    second_end _ _ _ _ _ _ _ at_next.next.ensures _ at_use_of.use_of.ensures _ _ at_second.second.given.1 _
-    at_expect.expect.ensures _ _ c.before.enum_told2.given.1 _ c.refusal2.ensures
+    second_end _ _ _ _ _ _ _ c.next.ensures _ c.use_of-second.ensures _ _ c.in-At.is _
+    c.expect-last.ensures _ _ c.in_default-last.is _ c.refusal-in_default-last.ensures
 
-returns_3 : tie.Need-returns-3
+returns_3 : tie.Need-returns
 returns_3 c =
-    let at_expect = c.before.before.before in
-    let at_second = at_expect.before.before in
-    let at_use_of = at_second.before.before in
-    let at_next = at_use_of.before in
-    second_read _ _ _ _ _ _ _ at_next.next.ensures _ at_use_of.use_of.ensures _ _ at_second.second.given.1 _
-    at_expect.expect.ensures _ _ c.before.last.given.1
+    second_read _ _ _ _ _ _ _ c.next.ensures _ c.use_of-second.ensures _ _ c.in-At.is _
+    c.expect-last.ensures _ _ c.in-At-last.is
 
 pub second_argument_spec : {M : Type 1} → statement M
 second_argument_spec =

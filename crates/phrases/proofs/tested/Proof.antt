@@ -3,52 +3,48 @@ use borrow.Author.Rules.{rules}
 use Rattle.phrases.proofs.tested.Statement.{statement}
 use Rattle.phrases.proofs.tested.Tie as tie
 
-condition_requires : tie.Need-condition-requires
+condition_requires : tie.Need-condition-g-requires
 condition_requires c κs = search rules
 
-enum_known_g : tie.Need-enum-known-g
+enum_known_g : tie.Need-enum_known-g
 enum_known_g c = search rules
 
 expect_requires : tie.Need-expect-requires
 expect_requires c κs = search rules
 
-letter_then_requires : tie.Need-letter-then-requires
+letter_then_requires : tie.Need-letter_then-requires
 letter_then_requires c κs = search rules
 
 compared_requires : tie.Need-compared-requires
 compared_requires c κs = search rules
 
-enum_known_g_2 : tie.Need-enum-known-g-2
+enum_known_g_2 : tie.Need-enum_known-g-in-Named-1
 enum_known_g_2 c = search rules
 
-expect_requires_2 : tie.Need-expect-requires-2
+expect_requires_2 : tie.Need-expect-requires-in-Named
 expect_requires_2 c κs = search rules
 
-letter_then_requires_2 : tie.Need-letter-then-requires-2
+letter_then_requires_2 : tie.Need-letter_then-requires-in-Named
 letter_then_requires_2 c κs = search rules
 
 named_requires : tie.Need-named-requires
 named_requires c κs = search rules
 
-enum_told : tie.Need-enum-told
+enum_told : tie.Need-enum_told-1
 enum_told c = search rules
 
-returns : tie.Need-returns
+returns : tie.Need-returns-in-Compared
 returns c =
-    let at_expect = c.before.before in
-    let at_g = at_expect.before.before in
-    tested_compared _ _ _ _ _ _ _ _ at_g.before.before.condition.ensures _ _ at_g.g.given.1 _ at_expect.expect.ensures _
-    c.before.letter_then.ensures _ c.compared.ensures
+    tested_compared _ _ _ _ _ _ _ _ c.condition-g.ensures _ _ c.in-Compared.is _ c.expect.ensures _
+    c.letter_then.ensures _ c.compared.ensures
 
-returns_2 : tie.Need-returns-2
+returns_2 : tie.Need-returns-in-Named
 returns_2 c =
-    let at_expect2 = c.before.before in
-    let at_g2 = at_expect2.before.before in
-    tested_named _ _ _ _ _ _ _ _ at_g2.before.before.condition.ensures _ _ _ at_g2.g2.given.1 _ at_expect2.expect2.ensures _
-    c.before.letter_then2.ensures _ c.named.ensures
+    tested_named _ _ _ _ _ _ _ _ c.condition-g.ensures _ _ _ c.in-Named.is _ c.expect-in-Named.ensures _
+    c.letter_then-in-Named.ensures _ c.named.ensures
 
-returns_3 : tie.Need-returns-3
-returns_3 c = tested_refused _ _ _ _ _ _ _ _ c.before.before.condition.ensures _ _ c.enum_told.given.1
+returns_3 : tie.Need-returns-in-Refused
+returns_3 c = tested_refused _ _ _ _ _ _ _ _ c.condition-g.ensures _ _ c.in-Refused.is
 
 pub tested_spec : {M : Type 1} → statement M
 tested_spec =

@@ -14,4 +14,4 @@ branch_at_spec =
     (λ c. search rules)
     (λ c. search rules)
     (λ c κs. search rules)
-    (λ c. search (c.Branch-in.ensures, tail_lent)))
+    (λ c. search (c.branch_in.ensures, tail_lent)))

@@ -14,4 +14,4 @@ parent_at_spec =
     (λ c. search rules)
     (λ c. search rules)
     (λ c κs. search rules)
-    (λ c. search (c.parent_in_lem.ensures, tail_lent)))
+    (λ c. search (c.parent_in.ensures, tail_lent)))

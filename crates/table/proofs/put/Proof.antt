@@ -14,8 +14,7 @@ unfolding put_at
 put_spec =
     tie.close (tie.spec (λ c. search rules) (λ c. search rules) (λ c. search rules) (λ c. search rules) (λ c κs. search rules) (λ c. search rules)
     (λ c.
-    let at_write = c.before.before in
-    let a = at_write.before.before.before.before.args in
-    let r = record_of a.t3 a.parent a.branch in
-    tail_back (record_bytes * a.k) a.table.now at_write.write.new.0 ∙ ap (λ (l : List ℕ). take (record_bytes * a.k) a.table.now ++ l)
-    (at_write.write.ensures ∙ ap (λ (l : List ℕ). r ++ drop record_bytes l) (tail_lent (record_bytes * a.k) a.table.now))))
+    let a = c.args in
+    let r = record_of a.pair a.parent a.branch in
+    tail_back (record_bytes * a.k) a.table.now c.write.new.part ∙ ap (λ (l : List ℕ). take (record_bytes * a.k) a.table.now ++ l)
+    (c.write.ensures ∙ ap (λ (l : List ℕ). r ++ drop record_bytes l) (tail_lent (record_bytes * a.k) a.table.now))))
