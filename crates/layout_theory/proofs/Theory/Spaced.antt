@@ -239,7 +239,8 @@ pub data SpellsAs (s : List ℕ) : ℕ → List ℕ → ℕ → Type 0 where
 -- so they are, by their keys, those that the listed ones are known by
 pub spells_keys : (s : List ℕ) {at e : ℕ} {ks ws : List ℕ} → Pairwise HeldAs ks ws → SpellsAs s at ws e → Spells s at ks e
 spells_keys s Pairwise.none SpellsAs.none = Spells.none
-spells_keys s (Pairwise.more r p) (SpellsAs.more e f l q) = Spells.more (f ∙ r.known) (subst (λ k. word.wrong < k) r.known l) (spells_keys s p q)
+spells_keys s {at} (Pairwise.more r p) (SpellsAs.more e f l q) =
+    Spells.more (f ∙ r.known) (subst (λ k. word.wrong < k) r.known l) (spells_keys s {at = (token_at s at).end} p q)
 
 pub all_printed : {ks ws : List ℕ} → Pairwise HeldAs ks ws → AllPrinted ws
 all_printed Pairwise.none = tt

@@ -7,10 +7,10 @@ use Rattle.text.proofs.Theory.Appending.{LeftToAppend, left_all, left_next, left
 use Rattle.text.proofs.put_name.Statement.{statement}
 use Rattle.text.proofs.put_name.Tie as tie
 
-abbrev invariant_loop : tie.invariant_loop
+abbrev invariant_loop : tie.invariant-loop-rest
 invariant_loop out₀ at name next₀ rest₀ out next rest = LeftToAppend out₀ at (name_text name) (name_text rest) out next
 
-abbrev decreases_loop : tie.decreases_loop
+abbrev decreases_loop : tie.decreases-loop-rest
 decreases_loop out₀ at name next₀ rest₀ out next rest = rest
 
 pub put_name_spec : {M : Type 1} → statement M
@@ -21,17 +21,12 @@ put_name_spec =
     (λ c. left_all _ _ _)
     (λ c. search rules)
     (λ c κs.
-    let at_loop = c.before.before in
-    let at_pre = at_loop.before.before in
-    let l = at_loop.loop in
-    left_room (l.rest % 256 ∷ []) (name_text (l.rest / 256)) at_pre.requires (left_same (name_next l.rest c.before.loop_test.true) l.invariant))
+    let l = c.loop-rest in
+    left_room (l.rest % 256 ∷ []) (name_text (l.rest / 256)) c.requires (left_same (name_next l.rest c.loop-rest-test.true) l.invariant))
     (λ c. search rules)
     (λ c.
-    let at_put_byte = c.before.before in
-    let at_loop_test = at_put_byte.before.before in
-    let at_loop = at_loop_test.before in
-    let l = at_loop.loop in
-    left_next (l.rest % 256 ∷ []) (name_text (l.rest / 256)) (left_same (name_next l.rest at_loop_test.loop_test.true) l.invariant)
-    at_put_byte.put_byte.ensures)
-    (λ c. left_length c.before.loop.invariant)
-    (λ c. left_none (left_same (name_none c.before.loop.rest c.loop_test.false) c.before.loop.invariant)))
+    let l = c.loop-rest in
+    left_next (l.rest % 256 ∷ []) (name_text (l.rest / 256)) (left_same (name_next l.rest c.loop-rest-test.true) l.invariant)
+    c.put_byte-next.ensures)
+    (λ c. left_length c.loop-rest.invariant)
+    (λ c. left_none (left_same (name_none c.loop-rest.rest c.loop-rest-test.false) c.loop-rest.invariant)))
