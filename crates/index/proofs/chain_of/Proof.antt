@@ -17,4 +17,4 @@ chain_of_spec =
     (λ c κs. search rules)
     (λ c. search rules)
     (λ c. search rules)
-    (λ c. (λ i. (c.before.before.number.ensures.0 i + 256 * c.number2.ensures.0 i) % pair_chains, mod-lt _ (omega arith))))
+    (λ c. (λ i. (c.number.ensures.0 i + 256 * c.number-2.ensures.0 i) % pair_chains, mod-lt _ (omega arith))))

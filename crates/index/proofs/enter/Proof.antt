@@ -16,8 +16,8 @@ enter_spec =
     (λ c. search rules)
     (λ c. search rules)
     (λ c. (
-      λ i. set (c.before.before.args.head.now) (c.before.chain_of.ensures.0 i) (c.before.before.args.k),
+      λ i. set (c.args.head.now) (c.chain_of-chain.ensures.0 i) (c.args.k),
       λ i. set
-          (c.before.before.args.link.now) (c.before.before.args.k)
-          (get_or (c.before.before.args.head.now) (c.before.chain_of.ensures.0 i) 0),
+          (c.args.link.now) (c.args.k)
+          (get_or (c.args.head.now) (c.chain_of-chain.ensures.0 i) 0),
     )))

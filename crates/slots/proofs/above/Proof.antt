@@ -8,10 +8,10 @@ use Rattle.slots.specs.Performing.{above_slots}
 use Rattle.slots.proofs.above.Statement.{statement}
 use Rattle.slots.proofs.above.Tie as tie
 
-abbrev invariant_loop : tie.invariant_loop
+abbrev invariant_loop : tie.invariant-loop-h
 invariant_loop around next₀ h₀ next h = WrittenUpTo (λ k. union_of around k registers registers) 0 registers h next
 
-abbrev decreases_loop : tie.decreases_loop
+abbrev decreases_loop : tie.decreases-loop-h
 decreases_loop around next₀ h₀ next h = registers - h
 
 pub above_spec : {M : Type 1} → statement M
@@ -24,5 +24,5 @@ above_spec = tie.close (tie.spec
     (λ c. search rules)
     (λ c. search rules)
     (λ c. search rules)
-    (λ c. written_more _ _ _ _ _ _ c.before.before.loop.invariant c.before.loop_test.true c.union.ensures)
-    (λ c. written_all _ _ _ _ _ c.before.loop.invariant c.loop_test.false))
+    (λ c. written_more _ _ _ _ _ _ c.loop-h.invariant c.loop-h-test.true c.union.ensures)
+    (λ c. written_all _ _ _ _ _ c.loop-h.invariant c.loop-h-test.false))

@@ -4,4 +4,4 @@ use Rattle.slots.proofs.alike.Tie as tie
 
 pub alike_spec : {M : Type 1} → statement M
 unfolding alike_of
-alike_spec = tie.close (tie.spec (λ c. rw c.if1.true) (λ c. rw c.if1.false))
+alike_spec = tie.close (tie.spec (λ c. rw c.if-a.true) (λ c. rw c.if-a.false))

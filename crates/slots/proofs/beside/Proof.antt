@@ -8,10 +8,10 @@ use Rattle.slots.proofs.Theory.Loops.{beside_none, beside_more, beside_all}
 use Rattle.slots.proofs.beside.Statement.{statement}
 use Rattle.slots.proofs.beside.Tie as tie
 
-abbrev invariant_loop : tie.invariant_loop
+abbrev invariant_loop : tie.invariant-loop-h
 invariant_loop around s m₀ h₀ m h = (h ≤ registers) × (m ≡ beside_slots registers around s h)
 
-abbrev decreases_loop : tie.decreases_loop
+abbrev decreases_loop : tie.decreases-loop-h
 decreases_loop around s m₀ h₀ m h = registers - h
 
 pub beside_spec : {M : Type 1} → statement M
@@ -25,5 +25,5 @@ beside_spec = tie.close (tie.spec
     (λ c κs. search rules)
     (λ c. search rules)
     (λ c. search rules)
-    (λ c. (omega (arith, c.before.before.loop_test.true), beside_more registers _ _ _ _ _ c.before.before.before.loop.invariant.1 c.flag.ensures))
-    (λ c. beside_all registers _ _ _ _ c.before.loop.invariant.0 c.loop_test.false c.before.loop.invariant.1))
+    (λ c. (omega (arith, c.loop-h-test.true), beside_more registers _ _ _ _ _ c.loop-h.invariant.1 c.flag-m.ensures))
+    (λ c. beside_all registers _ _ _ _ c.loop-h.invariant.0 c.loop-h-test.false c.loop-h.invariant.1))

@@ -8,10 +8,10 @@ use Rattle.slots.proofs.Theory.Loops.{apart_itself, clash_none, clash_more, clas
 use Rattle.slots.proofs.clash.Statement.{statement}
 use Rattle.slots.proofs.clash.Tie as tie
 
-abbrev invariant_loop : tie.invariant_loop
+abbrev invariant_loop : tie.invariant-loop-s
 invariant_loop unequal bad₀ s₀ bad s = (s ≤ registers) × (bad ≡ clash_slots unequal s)
 
-abbrev decreases_loop : tie.decreases_loop
+abbrev decreases_loop : tie.decreases-loop-s
 decreases_loop unequal bad₀ s₀ bad s = registers - s
 
 pub clash_spec : {M : Type 1} → statement M
@@ -24,8 +24,8 @@ clash_spec = tie.close (tie.spec
     (λ c. search rules)
     (λ c. search rules)
     (λ c. (
-      omega (arith, c.before.before.loop_test.true),
-      clash_more _ _ _ _ c.before.before.before.loop.invariant.1
-          (apart_itself registers functions _ _ _ _ c.before.before.loop_test.true c.before.single.ensures c.apart.ensures),
+      omega (arith, c.loop-s-test.true),
+      clash_more _ _ _ _ c.loop-s.invariant.1
+          (apart_itself registers functions _ _ _ _ c.loop-s-test.true c.single.ensures c.apart-bad.ensures),
     ))
-    (λ c. clash_all _ _ _ _ c.before.loop.invariant.0 c.loop_test.false c.before.loop.invariant.1))
+    (λ c. clash_all _ _ _ _ c.loop-s.invariant.0 c.loop-s-test.false c.loop-s.invariant.1))

@@ -9,10 +9,10 @@ use Rattle.slots.proofs.Theory.Pulls.{at_end, clean_none, clean_more}
 use Rattle.slots.proofs.clean.Statement.{statement}
 use Rattle.slots.proofs.clean.Tie as tie
 
-abbrev invariant_loop : tie.invariant_loop
+abbrev invariant_loop : tie.invariant-loop-k
 invariant_loop t used step fine₀ k₀ fine k = (k ≤ length t) × (fine ≡ clean_of registers used step t k)
 
-abbrev decreases_loop : tie.decreases_loop
+abbrev decreases_loop : tie.decreases-loop-k
 decreases_loop t used step fine₀ k₀ fine k = length t - k
 
 pub clean_spec : {M : Type 1} → statement M
@@ -25,8 +25,8 @@ clean_spec = tie.close (tie.spec
     (λ c κs. search rules)
     (λ c. search rules)
     (λ c. search rules)
-    (λ c. let k = c.before.before.before in (
-      omega (arith, k.loop_test.true),
-      clean_more registers _ _ _ _ _ _ k.before.loop.invariant.1 c.kept.ensures,
+    (λ c. (
+      omega (arith, c.loop-k-test.true),
+      clean_more registers _ _ _ _ _ _ c.loop-k.invariant.1 c.kept.ensures,
     ))
-    (λ c. at_end (clean_of registers _ _ _) _ _ _ c.before.loop.invariant.0 c.loop_test.false c.before.loop.invariant.1))
+    (λ c. at_end (clean_of registers _ _ _) _ _ _ c.loop-k.invariant.0 c.loop-k-test.false c.loop-k.invariant.1))

@@ -8,10 +8,10 @@ use Rattle.slots.proofs.Theory.Loops.{doubled_none, doubled_more, doubled_all}
 use Rattle.slots.proofs.doubled.Statement.{statement}
 use Rattle.slots.proofs.doubled.Tie as tie
 
-abbrev invariant_loop : tie.invariant_loop
+abbrev invariant_loop : tie.invariant-loop-i
 invariant_loop result found₀ i₀ found i = (i ≤ results) × (found ≡ doubled_of registers result i)
 
-abbrev decreases_loop : tie.decreases_loop
+abbrev decreases_loop : tie.decreases-loop-i
 decreases_loop result found₀ i₀ found i = results - i
 
 pub doubled_spec : {M : Type 1} → statement M
@@ -23,5 +23,5 @@ doubled_spec = tie.close (tie.spec
     (λ c κs. search rules)
     (λ c. search rules)
     (λ c. search rules)
-    (λ c. (omega (arith, c.before.before.loop_test.true), doubled_more registers _ _ _ _ c.before.before.before.loop.invariant.1 c.many.ensures))
-    (λ c. doubled_all registers _ _ _ _ c.before.loop.invariant.0 c.loop_test.false c.before.loop.invariant.1))
+    (λ c. (omega (arith, c.loop-i-test.true), doubled_more registers _ _ _ _ c.loop-i.invariant.1 c.many-found.ensures))
+    (λ c. doubled_all registers _ _ _ _ c.loop-i.invariant.0 c.loop-i-test.false c.loop-i.invariant.1))

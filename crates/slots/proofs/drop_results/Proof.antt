@@ -12,11 +12,5 @@ drop_results_spec = tie.close (tie.spec
     (λ c κs. search rules)
     (λ c. search rules)
     (λ c.
-    let at_clear_row = c.before.before in
-    let at_t2 = at_clear_row.before.before.before in
-    let at_clear_column = at_t2.before in
-    let at_t = at_clear_column.before.before.before in
-    let at_move_bits = at_t.before in
-    let at_single = at_move_bits.before in
-    results-dropped registers _ _ _ _ _ _ at_single.single.ensures at_move_bits.move_bits.ensures at_clear_column.clear_column.ensures
-    at_clear_row.clear_row.ensures))
+    results-dropped registers _ _ _ _ _ _ c.single.ensures c.move_bits.ensures c.clear_column.ensures
+    c.clear_row.ensures))

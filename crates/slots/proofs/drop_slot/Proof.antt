@@ -13,44 +13,27 @@ use Rattle.slots.proofs.drop_slot.Tie as tie
 pub drop_slot_spec : {M : Type 1} → statement M
 drop_slot_spec = tie.close (tie.spec
     (λ c κs. search rules)
-    (λ c κs. (c.before.before.before.requires.1, c.before.before.before.requires.3))
+    (λ c κs. (c.requires.1, c.requires.3))
     (λ c κs.
-    let at_lost_slots = c.before.before in
-    let at_start = at_lost_slots.before.before.before in (
-      at_start.requires.0,
-      whole registers 1 at_start.args.unequal.now at_start.requires.2.unequal_long,
+    (
+      c.requires.0,
+      whole registers 1 c.args.unequal.now c.requires.2.unequal_long,
     ))
     (λ c κs.
-    let at_forget_masks = c.before in
-    let at_lost_slots = at_forget_masks.before.before.before in
-    let at_pre = at_lost_slots.before.before.before in
-    let p = at_pre.requires in (p.0, omega (arith, p.2.result_long)))
+    let p = c.requires in (p.0, omega (arith, p.2.result_long)))
     (λ c κs.
-    let at_forget_masks = c.before.before.before in
-    let at_lost_slots = at_forget_masks.before.before.before in
-    let at_start = at_lost_slots.before.before.before in
-    (at_start.requires.0, whole registers functions at_start.args.ever.now at_start.requires.2.ever_long))
+    (c.requires.0, whole registers functions c.args.ever.now c.requires.2.ever_long))
     (λ c κs.
-    let at_drop_results = c.before.before.before in
-    let at_forget_masks = at_drop_results.before.before in
-    let at_lost_slots = at_forget_masks.before.before.before in
-    let at_pre = at_lost_slots.before.before.before in
-    let p = at_pre.requires in (p.0, omega (arith, p.4.long)))
+    let p = c.requires in (p.0, omega (arith, p.4.long)))
     (λ c.
-    let at_forget_masks2 = c.before.before in
-    let at_drop_results = at_forget_masks2.before.before in
-    let at_forget_masks = at_drop_results.before.before in
-    let at_mark_slots = at_forget_masks.before.before in
-    let at_lost_slots = at_mark_slots.before in
-    let at_start = at_lost_slots.before.before.before in
-    let a = at_start.args in
-    let p = at_start.requires in
-    let m = at_mark_slots.mark_slots.ensures in
-    let u = at_forget_masks.forget_masks.ensures in
-    let d = at_drop_results.drop_results.ensures in
-    let v = at_forget_masks2.forget_masks2.ensures in
-    let t = c.drop_results2.ensures in (
-      (λ g i. dropped_is registers functions a.slot.now g _ _ _ _ _ _ _ _ i a.s a.more _ (at_lost_slots.lost_slots.ensures ∙ lost_around
+    let a = c.args in
+    let p = c.requires in
+    let m = c.mark_slots.ensures in
+    let u = c.forget_masks.ensures in
+    let d = c.drop_results.ensures in
+    let v = c.forget_masks-2.ensures in
+    let t = c.drop_results-2.ensures in (
+      (λ g i. dropped_is registers functions a.slot.now g _ _ _ _ _ _ _ _ i a.s a.more _ (c.lost_slots.ensures ∙ lost_around
           registers functions _ _ p.4 _ _ p.0 (search rules)) m u d v),
       (
         (

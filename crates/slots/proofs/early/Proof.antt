@@ -10,7 +10,7 @@ unfolding early_slots
 early_spec = tie.close (tie.spec
     (λ c. search rules)
     (λ c. search rules)
-    (λ c κs. let p = c.before.before.before.requires in (p.0, p.2))
-    (λ c κs. let p = c.before.before.before.before.requires in (p.1, p.2))
-    (λ c. rw c.before.before.if1.true (ap₂ eqb c.before.slot-of.ensures.0 c.slot_of2.ensures.0))
-    (λ c. rw c.if1.false))
+    (λ c κs. let p = c.requires in (p.0, p.2))
+    (λ c κs. let p = c.requires in (p.1, p.2))
+    (λ c. rw c.if-mark-x.true (ap₂ eqb c.slot_of.ensures.0 c.slot_of-then-mark-x.ensures.0))
+    (λ c. rw c.if-mark-x.false))

@@ -8,10 +8,10 @@ use Rattle.slots.proofs.Theory.Loops.{find_here, find_more, find_none}
 use Rattle.slots.proofs.find.Statement.{statement}
 use Rattle.slots.proofs.find.Tie as tie
 
-abbrev invariant_loop : tie.invariant_loop
+abbrev invariant_loop : tie.invariant-loop-i
 invariant_loop slot regs result i₀ i = (i ≤ results) × (find_slots registers slot regs result i (results - i) ≡ find_slots registers slot regs result 0 results)
 
-abbrev decreases_loop : tie.decreases_loop
+abbrev decreases_loop : tie.decreases-loop-i
 decreases_loop slot regs result i₀ i = results - i
 
 pub find_spec : {M : Type 1} → statement M
@@ -23,21 +23,15 @@ find_spec = tie.close (tie.spec
     (λ c κs. search rules)
     (λ c κs. search rules)
     (λ c.
-    let at_many = c.before.before in
-    let at_entry_lem = at_many.before in
-    let at_loop_test = at_entry_lem.before in
-    let at_loop = at_loop_test.before in
-    find_here registers _ _ _ results _ _ _ _ at_loop_test.loop_test.true
-    at_entry_lem.entry.ensures at_many.many.ensures c.before.if1.true c.pulled.ensures
-    ∙ at_loop.loop.invariant.1)
+    find_here registers _ _ _ results _ _ _ _ c.loop-i-test.true
+    c.entry-slots.ensures c.many.ensures c.if-many.true c.pulled.ensures
+    ∙ c.loop-i.invariant.1)
     (λ c. search rules)
     (λ c. search rules)
     (λ c.
-    let at_entry_lem = c.before.before in
-    let at_loop_test = at_entry_lem.before in
-    let at_loop = at_loop_test.before in (
-      omega (arith, at_loop_test.loop_test.true),
-      sym (find_more registers _ _ _ results _ _ _ at_loop_test.loop_test.true at_entry_lem.entry.ensures c.before.many.ensures
-          c.if1.false) ∙ at_loop.loop.invariant.1,
+    (
+      omega (arith, c.loop-i-test.true),
+      sym (find_more registers _ _ _ results _ _ _ c.loop-i-test.true c.entry-slots.ensures c.many.ensures
+          c.if-many.false) ∙ c.loop-i.invariant.1,
     ))
-    (λ c. sym (find_none registers _ _ _ results _ c.loop_test.false) ∙ c.before.loop.invariant.1))
+    (λ c. sym (find_none registers _ _ _ results _ c.loop-i-test.false) ∙ c.loop-i.invariant.1))

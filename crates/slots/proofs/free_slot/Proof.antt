@@ -8,10 +8,10 @@ use Rattle.slots.proofs.Theory.Loops.{free_here, free_more, free_none}
 use Rattle.slots.proofs.free_slot.Statement.{statement}
 use Rattle.slots.proofs.free_slot.Tie as tie
 
-abbrev invariant_loop : tie.invariant_loop
+abbrev invariant_loop : tie.invariant-loop-i
 invariant_loop regs i₀ i = (i ≤ registers) × (free_from regs i (registers - i) ≡ free_from regs 0 registers)
 
-abbrev decreases_loop : tie.decreases_loop
+abbrev decreases_loop : tie.decreases-loop-i
 decreases_loop regs i₀ i = registers - i
 
 pub free_slot_spec : {M : Type 1} → statement M
@@ -20,12 +20,12 @@ free_slot_spec = tie.close (tie.spec
     decreases_loop
     (λ c. (search rules, refl))
     (λ c. search rules)
-    (λ c. sym (free_here registers _ _ c.before.before.loop_test.true c.if1.true) ∙ c.before.before.before.loop.invariant.1)
+    (λ c. sym (free_here registers _ _ c.loop-i-test.true c.if-regs-i-eq0.true) ∙ c.loop-i.invariant.1)
     (λ c. search rules)
     (λ c. search rules)
     (λ c. (
-      omega (arith, c.before.before.loop_test.true),
-      sym (free_more registers _ _ c.before.before.loop_test.true c.if1.false)
-          ∙ c.before.before.before.loop.invariant.1,
+      omega (arith, c.loop-i-test.true),
+      sym (free_more registers _ _ c.loop-i-test.true c.if-regs-i-eq0.false)
+          ∙ c.loop-i.invariant.1,
     ))
-    (λ c. sym (free_none registers _ _ c.loop_test.false) ∙ c.before.loop.invariant.1))
+    (λ c. sym (free_none registers _ _ c.loop-i-test.false) ∙ c.loop-i.invariant.1))

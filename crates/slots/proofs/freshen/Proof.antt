@@ -13,29 +13,19 @@ pub freshen_spec : {M : Type 1} → statement M
 freshen_spec = tie.close (tie.spec
     (λ c κs. search rules)
     (λ c κs.
-    let at_if1 = c.before.before in
-    let at_pre = at_if1.before.before.before in
-    let p = at_pre.requires in (p.0, at_if1.if1.true, p.4, p.5))
+    let p = c.requires in (p.0, c.if-n-lt-REGISTERS.true, p.4, p.5))
     (λ c κs.
-    let at_move_register = c.before.before.before in
-    let at_if1 = at_move_register.before.before.before in
-    let at_pre = at_if1.before.before.before in
-    let p = at_pre.requires in
-    (p.1, p.2, p.3, at_if1.if1.true, p.6, p.7, p.9.long))
+    let p = c.requires in
+    (p.1, p.2, p.3, c.if-n-lt-REGISTERS.true, p.6, p.7, p.9.long))
     (λ c. search rules)
     (λ c.
-    let at_hold_result_arg3 = c.before in
-    let at_move_register = at_hold_result_arg3.before.before.before in
-    let at_if1 = at_move_register.before.before.before in
-    let at_free_slot = at_if1.before in
-    let at_start = at_free_slot.before.before in
-    let a = at_start.args in
-    let p = at_start.requires in
-    let m = at_move_register.move_register.ensures in
-    let l = at_if1.if1.true in
+    let a = c.args in
+    let p = c.requires in
+    let m = c.move_register.ensures in
+    let l = c.if-n-lt-REGISTERS.true in
     let n = c.hold_result.ensures in (
-      (λ u i. freshened_some registers functions (slots_of a.slot.now a.regs.now u a.result.now a.ever.now a.mark.now i)
-          a.x a.f a.a a.b _ _ _ _ _ at_free_slot.free_slot.ensures l m.0 m.1 n.0 n.1.0),
+      (λ u i. freshened_some registers functions (slots_of a.slot.now a.regs.now u a.res.now a.ever.now a.mark.now i)
+          a.x a.f a.a a.b _ _ _ _ _ c.free_slot-n.ensures l m.0 m.1 n.0 n.1.0),
       (
         (λ u ul. record {
           low = subst (Low registers) (sym m.0) (low_set registers _ _ _ p.0 l p.4);
@@ -47,8 +37,8 @@ freshen_spec = tie.close (tie.spec
         around_same registers functions _ _ _ _ n.0 n.1.1 (around_recorded registers functions _ _ p.6 p.9 _ _ _ _ p.1 p.2 p.3),
       ),
     ))
-    (λ c. let p = c.before.before.before.requires in (
-      (λ u i. freshened_none registers functions _ _ _ _ _ _ c.before.free_slot.ensures c.if1.false),
+    (λ c. let p = c.requires in (
+      (λ u i. freshened_none registers functions _ _ _ _ _ _ c.free_slot-n.ensures c.if-n-lt-REGISTERS.false),
       (
         (λ u l. record { low = p.4; regs_long = p.5; tables = record { unequal_long = l; result_long = p.6; ever_long = p.7 }; mark_long = p.8 }),
         p.9,

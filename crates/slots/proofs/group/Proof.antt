@@ -6,10 +6,10 @@ use Rattle.window.specs.Layout.{registers}
 use Rattle.slots.proofs.group.Statement.{statement}
 use Rattle.slots.proofs.group.Tie as tie
 
-abbrev invariant_loop : tie.invariant_loop
+abbrev invariant_loop : tie.invariant-loop-s
 invariant_loop class regs₀ lowest s₀ regs s = length regs ≡ registers
 
-abbrev decreases_loop : tie.decreases_loop
+abbrev decreases_loop : tie.decreases-loop-s
 decreases_loop class regs₀ lowest s₀ regs s = registers - s
 
 pub group_spec : {M : Type 1} → statement M
@@ -23,4 +23,4 @@ group_spec = tie.close (tie.spec
     (λ c. search rules)
     (λ c. search rules)
     (λ c. search rules)
-    (λ c. c.before.loop.invariant))
+    (λ c. c.loop-s.invariant))

@@ -8,10 +8,10 @@ use Rattle.slots.proofs.Theory.Pulls.{at_end, grouped_none, grouped_more}
 use Rattle.slots.proofs.grouped.Statement.{statement}
 use Rattle.slots.proofs.grouped.Tie as tie
 
-abbrev invariant_loop : tie.invariant_loop
+abbrev invariant_loop : tie.invariant-loop-s
 invariant_loop slot regs count fine₀ s₀ fine s = (s ≤ registers) × (fine ≡ grouped_of registers slot regs count s)
 
-abbrev decreases_loop : tie.decreases_loop
+abbrev decreases_loop : tie.decreases-loop-s
 decreases_loop slot regs count fine₀ s₀ fine s = registers - s
 
 pub grouped_spec : {M : Type 1} → statement M
@@ -24,8 +24,8 @@ grouped_spec = tie.close (tie.spec
     (λ c κs. search rules)
     (λ c. search rules)
     (λ c. search rules)
-    (λ c. let k = c.before.before.before in (
-      omega (arith, k.loop_test.true),
-      grouped_more registers _ _ _ _ _ _ _ k.before.loop.invariant.1 c.before.before.number.ensures c.members.ensures,
+    (λ c. (
+      omega (arith, c.loop-s-test.true),
+      grouped_more registers _ _ _ _ _ _ _ c.loop-s.invariant.1 c.number.ensures c.members.ensures,
     ))
-    (λ c. at_end (grouped_of registers _ _ _) _ _ _ c.before.loop.invariant.0 c.loop_test.false c.before.loop.invariant.1))
+    (λ c. at_end (grouped_of registers _ _ _) _ _ _ c.loop-s.invariant.0 c.loop-s-test.false c.loop-s.invariant.1))

@@ -8,5 +8,5 @@ held_spec = tie.close (tie.spec
     (λ c κs. search rules)
     (λ c. search rules)
     (λ c κs. search rules)
-    (λ c. let a = c.before.before.before.args in
-    held_is a.slot.now a.regs.now a.r _ _ c.before.before.slot-of.ensures.0 c.holds.ensures))
+    (λ c. let a = c.args in
+    held_is a.slot.now a.regs.now a.r _ _ c.slot_of.ensures.0 c.holds.ensures))

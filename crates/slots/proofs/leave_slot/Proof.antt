@@ -9,11 +9,9 @@ pub leave_slot_spec : {M : Type 1} → statement M
 leave_slot_spec = tie.close (tie.spec
     (λ c κs. search rules)
     (λ c.
-    let at_drop_slot_arg3 = c.before.before.before in
-    let at_if1 = at_drop_slot_arg3.before.before.before in
-    let a = at_if1.before.args in (
-      (λ g i. left_dropped registers functions (slots_of a.slot.now g a.unequal.now a.result.now a.ever.now a.mark.now i) _
-          a.s _ at_if1.if1.true (c.drop_slot.ensures.0 g i)),
+    let a = c.args in (
+      (λ g i. left_dropped registers functions (slots_of a.slot.now g a.unequal.now a.res.now a.ever.now a.mark.now i) _
+          a.s _ c.if-empty.true (c.drop_slot.ensures.0 g i)),
       c.drop_slot.ensures.1,
     ))
-    (λ c. ((λ g i. left_still registers functions _ c.before.args.s _ c.if1.false), ((c.before.requires.2, c.before.requires.3), c.before.requires.4))))
+    (λ c. ((λ g i. left_still registers functions _ c.args.s _ c.if-empty.false), ((c.requires.2, c.requires.3), c.requires.4))))

@@ -11,7 +11,4 @@ lost_slots_spec = tie.close (tie.spec
     (λ c κs. search rules)
     (λ c κs. search rules)
     (λ c.
-    let at_beside = c.before.before in
-    let at_single = at_beside.before in
-    let at_above = at_single.before in
-    lost_more registers _ _ _ _ _ _ _ at_above.above.ensures at_single.single.ensures at_beside.beside.ensures c.raised.ensures))
+    lost_more registers _ _ _ _ _ _ _ c.above-up.ensures c.single.ensures c.beside.ensures c.raised.ensures))

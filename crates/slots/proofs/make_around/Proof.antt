@@ -11,12 +11,12 @@ use Rattle.slots.proofs.Theory.Around.{around_made}
 use Rattle.slots.proofs.make_around.Statement.{statement}
 use Rattle.slots.proofs.make_around.Tie as tie
 
-abbrev invariant_loop : tie.invariant_loop
+abbrev invariant_loop : tie.invariant-loop-i
 invariant_loop result next₀ i₀ next i =
     WrittenUpTo (λ k. bit_or (union_of result k register_pairs functions) (union_of result (registers * (k % registers) + k / registers) register_pairs functions)) 0
     register_pairs i next
 
-abbrev decreases_loop : tie.decreases_loop
+abbrev decreases_loop : tie.decreases-loop-i
 decreases_loop result next₀ i₀ next i = register_pairs - i
 
 pub make_around_spec : {M : Type 1} → statement M
@@ -32,7 +32,7 @@ make_around_spec = tie.close (tie.spec
     (λ c. search rules)
     (λ c. search rules)
     (λ c. search rules)
-    (λ c. written_more _ _ _ _ _ _ c.before.before.before.loop.invariant c.before.before.loop_test.true
-    (ap₂ bit_or c.before.results_at.ensures c.results_at2.ensures))
-    (λ c. let e = written_all _ _ _ _ _ c.before.loop.invariant c.loop_test.false in
+    (λ c. written_more _ _ _ _ _ _ c.loop-i.invariant c.loop-i-test.true
+    (ap₂ bit_or c.results_at.ensures c.results_at-in-loop-i.ensures))
+    (λ c. let e = written_all _ _ _ _ _ c.loop-i.invariant c.loop-i-test.false in
     (e, subst (Around registers functions _) (sym e) (around_made registers functions _))))

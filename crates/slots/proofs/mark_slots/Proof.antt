@@ -7,10 +7,10 @@ use Rattle.slots.proofs.Theory.Loops.{marked_at, marks_more, marks_all}
 use Rattle.slots.proofs.mark_slots.Statement.{statement}
 use Rattle.slots.proofs.mark_slots.Tie as tie
 
-abbrev invariant_loop : tie.invariant_loop
+abbrev invariant_loop : tie.invariant-loop-r
 invariant_loop slot mark₀ slots r₀ mark r = Swept (marked_at slot mark₀ slots) false mark₀ r mark
 
-abbrev decreases_loop : tie.decreases_loop
+abbrev decreases_loop : tie.decreases-loop-r
 decreases_loop slot mark₀ slots r₀ mark r = registers - r
 
 pub mark_slots_spec : {M : Type 1} → statement M
@@ -19,17 +19,14 @@ mark_slots_spec = tie.close (tie.spec
     decreases_loop
     (λ c. swept_none _ _ _)
     (λ c. search rules)
-    (λ c κs. (c.before.loop_test.true, c.before.before.before.requires.0))
+    (λ c κs. (c.loop-r-test.true, c.requires.0))
     (λ c κs. search rules)
     (λ c. search rules)
     (λ c. search rules)
     (λ c. search rules)
     (λ c.
-    let at_loop_test = c.before.before.before in
-    let at_loop = at_loop_test.before in
-    let at_args = at_loop.before in
-    let a = at_args.args in
-    marks_more registers a.slot.now _ a.slots at_args.requires.1 _ _ _ _
-    at_loop.loop.invariant at_loop_test.loop_test.true c.before.slot-of.ensures.0 c.holds.ensures)
-    (λ c. let a = c.before.before.args in
-    marks_all registers a.slot.now _ a.slots c.before.before.requires.1 _ _ c.before.loop.invariant c.loop_test.false))
+    let a = c.args in
+    marks_more registers a.slot.now _ a.slots c.requires.1 _ _ _ _
+    c.loop-r.invariant c.loop-r-test.true c.slot_of.ensures.0 c.holds.ensures)
+    (λ c. let a = c.args in
+    marks_all registers a.slot.now _ a.slots c.requires.1 _ _ c.loop-r.invariant c.loop-r-test.false))

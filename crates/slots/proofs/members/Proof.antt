@@ -8,10 +8,10 @@ use Rattle.slots.proofs.Theory.Pulls.{at_end, members_none, members_more}
 use Rattle.slots.proofs.members.Statement.{statement}
 use Rattle.slots.proofs.members.Tie as tie
 
-abbrev invariant_loop : tie.invariant_loop
+abbrev invariant_loop : tie.invariant-loop-r
 invariant_loop slot count s m₀ r₀ m r = (r ≤ registers) × (m ≡ members_of registers slot count s r)
 
-abbrev decreases_loop : tie.decreases_loop
+abbrev decreases_loop : tie.decreases-loop-r
 decreases_loop slot count s m₀ r₀ m r = registers - r
 
 pub members_spec : {M : Type 1} → statement M
@@ -23,8 +23,8 @@ members_spec = tie.close (tie.spec
     (λ c κs. search rules)
     (λ c. search rules)
     (λ c. search rules)
-    (λ c. let k = c.before.before in (
-      omega (arith, k.loop_test.true),
-      members_more registers _ _ _ _ _ _ _ k.before.loop.invariant.1 c.before.number.ensures c.single_if.ensures,
+    (λ c. (
+      omega (arith, c.loop-r-test.true),
+      members_more registers _ _ _ _ _ _ _ c.loop-r.invariant.1 c.number.ensures c.single_if-m.ensures,
     ))
-    (λ c. at_end (members_of registers _ _ _) _ _ _ c.before.loop.invariant.0 c.loop_test.false c.before.loop.invariant.1))
+    (λ c. at_end (members_of registers _ _ _) _ _ _ c.loop-r.invariant.0 c.loop-r-test.false c.loop-r.invariant.1))

@@ -16,44 +16,26 @@ merge_slots_spec = tie.close (tie.spec
     (λ c. search rules)
     (λ c. search rules)
     (λ c. search rules)
-    (λ c κs. let p = c.before.before.before.requires in (p.0, p.1, p.2.long))
+    (λ c κs. let p = c.requires in (p.0, p.1, p.2.long))
     (λ c κs.
-    let at_regs2 = c.before.before.before in
-    let at_start = at_regs2.before.before in
-    let p = at_start.requires in
-    (p.0, p.1, whole registers 1 at_start.args.unequal.now p.4.unequal_long))
+    let p = c.requires in
+    (p.0, p.1, whole registers 1 c.args.unequal.now p.4.unequal_long))
     (λ c κs.
-    let at_rename_slot = c.before.before.before in
-    let at_regs2 = at_rename_slot.before.before in
-    let at_pre = at_regs2.before.before in
-    let p = at_pre.requires in (p.0, p.1, p.4.result_long))
+    let p = c.requires in (p.0, p.1, p.4.result_long))
     (λ c κs.
-    let at_rename_masks = c.before.before.before in
-    let at_rename_slot_arg = at_rename_masks.before.before.before in
-    let at_start = at_rename_slot_arg.before.before.before in
-    let p = at_start.requires in
-    (p.0, p.1, whole registers functions at_start.args.ever.now p.4.ever_long))
+    let p = c.requires in
+    (p.0, p.1, whole registers functions c.args.ever.now p.4.ever_long))
     (λ c κs.
-    let at_rename_results = c.before.before.before in
-    let at_rename_masks = at_rename_results.before.before in
-    let at_rename_slot_arg = at_rename_masks.before.before.before in
-    let at_pre = at_rename_slot_arg.before.before.before in
-    let p = at_pre.requires in (p.0, p.1, p.5.long))
+    let p = c.requires in (p.0, p.1, p.5.long))
     (λ c.
-    let at_rename_masks2 = c.before.before in
-    let at_rename_results = at_rename_masks2.before.before in
-    let at_rename_masks = at_rename_results.before.before in
-    let at_rename_slot = at_rename_masks.before.before in
-    let at_regs2 = at_rename_slot.before.before in
-    let at_start = at_regs2.before.before in
-    let a = at_start.args in
-    let p = at_start.requires in
-    let s = at_rename_slot.rename_slot.ensures in
-    let u = at_rename_masks.rename_masks.ensures in
-    let r = at_rename_results.rename_results.ensures in
-    let e = at_rename_masks2.rename_masks2.ensures in
+    let a = c.args in
+    let p = c.requires in
+    let s = c.rename_slot.ensures in
+    let u = c.rename_masks.ensures in
+    let r = c.rename_results.ensures in
+    let e = c.rename_masks-2.ensures in
     let t = c.rename_pairs.ensures in (
-      (λ m i. merged_is registers functions (slots_of a.slot.now a.regs.now a.unequal.now a.result.now a.ever.now m i)
+      (λ m i. merged_is registers functions (slots_of a.slot.now a.regs.now a.unequal.now a.res.now a.ever.now m i)
           a.a a.b _ _ _ _ s u r e),
       (
         (

@@ -15,10 +15,7 @@ move_register_spec = tie.close (tie.spec
     (λ c. search rules)
     (λ c. search rules)
     (λ c.
-    let at_single = c.before.before in
-    let at_slot_of = at_single.before in
-    let at_args = at_slot_of.before.before in
-    let a = at_args.args in (
+    let a = c.args in (
       refl,
-      moved_register a.slot.now a.regs.now a.x a.t _ _ at_slot_of.slot-of.ensures.0 at_single.single.ensures,
+      moved_register a.slot.now a.regs.now a.x a.t _ _ c.slot_of-s.ensures.0 c.single-own.ensures,
     )))

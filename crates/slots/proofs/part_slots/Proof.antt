@@ -12,6 +12,5 @@ part_slots_spec = tie.close (tie.spec
     (λ c κs. search rules)
     (λ c. search rules)
     (λ c.
-    let at_single = c.before.before in
-    let a = at_single.before.before.args in
-    parted_is a.unequal.now a.a a.b _ _ at_single.single.ensures c.single2.ensures))
+    let a = c.args in
+    parted_is a.unequal.now a.a a.b _ _ c.single.ensures c.single-2.ensures))

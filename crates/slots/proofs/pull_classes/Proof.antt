@@ -11,10 +11,10 @@ use Rattle.slots.proofs.Theory.Pulls.{class_pulled}
 use Rattle.slots.proofs.pull_classes.Statement.{statement}
 use Rattle.slots.proofs.pull_classes.Tie as tie
 
-abbrev invariant_loop : tie.invariant_loop
+abbrev invariant_loop : tie.invariant-loop-r
 invariant_loop slot regs next₀ r₀ next r = WrittenUpTo (λ k. pick (has_slot slot regs k) (λ _. get_or regs (slot_of slot k) 0) λ _. 0) 0 registers r next
 
-abbrev decreases_loop : tie.decreases_loop
+abbrev decreases_loop : tie.decreases-loop-r
 decreases_loop slot regs next₀ r₀ next r = registers - r
 
 pub pull_classes_spec : {M : Type 1} → statement M
@@ -29,7 +29,6 @@ pull_classes_spec = tie.close (tie.spec
     (λ c. search rules)
     (λ c. search rules)
     (λ c. search rules)
-    (λ c. let k = c.before.before.before in
-    written_more _ _ _ _ _ _ k.before.loop.invariant k.loop_test.true
-    (class_pulled _ _ _ _ _ c.before.before.slot-of.ensures.0 c.part.ensures))
-    (λ c. written_all _ _ _ _ _ c.before.loop.invariant c.loop_test.false))
+    (λ c. written_more _ _ _ _ _ _ c.loop-r.invariant c.loop-r-test.true
+    (class_pulled _ _ _ _ _ c.slot_of.ensures.0 c.part.ensures))
+    (λ c. written_all _ _ _ _ _ c.loop-r.invariant c.loop-r-test.false))

@@ -10,10 +10,10 @@ use Rattle.slots.proofs.Theory.Pulls.{mark_pulled}
 use Rattle.slots.proofs.pull_marks.Statement.{statement}
 use Rattle.slots.proofs.pull_marks.Tie as tie
 
-abbrev invariant_loop : tie.invariant_loop
+abbrev invariant_loop : tie.invariant-loop-r
 invariant_loop slot regs mark next₀ r₀ next r = WrittenUpTo (λ k. has_slot slot regs k && get_or mark k false) false registers r next
 
-abbrev decreases_loop : tie.decreases_loop
+abbrev decreases_loop : tie.decreases-loop-r
 decreases_loop slot regs mark next₀ r₀ next r = registers - r
 
 pub pull_marks_spec : {M : Type 1} → statement M
@@ -27,7 +27,6 @@ pull_marks_spec = tie.close (tie.spec
     (λ c. search rules)
     (λ c. search rules)
     (λ c. search rules)
-    (λ c. let k = c.before.before in
-    written_more _ _ _ _ _ _ k.before.loop.invariant k.loop_test.true
-    (mark_pulled _ _ _ c.before.held.ensures))
-    (λ c. written_all _ _ _ _ _ c.before.loop.invariant c.loop_test.false))
+    (λ c. written_more _ _ _ _ _ _ c.loop-r.invariant c.loop-r-test.true
+    (mark_pulled _ _ _ c.held.ensures))
+    (λ c. written_all _ _ _ _ _ c.loop-r.invariant c.loop-r-test.false))

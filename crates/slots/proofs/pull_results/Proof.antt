@@ -8,10 +8,10 @@ use Rattle.slots.proofs.Theory.Pulls.{result_pulled}
 use Rattle.slots.proofs.pull_results.Statement.{statement}
 use Rattle.slots.proofs.pull_results.Tie as tie
 
-abbrev invariant_loop : tie.invariant_loop
+abbrev invariant_loop : tie.invariant-loop-k
 invariant_loop slot regs result next₀ k₀ next k = WrittenUpTo (λ i. pulled_of regs (entry_of registers slot regs result i) registers) 0 results k next
 
-abbrev decreases_loop : tie.decreases_loop
+abbrev decreases_loop : tie.decreases-loop-k
 decreases_loop slot regs result next₀ k₀ next k = results - k
 
 pub pull_results_spec : {M : Type 1} → statement M
@@ -25,7 +25,6 @@ pull_results_spec = tie.close (tie.spec
     (λ c. search rules)
     (λ c. search rules)
     (λ c. search rules)
-    (λ c. let k = c.before.before in
-    written_more _ _ _ _ _ _ k.before.loop.invariant k.loop_test.true
-    (result_pulled _ _ _ _ _ c.before.entry.ensures c.pulled.ensures))
-    (λ c. written_all _ _ _ _ _ c.before.loop.invariant c.loop_test.false))
+    (λ c. written_more _ _ _ _ _ _ c.loop-k.invariant c.loop-k-test.true
+    (result_pulled _ _ _ _ _ c.entry.ensures c.pulled.ensures))
+    (λ c. written_all _ _ _ _ _ c.loop-k.invariant c.loop-k-test.false))

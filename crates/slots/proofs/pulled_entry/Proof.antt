@@ -13,7 +13,6 @@ pulled_entry_spec = tie.close (tie.spec
     (λ c. search rules)
     (λ c. search rules)
     (λ c κs. search rules)
-    (λ c. let t = c.before.before.before in
-    entry_pulled registers _ _ _ _ _ _ (sym t.before.held.ensures ∙ t.if1.true)
-    c.before.before.slot-of.ensures.0 c.pulled.ensures)
-    (λ c. entry_none registers _ _ _ _ (sym c.before.held.ensures ∙ c.if1.false)))
+    (λ c. entry_pulled registers _ _ _ _ _ _ (sym c.held.ensures ∙ c.if-held.true)
+    c.slot_of.ensures.0 c.pulled.ensures)
+    (λ c. entry_none registers _ _ _ _ (sym c.held.ensures ∙ c.if-held.false)))

@@ -6,10 +6,10 @@ use Rattle.window.proofs.Theory.Marks.{Reaching, reaching_none, reaching_more, r
 use Rattle.slots.proofs.raised.Statement.{statement}
 use Rattle.slots.proofs.raised.Tie as tie
 
-abbrev invariant_loop : tie.invariant_loop
+abbrev invariant_loop : tie.invariant-loop-t
 invariant_loop up seed s₀ t₀ s t = Reaching registers up seed s t
 
-abbrev decreases_loop : tie.decreases_loop
+abbrev decreases_loop : tie.decreases-loop-t
 decreases_loop up seed s₀ t₀ s t = 2 ^ registers - s
 
 pub raised_spec : {M : Type 1} → statement M
@@ -18,10 +18,10 @@ raised_spec = tie.close (tie.spec
     decreases_loop
     (λ c κs. search rules)
     (λ c κs. search rules)
-    (λ c. reaching_none registers _ _ _ _ (search rules) c.before.below.ensures c.below2.ensures)
+    (λ c. reaching_none registers _ _ _ _ (search rules) c.below.ensures c.below-2.ensures)
     (λ c κs. search rules)
     (λ c κs. search rules)
-    (λ c. let k = c.before.before in let r = k.before.loop.invariant in
-    omega (arith, reaching_grows registers _ _ _ _ c.before.below3.result r k.loop_test.true, reaching_small registers _ _ _ _ r))
-    (λ c. let k = c.before.before in reaching_more registers _ _ _ _ _ _ k.before.loop.invariant c.before.below3.ensures c.below4.ensures)
-    (λ c. reaching_all registers _ _ _ _ c.before.loop.invariant c.loop_test.false))
+    (λ c. let r = c.loop-t.invariant in
+    omega (arith, reaching_grows registers _ _ _ _ c.below-in-loop-t.result r c.loop-t-test.true, reaching_small registers _ _ _ _ r))
+    (λ c. reaching_more registers _ _ _ _ _ _ c.loop-t.invariant c.below-in-loop-t.ensures c.below-in-loop-t-2.ensures)
+    (λ c. reaching_all registers _ _ _ _ c.loop-t.invariant c.loop-t-test.false))

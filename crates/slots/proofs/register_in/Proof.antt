@@ -10,8 +10,6 @@ register_in_spec = tie.close (tie.spec
     (λ c. search rules)
     (λ c κs. search rules)
     (λ c.
-    let at_if1 = c.before.before in
-    let at_name = at_if1.before in
-    let a = at_name.before.args in
-    register_some registers a.regs.now a.slots _ _ at_name.name.ensures at_if1.if1.true c.name2.ensures)
-    (λ c. let a = c.before.before.args in register_none registers a.regs.now a.slots _ c.before.name.ensures c.if1.false))
+    let a = c.args in
+    register_some registers a.regs.now a.slots _ _ c.name-s.ensures c.if-s-lt-REGISTERS.true c.name.ensures)
+    (λ c. let a = c.args in register_none registers a.regs.now a.slots _ c.name-s.ensures c.if-s-lt-REGISTERS.false))

@@ -16,17 +16,11 @@ regular_spec = tie.close (tie.spec
     (λ c κs. search rules)
     (λ c κs. search rules)
     (λ c m i.
-    let at_clean3 = c.before.before.before in
-    let at_clean2 = at_clean3.before.before in
-    let at_clean = at_clean2.before.before in
-    let at_grouped = at_clean.before.before in
-    let at_used = at_grouped.before in
-    let at_start = at_used.before in
-    let g = at_start.well_formed in
-    let a = at_start.args in
+    let g = c.well_formed in
+    let a = c.args in
     let ul : length a.unequal.now ≡ registers = search rules in
     let el : length a.ever.now ≡ lines = search rules in
-    let rl : length a.result.now ≡ results = search rules in
-    regular_checked registers functions a.slot.now a.regs.now a.unequal.now a.result.now a.ever.now m i a.count _ _ _ _ _ _ _ ul
-    el rl at_used.used.ensures at_grouped.grouped.ensures at_clean.clean.ensures at_clean2.clean2.ensures at_clean3.clean3.ensures
-    c.before.clean4.ensures c.doubled.ensures))
+    let rl : length a.res.now ≡ results = search rules in
+    regular_checked registers functions a.slot.now a.regs.now a.unequal.now a.res.now a.ever.now m i a.count _ _ _ _ _ _ _ ul
+    el rl c.used-inhabited.ensures c.grouped.ensures c.clean.ensures c.clean-2.ensures c.clean-3.ensures
+    c.clean-4.ensures c.doubled.ensures))

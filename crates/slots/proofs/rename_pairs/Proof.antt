@@ -14,11 +14,6 @@ rename_pairs_spec = tie.close (tie.spec
     (λ c κs. search rules)
     (λ c κs. search rules)
     (λ c.
-    let at_move_bits = c.before.before in
-    let at_single3 = at_move_bits.before in
-    let at_single2 = at_single3.before in
-    let at_single = at_single2.before in
-    let at_unite_row = at_single.before.before in
-    results-renamed registers _ _ _ _ _ _ _ _ _ _ at_unite_row.before.before.unite_column.ensures
-    at_unite_row.unite_row.ensures at_single.single.ensures
-    at_single2.single2.ensures at_single3.single3.ensures at_move_bits.move_bits.ensures c.drop_results.ensures))
+    results-renamed registers _ _ _ _ _ _ _ _ _ _ c.unite_column.ensures
+    c.unite_row.ensures c.single.ensures
+    c.single-2.ensures c.single-3.ensures c.move_bits.ensures c.drop_results.ensures))

@@ -7,10 +7,10 @@ use Rattle.slots.proofs.Theory.Loops.{renamed_at, renamed_more, renamed_all}
 use Rattle.slots.proofs.rename_slot.Statement.{statement}
 use Rattle.slots.proofs.rename_slot.Tie as tie
 
-abbrev invariant_loop : tie.invariant_loop
+abbrev invariant_loop : tie.invariant-loop-r
 invariant_loop slot₀ a b to from r₀ slot r = (to ≡ a) × (from ≡ b) × Swept (renamed_at slot₀ a b) 0 slot₀ r slot
 
-abbrev decreases_loop : tie.decreases_loop
+abbrev decreases_loop : tie.decreases-loop-r
 decreases_loop slot₀ a b to from r₀ slot r = registers - r
 
 pub rename_slot_spec : {M : Type 1} → statement M
@@ -26,13 +26,10 @@ rename_slot_spec = tie.close (tie.spec
     (λ c. search rules)
     (λ c. search rules)
     (λ c.
-    let at_loop_test = c.before.before in
-    let at_loop = at_loop_test.before in
-    let at_pre = at_loop.before in
-    let l = at_loop.loop in (
+    let l = c.loop-r in (
       l.invariant.0,
       l.invariant.1,
-      renamed_more registers _ _ _ at_pre.requires.2 _ _ _ _ _ l.invariant.0 l.invariant.1 l.invariant.2 at_loop_test.loop_test.true
+      renamed_more registers _ _ _ c.requires.2 _ _ _ _ _ l.invariant.0 l.invariant.1 l.invariant.2 c.loop-r-test.true
           c.renamed.ensures,
     ))
-    (λ c. let l = c.before.loop in renamed_all registers _ _ _ c.before.before.requires.2 _ _ l.invariant.2 c.loop_test.false))
+    (λ c. let l = c.loop-r in renamed_all registers _ _ _ c.requires.2 _ _ l.invariant.2 c.loop-r-test.false))

@@ -4,5 +4,5 @@ use Rattle.slots.proofs.renamed.Tie as tie
 
 pub renamed_spec : {M : Type 1} → statement M
 renamed_spec = tie.close (tie.spec
-    (λ c. rw (eq-eqb _ _ c.if1.true))
-    (λ c. rw (ne_eqb _ _ c.if1.false)))
+    (λ c. rw (eq-eqb _ _ c.if-s-b.true))
+    (λ c. rw (ne_eqb _ _ c.if-s-b.false)))

@@ -14,42 +14,28 @@ renew_spec = tie.close (tie.spec
     (λ c κs. search rules)
     (λ c κs. search rules)
     (λ c κs.
-    let at_drop_slot_arg2 = c.before.before.before in
-    let at_slot_of = at_drop_slot_arg2.before.before.before in
-    let at_pre = at_slot_of.before in
-    let p = at_pre.requires in
-    (at_slot_of.slot-of.ensures.1, p.4, p.5, p.6, p.7))
+    let p = c.requires in
+    (c.slot_of-s.ensures.1, p.4, p.5, p.6, p.7))
     (λ c κs.
-    let at_drop_slot = c.before.before.before in
-    let at_drop_slot_arg3 = at_drop_slot.before.before.before in
-    let at_arguments = at_drop_slot_arg3.before.before.before in
-    let at_slot_of = at_arguments.before in
-    let at_pre = at_slot_of.before in
-    let p = at_pre.requires in
-    let d = at_drop_slot.drop_slot.ensures in (
+    let p = c.requires in
+    let d = c.drop_slot.ensures in (
       p.1,
       p.2,
       p.3,
-      at_slot_of.slot-of.ensures.1,
+      c.slot_of-s.ensures.1,
       d.1.0.0.result_long,
       d.1.0.0.ever_long,
       d.1.1.long,
     ))
     (λ c. search rules)
     (λ c.
-    let at_hold_result_arg3 = c.before in
-    let at_drop_slot = at_hold_result_arg3.before.before.before in
-    let at_drop_slot_arg3 = at_drop_slot.before.before.before in
-    let at_arguments = at_drop_slot_arg3.before.before.before in
-    let at_slot_of = at_arguments.before in
-    let at_start = at_slot_of.before in
-    let a = at_start.args in
-    let p = at_start.requires in
-    let d = at_drop_slot.drop_slot.ensures in
+    let a = c.args in
+    let p = c.requires in
+    let d = c.drop_slot.ensures in
     let n = c.hold_result.ensures in (
-      (λ g i. renewed_is registers functions (slots_of a.slot.now g a.unequal.now a.result.now a.ever.now a.mark.now i)
-          (slots_of _ g _ _ _ _ i) a.x a.f a.a a.b _ _ _ _ at_slot_of.slot-of.ensures.0
-          at_arguments.arguments.ensures (d.0 g i) n.0 n.1.0),
+      (λ g i. renewed_is registers functions (slots_of a.slot.now g a.unequal.now a.res.now a.ever.now a.mark.now i)
+          (slots_of _ g _ _ _ _ i) a.x a.f a.a a.b _ _ _ _ c.slot_of-s.ensures.0
+          c.arguments-more.ensures (d.0 g i) n.0 n.1.0),
       (
         (
           tabled_same registers functions _ _ _ _ _ _ refl n.0 n.1.0 (tabled_recorded registers functions _ _ _ _ _ _ _ d.1.0.0),

@@ -7,4 +7,4 @@ pub rest_spec : {M : Type 1} → statement M
 rest_spec = tie.close (tie.spec
     (λ c κs. search rules)
     (λ c. search rules)
-    (λ c. let a = c.before.before.args in rest_is a.slot.now a.regs.now a.m a.one _ c.before.slot-of.ensures.0))
+    (λ c. let a = c.args in rest_is a.slot.now a.regs.now a.m a.one _ c.slot_of.ensures.0))

@@ -8,10 +8,10 @@ use Rattle.slots.proofs.Theory.Pulls.{at_end, marks_none, marks_more}
 use Rattle.slots.proofs.same_marks.Statement.{statement}
 use Rattle.slots.proofs.same_marks.Tie as tie
 
-abbrev invariant_loop : tie.invariant_loop
+abbrev invariant_loop : tie.invariant-loop-k
 invariant_loop a b fine₀ k₀ fine k = (k ≤ registers) × (fine ≡ same_marks registers a b k)
 
-abbrev decreases_loop : tie.decreases_loop
+abbrev decreases_loop : tie.decreases-loop-k
 decreases_loop a b fine₀ k₀ fine k = registers - k
 
 pub same_marks_spec : {M : Type 1} → statement M
@@ -24,8 +24,8 @@ same_marks_spec = tie.close (tie.spec
     (λ c κs. search rules)
     (λ c. search rules)
     (λ c. search rules)
-    (λ c. let k = c.before.before.before in (
-      omega (arith, k.loop_test.true),
-      marks_more registers _ _ _ _ _ k.before.loop.invariant.1 c.alike.ensures,
+    (λ c. (
+      omega (arith, c.loop-k-test.true),
+      marks_more registers _ _ _ _ _ c.loop-k.invariant.1 c.alike-fine.ensures,
     ))
-    (λ c. at_end (same_marks registers _ _) _ _ _ c.before.loop.invariant.0 c.loop_test.false c.before.loop.invariant.1))
+    (λ c. at_end (same_marks registers _ _) _ _ _ c.loop-k.invariant.0 c.loop-k-test.false c.loop-k.invariant.1))

@@ -9,10 +9,10 @@ use Rattle.slots.proofs.Theory.Pulls.{at_end, same_none, same_more}
 use Rattle.slots.proofs.same_masks.Statement.{statement}
 use Rattle.slots.proofs.same_masks.Tie as tie
 
-abbrev invariant_loop : tie.invariant_loop
+abbrev invariant_loop : tie.invariant-loop-k
 invariant_loop a b fine₀ k₀ fine k = (k ≤ length a) × (fine ≡ same_masks registers a b k)
 
-abbrev decreases_loop : tie.decreases_loop
+abbrev decreases_loop : tie.decreases-loop-k
 decreases_loop a b fine₀ k₀ fine k = length a - k
 
 pub same_masks_spec : {M : Type 1} → statement M
@@ -24,5 +24,5 @@ same_masks_spec = tie.close (tie.spec
     (λ c. search rules)
     (λ c. search rules)
     (λ c. search rules)
-    (λ c. let k = c.before.before in (omega (arith, k.loop_test.true), same_more registers _ _ _ _ k.before.loop.invariant.1))
-    (λ c. at_end (same_masks registers _ _) _ _ _ c.before.loop.invariant.0 c.loop_test.false c.before.loop.invariant.1))
+    (λ c. (omega (arith, c.loop-k-test.true), same_more registers _ _ _ _ c.loop-k.invariant.1))
+    (λ c. at_end (same_masks registers _ _) _ _ _ c.loop-k.invariant.0 c.loop-k-test.false c.loop-k.invariant.1))

@@ -16,16 +16,13 @@ Start = lts.Start (same_masks_reads.Asked, same_masks_reads.Learnt, same_marks_r
     reads.Pre reads.Post
 
 abbrev Copied : Type 0
-Copied = lts.After-other-mark
+Copied = lts.After-other_mark-1
     (same_masks_reads.Asked, same_masks_reads.Learnt, same_marks_reads.Asked, same_marks_reads.Learnt, alike_reads.Asked, alike_reads.Learnt)
     reads.Pre reads.Post
 
 abbrev start : Copied → Start
 start at_other_mark =
-    let at_other_unequal = at_other_mark.before.before.before in
-    let at_mark = at_other_unequal.before.before in
-    let at_result = at_mark.before.before in
-    at_result.before.before.before
+    at_other_mark.before.before.before.before.before.before.before.before.before.before
 
 -- the lengths that the types say
 long : (k : Start) → Long registers functions k.args.v × Long registers functions k.args.w
@@ -42,45 +39,25 @@ same_window_spec = tie.close (tie.spec
     (λ c. search rules)
     (λ c. search rules)
     (λ c κs.
-    let at_same_masks = c.before.before in
-    let at_other_mark = at_same_masks.before.before.before in
-    let (v, w) = long (start at_other_mark) in
+    let (v, w) = long (start c.before.before.before.before.before) in
     w.unequal ∙ sym v.unequal)
     (λ c. search rules)
     (λ c. search rules)
     (λ c κs.
-    let at_same_masks2 = c.before.before in
-    let at_same_masks = at_same_masks2.before.before.before in
-    let at_other_mark = at_same_masks.before.before.before in
-    let (v, w) = long (start at_other_mark) in
+    let (v, w) = long (start c.before.before.before.before.before.before.before.before) in
     w.result ∙ sym v.result)
     (λ c. search rules)
     (λ c.
-    let at_same_masks3 = c.before.before in
-    let at_same_masks2 = at_same_masks3.before.before.before in
-    let at_same_masks = at_same_masks2.before.before.before in
-    let at_other_mark = at_same_masks.before.before.before in
-    sym (long (start at_other_mark)).1.ever)
+    sym (long (start c.before.before.before.before.before.before.before.before.before.before.before)).1.ever)
     (λ c κs.
-    let at_same_masks3 = c.before.before in
-    let at_same_masks2 = at_same_masks3.before.before.before in
-    let at_same_masks = at_same_masks2.before.before.before in
-    let at_other_mark = at_same_masks.before.before.before in
-    let (v, w) = long (start at_other_mark) in
+    let (v, w) = long (start c.before.before.before.before.before.before.before.before.before.before.before) in
     w.ever ∙ sym v.ever)
     (λ c κs. search rules)
     (λ c κs. search rules)
     (λ c.
-    let at_alike = c.before.before in
-    let at_same_marks = at_alike.before in
-    let at_same_masks4 = at_same_marks.before.before.before in
-    let at_same_masks3 = at_same_masks4.before.before.before in
-    let at_same_masks2 = at_same_masks3.before.before.before in
-    let at_same_masks = at_same_masks2.before.before.before in
-    let at_other_mark = at_same_masks.before.before.before in
-    let k = start at_other_mark in
+    let k = start c.before.before.before.before.before.before.before.before.before.before.before.before.before.before.before.before.before.before in
     let a = k.args in
     let (v, w) = long k in
-    let e = window_compared registers functions a.v a.w _ _ _ _ _ _ _ v at_same_masks.same-masks.ensures at_same_masks2.same_masks2.ensures
-    at_same_masks3.same_masks3.ensures at_same_masks4.same_masks4.ensures at_same_marks.same-marks.ensures at_alike.alike.ensures refl in
+    let e = window_compared registers functions a.v a.w _ _ _ _ _ _ _ v c.same_masks.ensures c.same_masks-2.ensures
+    c.same_masks-3.ensures c.same_masks-4.ensures c.same_marks.ensures c.alike.ensures refl in
     (e, λ t. same-window registers functions a.v a.w v w (sym e ∙ t))))

@@ -8,10 +8,10 @@ use Rattle.slots.proofs.Theory.Pulls.{at_end, used_none, used_more}
 use Rattle.slots.proofs.used.Statement.{statement}
 use Rattle.slots.proofs.used.Tie as tie
 
-abbrev invariant_loop : tie.invariant_loop
+abbrev invariant_loop : tie.invariant-loop-s
 invariant_loop regs m₀ s₀ m s = (s ≤ registers) × (m ≡ used_of registers regs s)
 
-abbrev decreases_loop : tie.decreases_loop
+abbrev decreases_loop : tie.decreases-loop-s
 decreases_loop regs m₀ s₀ m s = registers - s
 
 pub used_spec : {M : Type 1} → statement M
@@ -23,8 +23,8 @@ used_spec = tie.close (tie.spec
     (λ c κs. search rules)
     (λ c. search rules)
     (λ c. search rules)
-    (λ c. let k = c.before.before in (
-      omega (arith, k.loop_test.true),
-      used_more registers _ _ _ _ k.before.loop.invariant.1 c.single_if.ensures,
+    (λ c. (
+      omega (arith, c.loop-s-test.true),
+      used_more registers _ _ _ _ c.loop-s.invariant.1 c.single_if-m.ensures,
     ))
-    (λ c. at_end (used_of registers _) _ _ _ c.before.loop.invariant.0 c.loop_test.false c.before.loop.invariant.1))
+    (λ c. at_end (used_of registers _) _ _ _ c.loop-s.invariant.0 c.loop-s-test.false c.loop-s.invariant.1))
