@@ -190,8 +190,8 @@ fn put_starts(
     count: u8,
 ) -> usize
     requires { PlaceInRange at (start_lines (λ r. name_text (get_or registers r 0)) 0 (units_in word_bytes count (drop start answer.now))) }
-    ensures* { λ r. ⌜ Appended out.old at
-        (start_lines (λ r. name_text (get_or registers r 0)) 0 (units_in word_bytes count (drop start answer.now))) out.new r ⌝ }
+    ensures { Appended out.old at
+        (start_lines (λ r. name_text (get_or registers r 0)) 0 (units_in word_bytes count (drop start answer.now))) out.new result }
 {
     let mut next = at;
     let mut register: u8 = 0;

@@ -9,8 +9,8 @@ pub branch_spec : {M : Type 1} → statement M
 branch_spec =
     tie.close
     (tie.spec
-    (λ c. (change_high _ _ _ _ c.if1.true, change_high _ _ _ _ c.if1.true))
-    (λ c. (change_none _ _ _ _ c.before.if1.false c.if2.true, change_none _ _ _ _ c.before.if1.false c.if2.true))
+    (λ c. (change_high _ _ _ _ c.if-count-gt-MOST_POINTS.true, change_high _ _ _ _ c.if-count-gt-MOST_POINTS.true))
+    (λ c. (change_none _ _ _ _ c.if-count-gt-MOST_POINTS.false c.if-count-test.true, change_none _ _ _ _ c.if-count-gt-MOST_POINTS.false c.if-count-test.true))
     (λ c. search rules)
     (λ c κs. search rules)
     (λ c κs. search rules)
@@ -19,11 +19,9 @@ branch_spec =
     (λ c. search rules)
     (λ c. search rules)
     (λ c.
-    let at_if2 = c.before.before in
-    let at_if1 = at_if2.before in
-    let args = at_if1.before.args in
-    let few = at_if1.if1.false in
-    let some = at_if2.if2.false in (
-      change_some _ _ _ _ few some _ (ap (set args.first.now args.test) c.before.begin.ensures),
-      change_some _ _ _ _ few some _ (ap (set args.second.now args.test) c.begin2.ensures),
+    let args = c.args in
+    let few = c.if-count-gt-MOST_POINTS.false in
+    let some = c.if-count-test.false in (
+      change_some _ _ _ _ few some _ (ap (set args.first.now args.test) c.begin-holds.ensures),
+      change_some _ _ _ _ few some _ (ap (set args.second.now args.test) c.begin-fails.ensures),
     )))

@@ -11,5 +11,5 @@ passed_spec =
     (λ c κs. search rules)
     (λ c. search rules)
     (λ c κs. search rules)
-    (λ c ps. passed_at _ _ _ _ _ c.before.before.g.given.1 (c.moved.ensures ps))
-    (λ c ps. passed_refused _ _ _ _ _ c.before.before.g2.given.1 (c.stopped.ensures ps)))
+    (λ c ps. passed_at _ _ _ _ _ c.in-At.is (c.moved.ensures ps))
+    (λ c ps. passed_refused _ _ _ _ _ c.in-Refused.is (c.stopped.ensures ps)))

@@ -8,10 +8,10 @@ use Rattle.blocks.specs.Held.{table_of_codes, unused_point}
 use Rattle.blocks.proofs.points_of.Statement.{statement}
 use Rattle.blocks.proofs.points_of.Tie as tie
 
-abbrev invariant_loop : tie.invariant_loop
+abbrev invariant_loop : tie.invariant-loop-i
 invariant_loop code first second count points₀ i₀ points i = (i ≤ count) × (points ≡ table_of_codes code first second i)
 
-abbrev decreases_loop : tie.decreases_loop
+abbrev decreases_loop : tie.decreases-loop-i
 decreases_loop code first second count points₀ i₀ points i = count - i
 
 pub points_of_spec : {M : Type 1} → statement M
@@ -21,7 +21,7 @@ points_of_spec =
     invariant_loop
     decreases_loop
     (λ c κs. search rules)
-    (λ c. (omega arith, ap (replicate 256) c.unused-point.ensures ∙ each_none _ (replicate 256 unused_point)))
+    (λ c. (omega arith, ap (replicate 256) c.unused_point-points.ensures ∙ each_none _ (replicate 256 unused_point)))
     (λ c. search rules)
     (λ c. search rules)
     (λ c. search rules)
@@ -34,9 +34,6 @@ points_of_spec =
     (λ c. search rules)
     (λ c. search rules)
     (λ c.
-    let at_point_at_arg3 = c.before in
-    let at_loop_test = at_point_at_arg3.before.before.before in
-    let at_loop = at_loop_test.before in
-    let (low, filled) = at_loop.loop.invariant in
-    (omega (arith, at_loop_test.loop_test.true), each_turn _ _ _ _ unused_point _ filled c.point_at.ensures))
-    (λ c. let (low, filled) = c.before.loop.invariant in ended _ _ _ _ _ filled (omega (arith, low, c.loop_test.false))))
+    let (low, filled) = c.loop-i.invariant in
+    (omega (arith, c.loop-i-test.true), each_turn _ _ _ _ unused_point _ filled c.point_at.ensures))
+    (λ c. let (low, filled) = c.loop-i.invariant in ended _ _ _ _ _ filled (omega (arith, low, c.loop-i-test.false))))

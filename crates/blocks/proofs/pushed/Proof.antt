@@ -18,5 +18,5 @@ pushed_spec =
     (λ c. search rules)
     (λ c. search rules)
     (λ c. search rules)
-    (λ c. fine_pushed c.before.before.args.st _ _ _ _ _ _ _ _ c.code_of_lem.ensures c.before.if1.true)
-    (λ c. fine_full c.before.args.st _ _ _ _ _ c.if1.false))
+    (λ c. fine_pushed c.args.st _ _ _ _ _ _ _ _ c.code_of.ensures c.if-n-lt-MOST_POINTS.true)
+    (λ c. fine_full c.args.st _ _ _ _ _ c.if-n-lt-MOST_POINTS.false))

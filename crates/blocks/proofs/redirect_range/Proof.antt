@@ -9,11 +9,11 @@ use Rattle.blocks.proofs.Theory.CodeLaws.{range_begun, range_turn, range_ended}
 use Rattle.blocks.proofs.redirect_range.Statement.{statement}
 use Rattle.blocks.proofs.redirect_range.Tie as tie
 
-abbrev invariant_loop : tie.invariant_loop
+abbrev invariant_loop : tie.invariant-loop-i
 invariant_loop first₀ second₀ from to f i₀ first second i =
     (from ≤ i) × (first ≡ each_up_to (backpatched_in from to f) i first₀) × (second ≡ each_up_to (backpatched_in from to f) i second₀)
 
-abbrev decreases_loop : tie.decreases_loop
+abbrev decreases_loop : tie.decreases-loop-i
 decreases_loop first₀ second₀ from to f i₀ first second i = to - i
 
 pub redirect_range_spec : {M : Type 1} → statement M
@@ -36,14 +36,11 @@ redirect_range_spec =
     (λ c. search rules)
     (λ c. search rules)
     (λ c.
-    let at_follow = c.before.before in
-    let at_loop_test = at_follow.before.before in
-    let at_loop = at_loop_test.before in
-    let (low, one, two) = at_loop.loop.invariant in (
+    let (low, one, two) = c.loop-i.invariant in (
       omega arith,
-      each_turn _ _ _ _ 0 _ one (range_turn _ _ _ _ _ _ low at_loop_test.loop_test.true at_follow.follow.ensures),
-      each_turn _ _ _ _ 0 _ two (range_turn _ _ _ _ _ _ low at_loop_test.loop_test.true c.follow2.ensures),
+      each_turn _ _ _ _ 0 _ one (range_turn _ _ _ _ _ _ low c.loop-i-test.true c.follow.ensures),
+      each_turn _ _ _ _ 0 _ two (range_turn _ _ _ _ _ _ low c.loop-i-test.true c.follow-in-loop-i.ensures),
     ))
     (λ c.
-    let (low, one, two) = c.before.loop.invariant in
-    (range_ended _ _ _ _ _ _ low c.loop_test.false one, range_ended _ _ _ _ _ _ low c.loop_test.false two)))
+    let (low, one, two) = c.loop-i.invariant in
+    (range_ended _ _ _ _ _ _ low c.loop-i-test.false one, range_ended _ _ _ _ _ _ low c.loop-i-test.false two)))

@@ -7,8 +7,8 @@ use Rattle.blocks.proofs.repeat_from.Tie as tie
 pub repeat_from_spec : {M : Type 1} → statement M
 repeat_from_spec =
     tie.close (tie.spec
-    (λ c. (change_high _ _ _ _ c.if1.true, change_high _ _ _ _ c.if1.true))
-    (λ c. (change_none _ _ _ _ c.before.if1.false c.if2.true, change_none _ _ _ _ c.before.if1.false c.if2.true))
+    (λ c. (change_high _ _ _ _ c.if-count-gt-MOST_POINTS.true, change_high _ _ _ _ c.if-count-gt-MOST_POINTS.true))
+    (λ c. (change_none _ _ _ _ c.if-count-gt-MOST_POINTS.false c.if-count-test.true, change_none _ _ _ _ c.if-count-gt-MOST_POINTS.false c.if-count-test.true))
     (λ c. search rules)
     (λ c κs. search rules)
     (λ c. search rules)
@@ -18,13 +18,10 @@ repeat_from_spec =
     (λ c. search rules)
     (λ c. search rules)
     (λ c.
-    let at_redirect_range = c.before in
-    let at_if2 = at_redirect_range.before.before.before in
-    let at_if1 = at_if2.before in
-    let args = at_if1.before.args in
-    let few = at_if1.if1.false in
-    let some = at_if2.if2.false in
-    let ranges = at_redirect_range.redirect_range.ensures in (
-      change_some _ _ _ _ few some _ (λ i. set (ranges.0 i) args.test (c.begin.ensures i)),
+    let args = c.args in
+    let few = c.if-count-gt-MOST_POINTS.false in
+    let some = c.if-count-test.false in
+    let ranges = c.redirect_range.ensures in (
+      change_some _ _ _ _ few some _ (λ i. set (ranges.0 i) args.test (c.begin-body.ensures i)),
       change_some _ _ _ _ few some _ (λ i. set (ranges.1 i) args.test 256),
     )))

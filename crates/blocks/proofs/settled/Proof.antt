@@ -11,7 +11,5 @@ settled_spec =
     (λ c. search rules)
     (λ c κs. search rules)
     (λ c.
-    let at_pushed_arg2 = c.before.before in
-    let at_g = at_pushed_arg2.before.before.before in
-    settled_at _ _ _ _ _ at_g.g.given.1 c.pushed.ensures)
-    (λ c. settled_refused _ _ _ _ _ c.before.before.g2.given.1 (c.stopped.ensures _)))
+    settled_at _ _ _ _ _ c.in-At.is c.pushed.ensures)
+    (λ c. settled_refused _ _ _ _ _ c.in-Refused.is (c.stopped.ensures _)))

@@ -20,29 +20,20 @@ write_report_spec =
     (λ c κs. search rules)
     (λ c. search rules)
     (λ c κs.
-    let at_shared_slice_known = c.before.before.before in
-    let a = at_shared_slice_known.before.args in
+    let a = c.args in
     let reg : (r : ℕ) → Fits w64 (get_or a.registers r 0) = λ r. search rules in
     let fun : (f : ℕ) → Fits w64 (get_or a.functions f 0) = λ f. search rules in
     let few : Fits w8 a.h.registers = search rules in
     report_room a.registers a.functions (λ r. (reg r).fits) (λ f. (fun f).fits) a.h a.answer.now
-    (λ i. omega (arith, at_shared_slice_known.shared_slice_known.given i)) c.before.limited.result c.before.limited.ensures.1 few.fits)
+    (λ i. omega (arith, c.shared_slice_known-1.given i)) c.limited-known.result c.limited-known.ensures.1 few.fits)
     (λ c.
-    let at_put_report = c.before.before in
-    let at_limited = at_put_report.before.before in
-    let at_args = at_limited.before.before.before in
-    let a = at_args.args in
+    let a = c.args in
     subst (λ (v : ReportedVerdict). WroteText (report_of a.registers a.functions a.h v a.answer.now) a.out.now a.out.now NoRoom)
-    at_limited.limited.ensures.0 (wrote_none at_put_report.put_report.ensures.place c.if1.true))
+    c.limited-known.ensures.0 (wrote_none c.put_report-size.ensures.place c.if-out-size.true))
     (λ c κs. search rules)
-    (λ c. appended_length c.before.before.put_report2.ensures)
+    (λ c. appended_length c.put_report-end.ensures)
     (λ c.
-    let at_put_report2 = c.before.before in
-    let at_if1 = at_put_report2.before.before in
-    let at_put_report = at_if1.before.before in
-    let at_limited = at_put_report.before.before in
-    let at_args = at_limited.before.before.before in
-    let a = at_args.args in
+    let a = c.args in
     subst (λ (v : ReportedVerdict). WroteText (report_of a.registers a.functions a.h v a.answer.now) a.out.now
-    at_put_report2.put_report2.new.0 (Bytes at_put_report2.put_report2.result)) at_limited.limited.ensures.0
-    (wrote_all at_put_report.put_report.ensures.place at_if1.if1.false at_put_report2.put_report2.ensures)))
+    c.put_report-end.new.out (Bytes c.put_report-end.result)) c.limited-known.ensures.0
+    (wrote_all c.put_report-size.ensures.place c.if-out-size.false c.put_report-end.ensures)))

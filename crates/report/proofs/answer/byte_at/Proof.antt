@@ -12,4 +12,4 @@ byte_at_spec =
     (λ c. search rules)
     (λ c κs. search rules)
     (λ c. search rules)
-    (λ c. (sym (get_or-eq_default c.before.before.args.bytes.now 0 c.if1.false), omega arith)))
+    (λ c. (sym (get_or-eq_default c.args.bytes.now 0 c.if-at-bytes.false), omega arith)))

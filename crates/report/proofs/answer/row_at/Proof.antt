@@ -17,6 +17,5 @@ row_at_spec =
     (λ c κs. search rules)
     (λ c. search rules)
     (λ c.
-    let at_word_at = c.before.before in
-    let a = at_word_at.before.before.args in
-    row_words a.bytes.now a.at at_word_at.word-at.ensures.0 c.before.word_at2.ensures.0 c.byte_at.ensures.0))
+    let a = c.args in
+    row_words a.bytes.now a.at c.word_at-first.ensures.0 c.word_at-second.ensures.0 c.byte_at.ensures.0))

@@ -16,8 +16,8 @@ word_at_spec =
     (λ c κs. search rules)
     (λ c. search rules)
     (λ c.
-    let a = c.before.before.before.args in (
-      ap₂ (λ (x y : ℕ). x * 256 + y) c.before.byte_at.ensures.0 c.byte_at2.ensures.0
+    let a = c.args in (
+      ap₂ (λ (x y : ℕ). x * 256 + y) c.byte_at.ensures.0 c.byte_at-2.ensures.0
           ∙ sym (word_bytes a.bytes.now a.at),
-      omega (arith, c.before.byte_at.ensures.1, c.byte_at2.ensures.1),
+      omega (arith, c.byte_at.ensures.1, c.byte_at-2.ensures.1),
     )))

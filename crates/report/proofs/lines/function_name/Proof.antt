@@ -13,5 +13,5 @@ function_name_spec =
     (λ c. search rules)
     (λ c. search rules)
     (λ c.
-    let long : length c.before.args.t1 ≡ 4 = search rules in
-    sym (get_or-eq_default c.before.args.t1 0 (omega (arith, long, c.if1.false)))))
+    let long : length c.args.functions ≡ 4 = search rules in
+    sym (get_or-eq_default c.args.functions 0 (omega (arith, long, c.if-k-lt-MOST_FUNCTIONS.false)))))

@@ -16,28 +16,22 @@ parts : (c : tie.Start) → let a = c.args in let names = names_of a.registers a
     letter_lines names a.h letters ≡ line (letters_word ∷ numeral a.count ∷ []) ++ lines_of (letter_line names a.h) letters
 parts c = let a = c.args in execution_parts (names_of a.registers a.functions) a.h a.answer.now a.count
 
-abbrev start : tie.After-put-line → tie.Start
-start c = c.before.before.before.before.before
+abbrev start : tie.After-put_line-next → tie.Start
+start c = c.before.before.before.before.before.before
 
 -- what the function ensures, apart, so that its failure has a name
 returns : tie.Need-returns
 returns c =
-    let at_put_letters = c.before.before in
-    let at_put_line = at_put_letters.before.before.before.before in
-    appended_same (sym (parts (start at_put_line)))
-    (appended_then _ _ (appended_same (sym (letters_form _)) at_put_line.put_line.ensures) at_put_letters.put_letters.ensures)
+    appended_same (sym (parts (start c.before.before.before.before.before.before)))
+    (appended_then _ _ (appended_same (sym (letters_form _)) c.put_line-next.ensures) c.put_letters.ensures)
 
 pub put_execution_spec : {M : Type 1} → statement M
 put_execution_spec =
     tie.close (tie.spec
-    (λ c. search rules)
-    (λ c κs. let s = c.before.before.before.before in room_same (letters_form _) (room_first _ _ (room_same (parts s) s.requires)))
+    (λ c κs. room_same (letters_form _) (room_first _ _ (room_same (parts c.before.before.before.before.before) c.requires)))
     (λ c κs.
-    let at_put_line = c.before.before.before in
-    let s = start at_put_line in
-    room_then _ _ (room_same (parts s) s.pre) (appended_same (sym (letters_form _)) at_put_line.put_line.ensures))
+    let s = start c.before.before.before in
+    room_then _ _ (room_same (parts c.before.before.before.before.before.before.before.before.before) c.requires) (appended_same (sym (letters_form _)) c.put_line-next.ensures))
     (λ c.
-    let at_put_letters = c.before.before in
-    let at_put_line = at_put_letters.before.before.before.before in
-    appended_length at_put_letters.put_letters.ensures ∙ appended_length at_put_line.put_line.ensures)
+    appended_length c.put_letters.ensures ∙ appended_length c.put_line-next.ensures)
     returns)

@@ -8,53 +8,38 @@ use Rattle.report.proofs.lines.put_letter.Statement.{statement}
 use Rattle.report.proofs.lines.put_letter.Tie as tie
 
 -- what the function ensures, apart, so that its failure has a name
-returns_4 : tie.Need-returns-4
+returns_4 : tie.Need-returns-in-Unequal
 returns_4 c =
-    let at_letter = c.before.before.before.before.before.before in
-    let a = at_letter.before.before.before.args in
-    appended_same (sym (unequal_form a.registers a.functions a.h at_letter.letter4.given.1)) c.before.before.put_two3.ensures
+    let a = c.args in
+    appended_same (sym (unequal_form a.registers a.functions a.h c.in-Unequal.is)) c.put_two-in-Unequal.ensures
 
 pub put_letter_spec : {M : Type 1} → statement M
 put_letter_spec =
     tie.close (tie.spec
     (λ c. search rules)
+    (λ c κs.
+    let a = c.args in room_same (copy_form a.registers a.functions a.h c.in-Copy.is) c.requires)
     (λ c. search rules)
     (λ c κs.
-    let at_letter = c.before.before.before in
-    let start = at_letter.before.before.before in
-    let a = start.args in room_same (copy_form a.registers a.functions a.h at_letter.letter.given.1) start.requires)
+    let a = c.args in room_same (ap (letter_line (names_of a.registers a.functions) a.h) c.in-Apply.is) c.requires)
     (λ c. search rules)
     (λ c κs.
-    let at_letter = c.before.before in
-    let start = at_letter.before.before.before in
-    let a = start.args in room_same (ap (letter_line (names_of a.registers a.functions) a.h) at_letter.letter2.given.1) start.requires)
-    (λ c. search rules)
+    let a = c.args in room_same (equal_form a.registers a.functions a.h c.in-Equal.is) c.requires)
     (λ c. search rules)
     (λ c κs.
-    let at_letter = c.before.before.before in
-    let start = at_letter.before.before.before in
-    let a = start.args in room_same (equal_form a.registers a.functions a.h at_letter.letter3.given.1) start.requires)
-    (λ c. search rules)
-    (λ c. search rules)
-    (λ c κs.
-    let at_letter = c.before.before.before in
-    let start = at_letter.before.before.before in
-    let a = start.args in room_same (unequal_form a.registers a.functions a.h at_letter.letter4.given.1) start.requires)
-    (λ c. appended_length c.before.before.put_two.ensures)
+    let a = c.args in room_same (unequal_form a.registers a.functions a.h c.in-Unequal.is) c.requires)
+    (λ c. appended_length c.put_two.ensures)
     (λ c.
-    let at_letter = c.before.before.before.before.before.before in
-    let a = at_letter.before.before.before.args in
-    appended_same (sym (copy_form a.registers a.functions a.h at_letter.letter.given.1)) c.before.before.put_two.ensures)
-    (λ c. appended_length c.before.before.put_application.ensures)
+    let a = c.args in
+    appended_same (sym (copy_form a.registers a.functions a.h c.in-Copy.is)) c.put_two.ensures)
+    (λ c. appended_length c.put_application.ensures)
     (λ c.
-    let at_letter = c.before.before.before.before.before in
-    let a = at_letter.before.before.before.args in
-    appended_same (sym (ap (letter_line (names_of a.registers a.functions) a.h) at_letter.letter2.given.1))
-    c.before.before.put_application.ensures)
-    (λ c. appended_length c.before.before.put_two2.ensures)
+    let a = c.args in
+    appended_same (sym (ap (letter_line (names_of a.registers a.functions) a.h) c.in-Apply.is))
+    c.put_application.ensures)
+    (λ c. appended_length c.put_two-in-Equal.ensures)
     (λ c.
-    let at_letter = c.before.before.before.before.before.before in
-    let a = at_letter.before.before.before.args in
-    appended_same (sym (equal_form a.registers a.functions a.h at_letter.letter3.given.1)) c.before.before.put_two2.ensures)
-    (λ c. appended_length c.before.before.put_two3.ensures)
+    let a = c.args in
+    appended_same (sym (equal_form a.registers a.functions a.h c.in-Equal.is)) c.put_two-in-Equal.ensures)
+    (λ c. appended_length c.put_two-in-Unequal.ensures)
     returns_4)

@@ -13,54 +13,34 @@ put_model_spec =
     (λ c κs. search rules)
     (λ c. search rules)
     (λ c κs. search rules)
+    (λ c κs.
+    let a = c.args in
+    room_same (values_form c.word_at-values.ensures.0)
+    (values_room (names_of a.registers a.functions) a.h a.answer.now a.start c.requires.0))
     (λ c. search rules)
     (λ c κs.
-    let at_word_at = c.before.before.before in
-    let at_args = at_word_at.before.before.before in
-    let a = at_args.args in
-    room_same (values_form at_word_at.word-at.ensures.0)
-    (values_room (names_of a.registers a.functions) a.h a.answer.now a.start at_args.requires.0))
-    (λ c. search rules)
-    (λ c κs.
-    let at_put_line = c.before.before.before in
-    let at_word_at = at_put_line.before.before.before.before in
-    let at_args = at_word_at.before.before.before in
-    let a = at_args.args in
-    let values = appended_same (sym (values_form at_word_at.word-at.ensures.0)) at_put_line.put_line.ensures in
-    starts_room (names_of a.registers a.functions) a.h a.answer.now a.start at_args.requires.0 values)
+    let a = c.args in
+    let values = appended_same (sym (values_form c.word_at-values.ensures.0)) c.put_line-next.ensures in
+    starts_room (names_of a.registers a.functions) a.h a.answer.now a.start c.requires.0 values)
     (λ c. search rules)
     (λ c. search rules)
     (λ c. search rules)
     (λ c. search rules)
     (λ c κs.
-    let at_put_starts = c.before.before.before.before in
-    let at_put_line = at_put_starts.before.before.before.before in
-    let at_word_at2 = at_put_line.before.before.before in
-    let at_word_at = at_word_at2.before in
-    let at_args = at_word_at.before.before.before in
-    let a = at_args.args in
+    let a = c.args in
     let names = names_of a.registers a.functions in
-    let values = appended_same (sym (values_form at_word_at.word-at.ensures.0)) at_put_line.put_line.ensures in (
-      room_same (ap (rows_part names a.h a.answer.now a.start) (sym at_word_at2.word_at2.ensures.0))
-          (rows_room names a.h a.answer.now a.start at_args.requires.0 values at_put_starts.put_starts.ensures),
-      at_word_at2.word_at2.ensures.1,
+    let values = appended_same (sym (values_form c.word_at-values.ensures.0)) c.put_line-next.ensures in (
+      room_same (ap (rows_part names a.h a.answer.now a.start) (sym c.word_at-rows.ensures.0))
+          (rows_room names a.h a.answer.now a.start c.requires.0 values c.put_starts-next.ensures),
+      c.word_at-rows.ensures.1,
     ))
     (λ c.
-    let at_put_rows = c.before.before in
-    let at_put_starts = at_put_rows.before.before.before.before.before in
-    let at_put_line = at_put_starts.before.before.before.before in
-    appended_length at_put_rows.put_rows.ensures
-    ∙ appended_length at_put_starts.put_starts.ensures
-    ∙ appended_length at_put_line.put_line.ensures)
+    appended_length c.put_rows.ensures
+    ∙ appended_length c.put_starts-next.ensures
+    ∙ appended_length c.put_line-next.ensures)
     (λ c.
-    let at_put_rows = c.before.before in
-    let at_put_starts = at_put_rows.before.before.before.before.before in
-    let at_put_line = at_put_starts.before.before.before.before in
-    let at_word_at2 = at_put_line.before.before.before in
-    let at_word_at = at_word_at2.before in
-    let at_args = at_word_at.before.before.before in
-    let a = at_args.args in
+    let a = c.args in
     let names = names_of a.registers a.functions in
-    let values = appended_same (sym (values_form at_word_at.word-at.ensures.0)) at_put_line.put_line.ensures in
-    let rows = appended_same (ap (rows_part names a.h a.answer.now a.start) at_word_at2.word_at2.ensures.0) at_put_rows.put_rows.ensures in
-    model_done names a.h a.answer.now a.start values at_put_starts.put_starts.ensures rows))
+    let values = appended_same (sym (values_form c.word_at-values.ensures.0)) c.put_line-next.ensures in
+    let rows = appended_same (ap (rows_part names a.h a.answer.now a.start) c.word_at-rows.ensures.0) c.put_rows.ensures in
+    model_done names a.h a.answer.now a.start values c.put_starts-next.ensures rows))

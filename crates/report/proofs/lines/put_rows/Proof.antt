@@ -15,13 +15,13 @@ use Rattle.text.proofs.Theory.Appending.{LeftToAppend, left_all, left_next, left
 use Rattle.report.proofs.lines.put_rows.Statement.{statement}
 use Rattle.report.proofs.lines.put_rows.Tie as tie
 
-abbrev invariant_loop : tie.invariant_loop
+abbrev invariant_loop : tie.invariant-loop-k
 invariant_loop out₀ at h functions answer start count next₀ k₀ out next k =
     let G = row_line (λ f. name_text (get_or functions f 0)) h in
     LeftToAppend out₀ at (lines_of G (map (row_from first_edition h) (units_in 5 count (drop start answer))))
     (lines_of G (map (row_from first_edition h) (units_in 5 (count - k) (drop (start + 5 * k) answer)))) out next
 
-abbrev decreases_loop : tie.decreases_loop
+abbrev decreases_loop : tie.decreases-loop-k
 decreases_loop out₀ at h functions answer start count next₀ k₀ out next k = count - k
 
 -- the lines of a row, and of the rows of a number of units from a place on
@@ -34,17 +34,17 @@ packed_line c n = row-line c (row_from first_edition c.args.h n)
 abbrev row_lines : tie.Start invariant_loop decreases_loop → ℕ → ℕ → List ℕ
 row_lines c n i = lines_of (row-line c) (map (row_from first_edition c.args.h) (units_in 5 n (drop i c.args.answer.now)))
 
-abbrev start : tie.In-loop invariant_loop decreases_loop → tie.Start invariant_loop decreases_loop
+abbrev start : tie.In-loop-k invariant_loop decreases_loop → tie.Start invariant_loop decreases_loop
 start c = c.before.before.before.before
 
 -- in a turn there are left the line of the row at k and the lines behind it
-left : (c : tie.In-loop invariant_loop decreases_loop) → let s = start c in let a = s.args in let l = c.before.loop in
+left : (c : tie.In-loop-k invariant_loop decreases_loop) → let s = start c in let a = s.args in let l = c.loop-k in
     LeftToAppend a.out.now a.at (row_lines s a.count a.start)
     (packed_line s (row_in a.answer.now (a.start + 5 * l.k)) ++ row_lines s (a.count - (l.k + 1)) (a.start + 5 * (l.k + 1))) l.out l.next
 left c =
     let a = (start c).args in
-    let l = c.before.loop in
-    left_same (row_lines_next (row-line (start c)) a.h a.answer.now a.start a.count l.k c.loop_test.true) l.invariant
+    let l = c.loop-k in
+    left_same (row_lines_next (row-line (start c)) a.h a.answer.now a.start a.count l.k c.loop-k-test.true) l.invariant
 
 pub put_rows_spec : {M : Type 1} → statement M
 put_rows_spec =
@@ -52,25 +52,20 @@ put_rows_spec =
     invariant_loop
     decreases_loop
     (λ c.
-    let s = c.before.before in
-    left_same (row_lines_start (row-line s) s.args.h s.args.answer.now s.args.start s.args.count) (left_all _ _ _))
-    (λ c. record { fits = omega (arith, (start c).requires.1, c.loop_test.true) })
-    (λ c. record { fits = omega (arith, (start c).requires.1, c.loop_test.true) })
-    (λ c κs. omega (arith, (start c).requires.1, c.loop_test.true))
+    left_same (row_lines_start (row-line c.before.before) c.args.h c.args.answer.now c.args.start c.args.count) (left_all _ _ _))
+    (λ c. record { fits = omega (arith, (start c).requires.1, c.loop-k-test.true) })
+    (λ c. record { fits = omega (arith, (start c).requires.1, c.loop-k-test.true) })
+    (λ c κs. omega (arith, (start c).requires.1, c.loop-k-test.true))
     (λ c κs.
-    let turn = c.before.before in
-    room_same (ap (packed_line (start turn)) (sym c.before.row_at.ensures))
-    (left_room _ _ (start turn).requires.0 (left turn)))
+    room_same (ap (packed_line (start c.before.before)) (sym c.row_at-row.ensures))
+    (left_room _ _ (start c.before.before).requires.0 (left c.before.before)))
     (λ c. search rules)
     (λ c. search rules)
     (λ c.
-    let at_put_row = c.before.before in
-    let at_row_at = at_put_row.before.before in
-    let turn = at_row_at.before in
-    left_next _ _ (left turn)
-    (appended_same (ap (packed_line (start turn)) at_row_at.row_at.ensures) at_put_row.put_row.ensures))
-    (λ c. left_length c.before.loop.invariant)
+    left_next _ _ (left c.before.before.before.before.before)
+    (appended_same (ap (packed_line (start c.before.before.before.before.before)) c.row_at-row.ensures) c.put_row-next.ensures))
+    (λ c. left_length c.loop-k.invariant)
     (λ c.
-    let a = c.before.before.before.before.args in
+    let a = c.args in
     left_none (left_same (row_lines_none (row-line c.before.before.before.before) a.h a.answer.now a.start a.count
-    c.before.loop.k c.loop_test.false) c.before.loop.invariant)))
+    c.loop-k.k c.loop-k-test.false) c.loop-k.invariant)))

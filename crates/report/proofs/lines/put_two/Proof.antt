@@ -12,15 +12,9 @@ put_two_spec =
     (λ c κs. search rules)
     (λ c κs. search rules)
     (λ c κs.
-    let at_register_name = c.before.before in
-    let at_start = at_register_name.before.before.before in
-    room_same (λ i. filled_in at_start.args.template.now (sym at_register_name.register_name.ensures i
-    ∷ sym c.before.register_name2.ensures i ∷ 0 ∷ 0 ∷ [])) at_start.requires)
-    (λ c. appended_length c.before.before.put_line.ensures)
+    room_same (λ i. filled_in c.args.template.now (sym c.register_name-first.ensures i
+    ∷ sym c.register_name-second.ensures i ∷ 0 ∷ 0 ∷ [])) c.requires)
+    (λ c. appended_length c.put_line.ensures)
     (λ c.
-    let at_put_line = c.before.before in
-    let at_register_name2 = at_put_line.before.before in
-    let at_register_name = at_register_name2.before in
-    let at_args = at_register_name.before.before.before in
-    appended_same (λ i. filled_in at_args.args.template.now
-    (at_register_name.register_name.ensures i ∷ at_register_name2.register_name2.ensures i ∷ 0 ∷ 0 ∷ [])) at_put_line.put_line.ensures))
+    appended_same (λ i. filled_in c.args.template.now
+    (c.register_name-first.ensures i ∷ c.register_name-second.ensures i ∷ 0 ∷ 0 ∷ [])) c.put_line.ensures))

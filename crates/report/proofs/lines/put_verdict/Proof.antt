@@ -12,28 +12,16 @@ use Rattle.report.proofs.lines.put_verdict.Tie as tie
 pub put_verdict_spec : {M : Type 1} → statement M
 put_verdict_spec =
     tie.close (tie.spec
-    (λ c κs. let a = c.before.before.before.args in
-    room_first (filled_in a.verdict.now (0 ∷ 0 ∷ 0 ∷ 0 ∷ [])) (line (pairs_word ∷ numeral a.pairs ∷ [])) c.before.before.before.requires)
-    (λ c. search rules)
+    (λ c κs. let a = c.args in
+    room_first (filled_in a.verdict.now (0 ∷ 0 ∷ 0 ∷ 0 ∷ [])) (line (pairs_word ∷ numeral a.pairs ∷ [])) c.requires)
     (λ c κs.
-    let at_out = c.before.before.before in
-    let at_put_line = at_out.before in
-    let at_put_line_arg = at_put_line.before in
-    let at_start = at_put_line_arg.before.before.before in
-    let a = at_start.args in
+    let a = c.args in
     room_same (pairs_form a.pairs) (room_then (filled_in a.verdict.now (0 ∷ 0 ∷ 0 ∷ 0 ∷ [])) (line (pairs_word ∷ numeral a.pairs ∷ []))
-    at_start.requires at_put_line.put_line.ensures))
+    c.requires c.put_line-next.ensures))
     (λ c.
-    let at_put_line2 = c.before.before in
-    let at_put_line_arg2 = at_put_line2.before.before in
-    let at_put_line = at_put_line_arg2.before.before.before in
-    appended_length at_put_line2.put_line2.ensures
-    ∙ appended_length at_put_line.put_line.ensures)
+    appended_length c.put_line.ensures
+    ∙ appended_length c.put_line-next.ensures)
     (λ c.
-    let at_put_line2 = c.before.before in
-    let at_put_line_arg2 = at_put_line2.before.before in
-    let at_put_line = at_put_line_arg2.before.before.before in
-    let at_put_line_arg = at_put_line.before in
-    let a = at_put_line_arg.before.before.before.args in
-    appended_then (filled_in a.verdict.now (0 ∷ 0 ∷ 0 ∷ 0 ∷ [])) (line (pairs_word ∷ numeral a.pairs ∷ [])) at_put_line.put_line.ensures
-    (appended_same (sym (pairs_form a.pairs)) at_put_line2.put_line2.ensures)))
+    let a = c.args in
+    appended_then (filled_in a.verdict.now (0 ∷ 0 ∷ 0 ∷ 0 ∷ [])) (line (pairs_word ∷ numeral a.pairs ∷ [])) c.put_line-next.ensures
+    (appended_same (sym (pairs_form a.pairs)) c.put_line.ensures)))

@@ -13,10 +13,10 @@ second_printed_spec =
     (tie.spec
     (λ c κs. search rules)
     (λ c.
-    let a = c.before.before.args in
-    let e : has a.h.binary a.function ≡ true = sym c.before.takes_two.ensures ∙ c.if1.true in
+    let a = c.args in
+    let e : has a.h.binary a.function ≡ true = sym c.takes_two.ensures ∙ c.if-takes_two.true in
     rw e)
     (λ c.
-    let a = c.before.before.args in
-    let e : has a.h.binary a.function ≡ false = sym c.before.takes_two.ensures ∙ c.if1.false in
+    let a = c.args in
+    let e : has a.h.binary a.function ≡ false = sym c.takes_two.ensures ∙ c.if-takes_two.false in
     rw e))
