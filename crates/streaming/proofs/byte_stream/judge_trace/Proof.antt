@@ -8,7 +8,7 @@ use Rattle.streaming.proofs.byte_stream.judge_trace.Tie as tie
 start_requires : tie.Need-start-requires
 start_requires c κs = search rules
 
-push_all_requires : tie.Need-push-all-requires
+push_all_requires : tie.Need-push_all-s-requires
 push_all_requires c κs = search rules
 
 finish_requires : tie.Need-finish-requires
@@ -17,11 +17,9 @@ finish_requires c κs = search rules
 returns : tie.Need-returns
 unfolding judged_bytes
 returns c =
-    let at_start = c.before.before in
-    let at_args = at_start.before.before in
-    let e = c.finish.ensures.computed ∙ ap finished_of (c.before.push_all.ensures.computed ∙ ap (λ s. pushed_all s at_args.args.bytes.now)
-    at_start.start.ensures.computed) in
-    (e, run_meets at_args.args.bytes.now _ (search rules) e)
+    let e = c.finish.ensures.computed ∙ ap finished_of (c.push_all-s.ensures.computed ∙ ap (λ s. pushed_all s c.args.bytes.now)
+    c.start.ensures.computed) in
+    (e, run_meets c.args.bytes.now _ (search rules) e)
 
 pub judge_trace_spec : {M : Type 1} → statement M
 judge_trace_spec = tie.close (tie.spec start_requires push_all_requires finish_requires returns)

@@ -5,49 +5,45 @@ use borrow.Author.Rules.{rules}
 use Rattle.streaming.proofs.byte_stream.push.Statement.{statement}
 use Rattle.streaming.proofs.byte_stream.push.Tie as tie
 
-enum_told : tie.Need-enum-told
+enum_told : tie.Need-enum_told-1
 enum_told c = search rules
 
-enum_told_2 : tie.Need-enum-told-2
+enum_told_2 : tie.Need-enum_told-in-One
 enum_told_2 c = search rules
 
 word_requires : tie.Need-word-requires
 word_requires c κs = search rules
 
-begin_requires : tie.Need-begin-requires
+begin_requires : tie.Need-begin-begun-requires
 begin_requires c κs = search rules
 
-enum_told_3 : tie.Need-enum-told-3
+enum_told_3 : tie.Need-enum_told-in-Even
 enum_told_3 c = search rules
 
-enum_told_4 : tie.Need-enum-told-4
+enum_told_4 : tie.Need-enum_told-in-Odd
 enum_told_4 c = search rules
 
-word_requires_2 : tie.Need-word-requires-2
+word_requires_2 : tie.Need-word-requires-in-Odd
 word_requires_2 c κs = search rules
 
-take_requires : tie.Need-take-requires
+take_requires : tie.Need-take-taken-requires
 take_requires c κs = search rules
 
-returns : tie.Need-returns
-returns c = pushes_byte _ _ _ (push_at c.before.before.before.args.s _ Empty c.enum_told.given.1)
+returns : tie.Need-returns-in-Empty
+returns c = pushes_byte _ _ _ (push_at c.args.s _ Empty c.in-Empty.is)
 
-returns_2 : tie.Need-returns-2
+returns_2 : tie.Need-returns-in-One
 returns_2 c =
-    let at_enum_told2 = c.before.before in
-    let at_args = at_enum_told2.before.before.before in
-    pushes_byte _ _ _ (push_one at_args.args.s _ _ _ at_enum_told2.enum_told2.given.1 c.before.word.ensures
-    c.begin.ensures.computed)
+    pushes_byte _ _ _ (push_one c.args.s _ _ _ c.in-One.is c.word.ensures
+    c.begin-begun.ensures.computed)
 
-returns_3 : tie.Need-returns-3
-returns_3 c = pushes_byte _ _ _ (push_at c.before.before.before.args.s _ Even c.enum_told3.given.1)
+returns_3 : tie.Need-returns-in-Even
+returns_3 c = pushes_byte _ _ _ (push_at c.args.s _ Even c.in-Even.is)
 
-returns_4 : tie.Need-returns-4
+returns_4 : tie.Need-returns-in-Odd
 returns_4 c =
-    let at_enum_told4 = c.before.before in
-    let at_args = at_enum_told4.before.before.before in
-    pushes_byte _ _ _ (push_odd at_args.args.s _ _ _ at_enum_told4.enum_told4.given.1 c.before.word2.ensures
-    c.take.ensures.computed)
+    pushes_byte _ _ _ (push_odd c.args.s _ _ _ c.in-Odd.is c.word-in-Odd.ensures
+    c.take-taken.ensures.computed)
 
 pub push_spec : {M : Type 1} → statement M
 push_spec =

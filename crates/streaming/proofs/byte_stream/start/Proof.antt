@@ -3,11 +3,11 @@ use borrow.Author.Rules.{rules}
 use Rattle.streaming.proofs.byte_stream.start.Statement.{statement}
 use Rattle.streaming.proofs.byte_stream.start.Tie as tie
 
-idle_requires : tie.Need-idle-requires
+idle_requires : tie.Need-idle-monitor-requires
 idle_requires c κs = search rules
 
 returns : tie.Need-returns
-returns c = stream_starts _ (rw c.idle.ensures)
+returns c = stream_starts _ (rw c.idle-monitor.ensures)
 
 pub start_spec : {M : Type 1} → statement M
 start_spec = tie.close (tie.spec idle_requires returns)

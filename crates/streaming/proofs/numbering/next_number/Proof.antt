@@ -4,14 +4,14 @@ use borrow.Author.Rules.{rules}
 use Rattle.streaming.proofs.numbering.next_number.Statement.{statement}
 use Rattle.streaming.proofs.numbering.next_number.Tie as tie
 
-add_result : tie.Need-overflow-add-result
+add_result : tie.Need-overflow_add-result
 add_result c = search rules
 
-returns : tie.Need-returns
+returns : tie.Need-returns-then-n-lt-LAST
 unfolding next_number last
 returns c = search decide
 
-returns_2 : tie.Need-returns-2
+returns_2 : tie.Need-returns
 unfolding next_number last
 returns_2 c = search decide
 

@@ -4,34 +4,27 @@ use borrow.Author.Rules.{rules}
 use Rattle.streaming.proofs.stepping.step.Statement.{statement}
 use Rattle.streaming.proofs.stepping.step.Tie as tie
 
-decode_letter_requires : tie.Need-decode-letter-requires
+decode_letter_requires : tie.Need-decode_letter-decoded-requires
 decode_letter_requires c κs = search rules
 
-enum_known_decoded : tie.Need-enum-known-decoded
+enum_known_decoded : tie.Need-enum_known-decoded
 enum_known_decoded c = search rules
 
-enum_told : tie.Need-enum-told
+enum_told : tie.Need-enum_told-1
 enum_told c = search rules
 
-returns : tie.Need-returns
+returns : tie.Need-returns-in_default
 returns c =
-    let at_decode_letter = c.before.before in
-    let at_args = at_decode_letter.before.before in
-    advances _ _ _ (step_refused at_args.args.m _ _ at_decode_letter.decode-letter.ensures c.enum_told.given.1)
+    advances _ _ _ (step_refused c.args.m _ _ c.decode_letter-decoded.ensures c.in_default.is)
 
-moved_requires : tie.Need-moved-requires
+moved_requires : tie.Need-moved-monitor-requires
 moved_requires c κs =
-    let at_decode_letter = c.before.before.before in
-    let at_args = at_decode_letter.before.before in
-    step_within at_args.args.m _ _ at_decode_letter.decode-letter.ensures _ c.before.decoded.given.1
+    step_within c.args.m _ _ c.decode_letter-decoded.ensures _ c.in-Letter.is
 
-returns_2 : tie.Need-returns-2
+returns_2 : tie.Need-returns
 returns_2 c =
-    let at_decoded = c.before.before in
-    let at_decode_letter = at_decoded.before.before in
-    let at_args = at_decode_letter.before.before in
-    advances _ _ _ (step_taken at_args.args.m _ _
-    at_decode_letter.decode-letter.ensures _ _ at_decoded.decoded.given.1 c.moved.ensures)
+    advances _ _ _ (step_taken c.args.m _ _
+    c.decode_letter-decoded.ensures _ _ c.in-Letter.is c.moved-monitor.ensures)
 
 pub step_spec : {M : Type 1} → statement M
 step_spec =
