@@ -6,41 +6,38 @@ use Rattle.syntax.proofs.arity.Statement.{statement}
 use Rattle.syntax.proofs.arity.Tie as tie
 
 -- behind the slash
-behind : (c : tie.After-next) → let a = c.before.before.before.before.before.before.args in
-    arity_of a.text.now a.at ≡ arity_t a.text.now c.next.result
-behind c = law.arity_behind _ _ c.before.before.before.before.expect.ensures c.before.before.slash.given.1 c.next.ensures
+behind : (c : tie.After-next-t) → let a = c.args in
+    arity_of a.text.now a.at ≡ arity_t a.text.now c.next-t.result
+behind c = law.arity_behind _ _ c.expect-slash.ensures c.in-At.is c.next-t.ensures
 
-expect_requires : tie.Need-expect-requires
+expect_requires : tie.Need-expect-slash-requires
 expect_requires c κs = search rules
 
-enum_known_slash : tie.Need-enum-known-slash
+enum_known_slash : tie.Need-enum_known-slash
 enum_known_slash c = search rules
 
-enum_told : tie.Need-enum-told
+enum_told : tie.Need-enum_told-1
 enum_told c = search rules
 
-returns : tie.Need-returns
-returns c = law.arity_slash _ _ c.before.before.expect.ensures c.enum_told.given.1
+returns : tie.Need-returns-in_default
+returns c = law.arity_slash _ _ c.expect-slash.ensures c.in_default.is
 
-next_requires : tie.Need-next-requires
+next_requires : tie.Need-next-t-requires
 next_requires c κs = search rules
 
-returns_2 : tie.Need-returns-2
-returns_2 c = law.arity_one _ _ c.before.before.next.result (behind c.before.before) c.if1.true
+returns_2 : tie.Need-returns-then-t-eq-ONE
+returns_2 c = law.arity_one _ _ c.next-t.result (behind c.before.before) c.if-t-eq-ONE.true
 
-returns_3 : tie.Need-returns-3
+returns_3 : tie.Need-returns-then-t-eq-TWO
 returns_3 c =
-    let at_if1 = c.before.before in
-    law.arity_two _ _ at_if1.before.before.next.result (behind at_if1.before.before) at_if1.if1.false c.if2.true
+    law.arity_two _ _ c.next-t.result (behind c.before.before.before.before) c.if-t-eq-ONE.false c.if-t-eq-TWO.true
 
 unfitting_requires : tie.Need-unfitting-requires
 unfitting_requires c κs = search rules
 
-returns_4 : tie.Need-returns-4
+returns_4 : tie.Need-returns
 returns_4 c =
-    let at_if1 = c.before.before.before in
-    let at_next = at_if1.before.before in
-    law.arity_unfit _ _ at_next.next.result (behind at_next) at_if1.if1.false c.before.if2.false c.unfitting.ensures
+    law.arity_unfit _ _ c.next-t.result (behind c.before.before.before.before.before) c.if-t-eq-ONE.false c.if-t-eq-TWO.false c.unfitting.ensures
 
 pub arity_spec : {M : Type 1} → statement M
 arity_spec =

@@ -11,51 +11,45 @@ use Rattle.syntax.proofs.Theory.Hidden as law
 use Rattle.syntax.proofs.function_spellings.Statement.{statement}
 use Rattle.syntax.proofs.function_spellings.Tie as tie
 
-add_functions : tie.Need-overflow-add-functions
+add_functions : tie.Need-overflow_add-functions
 add_functions c = search rules
 
-skip_tokens_requires : tie.Need-skip-tokens-requires
+skip_tokens_requires : tie.Need-skip_tokens-from-requires
 skip_tokens_requires c κs = search rules
 
-array_borrow_prefix_names : tie.Need-array-borrow-prefix-names
-array_borrow_prefix_names c = let (r, m, k) = c.before.before.requires in omega arith
+array_borrow_prefix_names : tie.Need-slice_bounds-names-end
+array_borrow_prefix_names c = let (r, m, k) = c.requires in omega arith
 
-slice_aggregate_put_spellings : tie.Need-slice-aggregate-put-spellings
-slice_aggregate_put_spellings c = let (r, m, k) = c.before.before.before.requires in lent_zeros most_functions _ (omega arith)
+slice_aggregate_put_spellings : tie.Need-slice_bounds-put_spellings-end
+slice_aggregate_put_spellings c = let (r, m, k) = c.requires in lent_zeros most_functions _ (omega arith)
 
-put_spellings_requires : tie.Need-put-spellings-requires
+put_spellings_requires : tie.Need-put_spellings-requires
 put_spellings_requires c κs = search rules
 
-line_length_requires : tie.Need-line-length-requires
-line_length_requires c κs = let (r, m, k) = c.before.before.before.before.before.requires in omega arith
+line_length_requires : tie.Need-line_length-requires
+line_length_requires c κs = let (r, m, k) = c.requires in omega arith
 
-add_skip_tokens : tie.Need-overflow-add-skip-tokens
+add_skip_tokens : tie.Need-overflow_add-functions-2
 add_skip_tokens c =
-    let start = c.before.before.before.before.before.before in
-    let (r, m, k) = start.requires in
-    let e = c.line-length.ensures in
-    let z = law.line_short start.args.first-test (omega arith) in
+    let (r, m, k) = c.requires in
+    let e = c.line_length.ensures in
+    let z = law.line_short c.args.first_test (omega arith) in
     omega arith
 
-skip_tokens_requires_2 : tie.Need-skip-tokens-requires-2
+skip_tokens_requires_2 : tie.Need-skip_tokens-tests-requires
 skip_tokens_requires_2 c κs = search rules
 
-test_spellings_requires : tie.Need-test-spellings-requires
-test_spellings_requires c κs = let (r, m, k) = c.before.before.before.before.before.before.before.requires in (m, k)
+test_spellings_requires : tie.Need-test_spellings-requires
+test_spellings_requires c κs = let (r, m, k) = c.requires in (m, k)
 
 returns : tie.Need-returns
 returns c =
-    let at_tests = c.before in
-    let at_line = at_tests.before in
-    let at_put = at_line.before.before in
-    let at_skip = at_put.before.before in
-    let start = at_skip.before.before in
-    let args = start.args in
-    let (r, m, k) = start.requires in
-    let spelled = spellings_padded most_functions _ (omega arith) _ _ _ _ at_put.put_spellings.ensures
-    ∙ ap (λ at. padded most_functions (spellings args.text.now at entry_length args.first-test)) at_skip.skip_tokens.ensures in
+    let args = c.args in
+    let (r, m, k) = c.requires in
+    let spelled = spellings_padded most_functions _ (omega arith) _ _ _ _ c.put_spellings.ensures
+    ∙ ap (λ at. padded most_functions (spellings args.text.now at entry_length args.first_test)) c.skip_tokens-from.ensures in
     c.test_spellings.ensures ∙ law.functions_spelled _ args.registers _ _ m k _ spelled _
-    (at_tests.skip_tokens2.ensures ∙ ap (λ j. place_of args.text.now (first_function args.registers + j)) at_line.line-length.ensures)
+    (c.skip_tokens-tests.ensures ∙ ap (λ j. place_of args.text.now (first_function args.registers + j)) c.line_length.ensures)
 
 pub function_spellings_spec : {M : Type 1} → statement M
 function_spellings_spec =

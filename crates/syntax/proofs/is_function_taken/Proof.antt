@@ -5,36 +5,29 @@ use borrow.Author.Rules.{rules}
 use Rattle.syntax.proofs.is_function_taken.Statement.{statement}
 use Rattle.syntax.proofs.is_function_taken.Tie as tie
 
-returns : tie.Need-returns
-returns c = law.taken_all _ _ _ _ c.if1.true
+returns : tie.Need-returns-then-count-eq-MOST_FUNCTIONS
+returns c = law.taken_all _ _ _ _ c.if-count-eq-MOST_FUNCTIONS.true
 
-is_known_requires : tie.Need-is-known-requires
+is_known_requires : tie.Need-is_known-requires
 is_known_requires c κs = search rules
 
-returns_2 : tie.Need-returns-2
-returns_2 c = law.taken_both _ _ _ _ c.before.before.if1.false _ c.before.is_Known.ensures c.if2.true
+returns_2 : tie.Need-returns-then-is_known
+returns_2 c = law.taken_both _ _ _ _ c.if-count-eq-MOST_FUNCTIONS.false _ c.is_known.ensures c.if-is_known.true
 
-array_share_prefix_names : tie.Need-array-share-prefix-names
+array_share_prefix_names : tie.Need-slice_bounds-names-end
 array_share_prefix_names c = search rules
 
-slice_aggregate_is_known : tie.Need-slice-aggregate-is-known
+slice_aggregate_is_known : tie.Need-slice_bounds-is_known-end
 slice_aggregate_is_known c =
-    let at_if1 = c.before.before.before in
-    let at_pre = at_if1.before.before in
-    sym at_pre.requires.1.size
+    sym c.requires.1.size
 
-is_known_requires_2 : tie.Need-is-known-requires-2
+is_known_requires_2 : tie.Need-is_known-requires-2
 is_known_requires_2 c κs =
-    let at_if1 = c.before.before.before in
-    let at_pre = at_if1.before.before in
-    omega (arith, at_pre.requires.1.size, at_pre.requires.1.few)
+    omega (arith, c.requires.1.size, c.requires.1.few)
 
-returns_3 : tie.Need-returns-3
+returns_3 : tie.Need-returns
 returns_3 c =
-    let at_if2 = c.before.before in
-    let at_is_known = at_if2.before in
-    let at_if1 = at_is_known.before in
-    law.taken_last _ _ _ _ at_if1.if1.false _ at_is_known.is_Known.ensures at_if2.if2.false _ c.is_known2.ensures
+    law.taken_last _ _ _ _ c.if-count-eq-MOST_FUNCTIONS.false _ c.is_known.ensures c.if-is_known.false _ c.is_known-2.ensures
 
 pub is_function_taken_spec : {M : Type 1} → statement M
 is_function_taken_spec =

@@ -4,4 +4,4 @@ use Rattle.syntax.proofs.no_macro.Statement.{statement}
 use Rattle.syntax.proofs.no_macro.Tie as tie
 
 pub no_macro_spec : {M : Type 1} → statement M
-no_macro_spec = tie.close (tie.spec (λ c κs. search rules) (λ c. law.no_macro_held _ c.unused-point.ensures))
+no_macro_spec = tie.close (tie.spec (λ c κs. search rules) (λ c. law.no_macro_held _ c.unused_point.ensures))

@@ -4,39 +4,31 @@ use borrow.Author.Rules.{rules}
 use Rattle.syntax.proofs.read_rest.Statement.{statement}
 use Rattle.syntax.proofs.read_rest.Tie as tie
 
-array_share_prefix_regs : tie.Need-array-share-prefix-regs
-array_share_prefix_regs c = kept_within _ _ _ c.before.before.requires
+array_share_prefix_regs : tie.Need-slice_bounds-regs-end
+array_share_prefix_regs c = kept_within _ _ _ c.requires
 
-slice_aggregate_functions_line : tie.Need-slice-aggregate-functions-line
+slice_aggregate_functions_line : tie.Need-slice_bounds-functions_line-end
 slice_aggregate_functions_line c = search rules
 
-functions_line_requires : tie.Need-functions-line-requires
+functions_line_requires : tie.Need-functions_line-fs-requires
 functions_line_requires c κs = search rules
 
-read_tests_requires : tie.Need-read-tests-requires
+read_tests_requires : tie.Need-read_tests-requires
 read_tests_requires c κs =
-    let at_regs2 = c.before.before in
-    let at_start = at_regs2.before.before.before in
     let x =
-    law.line_kept at_start.args.text.now at_start.args.rs _ c.before.functions_line.ensures c.if1.true in (at_start.requires, x)
+    law.line_kept c.args.text.now c.args.rs _ c.functions_line-fs.ensures c.if-fs.true in (c.requires, x)
 
-returns : tie.Need-returns
+returns : tie.Need-returns-then-fs
 returns c =
-    let at_functions_line = c.before.before in
-    let at_regs2 = at_functions_line.before in
-    let at_args = at_regs2.before.before.before in
-    law.rest_read at_args.args.text.now at_args.args.rs _
-    at_functions_line.functions_line.ensures c.before.if1.true _ c.read_tests.ensures
+    law.rest_read c.args.text.now c.args.rs _
+    c.functions_line-fs.ensures c.if-fs.true _ c.read_tests.ensures
 
-refused_answer_requires : tie.Need-refused-answer-requires
+refused_answer_requires : tie.Need-refused_answer-requires
 refused_answer_requires c κs = search rules
 
-returns_2 : tie.Need-returns-2
+returns_2 : tie.Need-returns
 returns_2 c =
-    let at_functions_line = c.before.before in
-    let at_regs2 = at_functions_line.before in
-    let at_args = at_regs2.before.before.before in
-    law.rest_refused at_args.args.text.now at_args.args.rs _ at_functions_line.functions_line.ensures c.before.if1.false _
+    law.rest_refused c.args.text.now c.args.rs _ c.functions_line-fs.ensures c.if-fs.false _
     c.refused_answer.ensures
 
 pub read_rest_spec : {M : Type 1} → statement M

@@ -4,23 +4,23 @@ use borrow.Author.Rules.{rules}
 use Rattle.syntax.proofs.refused_functions.Statement.{statement}
 use Rattle.syntax.proofs.refused_functions.Tie as tie
 
-enum_told : tie.Need-enum-told
+enum_told : tie.Need-enum_told-1
 enum_told c = search rules
 
-no_functions_requires : tie.Need-no-functions-requires
+no_functions_requires : tie.Need-no_functions-requires
 no_functions_requires c κs = search rules
 
-enum_known_g : tie.Need-enum-known-g
+enum_known_g : tie.Need-enum_known-g
 enum_known_g c = search rules
 
-no_functions_requires_2 : tie.Need-no-functions-requires-2
+no_functions_requires_2 : tie.Need-no_functions-requires-in-Refused
 no_functions_requires_2 c κs = search rules
 
-returns : tie.Need-returns
-returns c = law.refused_at held_functions _ _ _ _ c.before.enum_told.given.1 c.no_functions.ensures
+returns : tie.Need-returns-in-At
+returns c = law.refused_at held_functions _ _ _ _ c.in-At.is c.no_functions.ensures
 
-returns_2 : tie.Need-returns-2
-returns_2 c = law.refused-by held_functions _ _ _ _ c.before.before.g.given.1 c.no_functions2.ensures
+returns_2 : tie.Need-returns-in-Refused
+returns_2 c = law.refused-by held_functions _ _ _ _ c.in-Refused.is c.no_functions-in-Refused.ensures
 
 pub refused_functions_spec : {M : Type 1} → statement M
 refused_functions_spec =

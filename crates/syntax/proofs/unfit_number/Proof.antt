@@ -2,10 +2,10 @@ use Rattle.base.proofs.Theory.Choice.{decide}
 use Rattle.syntax.proofs.unfit_number.Statement.{statement}
 use Rattle.syntax.proofs.unfit_number.Tie as tie
 
-returns : tie.Need-returns
+returns : tie.Need-returns-then-t-eq-WRONG
 returns c = search (decide)
 
-returns_2 : tie.Need-returns-2
+returns_2 : tie.Need-returns
 returns_2 c = search (decide)
 
 pub unfit_number_spec : {M : Type 1} → statement M
