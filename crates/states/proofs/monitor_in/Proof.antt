@@ -4,24 +4,24 @@ use borrow.Author.Rules.{rules}
 use Rattle.states.proofs.monitor_in.Statement.{statement}
 use Rattle.states.proofs.monitor_in.Tie as tie
 
-shared_slice_read_running : tie.Need-shared-slice-read-running
+shared_slice_read_running : tie.Need-bounds-state-1
 shared_slice_read_running c = search rules
 
-shared_slice_read_t8 : tie.Need-shared-slice-read-t8
+shared_slice_read_t8 : tie.Need-bounds-state-2
 shared_slice_read_t8 c = search rules
 
-shared_slice_read_t10 : tie.Need-shared-slice-read-t10
+shared_slice_read_t10 : tie.Need-bounds-state-3
 shared_slice_read_t10 c = search rules
 
-window_in_requires : tie.Need-window-in-requires
+window_in_requires : tie.Need-window_in-window-requires
 window_in_requires c κs = search rules
 
-shared_slice_read_running_2 : tie.Need-shared-slice-read-running-2
+shared_slice_read_running_2 : tie.Need-bounds-state-4
 shared_slice_read_running_2 c = search rules
 
 returns : tie.Need-returns
 unfolding monitor_in is_set
-returns c = rw c.before.window_in.ensures
+returns c = rw c.window_in-window.ensures
 
 pub monitor_in_spec : {M : Type 1} → statement M
 monitor_in_spec =
