@@ -4,47 +4,47 @@ use borrow.Author.Rules.{rules}
 use Rattle.exploration.proofs.choose.Statement.{statement}
 use Rattle.exploration.proofs.choose.Tie as tie
 
-cast_t6 : tie.Need-overflow-cast-t6
+cast_t6 : tie.Need-overflow_cast-result
 cast_t6 c = search rules
 
-returns : tie.Need-returns
+returns : tie.Need-returns-then-b-eq0
 unfolding move_of
 returns c = search decide
 
-returns_2 : tie.Need-returns-2
+returns_2 : tie.Need-returns-then-point-eq-STEP
 unfolding move_of
 returns_2 c = search decide
 
 opposite_requires : tie.Need-opposite-requires
 opposite_requires c κs = search rules
 
-returns_3 : tie.Need-returns-3
+returns_3 : tie.Need-returns-then-b-eq0-2
 unfolding move_of
 returns_3 c = search (decide, ← c.opposite.ensures)
 
-cast_t9 : tie.Need-overflow-cast-t9
+cast_t9 : tie.Need-overflow_cast-result-then-point-eq-CHECK
 cast_t9 c = search rules
 
-returns_4 : tie.Need-returns-4
+returns_4 : tie.Need-returns-then-point-eq-CHECK
 unfolding move_of
 returns_4 c = search decide
 
-cast_t10 : tie.Need-overflow-cast-t10
+cast_t10 : tie.Need-overflow_cast-result-then-b-eq0-3
 cast_t10 c = search rules
 
-returns_5 : tie.Need-returns-5
+returns_5 : tie.Need-returns-then-b-eq0-3
 unfolding move_of
 returns_5 c = search decide
 
 opposite_requires_2 : tie.Need-opposite-requires-2
 opposite_requires_2 c κs = search rules
 
-cast_t12 : tie.Need-overflow-cast-t12
+cast_t12 : tie.Need-overflow_cast-result-2
 cast_t12 c = search rules
 
-returns_6 : tie.Need-returns-6
+returns_6 : tie.Need-returns
 unfolding move_of
-returns_6 c = search (decide, ← c.before.opposite2.ensures)
+returns_6 c = search (decide, ← c.opposite-2.ensures)
 
 pub choose_spec : {M : Type 1} → statement M
 choose_spec =

@@ -4,33 +4,33 @@ use borrow.Author.Rules.{rules}
 use Rattle.exploration.proofs.opposite.Statement.{statement}
 use Rattle.exploration.proofs.opposite.Tie as tie
 
-enum_known_letter : tie.Need-enum-known-letter
+enum_known_letter : tie.Need-enum_known-letter
 enum_known_letter c = search rules
 
-returns : tie.Need-returns
+returns : tie.Need-returns-in-Copy
 unfolding opposite_of
-returns c = sym (ap opposite_of c.before.letter.given.1)
+returns c = sym (ap opposite_of c.in-Copy.is)
 
-enum_known_letter_2 : tie.Need-enum-known-letter-2
+enum_known_letter_2 : tie.Need-enum_known-letter-in-Apply-1
 enum_known_letter_2 c = search rules
 
-returns_2 : tie.Need-returns-2
+returns_2 : tie.Need-returns-in-Apply
 unfolding opposite_of
-returns_2 c = sym (ap opposite_of c.before.letter2.given.1)
+returns_2 c = sym (ap opposite_of c.in-Apply.is)
 
-enum_known_letter_3 : tie.Need-enum-known-letter-3
+enum_known_letter_3 : tie.Need-enum_known-letter-in-Equal-1
 enum_known_letter_3 c = search rules
 
-returns_3 : tie.Need-returns-3
+returns_3 : tie.Need-returns-in-Equal
 unfolding opposite_of
-returns_3 c = sym (ap opposite_of c.before.letter3.given.1)
+returns_3 c = sym (ap opposite_of c.in-Equal.is)
 
-enum_known_letter_4 : tie.Need-enum-known-letter-4
+enum_known_letter_4 : tie.Need-enum_known-letter-in-Unequal-1
 enum_known_letter_4 c = search rules
 
-returns_4 : tie.Need-returns-4
+returns_4 : tie.Need-returns-in-Unequal
 unfolding opposite_of
-returns_4 c = sym (ap opposite_of c.before.letter4.given.1)
+returns_4 c = sym (ap opposite_of c.in-Unequal.is)
 
 pub opposite_spec : {M : Type 1} → statement M
 opposite_spec =
