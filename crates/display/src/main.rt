@@ -2,16 +2,15 @@
 #![tactic(auto)]
 
 use display_lines::Displayed;
-use libc::{STDERR_FILENO, STDIN_FILENO};
+use files::Source;
 
-fn main() {
+fn main(rt: HostRuntime) {
+    let mut input = Source::new(rt.stdin());
     let mut lines = display_lines::line_space();
-    let displayed = display_lines::answer(STDIN_FILENO, &mut lines);
+    let displayed = display_lines::answer(&mut input, &mut lines);
     match displayed {
-        Displayed::Written(n) => files::print(&lines[..n]),
-        Displayed::TooLong => {
-            io::write_all(STDERR_FILENO, b"trace: too long\n");
-        }
-        Displayed::Unread => os::fail(b"read"),
+        Displayed::Written(n) => files::print(&rt, &lines[..n]),
+        Displayed::TooLong => files::say(&rt, b"trace", "too long"),
+        Displayed::Unread => input.tell(&rt, b"read"),
     }
 }

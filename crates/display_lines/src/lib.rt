@@ -17,6 +17,7 @@ ghost use Rattle.display_lines.specs.Answered.{DisplaysInput};
 use files::Input;
 use letters::limits::UNIT_BYTES;
 use letters::words::word;
+use std::io::Read;
 use streaming::Monitor;
 use streaming::starting::start;
 use streaming::stepping::step;
@@ -206,12 +207,12 @@ pub fn answer_to(trace: &[u8], input: Input, lines: &mut [u8]) -> Displayed
     }
 }
 
-/// Reads a trace from a file, and writes its lines into the front of a lent buffer. Of a trace that is too long one byte more than
+/// Reads a trace from a reader, and writes its lines into the front of a lent buffer. Of a trace that is too long one byte more than
 /// `MOST_TRACE_BYTES` is read, and nothing is judged.
-pub fn answer(fd: i32, lines: &mut [u8]) -> Displayed
+pub fn answer<R: Read>(source: &mut R, lines: &mut [u8]) -> Displayed
     ensures { DisplaysInput lines.old result lines.new }
 {
     let mut trace = trace_space();
-    let input = files::read(fd, &mut trace);
+    let input = files::read(source, &mut trace);
     answer_to(&trace, input, lines)
 }

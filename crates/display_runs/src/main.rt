@@ -2,46 +2,42 @@
 #![tactic(auto)]
 
 use display_lines::Displayed;
-use libc::STDERR_FILENO;
+use files::{Opened, Source};
+use std::fs::File;
 
 // Prints the name of a file and its lines.
-fn report(name: &[u8], lines: &[u8]) {
-    files::print(name);
-    files::print(b":\n");
-    files::print(lines);
+fn report(rt: &HostRuntime, name: &[u8], lines: &[u8]) {
+    files::print(rt, name);
+    files::print(rt, b":\n");
+    files::print(rt, lines);
 }
 
-fn display(fd: i32, name: &[u8]) {
+fn display(rt: &HostRuntime, file: File, name: &[u8]) {
+    let mut source = Source::new(file);
     let mut lines = display_lines::line_space();
-    let displayed = display_lines::answer(fd, &mut lines);
+    let displayed = display_lines::answer(&mut source, &mut lines);
     match displayed {
-        Displayed::Written(n) => report(name, &lines[..n]),
-        Displayed::TooLong => {
-            io::write_all(STDERR_FILENO, name);
-            io::write_all(STDERR_FILENO, b": too long\n");
-        }
-        Displayed::Unread => os::fail(name),
+        Displayed::Written(n) => report(rt, name, &lines[..n]),
+        Displayed::TooLong => files::say(rt, name, "too long"),
+        Displayed::Unread => source.tell(rt, name),
     }
 }
 
-fn run_one(i: usize) {
+fn run_one(rt: &HostRuntime, i: usize) {
     let mut name = io::buffer();
-    let opened = files::open_argument(i, &mut name);
-    let fd = opened.fd;
-    if fd < 0 {
-        return;
+    let opened = files::open_argument(rt, i, &mut name);
+    let Opened { file, size } = opened;
+    if let Some(file) = file {
+        display(rt, file, &name[..size]);
     }
-    let size = opened.size;
-    display(fd, &name[..size]);
-    libc::close(fd);
 }
 
 // The first argument is the program's name.
-fn main() {
-    let count = os::arg_count();
+fn main(rt: HostRuntime) {
+    let count = files::argument_count(&rt);
     let mut i: usize = 1;
     while i < count {
-        run_one(i);
+        run_one(&rt, i);
         i = i + 1;
     }
 }

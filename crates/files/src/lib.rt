@@ -2,12 +2,15 @@
 // read to its end nothing can be judged.
 #![tactic(auto)]
 
-ghost use Rattle.std.specs.Prelude.{◌≡◌, ◌+◌, ◌<◌, ◌≤◌, min, length};
+ghost use Rattle.std.specs.Prelude.{◌≡◌, ◌+◌, ◌<◌, ◌≤◌, ◌^◌, min, length, IfOk};
 ghost use Rattle.std.proofs.Math.Seq.{paste};
 ghost use Rattle.io.specs.Counts.{IsPrefixLen};
+ghost use Rattle.files.specs.Answer.{answered};
 ghost use Rattle.files.specs.Input.{meaning, given, Gave, following, Stored, Received};
 
-use libc::STDOUT_FILENO;
+use std::env::{Env, FillError};
+use std::fs::File;
+use std::io::{Error, Read};
 
 /// How reading into a buffer ended. What was read stands in the buffer's front, and the bytes behind it stay as they were lent.
 #[derive(Clone, Copy)]
@@ -87,23 +90,34 @@ fn size(once: OneRead) -> usize
     }
 }
 
+// The answer of a read as a number: how many bytes it gave, or -1 where it failed.
+fn number(answer: Result<usize, Error>) -> isize
+    requires { IfOk answer (λ n. n < 2 ^ 63) }
+    ensures { result ≡ answered answer }
+{
+    match answer {
+        Ok(n) => n as isize,
+        Err(_) => -1,
+    }
+}
+
 // Reads once, at most `most` bytes, into the front of a piece.
-fn read_piece(fd: i32, piece: &mut [u8], most: usize) -> OneRead
+fn read_piece<R: Read>(source: &mut R, piece: &mut [u8], most: usize) -> OneRead
     requires { (0 < most) × (most ≤ length piece.old) }
     ensures { Gave most result }
 {
-    let got = libc::read(fd, &mut piece[..most]);
+    let got = number(source.read(&mut piece[..most]));
     outcome(got, most)
 }
 
 // Reads once, into the buffer from `at` on. The bytes go through a piece, because nothing is known of what the system's read leaves
 // behind those that it gave.
-fn read_once(fd: i32, buffer: &mut [u8], at: usize, piece: &mut [u8]) -> OneRead
+fn read_once<R: Read>(source: &mut R, buffer: &mut [u8], at: usize, piece: &mut [u8]) -> OneRead
     requires { (at < length buffer.old) × (0 < length piece.old) }
     ensures { Stored buffer.old at piece.new result buffer.new }
 {
     let most = least(buffer.len() - at, piece.len());
-    let once = read_piece(fd, piece, most);
+    let once = read_piece(source, piece, most);
     copy(piece, buffer, at, size(once));
     once
 }
@@ -121,14 +135,14 @@ fn after(once: OneRead, done: usize) -> AfterRead
 
 /// Reads until the input ends, the buffer is full or a read fails. A read that a signal interrupts before it gives a byte has failed.
 /// What the system's reads answer is free; what they answered decides how reading ended.
-pub fn read(fd: i32, buffer: &mut [u8]) -> Input
+pub fn read<R: Read>(source: &mut R, buffer: &mut [u8]) -> Input
     ensures { Received buffer.old result buffer.new }
 {
     let mut space = io::large_buffer();
     let piece: &mut [u8] = &mut space;
     let mut done: usize = 0;
     while done < buffer.len() {
-        let once = read_once(fd, buffer, done, piece);
+        let once = read_once(source, buffer, done, piece);
         let next = after(once, done);
         match next {
             AfterRead::More(n) => done = done + n,
@@ -138,34 +152,128 @@ pub fn read(fd: i32, buffer: &mut [u8]) -> Input
     Input::Full
 }
 
-/// Writes all bytes to standard output, or says on standard error why it could not; some of them may then have been written.
-pub fn print(bytes: &[u8]) {
-    if !io::write_all(STDOUT_FILENO, bytes) {
-        os::fail(b"write");
+/// A reader that keeps the error of its last read that failed.
+#[derive(Drop)]
+pub struct Source<R> {
+    reader: R,
+    error: Option<Error>,
+}
+
+impl<R: Read> Source<R> {
+    /// Of which no read has failed.
+    pub fn new(reader: R) -> Source<R> {
+        Source {
+            reader,
+            error: None,
+        }
+    }
+
+    /// Says on standard error why the last read that failed did.
+    pub fn tell(&self, rt: &HostRuntime, what: &[u8]) {
+        match &self.error {
+            Some(error) => fail(rt, what, error),
+            None => say(rt, what, "failed"),
+        }
     }
 }
 
-/// A file that is open, and the size of its name; a negative number for one that could not be opened.
-#[derive(Clone, Copy)]
+impl<R: Read> Read for Source<R> {
+    ghost remaining = { λ s. R.remaining s.reader };
+
+    fn read(&mut self, buf: &mut [u8]) -> Result<usize, Error> {
+        let answer = self.reader.read(buf);
+        if let Err(error) = answer {
+            self.error = Some(error);
+        }
+        answer
+    }
+}
+
+/// Writes a line to standard error: what it is about, a colon and the words on it.
+pub fn say(rt: &HostRuntime, what: &[u8], words: &str) {
+    let stderr = rt.stderr();
+    let _ = stderr.write_all(what);
+    let _ = stderr.println(format_args!(": {words}"));
+}
+
+/// Writes a line to standard error: what failed, a colon and the reason.
+pub fn fail(rt: &HostRuntime, what: &[u8], error: &Error) {
+    let stderr = rt.stderr();
+    let _ = stderr.write_all(what);
+    let _ = stderr.println(format_args!(": {error}"));
+}
+
+/// Writes all bytes to standard output, or says on standard error why it could not; some of them may then have been written.
+pub fn print(rt: &HostRuntime, bytes: &[u8]) {
+    if let Err(error) = rt.write_all(bytes) {
+        fail(rt, b"write", &error);
+    }
+}
+
+/// Writes a number in decimal digits to standard output, as `print` writes bytes.
+pub fn print_number(rt: &HostRuntime, n: u64) {
+    let mut digits = [0u8; 20];
+    let size = io::decimal(n, &mut digits);
+    print(rt, &digits[..size]);
+}
+
+/// A file that is open, and the size of its name.
+#[derive(Drop)]
 pub struct Opened {
-    /// The file, or a negative number.
-    pub fd: i32,
+    /// The file, if it could be opened.
+    pub file: Option<File>,
     /// How many bytes its name has.
     pub size: usize,
 }
 
+// Opens a file for reading, or says on standard error why it could not.
+fn open(rt: &HostRuntime, name: &[u8]) -> Option<File> {
+    let Ok(path) = std::str::from_utf8(name) else {
+        say(rt, name, "not UTF-8");
+        return None;
+    };
+    match File::open(rt, path) {
+        Ok(file) => Some(file),
+        Err(error) => {
+            fail(rt, name, &error);
+            None
+        }
+    }
+}
+
 /// Opens the file that argument i names for reading and puts its name into the front of a buffer, or says on standard error why it could not.
-pub fn open_argument(i: usize, name: &mut [u8]) -> Opened
+pub fn open_argument(rt: &HostRuntime, i: usize, name: &mut [u8]) -> Opened
     ensures { IsPrefixLen result.size name.new }
 {
-    let size = os::arg(i, name);
-    if os::errno() != 0 {
-        os::fail(b"argument");
-        return Opened { fd: -1, size };
+    match rt.arg(i, name) {
+        Ok(size) => Opened {
+            file: open(rt, &name[..size]),
+            size,
+        },
+        Err(FillError::TooLong) => {
+            say(rt, b"argument", "File name too long");
+            Opened {
+                file: None,
+                size: 0,
+            }
+        }
+        Err(FillError::NotPresent) => {
+            say(rt, b"argument", "Invalid argument");
+            Opened {
+                file: None,
+                size: 0,
+            }
+        }
     }
-    let fd = os::open_read(&name[..size]);
-    if fd < 0 {
-        os::fail(&name[..size]);
+}
+
+/// How many arguments there are; the first is the program's name.
+pub fn argument_count(rt: &HostRuntime) -> usize {
+    let mut byte = [0u8; 1];
+    for i in 0..usize::MAX {
+        if let Err(FillError::NotPresent) = rt.arg(i, &mut byte) {
+            return i;
+        }
     }
-    Opened { fd, size }
+    usize::MAX
 }

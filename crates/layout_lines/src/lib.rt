@@ -8,6 +8,7 @@ ghost use Rattle.layout_lines.specs.Answered.{AnswersLayoutInput};
 
 use files::{Input, Lines};
 use layout_writer::{LONGEST_PRINT, LayoutWritten};
+use std::io::Read;
 use syntax::LONGEST_TEXT;
 use text::put_line;
 
@@ -66,12 +67,12 @@ pub fn answer_to(text: &[u8], input: Input, lines: &mut [u8]) -> Lines
     }
 }
 
-/// Reads a text from a file, and writes its lines into the front of a lent buffer. Of a text that is too long one byte more than
+/// Reads a text from a reader, and writes its lines into the front of a lent buffer. Of a text that is too long one byte more than
 /// `LONGEST_TEXT` is read: it is refused for its length.
-pub fn answer(fd: i32, lines: &mut [u8]) -> Lines
+pub fn answer<R: Read>(source: &mut R, lines: &mut [u8]) -> Lines
     ensures { AnswersLayoutInput lines.old result lines.new }
 {
     let mut text = text_space();
-    let input = files::read(fd, &mut text);
+    let input = files::read(source, &mut text);
     answer_to(&text, input, lines)
 }

@@ -11,6 +11,7 @@ ghost use Rattle.model_lines.specs.Answered.{parity_of, left_of, known_long, kno
 
 use files::{Input, Lines};
 use model_writer::Shown;
+use std::io::Read;
 use text::put_line;
 use tokens::BYTE_VALUES;
 
@@ -152,11 +153,11 @@ fn left_after(input: Input) -> InputLeft
 // Reads on to the end of the input. All pieces but the last have an even number of bytes. A proved loop has to end, and nothing says
 // that the input does: it counts its turns down, from a number that no run uses up. What is left is for the system to say, so there
 // is nothing to ensure.
-fn read_rest(fd: i32) -> Rest {
+fn read_rest<R: Read>(source: &mut R) -> Rest {
     let mut piece = io::large_buffer();
     let mut turns = u64::MAX;
     while 0 < turns {
-        let input = files::read(fd, &mut piece);
+        let input = files::read(source, &mut piece);
         let next = left_after(input);
         match next {
             InputLeft::More => turns = turns - 1,
@@ -167,10 +168,10 @@ fn read_rest(fd: i32) -> Rest {
 }
 
 // What is behind the bytes that were read. Only where they fill the buffer there may be something.
-fn rest_of(fd: i32, input: Input) -> Rest {
+fn rest_of<R: Read>(source: &mut R, input: Input) -> Rest {
     match input {
         Input::Ended(_) => Rest::Even,
-        Input::Full => read_rest(fd),
+        Input::Full => read_rest(source),
         Input::Failed(_) => Rest::Failed,
     }
 }
@@ -205,13 +206,13 @@ pub fn answer_to(trace: &[u8], input: Input, rest: Rest, line: &mut [u8]) -> Lin
     }
 }
 
-/// Reads a trace from a file, and writes its line into the front of a lent buffer. Of a trace of more than 2,050 bytes only its header and
+/// Reads a trace from a reader, and writes its line into the front of a lent buffer. Of a trace of more than 2,050 bytes only its header and
 /// the parity of its length matter.
-pub fn answer(fd: i32, line: &mut [u8]) -> Lines
+pub fn answer<R: Read>(source: &mut R, line: &mut [u8]) -> Lines
     ensures { AnswersTraceInput line.old result line.new }
 {
     let mut trace = trace_space();
-    let input = files::read(fd, &mut trace);
-    let rest = rest_of(fd, input);
+    let input = files::read(source, &mut trace);
+    let rest = rest_of(source, input);
     answer_to(&trace, input, rest, line)
 }

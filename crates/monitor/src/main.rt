@@ -1,8 +1,8 @@
 // Judges a packed trace of any length from standard input: whether it is coherent and feasible, and if not, the first letter at which it is not so.
 #![tactic(auto)]
 
-use files::Input;
-use libc::STDIN_FILENO;
+use files::{Input, Source};
+use std::io::Read;
 use streaming::Stream;
 use streaming::byte_stream::{finish, push_all, start};
 
@@ -15,9 +15,9 @@ struct Fed {
 }
 
 // Reads as much as the buffer holds, and pushes what came.
-fn feed(stream: Stream) -> Fed {
+fn feed<R: Read>(source: &mut R, stream: Stream) -> Fed {
     let mut buffer = io::large_buffer();
-    let input = files::read(STDIN_FILENO, &mut buffer);
+    let input = files::read(source, &mut buffer);
     match input {
         Input::Ended(n) => Fed {
             more: false,
@@ -38,7 +38,7 @@ fn feed(stream: Stream) -> Fed {
 }
 
 // A proved loop has to end, and nothing says that the input does: it counts its turns down, from a number that no run uses up.
-fn feed_all() -> Fed {
+fn feed_all<R: Read>(source: &mut R) -> Fed {
     let mut fed = Fed {
         more: true,
         failed: false,
@@ -47,22 +47,23 @@ fn feed_all() -> Fed {
     let mut turns = u64::MAX;
     while turns > 0 && fed.more {
         let stream = fed.stream;
-        let next = feed(stream);
+        let next = feed(source, stream);
         fed = next;
         turns = turns - 1;
     }
     fed
 }
 
-fn main() {
-    let fed = feed_all();
+fn main(rt: HostRuntime) {
+    let mut input = Source::new(rt.stdin());
+    let fed = feed_all(&mut input);
     if fed.failed {
-        os::fail(b"read");
+        input.tell(&rt, b"read");
         return;
     }
     let stream = fed.stream;
     let verdict = finish(stream);
     let mut lines = monitor_lines::line_space();
     let size = monitor_lines::write_lines(verdict, &mut lines);
-    files::print(&lines[..size]);
+    files::print(&rt, &lines[..size]);
 }

@@ -2,9 +2,9 @@
 #![tactic(auto)]
 
 use blocks::{POINT_SPACE, PointEntry};
-use files::Input;
+use files::{Input, Opened, Source};
 use letters::Letter;
-use libc::STDOUT_FILENO;
+use std::fs::File;
 use syntax::{CompiledMacro, LONGEST_TEXT};
 
 // One byte more than a macro may have.
@@ -20,17 +20,17 @@ fn space() -> [u8; MOST_READ] {
     [0; MOST_READ]
 }
 
-fn number(n: u64) {
-    io::write_all(STDOUT_FILENO, b" ");
-    io::print_decimal(STDOUT_FILENO, n);
+fn number(rt: &HostRuntime, n: u64) {
+    files::print(rt, b" ");
+    files::print_number(rt, n);
 }
 
-fn print_letter(letter: Letter) {
+fn print_letter(rt: &HostRuntime, letter: Letter) {
     match letter {
         Letter::Copy { target, source } => {
-            io::write_all(STDOUT_FILENO, b" copy");
-            number(target as u64);
-            number(source as u64);
+            files::print(rt, b" copy");
+            number(rt, target as u64);
+            number(rt, source as u64);
         }
         Letter::Apply {
             target,
@@ -38,36 +38,36 @@ fn print_letter(letter: Letter) {
             first,
             second,
         } => {
-            io::write_all(STDOUT_FILENO, b" apply");
-            number(target as u64);
-            number(function as u64);
-            number(first as u64);
-            number(second as u64);
+            files::print(rt, b" apply");
+            number(rt, target as u64);
+            number(rt, function as u64);
+            number(rt, first as u64);
+            number(rt, second as u64);
         }
         Letter::Equal { first, second } => {
-            io::write_all(STDOUT_FILENO, b" equal");
-            number(first as u64);
-            number(second as u64);
+            files::print(rt, b" equal");
+            number(rt, first as u64);
+            number(rt, second as u64);
         }
         Letter::Unequal { first, second } => {
-            io::write_all(STDOUT_FILENO, b" unequal");
-            number(first as u64);
-            number(second as u64);
+            files::print(rt, b" unequal");
+            number(rt, first as u64);
+            number(rt, second as u64);
         }
     }
 }
 
-fn print_point(point: PointEntry) {
-    io::write_all(STDOUT_FILENO, b" |");
-    number(point.kind as u64);
+fn print_point(rt: &HostRuntime, point: PointEntry) {
+    files::print(rt, b" |");
+    number(rt, point.kind as u64);
     let letter = point.letter;
-    print_letter(letter);
-    number(point.first as u64);
-    number(point.second as u64);
+    print_letter(rt, letter);
+    number(rt, point.first as u64);
+    number(rt, point.second as u64);
 }
 
 // The points, if they are few.
-fn print_points(points: [PointEntry; POINT_SPACE], count: u16) {
+fn print_points(rt: &HostRuntime, points: [PointEntry; POINT_SPACE], count: u16) {
     if FEW_POINTS < count {
         return;
     }
@@ -77,65 +77,63 @@ fn print_points(points: [PointEntry; POINT_SPACE], count: u16) {
             return;
         }
         let point = points[i];
-        print_point(point);
+        print_point(rt, point);
         i += 1;
     }
 }
 
-fn print_macro(program: CompiledMacro) {
+fn print_macro(rt: &HostRuntime, program: CompiledMacro) {
     let header = program.header;
-    io::write_all(STDOUT_FILENO, b": read");
-    number(header.registers as u64);
-    number(header.functions as u64);
-    number(header.binary as u64);
-    number(program.count as u64);
+    files::print(rt, b": read");
+    number(rt, header.registers as u64);
+    number(rt, header.functions as u64);
+    number(rt, header.binary as u64);
+    number(rt, program.count as u64);
     let points = program.points;
-    print_points(points, program.count);
+    print_points(rt, points, program.count);
 }
 
-fn report(name: &[u8], text: &[u8]) {
-    files::print(name);
+fn report(rt: &HostRuntime, name: &[u8], text: &[u8]) {
+    files::print(rt, name);
     let answer = syntax::read(text);
     if answer.refusal == 0 {
         let program = answer.program;
-        print_macro(program);
+        print_macro(rt, program);
     } else {
-        io::write_all(STDOUT_FILENO, b": refused ");
-        io::print_decimal(STDOUT_FILENO, answer.refusal as u64);
-        io::write_all(STDOUT_FILENO, b" at ");
-        io::print_decimal(STDOUT_FILENO, answer.place as u64);
+        files::print(rt, b": refused ");
+        files::print_number(rt, answer.refusal as u64);
+        files::print(rt, b" at ");
+        files::print_number(rt, answer.place as u64);
     }
-    files::print(b"\n");
+    files::print(rt, b"\n");
 }
 
-fn judge(fd: i32, name: &[u8]) {
+fn judge(rt: &HostRuntime, file: File, name: &[u8]) {
+    let mut source = Source::new(file);
     let mut text = space();
-    let input = files::read(fd, &mut text);
+    let input = files::read(&mut source, &mut text);
     match input {
-        Input::Ended(n) => report(name, &text[..n]),
-        Input::Full => report(name, &text),
-        Input::Failed(_) => os::fail(name),
+        Input::Ended(n) => report(rt, name, &text[..n]),
+        Input::Full => report(rt, name, &text),
+        Input::Failed(_) => source.tell(rt, name),
     }
 }
 
-fn run_one(i: usize) {
+fn run_one(rt: &HostRuntime, i: usize) {
     let mut name = io::buffer();
-    let opened = files::open_argument(i, &mut name);
-    let fd = opened.fd;
-    if fd < 0 {
-        return;
+    let opened = files::open_argument(rt, i, &mut name);
+    let Opened { file, size } = opened;
+    if let Some(file) = file {
+        judge(rt, file, &name[..size]);
     }
-    let size = opened.size;
-    judge(fd, &name[..size]);
-    libc::close(fd);
 }
 
 // The first argument is the program's name.
-fn main() {
-    let count = os::arg_count();
+fn main(rt: HostRuntime) {
+    let count = files::argument_count(&rt);
     let mut i: usize = 1;
     while i < count {
-        run_one(i);
+        run_one(&rt, i);
         i = i + 1;
     }
 }

@@ -75,9 +75,9 @@ following_over (Bytes k) done room i e = absurd (more_over e)
 following_over End done room i e = subst (λ (j : Input). (read_count j room ≡ done) × (done < room → Short j room)) (ap over_of e) (refl, λ l. l)
 following_over Failed done room i e = subst (λ (j : Input). (read_count j room ≡ done) × (done < room → Short j room)) (ap over_of e) (refl, λ l. l)
 
-reads_short : {room done : ℕ} {r : Input} → ReadSequence room r done → Short r room
+reads_short : {room : ℕ} {r : Input} {done : ℕ} → ReadSequence room r done → Short r room
 reads_short {room} (ReadSequence.full e) = subst (λ (i : Input). Short i room) (sym e) tt
-reads_short {room} {done} {r} (ReadSequence.over answer l f) = (following_over answer done room r f).1 l
+reads_short {room} {r} {done} (ReadSequence.over answer l f) = (following_over answer done room r f).1 l
 reads_short (ReadSequence.more answer n f p w x) = reads_short x
 
 -- So far `done` bytes were read into the buffer's front: what follows them follows from the beginning.

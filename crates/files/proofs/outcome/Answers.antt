@@ -8,13 +8,11 @@ use lib.Dec.{T}
 use lib.Signed.{lt_z, non_neg}
 use mir.Syntax.{w64}
 use mir.Val.{to_z, of_z}
-use mir.Facts.{to_z-of_z, Fits-nat_abs, sfits_to_z, Fits-of_z}
-use borrow.Author.Rules.{rules}
+use mir.Facts.{to_z-of_z}
 use borrow.Author.Tests.{ltb-true, ltb-false, ne_eqb}
 use Rattle.files.specs.declared.OneRead.TheVariants.{Bytes, End, Failed}
 use Rattle.files.specs.Input.{meaning}
-use Rattle.files.proofs.outcome.Statement.{statement}
-use Rattle.files.proofs.outcome.Tie as tie
+use Rattle.files.proofs.outcome.Goals as goal
 
 negative : (z : ℤ) (most : ℕ) → lt_z z (pos 0) ≡ true → Failed ≡ meaning z most
 unfolding meaning
@@ -38,27 +36,16 @@ neither (pos n) most f e = let none : n ≡ 0 = zero_only n (ltb-false 0 n e) in
     zero_only n h = omega arith
 neither (negsuc n) most f e = absurd (subst T f tt)
 
-cast_least : tie.Need-overflow-cast-least
-cast_least c =
-    let start = c.before.before in
-    (positive (to_z w64 (of_z w64 start.args.got)) c.if2.true, Fits-nat_abs {w = w64} {w' = w64} tt (sfits_to_z (Fits-of_z start.ranges.got)))
+pub returns-then-got-lt0 : goal.returns-then-got-lt0
+returns-then-got-lt0 c =
+    negative (to_z w64 (of_z w64 c.args.got)) c.args.most c.if-got-lt0.true ∙ ap (λ (z : ℤ). meaning z c.args.most) (to_z-of_z c.ranges.got)
 
-pub outcome_spec : {M : Type 1} → statement M
-outcome_spec =
-    tie.close
-    (tie.spec
-    (λ c.
-    let start = c.before in
-    negative (to_z w64 (of_z w64 start.args.got)) start.args.most c.if1.true ∙ ap (λ (z : ℤ). meaning z start.args.most)
-    (to_z-of_z start.ranges.got))
-    cast_least
-    (λ c κs. search rules)
-    (λ c.
-    let start = c.before.before.before in
-    let most = start.args.most in
-    ap Bytes c.least.ensures ∙ above (to_z w64 (of_z w64 start.args.got)) most c.before.if2.true ∙ ap (λ (z : ℤ). meaning z most)
-    (to_z-of_z start.ranges.got))
-    (λ c.
-    let start = c.before.before in
-    neither (to_z w64 (of_z w64 start.args.got)) start.args.most c.before.if1.false c.if2.false
-    ∙ ap (λ (z : ℤ). meaning z start.args.most) (to_z-of_z start.ranges.got)))
+pub returns-then-got-gt0 : goal.returns-then-got-gt0
+returns-then-got-gt0 c =
+    ap Bytes c.least.ensures ∙ above (to_z w64 (of_z w64 c.args.got)) c.args.most c.if-got-gt0.true
+    ∙ ap (λ (z : ℤ). meaning z c.args.most) (to_z-of_z c.ranges.got)
+
+pub returns : goal.returns
+returns c =
+    neither (to_z w64 (of_z w64 c.args.got)) c.args.most c.if-got-lt0.false c.if-got-gt0.false
+    ∙ ap (λ (z : ℤ). meaning z c.args.most) (to_z-of_z c.ranges.got)

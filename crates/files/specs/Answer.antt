@@ -1,0 +1,7 @@
+-- What a reader answered, as the number that POSIX's read answers.
+use Rattle.std.specs.Prelude.{ℕ, ℤ, pos, negsuc, Result, Ok, Err}
+
+-- How many bytes it gave, or -1 where it failed.
+abbrev pub answered : {E : Type 0} → Result ℕ E → ℤ
+answered (Ok n) = pos n
+answered (Err e) = negsuc 0
