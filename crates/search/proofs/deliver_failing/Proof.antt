@@ -6,49 +6,41 @@ use borrow.Author.Rules.{rules}
 use Rattle.search.proofs.deliver_failing.Statement.{statement}
 use Rattle.search.proofs.deliver_failing.Tie as tie
 
-sub_n : tie.Need-overflow-sub-n
+sub_n : tie.Need-overflow_sub-n
 sub_n c = search rules
 
-returns : tie.Need-returns
-returns c = let a = c.before.before.before.args in failing_refused a.packed a.count a.output.now c.before.before.before.requires c.if1.true
+returns : tie.Need-returns-then-output-n
+returns c = let a = c.args in failing_refused a.packed a.count a.output.now c.requires c.if-output-n.true
 
-show_model_requires : tie.Need-show-model-requires
+show_model_requires : tie.Need-show_model-requires
 show_model_requires c κs = search rules
 
-write_trace_requires : tie.Need-write-trace-requires
+write_trace_requires : tie.Need-write_trace-requires
 write_trace_requires c κs = search rules
 
-sub_t14 : tie.Need-overflow-sub-t14
+sub_t14 : tie.Need-overflow_sub-result
 sub_t14 c = search rules
 
-same_length : tie.Need-same-length
+same_length : tie.Need-shape_of-output-then-show_model
 same_length c = search rules
 
-returns_2 : tie.Need-returns-2
+returns_2 : tie.Need-returns-then-show_model
 returns_2 c =
-    let at_write_trace = c.before.before in
-    let at_if2 = at_write_trace.before.before in
-    let at_show_model = at_if2.before.before.before in
-    let at_if1 = at_show_model.before.before.before in
-    let x = at_if1.before.before.before in
-    let a = x.args in
-    let m = at_show_model.show_model in
-    failing_shown a.packed a.count a.output.now x.requires at_if1.if1.false m.new.1.1.0
-    (subst (λ f. ModelWrittenBehind (drop a.packed.start a.packed.bytes) a.output.now f m.new.1.1.0)
-    at_if2.if2.true m.ensures) at_write_trace.write_trace.new.1.0 at_write_trace.write_trace.ensures
+    let a = c.args in
+    let m = c.show_model in
+    failing_shown a.packed a.count a.output.now c.requires c.if-output-n.false m.new.output
+    (subst (λ f. ModelWrittenBehind (drop a.packed.start a.packed.bytes) a.output.now f m.new.output)
+    c.if-show_model.true m.ensures) c.write_trace.new.output c.write_trace.ensures
 
-same_length_2 : tie.Need-same-length-2
+same_length_2 : tie.Need-shape_of-output
 same_length_2 c = search rules
 
-returns_3 : tie.Need-returns-3
+returns_3 : tie.Need-returns
 returns_3 c =
-    let at_show_model = c.before.before.before in
-    let at_if1 = at_show_model.before.before.before in
-    let x = at_if1.before.before.before in
-    let a = x.args in
-    let m = at_show_model.show_model in
-    failing_unfit a.packed a.count a.output.now x.requires at_if1.if1.false m.new.1.1.0
-    (subst (λ f. ModelWrittenBehind (drop a.packed.start a.packed.bytes) a.output.now f m.new.1.1.0) c.if2.false m.ensures)
+    let a = c.args in
+    let m = c.show_model in
+    failing_unfit a.packed a.count a.output.now c.requires c.if-output-n.false m.new.output
+    (subst (λ f. ModelWrittenBehind (drop a.packed.start a.packed.bytes) a.output.now f m.new.output) c.if-show_model.false m.ensures)
 
 pub deliver_failing_spec : {M : Type 1} → statement M
 deliver_failing_spec =
