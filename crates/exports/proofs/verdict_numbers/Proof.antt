@@ -4,32 +4,32 @@ use Rattle.exports.proofs.Laws.{numbers_pass, numbers_fail, numbers_incoherent, 
 use Rattle.exports.proofs.verdict_numbers.Statement.{statement}
 use Rattle.exports.proofs.verdict_numbers.Tie as tie
 
-enum_known_verdict : tie.Need-enum-known-verdict
+enum_known_verdict : tie.Need-enum_known-verdict
 enum_known_verdict c = search rules
 
-enum_known_verdict_2 : tie.Need-enum-known-verdict-2
+enum_known_verdict_2 : tie.Need-enum_known-verdict-in-Fail-1
 enum_known_verdict_2 c = search rules
 
-enum_known_verdict_3 : tie.Need-enum-known-verdict-3
+enum_known_verdict_3 : tie.Need-enum_known-verdict-in-Incoherent-1
 enum_known_verdict_3 c = search rules
 
-enum_known_verdict_4 : tie.Need-enum-known-verdict-4
+enum_known_verdict_4 : tie.Need-enum_known-verdict-in-Refused-1
 enum_known_verdict_4 c = search rules
 
-cast_t15 : tie.Need-overflow-cast-t15
+cast_t15 : tie.Need-overflow_cast-result
 cast_t15 c = search rules
 
-returns : tie.Need-returns
-returns c = numbers_pass _ _ c.before.verdict.given.1
+returns : tie.Need-returns-in-Pass
+returns c = numbers_pass _ _ c.in-Pass.is
 
-returns_2 : tie.Need-returns-2
-returns_2 c = numbers_fail _ _ _ c.before.verdict2.given.1
+returns_2 : tie.Need-returns-in-Fail
+returns_2 c = numbers_fail _ _ _ c.in-Fail.is
 
-returns_3 : tie.Need-returns-3
-returns_3 c = numbers_incoherent _ _ _ c.before.verdict3.given.1
+returns_3 : tie.Need-returns-in-Incoherent
+returns_3 c = numbers_incoherent _ _ _ c.in-Incoherent.is
 
-returns_4 : tie.Need-returns-4
-returns_4 c = numbers_unjudged _ _ _ c.before.verdict4.given.1
+returns_4 : tie.Need-returns-in-Refused
+returns_4 c = numbers_unjudged _ _ _ c.in-Refused.is
 
 pub verdict_numbers_spec : {M : Type 1} → statement M
 verdict_numbers_spec =

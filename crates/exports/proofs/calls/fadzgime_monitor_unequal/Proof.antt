@@ -4,51 +4,45 @@ use borrow.Author.Rules.{rules}
 use Rattle.exports.proofs.calls.fadzgime_monitor_unequal.Statement.{statement}
 use Rattle.exports.proofs.calls.fadzgime_monitor_unequal.Tie as tie
 
-returns : tie.Need-returns
-returns c = asked_short _ _ _ _ c.if1.true
+returns : tie.Need-returns-then-answer-lt-ASKED_NUMBERS
+returns c = asked_short _ _ _ _ c.if-answer-lt-ASKED_NUMBERS.true
 
 holds_requires : tie.Need-holds-requires
 holds_requires c κs = search rules
 
-monitor_in_requires : tie.Need-monitor-in-requires
-monitor_in_requires c κs = held_long _ _ _ (sym c.before.holds.ensures ∙ c.if2.true)
+monitor_in_requires : tie.Need-monitor_in-monitor-requires
+monitor_in_requires c κs = held_long _ _ _ (sym c.holds.ensures ∙ c.if-holds.true)
 
-unequal_word_requires : tie.Need-unequal-word-requires
+unequal_word_requires : tie.Need-unequal_word-requires
 unequal_word_requires c κs = search rules
 
-slice_aggregate_store : tie.Need-slice-aggregate-store
+slice_aggregate_store : tie.Need-slice_bounds-store-end
 slice_aggregate_store c = search rules
 
 store_requires : tie.Need-store-requires
 store_requires c κs = search rules
 
-same_length : tie.Need-same-length
+same_length : tie.Need-shape_of-answer-then-holds
 same_length c = search rules
 
-returns_2 : tie.Need-returns-2
+returns_2 : tie.Need-returns-then-holds
 returns_2 c =
-    let stored = c.before.before in
-    let worded = stored.before.before.before in
-    let monitor = worded.before in
-    let tested = monitor.before in
-    asked_done _ _ _ _ _ _ _ _ tested.before.before.if1.false (sym tested.before.holds.ensures ∙ tested.if2.true)
-    monitor.monitor_in.ensures worded.unequal_word.ensures.0 worded.unequal_word.ensures.1 refl refl stored.store.ensures
+    asked_done _ _ _ _ _ _ _ _ c.if-answer-lt-ASKED_NUMBERS.false (sym c.holds.ensures ∙ c.if-holds.true)
+    c.monitor_in-monitor.ensures c.unequal_word.ensures.0 c.unequal_word.ensures.1 refl refl c.store.ensures
 
-slice_aggregate_store_2 : tie.Need-slice-aggregate-store-2
+slice_aggregate_store_2 : tie.Need-slice_bounds-store-end-2
 slice_aggregate_store_2 c = search rules
 
 store_requires_2 : tie.Need-store-requires-2
 store_requires_2 c κs = search rules
 
-same_length_2 : tie.Need-same-length-2
+same_length_2 : tie.Need-shape_of-answer
 same_length_2 c = search rules
 
-returns_3 : tie.Need-returns-3
+returns_3 : tie.Need-returns
 returns_3 c =
-    let stored = c.before.before in
-    let tested = stored.before.before.before in
-    asked_none _ _ _ _ _ _ tested.before.before.if1.false (sym tested.before.holds.ensures ∙ tested.if2.false) refl refl
-    stored.store2.ensures
+    asked_none _ _ _ _ _ _ c.if-answer-lt-ASKED_NUMBERS.false (sym c.holds.ensures ∙ c.if-holds.false) refl refl
+    c.store-2.ensures
 
 pub fadzgime_monitor_unequal_spec : {M : Type 1} → statement M
 fadzgime_monitor_unequal_spec =

@@ -3,29 +3,29 @@ use borrow.Author.Rules.{rules}
 use Rattle.exports.proofs.packing.read_numbers.Statement.{statement}
 use Rattle.exports.proofs.packing.read_numbers.Tie as tie
 
-enum_known_read : tie.Need-enum-known-read
+enum_known_read : tie.Need-enum_known-read
 enum_known_read c = search rules
 
-cast_t7 : tie.Need-overflow-cast-t7
+cast_t7 : tie.Need-overflow_cast-result
 cast_t7 c = search rules
 
-cast_t8 : tie.Need-overflow-cast-t8
+cast_t8 : tie.Need-overflow_cast-result-in-Trace
 cast_t8 c = search rules
 
-cast_t9 : tie.Need-overflow-cast-t9
+cast_t9 : tie.Need-overflow_cast-result-in-Trace-2
 cast_t9 c = search rules
 
-enum_known_read_2 : tie.Need-enum-known-read-2
+enum_known_read_2 : tie.Need-enum_known-read-in-Refused-1
 enum_known_read_2 c = search rules
 
-cast_t10 : tie.Need-overflow-cast-t10
+cast_t10 : tie.Need-overflow_cast-result-in-Refused
 cast_t10 c = search rules
 
-returns : tie.Need-returns
-returns c = numbers_read _ _ _ c.before.before.before.before.read.given.1
+returns : tie.Need-returns-in-Trace
+returns c = numbers_read _ _ _ c.in-Trace.is
 
-returns_2 : tie.Need-returns-2
-returns_2 c = numbers_unread _ _ _ c.before.read2.given.1
+returns_2 : tie.Need-returns-in-Refused
+returns_2 c = numbers_unread _ _ _ c.in-Refused.is
 
 pub read_numbers_spec : {M : Type 1} → statement M
 read_numbers_spec =
