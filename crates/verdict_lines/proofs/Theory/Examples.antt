@@ -76,6 +76,7 @@ none_counted = (
 only_start : {ρ π : Trace} {o : Outcome} → ExecBlock (written_out (expanded still)) ρ π o → (π ≡ ρ) × (o ≡ done)
 unfolding statement_before expanded_statement
 only_start (ExecBlock.both Exec.nothing ExecBlock.stop) = (refl, refl)
+only_start (ExecBlock.ends x) = elim x [ ]
 
 nothing_before : {ρ : Trace} → Begins ρ (begin (header_of still)) → ρ ≡ begin (header_of still)
 nothing_before whole = refl

@@ -16,15 +16,10 @@ write_lines_spec =
     (λ c κs. search rules)
     (λ c. search rules)
     (λ c.
-    let at_write_verdict = c.before.before in
-    let at_answer3 = at_write_verdict.before.before in
-    let at_judge_macro = at_answer3.before.before.before in
-    let at_answer_space = at_judge_macro.before.before.before in
-    let at_table_space = at_answer_space.before in
-    let a = at_table_space.before.before.before.args in
-    let table = at_table_space.table_space in
-    let answer = at_answer_space.answer_space in
-    let judged = at_judge_macro.judge_macro in
-    let written = at_write_verdict.write_verdict in
-    prints a.text.now table.result answer.result (search rules) (search rules) judged.result judged.new.1.0 judged.new.1.1.0
-    judged.ensures a.lines.now written.result written.new.1.1.1.0 written.ensures))
+    let a = c.args in
+    let table = c.table_space-table in
+    let answer = c.answer_space-answer in
+    let judged = c.judge_macro-verdict in
+    let written = c.write_verdict in
+    prints a.text.now table.result answer.result (search rules) (search rules) judged.result judged.new.table judged.new.output
+    judged.ensures a.lines.now written.result written.new.lines written.ensures))

@@ -1,0 +1,14 @@
+use borrow.Author.Rules.{rules}
+use Rattle.verdict_lines.proofs.answer.Goals as goal
+
+pub returns : goal.returns
+returns g c =
+    let read = c.read-input in
+    record {
+      space = c.text_space-text.result;
+      room = search rules;
+      input = read.result;
+      text = read.new.buffer;
+      received = read.ensures;
+      answers = c.answer_to.ensures;
+    }
