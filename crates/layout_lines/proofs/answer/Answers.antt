@@ -1,0 +1,12 @@
+use borrow.Author.Rules.{rules}
+use Rattle.layout_lines.proofs.answer.Goals as goal
+
+pub returns : goal.returns
+returns g c = record {
+  space = c.text_space-text.result;
+  room = search rules;
+  input = c.read-input.result;
+  text = c.read-input.new.buffer;
+  received = c.read-input.ensures;
+  answers = c.answer_to.ensures;
+}
