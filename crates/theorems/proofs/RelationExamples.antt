@@ -85,9 +85,11 @@ what_is_assumed_holds R (w, x) = refuted x
   where
     asserted : {v u : Values R} → R.relation 0 (v 0) (v 0) ≡ true → ¬ RunsBlock R (assert (holds 0 0 0) then empty) v u failed
     asserted e (RunsBlock.ends (Runs.violates (IsFalse.test_fails d))) = true≢false (sym e ∙ d)
+    asserted e (RunsBlock.both _ x) = elim x [ ]
 
     refuted : {v u : Values R} → ¬ RunsBlock R (assume (holds 0 0 0) then assert (holds 0 0 0) then empty) v u failed
     refuted (RunsBlock.both (Runs.assumes (IsTrue.test_holds e)) y) = asserted e y
+    refuted (RunsBlock.ends x) = elim x [ ]
 
 -- A while asks at every turn: behind `while hot(x) { x := cool(x); }`, where `cool` is function 0 and `hot` test 1, `assert !hot(x);` is never false.
 left_false {ℓ} : (R : Meaning {ℓ}) {c : Condition} {b : Block} {v w : Values R} → Runs R (while c b) v w done → IsFalse R w c
@@ -100,6 +102,7 @@ cooled_until_not_hot R (w, x) = refuted x
   where
     cooled : {v u : Values R} {o : Outcome} → RunsBlock R (assign (apply 0 0 0 0) then empty) v u o → o ≡ done
     cooled (RunsBlock.both (Runs.assigns e) RunsBlock.stop) = refl
+    cooled (RunsBlock.ends x) = elim x [ ]
 
     looped : {v u : Values R} → ¬ Runs R (while (holds 1 0 0) (assign (apply 0 0 0 0) then empty)) v u failed
     looped (Runs.turns y x z) = looped z
@@ -110,6 +113,7 @@ cooled_until_not_hot R (w, x) = refuted x
 
     asserted : {v u : Values R} → R.relation 1 (v 0) (v 0) ≡ false → ¬ RunsBlock R (assert (fails 1 0 0) then empty) v u failed
     asserted e (RunsBlock.ends (Runs.violates (IsFalse.test_holds d))) = true≢false (sym d ∙ e)
+    asserted e (RunsBlock.both _ x) = elim x [ ]
 
     refuted : {v u : Values R}
         → ¬ RunsBlock R (while (holds 1 0 0) (assign (apply 0 0 0 0) then empty) then assert (fails 1 0 0) then empty) v u failed
