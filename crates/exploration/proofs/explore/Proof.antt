@@ -57,13 +57,12 @@ array_copy_out_point : tie.Need-bounds-points-k invariant_loop decreases_loop
 array_copy_out_point c = search rules
 
 one_move_requires : tie.Need-one_move-turn-requires invariant_loop decreases_loop
-one_move_requires c κs =
-    (
-      record { most = omega arith; fits = omega arith; listed = omega arith; due = omega arith },
-      c.requires.3 (c.point_at-k.result % most_points) (c.loop-d.d % 2),
-      c.current-w.ensures,
-      c.loop-d.invariant.8,
-    )
+one_move_requires c κs = (
+  record { most = omega arith; fits = omega arith; listed = omega arith; due = omega arith },
+  c.requires.3 (c.point_at-k.result % most_points) (c.loop-d.d % 2),
+  c.current-w.ensures,
+  c.loop-d.invariant.8,
+)
 
 enum_known_turn : tie.Need-enum_known-turn invariant_loop decreases_loop
 enum_known_turn c = search rules

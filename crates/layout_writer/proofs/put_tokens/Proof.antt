@@ -30,11 +30,10 @@ skip_tokens_requires : tie.Need-skip_tokens-names-requires invariant_loop decrea
 skip_tokens_requires c κs = search rules
 
 loop_holds : tie.Need-loop-at-init invariant_loop decreases_loop
-loop_holds c =
-    (
-      λ m A. print_all c.args.text.now c.args.out.now m A,
-      record { text = c.requires; place = omega arith; few = omega arith; buffer = refl },
-    )
+loop_holds c = (
+  λ m A. print_all c.args.text.now c.args.out.now m A,
+  record { text = c.requires; place = omega arith; few = omega arith; buffer = refl },
+)
 
 next_requires : tie.Need-next-t-requires invariant_loop decreases_loop
 next_requires c κs = search rules

@@ -12,8 +12,7 @@ pub copy_slots_spec : {M : Type 1} → statement M
 copy_slots_spec = tie.close (tie.spec
     (λ c κs. search rules)
     (λ c κs. search rules)
-    (λ c.
-    (
+    (λ c. (
       (λ i. copied_within registers functions _ _ _ _ _ c.slot_of-s.ensures.0 c.slot_of-t.ensures.0 c.if-s-t.true),
       (c.requires.2, c.requires.3),
     ))

@@ -14,8 +14,7 @@ pub drop_slot_spec : {M : Type 1} → statement M
 drop_slot_spec = tie.close (tie.spec
     (λ c κs. search rules)
     (λ c κs. (c.requires.1, c.requires.3))
-    (λ c κs.
-    (
+    (λ c κs. (
       c.requires.0,
       whole registers 1 c.args.unequal.now c.requires.2.unequal_long,
     ))

@@ -28,8 +28,7 @@ find_spec = tie.close (tie.spec
     ∙ c.loop-i.invariant.1)
     (λ c. search rules)
     (λ c. search rules)
-    (λ c.
-    (
+    (λ c. (
       omega (arith, c.loop-i-test.true),
       sym (find_more registers _ _ _ results _ _ _ c.loop-i-test.true c.entry-slots.ensures c.many.ensures
           c.if-many.false) ∙ c.loop-i.invariant.1,

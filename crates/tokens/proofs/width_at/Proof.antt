@@ -49,8 +49,9 @@ returns_4 c =
     width_alone _ _ c.requires _ c.is_letter.ensures c.if-is_letter.false _
     c.is_mark.ensures _ c.if-is_mark.true
     (elim c.if-at-text.branch [
-      then-at-text+else-text-at-eq61 w ↦ w.if-text-at-eq61.false
-      | else-at-text w ↦ last_unpaired c.args.text.now _ w.if-at-text.false ])
+      | then-at-text+else-text-at-eq61 w ↦ w.if-text-at-eq61.false
+      | else-at-text w ↦ last_unpaired c.args.text.now _ w.if-at-text.false
+    ])
     c.is_negation.ensures c.if-is_negation.true
 
 returns_5 : tie.Need-returns-then-is_mark
@@ -58,8 +59,9 @@ returns_5 c =
     width_half _ _ c.requires _ c.is_letter.ensures c.if-is_letter.false _
     c.is_mark.ensures _ c.if-is_mark.true
     (elim c.if-at-text.branch [
-      then-at-text+else-text-at-eq61 w ↦ w.if-text-at-eq61.false
-      | else-at-text w ↦ last_unpaired c.args.text.now _ w.if-at-text.false ])
+      | then-at-text+else-text-at-eq61 w ↦ w.if-text-at-eq61.false
+      | else-at-text w ↦ last_unpaired c.args.text.now _ w.if-at-text.false
+    ])
     c.is_negation.ensures c.if-is_negation.false
 
 is_symbol_requires : tie.Need-is_symbol-requires

@@ -22,10 +22,10 @@ loop_again c = (
   omega (arith, c.loop-a-test.true),
   let l = c.loop-a.invariant.1 in
       elim c.if-holds.branch [
-            then-holds w ↦ w.t-is ∙ added_more registers _ _ _ _ _ _ _ _ c.loop-a-test.true l (sym c.holds.ensures ∙ w.if-holds.true)
-      w.add_line.ensures
-          | else-holds w ↦ w.t-is ∙ added_skip registers _ _ _ _ _ _ _ l (sym c.holds.ensures ∙ w.if-holds.false)
-          ],
+        | then-holds w ↦ w.t-is ∙ added_more registers _ _ _ _ _ _ _ _ c.loop-a-test.true l (sym c.holds.ensures ∙ w.if-holds.true)
+            w.add_line.ensures
+        | else-holds w ↦ w.t-is ∙ added_skip registers _ _ _ _ _ _ _ l (sym c.holds.ensures ∙ w.if-holds.false)
+      ],
 )
 
 pub add_results_spec : {M : Type 1} → statement M

@@ -28,8 +28,7 @@ beside_spec = tie.close (tie.spec
     (λ c κs. search rules)
     (λ c. search rules)
     (λ c. search rules)
-    (λ c.
-    (
+    (λ c. (
       omega (arith, c.loop-h-test.true),
       beside_more registers _ _ _ _ _ c.loop-h.invariant.1 c.flag-m.ensures,
     ))

@@ -23,8 +23,7 @@ copy_in_spec = tie.close (tie.spec
     (λ c κs. search rules)
     (λ c κs. search rules)
     (λ c κs. search rules)
-    (λ c.
-    (
+    (λ c. (
       (λ b.
           let a = c.args in
           copied_moved registers functions (window_of_parts a.class.now a.unequal.now a.res.now a.ever.now a.mark.now b

@@ -30,8 +30,7 @@ find_spec = tie.close (tie.spec
     ∙ c.loop-i.invariant.1)
     (λ c. search rules)
     (λ c. search rules)
-    (λ c.
-    (
+    (λ c. (
       omega (arith, c.loop-i-test.true),
       sym (find_more registers functions _ _ _ c.loop-i-test.true (sym (c.inhabited.ensures ∙ ap (nonempty registers)
           c.rest.ensures) ∙ c.if-inhabited.false)) ∙ c.loop-i.invariant.1,

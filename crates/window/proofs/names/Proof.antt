@@ -24,8 +24,7 @@ names_spec = tie.close (tie.spec
     (λ c κs. search rules)
     (λ c. search rules)
     (λ c. search rules)
-    (λ c.
-    (
+    (λ c. (
       omega (arith, c.loop-r-test.true),
       names_more registers c.args.class.now c.loop-r.r c.loop-r.m _ _ c.loop-r.invariant.1 c.name.ensures
           c.single_if-m.ensures,

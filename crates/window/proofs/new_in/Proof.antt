@@ -27,8 +27,7 @@ new_in_spec = tie.close (tie.spec
     (λ c κs. search rules)
     (λ c κs. search rules)
     (λ c κs. search rules)
-    (λ c.
-    (
+    (λ c. (
       (λ i.
           let a = c.args in applied_is registers functions (window_of_parts a.class.now a.unequal.now a.res.now a.ever.now
           a.mark.now i a.count.now) a.x a.f a.y a.z _ _ _ _ _ _ _ _ _ _ c.arguments.ensures c.fallen.ensures

@@ -19,18 +19,17 @@ abbrev decreases_loop : tie.decreases-loop-r
 decreases_loop t₀ to a r₀ t r = registers - r
 
 loop_again : tie.Need-loop-r-preserved invariant_loop decreases_loop
-loop_again c =
-    (
-      omega (arith, c.loop-r-test.true),
-      let p = c.requires in
-          let l = c.loop-r.invariant.1 in
-          elim c.if-holds.branch [
-            then-holds w ↦ w.t-is ∙ spread_more (columns registers) (columns_partition registers) _ _ _ p.0 _ _ _ _
-          (columns_span registers _ _ p.1 refl) l (sym c.holds.ensures ∙ w.if-holds.true) w.unite_column.ensures
-          | else-holds w ↦ w.t-is ∙ spread_skip (columns registers) (columns_partition registers) 0 _ _ p.0 _ _ _ l
-          (sym c.holds.ensures ∙ w.if-holds.false)
-          ],
-    )
+loop_again c = (
+  omega (arith, c.loop-r-test.true),
+  let p = c.requires in
+      let l = c.loop-r.invariant.1 in
+      elim c.if-holds.branch [
+        | then-holds w ↦ w.t-is ∙ spread_more (columns registers) (columns_partition registers) _ _ _ p.0 _ _ _ _
+            (columns_span registers _ _ p.1 refl) l (sym c.holds.ensures ∙ w.if-holds.true) w.unite_column.ensures
+        | else-holds w ↦ w.t-is ∙ spread_skip (columns registers) (columns_partition registers) 0 _ _ p.0 _ _ _ l
+            (sym c.holds.ensures ∙ w.if-holds.false)
+      ],
+)
 
 pub spread_column_spec : {M : Type 1} → statement M
 spread_column_spec = tie.close (tie.spec

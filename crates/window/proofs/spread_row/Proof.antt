@@ -19,18 +19,17 @@ abbrev decreases_loop : tie.decreases-loop-r
 decreases_loop t₀ to a r₀ t r = registers - r
 
 loop_again : tie.Need-loop-r-preserved invariant_loop decreases_loop
-loop_again c =
-    (
-      omega (arith, c.loop-r-test.true),
-      let p = c.requires in
-          let l = c.loop-r.invariant.1 in
-          elim c.if-holds.branch [
-            then-holds w ↦ w.t-is ∙ spread_more (rows registers) (rows_partition registers) _ _ _ p.0 _ _ _ _ (rows_span registers functions _ p.1) l
-          (sym c.holds.ensures ∙ w.if-holds.true) w.unite_row.ensures
-          | else-holds w ↦ w.t-is ∙ spread_skip (rows registers) (rows_partition registers) 0 _ _ p.0 _ _ _ l
-          (sym c.holds.ensures ∙ w.if-holds.false)
-          ],
-    )
+loop_again c = (
+  omega (arith, c.loop-r-test.true),
+  let p = c.requires in
+      let l = c.loop-r.invariant.1 in
+      elim c.if-holds.branch [
+        | then-holds w ↦ w.t-is ∙ spread_more (rows registers) (rows_partition registers) _ _ _ p.0 _ _ _ _ (rows_span registers functions _ p.1) l
+            (sym c.holds.ensures ∙ w.if-holds.true) w.unite_row.ensures
+        | else-holds w ↦ w.t-is ∙ spread_skip (rows registers) (rows_partition registers) 0 _ _ p.0 _ _ _ l
+            (sym c.holds.ensures ∙ w.if-holds.false)
+      ],
+)
 
 pub spread_row_spec : {M : Type 1} → statement M
 spread_row_spec = tie.close (tie.spec
