@@ -1,6 +1,5 @@
 -- The line of an answer in a lent buffer.
 use Rattle.std.specs.Prelude.{ℕ, ◌≤◌, List, length}
-use Rattle.semantics.specs.ShownTables.{shown_value}
 use Rattle.model_writer.specs.declared.Shown.{Shown}
 use Rattle.model_writer.specs.declared.Shown.TheVariants.{Model, Infeasible, Refused}
 use Rattle.text.specs.Appending.{Appended}

@@ -1,5 +1,5 @@
 -- The lines of a trace of each kind, and of a refusal (SPEC 12.1, 12.3).
-use Rattle.std.specs.Prelude.{◌≡◌, refl, List, [], ◌∷◌, ◌++◌, ℕ}
+use Rattle.std.specs.Prelude.{◌≡◌, refl, [], ◌∷◌, ◌++◌}
 use Rattle.base.specs.Recursion.{within_calls, fixed}
 use Rattle.letters.specs.Answers.{value, refusal}
 use Rattle.letters.specs.RefusalNumbers.{letter_malformed}

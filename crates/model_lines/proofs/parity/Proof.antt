@@ -1,4 +1,3 @@
-use borrow.Author.Rules.{rules}
 use Rattle.base.proofs.Theory.Choice.{decide}
 use Rattle.model_lines.specs.Answered.{parity_of}
 use Rattle.model_lines.proofs.parity.Statement.{statement}

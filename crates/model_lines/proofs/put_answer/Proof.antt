@@ -18,64 +18,43 @@ put_answer_spec =
     tie.close (tie.spec
     (λ c. search rules)
     (λ c.
-    let at_answer = c.before.before.before in
-    let start = at_answer.before.before.before.before in
-    let n = at_answer.answer.given in
-    sym (length-take-le n.0.0 start.args.model.now
-    (model_held start.args.answer n.0.0 (length start.args.model.now) n.1 start.requires).0))
+    let n = c.in-Model in
+    sym (length-take-le n.n c.args.model.now
+    (model_held c.args.answer n.n (length c.args.model.now) n.is c.requires).0))
     (λ c κs.
-    let at_answer = c.before.before.before in
-    let start = at_answer.before.before.before.before in
-    let n = at_answer.answer.given in
-    let h = model_held start.args.answer n.0.0 (length start.args.model.now) n.1 start.requires in
-    model_room n.0.0 start.args.model.now h.0 h.1)
-    (λ c. search rules)
+    let n = c.in-Model in
+    let h = model_held c.args.answer n.n (length c.args.model.now) n.is c.requires in
+    model_room n.n c.args.model.now h.0 h.1)
     (λ c. search rules)
     (λ c κs.
-    let k = c.before.before.before.answer2.given.0.0 in
+    let k = c.in-Infeasible.letter in
     let f : Fits w64 k = search rules in
     room_same (infeasible_form k) (few_room (infeasible_few k f.fits)))
     (λ c. search rules)
     (λ c. search rules)
-    (λ c. search rules)
     (λ c κs.
-    let v = c.before.before.before.answer3.given.0 in
-    let f : Fits w8 v.0 = search rules in
-    let g : Fits w64 v.1.0 = search rules in
-    room_same (refused_form v.0 v.1.0) (few_room (refused_few (omega arith) v.0 v.1.0 (omega (arith, f.fits)) g.fits)))
-    (λ c. appended_length c.before.before.put_model.ensures)
+    let v = c.in-Refused in
+    let f : Fits w8 v.number = search rules in
+    let g : Fits w64 v.place = search rules in
+    room_same (refused_form v.number v.place) (few_room (refused_few (omega arith) v.number v.place (omega (arith, f.fits)) g.fits)))
+    (λ c. appended_length c.put_model.ensures)
     (λ c.
-    let at_put_model = c.before.before in
-    let at_put_model_arg2 = at_put_model.before in
-    let at_answer = at_put_model_arg2.before.before.before in
-    let at_match = at_answer.before in
-    let at_start = at_match.before.before.before in
-    let n = at_answer.answer.given in
-    let put = at_put_model.put_model in
-    wrote_model at_start.args.out.now at_start.args.model.now put.new.0 at_start.args.answer put.result n.0.0 n.1
-    at_start.requires put.ensures)
-    (λ c. appended_length c.before.before.put_line.ensures)
+    let n = c.in-Model in
+    let put = c.put_model in
+    wrote_model c.args.out.now c.args.model.now put.new.out c.args.answer put.result n.n n.is
+    c.requires put.ensures)
+    (λ c. appended_length c.put_line.ensures)
     (λ c.
-    let at_put_line = c.before.before in
-    let at_put_line_arg2 = at_put_line.before in
-    let at_answer2 = at_put_line_arg2.before.before.before in
-    let k = at_answer2.answer2.given in
-    let f : Fits w64 k.0.0 = search rules in
-    let at_match = at_answer2.before in
-    let at_args = at_match.before.before.before in
-    let put = at_put_line.put_line in
-    wrote_infeasible at_args.args.out.now at_args.args.model.now put.new.0 at_args.args.answer put.result k.0.0 k.1
-    f.fits (appended_same (sym (infeasible_form k.0.0)) put.ensures))
-    (λ c. appended_length c.before.before.put_line2.ensures)
+    let k = c.in-Infeasible in
+    let f : Fits w64 k.letter = search rules in
+    let put = c.put_line in
+    wrote_infeasible c.args.out.now c.args.model.now put.new.out c.args.answer put.result k.letter k.is
+    f.fits (appended_same (sym (infeasible_form k.letter)) put.ensures))
+    (λ c. appended_length c.put_line-in-Refused.ensures)
     (λ c.
-    let at_put_line2 = c.before.before in
-    let at_put_line_arg4 = at_put_line2.before in
-    let at_answer3 = at_put_line_arg4.before.before.before in
-    let v = at_answer3.answer3.given in
-    let f : Fits w8 v.0.0 = search rules in
-    let g : Fits w64 v.0.1.0 = search rules in
-    let at_match = at_answer3.before in
-    let at_args = at_match.before.before.before in
-    let put = at_put_line2.put_line2 in
-    wrote_refused at_args.args.out.now at_args.args.model.now put.new.0 at_args.args.answer put.result v.0.0 v.0.1.0
-    v.1 (omega (arith, f.fits)) g.fits (appended_same (sym (refused_form v.0.0 v.0.1.0)) put.ensures)))
+    let v = c.in-Refused in
+    let f : Fits w8 v.number = search rules in
+    let g : Fits w64 v.place = search rules in
+    let put = c.put_line-in-Refused in
+    wrote_refused c.args.out.now c.args.model.now put.new.out c.args.answer put.result v.number v.place
+    v.is (omega (arith, f.fits)) g.fits (appended_same (sym (refused_form v.number v.place)) put.ensures)))

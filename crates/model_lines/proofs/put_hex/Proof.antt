@@ -7,10 +7,10 @@ use Rattle.model_lines.proofs.Theory.PrintsLaws.{hex_next, hex_none}
 use Rattle.model_lines.proofs.put_hex.Statement.{statement}
 use Rattle.model_lines.proofs.put_hex.Tie as tie
 
-abbrev invariant_loop : tie.invariant_loop
+abbrev invariant_loop : tie.invariant-loop-i
 invariant_loop out₀ at bytes next₀ i₀ out next i = LeftToAppend out₀ at (hex_text bytes) (hex_text (drop i bytes)) out next
 
-abbrev decreases_loop : tie.decreases_loop
+abbrev decreases_loop : tie.decreases-loop-i
 decreases_loop out₀ at bytes next₀ i₀ out next i = length bytes - i
 
 pub put_hex_spec : {M : Type 1} → statement M
@@ -21,24 +21,15 @@ put_hex_spec =
     (λ c. left_all _ _ _)
     (λ c. search rules)
     (λ c κs.
-    let at_loop_test = c.before.before in
-    let at_loop = at_loop_test.before in
-    let a = at_loop.before.before.before in
-    let l = at_loop.loop in
-    left_room (octet_text (get_or a.args.bytes.now l.i 0)) (hex_text (drop (l.i + 1) a.args.bytes.now))
-    a.requires (left_same (hex_next a.args.bytes.now l.i at_loop_test.loop_test.true) l.invariant))
+    let l = c.loop-i in
+    left_room (octet_text (get_or c.args.bytes.now l.i 0)) (hex_text (drop (l.i + 1) c.args.bytes.now))
+    c.requires (left_same (hex_next c.args.bytes.now l.i c.loop-i-test.true) l.invariant))
     (λ c. search rules)
     (λ c. search rules)
     (λ c.
-    let at_put_octet = c.before.before in
-    let at_loop_test = at_put_octet.before.before.before in
-    let at_loop = at_loop_test.before in
-    let a = at_loop.before.before.before in
-    let l = at_loop.loop in
-    left_next (octet_text (get_or a.args.bytes.now l.i 0)) (hex_text (drop (l.i + 1) a.args.bytes.now))
-    (left_same (hex_next a.args.bytes.now l.i at_loop_test.loop_test.true) l.invariant) at_put_octet.put_octet.ensures)
-    (λ c. left_length c.before.loop.invariant)
+    let l = c.loop-i in
+    left_next (octet_text (get_or c.args.bytes.now l.i 0)) (hex_text (drop (l.i + 1) c.args.bytes.now))
+    (left_same (hex_next c.args.bytes.now l.i c.loop-i-test.true) l.invariant) c.put_octet-next.ensures)
+    (λ c. left_length c.loop-i.invariant)
     (λ c.
-    let at_loop = c.before in
-    let at_args = at_loop.before.before.before in
-    left_none (left_same (hex_none at_args.args.bytes.now at_loop.loop.i c.loop_test.false) at_loop.loop.invariant)))
+    left_none (left_same (hex_none c.args.bytes.now c.loop-i.i c.loop-i-test.false) c.loop-i.invariant)))

@@ -1,4 +1,3 @@
-use borrow.Author.Rules.{rules}
 use mathlib.Core.Path.{sym, ◌∙◌}
 use mathlib.Core.List.{List, [], ◌∷◌, ◌++◌}
 use Prim.Native.Nat.{ℕ}
@@ -28,44 +27,19 @@ module _ (bytes : List ℕ) (room : PlaceInRange 0 (model_line bytes)) where
 pub put_model_spec : {M : Type 1} → statement M
 put_model_spec =
     tie.close (tie.spec
-    (λ c. search rules)
     (λ c κs.
-    let at_put_line_arg = c.before in
-    let at_start = at_put_line_arg.before.before.before in
-    room_same model_form (room_first model_word (rest at_start.args.bytes.now at_start.requires) (whole at_start.args.bytes.now
-    at_start.requires)))
+    room_same model_form (room_first model_word (rest c.args.bytes.now c.requires) (whole c.args.bytes.now
+    c.requires)))
     (λ c κs.
-    let at_put_line = c.before.before.before in
-    let at_put_line_arg = at_put_line.before.before in
-    let at_start = at_put_line_arg.before.before.before in
-    room_first (hex_text at_start.args.bytes.now) (10 ∷ []) (behind at_start.args.bytes.now at_start.requires at_put_line.put_line.ensures))
-    (λ c. search rules)
+    room_first (hex_text c.args.bytes.now) (10 ∷ []) (behind c.args.bytes.now c.requires c.put_line-next.ensures))
     (λ c κs.
-    let at_out2 = c.before.before.before in
-    let at_put_hex = at_out2.before in
-    let at_out = at_put_hex.before.before.before in
-    let at_put_line = at_out.before in
-    let at_put_line_arg = at_put_line.before.before in
-    let at_start = at_put_line_arg.before.before.before in
-    room_same feed_form (room_then (hex_text at_start.args.bytes.now) (10 ∷ []) (behind at_start.args.bytes.now at_start.requires
-    at_put_line.put_line.ensures) at_put_hex.put_hex.ensures))
+    room_same feed_form (room_then (hex_text c.args.bytes.now) (10 ∷ []) (behind c.args.bytes.now c.requires
+    c.put_line-next.ensures) c.put_hex-end.ensures))
     (λ c.
-    let at_put_line2 = c.before.before in
-    let at_put_line_arg3 = at_put_line2.before.before in
-    let at_put_hex = at_put_line_arg3.before.before.before in
-    let at_out = at_put_hex.before.before.before in
-    let at_put_line = at_out.before in
-    appended_length at_put_line2.put_line2.ensures ∙ appended_length at_put_hex.put_hex.ensures
-    ∙ appended_length at_put_line.put_line.ensures)
+    appended_length c.put_line.ensures ∙ appended_length c.put_hex-end.ensures
+    ∙ appended_length c.put_line-next.ensures)
     (λ c.
-    let at_put_line2 = c.before.before in
-    let at_put_line_arg3 = at_put_line2.before.before in
-    let at_put_hex = at_put_line_arg3.before.before.before in
-    let at_out = at_put_hex.before.before.before in
-    let at_put_line = at_out.before in
-    let at_put_line_arg = at_put_line.before.before in
-    let at_start = at_put_line_arg.before.before.before in
-    let bytes = at_start.args.bytes.now in
+    let bytes = c.args.bytes.now in
     appended_same (sym (model_parts bytes)) (appended_then model_word (hex_text bytes ++ (10 ∷ []))
-    (word bytes at_start.requires at_put_line.put_line.ensures) (appended_then (hex_text bytes) (10 ∷ []) at_put_hex.put_hex.ensures
-    (appended_same (sym feed_form) at_put_line2.put_line2.ensures)))))
+    (word bytes c.requires c.put_line-next.ensures) (appended_then (hex_text bytes) (10 ∷ []) c.put_hex-end.ensures
+    (appended_same (sym feed_form) c.put_line.ensures)))))

@@ -12,21 +12,14 @@ write_line_spec =
     (λ c κs. search rules)
     (λ c. search rules)
     (λ c κs.
-    let at_show = c.before.before.before in
-    let at_model_space = at_show.before.before in
-    let at_args = at_model_space.before.before.before in
-    let show = at_show.show in
-    showed_held at_args.args.trace.now at_model_space.model_space.result show.new.1.0 show.result show.ensures (search rules)
+    let show = c.show-answer in
+    showed_held c.args.trace.now c.model_space-model.result show.new.out show.result show.ensures (search rules)
     (search rules))
     (λ c. search rules)
     (λ c.
-    let at_put_answer = c.before.before in
-    let at_model3 = at_put_answer.before in
-    let at_show = at_model3.before.before.before in
-    let at_model_space = at_show.before.before in
-    let a = at_model_space.before.before.before.args in
-    let space = at_model_space.model_space in
-    let show = at_show.show in
-    let put = at_put_answer.put_answer in
-    prints a.trace.now space.result show.new.1.0 show.result show.ensures (search rules) a.out.now put.result put.new.0
+    let a = c.args in
+    let space = c.model_space-model in
+    let show = c.show-answer in
+    let put = c.put_answer in
+    prints a.trace.now space.result show.new.out show.result show.ensures (search rules) a.out.now put.result put.new.out
     put.ensures))

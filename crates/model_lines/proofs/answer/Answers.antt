@@ -1,0 +1,13 @@
+use borrow.Author.Rules.{rules}
+use Rattle.model_lines.proofs.answer.Goals as goal
+
+pub returns : goal.returns
+returns g c = record {
+  space = c.trace_space-trace.result;
+  room = search rules;
+  input = c.read-input.result;
+  behind = c.rest_of-rest.result;
+  buffer = c.read-input.new.buffer;
+  received = c.read-input.ensures;
+  answers = c.answer_to.ensures;
+}
