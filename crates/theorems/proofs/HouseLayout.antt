@@ -23,7 +23,8 @@ use Rattle.layout_theory.specs.Layout.{without_empty_elses, print_tokens, house_
 use Rattle.layout_theory.specs.Writing.{LayoutAnswer, printed, refused, WritesLayout}
 use Rattle.layout_theory.proofs.Theory.Dropping.{size_short, points_short, macro_short_twice}
 use Rattle.layout_theory.proofs.Theory.ReadBack.{print_token, print_ended, print_accepted, print_not_refused, print_of_print}
-use Rattle.layout_theory.proofs.Theory.Settled.{written_somehow, written_once, too_long_passes, passes_too_long, other_as_read, refused_kept, printed_is}
+use Rattle.layout_theory.proofs.Theory.Somehow.{written_somehow}
+use Rattle.layout_theory.proofs.Theory.Settled.{written_once, too_long_passes, passes_too_long, other_as_read, refused_kept, printed_is}
 use Rattle.layout_lines.specs.Prints.{SaysLayout, most_layout_line_bytes, PrintsLayoutLines}
 use Rattle.layout_lines.proofs.Theory.PrintsLaws.{some_layout_lines, one_layout_said, prints_all}
 use Rattle.theorems.specs.EmptyElses.{AlikeMacros}

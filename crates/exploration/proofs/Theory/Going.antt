@@ -24,7 +24,8 @@ use Rattle.verdict_theory.specs.Count.{More}
 use Rattle.verdict_theory.proofs.Theory.System.{stop, event, next, Leads, LeadAlike, Meets}
 use Rattle.verdict_theory.proofs.Theory.Listing.{turn, Searching, Extends, passes, meets, grows, new_more}
 use Rattle.verdict_theory.specs.Verdict.{breaking, failing}
-use Rattle.verdict_theory.proofs.Theory.Pairs.{Step, starting, stepping, reach, reached, performed, moving}
+use Rattle.verdict_theory.proofs.Theory.Moves.{Step, reach, reached, performed, moving}
+use Rattle.verdict_theory.proofs.Theory.Pairs.{starting, stepping}
 use Rattle.window.specs.declared.Window.{Window}
 use Rattle.window.specs.Perform.{judge_of, perform_of}
 use Rattle.window.specs.Step.{IsWindow}

@@ -26,7 +26,7 @@ use Rattle.refusals.proofs.Theory.Accepted.{read_accepted, refused_once, never_b
 use Rattle.layout_theory.specs.Layout.{is_word, ends_line, house_layout, spaced, short_else}
 use Rattle.layout_theory.specs.Writing.{LayoutAnswer, printed, refused, WritesLayout}
 use Rattle.layout_theory.proofs.Theory.Pairs.{fixed_tokens}
-use Rattle.layout_theory.proofs.Theory.Settled.{written_somehow}
+use Rattle.layout_theory.proofs.Theory.Somehow.{written_somehow}
 
 -- ---- `vars x;`
 

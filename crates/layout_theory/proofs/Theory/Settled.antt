@@ -16,34 +16,11 @@ use Rattle.refusals.specs.Order.{Refusal}
 use Rattle.refusals.specs.Accepted.{Accepted}
 use Rattle.refusals.proofs.Theory.Basics.{and_false}
 use Rattle.refusals.proofs.Theory.Order.{refusal_of_text}
-use Rattle.refusals.proofs.Theory.Accepted.{Acceptance, Becomes, an_acceptance, accepted_once, never_both, refused_once}
+use Rattle.refusals.proofs.Theory.Accepted.{Acceptance, Becomes, an_acceptance}
 use Rattle.layout_theory.specs.Layout.{house_layout, longest_print}
-use Rattle.layout_theory.specs.Writing.{LayoutAnswer, printed, refused, print_fits, answer_for, buffer_for, WritesLayout}
+use Rattle.layout_theory.specs.Writing.{LayoutAnswer, printed, refused, print_fits, WritesLayout}
 
--- ---- one way to meet it, and one at least
-
-pub written_somehow : (text entry : List ℕ) → (answer : LayoutAnswer) × (exit : List ℕ) × WritesLayout text entry answer exit
-written_somehow text entry = let (o, x) = an_acceptance text in go o x
-  where
-    go : (o : Acceptance) → Becomes text o → (answer : LayoutAnswer) × (exit : List ℕ) × WritesLayout text entry answer exit
-    go (Acceptance.refused n p) r = (
-      refused n p,
-      entry,
-      record {
-        unread = λ k q s. let (e, f) = refused_once text r s in (λ i. refused (e i) (f i), refl);
-        answered = λ m a. absurd (never_both text a r);
-        bytes = λ m a. absurd (never_both text a r);
-      },
-    )
-    go (Acceptance.accepted m) a = (
-      answer_for m entry,
-      buffer_for m entry,
-      record {
-        unread = λ k q s. absurd (never_both text a s);
-        answered = λ k b. ap (λ (n : Macro). answer_for n entry) (accepted_once text a b);
-        bytes = λ k b. ap (λ (n : Macro). buffer_for n entry) (accepted_once text a b);
-      },
-    )
+-- ---- one way to meet it; that there is one at least stands in Somehow
 
 pub written_once : (text entry : List ℕ) (a b : LayoutAnswer) (exit other : List ℕ) → WritesLayout text entry a exit → WritesLayout text entry b other
     → (a ≡ b) × (exit ≡ other)

@@ -22,7 +22,8 @@ use Rattle.verdict_theory.proofs.Theory.Since.{since_letters}
 use Rattle.verdict_theory.proofs.Theory.Trail.{letter-of, letters_to, move_letters}
 use Rattle.verdict_theory.specs.Verdict.{VerdictAnswer, pass, full, Kind, failing, showing, Delivered, IsVerdict}
 use Rattle.verdict_theory.specs.AnswerPacking.{packed}
-use Rattle.verdict_theory.proofs.Theory.Pairs.{first_pair, moving, meets_failing}
+use Rattle.verdict_theory.proofs.Theory.Moves.{moving}
+use Rattle.verdict_theory.proofs.Theory.Pairs.{first_pair, meets_failing}
 use Rattle.verdict_theory.proofs.Theory.Answers.{answers_full, answers_pass, answers_event}
 use Rattle.window.specs.declared.Window.{Window}
 use Rattle.table.specs.Table.{point_at, window_at, parent_at, branch_at}

@@ -41,7 +41,8 @@ use Rattle.refusals.specs.Accepted.{Accepted}
 use Rattle.refusals.proofs.Theory.Accepted.{read_accepted}
 use Rattle.verdict_theory.specs.Verdict.{VerdictAnswer, pass, refused, full, IsVerdict, PairCount, Leaves}
 use Rattle.verdict_theory.specs.Demand3.{pairs_in, Demand3}
-use Rattle.verdict_theory.proofs.Theory.Settled.{one_way, refused_way, read_way}
+use Rattle.verdict_theory.proofs.Theory.RefusedWay.{refused_way}
+use Rattle.verdict_theory.proofs.Theory.Settled.{one_way, read_way}
 use Rattle.verdict_theory.proofs.Theory.Readings.{anywhere}
 
 module _ (h : Header) (edition : Edition) (n : ℕ) (output : List ℕ) where

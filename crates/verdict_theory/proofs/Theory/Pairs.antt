@@ -2,7 +2,6 @@
 use mathlib.Core.Path.{◌≡◌, refl, sym, ap, ◌∙◌, subst}
 use mathlib.Core.Logic.{inl, inr, ◌≢◌}
 use mathlib.Core.Bool.{Bool, true, false}
-use mathlib.Core.List.{List}
 use mathlib.Core.Option.{Option, none, some}
 use Prim.Native.Nat.{ℕ, ◌≤◌, ◌<◌}
 use native.Mathlib.Omega.{arith}
@@ -18,12 +17,13 @@ use Rattle.macros.specs.Executions.{Partial, Failing}
 use Rattle.macros.specs.Order.{Branch, Path, root, ◌▹◌, Before}
 use Rattle.macros.proofs.Theory.Order.{AtOrBefore, before_more, before_join}
 use Rattle.macros.specs.Walk.{Place, at, failure, Move, no_move, move, Stand, nowhere, stand, take_move, take_branch}
-use Rattle.macros.specs.Points.{Point, points, size_block, entrance, moves_at, run}
+use Rattle.macros.specs.Points.{points, size_block, entrance, moves_at, run}
 use Rattle.macros.proofs.Theory.Runs.{partial_is, failing_is, past_points, run_once}
 use Rattle.macros.proofs.Theory.Fitting.{FormedUnder, run_formed}
-use Rattle.verdict_theory.proofs.Theory.System.{BranchResult, stop, event, next, begun, onto, follow, Leads, LeadAlike, Meets}
+use Rattle.verdict_theory.proofs.Theory.System.{stop, event, next, begun, onto, follow, Leads, LeadAlike, Meets}
 use Rattle.verdict_theory.specs.Verdict.{Kind, breaking, failing, Breaks, Event, EventAt, Leaves, SamePair}
 use Rattle.verdict_theory.specs.Verdict
+use Rattle.verdict_theory.proofs.Theory.Moves.{Step, reach, reached, performed, moving, pair_moves}
 
 -- What is asked of a monitor, for traces of the header h after a start: windows, the fresh one, a letter performed (none where it is incoherent),
 -- and whether the trace is infeasible. Tracks σ w: w is the window of a trace that leaves the state σ.
@@ -41,34 +41,9 @@ pub record MonitorLaws (h : Header) (start : Trace) (W : Type 0) (Tracks : State
   pub tells_infeasible : (ρ : Trace) (w : W) → FormedUnder h ρ → Coherent ρ → Tracks (state ρ) w → infeasible w ≡ true → ¬ Feasible (state ρ)
   pub tells_feasible : (ρ : Trace) (w : W) → FormedUnder h ρ → Coherent ρ → Tracks (state ρ) w → infeasible w ≡ false → Feasible (state ρ)
 
-abbrev pub Step : Type 0 → Type 0
-Step W = BranchResult (ℕ × W) Kind
-
 -- The pair that the empty execution leaves, in a macro of n points whose entrance is e: there is none if it has no point.
 abbrev pub first_pair : {W : Type 0} → W → ℕ → ℕ → Option (ℕ × W)
 first_pair fresh n e = elim (ltb e n) [ true ↦ some (e, fresh) | false ↦ none ]
-
-module _ {W : Type 0} (perform : W → Letter → Option W) (infeasible : W → Bool) (n : ℕ) where
-  -- a point that is reached with the window w: a pair, unless it is the end
-  abbrev pub reach : ℕ → W → Step W
-  reach k w = elim (ltb k n) [ true ↦ next (k, w) | false ↦ stop ]
-
-  -- "Infeasible executions are followed too." At a failure they are no event.
-  abbrev pub reached : Place ℕ → W → Step W
-  reached (at k) w = reach k w
-  reached failure w = elim (infeasible w) [ true ↦ stop | false ↦ event failing ]
-
-  abbrev pub performed : Place ℕ → Option W → Step W
-  performed l none = event breaking
-  performed l (some w) = reached l w
-
-  abbrev pub moving : W → Move ℕ → Step W
-  moving w no_move = stop
-  moving w (move a l) = performed l (perform w a)
-
-  -- What a branch at a pair leads to, the macro's points being ps.
-  abbrev pub pair_moves : List Point → ℕ × W → Branch → Step W
-  pair_moves ps s b = moving s.1 (moves_at ps s.0 b)
 
 -- What is searched: the executions of a proper macro after a coherent start, with a monitor for them.
 pub record Setting : Type 1 where

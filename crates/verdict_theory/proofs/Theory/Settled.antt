@@ -7,7 +7,6 @@ use Rattle.letters.specs.Editions.{first_edition}
 use Rattle.semantics.specs.Terms.{State, begin}
 use Rattle.grammar.specs.Grammar.{Macro, header_of, expanded}
 use Rattle.grammar.proofs.Theory.Expanded.{expanded_fits}
-use Rattle.refusals.specs.Order.{Refusal}
 use Rattle.refusals.specs.Accepted.{Accepted}
 use Rattle.refusals.proofs.Theory.Accepted.{Acceptance, Becomes, an_acceptance, accepted_once, refused_once, never_both}
 use Rattle.refusals.proofs.Theory.Accepted as acceptance
@@ -15,6 +14,7 @@ use Rattle.verdict_theory.specs.Verdict.{VerdictAnswer, refused, IsVerdict}
 use Rattle.verdict_theory.specs.Demand3.{pairs_in, Demand3}
 use Rattle.verdict_theory.proofs.Theory.AnswerPacking.{failing_formed}
 use Rattle.verdict_theory.proofs.Theory.Unique.{one_answer}
+use Rattle.verdict_theory.proofs.Theory.RefusedWay as ways
 
 -- Whatever is taken to be possible: `Feasible` and `FeasibleInSomeModel` alike.
 module _ {ℓ} (Possible : State → Type ℓ) (text table output : List ℕ) where
@@ -35,14 +35,6 @@ module _ {ℓ} (Possible : State → Type ℓ) (text table output : List ℕ) wh
           (x.verdict m r) (y.verdict m r) in
           (i, x.zeroed m r ∙ sym (y.zeroed m r), k)
 
-  -- A text that is refused.
-  pub refused_way : (n q : ℕ) → Refusal text n q → Demand3 Possible text table output (refused n q) table output
-  refused_way n q r = record {
-    unread = λ k l s. let (i, j) = refused_once text r s in ((λ h. refused (i h) (j h)), refl, refl);
-    verdict = λ m s. absurd (never_both text s r);
-    zeroed = λ m s. absurd (never_both text s r);
-  }
-
   -- A text that is accepted as a macro, with a verdict on it.
   pub read_way : (m : Macro) → Accepted text m → (a : VerdictAnswer) (o : List ℕ)
       → IsVerdict Possible (begin (header_of m)) (expanded m) first_edition (pairs_in first_edition table) output a o
@@ -62,5 +54,5 @@ module _ {ℓ} (Possible : State → Type ℓ) (text table output : List ℕ) wh
     where
       go : (r : Acceptance) → Becomes text r
           → (a : VerdictAnswer) × (table' : List ℕ) × (output' : List ℕ) × Demand3 Possible text table output a table' output'
-      go (acceptance.refused n q) r = (refused n q, table, output, refused_way n q r)
+      go (acceptance.refused n q) r = (refused n q, table, output, ways.refused_way Possible text table output n q r)
       go (Acceptance.accepted m) r = let (a, o, w) = v m r in (a, replicate (length table) 0, o, read_way m r a o w)
