@@ -11,5 +11,5 @@ digit_spec =
     (tie.spec
     (λ c. search rules)
     (λ c. search rules)
-    (λ c. (rw (lt-ltb c.before.args.d 10 c.if1.true) refl, omega arith))
-    (λ c. (rw (le-ltb c.before.args.d 10 c.if1.false) refl, omega arith)))
+    (λ c. (rw (lt-ltb c.args.d 10 c.if-d-lt10.true) refl, omega arith))
+    (λ c. (rw (le-ltb c.args.d 10 c.if-d-lt10.false) refl, omega arith)))

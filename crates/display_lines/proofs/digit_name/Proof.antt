@@ -6,10 +6,10 @@ use Rattle.display_lines.proofs.Theory.Digits.{NameSoFar, named_none, named_smal
 use Rattle.display_lines.proofs.digit_name.Statement.{statement}
 use Rattle.display_lines.proofs.digit_name.Tie as tie
 
-abbrev invariant_loop : tie.invariant_loop
+abbrev invariant_loop : tie.invariant-loop-i
 invariant_loop number name₀ rest₀ i₀ name rest i = NameSoFar number i name rest
 
-abbrev decreases_loop : tie.decreases_loop
+abbrev decreases_loop : tie.decreases-loop-i
 decreases_loop number name₀ rest₀ i₀ name rest i = name_digits - i
 
 pub digit_name_spec : {M : Type 1} → statement M
@@ -20,16 +20,13 @@ digit_name_spec =
     (λ c. named_none _)
     (λ c κs. search rules)
     (λ c.
-    let at_loop = c.before.before in
-    let small = named_small at_loop.loop.invariant c.before.loop_test.true in
+    let small = named_small c.loop-i.invariant c.loop-i-test.true in
     record { fits = omega (arith, small) })
     (λ c.
-    let at_loop = c.before.before in
-    let small = named_small at_loop.loop.invariant c.before.loop_test.true in
+    let small = named_small c.loop-i.invariant c.loop-i-test.true in
     record { fits = omega (arith, small, c.digit.ensures.1) })
     (λ c. search rules)
     (λ c. search rules)
     (λ c.
-    let at_loop = c.before.before in
-    named_more c.digit.result at_loop.loop.invariant c.before.loop_test.true c.digit.ensures.0 c.digit.ensures.1)
-    (λ c. named_whole c.before.loop.invariant c.loop_test.false))
+    named_more c.digit.result c.loop-i.invariant c.loop-i-test.true c.digit.ensures.0 c.digit.ensures.1)
+    (λ c. named_whole c.loop-i.invariant c.loop-i-test.false))

@@ -8,18 +8,14 @@ use Rattle.display_lines.proofs.put_fresh_line.Tie as tie
 pub put_fresh_line_spec : {M : Type 1} → statement M
 put_fresh_line_spec = tie.close (tie.spec
     (λ c κs. search rules)
-    (λ c. search rules)
     (λ c κs.
-    let at_fields = c.before.before in
-    let a = at_fields.before.before.before.args in
-    let f = at_fields.state_fields.ensures in
+    let a = c.args in
+    let f = c.state_fields-fields.ensures in
     line_room 0 a.m _ f fresh_word fresh_template (fresh_state_form 0 a.m _ f) (omega arith) (omega arith) (omega arith))
     (λ c. search rules)
     (λ c.
-    let at_put_line = c.before.before in
-    let at_fields = at_put_line.before.before.before in
-    let a = at_fields.before.before.before.args in
-    let f = at_fields.state_fields.ensures in
+    let a = c.args in
+    let f = c.state_fields-fields.ensures in
     let (text, few) = line_put 0 a.m _ f fresh_word fresh_template (fresh_state_form 0 a.m _ f) (omega arith) (omega arith)
-    at_put_line.put_line.ensures in
+    c.put_line.ensures in
     (text, omega (arith, few))))

@@ -13,8 +13,6 @@ state_fields_spec = tie.close (tie.spec
     (λ c κs. search rules)
     (λ c κs. search rules)
     (λ c.
-    let at_pairs = c.before.before in
-    let at_count = at_pairs.before in
-    let f : Fits w8 at_count.class_count.result = search rules in
-    fields_made _ _ at_count.class_count.ensures.0 f.fits at_pairs.unequal_word.ensures.0 c.before.digit_name.ensures
-    c.digit_name2.ensures))
+    let f : Fits w8 c.class_count-count.result = search rules in
+    fields_made _ _ c.class_count-count.ensures.0 f.fits c.unequal_word-pairs.ensures.0 c.digit_name.ensures
+    c.digit_name-2.ensures))

@@ -1,0 +1,12 @@
+use borrow.Author.Rules.{rules}
+use Rattle.display_lines.proofs.answer.Goals as goal
+
+pub returns : goal.returns
+returns g c = record {
+  space = c.trace_space-trace.result;
+  room = search rules;
+  input = c.read-input.result;
+  buffer = c.read-input.new.buffer;
+  received = c.read-input.ensures;
+  answers = c.answer_to.ensures;
+}
