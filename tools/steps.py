@@ -136,10 +136,11 @@ def counted(text, function):
     takes, gives = {}, {}
     signature = rf"(?m)^(?:abbrev )?(?:pub )?({WORD}) : (?:\({NAME} : )?tie\.({WORD})(?: [^)→]*)?\)?(?: →| [{{(])(.*)$"
     for found in re.finditer(signature, text):
-        takes[found[1]] = function.place.get(alike(found[2]))
         given = re.match(rf" tie\.({WORD})(?: [^→]*)?$", found[3])
-        if given:
-            gives[found[1]] = function.place.get(alike(given[1]))
+        if alike(found[2]) in function.place:
+            takes[found[1]] = function.place[alike(found[2])]
+        if given and alike(given[1]) in function.place:
+            gives[found[1]] = function.place[alike(given[1])]
     spec = SPEC.search(text)
     spans = arguments(spec[1], spec.start(1))[-len(function.asked) :]
     regions = [(first, last, asked) for (first, last), asked in zip(spans, function.asked)]
