@@ -1,5 +1,5 @@
 //! Links the proved library where one of its functions is called: the archive that
-//! `rt staticlib exports` writes, or the one in the folder `FADZGIME_LIBRARY`.
+//! `rt lib` writes in `crates/exports`, or the one in the folder `FADZGIME_LIBRARY`.
 
 use std::env;
 use std::path::PathBuf;
@@ -10,7 +10,7 @@ fn main() {
         return;
     }
     let manifest = PathBuf::from(env::var_os("CARGO_MANIFEST_DIR").expect("set by cargo"));
-    let built = || manifest.join("../../target/staticlib");
+    let built = || manifest.join("../../crates/exports/out");
     let folder = env::var_os("FADZGIME_LIBRARY").map_or_else(built, PathBuf::from);
     println!("cargo::rerun-if-changed={}", folder.join("libexports.a").display());
     println!("cargo::rustc-link-search=native={}", folder.display());
