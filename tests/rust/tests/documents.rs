@@ -6,7 +6,7 @@
 //! - *Links.* The target is a file or a folder, relative to the page.
 //! - *Paths.* A text of letters, digits and `_.+-/` that has a `/` in it or ends as one of `ENDINGS` is a path: of a
 //!   file or a folder, relative to the root of the repository, to `crates/` or to the page. A path that begins with a
-//!   folder of `IN_A_CRATE` may also be relative to some crate. No paths are: what begins with `target/`, which is
+//!   folder of `IN_A_CRATE` may also be relative to some crate. No paths are: what has `out/` in it, which is
 //!   built; what has one of `STAND_INS` in it, which stands for any name; `cap/1`, a function with its arity.
 //! - *Names.* Before a path of definitions, proofs or code (`.antt`, `.rt`) and joined to it by ` of ` or ` (`, or
 //!   behind it and joined to it by ` (`, `: ` or ` | `, stand names that this file declares. Several are joined by
@@ -146,7 +146,7 @@ fn targets(line: &str) -> Vec<&str> {
 fn is_path(text: &str) -> bool {
     let path_like = text.contains('/') || ENDINGS.iter().any(|end| text.ends_with(end));
     let letters = text.chars().all(|c| c.is_ascii_alphanumeric() || "_.+-/".contains(c));
-    let built = text.starts_with('/') || text.starts_with("target/");
+    let built = text.starts_with('/') || text.split('/').any(|part| part == "out");
     let arity = text.split('/').skip(1).any(|part| part.starts_with(|c: char| c.is_ascii_digit()));
     let stands_in = text.split(['/', '.']).any(|part| STAND_INS.contains(&part));
     path_like && letters && !built && !arity && !stands_in
