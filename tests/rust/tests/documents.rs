@@ -148,7 +148,7 @@ fn is_path(text: &str) -> bool {
     let letters = text.chars().all(|c| c.is_ascii_alphanumeric() || "_.+-/".contains(c));
     let built = text.starts_with('/') || text.split('/').any(|part| part == "out");
     let arity = text.split('/').skip(1).any(|part| part.starts_with(|c: char| c.is_ascii_digit()));
-    let stands_in = text.split(['/', '.']).any(|part| STAND_INS.contains(&part));
+    let stands_in = text.split(['/', '.', '+']).any(|part| STAND_INS.contains(&part));
     path_like && letters && !built && !arity && !stands_in
 }
 
