@@ -9,3 +9,4 @@ pub mod Given
 pub mod Going
 pub mod Explored
 pub mod Ending
+pub mod EventEnding

@@ -6,6 +6,7 @@ pub mod Delivering
 pub mod Modelling
 pub mod Answering
 pub mod MacroSearch
+pub mod Telling
 pub mod Judged
 pub mod MacroExecutions
 pub mod MacroExecutionsExample

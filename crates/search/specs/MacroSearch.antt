@@ -2,10 +2,8 @@
 use Rattle.std.specs.Prelude.{◌≡◌, List, ℕ, length}
 use Rattle.letters.specs.Editions.{first_edition}
 use Rattle.letters.specs.Capacity.{capacity_of}
-use Rattle.grammar.specs.Grammar.{Macro}
 use Rattle.syntax.specs.declared.CompiledMacro as struct
 use Rattle.syntax.specs.Answer.{held_macro}
-use Rattle.verdict_theory.specs.Verdict.{IsVerdict}
 use Rattle.exploration.specs.declared.Search.{Search}
 use Rattle.search.specs.declared.Verdict as answer
 use Rattle.exploration.specs.Exploring.{search_of}

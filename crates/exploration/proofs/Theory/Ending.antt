@@ -1,6 +1,5 @@
 -- How the whole search ends, over a macro that was read.
-use mathlib.Core.Path.{◌≡◌, refl, sym, ap, ◌∙◌, subst}
-use mathlib.Core.Logic.{◌≢◌}
+use mathlib.Core.Path.{◌≡◌, refl}
 use mathlib.Core.Bool.{true, false}
 use mathlib.Core.List.{List}
 use Prim.Native.Nat.{ℕ, ◌*◌, ◌≤◌, ◌<◌}
@@ -12,7 +11,6 @@ use Rattle.letters.specs.Capacity.{most_pairs}
 use Rattle.base.proofs.Theory.Choice.{by_test}
 use Rattle.records.specs.Records.{record_bytes, encoded, record_of}
 use Rattle.table.specs.Table.{put_at}
-use Rattle.exploration.specs.declared.Search.{Search}
 use Rattle.exploration.specs.declared.Search.TheVariants as found
 use Rattle.exploration.specs.Exploring.{explore_of, search_of}
 use Rattle.exploration.specs.Given.{Given}
@@ -20,9 +18,6 @@ use Rattle.exploration.proofs.Theory.Given.{header, end, held, fresh}
 use Rattle.exploration.proofs.Theory.Explored.{SearchEnded, explored, first_listed, none_fits}
 
 module _ (given : Given) (n : ℕ) (t : List ℕ) (most : n ≤ most_pairs) (room : record_bytes * n ≤ length t) where
-  abbrev ending : Search × List ℕ
-  ending = search_of (header given) (held given) (end given) n t
-
   -- Where there is a point.
   pub search_ended : eqb (end given) 0 ≡ false
       → SearchEnded given n (search_of (header given) (held given) (end given) n t).0 (search_of (header given) (held given) (end given) n t).1
@@ -39,10 +34,3 @@ module _ (given : Given) (n : ℕ) (t : List ℕ) (most : n ≤ most_pairs) (roo
   pub search_empty : eqb (end given) 0 ≡ true → search_of (header given) (held given) (end given) n t ≡ (found.Pass 0, t)
   unfolding search_of
   search_empty e = rw e refl
-
-  -- A search that ends otherwise than without a point.
-  pub search_event : (r : Search) → (search_of (header given) (held given) (end given) n t).0 ≡ r → r ≢ found.Pass 0
-      → SearchEnded given n r (search_of (header given) (held given) (end given) n t).1
-  search_event r e other = by_test (eqb (end given) 0)
-      (λ f. absurd (other (sym e ∙ ap (λ x. x.0) (search_empty f))))
-      (λ f. subst (λ r. SearchEnded given n r ending.1) e (search_ended f))

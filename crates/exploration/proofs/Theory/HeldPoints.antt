@@ -12,7 +12,6 @@ use Rattle.macros.specs.Walk.{at, failure, move}
 use Rattle.macros.specs.Points as points
 use Rattle.macros.specs.Points.{moves, moved, moves_at}
 use Rattle.macros.proofs.Theory.Fitting.{FitsMove, points_fit}
-use Rattle.blocks.specs.declared.PointEntry.{PointEntry}
 use Rattle.blocks.specs.Held.{held_point, unused_point}
 use Rattle.window.specs.Perform.{WithinPacking}
 use Rattle.window.proofs.Theory.Step.{fits_within}

@@ -85,18 +85,6 @@ loop_less_2 c =
     let (past, within) = goes_further _ _ _ (next c.before.before.before.before.before.before.before).next-t.ensures c.if-t-le-WRONG.false in
     omega (arith, past, within)
 
-loop_again_2 : tie.Need-loop-at-preserved invariant_loop decreases_loop
-loop_again_2 c =
-    let at_next = next c.before.before.before.before.before.before.before in
-    let at_loop = turn at_next in
-    let token = c.printed_token-token.result in (
-      λ m A. print_put _ _ _ _ _ _ _ _ at_next.next-t.ensures c.if-t-le-WRONG.false _ c.is_empty_else.ensures c.if-is_empty_else.false _
-          at_loop.skip_tokens-names.ensures token c.printed_token-token.ensures _ _ c.put_token-size.ensures _ c.is_word-follows.ensures
-          (at_loop.loop-at.invariant.0 m A),
-      put_within _ _ _ _ _ at_loop.loop-at.invariant.1 _ at_next.next-t.ensures c.if-t-le-WRONG.false at_loop.loop-at.follows token (search rules) _ _
-          c.put_token-size.ensures,
-    )
-
 same_length_2 : tie.Need-shape_of-out invariant_loop decreases_loop
 same_length_2 c = c.loop-at.invariant.1.buffer
 
@@ -125,6 +113,15 @@ put_tokens_spec =
     put_token_requires
     is_word_requires
     loop_less_2
-    loop_again_2
+    (λ c.
+    let at_next = next c.before.before.before.before.before.before.before in
+    let at_loop = turn at_next in
+    let token = c.printed_token-token.result in (
+      λ m A. print_put _ _ _ _ _ _ _ _ at_next.next-t.ensures c.if-t-le-WRONG.false _ c.is_empty_else.ensures c.if-is_empty_else.false _
+          at_loop.skip_tokens-names.ensures token c.printed_token-token.ensures _ _ c.put_token-size.ensures _ c.is_word-follows.ensures
+          (at_loop.loop-at.invariant.0 m A),
+      put_within _ _ _ _ _ at_loop.loop-at.invariant.1 _ at_next.next-t.ensures c.if-t-le-WRONG.false at_loop.loop-at.follows token (search rules) _ _
+          c.put_token-size.ensures,
+    ))
     same_length_2
     returns_2)

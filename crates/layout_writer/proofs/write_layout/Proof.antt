@@ -19,16 +19,8 @@ put_tokens_requires : tie.Need-put_tokens-size-requires
 put_tokens_requires c κs =
     text_short _ c.args.out.now _ c.read-read.ensures c.if-refusal-ne0.false
 
-returns_2 : tie.Need-returns-then-size-gt-LONGEST_PRINT
-returns_2 c =
-    passes_limit _ _ _ c.read-read.ensures c.if-refusal-ne0.false _ _ c.put_tokens-size.ensures c.if-size-gt-LONGEST_PRINT.true
-
 same_length_2 : tie.Need-shape_of-out-then-out-size
 same_length_2 c = search rules
-
-returns_3 : tie.Need-returns-then-out-size
-returns_3 c =
-    passes_buffer _ _ _ c.read-read.ensures c.if-refusal-ne0.false _ _ c.put_tokens-size.ensures c.if-out-size.true
 
 put_tokens_requires_2 : tie.Need-put_tokens-requires
 put_tokens_requires_2 c κs =
@@ -36,11 +28,6 @@ put_tokens_requires_2 c κs =
 
 same_length_3 : tie.Need-shape_of-out
 same_length_3 c = search rules
-
-returns_4 : tie.Need-returns
-returns_4 c =
-    print_answered _ _ _ c.read-read.ensures c.if-refusal-ne0.false _ _ c.put_tokens-size.ensures c.if-size-gt-LONGEST_PRINT.false c.if-out-size.false _ _
-    c.put_tokens.ensures
 
 same_length : tie.Need-shape_of-out-then-size-gt-LONGEST_PRINT
 same_length c = search rules
@@ -54,9 +41,13 @@ write_layout_spec =
     slice_aggregate_put_tokens
     put_tokens_requires
     same_length
-    returns_2
+    (λ c.
+    passes_limit _ _ _ c.read-read.ensures c.if-refusal-ne0.false _ _ c.put_tokens-size.ensures c.if-size-gt-LONGEST_PRINT.true)
     same_length_2
-    returns_3
+    (λ c.
+    passes_buffer _ _ _ c.read-read.ensures c.if-refusal-ne0.false _ _ c.put_tokens-size.ensures c.if-out-size.true)
     put_tokens_requires_2
     same_length_3
-    returns_4)
+    (λ c.
+    print_answered _ _ _ c.read-read.ensures c.if-refusal-ne0.false _ _ c.put_tokens-size.ensures c.if-size-gt-LONGEST_PRINT.false c.if-out-size.false _ _
+    c.put_tokens.ensures))

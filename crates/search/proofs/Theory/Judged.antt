@@ -18,7 +18,7 @@ use Rattle.search.specs.declared.Verdict.{Verdict}
 use Rattle.search.specs.declared.Verdict.TheVariants.{Refused}
 use Rattle.search.specs.Answering.{answer_of}
 use Rattle.search.specs.MacroSearch.{HoldsMacro, Tells}
-use Rattle.search.proofs.Theory.MacroSearch.{tells_verdict}
+use Rattle.search.proofs.Theory.Telling.{tells_verdict}
 
 -- The text was read, with this answer.
 module _ (text : List ℕ) (read : reading.MacroRead) (told : Reads text read) where

@@ -17,16 +17,15 @@ use Rattle.grammar.specs.Limits.{most_points}
 use Rattle.semantics.specs.Models.{Feasible}
 use Rattle.macros.specs.Points.{points}
 use Rattle.grammar.specs.Grammar.{Macro, header_of, binary_of}
-use Rattle.grammar.specs.Spelled.{InOrder, Arities, Spells}
+use Rattle.grammar.specs.Spelled.{InOrder, Arities}
 use Rattle.grammar.proofs.Theory.Expanded.{expanded_fits}
 use Rattle.grammar.proofs.Theory.Hidden.{registers_within, registers_some}
 use Rattle.blocks.specs.Held.{held_point}
 use Rattle.syntax.specs.declared.CompiledMacro as struct
 use Rattle.syntax.specs.Answer.{held_macro}
 use Rattle.letters.proofs.Theory.CapacityLaws.{capacity_fits}
-use Rattle.verdict_theory.specs.Verdict.{Kind, breaking, failing, showing, Delivered, IsVerdict}
+use Rattle.verdict_theory.specs.Verdict.{Kind, breaking, failing, showing, Delivered}
 use Rattle.verdict_theory.specs.AnswerPacking.{packed}
-use Rattle.verdict_theory.specs.Demand3.{pairs_in}
 use Rattle.records.specs.Records.{record_bytes}
 use Rattle.search.specs.declared.Packed.{Packed}
 use Rattle.exploration.specs.declared.Search.{Search}
@@ -39,13 +38,12 @@ use Rattle.exploration.proofs.Theory.HeldPoints.{all_within}
 use Rattle.exploration.specs.Given.{Given}
 use Rattle.exploration.proofs.Theory.Given.{header, body, end, held}
 use Rattle.exploration.proofs.Theory.Explored.{Met, SearchEnded}
-use Rattle.exploration.proofs.Theory.Ending.{search_event}
+use Rattle.exploration.proofs.Theory.EventEnding.{search_event}
 use Rattle.search.specs.Trails.{trail_of}
 use Rattle.search.specs.Tracing.{Older, traced, trace_bytes, most_moves}
 use Rattle.search.proofs.Theory.TracedLaws.{traced_is, formed_fit}
 use Rattle.search.proofs.Theory.Concluded.{event_formed, event_few, event_older, event_feasible}
 use Rattle.search.specs.Searched.{SearchAnswered}
-use Rattle.search.proofs.Theory.Searched.{search_verdict}
 use Rattle.search.specs.Answering.{answer_of, Packs, Delivers}
 use Rattle.search.specs.MacroSearch.{HoldsMacro, search_on, Tells}
 
@@ -157,14 +155,6 @@ module _ (program : struct.CompiledMacro) (given : Given) (holds : held_macro gi
           (λ e b. z (header given) (trail_of (held given) (search_on (held_macro given.macro) t).1 d)
           (event_packs given (capacity_of first_edition (length t)) t most room kind k d e p b l)
           (event_possible given (capacity_of first_edition (length t)) t most room kind k d e))
-
-    -- what is told is the verdict
-    pub tells_verdict : (output : List ℕ) (r : answer.Verdict) (output' : List ℕ) → Tells program t output r output'
-        → IsVerdict Feasible (begin (header given)) (body given) first_edition (pairs_in first_edition t) output (answer_of r) output'
-    unfolding held_macro capacity_of
-    tells_verdict output r output' y =
-        search_verdict given (capacity_of first_edition (length t)) t most room first_edition output (answer_of r) output'
-        (subst (λ p. Tells p t output r output') (sym holds) y)
 
 -- ── what the code has found ──
 module _ (program : struct.CompiledMacro) (t output : List ℕ) (n : ℕ) (r : Search) (u : List ℕ) (c : n ≡ capacity_of first_edition (length t))
