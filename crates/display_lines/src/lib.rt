@@ -14,7 +14,7 @@ ghost use Rattle.display_lines.specs.Prints.{most_trace_bytes, longest_line, mos
 ghost use Rattle.display_lines.specs.Fields.{name_digits, StateFields};
 ghost use Rattle.display_lines.specs.Answered.{DisplaysInput};
 
-use files::Input;
+use files::{Input, Source};
 use letters::limits::UNIT_BYTES;
 use letters::words::word;
 use std::io::Read;
@@ -209,7 +209,7 @@ pub fn answer_to(trace: &[u8], input: Input, lines: &mut [u8]) -> Displayed
 
 /// Reads a trace from a reader, and writes its lines into the front of a lent buffer. Of a trace that is too long one byte more than
 /// `MOST_TRACE_BYTES` is read, and nothing is judged.
-pub fn answer<R: Read>(source: &mut R, lines: &mut [u8]) -> Displayed
+pub fn answer<R: Read>(source: &mut Source<R>, lines: &mut [u8]) -> Displayed
     ensures { DisplaysInput lines.old result lines.new }
 {
     let mut trace = trace_space();

@@ -5,7 +5,7 @@
 ghost use Rattle.std.specs.Prelude.{◌≡◌, ◌+◌, ◌<◌, ◌≤◌, ◌^◌, min, length, IfOk};
 ghost use Rattle.std.proofs.Math.Seq.{paste};
 ghost use Rattle.io.specs.Counts.{IsPrefixLen};
-ghost use Rattle.files.specs.Answer.{answered};
+ghost use Rattle.files.specs.Answer.{answered, kept};
 ghost use Rattle.files.specs.Input.{meaning, given, Gave, following, Stored, Received};
 
 use std::env::{Env, FillError};
@@ -90,29 +90,45 @@ fn size(once: OneRead) -> usize
     }
 }
 
-// The answer of a read as a number: how many bytes it gave, or -1 where it failed.
-fn number(answer: Result<usize, Error>) -> isize
+/// Where an input comes from: a reader, and the error of its last read that failed.
+#[derive(Drop)]
+pub struct Source<R> {
+    reader: R,
+    error: Option<Error>,
+}
+
+// The answer of a read as a number: how many bytes it gave, or -1 where it failed; then the error is kept.
+fn number(answer: Result<usize, Error>, error: &mut Option<Error>) -> isize
     requires { IfOk answer (λ n. n < 2 ^ 63) }
-    ensures { result ≡ answered answer }
+    ensures value { result ≡ answered answer }
+    ensures error_after { error.new ≡ kept answer error.old }
 {
     match answer {
         Ok(n) => n as isize,
-        Err(_) => -1,
+        Err(reason) => {
+            *error = Some(reason);
+            -1
+        }
     }
 }
 
 // Reads once, at most `most` bytes, into the front of a piece.
-fn read_piece<R: Read>(source: &mut R, piece: &mut [u8], most: usize) -> OneRead
+fn read_piece<R: Read>(source: &mut Source<R>, piece: &mut [u8], most: usize) -> OneRead
     requires { (0 < most) × (most ≤ length piece.old) }
     ensures { Gave most result }
 {
-    let got = number(source.read(&mut piece[..most]));
+    let got = number(source.reader.read(&mut piece[..most]), &mut source.error);
     outcome(got, most)
 }
 
 // Reads once, into the buffer from `at` on. The bytes go through a piece, because nothing is known of what the system's read leaves
 // behind those that it gave.
-fn read_once<R: Read>(source: &mut R, buffer: &mut [u8], at: usize, piece: &mut [u8]) -> OneRead
+fn read_once<R: Read>(
+    source: &mut Source<R>,
+    buffer: &mut [u8],
+    at: usize,
+    piece: &mut [u8],
+) -> OneRead
     requires { (at < length buffer.old) × (0 < length piece.old) }
     ensures { Stored buffer.old at piece.new result buffer.new }
 {
@@ -135,7 +151,7 @@ fn after(once: OneRead, done: usize) -> AfterRead
 
 /// Reads until the input ends, the buffer is full or a read fails. A read that a signal interrupts before it gives a byte has failed.
 /// What the system's reads answer is free; what they answered decides how reading ended.
-pub fn read<R: Read>(source: &mut R, buffer: &mut [u8]) -> Input
+pub fn read<R: Read>(source: &mut Source<R>, buffer: &mut [u8]) -> Input
     ensures { Received buffer.old result buffer.new }
 {
     let mut space = io::large_buffer();
@@ -152,16 +168,12 @@ pub fn read<R: Read>(source: &mut R, buffer: &mut [u8]) -> Input
     Input::Full
 }
 
-/// A reader that keeps the error of its last read that failed.
-#[derive(Drop)]
-pub struct Source<R> {
-    reader: R,
-    error: Option<Error>,
-}
-
 impl<R: Read> Source<R> {
     /// Of which no read has failed.
-    pub fn new(reader: R) -> Source<R> {
+    pub fn new(reader: R) -> Source<R>
+        ensures from { result.reader ≡ reader }
+        ensures unfailed { result.error ≡ None }
+    {
         Source {
             reader,
             error: None,
@@ -174,18 +186,6 @@ impl<R: Read> Source<R> {
             Some(error) => fail(rt, what, error),
             None => say(rt, what, "failed"),
         }
-    }
-}
-
-impl<R: Read> Read for Source<R> {
-    ghost remaining = { λ s. R.remaining s.reader };
-
-    fn read(&mut self, buf: &mut [u8]) -> Result<usize, Error> {
-        let answer = self.reader.read(buf);
-        if let Err(error) = answer {
-            self.error = Some(error);
-        }
-        answer
     }
 }
 

@@ -9,7 +9,7 @@ ghost use Rattle.model_lines.specs.Prints.{octet_text, hex_text, model_line, mos
 ghost use Rattle.model_lines.specs.Written.{ModelWithin, WroteLine};
 ghost use Rattle.model_lines.specs.Answered.{parity_of, left_of, known_long, known_trace, AnswersTraceInput};
 
-use files::{Input, Lines};
+use files::{Input, Lines, Source};
 use model_writer::Shown;
 use std::io::Read;
 use text::put_line;
@@ -153,7 +153,7 @@ fn left_after(input: Input) -> InputLeft
 // Reads on to the end of the input. All pieces but the last have an even number of bytes. A proved loop has to end, and nothing says
 // that the input does: it counts its turns down, from a number that no run uses up. What is left is for the system to say, so there
 // is nothing to ensure.
-fn read_rest<R: Read>(source: &mut R) -> Rest {
+fn read_rest<R: Read>(source: &mut Source<R>) -> Rest {
     let mut piece = io::large_buffer();
     let mut turns = u64::MAX;
     while 0 < turns {
@@ -168,7 +168,7 @@ fn read_rest<R: Read>(source: &mut R) -> Rest {
 }
 
 // What is behind the bytes that were read. Only where they fill the buffer there may be something.
-fn rest_of<R: Read>(source: &mut R, input: Input) -> Rest {
+fn rest_of<R: Read>(source: &mut Source<R>, input: Input) -> Rest {
     match input {
         Input::Ended(_) => Rest::Even,
         Input::Full => read_rest(source),
@@ -208,7 +208,7 @@ pub fn answer_to(trace: &[u8], input: Input, rest: Rest, line: &mut [u8]) -> Lin
 
 /// Reads a trace from a reader, and writes its line into the front of a lent buffer. Of a trace of more than 2,050 bytes only its header and
 /// the parity of its length matter.
-pub fn answer<R: Read>(source: &mut R, line: &mut [u8]) -> Lines
+pub fn answer<R: Read>(source: &mut Source<R>, line: &mut [u8]) -> Lines
     ensures { AnswersTraceInput line.old result line.new }
 {
     let mut trace = trace_space();

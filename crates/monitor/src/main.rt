@@ -15,7 +15,7 @@ struct Fed {
 }
 
 // Reads as much as the buffer holds, and pushes what came.
-fn feed<R: Read>(source: &mut R, stream: Stream) -> Fed {
+fn feed<R: Read>(source: &mut Source<R>, stream: Stream) -> Fed {
     let mut buffer = io::large_buffer();
     let input = files::read(source, &mut buffer);
     match input {
@@ -38,7 +38,7 @@ fn feed<R: Read>(source: &mut R, stream: Stream) -> Fed {
 }
 
 // A proved loop has to end, and nothing says that the input does: it counts its turns down, from a number that no run uses up.
-fn feed_all<R: Read>(source: &mut R) -> Fed {
+fn feed_all<R: Read>(source: &mut Source<R>) -> Fed {
     let mut fed = Fed {
         more: true,
         failed: false,

@@ -8,7 +8,7 @@ ghost use Rattle.files.specs.Lines.{known, Answers};
 ghost use Rattle.verdict_lines.specs.Answered.{AnswersMacroInput};
 ghost use Rattle.verdict_lines.specs.Reported.{reported as reportedOf, bytes_written, Reports};
 
-use files::{Input, Lines};
+use files::{Input, Lines, Source};
 use report::{ReportWritten, WORD_VALUES};
 use std::io::Read;
 use syntax::LONGEST_TEXT;
@@ -120,7 +120,7 @@ pub fn answer_to(text: &[u8], input: Input, lines: &mut [u8]) -> Lines
 
 /// Reads a text from a reader, and writes its lines into the front of a lent buffer. Of a text that is too long one byte more than
 /// `LONGEST_TEXT` is read: it is refused for its length.
-pub fn answer<R: Read>(source: &mut R, lines: &mut [u8]) -> Lines
+pub fn answer<R: Read>(source: &mut Source<R>, lines: &mut [u8]) -> Lines
     ensures { AnswersMacroInput lines.old result lines.new }
 {
     let mut text = text_space();
