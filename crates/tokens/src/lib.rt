@@ -1,9 +1,10 @@
 // The tokens of a macro's text (SPEC 8.1, 8.2).
 #![tactic(auto)]
 
-ghost use Rattle.std.specs.Prelude.{◌≡◌, true, false, ◌+◌, ◌≤◌, ◌<◌, length, drop};
+ghost use Rattle.std.specs.Prelude.{◌≡◌, true, false, ◌+◌, ◌≤◌, ◌<◌, eqb, get_or, length, drop};
+ghost use Rattle.std.specs.List.{take_while};
 ghost use Rattle.std.proofs.Math.Seq.{slice};
-ghost use Rattle.tokens.specs.Bytes.{blank, lower, lowered, letter, digit, inner, symbol, negation, mark, gap, name_length, longest_name, width};
+ghost use Rattle.tokens.specs.Bytes.{blank, lowered, letter, digit, inner, symbol, negation, mark, gap, name_length, longest_name, width};
 ghost use Rattle.tokens.specs.Tokens.{token_at, NumbersOf, place_behind, spellings};
 ghost use Rattle.tokens.specs.Words.{keyword, is_name, same_name};
 
@@ -13,10 +14,8 @@ pub const LONGEST_NAME: usize = 8;
 /// Bytes are held as one number: they are its digits to this base, the first byte lowest.
 pub const BYTE_VALUES: u64 = 256;
 
-// How far a letter in lower case is behind its capital.
-const CASE_DISTANCE: u8 = 32;
-
-// Words and signs, as the numbers of their bytes.
+// Words and signs, as the numbers of their bytes. They stay numbers and are no enum: the definitions (`Token` of specs/Tokens.antt, `key`, `word.vars_key`)
+// say of a token what number its bytes make, of names as of words. They are written out, since a constant's value holds no call (`u64::from_le_bytes`).
 
 /// What stands for the end of the text.
 pub const END: u64 = 0;
@@ -58,43 +57,43 @@ pub const RESULT: u64 = 0x746c75736572;
 pub const TRUTH: u64 = 0x6874757274;
 
 /// The sign `1`.
-pub const ONE: u64 = 0x31;
+pub const ONE: u64 = b'1' as u64;
 
 /// The sign `2`.
-pub const TWO: u64 = 0x32;
+pub const TWO: u64 = b'2' as u64;
 
 /// The sign `:=`.
 pub const BECOMES: u64 = 0x3d3a;
 
 /// The sign `=`.
-pub const EQUAL: u64 = 0x3d;
+pub const EQUAL: u64 = b'=' as u64;
 
 /// The sign `!=`.
 pub const UNEQUAL: u64 = 0x3d21;
 
 /// The sign `!`.
-pub const NOT: u64 = 0x21;
+pub const NOT: u64 = b'!' as u64;
 
 /// The sign `;`.
-pub const SEMICOLON: u64 = 0x3b;
+pub const SEMICOLON: u64 = b';' as u64;
 
 /// The sign `,`.
-pub const COMMA: u64 = 0x2c;
+pub const COMMA: u64 = b',' as u64;
 
 /// The sign `(`.
-pub const LPAREN: u64 = 0x28;
+pub const LPAREN: u64 = b'(' as u64;
 
 /// The sign `)`.
-pub const RPAREN: u64 = 0x29;
+pub const RPAREN: u64 = b')' as u64;
 
 /// The sign `{`.
-pub const LBRACE: u64 = 0x7b;
+pub const LBRACE: u64 = b'{' as u64;
 
 /// The sign `}`.
-pub const RBRACE: u64 = 0x7d;
+pub const RBRACE: u64 = b'}' as u64;
 
 /// The sign `/`.
-pub const SLASH: u64 = 0x2f;
+pub const SLASH: u64 = b'/' as u64;
 
 /// A token.
 #[derive(Clone, Copy)]
@@ -122,100 +121,43 @@ struct TokenNumbers {
 fn is_blank(b: u8) -> bool
     ensures { result ≡ blank b }
 {
-    if b == b' ' {
-        return true;
-    }
-    if b == b'\t' {
-        return true;
-    }
-    if b == b'\r' {
-        return true;
-    }
-    b == b'\n'
-}
-
-fn is_lower(b: u8) -> bool
-    ensures { result ≡ lower b }
-{
-    if b < b'a' {
-        return false;
-    }
-    b <= b'z'
+    matches!(b, b' ' | b'\t' | b'\r' | b'\n')
 }
 
 // The byte in lower case.
 fn lowered(b: u8) -> u8
     ensures { result ≡ lowered b }
 {
-    if b < b'A' {
-        return b;
-    }
-    if b'Z' < b {
-        return b;
-    }
-    b + CASE_DISTANCE
+    b.to_ascii_lowercase()
 }
 
 /// Whether a byte is a letter.
 pub fn is_letter(b: u8) -> bool
     ensures { result ≡ letter b }
 {
-    is_lower(lowered(b))
+    b.is_ascii_alphabetic()
 }
 
 /// Whether a byte is a digit.
 pub fn is_digit(b: u8) -> bool
     ensures { result ≡ digit b }
 {
-    if b < b'0' {
-        return false;
-    }
-    b <= b'9'
+    b.is_ascii_digit()
 }
 
 fn is_inner(b: u8) -> bool
     ensures { result ≡ inner b }
 {
-    if is_letter(b) {
-        return true;
-    }
-    if is_digit(b) {
-        return true;
-    }
-    b == b'_'
+    b.is_ascii_alphanumeric() || b == b'_'
 }
 
 fn is_symbol(b: u8) -> bool
     ensures { result ≡ symbol b }
 {
-    if b == b'1' {
-        return true;
-    }
-    if b == b'2' {
-        return true;
-    }
-    if b == b'=' {
-        return true;
-    }
-    if b == b';' {
-        return true;
-    }
-    if b == b',' {
-        return true;
-    }
-    if b == b'(' {
-        return true;
-    }
-    if b == b')' {
-        return true;
-    }
-    if b == b'{' {
-        return true;
-    }
-    if b == b'}' {
-        return true;
-    }
-    b == b'/'
+    matches!(
+        b,
+        b'1' | b'2' | b'=' | b';' | b',' | b'(' | b')' | b'{' | b'}' | b'/'
+    )
 }
 
 fn is_negation(b: u8) -> bool
@@ -227,10 +169,7 @@ fn is_negation(b: u8) -> bool
 fn is_mark(b: u8) -> bool
     ensures { result ≡ mark b }
 {
-    if b == b':' {
-        return true;
-    }
-    is_negation(b)
+    b == b':' || is_negation(b)
 }
 
 /// A byte as a number of 64 bits.
@@ -244,42 +183,25 @@ pub fn wide(byte: u8) -> u64
 fn skip_gap(text: &[u8], from: usize) -> usize
     ensures { result ≡ from + gap false (drop from text.now) }
 {
-    let mut at = from;
     let mut comment = false;
-    while at < text.len() {
+    for at in from..text.len() {
         let b = text[at];
         if comment {
             comment = b != b'\n';
-            at += 1;
-            continue;
-        }
-        if b == b'#' {
+        } else if b == b'#' {
             comment = true;
-            at += 1;
-            continue;
-        }
-        if is_blank(b) {
-            at += 1;
-        } else {
+        } else if !is_blank(b) {
             return at;
         }
     }
-    at
+    from.max(text.len())
 }
 
-// The first place at or after `from` that no name goes on with.
-fn run_end(text: &[u8], from: usize) -> usize
-    ensures { result ≡ from + name_length (drop from text.now) }
+// How many bytes stand in front that a name goes on with.
+fn run_length(text: &[u8]) -> usize
+    ensures { result ≡ length (take_while inner text.now) }
 {
-    let mut at = from;
-    while at < text.len() {
-        if is_inner(text[at]) {
-            at += 1;
-        } else {
-            return at;
-        }
-    }
-    at
+    text.iter().take_while(|b| is_inner(**b)).count()
 }
 
 // The bytes from `start` to `end` as numbers.
@@ -289,44 +211,36 @@ fn numbers_of(text: &[u8], start: usize, end: usize) -> TokenNumbers
 {
     let mut key: u64 = 0;
     let mut spelling: u64 = 0;
-    let mut at = end;
-    while start < at {
-        at -= 1;
+    for at in (start..end).rev() {
         let b = text[at];
-        key = key * BYTE_VALUES + wide(lowered(b));
-        spelling = spelling * BYTE_VALUES + wide(b);
+        key = key * BYTE_VALUES + u64::from(lowered(b));
+        spelling = spelling * BYTE_VALUES + u64::from(b);
     }
-    TokenNumbers {
-        key: key,
-        spelling: spelling,
-    }
+    TokenNumbers { key, spelling }
 }
 
-// How many bytes the token at `at` has; 0 where there is none.
-fn width_at(text: &[u8], at: usize) -> usize
-    requires { at < length text.now }
-    ensures { result ≡ width (drop at text.now) }
+// Whether a `=` stands behind the first byte.
+fn is_paired(text: &[u8]) -> bool
+    ensures { result ≡ eqb (get_or text.now 1 0) 61 }
 {
-    let b = text[at];
-    if is_letter(b) {
-        let n = run_end(text, at) - at;
-        if n <= LONGEST_NAME {
-            return n;
-        }
+    matches!(text, [_, b'=', ..])
+}
+
+// How many bytes the token in front has; 0 where there is none.
+fn width_of(text: &[u8]) -> usize
+    ensures { result ≡ width text.now }
+{
+    let [b, ..] = text else {
         return 0;
+    };
+    if is_letter(*b) {
+        let n = run_length(text);
+        return if n <= LONGEST_NAME { n } else { 0 };
     }
-    if is_mark(b) {
-        if at + 1 < text.len() {
-            if text[at + 1] == b'=' {
-                return 2;
-            }
-        }
-        if is_negation(b) {
-            return 1;
-        }
-        return 0;
+    if is_mark(*b) && is_paired(text) {
+        return 2;
     }
-    if is_symbol(b) {
+    if is_negation(*b) || is_symbol(*b) {
         return 1;
     }
     0
@@ -336,8 +250,8 @@ fn width_at(text: &[u8], at: usize) -> usize
 pub fn next(text: &[u8], from: usize) -> Token
     ensures { result ≡ token_at text.now from }
 {
-    let at = skip_gap(text, from);
-    if text.len() <= at {
+    let start = skip_gap(text, from);
+    if text.len() <= start {
         return Token {
             key: END,
             spelling: END,
@@ -345,22 +259,22 @@ pub fn next(text: &[u8], from: usize) -> Token
             end: text.len(),
         };
     }
-    let w = width_at(text, at);
-    if w == 0 {
+    let width = width_of(&text[start..]);
+    if width == 0 {
         return Token {
             key: WRONG,
             spelling: WRONG,
-            start: at,
-            end: at,
+            start,
+            end: start,
         };
     }
-    let end = at + w;
-    let numbers = numbers_of(text, at, end);
+    let end = start + width;
+    let numbers = numbers_of(text, start, end);
     Token {
         key: numbers.key,
         spelling: numbers.spelling,
-        start: at,
-        end: end,
+        start,
+        end,
     }
 }
 
@@ -369,11 +283,8 @@ pub fn skip_tokens(text: &[u8], from: usize, count: usize) -> usize
     ensures { result ≡ place_behind text.now from count }
 {
     let mut at = from;
-    let mut i: usize = 0;
-    while i < count {
-        let t = next(text, at);
-        at = t.end;
-        i += 1;
+    for _ in 0..count {
+        at = next(text, at).end;
     }
     at
 }
@@ -383,12 +294,9 @@ pub fn put_spellings(text: &[u8], from: usize, step: usize, out: &mut [u64])
     ensures { out.new ≡ spellings text.now from step (length out.old) }
 {
     let mut at = from;
-    let mut i: usize = 0;
-    while i < out.len() {
-        let t = next(text, at);
-        out[i] = t.spelling;
+    for spelling in out {
+        *spelling = next(text, at).spelling;
         at = skip_tokens(text, at, step);
-        i += 1;
     }
 }
 
@@ -396,54 +304,21 @@ pub fn put_spellings(text: &[u8], from: usize, step: usize, out: &mut [u64])
 pub fn is_keyword(k: u64) -> bool
     ensures { result ≡ keyword k }
 {
-    if k == VARS {
-        return true;
-    }
-    if k == FUNS {
-        return true;
-    }
-    if k == TESTS {
-        return true;
-    }
-    if k == SKIP {
-        return true;
-    }
-    if k == ASSUME {
-        return true;
-    }
-    if k == ASSERT {
-        return true;
-    }
-    if k == IF {
-        return true;
-    }
-    if k == ELSE {
-        return true;
-    }
-    if k == WHILE {
-        return true;
-    }
-    if k == RESULT {
-        return true;
-    }
-    k == TRUTH
+    matches!(
+        k,
+        VARS | FUNS | TESTS | SKIP | ASSUME | ASSERT | IF | ELSE | WHILE | RESULT | TRUTH
+    )
 }
 
 /// Whether a token is a name.
 pub fn is_name(k: u64) -> bool
     ensures { result ≡ is_name k }
 {
-    let b = k % BYTE_VALUES;
-    if b < 97 {
-        return false;
-    }
-    if 122 < b {
-        return false;
-    }
-    !is_keyword(k)
+    let first = (k % BYTE_VALUES) as u8;
+    first.is_ascii_lowercase() && !is_keyword(k)
 }
 
-/// Whether two names are the same.
+/// Whether two names are the same. It stands beside `==` so that names compare in one place, which docs/design/reader.md names.
 pub fn same_name(k: u64, l: u64) -> bool
     ensures { result ≡ same_name k l }
 {

@@ -4,12 +4,13 @@ use Prim.Native.Nat.{ℕ, zero, suc, ◌+◌, ◌*◌, ◌-◌, ◌≤◌, ◌<�
 use native.Mathlib.Omega.{arith}
 use native.Mathlib.Numerals.{add-one}
 use native.Mathlib.Nat.{sub_self}
-use mathlib.Core.Bool.{Bool, true, false, not}
+use mathlib.Core.Bool.{Bool, true, false, not, ◌&&◌, ◌||◌}
 use mathlib.Core.List.{List, [], ◌∷◌}
 use lib.Dec.{leb, eqb}
-use lib.ListN.{length, get_or, take, drop, drop_of_length-le, get_or-eq_default}
-use lib.Seq.{drop-cons, get_or-drop, slice, slice-cons, slice_empty}
+use lib.ListN.{length, get_or, take, drop, drop_of_length-le}
+use lib.Seq.{drop-cons, slice, slice-cons, slice_empty}
 use borrow.Author.Tests.{eq-eqb, ne_eqb, le-leb, lt-leb, leb-true, eqb-true}
+use Rattle.std.proofs.lemmas.Bool.{or_parts}
 use Rattle.base.specs.Choice.{pick}
 use Rattle.base.proofs.Theory.Choice.{by_test}
 use Rattle.base.specs.Bytes.{little_endian}
@@ -37,41 +38,14 @@ module _ (s : List ℕ) (at : ℕ) where
   unfolding gap
   gap_stop h e f = rw (drop-cons s at 0 h, e, f)
 
-  pub run_out : length s ≤ at → name_length (drop at s) ≡ 0
-  unfolding name_length
-  run_out h = rw (drop_of_length-le s h)
-
-  pub run_more : at < length s → inner (get_or s at 0) ≡ true → name_length (drop at s) ≡ suc (name_length (drop (at + 1) s))
-  unfolding name_length
-  run_more h e = rw (add-one, drop-cons s at 0 h, e)
-
-  pub run_stop : at < length s → inner (get_or s at 0) ≡ false → name_length (drop at s) ≡ 0
-  unfolding name_length
-  run_stop h e = rw (drop-cons s at 0 h, e)
-
--- ---- the turns of the loops over a text, from a place `from` on
+-- ---- the turns of the loop over a gap, from a place `from` on
 
 module _ (s : List ℕ) (from at : ℕ) where
   -- what is left at the place `at`
-  abbrev pub Run : Type 0
-  Run = from + name_length (drop from s) ≡ at + name_length (drop at s)
-
   abbrev pub Gap : Bool → Type 0
   Gap c = from + gap false (drop from s) ≡ at + gap c (drop at s)
 
 module _ (s : List ℕ) (from at : ℕ) where
-  pub run_ended : length s ≤ at → Run s from at → at ≡ from + name_length (drop from s)
-  run_ended h i = omega (arith, run_out s at h)
-
-  pub run_halted : (r : Bool) → at < length s → r ≡ inner (get_or s at 0) → r ≡ false → Run s from at → at ≡ from + name_length (drop from s)
-  run_halted r h e f i = omega (arith, run_stop s at h (sym e ∙ f))
-
-  pub run_turn : (r : Bool) → at < length s → r ≡ inner (get_or s at 0) → r ≡ true → Run s from at → Run s from (at + 1)
-  run_turn r h e f i = omega (arith, run_more s at h (sym e ∙ f))
-
-  pub gap_ended : (c : Bool) → length s ≤ at → Gap s from at c → at ≡ from + gap false (drop from s)
-  gap_ended c h i = omega (arith, gap_out s at c h)
-
   pub gap_halted : (c r : Bool) → at < length s → c ≡ false → (get_or s at 0 ≡ 35 → ⊥) → r ≡ blank (get_or s at 0) → r ≡ false → Gap s from at c
       → at ≡ from + gap false (drop from s)
   gap_halted c r h e f g k i = let j : Gap s from at false = rw e at i in omega (arith, gap_stop s at h (ne_eqb _ _ f) (sym g ∙ k))
@@ -166,43 +140,49 @@ key_slice s start end v e = e ∙ ap little_endian (lower_slice start end s)
 
 -- ---- the width of a token
 
--- no `=` follows the last byte
-pub last_unpaired : (s : List ℕ) (at : ℕ) → length s ≤ at + 1 → get_or s (at + 1) 0 ≡ 61 → ⊥
-last_unpaired s at h e = omega (arith, get_or-eq_default s 0 h)
+pub width_empty : (s : List ℕ) → length s < 1 → 0 ≡ width s
+unfolding width
+width_empty [] h = refl
+width_empty (b ∷ s) h = absurd (omega arith)
 
-module _ (s : List ℕ) (at : ℕ) (h : at < length s) where
-  second : get_or (drop (suc at) s) 0 0 ≡ get_or s (at + 1) 0
-  second = let e : suc at + 0 ≡ at + 1 = omega arith in get_or-drop (suc at) s 0 0 ∙ ap (λ n. get_or s n 0) e
+width_law : (s : List ℕ) → 1 ≤ length s → width s ≡
+    pick (letter (get_or s 0 0)) (λ _. pick (leb (name_length s) 8) (λ _. name_length s) λ _. 0)
+    λ _. pick (mark (get_or s 0 0)) (λ _. pick (eqb (get_or s 1 0) 61) (λ _. 2) λ _. pick (negation (get_or s 0 0)) (λ _. 1) λ _. 0)
+    λ _. pick (symbol (get_or s 0 0)) (λ _. 1) λ _. 0
+unfolding width
+width_law [] h = absurd (omega arith)
+width_law (b ∷ s) h = refl
 
-  width_law : width (drop at s) ≡
-      pick (letter (get_or s at 0)) (λ _. pick (leb (name_length (drop at s)) 8) (λ _. name_length (drop at s)) λ _. 0)
-      λ _. pick (mark (get_or s at 0)) (λ _. pick (eqb (get_or s (at + 1) 0) 61) (λ _. 2) λ _. pick (negation (get_or s at 0)) (λ _. 1) λ _. 0)
-      λ _. pick (symbol (get_or s at 0)) (λ _. 1) λ _. 0
-  unfolding width
-  width_law = rw (drop-cons s at 0 h, second)
+-- `:` is no sign by itself
+half_mark : (b : ℕ) → mark b ≡ true → negation b ≡ false → symbol b ≡ false
+half_mark b m n = let e : b ≡ 58 = eqb-true b 58 (sym (or_none (eqb b 58)) ∙ ap (λ x. eqb b 58 || x) (sym n) ∙ m) in rw e refl
+  where
+    or_none : (x : Bool) → (x || false) ≡ x
+    or_none true = refl
+    or_none false = refl
 
-  module _ (l : Bool) (e : l ≡ letter (get_or s at 0)) where
-    pub width_name : (n : ℕ) → l ≡ true → n ≡ at + name_length (drop at s) → n - at ≤ 8 → n - at ≡ width (drop at s)
-    width_name n t f g = let k : name_length (drop at s) ≡ n - at = omega arith in rw (width_law, ← e, t, k, le-leb (n - at) 8 g)
+no_negation : (b : ℕ) → mark b ≡ false → negation b ≡ false
+no_negation b m = (or_parts (eqb b 58) (negation b) m).1
 
-    pub width_long : (n : ℕ) → l ≡ true → n ≡ at + name_length (drop at s) → 8 < n - at → 0 ≡ width (drop at s)
-    width_long n t f g = let k : name_length (drop at s) ≡ n - at = omega arith in rw (width_law, ← e, t, k, lt-leb (n - at) 8 g)
+module _ (s : List ℕ) (h : 1 ≤ length s) (l : Bool) (e : l ≡ letter (get_or s 0 0)) where
+  pub width_name : (n : ℕ) → l ≡ true → n ≡ name_length s → n ≤ 8 → n ≡ width s
+  width_name n t f g = rw (width_law s h, ← e, t, ← f, le-leb n 8 g)
 
-    module _ (t : l ≡ false) (m : Bool) (f : m ≡ mark (get_or s at 0)) where
-      pub width_pair : m ≡ true → get_or s (at + 1) 0 ≡ 61 → 2 ≡ width (drop at s)
-      width_pair u g = rw (width_law, ← e, t, ← f, u, g)
+  pub width_long : (n : ℕ) → l ≡ true → n ≡ name_length s → 8 < n → 0 ≡ width s
+  width_long n t f g = rw (width_law s h, ← e, t, ← f, lt-leb n 8 g)
 
-      pub width_alone : (n : Bool) → m ≡ true → (get_or s (at + 1) 0 ≡ 61 → ⊥) → n ≡ negation (get_or s at 0) → n ≡ true → 1 ≡ width (drop at s)
-      width_alone n u g i v = rw (width_law, ← e, t, ← f, u, ne_eqb _ _ g, ← i, v)
+  module _ (t : l ≡ false) where
+    pub width_paired : mark (get_or s 0 0) ≡ true → eqb (get_or s 1 0) 61 ≡ true → 2 ≡ width s
+    width_paired u g = rw (width_law s h, ← e, t, u, g)
 
-      pub width_half : (n : Bool) → m ≡ true → (get_or s (at + 1) 0 ≡ 61 → ⊥) → n ≡ negation (get_or s at 0) → n ≡ false → 0 ≡ width (drop at s)
-      width_half n u g i v = rw (width_law, ← e, t, ← f, u, ne_eqb _ _ g, ← i, v)
-
-      pub width_symbol : (y : Bool) → m ≡ false → y ≡ symbol (get_or s at 0) → y ≡ true → 1 ≡ width (drop at s)
-      width_symbol y u g v = rw (width_law, ← e, t, ← f, u, ← g, v)
-
-      pub width_none : (y : Bool) → m ≡ false → y ≡ symbol (get_or s at 0) → y ≡ false → 0 ≡ width (drop at s)
-      width_none y u g v = rw (width_law, ← e, t, ← f, u, ← g, v)
+    -- a sign of one byte, where `:=` and `!=` do not stand
+    pub width_sign : (mark (get_or s 0 0) && eqb (get_or s 1 0) 61) ≡ false
+        → width s ≡ pick (negation (get_or s 0 0) || symbol (get_or s 0 0)) (λ _. 1) λ _. 0
+    width_sign u = rw (width_law s h, ← e, t) (by_test (mark (get_or s 0 0))
+        (λ m. let g : eqb (get_or s 1 0) 61 ≡ false = rw m at u in by_test (negation (get_or s 0 0))
+        (λ n. rw (m, g, n))
+        λ n. rw (m, g, n, half_mark (get_or s 0 0) m n))
+        λ m. rw (m, no_negation (get_or s 0 0) m))
 
 run_le : (s : List ℕ) → name_length s ≤ length s
 unfolding name_length

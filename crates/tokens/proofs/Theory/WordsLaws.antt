@@ -1,21 +1,11 @@
 -- The laws of words and names.
 use mathlib.Core.Path.{◌≡◌, sym, ap, ◌∙◌}
-use Prim.Native.Nat.{ℕ, zero, suc, ◌≤◌, ◌<◌, ◌%◌}
+use Prim.Native.Nat.{ℕ, zero, suc, ◌≤◌}
 use native.Mathlib.Omega.{arith}
-use mathlib.Core.Bool.{Bool, true, false, not}
+use mathlib.Core.Bool.{true, false}
 use lib.Dec.{eqb}
-use borrow.Author.Tests.{ne_eqb, le-leb, lt-leb}
-use Rattle.tokens.specs.Words.{is_name, keyword}
-
-module _ (k : ℕ) where
-  pub name_below : k % 256 < 97 → false ≡ is_name k
-  name_below h = rw (lt-leb 97 (k % 256) h)
-
-  pub name_above : 97 ≤ k % 256 → 122 < k % 256 → false ≡ is_name k
-  name_above h g = rw (le-leb 97 (k % 256) h, lt-leb (k % 256) 122 g)
-
-  pub name_word : (w : Bool) → 97 ≤ k % 256 → k % 256 ≤ 122 → w ≡ keyword k → not w ≡ is_name k
-  name_word w h g e = rw (le-leb 97 (k % 256) h, le-leb (k % 256) 122 g, e)
+use borrow.Author.Tests.{ne_eqb}
+use Rattle.tokens.specs.Words.{is_name}
 
 -- a name is a token
 pub name_real : (k : ℕ) → is_name k ≡ true → 2 ≤ k
