@@ -1,7 +1,7 @@
 // Text appended to a lent buffer: bytes, names, numerals, and lines with fields.
 #![tactic(auto)]
 
-ghost use Rattle.std.specs.Prelude.{[], ◌∷◌, ◌+◌};
+ghost use Rattle.std.specs.Prelude.{◌≡◌, [], ◌∷◌, ◌+◌};
 ghost use Rattle.text.specs.Appending.{Appended, PlaceInRange};
 ghost use Rattle.text.specs.Numerals.{numeral};
 ghost use Rattle.text.specs.Names.{name_text};
@@ -12,15 +12,95 @@ use tokens::BYTE_VALUES;
 /// The fields of a template.
 pub const FIELDS: usize = 4;
 
-/// Appends a byte at `at`, and answers the place behind it. Past the buffer's end nothing is stored; the place moves all the same.
+/// A lent buffer, and the place where the next byte goes. Past the buffer's end nothing is stored; the place moves all the same, so that one writer
+/// serves to count and to write.
+#[derive(Drop)]
+pub struct Writer<'a> {
+    /// The buffer.
+    pub out: &'a mut [u8],
+    /// The place.
+    pub at: usize,
+}
+
+impl<'a> Writer<'a> {
+    /// A writer at the front of a buffer.
+    pub fn new(out: &'a mut [u8]) -> Writer<'a>
+        ensures same_buffer { result.out.ghost_name ≡ out.entry.ghost_name }
+        ensures bytes { result.out.now ≡ out.old }
+        ensures place { result.at ≡ 0 }
+    {
+        Writer { out, at: 0 }
+    }
+
+    /// Appends a byte.
+    pub fn put_byte(&mut self, byte: u8)
+        requires { PlaceInRange self.old.at (byte ∷ []) }
+        ensures same_buffer { self.new.out.ghost_name ≡ self.old.out.ghost_name }
+        ensures appended { Appended self.old.out.now self.old.at (byte ∷ []) self.new.out.now self.new.at }
+    {
+        if self.at < self.out.len() {
+            self.out[self.at] = byte;
+        }
+        self.at += 1;
+    }
+
+    /// Appends a name, or another token, that is held as the number of its bytes.
+    pub fn put_name(&mut self, name: u64)
+        requires { PlaceInRange self.old.at (name_text name) }
+        ensures same_buffer { self.new.out.ghost_name ≡ self.old.out.ghost_name }
+        ensures appended { Appended self.old.out.now self.old.at (name_text name) self.new.out.now self.new.at }
+    {
+        let mut rest = name;
+        while rest != 0 {
+            self.put_byte((rest % BYTE_VALUES) as u8);
+            rest /= BYTE_VALUES;
+        }
+    }
+
+    // Appends the numeral of a number.
+    fn put_number(&mut self, number: u64)
+        requires { PlaceInRange self.old.at (numeral number) }
+        ensures same_buffer { self.new.out.ghost_name ≡ self.old.out.ghost_name }
+        ensures appended { Appended self.old.out.now self.old.at (numeral number) self.new.out.now self.new.at }
+    {
+        if 10 <= number {
+            self.put_number(number / 10);
+        }
+        self.put_byte(b'0' + (number % 10) as u8);
+    }
+    // Appends what a byte of a template stands for.
+    fn put_part(&mut self, byte: u8, fields: [u64; FIELDS])
+        requires { PlaceInRange self.old.at (part byte fields) }
+        ensures same_buffer { self.new.out.ghost_name ≡ self.old.out.ghost_name }
+        ensures appended { Appended self.old.out.now self.old.at (part byte fields) self.new.out.now self.new.at }
+    {
+        match byte {
+            b'0'..=b'3' => self.put_name(fields[(byte - b'0') as usize]),
+            b'4'..=b'7' => self.put_number(fields[(byte - b'4') as usize]),
+            _ => self.put_byte(byte),
+        }
+    }
+
+    /// Appends a template with its fields: in it `0` to `3` stand for the names of the fields and `4` to `7` for their numerals.
+    pub fn put_line(&mut self, template: &[u8], fields: [u64; FIELDS])
+        requires { PlaceInRange self.old.at (filled_in template.now fields) }
+        ensures same_buffer { self.new.out.ghost_name ≡ self.old.out.ghost_name }
+        ensures appended { Appended self.old.out.now self.old.at (filled_in template.now fields) self.new.out.now self.new.at }
+    {
+        for byte in template {
+            self.put_part(*byte, fields);
+        }
+    }
+}
+
+/// Appends a byte at `at`, and answers the place behind it.
 pub fn put_byte(out: &mut [u8], at: usize, byte: u8) -> usize
     requires { PlaceInRange at (byte ∷ []) }
     ensures { Appended out.old at (byte ∷ []) out.new result }
 {
-    if at < out.len() {
-        out[at] = byte;
-    }
-    at + 1
+    let mut writer = Writer { out, at };
+    writer.put_byte(byte);
+    writer.at
 }
 
 /// Appends a name, or another token, that is held as the number of its bytes.
@@ -28,57 +108,17 @@ pub fn put_name(out: &mut [u8], at: usize, name: u64) -> usize
     requires { PlaceInRange at (name_text name) }
     ensures { Appended out.old at (name_text name) out.new result }
 {
-    let mut next = at;
-    let mut rest = name;
-    while rest != 0 {
-        next = put_byte(out, next, (rest % BYTE_VALUES) as u8);
-        rest = rest / BYTE_VALUES;
-    }
-    next
+    let mut writer = Writer { out, at };
+    writer.put_name(name);
+    writer.at
 }
 
-// Appends the numeral of a number.
-fn put_number(out: &mut [u8], at: usize, number: u64) -> usize
-    requires { PlaceInRange at (numeral number) }
-    ensures { Appended out.old at (numeral number) out.new result }
-{
-    let last = b'0' + (number % 10) as u8;
-    if number < 10 {
-        return put_byte(out, at, last);
-    }
-    let next = put_number(out, at, number / 10);
-    put_byte(out, next, last)
-}
-
-// Appends what a byte of a template stands for.
-fn put_part(out: &mut [u8], at: usize, byte: u8, fields: [u64; FIELDS]) -> usize
-    requires { PlaceInRange at (part byte fields) }
-    ensures { Appended out.old at (part byte fields) out.new result }
-{
-    if byte < b'0' {
-        return put_byte(out, at, byte);
-    }
-    if byte < b'4' {
-        let k = (byte - b'0') as usize;
-        return put_name(out, at, fields[k]);
-    }
-    if byte < b'8' {
-        let k = (byte - b'4') as usize;
-        return put_number(out, at, fields[k]);
-    }
-    put_byte(out, at, byte)
-}
-
-/// Appends a template with its fields: in it `0` to `3` stand for the names of the fields and `4` to `7` for their numerals.
+/// Appends a template with its fields.
 pub fn put_line(out: &mut [u8], at: usize, template: &[u8], fields: [u64; FIELDS]) -> usize
     requires { PlaceInRange at (filled_in template.now fields) }
     ensures { Appended out.old at (filled_in template.now fields) out.new result }
 {
-    let mut next = at;
-    let mut i: usize = 0;
-    while i < template.len() {
-        next = put_part(out, next, template[i], fields);
-        i = i + 1;
-    }
-    next
+    let mut writer = Writer { out, at };
+    writer.put_line(template, fields);
+    writer.at
 }

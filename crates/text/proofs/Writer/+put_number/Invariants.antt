@@ -1,4 +1,4 @@
-use Rattle.text.proofs.+put_number.Given as goal
+use Rattle.text.proofs.Writer.+put_number.Given as goal
 
 -- each call is for a tenth of the number
 abbrev pub decreases-put_number : goal.decreases-put_number
