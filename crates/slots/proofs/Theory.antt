@@ -3,6 +3,7 @@ pub mod Laying
 pub mod Pulling
 pub mod Tables
 pub mod Around
+pub mod Keeping
 pub mod Marking
 pub mod Moving
 pub mod Copies

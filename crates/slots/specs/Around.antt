@@ -6,6 +6,7 @@ use Rattle.base.specs.Masks.{has}
 use Rattle.window.specs.Places.{place}
 use Rattle.window.specs.Table.{table}
 use Rattle.window.specs.Marks.{union_of}
+use Rattle.slots.specs.Slots.{Slots, Laid}
 
 module _ (ρ φ : ℕ) where
   -- a slot is in the entry of a pair exactly if it holds a result at the two, in either order; bits from ρ on are free, and a mask of the code has none
@@ -18,3 +19,8 @@ module _ (ρ φ : ℕ) where
 
   unfoldable pub around_of : List ℕ → List ℕ
   around_of l = table (λ k. bit_or (union_of l k (ρ * ρ) φ) (union_of l (ρ * (k % ρ) + k / ρ) (ρ * ρ) φ)) (ρ * ρ)
+
+  -- what is kept along with slots: the lengths of their arrays, a slot for each register, and the table of pairs
+  pub record WellKept (w : Slots) (t : List ℕ) : Type 0 where
+    pub laid : Laid ρ φ w.slot w.regs w.unequal w.result w.ever w.mark
+    pub around : Around w.result t

@@ -8,11 +8,12 @@ ghost use Rattle.window.specs.Bits.{minus};
 ghost use Rattle.window.specs.Marks.{raised_of};
 ghost use Rattle.window.specs.Performing.{arguments_of};
 ghost use Rattle.window.specs.Perform.{WithinPacking};
-ghost use Rattle.slots.specs.Slots.{slots_of, slot_of, Low, SlotTableLengths, Laid};
-ghost use Rattle.slots.specs.Performing.{has_slot, regs_moved, free_from, pulled_of, many_of, doubled_of, clash_slots, apart_slots, early_slots};
-ghost use Rattle.slots.specs.Performing.{results_dropped, masks_renamed, results_renamed, slot_renamed, marks_in, register_in, result_recorded, ever_recorded};
-ghost use Rattle.slots.specs.Performing.{above_slots, beside_slots, lost_slots, pair_recorded};
+ghost use Rattle.slots.specs.Slots.{slot_of, Low, Laid};
+ghost use Rattle.slots.specs.Performing.{has_slot, placed, free_from, pulled_of, many_of, doubled_of, clash_slots, apart_slots, early_slots};
+ghost use Rattle.slots.specs.Performing.{results_dropped, masks_renamed, results_renamed, slot_renamed, marks_in, register_in};
+ghost use Rattle.slots.specs.Performing.{above_slots, beside_slots, lost_slots, recorded_slots, slots_with_unequal};
 ghost use Rattle.slots.specs.Around.{Around, around_of};
+ghost use Rattle.slots.specs.Represents.{RepresentsWindow};
 ghost use Rattle.slots.specs.Performing.{entry_of, find_slots, memoizing_slots};
 ghost use Rattle.slots.specs.Performing.{dropped_slots, left_slots, copied_slots, renewed_slots, freshened_slots, new_slots, apply_slots};
 ghost use Rattle.slots.specs.Performing.{merged_slots, closed_slots};
@@ -22,82 +23,98 @@ ghost use Rattle.slots.specs.Performing.{members_of, grouped_of, used_of, kept_a
 ghost use Rattle.slots.specs.Performing.{same_window, represents_of};
 
 use letters::Letter;
+use std::marker::Model;
 use window::{
     LINES, Mask, PAIRS, REGISTERS, RESULTS, Window, apart, below, clear_column, clear_row,
     counted_classes, flag, forget_masks, holds, inhabited, move_bits, name, names, part,
     results_at, single, single_if, size, union, unite_column, unite_row,
 };
 
+/// A window in slots. A contract sees the `Slots` of slots/specs/Slots.antt; `around` is what makes the marks quick to find.
+#[derive(Drop)]
+pub struct SlotWindow {
+    // At r, the slot of register r's class.
+    slot: [u8; REGISTERS],
+    // At s, the registers of slot s: none if it is free.
+    regs: [Mask; REGISTERS],
+    // The unequal pairs, the results and the computed applications: tables as a window's, of slots and not of registers.
+    unequal: [Mask; REGISTERS],
+    result: [Mask; RESULTS],
+    ever: [Mask; LINES],
+    // For each pair of slots, the slots that hold a result of some function at the two, in either order.
+    around: [Mask; PAIRS],
+    // At r, whether register r has a mark.
+    mark: [bool; REGISTERS],
+    infeasible: bool,
+}
+
+impl Model for SlotWindow {
+    ghost use Rattle.window.specs.Layout.{registers, functions};
+    ghost use Rattle.slots.specs.Slots.{Slots, slots_of};
+    ghost use Rattle.slots.specs.Around.{WellKept};
+
+    ghost Value = { Slots };
+
+    ghost view = { λ a. slots_of a.slot a.regs a.unequal a.result a.ever a.mark a.infeasible };
+
+    ghost invariant = { λ a. WellKept registers functions (slots_of a.slot a.regs a.unequal a.result a.ever a.mark a.infeasible) a.around };
+}
+
 // ---- registers and slots
 
-// A stored slot, as an index.
-fn wide(slot: u8) -> usize
-    ensures { result ≡ slot }
-{
-    slot as usize
-}
+impl SlotWindow {
+    // The slot of a register.
+    fn slot_of(&self, r: usize) -> usize
+        requires { r < registers }
+        ensures value { result ≡ slot_of self.now.slot r }
+        ensures low { result < registers }
+    {
+        self.slot[r] as usize
+    }
 
-// The number that stands for the slot of a register.
-fn number(slot: &[u8; REGISTERS], r: usize) -> usize
-    requires { r < registers }
-    ensures { result ≡ slot_of slot.now r }
-{
-    wide(slot[r])
-}
+    // Whether the register has a slot.
+    fn held(&self, r: usize) -> bool
+        requires { r < registers }
+        ensures { result ≡ has_slot self.now.slot self.now.regs r }
+    {
+        holds(self.regs[self.slot_of(r)], r)
+    }
 
-// The slot of a register.
-fn slot_of(slot: &[u8; REGISTERS], r: usize) -> usize
-    requires { (r < registers) × Low registers slot.now }
-    ensures value { result ≡ slot_of slot.now r }
-    ensures low { result < registers }
-{
-    number(slot, r)
-}
+    // Register x goes to slot t.
+    fn move_register(&mut self, x: usize, t: usize)
+        requires x_is_register { x < registers }
+        requires t_is_slot { t < registers }
+        ensures { self.new ≡ placed self.old x t }
+    {
+        let s = self.slot_of(x);
+        let own = single(x);
+        self.regs[s] = (self.regs[s] | own) ^ own;
+        self.regs[t] |= own;
+        self.slot[x] = t as u8;
+    }
 
-// Whether the register has a slot.
-fn held(slot: &[u8; REGISTERS], regs: &[Mask; REGISTERS], r: usize) -> bool
-    requires { (r < registers) × Low registers slot.now }
-    ensures { result ≡ has_slot slot.now regs.now r }
-{
-    holds(regs[slot_of(slot, r)], r)
-}
-
-// Register x goes to slot t.
-fn move_register(slot: &mut [u8; REGISTERS], regs: &mut [Mask; REGISTERS], x: usize, t: usize)
-    requires { (x < registers) × (t < registers) × Low registers slot.old × (length regs.old ≡ registers) }
-    ensures slot_after { slot.new ≡ set slot.old x t }
-    ensures regs { regs.new ≡ regs_moved regs.old x (slot_of slot.old x) t }
-{
-    let s = slot_of(slot, x);
-    let own = single(x);
-    regs[s] = (regs[s] | own) ^ own;
-    regs[t] = regs[t] | own;
-    slot[x] = t as u8;
-}
-
-// The first free slot; their number if none is.
-fn free_slot(regs: &[Mask; REGISTERS]) -> usize
-    ensures { result ≡ free_from regs.now 0 registers }
-{
-    let mut i: usize = 0;
-    while i < REGISTERS {
-        if regs[i] == 0 {
-            return i;
+    // The first free slot; their number if none is.
+    fn free_slot(&self) -> usize
+        ensures { result ≡ free_from self.now.regs 0 registers }
+    {
+        for s in 0..REGISTERS {
+            if self.regs[s] == 0 {
+                return s;
+            }
         }
-        i = i + 1;
+        REGISTERS
     }
-    i
-}
 
-// The lowest register of the lowest slot of a mask; their number if the mask is empty.
-fn register_in(regs: &[Mask; REGISTERS], slots: Mask) -> usize
-    ensures { result ≡ register_in registers regs.now slots }
-{
-    let s = name(slots);
-    if s < REGISTERS {
-        return name(regs[s]);
+    // The lowest register of the lowest slot of a mask; their number if the mask is empty.
+    fn register_in(&self, slots: Mask) -> usize
+        ensures { result ≡ register_in registers self.now.regs slots }
+    {
+        let s = name(slots);
+        if s < REGISTERS {
+            return name(self.regs[s]);
+        }
+        REGISTERS
     }
-    REGISTERS
 }
 
 // ---- a slot without registers
@@ -166,106 +183,60 @@ fn lost_slots(around: &[Mask; PAIRS], s: usize, more: Mask) -> Mask
 
 // Gives a mark to the registers whose slot is in the mask.
 fn mark_slots(slot: &[u8; REGISTERS], mark: &mut [bool; REGISTERS], slots: Mask)
-    requires { Low registers slot.now × (length mark.old ≡ registers) }
+    requires { Low registers slot.now }
     ensures { mark.new ≡ marks_in registers slot.now mark.old slots }
 {
-    let mut r: usize = 0;
-    while r < REGISTERS {
-        mark[r] = mark[r] | holds(slots, slot_of(slot, r));
-        r = r + 1;
+    for r in 0..REGISTERS {
+        mark[r] |= holds(slots, slot[r] as usize);
     }
 }
 
-// Slot s has no register any more, or one that gets a new value: it and what is below it, and `more` and what is below that, get a mark, and the
-// tables forget it.
-fn drop_slot(
-    slot: &[u8; REGISTERS],
-    unequal: &mut [Mask; REGISTERS],
-    res: &mut [Mask; RESULTS],
-    ever: &mut [Mask; LINES],
-    around: &mut [Mask; PAIRS],
-    mark: &mut [bool; REGISTERS],
-    s: usize,
-    more: Mask,
-)
-    requires { (s < registers) × Low registers slot.now
-        × SlotTableLengths registers functions unequal.old res.old ever.old × (length mark.old ≡ registers)
-        × Around registers functions res.old around.old }
-    ensures by_index { (g : List ℕ) (i : Bool) →
-        slots_of slot.now g unequal.new res.new ever.new mark.new i ≡ dropped_slots registers functions
-        (slots_of slot.now g unequal.old res.old ever.old mark.old i) s more }
-    ensures long { SlotTableLengths registers functions unequal.new res.new ever.new
-        × (length mark.new ≡ registers) }
-    ensures around { Around registers functions res.new around.new }
-{
-    mark_slots(slot, mark, lost_slots(around, s, more));
-    forget_masks(unequal, s);
-    drop_results(res, s);
-    forget_masks(ever, s);
-    drop_results(around, s);
-}
-
-// The same, if the slot is empty.
-fn leave_slot(
-    slot: &[u8; REGISTERS],
-    unequal: &mut [Mask; REGISTERS],
-    res: &mut [Mask; RESULTS],
-    ever: &mut [Mask; LINES],
-    around: &mut [Mask; PAIRS],
-    mark: &mut [bool; REGISTERS],
-    s: usize,
-    empty: bool,
-)
-    requires { (s < registers) × Low registers slot.now
-        × SlotTableLengths registers functions unequal.old res.old ever.old × (length mark.old ≡ registers)
-        × Around registers functions res.old around.old }
-    ensures by_index { (g : List ℕ) (i : Bool) →
-        slots_of slot.now g unequal.new res.new ever.new mark.new i ≡ left_slots registers functions
-        (slots_of slot.now g unequal.old res.old ever.old mark.old i) s empty }
-    ensures long { SlotTableLengths registers functions unequal.new res.new ever.new
-        × (length mark.new ≡ registers) }
-    ensures around { Around registers functions res.new around.new }
-{
-    if empty {
-        drop_slot(slot, unequal, res, ever, around, mark, s, 0);
-        return;
+impl SlotWindow {
+    // Slot s has no register any more, or one that gets a new value: it and what is below it, and `more` and what is below that, get a mark, and
+    // the tables forget it.
+    fn drop_slot(&mut self, s: usize, more: Mask)
+        requires { s < registers }
+        ensures { self.new ≡ dropped_slots registers functions self.old s more }
+    {
+        mark_slots(
+            &self.slot,
+            &mut self.mark,
+            lost_slots(&self.around, s, more),
+        );
+        forget_masks(&mut self.unequal, s);
+        drop_results(&mut self.result, s);
+        forget_masks(&mut self.ever, s);
+        drop_results(&mut self.around, s);
     }
-}
 
-// ---- a copy
-
-// Register x comes to hold what y holds.
-fn copy_slots(
-    slot: &mut [u8; REGISTERS],
-    regs: &mut [Mask; REGISTERS],
-    unequal: &mut [Mask; REGISTERS],
-    res: &mut [Mask; RESULTS],
-    ever: &mut [Mask; LINES],
-    around: &mut [Mask; PAIRS],
-    mark: &mut [bool; REGISTERS],
-    x: usize,
-    y: usize,
-)
-    requires { (x < registers) × (y < registers) × Laid registers functions slot.old regs.old unequal.old res.old ever.old mark.old
-        × Around registers functions res.old around.old }
-    ensures i_after { (i : Bool) →
-        slots_of slot.new regs.new unequal.new res.new ever.new mark.new i
-        ≡ copied_slots registers functions
-        (slots_of slot.old regs.old unequal.old res.old ever.old mark.old i) x y }
-    ensures laid { Laid registers functions slot.new regs.new unequal.new res.new ever.new
-        mark.new }
-    ensures around { Around registers functions res.new around.new }
-{
-    let s = slot_of(slot, x);
-    let t = slot_of(slot, y);
-    if s == t {
-        return;
+    // The same, if the slot is empty.
+    fn leave_slot(&mut self, s: usize, empty: bool)
+        requires { s < registers }
+        ensures { self.new ≡ left_slots registers functions self.old s empty }
+    {
+        if empty {
+            self.drop_slot(s, 0);
+        }
     }
-    let empty = regs[s] == single(x);
-    move_register(slot, regs, x, t);
-    leave_slot(slot, unequal, res, ever, around, mark, s, empty);
-    let own = mark[y];
-    mark[x] = own;
+
+    // ---- a copy
+
+    // Register x comes to hold what y holds.
+    fn copy(&mut self, x: usize, y: usize)
+        requires x_is_register { x < registers }
+        requires y_is_register { y < registers }
+        ensures { self.new ≡ copied_slots registers functions self.old x y }
+    {
+        let s = self.slot_of(x);
+        let t = self.slot_of(y);
+        if s == t {
+            return;
+        }
+        let empty = self.regs[s] == single(x);
+        self.move_register(x, t);
+        self.leave_slot(s, empty);
+        self.mark[x] = self.mark[y];
+    }
 }
 
 // ---- an application
@@ -281,163 +252,92 @@ fn arguments(s: usize, a: usize, b: usize) -> Mask
     0
 }
 
-// Slot n holds the result of f at slots a and b, unless it took the place of one of them.
-fn hold_result(
-    res: &mut [Mask; RESULTS],
-    ever: &mut [Mask; LINES],
-    around: &mut [Mask; PAIRS],
-    f: usize,
-    a: usize,
-    b: usize,
-    n: usize,
-)
-    requires { (f < functions) × (a < registers) × (b < registers) × (n < registers) × (length res.old ≡ results) × (length ever.old ≡ lines)
-        × (length around.old ≡ register_pairs) }
-    ensures res_after { res.new ≡ result_recorded registers f a b n res.old }
-    ensures ever { ever.new ≡ ever_recorded registers f a b n ever.old }
-    ensures around { around.new ≡ pair_recorded registers a b n around.old }
-{
-    if (a == n) | (b == n) {
-        return;
+impl SlotWindow {
+    // Slot n holds the result of f at slots a and b, unless it took the place of one of them, and register x has no mark.
+    fn record(&mut self, x: usize, f: usize, a: usize, b: usize, n: usize)
+        requires x_is_register { x < registers }
+        requires f_is_function { f < functions }
+        requires a_is_slot { a < registers }
+        requires b_is_slot { b < registers }
+        requires n_is_slot { n < registers }
+        ensures { self.new ≡ recorded_slots registers functions self.old x f a b n }
+    {
+        self.mark[x] = false;
+        if (a == n) | (b == n) {
+            return;
+        }
+        let line = REGISTERS * f + a;
+        let place = REGISTERS * line + b;
+        let pair = REGISTERS * a + b;
+        let turned = REGISTERS * b + a;
+        self.result[place] |= single(n);
+        self.ever[line] |= single(b);
+        self.around[pair] |= single(n);
+        self.around[turned] |= single(n);
     }
-    let line = REGISTERS * f + a;
-    let place = REGISTERS * line + b;
-    let pair = REGISTERS * a + b;
-    let turned = REGISTERS * b + a;
-    res[place] = res[place] | single(n);
-    ever[line] = ever[line] | single(b);
-    around[pair] = around[pair] | single(n);
-    around[turned] = around[turned] | single(n);
-}
 
-// Register x, alone in its slot, gets the value of f at slots a and b.
-fn renew(
-    slot: &[u8; REGISTERS],
-    unequal: &mut [Mask; REGISTERS],
-    res: &mut [Mask; RESULTS],
-    ever: &mut [Mask; LINES],
-    around: &mut [Mask; PAIRS],
-    mark: &mut [bool; REGISTERS],
-    x: usize,
-    f: usize,
-    a: usize,
-    b: usize,
-)
-    requires { (x < registers) × (f < functions) × (a < registers) × (b < registers) × Low registers slot.now
-        × SlotTableLengths registers functions unequal.old res.old ever.old × (length mark.old ≡ registers)
-        × Around registers functions res.old around.old }
-    ensures by_index { (g : List ℕ) (i : Bool) →
-        slots_of slot.now g unequal.new res.new ever.new mark.new i ≡ renewed_slots registers functions
-        (slots_of slot.now g unequal.old res.old ever.old mark.old i) x f a b }
-    ensures long { SlotTableLengths registers functions unequal.new res.new ever.new
-        × (length mark.new ≡ registers) }
-    ensures around { Around registers functions res.new around.new }
-{
-    let s = slot_of(slot, x);
-    let more = arguments(s, a, b);
-    drop_slot(slot, unequal, res, ever, around, mark, s, more);
-    hold_result(res, ever, around, f, a, b, s);
-    mark[x] = false;
-}
-
-// Register x leaves its slot to others, and gets the value of f at slots a and b in a free one.
-fn freshen(
-    slot: &mut [u8; REGISTERS],
-    regs: &mut [Mask; REGISTERS],
-    res: &mut [Mask; RESULTS],
-    ever: &mut [Mask; LINES],
-    around: &mut [Mask; PAIRS],
-    mark: &mut [bool; REGISTERS],
-    x: usize,
-    f: usize,
-    a: usize,
-    b: usize,
-)
-    requires { (x < registers) × (f < functions) × (a < registers) × (b < registers)
-        × Low registers slot.old × (length regs.old ≡ registers) × (length res.old ≡ results)
-        × (length ever.old ≡ lines) × (length mark.old ≡ registers)
-        × Around registers functions res.old around.old }
-    ensures by_index { (u : List ℕ) (i : Bool) → slots_of slot.new regs.new u res.new ever.new mark.new i
-        ≡ freshened_slots registers functions
-        (slots_of slot.old regs.old u res.old ever.old mark.old i) x f a b }
-    ensures laid { (u : List ℕ) → length u ≡ registers → Laid registers functions slot.new regs.new u res.new
-        ever.new mark.new }
-    ensures around { Around registers functions res.new around.new }
-{
-    let n = free_slot(regs);
-    if n < REGISTERS {
-        move_register(slot, regs, x, n);
-        hold_result(res, ever, around, f, a, b, n);
-        mark[x] = false;
-        return;
+    // Register x, alone in its slot, gets the value of f at slots a and b.
+    fn renew(&mut self, x: usize, f: usize, a: usize, b: usize)
+        requires x_is_register { x < registers }
+        requires f_is_function { f < functions }
+        requires a_is_slot { a < registers }
+        requires b_is_slot { b < registers }
+        ensures { self.new ≡ renewed_slots registers functions self.old x f a b }
+    {
+        let s = self.slot_of(x);
+        let more = arguments(s, a, b);
+        self.drop_slot(s, more);
+        self.record(x, f, a, b, s);
     }
-}
 
-// Register x gets the value of f at slots a and b, which was never computed.
-fn new_value(
-    slot: &mut [u8; REGISTERS],
-    regs: &mut [Mask; REGISTERS],
-    unequal: &mut [Mask; REGISTERS],
-    res: &mut [Mask; RESULTS],
-    ever: &mut [Mask; LINES],
-    around: &mut [Mask; PAIRS],
-    mark: &mut [bool; REGISTERS],
-    x: usize,
-    f: usize,
-    a: usize,
-    b: usize,
-)
-    requires { (x < registers) × (f < functions) × (a < registers) × (b < registers)
-        × Laid registers functions slot.old regs.old unequal.old res.old ever.old mark.old
-        × Around registers functions res.old around.old }
-    ensures i_after { (i : Bool) →
-        slots_of slot.new regs.new unequal.new res.new ever.new mark.new i
-        ≡ new_slots registers functions
-        (slots_of slot.old regs.old unequal.old res.old ever.old mark.old i) x f a b }
-    ensures laid { Laid registers functions slot.new regs.new unequal.new res.new ever.new
-        mark.new }
-    ensures around { Around registers functions res.new around.new }
-{
-    if regs[slot_of(slot, x)] == single(x) {
-        renew(slot, unequal, res, ever, around, mark, x, f, a, b);
-        return;
+    // Register x leaves its slot to others, and gets the value of f at slots a and b in a free one.
+    fn freshen(&mut self, x: usize, f: usize, a: usize, b: usize)
+        requires x_is_register { x < registers }
+        requires f_is_function { f < functions }
+        requires a_is_slot { a < registers }
+        requires b_is_slot { b < registers }
+        ensures { self.new ≡ freshened_slots registers functions self.old x f a b }
+    {
+        let n = self.free_slot();
+        if n < REGISTERS {
+            self.move_register(x, n);
+            self.record(x, f, a, b, n);
+        }
     }
-    freshen(slot, regs, res, ever, around, mark, x, f, a, b);
-}
 
-// The slots after x := f(y, z).
-fn apply_slots(
-    slot: &mut [u8; REGISTERS],
-    regs: &mut [Mask; REGISTERS],
-    unequal: &mut [Mask; REGISTERS],
-    res: &mut [Mask; RESULTS],
-    ever: &mut [Mask; LINES],
-    around: &mut [Mask; PAIRS],
-    mark: &mut [bool; REGISTERS],
-    x: usize,
-    f: usize,
-    y: usize,
-    z: usize,
-)
-    requires { (x < registers) × (f < functions) × (y < registers) × (z < registers)
-        × Laid registers functions slot.old regs.old unequal.old res.old ever.old mark.old
-        × Around registers functions res.old around.old }
-    ensures i_after { (i : Bool) →
-        slots_of slot.new regs.new unequal.new res.new ever.new mark.new i
-        ≡ apply_slots registers functions
-        (slots_of slot.old regs.old unequal.old res.old ever.old mark.old i) x f y z }
-    ensures laid { Laid registers functions slot.new regs.new unequal.new res.new ever.new
-        mark.new }
-    ensures around { Around registers functions res.new around.new }
-{
-    let a = slot_of(slot, y);
-    let b = slot_of(slot, z);
-    let r = register_in(regs, res[REGISTERS * (REGISTERS * f + a) + b]);
-    if r < REGISTERS {
-        copy_slots(slot, regs, unequal, res, ever, around, mark, x, r);
-        return;
+    // Register x gets the value of f at slots a and b, which was never computed.
+    fn new_value(&mut self, x: usize, f: usize, a: usize, b: usize)
+        requires x_is_register { x < registers }
+        requires f_is_function { f < functions }
+        requires a_is_slot { a < registers }
+        requires b_is_slot { b < registers }
+        ensures { self.new ≡ new_slots registers functions self.old x f a b }
+    {
+        let s = self.slot_of(x);
+        if self.regs[s] == single(x) {
+            self.renew(x, f, a, b);
+        } else {
+            self.freshen(x, f, a, b);
+        }
     }
-    new_value(slot, regs, unequal, res, ever, around, mark, x, f, a, b);
+
+    // The slots after x := f(y, z).
+    fn apply(&mut self, x: usize, f: usize, y: usize, z: usize)
+        requires x_is_register { x < registers }
+        requires f_is_function { f < functions }
+        requires y_is_register { y < registers }
+        requires z_is_register { z < registers }
+        ensures { self.new ≡ apply_slots registers functions self.old x f y z }
+    {
+        let a = self.slot_of(y);
+        let b = self.slot_of(z);
+        let r = self.register_in(self.result[REGISTERS * (REGISTERS * f + a) + b]);
+        if r < REGISTERS {
+            self.copy(x, r);
+        } else {
+            self.new_value(x, f, a, b);
+        }
+    }
 }
 
 // ---- an equal test
@@ -493,36 +393,6 @@ fn rename_pairs(around: &mut [Mask; PAIRS], a: usize, b: usize)
     drop_results(around, b);
 }
 
-// The registers of slot b go to slot a.
-fn merge_slots(
-    slot: &mut [u8; REGISTERS],
-    regs: &mut [Mask; REGISTERS],
-    unequal: &mut [Mask; REGISTERS],
-    res: &mut [Mask; RESULTS],
-    ever: &mut [Mask; LINES],
-    around: &mut [Mask; PAIRS],
-    a: usize,
-    b: usize,
-)
-    requires { (a < registers) × (b < registers) × Low registers slot.old × (length regs.old ≡ registers)
-        × SlotTableLengths registers functions unequal.old res.old ever.old
-        × Around registers functions res.old around.old }
-    ensures i_after { (m : List Bool) (i : Bool) →
-        slots_of slot.new regs.new unequal.new res.new ever.new m i ≡ merged_slots registers functions
-        (slots_of slot.old regs.old unequal.old res.old ever.old m i) a b }
-    ensures long { Low registers slot.new × (length regs.new ≡ registers)
-        × SlotTableLengths registers functions unequal.new res.new ever.new }
-    ensures around { Around registers functions res.new around.new }
-{
-    regs[a] = regs[a] | regs[b];
-    regs[b] = 0;
-    rename_slot(slot, a, b);
-    rename_masks(unequal, a, b);
-    rename_results(res, a, b);
-    rename_masks(ever, a, b);
-    rename_pairs(around, a, b);
-}
-
 // Whether the mask has two slots or more.
 fn many(m: Mask) -> bool
     ensures { result ≡ many_of registers m }
@@ -556,82 +426,79 @@ fn pulled(regs: &[Mask; REGISTERS], slots: Mask) -> Mask
     m
 }
 
-// The slots that hold the result at place k of a window.
-fn entry(slot: &[u8; REGISTERS], regs: &[Mask; REGISTERS], res: &[Mask; RESULTS], k: usize) -> Mask
-    requires { (k < results) × Low registers slot.now }
-    ensures { result ≡ entry_of registers slot.now regs.now res.now k }
-{
-    let a = k / REGISTERS % REGISTERS;
-    let b = k % REGISTERS;
-    if held(slot, regs, a) & held(slot, regs, b) {
-        let line = REGISTERS * (k / PAIRS) + slot_of(slot, a);
-        return res[REGISTERS * line + slot_of(slot, b)];
+impl SlotWindow {
+    // The registers of slot b go to slot a.
+    fn merge(&mut self, a: usize, b: usize)
+        requires a_is_slot { a < registers }
+        requires b_is_slot { b < registers }
+        ensures { self.new ≡ merged_slots registers functions self.old a b }
+    {
+        self.regs[a] |= self.regs[b];
+        self.regs[b] = 0;
+        rename_slot(&mut self.slot, a, b);
+        rename_masks(&mut self.unequal, a, b);
+        rename_results(&mut self.result, a, b);
+        rename_masks(&mut self.ever, a, b);
+        rename_pairs(&mut self.around, a, b);
     }
-    0
-}
 
-// The registers of the first result of a window that is in two slots, or the empty mask.
-fn find(slot: &[u8; REGISTERS], regs: &[Mask; REGISTERS], res: &[Mask; RESULTS]) -> Mask
-    requires { Low registers slot.now }
-    ensures { result ≡ find_slots registers slot.now regs.now res.now 0 results }
-{
-    let mut i: usize = 0;
-    while i < RESULTS {
-        let slots = entry(slot, regs, res, i);
-        if many(slots) {
-            return pulled(regs, slots);
+    // The slots that hold the result at place k of a window.
+    fn entry(&self, k: usize) -> Mask
+        requires { k < results }
+        ensures { result ≡ entry_of registers self.now.slot self.now.regs self.now.result k }
+    {
+        let a = k / REGISTERS % REGISTERS;
+        let b = k % REGISTERS;
+        if self.held(a) & self.held(b) {
+            let line = REGISTERS * (k / PAIRS) + self.slot_of(a);
+            return self.result[REGISTERS * line + self.slot_of(b)];
         }
-        i = i + 1;
+        0
     }
-    0
-}
 
-// The registers of the mask that are not in the slot of the given one.
-fn rest(slot: &[u8; REGISTERS], regs: &[Mask; REGISTERS], m: Mask, one: usize) -> Mask
-    requires { (one < registers) × Low registers slot.now }
-    ensures { result ≡ minus m (get_or regs.now (slot_of slot.now one) 0) }
-{
-    let own = regs[slot_of(slot, one)];
-    (m | own) ^ own
-}
+    // The registers of the first result of a window that is in two slots, or the empty mask.
+    fn find(&self) -> Mask
+        ensures { result ≡ find_slots registers self.now.slot self.now.regs self.now.result 0 results }
+    {
+        for k in 0..RESULTS {
+            let slots = self.entry(k);
+            if many(slots) {
+                return pulled(&self.regs, slots);
+            }
+        }
+        0
+    }
 
-// Makes slots one until no result is in two of them: in the order of a window's closing.
-fn close_slots(
-    slot: &mut [u8; REGISTERS],
-    regs: &mut [Mask; REGISTERS],
-    unequal: &mut [Mask; REGISTERS],
-    res: &mut [Mask; RESULTS],
-    ever: &mut [Mask; LINES],
-    around: &mut [Mask; PAIRS],
-)
-    requires { Low registers slot.old × (length regs.old ≡ registers) × SlotTableLengths registers functions unequal.old res.old ever.old
-        × Around registers functions res.old around.old }
-    ensures i_after { (m : List Bool) (i : Bool) →
-        slots_of slot.new regs.new unequal.new res.new
-        ever.new m i ≡ closed_slots registers functions (register_pairs + 1) (slots_of slot.old regs.old unequal.old
-        res.old ever.old m i) }
-    ensures long { Low registers slot.new × (length regs.new ≡ registers)
-        × SlotTableLengths registers functions unequal.new res.new ever.new }
-    ensures around { Around registers functions res.new around.new }
-{
-    let mut fuel: usize = PAIRS + 1;
-    while fuel > 0 {
-        if !doubled(res) {
-            return;
+    // The registers of the mask that are not in the slot of the given one.
+    fn rest(&self, m: Mask, one: usize) -> Mask
+        requires { one < registers }
+        ensures { result ≡ minus m (get_or self.now.regs (slot_of self.now.slot one) 0) }
+    {
+        let own = self.regs[self.slot_of(one)];
+        (m | own) ^ own
+    }
+
+    // Makes slots one until no result is in two of them: in the order of a window's closing.
+    fn close(&mut self)
+        ensures { self.new ≡ closed_slots registers functions (register_pairs + 1) self.old }
+    {
+        for _turn in 0..PAIRS + 1 {
+            if !doubled(&self.result) {
+                return;
+            }
+            let m = self.find();
+            let one = name(m);
+            if one >= REGISTERS {
+                return;
+            }
+            let two = name(self.rest(m, one));
+            if two >= REGISTERS {
+                return;
+            }
+            let a = self.slot_of(one);
+            let b = self.slot_of(two);
+            self.merge(a, b);
         }
-        let m = find(slot, regs, res);
-        let one = name(m);
-        if one >= REGISTERS {
-            return;
-        }
-        let two = name(rest(slot, regs, m, one));
-        if two >= REGISTERS {
-            return;
-        }
-        let a = slot_of(slot, one);
-        let b = slot_of(slot, two);
-        merge_slots(slot, regs, unequal, res, ever, around, a, b);
-        fuel = fuel - 1;
     }
 }
 
@@ -648,338 +515,212 @@ fn clash(unequal: &[Mask; REGISTERS]) -> bool
     bad
 }
 
-// Whether the slots are infeasible. Infeasible ones have no unequal pairs.
-fn settle(unequal: &mut [Mask; REGISTERS], infeasible: bool, bad: bool) -> bool
-    ensures result_after { (s g r e : List ℕ) (m : List Bool) → slots_of s g unequal.new r e m result ≡ settled_slots registers functions
-        (slots_of s g unequal.old r e m infeasible) bad }
-    ensures long { length unequal.old ≡ registers → length unequal.new ≡ registers }
-{
-    if infeasible | bad {
-        *unequal = [0; REGISTERS];
-        return true;
-    }
-    infeasible
-}
-
-// The slots after the test x = y. Answers whether they are infeasible.
-fn equal_slots(
-    slot: &mut [u8; REGISTERS],
-    regs: &mut [Mask; REGISTERS],
-    unequal: &mut [Mask; REGISTERS],
-    res: &mut [Mask; RESULTS],
-    ever: &mut [Mask; LINES],
-    around: &mut [Mask; PAIRS],
-    infeasible: bool,
-    x: usize,
-    y: usize,
-) -> bool
-    requires { (x < registers) × (y < registers) × Low registers slot.old × (length regs.old ≡ registers)
-        × SlotTableLengths registers functions unequal.old res.old ever.old
-        × Around registers functions res.old around.old }
-    ensures result_after { (m : List Bool) → slots_of slot.new regs.new unequal.new res.new ever.new m result
-        ≡ equal_slots registers functions
-        (slots_of slot.old regs.old unequal.old res.old ever.old m infeasible) x y }
-    ensures long { Low registers slot.new × (length regs.new ≡ registers)
-        × SlotTableLengths registers functions unequal.new res.new ever.new }
-    ensures around { Around registers functions res.new around.new }
-{
-    let a = slot_of(slot, x);
-    let b = slot_of(slot, y);
-    if a == b {
-        return infeasible;
-    }
-    merge_slots(slot, regs, unequal, res, ever, around, a, b);
-    close_slots(slot, regs, unequal, res, ever, around);
-    let bad = clash(unequal);
-    settle(unequal, infeasible, bad)
-}
-
-// ---- an unequal test
-
-// Slots a and b are put apart.
-fn part_slots(unequal: &mut [Mask; REGISTERS], a: usize, b: usize)
-    requires { (a < registers) × (b < registers) × (length unequal.old ≡ registers) }
-    ensures { unequal.new ≡ apart_slots unequal.old a b }
-{
-    unequal[a] = unequal[a] | single(b);
-    unequal[b] = unequal[b] | single(a);
-}
-
-// The slots after the test x != y. Answers whether they are infeasible.
-fn unequal_slots(
-    slot: &[u8; REGISTERS],
-    unequal: &mut [Mask; REGISTERS],
-    infeasible: bool,
-    x: usize,
-    y: usize,
-) -> bool
-    requires { (x < registers) × (y < registers) × Low registers slot.now × (length unequal.old ≡ registers) }
-    ensures by_index { (g r e : List ℕ) (m : List Bool) → slots_of slot.now g unequal.new r e m result ≡ unequal_slots registers functions
-        (slots_of slot.now g unequal.old r e m infeasible) x y }
-    ensures long { length unequal.new ≡ registers }
-{
-    let a = slot_of(slot, x);
-    let b = slot_of(slot, y);
-    part_slots(unequal, a, b);
-    settle(unequal, infeasible, a == b)
-}
-
-// ---- a letter
-
-// Whether x := f(y, z) is coherent: a slot holds its value, or it was never computed ("memoizing").
-fn memoizing(
-    slot: &[u8; REGISTERS],
-    res: &[Mask; RESULTS],
-    ever: &[Mask; LINES],
-    f: usize,
-    y: usize,
-    z: usize,
-) -> bool
-    requires { (f < functions) × (y < registers) × (z < registers) × Low registers slot.now }
-    ensures { result ≡ memoizing_slots registers slot.now res.now ever.now f y z }
-{
-    let b = slot_of(slot, z);
-    let line = REGISTERS * f + slot_of(slot, y);
-    if holds(ever[line], b) {
-        return inhabited(res[REGISTERS * line + b]);
-    }
-    true
-}
-
-// Whether the test x = y is coherent: nothing above either side is lost ("early"), or the sides are equal already.
-fn early(slot: &[u8; REGISTERS], mark: &[bool; REGISTERS], x: usize, y: usize) -> bool
-    requires { (x < registers) × (y < registers) × Low registers slot.now }
-    ensures { result ≡ early_slots slot.now mark.now x y }
-{
-    if mark[x] | mark[y] {
-        return slot_of(slot, x) == slot_of(slot, y);
-    }
-    true
-}
-
-/// Whether the letter is coherent after a trace with the window of these slots. Its registers lie below REGISTERS and its function below FUNCTIONS.
-pub fn judge_slots(
-    slot: &[u8; REGISTERS],
-    res: &[Mask; RESULTS],
-    ever: &[Mask; LINES],
-    mark: &[bool; REGISTERS],
-    letter: Letter,
-) -> bool
-    requires { WithinPacking letter × Low registers slot.now }
-    ensures { (g u : List ℕ) (i : Bool) → result ≡ judge_slots registers functions
-        (slots_of slot.now g u res.now ever.now mark.now i) letter }
-{
-    match letter {
-        Letter::Copy {
-            target: _,
-            source: _,
-        } => true,
-        Letter::Apply {
-            target: _,
-            function,
-            first,
-            second,
-        } => memoizing(
-            slot,
-            res,
-            ever,
-            function as usize,
-            first as usize,
-            second as usize,
-        ),
-        Letter::Equal { first, second } => early(slot, mark, first as usize, second as usize),
-        Letter::Unequal {
-            first: _,
-            second: _,
-        } => true,
-    }
-}
-
-/// Performs a letter that is coherent, and answers whether the slots are infeasible then. Its registers lie below REGISTERS and its function below FUNCTIONS.
-pub fn perform_slots(
-    slot: &mut [u8; REGISTERS],
-    regs: &mut [Mask; REGISTERS],
-    unequal: &mut [Mask; REGISTERS],
-    res: &mut [Mask; RESULTS],
-    ever: &mut [Mask; LINES],
-    around: &mut [Mask; PAIRS],
-    mark: &mut [bool; REGISTERS],
-    infeasible: bool,
-    letter: Letter,
-) -> bool
-    requires { WithinPacking letter × Laid registers functions slot.old regs.old unequal.old res.old ever.old mark.old
-        × Around registers functions res.old around.old }
-    ensures result_after { slots_of slot.new regs.new unequal.new res.new ever.new mark.new result
-        ≡ perform_slots registers functions
-        (slots_of slot.old regs.old unequal.old res.old ever.old
-        mark.old infeasible) letter }
-    ensures laid { Laid registers functions slot.new regs.new unequal.new res.new ever.new
-        mark.new }
-    ensures around { Around registers functions res.new around.new }
-{
-    match letter {
-        Letter::Copy { target, source } => {
-            copy_slots(
-                slot,
-                regs,
-                unequal,
-                res,
-                ever,
-                around,
-                mark,
-                target as usize,
-                source as usize,
-            );
-            infeasible
+impl SlotWindow {
+    // The slots are infeasible, if they were or something is bad. Infeasible ones have no unequal pairs.
+    fn settle(&mut self, bad: bool)
+        ensures { self.new ≡ settled_slots registers functions self.old bad }
+    {
+        if self.infeasible | bad {
+            self.unequal = [0; REGISTERS];
+            self.infeasible = true;
         }
-        Letter::Apply {
-            target,
-            function,
-            first,
-            second,
-        } => {
-            apply_slots(
-                slot,
-                regs,
-                unequal,
-                res,
-                ever,
-                around,
-                mark,
+    }
+
+    // The slots after the test x = y.
+    fn equal(&mut self, x: usize, y: usize)
+        requires x_is_register { x < registers }
+        requires y_is_register { y < registers }
+        ensures { self.new ≡ equal_slots registers functions self.old x y }
+    {
+        let a = self.slot_of(x);
+        let b = self.slot_of(y);
+        if a == b {
+            return;
+        }
+        self.merge(a, b);
+        self.close();
+        let bad = clash(&self.unequal);
+        self.settle(bad);
+    }
+
+    // ---- an unequal test
+
+    // Slots a and b are put apart.
+    fn part(&mut self, a: usize, b: usize)
+        requires a_is_slot { a < registers }
+        requires b_is_slot { b < registers }
+        ensures { self.new ≡ slots_with_unequal self.old (apart_slots self.old.unequal a b) self.old.infeasible }
+    {
+        self.unequal[a] |= single(b);
+        self.unequal[b] |= single(a);
+    }
+
+    // The slots after the test x != y.
+    fn unequal(&mut self, x: usize, y: usize)
+        requires x_is_register { x < registers }
+        requires y_is_register { y < registers }
+        ensures { self.new ≡ unequal_slots registers functions self.old x y }
+    {
+        let a = self.slot_of(x);
+        let b = self.slot_of(y);
+        self.part(a, b);
+        self.settle(a == b);
+    }
+
+    // ---- a letter
+
+    // Whether x := f(y, z) is coherent: a slot holds its value, or it was never computed ("memoizing").
+    fn memoizing(&self, f: usize, y: usize, z: usize) -> bool
+        requires f_is_function { f < functions }
+        requires y_is_register { y < registers }
+        requires z_is_register { z < registers }
+        ensures { result ≡ memoizing_slots registers self.now.slot self.now.result self.now.ever f y z }
+    {
+        let b = self.slot_of(z);
+        let line = REGISTERS * f + self.slot_of(y);
+        if holds(self.ever[line], b) {
+            return inhabited(self.result[REGISTERS * line + b]);
+        }
+        true
+    }
+
+    // Whether the test x = y is coherent: nothing above either side is lost ("early"), or the sides are equal already.
+    fn early(&self, x: usize, y: usize) -> bool
+        requires x_is_register { x < registers }
+        requires y_is_register { y < registers }
+        ensures { result ≡ early_slots self.now.slot self.now.mark x y }
+    {
+        if self.mark[x] | self.mark[y] {
+            return self.slot_of(x) == self.slot_of(y);
+        }
+        true
+    }
+
+    /// Whether the letter is coherent after a trace with the window of these slots. Its registers lie below REGISTERS and its function below FUNCTIONS.
+    pub fn judge(&self, letter: Letter) -> bool
+        requires { WithinPacking letter }
+        ensures { result ≡ judge_slots registers functions self.now letter }
+    {
+        match letter {
+            Letter::Copy { .. } | Letter::Unequal { .. } => true,
+            Letter::Apply {
+                function,
+                first,
+                second,
+                ..
+            } => self.memoizing(function as usize, first as usize, second as usize),
+            Letter::Equal { first, second } => self.early(first as usize, second as usize),
+        }
+    }
+
+    /// Performs a letter that is coherent. Its registers lie below REGISTERS and its function below FUNCTIONS.
+    pub fn perform(&mut self, letter: Letter)
+        requires { WithinPacking letter }
+        ensures { self.new ≡ perform_slots registers functions self.old letter }
+    {
+        match letter {
+            Letter::Copy { target, source } => self.copy(target as usize, source as usize),
+            Letter::Apply {
+                target,
+                function,
+                first,
+                second,
+            } => self.apply(
                 target as usize,
                 function as usize,
                 first as usize,
                 second as usize,
-            );
-            infeasible
+            ),
+            Letter::Equal { first, second } => self.equal(first as usize, second as usize),
+            Letter::Unequal { first, second } => self.unequal(first as usize, second as usize),
         }
-        Letter::Equal { first, second } => equal_slots(
-            slot,
-            regs,
+    }
+
+    /// Whether the trace is infeasible.
+    pub fn infeasible(&self) -> bool
+        ensures { result ≡ self.now.infeasible }
+    {
+        self.infeasible
+    }
+
+    // ---- the window of slots
+
+    // The class of each register.
+    fn pull_classes(&self) -> [Mask; REGISTERS]
+        ensures { result ≡ pulled_classes registers self.now.slot self.now.regs }
+    {
+        let mut next = [0; REGISTERS];
+        for r in 0..REGISTERS {
+            let own = self.regs[self.slot_of(r)];
+            next[r] = part(own, own, r);
+        }
+        next
+    }
+
+    // The mask at entry k of a window's table, where t is the table of slots.
+    fn pulled_entry(&self, t: &[Mask], k: usize) -> Mask
+        requires k_is_entry { k < length t.now }
+        requires t_in_lines { length t.now % registers ≡ 0 }
+        ensures { result ≡ pulled_at registers self.now.slot self.now.regs t.now k }
+    {
+        let r = k % REGISTERS;
+        if self.held(r) {
+            return pulled(&self.regs, t[REGISTERS * (k / REGISTERS) + self.slot_of(r)]);
+        }
+        0
+    }
+
+    // A window's table of masks, from the table of slots.
+    fn pull_masks(&self, t: &[Mask], next: &mut [Mask])
+        requires next_as_long { length next.old ≡ length t.now }
+        requires t_in_lines { length t.now % registers ≡ 0 }
+        ensures { next.new ≡ pulled_masks registers self.now.slot self.now.regs t.now (length t.now) }
+    {
+        for k in 0..next.len() {
+            next[k] = self.pulled_entry(t, k);
+        }
+    }
+
+    fn pull_results(&self) -> [Mask; RESULTS]
+        ensures { result ≡ pulled_results registers self.now.slot self.now.regs self.now.result results }
+    {
+        let mut next = [0; RESULTS];
+        for k in 0..RESULTS {
+            next[k] = pulled(&self.regs, self.entry(k));
+        }
+        next
+    }
+
+    // The marks of the registers that have a slot.
+    fn pull_marks(&self) -> [bool; REGISTERS]
+        ensures { result ≡ pulled_marks registers self.now.slot self.now.regs self.now.mark }
+    {
+        let mut next = [false; REGISTERS];
+        for r in 0..REGISTERS {
+            next[r] = self.held(r) & self.mark[r];
+        }
+        next
+    }
+
+    /// The window of slots.
+    pub fn window(&self) -> Window
+        ensures { result ≡ window_of registers functions self.now }
+    {
+        let class = self.pull_classes();
+        let mut unequal = [0; REGISTERS];
+        self.pull_masks(&self.unequal, &mut unequal);
+        let mut ever = [0; LINES];
+        self.pull_masks(&self.ever, &mut ever);
+        let classes = counted_classes(&class);
+        Window {
+            class,
             unequal,
-            res,
+            result: self.pull_results(),
             ever,
-            around,
-            infeasible,
-            first as usize,
-            second as usize,
-        ),
-        Letter::Unequal { first, second } => unequal_slots(
-            slot,
-            unequal,
-            infeasible,
-            first as usize,
-            second as usize,
-        ),
-    }
-}
-
-// ---- the window of slots
-
-// The class of each register.
-fn pull_classes(slot: &[u8; REGISTERS], regs: &[Mask; REGISTERS]) -> [Mask; REGISTERS]
-    requires { Low registers slot.now }
-    ensures { result ≡ pulled_classes registers slot.now regs.now }
-{
-    let mut next: [Mask; REGISTERS] = [0; REGISTERS];
-    let mut r: usize = 0;
-    while r < REGISTERS {
-        let own = regs[slot_of(slot, r)];
-        next[r] = part(own, own, r);
-        r = r + 1;
-    }
-    next
-}
-
-// The mask at entry k of a window's table, where t is the table of slots.
-fn pulled_entry(slot: &[u8; REGISTERS], regs: &[Mask; REGISTERS], t: &[Mask], k: usize) -> Mask
-    requires { (k < length t.now) × (length t.now % registers ≡ 0) × Low registers slot.now }
-    ensures { result ≡ pulled_at registers slot.now regs.now t.now k }
-{
-    let r = k % REGISTERS;
-    if held(slot, regs, r) {
-        return pulled(regs, t[REGISTERS * (k / REGISTERS) + slot_of(slot, r)]);
-    }
-    0
-}
-
-// A window's table of masks, from the table of slots.
-fn pull_masks(slot: &[u8; REGISTERS], regs: &[Mask; REGISTERS], t: &[Mask], next: &mut [Mask])
-    requires { (length next.old ≡ length t.now) × (length t.now % registers ≡ 0) × Low registers slot.now }
-    ensures { next.new ≡ pulled_masks registers slot.now regs.now t.now (length t.now) }
-{
-    let mut k: usize = 0;
-    while k < next.len() {
-        next[k] = pulled_entry(slot, regs, t, k);
-        k = k + 1;
-    }
-}
-
-fn pull_results(
-    slot: &[u8; REGISTERS],
-    regs: &[Mask; REGISTERS],
-    res: &[Mask; RESULTS],
-) -> [Mask; RESULTS]
-    requires { Low registers slot.now }
-    ensures { result ≡ pulled_results registers slot.now regs.now res.now results }
-{
-    let mut next: [Mask; RESULTS] = [0; RESULTS];
-    let mut k: usize = 0;
-    while k < RESULTS {
-        next[k] = pulled(regs, entry(slot, regs, res, k));
-        k = k + 1;
-    }
-    next
-}
-
-// The marks of the registers that have a slot.
-fn pull_marks(
-    slot: &[u8; REGISTERS],
-    regs: &[Mask; REGISTERS],
-    mark: &[bool; REGISTERS],
-) -> [bool; REGISTERS]
-    requires { Low registers slot.now }
-    ensures { result ≡ pulled_marks registers slot.now regs.now mark.now }
-{
-    let mut next: [bool; REGISTERS] = [false; REGISTERS];
-    let mut r: usize = 0;
-    while r < REGISTERS {
-        next[r] = held(slot, regs, r) & mark[r];
-        r = r + 1;
-    }
-    next
-}
-
-/// The window of slots.
-pub fn to_window(
-    slot: &[u8; REGISTERS],
-    regs: &[Mask; REGISTERS],
-    unequal: &[Mask; REGISTERS],
-    res: &[Mask; RESULTS],
-    ever: &[Mask; LINES],
-    mark: &[bool; REGISTERS],
-    infeasible: bool,
-) -> Window
-    requires { Low registers slot.now }
-    ensures { result ≡ window_of registers functions
-        (slots_of slot.now regs.now unequal.now res.now ever.now mark.now infeasible) }
-{
-    let class = pull_classes(slot, regs);
-    let mut apart: [Mask; REGISTERS] = [0; REGISTERS];
-    pull_masks(slot, regs, unequal, &mut apart);
-    let mut computed: [Mask; LINES] = [0; LINES];
-    pull_masks(slot, regs, ever, &mut computed);
-    let known = pull_results(slot, regs, res);
-    let marks = pull_marks(slot, regs, mark);
-    let classes = counted_classes(&class);
-    Window {
-        class,
-        unequal: apart,
-        result: known,
-        ever: computed,
-        mark: marks,
-        infeasible,
-        classes,
+            mark: self.pull_marks(),
+            infeasible: self.infeasible,
+            classes,
+        }
     }
 }
 
@@ -988,27 +729,23 @@ pub fn to_window(
 // What the functions of this part compute is free: `represents` decides whether the slots are those of the window.
 
 // The slot of a class is its lowest register.
-fn name_slots(class: &[Mask; REGISTERS], slot: &mut [u8; REGISTERS])
-    requires { length slot.old ≡ registers }
-    ensures { Low registers slot.new }
+fn name_slots(class: &[Mask; REGISTERS]) -> [u8; REGISTERS]
+    ensures { Low registers result }
 {
-    let mut r: usize = 0;
-    while r < REGISTERS {
+    let mut slot = [0; REGISTERS];
+    for r in 0..REGISTERS {
         slot[r] = (name(class[r]) % REGISTERS) as u8;
-        r = r + 1;
     }
+    slot
 }
 
 // The registers of each slot.
-fn group(class: &[Mask; REGISTERS], regs: &mut [Mask; REGISTERS], lowest: Mask)
-    requires { length regs.old ≡ registers }
-    ensures { length regs.new ≡ registers }
-{
-    let mut s: usize = 0;
-    while s < REGISTERS {
+fn group(class: &[Mask; REGISTERS], lowest: Mask) -> [Mask; REGISTERS] {
+    let mut regs = [0; REGISTERS];
+    for s in 0..REGISTERS {
         regs[s] = part(lowest, class[s], s);
-        s = s + 1;
     }
+    regs
 }
 
 // What is left of the mask at entry k, if only the slots of `used` are kept: there, and as what the entry stands at.
@@ -1031,32 +768,8 @@ fn keep(t: &mut [Mask], used: Mask, step: usize)
     }
 }
 
-/// Slots for a window, whose classes are given and whose other tables are lent. What it computes is free, but for slots below REGISTERS: `represents` decides
-/// whether they are the window's.
-pub fn to_slots(
-    class: &[Mask; REGISTERS],
-    slot: &mut [u8; REGISTERS],
-    regs: &mut [Mask; REGISTERS],
-    unequal: &mut [Mask; REGISTERS],
-    res: &mut [Mask; RESULTS],
-    ever: &mut [Mask; LINES],
-)
-    requires { (length slot.old ≡ registers) × (length regs.old ≡ registers)
-        × SlotTableLengths registers functions unequal.old res.old ever.old }
-    ensures { Low registers slot.new × (length regs.new ≡ registers)
-        × SlotTableLengths registers functions unequal.new res.new ever.new }
-{
-    let lowest = names(class);
-    name_slots(class, slot);
-    group(class, regs, lowest);
-    keep(unequal, lowest, 1);
-    keep(res, lowest, 1);
-    keep(res, lowest, REGISTERS);
-    keep(ever, lowest, 1);
-}
-
-/// For each pair of slots, the slots that hold a result of some function at the two, in either order.
-pub fn make_around(res: &[Mask; RESULTS]) -> [Mask; PAIRS]
+// For each pair of slots, the slots that hold a result of some function at the two, in either order.
+fn make_around(res: &[Mask; RESULTS]) -> [Mask; PAIRS]
     ensures value { result ≡ around_of registers functions res.now }
     ensures around { Around registers functions res.now result }
 {
@@ -1070,33 +783,32 @@ pub fn make_around(res: &[Mask; RESULTS]) -> [Mask; PAIRS]
     next
 }
 
+impl SlotWindow {
+    /// Slots for a window. What it computes is free: `represents` decides whether they are the window's.
+    pub fn of_window(window: &Window) -> Self {
+        let lowest = names(&window.class);
+        let mut unequal = window.unequal;
+        keep(&mut unequal, lowest, 1);
+        let mut result = window.result;
+        keep(&mut result, lowest, 1);
+        keep(&mut result, lowest, REGISTERS);
+        let mut ever = window.ever;
+        keep(&mut ever, lowest, 1);
+        let around = make_around(&result);
+        SlotWindow {
+            slot: name_slots(&window.class),
+            regs: group(&window.class, lowest),
+            unequal,
+            result,
+            ever,
+            around,
+            mark: window.mark,
+            infeasible: window.infeasible,
+        }
+    }
+}
+
 // ---- whether slots are those of a window
-
-// The registers below `count` whose slot is s.
-fn members(slot: &[u8; REGISTERS], count: usize, s: usize) -> Mask
-    ensures { result ≡ members_of registers slot.now count s registers }
-{
-    let mut m: Mask = 0;
-    let mut r: usize = 0;
-    while r < REGISTERS {
-        m = m | single_if((r < count) & (number(slot, r) == s), r);
-        r = r + 1;
-    }
-    m
-}
-
-// Whether each slot has the registers that name it.
-fn grouped(slot: &[u8; REGISTERS], regs: &[Mask; REGISTERS], count: usize) -> bool
-    ensures { result ≡ grouped_of registers slot.now regs.now count registers }
-{
-    let mut fine = true;
-    let mut s: usize = 0;
-    while s < REGISTERS {
-        fine = fine & ((number(slot, s) < REGISTERS) & (regs[s] == members(slot, count, s)));
-        s = s + 1;
-    }
-    fine
-}
 
 // The slots that have a register.
 fn used(regs: &[Mask; REGISTERS]) -> Mask
@@ -1123,25 +835,6 @@ fn clean(t: &[Mask], used: Mask, step: usize) -> bool
         k = k + 1;
     }
     fine
-}
-
-// Whether each register below `count` has its slot, a free slot is in no mask and has the empty one, and no result is in two slots.
-fn regular(
-    slot: &[u8; REGISTERS],
-    regs: &[Mask; REGISTERS],
-    unequal: &[Mask; REGISTERS],
-    res: &[Mask; RESULTS],
-    ever: &[Mask; LINES],
-    count: usize,
-) -> bool
-    ensures { (m : List Bool) (i : Bool) → result ≡ regular_of registers functions
-        (slots_of slot.now regs.now unequal.now res.now ever.now m i) count }
-{
-    let inhabited = used(regs);
-    let tables = ((grouped(slot, regs, count) & clean(unequal, inhabited, 1))
-        & clean(ever, inhabited, 1))
-        & clean(res, inhabited, 1);
-    (tables & clean(res, inhabited, REGISTERS)) & !doubled(res)
 }
 
 // Whether two tests have the same answer.
@@ -1180,54 +873,65 @@ fn same_marks(a: &[bool; REGISTERS], b: &[bool; REGISTERS]) -> bool
 }
 
 // Whether two windows are equal as values, the number of classes included.
-fn same_window(v: Window, w: Window) -> bool
-    ensures value { result ≡ same_window registers functions v w }
-    ensures same { result ≡ true → v ≡ w }
+fn same_window(v: &Window, w: &Window) -> bool
+    ensures value { result ≡ same_window registers functions v.now w.now }
+    ensures same { result ≡ true → v.now ≡ w.now }
 {
-    let class = v.class;
-    let unequal = v.unequal;
-    let result = v.result;
-    let ever = v.ever;
-    let mark = v.mark;
-    let other_class = w.class;
-    let other_unequal = w.unequal;
-    let other_result = w.result;
-    let other_ever = w.ever;
-    let other_mark = w.mark;
-    let tables = ((same_masks(&class, &other_class) & same_masks(&unequal, &other_unequal))
-        & same_masks(&result, &other_result))
-        & same_masks(&ever, &other_ever);
-    ((tables & same_marks(&mark, &other_mark)) & alike(v.infeasible, w.infeasible))
+    let tables = ((same_masks(&v.class, &w.class) & same_masks(&v.unequal, &w.unequal))
+        & same_masks(&v.result, &w.result))
+        & same_masks(&v.ever, &w.ever);
+    ((tables & same_marks(&v.mark, &w.mark)) & alike(v.infeasible, w.infeasible))
         & (v.classes == w.classes)
 }
 
-/// Whether these are the slots of the window, with that count of registers.
-pub fn represents(
-    w: Window,
-    slot: &[u8; REGISTERS],
-    regs: &[Mask; REGISTERS],
-    unequal: &[Mask; REGISTERS],
-    res: &[Mask; RESULTS],
-    ever: &[Mask; LINES],
-    mark: &[bool; REGISTERS],
-    infeasible: bool,
-    count: usize,
-) -> bool
-    requires { Low registers slot.now }
-    ensures value { result ≡ represents_of registers functions w
-        (slots_of slot.now regs.now unequal.now res.now ever.now
-        mark.now infeasible) count }
-    ensures same { result ≡ true → w ≡ window_of registers functions
-        (slots_of slot.now regs.now unequal.now res.now ever.now mark.now infeasible) }
-{
-    if REGISTERS < count {
-        return false;
+impl SlotWindow {
+    // The registers below `count` whose slot is s.
+    fn members(&self, count: usize, s: usize) -> Mask
+        ensures { result ≡ members_of registers self.now.slot count s registers }
+    {
+        let mut m: Mask = 0;
+        for r in 0..REGISTERS {
+            m |= single_if((r < count) & (self.slot[r] as usize == s), r);
+        }
+        m
     }
-    if regular(slot, regs, unequal, res, ever, count) {
-        return same_window(
-            w,
-            to_window(slot, regs, unequal, res, ever, mark, infeasible),
-        );
+
+    // Whether each slot has the registers that name it.
+    fn grouped(&self, count: usize) -> bool
+        ensures { result ≡ grouped_of registers self.now.slot self.now.regs count registers }
+    {
+        let mut fine = true;
+        for s in 0..REGISTERS {
+            fine &= ((self.slot[s] as usize) < REGISTERS)
+                & (self.regs[s] == self.members(count, s));
+        }
+        fine
     }
-    false
+
+    // Whether each register below `count` has its slot, a free slot is in no mask and has the empty one, and no result is in two slots.
+    fn regular(&self, count: usize) -> bool
+        ensures value { result ≡ regular_of registers functions self.now count }
+        ensures laid { Laid registers functions self.now.slot self.now.regs self.now.unequal self.now.result self.now.ever self.now.mark }
+    {
+        let inhabited = used(&self.regs);
+        let tables = ((self.grouped(count) & clean(&self.unequal, inhabited, 1))
+            & clean(&self.ever, inhabited, 1))
+            & clean(&self.result, inhabited, 1);
+        (tables & clean(&self.result, inhabited, REGISTERS)) & !doubled(&self.result)
+    }
+
+    /// Whether these are the slots of the window, with that count of registers.
+    pub fn represents(&self, window: &Window, count: usize) -> bool
+        ensures value { result ≡ represents_of registers functions window.now self.now count }
+        ensures same { result ≡ true → window.now ≡ window_of registers functions self.now }
+        ensures stands { result ≡ true → RepresentsWindow registers functions count self.now window.now }
+    {
+        if REGISTERS < count {
+            return false;
+        }
+        if self.regular(count) {
+            return same_window(window, &self.window());
+        }
+        false
+    }
 }

@@ -14,11 +14,10 @@ use Rattle.letters.specs.Coding.{decode_letter}
 use Rattle.letters.proofs.Theory.WordLaws.{first_roomy, decode-letter}
 use Rattle.letters.specs.RefusalNumbers.{letter_malformed}
 use Rattle.window.specs.Layout.{registers, functions}
-use Rattle.window.proofs.Theory.Table.{table_length}
 use Rattle.window.specs.declared.Window.{Window}
-use Rattle.slots.specs.Slots.{Slots, SlotTableLengths}
-use Rattle.slots.specs.Performing.{judge_slots, pulled_marks, window_of, represents_of}
-use Rattle.slots.proofs.Theory.Slotted.{RepresentsWindowInFirstEdition, RegistersBelowCount, judged, performed, read_back, represents_is, fits_among}
+use Rattle.slots.specs.Slots.{Slots}
+use Rattle.slots.specs.Performing.{judge_slots, window_of}
+use Rattle.slots.proofs.Theory.Slotted.{RepresentsWindowInFirstEdition, RegistersBelowCount, judged, performed, read_back, fits_among}
 use Rattle.streaming.specs.declared.Run.{Run}
 use Rattle.streaming.specs.declared.RunAnswer.TheVariants.{Judged, Refused}
 use Rattle.streaming.specs.Run.{run_of, performed_of, next_number, first_of}
@@ -89,16 +88,3 @@ module _ (h : Header) (s : Slots) (fine : Bool) (n one two : ℕ) (bytes : List 
   standing_done last b l =
       ap (λ v. run_of h v fine n (Judged one two)) (b ∙ read_back h.registers s w st.represents)
       ∙ taken_done h w fine n one two bytes i whole st.taken l
-
--- ---- slots that pass the test stand for the window
-
-module _ (v : Window) (s : Slots) (n : ℕ) (slot_long : length s.slot ≡ registers) (regs_long : length s.regs ≡ registers)
-    (tables : SlotTableLengths registers functions s.unequal s.result s.ever) (marks : s.mark ≡ v.mark) where
-  -- the window of slots has a mark for each register
-  marks_long : v ≡ window_of registers functions s → length s.mark ≡ registers
-  unfolding pulled_marks
-  marks_long same = ap length marks ∙ ap (λ (w : Window). length w.mark) same ∙ table_length _ registers
-
-  pub represented : (b : Bool) → b ≡ represents_of registers functions v s n → b ≡ true → v ≡ window_of registers functions s
-      → RepresentsWindowInFirstEdition n s v
-  represented b e t same = represents_is n v s slot_long regs_long tables (marks_long same) (sym e ∙ t) same

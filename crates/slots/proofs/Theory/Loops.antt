@@ -27,7 +27,7 @@ use Rattle.window.specs.Adding.{part_of, masks_forgotten}
 use Rattle.window.specs.Marks.{flag_of, raised_of, lost_of}
 use Rattle.window.specs.Performing.{arguments_of, apart_of}
 use Rattle.slots.specs.Slots.{Slots, slots_of, slot_of, SlotTableLengths}
-use Rattle.slots.specs.Performing.{has_slot, regs_moved, free_from, pulled_of, many_of, doubled_of, clash_slots, apart_slots, with_mark, slots_with_unequal}
+use Rattle.slots.specs.Performing.{has_slot, regs_moved, free_from, pulled_of, many_of, doubled_of, clash_slots, apart_slots, with_mark, slots_with_unequal, placed}
 use Rattle.slots.specs.Performing.{results_dropped, masks_renamed, results_renamed, slot_renamed, marks_in, register_in, result_recorded, ever_recorded}
 use Rattle.slots.specs.Performing.{above_slots, beside_slots, lost_slots, pair_recorded}
 use Rattle.slots.specs.Performing.{entry_of, find_slots, memoizing_slots}
@@ -45,6 +45,13 @@ pub moved_register : (slot regs : List ℕ) (x t s own : ℕ) → s ≡ slot_of 
     ≡ regs_moved regs x (slot_of slot x) t
 unfolding regs_moved minus
 moved_register slot regs x t s own e d = rw (e, d)
+
+-- register x, moved to slot t
+pub placed_is : (slot regs u r e : List ℕ) (m : List Bool) (i : Bool) (x t s own : ℕ) → s ≡ slot_of slot x → own ≡ 2 ^ x
+    → slots_of (set slot x t)
+    (set (set regs s (bit_xor (bit_or (get_or regs s 0) own) own)) t (bit_or (get_or (set regs s (bit_xor (bit_or (get_or regs s 0) own) own)) t 0) own))
+    u r e m i ≡ placed (slots_of slot regs u r e m i) x t
+placed_is slot regs u r e m i x t s own p q = ap (λ k. slots_of (set slot x t) k u r e m i) (moved_register slot regs x t s own p q)
 
 module _ (ρ : ℕ) (regs : List ℕ) where
   pub free_here : (i : ℕ) → i < ρ → get_or regs i 0 ≡ 0 → free_from regs i (ρ - i) ≡ i
@@ -142,6 +149,11 @@ module _ (ρ φ : ℕ) where
   copied_moved w next x y s t own slot regs p q n o a b d =
       rw (d, a, b, o, ← p, ← q, ne_eqb s t n)
 
+  pub copied_is : (w p next : Slots) (x y s t own : ℕ) → s ≡ slot_of w.slot x → t ≡ slot_of w.slot y → s ≢ t → own ≡ 2 ^ x → p ≡ placed w x t
+      → next ≡ left_slots ρ φ p s (eqb (get_or w.regs s 0) own) → with_mark next (set next.mark x (get_or next.mark y false)) ≡ copied_slots ρ φ w x y
+  copied_is w p next x y s t own q r n o e d = copied_moved w next x y s t own (set w.slot x t) (regs_moved w.regs x (slot_of w.slot x) t) q r n o refl refl
+      (d ∙ ap (λ v. left_slots ρ φ v s (eqb (get_or w.regs s 0) own)) e)
+
 -- ---- an application
 
 pub arguments_some : (s a b one two : ℕ) → (eqb a s || eqb b s) ≡ true → one ≡ 2 ^ a → two ≡ 2 ^ b → bit_or one two ≡ arguments_of s a b (2 ^ a) (2 ^ b)
@@ -199,6 +211,26 @@ module _ (ρ φ : ℕ) where
   pub freshened_none : (w : Slots) (x f a b n : ℕ) → n ≡ free_from w.regs 0 ρ → ρ ≤ n → w ≡ freshened_slots ρ φ w x f a b
   unfolding freshened_slots
   freshened_none w x f a b n p h = rw (← p, le-ltb n ρ h)
+
+  pub recorded_still : (w : Slots) (x f a b n : ℕ) → (eqb a n || eqb b n) ≡ true → with_mark w (set w.mark x false) ≡ recorded_slots ρ φ w x f a b n
+  unfolding recorded_slots result_recorded ever_recorded
+  recorded_still w x f a b n t = rw t
+
+  pub recorded_is : (w : Slots) (x f a b n one two : ℕ) → (eqb a n || eqb b n) ≡ false → one ≡ 2 ^ n → two ≡ 2 ^ b
+      → slots_of w.slot w.regs w.unequal (set w.result (place ρ f a b) (bit_or (get_or w.result (place ρ f a b) 0) one))
+      (set w.ever (ρ * f + a) (bit_or (get_or w.ever (ρ * f + a) 0) two)) (set w.mark x false) w.infeasible ≡ recorded_slots ρ φ w x f a b n
+  unfolding recorded_slots result_recorded ever_recorded
+  recorded_is w x f a b n one two t p q = rw (t, p, q)
+
+  pub renewed_by : (w d v : Slots) (x f a b s more : ℕ) → s ≡ slot_of w.slot x → more ≡ arguments_of s a b (2 ^ a) (2 ^ b) → d ≡ dropped_slots ρ φ w s more
+      → v ≡ recorded_slots ρ φ d x f a b s → v ≡ renewed_slots ρ φ w x f a b
+  unfolding renewed_slots
+  renewed_by w d v x f a b s more p q k e = rw (e, k, q, p)
+
+  pub freshened_by : (w p v : Slots) (x f a b n : ℕ) → n ≡ free_from w.regs 0 ρ → n < ρ → p ≡ placed w x n → v ≡ recorded_slots ρ φ p x f a b n
+      → v ≡ freshened_slots ρ φ w x f a b
+  unfolding freshened_slots
+  freshened_by w p v x f a b n q h k e = rw (← q, lt-ltb n ρ h) (e ∙ ap (λ d. recorded_slots ρ φ d x f a b n) k)
 
   pub new_renewed : (w v : Slots) (x f a b s own : ℕ) → s ≡ slot_of w.slot x → own ≡ 2 ^ x → get_or w.regs s 0 ≡ own
       → v ≡ renewed_slots ρ φ w x f a b → v ≡ new_slots ρ φ w x f a b

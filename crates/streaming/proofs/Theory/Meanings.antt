@@ -42,7 +42,6 @@ use Rattle.streaming.specs.declared.Run.{Run}
 use Rattle.streaming.specs.declared.Stepped.{Stepped}
 use Rattle.streaming.specs.declared.Stream.{Stream}
 use Rattle.streaming.specs.declared.RunAnswer.{RunAnswer}
-use Rattle.streaming.specs.declared.RunAnswer.TheVariants.{Refused}
 use Rattle.streaming.specs.Meanings.{Monitors, RefusesAll, Starts, Advances, RunBegins, RunTakes, Streams, StreamStarts, StreamPushes, StreamFinishes}
 
 pub monitors : (ρ : Trace) (m : Monitor) → HeaderFits first_edition (state ρ).header → Follows ρ m → Monitors ρ m
