@@ -1,6 +1,6 @@
 -- What the functions on arrays ensure. `representative` gives each term's class the lowest number of a term in it as its name;
 -- `function`, `first` and `second` are the function and the arguments of each application; there are n terms, the registers' constants before the applications.
-use Rattle.std.specs.Prelude.{◌≡◌, ◌⊎◌, ◌≢◌, List, ℕ, zero, suc, ◌+◌, ◌≤◌, ◌<◌, Bool, true, false, eqb, ltb, length, get_or}
+use Rattle.std.specs.Prelude.{◌≡◌, ◌⊎◌, ◌≢◌, List, ℕ, zero, suc, ◌+◌, ◌≤◌, ◌<◌, min, max, Bool, true, false, eqb, length, get_or}
 use Rattle.letters.specs.Editions.{most_functions}
 use Rattle.base.specs.Choice.{pick}
 use Rattle.base.specs.Each.{each_up_to}
@@ -15,12 +15,6 @@ entry_at l i = get_or l i 0
 -- the first n entries lie below b
 unfoldable pub Below : ℕ → ℕ → List ℕ → Type 0
 Below b n l = (i : ℕ) → i < n → get_or l i 0 < b
-
-unfoldable pub low_of : ℕ → ℕ → ℕ
-low_of a b = pick (ltb a b) (λ _. a) λ _. b
-
-unfoldable pub high_of : ℕ → ℕ → ℕ
-high_of a b = pick (ltb a b) (λ _. b) λ _. a
 
 -- How much is taken off the name v, where the name `from` falls by so much.
 unfoldable pub fall_of : (v from by : ℕ) → ℕ
@@ -80,7 +74,7 @@ relabelled from to n l = each_up_to (λ _ v. relabel_of from to v) n l
 
 -- The classes of i and j made one: the lower representative in place of the higher.
 unfoldable pub classes_united : (n i j : ℕ) → List ℕ → List ℕ
-classes_united n i j l = relabelled (high_of (get_or l i 0) (get_or l j 0)) (low_of (get_or l i 0) (get_or l j 0)) n l
+classes_united n i j l = relabelled (max (get_or l i 0) (get_or l j 0)) (min (get_or l i 0) (get_or l j 0)) n l
 
 -- Arguments are not after their terms, and a class has its lowest term as its name.
 pub record Lowest (representative first second : List ℕ) (n : ℕ) : Type 0 where

@@ -4,3 +4,4 @@ pub mod Merging
 pub mod Represents
 pub mod Index
 pub mod Arrays
+pub mod Structs

@@ -10,13 +10,12 @@
 #![tactic(auto)]
 
 ghost use Rattle.std.specs.Prelude.{◌≡◌, ◌<◌, ◌≤◌, get_or};
-ghost use Rattle.letters.specs.Editions.{most_letters, most_functions};
+ghost use Rattle.letters.specs.Editions.{most_functions};
 ghost use Rattle.closure.specs.Limits.{most_terms};
-ghost use Rattle.closure.specs.Numbering.{Closed};
-ghost use Rattle.closure.specs.Index.{signature_of, Down, Chains, CompleteIndex, Found, Entered, Cut, CutTo, without_last};
-ghost use Rattle.closure.specs.Arrays.{entry_at, Below, Formed, Argument, Readable, IndexedTerms, Named, Lowest, UsedAsArgument, low_of, high_of, fall_of};
-ghost use Rattle.closure.specs.Arrays.{signature_at, relabelled, classes_united};
-ghost use Rattle.closure.specs.Arrays.{Underway, Propagated, Resumed, Merged, Parts, Clashes};
+ghost use Rattle.closure.specs.Index.{signature_of, Down, Cut, CutTo, Entered, Found, without_last};
+ghost use Rattle.closure.specs.Arrays.{Argument, Named, UsedAsArgument, Parts, Clashes, fall_of, relabelled, classes_united};
+ghost use Rattle.closure.specs.Structs.{Application, ReadableTerms, LowestTerms, FormedTerms, ClosedTerms, IndexedBy, ChainsOf, CompleteFor, signatures};
+ghost use Rattle.closure.specs.Structs.{ResumedIndex, UnderwayIn, PropagatedTerms, MergedTerms, TestsIn, with_classes};
 
 use letters::limits::{MOST_FUNCTIONS, MOST_LETTERS, MOST_REGISTERS};
 
@@ -40,20 +39,49 @@ const FIRST_FACTOR: usize = 1056 * SECOND_FACTOR;
 /// A number for each computed term.
 pub type Numbers = [u16; TERMS];
 
-/// The last application that was entered in each chain of an index.
-pub type Heads = [u16; CHAINS];
-
 /// A term for each unequal test, of which there is one for each letter at most.
 pub type Sides = [u16; MOST_LETTERS];
 
 // So many applications, or more, are taken out of the index by a pass over all chains.
 const MANY: usize = 256;
 
-/// An element of an array of `u16` as an index.
-pub fn wide(x: u16) -> usize
-    ensures { result ≡ x }
-{
-    x as usize
+/// The computed terms of a trace and their classes.
+#[derive(Drop)]
+pub struct Terms {
+    /// How many registers there are. Their initial constants are the first terms.
+    pub registers: usize,
+    /// How many terms there are.
+    pub count: usize,
+    /// The function of each application.
+    pub function: Numbers,
+    /// Its first argument.
+    pub first: Numbers,
+    /// Its second argument; the first again, where the function takes one.
+    pub second: Numbers,
+    /// The class of each term: the lowest term in it.
+    pub representative: Numbers,
+}
+
+/// An index of applications by signature.
+#[derive(Drop)]
+pub struct Index {
+    /// The last application that was entered in each chain.
+    pub head: [u16; CHAINS],
+    /// The application that was entered before each in its chain.
+    pub link: Numbers,
+}
+
+/// The unequal tests.
+#[derive(Drop)]
+pub struct Tests {
+    /// How many there are.
+    pub count: usize,
+    /// The first so many are known to have their sides in different classes.
+    pub parted: usize,
+    /// The term of each first side.
+    pub left: Sides,
+    /// The term of each second side.
+    pub right: Sides,
 }
 
 // How much is taken off a name, where the name `from` falls by so much.
@@ -70,25 +98,10 @@ fn relabel(representative: &mut Numbers, count: usize, from: u16, to: u16)
     ensures { representative.new ≡ relabelled from to count representative.old }
 {
     let by = from - to;
-    let mut i = wide(from);
-    while i < count {
+    for i in from as usize..count {
         let name = representative[i];
-        let less = fall(name, from, by);
-        representative[i] = name - less;
-        i = i + 1;
+        representative[i] = name - fall(name, from, by);
     }
-}
-
-fn lower(a: u16, b: u16) -> u16
-    ensures { result ≡ low_of a b }
-{
-    if a < b { a } else { b }
-}
-
-fn higher(a: u16, b: u16) -> u16
-    ensures { result ≡ high_of a b }
-{
-    if a < b { b } else { a }
 }
 
 // The union of the classes of i and j.
@@ -96,344 +109,194 @@ fn unite(representative: &mut Numbers, count: usize, i: usize, j: usize)
     requires { (count ≤ most_terms) × (i < count) × (j < count) × Named representative.old count }
     ensures { representative.new ≡ classes_united count i j representative.old }
 {
-    let low = lower(representative[i], representative[j]);
-    let high = higher(representative[i], representative[j]);
+    let low = representative[i].min(representative[j]);
+    let high = representative[i].max(representative[j]);
     relabel(representative, count, high, low);
 }
 
-/// The signature of f of the terms a and b.
-pub fn signature(representative: &Numbers, f: u16, a: u16, b: u16) -> usize
-    requires { (f < most_functions) × Argument representative.now a × Argument representative.now b }
-    ensures { result ≡ signature_of f (get_or representative.now a 0) (get_or representative.now b 0) }
-{
-    let i = wide(a);
-    let j = wide(b);
-    wide(representative[i]) * FIRST_FACTOR + wide(representative[j]) * SECOND_FACTOR + wide(f)
-}
+impl Terms {
+    /// The signature of f of the terms a and b.
+    pub fn signature(&self, f: u16, a: u16, b: u16) -> usize
+        requires { (f < most_functions) × Argument self.now.representative a × Argument self.now.representative b }
+        ensures { result ≡ signature_of f (get_or self.now.representative a 0) (get_or self.now.representative b 0) }
+    {
+        let p = self.representative[a as usize] as usize;
+        let q = self.representative[b as usize] as usize;
+        p * FIRST_FACTOR + q * SECOND_FACTOR + f as usize
+    }
 
-/// The signature of application i.
-pub fn signature_at(
-    representative: &Numbers,
-    function: &Numbers,
-    first: &Numbers,
-    second: &Numbers,
-    i: usize,
-) -> usize
-    requires { (i < most_terms) × (get_or function.now i 0 < most_functions) × Argument representative.now (get_or first.now i 0)
-        × Argument representative.now (get_or second.now i 0) }
-    ensures { result ≡ signature_at representative.now function.now first.now second.now i }
-{
-    signature(representative, function[i], first[i], second[i])
-}
+    /// The signature of application i.
+    pub fn signature_at(&self, i: usize) -> usize
+        requires { Application self.now i }
+        ensures { result ≡ signatures self.now i }
+    {
+        self.signature(self.function[i], self.first[i], self.second[i])
+    }
 
-// An application with the signature c in the chain from `start` on, or a number below `registers` where there is none.
-fn find(
-    representative: &Numbers,
-    function: &Numbers,
-    first: &Numbers,
-    second: &Numbers,
-    link: &Numbers,
-    registers: usize,
-    count: usize,
-    start: usize,
-    c: usize,
-) -> usize
-    requires { Readable representative.now function.now first.now second.now registers count × (start < count) × Down link.now }
-    ensures { Found (signature_at representative.now function.now first.now second.now) registers count
-        link.now start c result }
-{
-    let mut i = start;
-    while registers <= i {
-        if signature_at(representative, function, first, second, i) == c {
-            return i;
+    // Whether a term has an argument of the class d. Arguments come before their terms, and a class has its lowest term as its
+    // name, so the terms before d have none.
+    fn uses(&self, d: u16) -> bool
+        requires { LowestTerms self.now }
+        ensures { UsedAsArgument self.now.representative self.now.first self.now.second self.now.count d result }
+    {
+        for i in d as usize..self.count {
+            let a = self.first[i] as usize;
+            let b = self.second[i] as usize;
+            if self.representative[a] == d || self.representative[b] == d {
+                return true;
+            }
         }
-        i = wide(link[i]);
+        false
     }
-    i
-}
-
-/// An application that the index has for the signature c; where it has none, `count`, which is then entered. Which of several
-/// applications with the signature it is does not matter, because closed classes have them all in one.
-pub fn enter(
-    representative: &Numbers,
-    function: &Numbers,
-    first: &Numbers,
-    second: &Numbers,
-    head: &mut Heads,
-    link: &mut Numbers,
-    registers: usize,
-    count: usize,
-    c: usize,
-) -> usize
-    requires { Readable representative.now function.now first.now second.now registers count × (count < most_terms)
-        × Chains count head.old link.old }
-    ensures { Entered (signature_at representative.now function.now first.now second.now) registers count c
-        head.old link.old result head.new link.new }
-{
-    let chain = c % CHAINS;
-    let start = wide(head[chain]);
-    let found = find(
-        representative,
-        function,
-        first,
-        second,
-        link,
-        registers,
-        count,
-        start,
-        c,
-    );
-    if registers <= found {
-        return found;
-    }
-    link[count] = head[chain];
-    head[chain] = count as u16;
-    count
 }
 
 // The first number below the bound in the chain from `start` on.
-fn below(link: &Numbers, start: usize, bound: usize) -> usize
+fn below(link: &Numbers, start: u16, bound: usize) -> u16
     requires { Down link.now × (start < most_terms) × (1 ≤ bound) }
     ensures { Cut link.now start bound result }
 {
     let mut i = start;
-    while bound <= i {
-        i = wide(link[i]);
+    while bound <= i as usize {
+        i = link[i as usize];
     }
     i
-}
-
-// Takes the applications from the bound on out of the index.
-fn cut(head: &mut Heads, link: &Numbers, bound: usize)
-    requires { Chains most_terms head.old link.now × (1 ≤ bound) × (bound ≤ most_terms) }
-    ensures { CutTo head.old link.now bound head.new }
-{
-    let mut i: usize = 0;
-    while i < CHAINS {
-        let start = wide(head[i]);
-        let rest = below(link, start, bound);
-        head[i] = rest as u16;
-        i = i + 1;
-    }
-}
-
-// The later of two numbers.
-fn later(a: usize, b: usize) -> usize
-    ensures { result ≡ high_of a b }
-{
-    if a < b { b } else { a }
 }
 
 // The head of a chain without application k: the one entered before it where k is the head.
 fn without_last(last: u16, before: u16, k: usize) -> u16
     ensures { result ≡ without_last last before k }
 {
-    if wide(last) == k { before } else { last }
+    if last as usize == k { before } else { last }
 }
 
-// Takes the applications from the bound on, which are below i, out of the index, the last first: each is the head of the chain
-// that its signature leads to, or in no chain.
-fn undo(
-    representative: &Numbers,
-    function: &Numbers,
-    first: &Numbers,
-    second: &Numbers,
-    head: &mut Heads,
-    link: &Numbers,
-    registers: usize,
-    i: usize,
-    bound: usize,
-)
-    requires { Readable representative.now function.now first.now second.now registers i × Chains i head.old link.now
-        × CompleteIndex (signature_at representative.now function.now first.now second.now) registers i head.old link.now × (registers ≤ bound)
-        × (bound ≤ i) }
-    ensures { CutTo head.old link.now bound head.new }
-{
-    let mut k = i;
-    while bound < k {
-        k = k - 1;
-        let c = signature_at(representative, function, first, second, k);
+impl Index {
+    // An application with the signature c in the chain from `start` on, or a number below `registers` where there is none.
+    fn find(&self, terms: &Terms, n: usize, start: u16, c: usize) -> usize
+        requires { ReadableTerms terms.now n × (start < n) × Down self.now.link }
+        ensures { Found (signatures terms.now) terms.now.registers n self.now.link start c result }
+    {
+        let mut i = start as usize;
+        while terms.registers <= i {
+            if terms.signature_at(i) == c {
+                return i;
+            }
+            i = self.link[i] as usize;
+        }
+        i
+    }
+
+    /// An application before n that the index has for the signature c; where it has none, n, which is then entered. Which of several
+    /// applications with the signature it is does not matter, because closed classes have them all in one.
+    pub fn enter(&mut self, terms: &Terms, n: usize, c: usize) -> usize
+        requires { ReadableTerms terms.now n × (n < most_terms) × ChainsOf n self.old }
+        ensures { Entered (signatures terms.now) terms.now.registers n c self.old.head self.old.link result self.new.head self.new.link }
+    {
         let chain = c % CHAINS;
-        let rest = without_last(head[chain], link[k], k);
-        head[chain] = rest;
+        let found = self.find(terms, n, self.head[chain], c);
+        if terms.registers <= found {
+            return found;
+        }
+        self.link[n] = self.head[chain];
+        self.head[chain] = n as u16;
+        n
     }
-}
 
-// The application to go on with when the applications below i were looked at and then the name d goes: arguments come before
-// their terms, and no class is named by a later term, so the signatures of the terms before d stay as they are.
-fn resume(
-    representative: &Numbers,
-    function: &Numbers,
-    first: &Numbers,
-    second: &Numbers,
-    head: &mut Heads,
-    link: &Numbers,
-    registers: usize,
-    i: usize,
-    d: u16,
-) -> usize
-    requires { Readable representative.now function.now first.now second.now registers i × Chains i head.old link.now
-        × CompleteIndex (signature_at representative.now function.now first.now second.now) registers i head.old link.now × (d ≤ i) }
-    ensures { Resumed registers i d head.old link.now result head.new }
-{
-    let next = later(wide(d), registers);
-    if next == i {
-        return next;
+    // Takes the applications from the bound on out of the index.
+    fn cut(&mut self, bound: usize)
+        requires { ChainsOf most_terms self.old × (1 ≤ bound) × (bound ≤ most_terms) }
+        ensures chains { CutTo self.old.head self.old.link bound self.new.head }
+        ensures links { self.new.link ≡ self.old.link }
+    {
+        for last in &mut self.head {
+            *last = below(&self.link, *last, bound);
+        }
     }
-    if i - next < MANY {
-        undo(
-            representative,
-            function,
-            first,
-            second,
-            head,
-            link,
-            registers,
-            i,
-            next,
-        );
-        return next;
-    }
-    cut(head, link, next);
-    next
-}
 
-// Unites what is congruent, from the application `start` on, and leaves an index of all applications.
-fn propagate(
-    representative: &mut Numbers,
-    function: &Numbers,
-    first: &Numbers,
-    second: &Numbers,
-    head: &mut Heads,
-    link: &mut Numbers,
-    registers: usize,
-    count: usize,
-    start: usize,
-)
-    requires { Underway representative.old function.now first.now second.now registers count representative.old head.old link.old start }
-    ensures { Propagated representative.old function.now first.now second.now registers count
-        representative.new head.new link.new }
-{
-    let mut i = start;
-    while i < count {
-        let c = signature_at(representative, function, first, second, i);
-        let o = enter(
-            representative,
-            function,
-            first,
-            second,
-            head,
-            link,
-            registers,
-            i,
-            c,
-        );
-        if representative[o] == representative[i] {
-            i = i + 1;
+    // Takes the applications from the bound on, which are below i, out of the index, the last first: each is the head of the chain
+    // that its signature leads to, or in no chain.
+    fn undo(&mut self, terms: &Terms, i: usize, bound: usize)
+        requires { ReadableTerms terms.now i × ChainsOf i self.old × CompleteFor terms.now i self.old × (terms.now.registers ≤ bound) × (bound ≤ i) }
+        ensures chains { CutTo self.old.head self.old.link bound self.new.head }
+        ensures links { self.new.link ≡ self.old.link }
+    {
+        for k in (bound..i).rev() {
+            let chain = terms.signature_at(k) % CHAINS;
+            self.head[chain] = without_last(self.head[chain], self.link[k], k);
+        }
+    }
+
+    // The application to go on with when the applications below i were looked at and then the name d goes: arguments come before
+    // their terms, and no class is named by a later term, so the signatures of the terms before d stay as they are.
+    fn resume(&mut self, terms: &Terms, i: usize, d: u16) -> usize
+        requires { ReadableTerms terms.now i × ChainsOf i self.old × CompleteFor terms.now i self.old × (d ≤ i) }
+        ensures { ResumedIndex terms.now.registers i d self.old result self.new }
+    {
+        let next = (d as usize).max(terms.registers);
+        if next == i {
+            return next;
+        }
+        if i - next < MANY {
+            self.undo(terms, i, next);
         } else {
-            let d = higher(representative[o], representative[i]);
-            let next = resume(
-                representative,
-                function,
-                first,
-                second,
-                head,
-                link,
-                registers,
-                i,
-                d,
-            );
-            unite(representative, count, o, i);
-            i = next;
+            self.cut(next);
         }
+        next
     }
 }
 
-// Whether a term has an argument of the class d. Arguments come before their terms, and a class has its lowest term as its
-// name, so the terms before d have none.
-fn used(representative: &Numbers, first: &Numbers, second: &Numbers, count: usize, d: u16) -> bool
-    requires { Lowest representative.now first.now second.now count }
-    ensures { UsedAsArgument representative.now first.now second.now count d result }
-{
-    let mut i = wide(d);
-    while i < count {
-        let a = wide(first[i]);
-        let b = wide(second[i]);
-        if representative[a] == d {
-            return true;
+impl Terms {
+    // Unites what is congruent, from the application `start` on, and leaves an index of all applications.
+    fn propagate(&mut self, index: &mut Index, start: usize)
+        requires { UnderwayIn self.old.representative self.old index.old start }
+        ensures classes { PropagatedTerms self.old self.new.representative index.new }
+        ensures same { self.new ≡ with_classes self.old self.new.representative }
+    {
+        let mut i = start;
+        while i < self.count {
+            let c = self.signature_at(i);
+            let o = index.enter(self, i, c);
+            let a = self.representative[o];
+            let b = self.representative[i];
+            if a == b {
+                i += 1;
+            } else {
+                let next = index.resume(self, i, a.max(b));
+                unite(&mut self.representative, self.count, o, i);
+                i = next;
+            }
         }
-        if representative[b] == d {
-            return true;
-        }
-        i = i + 1;
     }
-    false
+
+    /// Merges the classes of the terms x and y, with all that follows by congruence: nothing, where the class whose name goes is no argument.
+    pub fn merge(&mut self, index: &mut Index, x: usize, y: usize)
+        requires { FormedTerms self.old × (x < self.old.count) × (y < self.old.count) × ClosedTerms self.old × IndexedBy self.old self.old.count index.old }
+        ensures classes { MergedTerms self.old x y self.new.representative index.new }
+        ensures same { self.new ≡ with_classes self.old self.new.representative }
+    {
+        let d = self.representative[x].max(self.representative[y]);
+        if !self.uses(d) {
+            unite(&mut self.representative, self.count, x, y);
+            return;
+        }
+        let start = index.resume(self, self.count, d);
+        unite(&mut self.representative, self.count, x, y);
+        self.propagate(index, start);
+    }
 }
 
-/// Merges the classes of the terms x and y, with all that follows by congruence: nothing, where the class whose name goes is no argument.
-pub fn merge(
-    representative: &mut Numbers,
-    function: &Numbers,
-    first: &Numbers,
-    second: &Numbers,
-    head: &mut Heads,
-    link: &mut Numbers,
-    registers: usize,
-    count: usize,
-    x: usize,
-    y: usize,
-)
-    requires { Formed representative.old function.now first.now second.now registers count × (x < count) × (y < count)
-        × Closed (entry_at function.now) (entry_at first.now) (entry_at second.now) registers count (entry_at representative.old)
-        × IndexedTerms representative.old function.now first.now second.now registers count head.old link.old }
-    ensures { Merged representative.old function.now first.now second.now registers count x y
-        representative.new head.new link.new }
-{
-    let d = higher(representative[x], representative[y]);
-    let changes = used(representative, first, second, count, d);
-    if !changes {
-        unite(representative, count, x, y);
-        return;
-    }
-    let start = resume(
-        representative,
-        function,
-        first,
-        second,
-        head,
-        link,
-        registers,
-        count,
-        d,
-    );
-    unite(representative, count, x, y);
-    propagate(
-        representative,
-        function,
-        first,
-        second,
-        head,
-        link,
-        registers,
-        count,
-        start,
-    );
-}
-
-/// Whether the two sides of one of the first m unequal tests are in one class. Those of the first `from` are known to be in two.
-pub fn clash(representative: &Numbers, left: &Sides, right: &Sides, from: usize, m: usize) -> bool
-    requires { (from ≤ m) × (m ≤ most_letters) × Below most_terms m left.now × Below most_terms m right.now
-        × Parts representative.now left.now right.now from }
-    ensures { Clashes representative.now left.now right.now m result }
-{
-    let mut i = from;
-    while i < m {
-        let a = wide(left[i]);
-        let b = wide(right[i]);
-        if representative[a] == representative[b] {
-            return true;
+impl Tests {
+    /// Whether the two sides of one of the tests are in one class. Those that are `parted` need not be looked at.
+    pub fn clash(&self, terms: &Terms) -> bool
+        requires { TestsIn self.now × Parts terms.now.representative self.now.left self.now.right self.now.parted }
+        ensures { Clashes terms.now.representative self.now.left self.now.right self.now.count result }
+    {
+        for i in self.parted..self.count {
+            let a = terms.representative[self.left[i] as usize];
+            let b = terms.representative[self.right[i] as usize];
+            if a == b {
+                return true;
+            }
         }
-        i = i + 1;
+        false
     }
-    false
 }

@@ -11,7 +11,6 @@ use Rattle.semantics.specs.Facts.{Valid}
 use Rattle.closure.specs.Numbering.{Numbered, Exact, Closed}
 use Rattle.closure.specs.Represents.{RepresentsState, Sides}
 use Rattle.closure.specs.Arrays.{entry_at, Formed, IndexedTerms, Merged, LookedAt, Parts}
-use Rattle.engine.specs.declared.Counts.{Counts}
 
 -- After k letters that leave the state σ: n computed terms with their classes and the index, the term of each register in `value`,
 -- and the m unequal tests by the terms in `left` and `right`, of which the first p are known to have their sides in different classes.
@@ -32,6 +31,12 @@ pub record Engine (σ : State) (function first second representative head link v
   pub tests_few : m ≤ k
   pub parts : Parts representative left right p
   pub parts_few : p ≤ m
+
+-- What was counted so far: the computed terms, the unequal tests, and how many of these are known to have their sides in different classes.
+pub record Counts : Type 0 where
+  pub terms : ℕ
+  pub tests : ℕ
+  pub parted : ℕ
 
 -- Not all the letters that a trace may have were performed, and the next one fits.
 pub record Ready (letter : Letter) (function first second representative head link value left right : List ℕ) (registers : ℕ) (counts : Counts) : Type 0 where

@@ -1,2 +1,3 @@
 pub mod Engine
 pub mod Run
+pub mod Structs

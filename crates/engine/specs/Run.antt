@@ -1,5 +1,5 @@
 -- The engine's run over the letters of a trace.
-use Rattle.std.specs.Prelude.{◌≡◌, List, ◌++◌, ℕ, ◌+◌, ◌-◌, ◌*◌, ◌≤◌, length, get_or, drop}
+use Rattle.std.specs.Prelude.{◌≡◌, List, ◌++◌, ℕ, ◌+◌, ◌-◌, ◌*◌, ◌≤◌, length, get_or, drop, Option, Some, None}
 use Rattle.base.specs.Each.{each_up_to}
 use Rattle.letters.specs.declared.Header.{Header}
 use Rattle.letters.specs.declared.Letter.{Letter}
@@ -15,7 +15,9 @@ use Rattle.semantics.specs.Judgement.{FailsAt}
 use Rattle.semantics.specs.FirstLetters.{first_infeasible}
 use Rattle.engine.specs.declared.EngineOutcome.{EngineOutcome}
 use Rattle.engine.specs.declared.EngineOutcome.TheVariants as outcome
+use Rattle.closure.specs.declared.Terms.{Terms}
 use Rattle.engine.specs.Engine.{Engine, Computed}
+use Rattle.engine.specs.declared.Progress.{Progress}
 
 -- Questions 1, 2, 3 and 5 are answered: the bytes have this header and this number of letters, at most 1,024.
 pub record Begun (s : List ℕ) (h : Header) (count : ℕ) : Type 0 where
@@ -37,6 +39,9 @@ pub record Blank (l : List ℕ) : Type 0 where
   pub long : length l ≡ most_terms
   pub zero : (k : ℕ) → get_or l k 0 ≡ 0
 
+abbrev pub BlankTerms : Terms → Type 0
+BlankTerms t = Blank t.function × Blank t.first × Blank t.second × Blank t.representative
+
 -- The first entries of both are their own numbers, and the others stay.
 pub record Began (representative value : List ℕ) (registers : ℕ) (representative' value' : List ℕ) : Type 0 where
   pub classes : representative' ≡ each_up_to (λ i _. i) registers representative
@@ -52,19 +57,26 @@ pub record Running (s : List ℕ) (h : Header) (count : ℕ) (function first sec
   pub engine : Engine (state (trace_of h letters)) function first second representative head link value left right registers n m p k
   pub feasible : Feasible (state (trace_of h letters))
 
+abbrev pub RunningIn : (s : List ℕ) (h : Header) (count : ℕ) → Terms → Progress → ℕ → Type 0
+RunningIn s h count t p k = Running s h count t.function t.first t.second t.representative p.index.head p.index.link p.value p.tests.left p.tests.right
+    t.registers t.count p.tests.count p.tests.parted k
+
 -- What a run answers: the first letter that is not well formed; the first infeasible letter, where the letters after it are still to be read;
--- or the number of computed terms, whose classes the arrays then hold.
-pub data Ran (s : List ℕ) (h : Header) (count : ℕ) (function first second representative : List ℕ) : EngineOutcome → Type 0 where
+-- or that all are feasible, and the arrays then hold the n computed terms and their classes.
+pub data Ran (s : List ℕ) (h : Header) (count : ℕ) (function first second representative : List ℕ) (n : ℕ) : EngineOutcome → Type 0 where
   malformed : (k : ℕ) → letters_of first_edition h s ≡ TraceReading.refused letter_malformed k
-      → Ran s h count function first second representative (outcome.Malformed k)
+      → Ran s h count function first second representative n (outcome.Malformed k)
   infeasible : (k : ℕ) (ls : List Letter) → letters_of first_edition h s ≡ behind ls (reading_from s h count k)
       → FailsAt (λ π. Feasible (state π)) (trace_of h ls) k → 1 ≤ k
-      → Ran s h count function first second representative (outcome.Infeasible k)
-  feasible : (n : ℕ) (ls : List Letter) → letters_of first_edition h s ≡ trace h ls → 0 ≡ first_infeasible (trace_of h ls)
+      → Ran s h count function first second representative n (outcome.Infeasible k)
+  feasible : (ls : List Letter) → letters_of first_edition h s ≡ trace h ls → 0 ≡ first_infeasible (trace_of h ls)
       → Computed (state (trace_of h ls)) function first second representative h.registers n
-      → Ran s h count function first second representative (outcome.Feasible n)
+      → Ran s h count function first second representative n outcome.Feasible
+
+abbrev pub RanTo : (s : List ℕ) (h : Header) (count : ℕ) → Terms → EngineOutcome → Type 0
+RanTo s h count t = Ran s h count t.function t.first t.second t.representative t.count
 
 -- What is said of the letters from some number on: all are well formed, or the number of the first that is not, from 1.
-pub data RestRead (h : Header) (x : TraceReading) : ℕ → Type 0 where
-  all_read : (ls : List Letter) → x ≡ trace h ls → RestRead h x 0
-  broken : (p : ℕ) → 1 ≤ p → x ≡ TraceReading.refused letter_malformed p → RestRead h x p
+pub data RestRead (h : Header) (x : TraceReading) : Option ℕ → Type 0 where
+  all_read : (ls : List Letter) → x ≡ trace h ls → RestRead h x None
+  broken : (p : ℕ) → 1 ≤ p → x ≡ TraceReading.refused letter_malformed p → RestRead h x (Some p)

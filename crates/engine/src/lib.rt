@@ -1,35 +1,37 @@
 // The whole-trace engine: the closure over all computed terms of a trace, letter by letter.
 //
-// The arrays are those of crate `closure`: the terms, their classes and the index. `value` has the term of each register,
-// `left` and `right` the two sides of each unequal test.
+// The terms, their classes and the index are those of crate `closure`.
 #![tactic(auto)]
 
-ghost use Rattle.std.specs.Prelude.{◌≡◌, ◌<◌, ◌≤◌};
+ghost use Rattle.std.specs.Prelude.{◌≡◌, ◌+◌, ◌<◌, ◌≤◌};
 ghost use Rattle.letters.specs.Editions.{most_registers};
 ghost use Rattle.closure.specs.Limits.{most_terms};
-ghost use Rattle.engine.specs.Engine.{Ready, LetterPerformed, Appliable, Applied, Computable, Computing, Equatable, TermsEquated, Notable, Noted, name_of};
-ghost use Rattle.engine.specs.Run.{Begun, Blank, Began, Running, Ran, reading_from, RestRead};
+ghost use Rattle.closure.specs.Structs.{with_classes};
+ghost use Rattle.engine.specs.Engine.{name_of};
+ghost use Rattle.engine.specs.Structs.{AppliableTo, AppliedTo, ComputableIn, ComputingIn, EquatableIn, EquatedIn, NotableIn, NotedIn, ReadyFor, PerformedIn};
+ghost use Rattle.engine.specs.Structs.{with_index, with_parted};
+ghost use Rattle.engine.specs.Run.{Begun, BlankTerms, Began, RunningIn, RanTo, reading_from, RestRead};
 
-use closure::{CHAINS, Heads, Numbers, REGISTERS, Sides, TERMS, wide};
+use closure::{CHAINS, Index, Numbers, REGISTERS, TERMS, Terms, Tests};
 use letters::limits::{MOST_LETTERS, UNIT_BYTES};
 use letters::{DecodedLetter, Header, Letter, words};
 
-/// What was counted so far.
-#[derive(Clone, Copy)]
-pub struct Counts {
-    /// The computed terms.
-    pub terms: usize,
-    /// The unequal tests.
-    pub tests: usize,
-    /// The first unequal tests, so many, are known to have their sides in different classes.
-    pub parted: usize,
+// What is known of the letters so far, beside the computed terms.
+#[derive(Drop)]
+struct Progress {
+    // The applications by signature.
+    index: Index,
+    // The term of each register.
+    value: [u16; REGISTERS],
+    // The unequal tests.
+    tests: Tests,
 }
 
-/// How a run over a trace ends: with the number of computed terms, or at the first letter that is infeasible or not well formed.
+/// How a run over a trace ends: behind the last letter, or at the first that is infeasible or not well formed.
 #[derive(Clone, Copy)]
 pub enum EngineOutcome {
-    /// All letters are feasible; so many terms were computed.
-    Feasible(usize),
+    /// All letters are feasible.
+    Feasible,
     /// The number of the first infeasible letter, from 1. The letters after it were not read.
     Infeasible(u64),
     /// The number of the first letter that is not well formed, from 1.
@@ -42,228 +44,124 @@ fn name(representative: &Numbers, found: usize, count: usize) -> u16
     ensures { result ≡ name_of representative.now found count }
 {
     if found == count {
-        return count as u16;
+        count as u16
+    } else {
+        representative[found]
     }
-    representative[found]
 }
 
 // A new term, f of the terms a and b.
-fn apply(
-    function: &mut Numbers,
-    first: &mut Numbers,
-    second: &mut Numbers,
-    representative: &mut Numbers,
-    head: &mut Heads,
-    link: &mut Numbers,
-    registers: usize,
-    count: usize,
-    f: u16,
-    a: u16,
-    b: u16,
-)
-    requires { Appliable function.old first.old second.old representative.old head.old link.old registers count f a b }
-    ensures { Applied function.old first.old second.old representative.old head.old
-        link.old registers count f a b function.new first.new second.new representative.new
-        head.new link.new }
+fn apply(terms: &mut Terms, index: &mut Index, f: u16, a: u16, b: u16)
+    requires { AppliableTo terms.old index.old f a b }
+    ensures applied { AppliedTo terms.old index.old f a b terms.new index.new }
+    ensures registers { terms.new.registers ≡ terms.old.registers }
+    ensures count { terms.new.count ≡ terms.old.count + 1 }
 {
-    let c = closure::signature(representative, f, a, b);
-    let found = closure::enter(
-        representative,
-        function,
-        first,
-        second,
-        head,
-        link,
-        registers,
-        count,
-        c,
-    );
-    let class = name(representative, found, count);
-    function[count] = f;
-    first[count] = a;
-    second[count] = b;
-    representative[count] = class;
+    let count = terms.count;
+    let c = terms.signature(f, a, b);
+    let found = index.enter(terms, count, c);
+    let class = name(&terms.representative, found, count);
+    terms.function[count] = f;
+    terms.first[count] = a;
+    terms.second[count] = b;
+    terms.representative[count] = class;
+    terms.count = count + 1;
 }
 
-// target := f(a, b), with registers.
-fn compute(
-    function: &mut Numbers,
-    first: &mut Numbers,
-    second: &mut Numbers,
-    representative: &mut Numbers,
-    head: &mut Heads,
-    link: &mut Numbers,
-    value: &mut [u16; REGISTERS],
-    registers: usize,
-    counts: Counts,
-    target: u8,
-    f: u8,
-    a: u8,
-    b: u8,
-) -> Counts
-    requires { Computable function.old first.old second.old representative.old head.old link.old value.old registers counts target f a b }
-    ensures { Computing function.old first.old second.old representative.old head.old
-        link.old value.old registers counts target f a b function.new first.new second.new
-        representative.new head.new link.new value.new result }
-{
-    let terms = counts.terms;
-    let x = value[a as usize];
-    let y = value[b as usize];
-    apply(
-        function,
-        first,
-        second,
-        representative,
-        head,
-        link,
-        registers,
-        terms,
-        f as u16,
-        x,
-        y,
-    );
-    value[target as usize] = terms as u16;
-    let mut next = counts;
-    next.terms = terms + 1;
-    next
-}
-
-// The equal test of the registers a and b.
-fn equate(
-    function: &Numbers,
-    first: &Numbers,
-    second: &Numbers,
-    representative: &mut Numbers,
-    head: &mut Heads,
-    link: &mut Numbers,
-    value: &[u16; REGISTERS],
-    registers: usize,
-    counts: Counts,
-    a: u8,
-    b: u8,
-) -> Counts
-    requires { Equatable function.now first.now second.now representative.old head.old link.old value.now registers counts a b }
-    ensures { TermsEquated function.now first.now second.now representative.old
-        value.now registers counts a b representative.new head.new link.new result }
-{
-    let terms = counts.terms;
-    let x = wide(value[a as usize]);
-    let y = wide(value[b as usize]);
-    if representative[x] == representative[y] {
-        return counts;
+impl Progress {
+    // target := f(a, b), with registers.
+    fn compute(&mut self, terms: &mut Terms, target: u8, f: u8, a: u8, b: u8)
+        requires { ComputableIn terms.old self.old target f a b }
+        ensures computed { ComputingIn terms.old self.old target f a b terms.new self.new }
+        ensures registers { terms.new.registers ≡ terms.old.registers }
+        ensures tests { self.new.tests ≡ self.old.tests }
+    {
+        let new = terms.count as u16;
+        let x = self.value[a as usize];
+        let y = self.value[b as usize];
+        apply(terms, &mut self.index, f as u16, x, y);
+        self.value[target as usize] = new;
     }
-    closure::merge(
-        representative,
-        function,
-        first,
-        second,
-        head,
-        link,
-        registers,
-        terms,
-        x,
-        y,
-    );
-    let mut next = counts;
-    next.parted = 0;
-    next
-}
 
-// A copy or an unequal test.
-fn note(
-    letter: Letter,
-    value: &mut [u16; REGISTERS],
-    left: &mut Sides,
-    right: &mut Sides,
-    counts: Counts,
-) -> Counts
-    requires { Notable letter counts }
-    ensures { Noted letter value.old left.old right.old counts value.new left.new
-        right.new result }
-{
-    match letter {
-        Letter::Copy { target, source } => {
-            value[target as usize] = value[source as usize];
-            return counts;
+    // The equal test of the registers a and b.
+    fn equate(&mut self, terms: &mut Terms, a: u8, b: u8)
+        requires { EquatableIn terms.old self.old a b }
+        ensures equated { EquatedIn terms.old self.old a b terms.new.representative self.new }
+        ensures terms { terms.new ≡ with_classes terms.old terms.new.representative }
+        ensures rest { self.new ≡ with_parted (with_index self.old self.new.index) self.new.tests.parted }
+    {
+        let x = self.value[a as usize] as usize;
+        let y = self.value[b as usize] as usize;
+        if terms.representative[x] != terms.representative[y] {
+            terms.merge(&mut self.index, x, y);
+            self.tests.parted = 0;
         }
-        Letter::Unequal {
-            first: a,
-            second: b,
-        } => {
-            let tests = counts.tests;
-            left[tests] = value[a as usize];
-            right[tests] = value[b as usize];
-            return Counts {
-                terms: counts.terms,
-                tests: tests + 1,
-                parted: counts.parted,
+    }
+
+    // A copy or an unequal test.
+    fn note(&mut self, letter: Letter)
+        requires { NotableIn letter self.old }
+        ensures noted { NotedIn letter self.old self.new }
+        ensures index { self.new.index ≡ self.old.index }
+    {
+        match letter {
+            Letter::Copy { target, source } => {
+                self.value[target as usize] = self.value[source as usize];
+            }
+            Letter::Unequal { first, second } => {
+                let tests = self.tests.count;
+                self.tests.left[tests] = self.value[first as usize];
+                self.tests.right[tests] = self.value[second as usize];
+                self.tests.count = tests + 1;
+            }
+            Letter::Apply { .. } => {}
+            Letter::Equal { .. } => {}
+        }
+    }
+
+    // One letter.
+    fn step(&mut self, terms: &mut Terms, letter: Letter)
+        requires { ReadyFor letter terms.old self.old }
+        ensures performed { PerformedIn letter terms.old self.old terms.new self.new }
+        ensures registers { terms.new.registers ≡ terms.old.registers }
+    {
+        match letter {
+            Letter::Copy { .. } => self.note(letter),
+            Letter::Unequal { .. } => self.note(letter),
+            Letter::Apply {
+                target,
+                function,
+                first,
+                second,
+            } => self.compute(terms, target, function, first, second),
+            Letter::Equal { first, second } => self.equate(terms, first, second),
+        }
+    }
+
+    // Runs over the letters from the state before them.
+    fn perform(
+        &mut self,
+        terms: &mut Terms,
+        header: Header,
+        trace: &[u8],
+        letters: usize,
+    ) -> EngineOutcome
+        requires { Begun trace.now header letters × RunningIn trace.now header letters terms.old self.old 0 × (terms.old.registers ≡ header.registers) }
+        ensures ran { RanTo trace.now header letters terms.new result }
+        ensures registers { terms.new.registers ≡ header.registers }
+    {
+        for k in 0..letters {
+            let decoded = traces::letter_at(header, trace, k);
+            let DecodedLetter::Letter(letter) = decoded else {
+                return EngineOutcome::Malformed(k as u64 + 1);
             };
+            self.step(terms, letter);
+            if self.tests.clash(terms) {
+                return EngineOutcome::Infeasible(k as u64 + 1);
+            }
+            self.tests.parted = self.tests.count;
         }
-        Letter::Apply { .. } => counts,
-        Letter::Equal { .. } => counts,
-    }
-}
-
-// One letter.
-fn step(
-    letter: Letter,
-    function: &mut Numbers,
-    first: &mut Numbers,
-    second: &mut Numbers,
-    representative: &mut Numbers,
-    head: &mut Heads,
-    link: &mut Numbers,
-    value: &mut [u16; REGISTERS],
-    left: &mut Sides,
-    right: &mut Sides,
-    registers: usize,
-    counts: Counts,
-) -> Counts
-    requires { Ready letter function.old first.old second.old representative.old head.old link.old value.old left.old
-        right.old registers counts }
-    ensures { LetterPerformed letter function.old first.old second.old representative.old head.old
-        link.old value.old left.old right.old registers counts function.new first.new
-        second.new representative.new head.new link.new value.new left.new right.new result }
-{
-    match letter {
-        Letter::Copy { .. } => note(letter, value, left, right, counts),
-        Letter::Unequal { .. } => note(letter, value, left, right, counts),
-        Letter::Apply {
-            target,
-            function: f,
-            first: a,
-            second: b,
-        } => compute(
-            function,
-            first,
-            second,
-            representative,
-            head,
-            link,
-            value,
-            registers,
-            counts,
-            target,
-            f,
-            a,
-            b,
-        ),
-        Letter::Equal {
-            first: a,
-            second: b,
-        } => equate(
-            function,
-            first,
-            second,
-            representative,
-            head,
-            link,
-            value,
-            registers,
-            counts,
-            a,
-            b,
-        ),
+        EngineOutcome::Feasible
     }
 }
 
@@ -272,121 +170,50 @@ fn begin(representative: &mut Numbers, value: &mut [u16; REGISTERS], registers: 
     requires { registers ≤ most_registers }
     ensures { Began representative.old value.old registers representative.new value.new }
 {
-    let mut i: usize = 0;
-    while i < registers {
+    for i in 0..registers {
         representative[i] = i as u16;
         value[i] = i as u16;
-        i = i + 1;
     }
 }
 
-// Runs over the letters from arrays that hold the state before them.
-fn perform(
-    header: Header,
-    trace: &[u8],
-    letters: usize,
-    function: &mut Numbers,
-    first: &mut Numbers,
-    second: &mut Numbers,
-    representative: &mut Numbers,
-    head: &mut Heads,
-    link: &mut Numbers,
-    value: &mut [u16; REGISTERS],
-    left: &mut Sides,
-    right: &mut Sides,
-) -> EngineOutcome
-    requires { Begun trace.now header letters
-        × Running trace.now header letters function.old first.old second.old representative.old head.old link.old value.old left.old
-        right.old header.registers header.registers 0 0 0 }
-    ensures { Ran trace.now header letters function.new first.new second.new representative.new result }
-{
-    let registers = header.registers as usize;
-    let mut counts = Counts {
-        terms: registers,
-        tests: 0,
-        parted: 0,
-    };
-    let mut k: usize = 0;
-    while k < letters {
-        let decoded = traces::letter_at(header, trace, k);
-        let DecodedLetter::Letter(letter) = decoded else {
-            return EngineOutcome::Malformed(k as u64 + 1);
-        };
-        counts = step(
-            letter,
-            function,
-            first,
-            second,
-            representative,
-            head,
-            link,
-            value,
-            left,
-            right,
-            registers,
-            counts,
-        );
-        let parted = counts.parted;
-        let tests = counts.tests;
-        if closure::clash(representative, left, right, parted, tests) {
-            return EngineOutcome::Infeasible(k as u64 + 1);
-        }
-        counts.parted = tests;
-        k = k + 1;
-    }
-    EngineOutcome::Feasible(counts.terms)
-}
-
-/// The number of the first letter after the first k that is not well formed, from 1; 0 if all are.
-pub fn first_malformed(header: Header, trace: &[u8], letters: usize, k: usize) -> u64
+/// The number of the first letter after the first k that is not well formed, from 1; none if all are.
+pub fn first_malformed(header: Header, trace: &[u8], letters: usize, k: usize) -> Option<u64>
     requires { Begun trace.now header letters }
     ensures { RestRead header (reading_from trace.now header letters k) result }
 {
-    let mut i = k;
-    while i < letters {
+    for i in k..letters {
         let at = UNIT_BYTES * i + UNIT_BYTES;
         let decoded = words::decode_letter(header, words::word(trace[at], trace[at + 1]));
         let DecodedLetter::Letter(letter) = decoded else {
-            return i as u64 + 1;
+            return Some(i as u64 + 1);
         };
-        i = i + 1;
     }
-    0
+    None
 }
 
-/// Runs over the letters of a trace whose header was read. Unless one is infeasible or not well formed, the arrays then hold the computed
-/// terms and their classes. Left free: the arrays else, and their entries past the computed terms.
-pub fn run(
-    header: Header,
-    trace: &[u8],
-    letters: usize,
-    function: &mut Numbers,
-    first: &mut Numbers,
-    second: &mut Numbers,
-    representative: &mut Numbers,
-) -> EngineOutcome
-    requires { Begun trace.now header letters × Blank function.old × Blank first.old × Blank second.old × Blank representative.old }
-    ensures { Ran trace.now header letters function.new first.new second.new representative.new result }
+/// Runs over the letters of a trace whose header was read. Unless one is infeasible or not well formed, `terms` then has the computed
+/// terms and their classes. Left free: what it has else, and the entries past the computed terms.
+pub fn run(header: Header, trace: &[u8], letters: usize, terms: &mut Terms) -> EngineOutcome
+    requires { Begun trace.now header letters × BlankTerms terms.old }
+    ensures ran { RanTo trace.now header letters terms.new result }
+    ensures registers { terms.new.registers ≡ header.registers }
 {
+    let mut progress = Progress {
+        index: Index {
+            head: [0; CHAINS],
+            link: [0; TERMS],
+        },
+        value: [0; REGISTERS],
+        tests: Tests {
+            count: 0,
+            parted: 0,
+            left: [0; MOST_LETTERS],
+            right: [0; MOST_LETTERS],
+        },
+    };
     let registers = header.registers as usize;
-    let mut head = [0u16; CHAINS];
-    let mut link = [0u16; TERMS];
-    let mut value = [0u16; REGISTERS];
-    let mut left = [0u16; MOST_LETTERS];
-    let mut right = [0u16; MOST_LETTERS];
-    begin(representative, &mut value, registers);
-    perform(
-        header,
-        trace,
-        letters,
-        function,
-        first,
-        second,
-        representative,
-        &mut head,
-        &mut link,
-        &mut value,
-        &mut left,
-        &mut right,
-    )
+    begin(&mut terms.representative, &mut progress.value, registers);
+    terms.registers = registers;
+    terms.count = registers;
+    progress.perform(terms, header, trace, letters)
 }

@@ -7,3 +7,4 @@ pub mod Listing
 pub mod Fitting
 pub mod Answer
 pub mod Stages
+pub mod Structs

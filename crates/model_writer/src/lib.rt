@@ -1,22 +1,19 @@
 // The shown model of a trace (SPEC 7): the values of the classes, the rows, and their bytes.
 #![tactic(auto)]
 
-ghost use Rattle.std.specs.Prelude.{◌≡◌, ℕ, suc, ◌+◌, ◌*◌, ◌<◌, ◌≤◌, length, get_or, take};
+ghost use Rattle.std.specs.Prelude.{◌≡◌, suc, ◌+◌, ◌<◌, ◌≤◌, length, take, cond};
 ghost use Rattle.letters.specs.Editions.{first_edition, most_functions};
 ghost use Rattle.semantics.specs.PackedTables.{units, pack_tables, second_written, row_bytes, word_bytes};
-ghost use Rattle.closure.specs.Limits.{signature_chains, most_terms};
-ghost use Rattle.closure.specs.Arrays.{Formed, IndexedTerms};
-ghost use Rattle.model_writer.specs.Values.{chosen, new_class, Numberable, Valued};
-ghost use Rattle.model_writer.specs.Rows.{NewRow};
-ghost use Rattle.model_writer.specs.Listing.{Listable, ListedAll};
-ghost use Rattle.engine.specs.Run.{Blank, Begun, reading_from};
+ghost use Rattle.model_writer.specs.Values.{Valued};
+ghost use Rattle.engine.specs.Run.{Begun, reading_from};
 ghost use Rattle.model_writer.specs.Inserted.{inserted};
-ghost use Rattle.model_writer.specs.Fitting.{Puttable, Put};
 ghost use Rattle.model_writer.specs.Answer.{Showed};
-ghost use Rattle.model_writer.specs.Stages.{SomeStateComputed, Modelled, Stopped};
-ghost use Rattle.model_writer.specs.Bytes.{value_range, joined_of, put_five, RowIn, word_for, words_for, StartsFit, RowsFit, Writable, tables_in};
+ghost use Rattle.model_writer.specs.Stages.{Stopped};
+ghost use Rattle.model_writer.specs.Bytes.{value_range, joined_of, put_five};
+ghost use Rattle.model_writer.specs.Structs.{NumberableTerms, RowBefore, NewRowIn, ListableTerms, ListedTerms, RowOf, word_of, words_of, StartsOf, RowsOf};
+ghost use Rattle.model_writer.specs.Structs.{WritableModel, tables_of_model, PuttableModel, PutModel, ComputedTerms, ModelledTerms};
 
-use closure::{CHAINS, Heads, Numbers, TERMS, wide};
+use closure::{CHAINS, Index, Numbers, TERMS, Terms};
 use engine::EngineOutcome;
 use letters::limits::{MOST_LETTERS, UNIT_BYTES};
 use letters::refusal_numbers::{LETTER_MALFORMED, OUTPUT_TOO_SMALL, TRACE_TOO_LONG};
@@ -53,124 +50,61 @@ pub enum Shown {
     Refused(u8, u64),
 }
 
-fn long(x: u16) -> u64
-    ensures { result ≡ x }
-{
-    x as u64
-}
-
-fn zeros() -> Numbers
-    ensures { Blank result }
-{
-    [0u16; TERMS]
-}
-
-// An index without entries.
-fn no_heads() -> Heads
-    ensures { (length result ≡ signature_chains) × ((b : ℕ) → get_or result b 0 ≡ 0) }
-{
-    [0u16; CHAINS]
-}
-
-// The value of term i: the next one for the first of its class, else that of its representative.
-fn value_of(representative: &Numbers, values: &Numbers, i: usize, next: u16) -> u16
-    requires { (i < most_terms) × (get_or representative.now i 0 < most_terms) }
-    ensures { result ≡ chosen representative.now values.now i next }
-{
-    let name = wide(representative[i]);
-    if name == i {
-        return next;
-    }
-    values[name]
-}
-
-// 1 for the first term of its class, 0 for another.
-fn new_class(representative: &Numbers, i: usize) -> u16
-    requires { i < most_terms }
-    ensures { result ≡ new_class representative.now i }
-{
-    if wide(representative[i]) == i { 1 } else { 0 }
+// The model of the computed terms: a value for each term, and the applications that have a row.
+#[derive(Drop)]
+struct Model {
+    // How many values there are, 0 counted.
+    count: u16,
+    // The value of each term.
+    values: Numbers,
+    // How many rows there are.
+    rows_count: usize,
+    // The applications that have one, in order of computation.
+    rows: Numbers,
 }
 
 // Gives each class a value, from 1 on by first term. The result is how many values there are, 0 counted.
-fn number(representative: &Numbers, count: usize, values: &mut Numbers) -> u16
-    requires { Numberable representative.now count values.old }
-    ensures { Valued representative.now count values.new result }
+fn number(terms: &Terms, values: &mut Numbers) -> u16
+    requires { NumberableTerms terms.now values.old }
+    ensures { Valued terms.now.representative terms.now.count values.new result }
 {
     let mut next: u16 = 1;
-    let mut i: usize = 0;
-    while i < count {
-        let v = value_of(representative, values, i, next);
-        values[i] = v;
-        next = next + new_class(representative, i);
-        i = i + 1;
+    for i in 0..terms.count {
+        let name = terms.representative[i] as usize;
+        if name == i {
+            values[i] = next;
+            next += 1;
+        } else {
+            values[i] = values[name];
+        }
     }
     next
 }
 
-// 1 if application i is the first with its signature, 0 if an earlier one has it. The index has the earlier ones, and then i too.
-fn new_row(
-    representative: &Numbers,
-    function: &Numbers,
-    first: &Numbers,
-    second: &Numbers,
-    head: &mut Heads,
-    link: &mut Numbers,
-    registers: usize,
-    i: usize,
-) -> usize
-    requires { Formed representative.now function.now first.now second.now registers (suc i) × (registers ≤ i)
-        × IndexedTerms representative.now function.now first.now second.now registers i head.old link.old }
-    ensures { NewRow representative.now function.now first.now second.now registers i head.new
-        link.new result }
+// Whether application i is the first with its signature. The index has the earlier ones, and then i too.
+fn new_row(terms: &Terms, index: &mut Index, i: usize) -> bool
+    requires { RowBefore terms.now index.old i }
+    ensures { NewRowIn terms.now i index.new (cond result 1 0) }
 {
-    let c = closure::signature_at(representative, function, first, second, i);
-    let found = closure::enter(
-        representative,
-        function,
-        first,
-        second,
-        head,
-        link,
-        registers,
-        i,
-        c,
-    );
-    if found == i { 1 } else { 0 }
+    let c = terms.signature_at(i);
+    index.enter(terms, i, c) == i
 }
 
 // Lists the applications that have a row, in order of computation. The result is how many there are.
-fn list(
-    representative: &Numbers,
-    function: &Numbers,
-    first: &Numbers,
-    second: &Numbers,
-    registers: usize,
-    count: usize,
-    rows: &mut Numbers,
-) -> usize
-    requires { Listable representative.now function.now first.now second.now registers count rows.old }
-    ensures { ListedAll representative.now function.now first.now second.now registers count
-        rows.new result }
+fn list(terms: &Terms, rows: &mut Numbers) -> usize
+    requires { ListableTerms terms.now rows.old }
+    ensures { ListedTerms terms.now rows.new result }
 {
-    let mut head = no_heads();
-    let mut link = zeros();
+    let mut index = Index {
+        head: [0; CHAINS],
+        link: [0; TERMS],
+    };
     let mut r: usize = 0;
-    let mut i = registers;
-    while i < count {
+    for i in terms.registers..terms.count {
         rows[r] = i as u16;
-        r = r
-            + new_row(
-                representative,
-                function,
-                first,
-                second,
-                &mut head,
-                &mut link,
-                registers,
-                i,
-            );
-        i = i + 1;
+        if new_row(terms, &mut index, i) {
+            r += 1;
+        }
     }
     r
 }
@@ -180,11 +114,8 @@ fn put_five(out: &mut [u8], at: usize, word: u64)
     requires { at + 4 < length out.old }
     ensures { out.new ≡ put_five out.old at word }
 {
-    out[at] = (word / 4294967296 % 256) as u8;
-    out[at + 1] = (word / 16777216 % 256) as u8;
-    out[at + 2] = (word / 65536 % 256) as u8;
-    out[at + 3] = (word / 256 % 256) as u8;
-    out[at + 4] = (word % 256) as u8;
+    let bytes = word.to_be_bytes();
+    out[at..at + ROW_BYTES].copy_from_slice(&bytes[bytes.len() - ROW_BYTES..]);
 }
 
 // The second argument as it is written: 0 for a function of one argument.
@@ -200,167 +131,88 @@ fn second_written(header: Header, f: u16, b: u16) -> u16
 }
 
 // The fields of a row put together: function 2, argument 11, argument 11, result 11, spare 5.
-fn joined(f: u64, a: u64, b: u64, c: u64) -> u64
+fn joined(f: u16, a: u16, b: u16, c: u16) -> u64
     requires { (f < most_functions) × (a < value_range) × (b < value_range) × (c < value_range) }
     ensures { result ≡ joined_of f a b c }
 {
-    f * ROW_FUNCTION + a * ROW_FIRST + b * ROW_SECOND + c * ROW_RESULT
+    f as u64 * ROW_FUNCTION + a as u64 * ROW_FIRST + b as u64 * ROW_SECOND + c as u64 * ROW_RESULT
 }
 
-// The row of application i as one number.
-fn row_word(
-    header: Header,
-    values: &Numbers,
-    function: &Numbers,
-    first: &Numbers,
-    second: &Numbers,
-    i: usize,
-) -> u64
-    requires { RowIn values.now function.now first.now second.now i }
-    ensures { result ≡ word_for header values.now function.now first.now second.now i }
-{
-    let a = wide(first[i]);
-    let b = wide(second[i]);
-    let f = function[i];
-    let s = second_written(header, f, values[b]);
-    joined(long(f), long(values[a]), long(s), long(values[i]))
-}
-
-// Writes the initial values from `at` on.
-fn write_starts(values: &Numbers, registers: usize, out: &mut [u8], at: usize)
-    requires { StartsFit values.now registers (length out.old) at }
-    ensures { out.new ≡ inserted at (units word_bytes (take registers values.now)) out.old }
-{
-    let mut i: usize = 0;
-    while i < registers {
-        words::put_word(out, at + WORD_BYTES * i, values[i]);
-        i = i + 1;
+impl Model {
+    // The row of application i as one number.
+    fn row_word(&self, header: Header, terms: &Terms, i: usize) -> u64
+        requires { RowOf terms.now self.now.values i }
+        ensures { result ≡ word_of header terms.now self.now.values i }
+    {
+        let f = terms.function[i];
+        let a = self.values[terms.first[i] as usize];
+        let b = self.values[terms.second[i] as usize];
+        joined(f, a, second_written(header, f, b), self.values[i])
     }
-}
 
-// Writes the first r rows from `at` on.
-fn write_rows(
-    header: Header,
-    values: &Numbers,
-    function: &Numbers,
-    first: &Numbers,
-    second: &Numbers,
-    rows: &Numbers,
-    r: usize,
-    out: &mut [u8],
-    at: usize,
-)
-    requires { RowsFit values.now function.now first.now second.now rows.now r (length out.old) at }
-    ensures { out.new ≡ inserted at
-        (units row_bytes (words_for header values.now function.now first.now second.now (take r rows.now)))
-        out.old }
-{
-    let mut k: usize = 0;
-    while k < r {
-        let i = wide(rows[k]);
-        let word = row_word(header, values, function, first, second, i);
-        put_five(out, at + ROW_BYTES * k, word);
-        k = k + 1;
+    // Writes the initial values from `at` on.
+    fn write_starts(&self, registers: usize, out: &mut [u8], at: usize)
+        requires { StartsOf self.now registers (length out.old) at }
+        ensures { out.new ≡ inserted at (units word_bytes (take registers self.now.values)) out.old }
+    {
+        for i in 0..registers {
+            words::put_word(out, at + WORD_BYTES * i, self.values[i]);
+        }
     }
-}
 
-// Writes the model: the count of values, that of rows, the initial values, the rows.
-fn write(
-    header: Header,
-    values: &Numbers,
-    function: &Numbers,
-    first: &Numbers,
-    second: &Numbers,
-    rows: &Numbers,
-    count: u16,
-    r: usize,
-    out: &mut [u8],
-)
-    requires { Writable header values.now function.now first.now second.now rows.now count r (length out.old) }
-    ensures { out.new ≡ inserted 0
-        (pack_tables first_edition header
-        (tables_in header values.now function.now first.now second.now rows.now count r))
-        out.old }
-{
-    let registers = header.registers as usize;
-    words::put_word(out, 0, count);
-    words::put_word(out, WORD_BYTES, r as u16);
-    write_starts(values, registers, out, COUNTS_BYTES);
-    write_rows(
-        header,
-        values,
-        function,
-        first,
-        second,
-        rows,
-        r,
-        out,
-        COUNTS_BYTES + WORD_BYTES * registers,
-    );
-}
-
-// Writes the model where it fits the output.
-fn put_model(
-    header: Header,
-    values: &Numbers,
-    function: &Numbers,
-    first: &Numbers,
-    second: &Numbers,
-    rows: &Numbers,
-    count: u16,
-    r: usize,
-    out: &mut [u8],
-) -> Shown
-    requires { Puttable header values.now function.now first.now second.now rows.now count r (length out.old) }
-    ensures { Put header values.now function.now first.now second.now rows.now count r
-        out.old result out.new }
-{
-    let length = COUNTS_BYTES + WORD_BYTES * (header.registers as usize) + ROW_BYTES * r;
-    if out.len() < length {
-        return Shown::Refused(OUTPUT_TOO_SMALL, 0);
+    // Writes the rows from `at` on.
+    fn write_rows(&self, header: Header, terms: &Terms, out: &mut [u8], at: usize)
+        requires { RowsOf terms.now self.now (length out.old) at }
+        ensures { out.new ≡ inserted at (units row_bytes (words_of header terms.now self.now)) out.old }
+    {
+        for k in 0..self.rows_count {
+            let word = self.row_word(header, terms, self.rows[k] as usize);
+            put_five(out, at + ROW_BYTES * k, word);
+        }
     }
-    write(header, values, function, first, second, rows, count, r, out);
-    Shown::Model(length)
+
+    // Writes the count of values, that of rows, the initial values, the rows.
+    fn write(&self, header: Header, terms: &Terms, out: &mut [u8])
+        requires { WritableModel header terms.now self.now (length out.old) }
+        ensures { out.new ≡ inserted 0 (pack_tables first_edition header (tables_of_model header terms.now self.now)) out.old }
+    {
+        let registers = header.registers as usize;
+        words::put_word(out, 0, self.count);
+        words::put_word(out, WORD_BYTES, self.rows_count as u16);
+        self.write_starts(registers, out, COUNTS_BYTES);
+        self.write_rows(header, terms, out, COUNTS_BYTES + WORD_BYTES * registers);
+    }
+
+    // Writes the model where it fits the output.
+    fn put(&self, header: Header, terms: &Terms, out: &mut [u8]) -> Shown
+        requires { PuttableModel header terms.now self.now (length out.old) }
+        ensures { PutModel header terms.now self.now out.old result out.new }
+    {
+        let length = COUNTS_BYTES
+            + WORD_BYTES * (header.registers as usize)
+            + ROW_BYTES * self.rows_count;
+        if out.len() < length {
+            return Shown::Refused(OUTPUT_TOO_SMALL, 0);
+        }
+        self.write(header, terms, out);
+        Shown::Model(length)
+    }
 }
 
 // Shows the model of the computed terms where it fits the output.
-fn show_model(
-    header: Header,
-    function: &Numbers,
-    first: &Numbers,
-    second: &Numbers,
-    representative: &Numbers,
-    count: usize,
-    out: &mut [u8],
-) -> Shown
-    requires { SomeStateComputed header function.now first.now second.now representative.now count }
-    ensures { Modelled header function.now first.now second.now representative.now count out.old result
-        out.new }
+fn show_model(header: Header, terms: &Terms, out: &mut [u8]) -> Shown
+    requires { ComputedTerms header terms.now × (terms.now.registers ≡ header.registers) }
+    ensures { ModelledTerms header terms.now out.old result out.new }
 {
-    let registers = header.registers as usize;
-    let mut values = zeros();
-    let mut rows = zeros();
-    let values_count = number(representative, count, &mut values);
-    let r = list(
-        representative,
-        function,
-        first,
-        second,
-        registers,
-        count,
-        &mut rows,
-    );
-    put_model(
-        header,
-        &values,
-        function,
-        first,
-        second,
-        &rows,
-        values_count,
-        r,
-        out,
-    )
+    let mut model = Model {
+        count: 0,
+        values: [0; TERMS],
+        rows_count: 0,
+        rows: [0; TERMS],
+    };
+    model.count = number(terms, &mut model.values);
+    model.rows_count = list(terms, &mut model.rows);
+    model.put(header, terms, out)
 }
 
 // Names the first infeasible letter k, unless a letter after it is not well formed: question 4 is asked of all letters.
@@ -368,11 +220,10 @@ fn name_infeasible(header: Header, trace: &[u8], letters: usize, k: u64) -> Show
     requires { Begun trace.now header letters }
     ensures { Stopped header (reading_from trace.now header letters k) k result }
 {
-    let broken = engine::first_malformed(header, trace, letters, k as usize);
-    if broken == 0 {
-        return Shown::Infeasible(k);
+    match engine::first_malformed(header, trace, letters, k as usize) {
+        None => Shown::Infeasible(k),
+        Some(broken) => Shown::Refused(LETTER_MALFORMED, broken),
     }
-    Shown::Refused(LETTER_MALFORMED, broken)
 }
 
 // Shows what is due for a trace whose header was read.
@@ -380,31 +231,18 @@ fn show_trace(header: Header, trace: &[u8], letters: usize, out: &mut [u8]) -> S
     requires { Begun trace.now header letters }
     ensures { Showed trace.now out.old result out.new }
 {
-    let mut function = zeros();
-    let mut first = zeros();
-    let mut second = zeros();
-    let mut representative = zeros();
-    let outcome = engine::run(
-        header,
-        trace,
-        letters,
-        &mut function,
-        &mut first,
-        &mut second,
-        &mut representative,
-    );
-    match outcome {
+    let mut terms = Terms {
+        registers: 0,
+        count: 0,
+        function: [0; TERMS],
+        first: [0; TERMS],
+        second: [0; TERMS],
+        representative: [0; TERMS],
+    };
+    match engine::run(header, trace, letters, &mut terms) {
         EngineOutcome::Malformed(k) => Shown::Refused(LETTER_MALFORMED, k),
         EngineOutcome::Infeasible(k) => name_infeasible(header, trace, letters, k),
-        EngineOutcome::Feasible(count) => show_model(
-            header,
-            &function,
-            &first,
-            &second,
-            &representative,
-            count,
-            out,
-        ),
+        EngineOutcome::Feasible => show_model(header, &terms, out),
     }
 }
 

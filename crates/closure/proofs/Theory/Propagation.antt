@@ -3,7 +3,7 @@ use mathlib.Core.Path.{◌≡◌, refl, sym, ◌∙◌, ap, subst}
 use mathlib.Core.Logic.{◌⊎◌, inl, inr, ◌≢◌}
 use mathlib.Core.Bool.{Bool, true, false}
 use mathlib.Core.List.{List}
-use Prim.Native.Nat.{ℕ, zero, suc, ◌+◌, ◌-◌, ◌*◌, ◌%◌, ◌≤◌, ◌<◌}
+use Prim.Native.Nat.{ℕ, zero, suc, ◌+◌, ◌-◌, ◌*◌, ◌%◌, ◌≤◌, ◌<◌, min, max}
 use native.Mathlib.Omega.{arith}
 use native.Mathlib.Numerals.{add-one}
 use lib.Dec.{eqb, ltb}
@@ -20,50 +20,30 @@ use Rattle.closure.specs.Merging.{Entailed, relabel_of}
 use Rattle.closure.proofs.Theory.Merging.{propagating_start, propagating_union, Relabeled, moved, stays, relabeled}
 use Rattle.closure.specs.Index.{ChainHas, CutTo, Chains, CompleteIndex, Entered}
 use Rattle.closure.proofs.Theory.Index.{holds_least, holds_most, chains_widen, signature_same}
-use Rattle.closure.specs.Arrays.{entry_at, Below, Formed, Readable, Named, low_of, high_of, fall_of, sum_below, classes_united, relabelled, signature_at}
+use Rattle.closure.specs.Arrays.{entry_at, Below, Formed, Readable, Named, fall_of, sum_below, classes_united, relabelled, signature_at}
 use Rattle.closure.specs.Arrays.{IndexedTerms, CongruentUnions, Underway, Propagated, Resumed, Merged}
 use Rattle.closure.proofs.Theory.Entering.{readable}
 
 -- ---- the lower and the higher of two
-pub sides : (a b : ℕ) → ((high_of a b ≡ a) × (low_of a b ≡ b)) ⊎ ((high_of a b ≡ b) × (low_of a b ≡ a))
-unfolding high_of low_of
-sides a b = go (ltb a b)
-  where
-    go : (t : Bool) → ((pick t (λ _. b) (λ _. a) ≡ a) × (pick t (λ _. a) (λ _. b) ≡ b)) ⊎ ((pick t (λ _. b) (λ _. a) ≡ b) × (pick t (λ _. a) (λ _. b) ≡ a))
-    go true = inr (refl, refl)
-    go false = inl (refl, refl)
+pub sides : (a b : ℕ) → ((max a b ≡ a) × (min a b ≡ b)) ⊎ ((max a b ≡ b) × (min a b ≡ a))
+sides a b = by_test (ltb a b) (λ t. let h = ltb-true a b t in inr (omega arith, omega arith)) (λ t. let h = ltb-false a b t in inl (omega arith, omega arith))
 
-pub low_less : (a b : ℕ) → a ≢ b → low_of a b < high_of a b
-unfolding high_of low_of
-low_less a b d = go (ltb a b) refl
-  where
-    go : (t : Bool) → ltb a b ≡ t → pick t (λ _. a) (λ _. b) < pick t (λ _. b) (λ _. a)
-    go true e = ltb-true a b e
-    go false e = let h = ltb-false a b e in let n : ¬ (a ≡ b) = d in omega arith
+pub low_less : (a b : ℕ) → a ≢ b → min a b < max a b
+low_less a b d = let n : ¬ (a ≡ b) = d in omega arith
 
-low_le : (a b : ℕ) → low_of a b ≤ high_of a b
-unfolding high_of low_of
-low_le a b = go (ltb a b) refl
-  where
-    go : (t : Bool) → ltb a b ≡ t → pick t (λ _. a) (λ _. b) ≤ pick t (λ _. b) (λ _. a)
-    go true e = omega (arith, ltb-true a b e)
-    go false e = omega (arith, ltb-false a b e)
+low_le : (a b : ℕ) → min a b ≤ max a b
+low_le a b = omega arith
 
-pub low_below : (a b m : ℕ) → a < m → b < m → low_of a b < m
-low_below a b m p q = elim (sides a b) [ inl (e, g) ↦ subst (λ v. v < m) (sym g) q | inr (e, g) ↦ subst (λ v. v < m) (sym g) p ]
+pub low_below : (a b m : ℕ) → a < m → b < m → min a b < m
+low_below a b m p q = omega arith
 
-high_most : (a b : ℕ) → (a ≤ high_of a b) × (b ≤ high_of a b)
-unfolding high_of
-high_most a b = go (ltb a b) refl
-  where
-    go : (t : Bool) → ltb a b ≡ t → (a ≤ pick t (λ _. b) (λ _. a)) × (b ≤ pick t (λ _. b) (λ _. a))
-    go true e = let h = ltb-true a b e in (omega arith, omega arith)
-    go false e = let h = ltb-false a b e in (omega arith, omega arith)
+high_most : (a b : ℕ) → (a ≤ max a b) × (b ≤ max a b)
+high_most a b = (omega arith, omega arith)
 
 -- ---- where `resume` goes on
 module _ (representative function first second : List ℕ) (registers i d v next : ℕ) (head link : List ℕ)
     (readable : Readable representative function first second registers i)
-    (w : Chains i head link) (most : d ≤ i) (ev : v ≡ d) (e : next ≡ high_of v registers) where
+    (w : Chains i head link) (most : d ≤ i) (ev : v ≡ d) (e : next ≡ max v registers) where
   next_most : next ≤ i
   next_most = let more = readable.more in
       elim (sides v registers) [ inl (a, b) ↦ let c : next ≡ v = e ∙ a in omega arith | inr (a, b) ↦ let c : next ≡ registers = e ∙ a in omega arith ]
@@ -147,12 +127,12 @@ relabel_other from to v x = go (relabeled from to v)
     go (stays e) = refl
 
 -- two representatives that are made one
-one_name : (a b : ℕ) → relabel_of (high_of a b) (low_of a b) a ≡ relabel_of (high_of a b) (low_of a b) b
+one_name : (a b : ℕ) → relabel_of (max a b) (min a b) a ≡ relabel_of (max a b) (min a b) b
 one_name a b = elim (sides a b) [
-  | inl (e, g) ↦ ap (relabel_of (high_of a b) (low_of a b)) (sym e) ∙ relabel_hit (high_of a b) (low_of a b) ∙ sym (relabel_to (high_of a b) (low_of a b))
-      ∙ ap (relabel_of (high_of a b) (low_of a b)) g
-  | inr (e, g) ↦ sym (ap (relabel_of (high_of a b) (low_of a b)) (sym e) ∙ relabel_hit (high_of a b) (low_of a b) ∙ sym (relabel_to (high_of a b) (low_of a b))
-      ∙ ap (relabel_of (high_of a b) (low_of a b)) g)
+  | inl (e, g) ↦ ap (relabel_of (max a b) (min a b)) (sym e) ∙ relabel_hit (max a b) (min a b) ∙ sym (relabel_to (max a b) (min a b))
+      ∙ ap (relabel_of (max a b) (min a b)) g
+  | inr (e, g) ↦ sym (ap (relabel_of (max a b) (min a b)) (sym e) ∙ relabel_hit (max a b) (min a b) ∙ sym (relabel_to (max a b) (min a b))
+      ∙ ap (relabel_of (max a b) (min a b)) g)
 ]
 
 -- ---- the loop of `relabel`
@@ -183,8 +163,8 @@ relabel_starts from to n i l w h e =
     done_same (λ _ v. relabel_of from to v) i l 0 (λ k b. relabel_other from to (get_or l k 0) (λ z. let x = w.lowest k (omega arith) in omega arith))
 
 -- the names of two terms, and that of the lower
-module _ (n i j low high : ℕ) (l : List ℕ) (w : Named l n) (p : i < n) (q : j < n) (el : low ≡ low_of (get_or l i 0) (get_or l j 0))
-    (eh : high ≡ high_of (get_or l i 0) (get_or l j 0)) where
+module _ (n i j low high : ℕ) (l : List ℕ) (w : Named l n) (p : i < n) (q : j < n) (el : low ≡ min (get_or l i 0) (get_or l j 0))
+    (eh : high ≡ max (get_or l i 0) (get_or l j 0)) where
   pub names_ready : (high ≤ n) × (low ≤ high)
   names_ready = let a = w.lowest i p in let b = w.lowest j q in let c = low_le (get_or l i 0) (get_or l j 0) in (
     elim (sides (get_or l i 0) (get_or l j 0))
@@ -195,7 +175,7 @@ module _ (n i j low high : ℕ) (l : List ℕ) (w : Named l n) (p : i < n) (q : 
 -- ---- what a union does at each entry
 pub record United (n i j : ℕ) (l r : List ℕ) : Type 0 where
   pub long : length r ≡ length l
-  pub at_each : (k : ℕ) → k < n → get_or r k 0 ≡ relabel_of (high_of (get_or l i 0) (get_or l j 0)) (low_of (get_or l i 0) (get_or l j 0)) (get_or l k 0)
+  pub at_each : (k : ℕ) → k < n → get_or r k 0 ≡ relabel_of (max (get_or l i 0) (get_or l j 0)) (min (get_or l i 0) (get_or l j 0)) (get_or l k 0)
   pub beyond : (k : ℕ) → n ≤ k → get_or r k 0 ≡ get_or l k 0
 
 pub united_is : (n i j : ℕ) (l r : List ℕ) → n ≤ length l → r ≡ classes_united n i j l → United n i j l r
@@ -212,9 +192,9 @@ union_less n next r i j bi bj x m =
     let b = get_or next j 0 in
     let lt = low_less a b x in
     let le : (k : ℕ) → k < n → get_or r k 0 ≤ get_or next k 0 =
-    λ k p. subst (λ v. v ≤ get_or next k 0) (sym (m.at_each k p)) (relabel_le (high_of a b) (low_of a b) (get_or next k 0) (omega arith)) in
-    let st : (p : ℕ) → p < n → get_or next p 0 ≡ high_of a b → get_or r p 0 < get_or next p 0 = λ p q e.
-    let g : get_or r p 0 ≡ low_of a b = m.at_each p q ∙ ap (relabel_of (high_of a b) (low_of a b)) e ∙ relabel_hit (high_of a b) (low_of a b) in omega arith in
+    λ k p. subst (λ v. v ≤ get_or next k 0) (sym (m.at_each k p)) (relabel_le (max a b) (min a b) (get_or next k 0) (omega arith)) in
+    let st : (p : ℕ) → p < n → get_or next p 0 ≡ max a b → get_or r p 0 < get_or next p 0 = λ p q e.
+    let g : get_or r p 0 ≡ min a b = m.at_each p q ∙ ap (relabel_of (max a b) (min a b)) e ∙ relabel_hit (max a b) (min a b) in omega arith in
     elim (sides a b) [
       | inl (e, g) ↦ total_lt n r next i bi le (st i bi (sym e))
       | inr (e, g) ↦ total_lt n r next j bj le (st j bj (sym e))
@@ -240,10 +220,10 @@ module _ (function first second : List ℕ) (registers n : ℕ) where
   }
     where
       high : ℕ
-      high = high_of (get_or next i 0) (get_or next j 0)
+      high = max (get_or next i 0) (get_or next j 0)
 
       low : ℕ
-      low = low_of (get_or next i 0) (get_or next j 0)
+      low = min (get_or next i 0) (get_or next j 0)
 
       in_range : (k : ℕ) → k < n → {w : ℕ} → Relabeled high low (get_or next k 0) w → w < n
       in_range k h (moved e) = low_below _ _ n (f.classes i p) (f.classes j q)
@@ -305,7 +285,7 @@ module _ (function first second : List ℕ) (registers n : ℕ) where
     propagates = λ old x y w.
         let (g, u, v) = same_signature next i j f bi bj e in
         propagating_union (entry_at function) (entry_at first) (entry_at second) registers n old x y (entry_at next) (entry_at r) i j
-        (high_of (get_or next i 0) (get_or next j 0)) (low_of (get_or next i 0) (get_or next j 0)) w
+        (max (get_or next i 0) (get_or next j 0)) (min (get_or next i 0) (get_or next j 0)) w
         (Entailed.congruent li bi lj bj g (w.sound (entry_at first i) (entry_at first j) (f.firsts i bi) (f.firsts j bj) u)
         (w.sound (entry_at second i) (entry_at second j) (f.seconds i bi) (f.seconds j bj) v))
         bi bj (sides (get_or next i 0) (get_or next j 0)) m.at_each;
@@ -314,14 +294,14 @@ module _ (function first second : List ℕ) (registers n : ℕ) where
 
   -- the name that goes is not after the terms
   name_most : (next : List ℕ) (a b i d : ℕ) → Formed next function first second registers n → a < n → b < n → a ≤ i → b ≤ i
-      → d ≡ high_of (get_or next a 0) (get_or next b 0) → d ≤ i
+      → d ≡ max (get_or next a 0) (get_or next b 0) → d ≤ i
   name_most next a b i d f la lb p q e = let u = f.lowest a la in let v = f.lowest b lb in
       elim (sides (get_or next a 0) (get_or next b 0))
       [ inl (x, y) ↦ let c : d ≡ get_or next a 0 = e ∙ x in omega arith | inr (x, y) ↦ let c : d ≡ get_or next b 0 = e ∙ x in omega arith ]
 
   pub start_ready : (representative head link : List ℕ) (x y d : ℕ) → Formed representative function first second registers n → x < n → y < n
       → IndexedTerms representative function first second registers n head link
-      → d ≡ high_of (get_or representative x 0) (get_or representative y 0)
+      → d ≡ max (get_or representative x 0) (get_or representative y 0)
       → Readable representative function first second registers n × Chains n head link × CompleteIndex (signature representative) registers n head link
       × (d ≤ n)
   start_ready representative head link x y d f p q w e =
@@ -329,11 +309,11 @@ module _ (function first second : List ℕ) (registers n : ℕ) where
 
   -- ---- a union, and what is still known of the applications before the name that went
   module _ (next r : List ℕ) (a b i d : ℕ) (f : Formed next function first second registers n) (h : i ≤ n) (m : United n a b next r)
-      (ed : d ≡ high_of (get_or next a 0) (get_or next b 0))
+      (ed : d ≡ max (get_or next a 0) (get_or next b 0))
       (st : Closed (entry_at function) (entry_at first) (entry_at second) registers i (entry_at next)) (head link : List ℕ)
       (all : CompleteIndex (signature next) registers i head link) (q : ℕ) (head' : List ℕ) (w : Resumed registers i d head link q head') where
     unmoved : (v k : ℕ) → registers ≤ k → k < q → v ≤ k → v < n → get_or r v 0 ≡ get_or next v 0
-    unmoved v k p l le ln = m.at_each v ln ∙ relabel_other (high_of (get_or next a 0) (get_or next b 0)) (low_of (get_or next a 0) (get_or next b 0)) (get_or next v 0)
+    unmoved v k p l le ln = m.at_each v ln ∙ relabel_other (max (get_or next a 0) (get_or next b 0)) (min (get_or next a 0) (get_or next b 0)) (get_or next v 0)
         (λ z. let x = w.before k p l in let y = f.lowest v ln in omega arith)
 
     first_same : (k : ℕ) → registers ≤ k → k < q → get_or r (get_or first k 0) 0 ≡ get_or next (get_or first k 0) 0
@@ -351,7 +331,7 @@ module _ (function first second : List ℕ) (registers n : ℕ) where
     pub resumed_closed : Closed (entry_at function) (entry_at first) (entry_at second) registers q (entry_at r)
     unfolding Closed
     resumed_closed u v pu lu pv lv e x y = let z = w.most in
-        m.at_each u (omega arith) ∙ ap (relabel_of (high_of (get_or next a 0) (get_or next b 0)) (low_of (get_or next a 0) (get_or next b 0)))
+        m.at_each u (omega arith) ∙ ap (relabel_of (max (get_or next a 0) (get_or next b 0)) (min (get_or next a 0) (get_or next b 0)))
         (st u v pu (omega arith) pv (omega arith) e (sym (first_same u pu lu) ∙ x ∙ first_same v pv lv) (sym (second_same u pu lu) ∙ y ∙ second_same v pv lv))
         ∙ sym (m.at_each v (omega arith))
 
@@ -419,7 +399,7 @@ module _ (function first second : List ℕ) (registers n : ℕ) where
       found_before : o < i
       found_before = let d : o ≢ i = λ e. x (ap (λ k. get_or next k 0) e) in let m = w.most in omega arith
 
-      pub resume_ready : (d : ℕ) → d ≡ high_of (get_or next o 0) (get_or next i 0)
+      pub resume_ready : (d : ℕ) → d ≡ max (get_or next o 0) (get_or next i 0)
           → Readable next function first second registers i × Chains i head' link' × CompleteIndex (signature next) registers i head' link' × (d ≤ i)
       resume_ready d e = let (p, q) = w.kept found_before in (
         readable i g.joined.formed g.least g.most,
@@ -435,7 +415,7 @@ module _ (function first second : List ℕ) (registers n : ℕ) where
       union_shrinks : (r : List ℕ) → r ≡ classes_united n o i next → sum_below n r < sum_below n next
       union_shrinks r e = union_less n next r o i found_below h x (into r e)
 
-      pub underway_union : (r head'' : List ℕ) (d q : ℕ) → r ≡ classes_united n o i next → d ≡ high_of (get_or next o 0) (get_or next i 0)
+      pub underway_union : (r head'' : List ℕ) (d q : ℕ) → r ≡ classes_united n o i next → d ≡ max (get_or next o 0) (get_or next i 0)
           → Resumed registers i d head' link' q head'' → Underway start function first second registers n r head'' link' q
       underway_union r head'' d q e ed z = let (eh, el) = w.kept found_before in record {
         least = z.least;
@@ -467,7 +447,7 @@ module _ (function first second : List ℕ) (registers n : ℕ) where
   pub underway_start : (representative next head link head' : List ℕ) (x y d q : ℕ) → Formed representative function first second registers n → x < n → y < n
       → Closed (entry_at function) (entry_at first) (entry_at second) registers n (entry_at representative)
       → IndexedTerms representative function first second registers n head link → next ≡ classes_united n x y representative
-      → d ≡ high_of (get_or representative x 0) (get_or representative y 0) → Resumed registers n d head link q head'
+      → d ≡ max (get_or representative x 0) (get_or representative y 0) → Resumed registers n d head link q head'
       → Underway next function first second registers n next head' link q
   underway_start representative next head link head' x y d q f p l st w e ed z = let m =
       united_is n x y representative next (let a = f.long in let b = f.within in omega arith) e in record {
@@ -484,7 +464,7 @@ module _ (function first second : List ℕ) (registers n : ℕ) where
       → Merged representative function first second registers n x y r head link
   merged_is representative next r head link x y f p q m c =
       let w = propagating_union (entry_at function) (entry_at first) (entry_at second) registers n (entry_at representative) x y (entry_at representative)
-      (entry_at next) x y (high_of (get_or representative x 0) (get_or representative y 0)) (low_of (get_or representative x 0) (get_or representative y 0))
+      (entry_at next) x y (max (get_or representative x 0) (get_or representative y 0)) (min (get_or representative x 0) (get_or representative y 0))
       (propagating_start (entry_at function) (entry_at first) (entry_at second) registers n (entry_at representative) x y) Entailed.tested p q
       (sides (get_or representative x 0) (get_or representative y 0)) m.at_each in
       let v = c.joined.propagates (entry_at representative) x y w in

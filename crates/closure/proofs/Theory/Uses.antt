@@ -1,9 +1,9 @@
 -- The search for an argument of a class, and a union of a class that is no argument.
 use mathlib.Core.Path.{◌≡◌, sym, ◌∙◌, ap, subst}
 use mathlib.Core.Logic.{inl, inr, ◌≢◌}
-use mathlib.Core.Bool.{Bool, true, false, not}
+use mathlib.Core.Bool.{Bool, true, false}
 use mathlib.Core.List.{List}
-use Prim.Native.Nat.{ℕ, ◌+◌, ◌%◌, ◌≤◌, ◌<◌}
+use Prim.Native.Nat.{ℕ, ◌+◌, ◌%◌, ◌≤◌, ◌<◌, min, max}
 use native.Mathlib.Omega.{arith}
 use lib.Dec.{eqb}
 use lib.ListN.{get_or}
@@ -14,7 +14,7 @@ use Rattle.closure.specs.Numbering.{Closed}
 use Rattle.closure.specs.Merging.{relabel_of}
 use Rattle.closure.proofs.Theory.Index.{holds_most}
 use Rattle.closure.specs.Index.{CompleteIndex}
-use Rattle.closure.specs.Arrays.{entry_at, Below, Formed, high_of, low_of, signature_at, IndexedTerms, Lowest, UsedAsArgument, used, unused, Merged}
+use Rattle.closure.specs.Arrays.{entry_at, Below, Formed, signature_at, IndexedTerms, Lowest, UsedAsArgument, used, unused, Merged}
 use Rattle.closure.proofs.Theory.Propagation.{United, united_merged, relabel_other}
 
 pub lowest : {representative function first second : List ℕ} {registers n : ℕ} → Formed representative function first second registers n
@@ -76,18 +76,18 @@ module _ (function first second representative head link : List ℕ) (registers 
     (st : Closed (entry_at function) (entry_at first) (entry_at second) registers n (entry_at representative))
     (index : IndexedTerms representative function first second registers n head link) (next : List ℕ) (m : United n x y representative next) where
   module _ (none : (k : ℕ) → k < n
-      → (get_or representative (get_or first k 0) 0 ≢ high_of (get_or representative x 0) (get_or representative y 0))
-      × (get_or representative (get_or second k 0) 0 ≢ high_of (get_or representative x 0) (get_or representative y 0))) where
+      → (get_or representative (get_or first k 0) 0 ≢ max (get_or representative x 0) (get_or representative y 0))
+      × (get_or representative (get_or second k 0) 0 ≢ max (get_or representative x 0) (get_or representative y 0))) where
     first_same : (k : ℕ) → k < n → get_or next (get_or first k 0) 0 ≡ get_or representative (get_or first k 0) 0
     unfolding Below
     first_same k h = m.at_each (get_or first k 0) (f.firsts k h)
-        ∙ relabel_other (high_of (get_or representative x 0) (get_or representative y 0)) (low_of (get_or representative x 0) (get_or representative y 0)) _
+        ∙ relabel_other (max (get_or representative x 0) (get_or representative y 0)) (min (get_or representative x 0) (get_or representative y 0)) _
         (none k h).0
 
     second_same : (k : ℕ) → k < n → get_or next (get_or second k 0) 0 ≡ get_or representative (get_or second k 0) 0
     unfolding Below
     second_same k h = m.at_each (get_or second k 0) (f.seconds k h)
-        ∙ relabel_other (high_of (get_or representative x 0) (get_or representative y 0)) (low_of (get_or representative x 0) (get_or representative y 0)) _
+        ∙ relabel_other (max (get_or representative x 0) (get_or representative y 0)) (min (get_or representative x 0) (get_or representative y 0)) _
         (none k h).1
 
     same : (k : ℕ) → k < n → signature_at next function first second k ≡ signature_at representative function first second k
@@ -104,12 +104,12 @@ module _ (function first second representative head link : List ℕ) (registers 
     still_closed : Closed (entry_at function) (entry_at first) (entry_at second) registers n (entry_at next)
     unfolding Closed
     still_closed i j l h r k e u v =
-        m.at_each i h ∙ ap (relabel_of (high_of (get_or representative x 0) (get_or representative y 0)) (low_of (get_or representative x 0) (get_or representative y 0)))
+        m.at_each i h ∙ ap (relabel_of (max (get_or representative x 0) (get_or representative y 0)) (min (get_or representative x 0) (get_or representative y 0)))
         (st i j l h r k e (sym (first_same i h) ∙ u ∙ first_same j k) (sym (second_same i h) ∙ v ∙ second_same j k)) ∙ sym (m.at_each j k)
 
-  pub merged_unused : (d : ℕ) (b : Bool) → d ≡ high_of (get_or representative x 0) (get_or representative y 0) → UsedAsArgument representative first second n d b
-      → not b ≡ true → Merged representative function first second registers n x y next head link
-  merged_unused d b e (used k h u) z = absurd (true_false (sym z))
+  pub merged_unused : (d : ℕ) (b : Bool) → d ≡ max (get_or representative x 0) (get_or representative y 0) → UsedAsArgument representative first second n d b
+      → b ≡ false → Merged representative function first second registers n x y next head link
+  merged_unused d b e (used k h u) z = absurd (true_false z)
   merged_unused d b e (unused none) z =
       let none' = subst (λ d. (k : ℕ) → k < n → (get_or representative (get_or first k 0) 0 ≢ d) × (get_or representative (get_or second k 0) 0 ≢ d)) e none in
       united_merged function first second registers n representative next head link x y f p q m (still_closed none')

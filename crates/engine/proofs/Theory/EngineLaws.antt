@@ -25,7 +25,7 @@ use Rattle.closure.specs.Arrays.{entry_at, Below, Formed, IndexedTerms, signatur
 use Rattle.closure.proofs.Theory.Entering.{looked_known, looked_fresh}
 use Rattle.closure.proofs.Theory.Propagation.{merged_same}
 use Rattle.closure.proofs.Theory.Steps.{letter_equal, letter_apply}
-use Rattle.engine.specs.declared.Counts.{Counts}
+use Rattle.engine.specs.Engine.{Counts}
 use Rattle.engine.specs.Engine.{Engine, Ready, LetterPerformed, Applied, Appliable, Computable, Computing, Equatable, TermsEquated, Notable, Noted}
 use Rattle.engine.specs.Engine.{name_of}
 
@@ -356,11 +356,11 @@ module _ (letter : Letter) (function first second representative head link value
     second_term = value_in y g.1;
   }
 
-  pub notable : Notable letter counts
+  pub notable : (n : ℕ) → Notable letter (record { terms = n; tests = counts.tests; parted = counts.parted })
   unfolding Notable
-  notable = go letter refl
+  notable n = go letter refl
     where
-      go : (l : Letter) → letter ≡ l → Notable l counts
+      go : (l : Letter) → letter ≡ l → Notable l (record { terms = n; tests = counts.tests; parted = counts.parted })
       go (Copy x y) e = let g = fits_as e in (in_registers x g.0, in_registers y g.1)
       go (Unequal x y) e = let g = fits_as e in let b = r.engine.tests_few in let h = r.few in (in_registers x g.0, in_registers y g.1, omega arith)
       go (Apply x f y z) e = tt

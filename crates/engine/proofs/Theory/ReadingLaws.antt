@@ -8,6 +8,7 @@ use lib.ListN.{length, get_or, take, drop}
 use lib.Seq.{drop-drop}
 use borrow.Author.Tests.{le-ltb, le-leb, ltb-false, eqb-true}
 use Rattle.base.proofs.Theory.Choice.{by_test}
+use Rattle.std.specs.Prelude.{Some, None}
 use Rattle.letters.specs.declared.Header.{Header}
 use Rattle.letters.specs.declared.Letter.{Letter}
 use Rattle.letters.specs.declared.DecodedLetter.{DecodedLetter}
@@ -128,7 +129,7 @@ module _ (s : List ℕ) (h : Header) (n : ℕ) (r : Begun s h n) where
     following_start = record { letters = []; rest = sym (behind_none (reading_from s h n k)) }
 
     module _ (i : ℕ) (w : Following s h n k i) where
-      pub following_end : n ≤ i → RestRead h (reading_from s h n k) 0
+      pub following_end : n ≤ i → RestRead h (reading_from s h n k) None
       following_end b = all_read (w.letters ++ []) (w.rest ∙ ap (behind w.letters) (rest_ends i b))
 
       module _ (b : i < n) (d : DecodedLetter) (e : letter_answer d ≡ letter_at first_edition h s i) where
@@ -139,5 +140,5 @@ module _ (s : List ℕ) (h : Header) (n : ℕ) (r : Begun s h n) where
               w.rest ∙ ap (behind w.letters) (rest_good i b d e q) ∙ behind_one w.letters l (reading_from s h n (i + 1));
         }
 
-        pub following_bad : d ≡ decoded.Malformed → RestRead h (reading_from s h n k) (i + 1)
+        pub following_bad : d ≡ decoded.Malformed → RestRead h (reading_from s h n k) (Some (i + 1))
         following_bad q = broken (i + 1) (omega arith) (w.rest ∙ ap (behind w.letters) (rest_bad i b d e q))

@@ -8,6 +8,8 @@ use native.Mathlib.Nat.{zero-add}
 use lib.ListN.{length, get_or, take, drop, length-map}
 use lib.Seq.{length-take-le}
 use borrow.Author.Tests.{eq-eqb, ne_eqb, le-leb, lt-leb, lt-ltb}
+use Rattle.std.specs.Prelude.{Option, Some, None}
+use Rattle.std.proofs.lemmas.Option.{none-some}
 use Rattle.letters.specs.declared.Header.{Header}
 use Rattle.letters.specs.declared.Letter.{Letter}
 use Rattle.traces.specs.declared.HeaderRead.{HeaderRead}
@@ -182,13 +184,15 @@ module _ (h : Header) (function first second representative : List ℕ) (n : ℕ
 
 -- ---- what the run of a trace gives
 module _ (s : List ℕ) (h : Header) (n : ℕ) (r : run.Begun s h n) (out : List ℕ) where
-  ran_malformed : {function first second representative : List ℕ} {o : EngineOutcome} (k : ℕ) → run.Ran s h n function first second representative o
+  ran_malformed : {function first second representative : List ℕ} {m : ℕ} {o : EngineOutcome} (k : ℕ)
+      → run.Ran s h n function first second representative m o
       → o ≡ outcome.Malformed k → letters_of first_edition h s ≡ TraceReading.refused letter_malformed k
   ran_malformed k (run.malformed j e) q = let z : j ≡ k = cc in e ∙ ap (TraceReading.refused letter_malformed) z
   ran_malformed k (run.infeasible j ls e f p) q = let z : ◌≡◌ {A = ℕ} 0 1 = cc in absurd (omega arith)
-  ran_malformed k (run.feasible j ls e i c) q = let z : ◌≡◌ {A = ℕ} 0 1 = cc in absurd (omega arith)
+  ran_malformed k (run.feasible ls e i c) q = let z : ◌≡◌ {A = ℕ} 0 1 = cc in absurd (omega arith)
 
-  ran_infeasible : {function first second representative : List ℕ} {o : EngineOutcome} (k : ℕ) → run.Ran s h n function first second representative o
+  ran_infeasible : {function first second representative : List ℕ} {m : ℕ} {o : EngineOutcome} (k : ℕ)
+      → run.Ran s h n function first second representative m o
       → o ≡ outcome.Infeasible k
       → (ls : List Letter) × (letters_of first_edition h s ≡ run.behind ls (run.reading_from s h n k)) × FailsAt (λ π. Feasible (state π)) (trace_of h ls) k
       × (1 ≤ k)
@@ -200,23 +204,23 @@ module _ (s : List ℕ) (h : Header) (n : ℕ) (r : run.Begun s h n) (out : List
         (FailsAt (λ π. Feasible (state π)) (trace_of h ls)) z f,
     subst (λ i. 1 ≤ i) z p,
   )
-  ran_infeasible k (run.feasible j ls e i c) q = let z : ◌≡◌ {A = ℕ} 0 1 = cc in absurd (omega arith)
+  ran_infeasible k (run.feasible ls e i c) q = let z : ◌≡◌ {A = ℕ} 0 1 = cc in absurd (omega arith)
 
-  ran_feasible : {function first second representative : List ℕ} {o : EngineOutcome} (k : ℕ) → run.Ran s h n function first second representative o
-      → o ≡ outcome.Feasible k
+  ran_feasible : {function first second representative : List ℕ} {m : ℕ} {o : EngineOutcome} → run.Ran s h n function first second representative m o
+      → o ≡ outcome.Feasible
       → (ls : List Letter) × (letters_of first_edition h s ≡ trace h ls) × (0 ≡ first_infeasible (trace_of h ls))
-      × Computed (state (trace_of h ls)) function first second representative h.registers k
-  ran_feasible k (run.malformed j e) q = let z : ◌≡◌ {A = ℕ} 0 1 = cc in absurd (omega arith)
-  ran_feasible k (run.infeasible j ls e f p) q = let z : ◌≡◌ {A = ℕ} 0 1 = cc in absurd (omega arith)
-  ran_feasible {function} {first} {second} {representative} k (run.feasible j ls e i c) q = let z : j ≡ k = cc in
-      (ls, e, i, subst (Computed (state (trace_of h ls)) function first second representative h.registers) z c)
+      × Computed (state (trace_of h ls)) function first second representative h.registers m
+  ran_feasible (run.malformed j e) q = let z : ◌≡◌ {A = ℕ} 0 1 = cc in absurd (omega arith)
+  ran_feasible (run.infeasible j ls e f p) q = let z : ◌≡◌ {A = ℕ} 0 1 = cc in absurd (omega arith)
+  ran_feasible (run.feasible ls e i c) q = (ls, e, i, c)
 
   -- the answer to a reading
   showed_unread : (a b : ℕ) → reading_within most_letters first_edition s ≡ TraceReading.refused a b → Showed s out (shown.Refused a b) out
   unfolding answer_to output_after
   showed_unread a b x = showed s out (shown.Refused a b) out (rw x) (rw x)
 
-  pub showed_malformed : {function first second representative : List ℕ} {o : EngineOutcome} (k : ℕ) → run.Ran s h n function first second representative o
+  pub showed_malformed : {function first second representative : List ℕ} {m : ℕ} {o : EngineOutcome} (k : ℕ)
+      → run.Ran s h n function first second representative m o
       → o ≡ outcome.Malformed k → Showed s out (shown.Refused letter_malformed k) out
   showed_malformed k d q = showed_unread letter_malformed k (read_within s h n r ∙ ran_malformed k d q)
 
@@ -238,7 +242,8 @@ module _ (s : List ℕ) (h : Header) (n : ℕ) (r : run.Begun s h n) (out : List
       let t = ne_eqb (first_infeasible (trace_of h ls)) 0 m in
       showed s out (shown.Infeasible k) out (rw (x, t) (ap ModelAnswer.infeasible g)) (rw (x, t))
 
-  pub showed_stopped : {function first second representative : List ℕ} {o : EngineOutcome} (k : ℕ) → run.Ran s h n function first second representative o
+  pub showed_stopped : {function first second representative : List ℕ} {m : ℕ} {o : EngineOutcome} (k : ℕ)
+      → run.Ran s h n function first second representative m o
       → o ≡ outcome.Infeasible k
       → (a : Shown) → Stopped h (run.reading_from s h n k) k a → Showed s out a out
   showed_stopped k d q a (well more y) = let (ls, e, f, p) = ran_infeasible k d q in let g = e ∙ ap (run.behind ls) y in
@@ -246,24 +251,28 @@ module _ (s : List ℕ) (h : Header) (n : ℕ) (r : run.Begun s h n) (out : List
   showed_stopped k d q a (ill b y) = let (ls, e, f, p) = ran_infeasible k d q in
       showed_unread letter_malformed b (read_within s h n r ∙ e ∙ ap (run.behind ls) y)
 
-  module _ {function first second representative : List ℕ} {o : EngineOutcome} (k : ℕ) (d : run.Ran s h n function first second representative o)
-      (q : o ≡ outcome.Feasible k) where
-    pub known : SomeStateComputed h function first second representative k
-    known = let (ls, e, i, c) = ran_feasible k d q in record { state = state (trace_of h ls); header = extend_header (begin h) ls; computed = c }
+  module _ {function first second representative : List ℕ} {m : ℕ} {o : EngineOutcome} (d : run.Ran s h n function first second representative m o)
+      (q : o ≡ outcome.Feasible) where
+    pub known : SomeStateComputed h function first second representative m
+    known = let (ls, e, i, c) = ran_feasible d q in record { state = state (trace_of h ls); header = extend_header (begin h) ls; computed = c }
 
-    pub showed_model : (a : Shown) (out' : List ℕ) → Modelled h function first second representative k out a out' → Showed s out a out'
+    pub showed_model : (a : Shown) (out' : List ℕ) → Modelled h function first second representative m out a out' → Showed s out a out'
     unfolding answer_to output_after Modelled
     showed_model a out' f =
-        let (ls, e, i, c) = ran_feasible k d q in
+        let (ls, e, i, c) = ran_feasible d q in
         let x = read_within s h n r ∙ e in
         let t = eq-eqb (first_infeasible (trace_of h ls)) 0 (sym i) in
         let (y, z) = f (state (trace_of h ls)) (extend_header (begin h) ls) c in
         showed s out a out' (rw (x, t) y) (rw (x, t) z)
 
-pub stopped : (h : Header) (x : TraceReading) (k b : ℕ) → run.RestRead h x b
-    → (b ≡ 0 → Stopped h x k (shown.Infeasible k)) × (b ≢ 0 → Stopped h x k (shown.Refused letter_malformed b))
-stopped h x k b (run.all_read ls e) = ((λ _. well ls e), (λ z. absurd (z refl)))
-stopped h x k b (run.broken p l e) = ((λ z. absurd (omega arith)), (λ _. ill p e))
+pub stopped_none : (h : Header) (x : TraceReading) (k : ℕ) {b : Option ℕ} → run.RestRead h x b → b ≡ None → Stopped h x k (shown.Infeasible k)
+stopped_none h x k (run.all_read ls e) q = well ls e
+stopped_none h x k (run.broken p l e) q = absurd (none-some _ (sym q))
+
+pub stopped_some : (h : Header) (x : TraceReading) (k p : ℕ) {b : Option ℕ} → run.RestRead h x b → b ≡ Some p
+    → Stopped h x k (shown.Refused letter_malformed p)
+stopped_some h x k p (run.all_read ls e) q = absurd (none-some _ q)
+stopped_some h x k p (run.broken r l e) q = let z : r ≡ p = cc in ill p (e ∙ ap (TraceReading.refused letter_malformed) z)
 
 -- ---- what the beginning gives
 module _ (s : List ℕ) (d : HeaderRead) (e : beginning_answer d ≡ beginning first_edition s) (out : List ℕ) where

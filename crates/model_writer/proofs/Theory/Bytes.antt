@@ -5,7 +5,8 @@ use Prim.Native.Nat.{ℕ, zero, suc, ◌+◌, ◌*◌, ◌/◌, ◌%◌, ◌≤�
 use native.Mathlib.Omega.{arith}
 use native.Mathlib.Numerals.{add-one}
 use lib.ListN.{length, get_or, take, drop, set, replicate, length-append, length-set, length-map}
-use lib.Seq.{sets-eq, take-suc, take_all, length-take-le, get_or-take}
+use lib.Seq.{sets-eq, take-suc, take_all, length-take-le, get_or-take, drop-drop}
+use borrow.Rule.Slice.PartMut.{put_mid}
 use native.Mathlib.Nat.{mul-le-mul_left, mul-suc}
 use Rattle.letters.specs.Editions.{first_edition, most_functions}
 use Rattle.letters.specs.declared.Header.{Header}
@@ -39,14 +40,16 @@ word_inserted out at w b h =
     ∙ append_assoc (take at out) (w / 256 ∷ w % 256 ∷ []) (drop (at + 2) out)
     ∙ ap (λ (v : List ℕ). take at out ++ (v ++ drop (at + length v) out)) (sym (unit_bytes w b) ∙ sym (units_one word_bytes w))
 
-pub five_inserted : (out : List ℕ) (at w : ℕ) → at + 4 < length out → put_five out at w ≡ inserted at (units row_bytes (w ∷ [])) out
-unfolding inserted
-five_inserted out at w h =
+-- the five bytes of a number
+abbrev pub five_of : ℕ → List ℕ
+five_of w = w / 4294967296 % 256 ∷ w / 16777216 % 256 ∷ w / 65536 % 256 ∷ w / 256 % 256 ∷ w % 256 ∷ []
+
+five_laid : (out : List ℕ) (at w : ℕ) → at + 4 < length out → put_five out at w ≡ take at out ++ (five_of w ++ drop (at + 5) out)
+five_laid out at w h =
     (λ k. set (set (set (set (set out at (w / 4294967296 % 256)) (one k) (w / 16777216 % 256)) (two k) (w / 65536 % 256)) (three k) (w / 256 % 256)) (four k)
     (w % 256))
-    ∙ sets-eq (w / 4294967296 % 256 ∷ w / 16777216 % 256 ∷ w / 65536 % 256 ∷ w / 256 % 256 ∷ w % 256 ∷ []) out at (omega arith)
-    ∙ append_assoc (take at out) (w / 4294967296 % 256 ∷ w / 16777216 % 256 ∷ w / 65536 % 256 ∷ w / 256 % 256 ∷ w % 256 ∷ []) (drop (at + 5) out)
-    ∙ ap (λ (v : List ℕ). take at out ++ (v ++ drop (at + length v) out)) (bytes ∙ sym (units_one row_bytes w))
+    ∙ sets-eq (five_of w) out at (omega arith)
+    ∙ append_assoc (take at out) (five_of w) (drop (at + 5) out)
   where
     one : at + 1 ≡ suc at
     one = omega arith
@@ -60,10 +63,19 @@ five_inserted out at w h =
     four : at + 4 ≡ suc (suc (suc (suc at)))
     four = omega arith
 
+-- the last five of the eight bytes of a number, laid in at a place
+pub five_put : (out bytes : List ℕ) (at w k : ℕ) → at + 4 < length out → k ≡ 5 → bytes ≡ five_of w → put_mid at k out bytes ≡ put_five out at w
+five_put out bytes at w k h e g = (λ j. put_mid at (e j) out (g j)) ∙ ap (λ l. take at out ++ (five_of w ++ l)) (drop-drop 5 at out) ∙ sym (five_laid out at w h)
+
+pub five_inserted : (out : List ℕ) (at w : ℕ) → at + 4 < length out → put_five out at w ≡ inserted at (units row_bytes (w ∷ [])) out
+unfolding inserted
+five_inserted out at w h = five_laid out at w h
+    ∙ ap (λ (v : List ℕ). take at out ++ (v ++ drop (at + length v) out)) (bytes ∙ sym (units_one row_bytes w))
+  where
     low : w % 256 ≡ w / 1 % 256
     low = omega arith
 
-    bytes : w / 4294967296 % 256 ∷ w / 16777216 % 256 ∷ w / 65536 % 256 ∷ w / 256 % 256 ∷ w % 256 ∷ [] ≡ split (8 ∷ 8 ∷ 8 ∷ 8 ∷ 8 ∷ []) w
+    bytes : five_of w ≡ split (8 ∷ 8 ∷ 8 ∷ 8 ∷ 8 ∷ []) w
     bytes = λ k. w / 4294967296 % 256 ∷ w / 16777216 % 256 ∷ w / 65536 % 256 ∷ w / 256 % 256 ∷ low k ∷ []
 
 -- one more number of k bytes, in the loop that writes those of a list

@@ -70,9 +70,9 @@ module _ {representative function first second : List ℕ} {registers n : ℕ} w
   }
 
   pub listed_turn : (i r b : ℕ) (head link rows head' link' : List ℕ) → ListedBelow representative function first second registers n i head link rows r → i < n
-      → n ≤ most_terms → NewRow representative function first second registers i head' link' b
-      → ListedBelow representative function first second registers n (i + 1) head' link' (set rows r i) (r + b)
-  listed_turn i r b head link rows head' link' l h u new = record {
+      → n ≤ most_terms → NewRow representative function first second registers i head' link' b → (r' : ℕ) → r' ≡ r + b
+      → ListedBelow representative function first second registers n (i + 1) head' link' (set rows r i) r'
+  listed_turn i r b head link rows head' link' l h u new r' er = rw er (record {
     least = let a = l.least in omega arith;
     most = omega arith;
     few = let a = l.few in let c = new_le representative function first second registers i b new.is in omega arith;
@@ -84,7 +84,7 @@ module _ {representative function first second : List ℕ} {registers n : ℕ} w
         (λ t. let d : k ≢ r = eqb-false k r t in let c = new_le representative function first second registers i b new.is in
         let s = get_or-set_other rows r k i 0 d in let (a, o) = l.entries k (omega arith) in (omega arith, omega arith));
     listed = λ σ w. listed_more σ function first second representative registers n w i l.least h rows r b inside (l.listed σ w) new.is;
-  }
+  })
     where
       inside : r < length rows
       inside = let a = l.few in let c = l.room in omega arith

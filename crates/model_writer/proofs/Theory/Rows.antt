@@ -1,7 +1,11 @@
 -- What follows from the definitions of specs/Rows.antt.
 use mathlib.Core.Path.{◌≡◌, refl, sym, ◌∙◌}
 use mathlib.Core.Logic.{◌≢◌}
+use mathlib.Core.Bool.{cond}
 use mathlib.Core.List.{List}
+use lib.Dec.{eqb}
+use borrow.Author.Tests.{eqb-true, eqb-false}
+use Rattle.base.proofs.Theory.Choice.{by_test}
 use Prim.Native.Nat.{ℕ, suc, ◌≤◌, ◌<◌}
 use native.Mathlib.Omega.{arith}
 use Rattle.letters.specs.Editions.{most_functions}
@@ -36,10 +40,13 @@ module _ (representative function first second : List ℕ) (registers i : ℕ) (
     unfolding signature_at
     as_signature m a = rw (a.functions, a.firsts, a.seconds) (sym e)
 
-    pub new_hit : r ≡ i → NewRow representative function first second registers i head' link' 1
+    new_hit : r ≡ i → NewRow representative function first second registers i head' link' 1
     new_hit q = record { is = new (λ m p h a. w.fresh q index.complete m p h (as_signature m a)); indexed = indexed_next }
 
-    pub new_miss : r ≢ i → NewRow representative function first second registers i head' link' 0
+    new_miss : r ≢ i → NewRow representative function first second registers i head' link' 0
     new_miss d = let m = w.most in let h : r < i = omega arith in
         let (u, v, z) = same_signature function first second registers (suc i) representative r i fm (omega arith) (omega arith) (w.hit h ∙ e) in
         record { is = old r w.least h (record { functions = u; firsts = v; seconds = z }); indexed = indexed_next }
+
+    pub new_row_is : NewRow representative function first second registers i head' link' (cond (eqb r i) 1 0)
+    new_row_is = by_test (eqb r i) (λ t. rw t (new_hit (eqb-true r i t))) (λ t. rw t (new_miss (eqb-false r i t)))
