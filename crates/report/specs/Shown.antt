@@ -1,5 +1,5 @@
 -- What a verdict shows, read from the bytes of its answer: the execution as a packed trace, on fail its model directly behind it (SPEC 10.7).
-use Rattle.std.specs.Prelude.{◌≡◌, ℕ, zero, suc, ◌+◌, ◌*◌, List, [], ◌∷◌, ◌++◌, leb, length, get_or, drop, take}
+use Rattle.std.specs.Prelude.{◌≡◌, Option, Some, None, ℕ, zero, suc, ◌+◌, ◌*◌, List, [], ◌∷◌, ◌++◌, leb, length, get_or, drop, take}
 use Rattle.base.specs.Choice.{pick}
 use Rattle.letters.specs.declared.Header.{Header}
 use Rattle.letters.specs.declared.Letter.{Letter}
@@ -11,8 +11,6 @@ use Rattle.semantics.specs.TablesRead.{read_tables}
 use Rattle.text.specs.Names.{name_text}
 use Rattle.report.specs.declared.ReportedVerdict.{ReportedVerdict}
 use Rattle.report.specs.declared.ReportedVerdict.TheVariants.{Pass, Incoherent, Fail, Refused}
-use Rattle.report.specs.declared.ReportWritten.{ReportWritten}
-use Rattle.report.specs.declared.ReportWritten.TheVariants.{Bytes, NoRoom}
 use Rattle.report.specs.Lines.{Names, Printed, report}
 use Rattle.letters.specs.Packing.{join}
 use Rattle.semantics.specs.PackedTables.{word_bytes, row_bytes}
@@ -57,6 +55,6 @@ unfoldable pub report_of : List ℕ → List ℕ → Header → ReportedVerdict 
 report_of registers functions h verdict s = report (names_of registers functions) h (printed_of h verdict s)
 
 -- A text that was to be written into a buffer: it stands in front and the bytes behind it stay, or there is no room and all bytes stay.
-pub record WroteText (text entry exit : List ℕ) (answer : ReportWritten) : Type 0 where
-  pub answered : answer ≡ pick (leb (length text) (length entry)) (λ _. Bytes (length text)) λ _. NoRoom
+pub record WroteText (text entry exit : List ℕ) (answer : Option ℕ) : Type 0 where
+  pub answered : answer ≡ pick (leb (length text) (length entry)) (λ _. Some (length text)) λ _. None
   pub bytes : exit ≡ pick (leb (length text) (length entry)) (λ _. text ++ drop (length text) entry) λ _. entry

@@ -5,7 +5,6 @@ ghost use Rattle.report.specs.Shown.{word_at, row_in, word_values};
 
 use super::WORD_VALUES;
 use letters::{DecodedLetter, Header, Letter};
-use tokens::wide;
 use traces::letter_at;
 
 /// The bytes of a word.
@@ -23,13 +22,11 @@ const BYTE: u64 = 256;
 // What a word counts that stands before a word.
 const WORD: u64 = WORD_VALUES as u64;
 
-fn byte_at(bytes: &[u8], at: usize) -> u64
-    ensures { (result ≡ get_or bytes.now at 0) × (result < 256) }
+// The byte at `at`.
+fn byte_at(bytes: &[u8], at: usize) -> u8
+    ensures { result ≡ get_or bytes.now at 0 }
 {
-    if at < bytes.len() {
-        return wide(bytes[at]);
-    }
-    0
+    bytes.get(at).copied().unwrap_or(0)
 }
 
 /// The two bytes at `at` as a number.
@@ -37,7 +34,7 @@ pub fn word_at(bytes: &[u8], at: usize) -> u64
     requires { at + 1 < 2 ^ 64 }
     ensures { (result ≡ word_at bytes.now at) × (result < word_values) }
 {
-    byte_at(bytes, at) * BYTE + byte_at(bytes, at + 1)
+    u64::from(u16::from_be_bytes([byte_at(bytes, at), byte_at(bytes, at + 1)]))
 }
 
 /// The five bytes at `at` as a number.
@@ -47,7 +44,7 @@ pub fn row_at(bytes: &[u8], at: usize) -> u64
 {
     let first = word_at(bytes, at);
     let second = word_at(bytes, at + WORD_BYTES);
-    (first * WORD + second) * BYTE + byte_at(bytes, at + ROW_END)
+    (first * WORD + second) * BYTE + u64::from(byte_at(bytes, at + ROW_END))
 }
 
 /// Letter k.

@@ -9,7 +9,6 @@ ghost use Rattle.std.specs.Prelude.{◌≡◌};
 ghost use Rattle.report.specs.Shown.{report_of, WroteText};
 ghost use Rattle.report.specs.Bound.{Limited};
 
-use self::lines::put_report;
 use letters::Header;
 use letters::limits::{MOST_FUNCTIONS, MOST_REGISTERS};
 
@@ -29,18 +28,23 @@ pub enum ReportedVerdict {
     Refused(u8, u64),
 }
 
-/// How the writing went.
+/// What a macro declares: the names of its registers and functions, and its header. A name is held as a number, its bytes the digits to base
+/// `tokens::BYTE_VALUES` and the first byte the lowest.
 #[derive(Clone, Copy)]
-pub enum ReportWritten {
-    /// So many bytes were written.
-    Bytes(usize),
-    /// The report does not fit the buffer.
-    NoRoom,
+pub struct Declared {
+    /// The names of the registers.
+    pub registers: [u64; MOST_REGISTERS],
+    /// The names of the functions.
+    pub functions: [u64; MOST_FUNCTIONS],
+    /// The header.
+    pub header: Header,
 }
 
-// The verdict as it is, with what the types of its numbers say of them.
+// The verdict as it is, with what the types of its numbers say of them. It stands although it gives back what it takes: of a number in an enum the check
+// knows the range in an arm alone (tried without it, and the proof did not close).
 fn limited(verdict: ReportedVerdict) -> ReportedVerdict
-    ensures { (result ≡ verdict) × Limited result }
+    ensures same { result ≡ verdict }
+    ensures limits { Limited result }
 {
     match verdict {
         ReportedVerdict::Pass(pairs) => ReportedVerdict::Pass(pairs),
@@ -50,25 +54,21 @@ fn limited(verdict: ReportedVerdict) -> ReportedVerdict
     }
 }
 
-/// Writes the report of a verdict. A name is held as a number, its bytes the digits to base `tokens::BYTE_VALUES` and the first byte the lowest.
+/// Writes the report of a verdict, and gives how many bytes it has; where it does not fit the buffer nothing is written.
 /// `answer` holds the execution as a packed trace, on fail its model directly behind it; what lies behind these is not read.
 pub fn write_report(
-    registers: [u64; MOST_REGISTERS],
-    functions: [u64; MOST_FUNCTIONS],
-    h: Header,
+    declared: Declared,
     verdict: ReportedVerdict,
     answer: &[u8],
     out: &mut [u8],
-) -> ReportWritten
-    ensures { WroteText (report_of registers functions h verdict answer.now) out.old out.new result }
+) -> Option<usize>
+    ensures { WroteText (report_of declared.registers declared.functions declared.header verdict answer.now) out.old out.new result }
 {
-    let known = limited(verdict);
+    let verdict = limited(verdict);
     // The same writer counts the bytes first, on a buffer that has none.
-    let mut none = [0u8; 0];
-    let size = put_report(&mut none, 0, registers, functions, h, known, answer);
+    let size = declared.put_whole(verdict, answer, &mut []);
     if out.len() < size {
-        return ReportWritten::NoRoom;
+        return None;
     }
-    let end = put_report(out, 0, registers, functions, h, known, answer);
-    ReportWritten::Bytes(end)
+    Some(declared.put_whole(verdict, answer, out))
 }

@@ -100,9 +100,9 @@ unfolding line filled_in part
 pairs_form n = refl
 
 -- "letters 4"
-pub letters_form : (n : ℕ) → line (letters_word ∷ numeral n ∷ []) ≡ filled_in (108 ∷ 101 ∷ 116 ∷ 116 ∷ 101 ∷ 114 ∷ 115 ∷ 32 ∷ 52 ∷ 10 ∷ []) (n ∷ 0 ∷ 0 ∷ 0 ∷ [])
+pub letters_form : {a n : ℕ} → a ≡ n → line (letters_word ∷ numeral n ∷ []) ≡ filled_in (108 ∷ 101 ∷ 116 ∷ 116 ∷ 101 ∷ 114 ∷ 115 ∷ 32 ∷ 52 ∷ 10 ∷ []) (a ∷ 0 ∷ 0 ∷ 0 ∷ [])
 unfolding line filled_in part
-letters_form n = refl
+letters_form e = rw e
 
 -- "values 4"
 pub values_form : {n v : ℕ} → n ≡ v → line (values_word ∷ numeral v ∷ []) ≡ filled_in (118 ∷ 97 ∷ 108 ∷ 117 ∷ 101 ∷ 115 ∷ 32 ∷ 52 ∷ 10 ∷ []) (n ∷ 0 ∷ 0 ∷ 0 ∷ [])
@@ -110,7 +110,7 @@ unfolding line filled_in part
 values_form e = rw e
 
 -- "refused 4 at 5"
-pub refused_form : (m n : ℕ) → line (refused_word ∷ numeral m ∷ at_word ∷ numeral n ∷ []) ≡ filled_in
-    (114 ∷ 101 ∷ 102 ∷ 117 ∷ 115 ∷ 101 ∷ 100 ∷ 32 ∷ 52 ∷ 32 ∷ 97 ∷ 116 ∷ 32 ∷ 53 ∷ 10 ∷ []) (m ∷ n ∷ 0 ∷ 0 ∷ [])
+pub refused_form : {a m : ℕ} (n : ℕ) → a ≡ m → line (refused_word ∷ numeral m ∷ at_word ∷ numeral n ∷ []) ≡ filled_in
+    (114 ∷ 101 ∷ 102 ∷ 117 ∷ 115 ∷ 101 ∷ 100 ∷ 32 ∷ 52 ∷ 32 ∷ 97 ∷ 116 ∷ 32 ∷ 53 ∷ 10 ∷ []) (a ∷ n ∷ 0 ∷ 0 ∷ [])
 unfolding line filled_in part
-refused_form m n = refl
+refused_form n e = rw e

@@ -56,10 +56,10 @@ module _ (registers functions : List ℕ) (h : Header) (s : List ℕ) where
     unfolding report_of printed_of report verdict_lines
     fail_parts {n} {m} e = ap whole e ∙ ap (λ (l : List ℕ). (l ++ pairs_line n) ++ (letters m ++ model m)) fail_form
 
-    pub refused_parts : {n m : ℕ} → v ≡ Refused m n
-        → whole v ≡ filled_in (114 ∷ 101 ∷ 102 ∷ 117 ∷ 115 ∷ 101 ∷ 100 ∷ 32 ∷ 52 ∷ 32 ∷ 97 ∷ 116 ∷ 32 ∷ 53 ∷ 10 ∷ []) (m ∷ n ∷ 0 ∷ 0 ∷ [])
+    pub refused_parts : {a m n : ℕ} → a ≡ m → v ≡ Refused m n
+        → whole v ≡ filled_in (114 ∷ 101 ∷ 102 ∷ 117 ∷ 115 ∷ 101 ∷ 100 ∷ 32 ∷ 52 ∷ 32 ∷ 97 ∷ 116 ∷ 32 ∷ 53 ∷ 10 ∷ []) (a ∷ n ∷ 0 ∷ 0 ∷ [])
     unfolding report_of printed_of report
-    refused_parts {n} {m} e = ap whole e ∙ refused_form m n
+    refused_parts {n = n} f e = ap whole e ∙ refused_form n f
 
     module _ {at : ℕ} where
       pub pass_room : {n : ℕ} → v ≡ Pass n → PlaceInRange at (whole v) → PlaceInRange at (pass_head n)
