@@ -1,5 +1,5 @@
 -- Laws that several functions' proofs share.
-use mathlib.Core.Path.{◌≡◌, refl}
+use mathlib.Core.Path.{◌≡◌, refl, sym}
 use Prim.Native.Nat.{ℕ, ◌≤◌, ◌<◌}
 use native.Mathlib.Omega.{arith}
 use native.Mathlib.Nat.{div-eq_of_lt, lt_of_lt_of_le}
@@ -10,10 +10,14 @@ use lib.Pow as pow
 use borrow.Author.Tests.{eq-eqb, ne_eqb}
 use Rattle.base.specs.Choice.{pick}
 use Rattle.base.specs.Masks.{has}
-use Rattle.letters.specs.Packing.{join, split}
+use Rattle.letters.specs.Packing.{join, split, Sized}
 use Rattle.letters.specs.Answers.{value, refusal}
-use Rattle.letters.specs.Words.{bits_from}
-use Rattle.letters.specs.Coding.{mask_of}
+use Rattle.letters.specs.declared.Header.{Header}
+use Rattle.letters.specs.declared.Letter.{Letter}
+use Rattle.letters.specs.Editions.{first_edition}
+use Rattle.letters.specs.Words.{bits_from, header_fields, letter_fields}
+use Rattle.letters.specs.Coding.{mask_of, header_test, fits_test}
+use Rattle.letters.proofs.Theory.WordLaws.{header-test, fits-test, first_roomy}
 
 -- a byte has no bit from 8 on
 pub no_bit : (m f : ℕ) → m < 256 → 8 ≤ f → false ≡ has m f
@@ -47,3 +51,10 @@ module _ {A : Type 0} (t : Bool) (x : A) (a w n : ℕ) where
           → refusal n 0 ≡ pick (t && eqb a w) (λ _. value x) (λ _. refusal n 0)
       other true e q = rw (ne_eqb a w λ g. q (cc))
       other false e q = let z : ◌≡◌ {A = ℕ} 0 1 = cc in absurd (omega arith)
+
+-- What the tests of the code say: the fields fit their widths.
+pub header_sized : (h : Header) → true ≡ header_test first_edition h → Sized first_edition.header (header_fields first_edition h)
+header_sized h t = first_roomy.header_sized h ((header-test first_edition h).0 (sym t))
+
+pub letter_sized : (h : Header) (l : Letter) → true ≡ header_test first_edition h → true ≡ fits_test h l → Sized first_edition.letter (letter_fields h l)
+letter_sized h l t u = first_roomy.letter_sized h l ((header-test first_edition h).0 (sym t)) ((fits-test h l).0 (sym u))

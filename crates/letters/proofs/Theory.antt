@@ -1,3 +1,4 @@
 pub mod Packing
 pub mod WordLaws
 pub mod CapacityLaws
+pub mod ReasonLaws

@@ -1,5 +1,5 @@
 -- Worked words (SPEC 2.5): document 01's own, a trap, and what is not well formed, by computation.
-use Rattle.std.specs.Prelude.{◌≡◌, refl, ℕ, ◌+◌, ◌*◌, [], ◌∷◌}
+use Rattle.std.specs.Prelude.{◌≡◌, refl, ℕ, ◌+◌, ◌*◌}
 use Rattle.std.proofs.Common.{arith}
 use Rattle.letters.specs.declared.Header.{Header}
 use Rattle.letters.specs.declared.Letter.TheVariants.{Apply, Equal}

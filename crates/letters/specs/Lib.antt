@@ -12,3 +12,4 @@ pub mod Coding
 pub mod Capacity
 pub mod Encoding
 pub mod MacroRefusalNumbers
+pub mod Reasons

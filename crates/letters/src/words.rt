@@ -14,7 +14,7 @@ ghost use Rattle.letters.specs.Coding.{named_header, letter_by, decode_header, d
 ghost use Rattle.letters.specs.Encoding.{encode_header, encode_letter};
 
 use super::limits::{MOST_FUNCTIONS, MOST_REGISTERS};
-use super::{DecodedHeader, DecodedLetter, Encoded, Header, Letter};
+use super::{Header, Letter};
 
 // The limits as a header holds its counts.
 const REGISTER_LIMIT: u8 = MOST_REGISTERS as u8;
@@ -42,25 +42,20 @@ const LETTER_FIRST: u16 = 64;
 
 const LETTER_SECOND: u16 = 8;
 
+// The kinds of a letter, by the number in its word.
+const COPY: u8 = 0;
+
+const APPLY: u8 = 1;
+
+const EQUAL: u8 = 2;
+
+const UNEQUAL: u8 = 3;
+
 /// Two bytes as a word, the first the more significant.
 pub fn word(high: u8, low: u8) -> u16
     ensures { result ≡ high * 256 + low }
 {
-    (high as u16) * 256 + low as u16
-}
-
-/// The more significant byte of a word.
-pub fn high(word: u16) -> u8
-    ensures { result ≡ word / 256 }
-{
-    (word / 256) as u8
-}
-
-/// The less significant byte of a word.
-pub fn low(word: u16) -> u8
-    ensures { result ≡ word % 256 }
-{
-    (word % 256) as u8
+    u16::from_be_bytes([high, low])
 }
 
 /// Stores a word at `at`, two bytes, and changes no other byte. For writers that have checked their room.
@@ -68,68 +63,49 @@ pub fn put_word(out: &mut [u8], at: usize, word: u16)
     requires { at + 1 < length out.old }
     ensures { out.new ≡ put_word out.old at word }
 {
-    out[at] = high(word);
-    out[at + 1] = low(word);
+    let [high, low] = word.to_be_bytes();
+    out[at] = high;
+    out[at + 1] = low;
 }
 
 /// Whether function f takes two arguments.
+#[tactic(auto, using(crate::proofs::Laws::no_bit))]
 pub fn takes_two(h: Header, f: u8) -> bool
     ensures { result ≡ has h.binary f }
 {
-    if MASK_BITS <= f {
-        return false;
-    }
-    (h.binary >> f) % 2 == 1
+    f < MASK_BITS && (h.binary >> f) % 2 == 1
 }
 
 /// Whether a header is well formed.
+#[tactic(auto, using(base::proofs::Theory::MaskLaws::shl_one), unfolding(crate::specs::Coding::header_test))]
 pub fn header_fits(h: Header) -> bool
     ensures { result ≡ header_test first_edition h }
 {
-    if h.registers < 1 {
-        return false;
-    }
-    if REGISTER_LIMIT < h.registers {
-        return false;
-    }
-    if FUNCTION_LIMIT < h.functions {
-        return false;
-    }
-    h.binary < (1u8 << h.functions)
+    (1..=REGISTER_LIMIT).contains(&h.registers)
+        && h.functions <= FUNCTION_LIMIT
+        && h.binary < (1u8 << h.functions)
 }
 
 // Whether two registers lie below the header's count.
 fn registers_fit(h: Header, a: u8, b: u8) -> bool
     ensures { result ≡ ltb a h.registers && ltb b h.registers }
 {
-    if h.registers <= a {
-        return false;
-    }
-    b < h.registers
+    a < h.registers && b < h.registers
 }
 
+#[tactic(auto, unfolding(crate::specs::Coding::apply_test))]
 fn application_fits(h: Header, target: u8, function: u8, first: u8, second: u8) -> bool
     ensures { result ≡ apply_test h target function first second }
 {
-    if h.registers <= target {
-        return false;
-    }
-    if h.functions <= function {
-        return false;
-    }
-    if h.registers <= first {
-        return false;
-    }
-    if h.registers <= second {
-        return false;
-    }
-    if takes_two(h, function) {
-        return true;
-    }
-    first == second
+    target < h.registers
+        && function < h.functions
+        && first < h.registers
+        && second < h.registers
+        && (takes_two(h, function) || first == second)
 }
 
 /// Whether a letter fits a header.
+#[tactic(auto, unfolding(crate::specs::Coding::fits_test))]
 pub fn letter_fits(h: Header, l: Letter) -> bool
     ensures { result ≡ fits_test h l }
 {
@@ -141,8 +117,9 @@ pub fn letter_fits(h: Header, l: Letter) -> bool
             first,
             second,
         } => application_fits(h, target, function, first, second),
-        Letter::Equal { first, second } => registers_fit(h, first, second),
-        Letter::Unequal { first, second } => registers_fit(h, first, second),
+        Letter::Equal { first, second } | Letter::Unequal { first, second } => {
+            registers_fit(h, first, second)
+        }
     }
 }
 
@@ -154,27 +131,31 @@ fn mirrored(mask: u8) -> u8
 }
 
 // The word of a header whose fields fit their widths.
+#[tactic(auto, unfolding(crate::specs::Words::header_word))]
 fn header_word(h: Header) -> u16
     requires { Sized first_edition.header (header_fields first_edition h) }
     ensures { result ≡ header_word first_edition h }
 {
     let arity = mirrored(h.binary);
-    (h.registers as u16) * HEADER_REGISTERS
-        + (h.functions as u16) * HEADER_FUNCTIONS
-        + (arity as u16) * HEADER_ARITY
+    u16::from(h.registers) * HEADER_REGISTERS
+        + u16::from(h.functions) * HEADER_FUNCTIONS
+        + u16::from(arity) * HEADER_ARITY
 }
 
 /// The word of a header.
-pub fn encode_header(h: Header) -> Encoded
+#[tactic(auto, using(crate::proofs::Laws::header_sized), unfolding(crate::specs::Encoding::encode_header))]
+pub fn encode_header(h: Header) -> Option<u16>
     ensures { header_word_answer result ≡ encode_header first_edition h }
 {
     if header_fits(h) {
-        return Encoded::Word(header_word(h));
+        Some(header_word(h))
+    } else {
+        None
     }
-    Encoded::Malformed
 }
 
 // The header that a word's fields name, well formed or not.
+#[tactic(auto, using(crate::proofs::Laws::mirror), unfolding(crate::specs::Coding::named_header))]
 fn named_header(word: u16) -> Header
     ensures { result ≡ named_header first_edition (split first_edition.header word) }
 {
@@ -190,49 +171,44 @@ fn named_header(word: u16) -> Header
 }
 
 /// The well-formed header that packs to this word, if there is one.
-pub fn decode_header(word: u16) -> DecodedHeader
+pub fn decode_header(word: u16) -> Option<Header>
     ensures { header_answer result ≡ decode_header first_edition word }
 {
     let header = named_header(word);
-    let encoded = encode_header(header);
-    let Encoded::Word(packed) = encoded else {
-        return DecodedHeader::Malformed;
-    };
-    if packed == word {
-        return DecodedHeader::Header(header);
+    if encode_header(header)? == word {
+        Some(header)
+    } else {
+        None
     }
-    DecodedHeader::Malformed
 }
 
 // The word of a letter's fields, the spare field 0.
-fn packed_fields(kind: u16, function: u8, target: u8, first: u8, second: u8) -> u16
+fn packed_fields(kind: u8, function: u8, target: u8, first: u8, second: u8) -> u16
     requires { Sized first_edition.letter (kind ∷ function ∷ target ∷ first ∷ second ∷ 0 ∷ []) }
     ensures { result ≡ join first_edition.letter (kind ∷ function ∷ target ∷ first ∷ second ∷ 0 ∷ []) }
 {
-    kind * LETTER_KIND
-        + (function as u16) * LETTER_FUNCTION
-        + (target as u16) * LETTER_TARGET
-        + (first as u16) * LETTER_FIRST
-        + (second as u16) * LETTER_SECOND
+    u16::from(kind) * LETTER_KIND
+        + u16::from(function) * LETTER_FUNCTION
+        + u16::from(target) * LETTER_TARGET
+        + u16::from(first) * LETTER_FIRST
+        + u16::from(second) * LETTER_SECOND
 }
 
 /// Of two numbers, the one for a function of two arguments or the one for a function of one.
 pub fn by_arity(h: Header, function: u8, two: u8, one: u8) -> u8
     ensures { result ≡ pick (has h.binary function) (λ _. two) (λ _. one) }
 {
-    if takes_two(h, function) {
-        return two;
-    }
-    one
+    if takes_two(h, function) { two } else { one }
 }
 
 // The word of a letter whose fields fit their widths.
+#[tactic(auto, unfolding(crate::specs::Words::letter_word))]
 fn letter_word(h: Header, l: Letter) -> u16
     requires { Sized first_edition.letter (letter_fields h l) }
     ensures { result ≡ letter_word first_edition h l }
 {
     match l {
-        Letter::Copy { target, source } => packed_fields(0, 0, target, source, 0),
+        Letter::Copy { target, source } => packed_fields(COPY, 0, target, source, 0),
         Letter::Apply {
             target,
             function,
@@ -240,116 +216,99 @@ fn letter_word(h: Header, l: Letter) -> u16
             second,
         } => {
             let field = by_arity(h, function, second, 0);
-            packed_fields(1, function, target, first, field)
+            packed_fields(APPLY, function, target, first, field)
         }
-        Letter::Equal { first, second } => packed_fields(2, 0, 0, first, second),
-        Letter::Unequal { first, second } => packed_fields(3, 0, 0, first, second),
+        Letter::Equal { first, second } => packed_fields(EQUAL, 0, 0, first, second),
+        Letter::Unequal { first, second } => packed_fields(UNEQUAL, 0, 0, first, second),
     }
 }
 
 /// The word of a letter under a header. Under a header that is not well formed no letter is.
-pub fn encode_letter(h: Header, l: Letter) -> Encoded
+#[tactic(auto, using(crate::proofs::Laws::letter_sized), unfolding(crate::specs::Encoding::encode_letter))]
+pub fn encode_letter(h: Header, l: Letter) -> Option<u16>
     ensures { letter_word_answer result ≡ encode_letter first_edition h l }
 {
-    if header_fits(h) {
-        if letter_fits(h, l) {
-            return Encoded::Word(letter_word(h, l));
-        }
+    if header_fits(h) && letter_fits(h, l) {
+        Some(letter_word(h, l))
+    } else {
+        None
     }
-    Encoded::Malformed
 }
 
 /// The letter of this kind, well formed or not. The application of a one-argument function has its argument twice.
+#[tactic(auto, unfolding(crate::specs::Coding::letter_by))]
 pub fn letter_by(h: Header, kind: u8, function: u8, target: u8, first: u8, second: u8) -> Letter
     ensures { result ≡ letter_by h kind function target first second }
 {
-    if kind == 0 {
-        return Letter::Copy {
+    match kind {
+        COPY => Letter::Copy {
             target,
             source: first,
-        };
+        },
+        APPLY => {
+            let last = by_arity(h, function, second, first);
+            Letter::Apply {
+                target,
+                function,
+                first,
+                second: last,
+            }
+        }
+        EQUAL => Letter::Equal { first, second },
+        _ => Letter::Unequal { first, second },
     }
-    if kind == 1 {
-        let last = by_arity(h, function, second, first);
-        return Letter::Apply {
-            target,
-            function,
-            first,
-            second: last,
-        };
-    }
-    if kind == 2 {
-        return Letter::Equal { first, second };
-    }
-    Letter::Unequal { first, second }
-}
-
-// The answer that a word is the application of a function.
-fn application(target: u8, function: u8, first: u8, second: u8) -> DecodedLetter
-    ensures { letter_answer result ≡ value (Apply target function first second) }
-{
-    DecodedLetter::Letter(Letter::Apply {
-        target,
-        function,
-        first,
-        second,
-    })
-}
-
-// The answer that a word is a copy.
-fn copy(target: u8, source: u8) -> DecodedLetter
-    ensures { letter_answer result ≡ value (Copy target source) }
-{
-    DecodedLetter::Letter(Letter::Copy { target, source })
-}
-
-// The answer that a word is a test of this kind.
-fn test(kind: u16, first: u8, second: u8) -> DecodedLetter
-    ensures { letter_answer result ≡ value (pick (eqb kind 2) (λ _. Equal first second) (λ _. Unequal first second)) }
-{
-    if kind == 2 {
-        return DecodedLetter::Letter(Letter::Equal { first, second });
-    }
-    DecodedLetter::Letter(Letter::Unequal { first, second })
 }
 
 /// The well-formed letter that packs to this word under a header, if there is one. A field that a letter does not use is 0, which is a
 /// register of every header, so all three are held against the count before the kind is looked at.
-pub fn decode_letter(h: Header, word: u16) -> DecodedLetter
+pub fn decode_letter(h: Header, word: u16) -> Option<Letter>
     ensures { letter_answer result ≡ decode_letter first_edition h word }
 {
-    let kind = word / LETTER_KIND % 4;
+    let kind = (word / LETTER_KIND % 4) as u8;
     let function = (word / LETTER_FUNCTION % 4) as u8;
     let target = (word / LETTER_TARGET % 8) as u8;
     let first = (word / LETTER_FIRST % 8) as u8;
     let second = (word / LETTER_SECOND % 8) as u8;
-    if !header_fits(h) | (word % 8 != 0) {
-        return DecodedLetter::Malformed;
+    if !header_fits(h) || word % 8 != 0 {
+        return None;
     }
-    if ((h.registers <= target) | (h.registers <= first)) | (h.registers <= second) {
-        return DecodedLetter::Malformed;
+    if h.registers <= target || h.registers <= first || h.registers <= second {
+        return None;
     }
-    if kind == 1 {
-        if h.functions <= function {
-            return DecodedLetter::Malformed;
+    match kind {
+        COPY => {
+            if function != 0 || second != 0 {
+                return None;
+            }
+            Some(Letter::Copy {
+                target,
+                source: first,
+            })
         }
-        if !takes_two(h, function) & (second != 0) {
-            return DecodedLetter::Malformed;
+        APPLY => {
+            if h.functions <= function {
+                return None;
+            }
+            if second != 0 && !takes_two(h, function) {
+                return None;
+            }
+            let second = by_arity(h, function, second, first);
+            Some(Letter::Apply {
+                target,
+                function,
+                first,
+                second,
+            })
         }
-        let other = by_arity(h, function, second, first);
-        return application(target, function, first, other);
-    }
-    if function != 0 {
-        return DecodedLetter::Malformed;
-    }
-    if kind == 0 {
-        if second != 0 {
-            return DecodedLetter::Malformed;
+        _ => {
+            if function != 0 || target != 0 {
+                return None;
+            }
+            if kind == EQUAL {
+                Some(Letter::Equal { first, second })
+            } else {
+                Some(Letter::Unequal { first, second })
+            }
         }
-        return copy(target, first);
     }
-    if target != 0 {
-        return DecodedLetter::Malformed;
-    }
-    test(kind, first, second)
 }
